@@ -1,0 +1,36 @@
+-- `octets::store_le16` meets its contract: its stores, one byte after another, are one `put`.
+-- Assumes nothing.
+use native.Mathlib.Omega.{arith}
+use lib.ListN.{length-set}
+use Rattle.octets.specs.Bytes.{toLe16}
+use Rattle.octets.specs.StoreLaws.{stored2}
+use borrow.Author.Needs.{needs}
+use Rattle.octets.proofs.store_le16.Statement.{statement}
+use Rattle.octets.proofs.store_le16.Tie as tie
+
+cast-buf : tie.Need-cast-buf
+cast-buf c = search needs
+
+slice-write-buf : tie.Need-slice-write-buf
+slice-write-buf c = search needs
+
+cast-buf-2 : tie.Need-cast-buf-2
+cast-buf-2 c = search needs
+
+add-buf : tie.Need-add-buf
+add-buf c = search needs
+
+slice-write-buf-2 : tie.Need-slice-write-buf-2
+slice-write-buf-2 c = simp length-set (omega arith)
+
+same-length : tie.Need-same-length
+same-length c = search needs
+
+returns : tie.Need-returns
+unfolding toLe16
+returns c = stored2 _ _ _ _
+
+pub store-le16-spec : {M : Type 1} → statement M
+store-le16-spec =
+    tie.close
+    (tie.spec cast-buf slice-write-buf cast-buf-2 add-buf slice-write-buf-2 same-length returns)

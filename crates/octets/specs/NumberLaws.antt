@@ -1,0 +1,88 @@
+-- Laws: a number is read back as it was stored, and what is stored elsewhere does not touch it. Assumes nothing.
+use mathlib.Core.Path.{_≡_, refl, sym, ap, _∙_}
+use mathlib.Core.List.{List, [], _∷_, _++_}
+use Prim.Native.Nat.{ℕ, zero, suc, _+_, _*_, _^_, _≤_, _<_}
+use native.Mathlib.Nat.{add-zero}
+use native.Mathlib.Omega.{arith}
+use lib.Dec.{lit<}
+use lib.ListN.{length, getD}
+use Rattle.basis.specs.Lists.{All}
+use Rattle.octets.specs.Bytes.{byteAt, le16, le32, be16, be32, toLe16, toLe32, toBe32}
+use Rattle.octets.specs.Store.{put, window}
+use Rattle.octets.specs.StoreLaws.{getD-window, window-same}
+
+pub length-toLe16 : (x : ℕ) → length (toLe16 x) ≡ 2
+unfolding toLe16
+length-toLe16 x = refl
+
+pub length-toLe32 : (x : ℕ) → length (toLe32 x) ≡ 4
+unfolding toLe32
+length-toLe32 x = refl
+
+pub length-toBe32 : (x : ℕ) → length (toBe32 x) ≡ 4
+unfolding toBe32
+length-toBe32 x = refl
+
+-- a number is that of its own bytes
+pub le16-toLe16 : (x : ℕ) → x < 2 ^ 16 → le16 (toLe16 x) 0 ≡ x
+unfolding le16 toLe16
+le16-toLe16 x h = omega arith
+
+pub le32-toLe32 : (x : ℕ) → x < 2 ^ 32 → le32 (toLe32 x) 0 ≡ x
+unfolding le32 toLe32
+le32-toLe32 x h = omega arith
+
+pub be32-toBe32 : (x : ℕ) → x < 2 ^ 32 → be32 (toBe32 x) 0 ≡ x
+unfolding be32 toBe32
+be32-toBe32 x h = omega arith
+
+-- a number depends on its own bytes alone
+module _ (b : List ℕ) (at : ℕ) where
+  pub le16-window : le16 (window b at 2) 0 ≡ le16 b at
+  unfolding le16
+  le16-window = rw (getD-window b at 2 0 0 (lit< tt), getD-window b at 2 1 0 (lit< tt), add-zero)
+
+  pub le32-window : le32 (window b at 4) 0 ≡ le32 b at
+  unfolding le32
+  le32-window = rw (getD-window b at 4 0 0 (lit< tt), getD-window b at 4 1 0 (lit< tt), getD-window b at 4 2 0 (lit< tt), getD-window b at 4 3 0 (lit< tt), add-zero)
+
+  pub be32-window : be32 (window b at 4) 0 ≡ be32 b at
+  unfolding be32
+  be32-window = rw (getD-window b at 4 0 0 (lit< tt), getD-window b at 4 1 0 (lit< tt), getD-window b at 4 2 0 (lit< tt), getD-window b at 4 3 0 (lit< tt), add-zero)
+
+-- so it is read back where it was stored
+pub le16-put : (b : List ℕ) (at x : ℕ) → x < 2 ^ 16 → at + 2 ≤ length b → le16 (put b at (toLe16 x)) at ≡ x
+le16-put b at x h l = sym (le16-window (put b at (toLe16 x)) at) ∙ ap (λ s. le16 s 0) (window-same b at (toLe16 x) 2 (length-toLe16 x) l) ∙ le16-toLe16 x h
+
+pub le32-put : (b : List ℕ) (at x : ℕ) → x < 2 ^ 32 → at + 4 ≤ length b → le32 (put b at (toLe32 x)) at ≡ x
+le32-put b at x h l = sym (le32-window (put b at (toLe32 x)) at) ∙ ap (λ s. le32 s 0) (window-same b at (toLe32 x) 4 (length-toLe32 x) l) ∙ le32-toLe32 x h
+
+-- and is the same in two buffers that agree there
+pub le16-same : (a b : List ℕ) (at : ℕ) → window a at 2 ≡ window b at 2 → le16 a at ≡ le16 b at
+le16-same a b at e = sym (le16-window a at) ∙ ap (λ s. le16 s 0) e ∙ le16-window b at
+
+pub le32-same : (a b : List ℕ) (at : ℕ) → window a at 4 ≡ window b at 4 → le32 a at ≡ le32 b at
+le32-same a b at e = sym (le32-window a at) ∙ ap (λ s. le32 s 0) e ∙ le32-window b at
+
+pub be32-same : (a b : List ℕ) (at : ℕ) → window a at 4 ≡ window b at 4 → be32 a at ≡ be32 b at
+be32-same a b at e = sym (be32-window a at) ∙ ap (λ s. be32 s 0) e ∙ be32-window b at
+
+-- a byte is below 256, and so numbers of two and four bytes have their bounds
+pub byte-small : (s : List ℕ) → All (λ x. x < 256) s → (i : ℕ) → byteAt s i < 256
+byte-small [] a zero = omega arith
+byte-small [] a (suc i) = omega arith
+byte-small (x ∷ s) a zero = a .0
+byte-small (x ∷ s) a (suc i) = byte-small s (a .1) i
+
+module _ (s : List ℕ) (a : All (λ x. x < 256) s) (at : ℕ) where
+  pub le16-small : le16 s at < 2 ^ 16
+  unfolding le16
+  le16-small = omega (arith, byte-small s a at, byte-small s a (at + 1))
+
+  pub le32-small : le32 s at < 2 ^ 32
+  unfolding le32
+  le32-small = omega (arith, byte-small s a at, byte-small s a (at + 1), byte-small s a (at + 2), byte-small s a (at + 3))
+
+  pub be32-small : be32 s at < 2 ^ 32
+  unfolding be32
+  be32-small = omega (arith, byte-small s a at, byte-small s a (at + 1), byte-small s a (at + 2), byte-small s a (at + 3))

@@ -1,0 +1,119 @@
+-- Laws: the order of byte strings is total, for every length, and `ordering` goes by it, byte by byte. Assumes nothing.
+use mathlib.Core.Path.{_≡_, refl, sym}
+use mathlib.Core.Bool.{Bool, true, false, cond}
+use mathlib.Core.List.{List, [], _∷_}
+use Prim.Native.Nat.{ℕ, _+_, _≤_, _<_}
+use native.Mathlib.Numerals.{add-one}
+use native.Mathlib.Omega.{arith}
+use lib.ListN.{length, getD, drop, drop-of-length-le}
+use lib.Seq.{drop-cons}
+use lib.Dec.{ltb, eqb}
+use borrow.Author.Tests.{ltb-true, ltb-false, eqb-true, eqb-false, lt-ltb, le-ltb, eq-eqb, ne-eqb}
+use Rattle.basis.specs.Tests.{either, contra}
+use Rattle.octets.specs.declared.Ordering.{Ordering}
+use Rattle.octets.specs.declared.Ordering.the-variants.{Below, Equal, Above}
+use Rattle.octets.specs.Order.{bytesLe, ordering}
+
+-- the first bytes decide where they differ, and the rest where they do not
+pub le-same : (x : ℕ) (a b : List ℕ) → bytesLe (x ∷ a) (x ∷ b) ≡ bytesLe a b
+unfolding bytesLe
+le-same x a b = rw (eq-eqb x x refl)
+
+pub le-less : (x y : ℕ) (a b : List ℕ) → x < y → bytesLe (x ∷ a) (y ∷ b) ≡ true
+unfolding bytesLe
+le-less x y a b h = rw (ne-eqb x y (omega arith)) (lt-ltb x y h)
+
+pub le-more : (x y : ℕ) (a b : List ℕ) → y < x → bytesLe (x ∷ a) (y ∷ b) ≡ false
+unfolding bytesLe
+le-more x y a b h = rw (ne-eqb x y (omega arith)) (le-ltb x y (omega arith))
+
+pub le-total : (a b : List ℕ) → bytesLe a b ≡ false → bytesLe b a ≡ true
+unfolding bytesLe
+le-total [] b e = contra refl e
+le-total (x ∷ a) [] e = refl
+le-total (x ∷ a) (y ∷ b) e = either (eqb x y)
+    (λ p. rw (eq-eqb y x (sym (eqb-true x y p))) (le-total a b (rw p at e)))
+    (λ p. let l : y ≤ x = ltb-false x y (rw p at e) in
+    le-less y x b a (omega (arith, eqb-false x y p)))
+
+pub le-antisym : (a b : List ℕ) → bytesLe a b ≡ true → bytesLe b a ≡ true → a ≡ b
+unfolding bytesLe
+le-antisym [] [] p q = refl
+le-antisym [] (y ∷ b) p q = contra q refl
+le-antisym (x ∷ a) [] p q = contra p refl
+le-antisym (x ∷ a) (y ∷ b) p q = either (eqb x y)
+    (λ e. let d : x ≡ y = eqb-true x y e in
+    let t : a ≡ b = le-antisym a b (rw e at p) (rw (eq-eqb y x (sym d)) at q) in cc)
+    (λ e. let l : x < y = ltb-true x y (rw e at p) in
+    let m : y < x = ltb-true y x (rw (ne-eqb y x (omega arith)) at q) in
+    let b : ⊥ = omega arith in absurd b)
+
+pub le-trans : (a b c : List ℕ) → bytesLe a b ≡ true → bytesLe b c ≡ true → bytesLe a c ≡ true
+unfolding bytesLe
+le-trans [] b c p q = refl
+le-trans (x ∷ a) [] c p q = contra p refl
+le-trans (x ∷ a) (y ∷ b) [] p q = contra q refl
+le-trans (x ∷ a) (y ∷ b) (z ∷ c) p q = either (eqb x y)
+    (λ e. either (eqb y z)
+    (λ f. let d : x ≡ y = eqb-true x y e in let g : y ≡ z = eqb-true y z f in
+    rw (eq-eqb x z (omega arith)) (le-trans a b c (rw e at p) (rw f at q)))
+    (λ f. let l : y < z = ltb-true y z (rw f at q) in let d : x ≡ y = eqb-true x y e in le-less x z a c (omega arith)))
+    (λ e. let l : x < y = ltb-true x y (rw e at p) in either (eqb y z)
+    (λ f. let d : y ≡ z = eqb-true y z f in le-less x z a c (omega arith))
+    (λ f. let m : y < z = ltb-true y z (rw f at q) in le-less x z a c (omega arith)))
+
+pub le-refl : (a : List ℕ) → bytesLe a a ≡ true
+le-refl a = either (bytesLe a a) (λ e. e) (λ e. le-total a a e)
+
+-- `ordering` tells apart exactly below, equal and above
+pub ordering-below : (a b : List ℕ) → bytesLe b a ≡ false → ordering a b ≡ Below
+unfolding ordering
+ordering-below a b h = rw (le-total b a h, h)
+
+pub ordering-above : (a b : List ℕ) → bytesLe a b ≡ false → ordering a b ≡ Above
+unfolding ordering
+ordering-above a b h = rw h
+
+pub ordering-equal : (a : List ℕ) → ordering a a ≡ Equal
+unfolding ordering
+ordering-equal a = rw (le-refl a)
+
+-- one byte after another
+pub ordering-less : (x y : ℕ) (a b : List ℕ) → x < y → ordering (x ∷ a) (y ∷ b) ≡ Below
+ordering-less x y a b h = ordering-below (x ∷ a) (y ∷ b) (le-more y x b a h)
+
+pub ordering-more : (x y : ℕ) (a b : List ℕ) → y < x → ordering (x ∷ a) (y ∷ b) ≡ Above
+ordering-more x y a b h = ordering-above (x ∷ a) (y ∷ b) (le-more x y a b h)
+
+pub ordering-same : (x : ℕ) (a b : List ℕ) → ordering (x ∷ a) (x ∷ b) ≡ ordering a b
+unfolding ordering
+ordering-same x a b = rw (le-same x a b, le-same x b a)
+
+pub ordering-shorter : (y : ℕ) (b : List ℕ) → ordering [] (y ∷ b) ≡ Below
+unfolding ordering bytesLe
+ordering-shorter y b = refl
+
+pub ordering-longer : (x : ℕ) (a : List ℕ) → ordering (x ∷ a) [] ≡ Above
+unfolding ordering bytesLe
+ordering-longer x a = refl
+
+-- what stands at an index that both have decides, or what comes after it
+module _ (a b : List ℕ) (i : ℕ) (p : i < length a) (q : i < length b) where
+  pub ordering-at-less : getD a i 0 < getD b i 0 → ordering (drop i a) (drop i b) ≡ Below
+  ordering-at-less h = rw (drop-cons a i 0 p, drop-cons b i 0 q) (ordering-less _ _ _ _ h)
+
+  pub ordering-at-more : getD b i 0 < getD a i 0 → ordering (drop i a) (drop i b) ≡ Above
+  ordering-at-more h = rw (drop-cons a i 0 p, drop-cons b i 0 q) (ordering-more _ _ _ _ h)
+
+  pub ordering-at-same : getD a i 0 ≡ getD b i 0 → ordering (drop i a) (drop i b) ≡ ordering (drop (i + 1) a) (drop (i + 1) b)
+  ordering-at-same h = rw (drop-cons a i 0 p, drop-cons b i 0 q, h, add-one) (ordering-same _ _ _)
+
+-- a string that has ended is below one that goes on, and equal to one that has ended too
+pub ordering-ended : (a b : List ℕ) (i : ℕ) → length a ≤ i → i < length b → ordering (drop i a) (drop i b) ≡ Below
+ordering-ended a b i p q = rw (drop-of-length-le a p, drop-cons b i 0 q) (ordering-shorter _ _)
+
+pub ordering-goes-on : (a b : List ℕ) (i : ℕ) → i < length a → length b ≤ i → ordering (drop i a) (drop i b) ≡ Above
+ordering-goes-on a b i p q = rw (drop-cons a i 0 p, drop-of-length-le b q) (ordering-longer _ _)
+
+pub ordering-both-ended : (a b : List ℕ) (i : ℕ) → length a ≤ i → length b ≤ i → ordering (drop i a) (drop i b) ≡ Equal
+ordering-both-ended a b i p q = rw (drop-of-length-le a p, drop-of-length-le b q) (ordering-equal [])

@@ -1,0 +1,152 @@
+// Numbers in bytes, stores into a buffer, and the order of byte strings: what every reader and writer of the files' bytes rests on.
+ghost use mathlib.Core.Path.{_≡_};
+ghost use Prim.Native.Nat.{_+_, _-_, _≤_, _<_};
+ghost use lib.ListN.{length, replicate};
+ghost use Rattle.octets.specs.Bytes.{byteAt, le16, le32, be16, be32, toLe16, toLe32, toBe32};
+ghost use Rattle.octets.specs.Store.{put};
+ghost use Rattle.octets.specs.Order.{ordering, isBelow, isEqual};
+
+// The order of one byte string to another.
+pub enum Ordering {
+    Below,
+    Equal,
+    Above,
+}
+
+// The byte at an offset.
+pub fn byte(s: &[u8], at: usize) -> u32
+    requires { ⌜ at < length (now s) ⌝ }
+    ensures { λ r. ⌜ (r ≡ byteAt (now (s .entry)) at) × (r < 256) ⌝ }
+{
+    s[at] as u32
+}
+
+// The two bytes at an offset, least significant first.
+pub fn load_le16(s: &[u8], at: usize) -> u32
+    requires { ⌜ at + 2 ≤ length (now s) ⌝ }
+    ensures { λ r. ⌜ (r ≡ le16 (now (s .entry)) at) × (r < 65536) ⌝ }
+{
+    byte(s, at) + 256 * byte(s, at + 1)
+}
+
+// The two bytes at an offset, most significant first.
+pub fn load_be16(s: &[u8], at: usize) -> u32
+    requires { ⌜ at + 2 ≤ length (now s) ⌝ }
+    ensures { λ r. ⌜ (r ≡ be16 (now (s .entry)) at) × (r < 65536) ⌝ }
+{
+    256 * byte(s, at) + byte(s, at + 1)
+}
+
+// The four bytes at an offset, least significant first.
+pub fn load_le32(s: &[u8], at: usize) -> u32
+    requires { ⌜ at + 4 ≤ length (now s) ⌝ }
+    ensures { λ r. ⌜ r ≡ le32 (now (s .entry)) at ⌝ }
+{
+    byte(s, at) + 256 * byte(s, at + 1) + 65536 * byte(s, at + 2) + 16777216 * byte(s, at + 3)
+}
+
+// The four bytes at an offset, most significant first.
+pub fn load_be32(s: &[u8], at: usize) -> u32
+    requires { ⌜ at + 4 ≤ length (now s) ⌝ }
+    ensures { λ r. ⌜ r ≡ be32 (now (s .entry)) at ⌝ }
+{
+    16777216 * byte(s, at) + 65536 * byte(s, at + 1) + 256 * byte(s, at + 2) + byte(s, at + 3)
+}
+
+// Stores a number in two bytes, least significant first.
+pub fn store_le16(buf: &mut [u8], at: usize, value: u32)
+    requires { ⌜ at + 2 ≤ length (now buf) ⌝ }
+    ensures { λ _. ⌜ now (buf .exit) ≡ put (now (buf .entry)) at (toLe16 value) ⌝ }
+{
+    buf[at] = (value % 256) as u8;
+    buf[at + 1] = (value / 256 % 256) as u8;
+}
+
+// Stores a number in four bytes, least significant first.
+pub fn store_le32(buf: &mut [u8], at: usize, value: u32)
+    requires { ⌜ at + 4 ≤ length (now buf) ⌝ }
+    ensures { λ _. ⌜ now (buf .exit) ≡ put (now (buf .entry)) at (toLe32 value) ⌝ }
+{
+    buf[at] = (value % 256) as u8;
+    buf[at + 1] = (value / 256 % 256) as u8;
+    buf[at + 2] = (value / 256 / 256 % 256) as u8;
+    buf[at + 3] = (value / 256 / 256 / 256 % 256) as u8;
+}
+
+// Stores a number in four bytes, most significant first.
+pub fn store_be32(buf: &mut [u8], at: usize, value: u32)
+    requires { ⌜ at + 4 ≤ length (now buf) ⌝ }
+    ensures { λ _. ⌜ now (buf .exit) ≡ put (now (buf .entry)) at (toBe32 value) ⌝ }
+{
+    buf[at] = (value / 256 / 256 / 256 % 256) as u8;
+    buf[at + 1] = (value / 256 / 256 % 256) as u8;
+    buf[at + 2] = (value / 256 % 256) as u8;
+    buf[at + 3] = (value % 256) as u8;
+}
+
+// Copies a byte string into a buffer.
+pub fn copy_in(buf: &mut [u8], at: usize, src: &[u8])
+    requires { ⌜ at + length (now src) ≤ length (now buf) ⌝ }
+    ensures { λ _. ⌜ now (buf .exit) ≡ put (now (buf .entry)) at (now (src .entry)) ⌝ }
+{
+    let mut j = 0;
+    while j < src.len() {
+        buf[at + j] = src[j];
+        j += 1;
+    }
+}
+
+// Sets the bytes from one offset up to another to one value.
+pub fn fill(buf: &mut [u8], from: usize, to: usize, value: u8)
+    requires { ⌜ (from ≤ to) × (to ≤ length (now buf)) ⌝ }
+    ensures { λ _. ⌜ now (buf .exit) ≡ put (now (buf .entry)) from (replicate (to - from) value) ⌝ }
+{
+    let mut i = from;
+    while i < to {
+        buf[i] = value;
+        i += 1;
+    }
+}
+
+// The order of two byte strings of any lengths, byte by byte.
+pub fn compare(a: &[u8], b: &[u8]) -> Ordering
+    ensures { λ r. ⌜ r ≡ ordering (now (a .entry)) (now (b .entry)) ⌝ }
+{
+    let mut i = 0;
+    while i < a.len() {
+        if b.len() <= i {
+            return Ordering::Above;
+        }
+        if a[i] < b[i] {
+            return Ordering::Below;
+        }
+        if b[i] < a[i] {
+            return Ordering::Above;
+        }
+        i += 1;
+    }
+    if i < b.len() {
+        return Ordering::Below;
+    }
+    Ordering::Equal
+}
+
+pub fn is_below(o: Ordering) -> bool
+    ensures { λ r. ⌜ r ≡ isBelow o ⌝ }
+{
+    match o {
+        Ordering::Below => true,
+        Ordering::Equal => false,
+        Ordering::Above => false,
+    }
+}
+
+pub fn is_equal(o: Ordering) -> bool
+    ensures { λ r. ⌜ r ≡ isEqual o ⌝ }
+{
+    match o {
+        Ordering::Below => false,
+        Ordering::Equal => true,
+        Ordering::Above => false,
+    }
+}
