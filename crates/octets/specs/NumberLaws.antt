@@ -1,7 +1,7 @@
 -- Laws: a number is read back as it was stored, and what is stored elsewhere does not touch it. Assumes nothing.
 use mathlib.Core.Path.{_≡_, refl, sym, ap, _∙_}
 use mathlib.Core.List.{List, [], _∷_, _++_}
-use Prim.Native.Nat.{ℕ, zero, suc, _+_, _*_, _^_, _≤_, _<_}
+use Prim.Native.Nat.{ℕ, zero, suc, _+_, _*_, _/_, _^_, _≤_, _<_}
 use native.Mathlib.Nat.{add-zero}
 use native.Mathlib.Omega.{arith}
 use lib.Dec.{lit<}
@@ -22,6 +22,11 @@ length-toLe32 x = refl
 pub length-toBe32 : (x : ℕ) → length (toBe32 x) ≡ 4
 unfolding toBe32
 length-toBe32 x = refl
+
+-- four bytes are twice two
+pub toLe32-halves : (x : ℕ) → toLe32 x ≡ toLe16 x ++ toLe16 (x / 256 / 256)
+unfolding toLe32 toLe16
+toLe32-halves x = refl
 
 -- a number is that of its own bytes
 pub le16-toLe16 : (x : ℕ) → x < 2 ^ 16 → le16 (toLe16 x) 0 ≡ x

@@ -26,7 +26,7 @@ pub fn load_le16(s: &[u8], at: usize) -> u32
     requires { ⌜ at + 2 ≤ length (now s) ⌝ }
     ensures { λ r. ⌜ (r ≡ le16 (now (s .entry)) at) × (r < 65536) ⌝ }
 {
-    byte(s, at) + 256 * byte(s, at + 1)
+    256 * byte(s, at + 1) + byte(s, at)
 }
 
 // The two bytes at an offset, most significant first.
@@ -67,10 +67,8 @@ pub fn store_le32(buf: &mut [u8], at: usize, value: u32)
     requires { ⌜ at + 4 ≤ length (now buf) ⌝ }
     ensures { λ _. ⌜ now (buf .exit) ≡ put (now (buf .entry)) at (toLe32 value) ⌝ }
 {
-    buf[at] = (value % 256) as u8;
-    buf[at + 1] = (value / 256 % 256) as u8;
-    buf[at + 2] = (value / 256 / 256 % 256) as u8;
-    buf[at + 3] = (value / 256 / 256 / 256 % 256) as u8;
+    store_le16(buf, at, value);
+    store_le16(buf, at + 2, value / 256 / 256);
 }
 
 // Stores a number in four bytes, most significant first.

@@ -1,67 +1,32 @@
--- `octets::store_le32` meets its contract: its stores, one byte after another, are one `put`.
+-- `octets::store_le32` meets its contract: two stores of two bytes are one of four.
 -- Assumes nothing.
-use native.Mathlib.Omega.{arith}
-use lib.ListN.{length-set}
-use Rattle.octets.specs.Bytes.{toLe32}
-use Rattle.octets.specs.StoreLaws.{stored4}
+use mathlib.Core.Path.{_∙_}
 use borrow.Author.Needs.{needs}
+use Rattle.octets.specs.StoreLaws.{put-append}
+use Rattle.octets.specs.NumberLaws.{toLe32-halves, length-toLe16}
 use Rattle.octets.proofs.store_le32.Statement.{statement}
 use Rattle.octets.proofs.store_le32.Tie as tie
 
-cast-buf : tie.Need-cast-buf
-cast-buf c = search needs
+store-le16-requires : tie.Need-store-le16-requires
+store-le16-requires c κs = search needs
 
-slice-write-buf : tie.Need-slice-write-buf
-slice-write-buf c = search needs
+add-store-le16 : tie.Need-add-store-le16
+add-store-le16 c = search needs
 
-cast-buf-2 : tie.Need-cast-buf-2
-cast-buf-2 c = search needs
-
-add-buf : tie.Need-add-buf
-add-buf c = search needs
-
-slice-write-buf-2 : tie.Need-slice-write-buf-2
-slice-write-buf-2 c = simp length-set (omega arith)
-
-cast-buf-3 : tie.Need-cast-buf-3
-cast-buf-3 c = search needs
-
-add-buf-2 : tie.Need-add-buf-2
-add-buf-2 c = search needs
-
-slice-write-buf-3 : tie.Need-slice-write-buf-3
-slice-write-buf-3 c = simp length-set (omega arith)
-
-cast-buf-4 : tie.Need-cast-buf-4
-cast-buf-4 c = search needs
-
-add-buf-3 : tie.Need-add-buf-3
-add-buf-3 c = search needs
-
-slice-write-buf-4 : tie.Need-slice-write-buf-4
-slice-write-buf-4 c = simp length-set (omega arith)
+store-le16-requires-2 : tie.Need-store-le16-requires-2
+store-le16-requires-2 c κs = search needs
 
 same-length : tie.Need-same-length
 same-length c = search needs
 
 returns : tie.Need-returns
-unfolding toLe32
-returns c = stored4 _ _ _ _ _ _
+returns c =
+    let second = c .before .before in
+    let first = second .before .before .before .before in
+    rw (toLe32-halves, put-append, length-toLe16)
+    (second .store-le162 .ensures ∙ rw (first .store-le16 .ensures))
 
 pub store-le32-spec : {M : Type 1} → statement M
 store-le32-spec =
     tie.close
-    (tie.spec
-    cast-buf
-    slice-write-buf
-    cast-buf-2
-    add-buf
-    slice-write-buf-2
-    cast-buf-3
-    add-buf-2
-    slice-write-buf-3
-    cast-buf-4
-    add-buf-3
-    slice-write-buf-4
-    same-length
-    returns)
+    (tie.spec store-le16-requires add-store-le16 store-le16-requires-2 same-length returns)
