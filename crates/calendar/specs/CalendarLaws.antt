@@ -7,9 +7,10 @@ use mathlib.Core.List.{List, [], _∷_}
 use mathlib.Core.Bool.{Bool, true, false, cond, _&&_}
 use lib.ListN.{length, getD}
 use lib.Dec.{leb}
+use mir.Val.{boolByte}
 use borrow.Author.Needs.{needs}
 use borrow.Author.Tests.{leb-true}
-use Rattle.basis.specs.Tests.{either, both}
+use Rattle.basis.specs.Tests.{both}
 use Rattle.basis.specs.Lists.{All}
 use Rattle.calendar.specs.Calendar.{isLeap, monthLengths, rowOf, daysInMonth, isDate}
 
@@ -22,14 +23,11 @@ row-below year = one-of (isLeap year)
     one-of true = omega arith
     one-of false = omega arith
 
--- the row of a leap year and of a common one
-pub leap-row : (year : ℕ) → isLeap year ≡ true → rowOf year ≡ 1
+-- a flag for a leap year, taken as an index, is the year's row
+pub flag-row : (leap : Bool) (year : ℕ) → leap ≡ isLeap year → boolByte leap ≡ rowOf year
 unfolding rowOf
-leap-row year leap = rw leap
-
-pub common-row : (year : ℕ) → isLeap year ≡ false → rowOf year ≡ 0
-unfolding rowOf
-common-row year common = rw common
+flag-row true year is = rw (← is)
+flag-row false year is = rw (← is)
 
 -- what holds of all members holds of the one at an index
 all-at : {A : Type 0} (P : A → Type 0) (xs : List A) (d : A) → All P xs → (i : ℕ) → i < length xs → P (getD xs i d)
@@ -69,12 +67,12 @@ daysInYear year = sum (getD monthLengths (rowOf year) [])
 
 -- a leap year has 366 days, a common one 365
 pub leap-days : (year : ℕ) → isLeap year ≡ true → daysInYear year ≡ 366
-unfolding daysInYear sum monthLengths
-leap-days year leap = rw (leap-row year leap)
+unfolding daysInYear sum monthLengths rowOf
+leap-days year leap = rw leap
 
 pub common-days : (year : ℕ) → isLeap year ≡ false → daysInYear year ≡ 365
-unfolding daysInYear sum monthLengths
-common-days year common = rw (common-row year common)
+unfolding daysInYear sum monthLengths rowOf
+common-days year common = rw common
 
 -- a date's month is 1 to 12, its day 1 to the month's length, and so 1 to 31
 pub record DateRange (year month day : ℕ) : Type 0 where
@@ -98,5 +96,5 @@ date-range year month day date =
       month-to = to;
       day-from = leb-true _ _ (third .1);
       day-to = within;
-      day-31 = omega (arith, month-days year month from to)
+      day-31 = omega (arith, month-days year month from to);
     }

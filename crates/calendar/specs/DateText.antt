@@ -6,7 +6,6 @@ use lib.ListN.{length, take, drop}
 use lib.Dec.{leb, eqb}
 use Rattle.calendar.specs.Calendar.{isDate}
 use Rattle.calendar.specs.Decimal.{allBlank, allDigits, decimal}
-use Rattle.calendar.specs.declared.Date.{Date}
 use Rattle.calendar.specs.declared.DateAnswer.{DateAnswer}
 use Rattle.calendar.specs.declared.DateAnswer.the-variants.{Value, Empty, Refused}
 
@@ -14,7 +13,11 @@ use Rattle.calendar.specs.declared.DateAnswer.the-variants.{Value, Empty
 abbrev pub badDateText : ℕ
 badDateText = 20
 
--- YYYYMMDD
+-- "year 1 to 9999"
+abbrev pub maxYear : ℕ
+maxYear = 9999
+
+-- the parts of YYYYMMDD
 abbrev pub yearPart : List ℕ → List ℕ
 yearPart text = take 4 text
 
@@ -24,14 +27,14 @@ monthPart text = take 2 (drop 4 text)
 abbrev pub dayPart : List ℕ → List ℕ
 dayPart text = take 2 (drop 6 text)
 
--- "year 1 to 9999", and a day of the calendar
-unfoldable pub isTextDate : ℕ → ℕ → ℕ → Bool
-isTextDate year month day = leb 1 year && leb year 9999 && isDate year month day
+-- a date that a D field can hold
+unfoldable pub isFieldDate : ℕ → ℕ → ℕ → Bool
+isFieldDate year month day = leb 1 year && leb year maxYear && isDate year month day
 
--- the answer for eight digits whose numbers are these
+-- the answer for eight digits with these numbers
 unfoldable pub dateOfNumbers : ℕ → ℕ → ℕ → DateAnswer
 dateOfNumbers y m d =
-    cond (isTextDate y m d) (Value (record { year = y; month = m; day = d })) (Refused badDateText)
+    cond (isFieldDate y m d) (Value (record { year = y; month = m; day = d })) (Refused badDateText)
 
 -- Eight blanks are empty; eight digits YYYYMMDD of a date are that date; all else is refused. The table's checks make a D field
 -- eight bytes long, so document 01 doesn't speak of other lengths: they are refused too.

@@ -3,7 +3,7 @@ use Prim.Native.Nat.{ℕ, zero, suc, _+_, _-_, _*_, _/_, _%_, _^_, _≤_, _<_}
 use native.Mathlib.Nat.{pow-zero, pow-suc, pow-le-pow-right, add-zero, zero-add, add-suc, suc-add}
 use native.Mathlib.Numerals.{add-one}
 use native.Mathlib.Omega.{arith}
-use mathlib.Core.Path.{_≡_, refl, ap, sym, _∙_}
+use mathlib.Core.Path.{_≡_, refl, _∙_}
 use mathlib.Core.List.{List, [], _∷_, _++_, append-nil, append-assoc}
 use mathlib.Core.Bool.{Bool, true, false, _&&_}
 use lib.ListN.{length, getD, drop, replicate, length-append}
@@ -160,7 +160,7 @@ padded-from (b ∷ s) w n all =
     let moved : w + suc (length s) ≡ suc w + length s = omega arith in
     rw moved (padded-from s (suc w) _ (t .1) ∙ rw (front, last, append-assoc))
 
--- digits are the text of the number that they spell
-pub padded-decimal : (s : List ℕ) → allDigits s ≡ true → padded (length s) (decimal s) ≡ s
+-- w digits are the text, w wide, of the number that they spell
+pub padded-decimal : (s : List ℕ) (w : ℕ) → length s ≡ w → allDigits s ≡ true → padded w (decimal s) ≡ s
 unfolding decimal padded
-padded-decimal s all = rw zero-add at (padded-from s 0 0 all)
+padded-decimal s w long all = rw (zero-add, long) at (padded-from s 0 0 all)

@@ -1,4 +1,4 @@
--- Rules: what reading a part of a date's text finds. Cited by `read_digits` alone. Assumes nothing.
+-- Rules: what reading a part of a date's text finds. Cited by the inner `read_digits` alone. Assumes nothing.
 use Prim.Native.Nat.{ℕ}
 use mathlib.Core.List.{List}
 use mathlib.Core.Bool.{cond}

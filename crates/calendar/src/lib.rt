@@ -3,9 +3,9 @@
 ghost use Prim.Native.Nat.{_≤_};
 ghost use mathlib.Core.Path.{_≡_};
 ghost use lib.ListN.{length};
-ghost use Rattle.calendar.specs.Calendar.{isLeap, rowOf, daysInMonth, isDate};
+ghost use Rattle.calendar.specs.Calendar.{isLeap, daysInMonth, isDate};
 ghost use Rattle.calendar.specs.Decimal.{allBlank, isDigit};
-ghost use Rattle.calendar.specs.DateText.{dateOf, dateOfNumbers};
+ghost use Rattle.calendar.specs.DateText.{maxYear, dateOf, dateOfNumbers};
 ghost use Rattle.calendar.specs.Reading.{digitsOf};
 
 // January to December: common years, then leap years.
@@ -17,7 +17,7 @@ const MONTH_LENGTHS: [[u8; 12]; 2] = [
 // The refusal "bad date or logical text".
 const BAD_DATE_TEXT: u32 = 20;
 
-// A byte as a number: the check asks nothing of the byte at a call.
+// A byte as a number; a call asks no proof that the byte fits.
 fn wide(byte: u8) -> u32
     ensures { λ r. ⌜ r ≡ byte ⌝ }
 {
@@ -30,23 +30,15 @@ fn is_leap(year: u32) -> bool
     (year % 4 == 0) & ((year % 100 != 0) | (year % 400 == 0))
 }
 
-// The year's row of the month lengths.
-fn row_of(year: u32) -> usize
-    ensures { λ r. ⌜ r ≡ rowOf year ⌝ }
-{
-    if is_leap(year) { 1 } else { 0 }
-}
-
 fn days_in_month(year: u32, month: u32) -> u32
     requires { ⌜ (1 ≤ month) × (month ≤ 12) ⌝ }
     ensures { λ r. ⌜ r ≡ daysInMonth year month ⌝ }
 {
-    let leap = row_of(year);
-    let column = (month - 1) as usize;
-    wide(MONTH_LENGTHS[leap][column])
+    let leap = is_leap(year) as usize;
+    wide(MONTH_LENGTHS[leap][month as usize - 1])
 }
 
-// Whether the calendar has this day. Every year has a calendar: the callers say which years they allow.
+// Whether the calendar has this day. Any year goes: each caller says which years it allows.
 pub fn is_date(year: u32, month: u32, day: u32) -> bool
     ensures { λ r. ⌜ r ≡ isDate year month day ⌝ }
 {
@@ -115,9 +107,9 @@ fn read_digits(part: &[u8]) -> Digits
     Digits::Number(number)
 }
 
-// Four digits spell no year above 9999.
+// A year of four digits is not above 9999, so that need not be tested.
 fn date_of_numbers(year: u32, month: u32, day: u32) -> DateAnswer
-    requires { ⌜ year ≤ 9999 ⌝ }
+    requires { ⌜ year ≤ maxYear ⌝ }
     ensures { λ r. ⌜ r ≡ dateOfNumbers year month day ⌝ }
 {
     if year < 1 {

@@ -1,7 +1,6 @@
 -- `calendar::is_blank` meets its contract. The loop's invariant: the text is blank just when what is left of it is.
 -- The measure is what is left of the length. Assumes nothing.
-use Prim.Native.Nat.{_≤_, _<_, _-_}
-use native.Mathlib.Omega.{arith}
+use Prim.Native.Nat.{_≤_, _-_}
 use mathlib.Core.Path.{_≡_, refl, sym, _∙_}
 use lib.ListN.{length, drop, drop-of-length-le}
 use borrow.Author.Needs.{needs}
@@ -9,8 +8,6 @@ use Rattle.calendar.specs.Decimal.{allBlank}
 use Rattle.calendar.specs.DecimalLaws.{blank-next, blank-stop}
 use Rattle.calendar.proofs.is_blank.Statement.{statement}
 use Rattle.calendar.proofs.is_blank.Tie as tie
-use Rattle.calendar.proofs.is_blank.Reads as reads
-use Rattle.calendar.proofs.is_blank.Lts as lts
 
 abbrev Inv-loop : tie.InvT-loop
 Inv-loop text i₀ i = (i ≤ length text) × (allBlank text ≡ allBlank (drop i text))

@@ -4,9 +4,6 @@ use borrow.Author.Tests.{le-leb, lt-leb}
 use Rattle.calendar.specs.Calendar.{isDate}
 use Rattle.calendar.proofs.is_date.Statement.{statement}
 use Rattle.calendar.proofs.is_date.Tie as tie
-use Rattle.calendar.proofs.is_date.Reads as reads
-use Rattle.calendar.proofs.is_date.Lts as lts
-use Rattle.calendar.proofs.days_in_month.Reads as days-in-month-reads
 
 returns : tie.Need-returns
 unfolding isDate

@@ -1,11 +1,11 @@
 -- `calendar::read_digits` meets its contract. The loop's invariant: the part reads as the number so far does, followed by what is
 -- left; a number of i digits is below ten to the i. The measure is what is left of the length. Assumes nothing.
-use Prim.Native.Nat.{ℕ, _≤_, _<_, _-_, _^_}
+use Prim.Native.Nat.{_≤_, _<_, _-_, _^_}
 use native.Mathlib.Numerals.{add-one}
 use native.Mathlib.Omega.{arith}
-use mathlib.Core.Path.{_≡_, refl, sym, _∙_, ap}
-use mathlib.Core.Bool.{true, false}
-use lib.ListN.{length, getD, drop, drop-of-length-le}
+use mathlib.Core.Path.{_≡_, refl, sym, _∙_}
+use mathlib.Core.Bool.{true}
+use lib.ListN.{length, drop, drop-of-length-le}
 use borrow.Author.Needs.{needs}
 use borrow.Author.Tests.{not-true, not-false}
 use Rattle.calendar.specs.Decimal.{isDigit, allDigits, decimalFrom}
@@ -13,10 +13,6 @@ use Rattle.calendar.specs.Reading.{digitsFrom, digitsOf}
 use Rattle.calendar.specs.DecimalLaws.{digit-range, digit-next, digit-stop, digit-bound, three-digits}
 use Rattle.calendar.proofs.read_digits.Statement.{statement}
 use Rattle.calendar.proofs.read_digits.Tie as tie
-use Rattle.calendar.proofs.read_digits.Reads as reads
-use Rattle.calendar.proofs.read_digits.Lts as lts
-use Rattle.calendar.proofs.is_digit.Reads as is-digit-reads
-use Rattle.calendar.proofs.wide.Reads as wide-reads
 
 abbrev Inv-loop : tie.InvT-loop
 Inv-loop part number₀ i₀ number i =
@@ -76,7 +72,9 @@ loop-again c =
     let at-byte = c .before .before in
     let at-test = at-byte .before .before in
     let at-loop = at-test .before in
-    (search needs, at-loop .loop .inv .1 ∙ digit-next _ _ (at-test .loop-test .taken) (at-byte .wide .ensures) _ (is-one c), rw add-one (digit-bound _ _ _ (at-loop .loop .inv .2) (digit-range _ (is-one c) .1)))
+    let read = digit-next _ _ (at-test .loop-test .taken) (at-byte .wide .ensures) _ (is-one c) in
+    let below = digit-bound _ _ _ (at-loop .loop .inv .2) (digit-range _ (is-one c) .1) in
+    (search needs, at-loop .loop .inv .1 ∙ read, rw add-one below)
 
 returns-2 : tie.Need-returns-2 Inv-loop μ-loop
 unfolding digitsFrom allDigits decimalFrom
