@@ -83,8 +83,8 @@ by-cases text refused empty value =
 
 -- ---- the three parts
 
-pub parts : (text : List ℕ) → length text ≡ 8 → text ≡ yearPart text ++ monthPart text ++ dayPart text
-parts text eight =
+pub date-parts : (text : List ℕ) → length text ≡ 8 → text ≡ yearPart text ++ monthPart text ++ dayPart text
+date-parts text eight =
     let front = sym (take-all 8 text (omega arith)) ∙ take-add 4 4 text in
     let back = take-add 2 2 (drop 4 text) ∙ ap (λ (l : List ℕ). monthPart text ++ take 2 l) (drop-drop 2 4 text) in
     front ∙ rw back (sym (append-assoc (yearPart text) (monthPart text) (dayPart text)))
@@ -92,7 +92,7 @@ parts text eight =
 -- all bytes are digits when those of each part are
 parts-digits : (text : List ℕ) → length text ≡ 8
     → allDigits text ≡ allDigits (yearPart text) && allDigits (monthPart text) && allDigits (dayPart text)
-parts-digits text eight = simp digits-append at (ap allDigits (parts text eight))
+parts-digits text eight = simp digits-append at (ap allDigits (date-parts text eight))
 
 -- the answer by what each part reads as
 abbrev pub ofParts : Digits → Digits → Digits → DateAnswer
@@ -185,7 +185,7 @@ unfolding dateText
 digits-are text eight all =
     let whole = both (allDigits (yearPart text) && allDigits (monthPart text)) (allDigits (dayPart text)) (sym (parts-digits text eight) ∙ all) in
     let front = both (allDigits (yearPart text)) (allDigits (monthPart text)) (whole .0) in
-    parts text eight
+    date-parts text eight
     ∙ sym
     (rw (
       padded-decimal (yearPart text) 4 (length-take-le 4 text (omega arith)) (front .0),
@@ -203,18 +203,18 @@ accepted-text text day is =
     (digits-are text eight all ∙ ap dateText same, rw same at (field-date (named text) good)))
 
 -- a text is accepted as a day just when it is the day's text, and the day one that a D field can hold
-pub accepted : (text : List ℕ) (day : Date) → dateOf text ≡ Value day ↔ (text ≡ dateText day) × FieldDate day
-accepted text day = (accepted-text text day, λ h. rw (h .0) (text-accepted day (h .1)))
+pub date-accepted : (text : List ℕ) (day : Date) → dateOf text ≡ Value day ↔ (text ≡ dateText day) × FieldDate day
+date-accepted text day = (accepted-text text day, λ h. rw (h .0) (text-accepted day (h .1)))
 
 -- so a day has one text
-pub one-text : (s t : List ℕ) (day : Date) → dateOf s ≡ Value day → dateOf t ≡ Value day → s ≡ t
-one-text s t day p q = accepted-text s day p .0 ∙ sym (accepted-text t day q .0)
+pub date-one-text : (s t : List ℕ) (day : Date) → dateOf s ≡ Value day → dateOf t ≡ Value day → s ≡ t
+date-one-text s t day p q = accepted-text s day p .0 ∙ sym (accepted-text t day q .0)
 
 -- ---- the other answers
 
 -- a text is empty just when it is eight blanks
-pub empty : (text : List ℕ) → dateOf text ≡ Empty ↔ text ≡ replicate 8 0x20
-empty text = (
+pub date-blanks : (text : List ℕ) → dateOf text ≡ Empty ↔ text ≡ replicate 8 0x20
+date-blanks text = (
   λ is.
       by-cases text
       (λ refused. never (cc))
@@ -224,8 +224,8 @@ empty text = (
 )
 
 -- a refusal has the one number
-pub refused : (text : List ℕ) (n : ℕ) → dateOf text ≡ Refused n → n ≡ badDateText
-refused text n is =
+pub date-refusal : (text : List ℕ) (n : ℕ) → dateOf text ≡ Refused n → n ≡ badDateText
+date-refusal text n is =
     by-cases text
     (λ refused. cc)
     (λ eight blank empty. never (cc))

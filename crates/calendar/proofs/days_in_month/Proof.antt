@@ -1,7 +1,7 @@
 -- `calendar::days_in_month` meets its contract: a year's row is 0 or 1, and the code's rows are the rule's. Assumes nothing.
 use Prim.Native.Nat.{_<_}
 use native.Mathlib.Omega.{arith}
-use mathlib.Core.Path.{_≡_}
+use mathlib.Core.Path.{_≡_, _∙_}
 use borrow.Author.Needs.{needs}
 use mir.Val.{boolByte}
 use Rattle.calendar.specs.Calendar.{monthLengths, rowOf, daysInMonth}
@@ -36,7 +36,7 @@ wide-requires c κs = search needs
 
 returns : tie.Need-returns
 unfolding daysInMonth monthLengths
-returns c = cc (row (c .before .before))
+returns c = c .wide .ensures ∙ rw (row (c .before .before))
 
 pub days-in-month-spec : {M : Type 1} → statement M
 days-in-month-spec =

@@ -71,10 +71,11 @@ loop-again : tie.Need-loop-again Inv-loop μ-loop
 loop-again c =
     let at-byte = c .before .before in
     let at-test = at-byte .before .before in
-    let at-loop = at-test .before in
-    let read = digit-next _ _ (at-test .loop-test .taken) (at-byte .wide .ensures) _ (is-one c) in
-    let below = digit-bound _ _ _ (at-loop .loop .inv .2) (digit-range _ (is-one c) .1) in
-    (search needs, at-loop .loop .inv .1 ∙ read, rw add-one below)
+    let at-loop = at-test .before in (
+      search needs,
+      at-loop .loop .inv .1 ∙ digit-next _ _ (at-test .loop-test .taken) (at-byte .wide .ensures) _ (is-one c),
+      rw add-one (digit-bound _ _ _ (at-loop .loop .inv .2) (digit-range _ (is-one c) .1)),
+    )
 
 returns-2 : tie.Need-returns-2 Inv-loop μ-loop
 unfolding digitsFrom allDigits decimalFrom
