@@ -13,7 +13,8 @@ use Rattle.basis.specs.Tests.{either, both}
 use Rattle.calendar.specs.Calendar.{isDate}
 use Rattle.calendar.specs.CalendarLaws.{date-range}
 use Rattle.calendar.specs.Decimal.{allBlank, allDigits, decimal}
-use Rattle.calendar.specs.DecimalLaws.{digits-append, digits-not-blank, digits-read, digits-unread, blank-is, blanks, padded, length-padded, digits-padded, decimal-padded, padded-decimal}
+use Rattle.calendar.specs.DecimalLaws.{digits-append, digits-not-blank, digits-read, digits-unread, blank-is, blanks}
+use Rattle.calendar.specs.DecimalLaws.{padded, length-padded, digits-padded, decimal-padded, padded-decimal}
 use Rattle.calendar.specs.DateText.{badDateText, maxYear, yearPart, monthPart, dayPart, isFieldDate, dateOfNumbers, dateOf}
 use Rattle.calendar.specs.Reading.{digitsOf}
 use Rattle.calendar.specs.declared.Date.{Date}
@@ -83,6 +84,7 @@ by-cases text refused empty value =
 
 -- ---- the three parts
 
+-- eight bytes are their three parts
 pub date-parts : (text : List ℕ) → length text ≡ 8 → text ≡ yearPart text ++ monthPart text ++ dayPart text
 date-parts text eight =
     let front = sym (take-all 8 text (omega arith)) ∙ take-add 4 4 text in

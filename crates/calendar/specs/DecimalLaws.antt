@@ -22,6 +22,7 @@ pub digit-range : (b : ℕ) → isDigit b ≡ true → (0x30 ≤ b) × (b ≤ 0x
 unfolding isDigit
 digit-range b e = let t = both (leb 0x30 b) (leb b 0x39) e in (leb-true _ _ (t .0), leb-true _ _ (t .1))
 
+-- a number below ten as a digit
 pub digit-of : (n : ℕ) → n < 10 → isDigit (0x30 + n) ≡ true
 unfolding isDigit
 digit-of n small = join _ _ (le-leb 0x30 (0x30 + n) (omega arith)) (le-leb (0x30 + n) 0x39 (omega arith))
