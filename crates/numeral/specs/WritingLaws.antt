@@ -10,12 +10,16 @@ use native.Mathlib.Omega.{arith}
 use lib.Arith.{mod-mul}
 use lib.Pow.{pow-add}
 use lib.Dec.{eqb, leb, ltb}
-use lib.ListN.{length, length-append}
+use lib.IntN.{ℤ, pos, negsuc}
+use lib.ListN.{length, length-append, set}
+use lib.Signed.{ltZ}
 use borrow.Author.Tests.{ltb-true, ltb-false, lt-ltb, le-ltb, leb-true, leb-false, le-leb, eqb-true, eqb-false, eq-eqb, ne-eqb}
 use Rattle.basis.specs.Tests.{either, contra, both, join}
+use Rattle.octets.specs.Store.{put}
+use Rattle.octets.specs.StoreLaws.{put-cons}
 use Rattle.numeral.specs.Format.{zeroDigit, isDigit}
 use Rattle.numeral.specs.Reading.{every, wholeGood, numberFrom, numberOf}
-use Rattle.numeral.specs.Writing.{lastDigits, decimalFrom, decimal}
+use Rattle.numeral.specs.Writing.{lastDigits, decimalFrom, decimal, fractionText, signText}
 
 -- a power of ten is not zero
 pub ten-pos : (k : ℕ) → 0 < 10 ^ k
@@ -98,6 +102,11 @@ decimal-fits-suc = by-tens (λ n. (k : ℕ) → (length (decimal n) ≤ suc k) �
 pub decimal-fits : (n k : ℕ) → 1 ≤ k → (length (decimal n) ≤ k) ↔ (n < 10 ^ k)
 decimal-fits n zero h = absurd (omega arith)
 decimal-fits n (suc k) h = decimal-fits-suc n k
+
+pub decimal-over : (n k : ℕ) → 1 ≤ k → 10 ^ k ≤ n → k < length (decimal n)
+decimal-over n k h l = either (leb (length (decimal n)) k)
+    (λ e. let b = decimal-fits n k h .0 (leb-true _ _ e) in absurd (omega arith))
+    (λ e. leb-false _ _ e)
 
 -- the digits before the last d: all but d of them, and one at least
 module _ (n d : ℕ) where
@@ -227,11 +236,8 @@ count-is : (n k : ℕ) → n < 10 ^ suc k → (1 ≤ k → 10 ^ k ≤ n) → len
 count-is n zero h l = let a = decimal-fits n 1 (omega arith) .1 h in let b = decimal-some n in omega arith
 count-is n (suc k) h l =
     let a = decimal-fits n (suc (suc k)) (omega arith) .1 h in
-    let b = decimal-fits n (suc k) (omega arith) in
-    let c = l (omega arith) in
-    either (leb (length (decimal n)) (suc k))
-    (λ e. let d = b .0 (leb-true _ _ e) in absurd (omega arith))
-    (λ e. let d = leb-false (length (decimal n)) (suc k) e in omega arith)
+    let b = decimal-over n (suc k) (omega arith) (l (omega arith)) in
+    omega arith
 
 below-power : {n p : ℕ} → 0 < p → n / p ≡ 0 → n < p
 below-power {n} {p} h e = let d = div-lt-iff-lt-mul {k = p} {x = n} {y = 1} h .0 (omega arith) in omega arith
@@ -262,3 +268,33 @@ decimal-number (c ∷ s) e =
 pub digits-back : (w f : List ℕ) (d : ℕ) → wholeGood w ≡ true → every isDigit f ≡ true → length f ≡ d
     → (decimal (numberOf (w ++ f) / 10 ^ d) ≡ w) × (lastDigits d (numberOf (w ++ f)) ≡ f)
 digits-back w f d a b e = rw (number-after w f, ← e) (rw (number-div (numberOf w) f b) (decimal-number w a), last-number (numberOf w) f b)
+
+-- ---- the lengths of a value's text, and the writer's stores
+
+pub sign-below : (v : ℤ) → ltZ v (pos 0) ≡ true → length (signText v) ≡ 1
+unfolding signText
+sign-below (pos n) e = absurd (omega (arith, ltb-true n 0 e))
+sign-below (negsuc n) e = refl
+
+pub sign-above : (v : ℤ) → ltZ v (pos 0) ≡ false → length (signText v) ≡ 0
+unfolding signText
+sign-above (pos n) e = refl
+sign-above (negsuc n) e = contra refl e
+
+pub length-fraction : (d n : ℕ) → 1 ≤ d → length (fractionText d n) ≡ d + 1
+unfolding fractionText
+length-fraction zero n h = absurd (omega arith)
+length-fraction (suc d) n h = let l = length-lastDigits (suc d) n in omega arith
+
+-- a turn of the digits' loop, from the right
+pub put-digit : (b : List ℕ) (at count n i : ℕ) → 0 < i → i ≤ count
+    → set (put b (at + i) (lastDigits (count - i) n)) (at + (i - 1)) (zeroDigit + n / 10 ^ (count - i) % 10) ≡ put b (at + (i - 1)) (lastDigits (count - (i - 1)) n)
+put-digit b at count n i h l =
+    let e : count - (i - 1) ≡ suc (count - i) = omega arith in
+    let f : at + i ≡ at + (i - 1) + 1 = omega arith in
+    rw (e, lastDigits-front, put-cons, f)
+
+pub rest-digit : (count n i : ℕ) → 0 < i → i ≤ count → n / 10 ^ (count - i) / 10 ≡ n / 10 ^ (count - (i - 1))
+rest-digit count n i h l =
+    let e : count - (i - 1) ≡ suc (count - i) = omega arith in
+    rw (e, pow-suc, div-div-eq-div-mul)
