@@ -5,21 +5,22 @@ use mathlib.Core.Bool.{Bool, true, false, _&&_, _||_, not}
 use mathlib.Core.List.{List, [], _∷_, _++_}
 use mathlib.Core.Logic.{_↔_}
 use Prim.Native.Nat.{ℕ, zero, suc, _+_, _*_, _-_, _/_, _%_, _^_, _≤_, _<_}
-use native.Mathlib.Nat.{pow-suc, pow-succ', one-le-pow, div-one, div-div-eq-div-mul, div-lt-iff-lt-mul, le-div-iff-mul-le, div-add-mod', mul-comm, pow-le-pow-right, mod-eq-of-lt, mod-one}
+use native.Mathlib.Nat.{zero-add, sub-zero, add-sub-cancel-left, pow-suc, pow-succ', one-le-pow, div-one, div-div-eq-div-mul, div-lt-iff-lt-mul, le-div-iff-mul-le, div-add-mod', mul-comm, pow-le-pow-right, mod-eq-of-lt, mod-one}
 use native.Mathlib.Omega.{arith}
 use lib.Arith.{mod-mul}
 use lib.Pow.{pow-add}
 use lib.Dec.{eqb, leb, ltb}
-use lib.IntN.{ℤ, pos, negsuc}
-use lib.ListN.{length, length-append, set}
+use lib.IntN.{ℤ, pos, negsuc, natAbs}
+use lib.ListN.{length, length-append, length-replicate, replicate, set}
 use lib.Signed.{ltZ}
-use borrow.Author.Tests.{ltb-true, ltb-false, lt-ltb, le-ltb, leb-true, leb-false, le-leb, eqb-true, eqb-false, eq-eqb, ne-eqb}
+use borrow.Author.Tests.{ltb-true, ltb-false, lt-ltb, le-ltb, leb-true, leb-false, le-leb, lt-leb, eqb-true, eqb-false, eq-eqb, ne-eqb}
 use Rattle.basis.specs.Tests.{either, contra, both, join}
 use Rattle.octets.specs.Store.{put}
-use Rattle.octets.specs.StoreLaws.{put-cons}
-use Rattle.numeral.specs.Format.{zeroDigit, isDigit}
+use Rattle.octets.specs.StoreLaws.{put-cons, put-append, put-comm}
+use Rattle.numeral.specs.Format.{maxWidth, maxDecimals, maxDigits, formatGood, blank, minus, point, zeroDigit, isDigit}
 use Rattle.numeral.specs.Reading.{every, wholeGood, numberFrom, numberOf}
-use Rattle.numeral.specs.Writing.{lastDigits, decimalFrom, decimal, fractionText, signText}
+use Rattle.numeral.specs.Writing.{lastDigits, decimalFrom, decimal, fractionText, signText, numberText, written, left, writeNumber}
+use Rattle.numeral.specs.declared.Writing.the-variants.{Written, Refused}
 
 -- a power of ten is not zero
 pub ten-pos : (k : ℕ) → 0 < 10 ^ k
@@ -281,10 +282,13 @@ unfolding signText
 sign-above (pos n) e = refl
 sign-above (negsuc n) e = contra refl e
 
-pub length-fraction : (d n : ℕ) → 1 ≤ d → length (fractionText d n) ≡ d + 1
+pub fraction-some : (d n : ℕ) → 1 ≤ d → fractionText d n ≡ point ∷ lastDigits d n
 unfolding fractionText
-length-fraction zero n h = absurd (omega arith)
-length-fraction (suc d) n h = let l = length-lastDigits (suc d) n in omega arith
+fraction-some zero n h = absurd (omega arith)
+fraction-some (suc d) n h = refl
+
+pub length-fraction : (d n : ℕ) → 1 ≤ d → length (fractionText d n) ≡ d + 1
+length-fraction d n h = rw (fraction-some d n h, length-lastDigits) (omega arith)
 
 -- a turn of the digits' loop, from the right
 pub put-digit : (b : List ℕ) (at count n i : ℕ) → 0 < i → i ≤ count
@@ -298,3 +302,97 @@ pub rest-digit : (count n i : ℕ) → 0 < i → i ≤ count → n / 10 ^ (count
 rest-digit count n i h l =
     let e : count - (i - 1) ≡ suc (count - i) = omega arith in
     rw (e, pow-suc, div-div-eq-div-mul)
+
+-- ---- the written text, stored part after part from the right
+
+pub length-number : (d : ℕ) (v : ℤ) → length (numberText d v) ≡ length (signText v) + length (decimal (natAbs v / 10 ^ d)) + length (fractionText d (natAbs v))
+unfolding numberText
+length-number d v = rw (length-append, length-append) (omega arith)
+
+put-all : (xs ys : List ℕ) → length ys ≡ length xs → put xs 0 ys ≡ ys
+unfolding put
+put-all [] [] e = refl
+put-all [] (y ∷ ys) e = absurd (omega arith)
+put-all (x ∷ xs) [] e = absurd (omega arith)
+put-all (x ∷ xs) (y ∷ ys) e = ap (λ (l : List ℕ). y ∷ l) (put-all xs ys (omega arith))
+
+put-right : (xs : List ℕ) (at : ℕ) (ys zs : List ℕ) → put xs at (ys ++ zs) ≡ put (put xs (at + length ys) zs) at ys
+put-right xs at ys zs = put-append xs at ys zs ∙ put-comm xs at ys (at + length ys) zs (omega arith)
+
+sign-fill : (v : ℤ) → replicate (length (signText v)) minus ≡ signText v
+unfolding signText
+sign-fill (pos n) = refl
+sign-fill (negsuc n) = refl
+
+written-stores : (s : List ℕ) (d : ℕ) (v : ℤ) (at : ℕ) → at + length (numberText d v) ≡ length s
+    → written (length s) d v
+    ≡ put
+    (put
+    (put (put s (at + length (signText v) + length (decimal (natAbs v / 10 ^ d))) (fractionText d (natAbs v))) (at + length (signText v)) (decimal (natAbs v / 10 ^ d)))
+    at
+    (signText v))
+    0
+    (replicate at blank)
+unfolding written numberText
+written-stores s d v at h =
+    let e : length s - length (numberText d v) ≡ at = omega arith in
+    let l : length (written (length s) d v) ≡ length s = rw (length-append, length-replicate, e) h in
+    sym (put-all s (written (length s) d v) l) ∙ rw (e, put-right, length-replicate, put-right, put-right, zero-add)
+
+-- ---- the writer's answers, in their order
+
+pub format-decimals : (w d : ℕ) → formatGood w d ≡ true → d ≤ maxDecimals
+unfolding formatGood
+format-decimals w d e =
+    either (eqb d 0) (λ z. let n = eqb-true d 0 z in omega arith)
+    (λ z.
+    let h = both (leb 1 w && leb w maxWidth) (eqb d 0 || (leb 1 d && leb d maxDecimals && leb (d + 2) w)) e in
+    let k = both (leb 1 d && leb d maxDecimals) (leb (d + 2) w) (rw z at (h .1)) in
+    leb-true d maxDecimals (both (leb 1 d) (leb d maxDecimals) (k .0) .1))
+
+module _ (s : List ℕ) (d : ℕ) (v : ℤ) where
+  pub refused-format : formatGood (length s) d ≡ false → writeNumber s d v ≡ left s (Refused 6)
+  unfolding writeNumber
+  refused-format e = rw (e, writeNumber)
+
+  pub refused-digits : formatGood (length s) d ≡ true → 10 ^ maxDigits ≤ natAbs v → writeNumber s d v ≡ left s (Refused 18)
+  unfolding writeNumber
+  refused-digits e l = rw (e, writeNumber, le-ltb (natAbs v) (10 ^ maxDigits) l)
+
+  refused-width : formatGood (length s) d ≡ true → natAbs v < 10 ^ maxDigits → length s < length (numberText d v) → writeNumber s d v ≡ left s (Refused 19)
+  unfolding writeNumber
+  refused-width e l m = rw (e, writeNumber, lt-ltb (natAbs v) (10 ^ maxDigits) l, lt-leb (length (numberText d v)) (length s) m)
+
+  written-good : formatGood (length s) d ≡ true → natAbs v < 10 ^ maxDigits → length (numberText d v) ≤ length s
+      → writeNumber s d v ≡ left (written (length s) d v) Written
+  unfolding writeNumber
+  written-good e l m = rw (e, writeNumber, lt-ltb (natAbs v) (10 ^ maxDigits) l, le-leb (length (numberText d v)) (length s) m)
+
+-- what the writer knows before it compares the widths: its value's magnitude, and the lengths of its text's three parts
+pub record Measured (s : List ℕ) (d : ℕ) (v : ℤ) (n sign count tail : ℕ) : Type 0 where
+  pub format : formatGood (length s) d ≡ true
+  pub magnitude : n ≡ natAbs v
+  pub small : n < 10 ^ maxDigits
+  pub the-sign : sign ≡ length (signText v)
+  pub the-whole : count ≡ length (decimal (n / 10 ^ d))
+  pub the-fraction : tail ≡ length (fractionText d n)
+
+module _ (s : List ℕ) (d : ℕ) (v : ℤ) (n sign count tail : ℕ) (m : Measured s d v n sign count tail) where
+  size : length (numberText d v) ≡ sign + count + tail
+  size = rw (length-number d v, ← m .magnitude, m .the-sign, m .the-whole, m .the-fraction)
+
+  pub measured-wide : length s < sign + count + tail → writeNumber s d v ≡ left s (Refused 19)
+  measured-wide h = refused-width s d v (m .format) (rw (m .magnitude) at (m .small)) (rw size h)
+
+  -- the four stores, each on what the one before it left
+  pub measured-fits : (at whole : ℕ) {b₁ b₂ b₃ b₄ : List ℕ} → at + (sign + count + tail) ≡ length s → whole ≡ n / 10 ^ d
+      → b₁ ≡ put s (at + sign + count) (fractionText d n)
+      → b₂ ≡ put b₁ (at + sign) (lastDigits count whole)
+      → b₃ ≡ put b₂ at (replicate (at + sign - at) minus)
+      → b₄ ≡ put b₃ 0 (replicate (at - 0) blank)
+      → writeNumber s d v ≡ left b₄ Written
+  measured-fits at whole h w e₁ e₂ e₃ e₄ =
+      let minuses : replicate (at + sign - at) minus ≡ signText v = rw (add-sub-cancel-left, m .the-sign) (sign-fill v) in
+      let stored = written-stores s d v at (rw size h) in
+      written-good s d v (m .format) (rw (m .magnitude) at (m .small)) (rw size (omega arith))
+      ∙ ap (λ (b : List ℕ). left b Written) (stored ∙ rw (e₄, e₃, e₂, e₁, minuses, sub-zero, w, m .the-whole, m .the-sign, m .magnitude, ← decimal-last))

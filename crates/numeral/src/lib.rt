@@ -11,6 +11,7 @@ ghost use Rattle.numeral.specs.Writing.{lastDigits, decimal, fractionTex
 
 // The widest field, and the most decimals.
 const MAX_WIDTH: usize = 20;
+
 const MAX_DECIMALS: u32 = 15;
 
 // The least number of more than 18 digits.
@@ -55,7 +56,8 @@ pub fn format_good(width: usize, decimals: u32) -> bool
 {
     (1 <= width)
         & (width <= MAX_WIDTH)
-        & ((decimals == 0) | ((1 <= decimals) & (decimals <= MAX_DECIMALS) & (decimals as usize + 2 <= width)))
+        & ((decimals == 0)
+            | ((1 <= decimals) & (decimals <= MAX_DECIMALS) & (decimals as usize + 2 <= width)))
 }
 
 // The phase after a first character of the whole part.
@@ -90,16 +92,28 @@ fn next_phase(p: Phase, c: u8) -> Phase
         }
         Phase::Minus => first_digit(c),
         Phase::Zero => {
-            if c == b'.' { Phase::Fraction } else { Phase::Bad }
+            if c == b'.' {
+                Phase::Fraction
+            } else {
+                Phase::Bad
+            }
         }
         Phase::Whole => {
             if (b'0' <= c) & (c <= b'9') {
                 return Phase::Whole;
             }
-            if c == b'.' { Phase::Fraction } else { Phase::Bad }
+            if c == b'.' {
+                Phase::Fraction
+            } else {
+                Phase::Bad
+            }
         }
         Phase::Fraction => {
-            if (b'0' <= c) & (c <= b'9') { Phase::Fraction } else { Phase::Bad }
+            if (b'0' <= c) & (c <= b'9') {
+                Phase::Fraction
+            } else {
+                Phase::Bad
+            }
         }
         Phase::Comma => Phase::Comma,
         Phase::Bad => Phase::Bad,
@@ -173,10 +187,18 @@ impl Reader {
             Phase::Blank => Number::Empty,
             Phase::Comma => Number::Refused(16),
             Phase::Zero | Phase::Whole => {
-                if decimals == 0 { self.settle() } else { Number::Refused(17) }
+                if decimals == 0 {
+                    self.settle()
+                } else {
+                    Number::Refused(17)
+                }
             }
             Phase::Fraction => {
-                if (1 <= decimals) & (self.places == decimals) { self.settle() } else { Number::Refused(17) }
+                if (1 <= decimals) & (self.places == decimals) {
+                    self.settle()
+                } else {
+                    Number::Refused(17)
+                }
             }
             Phase::Minus | Phase::Bad => Number::Refused(17),
         }
@@ -211,16 +233,12 @@ pub fn read_number(text: &[u8], decimals: u32) -> Number
 fn magnitude(v: i64) -> u64
     ensures { λ r. ⌜ r ≡ natAbs v ⌝ }
 {
-    if v < 0 {
-        (-1 - v) as u64 + 1
-    } else {
-        v as u64
-    }
+    if v < 0 { (-1 - v) as u64 + 1 } else { v as u64 }
 }
 
 // How many characters the sign takes.
 fn sign_length(v: i64) -> usize
-    ensures { λ r. ⌜ r ≡ length (signText v) ⌝ }
+    ensures { λ r. ⌜ (r ≡ length (signText v)) × (r ≤ 1) ⌝ }
 {
     if v < 0 { 1 } else { 0 }
 }
@@ -228,7 +246,7 @@ fn sign_length(v: i64) -> usize
 // How many digits stand before the point: all but `places` of the number's digits, and one at least.
 fn whole_length(n: u64, places: usize) -> usize
     requires { ⌜ n < 10 ^ maxDigits ⌝ }
-    ensures { λ r. ⌜ r ≡ length (decimal (n / 10 ^ places)) ⌝ }
+    ensures { λ r. ⌜ (r ≡ length (decimal (n / 10 ^ places))) × (r ≤ maxDigits) ⌝ }
 {
     let mut count: usize = 1;
     let mut p: u64 = 10;
@@ -242,7 +260,7 @@ fn whole_length(n: u64, places: usize) -> usize
 // How many characters the point and the digits after it take.
 fn fraction_length(places: usize) -> usize
     requires { ⌜ places ≤ maxDecimals ⌝ }
-    ensures { λ r. ⌜ ((n : ℕ) → r ≡ length (fractionText places n)) ⌝ }
+    ensures { λ r. ⌜ (((n : ℕ) → r ≡ length (fractionText places n)) × (r ≤ maxWidth)) ⌝ }
 {
     if places == 0 { 0 } else { places + 1 }
 }

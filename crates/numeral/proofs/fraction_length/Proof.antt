@@ -13,10 +13,10 @@ add-result c = search needs
 
 returns : tie.Need-returns
 unfolding fractionText
-returns c = λ n. rw (c .if1 .taken)
+returns c = ((λ n. rw (c .if1 .taken)), omega arith)
 
 returns-2 : tie.Need-returns-2
-returns-2 c = λ n. sym (length-fraction (c .before .args .places) n (omega (arith, c .if1 .left)))
+returns-2 c = ((λ n. sym (length-fraction (c .before .args .places) n (omega (arith, c .if1 .left)))), omega arith)
 
 pub fraction-length-spec : {M : Type 1} → statement M
 fraction-length-spec = tie.close (tie.spec add-result returns returns-2)

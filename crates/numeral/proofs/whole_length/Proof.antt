@@ -62,7 +62,7 @@ returns : tie.Need-returns Inv-loop μ-loop
 returns c =
     let args = c .before .before .before .args in
     let same = all (c .before) in
-    sym (decimal-short (args .n) (args .places) (omega arith))
+    (sym (decimal-short (args .n) (args .places) (omega arith)), omega arith)
 
 -- src/lib.rt:229:1
 returns-2 : tie.Need-returns-2 Inv-loop μ-loop
@@ -70,7 +70,7 @@ returns-2 c =
     let args = c .before .before .before .args in
     let same = all (c .before) in
     let long = decimal-long (args .n) (args .places) (omega arith) in
-    omega arith
+    (omega arith, omega arith)
 
 pub whole-length-spec : {M : Type 1} → statement M
 whole-length-spec =
