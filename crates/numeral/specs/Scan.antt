@@ -49,12 +49,11 @@ nextValue n c = cond (isDigit c && ltb n (10 ^ maxDigits)) (10 * n + (c - zeroDi
 
 unfoldable pub step : Reader → ℕ → Reader
 step r c =
-    record {
-      phase = nextPhase (r .phase) c;
-      negative = r .negative || eqb c minus;
-      places = morePlaces (r .phase) (r .places);
-      value = nextValue (r .value) c;
-    }
+    record
+      { phase = nextPhase (r .phase) c
+      ; negative = r .negative || eqb c minus
+      ; places = morePlaces (r .phase) (r .places)
+      ; value = nextValue (r .value) c }
 
 unfoldable pub scan : Reader → List ℕ → Reader
 scan r [] = r
