@@ -3,3 +3,4 @@ pub mod Reading
 pub mod Writing
 pub mod Scan
 pub mod WritingLaws
+pub mod TextLaws

@@ -19,7 +19,7 @@ use Rattle.octets.specs.Store.{put}
 use Rattle.octets.specs.StoreLaws.{put-cons, put-append, put-comm}
 use Rattle.numeral.specs.Format.{maxWidth, maxDecimals, maxDigits, formatGood, blank, minus, point, zeroDigit, isDigit}
 use Rattle.numeral.specs.Reading.{every, wholeGood, numberFrom, numberOf}
-use Rattle.numeral.specs.Writing.{lastDigits, decimalFrom, decimal, fractionText, signText, numberText, written, left, writeNumber}
+use Rattle.numeral.specs.Writing.{lastDigits, decimalFrom, decimal, fractionText, signText, numberText, written, Left, left, writeNumber}
 use Rattle.numeral.specs.declared.Writing.the-variants.{Written, Refused}
 
 -- a power of ten is not zero
@@ -111,7 +111,7 @@ decimal-over n k h l = either (leb (length (decimal n)) k)
 
 -- the digits before the last d: all but d of them, and one at least
 module _ (n d : ℕ) where
-  shift-fits : (k : ℕ) → 1 ≤ k → (length (decimal (n / 10 ^ d)) ≤ k) ↔ (length (decimal n) ≤ k + d)
+  pub shift-fits : (k : ℕ) → 1 ≤ k → (length (decimal (n / 10 ^ d)) ≤ k) ↔ (length (decimal n) ≤ k + d)
   shift-fits k h =
       let p = ten-pos d in
       let q : (n / 10 ^ d < 10 ^ k) ↔ (n < 10 ^ (k + d)) = rw pow-add (div-lt-iff-lt-mul p) in
@@ -309,6 +309,10 @@ pub length-number : (d : ℕ) (v : ℤ) → length (numberText d v) ≡ length (
 unfolding numberText
 length-number d v = rw (length-append, length-append) (omega arith)
 
+pub length-written : (width d : ℕ) (v : ℤ) → length (written width d v) ≡ width - length (numberText d v) + length (numberText d v)
+unfolding written
+length-written width d v = rw (length-append, length-replicate)
+
 put-all : (xs ys : List ℕ) → length ys ≡ length xs → put xs 0 ys ≡ ys
 unfolding put
 put-all [] [] e = refl
@@ -336,7 +340,7 @@ written-stores : (s : List ℕ) (d : ℕ) (v : ℤ) (at : ℕ) → at + length (
 unfolding written numberText
 written-stores s d v at h =
     let e : length s - length (numberText d v) ≡ at = omega arith in
-    let l : length (written (length s) d v) ≡ length s = rw (length-append, length-replicate, e) h in
+    let l : length (written (length s) d v) ≡ length s = rw (length-written, e) h in
     sym (put-all s (written (length s) d v) l) ∙ rw (e, put-right, length-replicate, put-right, put-right, zero-add)
 
 -- ---- the writer's answers, in their order
@@ -359,14 +363,37 @@ module _ (s : List ℕ) (d : ℕ) (v : ℤ) where
   unfolding writeNumber
   refused-digits e l = rw (e, writeNumber, le-ltb (natAbs v) (10 ^ maxDigits) l)
 
-  refused-width : formatGood (length s) d ≡ true → natAbs v < 10 ^ maxDigits → length s < length (numberText d v) → writeNumber s d v ≡ left s (Refused 19)
+  pub refused-width : formatGood (length s) d ≡ true → natAbs v < 10 ^ maxDigits → length s < length (numberText d v) → writeNumber s d v ≡ left s (Refused 19)
   unfolding writeNumber
   refused-width e l m = rw (e, writeNumber, lt-ltb (natAbs v) (10 ^ maxDigits) l, lt-leb (length (numberText d v)) (length s) m)
 
-  written-good : formatGood (length s) d ≡ true → natAbs v < 10 ^ maxDigits → length (numberText d v) ≤ length s
+  pub written-good : formatGood (length s) d ≡ true → natAbs v < 10 ^ maxDigits → length (numberText d v) ≤ length s
       → writeNumber s d v ≡ left (written (length s) d v) Written
   unfolding writeNumber
   written-good e l m = rw (e, writeNumber, lt-ltb (natAbs v) (10 ^ maxDigits) l, le-leb (length (numberText d v)) (length s) m)
+
+-- a write that is made, and what it leaves
+no-write : {X : Type 0} {l : Left} {s t : List ℕ} {n : ℕ} → l ≡ left s (Refused n) → l ≡ left t Written → X
+no-write {l} {s} {t} {n} p q =
+    let r : Refused n ≡ Written = sym (ap (λ (l : Left). l .answer) p) ∙ ap (λ (l : Left). l .answer) q in
+    let z : _≡_ {A = ℕ} 0 1 = cc in
+    absurd (omega arith)
+
+pub written-exactly : (s t : List ℕ) (d : ℕ) (v : ℤ)
+    → (writeNumber s d v ≡ left t Written)
+    ↔ ((formatGood (length s) d ≡ true) × (natAbs v < 10 ^ maxDigits) × (length (numberText d v) ≤ length s) × (t ≡ written (length s) d v))
+written-exactly s t d v =
+    ((λ h. either (formatGood (length s) d)
+    (λ f. either (ltb (natAbs v) (10 ^ maxDigits))
+    (λ m. either (leb (length (numberText d v)) (length s))
+    (λ l.
+    let small = ltb-true _ _ m in
+    let fits = leb-true _ _ l in
+    (f, small, fits, ap (λ (l : Left). l .after) (sym h ∙ written-good s d v f small fits)))
+    (λ l. no-write (refused-width s d v f (ltb-true _ _ m) (leb-false _ _ l)) h))
+    (λ m. no-write (refused-digits s d v f (ltb-false _ _ m)) h))
+    (λ f. no-write (refused-format s d v f) h)),
+    (λ h. written-good s d v (h .0) (h .1) (h .2) ∙ ap (λ (b : List ℕ). left b Written) (sym (h .3))))
 
 -- what the writer knows before it compares the widths: its value's magnitude, and the lengths of its text's three parts
 pub record Measured (s : List ℕ) (d : ℕ) (v : ℤ) (n sign count tail : ℕ) : Type 0 where
