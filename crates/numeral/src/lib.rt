@@ -57,7 +57,7 @@ pub fn format_good(width: usize, decimals: u32) -> bool
     (1 <= width)
         & (width <= MAX_WIDTH)
         & ((decimals == 0)
-            | ((1 <= decimals) & (decimals <= MAX_DECIMALS) & (decimals as usize + 2 <= width)))
+            | (1 <= decimals) & (decimals <= MAX_DECIMALS) & (decimals as usize + 2 <= width))
 }
 
 // The phase after a first character of the whole part.

@@ -1,15 +1,13 @@
+-- `numeral::format_good` meets its contract: it is the rule, test by test.
+-- Assumes nothing.
 use Rattle.numeral.specs.Format.{formatGood}
 use borrow.Author.Needs.{needs}
 use Rattle.numeral.proofs.format_good.Statement.{statement}
 use Rattle.numeral.proofs.format_good.Tie as tie
-use Rattle.numeral.proofs.format_good.Reads as reads
-use Rattle.numeral.proofs.format_good.Lts as lts
 
--- src/lib.rt:58:79
 add-result : tie.Need-add-result
 add-result c = search needs
 
--- src/lib.rt:53:1
 returns : tie.Need-returns
 unfolding formatGood
 returns c = search needs

@@ -1,6 +1,6 @@
--- `numeral::fraction_length` meets its contract.
+-- `numeral::fraction_length` meets its contract: nothing without decimals, else the point and that many digits.
 -- Assumes nothing.
-use mathlib.Core.Path.{refl, sym}
+use mathlib.Core.Path.{sym}
 use native.Mathlib.Omega.{arith}
 use borrow.Author.Needs.{needs}
 use Rattle.numeral.specs.Writing.{fractionText}

@@ -2,7 +2,7 @@
 -- Assumes nothing.
 use mathlib.Core.Path.{_≡_, refl, ap}
 use mathlib.Core.Bool.{true, false}
-use Prim.Native.Nat.{zero, suc, _+_, _^_, _<_}
+use Prim.Native.Nat.{suc, _+_}
 use native.Mathlib.Omega.{arith}
 use lib.IntN.{ℤ, pos, negsuc, natAbs, _-ℤ_}
 use lib.Signed.{mag, ltZ, nonNeg}
@@ -11,13 +11,12 @@ use mir.Syntax.{w64}
 use mir.Val.{SFits, Fits, toZ, ofZ}
 use mir.ValLaws.{toZ-ofZ}
 use borrow.Author.Needs.{needs}
-use borrow.Author.Tests.{le-ltb, ltb-true, ltb-false}
+use borrow.Author.Tests.{le-ltb, ltb-true}
 use Rattle.basis.specs.Tests.{contra}
 use Rattle.numeral.proofs.magnitude.Statement.{statement}
 use Rattle.numeral.proofs.magnitude.Tie as tie
-use Rattle.numeral.proofs.magnitude.Reads as reads
-use Rattle.numeral.proofs.magnitude.Lts as lts
 
+-- a negative number, turned round at -1
 turned : (v : ℤ) → ltZ v (pos 0) ≡ true → negsuc 0 -ℤ v ≡ pos (mag v)
 turned (pos n) e = absurd (omega (arith, ltb-true n 0 e))
 turned (negsuc n) e = rw (le-ltb (suc n) 1 (omega arith)) (ap pos (omega arith))
@@ -42,34 +41,21 @@ module _ (v : ℤ) (f : SFits w64 v) (e : ltZ (toZ w64 (ofZ w64 v)) (toZ w64 0) 
   read-back = rw difference (toZ-ofZ w64 (pos (mag v)) (record { sfits = f .sfits }))
 
 sub-result : tie.Need-sub-result
-sub-result c =
-    let v = c .before .args .v in
-    let f = c .before .fits .v in
-    rw (difference v f (c .if1 .taken)) (record { sfits = f .sfits })
+sub-result c = rw (difference _ (c .before .fits .v) (c .if1 .taken)) (record { sfits = c .before .fits .v .sfits })
 
 cast-result : tie.Need-cast-result
-cast-result c =
-    let v = c .before .args .v in
-    let f = c .before .fits .v in
-    rw (read-back v f (c .if1 .taken)) (tt, record { fits = omega (arith, f .sfits) })
+cast-result c = rw (read-back _ (c .before .fits .v) (c .if1 .taken)) (tt, record { fits = omega (arith, c .before .fits .v .sfits) })
 
 add-result : tie.Need-add-result
-add-result c =
-    let v = c .before .args .v in
-    let f = c .before .fits .v in
-    rw (read-back v f (c .if1 .taken)) (record { fits = omega (arith, f .sfits) })
+add-result c = rw (read-back _ (c .before .fits .v) (c .if1 .taken)) (record { fits = omega (arith, c .before .fits .v .sfits) })
 
 cast-result-2 : tie.Need-cast-result-2
 cast-result-2 c =
-    let v = c .before .args .v in
-    let f = c .before .fits .v in
-    rw (toZ-ofZ w64 v f) (not-negative v (rw (toZ-ofZ w64 v f) at (c .if1 .left)) f)
+    let same = toZ-ofZ w64 (c .before .args .v) (c .before .fits .v) in
+    rw same (not-negative _ (rw same at (c .if1 .left)) (c .before .fits .v))
 
 returns : tie.Need-returns
-returns c =
-    let v = c .before .args .v in
-    let f = c .before .fits .v in
-    rw (read-back v f (c .if1 .taken)) (one-more v (below v f (c .if1 .taken)))
+returns c = rw (read-back _ (c .before .fits .v) (c .if1 .taken)) (one-more (c .before .args .v) (below _ (c .before .fits .v) (c .if1 .taken)))
 
 returns-2 : tie.Need-returns-2
 returns-2 c = search needs

@@ -1,8 +1,7 @@
 -- `numeral::write_number` meets its contract: each refusal is the rule's, and the four stores, from the right, leave the written text.
 -- Assumes nothing.
-use mathlib.Core.Path.{_≡_, refl, sym, ap, _∙_}
-use mathlib.Core.Bool.{true, false, not}
-use Prim.Native.Nat.{_+_, _^_, _≤_, _<_}
+use mathlib.Core.Path.{_≡_, sym, ap, _∙_}
+use mathlib.Core.Bool.{true}
 use native.Mathlib.Omega.{arith}
 use lib.IntN.{natAbs}
 use lib.ListN.{length}
@@ -10,14 +9,11 @@ use mir.Syntax.{w64}
 use mir.ValLaws.{toZ-ofZ}
 use borrow.Author.Needs.{needs}
 use borrow.Author.Tests.{not-true, not-false}
-use Rattle.numeral.specs.Format.{formatGood, maxDigits}
+use Rattle.numeral.specs.Format.{formatGood}
 use Rattle.numeral.specs.Writing.{signText}
-use Rattle.numeral.specs.WritingLaws.{format-decimals, refused-format, refused-digits, Measured, measured-wide, measured-fits}
-use Rattle.numeral.specs.declared.Writing.the-variants.{Written}
+use Rattle.numeral.specs.WritingLaws.{format-decimals, refused-format, refused-digits, Measured, measured-refused, measured-written}
 use Rattle.numeral.proofs.write_number.Statement.{statement}
 use Rattle.numeral.proofs.write_number.Tie as tie
-use Rattle.numeral.proofs.write_number.Reads as reads
-use Rattle.numeral.proofs.write_number.Lts as lts
 
 -- past the first refusal the format is good
 good : (c : tie.Else1) → let start = c .before .before .before in formatGood (length (start .args .text .now)) (start .args .decimals) ≡ true
@@ -77,7 +73,7 @@ add-size-2 : tie.Need-add-size-2
 add-size-2 c = search needs
 
 returns-3 : tie.Need-returns-3
-returns-3 c = measured-wide _ _ _ _ _ _ _ (measured (c .before)) (c .if3 .taken)
+returns-3 c = measured-refused _ _ _ _ _ _ _ (measured (c .before)) (omega (arith, c .if3 .taken))
 
 add-put-fraction : tie.Need-add-put-fraction
 add-put-fraction c = search needs
@@ -111,7 +107,7 @@ returns-4 c =
     let at-digits = c .before .before .before .before .before .before .before .before .before .before in
     let at-fraction = at-digits .before .before .before .before in
     let at-sizes = at-fraction .before .before .before in
-    measured-fits _ _ _ _ _ _ _ (measured at-sizes) _ _ (omega (arith, at-fraction .before .before .if3 .left)) (at-fraction .put-fraction .ensures .0)
+    measured-written _ _ _ _ _ _ _ (measured at-sizes) _ _ (omega (arith, at-fraction .before .before .if3 .left)) (at-fraction .put-fraction .ensures .0)
     (at-fraction .put-fraction .ensures .1) (at-digits .put-digits .ensures .1) (c .before .before .before .before .before .before .fill .ensures) (c .before .before .fill2 .ensures)
 
 pub write-number-spec : {M : Type 1} → statement M
