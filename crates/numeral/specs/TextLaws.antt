@@ -1,18 +1,18 @@
 -- Laws: demand 2, the grammar of numeric text. A text is accepted exactly where it is the one written text of a value of at most 18 digits.
 -- Assumes nothing.
 use mathlib.Core.Path.{_≡_, refl, sym, ap, _∙_}
-use mathlib.Core.Bool.{Bool, true, false, _&&_, _||_, not}
+use mathlib.Core.Bool.{Bool, true, false, _&&_, not}
 use mathlib.Core.List.{List, [], _∷_, _++_}
 use mathlib.Core.Logic.{_↔_}
-use Prim.Native.Nat.{ℕ, zero, suc, _+_, _*_, _-_, _/_, _^_, _≤_, _<_}
+use Prim.Native.Nat.{ℕ, zero, suc, _+_, _-_, _/_, _^_, _≤_, _<_}
 use native.Mathlib.Nat.{sub-self}
 use native.Mathlib.Omega.{arith}
 use lib.Dec.{eqb, leb, ltb}
 use lib.IntN.{ℤ, pos, negsuc, natAbs}
-use lib.ListN.{length, length-append, length-replicate, replicate}
-use borrow.Author.Tests.{ltb-true, ltb-false, leb-true, leb-false, le-leb, lt-leb, eqb-true, eq-eqb, ne-eqb}
-use Rattle.basis.specs.Tests.{either, contra, both, join}
-use Rattle.numeral.specs.Format.{maxDecimals, maxDigits, formatGood, blank, comma, minus, point, zeroDigit, isDigit}
+use lib.ListN.{length, length-append, replicate}
+use borrow.Author.Tests.{ltb-true, ltb-false, leb-true, leb-false, le-leb, eqb-true, eq-eqb, ne-eqb}
+use Rattle.basis.specs.Tests.{either, contra, both}
+use Rattle.numeral.specs.Format.{maxDecimals, maxDigits, formatGood, blank, comma, minus, point, isDigit}
 use Rattle.numeral.specs.Reading.{every, some, after, front, hasMinus, withoutMinus, wholeGood, fractionGood, wholePart, fraction, withoutPoint, digits, numberOf, textGood, signed, valueOf, digitCount, readNumber}
 use Rattle.numeral.specs.Writing.{lastDigits, decimal, fractionText, signText, numberText, written, left, writeNumber}
 use Rattle.numeral.specs.DigitLaws.{length-lastDigits, decimal-some, decimal-fits, shift-fits, digit-small, lastDigits-digits, decimal-digits, decimal-good, number-written, digits-back}
@@ -270,7 +270,7 @@ module _ (width d : ℕ) (v : ℤ) where
 
 -- ---- the reader's answers
 
--- the length of a text, as it is counted
+-- with at most 15 decimals the digits of a text are at most 18 exactly where the value's own are
 few-digits : (n d : ℕ) → d ≤ maxDecimals → (length (decimal (n / 10 ^ d)) + d ≤ maxDigits) ↔ (n < 10 ^ maxDigits)
 few-digits n d h =
     let s = shift-fits n d (maxDigits - d) (omega arith) in
@@ -300,7 +300,7 @@ by-answer s d a b c e f g = either (formatGood (length s) d)
     (λ t. e (rw (p, readNumber, q, r, t))))))
     (λ p. a (rw (p, readNumber)))
 
--- a written text that fits its own width, read
+-- a text that is a value's written text in its own width
 module _ (s : List ℕ) (d : ℕ) (v : ℤ) (f : formatGood (length s) d ≡ true) (e : s ≡ written (length s) d v) where
   is-good : textGood s d ≡ true
   is-good = ap (λ (t : List ℕ). textGood t d) e ∙ written-textGood (length s) d v
@@ -316,6 +316,11 @@ module _ (s : List ℕ) (d : ℕ) (v : ℤ) (f : formatGood (length s) d ≡ tru
 
   is-count : (digitCount s ≤ maxDigits) ↔ (natAbs v < 10 ^ maxDigits)
   is-count = rw (good-count s d is-good, is-value) (few-digits (natAbs v) d (format-decimals (length s) d f))
+
+  is-many : maxDigits < digitCount s → 10 ^ maxDigits ≤ natAbs v
+  is-many l = either (ltb (natAbs v) (10 ^ maxDigits))
+      (λ u. let k = is-count .1 (ltb-true _ _ u) in absurd (omega arith))
+      (λ u. ltb-false _ _ u)
 
   read-few : natAbs v < 10 ^ maxDigits → readNumber s d ≡ Value v
   unfolding readNumber
@@ -337,8 +342,8 @@ not-empty p q = let z : _≡_ {A = ℕ} 0 1 = cc in absurd (omega arith)
 not-refused : {X : Type 0} {r : Number} {n : ℕ} → r ≡ Empty → r ≡ Refused n → X
 not-refused p q = let z : _≡_ {A = ℕ} 0 1 = cc in absurd (omega arith)
 
-not-same : {X : Type 0} {r : Number} {m n : ℕ} → (m ≡ n → ⊥) → r ≡ Refused m → r ≡ Refused n → X
-not-same {m = m} {n = n} h p q = let z : m ≡ n = cc in absurd (h z)
+not-same : {X : Type 0} {r : Number} {m n : ℕ} → r ≡ Refused m → r ≡ Refused n → m < n → X
+not-same {m = m} {n = n} p q h = let z : m ≡ n = cc in absurd (omega arith)
 
 -- ---- demand 2
 
@@ -358,11 +363,10 @@ accepted s d v = (
 pub too-long : (s : List ℕ) (d : ℕ)
     → (readNumber s d ≡ Refused 18) ↔ ((formatGood (length s) d ≡ true) × ((v : ℤ) × (s ≡ written (length s) d v) × (10 ^ maxDigits ≤ natAbs v)))
 too-long s d = (
-  (λ h. by-answer s d (λ a. not-same (λ z. omega (arith, z)) a h) (λ a. not-refused a h) (λ a. not-same (λ z. omega (arith, z)) a h) (λ a. not-same (λ z. omega (arith, z)) a h)
+  (λ h. by-answer s d (λ a. not-same a h (omega arith)) (λ a. not-refused a h) (λ a. not-same a h (omega arith)) (λ a. not-same a h (omega arith))
       (λ f t l a.
       let e = good-written s d t in
-      let k = is-count s d (valueOf s) f e in
-      (f, (valueOf s, e, either (ltb (natAbs (valueOf s)) (10 ^ maxDigits)) (λ u. let m = k .1 (ltb-true _ _ u) in absurd (omega arith)) (λ u. ltb-false _ _ u))))
+      (f, (valueOf s, e, is-many s d (valueOf s) f e l)))
       (λ f t l a. not-value h a)),
   (λ h. read-many s d (h .1 .0) (h .0) (h .1 .1) (h .1 .2)),
 )
