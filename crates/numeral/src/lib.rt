@@ -312,6 +312,7 @@ pub fn write_number(text: &mut [u8], decimals: u32, value: i64) -> Writing
     if width < size {
         return Writing::Refused(19);
     }
+    // from the right; the sign is a run of minuses, one or none
     let at = width - size;
     let whole = put_fraction(text, at + sign + count, places, n);
     put_digits(text, at + sign, count, whole);

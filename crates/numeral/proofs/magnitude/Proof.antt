@@ -1,6 +1,6 @@
 -- `numeral::magnitude` meets its contract. A negative v is -(m + 1), and -1 - v is m, which fits even where -v does not.
 -- Assumes nothing.
-use mathlib.Core.Path.{_≡_, refl, ap}
+use mathlib.Core.Path.{_≡_, refl, ap, _∙_}
 use mathlib.Core.Bool.{true, false}
 use Prim.Native.Nat.{suc, _+_}
 use native.Mathlib.Omega.{arith}
@@ -37,11 +37,14 @@ module _ (v : ℤ) (f : SFits w64 v) (e : ltZ (toZ w64 (ofZ w64 v)) (toZ w64 0) 
   difference : negsuc 0 -ℤ toZ w64 (ofZ w64 v) ≡ pos (mag v)
   difference = rw (toZ-ofZ w64 v f) (turned v below)
 
+  difference-fits : SFits w64 (negsuc 0 -ℤ toZ w64 (ofZ w64 v))
+  difference-fits = rw difference (record { sfits = f .sfits })
+
   read-back : toZ w64 (ofZ w64 (negsuc 0 -ℤ toZ w64 (ofZ w64 v))) ≡ pos (mag v)
-  read-back = rw difference (toZ-ofZ w64 (pos (mag v)) (record { sfits = f .sfits }))
+  read-back = toZ-ofZ w64 _ difference-fits ∙ difference
 
 sub-result : tie.Need-sub-result
-sub-result c = rw (difference _ (c .before .fits .v) (c .if1 .taken)) (record { sfits = c .before .fits .v .sfits })
+sub-result c = difference-fits _ (c .before .fits .v) (c .if1 .taken)
 
 cast-result : tie.Need-cast-result
 cast-result c = rw (read-back _ (c .before .fits .v) (c .if1 .taken)) (tt, record { fits = omega (arith, c .before .fits .v .sfits) })
