@@ -2,3 +2,5 @@ pub mod Format
 pub mod Reading
 pub mod Writing
 pub mod Scan
+pub mod ReadingLaws
+pub mod ScanLaws
