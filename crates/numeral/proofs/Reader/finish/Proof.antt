@@ -1,82 +1,63 @@
-use Rattle.numeral.specs.Scan.{meaning}
+-- `numeral::Reader::finish` meets its contract, phase by phase. Assumes nothing.
 use borrow.Author.Needs.{needs}
+use Rattle.numeral.specs.Scan.{meaning}
 use Rattle.numeral.proofs.Reader.finish.Statement.{statement}
 use Rattle.numeral.proofs.Reader.finish.Tie as tie
-use Rattle.numeral.proofs.Reader.finish.Reads as reads
-use Rattle.numeral.proofs.Reader.finish.Lts as lts
-use Rattle.numeral.proofs.settle.Reads as settle-reads
 
--- src/lib.rt:170:29
 enum-told : tie.Need-enum-told
 enum-told c = search needs
 
--- src/lib.rt:171:29
 enum-told-2 : tie.Need-enum-told-2
 enum-told-2 c = search needs
 
--- src/lib.rt:172:35
 enum-told-3 : tie.Need-enum-told-3
 enum-told-3 c = search needs
 
--- src/lib.rt:172:28
 settle-requires : tie.Need-settle-requires
 settle-requires c κs = search needs
 
--- src/lib.rt:173:36
 enum-told-4 : tie.Need-enum-told-4
 enum-told-4 c = search needs
 
--- src/lib.rt:173:29
 settle-requires-2 : tie.Need-settle-requires-2
 settle-requires-2 c κs = search needs
 
--- src/lib.rt:174:29
 enum-known-p : tie.Need-enum-known-p
 enum-known-p c = search needs
 
--- src/lib.rt:174:38
 settle-requires-3 : tie.Need-settle-requires-3
 settle-requires-3 c κs = search needs
 
--- src/lib.rt:175:29
 enum-told-5 : tie.Need-enum-told-5
 enum-told-5 c = search needs
 
--- src/lib.rt:176:27
 enum-told-6 : tie.Need-enum-told-6
 enum-told-6 c = search needs
 
--- src/lib.rt:165:5
 returns : tie.Need-returns
 unfolding meaning
 returns c = cc
 
--- src/lib.rt:165:5
 returns-2 : tie.Need-returns-2
 unfolding meaning
 returns-2 c = cc
 
--- src/lib.rt:165:5
 returns-3 : tie.Need-returns-3
 unfolding meaning
 returns-3 c = cc
 
--- src/lib.rt:165:5
 returns-4 : tie.Need-returns-4
 unfolding meaning
 returns-4 c = cc
 
--- src/lib.rt:165:5
 returns-5 : tie.Need-returns-5
 unfolding meaning
 returns-5 c = rw (c .before .before .p .given .1) (c .settle3 .ensures)
 
--- src/lib.rt:165:5
 returns-6 : tie.Need-returns-6
 unfolding meaning
 returns-6 c = cc
 
--- src/lib.rt:165:5
 returns-7 : tie.Need-returns-7
 unfolding meaning
 returns-7 c = cc
