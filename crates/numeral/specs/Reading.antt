@@ -93,14 +93,19 @@ digitCount s = length (digits (withoutMinus (after (eqb blank) s)))
 -- what a text of a field of its own length means, with so many decimals
 unfoldable pub readNumber : List ℕ → ℕ → Number
 readNumber s d =
-    elim (formatGood (length s) d)
-    [ false ↦ Refused 6
-    | true ↦ elim (every (eqb blank) s)
-      [ true ↦ Empty
-      | false ↦ elim (some (eqb comma) s)
-        [ true ↦ Refused 16
-        | false ↦ elim (textGood s d)
-          [ false ↦ Refused 17
-          | true ↦ elim (leb (digitCount s) maxDigits)
-            [ false ↦ Refused 18
-            | true ↦ Value (valueOf s) ] ] ] ] ]
+    elim (formatGood (length s) d) [
+      | false ↦ Refused 6
+      | true ↦ elim (every (eqb blank) s) [
+        | true ↦ Empty
+        | false ↦ elim (some (eqb comma) s) [
+          | true ↦ Refused 16
+          | false ↦ elim (textGood s d) [
+            | false ↦ Refused 17
+            | true ↦ elim (leb (digitCount s) maxDigits) [
+              | false ↦ Refused 18
+              | true ↦ Value (valueOf s)
+            ]
+          ]
+        ]
+      ]
+    ]

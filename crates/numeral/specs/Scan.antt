@@ -1,7 +1,7 @@
 -- Laws: the reader's states, "taken one character after another, the running state handed on". That they end in what the text means is shown in
 -- ScanLaws.antt, so a reader need not believe these definitions.
 use Prim.Native.Nat.{ℕ, _+_, _*_, _-_, _^_}
-use mathlib.Core.Bool.{Bool, true, false, cond, _&&_, _||_}
+use mathlib.Core.Bool.{Bool, false, cond, _&&_, _||_, not}
 use mathlib.Core.List.{List, [], _∷_}
 use lib.Dec.{eqb, leb, ltb}
 use Rattle.numeral.specs.Format.{maxDigits, blank, comma, minus, point, zeroDigit, isDigit}
@@ -13,35 +13,29 @@ use Rattle.numeral.specs.declared.Phase.{Phase}
 use Rattle.numeral.specs.declared.Phase.the-variants as phase
 
 -- before the first character
-abbrev pub initial : Reader
-initial = record { phase = phase.Blank; negative = false; places = 0; value = 0 }
+abbrev pub initial : ℕ → Reader
+initial d = record { decimals = d; phase = phase.Blank; negative = false; value = 0 }
 
--- a digit of the whole part that comes first, or what else c is there
+-- the phase after the first character c of the whole part
 abbrev pub firstDigit : ℕ → Phase
 firstDigit c = cond (eqb c zeroDigit) phase.Zero (cond (isDigit c) phase.Whole phase.Bad)
 
+-- the phase after the character c behind the whole part, where d digits are to come
+abbrev pub wholeEnd : ℕ → ℕ → Phase
+wholeEnd d c = cond (eqb c point && leb 1 d) (phase.Fraction d) phase.Bad
+
 -- the phase after the character c, which is no comma
-abbrev pub onward : Phase → ℕ → Phase
-onward phase.Blank c = cond (eqb c blank) phase.Blank (cond (eqb c minus) phase.Minus (firstDigit c))
-onward phase.Minus c = firstDigit c
-onward phase.Zero c = cond (eqb c point) phase.Fraction phase.Bad
-onward phase.Whole c = cond (isDigit c) phase.Whole (cond (eqb c point) phase.Fraction phase.Bad)
-onward phase.Fraction c = cond (isDigit c) phase.Fraction phase.Bad
-onward phase.Comma c = phase.Comma
-onward phase.Bad c = phase.Bad
+abbrev pub onward : ℕ → Phase → ℕ → Phase
+onward d phase.Blank c = cond (eqb blank c) phase.Blank (cond (eqb c minus) phase.Minus (firstDigit c))
+onward d phase.Minus c = firstDigit c
+onward d phase.Zero c = wholeEnd d c
+onward d phase.Whole c = cond (isDigit c) phase.Whole (wholeEnd d c)
+onward d (phase.Fraction left) c = cond (isDigit c && leb 1 left) (phase.Fraction (left - 1)) phase.Bad
+onward d phase.Comma c = phase.Comma
+onward d phase.Bad c = phase.Bad
 
-unfoldable pub nextPhase : Phase → ℕ → Phase
-nextPhase p c = cond (eqb c comma) phase.Comma (onward p c)
-
--- the places after the point, of which c is one
-abbrev pub morePlaces : Phase → ℕ → ℕ
-morePlaces phase.Blank n = n
-morePlaces phase.Minus n = n
-morePlaces phase.Zero n = n
-morePlaces phase.Whole n = n
-morePlaces phase.Fraction n = n + 1
-morePlaces phase.Comma n = n
-morePlaces phase.Bad n = n
+unfoldable pub nextPhase : ℕ → Phase → ℕ → Phase
+nextPhase d p c = cond (eqb comma c) phase.Comma (onward d p c)
 
 -- the number of the digits so far with c behind them; one of more than 18 digits stays, so that nothing overflows
 unfoldable pub nextValue : ℕ → ℕ → ℕ
@@ -49,31 +43,32 @@ nextValue n c = cond (isDigit c && ltb n (10 ^ maxDigits)) (10 * n + (c - zeroDi
 
 unfoldable pub step : Reader → ℕ → Reader
 step r c =
-    record
-      { phase = nextPhase (r .phase) c
-      ; negative = r .negative || eqb c minus
-      ; places = morePlaces (r .phase) (r .places)
-      ; value = nextValue (r .value) c }
+    record {
+      decimals = r .decimals;
+      phase = nextPhase (r .decimals) (r .phase) c;
+      negative = r .negative || eqb c minus;
+      value = nextValue (r .value) c;
+    }
 
 unfoldable pub scan : Reader → List ℕ → Reader
 scan r [] = r
 scan r (c ∷ s) = scan (step r c) s
 
--- what a whole number of the state means: minus zero is 17, more than 18 digits 18
-unfoldable pub settled : Reader → Number
-settled r =
-    cond (r .negative && eqb (r .value) 0) (number.Refused 17)
-    (cond (ltb (r .value) (10 ^ maxDigits)) (number.Value (signed (r .negative) (r .value))) (number.Refused 18))
+-- what a text with the number n means, with a minus or without: if it is not complete it is 17, as minus zero is; more than 18 digits are 18
+unfoldable pub settled : Bool → Bool → ℕ → Number
+settled complete negative n =
+    cond (not complete || negative && eqb n 0) (number.Refused 17)
+    (cond (ltb n (10 ^ maxDigits)) (number.Value (signed negative n)) (number.Refused 18))
 
--- what a text means that ended in the state r, with d decimals
-abbrev pub ended : Phase → Reader → ℕ → Number
-ended phase.Blank r d = number.Empty
-ended phase.Minus r d = number.Refused 17
-ended phase.Zero r d = cond (eqb d 0) (settled r) (number.Refused 17)
-ended phase.Whole r d = cond (eqb d 0) (settled r) (number.Refused 17)
-ended phase.Fraction r d = cond (leb 1 d && eqb (r .places) d) (settled r) (number.Refused 17)
-ended phase.Comma r d = number.Refused 16
-ended phase.Bad r d = number.Refused 17
+-- what a text means that ended in a state
+abbrev pub ended : Phase → Reader → Number
+ended phase.Blank r = number.Empty
+ended phase.Minus r = number.Refused 17
+ended phase.Zero r = settled (eqb (r .decimals) 0) (r .negative) (r .value)
+ended phase.Whole r = settled (eqb (r .decimals) 0) (r .negative) (r .value)
+ended (phase.Fraction left) r = settled (eqb left 0) (r .negative) (r .value)
+ended phase.Comma r = number.Refused 16
+ended phase.Bad r = number.Refused 17
 
-unfoldable pub meaning : Reader → ℕ → Number
-meaning r d = ended (r .phase) r d
+unfoldable pub meaning : Reader → Number
+meaning r = ended (r .phase) r

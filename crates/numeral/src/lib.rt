@@ -4,9 +4,9 @@ ghost use Prim.Native.Nat.{ℕ, _+_, _≤_, _<_, _/_, _^_};
 ghost use lib.IntN.{natAbs};
 ghost use lib.ListN.{length};
 ghost use Rattle.octets.specs.Store.{put};
-ghost use Rattle.numeral.specs.Format.{maxWidth, maxDecimals, maxDigits, formatGood};
+ghost use Rattle.numeral.specs.Format.{maxWidth, maxDecimals, maxDigits, formatGood, isDigit};
 ghost use Rattle.numeral.specs.Reading.{readNumber, signed};
-ghost use Rattle.numeral.specs.Scan.{initial, nextPhase, nextValue, morePlaces, firstDigit, step, settled, meaning};
+ghost use Rattle.numeral.specs.Scan.{initial, nextPhase, nextValue, firstDigit, wholeEnd, step, settled, meaning};
 ghost use Rattle.numeral.specs.Writing.{lastDigits, decimal, fractionText, signText, left, writeNumber};
 
 // The widest field, and the most decimals.
@@ -31,22 +31,22 @@ pub enum Writing {
 }
 
 // Where the reader stands in a text: among the blanks, after the minus, after a zero that is the whole part, among the whole
-// part's other digits, after the point; or past any hope, by a comma or otherwise.
+// part's other digits, behind the point with so many digits to come; or past any hope, by a comma or otherwise.
 pub enum Phase {
     Blank,
     Minus,
     Zero,
     Whole,
-    Fraction,
+    Fraction(u32),
     Comma,
     Bad,
 }
 
 // The reader's running state. `value` is the number of the digits so far, or some number of more than 18 digits once they have more.
 pub struct Reader {
+    pub decimals: u32,
     pub phase: Phase,
     pub negative: bool,
-    pub places: u32,
     pub value: u64,
 }
 
@@ -60,22 +60,39 @@ pub fn format_good(width: usize, decimals: u32) -> bool
             | (1 <= decimals) & (decimals <= MAX_DECIMALS) & (decimals as usize + 2 <= width))
 }
 
-// The phase after a first character of the whole part.
+// Whether a character is a digit.
+fn is_digit(c: u8) -> bool
+    ensures { λ r. ⌜ r ≡ isDigit c ⌝ }
+{
+    (b'0' <= c) & (c <= b'9')
+}
+
+// The phase after the first character of the whole part.
 fn first_digit(c: u8) -> Phase
     ensures { λ r. ⌜ r ≡ firstDigit c ⌝ }
 {
     if c == b'0' {
         return Phase::Zero;
     }
-    if (b'0' <= c) & (c <= b'9') {
+    if is_digit(c) {
         return Phase::Whole;
     }
     Phase::Bad
 }
 
+// The phase after the character behind the whole part.
+fn whole_end(decimals: u32, c: u8) -> Phase
+    ensures { λ r. ⌜ r ≡ wholeEnd decimals c ⌝ }
+{
+    if (c == b'.') & (1 <= decimals) {
+        return Phase::Fraction(decimals);
+    }
+    Phase::Bad
+}
+
 // The phase after one character more.
-fn next_phase(p: Phase, c: u8) -> Phase
-    ensures { λ r. ⌜ r ≡ nextPhase p c ⌝ }
+fn next_phase(decimals: u32, p: Phase, c: u8) -> Phase
+    ensures { λ r. ⌜ r ≡ nextPhase decimals p c ⌝ }
 {
     if c == b',' {
         return Phase::Comma;
@@ -91,116 +108,72 @@ fn next_phase(p: Phase, c: u8) -> Phase
             first_digit(c)
         }
         Phase::Minus => first_digit(c),
-        Phase::Zero => {
-            if c == b'.' {
-                Phase::Fraction
-            } else {
-                Phase::Bad
-            }
-        }
+        Phase::Zero => whole_end(decimals, c),
         Phase::Whole => {
-            if (b'0' <= c) & (c <= b'9') {
+            if is_digit(c) {
                 return Phase::Whole;
             }
-            if c == b'.' {
-                Phase::Fraction
-            } else {
-                Phase::Bad
-            }
+            whole_end(decimals, c)
         }
-        Phase::Fraction => {
-            if (b'0' <= c) & (c <= b'9') {
-                Phase::Fraction
-            } else {
-                Phase::Bad
+        Phase::Fraction(left) => {
+            if is_digit(c) & (1 <= left) {
+                return Phase::Fraction(left - 1);
             }
+            Phase::Bad
         }
         Phase::Comma => Phase::Comma,
         Phase::Bad => Phase::Bad,
     }
 }
 
-// The places after the point, of which the character in this phase is one.
-fn more_places(p: Phase, n: u32) -> u32
-    requires { ⌜ n < maxWidth ⌝ }
-    ensures { λ r. ⌜ r ≡ morePlaces p n ⌝ }
-{
-    if let Phase::Fraction = p { n + 1 } else { n }
-}
-
 // The number of the digits so far and this one; a number of more than 18 digits stays as it is.
 fn next_value(n: u64, c: u8) -> u64
     ensures { λ r. ⌜ r ≡ nextValue n c ⌝ }
 {
-    if (b'0' <= c) & (c <= b'9') & (n < PAST_DIGITS) {
+    if is_digit(c) & (n < PAST_DIGITS) {
         return 10 * n + (c - b'0') as u64;
     }
     n
 }
 
 impl Reader {
-    fn new() -> Reader
-        ensures { λ r. ⌜ r ≡ initial ⌝ }
+    fn new(decimals: u32) -> Reader
+        ensures { λ r. ⌜ r ≡ initial decimals ⌝ }
     {
         Reader {
+            decimals,
             phase: Phase::Blank,
             negative: false,
-            places: 0,
             value: 0,
         }
     }
 
     // The state after one character more.
     fn take(self, c: u8) -> Reader
-        requires { ⌜ self .places < maxWidth ⌝ }
         ensures { λ r. ⌜ r ≡ step self c ⌝ }
     {
         let p = self.phase;
         Reader {
-            phase: next_phase(p, c),
+            decimals: self.decimals,
+            phase: next_phase(self.decimals, p, c),
             negative: self.negative | (c == b'-'),
-            places: more_places(p, self.places),
             value: next_value(self.value, c),
         }
     }
 
-    // What a whole number means: minus zero is refused, and so is one of more than 18 digits.
-    fn settle(self) -> Number
-        ensures { λ r. ⌜ r ≡ settled self ⌝ }
-    {
-        let value = self.value;
-        if self.negative & (value == 0) {
-            return Number::Refused(17);
-        }
-        if value < PAST_DIGITS {
-            return Number::Value(signed_value(self.negative, value));
-        }
-        Number::Refused(18)
-    }
-
     // What a text means that ended in this state.
-    fn finish(self, decimals: u32) -> Number
-        ensures { λ r. ⌜ r ≡ meaning self decimals ⌝ }
+    fn finish(self) -> Number
+        ensures { λ r. ⌜ r ≡ meaning self ⌝ }
     {
         let p = self.phase;
         match p {
             Phase::Blank => Number::Empty,
+            Phase::Minus => Number::Refused(17),
+            Phase::Zero => settle(self.decimals == 0, self.negative, self.value),
+            Phase::Whole => settle(self.decimals == 0, self.negative, self.value),
+            Phase::Fraction(left) => settle(left == 0, self.negative, self.value),
             Phase::Comma => Number::Refused(16),
-            Phase::Zero | Phase::Whole => {
-                if decimals == 0 {
-                    self.settle()
-                } else {
-                    Number::Refused(17)
-                }
-            }
-            Phase::Fraction => {
-                if (1 <= decimals) & (self.places == decimals) {
-                    self.settle()
-                } else {
-                    Number::Refused(17)
-                }
-            }
-            Phase::Minus | Phase::Bad => Number::Refused(17),
+            Phase::Bad => Number::Refused(17),
         }
     }
 }
@@ -213,6 +186,19 @@ fn signed_value(negative: bool, n: u64) -> i64
     if negative { -(n as i64) } else { n as i64 }
 }
 
+// What a text with this number means: one that is not complete is refused, and so are minus zero and a number of more than 18 digits.
+fn settle(complete: bool, negative: bool, n: u64) -> Number
+    ensures { λ r. ⌜ r ≡ settled complete negative n ⌝ }
+{
+    if !complete | negative & (n == 0) {
+        return Number::Refused(17);
+    }
+    if n < PAST_DIGITS {
+        return Number::Value(signed_value(negative, n));
+    }
+    Number::Refused(18)
+}
+
 // Reads a numeric text; its length is the field's width.
 pub fn read_number(text: &[u8], decimals: u32) -> Number
     ensures { λ r. ⌜ r ≡ readNumber (now (text .entry)) decimals ⌝ }
@@ -220,13 +206,13 @@ pub fn read_number(text: &[u8], decimals: u32) -> Number
     if !format_good(text.len(), decimals) {
         return Number::Refused(6);
     }
-    let mut r = Reader::new();
+    let mut r = Reader::new(decimals);
     let mut i = 0;
     while i < text.len() {
         r = r.take(text[i]);
         i += 1;
     }
-    r.finish(decimals)
+    r.finish()
 }
 
 // The magnitude of any value.

@@ -1,7 +1,7 @@
--- `numeral::format_good` meets its contract: it is the rule, test by test.
--- Assumes nothing.
-use Rattle.numeral.specs.Format.{formatGood}
+-- `numeral::format_good` meets its contract: the code is the rule, test by test. Assumes nothing.
+use mathlib.Core.Path.{refl}
 use borrow.Author.Needs.{needs}
+use Rattle.numeral.specs.Format.{formatGood}
 use Rattle.numeral.proofs.format_good.Statement.{statement}
 use Rattle.numeral.proofs.format_good.Tie as tie
 
@@ -10,7 +10,7 @@ add-result c = search needs
 
 returns : tie.Need-returns
 unfolding formatGood
-returns c = search needs
+returns c = refl
 
 pub format-good-spec : {M : Type 1} → statement M
 format-good-spec = tie.close (tie.spec add-result returns)
