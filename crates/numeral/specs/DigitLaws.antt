@@ -15,6 +15,7 @@ use borrow.Author.Tests.{ltb-true, ltb-false, lt-ltb, le-ltb, leb-true, leb-fals
 use Rattle.basis.specs.Tests.{either, contra, both, join}
 use Rattle.numeral.specs.Format.{zeroDigit, isDigit}
 use Rattle.numeral.specs.Reading.{every, wholeGood, numberFrom, numberOf}
+use Rattle.numeral.specs.ReadingLaws.{digit-range, every-append}
 use Rattle.numeral.specs.Writing.{lastDigits, decimalFrom, decimal}
 
 -- a power of ten is not zero
@@ -106,7 +107,7 @@ decimal-over n k h l = either (leb (length (decimal n)) k)
 
 -- the digits before the last d: all but d of them, and one at least
 module _ (n d : ℕ) where
-  pub shift-fits : (k : ℕ) → 1 ≤ k → (length (decimal (n / 10 ^ d)) ≤ k) ↔ (length (decimal n) ≤ k + d)
+  shift-fits : (k : ℕ) → 1 ≤ k → (length (decimal (n / 10 ^ d)) ≤ k) ↔ (length (decimal n) ≤ k + d)
   shift-fits k h =
       let p = ten-pos d in
       let q : (n / 10 ^ d < 10 ^ k) ↔ (n < 10 ^ (k + d)) = rw pow-add (div-lt-iff-lt-mul p) in
@@ -129,18 +130,8 @@ module _ (n d : ℕ) where
 
 -- ---- they are digits, and no needless zero leads
 
-pub every-append : (p : ℕ → Bool) (s t : List ℕ) → every p s ≡ true → every p t ≡ true → every p (s ++ t) ≡ true
-unfolding every
-every-append p [] t a b = b
-every-append p (c ∷ s) t a b = let h = both (p c) (every p s) a in join (p c) (every p (s ++ t)) (h .0) (every-append p s t (h .1) b)
-
 pub digit-good : (n : ℕ) → n < 10 → isDigit (zeroDigit + n) ≡ true
 digit-good n h = rw (le-leb zeroDigit (zeroDigit + n) (omega arith), le-leb (zeroDigit + n) 0x39 (omega arith))
-
-pub digit-small : (c : ℕ) → isDigit c ≡ true → (zeroDigit ≤ c) × (c < zeroDigit + 10)
-digit-small c e =
-    let h = both (leb zeroDigit c) (leb c 0x39) e in
-    (leb-true zeroDigit c (h .0), let l = leb-true c 0x39 (h .1) in omega arith)
 
 pub lastDigits-digits : (count n : ℕ) → every isDigit (lastDigits count n) ≡ true
 unfolding lastDigits every
@@ -215,7 +206,7 @@ unfolding every numberFrom
 number-div m [] e = div-one m
 number-div m (c ∷ s) e =
     let h = both (isDigit c) (every isDigit s) e in
-    let b = digit-small c (h .0) in
+    let b = digit-range c (h .0) in
     rw (pow-suc 10 (length s), ← div-div-eq-div-mul _ (10 ^ length s) 10, number-div (10 * m + (c - zeroDigit)) s (h .1)) (omega arith)
 
 pub last-number : (m : ℕ) (s : List ℕ) → every isDigit s ≡ true → lastDigits (length s) (numberFrom m s) ≡ s
@@ -223,7 +214,7 @@ unfolding every numberFrom
 last-number m [] e = unfold lastDigits in refl
 last-number m (c ∷ s) e =
     let h = both (isDigit c) (every isDigit s) e in
-    let b = digit-small c (h .0) in
+    let b = digit-range c (h .0) in
     let q : zeroDigit + (10 * m + (c - zeroDigit)) % 10 ≡ c = omega arith in
     rw (lastDigits-front (length s), number-div (10 * m + (c - zeroDigit)) s (h .1), last-number (10 * m + (c - zeroDigit)) s (h .1), q)
 
@@ -246,7 +237,7 @@ unfolding every numberOf numberFrom
 decimal-number-cons c s e l =
     let n = numberFrom 0 (c ∷ s) in
     let h = both (isDigit c) (every isDigit s) e in
-    let b = digit-small c (h .0) in
+    let b = digit-range c (h .0) in
     let q : n / 10 ^ suc (length s) ≡ 0 = number-div 0 (c ∷ s) e in
     let r : n / 10 ^ length s ≡ 10 * 0 + (c - zeroDigit) = number-div (10 * 0 + (c - zeroDigit)) s (h .1) in
     let below : n < 10 ^ suc (length s) = below-power (ten-pos (suc (length s))) q in

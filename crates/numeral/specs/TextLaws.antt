@@ -4,19 +4,20 @@ use mathlib.Core.Path.{_≡_, refl, sym, ap, _∙_}
 use mathlib.Core.Bool.{Bool, true, false, _&&_, not}
 use mathlib.Core.List.{List, [], _∷_, _++_}
 use mathlib.Core.Logic.{_↔_}
-use Prim.Native.Nat.{ℕ, zero, suc, _+_, _-_, _/_, _^_, _≤_, _<_}
+use Prim.Native.Nat.{ℕ, zero, suc, _-_, _/_, _^_, _≤_, _<_}
 use native.Mathlib.Nat.{sub-self}
 use native.Mathlib.Omega.{arith}
 use lib.Dec.{eqb, leb, ltb}
 use lib.IntN.{ℤ, pos, negsuc, natAbs}
-use lib.ListN.{length, length-append, replicate}
-use borrow.Author.Tests.{ltb-true, ltb-false, leb-true, leb-false, le-leb, eqb-true, eq-eqb, ne-eqb}
-use Rattle.basis.specs.Tests.{either, contra, both}
+use lib.ListN.{length, replicate}
+use borrow.Author.Tests.{lt-ltb, le-ltb, ltb-true, ltb-false, eqb-true, eq-eqb, ne-eqb}
+use Rattle.basis.specs.Tests.{either, contra, both, join}
 use Rattle.numeral.specs.Format.{maxDecimals, maxDigits, formatGood, blank, comma, minus, point, isDigit}
 use Rattle.numeral.specs.Reading.{every, some, after, front, hasMinus, withoutMinus, wholeGood, fractionGood, wholePart, fraction, withoutPoint, digits, numberOf, textGood, signed, valueOf, digitCount, readNumber}
+use Rattle.numeral.specs.ReadingLaws.{format-decimals, digit-range, count-number}
 use Rattle.numeral.specs.Writing.{lastDigits, decimal, fractionText, signText, numberText, written, left, writeNumber}
-use Rattle.numeral.specs.DigitLaws.{length-lastDigits, decimal-some, decimal-fits, shift-fits, digit-small, lastDigits-digits, decimal-digits, decimal-good, number-written, digits-back}
-use Rattle.numeral.specs.WritingLaws.{length-number, length-written, format-decimals, written-exactly}
+use Rattle.numeral.specs.DigitLaws.{length-lastDigits, decimal-some, lastDigits-digits, decimal-digits, decimal-good, number-written, digits-back}
+use Rattle.numeral.specs.WritingLaws.{length-number, length-written, written-exactly}
 use Rattle.numeral.specs.declared.Number.{Number}
 use Rattle.numeral.specs.declared.Number.the-variants.{Value, Empty, Refused}
 use Rattle.numeral.specs.declared.Writing.the-variants.{Written}
@@ -99,10 +100,6 @@ module _ (t : List ℕ) (d : ℕ) (w : wholeGood (wholePart t) ≡ true) (f : fr
       let b = digits-back (wholePart t) (withoutPoint (fraction t)) d w (h .0) (h .1) in
       rw (digits-whole, h .2 (numberOf (digits t)) (b .1)) (front-after isDigit t)
 
-  digits-count : length (digits t) ≡ length (decimal (numberOf (digits t) / 10 ^ d)) + d
-  unfolding digits
-  digits-count = let h = fraction-shape d (fraction t) f in rw (digits-whole, length-append) (omega (arith, h .1))
-
 -- a text from its sign on, and from its first digit on
 abbrev trimmed : List ℕ → List ℕ
 trimmed s = after (eqb blank) s
@@ -128,9 +125,9 @@ module _ (s : List ℕ) (d : ℕ) (g : textGood s d ≡ true) where
   unfolding written
   good-written = rw good-text (blanks-front s)
 
-  good-count : digitCount s ≡ length (decimal (natAbs (valueOf s) / 10 ^ d)) + d
+  good-count : d ≤ maxDecimals → leb (digitCount s) maxDigits ≡ ltb (natAbs (valueOf s)) (10 ^ maxDigits)
   unfolding digitCount valueOf
-  good-count = let h = good-parts in rw signed-abs (digits-count (unsigned s) d (h .0) (h .1))
+  good-count h = let k = good-parts in rw signed-abs (count-number d (unsigned s) h (join _ _ (k .0) (k .1)))
 
 -- ---- a written text is good, and its value is the one written
 
@@ -159,7 +156,7 @@ unfolding every after hasMinus withoutMinus
 digits-first [] u e l = absurd (omega arith)
 digits-first (c ∷ w) u e l =
     let k = both (isDigit c) (every isDigit w) e in
-    let b = digit-small c (k .0) in
+    let b = digit-range c (k .0) in
     (rw (ne-eqb blank c (omega arith), after), ne-eqb c minus (omega arith), rw (ne-eqb c minus (omega arith), withoutMinus))
 
 fraction-stops : (d n : ℕ) → (front isDigit (fractionText d n) ≡ []) × (after isDigit (fractionText d n) ≡ fractionText d n)
@@ -218,7 +215,7 @@ unfolding every some
 digits-plain [] e = refl
 digits-plain (c ∷ w) e =
     let k = both (isDigit c) (every isDigit w) e in
-    let b = digit-small c (k .0) in
+    let b = digit-range c (k .0) in
     rw (ne-eqb comma c (omega arith)) (digits-plain w (k .1))
 
 fraction-plain : (d n : ℕ) → some (eqb comma) (fractionText d n) ≡ false
@@ -270,22 +267,14 @@ module _ (width d : ℕ) (v : ℤ) where
 
 -- ---- the reader's answers
 
--- with at most 15 decimals the digits of a text are at most 18 exactly where the value's own are
-few-digits : (n d : ℕ) → d ≤ maxDecimals → (length (decimal (n / 10 ^ d)) + d ≤ maxDigits) ↔ (n < 10 ^ maxDigits)
-few-digits n d h =
-    let s = shift-fits n d (maxDigits - d) (omega arith) in
-    let e : maxDigits - d + d ≡ maxDigits = omega arith in
-    let f = decimal-fits n maxDigits (omega arith) in
-    ((λ l. f .0 (rw e at (s .0 (omega arith)))), (λ l. let k = s .1 (rw e (f .1 l)) in omega arith))
-
 -- every text comes to one of six answers
 by-answer : {X : Type 0} (s : List ℕ) (d : ℕ)
     → (readNumber s d ≡ Refused 6 → X)
     → (readNumber s d ≡ Empty → X)
     → (readNumber s d ≡ Refused 16 → X)
     → (readNumber s d ≡ Refused 17 → X)
-    → (formatGood (length s) d ≡ true → textGood s d ≡ true → maxDigits < digitCount s → readNumber s d ≡ Refused 18 → X)
-    → (formatGood (length s) d ≡ true → textGood s d ≡ true → digitCount s ≤ maxDigits → readNumber s d ≡ Value (valueOf s) → X)
+    → (formatGood (length s) d ≡ true → textGood s d ≡ true → leb (digitCount s) maxDigits ≡ false → readNumber s d ≡ Refused 18 → X)
+    → (formatGood (length s) d ≡ true → textGood s d ≡ true → leb (digitCount s) maxDigits ≡ true → readNumber s d ≡ Value (valueOf s) → X)
     → X
 unfolding readNumber
 by-answer s d a b c e f g = either (formatGood (length s) d)
@@ -295,8 +284,8 @@ by-answer s d a b c e f g = either (formatGood (length s) d)
     (λ r. c (rw (p, readNumber, q, r)))
     (λ r. either (textGood s d)
     (λ t. either (leb (digitCount s) maxDigits)
-    (λ u. g p t (leb-true _ _ u) (rw (p, readNumber, q, r, t, u)))
-    (λ u. f p t (leb-false _ _ u) (rw (p, readNumber, q, r, t, u))))
+    (λ u. g p t u (rw (p, readNumber, q, r, t, u)))
+    (λ u. f p t u (rw (p, readNumber, q, r, t, u))))
     (λ t. e (rw (p, readNumber, q, r, t))))))
     (λ p. a (rw (p, readNumber)))
 
@@ -314,23 +303,16 @@ module _ (s : List ℕ) (d : ℕ) (v : ℤ) (f : formatGood (length s) d ≡ tru
   is-plain : some (eqb comma) s ≡ false
   is-plain = ap (some (eqb comma)) e ∙ written-plain (length s) d v
 
-  is-count : (digitCount s ≤ maxDigits) ↔ (natAbs v < 10 ^ maxDigits)
-  is-count = rw (good-count s d is-good, is-value) (few-digits (natAbs v) d (format-decimals (length s) d f))
-
-  is-many : maxDigits < digitCount s → 10 ^ maxDigits ≤ natAbs v
-  is-many l = either (ltb (natAbs v) (10 ^ maxDigits))
-      (λ u. let k = is-count .1 (ltb-true _ _ u) in absurd (omega arith))
-      (λ u. ltb-false _ _ u)
+  is-count : leb (digitCount s) maxDigits ≡ ltb (natAbs v) (10 ^ maxDigits)
+  is-count = rw (← is-value) (good-count s d is-good (format-decimals (length s) d f))
 
   read-few : natAbs v < 10 ^ maxDigits → readNumber s d ≡ Value v
   unfolding readNumber
-  read-few l = rw (f, readNumber, is-shown, is-plain, is-good, le-leb (digitCount s) maxDigits (is-count .1 l), is-value)
+  read-few l = rw (f, readNumber, is-shown, is-plain, is-good, is-count, lt-ltb (natAbs v) (10 ^ maxDigits) l, is-value)
 
   read-many : 10 ^ maxDigits ≤ natAbs v → readNumber s d ≡ Refused 18
   unfolding readNumber
-  read-many l = either (leb (digitCount s) maxDigits)
-      (λ u. let k = is-count .0 (leb-true _ _ u) in absurd (omega arith))
-      (λ u. rw (f, readNumber, is-shown, is-plain, is-good, u))
+  read-many l = rw (f, readNumber, is-shown, is-plain, is-good, is-count, le-ltb (natAbs v) (10 ^ maxDigits) l)
 
 -- two answers that differ
 not-value : {X : Type 0} {r : Number} {n : ℕ} {v : ℤ} → r ≡ Refused n → r ≡ Value v → X
@@ -355,7 +337,7 @@ accepted s d v = (
       (λ f t l a.
       let same : valueOf s ≡ v = cc in
       let e : s ≡ written (length s) d v = good-written s d t ∙ ap (written (length s) d) same in
-      (f, e, is-count s d v f e .0 l))),
+      (f, e, ltb-true _ _ (sym (is-count s d v f e) ∙ l)))),
   (λ h. read-few s d v (h .0) (h .1) (h .2)),
 )
 
@@ -366,7 +348,7 @@ too-long s d = (
   (λ h. by-answer s d (λ a. not-same a h (omega arith)) (λ a. not-refused a h) (λ a. not-same a h (omega arith)) (λ a. not-same a h (omega arith))
       (λ f t l a.
       let e = good-written s d t in
-      (f, (valueOf s, e, is-many s d (valueOf s) f e l)))
+      (f, (valueOf s, e, ltb-false _ _ (sym (is-count s d (valueOf s) f e) ∙ l))))
       (λ f t l a. not-value h a)),
   (λ h. read-many s d (h .1 .0) (h .0) (h .1 .1) (h .1 .2)),
 )

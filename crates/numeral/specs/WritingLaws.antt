@@ -1,21 +1,21 @@
 -- Laws: the writer's stores leave the written text, and `writeNumber` answers in its order. Cited by the writer's proofs.
 -- Assumes nothing.
 use mathlib.Core.Path.{_≡_, refl, sym, ap, _∙_}
-use mathlib.Core.Bool.{true, false, _&&_, _||_}
+use mathlib.Core.Bool.{true, false}
 use mathlib.Core.List.{List, [], _∷_, _++_}
 use mathlib.Core.Logic.{_↔_}
 use Prim.Native.Nat.{ℕ, zero, suc, _+_, _-_, _/_, _%_, _^_, _≤_, _<_}
 use native.Mathlib.Nat.{zero-add, sub-zero, add-sub-cancel-left, pow-suc, div-div-eq-div-mul}
 use native.Mathlib.Omega.{arith}
-use lib.Dec.{eqb, leb, ltb}
+use lib.Dec.{leb, ltb}
 use lib.IntN.{ℤ, pos, negsuc, natAbs}
 use lib.ListN.{length, length-append, length-replicate, replicate, set}
 use lib.Signed.{ltZ}
-use borrow.Author.Tests.{ltb-true, ltb-false, lt-ltb, le-ltb, leb-true, leb-false, le-leb, lt-leb, eqb-true}
-use Rattle.basis.specs.Tests.{either, contra, both}
+use borrow.Author.Tests.{ltb-true, ltb-false, lt-ltb, le-ltb, leb-true, leb-false, le-leb, lt-leb}
+use Rattle.basis.specs.Tests.{either, contra}
 use Rattle.octets.specs.Store.{put}
 use Rattle.octets.specs.StoreLaws.{put-cons, put-append, put-comm}
-use Rattle.numeral.specs.Format.{maxWidth, maxDecimals, maxDigits, formatGood, blank, minus, point, zeroDigit}
+use Rattle.numeral.specs.Format.{maxDigits, formatGood, blank, minus, point, zeroDigit}
 use Rattle.numeral.specs.Writing.{lastDigits, decimal, fractionText, signText, numberText, written, Left, left, writeNumber}
 use Rattle.numeral.specs.DigitLaws.{length-lastDigits, lastDigits-front, decimal-last}
 use Rattle.numeral.specs.declared.Writing.the-variants.{Written, Refused}
@@ -96,15 +96,6 @@ written-stores s d v at h =
     sym (put-all s (written (length s) d v) l) ∙ rw (e, put-right, length-replicate, put-right, put-right, zero-add)
 
 -- ---- the writer's answers, in their order
-
-pub format-decimals : (w d : ℕ) → formatGood w d ≡ true → d ≤ maxDecimals
-unfolding formatGood
-format-decimals w d e =
-    either (eqb d 0) (λ z. let n = eqb-true d 0 z in omega arith)
-    (λ z.
-    let h = both (leb 1 w && leb w maxWidth) (eqb d 0 || (leb 1 d && leb d maxDecimals && leb (d + 2) w)) e in
-    let k = both (leb 1 d && leb d maxDecimals) (leb (d + 2) w) (rw z at (h .1)) in
-    leb-true d maxDecimals (both (leb 1 d) (leb d maxDecimals) (k .0) .1))
 
 module _ (s : List ℕ) (d : ℕ) (v : ℤ) where
   pub refused-format : formatGood (length s) d ≡ false → writeNumber s d v ≡ left s (Refused 6)

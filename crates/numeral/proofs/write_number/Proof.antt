@@ -11,7 +11,8 @@ use borrow.Author.Needs.{needs}
 use borrow.Author.Tests.{not-true, not-false}
 use Rattle.numeral.specs.Format.{formatGood}
 use Rattle.numeral.specs.Writing.{signText}
-use Rattle.numeral.specs.WritingLaws.{format-decimals, refused-format, refused-digits, Measured, measured-refused, measured-written}
+use Rattle.numeral.specs.ReadingLaws.{format-decimals}
+use Rattle.numeral.specs.WritingLaws.{refused-format, refused-digits, Measured, measured-refused, measured-written}
 use Rattle.numeral.proofs.write_number.Statement.{statement}
 use Rattle.numeral.proofs.write_number.Tie as tie
 
