@@ -1,0 +1,9 @@
+pub mod Format
+pub mod Reading
+pub mod Writing
+pub mod Scan
+pub mod ReadingLaws
+pub mod ScanLaws
+pub mod DigitLaws
+pub mod WritingLaws
+pub mod TextLaws
