@@ -1,0 +1,45 @@
+-- Rules: the text of a D field, "YYYYMMDD, year 1 to 9999, or eight blanks"; "Blanks are empty". Cited by `read_date`. Assumes nothing.
+use Prim.Native.Nat.{ℕ}
+use mathlib.Core.List.{List}
+use mathlib.Core.Bool.{Bool, cond, _&&_}
+use lib.ListN.{length, take, drop}
+use lib.Dec.{leb, eqb}
+use Rattle.calendar.specs.Calendar.{isDate}
+use Rattle.calendar.specs.Decimal.{allBlank, allDigits, decimal}
+use Rattle.calendar.specs.declared.Date.{Date}
+use Rattle.calendar.specs.declared.DateAnswer.{DateAnswer}
+use Rattle.calendar.specs.declared.DateAnswer.the-variants.{Value, Empty, Refused}
+
+-- the refusal "bad date or logical text"
+abbrev pub badDateText : ℕ
+badDateText = 20
+
+-- YYYYMMDD
+abbrev pub yearPart : List ℕ → List ℕ
+yearPart text = take 4 text
+
+abbrev pub monthPart : List ℕ → List ℕ
+monthPart text = take 2 (drop 4 text)
+
+abbrev pub dayPart : List ℕ → List ℕ
+dayPart text = take 2 (drop 6 text)
+
+-- "year 1 to 9999", and a day of the calendar
+unfoldable pub isTextDate : ℕ → ℕ → ℕ → Bool
+isTextDate year month day = leb 1 year && leb year 9999 && isDate year month day
+
+-- the answer for eight digits whose numbers are these
+unfoldable pub dateOfNumbers : ℕ → ℕ → ℕ → DateAnswer
+dateOfNumbers y m d =
+    cond (isTextDate y m d) (Value (record { year = y; month = m; day = d })) (Refused badDateText)
+
+-- Eight blanks are empty; eight digits YYYYMMDD of a date are that date; all else is refused. The table's checks make a D field
+-- eight bytes long, so document 01 doesn't speak of other lengths: they are refused too.
+unfoldable pub dateOf : List ℕ → DateAnswer
+dateOf text =
+    cond (eqb (length text) 8)
+    (cond (allBlank text) Empty
+    (cond (allDigits text)
+    (dateOfNumbers (decimal (yearPart text)) (decimal (monthPart text)) (decimal (dayPart text)))
+    (Refused badDateText)))
+    (Refused badDateText)
