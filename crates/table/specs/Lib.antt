@@ -1,0 +1,4 @@
+pub mod Range
+pub mod Table
+pub mod RangeLaws
+pub mod TableLaws
