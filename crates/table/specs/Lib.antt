@@ -2,3 +2,4 @@ pub mod Range
 pub mod Table
 pub mod RangeLaws
 pub mod TableLaws
+pub mod RecordLaws

@@ -193,13 +193,35 @@ memoKindGood b = not (eqb (tableKind b) plainKind && hasMemo b || eqb (tableKind
 unfoldable pub recordLengthGood : List ℕ → Bool
 recordLengthGood b = eqb (recordLength b) (fieldOffset b (fieldCount b)) && leb (recordLength b) maxRecord
 
--- where the last record ends: "H + n·R"
-unfoldable pub recordsEnd : List ℕ → ℕ
-recordsEnd b = headerLength b + recordCount b * recordLength b
+-- where the first k records end: "H + n·R" for all n of them
+unfoldable pub recordsEnd : List ℕ → ℕ → ℕ
+recordsEnd b k = headerLength b + k * recordLength b
 
 -- 10: "The table is H + n·R bytes, or one more that is 0x1A."
 unfoldable pub lengthGood : List ℕ → Bool
-lengthGood b = eqb (length b) (recordsEnd b) || eqb (length b) (recordsEnd b + 1) && eqb (byteAt b (recordsEnd b)) fileEnd
+lengthGood b =
+    let end = recordsEnd b (recordCount b) in
+    eqb (length b) end || eqb (length b) (end + 1) && eqb (byteAt b end) fileEnd
+
+-- ---- records and numbers
+
+-- "record number 0 or above the count", "field number 0 or above f": true where the number is from 1 to the count
+unfoldable pub numberGood : ℕ → ℕ → Bool
+numberGood number count = leb 1 number && leb number count
+
+-- "Record i (from 1) starts at H + (i − 1)·R with its deletion byte"
+unfoldable pub recordStart : List ℕ → ℕ → ℕ
+recordStart b i = recordsEnd b (i - 1)
+
+unfoldable pub deletionByte : List ℕ → ℕ → ℕ
+deletionByte b i = byteAt b (recordStart b i)
+
+-- "deletion byte is neither 0x20 nor 0x2A": the mark of a record that is kept, and of a deleted one
+abbrev pub keptMark : ℕ
+keptMark = 0x20
+
+abbrev pub deletedMark : ℕ
+deletedMark = 0x2A
 
 -- ---- the answer
 

@@ -11,7 +11,7 @@ use Rattle.basis.specs.Tests.{either, contra, both}
 use Rattle.basis.specs.Lists.{All}
 use Rattle.octets.specs.Bytes.{byteAt}
 use Rattle.table.specs.RangeLaws.{all-at}
-use Rattle.table.specs.Table.{minTable, maxTable, maxFields, maxRecord, fileEnd, headerLength, recordLength, recordsEnd, fieldCount, fieldOffset, sizeGood, kindGood, headerGood, descriptorGood, fieldsGood, recordLengthGood, lengthGood, firstRefusal, tableChecks, tableRefusal, shapeOf, checkTable}
+use Rattle.table.specs.Table.{minTable, maxTable, maxFields, maxRecord, fileEnd, headerLength, recordLength, recordCount, recordsEnd, fieldCount, fieldOffset, sizeGood, kindGood, headerGood, descriptorGood, fieldsGood, recordLengthGood, lengthGood, numberGood, firstRefusal, tableChecks, tableRefusal, shapeOf, checkTable}
 use Rattle.table.specs.declared.Shape.{Shape}
 use Rattle.table.specs.declared.Checked.{Checked}
 use Rattle.table.specs.declared.Checked.the-variants.{Good, Refused}
@@ -53,6 +53,12 @@ first-before (check ∷ checks) more e =
     ∙ sym (first-pass (check .0) (check .1) checks good))
     (λ bad. first-fail (check .0) (check .1) (checks ++ more) bad ∙ sym (first-fail (check .0) (check .1) checks bad))
 
+pub first-both : (checks more : List (Bool × ℕ)) → All (λ check. 0 < check .1) checks → firstRefusal (checks ++ more) ≡ 0 → (firstRefusal checks ≡ 0) × (firstRefusal more ≡ 0)
+first-both checks more p e =
+    either (eqb (firstRefusal checks) 0)
+    (λ z. let none = eqb-true (firstRefusal checks) 0 z in (none, sym (first-after checks more p none) ∙ e))
+    (λ z. let some = eqb-false (firstRefusal checks) 0 z in absurd (some (sym (first-before checks more some) ∙ e)))
+
 -- ---- single checks
 
 -- check 1: the bytes that every header has are there
@@ -87,13 +93,21 @@ header-fits b s h =
     }
 
 -- check 10: the records lie in the table
-records-inside : (b : List ℕ) → lengthGood b ≡ true → recordsEnd b ≤ length b
+records-inside : (b : List ℕ) → lengthGood b ≡ true → recordsEnd b (recordCount b) ≤ length b
 unfolding lengthGood
 records-inside b h =
-    either (eqb (length b) (recordsEnd b))
-    (λ e. omega (arith, eqb-true (length b) (recordsEnd b) e))
-    (λ e. let more = both (eqb (length b) (recordsEnd b + 1)) (eqb (byteAt b (recordsEnd b)) fileEnd) (rw e at h) in
-    omega (arith, eqb-true (length b) (recordsEnd b + 1) (more .0)))
+    let end = recordsEnd b (recordCount b) in
+    either (eqb (length b) end)
+    (λ e. omega (arith, eqb-true (length b) end e))
+    (λ e. let more = both (eqb (length b) (end + 1)) (eqb (byteAt b end) fileEnd) (rw e at h) in
+    omega (arith, eqb-true (length b) (end + 1) (more .0)))
+
+-- a number from 1 to the count
+pub number-range : (number count : ℕ) → numberGood number count ≡ true → (1 ≤ number) × (number ≤ count)
+unfolding numberGood
+number-range number count h =
+    let parts = both (leb 1 number) (leb number count) h in
+    (leb-true 1 number (parts .0), leb-true number count (parts .1))
 
 -- ---- a table without refusal
 
@@ -104,7 +118,7 @@ pub record Layout (b : List ℕ) : Type 0 where
   -- the deletion byte and the fields fill a record
   pub filled : recordLength b ≡ fieldOffset b (fieldCount b)
   pub small : recordLength b ≤ maxRecord
-  pub records : recordsEnd b ≤ length b
+  pub records : recordsEnd b (recordCount b) ≤ length b
 
 -- no check of a table has the number 0
 pub table-numbered : (b : List ℕ) → All (λ check. 0 < check .1) (tableChecks b)
@@ -149,3 +163,14 @@ refused-check b n e =
     either (eqb (tableRefusal b) 0)
     (λ z. let q = check-good b (eqb-true (tableRefusal b) 0 z) in let no : _≡_ {A = ℕ} 0 1 = cc in absurd (omega arith))
     (λ z. let q = check-refused b (eqb-false (tableRefusal b) 0 z) in let s : n ≡ tableRefusal b = cc in (s, λ w. eqb-false (tableRefusal b) 0 z (sym s ∙ w)))
+
+-- a call whose checks come after the table's: what its refusal is in each case of the answer
+pub good-then : (b : List ℕ) (s : Shape) (more : List (Bool × ℕ)) → checkTable b ≡ Good s → firstRefusal (tableChecks b ++ more) ≡ firstRefusal more
+unfolding tableRefusal
+good-then b s more e = first-after (tableChecks b) more (table-numbered b) (good-check b s e .0)
+
+pub refused-then : (b : List ℕ) (n : ℕ) (more : List (Bool × ℕ)) → checkTable b ≡ Refused n → firstRefusal (tableChecks b ++ more) ≡ n
+unfolding tableRefusal
+refused-then b n more e =
+    let refused = refused-check b n e in
+    first-before (tableChecks b) more (λ z. refused .1 (refused .0 ∙ z)) ∙ sym (refused .0)

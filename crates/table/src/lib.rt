@@ -3,7 +3,7 @@ ghost use Prim.Native.Nat.{_+_, _*_, _≤_, _<_};
 ghost use mathlib.Core.Path.{_≡_};
 ghost use lib.ListN.{length};
 ghost use Rattle.table.specs.Range.{allBelow, anyBelow, sumBelow};
-ghost use Rattle.table.specs.Table.{minTable, maxFields, recordCount, headerLength, recordLength, fieldCount, descriptor, fieldOffset, sizeGood, kindGood, dateGood, headerGood, endMarkGood, isLetter, isNameByte, mayFollow, nameGood, formGood, descriptorGood, fieldsGood, sameName, namesDiffer, hasMemo, memoKindGood, recordLengthGood, recordsEnd, lengthGood, tableRefusal, shapeOf, checkTable};
+ghost use Rattle.table.specs.Table.{minTable, maxFields, recordCount, headerLength, recordLength, fieldCount, descriptor, fieldOffset, sizeGood, kindGood, dateGood, headerGood, endMarkGood, isLetter, isNameByte, mayFollow, nameGood, formGood, descriptorGood, fieldsGood, sameName, namesDiffer, hasMemo, memoKindGood, recordLengthGood, recordsEnd, lengthGood, tableRefusal, shapeOf, checkTable, numberGood};
 ghost use Rattle.table.specs.TableLaws.{HeaderFits};
 
 const MIN_TABLE: usize = 32;
@@ -260,7 +260,7 @@ fn memo_kind_good(table: &[u8]) -> bool
 }
 
 // Where field j starts in a record: after the deletion byte and the fields before it.
-fn field_offset(table: &[u8], j: usize) -> usize
+pub fn field_offset(table: &[u8], j: usize) -> usize
     requires { ⌜ (j ≤ maxFields) × (descriptor j ≤ length (now table)) ⌝ }
     ensures { λ r. ⌜ (r ≡ fieldOffset (now (table .entry)) j) × (r ≤ 1 + 255 * j) ⌝ }
 {
@@ -282,18 +282,19 @@ fn record_length_good(table: &[u8]) -> bool
     (length == sum) & (length <= MAX_RECORD)
 }
 
-fn records_end(table: &[u8]) -> usize
+// Where the first records of a count end. No count of 32 bits is too large: nothing is taken modulo.
+pub fn records_end(table: &[u8], count: u32) -> usize
     requires { ⌜ minTable ≤ length (now table) ⌝ }
-    ensures { λ r. ⌜ (r ≡ recordsEnd (now (table .entry))) × (r < 281474976776192) ⌝ }
+    ensures { λ r. ⌜ (r ≡ recordsEnd (now (table .entry)) count) × (r < 281474976776192) ⌝ }
 {
-    header_length(table) + record_count(table) as usize * record_length(table)
+    header_length(table) + count as usize * record_length(table)
 }
 
 fn length_good(table: &[u8]) -> bool
     requires { ⌜ minTable ≤ length (now table) ⌝ }
     ensures { λ r. ⌜ r ≡ lengthGood (now (table .entry)) ⌝ }
 {
-    let end = records_end(table);
+    let end = records_end(table, record_count(table));
     if table.len() == end {
         return true;
     }
@@ -351,6 +352,13 @@ fn shape_of(table: &[u8]) -> Shape
         record_length: record_length(table),
         fields: field_count(table),
     }
+}
+
+// Whether a record's or a field's number is from 1 to the count.
+pub fn number_good(number: usize, count: usize) -> bool
+    ensures { λ r. ⌜ r ≡ numberGood number count ⌝ }
+{
+    (1 <= number) & (number <= count)
 }
 
 pub fn check_table(table: &[u8]) -> Checked

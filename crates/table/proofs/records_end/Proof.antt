@@ -2,7 +2,6 @@
 use Prim.Native.Nat.{ℕ, _*_, _≤_}
 use native.Mathlib.Nat.{mul-le-mul}
 use native.Mathlib.Omega.{arith}
-use borrow.Author.Needs.{needs}
 use Rattle.table.specs.Table.{recordsEnd}
 use borrow.Author.Needs.{needs}
 use Rattle.table.proofs.records_end.Statement.{statement}
@@ -15,35 +14,20 @@ product n r p q = mul-le-mul p q
 header-length-requires : tie.Need-header-length-requires
 header-length-requires c κs = search needs
 
-record-count-requires : tie.Need-record-count-requires
-record-count-requires c κs = search needs
-
-cast-result : tie.Need-cast-result
-cast-result c = search needs
-
 record-length-requires : tie.Need-record-length-requires
 record-length-requires c κs = search needs
 
 mul-result : tie.Need-mul-result
-mul-result c = omega (arith, product (c .before .record-count .result) (c .record-length .result) (omega arith) (omega arith))
+mul-result c = omega (arith, product (c .before .before .before .args .count) (c .record-length .result) (omega arith) (omega arith))
 
 add-result : tie.Need-add-result
-add-result c = omega (arith, product (c .before .record-count .result) (c .record-length .result) (omega arith) (omega arith))
+add-result c = omega (arith, product (c .before .before .before .args .count) (c .record-length .result) (omega arith) (omega arith))
 
 returns : tie.Need-returns
 unfolding recordsEnd
-returns c =
-    let header = c .before .before .header-length .ensures .0 in
-    (rw (header, c .before .record-count .ensures, c .record-length .ensures .0), omega (arith, product (c .before .record-count .result) (c .record-length .result) (omega arith) (omega arith)))
+returns c = (rw (c .before .header-length .ensures .0, c .record-length .ensures .0), omega (arith, product (c .before .before .before .args .count) (c .record-length .result) (omega arith) (omega arith)))
 
 pub records-end-spec : {M : Type 1} → statement M
 records-end-spec =
     tie.close
-    (tie.spec
-    header-length-requires
-    record-count-requires
-    cast-result
-    record-length-requires
-    mul-result
-    add-result
-    returns)
+    (tie.spec header-length-requires record-length-requires mul-result add-result returns)
