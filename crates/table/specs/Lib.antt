@@ -3,3 +3,4 @@ pub mod Table
 pub mod RangeLaws
 pub mod TableLaws
 pub mod RecordLaws
+pub mod FormLaws

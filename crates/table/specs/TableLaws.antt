@@ -11,7 +11,7 @@ use Rattle.basis.specs.Tests.{either, contra, both}
 use Rattle.basis.specs.Lists.{All}
 use Rattle.octets.specs.Bytes.{byteAt}
 use Rattle.table.specs.RangeLaws.{all-at}
-use Rattle.table.specs.Table.{minTable, maxTable, maxFields, maxRecord, fileEnd, headerLength, recordLength, recordCount, recordsEnd, fieldCount, fieldOffset, sizeGood, kindGood, headerGood, descriptorGood, fieldsGood, recordLengthGood, lengthGood, numberGood, firstRefusal, tableChecks, tableRefusal, shapeOf, checkTable}
+use Rattle.table.specs.Table.{minTable, maxTable, maxFields, maxRecord, fileEnd, tableKind, headerLength, recordLength, recordCount, recordsEnd, fieldCount, fieldOffset, sizeGood, kindGood, headerGood, descriptorGood, fieldsGood, recordLengthGood, lengthGood, numberGood, firstRefusal, tableChecks, tableRefusal, shapeOf, checkTable}
 use Rattle.table.specs.declared.Shape.{Shape}
 use Rattle.table.specs.declared.Checked.{Checked}
 use Rattle.table.specs.declared.Checked.the-variants.{Good, Refused}
@@ -163,6 +163,28 @@ refused-check b n e =
     either (eqb (tableRefusal b) 0)
     (λ z. let q = check-good b (eqb-true (tableRefusal b) 0 z) in let no : _≡_ {A = ℕ} 0 1 = cc in absurd (omega arith))
     (λ z. let q = check-refused b (eqb-false (tableRefusal b) 0 z) in let s : n ≡ tableRefusal b = cc in (s, λ w. eqb-false (tableRefusal b) 0 z (sym s ∙ w)))
+
+-- so each number of the shape is the header's
+pub record Shaped (b : List ℕ) (s : Shape) : Type 0 where
+  pub table : tableRefusal b ≡ 0
+  pub kind : s .kind ≡ tableKind b
+  pub records : s .records ≡ recordCount b
+  pub header : s .«header_length» ≡ headerLength b
+  pub length : s .«record_length» ≡ recordLength b
+  pub fields : s .fields ≡ fieldCount b
+
+pub good-shape : (b : List ℕ) (s : Shape) → checkTable b ≡ Good s → Shaped b s
+unfolding shapeOf
+good-shape b s e =
+    let good = good-check b s e in
+    record {
+      table = good .0;
+      kind = ap (λ (x : Shape). x .kind) (good .1);
+      records = ap (λ (x : Shape). x .records) (good .1);
+      header = ap (λ (x : Shape). x .«header_length») (good .1);
+      length = ap (λ (x : Shape). x .«record_length») (good .1);
+      fields = ap (λ (x : Shape). x .fields) (good .1);
+    }
 
 -- a call whose checks come after the table's: what its refusal is in each case of the answer
 pub good-then : (b : List ℕ) (s : Shape) (more : List (Bool × ℕ)) → checkTable b ≡ Good s → firstRefusal (tableChecks b ++ more) ≡ firstRefusal more
