@@ -1,11 +1,11 @@
 -- Rules: document 01, one field by value: "a name, type, length and decimals", and where a field of a record lies. Refusals 1 to 10, 11 and 12.
 use Prim.Native.Nat.{ℕ, _+_, _-_}
 use mathlib.Core.List.{List, [], _∷_, _++_}
-use mathlib.Core.Bool.{Bool, cond}
+use mathlib.Core.Bool.{Bool, cond, _&&_}
 use lib.ListN.{replicate}
-use lib.Dec.{eqb}
+use lib.Dec.{eqb, leb}
 use Rattle.octets.specs.Store.{window}
-use Rattle.table.specs.Table.{descriptor, fieldType, fieldLength, fieldDecimals, fieldOffset, fieldCount, recordCount, recordStart, deletionByte, numberGood, firstRefusal, tableChecks}
+use Rattle.table.specs.Table.{descriptor, fieldType, fieldLength, fieldDecimals, fieldOffset, fieldCount, recordCount, recordStart, deletionByte, firstRefusal, tableChecks}
 use Rattle.field.specs.declared.FieldEntry.{FieldEntry}
 use Rattle.field.specs.declared.FieldAnswer.{FieldAnswer}
 use Rattle.field.specs.declared.FieldForm.{FieldForm}
@@ -36,6 +36,10 @@ noEntry = record {
   length = 0;
   decimals = 0;
 }
+
+-- "record number 0 or above the count", "field number 0 or above f": true where the number is from 1 to the count
+unfoldable pub numberGood : ℕ → ℕ → Bool
+numberGood number count = leb 1 number && leb number count
 
 -- "1 to 10 ... then ... 12": "field number 0 or above f"
 unfoldable pub fieldRefusal : List ℕ → ℕ → ℕ

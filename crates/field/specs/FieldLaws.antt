@@ -1,28 +1,35 @@
 -- Laws: what the answers about one field are made of, and that a field's bytes lie in the table. Assumes nothing.
 use Prim.Native.Nat.{ℕ, zero, suc, _+_, _-_, _≤_, _<_}
 use mathlib.Core.Path.{_≡_, refl, sym, ap, _∙_}
-use mathlib.Core.Bool.{Bool, true, false, cond}
+use mathlib.Core.Bool.{Bool, true, false, cond, _&&_}
 use mathlib.Core.List.{List, [], _∷_, _++_}
 use native.Mathlib.Nat.{add-zero}
 use native.Mathlib.Omega.{arith}
 use lib.ListN.{length, getD}
-use lib.Dec.{eqb, lit<}
-use borrow.Author.Tests.{eqb-true, eqb-false, eq-eqb, ne-eqb}
-use Rattle.basis.specs.Tests.{either}
+use lib.Dec.{eqb, leb, lit<}
+use borrow.Author.Tests.{leb-true, eqb-true, eqb-false, eq-eqb, ne-eqb}
+use Rattle.basis.specs.Tests.{either, both}
 use Rattle.octets.specs.Bytes.{byteAt}
 use Rattle.octets.specs.Store.{window}
 use Rattle.octets.specs.StoreLaws.{window-cons}
-use Rattle.table.specs.Table.{descriptor, fieldLength, fieldOffset, fieldCount, recordLength, recordCount, recordStart, recordsEnd, deletionByte, numberGood, firstRefusal, tableChecks, tableRefusal, shapeOf, checkTable}
-use Rattle.table.specs.TableLaws.{Layout, layout, table-numbered, first-pass, first-fail, first-none, first-both, number-range, good-check, good-then, refused-then}
+use Rattle.table.specs.Table.{descriptor, fieldLength, fieldOffset, fieldCount, recordLength, recordCount, recordStart, recordsEnd, deletionByte, firstRefusal, tableChecks, tableRefusal, shapeOf, checkTable}
+use Rattle.table.specs.TableLaws.{Layout, layout, table-numbered, first-pass, first-fail, first-none, first-both, good-check, good-then, refused-then}
 use Rattle.table.specs.RecordLaws.{descriptor-inside, field-inside, record-inside, record-positive}
 use Rattle.table.specs.declared.Shape.{Shape}
 use Rattle.table.specs.declared.Checked.the-variants.{Good, Refused as TableRefused}
-use Rattle.field.specs.Field.{fieldRefusal, fieldAnswer, entryOf, noEntry, formOf, placeRefusal, placeAt, placeOf}
+use Rattle.field.specs.Field.{numberGood, fieldRefusal, fieldAnswer, entryOf, noEntry, formOf, placeRefusal, placeAt, placeOf}
 use Rattle.field.specs.declared.Place.{Place}
 use Rattle.field.specs.declared.Placed.{Placed}
 use Rattle.field.specs.declared.Placed.the-variants.{At, Refused}
 
 -- ---- one field
+
+-- a number from 1 to the count
+pub number-range : (number count : ℕ) → numberGood number count ≡ true → (1 ≤ number) × (number ≤ count)
+unfolding numberGood
+number-range number count h =
+    let parts = both (leb 1 number) (leb number count) h in
+    (leb-true 1 number (parts .0), leb-true number count (parts .1))
 
 -- in a good table the test of the number decides
 pub field-checked : (b : List ℕ) (s : Shape) (field : ℕ) → checkTable b ≡ Good s → fieldRefusal b field ≡ cond (numberGood field (s .fields)) 0 12

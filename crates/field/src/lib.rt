@@ -3,7 +3,7 @@ ghost use Prim.Native.Nat.{_+_, _≤_, _<_};
 ghost use mathlib.Core.Path.{_≡_};
 ghost use lib.ListN.{length};
 ghost use Rattle.table.specs.Table.{descriptor, fieldCount, tableRefusal};
-ghost use Rattle.field.specs.Field.{entryOf, noEntry, fieldRefusal, fieldAnswer, formOf, placeRefusal, placeAt, placeOf};
+ghost use Rattle.field.specs.Field.{numberGood, entryOf, noEntry, fieldRefusal, fieldAnswer, formOf, placeRefusal, placeAt, placeOf};
 
 const BAD_RECORD_NUMBER: u32 = 11;
 
@@ -48,7 +48,7 @@ pub fn entry_at(table: &[u8], j: usize) -> FieldEntry
     requires { ⌜ descriptor j + 32 ≤ length (now table) ⌝ }
     ensures { λ r. ⌜ r ≡ entryOf (now (table .entry)) j ⌝ }
 {
-    let at = 32 + 32 * j;
+    let at = table::DESCRIPTORS + table::DESCRIPTOR_LENGTH * j;
     let name = [
         table[at],
         table[at + 1],
@@ -64,9 +64,9 @@ pub fn entry_at(table: &[u8], j: usize) -> FieldEntry
     ];
     FieldEntry {
         name,
-        kind: table[at + 11],
-        length: table[at + 16],
-        decimals: table[at + 17],
+        kind: table[at + table::TYPE_AT],
+        length: table[at + table::LENGTH_AT],
+        decimals: table[at + table::DECIMALS_AT],
     }
 }
 
@@ -81,13 +81,20 @@ fn no_entry() -> FieldEntry
     }
 }
 
+// Whether a record's or a field's number is from 1 to the count.
+pub fn number_good(number: usize, count: usize) -> bool
+    ensures { λ r. ⌜ r ≡ numberGood number count ⌝ }
+{
+    (1 <= number) & (number <= count)
+}
+
 fn field_refusal(table: &[u8], field: u32) -> u32
     ensures { λ r. ⌜ r ≡ fieldRefusal (now (table .entry)) field ⌝ }
 {
     match table::check_table(table) {
         table::Checked::Refused(number) => number,
         table::Checked::Good(shape) => {
-            if table::number_good(field as usize, shape.fields) {
+            if number_good(field as usize, shape.fields) {
                 0
             } else {
                 BAD_FIELD_NUMBER
@@ -114,12 +121,12 @@ pub fn field_form(table: &[u8], j: usize) -> FieldForm
     requires { ⌜ (tableRefusal (now table) ≡ 0) × (j < fieldCount (now table)) ⌝ }
     ensures { λ r. ⌜ r ≡ formOf (now (table .entry)) j ⌝ }
 {
-    let at = 32 + 32 * j;
+    let at = table::DESCRIPTORS + table::DESCRIPTOR_LENGTH * j;
     FieldForm {
-        kind: octets::byte(table, at + 11),
+        kind: octets::byte(table, at + table::TYPE_AT),
         offset: table::field_offset(table, j),
-        length: octets::byte(table, at + 16) as usize,
-        decimals: octets::byte(table, at + 17),
+        length: octets::byte(table, at + table::LENGTH_AT) as usize,
+        decimals: octets::byte(table, at + table::DECIMALS_AT),
     }
 }
 
@@ -129,10 +136,10 @@ fn place_refusal(table: &[u8], i: u32, field: u32) -> u32
     match table::check_table(table) {
         table::Checked::Refused(number) => number,
         table::Checked::Good(shape) => {
-            if !table::number_good(i as usize, shape.records as usize) {
+            if !number_good(i as usize, shape.records as usize) {
                 return BAD_RECORD_NUMBER;
             }
-            if !table::number_good(field as usize, shape.fields) {
+            if !number_good(field as usize, shape.fields) {
                 return BAD_FIELD_NUMBER;
             }
             0

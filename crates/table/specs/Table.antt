@@ -203,11 +203,7 @@ lengthGood b =
     let end = recordsEnd b (recordCount b) in
     eqb (length b) end || eqb (length b) (end + 1) && eqb (byteAt b end) fileEnd
 
--- ---- records and numbers
-
--- "record number 0 or above the count", "field number 0 or above f": true where the number is from 1 to the count
-unfoldable pub numberGood : ℕ → ℕ → Bool
-numberGood number count = leb 1 number && leb number count
+-- ---- records
 
 -- "Record i (from 1) starts at H + (i − 1)·R with its deletion byte"
 unfoldable pub recordStart : List ℕ → ℕ → ℕ

@@ -11,7 +11,7 @@ use Rattle.basis.specs.Tests.{either, contra, both}
 use Rattle.basis.specs.Lists.{All}
 use Rattle.octets.specs.Bytes.{byteAt}
 use Rattle.table.specs.RangeLaws.{all-at}
-use Rattle.table.specs.Table.{minTable, maxTable, maxFields, maxRecord, fileEnd, tableKind, headerLength, recordLength, recordCount, recordsEnd, fieldCount, fieldOffset, sizeGood, kindGood, headerGood, descriptorGood, fieldsGood, recordLengthGood, lengthGood, numberGood, firstRefusal, tableChecks, tableRefusal, shapeOf, checkTable}
+use Rattle.table.specs.Table.{minTable, maxTable, maxFields, maxRecord, fileEnd, tableKind, headerLength, recordLength, recordCount, recordsEnd, fieldCount, fieldOffset, sizeGood, kindGood, headerGood, descriptorGood, fieldsGood, recordLengthGood, lengthGood, firstRefusal, tableChecks, tableRefusal, shapeOf, checkTable}
 use Rattle.table.specs.declared.Shape.{Shape}
 use Rattle.table.specs.declared.Checked.{Checked}
 use Rattle.table.specs.declared.Checked.the-variants.{Good, Refused}
@@ -101,13 +101,6 @@ records-inside b h =
     (λ e. omega (arith, eqb-true (length b) end e))
     (λ e. let more = both (eqb (length b) (end + 1)) (eqb (byteAt b end) fileEnd) (rw e at h) in
     omega (arith, eqb-true (length b) (end + 1) (more .0)))
-
--- a number from 1 to the count
-pub number-range : (number count : ℕ) → numberGood number count ≡ true → (1 ≤ number) × (number ≤ count)
-unfolding numberGood
-number-range number count h =
-    let parts = both (leb 1 number) (leb number count) h in
-    (leb-true 1 number (parts .0), leb-true number count (parts .1))
 
 -- ---- a table without refusal
 

@@ -2,8 +2,7 @@
 ghost use Prim.Native.Nat.{_+_, _*_, _≤_, _<_};
 ghost use mathlib.Core.Path.{_≡_};
 ghost use lib.ListN.{length};
-ghost use Rattle.table.specs.Range.{allBelow, anyBelow, sumBelow};
-ghost use Rattle.table.specs.Table.{minTable, maxFields, recordCount, headerLength, recordLength, fieldCount, descriptor, fieldOffset, sizeGood, kindGood, dateGood, headerGood, endMarkGood, isLetter, isNameByte, mayFollow, nameGood, formGood, descriptorGood, fieldsGood, sameName, namesDiffer, hasMemo, memoKindGood, recordLengthGood, recordsEnd, lengthGood, tableRefusal, shapeOf, checkTable, numberGood};
+ghost use Rattle.table.specs.Table.{minTable, maxFields, recordCount, headerLength, recordLength, fieldCount, descriptor, fieldOffset, sizeGood, kindGood, dateGood, headerGood, endMarkGood, isLetter, isNameByte, mayFollow, nameGood, formGood, descriptorGood, fieldsGood, sameName, namesDiffer, hasMemo, memoKindGood, recordLengthGood, recordsEnd, lengthGood, tableRefusal, shapeOf, checkTable};
 ghost use Rattle.table.specs.TableLaws.{HeaderFits};
 
 const MIN_TABLE: usize = 32;
@@ -14,6 +13,8 @@ const MAX_FIELDS: usize = 128;
 
 const MAX_RECORD: usize = 4000;
 
+const MAX_TEXT: u32 = 254;
+
 const PLAIN_KIND: u32 = 0x03;
 
 const MEMO_KIND: u32 = 0xF5;
@@ -22,19 +23,31 @@ const END_MARK: u8 = 0x0D;
 
 const FILE_END: u8 = 0x1A;
 
-const TYPE_C: u32 = 0x43;
+pub const TYPE_C: u32 = 0x43;
 
-const TYPE_N: u32 = 0x4E;
+pub const TYPE_N: u32 = 0x4E;
 
-const TYPE_D: u32 = 0x44;
+pub const TYPE_D: u32 = 0x44;
 
-const TYPE_L: u32 = 0x4C;
+pub const TYPE_L: u32 = 0x4C;
 
-const TYPE_M: u32 = 0x4D;
+pub const TYPE_M: u32 = 0x4D;
 
+// Where the descriptors begin, how long each is, and what stands where in one.
+pub const DESCRIPTORS: usize = 32;
+
+pub const DESCRIPTOR_LENGTH: usize = 32;
+
+pub const TYPE_AT: usize = 11;
+
+pub const LENGTH_AT: usize = 16;
+
+pub const DECIMALS_AT: usize = 17;
+
+// A name's bytes, and the last of them, which is zero.
 const NAME_LENGTH: usize = 11;
 
-const MAX_TEXT: u32 = 254;
+const NAME_LAST: usize = 10;
 
 // What the header of a good table says.
 pub struct Shape {
@@ -148,13 +161,13 @@ fn name_good(table: &[u8], at: usize) -> bool
         return false;
     }
     let mut k = 0;
-    while k < 10 {
+    while k < NAME_LAST {
         if !may_follow(table[at + k], table[at + k + 1]) {
             return false;
         }
         k += 1;
     }
-    table[at + 10] == 0
+    table[at + NAME_LAST] == 0
 }
 
 // The type, length and decimal count of a field.
@@ -174,11 +187,11 @@ fn descriptor_good(table: &[u8], j: usize) -> bool
     requires { ⌜ descriptor j + 32 ≤ length (now table) ⌝ }
     ensures { λ r. ⌜ r ≡ descriptorGood (now (table .entry)) j ⌝ }
 {
-    let at = 32 + 32 * j;
+    let at = DESCRIPTORS + DESCRIPTOR_LENGTH * j;
     let form = form_good(
-        octets::byte(table, at + 11),
-        octets::byte(table, at + 16),
-        octets::byte(table, at + 17),
+        octets::byte(table, at + TYPE_AT),
+        octets::byte(table, at + LENGTH_AT),
+        octets::byte(table, at + DECIMALS_AT),
     );
     name_good(table, at) & form
 }
@@ -203,9 +216,11 @@ fn same_name(table: &[u8], i: usize, j: usize) -> bool
     requires { ⌜ (descriptor i + 32 ≤ length (now table)) × (descriptor j + 32 ≤ length (now table)) ⌝ }
     ensures { λ r. ⌜ r ≡ sameName (now (table .entry)) i j ⌝ }
 {
+    let a = DESCRIPTORS + DESCRIPTOR_LENGTH * i;
+    let b = DESCRIPTORS + DESCRIPTOR_LENGTH * j;
     let mut k = 0;
     while k < NAME_LENGTH {
-        if table[32 + 32 * i + k] != table[32 + 32 * j + k] {
+        if table[a + k] != table[b + k] {
             return false;
         }
         k += 1;
@@ -220,17 +235,17 @@ fn names_differ(table: &[u8]) -> bool
 {
     let fields = field_count(table);
     let mut differ = true;
-    let mut i = 0;
-    'fields: while i < fields {
-        let mut j = 0;
-        while j < i {
-            if same_name(table, i, j) {
+    let mut later = 0;
+    'fields: while later < fields {
+        let mut earlier = 0;
+        while earlier < later {
+            if same_name(table, later, earlier) {
                 differ = false;
                 break 'fields;
             }
-            j += 1;
+            earlier += 1;
         }
-        i += 1;
+        later += 1;
     }
     differ
 }
@@ -242,7 +257,7 @@ fn has_memo(table: &[u8]) -> bool
     let fields = field_count(table);
     let mut j = 0;
     while j < fields {
-        if octets::byte(table, 32 + 32 * j + 11) == TYPE_M {
+        if octets::byte(table, DESCRIPTORS + DESCRIPTOR_LENGTH * j + TYPE_AT) == TYPE_M {
             return true;
         }
         j += 1;
@@ -267,7 +282,7 @@ pub fn field_offset(table: &[u8], j: usize) -> usize
     let mut offset = 1;
     let mut i = 0;
     while i < j {
-        offset += octets::byte(table, 32 + 32 * i + 16) as usize;
+        offset += octets::byte(table, DESCRIPTORS + DESCRIPTOR_LENGTH * i + LENGTH_AT) as usize;
         i += 1;
     }
     offset
@@ -354,13 +369,7 @@ fn shape_of(table: &[u8]) -> Shape
     }
 }
 
-// Whether a record's or a field's number is from 1 to the count.
-pub fn number_good(number: usize, count: usize) -> bool
-    ensures { λ r. ⌜ r ≡ numberGood number count ⌝ }
-{
-    (1 <= number) & (number <= count)
-}
-
+// The table's shape, or the number of its refusal.
 pub fn check_table(table: &[u8]) -> Checked
     ensures { λ r. ⌜ r ≡ checkTable (now (table .entry)) ⌝ }
 {

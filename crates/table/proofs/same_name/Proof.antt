@@ -1,10 +1,10 @@
 -- `table::same_name` meets its contract. The loop's invariant: the names agree at the bytes before byte k. Assumes nothing.
-use borrow.Author.Tests.{eq-eqb, ne-eqb}
 use Prim.Native.Nat.{_-_, _≤_}
-use native.Mathlib.Omega.{arith}
 use mathlib.Core.Path.{_≡_, sym}
 use mathlib.Core.Bool.{true}
+use native.Mathlib.Omega.{arith}
 use borrow.Author.Needs.{needs}
+use borrow.Author.Tests.{eq-eqb, ne-eqb}
 use Rattle.table.specs.Range.{allBelow}
 use Rattle.table.specs.RangeLaws.{all-none, all-more, all-stop}
 use Rattle.table.specs.Table.{sameByte, sameName}
@@ -12,34 +12,34 @@ use Rattle.table.proofs.same_name.Statement.{statement}
 use Rattle.table.proofs.same_name.Tie as tie
 
 abbrev Inv-loop : tie.InvT-loop
-Inv-loop table i j k₀ k = (k ≤ 11) × (allBelow (sameByte table i j) k ≡ true)
+Inv-loop table i j a b k₀ k = (k ≤ 11) × (allBelow (sameByte table i j) k ≡ true)
 
 abbrev μ-loop : tie.MeasureT-loop
-μ-loop table i j k₀ k = 11 - k
+μ-loop table i j a b k₀ k = 11 - k
+
+mul-a : tie.Need-mul-a Inv-loop μ-loop
+mul-a c = search needs
+
+add-a : tie.Need-add-a Inv-loop μ-loop
+add-a c = search needs
+
+mul-b : tie.Need-mul-b Inv-loop μ-loop
+mul-b c = search needs
+
+add-b : tie.Need-add-b Inv-loop μ-loop
+add-b c = search needs
 
 loop-holds : tie.Need-loop-holds Inv-loop μ-loop
 loop-holds c = (omega arith, all-none _)
 
-mul-if1 : tie.Need-mul-if1 Inv-loop μ-loop
-mul-if1 c = search needs
-
 add-if1 : tie.Need-add-if1 Inv-loop μ-loop
 add-if1 c = search needs
-
-add-if1-2 : tie.Need-add-if1-2 Inv-loop μ-loop
-add-if1-2 c = search needs
 
 shared-slice-read-if1 : tie.Need-shared-slice-read-if1 Inv-loop μ-loop
 shared-slice-read-if1 c = search needs
 
-mul-if1-2 : tie.Need-mul-if1-2 Inv-loop μ-loop
-mul-if1-2 c = search needs
-
-add-if1-3 : tie.Need-add-if1-3 Inv-loop μ-loop
-add-if1-3 c = search needs
-
-add-if1-4 : tie.Need-add-if1-4 Inv-loop μ-loop
-add-if1-4 c = search needs
+add-if1-2 : tie.Need-add-if1-2 Inv-loop μ-loop
+add-if1-2 c = search needs
 
 shared-slice-read-if1-2 : tie.Need-shared-slice-read-if1-2 Inv-loop μ-loop
 shared-slice-read-if1-2 c = search needs
@@ -75,14 +75,14 @@ same-name-spec =
     (tie.spec
     Inv-loop
     μ-loop
+    mul-a
+    add-a
+    mul-b
+    add-b
     loop-holds
-    mul-if1
     add-if1
-    add-if1-2
     shared-slice-read-if1
-    mul-if1-2
-    add-if1-3
-    add-if1-4
+    add-if1-2
     shared-slice-read-if1-2
     returns
     add-k
