@@ -4,3 +4,7 @@ pub mod Order
 pub mod OrderLaws
 pub mod Pairs
 pub mod PairLaws
+pub mod Tree
+pub mod Clauses
+pub mod Insertion
+pub mod Room
