@@ -1,0 +1,10 @@
+pub mod Lists
+pub mod ListLaws
+pub mod Order
+pub mod OrderLaws
+pub mod Pairs
+pub mod PairLaws
+pub mod Tree
+pub mod Clauses
+pub mod Insertion
+pub mod Room
