@@ -7,6 +7,7 @@ use native.Mathlib.Omega.{arith}
 use lib.ListN.{length}
 use lib.Dec.{eqb}
 use borrow.Author.Tests.{eq-eqb, ne-eqb, le-leb, lt-leb}
+use Rattle.octets.specs.declared.Ordering.{Ordering}
 use Rattle.octets.specs.Order.{ordering, isEqual}
 use Rattle.page.specs.Header.{maxLevels}
 use Rattle.page.specs.Page.{attributeAt, countAt, keyAt, numberAt, firstAtOrAbove}
@@ -37,13 +38,14 @@ module _ {b key : List ℕ} {p a n i : ℕ} (s : Searched b key p a n i) where
     unfolding entrySays
     says-child m h em = sym (says-entry ∙ simp (some, ← s .attribute, lt-leb 2 a h, ← em))
 
-    pub says-found : (m : ℕ) → 2 ≤ a → isEqual (ordering (keyAt b (length key) p i) key) ≡ true → m ≡ numberAt b (length key) p i → visit.Found (recordOf m) ≡ pageSays b key p
-    unfolding entrySays
-    says-found m h q em = sym (says-entry ∙ simp (some, ← s .attribute, le-leb 2 a h, q, ← em))
+    module _ (leaf : 2 ≤ a) {o : Ordering} (eo : o ≡ ordering (keyAt b (length key) p i) key) where
+      pub says-found : (m : ℕ) → isEqual o ≡ true → m ≡ numberAt b (length key) p i → visit.Found (recordOf m) ≡ pageSays b key p
+      unfolding entrySays
+      says-found m h em = sym (says-entry ∙ simp (some, ← s .attribute, le-leb 2 a leaf, ← eo, h, ← em))
 
-    pub says-other : 2 ≤ a → isEqual (ordering (keyAt b (length key) p i) key) ≡ false → visit.Absent ≡ pageSays b key p
-    unfolding entrySays
-    says-other h q = sym (says-entry ∙ simp (some, ← s .attribute, le-leb 2 a h, q))
+      pub says-other : isEqual o ≡ false → visit.Absent ≡ pageSays b key p
+      unfolding entrySays
+      says-other h = sym (says-entry ∙ simp (some, ← s .attribute, le-leb 2 a leaf, ← eo, h))
 
 -- a visit v that is w decides lookup with so many levels left, at least one
 pub lookup-step : (levels : ℕ) (b key : List ℕ) (p : ℕ) (v w : Visit) → (levels ≡ 0 → ⊥)

@@ -32,10 +32,13 @@ lookup-from-below t =
 abbrev claims : ℕ → lookup-from-lts.Claims
 claims t = (visit-page-reads.Asked, visit-page-reads.Learnt, lookup-from-below t, lookup-from.Post)
 
+abbrev Visited : ℕ → Type 0
+Visited t = lookup-from-lts.After-visit-page (claims t) (lookup-from-at t) lookup-from.Post
+
 -- what a visit that is w decides
-step : (t : ℕ) (c : lookup-from-lts.After-visit-page (claims t) (lookup-from-at t) lookup-from.Post) (w : Visit) → c .visit-page .result ≡ w
-    → decided (lookupFrom (c .before .before .before .before .args .levels - 1) (now (c .before .before .before .before .args .index)) (now (c .before .before .before .before .args .key))) (maxLevels - (c .before .before .before .before .args .levels - 1)) w
-    ≡ lookupFrom (c .before .before .before .before .args .levels) (now (c .before .before .before .before .args .index)) (now (c .before .before .before .before .args .key)) (c .before .before .before .before .args .page .0)
+step : (t : ℕ) (c : Visited t) (w : Visit) → c .visit-page .result ≡ w
+    → let args = c .before .before .before .before .args in let left = args .levels - 1 in
+    decided (lookupFrom left (now (args .index)) (now (args .key))) (maxLevels - left) w ≡ lookupFrom (args .levels) (now (args .index)) (now (args .key)) (args .page .0)
 step t c w e = lookup-step _ _ _ _ (c .visit-page .result) w (c .before .if1 .left) (c .visit-page .ensures) e
 
 lookup-from-returns : (t : ℕ) → lookup-from-lts.Need-returns (claims t) (lookup-from-at t) lookup-from.Post

@@ -11,11 +11,14 @@ use Rattle.lookup.specs.Lookup.{lookupRule}
 use Rattle.lookup.proofs.lookup.Statement.{statement}
 use Rattle.lookup.proofs.lookup.Tie as tie
 
+abbrev start : tie.Else1 → tie.Start
+start c = c .before .before .before .before
+
 -- what the two tests say where they are passed
-good : (c : tie.Else1) → headerGood (c .before .before .before .before .args .index .now) ≡ true
+good : (c : tie.Else1) → headerGood (start c .args .index .now) ≡ true
 good c = sym (c .before .header-good .ensures) ∙ not-false _ (c .if1 .left)
 
-whole : (c : tie.Else2) → length (c .before .before .before .before .before .before .args .key .now) ≡ keyLength (c .before .before .before .before .before .before .args .index .now)
+whole : (c : tie.Else2) → let args = start (c .before .before) .args in length (args .key .now) ≡ keyLength (args .index .now)
 whole c = c .if2 .left ∙ c .before .key-length .ensures
 
 header-good-requires : tie.Need-header-good-requires

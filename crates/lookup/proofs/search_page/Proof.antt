@@ -1,17 +1,24 @@
 -- `lookup::search_page` meets its contract: each answer is the rule's by the tests that lead to it.
 -- Assumes nothing.
-use mathlib.Core.Path.{sym, ap, _∙_}
+use mathlib.Core.Path.{sym, _∙_}
 use borrow.Author.Needs.{needs}
-use Rattle.octets.specs.Order.{isEqual}
+use Rattle.page.specs.declared.Page.{Page}
 use Rattle.lookup.specs.LookupLaws.{Searched, says-none, says-child, says-found, says-other}
 use Rattle.lookup.proofs.search_page.Statement.{statement}
 use Rattle.lookup.proofs.search_page.Tie as tie
 
+abbrev start : tie.After-first-at-or-above → tie.Start
+start c = c .before .before .before .before .before
+
+abbrev head : tie.After-first-at-or-above → Page
+head c = c .before .before .at .result
+
 -- what is known once the page is searched
 searched : (c : tie.After-first-at-or-above)
-    → Searched (c .before .before .before .before .before .args .index .now) (c .before .before .before .before .before .args .key .now)
-    (c .before .before .before .before .before .args .page .0) (c .before .before .at .result .attribute) (c .before .before .at .result .count) (c .first-at-or-above .result)
-searched c = record { attribute = c .before .before .at .ensures .0; count = c .before .before .at .ensures .1 .0; first = c .first-at-or-above .ensures .0 }
+    → Searched (start c .args .index .now) (start c .args .key .now) (start c .args .page .0) (head c .attribute) (head c .count) (c .first-at-or-above .result)
+searched c =
+    let head-is = c .before .before .at .ensures in
+    record { attribute = head-is .0; count = head-is .1 .0; first = c .first-at-or-above .ensures .0 }
 
 at-requires : tie.Need-at-requires
 at-requires c κs = search needs
@@ -29,7 +36,9 @@ child-requires : tie.Need-child-requires
 child-requires c κs = search needs
 
 returns-2 : tie.Need-returns-2
-returns-2 c = says-child (searched (c .before .before .before .before)) (c .before .before .before .if1 .left) (c .child .result .0) (c .before .if2 .taken) (c .child .ensures)
+returns-2 c =
+    let at-if1 = c .before .before .before in
+    says-child (searched (at-if1 .before)) (at-if1 .if1 .left) (c .child .result .0) (c .before .if2 .taken) (c .child .ensures)
 
 compare-entry-requires : tie.Need-compare-entry-requires
 compare-entry-requires c κs = search needs
@@ -41,10 +50,20 @@ record-number-requires : tie.Need-record-number-requires
 record-number-requires c κs = search needs
 
 returns-3 : tie.Need-returns-3
-returns-3 c = says-found (searched (c .before .before .before .before .before .before .before)) (c .before .before .before .before .before .before .if1 .left) (c .record-number .result .0) (c .before .before .before .before .if2 .left) (sym (c .before .before .is-equal .ensures ∙ ap isEqual (c .before .before .before .compare-entry .ensures)) ∙ c .before .if3 .taken) (c .record-number .ensures)
+returns-3 c =
+    let at-equal = c .before .before in
+    let at-if2 = at-equal .before .before in
+    let at-if1 = at-if2 .before .before in
+    says-found (searched (at-if1 .before)) (at-if1 .if1 .left) (at-if2 .if2 .left) (at-equal .before .compare-entry .ensures) (c .record-number .result .0)
+    (sym (at-equal .is-equal .ensures) ∙ c .before .if3 .taken) (c .record-number .ensures)
 
 returns-4 : tie.Need-returns-4
-returns-4 c = says-other (searched (c .before .before .before .before .before .before)) (c .before .before .before .before .before .if1 .left) (c .before .before .before .if2 .left) (sym (c .before .is-equal .ensures ∙ ap isEqual (c .before .before .compare-entry .ensures)) ∙ c .if3 .left)
+returns-4 c =
+    let at-equal = c .before in
+    let at-if2 = at-equal .before .before in
+    let at-if1 = at-if2 .before .before in
+    says-other (searched (at-if1 .before)) (at-if1 .if1 .left) (at-if2 .if2 .left) (at-equal .before .compare-entry .ensures)
+    (sym (at-equal .is-equal .ensures) ∙ c .if3 .left)
 
 pub search-page-spec : {M : Type 1} → statement M
 search-page-spec =

@@ -1,7 +1,6 @@
 -- `lookup::visit_page` meets its contract: the page is searched only where it is good, and so lies within the buffer.
 -- Assumes nothing.
 use mathlib.Core.Path.{_≡_, sym, _∙_}
-use mathlib.Core.Path.{sym, _∙_}
 use native.Mathlib.Omega.{arith}
 use lib.ListN.{length}
 use borrow.Author.Tests.{not-true, not-false}
@@ -13,11 +12,13 @@ use Rattle.lookup.specs.Lookup.{visitRule}
 use Rattle.lookup.proofs.visit_page.Statement.{statement}
 use Rattle.lookup.proofs.visit_page.Tie as tie
 
+abbrev start : tie.After-page-good → tie.Start
+start c = c .before .before .before .before
+
 -- what the page's test says
-tested : (c : tie.After-page-good)
-    → c .page-good .result ≡ pageGood (c .before .before .before .before .args .index .now) (length (c .before .before .before .before .args .key .now))
-    (fileSize (c .before .before .before .before .args .index .now)) (c .before .before .before .before .args .page .0) (c .before .before .before .before .args .first) (c .before .before .before .before .args .last)
-tested c = c .page-good .ensures ∙ rw (c .before .file-size .ensures)
+tested : (c : tie.After-page-good) → let args = start c .args in
+    c .page-good .result ≡ pageGood (args .index .now) (length (args .key .now)) (fileSize (args .index .now)) (args .page .0) (args .first) (args .last)
+tested c = cc (c .page-good .ensures, c .before .file-size .ensures)
 
 file-size-requires : tie.Need-file-size-requires
 file-size-requires c κs = good-header _ (c .before .before .pre .0) .long
@@ -31,9 +32,9 @@ returns c = rw (sym (tested (c .before)) ∙ not-true _ (c .if1 .taken), visitRu
 
 search-page-requires : tie.Need-search-page-requires
 search-page-requires c κs =
-    let args = c .before .before .before .before .before .args in
-    let h = good-header _ (c .before .before .before .before .before .pre .0) in
-    within-page (args .index .now) (length (args .key .now)) (fileSize (args .index .now)) (args .page .0) (args .first) (args .last) (omega (arith, c .before .before .before .before .before .pre .1)) (h .within) (sym (tested (c .before)) ∙ not-false _ (c .if1 .left))
+    let pre = start (c .before) .pre in
+    let h = good-header _ (pre .0) in
+    within-page _ _ _ _ _ _ (omega (arith, pre .1)) (h .within) (sym (tested (c .before)) ∙ not-false _ (c .if1 .left))
 
 returns-2 : tie.Need-returns-2
 unfolding visitRule
