@@ -8,3 +8,9 @@ pub mod Tree
 pub mod Clauses
 pub mod Insertion
 pub mod Room
+pub mod Ordered
+pub mod SplitLaws
+pub mod InsertPairs
+pub mod InsertOrdered
+pub mod Exact
+pub mod ClauseLaws
