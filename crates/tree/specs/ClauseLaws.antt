@@ -23,7 +23,7 @@ Ends {K} under x = (a : K) → lastKey a (under x) ≡ x .0
 -- where counts are 1 or more, there is a leaf pair under every entry
 sized-level : {K C : Type 0} (S : K × C → Type 0) (under : K × C → List (K × ℕ)) → ((x : K × C) → S x → NonEmpty (under x)) →
     (xs : List (K × C)) → 0 < length xs → All S xs → NonEmpty (concatMap under xs)
-sized-level S under ok [] i s = let z : ⊥ = omega arith in absurd z
+sized-level S under ok [] i s = absurd (omega arith)
 sized-level S under ok (x ∷ xs) i s = nonEmpty-left (under x) (concatMap under xs) (ok x (s .0))
 
 pub sized-nonEmpty : {K : Type 0} (cap h : ℕ) (x : Entry K h) → SizedUnder cap h x → NonEmpty (pairsUnder h x)

@@ -14,3 +14,6 @@ pub mod InsertPairs
 pub mod InsertOrdered
 pub mod Exact
 pub mod ClauseLaws
+pub mod InsertSized
+pub mod InsertPages
+pub mod InsertNeeds
