@@ -21,13 +21,23 @@ abbrev pub newPages : (ℕ → ℕ) → ℕ → List ℕ
 newPages name zero = []
 newPages name (suc n) = name n ∷ newPages name n
 
+-- every number stands in a list at most once; no new page stands in it; new pages differ
+abbrev pub Distinct : List ℕ → Type 0
+Distinct l = (z : ℕ) → occ z l ≤ 1
+
+abbrev pub Unused : (ℕ → ℕ) → List ℕ → Type 0
+Unused name l = (i : ℕ) → occ (name i) l ≡ 0
+
+abbrev pub Injective : (ℕ → ℕ) → Type 0
+Injective name = (i j : ℕ) → name i ≡ name j → i ≡ j
+
 -- new pages that are not in a list are none of its members, and names that differ make new pages that differ
-pub newPages-apart : (name : ℕ → ℕ) (l : List ℕ) → ((i : ℕ) → occ (name i) l ≡ 0) → (z n : ℕ) → 0 < occ z l → occ z (newPages name n) ≡ 0
+pub newPages-apart : (name : ℕ → ℕ) (l : List ℕ) → Unused name l → (z n : ℕ) → 0 < occ z l → occ z (newPages name n) ≡ 0
 newPages-apart name l f z zero i = refl
 newPages-apart name l f z (suc n) i =
     rw (ne-eqb z (name n) (λ e. occ-differ (name n) z l (f n) i (sym e))) (omega (arith, newPages-apart name l f z n i))
 
-pub newPages-fresh : (name : ℕ → ℕ) → ((i j : ℕ) → name i ≡ name j → i ≡ j) → (m n : ℕ) → n ≤ m → occ (name m) (newPages name n) ≡ 0
+pub newPages-fresh : (name : ℕ → ℕ) → Injective name → (m n : ℕ) → n ≤ m → occ (name m) (newPages name n) ≡ 0
 newPages-fresh name inj m zero l = refl
 newPages-fresh name inj m (suc n) l =
     rw (ne-eqb (name m) (name n) (λ e. let d : m ≡ n = inj m n e in omega arith)) (omega (arith, newPages-fresh name inj m n (omega arith)))

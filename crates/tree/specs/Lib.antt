@@ -17,3 +17,7 @@ pub mod ClauseLaws
 pub mod InsertSized
 pub mod InsertPages
 pub mod InsertNeeds
+pub mod Store
+pub mod StoreSteps
+pub mod StoreLaws
+pub mod StoreLookupLaws
