@@ -21,3 +21,4 @@ pub mod Store
 pub mod StoreSteps
 pub mod StoreLaws
 pub mod StoreLookupLaws
+pub mod StoreInsertLaws
