@@ -22,3 +22,5 @@ pub mod StoreSteps
 pub mod StoreLaws
 pub mod StoreLookupLaws
 pub mod StoreInsertLaws
+pub mod Relinking
+pub mod InsertLevels
