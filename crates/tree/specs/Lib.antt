@@ -24,3 +24,5 @@ pub mod StoreLookupLaws
 pub mod StoreInsertLaws
 pub mod Relinking
 pub mod InsertLevels
+pub mod LinkLaws
+pub mod InsertLinks
