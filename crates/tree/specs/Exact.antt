@@ -1,6 +1,6 @@
 -- Laws: exact trees, in which the key above a page is the page's own last key, and that an insertion keeps them so. Cited by the laws of sound indexes.
 -- Where keys above are ceilings alone (change request K1), nothing but this file and its one field of a sound index goes. Assumes nothing.
-use mathlib.Core.Path.{_≡_, refl, sym, ap, _∙_}
+use mathlib.Core.Path.{_≡_, sym, ap, _∙_}
 use mathlib.Core.List.{List, [], _∷_, _++_}
 use Prim.Native.Nat.{ℕ, zero, suc, _<_}
 use lib.ListN.{length, take, drop, take-append-drop}

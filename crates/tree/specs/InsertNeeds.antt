@@ -13,7 +13,7 @@ use Rattle.basis.specs.Tests.{either}
 use Rattle.tree.specs.Order.{Order, larger}
 use Rattle.tree.specs.Pairs.{lastKey}
 use Rattle.tree.specs.Tree.{Child, Entry, Tree}
-use Rattle.tree.specs.Clauses.{least, SizedUnder, Sized}
+use Rattle.tree.specs.Clauses.{SizedUnder, Sized}
 use Rattle.tree.specs.Insertion.{Replacement, splitIfOver, place, reroot, insertUnder, insertEntries, insert}
 use Rattle.tree.specs.Room.{extendRun, choose, atChosen, runUnder, run, needs, levelsAfter}
 

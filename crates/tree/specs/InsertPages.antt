@@ -13,7 +13,7 @@ use Rattle.tree.specs.ListLaws.{concatMap-append, occ-append, occ-differ
 use Rattle.tree.specs.Order.{Order, larger}
 use Rattle.tree.specs.Pairs.{lastKey}
 use Rattle.tree.specs.Tree.{Page, Child, Entry, Tree, pagesUnder, pages}
-use Rattle.tree.specs.Insertion.{Replacement, half, splitIfOver, firstPair, place, insertAmong, grownPages, reroot, insertUnder, insertEntries, insert}
+use Rattle.tree.specs.Insertion.{Replacement, half, splitIfOver, firstPair, place, grownPages, reroot, insertUnder, insertEntries, insert}
 use Rattle.tree.specs.SplitLaws.{splitIfOver-nonEmpty}
 
 -- the first n new pages

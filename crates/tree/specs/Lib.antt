@@ -26,3 +26,9 @@ pub mod Relinking
 pub mod InsertLevels
 pub mod LinkLaws
 pub mod InsertLinks
+pub mod Book
+pub mod Index
+pub mod SoundIndex
+pub mod IndexLaws
+pub mod BookTheorem
+pub mod Top

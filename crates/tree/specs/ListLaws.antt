@@ -4,10 +4,9 @@ use mathlib.Core.List.{List, [], _∷_, _++_, append-assoc, map}
 use Prim.Native.Nat.{ℕ, zero, suc, _+_, _≤_, _<_}
 use native.Mathlib.Omega.{arith}
 use lib.ListN.{length, take, drop}
-use lib.Dec.{eqb}
 use borrow.Author.Tests.{eq-eqb}
 use Rattle.basis.specs.Lists.{All}
-use Rattle.tree.specs.Lists.{NonEmpty, concatMap, countIf, occ}
+use Rattle.tree.specs.Lists.{NonEmpty, concatMap, occ}
 
 -- what holds of every member
 pub all-unit : {A : Type 0} (xs : List A) → All (λ x. Unit {0}) xs
