@@ -91,8 +91,10 @@ module _ {K : Type 0} (O : Order K) (fits : K → Bool) where
   bookFinal (c ∷ cs) [] book = book
   bookFinal (c ∷ cs) (f ∷ fs) book = bookFinal cs fs (bookAfter c f book)
 
-  -- "one claim about the whole list", of calls that answer and change a state; `leaves` are the state's leaf pairs, `full` is the rule for 30
-  pub record BookClaim {B : Type 0} (answer : Call K → B → Answer) (next : Call K → B → B) (leaves : B → List (K × ℕ)) (full : Call K → B → Bool)
+  -- "one claim about the whole list", of calls that answer and change a state;
+  -- `leaves` are the state's leaf pairs, `full` is the rule for 30
+  pub record BookClaim {B : Type 0} (answer : Call K → B → Answer) (next : Call K → B → B) (leaves : B → List (K × ℕ))
+      (full : Call K → B → Bool)
       (cs : List (Call K)) (b : B) : Type 0 where
     -- "every call answers so, never 24 or 25"
     pub answers : resultsOf answer next cs b ≡ bookAnswers cs (noRooms (resultsOf answer next cs b)) (leaves b)

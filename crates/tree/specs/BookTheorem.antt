@@ -1,12 +1,13 @@
--- Laws: demand 3. What holds of one call on a sound index holds of every list of calls, on any state that reads as an index. Cited by the crate of
--- the book, where the state is the buffer. Assumes nothing.
+-- Laws: demand 3. What holds of one call on a sound index holds of every list of calls, on any state that reads
+-- as an index. Cited by the crate of the book, where the state is the buffer. Assumes nothing.
 use mathlib.Core.Path.{_≡_, refl, sym, ap, _∙_}
 use mathlib.Core.Bool.{Bool}
 use mathlib.Core.List.{List, [], _∷_}
 use Prim.Native.Nat.{ℕ, _<_}
 use Rattle.basis.specs.Lists.{All}
 use Rattle.tree.specs.Order.{Order}
-use Rattle.tree.specs.Book.{Call, insertion, lookupOf, Answer, noRoom, noRooms, resultsOf, finalOf, bookAnswer, bookAfter, bookAnswers, bookFinal, BookClaim}
+use Rattle.tree.specs.Book.{Call, insertion, lookupOf, Answer, noRoom, noRooms, resultsOf, finalOf, bookAnswer, bookAfter}
+use Rattle.tree.specs.Book.{bookAnswers, bookFinal, BookClaim}
 use Rattle.tree.specs.Index.{Index, held, Setting, full, answer, next}
 use Rattle.tree.specs.SoundIndex.{SoundIndex}
 use Rattle.tree.specs.IndexLaws.{answer-book, answer-room, next-book}
@@ -17,8 +18,8 @@ bookAfter-same : {K : Type 0} (O : Order K) (fits : K → Bool) (c : Call K) (f 
 bookAfter-same O fits (insertion k r) f g book e = rw e
 bookAfter-same O fits (lookupOf k) f g book e = refl
 
--- B are the states, each read as an index; Inv is what every call keeps, and Ok what is asked of a call (a record number of four bytes);
--- a call's answer, its next state and its rule for 30 are those of the index that the state reads as
+-- B are the states, each read as an index; Inv is what every call keeps, and Ok what is asked of a call (a record number of four
+-- bytes); a call's answer, its next state and its rule for 30 are those of the index that the state reads as
 module _ {K B : Type 0} (s : Setting K) (two : 1 < s .capacity) (read : B → Index K)
     (answerB : Call K → B → Answer) (nextB : Call K → B → B) (fullB : Call K → B → Bool) (Inv : B → Type 0) (Ok : Call K → Type 0)
     (sound : (b : B) → Inv b → SoundIndex s (read b))
@@ -41,20 +42,23 @@ module _ {K B : Type 0} (s : Setting K) (two : 1 < s .capacity) (read : B → In
 
   one-next-room : (c : Call K) (b : B) → Ok c → Inv b → bookAfter (s .order) (s .fits) c (fullB c b) (leaves b) ≡ leaves (nextB c b)
   one-next-room c b o i =
-      bookAfter-same (s .order) (s .fits) c (fullB c b) (noRoom (answerB c b)) (leaves b) (one-room c b o i ∙ sym (one-answer c b o i)) ∙ one-next c b o i
+      bookAfter-same (s .order) (s .fits) c (fullB c b) (noRoom (answerB c b)) (leaves b) (one-room c b o i ∙ sym (one-answer c b o i))
+      ∙ one-next c b o i
 
   -- every list
   list-answers : (cs : List (Call K)) → All Ok cs → (b : B) → Inv b →
       resultsOf answerB nextB cs b ≡ bookAnswers (s .order) (s .fits) cs (noRooms (resultsOf answerB nextB cs b)) (leaves b)
   list-answers [] o b i = refl
   list-answers (c ∷ cs) o b i =
-      rw (one-answer c b (o .0) i, one-next c b (o .0) i) (ap (λ l. answerB c b ∷ l) (list-answers cs (o .1) (nextB c b) (keep c b (o .0) i)))
+      rw (one-answer c b (o .0) i, one-next c b (o .0) i)
+      (ap (λ l. answerB c b ∷ l) (list-answers cs (o .1) (nextB c b) (keep c b (o .0) i)))
 
   list-room : (cs : List (Call K)) → All Ok cs → (b : B) → Inv b →
       resultsOf answerB nextB cs b ≡ bookAnswers (s .order) (s .fits) cs (resultsOf fullB nextB cs b) (leaves b)
   list-room [] o b i = refl
   list-room (c ∷ cs) o b i =
-      rw (one-room c b (o .0) i, one-next-room c b (o .0) i) (ap (λ l. answerB c b ∷ l) (list-room cs (o .1) (nextB c b) (keep c b (o .0) i)))
+      rw (one-room c b (o .0) i, one-next-room c b (o .0) i)
+      (ap (λ l. answerB c b ∷ l) (list-room cs (o .1) (nextB c b) (keep c b (o .0) i)))
 
   list-pairs : (cs : List (Call K)) → All Ok cs → (b : B) → Inv b →
       leaves (finalOf nextB cs b) ≡ bookFinal (s .order) (s .fits) cs (noRooms (resultsOf answerB nextB cs b)) (leaves b)

@@ -1,4 +1,5 @@
--- Rules: an index as a tree with its file size, the rule for refusal 30, and the calls on it. The index in a buffer is read as such an index.
+-- Rules: an index as a tree with its file size, the rule for refusal 30, and the
+-- calls on it. The index in a buffer is read as such an index.
 use mathlib.Core.Bool.{Bool, false, cond, _||_}
 use mathlib.Core.List.{List, []}
 use Prim.Native.Nat.{ℕ, _+_, _*_}
@@ -41,8 +42,8 @@ fresh = record { height = 0; tree = (pageSize, []); size = 2 * pageSize }
 abbrev pub grown : {K : Type 0} → ℕ → Grown K → Index K
 grown size g = record { height = g .0; tree = g .1; size = newPage size (g .2) }
 
--- what an index is kept by: the order of keys, which keys are of the right length, the capacity of a page, and the limits: F must pass neither
--- "the buffer or 1,048,576", and levels not 11
+-- what an index is kept by: the order of keys, which keys are of the right length, the capacity of a
+-- page, and the limits: F must pass neither "the buffer or 1,048,576", and levels not 11
 pub record Setting (K : Type 0) : Type 0 where
   pub order : Order K
   pub fits : K → Bool

@@ -1,5 +1,5 @@
--- Laws: a fresh index is sound, every call keeps a sound index sound and linked, and answers and changes it as the book does. Cited by the claim about
--- lists of calls and by the laws of bytes. Assumes nothing.
+-- Laws: a fresh index is sound, every call keeps a sound index sound and linked, and answers and changes it as the
+-- book does. Cited by the claim about lists of calls and by the laws of bytes. Assumes nothing.
 use mathlib.Core.Path.{_≡_, refl, sym}
 use mathlib.Core.Bool.{Bool, true, false, not, _||_}
 use mathlib.Core.Option.{Option, none, some}
@@ -23,12 +23,15 @@ use Rattle.tree.specs.InsertSized.{insert-sized}
 use Rattle.tree.specs.InsertPages.{newPages, Distinct, Unused, insert-pages}
 use Rattle.tree.specs.InsertNeeds.{insert-needs}
 use Rattle.tree.specs.InsertLinks.{insert-all-linked}
-use Rattle.tree.specs.Book.{Call, insertion, lookupOf, Answer, accepted, refusedIf, isPresent, verdict, noRoom, isAccepted, bookAnswer, bookAfter}
-use Rattle.tree.specs.Index.{pageSize, noPage, newPage, Index, held, fresh, Setting, outOfRoom, full, answer, inserted, next, nextLinks}
+use Rattle.tree.specs.Book.{Call, insertion, lookupOf, Answer, accepted, refusedIf, isPresent, verdict, noRoom, isAccepted}
+use Rattle.tree.specs.Book.{bookAnswer, bookAfter}
+use Rattle.tree.specs.Index.{pageSize, noPage, newPage, Index, held, fresh, Setting, outOfRoom, full, answer, inserted, next}
+use Rattle.tree.specs.Index.{nextLinks}
 use Rattle.tree.specs.SoundIndex.{PagesOnce, SoundIndex, LinkedIndex}
 
 -- the verdict on an insertion: told whether it was 30 it says the same, and it is yes only where no refusal's test holds
-verdict-room : (fits : Bool) (r : ℕ) (held : Option ℕ) (full : Bool) → verdict fits r held (noRoom (verdict fits r held full)) ≡ verdict fits r held full
+verdict-room : (fits : Bool) (r : ℕ) (held : Option ℕ) (full : Bool) →
+    verdict fits r held (noRoom (verdict fits r held full)) ≡ verdict fits r held full
 verdict-room fits r held full = go (not fits) (eqb r 0) (isPresent held) full
   where
     four : Bool → Bool → Bool → Bool → Answer
@@ -47,13 +50,15 @@ pub record Acceptable (fits : Bool) (r : ℕ) (held : Option ℕ) (full : Bool) 
   pub new : held ≡ none
   pub room : full ≡ false
 
-pub accepted-acceptable : (fits : Bool) (r : ℕ) (held : Option ℕ) (full : Bool) → isAccepted (verdict fits r held full) ≡ true → Acceptable fits r held full
+pub accepted-acceptable : (fits : Bool) (r : ℕ) (held : Option ℕ) (full : Bool) → isAccepted (verdict fits r held full) ≡ true →
+    Acceptable fits r held full
 accepted-acceptable false r held full e = contra e refl
 accepted-acceptable true r held full e = either (eqb r 0)
     (λ z. contra (rw z at e) refl)
     (λ z. go held full (omega (arith, eqb-false r 0 z)) (rw z at e))
   where
-    go : (o : Option ℕ) (b : Bool) → 0 < r → isAccepted (refusedIf (isPresent o) 29 (refusedIf b 30 accepted)) ≡ true → Acceptable true r o b
+    go : (o : Option ℕ) (b : Bool) → 0 < r → isAccepted (refusedIf (isPresent o) 29 (refusedIf b 30 accepted)) ≡ true →
+        Acceptable true r o b
     go (some s) b p q = contra q refl
     go none true p q = contra q refl
     go none false p q = record { fitting = refl; positive = p; new = refl; room = refl }
@@ -72,7 +77,8 @@ newPages-unaligned size zero z a o = refl
 newPages-unaligned size (suc n) z a o =
     rw (ne-eqb z (newPage size n) (λ e. o (omega arith))) (omega (arith, newPages-unaligned size n z a o))
 
-newPages-once : (size n z : ℕ) → size % pageSize ≡ 0 → z % pageSize ≡ 0 → size ≤ z → z < newPage size n → occ z (newPages (newPage size) n) ≡ 1
+newPages-once : (size n z : ℕ) → size % pageSize ≡ 0 → z % pageSize ≡ 0 → size ≤ z → z < newPage size n →
+    occ z (newPages (newPage size) n) ≡ 1
 newPages-once size zero z a d l m = absurd (omega arith)
 newPages-once size (suc n) z a d l m = either (eqb z (newPage size n))
     (λ e. rw e (omega (arith, newPages-beyond size n z (omega (arith, eqb-true z (newPage size n) e)))))
@@ -103,7 +109,7 @@ fresh-sound s two room levels = record {
   ordered = tt;
   exact = tt;
   sized = (omega arith, omega arith, tt);
-  numbered = record {
+  pagesOnce = record {
     positive = omega arith;
     aligned = refl;
     header = refl;
@@ -112,8 +118,8 @@ fresh-sound s two room levels = record {
     beyond = λ z a. rw (ne-eqb z pageSize (omega arith)) (omega arith);
   };
   records = tt;
-  small = omega arith;
-  low = omega arith;
+  withinSize = omega arith;
+  withinLevels = omega arith;
 }
 
 module _ {K : Type 0} (s : Setting K) (two : 1 < s .capacity) where
@@ -123,14 +129,16 @@ module _ {K : Type 0} (s : Setting K) (two : 1 < s .capacity) where
       let h : ℕ = i .height in
       let name : ℕ → ℕ = newPage (i .size) in
       let g : Grown K = insert (s .order) (s .capacity) name k r h (i .tree) in
-      let p : PagesOnce i = d .numbered in
+      let p : PagesOnce i = d .pagesOnce in
       let ordered : Rooted (g .0) (g .1) × Ordered (s .order) (g .0) (g .1) =
       insert-ordered (s .order) (s .capacity) (omega arith) name k r h (i .tree) (d .rooted) (d .ordered) f in
-      let needed : (g .2 ≡ needs (s .order) (s .capacity) k h (i .tree)) × (suc (g .0) ≡ levelsAfter (s .order) (s .capacity) k h (i .tree)) =
+      let needed : (g .2 ≡ needs (s .order) (s .capacity) k h (i .tree))
+      × (suc (g .0) ≡ levelsAfter (s .order) (s .capacity) k h (i .tree)) =
       insert-needs (s .order) (s .capacity) name k r h (i .tree) (omega arith) (d .sized) in
       let limit : ℕ = newPage (i .size) (needs (s .order) (s .capacity) k h (i .tree)) in
       let levels : ℕ = levelsAfter (s .order) (s .capacity) k h (i .tree) in
-      let rooms : (ltb (s .maxSize) limit ≡ false) × (ltb (s .maxLevels) levels ≡ false) = room-both (ltb (s .maxSize) limit) (ltb (s .maxLevels) levels) room in
+      let rooms : (ltb (s .maxSize) limit ≡ false) × (ltb (s .maxLevels) levels ≡ false) =
+      room-both (ltb (s .maxSize) limit) (ltb (s .maxLevels) levels) room in
       let counts : (z : ℕ) → occ z (pages (g .0) (g .1)) ≡ occ z (pages h (i .tree)) + occ z (newPages name (g .2)) =
       λ z. insert-pages (s .order) (s .capacity) name k r z h (i .tree) in
       record {
@@ -138,12 +146,18 @@ module _ {K : Type 0} (s : Setting K) (two : 1 < s .capacity) where
         ordered = ordered .1;
         exact = insert-exact (s .order) (s .capacity) (omega arith) name k r h (i .tree) (d .rooted) (d .ordered) (d .exact);
         sized = insert-sized (s .order) (s .capacity) two name k r h (i .tree) (d .sized);
-        numbered = record {
+        pagesOnce = record {
           positive = omega (arith, p .positive);
           aligned = omega (arith, p .aligned);
           header = omega (arith, counts 0, p .header, newPages-below (i .size) (g .2) 0 (p .positive));
           once = λ z a b m. either (ltb z (i .size))
-              (λ e. omega (arith, counts z, p .once z a (ltb-true z (i .size) e) m, newPages-below (i .size) (g .2) z (ltb-true z (i .size) e)))
+              (λ e. omega (
+                arith,
+                counts z,
+                p .once z a (ltb-true z (i .size) e) m,
+                newPages-below (i .size) (g .2) z
+                    (ltb-true z (i .size) e),
+              ))
               (λ e. omega (
                 arith,
                 counts z,
@@ -155,8 +169,8 @@ module _ {K : Type 0} (s : Setting K) (two : 1 < s .capacity) where
         };
         records = rw (insert-pairs (s .order) (s .capacity) name k r h (i .tree) (d .rooted) (d .ordered))
             (insertPair-all (s .order) (λ e. 0 < e .1) k r (held i) pos (d .records));
-        small = omega (arith, needed .0, ltb-false (s .maxSize) limit (rooms .0));
-        low = omega (arith, needed .1, ltb-false (s .maxLevels) levels (rooms .1));
+        withinSize = omega (arith, needed .0, ltb-false (s .maxSize) limit (rooms .0));
+        withinLevels = omega (arith, needed .1, ltb-false (s .maxLevels) levels (rooms .1));
       }
 
   -- Theorem: a call keeps an index sound
@@ -172,18 +186,23 @@ module _ {K : Type 0} (s : Setting K) (two : 1 < s .capacity) where
   pub next-linked : (c : Call K) (i : Index K) (l : Links) → SoundIndex s i → LinkedIndex l i → LinkedIndex (nextLinks s c i l) (next s c i)
   next-linked (lookupOf k) i l d c = c
   next-linked (insertion k r) i l d c = either (isAccepted (answer s (insertion k r) i))
-      (λ e. let p : PagesOnce i = d .numbered in
+      (λ e. let p : PagesOnce i = d .pagesOnce in
       let g : SoundIndex s (inserted s k r i) = rw e at (next-sound (insertion k r) i d) in
       rw e (insert-all-linked (s .order) (s .capacity) (omega arith) (newPage (i .size)) (λ a b u. omega arith)
       noPage (λ a u. omega (arith, p .aligned)) k r (i .height) (i .tree) (d .sized)
       (pages-distinct i p) (newPage-unused i p) (p .unaligned noPage (λ u. omega arith)) l
-      (pages-distinct (inserted s k r i) (g .numbered)) c))
+      (pages-distinct (inserted s k r i) (g .pagesOnce)) c))
       (λ e. rw e c)
 
   -- Theorem: a call is answered as the book answers it, told whether that is 30; and by the rule for 30
-  pub answer-book : (c : Call K) (i : Index K) → SoundIndex s i → bookAnswer (s .order) (s .fits) c (noRoom (answer s c i)) (held i) ≡ answer s c i
+  pub answer-book : (c : Call K) (i : Index K) → SoundIndex s i →
+      bookAnswer (s .order) (s .fits) c (noRoom (answer s c i)) (held i) ≡ answer s c i
   answer-book (lookupOf k) i d =
-      rw (lookup-find (s .order) k (i .height) (i .tree) (d .ordered), find-get (s .order) k (held i) (ordered-ascending (s .order) (i .height) (i .tree) (d .ordered)))
+      rw (
+        lookup-find (s .order) k (i .height) (i .tree) (d .ordered),
+        find-get (s .order) k (held i)
+            (ordered-ascending (s .order) (i .height) (i .tree) (d .ordered)),
+      )
   answer-book (insertion k r) i d =
       rw (← find-get (s .order) k (held i) (ordered-ascending (s .order) (i .height) (i .tree) (d .ordered)))
       (verdict-room (s .fits k) r (find (s .order) k (held i)) (outOfRoom s k i))
@@ -194,7 +213,8 @@ module _ {K : Type 0} (s : Setting K) (two : 1 < s .capacity) where
       rw (← find-get (s .order) k (held i) (ordered-ascending (s .order) (i .height) (i .tree) (d .ordered)))
 
   -- Theorem: the leaf pairs after a call are the book after it
-  pub next-book : (c : Call K) (i : Index K) → SoundIndex s i → bookAfter (s .order) (s .fits) c (noRoom (answer s c i)) (held i) ≡ held (next s c i)
+  pub next-book : (c : Call K) (i : Index K) → SoundIndex s i →
+      bookAfter (s .order) (s .fits) c (noRoom (answer s c i)) (held i) ≡ held (next s c i)
   next-book (lookupOf k) i d = refl
   next-book (insertion k r) i d =
       rw (answer-book (insertion k r) i d)

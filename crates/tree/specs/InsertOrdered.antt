@@ -15,7 +15,8 @@ use Rattle.tree.specs.OrderLaws.{le-refl, lt-le, larger-left, larger-rig
 use Rattle.tree.specs.Pairs.{lastKey, find, insertPair, Below, Above}
 use Rattle.tree.specs.PairLaws.{lastKey-all, insertPair-all, insertPair-nonEmpty, below-up, above-down, between, Absent, find-absent}
 use Rattle.tree.specs.Tree.{Page, Child, Entry, Tree, pairsUnder, pairs}
-use Rattle.tree.specs.Insertion.{Replacement, half, splitIfOver, firstPair, place, insertAmong, reroot, insertUnder, insertEntries, insert}
+use Rattle.tree.specs.Insertion.{Replacement, half, splitIfOver, firstPair, place, insertAmong, reroot, insertUnder, insertEntries}
+use Rattle.tree.specs.Insertion.{insert}
 use Rattle.tree.specs.Ordered.{Rooted, Separated, OrderedUnder, Ordered, ordered-ascending}
 use Rattle.tree.specs.SplitLaws.{underPage, splitIfOver-nonEmpty, lower-nonEmpty, upper-nonEmpty}
 use Rattle.tree.specs.InsertPairs.{place-pairs, insertUnder-pairs, insertEntries-pairs, root-pairs}
@@ -26,7 +27,8 @@ module _ {K C : Type 0} (O : Order K) (G : K × C → Type 0) (under : K × C �
   Before xs ys = All (λ x. Above O (x .0) (concatMap under ys)) xs
 
   -- separated entries, joined and taken apart
-  separated-append : (xs ys : List (K × C)) → Separated O G under xs → Separated O G under ys → Before xs ys → Separated O G under (xs ++ ys)
+  separated-append : (xs ys : List (K × C)) → Separated O G under xs → Separated O G under ys → Before xs ys →
+      Separated O G under (xs ++ ys)
   separated-append [] ys c d o = d
   separated-append (x ∷ xs) ys c d o = (
     record {
@@ -46,7 +48,8 @@ module _ {K C : Type 0} (O : Order K) (G : K × C → Type 0) (under : K × C �
       good = c .0 .good;
       nonEmpty = c .0 .nonEmpty;
       ceiling = c .0 .ceiling;
-      apart = all-left (λ e. Lt O (x .0) (e .0)) (concatMap under xs) (concatMap under ys) (rw (concatMap-append under xs ys) at (c .0 .apart));
+      apart = all-left (λ e. Lt O (x .0) (e .0)) (concatMap under xs) (concatMap under ys)
+          (rw (concatMap-append under xs ys) at (c .0 .apart));
     },
     separated-left xs ys (c .1),
   )
@@ -165,7 +168,8 @@ module _ {K : Type 0} (O : Order K) (cap : ℕ) (pos : 0 < cap) (name : ℕ → 
   insertPair-below a xs u =
       insertPair-all O (λ z. Le O (z .0) (larger O a k)) k r xs (larger-right O a k) (below-up O a (larger O a k) (larger-left O a k) xs u)
 
-  insertUnder-ordered : (h : ℕ) (x : Entry K h) (n : ℕ) → OrderedUnder O h x → Below O (x .0) (pairsUnder h x) → Absent O k (pairsUnder h x) →
+  insertUnder-ordered : (h : ℕ) (x : Entry K h) (n : ℕ) → OrderedUnder O h x → Below O (x .0) (pairsUnder h x) →
+      Absent O k (pairsUnder h x) →
       Separated O (OrderedUnder O h) (pairsUnder h) (insertUnder O cap name k r h x n .0)
       × Below O (larger O (x .0) k) (insertUnder O cap name k r h x n .0)
   insertUnder-ordered zero x n g u w = (
@@ -211,7 +215,8 @@ module _ {K : Type 0} (O : Order K) (cap : ℕ) (pos : 0 < cap) (name : ℕ → 
 
   -- Theorem: a tree is ordered after the insertion of an absent key
   pub insert-ordered : (h : ℕ) (t : Tree K h) → Rooted h t → Ordered O h t → find O k (pairs h t) ≡ none →
-      Rooted (insert O cap name k r h t .0) (insert O cap name k r h t .1) × Ordered O (insert O cap name k r h t .0) (insert O cap name k r h t .1)
+      Rooted (insert O cap name k r h t .0) (insert O cap name k r h t .1)
+      × Ordered O (insert O cap name k r h t .0) (insert O cap name k r h t .1)
   insert-ordered h t s o f =
       let w : Absent O k (pairs h t) = find-absent O k (pairs h t) (ordered-ascending O h t o) f in
       let q : Replacement K (Child K h) = insertEntries O cap name k r h (t .1) 0 in

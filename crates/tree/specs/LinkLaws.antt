@@ -1,5 +1,5 @@
--- Laws: a level whose pages name their neighbours does so again after a new page was linked behind one of them. Cited by the laws of links after an
--- insertion. Assumes nothing.
+-- Laws: a level whose pages name their neighbours does so again after a new page was linked behind
+-- one of them. Cited by the laws of links after an insertion. Assumes nothing.
 use mathlib.Core.Path.{_≡_, refl, sym, _∙_}
 use mathlib.Core.List.{List, [], _∷_, _++_}
 use Prim.Native.Nat.{ℕ, _+_, _<_}
@@ -28,7 +28,8 @@ headOr-differ none z [] o n e = n e
 headOr-differ none z (p ∷ ps) o n e = occ-differ z p (p ∷ ps) o (omega (arith, occ-head p ps)) e
 
 -- the right link of a page in the midst of a level
-pub linked-right : (none : ℕ) (l : Links) (p prev : ℕ) (pre post : List ℕ) → Linked none l prev (pre ++ p ∷ post) → l .right p ≡ headOr none post
+pub linked-right : (none : ℕ) (l : Links) (p prev : ℕ) (pre post : List ℕ) → Linked none l prev (pre ++ p ∷ post) →
+    l .right p ≡ headOr none post
 linked-right none l p prev [] post c = c .1
 linked-right none l p prev (x ∷ xs) post c = linked-right none l p x xs post (c .2)
 
@@ -71,7 +72,8 @@ module _ (p new : ℕ) (l : Links) where
     linked-insertedAfter prev [] post d n e c =
         let np : new ≡ p → ⊥ = occ-differ new p (p ∷ post) n (omega (arith, occ-head p post)) in
         let far : p ≡ headOr none post → ⊥ =
-        headOr-differ none p post (omega (arith, d p, occ-head p post)) (λ u. occ-differ none p (p ∷ post) e (omega (arith, occ-head p post)) (sym u)) in (
+        headOr-differ none p post (omega (arith, d p, occ-head p post))
+        (λ u. occ-differ none p (p ∷ post) e (omega (arith, occ-head p post)) (sym u)) in (
           left-keeps p (λ q. np (sym q)) (λ q. far (q ∙ c .1)) ∙ c .0,
           rw (eq-eqb p p refl),
           (rw (eq-eqb new new refl), rw (ne-eqb new p np, eq-eqb new new refl) (c .1), linked-post post d n (c .1) (c .2)),

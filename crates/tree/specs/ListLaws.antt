@@ -1,4 +1,5 @@
--- Laws: lists that are not empty, joined lists, and occurrences in lists. Cited by the laws of this crate and of the crates above it. Assumes nothing.
+-- Laws: lists that are not empty, joined lists, and occurrences in lists. Cited by
+-- the laws of this crate and of the crates above it. Assumes nothing.
 use mathlib.Core.Path.{_≡_, refl, sym, ap}
 use mathlib.Core.List.{List, [], _∷_, _++_, append-assoc, map}
 use Prim.Native.Nat.{ℕ, zero, suc, _+_, _≤_, _<_}

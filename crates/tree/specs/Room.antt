@@ -7,8 +7,8 @@ use lib.Dec.{leb, eqb}
 use Rattle.tree.specs.Order.{Order}
 use Rattle.tree.specs.Tree.{Entry, Tree}
 
--- the run of full pages "unbroken from the leaf up", d below a page of c entries with h levels under it: the page joins it
--- where the run has all the levels under the page and the page is full
+-- the run of full pages "unbroken from the leaf up", d below a page of c entries with h levels under it:
+-- the page joins it where the run has all the levels under the page and the page is full
 abbrev pub extendRun : ℕ → ℕ → ℕ → ℕ → ℕ
 extendRun cap h c d = cond (eqb d h && leb cap c) (suc d) d
 

@@ -1,4 +1,5 @@
--- Laws: what every call keeps of an index: the theory's form of a sound index, to which the laws of bytes take document 01's. Assumes nothing.
+-- Laws: what every call keeps of an index: the theory's form of a sound index,
+-- to which the laws of bytes take document 01's. Assumes nothing.
 use mathlib.Core.Path.{_≡_}
 use Prim.Native.Nat.{ℕ, suc, _%_, _≤_, _<_}
 use Rattle.basis.specs.Lists.{All}
@@ -24,10 +25,10 @@ pub record SoundIndex {K : Type 0} (s : Setting K) (i : Index K) : Type 0 where
   pub ordered : Ordered (s .order) (i .height) (i .tree)
   pub exact : Exact (i .height) (i .tree)
   pub sized : Sized (s .capacity) (i .height) (i .tree)
-  pub numbered : PagesOnce i
+  pub pagesOnce : PagesOnce i
   pub records : All (λ e. 0 < e .1) (held i)
-  pub small : i .size ≤ s .maxSize
-  pub low : suc (i .height) ≤ s .maxLevels
+  pub withinSize : i .size ≤ s .maxSize
+  pub withinLevels : suc (i .height) ≤ s .maxLevels
 
 -- left and right name the neighbours on each level
 abbrev pub LinkedIndex : {K : Type 0} → Links → Index K → Type 0

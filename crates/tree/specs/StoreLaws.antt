@@ -1,5 +1,5 @@
--- Laws: what a store reads as depends on the pages reached alone; and the pages of a store after a write. Cited by the laws of stores here and by
--- those of bytes. Assumes nothing.
+-- Laws: what a store reads as depends on the pages reached alone; and the pages of a store after a
+-- write. Cited by the laws of stores here and by those of bytes. Assumes nothing.
 use mathlib.Core.Path.{_≡_, refl, ap, ap₂, _∙_}
 use mathlib.Core.List.{List, [], _∷_, _++_, map}
 use Prim.Native.Nat.{ℕ, zero, suc, _<_}
@@ -27,12 +27,14 @@ module _ {K : Type 0} (S S′ : Store K) where
   agree-right xs ys s z l = s z (omega (arith, occ-append z xs ys))
 
   frame-level : (h : ℕ) → ((e : K × ℕ) → AgreeOn S S′ (pagesUnder h (readEntry S h e)) → readChild S′ h (e .1) ≡ readChild S h (e .1)) →
-      (es : List (K × ℕ)) → AgreeOn S S′ (concatMap (pagesUnder h) (map (readEntry S h) es)) → map (readEntry S′ h) es ≡ map (readEntry S h) es
+      (es : List (K × ℕ)) → AgreeOn S S′ (concatMap (pagesUnder h) (map (readEntry S h) es)) →
+      map (readEntry S′ h) es ≡ map (readEntry S h) es
   frame-level h ok [] s = refl
   frame-level h ok (e ∷ es) s =
       let here : List ℕ = pagesUnder h (readEntry S h e) in
       let rest : List ℕ = concatMap (pagesUnder h) (map (readEntry S h) es) in
-      ap₂ (λ (x : Child K h) (l : List (Entry K h)). (e .0, x) ∷ l) (ok e (agree-left here rest s)) (frame-level h ok es (agree-right here rest s))
+      ap₂ (λ (x : Child K h) (l : List (Entry K h)). (e .0, x) ∷ l) (ok e (agree-left here rest s))
+      (frame-level h ok es (agree-right here rest s))
 
   -- Theorem: stores that agree on the pages under an entry read as the same there
   pub frame : (h : ℕ) (e : K × ℕ) → AgreeOn S S′ (pagesUnder h (readEntry S h e)) → readChild S′ h (e .1) ≡ readChild S h (e .1)

@@ -1,5 +1,6 @@
--- Rules: an index as a tree of pages, and lookup in it. Cited by the rules of every crate of the index, and by the claim about lists of calls.
--- A tree is a type by its height, so that "all leaves on one level" is in the type. A page's number is its name: in a file, its offset.
+-- Rules: an index as a tree of pages, and lookup in it. Cited by the rules of every crate of the
+-- index, and by the claim about lists of calls. A tree is a type by its height, so that "all leaves on
+-- one level" is in the type. A page's number is its name: in a file, its offset.
 use mathlib.Core.Bool.{cond}
 use mathlib.Core.List.{List, [], _∷_}
 use mathlib.Core.Option.{Option, none, some}
@@ -55,7 +56,8 @@ onward f none = []
 onward f (some x) = f x
 
 module _ {K : Type 0} (O : Order K) where
-  -- lookup "goes down level by level by the first entry at or above the key; none there: absent"; "a found key is an equal one in the leaf"
+  -- lookup "goes down level by level by the first entry at or above the key; none
+  -- there: absent"; "a found key is an equal one in the leaf"
   abbrev pub lookupUnder : K → (h : ℕ) → Entry K h → Option ℕ
   lookupUnder k zero x = ifEqual O k x
   lookupUnder k (suc h) x = follow (lookupUnder k h) (seek O k (x .1 .1))
