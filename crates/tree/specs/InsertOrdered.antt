@@ -159,10 +159,6 @@ module _ {K C : Type 0} (O : Order K) (G : K × C → Type 0) (under : K × C �
     insertAmong-separated new [] n s c w = absurd s
     insertAmong-separated new (x ∷ xs) n s c w = place-separated x xs n c w
 
-rooted-nonEmpty : {K : Type 0} (h : ℕ) (t : Tree K h) → NonEmpty (t .1) → Rooted h t
-rooted-nonEmpty zero t s = tt
-rooted-nonEmpty (suc h) t s = s
-
 module _ {K : Type 0} (O : Order K) (cap : ℕ) (pos : 0 < cap) (name : ℕ → ℕ) (k : K) (r : ℕ) where
   insertPair-below : (a : K) (xs : List (K × ℕ)) → Below O a xs → Below O (larger O a k) (insertPair O k r xs)
   insertPair-below a xs u =
@@ -207,16 +203,14 @@ module _ {K : Type 0} (O : Order K) (cap : ℕ) (pos : 0 < cap) (name : ℕ → 
   root-separated (suc h) t n s c w = insertEntries-separated (suc h) (t .1) n s c w
 
   reroot-ordered : (h : ℕ) (t : Tree K h) (xs : List (Entry K (suc h))) (n : ℕ) → NonEmpty xs →
-      Separated O (OrderedUnder O (suc h)) (pairsUnder (suc h)) xs →
-      Rooted (reroot name h t xs n .0) (reroot name h t xs n .1) × Ordered O (reroot name h t xs n .0) (reroot name h t xs n .1)
+      Separated O (OrderedUnder O (suc h)) (pairsUnder (suc h)) xs → Ordered O (reroot name h t xs n .0) (reroot name h t xs n .1)
   reroot-ordered h t [] n s c = absurd s
-  reroot-ordered h t (x ∷ []) n s c = (rooted-nonEmpty h (x .1) (c .0 .good .0), c .0 .good .1)
-  reroot-ordered h t (x ∷ y ∷ ys) n s c = (tt, c)
+  reroot-ordered h t (x ∷ []) n s c = c .0 .good .1
+  reroot-ordered h t (x ∷ y ∷ ys) n s c = c
 
   -- Theorem: a tree is ordered after the insertion of an absent key
   pub insert-ordered : (h : ℕ) (t : Tree K h) → Rooted h t → Ordered O h t → find O k (pairs h t) ≡ none →
-      Rooted (insert O cap name k r h t .0) (insert O cap name k r h t .1)
-      × Ordered O (insert O cap name k r h t .0) (insert O cap name k r h t .1)
+      Ordered O (insert O cap name k r h t .0) (insert O cap name k r h t .1)
   insert-ordered h t s o f =
       let w : Absent O k (pairs h t) = find-absent O k (pairs h t) (ordered-ascending O h t o) f in
       let q : Replacement K (Child K h) = insertEntries O cap name k r h (t .1) 0 in
