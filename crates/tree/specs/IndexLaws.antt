@@ -26,7 +26,7 @@ use Rattle.tree.specs.InsertNeeds.{insert-needs}
 use Rattle.tree.specs.InsertLinks.{insert-all-linked}
 use Rattle.tree.specs.Book.{Call, insertion, lookupOf, Answer, accepted, refusedIf, isPresent, verdict, noRoom, isAccepted}
 use Rattle.tree.specs.Book.{bookAnswer, bookAfter}
-use Rattle.tree.specs.Index.{pageSize, noPage, newPage, Index, held, fresh, grown, Setting, outOfRoom, full, answer, inserted, next}
+use Rattle.tree.specs.Index.{pageSize, noPage, newPage, Index, held, fresh, grown, Setting, outOfRoom, noRoomFor, answer, inserted, next}
 use Rattle.tree.specs.Index.{nextLinks}
 use Rattle.tree.specs.SoundIndex.{PagesOnce, SoundIndex, LinkedIndex}
 
@@ -200,7 +200,7 @@ module _ {K : Type 0} (s : Setting K) (two : 1 < s .capacity) where
       rw (← find-get (s .order) k (held i) (ordered-ascending (s .order) (i .height) (i .tree) (d .ordered)))
       (verdict-room (s .fits k) r (find (s .order) k (held i)) (outOfRoom s k i))
 
-  pub answer-room : (c : Call K) (i : Index K) → SoundIndex s i → bookAnswer (s .order) (s .fits) c (full s c i) (held i) ≡ answer s c i
+  pub answer-room : (c : Call K) (i : Index K) → SoundIndex s i → bookAnswer (s .order) (s .fits) c (noRoomFor s c i) (held i) ≡ answer s c i
   answer-room (lookupOf k) i d = answer-book (lookupOf k) i d
   answer-room (insertion k r) i d =
       rw (← find-get (s .order) k (held i) (ordered-ascending (s .order) (i .height) (i .tree) (d .ordered)))
