@@ -1,0 +1,63 @@
+-- Rules: an index file's limits and its header. Cited by every call on an index.
+use Prim.Native.Nat.{ℕ, _+_, _%_}
+use mathlib.Core.Bool.{Bool, _&&_}
+use mathlib.Core.List.{List}
+use lib.ListN.{length}
+use lib.Dec.{eqb, leb}
+use Rattle.octets.specs.Bytes.{byteAt, le16, le32}
+
+-- the largest index, "1,048,576", and the most levels, "at most 11": the two limits that a larger index changes
+abbrev pub maxBytes : ℕ
+maxBytes = 1048576
+
+abbrev pub maxLevels : ℕ
+maxLevels = 11
+
+-- "k is 1 to 100"
+abbrev pub maxKey : ℕ
+maxKey = 100
+
+-- "pages of 512 bytes"
+abbrev pub pageSize : ℕ
+pageSize = 512
+
+-- "0xFFFFFFFF for none"
+abbrev pub noPage : ℕ
+noPage = 0xFFFFFFFF
+
+-- "0-3 root offset, 4-7 free pointer, 8-11 file size F, 12-13 key length k, 14 features"
+abbrev pub rootOffset : List ℕ → ℕ
+rootOffset b = le32 b 0
+
+abbrev pub freePointer : List ℕ → ℕ
+freePointer b = le32 b 4
+
+abbrev pub fileSize : List ℕ → ℕ
+fileSize b = le32 b 8
+
+abbrev pub keyLength : List ℕ → ℕ
+keyLength b = le16 b 12
+
+abbrev pub features : List ℕ → ℕ
+features b = byteAt b 14
+
+-- p is the offset of "a page of F other than the first", for a file of so many bytes
+unfoldable pub isPage : ℕ → ℕ → Bool
+isPage size p = eqb (p % pageSize) 0 && (leb pageSize p && leb (p + pageSize) size)
+
+-- "F is a multiple of 512 from 1,024 to 1,048,576 and within the buffer"
+unfoldable pub sizeGood : ℕ → ℕ → Bool
+sizeGood buffer size = eqb (size % pageSize) 0 && (leb 1024 size && (leb size maxBytes && leb size buffer))
+
+-- "k is 1 to 100"
+unfoldable pub keyLengthGood : ℕ → Bool
+keyLengthGood k = leb 1 k && leb k maxKey
+
+-- "It is good when the buffer has at least 512 bytes, F is .., the root offset is a page of F other than the first, k is 1 to 100, the free pointer
+-- is 0xFFFFFFFF and features is 1; else 24"
+unfoldable pub headerGood : List ℕ → Bool
+headerGood b =
+    leb pageSize (length b)
+    && (sizeGood (length b) (fileSize b)
+    && (isPage (fileSize b) (rootOffset b)
+    && (keyLengthGood (keyLength b) && (eqb (freePointer b) noPage && eqb (features b) 1))))
