@@ -1,25 +1,23 @@
 -- Laws: what the answers about one field are made of, and that a field's bytes lie in the table. Assumes nothing.
 use Prim.Native.Nat.{ℕ, zero, suc, _+_, _-_, _≤_, _<_}
 use mathlib.Core.Path.{_≡_, refl, sym, ap, _∙_}
-use mathlib.Core.Bool.{Bool, true, false, cond, _&&_}
-use mathlib.Core.List.{List, [], _∷_, _++_}
-use native.Mathlib.Nat.{add-zero}
+use mathlib.Core.Bool.{Bool, true, cond}
+use mathlib.Core.List.{List, [], _∷_}
 use native.Mathlib.Omega.{arith}
-use lib.ListN.{length, getD}
+use lib.ListN.{length}
 use lib.Dec.{eqb, leb, lit<}
-use borrow.Author.Tests.{leb-true, eqb-true, eqb-false, eq-eqb, ne-eqb}
+use borrow.Author.Tests.{leb-true, eqb-true, eqb-false}
 use Rattle.basis.specs.Tests.{either, both}
 use Rattle.octets.specs.Bytes.{byteAt}
 use Rattle.octets.specs.Store.{window}
 use Rattle.octets.specs.StoreLaws.{window-cons}
-use Rattle.table.specs.Table.{descriptor, fieldLength, fieldOffset, fieldCount, recordLength, recordCount, recordStart, recordsEnd, deletionByte, firstRefusal, tableChecks, tableRefusal, shapeOf, checkTable}
-use Rattle.table.specs.TableLaws.{Layout, layout, table-numbered, first-pass, first-fail, first-none, first-both, good-check, good-then, refused-then}
-use Rattle.table.specs.RecordLaws.{descriptor-inside, field-inside, record-inside, record-positive}
+use Rattle.table.specs.Table.{fieldLength, fieldOffset, fieldCount, recordCount, recordStart, firstRefusal, tableChecks, tableRefusal, shapeOf, checkTable}
+use Rattle.table.specs.TableLaws.{layout, table-numbered, first-none, first-both, good-check, good-then}
+use Rattle.table.specs.RecordLaws.{field-inside, record-inside, record-positive}
 use Rattle.table.specs.declared.Shape.{Shape}
-use Rattle.table.specs.declared.Checked.the-variants.{Good, Refused as TableRefused}
-use Rattle.field.specs.Field.{numberGood, fieldRefusal, fieldAnswer, entryOf, noEntry, formOf, placeRefusal, placeAt, placeOf}
+use Rattle.table.specs.declared.Checked.the-variants.{Good}
+use Rattle.field.specs.Field.{numberGood, fieldRefusal, placeRefusal, placeAt, placeOf}
 use Rattle.field.specs.declared.Place.{Place}
-use Rattle.field.specs.declared.Placed.{Placed}
 use Rattle.field.specs.declared.Placed.the-variants.{At, Refused}
 
 -- ---- one field

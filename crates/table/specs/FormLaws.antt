@@ -1,7 +1,7 @@
 -- Laws: what a good descriptor says of its field, type by type. Cited by the calls that read a field. Assumes nothing.
 use Prim.Native.Nat.{ℕ, _≤_, _<_}
-use mathlib.Core.Path.{_≡_, refl, sym, _∙_}
-use mathlib.Core.Bool.{Bool, true, false, _&&_, _||_, or-false, and-false}
+use mathlib.Core.Path.{_≡_}
+use mathlib.Core.Bool.{true, _&&_, or-false, and-false}
 use mathlib.Core.List.{List}
 use lib.Dec.{eqb, leb}
 use borrow.Author.Tests.{leb-true, eqb-true}

@@ -4,3 +4,4 @@ pub mod RangeLaws
 pub mod TableLaws
 pub mod RecordLaws
 pub mod FormLaws
+pub mod NameLaws

@@ -1,18 +1,14 @@
 -- Laws: how a loop over the numbers below a bound meets `allBelow`, `anyBelow` and `sumBelow`: one number more, a number that decides, and
 -- what a test of all says of each. Assumes nothing.
-use Prim.Native.Nat.{ℕ, zero, suc, _+_, _*_, _≤_, _<_}
-use mathlib.Core.Path.{_≡_, refl, ap, subst}
-use mathlib.Core.Bool.{Bool, true, false, _&&_, _||_, and-false, or-true}
+use Prim.Native.Nat.{ℕ, zero, suc, _+_, _≤_, _<_}
+use mathlib.Core.Path.{_≡_, refl, subst}
+use mathlib.Core.Bool.{Bool, true, false, and-false, or-true}
 use mathlib.Core.Logic.{⊎-elim}
 use native.Mathlib.Nat.{eq-or-lt-of-le, le-of-suc-le-suc, not-suc-le-zero}
 use native.Mathlib.Numerals.{add-one}
 use native.Mathlib.Omega.{arith}
 use Rattle.basis.specs.Tests.{both}
 use Rattle.table.specs.Range.{allBelow, anyBelow, sumBelow}
-
--- a number below n + 1 is n or below n
-cases : (P : ℕ → Type 0) (i n : ℕ) → i < suc n → P n → (i < n → P i) → P i
-cases P i n l p q = ⊎-elim (λ (e : i ≡ n). rw e p) q (eq-or-lt-of-le (le-of-suc-le-suc l))
 
 module _ (test : ℕ → Bool) where
   pub all-none : allBelow test 0 ≡ true
@@ -37,6 +33,12 @@ module _ (test : ℕ → Bool) where
   all-at (suc n) h i l =
       let split = both (allBelow test n) (test n) h in
       ⊎-elim (λ (q : i ≡ n). rw q (split .1)) (λ lt. all-at n (split .0) i lt) (eq-or-lt-of-le (le-of-suc-le-suc l))
+
+  -- and what holds of each holds of all
+  pub all-each : (n : ℕ) → ((i : ℕ) → i < n → test i ≡ true) → allBelow test n ≡ true
+  unfolding allBelow
+  all-each zero h = refl
+  all-each (suc n) h = rw (all-each n (λ i l. h i (omega arith)), h n (omega arith))
 
   pub any-none : anyBelow test 0 ≡ false
   unfolding anyBelow

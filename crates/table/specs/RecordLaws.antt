@@ -1,15 +1,14 @@
 -- Laws: where records and fields lie in a table without refusal. The deletion byte and the fields tile a record; records follow the header
 -- one after another and end in the table. Assumes nothing.
-use Prim.Native.Nat.{ℕ, zero, suc, _+_, _*_, _-_, _≤_, _<_}
-use mathlib.Core.Path.{_≡_, refl, sym, ap, _∙_}
-use mathlib.Core.List.{List, [], _∷_, _++_, append-assoc, append-nil}
+use Prim.Native.Nat.{ℕ, zero, suc, _+_, _≤_, _<_}
+use mathlib.Core.Path.{_≡_, sym, ap, _∙_}
+use mathlib.Core.List.{List, [], _++_, append-assoc, append-nil}
 use native.Mathlib.Nat.{mul-le-mul-right, add-mul}
 use native.Mathlib.Numerals.{add-one}
 use native.Mathlib.Omega.{arith}
 use lib.ListN.{length, take, drop}
 use lib.Seq.{take-add, drop-drop}
 use Rattle.octets.specs.Store.{window}
-use Rattle.table.specs.Range.{sumBelow}
 use Rattle.table.specs.RangeLaws.{sum-none, sum-more, sum-within}
 use Rattle.table.specs.Table.{descriptor, fieldLength, fieldOffset, fieldCount, headerLength, recordLength, recordCount, recordsEnd, recordStart}
 use Rattle.table.specs.TableLaws.{Layout}

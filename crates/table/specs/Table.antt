@@ -1,7 +1,7 @@
 -- Rules: document 01, "The table": what a table's header says, and refusals 1 to 10 in their order. Every call on a table answers by these first.
 use Prim.Native.Nat.{ℕ, _+_, _*_, _-_, _/_}
 use mathlib.Core.List.{List, [], _∷_}
-use mathlib.Core.Bool.{Bool, true, false, cond, not, _&&_, _||_}
+use mathlib.Core.Bool.{Bool, cond, not, _&&_, _||_}
 use lib.ListN.{length}
 use lib.Dec.{eqb, leb}
 use Rattle.octets.specs.Bytes.{byteAt, le16, le32}

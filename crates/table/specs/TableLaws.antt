@@ -1,19 +1,18 @@
 -- Laws: what each check gives those that come after it, and what a table without refusal gives every call on it (`Layout`). Assumes nothing.
 use Prim.Native.Nat.{ℕ, _+_, _*_, _≤_, _<_}
 use mathlib.Core.Path.{_≡_, refl, sym, ap, _∙_}
-use mathlib.Core.Bool.{Bool, true, false, cond, not, _&&_, _||_}
+use mathlib.Core.Bool.{Bool, true, false, _&&_}
 use mathlib.Core.List.{List, [], _∷_, _++_}
 use native.Mathlib.Omega.{arith}
 use lib.ListN.{length}
 use lib.Dec.{eqb, leb, lit<}
 use borrow.Author.Tests.{leb-true, eqb-true, eqb-false, eq-eqb, ne-eqb}
-use Rattle.basis.specs.Tests.{either, contra, both}
+use Rattle.basis.specs.Tests.{either, both}
 use Rattle.basis.specs.Lists.{All}
 use Rattle.octets.specs.Bytes.{byteAt}
 use Rattle.table.specs.RangeLaws.{all-at}
 use Rattle.table.specs.Table.{minTable, maxTable, maxFields, maxRecord, fileEnd, tableKind, headerLength, recordLength, recordCount, recordsEnd, fieldCount, fieldOffset, sizeGood, kindGood, headerGood, descriptorGood, fieldsGood, recordLengthGood, lengthGood, firstRefusal, tableChecks, tableRefusal, shapeOf, checkTable}
 use Rattle.table.specs.declared.Shape.{Shape}
-use Rattle.table.specs.declared.Checked.{Checked}
 use Rattle.table.specs.declared.Checked.the-variants.{Good, Refused}
 
 -- ---- the first of several checks

@@ -1,5 +1,5 @@
 // A table's header and its fields. Document 01, "The table": refusals 1 to 10 in their order.
-ghost use Prim.Native.Nat.{_+_, _*_, _≤_, _<_};
+ghost use Prim.Native.Nat.{_+_, _*_, _^_, _≤_, _<_};
 ghost use mathlib.Core.Path.{_≡_};
 ghost use lib.ListN.{length};
 ghost use Rattle.table.specs.Table.{minTable, maxFields, recordCount, headerLength, recordLength, fieldCount, descriptor, fieldOffset, sizeGood, kindGood, dateGood, headerGood, endMarkGood, isLetter, isNameByte, mayFollow, nameGood, formGood, descriptorGood, fieldsGood, sameName, namesDiffer, hasMemo, memoKindGood, recordLengthGood, recordsEnd, lengthGood, tableRefusal, shapeOf, checkTable};
@@ -297,10 +297,10 @@ fn record_length_good(table: &[u8]) -> bool
     (length == sum) & (length <= MAX_RECORD)
 }
 
-// Where the first records of a count end. No count of 32 bits is too large: nothing is taken modulo.
+// Where the first records of a count end: exact arithmetic for every count of 32 bits.
 pub fn records_end(table: &[u8], count: u32) -> usize
     requires { ⌜ minTable ≤ length (now table) ⌝ }
-    ensures { λ r. ⌜ (r ≡ recordsEnd (now (table .entry)) count) × (r < 281474976776192) ⌝ }
+    ensures { λ r. ⌜ (r ≡ recordsEnd (now (table .entry)) count) × (r < 2 ^ 49) ⌝ }
 {
     header_length(table) + count as usize * record_length(table)
 }

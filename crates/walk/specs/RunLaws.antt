@@ -1,20 +1,18 @@
 -- Laws: the walk from 0 to done hands out exactly the undeleted records, in order, with 15 in the place of each bad deletion byte. Assumes nothing.
-use Prim.Native.Nat.{ℕ, zero, suc, _+_, _-_, _≤_, _<_}
-use mathlib.Core.Path.{_≡_, refl, sym, ap, _∙_}
-use mathlib.Core.Bool.{Bool, true, false, cond}
+use Prim.Native.Nat.{ℕ, zero, suc, _+_, _-_, _≤_}
+use mathlib.Core.Path.{_≡_, refl, _∙_}
+use mathlib.Core.Bool.{cond}
 use mathlib.Core.List.{List, [], _∷_, _++_}
 use native.Mathlib.Nat.{le-refl, not-suc-le-zero}
 use native.Mathlib.Numerals.{add-one}
 use native.Mathlib.Omega.{arith}
 use lib.Dec.{eqb}
-use borrow.Author.Tests.{eq-eqb}
 use Rattle.basis.specs.Tests.{either}
 use Rattle.table.specs.Table.{recordCount, deletionByte, keptMark, deletedMark, tableRefusal}
 use Rattle.walk.specs.declared.Position.{Position}
 use Rattle.walk.specs.declared.Step.{Step}
 use Rattle.walk.specs.declared.Step.the-variants.{Record, Done, Refused}
-use Rattle.walk.specs.declared.Walked.{Walked}
-use Rattle.walk.specs.Walk.{stepTo, walkFrom, walkStep}
+use Rattle.walk.specs.Walk.{walkFrom, walkStep}
 
 -- what is to be handed out of the `left` records after the first `passed`: the number of each that is kept, 15 at each bad deletion byte
 unfoldable pub handedOut : List ℕ → ℕ → ℕ → List Step

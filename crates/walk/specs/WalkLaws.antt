@@ -1,18 +1,16 @@
 -- Laws: how the loop of a step meets the rule, one record after another. Assumes nothing.
-use Prim.Native.Nat.{ℕ, zero, suc, _+_, _-_, _≤_, _<_}
-use mathlib.Core.Path.{_≡_, refl, sym, ap, _∙_}
+use Prim.Native.Nat.{ℕ, suc, _+_, _-_, _≤_, _<_}
+use mathlib.Core.Path.{_≡_}
 use mathlib.Core.List.{List}
 use native.Mathlib.Omega.{arith}
-use lib.Dec.{eqb}
-use borrow.Author.Tests.{eq-eqb, ne-eqb}
+use borrow.Author.Tests.{ne-eqb}
 use Rattle.octets.specs.Bytes.{byteAt}
-use Rattle.table.specs.Table.{recordCount, recordsEnd, recordStart, deletionByte, keptMark, deletedMark, checkTable}
+use Rattle.table.specs.Table.{recordsEnd, recordStart, deletionByte, keptMark, deletedMark, checkTable}
 use Rattle.table.specs.TableLaws.{good-shape, refused-check}
 use Rattle.table.specs.declared.Shape.{Shape}
 use Rattle.table.specs.declared.Checked.the-variants.{Good, Refused as TableRefused}
 use Rattle.walk.specs.declared.Position.{Position}
 use Rattle.walk.specs.declared.Step.the-variants.{Record, Done, Refused}
-use Rattle.walk.specs.declared.Walked.{Walked}
 use Rattle.walk.specs.Walk.{stepTo, walkFrom, walkStep}
 
 -- the deletion byte of the record after the first k stands where those end

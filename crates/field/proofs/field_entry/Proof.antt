@@ -29,7 +29,7 @@ returns c =
     rw (said, no, c .no-entry .ensures)
 
 sub-entry-at : tie.Need-sub-entry-at
-sub-entry-at c = good c .from
+sub-entry-at c = omega (arith, good c .from)
 
 cast-entry-at : tie.Need-cast-entry-at
 cast-entry-at c = search needs

@@ -13,13 +13,13 @@ use Rattle.field.proofs.place_at.Statement.{statement}
 use Rattle.field.proofs.place_at.Tie as tie
 
 sub-records-end : tie.Need-sub-records-end
-sub-records-end c = place-good _ _ _ (c .before .pre) .record-from
+sub-records-end c = omega (arith, place-good _ _ _ (c .before .pre) .record-from)
 
 records-end-requires : tie.Need-records-end-requires
 records-end-requires c κs = layout _ (place-good _ _ _ (c .before .pre) .table) .header .long
 
 sub-field-form : tie.Need-sub-field-form
-sub-field-form c = place-good _ _ _ (c .before .before .pre) .field-from
+sub-field-form c = omega (arith, place-good _ _ _ (c .before .before .pre) .field-from)
 
 cast-field-form : tie.Need-cast-field-form
 cast-field-form c = search needs
