@@ -1,0 +1,12 @@
+-- `numeral::whole_end` meets its contract: each answer is the rule at the test that led there. Assumes nothing.
+use Rattle.numeral.proofs.whole_end.Statement.{statement}
+use Rattle.numeral.proofs.whole_end.Tie as tie
+
+returns : tie.Need-returns
+returns c = rw (c .if1 .taken)
+
+returns-2 : tie.Need-returns-2
+returns-2 c = rw (c .if1 .left)
+
+pub whole-end-spec : {M : Type 1} → statement M
+whole-end-spec = tie.close (tie.spec returns returns-2)

@@ -1,0 +1,6 @@
+pub mod Format
+pub mod Reading
+pub mod Writing
+pub mod Scan
+pub mod ReadingLaws
+pub mod ScanLaws

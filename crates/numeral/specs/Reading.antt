@@ -1,0 +1,111 @@
+-- Rules: what a numeric text means. `readNumber` is what `read_number` answers, in document 01's order: 6, empty, 16, 17, 18, the value.
+use Prim.Native.Nat.{ℕ, zero, suc, _+_, _*_, _-_}
+use mathlib.Core.Bool.{Bool, true, false, _&&_, _||_, not}
+use mathlib.Core.List.{List, [], _∷_, _++_}
+use lib.Dec.{eqb, leb, ltb}
+use lib.ListN.{length}
+use lib.IntN.{ℤ, pos, negsuc, negℤ}
+use Rattle.numeral.specs.Format.{formatGood, maxDigits, blank, comma, minus, point, zeroDigit, isDigit}
+use Rattle.numeral.specs.declared.Number.{Number}
+use Rattle.numeral.specs.declared.Number.the-variants.{Value, Empty, Refused}
+
+-- every character passes a test; some character does
+unfoldable pub every : (ℕ → Bool) → List ℕ → Bool
+every p [] = true
+every p (c ∷ s) = p c && every p s
+
+unfoldable pub some : (ℕ → Bool) → List ℕ → Bool
+some p [] = false
+some p (c ∷ s) = p c || some p s
+
+-- the text without the characters at its front that pass a test, and those characters
+unfoldable pub after : (ℕ → Bool) → List ℕ → List ℕ
+after p [] = []
+after p (c ∷ s) = elim (p c) [ true ↦ after p s | false ↦ c ∷ s ]
+
+unfoldable pub front : (ℕ → Bool) → List ℕ → List ℕ
+front p [] = []
+front p (c ∷ s) = elim (p c) [ true ↦ c ∷ front p s | false ↦ [] ]
+
+-- "an optional minus"
+unfoldable pub hasMinus : List ℕ → Bool
+hasMinus [] = false
+hasMinus (c ∷ s) = eqb c minus
+
+unfoldable pub withoutMinus : List ℕ → List ℕ
+withoutMinus [] = []
+withoutMinus (c ∷ s) = elim (eqb c minus) [ true ↦ s | false ↦ c ∷ s ]
+
+-- "a whole part without needless leading zero": digits, of which the first is no zero unless it is the only one
+unfoldable pub wholeGood : List ℕ → Bool
+wholeGood [] = false
+wholeGood (c ∷ s) = every isDigit (c ∷ s) && (not (eqb c zeroDigit) || eqb (length s) 0)
+
+-- "where decimals d > 0, a point and exactly d digits; no blank after": what follows the whole part
+unfoldable pub fractionGood : ℕ → List ℕ → Bool
+fractionGood zero s = eqb (length s) 0
+fractionGood (suc d) [] = false
+fractionGood (suc d) (c ∷ s) = eqb c point && every isDigit s && eqb (length s) (suc d)
+
+-- the digits of a text whose sign is gone: those of the whole part and those after the point
+unfoldable pub wholePart : List ℕ → List ℕ
+wholePart s = front isDigit s
+
+unfoldable pub fraction : List ℕ → List ℕ
+fraction s = after isDigit s
+
+unfoldable pub withoutPoint : List ℕ → List ℕ
+withoutPoint [] = []
+withoutPoint (c ∷ s) = s
+
+unfoldable pub digits : List ℕ → List ℕ
+digits s = wholePart s ++ withoutPoint (fraction s)
+
+-- the number that digits stand for, after the number n of the digits before them
+unfoldable pub numberFrom : ℕ → List ℕ → ℕ
+numberFrom n [] = n
+numberFrom n (c ∷ s) = numberFrom (10 * n + (c - zeroDigit)) s
+
+unfoldable pub numberOf : List ℕ → ℕ
+numberOf s = numberFrom 0 s
+
+-- "blanks, an optional minus, a whole part without needless leading zero, and, where decimals d > 0, a point and exactly d digits; no blank after.
+-- Minus zero is 17"
+unfoldable pub textGood : List ℕ → ℕ → Bool
+textGood s d =
+    let t = withoutMinus (after (eqb blank) s) in
+    wholeGood (wholePart t) && fractionGood d (fraction t)
+    && not (hasMinus (after (eqb blank) s) && eqb (numberOf (digits t)) 0)
+
+-- a number with its sign
+unfoldable pub signed : Bool → ℕ → ℤ
+signed false n = pos n
+signed true n = negℤ (pos n)
+
+-- "the value in units of 10 to the −d, signed"
+unfoldable pub valueOf : List ℕ → ℤ
+valueOf s = signed (hasMinus (after (eqb blank) s)) (numberOf (digits (withoutMinus (after (eqb blank) s))))
+
+-- "the digits that 18 counts are those of the whole part and of the fraction together, a lone zero included"
+unfoldable pub digitCount : List ℕ → ℕ
+digitCount s = length (digits (withoutMinus (after (eqb blank) s)))
+
+-- what a text of a field of its own length means, with so many decimals
+unfoldable pub readNumber : List ℕ → ℕ → Number
+readNumber s d =
+    elim (formatGood (length s) d) [
+      | false ↦ Refused 6
+      | true ↦ elim (every (eqb blank) s) [
+        | true ↦ Empty
+        | false ↦ elim (some (eqb comma) s) [
+          | true ↦ Refused 16
+          | false ↦ elim (textGood s d) [
+            | false ↦ Refused 17
+            | true ↦ elim (leb (digitCount s) maxDigits) [
+              | false ↦ Refused 18
+              | true ↦ Value (valueOf s)
+            ]
+          ]
+        ]
+      ]
+    ]

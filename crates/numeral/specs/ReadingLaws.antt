@@ -1,0 +1,197 @@
+-- Laws: the parts of a numeric text, that the number of its digits shows in their number, and when a text is refused with 6 or 16.
+-- Assumes nothing.
+use Prim.Native.Nat.{ℕ, zero, suc, _+_, _*_, _-_, _^_, _≤_, _<_}
+use mathlib.Core.Path.{_≡_, refl, sym}
+use mathlib.Core.Bool.{Bool, true, false, _&&_, _||_, not, and-true, and-false, and-assoc}
+use mathlib.Core.List.{List, [], _∷_, _++_}
+use mathlib.Core.Logic.{_↔_}
+use native.Mathlib.Nat.{pow-le-pow-right, add-zero, zero-add, add-suc, suc-add, le-trans}
+use native.Mathlib.Omega.{arith}
+use lib.Dec.{eqb, leb, ltb, lit<, eqb·suc-zero}
+use lib.ListN.{length, length-append}
+use borrow.Author.Tests.{leb-true, leb-false, eqb-true, eqb-false, le-leb, lt-ltb, le-ltb}
+use Rattle.basis.specs.Tests.{either, contra, both, join}
+use Rattle.numeral.specs.Format.{formatGood, maxWidth, maxDecimals, maxDigits, blank, comma, point, zeroDigit, isDigit}
+use Rattle.numeral.specs.Reading.{every, some, after, front, wholeGood, fractionGood, wholePart, fraction, withoutPoint, digits, numberFrom, numberOf, textGood, valueOf, digitCount, readNumber}
+use Rattle.numeral.specs.declared.Number.the-variants.{Value, Empty, Refused}
+
+-- a good format has at most 15 decimals
+pub format-decimals : (width d : ℕ) → formatGood width d ≡ true → d ≤ maxDecimals
+unfolding formatGood
+format-decimals width d e =
+    let parts = both (leb 1 width && leb width maxWidth) (eqb d 0 || leb 1 d && leb d maxDecimals && leb (d + 2) width) e in
+    either (eqb d 0)
+    (λ f. omega (arith, eqb-true))
+    (λ f.
+    let tests = both (leb 1 d && leb d maxDecimals) (leb (d + 2) width) (rw f at (parts .1)) in
+    leb-true _ _ (both (leb 1 d) (leb d maxDecimals) (tests .0) .1))
+
+-- a digit's code
+pub digit-range : (c : ℕ) → isDigit c ≡ true → (zeroDigit ≤ c) × (c ≤ 0x39)
+digit-range c e =
+    let tests = both (leb zeroDigit c) (leb c 0x39) e in
+    (leb-true _ _ (tests .0), leb-true _ _ (tests .1))
+
+-- a text without a comma has none at its first character, nor behind it
+pub no-comma : (c : ℕ) (s : List ℕ) → some (eqb comma) (c ∷ s) ≡ false → (eqb comma c ≡ false) × (some (eqb comma) s ≡ false)
+unfolding some
+no-comma c s e = either (eqb comma c) (λ f. contra (rw f) e) (λ f. (f, rw f at e))
+
+-- a text's front goes on at a character that passes the test, and ends at one that does not
+module _ (p : ℕ → Bool) (c : ℕ) (s : List ℕ) where
+  pub front-more : p c ≡ true → front p (c ∷ s) ≡ c ∷ front p s
+  unfolding front
+  front-more e = rw (e, front)
+
+  pub after-more : p c ≡ true → after p (c ∷ s) ≡ after p s
+  unfolding after
+  after-more e = rw (e, after)
+
+  pub front-ends : p c ≡ false → front p (c ∷ s) ≡ []
+  unfolding front
+  front-ends e = rw (e, front)
+
+  pub after-ends : p c ≡ false → after p (c ∷ s) ≡ c ∷ s
+  unfolding after
+  after-ends e = rw (e, after)
+
+pub every-front : (p : ℕ → Bool) (s : List ℕ) → every p (front p s) ≡ true
+unfolding every front
+every-front p [] = refl
+every-front p (c ∷ s) = either (p c)
+    (λ e. rw (front-more p c s e) (join _ _ e (every-front p s)))
+    (λ e. rw (front-ends p c s e))
+
+pub every-append : (p : ℕ → Bool) (s t : List ℕ) → every p s ≡ true → every p t ≡ true → every p (s ++ t) ≡ true
+unfolding every
+every-append p [] t e f = f
+every-append p (c ∷ s) t e f =
+    let parts = both (p c) (every p s) e in
+    rw (parts .0) (every-append p s t (parts .1) f)
+
+-- a whole part has a digit
+pub none-whole : wholeGood [] ≡ false
+unfolding wholeGood
+none-whole = refl
+
+-- a zero is a whole part by itself, and needless before another digit
+pub zero-whole : wholeGood (zeroDigit ∷ []) ≡ true
+unfolding wholeGood every
+zero-whole = refl
+
+pub zero-needless : (c : ℕ) (w : List ℕ) → wholeGood (zeroDigit ∷ c ∷ w) ≡ false
+unfolding wholeGood
+zero-needless c w = rw (eqb·suc-zero (length w)) (and-false (every isDigit (zeroDigit ∷ c ∷ w)))
+
+-- any digits may follow another digit
+pub digits-whole : (c : ℕ) (w : List ℕ) → isDigit c ≡ true → eqb c zeroDigit ≡ false → every isDigit w ≡ true → wholeGood (c ∷ w) ≡ true
+unfolding wholeGood every
+digits-whole c w e f g = rw (e, f, g)
+
+-- what follows the whole part: nothing, or a point and the digits, each by one test for every number of decimals
+pub fraction-empty : (d : ℕ) → fractionGood d [] ≡ eqb d 0
+unfolding fractionGood
+fraction-empty zero = refl
+fraction-empty (suc d) = sym (eqb·suc-zero d)
+
+pub fraction-point : (d c : ℕ) (s : List ℕ) → fractionGood d (c ∷ s) ≡ eqb c point && leb 1 d && (every isDigit s && eqb (length s) d)
+unfolding fractionGood
+fraction-point zero c s = rw (eqb·suc-zero (length s), and-false (eqb c point))
+fraction-point (suc d) c s = rw (le-leb 1 (suc d) (omega arith), and-true (eqb c point)) (and-assoc (eqb c point) (every isDigit s) (eqb (length s) (suc d)))
+
+pub fraction-digits : (d : ℕ) (s : List ℕ) → fractionGood d s ≡ true → (every isDigit (withoutPoint s) ≡ true) × (length (withoutPoint s) ≤ d)
+unfolding withoutPoint every
+fraction-digits d [] e = (refl, omega arith)
+fraction-digits d (c ∷ s) e =
+    let parts = both (eqb c point && leb 1 d) (every isDigit s && eqb (length s) d) (rw (fraction-point d c s) at e) in
+    let tests = both (every isDigit s) (eqb (length s) d) (parts .1) in
+    (tests .0, omega (arith, eqb-true))
+
+-- behind a number of more than k digits, the digits s make one of more than k + length s
+pub number-least : (s : List ℕ) (k n : ℕ) → 10 ^ k ≤ n → 10 ^ (k + length s) ≤ numberFrom n s
+unfolding numberFrom
+number-least [] k n h = rw (add-zero k) h
+number-least (c ∷ s) k n h = rw (add-suc k (length s), ← (suc-add k (length s))) (number-least s (suc k) _ (omega arith))
+
+-- and behind one of at most k, one of at most k + length s
+pub number-most : (s : List ℕ) (k n : ℕ) → n < 10 ^ k → every isDigit s ≡ true → numberFrom n s < 10 ^ (k + length s)
+unfolding numberFrom every
+number-most [] k n h e = rw (add-zero k) h
+number-most (c ∷ s) k n h e =
+    let parts = both (isDigit c) (every isDigit s) e in
+    let range = digit-range c (parts .0) in
+    rw (add-suc k (length s), ← (suc-add k (length s))) (number-most s (suc k) _ (omega arith) (parts .1))
+
+-- a whole part c ∷ w without needless leading zero, and the digits f behind the point
+module _ (c : ℕ) (w f : List ℕ) (whole : wholeGood (c ∷ w) ≡ true) where
+  whole-most : every isDigit f ≡ true → numberOf (c ∷ w ++ f) < 10 ^ length (c ∷ w ++ f)
+  unfolding wholeGood numberOf
+  whole-most e =
+      let good = both (every isDigit (c ∷ w)) _ whole .0 in
+      rw (zero-add (length (c ∷ w ++ f))) at (number-most (c ∷ w ++ f) 0 0 (lit< tt) (every-append isDigit (c ∷ w) f good e))
+
+  whole-least : length f ≤ maxDecimals → maxDigits < length (c ∷ w ++ f) → 10 ^ maxDigits ≤ numberOf (c ∷ w ++ f)
+  unfolding wholeGood numberOf numberFrom every
+  whole-least few many =
+      let parts = both (every isDigit (c ∷ w)) (not (eqb c zeroDigit) || eqb (length w) 0) whole in
+      let range = digit-range c (both (isDigit c) (every isDigit w) (parts .0) .0) in
+      either (eqb c zeroDigit)
+      (λ e.
+      let lone : length w ≡ 0 = eqb-true _ _ (rw e at (parts .1)) in
+      omega (arith, length-append w f))
+      (λ e.
+      let first = eqb-false c zeroDigit e in
+      let least = rw (zero-add (length (w ++ f))) at (number-least (w ++ f) 0 (10 * 0 + (c - zeroDigit)) (omega arith)) in
+      le-trans (pow-le-pow-right (lit< tt) {i = maxDigits} {j = length (w ++ f)} (omega arith)) least)
+
+-- so a good text has at most 18 digits exactly where their number has
+count-shows : (count n : ℕ) → n < 10 ^ count → (maxDigits < count → 10 ^ maxDigits ≤ n) → leb count maxDigits ≡ ltb n (10 ^ maxDigits)
+count-shows count n most least = either (leb count maxDigits)
+    (λ e. rw e (sym (lt-ltb n _ (le-trans most (pow-le-pow-right (lit< tt) (leb-true count maxDigits e))))))
+    (λ e. rw e (sym (le-ltb n _ (least (leb-false count maxDigits e)))))
+
+pub count-number : (d : ℕ) (s : List ℕ) → d ≤ maxDecimals → wholeGood (wholePart s) && fractionGood d (fraction s) ≡ true
+    → leb (length (digits s)) maxDigits ≡ ltb (numberOf (digits s)) (10 ^ maxDigits)
+unfolding wholeGood wholePart fraction digits front
+count-number d [] h e = contra e refl
+count-number d (c ∷ s) h e = either (isDigit c)
+    (λ f.
+    let go-on = front-more isDigit c s f in
+    let skip = after-more isDigit c s f in
+    let parts = both (wholeGood (c ∷ front isDigit s)) (fractionGood d (after isDigit s)) (rw (go-on, skip) at e) in
+    let rest = fraction-digits d (after isDigit s) (parts .1) in
+    rw (go-on, skip)
+    (count-shows _ _ (whole-most c (front isDigit s) _ (parts .0) (rest .0)) (whole-least c (front isDigit s) _ (parts .0) (omega arith))))
+    (λ f. contra e (rw (front-ends isDigit c s f)))
+
+-- 6 comes before all else
+pub refused-6 : (s : List ℕ) (d : ℕ) → formatGood (length s) d ≡ false → readNumber s d ≡ Refused 6
+unfolding readNumber
+refused-6 s d e = rw (e, readNumber)
+
+-- 16 is given for a comma in a text of a good format, and only then
+comma-no-blank : (s : List ℕ) → some (eqb comma) s ≡ true → every (eqb blank) s ≡ false
+unfolding some every
+comma-no-blank [] e = contra e refl
+comma-no-blank (c ∷ s) e = either (eqb blank c)
+    (λ f.
+    let same : c ≡ blank = sym (eqb-true blank c f) in
+    rw f (comma-no-blank s (rw same at e)))
+    (λ f. rw f)
+
+only-16 : (s : List ℕ) (d : ℕ) → formatGood (length s) d ≡ true → readNumber s d ≡ Refused 16 → some (eqb comma) s ≡ true
+unfolding readNumber
+only-16 s d e h = either (some (eqb comma) s) (λ g. g) (λ g. either (every (eqb blank) s)
+    (λ f. let r : readNumber s d ≡ Empty = rw (e, f, readNumber) in cc)
+    (λ f. either (textGood s d)
+    (λ t. either (leb (digitCount s) maxDigits)
+    (λ l. let r : readNumber s d ≡ Value (valueOf s) = rw (e, f, g, t, l, readNumber) in cc)
+    (λ l. let r : readNumber s d ≡ Refused 18 = rw (e, f, g, t, l, readNumber) in cc))
+    (λ t. let r : readNumber s d ≡ Refused 17 = rw (e, f, g, t, readNumber) in cc)))
+
+pub refused-16 : (s : List ℕ) (d : ℕ) → (readNumber s d ≡ Refused 16) ↔ ((formatGood (length s) d ≡ true) × (some (eqb comma) s ≡ true))
+unfolding readNumber
+refused-16 s d = (
+  λ h. either (formatGood (length s) d) (λ e. (e, only-16 s d e h)) (λ e. let r = refused-6 s d e in (cc, cc)),
+  λ e. rw (e .0, comma-no-blank s (e .1), e .1, readNumber),
+)

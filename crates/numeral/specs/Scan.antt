@@ -1,0 +1,74 @@
+-- Laws: the reader's states, "taken one character after another, the running state handed on". That they end in what the text means is shown in
+-- ScanLaws.antt, so a reader need not believe these definitions.
+use Prim.Native.Nat.{ℕ, _+_, _*_, _-_, _^_}
+use mathlib.Core.Bool.{Bool, false, cond, _&&_, _||_, not}
+use mathlib.Core.List.{List, [], _∷_}
+use lib.Dec.{eqb, leb, ltb}
+use Rattle.numeral.specs.Format.{maxDigits, blank, comma, minus, point, zeroDigit, isDigit}
+use Rattle.numeral.specs.Reading.{signed}
+use Rattle.numeral.specs.declared.Number.{Number}
+use Rattle.numeral.specs.declared.Number.the-variants as number
+use Rattle.numeral.specs.declared.Reader.{Reader}
+use Rattle.numeral.specs.declared.Phase.{Phase}
+use Rattle.numeral.specs.declared.Phase.the-variants as phase
+
+-- before the first character
+abbrev pub initial : ℕ → Reader
+initial d = record { decimals = d; phase = phase.Blank; negative = false; value = 0 }
+
+-- the phase after the first character c of the whole part
+abbrev pub firstDigit : ℕ → Phase
+firstDigit c = cond (eqb c zeroDigit) phase.Zero (cond (isDigit c) phase.Whole phase.Bad)
+
+-- the phase after the character c behind the whole part, where d digits are to come
+abbrev pub wholeEnd : ℕ → ℕ → Phase
+wholeEnd d c = cond (eqb c point && leb 1 d) (phase.Fraction d) phase.Bad
+
+-- the phase after the character c, which is no comma
+abbrev pub onward : ℕ → Phase → ℕ → Phase
+onward d phase.Blank c = cond (eqb blank c) phase.Blank (cond (eqb c minus) phase.Minus (firstDigit c))
+onward d phase.Minus c = firstDigit c
+onward d phase.Zero c = wholeEnd d c
+onward d phase.Whole c = cond (isDigit c) phase.Whole (wholeEnd d c)
+onward d (phase.Fraction left) c = cond (isDigit c && leb 1 left) (phase.Fraction (left - 1)) phase.Bad
+onward d phase.Comma c = phase.Comma
+onward d phase.Bad c = phase.Bad
+
+unfoldable pub nextPhase : ℕ → Phase → ℕ → Phase
+nextPhase d p c = cond (eqb comma c) phase.Comma (onward d p c)
+
+-- the number of the digits so far with c behind them; one of more than 18 digits stays, so that nothing overflows
+unfoldable pub nextValue : ℕ → ℕ → ℕ
+nextValue n c = cond (isDigit c && ltb n (10 ^ maxDigits)) (10 * n + (c - zeroDigit)) n
+
+unfoldable pub step : Reader → ℕ → Reader
+step r c =
+    record {
+      decimals = r .decimals;
+      phase = nextPhase (r .decimals) (r .phase) c;
+      negative = r .negative || eqb c minus;
+      value = nextValue (r .value) c;
+    }
+
+unfoldable pub scan : Reader → List ℕ → Reader
+scan r [] = r
+scan r (c ∷ s) = scan (step r c) s
+
+-- what a text with the number n means, with a minus or without: if it is not complete it is 17, as minus zero is; more than 18 digits are 18
+unfoldable pub settled : Bool → Bool → ℕ → Number
+settled complete negative n =
+    cond (not complete || negative && eqb n 0) (number.Refused 17)
+    (cond (ltb n (10 ^ maxDigits)) (number.Value (signed negative n)) (number.Refused 18))
+
+-- what a text means that ended in a state
+abbrev pub ended : Phase → Reader → Number
+ended phase.Blank r = number.Empty
+ended phase.Minus r = number.Refused 17
+ended phase.Zero r = settled (eqb (r .decimals) 0) (r .negative) (r .value)
+ended phase.Whole r = settled (eqb (r .decimals) 0) (r .negative) (r .value)
+ended (phase.Fraction left) r = settled (eqb left 0) (r .negative) (r .value)
+ended phase.Comma r = number.Refused 16
+ended phase.Bad r = number.Refused 17
+
+unfoldable pub meaning : Reader → Number
+meaning r = ended (r .phase) r

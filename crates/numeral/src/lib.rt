@@ -1,0 +1,302 @@
+// Numeric text: what the characters of an N field mean, and the one text of a value.
+ghost use mathlib.Core.Path.{_≡_};
+ghost use Prim.Native.Nat.{_+_, _≤_, _<_, _/_, _^_};
+ghost use lib.IntN.{natAbs};
+ghost use lib.ListN.{length};
+ghost use Rattle.octets.specs.Store.{put};
+ghost use Rattle.numeral.specs.Format.{maxWidth, maxDecimals, maxDigits, formatGood, isDigit};
+ghost use Rattle.numeral.specs.Reading.{readNumber, signed};
+ghost use Rattle.numeral.specs.Scan.{initial, nextPhase, nextValue, firstDigit, wholeEnd, step, settled, meaning};
+ghost use Rattle.numeral.specs.Writing.{lastDigits, decimal, numberText, written, left, writeNumber};
+
+// The widest field, and the most decimals.
+const MAX_WIDTH: usize = 20;
+
+const MAX_DECIMALS: u32 = 15;
+
+// The least number of more than 18 digits.
+const PAST_DIGITS: u64 = 1000000000000000000;
+
+// What a numeric text means: a value in units of 10 to the -d, nothing, or a refusal's number.
+pub enum Number {
+    Value(i64),
+    Empty,
+    Refused(u32),
+}
+
+// What a write answers.
+pub enum Writing {
+    Written,
+    Refused(u32),
+}
+
+// Where the reader stands in a text: among the blanks, after the minus, after a zero that is the whole part, among the whole
+// part's other digits, behind the point with so many digits to come; or past any hope, by a comma or otherwise.
+pub enum Phase {
+    Blank,
+    Minus,
+    Zero,
+    Whole,
+    Fraction(u32),
+    Comma,
+    Bad,
+}
+
+// The reader's running state. `value` is the number of the digits so far, or some number of more than 18 digits once they have more.
+pub struct Reader {
+    pub decimals: u32,
+    pub phase: Phase,
+    pub negative: bool,
+    pub value: u64,
+}
+
+// Whether an N field may have this width and this many decimals.
+pub fn format_good(width: usize, decimals: u32) -> bool
+    ensures { λ r. ⌜ r ≡ formatGood width decimals ⌝ }
+{
+    (1 <= width)
+        & (width <= MAX_WIDTH)
+        & ((decimals == 0)
+            | (1 <= decimals) & (decimals <= MAX_DECIMALS) & (decimals as usize + 2 <= width))
+}
+
+// Whether a character is a digit.
+fn is_digit(c: u8) -> bool
+    ensures { λ r. ⌜ r ≡ isDigit c ⌝ }
+{
+    (b'0' <= c) & (c <= b'9')
+}
+
+// The phase after the first character of the whole part.
+fn first_digit(c: u8) -> Phase
+    ensures { λ r. ⌜ r ≡ firstDigit c ⌝ }
+{
+    if c == b'0' {
+        return Phase::Zero;
+    }
+    if is_digit(c) {
+        return Phase::Whole;
+    }
+    Phase::Bad
+}
+
+// The phase after the character behind the whole part.
+fn whole_end(decimals: u32, c: u8) -> Phase
+    ensures { λ r. ⌜ r ≡ wholeEnd decimals c ⌝ }
+{
+    if (c == b'.') & (1 <= decimals) {
+        return Phase::Fraction(decimals);
+    }
+    Phase::Bad
+}
+
+// The phase after one character more.
+fn next_phase(decimals: u32, p: Phase, c: u8) -> Phase
+    ensures { λ r. ⌜ r ≡ nextPhase decimals p c ⌝ }
+{
+    if c == b',' {
+        return Phase::Comma;
+    }
+    match p {
+        Phase::Blank => {
+            if c == b' ' {
+                return Phase::Blank;
+            }
+            if c == b'-' {
+                return Phase::Minus;
+            }
+            first_digit(c)
+        }
+        Phase::Minus => first_digit(c),
+        Phase::Zero => whole_end(decimals, c),
+        Phase::Whole => {
+            if is_digit(c) {
+                return Phase::Whole;
+            }
+            whole_end(decimals, c)
+        }
+        Phase::Fraction(left) => {
+            if is_digit(c) & (1 <= left) {
+                return Phase::Fraction(left - 1);
+            }
+            Phase::Bad
+        }
+        Phase::Comma => Phase::Comma,
+        Phase::Bad => Phase::Bad,
+    }
+}
+
+// The number of the digits so far and this one; a number of more than 18 digits stays as it is.
+fn next_value(n: u64, c: u8) -> u64
+    ensures { λ r. ⌜ r ≡ nextValue n c ⌝ }
+{
+    if is_digit(c) & (n < PAST_DIGITS) {
+        return 10 * n + (c - b'0') as u64;
+    }
+    n
+}
+
+impl Reader {
+    fn new(decimals: u32) -> Reader
+        ensures { λ r. ⌜ r ≡ initial decimals ⌝ }
+    {
+        Reader {
+            decimals,
+            phase: Phase::Blank,
+            negative: false,
+            value: 0,
+        }
+    }
+
+    // The state after one character more.
+    fn take(self, c: u8) -> Reader
+        ensures { λ r. ⌜ r ≡ step self c ⌝ }
+    {
+        let p = self.phase;
+        Reader {
+            decimals: self.decimals,
+            phase: next_phase(self.decimals, p, c),
+            negative: self.negative | (c == b'-'),
+            value: next_value(self.value, c),
+        }
+    }
+
+    // What a text means that ended in this state.
+    fn finish(self) -> Number
+        ensures { λ r. ⌜ r ≡ meaning self ⌝ }
+    {
+        let p = self.phase;
+        match p {
+            Phase::Blank => Number::Empty,
+            Phase::Minus => Number::Refused(17),
+            Phase::Zero => settle(self.decimals == 0, self.negative, self.value),
+            Phase::Whole => settle(self.decimals == 0, self.negative, self.value),
+            Phase::Fraction(left) => settle(left == 0, self.negative, self.value),
+            Phase::Comma => Number::Refused(16),
+            Phase::Bad => Number::Refused(17),
+        }
+    }
+}
+
+// A number with its sign.
+fn signed_value(negative: bool, n: u64) -> i64
+    requires { ⌜ n < 10 ^ maxDigits ⌝ }
+    ensures { λ r. ⌜ r ≡ signed negative n ⌝ }
+{
+    if negative { -(n as i64) } else { n as i64 }
+}
+
+// What a text with this number means: one that is not complete is refused, and so are minus zero and a number of more than 18 digits.
+fn settle(complete: bool, negative: bool, n: u64) -> Number
+    ensures { λ r. ⌜ r ≡ settled complete negative n ⌝ }
+{
+    if !complete | negative & (n == 0) {
+        return Number::Refused(17);
+    }
+    if n < PAST_DIGITS {
+        return Number::Value(signed_value(negative, n));
+    }
+    Number::Refused(18)
+}
+
+// Reads a numeric text; its length is the field's width.
+pub fn read_number(text: &[u8], decimals: u32) -> Number
+    ensures { λ r. ⌜ r ≡ readNumber (now (text .entry)) decimals ⌝ }
+{
+    if !format_good(text.len(), decimals) {
+        return Number::Refused(6);
+    }
+    let mut r = Reader::new(decimals);
+    let mut i = 0;
+    while i < text.len() {
+        r = r.take(text[i]);
+        i += 1;
+    }
+    r.finish()
+}
+
+// The magnitude of any value.
+fn magnitude(v: i64) -> u64
+    ensures { λ r. ⌜ r ≡ natAbs v ⌝ }
+{
+    if v < 0 {
+        (-(v + 1)) as u64 + 1
+    } else {
+        v as u64
+    }
+}
+
+// Ten to a power.
+fn power_of_ten(n: u32) -> u64
+    requires { ⌜ n ≤ maxDecimals ⌝ }
+    ensures { λ r. ⌜ r ≡ 10 ^ n ⌝ }
+{
+    let mut p: u64 = 1;
+    let mut i: u32 = 0;
+    while i < n {
+        p = 10 * p;
+        i += 1;
+    }
+    p
+}
+
+// How many decimal digits a number has, 1 for zero.
+fn digit_count(n: u64) -> usize
+    requires { ⌜ n < 10 ^ maxDigits ⌝ }
+    ensures { λ r. ⌜ r ≡ length (decimal n) ⌝ }
+{
+    let mut count: usize = 1;
+    let mut p: u64 = 10;
+    while p <= n {
+        p = 10 * p;
+        count += 1;
+    }
+    count
+}
+
+// Writes the last `count` digits of a number, from the right.
+fn put_digits(text: &mut [u8], at: usize, count: usize, n: u64)
+    requires { ⌜ at + count ≤ length (now text) ⌝ }
+    ensures { λ _. ⌜ now (text .exit) ≡ put (now (text .entry)) at (lastDigits count n) ⌝ }
+{
+    let mut rest = n;
+    let mut i = count;
+    while 0 < i {
+        i -= 1;
+        text[at + i] = (rest % 10) as u8 + b'0';
+        rest = rest / 10;
+    }
+}
+
+// Writes the one text of a value, blanks on the left; the buffer's length is the field's width. A refusal leaves the buffer as it was.
+pub fn write_number(text: &mut [u8], decimals: u32, value: i64) -> Writing
+    ensures { λ r. ⌜ writeNumber (now (text .entry)) decimals value ≡ left (now (text .exit)) r ⌝ }
+{
+    let width = text.len();
+    if !format_good(width, decimals) {
+        return Writing::Refused(6);
+    }
+    let n = magnitude(value);
+    if PAST_DIGITS <= n {
+        return Writing::Refused(18);
+    }
+    let whole = n / power_of_ten(decimals);
+    let count = digit_count(whole);
+    let places = decimals as usize;
+    let tail = if places == 0 { 0 } else { places + 1 };
+    let sign = if value < 0 { 1 } else { 0 };
+    if width < sign + count + tail {
+        return Writing::Refused(19);
+    }
+    let at = width - tail - count;
+    put_digits(text, at, count, whole);
+    if 0 < places {
+        text[width - tail] = b'.';
+        put_digits(text, width - places, places, n);
+    }
+    if value < 0 {
+        text[at - 1] = b'-';
+    }
+    octets::fill(text, 0, at - sign, b' ');
+    Writing::Written
+}
