@@ -4,3 +4,5 @@ pub mod Writing
 pub mod Scan
 pub mod ReadingLaws
 pub mod ScanLaws
+pub mod WritingLaws
+pub mod TextLaws

@@ -53,10 +53,13 @@ left s a = record { after = s; answer = a }
 -- what a write of v into the buffer s, whose length is the width, leaves and answers: a refusal leaves the buffer as it was
 unfoldable pub writeNumber : List ℕ → ℕ → ℤ → Left
 writeNumber s d v =
-    elim (formatGood (length s) d)
-    [ false ↦ left s (Refused 6)
-    | true ↦ elim (ltb (natAbs v) (10 ^ maxDigits))
-      [ false ↦ left s (Refused 18)
-      | true ↦ elim (leb (length (numberText d v)) (length s))
-        [ false ↦ left s (Refused 19)
-        | true ↦ left (written (length s) d v) Written ] ] ]
+    elim (formatGood (length s) d) [
+      | false ↦ left s (Refused 6)
+      | true ↦ elim (ltb (natAbs v) (10 ^ maxDigits)) [
+        | false ↦ left s (Refused 18)
+        | true ↦ elim (leb (length (numberText d v)) (length s)) [
+          | false ↦ left s (Refused 19)
+          | true ↦ left (written (length s) d v) Written
+        ]
+      ]
+    ]

@@ -7,7 +7,7 @@ ghost use Rattle.octets.specs.Store.{put};
 ghost use Rattle.numeral.specs.Format.{maxWidth, maxDecimals, maxDigits, formatGood, isDigit};
 ghost use Rattle.numeral.specs.Reading.{readNumber, signed};
 ghost use Rattle.numeral.specs.Scan.{initial, nextPhase, nextValue, firstDigit, wholeEnd, step, settled, meaning};
-ghost use Rattle.numeral.specs.Writing.{lastDigits, decimal, numberText, written, left, writeNumber};
+ghost use Rattle.numeral.specs.Writing.{lastDigits, decimal, fractionText, signText, left, writeNumber};
 
 // The widest field, and the most decimals.
 const MAX_WIDTH: usize = 20;
@@ -219,31 +219,20 @@ pub fn read_number(text: &[u8], decimals: u32) -> Number
 fn magnitude(v: i64) -> u64
     ensures { λ r. ⌜ r ≡ natAbs v ⌝ }
 {
-    if v < 0 {
-        (-(v + 1)) as u64 + 1
-    } else {
-        v as u64
-    }
+    if v < 0 { (-1 - v) as u64 + 1 } else { v as u64 }
 }
 
-// Ten to a power.
-fn power_of_ten(n: u32) -> u64
-    requires { ⌜ n ≤ maxDecimals ⌝ }
-    ensures { λ r. ⌜ r ≡ 10 ^ n ⌝ }
+// How many characters the sign takes.
+fn sign_length(v: i64) -> usize
+    ensures { λ r. ⌜ (r ≡ length (signText v)) × (r ≤ 1) ⌝ }
 {
-    let mut p: u64 = 1;
-    let mut i: u32 = 0;
-    while i < n {
-        p = 10 * p;
-        i += 1;
-    }
-    p
+    if v < 0 { 1 } else { 0 }
 }
 
-// How many decimal digits a number has, 1 for zero.
-fn digit_count(n: u64) -> usize
+// How many digits stand before the point: all but `places` of the number's digits, and one at least.
+fn whole_length(n: u64, places: usize) -> usize
     requires { ⌜ n < 10 ^ maxDigits ⌝ }
-    ensures { λ r. ⌜ r ≡ length (decimal n) ⌝ }
+    ensures { λ r. ⌜ (r ≡ length (decimal (n / 10 ^ places))) × (r ≤ maxDigits) ⌝ }
 {
     let mut count: usize = 1;
     let mut p: u64 = 10;
@@ -251,21 +240,43 @@ fn digit_count(n: u64) -> usize
         p = 10 * p;
         count += 1;
     }
-    count
+    if count <= places { 1 } else { count - places }
 }
 
-// Writes the last `count` digits of a number, from the right.
-fn put_digits(text: &mut [u8], at: usize, count: usize, n: u64)
+// How many characters the point and the digits after it take.
+fn fraction_length(places: usize) -> usize
+    requires { ⌜ places ≤ maxDecimals ⌝ }
+    ensures { λ r. ⌜ (((n : ℕ) → r ≡ length (fractionText places n)) × (r ≤ maxWidth)) ⌝ }
+{
+    if places == 0 { 0 } else { places + 1 }
+}
+
+// Writes the last `count` digits of a number, from the right, and answers the number without them.
+fn put_digits(text: &mut [u8], at: usize, count: usize, n: u64) -> u64
     requires { ⌜ at + count ≤ length (now text) ⌝ }
-    ensures { λ _. ⌜ now (text .exit) ≡ put (now (text .entry)) at (lastDigits count n) ⌝ }
+    ensures { λ r. ⌜ (r ≡ n / 10 ^ count) × (now (text .exit) ≡ put (now (text .entry)) at (lastDigits count n)) ⌝ }
 {
     let mut rest = n;
     let mut i = count;
     while 0 < i {
         i -= 1;
-        text[at + i] = (rest % 10) as u8 + b'0';
+        text[at + i] = b'0' + (rest % 10) as u8;
         rest = rest / 10;
     }
+    rest
+}
+
+// Writes the point and the digits after it, and answers the number before the point.
+fn put_fraction(text: &mut [u8], at: usize, places: usize, n: u64) -> u64
+    requires { ⌜ at + length (fractionText places n) ≤ length (now text) ⌝ }
+    ensures { λ r. ⌜ (r ≡ n / 10 ^ places) × (now (text .exit) ≡ put (now (text .entry)) at (fractionText places n)) ⌝ }
+{
+    if places == 0 {
+        return n;
+    }
+    let whole = put_digits(text, at + 1, places, n);
+    text[at] = b'.';
+    whole
 }
 
 // Writes the one text of a value, blanks on the left; the buffer's length is the field's width. A refusal leaves the buffer as it was.
@@ -280,23 +291,17 @@ pub fn write_number(text: &mut [u8], decimals: u32, value: i64) -> Writing
     if PAST_DIGITS <= n {
         return Writing::Refused(18);
     }
-    let whole = n / power_of_ten(decimals);
-    let count = digit_count(whole);
     let places = decimals as usize;
-    let tail = if places == 0 { 0 } else { places + 1 };
-    let sign = if value < 0 { 1 } else { 0 };
-    if width < sign + count + tail {
+    let sign = sign_length(value);
+    let count = whole_length(n, places);
+    let size = sign + count + fraction_length(places);
+    if width < size {
         return Writing::Refused(19);
     }
-    let at = width - tail - count;
-    put_digits(text, at, count, whole);
-    if 0 < places {
-        text[width - tail] = b'.';
-        put_digits(text, width - places, places, n);
-    }
-    if value < 0 {
-        text[at - 1] = b'-';
-    }
-    octets::fill(text, 0, at - sign, b' ');
+    let at = width - size;
+    let whole = put_fraction(text, at + sign + count, places, n);
+    put_digits(text, at + sign, count, whole);
+    octets::fill(text, at, at + sign, b'-');
+    octets::fill(text, 0, at, b' ');
     Writing::Written
 }

@@ -1,0 +1,382 @@
+-- Laws: demand 2, the grammar of numeric text. A text is accepted exactly where it is the one written text of a value of at most 18 digits.
+-- Assumes nothing.
+use mathlib.Core.Path.{_≡_, refl, sym, ap, _∙_}
+use mathlib.Core.Bool.{Bool, true, false, _&&_, _||_, not}
+use mathlib.Core.List.{List, [], _∷_, _++_}
+use mathlib.Core.Logic.{_↔_}
+use Prim.Native.Nat.{ℕ, zero, suc, _+_, _*_, _-_, _/_, _^_, _≤_, _<_}
+use native.Mathlib.Nat.{sub-self}
+use native.Mathlib.Omega.{arith}
+use lib.Dec.{eqb, leb, ltb}
+use lib.IntN.{ℤ, pos, negsuc, natAbs}
+use lib.ListN.{length, length-append, length-replicate, replicate}
+use borrow.Author.Tests.{ltb-true, ltb-false, leb-true, leb-false, le-leb, lt-leb, eqb-true, eq-eqb, ne-eqb}
+use Rattle.basis.specs.Tests.{either, contra, both, join}
+use Rattle.numeral.specs.Format.{maxDecimals, maxDigits, formatGood, blank, comma, minus, point, zeroDigit, isDigit}
+use Rattle.numeral.specs.Reading.{every, some, after, front, hasMinus, withoutMinus, wholeGood, fractionGood, wholePart, fraction, withoutPoint, digits, numberOf, textGood, signed, valueOf, digitCount, readNumber}
+use Rattle.numeral.specs.Writing.{lastDigits, decimal, fractionText, signText, numberText, written, left, writeNumber}
+use Rattle.numeral.specs.WritingLaws.{digit-small, length-lastDigits, lastDigits-digits, decimal-some, decimal-digits, decimal-good, number-written, digits-back, length-number, shift-fits, decimal-fits, format-decimals, length-written, written-exactly}
+use Rattle.numeral.specs.declared.Number.{Number}
+use Rattle.numeral.specs.declared.Number.the-variants.{Value, Empty, Refused}
+use Rattle.numeral.specs.declared.Writing.the-variants.{Written}
+
+-- ---- a text taken apart: its blanks, its sign, its whole part and its fraction
+
+front-after : (p : ℕ → Bool) (s : List ℕ) → front p s ++ after p s ≡ s
+unfolding front after
+front-after p [] = refl
+front-after p (c ∷ s) = either (p c) (λ e. rw (e, front, after, front-after p s)) (λ e. rw (e, front, after))
+
+after-short : (p : ℕ → Bool) (s : List ℕ) → length (after p s) ≤ length s
+unfolding after
+after-short p [] = omega arith
+after-short p (c ∷ s) = either (p c) (λ e. rw (e, after) (let l = after-short p s in omega arith)) (λ e. rw (e, after) (omega arith))
+
+blanks-front : (s : List ℕ) → s ≡ replicate (length s - length (after (eqb blank) s)) blank ++ after (eqb blank) s
+unfolding after
+blanks-front [] = refl
+blanks-front (c ∷ s) = either (eqb blank c)
+    (λ e.
+    let b : c ≡ blank = sym (eqb-true blank c e) in
+    let l = after-short (eqb blank) s in
+    let m : suc (length s) - length (after (eqb blank) s) ≡ suc (length s - length (after (eqb blank) s)) = omega arith in
+    rw (e, after, m) (ap (λ (x : ℕ). x ∷ s) b ∙ ap (λ (l : List ℕ). blank ∷ l) (blanks-front s)))
+    (λ e. rw (e, after, sub-self))
+
+with-minus : (s : List ℕ) → hasMinus s ≡ true → s ≡ minus ∷ withoutMinus s
+unfolding hasMinus withoutMinus
+with-minus [] e = contra e refl
+with-minus (c ∷ s) e = rw (e, withoutMinus) (ap (λ (x : ℕ). x ∷ s) (eqb-true c minus e))
+
+no-minus : (s : List ℕ) → hasMinus s ≡ false → withoutMinus s ≡ s
+unfolding hasMinus withoutMinus
+no-minus [] e = refl
+no-minus (c ∷ s) e = rw (e, withoutMinus)
+
+fraction-shape : (d : ℕ) (s : List ℕ) → fractionGood d s ≡ true
+    → (every isDigit (withoutPoint s) ≡ true) × (length (withoutPoint s) ≡ d) × ((n : ℕ) → lastDigits d n ≡ withoutPoint s → fractionText d n ≡ s)
+unfolding fractionGood withoutPoint every fractionText
+fraction-shape zero [] e = (refl, refl, (λ n l. refl))
+fraction-shape zero (c ∷ s) e = contra e (ne-eqb (suc (length s)) 0 (omega arith))
+fraction-shape (suc d) [] e = contra e refl
+fraction-shape (suc d) (c ∷ s) e =
+    let h = both (eqb c point && every isDigit s) (eqb (length s) (suc d)) e in
+    let k = both (eqb c point) (every isDigit s) (h .0) in
+    (k .1, eqb-true (length s) (suc d) (h .1), (λ n l. rw (l, eqb-true c point (k .0))))
+
+-- ---- a good text is the written text of its value
+
+signed-abs : (b : Bool) (n : ℕ) → natAbs (signed b n) ≡ n
+unfolding signed
+signed-abs false n = refl
+signed-abs true zero = refl
+signed-abs true (suc n) = refl
+
+signed-text : (b : Bool) (n : ℕ) → not (b && eqb n 0) ≡ true → signText (signed b n) ≡ elim b [ true ↦ minus ∷ [] | false ↦ [] ]
+unfolding signed signText
+signed-text false n e = refl
+signed-text true zero e = contra e refl
+signed-text true (suc n) e = refl
+
+sign-front : (s : List ℕ) → elim (hasMinus s) [ true ↦ minus ∷ [] | false ↦ [] ] ++ withoutMinus s ≡ s
+sign-front s = either (hasMinus s) (λ e. rw e (sym (with-minus s e))) (λ e. rw e (no-minus s e))
+
+-- without its sign: so many digits before the point, and d behind
+module _ (t : List ℕ) (d : ℕ) (w : wholeGood (wholePart t) ≡ true) (f : fractionGood d (fraction t) ≡ true) where
+  digits-whole : decimal (numberOf (digits t) / 10 ^ d) ≡ wholePart t
+  unfolding digits
+  digits-whole = let h = fraction-shape d (fraction t) f in digits-back (wholePart t) (withoutPoint (fraction t)) d w (h .0) (h .1) .0
+
+  digits-text : decimal (numberOf (digits t) / 10 ^ d) ++ fractionText d (numberOf (digits t)) ≡ t
+  unfolding digits wholePart fraction
+  digits-text =
+      let h = fraction-shape d (fraction t) f in
+      let b = digits-back (wholePart t) (withoutPoint (fraction t)) d w (h .0) (h .1) in
+      rw (digits-whole, h .2 (numberOf (digits t)) (b .1)) (front-after isDigit t)
+
+  digits-count : length (digits t) ≡ length (decimal (numberOf (digits t) / 10 ^ d)) + d
+  unfolding digits
+  digits-count = let h = fraction-shape d (fraction t) f in rw (digits-whole, length-append) (omega (arith, h .1))
+
+-- a text from its sign on, and from its first digit on
+abbrev trimmed : List ℕ → List ℕ
+trimmed s = after (eqb blank) s
+
+abbrev unsigned : List ℕ → List ℕ
+unsigned s = withoutMinus (trimmed s)
+
+module _ (s : List ℕ) (d : ℕ) (g : textGood s d ≡ true) where
+  good-parts : (wholeGood (wholePart (unsigned s)) ≡ true) × (fractionGood d (fraction (unsigned s)) ≡ true) × (not (hasMinus (trimmed s) && eqb (numberOf (digits (unsigned s))) 0) ≡ true)
+  unfolding textGood
+  good-parts =
+      let h = both (wholeGood (wholePart (unsigned s)) && fractionGood d (fraction (unsigned s))) (not (hasMinus (trimmed s) && eqb (numberOf (digits (unsigned s))) 0)) g in
+      let k = both (wholeGood (wholePart (unsigned s))) (fractionGood d (fraction (unsigned s))) (h .0) in
+      (k .0, k .1, h .1)
+
+  good-text : numberText d (valueOf s) ≡ trimmed s
+  unfolding numberText valueOf
+  good-text =
+      let h = good-parts in
+      rw (signed-abs, signed-text (hasMinus (trimmed s)) (numberOf (digits (unsigned s))) (h .2), digits-text (unsigned s) d (h .0) (h .1)) (sign-front (trimmed s))
+
+  good-written : s ≡ written (length s) d (valueOf s)
+  unfolding written
+  good-written = rw good-text (blanks-front s)
+
+  good-count : digitCount s ≡ length (decimal (natAbs (valueOf s) / 10 ^ d)) + d
+  unfolding digitCount valueOf
+  good-count = let h = good-parts in rw signed-abs (digits-count (unsigned s) d (h .0) (h .1))
+
+-- ---- a written text is good, and its value is the one written
+
+after-blanks : (k : ℕ) (s : List ℕ) → trimmed (replicate k blank ++ s) ≡ trimmed s
+unfolding after
+after-blanks zero s = refl
+after-blanks (suc k) s = after-blanks k s
+
+front-every : (p : ℕ → Bool) (w u : List ℕ) → every p w ≡ true → front p u ≡ [] → front p (w ++ u) ≡ w
+unfolding every front
+front-every p [] u e h = h
+front-every p (c ∷ w) u e h =
+    let k = both (p c) (every p w) e in
+    rw (k .0, front, front-every p w u (k .1) h)
+
+after-every : (p : ℕ → Bool) (w u : List ℕ) → every p w ≡ true → after p (w ++ u) ≡ after p u
+unfolding every after
+after-every p [] u e = refl
+after-every p (c ∷ w) u e =
+    let k = both (p c) (every p w) e in
+    rw (k .0, after, after-every p w u (k .1))
+
+-- a digit is neither a blank nor a minus
+digits-first : (w u : List ℕ) → every isDigit w ≡ true → 1 ≤ length w → (trimmed (w ++ u) ≡ w ++ u) × (hasMinus (w ++ u) ≡ false) × (withoutMinus (w ++ u) ≡ w ++ u)
+unfolding every after hasMinus withoutMinus
+digits-first [] u e l = absurd (omega arith)
+digits-first (c ∷ w) u e l =
+    let k = both (isDigit c) (every isDigit w) e in
+    let b = digit-small c (k .0) in
+    (rw (ne-eqb blank c (omega arith), after), ne-eqb c minus (omega arith), rw (ne-eqb c minus (omega arith), withoutMinus))
+
+fraction-stops : (d n : ℕ) → (front isDigit (fractionText d n) ≡ []) × (after isDigit (fractionText d n) ≡ fractionText d n)
+unfolding fractionText front after
+fraction-stops zero n = (refl, refl)
+fraction-stops (suc d) n = (refl, refl)
+
+fraction-good : (d n : ℕ) → (fractionGood d (fractionText d n) ≡ true) × (withoutPoint (fractionText d n) ≡ lastDigits d n)
+unfolding fractionText fractionGood withoutPoint lastDigits
+fraction-good zero n = (refl, refl)
+fraction-good (suc d) n = (rw (lastDigits-digits (suc d) n, length-lastDigits (suc d) n, eq-eqb (suc d) (suc d) refl), refl)
+
+-- the text of a magnitude
+module _ (d n : ℕ) where
+  abbrev body : List ℕ
+  body = decimal (n / 10 ^ d) ++ fractionText d n
+
+  body-whole : wholePart body ≡ decimal (n / 10 ^ d)
+  unfolding wholePart
+  body-whole = front-every isDigit _ _ (decimal-digits (n / 10 ^ d)) (fraction-stops d n .0)
+
+  body-fraction : fraction body ≡ fractionText d n
+  unfolding fraction
+  body-fraction = after-every isDigit _ _ (decimal-digits (n / 10 ^ d)) ∙ fraction-stops d n .1
+
+  body-number : numberOf (digits body) ≡ n
+  unfolding digits
+  body-number = rw (body-whole, body-fraction, fraction-good d n .1) (number-written n d)
+
+  body-good : wholeGood (wholePart body) && fractionGood d (fraction body) ≡ true
+  body-good = rw (body-whole, body-fraction, decimal-good (n / 10 ^ d), fraction-good d n .0)
+
+-- the text of a value
+number-parts : (d : ℕ) (v : ℤ)
+    → (trimmed (numberText d v) ≡ numberText d v) × (withoutMinus (numberText d v) ≡ body d (natAbs v)) × (signed (hasMinus (numberText d v)) (natAbs v) ≡ v)
+    × (not (hasMinus (numberText d v) && eqb (natAbs v) 0) ≡ true)
+unfolding numberText signText after withoutMinus hasMinus signed
+number-parts d (pos n) =
+    let h = digits-first (decimal (n / 10 ^ d)) (fractionText d n) (decimal-digits (n / 10 ^ d)) (decimal-some (n / 10 ^ d)) in
+    (h .0, h .2, rw (h .1), rw (h .1))
+number-parts d (negsuc n) = (refl, refl, refl, rw (ne-eqb (suc n) 0 (omega arith)))
+
+-- no comma stands in it, and not blanks alone
+some-append : (p : ℕ → Bool) (s t : List ℕ) → some p s ≡ false → some p t ≡ false → some p (s ++ t) ≡ false
+unfolding some
+some-append p [] t a b = b
+some-append p (c ∷ s) t a b = either (p c) (λ e. contra (rw e) a) (λ e. rw e (some-append p s t (rw e at a) b))
+
+blanks-plain : (k : ℕ) → some (eqb comma) (replicate k blank) ≡ false
+unfolding some
+blanks-plain zero = refl
+blanks-plain (suc k) = blanks-plain k
+
+digits-plain : (w : List ℕ) → every isDigit w ≡ true → some (eqb comma) w ≡ false
+unfolding every some
+digits-plain [] e = refl
+digits-plain (c ∷ w) e =
+    let k = both (isDigit c) (every isDigit w) e in
+    let b = digit-small c (k .0) in
+    rw (ne-eqb comma c (omega arith)) (digits-plain w (k .1))
+
+fraction-plain : (d n : ℕ) → some (eqb comma) (fractionText d n) ≡ false
+unfolding fractionText some
+fraction-plain zero n = refl
+fraction-plain (suc d) n = digits-plain (lastDigits (suc d) n) (lastDigits-digits (suc d) n)
+
+sign-plain : (v : ℤ) → some (eqb comma) (signText v) ≡ false
+unfolding signText some
+sign-plain (pos n) = refl
+sign-plain (negsuc n) = refl
+
+blanks-only : (s : List ℕ) → every (eqb blank) s ≡ true → trimmed s ≡ []
+unfolding every after
+blanks-only [] e = refl
+blanks-only (c ∷ s) e = let k = both (eqb blank c) (every (eqb blank) s) e in rw (k .0, after) (blanks-only s (k .1))
+
+module _ (width d : ℕ) (v : ℤ) where
+  written-trimmed : trimmed (written width d v) ≡ numberText d v
+  unfolding written
+  written-trimmed = after-blanks (width - length (numberText d v)) (numberText d v) ∙ number-parts d v .0
+
+  written-textGood : textGood (written width d v) d ≡ true
+  unfolding textGood
+  written-textGood =
+      let h = number-parts d v in
+      rw (written-trimmed, h .1, body-good d (natAbs v), body-number d (natAbs v)) (h .3)
+
+  written-value : valueOf (written width d v) ≡ v
+  unfolding valueOf
+  written-value =
+      let h = number-parts d v in
+      rw (written-trimmed, h .1, body-number d (natAbs v)) (h .2)
+
+  written-plain : some (eqb comma) (written width d v) ≡ false
+  unfolding written numberText
+  written-plain =
+      some-append (eqb comma) _ _ (blanks-plain (width - length (numberText d v)))
+      (some-append (eqb comma) _ _ (sign-plain v)
+      (some-append (eqb comma) _ _ (digits-plain _ (decimal-digits (natAbs v / 10 ^ d))) (fraction-plain d (natAbs v))))
+
+  written-shown : every (eqb blank) (written width d v) ≡ false
+  written-shown = either (every (eqb blank) (written width d v))
+      (λ e.
+      let l = ap length (sym written-trimmed ∙ blanks-only (written width d v) e) in
+      let s = decimal-some (natAbs v / 10 ^ d) in
+      absurd (omega (arith, length-number d v)))
+      (λ e. e)
+
+-- ---- the reader's answers
+
+-- the length of a text, as it is counted
+few-digits : (n d : ℕ) → d ≤ maxDecimals → (length (decimal (n / 10 ^ d)) + d ≤ maxDigits) ↔ (n < 10 ^ maxDigits)
+few-digits n d h =
+    let s = shift-fits n d (maxDigits - d) (omega arith) in
+    let e : maxDigits - d + d ≡ maxDigits = omega arith in
+    let f = decimal-fits n maxDigits (omega arith) in
+    ((λ l. f .0 (rw e at (s .0 (omega arith)))), (λ l. let k = s .1 (rw e (f .1 l)) in omega arith))
+
+-- every text comes to one of six answers
+by-answer : {X : Type 0} (s : List ℕ) (d : ℕ)
+    → (readNumber s d ≡ Refused 6 → X)
+    → (readNumber s d ≡ Empty → X)
+    → (readNumber s d ≡ Refused 16 → X)
+    → (readNumber s d ≡ Refused 17 → X)
+    → (formatGood (length s) d ≡ true → textGood s d ≡ true → maxDigits < digitCount s → readNumber s d ≡ Refused 18 → X)
+    → (formatGood (length s) d ≡ true → textGood s d ≡ true → digitCount s ≤ maxDigits → readNumber s d ≡ Value (valueOf s) → X)
+    → X
+unfolding readNumber
+by-answer s d a b c e f g = either (formatGood (length s) d)
+    (λ p. either (every (eqb blank) s)
+    (λ q. b (rw (p, readNumber, q)))
+    (λ q. either (some (eqb comma) s)
+    (λ r. c (rw (p, readNumber, q, r)))
+    (λ r. either (textGood s d)
+    (λ t. either (leb (digitCount s) maxDigits)
+    (λ u. g p t (leb-true _ _ u) (rw (p, readNumber, q, r, t, u)))
+    (λ u. f p t (leb-false _ _ u) (rw (p, readNumber, q, r, t, u))))
+    (λ t. e (rw (p, readNumber, q, r, t))))))
+    (λ p. a (rw (p, readNumber)))
+
+-- a written text that fits its own width, read
+module _ (s : List ℕ) (d : ℕ) (v : ℤ) (f : formatGood (length s) d ≡ true) (e : s ≡ written (length s) d v) where
+  is-good : textGood s d ≡ true
+  is-good = ap (λ (t : List ℕ). textGood t d) e ∙ written-textGood (length s) d v
+
+  is-value : valueOf s ≡ v
+  is-value = ap valueOf e ∙ written-value (length s) d v
+
+  is-shown : every (eqb blank) s ≡ false
+  is-shown = ap (every (eqb blank)) e ∙ written-shown (length s) d v
+
+  is-plain : some (eqb comma) s ≡ false
+  is-plain = ap (some (eqb comma)) e ∙ written-plain (length s) d v
+
+  is-count : (digitCount s ≤ maxDigits) ↔ (natAbs v < 10 ^ maxDigits)
+  is-count = rw (good-count s d is-good, is-value) (few-digits (natAbs v) d (format-decimals (length s) d f))
+
+  read-few : natAbs v < 10 ^ maxDigits → readNumber s d ≡ Value v
+  unfolding readNumber
+  read-few l = rw (f, readNumber, is-shown, is-plain, is-good, le-leb (digitCount s) maxDigits (is-count .1 l), is-value)
+
+  read-many : 10 ^ maxDigits ≤ natAbs v → readNumber s d ≡ Refused 18
+  unfolding readNumber
+  read-many l = either (leb (digitCount s) maxDigits)
+      (λ u. let k = is-count .0 (leb-true _ _ u) in absurd (omega arith))
+      (λ u. rw (f, readNumber, is-shown, is-plain, is-good, u))
+
+-- two answers that differ
+not-value : {X : Type 0} {r : Number} {n : ℕ} {v : ℤ} → r ≡ Refused n → r ≡ Value v → X
+not-value p q = let z : _≡_ {A = ℕ} 0 1 = cc in absurd (omega arith)
+
+not-empty : {X : Type 0} {r : Number} {v : ℤ} → r ≡ Empty → r ≡ Value v → X
+not-empty p q = let z : _≡_ {A = ℕ} 0 1 = cc in absurd (omega arith)
+
+not-refused : {X : Type 0} {r : Number} {n : ℕ} → r ≡ Empty → r ≡ Refused n → X
+not-refused p q = let z : _≡_ {A = ℕ} 0 1 = cc in absurd (omega arith)
+
+not-same : {X : Type 0} {r : Number} {m n : ℕ} → (m ≡ n → ⊥) → r ≡ Refused m → r ≡ Refused n → X
+not-same {m = m} {n = n} h p q = let z : m ≡ n = cc in absurd (h z)
+
+-- ---- demand 2
+
+-- a text is accepted with the value v exactly where it is v's one text in its own width, and v has at most 18 digits
+pub accepted : (s : List ℕ) (d : ℕ) (v : ℤ)
+    → (readNumber s d ≡ Value v) ↔ ((formatGood (length s) d ≡ true) × (s ≡ written (length s) d v) × (natAbs v < 10 ^ maxDigits))
+accepted s d v =
+    ((λ h. by-answer s d (λ a. not-value a h) (λ a. not-empty a h) (λ a. not-value a h) (λ a. not-value a h) (λ f t l a. not-value a h)
+    (λ f t l a.
+    let same : valueOf s ≡ v = cc in
+    let e : s ≡ written (length s) d v = good-written s d t ∙ ap (written (length s) d) same in
+    (f, e, is-count s d v f e .0 l))),
+    (λ h. read-few s d v (h .0) (h .1) (h .2)))
+
+-- it is refused by 18 exactly where it is the one text of a value of more than 18 digits
+pub too-long : (s : List ℕ) (d : ℕ)
+    → (readNumber s d ≡ Refused 18) ↔ ((formatGood (length s) d ≡ true) × ((v : ℤ) × (s ≡ written (length s) d v) × (10 ^ maxDigits ≤ natAbs v)))
+too-long s d =
+    ((λ h. by-answer s d (λ a. not-same (λ z. omega (arith, z)) a h) (λ a. not-refused a h) (λ a. not-same (λ z. omega (arith, z)) a h) (λ a. not-same (λ z. omega (arith, z)) a h)
+    (λ f t l a.
+    let e = good-written s d t in
+    let k = is-count s d (valueOf s) f e in
+    (f, (valueOf s, e, either (ltb (natAbs (valueOf s)) (10 ^ maxDigits)) (λ u. let m = k .1 (ltb-true _ _ u) in absurd (omega arith)) (λ u. ltb-false _ _ u))))
+    (λ f t l a. not-value h a)),
+    (λ h. read-many s d (h .1 .0) (h .0) (h .1 .1) (h .1 .2)))
+
+-- two accepted texts of one width, with one value, are the same text; and a text has one value
+pub one-text : (s t : List ℕ) (d : ℕ) (v : ℤ) → length s ≡ length t → readNumber s d ≡ Value v → readNumber t d ≡ Value v → s ≡ t
+one-text s t d v l p q = accepted s d v .0 p .1 ∙ ap (λ (width : ℕ). written width d v) l ∙ sym (accepted t d v .0 q .1)
+
+pub one-value : (s : List ℕ) (d : ℕ) (v w : ℤ) → readNumber s d ≡ Value v → readNumber s d ≡ Value w → v ≡ w
+one-value s d v w p q = cc
+
+-- what was written is read back
+pub read-back : (s t : List ℕ) (d : ℕ) (v : ℤ) → writeNumber s d v ≡ left t Written → readNumber t d ≡ Value v
+read-back s t d v h =
+    let w = written-exactly s t d v .0 h in
+    let l : length t ≡ length s = rw (w .3, length-written) (omega (arith, w .2)) in
+    accepted t d v .1 (rw l (w .0), rw l (w .3), w .1)
+
+-- and what was read is what a write leaves, in any buffer of that width
+pub write-back : (s t : List ℕ) (d : ℕ) (v : ℤ) → length s ≡ length t → readNumber t d ≡ Value v → writeNumber s d v ≡ left t Written
+write-back s t d v l h =
+    let r = accepted t d v .0 h in
+    let e = ap length (r .1) ∙ length-written (length t) d v in
+    written-exactly s t d v .1 (rw l (r .0), r .2, omega arith, rw l (r .1))
