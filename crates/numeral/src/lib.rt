@@ -1,6 +1,6 @@
 // Numeric text: what the characters of an N field mean, and the one text of a value.
 ghost use mathlib.Core.Path.{_≡_};
-ghost use Prim.Native.Nat.{_+_, _≤_, _<_, _/_, _^_};
+ghost use Prim.Native.Nat.{ℕ, _+_, _≤_, _<_, _/_, _^_};
 ghost use lib.IntN.{natAbs};
 ghost use lib.ListN.{length};
 ghost use Rattle.octets.specs.Store.{put};
