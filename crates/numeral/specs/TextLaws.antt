@@ -340,25 +340,27 @@ not-same {m = m} {n = n} h p q = let z : m ≡ n = cc in absurd (h z)
 -- a text is accepted with the value v exactly where it is v's one text in its own width, and v has at most 18 digits
 pub accepted : (s : List ℕ) (d : ℕ) (v : ℤ)
     → (readNumber s d ≡ Value v) ↔ ((formatGood (length s) d ≡ true) × (s ≡ written (length s) d v) × (natAbs v < 10 ^ maxDigits))
-accepted s d v =
-    ((λ h. by-answer s d (λ a. not-value a h) (λ a. not-empty a h) (λ a. not-value a h) (λ a. not-value a h) (λ f t l a. not-value a h)
-    (λ f t l a.
-    let same : valueOf s ≡ v = cc in
-    let e : s ≡ written (length s) d v = good-written s d t ∙ ap (written (length s) d) same in
-    (f, e, is-count s d v f e .0 l))),
-    (λ h. read-few s d v (h .0) (h .1) (h .2)))
+accepted s d v = (
+  (λ h. by-answer s d (λ a. not-value a h) (λ a. not-empty a h) (λ a. not-value a h) (λ a. not-value a h) (λ f t l a. not-value a h)
+      (λ f t l a.
+      let same : valueOf s ≡ v = cc in
+      let e : s ≡ written (length s) d v = good-written s d t ∙ ap (written (length s) d) same in
+      (f, e, is-count s d v f e .0 l))),
+  (λ h. read-few s d v (h .0) (h .1) (h .2)),
+)
 
 -- it is refused by 18 exactly where it is the one text of a value of more than 18 digits
 pub too-long : (s : List ℕ) (d : ℕ)
     → (readNumber s d ≡ Refused 18) ↔ ((formatGood (length s) d ≡ true) × ((v : ℤ) × (s ≡ written (length s) d v) × (10 ^ maxDigits ≤ natAbs v)))
-too-long s d =
-    ((λ h. by-answer s d (λ a. not-same (λ z. omega (arith, z)) a h) (λ a. not-refused a h) (λ a. not-same (λ z. omega (arith, z)) a h) (λ a. not-same (λ z. omega (arith, z)) a h)
-    (λ f t l a.
-    let e = good-written s d t in
-    let k = is-count s d (valueOf s) f e in
-    (f, (valueOf s, e, either (ltb (natAbs (valueOf s)) (10 ^ maxDigits)) (λ u. let m = k .1 (ltb-true _ _ u) in absurd (omega arith)) (λ u. ltb-false _ _ u))))
-    (λ f t l a. not-value h a)),
-    (λ h. read-many s d (h .1 .0) (h .0) (h .1 .1) (h .1 .2)))
+too-long s d = (
+  (λ h. by-answer s d (λ a. not-same (λ z. omega (arith, z)) a h) (λ a. not-refused a h) (λ a. not-same (λ z. omega (arith, z)) a h) (λ a. not-same (λ z. omega (arith, z)) a h)
+      (λ f t l a.
+      let e = good-written s d t in
+      let k = is-count s d (valueOf s) f e in
+      (f, (valueOf s, e, either (ltb (natAbs (valueOf s)) (10 ^ maxDigits)) (λ u. let m = k .1 (ltb-true _ _ u) in absurd (omega arith)) (λ u. ltb-false _ _ u))))
+      (λ f t l a. not-value h a)),
+  (λ h. read-many s d (h .1 .0) (h .0) (h .1 .1) (h .1 .2)),
+)
 
 -- two accepted texts of one width, with one value, are the same text; and a text has one value
 pub one-text : (s t : List ℕ) (d : ℕ) (v : ℤ) → length s ≡ length t → readNumber s d ≡ Value v → readNumber t d ≡ Value v → s ≡ t

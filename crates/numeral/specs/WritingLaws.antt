@@ -382,18 +382,19 @@ no-write {l} {s} {t} {n} p q =
 pub written-exactly : (s t : List ℕ) (d : ℕ) (v : ℤ)
     → (writeNumber s d v ≡ left t Written)
     ↔ ((formatGood (length s) d ≡ true) × (natAbs v < 10 ^ maxDigits) × (length (numberText d v) ≤ length s) × (t ≡ written (length s) d v))
-written-exactly s t d v =
-    ((λ h. either (formatGood (length s) d)
-    (λ f. either (ltb (natAbs v) (10 ^ maxDigits))
-    (λ m. either (leb (length (numberText d v)) (length s))
-    (λ l.
-    let small = ltb-true _ _ m in
-    let fits = leb-true _ _ l in
-    (f, small, fits, ap (λ (l : Left). l .after) (sym h ∙ written-good s d v f small fits)))
-    (λ l. no-write (refused-width s d v f (ltb-true _ _ m) (leb-false _ _ l)) h))
-    (λ m. no-write (refused-digits s d v f (ltb-false _ _ m)) h))
-    (λ f. no-write (refused-format s d v f) h)),
-    (λ h. written-good s d v (h .0) (h .1) (h .2) ∙ ap (λ (b : List ℕ). left b Written) (sym (h .3))))
+written-exactly s t d v = (
+  (λ h. either (formatGood (length s) d)
+      (λ f. either (ltb (natAbs v) (10 ^ maxDigits))
+      (λ m. either (leb (length (numberText d v)) (length s))
+      (λ l.
+      let small = ltb-true _ _ m in
+      let fits = leb-true _ _ l in
+      (f, small, fits, ap (λ (l : Left). l .after) (sym h ∙ written-good s d v f small fits)))
+      (λ l. no-write (refused-width s d v f (ltb-true _ _ m) (leb-false _ _ l)) h))
+      (λ m. no-write (refused-digits s d v f (ltb-false _ _ m)) h))
+      (λ f. no-write (refused-format s d v f) h)),
+  (λ h. written-good s d v (h .0) (h .1) (h .2) ∙ ap (λ (b : List ℕ). left b Written) (sym (h .3))),
+)
 
 -- what the writer knows before it compares the widths: its value's magnitude, and the lengths of its text's three parts
 pub record Measured (s : List ℕ) (d : ℕ) (v : ℤ) (n sign count tail : ℕ) : Type 0 where
