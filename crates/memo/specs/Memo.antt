@@ -1,0 +1,98 @@
+-- Rules: the FPT memo file, document 01, "Field text", paragraph M, with refusals 21 to 23 in the paper's order.
+use Prim.Native.Nat.{ℕ, _+_, _*_, _-_, _%_}
+use mathlib.Core.Bool.{Bool, true, false, cond, _&&_}
+use mathlib.Core.List.{List, [], _∷_}
+use lib.ListN.{length}
+use lib.Dec.{leb, ltb, eqb}
+use Rattle.octets.specs.Bytes.{be16, be32}
+use Rattle.memo.specs.declared.MemoNumber.{MemoNumber}
+use Rattle.memo.specs.declared.MemoNumber.the-variants.{Blank, Bad, Number}
+use Rattle.memo.specs.declared.MemoPlace.{MemoPlace}
+use Rattle.memo.specs.declared.MemoPlace.the-variants.{Text, Empty, Refused}
+
+-- "FPT header: 512 bytes, file from 512 to 16,777,216"
+abbrev pub memoHeaderBytes : ℕ
+memoHeaderBytes = 512
+
+abbrev pub maxMemoBytes : ℕ
+maxMemoBytes = 16777216
+
+-- a text from its first character that is no blank (32) on
+unfoldable pub unpadded : List ℕ → List ℕ
+unpadded [] = []
+unpadded (c ∷ rest) = let tail = unpadded rest in cond (eqb c 32) tail (c ∷ rest)
+
+-- a character from `0` (48) to `9` (57)
+abbrev pub isDigit : ℕ → Bool
+isDigit c = leb 48 c && leb c 57
+
+-- the number that digits to the text's end write, after those that wrote n
+unfoldable pub digitsAfter : ℕ → List ℕ → MemoNumber
+digitsAfter n [] = Number n
+digitsAfter n (c ∷ rest) = let whole = digitsAfter (10 * n + (c - 48)) rest in cond (isDigit c) whole Bad
+
+-- what follows the blanks: nothing, or "digits .., no leading zero, at least 1", so that the first is above `0`
+unfoldable pub digitsNumber : List ℕ → MemoNumber
+digitsNumber [] = Blank
+digitsNumber (c ∷ rest) = cond (ltb 48 c) (digitsAfter 0 (c ∷ rest)) Bad
+
+-- "ten blanks is empty; else digits right-justified"; a text of another length is bad
+unfoldable pub memoNumber : List ℕ → MemoNumber
+memoNumber text = cond (eqb (length text) 10) (digitsNumber (unpadded text)) Bad
+
+-- "bytes 0-3 next free block", "FPT numbers are most significant byte first"
+abbrev pub nextFree : List ℕ → ℕ
+nextFree file = be32 file 0
+
+-- "6-7 block size"
+abbrev pub blockSize : List ℕ → ℕ
+blockSize file = be16 file 6
+
+-- "file from 512 to 16,777,216; .. block size, even, 32 to 16,384"
+unfoldable pub memoHeaderGood : List ℕ → Bool
+memoHeaderGood file =
+    leb memoHeaderBytes (length file) && leb (length file) maxMemoBytes
+    && eqb (blockSize file % 2) 0 && leb 32 (blockSize file) && leb (blockSize file) 16384
+
+-- "A block starts at number × size"
+abbrev pub blockStart : List ℕ → ℕ → ℕ
+blockStart file number = number * blockSize file
+
+-- "bytes 0-3 are 1 for text"
+abbrev pub isText : List ℕ → ℕ → Bool
+isText file start = eqb (be32 file start) 1
+
+-- "4-7 length"
+abbrev pub textLength : List ℕ → ℕ → ℕ
+textLength file start = be32 file (start + 4)
+
+-- a block starts "at or after 512", and "Start + 8 must be at most the file's length"
+abbrev pub headFits : List ℕ → ℕ → Bool
+headFits file start = leb memoHeaderBytes start && leb (start + 8) (length file)
+
+-- a text's end "must pass neither the file's end nor next free × size"
+abbrev pub endFits : List ℕ → ℕ → Bool
+endFits file end = leb end (length file) && leb end (nextFree file * blockSize file)
+
+-- and that end is "start + 8 + length"
+unfoldable pub placeGood : List ℕ → ℕ → Bool
+placeGood file start = headFits file start && endFits file (start + 8 + textLength file start)
+
+-- the block that starts there: 21 for its place, then 23 for its type; else where its text starts, and its length
+unfoldable pub blockText : List ℕ → ℕ → MemoPlace
+blockText file start =
+    cond (placeGood file start) (cond (isText file start) (Text (start + 8) (textLength file start)) (Refused 23)) (Refused 21)
+
+-- the block of a number: 22 for the header, then the block
+unfoldable pub numberedText : List ℕ → ℕ → MemoPlace
+numberedText file number = cond (memoHeaderGood file) (blockText file (blockStart file number)) (Refused 22)
+
+-- by what the number's text says; an empty field does not look at the file
+unfoldable pub readText : List ℕ → MemoNumber → MemoPlace
+readText file Bad = Refused 21
+readText file Blank = Empty
+readText file (Number number) = numberedText file number
+
+-- "Memo: 21 for the number's text, 22, 21 for the place, 23."
+unfoldable pub memoText : List ℕ → List ℕ → MemoPlace
+memoText text file = readText file (memoNumber text)

@@ -1,0 +1,82 @@
+-- Laws: products that fit, the tests of a memo's place one after another, and that every text handed out lies in the file. Assumes nothing.
+use mathlib.Core.Path.{_≡_}
+use mathlib.Core.Bool.{true, false}
+use mathlib.Core.List.{List}
+use Prim.Native.Nat.{ℕ, _+_, _*_, _^_, _≤_, _<_}
+use native.Mathlib.Nat.{mul-le-mul}
+use native.Mathlib.Omega.{arith}
+use lib.ListN.{length}
+use borrow.Author.Tests.{leb-true, ne-eqb}
+use Rattle.basis.specs.Tests.{both}
+use Rattle.octets.specs.Bytes.{be32}
+use Rattle.memo.specs.declared.MemoNumber.{MemoNumber}
+use Rattle.memo.specs.declared.MemoNumber.the-variants.{Blank, Bad, Number}
+use Rattle.memo.specs.declared.MemoPlace.the-variants.{Text, Empty, Refused}
+use Rattle.memo.specs.TestLaws.{first-arm}
+use Rattle.memo.specs.Memo.{memoHeaderBytes, memoNumber, memoHeaderGood, headFits, endFits, placeGood, isText, textLength, blockText, blockStart, numberedText, readText, memoText}
+
+-- a number of blocks, of ten digits or four bytes, times a block size of two bytes: there is room for 8 more in 64 bits
+pub bytes-fit : (n size : ℕ) → n < 2 ^ 34 → size < 2 ^ 16 → n * size + 8 < 2 ^ 64
+bytes-fit n size h l =
+    let m : n ≤ 2 ^ 34 = omega arith in
+    let k : size ≤ 2 ^ 16 = omega arith in
+    let p : n * size ≤ 2 ^ 34 * 2 ^ 16 = mul-le-mul m k in omega arith
+
+-- a file with a good header has one
+pub header-long : (file : List ℕ) → memoHeaderGood file ≡ true → memoHeaderBytes ≤ length file
+unfolding memoHeaderGood
+header-long file e = leb-true memoHeaderBytes (length file) (both _ _ (both _ _ (both _ _ (both _ _ e .0) .0) .0) .0)
+
+pub end-inside : (file : List ℕ) (end : ℕ) → endFits file end ≡ true → end ≤ length file
+end-inside file end e = leb-true end (length file) (both _ _ e .0)
+
+module _ (file : List ℕ) (start : ℕ) where
+  pub head-inside : headFits file start ≡ true → (memoHeaderBytes ≤ start) × (start + 8 ≤ length file)
+  head-inside e = let p = both _ _ e in (leb-true memoHeaderBytes start (p .0), leb-true (start + 8) (length file) (p .1))
+
+  -- the four answers of a block, by the tests in their order
+  pub text-no-head : headFits file start ≡ false → blockText file start ≡ Refused 21
+  unfolding blockText placeGood
+  text-no-head e = rw e
+
+  module _ (len : ℕ) (e : len ≡ textLength file start) (f : headFits file start ≡ true) where
+    pub text-no-end : endFits file (start + 8 + len) ≡ false → blockText file start ≡ Refused 21
+    unfolding blockText placeGood
+    text-no-end g = rw (f, ← e, g)
+
+    pub text-other : endFits file (start + 8 + len) ≡ true → (be32 file start ≡ 1 → ⊥) → blockText file start ≡ Refused 23
+    unfolding blockText placeGood
+    text-other g h = rw (f, ← e, g, ne-eqb (be32 file start) 1 h)
+
+    pub text-found : endFits file (start + 8 + len) ≡ true → be32 file start ≡ 1 → blockText file start ≡ Text (start + 8) len
+    unfolding blockText placeGood
+    text-found g h = rw (f, ← e, g, h)
+
+-- an answer is one of three
+empty-text : (a l : ℕ) → Empty ≡ Text a l → ⊥
+empty-text a l e = let z : _≡_ {A = ℕ} 0 1 = cc in omega arith
+
+refused-text : (k a l : ℕ) → Refused k ≡ Text a l → ⊥
+refused-text k a l e = let z : _≡_ {A = ℕ} 0 1 = cc in omega arith
+
+-- every text handed out lies in the file, after the header and the 8 bytes before it
+module _ (file : List ℕ) (a l : ℕ) where
+  block-inside : (start : ℕ) → blockText file start ≡ Text a l → (memoHeaderBytes + 8 ≤ a) × (a + l ≤ length file)
+  unfolding blockText placeGood
+  block-inside start e =
+      let place = first-arm (placeGood file start) (refused-text 21 a l) e in
+      let text = first-arm (isText file start) (refused-text 23 a l) (place .1) in
+      let fits = both (headFits file start) (endFits file (start + 8 + textLength file start)) (place .0) in
+      let from : start + 8 ≡ a = cc in
+      let len : textLength file start ≡ l = cc in
+      omega (arith, head-inside file start (fits .0), end-inside file (start + 8 + textLength file start) (fits .1))
+
+  read-inside : (read : MemoNumber) → readText file read ≡ Text a l → (memoHeaderBytes + 8 ≤ a) × (a + l ≤ length file)
+  unfolding readText numberedText
+  read-inside Bad e = absurd (refused-text 21 a l e)
+  read-inside Blank e = absurd (empty-text a l e)
+  read-inside (Number n) e = block-inside (blockStart file n) (first-arm (memoHeaderGood file) (refused-text 22 a l) e .1)
+
+  pub text-inside : (text : List ℕ) → memoText text file ≡ Text a l → (memoHeaderBytes + 8 ≤ a) × (a + l ≤ length file)
+  unfolding memoText
+  text-inside text e = read-inside (memoNumber text) e

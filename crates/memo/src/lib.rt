@@ -1,0 +1,163 @@
+// The FPT memo file: where the text of the memo that a table's M field names stands in the file.
+use octets::load_be16;
+use octets::load_be32;
+ghost use mathlib.Core.Path.{_≡_};
+ghost use Prim.Native.Nat.{_+_, _^_, _≤_, _<_};
+ghost use lib.ListN.{length, drop};
+ghost use Rattle.memo.specs.Memo.{memoHeaderBytes, unpadded, isDigit, digitsNumber, memoNumber, blockSize, memoHeaderGood, headFits, endFits, blockText, numberedText, memoText};
+
+// The header's length: the least length of a memo file, and the first place where a block can start.
+const HEADER_BYTES: usize = 512;
+
+// The greatest length of a memo file.
+const MAX_MEMO_BYTES: usize = 16777216;
+
+// What the ten characters of an M field say.
+enum MemoNumber {
+    Blank,
+    Bad,
+    Number(u64),
+}
+
+// Where a memo's text stands in the memo file, or why there is none.
+pub enum MemoPlace {
+    Text { start: usize, len: usize },
+    Empty,
+    Refused(u32),
+}
+
+// How many blanks a text begins with.
+fn padding(text: &[u8]) -> usize
+    ensures { λ r. ⌜ (r ≤ length (now (text .entry))) × (drop r (now (text .entry)) ≡ unpadded (now (text .entry))) ⌝ }
+{
+    let mut i = 0;
+    while i < text.len() {
+        if text[i] != b' ' {
+            return i;
+        }
+        i += 1;
+    }
+    i
+}
+
+// Whether a character is a decimal digit.
+fn is_digit(c: u8) -> bool
+    ensures { λ r. ⌜ r ≡ isDigit c ⌝ }
+{
+    (b'0' <= c) & (c <= b'9')
+}
+
+// The number that the characters of a text from one place on write. Ten digits fit a u64.
+fn digits_from(text: &[u8], from: usize) -> MemoNumber
+    requires { ⌜ (from ≤ length (now text)) × (length (now text) ≤ 10) ⌝ }
+    ensures { λ r. ⌜ r ≡ digitsNumber (drop from (now (text .entry))) ⌝ }
+{
+    if from == text.len() {
+        return MemoNumber::Blank;
+    }
+    if text[from] <= b'0' {
+        return MemoNumber::Bad;
+    }
+    let mut n: u64 = 0;
+    let mut i = from;
+    while i < text.len() {
+        let c = text[i];
+        if !is_digit(c) {
+            return MemoNumber::Bad;
+        }
+        n = 10 * n + (c - b'0') as u64;
+        i += 1;
+    }
+    MemoNumber::Number(n)
+}
+
+// The number of an M field's text.
+fn read_number(text: &[u8]) -> MemoNumber
+    ensures { λ r. ⌜ r ≡ memoNumber (now (text .entry)) ⌝ }
+{
+    if text.len() != 10 {
+        return MemoNumber::Bad;
+    }
+    digits_from(text, padding(text))
+}
+
+// The block size that the header gives.
+fn block_size(file: &[u8]) -> u64
+    requires { ⌜ memoHeaderBytes ≤ length (now file) ⌝ }
+    ensures { λ r. ⌜ (r ≡ blockSize (now (file .entry))) × (r < 65536) ⌝ }
+{
+    load_be16(file, 6) as u64
+}
+
+// Whether a file's length and block size are those of a memo file.
+fn header_good(file: &[u8]) -> bool
+    ensures { λ r. ⌜ r ≡ memoHeaderGood (now (file .entry)) ⌝ }
+{
+    if file.len() < HEADER_BYTES {
+        return false;
+    }
+    let size = block_size(file);
+    (file.len() <= MAX_MEMO_BYTES) & (size % 2 == 0) & (32 <= size) & (size <= 16384)
+}
+
+// Whether the 8 bytes before a block's text stand after the header and in the file.
+fn head_fits(file: &[u8], start: u64) -> bool
+    requires { ⌜ start + 8 < 2 ^ 64 ⌝ }
+    ensures { λ r. ⌜ r ≡ headFits (now (file .entry)) start ⌝ }
+{
+    (HEADER_BYTES as u64 <= start) & (start + 8 <= file.len() as u64)
+}
+
+// Whether a text that ends there stands in the file and in the blocks in use.
+fn end_fits(file: &[u8], end: u64) -> bool
+    requires { ⌜ memoHeaderBytes ≤ length (now file) ⌝ }
+    ensures { λ r. ⌜ r ≡ endFits (now (file .entry)) end ⌝ }
+{
+    let next = load_be32(file, 0) as u64;
+    (end <= file.len() as u64) & (end <= next * block_size(file))
+}
+
+// The text of the block that starts there.
+fn block_text(file: &[u8], start: u64) -> MemoPlace
+    requires { ⌜ (memoHeaderBytes ≤ length (now file)) × (start + 8 < 2 ^ 64) ⌝ }
+    ensures { λ r. ⌜ r ≡ blockText (now (file .entry)) start ⌝ }
+{
+    if !head_fits(file, start) {
+        return MemoPlace::Refused(21);
+    }
+    let at = start as usize;
+    let len = load_be32(file, at + 4) as u64;
+    if !end_fits(file, start + 8 + len) {
+        return MemoPlace::Refused(21);
+    }
+    if load_be32(file, at) != 1 {
+        return MemoPlace::Refused(23);
+    }
+    MemoPlace::Text {
+        start: at + 8,
+        len: len as usize,
+    }
+}
+
+// The text of the block with a number of at most ten digits.
+fn numbered_text(file: &[u8], number: u64) -> MemoPlace
+    requires { ⌜ number < 10 ^ 10 ⌝ }
+    ensures { λ r. ⌜ r ≡ numberedText (now (file .entry)) number ⌝ }
+{
+    if !header_good(file) {
+        return MemoPlace::Refused(22);
+    }
+    block_text(file, number * block_size(file))
+}
+
+// Where the text of the memo that an M field's characters name stands in the memo file.
+pub fn memo_place(number: &[u8], file: &[u8]) -> MemoPlace
+    ensures { λ r. ⌜ r ≡ memoText (now (number .entry)) (now (file .entry)) ⌝ }
+{
+    let read = read_number(number);
+    match read {
+        MemoNumber::Bad => MemoPlace::Refused(21),
+        MemoNumber::Blank => MemoPlace::Empty,
+        MemoNumber::Number(n) => numbered_text(file, n),
+    }
+}
