@@ -1,0 +1,75 @@
+-- Rules: document 01, one field by value: "a name, type, length and decimals", and where a field of a record lies. Refusals 1 to 10, 11 and 12.
+use Prim.Native.Nat.{ℕ, _+_, _-_}
+use mathlib.Core.List.{List, [], _∷_, _++_}
+use mathlib.Core.Bool.{Bool, cond}
+use lib.ListN.{replicate}
+use lib.Dec.{eqb}
+use Rattle.octets.specs.Store.{window}
+use Rattle.table.specs.Table.{descriptor, fieldType, fieldLength, fieldDecimals, fieldOffset, fieldCount, recordCount, recordStart, deletionByte, numberGood, firstRefusal, tableChecks}
+use Rattle.field.specs.declared.FieldEntry.{FieldEntry}
+use Rattle.field.specs.declared.FieldAnswer.{FieldAnswer}
+use Rattle.field.specs.declared.FieldForm.{FieldForm}
+use Rattle.field.specs.declared.Place.{Place}
+use Rattle.field.specs.declared.Placed.{Placed}
+use Rattle.field.specs.declared.Placed.the-variants.{At, Refused}
+
+-- ---- an entry
+
+-- "bytes 0-10 name": the 11 bytes of the name of field j, from 0
+unfoldable pub fieldName : List ℕ → ℕ → List ℕ
+fieldName b j = window b (descriptor j) 11
+
+-- "each a name, type, length and decimals"
+unfoldable pub entryOf : List ℕ → ℕ → FieldEntry
+entryOf b j = record {
+  name = fieldName b j;
+  kind = fieldType b j;
+  length = fieldLength b j;
+  decimals = fieldDecimals b j;
+}
+
+-- what stands beside a refusal
+unfoldable pub noEntry : FieldEntry
+noEntry = record {
+  name = replicate 11 0;
+  kind = 0;
+  length = 0;
+  decimals = 0;
+}
+
+-- "1 to 10 ... then ... 12": "field number 0 or above f"
+unfoldable pub fieldRefusal : List ℕ → ℕ → ℕ
+fieldRefusal b field = firstRefusal (tableChecks b ++ ((numberGood field (fieldCount b), 12) ∷ []))
+
+-- the entry of a field by its number, from 1
+unfoldable pub fieldAnswer : List ℕ → ℕ → FieldAnswer
+fieldAnswer b field = record {
+  refusal = fieldRefusal b field;
+  entry = cond (eqb (fieldRefusal b field) 0) (entryOf b (field - 1)) noEntry;
+}
+
+-- ---- a field in a record
+
+-- what a reader needs of field j, from 0: its offset is that in a record
+unfoldable pub formOf : List ℕ → ℕ → FieldForm
+formOf b j = record {
+  kind = fieldType b j;
+  offset = fieldOffset b j;
+  length = fieldLength b j;
+  decimals = fieldDecimals b j;
+}
+
+-- "1 to 10 ... then 11, 12": "record number 0 or above the count", "field number 0 or above f"
+unfoldable pub placeRefusal : List ℕ → ℕ → ℕ → ℕ
+placeRefusal b i field = firstRefusal (tableChecks b ++ ((numberGood i (recordCount b), 11) ∷ (numberGood field (fieldCount b), 12) ∷ []))
+
+-- the deletion byte of record i, and where its field lies in the table: "fields follow in order"
+unfoldable pub placeAt : List ℕ → ℕ → ℕ → Place
+placeAt b i field = record {
+  mark = deletionByte b i;
+  start = recordStart b i + fieldOffset b (field - 1);
+  form = formOf b (field - 1);
+}
+
+unfoldable pub placeOf : List ℕ → ℕ → ℕ → Placed
+placeOf b i field = cond (eqb (placeRefusal b i field) 0) (At (placeAt b i field)) (Refused (placeRefusal b i field))

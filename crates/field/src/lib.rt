@@ -1,0 +1,165 @@
+// One field of a table by value: its entry, and where it lies in a record. Document 01, "The table": refusals 1 to 10, 11 and 12.
+ghost use Prim.Native.Nat.{_+_, _≤_, _<_};
+ghost use mathlib.Core.Path.{_≡_};
+ghost use lib.ListN.{length};
+ghost use Rattle.table.specs.Table.{descriptor, fieldCount, tableRefusal};
+ghost use Rattle.field.specs.Field.{entryOf, noEntry, fieldRefusal, fieldAnswer, formOf, placeRefusal, placeAt, placeOf};
+
+const BAD_RECORD_NUMBER: u32 = 11;
+
+const BAD_FIELD_NUMBER: u32 = 12;
+
+// A field as the host lists it.
+#[repr(C)]
+pub struct FieldEntry {
+    pub name: [u8; 11],
+    pub kind: u8,
+    pub length: u8,
+    pub decimals: u8,
+}
+
+// An entry, or the number of a refusal and an entry of zeros.
+pub struct FieldAnswer {
+    pub refusal: u32,
+    pub entry: FieldEntry,
+}
+
+// A field as its reader needs it; the offset is that in a record.
+pub struct FieldForm {
+    pub kind: u32,
+    pub offset: usize,
+    pub length: usize,
+    pub decimals: u32,
+}
+
+// A field of a record: the record's deletion byte, and where the field starts in the table.
+pub struct Place {
+    pub mark: u32,
+    pub start: usize,
+    pub form: FieldForm,
+}
+
+pub enum Placed {
+    At(Place),
+    Refused(u32),
+}
+
+pub fn entry_at(table: &[u8], j: usize) -> FieldEntry
+    requires { ⌜ descriptor j + 32 ≤ length (now table) ⌝ }
+    ensures { λ r. ⌜ r ≡ entryOf (now (table .entry)) j ⌝ }
+{
+    let at = 32 + 32 * j;
+    let name = [
+        table[at],
+        table[at + 1],
+        table[at + 2],
+        table[at + 3],
+        table[at + 4],
+        table[at + 5],
+        table[at + 6],
+        table[at + 7],
+        table[at + 8],
+        table[at + 9],
+        table[at + 10],
+    ];
+    FieldEntry {
+        name,
+        kind: table[at + 11],
+        length: table[at + 16],
+        decimals: table[at + 17],
+    }
+}
+
+fn no_entry() -> FieldEntry
+    ensures { λ r. ⌜ r ≡ noEntry ⌝ }
+{
+    FieldEntry {
+        name: [0; 11],
+        kind: 0,
+        length: 0,
+        decimals: 0,
+    }
+}
+
+fn field_refusal(table: &[u8], field: u32) -> u32
+    ensures { λ r. ⌜ r ≡ fieldRefusal (now (table .entry)) field ⌝ }
+{
+    match table::check_table(table) {
+        table::Checked::Refused(number) => number,
+        table::Checked::Good(shape) => {
+            if table::number_good(field as usize, shape.fields) {
+                0
+            } else {
+                BAD_FIELD_NUMBER
+            }
+        }
+    }
+}
+
+// The entry of a field by its number, from 1.
+pub fn field_entry(table: &[u8], field: u32) -> FieldAnswer
+    ensures { λ r. ⌜ r ≡ fieldAnswer (now (table .entry)) field ⌝ }
+{
+    let refusal = field_refusal(table, field);
+    if refusal != 0 {
+        let entry = no_entry();
+        return FieldAnswer { refusal, entry };
+    }
+    let entry = entry_at(table, (field - 1) as usize);
+    FieldAnswer { refusal: 0, entry }
+}
+
+// What a reader needs of field j, from 0, of a table that was checked.
+pub fn field_form(table: &[u8], j: usize) -> FieldForm
+    requires { ⌜ (tableRefusal (now table) ≡ 0) × (j < fieldCount (now table)) ⌝ }
+    ensures { λ r. ⌜ r ≡ formOf (now (table .entry)) j ⌝ }
+{
+    let at = 32 + 32 * j;
+    FieldForm {
+        kind: octets::byte(table, at + 11),
+        offset: table::field_offset(table, j),
+        length: octets::byte(table, at + 16) as usize,
+        decimals: octets::byte(table, at + 17),
+    }
+}
+
+fn place_refusal(table: &[u8], i: u32, field: u32) -> u32
+    ensures { λ r. ⌜ r ≡ placeRefusal (now (table .entry)) i field ⌝ }
+{
+    match table::check_table(table) {
+        table::Checked::Refused(number) => number,
+        table::Checked::Good(shape) => {
+            if !table::number_good(i as usize, shape.records as usize) {
+                return BAD_RECORD_NUMBER;
+            }
+            if !table::number_good(field as usize, shape.fields) {
+                return BAD_FIELD_NUMBER;
+            }
+            0
+        }
+    }
+}
+
+fn place_at(table: &[u8], i: u32, field: u32) -> Place
+    requires { ⌜ placeRefusal (now table) i field ≡ 0 ⌝ }
+    ensures { λ r. ⌜ r ≡ placeAt (now (table .entry)) i field ⌝ }
+{
+    let start = table::records_end(table, i - 1);
+    let form = field_form(table, (field - 1) as usize);
+    Place {
+        mark: octets::byte(table, start),
+        start: start + form.offset,
+        form,
+    }
+}
+
+// Where a field of a record lies, both by their numbers, from 1.
+pub fn field_place(table: &[u8], i: u32, field: u32) -> Placed
+    ensures { λ r. ⌜ r ≡ placeOf (now (table .entry)) i field ⌝ }
+{
+    let refusal = place_refusal(table, i, field);
+    if refusal != 0 {
+        return Placed::Refused(refusal);
+    }
+    Placed::At(place_at(table, i, field))
+}

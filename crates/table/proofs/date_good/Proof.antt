@@ -1,0 +1,30 @@
+-- `table::date_good` meets its contract, from what `is_date` and `byte` ensure. Assumes nothing.
+use mathlib.Core.Path.{_∙_}
+use Rattle.table.specs.Table.{dateGood}
+use borrow.Author.Needs.{needs}
+use Rattle.table.proofs.date_good.Statement.{statement}
+use Rattle.table.proofs.date_good.Tie as tie
+
+byte-requires : tie.Need-byte-requires
+byte-requires c κs = search needs
+
+add-year : tie.Need-add-year
+add-year c = search needs
+
+byte-requires-2 : tie.Need-byte-requires-2
+byte-requires-2 c κs = search needs
+
+byte-requires-3 : tie.Need-byte-requires-3
+byte-requires-3 c κs = search needs
+
+is-date-requires : tie.Need-is-date-requires
+is-date-requires c κs = search needs
+
+returns : tie.Need-returns
+unfolding dateGood
+returns c = c .is-date .ensures ∙ rw (c .before .byte3 .ensures .0, c .before .before .byte2 .ensures .0, c .before .before .before .byte .ensures .0)
+
+pub date-good-spec : {M : Type 1} → statement M
+date-good-spec =
+    tie.close
+    (tie.spec byte-requires add-year byte-requires-2 byte-requires-3 is-date-requires returns)

@@ -1,0 +1,15 @@
+-- `table::is_name_byte` meets its contract: its tests are the rule's. Assumes nothing.
+use Rattle.table.specs.Table.{isNameByte}
+use borrow.Author.Needs.{needs}
+use Rattle.table.proofs.is_name_byte.Statement.{statement}
+use Rattle.table.proofs.is_name_byte.Tie as tie
+
+is-letter-requires : tie.Need-is-letter-requires
+is-letter-requires c κs = search needs
+
+returns : tie.Need-returns
+unfolding isNameByte
+returns c = rw (c .is-letter .ensures)
+
+pub is-name-byte-spec : {M : Type 1} → statement M
+is-name-byte-spec = tie.close (tie.spec is-letter-requires returns)

@@ -1,0 +1,372 @@
+// A table's header and its fields. Document 01, "The table": refusals 1 to 10 in their order.
+ghost use Prim.Native.Nat.{_+_, _*_, _≤_, _<_};
+ghost use mathlib.Core.Path.{_≡_};
+ghost use lib.ListN.{length};
+ghost use Rattle.table.specs.Range.{allBelow, anyBelow, sumBelow};
+ghost use Rattle.table.specs.Table.{minTable, maxFields, recordCount, headerLength, recordLength, fieldCount, descriptor, fieldOffset, sizeGood, kindGood, dateGood, headerGood, endMarkGood, isLetter, isNameByte, mayFollow, nameGood, formGood, descriptorGood, fieldsGood, sameName, namesDiffer, hasMemo, memoKindGood, recordLengthGood, recordsEnd, lengthGood, tableRefusal, shapeOf, checkTable, numberGood};
+ghost use Rattle.table.specs.TableLaws.{HeaderFits};
+
+const MIN_TABLE: usize = 32;
+
+const MAX_TABLE: usize = 16777216;
+
+const MAX_FIELDS: usize = 128;
+
+const MAX_RECORD: usize = 4000;
+
+const PLAIN_KIND: u32 = 0x03;
+
+const MEMO_KIND: u32 = 0xF5;
+
+const END_MARK: u8 = 0x0D;
+
+const FILE_END: u8 = 0x1A;
+
+const TYPE_C: u32 = 0x43;
+
+const TYPE_N: u32 = 0x4E;
+
+const TYPE_D: u32 = 0x44;
+
+const TYPE_L: u32 = 0x4C;
+
+const TYPE_M: u32 = 0x4D;
+
+const NAME_LENGTH: usize = 11;
+
+const MAX_TEXT: u32 = 254;
+
+// What the header of a good table says.
+pub struct Shape {
+    pub kind: u32,
+    pub records: u32,
+    pub header_length: usize,
+    pub record_length: usize,
+    pub fields: usize,
+}
+
+pub enum Checked {
+    Good(Shape),
+    Refused(u32),
+}
+
+fn size_good(table: &[u8]) -> bool
+    ensures { λ r. ⌜ r ≡ sizeGood (now (table .entry)) ⌝ }
+{
+    (MIN_TABLE <= table.len()) & (table.len() <= MAX_TABLE)
+}
+
+fn kind_good(table: &[u8]) -> bool
+    requires { ⌜ minTable ≤ length (now table) ⌝ }
+    ensures { λ r. ⌜ r ≡ kindGood (now (table .entry)) ⌝ }
+{
+    let kind = octets::byte(table, 0);
+    (kind == PLAIN_KIND) | (kind == MEMO_KIND)
+}
+
+fn date_good(table: &[u8]) -> bool
+    requires { ⌜ minTable ≤ length (now table) ⌝ }
+    ensures { λ r. ⌜ r ≡ dateGood (now (table .entry)) ⌝ }
+{
+    let year = 1900 + octets::byte(table, 1);
+    calendar::is_date(year, octets::byte(table, 2), octets::byte(table, 3))
+}
+
+fn header_length(table: &[u8]) -> usize
+    requires { ⌜ minTable ≤ length (now table) ⌝ }
+    ensures { λ r. ⌜ (r ≡ headerLength (now (table .entry))) × (r < 65536) ⌝ }
+{
+    octets::load_le16(table, 8) as usize
+}
+
+fn record_length(table: &[u8]) -> usize
+    requires { ⌜ minTable ≤ length (now table) ⌝ }
+    ensures { λ r. ⌜ (r ≡ recordLength (now (table .entry))) × (r < 65536) ⌝ }
+{
+    octets::load_le16(table, 10) as usize
+}
+
+fn record_count(table: &[u8]) -> u32
+    requires { ⌜ minTable ≤ length (now table) ⌝ }
+    ensures { λ r. ⌜ r ≡ recordCount (now (table .entry)) ⌝ }
+{
+    octets::load_le32(table, 4)
+}
+
+fn field_count(table: &[u8]) -> usize
+    requires { ⌜ minTable ≤ length (now table) ⌝ }
+    ensures { λ r. ⌜ (r ≡ fieldCount (now (table .entry))) × (r < 2048) ⌝ }
+{
+    let length = header_length(table);
+    if length < 33 {
+        return 0;
+    }
+    (length - 33) / 32
+}
+
+fn header_good(table: &[u8]) -> bool
+    requires { ⌜ minTable ≤ length (now table) ⌝ }
+    ensures { λ r. ⌜ r ≡ headerGood (now (table .entry)) ⌝ }
+{
+    let length = header_length(table);
+    let fields = field_count(table);
+    (length == 33 + 32 * fields) & (1 <= fields) & (fields <= MAX_FIELDS) & (length <= table.len())
+}
+
+fn end_mark_good(table: &[u8]) -> bool
+    requires { ⌜ HeaderFits (now table) ⌝ }
+    ensures { λ r. ⌜ r ≡ endMarkGood (now (table .entry)) ⌝ }
+{
+    let last = header_length(table) - 1;
+    table[last] == END_MARK
+}
+
+fn is_letter(byte: u8) -> bool
+    ensures { λ r. ⌜ r ≡ isLetter byte ⌝ }
+{
+    (0x41 <= byte) & (byte <= 0x5A)
+}
+
+fn is_name_byte(byte: u8) -> bool
+    ensures { λ r. ⌜ r ≡ isNameByte byte ⌝ }
+{
+    is_letter(byte) | ((0x30 <= byte) & (byte <= 0x39)) | (byte == 0x5F)
+}
+
+// Whether a byte may stand after another in a name: after a zero only a zero may.
+fn may_follow(before: u8, byte: u8) -> bool
+    ensures { λ r. ⌜ r ≡ mayFollow before byte ⌝ }
+{
+    (byte == 0) | (is_name_byte(byte) & (before != 0))
+}
+
+fn name_good(table: &[u8], at: usize) -> bool
+    requires { ⌜ at + 11 ≤ length (now table) ⌝ }
+    ensures { λ r. ⌜ r ≡ nameGood (now (table .entry)) at ⌝ }
+{
+    if !is_letter(table[at]) {
+        return false;
+    }
+    let mut k = 0;
+    while k < 10 {
+        if !may_follow(table[at + k], table[at + k + 1]) {
+            return false;
+        }
+        k += 1;
+    }
+    table[at + 10] == 0
+}
+
+// The type, length and decimal count of a field.
+fn form_good(kind: u32, length: u32, decimals: u32) -> bool
+    ensures { λ r. ⌜ r ≡ formGood kind length decimals ⌝ }
+{
+    let numeric = numeral::format_good(length as usize, decimals);
+    ((kind == TYPE_N) & numeric)
+        | ((decimals == 0)
+            & (((kind == TYPE_C) & (1 <= length) & (length <= MAX_TEXT))
+                | ((kind == TYPE_D) & (length == 8))
+                | ((kind == TYPE_L) & (length == 1))
+                | ((kind == TYPE_M) & (length == 10))))
+}
+
+fn descriptor_good(table: &[u8], j: usize) -> bool
+    requires { ⌜ descriptor j + 32 ≤ length (now table) ⌝ }
+    ensures { λ r. ⌜ r ≡ descriptorGood (now (table .entry)) j ⌝ }
+{
+    let at = 32 + 32 * j;
+    let form = form_good(
+        octets::byte(table, at + 11),
+        octets::byte(table, at + 16),
+        octets::byte(table, at + 17),
+    );
+    name_good(table, at) & form
+}
+
+fn fields_good(table: &[u8]) -> bool
+    requires { ⌜ HeaderFits (now table) ⌝ }
+    ensures { λ r. ⌜ r ≡ fieldsGood (now (table .entry)) ⌝ }
+{
+    let fields = field_count(table);
+    let mut j = 0;
+    while j < fields {
+        if !descriptor_good(table, j) {
+            return false;
+        }
+        j += 1;
+    }
+    true
+}
+
+// Whether the names of two fields are the same, byte by byte.
+fn same_name(table: &[u8], i: usize, j: usize) -> bool
+    requires { ⌜ (descriptor i + 32 ≤ length (now table)) × (descriptor j + 32 ≤ length (now table)) ⌝ }
+    ensures { λ r. ⌜ r ≡ sameName (now (table .entry)) i j ⌝ }
+{
+    let mut k = 0;
+    while k < NAME_LENGTH {
+        if table[32 + 32 * i + k] != table[32 + 32 * j + k] {
+            return false;
+        }
+        k += 1;
+    }
+    true
+}
+
+// Every pair of names is compared; a duplicate ends both loops.
+fn names_differ(table: &[u8]) -> bool
+    requires { ⌜ HeaderFits (now table) ⌝ }
+    ensures { λ r. ⌜ r ≡ namesDiffer (now (table .entry)) ⌝ }
+{
+    let fields = field_count(table);
+    let mut differ = true;
+    let mut i = 0;
+    'fields: while i < fields {
+        let mut j = 0;
+        while j < i {
+            if same_name(table, i, j) {
+                differ = false;
+                break 'fields;
+            }
+            j += 1;
+        }
+        i += 1;
+    }
+    differ
+}
+
+fn has_memo(table: &[u8]) -> bool
+    requires { ⌜ HeaderFits (now table) ⌝ }
+    ensures { λ r. ⌜ r ≡ hasMemo (now (table .entry)) ⌝ }
+{
+    let fields = field_count(table);
+    let mut j = 0;
+    while j < fields {
+        if octets::byte(table, 32 + 32 * j + 11) == TYPE_M {
+            return true;
+        }
+        j += 1;
+    }
+    false
+}
+
+fn memo_kind_good(table: &[u8]) -> bool
+    requires { ⌜ HeaderFits (now table) ⌝ }
+    ensures { λ r. ⌜ r ≡ memoKindGood (now (table .entry)) ⌝ }
+{
+    let kind = octets::byte(table, 0);
+    let memo = has_memo(table);
+    !(((kind == PLAIN_KIND) & memo) | ((kind == MEMO_KIND) & !memo))
+}
+
+// Where field j starts in a record: after the deletion byte and the fields before it.
+pub fn field_offset(table: &[u8], j: usize) -> usize
+    requires { ⌜ (j ≤ maxFields) × (descriptor j ≤ length (now table)) ⌝ }
+    ensures { λ r. ⌜ (r ≡ fieldOffset (now (table .entry)) j) × (r ≤ 1 + 255 * j) ⌝ }
+{
+    let mut offset = 1;
+    let mut i = 0;
+    while i < j {
+        offset += octets::byte(table, 32 + 32 * i + 16) as usize;
+        i += 1;
+    }
+    offset
+}
+
+fn record_length_good(table: &[u8]) -> bool
+    requires { ⌜ HeaderFits (now table) ⌝ }
+    ensures { λ r. ⌜ r ≡ recordLengthGood (now (table .entry)) ⌝ }
+{
+    let length = record_length(table);
+    let sum = field_offset(table, field_count(table));
+    (length == sum) & (length <= MAX_RECORD)
+}
+
+// Where the first records of a count end. No count of 32 bits is too large: nothing is taken modulo.
+pub fn records_end(table: &[u8], count: u32) -> usize
+    requires { ⌜ minTable ≤ length (now table) ⌝ }
+    ensures { λ r. ⌜ (r ≡ recordsEnd (now (table .entry)) count) × (r < 281474976776192) ⌝ }
+{
+    header_length(table) + count as usize * record_length(table)
+}
+
+fn length_good(table: &[u8]) -> bool
+    requires { ⌜ minTable ≤ length (now table) ⌝ }
+    ensures { λ r. ⌜ r ≡ lengthGood (now (table .entry)) ⌝ }
+{
+    let end = records_end(table, record_count(table));
+    if table.len() == end {
+        return true;
+    }
+    if table.len() != end + 1 {
+        return false;
+    }
+    table[end] == FILE_END
+}
+
+// The number of the first refusal, 1 to 10; 0 for a good table.
+fn table_refusal(table: &[u8]) -> u32
+    ensures { λ r. ⌜ r ≡ tableRefusal (now (table .entry)) ⌝ }
+{
+    if !size_good(table) {
+        return 1;
+    }
+    if !kind_good(table) {
+        return 2;
+    }
+    if !date_good(table) {
+        return 3;
+    }
+    if !header_good(table) {
+        return 4;
+    }
+    if !end_mark_good(table) {
+        return 5;
+    }
+    if !fields_good(table) {
+        return 6;
+    }
+    if !names_differ(table) {
+        return 7;
+    }
+    if !memo_kind_good(table) {
+        return 8;
+    }
+    if !record_length_good(table) {
+        return 9;
+    }
+    if !length_good(table) {
+        return 10;
+    }
+    0
+}
+
+fn shape_of(table: &[u8]) -> Shape
+    requires { ⌜ minTable ≤ length (now table) ⌝ }
+    ensures { λ r. ⌜ r ≡ shapeOf (now (table .entry)) ⌝ }
+{
+    Shape {
+        kind: octets::byte(table, 0),
+        records: record_count(table),
+        header_length: header_length(table),
+        record_length: record_length(table),
+        fields: field_count(table),
+    }
+}
+
+// Whether a record's or a field's number is from 1 to the count.
+pub fn number_good(number: usize, count: usize) -> bool
+    ensures { λ r. ⌜ r ≡ numberGood number count ⌝ }
+{
+    (1 <= number) & (number <= count)
+}
+
+pub fn check_table(table: &[u8]) -> Checked
+    ensures { λ r. ⌜ r ≡ checkTable (now (table .entry)) ⌝ }
+{
+    let refusal = table_refusal(table);
+    if refusal == 0 {
+        return Checked::Good(shape_of(table));
+    }
+    Checked::Refused(refusal)
+}

@@ -1,0 +1,69 @@
+// The walk over a table's undeleted records, one step by value. Document 01, "The table".
+ghost use Prim.Native.Nat.{_-_};
+ghost use mathlib.Core.Path.{_≡_};
+ghost use Rattle.table.specs.Table.{recordCount, tableRefusal};
+ghost use Rattle.walk.specs.Walk.{stepTo, walkFrom, walkStep};
+
+const KEPT: u32 = 0x20;
+
+const DELETED: u32 = 0x2A;
+
+const BAD_DELETION_BYTE: u32 = 15;
+
+// How many records a walk has passed, 0 at first. It belongs to the host.
+#[repr(C)]
+pub struct Position {
+    pub passed: u32,
+}
+
+pub enum Step {
+    Record(u32),
+    Done,
+    Refused(u32),
+}
+
+// An answer, and the position after it.
+pub struct Walked {
+    pub answer: Step,
+    pub position: Position,
+}
+
+fn step_to(answer: Step, passed: u32) -> Walked
+    ensures { λ r. ⌜ r ≡ stepTo answer passed ⌝ }
+{
+    Walked {
+        answer,
+        position: Position { passed },
+    }
+}
+
+// The step in a good table of n records.
+fn step_from(table: &[u8], n: u32, position: u32) -> Walked
+    requires { ⌜ (tableRefusal (now table) ≡ 0) × (n ≡ recordCount (now table)) ⌝ }
+    ensures { λ r. ⌜ r ≡ walkFrom (now (table .entry)) position position (n - position) ⌝ }
+{
+    let mut passed = position;
+    while passed < n {
+        let mark = octets::byte(table, table::records_end(table, passed));
+        if mark == KEPT {
+            return step_to(Step::Record(passed + 1), passed + 1);
+        }
+        if mark != DELETED {
+            return step_to(Step::Refused(BAD_DELETION_BYTE), passed + 1);
+        }
+        passed += 1;
+    }
+    step_to(Step::Done, position)
+}
+
+// The next undeleted record after those passed. A bad deletion byte is refused and passed; at the end, and where only deleted
+// records are left, the position stays.
+pub fn walk_step(table: &[u8], position: Position) -> Walked
+    ensures { λ r. ⌜ r ≡ walkStep (now (table .entry)) position ⌝ }
+{
+    let passed = position.passed;
+    match table::check_table(table) {
+        table::Checked::Good(shape) => step_from(table, shape.records, passed),
+        table::Checked::Refused(number) => step_to(Step::Refused(number), passed),
+    }
+}
