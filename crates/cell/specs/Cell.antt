@@ -35,7 +35,7 @@ readsType Logicals type = eqb type typeL
 readsType Texts type = eqb type typeC || eqb type typeM
 
 -- 15: "deletion byte is neither 0x20 nor 0x2A"; "Fields of deleted records are read like others"
-unfoldable pub markGood : ℕ → Bool
+abbrev pub markGood : ℕ → Bool
 markGood mark = eqb mark keptMark || eqb mark deletedMark
 
 -- "Order: 1 to 10 ... then 11, 12, 13, 14, 15, then what concerns the text or memo"; 14 is the listing's alone
