@@ -8,6 +8,7 @@ use Rattle.octets.specs.Store.{window}
 use Rattle.calendar.specs.DateText.{dateOf}
 use Rattle.calendar.specs.declared.DateAnswer.{DateAnswer}
 use Rattle.calendar.specs.declared.DateAnswer.the-variants as date
+use Rattle.numeral.specs.Format.{blank}
 use Rattle.numeral.specs.Reading.{readNumber}
 use Rattle.numeral.specs.declared.Number.{Number}
 use Rattle.numeral.specs.declared.Number.the-variants as number
@@ -73,12 +74,18 @@ dateCell b i field =
     let refusal = cellRefusal Dates b i field in
     cond (eqb refusal 0) (dateOf (cellBytes b i field)) (date.Refused refusal)
 
--- "L: T, F or blank", "bad date or logical text"
+-- "L: T, F or blank. Blanks are empty"; 20: "bad date or logical text"
+abbrev pub letterT : ℕ
+letterT = 0x54
+
+abbrev pub letterF : ℕ
+letterF = 0x46
+
 unfoldable pub logicalOf : ℕ → Logical
 logicalOf c =
-    cond (eqb c 0x54) (logical.Value true)
-    (cond (eqb c 0x46) (logical.Value false)
-    (cond (eqb c 0x20) logical.Empty
+    cond (eqb c letterT) (logical.Value true)
+    (cond (eqb c letterF) (logical.Value false)
+    (cond (eqb c blank) logical.Empty
     (logical.Refused 20)))
 
 -- an L field has one byte

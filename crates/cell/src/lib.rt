@@ -3,7 +3,10 @@ use calendar::DateAnswer;
 use field::Placed;
 use memo::MemoPlace;
 use numeral::Number;
+ghost use Prim.Native.Nat.{_+_, _≤_};
 ghost use mathlib.Core.Path.{_≡_};
+ghost use lib.ListN.{length};
+ghost use Rattle.octets.specs.Store.{window};
 ghost use Rattle.cell.specs.Cell.{readsType, markGood, cellPlace, numberCell, dateCell, logicalOf, logicalCell, memoPart, textCell, textPart};
 
 const KEPT: u32 = 0x20;
@@ -19,6 +22,12 @@ const TYPE_D: u32 = 0x44;
 const TYPE_L: u32 = 0x4C;
 
 const TYPE_M: u32 = 0x4D;
+
+const LETTER_T: u32 = 0x54;
+
+const LETTER_F: u32 = 0x46;
+
+const BLANK: u32 = 0x20;
 
 const OTHER_TYPE: u32 = 13;
 
@@ -47,6 +56,14 @@ pub enum TextPlace {
     Memo { start: usize, len: usize },
     Empty,
     Refused(u32),
+}
+
+// A part of a slice, by its start and its length.
+fn part(s: &[u8], start: usize, len: usize) -> &[u8]
+    requires { ⌜ start + len ≤ length (now s) ⌝ }
+    ensures { λ r. ⌜ now r ≡ window (now (s .entry)) start len ⌝ }
+{
+    &s[start..start + len]
 }
 
 // Whether a call reads fields of a type.
@@ -95,9 +112,8 @@ pub fn read_number(table: &[u8], i: u32, field: u32) -> Number
     match placed {
         Placed::Refused(number) => Number::Refused(number),
         Placed::At(place) => {
-            let start = place.start;
-            let end = start + place.form.length;
-            numeral::read_number(&table[start..end], place.form.decimals)
+            let text = part(table, place.start, place.form.length);
+            numeral::read_number(text, place.form.decimals)
         }
     }
 }
@@ -109,11 +125,7 @@ pub fn read_date(table: &[u8], i: u32, field: u32) -> DateAnswer
     let placed = cell_place(table, Reads::Dates, i, field);
     match placed {
         Placed::Refused(number) => DateAnswer::Refused(number),
-        Placed::At(place) => {
-            let start = place.start;
-            let end = start + place.form.length;
-            calendar::read_date(&table[start..end])
-        }
+        Placed::At(place) => calendar::read_date(part(table, place.start, place.form.length)),
     }
 }
 
@@ -121,13 +133,13 @@ pub fn read_date(table: &[u8], i: u32, field: u32) -> DateAnswer
 fn logical_of(c: u32) -> Logical
     ensures { λ r. ⌜ r ≡ logicalOf c ⌝ }
 {
-    if c == 0x54 {
+    if c == LETTER_T {
         return Logical::Value(true);
     }
-    if c == 0x46 {
+    if c == LETTER_F {
         return Logical::Value(false);
     }
-    if c == 0x20 {
+    if c == BLANK {
         return Logical::Empty;
     }
     Logical::Refused(BAD_LOGICAL_TEXT)
@@ -167,8 +179,7 @@ pub fn text_place(table: &[u8], memo: &[u8], i: u32, field: u32) -> TextPlace
             if place.form.kind == TYPE_C {
                 return TextPlace::Table { start, len };
             }
-            let end = start + len;
-            memo_part(memo::memo_place(&table[start..end], memo))
+            memo_part(memo::memo_place(part(table, start, len), memo))
         }
     }
 }
@@ -179,8 +190,8 @@ pub fn text<'a>(table: &'a [u8], memo: &'a [u8], i: u32, field: u32) -> &'a [u8]
 {
     let place = text_place(table, memo, i, field);
     match place {
-        TextPlace::Table { start, len } => &table[start..start + len],
-        TextPlace::Memo { start, len } => &memo[start..start + len],
+        TextPlace::Table { start, len } => part(table, start, len),
+        TextPlace::Memo { start, len } => part(memo, start, len),
         TextPlace::Empty => &table[..0],
         TextPlace::Refused(_) => &table[..0],
     }

@@ -1,9 +1,8 @@
 -- `cell::read_number` meets its contract: a refusal, or what the field's bytes say. Assumes nothing.
 use mathlib.Core.Path.{sym, _∙_}
-use native.Mathlib.Omega.{arith}
 use borrow.Author.Needs.{needs}
 use Rattle.cell.specs.declared.Reads.the-variants.{Numbers}
-use Rattle.cell.specs.CellLaws.{cell-at, part-window, number-refused, number-read}
+use Rattle.cell.specs.CellLaws.{cell-at, number-refused, number-read}
 use Rattle.cell.proofs.read_number.Statement.{statement}
 use Rattle.cell.proofs.read_number.Tie as tie
 
@@ -16,33 +15,22 @@ enum-known-placed c = search needs
 enum-known-placed-2 : tie.Need-enum-known-placed-2
 enum-known-placed-2 c = search needs
 
-add-end : tie.Need-add-end
-add-end c =
-    let at = c .before .before in
-    omega (arith, cell-at Numbers _ _ _ _ (sym (at .before .before .cell-place .ensures) ∙ at .placed2 .given .1) .inside)
-
-sub-read-number : tie.Need-sub-read-number
-sub-read-number c = search needs
-
-part-read-number-start : tie.Need-part-read-number-start
-part-read-number-start c = search needs
-
-part-read-number-end : tie.Need-part-read-number-end
-part-read-number-end c =
-    let at = c .before .before in
+part-requires : tie.Need-part-requires
+part-requires c κs =
+    let at = c .before in
     cell-at Numbers _ _ _ _ (sym (at .before .before .cell-place .ensures) ∙ at .placed2 .given .1) .inside
 
 read-number-requires : tie.Need-read-number-requires
 read-number-requires c κs = search needs
 
 returns : tie.Need-returns
-returns c = sym (number-refused _ _ _ _ (sym (c .before .before .before .cell-place .ensures) ∙ c .before .placed .given .1))
+returns c = let at = c .before in sym (number-refused _ _ _ _ (sym (at .before .before .cell-place .ensures) ∙ at .placed .given .1))
 
 returns-2 : tie.Need-returns-2
 returns-2 c =
-    let at = c .before .before .before .before in
+    let at = c .before .before .before in
     let placed = sym (at .before .before .cell-place .ensures) ∙ at .placed2 .given .1 in
-    c .read-number .ensures ∙ rw (part-window) (sym (number-read _ _ _ _ placed))
+    c .read-number .ensures ∙ rw (c .before .part .ensures) (sym (number-read _ _ _ _ placed))
 
 pub read-number-spec : {M : Type 1} → statement M
 read-number-spec =
@@ -51,10 +39,7 @@ read-number-spec =
     cell-place-requires
     enum-known-placed
     enum-known-placed-2
-    add-end
-    sub-read-number
-    part-read-number-start
-    part-read-number-end
+    part-requires
     read-number-requires
     returns
     returns-2)

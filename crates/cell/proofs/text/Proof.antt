@@ -1,9 +1,8 @@
 -- `cell::text` meets its contract: the part of the table or of the memo file that the place names, which lies in it. Assumes nothing.
-use mathlib.Core.Path.{sym, ap, _∙_}
-use native.Mathlib.Omega.{arith}
+use mathlib.Core.Path.{sym, _∙_}
 use borrow.Author.Needs.{needs}
 use Rattle.cell.specs.Cell.{textPart}
-use Rattle.cell.specs.CellLaws.{part-window, table-inside, memo-inside}
+use Rattle.cell.specs.CellLaws.{table-inside, memo-inside}
 use Rattle.cell.proofs.text.Statement.{statement}
 use Rattle.cell.proofs.text.Tie as tie
 
@@ -13,36 +12,14 @@ text-place-requires c κs = search needs
 enum-known-place : tie.Need-enum-known-place
 enum-known-place c = search needs
 
-add-result : tie.Need-add-result
-add-result c =
-    let at = c .before in
-    omega (arith, table-inside _ _ _ _ _ _ (sym (at .before .before .text-place .ensures) ∙ at .place .given .1))
-
-sub-result : tie.Need-sub-result
-sub-result c = search needs
-
-part-result-start : tie.Need-part-result-start
-part-result-start c = search needs
-
-part-result-end : tie.Need-part-result-end
-part-result-end c = let at = c .before in table-inside _ _ _ _ _ _ (sym (at .before .before .text-place .ensures) ∙ at .place .given .1)
+part-requires : tie.Need-part-requires
+part-requires c κs = let at = c .before in table-inside _ _ _ _ _ _ (sym (at .before .before .text-place .ensures) ∙ at .place .given .1)
 
 enum-known-place-2 : tie.Need-enum-known-place-2
 enum-known-place-2 c = search needs
 
-add-result-2 : tie.Need-add-result-2
-add-result-2 c =
-    let at = c .before in
-    omega (arith, memo-inside _ _ _ _ _ _ (sym (at .before .before .text-place .ensures) ∙ at .place2 .given .1))
-
-sub-result-2 : tie.Need-sub-result-2
-sub-result-2 c = search needs
-
-part-result-start-2 : tie.Need-part-result-start-2
-part-result-start-2 c = search needs
-
-part-result-end-2 : tie.Need-part-result-end-2
-part-result-end-2 c = let at = c .before in memo-inside _ _ _ _ _ _ (sym (at .before .before .text-place .ensures) ∙ at .place2 .given .1)
+part-requires-2 : tie.Need-part-requires-2
+part-requires-2 c κs = let at = c .before in memo-inside _ _ _ _ _ _ (sym (at .before .before .text-place .ensures) ∙ at .place2 .given .1)
 
 enum-told : tie.Need-enum-told
 enum-told c = search needs
@@ -58,27 +35,19 @@ slice-aggregate-result-2 c = search needs
 
 returns : tie.Need-returns
 unfolding textPart
-returns c =
-    let at = c .before .before in
-    rw (← at .before .before .text-place .ensures, at .place .given .1) (part-window _ _ _)
+returns c = let at = c .before .before in rw (← at .before .before .text-place .ensures, at .place .given .1) (c .part .ensures)
 
 returns-2 : tie.Need-returns-2
 unfolding textPart
-returns-2 c =
-    let at = c .before .before in
-    rw (← at .before .before .text-place .ensures, at .place2 .given .1) (part-window _ _ _)
+returns-2 c = let at = c .before .before in rw (← at .before .before .text-place .ensures, at .place2 .given .1) (c .part2 .ensures)
 
 returns-3 : tie.Need-returns-3
 unfolding textPart
-returns-3 c =
-    let at = c .before in
-    rw (← at .before .before .text-place .ensures, at .enum-told .given .1)
+returns-3 c = let at = c .before in rw (← at .before .before .text-place .ensures, at .enum-told .given .1)
 
 returns-4 : tie.Need-returns-4
 unfolding textPart
-returns-4 c =
-    let at = c .before in
-    rw (← at .before .before .text-place .ensures, at .enum-told2 .given .1)
+returns-4 c = let at = c .before in rw (← at .before .before .text-place .ensures, at .enum-told2 .given .1)
 
 pub text-spec : {M : Type 1} → statement M
 text-spec =
@@ -86,15 +55,9 @@ text-spec =
     (tie.spec
     text-place-requires
     enum-known-place
-    add-result
-    sub-result
-    part-result-start
-    part-result-end
+    part-requires
     enum-known-place-2
-    add-result-2
-    sub-result-2
-    part-result-start-2
-    part-result-end-2
+    part-requires-2
     enum-told
     slice-aggregate-result
     enum-told-2

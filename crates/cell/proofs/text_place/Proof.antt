@@ -1,9 +1,8 @@
 -- `cell::text_place` meets its contract: a refusal, a C field's own place, or the place of its memo. Assumes nothing.
 use mathlib.Core.Path.{sym, _∙_}
-use native.Mathlib.Omega.{arith}
 use borrow.Author.Needs.{needs}
 use Rattle.cell.specs.declared.Reads.the-variants.{Texts}
-use Rattle.cell.specs.CellLaws.{cell-at, part-window, text-refused, text-table, text-memo}
+use Rattle.cell.specs.CellLaws.{cell-at, text-refused, text-table, text-memo}
 use Rattle.cell.proofs.text_place.Statement.{statement}
 use Rattle.cell.proofs.text_place.Tie as tie
 
@@ -22,19 +21,8 @@ returns c =
     let placed = sym (at .before .before .cell-place .ensures) ∙ at .placed2 .given .1 in
     sym (text-table _ _ _ _ _ placed (c .if1 .taken))
 
-add-end : tie.Need-add-end
-add-end c =
-    let at = c .before .before .before in
-    omega (arith, cell-at Texts _ _ _ _ (sym (at .before .before .cell-place .ensures) ∙ at .placed2 .given .1) .inside)
-
-sub-memo-place : tie.Need-sub-memo-place
-sub-memo-place c = search needs
-
-part-memo-place-start : tie.Need-part-memo-place-start
-part-memo-place-start c = search needs
-
-part-memo-place-end : tie.Need-part-memo-place-end
-part-memo-place-end c =
+part-requires : tie.Need-part-requires
+part-requires c κs =
     let at = c .before .before .before in
     cell-at Texts _ _ _ _ (sym (at .before .before .cell-place .ensures) ∙ at .placed2 .given .1) .inside
 
@@ -45,14 +33,15 @@ memo-part-requires : tie.Need-memo-part-requires
 memo-part-requires c κs = search needs
 
 returns-2 : tie.Need-returns-2
-returns-2 c = sym (text-refused _ _ _ _ _ (sym (c .before .before .before .cell-place .ensures) ∙ c .before .placed .given .1))
+returns-2 c = let at = c .before in sym (text-refused _ _ _ _ _ (sym (at .before .before .cell-place .ensures) ∙ at .placed .given .1))
 
 returns-3 : tie.Need-returns-3
 returns-3 c =
-    let memo = c .before .before .before in
-    let at = memo .before .before .before in
+    let other = c .before .before .before in
+    let at = other .before .before .before in
     let placed = sym (at .before .before .cell-place .ensures) ∙ at .placed2 .given .1 in
-    c .memo-part .ensures ∙ rw (c .before .memo-place .ensures, part-window) (sym (text-memo _ _ _ _ _ placed (memo .if1 .left)))
+    c .memo-part .ensures
+    ∙ rw (c .before .memo-place .ensures, c .before .before .part .ensures) (sym (text-memo _ _ _ _ _ placed (other .if1 .left)))
 
 pub text-place-spec : {M : Type 1} → statement M
 text-place-spec =
@@ -62,10 +51,7 @@ text-place-spec =
     enum-known-placed
     enum-known-placed-2
     returns
-    add-end
-    sub-memo-place
-    part-memo-place-start
-    part-memo-place-end
+    part-requires
     memo-place-requires
     memo-part-requires
     returns-2
