@@ -36,7 +36,7 @@ const BAD_DELETION_BYTE: u32 = 15;
 const BAD_LOGICAL_TEXT: u32 = 20;
 
 // What a call reads.
-enum Reads {
+pub enum Reads {
     Numbers,
     Dates,
     Logicals,
