@@ -7,7 +7,7 @@ use native.Mathlib.Nat.{mul-le-mul}
 use native.Mathlib.Omega.{arith}
 use lib.ListN.{length}
 use borrow.Author.Tests.{leb-true, ne-eqb}
-use Rattle.basis.specs.Tests.{both}
+use Rattle.basis.specs.Tests.{either, both}
 use Rattle.octets.specs.Bytes.{be32}
 use Rattle.memo.specs.declared.MemoNumber.{MemoNumber}
 use Rattle.memo.specs.declared.MemoNumber.the-variants.{Blank, Bad, Number}
@@ -80,3 +80,27 @@ module _ (file : List ℕ) (a l : ℕ) where
   pub text-inside : (text : List ℕ) → memoText text file ≡ Text a l → (memoHeaderBytes + 8 ≤ a) × (a + l ≤ length file)
   unfolding memoText
   text-inside text e = read-inside (memoNumber text) e
+
+-- a refusal has one of three numbers
+module _ (file : List ℕ) (n : ℕ) where
+  block-refusal : (start : ℕ) → blockText file start ≡ Refused n → (21 ≤ n) × (n ≤ 23)
+  unfolding blockText
+  block-refusal start e =
+      either (placeGood file start)
+      (λ place. either (isText file start)
+      (λ text. let q : Text (start + 8) (textLength file start) ≡ Refused n = rw (place, text) at e in let z : _≡_ {A = ℕ} 0 1 = cc in absurd (omega arith))
+      (λ other. let q : Refused 23 ≡ Refused n = rw (place, other) at e in let k : 23 ≡ n = cc in omega arith))
+      (λ bad. let q : Refused 21 ≡ Refused n = rw bad at e in let k : 21 ≡ n = cc in omega arith)
+
+  read-refusal : (read : MemoNumber) → readText file read ≡ Refused n → (21 ≤ n) × (n ≤ 23)
+  unfolding readText numberedText
+  read-refusal Bad e = let k : 21 ≡ n = cc in omega arith
+  read-refusal Blank e = let z : _≡_ {A = ℕ} 0 1 = cc in absurd (omega arith)
+  read-refusal (Number k) e =
+      either (memoHeaderGood file)
+      (λ good. block-refusal (blockStart file k) (rw good at e))
+      (λ bad. let q : Refused 22 ≡ Refused n = rw bad at e in let j : 22 ≡ n = cc in omega arith)
+
+  pub text-refusal : (text : List ℕ) → memoText text file ≡ Refused n → (21 ≤ n) × (n ≤ 23)
+  unfolding memoText
+  text-refusal text e = read-refusal (memoNumber text) e

@@ -1,0 +1,255 @@
+-- Laws: what a call reads once no check refuses, and that every part handed out lies in its file. Assumes nothing.
+use Prim.Native.Nat.{ℕ, _+_, _-_, _≤_, _<_}
+use mathlib.Core.Path.{_≡_, refl, sym, ap, _∙_}
+use mathlib.Core.Bool.{Bool, true, false, cond}
+use mathlib.Core.List.{List, [], _∷_, _++_, append-assoc}
+use native.Mathlib.Omega.{arith}
+use lib.ListN.{length, take, drop}
+use lib.Dec.{eqb, lit<}
+use borrow.Author.Tests.{eqb-true, eqb-false, eq-eqb, ne-eqb}
+use Rattle.basis.specs.Tests.{either}
+use Rattle.basis.specs.Lists.{All, all-append}
+use Rattle.octets.specs.Bytes.{byteAt}
+use Rattle.octets.specs.Store.{window}
+use Rattle.table.specs.Table.{typeC, typeL, typeM, fieldType, fieldLength, fieldDecimals, fieldOffset, fieldCount, recordCount, recordStart, deletionByte, numberGood, firstRefusal, tableChecks}
+use Rattle.table.specs.TableLaws.{layout, table-numbered, first-after, first-before, first-both, first-none}
+use Rattle.table.specs.FormLaws.{field-form, form-logical}
+use Rattle.field.specs.Field.{placeAt, placeOf, placeRefusal, formOf}
+use Rattle.field.specs.FieldLaws.{placed-at, placed-refused, place-good, place-inside}
+use Rattle.field.specs.declared.Place.{Place}
+use Rattle.field.specs.declared.Placed.{Placed}
+use Rattle.field.specs.declared.Placed.the-variants.{At, Refused}
+use Rattle.calendar.specs.DateText.{dateOf}
+use Rattle.calendar.specs.declared.DateAnswer.the-variants as date
+use Rattle.numeral.specs.Reading.{readNumber}
+use Rattle.numeral.specs.declared.Number.the-variants as number
+use Rattle.memo.specs.Memo.{memoText}
+use Rattle.memo.specs.MemoLaws.{text-inside}
+use Rattle.memo.specs.TestLaws.{first-arm}
+use Rattle.memo.specs.declared.MemoPlace.{MemoPlace}
+use Rattle.memo.specs.declared.MemoPlace.the-variants as memo
+use Rattle.cell.specs.Cell.{readsType, markGood, cellRefusal, cellPlace, cellStart, cellBytes, numberCell, dateCell, logicalOf, logicalCell, memoPart, textAt, textCell, textPart}
+use Rattle.cell.specs.declared.Reads.{Reads}
+use Rattle.cell.specs.declared.Reads.the-variants.{Numbers, Dates, Logicals, Texts}
+use Rattle.cell.specs.declared.Logical.the-variants as logical
+use Rattle.cell.specs.declared.TextPlace.{TextPlace}
+use Rattle.cell.specs.declared.TextPlace.the-variants as text
+
+-- ---- the checks of a call: those of the place, and then 13 and 15
+
+module _ (reads : Reads) (b : List ℕ) (i field : ℕ) where
+  -- 11 and 12
+  abbrev numbers : List (Bool × ℕ)
+  numbers = (numberGood i (recordCount b), 11) ∷ (numberGood field (fieldCount b), 12) ∷ []
+
+  -- 13 and 15
+  abbrev checks : List (Bool × ℕ)
+  checks = (readsType reads (fieldType b (field - 1)), 13) ∷ (markGood (deletionByte b i), 15) ∷ []
+
+  abbrev numbered : All (λ (check : Bool × ℕ). 0 < check .1) (tableChecks b ++ numbers)
+  numbered = all-append (λ (check : Bool × ℕ). 0 < check .1) (tableChecks b) numbers (table-numbered b) (lit< tt, (lit< tt, tt))
+
+  cell-after : placeRefusal b i field ≡ 0 → cellRefusal reads b i field ≡ firstRefusal checks
+  unfolding cellRefusal placeRefusal
+  cell-after e = ap firstRefusal (sym (append-assoc (tableChecks b) numbers checks)) ∙ first-after (tableChecks b ++ numbers) checks numbered e
+
+  cell-before : (placeRefusal b i field ≡ 0 → ⊥) → cellRefusal reads b i field ≡ placeRefusal b i field
+  unfolding cellRefusal placeRefusal
+  cell-before e = ap firstRefusal (sym (append-assoc (tableChecks b) numbers checks)) ∙ first-before (tableChecks b ++ numbers) checks e
+
+  cell-both : cellRefusal reads b i field ≡ 0 → (placeRefusal b i field ≡ 0) × (firstRefusal checks ≡ 0)
+  unfolding cellRefusal placeRefusal
+  cell-both e = first-both (tableChecks b ++ numbers) checks numbered (ap firstRefusal (append-assoc (tableChecks b) numbers checks) ∙ e)
+
+  -- the answer by its refusal
+  cell-refused : (n : ℕ) → cellRefusal reads b i field ≡ n → (n ≡ 0 → ⊥) → cellPlace reads b i field ≡ Refused n
+  unfolding cellPlace
+  cell-refused n e some = rw (e, ne-eqb n 0 some)
+
+  -- what each case of the place's answer makes of it
+  pub place-refused : (n : ℕ) → placeOf b i field ≡ Refused n → cellPlace reads b i field ≡ Refused n
+  place-refused n e =
+      let said = placed-refused b i field n e in
+      cell-refused n (cell-before (λ z. said .1 (said .0 ∙ z)) ∙ sym (said .0)) (said .1)
+
+  module _ (p : Place) (e : placeOf b i field ≡ At p) where
+    pub type-refused : readsType reads (p .form .kind) ≡ false → cellPlace reads b i field ≡ Refused 13
+    unfolding firstRefusal placeAt formOf
+    type-refused other =
+        let said = placed-at b i field p e in
+        let type : readsType reads (fieldType b (field - 1)) ≡ false = rw (said .1) at other in
+        cell-refused 13 (cell-after (said .0) ∙ rw type) (λ z. omega arith)
+
+    pub mark-refused : readsType reads (p .form .kind) ≡ true → markGood (p .mark) ≡ false → cellPlace reads b i field ≡ Refused 15
+    unfolding firstRefusal placeAt formOf
+    mark-refused kind bad =
+        let said = placed-at b i field p e in
+        let type : readsType reads (fieldType b (field - 1)) ≡ true = rw (said .1) at kind in
+        let mark : markGood (deletionByte b i) ≡ false = rw (said .1) at bad in
+        cell-refused 15 (cell-after (said .0) ∙ rw (type, mark)) (λ z. omega arith)
+
+    pub place-read : readsType reads (p .form .kind) ≡ true → markGood (p .mark) ≡ true → cellPlace reads b i field ≡ At p
+    unfolding cellPlace firstRefusal placeAt formOf
+    place-read kind good =
+        let said = placed-at b i field p e in
+        let type : readsType reads (fieldType b (field - 1)) ≡ true = rw (said .1) at kind in
+        let mark : markGood (deletionByte b i) ≡ true = rw (said .1) at good in
+        let none : cellRefusal reads b i field ≡ 0 = cell-after (said .0) ∙ rw (type, mark) in
+        rw (none, said .1)
+
+-- ---- what a call learns from the answer's case
+
+-- no check refuses, and the place is that of the field, which lies in the table
+pub record Readable (reads : Reads) (b : List ℕ) (i field : ℕ) (p : Place) : Type 0 where
+  pub none : cellRefusal reads b i field ≡ 0
+  pub start : p .start ≡ cellStart b i field
+  pub type : p .form .kind ≡ fieldType b (field - 1)
+  pub len : p .form .length ≡ fieldLength b (field - 1)
+  pub decimals : p .form .decimals ≡ fieldDecimals b (field - 1)
+  pub inside : p .start + p .form .length ≤ length b
+
+module _ (reads : Reads) (b : List ℕ) (i field : ℕ) where
+  pub cell-at : (p : Place) → cellPlace reads b i field ≡ At p → Readable reads b i field p
+  unfolding cellPlace placeAt formOf cellStart
+  cell-at p e =
+      either (eqb (cellRefusal reads b i field) 0)
+      (λ z.
+      let q : At (placeAt b i field) ≡ At p = rw z at e in
+      let same : p ≡ placeAt b i field = cc in
+      let none = eqb-true (cellRefusal reads b i field) 0 z in
+      record {
+        none = none;
+        start = ap (λ (x : Place). x .start) same;
+        type = ap (λ (x : Place). x .form .kind) same;
+        len = ap (λ (x : Place). x .form .length) same;
+        decimals = ap (λ (x : Place). x .form .decimals) same;
+        inside = rw same (place-inside b i field (cell-both reads b i field none .0) .field-inside);
+      })
+      (λ z. let q : Refused (cellRefusal reads b i field) ≡ At p = rw z at e in let no : _≡_ {A = ℕ} 0 1 = cc in absurd (omega arith))
+
+  pub cell-none : (n : ℕ) → cellPlace reads b i field ≡ Refused n → (cellRefusal reads b i field ≡ n) × (n ≡ 0 → ⊥)
+  unfolding cellPlace
+  cell-none n e =
+      either (eqb (cellRefusal reads b i field) 0)
+      (λ z. let q : At (placeAt b i field) ≡ Refused n = rw z at e in let no : _≡_ {A = ℕ} 0 1 = cc in absurd (omega arith))
+      (λ z.
+      let q : Refused (cellRefusal reads b i field) ≡ Refused n = rw z at e in
+      let same : cellRefusal reads b i field ≡ n = cc in (same, λ w. eqb-false (cellRefusal reads b i field) 0 z (same ∙ w)))
+
+  -- the checks that hold then
+  pub record CellGood : Type 0 where
+    pub place : placeRefusal b i field ≡ 0
+    pub type : readsType reads (fieldType b (field - 1)) ≡ true
+    pub mark : markGood (deletionByte b i) ≡ true
+
+  pub cell-good : cellRefusal reads b i field ≡ 0 → CellGood
+  cell-good e =
+      let parts = cell-both reads b i field e in
+      let held = first-none (checks reads b i field) (lit< tt, (lit< tt, tt)) (parts .1) in
+      record { place = parts .0; type = held .0; mark = held .1 .0 }
+
+-- an L field has its one byte
+pub logical-inside : (b : List ℕ) (i field : ℕ) (p : Place) → cellPlace Logicals b i field ≡ At p → p .start < length b
+unfolding readsType
+logical-inside b i field p e =
+    let at = cell-at Logicals b i field p e in
+    let good = cell-good Logicals b i field (at .none) in
+    let place = place-good b i field (good .place) in
+    let type = eqb-true (fieldType b (field - 1)) typeL (good .type) in
+    let form = field-form b (layout b (place .table)) (field - 1) (omega arith) in
+    let one = form-logical (fieldLength b (field - 1)) (fieldDecimals b (field - 1)) (rw type at form) in
+    omega (arith, at .inside, at .len, one)
+
+-- a part by its start and its end
+pub part-window : (b : List ℕ) (start len : ℕ) → take (start + len - start) (drop start b) ≡ window b start len
+unfolding window
+part-window b start len = let e : start + len - start ≡ len = omega arith in rw e
+
+module _ (b : List ℕ) (i field : ℕ) where
+  pub number-refused : (n : ℕ) → cellPlace Numbers b i field ≡ Refused n → numberCell b i field ≡ number.Refused n
+  unfolding numberCell
+  number-refused n e = let said = cell-none Numbers b i field n e in rw (said .0, ne-eqb n 0 (said .1))
+
+  pub date-refused : (n : ℕ) → cellPlace Dates b i field ≡ Refused n → dateCell b i field ≡ date.Refused n
+  unfolding dateCell
+  date-refused n e = let said = cell-none Dates b i field n e in rw (said .0, ne-eqb n 0 (said .1))
+
+  pub logical-refused : (n : ℕ) → cellPlace Logicals b i field ≡ Refused n → logicalCell b i field ≡ logical.Refused n
+  unfolding logicalCell
+  logical-refused n e = let said = cell-none Logicals b i field n e in rw (said .0, ne-eqb n 0 (said .1))
+
+  pub text-refused : (m : List ℕ) (n : ℕ) → cellPlace Texts b i field ≡ Refused n → textCell b m i field ≡ text.Refused n
+  unfolding textCell
+  text-refused m n e = let said = cell-none Texts b i field n e in rw (said .0, ne-eqb n 0 (said .1))
+
+  module _ (p : Place) where
+    pub number-read : cellPlace Numbers b i field ≡ At p → numberCell b i field ≡ readNumber (window b (p .start) (p .form .length)) (p .form .decimals)
+    unfolding numberCell cellBytes
+    number-read e = let good = cell-at Numbers b i field p e in rw (good .none, good .start, good .len, good .decimals)
+
+    pub date-read : cellPlace Dates b i field ≡ At p → dateCell b i field ≡ dateOf (window b (p .start) (p .form .length))
+    unfolding dateCell cellBytes
+    date-read e = let good = cell-at Dates b i field p e in rw (good .none, good .start, good .len)
+
+    pub logical-read : cellPlace Logicals b i field ≡ At p → logicalCell b i field ≡ logicalOf (byteAt b (p .start))
+    unfolding logicalCell
+    logical-read e = let good = cell-at Logicals b i field p e in rw (good .none, good .start)
+
+    pub text-table : (m : List ℕ) → cellPlace Texts b i field ≡ At p → p .form .kind ≡ typeC → textCell b m i field ≡ text.Table (p .start) (p .form .length)
+    unfolding textCell textAt
+    text-table m e c = let good = cell-at Texts b i field p e in rw (good .none, ← good .type, c, good .start, good .len)
+
+    pub text-memo : (m : List ℕ) → cellPlace Texts b i field ≡ At p → (p .form .kind ≡ typeC → ⊥)
+        → textCell b m i field ≡ memoPart (memoText (window b (p .start) (p .form .length)) m)
+    unfolding textCell textAt cellBytes
+    text-memo m e c =
+        let good = cell-at Texts b i field p e in
+        rw (good .none, ← good .type, ne-eqb (p .form .kind) typeC c, good .start, good .len)
+
+-- ---- every part handed out lies in its file
+
+-- a value that the first arm cannot give is the second's
+second-arm : {A : Type 0} {x y z : A} (b : Bool) → (x ≡ z → ⊥) → cond b x y ≡ z → (b ≡ false) × (y ≡ z)
+second-arm true other e = absurd (other e)
+second-arm false other e = (refl, e)
+
+-- an answer is one of four
+refused-table : (n a l : ℕ) → text.Refused n ≡ text.Table a l → ⊥
+refused-table n a l e = let z : _≡_ {A = ℕ} 0 1 = cc in omega arith
+
+refused-memo : (n a l : ℕ) → text.Refused n ≡ text.Memo a l → ⊥
+refused-memo n a l e = let z : _≡_ {A = ℕ} 0 1 = cc in omega arith
+
+table-memo : (c d a l : ℕ) → text.Table c d ≡ text.Memo a l → ⊥
+table-memo c d a l e = let z : _≡_ {A = ℕ} 0 1 = cc in omega arith
+
+-- a memo's part is none of the table
+memo-table : (q : MemoPlace) (a l : ℕ) → memoPart q ≡ text.Table a l → ⊥
+unfolding memoPart
+memo-table (memo.Text c d) a l e = let z : _≡_ {A = ℕ} 0 1 = cc in omega arith
+memo-table memo.Empty a l e = let z : _≡_ {A = ℕ} 0 1 = cc in omega arith
+memo-table (memo.Refused n) a l e = let z : _≡_ {A = ℕ} 0 1 = cc in omega arith
+
+memo-text : (q : MemoPlace) (a l : ℕ) → memoPart q ≡ text.Memo a l → q ≡ memo.Text a l
+unfolding memoPart
+memo-text (memo.Text c d) a l e = cc
+memo-text memo.Empty a l e = let z : _≡_ {A = ℕ} 0 1 = cc in absurd (omega arith)
+memo-text (memo.Refused n) a l e = let z : _≡_ {A = ℕ} 0 1 = cc in absurd (omega arith)
+
+module _ (b m : List ℕ) (i field a l : ℕ) where
+  pub table-inside : textCell b m i field ≡ text.Table a l → a + l ≤ length b
+  unfolding textCell textAt cellStart
+  table-inside e =
+      let read = first-arm (eqb (cellRefusal Texts b i field) 0) (refused-table (cellRefusal Texts b i field) a l) e in
+      let type = first-arm (eqb (fieldType b (field - 1)) typeC) (memo-table (memoText (cellBytes b i field) m) a l) (read .1) in
+      let good = cell-good Texts b i field (eqb-true _ _ (read .0)) in
+      let start : cellStart b i field ≡ a = cc in
+      let len : fieldLength b (field - 1) ≡ l = cc in
+      omega (arith, start, len, place-inside b i field (good .place) .field-inside)
+
+  pub memo-inside : textCell b m i field ≡ text.Memo a l → a + l ≤ length m
+  unfolding textCell textAt
+  memo-inside e =
+      let read = first-arm (eqb (cellRefusal Texts b i field) 0) (refused-memo (cellRefusal Texts b i field) a l) e in
+      let type = second-arm (eqb (fieldType b (field - 1)) typeC) (table-memo (cellStart b i field) (fieldLength b (field - 1)) a l) (read .1) in
+      text-inside m a l (cellBytes b i field) (memo-text (memoText (cellBytes b i field) m) a l (type .1)) .1

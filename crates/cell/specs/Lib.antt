@@ -1,0 +1,4 @@
+pub mod Cell
+pub mod Codes
+pub mod CellLaws
+pub mod AnswerLaws

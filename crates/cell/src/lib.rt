@@ -1,0 +1,198 @@
+// Reading one field of one record. Document 01, "Field text": refusals 1 to 13 and 15, then what concerns the text or the memo.
+use calendar::DateAnswer;
+use field::Placed;
+use memo::MemoPlace;
+use numeral::Number;
+ghost use Prim.Native.Nat.{_+_, _≤_};
+ghost use mathlib.Core.Path.{_≡_};
+ghost use lib.ListN.{length};
+ghost use Rattle.octets.specs.Store.{window};
+ghost use Rattle.cell.specs.Cell.{readsType, markGood, cellPlace, numberCell, dateCell, logicalOf, logicalCell, memoPart, textCell, textPart};
+
+const KEPT: u32 = 0x20;
+
+const DELETED: u32 = 0x2A;
+
+const TYPE_C: u32 = 0x43;
+
+const TYPE_N: u32 = 0x4E;
+
+const TYPE_D: u32 = 0x44;
+
+const TYPE_L: u32 = 0x4C;
+
+const TYPE_M: u32 = 0x4D;
+
+const LETTER_T: u32 = 0x54;
+
+const LETTER_F: u32 = 0x46;
+
+const BLANK: u32 = 0x20;
+
+const OTHER_TYPE: u32 = 13;
+
+const BAD_DELETION_BYTE: u32 = 15;
+
+const BAD_LOGICAL_TEXT: u32 = 20;
+
+// What a call reads.
+pub enum Reads {
+    Numbers,
+    Dates,
+    Logicals,
+    Texts,
+}
+
+// What the text of an L field says.
+pub enum Logical {
+    Value(bool),
+    Empty,
+    Refused(u32),
+}
+
+// Where the text of a C field lies in the table, or that of an M field in the memo file, or why there is none.
+pub enum TextPlace {
+    Table { start: usize, len: usize },
+    Memo { start: usize, len: usize },
+    Empty,
+    Refused(u32),
+}
+
+// A part of a slice, by its start and its length.
+fn part(s: &[u8], start: usize, len: usize) -> &[u8]
+    requires { ⌜ start + len ≤ length (now s) ⌝ }
+    ensures { λ r. ⌜ now r ≡ window (now (s .entry)) start len ⌝ }
+{
+    &s[start..start + len]
+}
+
+// Whether a call reads fields of a type.
+fn reads_type(reads: Reads, kind: u32) -> bool
+    ensures { λ r. ⌜ r ≡ readsType reads kind ⌝ }
+{
+    match reads {
+        Reads::Numbers => kind == TYPE_N,
+        Reads::Dates => kind == TYPE_D,
+        Reads::Logicals => kind == TYPE_L,
+        Reads::Texts => (kind == TYPE_C) | (kind == TYPE_M),
+    }
+}
+
+// Whether a byte marks a record as kept or as deleted.
+fn mark_good(mark: u32) -> bool
+    ensures { λ r. ⌜ r ≡ markGood mark ⌝ }
+{
+    (mark == KEPT) | (mark == DELETED)
+}
+
+// Where a field of a record lies, if the call may read it.
+fn cell_place(table: &[u8], reads: Reads, i: u32, field: u32) -> Placed
+    ensures { λ r. ⌜ r ≡ cellPlace reads (now (table .entry)) i field ⌝ }
+{
+    let placed = field::field_place(table, i, field);
+    match placed {
+        Placed::Refused(number) => Placed::Refused(number),
+        Placed::At(place) => {
+            if !reads_type(reads, place.form.kind) {
+                return Placed::Refused(OTHER_TYPE);
+            }
+            if !mark_good(place.mark) {
+                return Placed::Refused(BAD_DELETION_BYTE);
+            }
+            Placed::At(place)
+        }
+    }
+}
+
+// The value of an N field, in units of 10 to the -d.
+pub fn read_number(table: &[u8], i: u32, field: u32) -> Number
+    ensures { λ r. ⌜ r ≡ numberCell (now (table .entry)) i field ⌝ }
+{
+    let placed = cell_place(table, Reads::Numbers, i, field);
+    match placed {
+        Placed::Refused(number) => Number::Refused(number),
+        Placed::At(place) => {
+            let text = part(table, place.start, place.form.length);
+            numeral::read_number(text, place.form.decimals)
+        }
+    }
+}
+
+// The date of a D field.
+pub fn read_date(table: &[u8], i: u32, field: u32) -> DateAnswer
+    ensures { λ r. ⌜ r ≡ dateCell (now (table .entry)) i field ⌝ }
+{
+    let placed = cell_place(table, Reads::Dates, i, field);
+    match placed {
+        Placed::Refused(number) => DateAnswer::Refused(number),
+        Placed::At(place) => calendar::read_date(part(table, place.start, place.form.length)),
+    }
+}
+
+// What the one character of an L field says.
+fn logical_of(c: u32) -> Logical
+    ensures { λ r. ⌜ r ≡ logicalOf c ⌝ }
+{
+    if c == LETTER_T {
+        return Logical::Value(true);
+    }
+    if c == LETTER_F {
+        return Logical::Value(false);
+    }
+    if c == BLANK {
+        return Logical::Empty;
+    }
+    Logical::Refused(BAD_LOGICAL_TEXT)
+}
+
+// The value of an L field.
+pub fn read_logical(table: &[u8], i: u32, field: u32) -> Logical
+    ensures { λ r. ⌜ r ≡ logicalCell (now (table .entry)) i field ⌝ }
+{
+    let placed = cell_place(table, Reads::Logicals, i, field);
+    match placed {
+        Placed::Refused(number) => Logical::Refused(number),
+        Placed::At(place) => logical_of(octets::byte(table, place.start)),
+    }
+}
+
+fn memo_part(place: MemoPlace) -> TextPlace
+    ensures { λ r. ⌜ r ≡ memoPart place ⌝ }
+{
+    match place {
+        MemoPlace::Text { start, len } => TextPlace::Memo { start, len },
+        MemoPlace::Empty => TextPlace::Empty,
+        MemoPlace::Refused(number) => TextPlace::Refused(number),
+    }
+}
+
+// Where the text of a C or an M field lies. A C field's call does not look at the memo file.
+pub fn text_place(table: &[u8], memo: &[u8], i: u32, field: u32) -> TextPlace
+    ensures { λ r. ⌜ r ≡ textCell (now (table .entry)) (now (memo .entry)) i field ⌝ }
+{
+    let placed = cell_place(table, Reads::Texts, i, field);
+    match placed {
+        Placed::Refused(number) => TextPlace::Refused(number),
+        Placed::At(place) => {
+            let start = place.start;
+            let len = place.form.length;
+            if place.form.kind == TYPE_C {
+                return TextPlace::Table { start, len };
+            }
+            memo_part(memo::memo_place(part(table, start, len), memo))
+        }
+    }
+}
+
+// The text itself: a part of the table or of the memo file, of no bytes where there is none.
+pub fn text<'a>(table: &'a [u8], memo: &'a [u8], i: u32, field: u32) -> &'a [u8]
+    ensures { λ r. ⌜ now r ≡ textPart (now (table .entry)) (now (memo .entry)) (textCell (now (table .entry)) (now (memo .entry)) i field) ⌝ }
+{
+    let place = text_place(table, memo, i, field);
+    match place {
+        TextPlace::Table { start, len } => part(table, start, len),
+        TextPlace::Memo { start, len } => part(memo, start, len),
+        TextPlace::Empty => &table[..0],
+        TextPlace::Refused(_) => &table[..0],
+    }
+}
