@@ -1,0 +1,13 @@
+-- `page::key_length_good` meets its contract: test for test, it is the rule.
+-- Assumes nothing.
+use borrow.Author.Needs.{needs}
+use Rattle.page.specs.Header.{keyLengthGood}
+use Rattle.page.proofs.key_length_good.Statement.{statement}
+use Rattle.page.proofs.key_length_good.Tie as tie
+
+returns : tie.Need-returns
+unfolding keyLengthGood
+returns c = search needs
+
+pub key-length-good-spec : {M : Type 1} → statement M
+key-length-good-spec = tie.close (tie.spec returns)

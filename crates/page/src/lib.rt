@@ -1,0 +1,218 @@
+// An index file's header and pages: their numbers, the checks on them, and the search in a page.
+use octets::Ordering;
+ghost use mathlib.Core.Path.{_≡_};
+ghost use mathlib.Core.Bool.{Bool};
+ghost use Prim.Native.Nat.{ℕ, _+_, _≤_};
+ghost use lib.ListN.{length};
+ghost use Rattle.octets.specs.Order.{ordering};
+ghost use Rattle.page.specs.Header.{maxKey, pageSize, rootOffset, fileSize, keyLength, isPage, sizeGood, keyLengthGood, headerGood};
+ghost use Rattle.page.specs.Page.{attributeAt, countAt, leftAt, rightAt, capacity, entryOffset, keyAt, numberAt, attributeGood, countGood, pageGood, firstAtOrAbove};
+ghost use Rattle.page.specs.Within.{Within};
+
+// The largest index, in bytes.
+pub const MAX_BYTES: usize = 1048576;
+
+// The most levels from the root to a leaf, both counted.
+pub const MAX_LEVELS: u32 = 11;
+
+// The longest key.
+pub const MAX_KEY: usize = 100;
+
+// The link of a page that has no neighbour, and the free pointer.
+pub const NO_PAGE: u32 = 0xFFFFFFFF;
+
+// The offset of a page in an index.
+pub struct PageOffset(pub u32);
+
+// The number of a record in a table, from 1.
+pub struct RecordNumber(pub u32);
+
+// The numbers at the head of a page.
+pub struct Page {
+    pub attribute: u32,
+    pub count: u32,
+    pub left: PageOffset,
+    pub right: PageOffset,
+}
+
+impl Page {
+    pub const SIZE: usize = 512;
+
+    pub const ENTRY_AREA: usize = 500;
+
+    // How many entries with keys of k bytes a page holds.
+    pub fn capacity(k: usize) -> usize
+        requires { ⌜ k ≤ maxKey ⌝ }
+        ensures { λ r. ⌜ r ≡ capacity k ⌝ }
+    {
+        Self::ENTRY_AREA / (k + 4)
+    }
+
+    // The head of the page at an offset.
+    pub fn at(index: &[u8], page: PageOffset) -> Page
+        requires { ⌜ page .0 + pageSize ≤ length (now index) ⌝ }
+        ensures attribute { λ r. ⌜ r .attribute ≡ attributeAt (now (index .entry)) (page .0) ⌝ }
+        ensures count { λ r. ⌜ r .count ≡ countAt (now (index .entry)) (page .0) ⌝ }
+        ensures left { λ r. ⌜ r .left .0 ≡ leftAt (now (index .entry)) (page .0) ⌝ }
+        ensures right { λ r. ⌜ r .right .0 ≡ rightAt (now (index .entry)) (page .0) ⌝ }
+    {
+        let at = page.0 as usize;
+        Page {
+            attribute: octets::load_le16(index, at),
+            count: octets::load_le16(index, at + 2),
+            left: PageOffset(octets::load_le32(index, at + 4)),
+            right: PageOffset(octets::load_le32(index, at + 8)),
+        }
+    }
+}
+
+// The header's root offset.
+pub fn root(index: &[u8]) -> PageOffset
+    requires { ⌜ pageSize ≤ length (now index) ⌝ }
+    ensures { λ r. ⌜ r .0 ≡ rootOffset (now (index .entry)) ⌝ }
+{
+    PageOffset(octets::load_le32(index, 0))
+}
+
+// The header's file size.
+pub fn file_size(index: &[u8]) -> usize
+    requires { ⌜ pageSize ≤ length (now index) ⌝ }
+    ensures { λ r. ⌜ r ≡ fileSize (now (index .entry)) ⌝ }
+{
+    octets::load_le32(index, 8) as usize
+}
+
+// The header's key length.
+pub fn key_length(index: &[u8]) -> usize
+    requires { ⌜ pageSize ≤ length (now index) ⌝ }
+    ensures { λ r. ⌜ r ≡ keyLength (now (index .entry)) ⌝ }
+{
+    octets::load_le16(index, 12) as usize
+}
+
+// Whether an offset is that of a page other than the first, in a file of so many bytes.
+pub fn is_page(size: usize, page: PageOffset) -> bool
+    ensures { λ r. ⌜ r ≡ isPage size (page .0) ⌝ }
+{
+    let at = page.0 as usize;
+    (at % Page::SIZE == 0) & ((Page::SIZE <= at) & (at + Page::SIZE <= size))
+}
+
+// Whether a file's size is good, in a buffer of so many bytes.
+fn size_good(buffer: usize, size: usize) -> bool
+    ensures { λ r. ⌜ r ≡ sizeGood buffer size ⌝ }
+{
+    (size % Page::SIZE == 0) & ((1024 <= size) & ((size <= MAX_BYTES) & (size <= buffer)))
+}
+
+// Whether a key length is good.
+pub fn key_length_good(k: usize) -> bool
+    ensures { λ r. ⌜ r ≡ keyLengthGood k ⌝ }
+{
+    (1 <= k) & (k <= MAX_KEY)
+}
+
+// Whether the header is good.
+pub fn header_good(index: &[u8]) -> bool
+    ensures { λ r. ⌜ r ≡ headerGood (now (index .entry)) ⌝ }
+{
+    if index.len() < Page::SIZE {
+        return false;
+    }
+    let size = file_size(index);
+    size_good(index.len(), size)
+        & (is_page(size, root(index))
+            & (key_length_good(key_length(index))
+                & ((octets::load_le32(index, 4) == NO_PAGE) & (octets::byte(index, 14) == 1))))
+}
+
+// Whether an attribute is good, on the first page that is visited, on the last that may be, or on another.
+pub fn attribute_good(attribute: u32, first: bool, last: bool) -> bool
+    ensures { λ r. ⌜ r ≡ attributeGood attribute first last ⌝ }
+{
+    (attribute <= 3) & (((attribute % 2 == 1) == first) & ((2 <= attribute) | !last))
+}
+
+// Whether a count is good, with keys of k bytes on a page of that attribute.
+pub fn count_good(k: usize, attribute: u32, count: u32) -> bool
+    requires { ⌜ k ≤ maxKey ⌝ }
+    ensures { λ r. ⌜ r ≡ countGood k attribute count ⌝ }
+{
+    (count as usize <= Page::capacity(k)) & ((1 <= count) | (attribute == 3))
+}
+
+// Whether a page that is visited is good, with keys of k bytes in a file of so many bytes.
+pub fn page_good(
+    index: &[u8],
+    k: usize,
+    size: usize,
+    page: PageOffset,
+    first: bool,
+    last: bool,
+) -> bool
+    requires { ⌜ (k ≤ maxKey) × (size ≤ length (now index)) ⌝ }
+    ensures { λ r. ⌜ r ≡ pageGood (now (index .entry)) k size (page .0) first last ⌝ }
+{
+    if !is_page(size, page) {
+        return false;
+    }
+    let head = Page::at(index, page);
+    attribute_good(head.attribute, first, last) & count_good(k, head.attribute, head.count)
+}
+
+// Where entry i begins, or where the entries end if there are i.
+pub fn entry_offset(k: usize, page: PageOffset, i: usize) -> usize
+    requires { ⌜ (k ≤ maxKey) × (i ≤ capacity k) ⌝ }
+    ensures { λ r. ⌜ r ≡ entryOffset k (page .0) i ⌝ }
+{
+    page.0 as usize + 12 + i * (k + 4)
+}
+
+// The number of entry i, most significant byte first.
+fn entry_number(index: &[u8], k: usize, page: PageOffset, i: usize) -> u32
+    requires { ⌜ Within (now index) k (page .0) (i + 1) ⌝ }
+    ensures { λ r. ⌜ r ≡ numberAt (now (index .entry)) k (page .0) i ⌝ }
+{
+    octets::load_be32(index, entry_offset(k, page, i) + k)
+}
+
+// Entry i's number, taken as the offset of a page.
+pub fn child(index: &[u8], k: usize, page: PageOffset, i: usize) -> PageOffset
+    requires { ⌜ Within (now index) k (page .0) (i + 1) ⌝ }
+    ensures { λ r. ⌜ r .0 ≡ numberAt (now (index .entry)) k (page .0) i ⌝ }
+{
+    PageOffset(entry_number(index, k, page, i))
+}
+
+// Entry i's number, taken as that of a record.
+pub fn record_number(index: &[u8], k: usize, page: PageOffset, i: usize) -> RecordNumber
+    requires { ⌜ Within (now index) k (page .0) (i + 1) ⌝ }
+    ensures { λ r. ⌜ r .0 ≡ numberAt (now (index .entry)) k (page .0) i ⌝ }
+{
+    RecordNumber(entry_number(index, k, page, i))
+}
+
+// The order of entry i's key to a key.
+pub fn compare_entry(index: &[u8], page: PageOffset, i: usize, key: &[u8]) -> Ordering
+    requires { ⌜ Within (now index) (length (now key)) (page .0) (i + 1) ⌝ }
+    ensures { λ r. ⌜ r ≡ ordering (keyAt (now (index .entry)) (length (now (key .entry))) (page .0) i) (now (key .entry)) ⌝ }
+{
+    let start = entry_offset(key.len(), page, i);
+    let end = start + key.len();
+    octets::compare(&index[start..end], key)
+}
+
+// The first of so many entries whose key is at or above a key, or their number where there is none.
+pub fn first_at_or_above(index: &[u8], page: PageOffset, count: usize, key: &[u8]) -> usize
+    requires { ⌜ Within (now index) (length (now key)) (page .0) count ⌝ }
+    ensures { λ r. ⌜ (r ≡ firstAtOrAbove (keyAt (now (index .entry)) (length (now (key .entry))) (page .0)) (now (key .entry)) count 0) × (r ≤ count) ⌝ }
+{
+    let mut i = 0;
+    while i < count {
+        if !octets::is_below(compare_entry(index, page, i, key)) {
+            return i;
+        }
+        i += 1;
+    }
+    i
+}
