@@ -20,10 +20,6 @@ use Rattle.tree.specs.Store.{Store, readEntry}
 use Rattle.tree.specs.StoreLaws.{map-read-zero, lastKey-read}
 
 -- lists
-pub append-nil : {A : Type 0} (xs : List A) → xs ++ [] ≡ xs
-append-nil [] = refl
-append-nil (x ∷ xs) = ap (λ l. x ∷ l) (append-nil xs)
-
 pub map-append : {A B : Type 0} (f : A → B) (xs ys : List A) → map f (xs ++ ys) ≡ map f xs ++ map f ys
 map-append f [] ys = refl
 map-append f (x ∷ xs) ys = ap (λ l. f x ∷ l) (map-append f xs ys)
@@ -67,7 +63,7 @@ module _ {K : Type 0} (S : Store K) where
   join-below h g [] = refl
   join-below h g (e ∷ es) = rw (map-append (readEntry S h) (S (e .1)) (below es), concatMap-append g (map (readEntry S h) (S (e .1))) (map (readEntry S h) (below es))) (ap (λ l. concatMap g (map (readEntry S h) (S (e .1))) ++ l) (join-below h g es))
 
-  join-map : {B C : Type 0} (g : C → List B) (v : K × ℕ → C) (es : List (K × ℕ)) → concatMap g (map v es) ≡ concatMap (λ e. g (v e)) es
+  pub join-map : {B C : Type 0} (g : C → List B) (v : K × ℕ → C) (es : List (K × ℕ)) → concatMap g (map v es) ≡ concatMap (λ e. g (v e)) es
   join-map g v [] = refl
   join-map g v (e ∷ es) = ap (λ l. g (v e) ++ l) (join-map g v es)
 

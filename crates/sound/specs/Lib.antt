@@ -3,3 +3,5 @@ pub mod Levels
 pub mod Rule
 pub mod RunLaws
 pub mod EntryLaws
+pub mod MarkLaws
+pub mod LevelLaws
