@@ -1,5 +1,5 @@
--- Laws: document 01's words for the order of a tree say `Ordered` and `Exact`, and these say the words. Cited by the laws of sound bytes.
--- The way leads over K1's words, by which a key above is a ceiling. Assumes nothing.
+-- Laws: document 01's words for the order of a tree say `Ordered` and `Exact`, and these say the words. Cited by the laws
+-- of sound bytes. The way leads over K1's words, by which a key above is a ceiling. Assumes nothing.
 use mathlib.Core.Path.{_≡_, refl, sym, _∙_}
 use mathlib.Core.List.{List, [], _∷_}
 use Prim.Native.Nat.{ℕ, zero, suc, _<_}
@@ -10,7 +10,8 @@ use Rattle.tree.specs.Lists.{NonEmpty, concatMap}
 use Rattle.tree.specs.ListLaws.{all-map2, nonEmpty-left, nonEmpty-length}
 use Rattle.tree.specs.Order.{Order, Lt}
 use Rattle.tree.specs.Pairs.{firstKey, lastKey, Below, Above, Ascending}
-use Rattle.tree.specs.PairLaws.{lastKey-default, lastKey-concatMap, firstKey-append, ascending-left, ascending-right, ascending-across, ascending-last, ascending-first}
+use Rattle.tree.specs.PairLaws.{lastKey-default, lastKey-concatMap, firstKey-append, ascending-left, ascending-right}
+use Rattle.tree.specs.PairLaws.{ascending-across, ascending-last, ascending-first}
 use Rattle.tree.specs.Tree.{Entry, Tree, pairsUnder, pairs}
 use Rattle.tree.specs.Clauses.{SizedUnder, Sized, GreatestUnder, Greatest}
 use Rattle.tree.specs.Ordered.{Separated, OrderedUnder, Ordered, separated-all, ordered-ascending}
@@ -45,7 +46,8 @@ greatest-exact cap (suc h) x s g =
     )
 
 module _ {K : Type 0} (O : Order K) where
-  -- K1's words: the key above a child is at or above every leaf key under it, and below the first leaf key under the next child of the same page
+  -- K1's words: the key above a child is at or above every leaf key under it, and
+  -- below the first leaf key under the next child of the same page
   abbrev pub Bounded : {C : Type 0} → (K × C → List (K × ℕ)) → List (K × C) → Type 0
   Bounded under [] = Unit {0}
   Bounded under (x ∷ []) = Below O (x .0) (under x)
@@ -71,24 +73,28 @@ module _ {K : Type 0} (O : Order K) where
           good = ok x (s .0) (q .0) (ascending-left O (under x) (concatMap under (y ∷ ys)) a);
           nonEmpty = has x (s .0);
           ceiling = b .0;
-          apart = ascending-first O (x .0) (x .0) (concatMap under (y ∷ ys)) (nonEmpty-left (under y) (concatMap under ys) (has y (s .1 .0))) rest
+          apart = ascending-first O (x .0) (x .0) (concatMap under (y ∷ ys))
+              (nonEmpty-left (under y) (concatMap under ys) (has y (s .1 .0))) rest
               (rw (firstKey-append (x .0) (under y) (concatMap under ys) (has y (s .1 .0))) (b .1));
         },
         bounded-separated G S Q under has ok (y ∷ ys) (s .1) (q .1) (b .2) rest,
       )
 
-  ceiling-orderedUnder : (cap h : ℕ) (x : Entry K h) → SizedUnder cap h x → CeilingUnder h x → Ascending O (pairsUnder h x) → OrderedUnder O h x
+  ceiling-orderedUnder : (cap h : ℕ) (x : Entry K h) → SizedUnder cap h x → CeilingUnder h x → Ascending O (pairsUnder h x) →
+      OrderedUnder O h x
   ceiling-orderedUnder cap zero x s q a = tt
   ceiling-orderedUnder cap (suc h) x s q a = (
     nonEmpty-length (x .1 .1) (s .0),
-    bounded-separated (OrderedUnder O h) (SizedUnder cap h) (CeilingUnder h) (pairsUnder h) (sized-nonEmpty cap h) (ceiling-orderedUnder cap h)
+    bounded-separated (OrderedUnder O h) (SizedUnder cap h) (CeilingUnder h) (pairsUnder h) (sized-nonEmpty cap h)
+        (ceiling-orderedUnder cap h)
         (x .1 .1) (s .2) (q .1) (q .0) a,
   )
 
   -- Theorem: K1's words say `Ordered`
   pub ceiling-ordered : (cap h : ℕ) (t : Tree K h) → Sized cap h t → Ascending O (pairs h t) → Ceiling h t → Ordered O h t
   ceiling-ordered cap h t s a c =
-      bounded-separated (OrderedUnder O h) (SizedUnder cap h) (CeilingUnder h) (pairsUnder h) (sized-nonEmpty cap h) (ceiling-orderedUnder cap h)
+      bounded-separated (OrderedUnder O h) (SizedUnder cap h) (CeilingUnder h) (pairsUnder h) (sized-nonEmpty cap h)
+      (ceiling-orderedUnder cap h)
       (t .1) (s .2) (c .1) (c .0) a
 
   -- keys above that are the greatest under them are ceilings
@@ -124,9 +130,11 @@ module _ {K : Type 0} (O : Order K) where
   abbrev GreatestAscending : (h : ℕ) → Entry K h → Type 0
   GreatestAscending h x = GreatestUnder h x × Ascending O (pairsUnder h x)
 
-  greatest-parts : (h : ℕ) (xs : List (Entry K h)) → All (GreatestUnder h) xs → Ascending O (concatMap (pairsUnder h) xs) → All (GreatestAscending h) xs
+  greatest-parts : (h : ℕ) (xs : List (Entry K h)) → All (GreatestUnder h) xs → Ascending O (concatMap (pairsUnder h) xs) →
+      All (GreatestAscending h) xs
   greatest-parts h xs g a =
-      all-map2 (GreatestUnder h) (λ x. Ascending O (pairsUnder h x)) (GreatestAscending h) (λ x p q. (p, q)) xs g (ascending-parts (pairsUnder h) xs a)
+      all-map2 (GreatestUnder h) (λ x. Ascending O (pairsUnder h x)) (GreatestAscending h) (λ x p q. (p, q)) xs g
+      (ascending-parts (pairsUnder h) xs a)
 
   greatest-ceilingUnder : (cap h : ℕ) (x : Entry K h) → SizedUnder cap h x → GreatestAscending h x → CeilingUnder h x
   greatest-ceilingUnder cap zero x s g = tt
@@ -141,7 +149,8 @@ module _ {K : Type 0} (O : Order K) where
   greatest-ordered cap h t s a g = (
     ceiling-ordered cap h t s a (
       greatest-bounded cap h (t .1) (s .2) g a,
-      all-map2 (SizedUnder cap h) (GreatestAscending h) (CeilingUnder h) (greatest-ceilingUnder cap h) (t .1) (s .2) (greatest-parts h (t .1) g a),
+      all-map2 (SizedUnder cap h) (GreatestAscending h) (CeilingUnder h) (greatest-ceilingUnder cap h) (t .1) (s .2)
+          (greatest-parts h (t .1) g a),
     ),
     all-map2 (SizedUnder cap h) (GreatestUnder h) (ExactUnder h) (greatest-exact cap h) (t .1) (s .2) g,
   )
@@ -167,5 +176,6 @@ module _ {K : Type 0} (O : Order K) where
   pub ordered-greatest : (h : ℕ) (t : Tree K h) → Ordered O h t → Exact h t → Ascending O (pairs h t) × Greatest h t
   ordered-greatest h t o d = (
     ordered-ascending O h t o,
-    all-map2 (OrderedUnder O h) (ExactUnder h) (GreatestUnder h) (exact-greatest h) (t .1) (separated-all O (OrderedUnder O h) (pairsUnder h) (t .1) o) d,
+    all-map2 (OrderedUnder O h) (ExactUnder h) (GreatestUnder h) (exact-greatest h) (t .1)
+        (separated-all O (OrderedUnder O h) (pairsUnder h) (t .1) o) d,
   )

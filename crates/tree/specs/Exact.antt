@@ -1,6 +1,7 @@
--- Laws: exact trees, in which the key above a page is the page's own last key, and that an insertion keeps them so. Cited by the laws of sound indexes.
--- Where keys above are ceilings alone (change request K1), nothing but this file and its one field of a sound index goes. Assumes nothing.
-use mathlib.Core.Path.{_≡_, refl, sym, ap, _∙_}
+-- Laws: exact trees, in which the key above a page is the page's own last key, and that an insertion keeps
+-- them so. Cited by the laws of sound indexes. Where keys above are ceilings alone (change request K1),
+-- nothing but this file and its one field of a sound index goes. Assumes nothing.
+use mathlib.Core.Path.{_≡_, sym, ap, _∙_}
 use mathlib.Core.List.{List, [], _∷_, _++_}
 use Prim.Native.Nat.{ℕ, zero, suc, _<_}
 use lib.ListN.{length, take, drop, take-append-drop}
@@ -52,7 +53,8 @@ module _ {K C : Type 0} (E : K × C → Type 0) where
       (rw (take-append-drop m (q .0)) c) (rw (take-append-drop m (q .0)) e)))
 
 -- the last entry has the key above that was handed in
-splitIfOver-last : {K C : Type 0} (cap : ℕ) (name : ℕ → ℕ) (a b : K) (p : ℕ) (q : Replacement K C) → lastKey b (splitIfOver cap name a p q .0) ≡ a
+splitIfOver-last : {K C : Type 0} (cap : ℕ) (name : ℕ → ℕ) (a b : K) (p : ℕ) (q : Replacement K C) →
+    lastKey b (splitIfOver cap name a p q .0) ≡ a
 splitIfOver-last cap name a b p q = either (leb (length (q .0)) cap) (λ f. rw f) (λ f. rw f)
 
 -- one level of insertion, abstract in what lies below
@@ -66,7 +68,8 @@ module _ {K C : Type 0} (O : Order K) (G : K × C → Type 0) (under : K × C �
       let last : K = lastKey (y .0) ys in
       let rest : List (K × ℕ) = concatMap under (y ∷ ys) in
       let u : Lt O (x .0) last =
-      between O (x .0) last rest (separated-nonEmpty O G under (y ∷ ys) tt (c .1)) (c .0 .apart) (separated-last O G under (x .0) (y ∷ ys) (c .1)) in
+      between O (x .0) last rest (separated-nonEmpty O G under (y ∷ ys) tt (c .1)) (c .0 .apart)
+      (separated-last O G under (x .0) (y ∷ ys) (c .1)) in
       lastKey-append b (g x n .0) (y ∷ ys) ∙ sym (larger-same O last k (lt-le O k last (le-lt-trans O k (x .0) last e u)))))
       (λ e. rw e (place-last ok (x .0) y ys n (c .1)))
 
@@ -88,25 +91,29 @@ module _ {K : Type 0} (O : Order K) (cap : ℕ) (pos : 0 < cap) (name : ℕ → 
   insertEntries-exact : (h : ℕ) →
       ((x : Entry K h) (n : ℕ) → OrderedUnder O h x → ExactUnder h x → All (ExactUnder h) (insertUnder O cap name k r h x n .0)) →
       (a : K) (xs : List (Entry K h)) (n : ℕ) → NonEmpty xs → Separated O (OrderedUnder O h) (pairsUnder h) xs → All (ExactUnder h) xs →
-      All (ExactUnder h) (insertEntries O cap name k r h xs n .0) × (lastKey a (insertEntries O cap name k r h xs n .0) ≡ larger O (lastKey a xs) k)
+      All (ExactUnder h) (insertEntries O cap name k r h xs n .0)
+      × (lastKey a (insertEntries O cap name k r h xs n .0) ≡ larger O (lastKey a xs) k)
   insertEntries-exact h ok a [] n s c d = absurd s
   insertEntries-exact h ok a (x ∷ xs) n s c d = (
     place-all O (OrderedUnder O h) (pairsUnder h) k (insertUnder O cap name k r h) (ExactUnder h) ok x xs n c d,
     place-last O (OrderedUnder O h) (pairsUnder h) k (insertUnder O cap name k r h) (insertUnder-last h) a x xs n c,
   )
 
-  insertUnder-exact : (h : ℕ) (x : Entry K h) (n : ℕ) → OrderedUnder O h x → ExactUnder h x → All (ExactUnder h) (insertUnder O cap name k r h x n .0)
+  insertUnder-exact : (h : ℕ) (x : Entry K h) (n : ℕ) → OrderedUnder O h x → ExactUnder h x →
+      All (ExactUnder h) (insertUnder O cap name k r h x n .0)
   insertUnder-exact zero x n g d = all-unit (insertPair O k r (x ∷ []))
   insertUnder-exact (suc h) x n g d =
       let q : Replacement K (Child K h) = insertEntries O cap name k r h (x .1 .1) n in
       let f : All (ExactUnder h) (q .0) × (lastKey (x .0) (q .0) ≡ larger O (lastKey (x .0) (x .1 .1)) k) =
       insertEntries-exact h (insertUnder-exact h) (x .0) (x .1 .1) n (g .0) (g .1) (d .1) in
       let s : NonEmpty (q .0) = concatMap-nonEmpty (pairsUnder h) (q .0)
-      (rw (insertEntries-pairs O cap name k r h (x .1 .1) n (g .0) (g .1)) (insertPair-nonEmpty O k r (concatMap (pairsUnder h) (x .1 .1)))) in
+      (rw (insertEntries-pairs O cap name k r h (x .1 .1) n (g .0) (g .1))
+      (insertPair-nonEmpty O k r (concatMap (pairsUnder h) (x .1 .1)))) in
       splitIfOver-exact (ExactUnder h) cap pos name (larger O (x .0) k) (x .1 .0) q (f .0)
       (lastKey-default (larger O (x .0) k) (x .0) (q .0) s ∙ (f .1 ∙ ap (λ b. larger O b k) (d .0)))
 
-  root-exact : (h : ℕ) (t : Tree K h) (n : ℕ) → Rooted h t → Ordered O h t → Exact h t → All (ExactUnder h) (insertEntries O cap name k r h (t .1) n .0)
+  root-exact : (h : ℕ) (t : Tree K h) (n : ℕ) → Rooted h t → Ordered O h t → Exact h t →
+      All (ExactUnder h) (insertEntries O cap name k r h (t .1) n .0)
   root-exact zero t n s c d = all-unit (insertEntries O cap name k r zero (t .1) n .0)
   root-exact (suc h) t n s c d = insertEntries-exact (suc h) (insertUnder-exact (suc h)) k (t .1) n s c d .0
 

@@ -1,5 +1,5 @@
--- Laws: the pages after an insertion are the old ones and the new ones, each as often as before. Cited by the laws of sound indexes and of stores.
--- Assumes nothing.
+-- Laws: the pages after an insertion are the old ones and the new ones, each as often as
+-- before. Cited by the laws of sound indexes and of stores. Assumes nothing.
 use mathlib.Core.Path.{_≡_, refl, sym, ap, _∙_}
 use mathlib.Core.List.{List, [], _∷_, append-nil}
 use Prim.Native.Nat.{ℕ, zero, suc, _+_, _≤_, _<_}
@@ -13,7 +13,8 @@ use Rattle.tree.specs.ListLaws.{concatMap-append, occ-append, occ-differ
 use Rattle.tree.specs.Order.{Order, larger}
 use Rattle.tree.specs.Pairs.{lastKey}
 use Rattle.tree.specs.Tree.{Page, Child, Entry, Tree, pagesUnder, pages}
-use Rattle.tree.specs.Insertion.{Replacement, half, splitIfOver, firstPair, place, insertAmong, grownPages, reroot, insertUnder, insertEntries, insert}
+use Rattle.tree.specs.Insertion.{Replacement, half, splitIfOver, firstPair, place, grownPages, reroot, insertUnder, insertEntries}
+use Rattle.tree.specs.Insertion.{insert}
 use Rattle.tree.specs.SplitLaws.{splitIfOver-nonEmpty}
 
 -- the first n new pages
@@ -56,12 +57,14 @@ splitIfOver-pages cap name under z a p q = either (leb (length (q .0)) cap)
     let upper : List ℕ = concatMap under (drop (half (length (q .0))) (q .0)) in
     let e : occ z (concatMap under (q .0)) ≡ occ z lower + occ z upper =
     ap (λ l. occ z (concatMap under l)) (sym (take-append-drop (half (length (q .0))) (q .0)))
-    ∙ (ap (occ z) (concatMap-append under (take (half (length (q .0))) (q .0)) (drop (half (length (q .0))) (q .0))) ∙ occ-append z lower upper) in
+    ∙ (ap (occ z) (concatMap-append under (take (half (length (q .0))) (q .0)) (drop (half (length (q .0))) (q .0)))
+    ∙ occ-append z lower upper) in
     rw (append-nil upper) (omega (arith, occ-append z lower (name (q .1) ∷ upper)))))
 
 -- one level of insertion, abstract in what lies below
 place-pages : {K C : Type 0} (O : Order K) (k : K) (g : K × C → ℕ → Replacement K C) (name : ℕ → ℕ) (under : K × C → List ℕ) (z : ℕ) →
-    ((x : K × C) (n : ℕ) → occ z (concatMap under (g x n .0)) + occ z (newPages name n) ≡ occ z (under x) + occ z (newPages name (g x n .1))) →
+    ((x : K × C) (n : ℕ) → occ z (concatMap under (g x n .0)) + occ z (newPages name n)
+    ≡ occ z (under x) + occ z (newPages name (g x n .1))) →
     (x : K × C) (xs : List (K × C)) (n : ℕ) →
     occ z (concatMap under (place O k g x xs n .0)) + occ z (newPages name n)
     ≡ occ z (concatMap under (x ∷ xs)) + occ z (newPages name (place O k g x xs n .1))

@@ -1,6 +1,6 @@
--- Laws: ordered trees, in which each key above is a ceiling; lookup in one gives what the ascending list of its pairs has. Cited by every law of
--- insertion. The order is the invariant that lookup and insertion rest on; that a key above is the greatest under it is apart from it, in Exact.
--- Assumes nothing.
+-- Laws: ordered trees, in which each key above is a ceiling; lookup in one gives what the ascending list of its
+-- pairs has. Cited by every law of insertion. The order is the invariant that lookup and insertion rest on; that
+-- a key above is the greatest under it is apart from it, in Exact. Assumes nothing.
 use mathlib.Core.Path.{_≡_, refl, sym, ap, _∙_, subst}
 use mathlib.Core.List.{List, [], _∷_}
 use mathlib.Core.Option.{Option, none, some, IsSome}
@@ -14,9 +14,10 @@ use Rattle.tree.specs.Pairs.{follow, seek, find, Below, Above, Ascending
 use Rattle.tree.specs.PairLaws.{find-here, find-past, ascending-append}
 use Rattle.tree.specs.Tree.{Entry, Tree, pairsUnder, pairs, onward, lookupUnder, lookup, visitedUnder, visited}
 
--- an entry x before the entries xs of its page, with the leaf pairs that `under` gives for each: G holds of it, it has a leaf pair,
--- its key is at or above its own leaf keys and below those of the entries after it
-pub record Separator {K C : Type 0} (O : Order K) (G : K × C → Type 0) (under : K × C → List (K × ℕ)) (x : K × C) (xs : List (K × C)) : Type 0 where
+-- an entry x before the entries xs of its page, with the leaf pairs that `under` gives for each: G holds of it, it
+-- has a leaf pair, its key is at or above its own leaf keys and below those of the entries after it
+pub record Separator {K C : Type 0} (O : Order K) (G : K × C → Type 0) (under : K × C → List (K × ℕ)) (x : K × C)
+    (xs : List (K × C)) : Type 0 where
   pub good : G x
   pub nonEmpty : NonEmpty (under x)
   pub ceiling : Below O (x .0) (under x)
@@ -84,7 +85,8 @@ module _ {K : Type 0} (O : Order K) where
       (xs : List (K × C)) → Separated G under xs → Ascending O (concatMap under xs)
   ascending-level G under ok [] c = tt
   ascending-level G under ok (x ∷ xs) c =
-      ascending-append O (x .0) (under x) (concatMap under xs) (ok x (c .0 .good)) (ascending-level G under ok xs (c .1)) (c .0 .ceiling) (c .0 .apart)
+      ascending-append O (x .0) (under x) (concatMap under xs) (ok x (c .0 .good)) (ascending-level G under ok xs (c .1)) (c .0 .ceiling)
+      (c .0 .apart)
 
   ascending-under : (h : ℕ) (x : Entry K h) → OrderedUnder h x → Ascending O (pairsUnder h x)
   ascending-under zero x g = (tt, tt)
