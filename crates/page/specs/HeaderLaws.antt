@@ -1,10 +1,9 @@
 -- Laws: what a good header and the offset of a page say, taken apart and put together. Cited by the proofs of every call on an index. Assumes nothing.
 use Prim.Native.Nat.{ℕ, _+_, _%_, _≤_}
 use mathlib.Core.Path.{_≡_}
-use mathlib.Core.Bool.{Bool, true}
+use mathlib.Core.Bool.{true}
 use mathlib.Core.List.{List}
 use lib.ListN.{length}
-use lib.Dec.{eqb, leb}
 use borrow.Author.Tests.{leb-true, eqb-true, le-leb, eq-eqb}
 use Rattle.basis.specs.Tests.{both, join}
 use Rattle.page.specs.Header.{maxBytes, maxKey, pageSize, noPage, rootOffset, freePointer, fileSize, keyLength, features, isPage, sizeGood, keyLengthGood, headerGood}

@@ -5,3 +5,4 @@ pub mod Reading
 pub mod KeyOrder
 pub mod HeaderLaws
 pub mod PageLaws
+pub mod ReadingLaws

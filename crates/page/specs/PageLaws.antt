@@ -1,22 +1,21 @@
 -- Laws: what a good page says, where its entries lie, and the search in a page, entry after entry. Cited by the proofs of lookup, audit and insertion.
 -- Assumes nothing.
-use Prim.Native.Nat.{ℕ, zero, suc, _+_, _-_, _*_, _/_, _≤_, _<_}
-use mathlib.Core.Path.{_≡_, refl, sym, ap, _∙_}
+use Prim.Native.Nat.{ℕ, suc, _+_, _-_, _*_, _≤_, _<_}
+use mathlib.Core.Path.{_≡_}
 use mathlib.Core.Bool.{Bool, true, false, not, _||_, Bool·beq}
 use mathlib.Core.List.{List}
-use native.Mathlib.Nat.{mul-le-mul-right, div-mul-le-self, suc-mul, le-trans, div-le-self}
+use native.Mathlib.Nat.{mul-le-mul-right, div-mul-le-self, zero-mul, suc-mul, le-trans, div-le-self}
 use native.Mathlib.Numerals.{add-one}
 use native.Mathlib.Omega.{arith}
 use lib.ListN.{length}
 use lib.Dec.{eqb, leb}
-use borrow.Author.Tests.{leb-true, eqb-true}
-use Rattle.basis.specs.Tests.{either, both}
-use Rattle.octets.specs.Order.{bytesLe, ordering, isBelow}
-use Rattle.octets.specs.OrderLaws.{ordering-below}
+use borrow.Author.Tests.{leb-true}
+use Rattle.basis.specs.Tests.{both}
+use Rattle.octets.specs.Order.{bytesLe}
 use Rattle.page.specs.Header.{maxKey, pageSize, isPage}
 use Rattle.page.specs.Page.{attributeAt, countAt, entriesStart, entryArea, capacity, entryOffset, rootBit, leafBit, attributeGood, countGood, pageGood, firstAtOrAbove}
 use Rattle.page.specs.Within.{Within}
-use Rattle.page.specs.HeaderLaws.{IsPage, is-page}
+use Rattle.page.specs.HeaderLaws.{is-page}
 
 -- a page that lookup may visit
 pub record GoodPage (b : List ℕ) (k size p : ℕ) (first last : Bool) : Type 0 where
@@ -37,17 +36,27 @@ good-page b k size p first last e =
     let n = both _ _ (u .1) in
     record { page = t .0; attribute = leb-true _ _ (a .0); root = r .0; leaf = r .1; full = leb-true _ _ (n .0); some = n .1 }
 
--- entries up to the capacity lie within the page: the one fact about products
+-- entries up to the capacity fit: the one fact about products
+pub entries-fit : (k n : ℕ) → n ≤ capacity k → n * (k + 4) ≤ entryArea
+unfolding capacity
+entries-fit k n h = le-trans (mul-le-mul-right (k + 4) h) (div-mul-le-self entryArea (k + 4))
+
+-- so they lie within the page
 pub entries-inside : (k p n : ℕ) → n ≤ capacity k → entryOffset k p n ≤ p + pageSize
-unfolding capacity entryOffset
-entries-inside k p n h = omega (arith, le-trans (mul-le-mul-right (k + 4) h) (div-mul-le-self entryArea (k + 4)))
+unfolding entryOffset
+entries-inside k p n h = omega (arith, entries-fit k n h)
+
+-- entry 0 begins where the entries start
+pub entry-first : (k p : ℕ) → entryOffset k p 0 ≡ p + entriesStart
+unfolding entryOffset
+entry-first k p = omega (arith, zero-mul (k + 4))
 
 -- entry i ends where entry i + 1 begins
 pub entry-next : (k p i : ℕ) → entryOffset k p (i + 1) ≡ entryOffset k p i + (k + 4)
 unfolding entryOffset
 entry-next k p i = rw add-one (omega (arith, suc-mul i (k + 4)))
 
--- so an entry below the capacity lies within the page
+-- an entry below the capacity lies within the page
 pub entry-inside : (k p i : ℕ) → i < capacity k → entryOffset k p i + (k + 4) ≤ p + pageSize
 entry-inside k p i h = omega (arith, entry-next k p i, entries-inside k p (i + 1) (omega arith))
 

@@ -1,0 +1,60 @@
+-- `lookup::lookup` meets its contract: the header is tested before anything else is read, the key's length before the root is visited.
+-- Assumes nothing.
+use mathlib.Core.Bool.{true}
+use mathlib.Core.Path.{_≡_, sym, _∙_}
+use lib.ListN.{length}
+use borrow.Author.Tests.{not-true, not-false, eq-eqb, ne-eqb}
+use borrow.Author.Needs.{needs}
+use Rattle.page.specs.HeaderLaws.{good-header}
+use Rattle.page.specs.Header.{keyLength, headerGood}
+use Rattle.lookup.specs.Lookup.{lookupRule}
+use Rattle.lookup.proofs.lookup.Statement.{statement}
+use Rattle.lookup.proofs.lookup.Tie as tie
+
+abbrev start : tie.Else1 → tie.Start
+start c = c .before .before .before .before
+
+-- what the two tests say where they are passed
+good : (c : tie.Else1) → headerGood (start c .args .index .now) ≡ true
+good c = sym (c .before .header-good .ensures) ∙ not-false _ (c .if1 .left)
+
+whole : (c : tie.Else2) → let args = start (c .before .before) .args in length (args .key .now) ≡ keyLength (args .index .now)
+whole c = c .if2 .left ∙ c .before .key-length .ensures
+
+header-good-requires : tie.Need-header-good-requires
+header-good-requires c κs = search needs
+
+returns : tie.Need-returns
+unfolding lookupRule
+returns c = rw (sym (c .before .header-good .ensures) ∙ not-true _ (c .if1 .taken), lookupRule)
+
+key-length-requires : tie.Need-key-length-requires
+key-length-requires c κs = good-header _ (good c) .long
+
+returns-2 : tie.Need-returns-2
+unfolding lookupRule
+returns-2 c = rw (good (c .before .before), ne-eqb _ _ (λ e. c .if2 .taken (e ∙ sym (c .before .key-length .ensures))), lookupRule)
+
+root-requires : tie.Need-root-requires
+root-requires c κs = good-header _ (good (c .before .before)) .long
+
+lookup-from-requires : tie.Need-lookup-from-requires
+lookup-from-requires c κs = (search needs, good (c .before .before .before), whole (c .before))
+
+returns-3 : tie.Need-returns-3
+unfolding lookupRule
+returns-3 c =
+    rw (good (c .before .before .before .before), eq-eqb _ _ (whole (c .before .before)), lookupRule)
+    (c .lookup-from .ensures ∙ rw (c .before .root .ensures))
+
+pub lookup-spec : {M : Type 1} → statement M
+lookup-spec =
+    tie.close
+    (tie.spec
+    header-good-requires
+    returns
+    key-length-requires
+    returns-2
+    root-requires
+    lookup-from-requires
+    returns-3)

@@ -1,0 +1,78 @@
+-- Rules: lookup, "(24, 27, 25)": the steps from the root down, on any bytes, and the answer.
+use Prim.Native.Nat.{ℕ, zero, suc, _-_}
+use mathlib.Core.Bool.{Bool, true, false, cond}
+use mathlib.Core.List.{List}
+use lib.ListN.{length}
+use lib.Dec.{eqb}
+use Rattle.octets.specs.Order.{ordering, isEqual}
+use Rattle.page.specs.Header.{maxLevels, rootOffset, fileSize, keyLength, headerGood}
+use Rattle.page.specs.Page.{attributeAt, countAt, leafBit, keyAt, numberAt, pageGood, firstAtOrAbove}
+use Rattle.page.specs.declared.PageOffset.{PageOffset}
+use Rattle.page.specs.declared.RecordNumber.{RecordNumber}
+use Rattle.lookup.specs.declared.Visit.{Visit}
+use Rattle.lookup.specs.declared.Visit.the-variants as visit
+use Rattle.lookup.specs.declared.Answer.{Answer}
+use Rattle.lookup.specs.declared.Answer.the-variants as answer
+
+-- an entry's number, taken as a child's offset or as a record number
+abbrev pub childOf : ℕ → PageOffset
+childOf n = record { 0 = n }
+
+abbrev pub recordOf : ℕ → RecordNumber
+recordOf n = record { 0 = n }
+
+-- what the page at p says by entry i, "the first entry at or above the key; none there: absent"; "a found key is an equal one in the leaf"
+unfoldable pub entrySays : List ℕ → List ℕ → ℕ → ℕ → Visit
+entrySays b key p i =
+    cond (eqb i (countAt b p)) visit.Absent
+    (cond (leafBit (attributeAt b p))
+    (cond (isEqual (ordering (keyAt b (length key) p i) key)) (visit.Found (recordOf (numberAt b (length key) p i))) visit.Absent)
+    (visit.Child (childOf (numberAt b (length key) p i))))
+
+unfoldable pub pageSays : List ℕ → List ℕ → ℕ → Visit
+pageSays b key p = entrySays b key p (firstAtOrAbove (keyAt b (length key) p) key (countAt b p) 0)
+
+-- a visit of the page at p: "a failure is 25, tested on each page before its entries are looked at"
+unfoldable pub visitRule : List ℕ → List ℕ → ℕ → Bool → Bool → Visit
+visitRule b key p first last = elim (pageGood b (length key) (fileSize b) p first last) [ true ↦ pageSays b key p | false ↦ visit.Refused ]
+
+-- what a visit decides, with the pages visited up to it, where `go` is lookup from a child on
+abbrev pub decided : (ℕ → Answer) → ℕ → Visit → Answer
+decided go pages visit.Refused = answer.Refused 25
+decided go pages visit.Absent = answer.Absent pages
+decided go pages (visit.Found r) = answer.Found r pages
+decided go pages (visit.Child c) = go (c .0)
+
+-- lookup "goes down level by level": from the page at p on, with so many levels left, "falling from 11"; the first page visited is the one with all levels
+-- left, and the 11th the one with none left under it
+unfoldable pub lookupFrom : ℕ → List ℕ → List ℕ → ℕ → Answer
+lookupFrom zero b key p = answer.Refused 25
+lookupFrom (suc left) b key p =
+    decided (lookupFrom left b key) (maxLevels - left) (visitRule b key p (eqb (maxLevels - left) 1) (eqb left 0))
+
+unfoldable pub lookupRule : List ℕ → List ℕ → Answer
+lookupRule b key =
+    elim (headerGood b) [
+      | true ↦ elim (eqb (length key) (keyLength b)) [
+        | true ↦ lookupFrom maxLevels b key (rootOffset b)
+        | false ↦ answer.Refused 27
+      ]
+      | false ↦ answer.Refused 24
+    ]
+
+-- the number of an answer: 0 where the key is found, 257 where it is absent, or the refusal's
+abbrev pub answerNumber : Answer → ℕ
+answerNumber (answer.Found r pages) = 0
+answerNumber (answer.Absent pages) = 257
+answerNumber (answer.Refused n) = n
+
+-- the record of an answer, and the pages visited; what was there before where an answer has none
+abbrev pub answerRecord : Answer → ℕ → ℕ
+answerRecord (answer.Found r pages) old = r .0
+answerRecord (answer.Absent pages) old = old
+answerRecord (answer.Refused n) old = old
+
+abbrev pub answerPages : Answer → ℕ → ℕ
+answerPages (answer.Found r pages) old = pages
+answerPages (answer.Absent pages) old = pages
+answerPages (answer.Refused n) old = old

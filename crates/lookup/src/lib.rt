@@ -1,0 +1,90 @@
+// Lookup: from the root down, level by level, by the first entry at or above the key.
+use page::Page;
+use page::PageOffset;
+use page::RecordNumber;
+ghost use mathlib.Core.Path.{_≡_};
+ghost use mathlib.Core.Bool.{Bool, true};
+ghost use Prim.Native.Nat.{ℕ, _≤_};
+ghost use lib.ListN.{length};
+ghost use Rattle.page.specs.Header.{maxLevels, keyLength, headerGood};
+ghost use Rattle.page.specs.Page.{countAt};
+ghost use Rattle.page.specs.Within.{Within};
+ghost use Rattle.lookup.specs.Lookup.{pageSays, visitRule, lookupFrom, lookupRule};
+
+// What a page says of a key: it fails its checks, the key is absent or found, or the lookup goes on to a child.
+pub enum Visit {
+    Refused,
+    Absent,
+    Found(RecordNumber),
+    Child(PageOffset),
+}
+
+// What a lookup answers: the record and the pages visited, the pages visited, or the refusal's number.
+pub enum Answer {
+    Found(RecordNumber, u32),
+    Absent(u32),
+    Refused(u32),
+}
+
+// What the entries of a page say of a key.
+fn search_page(index: &[u8], key: &[u8], page: PageOffset) -> Visit
+    requires { ⌜ Within (now index) (length (now key)) (page .0) (countAt (now index) (page .0)) ⌝ }
+    ensures { λ r. ⌜ r ≡ pageSays (now (index .entry)) (now (key .entry)) (page .0) ⌝ }
+{
+    let head = Page::at(index, page);
+    let count = head.count as usize;
+    let i = page::first_at_or_above(index, page, count, key);
+    if i == count {
+        return Visit::Absent;
+    }
+    if head.attribute < 2 {
+        return Visit::Child(page::child(index, key.len(), page, i));
+    }
+    if octets::is_equal(page::compare_entry(index, page, i, key)) {
+        return Visit::Found(page::record_number(index, key.len(), page, i));
+    }
+    Visit::Absent
+}
+
+// A visit of a page: its checks come before its entries.
+fn visit_page(index: &[u8], key: &[u8], page: PageOffset, first: bool, last: bool) -> Visit
+    requires { ⌜ (headerGood (now index) ≡ true) × (length (now key) ≡ keyLength (now index)) ⌝ }
+    ensures { λ r. ⌜ r ≡ visitRule (now (index .entry)) (now (key .entry)) (page .0) first last ⌝ }
+{
+    if !page::page_good(index, key.len(), page::file_size(index), page, first, last) {
+        return Visit::Refused;
+    }
+    search_page(index, key, page)
+}
+
+// Lookup from a page on, with so many levels left.
+fn lookup_from(index: &[u8], key: &[u8], page: PageOffset, levels: u32) -> Answer
+    requires { ⌜ (levels ≤ maxLevels) × (headerGood (now index) ≡ true) × (length (now key) ≡ keyLength (now index)) ⌝ }
+    ensures { λ r. ⌜ r ≡ lookupFrom levels (now (index .entry)) (now (key .entry)) (page .0) ⌝ }
+{
+    if levels == 0 {
+        return Answer::Refused(25);
+    }
+    let left = levels - 1;
+    let pages = page::MAX_LEVELS - left;
+    let visit = visit_page(index, key, page, pages == 1, left == 0);
+    match visit {
+        Visit::Refused => Answer::Refused(25),
+        Visit::Absent => Answer::Absent(pages),
+        Visit::Found(number) => Answer::Found(number, pages),
+        Visit::Child(child) => lookup_from(index, key, child, left),
+    }
+}
+
+// The record of a key, or that the key is absent, with the pages visited.
+pub fn lookup(index: &[u8], key: &[u8]) -> Answer
+    ensures { λ r. ⌜ r ≡ lookupRule (now (index .entry)) (now (key .entry)) ⌝ }
+{
+    if !page::header_good(index) {
+        return Answer::Refused(24);
+    }
+    if key.len() != page::key_length(index) {
+        return Answer::Refused(27);
+    }
+    lookup_from(index, key, page::root(index), page::MAX_LEVELS)
+}

@@ -1,0 +1,98 @@
+-- Laws: a page's entries by number, how many there are, and that they depend on the page's own bytes alone. Cited by what sound means, by the audit and by
+-- insertion. Assumes nothing.
+use Prim.Native.Nat.{ℕ, zero, suc, _+_, _-_, _*_, _≤_, min}
+use mathlib.Core.Path.{_≡_, refl, sym, ap, _∙_}
+use mathlib.Core.Bool.{true, false}
+use mathlib.Core.List.{List, [], _∷_, map}
+use native.Mathlib.Nat.{sub-zero, min-le-right, min-eq-left, suc-mul}
+use native.Mathlib.Omega.{arith}
+use lib.Dec.{lit≤}
+use lib.ListN.{length, take, drop}
+use lib.Seq.{take-nil, take-take, drop-drop}
+use Rattle.octets.specs.Store.{window}
+use Rattle.octets.specs.NumberLaws.{be32-window, le16-same}
+use Rattle.page.specs.Header.{pageSize, isPage}
+use Rattle.page.specs.Page.{countAt, entriesStart, entryArea, capacity, entryOffset, keyAt, numberAt}
+use Rattle.page.specs.Reading.{items, itemsAt, numbered, entriesAt}
+use Rattle.page.specs.PageLaws.{entries-fit, entry-first, entry-next}
+
+-- n entries of the page at p, from entry i on
+unfoldable pub entriesFrom : List ℕ → ℕ → ℕ → ℕ → ℕ → List (List ℕ × ℕ)
+entriesFrom b k p zero i = []
+entriesFrom b k p (suc n) i = (keyAt b k p i, numberAt b k p i) ∷ entriesFrom b k p n (i + 1)
+
+drop-take : (i m : ℕ) (xs : List ℕ) → drop i (take m xs) ≡ take (m - i) (drop i xs)
+drop-take zero m xs = rw sub-zero
+drop-take (suc i) zero xs = let z : 0 - suc i ≡ 0 = omega arith in rw z
+drop-take (suc i) (suc m) [] = sym (take-nil (suc m - suc i))
+drop-take (suc i) (suc m) (x ∷ xs) = let e : suc m - suc i ≡ m - i = omega arith in rw e (drop-take i m xs)
+
+-- a part of a part
+pub window-window : (b : List ℕ) (p n i m : ℕ) → i + m ≤ n → window (window b p n) i m ≡ window b (p + i) m
+unfolding window
+window-window b p n i m h = rw (drop-take i n (drop p b), take-take m (n - i) (drop i (drop p b)) (omega arith), drop-drop)
+
+-- entries that end within a part are those of the whole
+items-take : (k n m : ℕ) (xs : List ℕ) → n * (k + 4) ≤ m → items k n (take m xs) ≡ items k n xs
+unfolding items
+items-take k zero m xs h = refl
+items-take k (suc n) m xs h =
+    let f : n * (k + 4) + (k + 4) ≤ m = omega (arith, suc-mul n (k + 4)) in
+    rw (
+      take-take k m xs (omega arith),
+      drop-take k m xs,
+      take-take 4 (m - k) (drop k xs) (omega arith),
+      drop-take (k + 4) m xs,
+      items-take k n (m - (k + 4)) (drop (k + 4) xs) (omega arith),
+    )
+
+-- entries read from the place where entry i begins
+items-from : (b : List ℕ) (k p n i : ℕ) → map numbered (items k n (drop (entryOffset k p i) b)) ≡ entriesFrom b k p n i
+unfolding items entriesFrom window
+items-from b k p zero i = refl
+items-from b k p (suc n) i =
+    rw (drop-drop k (entryOffset k p i) b, be32-window b (entryOffset k p i + k), drop-drop (k + 4) (entryOffset k p i) b, ← entry-next k p i, items-from b k p n (i + 1))
+
+-- the number of entries that are read of a page
+abbrev pub readCount : ℕ → List ℕ → ℕ → ℕ
+readCount k b p = min (countAt b p) (capacity k)
+
+-- a page's entries are those with the numbers below its count, and never more than the capacity
+pub entries-by-index : (k size : ℕ) (b : List ℕ) (p : ℕ) → isPage size p ≡ true → entriesAt k size b p ≡ entriesFrom b k p (readCount k b p) 0
+unfolding entriesAt itemsAt window
+entries-by-index k size b p e =
+    rw (e, items-take k (readCount k b p) entryArea (drop (p + entriesStart) b) (entries-fit k (readCount k b p) (min-le-right _ _)), ← entry-first k p)
+    (items-from b k p (readCount k b p) 0)
+
+pub entries-by-count : (k size : ℕ) (b : List ℕ) (p : ℕ) → isPage size p ≡ true → countAt b p ≤ capacity k → entriesAt k size b p ≡ entriesFrom b k p (countAt b p) 0
+entries-by-count k size b p e h = entries-by-index k size b p e ∙ ap (λ (n : ℕ). entriesFrom b k p n 0) (min-eq-left h)
+
+-- no page, no entries
+pub entries-none : (k size : ℕ) (b : List ℕ) (p : ℕ) → isPage size p ≡ false → entriesAt k size b p ≡ []
+unfolding entriesAt itemsAt
+entries-none k size b p e = rw e
+
+pub length-entries-from : (b : List ℕ) (k p n i : ℕ) → length (entriesFrom b k p n i) ≡ n
+unfolding entriesFrom
+length-entries-from b k p zero i = refl
+length-entries-from b k p (suc n) i = ap suc (length-entries-from b k p n (i + 1))
+
+pub length-entries : (k size : ℕ) (b : List ℕ) (p : ℕ) → isPage size p ≡ true → length (entriesAt k size b p) ≡ readCount k b p
+length-entries k size b p e = ap length (entries-by-index k size b p e) ∙ length-entries-from b k p (readCount k b p) 0
+
+-- a page is read by its own bytes alone
+module _ (a b : List ℕ) (p : ℕ) (e : window a p pageSize ≡ window b p pageSize) where
+  -- a part of the page
+  pub window-in-page : (i n : ℕ) → i + n ≤ pageSize → window a (p + i) n ≡ window b (p + i) n
+  window-in-page i n h = sym (window-window a p pageSize i n h) ∙ ap (λ (w : List ℕ). window w i n) e ∙ window-window b p pageSize i n h
+
+  pub count-same : countAt a p ≡ countAt b p
+  count-same = le16-same a b (p + 2) (window-in-page 2 2 (lit≤ tt))
+
+  pub items-same : (k size : ℕ) → itemsAt k size a p ≡ itemsAt k size b p
+  unfolding itemsAt
+  items-same k size = rw (count-same, window-in-page entriesStart entryArea (lit≤ tt))
+
+  pub entries-same : (k size : ℕ) → entriesAt k size a p ≡ entriesAt k size b p
+  unfolding entriesAt
+  entries-same k size = ap (map numbered) (items-same k size)
