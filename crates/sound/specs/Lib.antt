@@ -5,3 +5,4 @@ pub mod RunLaws
 pub mod EntryLaws
 pub mod MarkLaws
 pub mod LevelLaws
+pub mod ShapeLaws
