@@ -89,7 +89,7 @@ module _ (b : List ℕ) (k size : ℕ) where
     head = ef ∙ p .head;
   }
 
-  level-known : (root : Bool) (first : ℕ) (ps m : List ℕ) → checkLevel b k size root first ps m .0 .good ≡ true → Known root m ps (checkLevel b k size root first ps m)
+  pub level-known : (root : Bool) (first : ℕ) (ps m : List ℕ) → checkLevel b k size root first ps m .0 .good ≡ true → Known root m ps (checkLevel b k size root first ps m)
   level-known root first ps m g =
       let u = both _ _ g in
       let c = check-passed b k size (attributeOf root (isLeaf b size first)) (start first) m ps (u .0) (eqb-true _ _ (u .1)) in
@@ -100,7 +100,7 @@ module _ (b : List ℕ) (k size : ℕ) where
   unfolding isLeaf
   known-leaf root leaf p f = rw (f .page, f .attribute) (leaf-bit root leaf)
 
-  level-good : (root leaf : Bool) (first : ℕ) (ps m : List ℕ) → NonEmpty ps → first ≡ headOr noPage ps → LevelGood root leaf ps → Fresh m ps →
+  pub level-good : (root leaf : Bool) (first : ℕ) (ps m : List ℕ) → NonEmpty ps → first ≡ headOr noPage ps → LevelGood root leaf ps → Fresh m ps →
       (checkLevel b k size root first ps m .0 .good ≡ true) × (isLeaf b size first ≡ leaf)
   level-good root leaf first [] m s e l f = absurd s
   level-good root leaf first (p ∷ ps) m s e l f =
@@ -113,7 +113,7 @@ module _ (b : List ℕ) (k size : ℕ) where
   children-are es ps e = rw e (ap (map (λ x. x .1)) (join-map S S (λ x. x .1) es))
 
   -- a level that is reached is good, and so is the one from which the audit went on
-  levels-good : (l : ℕ) (t : Level × List ℕ) → levelsUnder b k size l t .0 .good ≡ true → t .0 .good ≡ true
+  pub levels-good : (l : ℕ) (t : Level × List ℕ) → levelsUnder b k size l t .0 .good ≡ true → t .0 .good ≡ true
   unfolding levelsUnder
   levels-good zero t g = g
   levels-good (suc l) t g = either (t .0 .good && not (t .0 .leaf))
@@ -159,7 +159,7 @@ module _ (b : List ℕ) (k size : ℕ) where
       subst (λ (ps : List ℕ). Known false (t .1) ps (nextLevel b k size (t .0) (t .1))) (children-are es (chain b size (t .0 .count) (t .0 .first)) c)
       (level-known false (headOr noPage (children b k size (t .0 .first ∷ []))) (children b k size (chain b size (t .0 .count) (t .0 .first))) (t .1) g)
 
-  levels-found : (l : ℕ) (es : Entries) (t : Level × List ℕ) → chain b size (t .0 .count) (t .0 .first) ≡ numbers es →
+  pub levels-found : (l : ℕ) (es : Entries) (t : Level × List ℕ) → chain b size (t .0 .count) (t .0 .first) ≡ numbers es →
       levelsUnder b k size l t .0 .good ≡ true → levelsUnder b k size l t .0 .leaf ≡ true → Found l (t .0 .leaf) es (t .1) (levelsUnder b k size l t .1)
   unfolding levelsUnder
   levels-found zero es t c g h = found-bottom zero (t .0 .leaf) es (t .1) h

@@ -173,14 +173,14 @@ module _ {K : Type 0} (S : Store K) where
   generation-below (suc i) es = generation-below i (below es)
 
   module _ (Q : ℕ → Type 0) where
-    pub levels-reached : (h : ℕ) (es : List (K × ℕ)) → ((i : ℕ) → i < h → All Q (numbers (generation i es))) → All Q (reached h es)
-    levels-reached zero es a = tt
-    levels-reached (suc h) es a = all-append Q (numbers es) (reached h (below es)) (a zero (omega arith)) (levels-reached h (below es) (λ i l. a (suc i) (omega arith)))
+    pub generations-reached : (h : ℕ) (es : List (K × ℕ)) → ((i : ℕ) → i < h → All Q (numbers (generation i es))) → All Q (reached h es)
+    generations-reached zero es a = tt
+    generations-reached (suc h) es a = all-append Q (numbers es) (reached h (below es)) (a zero (omega arith)) (generations-reached h (below es) (λ i l. a (suc i) (omega arith)))
 
-    pub reached-levels : (h : ℕ) (es : List (K × ℕ)) → All Q (reached h es) → (i : ℕ) → i < h → All Q (numbers (generation i es))
-    reached-levels zero es a i l = absurd (omega arith)
-    reached-levels (suc h) es a zero l = all-left Q (numbers es) (reached h (below es)) a
-    reached-levels (suc h) es a (suc i) l = reached-levels h (below es) (all-right Q (numbers es) (reached h (below es)) a) i (omega arith)
+    pub reached-generations : (h : ℕ) (es : List (K × ℕ)) → All Q (reached h es) → (i : ℕ) → i < h → All Q (numbers (generation i es))
+    reached-generations zero es a i l = absurd (omega arith)
+    reached-generations (suc h) es a zero l = all-left Q (numbers es) (reached h (below es)) a
+    reached-generations (suc h) es a (suc i) l = reached-generations h (below es) (all-right Q (numbers es) (reached h (below es)) a) i (omega arith)
 
   -- a tree from its root: a page that an entry with any key names
   module _ (a : K) (root h : ℕ) where

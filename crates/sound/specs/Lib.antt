@@ -6,3 +6,4 @@ pub mod EntryLaws
 pub mod MarkLaws
 pub mod LevelLaws
 pub mod ShapeLaws
+pub mod Accepted

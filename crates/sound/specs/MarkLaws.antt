@@ -4,7 +4,7 @@ use mathlib.Core.Path.{_≡_, refl, sym, ap, _∙_, subst}
 use mathlib.Core.List.{List, [], _∷_}
 use mathlib.Core.Bool.{Bool, true, false}
 use native.Mathlib.Omega.{arith}
-use lib.ListN.{length, getD, set, length-set, length-replicate, getD-replicate, List·getD-eq-default}
+use lib.ListN.{length, getD, set, replicate, length-set, length-replicate, getD-replicate, List·getD-eq-default}
 use lib.Seq.{getD-set-same, getD-set-other}
 use lib.Dec.{eqb, ltb}
 use borrow.Author.Tests.{eq-eqb, ne-eqb, eqb-true, eqb-false, ltb-true, ltb-false}
@@ -77,10 +77,15 @@ unfolding markedFrom
 at-marked m zero j h = refl
 at-marked m (suc l) j h = join _ _ (eq-eqb _ _ (h j (omega arith) (omega arith))) (at-marked m l (j + 1) (λ i a c. h i (omega arith) (omega arith)))
 
+pub unmarked-length : length unmarked ≡ maxPages
+unfolding unmarked
+unmarked-length = length-replicate {A = ℕ} maxPages 0
+
 unmarked-zero : (j : ℕ) → getD unmarked j 0 ≡ 0
+unfolding unmarked
 unmarked-zero j = either (ltb j maxPages)
     (λ e. getD-replicate maxPages j 0 0 (ltb-true j maxPages e))
-    (λ e. List·getD-eq-default unmarked 0 (ltb-false j maxPages e))
+    (λ e. List·getD-eq-default (replicate maxPages 0) 0 (ltb-false j maxPages e))
 
 -- the pages ps of a file that were met, from no marks on
 module _ (size : ℕ) (ps : List ℕ) (whole : size % pageSize ≡ 0) (most : size ≤ maxBytes) (inside : All (λ p. isPage size p ≡ true) ps) where
@@ -89,7 +94,7 @@ module _ (size : ℕ) (ps : List ℕ) (whole : size % pageSize ≡ 0) (most : si
 
   count-of : (j : ℕ) → Fresh unmarked ps → getD (markAll unmarked ps) j 0 ≡ occ (pageSize * j) ps
   count-of j f =
-      let c = marks-count maxPages unmarked ps j (length-replicate {A = ℕ} maxPages 0) all-whole f in
+      let c = marks-count maxPages unmarked ps j unmarked-length all-whole f in
       let z = unmarked-zero j in
       omega arith
 
@@ -113,7 +118,7 @@ module _ (size : ℕ) (ps : List ℕ) (whole : size % pageSize ≡ 0) (most : si
         (λ t. omega (arith, unmarked-zero j, ltb-false 0 (occ (pageSize * j) ps) t)))
 
     pub once-fresh : Fresh unmarked ps
-    once-fresh = marks-fresh maxPages unmarked ps (length-replicate {A = ℕ} maxPages 0) all-whole at-most
+    once-fresh = marks-fresh maxPages unmarked ps unmarked-length all-whole at-most
 
     pub once-marked : markedFrom (markAll unmarked ps) (size / pageSize - 1) 1 ≡ true
     once-marked = at-marked (markAll unmarked ps) (size / pageSize - 1) 1

@@ -145,5 +145,5 @@ pagesGood b m =
     (levelsUnder b (keyLength b) (fileSize b) (maxLevels - 1) (rootLevel b (keyLength b) (fileSize b) (rootOffset b) m))
 
 -- no page is marked
-abbrev pub unmarked : List ℕ
+unfoldable pub unmarked : List ℕ
 unmarked = replicate maxPages 0

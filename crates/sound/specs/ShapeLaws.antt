@@ -29,7 +29,7 @@ use Rattle.page.specs.Reading.{entriesAt}
 use Rattle.page.specs.ReadingLaws.{length-entries, entries-none}
 use Rattle.sound.specs.Sound.{linksOf, Sound}
 use Rattle.sound.specs.Rule.{Entries, lastOf, attributeOf}
-use Rattle.sound.specs.Levels.{numbers, below, generation, reached, join-map, generation-below, Counted, Top, all-of-map, all-to-map, generation-sized, generation-exact, exact-generation, tree-pairs, tree-pages, reached-levels, generation-pages, pages-generation, level-generation, generation-level}
+use Rattle.sound.specs.Levels.{numbers, below, generation, reached, join-map, generation-below, Counted, Top, all-of-map, all-to-map, generation-sized, generation-exact, exact-generation, tree-pairs, tree-pages, reached-generations, generation-pages, pages-generation, level-generation, generation-level}
 use Rattle.sound.specs.RunLaws.{Fits, Checked}
 use Rattle.sound.specs.EntryLaws.{Climbs, Exactly, climbs-ascend, ascend-climbs, checked-exactly, exactly-checked, checked-climbs, climbs-checked, lone-climbs, climbs-lone}
 use Rattle.sound.specs.LevelLaws.{LevelGood, leaf-bit}
@@ -212,7 +212,7 @@ module _ (b : List ℕ) (k size root h : ℕ) (once : occ root (reached (entries
   level-root (suc i) l =
       let rest = reached R h (below R (top b k size root h)) in
       let none : occ root rest ≡ 0 = omega (arith, occ-head root rest) in
-      rw (ne-eqb (suc i) 0 (omega arith)) (reached-levels R (λ p. eqb p root ≡ false) h (below R (top b k size root h)) (occ-none root rest none) i (omega arith))
+      rw (ne-eqb (suc i) 0 (omega arith)) (reached-generations R (λ p. eqb p root ≡ false) h (below R (top b k size root h)) (occ-none root rest none) i (omega arith))
 
 -- level j is the generation h - j: it is that of the leaves where the generation is the last
 flip : (h i : ℕ) → i ≤ h → eqb (h - i) 0 ≡ eqb i h
