@@ -91,14 +91,13 @@ module _ {K : Type 0} (O : Order K) (fits : K → Bool) where
   bookFinal (c ∷ cs) [] book = book
   bookFinal (c ∷ cs) (f ∷ fs) book = bookFinal cs fs (bookAfter c f book)
 
-  -- "one claim about the whole list", of calls that answer and change a state;
-  -- `leaves` are the state's leaf pairs, `full` is the rule for 30
+  -- "one claim about the whole list": of calls that answer and change a state, from state b and the book on;
+  -- `leaves` gives a state's leaf pairs, and `full` is the rule for 30 on the state that is lent to a call
   pub record BookClaim {B : Type 0} (answer : Call K → B → Answer) (next : Call K → B → B) (leaves : B → List (K × ℕ))
-      (full : Call K → B → Bool)
-      (cs : List (Call K)) (b : B) : Type 0 where
+      (full : Call K → B → Bool) (cs : List (Call K)) (b : B) (book : List (K × ℕ)) : Type 0 where
     -- "every call answers so, never 24 or 25"
-    pub answers : resultsOf answer next cs b ≡ bookAnswers cs (noRooms (resultsOf answer next cs b)) (leaves b)
+    pub answers : resultsOf answer next cs b ≡ bookAnswers cs (noRooms (resultsOf answer next cs b)) book
     -- "an insertion not refused so is 30 exactly when the rule above, on the index lent to it, says so"
-    pub room : resultsOf answer next cs b ≡ bookAnswers cs (resultsOf full next cs b) (leaves b)
-    -- "the leaves' entries, left to right, are the book's pairs"
-    pub pairs : leaves (finalOf next cs b) ≡ bookFinal cs (noRooms (resultsOf answer next cs b)) (leaves b)
+    pub room : resultsOf answer next cs b ≡ bookAnswers cs (resultsOf full next cs b) book
+    -- "after fresh and after each call the leaves' entries, left to right, are the book's pairs"
+    pub pairs : leaves (finalOf next cs b) ≡ bookFinal cs (noRooms (resultsOf answer next cs b)) book

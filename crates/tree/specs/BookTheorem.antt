@@ -71,5 +71,5 @@ module _ {K B : Type 0} (s : Setting K) (two : 1 < s .capacity) (read : B → In
   list-keeps (c ∷ cs) o b i = list-keeps cs (o .1) (nextB c b) (keep c b (o .0) i)
 
   -- Theorem: the claim about the whole list
-  pub book-claim : (cs : List (Call K)) → All Ok cs → (b : B) → Inv b → BookClaim (s .order) (s .fits) answerB nextB leaves fullB cs b
+  pub book-claim : (cs : List (Call K)) → All Ok cs → (b : B) → Inv b → BookClaim (s .order) (s .fits) answerB nextB leaves fullB cs b (leaves b)
   book-claim cs o b i = record { answers = list-answers cs o b i; room = list-room cs o b i; pairs = list-pairs cs o b i }
