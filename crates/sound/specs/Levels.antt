@@ -147,11 +147,20 @@ module _ {K : Type 0} (S : Store K) where
       let n = length-map (S (e .1)) (readEntry S h) in
       (rw n (d .0 .0), rw n (d .0 .1), all-to-map (SizedUnder cap h) (readEntry S h) (S (e .1)) (all-map (Deep (Counted cap) h) (λ x. SizedUnder cap h (readEntry S h x)) (deep-sized cap h) (S (e .1)) (d .1)))
 
-  pub sized-deep : (cap h : ℕ) (e : K × ℕ) → SizedUnder cap h (readEntry S h e) → Deep (Counted cap) h e
-  sized-deep cap zero e d = tt
-  sized-deep cap (suc h) e d =
-      let n = length-map (S (e .1)) (readEntry S h) in
-      ((rw n at (d .0), rw n at (d .1)), all-map (λ x. SizedUnder cap h (readEntry S h x)) (Deep (Counted cap) h) (sized-deep cap h) (S (e .1)) (all-of-map (SizedUnder cap h) (readEntry S h) (S (e .1)) (d .2)))
+  -- and every page of a sized tree has an entry
+  sized-level : (cap h : ℕ) → ((e : K × ℕ) → SizedUnder cap h (readEntry S h e) → All (λ p. 0 < length (S p)) (pagesUnder h (readEntry S h e))) →
+      (es : List (K × ℕ)) → All (SizedUnder cap h) (map (readEntry S h) es) → All (λ p. 0 < length (S p)) (concatMap (pagesUnder h) (map (readEntry S h) es))
+  sized-level cap h f [] s = tt
+  sized-level cap h f (e ∷ es) s =
+      all-append (λ p. 0 < length (S p)) (pagesUnder h (readEntry S h e)) (concatMap (pagesUnder h) (map (readEntry S h) es)) (f e (s .0)) (sized-level cap h f es (s .1))
+
+  sized-under : (cap h : ℕ) (e : K × ℕ) → SizedUnder cap h (readEntry S h e) → All (λ p. 0 < length (S p)) (pagesUnder h (readEntry S h e))
+  sized-under cap zero e s = tt
+  sized-under cap (suc h) e s = (rw (length-map (S (e .1)) (readEntry S h)) at (s .0), sized-level cap h (sized-under cap h) (S (e .1)) (s .2))
+
+  pub sized-pages : (cap h root : ℕ) → Sized cap h (readTree S h root) → All (λ p. least h ≤ length (S p)) (pages h (readTree S h root))
+  sized-pages cap zero root s = (omega arith, subst (All (λ p. 0 ≤ length (S p))) (sym (join-map (pagesUnder zero) (readEntry S zero) (S root) ∙ concatMap-none (S root))) tt)
+  sized-pages cap (suc h) root s = (rw (length-map (S root) (readEntry S (suc h))) at (s .0), sized-level cap (suc h) (sized-under cap (suc h)) (S root) (s .2))
 
   -- the key above a page is the page's last
   abbrev pub Top : K × ℕ → Type 0

@@ -7,3 +7,4 @@ pub mod MarkLaws
 pub mod LevelLaws
 pub mod ShapeLaws
 pub mod Accepted
+pub mod IndexLaws
