@@ -5,6 +5,7 @@ use mathlib.Core.List.{List, [], _∷_, _++_}
 use mathlib.Core.Bool.{Bool, true, false, _&&_}
 use mathlib.Core.Logic.{_↔_, _⊎_, inl, inr}
 use native.Mathlib.Omega.{arith}
+use lib.ListN.{length}
 use lib.Dec.{eqb}
 use borrow.Author.Tests.{ne-eqb}
 use Rattle.basis.specs.Lists.{All}
@@ -17,8 +18,8 @@ use Rattle.sound.specs.Sound.{Sound, Audited}
 use Rattle.sound.specs.Rule.{Entries, Level, rootLevel, levelsUnder, markedFrom, complete, pagesGood, unmarked}
 use Rattle.sound.specs.Levels.{numbers, below, generation, reached, generations-reached}
 use Rattle.sound.specs.RunLaws.{markAll, Fresh}
-use Rattle.sound.specs.MarkLaws.{marked-once, once-fresh, once-marked}
-use Rattle.sound.specs.LevelLaws.{LevelGood, Known, Found, fresh-append, fresh-left, fresh-right, mark-append, level-known, level-good, levels-good, levels-found, levels-reached}
+use Rattle.sound.specs.MarkLaws.{fresh-append, fresh-left, fresh-right, mark-append, mark-length, unmarked-length, marked-once, once-fresh, once-marked}
+use Rattle.sound.specs.LevelLaws.{LevelGood, Known, Found, level-known, level-good, levels-good, levels-found, levels-reached}
 use Rattle.sound.specs.ShapeLaws.{Shape, generationOf, levels-inside, levels-counts, entries-filled, shape-sound, sound-shape}
 
 module _ (b : List ℕ) (k size root : ℕ) (whole : size % pageSize ≡ 0) (most : size ≤ maxBytes) where
@@ -33,7 +34,7 @@ module _ (b : List ℕ) (k size root : ℕ) (whole : size % pageSize ≡ 0) (mos
 
   root-known : first .0 .good ≡ true → Known b k size true unmarked (root ∷ []) first
   unfolding rootLevel
-  root-known g = level-known b k size true root (root ∷ []) unmarked g
+  root-known g = level-known b k size most true root (root ∷ []) unmarked unmarked-length g
 
   all-levels : (h : ℕ) (leaf : Bool) → leaf ≡ eqb 0 h → LevelGood b k size true leaf (root ∷ []) →
       ((i : ℕ) → i < h → LevelGood b k size false (eqb (suc i) h) (numbers (generation S (suc i) top))) →
@@ -67,13 +68,13 @@ module _ (b : List ℕ) (k size root : ℕ) (whole : size % pageSize ≡ 0) (mos
   complete-shape e =
       let u = both (levels .0 .good) _ e in
       let v = both (levels .0 .leaf) _ (u .1) in
-      let r = root-known (levels-good b k size (maxLevels - 1) first (u .0)) in
-      found-shape first (levels .1) r (levels-found b k size (maxLevels - 1) top first (r .pages) (u .0) (v .0)) (v .1)
+      let r = root-known (levels-good b k size most (maxLevels - 1) first (u .0)) in
+      found-shape first (levels .1) r (levels-found b k size most (maxLevels - 1) top first (ap length (r .marks) ∙ mark-length unmarked (root ∷ []) ∙ unmarked-length) (r .pages) (u .0) (v .0)) (v .1)
 
   -- and back
   root-good : (leaf : Bool) → LevelGood b k size true leaf (root ∷ []) → Fresh unmarked (root ∷ []) → (first .0 .good ≡ true) × (first .0 .leaf ≡ leaf)
   unfolding rootLevel
-  root-good leaf v f = level-good b k size true leaf root (root ∷ []) unmarked tt refl v f
+  root-good leaf v f = level-good b k size most true leaf root (root ∷ []) unmarked tt refl v f
 
   shape-complete : Shape b k size root → complete b k size levels ≡ true
   shape-complete s =
@@ -85,7 +86,7 @@ module _ (b : List ℕ) (k size root : ℕ) (whole : size % pageSize ≡ 0) (mos
       let fresh = once-fresh size all whole most inside (s .once) in
       let g = root-good (eqb 0 h) (s .levels zero (omega arith)) (fresh-left unmarked (root ∷ []) rest fresh) in
       let r = root-known (g .0) in
-      let u = levels-reached b k size (maxLevels - 1) h top first (omega arith) tt (g .0) (g .1) (r .pages) (r .head)
+      let u = levels-reached b k size most (maxLevels - 1) h top first (ap length (r .marks) ∙ mark-length unmarked (root ∷ []) ∙ unmarked-length) (omega arith) tt (g .0) (g .1) (r .pages) (r .head)
         (λ i l. entries-filled b k size root h (levels-inside b k size root h (s .levels)) (levels-counts b k size root h (s .levels)) i (omega arith) (omega arith))
         (λ i l. rw (ne-eqb (suc i) 0 (omega arith)) at (s .levels (suc i) (omega arith)))
         (rw (r .marks) (fresh-right unmarked (root ∷ []) rest fresh)) in

@@ -1,7 +1,7 @@
 -- Laws: the marks of the pages that were met, against how often each page stands among them. Cited by the laws of the audit's rule. Assumes nothing.
 use Prim.Native.Nat.{ℕ, zero, suc, _+_, _-_, _*_, _/_, _%_, _≤_, _<_}
 use mathlib.Core.Path.{_≡_, refl, sym, ap, _∙_, subst}
-use mathlib.Core.List.{List, [], _∷_}
+use mathlib.Core.List.{List, [], _∷_, _++_}
 use mathlib.Core.Bool.{Bool, true, false}
 use native.Mathlib.Omega.{arith}
 use lib.ListN.{length, getD, set, replicate, length-set, length-replicate, getD-replicate, List·getD-eq-default}
@@ -23,9 +23,54 @@ occ-all Q z (p ∷ ps) a h = either (eqb z p)
     (λ e. subst Q (sym (eqb-true z p e)) (a .0))
     (λ e. let l : 0 < 0 + occ z ps = rw e at h in occ-all Q z ps (a .1) (omega arith))
 
+-- marks of joined lists
+pub fresh-append : (m xs ys : List ℕ) → Fresh m xs → Fresh (markAll m xs) ys → Fresh m (xs ++ ys)
+fresh-append m [] ys f g = g
+fresh-append m (x ∷ xs) ys f g = (f .0, fresh-append _ xs ys (f .1) g)
+
+pub fresh-left : (m xs ys : List ℕ) → Fresh m (xs ++ ys) → Fresh m xs
+fresh-left m [] ys f = tt
+fresh-left m (x ∷ xs) ys f = (f .0, fresh-left _ xs ys (f .1))
+
+pub fresh-right : (m xs ys : List ℕ) → Fresh m (xs ++ ys) → Fresh (markAll m xs) ys
+fresh-right m [] ys f = f
+fresh-right m (x ∷ xs) ys f = fresh-right _ xs ys (f .1)
+
+pub mark-append : (m xs ys : List ℕ) → markAll m (xs ++ ys) ≡ markAll (markAll m xs) ys
+mark-append m [] ys = refl
+mark-append m (x ∷ xs) ys = mark-append _ xs ys
+
+pub mark-length : (m ps : List ℕ) → length (markAll m ps) ≡ length m
+mark-length m [] = refl
+mark-length m (p ∷ ps) = mark-length (set m (p / pageSize) 1) ps ∙ length-set m (p / pageSize) 1
+
 -- page numbers that have a place among n marks
 abbrev Whole : ℕ → List ℕ → Type 0
 Whole n ps = All (λ p. (p % pageSize ≡ 0) × (p / pageSize < n)) ps
+
+pages-whole : (size : ℕ) (ps : List ℕ) → size ≤ maxBytes → All (λ p. isPage size p ≡ true) ps → Whole maxPages ps
+pages-whole size ps most inside =
+    all-map (λ p. isPage size p ≡ true) (λ p. (p % pageSize ≡ 0) × (p / pageSize < maxPages)) (λ p e. let i = is-page size p e in (i .whole, omega arith)) ps inside
+
+-- pages that are unmarked when they are met are no more than there are marks: each takes one of the zeros
+zero-set : (m : List ℕ) (i : ℕ) → i < length m → getD m i 0 ≡ 0 → suc (occ 0 (set m i 1)) ≡ occ 0 m
+zero-set [] i l e = absurd (omega arith)
+zero-set (x ∷ m) zero l e = rw (eq-eqb 0 x (sym e)) (omega arith)
+zero-set (x ∷ m) (suc i) l e = let ih = zero-set m i (omega arith) e in omega arith
+
+fresh-zeros : (n : ℕ) (m ps : List ℕ) → length m ≡ n → Whole n ps → Fresh m ps → length ps ≤ occ 0 m
+fresh-zeros n m [] l w f = omega arith
+fresh-zeros n m (p ∷ ps) l w f =
+    let ih = fresh-zeros n (set m (p / pageSize) 1) ps (length-set m (p / pageSize) 1 ∙ l) (w .1) (f .1) in
+    let z = zero-set m (p / pageSize) (omega (arith, w .0 .1)) (f .0) in
+    omega arith
+
+occ-length : (z : ℕ) (m : List ℕ) → occ z m ≤ length m
+occ-length z [] = omega arith
+occ-length z (x ∷ m) = let ih = occ-length z m in either (eqb z x) (λ e. rw e (omega arith)) (λ e. rw e (omega arith))
+
+pub fresh-few : (size : ℕ) (m ps : List ℕ) → size ≤ maxBytes → length m ≡ maxPages → All (λ p. isPage size p ≡ true) ps → Fresh m ps → length ps ≤ maxPages
+fresh-few size m ps most l inside f = omega (arith, fresh-zeros maxPages m ps l (pages-whole size ps most inside) f, occ-length 0 m)
 
 -- one mark more
 module _ (n : ℕ) (m : List ℕ) (p j : ℕ) (l : length m ≡ n) (w : p % pageSize ≡ 0) (h : p / pageSize < n) where
@@ -90,7 +135,7 @@ unmarked-zero j = either (ltb j maxPages)
 -- the pages ps of a file that were met, from no marks on
 module _ (size : ℕ) (ps : List ℕ) (whole : size % pageSize ≡ 0) (most : size ≤ maxBytes) (inside : All (λ p. isPage size p ≡ true) ps) where
   all-whole : Whole maxPages ps
-  all-whole = all-map (λ p. isPage size p ≡ true) (λ p. (p % pageSize ≡ 0) × (p / pageSize < maxPages)) (λ p e. let i = is-page size p e in (i .whole, omega arith)) ps inside
+  all-whole = pages-whole size ps most inside
 
   count-of : (j : ℕ) → Fresh unmarked ps → getD (markAll unmarked ps) j 0 ≡ occ (pageSize * j) ps
   count-of j f =
