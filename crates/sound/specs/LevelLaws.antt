@@ -18,7 +18,7 @@ use Rattle.page.specs.HeaderLaws.{is-page}
 use Rattle.page.specs.Page.{attributeAt, rightAt, leafBit}
 use Rattle.page.specs.Reading.{entriesAt}
 use Rattle.sound.specs.Sound.{linksOf}
-use Rattle.sound.specs.Rule.{Entries, maxPages, Progress, Level, start, chain, isLeaf, attributeOf, checkPages, checkLevel, children, nextLevel, levelsUnder}
+use Rattle.sound.specs.Rule.{Entries, maxPages, Progress, Level, start, chain, isLeaf, attributeOf, checkPages, checkLevel, children, firstChild, nextLevel, levelsUnder}
 use Rattle.sound.specs.Levels.{numbers, below, generation, reached, join-map}
 use Rattle.sound.specs.MarkLaws.{fresh-append, fresh-left, fresh-right, mark-append, mark-length, fresh-few}
 use Rattle.sound.specs.RunLaws.{markAll, Fresh, Fits, Checked, Passed, check-passed, passed-check}
@@ -142,19 +142,19 @@ module _ (b : List ℕ) (k size : ℕ) (most : size ≤ maxBytes) where
         marks = r .marks ∙ ap (λ (x : List ℕ). markAll x rest) em ∙ sym (mark-append m (numbers (below S es)) rest);
       }
 
-  next-known : (es : Entries) (t : Level × List ℕ) → length (t .1) ≡ maxPages → nextLevel b k size (t .0) (t .1) .0 .good ≡ true → chain b size maxPages (t .0 .first) ≡ numbers es →
-      Known b k size false (t .1) (numbers (below S es)) (nextLevel b k size (t .0) (t .1))
+  next-known : (es : Entries) (t : Level × List ℕ) → length (t .1) ≡ maxPages → nextLevel b k size (t .0 .first) (t .1) .0 .good ≡ true → chain b size maxPages (t .0 .first) ≡ numbers es →
+      Known b k size false (t .1) (numbers (below S es)) (nextLevel b k size (t .0 .first) (t .1))
   unfolding nextLevel
   next-known es t n g c =
-      subst (λ (ps : List ℕ). Known b k size false (t .1) ps (nextLevel b k size (t .0) (t .1))) (children-are es (chain b size maxPages (t .0 .first)) c)
-      (level-known false (headOr noPage (children b k size (t .0 .first ∷ []))) (children b k size (chain b size maxPages (t .0 .first))) (t .1) n g)
+      subst (λ (ps : List ℕ). Known b k size false (t .1) ps (nextLevel b k size (t .0 .first) (t .1))) (children-are es (chain b size maxPages (t .0 .first)) c)
+      (level-known false (firstChild b k size (t .0 .first)) (children b k size (chain b size maxPages (t .0 .first))) (t .1) n g)
 
   pub levels-found : (l : ℕ) (es : Entries) (t : Level × List ℕ) → length (t .1) ≡ maxPages → chain b size maxPages (t .0 .first) ≡ numbers es →
       levelsUnder b k size l t .0 .good ≡ true → levelsUnder b k size l t .0 .leaf ≡ true → Found b k size l (t .0 .leaf) es (t .1) (levelsUnder b k size l t .1)
   unfolding levelsUnder
   levels-found zero es t n c g h = found-bottom zero (t .0 .leaf) es (t .1) h
   levels-found (suc l) es t n c g h = either (t .0 .good && not (t .0 .leaf))
-      (λ e. let t′ = nextLevel b k size (t .0) (t .1) in
+      (λ e. let t′ = nextLevel b k size (t .0 .first) (t .1) in
       let g′ : levelsUnder b k size l t′ .0 .good ≡ true = rw (e, levelsUnder) at g in
       let v = next-known es t n (levels-good l t′ g′) c in
       rw (e, levelsUnder) (found-above l (t .0 .leaf) (t′ .0 .leaf) es (t .1) (t′ .1) (levelsUnder b k size l t′ .1) (not-true (t .0 .leaf) (both (t .0 .good) (not (t .0 .leaf)) e .1)) (v .level) (v .fresh) (v .marks)
@@ -166,26 +166,26 @@ module _ (b : List ℕ) (k size : ℕ) (most : size ≤ maxBytes) where
   numbers-nonEmpty [] s = s
   numbers-nonEmpty (e ∷ es) s = tt
 
-  same-head : (n : ℕ) (xs ys zs : Entries) → NonEmpty xs → headOr n (numbers (xs ++ ys)) ≡ headOr n (numbers (xs ++ zs))
-  same-head n [] ys zs s = absurd s
-  same-head n (x ∷ xs) ys zs s = refl
+  same-head : (n : ℕ) (xs ys : Entries) → NonEmpty xs → headOr n (numbers xs) ≡ headOr n (numbers (xs ++ ys))
+  same-head n [] ys s = absurd s
+  same-head n (x ∷ xs) ys s = refl
 
   next-head : (es : Entries) (first : ℕ) → NonEmpty es → first ≡ headOr noPage (numbers es) → All (λ e. NonEmpty (S (e .1))) es →
-      (headOr noPage (children b k size (first ∷ [])) ≡ headOr noPage (numbers (below S es))) × NonEmpty (below S es)
+      (firstChild b k size first ≡ headOr noPage (numbers (below S es))) × NonEmpty (below S es)
   next-head [] first s e f = absurd s
   next-head (x ∷ es) first s e f = (
-    ap (λ (p : ℕ). headOr noPage (children b k size (p ∷ []))) e ∙ same-head noPage (S (x .1)) [] (below S es) (f .0),
+    ap (firstChild b k size) e ∙ same-head noPage (S (x .1)) (below S es) (f .0),
     nonEmpty-left (S (x .1)) (below S es) (f .0),
   )
 
   next-good : (leaf : Bool) (es : Entries) (t : Level × List ℕ) → NonEmpty es → chain b size maxPages (t .0 .first) ≡ numbers es →
       t .0 .first ≡ headOr noPage (numbers es) → All (λ e. NonEmpty (S (e .1))) es → LevelGood b k size false leaf (numbers (below S es)) → Fresh (t .1) (numbers (below S es)) →
-      (nextLevel b k size (t .0) (t .1) .0 .good ≡ true) × (nextLevel b k size (t .0) (t .1) .0 .leaf ≡ leaf)
+      (nextLevel b k size (t .0 .first) (t .1) .0 .good ≡ true) × (nextLevel b k size (t .0 .first) (t .1) .0 .leaf ≡ leaf)
   unfolding nextLevel
   next-good leaf es t s c d f v m =
       let h = next-head es (t .0 .first) s d f in
       rw (children-are es (chain b size maxPages (t .0 .first)) c)
-      (level-good false leaf (headOr noPage (children b k size (t .0 .first ∷ []))) (numbers (below S es)) (t .1) (numbers-nonEmpty (below S es) (h .1)) (h .0) v m)
+      (level-good false leaf (firstChild b k size (t .0 .first)) (numbers (below S es)) (t .1) (numbers-nonEmpty (below S es) (h .1)) (h .0) v m)
 
   -- the level u that is reached from t, past the pages ps
   pub record Reached (t u : Level × List ℕ) (ps : List ℕ) : Type 0 where
@@ -206,7 +206,7 @@ module _ (b : List ℕ) (k size : ℕ) (most : size ≤ maxBytes) where
   levels-reached zero (suc h) es t x lt s g e c d f v m = absurd (omega arith)
   levels-reached (suc l) (suc h) es t x lt s g e c d f v m =
       let z : t .0 .good && not (t .0 .leaf) ≡ true = rw (g, e, ne-eqb 0 (suc h) (omega arith)) in
-      let t′ = nextLevel b k size (t .0) (t .1) in
+      let t′ = nextLevel b k size (t .0 .first) (t .1) in
       let ps = numbers (below S es) in
       let rest = reached S h (below S (below S es)) in
       let full = f zero (omega arith) in

@@ -117,20 +117,23 @@ module _ (b : List ℕ) (k size : ℕ) where
   abbrev pub checkLevel : Bool → ℕ → List ℕ → List ℕ → Level × List ℕ
   checkLevel root first ps m = closed (isLeaf b size first) first (checkPages (attributeOf root (isLeaf b size first)) ps (start first, m))
 
-  -- the root's level, and the level under a good one: the children of its pages
+  -- the root's level, and the level under a good one whose first page is `first`: the children of its pages
   unfoldable pub rootLevel : ℕ → List ℕ → Level × List ℕ
   rootLevel root m = checkLevel true root (root ∷ []) m
 
   abbrev pub children : List ℕ → List ℕ
   children ps = map (λ e. e .1) (concatMap entriesOf ps)
 
-  unfoldable pub nextLevel : Level → List ℕ → Level × List ℕ
-  nextLevel v m = checkLevel false (headOr noPage (children (v .first ∷ []))) (children (chain b size maxPages (v .first))) m
+  abbrev pub firstChild : ℕ → ℕ
+  firstChild p = headOr noPage (map (λ e. e .1) (entriesOf p))
+
+  unfoldable pub nextLevel : ℕ → List ℕ → Level × List ℕ
+  nextLevel first m = checkLevel false (firstChild first) (children (chain b size maxPages first)) m
 
   -- the levels under one, l at most, down to the leaves or the first fault
   unfoldable pub levelsUnder : ℕ → Level × List ℕ → Level × List ℕ
   levelsUnder zero t = t
-  levelsUnder (suc l) t = elim (t .0 .good && not (t .0 .leaf)) [ true ↦ levelsUnder l (nextLevel (t .0) (t .1)) | false ↦ t ]
+  levelsUnder (suc l) t = elim (t .0 .good && not (t .0 .leaf)) [ true ↦ levelsUnder l (nextLevel (t .0 .first) (t .1)) | false ↦ t ]
 
   -- the last level is good and that of the leaves, and every page but the first is marked
   abbrev pub complete : Level × List ℕ → Bool
