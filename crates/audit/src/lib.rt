@@ -7,7 +7,6 @@ use page::PageOffset;
 ghost use mathlib.Core.Path.{_≡_};
 ghost use mathlib.Core.Bool.{Bool, true, not, _&&_};
 ghost use mathlib.Core.Option.{none};
-ghost use mathlib.Core.List.{[], _∷_};
 ghost use Prim.Native.Nat.{ℕ, _+_, _-_, _≤_};
 ghost use lib.ListN.{length};
 ghost use lib.Dec.{eqb};
@@ -19,7 +18,7 @@ ghost use Rattle.page.specs.Within.{Within};
 ghost use Rattle.page.specs.Reading.{entriesAt};
 ghost use Rattle.page.specs.ReadingLaws.{entriesFrom};
 ghost use Rattle.sound.specs.Sound.{Audited};
-ghost use Rattle.sound.specs.Rule.{maxPages, lastOf, isAbove, isSame, leafEntries, upperEntries, entriesFit, pageFits, attributeOf, isLeaf, chain, children, firstChild, checkPage, checkPages, closed, rootLevel, nextLevel, levelsUnder, markedFrom, pagesGood};
+ghost use Rattle.sound.specs.Rule.{maxPages, lastOf, isAbove, isSame, leafEntries, upperEntries, entriesFit, pageFits, attributeOf, isLeaf, chain, childrenOf, children, firstChild, checkPage, checkPages, closed, rootLevel, nextLevel, levelsUnder, markedFrom, pagesGood};
 ghost use Rattle.audit.specs.State.{InFile, EntriesWithin, keyFrom, progressOf, levelOf, startAt, refusedAt, closedAt};
 
 // The most pages that an index has.
@@ -236,7 +235,7 @@ fn check_children(
     s: Progress,
 ) -> Progress
     requires { ⌜ InFile (now index) k size × (length (now marks) ≡ maxPages) ⌝ }
-    ensures { λ r. ⌜ checkPages (now (index .entry)) k size attribute (children (now (index .entry)) k size (parent .0 ∷ [])) (progressOf s, now (marks .entry)) ≡ (progressOf r, now (marks .exit)) ⌝ }
+    ensures { λ r. ⌜ checkPages (now (index .entry)) k size attribute (childrenOf (now (index .entry)) k size (parent .0)) (progressOf s, now (marks .entry)) ≡ (progressOf r, now (marks .exit)) ⌝ }
 {
     let count = entry_count(index, k, size, parent);
     let mut t = s;
