@@ -50,40 +50,54 @@ module _ (b : List ℕ) (k size a : ℕ) where
   pages-append [] ys t = refl
   pages-append (x ∷ xs) ys t = pages-append xs ys (checkPage b k size a x (t .0) (t .1))
 
-  -- the loop over a page's entries: their children, from entry i on
+  -- the loop over a page's entries: what is left to do from entry i on is all that there was to do
   abbrev pub childrenFrom : ℕ → ℕ → ℕ → List ℕ
   childrenFrom p n i = map (λ e. e .1) (entriesFrom b k p n i)
 
-  pub children-all : (p n : ℕ) (t : Progress × List ℕ) → n ≡ length (entriesAt k size b p) → checkPages b k size a (childrenOf b k size p) t ≡ checkPages b k size a (childrenFrom p n 0) t
-  children-all p n t en = rw (entries-are b k size p n en)
+  abbrev pub ChildrenLeft : ℕ → ℕ → ℕ → Progress × List ℕ → Progress × List ℕ → Type 0
+  ChildrenLeft p n i t₀ t = checkPages b k size a (childrenFrom p n 0) t₀ ≡ checkPages b k size a (childrenFrom p (n - i) i) t
 
-  module _ (p n i : ℕ) where
-    pub children-on : (c : ℕ) (s u : Progress) (m m′ : List ℕ) → i < n → c ≡ numberAt b k p i → checkPage b k size a c s m ≡ (u, m′) →
-        checkPages b k size a (childrenFrom p (n - i) i) (s, m) ≡ checkPages b k size a (childrenFrom p (n - (i + 1)) (i + 1)) (u, m′)
+  module _ (p n i : ℕ) (t₀ : Progress × List ℕ) (s : Progress) (m : List ℕ) (inv : ChildrenLeft p n i t₀ (s, m)) where
+    children-all : n ≡ length (entriesAt k size b p) → checkPages b k size a (childrenOf b k size p) t₀ ≡ checkPages b k size a (childrenFrom p (n - i) i) (s, m)
+    children-all en = rw (entries-are b k size p n en) inv
+
+    pub children-stop : n ≡ length (entriesAt k size b p) → s .good ≡ false → checkPages b k size a (childrenOf b k size p) t₀ ≡ (s, m)
+    children-stop en e = children-all en ∙ pages-stopped (childrenFrom p (n - i) i) s m e
+
+    pub children-end : n ≡ length (entriesAt k size b p) → n ≤ i → checkPages b k size a (childrenOf b k size p) t₀ ≡ (s, m)
     unfolding checkPages
-    children-on c s u m m′ h ec e = rw (from-on b k p n i h, ← ec) (ap (checkPages b k size a (childrenFrom p (n - (i + 1)) (i + 1))) e)
+    children-end en h = children-all en ∙ rw (from-end b k p n i h)
 
-    pub children-end : (t : Progress × List ℕ) → n ≤ i → checkPages b k size a (childrenFrom p (n - i) i) t ≡ t
+    pub children-on : (c : ℕ) (u : Progress) (m′ : List ℕ) → i < n → c ≡ numberAt b k p i → checkPage b k size a c s m ≡ (u, m′) → ChildrenLeft p n (i + 1) t₀ (u, m′)
     unfolding checkPages
-    children-end t h = rw (from-end b k p n i h)
+    children-on c u m′ h ec e = inv ∙ rw (from-on b k p n i h, ← ec) (ap (checkPages b k size a (childrenFrom p (n - (i + 1)) (i + 1))) e)
 
-  -- the loop over the pages of a level, with so many left
-  pub level-off : (p left : ℕ) (t : Progress × List ℕ) → isPage size p ≡ false → checkPages b k size a (children b k size (chain b size left p)) t ≡ t
-  unfolding chain checkPages
-  level-off p zero t e = refl
-  level-off p (suc l) t e = rw (e, chain)
+  -- the loop over the pages of a level, with so many left, in the same way
+  abbrev pub PagesLeft : ℕ → ℕ → ℕ → Progress × List ℕ → Progress × List ℕ → Type 0
+  PagesLeft first p left t₀ t = checkPages b k size a (children b k size (chain b size maxPages first)) t₀ ≡ checkPages b k size a (children b k size (chain b size left p)) t
 
-  pub level-on : (p left q : ℕ) (t u : Progress × List ℕ) → (left ≡ 0 → ⊥) → isPage size p ≡ true → q ≡ rightAt b p → checkPages b k size a (childrenOf b k size p) t ≡ u →
-      checkPages b k size a (children b k size (chain b size left p)) t ≡ checkPages b k size a (children b k size (chain b size (left - 1) q)) u
+  chain-none : (p left : ℕ) → isPage size p ≡ false → chain b size left p ≡ []
   unfolding chain
-  level-on p zero q t u n e eq eu = absurd (n refl)
-  level-on p (suc l) q t u n e eq eu =
-      let d : suc l - 1 ≡ l = omega arith in
-      rw (e, chain, d, eq) (pages-append (childrenOf b k size p) (children b k size (chain b size l (rightAt b p))) t ∙ ap (checkPages b k size a (children b k size (chain b size l (rightAt b p)))) eu)
+  chain-none p zero e = refl
+  chain-none p (suc l) e = rw (e, chain)
 
-  pub level-end : (p left : ℕ) (t : Progress × List ℕ) → left ≡ 0 → checkPages b k size a (children b k size (chain b size left p)) t ≡ t
-  unfolding chain checkPages
-  level-end p left t e = rw e
+  chain-some : (p left q : ℕ) → (left ≡ 0 → ⊥) → isPage size p ≡ true → q ≡ rightAt b p → chain b size left p ≡ p ∷ chain b size (left - 1) q
+  unfolding chain
+  chain-some p zero q n e eq = absurd (n refl)
+  chain-some p (suc l) q n e eq = let d : suc l - 1 ≡ l = omega arith in rw (e, chain, d, eq)
+
+  module _ (first p left : ℕ) (t₀ t : Progress × List ℕ) (inv : PagesLeft first p left t₀ t) where
+    pub pages-off : isPage size p ≡ false → checkPages b k size a (children b k size (chain b size maxPages first)) t₀ ≡ t
+    unfolding checkPages
+    pages-off e = inv ∙ rw (chain-none p left e)
+
+    pub pages-end : left ≡ 0 → checkPages b k size a (children b k size (chain b size maxPages first)) t₀ ≡ t
+    unfolding chain checkPages
+    pages-end e = inv ∙ rw e
+
+    pub pages-on : (q : ℕ) (u : Progress × List ℕ) → (left ≡ 0 → ⊥) → isPage size p ≡ true → q ≡ rightAt b p → checkPages b k size a (childrenOf b k size p) t ≡ u → PagesLeft first q (left - 1) t₀ u
+    pages-on q u n e eq eu =
+        inv ∙ rw (chain-some p left q n e eq) (pages-append (childrenOf b k size p) (children b k size (chain b size (left - 1) q)) t ∙ ap (checkPages b k size a (children b k size (chain b size (left - 1) q))) eu)
 
 -- the root's level, and the next
 module _ (b : List ℕ) (k size a : ℕ) (first : PageOffset) (leaf : Bool) (s₀ s : declared-progress.Progress) (v : declared-level.Level) (m m′ : List ℕ) (el : leaf ≡ isLeaf b size (first .0)) (e₀ : s₀ ≡ startAt first) (ev : v ≡ closedAt s leaf first) where
@@ -114,22 +128,31 @@ unfolding nextLevel
 next-kept b k size above n v m m′ l e =
     ap (λ (t : Level × List ℕ). length (t .1)) (sym e) ∙ level-length b k size false (firstChild b k size above) (children b k size (chain b size maxPages above)) m ∙ l
 
--- the loop over the levels, with so many left
+-- the loop over the levels, with so many left, in the same way
 module _ (b : List ℕ) (k size : ℕ) where
-  pub levels-stop : (left : ℕ) (v : Level) (m : List ℕ) → v .good && not (v .leaf) ≡ false → levelsUnder b k size left (v, m) ≡ (v, m)
-  unfolding levelsUnder
-  levels-stop zero v m e = refl
-  levels-stop (suc l) v m e = rw (e, levelsUnder)
+  abbrev pub LevelsLeft : ℕ → Level × List ℕ → Level × List ℕ → Type 0
+  LevelsLeft left t₀ t = levelsUnder b k size (maxLevels - 1) t₀ ≡ levelsUnder b k size left t
 
-  pub levels-on : (left : ℕ) (v w : Level) (m m′ : List ℕ) → (left ≡ 0 → ⊥) → v .good && not (v .leaf) ≡ true → nextLevel b k size (v .first) m ≡ (w, m′) →
-      levelsUnder b k size left (v, m) ≡ levelsUnder b k size (left - 1) (w, m′)
+  under-none : (left : ℕ) (t : Level × List ℕ) → t .0 .good && not (t .0 .leaf) ≡ false → levelsUnder b k size left t ≡ t
   unfolding levelsUnder
-  levels-on zero v w m m′ n e h = absurd (n refl)
-  levels-on (suc l) v w m m′ n e h = let d : suc l - 1 ≡ l = omega arith in rw (e, levelsUnder, d) (ap (levelsUnder b k size l) h)
+  under-none zero t e = refl
+  under-none (suc l) t e = rw (e, levelsUnder)
 
-  pub levels-end : (left : ℕ) (t : Level × List ℕ) → left ≡ 0 → levelsUnder b k size left t ≡ t
+  under-some : (left : ℕ) (t : Level × List ℕ) → (left ≡ 0 → ⊥) → t .0 .good && not (t .0 .leaf) ≡ true → levelsUnder b k size left t ≡ levelsUnder b k size (left - 1) (nextLevel b k size (t .0 .first) (t .1))
   unfolding levelsUnder
-  levels-end left t e = rw e
+  under-some zero t n e = absurd (n refl)
+  under-some (suc l) t n e = let d : suc l - 1 ≡ l = omega arith in rw (e, levelsUnder, d)
+
+  module _ (left : ℕ) (t₀ t : Level × List ℕ) (inv : LevelsLeft left t₀ t) where
+    pub levels-stop : t .0 .good && not (t .0 .leaf) ≡ false → levelsUnder b k size (maxLevels - 1) t₀ ≡ t
+    levels-stop e = inv ∙ under-none left t e
+
+    pub levels-end : left ≡ 0 → levelsUnder b k size (maxLevels - 1) t₀ ≡ t
+    unfolding levelsUnder
+    levels-end e = inv ∙ rw e
+
+    pub levels-on : (u : Level × List ℕ) → (left ≡ 0 → ⊥) → t .0 .good && not (t .0 .leaf) ≡ true → nextLevel b k size (t .0 .first) (t .1) ≡ u → LevelsLeft (left - 1) t₀ u
+    levels-on u n e h = inv ∙ (under-some left t n e ∙ ap (levelsUnder b k size (left - 1)) h)
 
 -- the answer
 pub pages-answer : (b : List ℕ) (k size root : ℕ) (v : declared-level.Level) (m m′ : List ℕ) (g : Bool) → k ≡ keyLength b → size ≡ fileSize b → root ≡ rootOffset b →

@@ -5,10 +5,10 @@ use native.Mathlib.Omega.{arith}
 use lib.ListN.{length}
 use borrow.Author.Tests.{not-true, not-false}
 use borrow.Author.Needs.{needs}
-use Rattle.sound.specs.Rule.{maxPages, checkPages}
+use Rattle.sound.specs.Rule.{maxPages}
 use Rattle.audit.specs.State.{progressOf}
 use Rattle.audit.specs.EntryLaws.{entries-within}
-use Rattle.audit.specs.PassLaws.{childrenFrom, children-all, children-on, children-end, pages-stopped, page-kept}
+use Rattle.audit.specs.PassLaws.{ChildrenLeft, children-stop, children-end, children-on, page-kept}
 use Rattle.audit.proofs.check_children.Statement.{statement}
 use Rattle.audit.proofs.check_children.Tie as tie
 use Rattle.audit.proofs.check_children.Reads as reads
@@ -19,9 +19,7 @@ use Rattle.page.proofs.child.Reads as child-reads
 
 abbrev Inv-loop : tie.InvT-loop
 Inv-loop index marks₀ k size attribute parent count t₀ i₀ marks t i =
-    (i ≤ count)
-    × (length marks ≡ maxPages)
-    × (checkPages index k size attribute (childrenFrom index k size attribute (parent .0) count 0) (progressOf t₀, marks₀) ≡ checkPages index k size attribute (childrenFrom index k size attribute (parent .0) (count - i) i) (progressOf t, marks))
+    (i ≤ count) × (length marks ≡ maxPages) × ChildrenLeft index k size attribute (parent .0) count i (progressOf t₀, marks₀) (progressOf t, marks)
 
 abbrev μ-loop : tie.MeasureT-loop
 μ-loop index marks₀ k size attribute parent count t₀ i₀ marks t i = count - i
@@ -43,8 +41,8 @@ returns : tie.Need-returns Inv-loop μ-loop
 returns c =
     let args = c .before .before .before .before .before .before .before .args in
     let at-loop = c .before .before .before in
-    children-all (args .index .now) (args .k) (args .size) (args .attribute) (args .parent .0) _ _ (c .before .before .before .before .entry-count .ensures)
-    ∙ (at-loop .loop .inv .2 ∙ pages-stopped (args .index .now) (args .k) (args .size) (args .attribute) _ (progressOf (at-loop .loop .t)) (at-loop .loop .marks) (not-true _ (c .if1 .taken)))
+    children-stop (args .index .now) (args .k) (args .size) (args .attribute) (args .parent .0) (c .before .before .before .before .entry-count .result) (at-loop .loop .i) _ (progressOf (at-loop .loop .t)) (at-loop .loop .marks) (at-loop .loop .inv .2)
+    (c .before .before .before .before .entry-count .ensures) (not-true _ (c .if1 .taken))
 
 -- src/lib.rt:248:58
 child-requires : tie.Need-child-requires Inv-loop μ-loop
@@ -66,12 +64,13 @@ loop-less c = search needs
 loop-again : tie.Need-loop-again Inv-loop μ-loop
 loop-again c =
     let args = c .before .before .before .before .before .before .before .before .before .before .before .before .args in
-    let at-loop = c .before .before .before .before .before .before .before .before in (
-      search needs,
-      page-kept (args .index .now) (args .k) (args .size) (args .attribute) _ maxPages (progressOf (at-loop .loop .t)) (progressOf (c .before .before .check-page .result)) (at-loop .loop .marks) _ (at-loop .loop .inv .1) (c .before .before .check-page .ensures),
-      at-loop .loop .inv .2
-          ∙ children-on (args .index .now) (args .k) (args .size) (args .attribute) (args .parent .0) (c .before .before .before .before .before .before .before .before .before .entry-count .result) (at-loop .loop .i) _ (progressOf (at-loop .loop .t)) (progressOf (c .before .before .check-page .result)) (at-loop .loop .marks) _
-          (search needs) (c .before .before .before .child .ensures) (c .before .before .check-page .ensures),
+    let at-loop = c .before .before .before .before .before .before .before .before in
+    let more = c .before .before .before .before .before .before .before .loop-test .taken in
+    let done = c .before .before .check-page in (
+      omega (arith, more),
+      page-kept (args .index .now) (args .k) (args .size) (args .attribute) _ maxPages (progressOf (at-loop .loop .t)) (progressOf (done .result)) (at-loop .loop .marks) _ (at-loop .loop .inv .1) (done .ensures),
+      children-on (args .index .now) (args .k) (args .size) (args .attribute) (args .parent .0) (c .before .before .before .before .before .before .before .before .before .entry-count .result) (at-loop .loop .i) _ (progressOf (at-loop .loop .t)) (at-loop .loop .marks) (at-loop .loop .inv .2) _ (progressOf (done .result)) _
+          more (c .before .before .before .child .ensures) (done .ensures),
     )
 
 -- src/lib.rt:229:1
@@ -83,8 +82,8 @@ returns-2 : tie.Need-returns-2 Inv-loop μ-loop
 returns-2 c =
     let args = c .before .before .before .before .before .args in
     let at-loop = c .before in
-    children-all (args .index .now) (args .k) (args .size) (args .attribute) (args .parent .0) _ _ (c .before .before .entry-count .ensures)
-    ∙ (at-loop .loop .inv .2 ∙ children-end (args .index .now) (args .k) (args .size) (args .attribute) (args .parent .0) (c .before .before .entry-count .result) (at-loop .loop .i) (progressOf (at-loop .loop .t), at-loop .loop .marks) (search needs))
+    children-end (args .index .now) (args .k) (args .size) (args .attribute) (args .parent .0) (c .before .before .entry-count .result) (at-loop .loop .i) _ (progressOf (at-loop .loop .t)) (at-loop .loop .marks) (at-loop .loop .inv .2)
+    (c .before .before .entry-count .ensures) (search needs)
 
 pub check-children-spec : {M : Type 1} → statement M
 check-children-spec =
