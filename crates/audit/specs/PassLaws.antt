@@ -144,12 +144,12 @@ module _ (b : List ℕ) (k size : ℕ) where
   under-some (suc l) t n e = let d : suc l - 1 ≡ l = omega arith in rw (e, levelsUnder, d)
 
   module _ (left : ℕ) (t₀ t : Level × List ℕ) (inv : LevelsLeft left t₀ t) where
-    pub levels-stop : t .0 .good && not (t .0 .leaf) ≡ false → levelsUnder b k size (maxLevels - 1) t₀ ≡ t
-    levels-stop e = inv ∙ under-none left t e
+    pub levels-stop : (r : Level × List ℕ) → r ≡ t₀ → t .0 .good && not (t .0 .leaf) ≡ false → levelsUnder b k size (maxLevels - 1) r ≡ t
+    levels-stop r er e = rw er (inv ∙ under-none left t e)
 
-    pub levels-end : left ≡ 0 → levelsUnder b k size (maxLevels - 1) t₀ ≡ t
+    pub levels-end : (r : Level × List ℕ) → r ≡ t₀ → left ≡ 0 → levelsUnder b k size (maxLevels - 1) r ≡ t
     unfolding levelsUnder
-    levels-end e = inv ∙ rw e
+    levels-end r er e = rw er (inv ∙ rw e)
 
     pub levels-on : (u : Level × List ℕ) → (left ≡ 0 → ⊥) → t .0 .good && not (t .0 .leaf) ≡ true → nextLevel b k size (t .0 .first) (t .1) ≡ u → LevelsLeft (left - 1) t₀ u
     levels-on u n e h = inv ∙ (under-some left t n e ∙ ap (levelsUnder b k size (left - 1)) h)
