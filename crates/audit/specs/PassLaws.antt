@@ -7,7 +7,8 @@ use native.Mathlib.Omega.{arith}
 use lib.ListN.{length, getD, set, length-set}
 use lib.Dec.{eqb}
 use Rattle.basis.specs.Tests.{either, contra}
-use Rattle.page.specs.Header.{maxLevels, pageSize, noPage, isPage, rootOffset, fileSize, keyLength}
+use Rattle.page.specs.Header.{maxLevels, pageSize, noPage, isPage, rootOffset, fileSize, keyLength, headerGood}
+use Rattle.page.specs.HeaderLaws.{good-header}
 use Rattle.page.specs.Page.{rightAt, numberAt}
 use Rattle.page.specs.Reading.{entriesAt}
 use Rattle.page.specs.ReadingLaws.{entriesFrom}
@@ -15,7 +16,7 @@ use Rattle.page.specs.declared.PageOffset.{PageOffset}
 use Rattle.sound.specs.Rule.{Progress, Level, maxPages, refused, attributeOf, start, isLeaf, chain, pageFits, childrenOf, firstChild, children, checkPage, checkPages, closed, checkLevel, rootLevel, nextLevel, levelsUnder, markedFrom, complete, pagesGood}
 use Rattle.audit.specs.declared.Progress as declared-progress
 use Rattle.audit.specs.declared.Level as declared-level
-use Rattle.audit.specs.State.{progressOf, levelOf, startAt, closedAt}
+use Rattle.audit.specs.State.{InFile, progressOf, levelOf, startAt, closedAt}
 use Rattle.audit.specs.EntryLaws.{entries-are, from-on, from-end}
 
 module _ (b : List ℕ) (k size a : ℕ) where
@@ -159,3 +160,9 @@ pub pages-answer : (b : List ℕ) (k size root : ℕ) (v : declared-level.Level)
     levelsUnder b k size (maxLevels - 1) (rootLevel b k size root m) ≡ (levelOf v, m′) → g ≡ markedFrom m′ (size / pageSize - 1) 1 → (v .good && (v .leaf && g)) ≡ pagesGood b m
 unfolding pagesGood
 pages-answer b k size root v m m′ g ek es er e eg = rw (← ek, ← es, ← er, e, eg)
+
+-- what a good header says of the file
+pub in-file : (b : List ℕ) (k size : ℕ) → headerGood b ≡ true → k ≡ keyLength b → size ≡ fileSize b → InFile b k size
+in-file b k size e ek es =
+    let g = good-header b e in
+    record { key = omega arith; long = g .long; within = omega arith; most = omega arith }

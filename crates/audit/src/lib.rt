@@ -173,8 +173,7 @@ fn page_fits(
     let head = Page::at(index, page);
     if !((head.attribute == attribute)
         & (page::count_good(k, attribute, head.count)
-            & ((head.left.0 == last.0) & (next.0 == page.0))))
-    {
+            & ((head.left.0 == last.0) & (next.0 == page.0)))) {
         return false;
     }
     entries_fit(index, k, size, attribute, last, page)
@@ -244,7 +243,15 @@ fn check_children(
         if !t.good {
             return t;
         }
-        t = check_page(index, marks, k, size, attribute, page::child(index, k, parent, i), t);
+        t = check_page(
+            index,
+            marks,
+            k,
+            size,
+            attribute,
+            page::child(index, k, parent, i),
+            t,
+        );
         i += 1;
     }
     t
@@ -335,7 +342,15 @@ fn root_level(index: &[u8], marks: &mut [u8], k: usize, size: usize, root: PageO
     ensures { λ r. ⌜ rootLevel (now (index .entry)) k size (root .0) (now (marks .entry)) ≡ (levelOf r, now (marks .exit)) ⌝ }
 {
     let leaf = is_leaf(index, size, root);
-    let s = check_page(index, marks, k, size, attribute_of(true, leaf), root, start(root));
+    let s = check_page(
+        index,
+        marks,
+        k,
+        size,
+        attribute_of(true, leaf),
+        root,
+        start(root),
+    );
     closed(s, leaf, root)
 }
 
@@ -357,7 +372,15 @@ fn next_level(index: &[u8], marks: &mut [u8], k: usize, size: usize, above: Page
 {
     let first = first_child(index, k, size, above);
     let leaf = is_leaf(index, size, first);
-    let s = check_level(index, marks, k, size, attribute_of(false, leaf), above, start(first));
+    let s = check_level(
+        index,
+        marks,
+        k,
+        size,
+        attribute_of(false, leaf),
+        above,
+        start(first),
+    );
     closed(s, leaf, first)
 }
 

@@ -110,9 +110,9 @@ module _ (b : List ℕ) (h : ℕ) where
       let d = ordered-greatest bytesOrder h (treeOf b h) (i .ordered) (i .exact) in
       let few = i .withinLevels in
       let full = all-map2 (λ p. isPage (fileSize b) p ≡ true) (λ p. countAt b p ≤ capacity (keyLength b)) (λ p. length (entriesAt (keyLength b) (fileSize b) b p) ≡ countAt b p)
-        (λ p u c. length-entries (keyLength b) (fileSize b) b p u ∙ min-eq-left c) ps inside counts in
+      (λ p u c. length-entries (keyLength b) (fileSize b) b p u ∙ min-eq-left c) ps inside counts in
       let low : All (λ p. least h ≤ countAt b p) (pages h (treeOf b h)) = all-map2 (λ p. least h ≤ length (entriesAt (keyLength b) (fileSize b) b p)) (λ p. length (entriesAt (keyLength b) (fileSize b) b p) ≡ countAt b p) (λ p. least h ≤ countAt b p)
-        (λ p u c. omega arith) ps (sized-pages S (capacity (keyLength b)) h (rootOffset b) (i .sized)) full in
+      (λ p u c. omega arith) ps (sized-pages S (capacity (keyLength b)) h (rootOffset b) (i .sized)) full in
       record {
         header = e;
         height = h;

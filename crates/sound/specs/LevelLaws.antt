@@ -115,7 +115,6 @@ module _ (b : List ℕ) (k size : ℕ) (most : size ≤ maxBytes) where
   children-are : (es : Entries) (ps : List ℕ) → ps ≡ numbers es → children b k size ps ≡ numbers (below S es)
   children-are es ps e = ap (children b k size) e ∙ numbers-below es
 
-
   -- a level that is reached is good, and so is the one from which the audit went on
   pub levels-good : (l : ℕ) (t : Level × List ℕ) → levelsUnder b k size l t .0 .good ≡ true → t .0 .good ≡ true
   unfolding levelsUnder
@@ -218,5 +217,5 @@ module _ (b : List ℕ) (k size : ℕ) (most : size ≤ maxBytes) where
       let n = next-good (eqb 1 (suc h)) es t s c d full (v zero (omega arith)) (fresh-left (t .1) ps rest m) in
       let w = next-known es t x (n .0) c in
       let r = levels-reached l h (below S es) t′ (ap length (w .marks) ∙ mark-length (t .1) ps ∙ x) (omega arith) (next-head es (t .0 .first) s d full .1) (n .0) (n .1 ∙ same-suc 0 h) (w .pages) (w .head)
-        (λ i o. f (suc i) (omega arith)) (λ i o. rw (same-suc (suc i) h) at (v (suc i) (omega arith))) (rw (w .marks) (fresh-right (t .1) ps rest m)) in
+      (λ i o. f (suc i) (omega arith)) (λ i o. rw (same-suc (suc i) h) at (v (suc i) (omega arith))) (rw (w .marks) (fresh-right (t .1) ps rest m)) in
       rw (z, levelsUnder) (record { good = r .good; leaf = r .leaf; marks = r .marks ∙ ap (λ (x : List ℕ). markAll x rest) (w .marks) ∙ sym (mark-append (t .1) ps rest) })
