@@ -1,1 +1,2 @@
+pub mod Tree000
 pub mod Examples
