@@ -107,7 +107,7 @@ examples-hold = refl
 
 -- the tree is sound: "every page but the first is reached from the root exactly once" and all the rest, by the audit's theorem
 tree000-tests : (header.headerGood tree.tree000 ≡ true) × (audit.pagesGood tree.tree000 audit.unmarked ≡ true)
-unfolding tree.tree000 tree.padded tree.page tree.entry bytes.le16 bytes.le32 bytes.be32 bytes.toLe16 bytes.toLe32 bytes.toBe32 store.window order.bytesLe
+unfolding order.ordering tree.tree000 tree.padded tree.page tree.entry bytes.le16 bytes.le32 bytes.be32 bytes.toLe16 bytes.toLe32 bytes.toBe32 store.window order.bytesLe
     header.isPage header.sizeGood header.keyLengthGood header.headerGood page.capacity page.countGood pages.items pages.itemsAt pages.entriesAt
     audit.leafEntries audit.upperEntries audit.chain audit.isLeaf audit.markedFrom audit.entriesFit audit.pageFits audit.checkPage audit.checkPages
     audit.rootLevel audit.nextLevel audit.levelsUnder audit.pagesGood audit.unmarked
