@@ -139,10 +139,10 @@ fn next_value(n: u64, c: u8) -> u64
     requires { ⌜ isDigit c ≡ true ⌝ }
     ensures { λ r. ⌜ r ≡ nextValue n c ⌝ }
 {
-    if n < PAST_DIGITS {
-        return 10 * n + (c - b'0') as u64;
+    if PAST_DIGITS <= n {
+        return n;
     }
-    n
+    10 * n + (c - b'0') as u64
 }
 
 impl Reader {

@@ -1,11 +1,14 @@
 -- `numeral::next_value` meets its contract: ten times a number below 10 ^ 18, and a digit more, fits a u64. Assumes nothing.
-use native.Mathlib.Omega.{arith}
 use borrow.Author.Needs.{needs}
 use borrow.Author.Tests.{lt-ltb, le-ltb}
 use Rattle.numeral.specs.ReadingLaws.{digit-range}
 use Rattle.numeral.specs.Scan.{nextValue}
 use Rattle.numeral.proofs.next_value.Statement.{statement}
 use Rattle.numeral.proofs.next_value.Tie as tie
+
+returns : tie.Need-returns
+unfolding nextValue
+returns c = rw (le-ltb _ _ (c .if1 .taken))
 
 mul-result : tie.Need-mul-result
 mul-result c = search needs
@@ -19,14 +22,10 @@ cast-result c = search needs
 add-result : tie.Need-add-result
 add-result c = search needs
 
-returns : tie.Need-returns
-unfolding nextValue
-returns c = rw (lt-ltb _ _ (c .if1 .taken))
-
 returns-2 : tie.Need-returns-2
 unfolding nextValue
-returns-2 c = rw (le-ltb _ _ (c .if1 .left))
+returns-2 c = rw (lt-ltb _ _ (c .if1 .left))
 
 pub next-value-spec : {M : Type 1} → statement M
 next-value-spec =
-    tie.close (tie.spec mul-result sub-result cast-result add-result returns returns-2)
+    tie.close (tie.spec returns mul-result sub-result cast-result add-result returns-2)
