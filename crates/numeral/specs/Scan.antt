@@ -16,39 +16,47 @@ use Rattle.numeral.specs.declared.Phase.the-variants as phase
 abbrev pub initial : ℕ → Reader
 initial d = record { decimals = d; phase = phase.Blank; negative = false; value = 0 }
 
--- the phase after the first character c of the whole part
+-- the phase after the first digit c of the whole part
 abbrev pub firstDigit : ℕ → Phase
-firstDigit c = cond (eqb c zeroDigit) phase.Zero (cond (isDigit c) phase.Whole phase.Bad)
+firstDigit c = cond (eqb c zeroDigit) phase.Zero phase.Whole
+
+-- the phase after the digit c
+abbrev pub afterDigit : Phase → ℕ → Phase
+afterDigit phase.Blank c = firstDigit c
+afterDigit phase.Minus c = firstDigit c
+afterDigit phase.Zero c = phase.Bad
+afterDigit phase.Whole c = phase.Whole
+afterDigit (phase.Fraction left) c = cond (leb 1 left) (phase.Fraction (left - 1)) phase.Bad
+afterDigit phase.Comma c = phase.Comma
+afterDigit phase.Bad c = phase.Bad
 
 -- the phase after the character c behind the whole part, where d digits are to come
 abbrev pub wholeEnd : ℕ → ℕ → Phase
 wholeEnd d c = cond (eqb c point && leb 1 d) (phase.Fraction d) phase.Bad
 
--- the phase after the character c, which is no comma
+-- the phase after the character c, which is neither a digit nor a comma
 abbrev pub onward : ℕ → Phase → ℕ → Phase
-onward d phase.Blank c = cond (eqb blank c) phase.Blank (cond (eqb c minus) phase.Minus (firstDigit c))
-onward d phase.Minus c = firstDigit c
+onward d phase.Blank c = cond (eqb blank c) phase.Blank (cond (eqb c minus) phase.Minus phase.Bad)
+onward d phase.Minus c = phase.Bad
 onward d phase.Zero c = wholeEnd d c
-onward d phase.Whole c = cond (isDigit c) phase.Whole (wholeEnd d c)
-onward d (phase.Fraction left) c = cond (isDigit c && leb 1 left) (phase.Fraction (left - 1)) phase.Bad
+onward d phase.Whole c = wholeEnd d c
+onward d (phase.Fraction left) c = phase.Bad
 onward d phase.Comma c = phase.Comma
 onward d phase.Bad c = phase.Bad
 
-unfoldable pub nextPhase : ℕ → Phase → ℕ → Phase
-nextPhase d p c = cond (eqb comma c) phase.Comma (onward d p c)
+unfoldable pub afterOther : ℕ → Phase → ℕ → Phase
+afterOther d p c = cond (eqb comma c) phase.Comma (onward d p c)
 
 -- the number of the digits so far with c behind them; one of more than 18 digits stays, so that nothing overflows
 unfoldable pub nextValue : ℕ → ℕ → ℕ
-nextValue n c = cond (isDigit c && ltb n (10 ^ maxDigits)) (10 * n + (c - zeroDigit)) n
+nextValue n c = cond (ltb n (10 ^ maxDigits)) (10 * n + (c - zeroDigit)) n
 
+-- the state after the character c
 unfoldable pub step : Reader → ℕ → Reader
 step r c =
-    record {
-      decimals = r .decimals;
-      phase = nextPhase (r .decimals) (r .phase) c;
-      negative = r .negative || eqb c minus;
-      value = nextValue (r .value) c;
-    }
+    cond (isDigit c)
+    (record { decimals = r .decimals; phase = afterDigit (r .phase) c; negative = r .negative; value = nextValue (r .value) c })
+    (record { decimals = r .decimals; phase = afterOther (r .decimals) (r .phase) c; negative = r .negative || eqb c minus; value = r .value })
 
 unfoldable pub scan : Reader → List ℕ → Reader
 scan r [] = r

@@ -1,12 +1,13 @@
 // Numeric text: what the characters of an N field mean, and the one text of a value.
 ghost use mathlib.Core.Path.{_≡_};
+ghost use mathlib.Core.Bool.{true};
 ghost use Prim.Native.Nat.{ℕ, _+_, _≤_, _<_, _/_, _^_};
 ghost use lib.IntN.{natAbs};
 ghost use lib.ListN.{length};
 ghost use Rattle.octets.specs.Store.{put};
 ghost use Rattle.numeral.specs.Format.{maxWidth, maxDecimals, maxDigits, formatGood, isDigit};
 ghost use Rattle.numeral.specs.Reading.{readNumber, signed};
-ghost use Rattle.numeral.specs.Scan.{initial, nextPhase, nextValue, firstDigit, wholeEnd, step, settled, meaning};
+ghost use Rattle.numeral.specs.Scan.{initial, firstDigit, afterDigit, wholeEnd, afterOther, nextValue, step, settled, meaning};
 ghost use Rattle.numeral.specs.Writing.{lastDigits, decimal, fractionText, signText, left, writeNumber};
 
 // The widest field, and the most decimals.
@@ -67,17 +68,34 @@ fn is_digit(c: u8) -> bool
     (b'0' <= c) & (c <= b'9')
 }
 
-// The phase after the first character of the whole part.
+// The phase after the first digit of the whole part.
 fn first_digit(c: u8) -> Phase
     ensures { λ r. ⌜ r ≡ firstDigit c ⌝ }
 {
     if c == b'0' {
         return Phase::Zero;
     }
-    if is_digit(c) {
-        return Phase::Whole;
+    Phase::Whole
+}
+
+// The phase after one digit more.
+fn after_digit(p: Phase, c: u8) -> Phase
+    ensures { λ r. ⌜ r ≡ afterDigit p c ⌝ }
+{
+    match p {
+        Phase::Blank => first_digit(c),
+        Phase::Minus => first_digit(c),
+        Phase::Zero => Phase::Bad,
+        Phase::Whole => Phase::Whole,
+        Phase::Fraction(left) => {
+            if 1 <= left {
+                return Phase::Fraction(left - 1);
+            }
+            Phase::Bad
+        }
+        Phase::Comma => Phase::Comma,
+        Phase::Bad => Phase::Bad,
     }
-    Phase::Bad
 }
 
 // The phase after the character behind the whole part.
@@ -90,9 +108,9 @@ fn whole_end(decimals: u32, c: u8) -> Phase
     Phase::Bad
 }
 
-// The phase after one character more.
-fn next_phase(decimals: u32, p: Phase, c: u8) -> Phase
-    ensures { λ r. ⌜ r ≡ nextPhase decimals p c ⌝ }
+// The phase after one character more that is no digit.
+fn after_other(decimals: u32, p: Phase, c: u8) -> Phase
+    ensures { λ r. ⌜ r ≡ afterOther decimals p c ⌝ }
 {
     if c == b',' {
         return Phase::Comma;
@@ -105,22 +123,12 @@ fn next_phase(decimals: u32, p: Phase, c: u8) -> Phase
             if c == b'-' {
                 return Phase::Minus;
             }
-            first_digit(c)
-        }
-        Phase::Minus => first_digit(c),
-        Phase::Zero => whole_end(decimals, c),
-        Phase::Whole => {
-            if is_digit(c) {
-                return Phase::Whole;
-            }
-            whole_end(decimals, c)
-        }
-        Phase::Fraction(left) => {
-            if is_digit(c) & (1 <= left) {
-                return Phase::Fraction(left - 1);
-            }
             Phase::Bad
         }
+        Phase::Minus => Phase::Bad,
+        Phase::Zero => whole_end(decimals, c),
+        Phase::Whole => whole_end(decimals, c),
+        Phase::Fraction(_) => Phase::Bad,
         Phase::Comma => Phase::Comma,
         Phase::Bad => Phase::Bad,
     }
@@ -128,12 +136,13 @@ fn next_phase(decimals: u32, p: Phase, c: u8) -> Phase
 
 // The number of the digits so far and this one; a number of more than 18 digits stays as it is.
 fn next_value(n: u64, c: u8) -> u64
+    requires { ⌜ isDigit c ≡ true ⌝ }
     ensures { λ r. ⌜ r ≡ nextValue n c ⌝ }
 {
-    if is_digit(c) & (n < PAST_DIGITS) {
-        return 10 * n + (c - b'0') as u64;
+    if PAST_DIGITS <= n {
+        return n;
     }
-    n
+    10 * n + (c - b'0') as u64
 }
 
 impl Reader {
@@ -153,11 +162,19 @@ impl Reader {
         ensures { λ r. ⌜ r ≡ step self c ⌝ }
     {
         let p = self.phase;
+        if is_digit(c) {
+            return Reader {
+                decimals: self.decimals,
+                phase: after_digit(p, c),
+                negative: self.negative,
+                value: next_value(self.value, c),
+            };
+        }
         Reader {
             decimals: self.decimals,
-            phase: next_phase(self.decimals, p, c),
+            phase: after_other(self.decimals, p, c),
             negative: self.negative | (c == b'-'),
-            value: next_value(self.value, c),
+            value: self.value,
         }
     }
 

@@ -36,19 +36,19 @@ enum-told-6 c = search needs
 
 returns : tie.Need-returns
 unfolding meaning
-returns c = cc
+returns c = rw (c .enum-told .given .1)
 
 returns-2 : tie.Need-returns-2
 unfolding meaning
-returns-2 c = cc
+returns-2 c = rw (c .enum-told2 .given .1)
 
 returns-3 : tie.Need-returns-3
 unfolding meaning
-returns-3 c = cc
+returns-3 c = rw (c .before .before .enum-told3 .given .1) (c .settle .ensures)
 
 returns-4 : tie.Need-returns-4
 unfolding meaning
-returns-4 c = cc
+returns-4 c = rw (c .before .before .enum-told4 .given .1) (c .settle2 .ensures)
 
 returns-5 : tie.Need-returns-5
 unfolding meaning
@@ -56,11 +56,11 @@ returns-5 c = rw (c .before .before .p .given .1) (c .settle3 .ensures)
 
 returns-6 : tie.Need-returns-6
 unfolding meaning
-returns-6 c = cc
+returns-6 c = rw (c .enum-told5 .given .1)
 
 returns-7 : tie.Need-returns-7
 unfolding meaning
-returns-7 c = cc
+returns-7 c = rw (c .enum-told6 .given .1)
 
 pub finish-spec : {M : Type 1} → statement M
 finish-spec =
