@@ -4,9 +4,7 @@
 //   w WIDTH DECIMALS VALUE    write a value
 // The rest of the line after one space is the text, blanks and all.
 ghost use Prim.Native.Nat.{_≤_};
-ghost use lib.ListN.{length};
 use libc::STDIN_FILENO;
-use libc::STDOUT_FILENO;
 
 fn main() {
     let mut space = io::large_buffer();
@@ -14,50 +12,10 @@ fn main() {
     run(&space[..n]);
 }
 
-fn print(text: &[u8]) {
-    io::write_all(STDOUT_FILENO, text);
-}
-
-// The index of a byte from an index on, or the length.
-fn find(s: &[u8], from: usize, byte: u8) -> usize
-    requires { ⌜ from ≤ length (now s) ⌝ }
-    ensures { λ r. ⌜ (from ≤ r) × (r ≤ length (now (s .entry))) ⌝ }
-{
-    let mut i = from;
-    while i < s.len() {
-        if s[i] == byte {
-            return i;
-        }
-        i += 1;
-    }
-    i
-}
-
-// What follows the first word and one space.
-fn after_word(s: &[u8]) -> &[u8] {
-    let end = find(s, 0, b' ');
-    if end < s.len() {
-        return &s[end + 1..];
-    }
-    &s[end..]
-}
-
-// The number of the first word, of at most nine digits.
-fn first_number(s: &[u8]) -> u32 {
-    let end = find(s, 0, b' ');
-    let mut n: u32 = 0;
-    let mut i = 0;
-    while i < end {
-        n = (n % 100000000) * 10 + (s[i] % 16) as u32;
-        i += 1;
-    }
-    n
-}
-
 fn run(input: &[u8]) {
     let mut from = 0;
     while from < input.len() {
-        let end = find(input, from, b'\n');
+        let end = lines::find(input, from, b'\n');
         line(&input[from..end]);
         from = end + 1;
     }
@@ -67,7 +25,7 @@ fn line(s: &[u8]) {
     if s.len() == 0 {
         return;
     }
-    let rest = after_word(s);
+    let rest = lines::after_word(s);
     if s[0] == b'n' {
         number_line(rest);
         return;
@@ -80,53 +38,41 @@ fn line(s: &[u8]) {
 }
 
 fn refused(n: u32) {
-    print(b"refused ");
-    io::print_decimal(STDOUT_FILENO, n as u64);
-}
-
-// A text without the blanks on its left.
-fn without_blanks(s: &[u8]) -> &[u8] {
-    let mut i = 0;
-    while i < s.len() {
-        if s[i] != b' ' {
-            break;
-        }
-        i += 1;
-    }
-    &s[i..]
+    lines::print(b"refused ");
+    lines::print_number(n);
 }
 
 // A value in decimal, by the library's own writer: 20 characters hold any value that it accepts.
 fn print_value(value: i64) {
     let mut text = [0u8; 20];
     numeral::write_number(&mut text, 0, value);
-    print(without_blanks(&text));
+    lines::print(lines::without_blanks(&text));
 }
 
 fn number_line(s: &[u8]) {
-    match numeral::read_number(after_word(s), first_number(s)) {
+    match numeral::read_number(lines::after_word(s), lines::first_number(s)) {
         numeral::Number::Value(v) => print_value(v),
-        numeral::Number::Empty => print(b"empty"),
+        numeral::Number::Empty => lines::print(b"empty"),
         numeral::Number::Refused(n) => refused(n),
     }
-    print(b"\n");
+    lines::print(b"\n");
 }
 
 fn date_line(s: &[u8]) {
     match calendar::read_date(s) {
         calendar::DateAnswer::Value(d) => print_date(d),
-        calendar::DateAnswer::Empty => print(b"empty"),
+        calendar::DateAnswer::Empty => lines::print(b"empty"),
         calendar::DateAnswer::Refused(n) => refused(n),
     }
-    print(b"\n");
+    lines::print(b"\n");
 }
 
 fn print_date(d: calendar::Date) {
-    io::print_decimal(STDOUT_FILENO, d.year as u64);
-    print(b"-");
-    io::print_decimal(STDOUT_FILENO, d.month as u64);
-    print(b"-");
-    io::print_decimal(STDOUT_FILENO, d.day as u64);
+    lines::print_number(d.year);
+    lines::print(b"-");
+    lines::print_number(d.month);
+    lines::print(b"-");
+    lines::print_number(d.day);
 }
 
 // A width that the buffer below has; 24 is wider than any field.
@@ -139,21 +85,21 @@ fn at_most_24(width: usize) -> usize
 // Writes a value into a field and prints the answer and what the field then holds.
 fn write_field(field: &mut [u8], decimals: u32, value: i64) {
     match numeral::write_number(field, decimals, value) {
-        numeral::Writing::Written => print(b"written"),
+        numeral::Writing::Written => lines::print(b"written"),
         numeral::Writing::Refused(n) => refused(n),
     }
-    print(b" [");
-    print(field);
-    print(b"]\n");
+    lines::print(b" [");
+    lines::print(field);
+    lines::print(b"]\n");
 }
 
 fn write_line(s: &[u8]) {
-    let rest = after_word(s);
-    let numeral::Number::Value(value) = numeral::read_number(after_word(rest), 0) else {
-        print(b"?\n");
+    let rest = lines::after_word(s);
+    let numeral::Number::Value(value) = numeral::read_number(lines::after_word(rest), 0) else {
+        lines::print(b"?\n");
         return;
     };
-    let width = at_most_24(first_number(s) as usize);
+    let width = at_most_24(lines::first_number(s) as usize);
     let mut field = [b'#'; 24];
-    write_field(&mut field[..width], first_number(rest), value);
+    write_field(&mut field[..width], lines::first_number(rest), value);
 }

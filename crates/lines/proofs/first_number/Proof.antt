@@ -1,9 +1,9 @@
--- `vectors::first_number` ends and overflows nowhere. The loop's invariant: the index is at most the word's end.
+-- `lines::first_number` ends and overflows nowhere. The loop's invariant: the index is at most the word's end.
 -- Assumes nothing.
 use Prim.Native.Nat.{_≤_, _-_}
 use borrow.Author.Needs.{needs}
-use Rattle.vectors.proofs.first_number.Statement.{statement}
-use Rattle.vectors.proofs.first_number.Tie as tie
+use Rattle.lines.proofs.first_number.Statement.{statement}
+use Rattle.lines.proofs.first_number.Tie as tie
 
 abbrev Inv-loop : tie.InvT-loop
 Inv-loop s end n₀ i₀ n i = i ≤ end

@@ -1,10 +1,10 @@
--- `vectors::without_blanks` ends inside its text. The loop's invariant: the index is at most the length.
+-- `lines::without_blanks` ends inside its text. The loop's invariant: the index is at most the length.
 -- Assumes nothing.
 use Prim.Native.Nat.{_≤_, _-_}
 use borrow.Author.Needs.{needs}
 use lib.ListN.{length}
-use Rattle.vectors.proofs.without_blanks.Statement.{statement}
-use Rattle.vectors.proofs.without_blanks.Tie as tie
+use Rattle.lines.proofs.without_blanks.Statement.{statement}
+use Rattle.lines.proofs.without_blanks.Tie as tie
 
 abbrev Inv-loop : tie.InvT-loop
 Inv-loop s i₀ i = i ≤ length s

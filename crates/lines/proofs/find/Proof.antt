@@ -1,10 +1,10 @@
--- `vectors::find` meets its contract. The loop's invariant: the index is between `from` and the length.
+-- `lines::find` meets its contract. The loop's invariant: the index is between `from` and the length.
 -- Assumes nothing.
 use Prim.Native.Nat.{_≤_, _-_}
 use borrow.Author.Needs.{needs}
 use lib.ListN.{length}
-use Rattle.vectors.proofs.find.Statement.{statement}
-use Rattle.vectors.proofs.find.Tie as tie
+use Rattle.lines.proofs.find.Statement.{statement}
+use Rattle.lines.proofs.find.Tie as tie
 
 abbrev Inv-loop : tie.InvT-loop
 Inv-loop s from byte i₀ i = (from ≤ i) × (i ≤ length s)
