@@ -44,6 +44,7 @@ onward d (phase.Fraction left) c = phase.Bad
 onward d phase.Comma c = phase.Comma
 onward d phase.Bad c = phase.Bad
 
+-- the phase after the character c, which is no digit
 unfoldable pub afterOther : ℕ → Phase → ℕ → Phase
 afterOther d p c = cond (eqb comma c) phase.Comma (onward d p c)
 
@@ -58,6 +59,7 @@ step r c =
     (record { decimals = r .decimals; phase = afterDigit (r .phase) c; negative = r .negative; value = nextValue (r .value) c })
     (record { decimals = r .decimals; phase = afterOther (r .decimals) (r .phase) c; negative = r .negative || eqb c minus; value = r .value })
 
+-- the state after the characters of a text
 unfoldable pub scan : Reader → List ℕ → Reader
 scan r [] = r
 scan r (c ∷ s) = scan (step r c) s
