@@ -26,12 +26,12 @@ use Rattle.tree.specs.InsertNeeds.{insert-needs}
 use Rattle.tree.specs.InsertLinks.{insert-all-linked}
 use Rattle.tree.specs.Book.{Call, insertion, lookupOf, Answer, accepted, refusedIf, isPresent, verdict, noRoom, isAccepted}
 use Rattle.tree.specs.Book.{bookAnswer, bookAfter}
-use Rattle.tree.specs.Index.{pageSize, noPage, newPage, Index, held, fresh, grown, Setting, outOfRoom, full, answer, inserted, next}
+use Rattle.tree.specs.Index.{pageSize, noPage, newPage, Index, held, fresh, grown, Setting, outOfRoom, noRoomFor, answer, inserted, next}
 use Rattle.tree.specs.Index.{nextLinks}
 use Rattle.tree.specs.SoundIndex.{PagesOnce, SoundIndex, LinkedIndex}
 
 -- the verdict on an insertion: told whether it was 30 it says the same, and it is yes only where no refusal's test holds
-verdict-room : (fits : Bool) (r : ℕ) (held : Option ℕ) (full : Bool) →
+pub verdict-room : (fits : Bool) (r : ℕ) (held : Option ℕ) (full : Bool) →
     verdict fits r held (noRoom (verdict fits r held full)) ≡ verdict fits r held full
 verdict-room fits r held full = go (not fits) (eqb r 0) (isPresent held) full
   where
@@ -65,20 +65,20 @@ accepted-acceptable true r held full e = either (eqb r 0)
     go none false p q = record { fitting = refl; positive = p; new = refl; room = refl }
 
 -- the offsets of new pages are the multiples of 512 from F up to the new F
-newPages-below : (size n z : ℕ) → z < size → occ z (newPages (newPage size) n) ≡ 0
+pub newPages-below : (size n z : ℕ) → z < size → occ z (newPages (newPage size) n) ≡ 0
 newPages-below size zero z l = refl
 newPages-below size (suc n) z l = rw (ne-eqb z (newPage size n) (omega arith)) (omega (arith, newPages-below size n z l))
 
-newPages-beyond : (size n z : ℕ) → newPage size n ≤ z → occ z (newPages (newPage size) n) ≡ 0
+pub newPages-beyond : (size n z : ℕ) → newPage size n ≤ z → occ z (newPages (newPage size) n) ≡ 0
 newPages-beyond size zero z l = refl
 newPages-beyond size (suc n) z l = rw (ne-eqb z (newPage size n) (omega arith)) (omega (arith, newPages-beyond size n z (omega arith)))
 
-newPages-unaligned : (size n z : ℕ) → size % pageSize ≡ 0 → (z % pageSize ≡ 0 → ⊥) → occ z (newPages (newPage size) n) ≡ 0
+pub newPages-unaligned : (size n z : ℕ) → size % pageSize ≡ 0 → (z % pageSize ≡ 0 → ⊥) → occ z (newPages (newPage size) n) ≡ 0
 newPages-unaligned size zero z a o = refl
 newPages-unaligned size (suc n) z a o =
     rw (ne-eqb z (newPage size n) (λ e. o (omega arith))) (omega (arith, newPages-unaligned size n z a o))
 
-newPages-once : (size n z : ℕ) → size % pageSize ≡ 0 → z % pageSize ≡ 0 → size ≤ z → z < newPage size n →
+pub newPages-once : (size n z : ℕ) → size % pageSize ≡ 0 → z % pageSize ≡ 0 → size ≤ z → z < newPage size n →
     occ z (newPages (newPage size) n) ≡ 1
 newPages-once size zero z a d l m = absurd (omega arith)
 newPages-once size (suc n) z a d l m = either (eqb z (newPage size n))
@@ -200,7 +200,7 @@ module _ {K : Type 0} (s : Setting K) (two : 1 < s .capacity) where
       rw (← find-get (s .order) k (held i) (ordered-ascending (s .order) (i .height) (i .tree) (d .ordered)))
       (verdict-room (s .fits k) r (find (s .order) k (held i)) (outOfRoom s k i))
 
-  pub answer-room : (c : Call K) (i : Index K) → SoundIndex s i → bookAnswer (s .order) (s .fits) c (full s c i) (held i) ≡ answer s c i
+  pub answer-room : (c : Call K) (i : Index K) → SoundIndex s i → bookAnswer (s .order) (s .fits) c (noRoomFor s c i) (held i) ≡ answer s c i
   answer-room (lookupOf k) i d = answer-book (lookupOf k) i d
   answer-room (insertion k r) i d =
       rw (← find-get (s .order) k (held i) (ordered-ascending (s .order) (i .height) (i .tree) (d .ordered)))
