@@ -148,7 +148,7 @@ fn entries_fit(
     ensures { λ r. ⌜ r ≡ entriesFit (now (index .entry)) k size attribute (last .0) (page .0) ⌝ }
 {
     let count = entry_count(index, k, size, page);
-    if 2 <= attribute {
+    if page::is_leaf(attribute) {
         return leaf_entries(index, k, page, count, last_key(index, k, size, last));
     }
     upper_entries(index, k, size, page, count)
@@ -286,7 +286,7 @@ fn check_level(
 }
 
 // Whether a page is a leaf.
-fn is_leaf(index: &[u8], size: usize, page: PageOffset) -> bool
+fn leaf_at(index: &[u8], size: usize, page: PageOffset) -> bool
     requires { ⌜ size ≤ length (now index) ⌝ }
     ensures { λ r. ⌜ r ≡ isLeaf (now (index .entry)) size (page .0) ⌝ }
 {
@@ -294,7 +294,7 @@ fn is_leaf(index: &[u8], size: usize, page: PageOffset) -> bool
         return false;
     }
     let head = Page::at(index, page);
-    2 <= head.attribute
+    page::is_leaf(head.attribute)
 }
 
 // The attribute of the pages of a level.
@@ -341,7 +341,7 @@ fn root_level(index: &[u8], marks: &mut [u8], k: usize, size: usize, root: PageO
     requires { ⌜ InFile (now index) k size × (length (now marks) ≡ maxPages) ⌝ }
     ensures { λ r. ⌜ rootLevel (now (index .entry)) k size (root .0) (now (marks .entry)) ≡ (levelOf r, now (marks .exit)) ⌝ }
 {
-    let leaf = is_leaf(index, size, root);
+    let leaf = leaf_at(index, size, root);
     let s = check_page(
         index,
         marks,
@@ -371,7 +371,7 @@ fn next_level(index: &[u8], marks: &mut [u8], k: usize, size: usize, above: Page
     ensures { λ r. ⌜ nextLevel (now (index .entry)) k size (above .0) (now (marks .entry)) ≡ (levelOf r, now (marks .exit)) ⌝ }
 {
     let first = first_child(index, k, size, above);
-    let leaf = is_leaf(index, size, first);
+    let leaf = leaf_at(index, size, first);
     let s = check_level(
         index,
         marks,

@@ -9,7 +9,7 @@ use Rattle.audit.proofs.attribute_of.Reads as attribute-of-reads
 use Rattle.audit.proofs.check_level.Reads as check-level-reads
 use Rattle.audit.proofs.closed.Reads as closed-reads
 use Rattle.audit.proofs.first_child.Reads as first-child-reads
-use Rattle.audit.proofs.is_leaf.Reads as is-leaf-reads
+use Rattle.audit.proofs.leaf_at.Reads as leaf-at-reads
 use Rattle.audit.proofs.start.Reads as start-reads
 
 -- src/lib.rt:358:9
@@ -17,8 +17,8 @@ first-child-requires : tie.Need-first-child-requires
 first-child-requires c κs = search needs
 
 -- src/lib.rt:359:9
-is-leaf-requires : tie.Need-is-leaf-requires
-is-leaf-requires c κs = search needs
+leaf-at-requires : tie.Need-leaf-at-requires
+leaf-at-requires c κs = search needs
 
 -- src/lib.rt:360:48
 attribute-of-requires : tie.Need-attribute-of-requires
@@ -44,7 +44,7 @@ same-length c = search needs
 returns : tie.Need-returns
 returns c =
     let args = c .before .before .before .before .before .before .before .before .before .before .before .args in
-    let leaf = c .before .before .before .before .before .before .before .is-leaf in
+    let leaf = c .before .before .before .before .before .before .before .leaf-at in
     let attribute = c .before .before .before .before .before .attribute-of in
     let first = c .before .before .before .before .before .before .before .before .first-child in
     let begun = c .before .before .before .before .start in
@@ -57,7 +57,7 @@ next-level-spec =
     tie.close
     (tie.spec
     first-child-requires
-    is-leaf-requires
+    leaf-at-requires
     attribute-of-requires
     start-requires
     check-level-requires

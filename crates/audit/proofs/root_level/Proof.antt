@@ -8,12 +8,12 @@ use Rattle.audit.proofs.root_level.Lts as lts
 use Rattle.audit.proofs.attribute_of.Reads as attribute-of-reads
 use Rattle.audit.proofs.check_page.Reads as check-page-reads
 use Rattle.audit.proofs.closed.Reads as closed-reads
-use Rattle.audit.proofs.is_leaf.Reads as is-leaf-reads
+use Rattle.audit.proofs.leaf_at.Reads as leaf-at-reads
 use Rattle.audit.proofs.start.Reads as start-reads
 
 -- src/lib.rt:338:9
-is-leaf-requires : tie.Need-is-leaf-requires
-is-leaf-requires c κs = search needs
+leaf-at-requires : tie.Need-leaf-at-requires
+leaf-at-requires c κs = search needs
 
 -- src/lib.rt:339:47
 attribute-of-requires : tie.Need-attribute-of-requires
@@ -39,14 +39,14 @@ same-length c = search needs
 returns : tie.Need-returns
 returns c =
     let args = c .before .before .before .before .before .before .before .before .before .before .args in
-    root-closed (args .index .now) (args .k) (args .size) (c .before .before .before .before .before .attribute-of .result) (args .root) (c .before .before .before .before .before .before .before .is-leaf .result) (c .before .before .before .before .start .result) (c .before .before .before .check-page .result) (c .closed .result) (args .marks .now) _
-    (c .before .before .before .before .before .before .before .is-leaf .ensures) (c .before .before .before .before .start .ensures) (c .closed .ensures) (c .before .before .before .before .before .attribute-of .ensures) (c .before .before .before .check-page .ensures)
+    root-closed (args .index .now) (args .k) (args .size) (c .before .before .before .before .before .attribute-of .result) (args .root) (c .before .before .before .before .before .before .before .leaf-at .result) (c .before .before .before .before .start .result) (c .before .before .before .check-page .result) (c .closed .result) (args .marks .now) _
+    (c .before .before .before .before .before .before .before .leaf-at .ensures) (c .before .before .before .before .start .ensures) (c .closed .ensures) (c .before .before .before .before .before .attribute-of .ensures) (c .before .before .before .check-page .ensures)
 
 pub root-level-spec : {M : Type 1} → statement M
 root-level-spec =
     tie.close
     (tie.spec
-    is-leaf-requires
+    leaf-at-requires
     attribute-of-requires
     start-requires
     check-page-requires
