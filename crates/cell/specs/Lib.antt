@@ -1,3 +1,0 @@
-pub mod Cell
-pub mod Codes
-pub mod CellLaws
