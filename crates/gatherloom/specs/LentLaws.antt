@@ -1,7 +1,7 @@
 -- Laws: what the calls over lent structs are made of. The field list's entry of a field is the answer by value for it. Assumes nothing.
 use Prim.Native.Nat.{ℕ, zero, suc, _+_, _-_, _≤_, _<_}
 use mathlib.Core.Path.{_≡_, refl, sym, ap, subst, _∙_}
-use mathlib.Core.Bool.{true, cond}
+use mathlib.Core.Bool.{Bool, true, cond}
 use mathlib.Core.List.{List, [], _∷_}
 use mathlib.Core.Logic.{⊎-elim}
 use native.Mathlib.Nat.{eq-or-lt-of-le, le-of-suc-le-suc, not-suc-le-zero}
@@ -10,18 +10,20 @@ use native.Mathlib.Omega.{arith}
 use lib.Seq.{getD-set-same, getD-set-other}
 use lib.ListN.{length, getD, set, length-set}
 use lib.Dec.{eqb, leb, lit<}
-use borrow.Author.Tests.{le-leb, lt-leb, leb-true, eqb-true, ne-eqb}
+use borrow.Author.Tests.{le-leb, lt-leb, leb-true, eqb-true, eqb-false, ne-eqb}
 use Rattle.basis.specs.Tests.{either}
-use Rattle.table.specs.Table.{descriptor, maxFields, fieldCount, numberGood, firstRefusal, tableChecks, tableRefusal, checkTable}
+use Rattle.basis.specs.Lists.{All}
+use Rattle.table.specs.Table.{descriptor, maxFields, fieldCount, recordCount, deletionByte, keptMark, deletedMark, numberGood, firstRefusal, tableChecks, tableRefusal, checkTable}
 use Rattle.table.specs.TableLaws.{layout, table-numbered, first-after, first-both, first-none, good-shape, good-then, refused-then, refused-check}
 use Rattle.table.specs.RecordLaws.{descriptor-inside}
 use Rattle.table.specs.declared.Shape.{Shape}
 use Rattle.table.specs.declared.Checked.the-variants.{Good, Refused as TableRefused}
 use Rattle.field.specs.Field.{entryOf, fieldRefusal, fieldAnswer}
 use Rattle.field.specs.declared.FieldEntry.{FieldEntry}
-use Rattle.walk.specs.Walk.{walkStep}
+use Rattle.walk.specs.Walk.{walkFrom, walkStep}
 use Rattle.walk.specs.declared.Position.{Position}
 use Rattle.walk.specs.declared.Step.{Step}
+use Rattle.walk.specs.declared.Step.the-variants.{Record, Done, Refused}
 use Rattle.walk.specs.declared.Walked.{Walked}
 use Rattle.gatherloom.specs.declared.Plan.{Plan}
 use Rattle.gatherloom.specs.declared.LentStep.{LentStep}
@@ -73,7 +75,6 @@ plan-fits b room =
     (λ none.
     let good = listing-good b room (eqb-true _ _ none) in
     let table = layout b (good .table) in
-    let count : planOf b room .count ≡ fieldCount b = rw none in
     rw none (record { few = table .header .few; within = descriptor-inside b table; enough = good .enough }))
     (λ some. rw some (record { few = omega arith; within = λ j l. absurd (not-suc-le-zero l); enough = omega arith }))
 
@@ -151,3 +152,68 @@ pub walked-as : (b : List ℕ) (position : Position) (old : ℕ) (walked : Walke
     → _≡_ {A = LentStep} (record { answer = stepNumber answer; position = walked .position; number = stepRecord answer old }) (walkedOf b position old)
 unfolding walkedOf
 walked-as b position old walked answer e is = rw (← e, ← is)
+
+-- a refusal's number is neither 0 nor one of the answers from 256 on
+abbrev pub Numbered : Step → Type 0
+Numbered (Record n) = Unit {0}
+Numbered Done = Unit {0}
+Numbered (Refused n) = (0 < n) × (n < 256)
+
+first-below : (checks : List (Bool × ℕ)) (bound : ℕ) → 0 < bound → All (λ check. check .1 < bound) checks → firstRefusal checks < bound
+unfolding firstRefusal
+first-below [] bound some p = some
+first-below (check ∷ checks) bound some p =
+    either (check .0) (λ good. rw good (first-below checks bound some (p .1))) (λ bad. rw bad (p .0))
+
+table-below : (b : List ℕ) → tableRefusal b < 256
+unfolding tableRefusal tableChecks
+table-below b =
+    first-below (tableChecks b) 256 (lit< tt)
+    (lit< tt, (lit< tt, (lit< tt, (lit< tt, (lit< tt, (lit< tt, (lit< tt, (lit< tt, (lit< tt, (lit< tt, tt))))))))))
+
+from-numbered : (b : List ℕ) (position passed left : ℕ) → Numbered (walkFrom b position passed left .answer)
+unfolding walkFrom
+from-numbered b position passed zero = tt
+from-numbered b position passed (suc left) =
+    let mark = deletionByte b (passed + 1) in
+    either (eqb mark keptMark)
+    (λ kept. rw kept tt)
+    (λ other. either (eqb mark deletedMark)
+    (λ deleted. rw (other, deleted) (from-numbered b position (passed + 1) left))
+    (λ bad. rw (other, bad) (lit< tt, lit< tt)))
+
+pub walk-numbered : (b : List ℕ) (position : Position) → Numbered (walkStep b position .answer)
+unfolding walkStep
+walk-numbered b position =
+    let passed = position .passed in
+    either (eqb (tableRefusal b) 0)
+    (λ none. rw none (from-numbered b passed passed (recordCount b - passed)))
+    (λ some. rw some (let no = eqb-false (tableRefusal b) 0 some in (omega (arith, no), table-below b)))
+
+-- so the answer is 0 exactly with a record, whose number is then handed out, and 258 exactly at the end; what was there stays where it is not 0
+record-answer : (answer : Step) (old : ℕ) → Numbered answer → stepNumber answer ≡ 0 → answer ≡ Record (stepRecord answer old)
+record-answer (Record n) old p e = refl
+record-answer Done old p e = absurd (omega (arith, e))
+record-answer (Refused n) old p e = absurd (omega (arith, p .0, e))
+
+done-answer : (answer : Step) → Numbered answer → stepNumber answer ≡ 258 → answer ≡ Done
+done-answer (Record n) p e = absurd (omega (arith, e))
+done-answer Done p e = refl
+done-answer (Refused n) p e = absurd (omega (arith, p .1, e))
+
+other-answer : (answer : Step) (old : ℕ) → (stepNumber answer ≡ 0 → ⊥) → stepRecord answer old ≡ old
+other-answer (Record n) old other = absurd (other refl)
+other-answer Done old other = refl
+other-answer (Refused n) old other = refl
+
+pub walked-record : (b : List ℕ) (position : Position) (old : ℕ) → walkedOf b position old .answer ≡ 0 → walkStep b position .answer ≡ Record (walkedOf b position old .number)
+unfolding walkedOf
+walked-record b position old e = record-answer (walkStep b position .answer) old (walk-numbered b position) e
+
+pub walked-done : (b : List ℕ) (position : Position) (old : ℕ) → walkedOf b position old .answer ≡ 258 → walkStep b position .answer ≡ Done
+unfolding walkedOf
+walked-done b position old e = done-answer (walkStep b position .answer) (walk-numbered b position) e
+
+pub walked-kept : (b : List ℕ) (position : Position) (old : ℕ) → (walkedOf b position old .answer ≡ 0 → ⊥) → walkedOf b position old .number ≡ old
+unfolding walkedOf
+walked-kept b position old other = other-answer (walkStep b position .answer) old other

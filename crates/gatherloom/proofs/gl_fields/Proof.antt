@@ -1,5 +1,5 @@
 -- `gatherloom::gl_fields` meets its contract: a walk of its MIR, by hand. The plan is made by a call; the borrow of the entries is opened once, before the loop, and closed once, after it.
--- Each turn calls `entry_at` and stores what it returned at element j: the entries are then those of `listed` at j + 1.
+-- Each turn calls `entry_at` and stores what it returned at element i: the entries are then those of `listed` at i + 1.
 -- All that the proof knows of the two functions called is that they meet their contracts.
 -- Assumes nothing.
 use mathlib.Core.Path.{_≡_, refl, sym, _∙_, ap, subst}
