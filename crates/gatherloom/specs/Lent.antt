@@ -1,0 +1,63 @@
+-- Rules: the two calls over lent structs: the field list, "written into a list of field entries that the host lends", and the walk, whose position "belongs
+-- to the host and each call moves it on the spot".
+use Prim.Native.Nat.{ℕ, zero, suc}
+use mathlib.Core.List.{List, [], _∷_, _++_}
+use mathlib.Core.Bool.{cond}
+use lib.ListN.{length, set}
+use lib.Dec.{eqb, leb}
+use Rattle.table.specs.Table.{fieldCount, firstRefusal, tableChecks}
+use Rattle.field.specs.Field.{entryOf}
+use Rattle.field.specs.declared.FieldEntry.{FieldEntry}
+use Rattle.walk.specs.Walk.{walkStep}
+use Rattle.walk.specs.declared.Position.{Position}
+use Rattle.walk.specs.declared.Step.{Step}
+use Rattle.walk.specs.declared.Step.the-variants.{Record, Done, Refused}
+use Rattle.gatherloom.specs.declared.Plan.{Plan}
+use Rattle.gatherloom.specs.declared.LentStep.{LentStep}
+
+-- ---- the field list
+
+-- "1 to 10 ... then ... 14": "lent field list shorter than f"
+unfoldable pub listingRefusal : List ℕ → ℕ → ℕ
+listingRefusal b room = firstRefusal (tableChecks b ++ ((leb (fieldCount b) room, 14) ∷ []))
+
+-- the refusal or 0, and how many entries are written: none where it refuses
+unfoldable pub planOf : List ℕ → ℕ → Plan
+planOf b room = record {
+  answer = listingRefusal b room;
+  count = cond (eqb (listingRefusal b room) 0) (fieldCount b) 0;
+}
+
+-- the first entries overwritten by those of as many fields; "entries past f stay"
+unfoldable pub listed : List ℕ → ℕ → List FieldEntry → List FieldEntry
+listed b zero entries = entries
+listed b (suc j) entries = set (listed b j entries) j (entryOf b j)
+
+-- what a call that is lent entries answers, and what it leaves in them
+pub record Listing : Type 0 where
+  pub answer : ℕ
+  pub entries : List FieldEntry
+
+unfoldable pub listing : List ℕ → List FieldEntry → Listing
+listing b entries =
+    let plan = planOf b (length entries) in
+    record { answer = plan .answer; entries = listed b (plan .count) entries }
+
+-- ---- the walk
+
+-- the answer's number: 0 with a record, 258 at the end, or the refusal's
+abbrev pub stepNumber : Step → ℕ
+stepNumber (Record n) = 0
+stepNumber Done = 258
+stepNumber (Refused n) = n
+
+-- the record's number, or what was there before
+abbrev pub stepRecord : Step → ℕ → ℕ
+stepRecord (Record n) old = n
+stepRecord Done old = old
+stepRecord (Refused n) old = old
+
+unfoldable pub walkedOf : List ℕ → Position → ℕ → LentStep
+walkedOf b position old =
+    let walked = walkStep b position in
+    record { answer = stepNumber (walked .answer); position = walked .position; number = stepRecord (walked .answer) old }
