@@ -39,20 +39,6 @@ pub fn answer_line(word: &[u8], n: u32) {
     print(b"\n");
 }
 
-// How many bytes of a name stand before its zeros.
-fn name_length(name: &[u8]) -> usize
-    ensures { λ r. ⌜ r ≤ length (now (name .entry)) ⌝ }
-{
-    let mut n = 0;
-    while n < name.len() {
-        if name[n] == 0 {
-            break;
-        }
-        n += 1;
-    }
-    n
-}
-
 // How many blanks a text begins with.
 fn blank_count(text: &[u8]) -> usize
     ensures { λ r. ⌜ r ≤ length (now (text .entry)) ⌝ }
@@ -98,9 +84,8 @@ fn print_escaped(c: u8) {
     print(&text);
 }
 
-// The bytes in double quotes: plain ones in runs, each other one as \xHH.
-fn print_quoted(text: &[u8]) {
-    print(b" 0 \"");
+// Plain bytes in runs, each other one as \xHH.
+fn print_bytes(text: &[u8]) {
     let mut from = 0;
     while from < text.len() {
         let end = plain_end(text, from);
@@ -110,6 +95,11 @@ fn print_quoted(text: &[u8]) {
         }
         from = end + 1;
     }
+}
+
+fn print_quoted(text: &[u8]) {
+    print(b" 0 \"");
+    print_bytes(text);
     print(b"\"");
 }
 
@@ -153,10 +143,17 @@ fn date_value(table: &[u8], i: u32, j: u32) {
     }
 }
 
+fn print_logical(value: bool) {
+    if value {
+        print(b" 0 T");
+    } else {
+        print(b" 0 F");
+    }
+}
+
 fn logical_value(table: &[u8], i: u32, j: u32) {
     match cell::read_logical(table, i, j) {
-        Logical::Value(true) => print(b" 0 T"),
-        Logical::Value(false) => print(b" 0 F"),
+        Logical::Value(value) => print_logical(value),
         Logical::Empty => print(b" empty"),
         Logical::Refused(number) => print_number(number),
     }
@@ -178,7 +175,8 @@ fn value_line<'a>(table: &'a [u8], memo: &'a [u8], i: u32, j: u32) {
     print_number(i);
     print_number(j);
     let answer = field::field_entry(table, j);
-    match answer.entry.kind {
+    let kind = answer.entry.kind;
+    match kind {
         b'N' => number_value(table, i, j),
         b'D' => date_value(table, i, j),
         b'L' => logical_value(table, i, j),
@@ -231,11 +229,16 @@ fn record_lines<'a>(table: &'a [u8], memo: &'a [u8], records: u32, fields: u32) 
     }
 }
 
+// A name's characters are plain, and the zeros after them are not.
+fn print_name(name: &[u8]) {
+    let end = plain_end(name, 0);
+    print(b" ");
+    print(&name[0..end]);
+}
+
 fn print_entry(entry: FieldEntry) {
     let name = entry.name;
-    let n = name_length(&name);
-    print(b" ");
-    print(&name[..n]);
+    print_name(&name);
     let kind = [b' ', entry.kind];
     print(&kind);
     print_number(entry.length as u32);
