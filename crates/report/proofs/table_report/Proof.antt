@@ -1,0 +1,69 @@
+-- `report::table_report` is safe: a good table has at most 128 fields, so that their count fits 32 bits.
+-- Assumes nothing.
+use mathlib.Core.Path.{sym, _∙_}
+use native.Mathlib.Omega.{arith}
+use Rattle.table.specs.TableLaws.{layout, good-shape}
+use borrow.Author.Needs.{needs}
+use Rattle.report.proofs.table_report.Statement.{statement}
+use Rattle.report.proofs.table_report.Tie as tie
+
+check-table-requires : tie.Need-check-table-requires
+check-table-requires c κs = search needs
+
+enum-known-number : tie.Need-enum-known-number
+enum-known-number c = search needs
+
+slice-aggregate-answer-line : tie.Need-slice-aggregate-answer-line
+slice-aggregate-answer-line c = search needs
+
+answer-line-requires : tie.Need-answer-line-requires
+answer-line-requires c κs = search needs
+
+enum-known-shape : tie.Need-enum-known-shape
+enum-known-shape c = search needs
+
+cast-fields : tie.Need-cast-fields
+cast-fields c =
+    let good = c .before .before in
+    let said = good-shape _ _ (sym (good .before .before .check-table .ensures) ∙ good .shape .given .1) in
+    let few = layout _ (said .table) .header .few in
+    omega (arith, said .fields)
+
+slice-aggregate-answer-line-2 : tie.Need-slice-aggregate-answer-line-2
+slice-aggregate-answer-line-2 c = search needs
+
+answer-line-requires-2 : tie.Need-answer-line-requires-2
+answer-line-requires-2 c κs = search needs
+
+shape-line-requires : tie.Need-shape-line-requires
+shape-line-requires c κs = search needs
+
+field-lines-requires : tie.Need-field-lines-requires
+field-lines-requires c κs = search needs
+
+record-lines-requires : tie.Need-record-lines-requires
+record-lines-requires c κs = search needs
+
+returns : tie.Need-returns
+returns c = search needs
+
+returns-2 : tie.Need-returns-2
+returns-2 c = search needs
+
+pub table-report-spec : {M : Type 1} → statement M
+table-report-spec =
+    tie.close
+    (tie.spec
+    check-table-requires
+    enum-known-number
+    slice-aggregate-answer-line
+    answer-line-requires
+    enum-known-shape
+    cast-fields
+    slice-aggregate-answer-line-2
+    answer-line-requires-2
+    shape-line-requires
+    field-lines-requires
+    record-lines-requires
+    returns
+    returns-2)

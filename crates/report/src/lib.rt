@@ -1,0 +1,289 @@
+// What the program `inspect` prints of a table and its memo file: a line for the check, the shape, each field, each record and each value.
+// The library decides; here its answers are only spelled out.
+ghost use Prim.Native.Nat.{_≤_};
+ghost use lib.ListN.{length};
+use calendar::Date;
+use calendar::DateAnswer;
+use cell::Logical;
+use cell::TextPlace;
+use field::FieldEntry;
+use field::Placed;
+use libc::STDOUT_FILENO;
+use numeral::Number;
+use table::Checked;
+
+const KEPT: u32 = 0x20;
+
+const DELETED: u32 = 0x2A;
+
+const BAD_DELETION_BYTE: u32 = 15;
+
+pub fn print(text: &[u8]) {
+    io::write_all(STDOUT_FILENO, text);
+}
+
+fn print_count(n: usize) {
+    io::print_decimal(STDOUT_FILENO, n as u64);
+}
+
+// A blank and a number.
+fn print_number(n: u32) {
+    print(b" ");
+    print_count(n as usize);
+}
+
+// A line of a word and a number.
+pub fn answer_line(word: &[u8], n: u32) {
+    print(word);
+    print_number(n);
+    print(b"\n");
+}
+
+// How many blanks a text begins with.
+fn blank_count(text: &[u8]) -> usize
+    ensures { λ r. ⌜ r ≤ length (now (text .entry)) ⌝ }
+{
+    let mut n = 0;
+    while n < text.len() {
+        if text[n] != b' ' {
+            break;
+        }
+        n += 1;
+    }
+    n
+}
+
+// Whether a byte stands for itself between quotes.
+fn is_plain(c: u8) -> bool {
+    (0x20 <= c) & (c <= 0x7E) & (c != b'"') & (c != b'\\')
+}
+
+// Where the plain bytes end that begin at an index.
+fn plain_end(text: &[u8], from: usize) -> usize
+    requires { ⌜ from ≤ length (now text) ⌝ }
+    ensures { λ r. ⌜ (from ≤ r) × (r ≤ length (now (text .entry))) ⌝ }
+{
+    let mut end = from;
+    while end < text.len() {
+        if !is_plain(text[end]) {
+            break;
+        }
+        end += 1;
+    }
+    end
+}
+
+fn hex_digit(n: u8) -> u8
+    requires { ⌜ n ≤ 15 ⌝ }
+{
+    if n < 10 { b'0' + n } else { b'A' - 10 + n }
+}
+
+fn print_escaped(c: u8) {
+    let text = [b'\\', b'x', hex_digit(c / 16), hex_digit(c % 16)];
+    print(&text);
+}
+
+// Plain bytes in runs, each other one as \xHH.
+fn print_bytes(text: &[u8]) {
+    let mut from = 0;
+    while from < text.len() {
+        let end = plain_end(text, from);
+        print(&text[from..end]);
+        if end < text.len() {
+            print_escaped(text[end]);
+        }
+        from = end + 1;
+    }
+}
+
+fn print_quoted(text: &[u8]) {
+    print(b" 0 \"");
+    print_bytes(text);
+    print(b"\"");
+}
+
+// A value in decimal by the library's own writer: 20 characters hold each value that its reader gives.
+fn print_value(value: i64) {
+    let mut text = [0u8; 20];
+    numeral::write_number(&mut text, 0, value);
+    let blanks = blank_count(&text);
+    print(b" 0 ");
+    print(&text[blanks..]);
+}
+
+// The last two decimal digits of a number.
+fn print_two_digits(n: u32) {
+    let text = [b'0' + (n / 10 % 10) as u8, b'0' + (n % 10) as u8];
+    print(&text);
+}
+
+// YYYYMMDD.
+fn print_date(date: Date) {
+    print(b" 0 ");
+    print_two_digits(date.year / 100);
+    print_two_digits(date.year);
+    print_two_digits(date.month);
+    print_two_digits(date.day);
+}
+
+fn number_value(table: &[u8], i: u32, j: u32) {
+    match cell::read_number(table, i, j) {
+        Number::Value(value) => print_value(value),
+        Number::Empty => print(b" empty"),
+        Number::Refused(number) => print_number(number),
+    }
+}
+
+fn date_value(table: &[u8], i: u32, j: u32) {
+    match cell::read_date(table, i, j) {
+        DateAnswer::Value(date) => print_date(date),
+        DateAnswer::Empty => print(b" empty"),
+        DateAnswer::Refused(number) => print_number(number),
+    }
+}
+
+fn print_logical(value: bool) {
+    if value {
+        print(b" 0 T");
+    } else {
+        print(b" 0 F");
+    }
+}
+
+fn logical_value(table: &[u8], i: u32, j: u32) {
+    match cell::read_logical(table, i, j) {
+        Logical::Value(value) => print_logical(value),
+        Logical::Empty => print(b" empty"),
+        Logical::Refused(number) => print_number(number),
+    }
+}
+
+fn text_value<'a>(table: &'a [u8], memo: &'a [u8], i: u32, j: u32) {
+    match cell::text_place(table, memo, i, j) {
+        TextPlace::Empty => print(b" empty"),
+        TextPlace::Refused(number) => print_number(number),
+        TextPlace::Table { .. } | TextPlace::Memo { .. } => {
+            print_quoted(cell::text(table, memo, i, j))
+        }
+    }
+}
+
+// The line of field j of record i, read by the call for the field's type.
+fn value_line<'a>(table: &'a [u8], memo: &'a [u8], i: u32, j: u32) {
+    print(b"value");
+    print_number(i);
+    print_number(j);
+    let answer = field::field_entry(table, j);
+    let kind = answer.entry.kind;
+    match kind {
+        b'N' => number_value(table, i, j),
+        b'D' => date_value(table, i, j),
+        b'L' => logical_value(table, i, j),
+        _ => text_value(table, memo, i, j),
+    }
+    print(b"\n");
+}
+
+fn value_lines<'a>(table: &'a [u8], memo: &'a [u8], i: u32, fields: u32) {
+    let mut j = 0;
+    while j < fields {
+        j += 1;
+        value_line(table, memo, i, j);
+    }
+}
+
+// The lines of record i, which has this deletion byte.
+fn marked_record<'a>(table: &'a [u8], memo: &'a [u8], i: u32, fields: u32, mark: u32) {
+    if mark == KEPT {
+        print(b" live\n");
+        value_lines(table, memo, i, fields);
+        return;
+    }
+    if mark == DELETED {
+        print(b" deleted\n");
+        value_lines(table, memo, i, fields);
+        return;
+    }
+    print_number(BAD_DELETION_BYTE);
+    print(b"\n");
+}
+
+fn record_report<'a>(table: &'a [u8], memo: &'a [u8], i: u32, fields: u32) {
+    print(b"record");
+    print_number(i);
+    match field::field_place(table, i, 1) {
+        Placed::At(place) => marked_record(table, memo, i, fields, place.mark),
+        Placed::Refused(number) => {
+            print_number(number);
+            print(b"\n");
+        }
+    }
+}
+
+fn record_lines<'a>(table: &'a [u8], memo: &'a [u8], records: u32, fields: u32) {
+    let mut i = 0;
+    while i < records {
+        i += 1;
+        record_report(table, memo, i, fields);
+    }
+}
+
+// A name's characters are plain, and the zeros after them are not.
+fn print_name(name: &[u8]) {
+    let end = plain_end(name, 0);
+    print(b" ");
+    print(&name[0..end]);
+}
+
+fn print_entry(entry: FieldEntry) {
+    let name = entry.name;
+    print_name(&name);
+    let kind = [b' ', entry.kind];
+    print(&kind);
+    print_number(entry.length as u32);
+    print_number(entry.decimals as u32);
+}
+
+fn field_line(table: &[u8], j: u32) {
+    print(b"field");
+    print_number(j);
+    let answer = field::field_entry(table, j);
+    if answer.refusal == 0 {
+        print_entry(answer.entry);
+    } else {
+        print_number(answer.refusal);
+    }
+    print(b"\n");
+}
+
+fn field_lines(table: &[u8], fields: u32) {
+    let mut j = 0;
+    while j < fields {
+        j += 1;
+        field_line(table, j);
+    }
+}
+
+fn shape_line(records: u32, fields: u32, record_length: usize) {
+    print(b"shape");
+    print_number(records);
+    print_number(fields);
+    print(b" ");
+    print_count(record_length);
+    print(b"\n");
+}
+
+// All that a table and its memo file give; of a refused table, the number alone.
+pub fn table_report<'a>(table: &'a [u8], memo: &'a [u8]) {
+    match table::check_table(table) {
+        Checked::Refused(number) => answer_line(b"table", number),
+        Checked::Good(shape) => {
+            let fields = shape.fields as u32;
+            answer_line(b"table", 0);
+            shape_line(shape.records, fields, shape.record_length);
+            field_lines(table, fields);
+            record_lines(table, memo, shape.records, fields);
+        }
+    }
+}
