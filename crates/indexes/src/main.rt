@@ -70,7 +70,7 @@ fn tally_line(t: Tally, index: &[u8], line: &[u8]) -> Tally {
     }
 }
 
-fn tally(index: &[u8], calls: &[u8]) -> Tally {
+fn count_found(index: &[u8], calls: &[u8]) -> Tally {
     let mut t = Tally {
         accepted: 0,
         found: 0,
@@ -92,7 +92,7 @@ fn run(name: &[u8], index_path: &[u8], calls_path: &[u8]) {
     lines::print(name);
     lines::print(b" audit ");
     lines::print_number(audit::audit(&index[..n]));
-    let t = tally(&index[..n], &calls[..m]);
+    let t = count_found(&index[..n], &calls[..m]);
     lines::print(b" accepted ");
     lines::print_number(t.accepted);
     lines::print(b" found ");
