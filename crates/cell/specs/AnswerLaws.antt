@@ -51,8 +51,8 @@ text-no-header b m i field k none type from to number short =
 
 -- ---- the numbers of refusals
 
--- 1 to 31: neither 0, which is a value, nor 256, which is an empty field
-abbrev Numbered : ℕ → Type 0
+-- a refusal's number: neither 0, which is a value's, nor 256, which is an empty field's
+abbrev pub Numbered : ℕ → Type 0
 Numbered n = (0 < n) × (n < emptyCode)
 
 first-small : (checks : List (Bool × ℕ)) → All (λ (check : Bool × ℕ). check .1 < emptyCode) checks → firstRefusal checks < emptyCode
