@@ -22,7 +22,8 @@ use Rattle.memo.specs.NumberText.{numberText, number-exactly}
 use Rattle.memo.specs.MemoLaws.{text-refusal}
 use Rattle.memo.specs.declared.MemoPlace.{MemoPlace}
 use Rattle.memo.specs.declared.MemoPlace.the-variants as memo
-use Rattle.table.specs.Table.{typeC, typeM, fieldType, fieldLength, fieldDecimals, fieldCount, recordCount, deletionByte, numberGood, firstRefusal, tableChecks}
+use Rattle.field.specs.Field.{numberGood}
+use Rattle.table.specs.Table.{typeC, typeM, fieldType, fieldLength, fieldDecimals, fieldCount, recordCount, deletionByte, firstRefusal, tableChecks}
 use Rattle.cell.specs.Cell.{readsType, markGood, cellRefusal, fieldStart, fieldBytes, numberCell, dateCell, letterT, letterF, logicalOf, logicalCell, memoPart, textAt, textCell}
 use Rattle.cell.specs.Codes.{emptyCode}
 use Rattle.cell.specs.declared.Reads.{Reads}

@@ -15,8 +15,8 @@ use Rattle.numeral.specs.declared.Number.the-variants as number
 use Rattle.memo.specs.Memo.{memoText}
 use Rattle.memo.specs.declared.MemoPlace.{MemoPlace}
 use Rattle.memo.specs.declared.MemoPlace.the-variants as memo
-use Rattle.table.specs.Table.{typeC, typeN, typeD, typeL, typeM, keptMark, deletedMark, fieldType, fieldLength, fieldDecimals, fieldOffset, fieldCount, recordCount, recordStart, deletionByte, numberGood, firstRefusal, tableChecks}
-use Rattle.field.specs.Field.{placeAt}
+use Rattle.table.specs.Table.{typeC, typeN, typeD, typeL, typeM, keptMark, deletedMark, fieldType, fieldLength, fieldDecimals, fieldOffset, fieldCount, recordCount, recordStart, deletionByte, firstRefusal, tableChecks}
+use Rattle.field.specs.Field.{placeAt, numberGood}
 use Rattle.field.specs.declared.Placed.{Placed}
 use Rattle.field.specs.declared.Placed.the-variants as placed
 use Rattle.cell.specs.declared.Reads.{Reads}

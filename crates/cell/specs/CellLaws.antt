@@ -11,10 +11,10 @@ use Rattle.basis.specs.Tests.{either}
 use Rattle.basis.specs.Lists.{All, all-append}
 use Rattle.octets.specs.Bytes.{byteAt}
 use Rattle.octets.specs.Store.{window}
-use Rattle.table.specs.Table.{typeC, typeL, fieldType, fieldLength, fieldDecimals, fieldCount, recordCount, deletionByte, numberGood, firstRefusal, tableChecks}
+use Rattle.table.specs.Table.{typeC, typeL, fieldType, fieldLength, fieldDecimals, fieldCount, recordCount, deletionByte, firstRefusal, tableChecks}
 use Rattle.table.specs.TableLaws.{layout, table-numbered, first-after, first-before, first-both, first-none}
 use Rattle.table.specs.FormLaws.{field-form, form-logical}
-use Rattle.field.specs.Field.{placeAt, placeOf, placeRefusal, formOf}
+use Rattle.field.specs.Field.{placeAt, placeOf, placeRefusal, formOf, numberGood}
 use Rattle.field.specs.FieldLaws.{placed-at, placed-refused, place-good, place-inside}
 use Rattle.field.specs.declared.Place.{Place}
 use Rattle.field.specs.declared.Placed.the-variants.{At, Refused}

@@ -12,10 +12,11 @@ use borrow.Author.Tests.{eqb-true}
 use Rattle.basis.specs.Tests.{either}
 use Rattle.octets.specs.Store.{put}
 use Rattle.octets.specs.StoreLaws.{length-put, put-one, getD-put-low, getD-put-high, window-after}
-use Rattle.table.specs.Table.{typeC, fieldType, fieldLength, fieldCount, headerLength, recordLength, recordCount, recordsEnd, recordStart, deletionByte, numberGood, firstRefusal, tableChecks, tableRefusal}
-use Rattle.table.specs.TableLaws.{layout, number-range}
+use Rattle.field.specs.Field.{numberGood}
+use Rattle.table.specs.Table.{typeC, fieldType, fieldLength, fieldCount, headerLength, recordLength, recordCount, recordsEnd, recordStart, deletionByte, firstRefusal, tableChecks, tableRefusal}
+use Rattle.table.specs.TableLaws.{layout}
 use Rattle.table.specs.RecordLaws.{offset-positive, record-positive}
-use Rattle.field.specs.FieldLaws.{place-good}
+use Rattle.field.specs.FieldLaws.{place-good, number-range}
 use Rattle.memo.specs.Memo.{memoText}
 use Rattle.memo.specs.declared.MemoPlace.{MemoPlace}
 use Rattle.memo.specs.declared.MemoPlace.the-variants.{Text, Empty, Refused}

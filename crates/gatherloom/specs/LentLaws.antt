@@ -13,12 +13,12 @@ use lib.Dec.{eqb, leb, lit<}
 use borrow.Author.Tests.{le-leb, lt-leb, leb-true, eqb-true, eqb-false, ne-eqb}
 use Rattle.basis.specs.Tests.{either}
 use Rattle.basis.specs.Lists.{All}
-use Rattle.table.specs.Table.{descriptor, maxFields, fieldCount, recordCount, deletionByte, keptMark, deletedMark, numberGood, firstRefusal, tableChecks, tableRefusal, checkTable}
+use Rattle.table.specs.Table.{descriptor, maxFields, fieldCount, recordCount, deletionByte, keptMark, deletedMark, firstRefusal, tableChecks, tableRefusal, checkTable}
 use Rattle.table.specs.TableLaws.{layout, table-numbered, first-after, first-both, first-none, good-shape, good-then, refused-then, refused-check}
 use Rattle.table.specs.RecordLaws.{descriptor-inside}
 use Rattle.table.specs.declared.Shape.{Shape}
 use Rattle.table.specs.declared.Checked.the-variants.{Good, Refused as TableRefused}
-use Rattle.field.specs.Field.{entryOf, fieldRefusal, fieldAnswer}
+use Rattle.field.specs.Field.{entryOf, fieldRefusal, fieldAnswer, numberGood}
 use Rattle.field.specs.declared.FieldEntry.{FieldEntry}
 use Rattle.walk.specs.Walk.{walkFrom, walkStep}
 use Rattle.walk.specs.declared.Position.{Position}
