@@ -1,10 +1,11 @@
--- Laws: lookup and insertion in ascending lists of pairs, and their first and last keys. Cited by the laws of ordered trees. Assumes nothing.
-use mathlib.Core.Path.{_≡_, refl, sym, ap, subst}
+-- Laws: lookup and insertion in ascending lists of pairs, and their first and
+-- last keys. Cited by the laws of ordered trees. Assumes nothing.
+use mathlib.Core.Path.{_≡_, refl, sym, ap, _∙_, subst}
 use mathlib.Core.List.{List, [], _∷_, _++_}
 use mathlib.Core.Option.{Option, none, some}
 use Rattle.basis.specs.Lists.{All, all-append, all-left, all-map}
 use Rattle.basis.specs.Tests.{either, contra}
-use Rattle.tree.specs.Lists.{NonEmpty}
+use Rattle.tree.specs.Lists.{NonEmpty, concatMap}
 use Rattle.tree.specs.Order.{Order, Le, Lt}
 use Rattle.tree.specs.OrderLaws.{le-refl, lt-le, lt-le-trans, le-lt-trans}
 use Rattle.tree.specs.Pairs.{follow, firstKey, lastKey, seek, ifEqual, find, get, insertPair, Below, Above, Ascending}
@@ -22,13 +23,21 @@ pub lastKey-all : {K C : Type 0} (P : K → Type 0) (a : K) (xs : List (K × C))
 lastKey-all P a [] p q = p
 lastKey-all P a (x ∷ xs) p q = lastKey-all P (x .0) xs (q .0) (q .1)
 
+-- the last key of joined lists, each of which ends with the key that it stands under
+pub lastKey-concatMap : {K C D : Type 0} (under : K × C → List (K × D)) (b : K) (xs : List (K × C)) →
+    All (λ x. (a : K) → lastKey a (under x) ≡ x .0) xs → lastKey b (concatMap under xs) ≡ lastKey b xs
+lastKey-concatMap under b [] g = refl
+lastKey-concatMap under b (x ∷ xs) g =
+    lastKey-append b (under x) (concatMap under xs)
+    ∙ (ap (λ a. lastKey a (concatMap under xs)) (g .0 b) ∙ lastKey-concatMap under (x .0) xs (g .1))
+
 pub firstKey-append : {K C : Type 0} (a : K) (xs ys : List (K × C)) → NonEmpty xs → firstKey a (xs ++ ys) ≡ firstKey a xs
 firstKey-append a [] ys s = absurd s
 firstKey-append a (x ∷ xs) ys s = refl
 
 module _ {K : Type 0} (O : Order K) where
   -- a list that is all below the key is passed over; one that is all above what is at or above the key is not reached
-  pub seek-past : {C : Type 0} (k a : K) (xs ys : List (K × C)) → Lt O a k → Below O a xs → seek O k (xs ++ ys) ≡ seek O k ys
+  seek-past : {C : Type 0} (k a : K) (xs ys : List (K × C)) → Lt O a k → Below O a xs → seek O k (xs ++ ys) ≡ seek O k ys
   seek-past k a [] ys h b = refl
   seek-past k a (x ∷ xs) ys h b =
       let e : Lt O (x .0) k = le-lt-trans O (x .0) a k (b .0) h in
@@ -37,7 +46,7 @@ module _ {K : Type 0} (O : Order K) where
   pub find-past : {C : Type 0} (k a : K) (xs ys : List (K × C)) → Lt O a k → Below O a xs → find O k (xs ++ ys) ≡ find O k ys
   find-past k a xs ys h b = ap (follow (ifEqual O k)) (seek-past k a xs ys h b)
 
-  pub find-none : {C : Type 0} (k a : K) (ys : List (K × C)) → Le O k a → Above O a ys → find O k ys ≡ none
+  find-none : {C : Type 0} (k a : K) (ys : List (K × C)) → Le O k a → Above O a ys → find O k ys ≡ none
   find-none k a [] h v = refl
   find-none k a (y ∷ ys) h v =
       let f : Lt O k (y .0) = le-lt-trans O k a (y .0) h (v .0) in
@@ -83,7 +92,8 @@ module _ {K : Type 0} (O : Order K) where
       either (O .le k (x .0)) (λ e. rw e) (λ e. rw e (ap (λ l. x ∷ l) (insertPair-here k r a xs ys h v)))
 
   -- what holds of the new pair and of all the old ones holds of all
-  pub insertPair-all : {C : Type 0} (P : K × C → Type 0) (k : K) (r : C) (xs : List (K × C)) → P (k, r) → All P xs → All P (insertPair O k r xs)
+  pub insertPair-all : {C : Type 0} (P : K × C → Type 0) (k : K) (r : C) (xs : List (K × C)) → P (k, r) → All P xs →
+      All P (insertPair O k r xs)
   insertPair-all P k r [] n o = (n, tt)
   insertPair-all P k r (x ∷ xs) n o = either (O .le k (x .0)) (λ e. rw e (n, o)) (λ e. rw e (o .0, insertPair-all P k r xs n (o .1)))
 

@@ -1,4 +1,5 @@
--- Rules: lists of pairs, a key and what stands under it, by an order of keys. Cited by the rules of trees, of sound indexes and of the book.
+-- Rules: lists of pairs, a key and what stands under it, by an order of keys.
+-- Cited by the rules of trees, of sound indexes and of the book.
 use mathlib.Core.Bool.{cond, _&&_}
 use mathlib.Core.List.{List, [], _∷_}
 use mathlib.Core.Option.{Option, none, some}

@@ -1,0 +1,104 @@
+-- Rules: the book of demand 3, and the one claim about a whole list of calls. Cited by the theorem that the library keeps it.
+use mathlib.Core.Path.{_≡_}
+use mathlib.Core.Bool.{Bool, true, false, cond, not}
+use mathlib.Core.List.{List, [], _∷_}
+use mathlib.Core.Option.{Option, none, some}
+use Prim.Native.Nat.{ℕ}
+use lib.Dec.{eqb}
+use Rattle.tree.specs.Order.{Order}
+use Rattle.tree.specs.Pairs.{get, insertPair}
+
+-- "the arguments of each call, the buffer left out"
+pub data Call (K : Type 0) : Type 0 where
+  insertion : K → ℕ → Call K
+  lookupOf : K → Call K
+
+-- a refusal with its number; an insertion's yes; a lookup's record, or absent
+pub data Answer : Type 0 where
+  refused : ℕ → Answer
+  accepted : Answer
+  found : ℕ → Answer
+  absent : Answer
+
+-- a refusal where a test holds, else the answer that is given
+abbrev pub refusedIf : Bool → ℕ → Answer → Answer
+refusedIf true n a = refused n
+refusedIf false n a = a
+
+abbrev pub isPresent : Option ℕ → Bool
+isPresent none = false
+isPresent (some r) = true
+
+-- insertion: "a key not of k bytes is 27, else record number 0 is 28, else a key in the book 29"; then 30 or accepted
+abbrev pub verdict : Bool → ℕ → Option ℕ → Bool → Answer
+verdict fits r held full =
+    refusedIf (not fits) 27 (refusedIf (eqb r 0) 28 (refusedIf (isPresent held) 29 (refusedIf full 30 accepted)))
+
+-- lookup: "a key not of k bytes is 27, one in the book gives its record, any other is absent"
+abbrev pub foundOrAbsent : Option ℕ → Answer
+foundOrAbsent none = absent
+foundOrAbsent (some r) = found r
+
+abbrev pub finding : Bool → Option ℕ → Answer
+finding fits held = refusedIf (not fits) 27 (foundOrAbsent held)
+
+-- an answer is 30; an answer is yes
+abbrev pub noRoom : Answer → Bool
+noRoom (refused n) = eqb n 30
+noRoom accepted = false
+noRoom (found r) = false
+noRoom absent = false
+
+abbrev pub isAccepted : Answer → Bool
+isAccepted (refused n) = false
+isAccepted accepted = true
+isAccepted (found r) = false
+isAccepted absent = false
+
+-- "of the answers, only whether an insertion was 30"
+abbrev pub noRooms : List Answer → List Bool
+noRooms [] = []
+noRooms (a ∷ rest) = noRoom a ∷ noRooms rest
+
+-- a list of calls made one after another on a state: what f gives for each call on the state that it is lent, and the state after all
+abbrev pub resultsOf : {K B X : Type 0} → (Call K → B → X) → (Call K → B → B) → List (Call K) → B → List X
+resultsOf f next [] b = []
+resultsOf f next (c ∷ cs) b = f c b ∷ resultsOf f next cs (next c b)
+
+abbrev pub finalOf : {K B : Type 0} → (Call K → B → B) → List (Call K) → B → B
+finalOf next [] b = b
+finalOf next (c ∷ cs) b = finalOf next cs (next c b)
+
+module _ {K : Type 0} (O : Order K) (fits : K → Bool) where
+  -- the book's answer to a call, given whether that was 30
+  abbrev pub bookAnswer : Call K → Bool → List (K × ℕ) → Answer
+  bookAnswer (insertion k r) full book = verdict (fits k) r (get O k book) full
+  bookAnswer (lookupOf k) full book = finding (fits k) (get O k book)
+
+  -- the book after a call: "none of these changes the book, nor does 30. Otherwise it is accepted and its pair goes in"
+  abbrev pub bookAfter : Call K → Bool → List (K × ℕ) → List (K × ℕ)
+  bookAfter (insertion k r) full book = cond (isAccepted (verdict (fits k) r (get O k book) full)) (insertPair O k r book) book
+  bookAfter (lookupOf k) full book = book
+
+  -- the book's answers to a list of calls, and the book after it
+  abbrev pub bookAnswers : List (Call K) → List Bool → List (K × ℕ) → List Answer
+  bookAnswers [] fs book = []
+  bookAnswers (c ∷ cs) [] book = []
+  bookAnswers (c ∷ cs) (f ∷ fs) book = bookAnswer c f book ∷ bookAnswers cs fs (bookAfter c f book)
+
+  abbrev pub bookFinal : List (Call K) → List Bool → List (K × ℕ) → List (K × ℕ)
+  bookFinal [] fs book = book
+  bookFinal (c ∷ cs) [] book = book
+  bookFinal (c ∷ cs) (f ∷ fs) book = bookFinal cs fs (bookAfter c f book)
+
+  -- "one claim about the whole list", of calls that answer and change a state;
+  -- `leaves` are the state's leaf pairs, `full` is the rule for 30
+  pub record BookClaim {B : Type 0} (answer : Call K → B → Answer) (next : Call K → B → B) (leaves : B → List (K × ℕ))
+      (full : Call K → B → Bool)
+      (cs : List (Call K)) (b : B) : Type 0 where
+    -- "every call answers so, never 24 or 25"
+    pub answers : resultsOf answer next cs b ≡ bookAnswers cs (noRooms (resultsOf answer next cs b)) (leaves b)
+    -- "an insertion not refused so is 30 exactly when the rule above, on the index lent to it, says so"
+    pub room : resultsOf answer next cs b ≡ bookAnswers cs (resultsOf full next cs b) (leaves b)
+    -- "the leaves' entries, left to right, are the book's pairs"
+    pub pairs : leaves (finalOf next cs b) ≡ bookFinal cs (noRooms (resultsOf answer next cs b)) (leaves b)

@@ -1,0 +1,84 @@
+-- Rules: an index as a tree with its file size, the rule for refusal 30, and the
+-- calls on it. The index in a buffer is read as such an index.
+use mathlib.Core.Bool.{Bool, false, cond, _||_}
+use mathlib.Core.List.{List, []}
+use Prim.Native.Nat.{ℕ, _+_, _*_}
+use lib.Dec.{ltb}
+use Rattle.tree.specs.Order.{Order}
+use Rattle.tree.specs.Pairs.{find}
+use Rattle.tree.specs.Tree.{Tree, pairs, lookup}
+use Rattle.tree.specs.Clauses.{Links}
+use Rattle.tree.specs.Insertion.{Grown, insert}
+use Rattle.tree.specs.Room.{needs, levelsAfter}
+use Rattle.tree.specs.Relinking.{relinked}
+use Rattle.tree.specs.Book.{Call, insertion, lookupOf, Answer, verdict, finding, isAccepted}
+
+-- "pages of 512 bytes"; a link is "0xFFFFFFFF for none"
+abbrev pub pageSize : ℕ
+pageSize = 512
+
+abbrev pub noPage : ℕ
+noPage = 0xFFFFFFFF
+
+-- the new page taken after j others: "a new page at F, which grows by 512"
+abbrev pub newPage : ℕ → ℕ → ℕ
+newPage size j = size + pageSize * j
+
+-- an index: the levels under the root, the tree, whose pages are named by their offsets, and the file size F
+pub record Index (K : Type 0) : Type 0 where
+  pub height : ℕ
+  pub tree : Tree K height
+  pub size : ℕ
+
+-- its leaf pairs
+abbrev pub held : {K : Type 0} → Index K → List (K × ℕ)
+held i = pairs (i .height) (i .tree)
+
+-- a fresh index: "root 512, F 1,024", and no entry
+abbrev pub fresh : {K : Type 0} → Index K
+fresh = record { height = 0; tree = (pageSize, []); size = 2 * pageSize }
+
+-- an index of file size `size` after its tree has become g
+abbrev pub grown : {K : Type 0} → ℕ → Grown K → Index K
+grown size g = record { height = g .0; tree = g .1; size = newPage size (g .2) }
+
+-- what an index is kept by: the order of keys, which keys are of the right length, the capacity of a
+-- page, and the limits: F must pass neither "the buffer or 1,048,576", and levels not 11
+pub record Setting (K : Type 0) : Type 0 where
+  pub order : Order K
+  pub fits : K → Bool
+  pub capacity : ℕ
+  pub maxSize : ℕ
+  pub maxLevels : ℕ
+
+module _ {K : Type 0} (s : Setting K) where
+  -- "30 is given exactly when F would pass the buffer or 1,048,576, or levels would pass 11"
+  abbrev pub outOfRoom : K → Index K → Bool
+  outOfRoom k i =
+      ltb (s .maxSize) (newPage (i .size) (needs (s .order) (s .capacity) k (i .height) (i .tree)))
+      || ltb (s .maxLevels) (levelsAfter (s .order) (s .capacity) k (i .height) (i .tree))
+
+  abbrev pub full : Call K → Index K → Bool
+  full (insertion k r) i = outOfRoom k i
+  full (lookupOf k) i = false
+
+  -- the answer to a call
+  abbrev pub answer : Call K → Index K → Answer
+  answer (insertion k r) i = verdict (s .fits k) r (find (s .order) k (held i)) (outOfRoom k i)
+  answer (lookupOf k) i = finding (s .fits k) (lookup (s .order) k (i .height) (i .tree))
+
+  -- the index after an accepted insertion, and after a call
+  abbrev pub inserted : K → ℕ → Index K → Index K
+  inserted k r i = grown (i .size) (insert (s .order) (s .capacity) (newPage (i .size)) k r (i .height) (i .tree))
+
+  abbrev pub next : Call K → Index K → Index K
+  next (insertion k r) i = cond (isAccepted (answer (insertion k r) i)) (inserted k r i) i
+  next (lookupOf k) i = i
+
+  -- the links after a call
+  abbrev pub nextLinks : Call K → Index K → Links → Links
+  nextLinks (insertion k r) i l =
+      cond (isAccepted (answer (insertion k r) i))
+      (relinked (s .order) noPage (newPage (i .size)) (s .capacity) k (i .height) (i .tree)
+      (insert (s .order) (s .capacity) (newPage (i .size)) k r (i .height) (i .tree)) l) l
+  nextLinks (lookupOf k) i l = l

@@ -1,0 +1,133 @@
+-- Laws: the pages after an insertion are the old ones and the new ones, each as often as
+-- before. Cited by the laws of sound indexes and of stores. Assumes nothing.
+use mathlib.Core.Path.{_≡_, refl, sym, ap, _∙_}
+use mathlib.Core.List.{List, [], _∷_, append-nil}
+use Prim.Native.Nat.{ℕ, zero, suc, _+_, _≤_, _<_}
+use native.Mathlib.Omega.{arith}
+use lib.ListN.{length, take, drop, take-append-drop}
+use lib.Dec.{leb, eqb}
+use borrow.Author.Tests.{ne-eqb}
+use Rattle.basis.specs.Tests.{either}
+use Rattle.tree.specs.Lists.{NonEmpty, concatMap, countIf, occ}
+use Rattle.tree.specs.ListLaws.{concatMap-append, occ-append, occ-differ}
+use Rattle.tree.specs.Order.{Order, larger}
+use Rattle.tree.specs.Pairs.{lastKey}
+use Rattle.tree.specs.Tree.{Page, Child, Entry, Tree, pagesUnder, pages}
+use Rattle.tree.specs.Insertion.{Replacement, half, splitIfOver, firstPair, place, grownPages, reroot, insertUnder, insertEntries}
+use Rattle.tree.specs.Insertion.{insert}
+use Rattle.tree.specs.SplitLaws.{splitIfOver-nonEmpty}
+
+-- the first n new pages
+abbrev pub newPages : (ℕ → ℕ) → ℕ → List ℕ
+newPages name zero = []
+newPages name (suc n) = name n ∷ newPages name n
+
+-- every number stands in a list at most once; no new page stands in it; new pages differ
+abbrev pub Distinct : List ℕ → Type 0
+Distinct l = (z : ℕ) → occ z l ≤ 1
+
+abbrev pub Unused : (ℕ → ℕ) → List ℕ → Type 0
+Unused name l = (i : ℕ) → occ (name i) l ≡ 0
+
+abbrev pub Injective : (ℕ → ℕ) → Type 0
+Injective name = (i j : ℕ) → name i ≡ name j → i ≡ j
+
+-- new pages that are not in a list are none of its members, and names that differ make new pages that differ
+pub newPages-apart : (name : ℕ → ℕ) (l : List ℕ) → Unused name l → (z n : ℕ) → 0 < occ z l → occ z (newPages name n) ≡ 0
+newPages-apart name l f z zero i = refl
+newPages-apart name l f z (suc n) i =
+    rw (ne-eqb z (name n) (λ e. occ-differ (name n) z l (f n) i (sym e))) (omega (arith, newPages-apart name l f z n i))
+
+pub newPages-fresh : (name : ℕ → ℕ) → Injective name → (m n : ℕ) → n ≤ m → occ (name m) (newPages name n) ≡ 0
+newPages-fresh name inj m zero l = refl
+newPages-fresh name inj m (suc n) l =
+    rw (ne-eqb (name m) (name n) (λ e. let d : m ≡ n = inj m n e in omega arith)) (omega (arith, newPages-fresh name inj m n (omega arith)))
+
+-- the pages at and under a page, by those under its entries
+abbrev pageAndUnder : {K C : Type 0} → (K × C → List ℕ) → K × Page K C → List ℕ
+pageAndUnder under x = x .1 .0 ∷ concatMap under (x .1 .1)
+
+pub splitIfOver-pages : {K C : Type 0} (cap : ℕ) (name : ℕ → ℕ) (under : K × C → List ℕ) (z : ℕ) (a : K) (p : ℕ) (q : Replacement K C) →
+    occ z (concatMap (pageAndUnder under) (splitIfOver cap name a p q .0)) + occ z (newPages name (q .1))
+    ≡ countIf (eqb z p) + occ z (concatMap under (q .0)) + occ z (newPages name (splitIfOver cap name a p q .1))
+splitIfOver-pages cap name under z a p q = either (leb (length (q .0)) cap)
+    (λ f. rw f (rw (append-nil (concatMap under (q .0))) (omega arith)))
+    (λ f. rw f (
+    let lower : List ℕ = concatMap under (take (half (length (q .0))) (q .0)) in
+    let upper : List ℕ = concatMap under (drop (half (length (q .0))) (q .0)) in
+    let e : occ z (concatMap under (q .0)) ≡ occ z lower + occ z upper =
+    ap (λ l. occ z (concatMap under l)) (sym (take-append-drop (half (length (q .0))) (q .0)))
+    ∙ (ap (occ z) (concatMap-append under (take (half (length (q .0))) (q .0)) (drop (half (length (q .0))) (q .0)))
+    ∙ occ-append z lower upper) in
+    rw (append-nil upper) (omega (arith, occ-append z lower (name (q .1) ∷ upper)))))
+
+-- one level of insertion, abstract in what lies below
+place-pages : {K C : Type 0} (O : Order K) (k : K) (g : K × C → ℕ → Replacement K C) (name : ℕ → ℕ) (under : K × C → List ℕ) (z : ℕ) →
+    ((x : K × C) (n : ℕ) → occ z (concatMap under (g x n .0)) + occ z (newPages name n)
+    ≡ occ z (under x) + occ z (newPages name (g x n .1))) →
+    (x : K × C) (xs : List (K × C)) (n : ℕ) →
+    occ z (concatMap under (place O k g x xs n .0)) + occ z (newPages name n)
+    ≡ occ z (concatMap under (x ∷ xs)) + occ z (newPages name (place O k g x xs n .1))
+place-pages O k g name under z ok x [] n = rw (append-nil (under x)) (ok x n)
+place-pages O k g name under z ok x (y ∷ ys) n =
+    let rest : List ℕ = concatMap under (y ∷ ys) in
+    either (O .le k (x .0))
+    (λ e. rw (e, concatMap-append under (g x n .0) (y ∷ ys))
+    (omega (arith, ok x n, occ-append z (concatMap under (g x n .0)) rest, occ-append z (under x) rest)))
+    (λ e. rw e (omega (
+      arith,
+      place-pages O k g name under z ok y ys n,
+      occ-append z (under x) (concatMap under (place O k g y ys n .0)),
+      occ-append z (under x) rest,
+    )))
+
+firstPair-pages : {K : Type 0} (k : K) (r z h : ℕ) → occ z (concatMap (pagesUnder h) (firstPair k r h)) ≡ 0
+firstPair-pages k r z zero = refl
+firstPair-pages k r z (suc h) = refl
+
+reroot-pages : {K : Type 0} (name : ℕ → ℕ) (z h : ℕ) (t : Tree K h) (xs : List (Entry K (suc h))) (n : ℕ) → NonEmpty xs →
+    occ z (grownPages (reroot name h t xs n)) + occ z (newPages name n)
+    ≡ occ z (concatMap (pagesUnder (suc h)) xs) + occ z (newPages name (reroot name h t xs n .2))
+reroot-pages name z h t [] n s = absurd s
+reroot-pages name z h t (x ∷ []) n s = rw (append-nil (concatMap (pagesUnder h) (x .1 .1)))
+reroot-pages name z h t (x ∷ y ∷ ys) n s = omega arith
+
+module _ {K : Type 0} (O : Order K) (cap : ℕ) (name : ℕ → ℕ) (k : K) (r z : ℕ) where
+  insertAmong-pages : (h : ℕ) →
+      ((x : Entry K h) (n : ℕ) → occ z (concatMap (pagesUnder h) (insertUnder O cap name k r h x n .0)) + occ z (newPages name n)
+      ≡ occ z (pagesUnder h x) + occ z (newPages name (insertUnder O cap name k r h x n .1))) →
+      (xs : List (Entry K h)) (n : ℕ) →
+      occ z (concatMap (pagesUnder h) (insertEntries O cap name k r h xs n .0)) + occ z (newPages name n)
+      ≡ occ z (concatMap (pagesUnder h) xs) + occ z (newPages name (insertEntries O cap name k r h xs n .1))
+  insertAmong-pages h ok [] n = omega (arith, firstPair-pages k r z h)
+  insertAmong-pages h ok (x ∷ xs) n = place-pages O k (insertUnder O cap name k r h) name (pagesUnder h) z ok x xs n
+
+  insertUnder-pages : (h : ℕ) (x : Entry K h) (n : ℕ) →
+      occ z (concatMap (pagesUnder h) (insertUnder O cap name k r h x n .0)) + occ z (newPages name n)
+      ≡ occ z (pagesUnder h x) + occ z (newPages name (insertUnder O cap name k r h x n .1))
+  insertUnder-pages zero x n = either (O .le k (x .0)) (λ e. rw e) (λ e. rw e)
+  insertUnder-pages (suc h) x n =
+      let q : Replacement K (Child K h) = insertEntries O cap name k r h (x .1 .1) n in
+      omega (
+        arith,
+        splitIfOver-pages cap name (pagesUnder h) z (larger O (x .0) k) (x .1 .0) q,
+        insertAmong-pages h (insertUnder-pages h) (x .1 .1) n,
+      )
+
+  pub insertEntries-pages : (h : ℕ) (xs : List (Entry K h)) (n : ℕ) →
+      occ z (concatMap (pagesUnder h) (insertEntries O cap name k r h xs n .0)) + occ z (newPages name n)
+      ≡ occ z (concatMap (pagesUnder h) xs) + occ z (newPages name (insertEntries O cap name k r h xs n .1))
+  insertEntries-pages h xs n = insertAmong-pages h (insertUnder-pages h) xs n
+
+  -- Theorem: the pages after an insertion
+  pub insert-pages : (h : ℕ) (t : Tree K h) →
+      occ z (grownPages (insert O cap name k r h t)) ≡ occ z (pages h t) + occ z (newPages name (insert O cap name k r h t .2))
+  insert-pages h t =
+      let q : Replacement K (Child K h) = insertEntries O cap name k r h (t .1) 0 in
+      let w : Replacement K (Child K (suc h)) = splitIfOver cap name (lastKey k (q .0)) (t .0) q in
+      omega (
+        arith,
+        reroot-pages name z h t (w .0) (w .1) (splitIfOver-nonEmpty cap name (lastKey k (q .0)) (t .0) q),
+        splitIfOver-pages cap name (pagesUnder h) z (lastKey k (q .0)) (t .0) q,
+        insertEntries-pages h (t .1) 0,
+      )

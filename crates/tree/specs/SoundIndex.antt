@@ -1,0 +1,35 @@
+-- Laws: what every call keeps of an index: the theory's form of a sound index,
+-- to which the laws of bytes take document 01's. Assumes nothing.
+use mathlib.Core.Path.{_≡_}
+use Prim.Native.Nat.{ℕ, suc, _%_, _≤_, _<_}
+use Rattle.basis.specs.Lists.{All}
+use Rattle.tree.specs.Lists.{occ}
+use Rattle.tree.specs.Tree.{pages}
+use Rattle.tree.specs.Clauses.{Sized, Links, AllLinked}
+use Rattle.tree.specs.Ordered.{Rooted, Ordered}
+use Rattle.tree.specs.Exact.{Exact}
+use Rattle.tree.specs.Index.{pageSize, noPage, Index, held, Setting}
+
+-- "every page but the first is reached from the root exactly once": the pages of the file are the multiples of 512 below F
+pub record PagesOnce {K : Type 0} (i : Index K) : Type 0 where
+  pub positive : 0 < i .size
+  pub aligned : i .size % pageSize ≡ 0
+  pub header : occ 0 (pages (i .height) (i .tree)) ≡ 0
+  pub once : (z : ℕ) → 0 < z → z < i .size → z % pageSize ≡ 0 → occ z (pages (i .height) (i .tree)) ≡ 1
+  pub unaligned : (z : ℕ) → (z % pageSize ≡ 0 → ⊥) → occ z (pages (i .height) (i .tree)) ≡ 0
+  pub beyond : (z : ℕ) → i .size ≤ z → occ z (pages (i .height) (i .tree)) ≡ 0
+
+-- what the calls keep; `exact` is all that a release with ceilings drops
+pub record SoundIndex {K : Type 0} (s : Setting K) (i : Index K) : Type 0 where
+  pub rooted : Rooted (i .height) (i .tree)
+  pub ordered : Ordered (s .order) (i .height) (i .tree)
+  pub exact : Exact (i .height) (i .tree)
+  pub sized : Sized (s .capacity) (i .height) (i .tree)
+  pub pagesOnce : PagesOnce i
+  pub records : All (λ e. 0 < e .1) (held i)
+  pub withinSize : i .size ≤ s .maxSize
+  pub withinLevels : suc (i .height) ≤ s .maxLevels
+
+-- left and right name the neighbours on each level
+abbrev pub LinkedIndex : {K : Type 0} → Links → Index K → Type 0
+LinkedIndex l i = AllLinked noPage l (i .height) (i .tree)
