@@ -1,0 +1,5 @@
+pub mod Layout
+pub mod Insertion
+pub mod Room
+pub mod Calls
+pub mod Fresh

@@ -1,0 +1,176 @@
+-- Laws: the audit's tests of entries, page after page, say that leaf keys ascend and record numbers are above 0, and that keys above are the last of their
+-- pages. Cited by the laws of levels. Assumes nothing.
+use Prim.Native.Nat.{ℕ, _<_}
+use mathlib.Core.Path.{_≡_, refl, sym, ap, _∙_, subst}
+use mathlib.Core.List.{List, [], _∷_, _++_}
+use mathlib.Core.Bool.{Bool, true, false, not, _&&_}
+use mathlib.Core.Option.{Option, none, some}
+use native.Mathlib.Omega.{arith}
+use lib.Dec.{eqb}
+use borrow.Author.Tests.{ne-eqb, eqb-false, not-true}
+use Rattle.basis.specs.Lists.{All, all-append, all-left, all-right}
+use Rattle.basis.specs.Tests.{contra, both, join}
+use Rattle.octets.specs.Order.{bytesLe, ordering, isEqual}
+use Rattle.tree.specs.Lists.{NonEmpty, concatMap}
+use Rattle.tree.specs.Order.{Lt}
+use Rattle.tree.specs.OrderLaws.{lt-le}
+use Rattle.tree.specs.Pairs.{lastKey, Above, Ascending}
+use Rattle.tree.specs.PairLaws.{above-down}
+use Rattle.page.specs.Page.{leafBit}
+use Rattle.page.specs.KeyOrder.{bytesOrder, below-not-le, equal-same, equal-refl}
+use Rattle.page.specs.Reading.{entriesAt}
+use Rattle.sound.specs.Rule.{Entries, lastOf, isAbove, isSame, leafEntries, upperEntries, entriesFit}
+use Rattle.sound.specs.Levels.{Top, append-nil}
+use Rattle.sound.specs.RunLaws.{Checked}
+
+-- a key is above another, where there is one
+abbrev After : Option (List ℕ) → List ℕ → Type 0
+After none x = Unit {0}
+After (some a) x = Lt bytesOrder a x
+
+-- each key is above the one before it, and each record number above 0
+abbrev pub Climbs : Option (List ℕ) → Entries → Type 0
+Climbs o [] = Unit {0}
+Climbs o (e ∷ es) = After o (e .0) × (0 < e .1) × Climbs (some (e .0)) es
+
+climbs-join : (o : Option (List ℕ)) (xs ys : Entries) → Climbs o xs → Climbs (lastOf o xs) ys → Climbs o (xs ++ ys)
+climbs-join o [] ys c d = d
+climbs-join o (x ∷ xs) ys c d = (c .0, c .1, climbs-join (some (x .0)) xs ys (c .2) d)
+
+climbs-left : (o : Option (List ℕ)) (xs ys : Entries) → Climbs o (xs ++ ys) → Climbs o xs
+climbs-left o [] ys c = tt
+climbs-left o (x ∷ xs) ys c = (c .0, c .1, climbs-left (some (x .0)) xs ys (c .2))
+
+climbs-right : (o : Option (List ℕ)) (xs ys : Entries) → Climbs o (xs ++ ys) → Climbs (lastOf o xs) ys
+climbs-right o [] ys c = c
+climbs-right o (x ∷ xs) ys c = climbs-right (some (x .0)) xs ys (c .2)
+
+climbs-above : (a : List ℕ) (xs : Entries) → Climbs (some a) xs → Above bytesOrder a xs
+climbs-above a [] c = tt
+climbs-above a (x ∷ xs) c = (c .0, above-down bytesOrder (x .0) a (lt-le bytesOrder a (x .0) (c .0)) xs (climbs-above (x .0) xs (c .2)))
+
+-- the two clauses on leaf entries
+pub climbs-ascend : (o : Option (List ℕ)) (xs : Entries) → Climbs o xs → Ascending bytesOrder xs × All (λ e. 0 < e .1) xs
+climbs-ascend o [] c = (tt, tt)
+climbs-ascend o (x ∷ xs) c =
+    let ih = climbs-ascend (some (x .0)) xs (c .2) in
+    ((climbs-above (x .0) xs (c .2), ih .0), (c .1, ih .1))
+
+ascend-after : (o : Option (List ℕ)) (xs : Entries) → All (λ e. After o (e .0)) xs → Ascending bytesOrder xs → All (λ e. 0 < e .1) xs → Climbs o xs
+ascend-after o [] f a r = tt
+ascend-after o (x ∷ xs) f a r = (f .0, r .0, ascend-after (some (x .0)) xs (a .0) (a .1) (r .1))
+
+after-none : (xs : Entries) → All (λ e. After none (e .0)) xs
+after-none [] = tt
+after-none (x ∷ xs) = (tt, after-none xs)
+
+pub ascend-climbs : (xs : Entries) → Ascending bytesOrder xs → All (λ e. 0 < e .1) xs → Climbs none xs
+ascend-climbs xs a r = ascend-after none xs (after-none xs) a r
+
+-- the test of a leaf's entries
+above-after : (o : Option (List ℕ)) (x : List ℕ) → isAbove o x ≡ true → After o x
+above-after none x h = tt
+above-after (some a) x h = not-true _ (sym (below-not-le a x) ∙ h)
+
+after-above : (o : Option (List ℕ)) (x : List ℕ) → After o x → isAbove o x ≡ true
+after-above none x h = refl
+after-above (some a) x h = below-not-le a x ∙ ap not h
+
+not-zero : (n : ℕ) → not (eqb n 0) ≡ true → 0 < n
+not-zero n h = omega (arith, eqb-false n 0 (not-true _ h))
+
+leaf-climbs : (o : Option (List ℕ)) (xs : Entries) → leafEntries o xs ≡ true → Climbs o xs
+unfolding leafEntries
+leaf-climbs o [] h = tt
+leaf-climbs o (x ∷ xs) h =
+    let u = both _ _ h in
+    let v = both _ _ (u .1) in
+    (above-after o (x .0) (v .0), not-zero (x .1) (u .0), leaf-climbs (some (x .0)) xs (v .1))
+
+climbs-leaf : (o : Option (List ℕ)) (xs : Entries) → Climbs o xs → leafEntries o xs ≡ true
+unfolding leafEntries
+climbs-leaf o [] h = refl
+climbs-leaf o (x ∷ xs) h =
+    join _ _ (ap not (ne-eqb (x .1) 0 (omega (arith, h .1)))) (join _ _ (after-above o (x .0) (h .0)) (climbs-leaf (some (x .0)) xs (h .2)))
+
+-- the last key, as an option and beside a default
+last-some : (o : Option (List ℕ)) (a : List ℕ) (xs : Entries) → NonEmpty xs → lastOf o xs ≡ some (lastKey a xs)
+last-some o a [] s = absurd s
+last-some o a (x ∷ []) s = refl
+last-some o a (x ∷ y ∷ xs) s = last-some (some (x .0)) (x .0) (y ∷ xs) tt
+
+-- the test of a key above
+abbrev pub Exactly : (ℕ → Entries) → List ℕ × ℕ → Type 0
+Exactly S e = NonEmpty (S (e .1)) × Top S e
+
+same-exactly : (x : List ℕ) (xs : Entries) → isSame (lastOf none xs) x ≡ true → NonEmpty xs × (lastKey x xs ≡ x)
+same-exactly x [] h = contra h refl
+same-exactly x (y ∷ ys) h = (tt, equal-same _ _ (rw (last-some none x (y ∷ ys) tt) at h))
+
+exactly-same : (x : List ℕ) (xs : Entries) → NonEmpty xs → lastKey x xs ≡ x → isSame (lastOf none xs) x ≡ true
+exactly-same x xs s e = rw (last-some none x xs s, e) (equal-refl x)
+
+upper-exactly : (S : ℕ → Entries) (xs : Entries) → upperEntries S xs ≡ true → All (Exactly S) xs
+unfolding upperEntries
+upper-exactly S [] h = tt
+upper-exactly S (x ∷ xs) h =
+    let u = both _ _ h in
+    (same-exactly (x .0) (S (x .1)) (u .0), upper-exactly S xs (u .1))
+
+exactly-upper : (S : ℕ → Entries) (xs : Entries) → All (Exactly S) xs → upperEntries S xs ≡ true
+unfolding upperEntries
+exactly-upper S [] h = refl
+exactly-upper S (x ∷ xs) h = join _ _ (exactly-same (x .0) (S (x .1)) (h .0 .0) (h .0 .1)) (exactly-upper S xs (h .1))
+
+-- page after page
+module _ (b : List ℕ) (k size a : ℕ) where
+  abbrev S : ℕ → Entries
+  S = entriesAt k size b
+
+  module _ (upper : leafBit a ≡ false) where
+    pub checked-exactly : (last : ℕ) (ps : List ℕ) → Checked b k size a last ps → All (Exactly (entriesAt k size b)) (concatMap (entriesAt k size b) ps)
+    unfolding entriesFit
+    checked-exactly last [] c = tt
+    checked-exactly last (p ∷ ps) c =
+        all-append (Exactly S) (S p) (concatMap S ps) (upper-exactly S (S p) (rw upper at (c .0))) (checked-exactly p ps (c .1))
+
+    pub exactly-checked : (last : ℕ) (ps : List ℕ) → All (Exactly (entriesAt k size b)) (concatMap (entriesAt k size b) ps) → Checked b k size a last ps
+    unfolding entriesFit
+    exactly-checked last [] c = tt
+    exactly-checked last (p ∷ ps) c =
+        (rw upper (exactly-upper S (S p) (all-left (Exactly S) (S p) (concatMap S ps) c)), exactly-checked p ps (all-right (Exactly S) (S p) (concatMap S ps) c))
+
+  module _ (leaf : leafBit a ≡ true) where
+    leaf-page : (last p : ℕ) → entriesFit b k size a last p ≡ true → Climbs (lastOf none (S last)) (S p)
+    unfolding entriesFit
+    leaf-page last p c = leaf-climbs (lastOf none (S last)) (S p) (rw leaf at c)
+
+    page-leaf : (last p : ℕ) → Climbs (lastOf none (S last)) (S p) → entriesFit b k size a last p ≡ true
+    unfolding entriesFit
+    page-leaf last p c = rw leaf (climbs-leaf (lastOf none (S last)) (S p) c)
+
+    -- where every page has an entry
+    next-last : (o : Option (List ℕ)) (p : ℕ) → NonEmpty (S p) → lastOf o (S p) ≡ lastOf none (S p)
+    next-last o p s = last-some o [] (S p) s ∙ sym (last-some none [] (S p) s)
+
+    pub checked-climbs : (last : ℕ) (ps : List ℕ) → All (λ p. NonEmpty (entriesAt k size b p)) ps → Checked b k size a last ps →
+        Climbs (lastOf none (entriesAt k size b last)) (concatMap (entriesAt k size b) ps)
+    checked-climbs last [] s c = tt
+    checked-climbs last (p ∷ ps) s c =
+        climbs-join (lastOf none (S last)) (S p) (concatMap S ps) (leaf-page last p (c .0))
+        (rw (next-last (lastOf none (S last)) p (s .0)) (checked-climbs p ps (s .1) (c .1)))
+
+    pub climbs-checked : (last : ℕ) (ps : List ℕ) → All (λ p. NonEmpty (entriesAt k size b p)) ps →
+        Climbs (lastOf none (entriesAt k size b last)) (concatMap (entriesAt k size b) ps) → Checked b k size a last ps
+    climbs-checked last [] s c = tt
+    climbs-checked last (p ∷ ps) s c = (
+      page-leaf last p (climbs-left (lastOf none (S last)) (S p) (concatMap S ps) c),
+      climbs-checked p ps (s .1) (rw (next-last (lastOf none (S last)) p (s .0)) at (climbs-right (lastOf none (S last)) (S p) (concatMap S ps) c)),
+    )
+
+    -- a lone page, which may have none
+    pub lone-climbs : (last p : ℕ) → Checked b k size a last (p ∷ []) → Climbs (lastOf none (entriesAt k size b last)) (concatMap (entriesAt k size b) (p ∷ []))
+    lone-climbs last p c = climbs-join (lastOf none (S last)) (S p) [] (leaf-page last p (c .0)) tt
+
+    pub climbs-lone : (last p : ℕ) → Climbs (lastOf none (entriesAt k size b last)) (concatMap (entriesAt k size b) (p ∷ [])) → Checked b k size a last (p ∷ [])
+    climbs-lone last p c = (page-leaf last p (climbs-left (lastOf none (S last)) (S p) [] c), tt)

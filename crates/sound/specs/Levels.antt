@@ -1,0 +1,172 @@
+-- Laws: the entries of a store level by level, from a list of entries down, and what they are in the trees that are read there: their levels, pairs and pages,
+-- and what holds at every page. Cited by the laws of sound indexes. Assumes nothing.
+use mathlib.Core.Path.{_≡_, refl, sym, ap, _∙_}
+use mathlib.Core.Bool.{true, false}
+use mathlib.Core.List.{List, [], _∷_, _++_, map, append-assoc}
+use Prim.Native.Nat.{ℕ, zero, suc, _+_, _-_, _≤_, _<_}
+use native.Mathlib.Omega.{arith}
+use lib.ListN.{length, length-map}
+use lib.Dec.{eqb}
+use borrow.Author.Tests.{eqb-true, eqb-false, eq-eqb}
+use Rattle.basis.specs.Tests.{either}
+use Rattle.basis.specs.Lists.{All, all-append, all-left, all-right, all-map}
+use Rattle.tree.specs.Lists.{concatMap, occ}
+use Rattle.tree.specs.ListLaws.{all-unit, all-map2, concatMap-append, concatMap-single, concatMap-none, occ-append}
+use Rattle.tree.specs.Pairs.{lastKey}
+use Rattle.tree.specs.Clauses.{SizedUnder}
+use Rattle.tree.specs.Tree.{Entry, pairsUnder, pagesUnder, levelUnder}
+use Rattle.tree.specs.Exact.{ExactUnder}
+use Rattle.tree.specs.Store.{Store, readEntry}
+use Rattle.tree.specs.StoreLaws.{map-read-zero, lastKey-read}
+
+-- lists
+pub append-nil : {A : Type 0} (xs : List A) → xs ++ [] ≡ xs
+append-nil [] = refl
+append-nil (x ∷ xs) = ap (λ l. x ∷ l) (append-nil xs)
+
+pub map-append : {A B : Type 0} (f : A → B) (xs ys : List A) → map f (xs ++ ys) ≡ map f xs ++ map f ys
+map-append f [] ys = refl
+map-append f (x ∷ xs) ys = ap (λ l. f x ∷ l) (map-append f xs ys)
+
+pub all-to-map : {A B : Type 0} (P : B → Type 0) (f : A → B) (xs : List A) → All (λ x. P (f x)) xs → All P (map f xs)
+all-to-map P f [] a = tt
+all-to-map P f (x ∷ xs) a = (a .0, all-to-map P f xs (a .1))
+
+pub all-of-map : {A B : Type 0} (P : B → Type 0) (f : A → B) (xs : List A) → All P (map f xs) → All (λ x. P (f x)) xs
+all-of-map P f [] a = tt
+all-of-map P f (x ∷ xs) a = (a .0, all-of-map P f xs (a .1))
+
+pub all-to-concat : {A B : Type 0} (P : B → Type 0) (f : A → List B) (xs : List A) → All (λ x. All P (f x)) xs → All P (concatMap f xs)
+all-to-concat P f [] a = tt
+all-to-concat P f (x ∷ xs) a = all-append P (f x) (concatMap f xs) (a .0) (all-to-concat P f xs (a .1))
+
+pub all-of-concat : {A B : Type 0} (P : B → Type 0) (f : A → List B) (xs : List A) → All P (concatMap f xs) → All (λ x. All P (f x)) xs
+all-of-concat P f [] a = tt
+all-of-concat P f (x ∷ xs) a = (all-left P (f x) (concatMap f xs) a, all-of-concat P f xs (all-right P (f x) (concatMap f xs) a))
+
+-- the numbers of entries
+abbrev pub numbers : {K : Type 0} → List (K × ℕ) → List ℕ
+numbers es = map (λ e. e .1) es
+
+module _ {K : Type 0} (S : Store K) where
+  -- the entries of the pages that the entries of a list name, and of those so many levels further down
+  abbrev pub below : List (K × ℕ) → List (K × ℕ)
+  below es = concatMap (λ e. S (e .1)) es
+
+  abbrev pub generation : ℕ → List (K × ℕ) → List (K × ℕ)
+  generation zero es = es
+  generation (suc i) es = generation i (below es)
+
+  -- the pages that the entries name, and those of the levels under them: h levels in all
+  abbrev pub reached : ℕ → List (K × ℕ) → List ℕ
+  reached zero es = []
+  reached (suc h) es = numbers es ++ reached h (below es)
+
+  -- what is joined over the entries of pages is joined over those below
+  join-below : {B : Type 0} (h : ℕ) (g : Entry K h → List B) (es : List (K × ℕ)) → concatMap (λ e. concatMap g (map (readEntry S h) (S (e .1)))) es ≡ concatMap g (map (readEntry S h) (below es))
+  join-below h g [] = refl
+  join-below h g (e ∷ es) = rw (map-append (readEntry S h) (S (e .1)) (below es), concatMap-append g (map (readEntry S h) (S (e .1))) (map (readEntry S h) (below es))) (ap (λ l. concatMap g (map (readEntry S h) (S (e .1))) ++ l) (join-below h g es))
+
+  join-map : {B C : Type 0} (g : C → List B) (v : K × ℕ → C) (es : List (K × ℕ)) → concatMap g (map v es) ≡ concatMap (λ e. g (v e)) es
+  join-map g v [] = refl
+  join-map g v (e ∷ es) = ap (λ l. g (v e) ++ l) (join-map g v es)
+
+  -- the leaf pairs are the entries of the last generation
+  pub pairs-are : (h : ℕ) (es : List (K × ℕ)) → concatMap (pairsUnder h) (map (readEntry S h) es) ≡ generation h es
+  pairs-are zero es = rw (map-read-zero S es) (concatMap-single es)
+  pairs-are (suc h) es = join-map (pairsUnder (suc h)) (readEntry S (suc h)) es ∙ join-below h (pairsUnder h) es ∙ pairs-are h (below es)
+
+  -- the levels
+  level-here : (j h : ℕ) → eqb j h ≡ true → (es : List (K × ℕ)) → concatMap (levelUnder j (suc h)) (map (readEntry S (suc h)) es) ≡ numbers es
+  level-here j h e [] = refl
+  level-here j h e (x ∷ es) = rw e (ap (λ l. x .1 ∷ l) (level-here j h e es))
+
+  level-below : (j h : ℕ) → eqb j h ≡ false → (es : List (K × ℕ)) → concatMap (levelUnder j (suc h)) (map (readEntry S (suc h)) es) ≡ concatMap (levelUnder j h) (map (readEntry S h) (below es))
+  level-below j h e [] = refl
+  level-below j h e (x ∷ es) = rw (e, map-append (readEntry S h) (S (x .1)) (below es), concatMap-append (levelUnder j h) (map (readEntry S h) (S (x .1))) (map (readEntry S h) (below es))) (ap (λ l. concatMap (levelUnder j h) (map (readEntry S h) (S (x .1))) ++ l) (level-below j h e es))
+
+  pub level-is : (h j : ℕ) → j ≤ h → (es : List (K × ℕ)) → concatMap (levelUnder j (suc h)) (map (readEntry S (suc h)) es) ≡ numbers (generation (h - j) es)
+  level-is zero j l es = let e : zero - j ≡ zero = omega arith in rw e (level-here j zero (eq-eqb j zero (omega arith)) es)
+  level-is (suc h) j l es = either (eqb j (suc h))
+      (λ e. let d : suc h - j ≡ zero = omega (arith, eqb-true j (suc h) e) in rw d (level-here j (suc h) e es))
+      (λ e. let m : j ≤ h = omega (arith, eqb-false j (suc h) e) in let d : suc h - j ≡ suc (h - j) = omega arith in
+      rw d (level-below j (suc h) e es ∙ level-is h j m (below es)))
+
+  -- the pages, each as often
+  pages-below : (z h : ℕ) (es : List (K × ℕ)) → occ z (concatMap (pagesUnder (suc h)) (map (readEntry S (suc h)) es)) ≡ occ z (numbers es) + occ z (concatMap (pagesUnder h) (map (readEntry S h) (below es)))
+  pages-below z h [] = refl
+  pages-below z h (x ∷ es) =
+      let here = concatMap (pagesUnder h) (map (readEntry S h) (S (x .1))) in
+      rw (map-append (readEntry S h) (S (x .1)) (below es), concatMap-append (pagesUnder h) (map (readEntry S h) (S (x .1))) (map (readEntry S h) (below es)))
+      (omega (arith, pages-below z h es, occ-append z here (concatMap (pagesUnder (suc h)) (map (readEntry S (suc h)) es)), occ-append z here (concatMap (pagesUnder h) (map (readEntry S h) (below es)))))
+
+  pub pages-are : (z h : ℕ) (es : List (K × ℕ)) → occ z (concatMap (pagesUnder h) (map (readEntry S h) es)) ≡ occ z (reached h es)
+  pages-are z zero es = ap (occ z) (join-map (pagesUnder zero) (readEntry S zero) es ∙ concatMap-none es)
+  pages-are z (suc h) es = pages-below z h es ∙ omega (arith, pages-are z h (below es), occ-append z (numbers es) (reached h (below es)))
+
+  -- a property R of each entry, and of the entries of the page that it names, h levels deep in all
+  abbrev pub Deep : (K × ℕ → Type 0) → ℕ → K × ℕ → Type 0
+  Deep R zero e = Unit {0}
+  Deep R (suc h) e = R e × All (Deep R h) (S (e .1))
+
+  module _ (R : K × ℕ → Type 0) where
+    -- level by level
+    pub deep-levels : (h : ℕ) (es : List (K × ℕ)) → All (Deep R h) es → (i : ℕ) → i < h → All R (generation i es)
+    deep-levels zero es d i l = absurd (omega arith)
+    deep-levels (suc h) es d zero l = all-map (Deep R (suc h)) R (λ e x. x .0) es d
+    deep-levels (suc h) es d (suc i) l =
+        deep-levels h (below es) (all-to-concat (Deep R h) (λ e. S (e .1)) es (all-map (Deep R (suc h)) (λ e. All (Deep R h) (S (e .1))) (λ e x. x .1) es d)) i (omega arith)
+
+    pub levels-deep : (h : ℕ) (es : List (K × ℕ)) → ((i : ℕ) → i < h → All R (generation i es)) → All (Deep R h) es
+    levels-deep zero es a = all-unit es
+    levels-deep (suc h) es a =
+        all-map2 R (λ e. All (Deep R h) (S (e .1))) (Deep R (suc h)) (λ e x y. (x, y)) es (a zero (omega arith))
+        (all-of-concat (Deep R h) (λ e. S (e .1)) es (levels-deep h (below es) (λ i l. a (suc i) (omega arith))))
+
+  -- at every page
+  module _ (Q : ℕ → Type 0) where
+    abbrev Named : K × ℕ → Type 0
+    Named e = Q (e .1)
+
+    pub pages-deep : (h : ℕ) (es : List (K × ℕ)) → All Q (concatMap (pagesUnder h) (map (readEntry S h) es)) → All (Deep Named h) es
+    pages-deep zero es a = all-unit es
+    pages-deep (suc h) es a =
+        all-map (λ e. All Q (pagesUnder (suc h) (readEntry S (suc h) e))) (Deep Named (suc h)) (λ e x. (x .0, pages-deep h (S (e .1)) (x .1))) es
+        (all-of-concat Q (λ e. pagesUnder (suc h) (readEntry S (suc h) e)) es (rw (join-map (pagesUnder (suc h)) (readEntry S (suc h)) es) at a))
+
+    pub deep-pages : (h : ℕ) (es : List (K × ℕ)) → All (Deep Named h) es → All Q (concatMap (pagesUnder h) (map (readEntry S h) es))
+    deep-pages zero es a = rw (join-map (pagesUnder zero) (readEntry S zero) es, concatMap-none es) tt
+    deep-pages (suc h) es a =
+        rw (join-map (pagesUnder (suc h)) (readEntry S (suc h)) es)
+        (all-to-concat Q (λ e. pagesUnder (suc h) (readEntry S (suc h) e)) es
+        (all-map (Deep Named (suc h)) (λ e. All Q (pagesUnder (suc h) (readEntry S (suc h) e))) (λ e x. (x .0, deep-pages h (S (e .1)) (x .1))) es a))
+
+  -- counts
+  abbrev pub Counted : ℕ → K × ℕ → Type 0
+  Counted cap e = (0 < length (S (e .1))) × (length (S (e .1)) ≤ cap)
+
+  pub deep-sized : (cap h : ℕ) (e : K × ℕ) → Deep (Counted cap) h e → SizedUnder cap h (readEntry S h e)
+  deep-sized cap zero e d = tt
+  deep-sized cap (suc h) e d =
+      let n = length-map (S (e .1)) (readEntry S h) in
+      (rw n (d .0 .0), rw n (d .0 .1), all-to-map (SizedUnder cap h) (readEntry S h) (S (e .1)) (all-map (Deep (Counted cap) h) (λ x. SizedUnder cap h (readEntry S h x)) (deep-sized cap h) (S (e .1)) (d .1)))
+
+  pub sized-deep : (cap h : ℕ) (e : K × ℕ) → SizedUnder cap h (readEntry S h e) → Deep (Counted cap) h e
+  sized-deep cap zero e d = tt
+  sized-deep cap (suc h) e d =
+      let n = length-map (S (e .1)) (readEntry S h) in
+      ((rw n at (d .0), rw n at (d .1)), all-map (λ x. SizedUnder cap h (readEntry S h x)) (Deep (Counted cap) h) (sized-deep cap h) (S (e .1)) (all-of-map (SizedUnder cap h) (readEntry S h) (S (e .1)) (d .2)))
+
+  -- the key above a page is the page's last
+  abbrev pub Top : K × ℕ → Type 0
+  Top e = lastKey (e .0) (S (e .1)) ≡ e .0
+
+  pub deep-exact : (h : ℕ) (e : K × ℕ) → Deep Top h e → ExactUnder h (readEntry S h e)
+  deep-exact zero e d = tt
+  deep-exact (suc h) e d =
+      (lastKey-read S h (e .0) (S (e .1)) ∙ d .0, all-to-map (ExactUnder h) (readEntry S h) (S (e .1)) (all-map (Deep Top h) (λ x. ExactUnder h (readEntry S h x)) (deep-exact h) (S (e .1)) (d .1)))
+
+  pub exact-deep : (h : ℕ) (e : K × ℕ) → ExactUnder h (readEntry S h e) → Deep Top h e
+  exact-deep zero e d = tt
+  exact-deep (suc h) e d =
+      (sym (lastKey-read S h (e .0) (S (e .1))) ∙ d .0, all-map (λ x. ExactUnder h (readEntry S h x)) (Deep Top h) (exact-deep h) (S (e .1)) (all-of-map (ExactUnder h) (readEntry S h) (S (e .1)) (d .1)))

@@ -1,0 +1,5 @@
+pub mod Sound
+pub mod Levels
+pub mod Rule
+pub mod RunLaws
+pub mod EntryLaws
