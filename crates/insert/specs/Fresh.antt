@@ -7,7 +7,7 @@ use lib.Dec.{leb}
 use Rattle.octets.specs.Bytes.{toLe16, toLe32}
 use Rattle.octets.specs.Store.{put}
 use Rattle.page.specs.Header.{noPage, keyLengthGood}
-use Rattle.insert.specs.Layout.{newPage}
+use Rattle.layout.specs.Layout.{newPage}
 use Rattle.insert.specs.Calls.{Inserted, left}
 use Rattle.insert.specs.declared.Insertion.the-variants.{Accepted, Refused}
 

@@ -1,20 +1,18 @@
 -- Rules: insertion, page by page, as the whole buffer that document 01's steps leave. k is the key length; the buffer holds a sound index with room.
-use Prim.Native.Nat.{ℕ, zero, suc, _+_, _-_, _*_}
-use mathlib.Core.Bool.{Bool, true, false, cond}
-use mathlib.Core.List.{List, [], _∷_, _++_}
+use Prim.Native.Nat.{ℕ, zero, suc, _+_}
+use mathlib.Core.Bool.{cond}
+use mathlib.Core.List.{List, [], _∷_}
 use lib.ListN.{length}
 use lib.Dec.{leb}
-use Rattle.octets.specs.Bytes.{be32, toLe32, toBe32}
+use Rattle.octets.specs.Bytes.{toLe32, toBe32}
 use Rattle.octets.specs.Store.{put}
-use Rattle.octets.specs.Order.{bytesLe}
-use Rattle.tree.specs.Order.{larger}
 use Rattle.tree.specs.Pairs.{lastKey, insertPair}
-use Rattle.tree.specs.Room.{choose}
 use Rattle.page.specs.Header.{maxLevels, noPage, pageSize, isPage, rootOffset, fileSize}
-use Rattle.page.specs.Page.{attributeAt, leafBit, entryOffset, capacity}
+use Rattle.page.specs.Page.{attributeAt, leafBit, capacity}
 use Rattle.page.specs.KeyOrder.{bytesOrder}
 use Rattle.page.specs.Reading.{Item}
-use Rattle.insert.specs.Layout.{itemsIn, withEntries, newPage, splitPage}
+use Rattle.layout.specs.Layout.{itemsIn, withEntries, newPage, splitPage}
+use Rattle.layout.specs.Entries.{chosen, childOf, replaced, raised, twoFor}
 
 -- what an insertion under a page leaves for the page above to do: nothing, the file having so many bytes; or to take in the new page at q, the last of the
 -- file. The third does not occur on a sound index with room: it keeps the rule total
@@ -38,38 +36,6 @@ takeIn k b p es n =
     let halves = step (splitPage b p es n) (split n) in
     cond (leb (length es) (capacity k)) whole (cond (isPage (length b) n) halves (step b bad))
 
--- the entry that "lookup's steps lead to, the last if its key is above all"
-abbrev pub chosen : List ℕ → List Item → Item
-chosen key [] = ([], [])
-chosen key (x ∷ xs) = choose bytesOrder key x xs
-
-abbrev pub childOf : Item → ℕ
-childOf e = be32 (e .1) 0
-
--- entries with others in the place of that one
-abbrev pub replaced : List ℕ → (Item → List Item) → List Item → List Item
-replaced key f [] = []
-replaced key f (x ∷ []) = f x
-replaced key f (x ∷ y ∷ ys) = cond (bytesLe key (x .0)) (f x ++ (y ∷ ys)) (x ∷ replaced key f (y ∷ ys))
-
--- whether the key is above all of a page
-abbrev pub aboveAll : List ℕ → List Item → Bool
-aboveAll key [] = true
-aboveAll key (x ∷ xs) = cond (bytesLe key (x .0)) false (aboveAll key xs)
-
--- "keys above": where no page splits below it, a page changes only the key of the entry gone through, and only if the new key is above it, that is,
--- above all: then it is the last entry's
-unfoldable pub raised : ℕ → List ℕ → List ℕ → ℕ → List ℕ
-raised k b key p =
-    let es = itemsIn k b p in
-    let higher = put b (entryOffset k p (length es - 1)) key in
-    cond (aboveAll key es) higher b
-
--- two entries for the one above a page that was split: the greatest key that stayed, over the old page, and the larger of the old key above and the new
--- key, over the new page at q
-abbrev pub twoFor : ℕ → List ℕ → List ℕ → ℕ → ℕ → Item → List Item
-twoFor k b key c q e = (lastKey key (itemsIn k b c), e .1) ∷ (larger bytesOrder (e .0) key, toBe32 q) ∷ []
-
 -- the page at p after an insertion under its child at c
 abbrev pub afterChild : ℕ → List ℕ → List ℕ → ℕ → ℕ → Outcome → Step
 afterChild k b key p c (kept n) = step (raised k b key p) (kept n)
@@ -87,12 +53,14 @@ insertUnder k (suc left) b key r p n =
     let upper = afterChild k (below .after) key p c (below .outcome) in
     cond (isPage (length b) p) (cond (leafBit (attributeAt b p)) leaf upper) (step b bad)
 
--- the root after it: if it was split, "the new root last", over the two halves with their own last keys; and the header's root offset and file size
+-- the root after it: if it was split, "the new root last", over the two halves with their own last keys; and the header's root offset and file size. Where
+-- there is room, the new root is a page of the buffer
 abbrev pub atRoot : ℕ → List ℕ → List ℕ → ℕ → Outcome → List ℕ
 atRoot k b key p (kept n) = put b 8 (toLe32 n)
 atRoot k b key p (split q) =
     let es : List Item = (lastKey key (itemsIn k b p), toBe32 p) ∷ (lastKey key (itemsIn k b q), toBe32 q) ∷ [] in
-    put (put (newPage b (q + pageSize) 1 noPage noPage es) 0 (toLe32 (q + pageSize))) 8 (toLe32 (q + pageSize + pageSize))
+    let grown = put (put (newPage b (q + pageSize) 1 noPage noPage es) 0 (toLe32 (q + pageSize))) 8 (toLe32 (q + pageSize + pageSize)) in
+    cond (isPage (length b) (q + pageSize)) grown b
 atRoot k b key p bad = b
 
 -- the buffer after an insertion that is accepted

@@ -1,4 +1,3 @@
-pub mod Layout
 pub mod Insertion
 pub mod Room
 pub mod Calls

@@ -1,12 +1,12 @@
 -- Rules: pages as bytes: what a page that is written holds. Cited by insertion and by fresh. A buffer b is read as far as its own length here.
-use Prim.Native.Nat.{ℕ, zero, suc, _+_, _-_, _%_}
-use mathlib.Core.Bool.{Bool, cond}
+use Prim.Native.Nat.{ℕ, _+_, _-_, _%_}
+use mathlib.Core.Bool.{cond}
 use mathlib.Core.List.{List, [], _∷_, _++_}
 use lib.ListN.{length, take, drop, replicate}
 use Rattle.octets.specs.Bytes.{toLe16, toLe32}
 use Rattle.octets.specs.Store.{put}
 use Rattle.tree.specs.Insertion.{half}
-use Rattle.page.specs.Header.{isPage, noPage}
+use Rattle.page.specs.Header.{isPage}
 use Rattle.page.specs.Page.{attributeAt, rightAt, entriesStart, entryArea}
 use Rattle.page.specs.Reading.{Item, itemsAt}
 
