@@ -20,7 +20,7 @@ use Rattle.page.specs.Page.{leafBit}
 use Rattle.page.specs.KeyOrder.{bytesOrder, below-not-le, equal-same, equal-refl}
 use Rattle.page.specs.Reading.{entriesAt}
 use Rattle.sound.specs.Rule.{Entries, lastOf, isAbove, isSame, leafEntries, upperEntries, entriesFit}
-use Rattle.sound.specs.Levels.{Top, append-nil}
+use Rattle.sound.specs.Levels.{Top}
 use Rattle.sound.specs.RunLaws.{Checked}
 
 -- a key is above another, where there is one
