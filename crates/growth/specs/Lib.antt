@@ -1,0 +1,2 @@
+pub mod ItemLists
+pub mod InsertEntries
