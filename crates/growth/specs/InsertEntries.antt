@@ -261,7 +261,7 @@ module _ (k F : ℕ) (key : List ℕ) (r : ℕ) (b : List ℕ) where
           ap (λ (T : Store (List ℕ)). T p) (w .entries) ∙ (rest ∙ es)
 
       -- the page at p, given the child's step
-      page-is : (left : ℕ) → isPage (length b) p ≡ true → Inserts h left (larger bytesOrder (child .0) key) (childOf child)
+      pub page-is : (left : ℕ) → isPage (length b) p ≡ true → Inserts h left (larger bytesOrder (child .0) key) (childOf child)
           → UpperIs left h a p (y ∷ ys)
       page-is left tp w =
           let v : StoreReplacement (List ℕ) = under (suc h) (numbered child) in

@@ -1,2 +1,3 @@
 pub mod ItemLists
 pub mod InsertEntries
+pub mod InsertHeads
