@@ -40,17 +40,21 @@ use Rattle.insert.specs.Insertion.{Outcome, kept, split, bad, Step, step, takeI
 use Rattle.written.specs.EntryLaws.{entriesIn, page-of, raise, items-good, entries-header, entries-with, length-with, entries-new, entries-split, length-split, entries-raised, length-raised}
 use Rattle.growth.specs.ItemLists.{insertPair-numbered, choose-numbered, lastKey-numbered, replaced-place, insertPair-place, insertPair-length, replaced-length, replaced-all, larger-long, lastKey-long}
 
--- what an outcome says of the theory's replacement for the page at p, with the key a above it, in a buffer of so many bytes
-abbrev pub OutcomeIs : ℕ → ℕ → List ℕ → ℕ → Outcome → StoreReplacement (List ℕ) → Type 0
-OutcomeIs F size a p (kept n) w = (n ≡ taken F (w .1)) × (w .0 ≡ (a, p) ∷ [])
-OutcomeIs F size a p (split q) w = (q + pageSize ≡ taken F (w .1)) × (w .0 ≡ (lastKey a (w .2 p), p) ∷ (a, q) ∷ []) × NonEmpty (w .2 p) × (q + pageSize ≤ size)
-OutcomeIs F size a p bad w = ⊥
+-- a page of the buffer whose offset has four bytes
+abbrev pub Usable : List ℕ → ℕ → Type 0
+Usable b p = (isPage (length b) p ≡ true) × (p < 2 ^ 32)
+
+-- what an outcome says of the theory's replacement for the page at p, with the key a above it
+abbrev pub OutcomeIs : ℕ → List ℕ → ℕ → Outcome → StoreReplacement (List ℕ) → Type 0
+OutcomeIs F a p (kept n) w = (n ≡ taken F (w .1)) × (w .0 ≡ (a, p) ∷ [])
+OutcomeIs F a p (split q) w = (q + pageSize ≡ taken F (w .1)) × (w .0 ≡ (lastKey a (w .2 p), p) ∷ (a, q) ∷ []) × NonEmpty (w .2 p) × (q < 2 ^ 32)
+OutcomeIs F a p bad w = ⊥
 
 -- a step leaves the entries that the theory's has, in a buffer as long as before, and tells so
 pub record StepIs (k F size : ℕ) (a : List ℕ) (p : ℕ) (s : Step) (w : StoreReplacement (List ℕ)) : Type 0 where
   pub entries : entriesIn k (s .after) ≡ w .2
   pub as-long : length (s .after) ≡ size
-  pub told : OutcomeIs F size a p (s .outcome) w
+  pub told : OutcomeIs F a p (s .outcome) w
 
 nonEmpty-numbered : (es : List Item) → NonEmpty (map numbered es) → NonEmpty es
 nonEmpty-numbered [] s = s
@@ -71,7 +75,7 @@ module _ (k : ℕ) (two : 1 < capacity k) (F : ℕ) where
   -- a page that gets its entries, after m new pages
   take-in-is : (b : List ℕ) (p : ℕ) (a : List ℕ) (es : List Item) (m n : ℕ) → isPage (length b) p ≡ true → All (Fit k) es → length es ≤ suc (capacity k) → n ≡ taken F m
       → (p ≡ taken F m → ⊥)
-      → ((j : ℕ) → j < storeSplitIfOver (capacity k) (taken F) a p (map numbered es, m, entriesIn k b) .1 → isPage (length b) (taken F j) ≡ true)
+      → ((j : ℕ) → j < storeSplitIfOver (capacity k) (taken F) a p (map numbered es, m, entriesIn k b) .1 → Usable b (taken F j))
       → StepIs k F (length b) a p (takeIn k b p es n) (storeSplitIfOver (capacity k) (taken F) a p (map numbered es, m, entriesIn k b))
   unfolding takeIn
   take-in-is b p a es m n tp f few en ne room = either (leb (length es) (capacity k))
@@ -81,8 +85,8 @@ module _ (k : ℕ) (two : 1 < capacity k) (F : ℕ) where
         told = (en, refl);
       }))
       (λ e.
-        let rooms : (j : ℕ) → j < suc m → isPage (length b) (taken F j) ≡ true = rw (length-map es numbered, e) at room in
-        let tq : isPage (length b) n ≡ true = rw en (rooms m (omega arith)) in
+        let rooms : (j : ℕ) → j < suc m → Usable b (taken F j) = rw (length-map es numbered, e) at room in
+        let tq : Usable b n = rw en (rooms m (omega arith)) in
         let h = half (length es) in
         let over : capacity k < length es = leb-false (length es) (capacity k) e in
         let lower : length (take h es) ≡ h = simp length-take (omega arith) in
@@ -90,10 +94,10 @@ module _ (k : ℕ) (two : 1 < capacity k) (F : ℕ) where
         let S : Store (List ℕ) = write (entriesIn k b) p (map numbered (take h es)) in
         let stays : write S n (map numbered (drop h es)) p ≡ map numbered (take h es) =
           write-other S n (map numbered (drop h es)) p (λ q. ne (q ∙ en)) ∙ write-here (entriesIn k b) p (map numbered (take h es)) in
-        rw (length-map es numbered, e, tq, take-map numbered h es, drop-map numbered h es, ← en) (record {
-          entries = entries-split k b p es n tp tq f two few;
+        rw (length-map es numbered, e, tq .0, take-map numbered h es, drop-map numbered h es, ← en) (record {
+          entries = entries-split k b p es n tp (tq .0) f two few;
           as-long = length-split b p es n;
-          told = (rw en (omega arith), rw stays, rw stays some, is-page (length b) n tq .high);
+          told = (rw en (omega arith), rw stays, rw stays some, tq .1);
         }))
 
   module _ (key : List ℕ) (long : length key ≡ k) where
@@ -110,14 +114,14 @@ module _ (k : ℕ) (two : 1 < capacity k) (F : ℕ) where
     abbrev AfterChild : List ℕ → List ℕ → ℕ → List ℕ → StoreReplacement (List ℕ) → Outcome → List (List ℕ × ℕ) → Type 0
     AfterChild b b′ p a v o [] = Unit {0}
     AfterChild b b′ p a v o (z ∷ zs) =
-        OutcomeIs F (length b) (larger bytesOrder (choose bytesOrder key z zs .0) key) (choose bytesOrder key z zs .1) o v
-        → ((j : ℕ) → j < storeSplitIfOver (capacity k) (taken F) a p (storePlace bytesOrder key z zs v) .1 → isPage (length b) (taken F j) ≡ true)
+        OutcomeIs F (larger bytesOrder (choose bytesOrder key z zs .0) key) (choose bytesOrder key z zs .1) o v
+        → ((j : ℕ) → j < storeSplitIfOver (capacity k) (taken F) a p (storePlace bytesOrder key z zs v) .1 → Usable b (taken F j))
         → StepIs k F (length b) a p (afterChild k b′ key p (choose bytesOrder key z zs .1) o) (storeSplitIfOver (capacity k) (taken F) a p (storePlace bytesOrder key z zs v))
 
-    after-child-items : (b b′ : List ℕ) (p : ℕ) (a : List ℕ) (y : Item) (ys : List Item) (v : StoreReplacement (List ℕ)) (o : Outcome) → length b ≤ 2 ^ 32 → length b′ ≡ length b
+    after-child-items : (b b′ : List ℕ) (p : ℕ) (a : List ℕ) (y : Item) (ys : List Item) (v : StoreReplacement (List ℕ)) (o : Outcome) → length b′ ≡ length b
         → isPage (length b) p ≡ true → entriesIn k b′ ≡ v .2 → itemsIn k b′ p ≡ y ∷ ys → (p ≡ taken F (v .1) → ⊥) → AfterChild b b′ p a v o (map numbered (y ∷ ys))
-    after-child-items b b′ p a y ys v bad small lb tp sv sp ne t room = absurd t
-    after-child-items b b′ p a y ys v (kept n) small lb tp sv sp ne t room =
+    after-child-items b b′ p a y ys v bad lb tp sv sp ne t room = absurd t
+    after-child-items b b′ p a y ys v (kept n) lb tp sv sp ne t room =
         let es : List Item = replaced key (raise key) (y ∷ ys) in
         let e : map numbered es ≡ storePlace bytesOrder key (numbered y) (map numbered ys) v .0 =
           replaced-place key (raise key) (v .0) (v .1) 0 y ys (sym (t .1 ∙ rw (choose-numbered key y ys))) in
@@ -128,17 +132,16 @@ module _ (k : ℕ) (two : 1 < capacity k) (F : ℕ) where
           as-long = length-raised k b′ key p ∙ lb;
           told = (t .0, refl);
         })
-    after-child-items b b′ p a y ys v (split q) small lb tp sv sp ne t room =
+    after-child-items b b′ p a y ys v (split q) lb tp sv sp ne t room =
         let e : List ℕ × ℕ = choose bytesOrder key (numbered y) (map numbered ys) in
         let c : ℕ = e .1 in
         let A : List ℕ = larger bytesOrder (e .0) key in
         let es : List Item = replaced key (twoFor k b′ key c q) (y ∷ ys) in
-        let q32 : q < 2 ^ 32 = omega (arith, t .3) in
         let svc : entriesIn k b′ c ≡ v .2 c = ap (λ (S : Store (List ℕ)). S c) sv in
         let low : lastKey key (itemsIn k b′ c) ≡ lastKey A (v .2 c) = lastKey-store b′ c A (rw svc (t .2)) ∙ ap (lastKey A) svc in
         let em : map numbered es ≡ storePlace bytesOrder key (numbered y) (map numbered ys) v .0 =
           replaced-place key (twoFor k b′ key c q) (v .0) (v .1) 0 y ys
-          (rw (low, be32-toBe32 q q32) (ap (λ (x : List ℕ × ℕ). (lastKey A (v .2 c), x .1) ∷ (larger bytesOrder (x .0) key, q) ∷ []) (sym (choose-numbered key y ys)) ∙ sym (t .1))) in
+          (rw (low, be32-toBe32 q (t .3)) (ap (λ (x : List ℕ × ℕ). (lastKey A (v .2 c), x .1) ∷ (larger bytesOrder (x .0) key, q) ∷ []) (sym (choose-numbered key y ys)) ∙ sym (t .1))) in
         let ew : _≡_ {A = StoreReplacement (List ℕ)} (map numbered es, v .1, entriesIn k b′) (storePlace bytesOrder key (numbered y) (map numbered ys) v) = λ i. (em i, v .1, sv i) in
         let g : All (Fit k) (y ∷ ys) × (length (y ∷ ys) ≤ capacity k) = rw sp at (items-good k b′ p) in
         let le : length es ≡ 1 + length (y ∷ ys) = replaced-length key (twoFor k b′ key c q) 1 (λ e. refl) (y ∷ ys) tt in
@@ -146,23 +149,23 @@ module _ (k : ℕ) (two : 1 < capacity k) (F : ℕ) where
         (subst (λ (w : StoreReplacement (List ℕ)). StepIs k F (length b) a p (takeIn k b′ p es (q + pageSize)) (storeSplitIfOver (capacity k) (taken F) a p w)) ew
         (subst (λ (n : ℕ). StepIs k F n a p (takeIn k b′ p es (q + pageSize)) (storeSplitIfOver (capacity k) (taken F) a p (map numbered es, v .1, entriesIn k b′))) lb
         (take-in-is b′ p a es (v .1) (q + pageSize) (page-of p lb tp) (two-fit b′ c q (y ∷ ys) (g .0)) (omega (arith, g .1)) (t .0) ne
-        (λ j h. page-of (taken F j) lb (room j (subst (λ (w : StoreReplacement (List ℕ)). j < storeSplitIfOver (capacity k) (taken F) a p w .1) ew h))))))
+        (λ j h. let u = room j (subst (λ (w : StoreReplacement (List ℕ)). j < storeSplitIfOver (capacity k) (taken F) a p w .1) ew h) in (page-of (taken F j) lb (u .0), u .1)))))
 
     -- the child's step leaves the page's entries with their numbers
-    after-child-is : (b b′ : List ℕ) (p : ℕ) (a : List ℕ) (es : List (List ℕ × ℕ)) (v : StoreReplacement (List ℕ)) (o : Outcome) → length b ≤ 2 ^ 32 → length b′ ≡ length b
+    after-child-is : (b b′ : List ℕ) (p : ℕ) (a : List ℕ) (es : List (List ℕ × ℕ)) (v : StoreReplacement (List ℕ)) (o : Outcome) → length b′ ≡ length b
         → isPage (length b) p ≡ true → entriesIn k b′ ≡ v .2 → entriesIn k b′ p ≡ es → (p ≡ taken F (v .1) → ⊥) → AfterChild b b′ p a v o es
-    after-child-is b b′ p a es v o small lb tp sv sp ne = go (itemsIn k b′ p) refl
+    after-child-is b b′ p a es v o lb tp sv sp ne = go (itemsIn k b′ p) refl
       where
         go : (is : List Item) → itemsIn k b′ p ≡ is → AfterChild b b′ p a v o es
         go [] e = subst (AfterChild b b′ p a v o) (sym (ap (map numbered) e) ∙ sp) tt
-        go (y ∷ ys) e = subst (AfterChild b b′ p a v o) (sym (ap (map numbered) e) ∙ sp) (after-child-items b b′ p a y ys v o small lb tp sv e ne)
+        go (y ∷ ys) e = subst (AfterChild b b′ p a v o) (sym (ap (map numbered) e) ∙ sp) (after-child-items b b′ p a y ys v o lb tp sv e ne)
 
 -- the page at p, with h levels under it, and every page under it is a page of the buffer, has the leaf bit at the bottom only, and has entries above it
 abbrev pub Shaped : ℕ → (h : ℕ) → List ℕ → ℕ → Type 0
-Shaped k zero b p = (isPage (length b) p ≡ true) × (leafBit (attributeAt b p) ≡ true)
-Shaped k (suc h) b p = (isPage (length b) p ≡ true) × (leafBit (attributeAt b p) ≡ false) × NonEmpty (entriesIn k b p) × All (λ e. Shaped k h b (e .1)) (entriesIn k b p)
+Shaped k zero b p = Usable b p × (leafBit (attributeAt b p) ≡ true)
+Shaped k (suc h) b p = Usable b p × (leafBit (attributeAt b p) ≡ false) × NonEmpty (entriesIn k b p) × All (λ e. Shaped k h b (e .1)) (entriesIn k b p)
 
-pub shaped-page : (k h : ℕ) (b : List ℕ) (p : ℕ) → Shaped k h b p → isPage (length b) p ≡ true
+pub shaped-page : (k h : ℕ) (b : List ℕ) (p : ℕ) → Shaped k h b p → Usable b p
 shaped-page k zero b p s = s .0
 shaped-page k (suc h) b p s = s .0
 
@@ -170,12 +173,11 @@ shaped-page k (suc h) b p s = s .0
 split-more : (cap F : ℕ) (a : List ℕ) (p : ℕ) (w : StoreReplacement (List ℕ)) → w .1 ≤ storeSplitIfOver cap (taken F) a p w .1
 split-more cap F a p w = either (leb (length (w .0)) cap) (λ e. rw e (omega arith)) (λ e. rw e (omega arith))
 
--- an insertion of a key of k bytes with a record number of four, into a buffer whose offsets have four
-pub record Offered (k : ℕ) (key : List ℕ) (r : ℕ) (b : List ℕ) : Type 0 where
+-- an insertion of a key of k bytes with a record number of four
+pub record Offered (k : ℕ) (key : List ℕ) (r : ℕ) : Type 0 where
   pub two : 1 < capacity k
   pub long : length key ≡ k
   pub r32 : r < 2 ^ 32
-  pub small : length b ≤ 2 ^ 32
 
 module _ (k F : ℕ) (key : List ℕ) (r : ℕ) (b : List ℕ) where
   -- the theory's insertion under an entry, and its replacement for the page at p, which has h levels under it and the key a above it
@@ -193,7 +195,7 @@ module _ (k F : ℕ) (key : List ℕ) (r : ℕ) (b : List ℕ) where
   abbrev pub Free : (h : ℕ) → List ℕ → ℕ → Type 0
   Free h a p = ((z : ℕ) → occ z (pages h (readTree (entriesIn k b) h p)) ≤ 1)
       × ((i : ℕ) → occ (taken F i) (pages h (readTree (entriesIn k b) h p)) ≡ 0)
-      × ((j : ℕ) → j < replacement h a p .1 → isPage (length b) (taken F j) ≡ true)
+      × ((j : ℕ) → j < replacement h a p .1 → Usable b (taken F j))
 
   -- its step at a page above with the entries es
   abbrev pub UpperIs : ℕ → (h : ℕ) → List ℕ → ℕ → List Item → Type 0
@@ -202,8 +204,8 @@ module _ (k F : ℕ) (key : List ℕ) (r : ℕ) (b : List ℕ) where
       let d : Step = insertUnder k left b key r c F in
       StepIs k F (length b) a p (afterChild k (d .after) key p c (d .outcome)) (replacement (suc h) a p)
 
-  module _ (o : Offered k key r b) where
-    leaf-is : (p : ℕ) (a : List ℕ) → isPage (length b) p ≡ true → (p ≡ taken F 0 → ⊥) → ((j : ℕ) → j < replacement zero a p .1 → isPage (length b) (taken F j) ≡ true)
+  module _ (o : Offered k key r) where
+    leaf-is : (p : ℕ) (a : List ℕ) → isPage (length b) p ≡ true → (p ≡ taken F 0 → ⊥) → ((j : ℕ) → j < replacement zero a p .1 → Usable b (taken F j))
         → StepIs k F (length b) a p (takeIn k b p (insertPair bytesOrder key (toBe32 r) (itemsIn k b p)) F) (replacement zero a p)
     leaf-is p a tp ne room =
         let es : List Item = insertPair bytesOrder key (toBe32 r) (itemsIn k b p) in
@@ -238,7 +240,7 @@ module _ (k F : ℕ) (key : List ℕ) (r : ℕ) (b : List ℕ) where
           (subst (λ (e : List ℕ × ℕ). occ z (pagesUnder (suc h) (readEntry (entriesIn k b) (suc h) e)) ≤ occ z (concatMap (pagesUnder (suc h)) (map (readEntry (entriesIn k b) (suc h)) (numbered y ∷ map numbered ys)))) (choose-numbered key y ys)
           (choose-occ bytesOrder (entriesIn k b) (suc h) key z (numbered y) (map numbered ys)))
 
-      child-room : (j : ℕ) → j < storeSplitIfOver (capacity k) (taken F) a p (storePlace bytesOrder key (numbered y) (map numbered ys) (under (suc h) (numbered child))) .1 → isPage (length b) (taken F j) ≡ true
+      child-room : (j : ℕ) → j < storeSplitIfOver (capacity k) (taken F) a p (storePlace bytesOrder key (numbered y) (map numbered ys) (under (suc h) (numbered child))) .1 → Usable b (taken F j)
       child-room j l = u .2 j (subst (λ (w : StoreReplacement (List ℕ)). j < storeSplitIfOver (capacity k) (taken F) a p w .1) child-among l)
 
       pub child-free : Free h (larger bytesOrder (child .0) key) (childOf child)
@@ -267,7 +269,7 @@ module _ (k F : ℕ) (key : List ℕ) (r : ℕ) (b : List ℕ) where
           let v : StoreReplacement (List ℕ) = under (suc h) (numbered child) in
           let d : Step = insertUnder k left b key r (childOf child) F in
           let same = choose-numbered key y ys in
-          let step-is = after-child-is k (o .two) F key (o .long) b (d .after) p a (map numbered (y ∷ ys)) v (d .outcome) (o .small) (w .as-long) tp (w .entries)
+          let step-is = after-child-is k (o .two) F key (o .long) b (d .after) p a (map numbered (y ∷ ys)) v (d .outcome) (w .as-long) tp (w .entries)
             (child-rest left w) (λ q. occ-not-head (taken F (v .1)) p below (u .1 (v .1)) (sym q)) in
           subst (λ (t : StoreReplacement (List ℕ)). StepIs k F (length b) a p (afterChild k (d .after) key p (childOf child) (d .outcome)) (storeSplitIfOver (capacity k) (taken F) a p t)) child-among
           (rw same at (step-is (rw same (w .told)) child-room))
@@ -278,14 +280,14 @@ module _ (k F : ℕ) (key : List ℕ) (r : ℕ) (b : List ℕ) where
     inserts zero zero p a l f u = absurd (omega arith)
     inserts (suc h) zero p a l f u = absurd (omega arith)
     inserts zero (suc left) p a l f u =
-        rw (f .0, f .1) (leaf-is p a (f .0) (λ q. occ-not-head (taken F 0) p (concatMap (pagesUnder zero) (map (readEntry (entriesIn k b) zero) (entriesIn k b p))) (u .1 0) (sym q)) (u .2))
+        rw (f .0 .0, f .1) (leaf-is p a (f .0 .0) (λ q. occ-not-head (taken F 0) p (concatMap (pagesUnder zero) (map (readEntry (entriesIn k b) zero) (entriesIn k b p))) (u .1 0) (sym q)) (u .2))
     inserts (suc h) (suc left) p a l f u = go (λ c y g. inserts h left c y (omega arith) g) (itemsIn k b p) refl
       where
         go : ((c : ℕ) (y : List ℕ) → Shaped k h b c → Free h y c → Inserts h left y c) → (es : List Item) → itemsIn k b p ≡ es → Inserts (suc h) (suc left) a p
         go rec [] e = absurd (rw e at (f .2))
         go rec (y ∷ ys) e =
             let w = rec (childOf (choose bytesOrder key y ys)) (larger bytesOrder (choose bytesOrder key y ys .0) key) (child-shaped h p a y ys e u (f .3)) (child-free h p a y ys e u) in
-            rw (f .0, f .1) (subst (UpperIs left h a p) (sym e) (page-is h p a y ys e u left (f .0) w))
+            rw (f .0 .0, f .1) (subst (UpperIs left h a p) (sym e) (page-is h p a y ys e u left (f .0 .0) w))
 
 -- the root offset and the file size after an outcome at the root p
 abbrev pub rootAfter : ℕ → Outcome → ℕ
@@ -304,7 +306,7 @@ pub record RootIs (k F : ℕ) (b : List ℕ) (root size : ℕ) (g : StoreGrown (
   pub root-is : root ≡ g .1
   pub size-is : size ≡ taken F (g .2)
 
-module _ (k F : ℕ) (key : List ℕ) (r : ℕ) (b : List ℕ) (o : Offered k key r b) where
+module _ (k F : ℕ) (key : List ℕ) (r : ℕ) (b : List ℕ) (o : Offered k key r) where
   -- the root's own last key stands for the key above it
   abbrev pub topKey : (h p : ℕ) → List ℕ
   topKey h p = lastKey key (storeInsertAmong bytesOrder key r h (under k F key r b h) (entriesIn k b p) 0 (entriesIn k b) .0)
@@ -334,8 +336,8 @@ module _ (k F : ℕ) (key : List ℕ) (r : ℕ) (b : List ℕ) (o : Offered k ke
       (λ u. (leb-false (length (w .0)) (capacity k) u, rw u))
 
   -- Theorem: the buffer with its root is the theory's
-  pub root-inserts : (h p : ℕ) (s : Step) → isPage (length b) p ≡ true → StepIs k F (length b) (topKey h p) p s (replacement k F key r b h (topKey h p) p)
-      → ((j : ℕ) → j < storeInsert bytesOrder (capacity k) (taken F) key r h p (entriesIn k b) .2 → isPage (length b) (taken F j) ≡ true)
+  pub root-inserts : (h p : ℕ) (s : Step) → Usable b p → StepIs k F (length b) (topKey h p) p s (replacement k F key r b h (topKey h p) p)
+      → ((j : ℕ) → j < storeInsert bytesOrder (capacity k) (taken F) key r h p (entriesIn k b) .2 → Usable b (taken F j))
       → RootIs k F (atRoot k (s .after) key p (s .outcome)) (rootAfter p (s .outcome)) (sizeAfter (s .outcome)) (storeInsert bytesOrder (capacity k) (taken F) key r h p (entriesIn k b))
   root-inserts h p s tp w room = go (s .outcome) (w .told)
     where
@@ -345,7 +347,7 @@ module _ (k F : ℕ) (key : List ℕ) (r : ℕ) (b : List ℕ) (o : Offered k ke
       W : StoreReplacement (List ℕ)
       W = replacement k F key r b h (topKey h p) p
 
-      go : (out : Outcome) → OutcomeIs F (length b) a p out W → RootIs k F (atRoot k (s .after) key p out) (rootAfter p out) (sizeAfter out) (storeInsert bytesOrder (capacity k) (taken F) key r h p (entriesIn k b))
+      go : (out : Outcome) → OutcomeIs F a p out W → RootIs k F (atRoot k (s .after) key p out) (rootAfter p out) (sizeAfter out) (storeInsert bytesOrder (capacity k) (taken F) key r h p (entriesIn k b))
       go bad t = absurd t
       go (kept n) t = rw (t .1) (record { entries = entries-header k (s .after) 8 (toLe32 n) (omega (arith, length-toLe32 n)) ∙ w .entries; root-is = refl; size-is = t .0 })
       go (split q) t =
@@ -354,8 +356,8 @@ module _ (k F : ℕ) (key : List ℕ) (r : ℕ) (b : List ℕ) (o : Offered k ke
           let v : StoreReplacement (List ℕ) = storeInsertAmong bytesOrder key r h (under k F key r b h) (entriesIn k b p) 0 (entriesIn k b) in
           let c = split-case a p v (lastKey a (W .2 p), p) (a, q) (t .1) in
           let half-is = upper-half v p q (c .0) (omega (arith, t .0, c .1)) in
-          let rooms : (j : ℕ) → j < suc (W .1) → isPage (length b) (taken F j) ≡ true = rw (t .1) at room in
-          let tn : isPage (length b′) top ≡ true = page-of top (w .as-long) (rw (t .0) (rooms (W .1) (omega arith))) in
+          let rooms : (j : ℕ) → j < suc (W .1) → Usable b (taken F j) = rw (t .1) at room in
+          let tn : isPage (length b′) top ≡ true = page-of top (w .as-long) (rw (t .0) (rooms (W .1) (omega arith) .0)) in
           let es : List Item = (lastKey key (itemsIn k b′ p), toBe32 p) ∷ (lastKey key (itemsIn k b′ q), toBe32 q) ∷ [] in
           let b1 : List ℕ = newPage b′ top 1 noPage noPage es in
           let b2 : List ℕ = put b1 0 (toLe32 top) in
@@ -365,8 +367,8 @@ module _ (k F : ℕ) (key : List ℕ) (r : ℕ) (b : List ℕ) (o : Offered k ke
           let e2 : lastKey key (itemsIn k b′ q) ≡ a = lastKey-store k (o .two) F key (o .long) b′ q key (rw eq (half-is .some)) ∙ ap (lastKey key) eq ∙ half-is .last in
           let long : (z : ℕ) → length (lastKey key (itemsIn k b′ z)) ≡ k = λ z. lastKey-long k key (o .long) (itemsIn k b′ z) (items-good k b′ z .0) in
           let fit : All (Fit k) es = ((long p, length-toBe32 p), ((long q, length-toBe32 q), tt)) in
-          let p32 : be32 (toBe32 p) 0 ≡ p = be32-toBe32 p (omega (arith, is-page (length b) p tp .high, o .small)) in
-          let q32 : be32 (toBe32 q) 0 ≡ q = be32-toBe32 q (omega (arith, t .3, o .small)) in
+          let p32 : be32 (toBe32 p) 0 ≡ p = be32-toBe32 p (tp .1) in
+          let q32 : be32 (toBe32 q) 0 ≡ q = be32-toBe32 q (t .3) in
           let em : map numbered es ≡ (lastKey a (W .2 p), p) ∷ (a, q) ∷ [] = λ i. (e1 i, p32 i) ∷ (e2 i, q32 i) ∷ [] in
           let s1 : entriesIn k b1 ≡ write (entriesIn k b′) top (map numbered es) = entries-new k b′ top 1 noPage noPage es tn fit (omega (arith, o .two)) in
           let s2 : write (entriesIn k b′) top (map numbered es) ≡ write (W .2) (taken F (W .1)) ((lastKey a (W .2 p), p) ∷ (a, q) ∷ []) = λ i. write (w .entries i) (t .0 i) (em i) in

@@ -39,7 +39,7 @@ use Rattle.insert.specs.Insertion.{Outcome, kept, split, bad, Step, takeIn, aft
 use Rattle.written.specs.EntryLaws.{entriesIn, page-of, items-good}
 use Rattle.written.specs.HeadLaws.{Head, SameHead, SameHeader, with-head, with-header, raised-head, raised-header, split-head, split-header}
 use Rattle.growth.specs.ItemLists.{choose-numbered, insertPair-length, replaced-length}
-use Rattle.growth.specs.InsertEntries.{OutcomeIs, StepIs, Shaped, Offered, replacement, Inserts, Free, inserts, items-some, two-fit, child-free, child-shaped, child-rest, page-is}
+use Rattle.growth.specs.InsertEntries.{Usable, OutcomeIs, StepIs, Shaped, Offered, replacement, Inserts, Free, inserts, items-some, two-fit, child-free, child-shaped, child-rest, page-is}
 
 -- attributes and right links that are numbers of two and four bytes
 abbrev pub Plain : List ℕ → Type 0
@@ -125,38 +125,36 @@ module _ (k F : ℕ) (path : ℕ → ℕ) (b : List ℕ) where
       }
 
   -- one page more is split
-  heads-split : (m : ℕ) (b′ : List ℕ) (es : List Item) → isPage (length b) (path m) ≡ true → isPage (length b) (taken F m) ≡ true → (path m ≡ taken F m → ⊥) → All (Fit k) es → 1 < capacity k
-      → length es ≤ suc (capacity k) → length b ≤ 2 ^ 32 → length b′ ≡ length b → Heads k F path m b b′ → Heads k F path (suc m) b (splitPage b′ (path m) es (taken F m))
-  heads-split m b′ es tp tq ne f two few small n v =
+  heads-split : (m : ℕ) (b′ : List ℕ) (es : List Item) → Usable b (path m) → Usable b (taken F m) → (path m ≡ taken F m → ⊥) → All (Fit k) es → 1 < capacity k
+      → length es ≤ suc (capacity k) → length b′ ≡ length b → Heads k F path m b b′ → Heads k F path (suc m) b (splitPage b′ (path m) es (taken F m))
+  heads-split m b′ es tp tq ne f two few n v =
       let p = path m in
       let q = taken F m in
       let here : (z : ℕ) → isPage (length b) z ≡ true → isPage (length b′) z ≡ true = λ z t. page-of z n t in
-      let small′ : length b′ ≤ 2 ^ 32 = rw n small in
-      let pp = v .plain p tp in
+      let pp = v .plain p (tp .0) in
       let i = half (length es) in
       let lower : length (take i es) ≤ capacity k = simp length-take (omega arith) in
       let upper : length (drop i es) ≤ capacity k = simp length-drop (omega arith) in
       let s : (z : ℕ) → isPage (length b) z ≡ true → Head (splitPage b′ p es q) z (cond (eqb z q) (withoutRoot (attributeAt b′ p)) (cond (eqb z p) (withoutRoot (attributeAt b′ p)) (attributeAt b′ z)))
         (cond (eqb z q) (length (drop i es)) (cond (eqb z p) (length (take i es)) (countAt b′ z))) (cond (eqb z q) p (cond (eqb z (rightAt b′ p)) q (leftAt b′ z)))
         (cond (eqb z p) q (cond (eqb z q) (rightAt b′ p) (rightAt b′ z))) =
-        λ z t. split-head k b′ p es q (here p tp) (here q tq) ne f two few small′ (pp .0) (pp .1) z (here z t) in
+        λ z t. split-head k b′ p es q (here p (tp .0)) (here q (tq .0)) ne f two few (tp .1) (tq .1) (pp .0) (pp .1) z (here z t) in
       let few-there : (z : ℕ) → isPage (length b) z ≡ true → countAt b′ z ≤ capacity k → countAt (splitPage b′ p es q) z ≤ capacity k =
         λ z t c. rw (s z t .countIs) (one-of (λ n. n ≤ capacity k) (eqb z q) (length (drop i es)) _ upper (one-of (λ n. n ≤ capacity k) (eqb z p) (length (take i es)) (countAt b′ z) lower c)) in
       let a : ℕ = withoutRoot (attributeAt b′ p) in
       let a16 : a < 2 ^ 16 = omega (arith, pp .0) in
-      let q32 : q < 2 ^ 32 = omega (arith, is-page (length b) q tq .high) in
       record {
-        lefts = λ z t. s z t .leftIs ∙ rw (v .rights p tp, v .lefts z t);
-        rights = λ z t. s z t .rightIs ∙ rw (v .rights p tp, v .rights z t);
-        attributes = λ z t. s z t .attributeIs ∙ rw (v .attributes p tp, v .attributes z t);
+        lefts = λ z t. s z t .leftIs ∙ rw (v .rights p (tp .0), v .lefts z t);
+        rights = λ z t. s z t .rightIs ∙ rw (v .rights p (tp .0), v .rights z t);
+        attributes = λ z t. s z t .attributeIs ∙ rw (v .attributes p (tp .0), v .attributes z t);
         counts = λ z t c. few-there z t (v .counts z t c);
         newCounts = λ j l. either (eqb j m)
-            (λ e. let same : j ≡ m = eqb-true j m e in rw same (tq, rw (s q tq .countIs, eq-eqb q q refl) upper))
+            (λ e. let same : j ≡ m = eqb-true j m e in rw same (tq .0, rw (s q (tq .0) .countIs, eq-eqb q q refl) upper))
             (λ e. let c = v .newCounts j (omega (arith, eqb-false j m e)) in (c .0, few-there (taken F j) (c .0) (c .1)));
-        header = split-header k b′ p es q (here p tp) (here q tq) ne f two few small′ (pp .0) (pp .1) ∙ v .header;
+        header = split-header k b′ p es q (here p (tp .0)) (here q (tq .0)) ne f two few (tp .1) (tq .1) (pp .0) (pp .1) ∙ v .header;
         plain = λ z t. (
           rw (s z t .attributeIs) (one-of (λ n. n < 2 ^ 16) (eqb z q) a _ a16 (one-of (λ n. n < 2 ^ 16) (eqb z p) a (attributeAt b′ z) a16 (v .plain z t .0))),
-          rw (s z t .rightIs) (one-of (λ n. n < 2 ^ 32) (eqb z p) q _ q32 (one-of (λ n. n < 2 ^ 32) (eqb z q) (rightAt b′ p) (rightAt b′ z) (pp .1) (v .plain z t .1))),
+          rw (s z t .rightIs) (one-of (λ n. n < 2 ^ 32) (eqb z p) q _ (tq .1) (one-of (λ n. n < 2 ^ 32) (eqb z q) (rightAt b′ p) (rightAt b′ z) (pp .1) (v .plain z t .1))),
         );
       }
 
@@ -179,39 +177,39 @@ path-below k key b h j p a y ys es ne =
     ∙ ap (pathPageUnder bytesOrder key j (suc h)) (choose-read bytesOrder (entriesIn k b) (suc h) key (numbered y) (map numbered ys))
     ∙ ap (λ (e : List ℕ × ℕ). pathPageUnder bytesOrder key j (suc h) (readEntry (entriesIn k b) (suc h) e)) (choose-numbered key y ys))
 
-module _ (k F : ℕ) (path : ℕ → ℕ) (two : 1 < capacity k) (b : List ℕ) (small : length b ≤ 2 ^ 32) where
+module _ (k F : ℕ) (path : ℕ → ℕ) (two : 1 < capacity k) (b : List ℕ) where
   -- the theory has room for a page that is split
-  split-room : (h : ℕ) (a : List ℕ) (p : ℕ) (b′ : List ℕ) (es : List Item) (n : ℕ) (v : StoreReplacement (List ℕ)) → OutcomeIs F (length b) a p (takeIn k b′ p es n .outcome) v → n ≡ taken F h
+  split-room : (h : ℕ) (a : List ℕ) (p : ℕ) (b′ : List ℕ) (es : List Item) (n : ℕ) (v : StoreReplacement (List ℕ)) → OutcomeIs F a p (takeIn k b′ p es n .outcome) v → n ≡ taken F h
       → leb (length es) (capacity k) ≡ false → h < v .1
   unfolding takeIn
   split-room h a p b′ es n v t e f = either (isPage (length b′) n)
-      (λ u. let g : OutcomeIs F (length b) a p (split n) v = rw (f, u) at t in omega (arith, g .0))
+      (λ u. let g : OutcomeIs F a p (split n) v = rw (f, u) at t in omega (arith, g .0))
       (λ u. absurd (rw (f, u) at t))
 
-  take-in-heads : (h : ℕ) (b′ : List ℕ) (p : ℕ) (es : List Item) (n : ℕ) → p ≡ path h → n ≡ taken F h → isPage (length b) p ≡ true → length b′ ≡ length b → All (Fit k) es
-      → length es ≤ suc (capacity k) → (p ≡ n → ⊥) → (leb (length es) (capacity k) ≡ false → isPage (length b) n ≡ true) → Heads k F path h b b′
+  take-in-heads : (h : ℕ) (b′ : List ℕ) (p : ℕ) (es : List Item) (n : ℕ) → p ≡ path h → n ≡ taken F h → Usable b p → length b′ ≡ length b → All (Fit k) es
+      → length es ≤ suc (capacity k) → (p ≡ n → ⊥) → (leb (length es) (capacity k) ≡ false → Usable b n) → Heads k F path h b b′
       → HeadsAfter k F path h b (takeIn k b′ p es n .outcome) (takeIn k b′ p es n .after)
   unfolding takeIn
   take-in-heads h b′ p es n ep en tp lb f few ne room v = either (leb (length es) (capacity k))
-      (λ e. rw e (h, en, heads-entries k F path b h b′ (withEntries b′ p es) lb v (with-only k b′ p es (page-of p lb tp) f (leb-true (length es) (capacity k) e))))
-      (λ e. let tn : isPage (length b) n ≡ true = room e in
-        rw (e, page-of n lb tn) (en, rw (ep, en) (heads-split k F path b h b′ es (rw (← ep) tp) (rw (← en) tn) (rw (← ep, ← en) ne) f two few small lb v)))
+      (λ e. rw e (h, en, heads-entries k F path b h b′ (withEntries b′ p es) lb v (with-only k b′ p es (page-of p lb (tp .0)) f (leb-true (length es) (capacity k) e))))
+      (λ e. let tn : Usable b n = room e in
+        rw (e, page-of n lb (tn .0)) (en, rw (ep, en) (heads-split k F path b h b′ es (rw (← ep) tp) (rw (← en) tn) (rw (← ep, ← en) ne) f two few lb v)))
 
-module _ (k F : ℕ) (key : List ℕ) (r : ℕ) (b : List ℕ) (o : Offered k key r b) (path : ℕ → ℕ) (plain : Plain b) where
+module _ (k F : ℕ) (key : List ℕ) (r : ℕ) (b : List ℕ) (o : Offered k key r) (path : ℕ → ℕ) (plain : Plain b) where
   after-child-heads : (h : ℕ) (b′ : List ℕ) (p : ℕ) (a : List ℕ) (c : ℕ) (out : Outcome) (v : StoreReplacement (List ℕ)) → HeadsAfter k F path h b out b′ → length b′ ≡ length b
-      → NonEmpty (itemsIn k b′ p) → p ≡ path (suc h) → isPage (length b) p ≡ true → (p ≡ taken F (suc h) → ⊥) → ((j : ℕ) → j < v .1 → isPage (length b) (taken F j) ≡ true)
-      → OutcomeIs F (length b) a p (afterChild k b′ key p c out .outcome) v
+      → NonEmpty (itemsIn k b′ p) → p ≡ path (suc h) → Usable b p → (p ≡ taken F (suc h) → ⊥) → ((j : ℕ) → j < v .1 → Usable b (taken F j))
+      → OutcomeIs F a p (afterChild k b′ key p c out .outcome) v
       → HeadsAfter k F path (suc h) b (afterChild k b′ key p c out .outcome) (afterChild k b′ key p c out .after)
   after-child-heads h b′ p a c (kept n) v x lb some ep tp ne room t =
-      (x .0, x .1, heads-entries k F path b (x .0) b′ (raised k b′ key p) lb (x .2) (raised-only k b′ key p (page-of p lb tp) (o .long)))
+      (x .0, x .1, heads-entries k F path b (x .0) b′ (raised k b′ key p) lb (x .2) (raised-only k b′ key p (page-of p lb (tp .0)) (o .long)))
   after-child-heads h b′ p a c bad v x lb some ep tp ne room t = absurd x
   after-child-heads h b′ p a c (split q) v x lb some ep tp ne room t =
       let es : List Item = replaced key (twoFor k b′ key c q) (itemsIn k b′ p) in
       let g = items-good k b′ p in
       let en : q + pageSize ≡ taken F (suc h) = omega (arith, x .0) in
       let le : length es ≡ 1 + length (itemsIn k b′ p) = replaced-length key (twoFor k b′ key c q) 1 (λ e. refl) (itemsIn k b′ p) some in
-      take-in-heads k F path (o .two) b (o .small) (suc h) b′ p es (q + pageSize) ep en tp lb (two-fit k (o .two) F key (o .long) b′ c q (itemsIn k b′ p) (g .0)) (omega (arith, g .1)) (λ u. ne (u ∙ en))
-      (λ e. rw en (room (suc h) (split-room k F path (o .two) b (o .small) (suc h) a p b′ es (q + pageSize) v t en e))) (x .1)
+      take-in-heads k F path (o .two) b (suc h) b′ p es (q + pageSize) ep en tp lb (two-fit k (o .two) F key (o .long) b′ c q (itemsIn k b′ p) (g .0)) (omega (arith, g .1)) (λ u. ne (u ∙ en))
+      (λ e. rw en (room (suc h) (split-room k F path (o .two) b (suc h) a p b′ es (q + pageSize) v t en e))) (x .1)
 
   -- the heads after insertion's step at the page at p
   abbrev Goes : ℕ → ℕ → ℕ → Type 0
@@ -229,13 +227,13 @@ module _ (k F : ℕ) (key : List ℕ) (r : ℕ) (b : List ℕ) (o : Offered k ke
       let es : List Item = insertPair bytesOrder key (toBe32 r) (itemsIn k b p) in
       let g = items-good k b p in
       let v : StoreReplacement (List ℕ) = replacement k F key r b zero a p in
-      let t : OutcomeIs F (length b) a p (takeIn k b p es F .outcome) v = rw (f .0, f .1) at (inserts k F key r b o zero (suc left) p a l f u .told) in
+      let t : OutcomeIs F a p (takeIn k b p es F .outcome) v = rw (f .0 .0, f .1) at (inserts k F key r b o zero (suc left) p a l f u .told) in
       let ef : F ≡ taken F 0 = omega arith in
-      rw (f .0, f .1)
-      (take-in-heads k F path (o .two) b (o .small) zero b p es F (sym (path-own key zero a (readTree (entriesIn k b) zero p)) ∙ sym (x zero (omega arith))) ef (f .0) refl
+      rw (f .0 .0, f .1)
+      (take-in-heads k F path (o .two) b zero b p es F (sym (path-own key zero a (readTree (entriesIn k b) zero p)) ∙ sym (x zero (omega arith))) ef (f .0) refl
       (insertPair-all bytesOrder (Fit k) key (toBe32 r) (itemsIn k b p) (o .long, length-toBe32 r) (g .0)) (omega (arith, g .1, insertPair-length key (toBe32 r) (itemsIn k b p)))
       (λ e. occ-not-head (taken F 0) p (concatMap (pagesUnder zero) (map (readEntry (entriesIn k b) zero) (entriesIn k b p))) (u .1 0) (sym (e ∙ ef)))
-      (λ e. rw ef (u .2 0 (split-room k F path (o .two) b (o .small) zero a p b es F v t ef e)))
+      (λ e. rw ef (u .2 0 (split-room k F path (o .two) b zero a p b es F v t ef e)))
       (heads-none k F path b plain))
   insert-heads (suc h) (suc left) p a l f u x = go (λ c y g w. insert-heads h left c y (omega arith) g w) (itemsIn k b p) refl
     where
@@ -256,8 +254,8 @@ module _ (k F : ℕ) (key : List ℕ) (r : ℕ) (b : List ℕ) (o : Offered k ke
           let w : Inserts k F key r b h left A c = inserts k F key r b o h left c A (omega arith) shaped free in
           let d : Step = insertUnder k left b key r c F in
           let on : OnPath h A c = λ j i. x j (omega arith) ∙ path-below k key b h j p a y ys e (λ q. omega arith) in
-          let t : OutcomeIs F (length b) a p (afterChild k (d .after) key p c (d .outcome) .outcome) v = page-is k F key r b o h p a y ys e u left (f .0) w .told in
-          rw (f .0, f .1) (subst UpperGoes (sym e)
+          let t : OutcomeIs F a p (afterChild k (d .after) key p c (d .outcome) .outcome) v = page-is k F key r b o h p a y ys e u left (f .0 .0) w .told in
+          rw (f .0 .0, f .1) (subst UpperGoes (sym e)
           (after-child-heads h (d .after) p a c (d .outcome) v (rec c A shaped free on) (w .as-long)
           (items-some k (d .after) p (numbered y) (map numbered ys) (child-rest k F key r b o h p a y ys e u left w))
           (sym (path-own key (suc h) a (readTree (entriesIn k b) (suc h) p)) ∙ sym (x (suc h) (omega arith))) (f .0)

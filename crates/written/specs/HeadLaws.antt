@@ -230,7 +230,7 @@ module _ (k : ℕ) where
 
   -- a page at p that is split, the new page at q: neither has the root bit, and q stands between p and the page beyond
   module _ (b : List ℕ) (p : ℕ) (es : List Item) (q : ℕ) (tp : isPage (length b) p ≡ true) (tq : isPage (length b) q ≡ true) (ne : p ≡ q → ⊥)
-      (f : All (Fit k) es) (two : 1 < capacity k) (few : length es ≤ suc (capacity k)) (small : length b ≤ 2 ^ 32)
+      (f : All (Fit k) es) (two : 1 < capacity k) (few : length es ≤ suc (capacity k)) (p32 : p < 2 ^ 32) (q32 : q < 2 ^ 32)
       (a16 : attributeAt b p < 2 ^ 16) (r32 : rightAt b p < 2 ^ 32) where
     abbrev m : ℕ
     m = half (length es)
@@ -259,9 +259,6 @@ module _ (k : ℕ) where
     n3 : length s3 ≡ length b
     n3 = length-beyond s2 (rightAt b p) q ∙ n2
 
-    q32 : q < 2 ^ 32
-    q32 = omega (arith, is-page (length b) q tq .high)
-
     lower-few : length (take m es) ≤ capacity k
     lower-few = simp length-take (omega arith)
 
@@ -282,7 +279,7 @@ module _ (k : ℕ) where
         let e1 = put-attribute s0 p (page-of p n0 tp) z (page-of z n0 tz) a (omega arith) in
         let e2 = put-right s1 p (page-of p n1 tp) z (page-of z n1 tz) q q32 in
         let e3 = beyond-head s2 r q q32 z (page-of z n2 tz) in
-        let e4 = new-head s3 q a p r (drop m es) (page-of q n3 tq) (omega arith) (omega arith) r32 (halves-fit k es m f .1) upper-few z (page-of z n3 tz) in
+        let e4 = new-head s3 q a p r (drop m es) (page-of q n3 tq) (omega arith) p32 r32 (halves-fit k es m f .1) upper-few z (page-of z n3 tz) in
         record {
           attributeIs = e4 .attributeIs ∙ ap (cond (eqb z q) a) (e3 .attributeIs ∙ e2 .attributeIs ∙ e1 .attributeIs ∙ ap (cond (eqb z p) a) (e0 .attributeIs));
           countIs = e4 .countIs ∙ ap (cond (eqb z q) (length (drop m es))) (e3 .countIs ∙ e2 .countIs ∙ e1 .countIs ∙ e0 .countIs);
@@ -295,7 +292,7 @@ module _ (k : ℕ) where
     unfolding splitPage
     split-header =
         let g = is-page (length b) p tp .low in
-        new-header s3 q (withoutRoot (attributeAt b p)) p (rightAt b p) (drop m es) (page-of q n3 tq) (omega arith) (omega (arith, is-page (length b) p tp .high)) r32 (halves-fit k es m f .1) upper-few
+        new-header s3 q (withoutRoot (attributeAt b p)) p (rightAt b p) (drop m es) (page-of q n3 tq) (omega arith) p32 r32 (halves-fit k es m f .1) upper-few
         ∙ beyond-header s2 (rightAt b p) q q32
         ∙ put-outside s1 (p + 8) (toLe32 q) (omega arith)
         ∙ put-outside s0 p (toLe16 (withoutRoot (attributeAt b p))) g
