@@ -72,7 +72,7 @@ pub record EntriesOnly (k : ℕ) (b b′ : List ℕ) : Type 0 where
   pub header : SameHeader b b′
 
 -- what holds of both holds of the one that a test gives
-one-of : (P : ℕ → Type 0) (s : Bool) (x y : ℕ) → P x → P y → P (cond s x y)
+pub one-of : (P : ℕ → Type 0) (s : Bool) (x y : ℕ) → P x → P y → P (cond s x y)
 one-of P true x y i j = i
 one-of P false x y i j = j
 

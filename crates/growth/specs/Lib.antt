@@ -1,3 +1,4 @@
 pub mod ItemLists
 pub mod InsertEntries
 pub mod InsertHeads
+pub mod InsertBuffer
