@@ -2,3 +2,4 @@ pub mod ItemLists
 pub mod InsertEntries
 pub mod InsertHeads
 pub mod InsertBuffer
+pub mod AttributeLaws
