@@ -169,6 +169,12 @@ pub shaped-page : (k h : ℕ) (b : List ℕ) (p : ℕ) → Shaped k h b p → Us
 shaped-page k zero b p s = s .0
 shaped-page k (suc h) b p s = s .0
 
+pub child-shaped : (k h : ℕ) (key b : List ℕ) (p : ℕ) (y : Item) (ys : List Item) → itemsIn k b p ≡ y ∷ ys → All (λ e. Shaped k h b (e .1)) (entriesIn k b p)
+    → Shaped k h b (childOf (choose bytesOrder key y ys))
+child-shaped k h key b p y ys e f =
+    subst (λ (c : List ℕ × ℕ). Shaped k h b (c .1)) (choose-numbered key y ys)
+    (choose-all bytesOrder key (λ c. Shaped k h b (c .1)) (numbered y) (map numbered ys) (subst (λ (l : List Item). All (λ c. Shaped k h b (c .1)) (map numbered l)) e f))
+
 -- a page that is split takes one new page
 split-more : (cap F : ℕ) (a : List ℕ) (p : ℕ) (w : StoreReplacement (List ℕ)) → w .1 ≤ storeSplitIfOver cap (taken F) a p w .1
 split-more cap F a p w = either (leb (length (w .0)) cap) (λ e. rw e (omega arith)) (λ e. rw e (omega arith))
@@ -248,11 +254,6 @@ module _ (k F : ℕ) (key : List ℕ) (r : ℕ) (b : List ℕ) where
           let more = split-more (capacity k) F a p (storePlace bytesOrder key (numbered y) (map numbered ys) (under (suc h) (numbered child))) in
           ((λ z. omega (arith, u .0 z, child-occ z)), (λ i. omega (arith, u .1 i, child-occ (taken F i))), (λ j l. child-room j (omega arith)))
 
-      pub child-shaped : All (λ e. Shaped k h b (e .1)) (entriesIn k b p) → Shaped k h b (childOf child)
-      child-shaped f =
-          subst (λ (c : List ℕ × ℕ). Shaped k h b (c .1)) (choose-numbered key y ys)
-          (choose-all bytesOrder key (λ c. Shaped k h b (c .1)) (numbered y) (map numbered ys) (rw es at f))
-
       -- the page itself keeps its entries meanwhile
       pub child-rest : (left : ℕ) → Inserts h left (larger bytesOrder (child .0) key) (childOf child) → entriesIn k (insertUnder k left b key r (childOf child) F .after) p ≡ map numbered (y ∷ ys)
       child-rest left w =
@@ -286,7 +287,7 @@ module _ (k F : ℕ) (key : List ℕ) (r : ℕ) (b : List ℕ) where
         go : ((c : ℕ) (y : List ℕ) → Shaped k h b c → Free h y c → Inserts h left y c) → (es : List Item) → itemsIn k b p ≡ es → Inserts (suc h) (suc left) a p
         go rec [] e = absurd (rw e at (f .2))
         go rec (y ∷ ys) e =
-            let w = rec (childOf (choose bytesOrder key y ys)) (larger bytesOrder (choose bytesOrder key y ys .0) key) (child-shaped h p a y ys e u (f .3)) (child-free h p a y ys e u) in
+            let w = rec (childOf (choose bytesOrder key y ys)) (larger bytesOrder (choose bytesOrder key y ys .0) key) (child-shaped k h key b p y ys e (f .3)) (child-free h p a y ys e u) in
             rw (f .0 .0, f .1) (subst (UpperIs left h a p) (sym e) (page-is h p a y ys e u left (f .0 .0) w))
 
 -- the root offset and the file size after an outcome at the root p

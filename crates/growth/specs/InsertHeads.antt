@@ -250,7 +250,7 @@ module _ (k F : ℕ) (key : List ℕ) (r : ℕ) (b : List ℕ) (o : Offered k ke
           let A : List ℕ = larger bytesOrder (choose bytesOrder key y ys .0) key in
           let v : StoreReplacement (List ℕ) = replacement k F key r b (suc h) a p in
           let free = child-free k F key r b o h p a y ys e u in
-          let shaped : Shaped k h b c = child-shaped k F key r b o h p a y ys e u (f .3) in
+          let shaped : Shaped k h b c = child-shaped k h key b p y ys e (f .3) in
           let w : Inserts k F key r b h left A c = inserts k F key r b o h left c A (omega arith) shaped free in
           let d : Step = insertUnder k left b key r c F in
           let on : OnPath h A c = λ j i. x j (omega arith) ∙ path-below k key b h j p a y ys e (λ q. omega arith) in

@@ -3,3 +3,5 @@ pub mod InsertEntries
 pub mod InsertHeads
 pub mod InsertBuffer
 pub mod AttributeLaws
+pub mod SoundReading
+pub mod RoomLaws
