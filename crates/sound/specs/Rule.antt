@@ -38,7 +38,7 @@ isSame (some a) x = isEqual (ordering a x)
 -- the entries of a leaf, after the key o: each key is above the one before it, each record number above 0
 unfoldable pub leafEntries : Option (List ℕ) → Entries → Bool
 leafEntries o [] = true
-leafEntries o (e ∷ es) = not (eqb (e .1) 0) && (isAbove o (e .0) && leafEntries (some (e .0)) es)
+leafEntries o (e ∷ es) = (not (eqb (e .1) 0) && isAbove o (e .0)) && leafEntries (some (e .0)) es
 
 -- the entries of a page above the leaves, in a store of pages: each key is the last of the child's
 unfoldable pub upperEntries : (ℕ → Entries) → Entries → Bool

@@ -1,0 +1,4 @@
+use Rattle.audit.proofs.audit.Statement.{statement}
+
+pub audit-spec : {M : Type 1} → statement M
+audit-spec = ?
