@@ -1,3 +1,5 @@
 pub mod Layout
 pub mod Entries
+pub mod Given
 pub mod ItemLaws
+pub mod WriteLaws
