@@ -3,3 +3,5 @@ pub mod Entries
 pub mod Given
 pub mod ItemLaws
 pub mod WriteLaws
+pub mod EntryLaws
+pub mod GatherLaws

@@ -1,43 +1,32 @@
 -- `layout::link_beyond` meets its contract: it stores only where the rule's test holds. Assumes nothing.
-use mathlib.Core.Path.{_≡_, sym, _∙_}
+use mathlib.Core.Path.{sym, _∙_}
 use native.Mathlib.Omega.{arith}
 use Rattle.page.specs.HeaderLaws.{is-page}
 use Rattle.layout.specs.Layout.{linkBeyond}
 use borrow.Author.Needs.{needs}
 use Rattle.layout.proofs.link_beyond.Statement.{statement}
 use Rattle.layout.proofs.link_beyond.Tie as tie
-use Rattle.layout.proofs.link_beyond.Reads as reads
-use Rattle.layout.proofs.link_beyond.Lts as lts
-use Rattle.octets.proofs.store_le32.Reads as store-le32-reads
-use Rattle.page.proofs.is_page.Reads as is-page-reads
 
--- src/lib.rt:46:8
 is-page-requires : tie.Need-is-page-requires
 is-page-requires c κs = search needs
 
--- src/lib.rt:47:35
 cast-store-le32 : tie.Need-cast-store-le32
 cast-store-le32 c = search needs
 
--- src/lib.rt:47:35
 add-store-le32 : tie.Need-add-store-le32
 add-store-le32 c = search needs
 
--- src/lib.rt:47:9
 store-le32-requires : tie.Need-store-le32-requires
 store-le32-requires c κs = let g = is-page _ _ (sym (c .before .before .before .is-page .ensures) ∙ c .before .before .if1 .taken) in omega arith
 
--- src/lib.rt:43:1
 same-length : tie.Need-same-length
 same-length c = search needs
 
--- src/lib.rt:43:1
 returns : tie.Need-returns
 unfolding linkBeyond
 returns c =
     rw (sym (c .before .before .before .before .before .before .is-page .ensures) ∙ c .before .before .before .before .before .if1 .taken) (c .before .before .store-le32 .ensures)
 
--- src/lib.rt:43:1
 returns-2 : tie.Need-returns-2
 unfolding linkBeyond
 returns-2 c = rw (sym (c .before .is-page .ensures) ∙ c .if1 .left)

@@ -3,49 +3,34 @@ use Rattle.layout.specs.WriteLaws.{new-page-by}
 use borrow.Author.Needs.{needs}
 use Rattle.layout.proofs.new_page.Statement.{statement}
 use Rattle.layout.proofs.new_page.Tie as tie
-use Rattle.layout.proofs.new_page.Reads as reads
-use Rattle.layout.proofs.new_page.Lts as lts
-use Rattle.layout.proofs.with_entries.Reads as with-entries-reads
-use Rattle.octets.proofs.store_le16.Reads as store-le16-reads
-use Rattle.octets.proofs.store_le32.Reads as store-le32-reads
 
--- src/lib.rt:35:14
 cast-at : tie.Need-cast-at
 cast-at c = search needs
 
--- src/lib.rt:36:5
 store-le16-requires : tie.Need-store-le16-requires
 store-le16-requires c κs = search needs
 
--- src/lib.rt:37:31
 add-store-le32 : tie.Need-add-store-le32
 add-store-le32 c = search needs
 
--- src/lib.rt:37:5
 store-le32-requires : tie.Need-store-le32-requires
 store-le32-requires c κs = search needs
 
--- src/lib.rt:38:31
 add-store-le32-2 : tie.Need-add-store-le32-2
 add-store-le32-2 c = search needs
 
--- src/lib.rt:38:5
 store-le32-requires-2 : tie.Need-store-le32-requires-2
 store-le32-requires-2 c κs = search needs
 
--- src/lib.rt:39:34
 cast-with-entries : tie.Need-cast-with-entries
 cast-with-entries c = search needs
 
--- src/lib.rt:39:5
 with-entries-requires : tie.Need-with-entries-requires
 with-entries-requires c κs = search needs
 
--- src/lib.rt:31:1
 same-length : tie.Need-same-length
 same-length c = search needs
 
--- src/lib.rt:31:1
 returns : tie.Need-returns
 returns c =
     new-page-by _ _ _ _ _ _ (c .before .before .before .before .before .before .before .before .before .before .before .before .before .before .before .store-le16 .ensures) (c .before .before .before .before .before .before .before .before .before .before .before .store-le32 .ensures) (c .before .before .before .before .before .before .before .store-le322 .ensures) (c .before .before .with-entries .ensures)

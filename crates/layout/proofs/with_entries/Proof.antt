@@ -4,55 +4,38 @@ use Rattle.layout.specs.WriteLaws.{sizes, with-entries-by}
 use borrow.Author.Needs.{needs}
 use Rattle.layout.proofs.with_entries.Statement.{statement}
 use Rattle.layout.proofs.with_entries.Tie as tie
-use Rattle.layout.proofs.with_entries.Reads as reads
-use Rattle.layout.proofs.with_entries.Lts as lts
-use Rattle.octets.proofs.copy_in.Reads as copy-in-reads
-use Rattle.octets.proofs.fill.Reads as fill-reads
-use Rattle.octets.proofs.store_le16.Reads as store-le16-reads
-use Rattle.page.proofs.entry_offset.Reads as entry-offset-reads
 
--- src/lib.rt:19:14
 cast-at : tie.Need-cast-at
 cast-at c = search needs
 
--- src/lib.rt:20:31
 add-store-le16 : tie.Need-add-store-le16
 add-store-le16 c = search needs
 
--- src/lib.rt:20:39
 cast-store-le16 : tie.Need-cast-store-le16
 cast-store-le16 c = let z = sizes (c .before .before .before .before .pre) in omega arith
 
--- src/lib.rt:20:5
 store-le16-requires : tie.Need-store-le16-requires
 store-le16-requires c κs = search needs
 
--- src/lib.rt:21:28
 add-copy-in : tie.Need-add-copy-in
 add-copy-in c = search needs
 
--- src/lib.rt:21:5
 copy-in-requires : tie.Need-copy-in-requires
 copy-in-requires c κs = let z = sizes (c .before .before .before .before .before .before .before .before .pre) in omega arith
 
--- src/lib.rt:24:9
 entry-offset-requires : tie.Need-entry-offset-requires
 entry-offset-requires c κs = search needs
 
--- src/lib.rt:25:9
 add-fill : tie.Need-add-fill
 add-fill c = search needs
 
--- src/lib.rt:22:5
 fill-requires : tie.Need-fill-requires
 fill-requires c κs =
     let z = sizes (c .before .before .before .before .before .before .before .before .before .before .before .before .before .pre) in (omega (arith, c .entry-offset .ensures), omega arith)
 
--- src/lib.rt:15:1
 same-length : tie.Need-same-length
 same-length c = search needs
 
--- src/lib.rt:15:1
 returns : tie.Need-returns
 returns c =
     with-entries-by (c .before .before .before .before .before .before .before .before .before .before .before .before .before .before .before .before .pre) (c .before .before .before .before .before .before .before .before .before .before .before .store-le16 .ensures) (c .before .before .before .before .before .before .before .copy-in .ensures) (c .before .before .before .entry-offset .ensures) (c .before .before .fill .ensures)
