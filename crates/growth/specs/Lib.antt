@@ -5,3 +5,4 @@ pub mod InsertBuffer
 pub mod AttributeLaws
 pub mod SoundReading
 pub mod RoomLaws
+pub mod InsertSound
