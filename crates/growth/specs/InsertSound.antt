@@ -7,10 +7,12 @@ use mathlib.Core.Option.{Option, none}
 use Prim.Native.Nat.{ℕ, zero, suc, _+_, _*_, _%_, _^_, _≤_, _<_, min}
 use native.Mathlib.Omega.{arith}
 use lib.Dec.{eqb, ltb}
-use lib.ListN.{length}
+use lib.ListN.{length, getD}
 use borrow.Author.Tests.{ltb-true, ltb-false, eqb-true, eqb-false, eq-eqb, ne-eqb}
 use Rattle.basis.specs.Lists.{All}
 use Rattle.basis.specs.Tests.{either}
+use Rattle.octets.specs.Store.{window}
+use Rattle.octets.specs.StoreLaws.{getD-window}
 use Rattle.octets.specs.NumberLaws.{le16-same, le32-same}
 use Rattle.tree.specs.Book.{insertion, verdict, isAccepted}
 use Rattle.tree.specs.Clauses.{least, Sized, AllLinked}
@@ -26,12 +28,15 @@ use Rattle.tree.specs.Lists.{concatMap, occ, countIf}
 use Rattle.tree.specs.Pairs.{find}
 use Rattle.tree.specs.Relinking.{pathPage}
 use Rattle.tree.specs.Room.{run, needs}
+use Rattle.tree.specs.Store.{readTree}
 use Rattle.tree.specs.SoundIndex.{PagesOnce, SoundIndex, LinkedIndex}
 use Rattle.tree.specs.Tree.{Tree, pagesUnder, pages, pairs, levelUnder, level}
-use Rattle.page.specs.Header.{maxBytes, maxLevels, noPage, isPage, rootOffset, fileSize, keyLength, headerGood}
+use Rattle.page.specs.Header.{maxBytes, maxLevels, noPage, isPage, rootOffset, fileSize, keyLength, features, headerGood}
 use Rattle.page.specs.HeaderLaws.{IsPage, is-page, is-page-from, GoodHeader, good-header, good-header-from}
 use Rattle.page.specs.KeyOrder.{bytesOrder}
 use Rattle.page.specs.Page.{attributeAt, countAt, rootBit, leafBit, capacity}
+use Rattle.page.specs.Reading.{entriesAt}
+use Rattle.page.specs.ReadingLaws.{window-window}
 use Rattle.layout.specs.WriteLaws.{capacity-least}
 use Rattle.sound.specs.Sound.{treeOf, linksOf, Sound}
 use Rattle.sound.specs.MarkLaws.{occ-all}
@@ -238,3 +243,177 @@ module _ (b key : List ℕ) (r : ℕ) (accepts : Accepts b key r) where
 
   path-small : (j : ℕ) → j < splits → attributeAt b (path j) ≤ 3
   path-small j l = old-attribute (path j) (path-old j l)
+
+  -- the attributes of the pages after it
+  pub record Bits : Type 0 where
+    pub leaf : (j z : ℕ) → j ≤ x .0 → 0 < occ z (level j (x .0) (x .1)) → leafBit (attributeAt b″ z) ≡ eqb j 0
+    pub root : (z : ℕ) → 0 < occ z (pages (x .0) (x .1)) → rootBit (attributeAt b″ z) ≡ eqb z (x .1 .0)
+    pub small : (z : ℕ) → 0 < occ z (pages (x .0) (x .1)) → attributeAt b″ z ≤ 3
+
+  bits-stay : x .0 ≡ h → x .1 .0 ≡ rootOffset b → splits ≤ h → ((z : ℕ) → isPage (length b) z ≡ true → attributeAt b″ z ≡ unrooted path (taken F) splits (attributeAt b) z) → Bits
+  bits-stay e0 e1 short at =
+      let n2 : x .2 ≡ splits = rw (ne-eqb splits (suc h) (λ q. omega arith)) at need in
+      record {
+        leaf = λ j z l o. ap leafBit (at z (new-page z (in-tree (x .0) j z (x .1) o))) ∙ leaf-bits j z (omega arith) o;
+        root = λ z o. rw (at z (new-page z o), e1) (in-pages z o
+          (λ f. either (eqb z (rootOffset b))
+            (λ q. let v : z ≡ rootOffset b = eqb-true z (rootOffset b) q in
+              rw (unrooted-same path (taken F) (attributeAt b) splits z (λ j l. (old-new z f j, (λ u. root-high j l (omega arith) (sym v ∙ u))))) (old-root z f))
+            (λ q. rw q (root-none path (taken F) (attributeAt b) splits z (old-root z f ∙ q))))
+          (λ j l v. rw (v, ne-eqb (taken F j) (rootOffset b) (λ u. old-new (rootOffset b) root-old j (sym u))) (root-new path (taken F) (attributeAt b) splits j (omega arith))));
+        small = λ z o. rw (at z (new-page z o)) (in-pages z o
+          (λ f. small-old path (taken F) (attributeAt b) splits path-small z (old-attribute z f))
+          (λ j l v. rw v (small-new path (taken F) (attributeAt b) splits path-small j (omega arith))));
+      }
+
+  -- the path's page on the top level is the root
+  path-top : path h ≡ rootOffset b
+  path-top = rw (eq-eqb h h refl)
+
+  bits-rise : x .0 ≡ suc h → x .1 .0 ≡ taken F (suc h) → splits ≡ suc h
+      → ((z : ℕ) → isPage (length b) z ≡ true → attributeAt b″ z ≡ cond (eqb z (taken F (suc h))) 1 (unrooted path (taken F) (suc h) (attributeAt b) z)) → Bits
+  bits-rise e0 e1 er at-top =
+      let N : ℕ = taken F (suc h) in
+      let n2 : x .2 ≡ suc splits = rw (eq-eqb splits (suc h) er) at need in
+      let at : (z : ℕ) → isPage (length b) z ≡ true → attributeAt b″ z ≡ cond (eqb z N) 1 (unrooted path (taken F) splits (attributeAt b) z) =
+        λ z p. at-top z p ∙ ap (λ (m : ℕ). cond (eqb z N) 1 (unrooted path (taken F) m (attributeAt b) z)) (sym er) in
+      record {
+        leaf = λ j z l o. ap leafBit (at z (new-page z (in-tree (x .0) j z (x .1) o)))
+          ∙ either (eqb j (suc h))
+          (λ q. let top : z ≡ N = top-page j z (eqb-true j (suc h) q ∙ sym e0) o ∙ e1 in
+            rw (eq-eqb z N top, eqb-true j (suc h) q) (sym (ne-eqb (suc h) 0 (λ u. omega arith))))
+          (λ q. let low : j ≤ h = omega (arith, eqb-false j (suc h) q) in
+            rw (ne-eqb z N (below-top j z low o)) (leaf-bits j z low o));
+        root = λ z o. rw (at z (new-page z o), e1) (either (eqb z N)
+          (λ q. rw q)
+          (λ q. rw q (in-pages z o
+            (λ f. either (eqb z (rootOffset b))
+              (λ u. let v : z ≡ path h = eqb-true z (rootOffset b) u ∙ sym path-top in
+                rw v (root-split path (taken F) (attributeAt b) splits h (omega arith)))
+              (λ u. root-none path (taken F) (attributeAt b) splits z (old-root z f ∙ u)))
+            (λ j l v. rw v (root-new path (taken F) (attributeAt b) splits j (not-top j z q v (omega arith)))))));
+        small = λ z o. rw (at z (new-page z o)) (either (eqb z N)
+          (λ q. rw q (omega arith))
+          (λ q. rw q (in-pages z o
+            (λ f. small-old path (taken F) (attributeAt b) splits path-small z (old-attribute z f))
+            (λ j l v. rw v (small-new path (taken F) (attributeAt b) splits path-small j (not-top j z q v (omega arith)))))));
+      }
+    where
+      top-page : (j z : ℕ) → j ≡ x .0 → 0 < occ z (level j (x .0) (x .1)) → z ≡ x .1 .0
+      top-page j z e o =
+          let y : 0 < occ z (x .1 .0 ∷ []) = rw (eq-eqb j (x .0) e) at o in
+          either (eqb z (x .1 .0)) (λ u. eqb-true z (x .1 .0) u) (λ u. absurd (omega (arith, ap countIf u)))
+
+      below-top : (j z : ℕ) → j ≤ h → 0 < occ z (level j (x .0) (x .1)) → z ≡ taken F (suc h) → ⊥
+      below-top j z l o e = in-level j z l o (λ f. old-new z (in-tree h j z t f) (suc h) e) (λ m u. let q : j ≡ suc h = omega (arith, sym u ∙ e) in omega arith)
+
+      not-top : (j z : ℕ) → eqb z (taken F (suc h)) ≡ false → z ≡ taken F j → j < suc splits → j < splits
+      not-top j z q v l = either (eqb j splits)
+          (λ u. absurd (eqb-false z (taken F (suc h)) q (v ∙ ap (taken F) (eqb-true j splits u ∙ er))))
+          (λ u. omega (arith, eqb-false j splits u))
+
+  heads : HeadsIn k h b key r ready
+  heads = heads-in k h b key r ready
+
+  bits : Bits
+  bits = go (heads .rising)
+    where
+      go : Rising k h b key r ready → Bits
+      go (stays e0 e1 short at) = bits-stay e0 e1 short at
+      go (rises e0 e1 er at) = bits-rise e0 e1 er at
+
+  linked-after : AllLinked noPage (linksOf b″) (x .0) (x .1)
+  linked-after j l =
+      let linked : LinkedIndex (linksOf b) before = subst (LinkedIndex (linksOf b)) (sym before-is) (sound-linked b (accepts .sound)) in
+      let e : AllLinked noPage (linksAfter k h b key r ready) (x .0) (x .1) = rw taken-in at (next-linked kept-by two (insertion key r) before (linksOf b) sound-before linked) in
+      linked-same noPage (linksAfter k h b key r ready) (linksOf b″) noPage (level j (x .0) (x .1))
+      (λ z o. heads .links z (new-page z (in-tree (x .0) j z (x .1) o))) (e j l)
+
+  counts-after : (z : ℕ) → 0 < occ z (pages (x .0) (x .1)) → countAt b″ z ≤ capacity k
+  counts-after z o = in-pages z o
+      (λ f. heads .counts z (old-page z f) (old-count z f))
+      (λ j l e. rw e (heads .newCounts j l))
+
+  -- the header: root offset and file size are the new ones, all else is as it was
+  rest : SameRest b b″
+  rest = header-after k h b key r ready
+
+  key-same : keyLength b″ ≡ k
+  key-same = le16-same b″ b 12 (sym (window-window b″ 12 500 0 2 (omega arith)) ∙ ap (λ (w : List ℕ). window w 0 2) (rest .rest) ∙ window-window b 12 500 0 2 (omega arith))
+
+  features-same : features b″ ≡ features b
+  features-same = sym (getD-window b″ 12 500 2 0 (omega arith)) ∙ ap (λ (w : List ℕ). getD w 2 0) (rest .rest) ∙ getD-window b 12 500 2 0 (omega arith)
+
+  size-is : fileSize b″ ≡ after .size
+  size-is = size-after k h b key r ready
+
+  long : length b″ ≡ length b
+  long = length-after k h b key r ready
+
+  header-good : headerGood b″ ≡ true
+  header-good =
+      let once = sound-after .pagesOnce in
+      let aligned = once .aligned in
+      let within = sound-after .withinSize in
+      let least-size = good .least in
+      let root : isPage (after .size) (x .1 .0) ≡ true = once-page after once (x .1 .0) (occ-here (x .1 .0) (concatMap (pagesUnder (x .0)) (x .1 .1))) in
+      good-header-from b″ (record {
+        long = rw long (good .long);
+        whole = rw size-is aligned;
+        least = rw size-is (omega arith);
+        most = rw size-is (omega arith);
+        within = rw (size-is, long) (omega arith);
+        root = rw (size-is, root-after k h b key r ready) root;
+        key-low = rw key-same (good .key-low);
+        key-high = rw key-same (good .key-high);
+        free = le32-same b″ b 4 (rest .free) ∙ good .free;
+        plain = features-same ∙ good .plain;
+      })
+
+  -- the new tree, read as far as the file goes
+  tree-is : treeOf b″ (x .0) ≡ x .1
+  tree-is =
+      let read : treeIn k b″ (x .0) ≡ x .1 = tree-after k h b key r ready in
+      ap (λ (n : ℕ). readTree (entriesAt n (fileSize b″) b″) (x .0) (rootOffset b″)) key-same
+      ∙ read-shorter k (fileSize b″) b″ (x .0) (rootOffset b″) (good-header b″ header-good .within)
+        (λ z o. rw size-is (once-page after (sound-after .pagesOnce) z (subst (λ (T : Tree (List ℕ) (x .0)). 0 < occ z (pages (x .0) T)) read o)))
+      ∙ read
+
+  index-is : indexOf b″ (x .0) ≡ after
+  index-is = λ i. record { height = x .0; tree = tree-is i; size = size-is i }
+
+  there : (z : ℕ) → 0 < occ z (pages (x .0) (treeOf b″ (x .0))) → 0 < occ z (pages (x .0) (x .1))
+  there z o = subst (λ (T : Tree (List ℕ) (x .0)). 0 < occ z (pages (x .0) T)) tree-is o
+
+  sound-now : (s : Sound b″) × (s .height ≡ x .0)
+  sound-now =
+      let ps : List ℕ = pages (x .0) (treeOf b″ (x .0)) in
+      index-sound b″ (x .0) (min (length b) maxBytes) header-good
+      (subst (λ (n : ℕ). SoundIndex (settingOf n (min (length b) maxBytes)) (indexOf b″ (x .0))) (sym key-same) (subst (SoundIndex kept-by) (sym index-is) sound-after))
+      (subst (λ (T : Tree (List ℕ) (x .0)). AllLinked noPage (linksOf b″) (x .0) T) (sym tree-is) linked-after)
+      (all-occ (λ p. attributeAt b″ p ≤ 3) ps (λ z o. bits .small z (there z o)))
+      (all-occ (λ p. rootBit (attributeAt b″ p) ≡ eqb p (rootOffset b″)) ps (λ z o. bits .root z (there z o) ∙ ap (eqb z) (sym (root-after k h b key r ready))))
+      (λ j l. all-occ (λ p. leafBit (attributeAt b″ p) ≡ eqb j 0) (level j (x .0) (treeOf b″ (x .0)))
+        (λ z o. bits .leaf j z l (subst (λ (T : Tree (List ℕ) (x .0)). 0 < occ z (level j (x .0) T)) tree-is o)))
+      (all-occ (λ p. countAt b″ p ≤ capacity (keyLength b″)) ps (λ z o. rw key-same (counts-after z (there z o))))
+
+-- what an insertion that is accepted leaves: a sound index, the theory's insertion into the old one, so with the new pair among the old ones
+pub record Inserts (b key : List ℕ) (r : ℕ) (s : Sound b) : Type 0 where
+  pub sound : Sound (insertedBuffer (keyLength b) b key r)
+  pub index : indexOf (insertedBuffer (keyLength b) b key r) (sound .height) ≡ inserted (settingOf (keyLength b) (min (length b) maxBytes)) key r (indexOf b (s .height))
+  pub keyIs : keyLength (insertedBuffer (keyLength b) b key r) ≡ keyLength b
+  pub as-long : length (insertedBuffer (keyLength b) b key r) ≡ length b
+  pub plain : Plain (insertedBuffer (keyLength b) b key r)
+
+-- Theorem: an insertion that is accepted keeps the index sound
+pub insert-keeps-sound : (b key : List ℕ) (r : ℕ) (accepts : Accepts b key r) → Inserts b key r (accepts .sound)
+insert-keeps-sound b key r accepts =
+    let s = sound-now b key r accepts in
+    let b″ : List ℕ = insertedBuffer (keyLength b) b key r in
+    record {
+      sound = s .0;
+      index = ap (indexOf b″) (s .1) ∙ index-is b key r accepts ∙ ap (inserted (kept-by b key r accepts) key r) (before-is b key r accepts);
+      keyIs = key-same b key r accepts;
+      as-long = long b key r accepts;
+      plain = heads b key r accepts .plain;
+    }

@@ -104,7 +104,7 @@ module _ (b : List ℕ) (h : ℕ) where
   pub index-sound : (most : ℕ) → headerGood b ≡ true → SoundIndex (settingOf (keyLength b) most) (indexOf b h) → LinkedIndex (linksOf b) (indexOf b h)
       → All (λ p. attributeAt b p ≤ 3) (pages h (treeOf b h)) → All (λ p. rootBit (attributeAt b p) ≡ eqb p (rootOffset b)) (pages h (treeOf b h))
       → ((j : ℕ) → j ≤ h → All (λ p. leafBit (attributeAt b p) ≡ eqb j 0) (level j h (treeOf b h)))
-      → All (λ p. countAt b p ≤ capacity (keyLength b)) (pages h (treeOf b h)) → Sound b
+      → All (λ p. countAt b p ≤ capacity (keyLength b)) (pages h (treeOf b h)) → (s : Sound b) × (s .height ≡ h)
   index-sound most e i l attributes rootBits leafBits counts =
       let ps = pages h (treeOf b h) in
       let S = entriesAt (keyLength b) (fileSize b) b in
@@ -116,7 +116,7 @@ module _ (b : List ℕ) (h : ℕ) where
         (λ p u c. length-entries (keyLength b) (fileSize b) b p u ∙ min-eq-left c) ps inside counts in
       let low : All (λ p. least h ≤ countAt b p) (pages h (treeOf b h)) = all-map2 (λ p. least h ≤ length (entriesAt (keyLength b) (fileSize b) b p)) (λ p. length (entriesAt (keyLength b) (fileSize b) b p) ≡ countAt b p) (λ p. least h ≤ countAt b p)
         (λ p u c. omega arith) ps (sized-pages S (capacity (keyLength b)) h (rootOffset b) (i .sized)) full in
-      record {
+      (record {
         header = e;
         height = h;
         inside = inside;
@@ -130,4 +130,4 @@ module _ (b : List ℕ) (h : ℕ) where
         records = i .records;
         greatest = d .1;
         links = l;
-      }
+      }, refl)
