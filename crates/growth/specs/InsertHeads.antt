@@ -11,7 +11,7 @@ use borrow.Author.Tests.{leb-true, leb-false, eqb-true, eqb-false, eq-eqb, ne-eq
 use Rattle.basis.specs.Lists.{All}
 use Rattle.basis.specs.Tests.{either}
 use Rattle.octets.specs.Bytes.{toBe32}
-use Rattle.octets.specs.NumberLaws.{length-toBe32}
+use Rattle.octets.specs.NumberLaws.{length-toBe32, le16-small, le32-small}
 use Rattle.tree.specs.Clauses.{Links}
 use Rattle.tree.specs.Index.{newPage as taken}
 use Rattle.tree.specs.Insertion.{half}
@@ -44,6 +44,9 @@ use Rattle.growth.specs.InsertEntries.{Usable, OutcomeIs, StepIs, Shaped
 -- attributes and right links that are numbers of two and four bytes
 abbrev pub Plain : List ℕ → Type 0
 Plain b = (z : ℕ) → isPage (length b) z ≡ true → (attributeAt b z < 2 ^ 16) × (rightAt b z < 2 ^ 32)
+
+pub octets-plain : (b : List ℕ) → All (λ x. x < 256) b → Plain b
+octets-plain b a z t = (le16-small b a z, le32-small b a (z + 8))
 
 -- the attributes after the lowest m pages of a path were split: both halves without the root bit
 abbrev pub unrooted : (ℕ → ℕ) → (ℕ → ℕ) → ℕ → (ℕ → ℕ) → ℕ → ℕ

@@ -6,3 +6,4 @@ pub mod AttributeLaws
 pub mod SoundReading
 pub mod RoomLaws
 pub mod InsertSound
+pub mod FreshLaws

@@ -30,7 +30,7 @@ use Rattle.growth.specs.InsertBuffer.{treeIn}
 pub page-longer : {m n : ℕ} (p : ℕ) → m ≤ n → isPage m p ≡ true → isPage n p ≡ true
 page-longer {m} {n} p l t = let g = is-page m p t in is-page-from n p (record { whole = g .whole; low = g .low; high = omega arith })
 
-entries-longer : (k size : ℕ) (b : List ℕ) (p : ℕ) → size ≤ length b → isPage size p ≡ true → entriesIn k b p ≡ entriesAt k size b p
+pub entries-longer : (k size : ℕ) (b : List ℕ) (p : ℕ) → size ≤ length b → isPage size p ≡ true → entriesIn k b p ≡ entriesAt k size b p
 unfolding entriesAt itemsAt
 entries-longer k size b p l t = rw (t, page-longer p l t)
 
