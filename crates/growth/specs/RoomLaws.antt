@@ -69,6 +69,10 @@ module _ (k : ℕ) (key b : List ℕ) where
             ∙ ap (λ (x : List ℕ × ℕ). storeRun bytesOrder (capacity k) key h (x .1) (entriesIn k b)) (choose-numbered key y ys) in
           rw (below, there, length-map (itemsIn k b p) numbered) (on-top (leb (capacity k) (length (itemsIn k b p))) (suc h) d)
 
+-- Theorem: the path to any key has as many levels as the index
+pub sound-levels : (b key : List ℕ) (s : Sound b) → pathFrom (keyLength b) maxLevels b key (rootOffset b) .levels ≡ suc (s .height)
+sound-levels b key s = ap (λ (path : Path). path .levels) (path-is (keyLength b) key b (s .height) maxLevels (rootOffset b) (omega (arith, s .levels)) (sound-shaped b s))
+
 -- F would pass the buffer or 1,048,576 exactly when it would pass the lesser
 less-both : (a b c : ℕ) → ltb (min a b) c ≡ (ltb a c || ltb b c)
 less-both a b c = either (ltb a c)

@@ -1,0 +1,4 @@
+pub mod Book
+pub mod LookupSound
+pub mod CallLaws
+pub mod BookLaws
