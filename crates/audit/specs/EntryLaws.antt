@@ -45,11 +45,13 @@ module _ (b : List ℕ) (k size p : ℕ) where
         (λ e. let z : n ≡ 0 = en ∙ sym (count-none e) in rw z (entries-none k size b p e))
 
     pub entries-within : InFile b k size → EntriesWithin b k p n
-    entries-within f = record { each = λ i h. either (isPage size p)
-        (λ e. let o = is-page size p e in
-        let m : n ≤ capacity k = rw (en, length-entries k size b p e) (min-le-right _ _) in
-        record { key = f .key; count = omega arith; page = omega arith })
-        (λ e. absurd (omega (arith, count-none e))) }
+    entries-within f = record {
+      each = λ i h. either (isPage size p)
+          (λ e. let o = is-page size p e in
+          let m : n ≤ capacity k = rw (en, length-entries k size b p e) (min-le-right _ _) in
+          record { key = f .key; count = omega arith; page = omega arith })
+          (λ e. absurd (omega (arith, count-none e)));
+    }
 
 -- one entry more
 module _ (b : List ℕ) (k p n i : ℕ) (h : i < n) where

@@ -7,7 +7,6 @@ use page::PageOffset;
 ghost use mathlib.Core.Path.{_≡_};
 ghost use mathlib.Core.Bool.{Bool, true, not, _&&_};
 ghost use mathlib.Core.Option.{none};
-ghost use mathlib.Core.List.{[], _∷_};
 ghost use Prim.Native.Nat.{ℕ, _+_, _-_, _≤_};
 ghost use lib.ListN.{length};
 ghost use lib.Dec.{eqb};
@@ -19,7 +18,7 @@ ghost use Rattle.page.specs.Within.{Within};
 ghost use Rattle.page.specs.Reading.{entriesAt};
 ghost use Rattle.page.specs.ReadingLaws.{entriesFrom};
 ghost use Rattle.sound.specs.Sound.{Audited};
-ghost use Rattle.sound.specs.Rule.{maxPages, lastOf, isAbove, isSame, leafEntries, upperEntries, entriesFit, pageFits, attributeOf, isLeaf, chain, children, firstChild, checkPage, checkPages, closed, rootLevel, nextLevel, levelsUnder, markedFrom, pagesGood};
+ghost use Rattle.sound.specs.Rule.{maxPages, lastOf, isAbove, isSame, leafEntries, upperEntries, entriesFit, pageFits, attributeOf, isLeaf, chain, childrenOf, children, firstChild, checkPage, checkPages, closed, rootLevel, nextLevel, levelsUnder, markedFrom, pagesGood};
 ghost use Rattle.audit.specs.State.{InFile, EntriesWithin, keyFrom, progressOf, levelOf, startAt, refusedAt, closedAt};
 
 // The most pages that an index has.
@@ -149,7 +148,7 @@ fn entries_fit(
     ensures { λ r. ⌜ r ≡ entriesFit (now (index .entry)) k size attribute (last .0) (page .0) ⌝ }
 {
     let count = entry_count(index, k, size, page);
-    if 2 <= attribute {
+    if page::is_leaf(attribute) {
         return leaf_entries(index, k, page, count, last_key(index, k, size, last));
     }
     upper_entries(index, k, size, page, count)
@@ -174,8 +173,7 @@ fn page_fits(
     let head = Page::at(index, page);
     if !((head.attribute == attribute)
         & (page::count_good(k, attribute, head.count)
-            & ((head.left.0 == last.0) & (next.0 == page.0))))
-    {
+            & ((head.left.0 == last.0) & (next.0 == page.0)))) {
         return false;
     }
     entries_fit(index, k, size, attribute, last, page)
@@ -236,7 +234,7 @@ fn check_children(
     s: Progress,
 ) -> Progress
     requires { ⌜ InFile (now index) k size × (length (now marks) ≡ maxPages) ⌝ }
-    ensures { λ r. ⌜ checkPages (now (index .entry)) k size attribute (children (now (index .entry)) k size (parent .0 ∷ [])) (progressOf s, now (marks .entry)) ≡ (progressOf r, now (marks .exit)) ⌝ }
+    ensures { λ r. ⌜ checkPages (now (index .entry)) k size attribute (childrenOf (now (index .entry)) k size (parent .0)) (progressOf s, now (marks .entry)) ≡ (progressOf r, now (marks .exit)) ⌝ }
 {
     let count = entry_count(index, k, size, parent);
     let mut t = s;
@@ -245,7 +243,15 @@ fn check_children(
         if !t.good {
             return t;
         }
-        t = check_page(index, marks, k, size, attribute, page::child(index, k, parent, i), t);
+        t = check_page(
+            index,
+            marks,
+            k,
+            size,
+            attribute,
+            page::child(index, k, parent, i),
+            t,
+        );
         i += 1;
     }
     t
@@ -280,7 +286,7 @@ fn check_level(
 }
 
 // Whether a page is a leaf.
-fn is_leaf(index: &[u8], size: usize, page: PageOffset) -> bool
+fn leaf_at(index: &[u8], size: usize, page: PageOffset) -> bool
     requires { ⌜ size ≤ length (now index) ⌝ }
     ensures { λ r. ⌜ r ≡ isLeaf (now (index .entry)) size (page .0) ⌝ }
 {
@@ -288,7 +294,7 @@ fn is_leaf(index: &[u8], size: usize, page: PageOffset) -> bool
         return false;
     }
     let head = Page::at(index, page);
-    2 <= head.attribute
+    page::is_leaf(head.attribute)
 }
 
 // The attribute of the pages of a level.
@@ -335,8 +341,16 @@ fn root_level(index: &[u8], marks: &mut [u8], k: usize, size: usize, root: PageO
     requires { ⌜ InFile (now index) k size × (length (now marks) ≡ maxPages) ⌝ }
     ensures { λ r. ⌜ rootLevel (now (index .entry)) k size (root .0) (now (marks .entry)) ≡ (levelOf r, now (marks .exit)) ⌝ }
 {
-    let leaf = is_leaf(index, size, root);
-    let s = check_page(index, marks, k, size, attribute_of(true, leaf), root, start(root));
+    let leaf = leaf_at(index, size, root);
+    let s = check_page(
+        index,
+        marks,
+        k,
+        size,
+        attribute_of(true, leaf),
+        root,
+        start(root),
+    );
     closed(s, leaf, root)
 }
 
@@ -357,8 +371,16 @@ fn next_level(index: &[u8], marks: &mut [u8], k: usize, size: usize, above: Page
     ensures { λ r. ⌜ nextLevel (now (index .entry)) k size (above .0) (now (marks .entry)) ≡ (levelOf r, now (marks .exit)) ⌝ }
 {
     let first = first_child(index, k, size, above);
-    let leaf = is_leaf(index, size, first);
-    let s = check_level(index, marks, k, size, attribute_of(false, leaf), above, start(first));
+    let leaf = leaf_at(index, size, first);
+    let s = check_level(
+        index,
+        marks,
+        k,
+        size,
+        attribute_of(false, leaf),
+        above,
+        start(first),
+    );
     closed(s, leaf, first)
 }
 

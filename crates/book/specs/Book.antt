@@ -14,7 +14,7 @@ use Rattle.page.specs.declared.RecordNumber.{RecordNumber}
 use Rattle.lookup.specs.Lookup.{lookupRule}
 use Rattle.lookup.specs.declared.Answer.{Answer as Looked}
 use Rattle.lookup.specs.declared.Answer.the-variants as looked
-use Rattle.sound.specs.Sound.{treeOf, Sound}
+use Rattle.sound.specs.Sound.{indexTree, Sound}
 use Rattle.insert.specs.Calls.{insertRule}
 use Rattle.insert.specs.Insertion.{insertedBuffer}
 use Rattle.insert.specs.Room.{noRoom}
@@ -71,7 +71,7 @@ bookAt k n calls b = bookFinal bytesOrder (fits k) (take n calls) (noRooms (answ
 -- the index in a buffer is sound, so has at most 11 levels, and "the leaves' entries, left to right, are the book's pairs"
 pub record IndexHolds (b : List ℕ) (book : List (List ℕ × ℕ)) : Type 0 where
   pub sound : Sound b
-  pub leaves : pairs (sound .height) (treeOf b (sound .height)) ≡ book
+  pub leaves : pairs (sound .height) (indexTree b (sound .height)) ≡ book
 
 -- of a call on a buffer: a key that is found is found after as many pages as there are levels, "the pages from the root to a leaf, both counted"
 abbrev pub VisitsLevels : Call (List ℕ) → List ℕ → Type 0

@@ -16,7 +16,7 @@ use Rattle.page.specs.Header.{maxBytes, maxKey, keyLength, keyLengthGood}
 use Rattle.page.specs.KeyOrder.{bytesOrder}
 use Rattle.page.specs.Page.{capacity}
 use Rattle.layout.specs.WriteLaws.{capacity-least}
-use Rattle.sound.specs.Sound.{treeOf, Sound}
+use Rattle.sound.specs.Sound.{indexTree, Sound}
 use Rattle.sound.specs.IndexLaws.{indexOf}
 use Rattle.insert.specs.Calls.{Inserted, left}
 use Rattle.insert.specs.Fresh.{expressionGood, freshBuffer, freshRule}

@@ -25,7 +25,7 @@ use Rattle.lookup.specs.Lookup.{recordOf, lookupRule, answerNumber, answerPages
 use Rattle.lookup.specs.declared.Answer.{Answer as Looked}
 use Rattle.lookup.specs.declared.Answer.the-variants as looked
 use Rattle.sound.specs.Accepted.{accepted as audit-accepts}
-use Rattle.sound.specs.Sound.{treeOf, Sound}
+use Rattle.sound.specs.Sound.{indexTree, Sound}
 use Rattle.sound.specs.Rule.{pagesGood, unmarked}
 use Rattle.sound.specs.IndexLaws.{indexOf, settingOf, sound-index}
 use Rattle.insert.specs.Calls.{Inserted, left, isFound, insertRule}
@@ -161,8 +161,8 @@ module _ (lookup-sound : LookupSound) (k size : ℕ) (b : List ℕ) (kept : Kept
 
   -- lookup
   found-is : (key : List ℕ) → fits k key ≡ true → lookupRule b key
-      ≡ replyOf (lookup bytesOrder key (heightIn b) (treeOf b (heightIn b))) (length (visited bytesOrder key (heightIn b) (treeOf b (heightIn b))))
-  found-is key f = subst (λ (h : ℕ). lookupRule b key ≡ replyOf (lookup bytesOrder key h (treeOf b h)) (length (visited bytesOrder key h (treeOf b h)))) (sym (height-is b s))
+      ≡ replyOf (lookup bytesOrder key (heightIn b) (indexTree b (heightIn b))) (length (visited bytesOrder key (heightIn b) (indexTree b (heightIn b))))
+  found-is key f = subst (λ (h : ℕ). lookupRule b key ≡ replyOf (lookup bytesOrder key h (indexTree b h)) (length (visited bytesOrder key h (indexTree b h)))) (sym (height-is b s))
       (lookup-sound b key s (eqb-true (length key) (keyLength b) (same-fit key ∙ f)))
 
   misfit : (key : List ℕ) → fits k key ≡ false → lookupRule b key ≡ looked.Refused 27
@@ -171,7 +171,7 @@ module _ (lookup-sound : LookupSound) (k size : ℕ) (b : List ℕ) (kept : Kept
 
   lookup-answers : (key : List ℕ) → answerTo (lookupOf key) b ≡ answer (keeping k size) (lookupOf key) (readIndex b)
   lookup-answers key = either (fits k key)
-      (λ f. rw (found-is key f, f) (reply-answer (lookup bytesOrder key (heightIn b) (treeOf b (heightIn b))) _))
+      (λ f. rw (found-is key f, f) (reply-answer (lookup bytesOrder key (heightIn b) (indexTree b (heightIn b))) _))
       (λ f. rw (misfit key f, f))
 
   -- a key that is found is found after as many pages as there are levels
@@ -180,10 +180,10 @@ module _ (lookup-sound : LookupSound) (k size : ℕ) (b : List ℕ) (kept : Kept
   visits-levels (lookupOf key) = λ s′ r pages e. either (fits k key)
       (λ f.
         let h = heightIn b in
-        let found : replyOf (lookup bytesOrder key h (treeOf b h)) (length (visited bytesOrder key h (treeOf b h))) ≡ looked.Found r pages = sym (found-is key f) ∙ e in
-        let o = reply-record (lookup bytesOrder key h (treeOf b h)) (length (visited bytesOrder key h (treeOf b h))) r pages found in
-        let n = reply-pages (lookup bytesOrder key h (treeOf b h)) (length (visited bytesOrder key h (treeOf b h))) r pages found in
-        omega (arith, n, visited-found bytesOrder key h (treeOf b h) (r .0) o, height-is b s′))
+        let found : replyOf (lookup bytesOrder key h (indexTree b h)) (length (visited bytesOrder key h (indexTree b h))) ≡ looked.Found r pages = sym (found-is key f) ∙ e in
+        let o = reply-record (lookup bytesOrder key h (indexTree b h)) (length (visited bytesOrder key h (indexTree b h))) r pages found in
+        let n = reply-pages (lookup bytesOrder key h (indexTree b h)) (length (visited bytesOrder key h (indexTree b h))) r pages found in
+        omega (arith, n, visited-found bytesOrder key h (indexTree b h) (r .0) o, height-is b s′))
       (λ f. let z : _≡_ {A = ℕ} 27 0 = ap (λ (a : Looked). answerNumber a) (sym (misfit key f) ∙ e) in absurd (omega arith))
 
   -- insertion
@@ -196,8 +196,8 @@ module _ (lookup-sound : LookupSound) (k size : ℕ) (b : List ℕ) (kept : Kept
 
   same-found : (key : List ℕ) → fits k key ≡ true → isFound (lookupRule b key) ≡ isPresent (find bytesOrder key (held (readIndex b)))
   same-found key f =
-      ap isFound (found-is key f) ∙ reply-found (lookup bytesOrder key (heightIn b) (treeOf b (heightIn b))) (length (visited bytesOrder key (heightIn b) (treeOf b (heightIn b))))
-      ∙ ap isPresent (lookup-find bytesOrder key (heightIn b) (treeOf b (heightIn b)) (kept-sound .ordered))
+      ap isFound (found-is key f) ∙ reply-found (lookup bytesOrder key (heightIn b) (indexTree b (heightIn b))) (length (visited bytesOrder key (heightIn b) (indexTree b (heightIn b))))
+      ∙ ap isPresent (lookup-find bytesOrder key (heightIn b) (indexTree b (heightIn b)) (kept-sound .ordered))
 
   insert-answers : (key : List ℕ) (r : ℕ) → answerTo (insertion key r) b ≡ answer (keeping k size) (insertion key r) (readIndex b)
   insert-answers key r =

@@ -10,7 +10,7 @@ use Rattle.page.specs.KeyOrder.{bytesOrder}
 use Rattle.lookup.specs.Lookup.{recordOf, lookupRule}
 use Rattle.lookup.specs.declared.Answer.{Answer}
 use Rattle.lookup.specs.declared.Answer.the-variants as answer
-use Rattle.sound.specs.Sound.{treeOf, Sound}
+use Rattle.sound.specs.Sound.{indexTree, Sound}
 
 -- an answer from what was found and the pages visited
 abbrev pub replyOf : Option ℕ → ℕ → Answer
@@ -19,4 +19,4 @@ replyOf (some r) n = answer.Found (recordOf r) n
 
 abbrev pub LookupSound : Type 0
 LookupSound = (b key : List ℕ) (s : Sound b) → length key ≡ keyLength b
-    → lookupRule b key ≡ replyOf (lookup bytesOrder key (s .height) (treeOf b (s .height))) (length (visited bytesOrder key (s .height) (treeOf b (s .height))))
+    → lookupRule b key ≡ replyOf (lookup bytesOrder key (s .height) (indexTree b (s .height))) (length (visited bytesOrder key (s .height) (indexTree b (s .height))))

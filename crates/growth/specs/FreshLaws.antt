@@ -29,7 +29,7 @@ use Rattle.page.specs.Reading.{entriesAt}
 use Rattle.page.specs.ReadingLaws.{window-window}
 use Rattle.layout.specs.Layout.{newPage}
 use Rattle.layout.specs.WriteLaws.{capacity-least}
-use Rattle.sound.specs.Sound.{treeOf, linksOf, Sound}
+use Rattle.sound.specs.Sound.{indexTree, linksOf, Sound}
 use Rattle.sound.specs.IndexLaws.{indexOf, settingOf, index-sound}
 use Rattle.insert.specs.Fresh.{printable, expressionGood, freshHeader, freshBuffer}
 use Rattle.written.specs.EntryLaws.{entriesIn, page-of, entries-new, length-new}
@@ -118,7 +118,7 @@ module _ (k : ℕ) (e b : List ℕ) (given : FreshGiven k e b) where
   unfolding freshBuffer
   entries-are = ap (λ (S : Store (List ℕ)). S 512) (entries-new k b0 512 3 noPage noPage [] (page-of 512 l0 first) tt few) ∙ write-here (entriesIn k b0) 512 []
 
-  tree-is : treeOf b″ 0 ≡ (512, [])
+  tree-is : indexTree b″ 0 ≡ (512, [])
   tree-is =
       let none : entriesAt k 1024 b″ 512 ≡ [] = sym (entries-longer k 1024 b″ 512 (rw long (given .room)) (is-page-from 1024 512 (record { whole = refl; low = omega arith; high = omega arith }))) ∙ entries-are in
       rw (key-is, size-is, root-is) (ap (λ (l : List (List ℕ × ℕ)). (512, map (readEntry (entriesAt k 1024 b″) 0) l)) none)
@@ -140,7 +140,7 @@ module _ (k : ℕ) (e b : List ℕ) (given : FreshGiven k e b) where
     plain = features-are;
   })
 
-  as-tree : (P : Tree (List ℕ) 0 → Type 0) → P (512, []) → P (treeOf b″ 0)
+  as-tree : (P : Tree (List ℕ) 0 → Type 0) → P (512, []) → P (indexTree b″ 0)
   as-tree P p = subst P (sym tree-is) p
 
   at-first : Head b″ 512 3 0 noPage noPage
@@ -149,7 +149,7 @@ module _ (k : ℕ) (e b : List ℕ) (given : FreshGiven k e b) where
   sound-is : (s : Sound b″) × (s .height ≡ 0)
   sound-is =
       let most : ℕ = min (length b) maxBytes in
-      let ps : List ℕ = pages 0 (treeOf b″ 0) in
+      let ps : List ℕ = pages 0 (indexTree b″ 0) in
       let sound : SoundIndex (settingOf (keyLength b″) most) (indexOf b″ 0) =
         subst (SoundIndex (settingOf (keyLength b″) most)) (sym index-is) (fresh-sound (settingOf (keyLength b″) most) (rw key-is (omega (arith, capacity-least k (key-fits .1)))) (omega (arith, given .room)) (omega arith)) in
       index-sound b″ 0 most header-good sound

@@ -38,7 +38,7 @@ use Rattle.page.specs.Page.{attributeAt, countAt, rootBit, leafBit, capacity}
 use Rattle.page.specs.Reading.{entriesAt}
 use Rattle.page.specs.ReadingLaws.{window-window}
 use Rattle.layout.specs.WriteLaws.{capacity-least}
-use Rattle.sound.specs.Sound.{treeOf, linksOf, Sound}
+use Rattle.sound.specs.Sound.{indexTree, linksOf, Sound}
 use Rattle.sound.specs.MarkLaws.{occ-all}
 use Rattle.sound.specs.IndexLaws.{indexOf, settingOf, sound-sized, sound-index, sound-linked, all-occ, once-page, index-sound}
 use Rattle.insert.specs.Insertion.{insertedBuffer}
@@ -60,7 +60,7 @@ pub record Accepts (b key : List ℕ) (r : ℕ) : Type 0 where
   pub long : length key ≡ keyLength b
   pub positive : 0 < r
   pub r32 : r < 2 ^ 32
-  pub absent : find bytesOrder key (pairs (sound .height) (treeOf b (sound .height))) ≡ none
+  pub absent : find bytesOrder key (pairs (sound .height) (indexTree b (sound .height))) ≡ none
   pub room : noRoom (keyLength b) b key ≡ false
 
 module _ (b key : List ℕ) (r : ℕ) (accepts : Accepts b key r) where
@@ -208,19 +208,19 @@ module _ (b key : List ℕ) (r : ℕ) (accepts : Accepts b key r) where
 
   -- the clauses of the old index, page by page
   old-attribute : (z : ℕ) → 0 < occ z (pages h t) → attributeAt b z ≤ 3
-  old-attribute z o = occ-all (λ p. attributeAt b p ≤ 3) z (pages h (treeOf b h)) (accepts .sound .attributes) (subst (λ (T : Tree (List ℕ) h). 0 < occ z (pages h T)) (sound-tree b (accepts .sound)) o)
+  old-attribute z o = occ-all (λ p. attributeAt b p ≤ 3) z (pages h (indexTree b h)) (accepts .sound .attributes) (subst (λ (T : Tree (List ℕ) h). 0 < occ z (pages h T)) (sound-tree b (accepts .sound)) o)
 
   old-root : (z : ℕ) → 0 < occ z (pages h t) → rootBit (attributeAt b z) ≡ eqb z (rootOffset b)
   old-root z o =
-      occ-all (λ p. rootBit (attributeAt b p) ≡ eqb p (rootOffset b)) z (pages h (treeOf b h)) (accepts .sound .rootBits) (subst (λ (T : Tree (List ℕ) h). 0 < occ z (pages h T)) (sound-tree b (accepts .sound)) o)
+      occ-all (λ p. rootBit (attributeAt b p) ≡ eqb p (rootOffset b)) z (pages h (indexTree b h)) (accepts .sound .rootBits) (subst (λ (T : Tree (List ℕ) h). 0 < occ z (pages h T)) (sound-tree b (accepts .sound)) o)
 
   old-leaf : (j z : ℕ) → j ≤ h → 0 < occ z (level j h t) → leafBit (attributeAt b z) ≡ eqb j 0
   old-leaf j z l o =
-      occ-all (λ p. leafBit (attributeAt b p) ≡ eqb j 0) z (level j h (treeOf b h)) (accepts .sound .leafBits j l) (subst (λ (T : Tree (List ℕ) h). 0 < occ z (level j h T)) (sound-tree b (accepts .sound)) o)
+      occ-all (λ p. leafBit (attributeAt b p) ≡ eqb j 0) z (level j h (indexTree b h)) (accepts .sound .leafBits j l) (subst (λ (T : Tree (List ℕ) h). 0 < occ z (level j h T)) (sound-tree b (accepts .sound)) o)
 
   old-count : (z : ℕ) → 0 < occ z (pages h t) → countAt b z ≤ capacity k
   old-count z o =
-      occ-all (λ p. (least h ≤ countAt b p) × (countAt b p ≤ capacity k)) z (pages h (treeOf b h)) (accepts .sound .counts) (subst (λ (T : Tree (List ℕ) h). 0 < occ z (pages h T)) (sound-tree b (accepts .sound)) o) .1
+      occ-all (λ p. (least h ≤ countAt b p) × (countAt b p ≤ capacity k)) z (pages h (indexTree b h)) (accepts .sound .counts) (subst (λ (T : Tree (List ℕ) h). 0 < occ z (pages h T)) (sound-tree b (accepts .sound)) o) .1
 
   -- the leaf bits of a level below a new root
   leaf-bits : (j z : ℕ) → j ≤ h → 0 < occ z (level j (x .0) (x .1)) → leafBit (unrooted path (taken F) splits (attributeAt b) z) ≡ eqb j 0
@@ -371,7 +371,7 @@ module _ (b key : List ℕ) (r : ℕ) (accepts : Accepts b key r) where
       })
 
   -- the new tree, read as far as the file goes
-  tree-is : treeOf b″ (x .0) ≡ x .1
+  tree-is : indexTree b″ (x .0) ≡ x .1
   tree-is =
       let read : treeIn k b″ (x .0) ≡ x .1 = tree-after k h b key r ready in
       ap (λ (n : ℕ). readTree (entriesAt n (fileSize b″) b″) (x .0) (rootOffset b″)) key-same
@@ -382,18 +382,18 @@ module _ (b key : List ℕ) (r : ℕ) (accepts : Accepts b key r) where
   index-is : indexOf b″ (x .0) ≡ after
   index-is = λ i. record { height = x .0; tree = tree-is i; size = size-is i }
 
-  there : (z : ℕ) → 0 < occ z (pages (x .0) (treeOf b″ (x .0))) → 0 < occ z (pages (x .0) (x .1))
+  there : (z : ℕ) → 0 < occ z (pages (x .0) (indexTree b″ (x .0))) → 0 < occ z (pages (x .0) (x .1))
   there z o = subst (λ (T : Tree (List ℕ) (x .0)). 0 < occ z (pages (x .0) T)) tree-is o
 
   sound-now : (s : Sound b″) × (s .height ≡ x .0)
   sound-now =
-      let ps : List ℕ = pages (x .0) (treeOf b″ (x .0)) in
+      let ps : List ℕ = pages (x .0) (indexTree b″ (x .0)) in
       index-sound b″ (x .0) (min (length b) maxBytes) header-good
       (subst (λ (n : ℕ). SoundIndex (settingOf n (min (length b) maxBytes)) (indexOf b″ (x .0))) (sym key-same) (subst (SoundIndex kept-by) (sym index-is) sound-after))
       (subst (λ (T : Tree (List ℕ) (x .0)). AllLinked noPage (linksOf b″) (x .0) T) (sym tree-is) linked-after)
       (all-occ (λ p. attributeAt b″ p ≤ 3) ps (λ z o. bits .small z (there z o)))
       (all-occ (λ p. rootBit (attributeAt b″ p) ≡ eqb p (rootOffset b″)) ps (λ z o. bits .root z (there z o) ∙ ap (eqb z) (sym (root-after k h b key r ready))))
-      (λ j l. all-occ (λ p. leafBit (attributeAt b″ p) ≡ eqb j 0) (level j (x .0) (treeOf b″ (x .0)))
+      (λ j l. all-occ (λ p. leafBit (attributeAt b″ p) ≡ eqb j 0) (level j (x .0) (indexTree b″ (x .0)))
         (λ z o. bits .leaf j z l (subst (λ (T : Tree (List ℕ) (x .0)). 0 < occ z (level j (x .0) T)) tree-is o)))
       (all-occ (λ p. countAt b″ p ≤ capacity (keyLength b″)) ps (λ z o. rw key-same (counts-after z (there z o))))
 

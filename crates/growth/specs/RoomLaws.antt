@@ -21,7 +21,7 @@ use Rattle.page.specs.Page.{capacity}
 use Rattle.page.specs.Reading.{Item, numbered}
 use Rattle.layout.specs.Layout.{itemsIn}
 use Rattle.layout.specs.Entries.{chosen, childOf}
-use Rattle.sound.specs.Sound.{treeOf, Sound}
+use Rattle.sound.specs.Sound.{indexTree, Sound}
 use Rattle.sound.specs.IndexLaws.{indexOf, settingOf}
 use Rattle.insert.specs.declared.Path.{Path}
 use Rattle.insert.specs.Room.{onTop, nowhere, pathFrom, newPages, levelsAfter, noRoom}
@@ -93,6 +93,6 @@ room-is b key s =
     let h = s .height in
     let d = storeRun bytesOrder (capacity k) key h (rootOffset b) (entriesIn k b) in
     let path : pathFrom k maxLevels b key (rootOffset b) ≡ record { levels = suc h; run = d } = path-is k key b h maxLevels (rootOffset b) (omega (arith, s .levels)) (sound-shaped b s) in
-    let same : run bytesOrder (capacity k) key h (treeOf b h) ≡ d = ap (run bytesOrder (capacity k) key h) (sym (sound-tree b s)) ∙ run-read bytesOrder (entriesIn k b) (capacity k) key h (rootOffset b) in
+    let same : run bytesOrder (capacity k) key h (indexTree b h) ≡ d = ap (run bytesOrder (capacity k) key h) (sym (sound-tree b s)) ∙ run-read bytesOrder (entriesIn k b) (capacity k) key h (rootOffset b) in
     let size = fileSize b + pageSize * cond (eqb d (suc h)) (suc d) d in
     rw (path, same, less-both (length b) maxBytes size, add-one d, add-one (suc h)) (or-assoc (ltb (length b) size) (ltb maxBytes size) _)

@@ -19,7 +19,7 @@ use Rattle.page.specs.Header.{isPage, rootOffset, fileSize, keyLength}
 use Rattle.page.specs.HeaderLaws.{IsPage, is-page, is-page-from, GoodHeader, good-header}
 use Rattle.page.specs.Page.{attributeAt, leafBit, capacity}
 use Rattle.page.specs.Reading.{itemsAt, entriesAt}
-use Rattle.sound.specs.Sound.{treeOf, Sound}
+use Rattle.sound.specs.Sound.{indexTree, Sound}
 use Rattle.sound.specs.MarkLaws.{occ-all}
 use Rattle.sound.specs.IndexLaws.{sound-sized}
 use Rattle.written.specs.EntryLaws.{entriesIn}
@@ -87,17 +87,17 @@ module _ (k : ℕ) (b : List ℕ) where
 
 module _ (b : List ℕ) (s : Sound b) where
   -- every page of the tree is a page of the file
-  pub sound-page : (z : ℕ) → 0 < occ z (pages (s .height) (treeOf b (s .height))) → isPage (fileSize b) z ≡ true
-  sound-page z o = occ-all (λ p. isPage (fileSize b) p ≡ true) z (pages (s .height) (treeOf b (s .height))) (s .inside) o
+  pub sound-page : (z : ℕ) → 0 < occ z (pages (s .height) (indexTree b (s .height))) → isPage (fileSize b) z ≡ true
+  sound-page z o = occ-all (λ p. isPage (fileSize b) p ≡ true) z (pages (s .height) (indexTree b (s .height))) (s .inside) o
 
-  pub sound-usable : (z : ℕ) → 0 < occ z (pages (s .height) (treeOf b (s .height))) → Usable b z
+  pub sound-usable : (z : ℕ) → 0 < occ z (pages (s .height) (indexTree b (s .height))) → Usable b z
   sound-usable z o =
       let g = good-header b (s .header) in
       let p = is-page (fileSize b) z (sound-page z o) in
       (page-longer z (g .within) (sound-page z o), omega arith)
 
   -- Theorem: the two readings are one
-  pub sound-tree : treeIn (keyLength b) b (s .height) ≡ treeOf b (s .height)
+  pub sound-tree : treeIn (keyLength b) b (s .height) ≡ indexTree b (s .height)
   sound-tree = read-longer (keyLength b) (fileSize b) b (s .height) (rootOffset b) (good-header b (s .header) .within) sound-page
 
   -- Theorem: a sound index has the shape that insertion's steps go by
@@ -106,5 +106,5 @@ module _ (b : List ℕ) (s : Sound b) where
       let h = s .height in
       shaped-from (keyLength b) b h (rootOffset b) []
       (λ z o. sound-usable z (subst (λ (t : Tree (List ℕ) h). 0 < occ z (pages h t)) sound-tree o))
-      (λ j z l o. occ-all (λ p. leafBit (attributeAt b p) ≡ eqb j 0) z (level j h (treeOf b h)) (s .leafBits j l) (subst (λ (t : Tree (List ℕ) h). 0 < occ z (level j h t)) sound-tree o))
+      (λ j z l o. occ-all (λ p. leafBit (attributeAt b p) ≡ eqb j 0) z (level j h (indexTree b h)) (s .leafBits j l) (subst (λ (t : Tree (List ℕ) h). 0 < occ z (level j h t)) sound-tree o))
       (subst (λ (t : Tree (List ℕ) h). Sized (capacity (keyLength b)) h t) (sym sound-tree) (sound-sized b s))

@@ -87,9 +87,9 @@ module _ (b : List ℕ) (k size root : ℕ) (whole : size % pageSize ≡ 0) (mos
       let g = root-good (eqb 0 h) (s .levels zero (omega arith)) (fresh-left unmarked (root ∷ []) rest fresh) in
       let r = root-known (g .0) in
       let u = levels-reached b k size most (maxLevels - 1) h top first (ap length (r .marks) ∙ mark-length unmarked (root ∷ []) ∙ unmarked-length) (omega arith) tt (g .0) (g .1) (r .pages) (r .head)
-        (λ i l. entries-filled b k size root h (levels-inside b k size root h (s .levels)) (levels-counts b k size root h (s .levels)) i (omega arith) (omega arith))
-        (λ i l. rw (ne-eqb (suc i) 0 (omega arith)) at (s .levels (suc i) (omega arith)))
-        (rw (r .marks) (fresh-right unmarked (root ∷ []) rest fresh)) in
+      (λ i l. entries-filled b k size root h (levels-inside b k size root h (s .levels)) (levels-counts b k size root h (s .levels)) i (omega arith) (omega arith))
+      (λ i l. rw (ne-eqb (suc i) 0 (omega arith)) at (s .levels (suc i) (omega arith)))
+      (rw (r .marks) (fresh-right unmarked (root ∷ []) rest fresh)) in
       let marks : levels .1 ≡ markAll unmarked (reached S (suc (s .height)) top) = u .marks ∙ ap (λ (m : List ℕ). markAll m rest) (r .marks) in
       join _ _ (u .good) (join _ _ (u .leaf) (rw marks (once-marked size all whole most inside (s .once))))
 

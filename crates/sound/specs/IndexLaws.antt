@@ -24,31 +24,31 @@ use Rattle.page.specs.KeyOrder.{bytesOrder}
 use Rattle.page.specs.HeaderLaws.{IsPage, is-page, is-page-from, good-header}
 use Rattle.page.specs.Reading.{entriesAt}
 use Rattle.page.specs.ReadingLaws.{length-entries}
-use Rattle.sound.specs.Sound.{treeOf, linksOf, Sound}
+use Rattle.sound.specs.Sound.{indexTree, linksOf, Sound}
 use Rattle.sound.specs.Levels.{pages-generation, sized-pages}
 use Rattle.sound.specs.MarkLaws.{occ-all}
 use Rattle.sound.specs.ShapeLaws.{Count, tree-sized}
 
 -- the index as the theory has it, and how it is kept: `most` is what F must not pass
 abbrev pub indexOf : List ℕ → ℕ → Index (List ℕ)
-indexOf b h = record { height = h; tree = treeOf b h; size = fileSize b }
+indexOf b h = record { height = h; tree = indexTree b h; size = fileSize b }
 
 abbrev pub settingOf : ℕ → ℕ → Setting (List ℕ)
 settingOf k most = record { order = bytesOrder; fits = λ key. eqb (length key) k; capacity = capacity k; maxSize = most; maxLevels = maxLevels }
 
 module _ (b : List ℕ) where
   -- every page of a sound index is one of the file, and has as many entries as its count says
-  pub sound-sized : (s : Sound b) → Sized (capacity (keyLength b)) (s .height) (treeOf b (s .height))
+  pub sound-sized : (s : Sound b) → Sized (capacity (keyLength b)) (s .height) (indexTree b (s .height))
   sound-sized s =
       let h = s .height in
       tree-sized b (keyLength b) (fileSize b) (rootOffset b) h
       (pages-generation (entriesAt (keyLength b) (fileSize b) b) [] (rootOffset b) h (λ p. isPage (fileSize b) p ≡ true) (s .inside))
       (pages-generation (entriesAt (keyLength b) (fileSize b) b) [] (rootOffset b) h (Count b (keyLength b) h) (s .counts))
 
-  not-inside : (s : Sound b) (z : ℕ) → (IsPage (fileSize b) z → ⊥) → occ z (pages (s .height) (treeOf b (s .height))) ≡ 0
-  not-inside s z n = either (ltb 0 (occ z (pages (s .height) (treeOf b (s .height)))))
-      (λ e. absurd (n (is-page (fileSize b) z (occ-all (λ p. isPage (fileSize b) p ≡ true) z (pages (s .height) (treeOf b (s .height))) (s .inside) (ltb-true _ _ e)))))
-      (λ e. omega (arith, ltb-false 0 (occ z (pages (s .height) (treeOf b (s .height)))) e))
+  not-inside : (s : Sound b) (z : ℕ) → (IsPage (fileSize b) z → ⊥) → occ z (pages (s .height) (indexTree b (s .height))) ≡ 0
+  not-inside s z n = either (ltb 0 (occ z (pages (s .height) (indexTree b (s .height)))))
+      (λ e. absurd (n (is-page (fileSize b) z (occ-all (λ p. isPage (fileSize b) p ≡ true) z (pages (s .height) (indexTree b (s .height))) (s .inside) (ltb-true _ _ e)))))
+      (λ e. omega (arith, ltb-false 0 (occ z (pages (s .height) (indexTree b (s .height)))) e))
 
   sound-once : (s : Sound b) → PagesOnce (indexOf b (s .height))
   sound-once s =
@@ -69,7 +69,7 @@ module _ (b : List ℕ) where
       let h = s .height in
       let few = s .levels in
       let z = sound-sized s in
-      let o = greatest-ordered bytesOrder (capacity (keyLength b)) h (treeOf b h) z (s .ascending) (s .greatest) in
+      let o = greatest-ordered bytesOrder (capacity (keyLength b)) h (indexTree b h) z (s .ascending) (s .greatest) in
       record {
         ordered = o .0;
         exact = o .1;
@@ -83,8 +83,7 @@ module _ (b : List ℕ) where
   pub sound-linked : (s : Sound b) → LinkedIndex (linksOf b) (indexOf b (s .height))
   sound-linked s = s .links
 
--- and back
--- each member of a list occurs in it
+-- and back: each member of a list occurs in it
 pub all-occ : (P : ℕ → Type 0) (ps : List ℕ) → ((z : ℕ) → 0 < occ z ps → P z) → All P ps
 all-occ P [] f = tt
 all-occ P (p ∷ ps) f = (f p (occ-here p ps), all-occ P ps (λ z l. f z (omega arith)))
@@ -102,20 +101,20 @@ once-page i o p l =
 module _ (b : List ℕ) (h : ℕ) where
   -- Theorem: an index is sound whose header is good, that is sound in the theory, and whose pages have the attributes, links and counts that are asked of them
   pub index-sound : (most : ℕ) → headerGood b ≡ true → SoundIndex (settingOf (keyLength b) most) (indexOf b h) → LinkedIndex (linksOf b) (indexOf b h)
-      → All (λ p. attributeAt b p ≤ 3) (pages h (treeOf b h)) → All (λ p. rootBit (attributeAt b p) ≡ eqb p (rootOffset b)) (pages h (treeOf b h))
-      → ((j : ℕ) → j ≤ h → All (λ p. leafBit (attributeAt b p) ≡ eqb j 0) (level j h (treeOf b h)))
-      → All (λ p. countAt b p ≤ capacity (keyLength b)) (pages h (treeOf b h)) → (s : Sound b) × (s .height ≡ h)
+      → All (λ p. attributeAt b p ≤ 3) (pages h (indexTree b h)) → All (λ p. rootBit (attributeAt b p) ≡ eqb p (rootOffset b)) (pages h (indexTree b h))
+      → ((j : ℕ) → j ≤ h → All (λ p. leafBit (attributeAt b p) ≡ eqb j 0) (level j h (indexTree b h)))
+      → All (λ p. countAt b p ≤ capacity (keyLength b)) (pages h (indexTree b h)) → (s : Sound b) × (s .height ≡ h)
   index-sound most e i l attributes rootBits leafBits counts =
-      let ps = pages h (treeOf b h) in
+      let ps = pages h (indexTree b h) in
       let S = entriesAt (keyLength b) (fileSize b) b in
       let o = i .pagesOnce in
-      let inside : All (λ p. isPage (fileSize b) p ≡ true) (pages h (treeOf b h)) = all-occ (λ p. isPage (fileSize b) p ≡ true) ps (once-page (indexOf b h) o) in
-      let d = ordered-greatest bytesOrder h (treeOf b h) (i .ordered) (i .exact) in
+      let inside : All (λ p. isPage (fileSize b) p ≡ true) (pages h (indexTree b h)) = all-occ (λ p. isPage (fileSize b) p ≡ true) ps (once-page (indexOf b h) o) in
+      let d = ordered-greatest bytesOrder h (indexTree b h) (i .ordered) (i .exact) in
       let few = i .withinLevels in
       let full = all-map2 (λ p. isPage (fileSize b) p ≡ true) (λ p. countAt b p ≤ capacity (keyLength b)) (λ p. length (entriesAt (keyLength b) (fileSize b) b p) ≡ countAt b p)
-        (λ p u c. length-entries (keyLength b) (fileSize b) b p u ∙ min-eq-left c) ps inside counts in
-      let low : All (λ p. least h ≤ countAt b p) (pages h (treeOf b h)) = all-map2 (λ p. least h ≤ length (entriesAt (keyLength b) (fileSize b) b p)) (λ p. length (entriesAt (keyLength b) (fileSize b) b p) ≡ countAt b p) (λ p. least h ≤ countAt b p)
-        (λ p u c. omega arith) ps (sized-pages S (capacity (keyLength b)) h (rootOffset b) (i .sized)) full in
+      (λ p u c. length-entries (keyLength b) (fileSize b) b p u ∙ min-eq-left c) ps inside counts in
+      let low : All (λ p. least h ≤ countAt b p) (pages h (indexTree b h)) = all-map2 (λ p. least h ≤ length (entriesAt (keyLength b) (fileSize b) b p)) (λ p. length (entriesAt (keyLength b) (fileSize b) b p) ≡ countAt b p) (λ p. least h ≤ countAt b p)
+      (λ p u c. omega arith) ps (sized-pages S (capacity (keyLength b)) h (rootOffset b) (i .sized)) full in
       (record {
         header = e;
         height = h;

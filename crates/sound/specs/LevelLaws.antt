@@ -19,7 +19,7 @@ use Rattle.page.specs.Page.{attributeAt, rightAt, leafBit}
 use Rattle.page.specs.Reading.{entriesAt}
 use Rattle.sound.specs.Sound.{linksOf}
 use Rattle.sound.specs.Rule.{Entries, maxPages, Progress, Level, start, chain, isLeaf, attributeOf, checkPages, checkLevel, children, firstChild, nextLevel, levelsUnder}
-use Rattle.sound.specs.Levels.{numbers, below, generation, reached, join-map}
+use Rattle.sound.specs.Levels.{numbers, below, generation, reached, map-append}
 use Rattle.sound.specs.MarkLaws.{fresh-append, fresh-left, fresh-right, mark-append, mark-length, fresh-few}
 use Rattle.sound.specs.RunLaws.{markAll, Fresh, Fits, Checked, Passed, check-passed, passed-check}
 
@@ -108,8 +108,12 @@ module _ (b : List ℕ) (k size : ℕ) (most : size ≤ maxBytes) where
       (rw is (join _ _ (c .0) (eq-eqb _ _ (c .1))), is)
 
   -- the pages under those that some entries name
+  numbers-below : (es : Entries) → children b k size (numbers es) ≡ numbers (below S es)
+  numbers-below [] = refl
+  numbers-below (e ∷ es) = ap (λ (l : List ℕ). numbers (S (e .1)) ++ l) (numbers-below es) ∙ sym (map-append (λ x. x .1) (S (e .1)) (below S es))
+
   children-are : (es : Entries) (ps : List ℕ) → ps ≡ numbers es → children b k size ps ≡ numbers (below S es)
-  children-are es ps e = rw e (ap (map (λ x. x .1)) (join-map S S (λ x. x .1) es))
+  children-are es ps e = ap (children b k size) e ∙ numbers-below es
 
   -- a level that is reached is good, and so is the one from which the audit went on
   pub levels-good : (l : ℕ) (t : Level × List ℕ) → levelsUnder b k size l t .0 .good ≡ true → t .0 .good ≡ true
@@ -213,5 +217,5 @@ module _ (b : List ℕ) (k size : ℕ) (most : size ≤ maxBytes) where
       let n = next-good (eqb 1 (suc h)) es t s c d full (v zero (omega arith)) (fresh-left (t .1) ps rest m) in
       let w = next-known es t x (n .0) c in
       let r = levels-reached l h (below S es) t′ (ap length (w .marks) ∙ mark-length (t .1) ps ∙ x) (omega arith) (next-head es (t .0 .first) s d full .1) (n .0) (n .1 ∙ same-suc 0 h) (w .pages) (w .head)
-        (λ i o. f (suc i) (omega arith)) (λ i o. rw (same-suc (suc i) h) at (v (suc i) (omega arith))) (rw (w .marks) (fresh-right (t .1) ps rest m)) in
+      (λ i o. f (suc i) (omega arith)) (λ i o. rw (same-suc (suc i) h) at (v (suc i) (omega arith))) (rw (w .marks) (fresh-right (t .1) ps rest m)) in
       rw (z, levelsUnder) (record { good = r .good; leaf = r .leaf; marks = r .marks ∙ ap (λ (x : List ℕ). markAll x rest) (w .marks) ∙ sym (mark-append (t .1) ps rest) })

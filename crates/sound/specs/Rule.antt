@@ -104,7 +104,7 @@ module _ (b : List ℕ) (k size : ℕ) where
   -- one page more, and its mark
   unfoldable pub checkPage : ℕ → ℕ → Progress → List ℕ → Progress × List ℕ
   checkPage a p s m =
-      cond (s .good && (pageFits a p (s .last) (s .next) && eqb (getD m (p / pageSize) 0) 0))
+      cond ((s .good && pageFits a p (s .last) (s .next)) && eqb (getD m (p / pageSize) 0) 0)
       (record { good = true; last = p; next = rightAt b p }, set m (p / pageSize) 1)
       (refused s, m)
 
@@ -121,11 +121,14 @@ module _ (b : List ℕ) (k size : ℕ) where
   unfoldable pub rootLevel : ℕ → List ℕ → Level × List ℕ
   rootLevel root m = checkLevel true root (root ∷ []) m
 
-  abbrev pub children : List ℕ → List ℕ
-  children ps = map (λ e. e .1) (concatMap entriesOf ps)
+  abbrev pub childrenOf : ℕ → List ℕ
+  childrenOf p = map (λ e. e .1) (entriesOf p)
 
   abbrev pub firstChild : ℕ → ℕ
-  firstChild p = headOr noPage (map (λ e. e .1) (entriesOf p))
+  firstChild p = headOr noPage (childrenOf p)
+
+  abbrev pub children : List ℕ → List ℕ
+  children ps = concatMap childrenOf ps
 
   unfoldable pub nextLevel : ℕ → List ℕ → Level × List ℕ
   nextLevel first m = checkLevel false (firstChild first) (children (chain b size maxPages first)) m

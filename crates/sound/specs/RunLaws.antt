@@ -66,7 +66,7 @@ module _ (b : List ℕ) (k size a : ℕ) where
       (pageFits b k size a p last next ≡ true) × (getD m (p / pageSize) 0 ≡ 0) × Run p (rightAt b p) (set m (p / pageSize) 1) ps
 
   abbrev tested : ℕ → Progress → List ℕ → Bool
-  tested p s m = s .good && (pageFits b k size a p (s .last) (s .next) && eqb (getD m (p / pageSize) 0) 0)
+  tested p s m = (s .good && pageFits b k size a p (s .last) (s .next)) && eqb (getD m (p / pageSize) 0) 0
 
   abbrev moved : ℕ → Progress → List ℕ → Progress × List ℕ
   moved p s m = (record { good = true; last = p; next = rightAt b p }, set m (p / pageSize) 1)
@@ -86,9 +86,9 @@ module _ (b : List ℕ) (k size a : ℕ) where
       let r = checkPage b k size a p s m in
       let ih = good-run ps (r .0) (r .1) h in
       let t = page-test p s m (ih .0) in
-      let u = both (s .good) _ t in
-      let v = both (pageFits b k size a p (s .last) (s .next)) _ (u .1) in
-      (u .0, (v .0, eqb-true _ _ (v .1), rw (page-moves p s m t) at (ih .1)))
+      let u = both (s .good && pageFits b k size a p (s .last) (s .next)) _ t in
+      let v = both (s .good) _ (u .0) in
+      (v .0, (v .1, eqb-true _ _ (u .1), rw (page-moves p s m t) at (ih .1)))
 
   -- what is left of a good run
   abbrev ended : List ℕ → Progress → List ℕ → Progress × List ℕ

@@ -194,9 +194,9 @@ module _ (b : List ℕ) (k size root h : ℕ) where
 
         pub checked-greatest : Greatest h (readTree (entriesAt k size b) h root)
         checked-greatest = exact-greatest (capacity k) h T tree-sized (generation-exact S [] root h (λ i l.
-          let e : eqb i h ≡ false = ne-eqb i h (omega arith) in
-          all-map (Exactly S) (Top S) (λ e x. x .1) (generation S (suc i) top)
-          (rw (entries-next i) at (checked-exactly b k size (a i) (leaf-bit (eqb i 0) (eqb i h) ∙ e) noPage (generationOf i) (checked i (omega arith))))))
+            let e : eqb i h ≡ false = ne-eqb i h (omega arith) in
+            all-map (Exactly S) (Top S) (λ e x. x .1) (generation S (suc i) top)
+            (rw (entries-next i) at (checked-exactly b k size (a i) (leaf-bit (eqb i 0) (eqb i h) ∙ e) noPage (generationOf i) (checked i (omega arith))))))
 
 -- the root stands on its own level alone
 occ-none : (z : ℕ) (ps : List ℕ) → occ z ps ≡ 0 → All (λ p. eqb p z ≡ false) ps

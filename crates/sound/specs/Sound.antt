@@ -10,16 +10,15 @@ use Rattle.basis.specs.Lists.{All}
 use Rattle.tree.specs.Lists.{occ}
 use Rattle.tree.specs.Pairs.{Ascending}
 use Rattle.tree.specs.Tree.{Tree, pairs, pages, level}
-use Rattle.tree.specs.Store.{readTree}
 use Rattle.tree.specs.Clauses.{least, Greatest, Links, AllLinked}
 use Rattle.page.specs.Header.{maxLevels, noPage, rootOffset, fileSize, keyLength, isPage, headerGood}
 use Rattle.page.specs.Page.{attributeAt, countAt, leftAt, rightAt, rootBit, leafBit, capacity}
 use Rattle.page.specs.KeyOrder.{bytesOrder}
-use Rattle.page.specs.Reading.{entriesAt}
+use Rattle.page.specs.Reading.{treeOf}
 
--- the bytes read as a tree, from the root on, with h levels under the root
-abbrev pub treeOf : (b : List ℕ) (h : ℕ) → Tree (List ℕ) h
-treeOf b h = readTree (entriesAt (keyLength b) (fileSize b) b) h (rootOffset b)
+-- the tree that the bytes are read as, by the header's numbers, with h levels under the root
+abbrev pub indexTree : (b : List ℕ) (h : ℕ) → Tree (List ℕ) h
+indexTree b h = treeOf (keyLength b) (fileSize b) b h
 
 -- the pages' links
 abbrev pub linksOf : List ℕ → Links
@@ -31,26 +30,26 @@ pub record Sound (b : List ℕ) : Type 0 where
   -- the number of levels under the root; "all leaves on one level" is in the type of the tree of this height
   pub height : ℕ
   -- "every page but the first is reached from the root exactly once": only such pages are reached, and each of them once
-  pub inside : All (λ p. isPage (fileSize b) p ≡ true) (pages height (treeOf b height))
-  pub once : (p : ℕ) → isPage (fileSize b) p ≡ true → occ p (pages height (treeOf b height)) ≡ 1
+  pub inside : All (λ p. isPage (fileSize b) p ≡ true) (pages height (indexTree b height))
+  pub once : (p : ℕ) → isPage (fileSize b) p ≡ true → occ p (pages height (indexTree b height)) ≡ 1
   -- "attributes 0 to 3"
-  pub attributes : All (λ p. attributeAt b p ≤ 3) (pages height (treeOf b height))
+  pub attributes : All (λ p. attributeAt b p ≤ 3) (pages height (indexTree b height))
   -- "root bit on the root only"
-  pub rootBits : All (λ p. rootBit (attributeAt b p) ≡ eqb p (rootOffset b)) (pages height (treeOf b height))
+  pub rootBits : All (λ p. rootBit (attributeAt b p) ≡ eqb p (rootOffset b)) (pages height (indexTree b height))
   -- "leaf bit on the bottom level only": level 0
-  pub leafBits : (j : ℕ) → j ≤ height → All (λ p. leafBit (attributeAt b p) ≡ eqb j 0) (level j height (treeOf b height))
+  pub leafBits : (j : ℕ) → j ≤ height → All (λ p. leafBit (attributeAt b p) ≡ eqb j 0) (level j height (indexTree b height))
   -- "at most 11 levels": the root's and those under it
   pub levels : height + 1 ≤ maxLevels
   -- "counts 1 to capacity, save that a lone root leaf may have 0": the counts that the pages' bytes have, however large
-  pub counts : All (λ p. (least height ≤ countAt b p) × (countAt b p ≤ capacity (keyLength b))) (pages height (treeOf b height))
+  pub counts : All (λ p. (least height ≤ countAt b p) × (countAt b p ≤ capacity (keyLength b))) (pages height (indexTree b height))
   -- "leaf keys strictly ascending left to right as unsigned bytes"
-  pub ascending : Ascending bytesOrder (pairs height (treeOf b height))
+  pub ascending : Ascending bytesOrder (pairs height (indexTree b height))
   -- "record numbers above 0"
-  pub records : All (λ e. 0 < e .1) (pairs height (treeOf b height))
+  pub records : All (λ e. 0 < e .1) (pairs height (indexTree b height))
   -- "the key above a child equals the greatest key under it"
-  pub greatest : Greatest height (treeOf b height)
+  pub greatest : Greatest height (indexTree b height)
   -- "left and right name the neighbours on the level"
-  pub links : AllLinked noPage (linksOf b) height (treeOf b height)
+  pub links : AllLinked noPage (linksOf b) height (indexTree b height)
 
 -- the audit's answer: 24 exactly where the header is not good, 0 exactly where the index is sound, else 25
 pub record Audited (b : List ℕ) (r : ℕ) : Type 0 where

@@ -19,7 +19,7 @@ returns c = first-none _ _ _ _ _ (c .before .entry-count .ensures) (c .if1 .take
 
 -- src/lib.rt:351:5
 child-requires : tie.Need-child-requires
-child-requires c κs = 
+child-requires c κs =
     let n = c .before .entry-count in
     let some = c .if1 .left in
     entries-within _ _ _ _ _ (n .ensures) (c .before .before .before .pre) .each 0 (omega arith)

@@ -17,7 +17,7 @@ entry-count-requires c κs = search needs
 
 -- src/lib.rt:66:9
 returns : tie.Need-returns
-returns c = 
+returns c =
     let args = c .before .before .before .pre in
     (last-none _ _ _ _ _ (c .before .entry-count .ensures) (c .if1 .taken), omega arith)
 
@@ -27,7 +27,7 @@ sub-entry-offset c = search needs
 
 -- src/lib.rt:68:5
 entry-offset-requires : tie.Need-entry-offset-requires
-entry-offset-requires c κs = 
+entry-offset-requires c κs =
     let n = c .before .entry-count in
     let some = c .if1 .left in
     let w = entry-within (entries-within _ _ _ _ _ (n .ensures) (c .before .before .before .pre) .each (n .result - 1) (omega arith)) in
@@ -35,7 +35,7 @@ entry-offset-requires c κs =
 
 -- src/lib.rt:60:1
 returns-2 : tie.Need-returns-2
-returns-2 c = 
+returns-2 c =
     let n = c .before .before .entry-count in
     let some = c .before .if1 .left in
     let w = entry-within (entries-within _ _ _ _ _ (n .ensures) (c .before .before .before .before .pre) .each (n .result - 1) (omega arith)) in
