@@ -1,6 +1,6 @@
 -- Laws: demand 3: from an accepted fresh on, every list of calls is kept by the book. Assumes nothing.
 use Prim.Native.Nat.{ℕ, zero, suc, _≤_, _<_}
-use mathlib.Core.Path.{_≡_, refl, sym, ap, _∙_, subst}
+use mathlib.Core.Path.{_≡_, refl, sym, ap, _∙_}
 use mathlib.Core.Bool.{Bool, true, false}
 use mathlib.Core.List.{List, [], _∷_}
 use native.Mathlib.Omega.{arith}
@@ -11,22 +11,21 @@ use Rattle.basis.specs.Lists.{All}
 use Rattle.basis.specs.Tests.{contra, both}
 use Rattle.tree.specs.Book.{Call, isAccepted, noRooms, finalOf, bookFinal, BookClaim}
 use Rattle.tree.specs.BookTheorem.{list-keeps, book-claim}
-use Rattle.tree.specs.Index.{Index, held}
-use Rattle.page.specs.Header.{maxBytes, maxKey, keyLength, keyLengthGood}
+use Rattle.tree.specs.Index.{held}
+use Rattle.page.specs.Header.{maxKey, keyLengthGood}
 use Rattle.page.specs.KeyOrder.{bytesOrder}
 use Rattle.page.specs.Page.{capacity}
 use Rattle.layout.specs.WriteLaws.{capacity-least}
-use Rattle.sound.specs.Sound.{indexTree, Sound}
 use Rattle.sound.specs.IndexLaws.{indexOf}
 use Rattle.insert.specs.Calls.{Inserted, left}
 use Rattle.insert.specs.Fresh.{expressionGood, freshBuffer, freshRule}
 use Rattle.insert.specs.declared.Insertion.{Insertion}
 use Rattle.insert.specs.declared.Insertion.the-variants.{Accepted, Refused}
-use Rattle.growth.specs.InsertHeads.{Plain, octets-plain}
-use Rattle.growth.specs.FreshLaws.{FreshGiven, FreshIs, fresh-is-sound}
-use Rattle.book.specs.Book.{Calls, insertionAnswer, answerTo, bufferAfter, noRoomFor, fits, FourBytes, answersTo, bufferAt, bookAt, IndexHolds, VisitsLevels, LeavesBuffer, Each, BookKept}
+use Rattle.growth.specs.InsertHeads.{octets-plain}
+use Rattle.growth.specs.FreshLaws.{fresh-is-sound}
+use Rattle.book.specs.Book.{Calls, insertionAnswer, answerTo, bufferAfter, noRoomFor, fits, FourBytes, answersTo, bufferAt, VisitsLevels, LeavesBuffer, Each, BookKept}
 use Rattle.book.specs.LookupSound.{LookupSound}
-use Rattle.book.specs.CallLaws.{Kept, heightIn, height-is, readIndex, keeping, kept-sound, visits-levels, leaves-buffer, same-answer, same-rule, keeps, same-next}
+use Rattle.book.specs.CallLaws.{Kept, height-is, readIndex, keeping, kept-sound, visits-levels, leaves-buffer, same-answer, same-rule, keeps, same-next}
 
 -- the first n of calls that all have a property have it
 all-take : (P : Call (List ℕ) → Type 0) (n : ℕ) (calls : Calls) → All P calls → All P (take n calls)
@@ -64,14 +63,14 @@ module _ (lookup-sound : LookupSound) (k size : ℕ) (two : 1 < capacity k) wher
     answers = rw empty at (claim calls o b kept .answers);
     room = rw empty at (claim calls o b kept .room);
     index = λ n.
-      let first = take n calls in
-      let o′ = all-take FourBytes n calls o in
-      let after : Kept k size (bufferAt n calls b) = keeps-all first o′ b kept in
-      let c : held (readIndex (bufferAt n calls b)) ≡ bookFinal bytesOrder (fits k) (take n calls) (noRooms (answersTo (take n calls) b)) [] = rw empty at (claim first o′ b kept .pairs) in
-      record {
-        sound = after .sound;
-        leaves = ap (λ (h : ℕ). held (indexOf (bufferAt n calls b) h)) (sym (height-is (bufferAt n calls b) (after .sound))) ∙ c ∙ book-take k n calls b [];
-      };
+        let first = take n calls in
+        let o′ = all-take FourBytes n calls o in
+        let after : Kept k size (bufferAt n calls b) = keeps-all first o′ b kept in
+        let c : held (readIndex (bufferAt n calls b)) ≡ bookFinal bytesOrder (fits k) (take n calls) (noRooms (answersTo (take n calls) b)) [] = rw empty at (claim first o′ b kept .pairs) in
+        record {
+          sound = after .sound;
+          leaves = ap (λ (h : ℕ). held (indexOf (bufferAt n calls b) h)) (sym (height-is (bufferAt n calls b) (after .sound))) ∙ c ∙ book-take k n calls b [];
+        };
     visits = each VisitsLevels (λ c b i. visits-levels lookup-sound k size b i c) calls o b kept;
     buffers = each LeavesBuffer (λ c b i. leaves-buffer c b) calls o b kept;
   }

@@ -1,27 +1,27 @@
 -- Laws: one call of insertion or lookup on a buffer that holds a sound index is the theory's call on that index, and keeps it sound. Cited by the theorem about
 -- lists of calls. Assumes nothing.
-use Prim.Native.Nat.{ℕ, suc, _+_, _-_, _^_, _≤_, _<_, min}
-use mathlib.Core.Path.{_≡_, refl, sym, ap, ap₂, _∙_, subst}
+use Prim.Native.Nat.{ℕ, _-_, _^_, _<_, min}
+use mathlib.Core.Path.{_≡_, refl, sym, ap, _∙_, subst}
 use mathlib.Core.Bool.{Bool, true, false, cond, not}
-use mathlib.Core.List.{List, [], _∷_}
+use mathlib.Core.List.{List, []}
 use mathlib.Core.Option.{Option, none, some}
 use native.Mathlib.Omega.{arith}
 use lib.Dec.{eqb}
 use lib.ListN.{length}
 use borrow.Author.Tests.{eqb-true}
-use Rattle.basis.specs.Tests.{either, contra}
-use Rattle.tree.specs.Book.{Call, insertion, lookupOf, Answer, refused, accepted, found, absent, refusedIf, isPresent, verdict, foundOrAbsent, finding, isAccepted}
+use Rattle.basis.specs.Tests.{either}
+use Rattle.tree.specs.Book.{Call, insertion, lookupOf, accepted, found, absent, refusedIf, isPresent, foundOrAbsent, isAccepted}
 use Rattle.tree.specs.Index.{Index, held, Setting, outOfRoom, noRoomFor as noRoomTo, answer, inserted, next}
-use Rattle.tree.specs.IndexLaws.{Acceptable, accepted-acceptable}
+use Rattle.tree.specs.IndexLaws.{accepted-acceptable}
 use Rattle.tree.specs.Ordered.{lookup-find, visited-found}
 use Rattle.tree.specs.Pairs.{find}
 use Rattle.tree.specs.SoundIndex.{SoundIndex}
-use Rattle.tree.specs.Tree.{pairs, lookup, visited}
-use Rattle.page.specs.Header.{maxBytes, maxLevels, rootOffset, fileSize, keyLength, headerGood}
-use Rattle.page.specs.HeaderLaws.{GoodHeader, good-header}
+use Rattle.tree.specs.Tree.{lookup, visited}
+use Rattle.page.specs.Header.{maxBytes, maxLevels, rootOffset, keyLength, headerGood}
+use Rattle.page.specs.HeaderLaws.{good-header}
 use Rattle.page.specs.KeyOrder.{bytesOrder}
 use Rattle.page.specs.declared.RecordNumber.{RecordNumber}
-use Rattle.lookup.specs.Lookup.{recordOf, lookupRule, answerNumber, answerPages}
+use Rattle.lookup.specs.Lookup.{lookupRule, answerNumber, answerPages}
 use Rattle.lookup.specs.declared.Answer.{Answer as Looked}
 use Rattle.lookup.specs.declared.Answer.the-variants as looked
 use Rattle.sound.specs.Accepted.{accepted as audit-accepts}
@@ -34,7 +34,7 @@ use Rattle.insert.specs.Room.{pathFrom, noRoom}
 use Rattle.insert.specs.declared.Insertion.the-variants.{Accepted, Refused}
 use Rattle.growth.specs.InsertHeads.{Plain}
 use Rattle.growth.specs.RoomLaws.{sound-levels, room-is}
-use Rattle.growth.specs.InsertSound.{Accepts, Inserts, insert-keeps-sound}
+use Rattle.growth.specs.InsertSound.{Accepts, insert-keeps-sound}
 use Rattle.book.specs.Book.{insertionAnswer, lookupAnswer, answerTo, bufferAfter, noRoomFor, fits, FourBytes, VisitsLevels, LeavesBuffer}
 use Rattle.book.specs.LookupSound.{replyOf, LookupSound}
 
@@ -179,11 +179,11 @@ module _ (lookup-sound : LookupSound) (k size : ℕ) (b : List ℕ) (kept : Kept
   visits-levels (insertion key r) = tt
   visits-levels (lookupOf key) = λ s′ r pages e. either (fits k key)
       (λ f.
-        let h = heightIn b in
-        let found : replyOf (lookup bytesOrder key h (indexTree b h)) (length (visited bytesOrder key h (indexTree b h))) ≡ looked.Found r pages = sym (found-is key f) ∙ e in
-        let o = reply-record (lookup bytesOrder key h (indexTree b h)) (length (visited bytesOrder key h (indexTree b h))) r pages found in
-        let n = reply-pages (lookup bytesOrder key h (indexTree b h)) (length (visited bytesOrder key h (indexTree b h))) r pages found in
-        omega (arith, n, visited-found bytesOrder key h (indexTree b h) (r .0) o, height-is b s′))
+      let h = heightIn b in
+      let found : replyOf (lookup bytesOrder key h (indexTree b h)) (length (visited bytesOrder key h (indexTree b h))) ≡ looked.Found r pages = sym (found-is key f) ∙ e in
+      let o = reply-record (lookup bytesOrder key h (indexTree b h)) (length (visited bytesOrder key h (indexTree b h))) r pages found in
+      let n = reply-pages (lookup bytesOrder key h (indexTree b h)) (length (visited bytesOrder key h (indexTree b h))) r pages found in
+      omega (arith, n, visited-found bytesOrder key h (indexTree b h) (r .0) o, height-is b s′))
       (λ f. let z : _≡_ {A = ℕ} 27 0 = ap (λ (a : Looked). answerNumber a) (sym (misfit key f) ∙ e) in absurd (omega arith))
 
   -- insertion

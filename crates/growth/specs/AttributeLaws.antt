@@ -1,7 +1,7 @@
 -- Laws: the bits of the attributes after the lowest m pages of a path were split. Cited by the law that an insertion keeps an index sound. Assumes nothing.
 use mathlib.Core.Path.{_≡_, refl, sym, ap, _∙_}
-use mathlib.Core.Bool.{true, false}
-use Prim.Native.Nat.{ℕ, zero, suc, _+_, _-_, _%_, _≤_, _<_}
+use mathlib.Core.Bool.{false}
+use Prim.Native.Nat.{ℕ, zero, suc, _-_, _%_, _≤_, _<_}
 use native.Mathlib.Omega.{arith}
 use lib.Dec.{leb, eqb}
 use borrow.Author.Tests.{leb-true, leb-false, le-leb, lt-leb, eqb-true, eqb-false, eq-eqb, ne-eqb}
@@ -35,10 +35,10 @@ module _ (path name : ℕ → ℕ) (A : ℕ → ℕ) where
   leaf-new inj zero apart j l = absurd (omega arith)
   leaf-new inj (suc m) apart j l = either (eqb j m)
       (λ e. let q : j ≡ m = eqb-true j m e in
-        rw (q, eq-eqb (name m) (name m) refl, leaf-kept (unrooted path name m A (path m))) (leaf-old m (path m) (λ i o. apart m i (omega arith))))
+      rw (q, eq-eqb (name m) (name m) refl, leaf-kept (unrooted path name m A (path m))) (leaf-old m (path m) (λ i o. apart m i (omega arith))))
       (λ e. let q : j ≡ m → ⊥ = eqb-false j m e in
-        rw (ne-eqb (name j) (name m) (λ o. q (inj j m o)), ne-eqb (name j) (path m) (λ o. apart m j (omega arith) (sym o)))
-        (leaf-new inj m (λ i i′ o. apart i i′ (omega arith)) j (omega (arith, q))))
+      rw (ne-eqb (name j) (name m) (λ o. q (inj j m o)), ne-eqb (name j) (path m) (λ o. apart m j (omega arith) (sym o)))
+      (leaf-new inj m (λ i i′ o. apart i i′ (omega arith)) j (omega (arith, q))))
 
   -- no root bit appears, and neither half of a page that was split has it; other pages keep what they have
   pub root-none : (m z : ℕ) → rootBit (A z) ≡ false → rootBit (unrooted path name m A z) ≡ false
@@ -52,8 +52,8 @@ module _ (path name : ℕ → ℕ) (A : ℕ → ℕ) where
   root-half f half (suc m) j l = either (eqb (f j) (name m))
       (λ o. rw o (root-gone (unrooted path name m A (path m))))
       (λ o. either (eqb (f j) (path m))
-        (λ u. rw (o, u) (root-gone (unrooted path name m A (path m))))
-        (λ u. rw (o, u) (root-half f half m j (less j m l (λ q. half m (rw q at o) (rw q at u))))))
+      (λ u. rw (o, u) (root-gone (unrooted path name m A (path m))))
+      (λ u. rw (o, u) (root-half f half m j (less j m l (λ q. half m (rw q at o) (rw q at u))))))
 
   pub root-new : (m j : ℕ) → j < m → rootBit (unrooted path name m A (name j)) ≡ false
   root-new = root-half name (λ m o u. eqb-false (name m) (name m) o refl)
@@ -81,4 +81,4 @@ module _ (path name : ℕ → ℕ) (A : ℕ → ℕ) where
       either (eqb (name j) (name m))
       (λ o. rw o (omega arith))
       (λ o. either (eqb (name j) (path m)) (λ u. rw (o, u) (omega arith))
-        (λ u. rw (o, u) (small-new m (λ j l. f j (omega arith)) j (less j m l (λ q. eqb-false (name j) (name m) o (ap name q))))))
+      (λ u. rw (o, u) (small-new m (λ j l. f j (omega arith)) j (less j m l (λ q. eqb-false (name j) (name m) o (ap name q))))))

@@ -1,14 +1,14 @@
 -- Laws: a fresh index is sound and empty. Cited by the claim about lists of calls. Assumes nothing.
 use mathlib.Core.Path.{_≡_, refl, sym, ap, _∙_, subst}
-use mathlib.Core.Bool.{true, false, cond, _&&_}
-use mathlib.Core.List.{List, [], _∷_, _++_, map}
-use Prim.Native.Nat.{ℕ, _+_, _-_, _*_, _^_, _≤_, _<_, min}
+use mathlib.Core.Bool.{true, cond, _&&_}
+use mathlib.Core.List.{List, [], map}
+use Prim.Native.Nat.{ℕ, _+_, _^_, _≤_, _<_, min}
 use native.Mathlib.Omega.{arith}
 use lib.Dec.{eqb, leb}
-use lib.ListN.{length, getD, replicate, length-append, length-replicate}
-use borrow.Author.Tests.{eqb-true, eqb-false, leb-true}
+use lib.ListN.{length, getD, length-append, length-replicate}
+use borrow.Author.Tests.{leb-true}
 use Rattle.basis.specs.Lists.{All}
-use Rattle.basis.specs.Tests.{either, both}
+use Rattle.basis.specs.Tests.{both}
 use Rattle.octets.specs.Bytes.{le16, le32, toLe16, toLe32}
 use Rattle.octets.specs.Store.{put, window}
 use Rattle.octets.specs.StoreLaws.{length-put, window-same, getD-window}
@@ -16,24 +16,21 @@ use Rattle.octets.specs.NumberLaws.{length-toLe16, length-toLe32, le16-same, le
 use Rattle.tree.specs.Clauses.{AllLinked}
 use Rattle.tree.specs.Index.{fresh}
 use Rattle.tree.specs.IndexLaws.{fresh-sound}
-use Rattle.tree.specs.Lists.{occ, countIf}
-use Rattle.tree.specs.SoundIndex.{SoundIndex, LinkedIndex}
+use Rattle.tree.specs.SoundIndex.{SoundIndex}
 use Rattle.tree.specs.Store.{Store, readEntry}
 use Rattle.tree.specs.StoreLaws.{write-here}
 use Rattle.tree.specs.Tree.{Tree, pages, level}
 use Rattle.page.specs.Header.{maxBytes, maxKey, noPage, pageSize, isPage, rootOffset, freePointer, fileSize, keyLength, features, keyLengthGood, headerGood}
-use Rattle.page.specs.HeaderLaws.{IsPage, is-page, is-page-from, GoodHeader, good-header-from}
-use Rattle.page.specs.KeyOrder.{bytesOrder}
+use Rattle.page.specs.HeaderLaws.{is-page-from, good-header-from}
 use Rattle.page.specs.Page.{attributeAt, countAt, leftAt, rightAt, rootBit, leafBit, capacity}
 use Rattle.page.specs.Reading.{entriesAt}
 use Rattle.page.specs.ReadingLaws.{window-window}
-use Rattle.layout.specs.Layout.{newPage}
 use Rattle.layout.specs.WriteLaws.{capacity-least}
 use Rattle.sound.specs.Sound.{indexTree, linksOf, Sound}
 use Rattle.sound.specs.IndexLaws.{indexOf, settingOf, index-sound}
 use Rattle.insert.specs.Fresh.{printable, expressionGood, freshHeader, freshBuffer}
 use Rattle.written.specs.EntryLaws.{entriesIn, page-of, entries-new, length-new}
-use Rattle.written.specs.HeadLaws.{Head, SameHead, SameHeader, put-header, new-head, new-header}
+use Rattle.written.specs.HeadLaws.{Head, SameHead, put-header, new-head, new-header}
 use Rattle.growth.specs.InsertHeads.{Plain, one-of}
 use Rattle.growth.specs.SoundReading.{entries-longer}
 
@@ -151,7 +148,7 @@ module _ (k : ℕ) (e b : List ℕ) (given : FreshGiven k e b) where
       let most : ℕ = min (length b) maxBytes in
       let ps : List ℕ = pages 0 (indexTree b″ 0) in
       let sound : SoundIndex (settingOf (keyLength b″) most) (indexOf b″ 0) =
-        subst (SoundIndex (settingOf (keyLength b″) most)) (sym index-is) (fresh-sound (settingOf (keyLength b″) most) (rw key-is (omega (arith, capacity-least k (key-fits .1)))) (omega (arith, given .room)) (omega arith)) in
+      subst (SoundIndex (settingOf (keyLength b″) most)) (sym index-is) (fresh-sound (settingOf (keyLength b″) most) (rw key-is (omega (arith, capacity-least k (key-fits .1)))) (omega (arith, given .room)) (omega arith)) in
       index-sound b″ 0 most header-good sound
       (as-tree (λ t. AllLinked noPage (linksOf b″) 0 t) (λ j l. let j0 : j ≡ 0 = omega arith in rw j0 (at-first .leftIs, at-first .rightIs, tt)))
       (as-tree (λ t. All (λ p. attributeAt b″ p ≤ 3) (pages 0 t)) (rw (at-first .attributeIs) (omega arith), tt))

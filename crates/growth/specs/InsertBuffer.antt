@@ -1,9 +1,9 @@
 -- Laws: the whole buffer after an insertion that has room: the tree, the links, the attributes and the counts that it reads as, and its header. Cited by the
 -- law that an insertion keeps an index sound. Assumes nothing.
 use mathlib.Core.Path.{_≡_, refl, sym, ap, ap₂, _∙_, subst}
-use mathlib.Core.Bool.{true, false, cond}
+use mathlib.Core.Bool.{true, cond}
 use mathlib.Core.List.{List, [], _∷_}
-use Prim.Native.Nat.{ℕ, zero, suc, _+_, _*_, _^_, _≤_, _<_}
+use Prim.Native.Nat.{ℕ, suc, _+_, _^_, _≤_, _<_}
 use native.Mathlib.Omega.{arith}
 use lib.Dec.{eqb}
 use lib.ListN.{length}
@@ -27,20 +27,21 @@ use Rattle.tree.specs.StoreInsertLaws.{insert-read}
 use Rattle.tree.specs.StoreSteps.{StoreReplacement, StoreGrown, storeReroot, storeInsert, readGrown}
 use Rattle.tree.specs.Tree.{Tree, pages}
 use Rattle.page.specs.Header.{maxLevels, noPage, pageSize, isPage, rootOffset, fileSize}
-use Rattle.page.specs.HeaderLaws.{IsPage, is-page}
+use Rattle.page.specs.HeaderLaws.{is-page}
 use Rattle.page.specs.KeyOrder.{bytesOrder}
 use Rattle.page.specs.Page.{attributeAt, countAt, leftAt, rightAt, capacity}
 use Rattle.page.specs.Reading.{Item}
 use Rattle.page.specs.ReadingLaws.{window-in-page}
 use Rattle.layout.specs.Layout.{itemsIn, newPage}
 use Rattle.layout.specs.ItemLaws.{Fit}
+use Rattle.layout.specs.EntryLaws.{items-in-fit}
+use Rattle.layout.specs.GatherLaws.{length-last}
 use Rattle.sound.specs.Sound.{linksOf}
 use Rattle.insert.specs.Insertion.{Outcome, kept, split, bad, Step, insertUnder, atRoot, insertedBuffer}
-use Rattle.written.specs.EntryLaws.{entriesIn, page-of, items-good, length-new}
+use Rattle.written.specs.EntryLaws.{entriesIn, page-of, length-new}
 use Rattle.written.specs.HeadLaws.{Head, SameHead, SameHeader, put-header, new-head, new-header}
-use Rattle.growth.specs.ItemLists.{lastKey-long}
 use Rattle.growth.specs.InsertEntries.{Usable, OutcomeIs, StepIs, Shaped, shaped-page, Offered, replacement, Free, inserts, topKey, RootIs, rootAfter, sizeAfter, root-inserts}
-use Rattle.growth.specs.InsertHeads.{Plain, unrooted, one-of, Heads, HeadsAfter, insert-heads}
+use Rattle.growth.specs.InsertHeads.{Plain, unrooted, one-of, HeadsAfter, insert-heads}
 
 -- the tree that a buffer's own length reads: insertion's rule reads so
 abbrev pub treeIn : ℕ → List ℕ → (h : ℕ) → Tree (List ℕ) h
@@ -120,7 +121,7 @@ module _ (k root : ℕ) (key : List ℕ) (two : 1 < capacity k) (long : length k
   at-root (split q) new l er r32 s32 =
       let top = q + pageSize in
       let es : List Item = (lastKey key (itemsIn k b root), toBe32 root) ∷ (lastKey key (itemsIn k b q), toBe32 q) ∷ [] in
-      let fits : (z : ℕ) → length (lastKey key (itemsIn k b z)) ≡ k = λ z. lastKey-long k key long (itemsIn k b z) (items-good k b z .0) in
+      let fits : (z : ℕ) → length (lastKey key (itemsIn k b z)) ≡ k = λ z. length-last k key long (itemsIn k b z) (items-in-fit k b z) in
       let fit : All (Fit k) es = ((fits root, length-toBe32 root), ((fits q, length-toBe32 q), tt)) in
       let b1 = newPage b top 1 noPage noPage es in
       let b2 = put b1 0 (toLe32 top) in
@@ -130,7 +131,7 @@ module _ (k root : ℕ) (key : List ℕ) (two : 1 < capacity k) (long : length k
       let l1 : length b1 ≡ length b = length-new b top 1 noPage noPage es in
       let l2 : length b2 ≡ length b = length-put b1 0 (toLe32 top) ∙ l1 in
       let h1 : (z : ℕ) → isPage (length b) z ≡ true → Head b1 z (cond (eqb z top) 1 (attributeAt b z)) (cond (eqb z top) 2 (countAt b z)) (cond (eqb z top) noPage (leftAt b z)) (cond (eqb z top) noPage (rightAt b z)) =
-        new-head k b top 1 noPage noPage es new (omega arith) (omega arith) (omega arith) fit (omega arith) in
+      new-head k b top 1 noPage noPage es new (omega arith) (omega arith) (omega arith) fit (omega arith) in
       let h2 : (z : ℕ) → isPage (length b) z ≡ true → SameHead b1 b2 z = λ z t. put-header b1 0 (toLe32 top) (omega arith) z (page-of z l1 t) in
       let h3 : (z : ℕ) → isPage (length b) z ≡ true → SameHead b2 b3 z = λ z t. put-header b2 8 (toLe32 (top + pageSize)) (omega arith) z (page-of z l2 t) in
       let header : SameHeader b b1 = new-header k b top 1 noPage noPage es new (omega arith) (omega arith) (omega arith) fit (omega arith) in
@@ -258,8 +259,8 @@ module _ (k h : ℕ) (b key : List ℕ) (r : ℕ) (ready : Ready k h b key r) wh
       let h0 : grownBy k h b key r .0 ≡ h = ap (λ (x : Grown (List ℕ)). x .0) (sym seen) ∙ g0 in
       let h2 : grownBy k h b key r .2 ≡ W .1 = ap (λ (x : Grown (List ℕ)). x .2) (sym seen) ∙ g2 in
       let x : fullRun ≡ W .1 = either (eqb fullRun (suc h))
-        (λ q. let y : suc (grownBy k h b key r .0) ≡ suc (suc h) = rw q at (needed .1) in absurd (omega arith))
-        (λ q. let y : grownBy k h b key r .2 ≡ fullRun = rw q at (needed .0) in omega arith) in
+      (λ q. let y : suc (grownBy k h b key r .0) ≡ suc (suc h) = rw q at (needed .1) in absurd (omega arith))
+      (λ q. let y : grownBy k h b key r .2 ≡ fullRun = rw q at (needed .0) in omega arith) in
       record { splits = omega (arith, t .0); heightIs = h0; rootIs = ap (λ (x : Grown (List ℕ)). x .1 .0) (sym seen) ∙ g1 }
 
   numbers-split : (q : ℕ) → OutcomeIs (fileSize b) a (rootOffset b) (split q) W → Numbers (suc h) (suc h) (q + pageSize)
@@ -268,8 +269,8 @@ module _ (k h : ℕ) (b key : List ℕ) (r : ℕ) (ready : Ready k h b key r) wh
       let g1 : g .1 ≡ taken (fileSize b) (W .1) = rw (t .1) in
       let h0 : grownBy k h b key r .0 ≡ suc h = ap (λ (x : Grown (List ℕ)). x .0) (sym seen) ∙ g0 in
       let x : fullRun ≡ suc h = either (eqb fullRun (suc h))
-        (λ e. eqb-true fullRun (suc h) e)
-        (λ e. let y : suc (grownBy k h b key r .0) ≡ suc h = rw e at (needed .1) in absurd (omega arith)) in
+      (λ e. eqb-true fullRun (suc h) e)
+      (λ e. let y : suc (grownBy k h b key r .0) ≡ suc h = rw e at (needed .1) in absurd (omega arith)) in
       record { splits = x; heightIs = h0; rootIs = ap (λ (x : Grown (List ℕ)). x .1 .0) (sym seen) ∙ g1 ∙ sym (t .0) }
 
   -- the theory's links after the insertion
@@ -290,7 +291,7 @@ module _ (k h : ℕ) (b key : List ℕ) (r : ℕ) (ready : Ready k h b key r) wh
         → ((z : ℕ) → isPage (length b) z ≡ true → attributeAt (insertedBuffer k b key r) z ≡ unrooted path (taken (fileSize b)) fullRun (attributeAt b) z) → Rising
     rises : grownBy k h b key r .0 ≡ suc h → grownBy k h b key r .1 .0 ≡ taken (fileSize b) (suc h) → fullRun ≡ suc h
         → ((z : ℕ) → isPage (length b) z ≡ true
-            → attributeAt (insertedBuffer k b key r) z ≡ cond (eqb z (taken (fileSize b) (suc h))) 1 (unrooted path (taken (fileSize b)) (suc h) (attributeAt b) z)) → Rising
+        → attributeAt (insertedBuffer k b key r) z ≡ cond (eqb z (taken (fileSize b) (suc h))) 1 (unrooted path (taken (fileSize b)) (suc h) (attributeAt b) z)) → Rising
 
   -- the heads of the pages after the insertion
   pub record HeadsIn : Type 0 where
@@ -303,8 +304,11 @@ module _ (k h : ℕ) (b key : List ℕ) (r : ℕ) (ready : Ready k h b key r) wh
   run-short : grownBy k h b key r .0 ≡ h → fullRun ≤ h
   run-short h0 = either (eqb fullRun (suc h))
       (λ q. let y : suc (grownBy k h b key r .0) ≡ suc (suc h) = rw q at (needed .1) in absurd (omega arith))
-      (λ q. omega (arith, eqb-false fullRun (suc h) q,
-        root-splits bytesOrder (capacity k) (taken (fileSize b)) key r h key (treeIn k b h) (omega (arith, ready .offered .two)) (ready .sized) .most))
+      (λ q. omega (
+        arith,
+        eqb-false fullRun (suc h) q,
+        root-splits bytesOrder (capacity k) (taken (fileSize b)) key r h key (treeIn k b h) (omega (arith, ready .offered .two)) (ready .sized) .most,
+      ))
 
   -- Theorem: they are the theory's
   pub heads-in : HeadsIn
@@ -323,7 +327,7 @@ module _ (k h : ℕ) (b key : List ℕ) (r : ℕ) (ready : Ready k h b key r) wh
           let short = run-short (x .heightIs) in
           let few : grownBy k h b key r .2 ≡ fullRun = rw (ne-eqb fullRun (suc h) (λ q. omega arith)) at (needed .0) in
           let f : linksAfter ≡ relink path (taken (fileSize b)) (c .0) (linksOf b) =
-            relinked-kept (grownBy k h b key r) (x .heightIs) ∙ ap (λ (m : ℕ). relink path (taken (fileSize b)) m (linksOf b)) (x .splits) in
+          relinked-kept (grownBy k h b key r) (x .heightIs) ∙ ap (λ (m : ℕ). relink path (taken (fileSize b)) m (linksOf b)) (x .splits) in
           let v = c .2 in
           record {
             links = λ z p. (
@@ -331,7 +335,7 @@ module _ (k h : ℕ) (b key : List ℕ) (r : ℕ) (ready : Ready k h b key r) wh
               e .rights z (there z p) ∙ v .rights z p ∙ ap (λ (l : Links). l .right z) (sym f),
             );
             rising = stays (x .heightIs) (x .rootIs) short
-              (λ z p. e .attributes z (there z p) ∙ v .attributes z p ∙ ap (λ (m : ℕ). unrooted path (taken (fileSize b)) m (attributeAt b) z) (sym (x .splits)));
+                (λ z p. e .attributes z (there z p) ∙ v .attributes z p ∙ ap (λ (m : ℕ). unrooted path (taken (fileSize b)) m (attributeAt b) z) (sym (x .splits)));
             counts = λ z p u. rw (e .counts z (there z p)) (v .counts z p u);
             newCounts = λ j l. let u = v .newCounts j (omega (arith, x .splits)) in rw (e .counts (taken (fileSize b) j) (there (taken (fileSize b) j) (u .0))) (u .1);
             plain = λ z p. let q = page-of z (sym length-after) p in rw (e .attributes z (there z q), e .rights z (there z q)) (v .plain z q);
@@ -342,23 +346,23 @@ module _ (k h : ℕ) (b key : List ℕ) (r : ℕ) (ready : Ready k h b key r) wh
           let top : q + pageSize ≡ taken (fileSize b) (suc h) = omega (arith, c .0) in
           let few : grownBy k h b key r .2 ≡ suc fullRun = rw (eq-eqb fullRun (suc h) (x .splits)) at (needed .0) in
           let f : linksAfter ≡ clearLinks noPage (q + pageSize) (relink path (taken (fileSize b)) (suc h) (linksOf b)) =
-            relinked-split (grownBy k h b key r) (q + pageSize) (x .heightIs) (x .rootIs) ∙ ap (λ (m : ℕ). clearLinks noPage (q + pageSize) (relink path (taken (fileSize b)) m (linksOf b))) (x .splits) in
+          relinked-split (grownBy k h b key r) (q + pageSize) (x .heightIs) (x .rootIs) ∙ ap (λ (m : ℕ). clearLinks noPage (q + pageSize) (relink path (taken (fileSize b)) m (linksOf b))) (x .splits) in
           let v = c .1 in
           let low : (z : ℕ) → isPage (length b) z ≡ true → countAt (s .after) z ≤ capacity k → countAt b″ z ≤ capacity k =
-            λ z p u. rw (e .counts z (there z p)) (one-of (λ m. m ≤ capacity k) (eqb z (q + pageSize)) 2 (countAt (s .after) z) two u) in
+          λ z p u. rw (e .counts z (there z p)) (one-of (λ m. m ≤ capacity k) (eqb z (q + pageSize)) 2 (countAt (s .after) z) two u) in
           record {
             links = λ z p. (
               e .lefts z (there z p) ∙ ap (cond (eqb z (q + pageSize)) noPage) (v .lefts z p) ∙ ap (λ (l : Links). l .left z) (sym f),
               e .rights z (there z p) ∙ ap (cond (eqb z (q + pageSize)) noPage) (v .rights z p) ∙ ap (λ (l : Links). l .right z) (sym f),
             );
             rising = rises (x .heightIs) (x .rootIs ∙ top) (x .splits)
-              (λ z p. e .attributes z (there z p) ∙ ap (cond (eqb z (q + pageSize)) 1) (v .attributes z p)
-              ∙ ap (λ (y : ℕ). cond (eqb z y) 1 (unrooted path (taken (fileSize b)) (suc h) (attributeAt b) z)) top);
+                (λ z p. e .attributes z (there z p) ∙ ap (cond (eqb z (q + pageSize)) 1) (v .attributes z p)
+                ∙ ap (λ (y : ℕ). cond (eqb z y) 1 (unrooted path (taken (fileSize b)) (suc h) (attributeAt b) z)) top);
             counts = λ z p u. low z p (v .counts z p u);
             newCounts = λ j l. either (eqb j (suc h))
-              (λ y. let same : j ≡ suc h = eqb-true j (suc h) y in
+                (λ y. let same : j ≡ suc h = eqb-true j (suc h) y in
                 rw (same, e .counts (taken (fileSize b) (suc h)) (there (taken (fileSize b) (suc h)) (rw (← top) (new-root (split q) t))), eq-eqb (taken (fileSize b) (suc h)) (q + pageSize) (sym top)) two)
-              (λ y. let u = v .newCounts j (omega (arith, x .splits, eqb-false j (suc h) y)) in low (taken (fileSize b) j) (u .0) (u .1));
+                (λ y. let u = v .newCounts j (omega (arith, x .splits, eqb-false j (suc h) y)) in low (taken (fileSize b) j) (u .0) (u .1));
             plain = λ z p. let w = page-of z (sym length-after) p in (
               rw (e .attributes z (there z w)) (one-of (λ m. m < 2 ^ 16) (eqb z (q + pageSize)) 1 (attributeAt (s .after) z) (omega arith) (v .plain z w .0)),
               rw (e .rights z (there z w)) (one-of (λ m. m < 2 ^ 32) (eqb z (q + pageSize)) noPage (rightAt (s .after) z) (omega arith) (v .plain z w .1)),

@@ -1,12 +1,12 @@
 -- Laws: the entries of all pages after insertion's steps on bytes are those after the theory's steps on the same entries. Cited by the laws of the whole
 -- buffer. Assumes nothing.
 use mathlib.Core.Path.{_≡_, refl, sym, ap, _∙_, subst}
-use mathlib.Core.Bool.{true, false, cond}
+use mathlib.Core.Bool.{true, false}
 use mathlib.Core.List.{List, [], _∷_, map}
 use Prim.Native.Nat.{ℕ, zero, suc, _+_, _^_, _≤_, _<_}
 use native.Mathlib.Omega.{arith}
 use lib.ListN.{length, take, drop, length-take, length-drop, length-map, take-append-drop}
-use lib.Dec.{leb, eqb}
+use lib.Dec.{leb}
 use borrow.Author.Tests.{leb-true, leb-false, le-leb, lt-leb, eq-eqb}
 use Rattle.basis.specs.Lists.{All}
 use Rattle.basis.specs.Tests.{either}
@@ -24,21 +24,22 @@ use Rattle.tree.specs.PairLaws.{insertPair-all, lastKey-default, lastKey-append
 use Rattle.tree.specs.Pairs.{insertPair, lastKey}
 use Rattle.tree.specs.Room.{choose}
 use Rattle.tree.specs.Store.{Store, readEntry, readTree}
-use Rattle.tree.specs.StoreInsertLaws.{Refines, storeInsertUnder-refines, choose-occ}
+use Rattle.tree.specs.StoreInsertLaws.{storeInsertUnder-refines, choose-occ}
 use Rattle.tree.specs.StoreLaws.{write-here, write-other}
 use Rattle.tree.specs.StoreSteps.{write, StoreReplacement, storeSplitIfOver, storePlace, storeInsertAmong, storeInsertUnder, StoreGrown, storeInsert}
 use Rattle.tree.specs.Tree.{pagesUnder, pages}
 use Rattle.page.specs.Header.{noPage, pageSize, isPage}
-use Rattle.page.specs.HeaderLaws.{IsPage, is-page}
 use Rattle.page.specs.KeyOrder.{bytesOrder}
 use Rattle.page.specs.Page.{attributeAt, leafBit, capacity}
 use Rattle.page.specs.Reading.{Item, numbered}
-use Rattle.layout.specs.Layout.{itemsIn, withEntries, newPage, splitPage}
-use Rattle.layout.specs.Entries.{chosen, childOf, replaced, raised, twoFor}
+use Rattle.layout.specs.Layout.{itemsIn, newPage}
+use Rattle.layout.specs.Entries.{chosen, childOf, replaced, twoFor}
 use Rattle.layout.specs.ItemLaws.{Fit}
-use Rattle.insert.specs.Insertion.{Outcome, kept, split, bad, Step, step, takeIn, afterChild, insertUnder, atRoot}
-use Rattle.written.specs.EntryLaws.{entriesIn, page-of, raise, items-good, entries-header, entries-with, length-with, entries-new, entries-split, length-split, entries-raised, length-raised}
-use Rattle.growth.specs.ItemLists.{insertPair-numbered, choose-numbered, lastKey-numbered, replaced-place, insertPair-place, insertPair-length, replaced-length, replaced-all, larger-long, lastKey-long}
+use Rattle.layout.specs.EntryLaws.{items-in-fit}
+use Rattle.layout.specs.GatherLaws.{length-last, length-larger}
+use Rattle.insert.specs.Insertion.{Outcome, kept, split, bad, Step, takeIn, afterChild, insertUnder, atRoot}
+use Rattle.written.specs.EntryLaws.{entriesIn, page-of, raise, items-few, entries-header, entries-with, length-with, entries-new, entries-split, length-split, entries-raised, length-raised}
+use Rattle.growth.specs.ItemLists.{insertPair-numbered, choose-numbered, lastKey-numbered, replaced-place, insertPair-place, insertPair-length, replaced-length, replaced-all}
 
 -- a page of the buffer whose offset has four bytes
 abbrev pub Usable : List ℕ → ℕ → Type 0
@@ -85,20 +86,20 @@ module _ (k : ℕ) (two : 1 < capacity k) (F : ℕ) where
         told = (en, refl);
       }))
       (λ e.
-        let rooms : (j : ℕ) → j < suc m → Usable b (taken F j) = rw (length-map es numbered, e) at room in
-        let tq : Usable b n = rw en (rooms m (omega arith)) in
-        let h = half (length es) in
-        let over : capacity k < length es = leb-false (length es) (capacity k) e in
-        let lower : length (take h es) ≡ h = simp length-take (omega arith) in
-        let some : NonEmpty (map numbered (take h es)) = nonEmpty-length (map numbered (take h es)) (rw (length-map (take h es) numbered, lower) (omega arith)) in
-        let S : Store (List ℕ) = write (entriesIn k b) p (map numbered (take h es)) in
-        let stays : write S n (map numbered (drop h es)) p ≡ map numbered (take h es) =
-          write-other S n (map numbered (drop h es)) p (λ q. ne (q ∙ en)) ∙ write-here (entriesIn k b) p (map numbered (take h es)) in
-        rw (length-map es numbered, e, tq .0, take-map numbered h es, drop-map numbered h es, ← en) (record {
-          entries = entries-split k b p es n tp (tq .0) f two few;
-          as-long = length-split b p es n;
-          told = (rw en (omega arith), rw stays, rw stays some, tq .1);
-        }))
+      let rooms : (j : ℕ) → j < suc m → Usable b (taken F j) = rw (length-map es numbered, e) at room in
+      let tq : Usable b n = rw en (rooms m (omega arith)) in
+      let h = half (length es) in
+      let over : capacity k < length es = leb-false (length es) (capacity k) e in
+      let lower : length (take h es) ≡ h = simp length-take (omega arith) in
+      let some : NonEmpty (map numbered (take h es)) = nonEmpty-length (map numbered (take h es)) (rw (length-map (take h es) numbered, lower) (omega arith)) in
+      let S : Store (List ℕ) = write (entriesIn k b) p (map numbered (take h es)) in
+      let stays : write S n (map numbered (drop h es)) p ≡ map numbered (take h es) =
+      write-other S n (map numbered (drop h es)) p (λ q. ne (q ∙ en)) ∙ write-here (entriesIn k b) p (map numbered (take h es)) in
+      rw (length-map es numbered, e, tq .0, take-map numbered h es, drop-map numbered h es, ← en) (record {
+        entries = entries-split k b p es n tp (tq .0) f two few;
+        as-long = length-split b p es n;
+        told = (rw en (omega arith), rw stays, rw stays some, tq .1);
+      }))
 
   module _ (key : List ℕ) (long : length key ≡ k) where
     lastKey-store : (b : List ℕ) (c : ℕ) (a : List ℕ) → NonEmpty (entriesIn k b c) → lastKey key (itemsIn k b c) ≡ lastKey a (entriesIn k b c)
@@ -108,7 +109,7 @@ module _ (k : ℕ) (two : 1 < capacity k) (F : ℕ) where
     pub two-fit : (b : List ℕ) (c q : ℕ) (es : List Item) → All (Fit k) es → All (Fit k) (replaced key (twoFor k b key c q) es)
     two-fit b c q es f =
         replaced-all (Fit k) key (twoFor k b key c q)
-        (λ e g. ((lastKey-long k key long (itemsIn k b c) (items-good k b c .0), g .1), ((larger-long k key long (e .0) (g .0), length-toBe32 q), tt))) es f
+        (λ e g. ((length-last k key long (itemsIn k b c) (items-in-fit k b c), g .1), ((length-larger (e .0) key (g .0 ∙ sym long) ∙ long, length-toBe32 q), tt))) es f
 
     -- a page above with the entries es, after the child that the key leads to: b is the buffer before the child, b′ after it
     abbrev AfterChild : List ℕ → List ℕ → ℕ → List ℕ → StoreReplacement (List ℕ) → Outcome → List (List ℕ × ℕ) → Type 0
@@ -124,9 +125,9 @@ module _ (k : ℕ) (two : 1 < capacity k) (F : ℕ) where
     after-child-items b b′ p a y ys v (kept n) lb tp sv sp ne t room =
         let es : List Item = replaced key (raise key) (y ∷ ys) in
         let e : map numbered es ≡ storePlace bytesOrder key (numbered y) (map numbered ys) v .0 =
-          replaced-place key (raise key) (v .0) (v .1) 0 y ys (sym (t .1 ∙ rw (choose-numbered key y ys))) in
+        replaced-place key (raise key) (v .0) (v .1) 0 y ys (sym (t .1 ∙ rw (choose-numbered key y ys))) in
         let l : length (map numbered es) ≡ length (y ∷ ys) = length-map es numbered ∙ replaced-length key (raise key) 0 (λ z. refl) (y ∷ ys) tt ∙ omega arith in
-        let u : leb (length (map numbered es)) (capacity k) ≡ true = le-leb (length (map numbered es)) (capacity k) (rw l (rw sp at (items-good k b′ p .1))) in
+        let u : leb (length (map numbered es)) (capacity k) ≡ true = le-leb (length (map numbered es)) (capacity k) (rw l (rw sp at (items-few k b′ p))) in
         rw (← e, u) (record {
           entries = entries-raised k b′ key p (page-of p lb tp) long ∙ rw (sv, sp);
           as-long = length-raised k b′ key p ∙ lb;
@@ -140,15 +141,16 @@ module _ (k : ℕ) (two : 1 < capacity k) (F : ℕ) where
         let svc : entriesIn k b′ c ≡ v .2 c = ap (λ (S : Store (List ℕ)). S c) sv in
         let low : lastKey key (itemsIn k b′ c) ≡ lastKey A (v .2 c) = lastKey-store b′ c A (rw svc (t .2)) ∙ ap (lastKey A) svc in
         let em : map numbered es ≡ storePlace bytesOrder key (numbered y) (map numbered ys) v .0 =
-          replaced-place key (twoFor k b′ key c q) (v .0) (v .1) 0 y ys
-          (rw (low, be32-toBe32 q (t .3)) (ap (λ (x : List ℕ × ℕ). (lastKey A (v .2 c), x .1) ∷ (larger bytesOrder (x .0) key, q) ∷ []) (sym (choose-numbered key y ys)) ∙ sym (t .1))) in
+        replaced-place key (twoFor k b′ key c q) (v .0) (v .1) 0 y ys
+        (rw (low, be32-toBe32 q (t .3)) (ap (λ (x : List ℕ × ℕ). (lastKey A (v .2 c), x .1) ∷ (larger bytesOrder (x .0) key, q) ∷ []) (sym (choose-numbered key y ys)) ∙ sym (t .1))) in
         let ew : _≡_ {A = StoreReplacement (List ℕ)} (map numbered es, v .1, entriesIn k b′) (storePlace bytesOrder key (numbered y) (map numbered ys) v) = λ i. (em i, v .1, sv i) in
-        let g : All (Fit k) (y ∷ ys) × (length (y ∷ ys) ≤ capacity k) = rw sp at (items-good k b′ p) in
+        let fit : All (Fit k) (y ∷ ys) = rw sp at (items-in-fit k b′ p) in
+        let few : length (y ∷ ys) ≤ capacity k = rw sp at (items-few k b′ p) in
         let le : length es ≡ 1 + length (y ∷ ys) = replaced-length key (twoFor k b′ key c q) 1 (λ e. refl) (y ∷ ys) tt in
         rw sp
         (subst (λ (w : StoreReplacement (List ℕ)). StepIs k F (length b) a p (takeIn k b′ p es (q + pageSize)) (storeSplitIfOver (capacity k) (taken F) a p w)) ew
         (subst (λ (n : ℕ). StepIs k F n a p (takeIn k b′ p es (q + pageSize)) (storeSplitIfOver (capacity k) (taken F) a p (map numbered es, v .1, entriesIn k b′))) lb
-        (take-in-is b′ p a es (v .1) (q + pageSize) (page-of p lb tp) (two-fit b′ c q (y ∷ ys) (g .0)) (omega (arith, g .1)) (t .0) ne
+        (take-in-is b′ p a es (v .1) (q + pageSize) (page-of p lb tp) (two-fit b′ c q (y ∷ ys) fit) (omega arith) (t .0) ne
         (λ j h. let u = room j (subst (λ (w : StoreReplacement (List ℕ)). j < storeSplitIfOver (capacity k) (taken F) a p w .1) ew h) in (page-of (taken F j) lb (u .0), u .1)))))
 
     -- the child's step leaves the page's entries with their numbers
@@ -217,11 +219,10 @@ module _ (k F : ℕ) (key : List ℕ) (r : ℕ) (b : List ℕ) where
         let es : List Item = insertPair bytesOrder key (toBe32 r) (itemsIn k b p) in
         let en : map numbered es ≡ insertPair bytesOrder key r (entriesIn k b p) = insertPair-numbered key (toBe32 r) (itemsIn k b p) ∙ rw (be32-toBe32 r (o .r32)) in
         let ew : _≡_ {A = StoreReplacement (List ℕ)} (map numbered es, 0, entriesIn k b) (storeInsertAmong bytesOrder key r zero (under zero) (entriesIn k b p) 0 (entriesIn k b)) =
-          ap (λ (l : List (List ℕ × ℕ)). (l, 0, entriesIn k b)) en ∙ sym (among-leaf key r (entriesIn k b) (capacity k) F (entriesIn k b p)) in
-        let g = items-good k b p in
+        ap (λ (l : List (List ℕ × ℕ)). (l, 0, entriesIn k b)) en ∙ sym (among-leaf key r (entriesIn k b) (capacity k) F (entriesIn k b p)) in
         subst (λ (w : StoreReplacement (List ℕ)). StepIs k F (length b) a p (takeIn k b p es F) (storeSplitIfOver (capacity k) (taken F) a p w)) ew
-        (take-in-is k (o .two) F b p a es 0 F tp (insertPair-all bytesOrder (Fit k) key (toBe32 r) (itemsIn k b p) (o .long, length-toBe32 r) (g .0))
-        (omega (arith, g .1, insertPair-length key (toBe32 r) (itemsIn k b p))) (omega arith) ne
+        (take-in-is k (o .two) F b p a es 0 F tp (insertPair-all bytesOrder (Fit k) key (toBe32 r) (itemsIn k b p) (o .long, length-toBe32 r) (items-in-fit k b p))
+        (omega (arith, items-few k b p, insertPair-length key (toBe32 r) (itemsIn k b p))) (omega arith) ne
         (λ j h. room j (subst (λ (w : StoreReplacement (List ℕ)). j < storeSplitIfOver (capacity k) (taken F) a p w .1) ew h)))
 
     -- the child that the key leads to, under a page with the entries y ∷ ys
@@ -259,8 +260,8 @@ module _ (k F : ℕ) (key : List ℕ) (r : ℕ) (b : List ℕ) where
       child-rest left w =
           let v : StoreReplacement (List ℕ) = under (suc h) (numbered child) in
           let rest : v .2 p ≡ entriesIn k b p =
-            storeInsertUnder-refines bytesOrder (capacity k) (taken F) (λ i j e. omega arith) key r (suc h) 0 (entriesIn k b) (numbered child) (child-free .0) (child-free .1) .rest p
-            (omega (arith, u .0 p, child-occ p, ap countIf (eq-eqb p p refl))) (newPages-apart (taken F) (p ∷ below) (u .1) p (v .1) (occ-here p below)) in
+          storeInsertUnder-refines bytesOrder (capacity k) (taken F) (λ i j e. omega arith) key r (suc h) 0 (entriesIn k b) (numbered child) (child-free .0) (child-free .1) .rest p
+          (omega (arith, u .0 p, child-occ p, ap countIf (eq-eqb p p refl))) (newPages-apart (taken F) (p ∷ below) (u .1) p (v .1) (occ-here p below)) in
           ap (λ (T : Store (List ℕ)). T p) (w .entries) ∙ (rest ∙ es)
 
       -- the page at p, given the child's step
@@ -271,7 +272,7 @@ module _ (k F : ℕ) (key : List ℕ) (r : ℕ) (b : List ℕ) where
           let d : Step = insertUnder k left b key r (childOf child) F in
           let same = choose-numbered key y ys in
           let step-is = after-child-is k (o .two) F key (o .long) b (d .after) p a (map numbered (y ∷ ys)) v (d .outcome) (w .as-long) tp (w .entries)
-            (child-rest left w) (λ q. occ-not-head (taken F (v .1)) p below (u .1 (v .1)) (sym q)) in
+          (child-rest left w) (λ q. occ-not-head (taken F (v .1)) p below (u .1 (v .1)) (sym q)) in
           subst (λ (t : StoreReplacement (List ℕ)). StepIs k F (length b) a p (afterChild k (d .after) key p (childOf child) (d .outcome)) (storeSplitIfOver (capacity k) (taken F) a p t)) child-among
           (rw same at (step-is (rw same (w .told)) child-room))
 
@@ -366,7 +367,7 @@ module _ (k F : ℕ) (key : List ℕ) (r : ℕ) (b : List ℕ) (o : Offered k ke
           let e1 : lastKey key (itemsIn k b′ p) ≡ lastKey a (W .2 p) = lastKey-store k (o .two) F key (o .long) b′ p a (rw (at p) (t .2)) ∙ ap (lastKey a) (at p) in
           let eq : entriesIn k b′ q ≡ drop (half (length (v .0))) (v .0) = at q ∙ half-is .upper in
           let e2 : lastKey key (itemsIn k b′ q) ≡ a = lastKey-store k (o .two) F key (o .long) b′ q key (rw eq (half-is .some)) ∙ ap (lastKey key) eq ∙ half-is .last in
-          let long : (z : ℕ) → length (lastKey key (itemsIn k b′ z)) ≡ k = λ z. lastKey-long k key (o .long) (itemsIn k b′ z) (items-good k b′ z .0) in
+          let long : (z : ℕ) → length (lastKey key (itemsIn k b′ z)) ≡ k = λ z. length-last k key (o .long) (itemsIn k b′ z) (items-in-fit k b′ z) in
           let fit : All (Fit k) es = ((long p, length-toBe32 p), ((long q, length-toBe32 q), tt)) in
           let p32 : be32 (toBe32 p) 0 ≡ p = be32-toBe32 p (tp .1) in
           let q32 : be32 (toBe32 q) 0 ≡ q = be32-toBe32 q (t .3) in

@@ -3,16 +3,15 @@
 use mathlib.Core.Path.{_≡_, refl, sym, ap, _∙_, subst}
 use mathlib.Core.Bool.{Bool, true, false, cond}
 use mathlib.Core.List.{List, [], _∷_, map}
-use Prim.Native.Nat.{ℕ, zero, suc, _+_, _-_, _%_, _^_, _≤_, _<_}
+use Prim.Native.Nat.{ℕ, zero, suc, _+_, _^_, _≤_, _<_}
 use native.Mathlib.Omega.{arith}
 use lib.ListN.{length, take, drop, length-take, length-drop}
 use lib.Dec.{leb, eqb}
-use borrow.Author.Tests.{leb-true, leb-false, eqb-true, eqb-false, eq-eqb, ne-eqb}
+use borrow.Author.Tests.{leb-true, eqb-true, eqb-false, eq-eqb, ne-eqb}
 use Rattle.basis.specs.Lists.{All}
 use Rattle.basis.specs.Tests.{either}
 use Rattle.octets.specs.Bytes.{toBe32}
 use Rattle.octets.specs.NumberLaws.{length-toBe32, le16-small, le32-small}
-use Rattle.tree.specs.Clauses.{Links}
 use Rattle.tree.specs.Index.{newPage as taken}
 use Rattle.tree.specs.Insertion.{half}
 use Rattle.tree.specs.ListLaws.{occ-not-head}
@@ -27,19 +26,19 @@ use Rattle.tree.specs.StoreLaws.{choose-read}
 use Rattle.tree.specs.StoreSteps.{StoreReplacement}
 use Rattle.tree.specs.Tree.{pagesUnder, Tree}
 use Rattle.page.specs.Header.{pageSize, isPage}
-use Rattle.page.specs.HeaderLaws.{IsPage, is-page}
 use Rattle.page.specs.KeyOrder.{bytesOrder}
 use Rattle.page.specs.Page.{attributeAt, countAt, leftAt, rightAt, capacity}
 use Rattle.page.specs.Reading.{Item, numbered}
 use Rattle.layout.specs.Layout.{itemsIn, withEntries, withoutRoot, splitPage}
 use Rattle.layout.specs.Entries.{chosen, childOf, replaced, raised, twoFor}
 use Rattle.layout.specs.ItemLaws.{Fit}
+use Rattle.layout.specs.EntryLaws.{items-in-fit}
 use Rattle.sound.specs.Sound.{linksOf}
 use Rattle.insert.specs.Insertion.{Outcome, kept, split, bad, Step, takeIn, afterChild, insertUnder}
-use Rattle.written.specs.EntryLaws.{entriesIn, page-of, items-good}
+use Rattle.written.specs.EntryLaws.{entriesIn, page-of, items-few}
 use Rattle.written.specs.HeadLaws.{Head, SameHead, SameHeader, with-head, with-header, raised-head, raised-header, split-head, split-header}
 use Rattle.growth.specs.ItemLists.{choose-numbered, insertPair-length, replaced-length}
-use Rattle.growth.specs.InsertEntries.{Usable, OutcomeIs, StepIs, Shaped, Offered, replacement, Inserts, Free, inserts, items-some, two-fit, child-free, child-shaped, child-rest, page-is}
+use Rattle.growth.specs.InsertEntries.{Usable, OutcomeIs, Shaped, Offered, replacement, Inserts, Free, inserts, items-some, two-fit, child-free, child-shaped, child-rest, page-is}
 
 -- attributes and right links that are numbers of two and four bytes
 abbrev pub Plain : List ℕ → Type 0
@@ -139,11 +138,11 @@ module _ (k F : ℕ) (path : ℕ → ℕ) (b : List ℕ) where
       let lower : length (take i es) ≤ capacity k = simp length-take (omega arith) in
       let upper : length (drop i es) ≤ capacity k = simp length-drop (omega arith) in
       let s : (z : ℕ) → isPage (length b) z ≡ true → Head (splitPage b′ p es q) z (cond (eqb z q) (withoutRoot (attributeAt b′ p)) (cond (eqb z p) (withoutRoot (attributeAt b′ p)) (attributeAt b′ z)))
-        (cond (eqb z q) (length (drop i es)) (cond (eqb z p) (length (take i es)) (countAt b′ z))) (cond (eqb z q) p (cond (eqb z (rightAt b′ p)) q (leftAt b′ z)))
-        (cond (eqb z p) q (cond (eqb z q) (rightAt b′ p) (rightAt b′ z))) =
-        λ z t. split-head k b′ p es q (here p (tp .0)) (here q (tq .0)) ne f two few (tp .1) (tq .1) (pp .0) (pp .1) z (here z t) in
+      (cond (eqb z q) (length (drop i es)) (cond (eqb z p) (length (take i es)) (countAt b′ z))) (cond (eqb z q) p (cond (eqb z (rightAt b′ p)) q (leftAt b′ z)))
+      (cond (eqb z p) q (cond (eqb z q) (rightAt b′ p) (rightAt b′ z))) =
+      λ z t. split-head k b′ p es q (here p (tp .0)) (here q (tq .0)) ne f two few (tp .1) (tq .1) (pp .0) (pp .1) z (here z t) in
       let few-there : (z : ℕ) → isPage (length b) z ≡ true → countAt b′ z ≤ capacity k → countAt (splitPage b′ p es q) z ≤ capacity k =
-        λ z t c. rw (s z t .countIs) (one-of (λ n. n ≤ capacity k) (eqb z q) (length (drop i es)) _ upper (one-of (λ n. n ≤ capacity k) (eqb z p) (length (take i es)) (countAt b′ z) lower c)) in
+      λ z t c. rw (s z t .countIs) (one-of (λ n. n ≤ capacity k) (eqb z q) (length (drop i es)) _ upper (one-of (λ n. n ≤ capacity k) (eqb z p) (length (take i es)) (countAt b′ z) lower c)) in
       let a : ℕ = withoutRoot (attributeAt b′ p) in
       let a16 : a < 2 ^ 16 = omega (arith, pp .0) in
       record {
@@ -196,7 +195,7 @@ module _ (k F : ℕ) (path : ℕ → ℕ) (two : 1 < capacity k) (b : List ℕ) 
   take-in-heads h b′ p es n ep en tp lb f few ne room v = either (leb (length es) (capacity k))
       (λ e. rw e (h, en, heads-entries k F path b h b′ (withEntries b′ p es) lb v (with-only k b′ p es (page-of p lb (tp .0)) f (leb-true (length es) (capacity k) e))))
       (λ e. let tn : Usable b n = room e in
-        rw (e, page-of n lb (tn .0)) (en, rw (ep, en) (heads-split k F path b h b′ es (rw (← ep) tp) (rw (← en) tn) (rw (← ep, ← en) ne) f two few lb v)))
+      rw (e, page-of n lb (tn .0)) (en, rw (ep, en) (heads-split k F path b h b′ es (rw (← ep) tp) (rw (← en) tn) (rw (← ep, ← en) ne) f two few lb v)))
 
 module _ (k F : ℕ) (key : List ℕ) (r : ℕ) (b : List ℕ) (o : Offered k key r) (path : ℕ → ℕ) (plain : Plain b) where
   after-child-heads : (h : ℕ) (b′ : List ℕ) (p : ℕ) (a : List ℕ) (c : ℕ) (out : Outcome) (v : StoreReplacement (List ℕ)) → HeadsAfter k F path h b out b′ → length b′ ≡ length b
@@ -208,10 +207,9 @@ module _ (k F : ℕ) (key : List ℕ) (r : ℕ) (b : List ℕ) (o : Offered k ke
   after-child-heads h b′ p a c bad v x lb some ep tp ne room t = absurd x
   after-child-heads h b′ p a c (split q) v x lb some ep tp ne room t =
       let es : List Item = replaced key (twoFor k b′ key c q) (itemsIn k b′ p) in
-      let g = items-good k b′ p in
       let en : q + pageSize ≡ taken F (suc h) = omega (arith, x .0) in
       let le : length es ≡ 1 + length (itemsIn k b′ p) = replaced-length key (twoFor k b′ key c q) 1 (λ e. refl) (itemsIn k b′ p) some in
-      take-in-heads k F path (o .two) b (suc h) b′ p es (q + pageSize) ep en tp lb (two-fit k (o .two) F key (o .long) b′ c q (itemsIn k b′ p) (g .0)) (omega (arith, g .1)) (λ u. ne (u ∙ en))
+      take-in-heads k F path (o .two) b (suc h) b′ p es (q + pageSize) ep en tp lb (two-fit k (o .two) F key (o .long) b′ c q (itemsIn k b′ p) (items-in-fit k b′ p)) (omega (arith, items-few k b′ p)) (λ u. ne (u ∙ en))
       (λ e. rw en (room (suc h) (split-room k F path (o .two) b (suc h) a p b′ es (q + pageSize) v t en e))) (x .1)
 
   -- the heads after insertion's step at the page at p
@@ -228,13 +226,12 @@ module _ (k F : ℕ) (key : List ℕ) (r : ℕ) (b : List ℕ) (o : Offered k ke
   insert-heads (suc h) zero p a l f u x = absurd (omega arith)
   insert-heads zero (suc left) p a l f u x =
       let es : List Item = insertPair bytesOrder key (toBe32 r) (itemsIn k b p) in
-      let g = items-good k b p in
       let v : StoreReplacement (List ℕ) = replacement k F key r b zero a p in
       let t : OutcomeIs F a p (takeIn k b p es F .outcome) v = rw (f .0 .0, f .1) at (inserts k F key r b o zero (suc left) p a l f u .told) in
       let ef : F ≡ taken F 0 = omega arith in
       rw (f .0 .0, f .1)
       (take-in-heads k F path (o .two) b zero b p es F (sym (path-own key zero a (readTree (entriesIn k b) zero p)) ∙ sym (x zero (omega arith))) ef (f .0) refl
-      (insertPair-all bytesOrder (Fit k) key (toBe32 r) (itemsIn k b p) (o .long, length-toBe32 r) (g .0)) (omega (arith, g .1, insertPair-length key (toBe32 r) (itemsIn k b p)))
+      (insertPair-all bytesOrder (Fit k) key (toBe32 r) (itemsIn k b p) (o .long, length-toBe32 r) (items-in-fit k b p)) (omega (arith, items-few k b p, insertPair-length key (toBe32 r) (itemsIn k b p)))
       (λ e. occ-not-head (taken F 0) p (concatMap (pagesUnder zero) (map (readEntry (entriesIn k b) zero) (entriesIn k b p))) (u .1 0) (sym (e ∙ ef)))
       (λ e. rw ef (u .2 0 (split-room k F path (o .two) b zero a p b es F v t ef e)))
       (heads-none k F path b plain))

@@ -2,37 +2,38 @@
 -- Assumes nothing.
 use mathlib.Core.Path.{_≡_, refl, sym, ap, _∙_, subst}
 use mathlib.Core.Bool.{Bool, true, false, cond}
-use mathlib.Core.List.{List, [], _∷_, map}
+use mathlib.Core.List.{List, [], _∷_}
 use mathlib.Core.Option.{Option, none}
-use Prim.Native.Nat.{ℕ, zero, suc, _+_, _*_, _%_, _^_, _≤_, _<_, min}
+use Prim.Native.Nat.{ℕ, zero, suc, _+_, _^_, _≤_, _<_, min}
 use native.Mathlib.Omega.{arith}
 use lib.Dec.{eqb, ltb}
 use lib.ListN.{length, getD}
 use borrow.Author.Tests.{ltb-true, ltb-false, eqb-true, eqb-false, eq-eqb, ne-eqb}
-use Rattle.basis.specs.Lists.{All}
 use Rattle.basis.specs.Tests.{either}
 use Rattle.octets.specs.Store.{window}
 use Rattle.octets.specs.StoreLaws.{getD-window}
 use Rattle.octets.specs.NumberLaws.{le16-same, le32-same}
 use Rattle.tree.specs.Book.{insertion, verdict, isAccepted}
-use Rattle.tree.specs.Clauses.{least, Sized, AllLinked}
-use Rattle.tree.specs.Index.{newPage as taken, Index, held, Setting, outOfRoom, answer, inserted, next}
+use Rattle.tree.specs.Clauses.{least, AllLinked}
+use Rattle.tree.specs.Index.{newPage as taken, Index, held, Setting, outOfRoom, answer, inserted}
 use Rattle.tree.specs.IndexLaws.{next-sound, next-linked, pages-distinct, newPage-unused}
 use Rattle.tree.specs.InsertLevels.{InsertedAfter, insert-level, levelUnder-pages, levelUnder-disjoint}
 use Rattle.tree.specs.InsertNeeds.{insert-needs, root-splits}
+use Rattle.tree.specs.InsertPairs.{insert-pairs}
+use Rattle.tree.specs.ClauseLaws.{sized-rooted}
 use Rattle.tree.specs.InsertPages.{newPages, insert-pages}
-use Rattle.tree.specs.Insertion.{Grown, insert}
+use Rattle.tree.specs.Insertion.{Grown}
 use Rattle.tree.specs.LinkLaws.{linked-same}
 use Rattle.tree.specs.ListLaws.{occ-append, occ-here}
 use Rattle.tree.specs.Lists.{concatMap, occ, countIf}
-use Rattle.tree.specs.Pairs.{find}
+use Rattle.tree.specs.Pairs.{find, insertPair}
 use Rattle.tree.specs.Relinking.{pathPage}
 use Rattle.tree.specs.Room.{run, needs}
 use Rattle.tree.specs.Store.{readTree}
-use Rattle.tree.specs.SoundIndex.{PagesOnce, SoundIndex, LinkedIndex}
+use Rattle.tree.specs.SoundIndex.{SoundIndex, LinkedIndex}
 use Rattle.tree.specs.Tree.{Tree, pagesUnder, pages, pairs, levelUnder, level}
-use Rattle.page.specs.Header.{maxBytes, maxLevels, noPage, isPage, rootOffset, fileSize, keyLength, features, headerGood}
-use Rattle.page.specs.HeaderLaws.{IsPage, is-page, is-page-from, GoodHeader, good-header, good-header-from}
+use Rattle.page.specs.Header.{maxBytes, noPage, isPage, rootOffset, fileSize, keyLength, features, headerGood}
+use Rattle.page.specs.HeaderLaws.{is-page-from, GoodHeader, good-header, good-header-from}
 use Rattle.page.specs.KeyOrder.{bytesOrder}
 use Rattle.page.specs.Page.{attributeAt, countAt, rootBit, leafBit, capacity}
 use Rattle.page.specs.Reading.{entriesAt}
@@ -40,14 +41,14 @@ use Rattle.page.specs.ReadingLaws.{window-window}
 use Rattle.layout.specs.WriteLaws.{capacity-least}
 use Rattle.sound.specs.Sound.{indexTree, linksOf, Sound}
 use Rattle.sound.specs.MarkLaws.{occ-all}
-use Rattle.sound.specs.IndexLaws.{indexOf, settingOf, sound-sized, sound-index, sound-linked, all-occ, once-page, index-sound}
+use Rattle.sound.specs.IndexLaws.{indexOf, settingOf, sound-index, sound-linked, all-occ, once-page, index-sound}
 use Rattle.insert.specs.Insertion.{insertedBuffer}
 use Rattle.insert.specs.Room.{noRoom}
-use Rattle.growth.specs.InsertEntries.{Usable, Offered}
+use Rattle.growth.specs.InsertEntries.{Usable}
 use Rattle.growth.specs.InsertHeads.{Plain, unrooted}
 use Rattle.growth.specs.InsertBuffer.{treeIn, grownBy, Ready, SameRest, tree-after, root-after, size-after, length-after, header-after, HeadsIn, Rising, stays, rises, heads-in, linksAfter}
 use Rattle.growth.specs.AttributeLaws.{leaf-old, leaf-new, root-none, root-new, root-split, unrooted-same, small-old, small-new}
-use Rattle.growth.specs.SoundReading.{page-longer, read-shorter, sound-tree, sound-usable, sound-shaped}
+use Rattle.growth.specs.SoundReading.{page-longer, read-shorter, sound-tree, sound-shaped}
 use Rattle.growth.specs.RoomLaws.{room-is}
 
 accepted-when : (fits : Bool) (r : ℕ) (held : Option ℕ) (full : Bool) → fits ≡ true → 0 < r → held ≡ none → full ≡ false → isAccepted (verdict fits r held full) ≡ true
@@ -126,7 +127,7 @@ module _ (b key : List ℕ) (r : ℕ) (accepts : Accepts b key r) where
       let positive = once .positive in
       let size = sound-after .withinSize in
       let room : (j : ℕ) → j < x .2 → Usable b (taken (fileSize b) j) =
-        λ j l. (is-page-from (length b) (taken (fileSize b) j) (record { whole = omega arith; low = omega arith; high = omega arith }), omega arith) in
+      λ j l. (is-page-from (length b) (taken (fileSize b) j) (record { whole = omega arith; low = omega arith; high = omega arith }), omega arith) in
       record {
         offered = record { two = two; long = accepts .long; r32 = accepts .r32 };
         levels = sound-before .withinLevels;
@@ -171,14 +172,14 @@ module _ (b key : List ℕ) (r : ℕ) (accepts : Accepts b key r) where
       let q = insert-level bytesOrder (capacity k) (taken F) key r h t j (omega (arith, two)) (sound-before .sized) l in
       either (ltb j splits)
       (λ e. let v : Level j = q .0 (ltb-true j splits e) in
-        either (eqb z (taken F (0 + j)))
-        (λ u. new (ltb-true j splits e) (eqb-true z (taken F (0 + j)) u ∙ omega arith))
-        (λ u.
-          let p1 : occ z (level j (x .0) (x .1)) ≡ occ z (v .pre) + (countIf (eqb z (path j)) + (countIf (eqb z (taken F (0 + j))) + occ z (v .post))) =
-            ap (occ z) (v .now) ∙ occ-append z (v .pre) (path j ∷ taken F (0 + j) ∷ v .post) in
-          let p2 : occ z (level j h t) ≡ occ z (v .pre) + (countIf (eqb z (path j)) + occ z (v .post)) = ap (occ z) (v .was) ∙ occ-append z (v .pre) (path j ∷ v .post) in
-          let p3 : countIf (eqb z (taken F (0 + j))) ≡ 0 = ap countIf u in
-          old (omega arith)))
+      either (eqb z (taken F (0 + j)))
+      (λ u. new (ltb-true j splits e) (eqb-true z (taken F (0 + j)) u ∙ omega arith))
+      (λ u.
+      let p1 : occ z (level j (x .0) (x .1)) ≡ occ z (v .pre) + (countIf (eqb z (path j)) + (countIf (eqb z (taken F (0 + j))) + occ z (v .post))) =
+      ap (occ z) (v .now) ∙ occ-append z (v .pre) (path j ∷ taken F (0 + j) ∷ v .post) in
+      let p2 : occ z (level j h t) ≡ occ z (v .pre) + (countIf (eqb z (path j)) + occ z (v .post)) = ap (occ z) (v .was) ∙ occ-append z (v .pre) (path j ∷ v .post) in
+      let p3 : countIf (eqb z (taken F (0 + j))) ≡ 0 = ap countIf u in
+      old (omega arith)))
       (λ e. old (rw (← q .1 (ltb-false j splits e)) o))
 
   -- a page of the path that is split is a page of its level
@@ -227,7 +228,7 @@ module _ (b key : List ℕ) (r : ℕ) (accepts : Accepts b key r) where
   leaf-bits j z l o = in-level j z l o
       (λ f. leaf-old path (taken F) (attributeAt b) splits z (λ i m. old-new z (in-tree h j z t f) i) ∙ old-leaf j z l f)
       (λ m e. ap (λ (y : ℕ). leafBit (unrooted path (taken F) splits (attributeAt b) y)) e
-        ∙ leaf-new path (taken F) (attributeAt b) (λ i i′ u. omega arith) splits (λ i i′ q. old-new (path i) (path-old i q) i′) j m ∙ old-leaf j (path j) l (path-level j m))
+      ∙ leaf-new path (taken F) (attributeAt b) (λ i i′ u. omega arith) splits (λ i i′ q. old-new (path i) (path-old i q) i′) j m ∙ old-leaf j (path j) l (path-level j m))
 
   -- the root is on the top level alone
   root-high : (j : ℕ) → j < splits → j < h → rootOffset b ≡ path j → ⊥
@@ -256,14 +257,14 @@ module _ (b key : List ℕ) (r : ℕ) (accepts : Accepts b key r) where
       record {
         leaf = λ j z l o. ap leafBit (at z (new-page z (in-tree (x .0) j z (x .1) o))) ∙ leaf-bits j z (omega arith) o;
         root = λ z o. rw (at z (new-page z o), e1) (in-pages z o
-          (λ f. either (eqb z (rootOffset b))
+            (λ f. either (eqb z (rootOffset b))
             (λ q. let v : z ≡ rootOffset b = eqb-true z (rootOffset b) q in
-              rw (unrooted-same path (taken F) (attributeAt b) splits z (λ j l. (old-new z f j, (λ u. root-high j l (omega arith) (sym v ∙ u))))) (old-root z f))
+            rw (unrooted-same path (taken F) (attributeAt b) splits z (λ j l. (old-new z f j, (λ u. root-high j l (omega arith) (sym v ∙ u))))) (old-root z f))
             (λ q. rw q (root-none path (taken F) (attributeAt b) splits z (old-root z f ∙ q))))
-          (λ j l v. rw (v, ne-eqb (taken F j) (rootOffset b) (λ u. old-new (rootOffset b) root-old j (sym u))) (root-new path (taken F) (attributeAt b) splits j (omega arith))));
+            (λ j l v. rw (v, ne-eqb (taken F j) (rootOffset b) (λ u. old-new (rootOffset b) root-old j (sym u))) (root-new path (taken F) (attributeAt b) splits j (omega arith))));
         small = λ z o. rw (at z (new-page z o)) (in-pages z o
-          (λ f. small-old path (taken F) (attributeAt b) splits path-small z (old-attribute z f))
-          (λ j l v. rw v (small-new path (taken F) (attributeAt b) splits path-small j (omega arith))));
+            (λ f. small-old path (taken F) (attributeAt b) splits path-small z (old-attribute z f))
+            (λ j l v. rw v (small-new path (taken F) (attributeAt b) splits path-small j (omega arith))));
       }
 
   -- the path's page on the top level is the root
@@ -276,25 +277,25 @@ module _ (b key : List ℕ) (r : ℕ) (accepts : Accepts b key r) where
       let N : ℕ = taken F (suc h) in
       let n2 : x .2 ≡ suc splits = rw (eq-eqb splits (suc h) er) at need in
       let at : (z : ℕ) → isPage (length b) z ≡ true → attributeAt b″ z ≡ cond (eqb z N) 1 (unrooted path (taken F) splits (attributeAt b) z) =
-        λ z p. at-top z p ∙ ap (λ (m : ℕ). cond (eqb z N) 1 (unrooted path (taken F) m (attributeAt b) z)) (sym er) in
+      λ z p. at-top z p ∙ ap (λ (m : ℕ). cond (eqb z N) 1 (unrooted path (taken F) m (attributeAt b) z)) (sym er) in
       record {
         leaf = λ j z l o. ap leafBit (at z (new-page z (in-tree (x .0) j z (x .1) o)))
-          ∙ either (eqb j (suc h))
-          (λ q. let top : z ≡ N = top-page j z (eqb-true j (suc h) q ∙ sym e0) o ∙ e1 in
+            ∙ either (eqb j (suc h))
+            (λ q. let top : z ≡ N = top-page j z (eqb-true j (suc h) q ∙ sym e0) o ∙ e1 in
             rw (eq-eqb z N top, eqb-true j (suc h) q) (sym (ne-eqb (suc h) 0 (λ u. omega arith))))
-          (λ q. let low : j ≤ h = omega (arith, eqb-false j (suc h) q) in
+            (λ q. let low : j ≤ h = omega (arith, eqb-false j (suc h) q) in
             rw (ne-eqb z N (below-top j z low o)) (leaf-bits j z low o));
         root = λ z o. rw (at z (new-page z o), e1) (either (eqb z N)
-          (λ q. rw q)
-          (λ q. rw q (in-pages z o
+            (λ q. rw q)
+            (λ q. rw q (in-pages z o
             (λ f. either (eqb z (rootOffset b))
-              (λ u. let v : z ≡ path h = eqb-true z (rootOffset b) u ∙ sym path-top in
-                rw v (root-split path (taken F) (attributeAt b) splits h (omega arith)))
-              (λ u. root-none path (taken F) (attributeAt b) splits z (old-root z f ∙ u)))
+            (λ u. let v : z ≡ path h = eqb-true z (rootOffset b) u ∙ sym path-top in
+            rw v (root-split path (taken F) (attributeAt b) splits h (omega arith)))
+            (λ u. root-none path (taken F) (attributeAt b) splits z (old-root z f ∙ u)))
             (λ j l v. rw v (root-new path (taken F) (attributeAt b) splits j (not-top j z q v (omega arith)))))));
         small = λ z o. rw (at z (new-page z o)) (either (eqb z N)
-          (λ q. rw q (omega arith))
-          (λ q. rw q (in-pages z o
+            (λ q. rw q (omega arith))
+            (λ q. rw q (in-pages z o
             (λ f. small-old path (taken F) (attributeAt b) splits path-small z (old-attribute z f))
             (λ j l v. rw v (small-new path (taken F) (attributeAt b) splits path-small j (not-top j z q v (omega arith)))))));
       }
@@ -376,7 +377,7 @@ module _ (b key : List ℕ) (r : ℕ) (accepts : Accepts b key r) where
       let read : treeIn k b″ (x .0) ≡ x .1 = tree-after k h b key r ready in
       ap (λ (n : ℕ). readTree (entriesAt n (fileSize b″) b″) (x .0) (rootOffset b″)) key-same
       ∙ read-shorter k (fileSize b″) b″ (x .0) (rootOffset b″) (good-header b″ header-good .within)
-        (λ z o. rw size-is (once-page after (sound-after .pagesOnce) z (subst (λ (T : Tree (List ℕ) (x .0)). 0 < occ z (pages (x .0) T)) read o)))
+      (λ z o. rw size-is (once-page after (sound-after .pagesOnce) z (subst (λ (T : Tree (List ℕ) (x .0)). 0 < occ z (pages (x .0) T)) read o)))
       ∙ read
 
   index-is : indexOf b″ (x .0) ≡ after
@@ -394,13 +395,16 @@ module _ (b key : List ℕ) (r : ℕ) (accepts : Accepts b key r) where
       (all-occ (λ p. attributeAt b″ p ≤ 3) ps (λ z o. bits .small z (there z o)))
       (all-occ (λ p. rootBit (attributeAt b″ p) ≡ eqb p (rootOffset b″)) ps (λ z o. bits .root z (there z o) ∙ ap (eqb z) (sym (root-after k h b key r ready))))
       (λ j l. all-occ (λ p. leafBit (attributeAt b″ p) ≡ eqb j 0) (level j (x .0) (indexTree b″ (x .0)))
-        (λ z o. bits .leaf j z l (subst (λ (T : Tree (List ℕ) (x .0)). 0 < occ z (level j (x .0) T)) tree-is o)))
+      (λ z o. bits .leaf j z l (subst (λ (T : Tree (List ℕ) (x .0)). 0 < occ z (level j (x .0) T)) tree-is o)))
       (all-occ (λ p. countAt b″ p ≤ capacity (keyLength b″)) ps (λ z o. rw key-same (counts-after z (there z o))))
 
--- what an insertion that is accepted leaves: a sound index, the theory's insertion into the old one, so with the new pair among the old ones
+-- what an insertion that is accepted leaves: a sound index, the theory's insertion into the old one; the new pair among the old ones; and a header that
+-- differs in its root offset and file size alone
 pub record Inserts (b key : List ℕ) (r : ℕ) (s : Sound b) : Type 0 where
   pub sound : Sound (insertedBuffer (keyLength b) b key r)
   pub index : indexOf (insertedBuffer (keyLength b) b key r) (sound .height) ≡ inserted (settingOf (keyLength b) (min (length b) maxBytes)) key r (indexOf b (s .height))
+  pub leaves : pairs (sound .height) (indexTree (insertedBuffer (keyLength b) b key r) (sound .height)) ≡ insertPair bytesOrder key r (pairs (s .height) (indexTree b (s .height)))
+  pub header : SameRest b (insertedBuffer (keyLength b) b key r)
   pub keyIs : keyLength (insertedBuffer (keyLength b) b key r) ≡ keyLength b
   pub as-long : length (insertedBuffer (keyLength b) b key r) ≡ length b
   pub plain : Plain (insertedBuffer (keyLength b) b key r)
@@ -408,11 +412,19 @@ pub record Inserts (b key : List ℕ) (r : ℕ) (s : Sound b) : Type 0 where
 -- Theorem: an insertion that is accepted keeps the index sound
 pub insert-keeps-sound : (b key : List ℕ) (r : ℕ) (accepts : Accepts b key r) → Inserts b key r (accepts .sound)
 insert-keeps-sound b key r accepts =
-    let s = sound-now b key r accepts in
+    let s = accepts .sound in
     let b″ : List ℕ = insertedBuffer (keyLength b) b key r in
+    let now = sound-now b key r accepts in
+    let old = subst (SoundIndex (kept-by b key r accepts)) (before-is b key r accepts) (sound-before b key r accepts) in
+    let same : indexOf b″ (now .0 .height) ≡ inserted (kept-by b key r accepts) key r (indexOf b (s .height)) =
+    ap (indexOf b″) (now .1) ∙ index-is b key r accepts ∙ ap (inserted (kept-by b key r accepts) key r) (before-is b key r accepts) in
     record {
-      sound = s .0;
-      index = ap (indexOf b″) (s .1) ∙ index-is b key r accepts ∙ ap (inserted (kept-by b key r accepts) key r) (before-is b key r accepts);
+      sound = now .0;
+      index = same;
+      leaves = ap held same
+          ∙ insert-pairs bytesOrder (capacity (keyLength b)) (taken (fileSize b)) key r (s .height) (indexTree b (s .height))
+          (sized-rooted (capacity (keyLength b)) (s .height) (indexTree b (s .height)) (old .sized)) (old .ordered);
+      header = rest b key r accepts;
       keyIs = key-same b key r accepts;
       as-long = long b key r accepts;
       plain = heads b key r accepts .plain;

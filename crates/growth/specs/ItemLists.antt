@@ -5,20 +5,17 @@ use mathlib.Core.List.{List, [], _∷_, _++_, map, map-append}
 use Prim.Native.Nat.{ℕ, suc, _+_}
 use native.Mathlib.Omega.{arith}
 use lib.ListN.{length, length-append}
-use Rattle.basis.specs.Lists.{All, all-append, all-map}
+use Rattle.basis.specs.Lists.{All, all-append}
 use Rattle.basis.specs.Tests.{either}
 use Rattle.octets.specs.Bytes.{be32}
 use Rattle.octets.specs.Order.{bytesLe}
 use Rattle.tree.specs.Insertion.{place}
 use Rattle.tree.specs.Lists.{NonEmpty}
-use Rattle.tree.specs.Order.{larger}
-use Rattle.tree.specs.PairLaws.{lastKey-all}
 use Rattle.tree.specs.Pairs.{insertPair, lastKey}
 use Rattle.tree.specs.Room.{choose}
 use Rattle.page.specs.KeyOrder.{bytesOrder}
 use Rattle.page.specs.Reading.{Item, numbered}
 use Rattle.layout.specs.Entries.{replaced}
-use Rattle.layout.specs.ItemLaws.{Fit}
 
 -- what is done to entries goes by their keys, so it is the same with their numbers
 pub insertPair-numbered : (key c : List ℕ) (es : List Item) → map numbered (insertPair bytesOrder key c es) ≡ insertPair bytesOrder key (be32 c 0) (map numbered es)
@@ -67,11 +64,3 @@ replaced-all P key f ok (x ∷ []) a = ok x (a .0)
 replaced-all P key f ok (x ∷ y ∷ ys) a = either (bytesLe key (x .0))
     (λ e. rw e (all-append P (f x) (y ∷ ys) (ok x (a .0)) (a .1)))
     (λ e. rw e (a .0, replaced-all P key f ok (y ∷ ys) (a .1)))
-
-module _ (k : ℕ) (key : List ℕ) (long : length key ≡ k) where
-  -- keys of k bytes
-  pub larger-long : (x : List ℕ) → length x ≡ k → length (larger bytesOrder x key) ≡ k
-  larger-long x e = either (bytesLe x key) (λ u. rw u long) (λ u. rw u e)
-
-  pub lastKey-long : (es : List Item) → All (Fit k) es → length (lastKey key es) ≡ k
-  lastKey-long es f = lastKey-all (λ x. length x ≡ k) key es long (all-map (Fit k) (λ e. length (e .0) ≡ k) (λ e g. g .0) es f)

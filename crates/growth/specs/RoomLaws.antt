@@ -1,9 +1,9 @@
 -- Laws: the rule for refusal 30 on the bytes of a sound index is the theory's on the tree that they read as. Cited by the laws of insertion and by the claim
 -- about lists of calls. Assumes nothing.
-use mathlib.Core.Path.{_≡_, refl, sym, ap, ap₂, _∙_, subst}
+use mathlib.Core.Path.{_≡_, refl, sym, ap, _∙_}
 use mathlib.Core.Bool.{Bool, true, false, cond, _||_, _&&_}
 use mathlib.Core.List.{List, [], _∷_, map}
-use Prim.Native.Nat.{ℕ, zero, suc, _+_, _*_, _≤_, _<_, min}
+use Prim.Native.Nat.{ℕ, zero, suc, _+_, _*_, _<_, min}
 use native.Mathlib.Numerals.{add-one}
 use native.Mathlib.Omega.{arith}
 use lib.Dec.{eqb, leb, ltb}
@@ -14,8 +14,7 @@ use Rattle.tree.specs.Index.{outOfRoom}
 use Rattle.tree.specs.Room.{choose, atChosen, run}
 use Rattle.tree.specs.StoreLookupLaws.{run-read}
 use Rattle.tree.specs.StoreSteps.{storeRun}
-use Rattle.tree.specs.InsertNeeds.{choose-all}
-use Rattle.page.specs.Header.{maxBytes, maxLevels, pageSize, isPage, rootOffset, fileSize, keyLength}
+use Rattle.page.specs.Header.{maxBytes, maxLevels, pageSize, rootOffset, fileSize, keyLength}
 use Rattle.page.specs.KeyOrder.{bytesOrder}
 use Rattle.page.specs.Page.{capacity}
 use Rattle.page.specs.Reading.{Item, numbered}
@@ -24,11 +23,10 @@ use Rattle.layout.specs.Entries.{chosen, childOf}
 use Rattle.sound.specs.Sound.{indexTree, Sound}
 use Rattle.sound.specs.IndexLaws.{indexOf, settingOf}
 use Rattle.insert.specs.declared.Path.{Path}
-use Rattle.insert.specs.Room.{onTop, nowhere, pathFrom, newPages, levelsAfter, noRoom}
+use Rattle.insert.specs.Room.{onTop, pathFrom, noRoom}
 use Rattle.written.specs.EntryLaws.{entriesIn}
 use Rattle.growth.specs.ItemLists.{choose-numbered}
 use Rattle.growth.specs.InsertEntries.{Shaped, child-shaped}
-use Rattle.growth.specs.InsertBuffer.{treeIn}
 use Rattle.growth.specs.SoundReading.{sound-tree, sound-shaped}
 
 and-comm : (a b : Bool) → (a && b) ≡ (b && a)
@@ -63,10 +61,10 @@ module _ (k : ℕ) (key b : List ℕ) where
           let c : ℕ = childOf (choose bytesOrder key y ys) in
           let d : ℕ = storeRun bytesOrder (capacity k) key h c (entriesIn k b) in
           let below : pathFrom k left b key (childOf (chosen key (itemsIn k b p))) ≡ record { levels = suc h; run = d } =
-            ap (λ (l : List Item). pathFrom k left b key (childOf (chosen key l))) e ∙ rec c (child-shaped k h key b p y ys e (f .3)) in
+          ap (λ (l : List Item). pathFrom k left b key (childOf (chosen key l))) e ∙ rec c (child-shaped k h key b p y ys e (f .3)) in
           let there : atChosen bytesOrder key (λ x. storeRun bytesOrder (capacity k) key h (x .1) (entriesIn k b)) (entriesIn k b p) ≡ d =
-            ap (λ (l : List Item). atChosen bytesOrder key (λ x. storeRun bytesOrder (capacity k) key h (x .1) (entriesIn k b)) (map numbered l)) e
-            ∙ ap (λ (x : List ℕ × ℕ). storeRun bytesOrder (capacity k) key h (x .1) (entriesIn k b)) (choose-numbered key y ys) in
+          ap (λ (l : List Item). atChosen bytesOrder key (λ x. storeRun bytesOrder (capacity k) key h (x .1) (entriesIn k b)) (map numbered l)) e
+          ∙ ap (λ (x : List ℕ × ℕ). storeRun bytesOrder (capacity k) key h (x .1) (entriesIn k b)) (choose-numbered key y ys) in
           rw (below, there, length-map (itemsIn k b p) numbered) (on-top (leb (capacity k) (length (itemsIn k b p))) (suc h) d)
 
 -- Theorem: the path to any key has as many levels as the index
@@ -78,8 +76,8 @@ less-both : (a b c : ℕ) → ltb (min a b) c ≡ (ltb a c || ltb b c)
 less-both a b c = either (ltb a c)
     (λ e. rw e (lt-ltb (min a b) c (omega (arith, ltb-true a c e))))
     (λ e. either (ltb b c)
-      (λ f. rw (e, f) (lt-ltb (min a b) c (omega (arith, ltb-true b c f))))
-      (λ f. rw (e, f) (le-ltb (min a b) c (omega (arith, ltb-false a c e, ltb-false b c f)))))
+    (λ f. rw (e, f) (lt-ltb (min a b) c (omega (arith, ltb-true b c f))))
+    (λ f. rw (e, f) (le-ltb (min a b) c (omega (arith, ltb-false a c e, ltb-false b c f)))))
 
 or-assoc : (a b c : Bool) → (a || (b || c)) ≡ ((a || b) || c)
 or-assoc true b c = refl

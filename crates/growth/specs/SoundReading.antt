@@ -1,22 +1,22 @@
 -- Laws: a sound index, read as far as the buffer goes, as insertion's rule reads it, is the tree that is read as far as the file goes; every page of it is one
 -- of the buffer, has the leaf bit at the bottom only and entries above. Cited by the laws of room and of insertion. Assumes nothing.
 use mathlib.Core.Path.{_≡_, refl, sym, _∙_, subst}
-use mathlib.Core.Bool.{true, false}
+use mathlib.Core.Bool.{true}
 use mathlib.Core.List.{List, [], _∷_, map}
-use Prim.Native.Nat.{ℕ, zero, suc, _+_, _^_, _≤_, _<_}
+use Prim.Native.Nat.{ℕ, zero, suc, _≤_, _<_}
 use native.Mathlib.Omega.{arith}
 use lib.Dec.{eqb}
 use lib.ListN.{length, length-map}
 use borrow.Author.Tests.{eq-eqb, ne-eqb}
-use Rattle.basis.specs.Lists.{All, all-map}
+use Rattle.basis.specs.Lists.{All}
 use Rattle.tree.specs.Clauses.{least, SizedUnder, Sized}
 use Rattle.tree.specs.ListLaws.{nonEmpty-length, occ-append, occ-here}
-use Rattle.tree.specs.Lists.{NonEmpty, concatMap, occ}
+use Rattle.tree.specs.Lists.{concatMap, occ}
 use Rattle.tree.specs.Store.{Store, readEntry, readTree}
 use Rattle.tree.specs.StoreLaws.{frame}
 use Rattle.tree.specs.Tree.{Tree, pagesUnder, pages, levelUnder, level}
 use Rattle.page.specs.Header.{isPage, rootOffset, fileSize, keyLength}
-use Rattle.page.specs.HeaderLaws.{IsPage, is-page, is-page-from, GoodHeader, good-header}
+use Rattle.page.specs.HeaderLaws.{is-page, is-page-from, good-header}
 use Rattle.page.specs.Page.{attributeAt, leafBit, capacity}
 use Rattle.page.specs.Reading.{itemsAt, entriesAt}
 use Rattle.sound.specs.Sound.{indexTree, Sound}
@@ -61,8 +61,8 @@ module _ (k : ℕ) (b : List ℕ) where
 
   shaped-level : (h : ℕ)
       → ((e : List ℕ × ℕ) → ((z : ℕ) → 0 < occ z (pages h (readTree S h (e .1))) → Usable b z)
-        → ((j z : ℕ) → j ≤ h → 0 < occ z (levelUnder j (suc h) (e .0, readTree S h (e .1))) → leafBit (attributeAt b z) ≡ eqb j 0)
-        → Sized (capacity k) h (readTree S h (e .1)) → Shaped k h b (e .1))
+      → ((j z : ℕ) → j ≤ h → 0 < occ z (levelUnder j (suc h) (e .0, readTree S h (e .1))) → leafBit (attributeAt b z) ≡ eqb j 0)
+      → Sized (capacity k) h (readTree S h (e .1)) → Shaped k h b (e .1))
       → (es : List (List ℕ × ℕ)) → PagesUsable h es → LeavesBelow h es → All (SizedUnder (capacity k) (suc h)) (map (readEntry S (suc h)) es) → All (λ e. Shaped k h b (e .1)) es
   shaped-level h rec [] usable leaves sized = tt
   shaped-level h rec (e ∷ es) usable leaves sized =
@@ -71,7 +71,7 @@ module _ (k : ℕ) (b : List ℕ) where
       let here-at : ℕ → List ℕ = λ j. levelUnder j (suc h) (readEntry S (suc h) e) in
       let rest-at : ℕ → List ℕ = λ j. concatMap (levelUnder j (suc h)) (map (readEntry S (suc h)) es) in (
         rec e (λ z o. usable z (omega (arith, occ-append z here rest))) (λ j z l o. leaves j z l (omega (arith, occ-append z (here-at j) (rest-at j))))
-          (least-one h (length (map (readEntry S h) (S (e .1)))) (sized .0 .0), sized .0 .1, sized .0 .2),
+            (least-one h (length (map (readEntry S h) (S (e .1)))) (sized .0 .0), sized .0 .1, sized .0 .2),
         shaped-level h rec es (λ z o. usable z (omega (arith, occ-append z here rest))) (λ j z l o. leaves j z l (omega (arith, occ-append z (here-at j) (rest-at j)))) (sized .1),
       )
 

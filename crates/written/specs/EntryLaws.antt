@@ -15,7 +15,7 @@ use Rattle.octets.specs.Bytes.{toLe16, toLe32}
 use Rattle.octets.specs.Store.{put, window}
 use Rattle.octets.specs.Order.{bytesLe}
 use Rattle.octets.specs.OrderLaws.{le-total}
-use Rattle.octets.specs.StoreLaws.{length-put, put-append, put-comm, window-before, window-after, window-inside, window-same, length-window, drop-put}
+use Rattle.octets.specs.StoreLaws.{length-put, window-before, window-after, window-inside, window-same, length-window, drop-put}
 use Rattle.octets.specs.NumberLaws.{length-toLe16, length-toLe32, le16-same, le16-put}
 use Rattle.tree.specs.Insertion.{half}
 use Rattle.tree.specs.Order.{larger}
@@ -31,7 +31,8 @@ use Rattle.page.specs.Reading.{Item, items, itemsAt, numbered}
 use Rattle.page.specs.ReadingLaws.{readCount}
 use Rattle.layout.specs.Layout.{itemsIn, encode, area, withEntries, newPage, withoutRoot, linkBeyond, splitPage}
 use Rattle.layout.specs.Entries.{replaced, aboveAll, raised}
-use Rattle.layout.specs.ItemLaws.{Fit, length-encode, length-items, items-fit, items-encode}
+use Rattle.layout.specs.WriteLaws.{new-page-by}
+use Rattle.layout.specs.ItemLaws.{Fit, length-encode, length-items, items-encode}
 
 -- the entries of every page of a buffer, with their numbers: the store that insertion works on
 abbrev pub entriesIn : ℕ → List ℕ → Store (List ℕ)
@@ -128,19 +129,7 @@ module _ (k : ℕ) where
 -- a page written whole is its attribute and its links, stored first, and its entries
 pub new-stores : (b : List ℕ) (p a l r : ℕ) (es : List Item)
     → newPage b p a l r es ≡ withEntries (put (put (put b p (toLe16 a)) (p + 4) (toLe32 l)) (p + 8) (toLe32 r)) p es
-unfolding newPage withEntries
-new-stores b p a l r es =
-    let n = toLe16 (length es) in
-    let two = length-toLe16 (length es) in
-    let b1 = put b p (toLe16 a) in
-    let n4 : p + 2 + 2 ≡ p + 4 = omega arith in
-    let n8 : p + 4 + 4 ≡ p + 8 = omega arith in
-    let n12 : p + 8 + 4 ≡ p + entriesStart = omega arith in
-    let first : newPage b p a l r es ≡ put (put (put (put b1 (p + 2) n) (p + 4) (toLe32 l)) (p + 8) (toLe32 r)) (p + entriesStart) (area es) =
-    rw (put-append b p (toLe16 a), length-toLe16 a, put-append b1 (p + 2) n, length-toLe16 (length es), n4, put-append _ (p + 4) (toLe32 l), length-toLe32 l, n8, put-append _ (p + 8) (toLe32 r), length-toLe32 r, n12) in
-    let order : put (put (put b1 (p + 2) n) (p + 4) (toLe32 l)) (p + 8) (toLe32 r) ≡ put (put (put b1 (p + 4) (toLe32 l)) (p + 8) (toLe32 r)) (p + 2) n =
-    ap (λ (x : List ℕ). put x (p + 8) (toLe32 r)) (put-comm b1 (p + 2) n (p + 4) (toLe32 l) (omega arith)) ∙ put-comm (put b1 (p + 4) (toLe32 l)) (p + 2) n (p + 8) (toLe32 r) (omega arith) in
-    first ∙ ap (λ (x : List ℕ). put x (p + entriesStart) (area es)) order
+new-stores b p a l r es = sym (new-page-by b p a l r es refl refl refl refl)
 
 pub length-new : (b : List ℕ) (p a l r : ℕ) (es : List Item) → length (newPage b p a l r es) ≡ length b
 unfolding newPage
@@ -161,18 +150,14 @@ module _ (k : ℕ) where
       ∙ entries-attribute k b p (toLe16 a) (g .whole) (omega (arith, length-toLe16 a)) in
       rw (new-stores b p a l r es) (entries-with k b3 p es (page-of p l3 t) f h ∙ ap (λ (S : Store (List ℕ)). write S p (map numbered es)) head)
 
-  -- a page's entries have keys of k bytes, and there are at most as many as fit
-  pub items-good : (b : List ℕ) (p : ℕ) → All (Fit k) (itemsIn k b p) × (length (itemsIn k b p) ≤ capacity k)
+  -- a page has at most as many entries as fit
+  pub items-few : (b : List ℕ) (p : ℕ) → length (itemsIn k b p) ≤ capacity k
   unfolding itemsAt
-  items-good b p = either (isPage (length b) p)
-      (λ t. let g = is-page (length b) p t in
-      let n : ℕ = readCount k b p in
-      let c : n ≤ capacity k = omega arith in
-      let w = window b (p + entriesStart) entryArea in
-      rw t (items-fit k n w (rw (length-window b (p + entriesStart) entryArea (omega (arith, g .high))) (entries-fit k n c)), rw (length-items k n w) c))
-      (λ t. rw t (tt, omega arith))
+  items-few b p = either (isPage (length b) p)
+      (λ t. rw (t, length-items k (readCount k b p) (window b (p + entriesStart) entryArea)) (omega arith))
+      (λ t. rw t (omega arith))
 
-  -- and so have the halves of a page that is split
+  -- the halves of a page that is split have keys of k bytes, if all entries have
   pub halves-fit : (es : List Item) (m : ℕ) → All (Fit k) es → All (Fit k) (take m es) × All (Fit k) (drop m es)
   halves-fit es m f =
       let g : All (Fit k) (take m es ++ drop m es) = rw (take-append-drop m es) f in
@@ -283,7 +268,7 @@ module _ (k : ℕ) where
       let at : ℕ = p + entriesStart + m * (k + 4) in
       let w = window b (p + entriesStart) entryArea in
       let n : readCount k b p ≡ suc m = sym (length-items k (readCount k b p) w) ∙ sym (ap length (items-read b p t)) ∙ c in
-      let fits : suc m * (k + 4) ≤ entryArea = entries-fit k (suc m) (omega (arith, items-good k b p .1)) in
+      let fits : suc m * (k + 4) ≤ entryArea = entries-fit k (suc m) (omega (arith, items-few k b p)) in
       let s : suc m * (k + 4) ≡ m * (k + 4) + (k + 4) = suc-mul m (k + 4) in
       let count : readCount k (put b at key) p ≡ suc m = ap (λ (j : ℕ). min j (capacity k)) (le16-same (put b at key) b (p + 2) (window-before b at key (p + 2) 2 (omega arith))) ∙ n in
       rw (items-read (put b at key) p (page-of p (length-put b at key) t), items-read b p t, count, n, window-inside b (m * (k + 4)) key (p + entriesStart) entryArea (omega arith))
@@ -301,7 +286,7 @@ module _ (k : ℕ) where
       (λ e.
       let c = both (leb 1 (length es)) (aboveAll key es) e in
       let some : 1 ≤ length es = leb-true 1 (length es) (c .0) in
-      let last : length es - 1 < capacity k = omega (arith, items-good k b p .1) in
+      let last : length es - 1 < capacity k = omega (arith, items-few k b p) in
       let inside = entry-inside k p (length es - 1) last in
       let low = entry-low k p (length es - 1) in
       rw (e, raise-last key es (c .1))

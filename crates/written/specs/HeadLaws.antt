@@ -21,10 +21,11 @@ use Rattle.page.specs.Page.{attributeAt, countAt, leftAt, rightAt, entriesStart
 use Rattle.page.specs.PageLaws.{entry-inside, entry-low, capacity-small}
 use Rattle.page.specs.HeaderLaws.{is-page}
 use Rattle.page.specs.Reading.{Item}
+use Rattle.page.specs.ReadingLaws.{attribute-same, count-same, left-same, right-same}
 use Rattle.layout.specs.Layout.{itemsIn, area, withEntries, newPage, withoutRoot, linkBeyond, splitPage}
 use Rattle.layout.specs.Entries.{aboveAll, raised}
 use Rattle.layout.specs.ItemLaws.{Fit}
-use Rattle.written.specs.EntryLaws.{page-of, window-other, length-area, new-stores, length-with, length-beyond, items-good, halves-fit}
+use Rattle.written.specs.EntryLaws.{page-of, window-other, length-area, new-stores, length-with, length-beyond, items-few, halves-fit}
 
 -- the head of the page at z
 pub record Head (b : List ℕ) (z attribute count left right : ℕ) : Type 0 where
@@ -138,13 +139,9 @@ put-outside b at ys h = window-before b at ys 0 pageSize (omega arith)
 pub put-header : (b : List ℕ) (at : ℕ) (ys : List ℕ) → at + length ys ≤ pageSize → (z : ℕ) → isPage (length b) z ≡ true → SameHead b (put b at ys) z
 put-header b at ys h z t =
     let g = is-page (length b) z t .low in
-    let free : (i n : ℕ) → z ≤ i → window (put b at ys) i n ≡ window b i n = λ i n u. window-after b at ys i n (omega arith) in
-    record {
-      attributeIs = le16-same (put b at ys) b z (free z 2 (omega arith));
-      countIs = le16-same (put b at ys) b (z + 2) (free (z + 2) 2 (omega arith));
-      leftIs = le32-same (put b at ys) b (z + 4) (free (z + 4) 4 (omega arith));
-      rightIs = le32-same (put b at ys) b (z + 8) (free (z + 8) 4 (omega arith));
-    }
+    let b1 = put b at ys in
+    let same : window b1 z pageSize ≡ window b z pageSize = window-after b at ys z pageSize (omega arith) in
+    record { attributeIs = attribute-same b1 b z same; countIs = count-same b1 b z same; leftIs = left-same b1 b z same; rightIs = right-same b1 b z same }
 
 module _ (k : ℕ) where
   -- a page that gets other entries
@@ -173,7 +170,7 @@ module _ (k : ℕ) where
         let i = length es - 1 in
         either (leb 1 (length es) && aboveAll key es)
         (λ e. let some : 1 ≤ length es = leb-true 1 (length es) (both (leb 1 (length es)) (aboveAll key es) e .0) in
-        let last : i < capacity k = omega (arith, items-good k b p .1) in
+        let last : i < capacity k = omega (arith, items-few k b p) in
         rw e (stored (entryOffset k p i) (entry-low k p i) (omega (arith, entry-inside k p i last))))
         (λ e. rw e same)
 
