@@ -6,7 +6,8 @@ use mathlib.Core.Bool.{Bool, false, cond}
 use mathlib.Core.List.{List, [], _∷_}
 use lib.Dec.{eqb}
 use lib.ListN.{length, take}
-use Rattle.tree.specs.Book.{Call, insertion, lookupOf, Answer, refused, accepted, found, absent, isAccepted, noRooms, resultsOf, finalOf, bookAnswers, bookFinal}
+use Rattle.tree.specs.Book.{Call, insertion, lookupOf, Answer, refused, accepted, found, absent, isAccepted, noRooms, resultsOf, finalOf}
+use Rattle.tree.specs.Book.{bookAnswers, bookFinal}
 use Rattle.tree.specs.Tree.{pairs}
 use Rattle.page.specs.Header.{keyLength}
 use Rattle.page.specs.KeyOrder.{bytesOrder}

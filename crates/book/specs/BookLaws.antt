@@ -23,7 +23,8 @@ use Rattle.insert.specs.declared.Insertion.{Insertion}
 use Rattle.insert.specs.declared.Insertion.the-variants.{Accepted, Refused}
 use Rattle.growth.specs.InsertHeads.{octets-plain}
 use Rattle.growth.specs.FreshLaws.{fresh-is-sound}
-use Rattle.book.specs.Book.{Calls, insertionAnswer, answerTo, bufferAfter, noRoomFor, fits, FourBytes, answersTo, bufferAt, VisitsLevels, LeavesBuffer, Each, BookKept}
+use Rattle.book.specs.Book.{Calls, insertionAnswer, answerTo, bufferAfter, noRoomFor, fits, FourBytes, answersTo, bufferAt, VisitsLevels}
+use Rattle.book.specs.Book.{LeavesBuffer, Each, BookKept}
 use Rattle.book.specs.LookupSound.{LookupSound}
 use Rattle.book.specs.CallLaws.{Kept, height-is, readIndex, keeping, kept-sound, visits-levels, leaves-buffer, same-answer, same-rule, keeps, same-next}
 
@@ -35,13 +36,15 @@ all-take P (suc n) (c ∷ calls) a = (a .0, all-take P n calls (a .1))
 
 -- the book after the first n calls is fed the answers to those alone
 book-take : (k n : ℕ) (calls : Calls) (b : List ℕ) (book : List (List ℕ × ℕ))
-    → bookFinal bytesOrder (fits k) (take n calls) (noRooms (answersTo (take n calls) b)) book ≡ bookFinal bytesOrder (fits k) (take n calls) (noRooms (answersTo calls b)) book
+    → bookFinal bytesOrder (fits k) (take n calls) (noRooms (answersTo (take n calls) b)) book
+    ≡ bookFinal bytesOrder (fits k) (take n calls) (noRooms (answersTo calls b)) book
 book-take k zero calls b book = refl
 book-take k (suc n) [] b book = refl
 book-take k (suc n) (c ∷ calls) b book = book-take k n calls (bufferAfter c b) _
 
 module _ (lookup-sound : LookupSound) (k size : ℕ) (two : 1 < capacity k) where
-  each : (P : Call (List ℕ) → List ℕ → Type 0) → ((c : Call (List ℕ)) (b : List ℕ) → Kept k size b → P c b) → (calls : Calls) → All FourBytes calls → (b : List ℕ) → Kept k size b → Each P calls b
+  each : (P : Call (List ℕ) → List ℕ → Type 0) → ((c : Call (List ℕ)) (b : List ℕ) → Kept k size b → P c b) → (calls : Calls) → All FourBytes calls
+      → (b : List ℕ) → Kept k size b → Each P calls b
   each P ok [] o b kept = tt
   each P ok (c ∷ calls) o b kept = (ok c b kept, each P ok calls (o .1) (bufferAfter c b) (keeps lookup-sound k size b kept c (o .0)))
 
@@ -66,7 +69,8 @@ module _ (lookup-sound : LookupSound) (k size : ℕ) (two : 1 < capacity k) wher
         let first = take n calls in
         let o′ = all-take FourBytes n calls o in
         let after : Kept k size (bufferAt n calls b) = keeps-all first o′ b kept in
-        let c : held (readIndex (bufferAt n calls b)) ≡ bookFinal bytesOrder (fits k) (take n calls) (noRooms (answersTo (take n calls) b)) [] = rw empty at (claim first o′ b kept .pairs) in
+        let c : held (readIndex (bufferAt n calls b)) ≡ bookFinal bytesOrder (fits k) (take n calls) (noRooms (answersTo (take n calls) b)) [] =
+        rw empty at (claim first o′ b kept .pairs) in
         record {
           sound = after .sound;
           leaves = ap (λ (h : ℕ). held (indexOf (bufferAt n calls b) h)) (sym (height-is (bufferAt n calls b) (after .sound))) ∙ c ∙ book-take k n calls b [];
@@ -98,20 +102,25 @@ tests-accepted b b″ true false room e = contra e refl
 tests-accepted b b″ true true false e = contra e refl
 tests-accepted b b″ true true true e = record { keyGood = refl; expressionGood = refl; roomGood = refl; leaves = refl }
 
-fresh-accepted : (k : ℕ) (e b : List ℕ) → freshRule b k e .answer ≡ Accepted → FreshAccepted b (freshBuffer k e b) (freshRule b k e .after) (keyLengthGood k) (expressionGood e) (leb 1024 (length b))
+fresh-accepted : (k : ℕ) (e b : List ℕ) → freshRule b k e .answer ≡ Accepted
+    → FreshAccepted b (freshBuffer k e b) (freshRule b k e .after) (keyLengthGood k) (expressionGood e) (leb 1024 (length b))
 unfolding freshRule fresh-tests
-fresh-accepted k e b a = tests-accepted b (freshBuffer k e b) (keyLengthGood k) (expressionGood e) (leb 1024 (length b)) (ap (λ (x : Insertion). isAccepted (insertionAnswer x)) a)
+fresh-accepted k e b a = tests-accepted b (freshBuffer k e b) (keyLengthGood k) (expressionGood e) (leb 1024 (length b))
+    (ap (λ (x : Insertion). isAccepted (insertionAnswer x)) a)
 
 key-high : (k : ℕ) → keyLengthGood k ≡ true → k ≤ maxKey
 unfolding keyLengthGood
 key-high k e = leb-true k maxKey (both (leb 1 k) (leb k maxKey) e .1)
 
 -- Theorem: demand 3
-pub demand-3 : LookupSound → (b : List ℕ) (k : ℕ) (e : List ℕ) → All (λ x. x < 256) b → freshRule b k e .answer ≡ Accepted → (calls : Calls) → All FourBytes calls
+pub demand-3 : LookupSound → (b : List ℕ) (k : ℕ) (e : List ℕ) → All (λ x. x < 256) b → freshRule b k e .answer ≡ Accepted → (calls : Calls)
+    → All FourBytes calls
     → BookKept k calls (freshRule b k e .after)
 demand-3 lookup-sound b k e octets a calls o =
     let f = fresh-accepted k e b a in
-    let i = fresh-is-sound k e b (record { key = f .keyGood; expression = f .expressionGood; room = leb-true 1024 (length b) (f .roomGood); plain = octets-plain b octets }) in
+    let given : FreshGiven k e b = record { key = f .keyGood; expression = f .expressionGood; room = leb-true 1024 (length b) (f .roomGood); plain = octets-plain b octets } in
+    let i = fresh-is-sound k e b given in
     let kept : Kept k (length b) (freshBuffer k e b) = record { sound = i .sound; keyIs = i .keyIs; as-long = i .as-long; plain = i .plain } in
-    let empty : held (readIndex (freshBuffer k e b)) ≡ [] = ap (λ (h : ℕ). held (indexOf (freshBuffer k e b) h)) (height-is (freshBuffer k e b) (i .sound)) ∙ ap held (i .index) in
+    let empty : held (readIndex (freshBuffer k e b)) ≡ [] =
+    ap (λ (h : ℕ). held (indexOf (freshBuffer k e b) h)) (height-is (freshBuffer k e b) (i .sound)) ∙ ap held (i .index) in
     rw (f .leaves) (list-kept lookup-sound k (length b) (omega (arith, capacity-least k (key-high k (f .keyGood)))) calls o (freshBuffer k e b) kept empty)

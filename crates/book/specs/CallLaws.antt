@@ -86,7 +86,8 @@ refusals b b″ good fit zero audit there full =
 
 -- on a sound index these are the book's
 refusals-answer : (b b″ : List ℕ) (fit zero there full : Bool)
-    → insertionAnswer (refusals b b″ true fit zero true there full .answer) ≡ refusedIf (not fit) 27 (refusedIf zero 28 (refusedIf there 29 (refusedIf full 30 accepted)))
+    → insertionAnswer (refusals b b″ true fit zero true there full .answer)
+    ≡ refusedIf (not fit) 27 (refusedIf zero 28 (refusedIf there 29 (refusedIf full 30 accepted)))
 unfolding refusals
 refusals-answer b b″ false zero there full = refl
 refusals-answer b b″ true true there full = refl
@@ -107,7 +108,8 @@ refusals-after b b″ true true false true false true = refl
 refusals-after b b″ true true false true false false = refl
 
 insert-refusals : (b key : List ℕ) (r : ℕ) → insertRule b key r
-    ≡ refusals b (insertedBuffer (keyLength b) b key r) (headerGood b) (eqb (length key) (keyLength b)) (eqb r 0) (pagesGood b unmarked) (isFound (lookupRule b key)) (noRoom (keyLength b) b key)
+    ≡ refusals b (insertedBuffer (keyLength b) b key r) (headerGood b) (eqb (length key) (keyLength b)) (eqb r 0) (pagesGood b unmarked)
+    (isFound (lookupRule b key)) (noRoom (keyLength b) b key)
 unfolding insertRule refusals
 insert-refusals b key r = refl
 
@@ -115,7 +117,8 @@ insert-refusals b key r = refl
 pub leaves-buffer : (c : Call (List ℕ)) (b : List ℕ) → LeavesBuffer c b
 unfolding insertRule refusals
 leaves-buffer (insertion key r) b =
-    refusals-after b (insertedBuffer (keyLength b) b key r) (headerGood b) (eqb (length key) (keyLength b)) (eqb r 0) (pagesGood b unmarked) (isFound (lookupRule b key)) (noRoom (keyLength b) b key)
+    refusals-after b (insertedBuffer (keyLength b) b key r) (headerGood b) (eqb (length key) (keyLength b)) (eqb r 0) (pagesGood b unmarked)
+    (isFound (lookupRule b key)) (noRoom (keyLength b) b key)
 leaves-buffer (lookupOf key) b = tt
 
 -- an answer by what was found
@@ -154,7 +157,8 @@ module _ (lookup-sound : LookupSound) (k size : ℕ) (b : List ℕ) (kept : Kept
   kept-sound =
       let g = good-header b (s .header) in
       let i = sound-index b s (min size maxBytes) (omega (arith, g .within, g .most, kept .as-long)) in
-      subst (SoundIndex (keeping k size)) (sym same-index) (subst (λ (n : ℕ). SoundIndex (settingOf n (min size maxBytes)) (indexOf b (s .height))) (kept .keyIs) i)
+      subst (SoundIndex (keeping k size)) (sym same-index)
+      (subst (λ (n : ℕ). SoundIndex (settingOf n (min size maxBytes)) (indexOf b (s .height))) (kept .keyIs) i)
 
   same-fit : (key : List ℕ) → eqb (length key) (keyLength b) ≡ fits k key
   same-fit key = ap (eqb (length key)) (kept .keyIs)
@@ -162,7 +166,8 @@ module _ (lookup-sound : LookupSound) (k size : ℕ) (b : List ℕ) (kept : Kept
   -- lookup
   found-is : (key : List ℕ) → fits k key ≡ true → lookupRule b key
       ≡ replyOf (lookup bytesOrder key (heightIn b) (indexTree b (heightIn b))) (length (visited bytesOrder key (heightIn b) (indexTree b (heightIn b))))
-  found-is key f = subst (λ (h : ℕ). lookupRule b key ≡ replyOf (lookup bytesOrder key h (indexTree b h)) (length (visited bytesOrder key h (indexTree b h)))) (sym (height-is b s))
+  found-is key f = subst (λ (h : ℕ). lookupRule b key
+      ≡ replyOf (lookup bytesOrder key h (indexTree b h)) (length (visited bytesOrder key h (indexTree b h)))) (sym (height-is b s))
       (lookup-sound b key s (eqb-true (length key) (keyLength b) (same-fit key ∙ f)))
 
   misfit : (key : List ℕ) → fits k key ≡ false → lookupRule b key ≡ looked.Refused 27
@@ -180,7 +185,8 @@ module _ (lookup-sound : LookupSound) (k size : ℕ) (b : List ℕ) (kept : Kept
   visits-levels (lookupOf key) = λ s′ r pages e. either (fits k key)
       (λ f.
       let h = heightIn b in
-      let found : replyOf (lookup bytesOrder key h (indexTree b h)) (length (visited bytesOrder key h (indexTree b h))) ≡ looked.Found r pages = sym (found-is key f) ∙ e in
+      let found : replyOf (lookup bytesOrder key h (indexTree b h)) (length (visited bytesOrder key h (indexTree b h))) ≡ looked.Found r pages =
+      sym (found-is key f) ∙ e in
       let o = reply-record (lookup bytesOrder key h (indexTree b h)) (length (visited bytesOrder key h (indexTree b h))) r pages found in
       let n = reply-pages (lookup bytesOrder key h (indexTree b h)) (length (visited bytesOrder key h (indexTree b h))) r pages found in
       omega (arith, n, visited-found bytesOrder key h (indexTree b h) (r .0) o, height-is b s′))
@@ -196,13 +202,15 @@ module _ (lookup-sound : LookupSound) (k size : ℕ) (b : List ℕ) (kept : Kept
 
   same-found : (key : List ℕ) → fits k key ≡ true → isFound (lookupRule b key) ≡ isPresent (find bytesOrder key (held (readIndex b)))
   same-found key f =
-      ap isFound (found-is key f) ∙ reply-found (lookup bytesOrder key (heightIn b) (indexTree b (heightIn b))) (length (visited bytesOrder key (heightIn b) (indexTree b (heightIn b))))
+      ap isFound (found-is key f) ∙ reply-found (lookup bytesOrder key (heightIn b) (indexTree b (heightIn b)))
+      (length (visited bytesOrder key (heightIn b) (indexTree b (heightIn b))))
       ∙ ap isPresent (lookup-find bytesOrder key (heightIn b) (indexTree b (heightIn b)) (kept-sound .ordered))
 
   insert-answers : (key : List ℕ) (r : ℕ) → answerTo (insertion key r) b ≡ answer (keeping k size) (insertion key r) (readIndex b)
   insert-answers key r =
       rw (insert-refusals b key r, s .header, audit-accepts b (s .header) .1 s)
-      (refusals-answer b (insertedBuffer (keyLength b) b key r) (eqb (length key) (keyLength b)) (eqb r 0) (isFound (lookupRule b key)) (noRoom (keyLength b) b key)
+      (refusals-answer b (insertedBuffer (keyLength b) b key r) (eqb (length key) (keyLength b)) (eqb r 0) (isFound (lookupRule b key))
+      (noRoom (keyLength b) b key)
       ∙ either (fits k key)
       (λ f. rw (same-fit key, f, same-found key f, same-room key))
       (λ f. rw (same-fit key, f)))
@@ -224,7 +232,8 @@ module _ (lookup-sound : LookupSound) (k size : ℕ) (b : List ℕ) (kept : Kept
   module _ (key : List ℕ) (r : ℕ) (r32 : r < 2 ^ 32) (e : isAccepted (answerTo (insertion key r) b) ≡ true) where
     accepts : Accepts b key r
     accepts =
-        let a = accepted-acceptable (fits k key) r (find bytesOrder key (held (readIndex b))) (outOfRoom (keeping k size) key (readIndex b)) (ap isAccepted (sym (insert-answers key r)) ∙ e) in
+        let a = accepted-acceptable (fits k key) r (find bytesOrder key (held (readIndex b))) (outOfRoom (keeping k size) key (readIndex b))
+        (ap isAccepted (sym (insert-answers key r)) ∙ e) in
         record {
           sound = s;
           plain = kept .plain;
@@ -261,7 +270,8 @@ module _ (lookup-sound : LookupSound) (k size : ℕ) (b : List ℕ) (kept : Kept
 
   pub same-next : (c : Call (List ℕ)) → FourBytes c → readIndex (bufferAfter c b) ≡ next (keeping k size) c (readIndex b)
   same-next (insertion key r) r32 =
-      let q : isAccepted (answerTo (insertion key r) b) ≡ isAccepted (answer (keeping k size) (insertion key r) (readIndex b)) = ap isAccepted (insert-answers key r) in
+      let q : isAccepted (answerTo (insertion key r) b) ≡ isAccepted (answer (keeping k size) (insertion key r) (readIndex b)) =
+      ap isAccepted (insert-answers key r) in
       either (isAccepted (answerTo (insertion key r) b))
       (λ e. ap readIndex (after key r r32 e) ∙ next-inserted key r r32 e ∙ rw (sym q ∙ e))
       (λ e. ap readIndex (stays key r e) ∙ rw (sym q ∙ e))

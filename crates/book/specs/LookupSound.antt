@@ -19,4 +19,5 @@ replyOf (some r) n = answer.Found (recordOf r) n
 
 abbrev pub LookupSound : Type 0
 LookupSound = (b key : List ℕ) (s : Sound b) → length key ≡ keyLength b
-    → lookupRule b key ≡ replyOf (lookup bytesOrder key (s .height) (indexTree b (s .height))) (length (visited bytesOrder key (s .height) (indexTree b (s .height))))
+    → lookupRule b key ≡ replyOf (lookup bytesOrder key (s .height) (indexTree b (s .height)))
+    (length (visited bytesOrder key (s .height) (indexTree b (s .height))))

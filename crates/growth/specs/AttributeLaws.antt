@@ -31,7 +31,8 @@ module _ (path name : ℕ → ℕ) (A : ℕ → ℕ) where
       (λ e. rw (e, leaf-kept (unrooted path name m A (path m)), ← eqb-true z (path m) e) (leaf-old m z (λ j l. n j (omega arith))))
       (λ e. rw e (leaf-old m z (λ j l. n j (omega arith)))))
 
-  pub leaf-new : ((i j : ℕ) → name i ≡ name j → i ≡ j) → (m : ℕ) → ((i j : ℕ) → i < m → path i ≡ name j → ⊥) → (j : ℕ) → j < m → leafBit (unrooted path name m A (name j)) ≡ leafBit (A (path j))
+  pub leaf-new : ((i j : ℕ) → name i ≡ name j → i ≡ j) → (m : ℕ) → ((i j : ℕ) → i < m → path i ≡ name j → ⊥) → (j : ℕ) → j < m
+      → leafBit (unrooted path name m A (name j)) ≡ leafBit (A (path j))
   leaf-new inj zero apart j l = absurd (omega arith)
   leaf-new inj (suc m) apart j l = either (eqb j m)
       (λ e. let q : j ≡ m = eqb-true j m e in
@@ -47,7 +48,8 @@ module _ (path name : ℕ → ℕ) (A : ℕ → ℕ) where
       (λ o. rw o (root-gone (unrooted path name m A (path m))))
       (λ o. either (eqb z (path m)) (λ u. rw (o, u) (root-gone (unrooted path name m A (path m)))) (λ u. rw (o, u) (root-none m z e)))
 
-  root-half : (f : ℕ → ℕ) → ((m : ℕ) → eqb (f m) (name m) ≡ false → eqb (f m) (path m) ≡ false → ⊥) → (m j : ℕ) → j < m → rootBit (unrooted path name m A (f j)) ≡ false
+  root-half : (f : ℕ → ℕ) → ((m : ℕ) → eqb (f m) (name m) ≡ false → eqb (f m) (path m) ≡ false → ⊥) → (m j : ℕ) → j < m
+      → rootBit (unrooted path name m A (f j)) ≡ false
   root-half f half zero j l = absurd (omega arith)
   root-half f half (suc m) j l = either (eqb (f j) (name m))
       (λ o. rw o (root-gone (unrooted path name m A (path m))))
@@ -63,7 +65,8 @@ module _ (path name : ℕ → ℕ) (A : ℕ → ℕ) where
 
   pub unrooted-same : (m z : ℕ) → ((j : ℕ) → j < m → (z ≡ name j → ⊥) × (z ≡ path j → ⊥)) → unrooted path name m A z ≡ A z
   unrooted-same zero z n = refl
-  unrooted-same (suc m) z n = rw (ne-eqb z (name m) (n m (omega arith) .0), ne-eqb z (path m) (n m (omega arith) .1)) (unrooted-same m z (λ j l. n j (omega arith)))
+  unrooted-same (suc m) z n = rw (ne-eqb z (name m) (n m (omega arith) .0), ne-eqb z (path m) (n m (omega arith) .1))
+      (unrooted-same m z (λ j l. n j (omega arith)))
 
   -- attributes stay 0 to 3
   pub small-old : (m : ℕ) → ((j : ℕ) → j < m → A (path j) ≤ 3) → (z : ℕ) → A z ≤ 3 → unrooted path name m A z ≤ 3

@@ -107,7 +107,8 @@ module _ (k : ℕ) (e b : List ℕ) (given : FreshGiven k e b) where
 
   -- the page at 512
   heads : (z : ℕ) → isPage (length b) z ≡ true
-      → Head b″ z (cond (eqb z 512) 3 (attributeAt b0 z)) (cond (eqb z 512) 0 (countAt b0 z)) (cond (eqb z 512) noPage (leftAt b0 z)) (cond (eqb z 512) noPage (rightAt b0 z))
+      → Head b″ z (cond (eqb z 512) 3 (attributeAt b0 z)) (cond (eqb z 512) 0 (countAt b0 z)) (cond (eqb z 512) noPage (leftAt b0 z))
+      (cond (eqb z 512) noPage (rightAt b0 z))
   unfolding freshBuffer
   heads z t = new-head k b0 512 3 noPage noPage [] (page-of 512 l0 first) (omega arith) (omega arith) (omega arith) tt few z (page-of z l0 t)
 
@@ -117,7 +118,9 @@ module _ (k : ℕ) (e b : List ℕ) (given : FreshGiven k e b) where
 
   tree-is : indexTree b″ 0 ≡ (512, [])
   tree-is =
-      let none : entriesAt k 1024 b″ 512 ≡ [] = sym (entries-longer k 1024 b″ 512 (rw long (given .room)) (is-page-from 1024 512 (record { whole = refl; low = omega arith; high = omega arith }))) ∙ entries-are in
+      let none : entriesAt k 1024 b″ 512 ≡ [] =
+      sym (entries-longer k 1024 b″ 512 (rw long (given .room))
+      (is-page-from 1024 512 (record { whole = refl; low = omega arith; high = omega arith }))) ∙ entries-are in
       rw (key-is, size-is, root-is) (ap (λ (l : List (List ℕ × ℕ)). (512, map (readEntry (entriesAt k 1024 b″) 0) l)) none)
 
   index-is : indexOf b″ 0 ≡ fresh
@@ -148,12 +151,14 @@ module _ (k : ℕ) (e b : List ℕ) (given : FreshGiven k e b) where
       let most : ℕ = min (length b) maxBytes in
       let ps : List ℕ = pages 0 (indexTree b″ 0) in
       let sound : SoundIndex (settingOf (keyLength b″) most) (indexOf b″ 0) =
-      subst (SoundIndex (settingOf (keyLength b″) most)) (sym index-is) (fresh-sound (settingOf (keyLength b″) most) (rw key-is (omega (arith, capacity-least k (key-fits .1)))) (omega (arith, given .room)) (omega arith)) in
+      subst (SoundIndex (settingOf (keyLength b″) most)) (sym index-is)
+      (fresh-sound (settingOf (keyLength b″) most) (rw key-is (omega (arith, capacity-least k (key-fits .1)))) (omega (arith, given .room)) (omega arith)) in
       index-sound b″ 0 most header-good sound
       (as-tree (λ t. AllLinked noPage (linksOf b″) 0 t) (λ j l. let j0 : j ≡ 0 = omega arith in rw j0 (at-first .leftIs, at-first .rightIs, tt)))
       (as-tree (λ t. All (λ p. attributeAt b″ p ≤ 3) (pages 0 t)) (rw (at-first .attributeIs) (omega arith), tt))
       (as-tree (λ t. All (λ p. rootBit (attributeAt b″ p) ≡ eqb p (rootOffset b″)) (pages 0 t)) (rw (at-first .attributeIs, root-is), tt))
-      (λ j l. let j0 : j ≡ 0 = omega arith in as-tree (λ t. All (λ p. leafBit (attributeAt b″ p) ≡ eqb j 0) (level j 0 t)) (rw j0 (rw (at-first .attributeIs), tt)))
+      (λ j l. let j0 : j ≡ 0 = omega arith in as-tree (λ t. All (λ p. leafBit (attributeAt b″ p) ≡ eqb j 0) (level j 0 t))
+      (rw j0 (rw (at-first .attributeIs), tt)))
       (as-tree (λ t. All (λ p. countAt b″ p ≤ capacity (keyLength b″)) (pages 0 t)) (rw (at-first .countIs) (omega arith), tt))
 
   plain-is : Plain b″

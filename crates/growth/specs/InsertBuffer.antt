@@ -40,7 +40,8 @@ use Rattle.sound.specs.Sound.{linksOf}
 use Rattle.insert.specs.Insertion.{Outcome, kept, split, bad, Step, insertUnder, atRoot, insertedBuffer}
 use Rattle.written.specs.EntryLaws.{entriesIn, page-of, length-new}
 use Rattle.written.specs.HeadLaws.{Head, SameHead, SameHeader, put-header, new-head, new-header}
-use Rattle.growth.specs.InsertEntries.{Usable, OutcomeIs, StepIs, Shaped, shaped-page, Offered, replacement, Free, inserts, topKey, RootIs, rootAfter, sizeAfter, root-inserts}
+use Rattle.growth.specs.InsertEntries.{Usable, OutcomeIs, StepIs, Shaped, shaped-page, Offered, replacement, Free, inserts, topKey, RootIs}
+use Rattle.growth.specs.InsertEntries.{rootAfter, sizeAfter, root-inserts}
 use Rattle.growth.specs.InsertHeads.{Plain, unrooted, one-of, HeadsAfter, insert-heads}
 
 -- the tree that a buffer's own length reads: insertion's rule reads so
@@ -102,7 +103,8 @@ root-small root (split q) p s = omega arith
 root-small root bad p s = p
 
 module _ (k root : ℕ) (key : List ℕ) (two : 1 < capacity k) (long : length key ≡ k) (b : List ℕ) where
-  at-root : (o : Outcome) → NewRoot (length b) o → pageSize ≤ length b → rootOffset b ≡ root → rootAfter root o < 2 ^ 32 → sizeAfter o < 2 ^ 32 → Rooted k root o b (atRoot k b key root o)
+  at-root : (o : Outcome) → NewRoot (length b) o → pageSize ≤ length b → rootOffset b ≡ root → rootAfter root o < 2 ^ 32 → sizeAfter o < 2 ^ 32
+      → Rooted k root o b (atRoot k b key root o)
   at-root bad new l er r32 s32 = absurd new
   at-root (kept n) new l er r32 s32 =
       let four = length-toLe32 n in
@@ -130,7 +132,8 @@ module _ (k root : ℕ) (key : List ℕ) (two : 1 < capacity k) (long : length k
       let m4 = length-toLe32 (top + pageSize) in
       let l1 : length b1 ≡ length b = length-new b top 1 noPage noPage es in
       let l2 : length b2 ≡ length b = length-put b1 0 (toLe32 top) ∙ l1 in
-      let h1 : (z : ℕ) → isPage (length b) z ≡ true → Head b1 z (cond (eqb z top) 1 (attributeAt b z)) (cond (eqb z top) 2 (countAt b z)) (cond (eqb z top) noPage (leftAt b z)) (cond (eqb z top) noPage (rightAt b z)) =
+      let h1 : (z : ℕ) → isPage (length b) z ≡ true → Head b1 z (cond (eqb z top) 1 (attributeAt b z)) (cond (eqb z top) 2 (countAt b z))
+      (cond (eqb z top) noPage (leftAt b z)) (cond (eqb z top) noPage (rightAt b z)) =
       new-head k b top 1 noPage noPage es new (omega arith) (omega arith) (omega arith) fit (omega arith) in
       let h2 : (z : ℕ) → isPage (length b) z ≡ true → SameHead b1 b2 z = λ z t. put-header b1 0 (toLe32 top) (omega arith) z (page-of z l1 t) in
       let h3 : (z : ℕ) → isPage (length b) z ≡ true → SameHead b2 b3 z = λ z t. put-header b2 8 (toLe32 (top + pageSize)) (omega arith) z (page-of z l2 t) in
@@ -144,8 +147,10 @@ module _ (k root : ℕ) (key : List ℕ) (two : 1 < capacity k) (long : length k
         rootIs = le32-same b3 b2 0 (window-before b2 8 (toLe32 (top + pageSize)) 0 4 (omega arith)) ∙ le32-put b1 0 top r32 (omega arith);
         sizeIs = le32-put b2 8 (top + pageSize) s32 (omega arith);
         header = record {
-          free = window-before b2 8 (toLe32 (top + pageSize)) 4 4 (omega arith) ∙ window-after b1 0 (toLe32 top) 4 4 (omega arith) ∙ window-in-page b1 b 0 header 4 4 (omega arith);
-          rest = window-after b2 8 (toLe32 (top + pageSize)) 12 500 (omega arith) ∙ window-after b1 0 (toLe32 top) 12 500 (omega arith) ∙ window-in-page b1 b 0 header 12 500 (omega arith);
+          free = window-before b2 8 (toLe32 (top + pageSize)) 4 4 (omega arith) ∙ window-after b1 0 (toLe32 top) 4 4 (omega arith)
+              ∙ window-in-page b1 b 0 header 4 4 (omega arith);
+          rest = window-after b2 8 (toLe32 (top + pageSize)) 12 500 (omega arith) ∙ window-after b1 0 (toLe32 top) 12 500 (omega arith)
+              ∙ window-in-page b1 b 0 header 12 500 (omega arith);
         };
       })
 
@@ -186,7 +191,8 @@ module _ (k h : ℕ) (b key : List ℕ) (r : ℕ) (ready : Ready k h b key r) wh
   path j = pathPage bytesOrder key j h (treeIn k b h)
 
   heads : HeadsAfter k (fileSize b) path h b (s .outcome) (s .after)
-  heads = insert-heads k (fileSize b) key r b (ready .offered) path (ready .plain) h maxLevels (rootOffset b) a (ready .levels) (ready .shaped) free (λ j i. refl)
+  heads = insert-heads k (fileSize b) key r b (ready .offered) path (ready .plain) h maxLevels (rootOffset b) a (ready .levels) (ready .shaped) free
+      (λ j i. refl)
 
   root-is : RootIs k (fileSize b) (atRoot k (s .after) key (rootOffset b) (s .outcome)) (rootAfter (rootOffset b) (s .outcome)) (sizeAfter (s .outcome)) g
   root-is = root-inserts k (fileSize b) key r b (ready .offered) h (rootOffset b) s (shaped-page k h b (rootOffset b) (ready .shaped)) step-is room-store
@@ -209,9 +215,12 @@ module _ (k h : ℕ) (b key : List ℕ) (r : ℕ) (ready : Ready k h b key r) wh
       let u = shaped-page k h b (rootOffset b) (ready .shaped) in
       let p = is-page (length b) (rootOffset b) (u .0) in
       let l = step-is .as-long in
-      let s32 : sizeAfter (s .outcome) < 2 ^ 32 = rw (root-is .size-is) (subst (λ (x : Grown (List ℕ)). taken (fileSize b) (x .2) < 2 ^ 32) (sym seen) (ready .size32)) in
-      at-root k (rootOffset b) key (ready .offered .two) (ready .offered .long) (s .after) (s .outcome) (rw l (new-root (s .outcome) (step-is .told))) (omega arith)
-      (le32-same (s .after) b 0 (window-in-page (s .after) b 0 (same-header (s .outcome) (s .after) heads) 0 4 (omega arith))) (root-small (rootOffset b) (s .outcome) (u .1) s32) s32
+      let s32 : sizeAfter (s .outcome) < 2 ^ 32 =
+      rw (root-is .size-is) (subst (λ (x : Grown (List ℕ)). taken (fileSize b) (x .2) < 2 ^ 32) (sym seen) (ready .size32)) in
+      at-root k (rootOffset b) key (ready .offered .two) (ready .offered .long) (s .after) (s .outcome) (rw l (new-root (s .outcome) (step-is .told)))
+      (omega arith)
+      (le32-same (s .after) b 0 (window-in-page (s .after) b 0 (same-header (s .outcome) (s .after) heads) 0 4 (omega arith)))
+      (root-small (rootOffset b) (s .outcome) (u .1) s32) s32
 
   -- Theorem: the buffer after the insertion reads as the theory's insertion into the tree that the buffer read as
   pub tree-after : treeIn k (insertedBuffer k b key r) (grownBy k h b key r .0) ≡ grownBy k h b key r .1
@@ -242,7 +251,8 @@ module _ (k h : ℕ) (b key : List ℕ) (r : ℕ) (ready : Ready k h b key r) wh
   abbrev pub fullRun : ℕ
   fullRun = run bytesOrder (capacity k) key h (treeIn k b h)
 
-  needed : (grownBy k h b key r .2 ≡ needs bytesOrder (capacity k) key h (treeIn k b h)) × (suc (grownBy k h b key r .0) ≡ levelsAfter bytesOrder (capacity k) key h (treeIn k b h))
+  needed : (grownBy k h b key r .2 ≡ needs bytesOrder (capacity k) key h (treeIn k b h))
+      × (suc (grownBy k h b key r .0) ≡ levelsAfter bytesOrder (capacity k) key h (treeIn k b h))
   needed = insert-needs bytesOrder (capacity k) (taken (fileSize b)) key r h (treeIn k b h) (omega (arith, ready .offered .two)) (ready .sized)
 
   -- the theory's numbers at each outcome: the pages that were split, the height and the root
@@ -282,20 +292,25 @@ module _ (k h : ℕ) (b key : List ℕ) (r : ℕ) (ready : Ready k h b key r) wh
   relinked-kept x e = rw (eq-eqb (x .0) h e)
 
   relinked-split : (x : Grown (List ℕ)) (p : ℕ) → x .0 ≡ suc h → x .1 .0 ≡ p
-      → relinked bytesOrder noPage (taken (fileSize b)) (capacity k) key h (treeIn k b h) x (linksOf b) ≡ clearLinks noPage p (relink path (taken (fileSize b)) fullRun (linksOf b))
-  relinked-split x p e f = rw (ne-eqb (x .0) h (λ q. omega arith)) (ap (λ (y : ℕ). clearLinks noPage y (relink path (taken (fileSize b)) fullRun (linksOf b))) f)
+      → relinked bytesOrder noPage (taken (fileSize b)) (capacity k) key h (treeIn k b h) x (linksOf b)
+      ≡ clearLinks noPage p (relink path (taken (fileSize b)) fullRun (linksOf b))
+  relinked-split x p e f = rw (ne-eqb (x .0) h (λ q. omega arith))
+      (ap (λ (y : ℕ). clearLinks noPage y (relink path (taken (fileSize b)) fullRun (linksOf b))) f)
 
   -- what the heads of the pages are, where the root stays and where it rises
   pub data Rising : Type 0 where
     stays : grownBy k h b key r .0 ≡ h → grownBy k h b key r .1 .0 ≡ rootOffset b → fullRun ≤ h
-        → ((z : ℕ) → isPage (length b) z ≡ true → attributeAt (insertedBuffer k b key r) z ≡ unrooted path (taken (fileSize b)) fullRun (attributeAt b) z) → Rising
+        → ((z : ℕ) → isPage (length b) z ≡ true → attributeAt (insertedBuffer k b key r) z ≡ unrooted path (taken (fileSize b)) fullRun
+        (attributeAt b) z) → Rising
     rises : grownBy k h b key r .0 ≡ suc h → grownBy k h b key r .1 .0 ≡ taken (fileSize b) (suc h) → fullRun ≡ suc h
         → ((z : ℕ) → isPage (length b) z ≡ true
-        → attributeAt (insertedBuffer k b key r) z ≡ cond (eqb z (taken (fileSize b) (suc h))) 1 (unrooted path (taken (fileSize b)) (suc h) (attributeAt b) z)) → Rising
+        → attributeAt (insertedBuffer k b key r) z
+        ≡ cond (eqb z (taken (fileSize b) (suc h))) 1 (unrooted path (taken (fileSize b)) (suc h) (attributeAt b) z)) → Rising
 
   -- the heads of the pages after the insertion
   pub record HeadsIn : Type 0 where
-    pub links : (z : ℕ) → isPage (length b) z ≡ true → (leftAt (insertedBuffer k b key r) z ≡ linksAfter .left z) × (rightAt (insertedBuffer k b key r) z ≡ linksAfter .right z)
+    pub links : (z : ℕ) → isPage (length b) z ≡ true → (leftAt (insertedBuffer k b key r) z ≡ linksAfter .left z) ×
+        (rightAt (insertedBuffer k b key r) z ≡ linksAfter .right z)
     pub rising : Rising
     pub counts : (z : ℕ) → isPage (length b) z ≡ true → countAt b z ≤ capacity k → countAt (insertedBuffer k b key r) z ≤ capacity k
     pub newCounts : (j : ℕ) → j < grownBy k h b key r .2 → countAt (insertedBuffer k b key r) (taken (fileSize b) j) ≤ capacity k
@@ -320,7 +335,8 @@ module _ (k h : ℕ) (b key : List ℕ) (r : ℕ) (ready : Ready k h b key r) wh
       there : (z : ℕ) → isPage (length b) z ≡ true → isPage (length (s .after)) z ≡ true
       there z t = page-of z (step-is .as-long) t
 
-      go : (o : Outcome) → OutcomeIs (fileSize b) a (rootOffset b) o W → HeadsAfter k (fileSize b) path h b o (s .after) → Rooted k (rootOffset b) o (s .after) b″ → HeadsIn
+      go : (o : Outcome) → OutcomeIs (fileSize b) a (rootOffset b) o W → HeadsAfter k (fileSize b) path h b o (s .after)
+          → Rooted k (rootOffset b) o (s .after) b″ → HeadsIn
       go bad t c e = absurd t
       go (kept n) t c e =
           let x : Numbers (c .0) h (rootOffset b) = numbers-kept n (c .0) t (c .1) in
@@ -335,9 +351,13 @@ module _ (k h : ℕ) (b key : List ℕ) (r : ℕ) (ready : Ready k h b key r) wh
               e .rights z (there z p) ∙ v .rights z p ∙ ap (λ (l : Links). l .right z) (sym f),
             );
             rising = stays (x .heightIs) (x .rootIs) short
-                (λ z p. e .attributes z (there z p) ∙ v .attributes z p ∙ ap (λ (m : ℕ). unrooted path (taken (fileSize b)) m (attributeAt b) z) (sym (x .splits)));
+                (λ z p. e .attributes z (there z p) ∙ v .attributes z p ∙ ap (λ (m : ℕ). unrooted path (taken (fileSize b)) m (attributeAt b) z)
+                (sym (x .splits)));
             counts = λ z p u. rw (e .counts z (there z p)) (v .counts z p u);
-            newCounts = λ j l. let u = v .newCounts j (omega (arith, x .splits)) in rw (e .counts (taken (fileSize b) j) (there (taken (fileSize b) j) (u .0))) (u .1);
+            newCounts = λ j l.
+                let N : ℕ = taken (fileSize b) j in
+                let u = v .newCounts j (omega (arith, x .splits)) in
+                rw (e .counts N (there N (u .0))) (u .1);
             plain = λ z p. let q = page-of z (sym length-after) p in rw (e .attributes z (there z q), e .rights z (there z q)) (v .plain z q);
           }
       go (split q) t c e =
@@ -346,7 +366,8 @@ module _ (k h : ℕ) (b key : List ℕ) (r : ℕ) (ready : Ready k h b key r) wh
           let top : q + pageSize ≡ taken (fileSize b) (suc h) = omega (arith, c .0) in
           let few : grownBy k h b key r .2 ≡ suc fullRun = rw (eq-eqb fullRun (suc h) (x .splits)) at (needed .0) in
           let f : linksAfter ≡ clearLinks noPage (q + pageSize) (relink path (taken (fileSize b)) (suc h) (linksOf b)) =
-          relinked-split (grownBy k h b key r) (q + pageSize) (x .heightIs) (x .rootIs) ∙ ap (λ (m : ℕ). clearLinks noPage (q + pageSize) (relink path (taken (fileSize b)) m (linksOf b))) (x .splits) in
+          relinked-split (grownBy k h b key r) (q + pageSize) (x .heightIs) (x .rootIs)
+          ∙ ap (λ (m : ℕ). clearLinks noPage (q + pageSize) (relink path (taken (fileSize b)) m (linksOf b))) (x .splits) in
           let v = c .1 in
           let low : (z : ℕ) → isPage (length b) z ≡ true → countAt (s .after) z ≤ capacity k → countAt b″ z ≤ capacity k =
           λ z p u. rw (e .counts z (there z p)) (one-of (λ m. m ≤ capacity k) (eqb z (q + pageSize)) 2 (countAt (s .after) z) two u) in
@@ -361,7 +382,9 @@ module _ (k h : ℕ) (b key : List ℕ) (r : ℕ) (ready : Ready k h b key r) wh
             counts = λ z p u. low z p (v .counts z p u);
             newCounts = λ j l. either (eqb j (suc h))
                 (λ y. let same : j ≡ suc h = eqb-true j (suc h) y in
-                rw (same, e .counts (taken (fileSize b) (suc h)) (there (taken (fileSize b) (suc h)) (rw (← top) (new-root (split q) t))), eq-eqb (taken (fileSize b) (suc h)) (q + pageSize) (sym top)) two)
+                let N : ℕ = taken (fileSize b) (suc h) in
+                let page : isPage (length b) N ≡ true = rw (← top) (new-root (split q) t) in
+                rw (same, e .counts N (there N page), eq-eqb N (q + pageSize) (sym top)) two)
                 (λ y. let u = v .newCounts j (omega (arith, x .splits, eqb-false j (suc h) y)) in low (taken (fileSize b) j) (u .0) (u .1));
             plain = λ z p. let w = page-of z (sym length-after) p in (
               rw (e .attributes z (there z w)) (one-of (λ m. m < 2 ^ 16) (eqb z (q + pageSize)) 1 (attributeAt (s .after) z) (omega arith) (v .plain z w .0)),

@@ -38,8 +38,10 @@ use Rattle.layout.specs.ItemLaws.{Fit}
 use Rattle.layout.specs.EntryLaws.{items-in-fit}
 use Rattle.layout.specs.GatherLaws.{length-last, length-larger}
 use Rattle.insert.specs.Insertion.{Outcome, kept, split, bad, Step, takeIn, afterChild, insertUnder, atRoot}
-use Rattle.written.specs.EntryLaws.{entriesIn, page-of, raise, items-few, entries-header, entries-with, length-with, entries-new, entries-split, length-split, entries-raised, length-raised}
-use Rattle.growth.specs.ItemLists.{insertPair-numbered, choose-numbered, lastKey-numbered, replaced-place, insertPair-place, insertPair-length, replaced-length, replaced-all}
+use Rattle.written.specs.EntryLaws.{entriesIn, page-of, raise, items-few, entries-header, entries-with, length-with, entries-new, entries-split}
+use Rattle.written.specs.EntryLaws.{length-split, entries-raised, length-raised}
+use Rattle.growth.specs.ItemLists.{insertPair-numbered, choose-numbered, lastKey-numbered, replaced-place, insertPair-place}
+use Rattle.growth.specs.ItemLists.{insertPair-length, replaced-length, replaced-all}
 
 -- a page of the buffer whose offset has four bytes
 abbrev pub Usable : List ℕ → ℕ → Type 0
@@ -74,7 +76,8 @@ among-leaf key r S cap F (x ∷ xs) =
 
 module _ (k : ℕ) (two : 1 < capacity k) (F : ℕ) where
   -- a page that gets its entries, after m new pages
-  take-in-is : (b : List ℕ) (p : ℕ) (a : List ℕ) (es : List Item) (m n : ℕ) → isPage (length b) p ≡ true → All (Fit k) es → length es ≤ suc (capacity k) → n ≡ taken F m
+  take-in-is : (b : List ℕ) (p : ℕ) (a : List ℕ) (es : List Item) (m n : ℕ) → isPage (length b) p ≡ true → All (Fit k) es
+      → length es ≤ suc (capacity k) → n ≡ taken F m
       → (p ≡ taken F m → ⊥)
       → ((j : ℕ) → j < storeSplitIfOver (capacity k) (taken F) a p (map numbered es, m, entriesIn k b) .1 → Usable b (taken F j))
       → StepIs k F (length b) a p (takeIn k b p es n) (storeSplitIfOver (capacity k) (taken F) a p (map numbered es, m, entriesIn k b))
@@ -109,7 +112,10 @@ module _ (k : ℕ) (two : 1 < capacity k) (F : ℕ) where
     pub two-fit : (b : List ℕ) (c q : ℕ) (es : List Item) → All (Fit k) es → All (Fit k) (replaced key (twoFor k b key c q) es)
     two-fit b c q es f =
         replaced-all (Fit k) key (twoFor k b key c q)
-        (λ e g. ((length-last k key long (itemsIn k b c) (items-in-fit k b c), g .1), ((length-larger (e .0) key (g .0 ∙ sym long) ∙ long, length-toBe32 q), tt))) es f
+        (λ e g. (
+          (length-last k key long (itemsIn k b c) (items-in-fit k b c), g .1),
+          ((length-larger (e .0) key (g .0 ∙ sym long) ∙ long, length-toBe32 q), tt),
+        )) es f
 
     -- a page above with the entries es, after the child that the key leads to: b is the buffer before the child, b′ after it
     abbrev AfterChild : List ℕ → List ℕ → ℕ → List ℕ → StoreReplacement (List ℕ) → Outcome → List (List ℕ × ℕ) → Type 0
@@ -117,10 +123,12 @@ module _ (k : ℕ) (two : 1 < capacity k) (F : ℕ) where
     AfterChild b b′ p a v o (z ∷ zs) =
         OutcomeIs F (larger bytesOrder (choose bytesOrder key z zs .0) key) (choose bytesOrder key z zs .1) o v
         → ((j : ℕ) → j < storeSplitIfOver (capacity k) (taken F) a p (storePlace bytesOrder key z zs v) .1 → Usable b (taken F j))
-        → StepIs k F (length b) a p (afterChild k b′ key p (choose bytesOrder key z zs .1) o) (storeSplitIfOver (capacity k) (taken F) a p (storePlace bytesOrder key z zs v))
+        → StepIs k F (length b) a p (afterChild k b′ key p (choose bytesOrder key z zs .1) o)
+        (storeSplitIfOver (capacity k) (taken F) a p (storePlace bytesOrder key z zs v))
 
     after-child-items : (b b′ : List ℕ) (p : ℕ) (a : List ℕ) (y : Item) (ys : List Item) (v : StoreReplacement (List ℕ)) (o : Outcome) → length b′ ≡ length b
-        → isPage (length b) p ≡ true → entriesIn k b′ ≡ v .2 → itemsIn k b′ p ≡ y ∷ ys → (p ≡ taken F (v .1) → ⊥) → AfterChild b b′ p a v o (map numbered (y ∷ ys))
+        → isPage (length b) p ≡ true → entriesIn k b′ ≡ v .2 → itemsIn k b′ p ≡ y ∷ ys → (p ≡ taken F (v .1) → ⊥)
+        → AfterChild b b′ p a v o (map numbered (y ∷ ys))
     after-child-items b b′ p a y ys v bad lb tp sv sp ne t room = absurd t
     after-child-items b b′ p a y ys v (kept n) lb tp sv sp ne t room =
         let es : List Item = replaced key (raise key) (y ∷ ys) in
@@ -142,16 +150,21 @@ module _ (k : ℕ) (two : 1 < capacity k) (F : ℕ) where
         let low : lastKey key (itemsIn k b′ c) ≡ lastKey A (v .2 c) = lastKey-store b′ c A (rw svc (t .2)) ∙ ap (lastKey A) svc in
         let em : map numbered es ≡ storePlace bytesOrder key (numbered y) (map numbered ys) v .0 =
         replaced-place key (twoFor k b′ key c q) (v .0) (v .1) 0 y ys
-        (rw (low, be32-toBe32 q (t .3)) (ap (λ (x : List ℕ × ℕ). (lastKey A (v .2 c), x .1) ∷ (larger bytesOrder (x .0) key, q) ∷ []) (sym (choose-numbered key y ys)) ∙ sym (t .1))) in
-        let ew : _≡_ {A = StoreReplacement (List ℕ)} (map numbered es, v .1, entriesIn k b′) (storePlace bytesOrder key (numbered y) (map numbered ys) v) = λ i. (em i, v .1, sv i) in
+        (rw (low, be32-toBe32 q (t .3)) (ap (λ (x : List ℕ × ℕ). (lastKey A (v .2 c), x .1) ∷ (larger bytesOrder (x .0) key, q) ∷ [])
+        (sym (choose-numbered key y ys)) ∙ sym (t .1))) in
+        let ew : _≡_ {A = StoreReplacement (List ℕ)} (map numbered es, v .1, entriesIn k b′)
+        (storePlace bytesOrder key (numbered y) (map numbered ys) v) = λ i. (em i, v .1, sv i) in
         let fit : All (Fit k) (y ∷ ys) = rw sp at (items-in-fit k b′ p) in
         let few : length (y ∷ ys) ≤ capacity k = rw sp at (items-few k b′ p) in
         let le : length es ≡ 1 + length (y ∷ ys) = replaced-length key (twoFor k b′ key c q) 1 (λ e. refl) (y ∷ ys) tt in
         rw sp
-        (subst (λ (w : StoreReplacement (List ℕ)). StepIs k F (length b) a p (takeIn k b′ p es (q + pageSize)) (storeSplitIfOver (capacity k) (taken F) a p w)) ew
-        (subst (λ (n : ℕ). StepIs k F n a p (takeIn k b′ p es (q + pageSize)) (storeSplitIfOver (capacity k) (taken F) a p (map numbered es, v .1, entriesIn k b′))) lb
+        (subst (λ (w : StoreReplacement (List ℕ)). StepIs k F (length b) a p (takeIn k b′ p es (q + pageSize))
+        (storeSplitIfOver (capacity k) (taken F) a p w)) ew
+        (subst (λ (n : ℕ). StepIs k F n a p (takeIn k b′ p es (q + pageSize))
+        (storeSplitIfOver (capacity k) (taken F) a p (map numbered es, v .1, entriesIn k b′))) lb
         (take-in-is b′ p a es (v .1) (q + pageSize) (page-of p lb tp) (two-fit b′ c q (y ∷ ys) fit) (omega arith) (t .0) ne
-        (λ j h. let u = room j (subst (λ (w : StoreReplacement (List ℕ)). j < storeSplitIfOver (capacity k) (taken F) a p w .1) ew h) in (page-of (taken F j) lb (u .0), u .1)))))
+        (λ j h. let u = room j (subst (λ (w : StoreReplacement (List ℕ)). j < storeSplitIfOver (capacity k) (taken F) a p w .1) ew h) in
+        (page-of (taken F j) lb (u .0), u .1)))))
 
     -- the child's step leaves the page's entries with their numbers
     after-child-is : (b b′ : List ℕ) (p : ℕ) (a : List ℕ) (es : List (List ℕ × ℕ)) (v : StoreReplacement (List ℕ)) (o : Outcome) → length b′ ≡ length b
@@ -175,7 +188,8 @@ pub child-shaped : (k h : ℕ) (key b : List ℕ) (p : ℕ) (y : Item) (ys : Lis
     → Shaped k h b (childOf (choose bytesOrder key y ys))
 child-shaped k h key b p y ys e f =
     subst (λ (c : List ℕ × ℕ). Shaped k h b (c .1)) (choose-numbered key y ys)
-    (choose-all bytesOrder key (λ c. Shaped k h b (c .1)) (numbered y) (map numbered ys) (subst (λ (l : List Item). All (λ c. Shaped k h b (c .1)) (map numbered l)) e f))
+    (choose-all bytesOrder key (λ c. Shaped k h b (c .1)) (numbered y) (map numbered ys)
+    (subst (λ (l : List Item). All (λ c. Shaped k h b (c .1)) (map numbered l)) e f))
 
 -- a page that is split takes one new page
 split-more : (cap F : ℕ) (a : List ℕ) (p : ℕ) (w : StoreReplacement (List ℕ)) → w .1 ≤ storeSplitIfOver cap (taken F) a p w .1
@@ -217,11 +231,14 @@ module _ (k F : ℕ) (key : List ℕ) (r : ℕ) (b : List ℕ) where
         → StepIs k F (length b) a p (takeIn k b p (insertPair bytesOrder key (toBe32 r) (itemsIn k b p)) F) (replacement zero a p)
     leaf-is p a tp ne room =
         let es : List Item = insertPair bytesOrder key (toBe32 r) (itemsIn k b p) in
-        let en : map numbered es ≡ insertPair bytesOrder key r (entriesIn k b p) = insertPair-numbered key (toBe32 r) (itemsIn k b p) ∙ rw (be32-toBe32 r (o .r32)) in
-        let ew : _≡_ {A = StoreReplacement (List ℕ)} (map numbered es, 0, entriesIn k b) (storeInsertAmong bytesOrder key r zero (under zero) (entriesIn k b p) 0 (entriesIn k b)) =
+        let en : map numbered es ≡ insertPair bytesOrder key r (entriesIn k b p) =
+        insertPair-numbered key (toBe32 r) (itemsIn k b p) ∙ rw (be32-toBe32 r (o .r32)) in
+        let ew : _≡_ {A = StoreReplacement (List ℕ)} (map numbered es, 0, entriesIn k b)
+        (storeInsertAmong bytesOrder key r zero (under zero) (entriesIn k b p) 0 (entriesIn k b)) =
         ap (λ (l : List (List ℕ × ℕ)). (l, 0, entriesIn k b)) en ∙ sym (among-leaf key r (entriesIn k b) (capacity k) F (entriesIn k b p)) in
         subst (λ (w : StoreReplacement (List ℕ)). StepIs k F (length b) a p (takeIn k b p es F) (storeSplitIfOver (capacity k) (taken F) a p w)) ew
-        (take-in-is k (o .two) F b p a es 0 F tp (insertPair-all bytesOrder (Fit k) key (toBe32 r) (itemsIn k b p) (o .long, length-toBe32 r) (items-in-fit k b p))
+        (take-in-is k (o .two) F b p a es 0 F tp
+        (insertPair-all bytesOrder (Fit k) key (toBe32 r) (itemsIn k b p) (o .long, length-toBe32 r) (items-in-fit k b p))
         (omega (arith, items-few k b p, insertPair-length key (toBe32 r) (itemsIn k b p))) (omega arith) ne
         (λ j h. room j (subst (λ (w : StoreReplacement (List ℕ)). j < storeSplitIfOver (capacity k) (taken F) a p w .1) ew h)))
 
@@ -236,18 +253,22 @@ module _ (k F : ℕ) (key : List ℕ) (r : ℕ) (b : List ℕ) where
       abbrev below : List ℕ
       below = concatMap (pagesUnder (suc h)) (map (readEntry (entriesIn k b) (suc h)) (entriesIn k b p))
 
-      child-among : storePlace bytesOrder key (numbered y) (map numbered ys) (under (suc h) (numbered child)) ≡ storeInsertAmong bytesOrder key r (suc h) (under (suc h)) (entriesIn k b p) 0 (entriesIn k b)
+      child-among : storePlace bytesOrder key (numbered y) (map numbered ys) (under (suc h) (numbered child))
+          ≡ storeInsertAmong bytesOrder key r (suc h) (under (suc h)) (entriesIn k b p) 0 (entriesIn k b)
       child-among =
           ap (λ (e : List ℕ × ℕ). storePlace bytesOrder key (numbered y) (map numbered ys) (under (suc h) e)) (sym (choose-numbered key y ys))
           ∙ ap (λ (l : List (List ℕ × ℕ)). storeInsertAmong bytesOrder key r (suc h) (under (suc h)) l 0 (entriesIn k b)) (sym es)
 
       child-occ : (z : ℕ) → occ z (pagesUnder (suc h) (readEntry (entriesIn k b) (suc h) (numbered child))) ≤ occ z below
       child-occ z =
-          subst (λ (l : List (List ℕ × ℕ)). occ z (pagesUnder (suc h) (readEntry (entriesIn k b) (suc h) (numbered child))) ≤ occ z (concatMap (pagesUnder (suc h)) (map (readEntry (entriesIn k b) (suc h)) l))) (sym es)
-          (subst (λ (e : List ℕ × ℕ). occ z (pagesUnder (suc h) (readEntry (entriesIn k b) (suc h) e)) ≤ occ z (concatMap (pagesUnder (suc h)) (map (readEntry (entriesIn k b) (suc h)) (numbered y ∷ map numbered ys)))) (choose-numbered key y ys)
+          subst (λ (l : List (List ℕ × ℕ)). occ z (pagesUnder (suc h) (readEntry (entriesIn k b) (suc h) (numbered child))) ≤ occ z
+          (concatMap (pagesUnder (suc h)) (map (readEntry (entriesIn k b) (suc h)) l))) (sym es)
+          (subst (λ (e : List ℕ × ℕ). occ z (pagesUnder (suc h) (readEntry (entriesIn k b) (suc h) e)) ≤ occ z
+          (concatMap (pagesUnder (suc h)) (map (readEntry (entriesIn k b) (suc h)) (numbered y ∷ map numbered ys)))) (choose-numbered key y ys)
           (choose-occ bytesOrder (entriesIn k b) (suc h) key z (numbered y) (map numbered ys)))
 
-      child-room : (j : ℕ) → j < storeSplitIfOver (capacity k) (taken F) a p (storePlace bytesOrder key (numbered y) (map numbered ys) (under (suc h) (numbered child))) .1 → Usable b (taken F j)
+      child-room : (j : ℕ) → j < storeSplitIfOver (capacity k) (taken F) a p
+          (storePlace bytesOrder key (numbered y) (map numbered ys) (under (suc h) (numbered child))) .1 → Usable b (taken F j)
       child-room j l = u .2 j (subst (λ (w : StoreReplacement (List ℕ)). j < storeSplitIfOver (capacity k) (taken F) a p w .1) child-among l)
 
       pub child-free : Free h (larger bytesOrder (child .0) key) (childOf child)
@@ -256,11 +277,13 @@ module _ (k F : ℕ) (key : List ℕ) (r : ℕ) (b : List ℕ) where
           ((λ z. omega (arith, u .0 z, child-occ z)), (λ i. omega (arith, u .1 i, child-occ (taken F i))), (λ j l. child-room j (omega arith)))
 
       -- the page itself keeps its entries meanwhile
-      pub child-rest : (left : ℕ) → Inserts h left (larger bytesOrder (child .0) key) (childOf child) → entriesIn k (insertUnder k left b key r (childOf child) F .after) p ≡ map numbered (y ∷ ys)
+      pub child-rest : (left : ℕ) → Inserts h left (larger bytesOrder (child .0) key) (childOf child)
+          → entriesIn k (insertUnder k left b key r (childOf child) F .after) p ≡ map numbered (y ∷ ys)
       child-rest left w =
           let v : StoreReplacement (List ℕ) = under (suc h) (numbered child) in
           let rest : v .2 p ≡ entriesIn k b p =
-          storeInsertUnder-refines bytesOrder (capacity k) (taken F) (λ i j e. omega arith) key r (suc h) 0 (entriesIn k b) (numbered child) (child-free .0) (child-free .1) .rest p
+          storeInsertUnder-refines bytesOrder (capacity k) (taken F) (λ i j e. omega arith) key r (suc h) 0 (entriesIn k b) (numbered child)
+          (child-free .0) (child-free .1) .rest p
           (omega (arith, u .0 p, child-occ p, ap countIf (eq-eqb p p refl))) (newPages-apart (taken F) (p ∷ below) (u .1) p (v .1) (occ-here p below)) in
           ap (λ (T : Store (List ℕ)). T p) (w .entries) ∙ (rest ∙ es)
 
@@ -273,7 +296,8 @@ module _ (k F : ℕ) (key : List ℕ) (r : ℕ) (b : List ℕ) where
           let same = choose-numbered key y ys in
           let step-is = after-child-is k (o .two) F key (o .long) b (d .after) p a (map numbered (y ∷ ys)) v (d .outcome) (w .as-long) tp (w .entries)
           (child-rest left w) (λ q. occ-not-head (taken F (v .1)) p below (u .1 (v .1)) (sym q)) in
-          subst (λ (t : StoreReplacement (List ℕ)). StepIs k F (length b) a p (afterChild k (d .after) key p (childOf child) (d .outcome)) (storeSplitIfOver (capacity k) (taken F) a p t)) child-among
+          subst (λ (t : StoreReplacement (List ℕ)). StepIs k F (length b) a p (afterChild k (d .after) key p (childOf child) (d .outcome))
+          (storeSplitIfOver (capacity k) (taken F) a p t)) child-among
           (rw same at (step-is (rw same (w .told)) child-room))
 
     -- Theorem: insertion's step at the page at p, with h levels under it, is the theory's
@@ -282,13 +306,15 @@ module _ (k F : ℕ) (key : List ℕ) (r : ℕ) (b : List ℕ) where
     inserts zero zero p a l f u = absurd (omega arith)
     inserts (suc h) zero p a l f u = absurd (omega arith)
     inserts zero (suc left) p a l f u =
-        rw (f .0 .0, f .1) (leaf-is p a (f .0 .0) (λ q. occ-not-head (taken F 0) p (concatMap (pagesUnder zero) (map (readEntry (entriesIn k b) zero) (entriesIn k b p))) (u .1 0) (sym q)) (u .2))
+        rw (f .0 .0, f .1) (leaf-is p a (f .0 .0)
+        (λ q. occ-not-head (taken F 0) p (concatMap (pagesUnder zero) (map (readEntry (entriesIn k b) zero) (entriesIn k b p))) (u .1 0) (sym q)) (u .2))
     inserts (suc h) (suc left) p a l f u = go (λ c y g. inserts h left c y (omega arith) g) (itemsIn k b p) refl
       where
         go : ((c : ℕ) (y : List ℕ) → Shaped k h b c → Free h y c → Inserts h left y c) → (es : List Item) → itemsIn k b p ≡ es → Inserts (suc h) (suc left) a p
         go rec [] e = absurd (rw e at (f .2))
         go rec (y ∷ ys) e =
-            let w = rec (childOf (choose bytesOrder key y ys)) (larger bytesOrder (choose bytesOrder key y ys .0) key) (child-shaped k h key b p y ys e (f .3)) (child-free h p a y ys e u) in
+            let w = rec (childOf (choose bytesOrder key y ys)) (larger bytesOrder (choose bytesOrder key y ys .0) key)
+            (child-shaped k h key b p y ys e (f .3)) (child-free h p a y ys e u) in
             rw (f .0 .0, f .1) (subst (UpperIs left h a p) (sym e) (page-is h p a y ys e u left (f .0 .0) w))
 
 -- the root offset and the file size after an outcome at the root p
@@ -327,7 +353,8 @@ module _ (k F : ℕ) (key : List ℕ) (r : ℕ) (b : List ℕ) (o : Offered k ke
       record {
         upper = rw (lt-leb (length (w .0)) (capacity k) l, e) (write-here (write (w .2) p (take m (w .0))) (taken F (w .1)) (drop m (w .0)));
         some = s;
-        last = lastKey-default key (lastKey key (take m (w .0))) (drop m (w .0)) s ∙ sym (lastKey-append key (take m (w .0)) (drop m (w .0))) ∙ ap (lastKey key) (take-append-drop m (w .0));
+        last = lastKey-default key (lastKey key (take m (w .0))) (drop m (w .0)) s ∙ sym (lastKey-append key (take m (w .0)) (drop m (w .0)))
+            ∙ ap (lastKey key) (take-append-drop m (w .0));
       }
 
   -- where two entries stand for the page, it was split
@@ -340,7 +367,8 @@ module _ (k F : ℕ) (key : List ℕ) (r : ℕ) (b : List ℕ) (o : Offered k ke
   -- Theorem: the buffer with its root is the theory's
   pub root-inserts : (h p : ℕ) (s : Step) → Usable b p → StepIs k F (length b) (topKey h p) p s (replacement k F key r b h (topKey h p) p)
       → ((j : ℕ) → j < storeInsert bytesOrder (capacity k) (taken F) key r h p (entriesIn k b) .2 → Usable b (taken F j))
-      → RootIs k F (atRoot k (s .after) key p (s .outcome)) (rootAfter p (s .outcome)) (sizeAfter (s .outcome)) (storeInsert bytesOrder (capacity k) (taken F) key r h p (entriesIn k b))
+      → RootIs k F (atRoot k (s .after) key p (s .outcome)) (rootAfter p (s .outcome)) (sizeAfter (s .outcome))
+      (storeInsert bytesOrder (capacity k) (taken F) key r h p (entriesIn k b))
   root-inserts h p s tp w room = go (s .outcome) (w .told)
     where
       a : List ℕ
@@ -349,9 +377,14 @@ module _ (k F : ℕ) (key : List ℕ) (r : ℕ) (b : List ℕ) (o : Offered k ke
       W : StoreReplacement (List ℕ)
       W = replacement k F key r b h (topKey h p) p
 
-      go : (out : Outcome) → OutcomeIs F a p out W → RootIs k F (atRoot k (s .after) key p out) (rootAfter p out) (sizeAfter out) (storeInsert bytesOrder (capacity k) (taken F) key r h p (entriesIn k b))
+      go : (out : Outcome) → OutcomeIs F a p out W → RootIs k F (atRoot k (s .after) key p out) (rootAfter p out) (sizeAfter out)
+          (storeInsert bytesOrder (capacity k) (taken F) key r h p (entriesIn k b))
       go bad t = absurd t
-      go (kept n) t = rw (t .1) (record { entries = entries-header k (s .after) 8 (toLe32 n) (omega (arith, length-toLe32 n)) ∙ w .entries; root-is = refl; size-is = t .0 })
+      go (kept n) t = rw (t .1) (record {
+        entries = entries-header k (s .after) 8 (toLe32 n) (omega (arith, length-toLe32 n)) ∙ w .entries;
+        root-is = refl;
+        size-is = t .0;
+      })
       go (split q) t =
           let b′ : List ℕ = s .after in
           let top : ℕ = q + pageSize in
@@ -364,15 +397,19 @@ module _ (k F : ℕ) (key : List ℕ) (r : ℕ) (b : List ℕ) (o : Offered k ke
           let b1 : List ℕ = newPage b′ top 1 noPage noPage es in
           let b2 : List ℕ = put b1 0 (toLe32 top) in
           let at : (z : ℕ) → entriesIn k b′ z ≡ W .2 z = λ z. ap (λ (T : Store (List ℕ)). T z) (w .entries) in
-          let e1 : lastKey key (itemsIn k b′ p) ≡ lastKey a (W .2 p) = lastKey-store k (o .two) F key (o .long) b′ p a (rw (at p) (t .2)) ∙ ap (lastKey a) (at p) in
+          let e1 : lastKey key (itemsIn k b′ p) ≡ lastKey a (W .2 p) =
+          lastKey-store k (o .two) F key (o .long) b′ p a (rw (at p) (t .2)) ∙ ap (lastKey a) (at p) in
           let eq : entriesIn k b′ q ≡ drop (half (length (v .0))) (v .0) = at q ∙ half-is .upper in
-          let e2 : lastKey key (itemsIn k b′ q) ≡ a = lastKey-store k (o .two) F key (o .long) b′ q key (rw eq (half-is .some)) ∙ ap (lastKey key) eq ∙ half-is .last in
+          let e2 : lastKey key (itemsIn k b′ q) ≡ a =
+          lastKey-store k (o .two) F key (o .long) b′ q key (rw eq (half-is .some)) ∙ ap (lastKey key) eq ∙ half-is .last in
           let long : (z : ℕ) → length (lastKey key (itemsIn k b′ z)) ≡ k = λ z. length-last k key (o .long) (itemsIn k b′ z) (items-in-fit k b′ z) in
           let fit : All (Fit k) es = ((long p, length-toBe32 p), ((long q, length-toBe32 q), tt)) in
           let p32 : be32 (toBe32 p) 0 ≡ p = be32-toBe32 p (tp .1) in
           let q32 : be32 (toBe32 q) 0 ≡ q = be32-toBe32 q (t .3) in
           let em : map numbered es ≡ (lastKey a (W .2 p), p) ∷ (a, q) ∷ [] = λ i. (e1 i, p32 i) ∷ (e2 i, q32 i) ∷ [] in
           let s1 : entriesIn k b1 ≡ write (entriesIn k b′) top (map numbered es) = entries-new k b′ top 1 noPage noPage es tn fit (omega (arith, o .two)) in
-          let s2 : write (entriesIn k b′) top (map numbered es) ≡ write (W .2) (taken F (W .1)) ((lastKey a (W .2 p), p) ∷ (a, q) ∷ []) = λ i. write (w .entries i) (t .0 i) (em i) in
-          let s3 = entries-header k b2 8 (toLe32 (top + pageSize)) (omega (arith, length-toLe32 (top + pageSize))) ∙ entries-header k b1 0 (toLe32 top) (omega (arith, length-toLe32 top)) in
+          let s2 : write (entriesIn k b′) top (map numbered es) ≡ write (W .2) (taken F (W .1)) ((lastKey a (W .2 p), p) ∷ (a, q) ∷ []) =
+          λ i. write (w .entries i) (t .0 i) (em i) in
+          let s3 = entries-header k b2 8 (toLe32 (top + pageSize)) (omega (arith, length-toLe32 (top + pageSize)))
+          ∙ entries-header k b1 0 (toLe32 top) (omega (arith, length-toLe32 top)) in
           rw (t .1, tn) (record { entries = s3 ∙ s1 ∙ s2; root-is = t .0; size-is = omega (arith, t .0) })

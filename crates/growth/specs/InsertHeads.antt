@@ -38,7 +38,8 @@ use Rattle.insert.specs.Insertion.{Outcome, kept, split, bad, Step, takeIn, aft
 use Rattle.written.specs.EntryLaws.{entriesIn, page-of, items-few}
 use Rattle.written.specs.HeadLaws.{Head, SameHead, SameHeader, with-head, with-header, raised-head, raised-header, split-head, split-header}
 use Rattle.growth.specs.ItemLists.{choose-numbered, insertPair-length, replaced-length}
-use Rattle.growth.specs.InsertEntries.{Usable, OutcomeIs, Shaped, Offered, replacement, Inserts, Free, inserts, items-some, two-fit, child-free, child-shaped, child-rest, page-is}
+use Rattle.growth.specs.InsertEntries.{Usable, OutcomeIs, Shaped, Offered, replacement, Inserts, Free, inserts, items-some, two-fit}
+use Rattle.growth.specs.InsertEntries.{child-free, child-shaped, child-rest, page-is}
 
 -- attributes and right links that are numbers of two and four bytes
 abbrev pub Plain : List ℕ → Type 0
@@ -79,9 +80,11 @@ one-of P true x y i j = i
 one-of P false x y i j = j
 
 module _ (k : ℕ) where
-  with-only : (b : List ℕ) (p : ℕ) (es : List Item) → isPage (length b) p ≡ true → All (Fit k) es → length es ≤ capacity k → EntriesOnly k b (withEntries b p es)
+  with-only : (b : List ℕ) (p : ℕ) (es : List Item) → isPage (length b) p ≡ true → All (Fit k) es → length es ≤ capacity k
+      → EntriesOnly k b (withEntries b p es)
   with-only b p es tp f few =
-      let h : (z : ℕ) → isPage (length b) z ≡ true → Head (withEntries b p es) z (attributeAt b z) (cond (eqb z p) (length es) (countAt b z)) (leftAt b z) (rightAt b z) = with-head k b p es tp f few in
+      let h : (z : ℕ) → isPage (length b) z ≡ true → Head (withEntries b p es) z (attributeAt b z) (cond (eqb z p) (length es) (countAt b z))
+      (leftAt b z) (rightAt b z) = with-head k b p es tp f few in
       record {
         attribute = λ z t. h z t .attributeIs;
         left = λ z t. h z t .leftIs;
@@ -137,12 +140,15 @@ module _ (k F : ℕ) (path : ℕ → ℕ) (b : List ℕ) where
       let i = half (length es) in
       let lower : length (take i es) ≤ capacity k = simp length-take (omega arith) in
       let upper : length (drop i es) ≤ capacity k = simp length-drop (omega arith) in
-      let s : (z : ℕ) → isPage (length b) z ≡ true → Head (splitPage b′ p es q) z (cond (eqb z q) (withoutRoot (attributeAt b′ p)) (cond (eqb z p) (withoutRoot (attributeAt b′ p)) (attributeAt b′ z)))
-      (cond (eqb z q) (length (drop i es)) (cond (eqb z p) (length (take i es)) (countAt b′ z))) (cond (eqb z q) p (cond (eqb z (rightAt b′ p)) q (leftAt b′ z)))
+      let s : (z : ℕ) → isPage (length b) z ≡ true
+      → Head (splitPage b′ p es q) z (cond (eqb z q) (withoutRoot (attributeAt b′ p)) (cond (eqb z p) (withoutRoot (attributeAt b′ p)) (attributeAt b′ z)))
+      (cond (eqb z q) (length (drop i es)) (cond (eqb z p) (length (take i es)) (countAt b′ z)))
+      (cond (eqb z q) p (cond (eqb z (rightAt b′ p)) q (leftAt b′ z)))
       (cond (eqb z p) q (cond (eqb z q) (rightAt b′ p) (rightAt b′ z))) =
       λ z t. split-head k b′ p es q (here p (tp .0)) (here q (tq .0)) ne f two few (tp .1) (tq .1) (pp .0) (pp .1) z (here z t) in
       let few-there : (z : ℕ) → isPage (length b) z ≡ true → countAt b′ z ≤ capacity k → countAt (splitPage b′ p es q) z ≤ capacity k =
-      λ z t c. rw (s z t .countIs) (one-of (λ n. n ≤ capacity k) (eqb z q) (length (drop i es)) _ upper (one-of (λ n. n ≤ capacity k) (eqb z p) (length (take i es)) (countAt b′ z) lower c)) in
+      λ z t c. rw (s z t .countIs) (one-of (λ n. n ≤ capacity k) (eqb z q) (length (drop i es)) _ upper
+      (one-of (λ n. n ≤ capacity k) (eqb z p) (length (take i es)) (countAt b′ z) lower c)) in
       let a : ℕ = withoutRoot (attributeAt b′ p) in
       let a16 : a < 2 ^ 16 = omega (arith, pp .0) in
       record {
@@ -156,7 +162,8 @@ module _ (k F : ℕ) (path : ℕ → ℕ) (b : List ℕ) where
         header = split-header k b′ p es q (here p (tp .0)) (here q (tq .0)) ne f two few (tp .1) (tq .1) (pp .0) (pp .1) ∙ v .header;
         plain = λ z t. (
           rw (s z t .attributeIs) (one-of (λ n. n < 2 ^ 16) (eqb z q) a _ a16 (one-of (λ n. n < 2 ^ 16) (eqb z p) a (attributeAt b′ z) a16 (v .plain z t .0))),
-          rw (s z t .rightIs) (one-of (λ n. n < 2 ^ 32) (eqb z p) q _ (tq .1) (one-of (λ n. n < 2 ^ 32) (eqb z q) (rightAt b′ p) (rightAt b′ z) (pp .1) (v .plain z t .1))),
+          rw (s z t .rightIs) (one-of (λ n. n < 2 ^ 32) (eqb z p) q _ (tq .1)
+              (one-of (λ n. n < 2 ^ 32) (eqb z q) (rightAt b′ p) (rightAt b′ z) (pp .1) (v .plain z t .1))),
         );
       }
 
@@ -172,7 +179,8 @@ path-own key h a t = rw (eq-eqb h h refl)
 
 path-below : (k : ℕ) (key b : List ℕ) (h j p : ℕ) (a : List ℕ) (y : Item) (ys : List Item) → itemsIn k b p ≡ y ∷ ys → (j ≡ suc h → ⊥)
     → pathPageUnder bytesOrder key j (suc (suc h)) (a, readTree (entriesIn k b) (suc h) p)
-    ≡ pathPageUnder bytesOrder key j (suc h) (larger bytesOrder (choose bytesOrder key y ys .0) key, readTree (entriesIn k b) h (childOf (choose bytesOrder key y ys)))
+    ≡ pathPageUnder bytesOrder key j (suc h)
+    (larger bytesOrder (choose bytesOrder key y ys .0) key, readTree (entriesIn k b) h (childOf (choose bytesOrder key y ys)))
 path-below k key b h j p a y ys es ne =
     rw (ne-eqb j (suc h) ne)
     (ap (λ (l : List Item). atChosen bytesOrder key (pathPageUnder bytesOrder key j (suc h)) (map (readEntry (entriesIn k b) (suc h)) (map numbered l))) es
@@ -181,7 +189,8 @@ path-below k key b h j p a y ys es ne =
 
 module _ (k F : ℕ) (path : ℕ → ℕ) (two : 1 < capacity k) (b : List ℕ) where
   -- the theory has room for a page that is split
-  split-room : (h : ℕ) (a : List ℕ) (p : ℕ) (b′ : List ℕ) (es : List Item) (n : ℕ) (v : StoreReplacement (List ℕ)) → OutcomeIs F a p (takeIn k b′ p es n .outcome) v → n ≡ taken F h
+  split-room : (h : ℕ) (a : List ℕ) (p : ℕ) (b′ : List ℕ) (es : List Item) (n : ℕ) (v : StoreReplacement (List ℕ))
+      → OutcomeIs F a p (takeIn k b′ p es n .outcome) v → n ≡ taken F h
       → leb (length es) (capacity k) ≡ false → h < v .1
   unfolding takeIn
   split-room h a p b′ es n v t e f = either (isPage (length b′) n)
@@ -193,12 +202,18 @@ module _ (k F : ℕ) (path : ℕ → ℕ) (two : 1 < capacity k) (b : List ℕ) 
       → HeadsAfter k F path h b (takeIn k b′ p es n .outcome) (takeIn k b′ p es n .after)
   unfolding takeIn
   take-in-heads h b′ p es n ep en tp lb f few ne room v = either (leb (length es) (capacity k))
-      (λ e. rw e (h, en, heads-entries k F path b h b′ (withEntries b′ p es) lb v (with-only k b′ p es (page-of p lb (tp .0)) f (leb-true (length es) (capacity k) e))))
+      (λ e. rw e (
+        h,
+        en,
+        heads-entries k F path b h b′ (withEntries b′ p es) lb v
+            (with-only k b′ p es (page-of p lb (tp .0)) f (leb-true (length es) (capacity k) e)),
+      ))
       (λ e. let tn : Usable b n = room e in
       rw (e, page-of n lb (tn .0)) (en, rw (ep, en) (heads-split k F path b h b′ es (rw (← ep) tp) (rw (← en) tn) (rw (← ep, ← en) ne) f two few lb v)))
 
 module _ (k F : ℕ) (key : List ℕ) (r : ℕ) (b : List ℕ) (o : Offered k key r) (path : ℕ → ℕ) (plain : Plain b) where
-  after-child-heads : (h : ℕ) (b′ : List ℕ) (p : ℕ) (a : List ℕ) (c : ℕ) (out : Outcome) (v : StoreReplacement (List ℕ)) → HeadsAfter k F path h b out b′ → length b′ ≡ length b
+  after-child-heads : (h : ℕ) (b′ : List ℕ) (p : ℕ) (a : List ℕ) (c : ℕ) (out : Outcome) (v : StoreReplacement (List ℕ))
+      → HeadsAfter k F path h b out b′ → length b′ ≡ length b
       → NonEmpty (itemsIn k b′ p) → p ≡ path (suc h) → Usable b p → (p ≡ taken F (suc h) → ⊥) → ((j : ℕ) → j < v .1 → Usable b (taken F j))
       → OutcomeIs F a p (afterChild k b′ key p c out .outcome) v
       → HeadsAfter k F path (suc h) b (afterChild k b′ key p c out .outcome) (afterChild k b′ key p c out .after)
@@ -209,7 +224,8 @@ module _ (k F : ℕ) (key : List ℕ) (r : ℕ) (b : List ℕ) (o : Offered k ke
       let es : List Item = replaced key (twoFor k b′ key c q) (itemsIn k b′ p) in
       let en : q + pageSize ≡ taken F (suc h) = omega (arith, x .0) in
       let le : length es ≡ 1 + length (itemsIn k b′ p) = replaced-length key (twoFor k b′ key c q) 1 (λ e. refl) (itemsIn k b′ p) some in
-      take-in-heads k F path (o .two) b (suc h) b′ p es (q + pageSize) ep en tp lb (two-fit k (o .two) F key (o .long) b′ c q (itemsIn k b′ p) (items-in-fit k b′ p)) (omega (arith, items-few k b′ p)) (λ u. ne (u ∙ en))
+      take-in-heads k F path (o .two) b (suc h) b′ p es (q + pageSize) ep en tp lb
+      (two-fit k (o .two) F key (o .long) b′ c q (itemsIn k b′ p) (items-in-fit k b′ p)) (omega (arith, items-few k b′ p)) (λ u. ne (u ∙ en))
       (λ e. rw en (room (suc h) (split-room k F path (o .two) b (suc h) a p b′ es (q + pageSize) v t en e))) (x .1)
 
   -- the heads after insertion's step at the page at p
@@ -231,7 +247,8 @@ module _ (k F : ℕ) (key : List ℕ) (r : ℕ) (b : List ℕ) (o : Offered k ke
       let ef : F ≡ taken F 0 = omega arith in
       rw (f .0 .0, f .1)
       (take-in-heads k F path (o .two) b zero b p es F (sym (path-own key zero a (readTree (entriesIn k b) zero p)) ∙ sym (x zero (omega arith))) ef (f .0) refl
-      (insertPair-all bytesOrder (Fit k) key (toBe32 r) (itemsIn k b p) (o .long, length-toBe32 r) (items-in-fit k b p)) (omega (arith, items-few k b p, insertPair-length key (toBe32 r) (itemsIn k b p)))
+      (insertPair-all bytesOrder (Fit k) key (toBe32 r) (itemsIn k b p) (o .long, length-toBe32 r) (items-in-fit k b p))
+      (omega (arith, items-few k b p, insertPair-length key (toBe32 r) (itemsIn k b p)))
       (λ e. occ-not-head (taken F 0) p (concatMap (pagesUnder zero) (map (readEntry (entriesIn k b) zero) (entriesIn k b p))) (u .1 0) (sym (e ∙ ef)))
       (λ e. rw ef (u .2 0 (split-room k F path (o .two) b zero a p b es F v t ef e)))
       (heads-none k F path b plain))
@@ -243,7 +260,8 @@ module _ (k F : ℕ) (key : List ℕ) (r : ℕ) (b : List ℕ) (o : Offered k ke
           let d : Step = insertUnder k left b key r c F in
           HeadsAfter k F path (suc h) b (afterChild k (d .after) key p c (d .outcome) .outcome) (afterChild k (d .after) key p c (d .outcome) .after)
 
-      go : ((c : ℕ) (y : List ℕ) → Shaped k h b c → Free k F key r b h y c → OnPath h y c → Goes h left c) → (es : List Item) → itemsIn k b p ≡ es → Goes (suc h) (suc left) p
+      go : ((c : ℕ) (y : List ℕ) → Shaped k h b c → Free k F key r b h y c → OnPath h y c → Goes h left c) → (es : List Item) → itemsIn k b p ≡ es
+          → Goes (suc h) (suc left) p
       go rec [] e = absurd (rw e at (f .2))
       go rec (y ∷ ys) e =
           let c : ℕ = childOf (choose bytesOrder key y ys) in
@@ -259,4 +277,5 @@ module _ (k F : ℕ) (key : List ℕ) (r : ℕ) (b : List ℕ) (o : Offered k ke
           (after-child-heads h (d .after) p a c (d .outcome) v (rec c A shaped free on) (w .as-long)
           (items-some k (d .after) p (numbered y) (map numbered ys) (child-rest k F key r b o h p a y ys e u left w))
           (sym (path-own key (suc h) a (readTree (entriesIn k b) (suc h) p)) ∙ sym (x (suc h) (omega arith))) (f .0)
-          (λ q. occ-not-head (taken F (suc h)) p (concatMap (pagesUnder (suc h)) (map (readEntry (entriesIn k b) (suc h)) (entriesIn k b p))) (u .1 (suc h)) (sym q)) (u .2) t))
+          (λ q. occ-not-head (taken F (suc h)) p (concatMap (pagesUnder (suc h)) (map (readEntry (entriesIn k b) (suc h)) (entriesIn k b p)))
+          (u .1 (suc h)) (sym q)) (u .2) t))

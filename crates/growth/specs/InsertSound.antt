@@ -46,12 +46,14 @@ use Rattle.insert.specs.Insertion.{insertedBuffer}
 use Rattle.insert.specs.Room.{noRoom}
 use Rattle.growth.specs.InsertEntries.{Usable}
 use Rattle.growth.specs.InsertHeads.{Plain, unrooted}
-use Rattle.growth.specs.InsertBuffer.{treeIn, grownBy, Ready, SameRest, tree-after, root-after, size-after, length-after, header-after, HeadsIn, Rising, stays, rises, heads-in, linksAfter}
+use Rattle.growth.specs.InsertBuffer.{treeIn, grownBy, Ready, SameRest, tree-after, root-after, size-after, length-after, header-after}
+use Rattle.growth.specs.InsertBuffer.{HeadsIn, Rising, stays, rises, heads-in, linksAfter}
 use Rattle.growth.specs.AttributeLaws.{leaf-old, leaf-new, root-none, root-new, root-split, unrooted-same, small-old, small-new}
 use Rattle.growth.specs.SoundReading.{page-longer, read-shorter, sound-tree, sound-shaped}
 use Rattle.growth.specs.RoomLaws.{room-is}
 
-accepted-when : (fits : Bool) (r : ℕ) (held : Option ℕ) (full : Bool) → fits ≡ true → 0 < r → held ≡ none → full ≡ false → isAccepted (verdict fits r held full) ≡ true
+accepted-when : (fits : Bool) (r : ℕ) (held : Option ℕ) (full : Bool) → fits ≡ true → 0 < r → held ≡ none → full ≡ false
+    → isAccepted (verdict fits r held full) ≡ true
 accepted-when fits r held full f p n u = rw (f, ne-eqb r 0 (λ e. omega arith), n, u)
 
 -- an insertion that is accepted, into a buffer that holds a sound index
@@ -107,8 +109,10 @@ module _ (b key : List ℕ) (r : ℕ) (accepts : Accepts b key r) where
 
   taken-in : isAccepted (answer kept-by (insertion key r) before) ≡ true
   taken-in =
-      accepted-when (eqb (length key) k) r (find bytesOrder key (held before)) (outOfRoom kept-by key before) (eq-eqb (length key) k (accepts .long)) (accepts .positive)
-      (ap (λ (i : Index (List ℕ)). find bytesOrder key (held i)) before-is ∙ accepts .absent) (ap (outOfRoom kept-by key) before-is ∙ sym (room-is b key (accepts .sound)) ∙ accepts .room)
+      accepted-when (eqb (length key) k) r (find bytesOrder key (held before)) (outOfRoom kept-by key before) (eq-eqb (length key) k (accepts .long))
+      (accepts .positive)
+      (ap (λ (i : Index (List ℕ)). find bytesOrder key (held i)) before-is ∙ accepts .absent)
+      (ap (outOfRoom kept-by key) before-is ∙ sym (room-is b key (accepts .sound)) ∙ accepts .room)
 
   sound-after : SoundIndex kept-by after
   sound-after = rw taken-in at (next-sound kept-by two (insertion key r) before sound-before)
@@ -177,7 +181,8 @@ module _ (b key : List ℕ) (r : ℕ) (accepts : Accepts b key r) where
       (λ u.
       let p1 : occ z (level j (x .0) (x .1)) ≡ occ z (v .pre) + (countIf (eqb z (path j)) + (countIf (eqb z (taken F (0 + j))) + occ z (v .post))) =
       ap (occ z) (v .now) ∙ occ-append z (v .pre) (path j ∷ taken F (0 + j) ∷ v .post) in
-      let p2 : occ z (level j h t) ≡ occ z (v .pre) + (countIf (eqb z (path j)) + occ z (v .post)) = ap (occ z) (v .was) ∙ occ-append z (v .pre) (path j ∷ v .post) in
+      let p2 : occ z (level j h t) ≡ occ z (v .pre) + (countIf (eqb z (path j)) + occ z (v .post)) =
+      ap (occ z) (v .was) ∙ occ-append z (v .pre) (path j ∷ v .post) in
       let p3 : countIf (eqb z (taken F (0 + j))) ≡ 0 = ap countIf u in
       old (omega arith)))
       (λ e. old (rw (← q .1 (ltb-false j splits e)) o))
@@ -187,7 +192,8 @@ module _ (b key : List ℕ) (r : ℕ) (accepts : Accepts b key r) where
   path-level j l =
       let q = insert-level bytesOrder (capacity k) (taken F) key r h t j (omega (arith, two)) (sound-before .sized) (omega (arith, most)) in
       let v : Level j = q .0 l in
-      let p : occ (path j) (level j h t) ≡ occ (path j) (v .pre) + (countIf (eqb (path j) (path j)) + occ (path j) (v .post)) = ap (occ (path j)) (v .was) ∙ occ-append (path j) (v .pre) (path j ∷ v .post) in
+      let p : occ (path j) (level j h t) ≡ occ (path j) (v .pre) + (countIf (eqb (path j) (path j)) + occ (path j) (v .post)) =
+      ap (occ (path j)) (v .was) ∙ occ-append (path j) (v .pre) (path j ∷ v .post) in
       omega (arith, ap countIf (eq-eqb (path j) (path j) refl))
 
   path-old : (j : ℕ) → j < splits → 0 < occ (path j) (pages h t)
@@ -202,33 +208,39 @@ module _ (b key : List ℕ) (r : ℕ) (accepts : Accepts b key r) where
 
   in-pages : {X : Type 0} (z : ℕ) → 0 < occ z (pages (x .0) (x .1)) → (0 < occ z (pages h t) → X) → ((j : ℕ) → j < x .2 → z ≡ taken F j → X) → X
   in-pages z o old new =
-      let p : occ z (pages (x .0) (x .1)) ≡ occ z (pages h t) + occ z (newPages (taken F) (x .2)) = insert-pages bytesOrder (capacity k) (taken F) key r z h t in
+      let p : occ z (pages (x .0) (x .1)) ≡ occ z (pages h t) + occ z (newPages (taken F) (x .2)) =
+      insert-pages bytesOrder (capacity k) (taken F) key r z h t in
       either (ltb 0 (occ z (pages h t)))
       (λ e. old (ltb-true 0 (occ z (pages h t)) e))
       (λ e. let y = ltb-false 0 (occ z (pages h t)) e in in-new (x .2) z (omega arith) new)
 
   -- the clauses of the old index, page by page
   old-attribute : (z : ℕ) → 0 < occ z (pages h t) → attributeAt b z ≤ 3
-  old-attribute z o = occ-all (λ p. attributeAt b p ≤ 3) z (pages h (indexTree b h)) (accepts .sound .attributes) (subst (λ (T : Tree (List ℕ) h). 0 < occ z (pages h T)) (sound-tree b (accepts .sound)) o)
+  old-attribute z o = occ-all (λ p. attributeAt b p ≤ 3) z (pages h (indexTree b h)) (accepts .sound .attributes)
+      (subst (λ (T : Tree (List ℕ) h). 0 < occ z (pages h T)) (sound-tree b (accepts .sound)) o)
 
   old-root : (z : ℕ) → 0 < occ z (pages h t) → rootBit (attributeAt b z) ≡ eqb z (rootOffset b)
   old-root z o =
-      occ-all (λ p. rootBit (attributeAt b p) ≡ eqb p (rootOffset b)) z (pages h (indexTree b h)) (accepts .sound .rootBits) (subst (λ (T : Tree (List ℕ) h). 0 < occ z (pages h T)) (sound-tree b (accepts .sound)) o)
+      occ-all (λ p. rootBit (attributeAt b p) ≡ eqb p (rootOffset b)) z (pages h (indexTree b h)) (accepts .sound .rootBits)
+      (subst (λ (T : Tree (List ℕ) h). 0 < occ z (pages h T)) (sound-tree b (accepts .sound)) o)
 
   old-leaf : (j z : ℕ) → j ≤ h → 0 < occ z (level j h t) → leafBit (attributeAt b z) ≡ eqb j 0
   old-leaf j z l o =
-      occ-all (λ p. leafBit (attributeAt b p) ≡ eqb j 0) z (level j h (indexTree b h)) (accepts .sound .leafBits j l) (subst (λ (T : Tree (List ℕ) h). 0 < occ z (level j h T)) (sound-tree b (accepts .sound)) o)
+      occ-all (λ p. leafBit (attributeAt b p) ≡ eqb j 0) z (level j h (indexTree b h)) (accepts .sound .leafBits j l)
+      (subst (λ (T : Tree (List ℕ) h). 0 < occ z (level j h T)) (sound-tree b (accepts .sound)) o)
 
   old-count : (z : ℕ) → 0 < occ z (pages h t) → countAt b z ≤ capacity k
   old-count z o =
-      occ-all (λ p. (least h ≤ countAt b p) × (countAt b p ≤ capacity k)) z (pages h (indexTree b h)) (accepts .sound .counts) (subst (λ (T : Tree (List ℕ) h). 0 < occ z (pages h T)) (sound-tree b (accepts .sound)) o) .1
+      occ-all (λ p. (least h ≤ countAt b p) × (countAt b p ≤ capacity k)) z (pages h (indexTree b h)) (accepts .sound .counts)
+      (subst (λ (T : Tree (List ℕ) h). 0 < occ z (pages h T)) (sound-tree b (accepts .sound)) o) .1
 
   -- the leaf bits of a level below a new root
   leaf-bits : (j z : ℕ) → j ≤ h → 0 < occ z (level j (x .0) (x .1)) → leafBit (unrooted path (taken F) splits (attributeAt b) z) ≡ eqb j 0
   leaf-bits j z l o = in-level j z l o
       (λ f. leaf-old path (taken F) (attributeAt b) splits z (λ i m. old-new z (in-tree h j z t f) i) ∙ old-leaf j z l f)
       (λ m e. ap (λ (y : ℕ). leafBit (unrooted path (taken F) splits (attributeAt b) y)) e
-      ∙ leaf-new path (taken F) (attributeAt b) (λ i i′ u. omega arith) splits (λ i i′ q. old-new (path i) (path-old i q) i′) j m ∙ old-leaf j (path j) l (path-level j m))
+      ∙ leaf-new path (taken F) (attributeAt b) (λ i i′ u. omega arith) splits (λ i i′ q. old-new (path i) (path-old i q) i′) j m
+      ∙ old-leaf j (path j) l (path-level j m))
 
   -- the root is on the top level alone
   root-high : (j : ℕ) → j < splits → j < h → rootOffset b ≡ path j → ⊥
@@ -251,7 +263,8 @@ module _ (b key : List ℕ) (r : ℕ) (accepts : Accepts b key r) where
     pub root : (z : ℕ) → 0 < occ z (pages (x .0) (x .1)) → rootBit (attributeAt b″ z) ≡ eqb z (x .1 .0)
     pub small : (z : ℕ) → 0 < occ z (pages (x .0) (x .1)) → attributeAt b″ z ≤ 3
 
-  bits-stay : x .0 ≡ h → x .1 .0 ≡ rootOffset b → splits ≤ h → ((z : ℕ) → isPage (length b) z ≡ true → attributeAt b″ z ≡ unrooted path (taken F) splits (attributeAt b) z) → Bits
+  bits-stay : x .0 ≡ h → x .1 .0 ≡ rootOffset b → splits ≤ h
+      → ((z : ℕ) → isPage (length b) z ≡ true → attributeAt b″ z ≡ unrooted path (taken F) splits (attributeAt b) z) → Bits
   bits-stay e0 e1 short at =
       let n2 : x .2 ≡ splits = rw (ne-eqb splits (suc h) (λ q. omega arith)) at need in
       record {
@@ -261,7 +274,8 @@ module _ (b key : List ℕ) (r : ℕ) (accepts : Accepts b key r) where
             (λ q. let v : z ≡ rootOffset b = eqb-true z (rootOffset b) q in
             rw (unrooted-same path (taken F) (attributeAt b) splits z (λ j l. (old-new z f j, (λ u. root-high j l (omega arith) (sym v ∙ u))))) (old-root z f))
             (λ q. rw q (root-none path (taken F) (attributeAt b) splits z (old-root z f ∙ q))))
-            (λ j l v. rw (v, ne-eqb (taken F j) (rootOffset b) (λ u. old-new (rootOffset b) root-old j (sym u))) (root-new path (taken F) (attributeAt b) splits j (omega arith))));
+            (λ j l v. rw (v, ne-eqb (taken F j) (rootOffset b) (λ u. old-new (rootOffset b) root-old j (sym u)))
+            (root-new path (taken F) (attributeAt b) splits j (omega arith))));
         small = λ z o. rw (at z (new-page z o)) (in-pages z o
             (λ f. small-old path (taken F) (attributeAt b) splits path-small z (old-attribute z f))
             (λ j l v. rw v (small-new path (taken F) (attributeAt b) splits path-small j (omega arith))));
@@ -326,7 +340,8 @@ module _ (b key : List ℕ) (r : ℕ) (accepts : Accepts b key r) where
   linked-after : AllLinked noPage (linksOf b″) (x .0) (x .1)
   linked-after j l =
       let linked : LinkedIndex (linksOf b) before = subst (LinkedIndex (linksOf b)) (sym before-is) (sound-linked b (accepts .sound)) in
-      let e : AllLinked noPage (linksAfter k h b key r ready) (x .0) (x .1) = rw taken-in at (next-linked kept-by two (insertion key r) before (linksOf b) sound-before linked) in
+      let e : AllLinked noPage (linksAfter k h b key r ready) (x .0) (x .1) =
+      rw taken-in at (next-linked kept-by two (insertion key r) before (linksOf b) sound-before linked) in
       linked-same noPage (linksAfter k h b key r ready) (linksOf b″) noPage (level j (x .0) (x .1))
       (λ z o. heads .links z (new-page z (in-tree (x .0) j z (x .1) o))) (e j l)
 
@@ -340,7 +355,8 @@ module _ (b key : List ℕ) (r : ℕ) (accepts : Accepts b key r) where
   rest = header-after k h b key r ready
 
   key-same : keyLength b″ ≡ k
-  key-same = le16-same b″ b 12 (sym (window-window b″ 12 500 0 2 (omega arith)) ∙ ap (λ (w : List ℕ). window w 0 2) (rest .rest) ∙ window-window b 12 500 0 2 (omega arith))
+  key-same = le16-same b″ b 12 (sym (window-window b″ 12 500 0 2 (omega arith)) ∙ ap (λ (w : List ℕ). window w 0 2) (rest .rest)
+      ∙ window-window b 12 500 0 2 (omega arith))
 
   features-same : features b″ ≡ features b
   features-same = sym (getD-window b″ 12 500 2 0 (omega arith)) ∙ ap (λ (w : List ℕ). getD w 2 0) (rest .rest) ∙ getD-window b 12 500 2 0 (omega arith)
@@ -390,7 +406,8 @@ module _ (b key : List ℕ) (r : ℕ) (accepts : Accepts b key r) where
   sound-now =
       let ps : List ℕ = pages (x .0) (indexTree b″ (x .0)) in
       index-sound b″ (x .0) (min (length b) maxBytes) header-good
-      (subst (λ (n : ℕ). SoundIndex (settingOf n (min (length b) maxBytes)) (indexOf b″ (x .0))) (sym key-same) (subst (SoundIndex kept-by) (sym index-is) sound-after))
+      (subst (λ (n : ℕ). SoundIndex (settingOf n (min (length b) maxBytes)) (indexOf b″ (x .0))) (sym key-same)
+      (subst (SoundIndex kept-by) (sym index-is) sound-after))
       (subst (λ (T : Tree (List ℕ) (x .0)). AllLinked noPage (linksOf b″) (x .0) T) (sym tree-is) linked-after)
       (all-occ (λ p. attributeAt b″ p ≤ 3) ps (λ z o. bits .small z (there z o)))
       (all-occ (λ p. rootBit (attributeAt b″ p) ≡ eqb p (rootOffset b″)) ps (λ z o. bits .root z (there z o) ∙ ap (eqb z) (sym (root-after k h b key r ready))))
@@ -402,8 +419,10 @@ module _ (b key : List ℕ) (r : ℕ) (accepts : Accepts b key r) where
 -- differs in its root offset and file size alone
 pub record Inserts (b key : List ℕ) (r : ℕ) (s : Sound b) : Type 0 where
   pub sound : Sound (insertedBuffer (keyLength b) b key r)
-  pub index : indexOf (insertedBuffer (keyLength b) b key r) (sound .height) ≡ inserted (settingOf (keyLength b) (min (length b) maxBytes)) key r (indexOf b (s .height))
-  pub leaves : pairs (sound .height) (indexTree (insertedBuffer (keyLength b) b key r) (sound .height)) ≡ insertPair bytesOrder key r (pairs (s .height) (indexTree b (s .height)))
+  pub index : indexOf (insertedBuffer (keyLength b) b key r) (sound .height)
+      ≡ inserted (settingOf (keyLength b) (min (length b) maxBytes)) key r (indexOf b (s .height))
+  pub leaves : pairs (sound .height) (indexTree (insertedBuffer (keyLength b) b key r) (sound .height))
+      ≡ insertPair bytesOrder key r (pairs (s .height) (indexTree b (s .height)))
   pub header : SameRest b (insertedBuffer (keyLength b) b key r)
   pub keyIs : keyLength (insertedBuffer (keyLength b) b key r) ≡ keyLength b
   pub as-long : length (insertedBuffer (keyLength b) b key r) ≡ length b

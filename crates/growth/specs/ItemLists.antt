@@ -18,7 +18,8 @@ use Rattle.page.specs.Reading.{Item, numbered}
 use Rattle.layout.specs.Entries.{replaced}
 
 -- what is done to entries goes by their keys, so it is the same with their numbers
-pub insertPair-numbered : (key c : List ℕ) (es : List Item) → map numbered (insertPair bytesOrder key c es) ≡ insertPair bytesOrder key (be32 c 0) (map numbered es)
+pub insertPair-numbered : (key c : List ℕ) (es : List Item) → map numbered (insertPair bytesOrder key c es) ≡ insertPair bytesOrder key (be32 c 0)
+    (map numbered es)
 insertPair-numbered key c [] = refl
 insertPair-numbered key c (x ∷ xs) = either (bytesLe key (x .0)) (λ e. rw e) (λ e. rw e (ap (λ l. numbered x ∷ l) (insertPair-numbered key c xs)))
 
@@ -31,14 +32,16 @@ lastKey-numbered a [] = refl
 lastKey-numbered a (x ∷ xs) = lastKey-numbered (x .0) xs
 
 -- the chosen entry is replaced, in the theory's words; and a pair goes in beside it
-pub replaced-place : (key : List ℕ) (f : Item → List Item) (rows : List (List ℕ × ℕ)) (m j : ℕ) (x : Item) (xs : List Item) → map numbered (f (choose bytesOrder key x xs)) ≡ rows
+pub replaced-place : (key : List ℕ) (f : Item → List Item) (rows : List (List ℕ × ℕ)) (m j : ℕ) (x : Item) (xs : List Item)
+    → map numbered (f (choose bytesOrder key x xs)) ≡ rows
     → map numbered (replaced key f (x ∷ xs)) ≡ place bytesOrder key (λ y i. (rows, m)) (numbered x) (map numbered xs) j .0
 replaced-place key f rows m j x [] e = e
 replaced-place key f rows m j x (y ∷ ys) e = either (bytesLe key (x .0))
     (λ u. rw u (map-append numbered (f x) (y ∷ ys) ∙ ap (λ l. l ++ map numbered (y ∷ ys)) (rw u at e)))
     (λ u. rw u (ap (λ l. numbered x ∷ l) (replaced-place key f rows m j y ys (rw u at e))))
 
-pub insertPair-place : (key : List ℕ) (r : ℕ) (rows : List (List ℕ × ℕ)) (m j : ℕ) (x : List ℕ × ℕ) (xs : List (List ℕ × ℕ)) → rows ≡ insertPair bytesOrder key r (choose bytesOrder key x xs ∷ [])
+pub insertPair-place : (key : List ℕ) (r : ℕ) (rows : List (List ℕ × ℕ)) (m j : ℕ) (x : List ℕ × ℕ) (xs : List (List ℕ × ℕ))
+    → rows ≡ insertPair bytesOrder key r (choose bytesOrder key x xs ∷ [])
     → place bytesOrder key (λ y i. (rows, m)) x xs j .0 ≡ insertPair bytesOrder key r (x ∷ xs)
 insertPair-place key r rows m j x [] e = e
 insertPair-place key r rows m j x (y ∷ ys) e = either (bytesLe key (x .0))
@@ -50,7 +53,8 @@ pub insertPair-length : (key c : List ℕ) (es : List Item) → length (insertPa
 insertPair-length key c [] = refl
 insertPair-length key c (x ∷ xs) = either (bytesLe key (x .0)) (λ e. rw e) (λ e. rw e (ap suc (insertPair-length key c xs)))
 
-pub replaced-length : (key : List ℕ) (f : Item → List Item) (n : ℕ) → ((e : Item) → length (f e) ≡ suc n) → (es : List Item) → NonEmpty es → length (replaced key f es) ≡ n + length es
+pub replaced-length : (key : List ℕ) (f : Item → List Item) (n : ℕ) → ((e : Item) → length (f e) ≡ suc n) → (es : List Item) → NonEmpty es
+    → length (replaced key f es) ≡ n + length es
 replaced-length key f n ok [] s = absurd s
 replaced-length key f n ok (x ∷ []) s = omega (arith, ok x)
 replaced-length key f n ok (x ∷ y ∷ ys) s = either (bytesLe key (x .0))
@@ -58,7 +62,8 @@ replaced-length key f n ok (x ∷ y ∷ ys) s = either (bytesLe key (x .0))
     (λ e. rw e (omega (arith, replaced-length key f n ok (y ∷ ys) tt)))
 
 -- what holds of all of them
-pub replaced-all : (P : Item → Type 0) (key : List ℕ) (f : Item → List Item) → ((e : Item) → P e → All P (f e)) → (es : List Item) → All P es → All P (replaced key f es)
+pub replaced-all : (P : Item → Type 0) (key : List ℕ) (f : Item → List Item) → ((e : Item) → P e → All P (f e)) → (es : List Item) → All P es
+    → All P (replaced key f es)
 replaced-all P key f ok [] a = tt
 replaced-all P key f ok (x ∷ []) a = ok x (a .0)
 replaced-all P key f ok (x ∷ y ∷ ys) a = either (bytesLe key (x .0))

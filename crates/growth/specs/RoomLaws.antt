@@ -69,7 +69,8 @@ module _ (k : ℕ) (key b : List ℕ) where
 
 -- Theorem: the path to any key has as many levels as the index
 pub sound-levels : (b key : List ℕ) (s : Sound b) → pathFrom (keyLength b) maxLevels b key (rootOffset b) .levels ≡ suc (s .height)
-sound-levels b key s = ap (λ (path : Path). path .levels) (path-is (keyLength b) key b (s .height) maxLevels (rootOffset b) (omega (arith, s .levels)) (sound-shaped b s))
+sound-levels b key s = ap (λ (path : Path). path .levels)
+    (path-is (keyLength b) key b (s .height) maxLevels (rootOffset b) (omega (arith, s .levels)) (sound-shaped b s))
 
 -- F would pass the buffer or 1,048,576 exactly when it would pass the lesser
 less-both : (a b c : ℕ) → ltb (min a b) c ≡ (ltb a c || ltb b c)
@@ -84,13 +85,16 @@ or-assoc true b c = refl
 or-assoc false b c = refl
 
 -- Theorem: refusal 30 by the bytes and by the tree
-pub room-is : (b key : List ℕ) (s : Sound b) → noRoom (keyLength b) b key ≡ outOfRoom (settingOf (keyLength b) (min (length b) maxBytes)) key (indexOf b (s .height))
+pub room-is : (b key : List ℕ) (s : Sound b) → noRoom (keyLength b) b key ≡ outOfRoom (settingOf (keyLength b) (min (length b) maxBytes)) key
+    (indexOf b (s .height))
 unfolding noRoom
 room-is b key s =
     let k = keyLength b in
     let h = s .height in
     let d = storeRun bytesOrder (capacity k) key h (rootOffset b) (entriesIn k b) in
-    let path : pathFrom k maxLevels b key (rootOffset b) ≡ record { levels = suc h; run = d } = path-is k key b h maxLevels (rootOffset b) (omega (arith, s .levels)) (sound-shaped b s) in
-    let same : run bytesOrder (capacity k) key h (indexTree b h) ≡ d = ap (run bytesOrder (capacity k) key h) (sym (sound-tree b s)) ∙ run-read bytesOrder (entriesIn k b) (capacity k) key h (rootOffset b) in
+    let path : pathFrom k maxLevels b key (rootOffset b) ≡ record { levels = suc h; run = d } =
+    path-is k key b h maxLevels (rootOffset b) (omega (arith, s .levels)) (sound-shaped b s) in
+    let same : run bytesOrder (capacity k) key h (indexTree b h) ≡ d =
+    ap (run bytesOrder (capacity k) key h) (sym (sound-tree b s)) ∙ run-read bytesOrder (entriesIn k b) (capacity k) key h (rootOffset b) in
     let size = fileSize b + pageSize * cond (eqb d (suc h)) (suc d) d in
     rw (path, same, less-both (length b) maxBytes size, add-one d, add-one (suc h)) (or-assoc (ltb (length b) size) (ltb maxBytes size) _)

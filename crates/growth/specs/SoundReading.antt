@@ -35,11 +35,13 @@ unfolding entriesAt itemsAt
 entries-longer k size b p l t = rw (t, page-longer p l t)
 
 -- so what is read from a root is the same, where all pages reached are pages of the file
-pub read-longer : (k size : ℕ) (b : List ℕ) (h root : ℕ) → size ≤ length b → ((z : ℕ) → 0 < occ z (pages h (readTree (entriesAt k size b) h root)) → isPage size z ≡ true)
+pub read-longer : (k size : ℕ) (b : List ℕ) (h root : ℕ) → size ≤ length b
+    → ((z : ℕ) → 0 < occ z (pages h (readTree (entriesAt k size b) h root)) → isPage size z ≡ true)
     → readTree (entriesIn k b) h root ≡ readTree (entriesAt k size b) h root
 read-longer k size b h root l inside = frame (entriesAt k size b) (entriesIn k b) (suc h) ([], root) (λ z o. entries-longer k size b z l (inside z o))
 
-pub read-shorter : (k size : ℕ) (b : List ℕ) (h root : ℕ) → size ≤ length b → ((z : ℕ) → 0 < occ z (pages h (readTree (entriesIn k b) h root)) → isPage size z ≡ true)
+pub read-shorter : (k size : ℕ) (b : List ℕ) (h root : ℕ) → size ≤ length b
+    → ((z : ℕ) → 0 < occ z (pages h (readTree (entriesIn k b) h root)) → isPage size z ≡ true)
     → readTree (entriesAt k size b) h root ≡ readTree (entriesIn k b) h root
 read-shorter k size b h root l inside = frame (entriesIn k b) (entriesAt k size b) (suc h) ([], root) (λ z o. sym (entries-longer k size b z l (inside z o)))
 
@@ -63,7 +65,8 @@ module _ (k : ℕ) (b : List ℕ) where
       → ((e : List ℕ × ℕ) → ((z : ℕ) → 0 < occ z (pages h (readTree S h (e .1))) → Usable b z)
       → ((j z : ℕ) → j ≤ h → 0 < occ z (levelUnder j (suc h) (e .0, readTree S h (e .1))) → leafBit (attributeAt b z) ≡ eqb j 0)
       → Sized (capacity k) h (readTree S h (e .1)) → Shaped k h b (e .1))
-      → (es : List (List ℕ × ℕ)) → PagesUsable h es → LeavesBelow h es → All (SizedUnder (capacity k) (suc h)) (map (readEntry S (suc h)) es) → All (λ e. Shaped k h b (e .1)) es
+      → (es : List (List ℕ × ℕ)) → PagesUsable h es → LeavesBelow h es → All (SizedUnder (capacity k) (suc h)) (map (readEntry S (suc h)) es)
+      → All (λ e. Shaped k h b (e .1)) es
   shaped-level h rec [] usable leaves sized = tt
   shaped-level h rec (e ∷ es) usable leaves sized =
       let here = pagesUnder (suc h) (readEntry S (suc h) e) in
@@ -72,17 +75,21 @@ module _ (k : ℕ) (b : List ℕ) where
       let rest-at : ℕ → List ℕ = λ j. concatMap (levelUnder j (suc h)) (map (readEntry S (suc h)) es) in (
         rec e (λ z o. usable z (omega (arith, occ-append z here rest))) (λ j z l o. leaves j z l (omega (arith, occ-append z (here-at j) (rest-at j))))
             (least-one h (length (map (readEntry S h) (S (e .1)))) (sized .0 .0), sized .0 .1, sized .0 .2),
-        shaped-level h rec es (λ z o. usable z (omega (arith, occ-append z here rest))) (λ j z l o. leaves j z l (omega (arith, occ-append z (here-at j) (rest-at j)))) (sized .1),
+        shaped-level h rec es (λ z o. usable z (omega (arith, occ-append z here rest)))
+            (λ j z l o. leaves j z l (omega (arith, occ-append z (here-at j) (rest-at j)))) (sized .1),
       )
 
   shaped-from : (h p : ℕ) (a : List ℕ) → ((z : ℕ) → 0 < occ z (pages h (readTree S h p)) → Usable b z)
-      → ((j z : ℕ) → j ≤ h → 0 < occ z (levelUnder j (suc h) (a, readTree S h p)) → leafBit (attributeAt b z) ≡ eqb j 0) → Sized (capacity k) h (readTree S h p) → Shaped k h b p
-  shaped-from zero p a usable leaves sized = (usable p (occ-here p (concatMap (pagesUnder zero) (map (readEntry S zero) (S p)))), leaves zero p (omega arith) (occ-here p []))
+      → ((j z : ℕ) → j ≤ h → 0 < occ z (levelUnder j (suc h) (a, readTree S h p)) → leafBit (attributeAt b z) ≡ eqb j 0)
+      → Sized (capacity k) h (readTree S h p) → Shaped k h b p
+  shaped-from zero p a usable leaves sized =
+      (usable p (occ-here p (concatMap (pagesUnder zero) (map (readEntry S zero) (S p)))), leaves zero p (omega arith) (occ-here p []))
   shaped-from (suc h) p a usable leaves sized = (
     usable p (occ-here p (concatMap (pagesUnder (suc h)) (map (readEntry S (suc h)) (S p)))),
     leaves (suc h) p (omega arith) (rw (eq-eqb (suc h) (suc h) refl) (occ-here p [])) ∙ ne-eqb (suc h) 0 (λ q. omega arith),
     nonEmpty-length (S p) (rw (length-map (S p) (readEntry S (suc h))) at (sized .0)),
-    shaped-level h (λ e. shaped-from h (e .1) (e .0)) (S p) (λ z o. usable z (omega arith)) (λ j z l o. leaves j z (omega arith) (rw (ne-eqb j (suc h) (λ q. omega arith)) o)) (sized .2),
+    shaped-level h (λ e. shaped-from h (e .1) (e .0)) (S p) (λ z o. usable z (omega arith))
+        (λ j z l o. leaves j z (omega arith) (rw (ne-eqb j (suc h) (λ q. omega arith)) o)) (sized .2),
   )
 
 module _ (b : List ℕ) (s : Sound b) where
@@ -106,5 +113,6 @@ module _ (b : List ℕ) (s : Sound b) where
       let h = s .height in
       shaped-from (keyLength b) b h (rootOffset b) []
       (λ z o. sound-usable z (subst (λ (t : Tree (List ℕ) h). 0 < occ z (pages h t)) sound-tree o))
-      (λ j z l o. occ-all (λ p. leafBit (attributeAt b p) ≡ eqb j 0) z (level j h (indexTree b h)) (s .leafBits j l) (subst (λ (t : Tree (List ℕ) h). 0 < occ z (level j h t)) sound-tree o))
+      (λ j z l o. occ-all (λ p. leafBit (attributeAt b p) ≡ eqb j 0) z (level j h (indexTree b h)) (s .leafBits j l)
+      (subst (λ (t : Tree (List ℕ) h). 0 < occ z (level j h t)) sound-tree o))
       (subst (λ (t : Tree (List ℕ) h). Sized (capacity (keyLength b)) h t) (sym sound-tree) (sound-sized b s))

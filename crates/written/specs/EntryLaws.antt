@@ -43,7 +43,8 @@ pub page-of : {m n : ℕ} (p : ℕ) → m ≡ n → isPage n p ≡ true → isPa
 page-of p e t = ap (λ (l : ℕ). isPage l p) e ∙ t
 
 -- a store into the page at x leaves the bytes of the page at z
-module _ (b : List ℕ) (x at : ℕ) (ys : List ℕ) (hx : x % pageSize ≡ 0) (low : x ≤ at) (high : at + length ys ≤ x + pageSize) (z : ℕ) (hz : z % pageSize ≡ 0) (ne : z ≡ x → ⊥) where
+module _ (b : List ℕ) (x at : ℕ) (ys : List ℕ) (hx : x % pageSize ≡ 0) (low : x ≤ at) (high : at + length ys ≤ x + pageSize) (z : ℕ)
+    (hz : z % pageSize ≡ 0) (ne : z ≡ x → ⊥) where
   pub window-other : (i n : ℕ) → z ≤ i → i + n ≤ z + pageSize → window (put b at ys) i n ≡ window b i n
   window-other i n l m = either (ltb z x)
       (λ e. window-before b at ys i n (omega (arith, ltb-true z x e)))
@@ -58,11 +59,13 @@ module _ (k : ℕ) where
       (λ t. rw (e, t))
 
   -- a store into the page at x leaves the entries of the others
-  items-other : (b : List ℕ) (x at : ℕ) (ys : List ℕ) → x % pageSize ≡ 0 → x ≤ at → at + length ys ≤ x + pageSize → (z : ℕ) → (z ≡ x → ⊥) → itemsIn k (put b at ys) z ≡ itemsIn k b z
+  items-other : (b : List ℕ) (x at : ℕ) (ys : List ℕ) → x % pageSize ≡ 0 → x ≤ at → at + length ys ≤ x + pageSize → (z : ℕ) → (z ≡ x → ⊥)
+      → itemsIn k (put b at ys) z ≡ itemsIn k b z
   items-other b x at ys hx low high z ne =
       let clear : isPage (length b) z ≡ true → (i n : ℕ) → z ≤ i → i + n ≤ z + pageSize → window (put b at ys) i n ≡ window b i n =
       λ t. window-other b x at ys hx low high z (is-page (length b) z t .whole) ne in
-      items-cong b (put b at ys) z (length-put b at ys) (λ t. clear t (z + 2) 2 (omega arith) (omega arith)) (λ t. clear t (z + entriesStart) entryArea (omega arith) (omega arith))
+      items-cong b (put b at ys) z (length-put b at ys) (λ t. clear t (z + 2) 2 (omega arith) (omega arith))
+      (λ t. clear t (z + entriesStart) entryArea (omega arith) (omega arith))
 
   -- a store into a page's attribute, into its links or into the header leaves all entries
   pub entries-attribute : (b : List ℕ) (x : ℕ) (ys : List ℕ) → x % pageSize ≡ 0 → length ys ≤ 2 → entriesIn k (put b x ys) ≡ entriesIn k b
@@ -71,7 +74,8 @@ module _ (k : ℕ) where
       (λ t. window-after b x ys (x + 2) 2 (omega arith)) (λ t. window-after b x ys (x + entriesStart) entryArea (omega arith))))
       (λ e. items-other b x x ys hx (omega arith) (omega arith) z (eqb-false z x e))))
 
-  pub entries-links : (b : List ℕ) (x at : ℕ) (ys : List ℕ) → x % pageSize ≡ 0 → x + 4 ≤ at → at + length ys ≤ x + entriesStart → entriesIn k (put b at ys) ≡ entriesIn k b
+  pub entries-links : (b : List ℕ) (x at : ℕ) (ys : List ℕ) → x % pageSize ≡ 0 → x + 4 ≤ at → at + length ys ≤ x + entriesStart
+      → entriesIn k (put b at ys) ≡ entriesIn k b
   entries-links b x at ys hx low high = fun-ext (λ z. ap (map numbered) (either (eqb z x)
       (λ e. rw (eqb-true z x e) (items-cong b (put b at ys) x (length-put b at ys)
       (λ t. window-before b at ys (x + 2) 2 (omega arith)) (λ t. window-after b at ys (x + entriesStart) entryArea (omega arith))))
@@ -91,7 +95,8 @@ module _ (k : ℕ) where
   unfolding area
   items-area es f = items-encode k es (replicate (entryArea - length (encode es)) 0) f
 
-  items-are : (b : List ℕ) (p : ℕ) (es : List Item) → isPage (length b) p ≡ true → countAt b p ≡ length es → window b (p + entriesStart) entryArea ≡ area es → All (Fit k) es → length es ≤ capacity k → itemsIn k b p ≡ es
+  items-are : (b : List ℕ) (p : ℕ) (es : List Item) → isPage (length b) p ≡ true → countAt b p ≡ length es
+      → window b (p + entriesStart) entryArea ≡ area es → All (Fit k) es → length es ≤ capacity k → itemsIn k b p ≡ es
   unfolding itemsAt
   items-are b p es t c a f h =
       let m : min (length es) (capacity k) ≡ length es = omega arith in
@@ -114,7 +119,8 @@ module _ (k : ℕ) where
       let l1 = length-put b (p + 2) n in
       let l2 = length-put b1 (p + entriesStart) (area es) ∙ l1 in
       let count : countAt b2 p ≡ length es =
-      le16-same b2 b1 (p + 2) (window-before b1 (p + entriesStart) (area es) (p + 2) 2 (omega arith)) ∙ le16-put b (p + 2) (length es) (small-count es h) (omega (arith, g .high)) in
+      le16-same b2 b1 (p + 2) (window-before b1 (p + entriesStart) (area es) (p + 2) 2 (omega arith))
+      ∙ le16-put b (p + 2) (length es) (small-count es h) (omega (arith, g .high)) in
       let here : itemsIn k b2 p ≡ es =
       items-are b2 p es (page-of p l2 t) count (window-same b1 (p + entriesStart) (area es) entryArea all (omega (arith, g .high, l1))) f h in
       fun-ext (λ z. either (eqb z p)
@@ -181,7 +187,8 @@ module _ (k : ℕ) where
   -- a page that is split keeps the lower half of the entries, and the new page has the others
   pub entries-split : (b : List ℕ) (p : ℕ) (es : List Item) (q : ℕ) → isPage (length b) p ≡ true → isPage (length b) q ≡ true → All (Fit k) es
       → 1 < capacity k → length es ≤ suc (capacity k)
-      → entriesIn k (splitPage b p es q) ≡ write (write (entriesIn k b) p (map numbered (take (half (length es)) es))) q (map numbered (drop (half (length es)) es))
+      → entriesIn k (splitPage b p es q) ≡ write (write (entriesIn k b) p (map numbered (take (half (length es)) es))) q
+      (map numbered (drop (half (length es)) es))
   unfolding splitPage
   entries-split b p es q tp tq f two few =
       let m = half (length es) in
@@ -234,7 +241,8 @@ raise-none key [] h = refl
 raise-none key (x ∷ xs) h = raise-same key (x ∷ xs) (rw (le-leb 1 (length (x ∷ xs)) (omega arith)) at h)
 
 module _ (k : ℕ) where
-  items-last : (key : List ℕ) (n : ℕ) (xs : List ℕ) → length key ≡ k → suc n * (k + 4) ≤ length xs → items k (suc n) (put xs (n * (k + 4)) key) ≡ lastTo key (items k (suc n) xs)
+  items-last : (key : List ℕ) (n : ℕ) (xs : List ℕ) → length key ≡ k → suc n * (k + 4) ≤ length xs
+      → items k (suc n) (put xs (n * (k + 4)) key) ≡ lastTo key (items k (suc n) xs)
   unfolding items window
   items-last key zero xs e h =
       let o : suc zero * (k + 4) ≡ k + 4 = omega arith in
@@ -270,8 +278,15 @@ module _ (k : ℕ) where
       let n : readCount k b p ≡ suc m = sym (length-items k (readCount k b p) w) ∙ sym (ap length (items-read b p t)) ∙ c in
       let fits : suc m * (k + 4) ≤ entryArea = entries-fit k (suc m) (omega (arith, items-few k b p)) in
       let s : suc m * (k + 4) ≡ m * (k + 4) + (k + 4) = suc-mul m (k + 4) in
-      let count : readCount k (put b at key) p ≡ suc m = ap (λ (j : ℕ). min j (capacity k)) (le16-same (put b at key) b (p + 2) (window-before b at key (p + 2) 2 (omega arith))) ∙ n in
-      rw (items-read (put b at key) p (page-of p (length-put b at key) t), items-read b p t, count, n, window-inside b (m * (k + 4)) key (p + entriesStart) entryArea (omega arith))
+      let count : readCount k (put b at key) p ≡ suc m =
+      ap (λ (j : ℕ). min j (capacity k)) (le16-same (put b at key) b (p + 2) (window-before b at key (p + 2) 2 (omega arith))) ∙ n in
+      rw (
+        items-read (put b at key) p (page-of p (length-put b at key) t),
+        items-read b p t,
+        count,
+        n,
+        window-inside b (m * (k + 4)) key (p + entriesStart) entryArea (omega arith),
+      )
       (items-last key m w lk (rw (length-window b (p + entriesStart) entryArea (omega (arith, is-page (length b) p t .high))) fits))
 
   -- where no page splits below it, a page has the larger key in the place of the one gone through

@@ -70,7 +70,8 @@ module _ (b : List ℕ) (x : ℕ) (tx : isPage (length b) x ≡ true) (z : ℕ) 
   -- a store into the page's entries, its count, its attribute, its left link, its right link
   put-entries : (at : ℕ) (ys : List ℕ) → x + entriesStart ≤ at → at + length ys ≤ x + pageSize → SameHead b (put b at ys) z
   put-entries at ys l m =
-      let free : (i n : ℕ) → z ≤ i → i + n ≤ z + entriesStart → window (put b at ys) i n ≡ window b i n = λ i n u v. kept at ys i n (omega arith) m u (omega arith) (λ e. inl (omega arith)) in
+      let free : (i n : ℕ) → z ≤ i → i + n ≤ z + entriesStart → window (put b at ys) i n ≡ window b i n =
+      λ i n u v. kept at ys i n (omega arith) m u (omega arith) (λ e. inl (omega arith)) in
       record {
         attributeIs = le16-same (put b at ys) b z (free z 2 (omega arith) (omega arith));
         countIs = le16-same (put b at ys) b (z + 2) (free (z + 2) 2 (omega arith) (omega arith));
@@ -146,14 +147,20 @@ put-header b at ys h z t =
 module _ (k : ℕ) where
   -- a page that gets other entries
   module _ (b : List ℕ) (p : ℕ) (es : List Item) (tp : isPage (length b) p ≡ true) (f : All (Fit k) es) (few : length es ≤ capacity k) where
-    pub with-head : (z : ℕ) → isPage (length b) z ≡ true → Head (withEntries b p es) z (attributeAt b z) (cond (eqb z p) (length es) (countAt b z)) (leftAt b z) (rightAt b z)
+    pub with-head : (z : ℕ) → isPage (length b) z ≡ true → Head (withEntries b p es) z (attributeAt b z) (cond (eqb z p) (length es) (countAt b z))
+        (leftAt b z) (rightAt b z)
     unfolding withEntries
     with-head z tz =
         let b1 = put b (p + 2) (toLe16 (length es)) in
         let l1 : length b1 ≡ length b = length-put b (p + 2) (toLe16 (length es)) in
         let s1 = put-count b p tp z tz (length es) (omega (arith, capacity-small k)) in
         let s2 = put-entries b1 p (page-of p l1 tp) z (page-of z l1 tz) (p + entriesStart) (area es) (omega arith) (omega (arith, length-area k es f few)) in
-        record { attributeIs = s2 .attributeIs ∙ s1 .attributeIs; countIs = s2 .countIs ∙ s1 .countIs; leftIs = s2 .leftIs ∙ s1 .leftIs; rightIs = s2 .rightIs ∙ s1 .rightIs }
+        record {
+          attributeIs = s2 .attributeIs ∙ s1 .attributeIs;
+          countIs = s2 .countIs ∙ s1 .countIs;
+          leftIs = s2 .leftIs ∙ s1 .leftIs;
+          rightIs = s2 .rightIs ∙ s1 .rightIs;
+        }
 
     pub with-header : SameHeader b (withEntries b p es)
     unfolding withEntries
@@ -175,13 +182,15 @@ module _ (k : ℕ) where
         (λ e. rw e same)
 
     pub raised-head : (z : ℕ) → isPage (length b) z ≡ true → SameHead b (raised k b key p) z
-    raised-head z tz = raised-as (λ c. SameHead b c z) (record { attributeIs = refl; countIs = refl; leftIs = refl; rightIs = refl }) (λ at l m. put-entries b p tp z tz at key l m)
+    raised-head z tz = raised-as (λ c. SameHead b c z) (record { attributeIs = refl; countIs = refl; leftIs = refl; rightIs = refl })
+        (λ at l m. put-entries b p tp z tz at key l m)
 
     pub raised-header : SameHeader b (raised k b key p)
     raised-header = let g = is-page (length b) p tp .low in raised-as (λ c. SameHeader b c) refl (λ at l m. put-outside b at key (omega arith))
 
   -- a page that is written whole
-  module _ (b : List ℕ) (q a l r : ℕ) (es : List Item) (tq : isPage (length b) q ≡ true) (ha : a < 2 ^ 16) (hl : l < 2 ^ 32) (hr : r < 2 ^ 32) (f : All (Fit k) es) (few : length es ≤ capacity k) where
+  module _ (b : List ℕ) (q a l r : ℕ) (es : List Item) (tq : isPage (length b) q ≡ true) (ha : a < 2 ^ 16) (hl : l < 2 ^ 32) (hr : r < 2 ^ 32)
+      (f : All (Fit k) es) (few : length es ≤ capacity k) where
     abbrev b1 : List ℕ
     b1 = put b q (toLe16 a)
 
@@ -191,7 +200,8 @@ module _ (k : ℕ) where
     abbrev b3 : List ℕ
     b3 = put b2 (q + 8) (toLe32 r)
 
-    pub new-head : (z : ℕ) → isPage (length b) z ≡ true → Head (newPage b q a l r es) z (cond (eqb z q) a (attributeAt b z)) (cond (eqb z q) (length es) (countAt b z)) (cond (eqb z q) l (leftAt b z)) (cond (eqb z q) r (rightAt b z))
+    pub new-head : (z : ℕ) → isPage (length b) z ≡ true → Head (newPage b q a l r es) z (cond (eqb z q) a (attributeAt b z))
+        (cond (eqb z q) (length es) (countAt b z)) (cond (eqb z q) l (leftAt b z)) (cond (eqb z q) r (rightAt b z))
     new-head z tz =
         let l1 : length b1 ≡ length b = length-put b q (toLe16 a) in
         let l2 : length b2 ≡ length b = length-put b1 (q + 4) (toLe32 l) ∙ l1 in
