@@ -22,7 +22,7 @@ use Rattle.insert.specs.Fresh.{expressionGood, freshBuffer, freshRule}
 use Rattle.insert.specs.declared.Insertion.{Insertion}
 use Rattle.insert.specs.declared.Insertion.the-variants.{Accepted, Refused}
 use Rattle.growth.specs.InsertHeads.{octets-plain}
-use Rattle.growth.specs.FreshLaws.{fresh-is-sound}
+use Rattle.growth.specs.FreshLaws.{FreshGiven, fresh-is-sound}
 use Rattle.book.specs.Book.{Calls, insertionAnswer, answerTo, bufferAfter, noRoomFor, fits, FourBytes, answersTo, bufferAt, VisitsLevels}
 use Rattle.book.specs.Book.{LeavesBuffer, Each, BookKept}
 use Rattle.book.specs.LookupSound.{LookupSound}
