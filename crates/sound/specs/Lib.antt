@@ -7,4 +7,5 @@ pub mod MarkLaws
 pub mod LevelLaws
 pub mod ShapeLaws
 pub mod Accepted
+pub mod Example
 pub mod IndexLaws

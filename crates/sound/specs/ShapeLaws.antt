@@ -35,7 +35,7 @@ use Rattle.sound.specs.EntryLaws.{Climbs, Exactly, climbs-ascend, ascend
 use Rattle.sound.specs.LevelLaws.{LevelGood, leaf-bit}
 
 -- attributes
-root-bit : (root leaf : Bool) → rootBit (attributeOf root leaf) ≡ root
+pub root-bit : (root leaf : Bool) → rootBit (attributeOf root leaf) ≡ root
 root-bit true true = refl
 root-bit true false = refl
 root-bit false true = refl
@@ -307,24 +307,26 @@ module _ (b : List ℕ) where
         links = generation-level B [] r h (λ j ps. Linked noPage (linksOf b) noPage ps) (λ i l. s .levels i l .linked);
       }
 
-  pub sound-shape : Sound b → Shape b (keyLength b) (fileSize b) (rootOffset b)
-  sound-shape s =
+  sound-once : (s : Sound b) (p : ℕ) → isPage (fileSize b) p ≡ true → occ p (reached (entriesAt (keyLength b) (fileSize b) b) (suc (s .height)) (([], rootOffset b) ∷ [])) ≡ 1
+  sound-once s p o = sym (tree-pages B [] r (s .height) p) ∙ s .once p o
+
+  -- and back
+  pub sound-levels : (s : Sound b) (i : ℕ) → i ≤ s .height → LevelGood b (keyLength b) (fileSize b) (eqb i 0) (eqb i (s .height)) (generationOf b (keyLength b) (fileSize b) (rootOffset b) (s .height) i)
+  sound-levels s i l =
       let h = s .height in
-      let few = s .levels in
       let g = good-header b (s .header) in
       let inside : Inside b (keyLength b) (fileSize b) (rootOffset b) (s .height) = pages-generation B [] r h (λ p. isPage (fileSize b) p ≡ true) (s .inside) in
       let counts : Counts b (keyLength b) (fileSize b) (rootOffset b) (s .height) = pages-generation B [] r h (Count b (keyLength b) h) (s .counts) in
-      let once : (p : ℕ) → isPage (fileSize b) p ≡ true → occ p (reached (entriesAt (keyLength b) (fileSize b) b) (suc (s .height)) (([], rootOffset b) ∷ [])) ≡ 1 = λ p o. sym (tree-pages B [] r h p) ∙ s .once p o in
       let attributes = pages-generation B [] r h (λ p. attributeAt b p ≤ 3) (s .attributes) in
       let rootBits = pages-generation B [] r h (λ p. rootBit (attributeAt b p) ≡ eqb p (rootOffset b)) (s .rootBits) in
       let leafBits = level-generation B [] r h (λ j ps. All (λ p. leafBit (attributeAt b p) ≡ eqb j 0) ps) (s .leafBits) in
       record {
-        height = h;
-        few = omega arith;
-        levels = λ i l. record {
-          fit = fits-of b k F r h i l (generationOf b k F r h i) (inside i l) (attributes i l) (rootBits i l) (level-root b k F r h (once r (g .root)) i l) (leafBits i l) (counts i l);
-          linked = level-generation B [] r h (λ j ps. Linked noPage (linksOf b) noPage ps) (s .links) i l;
-          checked = clauses-checked b k F r h inside counts (g .most) (s .ascending) (s .records) (s .greatest) i l;
-        };
-        once = once;
+        fit = fits-of b k F r h i l (generationOf b k F r h i) (inside i l) (attributes i l) (rootBits i l) (level-root b k F r h (sound-once s r (g .root)) i l) (leafBits i l) (counts i l);
+        linked = level-generation B [] r h (λ j ps. Linked noPage (linksOf b) noPage ps) (s .links) i l;
+        checked = clauses-checked b k F r h inside counts (g .most) (s .ascending) (s .records) (s .greatest) i l;
       }
+
+  pub sound-shape : Sound b → Shape b (keyLength b) (fileSize b) (rootOffset b)
+  sound-shape s =
+      let few = s .levels in
+      record { height = s .height; few = omega arith; levels = sound-levels s; once = sound-once s }

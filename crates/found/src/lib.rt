@@ -1,0 +1,1 @@
+// Specifications only: specs/ has the laws of lookup on a sound index.
