@@ -25,7 +25,6 @@ use Rattle.growth.specs.InsertHeads.{octets-plain}
 use Rattle.growth.specs.FreshLaws.{FreshGiven, fresh-is-sound}
 use Rattle.book.specs.Book.{Calls, insertionAnswer, answerTo, bufferAfter, noRoomFor, fits, FourBytes, answersTo, bufferAt, VisitsLevels}
 use Rattle.book.specs.Book.{LeavesBuffer, Each, BookKept}
-use Rattle.book.specs.LookupSound.{LookupSound}
 use Rattle.book.specs.CallLaws.{Kept, height-is, readIndex, keeping, kept-sound, visits-levels, leaves-buffer, same-answer, same-rule, keeps, same-next}
 
 -- the first n of calls that all have a property have it
@@ -42,23 +41,23 @@ book-take k zero calls b book = refl
 book-take k (suc n) [] b book = refl
 book-take k (suc n) (c ∷ calls) b book = book-take k n calls (bufferAfter c b) _
 
-module _ (lookup-sound : LookupSound) (k size : ℕ) (two : 1 < capacity k) where
+module _ (k size : ℕ) (two : 1 < capacity k) where
   each : (P : Call (List ℕ) → List ℕ → Type 0) → ((c : Call (List ℕ)) (b : List ℕ) → Kept k size b → P c b) → (calls : Calls) → All FourBytes calls
       → (b : List ℕ) → Kept k size b → Each P calls b
   each P ok [] o b kept = tt
-  each P ok (c ∷ calls) o b kept = (ok c b kept, each P ok calls (o .1) (bufferAfter c b) (keeps lookup-sound k size b kept c (o .0)))
+  each P ok (c ∷ calls) o b kept = (ok c b kept, each P ok calls (o .1) (bufferAfter c b) (keeps k size b kept c (o .0)))
 
   -- the theory's theorem, with buffers for states
   claim : (calls : Calls) → All FourBytes calls → (b : List ℕ) → Kept k size b
       → BookClaim bytesOrder (fits k) answerTo bufferAfter (λ b. held (readIndex b)) noRoomFor calls b (held (readIndex b))
   claim = book-claim (keeping k size) two readIndex answerTo bufferAfter noRoomFor (Kept k size) FourBytes
-      (λ b i. kept-sound lookup-sound k size b i) (λ c b o i. keeps lookup-sound k size b i c o) (λ c b o i. same-answer lookup-sound k size b i c)
-      (λ c b o i. same-next lookup-sound k size b i c o) (λ c b o i. same-rule lookup-sound k size b i c)
+      (λ b i. kept-sound k size b i) (λ c b o i. keeps k size b i c o) (λ c b o i. same-answer k size b i c)
+      (λ c b o i. same-next k size b i c o) (λ c b o i. same-rule k size b i c)
 
   keeps-all : (calls : Calls) → All FourBytes calls → (b : List ℕ) → Kept k size b → Kept k size (finalOf bufferAfter calls b)
   keeps-all = list-keeps (keeping k size) two readIndex answerTo bufferAfter noRoomFor (Kept k size) FourBytes
-      (λ b i. kept-sound lookup-sound k size b i) (λ c b o i. keeps lookup-sound k size b i c o) (λ c b o i. same-answer lookup-sound k size b i c)
-      (λ c b o i. same-next lookup-sound k size b i c o) (λ c b o i. same-rule lookup-sound k size b i c)
+      (λ b i. kept-sound k size b i) (λ c b o i. keeps k size b i c o) (λ c b o i. same-answer k size b i c)
+      (λ c b o i. same-next k size b i c o) (λ c b o i. same-rule k size b i c)
 
   -- a list of calls on a buffer without pairs
   list-kept : (calls : Calls) → All FourBytes calls → (b : List ℕ) → Kept k size b → held (readIndex b) ≡ [] → BookKept k calls b
@@ -75,7 +74,7 @@ module _ (lookup-sound : LookupSound) (k size : ℕ) (two : 1 < capacity k) wher
           sound = after .sound;
           leaves = ap (λ (h : ℕ). held (indexOf (bufferAt n calls b) h)) (sym (height-is (bufferAt n calls b) (after .sound))) ∙ c ∙ book-take k n calls b [];
         };
-    visits = each VisitsLevels (λ c b i. visits-levels lookup-sound k size b i c) calls o b kept;
+    visits = each VisitsLevels (λ c b i. visits-levels k size b i c) calls o b kept;
     buffers = each LeavesBuffer (λ c b i. leaves-buffer c b) calls o b kept;
   }
 
@@ -113,14 +112,14 @@ unfolding keyLengthGood
 key-high k e = leb-true k maxKey (both (leb 1 k) (leb k maxKey) e .1)
 
 -- Theorem: demand 3
-pub demand-3 : LookupSound → (b : List ℕ) (k : ℕ) (e : List ℕ) → All (λ x. x < 256) b → freshRule b k e .answer ≡ Accepted → (calls : Calls)
+pub demand-3 : (b : List ℕ) (k : ℕ) (e : List ℕ) → All (λ x. x < 256) b → freshRule b k e .answer ≡ Accepted → (calls : Calls)
     → All FourBytes calls
     → BookKept k calls (freshRule b k e .after)
-demand-3 lookup-sound b k e octets a calls o =
+demand-3 b k e octets a calls o =
     let f = fresh-accepted k e b a in
     let given : FreshGiven k e b = record { key = f .keyGood; expression = f .expressionGood; room = leb-true 1024 (length b) (f .roomGood); plain = octets-plain b octets } in
     let i = fresh-is-sound k e b given in
     let kept : Kept k (length b) (freshBuffer k e b) = record { sound = i .sound; keyIs = i .keyIs; as-long = i .as-long; plain = i .plain } in
     let empty : held (readIndex (freshBuffer k e b)) ≡ [] =
     ap (λ (h : ℕ). held (indexOf (freshBuffer k e b) h)) (height-is (freshBuffer k e b) (i .sound)) ∙ ap held (i .index) in
-    rw (f .leaves) (list-kept lookup-sound k (length b) (omega (arith, capacity-least k (key-high k (f .keyGood)))) calls o (freshBuffer k e b) kept empty)
+    rw (f .leaves) (list-kept k (length b) (omega (arith, capacity-least k (key-high k (f .keyGood)))) calls o (freshBuffer k e b) kept empty)

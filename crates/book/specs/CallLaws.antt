@@ -10,10 +10,10 @@ use lib.Dec.{eqb}
 use lib.ListN.{length}
 use borrow.Author.Tests.{eqb-true}
 use Rattle.basis.specs.Tests.{either}
-use Rattle.tree.specs.Book.{Call, insertion, lookupOf, accepted, found, absent, refusedIf, isPresent, foundOrAbsent, isAccepted}
+use Rattle.tree.specs.Book.{Call, insertion, lookupOf, accepted, absent, refusedIf, isPresent, foundOrAbsent, isAccepted}
 use Rattle.tree.specs.Index.{Index, held, Setting, outOfRoom, noRoomFor as noRoomTo, answer, inserted, next}
 use Rattle.tree.specs.IndexLaws.{accepted-acceptable}
-use Rattle.tree.specs.Ordered.{lookup-find, visited-found}
+use Rattle.tree.specs.Ordered.{lookup-find}
 use Rattle.tree.specs.Pairs.{find}
 use Rattle.tree.specs.SoundIndex.{SoundIndex}
 use Rattle.tree.specs.Tree.{lookup, visited}
@@ -24,6 +24,7 @@ use Rattle.page.specs.declared.RecordNumber.{RecordNumber}
 use Rattle.lookup.specs.Lookup.{lookupRule, answerNumber, answerPages}
 use Rattle.lookup.specs.declared.Answer.{Answer as Looked}
 use Rattle.lookup.specs.declared.Answer.the-variants as looked
+use Rattle.found.specs.FoundLaws.{answerOf, lookup-tree, lookup-list, found-pages}
 use Rattle.sound.specs.Accepted.{accepted as audit-accepts}
 use Rattle.sound.specs.Sound.{indexTree, Sound}
 use Rattle.sound.specs.Rule.{pagesGood, unmarked}
@@ -36,7 +37,6 @@ use Rattle.growth.specs.InsertHeads.{Plain}
 use Rattle.growth.specs.RoomLaws.{sound-levels, room-is}
 use Rattle.growth.specs.InsertSound.{Accepts, insert-keeps-sound}
 use Rattle.book.specs.Book.{insertionAnswer, lookupAnswer, answerTo, bufferAfter, noRoomFor, fits, FourBytes, VisitsLevels, LeavesBuffer}
-use Rattle.book.specs.LookupSound.{replyOf, LookupSound}
 
 -- what each call keeps of a buffer of so many bytes, for keys of k bytes
 pub record Kept (k size : ℕ) (b : List ℕ) : Type 0 where
@@ -122,13 +122,13 @@ leaves-buffer (insertion key r) b =
 leaves-buffer (lookupOf key) b = tt
 
 -- an answer by what was found
-reply-answer : (o : Option ℕ) (n : ℕ) → lookupAnswer (replyOf o n) ≡ foundOrAbsent o
-reply-answer none n = refl
-reply-answer (some r) n = refl
+answer-reply : (o : Option ℕ) (n : ℕ) → lookupAnswer (answerOf o n) ≡ foundOrAbsent o
+answer-reply none n = refl
+answer-reply (some r) n = refl
 
-reply-found : (o : Option ℕ) (n : ℕ) → isFound (replyOf o n) ≡ isPresent o
-reply-found none n = refl
-reply-found (some r) n = refl
+answer-found : (o : Option ℕ) (n : ℕ) → isFound (answerOf o n) ≡ isPresent o
+answer-found none n = refl
+answer-found (some r) n = refl
 
 -- and back
 recordIn : Looked → Option ℕ
@@ -136,16 +136,12 @@ recordIn (looked.Found r pages) = some (r .0)
 recordIn (looked.Absent pages) = none
 recordIn (looked.Refused n) = none
 
-reply-record : (o : Option ℕ) (n : ℕ) (r : RecordNumber) (m : ℕ) → replyOf o n ≡ looked.Found r m → o ≡ some (r .0)
+answer-record : (o : Option ℕ) (n : ℕ) (r : RecordNumber) (m : ℕ) → answerOf o n ≡ looked.Found r m → o ≡ some (r .0)
 unfolding recordIn
-reply-record none n r m e = ap recordIn e
-reply-record (some x) n r m e = ap recordIn e
+answer-record none n r m e = ap recordIn e
+answer-record (some x) n r m e = ap recordIn e
 
-reply-pages : (o : Option ℕ) (n : ℕ) (r : RecordNumber) (m : ℕ) → replyOf o n ≡ looked.Found r m → n ≡ m
-reply-pages none n r m e = ap (λ (a : Looked). answerPages a 0) e
-reply-pages (some x) n r m e = ap (λ (a : Looked). answerPages a 0) e
-
-module _ (lookup-sound : LookupSound) (k size : ℕ) (b : List ℕ) (kept : Kept k size b) where
+module _ (k size : ℕ) (b : List ℕ) (kept : Kept k size b) where
   abbrev s : Sound b
   s = kept .sound
 
@@ -165,10 +161,10 @@ module _ (lookup-sound : LookupSound) (k size : ℕ) (b : List ℕ) (kept : Kept
 
   -- lookup
   found-is : (key : List ℕ) → fits k key ≡ true → lookupRule b key
-      ≡ replyOf (lookup bytesOrder key (heightIn b) (indexTree b (heightIn b))) (length (visited bytesOrder key (heightIn b) (indexTree b (heightIn b))))
+      ≡ answerOf (lookup bytesOrder key (heightIn b) (indexTree b (heightIn b))) (length (visited bytesOrder key (heightIn b) (indexTree b (heightIn b))))
   found-is key f = subst (λ (h : ℕ). lookupRule b key
-      ≡ replyOf (lookup bytesOrder key h (indexTree b h)) (length (visited bytesOrder key h (indexTree b h)))) (sym (height-is b s))
-      (lookup-sound b key s (eqb-true (length key) (keyLength b) (same-fit key ∙ f)))
+      ≡ answerOf (lookup bytesOrder key h (indexTree b h)) (length (visited bytesOrder key h (indexTree b h)))) (sym (height-is b s))
+      (lookup-tree b key s (eqb-true (length key) (keyLength b) (same-fit key ∙ f)))
 
   misfit : (key : List ℕ) → fits k key ≡ false → lookupRule b key ≡ looked.Refused 27
   unfolding lookupRule
@@ -176,7 +172,7 @@ module _ (lookup-sound : LookupSound) (k size : ℕ) (b : List ℕ) (kept : Kept
 
   lookup-answers : (key : List ℕ) → answerTo (lookupOf key) b ≡ answer (keeping k size) (lookupOf key) (readIndex b)
   lookup-answers key = either (fits k key)
-      (λ f. rw (found-is key f, f) (reply-answer (lookup bytesOrder key (heightIn b) (indexTree b (heightIn b))) _))
+      (λ f. rw (found-is key f, f) (answer-reply (lookup bytesOrder key (heightIn b) (indexTree b (heightIn b))) _))
       (λ f. rw (misfit key f, f))
 
   -- a key that is found is found after as many pages as there are levels
@@ -184,12 +180,9 @@ module _ (lookup-sound : LookupSound) (k size : ℕ) (b : List ℕ) (kept : Kept
   visits-levels (insertion key r) = tt
   visits-levels (lookupOf key) = λ s′ r pages e. either (fits k key)
       (λ f.
-      let h = heightIn b in
-      let found : replyOf (lookup bytesOrder key h (indexTree b h)) (length (visited bytesOrder key h (indexTree b h))) ≡ looked.Found r pages =
-      sym (found-is key f) ∙ e in
-      let o = reply-record (lookup bytesOrder key h (indexTree b h)) (length (visited bytesOrder key h (indexTree b h))) r pages found in
-      let n = reply-pages (lookup bytesOrder key h (indexTree b h)) (length (visited bytesOrder key h (indexTree b h))) r pages found in
-      omega (arith, n, visited-found bytesOrder key h (indexTree b h) (r .0) o, height-is b s′))
+        let long = eqb-true (length key) (keyLength b) (same-fit key ∙ f) in
+        let there = answer-record _ _ r pages (sym (lookup-list b key s′ long) ∙ e) in
+        sym (ap (λ (a : Looked). answerPages a 0) (sym (found-pages b key s′ long (r .0) there) ∙ e)))
       (λ f. let z : _≡_ {A = ℕ} 27 0 = ap (λ (a : Looked). answerNumber a) (sym (misfit key f) ∙ e) in absurd (omega arith))
 
   -- insertion
@@ -202,7 +195,7 @@ module _ (lookup-sound : LookupSound) (k size : ℕ) (b : List ℕ) (kept : Kept
 
   same-found : (key : List ℕ) → fits k key ≡ true → isFound (lookupRule b key) ≡ isPresent (find bytesOrder key (held (readIndex b)))
   same-found key f =
-      ap isFound (found-is key f) ∙ reply-found (lookup bytesOrder key (heightIn b) (indexTree b (heightIn b)))
+      ap isFound (found-is key f) ∙ answer-found (lookup bytesOrder key (heightIn b) (indexTree b (heightIn b)))
       (length (visited bytesOrder key (heightIn b) (indexTree b (heightIn b))))
       ∙ ap isPresent (lookup-find bytesOrder key (heightIn b) (indexTree b (heightIn b)) (kept-sound .ordered))
 

@@ -1,4 +1,3 @@
 pub mod Book
-pub mod LookupSound
 pub mod CallLaws
 pub mod BookLaws
