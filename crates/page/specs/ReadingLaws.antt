@@ -21,7 +21,7 @@ unfoldable pub entriesFrom : List ℕ → ℕ → ℕ → ℕ → ℕ → List (
 entriesFrom b k p zero i = []
 entriesFrom b k p (suc n) i = (keyAt b k p i, numberAt b k p i) ∷ entriesFrom b k p n (i + 1)
 
-drop-take : (i m : ℕ) (xs : List ℕ) → drop i (take m xs) ≡ take (m - i) (drop i xs)
+pub drop-take : (i m : ℕ) (xs : List ℕ) → drop i (take m xs) ≡ take (m - i) (drop i xs)
 drop-take zero m xs = rw sub-zero
 drop-take (suc i) zero xs = let z : 0 - suc i ≡ 0 = omega arith in rw z
 drop-take (suc i) (suc m) [] = sym (take-nil (suc m - suc i))
@@ -33,7 +33,7 @@ unfolding window
 window-window b p n i m h = rw (drop-take i n (drop p b), take-take m (n - i) (drop i (drop p b)) (omega arith), drop-drop)
 
 -- entries that end within a part are those of the whole
-items-take : (k n m : ℕ) (xs : List ℕ) → n * (k + 4) ≤ m → items k n (take m xs) ≡ items k n xs
+pub items-take : (k n m : ℕ) (xs : List ℕ) → n * (k + 4) ≤ m → items k n (take m xs) ≡ items k n xs
 unfolding items
 items-take k zero m xs h = refl
 items-take k (suc n) m xs h =

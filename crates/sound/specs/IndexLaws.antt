@@ -9,7 +9,7 @@ use native.Mathlib.Omega.{arith}
 use lib.ListN.{length, length-map}
 use lib.Dec.{eqb, ltb}
 use borrow.Author.Tests.{eqb-true, eqb-false, ltb-true, ltb-false}
-use Rattle.basis.specs.Lists.{All, all-map}
+use Rattle.basis.specs.Lists.{All}
 use Rattle.basis.specs.Tests.{either, contra}
 use Rattle.tree.specs.Lists.{occ}
 use Rattle.tree.specs.ListLaws.{all-map2, occ-here}
@@ -83,37 +83,39 @@ module _ (b : List ℕ) where
   pub sound-linked : (s : Sound b) → LinkedIndex (linksOf b) (indexOf b (s .height))
   sound-linked s = s .links
 
--- and back
-each-occ : (ps : List ℕ) → All (λ p. 0 < occ p ps) ps
-each-occ [] = tt
-each-occ (p ∷ ps) = (occ-here p ps, all-map (λ q. 0 < occ q ps) (λ q. 0 < occ q (p ∷ ps)) (λ q l. omega arith) ps (each-occ ps))
+-- and back: each member of a list occurs in it
+pub all-occ : (P : ℕ → Type 0) (ps : List ℕ) → ((z : ℕ) → 0 < occ z ps → P z) → All P ps
+all-occ P [] f = tt
+all-occ P (p ∷ ps) f = (f p (occ-here p ps), all-occ P ps (λ z l. f z (omega arith)))
+
+-- a page that is reached is one of the file
+pub once-page : {K : Type 0} (i : Index K) → PagesOnce i → (p : ℕ) → 0 < occ p (pages (i .height) (i .tree)) → isPage (i .size) p ≡ true
+once-page i o p l =
+    let ps = pages (i .height) (i .tree) in
+    let aligned = o .aligned in
+    let whole : p % pageSize ≡ 0 = either (eqb (p % pageSize) 0) (λ e. eqb-true _ _ e) (λ e. absurd (omega (arith, o .unaligned p (eqb-false (p % pageSize) 0 e)))) in
+    let below : p < i .size = either (ltb p (i .size)) (λ e. ltb-true _ _ e) (λ e. absurd (omega (arith, o .beyond p (ltb-false p (i .size) e)))) in
+    let some : 0 < p = either (eqb p 0) (λ e. let z : occ p (pages (i .height) (i .tree)) ≡ 0 = ap (λ (q : ℕ). occ q ps) (eqb-true p 0 e) ∙ o .header in absurd (omega arith)) (λ e. omega (arith, eqb-false p 0 e)) in
+    is-page-from (i .size) p (record { whole = whole; low = omega arith; high = omega arith })
 
 module _ (b : List ℕ) (h : ℕ) where
-  once-page : PagesOnce (indexOf b h) → (p : ℕ) → 0 < occ p (pages h (indexTree b h)) → isPage (fileSize b) p ≡ true
-  once-page o p l =
-      let aligned = o .aligned in
-      let whole : p % pageSize ≡ 0 = either (eqb (p % pageSize) 0) (λ e. eqb-true _ _ e) (λ e. absurd (omega (arith, o .unaligned p (eqb-false (p % pageSize) 0 e)))) in
-      let below : p < fileSize b = either (ltb p (fileSize b)) (λ e. ltb-true _ _ e) (λ e. absurd (omega (arith, o .beyond p (ltb-false p (fileSize b) e)))) in
-      let some : 0 < p = either (eqb p 0) (λ e. let z : occ p (pages h (indexTree b h)) ≡ 0 = ap (λ (q : ℕ). occ q (pages h (indexTree b h))) (eqb-true p 0 e) ∙ o .header in absurd (omega arith)) (λ e. omega (arith, eqb-false p 0 e)) in
-      is-page-from (fileSize b) p (record { whole = whole; low = omega arith; high = omega arith })
-
   -- Theorem: an index is sound whose header is good, that is sound in the theory, and whose pages have the attributes, links and counts that are asked of them
   pub index-sound : (most : ℕ) → headerGood b ≡ true → SoundIndex (settingOf (keyLength b) most) (indexOf b h) → LinkedIndex (linksOf b) (indexOf b h)
       → All (λ p. attributeAt b p ≤ 3) (pages h (indexTree b h)) → All (λ p. rootBit (attributeAt b p) ≡ eqb p (rootOffset b)) (pages h (indexTree b h))
       → ((j : ℕ) → j ≤ h → All (λ p. leafBit (attributeAt b p) ≡ eqb j 0) (level j h (indexTree b h)))
-      → All (λ p. countAt b p ≤ capacity (keyLength b)) (pages h (indexTree b h)) → Sound b
+      → All (λ p. countAt b p ≤ capacity (keyLength b)) (pages h (indexTree b h)) → (s : Sound b) × (s .height ≡ h)
   index-sound most e i l attributes rootBits leafBits counts =
       let ps = pages h (indexTree b h) in
       let S = entriesAt (keyLength b) (fileSize b) b in
       let o = i .pagesOnce in
-      let inside : All (λ p. isPage (fileSize b) p ≡ true) (pages h (indexTree b h)) = all-map (λ p. 0 < occ p (pages h (indexTree b h))) (λ p. isPage (fileSize b) p ≡ true) (once-page o) ps (each-occ ps) in
+      let inside : All (λ p. isPage (fileSize b) p ≡ true) (pages h (indexTree b h)) = all-occ (λ p. isPage (fileSize b) p ≡ true) ps (once-page (indexOf b h) o) in
       let d = ordered-greatest bytesOrder h (indexTree b h) (i .ordered) (i .exact) in
       let few = i .withinLevels in
       let full = all-map2 (λ p. isPage (fileSize b) p ≡ true) (λ p. countAt b p ≤ capacity (keyLength b)) (λ p. length (entriesAt (keyLength b) (fileSize b) b p) ≡ countAt b p)
       (λ p u c. length-entries (keyLength b) (fileSize b) b p u ∙ min-eq-left c) ps inside counts in
       let low : All (λ p. least h ≤ countAt b p) (pages h (indexTree b h)) = all-map2 (λ p. least h ≤ length (entriesAt (keyLength b) (fileSize b) b p)) (λ p. length (entriesAt (keyLength b) (fileSize b) b p) ≡ countAt b p) (λ p. least h ≤ countAt b p)
       (λ p u c. omega arith) ps (sized-pages S (capacity (keyLength b)) h (rootOffset b) (i .sized)) full in
-      record {
+      (record {
         header = e;
         height = h;
         inside = inside;
@@ -127,4 +129,4 @@ module _ (b : List ℕ) (h : ℕ) where
         records = i .records;
         greatest = d .1;
         links = l;
-      }
+      }, refl)

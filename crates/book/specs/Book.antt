@@ -1,0 +1,101 @@
+-- Rules: demand 3, one claim about a whole list of calls, each lent the buffer as the last left it. The calls are the rules that the contracts of insertion
+-- and lookup cite; the book, its answers and its pairs are those of the crate tree.
+use Prim.Native.Nat.{ℕ, _+_, _^_, _<_}
+use mathlib.Core.Path.{_≡_}
+use mathlib.Core.Bool.{Bool, false, cond}
+use mathlib.Core.List.{List, [], _∷_}
+use lib.Dec.{eqb}
+use lib.ListN.{length, take}
+use Rattle.tree.specs.Book.{Call, insertion, lookupOf, Answer, refused, accepted, found, absent, isAccepted, noRooms, resultsOf, finalOf}
+use Rattle.tree.specs.Book.{bookAnswers, bookFinal}
+use Rattle.tree.specs.Tree.{pairs}
+use Rattle.page.specs.Header.{keyLength}
+use Rattle.page.specs.KeyOrder.{bytesOrder}
+use Rattle.page.specs.declared.RecordNumber.{RecordNumber}
+use Rattle.lookup.specs.Lookup.{lookupRule}
+use Rattle.lookup.specs.declared.Answer.{Answer as Looked}
+use Rattle.lookup.specs.declared.Answer.the-variants as looked
+use Rattle.sound.specs.Sound.{indexTree, Sound}
+use Rattle.insert.specs.Calls.{insertRule}
+use Rattle.insert.specs.Insertion.{insertedBuffer}
+use Rattle.insert.specs.Room.{noRoom}
+use Rattle.insert.specs.declared.Insertion.{Insertion}
+use Rattle.insert.specs.declared.Insertion.the-variants.{Accepted, Refused}
+
+-- keys are byte strings
+abbrev pub Calls : Type 0
+Calls = List (Call (List ℕ))
+
+-- the answers of both calls in the book's words
+abbrev pub insertionAnswer : Insertion → Answer
+insertionAnswer Accepted = accepted
+insertionAnswer (Refused n) = refused n
+
+abbrev pub lookupAnswer : Looked → Answer
+lookupAnswer (looked.Found r pages) = found (r .0)
+lookupAnswer (looked.Absent pages) = absent
+lookupAnswer (looked.Refused n) = refused n
+
+-- a call on a buffer: what it answers, the buffer that it leaves, and the rule for 30 on the index lent to it
+abbrev pub answerTo : Call (List ℕ) → List ℕ → Answer
+answerTo (insertion key r) b = insertionAnswer (insertRule b key r .answer)
+answerTo (lookupOf key) b = lookupAnswer (lookupRule b key)
+
+abbrev pub bufferAfter : Call (List ℕ) → List ℕ → List ℕ
+bufferAfter (insertion key r) b = insertRule b key r .after
+bufferAfter (lookupOf key) b = b
+
+abbrev pub noRoomFor : Call (List ℕ) → List ℕ → Bool
+noRoomFor (insertion key r) b = noRoom (keyLength b) b key
+noRoomFor (lookupOf key) b = false
+
+-- "a key not of k bytes"
+abbrev pub fits : ℕ → List ℕ → Bool
+fits k key = eqb (length key) k
+
+-- record numbers of four bytes; keys of any length
+abbrev pub FourBytes : Call (List ℕ) → Type 0
+FourBytes (insertion key r) = r < 2 ^ 32
+FourBytes (lookupOf key) = Unit {0}
+
+-- a list of calls: its answers, and the buffer after the first n
+abbrev pub answersTo : Calls → List ℕ → List Answer
+answersTo calls b = resultsOf answerTo bufferAfter calls b
+
+abbrev pub bufferAt : ℕ → Calls → List ℕ → List ℕ
+bufferAt n calls b = finalOf bufferAfter (take n calls) b
+
+-- the book after the first n, fed "of the answers, only whether an insertion was 30"
+abbrev pub bookAt : ℕ → ℕ → Calls → List ℕ → List (List ℕ × ℕ)
+bookAt k n calls b = bookFinal bytesOrder (fits k) (take n calls) (noRooms (answersTo calls b)) []
+
+-- the index in a buffer is sound, so has at most 11 levels, and "the leaves' entries, left to right, are the book's pairs"
+pub record IndexHolds (b : List ℕ) (book : List (List ℕ × ℕ)) : Type 0 where
+  pub sound : Sound b
+  pub leaves : pairs (sound .height) (indexTree b (sound .height)) ≡ book
+
+-- of a call on a buffer: a key that is found is found after as many pages as there are levels, "the pages from the root to a leaf, both counted"
+abbrev pub VisitsLevels : Call (List ℕ) → List ℕ → Type 0
+VisitsLevels (insertion key r) b = Unit {0}
+VisitsLevels (lookupOf key) b = (s : Sound b) (r : RecordNumber) (pages : ℕ) → lookupRule b key ≡ looked.Found r pages → pages ≡ s .height + 1
+
+-- an insertion that is accepted leaves the buffer that document 01's steps make, and one that is refused leaves it as it was
+abbrev pub LeavesBuffer : Call (List ℕ) → List ℕ → Type 0
+LeavesBuffer (insertion key r) b = bufferAfter (insertion key r) b ≡ cond (isAccepted (answerTo (insertion key r) b)) (insertedBuffer (keyLength b) b key r) b
+LeavesBuffer (lookupOf key) b = Unit {0}
+
+-- what holds of each call of a list and the buffer lent to it
+abbrev pub Each : (Call (List ℕ) → List ℕ → Type 0) → Calls → List ℕ → Type 0
+Each P [] b = Unit {0}
+Each P (c ∷ calls) b = P c b × Each P calls (bufferAfter c b)
+
+-- the claim, for keys of k bytes, from the buffer b with the empty book on
+pub record BookKept (k : ℕ) (calls : Calls) (b : List ℕ) : Type 0 where
+  -- "Every call answers so, never 24 or 25"
+  pub answers : answersTo calls b ≡ bookAnswers bytesOrder (fits k) calls (noRooms (answersTo calls b)) []
+  -- "an insertion not refused so is 30 exactly when the rule above, on the index lent to it, says so"
+  pub room : answersTo calls b ≡ bookAnswers bytesOrder (fits k) calls (resultsOf noRoomFor bufferAfter calls b) []
+  -- "After fresh and after each call"
+  pub index : (n : ℕ) → IndexHolds (bufferAt n calls b) (bookAt k n calls b)
+  pub visits : Each VisitsLevels calls b
+  pub buffers : Each LeavesBuffer calls b

@@ -1,0 +1,191 @@
+-- Laws: a fresh index is sound and empty. Cited by the claim about lists of calls. Assumes nothing.
+use mathlib.Core.Path.{_≡_, refl, sym, ap, _∙_, subst}
+use mathlib.Core.Bool.{true, cond, _&&_}
+use mathlib.Core.List.{List, [], map}
+use Prim.Native.Nat.{ℕ, _+_, _^_, _≤_, _<_, min}
+use native.Mathlib.Omega.{arith}
+use lib.Dec.{eqb, leb}
+use lib.ListN.{length, getD, length-append, length-replicate}
+use borrow.Author.Tests.{leb-true}
+use Rattle.basis.specs.Lists.{All}
+use Rattle.basis.specs.Tests.{both}
+use Rattle.octets.specs.Bytes.{le16, le32, toLe16, toLe32}
+use Rattle.octets.specs.Store.{put, window}
+use Rattle.octets.specs.StoreLaws.{length-put, window-same, getD-window}
+use Rattle.octets.specs.NumberLaws.{length-toLe16, length-toLe32, le16-same, le32-same}
+use Rattle.tree.specs.Clauses.{AllLinked}
+use Rattle.tree.specs.Index.{fresh}
+use Rattle.tree.specs.IndexLaws.{fresh-sound}
+use Rattle.tree.specs.SoundIndex.{SoundIndex}
+use Rattle.tree.specs.Store.{Store, readEntry}
+use Rattle.tree.specs.StoreLaws.{write-here}
+use Rattle.tree.specs.Tree.{Tree, pages, level}
+use Rattle.page.specs.Header.{maxBytes, maxKey, noPage, pageSize, isPage, rootOffset, freePointer, fileSize, keyLength, features, keyLengthGood, headerGood}
+use Rattle.page.specs.HeaderLaws.{is-page-from, good-header-from}
+use Rattle.page.specs.Page.{attributeAt, countAt, leftAt, rightAt, rootBit, leafBit, capacity}
+use Rattle.page.specs.Reading.{entriesAt}
+use Rattle.page.specs.ReadingLaws.{window-window}
+use Rattle.layout.specs.WriteLaws.{capacity-least}
+use Rattle.sound.specs.Sound.{indexTree, linksOf, Sound}
+use Rattle.sound.specs.IndexLaws.{indexOf, settingOf, index-sound}
+use Rattle.insert.specs.Fresh.{printable, expressionGood, freshHeader, freshBuffer}
+use Rattle.written.specs.EntryLaws.{entriesIn, page-of, entries-new, length-new}
+use Rattle.written.specs.HeadLaws.{Head, SameHead, put-header, new-head, new-header}
+use Rattle.growth.specs.InsertHeads.{Plain, one-of}
+use Rattle.growth.specs.SoundReading.{entries-longer}
+
+-- what fresh accepts
+pub record FreshGiven (k : ℕ) (e b : List ℕ) : Type 0 where
+  pub key : keyLengthGood k ≡ true
+  pub expression : expressionGood e ≡ true
+  pub room : 1024 ≤ length b
+  pub plain : Plain b
+
+module _ (k : ℕ) (e b : List ℕ) (given : FreshGiven k e b) where
+  abbrev b0 : List ℕ
+  b0 = put b 0 (freshHeader k e)
+
+  abbrev b″ : List ℕ
+  b″ = freshBuffer k e b
+
+  short : length e ≤ 220
+  unfolding expressionGood
+  short =
+      let t = both (leb 1 (length e) && leb (length e) 220) (printable e) (given .expression) in
+      leb-true (length e) 220 (both (leb 1 (length e)) (leb (length e) 220) (t .0) .1)
+
+  key-fits : (1 ≤ k) × (k ≤ maxKey)
+  unfolding keyLengthGood
+  key-fits = let t = both _ _ (given .key) in (leb-true _ _ (t .0), leb-true _ _ (t .1))
+
+  length-header : length (freshHeader k e) ≡ pageSize
+  unfolding freshHeader
+  length-header = simp (length-append, length-toLe32, length-toLe16, length-replicate) (omega (arith, short))
+
+  l0 : length b0 ≡ length b
+  l0 = length-put b 0 (freshHeader k e)
+
+  first : isPage (length b) 512 ≡ true
+  first = is-page-from (length b) 512 (record { whole = refl; low = omega arith; high = omega (arith, given .room) })
+
+  few : 0 ≤ capacity k
+  few = omega arith
+
+  long : length b″ ≡ length b
+  unfolding freshBuffer
+  long = length-new b0 512 3 noPage noPage [] ∙ l0
+
+  -- the header's bytes
+  header : window b″ 0 pageSize ≡ freshHeader k e
+  unfolding freshBuffer
+  header =
+      new-header k b0 512 3 noPage noPage [] (page-of 512 l0 first) (omega arith) (omega arith) (omega arith) tt few
+      ∙ window-same b 0 (freshHeader k e) pageSize length-header (omega (arith, given .room))
+
+  part : (i n : ℕ) → i + n ≤ pageSize → window b″ (0 + i) n ≡ window (freshHeader k e) i n
+  part i n l = sym (window-window b″ 0 pageSize i n l) ∙ ap (λ (w : List ℕ). window w i n) header
+
+  root-is : rootOffset b″ ≡ 512
+  unfolding le32 freshHeader toLe32
+  root-is = le32-same b″ (freshHeader k e) 0 (part 0 4 (omega arith))
+
+  size-is : fileSize b″ ≡ 1024
+  unfolding le32 freshHeader toLe32
+  size-is = le32-same b″ (freshHeader k e) 8 (part 8 4 (omega arith))
+
+  free-is : freePointer b″ ≡ noPage
+  unfolding le32 freshHeader toLe32
+  free-is = le32-same b″ (freshHeader k e) 4 (part 4 4 (omega arith))
+
+  key-is : keyLength b″ ≡ k
+  unfolding le16 freshHeader toLe32 toLe16
+  key-is = le16-same b″ (freshHeader k e) 12 (part 12 2 (omega arith)) ∙ omega (arith, key-fits .1)
+
+  features-are : features b″ ≡ 1
+  unfolding freshHeader toLe32 toLe16
+  features-are = sym (getD-window b″ 0 pageSize 14 0 (omega arith)) ∙ ap (λ (w : List ℕ). getD w 14 0) header
+
+  -- the page at 512
+  heads : (z : ℕ) → isPage (length b) z ≡ true
+      → Head b″ z (cond (eqb z 512) 3 (attributeAt b0 z)) (cond (eqb z 512) 0 (countAt b0 z)) (cond (eqb z 512) noPage (leftAt b0 z))
+      (cond (eqb z 512) noPage (rightAt b0 z))
+  unfolding freshBuffer
+  heads z t = new-head k b0 512 3 noPage noPage [] (page-of 512 l0 first) (omega arith) (omega arith) (omega arith) tt few z (page-of z l0 t)
+
+  entries-are : entriesIn k b″ 512 ≡ []
+  unfolding freshBuffer
+  entries-are = ap (λ (S : Store (List ℕ)). S 512) (entries-new k b0 512 3 noPage noPage [] (page-of 512 l0 first) tt few) ∙ write-here (entriesIn k b0) 512 []
+
+  tree-is : indexTree b″ 0 ≡ (512, [])
+  tree-is =
+      let none : entriesAt k 1024 b″ 512 ≡ [] =
+      sym (entries-longer k 1024 b″ 512 (rw long (given .room))
+      (is-page-from 1024 512 (record { whole = refl; low = omega arith; high = omega arith }))) ∙ entries-are in
+      rw (key-is, size-is, root-is) (ap (λ (l : List (List ℕ × ℕ)). (512, map (readEntry (entriesAt k 1024 b″) 0) l)) none)
+
+  index-is : indexOf b″ 0 ≡ fresh
+  index-is = λ i. record { height = 0; tree = tree-is i; size = size-is i }
+
+  header-good : headerGood b″ ≡ true
+  header-good = good-header-from b″ (record {
+    long = rw long (omega (arith, given .room));
+    whole = rw size-is;
+    least = rw size-is (omega arith);
+    most = rw size-is (omega arith);
+    within = rw (size-is, long) (given .room);
+    root = rw (size-is, root-is) (is-page-from 1024 512 (record { whole = refl; low = omega arith; high = omega arith }));
+    key-low = rw key-is (key-fits .0);
+    key-high = rw key-is (key-fits .1);
+    free = free-is;
+    plain = features-are;
+  })
+
+  as-tree : (P : Tree (List ℕ) 0 → Type 0) → P (512, []) → P (indexTree b″ 0)
+  as-tree P p = subst P (sym tree-is) p
+
+  at-first : Head b″ 512 3 0 noPage noPage
+  at-first = heads 512 first
+
+  sound-is : (s : Sound b″) × (s .height ≡ 0)
+  sound-is =
+      let most : ℕ = min (length b) maxBytes in
+      let ps : List ℕ = pages 0 (indexTree b″ 0) in
+      let sound : SoundIndex (settingOf (keyLength b″) most) (indexOf b″ 0) =
+      subst (SoundIndex (settingOf (keyLength b″) most)) (sym index-is)
+      (fresh-sound (settingOf (keyLength b″) most) (rw key-is (omega (arith, capacity-least k (key-fits .1)))) (omega (arith, given .room)) (omega arith)) in
+      index-sound b″ 0 most header-good sound
+      (as-tree (λ t. AllLinked noPage (linksOf b″) 0 t) (λ j l. let j0 : j ≡ 0 = omega arith in rw j0 (at-first .leftIs, at-first .rightIs, tt)))
+      (as-tree (λ t. All (λ p. attributeAt b″ p ≤ 3) (pages 0 t)) (rw (at-first .attributeIs) (omega arith), tt))
+      (as-tree (λ t. All (λ p. rootBit (attributeAt b″ p) ≡ eqb p (rootOffset b″)) (pages 0 t)) (rw (at-first .attributeIs, root-is), tt))
+      (λ j l. let j0 : j ≡ 0 = omega arith in as-tree (λ t. All (λ p. leafBit (attributeAt b″ p) ≡ eqb j 0) (level j 0 t))
+      (rw j0 (rw (at-first .attributeIs), tt)))
+      (as-tree (λ t. All (λ p. countAt b″ p ≤ capacity (keyLength b″)) (pages 0 t)) (rw (at-first .countIs) (omega arith), tt))
+
+  plain-is : Plain b″
+  plain-is z t =
+      let p : isPage (length b) z ≡ true = page-of z (sym long) t in
+      let h = heads z p in
+      let g : SameHead b b0 z = put-header b 0 (freshHeader k e) (omega (arith, length-header)) z p in (
+        rw (h .attributeIs) (one-of (λ n. n < 2 ^ 16) (eqb z 512) 3 (attributeAt b0 z) (omega arith) (rw (g .attributeIs) (given .plain z p .0))),
+        rw (h .rightIs) (one-of (λ n. n < 2 ^ 32) (eqb z 512) noPage (rightAt b0 z) (omega arith) (rw (g .rightIs) (given .plain z p .1))),
+      )
+
+-- what fresh leaves: a sound index without pairs
+pub record FreshIs (k : ℕ) (e b : List ℕ) : Type 0 where
+  pub sound : Sound (freshBuffer k e b)
+  pub index : indexOf (freshBuffer k e b) (sound .height) ≡ fresh
+  pub keyIs : keyLength (freshBuffer k e b) ≡ k
+  pub as-long : length (freshBuffer k e b) ≡ length b
+  pub plain : Plain (freshBuffer k e b)
+
+-- Theorem: a fresh index is sound and empty
+pub fresh-is-sound : (k : ℕ) (e b : List ℕ) → FreshGiven k e b → FreshIs k e b
+fresh-is-sound k e b given =
+    let s = sound-is k e b given in
+    record {
+      sound = s .0;
+      index = ap (indexOf (freshBuffer k e b)) (s .1) ∙ index-is k e b given;
+      keyIs = key-is k e b given;
+      as-long = long k e b given;
+      plain = plain-is k e b given;
+    }

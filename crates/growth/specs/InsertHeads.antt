@@ -1,0 +1,281 @@
+-- Laws: attributes, links and counts of all pages, and the header, after insertion's steps on bytes: the lowest pages of the path were split, and no other head
+-- changed. Cited by the laws of the whole buffer. Assumes nothing.
+use mathlib.Core.Path.{_≡_, refl, sym, ap, _∙_, subst}
+use mathlib.Core.Bool.{Bool, true, false, cond}
+use mathlib.Core.List.{List, [], _∷_, map}
+use Prim.Native.Nat.{ℕ, zero, suc, _+_, _^_, _≤_, _<_}
+use native.Mathlib.Omega.{arith}
+use lib.ListN.{length, take, drop, length-take, length-drop}
+use lib.Dec.{leb, eqb}
+use borrow.Author.Tests.{leb-true, eqb-true, eqb-false, eq-eqb, ne-eqb}
+use Rattle.basis.specs.Lists.{All}
+use Rattle.basis.specs.Tests.{either}
+use Rattle.octets.specs.Bytes.{toBe32}
+use Rattle.octets.specs.NumberLaws.{length-toBe32, le16-small, le32-small}
+use Rattle.tree.specs.Index.{newPage as taken}
+use Rattle.tree.specs.Insertion.{half}
+use Rattle.tree.specs.ListLaws.{occ-not-head}
+use Rattle.tree.specs.Lists.{NonEmpty, concatMap}
+use Rattle.tree.specs.Order.{larger}
+use Rattle.tree.specs.PairLaws.{insertPair-all}
+use Rattle.tree.specs.Pairs.{insertPair}
+use Rattle.tree.specs.Relinking.{pathPageUnder, relink}
+use Rattle.tree.specs.Room.{choose, atChosen}
+use Rattle.tree.specs.Store.{readEntry, readTree}
+use Rattle.tree.specs.StoreLaws.{choose-read}
+use Rattle.tree.specs.StoreSteps.{StoreReplacement}
+use Rattle.tree.specs.Tree.{pagesUnder, Tree}
+use Rattle.page.specs.Header.{pageSize, isPage}
+use Rattle.page.specs.KeyOrder.{bytesOrder}
+use Rattle.page.specs.Page.{attributeAt, countAt, leftAt, rightAt, capacity}
+use Rattle.page.specs.Reading.{Item, numbered}
+use Rattle.layout.specs.Layout.{itemsIn, withEntries, withoutRoot, splitPage}
+use Rattle.layout.specs.Entries.{chosen, childOf, replaced, raised, twoFor}
+use Rattle.layout.specs.ItemLaws.{Fit}
+use Rattle.layout.specs.EntryLaws.{items-in-fit}
+use Rattle.sound.specs.Sound.{linksOf}
+use Rattle.insert.specs.Insertion.{Outcome, kept, split, bad, Step, takeIn, afterChild, insertUnder}
+use Rattle.written.specs.EntryLaws.{entriesIn, page-of, items-few}
+use Rattle.written.specs.HeadLaws.{Head, SameHead, SameHeader, with-head, with-header, raised-head, raised-header, split-head, split-header}
+use Rattle.growth.specs.ItemLists.{choose-numbered, insertPair-length, replaced-length}
+use Rattle.growth.specs.InsertEntries.{Usable, OutcomeIs, Shaped, Offered, replacement, Inserts, Free, inserts, items-some, two-fit}
+use Rattle.growth.specs.InsertEntries.{child-free, child-shaped, child-rest, page-is}
+
+-- attributes and right links that are numbers of two and four bytes
+abbrev pub Plain : List ℕ → Type 0
+Plain b = (z : ℕ) → isPage (length b) z ≡ true → (attributeAt b z < 2 ^ 16) × (rightAt b z < 2 ^ 32)
+
+pub octets-plain : (b : List ℕ) → All (λ x. x < 256) b → Plain b
+octets-plain b a z t = (le16-small b a z, le32-small b a (z + 8))
+
+-- the attributes after the lowest m pages of a path were split: both halves without the root bit
+abbrev pub unrooted : (ℕ → ℕ) → (ℕ → ℕ) → ℕ → (ℕ → ℕ) → ℕ → ℕ
+unrooted path name zero A z = A z
+unrooted path name (suc m) A z =
+    let a : ℕ = withoutRoot (unrooted path name m A (path m)) in
+    cond (eqb z (name m)) a (cond (eqb z (path m)) a (unrooted path name m A z))
+
+-- what m splits along a path, from the leaf up, and no other change of heads, make of b: `path j` is the page of level j
+pub record Heads (k F : ℕ) (path : ℕ → ℕ) (m : ℕ) (b b′ : List ℕ) : Type 0 where
+  pub lefts : (z : ℕ) → isPage (length b) z ≡ true → leftAt b′ z ≡ relink path (taken F) m (linksOf b) .left z
+  pub rights : (z : ℕ) → isPage (length b) z ≡ true → rightAt b′ z ≡ relink path (taken F) m (linksOf b) .right z
+  pub attributes : (z : ℕ) → isPage (length b) z ≡ true → attributeAt b′ z ≡ unrooted path (taken F) m (attributeAt b) z
+  -- counts that are within the capacity stay so, and the new pages' are
+  pub counts : (z : ℕ) → isPage (length b) z ≡ true → countAt b z ≤ capacity k → countAt b′ z ≤ capacity k
+  pub newCounts : (j : ℕ) → j < m → (isPage (length b) (taken F j) ≡ true) × (countAt b′ (taken F j) ≤ capacity k)
+  pub header : SameHeader b b′
+  pub plain : (z : ℕ) → isPage (length b) z ≡ true → (attributeAt b′ z < 2 ^ 16) × (rightAt b′ z < 2 ^ 32)
+
+-- a step that changes no attribute and no link, and keeps counts within the capacity
+pub record EntriesOnly (k : ℕ) (b b′ : List ℕ) : Type 0 where
+  pub attribute : (z : ℕ) → isPage (length b) z ≡ true → attributeAt b′ z ≡ attributeAt b z
+  pub left : (z : ℕ) → isPage (length b) z ≡ true → leftAt b′ z ≡ leftAt b z
+  pub right : (z : ℕ) → isPage (length b) z ≡ true → rightAt b′ z ≡ rightAt b z
+  pub counts : (z : ℕ) → isPage (length b) z ≡ true → countAt b z ≤ capacity k → countAt b′ z ≤ capacity k
+  pub header : SameHeader b b′
+
+-- what holds of both holds of the one that a test gives
+pub one-of : (P : ℕ → Type 0) (s : Bool) (x y : ℕ) → P x → P y → P (cond s x y)
+one-of P true x y i j = i
+one-of P false x y i j = j
+
+module _ (k : ℕ) where
+  with-only : (b : List ℕ) (p : ℕ) (es : List Item) → isPage (length b) p ≡ true → All (Fit k) es → length es ≤ capacity k
+      → EntriesOnly k b (withEntries b p es)
+  with-only b p es tp f few =
+      let h : (z : ℕ) → isPage (length b) z ≡ true → Head (withEntries b p es) z (attributeAt b z) (cond (eqb z p) (length es) (countAt b z))
+      (leftAt b z) (rightAt b z) = with-head k b p es tp f few in
+      record {
+        attribute = λ z t. h z t .attributeIs;
+        left = λ z t. h z t .leftIs;
+        right = λ z t. h z t .rightIs;
+        counts = λ z t c. rw (h z t .countIs) (one-of (λ n. n ≤ capacity k) (eqb z p) (length es) (countAt b z) few c);
+        header = with-header k b p es tp f few;
+      }
+
+  raised-only : (b key : List ℕ) (p : ℕ) → isPage (length b) p ≡ true → length key ≡ k → EntriesOnly k b (raised k b key p)
+  raised-only b key p tp long =
+      let h : (z : ℕ) → isPage (length b) z ≡ true → SameHead b (raised k b key p) z = raised-head k b key p tp long in
+      record {
+        attribute = λ z t. h z t .attributeIs;
+        left = λ z t. h z t .leftIs;
+        right = λ z t. h z t .rightIs;
+        counts = λ z t c. rw (h z t .countIs) c;
+        header = raised-header k b key p tp long;
+      }
+
+module _ (k F : ℕ) (path : ℕ → ℕ) (b : List ℕ) where
+  heads-none : Plain b → Heads k F path 0 b b
+  heads-none plain = record {
+    lefts = λ z t. refl;
+    rights = λ z t. refl;
+    attributes = λ z t. refl;
+    counts = λ z t c. c;
+    newCounts = λ j l. absurd (omega arith);
+    header = refl;
+    plain = plain;
+  }
+
+  heads-entries : (m : ℕ) (b′ b″ : List ℕ) → length b′ ≡ length b → Heads k F path m b b′ → EntriesOnly k b′ b″ → Heads k F path m b b″
+  heads-entries m b′ b″ n v q =
+      let here : (z : ℕ) → isPage (length b) z ≡ true → isPage (length b′) z ≡ true = λ z t. page-of z n t in
+      record {
+        lefts = λ z t. q .left z (here z t) ∙ v .lefts z t;
+        rights = λ z t. q .right z (here z t) ∙ v .rights z t;
+        attributes = λ z t. q .attribute z (here z t) ∙ v .attributes z t;
+        counts = λ z t c. q .counts z (here z t) (v .counts z t c);
+        newCounts = λ j l. let c = v .newCounts j l in (c .0, q .counts (taken F j) (here (taken F j) (c .0)) (c .1));
+        header = q .header ∙ v .header;
+        plain = λ z t. rw (q .attribute z (here z t), q .right z (here z t)) (v .plain z t);
+      }
+
+  -- one page more is split
+  heads-split : (m : ℕ) (b′ : List ℕ) (es : List Item) → Usable b (path m) → Usable b (taken F m) → (path m ≡ taken F m → ⊥) → All (Fit k) es → 1 < capacity k
+      → length es ≤ suc (capacity k) → length b′ ≡ length b → Heads k F path m b b′ → Heads k F path (suc m) b (splitPage b′ (path m) es (taken F m))
+  heads-split m b′ es tp tq ne f two few n v =
+      let p = path m in
+      let q = taken F m in
+      let here : (z : ℕ) → isPage (length b) z ≡ true → isPage (length b′) z ≡ true = λ z t. page-of z n t in
+      let pp = v .plain p (tp .0) in
+      let i = half (length es) in
+      let lower : length (take i es) ≤ capacity k = simp length-take (omega arith) in
+      let upper : length (drop i es) ≤ capacity k = simp length-drop (omega arith) in
+      let s : (z : ℕ) → isPage (length b) z ≡ true
+      → Head (splitPage b′ p es q) z (cond (eqb z q) (withoutRoot (attributeAt b′ p)) (cond (eqb z p) (withoutRoot (attributeAt b′ p)) (attributeAt b′ z)))
+      (cond (eqb z q) (length (drop i es)) (cond (eqb z p) (length (take i es)) (countAt b′ z)))
+      (cond (eqb z q) p (cond (eqb z (rightAt b′ p)) q (leftAt b′ z)))
+      (cond (eqb z p) q (cond (eqb z q) (rightAt b′ p) (rightAt b′ z))) =
+      λ z t. split-head k b′ p es q (here p (tp .0)) (here q (tq .0)) ne f two few (tp .1) (tq .1) (pp .0) (pp .1) z (here z t) in
+      let few-there : (z : ℕ) → isPage (length b) z ≡ true → countAt b′ z ≤ capacity k → countAt (splitPage b′ p es q) z ≤ capacity k =
+      λ z t c. rw (s z t .countIs) (one-of (λ n. n ≤ capacity k) (eqb z q) (length (drop i es)) _ upper
+      (one-of (λ n. n ≤ capacity k) (eqb z p) (length (take i es)) (countAt b′ z) lower c)) in
+      let a : ℕ = withoutRoot (attributeAt b′ p) in
+      let a16 : a < 2 ^ 16 = omega (arith, pp .0) in
+      record {
+        lefts = λ z t. s z t .leftIs ∙ rw (v .rights p (tp .0), v .lefts z t);
+        rights = λ z t. s z t .rightIs ∙ rw (v .rights p (tp .0), v .rights z t);
+        attributes = λ z t. s z t .attributeIs ∙ rw (v .attributes p (tp .0), v .attributes z t);
+        counts = λ z t c. few-there z t (v .counts z t c);
+        newCounts = λ j l. either (eqb j m)
+            (λ e. let same : j ≡ m = eqb-true j m e in rw same (tq .0, rw (s q (tq .0) .countIs, eq-eqb q q refl) upper))
+            (λ e. let c = v .newCounts j (omega (arith, eqb-false j m e)) in (c .0, few-there (taken F j) (c .0) (c .1)));
+        header = split-header k b′ p es q (here p (tp .0)) (here q (tq .0)) ne f two few (tp .1) (tq .1) (pp .0) (pp .1) ∙ v .header;
+        plain = λ z t. (
+          rw (s z t .attributeIs) (one-of (λ n. n < 2 ^ 16) (eqb z q) a _ a16 (one-of (λ n. n < 2 ^ 16) (eqb z p) a (attributeAt b′ z) a16 (v .plain z t .0))),
+          rw (s z t .rightIs) (one-of (λ n. n < 2 ^ 32) (eqb z p) q _ (tq .1)
+              (one-of (λ n. n < 2 ^ 32) (eqb z q) (rightAt b′ p) (rightAt b′ z) (pp .1) (v .plain z t .1))),
+        );
+      }
+
+-- an outcome, and how many pages were split: at a page with h levels under it that is split, one on each level up to it
+abbrev pub HeadsAfter : ℕ → ℕ → (ℕ → ℕ) → ℕ → List ℕ → Outcome → List ℕ → Type 0
+HeadsAfter k F path h b (kept n) b′ = (m : ℕ) × (n ≡ taken F m) × Heads k F path m b b′
+HeadsAfter k F path h b (split q) b′ = (q ≡ taken F h) × Heads k F path (suc h) b b′
+HeadsAfter k F path h b bad b′ = ⊥
+
+-- the path's page on a page's own level, and below it
+path-own : (key : List ℕ) (h : ℕ) (a : List ℕ) (t : Tree (List ℕ) h) → pathPageUnder bytesOrder key h (suc h) (a, t) ≡ t .0
+path-own key h a t = rw (eq-eqb h h refl)
+
+path-below : (k : ℕ) (key b : List ℕ) (h j p : ℕ) (a : List ℕ) (y : Item) (ys : List Item) → itemsIn k b p ≡ y ∷ ys → (j ≡ suc h → ⊥)
+    → pathPageUnder bytesOrder key j (suc (suc h)) (a, readTree (entriesIn k b) (suc h) p)
+    ≡ pathPageUnder bytesOrder key j (suc h)
+    (larger bytesOrder (choose bytesOrder key y ys .0) key, readTree (entriesIn k b) h (childOf (choose bytesOrder key y ys)))
+path-below k key b h j p a y ys es ne =
+    rw (ne-eqb j (suc h) ne)
+    (ap (λ (l : List Item). atChosen bytesOrder key (pathPageUnder bytesOrder key j (suc h)) (map (readEntry (entriesIn k b) (suc h)) (map numbered l))) es
+    ∙ ap (pathPageUnder bytesOrder key j (suc h)) (choose-read bytesOrder (entriesIn k b) (suc h) key (numbered y) (map numbered ys))
+    ∙ ap (λ (e : List ℕ × ℕ). pathPageUnder bytesOrder key j (suc h) (readEntry (entriesIn k b) (suc h) e)) (choose-numbered key y ys))
+
+module _ (k F : ℕ) (path : ℕ → ℕ) (two : 1 < capacity k) (b : List ℕ) where
+  -- the theory has room for a page that is split
+  split-room : (h : ℕ) (a : List ℕ) (p : ℕ) (b′ : List ℕ) (es : List Item) (n : ℕ) (v : StoreReplacement (List ℕ))
+      → OutcomeIs F a p (takeIn k b′ p es n .outcome) v → n ≡ taken F h
+      → leb (length es) (capacity k) ≡ false → h < v .1
+  unfolding takeIn
+  split-room h a p b′ es n v t e f = either (isPage (length b′) n)
+      (λ u. let g : OutcomeIs F a p (split n) v = rw (f, u) at t in omega (arith, g .0))
+      (λ u. absurd (rw (f, u) at t))
+
+  take-in-heads : (h : ℕ) (b′ : List ℕ) (p : ℕ) (es : List Item) (n : ℕ) → p ≡ path h → n ≡ taken F h → Usable b p → length b′ ≡ length b → All (Fit k) es
+      → length es ≤ suc (capacity k) → (p ≡ n → ⊥) → (leb (length es) (capacity k) ≡ false → Usable b n) → Heads k F path h b b′
+      → HeadsAfter k F path h b (takeIn k b′ p es n .outcome) (takeIn k b′ p es n .after)
+  unfolding takeIn
+  take-in-heads h b′ p es n ep en tp lb f few ne room v = either (leb (length es) (capacity k))
+      (λ e. rw e (
+        h,
+        en,
+        heads-entries k F path b h b′ (withEntries b′ p es) lb v
+            (with-only k b′ p es (page-of p lb (tp .0)) f (leb-true (length es) (capacity k) e)),
+      ))
+      (λ e. let tn : Usable b n = room e in
+      rw (e, page-of n lb (tn .0)) (en, rw (ep, en) (heads-split k F path b h b′ es (rw (← ep) tp) (rw (← en) tn) (rw (← ep, ← en) ne) f two few lb v)))
+
+module _ (k F : ℕ) (key : List ℕ) (r : ℕ) (b : List ℕ) (o : Offered k key r) (path : ℕ → ℕ) (plain : Plain b) where
+  after-child-heads : (h : ℕ) (b′ : List ℕ) (p : ℕ) (a : List ℕ) (c : ℕ) (out : Outcome) (v : StoreReplacement (List ℕ))
+      → HeadsAfter k F path h b out b′ → length b′ ≡ length b
+      → NonEmpty (itemsIn k b′ p) → p ≡ path (suc h) → Usable b p → (p ≡ taken F (suc h) → ⊥) → ((j : ℕ) → j < v .1 → Usable b (taken F j))
+      → OutcomeIs F a p (afterChild k b′ key p c out .outcome) v
+      → HeadsAfter k F path (suc h) b (afterChild k b′ key p c out .outcome) (afterChild k b′ key p c out .after)
+  after-child-heads h b′ p a c (kept n) v x lb some ep tp ne room t =
+      (x .0, x .1, heads-entries k F path b (x .0) b′ (raised k b′ key p) lb (x .2) (raised-only k b′ key p (page-of p lb (tp .0)) (o .long)))
+  after-child-heads h b′ p a c bad v x lb some ep tp ne room t = absurd x
+  after-child-heads h b′ p a c (split q) v x lb some ep tp ne room t =
+      let es : List Item = replaced key (twoFor k b′ key c q) (itemsIn k b′ p) in
+      let en : q + pageSize ≡ taken F (suc h) = omega (arith, x .0) in
+      let le : length es ≡ 1 + length (itemsIn k b′ p) = replaced-length key (twoFor k b′ key c q) 1 (λ e. refl) (itemsIn k b′ p) some in
+      take-in-heads k F path (o .two) b (suc h) b′ p es (q + pageSize) ep en tp lb
+      (two-fit k (o .two) F key (o .long) b′ c q (itemsIn k b′ p) (items-in-fit k b′ p)) (omega (arith, items-few k b′ p)) (λ u. ne (u ∙ en))
+      (λ e. rw en (room (suc h) (split-room k F path (o .two) b (suc h) a p b′ es (q + pageSize) v t en e))) (x .1)
+
+  -- the heads after insertion's step at the page at p
+  abbrev Goes : ℕ → ℕ → ℕ → Type 0
+  Goes h left p = HeadsAfter k F path h b (insertUnder k left b key r p F .outcome) (insertUnder k left b key r p F .after)
+
+  abbrev OnPath : ℕ → List ℕ → ℕ → Type 0
+  OnPath h a p = (j : ℕ) → j ≤ h → path j ≡ pathPageUnder bytesOrder key j (suc h) (a, readTree (entriesIn k b) h p)
+
+  -- Theorem: insertion's step splits the lowest pages of the path to the key, and changes no other head
+  pub insert-heads : (h left p : ℕ) (a : List ℕ) → h < left → Shaped k h b p → Free k F key r b h a p → OnPath h a p → Goes h left p
+  unfolding insertUnder
+  insert-heads zero zero p a l f u x = absurd (omega arith)
+  insert-heads (suc h) zero p a l f u x = absurd (omega arith)
+  insert-heads zero (suc left) p a l f u x =
+      let es : List Item = insertPair bytesOrder key (toBe32 r) (itemsIn k b p) in
+      let v : StoreReplacement (List ℕ) = replacement k F key r b zero a p in
+      let t : OutcomeIs F a p (takeIn k b p es F .outcome) v = rw (f .0 .0, f .1) at (inserts k F key r b o zero (suc left) p a l f u .told) in
+      let ef : F ≡ taken F 0 = omega arith in
+      rw (f .0 .0, f .1)
+      (take-in-heads k F path (o .two) b zero b p es F (sym (path-own key zero a (readTree (entriesIn k b) zero p)) ∙ sym (x zero (omega arith))) ef (f .0) refl
+      (insertPair-all bytesOrder (Fit k) key (toBe32 r) (itemsIn k b p) (o .long, length-toBe32 r) (items-in-fit k b p))
+      (omega (arith, items-few k b p, insertPair-length key (toBe32 r) (itemsIn k b p)))
+      (λ e. occ-not-head (taken F 0) p (concatMap (pagesUnder zero) (map (readEntry (entriesIn k b) zero) (entriesIn k b p))) (u .1 0) (sym (e ∙ ef)))
+      (λ e. rw ef (u .2 0 (split-room k F path (o .two) b zero a p b es F v t ef e)))
+      (heads-none k F path b plain))
+  insert-heads (suc h) (suc left) p a l f u x = go (λ c y g w. insert-heads h left c y (omega arith) g w) (itemsIn k b p) refl
+    where
+      UpperGoes : List Item → Type 0
+      UpperGoes es =
+          let c : ℕ = childOf (chosen key es) in
+          let d : Step = insertUnder k left b key r c F in
+          HeadsAfter k F path (suc h) b (afterChild k (d .after) key p c (d .outcome) .outcome) (afterChild k (d .after) key p c (d .outcome) .after)
+
+      go : ((c : ℕ) (y : List ℕ) → Shaped k h b c → Free k F key r b h y c → OnPath h y c → Goes h left c) → (es : List Item) → itemsIn k b p ≡ es
+          → Goes (suc h) (suc left) p
+      go rec [] e = absurd (rw e at (f .2))
+      go rec (y ∷ ys) e =
+          let c : ℕ = childOf (choose bytesOrder key y ys) in
+          let A : List ℕ = larger bytesOrder (choose bytesOrder key y ys .0) key in
+          let v : StoreReplacement (List ℕ) = replacement k F key r b (suc h) a p in
+          let free = child-free k F key r b o h p a y ys e u in
+          let shaped : Shaped k h b c = child-shaped k h key b p y ys e (f .3) in
+          let w : Inserts k F key r b h left A c = inserts k F key r b o h left c A (omega arith) shaped free in
+          let d : Step = insertUnder k left b key r c F in
+          let on : OnPath h A c = λ j i. x j (omega arith) ∙ path-below k key b h j p a y ys e (λ q. omega arith) in
+          let t : OutcomeIs F a p (afterChild k (d .after) key p c (d .outcome) .outcome) v = page-is k F key r b o h p a y ys e u left (f .0 .0) w .told in
+          rw (f .0 .0, f .1) (subst UpperGoes (sym e)
+          (after-child-heads h (d .after) p a c (d .outcome) v (rec c A shaped free on) (w .as-long)
+          (items-some k (d .after) p (numbered y) (map numbered ys) (child-rest k F key r b o h p a y ys e u left w))
+          (sym (path-own key (suc h) a (readTree (entriesIn k b) (suc h) p)) ∙ sym (x (suc h) (omega arith))) (f .0)
+          (λ q. occ-not-head (taken F (suc h)) p (concatMap (pagesUnder (suc h)) (map (readEntry (entriesIn k b) (suc h)) (entriesIn k b p)))
+          (u .1 (suc h)) (sym q)) (u .2) t))

@@ -1,0 +1,1 @@
+// Laws of insertion on bytes, in specs/: no code.

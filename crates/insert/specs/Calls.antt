@@ -1,0 +1,52 @@
+-- Rules: what insertion answers and leaves, "in this order: 24, 27, 28, 25 by full audit, 29 if the key is in a leaf, 30".
+use Prim.Native.Nat.{ℕ}
+use mathlib.Core.Bool.{Bool, true, false}
+use mathlib.Core.List.{List}
+use lib.ListN.{length}
+use lib.Dec.{eqb}
+use Rattle.page.specs.Header.{headerGood, keyLength}
+use Rattle.sound.specs.Rule.{pagesGood, unmarked}
+use Rattle.lookup.specs.Lookup.{lookupRule}
+use Rattle.lookup.specs.declared.Answer.{Answer}
+use Rattle.lookup.specs.declared.Answer.the-variants as looked
+use Rattle.insert.specs.Insertion.{insertedBuffer}
+use Rattle.insert.specs.Room.{noRoom}
+use Rattle.insert.specs.declared.Insertion.{Insertion}
+use Rattle.insert.specs.declared.Insertion.the-variants.{Accepted, Refused}
+
+-- a buffer after a call, and the answer
+pub record Inserted : Type 0 where
+  pub after : List ℕ
+  pub answer : Insertion
+
+abbrev pub left : List ℕ → Insertion → Inserted
+left b a = record { after = b; answer = a }
+
+-- "29 if the key is in a leaf": the one that lookup's steps lead to
+abbrev pub isFound : Answer → Bool
+isFound (looked.Found r pages) = true
+isFound (looked.Absent pages) = false
+isFound (looked.Refused n) = false
+
+-- what insertion leaves and answers; a refusal leaves the buffer as it was
+unfoldable pub insertRule : List ℕ → List ℕ → ℕ → Inserted
+insertRule b key r =
+    elim (headerGood b) [
+      | false ↦ left b (Refused 24)
+      | true ↦ elim (eqb (length key) (keyLength b)) [
+        | false ↦ left b (Refused 27)
+        | true ↦ elim (eqb r 0) [
+          | true ↦ left b (Refused 28)
+          | false ↦ elim (pagesGood b unmarked) [
+            | false ↦ left b (Refused 25)
+            | true ↦ elim (isFound (lookupRule b key)) [
+              | true ↦ left b (Refused 29)
+              | false ↦ elim (noRoom (keyLength b) b key) [
+                | true ↦ left b (Refused 30)
+                | false ↦ left (insertedBuffer (keyLength b) b key r) Accepted
+              ]
+            ]
+          ]
+        ]
+      ]
+    ]

@@ -1,0 +1,70 @@
+-- Rules: insertion, page by page, as the whole buffer that document 01's steps leave. k is the key length; the buffer holds a sound index with room.
+use Prim.Native.Nat.{ℕ, zero, suc, _+_}
+use mathlib.Core.Bool.{cond}
+use mathlib.Core.List.{List, [], _∷_}
+use lib.ListN.{length}
+use lib.Dec.{leb}
+use Rattle.octets.specs.Bytes.{toLe32, toBe32}
+use Rattle.octets.specs.Store.{put}
+use Rattle.tree.specs.Pairs.{lastKey, insertPair}
+use Rattle.page.specs.Header.{maxLevels, noPage, pageSize, isPage, rootOffset, fileSize}
+use Rattle.page.specs.Page.{attributeAt, leafBit, capacity}
+use Rattle.page.specs.KeyOrder.{bytesOrder}
+use Rattle.page.specs.Reading.{Item}
+use Rattle.layout.specs.Layout.{itemsIn, withEntries, newPage, splitPage}
+use Rattle.layout.specs.Entries.{chosen, childOf, replaced, raised, twoFor}
+
+-- what an insertion under a page leaves for the page above to do: nothing, the file having so many bytes; or to take in the new page at q, the last of the
+-- file. The third does not occur on a sound index with room: it keeps the rule total
+pub data Outcome : Type 0 where
+  kept : ℕ → Outcome
+  split : ℕ → Outcome
+  bad : Outcome
+
+-- a buffer after a step, and the outcome
+pub record Step : Type 0 where
+  pub after : List ℕ
+  pub outcome : Outcome
+
+abbrev pub step : List ℕ → Outcome → Step
+step b o = record { after = b; outcome = o }
+
+-- the page at p gets the entries es, the file having n bytes: it holds them, or is split, "a new page at F"
+unfoldable pub takeIn : ℕ → List ℕ → ℕ → List Item → ℕ → Step
+takeIn k b p es n =
+    let whole = step (withEntries b p es) (kept n) in
+    let halves = step (splitPage b p es n) (split n) in
+    cond (leb (length es) (capacity k)) whole (cond (isPage (length b) n) halves (step b bad))
+
+-- the page at p after an insertion under its child at c
+abbrev pub afterChild : ℕ → List ℕ → List ℕ → ℕ → ℕ → Outcome → Step
+afterChild k b key p c (kept n) = step (raised k b key p) (kept n)
+afterChild k b key p c (split q) = takeIn k b p (replaced key (twoFor k b key c q) (itemsIn k b p)) (q + pageSize)
+afterChild k b key p c bad = step b bad
+
+-- the pair goes in under the page at p, with so many levels left, falling from 11, the file having n bytes: into the page if it is a leaf, else under the
+-- child that is chosen
+unfoldable pub insertUnder : ℕ → ℕ → List ℕ → List ℕ → ℕ → ℕ → ℕ → Step
+insertUnder k zero b key r p n = step b bad
+insertUnder k (suc left) b key r p n =
+    let leaf = takeIn k b p (insertPair bytesOrder key (toBe32 r) (itemsIn k b p)) n in
+    let c = childOf (chosen key (itemsIn k b p)) in
+    let below = insertUnder k left b key r c n in
+    let upper = afterChild k (below .after) key p c (below .outcome) in
+    cond (isPage (length b) p) (cond (leafBit (attributeAt b p)) leaf upper) (step b bad)
+
+-- the root after it: if it was split, "the new root last", over the two halves with their own last keys; and the header's root offset and file size. Where
+-- there is room, the new root is a page of the buffer
+abbrev pub atRoot : ℕ → List ℕ → List ℕ → ℕ → Outcome → List ℕ
+atRoot k b key p (kept n) = put b 8 (toLe32 n)
+atRoot k b key p (split q) =
+    let es : List Item = (lastKey key (itemsIn k b p), toBe32 p) ∷ (lastKey key (itemsIn k b q), toBe32 q) ∷ [] in
+    let grown = put (put (newPage b (q + pageSize) 1 noPage noPage es) 0 (toLe32 (q + pageSize))) 8 (toLe32 (q + pageSize + pageSize)) in
+    cond (isPage (length b) (q + pageSize)) grown b
+atRoot k b key p bad = b
+
+-- the buffer after an insertion that is accepted
+unfoldable pub insertedBuffer : ℕ → List ℕ → List ℕ → ℕ → List ℕ
+insertedBuffer k b key r =
+    let s = insertUnder k maxLevels b key r (rootOffset b) (fileSize b) in
+    atRoot k (s .after) key (rootOffset b) (s .outcome)

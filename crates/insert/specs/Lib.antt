@@ -1,0 +1,4 @@
+pub mod Insertion
+pub mod Room
+pub mod Calls
+pub mod Fresh

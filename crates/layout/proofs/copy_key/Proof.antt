@@ -1,0 +1,45 @@
+-- `layout::copy_key` meets its contract: the key's bytes are the first k of the entry. Assumes nothing.
+use mathlib.Core.Path.{refl, _∙_}
+use native.Mathlib.Omega.{arith}
+use Rattle.page.specs.PageLaws.{entry-within}
+use Rattle.layout.specs.GatherLaws.{part-window}
+use borrow.Author.Needs.{needs}
+use Rattle.layout.proofs.copy_key.Statement.{statement}
+use Rattle.layout.proofs.copy_key.Tie as tie
+
+entry-offset-requires : tie.Need-entry-offset-requires
+entry-offset-requires c κs = search needs
+
+add-upto : tie.Need-add-upto
+add-upto c = let w = entry-within (c .before .before .before .pre .0) in omega (arith, c .entry-offset .ensures)
+
+sub-copy-in : tie.Need-sub-copy-in
+sub-copy-in c = search needs
+
+part-copy-in-start : tie.Need-part-copy-in-start
+part-copy-in-start c = search needs
+
+part-copy-in-end : tie.Need-part-copy-in-end
+part-copy-in-end c = let w = entry-within (c .before .before .before .before .pre .0) in omega (arith, c .before .entry-offset .ensures)
+
+copy-in-requires : tie.Need-copy-in-requires
+copy-in-requires c κs = search needs
+
+same-length : tie.Need-same-length
+same-length c = search needs
+
+returns : tie.Need-returns
+returns c = c .before .before .copy-in .ensures ∙ rw (part-window _ _ _ _ refl, c .before .before .before .before .before .entry-offset .ensures)
+
+pub copy-key-spec : {M : Type 1} → statement M
+copy-key-spec =
+    tie.close
+    (tie.spec
+    entry-offset-requires
+    add-upto
+    sub-copy-in
+    part-copy-in-start
+    part-copy-in-end
+    copy-in-requires
+    same-length
+    returns)

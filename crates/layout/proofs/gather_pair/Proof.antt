@@ -1,0 +1,71 @@
+-- `layout::gather_pair` meets its contract: four stores, one after another, are the bytes of the rule's entries. Assumes nothing.
+use native.Mathlib.Omega.{arith}
+use native.Mathlib.Nat.{sub-zero}
+use lib.ListN.{length}
+use Rattle.layout.specs.EntryLaws.{listed-within}
+use Rattle.layout.specs.GatherLaws.{spread, Spread, pair-gathered}
+use borrow.Author.Needs.{needs}
+use Rattle.layout.proofs.gather_pair.Statement.{statement}
+use Rattle.layout.proofs.gather_pair.Tie as tie
+
+-- the products, where the search ends at entry i
+products : (c : tie.After-first-at-or-above) → let args = c .before .before .before .before .args in Spread (args .index .now) (length (args .key .now)) (args .page .0) (args .count) (c .first-at-or-above .result)
+products c = let start = c .before .before .before .before in spread _ (start .pre .0) (c .first-at-or-above .ensures .1)
+
+first-at-or-above-requires : tie.Need-first-at-or-above-requires
+first-at-or-above-requires c κs = listed-within (c .before .before .before .pre .0)
+
+add-at : tie.Need-add-at
+add-at c = search needs
+
+mul-at : tie.Need-mul-at
+mul-at c = let s = products c in omega arith
+
+copy-entries-requires : tie.Need-copy-entries-requires
+copy-entries-requires c κs =
+    let s = products (c .before) in let w = listed-within (c .before .before .before .before .before .pre .0) in
+    (record { key = w .key; count = omega arith; page = w .page }, omega arith, rw sub-zero (omega arith))
+
+copy-in-requires : tie.Need-copy-in-requires
+copy-in-requires c κs = let s = products (c .before .before .before .before .before) in omega arith
+
+add-store-be32 : tie.Need-add-store-be32
+add-store-be32 c = let s = products (c .before .before .before .before .before .before .before .before .before) in omega arith
+
+store-be32-requires : tie.Need-store-be32-requires
+store-be32-requires c κs = let s = products (c .before .before .before .before .before .before .before .before .before) in omega arith
+
+add-copy-entries : tie.Need-add-copy-entries
+add-copy-entries c = let s = products (c .before .before .before .before .before .before .before .before .before .before .before .before .before) in omega arith
+
+add-copy-entries-2 : tie.Need-add-copy-entries-2
+add-copy-entries-2 c = let s = products (c .before .before .before .before .before .before .before .before .before .before .before .before .before) in omega arith
+
+copy-entries-requires-2 : tie.Need-copy-entries-requires-2
+copy-entries-requires-2 c κs =
+    let s = products (c .before .before .before .before .before .before .before .before .before .before .before .before .before) in (listed-within (c .before .before .before .before .before .before .before .before .before .before .before .before .before .before .before .before .before .pre .0), c .before .before .before .before .before .before .before .before .before .before .before .before .before .first-at-or-above .ensures .1, omega arith)
+
+same-length : tie.Need-same-length
+same-length c = search needs
+
+returns : tie.Need-returns
+returns c =
+    let start = c .before .before .before .before .before .before .before .before .before .before .before .before .before .before .before .before .before .before .before .before in
+    pair-gathered (start .args .key .now) (start .pre .0) (c .before .before .before .before .before .before .before .before .before .before .before .before .before .before .before .before .first-at-or-above .ensures .0) _ _ (c .before .before .before .before .before .before .before .before .before .before .before .before .before .before .copy-entries .ensures) (c .before .before .before .before .before .before .before .before .before .before .copy-in .ensures) (c .before .before .before .before .before .before .store-be32 .ensures) (c .before .before .copy-entries2 .ensures)
+
+pub gather-pair-spec : {M : Type 1} → statement M
+gather-pair-spec =
+    tie.close
+    (tie.spec
+    first-at-or-above-requires
+    add-at
+    mul-at
+    copy-entries-requires
+    copy-in-requires
+    add-store-be32
+    store-be32-requires
+    add-copy-entries
+    add-copy-entries-2
+    copy-entries-requires-2
+    same-length
+    returns)

@@ -1,0 +1,57 @@
+-- `layout::with_entries` meets its contract: its three stores are the rule's two, the zeros following the entries. Assumes nothing.
+use native.Mathlib.Omega.{arith}
+use Rattle.layout.specs.WriteLaws.{sizes, with-entries-by}
+use borrow.Author.Needs.{needs}
+use Rattle.layout.proofs.with_entries.Statement.{statement}
+use Rattle.layout.proofs.with_entries.Tie as tie
+
+cast-at : tie.Need-cast-at
+cast-at c = search needs
+
+add-store-le16 : tie.Need-add-store-le16
+add-store-le16 c = search needs
+
+cast-store-le16 : tie.Need-cast-store-le16
+cast-store-le16 c = let z = sizes (c .before .before .before .before .pre) in omega arith
+
+store-le16-requires : tie.Need-store-le16-requires
+store-le16-requires c κs = search needs
+
+add-copy-in : tie.Need-add-copy-in
+add-copy-in c = search needs
+
+copy-in-requires : tie.Need-copy-in-requires
+copy-in-requires c κs = let z = sizes (c .before .before .before .before .before .before .before .before .pre) in omega arith
+
+entry-offset-requires : tie.Need-entry-offset-requires
+entry-offset-requires c κs = search needs
+
+add-fill : tie.Need-add-fill
+add-fill c = search needs
+
+fill-requires : tie.Need-fill-requires
+fill-requires c κs =
+    let z = sizes (c .before .before .before .before .before .before .before .before .before .before .before .before .before .pre) in (omega (arith, c .entry-offset .ensures), omega arith)
+
+same-length : tie.Need-same-length
+same-length c = search needs
+
+returns : tie.Need-returns
+returns c =
+    with-entries-by (c .before .before .before .before .before .before .before .before .before .before .before .before .before .before .before .before .pre) (c .before .before .before .before .before .before .before .before .before .before .before .store-le16 .ensures) (c .before .before .before .before .before .before .before .copy-in .ensures) (c .before .before .before .entry-offset .ensures) (c .before .before .fill .ensures)
+
+pub with-entries-spec : {M : Type 1} → statement M
+with-entries-spec =
+    tie.close
+    (tie.spec
+    cast-at
+    add-store-le16
+    cast-store-le16
+    store-le16-requires
+    add-copy-in
+    copy-in-requires
+    entry-offset-requires
+    add-fill
+    fill-requires
+    same-length
+    returns)

@@ -1,0 +1,48 @@
+-- Rules: a page's entries where a pair goes in or a page below was split. Cited by insertion and by the room that it needs.
+use Prim.Native.Nat.{ℕ, _-_}
+use mathlib.Core.Bool.{Bool, true, false, cond, _&&_}
+use mathlib.Core.List.{List, [], _∷_, _++_}
+use lib.ListN.{length}
+use lib.Dec.{leb}
+use Rattle.octets.specs.Bytes.{be32, toBe32}
+use Rattle.octets.specs.Store.{put}
+use Rattle.octets.specs.Order.{bytesLe}
+use Rattle.tree.specs.Order.{larger}
+use Rattle.tree.specs.Pairs.{lastKey}
+use Rattle.tree.specs.Room.{choose}
+use Rattle.page.specs.Page.{entryOffset}
+use Rattle.page.specs.KeyOrder.{bytesOrder}
+use Rattle.page.specs.Reading.{Item}
+use Rattle.layout.specs.Layout.{itemsIn}
+
+-- the entry that "lookup's steps lead to, the last if its key is above all"
+abbrev pub chosen : List ℕ → List Item → Item
+chosen key [] = ([], [])
+chosen key (x ∷ xs) = choose bytesOrder key x xs
+
+abbrev pub childOf : Item → ℕ
+childOf e = be32 (e .1) 0
+
+-- entries with others in the place of that one
+abbrev pub replaced : List ℕ → (Item → List Item) → List Item → List Item
+replaced key f [] = []
+replaced key f (x ∷ []) = f x
+replaced key f (x ∷ y ∷ ys) = cond (bytesLe key (x .0)) (f x ++ (y ∷ ys)) (x ∷ replaced key f (y ∷ ys))
+
+-- whether the key is above all of a page
+abbrev pub aboveAll : List ℕ → List Item → Bool
+aboveAll key [] = true
+aboveAll key (x ∷ xs) = cond (bytesLe key (x .0)) false (aboveAll key xs)
+
+-- "keys above": where no page splits below it, a page changes only the key of the entry gone through, and only if the new key is above it, that is,
+-- above all: then it is the last entry's. A page without entries stays
+unfoldable pub raised : ℕ → List ℕ → List ℕ → ℕ → List ℕ
+raised k b key p =
+    let es = itemsIn k b p in
+    let higher = put b (entryOffset k p (length es - 1)) key in
+    cond (leb 1 (length es) && aboveAll key es) higher b
+
+-- two entries for the one above a page that was split: the greatest key that stayed, over the old page, and the larger of the old key above and the new
+-- key, over the new page at q
+abbrev pub twoFor : ℕ → List ℕ → List ℕ → ℕ → ℕ → Item → List Item
+twoFor k b key c q e = (lastKey key (itemsIn k b c), e .1) ∷ (larger bytesOrder (e .0) key, toBe32 q) ∷ []

@@ -1,0 +1,40 @@
+-- Rules: what the calls on a page that is written ask of the buffer b: n entries with keys of k bytes, held in the byte string s, for the page at p.
+use Prim.Native.Nat.{ℕ, suc, _+_, _*_, _≤_}
+use mathlib.Core.Path.{_≡_}
+use mathlib.Core.Bool.{true, cond}
+use mathlib.Core.List.{List, [], _∷_}
+use lib.ListN.{length}
+use Rattle.octets.specs.Order.{bytesLe}
+use Rattle.page.specs.Header.{maxKey, isPage}
+use Rattle.page.specs.Page.{capacity, entryArea}
+use Rattle.page.specs.Within.{Within}
+use Rattle.page.specs.Reading.{Item}
+use Rattle.layout.specs.Layout.{itemsIn}
+
+-- the page has room for them
+pub record Given (b : List ℕ) (k p n : ℕ) (s : List ℕ) : Type 0 where
+  pub within : Within b k p n
+  pub size : length s ≡ n * (k + 4)
+
+-- the page has room for them, or for all but one
+pub record Over (b : List ℕ) (k p n : ℕ) (s : List ℕ) : Type 0 where
+  pub key : k ≤ maxKey
+  pub page : isPage (length b) p ≡ true
+  pub count : n ≤ capacity k + 1
+  pub size : length s ≡ n * (k + 4)
+
+-- the page at p of the buffer has n entries
+pub record Listed (b : List ℕ) (k p n : ℕ) : Type 0 where
+  pub key : k ≤ maxKey
+  pub page : isPage (length b) p ≡ true
+  pub count : n ≡ length (itemsIn k b p)
+
+-- the room in which entries are gathered: the entry area and one entry more
+abbrev pub roomSize : ℕ
+roomSize = entryArea + maxKey + 4
+
+-- the number of the entry that is chosen
+abbrev pub chosenAt : List ℕ → List Item → ℕ
+chosenAt key [] = 0
+chosenAt key (x ∷ []) = 0
+chosenAt key (x ∷ y ∷ ys) = cond (bytesLe key (x .0)) 0 (suc (chosenAt key (y ∷ ys)))

@@ -1,0 +1,51 @@
+-- Rules: pages as bytes: what a page that is written holds. Cited by insertion and by fresh. A buffer b is read as far as its own length here.
+use Prim.Native.Nat.{ℕ, _+_, _-_, _%_}
+use mathlib.Core.Bool.{cond}
+use mathlib.Core.List.{List, [], _∷_, _++_}
+use lib.ListN.{length, take, drop, replicate}
+use Rattle.octets.specs.Bytes.{toLe16, toLe32}
+use Rattle.octets.specs.Store.{put}
+use Rattle.tree.specs.Insertion.{half}
+use Rattle.page.specs.Header.{isPage}
+use Rattle.page.specs.Page.{attributeAt, rightAt, entriesStart, entryArea}
+use Rattle.page.specs.Reading.{Item, itemsAt}
+
+-- the entries of the page at p of the buffer
+abbrev pub itemsIn : ℕ → List ℕ → ℕ → List Item
+itemsIn k b p = itemsAt k (length b) b p
+
+-- entries as bytes: each "key, then" number
+unfoldable pub encode : List Item → List ℕ
+encode [] = []
+encode (e ∷ es) = e .0 ++ (e .1 ++ encode es)
+
+-- a page's entry area: "zero after its last entry"
+unfoldable pub area : List Item → List ℕ
+area es = encode es ++ replicate (entryArea - length (encode es)) 0
+
+-- the page at p with other entries: its count and its entry area
+unfoldable pub withEntries : List ℕ → ℕ → List Item → List ℕ
+withEntries b p es = put (put b (p + 2) (toLe16 (length es))) (p + entriesStart) (area es)
+
+-- a page written whole: "0-1 attribute, 2-3 count, 4-7 left, 8-11 right, then entries"
+unfoldable pub newPage : List ℕ → ℕ → ℕ → ℕ → ℕ → List Item → List ℕ
+newPage b p attribute left right es =
+    put b p (toLe16 attribute ++ (toLe16 (length es) ++ (toLe32 left ++ (toLe32 right ++ area es))))
+
+-- an attribute without the root bit
+abbrev pub withoutRoot : ℕ → ℕ
+withoutRoot a = a - a % 2
+
+-- the page beyond, at r, if there is one, gets q for its left neighbour
+unfoldable pub linkBeyond : List ℕ → ℕ → ℕ → List ℕ
+linkBeyond b r q = let linked = put b (r + 4) (toLe32 q) in cond (isPage (length b) r) linked b
+
+-- "a page with capacity + 1 entries keeps the lower half, rounded up; the rest go to a new page" at q, its right neighbour. Neither has the root bit, both
+-- have the old leaf bit; the page beyond has the new page on its left
+unfoldable pub splitPage : List ℕ → ℕ → List Item → ℕ → List ℕ
+splitPage b p es q =
+    let m = half (length es) in
+    let a = withoutRoot (attributeAt b p) in
+    let r = rightAt b p in
+    let lower = put (put (withEntries b p (take m es)) p (toLe16 a)) (p + 8) (toLe32 q) in
+    newPage (linkBeyond lower r q) q a p r (drop m es)

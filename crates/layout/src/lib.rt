@@ -1,0 +1,260 @@
+// Pages as they are written: the entries gathered for a page, a page with its entries, a new page, and a page that is split.
+use page::Page;
+use page::PageOffset;
+use page::RecordNumber;
+ghost use mathlib.Core.Path.{_≡_};
+ghost use mathlib.Core.Bool.{Bool, true};
+ghost use Prim.Native.Nat.{ℕ, _+_, _-_, _*_, _≤_, _<_};
+ghost use lib.ListN.{length};
+ghost use Rattle.octets.specs.Bytes.{toBe32};
+ghost use Rattle.octets.specs.Store.{put, window};
+ghost use Rattle.tree.specs.Order.{larger};
+ghost use Rattle.tree.specs.Pairs.{lastKey, insertPair};
+ghost use Rattle.page.specs.Header.{maxKey, pageSize, isPage};
+ghost use Rattle.page.specs.Page.{capacity, entryOffset, keyAt};
+ghost use Rattle.page.specs.Within.{Within};
+ghost use Rattle.page.specs.KeyOrder.{bytesOrder};
+ghost use Rattle.page.specs.Reading.{items};
+ghost use Rattle.layout.specs.Layout.{itemsIn, encode, withEntries, newPage, linkBeyond, splitPage};
+ghost use Rattle.layout.specs.Entries.{chosen, childOf, replaced, raised, twoFor};
+ghost use Rattle.layout.specs.Given.{Given, Over, Listed, roomSize, chosenAt};
+
+// The room in which the entries of a page are gathered: the entry area and one entry more.
+pub const ROOM: usize = 604;
+
+// Gives a page so many entries, held in a byte string: zero after the last.
+pub fn with_entries(index: &mut [u8], k: usize, page: PageOffset, count: usize, entries: &[u8])
+    requires { ⌜ Given (now index) k (page .0) count (now entries) ⌝ }
+    ensures { λ _. ⌜ now (index .exit) ≡ withEntries (now (index .entry)) (page .0) (items k count (now (entries .entry))) ⌝ }
+{
+    let at = page.0 as usize;
+    octets::store_le16(index, at + 2, count as u32);
+    octets::copy_in(index, at + 12, entries);
+    octets::fill(
+        index,
+        page::entry_offset(k, page, count),
+        at + Page::SIZE,
+        0,
+    );
+}
+
+// Writes a page whole.
+pub fn new_page(index: &mut [u8], k: usize, page: PageOffset, head: Page, entries: &[u8])
+    requires { ⌜ Given (now index) k (page .0) (head .count) (now entries) ⌝ }
+    ensures { λ _. ⌜ now (index .exit) ≡ newPage (now (index .entry)) (page .0) (head .attribute) (head .left .0) (head .right .0) (items k (head .count) (now (entries .entry))) ⌝ }
+{
+    let at = page.0 as usize;
+    octets::store_le16(index, at, head.attribute);
+    octets::store_le32(index, at + 4, head.left.0);
+    octets::store_le32(index, at + 8, head.right.0);
+    with_entries(index, k, page, head.count as usize, entries);
+}
+
+// The page beyond, if there is one, gets a new left neighbour.
+fn link_beyond(index: &mut [u8], beyond: PageOffset, new: PageOffset)
+    ensures { λ _. ⌜ now (index .exit) ≡ linkBeyond (now (index .entry)) (beyond .0) (new .0) ⌝ }
+{
+    if page::is_page(index.len(), beyond) {
+        octets::store_le32(index, beyond.0 as usize + 4, new.0);
+    }
+}
+
+// Splits a page that is to have so many entries, held in a byte string: the lower half stays, rounded up, and the rest go to a new page.
+pub fn split_page(
+    index: &mut [u8],
+    k: usize,
+    page: PageOffset,
+    count: usize,
+    entries: &[u8],
+    new: PageOffset,
+)
+    requires { ⌜ Over (now index) k (page .0) count (now entries) × (isPage (length (now index)) (new .0) ≡ true) ⌝ }
+    ensures { λ _. ⌜ now (index .exit) ≡ splitPage (now (index .entry)) (page .0) (items k count (now (entries .entry))) (new .0) ⌝ }
+{
+    let at = page.0 as usize;
+    let head = Page::at(index, page);
+    let attribute = head.attribute - head.attribute % 2;
+    let right = head.right;
+    let lower = (count + 1) / 2;
+    let cut = lower * (k + 4);
+    with_entries(index, k, page, lower, &entries[..cut]);
+    octets::store_le16(index, at, attribute);
+    octets::store_le32(index, at + 8, new.0);
+    link_beyond(index, right, new);
+    let upper = Page {
+        attribute: attribute,
+        count: (count - lower) as u32,
+        left: page,
+        right: right,
+    };
+    new_page(index, k, new, upper, &entries[cut..]);
+}
+
+// How many entries are read of a page: none where there is no page, and never more than the capacity.
+pub fn entry_count(index: &[u8], k: usize, page: PageOffset) -> usize
+    requires { ⌜ k ≤ maxKey ⌝ }
+    ensures { λ r. ⌜ r ≡ length (itemsIn k (now (index .entry)) (page .0)) ⌝ }
+{
+    if !page::is_page(index.len(), page) {
+        return 0;
+    }
+    let head = Page::at(index, page);
+    let count = head.count as usize;
+    let capacity = Page::capacity(k);
+    if capacity < count {
+        return capacity;
+    }
+    count
+}
+
+// The number of the entry that a key goes under: the first at or above it, or the last.
+fn chosen_entry(index: &[u8], key: &[u8], page: PageOffset, count: usize) -> usize
+    requires { ⌜ Listed (now index) (length (now key)) (page .0) count × (1 ≤ count) ⌝ }
+    ensures { λ r. ⌜ (r ≡ chosenAt (now (key .entry)) (itemsIn (length (now (key .entry))) (now (index .entry)) (page .0))) × (r < count) ⌝ }
+{
+    let i = page::first_at_or_above(index, page, count, key);
+    if i == count {
+        return count - 1;
+    }
+    i
+}
+
+// The child that a key goes under.
+pub fn chosen_child(index: &[u8], key: &[u8], page: PageOffset) -> PageOffset
+    requires { ⌜ (length (now key) ≤ maxKey) × (isPage (length (now index)) (page .0) ≡ true) ⌝ }
+    ensures { λ r. ⌜ r .0 ≡ childOf (chosen (now (key .entry)) (itemsIn (length (now (key .entry))) (now (index .entry)) (page .0))) ⌝ }
+{
+    let count = entry_count(index, key.len(), page);
+    if count == 0 {
+        return PageOffset(0);
+    }
+    page::child(
+        index,
+        key.len(),
+        page,
+        chosen_entry(index, key, page, count),
+    )
+}
+
+// Raises the last key of a page to a key that is above all of them.
+pub fn raise_key(index: &mut [u8], key: &[u8], page: PageOffset)
+    requires { ⌜ (length (now key) ≤ maxKey) × (isPage (length (now index)) (page .0) ≡ true) ⌝ }
+    ensures { λ _. ⌜ now (index .exit) ≡ raised (length (now (key .entry))) (now (index .entry)) (now (key .entry)) (page .0) ⌝ }
+{
+    let count = entry_count(index, key.len(), page);
+    if count == 0 {
+        return;
+    }
+    if page::first_at_or_above(index, page, count, key) == count {
+        octets::copy_in(index, page::entry_offset(key.len(), page, count - 1), key);
+    }
+}
+
+// Copies the entries of a page from one number up to another.
+fn copy_entries(
+    to: &mut [u8],
+    at: usize,
+    index: &[u8],
+    k: usize,
+    page: PageOffset,
+    first: usize,
+    end: usize,
+)
+    requires { ⌜ Within (now index) k (page .0) end × (first ≤ end) × (at + (end - first) * (k + 4) ≤ length (now to)) ⌝ }
+    ensures { λ _. ⌜ now (to .exit) ≡ put (now (to .entry)) at (window (now (index .entry)) (entryOffset k (page .0) first) ((end - first) * (k + 4))) ⌝ }
+{
+    let from = page::entry_offset(k, page, first);
+    let upto = page::entry_offset(k, page, end);
+    octets::copy_in(to, at, &index[from..upto]);
+}
+
+// Copies entry i's key.
+fn copy_key(to: &mut [u8], at: usize, index: &[u8], k: usize, page: PageOffset, i: usize)
+    requires { ⌜ Within (now index) k (page .0) (i + 1) × (at + k ≤ length (now to)) ⌝ }
+    ensures { λ _. ⌜ now (to .exit) ≡ put (now (to .entry)) at (keyAt (now (index .entry)) k (page .0) i) ⌝ }
+{
+    let from = page::entry_offset(k, page, i);
+    let upto = from + k;
+    octets::copy_in(to, at, &index[from..upto]);
+}
+
+// Copies the four bytes of entry i's number.
+fn copy_number(to: &mut [u8], at: usize, index: &[u8], k: usize, page: PageOffset, i: usize)
+    requires { ⌜ Within (now index) k (page .0) (i + 1) × (at + 4 ≤ length (now to)) ⌝ }
+    ensures { λ _. ⌜ now (to .exit) ≡ put (now (to .entry)) at (window (now (index .entry)) (entryOffset k (page .0) i + k) 4) ⌝ }
+{
+    let from = page::entry_offset(k, page, i) + k;
+    let upto = from + 4;
+    octets::copy_in(to, at, &index[from..upto]);
+}
+
+// Copies the last key of a page, or a given key where the page has none.
+pub fn copy_last_key(to: &mut [u8], at: usize, index: &[u8], key: &[u8], page: PageOffset)
+    requires { ⌜ (length (now key) ≤ maxKey) × (at + length (now key) ≤ length (now to)) ⌝ }
+    ensures { λ _. ⌜ now (to .exit) ≡ put (now (to .entry)) at (lastKey (now (key .entry)) (itemsIn (length (now (key .entry))) (now (index .entry)) (page .0))) ⌝ }
+{
+    let count = entry_count(index, key.len(), page);
+    if count == 0 {
+        octets::copy_in(to, at, key);
+        return;
+    }
+    copy_key(to, at, index, key.len(), page, count - 1);
+}
+
+// Copies the larger of entry i's key and a key.
+fn copy_larger_key(to: &mut [u8], at: usize, index: &[u8], key: &[u8], page: PageOffset, i: usize)
+    requires { ⌜ Within (now index) (length (now key)) (page .0) (i + 1) × (at + length (now key) ≤ length (now to)) ⌝ }
+    ensures { λ _. ⌜ now (to .exit) ≡ put (now (to .entry)) at (larger bytesOrder (keyAt (now (index .entry)) (length (now (key .entry))) (page .0) i) (now (key .entry))) ⌝ }
+{
+    if octets::is_below(page::compare_entry(index, page, i, key)) {
+        octets::copy_in(to, at, key);
+        return;
+    }
+    copy_key(to, at, index, key.len(), page, i);
+}
+
+// Gathers the entries of a leaf with one pair more.
+pub fn gather_pair(
+    room: &mut [u8],
+    index: &[u8],
+    key: &[u8],
+    number: RecordNumber,
+    page: PageOffset,
+    count: usize,
+)
+    requires { ⌜ Listed (now index) (length (now key)) (page .0) count × (roomSize ≤ length (now room)) ⌝ }
+    ensures { λ _. ⌜ now (room .exit) ≡ put (now (room .entry)) 0 (encode (insertPair bytesOrder (now (key .entry)) (toBe32 (number .0)) (itemsIn (length (now (key .entry))) (now (index .entry)) (page .0)))) ⌝ }
+{
+    let k = key.len();
+    let i = page::first_at_or_above(index, page, count, key);
+    let at = i * (k + 4);
+    copy_entries(room, 0, index, k, page, 0, i);
+    octets::copy_in(room, at, key);
+    octets::store_be32(room, at + k, number.0);
+    copy_entries(room, at + k + 4, index, k, page, i, count);
+}
+
+// Gathers the entries of a page above one that was split: two for the one that the key goes under.
+pub fn gather_two(
+    room: &mut [u8],
+    index: &[u8],
+    key: &[u8],
+    page: PageOffset,
+    count: usize,
+    child: PageOffset,
+    new: PageOffset,
+)
+    requires { ⌜ Listed (now index) (length (now key)) (page .0) count × (1 ≤ count) × (roomSize ≤ length (now room)) ⌝ }
+    ensures { λ _. ⌜ now (room .exit) ≡ put (now (room .entry)) 0 (encode (replaced (now (key .entry)) (twoFor (length (now (key .entry))) (now (index .entry)) (now (key .entry)) (child .0) (new .0)) (itemsIn (length (now (key .entry))) (now (index .entry)) (page .0)))) ⌝ }
+{
+    let k = key.len();
+    let i = chosen_entry(index, key, page, count);
+    let at = i * (k + 4);
+    let next = at + k + 4;
+    copy_entries(room, 0, index, k, page, 0, i);
+    copy_last_key(room, at, index, key, child);
+    copy_number(room, at + k, index, k, page, i);
+    copy_larger_key(room, next, index, key, page, i);
+    octets::store_be32(room, next + k, new.0);
+    copy_entries(room, next + k + 4, index, k, page, i + 1, count);
+}

@@ -1,0 +1,1 @@
+// Laws of pages that are written, in specs/: no code.
