@@ -1,4 +1,6 @@
 pub mod Insertion
+pub mod Answers
 pub mod Room
 pub mod Calls
 pub mod Fresh
+pub mod StepLaws
