@@ -96,7 +96,7 @@ fn take_in_two(
     ensures { λ r. ⌜ afterChild (length (now (key .entry))) (now (index .entry)) (now (key .entry)) (page .0) (child .0) (split (new .0)) ≡ step (now (index .exit)) (outcomeOf r) ⌝ }
 {
     let mut room = [0u8; layout::ROOM];
-    let file = new.0 + 512;
+    let file = new.0 + Page::SIZE as u32;
     let count = layout::entry_count(index, key.len(), page);
     if count == 0 {
         return take_in(index, key.len(), page, 0, &room[..0], file);
@@ -136,7 +136,7 @@ fn visit_page(index: &[u8], key: &[u8], page: PageOffset) -> Visit
         return Visit::Bad;
     }
     let head = Page::at(index, page);
-    if 2 <= head.attribute {
+    if page::is_leaf(head.attribute) {
         return Visit::Leaf;
     }
     Visit::Child(layout::chosen_child(index, key, page))

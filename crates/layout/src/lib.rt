@@ -29,7 +29,7 @@ pub fn with_entries(index: &mut [u8], k: usize, page: PageOffset, count: usize, 
 {
     let at = page.0 as usize;
     octets::store_le16(index, at + 2, count as u32);
-    octets::copy_in(index, at + 12, entries);
+    octets::copy_in(index, at + Page::ENTRIES_START, entries);
     octets::fill(
         index,
         page::entry_offset(k, page, count),

@@ -1,16 +1,16 @@
 -- Laws: what a page's entries say by case, and a step of lookup. Cited by the proofs of this crate's functions. Assumes nothing.
-use Prim.Native.Nat.{ℕ, zero, suc, _-_, _≤_, _<_}
+use Prim.Native.Nat.{ℕ, zero, suc, _-_}
 use mathlib.Core.Path.{_≡_, refl, sym, _∙_}
 use mathlib.Core.Bool.{true, false}
 use mathlib.Core.List.{List}
 use native.Mathlib.Omega.{arith}
 use lib.ListN.{length}
 use lib.Dec.{eqb}
-use borrow.Author.Tests.{eq-eqb, ne-eqb, le-leb, lt-leb}
+use borrow.Author.Tests.{eq-eqb, ne-eqb}
 use Rattle.octets.specs.declared.Ordering.{Ordering}
 use Rattle.octets.specs.Order.{ordering, isEqual}
 use Rattle.page.specs.Header.{maxLevels}
-use Rattle.page.specs.Page.{attributeAt, countAt, keyAt, numberAt, firstAtOrAbove}
+use Rattle.page.specs.Page.{attributeAt, countAt, leafBit, keyAt, numberAt, firstAtOrAbove}
 use Rattle.lookup.specs.Lookup.{childOf, recordOf, entrySays, pageSays, visitRule, decided, lookupFrom}
 use Rattle.lookup.specs.declared.Visit.{Visit}
 use Rattle.lookup.specs.declared.Visit.the-variants as visit
@@ -34,18 +34,18 @@ module _ {b key : List ℕ} {p a n i : ℕ} (s : Searched b key p a n i) where
     some : eqb i (countAt b p) ≡ false
     some = ne-eqb i (countAt b p) (λ q. ne (q ∙ sym (s .count)))
 
-    pub says-child : (m : ℕ) → a < 2 → m ≡ numberAt b (length key) p i → visit.Child (childOf m) ≡ pageSays b key p
+    pub says-child : (m : ℕ) → leafBit a ≡ false → m ≡ numberAt b (length key) p i → visit.Child (childOf m) ≡ pageSays b key p
     unfolding entrySays
-    says-child m h em = sym (says-entry ∙ simp (some, ← s .attribute, lt-leb 2 a h, ← em))
+    says-child m h em = sym (says-entry ∙ simp (some, ← s .attribute, h, ← em))
 
-    module _ (leaf : 2 ≤ a) {o : Ordering} (eo : o ≡ ordering (keyAt b (length key) p i) key) where
+    module _ (leaf : leafBit a ≡ true) {o : Ordering} (eo : o ≡ ordering (keyAt b (length key) p i) key) where
       pub says-found : (m : ℕ) → isEqual o ≡ true → m ≡ numberAt b (length key) p i → visit.Found (recordOf m) ≡ pageSays b key p
       unfolding entrySays
-      says-found m h em = sym (says-entry ∙ simp (some, ← s .attribute, le-leb 2 a leaf, ← eo, h, ← em))
+      says-found m h em = sym (says-entry ∙ simp (some, ← s .attribute, leaf, ← eo, h, ← em))
 
       pub says-other : isEqual o ≡ false → visit.Absent ≡ pageSays b key p
       unfolding entrySays
-      says-other h = sym (says-entry ∙ simp (some, ← s .attribute, le-leb 2 a leaf, ← eo, h))
+      says-other h = sym (says-entry ∙ simp (some, ← s .attribute, leaf, ← eo, h))
 
 -- a visit v that is w decides lookup with so many levels left, at least one
 pub lookup-step : (levels : ℕ) (b key : List ℕ) (p : ℕ) (v w : Visit) → (levels ≡ 0 → ⊥)

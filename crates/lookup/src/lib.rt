@@ -37,7 +37,7 @@ fn search_page(index: &[u8], key: &[u8], page: PageOffset) -> Visit
     if i == count {
         return Visit::Absent;
     }
-    if head.attribute < 2 {
+    if !page::is_leaf(head.attribute) {
         return Visit::Child(page::child(index, key.len(), page, i));
     }
     if octets::is_equal(page::compare_entry(index, page, i, key)) {

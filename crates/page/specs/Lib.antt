@@ -6,3 +6,4 @@ pub mod KeyOrder
 pub mod HeaderLaws
 pub mod PageLaws
 pub mod ReadingLaws
+pub mod SearchLaws

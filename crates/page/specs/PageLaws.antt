@@ -1,7 +1,7 @@
 -- Laws: what a good page says, where its entries lie, and the search in a page, entry after entry. Cited by the proofs of lookup, audit and insertion.
 -- Assumes nothing.
-use Prim.Native.Nat.{ℕ, suc, _+_, _-_, _*_, _≤_, _<_}
-use mathlib.Core.Path.{_≡_}
+use Prim.Native.Nat.{ℕ, zero, suc, _+_, _-_, _*_, _≤_, _<_}
+use mathlib.Core.Path.{_≡_, refl}
 use mathlib.Core.Bool.{Bool, true, false, not, _||_, Bool·beq}
 use mathlib.Core.List.{List}
 use native.Mathlib.Nat.{mul-le-mul-right, div-mul-le-self, zero-mul, suc-mul, le-trans, div-le-self}
@@ -10,7 +10,7 @@ use native.Mathlib.Omega.{arith}
 use lib.ListN.{length}
 use lib.Dec.{eqb, leb}
 use borrow.Author.Tests.{leb-true}
-use Rattle.basis.specs.Tests.{both}
+use Rattle.basis.specs.Tests.{either, both}
 use Rattle.octets.specs.Order.{bytesLe}
 use Rattle.page.specs.Header.{maxKey, pageSize, isPage}
 use Rattle.page.specs.Page.{attributeAt, countAt, entriesStart, entryArea, capacity, entryOffset, rootBit, leafBit, attributeGood, countGood, pageGood, firstAtOrAbove}
@@ -90,16 +90,33 @@ entry-within {b} {k} {p} {i} w =
     let f : i < capacity k = omega arith in
     record { key = w .key; few = f; inside = omega (arith, entry-inside k p i f) }
 
--- the search goes by the first entry that is not below the key: of the n entries, those from entry i on
+-- the search goes by the first entry at or above the key, entry after entry
+module _ (keys : ℕ → List ℕ) (key : List ℕ) where
+  pub first-end : (i : ℕ) → firstAtOrAbove keys key zero i ≡ i
+  unfolding firstAtOrAbove
+  first-end i = refl
+
+  pub first-here : (n i : ℕ) → bytesLe key (keys i) ≡ true → firstAtOrAbove keys key (suc n) i ≡ i
+  unfolding firstAtOrAbove
+  first-here n i e = rw (e, firstAtOrAbove)
+
+  pub first-later : (n i : ℕ) → bytesLe key (keys i) ≡ false → firstAtOrAbove keys key (suc n) i ≡ firstAtOrAbove keys key n (i + 1)
+  unfolding firstAtOrAbove
+  first-later n i e = rw (e, firstAtOrAbove)
+
+  pub first-bound : (n i : ℕ) → firstAtOrAbove keys key n i ≤ i + n
+  first-bound zero i = omega (arith, first-end i)
+  first-bound (suc n) i = either (bytesLe key (keys i))
+      (λ e. omega (arith, first-here n i e))
+      (λ e. omega (arith, first-later n i e, first-bound n (i + 1)))
+
+-- the same for a loop over n entries that has come to entry i
 module _ (keys : ℕ → List ℕ) (key : List ℕ) (n i : ℕ) where
-  pub first-none : n ≤ i → firstAtOrAbove keys key (n - i) i ≡ i
-  unfolding firstAtOrAbove
-  first-none h = let z : n - i ≡ 0 = omega arith in rw z
+  pub loop-end : n ≤ i → firstAtOrAbove keys key (n - i) i ≡ i
+  loop-end h = let z : n - i ≡ 0 = omega arith in rw z (first-end keys key i)
 
-  pub first-here : i < n → bytesLe key (keys i) ≡ true → firstAtOrAbove keys key (n - i) i ≡ i
-  unfolding firstAtOrAbove
-  first-here h e = let s : n - i ≡ suc (n - (i + 1)) = omega arith in rw (s, e, firstAtOrAbove)
+  pub loop-here : i < n → bytesLe key (keys i) ≡ true → firstAtOrAbove keys key (n - i) i ≡ i
+  loop-here h e = let s : n - i ≡ suc (n - (i + 1)) = omega arith in rw s (first-here keys key (n - (i + 1)) i e)
 
-  pub first-later : i < n → bytesLe key (keys i) ≡ false → firstAtOrAbove keys key (n - i) i ≡ firstAtOrAbove keys key (n - (i + 1)) (i + 1)
-  unfolding firstAtOrAbove
-  first-later h e = let s : n - i ≡ suc (n - (i + 1)) = omega arith in rw (s, e, firstAtOrAbove)
+  pub loop-later : i < n → bytesLe key (keys i) ≡ false → firstAtOrAbove keys key (n - i) i ≡ firstAtOrAbove keys key (n - (i + 1)) (i + 1)
+  loop-later h e = let s : n - i ≡ suc (n - (i + 1)) = omega arith in rw s (first-later keys key (n - (i + 1)) i e)

@@ -6,7 +6,9 @@ use mathlib.Core.List.{List, [], _∷_, map}
 use lib.ListN.{take, drop}
 use Rattle.octets.specs.Bytes.{be32}
 use Rattle.octets.specs.Store.{window}
-use Rattle.page.specs.Header.{isPage, rootOffset, fileSize, keyLength}
+use Rattle.tree.specs.Tree.{Tree}
+use Rattle.tree.specs.Store.{readTree}
+use Rattle.page.specs.Header.{isPage, rootOffset}
 use Rattle.page.specs.Page.{entriesStart, entryArea, capacity, countAt}
 
 -- an entry as it is stored: its key and the four bytes of its number
@@ -28,3 +30,7 @@ numbered e = (e .0, be32 (e .1) 0)
 
 unfoldable pub entriesAt : ℕ → ℕ → List ℕ → ℕ → List (List ℕ × ℕ)
 entriesAt k size b p = map numbered (itemsAt k size b p)
+
+-- the bytes as a tree, from the root on, with h levels under it
+abbrev pub treeOf : ℕ → ℕ → List ℕ → (h : ℕ) → Tree (List ℕ) h
+treeOf k size b h = readTree (entriesAt k size b) h (rootOffset b)

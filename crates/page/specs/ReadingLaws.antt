@@ -4,15 +4,15 @@ use Prim.Native.Nat.{ℕ, zero, suc, _+_, _-_, _*_, _≤_, min}
 use mathlib.Core.Path.{_≡_, refl, sym, ap, _∙_}
 use mathlib.Core.Bool.{true, false}
 use mathlib.Core.List.{List, [], _∷_, map}
-use native.Mathlib.Nat.{sub-zero, min-le-right, min-eq-left, suc-mul}
+use native.Mathlib.Nat.{add-zero, sub-zero, min-le-right, min-eq-left, suc-mul}
 use native.Mathlib.Omega.{arith}
 use lib.Dec.{lit≤}
 use lib.ListN.{length, take, drop}
 use lib.Seq.{take-nil, take-take, drop-drop}
 use Rattle.octets.specs.Store.{window}
-use Rattle.octets.specs.NumberLaws.{be32-window, le16-same}
+use Rattle.octets.specs.NumberLaws.{be32-window, le16-same, le32-same}
 use Rattle.page.specs.Header.{pageSize, isPage}
-use Rattle.page.specs.Page.{countAt, entriesStart, entryArea, capacity, entryOffset, keyAt, numberAt}
+use Rattle.page.specs.Page.{attributeAt, countAt, leftAt, rightAt, entriesStart, entryArea, capacity, entryOffset, keyAt, numberAt}
 use Rattle.page.specs.Reading.{items, itemsAt, numbered, entriesAt}
 use Rattle.page.specs.PageLaws.{entries-fit, entry-first, entry-next}
 
@@ -85,6 +85,15 @@ module _ (a b : List ℕ) (p : ℕ) (e : window a p pageSize ≡ window b p page
   -- a part of the page
   pub window-in-page : (i n : ℕ) → i + n ≤ pageSize → window a (p + i) n ≡ window b (p + i) n
   window-in-page i n h = sym (window-window a p pageSize i n h) ∙ ap (λ (w : List ℕ). window w i n) e ∙ window-window b p pageSize i n h
+
+  pub attribute-same : attributeAt a p ≡ attributeAt b p
+  attribute-same = le16-same a b p (rw add-zero at (window-in-page 0 2 (lit≤ tt)))
+
+  pub left-same : leftAt a p ≡ leftAt b p
+  left-same = le32-same a b (p + 4) (window-in-page 4 4 (lit≤ tt))
+
+  pub right-same : rightAt a p ≡ rightAt b p
+  right-same = le32-same a b (p + 8) (window-in-page 8 4 (lit≤ tt))
 
   pub count-same : countAt a p ≡ countAt b p
   count-same = le16-same a b (p + 2) (window-in-page 2 2 (lit≤ tt))

@@ -6,7 +6,7 @@ ghost use Prim.Native.Nat.{ℕ, _+_, _≤_};
 ghost use lib.ListN.{length};
 ghost use Rattle.octets.specs.Order.{ordering};
 ghost use Rattle.page.specs.Header.{maxKey, pageSize, rootOffset, fileSize, keyLength, isPage, sizeGood, keyLengthGood, headerGood};
-ghost use Rattle.page.specs.Page.{attributeAt, countAt, leftAt, rightAt, capacity, entryOffset, keyAt, numberAt, attributeGood, countGood, pageGood, firstAtOrAbove};
+ghost use Rattle.page.specs.Page.{attributeAt, countAt, leftAt, rightAt, leafBit, capacity, entryOffset, keyAt, numberAt, attributeGood, countGood, pageGood, firstAtOrAbove};
 ghost use Rattle.page.specs.Within.{Within};
 
 // The largest index, in bytes.
@@ -37,6 +37,8 @@ pub struct Page {
 
 impl Page {
     pub const SIZE: usize = 512;
+
+    pub const ENTRIES_START: usize = 12;
 
     pub const ENTRY_AREA: usize = 500;
 
@@ -126,11 +128,18 @@ pub fn header_good(index: &[u8]) -> bool
                 & ((octets::load_le32(index, 4) == NO_PAGE) & (octets::byte(index, 14) == 1))))
 }
 
+// Whether an attribute that is 0 to 3 has the leaf bit.
+pub fn is_leaf(attribute: u32) -> bool
+    ensures { λ r. ⌜ r ≡ leafBit attribute ⌝ }
+{
+    2 <= attribute
+}
+
 // Whether an attribute is good, on the first page that is visited, on the last that may be, or on another.
 pub fn attribute_good(attribute: u32, first: bool, last: bool) -> bool
     ensures { λ r. ⌜ r ≡ attributeGood attribute first last ⌝ }
 {
-    (attribute <= 3) & (((attribute % 2 == 1) == first) & ((2 <= attribute) | !last))
+    (attribute <= 3) & (((attribute % 2 == 1) == first) & (is_leaf(attribute) | !last))
 }
 
 // Whether a count is good, with keys of k bytes on a page of that attribute.
@@ -165,7 +174,7 @@ pub fn entry_offset(k: usize, page: PageOffset, i: usize) -> usize
     requires { ⌜ (k ≤ maxKey) × (i ≤ capacity k) ⌝ }
     ensures { λ r. ⌜ r ≡ entryOffset k (page .0) i ⌝ }
 {
-    page.0 as usize + 12 + i * (k + 4)
+    page.0 as usize + Page::ENTRIES_START + i * (k + 4)
 }
 
 // The number of entry i, most significant byte first.

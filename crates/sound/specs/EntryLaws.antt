@@ -20,7 +20,7 @@ use Rattle.page.specs.Page.{leafBit}
 use Rattle.page.specs.KeyOrder.{bytesOrder, below-not-le, equal-same, equal-refl}
 use Rattle.page.specs.Reading.{entriesAt}
 use Rattle.sound.specs.Rule.{Entries, lastOf, isAbove, isSame, leafEntries, upperEntries, entriesFit}
-use Rattle.sound.specs.Levels.{Top, append-nil}
+use Rattle.sound.specs.Levels.{Top}
 use Rattle.sound.specs.RunLaws.{Checked}
 
 -- a key is above another, where there is one
@@ -84,14 +84,14 @@ unfolding leafEntries
 leaf-climbs o [] h = tt
 leaf-climbs o (x ∷ xs) h =
     let u = both _ _ h in
-    let v = both _ _ (u .1) in
-    (above-after o (x .0) (v .0), not-zero (x .1) (u .0), leaf-climbs (some (x .0)) xs (v .1))
+    let v = both _ _ (u .0) in
+    (above-after o (x .0) (v .1), not-zero (x .1) (v .0), leaf-climbs (some (x .0)) xs (u .1))
 
 climbs-leaf : (o : Option (List ℕ)) (xs : Entries) → Climbs o xs → leafEntries o xs ≡ true
 unfolding leafEntries
 climbs-leaf o [] h = refl
 climbs-leaf o (x ∷ xs) h =
-    join _ _ (ap not (ne-eqb (x .1) 0 (omega (arith, h .1)))) (join _ _ (after-above o (x .0) (h .0)) (climbs-leaf (some (x .0)) xs (h .2)))
+    join _ _ (join _ _ (ap not (ne-eqb (x .1) 0 (omega (arith, h .1)))) (after-above o (x .0) (h .0))) (climbs-leaf (some (x .0)) xs (h .2))
 
 -- the last key, as an option and beside a default
 last-some : (o : Option (List ℕ)) (a : List ℕ) (xs : Entries) → NonEmpty xs → lastOf o xs ≡ some (lastKey a xs)

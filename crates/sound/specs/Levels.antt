@@ -1,8 +1,8 @@
 -- Laws: the entries of a store level by level, from a list of entries down, and what they are in the trees that are read there: their levels, pairs and pages,
 -- and what holds at every page. Cited by the laws of sound indexes. Assumes nothing.
-use mathlib.Core.Path.{_≡_, refl, sym, ap, _∙_}
+use mathlib.Core.Path.{_≡_, refl, sym, ap, _∙_, subst}
 use mathlib.Core.Bool.{true, false}
-use mathlib.Core.List.{List, [], _∷_, _++_, map, append-assoc}
+use mathlib.Core.List.{List, [], _∷_, _++_, map, append-nil}
 use Prim.Native.Nat.{ℕ, zero, suc, _+_, _-_, _≤_, _<_}
 use native.Mathlib.Omega.{arith}
 use lib.ListN.{length, length-map}
@@ -13,17 +13,13 @@ use Rattle.basis.specs.Lists.{All, all-append, all-left, all-right, all-map}
 use Rattle.tree.specs.Lists.{concatMap, occ}
 use Rattle.tree.specs.ListLaws.{all-unit, all-map2, concatMap-append, concatMap-single, concatMap-none, occ-append}
 use Rattle.tree.specs.Pairs.{lastKey}
-use Rattle.tree.specs.Clauses.{SizedUnder}
-use Rattle.tree.specs.Tree.{Entry, pairsUnder, pagesUnder, levelUnder}
-use Rattle.tree.specs.Exact.{ExactUnder}
-use Rattle.tree.specs.Store.{Store, readEntry}
+use Rattle.tree.specs.Clauses.{least, SizedUnder, Sized}
+use Rattle.tree.specs.Tree.{Entry, pairsUnder, pairs, pagesUnder, pages, levelUnder, level}
+use Rattle.tree.specs.Exact.{ExactUnder, Exact}
+use Rattle.tree.specs.Store.{Store, readEntry, readTree}
 use Rattle.tree.specs.StoreLaws.{map-read-zero, lastKey-read}
 
 -- lists
-pub append-nil : {A : Type 0} (xs : List A) → xs ++ [] ≡ xs
-append-nil [] = refl
-append-nil (x ∷ xs) = ap (λ l. x ∷ l) (append-nil xs)
-
 pub map-append : {A B : Type 0} (f : A → B) (xs ys : List A) → map f (xs ++ ys) ≡ map f xs ++ map f ys
 map-append f [] ys = refl
 map-append f (x ∷ xs) ys = ap (λ l. f x ∷ l) (map-append f xs ys)
@@ -67,7 +63,7 @@ module _ {K : Type 0} (S : Store K) where
   join-below h g [] = refl
   join-below h g (e ∷ es) = rw (map-append (readEntry S h) (S (e .1)) (below es), concatMap-append g (map (readEntry S h) (S (e .1))) (map (readEntry S h) (below es))) (ap (λ l. concatMap g (map (readEntry S h) (S (e .1))) ++ l) (join-below h g es))
 
-  join-map : {B C : Type 0} (g : C → List B) (v : K × ℕ → C) (es : List (K × ℕ)) → concatMap g (map v es) ≡ concatMap (λ e. g (v e)) es
+  pub join-map : {B C : Type 0} (g : C → List B) (v : K × ℕ → C) (es : List (K × ℕ)) → concatMap g (map v es) ≡ concatMap (λ e. g (v e)) es
   join-map g v [] = refl
   join-map g v (e ∷ es) = ap (λ l. g (v e) ++ l) (join-map g v es)
 
@@ -151,11 +147,20 @@ module _ {K : Type 0} (S : Store K) where
       let n = length-map (S (e .1)) (readEntry S h) in
       (rw n (d .0 .0), rw n (d .0 .1), all-to-map (SizedUnder cap h) (readEntry S h) (S (e .1)) (all-map (Deep (Counted cap) h) (λ x. SizedUnder cap h (readEntry S h x)) (deep-sized cap h) (S (e .1)) (d .1)))
 
-  pub sized-deep : (cap h : ℕ) (e : K × ℕ) → SizedUnder cap h (readEntry S h e) → Deep (Counted cap) h e
-  sized-deep cap zero e d = tt
-  sized-deep cap (suc h) e d =
-      let n = length-map (S (e .1)) (readEntry S h) in
-      ((rw n at (d .0), rw n at (d .1)), all-map (λ x. SizedUnder cap h (readEntry S h x)) (Deep (Counted cap) h) (sized-deep cap h) (S (e .1)) (all-of-map (SizedUnder cap h) (readEntry S h) (S (e .1)) (d .2)))
+  -- and every page of a sized tree has an entry
+  sized-level : (cap h : ℕ) → ((e : K × ℕ) → SizedUnder cap h (readEntry S h e) → All (λ p. 0 < length (S p)) (pagesUnder h (readEntry S h e))) →
+      (es : List (K × ℕ)) → All (SizedUnder cap h) (map (readEntry S h) es) → All (λ p. 0 < length (S p)) (concatMap (pagesUnder h) (map (readEntry S h) es))
+  sized-level cap h f [] s = tt
+  sized-level cap h f (e ∷ es) s =
+      all-append (λ p. 0 < length (S p)) (pagesUnder h (readEntry S h e)) (concatMap (pagesUnder h) (map (readEntry S h) es)) (f e (s .0)) (sized-level cap h f es (s .1))
+
+  sized-under : (cap h : ℕ) (e : K × ℕ) → SizedUnder cap h (readEntry S h e) → All (λ p. 0 < length (S p)) (pagesUnder h (readEntry S h e))
+  sized-under cap zero e s = tt
+  sized-under cap (suc h) e s = (rw (length-map (S (e .1)) (readEntry S h)) at (s .0), sized-level cap h (sized-under cap h) (S (e .1)) (s .2))
+
+  pub sized-pages : (cap h root : ℕ) → Sized cap h (readTree S h root) → All (λ p. least h ≤ length (S p)) (pages h (readTree S h root))
+  sized-pages cap zero root s = (omega arith, subst (All (λ p. 0 ≤ length (S p))) (sym (join-map (pagesUnder zero) (readEntry S zero) (S root) ∙ concatMap-none (S root))) tt)
+  sized-pages cap (suc h) root s = (rw (length-map (S root) (readEntry S (suc h))) at (s .0), sized-level cap (suc h) (sized-under cap (suc h)) (S root) (s .2))
 
   -- the key above a page is the page's last
   abbrev pub Top : K × ℕ → Type 0
@@ -170,3 +175,79 @@ module _ {K : Type 0} (S : Store K) where
   exact-deep zero e d = tt
   exact-deep (suc h) e d =
       (sym (lastKey-read S h (e .0) (S (e .1))) ∙ d .0, all-map (λ x. ExactUnder h (readEntry S h x)) (Deep Top h) (exact-deep h) (S (e .1)) (all-of-map (ExactUnder h) (readEntry S h) (S (e .1)) (d .1)))
+
+  -- every entry of every level
+  pub generation-below : (i : ℕ) (es : List (K × ℕ)) → below (generation i es) ≡ generation (suc i) es
+  generation-below zero es = refl
+  generation-below (suc i) es = generation-below i (below es)
+
+  module _ (Q : ℕ → Type 0) where
+    pub generations-reached : (h : ℕ) (es : List (K × ℕ)) → ((i : ℕ) → i < h → All Q (numbers (generation i es))) → All Q (reached h es)
+    generations-reached zero es a = tt
+    generations-reached (suc h) es a = all-append Q (numbers es) (reached h (below es)) (a zero (omega arith)) (generations-reached h (below es) (λ i l. a (suc i) (omega arith)))
+
+    pub reached-generations : (h : ℕ) (es : List (K × ℕ)) → All Q (reached h es) → (i : ℕ) → i < h → All Q (numbers (generation i es))
+    reached-generations zero es a i l = absurd (omega arith)
+    reached-generations (suc h) es a zero l = all-left Q (numbers es) (reached h (below es)) a
+    reached-generations (suc h) es a (suc i) l = reached-generations h (below es) (all-right Q (numbers es) (reached h (below es)) a) i (omega arith)
+
+  -- a tree from its root: a page that an entry with any key names
+  module _ (a : K) (root h : ℕ) where
+    abbrev top : List (K × ℕ)
+    top = (a, root) ∷ []
+
+    pub tree-pairs : pairs h (readTree S h root) ≡ generation (suc h) ((a, root) ∷ [])
+    tree-pairs = sym (append-nil (pairs h (readTree S h root))) ∙ pairs-are (suc h) top
+
+    pub tree-pages : (z : ℕ) → occ z (pages h (readTree S h root)) ≡ occ z (reached (suc h) ((a, root) ∷ []))
+    tree-pages z = ap (occ z) (sym (append-nil (pages h (readTree S h root)))) ∙ pages-are z (suc h) top
+
+    tree-level : (j : ℕ) → j ≤ h → level j h (readTree S h root) ≡ numbers (generation (h - j) ((a, root) ∷ []))
+    tree-level j l = sym (append-nil (level j h (readTree S h root))) ∙ level-is h j l top
+
+    -- level j is the generation h - j
+    module _ (P : ℕ → List ℕ → Type 0) where
+      pub level-generation : ((j : ℕ) → j ≤ h → P j (level j h (readTree S h root))) → (i : ℕ) → i ≤ h → P (h - i) (numbers (generation i ((a, root) ∷ [])))
+      level-generation f i l =
+          let e : h - (h - i) ≡ i = omega arith in
+          rw (tree-level (h - i) (omega arith), e) at (f (h - i) (omega arith))
+
+      pub generation-level : ((i : ℕ) → i ≤ h → P (h - i) (numbers (generation i ((a, root) ∷ [])))) → (j : ℕ) → j ≤ h → P j (level j h (readTree S h root))
+      generation-level f j l =
+          let e : h - (h - j) ≡ j = omega arith in
+          rw (tree-level j l) (rw e at (f (h - j) (omega arith)))
+
+    -- every page
+    module _ (Q : ℕ → Type 0) where
+      pub pages-generation : All Q (pages h (readTree S h root)) → (i : ℕ) → i ≤ h → All Q (numbers (generation i ((a, root) ∷ [])))
+      pages-generation p i l =
+          all-to-map Q (λ e. e .1) (generation i top)
+          (deep-levels (λ e. Q (e .1)) (suc h) top (pages-deep Q (suc h) top (subst (All Q) (sym (append-nil (pages h (readTree S h root)))) p)) i (omega arith))
+
+      pub generation-pages : ((i : ℕ) → i ≤ h → All Q (numbers (generation i ((a, root) ∷ [])))) → All Q (pages h (readTree S h root))
+      generation-pages p =
+          subst (All Q) (append-nil (pages h (readTree S h root))) (deep-pages Q (suc h) top (levels-deep (λ e. Q (e .1)) (suc h) top
+          (λ i l. all-of-map Q (λ e. e .1) (generation i top) (p i (omega arith)))))
+
+    below-top : (i : ℕ) → generation (suc i) ((a, root) ∷ []) ≡ generation i (S root)
+    below-top i = ap (generation i) (append-nil (S root))
+
+    -- counts and keys above, level by level
+    pub generation-sized : (cap : ℕ) → least h ≤ length (S root) → length (S root) ≤ cap → ((i : ℕ) → i < h → All (Counted cap) (generation (suc i) ((a, root) ∷ []))) → Sized cap h (readTree S h root)
+    generation-sized cap l u c =
+        let n = length-map (S root) (readEntry S h) in (
+          rw n l,
+          rw n u,
+          all-to-map (SizedUnder cap h) (readEntry S h) (S root) (all-map (Deep (Counted cap) h) (λ e. SizedUnder cap h (readEntry S h e)) (deep-sized cap h) (S root)
+              (levels-deep (Counted cap) h (S root) (λ i m. rw (below-top i) at (c i m)))),
+        )
+
+    pub generation-exact : ((i : ℕ) → i < h → All Top (generation (suc i) ((a, root) ∷ []))) → Exact h (readTree S h root)
+    generation-exact c =
+        all-to-map (ExactUnder h) (readEntry S h) (S root) (all-map (Deep Top h) (λ e. ExactUnder h (readEntry S h e)) (deep-exact h) (S root)
+        (levels-deep Top h (S root) (λ i m. rw (below-top i) at (c i m))))
+
+    pub exact-generation : Exact h (readTree S h root) → (i : ℕ) → i < h → All Top (generation (suc i) ((a, root) ∷ []))
+    exact-generation x i m =
+        rw (below-top i) (deep-levels Top h (S root) (all-map (λ e. ExactUnder h (readEntry S h e)) (Deep Top h) (exact-deep h) (S root)
+        (all-of-map (ExactUnder h) (readEntry S h) (S root) x)) i m)

@@ -3,3 +3,8 @@ pub mod Levels
 pub mod Rule
 pub mod RunLaws
 pub mod EntryLaws
+pub mod MarkLaws
+pub mod LevelLaws
+pub mod ShapeLaws
+pub mod Accepted
+pub mod IndexLaws

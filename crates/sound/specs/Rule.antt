@@ -38,7 +38,7 @@ isSame (some a) x = isEqual (ordering a x)
 -- the entries of a leaf, after the key o: each key is above the one before it, each record number above 0
 unfoldable pub leafEntries : Option (List ℕ) → Entries → Bool
 leafEntries o [] = true
-leafEntries o (e ∷ es) = not (eqb (e .1) 0) && (isAbove o (e .0) && leafEntries (some (e .0)) es)
+leafEntries o (e ∷ es) = (not (eqb (e .1) 0) && isAbove o (e .0)) && leafEntries (some (e .0)) es
 
 -- the entries of a page above the leaves, in a store of pages: each key is the last of the child's
 unfoldable pub upperEntries : (ℕ → Entries) → Entries → Bool
@@ -49,28 +49,26 @@ upperEntries S (e ∷ es) = isSame (lastOf none (S (e .1))) (e .0) && upperEntri
 abbrev pub attributeOf : Bool → Bool → ℕ
 attributeOf root leaf = cond root 1 0 + cond leaf 2 0
 
--- what the audit knows of the pages met on a level: whether all were good, the last of them, the page that is on the right of it, and how many they are
+-- what the audit knows of the pages met on a level: whether all were good, the last of them, and the page that is to come on its right
 pub record Progress : Type 0 where
   pub good : Bool
   pub last : ℕ
   pub next : ℕ
-  pub count : ℕ
 
--- what it knows of a level: whether it is good, whether it is that of the leaves, its first page, and how many pages it has
+-- what it knows of a level: whether it is good, whether it is that of the leaves, and its first page
 pub record Level : Type 0 where
   pub good : Bool
   pub leaf : Bool
   pub first : ℕ
-  pub count : ℕ
 
 -- at the start of a level, whose first page is to be `first`
 abbrev pub start : ℕ → Progress
-start first = record { good = true; last = noPage; next = first; count = 0 }
+start first = record { good = true; last = noPage; next = first }
 
 abbrev pub refused : Progress → Progress
-refused s = record { good = false; last = s .last; next = s .next; count = s .count }
+refused s = record { good = false; last = s .last; next = s .next }
 
--- the pages from p on, n at most, each named by the one on its left
+-- the pages from p on, n at most, each named by the right link of the one before it
 unfoldable pub chain : List ℕ → ℕ → ℕ → ℕ → List ℕ
 chain b size zero p = []
 chain b size (suc n) p = elim (isPage size p) [ true ↦ p ∷ chain b size n (rightAt b p) | false ↦ [] ]
@@ -86,7 +84,7 @@ markedFrom m (suc l) j = eqb (getD m j 0) 1 && markedFrom m l (j + 1)
 
 -- a good level goes to its end: no page is on the right of its last
 abbrev pub closed : Bool → ℕ → Progress × List ℕ → Level × List ℕ
-closed leaf first t = (record { good = t .0 .good && eqb (t .0 .next) noPage; leaf = leaf; first = first; count = t .0 .count }, t .1)
+closed leaf first t = (record { good = t .0 .good && eqb (t .0 .next) noPage; leaf = leaf; first = first }, t .1)
 
 module _ (b : List ℕ) (k size : ℕ) where
   abbrev pub entriesOf : ℕ → Entries
@@ -106,8 +104,8 @@ module _ (b : List ℕ) (k size : ℕ) where
   -- one page more, and its mark
   unfoldable pub checkPage : ℕ → ℕ → Progress → List ℕ → Progress × List ℕ
   checkPage a p s m =
-      cond (s .good && (pageFits a p (s .last) (s .next) && eqb (getD m (p / pageSize) 0) 0))
-      (record { good = true; last = p; next = rightAt b p; count = s .count + 1 }, set m (p / pageSize) 1)
+      cond ((s .good && pageFits a p (s .last) (s .next)) && eqb (getD m (p / pageSize) 0) 0)
+      (record { good = true; last = p; next = rightAt b p }, set m (p / pageSize) 1)
       (refused s, m)
 
   -- one page after another
@@ -119,20 +117,26 @@ module _ (b : List ℕ) (k size : ℕ) where
   abbrev pub checkLevel : Bool → ℕ → List ℕ → List ℕ → Level × List ℕ
   checkLevel root first ps m = closed (isLeaf b size first) first (checkPages (attributeOf root (isLeaf b size first)) ps (start first, m))
 
-  -- the root's level, and the level under a good one: the children of its pages
+  -- the root's level, and the level under a good one whose first page is `first`: the children of its pages
   unfoldable pub rootLevel : ℕ → List ℕ → Level × List ℕ
   rootLevel root m = checkLevel true root (root ∷ []) m
 
-  abbrev pub children : List ℕ → List ℕ
-  children ps = map (λ e. e .1) (concatMap entriesOf ps)
+  abbrev pub childrenOf : ℕ → List ℕ
+  childrenOf p = map (λ e. e .1) (entriesOf p)
 
-  unfoldable pub nextLevel : Level → List ℕ → Level × List ℕ
-  nextLevel v m = checkLevel false (headOr noPage (children (v .first ∷ []))) (children (chain b size (v .count) (v .first))) m
+  abbrev pub firstChild : ℕ → ℕ
+  firstChild p = headOr noPage (childrenOf p)
+
+  abbrev pub children : List ℕ → List ℕ
+  children ps = concatMap childrenOf ps
+
+  unfoldable pub nextLevel : ℕ → List ℕ → Level × List ℕ
+  nextLevel first m = checkLevel false (firstChild first) (children (chain b size maxPages first)) m
 
   -- the levels under one, l at most, down to the leaves or the first fault
   unfoldable pub levelsUnder : ℕ → Level × List ℕ → Level × List ℕ
   levelsUnder zero t = t
-  levelsUnder (suc l) t = elim (t .0 .good && not (t .0 .leaf)) [ true ↦ levelsUnder l (nextLevel (t .0) (t .1)) | false ↦ t ]
+  levelsUnder (suc l) t = elim (t .0 .good && not (t .0 .leaf)) [ true ↦ levelsUnder l (nextLevel (t .0 .first) (t .1)) | false ↦ t ]
 
   -- the last level is good and that of the leaves, and every page but the first is marked
   abbrev pub complete : Level × List ℕ → Bool
@@ -145,5 +149,5 @@ pagesGood b m =
     (levelsUnder b (keyLength b) (fileSize b) (maxLevels - 1) (rootLevel b (keyLength b) (fileSize b) (rootOffset b) m))
 
 -- no page is marked
-abbrev pub unmarked : List ℕ
+unfoldable pub unmarked : List ℕ
 unmarked = replicate maxPages 0

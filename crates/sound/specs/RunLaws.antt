@@ -66,10 +66,10 @@ module _ (b : List ℕ) (k size a : ℕ) where
       (pageFits b k size a p last next ≡ true) × (getD m (p / pageSize) 0 ≡ 0) × Run p (rightAt b p) (set m (p / pageSize) 1) ps
 
   abbrev tested : ℕ → Progress → List ℕ → Bool
-  tested p s m = s .good && (pageFits b k size a p (s .last) (s .next) && eqb (getD m (p / pageSize) 0) 0)
+  tested p s m = (s .good && pageFits b k size a p (s .last) (s .next)) && eqb (getD m (p / pageSize) 0) 0
 
   abbrev moved : ℕ → Progress → List ℕ → Progress × List ℕ
-  moved p s m = (record { good = true; last = p; next = rightAt b p; count = s .count + 1 }, set m (p / pageSize) 1)
+  moved p s m = (record { good = true; last = p; next = rightAt b p }, set m (p / pageSize) 1)
 
   page-test : (p : ℕ) (s : Progress) (m : List ℕ) → checkPage b k size a p s m .0 .good ≡ true → tested p s m ≡ true
   unfolding checkPage
@@ -86,25 +86,20 @@ module _ (b : List ℕ) (k size a : ℕ) where
       let r = checkPage b k size a p s m in
       let ih = good-run ps (r .0) (r .1) h in
       let t = page-test p s m (ih .0) in
-      let u = both (s .good) _ t in
-      let v = both (pageFits b k size a p (s .last) (s .next)) _ (u .1) in
-      (u .0, (v .0, eqb-true _ _ (v .1), rw (page-moves p s m t) at (ih .1)))
+      let u = both (s .good && pageFits b k size a p (s .last) (s .next)) _ t in
+      let v = both (s .good) _ (u .0) in
+      (v .0, (v .1, eqb-true _ _ (u .1), rw (page-moves p s m t) at (ih .1)))
 
   -- what is left of a good run
   abbrev ended : List ℕ → Progress → List ℕ → Progress × List ℕ
-  ended ps s m = (record { good = true; last = lastPage (s .last) ps; next = lastNext (s .next) ps; count = s .count + length ps }, markAll m ps)
+  ended ps s m = (record { good = true; last = lastPage (s .last) ps; next = lastNext (s .next) ps }, markAll m ps)
 
   run-ends : (ps : List ℕ) (s : Progress) (m : List ℕ) → s .good ≡ true → Run (s .last) (s .next) m ps → checkPages b k size a ps (s, m) ≡ ended ps s m
   unfolding checkPages
-  run-ends [] s m g r =
-      let e : s .count ≡ s .count + 0 = omega arith in
-      ap₂ (λ (x : Bool) (n : ℕ). (record { good = x; last = s .last; next = s .next; count = n }, m)) g e
+  run-ends [] s m g r = ap (λ (x : Bool). (record { good = x; last = s .last; next = s .next }, m)) g
   run-ends (p ∷ ps) s m g r =
       let t : tested p s m ≡ true = rw (g, r .0, eq-eqb (getD m (p / pageSize) 0) 0 (r .1)) in
-      let e : s .count + 1 + length ps ≡ s .count + length (p ∷ ps) = omega arith in
-      ap (checkPages b k size a ps) (page-moves p s m t)
-      ∙ (run-ends ps (moved p s m .0) (set m (p / pageSize) 1) refl (r .2)
-      ∙ ap (λ (n : ℕ). (record { good = true; last = lastPage p ps; next = lastNext (rightAt b p) ps; count = n }, markAll (set m (p / pageSize) 1) ps)) e)
+      ap (checkPages b k size a ps) (page-moves p s m t) ∙ run-ends ps (moved p s m .0) (set m (p / pageSize) 1) refl (r .2)
 
   -- one page that fits, with its parts named
   record PageFit (last next p : ℕ) : Type 0 where
@@ -165,13 +160,11 @@ module _ (b : List ℕ) (k size a : ℕ) where
   -- Theorem: pages that are passed over to the end of their level
   pub check-passed : (s : Progress) (m ps : List ℕ) → checkPages b k size a ps (s, m) .0 .good ≡ true → checkPages b k size a ps (s, m) .0 .next ≡ noPage →
       Passed (s .last) (s .next) m ps
-      × (checkPages b k size a ps (s, m) .0 .count ≡ s .count + length ps)
       × (checkPages b k size a ps (s, m) .1 ≡ markAll m ps)
   check-passed s m ps g n =
       let r = good-run ps s m g in
       let e = run-ends ps s m (r .0) (r .1) in (
         run-passed (s .last) (s .next) m ps (r .1) (sym (ap (λ (t : Progress × List ℕ). t .0 .next) e) ∙ n),
-        ap (λ (t : Progress × List ℕ). t .0 .count) e,
         ap (λ (t : Progress × List ℕ). t .1) e,
       )
 
@@ -179,12 +172,10 @@ module _ (b : List ℕ) (k size a : ℕ) where
   pub passed-check : (s : Progress) (m ps : List ℕ) → s .good ≡ true → Passed (s .last) (s .next) m ps →
       (checkPages b k size a ps (s, m) .0 .good ≡ true)
       × (checkPages b k size a ps (s, m) .0 .next ≡ noPage)
-      × (checkPages b k size a ps (s, m) .0 .count ≡ s .count + length ps)
       × (checkPages b k size a ps (s, m) .1 ≡ markAll m ps)
   passed-check s m ps g r =
       let e = run-ends ps s m g (passed-run (s .last) (s .next) m ps r) in (
         ap (λ (t : Progress × List ℕ). t .0 .good) e,
         ap (λ (t : Progress × List ℕ). t .0 .next) e ∙ passed-end (s .last) (s .next) ps (r .head) (r .linked),
-        ap (λ (t : Progress × List ℕ). t .0 .count) e,
         ap (λ (t : Progress × List ℕ). t .1) e,
       )

@@ -8,7 +8,7 @@ use lib.Dec.{eqb}
 use Rattle.tree.specs.Order.{Order}
 use Rattle.tree.specs.Pairs.{get, insertPair}
 
--- "the arguments of each call, the buffer left out"
+-- the arguments of a call, "the buffer left out"
 pub data Call (K : Type 0) : Type 0 where
   insertion : K → ℕ → Call K
   lookupOf : K → Call K
@@ -25,6 +25,7 @@ abbrev pub refusedIf : Bool → ℕ → Answer → Answer
 refusedIf true n a = refused n
 refusedIf false n a = a
 
+-- a key was found
 abbrev pub isPresent : Option ℕ → Bool
 isPresent none = false
 isPresent (some r) = true
@@ -34,11 +35,12 @@ abbrev pub verdict : Bool → ℕ → Option ℕ → Bool → Answer
 verdict fits r held full =
     refusedIf (not fits) 27 (refusedIf (eqb r 0) 28 (refusedIf (isPresent held) 29 (refusedIf full 30 accepted)))
 
--- lookup: "a key not of k bytes is 27, one in the book gives its record, any other is absent"
+-- what a lookup that is not refused answers
 abbrev pub foundOrAbsent : Option ℕ → Answer
 foundOrAbsent none = absent
 foundOrAbsent (some r) = found r
 
+-- lookup: "a key not of k bytes is 27, one in the book gives its record, any other is absent"
 abbrev pub finding : Bool → Option ℕ → Answer
 finding fits held = refusedIf (not fits) 27 (foundOrAbsent held)
 
@@ -91,14 +93,13 @@ module _ {K : Type 0} (O : Order K) (fits : K → Bool) where
   bookFinal (c ∷ cs) [] book = book
   bookFinal (c ∷ cs) (f ∷ fs) book = bookFinal cs fs (bookAfter c f book)
 
-  -- "one claim about the whole list", of calls that answer and change a state;
-  -- `leaves` are the state's leaf pairs, `full` is the rule for 30
+  -- "one claim about the whole list": of calls that answer and change a state, from state b and the book on;
+  -- `leaves` gives a state's leaf pairs, and `noRoomFor` is the rule for 30 on the state that is lent to a call
   pub record BookClaim {B : Type 0} (answer : Call K → B → Answer) (next : Call K → B → B) (leaves : B → List (K × ℕ))
-      (full : Call K → B → Bool)
-      (cs : List (Call K)) (b : B) : Type 0 where
+      (noRoomFor : Call K → B → Bool) (cs : List (Call K)) (b : B) (book : List (K × ℕ)) : Type 0 where
     -- "every call answers so, never 24 or 25"
-    pub answers : resultsOf answer next cs b ≡ bookAnswers cs (noRooms (resultsOf answer next cs b)) (leaves b)
+    pub answers : resultsOf answer next cs b ≡ bookAnswers cs (noRooms (resultsOf answer next cs b)) book
     -- "an insertion not refused so is 30 exactly when the rule above, on the index lent to it, says so"
-    pub room : resultsOf answer next cs b ≡ bookAnswers cs (resultsOf full next cs b) (leaves b)
-    -- "the leaves' entries, left to right, are the book's pairs"
-    pub pairs : leaves (finalOf next cs b) ≡ bookFinal cs (noRooms (resultsOf answer next cs b)) (leaves b)
+    pub room : resultsOf answer next cs b ≡ bookAnswers cs (resultsOf noRoomFor next cs b) book
+    -- "after fresh and after each call the leaves' entries, left to right, are the book's pairs"
+    pub pairs : leaves (finalOf next cs b) ≡ bookFinal cs (noRooms (resultsOf answer next cs b)) book

@@ -14,7 +14,7 @@ use Rattle.tree.specs.PairLaws.{lastKey-default, lastKey-concatMap, firs
 use Rattle.tree.specs.PairLaws.{ascending-across, ascending-last, ascending-first}
 use Rattle.tree.specs.Tree.{Entry, Tree, pairsUnder, pairs}
 use Rattle.tree.specs.Clauses.{SizedUnder, Sized, GreatestUnder, Greatest}
-use Rattle.tree.specs.Ordered.{Separated, OrderedUnder, Ordered, separated-all, ordered-ascending}
+use Rattle.tree.specs.Ordered.{Rooted, Separated, OrderedUnder, Ordered, separated-all, ordered-ascending}
 use Rattle.tree.specs.Exact.{ExactUnder, Exact}
 
 -- the leaf pairs under an entry end with the key above them
@@ -30,6 +30,11 @@ sized-level S under ok (x ∷ xs) i s = nonEmpty-left (under x) (concatMap under
 pub sized-nonEmpty : {K : Type 0} (cap h : ℕ) (x : Entry K h) → SizedUnder cap h x → NonEmpty (pairsUnder h x)
 sized-nonEmpty cap zero x s = tt
 sized-nonEmpty cap (suc h) x s = sized-level (SizedUnder cap h) (pairsUnder h) (sized-nonEmpty cap h) (x .1 .1) (s .0) (s .2)
+
+-- and only a lone root leaf is without entries
+pub sized-rooted : {K : Type 0} (cap h : ℕ) (t : Tree K h) → Sized cap h t → Rooted h t
+sized-rooted cap zero t s = tt
+sized-rooted cap (suc h) t s = nonEmpty-length (t .1) (s .0)
 
 greatest-ends : {K : Type 0} (cap h : ℕ) (x : Entry K h) → SizedUnder cap h x → GreatestUnder h x → Ends (pairsUnder h) x
 greatest-ends cap zero x s g a = refl

@@ -34,7 +34,7 @@ pub record Index (K : Type 0) : Type 0 where
 abbrev pub held : {K : Type 0} → Index K → List (K × ℕ)
 held i = pairs (i .height) (i .tree)
 
--- a fresh index: "root 512, F 1,024", and no entry
+-- a fresh index: root 512, F 1,024, and "count 0" there
 abbrev pub fresh : {K : Type 0} → Index K
 fresh = record { height = 0; tree = (pageSize, []); size = 2 * pageSize }
 
@@ -42,8 +42,8 @@ fresh = record { height = 0; tree = (pageSize, []); size = 2 * pageSize }
 abbrev pub grown : {K : Type 0} → ℕ → Grown K → Index K
 grown size g = record { height = g .0; tree = g .1; size = newPage size (g .2) }
 
--- what an index is kept by: the order of keys, which keys are of the right length, the capacity of a
--- page, and the limits: F must pass neither "the buffer or 1,048,576", and levels not 11
+-- what an index is kept by: the order of its keys, which keys have its key length, the capacity of a page, and the numbers that F and the
+-- levels must not pass: the buffer's length or 1,048,576, whichever is less, and 11
 pub record Setting (K : Type 0) : Type 0 where
   pub order : Order K
   pub fits : K → Bool
@@ -52,15 +52,15 @@ pub record Setting (K : Type 0) : Type 0 where
   pub maxLevels : ℕ
 
 module _ {K : Type 0} (s : Setting K) where
-  -- "30 is given exactly when F would pass the buffer or 1,048,576, or levels would pass 11"
+  -- the rule for 30, of an insertion's key and of a call: "30 is given exactly when F would pass the buffer or 1,048,576, or levels would pass 11"
   abbrev pub outOfRoom : K → Index K → Bool
   outOfRoom k i =
       ltb (s .maxSize) (newPage (i .size) (needs (s .order) (s .capacity) k (i .height) (i .tree)))
       || ltb (s .maxLevels) (levelsAfter (s .order) (s .capacity) k (i .height) (i .tree))
 
-  abbrev pub full : Call K → Index K → Bool
-  full (insertion k r) i = outOfRoom k i
-  full (lookupOf k) i = false
+  abbrev pub noRoomFor : Call K → Index K → Bool
+  noRoomFor (insertion k r) i = outOfRoom k i
+  noRoomFor (lookupOf k) i = false
 
   -- the answer to a call
   abbrev pub answer : Call K → Index K → Answer

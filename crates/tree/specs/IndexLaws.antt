@@ -13,24 +13,25 @@ use Rattle.tree.specs.Pairs.{find}
 use Rattle.tree.specs.PairLaws.{find-get, insertPair-all}
 use Rattle.tree.specs.Tree.{pages}
 use Rattle.tree.specs.Clauses.{Links}
-use Rattle.tree.specs.Insertion.{Grown, insert}
+use Rattle.tree.specs.Insertion.{Grown, grownPages, insert}
 use Rattle.tree.specs.Room.{needs, levelsAfter}
-use Rattle.tree.specs.Ordered.{Rooted, Ordered, lookup-find, ordered-ascending}
+use Rattle.tree.specs.Ordered.{Rooted, lookup-find, ordered-ascending}
 use Rattle.tree.specs.InsertPairs.{insert-pairs}
 use Rattle.tree.specs.InsertOrdered.{insert-ordered}
 use Rattle.tree.specs.Exact.{insert-exact}
+use Rattle.tree.specs.ClauseLaws.{sized-rooted}
 use Rattle.tree.specs.InsertSized.{insert-sized}
 use Rattle.tree.specs.InsertPages.{newPages, Distinct, Unused, insert-pages}
 use Rattle.tree.specs.InsertNeeds.{insert-needs}
 use Rattle.tree.specs.InsertLinks.{insert-all-linked}
 use Rattle.tree.specs.Book.{Call, insertion, lookupOf, Answer, accepted, refusedIf, isPresent, verdict, noRoom, isAccepted}
 use Rattle.tree.specs.Book.{bookAnswer, bookAfter}
-use Rattle.tree.specs.Index.{pageSize, noPage, newPage, Index, held, fresh, Setting, outOfRoom, full, answer, inserted, next}
+use Rattle.tree.specs.Index.{pageSize, noPage, newPage, Index, held, fresh, grown, Setting, outOfRoom, noRoomFor, answer, inserted, next}
 use Rattle.tree.specs.Index.{nextLinks}
 use Rattle.tree.specs.SoundIndex.{PagesOnce, SoundIndex, LinkedIndex}
 
 -- the verdict on an insertion: told whether it was 30 it says the same, and it is yes only where no refusal's test holds
-verdict-room : (fits : Bool) (r : ℕ) (held : Option ℕ) (full : Bool) →
+pub verdict-room : (fits : Bool) (r : ℕ) (held : Option ℕ) (full : Bool) →
     verdict fits r held (noRoom (verdict fits r held full)) ≡ verdict fits r held full
 verdict-room fits r held full = go (not fits) (eqb r 0) (isPresent held) full
   where
@@ -64,20 +65,20 @@ accepted-acceptable true r held full e = either (eqb r 0)
     go none false p q = record { fitting = refl; positive = p; new = refl; room = refl }
 
 -- the offsets of new pages are the multiples of 512 from F up to the new F
-newPages-below : (size n z : ℕ) → z < size → occ z (newPages (newPage size) n) ≡ 0
+pub newPages-below : (size n z : ℕ) → z < size → occ z (newPages (newPage size) n) ≡ 0
 newPages-below size zero z l = refl
 newPages-below size (suc n) z l = rw (ne-eqb z (newPage size n) (omega arith)) (omega (arith, newPages-below size n z l))
 
-newPages-beyond : (size n z : ℕ) → newPage size n ≤ z → occ z (newPages (newPage size) n) ≡ 0
+pub newPages-beyond : (size n z : ℕ) → newPage size n ≤ z → occ z (newPages (newPage size) n) ≡ 0
 newPages-beyond size zero z l = refl
 newPages-beyond size (suc n) z l = rw (ne-eqb z (newPage size n) (omega arith)) (omega (arith, newPages-beyond size n z (omega arith)))
 
-newPages-unaligned : (size n z : ℕ) → size % pageSize ≡ 0 → (z % pageSize ≡ 0 → ⊥) → occ z (newPages (newPage size) n) ≡ 0
+pub newPages-unaligned : (size n z : ℕ) → size % pageSize ≡ 0 → (z % pageSize ≡ 0 → ⊥) → occ z (newPages (newPage size) n) ≡ 0
 newPages-unaligned size zero z a o = refl
 newPages-unaligned size (suc n) z a o =
     rw (ne-eqb z (newPage size n) (λ e. o (omega arith))) (omega (arith, newPages-unaligned size n z a o))
 
-newPages-once : (size n z : ℕ) → size % pageSize ≡ 0 → z % pageSize ≡ 0 → size ≤ z → z < newPage size n →
+pub newPages-once : (size n z : ℕ) → size % pageSize ≡ 0 → z % pageSize ≡ 0 → size ≤ z → z < newPage size n →
     occ z (newPages (newPage size) n) ≡ 1
 newPages-once size zero z a d l m = absurd (omega arith)
 newPages-once size (suc n) z a d l m = either (eqb z (newPage size n))
@@ -98,6 +99,24 @@ module _ {K : Type 0} (i : Index K) (p : PagesOnce i) where
   pub newPage-unused : Unused (newPage (i .size)) (pages (i .height) (i .tree))
   newPage-unused j = p .beyond (newPage (i .size) j) (omega arith)
 
+  -- after an insertion each is again
+  grown-pages : (g : Grown K) →
+      ((z : ℕ) → occ z (grownPages g) ≡ occ z (pages (i .height) (i .tree)) + occ z (newPages (newPage (i .size)) (g .2))) →
+      PagesOnce (grown (i .size) g)
+  grown-pages g counts =
+      let F : ℕ = i .size in
+      let n : ℕ = g .2 in
+      record {
+        positive = omega (arith, p .positive);
+        aligned = omega (arith, p .aligned);
+        header = omega (arith, counts 0, p .header, newPages-below F n 0 (p .positive));
+        once = λ z a b m. either (ltb z F)
+            (λ e. let l : z < F = ltb-true z F e in omega (arith, counts z, p .once z a l m, newPages-below F n z l))
+            (λ e. let l : F ≤ z = ltb-false z F e in omega (arith, counts z, p .beyond z l, newPages-once F n z (p .aligned) m l b));
+        unaligned = λ z o. omega (arith, counts z, p .unaligned z o, newPages-unaligned F n z (p .aligned) o);
+        beyond = λ z a. omega (arith, counts z, p .beyond z (omega arith), newPages-beyond F n z a);
+      }
+
 -- neither limit is passed
 room-both : (a b : Bool) → (a || b) ≡ false → (a ≡ false) × (b ≡ false)
 room-both true b e = contra refl e
@@ -105,7 +124,6 @@ room-both false b e = (refl, e)
 
 pub fresh-sound : {K : Type 0} (s : Setting K) → 1 < s .capacity → 2 * pageSize ≤ s .maxSize → 1 ≤ s .maxLevels → SoundIndex s fresh
 fresh-sound s two room levels = record {
-  rooted = tt;
   ordered = tt;
   exact = tt;
   sized = (omega arith, omega arith, tt);
@@ -129,9 +147,7 @@ module _ {K : Type 0} (s : Setting K) (two : 1 < s .capacity) where
       let h : ℕ = i .height in
       let name : ℕ → ℕ = newPage (i .size) in
       let g : Grown K = insert (s .order) (s .capacity) name k r h (i .tree) in
-      let p : PagesOnce i = d .pagesOnce in
-      let ordered : Rooted (g .0) (g .1) × Ordered (s .order) (g .0) (g .1) =
-      insert-ordered (s .order) (s .capacity) (omega arith) name k r h (i .tree) (d .rooted) (d .ordered) f in
+      let rooted : Rooted h (i .tree) = sized-rooted (s .capacity) h (i .tree) (d .sized) in
       let needed : (g .2 ≡ needs (s .order) (s .capacity) k h (i .tree))
       × (suc (g .0) ≡ levelsAfter (s .order) (s .capacity) k h (i .tree)) =
       insert-needs (s .order) (s .capacity) name k r h (i .tree) (omega arith) (d .sized) in
@@ -139,35 +155,12 @@ module _ {K : Type 0} (s : Setting K) (two : 1 < s .capacity) where
       let levels : ℕ = levelsAfter (s .order) (s .capacity) k h (i .tree) in
       let rooms : (ltb (s .maxSize) limit ≡ false) × (ltb (s .maxLevels) levels ≡ false) =
       room-both (ltb (s .maxSize) limit) (ltb (s .maxLevels) levels) room in
-      let counts : (z : ℕ) → occ z (pages (g .0) (g .1)) ≡ occ z (pages h (i .tree)) + occ z (newPages name (g .2)) =
-      λ z. insert-pages (s .order) (s .capacity) name k r z h (i .tree) in
       record {
-        rooted = ordered .0;
-        ordered = ordered .1;
-        exact = insert-exact (s .order) (s .capacity) (omega arith) name k r h (i .tree) (d .rooted) (d .ordered) (d .exact);
+        ordered = insert-ordered (s .order) (s .capacity) (omega arith) name k r h (i .tree) rooted (d .ordered) f;
+        exact = insert-exact (s .order) (s .capacity) (omega arith) name k r h (i .tree) rooted (d .ordered) (d .exact);
         sized = insert-sized (s .order) (s .capacity) two name k r h (i .tree) (d .sized);
-        pagesOnce = record {
-          positive = omega (arith, p .positive);
-          aligned = omega (arith, p .aligned);
-          header = omega (arith, counts 0, p .header, newPages-below (i .size) (g .2) 0 (p .positive));
-          once = λ z a b m. either (ltb z (i .size))
-              (λ e. omega (
-                arith,
-                counts z,
-                p .once z a (ltb-true z (i .size) e) m,
-                newPages-below (i .size) (g .2) z
-                    (ltb-true z (i .size) e),
-              ))
-              (λ e. omega (
-                arith,
-                counts z,
-                p .beyond z (ltb-false z (i .size) e),
-                newPages-once (i .size) (g .2) z (p .aligned) m (ltb-false z (i .size) e) b,
-              ));
-          unaligned = λ z o. omega (arith, counts z, p .unaligned z o, newPages-unaligned (i .size) (g .2) z (p .aligned) o);
-          beyond = λ z a. omega (arith, counts z, p .beyond z (omega arith), newPages-beyond (i .size) (g .2) z a);
-        };
-        records = rw (insert-pairs (s .order) (s .capacity) name k r h (i .tree) (d .rooted) (d .ordered))
+        pagesOnce = grown-pages i (d .pagesOnce) g (λ z. insert-pages (s .order) (s .capacity) name k r z h (i .tree));
+        records = rw (insert-pairs (s .order) (s .capacity) name k r h (i .tree) rooted (d .ordered))
             (insertPair-all (s .order) (λ e. 0 < e .1) k r (held i) pos (d .records));
         withinSize = omega (arith, needed .0, ltb-false (s .maxSize) limit (rooms .0));
         withinLevels = omega (arith, needed .1, ltb-false (s .maxLevels) levels (rooms .1));
@@ -207,7 +200,7 @@ module _ {K : Type 0} (s : Setting K) (two : 1 < s .capacity) where
       rw (← find-get (s .order) k (held i) (ordered-ascending (s .order) (i .height) (i .tree) (d .ordered)))
       (verdict-room (s .fits k) r (find (s .order) k (held i)) (outOfRoom s k i))
 
-  pub answer-room : (c : Call K) (i : Index K) → SoundIndex s i → bookAnswer (s .order) (s .fits) c (full s c i) (held i) ≡ answer s c i
+  pub answer-room : (c : Call K) (i : Index K) → SoundIndex s i → bookAnswer (s .order) (s .fits) c (noRoomFor s c i) (held i) ≡ answer s c i
   answer-room (lookupOf k) i d = answer-book (lookupOf k) i d
   answer-room (insertion k r) i d =
       rw (← find-get (s .order) k (held i) (ordered-ascending (s .order) (i .height) (i .tree) (d .ordered)))
@@ -219,5 +212,5 @@ module _ {K : Type 0} (s : Setting K) (two : 1 < s .capacity) where
   next-book (insertion k r) i d =
       rw (answer-book (insertion k r) i d)
       (either (isAccepted (answer s (insertion k r) i))
-      (λ e. rw e (sym (insert-pairs (s .order) (s .capacity) (newPage (i .size)) k r (i .height) (i .tree) (d .rooted) (d .ordered))))
+      (λ e. rw e (sym (insert-pairs (s .order) (s .capacity) (newPage (i .size)) k r (i .height) (i .tree) (sized-rooted (s .capacity) (i .height) (i .tree) (d .sized)) (d .ordered))))
       (λ e. rw e))

@@ -6,7 +6,7 @@ use Rattle.basis.specs.Lists.{All}
 use Rattle.tree.specs.Lists.{occ}
 use Rattle.tree.specs.Tree.{pages}
 use Rattle.tree.specs.Clauses.{Sized, Links, AllLinked}
-use Rattle.tree.specs.Ordered.{Rooted, Ordered}
+use Rattle.tree.specs.Ordered.{Ordered}
 use Rattle.tree.specs.Exact.{Exact}
 use Rattle.tree.specs.Index.{pageSize, noPage, Index, held, Setting}
 
@@ -21,7 +21,6 @@ pub record PagesOnce {K : Type 0} (i : Index K) : Type 0 where
 
 -- what the calls keep; `exact` is all that a release with ceilings drops
 pub record SoundIndex {K : Type 0} (s : Setting K) (i : Index K) : Type 0 where
-  pub rooted : Rooted (i .height) (i .tree)
   pub ordered : Ordered (s .order) (i .height) (i .tree)
   pub exact : Exact (i .height) (i .tree)
   pub sized : Sized (s .capacity) (i .height) (i .tree)

@@ -8,7 +8,7 @@ use lib.ListN.{length, take, drop, length-map, take-append-drop}
 use lib.Dec.{leb}
 use Rattle.basis.specs.Tests.{either}
 use Rattle.tree.specs.Lists.{NonEmpty, concatMap, occ}
-use Rattle.tree.specs.ListLaws.{concatMap-append, take-map, drop-map, occ-append, occ-head, occ-differ, occ-not-head}
+use Rattle.tree.specs.ListLaws.{concatMap-append, take-map, drop-map, occ-append, occ-head, occ-here, occ-differ, occ-not-head}
 use Rattle.tree.specs.Order.{Order, larger}
 use Rattle.tree.specs.Pairs.{lastKey, insertPair}
 use Rattle.tree.specs.Tree.{Child, Entry, Tree, pagesUnder, pages}
@@ -166,7 +166,7 @@ module _ {K : Type 0} (O : Order K) (cap : ℕ) (name : ℕ → ℕ) (inj : Inje
       let same : _≡_ {A = Replacement K (Child K h)} (map (readEntry (w .2) h) (w .0), w .1) q = λ i. (c .entries i, c .count i) in
       record {
         entries = splitIfOver-read cap name h a p (w .1) (w .2) (w .0)
-            (omega (arith, counts p, d p, occ-head p old, newPages-apart name (p ∷ old) f p (w .1) (omega (arith, occ-head p old))))
+            (omega (arith, counts p, d p, occ-head p old, newPages-apart name (p ∷ old) f p (w .1) (occ-here p old)))
             (omega (arith, counts (name (w .1)), f (w .1), newPages-fresh name inj (w .1) (w .1) (omega arith)))
             (occ-not-head (name (w .1)) p old (f (w .1)))
             ∙ ap (λ (x : Replacement K (Child K h)). splitIfOver cap name a p x .0) same;

@@ -1,7 +1,10 @@
 -- `lookup::search_page` meets its contract: each answer is the rule's by the tests that lead to it.
 -- Assumes nothing.
-use mathlib.Core.Path.{sym, _∙_}
+use mathlib.Core.Path.{_≡_, sym, _∙_}
+use mathlib.Core.Bool.{true}
 use borrow.Author.Needs.{needs}
+use borrow.Author.Tests.{not-true, not-false}
+use Rattle.page.specs.Page.{leafBit}
 use Rattle.page.specs.declared.Page.{Page}
 use Rattle.lookup.specs.LookupLaws.{Searched, says-none, says-child, says-found, says-other}
 use Rattle.lookup.proofs.search_page.Statement.{statement}
@@ -20,6 +23,9 @@ searched c =
     let head-is = c .before .before .at .ensures in
     record { attribute = head-is .0; count = head-is .1 .0; first = c .first-at-or-above .ensures .0 }
 
+leaf : (c : tie.Else2) → leafBit (head (c .before .before .before) .attribute) ≡ true
+leaf c = sym (c .before .is-leaf .ensures) ∙ not-false _ (c .if2 .left)
+
 at-requires : tie.Need-at-requires
 at-requires c κs = search needs
 
@@ -32,13 +38,18 @@ first-at-or-above-requires c κs = search needs
 returns : tie.Need-returns
 returns c = says-none (searched (c .before)) (c .if1 .taken)
 
+is-leaf-requires : tie.Need-is-leaf-requires
+is-leaf-requires c κs = search needs
+
 child-requires : tie.Need-child-requires
 child-requires c κs = search needs
 
 returns-2 : tie.Need-returns-2
 returns-2 c =
-    let at-if1 = c .before .before .before in
-    says-child (searched (at-if1 .before)) (at-if1 .if1 .left) (c .child .result .0) (c .before .if2 .taken) (c .child .ensures)
+    let at-leaf = c .before .before in
+    let at-if1 = at-leaf .before in
+    says-child (searched (at-if1 .before)) (at-if1 .if1 .left) (c .child .result .0)
+    (sym (at-leaf .is-leaf .ensures) ∙ not-true _ (c .before .if2 .taken)) (c .child .ensures)
 
 compare-entry-requires : tie.Need-compare-entry-requires
 compare-entry-requires c κs = search needs
@@ -54,7 +65,7 @@ returns-3 c =
     let at-equal = c .before .before in
     let at-if2 = at-equal .before .before in
     let at-if1 = at-if2 .before .before in
-    says-found (searched (at-if1 .before)) (at-if1 .if1 .left) (at-if2 .if2 .left) (at-equal .before .compare-entry .ensures) (c .record-number .result .0)
+    says-found (searched (at-if1 .before)) (at-if1 .if1 .left) (leaf at-if2) (at-equal .before .compare-entry .ensures) (c .record-number .result .0)
     (sym (at-equal .is-equal .ensures) ∙ c .before .if3 .taken) (c .record-number .ensures)
 
 returns-4 : tie.Need-returns-4
@@ -62,7 +73,7 @@ returns-4 c =
     let at-equal = c .before in
     let at-if2 = at-equal .before .before in
     let at-if1 = at-if2 .before .before in
-    says-other (searched (at-if1 .before)) (at-if1 .if1 .left) (at-if2 .if2 .left) (at-equal .before .compare-entry .ensures)
+    says-other (searched (at-if1 .before)) (at-if1 .if1 .left) (leaf at-if2) (at-equal .before .compare-entry .ensures)
     (sym (at-equal .is-equal .ensures) ∙ c .if3 .left)
 
 pub search-page-spec : {M : Type 1} → statement M
@@ -73,6 +84,7 @@ search-page-spec =
     cast-count
     first-at-or-above-requires
     returns
+    is-leaf-requires
     child-requires
     returns-2
     compare-entry-requires

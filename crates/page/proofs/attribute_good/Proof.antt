@@ -5,9 +5,12 @@ use Rattle.page.specs.Page.{attributeGood}
 use Rattle.page.proofs.attribute_good.Statement.{statement}
 use Rattle.page.proofs.attribute_good.Tie as tie
 
+is-leaf-requires : tie.Need-is-leaf-requires
+is-leaf-requires c κs = search needs
+
 returns : tie.Need-returns
 unfolding attributeGood
-returns c = search needs
+returns c = rw (c .is-leaf .ensures)
 
 pub attribute-good-spec : {M : Type 1} → statement M
-attribute-good-spec = tie.close (tie.spec returns)
+attribute-good-spec = tie.close (tie.spec is-leaf-requires returns)

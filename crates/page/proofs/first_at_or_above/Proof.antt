@@ -7,7 +7,7 @@ use lib.ListN.{length}
 use borrow.Author.Tests.{not-true, not-false}
 use borrow.Author.Needs.{needs}
 use Rattle.page.specs.KeyOrder.{below, at-or-above}
-use Rattle.page.specs.PageLaws.{within-entry, first-none, first-here, first-later}
+use Rattle.page.specs.PageLaws.{within-entry, loop-end, loop-here, loop-later}
 use Rattle.page.specs.Page.{keyAt, firstAtOrAbove}
 use Rattle.page.proofs.first_at_or_above.Statement.{statement}
 use Rattle.page.proofs.first_at_or_above.Tie as tie
@@ -31,7 +31,7 @@ returns : tie.Need-returns Inv-loop μ-loop
 returns c =
     let at-loop = c .before .before .before .before in
     let args = at-loop .before .before .before .args in (
-      sym (at-loop .loop .inv .1 ∙ first-here (keyAt (args .index .now) (length (args .key .now)) (args .page .0)) (args .key .now) (args .count) (at-loop .loop .i) (search needs)
+      sym (at-loop .loop .inv .1 ∙ loop-here (keyAt (args .index .now) (length (args .key .now)) (args .page .0)) (args .key .now) (args .count) (at-loop .loop .i) (search needs)
           (at-or-above _ _ (c .before .before .compare-entry .ensures) (sym (c .before .is-below .ensures) ∙ not-true _ (c .if1 .taken)))),
       search needs,
     )
@@ -47,7 +47,7 @@ loop-again c =
     let at-loop = c .before .before .before .before in
     let args = at-loop .before .before .before .args in (
       search needs,
-      at-loop .loop .inv .1 ∙ first-later (keyAt (args .index .now) (length (args .key .now)) (args .page .0)) (args .key .now) (args .count) (at-loop .loop .i) (search needs)
+      at-loop .loop .inv .1 ∙ loop-later (keyAt (args .index .now) (length (args .key .now)) (args .page .0)) (args .key .now) (args .count) (at-loop .loop .i) (search needs)
           (below _ _ (c .before .before .compare-entry .ensures) (sym (c .before .is-below .ensures) ∙ not-false _ (c .if1 .left))),
     )
 
@@ -55,7 +55,7 @@ returns-2 : tie.Need-returns-2 Inv-loop μ-loop
 returns-2 c =
     let at-loop = c .before in
     let args = at-loop .before .before .before .args in
-    (sym (at-loop .loop .inv .1 ∙ first-none (keyAt (args .index .now) (length (args .key .now)) (args .page .0)) (args .key .now) (args .count) (at-loop .loop .i) (search needs)), search needs)
+    (sym (at-loop .loop .inv .1 ∙ loop-end (keyAt (args .index .now) (length (args .key .now)) (args .page .0)) (args .key .now) (args .count) (at-loop .loop .i) (search needs)), search needs)
 
 pub first-at-or-above-spec : {M : Type 1} → statement M
 first-at-or-above-spec =

@@ -1,0 +1,60 @@
+use mathlib.Core.Path.{_≡_, sym, _∙_}
+use native.Mathlib.Omega.{arith}
+use borrow.Author.Tests.{le-leb, lt-leb}
+use Rattle.audit.specs.EntryLaws.{entries-within}
+use Rattle.audit.specs.StepLaws.{entries-leaf, entries-upper}
+use borrow.Author.Needs.{needs}
+use Rattle.audit.proofs.entries_fit.Statement.{statement}
+use Rattle.audit.proofs.entries_fit.Tie as tie
+use Rattle.audit.proofs.entries_fit.Reads as reads
+use Rattle.audit.proofs.entries_fit.Lts as lts
+use Rattle.audit.proofs.entry_count.Reads as entry-count-reads
+use Rattle.audit.proofs.last_key.Reads as last-key-reads
+use Rattle.audit.proofs.leaf_entries.Reads as leaf-entries-reads
+use Rattle.audit.proofs.upper_entries.Reads as upper-entries-reads
+
+-- src/lib.rt:151:9
+entry-count-requires : tie.Need-entry-count-requires
+entry-count-requires c κs = search needs
+
+-- src/lib.rt:153:52
+last-key-requires : tie.Need-last-key-requires
+last-key-requires c κs = search needs
+
+-- src/lib.rt:153:9
+leaf-entries-requires : tie.Need-leaf-entries-requires
+leaf-entries-requires c κs =
+    let start = c .before .before .before .before in
+    (entries-within _ _ _ _ _ (c .before .before .entry-count .ensures) (start .pre), c .last-key .ensures .1)
+
+-- src/lib.rt:153:9
+returns : tie.Need-returns
+returns c =
+    let start = c .before .before .before .before .before in
+    let args = start .args in
+    entries-leaf (args .index .now) (args .k) (args .size) (args .attribute) (args .last .0) (args .page .0) (c .before .before .before .entry-count .result) (c .leaf-entries .result) (c .before .before .before .entry-count .ensures)
+    (c .before .last-key .result) (le-leb _ _ (c .before .before .if1 .taken)) (c .before .last-key .ensures .0) (c .leaf-entries .ensures)
+
+-- src/lib.rt:155:5
+upper-entries-requires : tie.Need-upper-entries-requires
+upper-entries-requires c κs =
+    let start = c .before .before .before in
+    (start .pre, entries-within _ _ _ _ _ (c .before .entry-count .ensures) (start .pre))
+
+-- src/lib.rt:140:1
+returns-2 : tie.Need-returns-2
+returns-2 c =
+    let start = c .before .before .before .before in
+    let args = start .args in
+    entries-upper (args .index .now) (args .k) (args .size) (args .attribute) (args .last .0) (args .page .0) _ _ (c .before .before .entry-count .ensures) (lt-leb _ _ (c .before .if1 .left)) (c .upper-entries .ensures)
+
+pub entries-fit-spec : {M : Type 1} → statement M
+entries-fit-spec =
+    tie.close
+    (tie.spec
+    entry-count-requires
+    last-key-requires
+    leaf-entries-requires
+    returns
+    upper-entries-requires
+    returns-2)

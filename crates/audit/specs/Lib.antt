@@ -1,0 +1,5 @@
+pub mod State
+pub mod EntryLaws
+pub mod MarkLaws
+pub mod StepLaws
+pub mod PassLaws

@@ -1,0 +1,44 @@
+-- Rules: the audit's own values, as its rule has them, and what its inner functions ask of the buffer. No public contract cites these.
+use Prim.Native.Nat.{ℕ, _+_, _≤_, _<_}
+use mathlib.Core.Bool.{Bool, true, false, cond, _&&_}
+use mathlib.Core.List.{List}
+use mathlib.Core.Option.{Option, none, some}
+use lib.ListN.{length}
+use lib.Dec.{eqb}
+use Rattle.octets.specs.Store.{window}
+use Rattle.page.specs.Header.{maxBytes, maxKey, pageSize, noPage}
+use Rattle.page.specs.Within.{Within}
+use Rattle.page.specs.declared.PageOffset.{PageOffset}
+use Rattle.sound.specs.Rule as rule
+use Rattle.audit.specs.declared.Progress.{Progress}
+use Rattle.audit.specs.declared.Level.{Level}
+
+-- a file of so many bytes within the buffer, with keys of k bytes
+pub record InFile (b : List ℕ) (k size : ℕ) : Type 0 where
+  pub key : k ≤ maxKey
+  pub long : pageSize ≤ length b
+  pub within : size ≤ length b
+  pub most : size ≤ maxBytes
+
+-- each of n entries of the page at p lies within its page, and the page within the buffer
+pub record EntriesWithin (b : List ℕ) (k p n : ℕ) : Type 0 where
+  pub each : (i : ℕ) → i < n → Within b k p (i + 1)
+
+-- the key that begins at z, where 0 is none
+abbrev pub keyFrom : List ℕ → ℕ → ℕ → Option (List ℕ)
+keyFrom b k z = cond (eqb z 0) none (some (window b z k))
+
+abbrev pub progressOf : Progress → rule.Progress
+progressOf s = record { good = s .good; last = s .last .0; next = s .next .0 }
+
+abbrev pub levelOf : Level → rule.Level
+levelOf v = record { good = v .good; leaf = v .leaf; first = v .first .0 }
+
+abbrev pub refusedAt : Progress → Progress
+refusedAt s = record { good = false; last = s .last; next = s .next }
+
+abbrev pub startAt : PageOffset → Progress
+startAt first = record { good = true; last = record { 0 = noPage }; next = first }
+
+abbrev pub closedAt : Progress → Bool → PageOffset → Level
+closedAt s leaf first = record { good = s .good && eqb (s .next .0) noPage; leaf = leaf; first = first }

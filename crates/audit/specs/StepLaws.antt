@@ -1,0 +1,79 @@
+-- Laws: one page of the audit, by its tests. Cited by the proofs of the functions that check a page. Assumes nothing.
+use Prim.Native.Nat.{ℕ, _+_, _/_, _≤_, _<_}
+use mathlib.Core.Path.{_≡_, refl, sym, ap, _∙_}
+use mathlib.Core.Bool.{Bool, true, false, not, cond, _&&_}
+use mathlib.Core.List.{List, [], _∷_}
+use mathlib.Core.Option.{none}
+use native.Mathlib.Omega.{arith}
+use lib.ListN.{length, getD, set}
+use lib.Dec.{eqb, leb}
+use borrow.Author.Tests.{eq-eqb, ne-eqb}
+use Rattle.basis.specs.Tests.{contra, both}
+use Rattle.page.specs.Header.{pageSize, isPage}
+use Rattle.page.specs.HeaderLaws.{IsPage, is-page}
+use Rattle.page.specs.Page.{attributeAt, countAt, leftAt, rightAt, leafBit, countGood}
+use Rattle.page.specs.Reading.{entriesAt}
+use Rattle.page.specs.ReadingLaws.{entriesFrom}
+use Rattle.sound.specs.Rule as rule
+use Rattle.sound.specs.Rule.{lastOf, leafEntries, upperEntries, entriesFit, pageFits, checkPage}
+use Rattle.audit.specs.declared.Progress.{Progress}
+use Rattle.audit.specs.State.{keyFrom, progressOf, refusedAt}
+use Rattle.audit.specs.EntryLaws.{entries-are}
+
+-- the entries of a page
+module _ (b : List ℕ) (k size a last p n : ℕ) (r : Bool) (en : n ≡ length (entriesAt k size b p)) where
+  pub entries-leaf : (z : ℕ) → leafBit a ≡ true → keyFrom b k z ≡ lastOf none (entriesAt k size b last) → r ≡ leafEntries (keyFrom b k z) (entriesFrom b k p n 0) → r ≡ entriesFit b k size a last p
+  unfolding entriesFit
+  entries-leaf z l ez er = er ∙ rw (l, ← ez, entries-are b k size p n en)
+
+  pub entries-upper : leafBit a ≡ false → r ≡ upperEntries (entriesAt k size b) (entriesFrom b k p n 0) → r ≡ entriesFit b k size a last p
+  unfolding entriesFit
+  entries-upper l er = er ∙ rw l (ap (upperEntries (entriesAt k size b)) (sym (entries-are b k size p n en)))
+
+-- a page, whose head was read
+and-false : (x y z u v : Bool) → (x && (y && (z && u))) ≡ false → false ≡ (x && (y && (z && (u && v))))
+and-false true true true true v e = contra refl e
+and-false true true true false v e = refl
+and-false true true false u v e = refl
+and-false true false z u v e = refl
+and-false false y z u v e = refl
+
+and-true : (x y z u v : Bool) → (x && (y && (z && u))) ≡ true → v ≡ (x && (y && (z && (u && v))))
+and-true true true true true v e = refl
+and-true true true true false v e = contra e refl
+and-true true true false u v e = contra e refl
+and-true true false z u v e = contra e refl
+and-true false y z u v e = contra e refl
+
+module _ (b : List ℕ) (k size a p last next : ℕ) where
+  pub fits-no-page : isPage size p ≡ false → false ≡ pageFits b k size a p last next
+  unfolding pageFits
+  fits-no-page e = rw e
+
+  module _ (e : isPage size p ≡ true) (x y z : ℕ) (c : Bool) (ex : x ≡ attributeAt b p) (ey : y ≡ countAt b p) (ez : z ≡ leftAt b p) (ec : c ≡ countGood k a y) where
+    pub fits-not : (eqb x a && (c && (eqb z last && eqb next p))) ≡ false → false ≡ pageFits b k size a p last next
+    unfolding pageFits
+    fits-not t = rw (e, ← ex, ← ey, ← ez, ← ec) (and-false (eqb x a) c (eqb z last) (eqb next p) (entriesFit b k size a last p) t)
+
+    pub fits-then : (eqb x a && (c && (eqb z last && eqb next p))) ≡ true → (r : Bool) → r ≡ entriesFit b k size a last p → r ≡ pageFits b k size a p last next
+    unfolding pageFits
+    fits-then t r er = er ∙ rw (e, ← ex, ← ey, ← ez, ← ec) (and-true (eqb x a) c (eqb z last) (eqb next p) (entriesFit b k size a last p) t)
+
+-- one page more
+module _ (b : List ℕ) (k size a p : ℕ) (s : Progress) (m : List ℕ) (f : Bool) (ef : f ≡ pageFits b k size a p (s .last .0) (s .next .0)) where
+  pub fits-page : s .good && f ≡ true → IsPage size p
+  unfolding pageFits
+  fits-page h = is-page size p (both (isPage size p) _ (sym ef ∙ both (s .good) f h .1) .0)
+
+  pub check-refused : s .good && f ≡ false → checkPage b k size a p (progressOf s) m ≡ (progressOf (refusedAt s), m)
+  unfolding checkPage
+  check-refused h = rw (← ef, h)
+
+  module _ (h : s .good && f ≡ true) where
+    pub check-marked : (getD m (p / pageSize) 0 ≡ 0 → ⊥) → checkPage b k size a p (progressOf s) m ≡ (progressOf (refusedAt s), m)
+    unfolding checkPage
+    check-marked z = rw (← ef, h, ne-eqb (getD m (p / pageSize) 0) 0 z)
+
+    pub check-good : getD m (p / pageSize) 0 ≡ 0 → (n : ℕ) → n ≡ rightAt b p → checkPage b k size a p (progressOf s) m ≡ (record { good = true; last = p; next = n }, set m (p / pageSize) 1)
+    unfolding checkPage
+    check-good z n en = rw (← ef, h, eq-eqb (getD m (p / pageSize) 0) 0 z, en)

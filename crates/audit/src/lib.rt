@@ -1,0 +1,440 @@
+// The audit of an index: level by level from the root down, each page checked against its left neighbour and its children, and marked when it is met. The
+// pages of a level are the children of the level above, whose pages name one another by the right links that were checked there: nothing is copied, and each
+// page is looked at once, whatever the bytes are.
+use octets::Ordering;
+use page::Page;
+use page::PageOffset;
+ghost use mathlib.Core.Path.{_≡_};
+ghost use mathlib.Core.Bool.{Bool, true, not, _&&_};
+ghost use mathlib.Core.Option.{none};
+ghost use Prim.Native.Nat.{ℕ, _+_, _-_, _≤_};
+ghost use lib.ListN.{length};
+ghost use lib.Dec.{eqb};
+ghost use Rattle.octets.specs.Store.{window};
+ghost use Rattle.octets.specs.Order.{ordering};
+ghost use Rattle.page.specs.Header.{headerGood, maxLevels};
+ghost use Rattle.page.specs.Page.{keyAt, numberAt};
+ghost use Rattle.page.specs.Within.{Within};
+ghost use Rattle.page.specs.Reading.{entriesAt};
+ghost use Rattle.page.specs.ReadingLaws.{entriesFrom};
+ghost use Rattle.sound.specs.Sound.{Audited};
+ghost use Rattle.sound.specs.Rule.{maxPages, lastOf, isAbove, isSame, leafEntries, upperEntries, entriesFit, pageFits, attributeOf, isLeaf, chain, childrenOf, children, firstChild, checkPage, checkPages, closed, rootLevel, nextLevel, levelsUnder, markedFrom, pagesGood};
+ghost use Rattle.audit.specs.State.{InFile, EntriesWithin, keyFrom, progressOf, levelOf, startAt, refusedAt, closedAt};
+
+// The most pages that an index has.
+const MAX_PAGES: usize = page::MAX_BYTES / Page::SIZE;
+
+// What is known of the pages met on a level: whether all were good, the last of them, and the page that is to come on its right.
+pub struct Progress {
+    pub good: bool,
+    pub last: PageOffset,
+    pub next: PageOffset,
+}
+
+// What is known of a level: whether it is good, whether it is that of the leaves, and its first page.
+pub struct Level {
+    pub good: bool,
+    pub leaf: bool,
+    pub first: PageOffset,
+}
+
+// How many entries a page is read to have: none where it is no page of the file, and never more than the capacity.
+fn entry_count(index: &[u8], k: usize, size: usize, page: PageOffset) -> usize
+    requires { ⌜ InFile (now index) k size ⌝ }
+    ensures { λ r. ⌜ r ≡ length (entriesAt k size (now (index .entry)) (page .0)) ⌝ }
+{
+    if !page::is_page(size, page) {
+        return 0;
+    }
+    let head = Page::at(index, page);
+    let count = head.count as usize;
+    let most = Page::capacity(k);
+    if count <= most {
+        return count;
+    }
+    most
+}
+
+// Where the last key of a page begins, or 0 where it has none.
+fn last_key(index: &[u8], k: usize, size: usize, page: PageOffset) -> usize
+    requires { ⌜ InFile (now index) k size ⌝ }
+    ensures { λ r. ⌜ (keyFrom (now (index .entry)) k r ≡ lastOf none (entriesAt k size (now (index .entry)) (page .0))) × (r + k ≤ length (now (index .entry))) ⌝ }
+{
+    let count = entry_count(index, k, size, page);
+    if count == 0 {
+        return 0;
+    }
+    page::entry_offset(k, page, count - 1)
+}
+
+// The order of the key that begins at x to the one that begins at y.
+fn key_order(index: &[u8], k: usize, x: usize, y: usize) -> Ordering
+    requires { ⌜ (x + k ≤ length (now index)) × (y + k ≤ length (now index)) ⌝ }
+    ensures { λ r. ⌜ r ≡ ordering (window (now (index .entry)) x k) (window (now (index .entry)) y k) ⌝ }
+{
+    let x_end = x + k;
+    let y_end = y + k;
+    octets::compare(&index[x..x_end], &index[y..y_end])
+}
+
+// Whether a leaf entry has a record number above 0 and a key above the one that begins at `last`, where 0 is none.
+fn leaf_entry(index: &[u8], k: usize, page: PageOffset, i: usize, last: usize) -> bool
+    requires { ⌜ Within (now index) k (page .0) (i + 1) × (last + k ≤ length (now index)) ⌝ }
+    ensures { λ r. ⌜ r ≡ (not (eqb (numberAt (now (index .entry)) k (page .0) i) 0) && isAbove (keyFrom (now (index .entry)) k last) (keyAt (now (index .entry)) k (page .0) i)) ⌝ }
+{
+    if page::record_number(index, k, page, i).0 == 0 {
+        return false;
+    }
+    if last == 0 {
+        return true;
+    }
+    octets::is_below(key_order(index, k, last, page::entry_offset(k, page, i)))
+}
+
+// The same of so many entries of a page, one after another.
+fn leaf_entries(index: &[u8], k: usize, page: PageOffset, count: usize, last: usize) -> bool
+    requires { ⌜ EntriesWithin (now index) k (page .0) count × (last + k ≤ length (now index)) ⌝ }
+    ensures { λ r. ⌜ r ≡ leafEntries (keyFrom (now (index .entry)) k last) (entriesFrom (now (index .entry)) k (page .0) count 0) ⌝ }
+{
+    let mut i = 0;
+    let mut prior = last;
+    while i < count {
+        if !leaf_entry(index, k, page, i, prior) {
+            return false;
+        }
+        prior = page::entry_offset(k, page, i);
+        i += 1;
+    }
+    true
+}
+
+// Whether the key of an entry above a child is the last of the child's keys.
+fn upper_entry(index: &[u8], k: usize, size: usize, page: PageOffset, i: usize) -> bool
+    requires { ⌜ InFile (now index) k size × Within (now index) k (page .0) (i + 1) ⌝ }
+    ensures { λ r. ⌜ r ≡ isSame (lastOf none (entriesAt k size (now (index .entry)) (numberAt (now (index .entry)) k (page .0) i))) (keyAt (now (index .entry)) k (page .0) i) ⌝ }
+{
+    let last = last_key(index, k, size, page::child(index, k, page, i));
+    if last == 0 {
+        return false;
+    }
+    octets::is_equal(key_order(index, k, last, page::entry_offset(k, page, i)))
+}
+
+// The same of so many entries of a page.
+fn upper_entries(index: &[u8], k: usize, size: usize, page: PageOffset, count: usize) -> bool
+    requires { ⌜ InFile (now index) k size × EntriesWithin (now index) k (page .0) count ⌝ }
+    ensures { λ r. ⌜ r ≡ upperEntries (entriesAt k size (now (index .entry))) (entriesFrom (now (index .entry)) k (page .0) count 0) ⌝ }
+{
+    let mut i = 0;
+    while i < count {
+        if !upper_entry(index, k, size, page, i) {
+            return false;
+        }
+        i += 1;
+    }
+    true
+}
+
+// Whether the entries of a page are good: of a leaf by the attribute, with `last` on its left, or of a page above.
+fn entries_fit(
+    index: &[u8],
+    k: usize,
+    size: usize,
+    attribute: u32,
+    last: PageOffset,
+    page: PageOffset,
+) -> bool
+    requires { ⌜ InFile (now index) k size ⌝ }
+    ensures { λ r. ⌜ r ≡ entriesFit (now (index .entry)) k size attribute (last .0) (page .0) ⌝ }
+{
+    let count = entry_count(index, k, size, page);
+    if 2 <= attribute {
+        return leaf_entries(index, k, page, count, last_key(index, k, size, last));
+    }
+    upper_entries(index, k, size, page, count)
+}
+
+// Whether a page has the attribute, a good count, links that agree with those of `last` on its left, and good entries.
+fn page_fits(
+    index: &[u8],
+    k: usize,
+    size: usize,
+    attribute: u32,
+    page: PageOffset,
+    last: PageOffset,
+    next: PageOffset,
+) -> bool
+    requires { ⌜ InFile (now index) k size ⌝ }
+    ensures { λ r. ⌜ r ≡ pageFits (now (index .entry)) k size attribute (page .0) (last .0) (next .0) ⌝ }
+{
+    if !page::is_page(size, page) {
+        return false;
+    }
+    let head = Page::at(index, page);
+    if !((head.attribute == attribute)
+        & (page::count_good(k, attribute, head.count)
+            & ((head.left.0 == last.0) & (next.0 == page.0)))) {
+        return false;
+    }
+    entries_fit(index, k, size, attribute, last, page)
+}
+
+fn refused(s: Progress) -> Progress
+    ensures { λ r. ⌜ r ≡ refusedAt s ⌝ }
+{
+    let last = s.last;
+    let next = s.next;
+    Progress {
+        good: false,
+        last,
+        next,
+    }
+}
+
+// One page more, and its mark.
+fn check_page(
+    index: &[u8],
+    marks: &mut [u8],
+    k: usize,
+    size: usize,
+    attribute: u32,
+    page: PageOffset,
+    s: Progress,
+) -> Progress
+    requires { ⌜ InFile (now index) k size × (length (now marks) ≡ maxPages) ⌝ }
+    ensures { λ r. ⌜ checkPage (now (index .entry)) k size attribute (page .0) (progressOf s) (now (marks .entry)) ≡ (progressOf r, now (marks .exit)) ⌝ }
+{
+    let last = s.last;
+    let next = s.next;
+    if !(s.good & page_fits(index, k, size, attribute, page, last, next)) {
+        return refused(s);
+    }
+    let mark = page.0 as usize / Page::SIZE;
+    if marks[mark] != 0 {
+        return refused(s);
+    }
+    marks[mark] = 1;
+    let head = Page::at(index, page);
+    let right = head.right;
+    Progress {
+        good: true,
+        last: page,
+        next: right,
+    }
+}
+
+// The children of a page, one after another, up to the first that is not good.
+fn check_children(
+    index: &[u8],
+    marks: &mut [u8],
+    k: usize,
+    size: usize,
+    attribute: u32,
+    parent: PageOffset,
+    s: Progress,
+) -> Progress
+    requires { ⌜ InFile (now index) k size × (length (now marks) ≡ maxPages) ⌝ }
+    ensures { λ r. ⌜ checkPages (now (index .entry)) k size attribute (childrenOf (now (index .entry)) k size (parent .0)) (progressOf s, now (marks .entry)) ≡ (progressOf r, now (marks .exit)) ⌝ }
+{
+    let count = entry_count(index, k, size, parent);
+    let mut t = s;
+    let mut i = 0;
+    while i < count {
+        if !t.good {
+            return t;
+        }
+        t = check_page(
+            index,
+            marks,
+            k,
+            size,
+            attribute,
+            page::child(index, k, parent, i),
+            t,
+        );
+        i += 1;
+    }
+    t
+}
+
+// The children of the pages of a level, from its first page on along the right links.
+fn check_level(
+    index: &[u8],
+    marks: &mut [u8],
+    k: usize,
+    size: usize,
+    attribute: u32,
+    first: PageOffset,
+    s: Progress,
+) -> Progress
+    requires { ⌜ InFile (now index) k size × (length (now marks) ≡ maxPages) ⌝ }
+    ensures { λ r. ⌜ checkPages (now (index .entry)) k size attribute (children (now (index .entry)) k size (chain (now (index .entry)) size maxPages (first .0))) (progressOf s, now (marks .entry)) ≡ (progressOf r, now (marks .exit)) ⌝ }
+{
+    let mut t = s;
+    let mut parent = first;
+    let mut left = MAX_PAGES;
+    while 0 < left {
+        if !page::is_page(size, parent) {
+            return t;
+        }
+        t = check_children(index, marks, k, size, attribute, parent, t);
+        let head = Page::at(index, parent);
+        parent = head.right;
+        left -= 1;
+    }
+    t
+}
+
+// Whether a page is a leaf.
+fn is_leaf(index: &[u8], size: usize, page: PageOffset) -> bool
+    requires { ⌜ size ≤ length (now index) ⌝ }
+    ensures { λ r. ⌜ r ≡ isLeaf (now (index .entry)) size (page .0) ⌝ }
+{
+    if !page::is_page(size, page) {
+        return false;
+    }
+    let head = Page::at(index, page);
+    2 <= head.attribute
+}
+
+// The attribute of the pages of a level.
+fn attribute_of(root: bool, leaf: bool) -> u32
+    ensures { λ r. ⌜ r ≡ attributeOf root leaf ⌝ }
+{
+    if root {
+        if leaf {
+            return 3;
+        }
+        return 1;
+    }
+    if leaf {
+        return 2;
+    }
+    0
+}
+
+// At the start of a level, whose first page is to be `first`.
+fn start(first: PageOffset) -> Progress
+    ensures { λ r. ⌜ r ≡ startAt first ⌝ }
+{
+    Progress {
+        good: true,
+        last: PageOffset(page::NO_PAGE),
+        next: first,
+    }
+}
+
+// A level at its end: it is good if no page is on the right of its last.
+fn closed(s: Progress, leaf: bool, first: PageOffset) -> Level
+    ensures { λ r. ⌜ r ≡ closedAt s leaf first ⌝ }
+{
+    let next = s.next;
+    Level {
+        good: s.good & (next.0 == page::NO_PAGE),
+        leaf,
+        first,
+    }
+}
+
+// The level of the root.
+fn root_level(index: &[u8], marks: &mut [u8], k: usize, size: usize, root: PageOffset) -> Level
+    requires { ⌜ InFile (now index) k size × (length (now marks) ≡ maxPages) ⌝ }
+    ensures { λ r. ⌜ rootLevel (now (index .entry)) k size (root .0) (now (marks .entry)) ≡ (levelOf r, now (marks .exit)) ⌝ }
+{
+    let leaf = is_leaf(index, size, root);
+    let s = check_page(
+        index,
+        marks,
+        k,
+        size,
+        attribute_of(true, leaf),
+        root,
+        start(root),
+    );
+    closed(s, leaf, root)
+}
+
+// The first child of a page, or none.
+fn first_child(index: &[u8], k: usize, size: usize, page: PageOffset) -> PageOffset
+    requires { ⌜ InFile (now index) k size ⌝ }
+    ensures { λ r. ⌜ r .0 ≡ firstChild (now (index .entry)) k size (page .0) ⌝ }
+{
+    if entry_count(index, k, size, page) == 0 {
+        return PageOffset(page::NO_PAGE);
+    }
+    page::child(index, k, page, 0)
+}
+
+// The level under the one whose first page is `above`.
+fn next_level(index: &[u8], marks: &mut [u8], k: usize, size: usize, above: PageOffset) -> Level
+    requires { ⌜ InFile (now index) k size × (length (now marks) ≡ maxPages) ⌝ }
+    ensures { λ r. ⌜ nextLevel (now (index .entry)) k size (above .0) (now (marks .entry)) ≡ (levelOf r, now (marks .exit)) ⌝ }
+{
+    let first = first_child(index, k, size, above);
+    let leaf = is_leaf(index, size, first);
+    let s = check_level(
+        index,
+        marks,
+        k,
+        size,
+        attribute_of(false, leaf),
+        above,
+        start(first),
+    );
+    closed(s, leaf, first)
+}
+
+// The levels from the root down to the leaves, to the first that is not good, or to the last that may be.
+fn levels(index: &[u8], marks: &mut [u8], k: usize, size: usize, root: PageOffset) -> Level
+    requires { ⌜ InFile (now index) k size × (length (now marks) ≡ maxPages) ⌝ }
+    ensures { λ r. ⌜ levelsUnder (now (index .entry)) k size (maxLevels - 1) (rootLevel (now (index .entry)) k size (root .0) (now (marks .entry))) ≡ (levelOf r, now (marks .exit)) ⌝ }
+{
+    let mut level = root_level(index, marks, k, size, root);
+    let mut left = page::MAX_LEVELS - 1;
+    while 0 < left {
+        if !(level.good & !level.leaf) {
+            return level;
+        }
+        let above = level.first;
+        level = next_level(index, marks, k, size, above);
+        left -= 1;
+    }
+    level
+}
+
+// Whether the marks of the pages from the second to the last of so many are set.
+fn all_marked(marks: &[u8], pages: usize) -> bool
+    requires { ⌜ (1 ≤ pages) × (pages ≤ length (now marks)) ⌝ }
+    ensures { λ r. ⌜ r ≡ markedFrom (now (marks .entry)) (pages - 1) 1 ⌝ }
+{
+    let mut j = 1;
+    while j < pages {
+        if marks[j] != 1 {
+            return false;
+        }
+        j += 1;
+    }
+    true
+}
+
+// Whether the pages of an index with a good header are those of a sound one, with a mark lent for each page.
+fn pages_good(index: &[u8], marks: &mut [u8]) -> bool
+    requires { ⌜ (headerGood (now index) ≡ true) × (length (now marks) ≡ maxPages) ⌝ }
+    ensures { λ r. ⌜ r ≡ pagesGood (now (index .entry)) (now (marks .entry)) ⌝ }
+{
+    let k = page::key_length(index);
+    let size = page::file_size(index);
+    let level = levels(index, marks, k, size, page::root(index));
+    level.good & (level.leaf & all_marked(marks, size / Page::SIZE))
+}
+
+// The audit: 24 where the header is not good, 0 where the index is sound, else 25.
+pub fn audit(index: &[u8]) -> u32
+    ensures { λ r. ⌜ Audited (now (index .entry)) r ⌝ }
+{
+    if !page::header_good(index) {
+        return 24;
+    }
+    let mut marks = [0u8; MAX_PAGES];
+    if pages_good(index, &mut marks) { 0 } else { 25 }
+}
