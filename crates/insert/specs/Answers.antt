@@ -1,9 +1,9 @@
 -- Rules: the code's enums as the rules have them.
-use Prim.Native.Nat.{ℕ, _+_, _≤_}
+use Prim.Native.Nat.{ℕ, _+_, _*_, _≤_}
 use mathlib.Core.Bool.{cond}
 use mathlib.Core.List.{List}
 use lib.ListN.{length}
-use Rattle.page.specs.Header.{pageSize, isPage}
+use Rattle.page.specs.Header.{maxBytes, maxLevels, pageSize, isPage}
 use Rattle.page.specs.Page.{attributeAt, leafBit}
 use Rattle.page.specs.declared.PageOffset.{PageOffset}
 use Rattle.layout.specs.Layout.{itemsIn}
@@ -19,11 +19,18 @@ outcomeOf (Kept n) = kept n
 outcomeOf (Split q) = split (q .0)
 outcomeOf Bad = bad
 
--- the page after a new one has an offset of 32 bits
-abbrev pub NextFits : Outcome → Type 0
-NextFits (Kept n) = Unit {0}
-NextFits (Split q) = q .0 + pageSize ≤ 0xFFFFFFFF
-NextFits Bad = Unit {0}
+-- the page after a new one begins within a limit
+abbrev pub NextFits : ℕ → Outcome → Type 0
+NextFits limit (Kept n) = Unit {0}
+NextFits limit (Split q) = q .0 + pageSize ≤ limit
+NextFits limit Bad = Unit {0}
+
+-- offsets have 32 bits; the new pages of an index lie within one for each level more than its largest size
+abbrev pub offsets : ℕ
+offsets = 0xFFFFFFFF
+
+abbrev pub grownBytes : ℕ
+grownBytes = maxBytes + pageSize * maxLevels
 
 abbrev pub pageAt : ℕ → PageOffset
 pageAt n = record { 0 = n }

@@ -134,10 +134,11 @@ split-bound k (suc left) b key r p n q e =
     (λ u. rw m (after-bound k (below .after) key p c (below .outcome) q (n + pageSize * left) (λ x h. split-bound k left b key r c n x h) (rw (t, u) at e))))
     (λ t. bad-split (rw t at e))
 
-pub next-fits : (k left : ℕ) (b key : List ℕ) (r p n : ℕ) {out : List ℕ} (o : Outcome) → insertUnder k left b key r p n ≡ step out (outcomeOf o) → n + pageSize * left ≤ 0xFFFFFFFF → NextFits o
-next-fits k left b key r p n (Kept x) e h = tt
-next-fits k left b key r p n (Split q) e h = omega (arith, split-bound k left b key r p n (q .0) (ap (λ (s : Step). s .outcome) e))
-next-fits k left b key r p n Bad e h = tt
+pub next-fits : (limit k left : ℕ) (b key : List ℕ) (r p n : ℕ) {out : List ℕ} (o : Outcome) → insertUnder k left b key r p n ≡ step out (outcomeOf o)
+    → n + pageSize * left ≤ limit → NextFits limit o
+next-fits limit k left b key r p n (Kept x) e h = tt
+next-fits limit k left b key r p n (Split q) e h = omega (arith, split-bound k left b key r p n (q .0) (ap (λ (s : Step). s .outcome) e))
+next-fits limit k left b key r p n Bad e h = tt
 
 -- a page without entries has none to replace
 pub two-for-none : (k : ℕ) (b key : List ℕ) (p c q : ℕ) (xs : List ℕ) {s : Step} → length (itemsIn k b p) ≡ 0 → takeIn k b p (items k 0 xs) (q + pageSize) ≡ s
@@ -155,11 +156,11 @@ module _ (b key : List ℕ) (p : ℕ) where
   unfolding visited
   visit-bad t = rw t
 
-  pub visit-leaf : {a : ℕ} → isPage (length b) p ≡ true → a ≡ attributeAt b p → 2 ≤ a → visit.Leaf ≡ visited b key p
+  pub visit-leaf : {a : ℕ} → isPage (length b) p ≡ true → a ≡ attributeAt b p → leafBit a ≡ true → visit.Leaf ≡ visited b key p
   unfolding visited
-  visit-leaf {a} t e h = rw (t, ← e, le-leb 2 a h)
+  visit-leaf {a} t e h = rw (t, ← e, h)
 
-  pub visit-child : {a : ℕ} {c : PageOffset} → isPage (length b) p ≡ true → a ≡ attributeAt b p → a < 2 → c .0 ≡ childOf (chosen key (itemsIn (length key) b p))
+  pub visit-child : {a : ℕ} {c : PageOffset} → isPage (length b) p ≡ true → a ≡ attributeAt b p → leafBit a ≡ false → c .0 ≡ childOf (chosen key (itemsIn (length key) b p))
       → visit.Child c ≡ visited b key p
   unfolding visited
-  visit-child {a} {c} t e h q = rw (t, ← e, lt-leb 2 a h, ← q)
+  visit-child {a} {c} t e h q = rw (t, ← e, h, ← q)

@@ -2,7 +2,7 @@
 -- Assumes nothing.
 use Prim.Native.Nat.{ℕ, suc, _+_, _*_, _≤_}
 use mathlib.Core.Path.{_≡_, refl, sym, ap, _∙_, subst}
-use mathlib.Core.List.{List, [], _∷_, _++_, append-nil}
+use mathlib.Core.List.{List, [], _∷_, _++_, append-assoc, append-nil}
 use native.Mathlib.Omega.{arith}
 use lib.ListN.{length, take, drop, length-append, length-take}
 use lib.Seq.{take-at}
@@ -14,14 +14,15 @@ use Rattle.octets.specs.StoreLaws.{put-splice}
 use Rattle.octets.specs.NumberLaws.{length-toBe32}
 use Rattle.octets.specs.Order.{bytesLe}
 use Rattle.tree.specs.Pairs.{lastKey, insertPair}
+use Rattle.page.specs.Header.{maxKey}
 use Rattle.page.specs.KeyOrder.{bytesOrder}
 use Rattle.page.specs.Reading.{Item, items}
 use Rattle.layout.specs.Layout.{itemsIn, encode}
-use Rattle.layout.specs.Entries.{replaced, twoFor}
+use Rattle.layout.specs.Entries.{replaced, twoFor, rootEntries}
 use Rattle.layout.specs.Given.{Over, Listed, roomSize}
 use Rattle.layout.specs.ItemLaws.{Fit, length-encode, items-encode}
 use Rattle.layout.specs.EntryLaws.{items-in-fit}
-use Rattle.layout.specs.GatherLaws.{length-last, length-larger, spread}
+use Rattle.layout.specs.GatherLaws.{length-last, length-larger, put-next, spread}
 
 -- what is true of a leaf's entries and of a new pair is true of all together
 pub insert-all : (P : Item → Type 0) (key c : List ℕ) (es : List Item) → P (key, c) → All P es → All P (insertPair bytesOrder key c es)
@@ -88,3 +89,28 @@ two-read key {b} {p} {n} c q zs l ne h e =
     let es = itemsIn (length key) b p in
     let f = twoFor (length key) b key c q in
     gathered (length key) (n + 1) (replaced key f es) zs (two-fit b key p c q) (length-replaced key f es (λ x. refl) (λ z. ne (l .count ∙ z)) ∙ rw (← l .count)) (omega arith) e
+
+-- the entries of a new root
+module _ (b key : List ℕ) (p q : ℕ) where
+  last-fit : (x : ℕ) → length (lastKey key (itemsIn (length key) b x)) ≡ length key
+  last-fit x = length-last (length key) key refl (itemsIn (length key) b x) (items-in-fit (length key) b x)
+
+  root-fit : All (Fit (length key)) (rootEntries (length key) b key p q)
+  root-fit = ((last-fit p, length-toBe32 p), ((last-fit q, length-toBe32 q), tt))
+
+  pub root-gathered : (zs : List ℕ) {l1 l2 l3 l4 : List ℕ} → l1 ≡ put zs 0 (lastKey key (itemsIn (length key) b p)) → l2 ≡ put l1 (length key) (toBe32 p)
+      → l3 ≡ put l2 (length key + 4) (lastKey key (itemsIn (length key) b q)) → l4 ≡ put l3 (length key + 4 + length key) (toBe32 q)
+      → l4 ≡ put zs 0 (encode (rootEntries (length key) b key p q))
+  unfolding encode
+  root-gathered zs e1 e2 e3 e4 =
+      let f = root-fit in
+      let left = lastKey key (itemsIn (length key) b p) in
+      let right = lastKey key (itemsIn (length key) b q) in
+      let l2 : length (left ++ toBe32 p) ≡ length key + 4 = length-append left (toBe32 p) ∙ rw (f .0 .0, f .0 .1) in
+      let l3 : length ((left ++ toBe32 p) ++ right) ≡ length key + 4 + length key = length-append (left ++ toBe32 p) right ∙ rw (l2, f .1 .0 .0) in
+      e4 ∙ rw (e3, e2, e1, put-next zs left (toBe32 p) (length key) (f .0 .0), put-next zs (left ++ toBe32 p) right _ l2, put-next zs ((left ++ toBe32 p) ++ right) (toBe32 q) _ l3, append-nil (toBe32 q))
+      (ap (put zs 0) (simp append-assoc))
+
+  pub root-read : (zs : List ℕ) {room : List ℕ} → length key ≤ maxKey → roomSize ≤ length zs → room ≡ put zs 0 (encode (rootEntries (length key) b key p q))
+      → items (length key) 2 (take (2 * (length key + 4)) room) ≡ rootEntries (length key) b key p q
+  root-read zs h l e = gathered (length key) 2 (rootEntries (length key) b key p q) zs root-fit refl (omega arith) e

@@ -85,7 +85,7 @@ insert-under-after-child-requires t c κs =
     let below = c .before .before .before .insert-under in (
       start .pre .1 .0,
       rw (below .kept .0) (child t (c .before .before .before .before .before .before)),
-      next-fits _ _ _ _ _ _ _ (below .result) (below .ensures) (omega (arith, start .pre .1 .1)),
+      next-fits _ _ _ _ _ _ _ _ (below .result) (below .ensures) (omega (arith, start .pre .1 .1)),
     )
 
 insert-under-same-length : (t : ℕ) → insert-under-lts.Need-same-length (claims t) (insert-under-at t) insert-under.Post

@@ -17,6 +17,9 @@ counted c = let pre = c .before .before .before .before .before .pre in record {
 products : (c : tie.After-entry-count) → let args = c .before .before .before .before .before .args in Spread (args .index .now) (length (args .key .now)) (args .page .0) (c .entry-count .result) (c .entry-count .result)
 products c = spread _ (counted c) (omega arith)
 
+cast-file : tie.Need-cast-file
+cast-file c = search needs
+
 add-file : tie.Need-add-file
 add-file c = search needs
 
@@ -79,6 +82,7 @@ pub take-in-two-spec : {M : Type 1} → statement M
 take-in-two-spec =
     tie.close
     (tie.spec
+    cast-file
     add-file
     entry-count-requires
     array-share-prefix-room
