@@ -4,3 +4,5 @@ pub mod Room
 pub mod Calls
 pub mod Fresh
 pub mod StepLaws
+pub mod RoomLaws
+pub mod CallLaws

@@ -10,16 +10,17 @@ use lib.ListN.{length}
 use lib.Dec.{leb}
 use borrow.Author.Tests.{le-leb, lt-leb}
 use Rattle.basis.specs.Tests.{either, contra}
-use Rattle.octets.specs.Bytes.{toBe32}
+use Rattle.octets.specs.Bytes.{toLe32, toBe32}
+use Rattle.octets.specs.Store.{put}
 use Rattle.tree.specs.Pairs.{insertPair}
-use Rattle.page.specs.Header.{pageSize, isPage}
+use Rattle.page.specs.Header.{maxLevels, noPage, pageSize, isPage, rootOffset, fileSize, keyLength}
 use Rattle.page.specs.Page.{attributeAt, leafBit, capacity}
 use Rattle.page.specs.KeyOrder.{bytesOrder}
 use Rattle.page.specs.Reading.{Item, items}
 use Rattle.page.specs.declared.PageOffset.{PageOffset}
-use Rattle.layout.specs.Layout.{itemsIn, withEntries, splitPage}
-use Rattle.layout.specs.Entries.{chosen, childOf, raised}
-use Rattle.insert.specs.Insertion.{Outcome as RuleOutcome, kept, split, bad, Step, step, takeIn, afterChild, insertUnder}
+use Rattle.layout.specs.Layout.{itemsIn, withEntries, newPage, splitPage}
+use Rattle.layout.specs.Entries.{chosen, childOf, rootEntries}
+use Rattle.insert.specs.Insertion.{Outcome as RuleOutcome, kept, split, bad, Step, step, takeIn, afterChild, insertUnder, atRoot, insertedBuffer}
 use Rattle.insert.specs.Answers.{outcomeOf, NextFits, visited, pageAt}
 use Rattle.insert.specs.declared.Outcome.{Outcome}
 use Rattle.insert.specs.declared.Outcome.the-variants.{Kept, Split, Bad}
@@ -164,3 +165,19 @@ module _ (b key : List ℕ) (p : ℕ) where
       → visit.Child c ≡ visited b key p
   unfolding visited
   visit-child {a} {c} t e h q = rw (t, ← e, h, ← q)
+
+-- the root
+module _ (b key : List ℕ) (p q : ℕ) where
+  pub root-none : isPage (length b) (q + pageSize) ≡ false → b ≡ atRoot (length key) b key p (split q)
+  root-none t = rw t
+
+  pub root-new : {es : List Item} {l1 l2 l3 : List ℕ} → isPage (length b) (q + pageSize) ≡ true → es ≡ rootEntries (length key) b key p q
+      → l1 ≡ newPage b (q + pageSize) 1 noPage noPage es → l2 ≡ put l1 0 (toLe32 (q + pageSize)) → l3 ≡ put l2 8 (toLe32 (q + pageSize + pageSize))
+      → l3 ≡ atRoot (length key) b key p (split q)
+  root-new t e e1 e2 e3 = rw t (e3 ∙ rw (e2, e1, e))
+
+-- the whole
+pub pair-inserted : (b key : List ℕ) (r : ℕ) {root file : ℕ} {b′ out : List ℕ} {o : RuleOutcome} → length key ≡ keyLength b → root ≡ rootOffset b → file ≡ fileSize b
+    → insertUnder (length key) maxLevels b key r root file ≡ step b′ o → out ≡ atRoot (length key) b′ key root o → out ≡ insertedBuffer (keyLength b) b key r
+unfolding insertedBuffer
+pair-inserted b key r ek er ef e q = q ∙ rw (← ek, ← er, ← ef, e)

@@ -339,7 +339,7 @@ fn all_printable(s: &[u8]) -> bool
     let mut i = 0;
     while i < s.len() {
         let c = octets::byte(s, i);
-        if (c < 0x20) | (0x7E < c) {
+        if !((0x20 <= c) & (c <= 0x7E)) {
             return false;
         }
         i += 1;
@@ -351,18 +351,18 @@ fn all_printable(s: &[u8]) -> bool
 fn expression_good(expression: &[u8]) -> bool
     ensures { λ r. ⌜ r ≡ expressionGood (now (expression .entry)) ⌝ }
 {
-    (1 <= expression.len()) & ((expression.len() <= 220) & all_printable(expression))
+    (1 <= expression.len()) & (expression.len() <= 220) & all_printable(expression)
 }
 
 // Writes the header and the root of a fresh index.
-fn write_fresh(index: &mut [u8], key_length: u32, expression: &[u8])
-    requires { ⌜ (1024 ≤ length (now index)) × (key_length ≤ maxKey) × (length (now expression) ≤ 220) ⌝ }
-    ensures { λ _. ⌜ now (index .exit) ≡ freshBuffer key_length (now (expression .entry)) (now (index .entry)) ⌝ }
+fn write_fresh(index: &mut [u8], k: u32, expression: &[u8])
+    requires { ⌜ (1024 ≤ length (now index)) × (k ≤ maxKey) × (length (now expression) ≤ 220) ⌝ }
+    ensures { λ _. ⌜ now (index .exit) ≡ freshBuffer k (now (expression .entry)) (now (index .entry)) ⌝ }
 {
     octets::store_le32(index, 0, Page::SIZE as u32);
     octets::store_le32(index, 4, page::NO_PAGE);
     octets::store_le32(index, 8, 1024);
-    octets::store_le16(index, 12, key_length);
+    octets::store_le16(index, 12, k);
     octets::store_le16(index, 14, 1);
     octets::copy_in(index, 16, expression);
     octets::fill(index, 16 + expression.len(), Page::SIZE, 0);
@@ -373,20 +373,14 @@ fn write_fresh(index: &mut [u8], key_length: u32, expression: &[u8])
         left: none,
         right: none,
     };
-    layout::new_page(
-        index,
-        key_length as usize,
-        PageOffset(512),
-        head,
-        &expression[..0],
-    );
+    layout::new_page(index, k as usize, PageOffset(512), head, &expression[..0]);
 }
 
 // Makes a fresh index.
-pub fn fresh(index: &mut [u8], key_length: u32, expression: &[u8]) -> Insertion
-    ensures { λ r. ⌜ freshRule (now (index .entry)) key_length (now (expression .entry)) ≡ left (now (index .exit)) r ⌝ }
+pub fn fresh(index: &mut [u8], k: u32, expression: &[u8]) -> Insertion
+    ensures { λ r. ⌜ freshRule (now (index .entry)) k (now (expression .entry)) ≡ left (now (index .exit)) r ⌝ }
 {
-    if !page::key_length_good(key_length as usize) {
+    if !page::key_length_good(k as usize) {
         return Insertion::Refused(27);
     }
     if !expression_good(expression) {
@@ -395,6 +389,6 @@ pub fn fresh(index: &mut [u8], key_length: u32, expression: &[u8]) -> Insertion
     if index.len() < 1024 {
         return Insertion::Refused(30);
     }
-    write_fresh(index, key_length, expression);
+    write_fresh(index, k, expression);
     Insertion::Accepted
 }

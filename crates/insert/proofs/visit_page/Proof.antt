@@ -2,7 +2,7 @@
 use mathlib.Core.Bool.{true}
 use lib.ListN.{length}
 use Rattle.page.specs.Header.{isPage}
-use mathlib.Core.Path.{sym, _∙_}
+use mathlib.Core.Path.{_≡_, sym, _∙_}
 use borrow.Author.Tests.{not-true, not-false}
 use Rattle.page.specs.HeaderLaws.{is-page}
 use Rattle.insert.specs.StepLaws.{visit-bad, visit-leaf, visit-child}
@@ -23,6 +23,9 @@ returns c = visit-bad _ _ _ (sym (c .before .is-page .ensures) ∙ not-true _ (c
 at-requires : tie.Need-at-requires
 at-requires c κs = is-page _ _ (sym (c .before .is-page .ensures) ∙ not-false _ (c .if1 .left)) .high
 
+is-leaf-requires : tie.Need-is-leaf-requires
+is-leaf-requires c κs = search needs
+
 returns-2 : tie.Need-returns-2
 returns-2 c = visit-leaf _ _ _ (page (c .before .before)) (c .before .before .at .ensures .0) (sym (c .before .is-leaf .ensures) ∙ c .if2 .taken)
 
@@ -35,4 +38,4 @@ returns-3 c = visit-child _ _ _ (page (c .before .before .before)) (c .before .b
 pub visit-page-spec : {M : Type 1} → statement M
 visit-page-spec =
     tie.close
-    (tie.spec is-page-requires returns at-requires returns-2 chosen-child-requires returns-3)
+    (tie.spec is-page-requires returns at-requires is-leaf-requires returns-2 chosen-child-requires returns-3)
