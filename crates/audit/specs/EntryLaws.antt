@@ -1,8 +1,8 @@
 -- Laws: the entries of a page by number, as the audit's loops go over them. Cited by the proofs of its functions. Assumes nothing.
-use Prim.Native.Nat.{ℕ, zero, suc, _+_, _-_, _≤_, _<_, min}
+use Prim.Native.Nat.{ℕ, zero, suc, _+_, _-_, _≤_, _<_}
 use mathlib.Core.Path.{_≡_, refl, sym, ap, _∙_}
-use mathlib.Core.Bool.{Bool, true, false, not, cond, _&&_}
-use mathlib.Core.List.{List, [], _∷_, map}
+use mathlib.Core.Bool.{Bool, true, false, not, _&&_}
+use mathlib.Core.List.{List, [], _∷_}
 use mathlib.Core.Option.{Option, none, some}
 use native.Mathlib.Nat.{min-eq-left, min-eq-right, min-le-right}
 use native.Mathlib.Omega.{arith}
@@ -13,14 +13,12 @@ use Rattle.basis.specs.Tests.{either}
 use Rattle.octets.specs.Store.{window}
 use Rattle.octets.specs.declared.Ordering.{Ordering}
 use Rattle.octets.specs.Order.{ordering, isBelow, isEqual}
-use Rattle.tree.specs.Clauses.{headOr}
 use Rattle.page.specs.Header.{noPage, isPage}
 use Rattle.page.specs.HeaderLaws.{is-page}
 use Rattle.page.specs.Page.{countAt, capacity, entryOffset, keyAt, numberAt}
-use Rattle.page.specs.PageLaws.{entry-low, entry-within}
-use Rattle.page.specs.Within.{Within}
+use Rattle.page.specs.PageLaws.{entry-low}
 use Rattle.page.specs.Reading.{entriesAt}
-use Rattle.page.specs.ReadingLaws.{entriesFrom, readCount, entries-by-index, entries-none, length-entries}
+use Rattle.page.specs.ReadingLaws.{entriesFrom, entries-by-index, entries-none, length-entries}
 use Rattle.sound.specs.Rule.{Entries, lastOf, isAbove, isSame, leafEntries, upperEntries, firstChild}
 use Rattle.audit.specs.State.{InFile, EntriesWithin, keyFrom}
 

@@ -1,26 +1,25 @@
 -- Laws: the audit's rule accepts exactly the sound indexes, and its three answers are those of `Audited`. Cited by the proof of the audit. Assumes nothing.
-use Prim.Native.Nat.{ℕ, zero, suc, _+_, _-_, _/_, _%_, _≤_, _<_}
-use mathlib.Core.Path.{_≡_, refl, sym, ap, _∙_, subst}
-use mathlib.Core.List.{List, [], _∷_, _++_}
-use mathlib.Core.Bool.{Bool, true, false, _&&_}
-use mathlib.Core.Logic.{_↔_, _⊎_, inl, inr}
+use Prim.Native.Nat.{ℕ, zero, suc, _-_, _/_, _%_, _≤_, _<_}
+use mathlib.Core.Path.{_≡_, refl, ap, _∙_}
+use mathlib.Core.List.{List, [], _∷_}
+use mathlib.Core.Bool.{Bool, true, false}
+use mathlib.Core.Logic.{_↔_, inl, inr}
 use native.Mathlib.Omega.{arith}
 use lib.ListN.{length}
 use lib.Dec.{eqb}
 use borrow.Author.Tests.{ne-eqb}
 use Rattle.basis.specs.Lists.{All}
 use Rattle.basis.specs.Tests.{contra, both, join}
-use Rattle.tree.specs.Lists.{NonEmpty, occ}
 use Rattle.page.specs.Header.{maxBytes, maxLevels, pageSize, rootOffset, fileSize, keyLength, isPage, headerGood}
-use Rattle.page.specs.HeaderLaws.{GoodHeader, good-header}
+use Rattle.page.specs.HeaderLaws.{good-header}
 use Rattle.page.specs.Reading.{entriesAt}
 use Rattle.sound.specs.Sound.{Sound, Audited}
 use Rattle.sound.specs.Rule.{Entries, Level, rootLevel, levelsUnder, markedFrom, complete, pagesGood, unmarked}
 use Rattle.sound.specs.Levels.{numbers, below, generation, reached, generations-reached}
 use Rattle.sound.specs.RunLaws.{markAll, Fresh}
-use Rattle.sound.specs.MarkLaws.{fresh-append, fresh-left, fresh-right, mark-append, mark-length, unmarked-length, marked-once, once-fresh, once-marked}
+use Rattle.sound.specs.MarkLaws.{fresh-append, fresh-left, fresh-right, mark-length, unmarked-length, marked-once, once-fresh, once-marked}
 use Rattle.sound.specs.LevelLaws.{LevelGood, Known, Found, level-known, level-good, levels-good, levels-found, levels-reached}
-use Rattle.sound.specs.ShapeLaws.{Shape, generationOf, levels-inside, levels-counts, entries-filled, shape-sound, sound-shape}
+use Rattle.sound.specs.ShapeLaws.{Shape, levelPages, levels-inside, levels-counts, entries-filled, shape-sound, sound-shape}
 
 module _ (b : List ℕ) (k size root : ℕ) (whole : size % pageSize ≡ 0) (most : size ≤ maxBytes) where
   abbrev S : ℕ → Entries
@@ -38,14 +37,14 @@ module _ (b : List ℕ) (k size root : ℕ) (whole : size % pageSize ≡ 0) (mos
 
   all-levels : (h : ℕ) (leaf : Bool) → leaf ≡ eqb 0 h → LevelGood b k size true leaf (root ∷ []) →
       ((i : ℕ) → i < h → LevelGood b k size false (eqb (suc i) h) (numbers (generation S (suc i) top))) →
-      (i : ℕ) → i ≤ h → LevelGood b k size (eqb i 0) (eqb i h) (generationOf b k size root h i)
+      (i : ℕ) → i ≤ h → LevelGood b k size (eqb i 0) (eqb i h) (levelPages b k size root i)
   all-levels h leaf e v f zero l = rw e at v
   all-levels h leaf e v f (suc i) l = rw (ne-eqb (suc i) 0 (omega arith)) (f i (omega arith))
 
   abbrev levels : Level × List ℕ
   levels = levelsUnder b k size (maxLevels - 1) first
 
-  pages-inside : (h : ℕ) → ((i : ℕ) → i ≤ h → LevelGood b k size (eqb i 0) (eqb i h) (generationOf b k size root h i)) → All (λ p. isPage size p ≡ true) (reached S (suc h) top)
+  pages-inside : (h : ℕ) → ((i : ℕ) → i ≤ h → LevelGood b k size (eqb i 0) (eqb i h) (levelPages b k size root i)) → All (λ p. isPage size p ≡ true) (reached S (suc h) top)
   pages-inside h v = generations-reached S (λ p. isPage size p ≡ true) (suc h) top (λ i l. levels-inside b k size root h v i (omega arith))
 
   -- accepted pages are those of a good index

@@ -1,24 +1,25 @@
 -- Laws: the audit accepts the levels from the root down exactly where each is good, the last is that of the leaves, and no page is met twice. Cited by the
 -- law of what the audit accepts. Assumes nothing.
-use Prim.Native.Nat.{ℕ, zero, suc, _+_, _-_, _/_, _≤_, _<_}
+use Prim.Native.Nat.{ℕ, zero, suc, _≤_, _<_}
 use mathlib.Core.Path.{_≡_, refl, sym, ap, _∙_, subst}
-use mathlib.Core.List.{List, [], _∷_, _++_, map, append-nil}
-use mathlib.Core.Bool.{Bool, true, false, not, cond, _&&_}
+use mathlib.Core.List.{List, [], _∷_, _++_}
+use mathlib.Core.Bool.{Bool, true, false, not, _&&_}
 use native.Mathlib.Omega.{arith}
 use lib.ListN.{length}
-use lib.Dec.{eqb, leb}
-use borrow.Author.Tests.{eq-eqb, ne-eqb, eqb-true, eqb-false, not-true, not-false}
+use lib.Dec.{eqb}
+use borrow.Author.Tests.{eq-eqb, ne-eqb, eqb-true, eqb-false, not-true}
 use Rattle.basis.specs.Lists.{All, all-map}
-use Rattle.basis.specs.Tests.{either, contra, both, join}
-use Rattle.tree.specs.Lists.{NonEmpty, concatMap}
+use Rattle.basis.specs.Tests.{either, both, join}
+use Rattle.tree.specs.Lists.{NonEmpty}
 use Rattle.tree.specs.ListLaws.{nonEmpty-left}
 use Rattle.tree.specs.Clauses.{headOr, Linked}
-use Rattle.page.specs.Header.{maxBytes, pageSize, noPage, isPage}
+use Rattle.page.specs.Header.{maxBytes, noPage, isPage}
 use Rattle.page.specs.HeaderLaws.{is-page}
-use Rattle.page.specs.Page.{attributeAt, rightAt, leafBit}
+use Rattle.page.specs.Page.{leafBit}
 use Rattle.page.specs.Reading.{entriesAt}
 use Rattle.sound.specs.Sound.{linksOf}
-use Rattle.sound.specs.Rule.{Entries, maxPages, Progress, Level, start, chain, isLeaf, attributeOf, checkPages, checkLevel, children, firstChild, nextLevel, levelsUnder}
+use Rattle.sound.specs.Rule.{Entries, maxPages, Level, start, chain, isLeaf, attributeOf, checkLevel, children, firstChild, nextLevel, levelsUnder}
+use Rattle.sound.specs.AttributeLaws.{leaf-bit}
 use Rattle.sound.specs.Levels.{numbers, below, generation, reached, map-append}
 use Rattle.sound.specs.MarkLaws.{fresh-append, fresh-left, fresh-right, mark-append, mark-length, fresh-few}
 use Rattle.sound.specs.RunLaws.{markAll, Fresh, Fits, Checked, Passed, check-passed, passed-check}
@@ -28,13 +29,6 @@ pub same-suc : (i n : ℕ) → eqb (suc i) (suc n) ≡ eqb i n
 same-suc i n = either (eqb i n)
     (λ e. eq-eqb (suc i) (suc n) (ap suc (eqb-true i n e)) ∙ sym e)
     (λ e. ne-eqb (suc i) (suc n) (λ q. eqb-false i n e (omega arith)) ∙ sym e)
-
--- the leaf bit of an attribute
-pub leaf-bit : (root leaf : Bool) → leafBit (attributeOf root leaf) ≡ leaf
-leaf-bit true true = refl
-leaf-bit true false = refl
-leaf-bit false true = refl
-leaf-bit false false = refl
 
 module _ (b : List ℕ) (k size : ℕ) where
   -- the pages ps of a level are good: the root's or not, leaves or not
@@ -64,7 +58,7 @@ module _ (b : List ℕ) (k size : ℕ) (most : size ≤ maxBytes) where
   abbrev S : ℕ → Entries
   S = entriesAt k size b
 
-  not-page : isPage size noPage ≡ false
+  pub not-page : isPage size noPage ≡ false
   not-page = either (isPage size noPage) (λ e. let i = is-page size noPage e in absurd (omega arith)) (λ e. e)
 
   -- a level is read back along its right links
