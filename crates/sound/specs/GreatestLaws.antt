@@ -2,7 +2,6 @@
 -- shape. Assumes nothing.
 use Prim.Native.Nat.{ℕ, zero, suc}
 use mathlib.Core.Path.{_≡_, refl, _∙_}
-use Rattle.basis.specs.Lists.{All}
 use Rattle.tree.specs.ListLaws.{all-map2, nonEmpty-length}
 use Rattle.tree.specs.Pairs.{lastKey}
 use Rattle.tree.specs.PairLaws.{lastKey-default, lastKey-concatMap}

@@ -13,7 +13,7 @@ use Rattle.basis.specs.Lists.{All, all-map}
 use Rattle.basis.specs.Tests.{either}
 use Rattle.tree.specs.Lists.{occ}
 use Rattle.tree.specs.ListLaws.{all-map2, occ-here}
-use Rattle.tree.specs.Tree.{pages, level}
+use Rattle.tree.specs.Tree.{level}
 use Rattle.tree.specs.Clauses.{least, Sized}
 use Rattle.tree.specs.ClauseLaws.{greatest-ordered, ordered-greatest}
 use Rattle.tree.specs.Index.{Index, Setting}
@@ -34,97 +34,135 @@ abbrev pub indexOf : List ℕ → ℕ → Index (List ℕ)
 indexOf b h = record { height = h; tree = indexTree b h; size = fileSize b }
 
 abbrev pub settingOf : ℕ → ℕ → Setting (List ℕ)
-settingOf k most = record { order = bytesOrder; fits = λ key. eqb (length key) k; capacity = capacity k; maxSize = most; maxLevels = maxLevels }
+settingOf k most = record {
+  order = bytesOrder;
+  fits = λ key. eqb (length key) k;
+  capacity = capacity k;
+  maxSize = most;
+  maxLevels = maxLevels;
+}
 
 module _ (b : List ℕ) where
-  -- every page of a sound index is one of the file, and has as many entries as its count says
-  pub sound-sized : (s : Sound b) → Sized (capacity (keyLength b)) (s .height) (indexTree b (s .height))
-  sound-sized s =
-      let h = s .height in
-      tree-sized b (keyLength b) (fileSize b) (rootOffset b) h
-      (pages-generation (entriesAt (keyLength b) (fileSize b) b) [] (rootOffset b) h (λ p. isPage (fileSize b) p ≡ true) (s .inside))
-      (pages-generation (entriesAt (keyLength b) (fileSize b) b) [] (rootOffset b) h (CountGood b (keyLength b) h) (s .counts))
+  abbrev S : ℕ → List (List ℕ × ℕ)
+  S = entriesAt (keyLength b) (fileSize b) b
 
-  not-inside : (s : Sound b) (z : ℕ) → (IsPage (fileSize b) z → ⊥) → occ z (indexPages b (s .height)) ≡ 0
-  not-inside s z n = either (ltb 0 (occ z (indexPages b (s .height))))
-      (λ e. absurd (n (is-page (fileSize b) z (occ-all (λ p. isPage (fileSize b) p ≡ true) z (indexPages b (s .height)) (s .inside) (ltb-true _ _ e)))))
-      (λ e. omega (arith, ltb-false 0 (occ z (indexPages b (s .height))) e))
+  module _ (s : Sound b) where
+    -- every page has as many entries as its count says
+    pub sound-sized : Sized (capacity (keyLength b)) (s .height) (indexTree b (s .height))
+    sound-sized =
+        tree-sized b (keyLength b) (fileSize b) (rootOffset b) (s .height)
+        (pages-generation S [] (rootOffset b) (s .height) (λ p. isPage (fileSize b) p ≡ true) (s .inside))
+        (pages-generation S [] (rootOffset b) (s .height) (CountGood b (keyLength b) (s .height)) (s .counts))
 
-  sound-once : (s : Sound b) → PagesOnce (indexOf b (s .height))
-  sound-once s =
-      let g = good-header b (s .header) in
-      let whole = g .whole in
-      record {
-        positive = omega arith;
-        aligned = whole;
-        header = not-inside s 0 (λ p. omega arith);
-        once = λ z l u w. s .once z (is-page-from (fileSize b) z (record { whole = w; low = omega arith; high = omega arith }));
-        unaligned = λ z n. not-inside s z (λ p. n (p .whole));
-        beyond = λ z l. not-inside s z (λ p. omega arith);
-      }
+    -- a number that is no page of the file is not reached
+    not-reached : (z : ℕ) → (IsPage (fileSize b) z → ⊥) → occ z (indexPages b (s .height)) ≡ 0
+    not-reached z n =
+        let ps = indexPages b (s .height) in
+        either (ltb 0 (occ z ps))
+        (λ e. absurd (n (is-page (fileSize b) z (occ-all (λ p. isPage (fileSize b) p ≡ true) z ps (s .inside) (ltb-true _ _ e)))))
+        (λ e. omega (arith, ltb-false 0 (occ z ps) e))
 
-  -- Theorem: a sound index is sound in the theory
-  pub sound-index : (s : Sound b) (most : ℕ) → fileSize b ≤ most → SoundIndex (settingOf (keyLength b) most) (indexOf b (s .height))
-  sound-index s most small =
-      let h = s .height in
-      let few = s .levels in
-      let z = sound-sized s in
-      let o = greatest-ordered bytesOrder (capacity (keyLength b)) h (indexTree b h) z (s .ascending) (s .greatest) in
-      record {
-        ordered = o .0;
-        exact = o .1;
-        sized = z;
-        pagesOnce = sound-once s;
-        records = s .records;
-        withinSize = small;
-        withinLevels = omega arith;
-      }
+    sound-once : PagesOnce (indexOf b (s .height))
+    sound-once =
+        let g = good-header b (s .header) in
+        let whole = g .whole in
+        record {
+          positive = omega arith;
+          aligned = whole;
+          header = not-reached 0 (λ p. omega arith);
+          once = λ z l u w. s .once z (is-page-from (fileSize b) z (record { whole = w; low = omega arith; high = omega arith }));
+          unaligned = λ z n. not-reached z (λ p. n (p .whole));
+          beyond = λ z l. not-reached z (λ p. omega arith);
+        }
 
-  pub sound-linked : (s : Sound b) → LinkedIndex (linksOf b) (indexOf b (s .height))
-  sound-linked s = s .links
+    -- Theorem: a sound index is sound in the theory, and its links are those of its levels
+    pub sound-index : (most : ℕ) → fileSize b ≤ most → SoundIndex (settingOf (keyLength b) most) (indexOf b (s .height))
+    sound-index most small =
+        let few = s .levels in
+        let o = greatest-ordered bytesOrder (capacity (keyLength b)) (s .height) (indexTree b (s .height)) sound-sized (s .ascending) (s .greatest) in
+        record {
+          ordered = o .0;
+          exact = o .1;
+          sized = sound-sized;
+          pagesOnce = sound-once;
+          records = s .records;
+          withinSize = small;
+          withinLevels = omega arith;
+        }
+
+    pub sound-linked : LinkedIndex (linksOf b) (indexOf b (s .height))
+    sound-linked = s .links
 
 -- and back
 each-occ : (ps : List ℕ) → All (λ p. 0 < occ p ps) ps
 each-occ [] = tt
 each-occ (p ∷ ps) = (occ-here p ps, all-map (λ q. 0 < occ q ps) (λ q. 0 < occ q (p ∷ ps)) (λ q l. omega arith) ps (each-occ ps))
 
-module _ (b : List ℕ) (h : ℕ) where
-  once-page : PagesOnce (indexOf b h) → (p : ℕ) → 0 < occ p (indexPages b h) → isPage (fileSize b) p ≡ true
-  once-page o p l =
+-- what the theory does not speak of: the pages' attributes, and that their counts are within the capacity
+pub record PageBytes (b : List ℕ) (h : ℕ) : Type 0 where
+  pub attributes : All (λ p. attributeAt b p ≤ 3) (indexPages b h)
+  pub rootBits : All (λ p. rootBit (attributeAt b p) ≡ eqb p (rootOffset b)) (indexPages b h)
+  pub leafBits : (j : ℕ) → j ≤ h → All (λ p. leafBit (attributeAt b p) ≡ eqb j 0) (level j h (indexTree b h))
+  pub counts : All (λ p. countAt b p ≤ capacity (keyLength b)) (indexPages b h)
+
+pub sound-bytes : (b : List ℕ) (s : Sound b) → PageBytes b (s .height)
+sound-bytes b s = record {
+  attributes = s .attributes;
+  rootBits = s .rootBits;
+  leafBits = s .leafBits;
+  counts = all-map (CountGood b (keyLength b) (s .height)) (λ p. countAt b p ≤ capacity (keyLength b)) (λ p c. c .1) (indexPages b (s .height)) (s .counts);
+}
+
+module _ (b : List ℕ) (h : ℕ) (o : PagesOnce (indexOf b h)) where
+  abbrev Ps : List ℕ
+  Ps = indexPages b h
+
+  abbrev counted : ℕ → ℕ
+  counted p = length (entriesAt (keyLength b) (fileSize b) b p)
+
+  once-page : (p : ℕ) → 0 < occ p Ps → isPage (fileSize b) p ≡ true
+  once-page p l =
       let aligned = o .aligned in
-      let whole : p % pageSize ≡ 0 = either (eqb (p % pageSize) 0) (λ e. eqb-true _ _ e) (λ e. absurd (omega (arith, o .unaligned p (eqb-false (p % pageSize) 0 e)))) in
-      let below : p < fileSize b = either (ltb p (fileSize b)) (λ e. ltb-true _ _ e) (λ e. absurd (omega (arith, o .beyond p (ltb-false p (fileSize b) e)))) in
-      let some : 0 < p = either (eqb p 0) (λ e. let z : occ p (indexPages b h) ≡ 0 = ap (λ (q : ℕ). occ q (indexPages b h)) (eqb-true p 0 e) ∙ o .header in absurd (omega arith)) (λ e. omega (arith, eqb-false p 0 e)) in
+      let whole : p % pageSize ≡ 0 = either (eqb (p % pageSize) 0)
+          (λ e. eqb-true _ _ e)
+          (λ e. absurd (omega (arith, o .unaligned p (eqb-false (p % pageSize) 0 e)))) in
+      let below : p < fileSize b = either (ltb p (fileSize b))
+          (λ e. ltb-true _ _ e)
+          (λ e. absurd (omega (arith, o .beyond p (ltb-false p (fileSize b) e)))) in
+      let some : 0 < p = either (eqb p 0)
+          (λ e. let z : occ p Ps ≡ 0 = ap (λ (q : ℕ). occ q Ps) (eqb-true p 0 e) ∙ o .header in absurd (omega arith))
+          (λ e. omega (arith, eqb-false p 0 e)) in
       is-page-from (fileSize b) p (record { whole = whole; low = omega arith; high = omega arith })
 
-  -- Theorem: an index is sound whose header is good, that is sound in the theory, and whose pages have the attributes, links and counts that are asked of them
-  pub index-sound : (most : ℕ) → headerGood b ≡ true → SoundIndex (settingOf (keyLength b) most) (indexOf b h) → LinkedIndex (linksOf b) (indexOf b h)
-      → All (λ p. attributeAt b p ≤ 3) (indexPages b h) → All (λ p. rootBit (attributeAt b p) ≡ eqb p (rootOffset b)) (indexPages b h)
-      → ((j : ℕ) → j ≤ h → All (λ p. leafBit (attributeAt b p) ≡ eqb j 0) (level j h (indexTree b h)))
-      → All (λ p. countAt b p ≤ capacity (keyLength b)) (indexPages b h) → Sound b
-  index-sound most e i l attributes rootBits leafBits counts =
-      let ps = indexPages b h in
-      let S = entriesAt (keyLength b) (fileSize b) b in
-      let o = i .pagesOnce in
-      let inside : All (λ p. isPage (fileSize b) p ≡ true) (indexPages b h) = all-map (λ p. 0 < occ p (indexPages b h)) (λ p. isPage (fileSize b) p ≡ true) (once-page o) ps (each-occ ps) in
-      let d = ordered-greatest bytesOrder h (indexTree b h) (i .ordered) (i .exact) in
-      let few = i .withinLevels in
-      let full = all-map2 (λ p. isPage (fileSize b) p ≡ true) (λ p. countAt b p ≤ capacity (keyLength b)) (λ p. length (entriesAt (keyLength b) (fileSize b) b p) ≡ countAt b p)
-      (λ p u c. length-entries (keyLength b) (fileSize b) b p u ∙ min-eq-left c) ps inside counts in
-      let low : All (λ p. least h ≤ countAt b p) (indexPages b h) = all-map2 (λ p. least h ≤ length (entriesAt (keyLength b) (fileSize b) b p)) (λ p. length (entriesAt (keyLength b) (fileSize b) b p) ≡ countAt b p) (λ p. least h ≤ countAt b p)
-      (λ p u c. omega arith) ps (sized-pages S (capacity (keyLength b)) h (rootOffset b) (i .sized)) full in
-      record {
-        header = e;
-        height = h;
-        inside = inside;
-        once = λ p u. let q = is-page (fileSize b) p u in o .once p (omega arith) (omega arith) (q .whole);
-        attributes = attributes;
-        rootBits = rootBits;
-        leafBits = leafBits;
-        levels = omega arith;
-        counts = all-map2 (λ p. least h ≤ countAt b p) (λ p. countAt b p ≤ capacity (keyLength b)) (CountGood b (keyLength b) h) (λ p u c. (u, c)) ps low counts;
-        ascending = d .0;
-        records = i .records;
-        greatest = d .1;
-        links = l;
-      }
+  once-inside : All (λ p. isPage (fileSize b) p ≡ true) Ps
+  once-inside = all-map (λ p. 0 < occ p Ps) (λ p. isPage (fileSize b) p ≡ true) once-page Ps (each-occ Ps)
+
+  sized-counts : Sized (capacity (keyLength b)) h (indexTree b h) → All (λ p. countAt b p ≤ capacity (keyLength b)) Ps → All (CountGood b (keyLength b) h) Ps
+  sized-counts s c =
+      let few = sized-pages (entriesAt (keyLength b) (fileSize b) b) (capacity (keyLength b)) h (rootOffset b) s in
+      let full = all-map2 (λ p. isPage (fileSize b) p ≡ true) (λ p. countAt b p ≤ capacity (keyLength b)) (λ p. (counted p ≡ countAt b p) × (countAt b p ≤ capacity (keyLength b)))
+      (λ p e u. (length-entries (keyLength b) (fileSize b) b p e ∙ min-eq-left u, u)) Ps once-inside c in
+      all-map2 (λ p. least h ≤ counted p) (λ p. (counted p ≡ countAt b p) × (countAt b p ≤ capacity (keyLength b))) (CountGood b (keyLength b) h)
+      (λ p u e. let d = e .0 in (omega arith, e .1)) Ps few full
+
+-- Theorem: an index with a good header that is sound in the theory, with those links and pages, is sound
+pub index-sound : (b : List ℕ) (h most : ℕ) → headerGood b ≡ true → SoundIndex (settingOf (keyLength b) most) (indexOf b h)
+    → LinkedIndex (linksOf b) (indexOf b h) → PageBytes b h → Sound b
+index-sound b h most e i l p =
+    let d = ordered-greatest bytesOrder h (indexTree b h) (i .ordered) (i .exact) in
+    let few = i .withinLevels in
+    record {
+      header = e;
+      height = h;
+      inside = once-inside b h (i .pagesOnce);
+      once = λ p u. let q = is-page (fileSize b) p u in i .pagesOnce .once p (omega arith) (omega arith) (q .whole);
+      attributes = p .attributes;
+      rootBits = p .rootBits;
+      leafBits = p .leafBits;
+      levels = omega arith;
+      counts = sized-counts b h (i .pagesOnce) (i .sized) (p .counts);
+      ascending = d .0;
+      records = i .records;
+      greatest = d .1;
+      links = l;
+    }
