@@ -41,7 +41,7 @@ returns : tie.Need-returns Inv-loop μ-loop
 returns c =
     let args = c .before .before .before .before .before .before .before .args in
     let at-loop = c .before .before .before in
-    children-stop (args .index .now) (args .k) (args .size) (args .attribute) (args .parent .0) (c .before .before .before .before .entry-count .result) (at-loop .loop .i) _ (progressOf (at-loop .loop .t)) (at-loop .loop .marks) (at-loop .loop .inv .2)
+    children-stop _ _ _ _ (args .parent .0) (c .before .before .before .before .entry-count .result) (at-loop .loop .i) _ (progressOf (at-loop .loop .t)) (at-loop .loop .marks) (at-loop .loop .inv .2)
     (c .before .before .before .before .entry-count .ensures) (not-true _ (c .if1 .taken))
 
 -- src/lib.rt:248:58
@@ -68,8 +68,8 @@ loop-again c =
     let more = c .before .before .before .before .before .before .before .loop-test .taken in
     let done = c .before .before .check-page in (
       omega (arith, more),
-      page-kept (args .index .now) (args .k) (args .size) (args .attribute) _ maxPages (progressOf (at-loop .loop .t)) (progressOf (done .result)) (at-loop .loop .marks) _ (at-loop .loop .inv .1) (done .ensures),
-      children-on (args .index .now) (args .k) (args .size) (args .attribute) (args .parent .0) (c .before .before .before .before .before .before .before .before .before .entry-count .result) (at-loop .loop .i) _ (progressOf (at-loop .loop .t)) (at-loop .loop .marks) (at-loop .loop .inv .2) _ (progressOf (done .result)) _
+      page-kept _ _ _ _ _ maxPages (progressOf (at-loop .loop .t)) (progressOf (done .result)) (at-loop .loop .marks) _ (at-loop .loop .inv .1) (done .ensures),
+      children-on _ _ _ _ (args .parent .0) (c .before .before .before .before .before .before .before .before .before .entry-count .result) (at-loop .loop .i) _ (progressOf (at-loop .loop .t)) (at-loop .loop .marks) (at-loop .loop .inv .2) _ (progressOf (done .result)) _
           more (c .before .before .before .child .ensures) (done .ensures),
     )
 
@@ -82,7 +82,7 @@ returns-2 : tie.Need-returns-2 Inv-loop μ-loop
 returns-2 c =
     let args = c .before .before .before .before .before .args in
     let at-loop = c .before in
-    children-end (args .index .now) (args .k) (args .size) (args .attribute) (args .parent .0) (c .before .before .entry-count .result) (at-loop .loop .i) _ (progressOf (at-loop .loop .t)) (at-loop .loop .marks) (at-loop .loop .inv .2)
+    children-end _ _ _ _ (args .parent .0) (c .before .before .entry-count .result) (at-loop .loop .i) _ (progressOf (at-loop .loop .t)) (at-loop .loop .marks) (at-loop .loop .inv .2)
     (c .before .before .entry-count .ensures) (search needs)
 
 pub check-children-spec : {M : Type 1} → statement M

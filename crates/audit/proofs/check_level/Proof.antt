@@ -40,7 +40,7 @@ returns : tie.Need-returns Inv-loop μ-loop
 returns c =
     let args = c .before .before .before .before .before .before .args in
     let at-loop = c .before .before .before in
-    pages-off (args .index .now) (args .k) (args .size) (args .attribute) (args .first .0) (at-loop .loop .parent .0) (at-loop .loop .left) _ (progressOf (at-loop .loop .t), at-loop .loop .marks) (at-loop .loop .inv .2)
+    pages-off _ _ _ _ (args .first .0) (at-loop .loop .parent .0) (at-loop .loop .left) _ (progressOf (at-loop .loop .t), at-loop .loop .marks) (at-loop .loop .inv .2)
     (sym (c .before .is-page .ensures) ∙ not-true _ (c .if1 .taken))
 
 -- src/lib.rt:273:9
@@ -70,8 +70,8 @@ loop-again c =
     let more = c .before .before .before .before .before .before .before .before .loop-test .taken in
     let done = c .before .before .before .before .check-children in (
       search needs,
-      pages-kept (args .index .now) (args .k) (args .size) (args .attribute) _ maxPages (progressOf (at-loop .loop .t)) (progressOf (done .result)) (at-loop .loop .marks) _ (at-loop .loop .inv .1) (done .ensures),
-      pages-on (args .index .now) (args .k) (args .size) (args .attribute) (args .first .0) (at-loop .loop .parent .0) (at-loop .loop .left) _ (progressOf (at-loop .loop .t), at-loop .loop .marks) (at-loop .loop .inv .2) _ _
+      pages-kept _ _ _ _ _ maxPages (progressOf (at-loop .loop .t)) (progressOf (done .result)) (at-loop .loop .marks) _ (at-loop .loop .inv .1) (done .ensures),
+      pages-on _ _ _ _ (args .first .0) (at-loop .loop .parent .0) (at-loop .loop .left) _ (progressOf (at-loop .loop .t), at-loop .loop .marks) (at-loop .loop .inv .2) _ _
           (λ z. omega (arith, more, z)) (sym (c .before .before .before .before .before .before .before .is-page .ensures) ∙ not-false _ (c .before .before .before .before .before .before .if1 .left)) (c .before .at .ensures .1 .1 .1) (done .ensures),
     )
 
@@ -84,7 +84,7 @@ returns-2 : tie.Need-returns-2 Inv-loop μ-loop
 returns-2 c =
     let args = c .before .before .before .before .args in
     let at-loop = c .before in
-    pages-end (args .index .now) (args .k) (args .size) (args .attribute) (args .first .0) (at-loop .loop .parent .0) (at-loop .loop .left) _ (progressOf (at-loop .loop .t), at-loop .loop .marks) (at-loop .loop .inv .2) (search needs)
+    pages-end _ _ _ _ (args .first .0) (at-loop .loop .parent .0) (at-loop .loop .left) _ (progressOf (at-loop .loop .t), at-loop .loop .marks) (at-loop .loop .inv .2) (search needs)
 
 pub check-level-spec : {M : Type 1} → statement M
 check-level-spec =

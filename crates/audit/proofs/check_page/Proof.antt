@@ -28,7 +28,7 @@ returns c =
     let start = c .before .before .before .before .before .before .before .before in
     let args = start .args in
     let fits = c .before .before .before .page-fits in
-    check-refused (args .index .now) (args .k) (args .size) (args .attribute) (args .page .0) (args .s) (args .marks .now) _ (fits .ensures) (not-true _ (c .before .if1 .taken))
+    check-refused _ _ _ _ (args .page .0) (args .s) (args .marks .now) _ (fits .ensures) (not-true _ (c .before .if1 .taken))
     ∙ ap (λ (t : Progress). (progressOf t, args .marks .now)) (sym (c .refused .ensures))
 
 -- src/lib.rt:214:16
@@ -41,7 +41,7 @@ slice-read-if2 c =
     let start = c .before .before .before .before .before .before .before .before .before in
     let args = start .args in
     let fits = c .before .before .before .before .page-fits in
-    let o = fits-page (args .index .now) (args .k) (args .size) (args .attribute) (args .page .0) (args .s) (args .marks .now) _ (fits .ensures) (not-false _ (c .before .before .if1 .left)) in
+    let o = fits-page _ _ _ _ (args .page .0) (args .s) (args .marks .now) _ (fits .ensures) (not-false _ (c .before .before .if1 .left)) in
     let f = start .pre .0 in
     let l = start .pre .1 in
     search needs
@@ -56,7 +56,7 @@ returns-2 c =
     let start = c .before .before .before .before .before .before .before .before .before .before .before in
     let args = start .args in
     let fits = c .before .before .before .before .before .before .page-fits in
-    check-marked (args .index .now) (args .k) (args .size) (args .attribute) (args .page .0) (args .s) (args .marks .now) _ (fits .ensures) (not-false _ (c .before .before .before .before .if1 .left)) (c .before .if2 .taken)
+    check-marked _ _ _ _ (args .page .0) (args .s) (args .marks .now) _ (fits .ensures) (not-false _ (c .before .before .before .before .if1 .left)) (c .before .if2 .taken)
     ∙ ap (λ (t : Progress). (progressOf t, args .marks .now)) (sym (c .refused2 .ensures))
 
 -- src/lib.rt:218:5
@@ -65,7 +65,7 @@ slice-write-marks c =
     let start = c .before .before .before .before .before .before .before .before .before .before in
     let args = start .args in
     let fits = c .before .before .before .before .before .page-fits in
-    let o = fits-page (args .index .now) (args .k) (args .size) (args .attribute) (args .page .0) (args .s) (args .marks .now) _ (fits .ensures) (not-false _ (c .before .before .before .if1 .left)) in
+    let o = fits-page _ _ _ _ (args .page .0) (args .s) (args .marks .now) _ (fits .ensures) (not-false _ (c .before .before .before .if1 .left)) in
     let f = start .pre .0 in
     let l = start .pre .1 in
     search needs
@@ -76,7 +76,7 @@ at-requires c κs =
     let start = c .before .before .before .before .before .before .before .before .before .before in
     let args = start .args in
     let fits = c .before .before .before .before .before .page-fits in
-    let o = fits-page (args .index .now) (args .k) (args .size) (args .attribute) (args .page .0) (args .s) (args .marks .now) _ (fits .ensures) (not-false _ (c .before .before .before .if1 .left)) in
+    let o = fits-page _ _ _ _ (args .page .0) (args .s) (args .marks .now) _ (fits .ensures) (not-false _ (c .before .before .before .if1 .left)) in
     let f = start .pre .0 in
     omega arith
 
@@ -90,7 +90,7 @@ returns-3 c =
     let start = c .before .before .before .before .before .before .before .before .before .before .before .before in
     let args = start .args in
     let fits = c .before .before .before .before .before .before .before .page-fits in
-    check-good (args .index .now) (args .k) (args .size) (args .attribute) (args .page .0) (args .s) (args .marks .now) _ (fits .ensures) (not-false _ (c .before .before .before .before .before .if1 .left)) (c .before .before .if2 .left) _ (c .before .at .ensures .1 .1 .1)
+    check-good _ _ _ _ (args .page .0) (args .s) (args .marks .now) _ (fits .ensures) (not-false _ (c .before .before .before .before .before .if1 .left)) (c .before .before .if2 .left) _ (c .before .at .ensures .1 .1 .1)
 
 pub check-page-spec : {M : Type 1} → statement M
 check-page-spec =

@@ -31,7 +31,7 @@ returns : tie.Need-returns
 returns c =
     let args = c .before .before .before .before .before .before .args in
     let count = c .before .before .before .before .entry-count in
-    entries-leaf (args .index .now) (args .k) (args .size) (args .attribute) (args .last .0) (args .page .0) (count .result) (c .leaf-entries .result) (count .ensures)
+    entries-leaf _ _ _ _ (args .last .0) (args .page .0) (count .result) (c .leaf-entries .result) (count .ensures)
     (c .before .last-key .result) (sym (c .before .before .before .is-leaf .ensures) ∙ c .before .before .if1 .taken) (c .before .last-key .ensures .0) (c .leaf-entries .ensures)
 
 -- src/lib.rt:155:5
@@ -42,7 +42,7 @@ upper-entries-requires c κs = (c .before .before .before .before .pre, entries-
 returns-2 : tie.Need-returns-2
 returns-2 c =
     let args = c .before .before .before .before .before .args in
-    entries-upper (args .index .now) (args .k) (args .size) (args .attribute) (args .last .0) (args .page .0) _ _ (c .before .before .before .entry-count .ensures) (sym (c .before .before .is-leaf .ensures) ∙ c .before .if1 .left) (c .upper-entries .ensures)
+    entries-upper _ _ _ _ (args .last .0) (args .page .0) _ _ (c .before .before .before .entry-count .ensures) (sym (c .before .before .is-leaf .ensures) ∙ c .before .if1 .left) (c .upper-entries .ensures)
 
 pub entries-fit-spec : {M : Type 1} → statement M
 entries-fit-spec =

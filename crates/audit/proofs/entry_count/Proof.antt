@@ -37,7 +37,7 @@ returns-2 : tie.Need-returns-2
 returns-2 c =
     let args = c .before .before .before .before .before .before .before .args in
     let seen = c .before .before .before .before in
-    count-read (args .index .now) (args .k) (args .size) (args .page .0) (sym (seen .before .is-page .ensures) ∙ not-false _ (seen .if1 .left)) (c .before .before .before .at .result .count) (c .before .before .before .at .ensures .1 .0)
+    count-read _ _ _ (args .page .0) (sym (seen .before .is-page .ensures) ∙ not-false _ (seen .if1 .left)) (c .before .before .before .at .result .count) (c .before .before .before .at .ensures .1 .0)
     (rw (c .before .capacity .ensures) at (c .if2 .taken))
 
 -- src/lib.rt:43:1
@@ -46,7 +46,7 @@ returns-3 c =
     let args = c .before .before .before .before .before .before .before .args in
     let seen = c .before .before .before .before in
     c .before .capacity .ensures
-    ∙ count-full (args .index .now) (args .k) (args .size) (args .page .0) (sym (seen .before .is-page .ensures) ∙ not-false _ (seen .if1 .left)) (c .before .before .before .at .result .count) (c .before .before .before .at .ensures .1 .0)
+    ∙ count-full _ _ _ (args .page .0) (sym (seen .before .is-page .ensures) ∙ not-false _ (seen .if1 .left)) (c .before .before .before .at .result .count) (c .before .before .before .at .ensures .1 .0)
     (rw (c .before .capacity .ensures) at (c .if2 .left))
 
 pub entry-count-spec : {M : Type 1} → statement M

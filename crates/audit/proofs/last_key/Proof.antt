@@ -2,7 +2,7 @@ use native.Mathlib.Omega.{arith}
 use Prim.Native.Nat.{_-_}
 use mathlib.Core.Path.{_≡_}
 use Rattle.page.specs.PageLaws.{entry-within}
-use Rattle.audit.specs.EntryLaws.{entries-within, last-at, last-none}
+use Rattle.audit.specs.EntryLaws.{entries-within, last-none, last-some}
 use borrow.Author.Needs.{needs}
 use Rattle.audit.proofs.last_key.Statement.{statement}
 use Rattle.audit.proofs.last_key.Tie as tie
@@ -40,7 +40,7 @@ returns-2 c =
     let some = c .before .if1 .left in
     let w = entry-within (entries-within _ _ _ _ _ (n .ensures) (c .before .before .before .before .pre) .each (n .result - 1) (omega arith)) in
     let at = c .entry-offset .ensures in
-    (last-at _ _ _ _ _ _ (n .ensures) some at, omega arith)
+    (last-some _ _ _ _ _ _ (n .ensures) some at, omega arith)
 
 pub last-key-spec : {M : Type 1} → statement M
 last-key-spec =

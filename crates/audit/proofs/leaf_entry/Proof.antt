@@ -20,13 +20,13 @@ record-number-requires c κs = search needs
 returns : tie.Need-returns
 returns c =
     let args = c .before .before .before .before .args in
-    leaf-zero (args .index .now) (args .k) (args .page .0) (args .i) (args .last) _ (c .before .before .record-number .ensures) (c .if1 .taken)
+    leaf-zero _ _ (args .page .0) (args .i) (args .last) _ (c .before .before .record-number .ensures) (c .if1 .taken)
 
 -- src/lib.rt:90:9
 returns-2 : tie.Need-returns-2
 returns-2 c =
     let args = c .before .before .before .before .before .args in
-    leaf-first (args .index .now) (args .k) (args .page .0) (args .i) (args .last) _ (c .before .before .before .record-number .ensures) (c .before .if1 .left) (c .if2 .taken)
+    leaf-first _ _ (args .page .0) (args .i) (args .last) _ (c .before .before .before .record-number .ensures) (c .before .if1 .left) (c .if2 .taken)
 
 -- src/lib.rt:92:48
 entry-offset-requires : tie.Need-entry-offset-requires
@@ -45,7 +45,7 @@ returns-3 : tie.Need-returns-3
 returns-3 c =
     let tests = c .before .before .before in
     let args = tests .before .before .before .before .before .args in
-    leaf-above (args .index .now) (args .k) (args .page .0) (args .i) (args .last) _ (tests .before .before .before .record-number .ensures) (tests .before .if1 .left) (tests .if2 .left) (c .before .before .entry-offset .ensures)
+    leaf-above _ _ (args .page .0) (args .i) (args .last) _ (tests .before .before .before .record-number .ensures) (tests .before .if1 .left) (tests .if2 .left) (c .before .before .entry-offset .ensures)
     (c .before .key-order .ensures) (c .is-below .ensures)
 
 pub leaf-entry-spec : {M : Type 1} → statement M

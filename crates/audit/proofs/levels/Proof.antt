@@ -36,7 +36,7 @@ loop-holds c =
     let start = c .before .before .before .before .before .before in
     let args = start .args in
     let root = c .before .before .root-level in
-    (search needs, root-kept (args .index .now) (args .k) (args .size) (args .root .0) maxPages (levelOf (root .result)) (args .marks .now) _ (start .pre .1) (root .ensures), refl)
+    (search needs, root-kept _ _ _ (args .root .0) maxPages (levelOf (root .result)) (args .marks .now) _ (start .pre .1) (root .ensures), refl)
 
 -- src/lib.rt:373:13
 same-length : tie.Need-same-length Inv-loop μ-loop
@@ -47,7 +47,7 @@ returns : tie.Need-returns Inv-loop μ-loop
 returns c =
     let args = c .before .before .before .before .before .before .before .before .before .before .before .args in
     let at-loop = c .before .before .before .before in
-    levels-stop (args .index .now) (args .k) (args .size) (at-loop .loop .left) _ (levelOf (at-loop .loop .level), at-loop .loop .marks) (at-loop .loop .inv .2) _ (c .before .before .before .before .before .before .before .root-level .ensures) (not-true _ (c .if1 .taken))
+    levels-stop _ _ _ (at-loop .loop .left) _ (levelOf (at-loop .loop .level), at-loop .loop .marks) (at-loop .loop .inv .2) _ (c .before .before .before .before .before .before .before .root-level .ensures) (not-true _ (c .if1 .taken))
 
 -- src/lib.rt:376:9
 next-level-requires : tie.Need-next-level-requires Inv-loop μ-loop
@@ -69,8 +69,8 @@ loop-again c =
     let more = c .before .before .before .before .before .before .before .before .loop-test .taken in
     let done = c .before .before .next-level in (
       search needs,
-      next-kept (args .index .now) (args .k) (args .size) (at-loop .loop .level .first .0) maxPages (levelOf (done .result)) (at-loop .loop .marks) _ (at-loop .loop .inv .1) (done .ensures),
-      levels-on (args .index .now) (args .k) (args .size) (at-loop .loop .left) _ (levelOf (at-loop .loop .level), at-loop .loop .marks) (at-loop .loop .inv .2) _ (λ z. omega (arith, more, z)) (not-false _ (c .before .before .before .before .before .if1 .left)) (done .ensures),
+      next-kept _ _ _ (at-loop .loop .level .first .0) maxPages (levelOf (done .result)) (at-loop .loop .marks) _ (at-loop .loop .inv .1) (done .ensures),
+      levels-on _ _ _ (at-loop .loop .left) _ (levelOf (at-loop .loop .level), at-loop .loop .marks) (at-loop .loop .inv .2) _ (λ z. omega (arith, more, z)) (not-false _ (c .before .before .before .before .before .if1 .left)) (done .ensures),
     )
 
 -- src/lib.rt:365:1
@@ -82,7 +82,7 @@ returns-2 : tie.Need-returns-2 Inv-loop μ-loop
 returns-2 c =
     let args = c .before .before .before .before .before .before .before .before .args in
     let at-loop = c .before in
-    levels-end (args .index .now) (args .k) (args .size) (at-loop .loop .left) _ (levelOf (at-loop .loop .level), at-loop .loop .marks) (at-loop .loop .inv .2) _ (c .before .before .before .before .root-level .ensures) (search needs)
+    levels-end _ _ _ (at-loop .loop .left) _ (levelOf (at-loop .loop .level), at-loop .loop .marks) (at-loop .loop .inv .2) _ (c .before .before .before .before .root-level .ensures) (search needs)
 
 pub levels-spec : {M : Type 1} → statement M
 levels-spec =

@@ -49,7 +49,7 @@ returns c =
     let first = c .before .before .before .before .before .before .before .before .first-child in
     let begun = c .before .before .before .before .start in
     let done = c .before .before .before .check-level in
-    next-closed (args .index .now) (args .k) (args .size) (attribute .result) (first .result) (leaf .result) (begun .result) (done .result) (c .closed .result) (args .marks .now) _ (leaf .ensures) (begun .ensures) (c .closed .ensures)
+    next-closed _ _ _ (attribute .result) (first .result) (leaf .result) (begun .result) (done .result) (c .closed .result) (args .marks .now) _ (leaf .ensures) (begun .ensures) (c .closed .ensures)
     (args .above .0) (first .ensures) (attribute .ensures) (done .ensures)
 
 pub next-level-spec : {M : Type 1} → statement M

@@ -35,7 +35,7 @@ returns-2 c =
     let args = c .before .before .before .before .before .before .before .before .before .before .before .args in
     let seen = c .before .before .before .before .before .before .before .before in
     let head = c .before .before .before .before .before .before .before .at in
-    fits-not (args .index .now) (args .k) (args .size) (args .attribute) (args .page .0) (args .last .0) (args .next .0) (sym (seen .before .is-page .ensures) ∙ not-false _ (seen .if1 .left)) _ _ _ _
+    fits-not _ _ _ _ (args .page .0) (args .last .0) (args .next .0) (sym (seen .before .is-page .ensures) ∙ not-false _ (seen .if1 .left)) _ _ _ _
     (head .ensures .0) (head .ensures .1 .0) (head .ensures .1 .1 .0) (c .before .before .before .before .before .count-good .ensures) (not-true _ (c .if2 .taken))
 
 -- src/lib.rt:181:5
@@ -48,7 +48,7 @@ returns-3 c =
     let args = c .before .before .before .before .before .before .before .before .before .before .before .before .args in
     let seen = c .before .before .before .before .before .before .before .before .before in
     let head = c .before .before .before .before .before .before .before .before .at in
-    fits-then (args .index .now) (args .k) (args .size) (args .attribute) (args .page .0) (args .last .0) (args .next .0) (sym (seen .before .is-page .ensures) ∙ not-false _ (seen .if1 .left)) _ _ _ _
+    fits-then _ _ _ _ (args .page .0) (args .last .0) (args .next .0) (sym (seen .before .is-page .ensures) ∙ not-false _ (seen .if1 .left)) _ _ _ _
     (head .ensures .0) (head .ensures .1 .0) (head .ensures .1 .1 .0) (c .before .before .before .before .before .before .count-good .ensures) (not-false _ (c .before .if2 .left)) _ (c .entries-fit .ensures)
 
 pub page-fits-spec : {M : Type 1} → statement M

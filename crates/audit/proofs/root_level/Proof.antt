@@ -39,7 +39,7 @@ same-length c = search needs
 returns : tie.Need-returns
 returns c =
     let args = c .before .before .before .before .before .before .before .before .before .before .args in
-    root-closed (args .index .now) (args .k) (args .size) (c .before .before .before .before .before .attribute-of .result) (args .root) (c .before .before .before .before .before .before .before .leaf-at .result) (c .before .before .before .before .start .result) (c .before .before .before .check-page .result) (c .closed .result) (args .marks .now) _
+    root-closed _ _ _ (c .before .before .before .before .before .attribute-of .result) (args .root) (c .before .before .before .before .before .before .before .leaf-at .result) (c .before .before .before .before .start .result) (c .before .before .before .check-page .result) (c .closed .result) (args .marks .now) _
     (c .before .before .before .before .before .before .before .leaf-at .ensures) (c .before .before .before .before .start .ensures) (c .closed .ensures) (c .before .before .before .before .before .attribute-of .ensures) (c .before .before .before .check-page .ensures)
 
 pub root-level-spec : {M : Type 1} → statement M

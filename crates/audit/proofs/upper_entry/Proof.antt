@@ -25,7 +25,7 @@ last-key-requires c κs = search needs
 returns : tie.Need-returns
 returns c =
     let args = c .before .before .before .before .args in
-    upper-none (args .index .now) (args .k) (args .size) (args .page .0) (args .i) _ _ (c .before .before .child .ensures) (c .before .last-key .ensures .0) (c .if1 .taken)
+    upper-none _ _ _ (args .page .0) (args .i) _ _ (c .before .before .child .ensures) (c .before .last-key .ensures .0) (c .if1 .taken)
 
 -- src/lib.rt:121:48
 entry-offset-requires : tie.Need-entry-offset-requires
@@ -44,7 +44,7 @@ returns-2 : tie.Need-returns-2
 returns-2 c =
     let seen = c .before .before .before .before in
     let args = seen .before .before .before .args in
-    upper-same (args .index .now) (args .k) (args .size) (args .page .0) (args .i) _ _ (seen .before .child .ensures) (seen .last-key .ensures .0) (c .before .before .before .if1 .left) (c .before .before .entry-offset .ensures)
+    upper-same _ _ _ (args .page .0) (args .i) _ _ (seen .before .child .ensures) (seen .last-key .ensures .0) (c .before .before .before .if1 .left) (c .before .before .entry-offset .ensures)
     (c .before .key-order .ensures) (c .is-equal .ensures)
 
 pub upper-entry-spec : {M : Type 1} → statement M
