@@ -1,13 +1,12 @@
 -- Laws: the entries of a page by number, one by its tests, and the loops over them. Cited by the proofs of the functions on entries. Assumes nothing.
 use Prim.Native.Nat.{ℕ, zero, suc, _+_, _-_, _≤_, _<_}
 use mathlib.Core.Path.{_≡_, refl, sym, ap, _∙_}
-use mathlib.Core.Bool.{Bool, true, false, not, _&&_}
+use mathlib.Core.Bool.{Bool, true, false, _&&_}
 use mathlib.Core.List.{List, [], _∷_}
 use mathlib.Core.Option.{Option, none, some}
 use native.Mathlib.Nat.{min-eq-left, min-eq-right, min-le-right}
 use native.Mathlib.Omega.{arith}
 use lib.ListN.{length}
-use lib.Dec.{eqb}
 use borrow.Author.Tests.{eq-eqb, ne-eqb}
 use Rattle.basis.specs.Tests.{either}
 use Rattle.octets.specs.Store.{window}
@@ -19,7 +18,7 @@ use Rattle.page.specs.Page.{countAt, capacity, entryOffset, keyAt, numberAt}
 use Rattle.page.specs.PageLaws.{entry-low}
 use Rattle.page.specs.Reading.{entriesAt}
 use Rattle.page.specs.ReadingLaws.{entriesFrom, entries-by-index, entries-none, length-entries}
-use Rattle.sound.specs.Rule.{Entries, lastOf, isAbove, isSame, leafEntries, upperEntries, firstChild}
+use Rattle.sound.specs.Rule.{lastOf, leafEntries, upperEntries, firstChild}
 use Rattle.audit.specs.State.{InFile, EntriesWithin, keyFrom, leafEntry, upperEntry}
 
 -- how many entries a page has
@@ -43,11 +42,13 @@ module _ (b : List ℕ) (k size p : ℕ) where
         (λ e. let z : n ≡ 0 = en ∙ sym (count-none e) in rw z (entries-none k size b p e))
 
     pub entries-within : InFile b k size → EntriesWithin b k p n
-    entries-within f = record { each = λ i h. either (isPage size p)
-        (λ e. let o = is-page size p e in
-        let m : n ≤ capacity k = rw (en, length-entries k size b p e) (min-le-right _ _) in
-        record { key = f .key; count = omega arith; page = omega arith })
-        (λ e. absurd (omega (arith, count-none e))) }
+    entries-within f = record {
+      each = λ i h. either (isPage size p)
+          (λ e. let o = is-page size p e in
+          let m : n ≤ capacity k = rw (en, length-entries k size b p e) (min-le-right _ _) in
+          record { key = f .key; count = omega arith; page = omega arith })
+          (λ e. absurd (omega (arith, count-none e)));
+    }
 
 -- the entries from entry i on
 pub from-on : (b : List ℕ) (k p n i : ℕ) → i < n

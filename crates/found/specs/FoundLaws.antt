@@ -196,8 +196,8 @@ module _ (b key : List ℕ) (s : Sound b) (e : length key ≡ keyLength b) where
       let few : h < maxLevels = omega (arith, s .levels) in
       descends b key h few h 0 (maxLevels - 1) r [] (omega arith) (omega arith)
       (levels-along b key h few (suc h) 0 (([], r) ∷ []) (λ i l.
-        let z : 0 + i ≡ i = omega arith in
-        rw z (all-of-map (Fine b key h few i) (λ x. x .1) (generation (entriesAt (length key) (fileSize b) b) i (([], r) ∷ [])) (fine-levels i (omega arith) .fit))) .0)
+      let z : 0 + i ≡ i = omega arith in
+      rw z (all-of-map (Fine b key h few i) (λ x. x .1) (generation (entriesAt (length key) (fileSize b) b) i (([], r) ∷ [])) (fine-levels i (omega arith) .fit))) .0)
 
   -- Theorem: lookup's steps on a sound index, for a key of its length, are the theory's lookup in its tree
   pub lookup-tree : lookupRule b key ≡ answerOf (lookup bytesOrder key (s .height) (indexTree b (s .height))) (length (visited bytesOrder key (s .height) (indexTree b (s .height))))

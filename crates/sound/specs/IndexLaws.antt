@@ -124,14 +124,14 @@ module _ (b : List ℕ) (h : ℕ) (o : PagesOnce (indexOf b h)) where
   once-page p l =
       let aligned = o .aligned in
       let whole : p % pageSize ≡ 0 = either (eqb (p % pageSize) 0)
-          (λ e. eqb-true _ _ e)
-          (λ e. absurd (omega (arith, o .unaligned p (eqb-false (p % pageSize) 0 e)))) in
+      (λ e. eqb-true _ _ e)
+      (λ e. absurd (omega (arith, o .unaligned p (eqb-false (p % pageSize) 0 e)))) in
       let below : p < fileSize b = either (ltb p (fileSize b))
-          (λ e. ltb-true _ _ e)
-          (λ e. absurd (omega (arith, o .beyond p (ltb-false p (fileSize b) e)))) in
+      (λ e. ltb-true _ _ e)
+      (λ e. absurd (omega (arith, o .beyond p (ltb-false p (fileSize b) e)))) in
       let some : 0 < p = either (eqb p 0)
-          (λ e. let z : occ p Ps ≡ 0 = ap (λ (q : ℕ). occ q Ps) (eqb-true p 0 e) ∙ o .header in absurd (omega arith))
-          (λ e. omega (arith, eqb-false p 0 e)) in
+      (λ e. let z : occ p Ps ≡ 0 = ap (λ (q : ℕ). occ q Ps) (eqb-true p 0 e) ∙ o .header in absurd (omega arith))
+      (λ e. omega (arith, eqb-false p 0 e)) in
       is-page-from (fileSize b) p (record { whole = whole; low = omega arith; high = omega arith })
 
   once-inside : All (λ p. isPage (fileSize b) p ≡ true) Ps
