@@ -1,28 +1,25 @@
--- Laws: the entries of a page by number, as the audit's loops go over them. Cited by the proofs of its functions. Assumes nothing.
-use Prim.Native.Nat.{ℕ, zero, suc, _+_, _-_, _≤_, _<_, min}
+-- Laws: the entries of a page by number, one by its tests, and the loops over them. Cited by the proofs of the functions on entries. Assumes nothing.
+use Prim.Native.Nat.{ℕ, zero, suc, _+_, _-_, _≤_, _<_}
 use mathlib.Core.Path.{_≡_, refl, sym, ap, _∙_}
-use mathlib.Core.Bool.{Bool, true, false, not, cond, _&&_}
-use mathlib.Core.List.{List, [], _∷_, map}
+use mathlib.Core.Bool.{Bool, true, false, _&&_}
+use mathlib.Core.List.{List, [], _∷_}
 use mathlib.Core.Option.{Option, none, some}
 use native.Mathlib.Nat.{min-eq-left, min-eq-right, min-le-right}
 use native.Mathlib.Omega.{arith}
 use lib.ListN.{length}
-use lib.Dec.{eqb}
 use borrow.Author.Tests.{eq-eqb, ne-eqb}
 use Rattle.basis.specs.Tests.{either}
 use Rattle.octets.specs.Store.{window}
 use Rattle.octets.specs.declared.Ordering.{Ordering}
 use Rattle.octets.specs.Order.{ordering, isBelow, isEqual}
-use Rattle.tree.specs.Clauses.{headOr}
 use Rattle.page.specs.Header.{noPage, isPage}
 use Rattle.page.specs.HeaderLaws.{is-page}
 use Rattle.page.specs.Page.{countAt, capacity, entryOffset, keyAt, numberAt}
-use Rattle.page.specs.PageLaws.{entry-low, entry-within}
-use Rattle.page.specs.Within.{Within}
+use Rattle.page.specs.PageLaws.{entry-low}
 use Rattle.page.specs.Reading.{entriesAt}
-use Rattle.page.specs.ReadingLaws.{entriesFrom, readCount, entries-by-index, entries-none, length-entries}
-use Rattle.sound.specs.Rule.{Entries, lastOf, isAbove, isSame, leafEntries, upperEntries, firstChild}
-use Rattle.audit.specs.State.{InFile, EntriesWithin, keyFrom}
+use Rattle.page.specs.ReadingLaws.{entriesFrom, entries-by-index, entries-none, length-entries}
+use Rattle.sound.specs.Rule.{lastOf, leafEntries, upperEntries, firstChild}
+use Rattle.audit.specs.State.{InFile, EntriesWithin, keyFrom, leafEntry, upperEntry}
 
 -- how many entries a page has
 module _ (b : List ℕ) (k size p : ℕ) where
@@ -53,69 +50,40 @@ module _ (b : List ℕ) (k size p : ℕ) where
           (λ e. absurd (omega (arith, count-none e)));
     }
 
--- one entry more
-module _ (b : List ℕ) (k p n i : ℕ) (h : i < n) where
-  pub from-on : entriesFrom b k p (n - i) i ≡ (keyAt b k p i, numberAt b k p i) ∷ entriesFrom b k p (n - (i + 1)) (i + 1)
-  unfolding entriesFrom
-  from-on = let s : n - i ≡ suc (n - (i + 1)) = omega arith in rw s
+-- the entries from entry i on
+pub from-on : (b : List ℕ) (k p n i : ℕ) → i < n
+    → entriesFrom b k p (n - i) i ≡ (keyAt b k p i, numberAt b k p i) ∷ entriesFrom b k p (n - (i + 1)) (i + 1)
+unfolding entriesFrom
+from-on b k p n i h = let s : n - i ≡ suc (n - (i + 1)) = omega arith in rw s
 
 pub from-end : (b : List ℕ) (k p n i : ℕ) → n ≤ i → entriesFrom b k p (n - i) i ≡ []
 unfolding entriesFrom
 from-end b k p n i h = let z : n - i ≡ 0 = omega arith in rw z
 
--- a key at an offset
-pub some-key : (b : List ℕ) (k p i : ℕ) → keyFrom b k (entryOffset k p i) ≡ some (keyAt b k p i)
+-- a key where an entry begins
+some-key : (b : List ℕ) (k p i : ℕ) → keyFrom b k (entryOffset k p i) ≡ some (keyAt b k p i)
+unfolding keyFrom
 some-key b k p i = rw (ne-eqb (entryOffset k p i) 0 (omega (arith, entry-low k p i)))
 
--- the last key of n entries
+-- the last key of a page
 last-from : (b : List ℕ) (k p m i : ℕ) (o : Option (List ℕ)) → lastOf o (entriesFrom b k p (suc m) i) ≡ some (keyAt b k p (i + m))
 unfolding entriesFrom
 last-from b k p zero i o = let e : i + 0 ≡ i = omega arith in rw e
 last-from b k p (suc m) i o = let e : i + 1 + m ≡ i + suc m = omega arith in rw (← e) (last-from b k p m (i + 1) (some (keyAt b k p i)))
 
-pub last-at : (b : List ℕ) (k size p n x : ℕ) → n ≡ length (entriesAt k size b p) → (n ≡ 0 → ⊥) → x ≡ entryOffset k p (n - 1) → keyFrom b k x ≡ lastOf none (entriesAt k size b p)
-last-at b k size p zero x en ne ex = absurd (ne refl)
-last-at b k size p (suc m) x en ne ex =
+pub last-some : (b : List ℕ) (k size p n x : ℕ) → n ≡ length (entriesAt k size b p) → (n ≡ 0 → ⊥) → x ≡ entryOffset k p (n - 1)
+    → keyFrom b k x ≡ lastOf none (entriesAt k size b p)
+last-some b k size p zero x en ne ex = absurd (ne refl)
+last-some b k size p (suc m) x en ne ex =
     let e : suc m - 1 ≡ 0 + m = omega arith in
     rw (ex, e, some-key b k p (0 + m), entries-are b k size p (suc m) en) (sym (last-from b k p m 0 none))
 
-pub last-none : (b : List ℕ) (k size p n : ℕ) → n ≡ length (entriesAt k size b p) → n ≡ 0 → none ≡ lastOf none (entriesAt k size b p)
-unfolding entriesFrom
+pub last-none : (b : List ℕ) (k size p n : ℕ) → n ≡ length (entriesAt k size b p) → n ≡ 0
+    → keyFrom b k 0 ≡ lastOf none (entriesAt k size b p)
+unfolding keyFrom entriesFrom
 last-none b k size p n en z = rw (entries-are b k size p n en, z)
 
--- the loop over the entries of a leaf
-module _ (b : List ℕ) (k p n i : ℕ) (o : Option (List ℕ)) (h : i < n) (r : Bool) (er : r ≡ (not (eqb (numberAt b k p i) 0) && isAbove o (keyAt b k p i))) where
-  leaf-entry : leafEntries o (entriesFrom b k p (n - i) i) ≡ (r && leafEntries (some (keyAt b k p i)) (entriesFrom b k p (n - (i + 1)) (i + 1)))
-  unfolding leafEntries
-  leaf-entry = rw (from-on b k p n i h, ← er)
-
-  pub leaf-on : r ≡ true → leafEntries o (entriesFrom b k p (n - i) i) ≡ leafEntries (some (keyAt b k p i)) (entriesFrom b k p (n - (i + 1)) (i + 1))
-  leaf-on e = leaf-entry ∙ rw e
-
-  pub leaf-off : r ≡ false → leafEntries o (entriesFrom b k p (n - i) i) ≡ false
-  leaf-off e = leaf-entry ∙ rw e
-
-pub leaf-end : (b : List ℕ) (k p n i : ℕ) (o : Option (List ℕ)) → n ≤ i → leafEntries o (entriesFrom b k p (n - i) i) ≡ true
-unfolding leafEntries
-leaf-end b k p n i o h = rw (from-end b k p n i h)
-
--- the loop over the entries of a page above
-module _ (S : ℕ → Entries) (b : List ℕ) (k p n i : ℕ) (h : i < n) (r : Bool) (er : r ≡ isSame (lastOf none (S (numberAt b k p i))) (keyAt b k p i)) where
-  upper-entry : upperEntries S (entriesFrom b k p (n - i) i) ≡ (r && upperEntries S (entriesFrom b k p (n - (i + 1)) (i + 1)))
-  unfolding upperEntries
-  upper-entry = rw (from-on b k p n i h, ← er)
-
-  pub upper-on : r ≡ true → upperEntries S (entriesFrom b k p (n - i) i) ≡ upperEntries S (entriesFrom b k p (n - (i + 1)) (i + 1))
-  upper-on e = upper-entry ∙ rw e
-
-  pub upper-off : r ≡ false → upperEntries S (entriesFrom b k p (n - i) i) ≡ false
-  upper-off e = upper-entry ∙ rw e
-
-pub upper-end : (S : ℕ → Entries) (b : List ℕ) (k p n i : ℕ) → n ≤ i → upperEntries S (entriesFrom b k p (n - i) i) ≡ true
-unfolding upperEntries
-upper-end S b k p n i h = rw (from-end b k p n i h)
-
--- the first child
+-- the first child of a page
 pub first-none : (b : List ℕ) (k size p n : ℕ) → n ≡ length (entriesAt k size b p) → n ≡ 0 → noPage ≡ firstChild b k size p
 unfolding entriesFrom
 first-none b k size p n en z = rw (entries-are b k size p n en, z)
@@ -127,22 +95,66 @@ first-some b k size p (suc m) x en ne ex = rw (entries-are b k size p (suc m) en
 
 -- one entry of a leaf, by its tests
 module _ (b : List ℕ) (k p i z n : ℕ) (en : n ≡ numberAt b k p i) where
-  pub leaf-zero : n ≡ 0 → false ≡ (not (eqb (numberAt b k p i) 0) && isAbove (keyFrom b k z) (keyAt b k p i))
+  pub leaf-zero : n ≡ 0 → false ≡ leafEntry b k p i z
   leaf-zero h = rw (← en, eq-eqb n 0 h)
 
-  module _ (some-record : n ≡ 0 → ⊥) where
-    pub leaf-first : z ≡ 0 → true ≡ (not (eqb (numberAt b k p i) 0) && isAbove (keyFrom b k z) (keyAt b k p i))
-    leaf-first h = rw (← en, ne-eqb n 0 some-record, eq-eqb z 0 h)
+  module _ (positive : n ≡ 0 → ⊥) where
+    pub leaf-first : z ≡ 0 → true ≡ leafEntry b k p i z
+    unfolding keyFrom
+    leaf-first h = rw (← en, ne-eqb n 0 positive, eq-eqb z 0 h)
 
-    pub leaf-above : (z ≡ 0 → ⊥) → {at : ℕ} {o : Ordering} {r : Bool} → at ≡ entryOffset k p i → o ≡ ordering (window b z k) (window b at k) → r ≡ isBelow o
-        → r ≡ (not (eqb (numberAt b k p i) 0) && isAbove (keyFrom b k z) (keyAt b k p i))
-    leaf-above h ea eo er = er ∙ rw (← en, ne-eqb n 0 some-record, ne-eqb z 0 h, ← ea) (ap isBelow eo)
+    pub leaf-above : {at : ℕ} {o : Ordering} {r : Bool} → (z ≡ 0 → ⊥) → at ≡ entryOffset k p i → o ≡ ordering (window b z k) (window b at k) → r ≡ isBelow o
+        → r ≡ leafEntry b k p i z
+    unfolding keyFrom
+    leaf-above h ea eo er = er ∙ rw (← en, ne-eqb n 0 positive, ne-eqb z 0 h, ← ea) (ap isBelow eo)
 
 -- one entry of a page above
 module _ (b : List ℕ) (k size p i c z : ℕ) (ec : c ≡ numberAt b k p i) (ez : keyFrom b k z ≡ lastOf none (entriesAt k size b c)) where
-  pub upper-none : z ≡ 0 → false ≡ isSame (lastOf none (entriesAt k size b (numberAt b k p i))) (keyAt b k p i)
+  pub upper-none : z ≡ 0 → false ≡ upperEntry b k size p i
+  unfolding keyFrom
   upper-none h = rw (← ec, ← ez, eq-eqb z 0 h)
 
-  pub upper-same : (z ≡ 0 → ⊥) → {at : ℕ} {o : Ordering} {r : Bool} → at ≡ entryOffset k p i → o ≡ ordering (window b z k) (window b at k) → r ≡ isEqual o
-      → r ≡ isSame (lastOf none (entriesAt k size b (numberAt b k p i))) (keyAt b k p i)
+  pub upper-same : {at : ℕ} {o : Ordering} {r : Bool} → (z ≡ 0 → ⊥) → at ≡ entryOffset k p i → o ≡ ordering (window b z k) (window b at k) → r ≡ isEqual o
+      → r ≡ upperEntry b k size p i
+  unfolding keyFrom
   upper-same h ea eo er = er ∙ rw (← ec, ← ez, ne-eqb z 0 h, ← ea) (ap isEqual eo)
+
+-- the loop over the n entries of a leaf, after the key at z₀: what is left to test from entry i on, after the key at z, decides
+abbrev pub LeafLeft : List ℕ → ℕ → ℕ → ℕ → ℕ → ℕ → ℕ → Type 0
+LeafLeft b k p n z₀ i z = leafEntries (keyFrom b k z₀) (entriesFrom b k p n 0) ≡ leafEntries (keyFrom b k z) (entriesFrom b k p (n - i) i)
+
+module _ (b : List ℕ) (k p n z₀ i z : ℕ) (inv : LeafLeft b k p n z₀ i z) where
+  pub leaf-end : n ≤ i → true ≡ leafEntries (keyFrom b k z₀) (entriesFrom b k p n 0)
+  unfolding leafEntries
+  leaf-end h = sym (inv ∙ rw (from-end b k p n i h))
+
+  module _ (h : i < n) (r : Bool) (er : r ≡ leafEntry b k p i z) where
+    leaf-step : leafEntries (keyFrom b k z₀) (entriesFrom b k p n 0) ≡ (r && leafEntries (some (keyAt b k p i)) (entriesFrom b k p (n - (i + 1)) (i + 1)))
+    unfolding leafEntries
+    leaf-step = inv ∙ rw (from-on b k p n i h, ← er)
+
+    pub leaf-off : r ≡ false → false ≡ leafEntries (keyFrom b k z₀) (entriesFrom b k p n 0)
+    leaf-off e = sym (leaf-step ∙ rw e)
+
+    pub leaf-on : (at : ℕ) → r ≡ true → at ≡ entryOffset k p i → LeafLeft b k p n z₀ (i + 1) at
+    leaf-on at e ea = leaf-step ∙ rw (e, ea, some-key b k p i)
+
+-- the loop over the n entries of a page above, in the same way
+abbrev pub UpperLeft : List ℕ → ℕ → ℕ → ℕ → ℕ → ℕ → Type 0
+UpperLeft b k size p n i = upperEntries (entriesAt k size b) (entriesFrom b k p n 0) ≡ upperEntries (entriesAt k size b) (entriesFrom b k p (n - i) i)
+
+module _ (b : List ℕ) (k size p n i : ℕ) (inv : UpperLeft b k size p n i) where
+  pub upper-end : n ≤ i → true ≡ upperEntries (entriesAt k size b) (entriesFrom b k p n 0)
+  unfolding upperEntries
+  upper-end h = sym (inv ∙ rw (from-end b k p n i h))
+
+  module _ (h : i < n) (r : Bool) (er : r ≡ upperEntry b k size p i) where
+    upper-step : upperEntries (entriesAt k size b) (entriesFrom b k p n 0) ≡ (r && upperEntries (entriesAt k size b) (entriesFrom b k p (n - (i + 1)) (i + 1)))
+    unfolding upperEntries
+    upper-step = inv ∙ rw (from-on b k p n i h, ← er)
+
+    pub upper-off : r ≡ false → false ≡ upperEntries (entriesAt k size b) (entriesFrom b k p n 0)
+    upper-off e = sym (upper-step ∙ rw e)
+
+    pub upper-on : r ≡ true → UpperLeft b k size p n (i + 1)
+    upper-on e = upper-step ∙ rw e

@@ -1,19 +1,19 @@
 -- Laws: the audit's passes over pages, children and levels, one after another, as its loops go. Cited by the proofs of those functions. Assumes nothing.
 use Prim.Native.Nat.{ℕ, zero, suc, _+_, _-_, _/_, _≤_, _<_}
 use mathlib.Core.Path.{_≡_, refl, sym, ap, _∙_}
-use mathlib.Core.Bool.{Bool, true, false, not, cond, _&&_}
+use mathlib.Core.Bool.{Bool, true, false, not, _&&_}
 use mathlib.Core.List.{List, [], _∷_, _++_, map}
 use native.Mathlib.Omega.{arith}
-use lib.ListN.{length, getD, set, length-set}
+use lib.ListN.{length, getD, length-set}
 use lib.Dec.{eqb}
-use Rattle.basis.specs.Tests.{either, contra}
-use Rattle.page.specs.Header.{maxLevels, pageSize, noPage, isPage, rootOffset, fileSize, keyLength, headerGood}
+use Rattle.basis.specs.Tests.{either}
+use Rattle.page.specs.Header.{maxLevels, pageSize, isPage, rootOffset, fileSize, keyLength, headerGood}
 use Rattle.page.specs.HeaderLaws.{good-header}
 use Rattle.page.specs.Page.{rightAt, numberAt}
 use Rattle.page.specs.Reading.{entriesAt}
 use Rattle.page.specs.ReadingLaws.{entriesFrom}
 use Rattle.page.specs.declared.PageOffset.{PageOffset}
-use Rattle.sound.specs.Rule.{Progress, Level, maxPages, refused, attributeOf, start, isLeaf, chain, pageFits, childrenOf, firstChild, children, checkPage, checkPages, closed, checkLevel, rootLevel, nextLevel, levelsUnder, markedFrom, complete, pagesGood}
+use Rattle.sound.specs.Rule.{Progress, Level, maxPages, attributeOf, start, isLeaf, chain, pageFits, childrenOf, firstChild, children, checkPage, checkPages, closed, checkLevel, rootLevel, nextLevel, levelsUnder, markedFrom, pagesGood}
 use Rattle.audit.specs.declared.Progress as declared-progress
 use Rattle.audit.specs.declared.Level as declared-level
 use Rattle.audit.specs.State.{InFile, progressOf, levelOf, startAt, closedAt}

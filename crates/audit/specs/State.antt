@@ -1,15 +1,18 @@
 -- Rules: the audit's own values, as its rule has them, and what its inner functions ask of the buffer. No public contract cites these.
 use Prim.Native.Nat.{ℕ, _+_, _≤_, _<_}
-use mathlib.Core.Bool.{Bool, true, false, cond, _&&_}
+use mathlib.Core.Bool.{Bool, true, false, cond, not, _&&_}
 use mathlib.Core.List.{List}
 use mathlib.Core.Option.{Option, none, some}
 use lib.ListN.{length}
 use lib.Dec.{eqb}
 use Rattle.octets.specs.Store.{window}
 use Rattle.page.specs.Header.{maxBytes, maxKey, pageSize, noPage}
+use Rattle.page.specs.Page.{keyAt, numberAt}
+use Rattle.page.specs.Reading.{entriesAt}
 use Rattle.page.specs.Within.{Within}
 use Rattle.page.specs.declared.PageOffset.{PageOffset}
 use Rattle.sound.specs.Rule as rule
+use Rattle.sound.specs.Rule.{lastOf, isAbove, isSame}
 use Rattle.audit.specs.declared.Progress.{Progress}
 use Rattle.audit.specs.declared.Level.{Level}
 
@@ -25,15 +28,25 @@ pub record EntriesWithin (b : List ℕ) (k p n : ℕ) : Type 0 where
   pub each : (i : ℕ) → i < n → Within b k p (i + 1)
 
 -- the key that begins at z, where 0 is none
-abbrev pub keyFrom : List ℕ → ℕ → ℕ → Option (List ℕ)
+unfoldable pub keyFrom : List ℕ → ℕ → ℕ → Option (List ℕ)
 keyFrom b k z = cond (eqb z 0) none (some (window b z k))
 
+-- entry i of a leaf has a record number above 0, and a key above the one that begins at z
+abbrev pub leafEntry : List ℕ → ℕ → ℕ → ℕ → ℕ → Bool
+leafEntry b k p i z = not (eqb (numberAt b k p i) 0) && isAbove (keyFrom b k z) (keyAt b k p i)
+
+-- entry i of a page above the leaves has the last of the child's keys
+abbrev pub upperEntry : List ℕ → ℕ → ℕ → ℕ → ℕ → Bool
+upperEntry b k size p i = isSame (lastOf none (entriesAt k size b (numberAt b k p i))) (keyAt b k p i)
+
+-- the values of the two structs, as the rule has them
 abbrev pub progressOf : Progress → rule.Progress
 progressOf s = record { good = s .good; last = s .last .0; next = s .next .0 }
 
 abbrev pub levelOf : Level → rule.Level
 levelOf v = record { good = v .good; leaf = v .leaf; first = v .first .0 }
 
+-- a refused struct, one at the start of a level, and a level at its end
 abbrev pub refusedAt : Progress → Progress
 refusedAt s = record { good = false; last = s .last; next = s .next }
 

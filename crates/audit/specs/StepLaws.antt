@@ -1,12 +1,11 @@
 -- Laws: one page of the audit, by its tests. Cited by the proofs of the functions that check a page. Assumes nothing.
-use Prim.Native.Nat.{ℕ, _+_, _/_, _≤_, _<_}
+use Prim.Native.Nat.{ℕ, _/_}
 use mathlib.Core.Path.{_≡_, refl, sym, ap, _∙_}
-use mathlib.Core.Bool.{Bool, true, false, not, cond, _&&_}
-use mathlib.Core.List.{List, [], _∷_}
+use mathlib.Core.Bool.{Bool, true, false, _&&_}
+use mathlib.Core.List.{List}
 use mathlib.Core.Option.{none}
-use native.Mathlib.Omega.{arith}
 use lib.ListN.{length, getD, set}
-use lib.Dec.{eqb, leb}
+use lib.Dec.{eqb}
 use borrow.Author.Tests.{eq-eqb, ne-eqb}
 use Rattle.basis.specs.Tests.{contra, both}
 use Rattle.page.specs.Header.{pageSize, isPage}
@@ -14,7 +13,6 @@ use Rattle.page.specs.HeaderLaws.{IsPage, is-page}
 use Rattle.page.specs.Page.{attributeAt, countAt, leftAt, rightAt, leafBit, countGood}
 use Rattle.page.specs.Reading.{entriesAt}
 use Rattle.page.specs.ReadingLaws.{entriesFrom}
-use Rattle.sound.specs.Rule as rule
 use Rattle.sound.specs.Rule.{lastOf, leafEntries, upperEntries, entriesFit, pageFits, checkPage}
 use Rattle.audit.specs.declared.Progress.{Progress}
 use Rattle.audit.specs.State.{keyFrom, progressOf, refusedAt}

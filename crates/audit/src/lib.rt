@@ -5,21 +5,19 @@ use octets::Ordering;
 use page::Page;
 use page::PageOffset;
 ghost use mathlib.Core.Path.{_≡_};
-ghost use mathlib.Core.Bool.{Bool, true, not, _&&_};
+ghost use mathlib.Core.Bool.{Bool, true};
 ghost use mathlib.Core.Option.{none};
 ghost use Prim.Native.Nat.{ℕ, _+_, _-_, _≤_};
 ghost use lib.ListN.{length};
-ghost use lib.Dec.{eqb};
 ghost use Rattle.octets.specs.Store.{window};
 ghost use Rattle.octets.specs.Order.{ordering};
 ghost use Rattle.page.specs.Header.{headerGood, maxLevels};
-ghost use Rattle.page.specs.Page.{keyAt, numberAt};
 ghost use Rattle.page.specs.Within.{Within};
 ghost use Rattle.page.specs.Reading.{entriesAt};
 ghost use Rattle.page.specs.ReadingLaws.{entriesFrom};
 ghost use Rattle.sound.specs.Sound.{Audited};
-ghost use Rattle.sound.specs.Rule.{maxPages, lastOf, isAbove, isSame, leafEntries, upperEntries, entriesFit, pageFits, attributeOf, isLeaf, chain, childrenOf, children, firstChild, checkPage, checkPages, closed, rootLevel, nextLevel, levelsUnder, markedFrom, pagesGood};
-ghost use Rattle.audit.specs.State.{InFile, EntriesWithin, keyFrom, progressOf, levelOf, startAt, refusedAt, closedAt};
+ghost use Rattle.sound.specs.Rule.{maxPages, lastOf, leafEntries, upperEntries, entriesFit, pageFits, attributeOf, isLeaf, chain, childrenOf, children, firstChild, checkPage, checkPages, closed, rootLevel, nextLevel, levelsUnder, markedFrom, pagesGood};
+ghost use Rattle.audit.specs.State.{InFile, EntriesWithin, keyFrom, leafEntry, upperEntry, progressOf, levelOf, startAt, refusedAt, closedAt};
 
 // The most pages that an index has.
 const MAX_PAGES: usize = page::MAX_BYTES / Page::SIZE;
@@ -80,7 +78,7 @@ fn key_order(index: &[u8], k: usize, x: usize, y: usize) -> Ordering
 // Whether a leaf entry has a record number above 0 and a key above the one that begins at `last`, where 0 is none.
 fn leaf_entry(index: &[u8], k: usize, page: PageOffset, i: usize, last: usize) -> bool
     requires { ⌜ Within (now index) k (page .0) (i + 1) × (last + k ≤ length (now index)) ⌝ }
-    ensures { λ r. ⌜ r ≡ (not (eqb (numberAt (now (index .entry)) k (page .0) i) 0) && isAbove (keyFrom (now (index .entry)) k last) (keyAt (now (index .entry)) k (page .0) i)) ⌝ }
+    ensures { λ r. ⌜ r ≡ leafEntry (now (index .entry)) k (page .0) i last ⌝ }
 {
     if page::record_number(index, k, page, i).0 == 0 {
         return false;
@@ -111,7 +109,7 @@ fn leaf_entries(index: &[u8], k: usize, page: PageOffset, count: usize, last: us
 // Whether the key of an entry above a child is the last of the child's keys.
 fn upper_entry(index: &[u8], k: usize, size: usize, page: PageOffset, i: usize) -> bool
     requires { ⌜ InFile (now index) k size × Within (now index) k (page .0) (i + 1) ⌝ }
-    ensures { λ r. ⌜ r ≡ isSame (lastOf none (entriesAt k size (now (index .entry)) (numberAt (now (index .entry)) k (page .0) i))) (keyAt (now (index .entry)) k (page .0) i) ⌝ }
+    ensures { λ r. ⌜ r ≡ upperEntry (now (index .entry)) k size (page .0) i ⌝ }
 {
     let last = last_key(index, k, size, page::child(index, k, page, i));
     if last == 0 {

@@ -2,32 +2,30 @@
 -- are levels. Cited by the claim about lists of calls. Assumes nothing.
 use Prim.Native.Nat.{ℕ, zero, suc, _+_, _-_, _≤_, _<_}
 use mathlib.Core.Path.{_≡_, refl, sym, ap, ap₂, _∙_, subst}
-use mathlib.Core.Bool.{Bool, true, false, not, cond, _&&_, _||_, Bool·beq}
+use mathlib.Core.Bool.{Bool, true, false, cond}
 use mathlib.Core.List.{List, [], _∷_}
 use mathlib.Core.Option.{Option, none, some}
 use native.Mathlib.Omega.{arith}
 use lib.ListN.{length}
-use lib.Dec.{eqb, leb}
+use lib.Dec.{eqb}
 use borrow.Author.Tests.{eq-eqb, ne-eqb, eqb-true, eqb-false, leb-true}
-use Rattle.basis.specs.Lists.{All, all-map}
-use Rattle.basis.specs.Tests.{either, contra, both, join}
+use Rattle.basis.specs.Lists.{All}
+use Rattle.basis.specs.Tests.{either, both}
 use Rattle.octets.specs.Order.{bytesLe, ordering, isEqual}
-use Rattle.octets.specs.OrderLaws.{le-antisym}
 use Rattle.tree.specs.ListLaws.{all-unit, all-map2}
-use Rattle.tree.specs.Pairs.{follow, seek, ifEqual, find}
+use Rattle.tree.specs.Pairs.{follow, seek, find}
 use Rattle.tree.specs.Tree.{pairs, lookup, onward, visited}
 use Rattle.tree.specs.Ordered.{lookup-find, visited-found}
 use Rattle.tree.specs.StoreSteps.{storeLookup, storeVisited}
 use Rattle.tree.specs.StoreLookupLaws.{lookup-read, visited-read}
-use Rattle.page.specs.Header.{maxLevels, isPage, rootOffset, fileSize, keyLength, headerGood}
-use Rattle.page.specs.Page.{attributeAt, countAt, leafBit, rootBit, capacity, keyAt, numberAt, attributeGood, countGood, pageGood, firstAtOrAbove}
+use Rattle.page.specs.Header.{maxLevels, isPage, rootOffset, fileSize, keyLength}
+use Rattle.page.specs.Page.{attributeAt, countAt, leafBit, capacity, keyAt, numberAt, attributeGood, countGood, pageGood}
 use Rattle.page.specs.PageLaws.{first-bound}
-use Rattle.page.specs.KeyOrder.{bytesOrder, equal-same, equal-refl}
+use Rattle.page.specs.KeyOrder.{bytesOrder}
 use Rattle.page.specs.Reading.{entriesAt}
-use Rattle.page.specs.ReadingLaws.{entriesFrom, entries-by-count}
+use Rattle.page.specs.ReadingLaws.{entries-by-count}
 use Rattle.page.specs.SearchLaws.{firstEntry, seek-some, seek-none}
 use Rattle.lookup.specs.Lookup.{childOf, recordOf, entrySays, pageSays, visitRule, decided, lookupFrom, lookupRule}
-use Rattle.lookup.specs.declared.Visit.{Visit}
 use Rattle.lookup.specs.declared.Visit.the-variants as visit
 use Rattle.lookup.specs.declared.Answer.{Answer}
 use Rattle.lookup.specs.declared.Answer.the-variants as answer
@@ -35,8 +33,9 @@ use Rattle.sound.specs.Sound.{Sound, indexTree}
 use Rattle.sound.specs.Rule.{Entries, attributeOf}
 use Rattle.sound.specs.Levels.{below, generation, all-of-map, all-of-concat}
 use Rattle.sound.specs.RunLaws.{Fits}
-use Rattle.sound.specs.LevelLaws.{LevelGood, leaf-bit}
-use Rattle.sound.specs.ShapeLaws.{generationOf, sound-levels}
+use Rattle.sound.specs.LevelLaws.{LevelGood}
+use Rattle.sound.specs.AttributeLaws.{leaf-bit}
+use Rattle.sound.specs.ShapeLaws.{levelPages, sound-levels}
 use Rattle.sound.specs.IndexLaws.{sound-index}
 
 -- the answer by what was found and the pages visited
@@ -189,16 +188,16 @@ module _ (b key : List ℕ) (s : Sound b) (e : length key ≡ keyLength b) where
   abbrev r : ℕ
   r = rootOffset b
 
-  fine-levels : (i : ℕ) → i ≤ h → LevelGood b (length key) (fileSize b) (eqb i 0) (eqb i h) (generationOf b (length key) (fileSize b) r h i)
-  fine-levels = subst (λ (k : ℕ). (i : ℕ) → i ≤ h → LevelGood b k (fileSize b) (eqb i 0) (eqb i h) (generationOf b k (fileSize b) r h i)) (sym e) (sound-levels b s)
+  fine-levels : (i : ℕ) → i ≤ h → LevelGood b (length key) (fileSize b) (eqb i 0) (eqb i h) (levelPages b (length key) (fileSize b) r i)
+  fine-levels = subst (λ (k : ℕ). (i : ℕ) → i ≤ h → LevelGood b k (fileSize b) (eqb i 0) (eqb i h) (levelPages b k (fileSize b) r i)) (sym e) (sound-levels b s)
 
   steps : lookupFrom maxLevels b key r ≡ answerOf (storeLookup bytesOrder key h r (entriesAt (length key) (fileSize b) b)) (0 + length (storeVisited bytesOrder key h r (entriesAt (length key) (fileSize b) b)))
   steps =
       let few : h < maxLevels = omega (arith, s .levels) in
       descends b key h few h 0 (maxLevels - 1) r [] (omega arith) (omega arith)
       (levels-along b key h few (suc h) 0 (([], r) ∷ []) (λ i l.
-        let z : 0 + i ≡ i = omega arith in
-        rw z (all-of-map (Fine b key h few i) (λ x. x .1) (generation (entriesAt (length key) (fileSize b) b) i (([], r) ∷ [])) (fine-levels i (omega arith) .fit))) .0)
+      let z : 0 + i ≡ i = omega arith in
+      rw z (all-of-map (Fine b key h few i) (λ x. x .1) (generation (entriesAt (length key) (fileSize b) b) i (([], r) ∷ [])) (fine-levels i (omega arith) .fit))) .0)
 
   -- Theorem: lookup's steps on a sound index, for a key of its length, are the theory's lookup in its tree
   pub lookup-tree : lookupRule b key ≡ answerOf (lookup bytesOrder key (s .height) (indexTree b (s .height))) (length (visited bytesOrder key (s .height) (indexTree b (s .height))))

@@ -1,16 +1,15 @@
 -- Laws: the audit's tests of entries, page after page, say that leaf keys ascend and record numbers are above 0, and that keys above are the last of their
 -- pages. Cited by the laws of levels. Assumes nothing.
 use Prim.Native.Nat.{ℕ, _<_}
-use mathlib.Core.Path.{_≡_, refl, sym, ap, _∙_, subst}
+use mathlib.Core.Path.{_≡_, refl, sym, ap, _∙_}
 use mathlib.Core.List.{List, [], _∷_, _++_}
-use mathlib.Core.Bool.{Bool, true, false, not, _&&_}
+use mathlib.Core.Bool.{true, false, not}
 use mathlib.Core.Option.{Option, none, some}
 use native.Mathlib.Omega.{arith}
 use lib.Dec.{eqb}
 use borrow.Author.Tests.{ne-eqb, eqb-false, not-true}
 use Rattle.basis.specs.Lists.{All, all-append, all-left, all-right}
 use Rattle.basis.specs.Tests.{contra, both, join}
-use Rattle.octets.specs.Order.{bytesLe, ordering, isEqual}
 use Rattle.tree.specs.Lists.{NonEmpty, concatMap}
 use Rattle.tree.specs.Order.{Lt}
 use Rattle.tree.specs.OrderLaws.{lt-le}

@@ -1,10 +1,9 @@
 -- Laws: the tree of source document 000 is sound, and is not where a single byte is changed: computed statements. Assumes nothing.
-use Prim.Native.Nat.{ℕ, _+_, _-_, _*_, _/_, _%_, min}
+use Prim.Native.Nat.{ℕ, _-_}
 use mathlib.Core.Path.{_≡_, refl}
 use mathlib.Core.Bool.{true, false}
 use mathlib.Core.List.{List, [], _∷_, _++_}
 use lib.ListN.{length, replicate, set}
-use Rattle.basis.specs.Tests.{contra}
 use Rattle.octets.specs.Bytes.{le16, le32, be32, toLe16, toLe32, toBe32}
 use Rattle.octets.specs.Store.{window}
 use Rattle.octets.specs.Order.{bytesLe, ordering}

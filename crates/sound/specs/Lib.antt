@@ -1,6 +1,8 @@
 pub mod Sound
-pub mod Levels
 pub mod Rule
+pub mod AttributeLaws
+pub mod GreatestLaws
+pub mod Levels
 pub mod RunLaws
 pub mod EntryLaws
 pub mod MarkLaws

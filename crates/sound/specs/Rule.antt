@@ -10,7 +10,7 @@ use lib.Dec.{eqb}
 use Rattle.octets.specs.Order.{ordering, isBelow, isEqual}
 use Rattle.tree.specs.Lists.{concatMap}
 use Rattle.tree.specs.Clauses.{headOr}
-use Rattle.page.specs.Header.{maxBytes, maxLevels, pageSize, noPage, rootOffset, fileSize, keyLength, isPage, headerGood}
+use Rattle.page.specs.Header.{maxBytes, maxLevels, pageSize, noPage, rootOffset, fileSize, keyLength, isPage}
 use Rattle.page.specs.Page.{attributeAt, countAt, leftAt, rightAt, leafBit, countGood}
 use Rattle.page.specs.Reading.{entriesAt}
 

@@ -1,11 +1,10 @@
 -- Laws: the audit passes over the pages of a level to its end exactly where they fit, name one another as neighbours, have good entries, and are unmarked
 -- when they are met. Cited by the laws of levels. Assumes nothing.
-use Prim.Native.Nat.{ℕ, suc, _+_, _/_}
-use mathlib.Core.Path.{_≡_, refl, sym, ap, ap₂, _∙_}
+use Prim.Native.Nat.{ℕ, _/_}
+use mathlib.Core.Path.{_≡_, refl, sym, ap, _∙_}
 use mathlib.Core.List.{List, [], _∷_}
 use mathlib.Core.Bool.{Bool, true, false, cond, _&&_}
-use native.Mathlib.Omega.{arith}
-use lib.ListN.{length, getD, set}
+use lib.ListN.{getD, set}
 use lib.Dec.{eqb}
 use borrow.Author.Tests.{eq-eqb, eqb-true}
 use Rattle.basis.specs.Lists.{All}

@@ -1,5 +1,5 @@
--- Rules: what a sound index is, clause by clause in document 01's order and words ("The index", "Sound: .."), on the tree that is read from the bytes.
--- The audit's contract cites `Audited`; match and the claim about lists of calls cite `Sound`.
+-- Rules: what a sound index is, in document 01's clauses, order and words ("Sound: good header; every page ..", The index), on the tree that the bytes
+-- are read as. The audit's contract cites `Audited`; insertion, match and the claim about lists of calls cite `Sound`.
 use Prim.Native.Nat.{ℕ, _+_, _≤_, _<_}
 use mathlib.Core.Path.{_≡_}
 use mathlib.Core.List.{List}
@@ -16,32 +16,41 @@ use Rattle.page.specs.Page.{attributeAt, countAt, leftAt, rightAt, rootBit, lea
 use Rattle.page.specs.KeyOrder.{bytesOrder}
 use Rattle.page.specs.Reading.{treeOf}
 
--- the tree that the bytes are read as, by the header's numbers, with h levels under the root
+-- the tree that the bytes are read as by the header's numbers, with h levels under the root
 abbrev pub indexTree : (b : List ℕ) (h : ℕ) → Tree (List ℕ) h
 indexTree b h = treeOf (keyLength b) (fileSize b) b h
 
--- the pages' links
+-- its pages, "reached from the root"
+abbrev pub indexPages : List ℕ → ℕ → List ℕ
+indexPages b h = pages h (indexTree b h)
+
+-- the left and the right link of every page
 abbrev pub linksOf : List ℕ → Links
 linksOf b = record { left = leftAt b; right = rightAt b }
+
+-- the count that the page at p has in its bytes, of the h + 1 levels' pages: "1 to capacity, save that a lone root leaf may have 0"
+abbrev pub CountGood : List ℕ → ℕ → ℕ → ℕ → Type 0
+CountGood b k h p = (least h ≤ countAt b p) × (countAt b p ≤ capacity k)
 
 pub record Sound (b : List ℕ) : Type 0 where
   -- "good header"
   pub header : headerGood b ≡ true
-  -- the number of levels under the root; "all leaves on one level" is in the type of the tree of this height
+  -- the number of levels under the root
   pub height : ℕ
   -- "every page but the first is reached from the root exactly once": only such pages are reached, and each of them once
-  pub inside : All (λ p. isPage (fileSize b) p ≡ true) (pages height (indexTree b height))
-  pub once : (p : ℕ) → isPage (fileSize b) p ≡ true → occ p (pages height (indexTree b height)) ≡ 1
+  pub inside : All (λ p. isPage (fileSize b) p ≡ true) (indexPages b height)
+  pub once : (p : ℕ) → isPage (fileSize b) p ≡ true → occ p (indexPages b height) ≡ 1
   -- "attributes 0 to 3"
-  pub attributes : All (λ p. attributeAt b p ≤ 3) (pages height (indexTree b height))
+  pub attributes : All (λ p. attributeAt b p ≤ 3) (indexPages b height)
   -- "root bit on the root only"
-  pub rootBits : All (λ p. rootBit (attributeAt b p) ≡ eqb p (rootOffset b)) (pages height (indexTree b height))
-  -- "leaf bit on the bottom level only": level 0
+  pub rootBits : All (λ p. rootBit (attributeAt b p) ≡ eqb p (rootOffset b)) (indexPages b height)
+  -- "leaf bit on the bottom level only", which is level 0
   pub leafBits : (j : ℕ) → j ≤ height → All (λ p. leafBit (attributeAt b p) ≡ eqb j 0) (level j height (indexTree b height))
+  -- "all leaves on one level": in the type of the tree, whose leaves all have `height` levels above them
   -- "at most 11 levels": the root's and those under it
   pub levels : height + 1 ≤ maxLevels
-  -- "counts 1 to capacity, save that a lone root leaf may have 0": the counts that the pages' bytes have, however large
-  pub counts : All (λ p. (least height ≤ countAt b p) × (countAt b p ≤ capacity (keyLength b))) (pages height (indexTree b height))
+  -- "counts 1 to capacity, save that a lone root leaf may have 0"
+  pub counts : All (CountGood b (keyLength b) height) (indexPages b height)
   -- "leaf keys strictly ascending left to right as unsigned bytes"
   pub ascending : Ascending bytesOrder (pairs height (indexTree b height))
   -- "record numbers above 0"
@@ -51,7 +60,7 @@ pub record Sound (b : List ℕ) : Type 0 where
   -- "left and right name the neighbours on the level"
   pub links : AllLinked noPage (linksOf b) height (indexTree b height)
 
--- the audit's answer: 24 exactly where the header is not good, 0 exactly where the index is sound, else 25
+-- the audit's answer: 24 exactly where the header is not good, 0 exactly where the index is sound, 25 in every other case
 pub record Audited (b : List ℕ) (r : ℕ) : Type 0 where
   pub bad : (r ≡ 24) ↔ (headerGood b ≡ false)
   pub sound : (r ≡ 0) ↔ Sound b

@@ -1,46 +1,38 @@
+-- `audit::all_marked` meets its contract. The loop's invariant: the marks passed are set, so that those from `j` on decide.
+-- Assumes nothing.
 use Prim.Native.Nat.{_≤_, _-_}
-use mathlib.Core.Path.{_≡_, refl, sym, _∙_}
-use Rattle.sound.specs.Rule.{markedFrom}
-use Rattle.audit.specs.MarkLaws.{marked-on, marked-off, marked-end}
+use mathlib.Core.Path.{refl}
+use Rattle.audit.specs.MarkLaws.{MarksLeft, marked-end, marked-off, marked-on}
 use borrow.Author.Needs.{needs}
 use Rattle.audit.proofs.all_marked.Statement.{statement}
 use Rattle.audit.proofs.all_marked.Tie as tie
-use Rattle.audit.proofs.all_marked.Reads as reads
-use Rattle.audit.proofs.all_marked.Lts as lts
 
 abbrev Inv-loop : tie.InvT-loop
-Inv-loop marks pages j₀ j = (1 ≤ j) × (j ≤ pages) × (markedFrom marks (pages - 1) 1 ≡ markedFrom marks (pages - j) j)
+Inv-loop marks pages j₀ j = (1 ≤ j) × (j ≤ pages) × MarksLeft marks pages j
 
 abbrev μ-loop : tie.MeasureT-loop
 μ-loop marks pages j₀ j = pages - j
 
--- src/lib.rt:389:5
 loop-holds : tie.Need-loop-holds Inv-loop μ-loop
 loop-holds c = (search needs, search needs, refl)
 
--- src/lib.rt:390:12
 shared-slice-read-if1 : tie.Need-shared-slice-read-if1 Inv-loop μ-loop
 shared-slice-read-if1 c = search needs
 
--- src/lib.rt:391:13
 returns : tie.Need-returns Inv-loop μ-loop
-returns c = sym (c .before .before .before .loop .inv .2 ∙ marked-off _ _ _ (search needs) (c .if1 .taken))
+returns c = marked-off _ _ _ (c .before .before .before .loop .inv .2) (search needs) (c .if1 .taken)
 
--- src/lib.rt:393:9
 add-j : tie.Need-add-j Inv-loop μ-loop
 add-j c = search needs
 
--- src/lib.rt:389:5
 loop-less : tie.Need-loop-less Inv-loop μ-loop
 loop-less c = search needs
 
--- src/lib.rt:389:5
 loop-again : tie.Need-loop-again Inv-loop μ-loop
-loop-again c = (search needs, search needs, c .before .before .before .loop .inv .2 ∙ marked-on _ _ _ (search needs) (c .if1 .left))
+loop-again c = (search needs, search needs, marked-on _ _ _ (c .before .before .before .loop .inv .2) (search needs) (c .if1 .left))
 
--- src/lib.rt:384:1
 returns-2 : tie.Need-returns-2 Inv-loop μ-loop
-returns-2 c = sym (c .before .loop .inv .2 ∙ marked-end _ _ _ (search needs))
+returns-2 c = marked-end _ _ _ (c .before .loop .inv .2) (search needs)
 
 pub all-marked-spec : {M : Type 1} → statement M
 all-marked-spec =

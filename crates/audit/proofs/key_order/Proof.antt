@@ -1,3 +1,5 @@
+-- `audit::key_order` meets its contract: the two parts of the index are the two keys.
+-- Assumes nothing.
 use Prim.Native.Nat.{_+_, _-_}
 use mathlib.Core.Path.{_≡_, _∙_}
 use native.Mathlib.Omega.{arith}
@@ -5,47 +7,34 @@ use Rattle.octets.specs.Store.{window}
 use borrow.Author.Needs.{needs}
 use Rattle.audit.proofs.key_order.Statement.{statement}
 use Rattle.audit.proofs.key_order.Tie as tie
-use Rattle.audit.proofs.key_order.Reads as reads
-use Rattle.audit.proofs.key_order.Lts as lts
-use Rattle.octets.proofs.compare.Reads as compare-reads
 
--- src/lib.rt:76:17
 add-x-end : tie.Need-add-x-end
 add-x-end c = search needs
 
--- src/lib.rt:77:17
 add-y-end : tie.Need-add-y-end
 add-y-end c = search needs
 
--- src/lib.rt:78:21
 sub-compare : tie.Need-sub-compare
 sub-compare c = search needs
 
--- src/lib.rt:78:21
 part-compare-start : tie.Need-part-compare-start
 part-compare-start c = search needs
 
--- src/lib.rt:78:21
 part-compare-end : tie.Need-part-compare-end
 part-compare-end c = search needs
 
--- src/lib.rt:78:39
 sub-compare-2 : tie.Need-sub-compare-2
 sub-compare-2 c = search needs
 
--- src/lib.rt:78:39
 part-compare-start-2 : tie.Need-part-compare-start-2
 part-compare-start-2 c = search needs
 
--- src/lib.rt:78:39
 part-compare-end-2 : tie.Need-part-compare-end-2
 part-compare-end-2 c = search needs
 
--- src/lib.rt:78:5
 compare-requires : tie.Need-compare-requires
 compare-requires c κs = search needs
 
--- src/lib.rt:72:1
 returns : tie.Need-returns
 unfolding window
 returns c =

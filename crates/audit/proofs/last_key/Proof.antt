@@ -1,31 +1,24 @@
+-- `audit::last_key` meets its contract: the last entry, where there is one, lies within its page.
+-- Assumes nothing.
 use native.Mathlib.Omega.{arith}
 use Prim.Native.Nat.{_-_}
-use mathlib.Core.Path.{_≡_}
 use Rattle.page.specs.PageLaws.{entry-within}
-use Rattle.audit.specs.EntryLaws.{entries-within, last-at, last-none}
+use Rattle.audit.specs.EntryLaws.{entries-within, last-none, last-some}
 use borrow.Author.Needs.{needs}
 use Rattle.audit.proofs.last_key.Statement.{statement}
 use Rattle.audit.proofs.last_key.Tie as tie
-use Rattle.audit.proofs.last_key.Reads as reads
-use Rattle.audit.proofs.last_key.Lts as lts
-use Rattle.audit.proofs.entry_count.Reads as entry-count-reads
-use Rattle.page.proofs.entry_offset.Reads as entry-offset-reads
 
--- src/lib.rt:64:9
 entry-count-requires : tie.Need-entry-count-requires
 entry-count-requires c κs = search needs
 
--- src/lib.rt:66:9
 returns : tie.Need-returns
 returns c =
     let args = c .before .before .before .pre in
     (last-none _ _ _ _ _ (c .before .entry-count .ensures) (c .if1 .taken), omega arith)
 
--- src/lib.rt:68:33
 sub-entry-offset : tie.Need-sub-entry-offset
 sub-entry-offset c = search needs
 
--- src/lib.rt:68:5
 entry-offset-requires : tie.Need-entry-offset-requires
 entry-offset-requires c κs =
     let n = c .before .entry-count in
@@ -33,14 +26,13 @@ entry-offset-requires c κs =
     let w = entry-within (entries-within _ _ _ _ _ (n .ensures) (c .before .before .before .pre) .each (n .result - 1) (omega arith)) in
     search needs
 
--- src/lib.rt:60:1
 returns-2 : tie.Need-returns-2
 returns-2 c =
     let n = c .before .before .entry-count in
     let some = c .before .if1 .left in
     let w = entry-within (entries-within _ _ _ _ _ (n .ensures) (c .before .before .before .before .pre) .each (n .result - 1) (omega arith)) in
     let at = c .entry-offset .ensures in
-    (last-at _ _ _ _ _ _ (n .ensures) some at, omega arith)
+    (last-some _ _ _ _ _ _ (n .ensures) some at, omega arith)
 
 pub last-key-spec : {M : Type 1} → statement M
 last-key-spec =

@@ -1,4 +1,6 @@
-use mathlib.Core.Path.{_≡_, sym, ap, _∙_}
+-- `audit::leaf_at` meets its contract: the offset is tested before the page is read.
+-- Assumes nothing.
+use mathlib.Core.Path.{sym, ap, _∙_}
 use native.Mathlib.Omega.{arith}
 use Rattle.page.specs.Page.{leafBit}
 use borrow.Author.Tests.{not-true, not-false}
@@ -7,28 +9,20 @@ use Rattle.sound.specs.Rule.{isLeaf}
 use borrow.Author.Needs.{needs}
 use Rattle.audit.proofs.leaf_at.Statement.{statement}
 use Rattle.audit.proofs.leaf_at.Tie as tie
-use Rattle.audit.proofs.leaf_at.Reads as reads
-use Rattle.audit.proofs.leaf_at.Lts as lts
-use Rattle.page.proofs.Page.at.Reads as at-reads
-use Rattle.page.proofs.is_page.Reads as is-page-reads
 
--- src/lib.rt:287:9
 is-page-requires : tie.Need-is-page-requires
 is-page-requires c κs = search needs
 
--- src/lib.rt:288:9
 returns : tie.Need-returns
 unfolding isLeaf
 returns c = rw (sym (c .before .is-page .ensures) ∙ not-true _ (c .if1 .taken))
 
--- src/lib.rt:290:9
 at-requires : tie.Need-at-requires
 at-requires c κs = let o = is-page _ _ (sym (c .before .is-page .ensures) ∙ not-false _ (c .if1 .left)) in omega arith
 
 is-leaf-requires : tie.Need-is-leaf-requires
 is-leaf-requires c κs = search needs
 
--- src/lib.rt:283:1
 returns-2 : tie.Need-returns-2
 unfolding isLeaf
 returns-2 c = rw (sym (c .before .before .before .is-page .ensures) ∙ not-false _ (c .before .before .if1 .left)) (c .is-leaf .ensures ∙ ap leafBit (c .before .at .ensures .0))

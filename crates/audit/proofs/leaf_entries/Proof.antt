@@ -1,76 +1,59 @@
+-- `audit::leaf_entries` meets its contract. The loop's invariant: the entries passed are good, so that those from entry `i` on decide, after the key
+-- at `prior`.
+-- Assumes nothing.
 use Prim.Native.Nat.{_+_, _-_, _≤_}
-use mathlib.Core.Path.{_≡_, refl, sym, ap, _∙_}
 use native.Mathlib.Nat.{sub-zero}
 use native.Mathlib.Omega.{arith}
 use lib.ListN.{length}
 use borrow.Author.Tests.{not-true, not-false}
 use Rattle.page.specs.PageLaws.{entry-within}
-use Rattle.page.specs.ReadingLaws.{entriesFrom}
-use Rattle.sound.specs.Rule.{leafEntries}
-use Rattle.audit.specs.State.{keyFrom}
-use Rattle.audit.specs.EntryLaws.{some-key, leaf-on, leaf-off, leaf-end}
+use Rattle.audit.specs.EntryLaws.{LeafLeft, leaf-end, leaf-off, leaf-on}
 use borrow.Author.Needs.{needs}
 use Rattle.audit.proofs.leaf_entries.Statement.{statement}
 use Rattle.audit.proofs.leaf_entries.Tie as tie
-use Rattle.audit.proofs.leaf_entries.Reads as reads
-use Rattle.audit.proofs.leaf_entries.Lts as lts
-use Rattle.audit.proofs.leaf_entry.Reads as leaf-entry-reads
-use Rattle.page.proofs.entry_offset.Reads as entry-offset-reads
 
 abbrev Inv-loop : tie.InvT-loop
-Inv-loop index k page count last i₀ prior₀ i prior = (i ≤ count) × (prior + k ≤ length index) × (leafEntries (keyFrom index k last) (entriesFrom index k (page .0) count 0) ≡ leafEntries (keyFrom index k prior) (entriesFrom index k (page .0) (count - i) i))
+Inv-loop index k page count last i₀ prior₀ i prior = (i ≤ count) × (prior + k ≤ length index) × LeafLeft index k (page .0) count last i prior
 
 abbrev μ-loop : tie.MeasureT-loop
 μ-loop index k page count last i₀ prior₀ i prior = count - i
 
--- src/lib.rt:102:5
 loop-holds : tie.Need-loop-holds Inv-loop μ-loop
 loop-holds c = (search needs, search needs, rw sub-zero)
 
--- src/lib.rt:103:13
 leaf-entry-requires : tie.Need-leaf-entry-requires Inv-loop μ-loop
 leaf-entry-requires c κs = (c .before .before .before .pre .0 .each (c .before .loop .i) (search needs), c .before .loop .inv .1)
 
--- src/lib.rt:104:13
 returns : tie.Need-returns Inv-loop μ-loop
 returns c =
     let at-loop = c .before .before .before in
-    let args = at-loop .before .before .args in
-    sym (at-loop .loop .inv .2 ∙ leaf-off (args .index .now) (args .k) (args .page .0) (args .count) (at-loop .loop .i) _ (search needs) _ (c .before .leaf-entry .ensures) (not-true _ (c .if1 .taken)))
+    leaf-off _ _ _ _ _ (at-loop .loop .i) (at-loop .loop .prior) (at-loop .loop .inv .2) (search needs) _ (c .before .leaf-entry .ensures) (not-true _ (c .if1 .taken))
 
--- src/lib.rt:106:9
 entry-offset-requires : tie.Need-entry-offset-requires Inv-loop μ-loop
 entry-offset-requires c κs =
     let at-loop = c .before .before .before in
     let w = entry-within (at-loop .before .before .pre .0 .each (at-loop .loop .i) (search needs)) in
     search needs
 
--- src/lib.rt:107:9
 add-i : tie.Need-add-i Inv-loop μ-loop
 add-i c = search needs
 
--- src/lib.rt:102:5
 loop-less : tie.Need-loop-less Inv-loop μ-loop
 loop-less c = search needs
 
--- src/lib.rt:102:5
 loop-again : tie.Need-loop-again Inv-loop μ-loop
 loop-again c =
     let at-loop = c .before .before .before .before in
-    let args = at-loop .before .before .args in
-    let lt = c .before .before .before .loop-test .taken in
-    let w = entry-within (at-loop .before .before .pre .0 .each (at-loop .loop .i) (search needs)) in
+    let more = c .before .before .before .loop-test .taken in
+    let w = entry-within (at-loop .before .before .pre .0 .each (at-loop .loop .i) more) in
     let at = c .entry-offset .ensures in (
       search needs,
       omega arith,
-      at-loop .loop .inv .2
-          ∙ leaf-on (args .index .now) (args .k) (args .page .0) (args .count) (at-loop .loop .i) _ (search needs) _ (c .before .before .leaf-entry .ensures) (not-false _ (c .before .if1 .left))
-          ∙ ap (λ o. leafEntries o (entriesFrom (args .index .now) (args .k) (args .page .0) (args .count - (at-loop .loop .i + 1)) (at-loop .loop .i + 1))) (sym (rw at (some-key (args .index .now) (args .k) (args .page .0) (at-loop .loop .i)))),
+      leaf-on _ _ _ _ _ (at-loop .loop .i) (at-loop .loop .prior) (at-loop .loop .inv .2) more _ (c .before .before .leaf-entry .ensures) _ (not-false _ (c .before .if1 .left)) at,
     )
 
--- src/lib.rt:96:1
 returns-2 : tie.Need-returns-2 Inv-loop μ-loop
-returns-2 c = sym (c .before .loop .inv .2 ∙ leaf-end _ _ _ _ _ _ (search needs))
+returns-2 c = leaf-end _ _ _ _ _ (c .before .loop .i) (c .before .loop .prior) (c .before .loop .inv .2) (search needs)
 
 pub leaf-entries-spec : {M : Type 1} → statement M
 leaf-entries-spec =

@@ -1,60 +1,43 @@
+-- `audit::upper_entries` meets its contract. The loop's invariant: the entries passed are good, so that those from entry `i` on decide.
+-- Assumes nothing.
 use Prim.Native.Nat.{_-_, _≤_}
-use mathlib.Core.Path.{_≡_, refl, sym, ap, _∙_}
 use native.Mathlib.Nat.{sub-zero}
-use lib.ListN.{length}
 use borrow.Author.Tests.{not-true, not-false}
-use Rattle.page.specs.Reading.{entriesAt}
-use Rattle.page.specs.ReadingLaws.{entriesFrom}
-use Rattle.sound.specs.Rule.{upperEntries}
-use Rattle.audit.specs.EntryLaws.{upper-on, upper-off, upper-end}
+use Rattle.audit.specs.EntryLaws.{UpperLeft, upper-end, upper-off, upper-on}
 use borrow.Author.Needs.{needs}
 use Rattle.audit.proofs.upper_entries.Statement.{statement}
 use Rattle.audit.proofs.upper_entries.Tie as tie
-use Rattle.audit.proofs.upper_entries.Reads as reads
-use Rattle.audit.proofs.upper_entries.Lts as lts
-use Rattle.audit.proofs.upper_entry.Reads as upper-entry-reads
 
 abbrev Inv-loop : tie.InvT-loop
-Inv-loop index k size page count i₀ i = (i ≤ count) × (upperEntries (entriesAt k size index) (entriesFrom index k (page .0) count 0) ≡ upperEntries (entriesAt k size index) (entriesFrom index k (page .0) (count - i) i))
+Inv-loop index k size page count i₀ i = (i ≤ count) × UpperLeft index k size (page .0) count i
 
 abbrev μ-loop : tie.MeasureT-loop
 μ-loop index k size page count i₀ i = count - i
 
--- src/lib.rt:130:5
 loop-holds : tie.Need-loop-holds Inv-loop μ-loop
 loop-holds c = (search needs, rw sub-zero)
 
--- src/lib.rt:131:13
 upper-entry-requires : tie.Need-upper-entry-requires Inv-loop μ-loop
 upper-entry-requires c κs = (c .before .before .before .pre .0, c .before .before .before .pre .1 .each (c .before .loop .i) (search needs))
 
--- src/lib.rt:132:13
 returns : tie.Need-returns Inv-loop μ-loop
 returns c =
     let at-loop = c .before .before .before in
-    let args = at-loop .before .before .args in
-    sym (at-loop .loop .inv .1 ∙ upper-off (entriesAt (args .k) (args .size) (args .index .now)) (args .index .now) (args .k) (args .page .0) (args .count) (at-loop .loop .i) (search needs) _ (c .before .upper-entry .ensures) (not-true _ (c .if1 .taken)))
+    upper-off _ _ _ _ _ (at-loop .loop .i) (at-loop .loop .inv .1) (search needs) _ (c .before .upper-entry .ensures) (not-true _ (c .if1 .taken))
 
--- src/lib.rt:134:9
 add-i : tie.Need-add-i Inv-loop μ-loop
 add-i c = search needs
 
--- src/lib.rt:130:5
 loop-less : tie.Need-loop-less Inv-loop μ-loop
 loop-less c = search needs
 
--- src/lib.rt:130:5
 loop-again : tie.Need-loop-again Inv-loop μ-loop
 loop-again c =
     let at-loop = c .before .before .before in
-    let args = at-loop .before .before .args in (
-      search needs,
-      at-loop .loop .inv .1 ∙ upper-on (entriesAt (args .k) (args .size) (args .index .now)) (args .index .now) (args .k) (args .page .0) (args .count) (at-loop .loop .i) (search needs) _ (c .before .upper-entry .ensures) (not-false _ (c .if1 .left)),
-    )
+    (search needs, upper-on _ _ _ _ _ (at-loop .loop .i) (at-loop .loop .inv .1) (search needs) _ (c .before .upper-entry .ensures) (not-false _ (c .if1 .left)))
 
--- src/lib.rt:125:1
 returns-2 : tie.Need-returns-2 Inv-loop μ-loop
-returns-2 c = sym (c .before .loop .inv .1 ∙ upper-end _ _ _ _ _ _ (search needs))
+returns-2 c = upper-end _ _ _ _ _ (c .before .loop .i) (c .before .loop .inv .1) (search needs)
 
 pub upper-entries-spec : {M : Type 1} → statement M
 upper-entries-spec =
