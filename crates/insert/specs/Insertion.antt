@@ -1,18 +1,18 @@
 -- Rules: insertion, page by page, as the whole buffer that document 01's steps leave. k is the key length; the buffer holds a sound index with room.
 use Prim.Native.Nat.{ℕ, zero, suc, _+_}
 use mathlib.Core.Bool.{cond}
-use mathlib.Core.List.{List, [], _∷_}
+use mathlib.Core.List.{List}
 use lib.ListN.{length}
 use lib.Dec.{leb}
 use Rattle.octets.specs.Bytes.{toLe32, toBe32}
 use Rattle.octets.specs.Store.{put}
-use Rattle.tree.specs.Pairs.{lastKey, insertPair}
+use Rattle.tree.specs.Pairs.{insertPair}
 use Rattle.page.specs.Header.{maxLevels, noPage, pageSize, isPage, rootOffset, fileSize}
 use Rattle.page.specs.Page.{attributeAt, leafBit, capacity}
 use Rattle.page.specs.KeyOrder.{bytesOrder}
 use Rattle.page.specs.Reading.{Item}
 use Rattle.layout.specs.Layout.{itemsIn, withEntries, newPage, splitPage}
-use Rattle.layout.specs.Entries.{chosen, childOf, replaced, raised, twoFor}
+use Rattle.layout.specs.Entries.{chosen, childOf, replaced, raised, twoFor, rootEntries}
 
 -- what an insertion under a page leaves for the page above to do: nothing, the file having so many bytes; or to take in the new page at q, the last of the
 -- file. The third does not occur on a sound index with room: it keeps the rule total
@@ -58,8 +58,8 @@ insertUnder k (suc left) b key r p n =
 abbrev pub atRoot : ℕ → List ℕ → List ℕ → ℕ → Outcome → List ℕ
 atRoot k b key p (kept n) = put b 8 (toLe32 n)
 atRoot k b key p (split q) =
-    let es : List Item = (lastKey key (itemsIn k b p), toBe32 p) ∷ (lastKey key (itemsIn k b q), toBe32 q) ∷ [] in
-    let grown = put (put (newPage b (q + pageSize) 1 noPage noPage es) 0 (toLe32 (q + pageSize))) 8 (toLe32 (q + pageSize + pageSize)) in
+    let root = newPage b (q + pageSize) 1 noPage noPage (rootEntries k b key p q) in
+    let grown = put (put root 0 (toLe32 (q + pageSize))) 8 (toLe32 (q + pageSize + pageSize)) in
     cond (isPage (length b) (q + pageSize)) grown b
 atRoot k b key p bad = b
 

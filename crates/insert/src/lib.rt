@@ -1,4 +1,26 @@
 // A fresh index, and insertion.
+use page::Page;
+use page::PageOffset;
+use page::RecordNumber;
+ghost use mathlib.Core.Path.{_≡_};
+ghost use mathlib.Core.Bool.{Bool, true};
+ghost use Prim.Native.Nat.{ℕ, _+_, _*_, _≤_};
+ghost use lib.ListN.{length};
+ghost use lib.Dec.{leb};
+ghost use Rattle.octets.specs.Bytes.{toBe32};
+ghost use Rattle.tree.specs.Pairs.{insertPair};
+ghost use Rattle.page.specs.Header.{maxLevels, maxKey, pageSize, isPage, keyLength, headerGood};
+ghost use Rattle.page.specs.Page.{capacity};
+ghost use Rattle.page.specs.KeyOrder.{bytesOrder};
+ghost use Rattle.page.specs.Reading.{items};
+ghost use Rattle.layout.specs.Layout.{itemsIn};
+ghost use Rattle.layout.specs.Given.{Over};
+ghost use Rattle.insert.specs.Insertion.{split, step, takeIn, afterChild, insertUnder, atRoot, insertedBuffer};
+ghost use Rattle.insert.specs.Answers.{outcomeOf, NextFits, offsets, grownBytes, visited};
+ghost use Rattle.insert.specs.Room.{onTop, pathFrom, newPages, levelsAfter, noRoom};
+ghost use Rattle.insert.specs.Calls.{left, isFound, insertRule};
+ghost use Rattle.insert.specs.Fresh.{printable, expressionGood, freshBuffer, freshRule};
+
 // What a call that writes an index answers.
 pub enum Insertion {
     Accepted,
@@ -9,4 +31,364 @@ pub enum Insertion {
 pub struct Path {
     pub levels: u32,
     pub run: u32,
+}
+
+// What an insertion under a page leaves for the page above: nothing, with the file's size, or to take in a new page.
+pub enum Outcome {
+    Kept(u32),
+    Split(PageOffset),
+    Bad,
+}
+
+// What an insertion meets at an offset: no page, a leaf, or a page above a child.
+pub enum Visit {
+    Bad,
+    Leaf,
+    Child(PageOffset),
+}
+
+// Gives a page so many entries, held in a byte string, or splits it: the new page is at the file's end.
+fn take_in(
+    index: &mut [u8],
+    k: usize,
+    page: PageOffset,
+    count: usize,
+    entries: &[u8],
+    file: u32,
+) -> Outcome
+    requires { ⌜ Over (now index) k (page .0) count (now entries) ⌝ }
+    ensures { λ r. ⌜ takeIn k (now (index .entry)) (page .0) (items k count (now (entries .entry))) file ≡ step (now (index .exit)) (outcomeOf r) ⌝ }
+{
+    if count <= Page::capacity(k) {
+        layout::with_entries(index, k, page, count, entries);
+        return Outcome::Kept(file);
+    }
+    let new = PageOffset(file);
+    if !page::is_page(index.len(), new) {
+        return Outcome::Bad;
+    }
+    layout::split_page(index, k, page, count, entries, new);
+    Outcome::Split(new)
+}
+
+// Puts a pair into a leaf.
+fn insert_in_leaf(
+    index: &mut [u8],
+    key: &[u8],
+    number: RecordNumber,
+    page: PageOffset,
+    file: u32,
+) -> Outcome
+    requires { ⌜ (length (now key) ≤ maxKey) × (isPage (length (now index)) (page .0) ≡ true) ⌝ }
+    ensures { λ r. ⌜ takeIn (length (now (key .entry))) (now (index .entry)) (page .0) (insertPair bytesOrder (now (key .entry)) (toBe32 (number .0)) (itemsIn (length (now (key .entry))) (now (index .entry)) (page .0))) file ≡ step (now (index .exit)) (outcomeOf r) ⌝ }
+{
+    let mut room = [0u8; layout::ROOM];
+    let count = layout::entry_count(index, key.len(), page);
+    layout::gather_pair(&mut room, index, key, number, page, count);
+    let end = (count + 1) * (key.len() + 4);
+    take_in(index, key.len(), page, count + 1, &room[..end], file)
+}
+
+// Puts two entries for the one above a page that was split.
+fn take_in_two(
+    index: &mut [u8],
+    key: &[u8],
+    page: PageOffset,
+    child: PageOffset,
+    new: PageOffset,
+) -> Outcome
+    requires { ⌜ (length (now key) ≤ maxKey) × (isPage (length (now index)) (page .0) ≡ true) × (new .0 + pageSize ≤ offsets) ⌝ }
+    ensures { λ r. ⌜ afterChild (length (now (key .entry))) (now (index .entry)) (now (key .entry)) (page .0) (child .0) (split (new .0)) ≡ step (now (index .exit)) (outcomeOf r) ⌝ }
+{
+    let mut room = [0u8; layout::ROOM];
+    let file = new.0 + Page::SIZE as u32;
+    let count = layout::entry_count(index, key.len(), page);
+    if count == 0 {
+        return take_in(index, key.len(), page, 0, &room[..0], file);
+    }
+    layout::gather_two(&mut room, index, key, page, count, child, new);
+    let end = (count + 1) * (key.len() + 4);
+    take_in(index, key.len(), page, count + 1, &room[..end], file)
+}
+
+// What a page does after an insertion under its child.
+fn after_child(
+    index: &mut [u8],
+    key: &[u8],
+    page: PageOffset,
+    child: PageOffset,
+    below: Outcome,
+) -> Outcome
+    requires { ⌜ (length (now key) ≤ maxKey) × (isPage (length (now index)) (page .0) ≡ true) × NextFits offsets below ⌝ }
+    ensures { λ r. ⌜ afterChild (length (now (key .entry))) (now (index .entry)) (now (key .entry)) (page .0) (child .0) (outcomeOf below) ≡ step (now (index .exit)) (outcomeOf r) ⌝ }
+{
+    match below {
+        Outcome::Kept(file) => {
+            layout::raise_key(index, key, page);
+            Outcome::Kept(file)
+        }
+        Outcome::Split(new) => take_in_two(index, key, page, child, new),
+        Outcome::Bad => Outcome::Bad,
+    }
+}
+
+// What an insertion meets at an offset.
+fn visit_page(index: &[u8], key: &[u8], page: PageOffset) -> Visit
+    requires { ⌜ length (now key) ≤ maxKey ⌝ }
+    ensures { λ r. ⌜ r ≡ visited (now (index .entry)) (now (key .entry)) (page .0) ⌝ }
+{
+    if !page::is_page(index.len(), page) {
+        return Visit::Bad;
+    }
+    let head = Page::at(index, page);
+    if page::is_leaf(head.attribute) {
+        return Visit::Leaf;
+    }
+    Visit::Child(layout::chosen_child(index, key, page))
+}
+
+// Insertion under a page, with so many levels left.
+fn insert_under(
+    index: &mut [u8],
+    key: &[u8],
+    number: RecordNumber,
+    page: PageOffset,
+    levels: u32,
+    file: u32,
+) -> Outcome
+    requires { ⌜ (length (now key) ≤ maxKey) × (file + pageSize * levels ≤ offsets) ⌝ }
+    ensures { λ r. ⌜ insertUnder (length (now (key .entry))) levels (now (index .entry)) (now (key .entry)) (number .0) (page .0) file ≡ step (now (index .exit)) (outcomeOf r) ⌝ }
+{
+    if levels == 0 {
+        return Outcome::Bad;
+    }
+    let visit = visit_page(index, key, page);
+    match visit {
+        Visit::Bad => Outcome::Bad,
+        Visit::Leaf => insert_in_leaf(index, key, number, page, file),
+        Visit::Child(child) => {
+            let below = insert_under(index, key, number, child, levels - 1, file);
+            after_child(index, key, page, child, below)
+        }
+    }
+}
+
+// A new root over one that was split, and the header's root offset and file size.
+fn new_root(index: &mut [u8], key: &[u8], old: PageOffset, new: PageOffset)
+    requires { ⌜ (length (now key) ≤ maxKey) × (new .0 + pageSize ≤ grownBytes) ⌝ }
+    ensures { λ _. ⌜ now (index .exit) ≡ atRoot (length (now (key .entry))) (now (index .entry)) (now (key .entry)) (old .0) (split (new .0)) ⌝ }
+{
+    let at = new.0 + Page::SIZE as u32;
+    let root = PageOffset(at);
+    if !page::is_page(index.len(), root) {
+        return;
+    }
+    let mut room = [0u8; layout::ROOM];
+    layout::gather_root(&mut room, index, key, old, new);
+    let end = 2 * (key.len() + 4);
+    let none = PageOffset(page::NO_PAGE);
+    let head = Page {
+        attribute: 1,
+        count: 2,
+        left: none,
+        right: none,
+    };
+    layout::new_page(index, key.len(), root, head, &room[..end]);
+    octets::store_le32(index, 0, at);
+    octets::store_le32(index, 8, at + Page::SIZE as u32);
+}
+
+// What is left to do at the root.
+fn at_root(index: &mut [u8], key: &[u8], root: PageOffset, below: Outcome)
+    requires { ⌜ (length (now key) ≤ maxKey) × (pageSize ≤ length (now index)) × NextFits grownBytes below ⌝ }
+    ensures { λ _. ⌜ now (index .exit) ≡ atRoot (length (now (key .entry))) (now (index .entry)) (now (key .entry)) (root .0) (outcomeOf below) ⌝ }
+{
+    match below {
+        Outcome::Kept(file) => octets::store_le32(index, 8, file),
+        Outcome::Split(new) => new_root(index, key, root, new),
+        Outcome::Bad => {}
+    }
+}
+
+// Inserts a pair into an index that has room for it.
+fn insert_pair(index: &mut [u8], key: &[u8], number: RecordNumber)
+    requires { ⌜ (headerGood (now index) ≡ true) × (length (now key) ≡ keyLength (now index)) ⌝ }
+    ensures { λ _. ⌜ now (index .exit) ≡ insertedBuffer (keyLength (now (index .entry))) (now (index .entry)) (now (key .entry)) (number .0) ⌝ }
+{
+    let root = page::root(index);
+    let file = page::file_size(index) as u32;
+    let below = insert_under(index, key, number, root, page::MAX_LEVELS, file);
+    at_root(index, key, root, below);
+}
+
+// Whether a page has as many entries as it holds.
+fn is_full(index: &[u8], k: usize, page: PageOffset) -> bool
+    requires { ⌜ k ≤ maxKey ⌝ }
+    ensures { λ r. ⌜ r ≡ leb (capacity k) (length (itemsIn k (now (index .entry)) (page .0))) ⌝ }
+{
+    Page::capacity(k) <= layout::entry_count(index, k, page)
+}
+
+// A path with one page more on top, full or not.
+fn on_top(full: bool, path: Path) -> Path
+    requires { ⌜ path .levels ≤ maxLevels ⌝ }
+    ensures { λ r. ⌜ r ≡ onTop full path ⌝ }
+{
+    if full & (path.run == path.levels) {
+        return Path {
+            levels: path.levels + 1,
+            run: path.run + 1,
+        };
+    }
+    Path {
+        levels: path.levels + 1,
+        run: path.run,
+    }
+}
+
+// The path to a key from a page on, with so many levels left.
+fn path_from(index: &[u8], key: &[u8], page: PageOffset, levels: u32) -> Path
+    requires { ⌜ (length (now key) ≤ maxKey) × (levels ≤ maxLevels) ⌝ }
+    ensures { λ r. ⌜ r ≡ pathFrom (length (now (key .entry))) levels (now (index .entry)) (now (key .entry)) (page .0) ⌝ }
+{
+    if levels == 0 {
+        return Path { levels: 0, run: 0 };
+    }
+    let full = is_full(index, key.len(), page);
+    let visit = visit_page(index, key, page);
+    match visit {
+        Visit::Bad => Path { levels: 0, run: 0 },
+        Visit::Leaf => on_top(full, Path { levels: 0, run: 0 }),
+        Visit::Child(child) => on_top(full, path_from(index, key, child, levels - 1)),
+    }
+}
+
+// How many new pages an insertion takes.
+fn new_pages(path: Path) -> u32
+    requires { ⌜ path .levels ≤ maxLevels ⌝ }
+    ensures { λ r. ⌜ r ≡ newPages path ⌝ }
+{
+    if path.run == path.levels {
+        return path.run + 1;
+    }
+    path.run
+}
+
+// How many levels there are after an insertion.
+fn levels_after(path: Path) -> u32
+    requires { ⌜ path .levels ≤ maxLevels ⌝ }
+    ensures { λ r. ⌜ r ≡ levelsAfter path ⌝ }
+{
+    if path.run == path.levels {
+        return path.levels + 1;
+    }
+    path.levels
+}
+
+// Whether there is no room for an insertion.
+fn no_room(index: &[u8], key: &[u8]) -> bool
+    requires { ⌜ (headerGood (now index) ≡ true) × (length (now key) ≡ keyLength (now index)) ⌝ }
+    ensures { λ r. ⌜ r ≡ noRoom (keyLength (now (index .entry))) (now (index .entry)) (now (key .entry)) ⌝ }
+{
+    let path = path_from(index, key, page::root(index), page::MAX_LEVELS);
+    let size = page::file_size(index) + Page::SIZE * new_pages(path) as usize;
+    (index.len() < size) | ((page::MAX_BYTES < size) | (page::MAX_LEVELS < levels_after(path)))
+}
+
+// Whether a lookup found its key.
+fn is_found(answer: lookup::Answer) -> bool
+    ensures { λ r. ⌜ r ≡ isFound answer ⌝ }
+{
+    match answer {
+        lookup::Answer::Found(number, pages) => true,
+        lookup::Answer::Absent(pages) => false,
+        lookup::Answer::Refused(reason) => false,
+    }
+}
+
+// Inserts a key with its record number.
+pub fn insert(index: &mut [u8], key: &[u8], number: RecordNumber) -> Insertion
+    ensures { λ r. ⌜ insertRule (now (index .entry)) (now (key .entry)) (number .0) ≡ left (now (index .exit)) r ⌝ }
+{
+    if !page::header_good(index) {
+        return Insertion::Refused(24);
+    }
+    if key.len() != page::key_length(index) {
+        return Insertion::Refused(27);
+    }
+    if number.0 == 0 {
+        return Insertion::Refused(28);
+    }
+    if audit::audit(index) != 0 {
+        return Insertion::Refused(25);
+    }
+    if is_found(lookup::lookup(index, key)) {
+        return Insertion::Refused(29);
+    }
+    if no_room(index, key) {
+        return Insertion::Refused(30);
+    }
+    insert_pair(index, key, number);
+    Insertion::Accepted
+}
+
+// Whether all bytes are printable.
+fn all_printable(s: &[u8]) -> bool
+    ensures { λ r. ⌜ r ≡ printable (now (s .entry)) ⌝ }
+{
+    let mut i = 0;
+    while i < s.len() {
+        let c = octets::byte(s, i);
+        if !((0x20 <= c) & (c <= 0x7E)) {
+            return false;
+        }
+        i += 1;
+    }
+    true
+}
+
+// Whether a key expression is good.
+fn expression_good(expression: &[u8]) -> bool
+    ensures { λ r. ⌜ r ≡ expressionGood (now (expression .entry)) ⌝ }
+{
+    (1 <= expression.len()) & (expression.len() <= 220) & all_printable(expression)
+}
+
+// Writes the header and the root of a fresh index.
+fn write_fresh(index: &mut [u8], k: u32, expression: &[u8])
+    requires { ⌜ (1024 ≤ length (now index)) × (k ≤ maxKey) × (length (now expression) ≤ 220) ⌝ }
+    ensures { λ _. ⌜ now (index .exit) ≡ freshBuffer k (now (expression .entry)) (now (index .entry)) ⌝ }
+{
+    octets::store_le32(index, 0, Page::SIZE as u32);
+    octets::store_le32(index, 4, page::NO_PAGE);
+    octets::store_le32(index, 8, 1024);
+    octets::store_le16(index, 12, k);
+    octets::store_le16(index, 14, 1);
+    octets::copy_in(index, 16, expression);
+    octets::fill(index, 16 + expression.len(), Page::SIZE, 0);
+    let none = PageOffset(page::NO_PAGE);
+    let head = Page {
+        attribute: 3,
+        count: 0,
+        left: none,
+        right: none,
+    };
+    layout::new_page(index, k as usize, PageOffset(512), head, &expression[..0]);
+}
+
+// Makes a fresh index.
+pub fn fresh(index: &mut [u8], k: u32, expression: &[u8]) -> Insertion
+    ensures { λ r. ⌜ freshRule (now (index .entry)) k (now (expression .entry)) ≡ left (now (index .exit)) r ⌝ }
+{
+    if !page::key_length_good(k as usize) {
+        return Insertion::Refused(27);
+    }
+    if !expression_good(expression) {
+        return Insertion::Refused(24);
+    }
+    if index.len() < 1024 {
+        return Insertion::Refused(30);
+    }
+    write_fresh(index, k, expression);
+    Insertion::Accepted
 }

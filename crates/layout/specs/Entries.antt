@@ -46,3 +46,7 @@ raised k b key p =
 -- key, over the new page at q
 abbrev pub twoFor : ℕ → List ℕ → List ℕ → ℕ → ℕ → Item → List Item
 twoFor k b key c q e = (lastKey key (itemsIn k b c), e .1) ∷ (larger bytesOrder (e .0) key, toBe32 q) ∷ []
+
+-- the entries of a new root, over the two halves at p and q with their own last keys
+abbrev pub rootEntries : ℕ → List ℕ → List ℕ → ℕ → ℕ → List Item
+rootEntries k b key p q = (lastKey key (itemsIn k b p), toBe32 p) ∷ (lastKey key (itemsIn k b q), toBe32 q) ∷ []

@@ -23,7 +23,7 @@ use Rattle.page.specs.Header.{maxKey, pageSize, isPage}
 use Rattle.page.specs.Page.{countAt, entryArea, capacity, entryOffset, keyAt, numberAt, firstAtOrAbove}
 use Rattle.page.specs.Within.{Within}
 use Rattle.page.specs.KeyOrder.{bytesOrder}
-use Rattle.page.specs.PageLaws.{entries-fit, entries-inside, within-entry, entry-within}
+use Rattle.page.specs.PageLaws.{capacity-small, entries-fit, entries-inside, within-entry, entry-within}
 use Rattle.page.specs.Reading.{Item, items}
 use Rattle.layout.specs.Layout.{itemsIn, encode}
 use Rattle.layout.specs.Entries.{chosen, childOf, replaced, aboveAll, raised, twoFor}
@@ -158,6 +158,7 @@ pub record Spread (b : List ℕ) (k p n i : ℕ) : Type 0 where
   pub inside : p + pageSize ≤ length b
   pub key : k ≤ maxKey
   pub few : n ≤ capacity k
+  pub small : n ≤ entryArea
   pub all : n * (k + 4) ≤ entryArea
   pub before : i * (k + 4) ≤ n * (k + 4)
   pub rest : i * (k + 4) + (n - i) * (k + 4) ≡ n * (k + 4)
@@ -172,6 +173,7 @@ spread {b} {k} {p} {n} i l h =
       inside = w .page;
       key = w .key;
       few = w .count;
+      small = omega (arith, capacity-small k);
       all = entries-fit k n (w .count);
       before = mul-le-mul-right (k + 4) h;
       rest = sym (add-mul i (n - i) (k + 4)) ∙ ap (λ (x : ℕ). x * (k + 4)) u;

@@ -5,3 +5,4 @@ pub mod ItemLaws
 pub mod WriteLaws
 pub mod EntryLaws
 pub mod GatherLaws
+pub mod FitLaws

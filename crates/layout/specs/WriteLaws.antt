@@ -118,6 +118,10 @@ halves {b} {k} {p} {n} {s} g =
     }
 
 module _ {b s : List ℕ} {k p n : ℕ} (g : Over b k p n s) where
+  -- they fit the page
+  pub whole-given : n ≤ capacity k → Given b k p n s
+  whole-given h = record { within = record { key = g .key; count = h; page = is-page (length b) p (g .page) .high }; size = g .size }
+
   -- the halves, as byte strings
   pub lower-given : Given b k p ((n + 1) / 2) (take ((n + 1) / 2 * (k + 4)) s)
   lower-given =

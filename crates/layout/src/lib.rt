@@ -16,7 +16,7 @@ ghost use Rattle.page.specs.Within.{Within};
 ghost use Rattle.page.specs.KeyOrder.{bytesOrder};
 ghost use Rattle.page.specs.Reading.{items};
 ghost use Rattle.layout.specs.Layout.{itemsIn, encode, withEntries, newPage, linkBeyond, splitPage};
-ghost use Rattle.layout.specs.Entries.{chosen, childOf, replaced, raised, twoFor};
+ghost use Rattle.layout.specs.Entries.{chosen, childOf, replaced, raised, twoFor, rootEntries};
 ghost use Rattle.layout.specs.Given.{Given, Over, Listed, roomSize, chosenAt};
 
 // The room in which the entries of a page are gathered: the entry area and one entry more.
@@ -29,7 +29,7 @@ pub fn with_entries(index: &mut [u8], k: usize, page: PageOffset, count: usize, 
 {
     let at = page.0 as usize;
     octets::store_le16(index, at + 2, count as u32);
-    octets::copy_in(index, at + 12, entries);
+    octets::copy_in(index, at + Page::ENTRIES_START, entries);
     octets::fill(
         index,
         page::entry_offset(k, page, count),
@@ -257,4 +257,16 @@ pub fn gather_two(
     copy_larger_key(room, next, index, key, page, i);
     octets::store_be32(room, next + k, new.0);
     copy_entries(room, next + k + 4, index, k, page, i + 1, count);
+}
+
+// Gathers the entries of a new root.
+pub fn gather_root(room: &mut [u8], index: &[u8], key: &[u8], old: PageOffset, new: PageOffset)
+    requires { ⌜ (length (now key) ≤ maxKey) × (roomSize ≤ length (now room)) ⌝ }
+    ensures { λ _. ⌜ now (room .exit) ≡ put (now (room .entry)) 0 (encode (rootEntries (length (now (key .entry))) (now (index .entry)) (now (key .entry)) (old .0) (new .0))) ⌝ }
+{
+    let k = key.len();
+    copy_last_key(room, 0, index, key, old);
+    octets::store_be32(room, k, old.0);
+    copy_last_key(room, k + 4, index, key, new);
+    octets::store_be32(room, k + 4 + k, new.0);
 }

@@ -1,0 +1,105 @@
+-- `insert::path_from` meets its contract, by induction on the levels left, which fall with each call. Assumes nothing.
+use Prim.Native.Nat.{ℕ, _-_, _<_}
+use mathlib.Core.Path.{sym, _∙_}
+use native.Mathlib.Omega.{arith}
+use lib.ListN.{length}
+use borrow.Author.Needs.{needs}
+use borrow.Fn.Kinds.{In}
+use borrow.Fn.PlainCycle.{Measures, is, falls, and}
+use Rattle.insert.specs.Room.{pathFrom}
+use Rattle.insert.specs.RoomLaws.{path-levels, path-bad, path-leaf, path-child}
+use Rattle.insert.proofs.path_from.Reads as path-from
+use Rattle.insert.proofs.path_from.Kinds as path-from-kinds
+use Rattle.insert.proofs.+path_from.Lts-path_from as path-from-lts
+use Rattle.insert.proofs.is_full.Reads as is-full-reads
+use Rattle.insert.proofs.on_top.Reads as on-top-reads
+use Rattle.insert.proofs.visit_page.Reads as visit-page-reads
+use Rattle.insert.proofs.+path_from.{statement}
+use Rattle.insert.proofs.+path_from.Tie.{close}
+
+abbrev μ-path-from : Measures 2 path-from-kinds.ps ℕ
+μ-path-from κs a = a .1 .1 .1 .0
+
+abbrev path-from-at : ℕ → In 2 path-from-kinds.ps
+path-from-at t =
+    and 2 path-from-kinds.ps (is 2 path-from-kinds.ps μ-path-from t) path-from.Pre
+
+abbrev path-from-below : ℕ → In 2 path-from-kinds.ps
+path-from-below t =
+    and 2 path-from-kinds.ps (falls 2 path-from-kinds.ps _<_ μ-path-from t) path-from.Pre
+
+-- what the calls ask and ensure: of them, `path_from` itself with fewer levels left
+abbrev claims : ℕ → path-from-lts.Claims
+claims t = (
+  is-full-reads.Asked,
+  is-full-reads.Learnt,
+  visit-page-reads.Asked,
+  visit-page-reads.Learnt,
+  on-top-reads.Asked,
+  on-top-reads.Learnt,
+  path-from-below t,
+  path-from.Post,
+)
+
+path-from-returns : (t : ℕ) → path-from-lts.Need-returns (claims t) (path-from-at t) path-from.Post
+unfolding pathFrom
+path-from-returns t c = rw (c .if1 .taken)
+
+path-from-is-full-requires : (t : ℕ) → path-from-lts.Need-is-full-requires (claims t) (path-from-at t) path-from.Post
+path-from-is-full-requires t c κs = c .before .before .before .pre .1 .0
+
+path-from-visit-page-requires : (t : ℕ) → path-from-lts.Need-visit-page-requires (claims t) (path-from-at t) path-from.Post
+path-from-visit-page-requires t c κs = c .before .before .before .before .pre .1 .0
+
+path-from-enum-told : (t : ℕ) → path-from-lts.Need-enum-told (claims t) (path-from-at t) path-from.Post
+path-from-enum-told t c = search needs
+
+path-from-enum-told-2 : (t : ℕ) → path-from-lts.Need-enum-told-2 (claims t) (path-from-at t) path-from.Post
+path-from-enum-told-2 t c = search needs
+
+path-from-on-top-requires : (t : ℕ) → path-from-lts.Need-on-top-requires (claims t) (path-from-at t) path-from.Post
+path-from-on-top-requires t c κs = search needs
+
+path-from-enum-known-visit : (t : ℕ) → path-from-lts.Need-enum-known-visit (claims t) (path-from-at t) path-from.Post
+path-from-enum-known-visit t c = search needs
+
+path-from-sub-path-from : (t : ℕ) → path-from-lts.Need-sub-path-from (claims t) (path-from-at t) path-from.Post
+path-from-sub-path-from t c = search needs
+
+path-from-path-from-requires : (t : ℕ) → path-from-lts.Need-path-from-requires (claims t) (path-from-at t) path-from.Post
+path-from-path-from-requires t c κs =
+    let start = c .before .before .before .before .before .before .before .before in
+    (omega (arith, start .pre .0, c .before .before .before .before .before .if1 .left), (start .pre .1 .0, omega (arith, start .pre .1 .1)))
+
+path-from-on-top-requires-2 : (t : ℕ) → path-from-lts.Need-on-top-requires-2 (claims t) (path-from-at t) path-from.Post
+path-from-on-top-requires-2 t c κs =
+    let start = c .before .before .before .before .before .before .before .before .before in
+    rw (c .path-from .ensures) (omega (arith, path-levels (length (start .args .key .now)) (start .args .levels - 1) (start .args .index .now) (start .args .key .now) (c .before .before .visit .given .0 .0 .0), start .pre .1 .1))
+
+path-from-returns-2 : (t : ℕ) → path-from-lts.Need-returns-2 (claims t) (path-from-at t) path-from.Post
+path-from-returns-2 t c = path-bad _ _ _ _ (c .before .before .before .before .if1 .left) (sym (c .enum-told .given .1) ∙ c .before .before .visit-page .ensures)
+
+path-from-returns-3 : (t : ℕ) → path-from-lts.Need-returns-3 (claims t) (path-from-at t) path-from.Post
+path-from-returns-3 t c = c .on-top .ensures ∙ path-leaf _ _ _ (c .before .before .before .before .is-full .ensures) _ (c .before .before .before .before .before .if1 .left) (sym (c .before .enum-told2 .given .1) ∙ c .before .before .before .visit-page .ensures)
+
+path-from-returns-4 : (t : ℕ) → path-from-lts.Need-returns-4 (claims t) (path-from-at t) path-from.Post
+path-from-returns-4 t c =
+    c .on-top2 .ensures ∙ path-child _ _ _ (c .before .before .before .before .before .before .is-full .ensures) _ _ (c .before .before .before .before .before .before .before .if1 .left) (sym (c .before .before .before .visit .given .1) ∙ c .before .before .before .before .before .visit-page .ensures) (c .before .path-from .ensures)
+
+pub +path-from-spec : {M : Type 1} → statement M
++path-from-spec = close μ-path-from λ t. path-from-lts.spec (claims t)
+    (path-from-at t)
+    path-from.Post
+    (path-from-returns t)
+    (path-from-is-full-requires t)
+    (path-from-visit-page-requires t)
+    (path-from-enum-told t)
+    (path-from-enum-told-2 t)
+    (path-from-on-top-requires t)
+    (path-from-enum-known-visit t)
+    (path-from-sub-path-from t)
+    (path-from-path-from-requires t)
+    (path-from-on-top-requires-2 t)
+    (path-from-returns-2 t)
+    (path-from-returns-3 t)
+    (path-from-returns-4 t)

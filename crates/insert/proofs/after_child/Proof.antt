@@ -1,0 +1,49 @@
+-- `insert::after_child` meets its contract: the rule's three cases. Assumes nothing.
+use borrow.Author.Needs.{needs}
+use Rattle.insert.proofs.after_child.Statement.{statement}
+use Rattle.insert.proofs.after_child.Tie as tie
+
+enum-known-below : tie.Need-enum-known-below
+enum-known-below c = search needs
+
+raise-key-requires : tie.Need-raise-key-requires
+raise-key-requires c κs = search needs
+
+enum-known-below-2 : tie.Need-enum-known-below-2
+enum-known-below-2 c = search needs
+
+take-in-two-requires : tie.Need-take-in-two-requires
+take-in-two-requires c κs = let pre = c .before .before .before .before .before .before .pre in (pre .0, pre .1, rw (c .before .before .below2 .given .1) at (pre .2))
+
+enum-told : tie.Need-enum-told
+enum-told c = search needs
+
+same-length : tie.Need-same-length
+same-length c = search needs
+
+returns : tie.Need-returns
+returns c = rw (c .before .before .before .before .before .below .given .1, c .before .before .raise-key .ensures)
+
+same-length-2 : tie.Need-same-length-2
+same-length-2 c = search needs
+
+returns-2 : tie.Need-returns-2
+returns-2 c = rw (c .before .before .before .before .before .below2 .given .1) (c .before .before .take-in-two .ensures)
+
+returns-3 : tie.Need-returns-3
+returns-3 c = rw (c .enum-told .given .1)
+
+pub after-child-spec : {M : Type 1} → statement M
+after-child-spec =
+    tie.close
+    (tie.spec
+    enum-known-below
+    raise-key-requires
+    enum-known-below-2
+    take-in-two-requires
+    enum-told
+    same-length
+    returns
+    same-length-2
+    returns-2
+    returns-3)

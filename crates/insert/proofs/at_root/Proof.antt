@@ -1,0 +1,49 @@
+-- `insert::at_root` meets its contract: the rule's three cases. Assumes nothing.
+use borrow.Author.Needs.{needs}
+use Rattle.insert.proofs.at_root.Statement.{statement}
+use Rattle.insert.proofs.at_root.Tie as tie
+
+enum-known-below : tie.Need-enum-known-below
+enum-known-below c = search needs
+
+store-le32-requires : tie.Need-store-le32-requires
+store-le32-requires c κs = search needs
+
+enum-known-below-2 : tie.Need-enum-known-below-2
+enum-known-below-2 c = search needs
+
+new-root-requires : tie.Need-new-root-requires
+new-root-requires c κs = let pre = c .before .before .before .before .before .before .pre in (pre .0, rw (c .before .before .below2 .given .1) at (pre .2))
+
+enum-told : tie.Need-enum-told
+enum-told c = search needs
+
+same-length : tie.Need-same-length
+same-length c = search needs
+
+returns : tie.Need-returns
+returns c = rw (c .before .before .before .before .before .below .given .1) (c .before .before .store-le32 .ensures)
+
+same-length-2 : tie.Need-same-length-2
+same-length-2 c = search needs
+
+returns-2 : tie.Need-returns-2
+returns-2 c = rw (c .before .before .before .before .before .below2 .given .1) (c .before .before .new-root .ensures)
+
+returns-3 : tie.Need-returns-3
+returns-3 c = rw (c .enum-told .given .1)
+
+pub at-root-spec : {M : Type 1} → statement M
+at-root-spec =
+    tie.close
+    (tie.spec
+    enum-known-below
+    store-le32-requires
+    enum-known-below-2
+    new-root-requires
+    enum-told
+    same-length
+    returns
+    same-length-2
+    returns-2
+    returns-3)

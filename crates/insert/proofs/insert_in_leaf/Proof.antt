@@ -1,0 +1,71 @@
+-- `insert::insert_in_leaf` meets its contract: what was gathered reads as the rule's entries. Assumes nothing.
+use native.Mathlib.Omega.{arith}
+use lib.ListN.{length, length-take}
+use Rattle.layout.specs.Given.{Listed}
+use Rattle.layout.specs.GatherLaws.{Spread, spread}
+use Rattle.layout.specs.FitLaws.{one-more, pair-read}
+use borrow.Author.Needs.{needs}
+use Rattle.insert.proofs.insert_in_leaf.Statement.{statement}
+use Rattle.insert.proofs.insert_in_leaf.Tie as tie
+
+-- the leaf's entries are counted
+counted : (c : tie.After-entry-count) → let args = c .before .before .before .before .args in Listed (args .index .now) (length (args .key .now)) (args .page .0) (c .entry-count .result)
+counted c = let pre = c .before .before .before .before .pre in record { key = pre .0; page = pre .1; count = c .entry-count .ensures }
+
+products : (c : tie.After-entry-count) → let args = c .before .before .before .before .args in Spread (args .index .now) (length (args .key .now)) (args .page .0) (c .entry-count .result) (c .entry-count .result)
+products c = spread _ (counted c) (omega arith)
+
+entry-count-requires : tie.Need-entry-count-requires
+entry-count-requires c κs = search needs
+
+slice-aggregate-gather-pair : tie.Need-slice-aggregate-gather-pair
+slice-aggregate-gather-pair c = search needs
+
+gather-pair-requires : tie.Need-gather-pair-requires
+gather-pair-requires c κs = (counted (c .before .before), search needs)
+
+add-end : tie.Need-add-end
+add-end c = let s = products (c .before .before .before .before) in omega arith
+
+add-end-2 : tie.Need-add-end-2
+add-end-2 c = search needs
+
+mul-end : tie.Need-mul-end
+mul-end c = let s = products (c .before .before .before .before) in omega arith
+
+add-take-in : tie.Need-add-take-in
+add-take-in c = let s = products (c .before .before .before .before .before) in omega arith
+
+array-share-prefix-room : tie.Need-array-share-prefix-room
+array-share-prefix-room c = let s = products (c .before .before .before .before .before) in omega (arith, c .before .before .gather-pair .kept .0)
+
+slice-aggregate-take-in : tie.Need-slice-aggregate-take-in
+slice-aggregate-take-in c =
+    let s = products (c .before .before .before .before .before .before) in simp length-take (omega (arith, c .before .before .before .gather-pair .kept .0))
+
+take-in-requires : tie.Need-take-in-requires
+take-in-requires c κs = one-more _ (counted (c .before .before .before .before .before .before)) (omega (arith, c .before .before .before .gather-pair .kept .0))
+
+same-length : tie.Need-same-length
+same-length c = search needs
+
+returns : tie.Need-returns
+returns c =
+    rw (pair-read (c .before .before .before .before .before .before .before .before .before .before .before .before .before .args .key .now) (c .before .before .before .before .before .before .before .before .before .before .before .before .before .args .number .0) _ (counted (c .before .before .before .before .before .before .before .before .before)) (omega arith) (c .before .before .before .before .before .before .gather-pair .ensures)) at (c .before .before .take-in .ensures)
+
+pub insert-in-leaf-spec : {M : Type 1} → statement M
+insert-in-leaf-spec =
+    tie.close
+    (tie.spec
+    entry-count-requires
+    slice-aggregate-gather-pair
+    gather-pair-requires
+    add-end
+    add-end-2
+    mul-end
+    add-take-in
+    array-share-prefix-room
+    slice-aggregate-take-in
+    take-in-requires
+    same-length
+    returns)

@@ -1,0 +1,56 @@
+-- `insert::insert_pair` meets its contract: the recursion from the root, and what is left to do at the root. Assumes nothing.
+use Prim.Native.Nat.{_≤_}
+use native.Mathlib.Omega.{arith}
+use lib.ListN.{length}
+use Rattle.page.specs.Header.{maxKey}
+use Rattle.page.specs.HeaderLaws.{GoodHeader, good-header}
+use Rattle.insert.specs.StepLaws.{next-fits, pair-inserted}
+use borrow.Author.Needs.{needs}
+use Rattle.insert.proofs.insert_pair.Statement.{statement}
+use Rattle.insert.proofs.insert_pair.Tie as tie
+
+-- the header is good, and the key's length is its own
+header : (s : tie.Start) → GoodHeader (s .args .index .now)
+header s = good-header _ (s .pre .0)
+
+short : (s : tie.Start) → length (s .args .key .now) ≤ maxKey
+short s = let h = header s in omega (arith, s .pre .1)
+
+root-requires : tie.Need-root-requires
+root-requires c κs = header (c .before .before .before) .long
+
+file-size-requires : tie.Need-file-size-requires
+file-size-requires c κs = header (c .before .before .before .before .before) .long
+
+cast-file : tie.Need-cast-file
+cast-file c = let h = header (c .before .before .before .before .before .before) in omega (arith, c .file-size .ensures)
+
+insert-under-requires : tie.Need-insert-under-requires
+insert-under-requires c κs =
+    let h = header (c .before .before .before .before .before .before .before) in (short (c .before .before .before .before .before .before .before), omega (arith, c .before .file-size .ensures))
+
+at-root-requires : tie.Need-at-root-requires
+at-root-requires c κs =
+    let start = c .before .before .before .before .before .before .before .before .before .before .before in
+    let h = header start in
+    (short start, omega (arith, c .before .before .before .insert-under .kept .0), next-fits _ _ _ _ _ _ _ _ (c .before .before .before .insert-under .result) (c .before .before .before .insert-under .ensures) (omega (arith, c .before .before .before .before .before .file-size .ensures)))
+
+same-length : tie.Need-same-length
+same-length c = search needs
+
+returns : tie.Need-returns
+returns c =
+    let start = c .before .before .before .before .before .before .before .before .before .before .before .before .before .before in
+    pair-inserted _ (start .args .key .now) _ (start .pre .1) (c .before .before .before .before .before .before .before .before .before .before .root .ensures) (c .before .before .before .before .before .before .before .before .file-size .ensures) (c .before .before .before .before .before .before .insert-under .ensures) (c .before .before .at-root .ensures)
+
+pub insert-pair-spec : {M : Type 1} → statement M
+insert-pair-spec =
+    tie.close
+    (tie.spec
+    root-requires
+    file-size-requires
+    cast-file
+    insert-under-requires
+    at-root-requires
+    same-length
+    returns)

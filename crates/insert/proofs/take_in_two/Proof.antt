@@ -1,0 +1,103 @@
+-- `insert::take_in_two` meets its contract: what was gathered reads as the rule's entries; a page without entries has none to replace. Assumes nothing.
+use mathlib.Core.Path.{sym, _∙_}
+use native.Mathlib.Omega.{arith}
+use lib.ListN.{length, length-take}
+use Rattle.layout.specs.Given.{Listed}
+use Rattle.layout.specs.GatherLaws.{Spread, spread}
+use Rattle.layout.specs.FitLaws.{one-more, two-read}
+use Rattle.insert.specs.StepLaws.{two-for-none}
+use borrow.Author.Needs.{needs}
+use Rattle.insert.proofs.take_in_two.Statement.{statement}
+use Rattle.insert.proofs.take_in_two.Tie as tie
+
+-- the page's entries are counted
+counted : (c : tie.After-entry-count) → let args = c .before .before .before .before .before .args in Listed (args .index .now) (length (args .key .now)) (args .page .0) (c .entry-count .result)
+counted c = let pre = c .before .before .before .before .before .pre in record { key = pre .0; page = pre .1; count = c .entry-count .ensures }
+
+products : (c : tie.After-entry-count) → let args = c .before .before .before .before .before .args in Spread (args .index .now) (length (args .key .now)) (args .page .0) (c .entry-count .result) (c .entry-count .result)
+products c = spread _ (counted c) (omega arith)
+
+cast-file : tie.Need-cast-file
+cast-file c = search needs
+
+add-file : tie.Need-add-file
+add-file c = search needs
+
+entry-count-requires : tie.Need-entry-count-requires
+entry-count-requires c κs = search needs
+
+array-share-prefix-room : tie.Need-array-share-prefix-room
+array-share-prefix-room c = search needs
+
+slice-aggregate-take-in : tie.Need-slice-aggregate-take-in
+slice-aggregate-take-in c = search needs
+
+take-in-requires : tie.Need-take-in-requires
+take-in-requires c κs =
+    let pre = c .before .before .before .before .before .before .before .before .pre in record { key = pre .0; page = pre .1; count = omega arith; size = omega arith }
+
+same-length : tie.Need-same-length
+same-length c = search needs
+
+returns : tie.Need-returns
+returns c =
+    two-for-none _ _ _ _ _ _ _ (sym (c .before .before .before .before .before .before .entry-count .ensures) ∙ c .before .before .before .before .before .if1 .taken) (c .before .before .take-in .ensures)
+
+slice-aggregate-gather-two : tie.Need-slice-aggregate-gather-two
+slice-aggregate-gather-two c = search needs
+
+gather-two-requires : tie.Need-gather-two-requires
+gather-two-requires c κs = (counted (c .before .before .before), omega (arith, c .before .before .if1 .left), search needs)
+
+add-end : tie.Need-add-end
+add-end c = let s = products (c .before .before .before .before .before) in omega arith
+
+add-end-2 : tie.Need-add-end-2
+add-end-2 c = search needs
+
+mul-end : tie.Need-mul-end
+mul-end c = let s = products (c .before .before .before .before .before) in omega arith
+
+add-take-in : tie.Need-add-take-in
+add-take-in c = let s = products (c .before .before .before .before .before .before) in omega arith
+
+array-share-prefix-room-2 : tie.Need-array-share-prefix-room-2
+array-share-prefix-room-2 c = let s = products (c .before .before .before .before .before .before) in omega (arith, c .before .before .gather-two .kept .0)
+
+slice-aggregate-take-in-2 : tie.Need-slice-aggregate-take-in-2
+slice-aggregate-take-in-2 c =
+    let s = products (c .before .before .before .before .before .before .before) in simp length-take (omega (arith, c .before .before .before .gather-two .kept .0))
+
+take-in-requires-2 : tie.Need-take-in-requires-2
+take-in-requires-2 c κs = one-more _ (counted (c .before .before .before .before .before .before .before)) (omega (arith, c .before .before .before .gather-two .kept .0))
+
+same-length-2 : tie.Need-same-length-2
+same-length-2 c = search needs
+
+returns-2 : tie.Need-returns-2
+returns-2 c =
+    rw (two-read (c .before .before .before .before .before .before .before .before .before .before .before .before .before .before .before .args .key .now) _ _ _ (counted (c .before .before .before .before .before .before .before .before .before .before)) (c .before .before .before .before .before .before .before .before .before .if1 .left) (omega arith) (c .before .before .before .before .before .before .gather-two .ensures)) at (c .before .before .take-in2 .ensures)
+
+pub take-in-two-spec : {M : Type 1} → statement M
+take-in-two-spec =
+    tie.close
+    (tie.spec
+    cast-file
+    add-file
+    entry-count-requires
+    array-share-prefix-room
+    slice-aggregate-take-in
+    take-in-requires
+    same-length
+    returns
+    slice-aggregate-gather-two
+    gather-two-requires
+    add-end
+    add-end-2
+    mul-end
+    add-take-in
+    array-share-prefix-room-2
+    slice-aggregate-take-in-2
+    take-in-requires-2
+    same-length-2
+    returns-2)

@@ -1,0 +1,156 @@
+-- Laws: the cases of insertion and of fresh, each from the tests that lead to it. Cited by the proofs of the two calls. Assumes nothing.
+use Prim.Native.Nat.{ℕ, suc, _+_, _-_, _≤_, _<_}
+use mathlib.Core.Path.{_≡_, refl, sym, ap, _∙_}
+use mathlib.Core.Bool.{Bool, true, false, _&&_}
+use mathlib.Core.List.{List, [], _∷_, _++_}
+use native.Mathlib.Nat.{zero-add}
+use native.Mathlib.Numerals.{add-one}
+use native.Mathlib.Omega.{arith}
+use lib.ListN.{length, drop, getD, replicate, drop-of-length-le}
+use lib.Seq.{drop-cons}
+use lib.Dec.{eqb, leb}
+use borrow.Author.Tests.{eq-eqb, ne-eqb, leb-true, le-leb, lt-leb}
+use Rattle.basis.specs.Tests.{either, contra, both}
+use Rattle.octets.specs.Bytes.{toLe16, toLe32}
+use Rattle.octets.specs.Store.{put}
+use Rattle.octets.specs.StoreLaws.{put-append}
+use Rattle.octets.specs.NumberLaws.{length-toLe16, length-toLe32}
+use Rattle.page.specs.Header.{maxKey, noPage, keyLength, keyLengthGood, headerGood}
+use Rattle.page.specs.Reading.{items}
+use Rattle.sound.specs.Sound.{Audited}
+use Rattle.sound.specs.Rule.{pagesGood, unmarked}
+use Rattle.sound.specs.Accepted.{accepted}
+use Rattle.lookup.specs.Lookup.{lookupRule}
+use Rattle.layout.specs.Layout.{newPage}
+use Rattle.insert.specs.Insertion.{insertedBuffer}
+use Rattle.insert.specs.Room.{noRoom}
+use Rattle.insert.specs.Calls.{left, isFound, insertRule}
+use Rattle.insert.specs.Fresh.{printable, expressionGood, freshHeader, freshBuffer, freshRule}
+use Rattle.insert.specs.declared.Insertion.the-variants.{Accepted, Refused}
+
+-- the audit's answer decides the rule's test
+module _ (b : List ℕ) {r : ℕ} (h : headerGood b ≡ true) (a : Audited b r) where
+  pub audit-sound : r ≡ 0 → pagesGood b unmarked ≡ true
+  audit-sound e = accepted b h .1 (a .sound .0 e)
+
+  pub audit-unsound : (r ≡ 0 → ⊥) → pagesGood b unmarked ≡ false
+  audit-unsound s = either (pagesGood b unmarked) (λ t. absurd (s (a .sound .1 (accepted b h .0 t)))) (λ t. t)
+
+-- insertion, refusal by refusal in its order
+module _ (b key : List ℕ) (r : ℕ) where
+  pub refused-24 : headerGood b ≡ false → insertRule b key r ≡ left b (Refused 24)
+  unfolding insertRule
+  refused-24 e = rw (e, insertRule)
+
+  module _ (header : headerGood b ≡ true) where
+    pub refused-27 : (length key ≡ keyLength b → ⊥) → insertRule b key r ≡ left b (Refused 27)
+    unfolding insertRule
+    refused-27 s = rw (header, ne-eqb (length key) (keyLength b) s, insertRule)
+
+    module _ (same : length key ≡ keyLength b) where
+      pub refused-28 : r ≡ 0 → insertRule b key r ≡ left b (Refused 28)
+      unfolding insertRule
+      refused-28 z = rw (header, eq-eqb (length key) (keyLength b) same, eq-eqb r 0 z, insertRule)
+
+      module _ (some : r ≡ 0 → ⊥) where
+        pub refused-25 : pagesGood b unmarked ≡ false → insertRule b key r ≡ left b (Refused 25)
+        unfolding insertRule
+        refused-25 e = rw (header, eq-eqb (length key) (keyLength b) same, ne-eqb r 0 some, e, insertRule)
+
+        module _ (sound : pagesGood b unmarked ≡ true) where
+          pub refused-29 : isFound (lookupRule b key) ≡ true → insertRule b key r ≡ left b (Refused 29)
+          unfolding insertRule
+          refused-29 e = rw (header, eq-eqb (length key) (keyLength b) same, ne-eqb r 0 some, sound, e, insertRule)
+
+          module _ (absent : isFound (lookupRule b key) ≡ false) where
+            pub refused-30 : noRoom (keyLength b) b key ≡ true → insertRule b key r ≡ left b (Refused 30)
+            unfolding insertRule
+            refused-30 e = rw (header, eq-eqb (length key) (keyLength b) same, ne-eqb r 0 some, sound, absent, e, insertRule)
+
+            pub accepted-pair : {out : List ℕ} → noRoom (keyLength b) b key ≡ false → out ≡ insertedBuffer (keyLength b) b key r → insertRule b key r ≡ left out Accepted
+            unfolding insertRule
+            accepted-pair e q = rw (header, eq-eqb (length key) (keyLength b) same, ne-eqb r 0 some, sound, absent, e, insertRule, q)
+
+-- printable bytes, one after another
+first-fails : (a b x : Bool) → (a && b) ≡ false → (a && b && x) ≡ false
+first-fails true true x e = contra refl e
+first-fails true false x e = refl
+first-fails false b x e = refl
+
+first-holds : (a b x : Bool) → (a && b) ≡ true → (a && b && x) ≡ x
+first-holds true true x e = refl
+first-holds true false x e = contra e refl
+first-holds false b x e = contra e refl
+
+module _ (s : List ℕ) (i : ℕ) {c : ℕ} (h : i < length s) (e : c ≡ getD s i 0) where
+  pub unprintable-here : (leb 0x20 c && leb c 0x7E) ≡ false → printable (drop i s) ≡ false
+  unfolding printable
+  unprintable-here t = rw (drop-cons s i 0 h, ← e) (first-fails (leb 0x20 c) (leb c 0x7E) (printable (drop (suc i) s)) t)
+
+  pub printable-here : (leb 0x20 c && leb c 0x7E) ≡ true → printable (drop i s) ≡ printable (drop (i + 1) s)
+  unfolding printable
+  printable-here t = rw (add-one, drop-cons s i 0 h, ← e) (first-holds (leb 0x20 c) (leb c 0x7E) (printable (drop (suc i) s)) t)
+
+pub printable-end : (s : List ℕ) (i : ℕ) → length s ≤ i → printable (drop i s) ≡ true
+unfolding printable
+printable-end s i h = rw (drop-of-length-le s h)
+
+-- the stores of a fresh index
+header-parts : (k : ℕ) (e : List ℕ)
+    → freshHeader k e ≡ toLe32 512 ++ (toLe32 noPage ++ (toLe32 1024 ++ (toLe16 k ++ (toLe16 1 ++ (e ++ replicate (496 - length e) 0)))))
+unfolding freshHeader toLe16
+header-parts k e = refl
+
+header-stored : (b e : List ℕ) (k : ℕ)
+    → put b 0 (freshHeader k e)
+    ≡ put (put (put (put (put (put (put b 0 (toLe32 512)) 4 (toLe32 noPage)) 8 (toLe32 1024)) 12 (toLe16 k)) 14 (toLe16 1)) 16 e) (16 + length e) (replicate (496 - length e) 0)
+header-stored b e k = rw (
+  header-parts k e,
+  put-append b 0 (toLe32 512),
+  length-toLe32 512,
+  put-append _ 4 (toLe32 noPage),
+  length-toLe32 noPage,
+  put-append _ 8 (toLe32 1024),
+  length-toLe32 1024,
+  put-append _ 12 (toLe16 k),
+  length-toLe16 k,
+  put-append _ 14 (toLe16 1),
+  length-toLe16 1,
+  put-append _ 16 e,
+)
+
+pub fresh-stored : (b e xs : List ℕ) (k : ℕ) {l1 l2 l3 l4 l5 l6 l7 l8 : List ℕ} → l1 ≡ put b 0 (toLe32 512) → l2 ≡ put l1 4 (toLe32 noPage) → l3 ≡ put l2 8 (toLe32 1024)
+    → l4 ≡ put l3 12 (toLe16 k) → l5 ≡ put l4 14 (toLe16 1) → l6 ≡ put l5 16 e → l7 ≡ put l6 (16 + length e) (replicate (512 - (16 + length e)) 0)
+    → l8 ≡ newPage l7 512 3 noPage noPage (items k 0 xs) → l8 ≡ freshBuffer k e b
+unfolding freshBuffer items
+fresh-stored b e xs k e1 e2 e3 e4 e5 e6 e7 e8 =
+    let z : 512 - (16 + length e) ≡ 496 - length e = omega arith in
+    e8 ∙ rw (e7, e6, e5, e4, e3, e2, e1, z, header-stored b e k)
+
+-- fresh, refusal by refusal in its order
+module _ (b : List ℕ) (k : ℕ) (e : List ℕ) where
+  pub fresh-27 : keyLengthGood k ≡ false → freshRule b k e ≡ left b (Refused 27)
+  unfolding freshRule
+  fresh-27 t = rw (t, freshRule)
+
+  module _ (key : keyLengthGood k ≡ true) where
+    pub fresh-24 : expressionGood e ≡ false → freshRule b k e ≡ left b (Refused 24)
+    unfolding freshRule
+    fresh-24 t = rw (key, t, freshRule)
+
+    module _ (good : expressionGood e ≡ true) where
+      pub fresh-30 : length b < 1024 → freshRule b k e ≡ left b (Refused 30)
+      unfolding freshRule
+      fresh-30 h = rw (key, good, lt-leb 1024 (length b) h, freshRule)
+
+      pub fresh-made : {out : List ℕ} → 1024 ≤ length b → out ≡ freshBuffer k e b → freshRule b k e ≡ left out Accepted
+      unfolding freshRule
+      fresh-made h q = rw (key, good, le-leb 1024 (length b) h, freshRule, q)
+
+pub key-most : (k : ℕ) → keyLengthGood k ≡ true → k ≤ maxKey
+unfolding keyLengthGood
+key-most k e = leb-true k maxKey (both (leb 1 k) (leb k maxKey) e .1)
+
+pub expression-most : (e : List ℕ) → expressionGood e ≡ true → length e ≤ 220
+unfolding expressionGood
+expression-most e t = leb-true (length e) 220 (both (leb 1 (length e)) (leb (length e) 220) (both _ (printable e) t .0) .1)

@@ -1,0 +1,116 @@
+-- Laws: the entries that a page gets have keys of k bytes and numbers of four, how many they are, and so that they are read back from the bytes gathered.
+-- Assumes nothing.
+use Prim.Native.Nat.{ℕ, suc, _+_, _*_, _≤_}
+use mathlib.Core.Path.{_≡_, refl, sym, ap, _∙_, subst}
+use mathlib.Core.List.{List, [], _∷_, _++_, append-assoc, append-nil}
+use native.Mathlib.Omega.{arith}
+use lib.ListN.{length, take, drop, length-append, length-take}
+use lib.Seq.{take-at}
+use Rattle.basis.specs.Tests.{either}
+use Rattle.basis.specs.Lists.{All, all-append}
+use Rattle.octets.specs.Bytes.{toBe32}
+use Rattle.octets.specs.Store.{put}
+use Rattle.octets.specs.StoreLaws.{put-splice}
+use Rattle.octets.specs.NumberLaws.{length-toBe32}
+use Rattle.octets.specs.Order.{bytesLe}
+use Rattle.tree.specs.Pairs.{lastKey, insertPair}
+use Rattle.page.specs.Header.{maxKey}
+use Rattle.page.specs.KeyOrder.{bytesOrder}
+use Rattle.page.specs.Reading.{Item, items}
+use Rattle.layout.specs.Layout.{itemsIn, encode}
+use Rattle.layout.specs.Entries.{replaced, twoFor, rootEntries}
+use Rattle.layout.specs.Given.{Over, Listed, roomSize}
+use Rattle.layout.specs.ItemLaws.{Fit, length-encode, items-encode}
+use Rattle.layout.specs.EntryLaws.{items-in-fit}
+use Rattle.layout.specs.GatherLaws.{length-last, length-larger, put-next, spread}
+
+-- what is true of a leaf's entries and of a new pair is true of all together
+pub insert-all : (P : Item → Type 0) (key c : List ℕ) (es : List Item) → P (key, c) → All P es → All P (insertPair bytesOrder key c es)
+insert-all P key c [] h a = (h, tt)
+insert-all P key c (x ∷ xs) h a = either (bytesLe key (x .0)) (λ e. rw e (h, a)) (λ e. rw e (a .0, insert-all P key c xs h (a .1)))
+
+pub length-insert : (key c : List ℕ) (es : List Item) → length (insertPair bytesOrder key c es) ≡ length es + 1
+length-insert key c [] = refl
+length-insert key c (x ∷ xs) = either (bytesLe key (x .0)) (λ e. rw e (omega arith)) (λ e. rw e (ap suc (length-insert key c xs) ∙ omega arith))
+
+-- and so where entries stand in the place of one
+pub replaced-all : (P : Item → Type 0) (key : List ℕ) (f : Item → List Item) (es : List Item) → ((x : Item) → P x → All P (f x)) → All P es → All P (replaced key f es)
+replaced-all P key f [] h a = tt
+replaced-all P key f (x ∷ []) h a = h x (a .0)
+replaced-all P key f (x ∷ y ∷ ys) h a = either (bytesLe key (x .0))
+    (λ e. rw e (all-append P (f x) (y ∷ ys) (h x (a .0)) (a .1)))
+    (λ e. rw e (a .0, replaced-all P key f (y ∷ ys) h (a .1)))
+
+pub length-replaced : (key : List ℕ) (f : Item → List Item) (es : List Item) → ((x : Item) → length (f x) ≡ 2) → (length es ≡ 0 → ⊥) → length (replaced key f es) ≡ length es + 1
+length-replaced key f [] h s = absurd (s refl)
+length-replaced key f (x ∷ []) h s = h x
+length-replaced key f (x ∷ y ∷ ys) h s = either (bytesLe key (x .0))
+    (λ e. rw e (length-append (f x) (y ∷ ys) ∙ omega (arith, h x)))
+    (λ e. rw e (ap suc (length-replaced key f (y ∷ ys) h (λ z. omega (arith, z))) ∙ omega arith))
+
+-- the entries of a leaf with a pair more, and of a page with two for one
+module _ (b key : List ℕ) (p : ℕ) where
+  pub pair-fit : (r : ℕ) → All (Fit (length key)) (insertPair bytesOrder key (toBe32 r) (itemsIn (length key) b p))
+  pair-fit r = insert-all (Fit (length key)) key (toBe32 r) (itemsIn (length key) b p) (refl, length-toBe32 r) (items-in-fit (length key) b p)
+
+  pub two-fit : (c q : ℕ) → All (Fit (length key)) (replaced key (twoFor (length key) b key c q) (itemsIn (length key) b p))
+  two-fit c q = replaced-all (Fit (length key)) key (twoFor (length key) b key c q) (itemsIn (length key) b p)
+      (λ x f. ((length-last (length key) key refl (itemsIn (length key) b c) (items-in-fit (length key) b c), f .1), ((length-larger (x .0) key (f .0), length-toBe32 q), tt)))
+      (items-in-fit (length key) b p)
+
+-- what was gathered is read back
+pub gathered : (k n : ℕ) (es : List Item) (zs : List ℕ) {room : List ℕ} → All (Fit k) es → length es ≡ n → n * (k + 4) ≤ length zs → room ≡ put zs 0 (encode es)
+    → items k n (take (n * (k + 4)) room) ≡ es
+gathered k n es zs f e h q =
+    let l : length (encode es) ≡ n * (k + 4) = length-encode k es f ∙ ap (λ (m : ℕ). m * (k + 4)) e in
+    let s = put-splice zs 0 (encode es) (omega arith) in
+    let t : take (n * (k + 4)) (put zs 0 (encode es)) ≡ encode es = rw s (take-at (encode es) (drop (0 + length (encode es)) zs) (n * (k + 4)) l) in
+    rw (q, t, ← e) (ap (items k (length es)) (sym (append-nil (encode es))) ∙ items-encode k es [] f)
+
+-- what was gathered for a page that has n entries is one more
+pub one-more : {b : List ℕ} {k p n : ℕ} (room : List ℕ) → Listed b k p n → roomSize ≤ length room → Over b k p (n + 1) (take ((n + 1) * (k + 4)) room)
+one-more {b} {k} {p} {n} room l h =
+    let s = spread n l (omega arith) in
+    record { key = l .key; page = l .page; count = omega arith; size = simp length-take (omega arith) }
+
+pub pair-read : (key : List ℕ) {b : List ℕ} {p n : ℕ} (r : ℕ) (zs : List ℕ) {room : List ℕ} → Listed b (length key) p n → roomSize ≤ length zs
+    → room ≡ put zs 0 (encode (insertPair bytesOrder key (toBe32 r) (itemsIn (length key) b p)))
+    → items (length key) (n + 1) (take ((n + 1) * (length key + 4)) room) ≡ insertPair bytesOrder key (toBe32 r) (itemsIn (length key) b p)
+pair-read key {b} {p} {n} r zs l h e =
+    let s = spread n l (omega arith) in
+    let es = itemsIn (length key) b p in
+    gathered (length key) (n + 1) (insertPair bytesOrder key (toBe32 r) es) zs (pair-fit b key p r) (length-insert key (toBe32 r) es ∙ rw (← l .count)) (omega arith) e
+
+pub two-read : (key : List ℕ) {b : List ℕ} {p n : ℕ} (c q : ℕ) (zs : List ℕ) {room : List ℕ} → Listed b (length key) p n → (n ≡ 0 → ⊥) → roomSize ≤ length zs
+    → room ≡ put zs 0 (encode (replaced key (twoFor (length key) b key c q) (itemsIn (length key) b p)))
+    → items (length key) (n + 1) (take ((n + 1) * (length key + 4)) room) ≡ replaced key (twoFor (length key) b key c q) (itemsIn (length key) b p)
+two-read key {b} {p} {n} c q zs l ne h e =
+    let s = spread n l (omega arith) in
+    let es = itemsIn (length key) b p in
+    let f = twoFor (length key) b key c q in
+    gathered (length key) (n + 1) (replaced key f es) zs (two-fit b key p c q) (length-replaced key f es (λ x. refl) (λ z. ne (l .count ∙ z)) ∙ rw (← l .count)) (omega arith) e
+
+-- the entries of a new root
+module _ (b key : List ℕ) (p q : ℕ) where
+  last-fit : (x : ℕ) → length (lastKey key (itemsIn (length key) b x)) ≡ length key
+  last-fit x = length-last (length key) key refl (itemsIn (length key) b x) (items-in-fit (length key) b x)
+
+  root-fit : All (Fit (length key)) (rootEntries (length key) b key p q)
+  root-fit = ((last-fit p, length-toBe32 p), ((last-fit q, length-toBe32 q), tt))
+
+  pub root-gathered : (zs : List ℕ) {l1 l2 l3 l4 : List ℕ} → l1 ≡ put zs 0 (lastKey key (itemsIn (length key) b p)) → l2 ≡ put l1 (length key) (toBe32 p)
+      → l3 ≡ put l2 (length key + 4) (lastKey key (itemsIn (length key) b q)) → l4 ≡ put l3 (length key + 4 + length key) (toBe32 q)
+      → l4 ≡ put zs 0 (encode (rootEntries (length key) b key p q))
+  unfolding encode
+  root-gathered zs e1 e2 e3 e4 =
+      let f = root-fit in
+      let left = lastKey key (itemsIn (length key) b p) in
+      let right = lastKey key (itemsIn (length key) b q) in
+      let l2 : length (left ++ toBe32 p) ≡ length key + 4 = length-append left (toBe32 p) ∙ rw (f .0 .0, f .0 .1) in
+      let l3 : length ((left ++ toBe32 p) ++ right) ≡ length key + 4 + length key = length-append (left ++ toBe32 p) right ∙ rw (l2, f .1 .0 .0) in
+      e4 ∙ rw (e3, e2, e1, put-next zs left (toBe32 p) (length key) (f .0 .0), put-next zs (left ++ toBe32 p) right _ l2, put-next zs ((left ++ toBe32 p) ++ right) (toBe32 q) _ l3, append-nil (toBe32 q))
+      (ap (put zs 0) (simp append-assoc))
+
+  pub root-read : (zs : List ℕ) {room : List ℕ} → length key ≤ maxKey → roomSize ≤ length zs → room ≡ put zs 0 (encode (rootEntries (length key) b key p q))
+      → items (length key) 2 (take (2 * (length key + 4)) room) ≡ rootEntries (length key) b key p q
+  root-read zs h l e = gathered (length key) 2 (rootEntries (length key) b key p q) zs root-fit refl (omega arith) e
