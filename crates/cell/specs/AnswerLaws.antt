@@ -1,40 +1,33 @@
--- Laws: a C field's answer is the table's alone, a memo file without a header is 22, either deletion mark reads alike, and no refusal
--- has the number of another answer. Assumes nothing.
+-- Laws: a C field's answer is the table's alone, a memo's number in a file without a header is 22, and no refusal has the number of a value
+-- or of an empty field. Assumes nothing.
 use Prim.Native.Nat.{ℕ, _-_, _^_, _≤_, _<_}
-use mathlib.Core.Path.{_≡_, refl, sym, ap, _∙_}
-use mathlib.Core.Bool.{Bool, true, false, cond, _&&_}
+use mathlib.Core.Path.{_≡_}
+use mathlib.Core.Bool.{Bool, true, false}
 use mathlib.Core.List.{List, [], _∷_, _++_}
-use mathlib.Core.Logic.{_⊎_, ⊎-elim}
 use native.Mathlib.Omega.{arith}
 use lib.ListN.{length}
 use lib.Dec.{eqb, leb, lit<}
-use borrow.Author.Tests.{eqb-true, eqb-false, eq-eqb, lt-leb}
+use borrow.Author.Tests.{eqb-false, lt-leb}
 use Rattle.basis.specs.Tests.{either}
-use Rattle.basis.specs.Lists.{All, all-append}
+use Rattle.basis.specs.Lists.{All}
 use Rattle.octets.specs.Bytes.{byteAt}
-use Rattle.calendar.specs.DateText.{dateOf}
 use Rattle.calendar.specs.DateLaws.{date-refusal}
-use Rattle.calendar.specs.declared.DateAnswer.{DateAnswer}
 use Rattle.calendar.specs.declared.DateAnswer.the-variants as date
 use Rattle.numeral.specs.Format.{formatGood, maxDigits, blank, comma}
 use Rattle.numeral.specs.Reading.{readNumber, every, some, textGood, digitCount, valueOf}
 use Rattle.numeral.specs.ReadingLaws.{refused-6}
-use Rattle.numeral.specs.declared.Number.{Number}
 use Rattle.numeral.specs.declared.Number.the-variants as number
-use Rattle.memo.specs.Memo.{memoHeaderBytes, maxMemoBytes, memoHeaderGood, memoNumber, numberedText, blockText, placeGood, isText, readText, memoText}
+use Rattle.memo.specs.Memo.{memoHeaderBytes, memoHeaderGood, numberedText, readText, memoText}
 use Rattle.memo.specs.NumberText.{numberText, number-exactly}
 use Rattle.memo.specs.MemoLaws.{text-refusal}
 use Rattle.memo.specs.declared.MemoPlace.{MemoPlace}
 use Rattle.memo.specs.declared.MemoPlace.the-variants as memo
-use Rattle.table.specs.Table.{typeC, typeM, keptMark, deletedMark, fieldType, fieldLength, fieldDecimals, fieldCount, recordCount, deletionByte, numberGood, firstRefusal, tableChecks}
-use Rattle.table.specs.TableLaws.{first-pass, first-fail}
-use Rattle.cell.specs.Cell.{readsType, markGood, cellRefusal, cellStart, cellBytes, numberCell, dateCell, letterT, letterF, logicalOf, logicalCell, memoPart, textAt, textCell}
-use Rattle.cell.specs.Codes.{emptyCode, numberCode, dateCode, logicalCode, textCode}
+use Rattle.table.specs.Table.{typeC, typeM, fieldType, fieldLength, fieldDecimals, fieldCount, recordCount, deletionByte, numberGood, firstRefusal, tableChecks}
+use Rattle.cell.specs.Cell.{readsType, markGood, cellRefusal, fieldStart, fieldBytes, numberCell, dateCell, letterT, letterF, logicalOf, logicalCell, memoPart, textAt, textCell}
+use Rattle.cell.specs.Codes.{emptyCode}
 use Rattle.cell.specs.declared.Reads.{Reads}
 use Rattle.cell.specs.declared.Reads.the-variants.{Numbers, Dates, Logicals, Texts}
-use Rattle.cell.specs.declared.Logical.{Logical}
 use Rattle.cell.specs.declared.Logical.the-variants as logical
-use Rattle.cell.specs.declared.TextPlace.{TextPlace}
 use Rattle.cell.specs.declared.TextPlace.the-variants as text
 
 -- two cases of an answer are never the same
@@ -50,37 +43,16 @@ text-alone b m n i field c = rw c
 
 -- a memo's number in a file too short for a header, as the empty one is, is 22
 pub text-no-header : (b m : List ℕ) (i field k : ℕ) → cellRefusal Texts b i field ≡ 0 → fieldType b (field - 1) ≡ typeM
-    → 1 ≤ k → k < 10 ^ 10 → cellBytes b i field ≡ numberText 10 k → length m < memoHeaderBytes → textCell b m i field ≡ text.Refused 22
+    → 1 ≤ k → k < 10 ^ 10 → fieldBytes b i field ≡ numberText 10 k → length m < memoHeaderBytes → textCell b m i field ≡ text.Refused 22
 unfolding textCell textAt memoText readText numberedText memoHeaderGood memoPart
 text-no-header b m i field k none type from to number short =
-    let said = number-exactly (cellBytes b i field) k .1 (from, to, number) in
+    let said = number-exactly (fieldBytes b i field) k .1 (from, to, number) in
     rw (none, type, said, lt-leb memoHeaderBytes (length m) short)
-
--- ---- deleted records
-
--- 13, the last check before the deletion byte's
-abbrev typeChecks : Reads → List ℕ → ℕ → ℕ → List (Bool × ℕ)
-typeChecks reads b i field =
-    tableChecks b
-    ++ ((numberGood i (recordCount b), 11) ∷ (numberGood field (fieldCount b), 12) ∷ (readsType reads (fieldType b (field - 1)), 13) ∷ [])
-
-first-same : (checks more less : List (Bool × ℕ)) → firstRefusal more ≡ firstRefusal less → firstRefusal (checks ++ more) ≡ firstRefusal (checks ++ less)
-unfolding firstRefusal
-first-same [] more less e = e
-first-same (check ∷ checks) more less e = rw (first-same checks more less e)
-
--- "Fields of deleted records are read like others": with either mark the deletion byte decides nothing
-pub either-mark : (reads : Reads) (b : List ℕ) (i field : ℕ) → (deletionByte b i ≡ keptMark) ⊎ (deletionByte b i ≡ deletedMark)
-    → cellRefusal reads b i field ≡ firstRefusal (typeChecks reads b i field)
-unfolding cellRefusal firstRefusal
-either-mark reads b i field mark =
-    let good : markGood (deletionByte b i) ≡ true = ⊎-elim (λ (e : deletionByte b i ≡ keptMark). rw e) (λ (e : deletionByte b i ≡ deletedMark). rw e) mark in
-    first-same (tableChecks b) _ _ (rw good)
 
 -- ---- the numbers of refusals
 
--- 1 to 31: neither 0, which is a value, nor 256, which is an empty field
-abbrev Numbered : ℕ → Type 0
+-- a refusal's number: neither 0, which is a value's, nor 256, which is an empty field's
+abbrev pub Numbered : ℕ → Type 0
 Numbered n = (0 < n) × (n < emptyCode)
 
 first-small : (checks : List (Bool × ℕ)) → All (λ (check : Bool × ℕ). check .1 < emptyCode) checks → firstRefusal checks < emptyCode
@@ -143,21 +115,21 @@ module _ (b : List ℕ) (i field n : ℕ) where
   unfolding numberCell
   number-refusal e =
       either (eqb (cellRefusal Numbers b i field) 0)
-      (λ z. number-numbered (cellBytes b i field) (fieldDecimals b (field - 1)) n (rw z at e))
+      (λ z. number-numbered (fieldBytes b i field) (fieldDecimals b (field - 1)) n (rw z at e))
       (λ z. let q : number.Refused (cellRefusal Numbers b i field) ≡ number.Refused n = rw z at e in check-numbered Numbers b i field n z (cc))
 
   pub day-refusal : dateCell b i field ≡ date.Refused n → Numbered n
   unfolding dateCell
   day-refusal e =
       either (eqb (cellRefusal Dates b i field) 0)
-      (λ z. let k = date-refusal (cellBytes b i field) n (rw z at e) in omega arith)
+      (λ z. let k = date-refusal (fieldBytes b i field) n (rw z at e) in omega arith)
       (λ z. let q : date.Refused (cellRefusal Dates b i field) ≡ date.Refused n = rw z at e in check-numbered Dates b i field n z (cc))
 
   pub logical-refusal : logicalCell b i field ≡ logical.Refused n → Numbered n
   unfolding logicalCell
   logical-refusal e =
       either (eqb (cellRefusal Logicals b i field) 0)
-      (λ z. logical-numbered (byteAt b (cellStart b i field)) n (rw z at e))
+      (λ z. logical-numbered (byteAt b (fieldStart b i field)) n (rw z at e))
       (λ z. let q : logical.Refused (cellRefusal Logicals b i field) ≡ logical.Refused n = rw z at e in check-numbered Logicals b i field n z (cc))
 
   pub place-refusal : (m : List ℕ) → textCell b m i field ≡ text.Refused n → Numbered n
@@ -165,6 +137,6 @@ module _ (b : List ℕ) (i field n : ℕ) where
   place-refusal m e =
       either (eqb (cellRefusal Texts b i field) 0)
       (λ z. either (eqb (fieldType b (field - 1)) typeC)
-      (λ c. let q : text.Table (cellStart b i field) (fieldLength b (field - 1)) ≡ text.Refused n = rw (z, c) at e in absurd (never (cc)))
-      (λ c. let k = text-refusal m n (cellBytes b i field) (memo-numbered (memoText (cellBytes b i field) m) n (rw (z, c) at e)) in omega arith))
+      (λ c. let q : text.Table (fieldStart b i field) (fieldLength b (field - 1)) ≡ text.Refused n = rw (z, c) at e in absurd (never (cc)))
+      (λ c. let k = text-refusal m n (fieldBytes b i field) (memo-numbered (memoText (fieldBytes b i field) m) n (rw (z, c) at e)) in omega arith))
       (λ z. let q : text.Refused (cellRefusal Texts b i field) ≡ text.Refused n = rw z at e in check-numbered Texts b i field n z (cc))

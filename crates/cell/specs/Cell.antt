@@ -56,23 +56,25 @@ cellPlace reads b i field =
     cond (eqb refusal 0) (placed.At (placeAt b i field)) (placed.Refused refusal)
 
 -- "fields follow in order": where a field of a record starts in the table, and its bytes
-unfoldable pub cellStart : List ℕ → ℕ → ℕ → ℕ
-cellStart b i field = recordStart b i + fieldOffset b (field - 1)
+unfoldable pub fieldStart : List ℕ → ℕ → ℕ → ℕ
+fieldStart b i field = recordStart b i + fieldOffset b (field - 1)
 
-unfoldable pub cellBytes : List ℕ → ℕ → ℕ → List ℕ
-cellBytes b i field = window b (cellStart b i field) (fieldLength b (field - 1))
+unfoldable pub fieldBytes : List ℕ → ℕ → ℕ → List ℕ
+fieldBytes b i field = window b (fieldStart b i field) (fieldLength b (field - 1))
 
 -- ---- N, D and L
 
+-- N: what its text means, with the field's decimals
 unfoldable pub numberCell : List ℕ → ℕ → ℕ → Number
 numberCell b i field =
     let refusal = cellRefusal Numbers b i field in
-    cond (eqb refusal 0) (readNumber (cellBytes b i field) (fieldDecimals b (field - 1))) (number.Refused refusal)
+    cond (eqb refusal 0) (readNumber (fieldBytes b i field) (fieldDecimals b (field - 1))) (number.Refused refusal)
 
+-- D: the date of its text
 unfoldable pub dateCell : List ℕ → ℕ → ℕ → DateAnswer
 dateCell b i field =
     let refusal = cellRefusal Dates b i field in
-    cond (eqb refusal 0) (dateOf (cellBytes b i field)) (date.Refused refusal)
+    cond (eqb refusal 0) (dateOf (fieldBytes b i field)) (date.Refused refusal)
 
 -- "L: T, F or blank. Blanks are empty"; 20: "bad date or logical text"
 abbrev pub letterT : ℕ
@@ -88,11 +90,11 @@ logicalOf c =
     (cond (eqb c blank) logical.Empty
     (logical.Refused 20)))
 
--- an L field has one byte
+-- L: what its one byte says
 unfoldable pub logicalCell : List ℕ → ℕ → ℕ → Logical
 logicalCell b i field =
     let refusal = cellRefusal Logicals b i field in
-    cond (eqb refusal 0) (logicalOf (byteAt b (cellStart b i field))) (logical.Refused refusal)
+    cond (eqb refusal 0) (logicalOf (byteAt b (fieldStart b i field))) (logical.Refused refusal)
 
 -- ---- C and M
 
@@ -106,15 +108,17 @@ memoPart (memo.Refused n) = text.Refused n
 unfoldable pub textAt : List ℕ → List ℕ → ℕ → ℕ → TextPlace
 textAt b m i field =
     cond (eqb (fieldType b (field - 1)) typeC)
-    (text.Table (cellStart b i field) (fieldLength b (field - 1)))
-    (memoPart (memoText (cellBytes b i field) m))
+    (text.Table (fieldStart b i field) (fieldLength b (field - 1)))
+    (memoPart (memoText (fieldBytes b i field) m))
 
+-- "a call beside it, by value, answers the number, "empty" or "text"": the text's place
 unfoldable pub textCell : List ℕ → List ℕ → ℕ → ℕ → TextPlace
 textCell b m i field =
     let refusal = cellRefusal Texts b i field in
     cond (eqb refusal 0) (textAt b m i field) (text.Refused refusal)
 
--- the part that the text call hands back; a refusal "then, and for an empty field, hands back a part of no bytes"
+-- what the text call hands back: "that part of the table itself", "that part of the memo file itself"; for a refusal "and for an empty field ...
+-- a part of no bytes"
 unfoldable pub textPart : List ℕ → List ℕ → TextPlace → List ℕ
 textPart b m (text.Table start len) = window b start len
 textPart b m (text.Memo start len) = window m start len

@@ -6,18 +6,17 @@ use mathlib.Core.List.{List, [], _∷_, _++_, append-assoc}
 use native.Mathlib.Omega.{arith}
 use lib.ListN.{length, take, drop}
 use lib.Dec.{eqb, lit<}
-use borrow.Author.Tests.{eqb-true, eqb-false, eq-eqb, ne-eqb}
+use borrow.Author.Tests.{eqb-true, eqb-false, ne-eqb}
 use Rattle.basis.specs.Tests.{either}
 use Rattle.basis.specs.Lists.{All, all-append}
 use Rattle.octets.specs.Bytes.{byteAt}
 use Rattle.octets.specs.Store.{window}
-use Rattle.table.specs.Table.{typeC, typeL, typeM, fieldType, fieldLength, fieldDecimals, fieldOffset, fieldCount, recordCount, recordStart, deletionByte, numberGood, firstRefusal, tableChecks}
+use Rattle.table.specs.Table.{typeC, typeL, fieldType, fieldLength, fieldDecimals, fieldCount, recordCount, deletionByte, numberGood, firstRefusal, tableChecks}
 use Rattle.table.specs.TableLaws.{layout, table-numbered, first-after, first-before, first-both, first-none}
 use Rattle.table.specs.FormLaws.{field-form, form-logical}
 use Rattle.field.specs.Field.{placeAt, placeOf, placeRefusal, formOf}
 use Rattle.field.specs.FieldLaws.{placed-at, placed-refused, place-good, place-inside}
 use Rattle.field.specs.declared.Place.{Place}
-use Rattle.field.specs.declared.Placed.{Placed}
 use Rattle.field.specs.declared.Placed.the-variants.{At, Refused}
 use Rattle.calendar.specs.DateText.{dateOf}
 use Rattle.calendar.specs.declared.DateAnswer.the-variants as date
@@ -28,11 +27,10 @@ use Rattle.memo.specs.MemoLaws.{text-inside}
 use Rattle.memo.specs.TestLaws.{first-arm}
 use Rattle.memo.specs.declared.MemoPlace.{MemoPlace}
 use Rattle.memo.specs.declared.MemoPlace.the-variants as memo
-use Rattle.cell.specs.Cell.{readsType, markGood, cellRefusal, cellPlace, cellStart, cellBytes, numberCell, dateCell, logicalOf, logicalCell, memoPart, textAt, textCell, textPart}
+use Rattle.cell.specs.Cell.{readsType, markGood, cellRefusal, cellPlace, fieldStart, fieldBytes, numberCell, dateCell, logicalOf, logicalCell, memoPart, textAt, textCell}
 use Rattle.cell.specs.declared.Reads.{Reads}
 use Rattle.cell.specs.declared.Reads.the-variants.{Numbers, Dates, Logicals, Texts}
 use Rattle.cell.specs.declared.Logical.the-variants as logical
-use Rattle.cell.specs.declared.TextPlace.{TextPlace}
 use Rattle.cell.specs.declared.TextPlace.the-variants as text
 
 -- ---- the checks of a call: those of the place, and then 13 and 15
@@ -102,7 +100,7 @@ module _ (reads : Reads) (b : List ℕ) (i field : ℕ) where
 -- no check refuses, and the place is that of the field, which lies in the table
 pub record Readable (reads : Reads) (b : List ℕ) (i field : ℕ) (p : Place) : Type 0 where
   pub none : cellRefusal reads b i field ≡ 0
-  pub start : p .start ≡ cellStart b i field
+  pub start : p .start ≡ fieldStart b i field
   pub type : p .form .kind ≡ fieldType b (field - 1)
   pub len : p .form .length ≡ fieldLength b (field - 1)
   pub decimals : p .form .decimals ≡ fieldDecimals b (field - 1)
@@ -110,7 +108,7 @@ pub record Readable (reads : Reads) (b : List ℕ) (i field : ℕ) (p : Place) :
 
 module _ (reads : Reads) (b : List ℕ) (i field : ℕ) where
   pub cell-at : (p : Place) → cellPlace reads b i field ≡ At p → Readable reads b i field p
-  unfolding cellPlace placeAt formOf cellStart
+  unfolding cellPlace placeAt formOf fieldStart
   cell-at p e =
       either (eqb (cellRefusal reads b i field) 0)
       (λ z.
@@ -184,11 +182,11 @@ module _ (b : List ℕ) (i field : ℕ) where
 
   module _ (p : Place) where
     pub number-read : cellPlace Numbers b i field ≡ At p → numberCell b i field ≡ readNumber (window b (p .start) (p .form .length)) (p .form .decimals)
-    unfolding numberCell cellBytes
+    unfolding numberCell fieldBytes
     number-read e = let good = cell-at Numbers b i field p e in rw (good .none, good .start, good .len, good .decimals)
 
     pub date-read : cellPlace Dates b i field ≡ At p → dateCell b i field ≡ dateOf (window b (p .start) (p .form .length))
-    unfolding dateCell cellBytes
+    unfolding dateCell fieldBytes
     date-read e = let good = cell-at Dates b i field p e in rw (good .none, good .start, good .len)
 
     pub logical-read : cellPlace Logicals b i field ≡ At p → logicalCell b i field ≡ logicalOf (byteAt b (p .start))
@@ -201,7 +199,7 @@ module _ (b : List ℕ) (i field : ℕ) where
 
     pub text-memo : (m : List ℕ) → cellPlace Texts b i field ≡ At p → (p .form .kind ≡ typeC → ⊥)
         → textCell b m i field ≡ memoPart (memoText (window b (p .start) (p .form .length)) m)
-    unfolding textCell textAt cellBytes
+    unfolding textCell textAt fieldBytes
     text-memo m e c =
         let good = cell-at Texts b i field p e in
         rw (good .none, ← good .type, ne-eqb (p .form .kind) typeC c, good .start, good .len)
@@ -238,12 +236,12 @@ memo-text (memo.Refused n) a l e = let z : _≡_ {A = ℕ} 0 1 = cc in absurd (o
 
 module _ (b m : List ℕ) (i field a l : ℕ) where
   pub table-inside : textCell b m i field ≡ text.Table a l → a + l ≤ length b
-  unfolding textCell textAt cellStart
+  unfolding textCell textAt fieldStart
   table-inside e =
       let read = first-arm (eqb (cellRefusal Texts b i field) 0) (refused-table (cellRefusal Texts b i field) a l) e in
-      let type = first-arm (eqb (fieldType b (field - 1)) typeC) (memo-table (memoText (cellBytes b i field) m) a l) (read .1) in
+      let type = first-arm (eqb (fieldType b (field - 1)) typeC) (memo-table (memoText (fieldBytes b i field) m) a l) (read .1) in
       let good = cell-good Texts b i field (eqb-true _ _ (read .0)) in
-      let start : cellStart b i field ≡ a = cc in
+      let start : fieldStart b i field ≡ a = cc in
       let len : fieldLength b (field - 1) ≡ l = cc in
       omega (arith, start, len, place-inside b i field (good .place) .field-inside)
 
@@ -251,5 +249,5 @@ module _ (b m : List ℕ) (i field a l : ℕ) where
   unfolding textCell textAt
   memo-inside e =
       let read = first-arm (eqb (cellRefusal Texts b i field) 0) (refused-memo (cellRefusal Texts b i field) a l) e in
-      let type = second-arm (eqb (fieldType b (field - 1)) typeC) (table-memo (cellStart b i field) (fieldLength b (field - 1)) a l) (read .1) in
-      text-inside m a l (cellBytes b i field) (memo-text (memoText (cellBytes b i field) m) a l (type .1)) .1
+      let type = second-arm (eqb (fieldType b (field - 1)) typeC) (table-memo (fieldStart b i field) (fieldLength b (field - 1)) a l) (read .1) in
+      text-inside m a l (fieldBytes b i field) (memo-text (memoText (fieldBytes b i field) m) a l (type .1)) .1

@@ -2,3 +2,5 @@ pub mod Cell
 pub mod Codes
 pub mod CellLaws
 pub mod AnswerLaws
+pub mod HeaderLaws
+pub mod MarkLaws
