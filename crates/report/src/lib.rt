@@ -209,6 +209,7 @@ fn marked_record<'a>(table: &'a [u8], memo: &'a [u8], i: u32, fields: u32, mark:
     print(b"\n");
 }
 
+// The deletion byte comes with the place of field 1, which every table has.
 fn record_report<'a>(table: &'a [u8], memo: &'a [u8], i: u32, fields: u32) {
     print(b"record");
     print_number(i);
@@ -245,6 +246,7 @@ fn print_entry(entry: FieldEntry) {
     print_number(entry.decimals as u32);
 }
 
+// A good table refuses none of its fields; if it did, the number would be shown.
 fn field_line(table: &[u8], j: u32) {
     print(b"field");
     print_number(j);
