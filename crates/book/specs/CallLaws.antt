@@ -180,9 +180,9 @@ module _ (k size : ℕ) (b : List ℕ) (kept : Kept k size b) where
   visits-levels (insertion key r) = tt
   visits-levels (lookupOf key) = λ s′ r pages e. either (fits k key)
       (λ f.
-        let long = eqb-true (length key) (keyLength b) (same-fit key ∙ f) in
-        let there = answer-record _ _ r pages (sym (lookup-list b key s′ long) ∙ e) in
-        sym (ap (λ (a : Looked). answerPages a 0) (sym (found-pages b key s′ long (r .0) there) ∙ e)))
+      let long = eqb-true (length key) (keyLength b) (same-fit key ∙ f) in
+      let there = answer-record _ _ r pages (sym (lookup-list b key s′ long) ∙ e) in
+      sym (ap (λ (a : Looked). answerPages a 0) (sym (found-pages b key s′ long (r .0) there) ∙ e)))
       (λ f. let z : _≡_ {A = ℕ} 27 0 = ap (λ (a : Looked). answerNumber a) (sym (misfit key f) ∙ e) in absurd (omega arith))
 
   -- insertion
