@@ -24,10 +24,10 @@ use Rattle.page.specs.KeyOrder.{bytesOrder}
 use Rattle.page.specs.HeaderLaws.{IsPage, is-page, is-page-from, good-header}
 use Rattle.page.specs.Reading.{entriesAt}
 use Rattle.page.specs.ReadingLaws.{length-entries}
-use Rattle.sound.specs.Sound.{indexTree, linksOf, Sound}
+use Rattle.sound.specs.Sound.{indexTree, linksOf, CountGood, Sound}
 use Rattle.sound.specs.Levels.{pages-generation, sized-pages}
 use Rattle.sound.specs.MarkLaws.{occ-all}
-use Rattle.sound.specs.ShapeLaws.{Count, tree-sized}
+use Rattle.sound.specs.ShapeLaws.{tree-sized}
 
 -- the index as the theory has it, and how it is kept: `most` is what F must not pass
 abbrev pub indexOf : List ℕ → ℕ → Index (List ℕ)
@@ -43,7 +43,7 @@ module _ (b : List ℕ) where
       let h = s .height in
       tree-sized b (keyLength b) (fileSize b) (rootOffset b) h
       (pages-generation (entriesAt (keyLength b) (fileSize b) b) [] (rootOffset b) h (λ p. isPage (fileSize b) p ≡ true) (s .inside))
-      (pages-generation (entriesAt (keyLength b) (fileSize b) b) [] (rootOffset b) h (Count b (keyLength b) h) (s .counts))
+      (pages-generation (entriesAt (keyLength b) (fileSize b) b) [] (rootOffset b) h (CountGood b (keyLength b) h) (s .counts))
 
   not-inside : (s : Sound b) (z : ℕ) → (IsPage (fileSize b) z → ⊥) → occ z (pages (s .height) (indexTree b (s .height))) ≡ 0
   not-inside s z n = either (ltb 0 (occ z (pages (s .height) (indexTree b (s .height)))))
@@ -124,7 +124,7 @@ module _ (b : List ℕ) (h : ℕ) where
           rootBits = rootBits;
           leafBits = leafBits;
           levels = omega arith;
-          counts = all-map2 (λ p. least h ≤ countAt b p) (λ p. countAt b p ≤ capacity (keyLength b)) (Count b (keyLength b) h) (λ p u c. (u, c)) ps low counts;
+          counts = all-map2 (λ p. least h ≤ countAt b p) (λ p. countAt b p ≤ capacity (keyLength b)) (CountGood b (keyLength b) h) (λ p u c. (u, c)) ps low counts;
           ascending = d .0;
           records = i .records;
           greatest = d .1;
