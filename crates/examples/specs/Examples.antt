@@ -24,7 +24,16 @@ use Rattle.lookup.specs.declared.Answer.the-variants as looked
 use Rattle.sound.specs.Sound.{Sound}
 use Rattle.sound.specs.Rule as audit
 use Rattle.sound.specs.Accepted.{accepted}
+use Rattle.layout.specs.Layout as layout
+use Rattle.layout.specs.Entries as entries
+use Rattle.insert.specs.Insertion as insertion
+use Rattle.insert.specs.Fresh as fresh
+use Rattle.insert.specs.Room as room
+use Rattle.insert.specs.Calls as calls
+use Rattle.insert.specs.declared.Insertion.{Insertion}
+use Rattle.insert.specs.declared.Insertion.the-variants as inserted
 use Rattle.examples.specs.Tree000 as tree
+use Rattle.examples.specs.Tree100 as tree100
 use Rattle.numeral.specs.Format as format
 use Rattle.numeral.specs.Reading as reading
 use Rattle.numeral.specs.declared.Number.{Number}
@@ -35,13 +44,15 @@ unfoldable pub ascii : text.String → List ℕ
 ascii text.[] = []
 ascii (text._∷_ c s) = code c ∷ ascii s
 
--- a call on the rules: a numeric text with its decimals, or a date's text, whose length is the field's width; a key to look up in the tree in 000; and the
--- audit's test of that tree's pages
+-- a call on the rules: a numeric text with its decimals, or a date's text, whose length is the field's width; a key to look up in the tree in 000; the
+-- audit's test of that tree's pages; five ascending keys of 100 bytes; and an insertion after four of them in a buffer of 1,024
 pub data Call : Type 0 where
   numeric : text.String → ℕ → Call
   dated : text.String → Call
   key000 : text.String → Call
   audit000 : Call
+  five100 : Call
+  insert1024 : ℕ → Call
 
 -- what a call answers
 pub data Answer : Type 0 where
@@ -49,12 +60,20 @@ pub data Answer : Type 0 where
   ofDate : DateAnswer → Answer
   ofLookup : Looked → Answer
   ofAudit : Bool → Bool → Answer
+  ofTree : ℕ → ℕ → List (List (List ℕ × ℕ)) → Answer
+  ofInsertion : Insertion → Answer
+
+-- an index: its root, F, and the entries of its pages at 512, 1,024 and 1,536
+unfoldable pub shown : List ℕ → Answer
+shown b = ofTree (header.rootOffset b) (header.fileSize b) (map (pages.entriesAt 100 (header.fileSize b) b) (512 ∷ 1024 ∷ 1536 ∷ []))
 
 unfoldable pub answer : Call → Answer
 answer (numeric s d) = ofNumber (reading.readNumber (ascii s) d)
 answer (dated s) = ofDate (date.dateOf (ascii s))
 answer (key000 s) = ofLookup (lookup.lookupRule tree.tree000 (ascii s))
 answer audit000 = ofAudit (header.headerGood tree.tree000) (audit.pagesGood tree.tree000 audit.unmarked)
+answer five100 = shown (tree100.grown 2048 5)
+answer (insert1024 x) = ofInsertion (calls.insertRule (tree100.grown 1024 4) (tree100.key100 x) 5 .answer)
 
 abbrev pub value : ℤ → Answer
 value v = ofNumber (number.Value v)
@@ -64,6 +83,10 @@ refused n = ofNumber (number.Refused n)
 
 abbrev pub on : ℕ → ℕ → ℕ → Answer
 on y m d = ofDate (day.Value (record { year = y; month = m; day = d }))
+
+-- the pair of the key that ends in x
+abbrev pub leaf : ℕ → List ℕ × ℕ
+leaf x = (tree100.key100 x, x)
 
 -- the examples, each with the paper's answer
 unfoldable pub examples : List (Call × Answer)
@@ -88,6 +111,15 @@ examples =
     ∷ (key000 "F", ofLookup (looked.Found (lookup.recordOf 6) 3))
     ∷ (key000 "I", ofLookup (looked.Absent 1))
     ∷ (audit000, ofAudit true true)
+    -- "k = 100, five ascending keys: leaf 512 has three, leaf 1,024 two, root 1,536 has keys three and five, F 2,048"
+    ∷ (
+      five100,
+      ofTree 1536 2048
+          ((leaf 1 ∷ leaf 2 ∷ leaf 3 ∷ []) ∷ (leaf 4 ∷ leaf 5 ∷ []) ∷ ((tree100.key100 3, 512) ∷ (tree100.key100 5, 1024) ∷ []) ∷ []),
+    )
+    -- "Buffer 1,024, k = 100: the fifth insertion is 30. A repeated key then is 29"
+    ∷ (insert1024 5, ofInsertion (inserted.Refused 30))
+    ∷ (insert1024 4, ofInsertion (inserted.Refused 29))
     ∷ []
 
 -- the single statement: every call answers as the paper says
@@ -103,6 +135,9 @@ unfolding examples answer ascii
     page.pageGood page.firstAtOrAbove pages.items pages.itemsAt pages.entriesAt lookup.entrySays lookup.pageSays lookup.visitRule lookup.lookupFrom
     lookup.lookupRule audit.leafEntries audit.upperEntries audit.chain audit.isLeaf audit.markedFrom audit.entriesFit audit.pageFits audit.checkPage
     audit.checkPages audit.rootLevel audit.nextLevel audit.levelsUnder audit.pagesGood audit.unmarked
+    shown tree100.key100 tree100.grown store.put layout.encode layout.area layout.withEntries layout.newPage layout.linkBeyond layout.splitPage entries.raised
+    insertion.takeIn insertion.insertUnder insertion.insertedBuffer fresh.freshHeader fresh.freshBuffer fresh.freshRule fresh.printable fresh.expressionGood
+    room.pathFrom room.noRoom calls.insertRule
 examples-hold = refl
 
 -- the tree is sound: "every page but the first is reached from the root exactly once" and all the rest, by the audit's theorem

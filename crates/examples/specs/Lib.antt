@@ -1,2 +1,3 @@
 pub mod Tree000
+pub mod Tree100
 pub mod Examples

@@ -1,0 +1,15 @@
+-- Rules: the indexes that document 01's examples make with fresh and insertion, "k = 100, five ascending keys". Assumes nothing.
+use Prim.Native.Nat.{ℕ, zero, suc}
+use mathlib.Core.List.{List, [], _∷_, _++_}
+use lib.ListN.{replicate}
+use Rattle.insert.specs.Calls.{insertRule}
+use Rattle.insert.specs.Fresh.{freshRule}
+
+-- the key of 100 bytes that ends in a byte
+unfoldable pub key100 : ℕ → List ℕ
+key100 x = replicate 99 32 ++ (x ∷ [])
+
+-- a buffer after fresh, with the expression `NAME`, and insertions of the keys 1 to n, each with its own number as the record's
+unfoldable pub grown : ℕ → ℕ → List ℕ
+grown size zero = freshRule (replicate size 7) 100 (78 ∷ 65 ∷ 77 ∷ 69 ∷ []) .after
+grown size (suc n) = insertRule (grown size n) (key100 (suc n)) (suc n) .after
