@@ -1,11 +1,11 @@
--- Rules: the code's enums as the rules have them.
+-- Rules: what the inner functions of insertion answer, as the rules have it, and how far the new pages may lie.
 use Prim.Native.Nat.{ℕ, _+_, _*_, _≤_}
 use mathlib.Core.Bool.{cond}
 use mathlib.Core.List.{List}
 use lib.ListN.{length}
 use Rattle.page.specs.Header.{maxBytes, maxLevels, pageSize, isPage}
 use Rattle.page.specs.Page.{attributeAt, leafBit}
-use Rattle.page.specs.declared.PageOffset.{PageOffset}
+use Rattle.lookup.specs.Lookup.{childOf as pageAt}
 use Rattle.layout.specs.Layout.{itemsIn}
 use Rattle.layout.specs.Entries.{chosen, childOf}
 use Rattle.insert.specs.Insertion.{Outcome as RuleOutcome, kept, split, bad}
@@ -14,26 +14,25 @@ use Rattle.insert.specs.declared.Outcome.the-variants.{Kept, Split, Bad}
 use Rattle.insert.specs.declared.Visit.{Visit}
 use Rattle.insert.specs.declared.Visit.the-variants as visit
 
+-- an outcome, as the rule has it
 abbrev pub outcomeOf : Outcome → RuleOutcome
 outcomeOf (Kept n) = kept n
 outcomeOf (Split q) = split (q .0)
 outcomeOf Bad = bad
 
--- the page after a new one begins within a limit
+-- the page after a new one begins at or before a limit
 abbrev pub NextFits : ℕ → Outcome → Type 0
 NextFits limit (Kept n) = Unit {0}
 NextFits limit (Split q) = q .0 + pageSize ≤ limit
 NextFits limit Bad = Unit {0}
 
--- offsets have 32 bits; the new pages of an index lie within one for each level more than its largest size
-abbrev pub offsets : ℕ
-offsets = 0xFFFFFFFF
+-- an offset has 32 bits
+abbrev pub maxOffset : ℕ
+maxOffset = 0xFFFFFFFF
 
-abbrev pub grownBytes : ℕ
-grownBytes = maxBytes + pageSize * maxLevels
-
-abbrev pub pageAt : ℕ → PageOffset
-pageAt n = record { 0 = n }
+-- the largest index, and a page more for each level
+abbrev pub maxGrown : ℕ
+maxGrown = maxBytes + pageSize * maxLevels
 
 -- what insertion meets at p: no page, a leaf, or the child that is chosen
 unfoldable pub visited : List ℕ → List ℕ → ℕ → Visit

@@ -22,6 +22,11 @@ pub record Inserted : Type 0 where
 abbrev pub left : List ℕ → Insertion → Inserted
 left b a = record { after = b; answer = a }
 
+-- the number of an answer: 0 where the call is accepted, or the refusal's
+abbrev pub insertionNumber : Insertion → ℕ
+insertionNumber Accepted = 0
+insertionNumber (Refused n) = n
+
 -- "29 if the key is in a leaf": the one that lookup's steps lead to
 abbrev pub isFound : Answer → Bool
 isFound (looked.Found r pages) = true

@@ -10,7 +10,7 @@ use Rattle.layout.specs.Layout.{itemsIn}
 use Rattle.layout.specs.Entries.{chosen, childOf}
 use Rattle.insert.specs.declared.Path.{Path}
 
--- of the path from a page down to the leaf: its levels, and the full pages "in an unbroken run from the leaf up"
+-- a path from a page down to the leaf has levels, and full pages "in an unbroken run from the leaf up"; the path from no page
 abbrev pub nowhere : Path
 nowhere = record { levels = 0; run = 0 }
 

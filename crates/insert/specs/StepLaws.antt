@@ -2,14 +2,13 @@
 -- Assumes nothing.
 use Prim.Native.Nat.{ℕ, zero, suc, _+_, _-_, _*_, _≤_, _<_}
 use mathlib.Core.Path.{_≡_, refl, sym, ap, _∙_}
-use mathlib.Core.Bool.{Bool, true, false, cond}
+use mathlib.Core.Bool.{true, false}
 use mathlib.Core.List.{List, [], _∷_}
-use native.Mathlib.Nat.{mul-suc}
 use native.Mathlib.Omega.{arith}
 use lib.ListN.{length}
 use lib.Dec.{leb}
 use borrow.Author.Tests.{le-leb, lt-leb}
-use Rattle.basis.specs.Tests.{either, contra}
+use Rattle.basis.specs.Tests.{either}
 use Rattle.octets.specs.Bytes.{toLe32, toBe32}
 use Rattle.octets.specs.Store.{put}
 use Rattle.tree.specs.Pairs.{insertPair}
@@ -21,10 +20,9 @@ use Rattle.page.specs.declared.PageOffset.{PageOffset}
 use Rattle.layout.specs.Layout.{itemsIn, withEntries, newPage, splitPage}
 use Rattle.layout.specs.Entries.{chosen, childOf, rootEntries}
 use Rattle.insert.specs.Insertion.{Outcome as RuleOutcome, kept, split, bad, Step, step, takeIn, afterChild, insertUnder, atRoot, insertedBuffer}
-use Rattle.insert.specs.Answers.{outcomeOf, NextFits, visited, pageAt}
+use Rattle.insert.specs.Answers.{outcomeOf, NextFits, visited}
 use Rattle.insert.specs.declared.Outcome.{Outcome}
 use Rattle.insert.specs.declared.Outcome.the-variants.{Kept, Split, Bad}
-use Rattle.insert.specs.declared.Visit.{Visit}
 use Rattle.insert.specs.declared.Visit.the-variants as visit
 
 -- the outcomes are three

@@ -16,7 +16,7 @@ ghost use Rattle.page.specs.Reading.{items};
 ghost use Rattle.layout.specs.Layout.{itemsIn};
 ghost use Rattle.layout.specs.Given.{Over};
 ghost use Rattle.insert.specs.Insertion.{split, step, takeIn, afterChild, insertUnder, atRoot, insertedBuffer};
-ghost use Rattle.insert.specs.Answers.{outcomeOf, NextFits, offsets, grownBytes, visited};
+ghost use Rattle.insert.specs.Answers.{outcomeOf, NextFits, maxOffset, maxGrown, visited};
 ghost use Rattle.insert.specs.Room.{onTop, pathFrom, newPages, levelsAfter, noRoom};
 ghost use Rattle.insert.specs.Calls.{left, isFound, insertRule};
 ghost use Rattle.insert.specs.Fresh.{printable, expressionGood, freshBuffer, freshRule};
@@ -97,7 +97,7 @@ fn take_in_two(
     child: PageOffset,
     new: PageOffset,
 ) -> Outcome
-    requires { ⌜ (length (now key) ≤ maxKey) × (isPage (length (now index)) (page .0) ≡ true) × (new .0 + pageSize ≤ offsets) ⌝ }
+    requires { ⌜ (length (now key) ≤ maxKey) × (isPage (length (now index)) (page .0) ≡ true) × (new .0 + pageSize ≤ maxOffset) ⌝ }
     ensures { λ r. ⌜ afterChild (length (now (key .entry))) (now (index .entry)) (now (key .entry)) (page .0) (child .0) (split (new .0)) ≡ step (now (index .exit)) (outcomeOf r) ⌝ }
 {
     let mut room = [0u8; layout::ROOM];
@@ -119,7 +119,7 @@ fn after_child(
     child: PageOffset,
     below: Outcome,
 ) -> Outcome
-    requires { ⌜ (length (now key) ≤ maxKey) × (isPage (length (now index)) (page .0) ≡ true) × NextFits offsets below ⌝ }
+    requires { ⌜ (length (now key) ≤ maxKey) × (isPage (length (now index)) (page .0) ≡ true) × NextFits maxOffset below ⌝ }
     ensures { λ r. ⌜ afterChild (length (now (key .entry))) (now (index .entry)) (now (key .entry)) (page .0) (child .0) (outcomeOf below) ≡ step (now (index .exit)) (outcomeOf r) ⌝ }
 {
     match below {
@@ -156,7 +156,7 @@ fn insert_under(
     levels: u32,
     file: u32,
 ) -> Outcome
-    requires { ⌜ (length (now key) ≤ maxKey) × (file + pageSize * levels ≤ offsets) ⌝ }
+    requires { ⌜ (length (now key) ≤ maxKey) × (file + pageSize * levels ≤ maxOffset) ⌝ }
     ensures { λ r. ⌜ insertUnder (length (now (key .entry))) levels (now (index .entry)) (now (key .entry)) (number .0) (page .0) file ≡ step (now (index .exit)) (outcomeOf r) ⌝ }
 {
     if levels == 0 {
@@ -175,7 +175,7 @@ fn insert_under(
 
 // A new root over one that was split, and the header's root offset and file size.
 fn new_root(index: &mut [u8], key: &[u8], old: PageOffset, new: PageOffset)
-    requires { ⌜ (length (now key) ≤ maxKey) × (new .0 + pageSize ≤ grownBytes) ⌝ }
+    requires { ⌜ (length (now key) ≤ maxKey) × (new .0 + pageSize ≤ maxGrown) ⌝ }
     ensures { λ _. ⌜ now (index .exit) ≡ atRoot (length (now (key .entry))) (now (index .entry)) (now (key .entry)) (old .0) (split (new .0)) ⌝ }
 {
     let at = new.0 + Page::SIZE as u32;
@@ -200,7 +200,7 @@ fn new_root(index: &mut [u8], key: &[u8], old: PageOffset, new: PageOffset)
 
 // What is left to do at the root.
 fn at_root(index: &mut [u8], key: &[u8], root: PageOffset, below: Outcome)
-    requires { ⌜ (length (now key) ≤ maxKey) × (pageSize ≤ length (now index)) × NextFits grownBytes below ⌝ }
+    requires { ⌜ (length (now key) ≤ maxKey) × (pageSize ≤ length (now index)) × NextFits maxGrown below ⌝ }
     ensures { λ _. ⌜ now (index .exit) ≡ atRoot (length (now (key .entry))) (now (index .entry)) (now (key .entry)) (root .0) (outcomeOf below) ⌝ }
 {
     match below {

@@ -1,22 +1,21 @@
 -- Laws: a page's entries by number: how many there are, where the search ends, which one is chosen, and the bytes of those before and after it. Assumes
 -- nothing.
-use Prim.Native.Nat.{ℕ, zero, suc, _+_, _-_, _*_, _≤_, _<_, min}
+use Prim.Native.Nat.{ℕ, zero, suc, _+_, _-_, _*_, _≤_, _<_}
 use mathlib.Core.Path.{_≡_, refl, sym, ap, _∙_}
-use mathlib.Core.Bool.{Bool, true, false, cond}
-use mathlib.Core.List.{List, [], _∷_, _++_, append-assoc, append-nil}
+use mathlib.Core.Bool.{true, false, cond}
+use mathlib.Core.List.{List, [], _∷_, _++_, append-nil}
 use native.Mathlib.Nat.{zero-add, min-le-right, add-mul, add-zero}
-use native.Mathlib.Numerals.{add-one}
 use native.Mathlib.Omega.{arith}
 use lib.ListN.{length, take, drop, length-drop}
-use lib.Seq.{drop-drop, take-take}
-use Rattle.basis.specs.Tests.{either, contra}
+use lib.Seq.{drop-drop}
+use Rattle.basis.specs.Tests.{either}
 use Rattle.basis.specs.Lists.{All}
 use Rattle.octets.specs.Order.{bytesLe}
 use Rattle.octets.specs.Store.{window}
 use Rattle.octets.specs.StoreLaws.{length-window}
-use Rattle.tree.specs.Pairs.{lastKey, insertPair}
+use Rattle.tree.specs.Pairs.{insertPair}
 use Rattle.tree.specs.Room.{choose}
-use Rattle.page.specs.Header.{maxKey, pageSize, isPage}
+use Rattle.page.specs.Header.{pageSize, isPage}
 use Rattle.page.specs.Page.{countAt, entriesStart, entryArea, capacity, entryOffset, keyAt, firstAtOrAbove}
 use Rattle.page.specs.Within.{Within}
 use Rattle.page.specs.KeyOrder.{bytesOrder}
@@ -25,7 +24,7 @@ use Rattle.page.specs.PageLaws.{entries-fit, entries-inside, entry-first, entry
 use Rattle.page.specs.Reading.{Item, items, itemsAt}
 use Rattle.page.specs.ReadingLaws.{readCount, items-take}
 use Rattle.layout.specs.Layout.{itemsIn, encode}
-use Rattle.layout.specs.Entries.{chosen, replaced, aboveAll}
+use Rattle.layout.specs.Entries.{replaced, aboveAll}
 use Rattle.layout.specs.Given.{Listed, chosenAt}
 use Rattle.layout.specs.ItemLaws.{Fit, items-fit, length-items, encode-items, take-items, drop-items}
 

@@ -1,15 +1,15 @@
 -- Laws: the bytes that are gathered for a page are those of the entries that the rule gives it. Assumes nothing.
 use Prim.Native.Nat.{ℕ, zero, suc, _+_, _-_, _*_, _≤_, _<_, min}
 use mathlib.Core.Path.{_≡_, refl, sym, ap, _∙_}
-use mathlib.Core.Bool.{Bool, true, false, cond, and-false}
-use mathlib.Core.List.{List, [], _∷_, _++_, append-assoc, append-nil}
+use mathlib.Core.Bool.{true, false, and-false}
+use mathlib.Core.List.{List, [], _∷_, _++_, append-assoc}
 use native.Mathlib.Nat.{zero-add, add-zero, sub-zero, add-mul, mul-le-mul-right, one-mul}
 use native.Mathlib.Numerals.{add-one}
 use native.Mathlib.Omega.{arith}
 use lib.Dec.{leb}
 use borrow.Author.Tests.{le-leb, lt-leb}
-use lib.ListN.{length, take, drop, getD, length-append, length-take, length-drop}
-use Rattle.basis.specs.Tests.{either, contra}
+use lib.ListN.{length, take, drop, getD, length-append}
+use Rattle.basis.specs.Tests.{either}
 use Rattle.basis.specs.Lists.{All}
 use Rattle.octets.specs.Bytes.{be32, toBe32}
 use Rattle.octets.specs.Store.{put, window}
@@ -24,12 +24,12 @@ use Rattle.page.specs.Page.{countAt, entryArea, capacity, entryOffset, keyAt, n
 use Rattle.page.specs.Within.{Within}
 use Rattle.page.specs.KeyOrder.{bytesOrder}
 use Rattle.page.specs.PageLaws.{capacity-small, entries-fit, entries-inside, within-entry, entry-within}
-use Rattle.page.specs.Reading.{Item, items}
+use Rattle.page.specs.Reading.{Item}
 use Rattle.layout.specs.Layout.{itemsIn, encode}
-use Rattle.layout.specs.Entries.{chosen, childOf, replaced, aboveAll, raised, twoFor}
-use Rattle.layout.specs.Given.{Listed, chosenAt, roomSize}
+use Rattle.layout.specs.Entries.{chosen, childOf, replaced, raised, twoFor}
+use Rattle.layout.specs.Given.{Listed, chosenAt}
 use Rattle.layout.specs.ItemLaws.{Fit, encode-append}
-use Rattle.layout.specs.EntryLaws.{itemsFrom, itemAt, items-in-fit, length-from, from-none, from-cons, take-from, drop-from, encode-from, entry-far, items-in, items-none, listed, listed-within, passed, passed-le, first-passed, above-all, not-above-all, insert-at, chosen-passed, chosen-last, replaced-at}
+use Rattle.layout.specs.EntryLaws.{itemsFrom, itemAt, items-in-fit, length-from, from-cons, take-from, drop-from, encode-from, entry-far, items-in, items-none, listed, listed-within, passed, passed-le, first-passed, above-all, not-above-all, insert-at, chosen-passed, chosen-last, replaced-at}
 
 -- how many entries are read of a page
 module _ (k : ℕ) (b : List ℕ) (p : ℕ) where

@@ -1,24 +1,23 @@
 -- Laws: the stores that write a page are the rule's: a page with its entries, a new page, and a page that is split. Assumes nothing.
-use Prim.Native.Nat.{ℕ, _+_, _-_, _*_, _/_, _%_, _≤_, _<_}
-use mathlib.Core.Path.{_≡_, refl, sym, ap, _∙_}
-use mathlib.Core.Bool.{true, false}
-use mathlib.Core.List.{List, _++_}
-use native.Mathlib.Nat.{le-div-iff-mul-le, mul-le-mul-right, mul-le-mul-left, add-mul}
+use Prim.Native.Nat.{ℕ, _+_, _-_, _*_, _/_, _%_, _≤_}
+use mathlib.Core.Path.{_≡_, sym, ap, _∙_}
+use mathlib.Core.Bool.{true}
+use mathlib.Core.List.{List}
+use native.Mathlib.Nat.{le-div-iff-mul-le, mul-le-mul-right, add-mul}
 use native.Mathlib.Omega.{arith}
 use lib.ListN.{length, take, drop, replicate, length-take, length-drop}
 use lib.Seq.{take-all}
 use Rattle.octets.specs.Bytes.{toLe16, toLe32}
 use Rattle.octets.specs.Store.{put}
-use Rattle.octets.specs.StoreLaws.{put-append, put-comm, length-put}
+use Rattle.octets.specs.StoreLaws.{put-append, put-comm}
 use Rattle.octets.specs.NumberLaws.{length-toLe16, length-toLe32}
-use Rattle.tree.specs.Insertion.{half}
 use Rattle.page.specs.Header.{maxKey, pageSize, isPage}
 use Rattle.page.specs.Page.{attributeAt, rightAt, entriesStart, entryArea, capacity, entryOffset}
 use Rattle.page.specs.Reading.{Item, items}
 use Rattle.page.specs.PageLaws.{entries-fit, capacity-small}
 use Rattle.page.specs.HeaderLaws.{is-page}
 use Rattle.page.specs.ReadingLaws.{items-take}
-use Rattle.layout.specs.Layout.{encode, area, withEntries, newPage, withoutRoot, linkBeyond, splitPage}
+use Rattle.layout.specs.Layout.{encode, area, withEntries, newPage, linkBeyond, splitPage}
 use Rattle.layout.specs.Given.{Given, Over}
 use Rattle.layout.specs.ItemLaws.{length-items, encode-items, take-items, drop-items}
 
