@@ -13,7 +13,8 @@ use Rattle.page.specs.Page.{rightAt, numberAt}
 use Rattle.page.specs.Reading.{entriesAt}
 use Rattle.page.specs.ReadingLaws.{entriesFrom}
 use Rattle.page.specs.declared.PageOffset.{PageOffset}
-use Rattle.sound.specs.Rule.{Progress, Level, maxPages, attributeOf, start, isLeaf, chain, pageFits, childrenOf, firstChild, children, checkPage, checkPages, closed, checkLevel, rootLevel, nextLevel, levelsUnder, markedFrom, pagesGood}
+use Rattle.sound.specs.Rule.{Progress, Level, attributeOf, start, isLeaf, chain, pageFits, childrenOf, firstChild, children, pagesUnder}
+use Rattle.sound.specs.Rule.{checkPage, checkPages, closed, checkLevel, rootLevel, nextLevel, levelsUnder, markedFrom, pagesGood}
 use Rattle.audit.specs.declared.Progress as declared-progress
 use Rattle.audit.specs.declared.Level as declared-level
 use Rattle.audit.specs.State.{InFile, progressOf, levelOf, startAt, closedAt}
@@ -33,7 +34,9 @@ module _ (b : List ℕ) (k size a : ℕ) where
   -- the marks keep their number
   page-length : (p : ℕ) (s : Progress) (m : List ℕ) → length (checkPage b k size a p s m .1) ≡ length m
   unfolding checkPage
-  page-length p s m = either ((s .good && pageFits b k size a p (s .last) (s .next)) && eqb (getD m (p / pageSize) 0) 0) (λ e. rw e (length-set m (p / pageSize) 1)) (λ e. rw e)
+  page-length p s m = either ((s .good && pageFits b k size a p (s .last) (s .next)) && eqb (getD m (p / pageSize) 0) 0)
+      (λ e. rw e (length-set m (p / pageSize) 1))
+      (λ e. rw e)
 
   pages-length : (ps : List ℕ) (t : Progress × List ℕ) → length (checkPages b k size a ps t .1) ≡ length (t .1)
   unfolding checkPages
@@ -69,13 +72,14 @@ module _ (b : List ℕ) (k size a : ℕ) where
     unfolding checkPages
     children-end en h = children-all en ∙ rw (from-end b k p n i h)
 
-    pub children-on : (c : ℕ) (u : Progress) (m′ : List ℕ) → i < n → c ≡ numberAt b k p i → checkPage b k size a c s m ≡ (u, m′) → ChildrenLeft p n (i + 1) t₀ (u, m′)
+    pub children-on : (c : ℕ) (u : Progress) (m′ : List ℕ) → i < n → c ≡ numberAt b k p i → checkPage b k size a c s m ≡ (u, m′)
+        → ChildrenLeft p n (i + 1) t₀ (u, m′)
     unfolding checkPages
     children-on c u m′ h ec e = inv ∙ rw (from-on b k p n i h, ← ec) (ap (checkPages b k size a (childrenFrom p (n - (i + 1)) (i + 1))) e)
 
   -- the loop over the pages of a level, with so many left, in the same way
   abbrev pub PagesLeft : ℕ → ℕ → ℕ → Progress × List ℕ → Progress × List ℕ → Type 0
-  PagesLeft first p left t₀ t = checkPages b k size a (children b k size (chain b size maxPages first)) t₀ ≡ checkPages b k size a (children b k size (chain b size left p)) t
+  PagesLeft first p left t₀ t = checkPages b k size a (pagesUnder b k size first) t₀ ≡ checkPages b k size a (children b k size (chain b size left p)) t
 
   chain-none : (p left : ℕ) → isPage size p ≡ false → chain b size left p ≡ []
   unfolding chain
@@ -88,33 +92,38 @@ module _ (b : List ℕ) (k size a : ℕ) where
   chain-some p (suc l) q n e eq = let d : suc l - 1 ≡ l = omega arith in rw (e, chain, d, eq)
 
   module _ (first p left : ℕ) (t₀ t : Progress × List ℕ) (inv : PagesLeft first p left t₀ t) where
-    pub pages-off : isPage size p ≡ false → checkPages b k size a (children b k size (chain b size maxPages first)) t₀ ≡ t
+    pub pages-off : isPage size p ≡ false → checkPages b k size a (pagesUnder b k size first) t₀ ≡ t
     unfolding checkPages
     pages-off e = inv ∙ rw (chain-none p left e)
 
-    pub pages-end : left ≡ 0 → checkPages b k size a (children b k size (chain b size maxPages first)) t₀ ≡ t
+    pub pages-end : left ≡ 0 → checkPages b k size a (pagesUnder b k size first) t₀ ≡ t
     unfolding chain checkPages
     pages-end e = inv ∙ rw e
 
-    pub pages-on : (q : ℕ) (u : Progress × List ℕ) → (left ≡ 0 → ⊥) → isPage size p ≡ true → q ≡ rightAt b p → checkPages b k size a (childrenOf b k size p) t ≡ u → PagesLeft first q (left - 1) t₀ u
+    pub pages-on : (q : ℕ) (u : Progress × List ℕ) → (left ≡ 0 → ⊥) → isPage size p ≡ true → q ≡ rightAt b p
+        → checkPages b k size a (childrenOf b k size p) t ≡ u → PagesLeft first q (left - 1) t₀ u
     pages-on q u n e eq eu =
-        inv ∙ rw (chain-some p left q n e eq) (pages-append (childrenOf b k size p) (children b k size (chain b size (left - 1) q)) t ∙ ap (checkPages b k size a (children b k size (chain b size (left - 1) q))) eu)
+        let rest = children b k size (chain b size (left - 1) q) in
+        inv ∙ rw (chain-some p left q n e eq) (pages-append (childrenOf b k size p) rest t ∙ ap (checkPages b k size a rest) eu)
 
--- the root's level, and the next
-module _ (b : List ℕ) (k size a : ℕ) (first : PageOffset) (leaf : Bool) (s₀ s : declared-progress.Progress) (v : declared-level.Level) (m m′ : List ℕ) (el : leaf ≡ isLeaf b size (first .0)) (e₀ : s₀ ≡ startAt first) (ev : v ≡ closedAt s leaf first) where
-  level-closed : (root : Bool) (ps : List ℕ) → a ≡ attributeOf root leaf → checkPages b k size a ps (progressOf s₀, m) ≡ (progressOf s, m′) → checkLevel b k size root (first .0) ps m ≡ (levelOf v, m′)
+-- the level v that a pass s over the pages of a level came to, from s₀ at its start
+module _ (b : List ℕ) (k size a : ℕ) (first : PageOffset) (leaf : Bool) (s₀ s : declared-progress.Progress) (v : declared-level.Level) (m m′ : List ℕ)
+    (el : leaf ≡ isLeaf b size (first .0)) (e₀ : s₀ ≡ startAt first) (ev : v ≡ closedAt s leaf first) where
+  level-closed : (root : Bool) (ps : List ℕ) → a ≡ attributeOf root leaf → checkPages b k size a ps (progressOf s₀, m) ≡ (progressOf s, m′)
+      → checkLevel b k size root (first .0) ps m ≡ (levelOf v, m′)
   level-closed root ps ea e =
       let d : checkPages b k size (attributeOf root leaf) ps (start (first .0), m) ≡ (progressOf s, m′) = rw (e₀, ea) at e in
       rw (← el) (ap (closed leaf (first .0)) d ∙ ap (λ (w : declared-level.Level). (levelOf w, m′)) (sym ev))
 
-  pub root-closed : a ≡ attributeOf true leaf → checkPage b k size a (first .0) (progressOf s₀) m ≡ (progressOf s, m′) → rootLevel b k size (first .0) m ≡ (levelOf v, m′)
+  pub root-closed : a ≡ attributeOf true leaf → checkPage b k size a (first .0) (progressOf s₀) m ≡ (progressOf s, m′)
+      → rootLevel b k size (first .0) m ≡ (levelOf v, m′)
   unfolding rootLevel checkPages
   root-closed ea e = level-closed true (first .0 ∷ []) ea e
 
-  pub next-closed : (above : ℕ) → first .0 ≡ firstChild b k size above → a ≡ attributeOf false leaf →
-      checkPages b k size a (children b k size (chain b size maxPages above)) (progressOf s₀, m) ≡ (progressOf s, m′) → nextLevel b k size above m ≡ (levelOf v, m′)
+  pub next-closed : (above : ℕ) → first .0 ≡ firstChild b k size above → a ≡ attributeOf false leaf
+      → checkPages b k size a (pagesUnder b k size above) (progressOf s₀, m) ≡ (progressOf s, m′) → nextLevel b k size above m ≡ (levelOf v, m′)
   unfolding nextLevel
-  next-closed above ef ea e = rw (← ef) (level-closed false (children b k size (chain b size maxPages above)) ea e)
+  next-closed above ef ea e = rw (← ef) (level-closed false (pagesUnder b k size above) ea e)
 
 -- the marks keep their number on a level
 level-length : (b : List ℕ) (k size : ℕ) (root : Bool) (first : ℕ) (ps m : List ℕ) → length (checkLevel b k size root first ps m .1) ≡ length m
@@ -127,37 +136,45 @@ root-kept b k size root n v m m′ l e = ap (λ (t : Level × List ℕ). length 
 pub next-kept : (b : List ℕ) (k size above n : ℕ) (v : Level) (m m′ : List ℕ) → length m ≡ n → nextLevel b k size above m ≡ (v, m′) → length m′ ≡ n
 unfolding nextLevel
 next-kept b k size above n v m m′ l e =
-    ap (λ (t : Level × List ℕ). length (t .1)) (sym e) ∙ level-length b k size false (firstChild b k size above) (children b k size (chain b size maxPages above)) m ∙ l
+    ap (λ (t : Level × List ℕ). length (t .1)) (sym e) ∙ level-length b k size false (firstChild b k size above) (pagesUnder b k size above) m ∙ l
 
 -- the loop over the levels, with so many left, in the same way
 module _ (b : List ℕ) (k size : ℕ) where
   abbrev pub LevelsLeft : ℕ → Level × List ℕ → Level × List ℕ → Type 0
   LevelsLeft left t₀ t = levelsUnder b k size (maxLevels - 1) t₀ ≡ levelsUnder b k size left t
 
-  under-none : (left : ℕ) (t : Level × List ℕ) → t .0 .good && not (t .0 .leaf) ≡ false → levelsUnder b k size left t ≡ t
+  -- the audit goes on under a level that is good and not that of the leaves
+  abbrev pub goesOn : Level → Bool
+  goesOn v = v .good && not (v .leaf)
+
+  under-none : (left : ℕ) (t : Level × List ℕ) → goesOn (t .0) ≡ false → levelsUnder b k size left t ≡ t
   unfolding levelsUnder
   under-none zero t e = refl
   under-none (suc l) t e = rw (e, levelsUnder)
 
-  under-some : (left : ℕ) (t : Level × List ℕ) → (left ≡ 0 → ⊥) → t .0 .good && not (t .0 .leaf) ≡ true → levelsUnder b k size left t ≡ levelsUnder b k size (left - 1) (nextLevel b k size (t .0 .first) (t .1))
+  under-some : (left : ℕ) (t : Level × List ℕ) → (left ≡ 0 → ⊥) → goesOn (t .0) ≡ true
+      → levelsUnder b k size left t ≡ levelsUnder b k size (left - 1) (nextLevel b k size (t .0 .first) (t .1))
   unfolding levelsUnder
   under-some zero t n e = absurd (n refl)
   under-some (suc l) t n e = let d : suc l - 1 ≡ l = omega arith in rw (e, levelsUnder, d)
 
   module _ (left : ℕ) (t₀ t : Level × List ℕ) (inv : LevelsLeft left t₀ t) where
-    pub levels-stop : (r : Level × List ℕ) → r ≡ t₀ → t .0 .good && not (t .0 .leaf) ≡ false → levelsUnder b k size (maxLevels - 1) r ≡ t
+    pub levels-stop : (r : Level × List ℕ) → r ≡ t₀ → goesOn (t .0) ≡ false → levelsUnder b k size (maxLevels - 1) r ≡ t
     levels-stop r er e = rw er (inv ∙ under-none left t e)
 
     pub levels-end : (r : Level × List ℕ) → r ≡ t₀ → left ≡ 0 → levelsUnder b k size (maxLevels - 1) r ≡ t
     unfolding levelsUnder
     levels-end r er e = rw er (inv ∙ rw e)
 
-    pub levels-on : (u : Level × List ℕ) → (left ≡ 0 → ⊥) → t .0 .good && not (t .0 .leaf) ≡ true → nextLevel b k size (t .0 .first) (t .1) ≡ u → LevelsLeft (left - 1) t₀ u
+    pub levels-on : (u : Level × List ℕ) → (left ≡ 0 → ⊥) → goesOn (t .0) ≡ true → nextLevel b k size (t .0 .first) (t .1) ≡ u
+        → LevelsLeft (left - 1) t₀ u
     levels-on u n e h = inv ∙ (under-some left t n e ∙ ap (levelsUnder b k size (left - 1)) h)
 
 -- the answer
-pub pages-answer : (b : List ℕ) (k size root : ℕ) (v : declared-level.Level) (m m′ : List ℕ) (g : Bool) → k ≡ keyLength b → size ≡ fileSize b → root ≡ rootOffset b →
-    levelsUnder b k size (maxLevels - 1) (rootLevel b k size root m) ≡ (levelOf v, m′) → g ≡ markedFrom m′ (size / pageSize - 1) 1 → (v .good && (v .leaf && g)) ≡ pagesGood b m
+pub pages-answer : (b : List ℕ) (k size root : ℕ) (v : declared-level.Level) (m m′ : List ℕ) (g : Bool)
+    → k ≡ keyLength b → size ≡ fileSize b → root ≡ rootOffset b
+    → levelsUnder b k size (maxLevels - 1) (rootLevel b k size root m) ≡ (levelOf v, m′) → g ≡ markedFrom m′ (size / pageSize - 1) 1
+    → (v .good && (v .leaf && g)) ≡ pagesGood b m
 unfolding pagesGood
 pages-answer b k size root v m m′ g ek es er e eg = rw (← ek, ← es, ← er, e, eg)
 

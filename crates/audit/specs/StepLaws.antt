@@ -20,7 +20,8 @@ use Rattle.audit.specs.EntryLaws.{entries-are}
 
 -- the entries of a page
 module _ (b : List ℕ) (k size a last p n : ℕ) (r : Bool) (en : n ≡ length (entriesAt k size b p)) where
-  pub entries-leaf : (z : ℕ) → leafBit a ≡ true → keyFrom b k z ≡ lastOf none (entriesAt k size b last) → r ≡ leafEntries (keyFrom b k z) (entriesFrom b k p n 0) → r ≡ entriesFit b k size a last p
+  pub entries-leaf : (z : ℕ) → leafBit a ≡ true → keyFrom b k z ≡ lastOf none (entriesAt k size b last)
+      → r ≡ leafEntries (keyFrom b k z) (entriesFrom b k p n 0) → r ≡ entriesFit b k size a last p
   unfolding entriesFit
   entries-leaf z l ez er = er ∙ rw (l, ← ez, entries-are b k size p n en)
 
@@ -48,7 +49,8 @@ module _ (b : List ℕ) (k size a p last next : ℕ) where
   unfolding pageFits
   fits-no-page e = rw e
 
-  module _ (e : isPage size p ≡ true) (x y z : ℕ) (c : Bool) (ex : x ≡ attributeAt b p) (ey : y ≡ countAt b p) (ez : z ≡ leftAt b p) (ec : c ≡ countGood k a y) where
+  module _ (e : isPage size p ≡ true) (x y z : ℕ) (c : Bool)
+      (ex : x ≡ attributeAt b p) (ey : y ≡ countAt b p) (ez : z ≡ leftAt b p) (ec : c ≡ countGood k a y) where
     pub fits-not : (eqb x a && (c && (eqb z last && eqb next p))) ≡ false → false ≡ pageFits b k size a p last next
     unfolding pageFits
     fits-not t = rw (e, ← ex, ← ey, ← ez, ← ec) (and-false (eqb x a) c (eqb z last) (eqb next p) (entriesFit b k size a last p) t)
@@ -72,6 +74,7 @@ module _ (b : List ℕ) (k size a p : ℕ) (s : Progress) (m : List ℕ) (f : Bo
     unfolding checkPage
     check-marked z = rw (← ef, h, ne-eqb (getD m (p / pageSize) 0) 0 z)
 
-    pub check-good : getD m (p / pageSize) 0 ≡ 0 → (n : ℕ) → n ≡ rightAt b p → checkPage b k size a p (progressOf s) m ≡ (record { good = true; last = p; next = n }, set m (p / pageSize) 1)
+    pub check-good : getD m (p / pageSize) 0 ≡ 0 → (n : ℕ) → n ≡ rightAt b p
+        → checkPage b k size a p (progressOf s) m ≡ (record { good = true; last = p; next = n }, set m (p / pageSize) 1)
     unfolding checkPage
     check-good z n en = rw (← ef, h, eq-eqb (getD m (p / pageSize) 0) 0 z, en)

@@ -1,6 +1,6 @@
 // The audit of an index: level by level from the root down, each page checked against its left neighbour and its children, and marked when it is met. The
-// pages of a level are the children of the level above, whose pages name one another by the right links that were checked there: nothing is copied, and each
-// page is looked at once, whatever the bytes are.
+// pages of a level are the children of the level above, whose pages name one another by the right links that were checked there. So nothing is copied, a page
+// is checked once and never again, and the work is linear in the file's size whatever its bytes are.
 use octets::Ordering;
 use page::Page;
 use page::PageOffset;
@@ -16,24 +16,25 @@ ghost use Rattle.page.specs.Within.{Within};
 ghost use Rattle.page.specs.Reading.{entriesAt};
 ghost use Rattle.page.specs.ReadingLaws.{entriesFrom};
 ghost use Rattle.sound.specs.Sound.{Audited};
-ghost use Rattle.sound.specs.Rule.{maxPages, lastOf, leafEntries, upperEntries, entriesFit, pageFits, attributeOf, isLeaf, chain, childrenOf, children, firstChild, checkPage, checkPages, closed, rootLevel, nextLevel, levelsUnder, markedFrom, pagesGood};
+ghost use Rattle.sound.specs.Rule.{maxPages, lastOf, leafEntries, upperEntries, entriesFit, pageFits, attributeOf, isLeaf, childrenOf, firstChild};
+ghost use Rattle.sound.specs.Rule.{pagesUnder, checkPage, checkPages, rootLevel, nextLevel, levelsUnder, markedFrom, pagesGood};
 ghost use Rattle.audit.specs.State.{InFile, EntriesWithin, keyFrom, leafEntry, upperEntry, progressOf, levelOf, startAt, refusedAt, closedAt};
 
 // The most pages that an index has.
 const MAX_PAGES: usize = page::MAX_BYTES / Page::SIZE;
 
 // What is known of the pages met on a level: whether all were good, the last of them, and the page that is to come on its right.
-pub struct Progress {
-    pub good: bool,
-    pub last: PageOffset,
-    pub next: PageOffset,
+struct Progress {
+    good: bool,
+    last: PageOffset,
+    next: PageOffset,
 }
 
 // What is known of a level: whether it is good, whether it is that of the leaves, and its first page.
-pub struct Level {
-    pub good: bool,
-    pub leaf: bool,
-    pub first: PageOffset,
+struct Level {
+    good: bool,
+    leaf: bool,
+    first: PageOffset,
 }
 
 // How many entries a page is read to have: none where it is no page of the file, and never more than the capacity.
@@ -177,6 +178,7 @@ fn page_fits(
     entries_fit(index, k, size, attribute, last, page)
 }
 
+// A page that is not good: what was known stays.
 fn refused(s: Progress) -> Progress
     ensures { λ r. ⌜ r ≡ refusedAt s ⌝ }
 {
@@ -266,7 +268,7 @@ fn check_level(
     s: Progress,
 ) -> Progress
     requires { ⌜ InFile (now index) k size × (length (now marks) ≡ maxPages) ⌝ }
-    ensures { λ r. ⌜ checkPages (now (index .entry)) k size attribute (children (now (index .entry)) k size (chain (now (index .entry)) size maxPages (first .0))) (progressOf s, now (marks .entry)) ≡ (progressOf r, now (marks .exit)) ⌝ }
+    ensures { λ r. ⌜ checkPages (now (index .entry)) k size attribute (pagesUnder (now (index .entry)) k size (first .0)) (progressOf s, now (marks .entry)) ≡ (progressOf r, now (marks .exit)) ⌝ }
 {
     let mut t = s;
     let mut parent = first;

@@ -14,7 +14,7 @@ use Rattle.basis.specs.Tests.{either, both}
 use Rattle.octets.specs.Order.{bytesLe, ordering, isEqual}
 use Rattle.tree.specs.ListLaws.{all-unit, all-map2}
 use Rattle.tree.specs.Pairs.{follow, seek, find}
-use Rattle.tree.specs.Tree.{pairs, lookup, onward, visited}
+use Rattle.tree.specs.Tree.{Tree, pairs, lookup, onward, visited}
 use Rattle.tree.specs.Ordered.{lookup-find, visited-found}
 use Rattle.tree.specs.StoreSteps.{storeLookup, storeVisited}
 use Rattle.tree.specs.StoreLookupLaws.{lookup-read, visited-read}
@@ -35,7 +35,7 @@ use Rattle.sound.specs.Levels.{below, generation, all-of-map, all-of-concat}
 use Rattle.sound.specs.RunLaws.{Fits}
 use Rattle.sound.specs.LevelLaws.{LevelGood}
 use Rattle.sound.specs.AttributeLaws.{leaf-bit}
-use Rattle.sound.specs.ShapeLaws.{levelPages, sound-levels}
+use Rattle.sound.specs.ShapeLaws.{rootEntry, levelPages, sound-levels}
 use Rattle.sound.specs.IndexLaws.{sound-index}
 
 -- the answer by what was found and the pages visited
@@ -69,45 +69,57 @@ module _ (b key : List ℕ) (size p : ℕ) (page : isPage size p ≡ true) (full
   abbrev S : ℕ → Entries
   S = entriesAt (length key) size b
 
+  -- what the search gives: the number of an entry, and in the list
   abbrev i : ℕ
   i = firstEntry b key (length key) p (countAt b p) 0
 
-  -- none is at or above the key, or the first that is
-  searched : {X : Type 0} → (i ≡ countAt b p → seek bytesOrder key (S p) ≡ none → X) →
-      ((i ≡ countAt b p → ⊥) → seek bytesOrder key (S p) ≡ some (keyAt b k p i, numberAt b k p i) → X) → X
-  searched f g = either (eqb i (countAt b p))
-      (λ e. let d = eqb-true i (countAt b p) e in f d (rw (entries-by-count k size b p page full) (seek-none b key k p (countAt b p) 0 (omega arith))))
-      (λ e. let d = eqb-false i (countAt b p) e in g d (rw (entries-by-count k size b p page full) (seek-some b key k p (countAt b p) 0 (omega (arith, first-bound (keyAt b k p) key (countAt b p) 0, d)))))
+  abbrev sought : Option (List ℕ × ℕ)
+  sought = seek bytesOrder key (entriesAt (length key) size b p)
 
-  -- what the page says, and what lookup decides by it
+  abbrev entry : List ℕ × ℕ
+  entry = (keyAt b k p i, numberAt b k p i)
+
+  -- none is at or above the key, or this is the first that is
+  searched : {X : Type 0} → (i ≡ countAt b p → sought ≡ none → X) → ((i ≡ countAt b p → ⊥) → sought ≡ some entry → X) → X
+  searched f g =
+      let es = entries-by-count k size b p page full in
+      let bound = first-bound (keyAt b k p) key (countAt b p) 0 in
+      either (eqb i (countAt b p))
+      (λ e. let d = eqb-true i (countAt b p) e in f d (rw es (seek-none b key k p (countAt b p) 0 (omega arith))))
+      (λ e. let d = eqb-false i (countAt b p) e in g d (rw es (seek-some b key k p (countAt b p) 0 (omega (arith, bound, d)))))
+
+  -- what the page says
   says-none : i ≡ countAt b p → pageSays b key p ≡ visit.Absent
   unfolding pageSays entrySays
   says-none e = rw (eq-eqb i (countAt b p) e)
 
-  says-child : leafBit (attributeAt b p) ≡ false → (i ≡ countAt b p → ⊥) → pageSays b key p ≡ visit.Child (childOf (numberAt b k p i))
+  says-child : leafBit (attributeAt b p) ≡ false → (i ≡ countAt b p → ⊥) → pageSays b key p ≡ visit.Child (childOf (entry .1))
   unfolding pageSays entrySays
   says-child l e = rw (ne-eqb i (countAt b p) e, l)
 
-  says-leaf : leafBit (attributeAt b p) ≡ true → (i ≡ countAt b p → ⊥) → bytesLe key (keyAt b k p i) ≡ true →
-      pageSays b key p ≡ cond (bytesLe (keyAt b k p i) key) (visit.Found (recordOf (numberAt b k p i))) visit.Absent
+  says-leaf : leafBit (attributeAt b p) ≡ true → (i ≡ countAt b p → ⊥) → bytesLe key (entry .0) ≡ true
+      → pageSays b key p ≡ cond (bytesLe (entry .0) key) (visit.Found (recordOf (entry .1))) visit.Absent
   unfolding pageSays entrySays
-  says-leaf l e h = rw (ne-eqb i (countAt b p) e, l, equal-le (keyAt b k p i) key h)
+  says-leaf l e h = rw (ne-eqb i (countAt b p) e, l, equal-le (entry .0) key h)
 
-  decided-leaf : (go : ℕ → Answer) (n : ℕ) (t : Bool) (r : ℕ) → decided go n (cond t (visit.Found (recordOf r)) visit.Absent) ≡ answerOf (cond t (some r) none) n
+  -- and what lookup decides by it
+  decided-leaf : (go : ℕ → Answer) (n : ℕ) (t : Bool) (r : ℕ)
+      → decided go n (cond t (visit.Found (recordOf r)) visit.Absent) ≡ answerOf (cond t (some r) none) n
   decided-leaf go n true r = refl
   decided-leaf go n false r = refl
 
-  pub leaf-decides : (go : ℕ → Answer) (n : ℕ) → leafBit (attributeAt b p) ≡ true → decided go n (pageSays b key p) ≡ answerOf (find bytesOrder key (entriesAt (length key) size b p)) n
+  pub leaf-decides : (go : ℕ → Answer) (n : ℕ) → leafBit (attributeAt b p) ≡ true
+      → decided go n (pageSays b key p) ≡ answerOf (find bytesOrder key (entriesAt (length key) size b p)) n
   leaf-decides go n l = searched
       (λ e s. rw (says-none e, s))
-      (λ e s. rw (says-leaf l e (seek-le key (S p) _ s), s) (decided-leaf go n (bytesLe (keyAt b k p i) key) (numberAt b k p i)))
+      (λ e s. rw (says-leaf l e (seek-le key (S p) entry s), s) (decided-leaf go n (bytesLe (entry .0) key) (entry .1)))
 
-  pub upper-decides : (go : ℕ → Answer) (n : ℕ) (f : List ℕ × ℕ → Option ℕ) (g : List ℕ × ℕ → List ℕ) → leafBit (attributeAt b p) ≡ false →
-      ((e : List ℕ × ℕ) → seek bytesOrder key (entriesAt (length key) size b p) ≡ some e → go (e .1) ≡ answerOf (f e) (n + length (g e))) →
-      decided go n (pageSays b key p) ≡ answerOf (follow f (seek bytesOrder key (entriesAt (length key) size b p))) (n + length (onward g (seek bytesOrder key (entriesAt (length key) size b p))))
+  pub upper-decides : (go : ℕ → Answer) (n : ℕ) (f : List ℕ × ℕ → Option ℕ) (g : List ℕ × ℕ → List ℕ) → leafBit (attributeAt b p) ≡ false
+      → ((e : List ℕ × ℕ) → sought ≡ some e → go (e .1) ≡ answerOf (f e) (n + length (g e)))
+      → decided go n (pageSays b key p) ≡ answerOf (follow f sought) (n + length (onward g sought))
   upper-decides go n f g l ok = searched
       (λ e s. let z : n + 0 ≡ n = omega arith in rw (says-none e, s, z))
-      (λ e s. rw (says-child l e, s) (ok (keyAt b k p i, numberAt b k p i) s))
+      (λ e s. rw (says-child l e, s) (ok entry s))
 
 -- lookup's checks: an attribute as its level asks for it, on the first page, on the last that may be, or on another
 attribute-passes : (root leaf last : Bool) → (leaf ≡ false → last ≡ false) → attributeGood (attributeOf root leaf) root last ≡ true
@@ -138,20 +150,19 @@ module _ (b key : List ℕ) (height : ℕ) (few : height < maxLevels) where
   levels-along zero j es a = all-unit es
   levels-along (suc n) j es a =
       let z : j + 0 ≡ j = omega arith in
+      let lower = levels-along n (suc j) (below B es) (λ i l. let y : j + suc i ≡ suc j + i = omega arith in rw y at (a (suc i) (omega arith))) in
       all-map2 (λ e. Fine j (e .1)) (λ e. All (Along n (suc j)) (B (e .1))) (Along (suc n) j) (λ e x y. (x, y)) es (rw z at (a 0 (omega arith)))
-      (all-of-concat (Along n (suc j)) (λ e. B (e .1)) es (levels-along n (suc j) (below B es)
-      (λ i l. let y : j + suc i ≡ suc j + i = omega arith in rw y at (a (suc i) (omega arith)))))
+      (all-of-concat (Along n (suc j)) (λ e. B (e .1)) es lower)
 
-  page-passes : (j left p : ℕ) → j ≤ height → suc left + j ≡ maxLevels → Fine j p → pageGood b (length key) (fileSize b) p (eqb (maxLevels - left) 1) (eqb left 0) ≡ true
-  unfolding pageGood
-  page-passes j left p l e f =
+  page-visited : (j left p : ℕ) → j ≤ height → suc left + j ≡ maxLevels → Fine j p
+      → visitRule b key p (eqb (maxLevels - left) 1) (eqb left 0) ≡ pageSays b key p
+  unfolding visitRule pageGood
+  page-visited j left p l e f =
       let d : maxLevels - left ≡ j + 1 = omega arith in
       let t = attribute-passes (eqb j 0) (eqb j height) (eqb left 0) (λ u. ne-eqb left 0 (omega (arith, eqb-false j height u))) in
-      rw (f .page, f .attribute, d, first-is j, t) (f .count)
-
-  page-visited : (j left p : ℕ) → j ≤ height → suc left + j ≡ maxLevels → Fine j p → visitRule b key p (eqb (maxLevels - left) 1) (eqb left 0) ≡ pageSays b key p
-  unfolding visitRule
-  page-visited j left p l e f = rw (page-passes j left p l e f, visitRule)
+      let good : pageGood b (length key) (fileSize b) p (eqb (maxLevels - left) 1) (eqb left 0) ≡ true =
+      rw (f .page, f .attribute, d, first-is j, t) (f .count) in
+      rw (good, visitRule)
 
   fine-full : (j p : ℕ) → Fine j p → countAt b p ≤ capacity (length key)
   unfolding countGood
@@ -160,24 +171,31 @@ module _ (b key : List ℕ) (height : ℕ) (few : height < maxLevels) where
   fine-leaf : (j p : ℕ) → Fine j p → leafBit (attributeAt b p) ≡ eqb j height
   fine-leaf j p f = ap leafBit (f .attribute) ∙ leaf-bit (eqb j 0) (eqb j height)
 
-  descends : (h j left p : ℕ) (a : List ℕ) → j + h ≡ height → suc left + j ≡ maxLevels → Along (suc h) j (a, p) →
-      lookupFrom (suc left) b key p ≡ answerOf (storeLookup bytesOrder key h p B) (j + length (storeVisited bytesOrder key h p B))
+  -- the record and the pages, from the page at p with h levels under it
+  abbrev recordFrom : ℕ → ℕ → Option ℕ
+  recordFrom h p = storeLookup bytesOrder key h p B
+
+  abbrev pagesFrom : ℕ → ℕ → List ℕ
+  pagesFrom h p = storeVisited bytesOrder key h p B
+
+  descends : (h j left p : ℕ) (a : List ℕ) → j + h ≡ height → suc left + j ≡ maxLevels → Along (suc h) j (a, p)
+      → lookupFrom (suc left) b key p ≡ answerOf (recordFrom h p) (j + length (pagesFrom h p))
   unfolding lookupFrom
   descends zero j left p a e l u =
       let f = u .0 in
       let d : maxLevels - left ≡ j + 1 = omega arith in
-      rw (page-visited j left p (omega arith) l f, d)
-      (leaf-decides b key (fileSize b) p (f .page) (fine-full j p f) (lookupFrom left b key) (j + 1) (fine-leaf j p f ∙ eq-eqb j height (omega arith)))
+      let leaf = fine-leaf j p f ∙ eq-eqb j height (omega arith) in
+      rw (page-visited j left p (omega arith) l f, d) (leaf-decides b key (fileSize b) p (f .page) (fine-full j p f) (lookupFrom left b key) (j + 1) leaf)
   descends (suc h) j zero p a e l u = absurd (omega arith)
   descends (suc h) j (suc left) p a e l u =
       let f = u .0 in
       let d : maxLevels - suc left ≡ j + 1 = omega arith in
-      let rest = onward (λ x. storeVisited bytesOrder key h (x .1) B) (seek bytesOrder key (B p)) in
+      let upper = fine-leaf j p f ∙ ne-eqb j height (omega arith) in
+      let rest = onward (λ x. pagesFrom h (x .1)) (seek bytesOrder key (B p)) in
       let n : j + length (p ∷ rest) ≡ j + 1 + length rest = omega arith in
       rw (page-visited j (suc left) p (omega arith) l f, d, n)
-      (upper-decides b key (fileSize b) p (f .page) (fine-full j p f) (lookupFrom (suc left) b key) (j + 1) (λ x. storeLookup bytesOrder key h (x .1) B) (λ x. storeVisited bytesOrder key h (x .1) B)
-      (fine-leaf j p f ∙ ne-eqb j height (omega arith))
-      (λ x s. let y : suc j ≡ j + 1 = omega arith in
+      (upper-decides b key (fileSize b) p (f .page) (fine-full j p f) (lookupFrom (suc left) b key) (j + 1) (λ x. recordFrom h (x .1)) (λ x. pagesFrom h (x .1))
+      upper (λ x s. let y : suc j ≡ j + 1 = omega arith in
       rw y at (descends h (suc j) left (x .1) (x .0) (omega arith) (omega arith) (seek-all (Along (suc h) (suc j)) key (B p) x (u .1) s))))
 
 -- from the root of a sound index down
@@ -188,35 +206,52 @@ module _ (b key : List ℕ) (s : Sound b) (e : length key ≡ keyLength b) where
   abbrev r : ℕ
   r = rootOffset b
 
-  fine-levels : (i : ℕ) → i ≤ h → LevelGood b (length key) (fileSize b) (eqb i 0) (eqb i h) (levelPages b (length key) (fileSize b) r i)
-  fine-levels = subst (λ (k : ℕ). (i : ℕ) → i ≤ h → LevelGood b k (fileSize b) (eqb i 0) (eqb i h) (levelPages b k (fileSize b) r i)) (sym e) (sound-levels b s)
+  abbrev T : Tree (List ℕ) h
+  T = indexTree b (s .height)
 
-  steps : lookupFrom maxLevels b key r ≡ answerOf (storeLookup bytesOrder key h r (entriesAt (length key) (fileSize b) b)) (0 + length (storeVisited bytesOrder key h r (entriesAt (length key) (fileSize b) b)))
-  steps =
-      let few : h < maxLevels = omega (arith, s .levels) in
-      descends b key h few h 0 (maxLevels - 1) r [] (omega arith) (omega arith)
-      (levels-along b key h few (suc h) 0 (([], r) ∷ []) (λ i l.
+  abbrev GoodWith : ℕ → Type 0
+  GoodWith k = (i : ℕ) → i ≤ h → LevelGood b k (fileSize b) (eqb i 0) (eqb i h) (levelPages b k (fileSize b) r i)
+
+  few : h < maxLevels
+  few = omega (arith, s .levels)
+
+  fine-levels : (i : ℕ) → i < suc h → All (λ x. Fine b key h few (0 + i) (x .1)) (generation (B b key h few) i (rootEntry r))
+  fine-levels i l =
+      let good : GoodWith (length key) = subst GoodWith (sym e) (sound-levels b s) in
       let z : 0 + i ≡ i = omega arith in
-      rw z (all-of-map (Fine b key h few i) (λ x. x .1) (generation (entriesAt (length key) (fileSize b) b) i (([], r) ∷ [])) (fine-levels i (omega arith) .fit))) .0)
+      rw z (all-of-map (Fine b key h few i) (λ x. x .1) (generation (B b key h few) i (rootEntry r)) (good i (omega arith) .fit))
+
+  abbrev stored : ℕ → ℕ → List (List ℕ × ℕ)
+  stored k p = entriesAt k (fileSize b) b p
+
+  steps : lookupFrom maxLevels b key r ≡ answerOf (storeLookup bytesOrder key h r (stored (length key))) (0 + length (storeVisited bytesOrder key h r (stored (length key))))
+  steps = descends b key h few h 0 (maxLevels - 1) r [] (omega arith) (omega arith) (levels-along b key h few (suc h) 0 (rootEntry r) fine-levels .0)
 
   -- Theorem: lookup's steps on a sound index, for a key of its length, are the theory's lookup in its tree
-  pub lookup-tree : lookupRule b key ≡ answerOf (lookup bytesOrder key (s .height) (indexTree b (s .height))) (length (visited bytesOrder key (s .height) (indexTree b (s .height))))
+  pub lookup-tree : lookupRule b key ≡ answerOf (lookup bytesOrder key h T) (length (visited bytesOrder key h T))
   unfolding lookupRule
   lookup-tree =
-      let S = entriesAt (keyLength b) (fileSize b) b in
-      let z : 0 + length (storeVisited bytesOrder key h r (entriesAt (keyLength b) (fileSize b) b)) ≡ length (storeVisited bytesOrder key h r (entriesAt (keyLength b) (fileSize b) b)) = omega arith in
-      let d : lookupFrom maxLevels b key r ≡ answerOf (storeLookup bytesOrder key h r (entriesAt (keyLength b) (fileSize b) b)) (length (storeVisited bytesOrder key h r (entriesAt (keyLength b) (fileSize b) b))) = rw (e, z) at steps in
+      let S = stored (keyLength b) in
+      let v = storeVisited bytesOrder key h r (stored (keyLength b)) in
+      let z : 0 + length v ≡ length v = omega arith in
+      let d : lookupFrom maxLevels b key r ≡ answerOf (storeLookup bytesOrder key h r S) (length v) = rw (e, z) at steps in
       rw (s .header, eq-eqb (length key) (keyLength b) e, lookupRule)
       (d ∙ ap₂ (λ (o : Option ℕ) (l : List ℕ). answerOf o (length l)) (sym (lookup-read bytesOrder S key h r)) (sym (visited-read bytesOrder S key h r)))
 
   -- Theorem: and so what the sorted list of the leaves' pairs has under the key; absent exactly where it has none
-  pub lookup-list : lookupRule b key ≡ answerOf (find bytesOrder key (pairs (s .height) (indexTree b (s .height)))) (length (visited bytesOrder key (s .height) (indexTree b (s .height))))
-  lookup-list = rw (← lookup-find bytesOrder key h (indexTree b h) (sound-index b s (fileSize b) (omega arith) .ordered)) lookup-tree
+  listed : lookup bytesOrder key h T ≡ find bytesOrder key (pairs h T)
+  listed = lookup-find bytesOrder key h T (sound-index b s (fileSize b) (omega arith) .ordered)
+
+  pub lookup-list : lookupRule b key ≡ answerOf (find bytesOrder key (pairs h T)) (length (visited bytesOrder key h T))
+  lookup-list = rw (← listed) lookup-tree
 
   -- Theorem: a key that is there is found after as many pages as there are levels
-  pub found-pages : (n : ℕ) → find bytesOrder key (pairs (s .height) (indexTree b (s .height))) ≡ some n → lookupRule b key ≡ answer.Found (recordOf n) (s .height + 1)
+  pub found-pages : (n : ℕ) → find bytesOrder key (pairs h T) ≡ some n → lookupRule b key ≡ answer.Found (recordOf n) (h + 1)
   found-pages n f =
-      let o = lookup-find bytesOrder key h (indexTree b h) (sound-index b s (fileSize b) (omega arith) .ordered) in
-      let v = visited-found bytesOrder key h (indexTree b h) n (o ∙ f) in
+      let v = visited-found bytesOrder key h T n (listed ∙ f) in
       let z : suc h ≡ h + 1 = omega arith in
       lookup-list ∙ rw (f, v, z)
+
+  -- Theorem: and a key that is not there is absent
+  pub absent-list : find bytesOrder key (pairs h T) ≡ none → lookupRule b key ≡ answer.Absent (length (visited bytesOrder key h T))
+  absent-list f = lookup-list ∙ rw f

@@ -17,7 +17,7 @@ use Rattle.sound.specs.Rule.{Entries, Level, rootLevel, levelsUnder, mar
 use Rattle.sound.specs.Levels.{reached, generations-reached}
 use Rattle.sound.specs.RunLaws.{markAll, Fresh}
 use Rattle.sound.specs.MarkLaws.{fresh-append, fresh-left, fresh-right, unmarked-length, marked-once, once-fresh, once-marked}
-use Rattle.sound.specs.LevelLaws.{LevelGood, Known, GoodUnder, pagesUnder, Found, level-known, level-good, levels-good, levels-found, levels-reached}
+use Rattle.sound.specs.LevelLaws.{LevelGood, Known, GoodUnder, lowerPages, Found, level-known, level-good, levels-good, levels-found, levels-reached}
 use Rattle.sound.specs.ShapeLaws.{rootEntry, GoodLevels, Shape, levels-inside, levels-counts, entries-filled, shape-sound, sound-shape}
 
 module _ (b : List ℕ) (k size root : ℕ) (whole : size % pageSize ≡ 0) (most : size ≤ maxBytes) where
@@ -50,7 +50,7 @@ module _ (b : List ℕ) (k size root : ℕ) (whole : size % pageSize ≡ 0) (mos
       → Found b k size (maxLevels - 1) (t .0 .leaf) (rootEntry root) (t .1) m → markedFrom m (size / pageSize - 1) 1 ≡ true → Shape b k size root
   found-shape t m r f e =
       let few = f .few in
-      let rest = pagesUnder b k size (f .height) (rootEntry root) in
+      let rest = lowerPages b k size (f .height) (rootEntry root) in
       let good = all-good (f .height) (t .0 .leaf) (f .bottom) (r .level) (f .levels) in
       let fresh : Fresh unmarked (allPages (f .height)) = fresh-append unmarked (root ∷ []) rest (r .fresh) (rw (r .marks) at (f .fresh)) in
       let marks : m ≡ markAll unmarked (allPages (f .height)) = f .marks ∙ ap (λ (m : List ℕ). markAll m rest) (r .marks) in
@@ -77,7 +77,7 @@ module _ (b : List ℕ) (k size root : ℕ) (whole : size % pageSize ≡ 0) (mos
   shape-complete s =
       let h = s .height in
       let few = s .few in
-      let rest = pagesUnder b k size (s .height) (rootEntry root) in
+      let rest = lowerPages b k size (s .height) (rootEntry root) in
       let inside = pages-inside h (s .levels) in
       let fresh = once-fresh size (allPages h) whole most inside (s .once) in
       let g = root-good (eqb 0 h) (s .levels zero (omega arith)) (fresh-left unmarked (root ∷ []) rest fresh) in

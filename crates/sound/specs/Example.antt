@@ -11,7 +11,8 @@ use Rattle.page.specs.Header.{pageSize, noPage, isPage, sizeGood, keyLengthGood
 use Rattle.page.specs.Page.{capacity, countGood}
 use Rattle.page.specs.Reading.{items, itemsAt, entriesAt}
 use Rattle.sound.specs.Sound.{Sound}
-use Rattle.sound.specs.Rule.{leafEntries, upperEntries, chain, isLeaf, markedFrom, entriesFit, pageFits, checkPage, checkPages, rootLevel, nextLevel, levelsUnder, pagesGood, unmarked}
+use Rattle.sound.specs.Rule.{leafEntries, upperEntries, chain, isLeaf, markedFrom, entriesFit, pageFits, checkPage, checkPages}
+use Rattle.sound.specs.Rule.{rootLevel, nextLevel, levelsUnder, pagesGood, unmarked}
 use Rattle.sound.specs.Accepted.{accepted}
 
 padded : List ℕ → List ℕ

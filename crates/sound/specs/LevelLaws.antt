@@ -17,7 +17,7 @@ use Rattle.page.specs.Header.{maxBytes, noPage, isPage}
 use Rattle.page.specs.HeaderLaws.{is-page}
 use Rattle.page.specs.Reading.{entriesAt}
 use Rattle.sound.specs.Sound.{linksOf}
-use Rattle.sound.specs.Rule.{Entries, maxPages, Level, start, chain, isLeaf, attributeOf, checkLevel, children, firstChild, nextLevel, levelsUnder}
+use Rattle.sound.specs.Rule.{Entries, maxPages, Level, start, chain, isLeaf, attributeOf, checkLevel, children, firstChild, pagesUnder, nextLevel, levelsUnder}
 use Rattle.sound.specs.AttributeLaws.{leaf-bit}
 use Rattle.sound.specs.Levels.{numbers, below, generation, reached, map-append}
 use Rattle.sound.specs.MarkLaws.{fresh-append, fresh-left, fresh-right, mark-append, mark-length, fresh-few}
@@ -54,8 +54,8 @@ module _ (b : List ℕ) (k size : ℕ) where
   GoodUnder h es = (i : ℕ) → i < h → LevelGood false (eqb (suc i) h) (numbers (generation (entriesAt k size b) (suc i) es))
 
   -- the pages of those levels
-  abbrev pub pagesUnder : ℕ → Entries → List ℕ
-  pagesUnder h es = reached (entriesAt k size b) h (below (entriesAt k size b) es)
+  abbrev pub lowerPages : ℕ → Entries → List ℕ
+  lowerPages h es = reached (entriesAt k size b) h (below (entriesAt k size b) es)
 
   -- the levels under one, l at most, as they are found from the marks m to the marks m′
   pub record Found (l : ℕ) (leaf : Bool) (es : Entries) (m m′ : List ℕ) : Type 0 where
@@ -63,8 +63,8 @@ module _ (b : List ℕ) (k size : ℕ) where
     pub few : height ≤ l
     pub bottom : leaf ≡ eqb 0 height
     pub levels : GoodUnder height es
-    pub fresh : Fresh m (pagesUnder height es)
-    pub marks : m′ ≡ markAll m (pagesUnder height es)
+    pub fresh : Fresh m (lowerPages height es)
+    pub marks : m′ ≡ markAll m (lowerPages height es)
 
 module _ (b : List ℕ) (k size : ℕ) (most : size ≤ maxBytes) where
   abbrev S : ℕ → Entries
@@ -126,7 +126,7 @@ module _ (b : List ℕ) (k size : ℕ) (most : size ≤ maxBytes) where
   numbers-below (e ∷ es) =
       ap (λ (l : List ℕ). numbers (S (e .1)) ++ l) (numbers-below es) ∙ sym (map-append (λ x. x .1) (S (e .1)) (below S es))
 
-  children-are : (es : Entries) (t : Level × List ℕ) → StandsAt b k size es t → children b k size (chain b size maxPages (t .0 .first)) ≡ numbers (below S es)
+  children-are : (es : Entries) (t : Level × List ℕ) → StandsAt b k size es t → pagesUnder b k size (t .0 .first) ≡ numbers (below S es)
   children-are es t s = ap (children b k size) (s .pages) ∙ numbers-below es
 
   abbrev next : Level × List ℕ → Level × List ℕ
@@ -159,7 +159,7 @@ module _ (b : List ℕ) (k size : ℕ) (most : size ≤ maxBytes) where
   found-above l leaf es m m′ t e v r =
       let few = r .few in
       let ps = numbers (below S es) in
-      let rest = pagesUnder b k size (r .height) (below S es) in
+      let rest = lowerPages b k size (r .height) (below S es) in
       record {
         height = suc (r .height);
         few = omega arith;
@@ -219,8 +219,8 @@ module _ (b : List ℕ) (k size : ℕ) (most : size ≤ maxBytes) where
 
   -- Theorem: good levels are accepted
   pub levels-reached : (l h : ℕ) (es : Entries) (t : Level × List ℕ) → h ≤ l → NonEmpty es → t .0 .good ≡ true → t .0 .leaf ≡ eqb 0 h
-      → StandsAt b k size es t → FullAbove h es → GoodUnder b k size h es → Fresh (t .1) (pagesUnder b k size h es)
-      → Reached t (levelsUnder b k size l t) (pagesUnder b k size h es)
+      → StandsAt b k size es t → FullAbove h es → GoodUnder b k size h es → Fresh (t .1) (lowerPages b k size h es)
+      → Reached t (levelsUnder b k size l t) (lowerPages b k size h es)
   unfolding levelsUnder
   levels-reached zero zero es t lt some g e s f v m = record { good = g; leaf = e; marks = refl }
   levels-reached (suc l) zero es t lt some g e s f v m =
@@ -230,7 +230,7 @@ module _ (b : List ℕ) (k size : ℕ) (most : size ≤ maxBytes) where
   levels-reached (suc l) (suc h) es t lt some g e s f v m =
       let z : t .0 .good && not (t .0 .leaf) ≡ true = rw (g, e, ne-eqb 0 (suc h) (omega arith)) in
       let ps = numbers (below S es) in
-      let rest = pagesUnder b k size h (below S es) in
+      let rest = lowerPages b k size h (below S es) in
       let full = f zero (omega arith) in
       let n = next-good (eqb 1 (suc h)) es t s some full (v zero (omega arith)) (fresh-left (t .1) ps rest m) in
       let w = next-known es t s (n .0) in

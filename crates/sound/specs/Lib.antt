@@ -11,3 +11,4 @@ pub mod ShapeLaws
 pub mod Accepted
 pub mod Example
 pub mod IndexLaws
+pub mod PrefixLaws

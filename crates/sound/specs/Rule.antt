@@ -117,10 +117,11 @@ module _ (b : List ℕ) (k size : ℕ) where
   abbrev pub checkLevel : Bool → ℕ → List ℕ → List ℕ → Level × List ℕ
   checkLevel root first ps m = closed (isLeaf b size first) first (checkPages (attributeOf root (isLeaf b size first)) ps (start first, m))
 
-  -- the root's level, and the level under a good one whose first page is `first`: the children of its pages
+  -- the root's level
   unfoldable pub rootLevel : ℕ → List ℕ → Level × List ℕ
   rootLevel root m = checkLevel true root (root ∷ []) m
 
+  -- the level under a good one whose first page is `first`: the children of its pages
   abbrev pub childrenOf : ℕ → List ℕ
   childrenOf p = map (λ e. e .1) (entriesOf p)
 
@@ -130,8 +131,11 @@ module _ (b : List ℕ) (k size : ℕ) where
   abbrev pub children : List ℕ → List ℕ
   children ps = concatMap childrenOf ps
 
+  abbrev pub pagesUnder : ℕ → List ℕ
+  pagesUnder first = children (chain b size maxPages first)
+
   unfoldable pub nextLevel : ℕ → List ℕ → Level × List ℕ
-  nextLevel first m = checkLevel false (firstChild first) (children (chain b size maxPages first)) m
+  nextLevel first m = checkLevel false (firstChild first) (pagesUnder first) m
 
   -- the levels under one, l at most, down to the leaves or the first fault
   unfoldable pub levelsUnder : ℕ → Level × List ℕ → Level × List ℕ
