@@ -1,0 +1,788 @@
+//! Document 01 in plain Rust, written from the paper and sharing nothing with the proved library: what that is compared with.
+
+/// A refusal's number.
+pub type Refusal = u32;
+
+// ---- the table
+
+#[derive(Clone, Copy, Debug, PartialEq, Eq)]
+pub struct Shape {
+    pub kind: u8,
+    pub records: u32,
+    pub fields: usize,
+    pub header_length: usize,
+    pub record_length: usize,
+}
+
+#[repr(C)]
+#[derive(Clone, Copy, Debug, PartialEq, Eq)]
+pub struct Field {
+    pub name: [u8; 11],
+    pub kind: u8,
+    pub length: u8,
+    pub decimals: u8,
+}
+
+fn le16(b: &[u8], at: usize) -> u32 {
+    u16::from_le_bytes([b[at], b[at + 1]]) as u32
+}
+
+fn le32(b: &[u8], at: usize) -> u32 {
+    u32::from_le_bytes([b[at], b[at + 1], b[at + 2], b[at + 3]])
+}
+
+fn be32(b: &[u8], at: usize) -> u32 {
+    u32::from_be_bytes([b[at], b[at + 1], b[at + 2], b[at + 3]])
+}
+
+fn put_le16(b: &mut [u8], at: usize, x: u32) {
+    b[at..at + 2].copy_from_slice(&(x as u16).to_le_bytes());
+}
+
+fn put_le32(b: &mut [u8], at: usize, x: u32) {
+    b[at..at + 4].copy_from_slice(&x.to_le_bytes());
+}
+
+const MONTHS: [u32; 12] = [31, 28, 31, 30, 31, 30, 31, 31, 30, 31, 30, 31];
+
+pub fn is_date(year: u32, month: u32, day: u32) -> bool {
+    let leap = year % 4 == 0 && (year % 100 != 0 || year % 400 == 0);
+    if !(1..=12).contains(&month) || day == 0 {
+        return false;
+    }
+    day <= MONTHS[month as usize - 1] + (leap && month == 2) as u32
+}
+
+fn number_format_good(width: usize, decimals: u32) -> bool {
+    (1..=20).contains(&width)
+        && (decimals == 0 || (decimals <= 15 && decimals as usize + 2 <= width))
+}
+
+fn name_good(name: &[u8]) -> bool {
+    let len = name.iter().position(|&c| c == 0).unwrap_or(11);
+    (1..=10).contains(&len)
+        && name[0].is_ascii_uppercase()
+        && name[..len]
+            .iter()
+            .all(|c| c.is_ascii_uppercase() || c.is_ascii_digit() || *c == b'_')
+        && name[len..].iter().all(|&c| c == 0)
+}
+
+fn descriptor_good(d: &[u8]) -> bool {
+    let (kind, length, decimals) = (d[11], d[16] as usize, d[17] as u32);
+    name_good(&d[..11])
+        && match kind {
+            b'N' => number_format_good(length, decimals),
+            b'C' => (1..=254).contains(&length) && decimals == 0,
+            b'D' => length == 8 && decimals == 0,
+            b'L' => length == 1 && decimals == 0,
+            b'M' => length == 10 && decimals == 0,
+            _ => false,
+        }
+}
+
+/// Checks 1 to 10.
+pub fn check_table(t: &[u8]) -> Result<Shape, Refusal> {
+    if t.len() < 32 || t.len() > 16_777_216 {
+        return Err(1);
+    }
+    if t[0] != 0x03 && t[0] != 0xF5 {
+        return Err(2);
+    }
+    if !is_date(1900 + t[1] as u32, t[2] as u32, t[3] as u32) {
+        return Err(3);
+    }
+    let header = le16(t, 8) as usize;
+    if header < 65 || (header - 33) % 32 != 0 || (header - 33) / 32 > 128 || header > t.len() {
+        return Err(4);
+    }
+    if t[header - 1] != 0x0D {
+        return Err(5);
+    }
+    let descriptors = || t[32..header - 1].chunks_exact(32);
+    if !descriptors().all(descriptor_good) {
+        return Err(6);
+    }
+    let fields = (header - 33) / 32;
+    for i in 0..fields {
+        let name = &t[32 + 32 * i..][..11];
+        if (i + 1..fields).any(|j| t[32 + 32 * j..][..11] == *name) {
+            return Err(7);
+        }
+    }
+    if descriptors().any(|d| d[11] == b'M') != (t[0] == 0xF5) {
+        return Err(8);
+    }
+    let record = le16(t, 10) as usize;
+    if record != 1 + descriptors().map(|d| d[16] as usize).sum::<usize>() || record > 4000 {
+        return Err(9);
+    }
+    let records = le32(t, 4);
+    let end = header as u64 + records as u64 * record as u64;
+    let len = t.len() as u64;
+    if len != end && !(len == end + 1 && t[end as usize] == 0x1A) {
+        return Err(10);
+    }
+    Ok(Shape {
+        kind: t[0],
+        records,
+        fields,
+        header_length: header,
+        record_length: record,
+    })
+}
+
+fn field_at(t: &[u8], j: usize) -> Field {
+    let d = &t[32 + 32 * j..][..32];
+    Field {
+        name: d[..11].try_into().unwrap(),
+        kind: d[11],
+        length: d[16],
+        decimals: d[17],
+    }
+}
+
+/// The field list: 1 to 10, then 14.
+pub fn list_fields(t: &[u8], entries: &mut [Field]) -> Result<(), Refusal> {
+    let shape = check_table(t)?;
+    if entries.len() < shape.fields {
+        return Err(14);
+    }
+    for (j, e) in entries[..shape.fields].iter_mut().enumerate() {
+        *e = field_at(t, j);
+    }
+    Ok(())
+}
+
+#[derive(Clone, Copy, Debug, PartialEq, Eq)]
+pub enum Step {
+    Record(u32),
+    Done,
+    Refused(Refusal),
+}
+
+/// One step of the walk; the position is moved on the spot.
+pub fn walk(t: &[u8], passed: &mut u32) -> Step {
+    let shape = match check_table(t) {
+        Ok(shape) => shape,
+        Err(n) => return Step::Refused(n),
+    };
+    let mut i = *passed;
+    while i < shape.records {
+        let mark = t[shape.header_length + i as usize * shape.record_length];
+        i += 1;
+        match mark {
+            0x2A => continue,
+            0x20 => {
+                *passed = i;
+                return Step::Record(i);
+            }
+            _ => {
+                *passed = i;
+                return Step::Refused(15);
+            }
+        }
+    }
+    Step::Done
+}
+
+/// A field of a record: its entry, and where its bytes start. 1 to 13, 15.
+fn cell(t: &[u8], record: u32, field: u32, kinds: &[u8]) -> Result<(Field, usize), Refusal> {
+    let shape = check_table(t)?;
+    if record == 0 || record > shape.records {
+        return Err(11);
+    }
+    if field == 0 || field as usize > shape.fields {
+        return Err(12);
+    }
+    let j = field as usize - 1;
+    let entry = field_at(t, j);
+    if !kinds.contains(&entry.kind) {
+        return Err(13);
+    }
+    let start = shape.header_length + (record as usize - 1) * shape.record_length;
+    if t[start] != 0x20 && t[start] != 0x2A {
+        return Err(15);
+    }
+    let before: usize = (0..j).map(|i| t[32 + 32 * i + 16] as usize).sum();
+    Ok((entry, start + 1 + before))
+}
+
+/// A number in units of 10 to the -d; `None` for an empty field.
+pub fn read_number(t: &[u8], record: u32, field: u32) -> Result<Option<i64>, Refusal> {
+    let (entry, at) = cell(t, record, field, b"N")?;
+    number_read(&t[at..at + entry.length as usize], entry.decimals as u32)
+}
+
+pub fn read_date(t: &[u8], record: u32, field: u32) -> Result<Option<(u32, u32, u32)>, Refusal> {
+    let (_, at) = cell(t, record, field, b"D")?;
+    date_text(&t[at..at + 8])
+}
+
+fn date_text(text: &[u8]) -> Result<Option<(u32, u32, u32)>, Refusal> {
+    if text.iter().all(|&c| c == b' ') {
+        return Ok(None);
+    }
+    if !text.iter().all(u8::is_ascii_digit) {
+        return Err(20);
+    }
+    let n = |part: &[u8]| part.iter().fold(0, |n, c| 10 * n + (c - b'0') as u32);
+    let (year, month, day) = (n(&text[..4]), n(&text[4..6]), n(&text[6..]));
+    if year == 0 || !is_date(year, month, day) {
+        return Err(20);
+    }
+    Ok(Some((year, month, day)))
+}
+
+pub fn read_logical(t: &[u8], record: u32, field: u32) -> Result<Option<bool>, Refusal> {
+    let (_, at) = cell(t, record, field, b"L")?;
+    match t[at] {
+        b'T' => Ok(Some(true)),
+        b'F' => Ok(Some(false)),
+        b' ' => Ok(None),
+        _ => Err(20),
+    }
+}
+
+/// Where a text lies: in the table, or in the memo file.
+pub fn text_part(
+    t: &[u8],
+    memo: &[u8],
+    record: u32,
+    field: u32,
+) -> Result<Option<(usize, usize)>, Refusal> {
+    let (entry, at) = cell(t, record, field, b"CM")?;
+    if entry.kind == b'C' {
+        return Ok(Some((at, entry.length as usize)));
+    }
+    let digits = t[at..at + 10]
+        .iter()
+        .skip_while(|&&c| c == b' ')
+        .copied()
+        .collect::<Vec<u8>>();
+    if digits.is_empty() {
+        return Ok(None);
+    }
+    if digits[0] == b'0' || !digits.iter().all(u8::is_ascii_digit) {
+        return Err(21);
+    }
+    let number = digits.iter().fold(0u64, |n, c| 10 * n + (c - b'0') as u64);
+    if memo.len() < 512 || memo.len() > 16_777_216 {
+        return Err(22);
+    }
+    let size = u16::from_be_bytes([memo[6], memo[7]]) as u64;
+    if size % 2 != 0 || !(32..=16_384).contains(&size) {
+        return Err(22);
+    }
+    let (start, len) = (number * size, memo.len() as u64);
+    if start < 512 || start + 8 > len {
+        return Err(21);
+    }
+    let at = start as usize;
+    let length = be32(memo, at + 4) as u64;
+    if start + 8 + length > len || start + 8 + length > be32(memo, 0) as u64 * size {
+        return Err(21);
+    }
+    if be32(memo, at) != 1 {
+        return Err(23);
+    }
+    Ok(Some((at + 8, length as usize)))
+}
+
+// ---- numeric text
+
+const PAST_DIGITS: u64 = 1_000_000_000_000_000_000;
+
+pub fn number_read(text: &[u8], decimals: u32) -> Result<Option<i64>, Refusal> {
+    if !number_format_good(text.len(), decimals) {
+        return Err(6);
+    }
+    let Some(first) = text.iter().position(|&c| c != b' ') else {
+        return Ok(None);
+    };
+    if text.contains(&b',') {
+        return Err(16);
+    }
+    let t = &text[first..];
+    let (negative, t) = match t.strip_prefix(b"-") {
+        Some(rest) => (true, rest),
+        None => (false, t),
+    };
+    let d = decimals as usize;
+    let whole = if d == 0 {
+        t
+    } else {
+        if t.len() < d + 2 || t[t.len() - d - 1] != b'.' {
+            return Err(17);
+        }
+        &t[..t.len() - d - 1]
+    };
+    let fraction = &t[t.len() - d..];
+    if whole.is_empty() || (whole[0] == b'0' && whole.len() > 1) {
+        return Err(17);
+    }
+    let mut value: u64 = 0;
+    let mut large = false;
+    for c in whole.iter().chain(fraction) {
+        if !c.is_ascii_digit() {
+            return Err(17);
+        }
+        large |= value >= PAST_DIGITS / 10;
+        value = value.wrapping_mul(10).wrapping_add((c - b'0') as u64);
+    }
+    if negative && value == 0 && !large {
+        return Err(17);
+    }
+    if large {
+        return Err(18);
+    }
+    Ok(Some(if negative {
+        -(value as i64)
+    } else {
+        value as i64
+    }))
+}
+
+pub fn number_write(text: &mut [u8], decimals: u32, value: i64) -> Result<(), Refusal> {
+    if !number_format_good(text.len(), decimals) {
+        return Err(6);
+    }
+    let magnitude = value.unsigned_abs();
+    if magnitude >= PAST_DIGITS {
+        return Err(18);
+    }
+    let d = decimals as usize;
+    let mut out = [b' '; 24];
+    let mut at = out.len();
+    let mut rest = magnitude;
+    let mut digits = 0;
+    while digits <= d || rest > 0 {
+        if digits == d && d > 0 {
+            at -= 1;
+            out[at] = b'.';
+        }
+        at -= 1;
+        out[at] = b'0' + (rest % 10) as u8;
+        rest /= 10;
+        digits += 1;
+    }
+    if value < 0 {
+        at -= 1;
+        out[at] = b'-';
+    }
+    let made = &out[at..];
+    if made.len() > text.len() {
+        return Err(19);
+    }
+    let blanks = text.len() - made.len();
+    text[..blanks].fill(b' ');
+    text[blanks..].copy_from_slice(made);
+    Ok(())
+}
+
+// ---- the index
+
+pub const NONE: u32 = 0xFFFF_FFFF;
+
+const MAX_BYTES: u32 = 1_048_576;
+
+struct Head {
+    root: u32,
+    size: u32,
+    k: usize,
+}
+
+fn is_page(size: u32, p: u32) -> bool {
+    p % 512 == 0 && p >= 512 && p < size
+}
+
+fn header(b: &[u8]) -> Option<Head> {
+    if b.len() < 512 {
+        return None;
+    }
+    let head = Head {
+        root: le32(b, 0),
+        size: le32(b, 8),
+        k: le16(b, 12) as usize,
+    };
+    let good = head.size % 512 == 0
+        && (1024..=MAX_BYTES).contains(&head.size)
+        && head.size as usize <= b.len()
+        && is_page(head.size, head.root)
+        && (1..=100).contains(&head.k)
+        && le32(b, 4) == NONE
+        && b[14] == 1;
+    good.then_some(head)
+}
+
+fn capacity(k: usize) -> usize {
+    500 / (k + 4)
+}
+
+struct Page<'a> {
+    bytes: &'a [u8],
+    k: usize,
+}
+
+impl<'a> Page<'a> {
+    fn at(b: &'a [u8], k: usize, p: u32) -> Page<'a> {
+        Page {
+            bytes: &b[p as usize..p as usize + 512],
+            k,
+        }
+    }
+
+    fn attribute(&self) -> u32 {
+        le16(self.bytes, 0)
+    }
+
+    fn leaf(&self) -> bool {
+        self.attribute() & 2 != 0
+    }
+
+    fn count(&self) -> usize {
+        le16(self.bytes, 2) as usize
+    }
+
+    fn left(&self) -> u32 {
+        le32(self.bytes, 4)
+    }
+
+    fn right(&self) -> u32 {
+        le32(self.bytes, 8)
+    }
+
+    fn key(&self, i: usize) -> &'a [u8] {
+        &self.bytes[12 + i * (self.k + 4)..][..self.k]
+    }
+
+    fn number(&self, i: usize) -> u32 {
+        be32(self.bytes, 12 + i * (self.k + 4) + self.k)
+    }
+
+    fn count_good(&self) -> bool {
+        let n = self.count();
+        n <= capacity(self.k) && (n >= 1 || self.attribute() == 3)
+    }
+}
+
+/// 24, 25, or sound.
+pub fn audit(b: &[u8]) -> Result<(), Refusal> {
+    let head = header(b).ok_or(24u32)?;
+    if sound(b, &head) {
+        Ok(())
+    } else {
+        Err(25)
+    }
+}
+
+fn sound(b: &[u8], head: &Head) -> bool {
+    let mut reached = vec![false; head.size as usize / 512];
+    let mut level = vec![head.root];
+    for depth in 1..=11 {
+        let mut leaf = None;
+        for (i, &p) in level.iter().enumerate() {
+            if !is_page(head.size, p) || reached[p as usize / 512] {
+                return false;
+            }
+            reached[p as usize / 512] = true;
+            let page = Page::at(b, head.k, p);
+            let left = if i == 0 { NONE } else { level[i - 1] };
+            let right = level.get(i + 1).copied().unwrap_or(NONE);
+            let a = page.attribute();
+            if a > 3
+                || (a & 1 == 1) != (depth == 1)
+                || *leaf.get_or_insert(page.leaf()) != page.leaf()
+                || !page.count_good()
+                || page.left() != left
+                || page.right() != right
+            {
+                return false;
+            }
+        }
+        if leaf == Some(true) {
+            return leaves_good(b, head.k, &level) && reached[1..].iter().all(|&r| r);
+        }
+        let mut below = Vec::new();
+        for &p in &level {
+            let page = Page::at(b, head.k, p);
+            for i in 0..page.count() {
+                let c = page.number(i);
+                if !is_page(head.size, c) {
+                    return false;
+                }
+                let child = Page::at(b, head.k, c);
+                if child.count() == 0
+                    || child.count() > capacity(head.k)
+                    || child.key(child.count() - 1) != page.key(i)
+                {
+                    return false;
+                }
+                below.push(c);
+            }
+            if below.len() > reached.len() {
+                return false;
+            }
+        }
+        level = below;
+    }
+    false
+}
+
+fn leaves_good(b: &[u8], k: usize, leaves: &[u32]) -> bool {
+    let mut last: Option<&[u8]> = None;
+    for &p in leaves {
+        let page = Page::at(b, k, p);
+        for i in 0..page.count() {
+            if last.is_some_and(|l| l >= page.key(i)) || page.number(i) == 0 {
+                return false;
+            }
+            last = Some(page.key(i));
+        }
+    }
+    true
+}
+
+#[derive(Clone, Copy, Debug, PartialEq, Eq)]
+pub enum Looked {
+    Found(u32, u32),
+    Absent(u32),
+    Refused(Refusal),
+}
+
+pub fn lookup(b: &[u8], key: &[u8]) -> Looked {
+    let Some(head) = header(b) else {
+        return Looked::Refused(24);
+    };
+    if key.len() != head.k {
+        return Looked::Refused(27);
+    }
+    let mut p = head.root;
+    for pages in 1..=11 {
+        if !is_page(head.size, p) {
+            return Looked::Refused(25);
+        }
+        let page = Page::at(b, head.k, p);
+        let a = page.attribute();
+        if a > 3
+            || (a & 1 == 1) != (pages == 1)
+            || !page.count_good()
+            || (pages == 11 && !page.leaf())
+        {
+            return Looked::Refused(25);
+        }
+        let Some(i) = (0..page.count()).find(|&i| page.key(i) >= key) else {
+            return Looked::Absent(pages);
+        };
+        if page.leaf() {
+            return if page.key(i) == key {
+                Looked::Found(page.number(i), pages)
+            } else {
+                Looked::Absent(pages)
+            };
+        }
+        p = page.number(i);
+    }
+    unreachable!("the 11th page is a leaf")
+}
+
+pub fn fresh(b: &mut [u8], k: u32, expression: &[u8]) -> Result<(), Refusal> {
+    if !(1..=100).contains(&k) {
+        return Err(27);
+    }
+    if !(1..=220).contains(&expression.len())
+        || !expression.iter().all(|c| (0x20..=0x7E).contains(c))
+    {
+        return Err(24);
+    }
+    if b.len() < 1024 {
+        return Err(30);
+    }
+    b[..1024].fill(0);
+    put_le32(b, 0, 512);
+    put_le32(b, 4, NONE);
+    put_le32(b, 8, 1024);
+    put_le16(b, 12, k);
+    b[14] = 1;
+    b[16..16 + expression.len()].copy_from_slice(expression);
+    put_le16(b, 512, 3);
+    put_le32(b, 516, NONE);
+    put_le32(b, 520, NONE);
+    Ok(())
+}
+
+pub fn insert(b: &mut [u8], key: &[u8], record: u32) -> Result<(), Refusal> {
+    let head = header(b).ok_or(24u32)?;
+    if key.len() != head.k {
+        return Err(27);
+    }
+    if record == 0 {
+        return Err(28);
+    }
+    if !sound(b, &head) {
+        return Err(25);
+    }
+    let (k, cap) = (head.k, capacity(head.k));
+    // the pages from the root to the leaf, each with the entry gone through
+    let mut path = Vec::new();
+    let mut p = head.root;
+    loop {
+        let page = Page::at(b, k, p);
+        let i = (0..page.count()).find(|&i| page.key(i) >= key);
+        if page.leaf() {
+            if i.is_some_and(|i| page.key(i) == key) {
+                return Err(29);
+            }
+            path.push((p, i.unwrap_or(page.count())));
+            break;
+        }
+        let i = i.unwrap_or(page.count() - 1);
+        path.push((p, i));
+        p = page.number(i);
+    }
+    let full = path
+        .iter()
+        .rev()
+        .take_while(|(p, _)| Page::at(b, k, *p).count() == cap)
+        .count();
+    let new_root = full == path.len();
+    let size = head.size as usize + 512 * (full + new_root as usize);
+    if size > b.len() || size > MAX_BYTES as usize || path.len() + new_root as usize > 11 {
+        return Err(30);
+    }
+    put_le32(b, 8, size as u32);
+    let mut next = head.size;
+    // what the page below left for the one above: nothing, or the new page beside the old one
+    let mut carried: Option<u32> = None;
+    for depth in (0..path.len()).rev() {
+        let (p, i) = path[depth];
+        if depth + 1 == path.len() {
+            carried = take_in(b, k, p, &mut next, |entries| {
+                entries.insert(i, entry(key, record))
+            });
+        } else if let Some(q) = carried {
+            let (old, _) = path[depth + 1];
+            let low = last_key(b, k, old);
+            let old_key = Page::at(b, k, p).key(i).to_vec();
+            let high = if old_key.as_slice() < key {
+                key.to_vec()
+            } else {
+                old_key
+            };
+            carried = take_in(b, k, p, &mut next, |entries| {
+                entries[i] = entry(&low, old);
+                entries.insert(i + 1, entry(&high, q));
+            });
+        } else if Page::at(b, k, p).key(i) < key {
+            let at = p as usize + 12 + i * (k + 4);
+            b[at..at + k].copy_from_slice(key);
+        }
+    }
+    if let Some(q) = carried {
+        let (old, top) = (path[0].0, next);
+        let entries = [
+            entry(&last_key(b, k, old), old),
+            entry(&last_key(b, k, q), q),
+        ];
+        write_page(b, top, 1, NONE, NONE, &entries);
+        put_le32(b, 0, top);
+    }
+    Ok(())
+}
+
+fn entry(key: &[u8], number: u32) -> Vec<u8> {
+    let mut e = key.to_vec();
+    e.extend_from_slice(&number.to_be_bytes());
+    e
+}
+
+fn last_key(b: &[u8], k: usize, p: u32) -> Vec<u8> {
+    let page = Page::at(b, k, p);
+    page.key(page.count() - 1).to_vec()
+}
+
+fn write_page(b: &mut [u8], p: u32, attribute: u32, left: u32, right: u32, entries: &[Vec<u8>]) {
+    let at = p as usize;
+    put_le16(b, at, attribute);
+    put_le16(b, at + 2, entries.len() as u32);
+    put_le32(b, at + 4, left);
+    put_le32(b, at + 8, right);
+    b[at + 12..at + 512].fill(0);
+    for (i, e) in entries.iter().enumerate() {
+        b[at + 12 + i * e.len()..][..e.len()].copy_from_slice(e);
+    }
+}
+
+/// Changes a page's entries; one that has too many is split, and its new neighbour is handed back.
+fn take_in(
+    b: &mut [u8],
+    k: usize,
+    p: u32,
+    next: &mut u32,
+    change: impl FnOnce(&mut Vec<Vec<u8>>),
+) -> Option<u32> {
+    let page = Page::at(b, k, p);
+    let (a, left, right) = (page.attribute(), page.left(), page.right());
+    let mut entries: Vec<Vec<u8>> = (0..page.count())
+        .map(|i| entry(page.key(i), page.number(i)))
+        .collect();
+    change(&mut entries);
+    if entries.len() <= capacity(k) {
+        write_page(b, p, a, left, right, &entries);
+        return None;
+    }
+    let q = *next;
+    *next += 512;
+    let upper = entries.split_off(entries.len().div_ceil(2));
+    write_page(b, p, a & !1, left, q, &entries);
+    write_page(b, q, a & !1, p, right, &upper);
+    if right != NONE {
+        put_le32(b, right as usize + 4, q);
+    }
+    Some(q)
+}
+
+/// An index against a table: 1 to 10, 24, 12, 13, 27, 25, 31.
+pub fn match_index(t: &[u8], b: &[u8], field: u32) -> Result<(), Refusal> {
+    let shape = check_table(t)?;
+    let head = header(b).ok_or(24u32)?;
+    if field == 0 || field as usize > shape.fields {
+        return Err(12);
+    }
+    let j = field as usize - 1;
+    let entry = field_at(t, j);
+    if entry.kind != b'C' {
+        return Err(13);
+    }
+    if entry.length as usize != head.k {
+        return Err(27);
+    }
+    if !sound(b, &head) {
+        return Err(25);
+    }
+    let offset = 1 + (0..j).map(|i| t[32 + 32 * i + 16] as usize).sum::<usize>();
+    let mut seen = vec![false; shape.records as usize];
+    let mut p = head.root;
+    while !Page::at(b, head.k, p).leaf() {
+        p = Page::at(b, head.k, p).number(0);
+    }
+    while p != NONE {
+        let page = Page::at(b, head.k, p);
+        for i in 0..page.count() {
+            let r = page.number(i) as usize;
+            if r > seen.len() || std::mem::replace(&mut seen[r - 1], true) {
+                return Err(31);
+            }
+            let at = shape.header_length + (r - 1) * shape.record_length + offset;
+            if t[at..at + head.k] != *page.key(i) {
+                return Err(31);
+            }
+        }
+        p = page.right();
+    }
+    if seen.iter().all(|&s| s) {
+        Ok(())
+    } else {
+        Err(31)
+    }
+}
