@@ -12,9 +12,9 @@ use lib.Dec.{eqb, ltb, eqb·suc-zero}
 use borrow.Author.Tests.{ltb-true, ltb-false, eqb-true, eqb-false, eq-eqb, not-true}
 use Rattle.basis.specs.Tests.{either, contra, both, join}
 use Rattle.octets.specs.Bytes.{byteAt}
-use Rattle.table.specs.Range.{allBelow}
+use Rattle.table.specs.Range.{allBelow, anyBelow}
 use Rattle.table.specs.RangeLaws.{all-at, all-each}
-use Rattle.table.specs.Table.{isLetter, isNameByte, mayFollow, nameGoesOn, nameGood}
+use Rattle.table.specs.Table.{isLetter, isNameByte, mayFollow, nameGoesOn, nameGood, nameTaken}
 
 -- n bytes of a name, and zeros to byte 10
 pub record NameOf (b : List ℕ) (at n : ℕ) : Type 0 where
@@ -115,3 +115,10 @@ module _ (b : List ℕ) (at : ℕ) where
       ⊎-elim (λ g. contra (parts .1) (name-byte _ (g 10 (le-refl 10))))
       (λ d. (d .0, record { some = d .1 .some; few = d .1 .few; letter = first .0; named = d .1 .named; zeros = d .1 .zeros }))
       (so-far (first .0) (all-at (nameGoesOn b at) 10 (first .1)) 10 (le-refl 10))
+
+-- the first name has none before it
+pub first-name-free : (b : List ℕ) (n : ℕ) → n ≤ 1 → anyBelow (nameTaken b) n ≡ false
+unfolding anyBelow nameTaken
+first-name-free b zero l = refl
+first-name-free b (suc zero) l = refl
+first-name-free b (suc (suc n)) l = absurd (omega arith)

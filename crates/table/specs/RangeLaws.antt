@@ -2,7 +2,7 @@
 -- what a test of all says of each. Assumes nothing.
 use Prim.Native.Nat.{ℕ, zero, suc, _+_, _≤_, _<_}
 use mathlib.Core.Path.{_≡_, refl, subst}
-use mathlib.Core.Bool.{Bool, true, false, and-false, or-true}
+use mathlib.Core.Bool.{Bool, true, false, and-false, or-true, or-false}
 use mathlib.Core.Logic.{⊎-elim}
 use native.Mathlib.Nat.{eq-or-lt-of-le, le-of-suc-le-suc, not-suc-le-zero}
 use native.Mathlib.Numerals.{add-one}
@@ -47,6 +47,11 @@ module _ (test : ℕ → Bool) where
   pub any-more : (i : ℕ) → anyBelow test i ≡ false → test i ≡ false → anyBelow test (i + 1) ≡ false
   unfolding anyBelow
   any-more i h e = rw (add-one i, h, e)
+
+  -- a number that does not pass may be left out
+  pub any-fewer : (i : ℕ) → test i ≡ false → anyBelow test (i + 1) ≡ anyBelow test i
+  unfolding anyBelow
+  any-fewer i e = rw (add-one i, e) (or-false (anyBelow test i))
 
   pub any-stop : (i n : ℕ) → i < n → test i ≡ true → anyBelow test n ≡ true
   unfolding anyBelow

@@ -233,10 +233,11 @@ fn names_differ(table: &[u8]) -> bool
     requires { ⌜ HeaderFits (now table) ⌝ }
     ensures { λ r. ⌜ r ≡ namesDiffer (now (table .entry)) ⌝ }
 {
-    let fields = field_count(table);
     let mut differ = true;
-    let mut later = 0;
-    'fields: while later < fields {
+    // from the last name back, each with all before it
+    let mut later = field_count(table);
+    'fields: while 1 < later {
+        later -= 1;
         let mut earlier = 0;
         while earlier < later {
             if same_name(table, later, earlier) {
@@ -245,7 +246,6 @@ fn names_differ(table: &[u8]) -> bool
             }
             earlier += 1;
         }
-        later += 1;
     }
     differ
 }

@@ -1,36 +1,60 @@
--- `table::names_differ` meets its contract. The outer loop's invariant: no field passed has the name of one before it; the inner loop's:
--- no field passed has the name of field `later`. A duplicate leaves both. Assumes nothing.
-use Prim.Native.Nat.{_-_, _≤_}
+-- `table::names_differ` meets its contract. The outer loop's invariant: some field has the name of one before it exactly if one below `later` has; the inner
+-- loop's: no field passed has the name of field `later`. A duplicate leaves both. Assumes nothing.
+use Prim.Native.Nat.{_+_, _-_, _≤_}
 use native.Mathlib.Omega.{arith}
 use mathlib.Core.Path.{_≡_, refl, sym, ap, _∙_}
 use mathlib.Core.Bool.{true, false, not}
 use borrow.Author.Needs.{needs}
 use Rattle.table.specs.Range.{anyBelow}
-use Rattle.table.specs.RangeLaws.{any-none, any-more, any-stop}
+use Rattle.table.specs.RangeLaws.{any-none, any-more, any-fewer, any-stop}
 use Rattle.table.specs.Table.{fieldCount, sameName, nameTaken, namesDiffer}
+use Rattle.table.specs.NameLaws.{first-name-free}
 use Rattle.table.proofs.names_differ.Statement.{statement}
 use Rattle.table.proofs.names_differ.Tie as tie
 
 abbrev Inv-loop : tie.InvT-loop
-Inv-loop table fields differ₀ later earlier₀ differ earlier = (earlier ≤ later) × (differ ≡ true) × (anyBelow (sameName table later) earlier ≡ false)
+Inv-loop table differ₀ later earlier₀ differ earlier = (earlier ≤ later) × (differ ≡ true) × (anyBelow (sameName table later) earlier ≡ false)
 
 abbrev μ-loop : tie.MeasureT-loop
-μ-loop table fields differ₀ later earlier₀ differ earlier = later - earlier
+μ-loop table differ₀ later earlier₀ differ earlier = later - earlier
 
 abbrev Inv-fields : tie.InvT-fields
-Inv-fields table fields differ₀ later₀ differ later = (later ≤ fields) × (differ ≡ true) × (anyBelow (nameTaken table) later ≡ false)
+Inv-fields table differ₀ later₀ differ later =
+    (later ≤ fieldCount table) × (differ ≡ true) × (anyBelow (nameTaken table) (fieldCount table) ≡ anyBelow (nameTaken table) later)
 
 abbrev μ-fields : tie.MeasureT-fields
-μ-fields table fields differ₀ later₀ differ later = fields - later
+μ-fields table differ₀ later₀ differ later = later
 
 field-count-requires : tie.Need-field-count-requires Inv-loop μ-loop Inv-fields μ-fields
 field-count-requires c κs = search needs
 
 fields-holds : tie.Need-fields-holds Inv-loop μ-loop Inv-fields μ-fields
-fields-holds c = (omega arith, refl, any-none _)
+fields-holds c =
+    let table = c .before .before .args .table .now in
+    (omega arith, refl, sym (ap (anyBelow (nameTaken table)) (c .field-count .ensures .0)))
+
+sub-later : tie.Need-sub-later Inv-loop μ-loop Inv-fields μ-fields
+sub-later c = search needs
 
 loop-holds : tie.Need-loop-holds Inv-loop μ-loop Inv-fields μ-fields
 loop-holds c = (omega arith, c .before .fields .inv .1, any-none _)
+
+fields-less : tie.Need-fields-less Inv-loop μ-loop Inv-fields μ-fields
+fields-less c = search needs
+
+fields-again : tie.Need-fields-again Inv-loop μ-loop Inv-fields μ-fields
+unfolding nameTaken
+fields-again c =
+    let at-loop = c .before in
+    let at-fields = at-loop .before .before in
+    let table = at-fields .before .before .before .args .table .now in
+    let later = at-fields .fields .later in
+    let end : at-loop .loop .earlier ≡ later - 1 = omega arith in
+    let one : later ≡ later - 1 + 1 = omega arith in
+    let free : nameTaken table (later - 1) ≡ false = rw end at (at-loop .loop .inv .2) in
+    let fewer : anyBelow (nameTaken table) later ≡ anyBelow (nameTaken table) (later - 1) =
+    ap (anyBelow (nameTaken table)) one ∙ any-fewer (nameTaken table) (later - 1) free in
+    (omega arith, at-loop .loop .inv .1, at-fields .fields .inv .2 ∙ fewer)
 
 same-name-requires : tie.Need-same-name-requires Inv-loop μ-loop Inv-fields μ-fields
 same-name-requires c κs = (omega arith, omega arith)
@@ -46,27 +70,12 @@ loop-again c =
     let at-loop = c .before .before .before in
     (omega arith, at-loop .loop .inv .1, any-more _ (at-loop .loop .earlier) (at-loop .loop .inv .2) (sym (c .before .same-name .ensures) ∙ c .if1 .left))
 
-add-later : tie.Need-add-later Inv-loop μ-loop Inv-fields μ-fields
-add-later c = search needs
-
-fields-less : tie.Need-fields-less Inv-loop μ-loop Inv-fields μ-fields
-fields-less c = search needs
-
-fields-again : tie.Need-fields-again Inv-loop μ-loop Inv-fields μ-fields
-unfolding nameTaken
-fields-again c =
-    let at-loop = c .before in
-    let at-fields = at-loop .before .before in
-    let end : at-loop .loop .earlier ≡ at-fields .fields .later = omega arith in
-    (omega arith, at-loop .loop .inv .1, any-more _ (at-fields .fields .later) (at-fields .fields .inv .2) (rw end at (at-loop .loop .inv .2)))
-
 returns : tie.Need-returns Inv-loop μ-loop Inv-fields μ-fields
 unfolding namesDiffer
 returns c =
     let at-fields = c .before in
     let table = at-fields .before .before .before .args .table .now in
-    let end : at-fields .fields .later ≡ fieldCount table = omega arith in
-    at-fields .fields .inv .1 ∙ sym (ap not (rw end at (at-fields .fields .inv .2)))
+    at-fields .fields .inv .1 ∙ sym (ap not (at-fields .fields .inv .2 ∙ first-name-free table (at-fields .fields .later) (omega arith)))
 
 returns-2 : tie.Need-returns-2 Inv-loop μ-loop Inv-fields μ-fields
 unfolding namesDiffer nameTaken
@@ -74,9 +83,9 @@ returns-2 c =
     let at-loop = c .before .before .before in
     let at-fields = at-loop .before .before in
     let table = at-fields .before .before .before .args .table .now in
-    let later = at-fields .fields .later in
-    let taken = any-stop (sameName table later) (at-loop .loop .earlier) later (omega arith) (sym (c .before .same-name .ensures) ∙ c .if1 .taken) in
-    sym (ap not (any-stop (nameTaken table) later (fieldCount table) (omega arith) taken))
+    let last = at-fields .fields .later - 1 in
+    let taken = any-stop (sameName table last) (at-loop .loop .earlier) last (omega arith) (sym (c .before .same-name .ensures) ∙ c .if1 .taken) in
+    sym (ap not (any-stop (nameTaken table) last (fieldCount table) (omega arith) taken))
 
 pub names-differ-spec : {M : Type 1} → statement M
 names-differ-spec =
@@ -88,13 +97,13 @@ names-differ-spec =
     μ-fields
     field-count-requires
     fields-holds
+    sub-later
     loop-holds
+    fields-less
+    fields-again
     same-name-requires
     add-earlier
     loop-less
     loop-again
-    add-later
-    fields-less
-    fields-again
     returns
     returns-2)
