@@ -8,7 +8,7 @@ use Rattle.octets.specs.Store.{window}
 use Rattle.calendar.specs.DateText.{dateOf}
 use Rattle.calendar.specs.declared.DateAnswer.{DateAnswer}
 use Rattle.calendar.specs.declared.DateAnswer.the-variants as date
-use Rattle.numeral.specs.Format.{blank}
+use Rattle.octets.specs.Text.{blank}
 use Rattle.numeral.specs.Reading.{readNumber}
 use Rattle.numeral.specs.declared.Number.{Number}
 use Rattle.numeral.specs.declared.Number.the-variants as number

@@ -5,6 +5,7 @@ use mathlib.Core.List.{List, [], _∷_}
 use lib.ListN.{length}
 use lib.Dec.{leb, ltb, eqb}
 use Rattle.octets.specs.Bytes.{be16, be32}
+use Rattle.octets.specs.Text.{unpadded}
 use Rattle.memo.specs.declared.MemoNumber.{MemoNumber}
 use Rattle.memo.specs.declared.MemoNumber.the-variants.{Blank, Bad, Number}
 use Rattle.memo.specs.declared.MemoPlace.{MemoPlace}
@@ -16,11 +17,6 @@ memoHeaderBytes = 512
 
 abbrev pub maxMemoBytes : ℕ
 maxMemoBytes = 16777216
-
--- a text from its first character that is no blank (32) on
-unfoldable pub unpadded : List ℕ → List ℕ
-unpadded [] = []
-unpadded (c ∷ rest) = let tail = unpadded rest in cond (eqb c 32) tail (c ∷ rest)
 
 -- a character from `0` (48) to `9` (57)
 abbrev pub isDigit : ℕ → Bool

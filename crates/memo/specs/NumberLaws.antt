@@ -9,24 +9,17 @@ use native.Mathlib.Omega.{arith}
 use lib.Dec.{ltb, eqb, lit<}
 use lib.ListN.{length, drop, drop-of-length-le}
 use lib.Seq.{drop-cons}
-use borrow.Author.Tests.{leb-true, ltb-true, lt-ltb, le-ltb, eqb-true, eq-eqb, ne-eqb}
+use borrow.Author.Tests.{leb-true, ltb-true, lt-ltb, le-ltb, eqb-true}
 use Rattle.basis.specs.Tests.{either, both}
 use Rattle.octets.specs.Bytes.{byteAt}
+use Rattle.octets.specs.Text.{unpadded}
 use Rattle.memo.specs.declared.MemoNumber.{MemoNumber}
 use Rattle.memo.specs.declared.MemoNumber.the-variants.{Blank, Bad, Number}
 use Rattle.memo.specs.TestLaws.{first-arm}
-use Rattle.memo.specs.Memo.{unpadded, isDigit, digitsAfter, digitsNumber, memoNumber}
+use Rattle.memo.specs.Memo.{isDigit, digitsAfter, digitsNumber, memoNumber}
 
 -- one character after another
 module _ (text : List ℕ) (i : ℕ) (h : i < length text) where
-  pub unpadded-blank : byteAt text i ≡ 32 → unpadded (drop i text) ≡ unpadded (drop (i + 1) text)
-  unfolding unpadded
-  unpadded-blank e = rw (add-one, drop-cons text i 0 h, eq-eqb _ 32 e)
-
-  pub unpadded-other : (byteAt text i ≡ 32 → ⊥) → unpadded (drop i text) ≡ drop i text
-  unfolding unpadded
-  unpadded-other e = rw (drop-cons text i 0 h, ne-eqb _ 32 e)
-
   pub digits-more : (n : ℕ) → isDigit (byteAt text i) ≡ true → digitsAfter n (drop i text) ≡ digitsAfter (10 * n + (byteAt text i - 48)) (drop (i + 1) text)
   unfolding digitsAfter
   digits-more n e = rw (add-one, drop-cons text i 0 h, e)

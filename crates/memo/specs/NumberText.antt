@@ -14,7 +14,8 @@ use borrow.Author.Tests.{ltb-true, lt-ltb, le-leb, eqb-true, eqb-false, eq-eqb, 
 use Rattle.basis.specs.Tests.{either}
 use Rattle.memo.specs.declared.MemoNumber.{MemoNumber}
 use Rattle.memo.specs.declared.MemoNumber.the-variants.{Blank, Bad, Number}
-use Rattle.memo.specs.Memo.{unpadded, isDigit, digitsAfter, digitsNumber, memoNumber}
+use Rattle.octets.specs.Text.{unpadded}
+use Rattle.memo.specs.Memo.{isDigit, digitsAfter, digitsNumber, memoNumber}
 use Rattle.memo.specs.NumberLaws.{digit-small, number-read, number-between, bad-number}
 
 -- a number's text in k characters: its decimal digits, and blanks on the left

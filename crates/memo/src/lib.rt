@@ -4,7 +4,7 @@ use octets::load_be32;
 ghost use mathlib.Core.Path.{_≡_};
 ghost use Prim.Native.Nat.{_+_, _^_, _≤_, _<_};
 ghost use lib.ListN.{length, drop};
-ghost use Rattle.memo.specs.Memo.{memoHeaderBytes, unpadded, isDigit, digitsNumber, memoNumber, blockSize, memoHeaderGood, headFits, endFits, blockText, numberedText, memoText};
+ghost use Rattle.memo.specs.Memo.{memoHeaderBytes, isDigit, digitsNumber, memoNumber, blockSize, memoHeaderGood, headFits, endFits, blockText, numberedText, memoText};
 
 // The header's length: the least length of a memo file, and the first place where a block can start.
 const HEADER_BYTES: usize = 512;
@@ -24,20 +24,6 @@ pub enum MemoPlace {
     Text { start: usize, len: usize },
     Empty,
     Refused(u32),
-}
-
-// How many blanks a text begins with.
-fn padding(text: &[u8]) -> usize
-    ensures { λ r. ⌜ (r ≤ length (now (text .entry))) × (drop r (now (text .entry)) ≡ unpadded (now (text .entry))) ⌝ }
-{
-    let mut i = 0;
-    while i < text.len() {
-        if text[i] != b' ' {
-            return i;
-        }
-        i += 1;
-    }
-    i
 }
 
 // Whether a character is a decimal digit.
@@ -78,7 +64,7 @@ fn read_number(text: &[u8]) -> MemoNumber
     if text.len() != 10 {
         return MemoNumber::Bad;
     }
-    digits_from(text, padding(text))
+    digits_from(text, octets::padding(text))
 }
 
 // The block size that the header gives.

@@ -21,10 +21,7 @@ formatGood width decimals =
     leb 1 width && leb width maxWidth
     && (eqb decimals 0 || leb 1 decimals && leb decimals maxDecimals && leb (decimals + 2) width)
 
--- the characters that numeric text is made of
-abbrev pub blank : ℕ
-blank = 0x20
-
+-- the characters that numeric text is made of, beside the blank
 abbrev pub comma : ℕ
 comma = 0x2C
 

@@ -5,7 +5,8 @@ use mathlib.Core.List.{List, [], _∷_, _++_}
 use lib.Dec.{eqb, leb}
 use lib.ListN.{length}
 use lib.IntN.{ℤ, pos, negℤ}
-use Rattle.numeral.specs.Format.{formatGood, maxDigits, blank, comma, minus, point, zeroDigit, isDigit}
+use Rattle.octets.specs.Text.{blank}
+use Rattle.numeral.specs.Format.{formatGood, maxDigits, comma, minus, point, zeroDigit, isDigit}
 use Rattle.numeral.specs.declared.Number.{Number}
 use Rattle.numeral.specs.declared.Number.the-variants.{Value, Empty, Refused}
 

@@ -11,7 +11,8 @@ use lib.Dec.{eqb, leb, ltb, lit<, eqb·suc-zero}
 use lib.ListN.{length, length-append}
 use borrow.Author.Tests.{leb-true, leb-false, eqb-true, eqb-false, le-leb, lt-ltb, le-ltb}
 use Rattle.basis.specs.Tests.{either, contra, both, join}
-use Rattle.numeral.specs.Format.{formatGood, maxWidth, maxDecimals, maxDigits, blank, comma, point, zeroDigit, isDigit}
+use Rattle.octets.specs.Text.{blank}
+use Rattle.numeral.specs.Format.{formatGood, maxWidth, maxDecimals, maxDigits, comma, point, zeroDigit, isDigit}
 use Rattle.numeral.specs.Reading.{every, some, after, front, wholeGood, fractionGood, wholePart, fraction, withoutPoint, digits, numberFrom, numberOf, textGood, valueOf, digitCount, readNumber}
 use Rattle.numeral.specs.declared.Number.the-variants.{Value, Empty, Refused}
 

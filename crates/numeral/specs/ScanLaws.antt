@@ -9,9 +9,10 @@ use native.Mathlib.Omega.{arith}
 use lib.Dec.{eqb, leb, ltb, eqb·suc-zero, eqb·zero-suc, eqb·suc-suc}
 use lib.ListN.{length, getD, drop, drop-of-length-le}
 use lib.Seq.{drop-cons}
-use borrow.Author.Tests.{ltb-true, ltb-false, eqb-true, le-leb, le-ltb, ne-eqb}
+use borrow.Author.Tests.{ltb-true, ltb-false, eqb-true, le-leb, le-ltb, eq-eqb, ne-eqb}
 use Rattle.basis.specs.Tests.{either, contra, both}
-use Rattle.numeral.specs.Format.{formatGood, maxDigits, blank, comma, minus, point, zeroDigit, isDigit}
+use Rattle.octets.specs.Text.{blank, unpadded}
+use Rattle.numeral.specs.Format.{formatGood, maxDigits, comma, minus, point, zeroDigit, isDigit}
 use Rattle.numeral.specs.Reading.{every, some, after, front, hasMinus, withoutMinus, wholeGood, fractionGood, wholePart, fraction, withoutPoint, digits, numberFrom, numberOf, textGood, valueOf, digitCount, readNumber, signed}
 use Rattle.numeral.specs.ReadingLaws.{format-decimals, no-comma, front-more, front-ends, after-more, after-ends, every-front, none-whole, zero-whole, zero-needless, digits-whole, fraction-empty, fraction-point, count-number}
 use Rattle.numeral.specs.Scan.{initial, afterDigit, wholeEnd, onward, afterOther, nextValue, step, scan, settled, meaning}
@@ -202,6 +203,14 @@ module _ (d : ℕ) where
   scan-blank c s e =
       let same : c ≡ blank = sym (eqb-true blank c e) in
       rw (same, scan-other phase.Blank phase.Blank false 0 blank s refl refl refl)
+
+  -- so the blanks may be passed first
+  pub scan-unpadded : (s : List ℕ) → scan (initial d) (unpadded s) ≡ scan (initial d) s
+  unfolding unpadded
+  scan-unpadded [] = refl
+  scan-unpadded (c ∷ s) = either (eqb c blank)
+      (λ e. rw e (scan-unpadded s ∙ sym (scan-blank c s (eq-eqb blank c (sym (eqb-true c blank e))))))
+      (λ e. rw e)
 
   blanks-mean : (s : List ℕ) → every (eqb blank) s ≡ true → meaning (scan (initial d) s) ≡ number.Empty
   unfolding scan meaning every

@@ -12,7 +12,8 @@ use lib.IntN.{ℤ, pos, negsuc, natAbs}
 use lib.ListN.{length, replicate}
 use borrow.Author.Tests.{lt-ltb, le-ltb, ltb-true, ltb-false, eqb-true, eq-eqb, ne-eqb}
 use Rattle.basis.specs.Tests.{either, contra, both, join}
-use Rattle.numeral.specs.Format.{maxDecimals, maxDigits, formatGood, blank, comma, minus, point, isDigit}
+use Rattle.octets.specs.Text.{blank}
+use Rattle.numeral.specs.Format.{maxDecimals, maxDigits, formatGood, comma, minus, point, isDigit}
 use Rattle.numeral.specs.Reading.{every, some, after, front, hasMinus, withoutMinus, wholeGood, fractionGood, wholePart, fraction, withoutPoint, digits, numberOf, textGood, signed, valueOf, digitCount, readNumber}
 use Rattle.numeral.specs.ReadingLaws.{format-decimals, digit-range, count-number}
 use Rattle.numeral.specs.Writing.{lastDigits, decimal, fractionText, signText, numberText, written, left, writeNumber}

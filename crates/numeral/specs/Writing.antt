@@ -5,7 +5,8 @@ use mathlib.Core.List.{List, [], _∷_, _++_}
 use lib.Dec.{eqb, leb, ltb}
 use lib.ListN.{length, replicate}
 use lib.IntN.{ℤ, pos, negsuc, natAbs}
-use Rattle.numeral.specs.Format.{formatGood, maxDigits, blank, minus, point, zeroDigit}
+use Rattle.octets.specs.Text.{blank}
+use Rattle.numeral.specs.Format.{formatGood, maxDigits, minus, point, zeroDigit}
 use Rattle.numeral.specs.declared.Writing.{Writing}
 use Rattle.numeral.specs.declared.Writing.the-variants.{Written, Refused}
 

@@ -224,7 +224,8 @@ pub fn read_number(text: &[u8], decimals: u32) -> Number
         return Number::Refused(6);
     }
     let mut r = Reader::new(decimals);
-    let mut i = 0;
+    // blanks on the left leave the state as it is
+    let mut i = octets::padding(text);
     while i < text.len() {
         r = r.take(text[i]);
         i += 1;

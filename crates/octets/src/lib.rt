@@ -1,10 +1,11 @@
-// Numbers in bytes, stores into a buffer, and the order of byte strings: what every reader and writer of the files' bytes rests on.
+// Numbers in bytes, stores into a buffer, the order of byte strings, and the blanks before a text: what every reader and writer of the files' bytes rests on.
 ghost use mathlib.Core.Path.{_≡_};
 ghost use Prim.Native.Nat.{_+_, _-_, _≤_, _<_};
-ghost use lib.ListN.{length, replicate};
+ghost use lib.ListN.{length, replicate, drop};
 ghost use Rattle.octets.specs.Bytes.{byteAt, le16, le32, be16, be32, toLe16, toLe32, toBe32};
 ghost use Rattle.octets.specs.Store.{put};
 ghost use Rattle.octets.specs.Order.{ordering, isBelow, isEqual};
+ghost use Rattle.octets.specs.Text.{unpadded};
 
 // The order of one byte string to another.
 pub enum Ordering {
@@ -147,4 +148,18 @@ pub fn is_equal(o: Ordering) -> bool
         Ordering::Equal => true,
         Ordering::Above => false,
     }
+}
+
+// How many blanks a text begins with.
+pub fn padding(text: &[u8]) -> usize
+    ensures { λ r. ⌜ (r ≤ length (now (text .entry))) × (drop r (now (text .entry)) ≡ unpadded (now (text .entry))) ⌝ }
+{
+    let mut i = 0;
+    while i < text.len() {
+        if text[i] != b' ' {
+            return i;
+        }
+        i += 1;
+    }
+    i
 }

@@ -5,7 +5,8 @@ use mathlib.Core.Bool.{false}
 use lib.Dec.{eqb}
 use borrow.Author.Needs.{needs}
 use borrow.Author.Tests.{eq-eqb, ne-eqb}
-use Rattle.numeral.specs.Format.{blank, comma, minus}
+use Rattle.octets.specs.Text.{blank}
+use Rattle.numeral.specs.Format.{comma, minus}
 use Rattle.numeral.specs.Scan.{onward, afterOther}
 use Rattle.numeral.specs.declared.Phase.{Phase}
 use Rattle.numeral.proofs.after_other.Statement.{statement}

@@ -1,4 +1,4 @@
--- `numeral::read_number` meets its contract. The loop's invariant: the state after the `i` characters taken ends, by those that are left, where the
+-- `numeral::read_number` meets its contract. The loop's invariant: the state after the first `i` characters ends, by those that are left, where the
 -- whole text ends. Assumes nothing.
 use Prim.Native.Nat.{_≤_, _-_}
 use mathlib.Core.Path.{_≡_, sym, ap, _∙_}
@@ -8,7 +8,7 @@ use borrow.Author.Needs.{needs}
 use borrow.Author.Tests.{not-true, not-false}
 use Rattle.numeral.specs.ReadingLaws.{refused-6}
 use Rattle.numeral.specs.Scan.{initial, scan, meaning}
-use Rattle.numeral.specs.ScanLaws.{scan-next, scan-end, scan-means}
+use Rattle.numeral.specs.ScanLaws.{scan-unpadded, scan-next, scan-end, scan-means}
 use Rattle.numeral.proofs.read_number.Statement.{statement}
 use Rattle.numeral.proofs.read_number.Tie as tie
 
@@ -27,8 +27,11 @@ returns c = sym (refused-6 _ _ (sym (c .before .format-good .ensures) ∙ not-tr
 new-requires : tie.Need-new-requires Inv-loop μ-loop
 new-requires c κs = search needs
 
+padding-requires : tie.Need-padding-requires Inv-loop μ-loop
+padding-requires c κs = search needs
+
 loop-holds : tie.Need-loop-holds Inv-loop μ-loop
-loop-holds c = (omega arith, rw (c .new .ensures))
+loop-holds c = (c .padding .ensures .0, rw (c .before .new .ensures, c .padding .ensures .1) (sym (scan-unpadded _ _)))
 
 shared-slice-read-take : tie.Need-shared-slice-read-take Inv-loop μ-loop
 shared-slice-read-take c = omega arith
@@ -53,7 +56,7 @@ finish-requires c κs = search needs
 returns-2 : tie.Need-returns-2 Inv-loop μ-loop
 returns-2 c =
     let at-loop = c .before .before in
-    let checked = at-loop .before .before in
+    let checked = at-loop .before .before .before in
     let good = sym (checked .before .format-good .ensures) ∙ not-false _ (checked .if1 .left) in
     c .finish .ensures ∙ ap meaning (sym (at-loop .loop .inv .1 ∙ scan-end (at-loop .loop .r) _ (at-loop .loop .i) (c .before .loop-test .left))) ∙ scan-means _ _ good
 
@@ -66,6 +69,7 @@ read-number-spec =
     format-good-requires
     returns
     new-requires
+    padding-requires
     loop-holds
     shared-slice-read-take
     take-requires

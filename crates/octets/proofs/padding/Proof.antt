@@ -1,14 +1,14 @@
--- `memo::padding` meets its contract. The loop's invariant: without the `i` blanks passed, the text leaves the same after its blanks.
+-- `octets::padding` meets its contract. The loop's invariant: without the `i` blanks passed, the text leaves the same after its blanks.
 -- Assumes nothing.
 use Prim.Native.Nat.{_-_, _≤_}
 use mathlib.Core.Path.{_≡_, refl, sym, _∙_}
 use mathlib.Core.List.{[]}
 use native.Mathlib.Omega.{arith}
 use lib.ListN.{length, drop, drop-of-length-le}
-use Rattle.memo.specs.Memo.{unpadded}
-use Rattle.memo.specs.NumberLaws.{unpadded-blank, unpadded-other}
-use Rattle.memo.proofs.padding.Statement.{statement}
-use Rattle.memo.proofs.padding.Tie as tie
+use Rattle.octets.specs.Text.{unpadded}
+use Rattle.octets.specs.TextLaws.{unpadded-blank, unpadded-other}
+use Rattle.octets.proofs.padding.Statement.{statement}
+use Rattle.octets.proofs.padding.Tie as tie
 
 abbrev Inv-loop : tie.InvT-loop
 Inv-loop text i₀ i = (i ≤ length text) × (unpadded (drop i text) ≡ unpadded text)
