@@ -117,3 +117,10 @@ ordering-goes-on a b i p q = rw (drop-cons a i 0 p, drop-of-length-le b q) (orde
 
 pub ordering-both-ended : (a b : List ℕ) (i : ℕ) → length a ≤ i → length b ≤ i → ordering (drop i a) (drop i b) ≡ Equal
 ordering-both-ended a b i p q = rw (drop-of-length-le a p, drop-of-length-le b q) (ordering-equal [])
+
+-- two strings have their first i bytes in common, and no more: one has ended there, or they differ
+pub record Parted (a b : List ℕ) (i : ℕ) : Type 0 where
+  pub left : i ≤ length a
+  pub right : i ≤ length b
+  pub rest : ordering a b ≡ ordering (drop i a) (drop i b)
+  pub differ : i < length a → i < length b → getD a i 0 ≡ getD b i 0 → ⊥

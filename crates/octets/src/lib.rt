@@ -5,6 +5,7 @@ ghost use lib.ListN.{length, replicate, drop};
 ghost use Rattle.octets.specs.Bytes.{byteAt, le16, le32, be16, be32, toLe16, toLe32, toBe32};
 ghost use Rattle.octets.specs.Store.{put};
 ghost use Rattle.octets.specs.Order.{ordering, isBelow, isEqual};
+ghost use Rattle.octets.specs.OrderLaws.{Parted};
 ghost use Rattle.octets.specs.Text.{unpadded};
 
 // The order of one byte string to another.
@@ -107,27 +108,38 @@ pub fn fill(buf: &mut [u8], from: usize, to: usize, value: u8)
     }
 }
 
-// The order of two byte strings of any lengths, byte by byte.
-pub fn compare(a: &[u8], b: &[u8]) -> Ordering
-    ensures { λ r. ⌜ r ≡ ordering (now (a .entry)) (now (b .entry)) ⌝ }
+// How many bytes two strings have in common from the start.
+fn common(a: &[u8], b: &[u8]) -> usize
+    ensures { λ r. ⌜ Parted (now (a .entry)) (now (b .entry)) r ⌝ }
 {
     let mut i = 0;
-    while i < a.len() {
-        if b.len() <= i {
-            return Ordering::Above;
-        }
-        if a[i] < b[i] {
-            return Ordering::Below;
-        }
-        if b[i] < a[i] {
-            return Ordering::Above;
+    while (i < a.len()) & (i < b.len()) {
+        if a[i] != b[i] {
+            return i;
         }
         i += 1;
     }
-    if i < b.len() {
+    i
+}
+
+// The order of two byte strings of any lengths, by the first byte in which they differ.
+pub fn compare(a: &[u8], b: &[u8]) -> Ordering
+    ensures { λ r. ⌜ r ≡ ordering (now (a .entry)) (now (b .entry)) ⌝ }
+{
+    let i = common(a, b);
+    if b.len() <= i {
+        if a.len() <= i {
+            return Ordering::Equal;
+        }
+        return Ordering::Above;
+    }
+    if a.len() <= i {
         return Ordering::Below;
     }
-    Ordering::Equal
+    if a[i] < b[i] {
+        return Ordering::Below;
+    }
+    Ordering::Above
 }
 
 pub fn is_below(o: Ordering) -> bool
