@@ -1,1 +1,4 @@
 pub mod Match
+pub mod Rule
+pub mod CountLaws
+pub mod TestLaws
