@@ -2,3 +2,4 @@ pub mod Match
 pub mod Rule
 pub mod CountLaws
 pub mod TestLaws
+pub mod LeafLaws
