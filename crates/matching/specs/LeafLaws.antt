@@ -24,6 +24,7 @@ use Rattle.sound.specs.LevelLaws.{chain-is, next-head}
 use Rattle.sound.specs.ShapeLaws.{rootEntry, levelPages, entries-filled}
 use Rattle.matching.specs.Match.{entriesOf}
 use Rattle.matching.specs.Rule.{firstLeaf, leafEntries}
+use Rattle.matching.specs.StepLaws.{first-here, first-lower}
 
 -- what holds of the pages that entries name holds of the first of them
 head-all : (Q : ℕ → Type 0) (es : Entries) → NonEmpty es → All (λ e. Q (e .1)) es → Q (headOr noPage (numbers es))
@@ -34,16 +35,6 @@ module _ (b : List ℕ) (k size : ℕ) (most : size ≤ maxBytes) where
   abbrev S : ℕ → Entries
   S = entriesAt k size b
 
-  -- down by the first children
-  pub first-here : (l p : ℕ) → isLeaf b size p ≡ true → firstLeaf b k size l p ≡ p
-  unfolding firstLeaf
-  first-here zero p e = refl
-  first-here (suc l) p e = rw (e, firstLeaf)
-
-  pub first-lower : (l p : ℕ) → isLeaf b size p ≡ false → firstLeaf b k size (suc l) p ≡ firstLeaf b k size l (firstChild b k size p)
-  unfolding firstLeaf
-  first-lower l p e = rw (e, firstLeaf)
-
   -- a page above the leaves, which has a child
   abbrev Inner : List ℕ × ℕ → Type 0
   Inner e = (isLeaf b size (e .1) ≡ false) × NonEmpty (entriesAt k size b (e .1))
@@ -52,13 +43,13 @@ module _ (b : List ℕ) (k size : ℕ) (most : size ≤ maxBytes) where
   first-is : (l h : ℕ) (es : Entries) (first : ℕ) → h ≤ l → NonEmpty es → first ≡ headOr noPage (numbers es)
       → ((i : ℕ) → i < h → All Inner (generation S i es)) → All (λ e. isLeaf b size (e .1) ≡ true) (generation S h es)
       → firstLeaf b k size l first ≡ headOr noPage (numbers (generation S h es))
-  first-is l zero es first n some e above bottom = first-here l first (rw e (head-all (λ p. isLeaf b size p ≡ true) es some bottom)) ∙ e
+  first-is l zero es first n some e above bottom = first-here b k size l first (rw e (head-all (λ p. isLeaf b size p ≡ true) es some bottom)) ∙ e
   first-is zero (suc h) es first n some e above bottom = absurd (omega arith)
   first-is (suc l) (suc h) es first n some e above bottom =
       let here = above 0 (omega arith) in
       let next = next-head b k size most es first some e (all-map Inner (λ e. NonEmpty (S (e .1))) (λ e x. x .1) es here) in
       let inner = head-all (λ p. isLeaf b size p ≡ false) es some (all-map Inner (λ e. isLeaf b size (e .1) ≡ false) (λ e x. x .0) es here) in
-      first-lower l first (rw e inner)
+      first-lower b k size l first (rw e inner)
       ∙ first-is l h (below S es) (firstChild b k size first) (omega arith) (next .1) (next .0) (λ i o. above (suc i) (omega arith)) bottom
 
   -- a level has no more pages than there are in all
