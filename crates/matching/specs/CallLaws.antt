@@ -101,13 +101,13 @@ module _ (t b : List ℕ) (field : ℕ) (good : tableRefusal t ≡ 0) where
 -- ---- what the calls hand on
 
 -- the leaves' entries from the first leaf on, by the header's numbers
-pub leaves-from : (t b : List ℕ) (c : Column) (size first : ℕ) → c .length ≡ keyLength b → size ≡ fileSize b
-    → first ≡ firstLeaf b (c .length) size (maxLevels - 1) (rootOffset b)
-    → entriesMatch t c 0 (entriesAlong b (c .length) size maxPages first) ≡ entriesMatch t c 0 (leafEntries b)
+pub leaves-from : (t b : List ℕ) (c : Column) (size first : ℕ) (r : Bool) → c .length ≡ keyLength b → size ≡ fileSize b
+    → first ≡ firstLeaf b (c .length) size (maxLevels - 1) (rootOffset b) → r ≡ entriesMatch t c 0 (entriesAlong b (c .length) size maxPages first)
+    → r ≡ entriesMatch t c 0 (leafEntries b)
 unfolding leafEntries
-leaves-from t b c size first ek es ef =
+leaves-from t b c size first r ek es ef er =
     let e : entriesAlong b (c .length) size maxPages first ≡ leafEntries b = rw (ef, ek, es) in
-    ap (entriesMatch t c 0) e
+    er ∙ ap (entriesMatch t c 0) e
 
 -- the field by the table's shape and the field's form
 pub column-is : (t : List ℕ) (s : Shape) (f : FieldForm) (field : ℕ) → Shaped t s → f ≡ formOf t (field - 1)

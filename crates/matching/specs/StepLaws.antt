@@ -31,9 +31,10 @@ use Rattle.matching.specs.Rule.{columnBytes, entryGood, entriesGood, ent
 -- ---- one entry
 
 module _ (t : List ℕ) (c : Column) (number : ℕ) where
-  pub entry-outside : (e : List ℕ × ℕ) → number ≡ e .1 → numberGood number (c .records) ≡ false → false ≡ entryGood t c e
+  pub entry-outside : (b : List ℕ) (p i : ℕ) → number ≡ numberAt b (c .length) p i → numberGood number (c .records) ≡ false
+      → false ≡ entryGood t c (keyAt b (c .length) p i, numberAt b (c .length) p i)
   unfolding entryGood
-  entry-outside e en h = rw (← en, h)
+  entry-outside b p i en h = rw (← en, h)
 
   module _ (start : ℕ) (h : numberGood number (c .records) ≡ true) where
     -- the record's field, from the end of the records before it on

@@ -1,6 +1,5 @@
 -- `matching::entries_match` meets its contract: the leaves from the first on, by the header's numbers.
 -- Assumes nothing.
-use mathlib.Core.Path.{_∙_}
 use Rattle.page.specs.HeaderLaws.{good-header}
 use Rattle.audit.specs.PassLaws.{in-file}
 use Rattle.matching.specs.CallLaws.{leaves-from}
@@ -25,7 +24,7 @@ returns c =
     let found = c .before in
     let sized = found .before in
     let start = sized .before .before .before in
-    c .leaves-good .ensures ∙ leaves-from _ _ (start .args .column) _ _ (start .pre .2) (sized .file-size .ensures) (found .first-leaf .ensures)
+    leaves-from _ _ (start .args .column) _ _ _ (start .pre .2) (sized .file-size .ensures) (found .first-leaf .ensures) (c .leaves-good .ensures)
 
 pub entries-match-spec : {M : Type 1} → statement M
 entries-match-spec =

@@ -1,7 +1,6 @@
 -- `matching::entry_good` meets its contract: the record's number is tested before its field is read, which then lies in the table.
 -- Assumes nothing.
 use Prim.Native.Nat.{_+_, _≤_}
-use mathlib.Core.Path.{_≡_, refl, sym, _∙_}
 use native.Mathlib.Omega.{arith}
 use lib.ListN.{length}
 use Rattle.memo.specs.TestLaws.{passed, failed}
@@ -28,7 +27,7 @@ returns c =
     let tested = c .before in
     let numbered = tested .before .before in
     let start = numbered .before .before .before in
-    entry-outside (start .args .table .now) (start .args .column) (numbered .record-number .result .0) _ (numbered .record-number .ensures)
+    entry-outside _ (start .args .column) (numbered .record-number .result .0) _ _ _ (numbered .record-number .ensures)
     (failed (tested .number-good .ensures) (c .if1 .taken))
 
 sub-records-end : tie.Need-sub-records-end
