@@ -1,2 +1,4 @@
+pub mod AnswerLaws
+pub mod Answers
 pub mod Lent
 pub mod LentLaws
