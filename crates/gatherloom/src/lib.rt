@@ -41,7 +41,7 @@ pub extern "C" fn gl_table_check(table: &[u8]) -> u32
 {
     match table::check_table(table) {
         Checked::Good(_) => 0,
-        Checked::Refused(refusal) => refusal,
+        Checked::Refused(number) => number,
     }
 }
 
@@ -225,12 +225,7 @@ pub extern "C" fn gl_text_part(
 {
     let answer = cell::text_place(table, memo, number, field);
     match answer {
-        TextPlace::Table { start: at, len: n } => {
-            *start = at as u64;
-            *len = n as u64;
-            0
-        }
-        TextPlace::Memo { start: at, len: n } => {
+        TextPlace::Table { start: at, len: n } | TextPlace::Memo { start: at, len: n } => {
             *start = at as u64;
             *len = n as u64;
             0
@@ -247,8 +242,8 @@ pub extern "C" fn gl_number_read(text: &[u8], decimals: u32, value: &mut i64) ->
 {
     let answer = numeral::read_number(text, decimals);
     match answer {
-        Number::Value(read) => {
-            *value = read;
+        Number::Value(meant) => {
+            *value = meant;
             0
         }
         Number::Empty => EMPTY,
@@ -311,8 +306,8 @@ pub extern "C" fn gl_index_lookup(
             *pages = visited;
             0
         }
-        lookup::Answer::Absent(visited) => {
-            *pages = visited;
+        lookup::Answer::Absent(searched) => {
+            *pages = searched;
             ABSENT
         }
         lookup::Answer::Refused(refusal) => refusal,

@@ -23,19 +23,19 @@ enum-known-answer-3 c = search needs
 
 returns : tie.Need-returns
 unfolding textOut textCode
-returns c = rw (sym (c .before .before .before .text-place .ensures) ∙ c .before .answer .given .1)
+returns c = rw (sym (c .before .before .text-place .ensures) ∙ c .enum-told .given .1)
 
 returns-2 : tie.Need-returns-2
 unfolding textOut textCode
-returns-2 c = rw (sym (c .before .before .before .text-place .ensures) ∙ c .before .answer2 .given .1)
+returns-2 c = rw (sym (c .before .before .before .text-place .ensures) ∙ c .before .answer3 .given .1)
 
 returns-3 : tie.Need-returns-3
 unfolding textOut textCode
-returns-3 c = rw (sym (c .before .before .text-place .ensures) ∙ c .enum-told .given .1)
+returns-3 c = rw (sym (c .before .before .before .text-place .ensures) ∙ c .before .answer .given .1)
 
 returns-4 : tie.Need-returns-4
 unfolding textOut textCode
-returns-4 c = rw (sym (c .before .before .before .text-place .ensures) ∙ c .before .answer3 .given .1)
+returns-4 c = rw (sym (c .before .before .before .text-place .ensures) ∙ c .before .answer2 .given .1)
 
 pub gl-text-part-spec : {M : Type 1} → statement M
 gl-text-part-spec =
