@@ -23,7 +23,7 @@ use Rattle.cell.specs.declared.TextPlace.{TextPlace}
 use Rattle.cell.specs.declared.TextPlace.the-variants as text
 use Rattle.lookup.specs.declared.Answer.{Answer}
 use Rattle.lookup.specs.declared.Answer.the-variants as looked
-use Rattle.gatherloom.specs.Answers.{out, Sizes, Part, Found, found, shapeOut, numberOut, dateOut, logicalOut, textOut, lookupOut, writingNumber, writingOut}
+use Rattle.gatherloom.specs.Answers.{out, Sizes, Part, Found, shapeOut, numberOut, dateOut, logicalOut, textOut, lookupOut, writingNumber, writingOut}
 
 -- a good table's numbers are numbers of 32 bits
 pub record Small (s : Shape) : Type 0 where

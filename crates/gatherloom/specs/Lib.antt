@@ -2,3 +2,4 @@ pub mod AnswerLaws
 pub mod Answers
 pub mod Lent
 pub mod LentLaws
+pub mod ToldApart
