@@ -1,2 +1,5 @@
+pub mod AnswerLaws
+pub mod Answers
 pub mod Lent
 pub mod LentLaws
+pub mod ToldApart

@@ -1,15 +1,70 @@
 // The C interface: what the firmware and every host program call. Each function takes what it was lent apart, calls the library and hands the answer
 // out by number.
+use calendar::DateAnswer;
+use cell::Logical;
+use cell::TextPlace;
 use field::FieldEntry;
+use insert::Insertion;
+use numeral::Number;
+use numeral::Writing;
+use page::RecordNumber;
+use table::Checked;
 use walk::Position;
 ghost use mathlib.Core.Path.{_≡_};
+ghost use Rattle.numeral.specs.Reading.{readNumber};
+ghost use Rattle.numeral.specs.Writing.{writeNumber};
+ghost use Rattle.table.specs.Table.{tableRefusal, checkTable};
+ghost use Rattle.cell.specs.Cell.{numberCell, dateCell, logicalCell, textCell};
+ghost use Rattle.lookup.specs.Lookup.{lookupRule};
+ghost use Rattle.sound.specs.Sound.{Audited};
+ghost use Rattle.insert.specs.Calls.{insertRule, insertionNumber};
+ghost use Rattle.insert.specs.Fresh.{freshRule};
 ghost use Rattle.gatherloom.specs.Lent.{planOf, listing, walkedOf};
+ghost use Rattle.gatherloom.specs.Answers.{out, sizes, dayOf, part, found, shapeOut, numberOut, dateOut, logicalOut, textOut, lookupOut, writingOut, insertionOut};
 
 // The answer where fewer entries are lent than there are fields.
 const LIST_TOO_SHORT: u32 = 14;
 
+// The answer where a field holds blanks.
+const EMPTY: u32 = 256;
+
+// The answer where a key is not in an index.
+const ABSENT: u32 = 257;
+
 // The answer of a walk that has no record left.
 const DONE: u32 = 258;
+
+// Whether a table is good: 0, or the number of its refusal.
+#[no_mangle]
+pub extern "C" fn gl_table_check(table: &[u8]) -> u32
+    ensures { λ r. ⌜ r ≡ tableRefusal (now (table .entry)) ⌝ }
+{
+    match table::check_table(table) {
+        Checked::Good(_) => 0,
+        Checked::Refused(number) => number,
+    }
+}
+
+// How many records and fields a table has, and how long a record is.
+#[no_mangle]
+pub extern "C" fn gl_table_shape(
+    table: &[u8],
+    records: &mut u32,
+    fields: &mut u32,
+    record_length: &mut u32,
+) -> u32
+    ensures { λ r. ⌜ shapeOut (checkTable (now (table .entry))) (sizes (now (records .entry)) (now (fields .entry)) (now («record_length» .entry))) ≡ out r (sizes (now (records .exit)) (now (fields .exit)) (now («record_length» .exit))) ⌝ }
+{
+    match table::check_table(table) {
+        Checked::Good(shape) => {
+            *records = shape.records;
+            *fields = shape.fields as u32;
+            *record_length = shape.record_length as u32;
+            0
+        }
+        Checked::Refused(refusal) => refusal,
+    }
+}
 
 // What the field list answers, and how many entries it writes: none where it refuses.
 pub struct Plan {
@@ -21,11 +76,11 @@ fn listing_plan(table: &[u8], room: usize) -> Plan
     ensures { λ r. ⌜ r ≡ planOf (now (table .entry)) room ⌝ }
 {
     match table::check_table(table) {
-        table::Checked::Refused(number) => Plan {
+        Checked::Refused(number) => Plan {
             answer: number,
             count: 0,
         },
-        table::Checked::Good(shape) => {
+        Checked::Good(shape) => {
             if room < shape.fields {
                 return Plan {
                     answer: LIST_TOO_SHORT,
@@ -97,4 +152,172 @@ pub extern "C" fn gl_walk(table: &[u8], position: &mut Position, number: &mut u3
     *position = step.position;
     *number = step.number;
     step.answer
+}
+
+// The value of an N field.
+#[no_mangle]
+pub extern "C" fn gl_read_number(table: &[u8], number: u32, field: u32, value: &mut i64) -> u32
+    ensures { λ r. ⌜ numberOut (numberCell (now (table .entry)) number field) (now (value .entry)) ≡ out r (now (value .exit)) ⌝ }
+{
+    let answer = cell::read_number(table, number, field);
+    match answer {
+        Number::Value(read) => {
+            *value = read;
+            0
+        }
+        Number::Empty => EMPTY,
+        Number::Refused(refusal) => refusal,
+    }
+}
+
+// The day of a D field.
+#[no_mangle]
+pub extern "C" fn gl_read_date(
+    table: &[u8],
+    number: u32,
+    field: u32,
+    year: &mut u32,
+    month: &mut u32,
+    day: &mut u32,
+) -> u32
+    ensures { λ r. ⌜ dateOut (dateCell (now (table .entry)) number field) (dayOf (now (year .entry)) (now (month .entry)) (now (day .entry))) ≡ out r (dayOf (now (year .exit)) (now (month .exit)) (now (day .exit))) ⌝ }
+{
+    let answer = cell::read_date(table, number, field);
+    match answer {
+        DateAnswer::Value(date) => {
+            *year = date.year;
+            *month = date.month;
+            *day = date.day;
+            0
+        }
+        DateAnswer::Empty => EMPTY,
+        DateAnswer::Refused(refusal) => refusal,
+    }
+}
+
+// The value of an L field: 1 for true, 0 for false.
+#[no_mangle]
+pub extern "C" fn gl_read_logical(table: &[u8], number: u32, field: u32, value: &mut u8) -> u32
+    ensures { λ r. ⌜ logicalOut (logicalCell (now (table .entry)) number field) (now (value .entry)) ≡ out r (now (value .exit)) ⌝ }
+{
+    let answer = cell::read_logical(table, number, field);
+    match answer {
+        Logical::Value(read) => {
+            *value = read as u8;
+            0
+        }
+        Logical::Empty => EMPTY,
+        Logical::Refused(refusal) => refusal,
+    }
+}
+
+// Where a C field's text lies in the table, or an M field's in the memo file.
+#[no_mangle]
+pub extern "C" fn gl_text_part(
+    table: &[u8],
+    memo: &[u8],
+    number: u32,
+    field: u32,
+    start: &mut u64,
+    len: &mut u64,
+) -> u32
+    ensures { λ r. ⌜ textOut (textCell (now (table .entry)) (now (memo .entry)) number field) (part (now (start .entry)) (now (len .entry))) ≡ out r (part (now (start .exit)) (now (len .exit))) ⌝ }
+{
+    let answer = cell::text_place(table, memo, number, field);
+    match answer {
+        TextPlace::Table { start: at, len: n } | TextPlace::Memo { start: at, len: n } => {
+            *start = at as u64;
+            *len = n as u64;
+            0
+        }
+        TextPlace::Empty => EMPTY,
+        TextPlace::Refused(refusal) => refusal,
+    }
+}
+
+// The value of a numeric text.
+#[no_mangle]
+pub extern "C" fn gl_number_read(text: &[u8], decimals: u32, value: &mut i64) -> u32
+    ensures { λ r. ⌜ numberOut (readNumber (now (text .entry)) decimals) (now (value .entry)) ≡ out r (now (value .exit)) ⌝ }
+{
+    let answer = numeral::read_number(text, decimals);
+    match answer {
+        Number::Value(meant) => {
+            *value = meant;
+            0
+        }
+        Number::Empty => EMPTY,
+        Number::Refused(refusal) => refusal,
+    }
+}
+
+// Writes the one text of a value.
+#[no_mangle]
+pub extern "C" fn gl_number_write(text: &mut [u8], decimals: u32, value: i64) -> u32
+    ensures { λ r. ⌜ writingOut (writeNumber (now (text .entry)) decimals value) ≡ out r (now (text .exit)) ⌝ }
+{
+    let answer = numeral::write_number(text, decimals, value);
+    match answer {
+        Writing::Written => 0,
+        Writing::Refused(refusal) => refusal,
+    }
+}
+
+// The number of an answer to a call that writes an index.
+fn insertion_number(answer: Insertion) -> u32
+    ensures { λ r. ⌜ r ≡ insertionNumber answer ⌝ }
+{
+    match answer {
+        Insertion::Accepted => 0,
+        Insertion::Refused(refusal) => refusal,
+    }
+}
+
+// Makes a fresh index.
+#[no_mangle]
+pub extern "C" fn gl_index_fresh(index: &mut [u8], key_length: u32, expression: &[u8]) -> u32
+    ensures { λ r. ⌜ insertionOut (freshRule (now (index .entry)) «key_length» (now (expression .entry))) ≡ out r (now (index .exit)) ⌝ }
+{
+    insertion_number(insert::fresh(index, key_length, expression))
+}
+
+// Audits an index: 24, 25, or 0 where it is sound.
+#[no_mangle]
+pub extern "C" fn gl_index_audit(index: &[u8]) -> u32
+    ensures { λ r. ⌜ Audited (now (index .entry)) r ⌝ }
+{
+    audit::audit(index)
+}
+
+// Looks a key up: its record, and the pages visited, which an absent key has too.
+#[no_mangle]
+pub extern "C" fn gl_index_lookup(
+    index: &[u8],
+    key: &[u8],
+    number: &mut u32,
+    pages: &mut u32,
+) -> u32
+    ensures { λ r. ⌜ lookupOut (lookupRule (now (index .entry)) (now (key .entry))) (found (now (number .entry)) (now (pages .entry))) ≡ out r (found (now (number .exit)) (now (pages .exit))) ⌝ }
+{
+    let answer = lookup::lookup(index, key);
+    match answer {
+        lookup::Answer::Found(at, visited) => {
+            *number = at.0;
+            *pages = visited;
+            0
+        }
+        lookup::Answer::Absent(searched) => {
+            *pages = searched;
+            ABSENT
+        }
+        lookup::Answer::Refused(refusal) => refusal,
+    }
+}
+
+// Inserts a key with its record's number.
+#[no_mangle]
+pub extern "C" fn gl_index_insert(index: &mut [u8], key: &[u8], number: u32) -> u32
+    ensures { λ r. ⌜ insertionOut (insertRule (now (index .entry)) (now (key .entry)) number) ≡ out r (now (index .exit)) ⌝ }
+{
+    insertion_number(insert::insert(index, key, RecordNumber(number)))
 }

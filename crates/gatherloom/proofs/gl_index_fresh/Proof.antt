@@ -1,0 +1,20 @@
+-- `gatherloom::gl_index_fresh` meets its contract: the buffer is the one that the library left, and the answer the number of the library's. Assumes nothing.
+use borrow.Author.Needs.{needs}
+use Rattle.gatherloom.proofs.gl_index_fresh.Statement.{statement}
+use Rattle.gatherloom.proofs.gl_index_fresh.Tie as tie
+
+fresh-requires : tie.Need-fresh-requires
+fresh-requires c κs = search needs
+
+insertion-number-requires : tie.Need-insertion-number-requires
+insertion-number-requires c κs = search needs
+
+same-length : tie.Need-same-length
+same-length c = search needs
+
+returns : tie.Need-returns
+returns c = rw (c .before .before .before .fresh .ensures, c .insertion-number .ensures)
+
+pub gl-index-fresh-spec : {M : Type 1} → statement M
+gl-index-fresh-spec =
+    tie.close (tie.spec fresh-requires insertion-number-requires same-length returns)

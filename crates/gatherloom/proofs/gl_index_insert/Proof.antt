@@ -1,0 +1,20 @@
+-- `gatherloom::gl_index_insert` meets its contract: the buffer is the one that the library left, and the answer the number of the library's. Assumes nothing.
+use borrow.Author.Needs.{needs}
+use Rattle.gatherloom.proofs.gl_index_insert.Statement.{statement}
+use Rattle.gatherloom.proofs.gl_index_insert.Tie as tie
+
+insert-requires : tie.Need-insert-requires
+insert-requires c κs = search needs
+
+insertion-number-requires : tie.Need-insertion-number-requires
+insertion-number-requires c κs = search needs
+
+same-length : tie.Need-same-length
+same-length c = search needs
+
+returns : tie.Need-returns
+returns c = rw (c .before .before .before .insert .ensures, c .insertion-number .ensures)
+
+pub gl-index-insert-spec : {M : Type 1} → statement M
+gl-index-insert-spec =
+    tie.close (tie.spec insert-requires insertion-number-requires same-length returns)

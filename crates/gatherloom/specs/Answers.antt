@@ -1,0 +1,126 @@
+-- Rules: what each call hands to C: the answer's number, and what its out-parameters or its lent buffer hold after it. "An out-parameter keeps what it held
+-- whenever the answer is not 0, and so does every lent buffer": the last argument of a definition is what was there.
+use Prim.Native.Nat.{ℕ}
+use mathlib.Core.Bool.{Bool, true, false}
+use mathlib.Core.List.{List}
+use lib.IntN.{ℤ}
+use Rattle.calendar.specs.declared.Date.{Date}
+use Rattle.calendar.specs.declared.DateAnswer.{DateAnswer}
+use Rattle.calendar.specs.declared.DateAnswer.the-variants as date
+use Rattle.numeral.specs.Writing.{Left}
+use Rattle.numeral.specs.declared.Number.{Number}
+use Rattle.numeral.specs.declared.Number.the-variants as number
+use Rattle.numeral.specs.declared.Writing.{Writing}
+use Rattle.numeral.specs.declared.Writing.the-variants as writing
+use Rattle.table.specs.declared.Checked.{Checked}
+use Rattle.table.specs.declared.Checked.the-variants as table
+use Rattle.cell.specs.Codes.{numberCode, dateCode, logicalCode, textCode}
+use Rattle.cell.specs.declared.Logical.{Logical}
+use Rattle.cell.specs.declared.Logical.the-variants as logical
+use Rattle.cell.specs.declared.TextPlace.{TextPlace}
+use Rattle.cell.specs.declared.TextPlace.the-variants as text
+use Rattle.lookup.specs.Lookup.{answerNumber, answerRecord, answerPages}
+use Rattle.lookup.specs.declared.Answer.{Answer}
+use Rattle.insert.specs.Calls.{Inserted, insertionNumber}
+
+-- an answer, and what is held after it
+pub record Out (A : Type 0) : Type 0 where
+  pub answer : ℕ
+  pub held : A
+
+abbrev pub out : {A : Type 0} → ℕ → A → Out A
+out answer held = record { answer = answer; held = held }
+
+-- ---- the table
+
+-- records, fields and record_length
+pub record Sizes : Type 0 where
+  pub records : ℕ
+  pub fields : ℕ
+  pub recordLength : ℕ
+
+abbrev pub sizes : ℕ → ℕ → ℕ → Sizes
+sizes records fields recordLength = record { records = records; fields = fields; recordLength = recordLength }
+
+unfoldable pub shapeOut : Checked → Sizes → Out Sizes
+shapeOut (table.Good s) old = out 0 (sizes (s .records) (s .fields) (s .«record_length»))
+shapeOut (table.Refused n) old = out n old
+
+-- ---- one field of one record: "256 for an empty field"
+
+abbrev pub numberHeld : Number → ℤ → ℤ
+numberHeld (number.Value v) old = v
+numberHeld number.Empty old = old
+numberHeld (number.Refused n) old = old
+
+unfoldable pub numberOut : Number → ℤ → Out ℤ
+numberOut answer old = out (numberCode answer) (numberHeld answer old)
+
+-- year, month and day
+abbrev pub dayOf : ℕ → ℕ → ℕ → Date
+dayOf year month day = record { year = year; month = month; day = day }
+
+abbrev pub dateHeld : DateAnswer → Date → Date
+dateHeld (date.Value d) old = d
+dateHeld date.Empty old = old
+dateHeld (date.Refused n) old = old
+
+unfoldable pub dateOut : DateAnswer → Date → Out Date
+dateOut answer old = out (dateCode answer) (dateHeld answer old)
+
+-- 1 for T, 0 for F
+abbrev pub logicalNumber : Bool → ℕ
+logicalNumber true = 1
+logicalNumber false = 0
+
+abbrev pub logicalHeld : Logical → ℕ → ℕ
+logicalHeld (logical.Value v) old = logicalNumber v
+logicalHeld logical.Empty old = old
+logicalHeld (logical.Refused n) old = old
+
+unfoldable pub logicalOut : Logical → ℕ → Out ℕ
+logicalOut answer old = out (logicalCode answer) (logicalHeld answer old)
+
+-- "A C field's part of the table, or an M field's part of the memo file: where it starts and how long it is"
+pub record Part : Type 0 where
+  pub start : ℕ
+  pub size : ℕ
+
+abbrev pub part : ℕ → ℕ → Part
+part start size = record { start = start; size = size }
+
+abbrev pub textHeld : TextPlace → Part → Part
+textHeld (text.Table start size) old = part start size
+textHeld (text.Memo start size) old = part start size
+textHeld text.Empty old = old
+textHeld (text.Refused n) old = old
+
+unfoldable pub textOut : TextPlace → Part → Out Part
+textOut answer old = out (textCode answer) (textHeld answer old)
+
+-- ---- numeric text: the buffer after a write is the rule's
+
+abbrev pub writingNumber : Writing → ℕ
+writingNumber writing.Written = 0
+writingNumber (writing.Refused n) = n
+
+abbrev pub writingOut : Left → Out (List ℕ)
+writingOut left = out (writingNumber (left .answer)) (left .after)
+
+-- ---- the index
+
+-- record and pages
+pub record Found : Type 0 where
+  pub number : ℕ
+  pub pages : ℕ
+
+abbrev pub found : ℕ → ℕ → Found
+found number pages = record { number = number; pages = pages }
+
+-- "0 sets both; 257 sets pages alone"
+unfoldable pub lookupOut : Answer → Found → Out Found
+lookupOut answer old = out (answerNumber answer) (found (answerRecord answer (old .number)) (answerPages answer (old .pages)))
+
+-- the buffer after fresh and after an insertion is the rule's
+abbrev pub insertionOut : Inserted → Out (List ℕ)
+insertionOut left = out (insertionNumber (left .answer)) (left .after)

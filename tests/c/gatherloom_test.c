@@ -1,0 +1,883 @@
+/* Calls every function of the archive and compares: with document 01's examples, with the reports on other programs' tables that an independent
+   implementation worked out (crates/samples), and with that implementation's lists of calls and their index files (crates/indexes).
+   What is lent lies between canaries, and what a call may not write is compared with what it was.
+
+       gatherloom_test REPOSITORY
+
+   prints how many comparisons it made, and a line for each that differs; it exits 1 if any does. */
+#include "gatherloom.h"
+
+#include <inttypes.h>
+#include <stdarg.h>
+#include <stdio.h>
+#include <stdlib.h>
+#include <string.h>
+
+/* ---- Comparisons. */
+
+static unsigned long checks, differences;
+
+static void same(int line, const char *what, int64_t got, int64_t want)
+{
+    checks++;
+    if (got == want)
+        return;
+    differences++;
+    printf("line %d: %s is %" PRId64 ", not %" PRId64 "\n", line, what, got, want);
+}
+
+#define SAME(got, want) same(__LINE__, #got, (int64_t)(got), (int64_t)(want))
+
+static void same_bytes(int line, const char *what, const void *got, const void *want, size_t n)
+{
+    checks++;
+    if (n == 0 || memcmp(got, want, n) == 0)
+        return;
+    differences++;
+    printf("line %d: %s differs\n", line, what);
+}
+
+#define SAME_BYTES(got, want, n) same_bytes(__LINE__, #got, got, want, n)
+
+/* ---- Lent memory: bytes between canaries, with a copy of what they were. */
+
+enum { MARGIN = 64, CANARY = 0xA5 };
+
+typedef struct {
+    uint8_t *all;   /* the canaries and the bytes */
+    uint8_t *bytes; /* what is lent */
+    uint8_t *copy;  /* what it was when it was kept last */
+    size_t len;
+} lent;
+
+static void *room(size_t n)
+{
+    void *p = malloc(n);
+    if (p == NULL) {
+        puts("no memory");
+        exit(1);
+    }
+    return p;
+}
+
+static void keep(lent *l)
+{
+    memcpy(l->copy, l->bytes, l->len);
+}
+
+static lent lend(const void *bytes, size_t len)
+{
+    lent l;
+    l.len = len;
+    l.all = room(len + 2 * MARGIN);
+    l.bytes = l.all + MARGIN;
+    l.copy = room(len + 1);
+    memset(l.all, CANARY, len + 2 * MARGIN);
+    if (bytes == NULL)
+        memset(l.bytes, 0, len);
+    else
+        memcpy(l.bytes, bytes, len);
+    keep(&l);
+    return l;
+}
+
+static int margins_intact(const lent *l)
+{
+    for (size_t i = 0; i < MARGIN; i++)
+        if (l->all[i] != CANARY || l->bytes[l->len + i] != CANARY)
+            return 0;
+    return 1;
+}
+
+#define MARGINS(l) SAME(margins_intact(&(l)), 1)
+#define UNCHANGED(l) SAME_BYTES((l).bytes, (l).copy, (l).len)
+
+static void give_back(lent *l)
+{
+    free(l->all);
+    free(l->copy);
+}
+
+/* Out-parameters between canaries of their own type: [1] is lent. */
+#define OLD 77
+#define OUT(type, name) type name[3] = {CANARY, OLD, CANARY}
+#define HELD(name, want)        \
+    do {                        \
+        SAME(name[0], CANARY);  \
+        SAME(name[1], want);    \
+        SAME(name[2], CANARY);  \
+    } while (0)
+
+/* ---- Files. */
+
+static const char *repository = ".";
+
+static lent load(const char *folder, const char *name)
+{
+    char path[1024];
+    static uint8_t space[1 << 20];
+    snprintf(path, sizeof path, "%s/%s/%s", repository, folder, name);
+    FILE *f = fopen(path, "rb");
+    if (f == NULL) {
+        printf("cannot open %s\n", path);
+        exit(1);
+    }
+    size_t n = fread(space, 1, sizeof space, f);
+    fclose(f);
+    return lend(space, n);
+}
+
+/* ---- Numeric text. */
+
+static void reads(int line, const char *text, uint32_t decimals, uint32_t answer, int64_t value)
+{
+    lent l = lend(text, strlen(text));
+    OUT(int64_t, out);
+    same(line, text, gl_number_read(l.bytes, l.len, decimals, &out[1]), answer);
+    HELD(out, answer == 0 ? value : OLD);
+    UNCHANGED(l);
+    MARGINS(l);
+    give_back(&l);
+}
+
+#define READS(text, decimals, answer, value) reads(__LINE__, text, decimals, answer, value)
+
+static void test_number_read(void)
+{
+    READS("   2.150", 3, 0, 2150);
+    READS("   2,150", 3, 16, 0);
+    READS("-0.001", 3, 0, -1);
+    READS("-0.000", 3, 17, 0);
+    READS("02.150", 3, 17, 0);
+    READS("2.150 ", 3, 17, 0);
+    READS("  2150", 0, 0, 2150);
+    READS(" 9999999999999999999", 0, 18, 0);
+    READS("  999999999999999999", 0, 0, 999999999999999999);
+    READS(" -999999999999999999", 0, 0, -999999999999999999);
+    READS("        ", 3, GL_EMPTY, 0);
+    READS("  0", 0, 0, 0);
+    READS("+12", 0, 17, 0);
+    READS("- 1", 0, 17, 0);
+    READS("  -", 0, 17, 0);
+    READS(" .5", 1, 17, 0);
+    READS("1e3", 0, 17, 0);
+    READS("x,y", 0, 16, 0);
+    READS("", 0, 6, 0);
+    READS("                     ", 0, 6, 0);
+    READS("   2.150", 7, 6, 0);
+    READS("  0.000000", 16, 6, 0);
+    READS("   2.150", UINT32_MAX, 6, 0);
+}
+
+/* The text that printf gives for a value, by other means than the library's. */
+static int expected_text(char *to, size_t size, uint32_t decimals, int64_t value)
+{
+    uint64_t n = value < 0 ? 0 - (uint64_t)value : (uint64_t)value, unit = 1;
+    for (uint32_t i = 0; i < decimals; i++)
+        unit *= 10;
+    if (decimals == 0)
+        return snprintf(to, size, "%s%" PRIu64, value < 0 ? "-" : "", n);
+    return snprintf(to, size, "%s%" PRIu64 ".%0*" PRIu64, value < 0 ? "-" : "", n / unit, (int)decimals, n % unit);
+}
+
+static uint32_t expected_write(char *to, size_t width, uint32_t decimals, int64_t value)
+{
+    char text[64];
+    if (width < 1 || width > 20 || (decimals > 0 && (decimals > 15 || decimals + 2 > width)))
+        return 6;
+    if (value > 999999999999999999 || value < -999999999999999999)
+        return 18;
+    int n = expected_text(text, sizeof text, decimals, value);
+    if ((size_t)n > width)
+        return 19;
+    snprintf(to, 64, "%*s", (int)width, text);
+    return 0;
+}
+
+/* Writes a value and reads it back. */
+static void writes(size_t width, uint32_t decimals, int64_t value)
+{
+    char text[64];
+    uint32_t answer = expected_write(text, width, decimals, value);
+    lent l = lend(NULL, width);
+    memset(l.bytes, '#', width);
+    keep(&l);
+    SAME(gl_number_write(l.bytes, width, decimals, value), answer);
+    MARGINS(l);
+    if (answer == 0) {
+        SAME_BYTES(l.bytes, text, width);
+        OUT(int64_t, back);
+        SAME(gl_number_read(l.bytes, width, decimals, &back[1]), 0);
+        HELD(back, value);
+    } else {
+        UNCHANGED(l);
+    }
+    give_back(&l);
+}
+
+static void test_number_write(void)
+{
+    static const int64_t values[] = {0, 1, -1, 9, 10, 99, 2150, -2150, 1000000, 123456789, -9999999999, 999999999999999999,
+                                     -999999999999999999, 1000000000000000000, -1000000000000000000, INT64_MAX, INT64_MIN};
+    for (size_t v = 0; v < sizeof values / sizeof *values; v++)
+        for (size_t width = 0; width <= 22; width++)
+            for (uint32_t decimals = 0; decimals <= 17; decimals++)
+                writes(width, decimals, values[v]);
+    writes(8, UINT32_MAX, 1);
+}
+
+/* ---- Tables made here: fields of the given types and lengths, and one record. */
+
+typedef struct { char kind; uint8_t length; uint8_t decimals; } form;
+
+static size_t make_table(uint8_t *to, uint8_t kind, const form *forms, size_t count, const char *record)
+{
+    size_t head = 33 + 32 * count, size = strlen(record);
+    memset(to, 0, head);
+    to[0] = kind;
+    to[1] = 124, to[2] = 2, to[3] = 29;
+    to[4] = 1;
+    to[8] = head & 255, to[9] = head >> 8;
+    to[10] = size & 255, to[11] = size >> 8;
+    for (size_t i = 0; i < count; i++) {
+        uint8_t *d = to + 32 + 32 * i;
+        d[0] = 'F', d[1] = '0' + i;
+        d[11] = forms[i].kind, d[16] = forms[i].length, d[17] = forms[i].decimals;
+    }
+    to[head - 1] = 0x0D;
+    memcpy(to + head, record, size);
+    to[head + size] = 0x1A;
+    return head + size + 1;
+}
+
+static void reads_date(const char *record, uint32_t answer, uint32_t y, uint32_t m, uint32_t d)
+{
+    static const form one[] = {{'D', 8, 0}};
+    uint8_t bytes[256];
+    lent t = lend(bytes, make_table(bytes, 0x03, one, 1, record));
+    OUT(uint32_t, year);
+    OUT(uint32_t, month);
+    OUT(uint32_t, day);
+    SAME(gl_read_date(t.bytes, t.len, 1, 1, &year[1], &month[1], &day[1]), answer);
+    HELD(year, answer == 0 ? y : OLD);
+    HELD(month, answer == 0 ? m : OLD);
+    HELD(day, answer == 0 ? d : OLD);
+    UNCHANGED(t);
+    MARGINS(t);
+    give_back(&t);
+}
+
+static void test_dates(void)
+{
+    reads_date(" 20000229", 0, 2000, 2, 29);
+    reads_date(" 19000229", 20, 0, 0, 0);
+    reads_date(" 20230229", 20, 0, 0, 0);
+    reads_date(" 00010101", 0, 1, 1, 1);
+    reads_date("*99991231", 0, 9999, 12, 31);
+    reads_date(" 00000101", 20, 0, 0, 0);
+    reads_date(" 2000 229", 20, 0, 0, 0);
+    reads_date("         ", GL_EMPTY, 0, 0, 0);
+    reads_date("?20000229", 15, 0, 0, 0);
+}
+
+static void reads_logical(const char *record, uint32_t answer, uint8_t value)
+{
+    static const form one[] = {{'L', 1, 0}};
+    uint8_t bytes[256];
+    lent t = lend(bytes, make_table(bytes, 0x03, one, 1, record));
+    OUT(uint8_t, out);
+    SAME(gl_read_logical(t.bytes, t.len, 1, 1, &out[1]), answer);
+    HELD(out, answer == 0 ? value : OLD);
+    UNCHANGED(t);
+    give_back(&t);
+}
+
+static void test_logicals(void)
+{
+    reads_logical(" T", 0, 1);
+    reads_logical(" F", 0, 0);
+    reads_logical("*T", 0, 1);
+    reads_logical("  ", GL_EMPTY, 0);
+    reads_logical(" t", 20, 0);
+    reads_logical("xT", 15, 0);
+}
+
+/* A C field and an M field; the memo file has a text of 5 bytes in block 16 of 64 bytes. */
+static void test_text_parts(void)
+{
+    static const form two[] = {{'C', 4, 0}, {'M', 10, 0}};
+    uint8_t bytes[256], file[2048] = {0};
+    lent t = lend(bytes, make_table(bytes, 0xF5, two, 2, " a  b        16"));
+    file[3] = 17, file[7] = 64;
+    file[1024 + 3] = 1, file[1024 + 7] = 5;
+    lent m = lend(file, sizeof file);
+    OUT(uint64_t, start);
+    OUT(uint64_t, length);
+    SAME(gl_text_part(t.bytes, t.len, m.bytes, m.len, 1, 1, &start[1], &length[1]), 0);
+    HELD(start, 33 + 64 + 1);
+    HELD(length, 4);
+    SAME(gl_text_part(t.bytes, t.len, m.bytes, m.len, 1, 2, &start[1], &length[1]), 0);
+    HELD(start, 1032);
+    HELD(length, 5);
+    start[1] = length[1] = OLD;
+    SAME(gl_text_part(t.bytes, t.len, m.bytes, 0, 1, 2, &start[1], &length[1]), 22);
+    m.bytes[1024 + 3] = 0;
+    SAME(gl_text_part(t.bytes, t.len, m.bytes, m.len, 1, 2, &start[1], &length[1]), 23);
+    m.bytes[1024 + 7] = 200;
+    SAME(gl_text_part(t.bytes, t.len, m.bytes, m.len, 1, 2, &start[1], &length[1]), 21);
+    memset(t.bytes + 97 + 5, ' ', 10);
+    SAME(gl_text_part(t.bytes, t.len, m.bytes, m.len, 1, 2, &start[1], &length[1]), GL_EMPTY);
+    HELD(start, OLD);
+    HELD(length, OLD);
+    /* a C field's call does not look at the memo file */
+    SAME(gl_text_part(t.bytes, t.len, m.bytes, 0, 1, 1, &start[1], &length[1]), 0);
+    HELD(length, 4);
+    MARGINS(t);
+    MARGINS(m);
+    give_back(&t);
+    give_back(&m);
+}
+
+/* ---- What every call on a table answers, for one record and one field. */
+
+typedef struct { uint32_t number, date, logical, text; } answers;
+
+static answers read_all(const lent *t, uint32_t record, uint32_t field)
+{
+    answers a;
+    OUT(int64_t, value);
+    OUT(uint32_t, year);
+    OUT(uint32_t, month);
+    OUT(uint32_t, day);
+    OUT(uint8_t, logical);
+    OUT(uint64_t, start);
+    OUT(uint64_t, length);
+    const uint8_t none = 0;
+    a.number = gl_read_number(t->bytes, t->len, record, field, &value[1]);
+    a.date = gl_read_date(t->bytes, t->len, record, field, &year[1], &month[1], &day[1]);
+    a.logical = gl_read_logical(t->bytes, t->len, record, field, &logical[1]);
+    a.text = gl_text_part(t->bytes, t->len, &none, 0, record, field, &start[1], &length[1]);
+    if (a.number != 0) HELD(value, OLD);
+    if (a.date != 0) HELD(year, OLD);
+    if (a.date != 0) HELD(month, OLD);
+    if (a.date != 0) HELD(day, OLD);
+    if (a.logical != 0) HELD(logical, OLD);
+    if (a.text != 0) HELD(start, OLD);
+    if (a.text != 0) HELD(length, OLD);
+    return a;
+}
+
+static void all_answer(const lent *t, uint32_t record, uint32_t field, uint32_t want)
+{
+    answers a = read_all(t, record, field);
+    SAME(a.number, want);
+    SAME(a.date, want);
+    SAME(a.logical, want);
+    SAME(a.text, want);
+}
+
+/* Refusals 11, 12, 13 and 15, in this order. */
+static void test_read_order(void)
+{
+    lent t = load("crates/samples/data", "shp_point.dbf");
+    all_answer(&t, 0, 0, 11);
+    all_answer(&t, 6, 9, 11);
+    all_answer(&t, UINT32_MAX, 1, 11);
+    all_answer(&t, 1, 0, 12);
+    all_answer(&t, 5, 5, 12);
+    answers a = read_all(&t, 1, 2);
+    SAME(a.number, 0);
+    SAME(a.date, 13);
+    SAME(a.logical, 13);
+    SAME(a.text, 13);
+    t.bytes[161] = 'x';
+    a = read_all(&t, 1, 3);
+    SAME(a.number, 13);
+    SAME(a.date, 15);
+    SAME(a.logical, 13);
+    SAME(a.text, 13);
+    give_back(&t);
+}
+
+/* Where a table is refused, every call answers the check's number and leaves what it was lent. */
+static void refused_alike(const lent *t, uint32_t check)
+{
+    OUT(uint32_t, records);
+    OUT(uint32_t, fields);
+    OUT(uint32_t, length);
+    OUT(uint32_t, record);
+    gl_position position = {OLD};
+    gl_field_entry entry, before;
+    memset(&entry, CANARY, sizeof entry);
+    before = entry;
+    SAME(gl_table_shape(t->bytes, t->len, &records[1], &fields[1], &length[1]), check);
+    SAME(gl_fields(t->bytes, t->len, &entry, 1), check);
+    SAME(gl_walk(t->bytes, t->len, &position, &record[1]), check);
+    HELD(records, OLD);
+    HELD(fields, OLD);
+    HELD(length, OLD);
+    HELD(record, OLD);
+    SAME(position.passed, OLD);
+    SAME_BYTES(&entry, &before, sizeof entry);
+    all_answer(t, 0, 0, check);
+}
+
+static void test_damaged_table(const char *name)
+{
+    static const uint8_t masks[] = {0x01, 0x20, 0x80, 0xFF};
+    lent t = load("crates/samples/data", name);
+    for (size_t i = 0; i < t.len; i++)
+        for (size_t m = 0; m < sizeof masks; m++) {
+            t.bytes[i] ^= masks[m];
+            keep(&t);
+            uint32_t check = gl_table_check(t.bytes, t.len);
+            if (check != 0) {
+                SAME(check <= 10, 1);
+                refused_alike(&t, check);
+            }
+            UNCHANGED(t);
+            t.bytes[i] ^= masks[m];
+        }
+    for (size_t n = 0; n < t.len - 1; n++)
+        SAME(gl_table_check(t.bytes, n) != 0, 1);
+    SAME(gl_table_check(t.bytes, 0), 1);
+    SAME(gl_table_check(t.bytes, 31), 1);
+    MARGINS(t);
+    give_back(&t);
+}
+
+static void test_fields(void)
+{
+    lent t = load("crates/samples/data", "shp_point.dbf");
+    gl_field_entry entries[6], before[6];
+    memset(entries, CANARY, sizeof entries);
+    memcpy(before, entries, sizeof entries);
+    for (size_t n = 0; n < 4; n++)
+        SAME(gl_fields(t.bytes, t.len, entries, n), 14);
+    SAME_BYTES(entries, before, sizeof entries);
+    SAME(gl_fields(t.bytes, t.len, entries, 4), 0);
+    SAME_BYTES(entries[0].name, "BARCODE\0\0\0", 11);
+    SAME_BYTES(entries[3].name, "OK\0\0\0\0\0\0\0\0", 11);
+    SAME(entries[1].kind, 'N');
+    SAME(entries[1].length, 8);
+    SAME(entries[1].decimals, 3);
+    SAME_BYTES(entries + 4, before + 4, 2 * sizeof *entries);
+    SAME(gl_fields(t.bytes, t.len, entries, 6), 0);
+    SAME_BYTES(entries + 4, before + 4, 2 * sizeof *entries);
+    UNCHANGED(t);
+    MARGINS(t);
+    give_back(&t);
+}
+
+/* Record 4 of the table is deleted; record 2 is made bad. */
+static void test_walk(void)
+{
+    lent t = load("crates/samples/data", "shp_point.dbf");
+    gl_position position = {0};
+    OUT(uint32_t, record);
+    t.bytes[161 + 28] = 'x';
+    keep(&t);
+    SAME(gl_walk(t.bytes, t.len, &position, &record[1]), 0);
+    HELD(record, 1);
+    SAME(position.passed, 1);
+    SAME(gl_walk(t.bytes, t.len, &position, &record[1]), 15);
+    HELD(record, 1);
+    SAME(position.passed, 2);
+    SAME(gl_walk(t.bytes, t.len, &position, &record[1]), 0);
+    HELD(record, 3);
+    SAME(gl_walk(t.bytes, t.len, &position, &record[1]), 0);
+    HELD(record, 5);
+    SAME(position.passed, 5);
+    SAME(gl_walk(t.bytes, t.len, &position, &record[1]), GL_DONE);
+    HELD(record, 5);
+    SAME(position.passed, 5);
+    position.passed = UINT32_MAX;
+    SAME(gl_walk(t.bytes, t.len, &position, &record[1]), GL_DONE);
+    SAME(position.passed, UINT32_MAX);
+    /* with only a deleted record left, the position stays */
+    t.bytes[161 + 4 * 28] = '*';
+    position.passed = 3;
+    SAME(gl_walk(t.bytes, t.len, &position, &record[1]), GL_DONE);
+    SAME(position.passed, 3);
+    HELD(record, 5);
+    MARGINS(t);
+    give_back(&t);
+}
+
+/* ---- The reports on other programs' tables, made through C, against crates/samples/stdout. */
+
+static char report[1 << 18];
+static size_t reported;
+
+static void print(const char *how, ...)
+{
+    va_list args;
+    va_start(args, how);
+    reported += (size_t)vsnprintf(report + reported, sizeof report - reported, how, args);
+    va_end(args);
+}
+
+static void print_text(const uint8_t *text, uint64_t n)
+{
+    print(" 0 \"");
+    for (uint64_t i = 0; i < n; i++)
+        if (text[i] < 0x20 || text[i] > 0x7E || text[i] == '"' || text[i] == '\\')
+            print("\\x%02X", text[i]);
+        else
+            print("%c", text[i]);
+    print("\"");
+}
+
+static void print_other(uint32_t answer)
+{
+    if (answer == GL_EMPTY)
+        print(" empty");
+    else
+        print(" %" PRIu32, answer);
+}
+
+static void print_value(const lent *t, const lent *m, uint32_t i, uint32_t j, uint8_t kind)
+{
+    int64_t value = 0;
+    uint32_t year = 0, month = 0, day = 0, answer;
+    uint8_t logical = 0;
+    uint64_t start = 0, length = 0;
+    if (kind == 'N') {
+        if ((answer = gl_read_number(t->bytes, t->len, i, j, &value)) == 0)
+            print(" 0 %" PRId64, value);
+    } else if (kind == 'D') {
+        if ((answer = gl_read_date(t->bytes, t->len, i, j, &year, &month, &day)) == 0)
+            print(" 0 %04" PRIu32 "%02" PRIu32 "%02" PRIu32, year, month, day);
+    } else if (kind == 'L') {
+        if ((answer = gl_read_logical(t->bytes, t->len, i, j, &logical)) == 0)
+            print(logical == 1 ? " 0 T" : " 0 F");
+    } else if ((answer = gl_text_part(t->bytes, t->len, m->bytes, m->len, i, j, &start, &length)) == 0) {
+        const lent *whole = kind == 'C' ? t : m;
+        SAME(start <= whole->len && length <= whole->len - start, 1);
+        print_text(whole->bytes + start, length);
+    }
+    if (answer != 0)
+        print_other(answer);
+}
+
+/* 'l' for each record that a walk hands out, 'b' for each that it refuses, 'd' for the others. */
+static void walk_marks(const lent *t, char *marks, uint32_t records)
+{
+    gl_position position = {0};
+    uint32_t record = 0, answer;
+    memset(marks, 'd', records + 1);
+    while ((answer = gl_walk(t->bytes, t->len, &position, &record)) != GL_DONE) {
+        SAME(answer == 0 || answer == 15, 1);
+        SAME(position.passed >= 1 && position.passed <= records, 1);
+        if (answer == 0)
+            SAME(position.passed, record);
+        marks[position.passed] = answer == 0 ? 'l' : 'b';
+    }
+}
+
+static void print_table(const lent *t, const lent *m)
+{
+    static char marks[1 << 16];
+    uint32_t records = 0, fields = 0, length = 0, check = gl_table_check(t->bytes, t->len);
+    gl_field_entry entries[128];
+    print("table %" PRIu32 "\n", check);
+    if (check != 0)
+        return;
+    SAME(gl_table_shape(t->bytes, t->len, &records, &fields, &length), 0);
+    print("shape %" PRIu32 " %" PRIu32 " %" PRIu32 "\n", records, fields, length);
+    SAME(gl_fields(t->bytes, t->len, entries, 128), 0);
+    for (uint32_t j = 1; j <= fields; j++)
+        print("field %" PRIu32 " %s %c %d %d\n", j, (const char *)entries[j - 1].name, entries[j - 1].kind, entries[j - 1].length, entries[j - 1].decimals);
+    walk_marks(t, marks, records);
+    for (uint32_t i = 1; i <= records; i++) {
+        print("record %" PRIu32 " %s\n", i, marks[i] == 'l' ? "live" : marks[i] == 'd' ? "deleted" : "15");
+        for (uint32_t j = 1; j <= fields && marks[i] != 'b'; j++) {
+            print("value %" PRIu32 " %" PRIu32, i, j);
+            print_value(t, m, i, j, entries[j - 1].kind);
+            print("\n");
+        }
+    }
+}
+
+static void test_samples(void)
+{
+    static const char *const names[] = {"shp_point", "shp_comma", "xbase_plain", "xbase_f5", "fpc_fox", "fpc_l3",
+                                        "gdal", "pydbf_db3", "pydbf_fp", "xbase_83", "xbase_s20"};
+    for (size_t k = 0; k < sizeof names / sizeof *names; k++) {
+        char file[64];
+        snprintf(file, sizeof file, "%s.dbf", names[k]);
+        lent t = load("crates/samples/data", file), m = lend("", 0);
+        if (strcmp(names[k], "xbase_f5") == 0 || strcmp(names[k], "fpc_fox") == 0) {
+            give_back(&m);
+            snprintf(file, sizeof file, "%s.fpt", names[k]);
+            m = load("crates/samples/data", file);
+        }
+        print("== %s\n", names[k]);
+        print_table(&t, &m);
+        UNCHANGED(t);
+        UNCHANGED(m);
+        MARGINS(t);
+        MARGINS(m);
+        give_back(&t);
+        give_back(&m);
+    }
+    lent want = load("crates/samples", "stdout");
+    SAME(reported, want.len);
+    SAME_BYTES(report, want.bytes, want.len);
+    give_back(&want);
+}
+
+/* ---- The index. */
+
+static void looks_up(int line, const lent *index, const void *key, size_t n, uint32_t answer, uint32_t number, uint32_t visited)
+{
+    OUT(uint32_t, record);
+    OUT(uint32_t, pages);
+    same(line, "lookup", gl_index_lookup(index->bytes, index->len, key, n, &record[1], &pages[1]), answer);
+    HELD(record, answer == 0 ? number : OLD);
+    HELD(pages, answer == 0 || answer == GL_ABSENT ? visited : OLD);
+}
+
+#define LOOKS_UP(index, key, n, answer, number, visited) looks_up(__LINE__, index, key, n, answer, number, visited)
+
+static void put32(uint8_t *to, uint32_t n)
+{
+    to[0] = n & 255, to[1] = n >> 8 & 255, to[2] = n >> 16 & 255, to[3] = n >> 24;
+}
+
+/* A page of keys of one byte, each with its number; the links are page offsets, 0 for none. */
+static void put_page(uint8_t *page, uint8_t attribute, uint32_t left, uint32_t right, const char *keys, const uint32_t *numbers)
+{
+    page[0] = attribute;
+    page[2] = (uint8_t)strlen(keys);
+    put32(page + 4, left == 0 ? UINT32_MAX : left);
+    put32(page + 8, right == 0 ? UINT32_MAX : right);
+    for (size_t i = 0; keys[i] != 0; i++) {
+        uint8_t *entry = page + 12 + 5 * i;
+        entry[0] = (uint8_t)keys[i];
+        entry[3] = numbers[i] >> 8 & 255, entry[4] = numbers[i] & 255;
+    }
+}
+
+/* The tree in document 000: F is found as 6 after 3 pages; I is absent after 1. */
+static void test_tree_000(void)
+{
+    static const uint32_t top[] = {1024, 1536}, left[] = {2048, 2560}, right[] = {3072}, records[] = {1, 2, 3, 4, 5, 6, 7, 8};
+    lent index = lend(NULL, 3584);
+    uint8_t *b = index.bytes;
+    put32(b, 512), put32(b + 4, UINT32_MAX), put32(b + 8, 3584);
+    b[12] = 1, b[14] = 1;
+    put_page(b + 512, 1, 0, 0, "FH", top);
+    put_page(b + 1024, 0, 0, 1536, "CF", left);
+    put_page(b + 1536, 0, 1024, 0, "H", right);
+    put_page(b + 2048, 2, 0, 2560, "ABC", records);
+    put_page(b + 2560, 2, 2048, 3072, "DEF", records + 3);
+    put_page(b + 3072, 2, 2560, 0, "GH", records + 6);
+    keep(&index);
+    SAME(gl_index_audit(index.bytes, index.len), 0);
+    LOOKS_UP(&index, "F", 1, 0, 6, 3);
+    LOOKS_UP(&index, "I", 1, GL_ABSENT, 0, 1);
+    LOOKS_UP(&index, "FF", 2, 27, 0, 0);
+    LOOKS_UP(&index, "", 0, 27, 0, 0);
+    UNCHANGED(index);
+    b[1024 + 3] = 255;
+    SAME(gl_index_audit(index.bytes, index.len), 25);
+    LOOKS_UP(&index, "A", 1, 25, 0, 0);
+    b[14] = 0;
+    SAME(gl_index_audit(index.bytes, index.len), 24);
+    LOOKS_UP(&index, "A", 1, 24, 0, 0);
+    MARGINS(index);
+    give_back(&index);
+}
+
+static void refused_fresh(size_t len, uint32_t k, const void *expression, size_t n, uint32_t answer)
+{
+    lent index = lend(NULL, len);
+    memset(index.bytes, 0x5C, len);
+    keep(&index);
+    SAME(gl_index_fresh(index.bytes, index.len, k, expression, n), answer);
+    UNCHANGED(index);
+    MARGINS(index);
+    give_back(&index);
+}
+
+static void test_fresh(void)
+{
+    uint8_t long_text[221];
+    memset(long_text, 'x', sizeof long_text);
+    refused_fresh(2048, 0, "BARCODE", 7, 27);
+    refused_fresh(2048, 101, "BARCODE", 7, 27);
+    refused_fresh(2048, UINT32_MAX, "", 0, 27);
+    refused_fresh(2048, 10, "", 0, 24);
+    refused_fresh(2048, 10, long_text, 221, 24);
+    refused_fresh(2048, 10, "BAR\x1F", 4, 24);
+    refused_fresh(2048, 10, "BAR\x7F", 4, 24);
+    refused_fresh(1023, 10, "BARCODE", 7, 30);
+    refused_fresh(0, 10, "BARCODE", 7, 30);
+    lent index = lend(NULL, 1100);
+    memset(index.bytes, 0x5C, index.len);
+    keep(&index);
+    SAME(gl_index_fresh(index.bytes, index.len, 10, long_text, 220), 0);
+    SAME_BYTES(index.bytes, "\0\2\0\0\xFF\xFF\xFF\xFF\0\4\0\0\12\0\1\0xxxx", 20);
+    SAME(index.bytes[235], 'x');
+    SAME(index.bytes[236], 0);
+    SAME_BYTES(index.bytes + 512, "\3\0\0\0\xFF\xFF\xFF\xFF\xFF\xFF\xFF\xFF\0\0\0\0", 16);
+    SAME_BYTES(index.bytes + 1024, index.copy + 1024, 76);
+    SAME(gl_index_audit(index.bytes, index.len), 0);
+    LOOKS_UP(&index, "0123456789", 10, GL_ABSENT, 0, 1);
+    MARGINS(index);
+    give_back(&index);
+}
+
+/* Five ascending keys of 100 bytes; in a buffer of 1,024 the fifth has no room. */
+static void test_five_keys(size_t len, uint32_t fifth)
+{
+    uint8_t key[100];
+    lent index = lend(NULL, len);
+    SAME(gl_index_fresh(index.bytes, len, 100, (const uint8_t *)"KEY", 3), 0);
+    memset(key, 'a', sizeof key);
+    for (uint32_t i = 1; i <= 5; i++) {
+        key[99] = (uint8_t)('0' + i);
+        keep(&index);
+        SAME(gl_index_insert(index.bytes, len, key, 99, i), 27);
+        SAME(gl_index_insert(index.bytes, len, key, 100, 0), 28);
+        UNCHANGED(index);
+        SAME(gl_index_insert(index.bytes, len, key, 100, i), i < 5 ? 0 : fifth);
+    }
+    if (fifth != 0)
+        UNCHANGED(index);
+    key[99] = '4', keep(&index);
+    SAME(gl_index_insert(index.bytes, len, key, 100, 9), 29);
+    UNCHANGED(index);
+    SAME(gl_index_audit(index.bytes, len), 0);
+    if (fifth == 0) {
+        const uint8_t *b = index.bytes;
+        SAME_BYTES(b, "\0\6\0\0\xFF\xFF\xFF\xFF\0\10\0\0", 12);
+        SAME(b[512 + 2], 3);
+        SAME(b[1024 + 2], 2);
+        SAME(b[1536], 1);
+        SAME(b[1536 + 2], 2);
+        SAME(b[1536 + 12 + 99], '3');
+        SAME(b[1536 + 12 + 104 + 99], '5');
+        LOOKS_UP(&index, key, 100, 0, 4, 2);
+    }
+    index.bytes[512] = 0, keep(&index);
+    SAME(gl_index_insert(index.bytes, len, key, 100, 9), 25);
+    index.bytes[4] = 0, keep(&index);
+    SAME(gl_index_insert(index.bytes, len, key, 100, 9), 24);
+    UNCHANGED(index);
+    MARGINS(index);
+    give_back(&index);
+}
+
+/* ---- Lists of calls with their answers, and the index file after the last. */
+
+static size_t hex(const char *word, uint8_t *to)
+{
+    size_t n = 0;
+    unsigned byte;
+    if (strcmp(word, "-") == 0)
+        return 0;
+    while (sscanf(word + 2 * n, "%2x", &byte) == 1)
+        to[n++] = (uint8_t)byte;
+    return n;
+}
+
+static void call_line(lent *index, char *line)
+{
+    static char word[1024];
+    static uint8_t bytes[512];
+    uint32_t a = 0, b = 0, c = 0;
+    keep(index);
+    if (line[0] == 'f' && sscanf(line, "f %" SCNu32 " %1023s %" SCNu32, &a, word, &b) == 3) {
+        SAME(gl_index_fresh(index->bytes, index->len, a, bytes, hex(word, bytes)), b);
+        if (b != 0) UNCHANGED(*index);
+    } else if (line[0] == 'i' && sscanf(line, "i %1023s %" SCNu32 " %" SCNu32, word, &a, &b) == 3) {
+        SAME(gl_index_insert(index->bytes, index->len, bytes, hex(word, bytes), a), b);
+        if (b != 0) UNCHANGED(*index);
+    } else if (line[0] == 'l' && sscanf(line, "l %1023s %" SCNu32 " %" SCNu32 " %" SCNu32, word, &a, &b, &c) == 4) {
+        size_t n = hex(word, bytes);
+        LOOKS_UP(index, bytes, n, a, b, c);
+        UNCHANGED(*index);
+    } else if (line[0] == 'a' && sscanf(line, "a %" SCNu32, &a) == 1) {
+        SAME(gl_index_audit(index->bytes, index->len), a);
+        UNCHANGED(*index);
+    } else {
+        SAME(line[0], 0);
+    }
+}
+
+static void test_calls(const char *name, size_t len)
+{
+    char file[64], *line;
+    snprintf(file, sizeof file, "%s.calls", name);
+    lent text = load("crates/indexes/data", file), index = lend(NULL, len);
+    snprintf(file, sizeof file, "%s.idx", name);
+    lent want = load("crates/indexes/data", file);
+    text.bytes[text.len] = 0; /* its first canary */
+    for (line = strtok((char *)text.bytes, "\n"); line != NULL; line = strtok(NULL, "\n"))
+        call_line(&index, line);
+    SAME(want.len <= index.len, 1);
+    SAME_BYTES(index.bytes, want.bytes, want.len);
+    MARGINS(index);
+    give_back(&text);
+    give_back(&index);
+    give_back(&want);
+}
+
+/* An insertion refuses what the audit refuses, and leaves it. */
+static void test_damaged_index(const char *name, const char *key)
+{
+    lent index = load("crates/indexes/data", name);
+    size_t n = strlen(key);
+    for (size_t i = 0; i < index.len; i++) {
+        index.bytes[i] ^= 0x11;
+        keep(&index);
+        uint32_t audit = gl_index_audit(index.bytes, index.len);
+        uint32_t record = 0, pages = 0;
+        uint32_t answer = gl_index_lookup(index.bytes, index.len, (const uint8_t *)key, n, &record, &pages);
+        SAME(audit == 0 || audit == 24 || audit == 25, 1);
+        SAME(answer == 24, audit == 24);
+        SAME(pages <= 11, 1);
+        if (audit != 0) {
+            uint32_t inserted = gl_index_insert(index.bytes, index.len, (const uint8_t *)key, n, 1);
+            SAME(inserted == audit || (audit == 25 && inserted == 27), 1);
+        }
+        UNCHANGED(index);
+        index.bytes[i] ^= 0x11;
+    }
+    MARGINS(index);
+    give_back(&index);
+}
+
+int main(int argc, char **argv)
+{
+    if (argc > 1)
+        repository = argv[1];
+    test_number_read();
+    test_number_write();
+    test_dates();
+    test_logicals();
+    test_text_parts();
+    test_read_order();
+    test_damaged_table("shp_point.dbf");
+    test_damaged_table("xbase_f5.dbf");
+    test_fields();
+    test_walk();
+    test_samples();
+    test_tree_000();
+    test_fresh();
+    test_five_keys(2048, 0);
+    test_five_keys(1024, 30);
+    test_calls("k1_bytes", 8192);
+    test_calls("k10_ascending", 32768);
+    test_calls("k10_descending", 32768);
+    test_calls("k10_random", 32768);
+    test_calls("k46_mixed", 32768);
+    test_calls("k100_deep", 65536);
+    test_calls("k100_full", 4096);
+    test_damaged_index("k1_bytes.idx", "\x80");
+    test_damaged_index("k100_full.idx", "0123456789012345678901234567890123456789012345678901234567890123456789012345678901234567890123456789");
+    printf("%lu comparisons, %lu differences\n", checks, differences);
+    return differences == 0 ? 0 : 1;
+}
