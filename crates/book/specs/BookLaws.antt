@@ -28,7 +28,7 @@ use Rattle.book.specs.Book.{LeavesBuffer, Each, BookKept}
 use Rattle.book.specs.CallLaws.{Kept, height-is, readIndex, keeping, kept-sound, visits-levels, leaves-buffer, same-answer, same-rule, keeps, same-next}
 
 -- the first n of calls that all have a property have it
-all-take : (P : Call (List ℕ) → Type 0) (n : ℕ) (calls : Calls) → All P calls → All P (take n calls)
+pub all-take : (P : Call (List ℕ) → Type 0) (n : ℕ) (calls : Calls) → All P calls → All P (take n calls)
 all-take P zero calls a = tt
 all-take P (suc n) [] a = tt
 all-take P (suc n) (c ∷ calls) a = (a .0, all-take P n calls (a .1))

@@ -1,5 +1,8 @@
 // Indexes that an independent implementation made, audited and looked up: each accepted insertion of a list of calls must be found in the index file after
-// the list, with its record. Then damaged copies of one of them are audited. README.md beside src/ says where the files came from.
+// the list, with its record. Each list is then run as bytes on a buffer of zeros, its answers printed, and the buffer compared with the index file. Then damaged
+// copies of one of them are audited. README.md beside src/ says where the files came from.
+mod lists;
+
 ghost use Prim.Native.Nat.{_≤_};
 ghost use lib.ListN.{length};
 ghost use Rattle.io.specs.Counts.{Counts};
@@ -84,7 +87,7 @@ fn count_found(index: &[u8], calls: &[u8]) -> Tally {
     t
 }
 
-fn run(name: &[u8], index_path: &[u8], calls_path: &[u8]) {
+fn run(name: &[u8], index_path: &[u8], calls_path: &[u8], size: usize) {
     let mut index = io::large_buffer();
     let mut calls = io::large_buffer();
     let n = load(index_path, &mut index);
@@ -98,6 +101,7 @@ fn run(name: &[u8], index_path: &[u8], calls_path: &[u8]) {
     lines::print(b" found ");
     lines::print_number(t.found);
     lines::print(b"\n");
+    lists::run_on_zeros(name, &calls[..m], &index[..n], size);
 }
 
 // Audits an index with one byte set to another value.
@@ -115,21 +119,25 @@ fn damaged(name: &[u8], index_path: &[u8], at: usize, value: u8) {
 }
 
 fn main() {
-    run(b"k1_bytes", b"k1_bytes.idx", b"k1_bytes.calls");
+    run(b"k1_bytes", b"k1_bytes.idx", b"k1_bytes.calls", 8192);
     run(
         b"k10_ascending",
         b"k10_ascending.idx",
         b"k10_ascending.calls",
+        32768,
     );
     run(
         b"k10_descending",
         b"k10_descending.idx",
         b"k10_descending.calls",
+        32768,
     );
-    run(b"k10_random", b"k10_random.idx", b"k10_random.calls");
-    run(b"k46_mixed", b"k46_mixed.idx", b"k46_mixed.calls");
-    run(b"k100_deep", b"k100_deep.idx", b"k100_deep.calls");
-    run(b"k100_full", b"k100_full.idx", b"k100_full.calls");
+    run(b"k10_random", b"k10_random.idx", b"k10_random.calls", 32768);
+    run(b"k46_mixed", b"k46_mixed.idx", b"k46_mixed.calls", 32768);
+    run(b"k100_deep", b"k100_deep.idx", b"k100_deep.calls", 65536);
+    run(b"k100_full", b"k100_full.idx", b"k100_full.calls", 4096);
+    run(b"paper_five", b"paper_five.idx", b"paper_five.calls", 2048);
+    run(b"paper_full", b"paper_full.idx", b"paper_full.calls", 1024);
     damaged(b"features 0", b"k10_random.idx", 14, 0);
     damaged(b"key length 101", b"k10_random.idx", 12, 101);
     damaged(

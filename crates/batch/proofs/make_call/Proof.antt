@@ -1,0 +1,110 @@
+-- `batch::make_call` meets its contract: a whole call lies inside the list, and the call of its kind is the rule's. Assumes nothing.
+use native.Mathlib.Omega.{arith}
+use Rattle.batch.specs.EncodingLaws.{Whole, whole}
+use Rattle.batch.specs.RunLaws.{lookup-made, insertion-made}
+use borrow.Author.Needs.{needs}
+use Rattle.batch.proofs.make_call.Statement.{statement}
+use Rattle.batch.proofs.make_call.Tie as tie
+
+-- the call lies inside
+inside : (c : tie.Start) → Whole (c .args .calls .now) (c .args .at)
+inside c = whole _ _ (c .pre)
+
+add-from : tie.Need-add-from
+add-from c = let w = inside (c .before .before) in omega arith
+
+add-load-le16 : tie.Need-add-load-le16
+add-load-le16 c = let w = inside (c .before .before) in omega arith
+
+load-le16-requires : tie.Need-load-le16-requires
+load-le16-requires c κs = let w = inside (c .before .before) in omega arith
+
+cast-end : tie.Need-cast-end
+cast-end c = search needs
+
+add-end : tie.Need-add-end
+add-end c = let w = inside (c .before .before .before) in omega arith
+
+byte-requires : tie.Need-byte-requires
+byte-requires c κs = let w = inside (c .before .before .before) in omega arith
+
+sub-lookup : tie.Need-sub-lookup
+sub-lookup c = search needs
+
+part-lookup-start : tie.Need-part-lookup-start
+part-lookup-start c = search needs
+
+part-lookup-end : tie.Need-part-lookup-end
+part-lookup-end c = let w = inside (c .before .before .before .before .before .before) in omega arith
+
+lookup-requires : tie.Need-lookup-requires
+lookup-requires c κs = search needs
+
+looked-up-requires : tie.Need-looked-up-requires
+looked-up-requires c κs = search needs
+
+same-length : tie.Need-same-length
+same-length c = search needs
+
+returns : tie.Need-returns
+returns c =
+    let at-lookup = c .before in
+    let at-if = at-lookup .before .before .before in
+    let at-size = at-if .before .before in
+    lookup-made _ _ _ (at-size .load-le16 .ensures .0) (at-if .before .byte .ensures .0) (at-if .if1 .taken) (at-lookup .lookup .ensures) (c .looked-up .ensures)
+
+load-le32-requires : tie.Need-load-le32-requires
+load-le32-requires c κs = let w = inside (c .before .before .before .before .before) in omega arith
+
+sub-insert : tie.Need-sub-insert
+sub-insert c = search needs
+
+part-insert-start : tie.Need-part-insert-start
+part-insert-start c = search needs
+
+part-insert-end : tie.Need-part-insert-end
+part-insert-end c = let w = inside (c .before .before .before .before .before .before .before) in omega arith
+
+insert-requires : tie.Need-insert-requires
+insert-requires c κs = search needs
+
+inserted-requires : tie.Need-inserted-requires
+inserted-requires c κs = search needs
+
+same-length-2 : tie.Need-same-length-2
+same-length-2 c = search needs
+
+returns-2 : tie.Need-returns-2
+returns-2 c =
+    let at-insert = c .before .before .before in
+    let at-number = at-insert .before .before .before in
+    let at-if = at-number .before in
+    let at-size = at-if .before .before in
+    insertion-made _ _ _ (at-size .load-le16 .ensures .0) (at-if .before .byte .ensures .0) (at-if .if1 .left) (at-number .load-le32 .ensures)
+    (at-insert .insert .ensures) (c .inserted .ensures)
+
+pub make-call-spec : {M : Type 1} → statement M
+make-call-spec =
+    tie.close
+    (tie.spec
+    add-from
+    add-load-le16
+    load-le16-requires
+    cast-end
+    add-end
+    byte-requires
+    sub-lookup
+    part-lookup-start
+    part-lookup-end
+    lookup-requires
+    looked-up-requires
+    same-length
+    returns
+    load-le32-requires
+    sub-insert
+    part-insert-start
+    part-insert-end
+    insert-requires
+    inserted-requires
+    same-length-2
+    returns-2)

@@ -1,0 +1,37 @@
+-- Rules: a list of calls as bytes, so that code can be lent one. A call is its kind, 0 for a lookup and 1 for an insertion, the length of its key in two bytes,
+-- the key and, for an insertion, its record number in four. Numbers are least significant byte first. The list ends where no whole call stands.
+use Prim.Native.Nat.{ℕ, zero, suc, _+_, _*_}
+use mathlib.Core.Bool.{Bool, true, false, cond, _&&_}
+use mathlib.Core.List.{List, [], _∷_}
+use lib.Dec.{eqb, leb}
+use lib.ListN.{length}
+use Rattle.octets.specs.Bytes.{byteAt, le16, le32}
+use Rattle.octets.specs.Store.{window}
+use Rattle.tree.specs.Book.{Call, insertion, lookupOf}
+use Rattle.book.specs.Book.{Calls}
+
+-- of the call at an offset: its key, the offset past the key, and the offset past the call
+abbrev pub keyIn : List ℕ → ℕ → List ℕ
+keyIn s at = window s (at + 3) (le16 s (at + 1))
+
+abbrev pub keyEnd : List ℕ → ℕ → ℕ
+keyEnd s at = at + 3 + le16 s (at + 1)
+
+abbrev pub callEnd : List ℕ → ℕ → ℕ
+callEnd s at = keyEnd s at + 4 * byteAt s at
+
+-- a whole call of one of the two kinds stands at an offset
+unfoldable pub isCall : List ℕ → ℕ → Bool
+isCall s at = leb (at + 3) (length s) && (leb (byteAt s at) 1 && leb (callEnd s at) (length s))
+
+unfoldable pub callAt : List ℕ → ℕ → Call (List ℕ)
+callAt s at = cond (eqb (byteAt s at) 0) (lookupOf (keyIn s at)) (insertion (keyIn s at) (le32 s (keyEnd s at)))
+
+-- the calls from an offset on, so many at most
+unfoldable pub callsFrom : ℕ → List ℕ → ℕ → Calls
+callsFrom zero s at = []
+callsFrom (suc n) s at = elim (isCall s at) [ true ↦ callAt s at ∷ callsFrom n s (callEnd s at) | false ↦ [] ]
+
+-- a call has at least three bytes, so that there are at most as many calls as bytes
+unfoldable pub callsIn : List ℕ → Calls
+callsIn s = callsFrom (length s) s 0

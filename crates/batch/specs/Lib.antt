@@ -1,0 +1,4 @@
+pub mod Encoding
+pub mod EncodingLaws
+pub mod Run
+pub mod RunLaws

@@ -1,0 +1,100 @@
+-- Rules: what the code that runs a list of calls leaves and answers, on every input, and the claim of demand 3 for it.
+use Prim.Native.Nat.{ℕ, _/_}
+use mathlib.Core.Path.{_≡_}
+use mathlib.Core.List.{List, [], _∷_, _++_}
+use lib.ListN.{length, take}
+use Rattle.octets.specs.Bytes.{toLe32}
+use Rattle.octets.specs.Store.{put}
+use Rattle.tree.specs.Book.{Call, insertion, lookupOf, Answer, refused, accepted, found, absent, resultsOf, finalOf}
+use Rattle.book.specs.Book.{Calls, bufferAfter, answersTo, BookKept}
+use Rattle.lookup.specs.Lookup.{lookupRule, answerPages}
+use Rattle.insert.specs.Calls.{Inserted, left}
+use Rattle.insert.specs.Fresh.{freshRule}
+use Rattle.insert.specs.declared.Insertion.the-variants.{Accepted, Refused}
+use Rattle.batch.specs.Encoding.{callsIn}
+use Rattle.batch.specs.declared.Reply.{Reply}
+use Rattle.batch.specs.declared.Batch.{Batch}
+
+-- the number of an answer: 0 for accepted and found, 257 for absent, or the refusal's; and the record that was found, or 0
+abbrev pub codeOf : Answer → ℕ
+codeOf (refused n) = n
+codeOf accepted = 0
+codeOf (found r) = 0
+codeOf absent = 257
+
+abbrev pub recordIn : Answer → ℕ
+recordIn (refused n) = 0
+recordIn accepted = 0
+recordIn (found r) = r
+recordIn absent = 0
+
+-- the pages that a lookup visited, or 0
+abbrev pub pagesTo : Call (List ℕ) → List ℕ → ℕ
+pagesTo (insertion key r) b = 0
+pagesTo (lookupOf key) b = answerPages (lookupRule b key) 0
+
+-- an answer as it is written: its number, record and pages, each in four bytes, least significant first
+abbrev pub replyOf : Answer → ℕ → Reply
+replyOf a pages = record { code = codeOf a; number = recordIn a; pages = pages }
+
+abbrev pub replyBytes : Reply → List ℕ
+replyBytes r = toLe32 (r .code) ++ (toLe32 (r .number) ++ toLe32 (r .pages))
+
+abbrev pub answerSize : ℕ
+answerSize = 12
+
+-- the answers to a list of calls, one behind the other
+abbrev pub replies : List Answer → List ℕ → List ℕ
+replies [] pages = []
+replies (a ∷ answers) [] = []
+replies (a ∷ answers) (n ∷ pages) = replyBytes (replyOf a n) ++ replies answers pages
+
+abbrev pub repliesTo : Calls → List ℕ → List ℕ
+repliesTo calls b = replies (answersTo calls b) (resultsOf pagesTo bufferAfter calls b)
+
+-- of a list given as bytes, the calls that are made: as many as there is room for their answers
+abbrev pub madeCalls : List ℕ → List ℕ → Calls
+madeCalls s out = take (length out / answerSize) (callsIn s)
+
+-- what a run leaves: the buffer, the answers and how many calls were made
+pub record Ran : Type 0 where
+  pub after : List ℕ
+  pub answers : List ℕ
+  pub made : ℕ
+
+abbrev pub leaves : List ℕ → List ℕ → ℕ → Ran
+leaves b out n = record { after = b; answers = out; made = n }
+
+-- the calls, one after another on the buffer as it stands; the answers go to the start of the lent ones, and the rest of those stays
+unfoldable pub runRule : List ℕ → List ℕ → List ℕ → Ran
+runRule b s out =
+    let calls = madeCalls s out in
+    leaves (finalOf bufferAfter calls b) (put out 0 (repliesTo calls b)) (length calls)
+
+-- what a batch leaves and answers
+pub record Started : Type 0 where
+  pub after : List ℕ
+  pub answers : List ℕ
+  pub batch : Batch
+
+abbrev pub started : List ℕ → List ℕ → Batch → Started
+started b out r = record { after = b; answers = out; batch = r }
+
+-- fresh, and where that is accepted the calls; else nothing is touched
+abbrev pub afterFresh : Inserted → List ℕ → List ℕ → Started
+afterFresh f s out =
+    elim (f .answer) [
+      | Accepted ↦ let r = runRule (f .after) s out in started (r .after) (r .answers) (record { fresh = 0; made = r .made })
+      | Refused n ↦ started (f .after) out (record { fresh = n; made = 0 })
+    ]
+
+unfoldable pub batchRule : List ℕ → ℕ → List ℕ → List ℕ → List ℕ → Started
+batchRule b k e s out = afterFresh (freshRule b k e) s out
+
+-- demand 3 of running code: fresh was accepted; of the calls that were made, the buffer that is left, the answers that were written, and the book
+pub record BatchKept (b : List ℕ) (k : ℕ) (e s out after answers : List ℕ) (made : ℕ) : Type 0 where
+  pub fresh : freshRule b k e .answer ≡ Accepted
+  pub count : made ≡ length (madeCalls s out)
+  pub buffer : after ≡ finalOf bufferAfter (madeCalls s out) (freshRule b k e .after)
+  pub written : answers ≡ put out 0 (repliesTo (madeCalls s out) (freshRule b k e .after))
+  pub book : BookKept k (madeCalls s out) (freshRule b k e .after)
