@@ -29,7 +29,27 @@ pub fn column(r: &mut Random, kind: u8) -> Column {
     }
 }
 
+/// Sixteen C fields or so whose lengths make records about as long as any may be.
+fn long_columns(r: &mut Random) -> Vec<Column> {
+    let mut lengths = vec![250; 15];
+    lengths.push(248 + r.below(4));
+    if r.one_in(3) {
+        let at = r.below(lengths.len());
+        lengths[at] -= 1;
+        lengths.push(1);
+    }
+    let c = |length: usize| Column {
+        kind: b'C',
+        length: length as u8,
+        decimals: 0,
+    };
+    lengths.into_iter().map(c).collect()
+}
+
 pub fn columns(r: &mut Random, with_memo: bool) -> Vec<Column> {
+    if !with_memo && r.one_in(60) {
+        return long_columns(r);
+    }
     let count = match r.below(100) {
         0 => 128,
         1..=2 => r.between(100, 128),

@@ -119,6 +119,7 @@ pub fn date(r: &mut Random) -> [u8; 8] {
     }
     let year = match r.below(4) {
         0 => r.pick(&[0, 1, 4, 100, 400, 1900, 2000, 2023, 2024, 2100, 9999]),
+        1 => 100 * r.below(100),
         _ => r.below(10_000),
     };
     let month = if r.one_in(3) { 2 } else { r.below(14) };

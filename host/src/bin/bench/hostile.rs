@@ -1,6 +1,6 @@
 //! Inputs that someone made to take long: no call may be slower on them than a small multiple of one pass over what it was lent.
 use crate::inputs;
-use crate::measure::{one_pass, Case};
+use crate::measure::{one_pass, Case, Times};
 use gatherloom_host::generate::{
     index::{self, Fill},
     table,
@@ -9,9 +9,97 @@ use gatherloom_host::random::Random;
 use gatherloom_host::{library, reference};
 
 pub fn run(word: &str) {
+    texts(word);
     tables(word);
     for (name, bytes) in indexes() {
         index_calls(word, &name, &bytes);
+    }
+    insertion(word);
+    matches(word);
+}
+
+/// Texts and keys much longer than any that is taken.
+fn texts(word: &str) {
+    let blanks = vec![b' '; 1_048_576];
+    show(
+        word,
+        "numeric read",
+        "1 MiB of blanks",
+        &[&blanks],
+        Box::new(|| library::number_read(&blanks, 0).is_ok() as u64),
+        Box::new(|| reference::number_read(&blanks, 0).is_ok() as u64),
+    );
+    let index = std::cell::RefCell::new(vec![0; 1024]);
+    show(
+        word,
+        "fresh",
+        "an expression of 1 MiB",
+        &[&blanks],
+        Box::new(|| library::fresh(&mut index.borrow_mut(), 10, &blanks).is_ok() as u64),
+        Box::new(|| reference::fresh(&mut index.borrow_mut(), 10, &blanks).is_ok() as u64),
+    );
+}
+
+/// An insertion that splits all pages from a leaf to the root, ten levels, and makes a new root.
+fn insertion(word: &str) {
+    if !"insertion".contains(word) {
+        return;
+    }
+    let splits_all = |seed| {
+        let (mut spine, key) = index::spine(&mut Random::new(seed), 100, 28);
+        spine.resize(spine.len() + 11 * 512, 0);
+        let mut after = spine.clone();
+        reference::insert(&mut after, &key, 1).ok()?;
+        let size = u32::from_le_bytes(after[8..12].try_into().unwrap());
+        (size as usize == spine.len()).then_some((spine, key))
+    };
+    let (spine, key) = (1..)
+        .find_map(splits_all)
+        .expect("some seed has none lacking");
+    let buffer = std::cell::RefCell::new(spine.clone());
+    let mut case = Case {
+        call: "insertion",
+        input: String::new(),
+        calls: 1,
+        limit: 0.0,
+        prepare: Box::new(|| buffer.borrow_mut().copy_from_slice(&spine)),
+        library: Box::new(|| library::insert(&mut buffer.borrow_mut(), &key, 1).is_ok() as u64),
+        plain: Box::new(|| reference::insert(&mut buffer.borrow_mut(), &key, 1).is_ok() as u64),
+    };
+    let times = case.times(true);
+    let pass = one_pass(&[&spine]);
+    line(
+        "insertion",
+        "10 levels of full pages, all split",
+        spine.len(),
+        times,
+        pass,
+    );
+}
+
+fn matches(word: &str) {
+    let mut r = Random::new(7);
+    let (table, index) = inputs::matching(&mut r, 30_000);
+    let mut one = index.clone();
+    for page in one[512..].chunks_exact_mut(512).filter(|p| p[0] & 2 != 0) {
+        for entry in page[12..].chunks_exact_mut(14) {
+            entry[10..].copy_from_slice(&[0, 0, 0, 1]);
+        }
+    }
+    let blank = inputs::blank_records(8_000_000);
+    let lone = index::tree(&mut r, 1, &[(vec![b' '], 8_000_000)], Fill::Full, 1);
+    for (input, table, index) in [
+        ("every entry names record 1", &table, &one),
+        ("8,000,000 records, one entry", &blank, &lone),
+    ] {
+        show(
+            word,
+            "match",
+            input,
+            &[table, index],
+            Box::new(|| library::match_index(table, index, 1).is_ok() as u64),
+            Box::new(|| reference::match_index(table, index, 1).is_ok() as u64),
+        );
     }
 }
 
@@ -32,9 +120,13 @@ fn show(word: &str, call: &'static str, input: &str, lent: &[&[u8]], library: Wa
     };
     let times = case.times(false);
     let pass = one_pass(lent);
+    let bytes = lent.iter().map(|b| b.len()).sum();
+    line(call, input, bytes, times, pass);
+}
+
+fn line(call: &str, input: &str, bytes: usize, times: Times, pass: f64) {
     println!(
-        "| {call} | {input} | {} | {:.0} | {:.0} | {pass:.0} | {:.1} |",
-        lent.iter().map(|b| b.len()).sum::<usize>(),
+        "| {call} | {input} | {bytes} | {:.0} | {:.0} | {pass:.0} | {:.1} |",
         times.library,
         times.plain,
         times.library / pass
@@ -58,7 +150,7 @@ fn tables(word: &str) {
         Box::new(|| library::check_table(&names).is_ok() as u64),
         Box::new(|| reference::check_table(&names).is_ok() as u64),
     );
-    let mut deleted = table::blank(&columns[..1], 0x03, 8_000_000, 0);
+    let mut deleted = inputs::blank_records(8_000_000);
     for record in deleted[65..].chunks_exact_mut(2) {
         record[0] = b'*';
     }

@@ -114,3 +114,13 @@ pub fn matching(r: &mut Random, records: usize) -> (Vec<u8>, Vec<u8>) {
     let index = index::tree(r, 10, &entries, Fill::Exactly(24), 1);
     (t, index)
 }
+
+/// A table of one field of one character.
+pub fn blank_records(records: usize) -> Vec<u8> {
+    let column = Column {
+        kind: b'C',
+        length: 1,
+        decimals: 0,
+    };
+    table::blank(&[column], 0x03, records, 0)
+}
