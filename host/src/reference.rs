@@ -255,14 +255,11 @@ pub fn text_part(
     if entry.kind == b'C' {
         return Ok(Some((at, entry.length as usize)));
     }
-    let digits = t[at..at + 10]
-        .iter()
-        .skip_while(|&&c| c == b' ')
-        .copied()
-        .collect::<Vec<u8>>();
-    if digits.is_empty() {
+    let text = &t[at..at + 10];
+    let Some(first) = text.iter().position(|&c| c != b' ') else {
         return Ok(None);
-    }
+    };
+    let digits = &text[first..];
     if digits[0] == b'0' || !digits.iter().all(u8::is_ascii_digit) {
         return Err(21);
     }
@@ -452,6 +449,16 @@ impl<'a> Page<'a> {
         le32(self.bytes, 8)
     }
 
+    /// The entries, as many as the count says: it is tested first.
+    fn entries(&self) -> impl Iterator<Item = &'a [u8]> {
+        self.bytes[12..].chunks_exact(self.k + 4).take(self.count())
+    }
+
+    /// The first entry at or above the key.
+    fn reach(&self, key: &[u8]) -> Option<usize> {
+        self.entries().position(|e| &e[..self.k] >= key)
+    }
+
     fn key(&self, i: usize) -> &'a [u8] {
         &self.bytes[12 + i * (self.k + 4)..][..self.k]
     }
@@ -533,11 +540,12 @@ fn leaves_good(b: &[u8], k: usize, leaves: &[u32]) -> bool {
     let mut last: Option<&[u8]> = None;
     for &p in leaves {
         let page = Page::at(b, k, p);
-        for i in 0..page.count() {
-            if last.is_some_and(|l| l >= page.key(i)) || page.number(i) == 0 {
+        for entry in page.entries() {
+            let key = &entry[..k];
+            if last.is_some_and(|l| l >= key) || be32(entry, k) == 0 {
                 return false;
             }
-            last = Some(page.key(i));
+            last = Some(key);
         }
     }
     true
@@ -571,7 +579,7 @@ pub fn lookup(b: &[u8], key: &[u8]) -> Looked {
         {
             return Looked::Refused(25);
         }
-        let Some(i) = (0..page.count()).find(|&i| page.key(i) >= key) else {
+        let Some(i) = page.reach(key) else {
             return Looked::Absent(pages);
         };
         if page.leaf() {
@@ -628,7 +636,7 @@ pub fn insert(b: &mut [u8], key: &[u8], record: u32) -> Result<(), Refusal> {
     let mut p = head.root;
     loop {
         let page = Page::at(b, k, p);
-        let i = (0..page.count()).find(|&i| page.key(i) >= key);
+        let i = page.reach(key);
         if page.leaf() {
             if i.is_some_and(|i| page.key(i) == key) {
                 return Err(29);
@@ -657,43 +665,31 @@ pub fn insert(b: &mut [u8], key: &[u8], record: u32) -> Result<(), Refusal> {
     for depth in (0..path.len()).rev() {
         let (p, i) = path[depth];
         if depth + 1 == path.len() {
-            carried = take_in(b, k, p, &mut next, |entries| {
-                entries.insert(i, entry(key, record))
-            });
+            carried = take_in(b, k, p, i, key, record, &mut next);
         } else if let Some(q) = carried {
-            let (old, _) = path[depth + 1];
-            let low = last_key(b, k, old);
-            let old_key = Page::at(b, k, p).key(i).to_vec();
-            let high = if old_key.as_slice() < key {
-                key.to_vec()
-            } else {
-                old_key
-            };
-            carried = take_in(b, k, p, &mut next, |entries| {
-                entries[i] = entry(&low, old);
-                entries.insert(i + 1, entry(&high, q));
-            });
+            let high = Page::at(b, k, p).key(i).max(key).to_vec();
+            let low = last_key(b, k, path[depth + 1].0);
+            put_key(b, k, p, i, &low);
+            carried = take_in(b, k, p, i + 1, &high, q, &mut next);
         } else if Page::at(b, k, p).key(i) < key {
-            let at = p as usize + 12 + i * (k + 4);
-            b[at..at + k].copy_from_slice(key);
+            put_key(b, k, p, i, key);
         }
     }
     if let Some(q) = carried {
         let (old, top) = (path[0].0, next);
-        let entries = [
-            entry(&last_key(b, k, old), old),
-            entry(&last_key(b, k, q), q),
-        ];
-        write_page(b, top, 1, NONE, NONE, &entries);
+        let mut entries = Vec::new();
+        for p in [old, q] {
+            entries.extend_from_slice(&last_key(b, k, p));
+            entries.extend_from_slice(&p.to_be_bytes());
+        }
+        write_page(b, top, 1, 2, [NONE, NONE], &entries);
         put_le32(b, 0, top);
     }
     Ok(())
 }
 
-fn entry(key: &[u8], number: u32) -> Vec<u8> {
-    let mut e = key.to_vec();
-    e.extend_from_slice(&number.to_be_bytes());
-    e
+fn put_key(b: &mut [u8], k: usize, p: u32, i: usize, key: &[u8]) {
+    b[p as usize + 12 + i * (k + 4)..][..k].copy_from_slice(key);
 }
 
 fn last_key(b: &[u8], k: usize, p: u32) -> Vec<u8> {
@@ -701,41 +697,46 @@ fn last_key(b: &[u8], k: usize, p: u32) -> Vec<u8> {
     page.key(page.count() - 1).to_vec()
 }
 
-fn write_page(b: &mut [u8], p: u32, attribute: u32, left: u32, right: u32, entries: &[Vec<u8>]) {
-    let at = p as usize;
-    put_le16(b, at, attribute);
-    put_le16(b, at + 2, entries.len() as u32);
-    put_le32(b, at + 4, left);
-    put_le32(b, at + 8, right);
-    b[at + 12..at + 512].fill(0);
-    for (i, e) in entries.iter().enumerate() {
-        b[at + 12 + i * e.len()..][..e.len()].copy_from_slice(e);
-    }
+fn write_page(b: &mut [u8], p: u32, attribute: u32, count: usize, links: [u32; 2], entries: &[u8]) {
+    let page = &mut b[p as usize..][..512];
+    put_le16(page, 0, attribute);
+    put_le16(page, 2, count as u32);
+    put_le32(page, 4, links[0]);
+    put_le32(page, 8, links[1]);
+    page[12..12 + entries.len()].copy_from_slice(entries);
+    page[12 + entries.len()..].fill(0);
 }
 
-/// Changes a page's entries; one that has too many is split, and its new neighbour is handed back.
+/// Puts an entry into a page as its entry i; a page that then has too many is split, and its new neighbour is handed back.
 fn take_in(
     b: &mut [u8],
     k: usize,
     p: u32,
+    i: usize,
+    key: &[u8],
+    number: u32,
     next: &mut u32,
-    change: impl FnOnce(&mut Vec<Vec<u8>>),
 ) -> Option<u32> {
     let page = Page::at(b, k, p);
-    let (a, left, right) = (page.attribute(), page.left(), page.right());
-    let mut entries: Vec<Vec<u8>> = (0..page.count())
-        .map(|i| entry(page.key(i), page.number(i)))
-        .collect();
-    change(&mut entries);
-    if entries.len() <= capacity(k) {
-        write_page(b, p, a, left, right, &entries);
+    let (a, left, right, count) = (
+        page.attribute(),
+        page.left(),
+        page.right(),
+        page.count() + 1,
+    );
+    let mut entries = page.bytes[12..12 + page.count() * (k + 4)].to_vec();
+    let at = i * (k + 4);
+    entries.splice(at..at, key.iter().copied().chain(number.to_be_bytes()));
+    if count <= capacity(k) {
+        write_page(b, p, a, count, [left, right], &entries);
         return None;
     }
     let q = *next;
     *next += 512;
-    let upper = entries.split_off(entries.len().div_ceil(2));
-    write_page(b, p, a & !1, left, q, &entries);
-    write_page(b, q, a & !1, p, right, &upper);
+    let kept = count.div_ceil(2);
+    let (lower, upper) = entries.split_at(kept * (k + 4));
+    write_page(b, p, a & !1, kept, [left, q], lower);
+    write_page(b, q, a & !1, count - kept, [p, right], upper);
     if right != NONE {
         put_le32(b, right as usize + 4, q);
     }

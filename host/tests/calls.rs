@@ -1,5 +1,6 @@
-//! The plain Rust reading of document 01 against another program's lists of calls: every answer, and the bytes of the index that they leave.
-use gatherloom_host::reference::{audit, fresh, insert, lookup, Looked};
+//! The library and the plain Rust reading of document 01, both against another program's lists of calls: every answer, and the bytes of the index that
+//! they leave.
+use gatherloom_host::{library, reference};
 use std::{fs, path::Path};
 
 /// Each list with the length of the buffer that it was made with.
@@ -12,6 +13,40 @@ const LISTS: [(&str, usize); 7] = [
     ("k100_full", 4096),
     ("k46_mixed", 32768),
 ];
+
+/// The calls on an index, their answers by number as the lists have them.
+struct Calls {
+    fresh: fn(&mut [u8], u32, &[u8]) -> u32,
+    insert: fn(&mut [u8], &[u8], u32) -> u32,
+    audit: fn(&[u8]) -> u32,
+    lookup: fn(&[u8], &[u8]) -> [u32; 3],
+}
+
+const LIBRARY: Calls = Calls {
+    fresh: |index, k, expression| by_number(library::fresh(index, k, expression)),
+    insert: |index, key, record| by_number(library::insert(index, key, record)),
+    audit: |index| by_number(library::audit(index)),
+    lookup: |index, key| match library::lookup(index, key) {
+        Ok(library::Looked::Found { record, pages }) => [0, record, pages],
+        Ok(library::Looked::Absent { pages }) => [257, 0, pages],
+        Err(library::Refusal(number)) => [number, 0, 0],
+    },
+};
+
+const PLAIN: Calls = Calls {
+    fresh: |index, k, expression| reference::fresh(index, k, expression).err().unwrap_or(0),
+    insert: |index, key, record| reference::insert(index, key, record).err().unwrap_or(0),
+    audit: |index| reference::audit(index).err().unwrap_or(0),
+    lookup: |index, key| match reference::lookup(index, key) {
+        reference::Looked::Found(record, pages) => [0, record, pages],
+        reference::Looked::Absent(pages) => [257, 0, pages],
+        reference::Looked::Refused(number) => [number, 0, 0],
+    },
+};
+
+fn by_number(answer: library::Answer<()>) -> u32 {
+    answer.err().map_or(0, |refusal| refusal.0)
+}
 
 fn bytes(hex: &str) -> Vec<u8> {
     if hex == "-" {
@@ -27,43 +62,42 @@ fn number(word: &str) -> u32 {
 }
 
 /// Makes a call, and gives its answers and those of the list.
-fn call(index: &mut [u8], words: &[&str]) -> (Vec<u32>, Vec<u32>) {
+fn call(calls: &Calls, index: &mut [u8], words: &[&str]) -> (Vec<u32>, Vec<u32>) {
+    let key = || bytes(words[1]);
     let (answers, first) = match words[0] {
         "f" => (
-            vec![fresh(index, number(words[1]), &bytes(words[2]))
-                .err()
-                .unwrap_or(0)],
+            vec![(calls.fresh)(index, number(words[1]), &bytes(words[2]))],
             3,
         ),
-        "i" => (
-            vec![insert(index, &bytes(words[1]), number(words[2]))
-                .err()
-                .unwrap_or(0)],
-            3,
-        ),
-        "a" => (vec![audit(index).err().unwrap_or(0)], 1),
-        "l" => match lookup(index, &bytes(words[1])) {
-            Looked::Found(record, pages) => (vec![0, record, pages], 2),
-            Looked::Absent(pages) => (vec![257, 0, pages], 2),
-            Looked::Refused(n) => (vec![n, 0, 0], 2),
-        },
+        "i" => (vec![(calls.insert)(index, &key(), number(words[2]))], 3),
+        "a" => (vec![(calls.audit)(index)], 1),
+        "l" => ((calls.lookup)(index, &key()).to_vec(), 2),
         other => panic!("no call: {other}"),
     };
     (answers, words[first..].iter().map(|w| number(w)).collect())
 }
 
-#[test]
-fn answers_and_bytes_are_the_other_programs() {
+fn replay(calls: &Calls) {
     let data = Path::new(env!("CARGO_MANIFEST_DIR")).join("../crates/indexes/data");
     for (name, length) in LISTS {
         let mut index = vec![0u8; length];
         let list = fs::read_to_string(data.join(format!("{name}.calls"))).unwrap();
         for line in list.lines() {
             let words: Vec<&str> = line.split(' ').collect();
-            let (got, expected) = call(&mut index, &words);
+            let (got, expected) = call(calls, &mut index, &words);
             assert_eq!(got, expected, "{name}: {line}");
         }
         let left = fs::read(data.join(format!("{name}.idx"))).unwrap();
         assert_eq!(index[..left.len()], left[..], "{name}: the bytes left");
     }
+}
+
+#[test]
+fn the_library_answers_as_the_other_program() {
+    replay(&LIBRARY);
+}
+
+#[test]
+fn plain_rust_answers_as_the_other_program() {
+    replay(&PLAIN);
 }

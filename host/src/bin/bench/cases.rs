@@ -1,0 +1,304 @@
+//! The cases that have a limit.
+use crate::inputs;
+use crate::measure::Case;
+use gatherloom_host::generate::index::Entry;
+use gatherloom_host::library::{self, Looked};
+use gatherloom_host::random::Random;
+use gatherloom_host::reference;
+use std::cell::RefCell;
+
+const TEXT_AND_TABLE: f64 = 1.5;
+const LOOKUP: f64 = 2.0;
+const WHOLE_INDEX: f64 = 3.0;
+
+/// Runs the cases whose call has the word in it; says how many are over their limit.
+pub fn run(word: &str) -> usize {
+    let mut over = 0;
+    for group in [numbers, tables, lookups, audits, insertions, matches] {
+        over += group(word);
+    }
+    over
+}
+
+fn show(word: &str, mut case: Case, once: bool) -> usize {
+    if !case.call.contains(word) {
+        return 0;
+    }
+    let times = case.times(once);
+    let ratio = times.library / times.plain;
+    let good = ratio <= case.limit;
+    println!(
+        "| {} | {} | {:.1} | {:.1} | {ratio:.2} | {} | {} |",
+        case.call,
+        case.input,
+        times.library,
+        times.plain,
+        case.limit,
+        if good { "ok" } else { "over" }
+    );
+    !good as usize
+}
+
+/// What an answer adds to a sum: anything, as long as both ways add the same.
+fn sum_of<E>(answer: Result<Option<i64>, E>) -> u64 {
+    answer.ok().flatten().unwrap_or(-1) as u64
+}
+
+fn numbers(word: &str) -> usize {
+    let mut r = Random::new(1);
+    let formats = [(8, 3, 4), (8, 3, 7), (20, 0, 4), (20, 0, 18), (20, 6, 17)];
+    let mut over = 0;
+    for (width, decimals, digits) in formats {
+        let texts = inputs::texts(&mut r, width, decimals, digits);
+        let input = format!("width {width}, {decimals} decimals, up to {digits} digits");
+        let case = Case {
+            call: "numeric read",
+            input,
+            calls: texts.len(),
+            limit: TEXT_AND_TABLE,
+            prepare: Box::new(|| ()),
+            library: Box::new(|| {
+                let sums = texts
+                    .iter()
+                    .map(|t| sum_of(library::number_read(t, decimals)));
+                sums.fold(0, u64::wrapping_add)
+            }),
+            plain: Box::new(|| {
+                let sums = texts
+                    .iter()
+                    .map(|t| sum_of(reference::number_read(t, decimals)));
+                sums.fold(0, u64::wrapping_add)
+            }),
+        };
+        over += show(word, case, false);
+    }
+    for (width, decimals, digits) in formats {
+        let values = inputs::values(&mut r, digits);
+        let buffer = RefCell::new(vec![0; width]);
+        let input = format!("width {width}, {decimals} decimals, up to {digits} digits");
+        let written = |write: &dyn Fn(&mut [u8], i64) -> bool| {
+            let mut buffer = buffer.borrow_mut();
+            let mut sum = 0u64;
+            for &v in &values {
+                sum += write(&mut buffer, v) as u64;
+                sum += buffer[width - 1] as u64;
+            }
+            sum
+        };
+        let case = Case {
+            call: "numeric write",
+            input,
+            calls: values.len(),
+            limit: TEXT_AND_TABLE,
+            prepare: Box::new(|| ()),
+            library: Box::new(|| written(&|b, v| library::number_write(b, decimals, v).is_ok())),
+            plain: Box::new(|| written(&|b, v| reference::number_write(b, decimals, v).is_ok())),
+        };
+        over += show(word, case, false);
+    }
+    over
+}
+
+/// Records of the tables: their number does not matter, since every call checks the header.
+const RECORDS: usize = 40;
+
+fn tables(word: &str) -> usize {
+    let mut r = Random::new(2);
+    let mut over = 0;
+    for fields in [5, 128] {
+        let table = inputs::table(&mut r, fields, RECORDS);
+        let input = format!("{fields} fields");
+        let case = |call, calls, library, plain| Case {
+            call,
+            input: input.clone(),
+            calls,
+            limit: TEXT_AND_TABLE,
+            prepare: Box::new(|| ()),
+            library,
+            plain,
+        };
+        over += show(word, check(&case, &table), false);
+        over += show(word, reading(&case, &table, fields), false);
+        over += show(word, walking(&case, &table), false);
+    }
+    over
+}
+
+type Way<'a> = Box<dyn FnMut() -> u64 + 'a>;
+type Make<'a, 'b> = &'b dyn Fn(&'static str, usize, Way<'a>, Way<'a>) -> Case<'a>;
+
+fn check<'a>(case: Make<'a, '_>, table: &'a [u8]) -> Case<'a> {
+    case(
+        "table check",
+        1,
+        Box::new(|| library::check_table(table).is_ok() as u64),
+        Box::new(|| reference::check_table(table).is_ok() as u64),
+    )
+}
+
+fn reading<'a>(case: Make<'a, '_>, table: &'a [u8], fields: usize) -> Case<'a> {
+    // the last field that is a number
+    let field = if fields == 5 { 5 } else { 127 };
+    case(
+        "reading a number",
+        RECORDS,
+        Box::new(move || {
+            let sums = (1..=RECORDS as u32).map(|i| sum_of(library::read_number(table, i, field)));
+            sums.fold(0, u64::wrapping_add)
+        }),
+        Box::new(move || {
+            let sums =
+                (1..=RECORDS as u32).map(|i| sum_of(reference::read_number(table, i, field)));
+            sums.fold(0, u64::wrapping_add)
+        }),
+    )
+}
+
+fn walking<'a>(case: Make<'a, '_>, table: &'a [u8]) -> Case<'a> {
+    let steps = |step: &mut dyn FnMut() -> Option<u32>| {
+        let mut sum = 0u64;
+        while let Some(number) = step() {
+            sum += number as u64;
+        }
+        sum
+    };
+    let mut passed = 0;
+    let mut calls = 1;
+    while let reference::Step::Record(_) = reference::walk(table, &mut passed) {
+        calls += 1;
+    }
+    case(
+        "walk",
+        calls,
+        Box::new(move || {
+            let mut position = library::Position { passed: 0 };
+            steps(&mut || library::walk(table, &mut position).unwrap_or(None))
+        }),
+        Box::new(move || {
+            let mut passed = 0;
+            steps(&mut || match reference::walk(table, &mut passed) {
+                reference::Step::Record(number) => Some(number),
+                _ => None,
+            })
+        }),
+    )
+}
+
+/// Key lengths, with how many entries a page has, about as many as random insertions leave, and how many bytes at the keys' start are all the same.
+const KEYS: [(usize, usize, usize); 4] = [(10, 24, 0), (10, 24, 6), (100, 3, 0), (100, 3, 96)];
+
+fn named(size: &str, k: usize, alike: usize) -> String {
+    match alike {
+        0 => format!("{size} index, k = {k}"),
+        _ => format!("{size} index, k = {k}, first {alike} bytes of all keys the same"),
+    }
+}
+
+fn picked(r: &mut Random, entries: &[Entry]) -> Vec<Vec<u8>> {
+    (0..1000)
+        .map(|_| entries[r.below(entries.len())].0.clone())
+        .collect()
+}
+
+fn lookups(word: &str) -> usize {
+    let mut r = Random::new(3);
+    let mut over = 0;
+    for (k, per_page, alike) in KEYS {
+        let (index, entries) = inputs::index(&mut r, k, per_page, 2047, alike);
+        let hits = picked(&mut r, &entries);
+        let misses = inputs::absent(&hits, &entries);
+        for (what, keys) in [("hit", &hits), ("miss", &misses)] {
+            let case = Case {
+                call: "lookup",
+                input: format!("{what}, {}", named("1 MiB", k, alike)),
+                calls: keys.len(),
+                limit: LOOKUP,
+                prepare: Box::new(|| ()),
+                library: Box::new(|| {
+                    let looks = keys.iter().map(|key| match library::lookup(&index, key) {
+                        Ok(Looked::Found { record, pages }) => record as u64 + pages as u64,
+                        Ok(Looked::Absent { pages }) => pages as u64,
+                        Err(_) => 1000,
+                    });
+                    looks.sum()
+                }),
+                plain: Box::new(|| {
+                    let looks = keys.iter().map(|key| match reference::lookup(&index, key) {
+                        reference::Looked::Found(record, pages) => record as u64 + pages as u64,
+                        reference::Looked::Absent(pages) => pages as u64,
+                        reference::Looked::Refused(_) => 1000,
+                    });
+                    looks.sum()
+                }),
+            };
+            over += show(word, case, false);
+        }
+    }
+    over
+}
+
+fn audits(word: &str) -> usize {
+    let mut r = Random::new(4);
+    let mut over = 0;
+    for (k, per_page, alike) in KEYS {
+        let (index, _) = inputs::index(&mut r, k, per_page, 2047, alike);
+        let case = Case {
+            call: "audit",
+            input: named("1 MiB", k, alike),
+            calls: 1,
+            limit: WHOLE_INDEX,
+            prepare: Box::new(|| ()),
+            library: Box::new(|| library::audit(&index).is_ok() as u64),
+            plain: Box::new(|| reference::audit(&index).is_ok() as u64),
+        };
+        over += show(word, case, false);
+    }
+    over
+}
+
+fn insertions(word: &str) -> usize {
+    let mut r = Random::new(5);
+    let mut over = 0;
+    for (k, per_page, alike) in KEYS {
+        let (mut index, entries) = inputs::index(&mut r, k, per_page, 1023, alike);
+        index.resize(index.len() + 32 * 512, 0);
+        let keys = picked(&mut r, &entries);
+        let keys: Vec<Vec<u8>> = inputs::absent(&keys, &entries)
+            .into_iter()
+            .take(8)
+            .collect();
+        let buffer = RefCell::new(index.clone());
+        let inserted = |insert: &dyn Fn(&mut [u8], &[u8]) -> bool| {
+            let mut buffer = buffer.borrow_mut();
+            let good = keys.iter().filter(|key| insert(&mut buffer, key)).count();
+            // where a page split, the file has grown
+            good as u64 * 1_000_000 + u32::from_le_bytes(buffer[8..12].try_into().unwrap()) as u64
+        };
+        let case = Case {
+            call: "insertion",
+            input: named("0.5 MiB", k, alike),
+            calls: keys.len(),
+            limit: WHOLE_INDEX,
+            prepare: Box::new(|| buffer.borrow_mut().copy_from_slice(&index)),
+            library: Box::new(|| inserted(&|b, key| library::insert(b, key, 7).is_ok())),
+            plain: Box::new(|| inserted(&|b, key| reference::insert(b, key, 7).is_ok())),
+        };
+        over += show(word, case, true);
+    }
+    over
+}
+
+fn matches(word: &str) -> usize {
+    let mut r = Random::new(6);
+    let (table, index) = inputs::matching(&mut r, 30_000);
+    let case = Case {
+        call: "match",
+        input: "30,000 records, k = 10".to_string(),
+        calls: 1,
+        limit: WHOLE_INDEX,
+        prepare: Box::new(|| ()),
+        library: Box::new(|| library::match_index(&table, &index, 1).is_ok() as u64),
+        plain: Box::new(|| reference::match_index(&table, &index, 1).is_ok() as u64),
+    };
+    show(word, case, false)
+}

@@ -1,0 +1,273 @@
+//! Inputs that someone made to take long: no call may be slower on them than a small multiple of one pass over what it was lent.
+use crate::inputs;
+use crate::measure::{one_pass, Case, Times};
+use gatherloom_host::generate::{
+    index::{self, Fill},
+    table,
+};
+use gatherloom_host::random::Random;
+use gatherloom_host::{library, reference};
+
+pub fn run(word: &str) {
+    texts(word);
+    tables(word);
+    for (name, bytes) in indexes() {
+        index_calls(word, &name, &bytes);
+    }
+    insertion(word);
+    matches(word);
+}
+
+/// Texts and keys much longer than any that is taken.
+fn texts(word: &str) {
+    let blanks = vec![b' '; 1_048_576];
+    show(
+        word,
+        "numeric read",
+        "1 MiB of blanks",
+        &[&blanks],
+        Box::new(|| library::number_read(&blanks, 0).is_ok() as u64),
+        Box::new(|| reference::number_read(&blanks, 0).is_ok() as u64),
+    );
+    let index = std::cell::RefCell::new(vec![0; 1024]);
+    show(
+        word,
+        "fresh",
+        "an expression of 1 MiB",
+        &[&blanks],
+        Box::new(|| library::fresh(&mut index.borrow_mut(), 10, &blanks).is_ok() as u64),
+        Box::new(|| reference::fresh(&mut index.borrow_mut(), 10, &blanks).is_ok() as u64),
+    );
+}
+
+/// An insertion that splits all pages from a leaf to the root, ten levels, and makes a new root.
+fn insertion(word: &str) {
+    if !"insertion".contains(word) {
+        return;
+    }
+    let splits_all = |seed| {
+        let (mut spine, key) = index::spine(&mut Random::new(seed), 100, 28);
+        spine.resize(spine.len() + 11 * 512, 0);
+        let mut after = spine.clone();
+        reference::insert(&mut after, &key, 1).ok()?;
+        let size = u32::from_le_bytes(after[8..12].try_into().unwrap());
+        (size as usize == spine.len()).then_some((spine, key))
+    };
+    let (spine, key) = (1..)
+        .find_map(splits_all)
+        .expect("some seed has none lacking");
+    let buffer = std::cell::RefCell::new(spine.clone());
+    let mut case = Case {
+        call: "insertion",
+        input: String::new(),
+        calls: 1,
+        limit: 0.0,
+        prepare: Box::new(|| buffer.borrow_mut().copy_from_slice(&spine)),
+        library: Box::new(|| library::insert(&mut buffer.borrow_mut(), &key, 1).is_ok() as u64),
+        plain: Box::new(|| reference::insert(&mut buffer.borrow_mut(), &key, 1).is_ok() as u64),
+    };
+    let times = case.times(true);
+    let pass = one_pass(&[&spine]);
+    line(
+        "insertion",
+        "10 levels of full pages, all split",
+        spine.len(),
+        times,
+        pass,
+    );
+}
+
+fn matches(word: &str) {
+    let mut r = Random::new(7);
+    let (table, index) = inputs::matching(&mut r, 30_000);
+    let mut one = index.clone();
+    for page in one[512..].chunks_exact_mut(512).filter(|p| p[0] & 2 != 0) {
+        for entry in page[12..].chunks_exact_mut(14) {
+            entry[10..].copy_from_slice(&[0, 0, 0, 1]);
+        }
+    }
+    let blank = inputs::blank_records(8_000_000);
+    let lone = index::tree(&mut r, 1, &[(vec![b' '], 8_000_000)], Fill::Full, 1);
+    for (input, table, index) in [
+        ("every entry names record 1", &table, &one),
+        ("8,000,000 records, one entry", &blank, &lone),
+    ] {
+        show(
+            word,
+            "match",
+            input,
+            &[table, index],
+            Box::new(|| library::match_index(table, index, 1).is_ok() as u64),
+            Box::new(|| reference::match_index(table, index, 1).is_ok() as u64),
+        );
+    }
+}
+
+type Way<'a> = Box<dyn FnMut() -> u64 + 'a>;
+
+fn show(word: &str, call: &'static str, input: &str, lent: &[&[u8]], library: Way, plain: Way) {
+    if !call.contains(word) {
+        return;
+    }
+    let mut case = Case {
+        call,
+        input: input.to_string(),
+        calls: 1,
+        limit: 0.0,
+        prepare: Box::new(|| ()),
+        library,
+        plain,
+    };
+    let times = case.times(false);
+    let pass = one_pass(lent);
+    let bytes = lent.iter().map(|b| b.len()).sum();
+    line(call, input, bytes, times, pass);
+}
+
+fn line(call: &str, input: &str, bytes: usize, times: Times, pass: f64) {
+    println!(
+        "| {call} | {input} | {bytes} | {:.0} | {:.0} | {pass:.0} | {:.1} |",
+        times.library,
+        times.plain,
+        times.library / pass
+    );
+}
+
+fn tables(word: &str) {
+    let columns: Vec<table::Column> = (0..128)
+        .map(|_| table::Column {
+            kind: b'C',
+            length: 1,
+            decimals: 0,
+        })
+        .collect();
+    let names = table::blank(&columns, 0x03, 1, 8);
+    show(
+        word,
+        "table check",
+        "128 names of 10 that differ in the last two characters",
+        &[&names],
+        Box::new(|| library::check_table(&names).is_ok() as u64),
+        Box::new(|| reference::check_table(&names).is_ok() as u64),
+    );
+    let mut deleted = inputs::blank_records(8_000_000);
+    for record in deleted[65..].chunks_exact_mut(2) {
+        record[0] = b'*';
+    }
+    show(
+        word,
+        "walk",
+        "8,000,000 records, all deleted",
+        &[&deleted],
+        Box::new(|| library::walk(&deleted, &mut library::Position { passed: 0 }).is_ok() as u64),
+        Box::new(|| (reference::walk(&deleted, &mut 0) == reference::Step::Done) as u64),
+    );
+}
+
+fn index_calls(word: &str, name: &str, bytes: &[u8]) {
+    let k = bytes[12] as usize;
+    let key = vec![0xFF; k];
+    let low = vec![0; k];
+    show(
+        word,
+        "audit",
+        name,
+        &[bytes],
+        Box::new(|| library::audit(bytes).is_ok() as u64),
+        Box::new(|| reference::audit(bytes).is_ok() as u64),
+    );
+    for key in [key, low] {
+        let input = format!("{name}, key of {:#04x}", key[0]);
+        show(
+            word,
+            "lookup",
+            &input,
+            &[bytes],
+            Box::new(|| library::lookup(bytes, &key).is_ok() as u64),
+            Box::new(|| {
+                let looked = reference::lookup(bytes, &key);
+                !matches!(looked, reference::Looked::Refused(_)) as u64
+            }),
+        );
+    }
+}
+
+/// The page that the greatest keys lead to, so many levels down.
+fn last_page(bytes: &[u8], levels: usize) -> usize {
+    let k = bytes[12] as usize;
+    let mut p = u32::from_le_bytes(bytes[..4].try_into().unwrap()) as usize;
+    for _ in 1..levels {
+        let count = u16::from_le_bytes([bytes[p + 2], bytes[p + 3]]) as usize;
+        let at = p + 12 + (count - 1) * (k + 4) + k;
+        p = u32::from_be_bytes(bytes[at..at + 4].try_into().unwrap()) as usize;
+    }
+    p
+}
+
+fn indexes() -> Vec<(String, Vec<u8>)> {
+    let mut r = Random::new(9);
+    let (sound, _) = inputs::index(&mut r, 10, 24, 2047, 0);
+    let leaf = last_page(&sound, 4).min(sound.len() - 512);
+    let mut made = Vec::new();
+    let mut add = |name: &str, change: &dyn Fn(&mut Vec<u8>)| {
+        let mut bytes = sound.clone();
+        change(&mut bytes);
+        made.push((name.to_string(), bytes));
+    };
+    add("1 MiB, the root claims 65,535 entries", &|b| {
+        let root = last_page(b, 1);
+        b[root + 2..root + 4].fill(0xFF);
+    });
+    add("1 MiB, the last leaf claims 65,535 entries", &|b| {
+        b[leaf + 2..leaf + 4].fill(0xFF);
+    });
+    add("1 MiB, the last leaf's right link goes to itself", &|b| {
+        b[leaf + 8..leaf + 12].copy_from_slice(&(leaf as u32).to_le_bytes());
+    });
+    add(
+        "1 MiB, the last page above the leaves leads to the root",
+        &|b| {
+            let above = last_page(b, 3);
+            let count = u16::from_le_bytes([b[above + 2], b[above + 3]]) as usize;
+            let root = b[..4].iter().rev().copied().collect::<Vec<u8>>();
+            let at = above + 12 + (count - 1) * 14 + 10;
+            b[at..at + 4].copy_from_slice(&root);
+        },
+    );
+    for k in [1, 10] {
+        made.push((
+            format!("11 levels, every entry of a level leads to one page, k = {k}"),
+            shared(k),
+        ));
+    }
+    let one = index::entries(&mut r, 10, 1, 0);
+    made.push((
+        "11 levels of one-entry pages".to_string(),
+        index::tree(&mut r, 10, &one, Fill::Full, 11),
+    ));
+    let (spine, _) = index::spine(&mut r, 100, 31);
+    made.push(("11 levels, one path of full pages".to_string(), spine));
+    made
+}
+
+/// Eleven pages, each full of entries that lead to the next one, in a file of 1 MiB.
+fn shared(k: usize) -> Vec<u8> {
+    let mut b = vec![0; 1_048_576];
+    b[..4].copy_from_slice(&512u32.to_le_bytes());
+    b[4..8].fill(0xFF);
+    b[8..12].copy_from_slice(&1_048_576u32.to_le_bytes());
+    b[12] = k as u8;
+    b[14] = 1;
+    for level in 1..=11 {
+        let page = &mut b[512 * level..512 * level + 512];
+        page[0] = (level == 1) as u8 + 2 * (level == 11) as u8;
+        page[2] = index::capacity(k) as u8;
+        page[4..12].fill(0xFF);
+        for entry in page[12..].chunks_exact_mut(k + 4) {
+            entry[..k].fill(0xFF);
+            let next = 512 * (level as u32 + 1);
+            entry[k..].copy_from_slice(&next.to_be_bytes());
+        }
+    }
+    b
+}

@@ -1,0 +1,126 @@
+//! The benchmark's inputs.
+use gatherloom_host::generate::{
+    index::{self, Entry, Fill},
+    table::{self, Column},
+};
+use gatherloom_host::random::Random;
+use gatherloom_host::reference;
+
+/// Values with at most so many digits, as texts of one format.
+pub fn texts(r: &mut Random, width: usize, decimals: u32, digits: u32) -> Vec<Vec<u8>> {
+    values(r, digits)
+        .into_iter()
+        .map(|v| {
+            let mut text = vec![b' '; width];
+            reference::number_write(&mut text, decimals, v).expect("the format has room");
+            text
+        })
+        .collect()
+}
+
+pub fn values(r: &mut Random, digits: u32) -> Vec<i64> {
+    let size = 10u64.pow(digits);
+    (0..256).map(|_| (r.next() % size) as i64).collect()
+}
+
+/// A table of a lab's shape: barcode, concentration, date, mark and well, over and over.
+pub fn table(r: &mut Random, fields: usize, records: usize) -> Vec<u8> {
+    let column = |kind, length, decimals| Column {
+        kind,
+        length,
+        decimals,
+    };
+    let five = [
+        column(b'C', 10, 0),
+        column(b'N', 8, 3),
+        column(b'D', 8, 0),
+        column(b'L', 1, 0),
+        column(b'N', 4, 0),
+    ];
+    let columns: Vec<Column> = five.iter().copied().cycle().take(fields).collect();
+    let mut t = table::blank(&columns, 0x03, records, 2);
+    let mut at = 33 + 32 * fields;
+    for _ in 0..records {
+        t[at] = if r.one_in(10) { b'*' } else { b' ' };
+        at += 1;
+        for c in &columns {
+            let cell = &mut t[at..at + c.length as usize];
+            match c.kind {
+                b'C' => cell.fill_with(|| b'0' + r.below(10) as u8),
+                b'N' => reference::number_write(cell, c.decimals as u32, r.below(9999) as i64)
+                    .expect("there is room"),
+                b'D' => cell.copy_from_slice(b"20240229"),
+                _ => cell[0] = b'T',
+            }
+            at += c.length as usize;
+        }
+    }
+    t
+}
+
+/// An index of so many pages at most, each with so many entries, its keys random but for so many bytes at their start.
+pub fn index(
+    r: &mut Random,
+    k: usize,
+    per_page: usize,
+    pages: usize,
+    alike: usize,
+) -> (Vec<u8>, Vec<Entry>) {
+    let mut leaves = pages;
+    loop {
+        let mut all = 0;
+        let mut level = leaves;
+        while level > 1 {
+            all += level;
+            level = level.div_ceil(per_page);
+        }
+        if all + 1 <= pages {
+            break;
+        }
+        leaves -= 1;
+    }
+    let mut entries = index::entries(r, k - alike, leaves * per_page, 0);
+    for e in &mut entries {
+        e.0.splice(0..0, std::iter::repeat_n(b'S', alike));
+    }
+    let bytes = index::tree(r, k, &entries, Fill::Exactly(per_page), 1);
+    (bytes, entries)
+}
+
+/// Keys that are not in the index: those that are, with their last byte changed.
+pub fn absent(keys: &[Vec<u8>], entries: &[Entry]) -> Vec<Vec<u8>> {
+    keys.iter()
+        .map(|key| {
+            let mut key = key.clone();
+            *key.last_mut().unwrap() ^= 1;
+            key
+        })
+        .filter(|key| entries.binary_search_by(|e| e.0.cmp(key)).is_err())
+        .collect()
+}
+
+/// A table with distinct barcodes, and the index on them.
+pub fn matching(r: &mut Random, records: usize) -> (Vec<u8>, Vec<u8>) {
+    let mut t = table(r, 5, records);
+    let record = 32;
+    let mut entries: Vec<Entry> = Vec::with_capacity(records);
+    for i in 0..records {
+        let at = 33 + 32 * 5 + i * record + 1;
+        let number = format!("{:010}", i * 7919 % 1_000_003 * 4099);
+        t[at..at + 10].copy_from_slice(&number.as_bytes()[..10]);
+        entries.push((t[at..at + 10].to_vec(), i as u32 + 1));
+    }
+    entries.sort();
+    let index = index::tree(r, 10, &entries, Fill::Exactly(24), 1);
+    (t, index)
+}
+
+/// A table of one field of one character.
+pub fn blank_records(records: usize) -> Vec<u8> {
+    let column = Column {
+        kind: b'C',
+        length: 1,
+        decimals: 0,
+    };
+    table::blank(&[column], 0x03, records, 0)
+}

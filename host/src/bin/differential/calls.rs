@@ -1,0 +1,364 @@
+//! Each call made both ways: by the library on lent memory that is watched, its out-parameters filled beforehand, and by the plain implementation.
+use crate::tally::{Call, Input, Tally};
+use gatherloom_host::ffi::{self, ABSENT, DONE, EMPTY};
+use gatherloom_host::lent::{Lent, Out};
+use gatherloom_host::reference::{self, Looked, Refusal, Step};
+use Input::{Bytes, Number};
+
+/// What a reading call is due to answer and to leave in its out-parameters, which held `held`.
+fn due<T>(result: Result<Option<T>, Refusal>, held: T) -> (u32, T) {
+    match result {
+        Ok(Some(value)) => (0, value),
+        Ok(None) => (EMPTY, held),
+        Err(number) => (number, held),
+    }
+}
+
+fn number_of<T>(result: Result<T, Refusal>) -> u32 {
+    result.err().unwrap_or(0)
+}
+
+pub fn table_check(tally: &mut Tally, table: &Lent) {
+    let got = unsafe { ffi::gl_table_check(table.place(), table.length()) };
+    let due = number_of(reference::check_table(table.was()));
+    let inputs = [Bytes("table", table.was())];
+    tally.hold(
+        Call::TableCheck,
+        (got, ()),
+        (due, ()),
+        table.kept(),
+        &inputs,
+    );
+}
+
+pub fn table_shape(tally: &mut Tally, table: &Lent, held: u32) {
+    let (mut records, mut fields, mut length) = (Out::new(held), Out::new(held), Out::new(held));
+    let got = unsafe {
+        ffi::gl_table_shape(
+            table.place(),
+            table.length(),
+            records.place(),
+            fields.place(),
+            length.place(),
+        )
+    };
+    let shape = reference::check_table(table.was())
+        .map(|s| Some((s.records, s.fields as u32, s.record_length as u32)));
+    tally.hold(
+        Call::TableShape,
+        (got, (records.value(), fields.value(), length.value())),
+        due(shape, (held, held, held)),
+        table.kept() && records.intact() && fields.intact() && length.intact(),
+        &[Bytes("table", table.was())],
+    );
+}
+
+const ENTRY: usize = 14;
+
+/// The list is lent as its bytes, `list`, which has no others around its entries.
+pub fn fields(tally: &mut Tally, table: &Lent, list: &Lent) {
+    let count = list.length() / ENTRY;
+    let got = unsafe { ffi::gl_fields(table.place(), table.length(), list.place().cast(), count) };
+    let mut entries: Vec<reference::Field> = list.was().chunks_exact(ENTRY).map(entry).collect();
+    let due = number_of(reference::list_fields(table.was(), &mut entries));
+    let mut bytes = Vec::with_capacity(list.length());
+    for e in &entries {
+        bytes.extend_from_slice(&e.name);
+        bytes.extend_from_slice(&[e.kind, e.length, e.decimals]);
+    }
+    tally.hold(
+        Call::Fields,
+        (got, ()),
+        (due, ()),
+        table.kept() && list.holds(&bytes),
+        &[Bytes("table", table.was()), Bytes("list", list.was())],
+    );
+}
+
+fn entry(bytes: &[u8]) -> reference::Field {
+    reference::Field {
+        name: bytes[..11].try_into().unwrap(),
+        kind: bytes[11],
+        length: bytes[12],
+        decimals: bytes[13],
+    }
+}
+
+/// A step of the walk; gives the position that it is due to leave.
+pub fn walk(tally: &mut Tally, table: &Lent, passed: u32, held: u32) -> (u32, u32) {
+    let mut position = Out::new(ffi::Position { passed });
+    let mut record = Out::new(held);
+    let got = unsafe {
+        ffi::gl_walk(
+            table.place(),
+            table.length(),
+            position.place(),
+            record.place(),
+        )
+    };
+    let mut after = passed;
+    let due = match reference::walk(table.was(), &mut after) {
+        Step::Record(number) => (0, (after, number)),
+        Step::Done => (DONE, (after, held)),
+        Step::Refused(number) => (number, (after, held)),
+    };
+    tally.hold(
+        Call::Walk,
+        (got, (position.value().passed, record.value())),
+        due,
+        table.kept() && position.intact() && record.intact(),
+        &[
+            Bytes("table", table.was()),
+            Number("position", passed.into()),
+        ],
+    );
+    (due.0, after)
+}
+
+fn cell_inputs<'a>(table: &'a Lent, record: u32, field: u32) -> [Input<'a>; 3] {
+    [
+        Bytes("table", table.was()),
+        Number("record", record.into()),
+        Number("field", field.into()),
+    ]
+}
+
+pub fn read_number(tally: &mut Tally, table: &Lent, record: u32, field: u32, held: i64) {
+    let mut value = Out::new(held);
+    let got =
+        unsafe { ffi::gl_read_number(table.place(), table.length(), record, field, value.place()) };
+    tally.hold(
+        Call::ReadNumber,
+        (got, value.value()),
+        due(reference::read_number(table.was(), record, field), held),
+        table.kept() && value.intact(),
+        &cell_inputs(table, record, field),
+    );
+}
+
+pub fn read_date(tally: &mut Tally, table: &Lent, record: u32, field: u32, held: u32) {
+    let (mut year, mut month, mut day) = (Out::new(held), Out::new(held), Out::new(held));
+    let got = unsafe {
+        ffi::gl_read_date(
+            table.place(),
+            table.length(),
+            record,
+            field,
+            year.place(),
+            month.place(),
+            day.place(),
+        )
+    };
+    tally.hold(
+        Call::ReadDate,
+        (got, (year.value(), month.value(), day.value())),
+        due(
+            reference::read_date(table.was(), record, field),
+            (held, held, held),
+        ),
+        table.kept() && year.intact() && month.intact() && day.intact(),
+        &cell_inputs(table, record, field),
+    );
+}
+
+pub fn read_logical(tally: &mut Tally, table: &Lent, record: u32, field: u32, held: u8) {
+    let mut value = Out::new(held);
+    let got = unsafe {
+        ffi::gl_read_logical(table.place(), table.length(), record, field, value.place())
+    };
+    let result = reference::read_logical(table.was(), record, field);
+    tally.hold(
+        Call::ReadLogical,
+        (got, value.value()),
+        due(result.map(|v| v.map(u8::from)), held),
+        table.kept() && value.intact(),
+        &cell_inputs(table, record, field),
+    );
+}
+
+pub fn text_part(tally: &mut Tally, table: &Lent, memo: &Lent, record: u32, field: u32, held: u64) {
+    let (mut start, mut length) = (Out::new(held), Out::new(held));
+    let got = unsafe {
+        ffi::gl_text_part(
+            table.place(),
+            table.length(),
+            memo.place(),
+            memo.length(),
+            record,
+            field,
+            start.place(),
+            length.place(),
+        )
+    };
+    let result = reference::text_part(table.was(), memo.was(), record, field);
+    let [of_table, of_record, of_field] = cell_inputs(table, record, field);
+    tally.hold(
+        Call::TextPart,
+        (got, (start.value(), length.value())),
+        due(
+            result.map(|p| p.map(|(s, l)| (s as u64, l as u64))),
+            (held, held),
+        ),
+        table.kept() && memo.kept() && start.intact() && length.intact(),
+        &[of_table, Bytes("memo", memo.was()), of_record, of_field],
+    );
+}
+
+pub fn number_read(tally: &mut Tally, text: &Lent, decimals: u32, held: i64) {
+    let mut value = Out::new(held);
+    let got = unsafe { ffi::gl_number_read(text.place(), text.length(), decimals, value.place()) };
+    tally.hold(
+        Call::NumberRead,
+        (got, value.value()),
+        due(reference::number_read(text.was(), decimals), held),
+        text.kept() && value.intact(),
+        &[
+            Bytes("text", text.was()),
+            Number("decimals", decimals.into()),
+        ],
+    );
+}
+
+pub fn number_write(tally: &mut Tally, text: &Lent, decimals: u32, value: i64) {
+    let got = unsafe { ffi::gl_number_write(text.place(), text.length(), decimals, value) };
+    let mut own = [0; 32];
+    let own = &mut own[..text.length()];
+    own.copy_from_slice(text.was());
+    let due = number_of(reference::number_write(own, decimals, value));
+    tally.hold(
+        Call::NumberWrite,
+        (got, ()),
+        (due, ()),
+        text.holds(own),
+        &[
+            Number("width", text.length() as i64),
+            Number("decimals", decimals.into()),
+            Number("value", value),
+        ],
+    );
+}
+
+/// `own` holds what the lent buffer does, before and after.
+pub fn fresh(tally: &mut Tally, index: &Lent, own: &mut [u8], k: u32, expression: &Lent) {
+    let got = unsafe {
+        ffi::gl_index_fresh(
+            index.place(),
+            index.length(),
+            k,
+            expression.place(),
+            expression.length(),
+        )
+    };
+    let due = number_of(reference::fresh(own, k, expression.was()));
+    tally.hold(
+        Call::IndexFresh,
+        (got, ()),
+        (due, ()),
+        index.holds(own) && expression.kept(),
+        &[
+            Bytes("index", index.was()),
+            Number("key length", k.into()),
+            Bytes("expression", expression.was()),
+        ],
+    );
+}
+
+/// `own` holds what the lent buffer does.
+pub fn audit(tally: &mut Tally, index: &Lent, own: &[u8]) -> u32 {
+    let got = unsafe { ffi::gl_index_audit(index.place(), index.length()) };
+    let due = number_of(reference::audit(own));
+    let inputs = [Bytes("index", own)];
+    tally.hold(
+        Call::IndexAudit,
+        (got, ()),
+        (due, ()),
+        index.holds(own),
+        &inputs,
+    );
+    due
+}
+
+pub fn lookup(tally: &mut Tally, index: &Lent, own: &[u8], key: &Lent, held: u32) {
+    let (mut record, mut pages) = (Out::new(held), Out::new(held));
+    let got = unsafe {
+        ffi::gl_index_lookup(
+            index.place(),
+            index.length(),
+            key.place(),
+            key.length(),
+            record.place(),
+            pages.place(),
+        )
+    };
+    let due = match reference::lookup(own, key.was()) {
+        Looked::Found(record, pages) => (0, (record, pages)),
+        Looked::Absent(pages) => (ABSENT, (held, pages)),
+        Looked::Refused(number) => (number, (held, held)),
+    };
+    tally.hold(
+        Call::IndexLookup,
+        (got, (record.value(), pages.value())),
+        due,
+        index.holds(own) && key.kept() && record.intact() && pages.intact(),
+        &[Bytes("index", own), Bytes("key", key.was())],
+    );
+}
+
+/// `own` holds what the lent buffer does, before and after; `before` is room for a copy.
+pub fn insert(
+    tally: &mut Tally,
+    index: &Lent,
+    own: &mut [u8],
+    before: &mut Vec<u8>,
+    key: &Lent,
+    record: u32,
+) -> u32 {
+    let got = unsafe {
+        ffi::gl_index_insert(
+            index.place(),
+            index.length(),
+            key.place(),
+            key.length(),
+            record,
+        )
+    };
+    before.clear();
+    before.extend_from_slice(own);
+    let due = number_of(reference::insert(own, key.was(), record));
+    tally.hold(
+        Call::IndexInsert,
+        (got, ()),
+        (due, ()),
+        index.holds(own) && key.kept(),
+        &[
+            Bytes("index", before),
+            Bytes("key", key.was()),
+            Number("record", record.into()),
+        ],
+    );
+    due
+}
+
+pub fn match_index(tally: &mut Tally, table: &Lent, index: &Lent, field: u32) {
+    let got = unsafe {
+        ffi::gl_match(
+            table.place(),
+            table.length(),
+            index.place(),
+            index.length(),
+            field,
+        )
+    };
+    let due = number_of(reference::match_index(table.was(), index.was(), field));
+    tally.hold(
+        Call::Match,
+        (got, ()),
+        (due, ()),
+        table.kept() && index.kept(),
+        &[
+            Bytes("table", table.was()),
+            Bytes("index", index.was()),
+            Number("field", field.into()),
+        ],
+    );
+}

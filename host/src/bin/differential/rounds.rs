@@ -1,0 +1,474 @@
+//! The inputs of a round, and the calls made on them.
+use crate::calls;
+use crate::tally::Tally;
+use gatherloom_host::generate::{
+    index::{self, Entry, Fill},
+    table, text,
+};
+use gatherloom_host::lent::{Arena, Lent};
+use gatherloom_host::random::Random;
+use gatherloom_host::reference;
+
+const MOST: usize = 16_777_216;
+
+/// Room for what a call is lent, each part watched for itself.
+pub struct Arenas {
+    table: Arena,
+    memo: Arena,
+    index: Arena,
+    key: Arena,
+    text: Arena,
+    list: Arena,
+}
+
+impl Arenas {
+    pub fn new() -> Arenas {
+        Arenas {
+            table: Arena::new(MOST + 1),
+            memo: Arena::new(MOST + 1),
+            index: Arena::new(1_048_576 + 4096),
+            key: Arena::new(512),
+            text: Arena::new(64),
+            list: Arena::new(14 * 256),
+        }
+    }
+}
+
+pub fn round(r: &mut Random, a: &mut Arenas, tally: &mut Tally) {
+    numbers(r, a, tally);
+    for _ in 0..4 {
+        a_table(r, a, tally);
+    }
+    fresh_calls(r, a, tally);
+    grown_index(r, a, tally);
+    made_index(r, a, tally);
+    for _ in 0..4 {
+        a_match(r, a, tally);
+    }
+    if r.one_in(20) {
+        spine(r, a, tally);
+    }
+    if r.one_in(500) {
+        large_index(r, a, tally);
+    }
+    if tally.round % 5000 == 1 {
+        longest_files(r, a, tally);
+    }
+}
+
+fn numbers(r: &mut Random, a: &mut Arenas, tally: &mut Tally) {
+    for _ in 0..200 {
+        let (width, decimals) = text::format(r);
+        let made = text::number(r, width, decimals);
+        let lent = a.text.lend(&made, r.one_in(2));
+        calls::number_read(tally, &lent, decimals, r.next() as i64);
+    }
+    for _ in 0..100 {
+        let (width, decimals) = text::format(r);
+        let before = r.bytes(width);
+        let lent = a.text.lend(&before, r.one_in(2));
+        calls::number_write(tally, &lent, decimals, text::value(r));
+    }
+}
+
+// ---- the table
+
+fn a_table(r: &mut Random, a: &mut Arenas, tally: &mut Tally) {
+    let (memo, near) = table::memo(r);
+    let mut bytes = table::table(r, &near);
+    for _ in 0..r.pick(&[0, 0, 0, 0, 1, 1, 1, 2, 3]) {
+        table::damage(r, &mut bytes);
+    }
+    if bytes.len() > MOST {
+        return;
+    }
+    let lent = a.table.lend(&bytes, r.one_in(2));
+    let memo = a.memo.lend(&memo, r.one_in(2));
+    let (records, fields, reads) = match reference::check_table(&bytes) {
+        Ok(shape) => (shape.records, shape.fields, 40),
+        Err(_) => (3, 3, 4),
+    };
+    calls::table_check(tally, &lent);
+    calls::table_shape(tally, &lent, r.word());
+    for _ in 0..2 {
+        let room = r.pick(&[0, fields.saturating_sub(1), fields, fields + 1, fields + 7]);
+        let list = r.bytes(14 * room);
+        let list = a.list.lend(&list, r.one_in(2));
+        calls::fields(tally, &lent, &list);
+    }
+    walks(r, tally, &lent, records);
+    for _ in 0..reads {
+        a_read(r, tally, &lent, &memo, records, fields);
+    }
+}
+
+/// A walk from the start to its end, or some way, and steps from anywhere.
+fn walks(r: &mut Random, tally: &mut Tally, table: &Lent, records: u32) {
+    let mut passed = 0;
+    for _ in 0..8 {
+        let (answer, after) = calls::walk(tally, table, passed, r.word());
+        passed = after;
+        if answer != 0 && answer != 15 {
+            break;
+        }
+    }
+    for _ in 0..2 {
+        let passed = r.near(&[0, records, u32::MAX]);
+        calls::walk(tally, table, passed, r.word());
+    }
+}
+
+/// A read of some field, mostly by the call for its type.
+fn a_read(
+    r: &mut Random,
+    tally: &mut Tally,
+    table: &Lent,
+    memo: &Lent,
+    records: u32,
+    fields: usize,
+) {
+    let record = match r.below(24) {
+        0 => r.near(&[0, records]),
+        _ => 1 + r.below(records as usize) as u32,
+    };
+    let field = match r.below(24) {
+        0 => r.near(&[0, fields as u32]),
+        _ => 1 + r.below(fields) as u32,
+    };
+    let at = (32 * field as usize).wrapping_add(11);
+    let kind = table.was().get(at).copied().unwrap_or(b'C');
+    let kind = if r.one_in(12) { r.pick(b"CNDL") } else { kind };
+    match kind {
+        b'N' => calls::read_number(tally, table, record, field, r.next() as i64),
+        b'D' => calls::read_date(tally, table, record, field, r.word()),
+        b'L' => calls::read_logical(tally, table, record, field, r.byte()),
+        _ => calls::text_part(tally, table, memo, record, field, r.next()),
+    }
+}
+
+/// Tables and memo files at the longest that is taken, and one byte longer.
+fn longest_files(r: &mut Random, a: &mut Arenas, tally: &mut Tally) {
+    let columns = [
+        table::Column {
+            kind: b'M',
+            length: 10,
+            decimals: 0,
+        },
+        table::column(r, b'C'),
+    ];
+    let record = 11 + columns[1].length as usize;
+    let mut bytes = table::blank(&columns, 0xF5, (MOST - 98) / record, 0);
+    let mut memo = vec![0; MOST + r.below(2)];
+    memo[..8].copy_from_slice(&[0, 8, 0, 0, 0, 0, 2, 0]);
+    let block = MOST - 512;
+    memo[block..block + 8].copy_from_slice(&[0, 0, 0, 1, 0, 0, 1, 0xF8]);
+    bytes[97 + 1..97 + 11].copy_from_slice(b"     32767");
+    let memo = a.memo.lend(&memo, true);
+    for length in [bytes.len(), MOST, MOST + 1] {
+        bytes.resize(length, b' ');
+        let count = (length - 97) / record;
+        bytes[4..8].copy_from_slice(&(count as u32).to_le_bytes());
+        let lent = a.table.lend(&bytes, true);
+        calls::table_check(tally, &lent);
+        calls::text_part(tally, &lent, &memo, 1, 1, r.next());
+        calls::text_part(tally, &lent, &memo, count as u32, 2, r.next());
+        calls::walk(tally, &lent, count as u32 - 1, r.word());
+    }
+}
+
+// ---- the index
+
+fn key_length(r: &mut Random) -> usize {
+    match r.below(8) {
+        0 => r.between(1, 100),
+        _ => r.pick(&[1, 2, 8, 10, 46, 100]),
+    }
+}
+
+fn expression(r: &mut Random) -> Vec<u8> {
+    let length = match r.below(4) {
+        0 => r.pick(&[0, 1, 219, 220, 221, 300]),
+        _ => r.between(1, 40),
+    };
+    let mut made: Vec<u8> = (0..length).map(|_| r.between(0x20, 0x7E) as u8).collect();
+    if r.one_in(8) && length > 0 {
+        made[r.below(length)] = r.pick(&[0x1F, 0x20, 0x7E, 0x7F, 0, 0xFF]);
+    }
+    made
+}
+
+fn fresh_calls(r: &mut Random, a: &mut Arenas, tally: &mut Tally) {
+    for _ in 0..8 {
+        let length = r.pick(&[0, 511, 1023, 1024, 1025, 1536]) + r.below(2);
+        let mut own = r.bytes(length);
+        let before = own.clone();
+        let expression = expression(r);
+        let k = r.near(&[1, 50, 100]);
+        let index = a.index.lend(&before, r.one_in(2));
+        let expression = a.key.lend(&expression, r.one_in(2));
+        calls::fresh(tally, &index, &mut own, k, &expression);
+    }
+}
+
+/// A key that is in the index, or near one that is, or any; now and then of a wrong length.
+fn probe(r: &mut Random, k: usize, entries: &[Entry], style: usize) -> Vec<u8> {
+    let mut key = if entries.is_empty() || r.one_in(4) {
+        index::key(r, k, style)
+    } else {
+        let at = r.below(entries.len());
+        entries[at].0.clone()
+    };
+    match r.below(12) {
+        0..=3 => {
+            let at = r.between(k.saturating_sub(2), k - 1);
+            key[at] = key[at].wrapping_add(r.pick(&[1, 0xFF]));
+        }
+        4 => key.fill(r.pick(&[0, 0xFF])),
+        5 if r.one_in(3) => key.resize(r.pick(&[0, k - 1, k + 1, 104]), b'B'),
+        _ => (),
+    }
+    key
+}
+
+fn looks(r: &mut Random, key: &mut Arena, tally: &mut Tally, index: &Lent, own: &[u8], k: &[u8]) {
+    let lent = key.lend(k, r.one_in(2));
+    calls::lookup(tally, index, own, &lent, r.word());
+}
+
+/// An index grown from fresh by insertions, every one of them compared byte by byte.
+fn grown_index(r: &mut Random, a: &mut Arenas, tally: &mut Tally) {
+    let k = key_length(r);
+    let length = 1024 + 512 * r.below(16) + r.pick(&[0, 0, 1, 511]);
+    let mut own = if r.one_in(2) {
+        vec![0; length]
+    } else {
+        r.bytes(length)
+    };
+    let at_first = own.clone();
+    let lent = a.index.lend(&at_first, r.one_in(2));
+    let mut before = Vec::new();
+    {
+        let expression = a.key.lend(b"BARCODE", true);
+        calls::fresh(tally, &lent, &mut own, k as u32, &expression);
+    }
+    let style = r.below(4);
+    let mut keys = index::entries(r, k, r.clone().between(1, 90), style);
+    match r.below(3) {
+        0 => keys.reverse(),
+        1 => r.shuffle(&mut keys),
+        _ => (),
+    }
+    let mut refused = 0;
+    for i in 0..keys.len() {
+        let key = if r.one_in(10) {
+            probe(r, k, &keys, style)
+        } else {
+            keys[i].0.clone()
+        };
+        let record = if r.one_in(40) { 0 } else { keys[i].1 };
+        let key = a.key.lend(&key, r.one_in(2));
+        let answer = calls::insert(tally, &lent, &mut own, &mut before, &key, record);
+        refused += (answer == 30) as usize;
+        if refused > 3 {
+            break;
+        }
+        if r.one_in(3) {
+            let key = probe(r, k, &keys, style);
+            looks(r, &mut a.key, tally, &lent, &own, &key);
+        }
+    }
+    calls::audit(tally, &lent, &own);
+}
+
+/// Lookups, an audit and insertions on an index as it is; the insertions change only a copy.
+fn use_index(
+    r: &mut Random,
+    a: &mut Arenas,
+    tally: &mut Tally,
+    bytes: &[u8],
+    entries: &[Entry],
+    style: usize,
+) {
+    let k = entries.first().map_or(1, |e| e.0.len());
+    let lent = a.index.lend(bytes, r.one_in(2));
+    calls::audit(tally, &lent, bytes);
+    for _ in 0..6 {
+        let key = probe(r, k, entries, style);
+        looks(r, &mut a.key, tally, &lent, bytes, &key);
+    }
+    let mut own = bytes.to_vec();
+    let mut before = Vec::new();
+    for _ in 0..r.pick(&[1, 1, 1, 6]) {
+        let key = probe(r, k, entries, style);
+        let key = a.key.lend(&key, r.one_in(2));
+        let record = if r.one_in(16) { 0 } else { r.word().max(1) };
+        if calls::insert(tally, &lent, &mut own, &mut before, &key, record) == 25 {
+            break;
+        }
+    }
+}
+
+/// A sound tree of a random shape, then damaged copies of it.
+fn made_index(r: &mut Random, a: &mut Arenas, tally: &mut Tally) {
+    let k = key_length(r);
+    let style = r.below(4);
+    let draws = r.pick(&[0, 1, 3, 10, 40, 120]);
+    let entries = index::entries(r, k, draws, style);
+    let fill = match r.below(3) {
+        0 => Fill::Full,
+        1 => Fill::Any,
+        _ => Fill::Exactly(r.between(1, index::capacity(k))),
+    };
+    let least = match r.below(4) {
+        0 => r.between(1, 12),
+        _ => 1,
+    };
+    let mut sound = index::tree(r, k, &entries, fill, least);
+    let slack = r.pick(&[0, 0, 1, 512, 1024, 3000]);
+    sound.extend(r.bytes(slack));
+    use_index(r, a, tally, &sound, &entries, style);
+    for _ in 0..8 {
+        let mut bytes = sound.clone();
+        for _ in 0..r.pick(&[1, 1, 1, 2, 4]) {
+            index::damage(r, &mut bytes);
+        }
+        if r.one_in(16) {
+            bytes.truncate(r.below(bytes.len() + 1));
+        }
+        use_index(r, a, tally, &bytes, &entries, style);
+    }
+}
+
+/// A path of full pages, so that an insertion splits every page on it, as far as there is room.
+fn spine(r: &mut Random, a: &mut Arenas, tally: &mut Tally) {
+    let k = r.pick(&[46, 62, 100]);
+    let (mut bytes, key) = index::spine(r, k, r.clone().below(12 * (index::capacity(k) - 1)) + 1);
+    bytes.extend(r.bytes(512 * r.clone().below(15)));
+    let lent = a.index.lend(&bytes, r.one_in(2));
+    let mut own = bytes.clone();
+    let mut before = Vec::new();
+    calls::audit(tally, &lent, &bytes);
+    for record in 1..4 {
+        let mut key = key.clone();
+        if record > 1 {
+            key[k - 1] = r.byte();
+        }
+        looks(r, &mut a.key, tally, &lent, &own, &key);
+        let key = a.key.lend(&key, r.one_in(2));
+        calls::insert(tally, &lent, &mut own, &mut before, &key, record);
+    }
+    calls::audit(tally, &lent, &own);
+}
+
+/// An index of up to 1 MiB, and a damaged copy.
+fn large_index(r: &mut Random, a: &mut Arenas, tally: &mut Tally) {
+    let k = r.pick(&[3, 8, 10, 46, 100]);
+    let leaves = r.between(600, 1990);
+    let per_leaf = index::capacity(k).min(6);
+    let entries = index::entries(r, k, leaves * per_leaf, 0);
+    let mut bytes = index::tree(r, k, &entries, Fill::Exactly(per_leaf), 1);
+    let limit = 1_048_576 + r.pick(&[0, 0, 1, 512]);
+    if bytes.len() < limit && r.one_in(2) {
+        bytes.resize(limit, 0x55);
+    }
+    if bytes.len() > limit {
+        return;
+    }
+    use_index(r, a, tally, &bytes, &entries, 0);
+    index::damage(r, &mut bytes);
+    use_index(r, a, tally, &bytes, &entries, 0);
+}
+
+// ---- the match
+
+/// A table with a C field as long as the keys, its records' keys distinct for the most part.
+fn keyed_table(r: &mut Random, k: usize, keys: &[Entry]) -> (Vec<u8>, u32) {
+    let field = r.below(3);
+    let mut columns: Vec<table::Column> = (0..field + r.below(2))
+        .map(|_| {
+            let kind = r.pick(b"CNDL");
+            table::column(r, kind)
+        })
+        .collect();
+    let keyed = table::Column {
+        kind: b'C',
+        length: k as u8,
+        decimals: 0,
+    };
+    columns.insert(field, keyed);
+    let offset: usize = columns[..field].iter().map(|c| c.length as usize).sum();
+    let mut bytes = table::blank(&columns, 0x03, keys.len(), 0);
+    let header = 33 + 32 * columns.len();
+    let record = 1 + columns.iter().map(|c| c.length as usize).sum::<usize>();
+    for (i, key) in keys.iter().enumerate() {
+        let at = header + i * record;
+        bytes[at] = r.pick(b" *?");
+        bytes[at + 1 + offset..][..k].copy_from_slice(&key.0);
+    }
+    (bytes, field as u32 + 1)
+}
+
+fn a_match(r: &mut Random, a: &mut Arenas, tally: &mut Tally) {
+    let k = key_length(r);
+    let draws = match r.below(30) {
+        0 => 600,
+        _ => r.below(14),
+    };
+    let style = r.below(4);
+    let mut keys = index::entries(r, k, draws, style);
+    r.shuffle(&mut keys);
+    let (mut table, field) = keyed_table(r, k, &keys);
+    for (i, e) in keys.iter_mut().enumerate() {
+        e.1 = i as u32 + 1;
+    }
+    keys.sort();
+    spoil_entries(r, k, &mut keys);
+    let mut index = index::tree(r, k, &keys, Fill::Any, 1);
+    match r.below(12) {
+        0..=1 => table::damage(r, &mut table),
+        2..=3 => index::damage(r, &mut index),
+        4 => {
+            let at = r.below(table.len());
+            table[at] = r.byte();
+        }
+        _ => (),
+    }
+    if table.len() > MOST {
+        return;
+    }
+    let field = if r.one_in(10) {
+        r.near(&[0, 1, 2, 3, 4])
+    } else {
+        field
+    };
+    let table = a.table.lend(&table, r.one_in(2));
+    let index = a.index.lend(&index, r.one_in(2));
+    calls::match_index(tally, &table, &index, field);
+}
+
+/// Entries that are no longer the records': one lacks, one is too many, two name one record, or one names another.
+fn spoil_entries(r: &mut Random, k: usize, keys: &mut Vec<Entry>) {
+    if keys.is_empty() {
+        return;
+    }
+    let (i, j) = (r.below(keys.len()), r.below(keys.len()));
+    match r.below(10) {
+        0 => {
+            keys.remove(i);
+        }
+        1 => keys[i].1 = keys[j].1,
+        2 => keys[i].1 = keys.len() as u32 + 1,
+        3 => {
+            let (one, other) = (keys[i].1, keys[j].1);
+            keys[i].1 = other;
+            keys[j].1 = one;
+        }
+        4 => {
+            let record = r.pick(&[1, keys.len() as u32, keys.len() as u32 + 1, u32::MAX]);
+            keys.push((index::key(r, k, 0), record));
+            keys.sort();
+            keys.dedup_by(|one, other| one.0 == other.0);
+        }
+        _ => (),
+    }
+}

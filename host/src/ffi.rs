@@ -1,0 +1,111 @@
+//! The C interface of the proved library, as its header declares it.
+
+/// `gl_field_entry`
+#[repr(C)]
+#[derive(Clone, Copy, Debug, PartialEq, Eq)]
+pub struct FieldEntry {
+    pub name: [u8; 11],
+    pub kind: u8,
+    pub length: u8,
+    pub decimals: u8,
+}
+
+/// `gl_position`
+#[repr(C)]
+#[derive(Clone, Copy, Debug, PartialEq, Eq)]
+pub struct Position {
+    pub passed: u32,
+}
+
+/// The answers beside 0 and the refusal numbers.
+pub const EMPTY: u32 = 256;
+pub const ABSENT: u32 = 257;
+pub const DONE: u32 = 258;
+
+extern "C" {
+    pub fn gl_table_check(table: *const u8, table_len: usize) -> u32;
+    pub fn gl_table_shape(
+        table: *const u8,
+        table_len: usize,
+        records: *mut u32,
+        fields: *mut u32,
+        record_length: *mut u32,
+    ) -> u32;
+    pub fn gl_fields(
+        table: *const u8,
+        table_len: usize,
+        entries: *mut FieldEntry,
+        entry_count: usize,
+    ) -> u32;
+    pub fn gl_walk(
+        table: *const u8,
+        table_len: usize,
+        position: *mut Position,
+        record: *mut u32,
+    ) -> u32;
+    pub fn gl_read_number(
+        table: *const u8,
+        table_len: usize,
+        record: u32,
+        field: u32,
+        value: *mut i64,
+    ) -> u32;
+    pub fn gl_read_date(
+        table: *const u8,
+        table_len: usize,
+        record: u32,
+        field: u32,
+        year: *mut u32,
+        month: *mut u32,
+        day: *mut u32,
+    ) -> u32;
+    pub fn gl_read_logical(
+        table: *const u8,
+        table_len: usize,
+        record: u32,
+        field: u32,
+        value: *mut u8,
+    ) -> u32;
+    pub fn gl_text_part(
+        table: *const u8,
+        table_len: usize,
+        memo: *const u8,
+        memo_len: usize,
+        record: u32,
+        field: u32,
+        start: *mut u64,
+        length: *mut u64,
+    ) -> u32;
+    pub fn gl_number_read(text: *const u8, width: usize, decimals: u32, value: *mut i64) -> u32;
+    pub fn gl_number_write(text: *mut u8, width: usize, decimals: u32, value: i64) -> u32;
+    pub fn gl_index_fresh(
+        index: *mut u8,
+        index_len: usize,
+        key_length: u32,
+        expression: *const u8,
+        expression_len: usize,
+    ) -> u32;
+    pub fn gl_index_audit(index: *const u8, index_len: usize) -> u32;
+    pub fn gl_index_lookup(
+        index: *const u8,
+        index_len: usize,
+        key: *const u8,
+        key_len: usize,
+        record: *mut u32,
+        pages: *mut u32,
+    ) -> u32;
+    pub fn gl_index_insert(
+        index: *mut u8,
+        index_len: usize,
+        key: *const u8,
+        key_len: usize,
+        record: u32,
+    ) -> u32;
+    pub fn gl_match(
+        table: *const u8,
+        table_len: usize,
+        index: *const u8,
+        index_len: usize,
+        field: u32,
+    ) -> u32;
+}

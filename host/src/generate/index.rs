@@ -1,0 +1,286 @@
+//! Indexes: sound trees of any shape, and ways to damage them.
+use crate::random::Random;
+
+pub const NONE: u32 = 0xFFFF_FFFF;
+
+pub type Entry = (Vec<u8>, u32);
+
+pub fn capacity(k: usize) -> usize {
+    500 / (k + 4)
+}
+
+/// How full the pages of a tree are made.
+#[derive(Clone, Copy)]
+pub enum Fill {
+    Full,
+    Any,
+    Exactly(usize),
+}
+
+impl Fill {
+    fn of_page(self, r: &mut Random, k: usize) -> usize {
+        match self {
+            Fill::Full => capacity(k),
+            Fill::Any => r.between(1, capacity(k)),
+            Fill::Exactly(n) => n,
+        }
+    }
+}
+
+/// A key: of few different bytes, or of any, or one that differs from others only at its end.
+pub fn key(r: &mut Random, k: usize, style: usize) -> Vec<u8> {
+    let mut key = vec![b'B'; k];
+    match style % 4 {
+        0 => r.fill(&mut key),
+        1 => key.fill_with(|| r.pick(b"AB\x00\x7F\x80\xFF")),
+        2 => {
+            let tail = k.saturating_sub(2);
+            r.fill(&mut key[tail..]);
+        }
+        _ => {
+            let n = r.below(10_000).to_string().into_bytes();
+            let shown = n.len().min(k);
+            key.fill(b'0');
+            key[k - shown..].copy_from_slice(&n[n.len() - shown..]);
+        }
+    }
+    key
+}
+
+/// Entries with distinct ascending keys, as many as come of so many draws.
+pub fn entries(r: &mut Random, k: usize, draws: usize, style: usize) -> Vec<Entry> {
+    let mut keys: Vec<Vec<u8>> = (0..draws).map(|_| key(r, k, style)).collect();
+    keys.sort();
+    keys.dedup();
+    let mut made: Vec<Entry> = keys.into_iter().map(|key| (key, 0)).collect();
+    for e in made.iter_mut() {
+        e.1 = r.word().max(1);
+    }
+    made
+}
+
+/// Groups of neighbouring entries, a group for each page of a level.
+fn group(r: &mut Random, k: usize, entries: Vec<Entry>, fill: Fill) -> Vec<Vec<Entry>> {
+    let mut pages = Vec::new();
+    let mut left = entries.into_iter().peekable();
+    while left.peek().is_some() {
+        let n = fill.of_page(r, k);
+        pages.push(left.by_ref().take(n).collect());
+    }
+    pages
+}
+
+/// The levels of a tree, leaves first. An entry above a leaf carries the number of its child in the level below.
+fn levels(
+    r: &mut Random,
+    k: usize,
+    entries: &[Entry],
+    fill: Fill,
+    least: usize,
+) -> Vec<Vec<Vec<Entry>>> {
+    let mut made = vec![group(r, k, entries.to_vec(), fill)];
+    if made[0].is_empty() {
+        made[0].push(Vec::new());
+        return made;
+    }
+    loop {
+        let below = made.last().unwrap();
+        if below.len() == 1 && made.len() >= least {
+            return made;
+        }
+        let above = below
+            .iter()
+            .enumerate()
+            .map(|(i, page)| (page.last().unwrap().0.clone(), i as u32))
+            .collect();
+        // pages of one entry do not make a level smaller
+        let fill = match fill {
+            Fill::Any if made.len() < 4 => Fill::Any,
+            Fill::Exactly(n) if n > 1 => fill,
+            _ => Fill::Full,
+        };
+        let pages = group(r, k, above, fill);
+        made.push(pages);
+    }
+}
+
+/// An index whose pages have one entry, but for one path from the root to a leaf where they are full or lack one entry, and a key that goes into
+/// that leaf. `pages` is the number of leaves; k is at least 2.
+pub fn spine(r: &mut Random, k: usize, pages: usize) -> (Vec<u8>, Vec<u8>) {
+    let numbered = |n: usize| {
+        let mut key = vec![b'S'; k];
+        key[k - 2..].copy_from_slice(&(n as u16).to_be_bytes());
+        key
+    };
+    let almost = |r: &mut Random| capacity(k) - r.one_in(12) as usize;
+    let mut on = r.below(pages);
+    let mut next = 0;
+    let mut level: Vec<Vec<Entry>> = Vec::new();
+    for page in 0..pages {
+        let n = if page == on { almost(r) } else { 1 };
+        level.push(
+            (next..next + n)
+                .map(|i| (numbered(2 * i), 1 + i as u32))
+                .collect(),
+        );
+        next += n;
+    }
+    let key = numbered(2 * (on + r.below(level[on].len())) + 1);
+    let mut levels = vec![level];
+    while levels.last().unwrap().len() > 1 {
+        let below = levels.last().unwrap();
+        let n = almost(r).min(below.len());
+        let first = r.between((on + 1).saturating_sub(n), on.min(below.len() - n));
+        let mut level: Vec<Vec<Entry>> = Vec::new();
+        for (i, page) in below.iter().enumerate() {
+            let e = (page.last().unwrap().0.clone(), i as u32);
+            if i > first && i < first + n {
+                level.last_mut().unwrap().push(e);
+            } else {
+                level.push(vec![e]);
+            }
+        }
+        on = first;
+        levels.push(level);
+    }
+    (laid_out(r, k, &levels), key)
+}
+
+fn write_page(b: &mut [u8], k: usize, attribute: u16, links: [u32; 2], entries: &[Entry]) {
+    b[..2].copy_from_slice(&attribute.to_le_bytes());
+    b[2..4].copy_from_slice(&(entries.len() as u16).to_le_bytes());
+    b[4..8].copy_from_slice(&links[0].to_le_bytes());
+    b[8..12].copy_from_slice(&links[1].to_le_bytes());
+    for (e, at) in entries.iter().zip(b[12..].chunks_exact_mut(k + 4)) {
+        at[..k].copy_from_slice(&e.0);
+        at[k..].copy_from_slice(&e.1.to_be_bytes());
+    }
+}
+
+fn write_header(b: &mut [u8], k: usize, root: u32, size: u32) {
+    b[..4].copy_from_slice(&root.to_le_bytes());
+    b[4..8].copy_from_slice(&NONE.to_le_bytes());
+    b[8..12].copy_from_slice(&size.to_le_bytes());
+    b[12..14].copy_from_slice(&(k as u16).to_le_bytes());
+    b[14] = 1;
+}
+
+/// An index of these entries, its pages anywhere in the file and of any fullness, with at least so many levels. What no rule reads is garbage.
+pub fn tree(r: &mut Random, k: usize, entries: &[Entry], fill: Fill, least: usize) -> Vec<u8> {
+    let levels = levels(r, k, entries, fill, least);
+    laid_out(r, k, &levels)
+}
+
+/// The levels as bytes, each page anywhere in the file.
+fn laid_out(r: &mut Random, k: usize, levels: &[Vec<Vec<Entry>>]) -> Vec<u8> {
+    let pages: usize = levels.iter().map(Vec::len).sum();
+    let mut places: Vec<u32> = (1..=pages as u32).map(|p| p * 512).collect();
+    r.shuffle(&mut places);
+    let mut b = vec![0; 512 * (pages + 1)];
+    if r.one_in(2) {
+        r.fill(&mut b);
+    }
+    let mut first = 0;
+    let mut below: &[u32] = &[];
+    for (height, level) in levels.iter().enumerate() {
+        let here = &places[first..first + level.len()];
+        let attribute = (height == 0) as u16 * 2 + (height + 1 == levels.len()) as u16;
+        for (i, page) in level.iter().enumerate() {
+            let mut page = page.clone();
+            if height > 0 {
+                page.iter_mut().for_each(|e| e.1 = below[e.1 as usize]);
+            }
+            let left = if i == 0 { NONE } else { here[i - 1] };
+            let right = here.get(i + 1).copied().unwrap_or(NONE);
+            let at = here[i] as usize;
+            write_page(&mut b[at..at + 512], k, attribute, [left, right], &page);
+        }
+        below = here;
+        first += level.len();
+    }
+    let size = b.len() as u32;
+    write_header(&mut b, k, below[0], size);
+    b
+}
+
+/// A page of the file, or something that only looks like one.
+fn place(r: &mut Random, pages: usize) -> u32 {
+    match r.below(8) {
+        0 => r.near(&[0, 512, NONE, 512 * pages as u32]),
+        1 => 512 * r.below(pages + 2) as u32 + r.below(512) as u32,
+        _ => 512 * r.between(1, pages.max(2) - 1) as u32,
+    }
+}
+
+fn damage_header(r: &mut Random, b: &mut [u8], pages: usize) {
+    match r.below(6) {
+        0 => b[..4].copy_from_slice(&place(r, pages).to_le_bytes()),
+        1 => b[r.between(4, 7)] = r.byte(),
+        2 => b[8..12].copy_from_slice(&place(r, pages).to_le_bytes()),
+        3 => {
+            let k = u16::from_le_bytes([b[12], b[13]]);
+            let near = r.pick(&[0, 1, 100, 101, k ^ 1, k + 1, k | 0x100, 0xFFFF]);
+            b[12..14].copy_from_slice(&near.to_le_bytes());
+        }
+        4 => b[14] = r.pick(&[0, 1, 2, 3, 0xFF]),
+        _ => b[r.below(16)] = r.byte(),
+    }
+}
+
+fn damage_entry(r: &mut Random, page: &mut [u8], k: usize, pages: usize) {
+    let count = (u16::from_le_bytes([page[2], page[3]]) as usize).clamp(1, capacity(k));
+    let width = k + 4;
+    let (i, j) = (r.below(count), r.below(count));
+    let entry = |i: usize| 12 + i * width;
+    match r.below(7) {
+        0 => page[entry(i) + k..entry(i) + width].fill(0),
+        1 => page[entry(i) + k..entry(i) + width].copy_from_slice(&place(r, pages).to_be_bytes()),
+        2 => page.copy_within(entry(i)..entry(i) + width, entry(j)),
+        3 => page.copy_within(entry(i) + k..entry(i) + width, entry(j) + k),
+        4 => page.copy_within(entry(i)..entry(i) + k, entry(j)),
+        5 => {
+            let last = entry(i) + k - 1;
+            page[last] = page[last].wrapping_add(r.pick(&[1, 0xFF]));
+        }
+        _ => page[entry(i) + r.below(width)] = r.byte(),
+    }
+}
+
+/// One change in a page's numbers or entries, or in the header, or anywhere.
+pub fn damage(r: &mut Random, b: &mut [u8]) {
+    let pages = b.len() / 512;
+    if pages < 2 {
+        return;
+    }
+    let k = (u16::from_le_bytes([b[12], b[13]]) as usize).clamp(1, 100);
+    let at = 512 * r.between(1, pages - 1);
+    let page = &mut b[at..at + 512];
+    let count = u16::from_le_bytes([page[2], page[3]]);
+    match r.below(16) {
+        0 => damage_header(r, b, pages),
+        1..=2 => page[0] = r.pick(&[0, 1, 2, 3, 4, 5]),
+        3 => page[1] = 1,
+        4..=5 => {
+            let full = capacity(k) as u16;
+            let near = r.pick(&[
+                0,
+                1,
+                full,
+                full + 1,
+                0xFFFF,
+                count ^ 1,
+                count.wrapping_sub(1),
+            ]);
+            page[2..4].copy_from_slice(&near.to_le_bytes());
+        }
+        6 => page[4..8].copy_from_slice(&place(r, pages).to_le_bytes()),
+        7 => page[8..12].copy_from_slice(&place(r, pages).to_le_bytes()),
+        8 => page[4 + r.below(8)] ^= 1 << r.below(8),
+        9 => {
+            let other = 512 * r.between(1, pages - 1);
+            b.copy_within(other..other + 512, at);
+        }
+        10 => b[r.below(b.len())] = r.byte(),
+        _ => damage_entry(r, page, k, pages),
+    }
+}
