@@ -5,3 +5,4 @@ pub mod TestLaws
 pub mod StepLaws
 pub mod LeafLaws
 pub mod CallLaws
+pub mod AnswerLaws
