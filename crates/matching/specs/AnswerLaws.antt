@@ -1,8 +1,8 @@
 -- Laws: the rule of match leaves no choice: an answer is accepted, or 25, or 31, exactly where document 01 says so, and no two answers meet the rule. Cited by no
 -- proof of the code: they are for readers of the rule. Assumes nothing.
 use Prim.Native.Nat.{ℕ, _-_, _≤_, _<_}
-use mathlib.Core.Path.{_≡_, refl, sym, _∙_}
-use mathlib.Core.Bool.{Bool, true, false}
+use mathlib.Core.Path.{_≡_, sym, _∙_}
+use mathlib.Core.Bool.{Bool}
 use mathlib.Core.List.{List, [], _∷_, _++_}
 use mathlib.Core.Logic.{_↔_, ⊎-elim}
 use native.Mathlib.Omega.{arith}

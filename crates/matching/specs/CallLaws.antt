@@ -1,16 +1,16 @@
 -- Laws: the refusals before the audit, one by one; what is known once there is none; and the answers of the match. Cited by the proofs of the match's calls.
 -- Assumes nothing.
-use Prim.Native.Nat.{ℕ, _+_, _-_, _≤_}
+use Prim.Native.Nat.{ℕ, _-_, _≤_}
 use mathlib.Core.Path.{_≡_, refl, sym, ap, _∙_}
 use mathlib.Core.Bool.{Bool, true, false}
 use mathlib.Core.List.{List, [], _∷_}
-use mathlib.Core.Logic.{_↔_, _⊎_, inl, inr}
+use mathlib.Core.Logic.{_↔_, inl, inr}
 use native.Mathlib.Omega.{arith}
 use lib.ListN.{length}
 use lib.Dec.{eqb, lit<}
 use borrow.Author.Tests.{eqb-true, eq-eqb, ne-eqb}
-use Rattle.basis.specs.Tests.{either, contra}
-use Rattle.table.specs.Table.{typeC, recordCount, recordsEnd, recordStart, fieldCount, fieldType, fieldLength, fieldOffset, firstRefusal, tableChecks, tableRefusal, checkTable}
+use Rattle.basis.specs.Tests.{contra}
+use Rattle.table.specs.Table.{typeC, recordCount, recordStart, fieldCount, fieldType, fieldLength, firstRefusal, tableChecks, tableRefusal, checkTable}
 use Rattle.table.specs.TableLaws.{layout, table-numbered, first-after, first-both, first-none, refused-check, refused-then, Shaped}
 use Rattle.table.specs.RecordLaws.{field-inside, record-inside}
 use Rattle.table.specs.declared.Shape.{Shape}

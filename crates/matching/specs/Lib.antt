@@ -6,3 +6,4 @@ pub mod StepLaws
 pub mod LeafLaws
 pub mod CallLaws
 pub mod AnswerLaws
+pub mod DeletionLaws
