@@ -1,5 +1,5 @@
--- Laws: the rule of match leaves no choice: an answer is accepted, or 25, or 31, exactly where document 01 says so, and no two answers meet the rule. Cited by no
--- proof of the code: they are for readers of the rule. Assumes nothing.
+-- Laws: the rule of match leaves no choice: 0, 25 and 31 are answered exactly where document 01 says so, and no two answers meet the rule. Cited by no proof
+-- of the code: they are for readers of the rule. Assumes nothing.
 use Prim.Native.Nat.{ℕ, _-_, _≤_, _<_}
 use mathlib.Core.Path.{_≡_, sym, _∙_}
 use mathlib.Core.Bool.{Bool}

@@ -1,5 +1,5 @@
--- Laws: "each record 1 to n, whatever its deletion byte": another byte in the place of a record's deletion byte changes no answer of the match. Cited by no proof of
--- the code: they are for readers of the rule. Assumes nothing.
+-- Laws: "each record 1 to n, whatever its deletion byte": another byte in the place of a record's deletion byte changes no answer of the match. Cited by no
+-- proof of the code: they are for readers of the rule. Assumes nothing.
 use Prim.Native.Nat.{ℕ, _+_, _-_, _≤_, _<_}
 use mathlib.Core.Path.{_≡_, sym, _∙_}
 use mathlib.Core.List.{List, [], _∷_}
