@@ -30,7 +30,7 @@ use Rattle.cell.specs.declared.Reads.the-variants.{Numbers, Dates, Logic
 unfoldable pub withMark : List ℕ → ℕ → ℕ → List ℕ
 withMark b i mark = put b (recordStart b i) (mark ∷ [])
 
-first-same : (checks more less : List (Bool × ℕ)) → firstRefusal more ≡ firstRefusal less → firstRefusal (checks ++ more) ≡ firstRefusal (checks ++ less)
+pub first-same : (checks more less : List (Bool × ℕ)) → firstRefusal more ≡ firstRefusal less → firstRefusal (checks ++ more) ≡ firstRefusal (checks ++ less)
 unfolding firstRefusal
 first-same [] more less e = e
 first-same (check ∷ checks) more less e = rw (first-same checks more less e)
@@ -55,7 +55,7 @@ module _ (b : List ℕ) (i mark : ℕ) (good : tableRefusal b ≡ 0) (from : 1 �
       let last : i - 1 < recordCount b = omega arith in
       omega (arith, record-positive b (layout b good), mul-le-mul-right (recordLength b) last)
 
-  same-header : SameHeader b (withMark b i mark)
+  pub same-header : SameHeader b (withMark b i mark)
   unfolding withMark
   same-header = record {
     size = length-put b (recordStart b i) (mark ∷ []);

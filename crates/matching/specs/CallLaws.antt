@@ -1,17 +1,17 @@
 -- Laws: the refusals before the audit, one by one; what is known once there is none; and the answers of the match. Cited by the proofs of the match's calls.
 -- Assumes nothing.
-use Prim.Native.Nat.{ℕ, _+_, _-_, _≤_}
+use Prim.Native.Nat.{ℕ, _-_, _≤_}
 use mathlib.Core.Path.{_≡_, refl, sym, ap, _∙_}
 use mathlib.Core.Bool.{Bool, true, false}
 use mathlib.Core.List.{List, [], _∷_}
-use mathlib.Core.Logic.{_↔_, _⊎_, inl, inr}
+use mathlib.Core.Logic.{_↔_, inl, inr}
 use native.Mathlib.Omega.{arith}
 use lib.ListN.{length}
 use lib.Dec.{eqb, lit<}
 use borrow.Author.Tests.{eqb-true, eq-eqb, ne-eqb}
-use Rattle.basis.specs.Tests.{either, contra}
-use Rattle.table.specs.Table.{typeC, recordCount, recordsEnd, recordStart, fieldCount, fieldType, fieldLength, fieldOffset, firstRefusal, tableChecks, tableRefusal, checkTable}
-use Rattle.table.specs.TableLaws.{layout, table-numbered, first-after, first-none, refused-check, refused-then, Shaped}
+use Rattle.basis.specs.Tests.{contra}
+use Rattle.table.specs.Table.{typeC, recordCount, recordStart, fieldCount, fieldType, fieldLength, firstRefusal, tableChecks, tableRefusal, checkTable}
+use Rattle.table.specs.TableLaws.{layout, table-numbered, first-after, first-both, first-none, refused-check, refused-then, Shaped}
 use Rattle.table.specs.RecordLaws.{field-inside, record-inside}
 use Rattle.table.specs.declared.Shape.{Shape}
 use Rattle.table.specs.declared.Checked.the-variants.{Refused}
@@ -97,6 +97,11 @@ module _ (t b : List ℕ) (field : ℕ) (good : tableRefusal t ≡ 0) where
         width = eqb-true _ _ (held .1 .1 .1 .0);
         column = column-inside (range .0) (range .1);
       }
+
+-- the table's checks come first
+pub table-good : (t b : List ℕ) (field : ℕ) → matchRefusal t b field ≡ 0 → tableRefusal t ≡ 0
+unfolding matchRefusal tableRefusal
+table-good t b field e = first-both (tableChecks t) _ (table-numbered t) e .0
 
 -- ---- what the calls hand on
 

@@ -5,3 +5,5 @@ pub mod TestLaws
 pub mod StepLaws
 pub mod LeafLaws
 pub mod CallLaws
+pub mod AnswerLaws
+pub mod DeletionLaws

@@ -12,11 +12,16 @@ use Rattle.table.specs.Table.{minTable, recordStart}
 use Rattle.field.specs.Field.{numberGood}
 use Rattle.tree.specs.Lists.{concatMap}
 use Rattle.page.specs.Header.{maxLevels, rootOffset, fileSize, keyLength}
+use Rattle.page.specs.Page.{keyAt, numberAt}
 use Rattle.page.specs.Reading.{entriesAt}
 use Rattle.sound.specs.Rule.{Entries, maxPages, chain, isLeaf, firstChild}
 use Rattle.matching.specs.declared.Column.{Column}
 
 -- ---- entries
+
+-- entry i of the page at p: its key and its number
+abbrev pub entryAt : List ℕ → ℕ → ℕ → ℕ → List ℕ × ℕ
+entryAt b k p i = (keyAt b k p i, numberAt b k p i)
 
 -- the field's bytes in record i
 unfoldable pub columnBytes : List ℕ → Column → ℕ → List ℕ

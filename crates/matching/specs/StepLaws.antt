@@ -1,5 +1,5 @@
--- Laws: one entry by its tests, and the loops over the entries of a leaf, over the leaves and down to the first leaf, by what is left to do. Cited by the proofs of
--- these functions. Assumes nothing.
+-- Laws: one entry by its tests, and the loops over the entries of a leaf, over the leaves and down to the first leaf, by what is left to do. Cited by the
+-- proofs of these functions. Assumes nothing.
 use Prim.Native.Nat.{ℕ, zero, suc, _+_, _-_, _≤_, _<_}
 use mathlib.Core.Path.{_≡_, refl, sym, ap, _∙_}
 use mathlib.Core.Bool.{Bool, true, false, _&&_}
@@ -16,6 +16,7 @@ use Rattle.octets.specs.Store.{window}
 use Rattle.octets.specs.StoreLaws.{length-window}
 use Rattle.table.specs.Table.{recordsEnd, recordStart}
 use Rattle.field.specs.Field.{numberGood}
+use Rattle.cell.specs.CellLaws.{part-window}
 use Rattle.tree.specs.Lists.{concatMap}
 use Rattle.page.specs.Header.{maxLevels, isPage}
 use Rattle.page.specs.Page.{countAt, capacity, entryArea, keyAt, numberAt, rightAt}
@@ -26,39 +27,37 @@ use Rattle.sound.specs.Rule.{Entries, maxPages, chain, isLeaf, firstChild}
 use Rattle.audit.specs.EntryLaws.{entries-are, from-on, from-end}
 use Rattle.audit.specs.PassLaws.{chain-none, chain-some}
 use Rattle.matching.specs.declared.Column.{Column}
-use Rattle.matching.specs.Rule.{columnBytes, entryGood, entriesGood, entriesMatch, firstLeaf, entriesAlong, ColumnInside}
+use Rattle.matching.specs.Rule.{entryAt, columnBytes, entryGood, entriesGood, entriesMatch, firstLeaf, entriesAlong, ColumnInside}
 
 -- ---- one entry
 
+-- a part of the table by its start and its end
+abbrev pub part : List ℕ → ℕ → ℕ → List ℕ
+part t at n = take (at + n - at) (drop at t)
+
 module _ (t : List ℕ) (c : Column) (number : ℕ) where
   pub entry-outside : (b : List ℕ) (p i : ℕ) → number ≡ numberAt b (c .length) p i → numberGood number (c .records) ≡ false
-      → false ≡ entryGood t c (keyAt b (c .length) p i, numberAt b (c .length) p i)
+      → false ≡ entryGood t c (entryAt b (c .length) p i)
   unfolding entryGood
   entry-outside b p i en h = rw (← en, h)
 
-  module _ (start : ℕ) (h : numberGood number (c .records) ≡ true) where
-    -- the record's field, from the end of the records before it on
-    pub field-inside : ColumnInside t c → start ≡ recordsEnd t (number - 1) → start + c .offset + c .length ≤ length t
+  -- the record's field, from the end of the records before it on
+  module _ (start : ℕ) (h : numberGood number (c .records) ≡ true) (column : ColumnInside t c) (es : start ≡ recordsEnd t (number - 1)) where
+    pub field-inside : start + c .offset + c .length ≤ length t
     unfolding recordStart
-    field-inside inside es = omega (arith, inside .inside number h)
+    field-inside = omega (arith, column .inside number h)
 
-    pub field-length : ColumnInside t c → start ≡ recordsEnd t (number - 1)
-        → length (take (start + c .offset + c .length - (start + c .offset)) (drop (start + c .offset) t)) ≡ c .length
-    unfolding window
-    field-length inside es =
-        let e : start + c .offset + c .length - (start + c .offset) ≡ c .length = omega arith in
-        rw e (length-window t (start + c .offset) (c .length) (field-inside inside es))
+    pub field-length : length (part t (start + c .offset) (c .length)) ≡ c .length
+    field-length = rw (part-window t (start + c .offset) (c .length)) (length-window t (start + c .offset) (c .length) field-inside)
 
-    pub entry-compared : (b : List ℕ) (p i : ℕ) (o : Ordering) (r : Bool) → ColumnInside t c → start ≡ recordsEnd t (number - 1)
-        → number ≡ numberAt b (c .length) p i
-        → o ≡ ordering (keyAt b (length (take (start + c .offset + c .length - (start + c .offset)) (drop (start + c .offset) t))) p i)
-        (take (start + c .offset + c .length - (start + c .offset)) (drop (start + c .offset) t))
-        → r ≡ isEqual o → r ≡ entryGood t c (keyAt b (c .length) p i, numberAt b (c .length) p i)
-    unfolding entryGood columnBytes recordStart window
-    entry-compared b p i o r inside es en eo er =
-        let e : start + c .offset + c .length - (start + c .offset) ≡ c .length = omega arith in
-        let eo′ : o ≡ ordering (keyAt b (c .length) p i) (take (start + c .offset + c .length - (start + c .offset)) (drop (start + c .offset) t)) = rw (field-length inside es) at eo in
-        er ∙ rw (← en, h) (ap isEqual eo′ ∙ rw (e, ← es))
+    pub entry-compared : (b : List ℕ) (p i : ℕ) (o : Ordering) (r : Bool) → number ≡ numberAt b (c .length) p i
+        → o ≡ ordering (keyAt b (length (part t (start + c .offset) (c .length))) p i) (part t (start + c .offset) (c .length))
+        → r ≡ isEqual o → r ≡ entryGood t c (entryAt b (c .length) p i)
+    unfolding entryGood columnBytes recordStart
+    entry-compared b p i o r en eo er =
+        let e : o ≡ ordering (keyAt b (c .length) p i) (window t (start + c .offset) (c .length)) =
+        rw (field-length, part-window t (start + c .offset) (c .length)) at eo in
+        er ∙ rw (← en, h, ← es) (ap isEqual e)
 
 -- ---- the entries of a leaf
 
@@ -71,7 +70,7 @@ module _ (t : List ℕ) (c : Column) (b : List ℕ) (p n i : ℕ) (inv : Entries
   unfolding entriesGood
   entries-end h = sym (inv ∙ rw (from-end b (c .length) p n i h))
 
-  module _ (h : i < n) (r : Bool) (er : r ≡ entryGood t c (keyAt b (c .length) p i, numberAt b (c .length) p i)) where
+  module _ (h : i < n) (r : Bool) (er : r ≡ entryGood t c (entryAt b (c .length) p i)) where
     entries-step : entriesGood t c (entriesFrom b (c .length) p n 0) ≡ (r && entriesGood t c (entriesFrom b (c .length) p (n - (i + 1)) (i + 1)))
     unfolding entriesGood
     entries-step = inv ∙ rw (from-on b (c .length) p n i h, ← er)
@@ -179,4 +178,6 @@ module _ (b : List ℕ) (k size : ℕ) where
     first-end e = sym (inv ∙ rw e)
 
     pub first-on : (q : ℕ) → (left ≡ 0 → ⊥) → isLeaf b size p ≡ false → q ≡ firstChild b k size p → FirstLeft root q (left - 1)
-    first-on q n e eq = let d : left ≡ suc (left - 1) = omega arith in inv ∙ ap (λ (l : ℕ). firstLeaf b k size l p) d ∙ first-lower (left - 1) p e ∙ rw eq
+    first-on q n e eq =
+        let d : left ≡ suc (left - 1) = omega arith in
+        inv ∙ ap (λ (l : ℕ). firstLeaf b k size l p) d ∙ first-lower (left - 1) p e ∙ rw eq

@@ -11,13 +11,12 @@ ghost use mathlib.Core.Bool.{true};
 ghost use Prim.Native.Nat.{_+_, _-_};
 ghost use Rattle.table.specs.TableLaws.{Shaped};
 ghost use Rattle.page.specs.Header.{maxLevels, rootOffset, keyLength, headerGood};
-ghost use Rattle.page.specs.Page.{keyAt, numberAt};
 ghost use Rattle.page.specs.Within.{Within};
 ghost use Rattle.page.specs.ReadingLaws.{entriesFrom};
 ghost use Rattle.sound.specs.Rule.{maxPages};
 ghost use Rattle.audit.specs.State.{InFile, EntriesWithin};
 ghost use Rattle.matching.specs.Match.{matchRefusal, Matched};
-ghost use Rattle.matching.specs.Rule.{entryGood, entriesGood, entriesMatch, firstLeaf, entriesAlong, leafEntries, ColumnInside};
+ghost use Rattle.matching.specs.Rule.{entryAt, entryGood, entriesGood, entriesMatch, firstLeaf, entriesAlong, leafEntries, ColumnInside};
 
 const BAD_FIELD_NUMBER: u32 = 12;
 
@@ -44,7 +43,7 @@ struct Column {
 // Whether entry i of a leaf is that of a record of the table and has its field as the key.
 fn entry_good(table: &[u8], index: &[u8], column: Column, page: PageOffset, i: usize) -> bool
     requires { ⌜ ColumnInside (now table) column × Within (now index) (column .length) (page .0) (i + 1) ⌝ }
-    ensures { λ r. ⌜ r ≡ entryGood (now (table .entry)) column (keyAt (now (index .entry)) (column .length) (page .0) i, numberAt (now (index .entry)) (column .length) (page .0) i) ⌝ }
+    ensures { λ r. ⌜ r ≡ entryGood (now (table .entry)) column (entryAt (now (index .entry)) (column .length) (page .0) i) ⌝ }
 {
     let number = page::record_number(index, column.length, page, i).0;
     if !field::number_good(number as usize, column.records as usize) {

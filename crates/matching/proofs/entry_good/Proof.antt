@@ -1,9 +1,12 @@
 -- `matching::entry_good` meets its contract: the record's number is tested before its field is read, which then lies in the table.
 -- Assumes nothing.
 use Prim.Native.Nat.{_+_, _≤_}
+use mathlib.Core.Path.{_≡_}
+use mathlib.Core.Bool.{true}
 use native.Mathlib.Omega.{arith}
 use lib.ListN.{length}
 use Rattle.memo.specs.TestLaws.{passed, failed}
+use Rattle.field.specs.Field.{numberGood}
 use Rattle.field.specs.FieldLaws.{number-range}
 use Rattle.matching.specs.StepLaws.{entry-outside, field-inside, field-length, entry-compared}
 use borrow.Author.Needs.{needs}
@@ -30,23 +33,29 @@ returns c =
     entry-outside _ (start .args .column) (numbered .record-number .result .0) _ _ _ (numbered .record-number .ensures)
     (failed (tested .number-good .ensures) (c .if1 .taken))
 
+-- the places before the test of the number
+abbrev numbered : tie.Else1 → tie.After-record-number
+numbered c = c .before .before .before
+
+abbrev start : tie.Else1 → tie.Start
+start c = numbered c .before .before .before
+
+-- past it the number is that of a record
+number : (c : tie.Else1) → numberGood (numbered c .record-number .result .0) (start c .args .column .records) ≡ true
+number c = passed (c .before .number-good .ensures) (c .if1 .left)
+
+-- and its field lies in the table
+inside : (c : tie.After-records-end) → let args = start (c .before) .args in
+    c .records-end .result + args .column .offset + args .column .length ≤ length (args .table .now)
+inside c =
+    let begun = start (c .before) in
+    field-inside _ (begun .args .column) _ _ (number (c .before)) (begun .pre .0) (c .records-end .ensures .0)
+
 sub-records-end : tie.Need-sub-records-end
-sub-records-end c = omega (arith, number-range _ _ (passed (c .before .number-good .ensures) (c .if1 .left)) .0)
+sub-records-end c = omega (arith, number-range _ _ (number c) .0)
 
 records-end-requires : tie.Need-records-end-requires
 records-end-requires c κs = search needs
-
--- where the field lies
-inside : (c : tie.After-records-end) →
-    let tested = c .before .before in
-    let start = tested .before .before .before .before .before in
-    c .records-end .result + start .args .column .offset + start .args .column .length ≤ length (start .args .table .now)
-inside c =
-    let tested = c .before .before in
-    let numbered = tested .before .before in
-    let start = numbered .before .before .before in
-    field-inside _ (start .args .column) (numbered .record-number .result .0) _ (passed (tested .number-good .ensures) (c .before .if1 .left)) (start .pre .0)
-    (c .records-end .ensures .0)
 
 add-start : tie.Need-add-start
 add-start c = omega (arith, inside (c .before))
@@ -66,11 +75,8 @@ part-compare-entry-end c = omega (arith, inside (c .before .before))
 compare-entry-requires : tie.Need-compare-entry-requires
 compare-entry-requires c κs =
     let ended = c .before .before .before in
-    let tested = ended .before .before in
-    let numbered = tested .before .before in
-    let start = numbered .before .before .before in
-    rw (field-length _ (start .args .column) (numbered .record-number .result .0) (ended .records-end .result)
-    (passed (tested .number-good .ensures) (ended .before .if1 .left)) (start .pre .0) (ended .records-end .ensures .0)) (start .pre .1)
+    let begun = start (ended .before) in
+    rw (field-length _ (begun .args .column) _ _ (number (ended .before)) (begun .pre .0) (ended .records-end .ensures .0)) (begun .pre .1)
 
 is-equal-requires : tie.Need-is-equal-requires
 is-equal-requires c κs = search needs
@@ -79,12 +85,9 @@ returns-2 : tie.Need-returns-2
 returns-2 c =
     let compared = c .before in
     let ended = compared .before .before .before .before in
-    let tested = ended .before .before in
-    let numbered = tested .before .before in
-    let start = numbered .before .before .before in
-    entry-compared _ (start .args .column) (numbered .record-number .result .0) (ended .records-end .result)
-    (passed (tested .number-good .ensures) (ended .before .if1 .left)) _ _ _ _ _ (start .pre .0) (ended .records-end .ensures .0)
-    (numbered .record-number .ensures) (compared .compare-entry .ensures) (c .is-equal .ensures)
+    let begun = start (ended .before) in
+    entry-compared _ (begun .args .column) _ _ (number (ended .before)) (begun .pre .0) (ended .records-end .ensures .0) _ _ _ _ _
+    (numbered (ended .before) .record-number .ensures) (compared .compare-entry .ensures) (c .is-equal .ensures)
 
 pub entry-good-spec : {M : Type 1} → statement M
 entry-good-spec =

@@ -1,10 +1,9 @@
 -- `matching::first_leaf` meets its contract. The loop's invariant: the leaf that is come to from `page`, with so many levels left, is that from the root.
 -- Assumes nothing.
 use Prim.Native.Nat.{_-_, _≤_}
-use mathlib.Core.Path.{_≡_, refl, sym, ap, _∙_}
+use mathlib.Core.Path.{refl, sym, _∙_}
 use native.Mathlib.Omega.{arith}
 use Rattle.page.specs.Header.{maxLevels}
-use Rattle.matching.specs.Rule.{firstLeaf}
 use Rattle.matching.specs.StepLaws.{FirstLeft, first-stop, first-end, first-on}
 use borrow.Author.Needs.{needs}
 use Rattle.matching.proofs.first_leaf.Statement.{statement}
