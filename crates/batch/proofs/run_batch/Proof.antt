@@ -1,8 +1,7 @@
 -- `batch::run_batch` meets its contract: fresh by its answer, and demand 3 of the calls that follow, since the elements of lent slices are bytes.
 -- Assumes nothing.
-use mathlib.Core.Path.{_≡_, ap, _∙_}
+use mathlib.Core.Path.{ap, _∙_}
 use Rattle.insert.specs.Calls.{left}
-use Rattle.insert.specs.declared.Insertion.{Insertion}
 use Rattle.batch.specs.RunLaws.{batch-made, batch-refused, refused-number, batch-kept}
 use borrow.Author.Needs.{needs}
 use Rattle.batch.proofs.run_batch.Statement.{statement}
