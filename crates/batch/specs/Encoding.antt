@@ -10,7 +10,7 @@ use Rattle.octets.specs.Store.{window}
 use Rattle.tree.specs.Book.{Call, insertion, lookupOf}
 use Rattle.book.specs.Book.{Calls}
 
--- of the call at an offset: its key, the offset past the key, and the offset past the call
+-- of the call at an offset: its key, the offset past the key, and the offset past the call, which is four bytes on for kind 1
 abbrev pub keyIn : List ℕ → ℕ → List ℕ
 keyIn s at = window s (at + 3) (le16 s (at + 1))
 

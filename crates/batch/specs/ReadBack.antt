@@ -55,7 +55,8 @@ module _ (pre : List ℕ) (kind : ℕ) (key number post : List ℕ) (short : len
   unfolding toLe16
   behind =
       let z : length pre + 3 + length key ≡ length pre + suc (suc (suc (length key))) = omega arith in
-      rw (z, drop-append-add pre (framed kind key number ++ post) (suc (suc (suc (length key)))), append-assoc key number post) (drop-at key (number ++ post) (length key) refl)
+      rw (z, drop-append-add pre (framed kind key number ++ post) (suc (suc (suc (length key)))), append-assoc key number post)
+      (drop-at key (number ++ post) (length key) refl)
 
   long : length (pre ++ (framed kind key number ++ post)) ≡ length pre + 3 + length key + length number + length post
   unfolding toLe16
@@ -121,8 +122,9 @@ list-back (c ∷ calls) a pre (suc f) h =
     let t = there pre c (listBytes calls) (a .0) in
     let e : callEnd s (length pre) ≡ length (pre ++ callBytes c) = t .next ∙ sym (length-append pre (callBytes c)) in
     let z : s ≡ (pre ++ callBytes c) ++ listBytes calls = sym (append-assoc pre (callBytes c) (listBytes calls)) in
-    calls-more s (length pre) f (t .whole-call)
-    ∙ rw (t .same-call, e) (ap (λ (l : Calls). c ∷ l) (ap (λ (l : List ℕ). callsFrom f l (length (pre ++ callBytes c))) z ∙ list-back calls (a .1) (pre ++ callBytes c) f (omega arith)))
+    let rest : callsFrom f s (length (pre ++ callBytes c)) ≡ calls =
+    ap (λ (l : List ℕ). callsFrom f l (length (pre ++ callBytes c))) z ∙ list-back calls (a .1) (pre ++ callBytes c) f (omega arith) in
+    calls-more s (length pre) f (t .whole-call) ∙ rw (t .same-call, e) (ap (λ (l : Calls). c ∷ l) rest)
 
 call-long : (c : Call (List ℕ)) → 1 ≤ length (callBytes c)
 call-long (lookupOf key) = omega arith
