@@ -1,16 +1,16 @@
 -- Rules: a list of calls as bytes, so that code can be lent one. A call is its kind, 0 for a lookup and 1 for an insertion, the length of its key in two bytes,
 -- the key and, for an insertion, its record number in four. Numbers are least significant byte first. The list ends where no whole call stands.
-use Prim.Native.Nat.{ℕ, zero, suc, _+_, _*_}
+use Prim.Native.Nat.{ℕ, zero, suc, _+_, _*_, _^_, _<_}
 use mathlib.Core.Bool.{Bool, true, false, cond, _&&_}
-use mathlib.Core.List.{List, [], _∷_}
+use mathlib.Core.List.{List, [], _∷_, _++_}
 use lib.Dec.{eqb, leb}
 use lib.ListN.{length}
-use Rattle.octets.specs.Bytes.{byteAt, le16, le32}
+use Rattle.octets.specs.Bytes.{byteAt, le16, le32, toLe16, toLe32}
 use Rattle.octets.specs.Store.{window}
 use Rattle.tree.specs.Book.{Call, insertion, lookupOf}
 use Rattle.book.specs.Book.{Calls}
 
--- of the call at an offset: its key, the offset past the key, and the offset past the call
+-- of the call at an offset: its key, the offset past the key, and the offset past the call, which is four bytes on for kind 1
 abbrev pub keyIn : List ℕ → ℕ → List ℕ
 keyIn s at = window s (at + 3) (le16 s (at + 1))
 
@@ -35,3 +35,20 @@ callsFrom (suc n) s at = elim (isCall s at) [ true ↦ callAt s at ∷ callsFrom
 -- a call has at least three bytes, so that there are at most as many calls as bytes
 unfoldable pub callsIn : List ℕ → Calls
 callsIn s = callsFrom (length s) s 0
+
+-- the same from the other side: the bytes of a call, and of a list of calls
+abbrev pub framed : ℕ → List ℕ → List ℕ → List ℕ
+framed kind key number = kind ∷ (toLe16 (length key) ++ (key ++ number))
+
+abbrev pub callBytes : Call (List ℕ) → List ℕ
+callBytes (lookupOf key) = framed 0 key []
+callBytes (insertion key r) = framed 1 key (toLe32 r)
+
+abbrev pub listBytes : Calls → List ℕ
+listBytes [] = []
+listBytes (c ∷ calls) = callBytes c ++ listBytes calls
+
+-- a call that has such bytes: a key shorter than 65,536 bytes, a record number of four
+abbrev pub Encodable : Call (List ℕ) → Type 0
+Encodable (lookupOf key) = length key < 2 ^ 16
+Encodable (insertion key r) = (length key < 2 ^ 16) × (r < 2 ^ 32)

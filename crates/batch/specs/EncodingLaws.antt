@@ -1,19 +1,19 @@
 -- Laws: where a call stands, and that it is the one its bytes say. Cited by the proofs of the code. Assumes nothing.
-use Prim.Native.Nat.{ℕ, zero, suc, _+_, _-_, _≤_, _<_, _^_}
-use mathlib.Core.Path.{_≡_, refl, sym, _∙_}
-use mathlib.Core.Bool.{Bool, true, false, _&&_}
+use Prim.Native.Nat.{ℕ, zero, suc, _+_, _-_, _≤_, _<_}
+use mathlib.Core.Path.{_≡_, refl}
+use mathlib.Core.Bool.{true, false, _&&_}
 use mathlib.Core.List.{List, [], _∷_}
 use native.Mathlib.Omega.{arith}
 use lib.Dec.{eqb, leb}
 use lib.ListN.{length, take, drop}
-use borrow.Author.Tests.{leb-true, le-leb, lt-leb, eq-eqb, ne-eqb, eqb-true, eqb-false}
+use borrow.Author.Tests.{leb-true, le-leb, lt-leb, ne-eqb, eqb-true, eqb-false}
 use Rattle.basis.specs.Lists.{All}
 use Rattle.basis.specs.Tests.{either, both}
 use Rattle.octets.specs.Bytes.{byteAt, le16, le32}
 use Rattle.octets.specs.Store.{window}
 use Rattle.octets.specs.NumberLaws.{le32-small}
-use Rattle.tree.specs.Book.{Call, insertion, lookupOf}
-use Rattle.book.specs.Book.{Calls, FourBytes}
+use Rattle.tree.specs.Book.{insertion, lookupOf}
+use Rattle.book.specs.Book.{FourBytes}
 use Rattle.batch.specs.Encoding.{keyIn, keyEnd, callEnd, isCall, callAt, callsFrom, callsIn}
 
 -- a whole call lies inside

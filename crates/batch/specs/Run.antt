@@ -8,7 +8,7 @@ use Rattle.octets.specs.Store.{put}
 use Rattle.tree.specs.Book.{Call, insertion, lookupOf, Answer, refused, accepted, found, absent, resultsOf, finalOf}
 use Rattle.book.specs.Book.{Calls, bufferAfter, answersTo, BookKept}
 use Rattle.lookup.specs.Lookup.{lookupRule, answerPages}
-use Rattle.insert.specs.Calls.{Inserted, left}
+use Rattle.insert.specs.Calls.{Inserted}
 use Rattle.insert.specs.Fresh.{freshRule}
 use Rattle.insert.specs.declared.Insertion.the-variants.{Accepted, Refused}
 use Rattle.batch.specs.Encoding.{callsIn}

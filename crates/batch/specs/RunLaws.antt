@@ -1,22 +1,22 @@
 -- Laws: a call that the code makes is the rule's; one turn of the run of a list of calls, and its end. Cited by the proofs of the code. Assumes nothing.
-use Prim.Native.Nat.{ℕ, zero, suc, _+_, _*_, _-_, _/_, _≤_, _<_}
+use Prim.Native.Nat.{ℕ, suc, _+_, _*_, _-_, _/_, _≤_, _<_}
 use mathlib.Core.Path.{_≡_, refl, sym, ap, _∙_}
 use mathlib.Core.Bool.{Bool, true, false, _&&_}
-use mathlib.Core.List.{List, [], _∷_, _++_}
+use mathlib.Core.List.{List, [], _∷_}
 use native.Mathlib.Omega.{arith}
 use native.Mathlib.Nat.{add-zero, zero-add}
-use lib.Dec.{eqb, leb}
+use lib.Dec.{leb}
 use lib.ListN.{length, take, drop, getD}
 use lib.Seq.{take-nil}
 use borrow.Author.Tests.{leb-true, leb-false}
 use Rattle.basis.specs.Lists.{All}
-use Rattle.basis.specs.Tests.{either, both, contra}
+use Rattle.basis.specs.Tests.{either, both}
 use Rattle.octets.specs.Bytes.{byteAt, le16, le32, toLe32}
 use Rattle.octets.specs.Store.{put}
 use Rattle.octets.specs.StoreLaws.{put-append, put-none, length-put}
 use Rattle.octets.specs.NumberLaws.{length-toLe32}
-use Rattle.tree.specs.Book.{Call, resultsOf, finalOf}
-use Rattle.book.specs.Book.{Calls, FourBytes, insertionAnswer, lookupAnswer, answerTo, bufferAfter, answersTo}
+use Rattle.tree.specs.Book.{Call, finalOf}
+use Rattle.book.specs.Book.{Calls, FourBytes, insertionAnswer, lookupAnswer, answerTo, bufferAfter}
 use Rattle.book.specs.BookLaws.{demand-3, all-take}
 use Rattle.page.specs.Header.{keyLengthGood}
 use Rattle.lookup.specs.Lookup.{lookupRule, answerPages}
@@ -27,8 +27,8 @@ use Rattle.insert.specs.CallLaws.{fresh-27, fresh-24, fresh-30, fresh-made}
 use Rattle.insert.specs.declared.Insertion.{Insertion}
 use Rattle.insert.specs.declared.Insertion.the-variants.{Accepted, Refused}
 use Rattle.batch.specs.Encoding.{keyIn, keyEnd, callEnd, isCall, callAt, callsFrom, callsIn}
-use Rattle.batch.specs.EncodingLaws.{Whole, whole, lookup-there, insertion-there, key-part, calls-more, calls-none, calls-small}
-use Rattle.batch.specs.Run.{replyOf, replyBytes, pagesTo, repliesTo, answerSize, madeCalls, Ran, leaves, runRule, Started, started, batchRule, BatchKept}
+use Rattle.batch.specs.EncodingLaws.{whole, lookup-there, insertion-there, key-part, calls-more, calls-none, calls-small}
+use Rattle.batch.specs.Run.{replyOf, replyBytes, pagesTo, repliesTo, answerSize, madeCalls, Ran, leaves, runRule, started, batchRule, BatchKept}
 use Rattle.batch.specs.declared.Reply.{Reply}
 
 -- the reply to a call on a buffer
@@ -140,7 +140,11 @@ refused-number b k e {b′} {n} f z =
     either (keyLengthGood k)
     (λ key. either (expressionGood e)
     (λ good. either (leb 1024 (length b))
-    (λ room. let y : _≡_ {A = Insertion} Accepted (Refused n) = ap (λ (i : Inserted). i .answer) (sym (fresh-made b k e key good (leb-true 1024 (length b) room) refl) ∙ f) in let w : _≡_ {A = ℕ} 0 1 = cc in omega arith)
+    (λ room.
+    let made = fresh-made b k e key good (leb-true 1024 (length b) room) refl in
+    let y : _≡_ {A = Insertion} Accepted (Refused n) = ap (λ (i : Inserted). i .answer) (sym made ∙ f) in
+    let w : _≡_ {A = ℕ} 0 1 = cc in
+    omega arith)
     (λ room. let w = numbered 30 (fresh-30 b k e key good (leb-false 1024 (length b) room)) in omega arith))
     (λ bad. let w = numbered 24 (fresh-24 b k e key bad) in omega arith))
     (λ bad. let w = numbered 27 (fresh-27 b k e bad) in omega arith)
@@ -151,7 +155,8 @@ all-octets [] h = tt
 all-octets (x ∷ s) h = (h 0, all-octets s (λ i. h (suc i)))
 
 -- Theorem: demand 3 of a batch
-pub batch-kept : (b : List ℕ) (k : ℕ) (e s out : List ℕ) {b′ b″ out′ : List ℕ} {n : ℕ} → ((i : ℕ) → getD b i 0 < 256) → ((i : ℕ) → getD s i 0 < 256)
+pub batch-kept : (b : List ℕ) (k : ℕ) (e s out : List ℕ) {b′ b″ out′ : List ℕ} {n : ℕ} → ((i : ℕ) → getD b i 0 < 256)
+    → ((i : ℕ) → getD s i 0 < 256)
     → freshRule b k e ≡ left b′ Accepted → runRule b′ s out ≡ leaves b″ out′ n → BatchKept b k e s out b″ out′ n
 unfolding runRule
 batch-kept b k e s out {b′} ob os f r =

@@ -3,8 +3,6 @@
 // copies of one of them are audited. README.md beside src/ says where the files came from.
 mod lists;
 
-ghost use Prim.Native.Nat.{_≤_};
-ghost use lib.ListN.{length};
 ghost use Rattle.io.specs.Counts.{Counts};
 
 // Reads a file to the start of a buffer and answers how many bytes it has.

@@ -1,8 +1,7 @@
 -- `batch::run_batch` meets its contract: fresh by its answer, and demand 3 of the calls that follow, since the elements of lent slices are bytes.
 -- Assumes nothing.
-use mathlib.Core.Path.{_≡_, ap, _∙_}
+use mathlib.Core.Path.{ap, _∙_}
 use Rattle.insert.specs.Calls.{left}
-use Rattle.insert.specs.declared.Insertion.{Insertion}
 use Rattle.batch.specs.RunLaws.{batch-made, batch-refused, refused-number, batch-kept}
 use borrow.Author.Needs.{needs}
 use Rattle.batch.proofs.run_batch.Statement.{statement}
@@ -33,8 +32,10 @@ returns c =
     let at-fresh = at-told .before .before .before .before in
     let at-calls = at-fresh .before .before .before in
     let at-index = at-calls .before .before in
-    let made = at-fresh .fresh .ensures ∙ ap (left (at-fresh .fresh .last .0)) (at-told .enum-told .given .1) in
-    (batch-made _ _ _ _ _ made (at-run .run-calls .ensures), λ z. batch-kept _ _ _ _ _ (λ i. at-index .slice-known .given i .fits) (λ i. at-calls .shared-slice-known2 .given i .fits) made (at-run .run-calls .ensures))
+    let made = at-fresh .fresh .ensures ∙ ap (left (at-fresh .fresh .last .0)) (at-told .enum-told .given .1) in (
+      batch-made _ _ _ _ _ made (at-run .run-calls .ensures),
+      λ z. batch-kept _ _ _ _ _ (λ i. at-index .slice-known .given i .fits) (λ i. at-calls .shared-slice-known2 .given i .fits) made (at-run .run-calls .ensures),
+    )
 
 same-length-3 : tie.Need-same-length-3
 same-length-3 c = search needs

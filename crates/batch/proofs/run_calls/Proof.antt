@@ -1,15 +1,15 @@
 -- `batch::run_calls` meets its contract. The loop's invariant: what the rule leaves is what the calls still to be made leave, on the buffer and the answers as
 -- they are. What is left of the list's bytes falls with each call. Assumes nothing.
-use Prim.Native.Nat.{_-_, _≤_, _*_}
+use Prim.Native.Nat.{ℕ, _-_, _≤_, _*_}
 use mathlib.Core.Path.{_≡_}
 use mathlib.Core.Bool.{true}
+use mathlib.Core.List.{List}
 use native.Mathlib.Omega.{arith}
 use lib.ListN.{length}
 use Rattle.batch.specs.Encoding.{isCall}
 use Rattle.batch.specs.EncodingLaws.{whole}
 use Rattle.batch.specs.Run.{answerSize}
 use Rattle.batch.specs.RunLaws.{turn-taken, Going, going-first, going-on, going-ends}
-use borrow.Author.Needs.{needs}
 use Rattle.batch.proofs.run_calls.Statement.{statement}
 use Rattle.batch.proofs.run_calls.Tie as tie
 
@@ -20,11 +20,21 @@ abbrev μ-loop : tie.MeasureT-loop
 μ-loop index₀ calls answers₀ at₀ made₀ index answers at made = length calls - at
 
 -- in a turn there is a whole call, and room for its answer
+pub record Turn (calls answers : List ℕ) (at made : ℕ) : Type 0 where
+  pub call : isCall calls at ≡ true
+  pub room : answerSize ≤ length answers - answerSize * made
+
 turn : (c : tie.Then1 Inv-loop μ-loop)
     → let at-loop = c .before .before in
-    let calls = at-loop .before .before .before .before .args .calls .now in
-    (isCall calls (at-loop .loop .at) ≡ true) × (answerSize ≤ length (at-loop .loop .answers) - answerSize * at-loop .loop .made)
-turn c = turn-taken _ _ _ (c .before .goes-on .ensures) (c .if1 .taken)
+    Turn (at-loop .before .before .before .before .args .calls .now) (at-loop .loop .answers) (at-loop .loop .at) (at-loop .loop .made)
+turn c = let t = turn-taken _ _ _ (c .before .goes-on .ensures) (c .if1 .taken) in record { call = t .0; room = t .1 }
+
+-- the test that a turn began with, from where its answer is written and from its end
+abbrev at-test : (c : tie.After-write-reply-arg Inv-loop μ-loop) → tie.Then1 Inv-loop μ-loop
+at-test c = let at-make = c .before .before .before in at-make .before .before
+
+abbrev at-write : (c : tie.After-call-end Inv-loop μ-loop) → tie.After-write-reply-arg Inv-loop μ-loop
+at-write c = c .before .before .before .before
 
 loop-holds : tie.Need-loop-holds Inv-loop μ-loop
 loop-holds c = going-first _ _ _
@@ -39,32 +49,30 @@ goes-on-requires : tie.Need-goes-on-requires Inv-loop μ-loop
 goes-on-requires c κs = c .loop .inv .inside
 
 make-call-requires : tie.Need-make-call-requires Inv-loop μ-loop
-make-call-requires c κs = turn (c .before) .0
+make-call-requires c κs = turn (c .before) .call
 
 mul-write-reply : tie.Need-mul-write-reply Inv-loop μ-loop
-mul-write-reply c = omega (arith, turn (c .before .before .before .before .before) .1)
+mul-write-reply c = omega (arith, turn (at-test c) .room)
 
 write-reply-requires : tie.Need-write-reply-requires Inv-loop μ-loop
-write-reply-requires c κs = omega (arith, turn (c .before .before .before .before .before) .1)
+write-reply-requires c κs = omega (arith, turn (at-test c) .room)
 
 call-end-requires : tie.Need-call-end-requires Inv-loop μ-loop
-call-end-requires c κs = whole _ _ (turn (c .before .before .before .before .before .before .before .before) .0) .head
+call-end-requires c κs = whole _ _ (turn (at-test (c .before .before .before)) .call) .head
 
 add-made : tie.Need-add-made Inv-loop μ-loop
-add-made c = let h = turn (c .before .before .before .before .before .before .before .before .before) .1 in omega arith
+add-made c = let t = turn (at-test (at-write c)) in omega arith
 
 loop-less : tie.Need-loop-less Inv-loop μ-loop
-loop-less c = let w = whole _ _ (turn (c .before .before .before .before .before .before .before .before .before) .0) in omega arith
+loop-less c = let w = whole _ _ (turn (at-test (at-write c)) .call) in omega arith
 
 loop-again : tie.Need-loop-again Inv-loop μ-loop
 loop-again c =
-    let at-write = c .before .before .before in
-    let at-make = at-write .before .before .before .before in
-    let at-if = at-make .before .before in
-    let at-loop = at-if .before .before in
+    let written = c .before .before .before .write-reply .ensures in
+    let called = at-write c .before .before .before .make-call in
+    let test = at-test (at-write c) in
     rw (c .call-end .ensures)
-    (going-on _ _ _ _ _ _ _ (at-loop .loop .inv) (turn at-if .0) (turn at-if .1) (at-make .make-call .kept .0) (at-make .make-call .ensures .0) (at-make .make-call .ensures .1)
-    (at-write .write-reply .ensures))
+    (going-on _ _ _ _ _ _ _ (test .before .before .loop .inv) (turn test .call) (turn test .room) (called .kept .0) (called .ensures .0) (called .ensures .1) written)
 
 same-length : tie.Need-same-length Inv-loop μ-loop
 same-length c = c .before .before .loop .inv .same

@@ -1,6 +1,5 @@
 -- `indexes::lists::print_answers` ends. What is left of the text falls with each line. Assumes nothing.
 use Prim.Native.Nat.{_-_}
-use native.Mathlib.Omega.{arith}
 use borrow.Author.Needs.{needs}
 use lib.ListN.{length}
 use Rattle.indexes.proofs.lists.print_answers.Statement.{statement}
