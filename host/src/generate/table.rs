@@ -259,6 +259,7 @@ fn place_blocks(r: &mut Random, m: &mut [u8], step: usize, near: &mut Vec<u64>) 
     let free = match r.below(8) {
         0 => r.near(&[0, blocks as u32]),
         1 => r.below(blocks + 1) as u32,
+        2 => (1u64 << (32 - step.trailing_zeros())) as u32,
         _ => blocks as u32 + 1,
     };
     m[..4].copy_from_slice(&free.to_be_bytes());
@@ -269,6 +270,9 @@ fn place_blocks(r: &mut Random, m: &mut [u8], step: usize, near: &mut Vec<u64>) 
             continue;
         }
         near.push(number as u64);
+        // the same number, or the same place, where 32 bits are kept of it
+        near.push(number as u64 + (1 << 32));
+        near.push(number as u64 + (1 << (32 - step.trailing_zeros())));
         place_block(r, m, at, free as usize * step);
     }
 }
