@@ -81,8 +81,8 @@ fn descriptor_good(d: &[u8]) -> bool {
         }
 }
 
-/// Checks 1 to 10.
-pub fn check_table(t: &[u8]) -> Result<Shape, Refusal> {
+/// Checks 1 to 5, and the header's length.
+fn header_length(t: &[u8]) -> Result<usize, Refusal> {
     if t.len() < 32 || t.len() > 16_777_216 {
         return Err(1);
     }
@@ -99,16 +99,24 @@ pub fn check_table(t: &[u8]) -> Result<Shape, Refusal> {
     if t[header - 1] != 0x0D {
         return Err(5);
     }
+    Ok(header)
+}
+
+fn names_differ(t: &[u8], fields: usize) -> bool {
+    let name = |j: usize| &t[32 + 32 * j..][..11];
+    (0..fields).all(|i| (i + 1..fields).all(|j| name(i) != name(j)))
+}
+
+/// Checks 1 to 10.
+pub fn check_table(t: &[u8]) -> Result<Shape, Refusal> {
+    let header = header_length(t)?;
+    let fields = (header - 33) / 32;
     let descriptors = || t[32..header - 1].chunks_exact(32);
     if !descriptors().all(descriptor_good) {
         return Err(6);
     }
-    let fields = (header - 33) / 32;
-    for i in 0..fields {
-        let name = &t[32 + 32 * i..][..11];
-        if (i + 1..fields).any(|j| t[32 + 32 * j..][..11] == *name) {
-            return Err(7);
-        }
+    if !names_differ(t, fields) {
+        return Err(7);
     }
     if descriptors().any(|d| d[11] == b'M') != (t[0] == 0xF5) {
         return Err(8);
@@ -305,28 +313,7 @@ pub fn number_read(text: &[u8], decimals: u32) -> Result<Option<i64>, Refusal> {
         Some(rest) => (true, rest),
         None => (false, t),
     };
-    let d = decimals as usize;
-    let whole = if d == 0 {
-        t
-    } else {
-        if t.len() < d + 2 || t[t.len() - d - 1] != b'.' {
-            return Err(17);
-        }
-        &t[..t.len() - d - 1]
-    };
-    let fraction = &t[t.len() - d..];
-    if whole.is_empty() || (whole[0] == b'0' && whole.len() > 1) {
-        return Err(17);
-    }
-    let mut value: u64 = 0;
-    let mut large = false;
-    for c in whole.iter().chain(fraction) {
-        if !c.is_ascii_digit() {
-            return Err(17);
-        }
-        large |= value >= PAST_DIGITS / 10;
-        value = value.wrapping_mul(10).wrapping_add((c - b'0') as u64);
-    }
+    let (value, large) = digits(t, decimals as usize).ok_or(17u32)?;
     if negative && value == 0 && !large {
         return Err(17);
     }
@@ -338,6 +325,32 @@ pub fn number_read(text: &[u8], decimals: u32) -> Result<Option<i64>, Refusal> {
     } else {
         value as i64
     }))
+}
+
+/// The digits of a whole part, and of d decimals behind a point, as a number, and whether there are more than 18 of them.
+fn digits(t: &[u8], d: usize) -> Option<(u64, bool)> {
+    let whole = if d == 0 {
+        t
+    } else {
+        if t.len() < d + 2 || t[t.len() - d - 1] != b'.' {
+            return None;
+        }
+        &t[..t.len() - d - 1]
+    };
+    let fraction = &t[t.len() - d..];
+    if whole.is_empty() || (whole[0] == b'0' && whole.len() > 1) {
+        return None;
+    }
+    let mut value: u64 = 0;
+    let mut large = false;
+    for c in whole.iter().chain(fraction) {
+        if !c.is_ascii_digit() {
+            return None;
+        }
+        large |= value >= PAST_DIGITS / 10;
+        value = value.wrapping_mul(10).wrapping_add((c - b'0') as u64);
+    }
+    Some((value, large))
 }
 
 pub fn number_write(text: &mut [u8], decimals: u32, value: i64) -> Result<(), Refusal> {
@@ -487,53 +500,75 @@ fn sound(b: &[u8], head: &Head) -> bool {
     let mut reached = vec![false; head.size as usize / 512];
     let mut level = vec![head.root];
     for depth in 1..=11 {
-        let mut leaf = None;
-        for (i, &p) in level.iter().enumerate() {
-            if !is_page(head.size, p) || reached[p as usize / 512] {
-                return false;
-            }
-            reached[p as usize / 512] = true;
-            let page = Page::at(b, head.k, p);
-            let left = if i == 0 { NONE } else { level[i - 1] };
-            let right = level.get(i + 1).copied().unwrap_or(NONE);
-            let a = page.attribute();
-            if a > 3
-                || (a & 1 == 1) != (depth == 1)
-                || *leaf.get_or_insert(page.leaf()) != page.leaf()
-                || !page.count_good()
-                || page.left() != left
-                || page.right() != right
-            {
-                return false;
-            }
-        }
-        if leaf == Some(true) {
+        let Some(leaf) = level_good(b, head, &level, depth == 1, &mut reached) else {
+            return false;
+        };
+        if leaf {
             return leaves_good(b, head.k, &level) && reached[1..].iter().all(|&r| r);
         }
-        let mut below = Vec::new();
-        for &p in &level {
-            let page = Page::at(b, head.k, p);
-            for i in 0..page.count() {
-                let c = page.number(i);
-                if !is_page(head.size, c) {
-                    return false;
-                }
-                let child = Page::at(b, head.k, c);
-                if child.count() == 0
-                    || child.count() > capacity(head.k)
-                    || child.key(child.count() - 1) != page.key(i)
-                {
-                    return false;
-                }
-                below.push(c);
-            }
-            if below.len() > reached.len() {
-                return false;
-            }
-        }
+        let Some(below) = children(b, head, &level) else {
+            return false;
+        };
         level = below;
     }
     false
+}
+
+/// Whether the pages of a level are leaves, if each of them is good by its header and reached for the first time.
+fn level_good(
+    b: &[u8],
+    head: &Head,
+    level: &[u32],
+    top: bool,
+    reached: &mut [bool],
+) -> Option<bool> {
+    let mut leaf = None;
+    for (i, &p) in level.iter().enumerate() {
+        if !is_page(head.size, p) || reached[p as usize / 512] {
+            return None;
+        }
+        reached[p as usize / 512] = true;
+        let page = Page::at(b, head.k, p);
+        let left = if i == 0 { NONE } else { level[i - 1] };
+        let right = level.get(i + 1).copied().unwrap_or(NONE);
+        let a = page.attribute();
+        if a > 3
+            || (a & 1 == 1) != top
+            || *leaf.get_or_insert(page.leaf()) != page.leaf()
+            || !page.count_good()
+            || page.left() != left
+            || page.right() != right
+        {
+            return None;
+        }
+    }
+    leaf
+}
+
+/// The children of a level's pages, if the key above each is its last.
+fn children(b: &[u8], head: &Head, level: &[u32]) -> Option<Vec<u32>> {
+    let mut below = Vec::new();
+    for &p in level {
+        let page = Page::at(b, head.k, p);
+        for i in 0..page.count() {
+            let c = page.number(i);
+            if !is_page(head.size, c) {
+                return None;
+            }
+            let child = Page::at(b, head.k, c);
+            if child.count() == 0
+                || child.count() > capacity(head.k)
+                || child.key(child.count() - 1) != page.key(i)
+            {
+                return None;
+            }
+            below.push(c);
+        }
+        if below.len() > head.size as usize / 512 {
+            return None;
+        }
+    }
+    Some(below)
 }
 
 fn leaves_good(b: &[u8], k: usize, leaves: &[u32]) -> bool {
@@ -630,43 +665,48 @@ pub fn insert(b: &mut [u8], key: &[u8], record: u32) -> Result<(), Refusal> {
     if !sound(b, &head) {
         return Err(25);
     }
-    let (k, cap) = (head.k, capacity(head.k));
-    // the pages from the root to the leaf, each with the entry gone through
+    let k = head.k;
+    let path = path_to_leaf(b, k, head.root, key).ok_or(29u32)?;
+    let full = |(p, _): &&(u32, usize)| Page::at(b, k, *p).count() == capacity(k);
+    let splits = path.iter().rev().take_while(full).count();
+    let new_root = splits == path.len();
+    let size = head.size as usize + 512 * (splits + new_root as usize);
+    if size > b.len() || size > MAX_BYTES as usize || path.len() + new_root as usize > 11 {
+        return Err(30);
+    }
+    put_le32(b, 8, size as u32);
+    put_in(b, k, &path, key, record, head.size);
+    Ok(())
+}
+
+/// The pages from the root to the leaf, each with the entry gone through, the leaf's being where the key belongs; none where the key is there.
+fn path_to_leaf(b: &[u8], k: usize, root: u32, key: &[u8]) -> Option<Vec<(u32, usize)>> {
     let mut path = Vec::new();
-    let mut p = head.root;
+    let mut p = root;
     loop {
         let page = Page::at(b, k, p);
         let i = page.reach(key);
         if page.leaf() {
             if i.is_some_and(|i| page.key(i) == key) {
-                return Err(29);
+                return None;
             }
             path.push((p, i.unwrap_or(page.count())));
-            break;
+            return Some(path);
         }
         let i = i.unwrap_or(page.count() - 1);
         path.push((p, i));
         p = page.number(i);
     }
-    let full = path
-        .iter()
-        .rev()
-        .take_while(|(p, _)| Page::at(b, k, *p).count() == cap)
-        .count();
-    let new_root = full == path.len();
-    let size = head.size as usize + 512 * (full + new_root as usize);
-    if size > b.len() || size > MAX_BYTES as usize || path.len() + new_root as usize > 11 {
-        return Err(30);
-    }
-    put_le32(b, 8, size as u32);
-    let mut next = head.size;
+}
+
+/// The insertion itself, from the leaf up; new pages are taken from `next` on.
+fn put_in(b: &mut [u8], k: usize, path: &[(u32, usize)], key: &[u8], record: u32, mut next: u32) {
     // what the page below left for the one above: nothing, or the new page beside the old one
-    let mut carried: Option<u32> = None;
-    for depth in (0..path.len()).rev() {
+    let (leaf, i) = path[path.len() - 1];
+    let mut carried = take_in(b, k, leaf, i, key, record, &mut next);
+    for depth in (0..path.len() - 1).rev() {
         let (p, i) = path[depth];
-        if depth + 1 == path.len() {
-            carried = take_in(b, k, p, i, key, record, &mut next);
-        } else if let Some(q) = carried {
+        if let Some(q) = carried {
             let high = Page::at(b, k, p).key(i).max(key).to_vec();
             let low = last_key(b, k, path[depth + 1].0);
             put_key(b, k, p, i, &low);
@@ -685,7 +725,6 @@ pub fn insert(b: &mut [u8], key: &[u8], record: u32) -> Result<(), Refusal> {
         write_page(b, top, 1, 2, [NONE, NONE], &entries);
         put_le32(b, 0, top);
     }
-    Ok(())
 }
 
 fn put_key(b: &mut [u8], k: usize, p: u32, i: usize, key: &[u8]) {
@@ -762,28 +801,41 @@ pub fn match_index(t: &[u8], b: &[u8], field: u32) -> Result<(), Refusal> {
         return Err(25);
     }
     let offset = 1 + (0..j).map(|i| t[32 + 32 * i + 16] as usize).sum::<usize>();
-    let mut seen = vec![false; shape.records as usize];
+    let field_of = |r: usize| {
+        let at = shape.header_length + (r - 1) * shape.record_length + offset;
+        &t[at..at + head.k]
+    };
+    if entries_match(b, &head, shape.records as usize, field_of) {
+        Ok(())
+    } else {
+        Err(31)
+    }
+}
+
+/// Whether the leaves' entries are those of the records, each with its field as the key.
+fn entries_match<'a>(
+    b: &[u8],
+    head: &Head,
+    records: usize,
+    field_of: impl Fn(usize) -> &'a [u8],
+) -> bool {
+    let mut seen = vec![false; records];
     let mut p = head.root;
     while !Page::at(b, head.k, p).leaf() {
         p = Page::at(b, head.k, p).number(0);
     }
     while p != NONE {
         let page = Page::at(b, head.k, p);
-        for i in 0..page.count() {
-            let r = page.number(i) as usize;
-            if r > seen.len() || std::mem::replace(&mut seen[r - 1], true) {
-                return Err(31);
+        for entry in page.entries() {
+            let r = be32(entry, head.k) as usize;
+            if r > records || std::mem::replace(&mut seen[r - 1], true) {
+                return false;
             }
-            let at = shape.header_length + (r - 1) * shape.record_length + offset;
-            if t[at..at + head.k] != *page.key(i) {
-                return Err(31);
+            if field_of(r) != &entry[..head.k] {
+                return false;
             }
         }
         p = page.right();
     }
-    if seen.iter().all(|&s| s) {
-        Ok(())
-    } else {
-        Err(31)
-    }
+    seen.iter().all(|&s| s)
 }

@@ -206,7 +206,7 @@ fn laid_out(r: &mut Random, k: usize, levels: &[Vec<Vec<Entry>>]) -> Vec<u8> {
 /// A page of the file, or something that only looks like one.
 fn place(r: &mut Random, pages: usize) -> u32 {
     match r.below(8) {
-        0 => r.near(&[0, 512, NONE, 512 * pages as u32]),
+        0 => r.near(&[0, 512, NONE, 0xFFFF_FE00, 512 * pages as u32]),
         1 => 512 * r.below(pages + 2) as u32 + r.below(512) as u32,
         _ => 512 * r.between(1, pages.max(2) - 1) as u32,
     }

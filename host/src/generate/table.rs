@@ -181,6 +181,24 @@ fn damage_descriptor(r: &mut Random, t: &mut [u8]) {
     }
 }
 
+/// One change in the numbers of the header, near what they should be.
+fn damage_numbers(r: &mut Random, t: &mut [u8]) {
+    let header = u16::from_le_bytes([t[8], t[9]]);
+    match r.below(4) {
+        0 => {
+            let count = wrapped_count(r, t);
+            t[4..8].copy_from_slice(&count.to_le_bytes());
+        }
+        1 => t[r.between(4, 7)] = r.pick(&[0, 1, 2, 127, 128, 255]),
+        2 => {
+            let step = r.pick(&[1, 32, 0xFFFF, 0xFFE0]);
+            let near = r.pick(&[header.wrapping_add(step), 0, 33, 65, 4129, 4161, 0xFFFF]);
+            t[8..10].copy_from_slice(&near.to_le_bytes());
+        }
+        _ => t[r.between(10, 11)] = r.byte(),
+    }
+}
+
 /// One change near a rule of the table's checks, or anywhere.
 pub fn damage(r: &mut Random, t: &mut Vec<u8>) {
     if t.len() < 65 {
@@ -190,28 +208,7 @@ pub fn damage(r: &mut Random, t: &mut Vec<u8>) {
         0 => t[0] = r.pick(&[0x03, 0xF5, 0x83, 0x04, 0x02, 0xF4, 0x30]),
         1 => t[r.between(1, 3)] = r.pick(&[0, 1, 2, 4, 12, 13, 28, 29, 30, 31, 32, 100, 200, 255]),
         2 => t[1..4].copy_from_slice(&[r.pick(&[0, 96, 100, 123, 124, 200]), 2, 29]),
-        3 => {
-            let count = wrapped_count(r, t);
-            t[4..8].copy_from_slice(&count.to_le_bytes());
-        }
-        4 => t[r.between(4, 7)] = r.pick(&[0, 1, 2, 127, 128, 255]),
-        5 => {
-            let header = u16::from_le_bytes([t[8], t[9]]);
-            let near = r.pick(&[
-                header.wrapping_sub(32),
-                header.wrapping_add(32),
-                header.wrapping_sub(1),
-                header.wrapping_add(1),
-                33,
-                65,
-                4129,
-                4161,
-                0,
-                0xFFFF,
-            ]);
-            t[8..10].copy_from_slice(&near.to_le_bytes());
-        }
-        6 => t[r.between(10, 11)] = r.byte(),
+        3..=6 => damage_numbers(r, t),
         7 => {
             let header = u16::from_le_bytes([t[8], t[9]]) as usize;
             if let Some(mark) = t.get_mut(header.wrapping_sub(1)) {
@@ -247,32 +244,37 @@ pub fn memo(r: &mut Random) -> (Vec<u8>, Vec<u64>) {
         r.fill(&mut m);
     }
     let step = size.max(1);
-    let blocks = length / step;
-    let mut near = vec![
-        (512 / step) as u64,
-        blocks as u64,
-        (length.saturating_sub(8) / step) as u64,
-    ];
-    if length < 512 {
-        return (m, near);
+    let last = length.saturating_sub(8) / step;
+    let mut near = vec![(512 / step) as u64, (length / step) as u64, last as u64];
+    if length >= 512 {
+        m[6..8].copy_from_slice(&(size as u16).to_be_bytes());
+        place_blocks(r, &mut m, step, &mut near);
     }
+    (m, near)
+}
+
+/// Blocks at multiples of the size, and the number of the next free one.
+fn place_blocks(r: &mut Random, m: &mut [u8], step: usize, near: &mut Vec<u64>) {
+    let blocks = m.len() / step;
     let free = match r.below(8) {
         0 => r.near(&[0, blocks as u32]),
         1 => r.below(blocks + 1) as u32,
+        2 => (1u64 << (32 - step.trailing_zeros())) as u32,
         _ => blocks as u32 + 1,
     };
     m[..4].copy_from_slice(&free.to_be_bytes());
-    m[6..8].copy_from_slice(&(size as u16).to_be_bytes());
     for _ in 0..r.below(5) {
         let number = r.below(blocks + 1);
         let at = number * step;
-        if at < 512 || at + 8 > length {
+        if at < 512 || at + 8 > m.len() {
             continue;
         }
         near.push(number as u64);
-        place_block(r, &mut m, at, free as usize * step);
+        // the same number, or the same place, where 32 bits are kept of it
+        near.push(number as u64 + (1 << 32));
+        near.push(number as u64 + (1 << (32 - step.trailing_zeros())));
+        place_block(r, m, at, free as usize * step);
     }
-    (m, near)
 }
 
 /// A block whose text ends before, at or past the file's end or the first free block.

@@ -14,14 +14,23 @@ const WHOLE_INDEX: f64 = 3.0;
 /// Runs the cases whose call has the word in it; says how many are over their limit.
 pub fn run(word: &str) -> usize {
     let mut over = 0;
-    for group in [numbers, tables, lookups, audits, insertions, matches] {
+    let groups = [
+        number_reads,
+        number_writes,
+        tables,
+        lookups,
+        audits,
+        insertions,
+        matches,
+    ];
+    for group in groups {
         over += group(word);
     }
     over
 }
 
 fn show(word: &str, mut case: Case, once: bool) -> usize {
-    if !case.call.contains(word) {
+    if !format!("{}, {}", case.call, case.input).contains(word) {
         return 0;
     }
     let times = case.times(once);
@@ -44,16 +53,22 @@ fn sum_of<E>(answer: Result<Option<i64>, E>) -> u64 {
     answer.ok().flatten().unwrap_or(-1) as u64
 }
 
-fn numbers(word: &str) -> usize {
+/// Widths, decimals and numbers of digits.
+const FORMATS: [(usize, u32, u32); 5] =
+    [(8, 3, 4), (8, 3, 7), (20, 0, 4), (20, 0, 18), (20, 6, 17)];
+
+fn format_named(width: usize, decimals: u32, digits: u32) -> String {
+    format!("width {width}, {decimals} decimals, up to {digits} digits")
+}
+
+fn number_reads(word: &str) -> usize {
     let mut r = Random::new(1);
-    let formats = [(8, 3, 4), (8, 3, 7), (20, 0, 4), (20, 0, 18), (20, 6, 17)];
     let mut over = 0;
-    for (width, decimals, digits) in formats {
+    for (width, decimals, digits) in FORMATS {
         let texts = inputs::texts(&mut r, width, decimals, digits);
-        let input = format!("width {width}, {decimals} decimals, up to {digits} digits");
         let case = Case {
             call: "numeric read",
-            input,
+            input: format_named(width, decimals, digits),
             calls: texts.len(),
             limit: TEXT_AND_TABLE,
             prepare: Box::new(|| ()),
@@ -72,10 +87,15 @@ fn numbers(word: &str) -> usize {
         };
         over += show(word, case, false);
     }
-    for (width, decimals, digits) in formats {
+    over
+}
+
+fn number_writes(word: &str) -> usize {
+    let mut r = Random::new(1);
+    let mut over = 0;
+    for (width, decimals, digits) in FORMATS {
         let values = inputs::values(&mut r, digits);
         let buffer = RefCell::new(vec![0; width]);
-        let input = format!("width {width}, {decimals} decimals, up to {digits} digits");
         let written = |write: &dyn Fn(&mut [u8], i64) -> bool| {
             let mut buffer = buffer.borrow_mut();
             let mut sum = 0u64;
@@ -87,7 +107,7 @@ fn numbers(word: &str) -> usize {
         };
         let case = Case {
             call: "numeric write",
-            input,
+            input: format_named(width, decimals, digits),
             calls: values.len(),
             limit: TEXT_AND_TABLE,
             prepare: Box::new(|| ()),

@@ -106,7 +106,7 @@ fn matches(word: &str) {
 type Way<'a> = Box<dyn FnMut() -> u64 + 'a>;
 
 fn show(word: &str, call: &'static str, input: &str, lent: &[&[u8]], library: Way, plain: Way) {
-    if !call.contains(word) {
+    if !format!("{call}, {input}").contains(word) {
         return;
     }
     let mut case = Case {
@@ -192,6 +192,9 @@ fn index_calls(word: &str, name: &str, bytes: &[u8]) {
     }
 }
 
+/// The levels of an index of 1 MiB with 24 entries in a page.
+const LEVELS: usize = 4;
+
 /// The page that the greatest keys lead to, so many levels down.
 fn last_page(bytes: &[u8], levels: usize) -> usize {
     let k = bytes[12] as usize;
@@ -207,33 +210,7 @@ fn last_page(bytes: &[u8], levels: usize) -> usize {
 fn indexes() -> Vec<(String, Vec<u8>)> {
     let mut r = Random::new(9);
     let (sound, _) = inputs::index(&mut r, 10, 24, 2047, 0);
-    let leaf = last_page(&sound, 4).min(sound.len() - 512);
-    let mut made = Vec::new();
-    let mut add = |name: &str, change: &dyn Fn(&mut Vec<u8>)| {
-        let mut bytes = sound.clone();
-        change(&mut bytes);
-        made.push((name.to_string(), bytes));
-    };
-    add("1 MiB, the root claims 65,535 entries", &|b| {
-        let root = last_page(b, 1);
-        b[root + 2..root + 4].fill(0xFF);
-    });
-    add("1 MiB, the last leaf claims 65,535 entries", &|b| {
-        b[leaf + 2..leaf + 4].fill(0xFF);
-    });
-    add("1 MiB, the last leaf's right link goes to itself", &|b| {
-        b[leaf + 8..leaf + 12].copy_from_slice(&(leaf as u32).to_le_bytes());
-    });
-    add(
-        "1 MiB, the last page above the leaves leads to the root",
-        &|b| {
-            let above = last_page(b, 3);
-            let count = u16::from_le_bytes([b[above + 2], b[above + 3]]) as usize;
-            let root = b[..4].iter().rev().copied().collect::<Vec<u8>>();
-            let at = above + 12 + (count - 1) * 14 + 10;
-            b[at..at + 4].copy_from_slice(&root);
-        },
-    );
+    let mut made = damaged(&sound);
     for k in [1, 10] {
         made.push((
             format!("11 levels, every entry of a level leads to one page, k = {k}"),
@@ -247,6 +224,42 @@ fn indexes() -> Vec<(String, Vec<u8>)> {
     ));
     let (spine, _) = index::spine(&mut r, 100, 31);
     made.push(("11 levels, one path of full pages".to_string(), spine));
+    made
+}
+
+/// A sound index with a count that is a lie, or a cycle.
+fn damaged(sound: &[u8]) -> Vec<(String, Vec<u8>)> {
+    let (root, leaf) = (last_page(sound, 1), last_page(sound, LEVELS));
+    let mut made = Vec::new();
+    let mut add = |name: &str, at: usize, bytes: [u8; 4], n: usize| {
+        let mut b = sound.to_vec();
+        b[at..at + n].copy_from_slice(&bytes[..n]);
+        made.push((name.to_string(), b));
+    };
+    let full = [0xFF; 4];
+    let (to_leaf, to_root) = ((leaf as u32).to_le_bytes(), (root as u32).to_be_bytes());
+    let above = last_page(sound, LEVELS - 1);
+    let count = u16::from_le_bytes([sound[above + 2], sound[above + 3]]) as usize;
+    let child = above + 12 + count * 14 - 4;
+    add("1 MiB, the root claims 65,535 entries", root + 2, full, 2);
+    add(
+        "1 MiB, the last leaf claims 65,535 entries",
+        leaf + 2,
+        full,
+        2,
+    );
+    add(
+        "1 MiB, the last leaf's right link goes to itself",
+        leaf + 8,
+        to_leaf,
+        4,
+    );
+    add(
+        "1 MiB, the last page above the leaves leads to the root",
+        child,
+        to_root,
+        4,
+    );
     made
 }
 

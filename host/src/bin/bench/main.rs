@@ -1,7 +1,7 @@
 //! Time per call of the proved library and of the plain implementation, on the same inputs, in one process; then on hostile inputs, against one pass
 //! over what a call was lent.
 //!
-//!     cargo run --release --bin bench -- [WORD]       only the cases whose call has the word in it
+//!     cargo run --release --bin bench -- [WORDS]      only the cases whose call and input have the words in them
 mod cases;
 mod hostile;
 mod inputs;

@@ -252,12 +252,7 @@ fn grown_index(r: &mut Random, a: &mut Arenas, tally: &mut Tally) {
         calls::fresh(tally, &lent, &mut own, k as u32, &expression);
     }
     let style = r.below(4);
-    let mut keys = index::entries(r, k, r.clone().between(1, 90), style);
-    match r.below(3) {
-        0 => keys.reverse(),
-        1 => r.shuffle(&mut keys),
-        _ => (),
-    }
+    let keys = ordered_entries(r, k, style);
     let mut refused = 0;
     for i in 0..keys.len() {
         let key = if r.one_in(10) {
@@ -278,6 +273,18 @@ fn grown_index(r: &mut Random, a: &mut Arenas, tally: &mut Tally) {
         }
     }
     calls::audit(tally, &lent, &own);
+}
+
+/// Entries in ascending, descending or random order.
+fn ordered_entries(r: &mut Random, k: usize, style: usize) -> Vec<Entry> {
+    let draws = r.between(1, 90);
+    let mut keys = index::entries(r, k, draws, style);
+    match r.below(3) {
+        0 => keys.reverse(),
+        1 => r.shuffle(&mut keys),
+        _ => (),
+    }
+    keys
 }
 
 /// Lookups, an audit and insertions on an index as it is; the insertions change only a copy.
@@ -342,8 +349,10 @@ fn made_index(r: &mut Random, a: &mut Arenas, tally: &mut Tally) {
 /// A path of full pages, so that an insertion splits every page on it, as far as there is room.
 fn spine(r: &mut Random, a: &mut Arenas, tally: &mut Tally) {
     let k = r.pick(&[46, 62, 100]);
-    let (mut bytes, key) = index::spine(r, k, r.clone().below(12 * (index::capacity(k) - 1)) + 1);
-    bytes.extend(r.bytes(512 * r.clone().below(15)));
+    let leaves = r.between(1, 12 * (index::capacity(k) - 1));
+    let (mut bytes, key) = index::spine(r, k, leaves);
+    let slack = 512 * r.below(15);
+    bytes.extend(r.bytes(slack));
     let lent = a.index.lend(&bytes, r.one_in(2));
     let mut own = bytes.clone();
     let mut before = Vec::new();
