@@ -104,6 +104,9 @@ fn is_dash(word: &[u8]) -> bool {
 // The match is made where a field was named too.
 fn index_lines<'a>(table: &'a [u8], index: &'a [u8], wanted: Field) {
     report::index_line(index);
+    if let Field::Number(number) = wanted {
+        report::match_line(table, index, number);
+    }
 }
 
 fn with_index<'a>(table: &'a [u8], memo: &'a [u8], index_path: &'a [u8], wanted: Field) {

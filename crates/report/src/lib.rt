@@ -1,5 +1,5 @@
 // What the program `inspect` prints of a table and its memo file: a line for the check, the shape, each field, each record and each value; and of an
-// index, a line for the audit. The library decides; here its answers are only spelled out.
+// index, a line for the audit and one for the match. The library decides; here its answers are only spelled out.
 ghost use Prim.Native.Nat.{_≤_};
 ghost use lib.ListN.{length};
 use calendar::Date;
@@ -270,4 +270,9 @@ pub fn table_report<'a>(table: &'a [u8], memo: &'a [u8]) {
 // The audit's number.
 pub fn index_line(index: &[u8]) {
     answer_line(b"index", audit::audit(index));
+}
+
+// The match's number, of an index and a field of a table.
+pub fn match_line(table: &[u8], index: &[u8], field: u32) {
+    answer_line(b"match", matching::match_index(table, index, field));
 }
