@@ -1,4 +1,4 @@
-// Lines of words, as the test programs read them, and printing.
+// Printing, and lines of words, as the test programs read them.
 ghost use Prim.Native.Nat.{_≤_};
 ghost use lib.ListN.{length};
 use libc::STDOUT_FILENO;
@@ -8,6 +8,10 @@ pub fn print(text: &[u8]) {
 }
 
 pub fn print_number(n: u32) {
+    io::print_decimal(STDOUT_FILENO, n as u64);
+}
+
+pub fn print_count(n: usize) {
     io::print_decimal(STDOUT_FILENO, n as u64);
 }
 

@@ -1,5 +1,5 @@
-// What the program `inspect` prints of a table and its memo file: a line for the check, the shape, each field, each record and each value.
-// The library decides; here its answers are only spelled out.
+// What the program `inspect` prints of a table and its memo file: a line for the check, the shape, each field, each record and each value; and of an
+// index, a line for the audit and one for the match. The library decides; here its answers are only spelled out.
 ghost use Prim.Native.Nat.{_≤_};
 ghost use lib.ListN.{length};
 use calendar::Date;
@@ -8,7 +8,7 @@ use cell::Logical;
 use cell::TextPlace;
 use field::FieldEntry;
 use field::Placed;
-use libc::STDOUT_FILENO;
+use lines::print;
 use numeral::Number;
 use table::Checked;
 
@@ -18,39 +18,17 @@ const DELETED: u32 = 0x2A;
 
 const BAD_DELETION_BYTE: u32 = 15;
 
-pub fn print(text: &[u8]) {
-    io::write_all(STDOUT_FILENO, text);
-}
-
-fn print_count(n: usize) {
-    io::print_decimal(STDOUT_FILENO, n as u64);
-}
-
 // A blank and a number.
 fn print_number(n: u32) {
     print(b" ");
-    print_count(n as usize);
+    lines::print_number(n);
 }
 
 // A line of a word and a number.
-pub fn answer_line(word: &[u8], n: u32) {
+fn answer_line(word: &[u8], n: u32) {
     print(word);
     print_number(n);
     print(b"\n");
-}
-
-// How many blanks a text begins with.
-fn blank_count(text: &[u8]) -> usize
-    ensures { λ r. ⌜ r ≤ length (now (text .entry)) ⌝ }
-{
-    let mut n = 0;
-    while n < text.len() {
-        if text[n] != b' ' {
-            break;
-        }
-        n += 1;
-    }
-    n
 }
 
 // Whether a byte stands for itself between quotes.
@@ -107,9 +85,8 @@ fn print_quoted(text: &[u8]) {
 fn print_value(value: i64) {
     let mut text = [0u8; 20];
     numeral::write_number(&mut text, 0, value);
-    let blanks = blank_count(&text);
     print(b" 0 ");
-    print(&text[blanks..]);
+    print(lines::without_blanks(&text));
 }
 
 // The last two decimal digits of a number.
@@ -272,7 +249,7 @@ fn shape_line(records: u32, fields: u32, record_length: usize) {
     print_number(records);
     print_number(fields);
     print(b" ");
-    print_count(record_length);
+    lines::print_count(record_length);
     print(b"\n");
 }
 
@@ -288,4 +265,14 @@ pub fn table_report<'a>(table: &'a [u8], memo: &'a [u8]) {
             record_lines(table, memo, shape.records, fields);
         }
     }
+}
+
+// The audit's number.
+pub fn index_line(index: &[u8]) {
+    answer_line(b"index", audit::audit(index));
+}
+
+// The match's number, of an index and a field of a table.
+pub fn match_line(table: &[u8], index: &[u8], field: u32) {
+    answer_line(b"match", matching::match_index(table, index, field));
 }

@@ -1,0 +1,13 @@
+-- `files::space` has the length that its contract says: by the law on a list of equal elements, since none of its bytes is to be computed.
+-- Assumes nothing.
+use Prim.Native.Nat.{ℕ}
+use mathlib.Core.Path.{sym}
+use lib.ListN.{length-replicate}
+use Rattle.files.proofs.space.Statement.{statement}
+use Rattle.files.proofs.space.Tie as tie
+
+returns : tie.Need-returns
+returns c = sym (length-replicate {0} {A = ℕ} 1048576 0)
+
+pub space-spec : {M : Type 1} → statement M
+space-spec = tie.close (tie.spec returns)
