@@ -81,12 +81,12 @@ module _ (b : List ℕ) (k size a : ℕ) where
   abbrev pub PagesLeft : ℕ → ℕ → ℕ → Progress × List ℕ → Progress × List ℕ → Type 0
   PagesLeft first p left t₀ t = checkPages b k size a (pagesUnder b k size first) t₀ ≡ checkPages b k size a (children b k size (chain b size left p)) t
 
-  chain-none : (p left : ℕ) → isPage size p ≡ false → chain b size left p ≡ []
+  pub chain-none : (p left : ℕ) → isPage size p ≡ false → chain b size left p ≡ []
   unfolding chain
   chain-none p zero e = refl
   chain-none p (suc l) e = rw (e, chain)
 
-  chain-some : (p left q : ℕ) → (left ≡ 0 → ⊥) → isPage size p ≡ true → q ≡ rightAt b p → chain b size left p ≡ p ∷ chain b size (left - 1) q
+  pub chain-some : (p left q : ℕ) → (left ≡ 0 → ⊥) → isPage size p ≡ true → q ≡ rightAt b p → chain b size left p ≡ p ∷ chain b size (left - 1) q
   unfolding chain
   chain-some p zero q n e eq = absurd (n refl)
   chain-some p (suc l) q n e eq = let d : suc l - 1 ≡ l = omega arith in rw (e, chain, d, eq)

@@ -38,7 +38,7 @@ struct Level {
 }
 
 // How many entries a page is read to have: none where it is no page of the file, and never more than the capacity.
-fn entry_count(index: &[u8], k: usize, size: usize, page: PageOffset) -> usize
+pub fn entry_count(index: &[u8], k: usize, size: usize, page: PageOffset) -> usize
     requires { ⌜ InFile (now index) k size ⌝ }
     ensures { λ r. ⌜ r ≡ length (entriesAt k size (now (index .entry)) (page .0)) ⌝ }
 {
@@ -286,7 +286,7 @@ fn check_level(
 }
 
 // Whether a page is a leaf.
-fn leaf_at(index: &[u8], size: usize, page: PageOffset) -> bool
+pub fn leaf_at(index: &[u8], size: usize, page: PageOffset) -> bool
     requires { ⌜ size ≤ length (now index) ⌝ }
     ensures { λ r. ⌜ r ≡ isLeaf (now (index .entry)) size (page .0) ⌝ }
 {
@@ -355,7 +355,7 @@ fn root_level(index: &[u8], marks: &mut [u8], k: usize, size: usize, root: PageO
 }
 
 // The first child of a page, or none.
-fn first_child(index: &[u8], k: usize, size: usize, page: PageOffset) -> PageOffset
+pub fn first_child(index: &[u8], k: usize, size: usize, page: PageOffset) -> PageOffset
     requires { ⌜ InFile (now index) k size ⌝ }
     ensures { λ r. ⌜ r .0 ≡ firstChild (now (index .entry)) k size (page .0) ⌝ }
 {

@@ -74,7 +74,7 @@ module _ (b : List ℕ) (k size : ℕ) (most : size ≤ maxBytes) where
   not-page = either (isPage size noPage) (λ e. let i = is-page size noPage e in absurd (omega arith)) (λ e. e)
 
   -- a level is read back along its right links
-  chain-is : (n last : ℕ) (ps : List ℕ) → length ps ≤ n → All (λ p. isPage size p ≡ true) ps → Linked noPage (linksOf b) last ps
+  pub chain-is : (n last : ℕ) (ps : List ℕ) → length ps ≤ n → All (λ p. isPage size p ≡ true) ps → Linked noPage (linksOf b) last ps
       → chain b size n (headOr noPage ps) ≡ ps
   unfolding chain
   chain-is zero last [] h a l = refl
@@ -191,7 +191,7 @@ module _ (b : List ℕ) (k size : ℕ) (most : size ≤ maxBytes) where
   same-head n [] ys s = absurd s
   same-head n (x ∷ xs) ys s = refl
 
-  next-head : (es : Entries) (first : ℕ) → NonEmpty es → first ≡ headOr noPage (numbers es) → All (λ e. NonEmpty (S (e .1))) es
+  pub next-head : (es : Entries) (first : ℕ) → NonEmpty es → first ≡ headOr noPage (numbers es) → All (λ e. NonEmpty (S (e .1))) es
       → (firstChild b k size first ≡ headOr noPage (numbers (below S es))) × NonEmpty (below S es)
   next-head [] first s e f = absurd s
   next-head (x ∷ es) first s e f = (

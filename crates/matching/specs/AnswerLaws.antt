@@ -1,0 +1,129 @@
+-- Laws: the rule of match leaves no choice: an answer is accepted, or 25, or 31, exactly where document 01 says so, and no two answers meet the rule. Cited by no
+-- proof of the code: they are for readers of the rule. Assumes nothing.
+use Prim.Native.Nat.{ℕ, _-_, _≤_, _<_}
+use mathlib.Core.Path.{_≡_, refl, sym, _∙_}
+use mathlib.Core.Bool.{Bool, true, false}
+use mathlib.Core.List.{List, [], _∷_, _++_}
+use mathlib.Core.Logic.{_↔_, ⊎-elim}
+use native.Mathlib.Omega.{arith}
+use lib.Dec.{eqb, lit≤}
+use borrow.Author.Tests.{eqb-true, eqb-false}
+use Rattle.basis.specs.Lists.{All, all-append, all-map}
+use Rattle.basis.specs.Tests.{either, contra}
+use Rattle.table.specs.Table.{typeC, fieldCount, fieldType, fieldLength, firstRefusal, tableChecks}
+use Rattle.table.specs.TableLaws.{first-pass, first-fail}
+use Rattle.field.specs.Field.{numberGood}
+use Rattle.page.specs.Header.{keyLength, headerGood}
+use Rattle.sound.specs.Sound.{Sound}
+use Rattle.sound.specs.Rule.{pagesGood, unmarked}
+use Rattle.sound.specs.Accepted.{accepted}
+use Rattle.matching.specs.Match.{matchRefusal, entriesOf, Matches, Matched}
+use Rattle.matching.specs.Rule.{entriesMatch}
+use Rattle.matching.specs.TestLaws.{columnOf, test-exactly}
+use Rattle.matching.specs.CallLaws.{table-good, ready}
+
+-- a number that no check has is not the first refusal
+first-other : (n : ℕ) (checks : List (Bool × ℕ)) → 0 < n → All (λ check. check .1 ≡ n → ⊥) checks → firstRefusal checks ≡ n → ⊥
+unfolding firstRefusal
+first-other n [] some a e = omega arith
+first-other n (check ∷ checks) some a e =
+    either (check .0)
+    (λ good. first-other n checks some (a .1) (sym (first-pass (check .0) (check .1) checks good) ∙ e))
+    (λ bad. a .0 (sym (first-fail (check .0) (check .1) checks bad) ∙ e))
+
+table-small : (t : List ℕ) → All (λ check. check .1 ≤ 10) (tableChecks t)
+unfolding tableChecks
+table-small t =
+    (lit≤ tt, (lit≤ tt, (lit≤ tt, (lit≤ tt, (lit≤ tt, (lit≤ tt, (lit≤ tt, (lit≤ tt, (lit≤ tt, (lit≤ tt, tt))))))))))
+
+module _ (t b : List ℕ) (field : ℕ) where
+  -- the checks before the audit give 1 to 10, 24, 12, 13 and 27 alone
+  other-number : (n : ℕ) → 10 < n → (24 ≡ n → ⊥) → (12 ≡ n → ⊥) → (13 ≡ n → ⊥) → (27 ≡ n → ⊥) → matchRefusal t b field ≡ n → ⊥
+  unfolding matchRefusal
+  other-number n l h f c k e =
+      let more : List (Bool × ℕ) = (headerGood b, 24)
+      ∷ (numberGood field (fieldCount t), 12)
+      ∷ (eqb (fieldType t (field - 1)) typeC, 13)
+      ∷ (eqb (fieldLength t (field - 1)) (keyLength b), 27)
+      ∷ [] in
+      let small = all-map (λ check. check .1 ≤ 10) (λ check. check .1 ≡ n → ⊥) (λ check s q. omega (arith, s, q)) (tableChecks t) (table-small t) in
+      first-other n (tableChecks t ++ more) (omega arith)
+      (all-append (λ check. check .1 ≡ n → ⊥) (tableChecks t) more small (h, (f, (c, (k, tt))))) e
+
+  -- every case is one of four: refused before the audit, not sound, matching, not matching
+  cases : {X : Type 0} → ((matchRefusal t b field ≡ 0 → ⊥) → X) → (matchRefusal t b field ≡ 0 → (Sound b → ⊥) → X)
+      → (matchRefusal t b field ≡ 0 → (s : Sound b) → Matches t field (entriesOf b s) → X)
+      → (matchRefusal t b field ≡ 0 → (s : Sound b) → (Matches t field (entriesOf b s) → ⊥) → X) → X
+  cases refused unsound matching other = either (eqb (matchRefusal t b field) 0)
+      (λ z.
+      let none = eqb-true (matchRefusal t b field) 0 z in
+      let header = ready t b field (table-good t b field none) none .header in
+      either (pagesGood b unmarked)
+      (λ p.
+      let s = accepted b header .0 p in
+      let test = test-exactly t field (entriesOf b s) (s .ascending) in
+      either (entriesMatch t (columnOf t field) 0 (entriesOf b s))
+      (λ e. matching none s (test .0 e))
+      (λ e. other none s (λ m. contra (test .1 m) e)))
+      (λ p. unsound none (λ s. contra (accepted b header .1 s) p)))
+      (λ z. refused (eqb-false (matchRefusal t b field) 0 z))
+
+  -- what an answer says: no refusal before the audit, a sound index, and entries that match, or that do not
+  pub record Accepted : Type 0 where
+    pub none : matchRefusal t b field ≡ 0
+    pub sound : Sound b
+    pub matching : Matches t field (entriesOf b sound)
+
+  pub record Differing : Type 0 where
+    pub none : matchRefusal t b field ≡ 0
+    pub sound : Sound b
+    pub differing : Matches t field (entriesOf b sound) → ⊥
+
+  pub record Unsound : Type 0 where
+    pub none : matchRefusal t b field ≡ 0
+    pub unsound : Sound b → ⊥
+
+  module _ (r : ℕ) (m : Matched t b field r) where
+    is-31 : matchRefusal t b field ≡ 0 → (s : Sound b) → (Matches t field (entriesOf b s) → ⊥) → r ≡ 31
+    is-31 z s x = ⊎-elim (λ e. absurd (x (m .accepted z s .0 e))) (λ e. e) (m .other z s)
+
+    -- Theorem: 0, 31 and 25 are answered exactly there
+    pub accepted-exactly : (r ≡ 0) ↔ Accepted
+    accepted-exactly = (
+      λ e. cases
+          (λ x. absurd (x (sym (m .refused x) ∙ e)))
+          (λ z x. absurd (omega (arith, e, m .unsound z .1 x)))
+          (λ z s x. record { none = z; sound = s; matching = x })
+          (λ z s x. absurd (omega (arith, e, is-31 z s x))),
+      λ a. m .accepted (a .none) (a .sound) .1 (a .matching),
+    )
+
+    pub differing-exactly : (r ≡ 31) ↔ Differing
+    differing-exactly = (
+      λ e. cases
+          (λ x. absurd (other-number 31 (omega arith) (λ q. omega (arith, q)) (λ q. omega (arith, q)) (λ q. omega (arith, q)) (λ q. omega (arith, q))
+          (sym (m .refused x) ∙ e)))
+          (λ z x. absurd (omega (arith, e, m .unsound z .1 x)))
+          (λ z s x. absurd (omega (arith, e, m .accepted z s .1 x)))
+          (λ z s x. record { none = z; sound = s; differing = x }),
+      λ a. is-31 (a .none) (a .sound) (a .differing),
+    )
+
+    pub unsound-exactly : (r ≡ 25) ↔ Unsound
+    unsound-exactly = (
+      λ e. cases
+          (λ x. absurd (other-number 25 (omega arith) (λ q. omega (arith, q)) (λ q. omega (arith, q)) (λ q. omega (arith, q)) (λ q. omega (arith, q))
+          (sym (m .refused x) ∙ e)))
+          (λ z x. record { none = z; unsound = x })
+          (λ z s x. absurd (omega (arith, e, m .accepted z s .1 x)))
+          (λ z s x. absurd (omega (arith, e, is-31 z s x))),
+      λ a. m .unsound (a .none) .1 (a .unsound),
+    )
+
+  -- Theorem: no two answers meet the rule
+  pub one-answer : (r q : ℕ) → Matched t b field r → Matched t b field q → r ≡ q
+  one-answer r q m n = cases
+      (λ x. m .refused x ∙ sym (n .refused x))
+      (λ z x. m .unsound z .1 x ∙ sym (n .unsound z .1 x))
+      (λ z s x. m .accepted z s .1 x ∙ sym (n .accepted z s .1 x))
+      (λ z s x. is-31 r m z s x ∙ sym (is-31 q n z s x))

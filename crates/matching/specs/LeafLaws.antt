@@ -1,0 +1,128 @@
+-- Laws: the entries that are read along the leaves of a sound index are those of its tree. Cited by the proof of the match. Assumes nothing.
+use Prim.Native.Nat.{ℕ, zero, suc, _-_, _≤_, _<_}
+use mathlib.Core.Path.{_≡_, refl, sym, ap, _∙_}
+use mathlib.Core.Bool.{Bool, true, false}
+use mathlib.Core.List.{List, [], _∷_}
+use native.Mathlib.Omega.{arith}
+use lib.ListN.{length, length-append}
+use lib.Dec.{eqb}
+use borrow.Author.Tests.{eq-eqb, ne-eqb}
+use Rattle.basis.specs.Lists.{All, all-map}
+use Rattle.tree.specs.Lists.{NonEmpty, concatMap}
+use Rattle.tree.specs.ListLaws.{all-map2}
+use Rattle.tree.specs.Clauses.{headOr, Linked}
+use Rattle.page.specs.Header.{maxBytes, maxLevels, noPage, rootOffset, fileSize, keyLength, isPage}
+use Rattle.page.specs.HeaderLaws.{good-header}
+use Rattle.page.specs.Page.{attributeAt, leafBit}
+use Rattle.page.specs.Reading.{entriesAt}
+use Rattle.sound.specs.Sound.{Sound, CountGood, linksOf}
+use Rattle.sound.specs.Rule.{Entries, maxPages, chain, isLeaf, firstChild, unmarked}
+use Rattle.sound.specs.Levels.{numbers, below, generation, reached, join-map, generation-below, generations-reached, all-of-map}
+use Rattle.sound.specs.Levels.{tree-pairs, tree-pages, level-generation, pages-generation}
+use Rattle.sound.specs.MarkLaws.{fresh-few, unmarked-length, once-fresh}
+use Rattle.sound.specs.LevelLaws.{chain-is, next-head}
+use Rattle.sound.specs.ShapeLaws.{rootEntry, levelPages, entries-filled}
+use Rattle.matching.specs.Match.{entriesOf}
+use Rattle.matching.specs.Rule.{firstLeaf, leafEntries}
+use Rattle.matching.specs.StepLaws.{first-here, first-lower}
+
+-- what holds of the pages that entries name holds of the first of them
+head-all : (Q : ℕ → Type 0) (es : Entries) → NonEmpty es → All (λ e. Q (e .1)) es → Q (headOr noPage (numbers es))
+head-all Q [] s a = absurd s
+head-all Q (e ∷ es) s a = a .0
+
+module _ (b : List ℕ) (k size : ℕ) (most : size ≤ maxBytes) where
+  abbrev S : ℕ → Entries
+  S = entriesAt k size b
+
+  -- a page above the leaves, which has a child
+  abbrev Inner : List ℕ × ℕ → Type 0
+  Inner e = (isLeaf b size (e .1) ≡ false) × NonEmpty (entriesAt k size b (e .1))
+
+  -- from the first page that some entries name, to the first of the leaves h levels under it
+  first-is : (l h : ℕ) (es : Entries) (first : ℕ) → h ≤ l → NonEmpty es → first ≡ headOr noPage (numbers es)
+      → ((i : ℕ) → i < h → All Inner (generation S i es)) → All (λ e. isLeaf b size (e .1) ≡ true) (generation S h es)
+      → firstLeaf b k size l first ≡ headOr noPage (numbers (generation S h es))
+  first-is l zero es first n some e above bottom = first-here b k size l first (rw e (head-all (λ p. isLeaf b size p ≡ true) es some bottom)) ∙ e
+  first-is zero (suc h) es first n some e above bottom = absurd (omega arith)
+  first-is (suc l) (suc h) es first n some e above bottom =
+      let here = above 0 (omega arith) in
+      let next = next-head b k size most es first some e (all-map Inner (λ e. NonEmpty (S (e .1))) (λ e x. x .1) es here) in
+      let inner = head-all (λ p. isLeaf b size p ≡ false) es some (all-map Inner (λ e. isLeaf b size (e .1) ≡ false) (λ e x. x .0) es here) in
+      first-lower b k size l first (rw e inner)
+      ∙ first-is l h (below S es) (firstChild b k size first) (omega arith) (next .1) (next .0) (λ i o. above (suc i) (omega arith)) bottom
+
+  -- a level has no more pages than there are in all
+  level-few : (h i : ℕ) (es : Entries) → i < h → length (numbers (generation S i es)) ≤ length (reached S h es)
+  level-few zero i es l = absurd (omega arith)
+  level-few (suc h) zero es l = omega (arith, length-append (numbers es) (reached S h (below S es)))
+  level-few (suc h) (suc i) es l =
+      omega (arith, length-append (numbers es) (reached S h (below S es)), level-few h i (below S es) (omega arith))
+
+module _ (b : List ℕ) (s : Sound b) where
+  abbrev K : ℕ
+  K = keyLength b
+
+  abbrev F : ℕ
+  F = fileSize b
+
+  abbrev R : ℕ
+  R = rootOffset b
+
+  abbrev B : ℕ → Entries
+  B = entriesAt (keyLength b) (fileSize b) b
+
+  abbrev most : fileSize b ≤ maxBytes
+  most = good-header b (s .header) .most
+
+  -- the pages of each level: they are pages of the file, and leaves on the last level alone
+  inside : (i : ℕ) → i ≤ s .height → All (λ p. isPage (fileSize b) p ≡ true) (levelPages b K F R i)
+  inside = pages-generation B [] R (s .height) (λ p. isPage (fileSize b) p ≡ true) (s .inside)
+
+  leaves : (i : ℕ) (leaf : Bool) → i ≤ s .height → eqb (s .height - i) 0 ≡ leaf → All (λ e. isLeaf b (fileSize b) (e .1) ≡ leaf) (generation B i (rootEntry R))
+  unfolding isLeaf
+  leaves i leaf l e =
+      all-of-map (λ p. isLeaf b (fileSize b) p ≡ leaf) (λ e. e .1) (generation B i (rootEntry R))
+      (all-map2 (λ p. isPage (fileSize b) p ≡ true) (λ p. leafBit (attributeAt b p) ≡ eqb (s .height - i) 0) (λ p. isLeaf b (fileSize b) p ≡ leaf)
+      (λ p o a. rw (o, a) e) (levelPages b K F R i) (inside i l)
+      (level-generation B [] R (s .height) (λ j ps. All (λ p. leafBit (attributeAt b p) ≡ eqb j 0) ps) (s .leafBits) i l))
+
+  inner : (i : ℕ) → i < s .height → All (Inner b (keyLength b) (fileSize b) most) (generation B i (rootEntry R))
+  inner i l =
+      all-map2 (λ e. isLeaf b (fileSize b) (e .1) ≡ false) (λ e. NonEmpty (B (e .1))) (Inner b (keyLength b) (fileSize b) most) (λ e x y. (x, y))
+      (generation B i (rootEntry R)) (leaves i false (omega arith) (ne-eqb (s .height - i) 0 (omega arith)))
+      (entries-filled b K F R (s .height) inside (pages-generation B [] R (s .height) (CountGood b K (s .height)) (s .counts)) i (omega arith) (omega arith))
+
+  first-leaf : firstLeaf b (keyLength b) (fileSize b) (maxLevels - 1) (rootOffset b) ≡ headOr noPage (levelPages b K F R (s .height))
+  first-leaf =
+      let few = s .levels in
+      first-is b K F most (maxLevels - 1) (s .height) (rootEntry R) R (omega arith) tt refl inner
+      (leaves (s .height) true (omega arith) (eq-eqb (s .height - s .height) 0 (omega arith)))
+
+  -- the last level, along its right links
+  leaves-few : length (levelPages b K F R (s .height)) ≤ maxPages
+  leaves-few =
+      let all = reached B (suc (s .height)) (rootEntry R) in
+      let in-all = generations-reached B (λ p. isPage (fileSize b) p ≡ true) (suc (s .height)) (rootEntry R) (λ i l. inside i (omega arith)) in
+      let fresh = once-fresh F all (good-header b (s .header) .whole) most in-all (λ p o. sym (tree-pages B [] R (s .height) p) ∙ s .once p o) in
+      omega (
+        arith,
+        level-few b K F most (suc (s .height)) (s .height) (rootEntry R) (omega arith),
+        fresh-few F unmarked all most unmarked-length in-all fresh,
+      )
+
+  leaves-chain : chain b (fileSize b) maxPages (headOr noPage (levelPages b K F R (s .height))) ≡ levelPages b K F R (s .height)
+  leaves-chain =
+      chain-is b K F most maxPages noPage (levelPages b K F R (s .height)) leaves-few (inside (s .height) (omega arith))
+      (level-generation B [] R (s .height) (λ j ps. Linked noPage (linksOf b) noPage ps) (s .links) (s .height) (omega arith))
+
+  -- Theorem: the entries that are read along the leaves are the tree's
+  pub leaf-entries : leafEntries b ≡ entriesOf b s
+  unfolding leafEntries
+  leaf-entries =
+      let E = generation B (s .height) (rootEntry R) in
+      ap (λ (p : ℕ). concatMap B (chain b F maxPages p)) first-leaf
+      ∙ ap (concatMap B) leaves-chain
+      ∙ join-map B B (λ e. e .1) E
+      ∙ generation-below B (s .height) (rootEntry R)
+      ∙ sym (tree-pairs B [] R (s .height))

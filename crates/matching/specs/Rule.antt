@@ -1,0 +1,57 @@
+-- Rules: the test that tells 0 from 31, as it is computed, entry after entry along the leaves. Only the match's inner functions cite it: that it holds exactly
+-- where the entries match is proved in TestLaws, so that a reader need not believe it.
+use Prim.Native.Nat.{ℕ, zero, suc, _+_, _-_, _≤_}
+use mathlib.Core.Path.{_≡_}
+use mathlib.Core.Bool.{Bool, true, false, _&&_}
+use mathlib.Core.List.{List, [], _∷_}
+use lib.ListN.{length}
+use lib.Dec.{eqb}
+use Rattle.octets.specs.Store.{window}
+use Rattle.octets.specs.Order.{ordering, isEqual}
+use Rattle.table.specs.Table.{minTable, recordStart}
+use Rattle.field.specs.Field.{numberGood}
+use Rattle.tree.specs.Lists.{concatMap}
+use Rattle.page.specs.Header.{maxLevels, rootOffset, fileSize, keyLength}
+use Rattle.page.specs.Reading.{entriesAt}
+use Rattle.sound.specs.Rule.{Entries, maxPages, chain, isLeaf, firstChild}
+use Rattle.matching.specs.declared.Column.{Column}
+
+-- ---- entries
+
+-- the field's bytes in record i
+unfoldable pub columnBytes : List ℕ → Column → ℕ → List ℕ
+columnBytes t c i = window t (recordStart t i + c .offset) (c .length)
+
+-- an entry is that of a record from 1 to n, and has its field as the key
+unfoldable pub entryGood : List ℕ → Column → List ℕ × ℕ → Bool
+entryGood t c e = numberGood (e .1) (c .records) && isEqual (ordering (e .0) (columnBytes t c (e .1)))
+
+-- the same of some entries
+unfoldable pub entriesGood : List ℕ → Column → Entries → Bool
+entriesGood t c [] = true
+entriesGood t c (e ∷ es) = entryGood t c e && entriesGood t c es
+
+-- and there are n of them, with those that were counted before
+unfoldable pub entriesMatch : List ℕ → Column → ℕ → Entries → Bool
+entriesMatch t c count es = entriesGood t c es && eqb (count + length es) (c .records)
+
+-- ---- leaves
+
+-- the first leaf from a page on down, by the first children, past l pages at most
+unfoldable pub firstLeaf : List ℕ → ℕ → ℕ → ℕ → ℕ → ℕ
+firstLeaf b k size zero p = p
+firstLeaf b k size (suc l) p = elim (isLeaf b size p) [ true ↦ p | false ↦ firstLeaf b k size l (firstChild b k size p) ]
+
+-- the entries of the pages from p on, n at most, each named by the right link of the one before it
+abbrev pub entriesAlong : List ℕ → ℕ → ℕ → ℕ → ℕ → Entries
+entriesAlong b k size n p = concatMap (entriesAt k size b) (chain b size n p)
+
+-- the entries of the leaves of an index
+unfoldable pub leafEntries : List ℕ → Entries
+leafEntries b =
+    entriesAlong b (keyLength b) (fileSize b) maxPages (firstLeaf b (keyLength b) (fileSize b) (maxLevels - 1) (rootOffset b))
+
+-- ---- what the inner functions ask of the table: the field lies in it, in each record from 1 to n
+pub record ColumnInside (t : List ℕ) (c : Column) : Type 0 where
+  pub long : minTable ≤ length t
+  pub inside : (i : ℕ) → numberGood i (c .records) ≡ true → recordStart t i + c .offset + c .length ≤ length t

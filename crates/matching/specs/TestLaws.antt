@@ -1,0 +1,129 @@
+-- Laws: of entries whose keys ascend, the test that is computed holds exactly where they match. Cited by the proof of the match. Assumes nothing.
+use Prim.Native.Nat.{ℕ, _+_, _-_, _≤_}
+use mathlib.Core.Path.{_≡_, refl, sym, ap, _∙_}
+use mathlib.Core.Bool.{Bool, true, false, _&&_}
+use mathlib.Core.List.{List, [], _∷_}
+use mathlib.Core.Logic.{_↔_}
+use native.Mathlib.Omega.{arith}
+use lib.ListN.{length, length-map}
+use lib.Dec.{eqb, leb}
+use borrow.Author.Tests.{eqb-true, eqb-false, eq-eqb, ne-eqb, le-leb}
+use Rattle.basis.specs.Lists.{All, all-map}
+use Rattle.basis.specs.Tests.{either, contra, both, join}
+use Rattle.octets.specs.Order.{ordering, isEqual}
+use Rattle.octets.specs.OrderLaws.{le-refl}
+use Rattle.table.specs.Table.{fieldOffset, fieldLength, recordCount}
+use Rattle.field.specs.Field.{numberGood}
+use Rattle.field.specs.FieldLaws.{number-range}
+use Rattle.cell.specs.Cell.{fieldStart, fieldBytes}
+use Rattle.tree.specs.Lists.{occ}
+use Rattle.tree.specs.Pairs.{Above, Ascending}
+use Rattle.page.specs.KeyOrder.{bytesOrder, equal-same, equal-refl}
+use Rattle.sound.specs.Rule.{Entries}
+use Rattle.sound.specs.Levels.{numbers, all-to-map}
+use Rattle.matching.specs.declared.Column.{Column}
+use Rattle.matching.specs.Match.{Matches}
+use Rattle.matching.specs.Rule.{columnBytes, entryGood, entriesGood, entriesMatch}
+use Rattle.matching.specs.CountLaws.{each-once, as-many}
+
+-- a number from 1 to a count, from its range
+range-number : (i n : ℕ) → 1 ≤ i → i ≤ n → numberGood i n ≡ true
+unfolding numberGood
+range-number i n l u = join _ _ (le-leb 1 i l) (le-leb i n u)
+
+-- two lists of bytes that are equal
+same-equal : (a b : List ℕ) → a ≡ b → isEqual (ordering a b) ≡ true
+same-equal a b e = rw e (equal-refl b)
+
+-- no record has two entries where each entry has its record's field as the key: they would have one key
+module _ (f : ℕ → List ℕ) where
+  abbrev Own : List ℕ × ℕ → Type 0
+  Own e = e .0 ≡ f (e .1)
+
+  own-differ : (e x : List ℕ × ℕ) → Own e → Own x → bytesOrder .le (x .0) (e .0) ≡ false → e .1 ≡ x .1 → ⊥
+  own-differ e x o p lt q =
+      let same : x .0 ≡ e .0 = p ∙ ap f (sym q) ∙ sym o in
+      contra (le-refl (e .0)) (rw same at lt)
+
+  none-later : (e : List ℕ × ℕ) (es : Entries) → Own e → All Own es → Above bytesOrder (e .0) es → occ (e .1) (numbers es) ≡ 0
+  none-later e [] o os v = refl
+  none-later e (x ∷ es) o os v = rw (ne-eqb (e .1) (x .1) (own-differ e x o (os .0) (v .0))) (omega (arith, none-later e es o (os .1) (v .1)))
+
+  pub at-most-once : (es : Entries) → All (λ e. e .0 ≡ f (e .1)) es → Ascending bytesOrder es → (i : ℕ) → occ i (numbers es) ≤ 1
+  at-most-once [] os a i = omega arith
+  at-most-once (e ∷ es) os a i = either (eqb i (e .1))
+      (λ q. let z : occ i (numbers es) ≡ 0 = rw (eqb-true i (e .1) q) (none-later e es (os .0) (os .1) (a .0)) in rw q (omega arith))
+      (λ q. rw q (omega (arith, at-most-once es (os .1) (a .1) i)))
+
+-- entries that pass the test, one by one, and back
+module _ (t : List ℕ) (c : Column) where
+  abbrev Passes : List ℕ × ℕ → Type 0
+  Passes e = (e .0 ≡ columnBytes t c (e .1)) × (1 ≤ e .1) × (e .1 ≤ c .records)
+
+  entry-passes : (e : List ℕ × ℕ) → entryGood t c e ≡ true → Passes e
+  unfolding entryGood
+  entry-passes e h =
+      let u = both _ _ h in
+      let r = number-range (e .1) (c .records) (u .0) in
+      (equal-same (e .0) (columnBytes t c (e .1)) (u .1), r .0, r .1)
+
+  passes-entry : (e : List ℕ × ℕ) → Passes e → entryGood t c e ≡ true
+  unfolding entryGood
+  passes-entry e p = join _ _ (range-number (e .1) (c .records) (p .1) (p .2)) (same-equal (e .0) (columnBytes t c (e .1)) (p .0))
+
+  good-pass : (es : Entries) → entriesGood t c es ≡ true → All Passes es
+  unfolding entriesGood
+  good-pass [] h = tt
+  good-pass (e ∷ es) h = let u = both _ _ h in (entry-passes e (u .0), good-pass es (u .1))
+
+  pass-good : (es : Entries) → All Passes es → entriesGood t c es ≡ true
+  unfolding entriesGood
+  pass-good [] p = refl
+  pass-good (e ∷ es) p = join _ _ (passes-entry e (p .0)) (pass-good es (p .1))
+
+-- the field of the table's records
+abbrev pub columnOf : List ℕ → ℕ → Column
+columnOf t field = record { records = recordCount t; offset = fieldOffset t (field - 1); length = fieldLength t (field - 1) }
+
+column-field : (t : List ℕ) (field i : ℕ) → columnBytes t (columnOf t field) i ≡ fieldBytes t i field
+unfolding columnBytes fieldBytes fieldStart
+column-field t field i = refl
+
+-- Theorem: of entries whose keys ascend, the test holds exactly where they match
+module _ (t : List ℕ) (field : ℕ) (es : Entries) (ascending : Ascending bytesOrder es) where
+  abbrev C : Column
+  C = columnOf t field
+
+  abbrev Ranged : ℕ → Type 0
+  Ranged i = (1 ≤ i) × (i ≤ recordCount t)
+
+  test-matches : entriesMatch t (columnOf t field) 0 es ≡ true → Matches t field es
+  unfolding entriesMatch
+  test-matches h =
+      let u = both (entriesGood t C es) (eqb (0 + length es) (recordCount t)) h in
+      let p = good-pass t C es (u .0) in
+      let own = all-map (Passes t C) (λ e. e .0 ≡ columnBytes t (columnOf t field) (e .1)) (λ e q. q .0) es p in
+      let ranged = all-map (Passes t C) (λ e. Ranged (e .1)) (λ e q. (q .1, q .2)) es p in
+      let many : length (numbers es) ≡ recordCount t = omega (arith, length-map es (λ e. e .1), eqb-true (0 + length es) (recordCount t) (u .1)) in
+      record {
+        once = each-once (recordCount t) (numbers es) (all-to-map Ranged (λ e. e .1) es ranged)
+            (at-most-once (columnBytes t (columnOf t field)) es own ascending) many;
+        keys = all-map (λ e. e .0 ≡ columnBytes t (columnOf t field) (e .1)) (λ e. e .0 ≡ fieldBytes t (e .1) field)
+            (λ e q. q ∙ column-field t field (e .1)) es own;
+        others = ranged;
+      }
+
+  matches-test : Matches t field es → entriesMatch t (columnOf t field) 0 es ≡ true
+  unfolding entriesMatch
+  matches-test m =
+      let many = as-many (recordCount t) (numbers es) (all-to-map Ranged (λ e. e .1) es (m .others)) (m .once) in
+      join (entriesGood t C es) (eqb (0 + length es) (recordCount t))
+      (pass-good t C es (both-all es (m .keys) (m .others)))
+      (eq-eqb (0 + length es) (recordCount t) (omega (arith, length-map es (λ e. e .1))))
+    where
+      both-all : (xs : Entries) → All (λ e. e .0 ≡ fieldBytes t (e .1) field) xs → All (λ e. (1 ≤ e .1) × (e .1 ≤ recordCount t)) xs → All (Passes t C) xs
+      both-all [] k r = tt
+      both-all (x ∷ xs) k r = ((k .0 ∙ sym (column-field t field (x .1)), r .0 .0, r .0 .1), both-all xs (k .1) (r .1))
+
+  pub test-exactly : (entriesMatch t (columnOf t field) 0 es ≡ true) ↔ Matches t field es
+  test-exactly = (test-matches, matches-test)

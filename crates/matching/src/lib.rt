@@ -1,0 +1,175 @@
+// The match of an index against a field of a table. Document 01: "Match: table checks, index header, field number, field type C, field length k (27), audit,
+// then 31 unless each record 1 to n, whatever its deletion byte, has exactly one entry, its key that record's field, and there are no other entries."
+// Once the index is known to be sound, its leaf keys ascend, so that no two are equal. So it is enough to go along the leaves once: if each entry has the
+// field of a record of the table as its key, no record has two entries, and if there are as many entries as records, each has one.
+use page::Page;
+use page::PageOffset;
+use table::Checked;
+use table::Shape;
+ghost use mathlib.Core.Path.{_≡_};
+ghost use mathlib.Core.Bool.{true};
+ghost use Prim.Native.Nat.{_+_, _-_};
+ghost use Rattle.table.specs.TableLaws.{Shaped};
+ghost use Rattle.page.specs.Header.{maxLevels, rootOffset, keyLength, headerGood};
+ghost use Rattle.page.specs.Page.{keyAt, numberAt};
+ghost use Rattle.page.specs.Within.{Within};
+ghost use Rattle.page.specs.ReadingLaws.{entriesFrom};
+ghost use Rattle.sound.specs.Rule.{maxPages};
+ghost use Rattle.audit.specs.State.{InFile, EntriesWithin};
+ghost use Rattle.matching.specs.Match.{matchRefusal, Matched};
+ghost use Rattle.matching.specs.Rule.{entryGood, entriesGood, entriesMatch, firstLeaf, entriesAlong, leafEntries, ColumnInside};
+
+const BAD_FIELD_NUMBER: u32 = 12;
+
+const OTHER_TYPE: u32 = 13;
+
+const BAD_INDEX_HEADER: u32 = 24;
+
+const UNSOUND_INDEX: u32 = 25;
+
+const OTHER_KEY_LENGTH: u32 = 27;
+
+const NO_MATCH: u32 = 31;
+
+// The most pages that an index has.
+const MAX_PAGES: usize = page::MAX_BYTES / Page::SIZE;
+
+// A field of all records of a table: their number, where it begins in a record, and its length.
+struct Column {
+    records: u32,
+    offset: usize,
+    length: usize,
+}
+
+// Whether entry i of a leaf is that of a record of the table and has its field as the key.
+fn entry_good(table: &[u8], index: &[u8], column: Column, page: PageOffset, i: usize) -> bool
+    requires { ⌜ ColumnInside (now table) column × Within (now index) (column .length) (page .0) (i + 1) ⌝ }
+    ensures { λ r. ⌜ r ≡ entryGood (now (table .entry)) column (keyAt (now (index .entry)) (column .length) (page .0) i, numberAt (now (index .entry)) (column .length) (page .0) i) ⌝ }
+{
+    let number = page::record_number(index, column.length, page, i).0;
+    if !field::number_good(number as usize, column.records as usize) {
+        return false;
+    }
+    let start = table::records_end(table, number - 1) + column.offset;
+    let end = start + column.length;
+    octets::is_equal(page::compare_entry(index, page, i, &table[start..end]))
+}
+
+// The same of so many entries of a leaf.
+fn leaf_good(table: &[u8], index: &[u8], column: Column, page: PageOffset, count: usize) -> bool
+    requires { ⌜ ColumnInside (now table) column × EntriesWithin (now index) (column .length) (page .0) count ⌝ }
+    ensures { λ r. ⌜ r ≡ entriesGood (now (table .entry)) column (entriesFrom (now (index .entry)) (column .length) (page .0) count 0) ⌝ }
+{
+    let mut i = 0;
+    while i < count {
+        if !entry_good(table, index, column, page, i) {
+            return false;
+        }
+        i += 1;
+    }
+    true
+}
+
+// The same of the entries of the leaves from the first on, along the right links, and whether they are as many as the records.
+fn leaves_good(table: &[u8], index: &[u8], column: Column, size: usize, first: PageOffset) -> bool
+    requires { ⌜ ColumnInside (now table) column × InFile (now index) (column .length) size ⌝ }
+    ensures { λ r. ⌜ r ≡ entriesMatch (now (table .entry)) column 0 (entriesAlong (now (index .entry)) (column .length) size maxPages (first .0)) ⌝ }
+{
+    let mut page = first;
+    let mut count = 0;
+    let mut left = MAX_PAGES;
+    while (0 < left) & page::is_page(size, page) {
+        let entries = audit::entry_count(index, column.length, size, page);
+        if !leaf_good(table, index, column, page, entries) {
+            return false;
+        }
+        count += entries;
+        let head = Page::at(index, page);
+        page = head.right;
+        left -= 1;
+    }
+    count == column.records as usize
+}
+
+// The first leaf of an index, from the root on down by the first children.
+fn first_leaf(index: &[u8], k: usize, size: usize) -> PageOffset
+    requires { ⌜ InFile (now index) k size ⌝ }
+    ensures { λ r. ⌜ r .0 ≡ firstLeaf (now (index .entry)) k size (maxLevels - 1) (rootOffset (now (index .entry))) ⌝ }
+{
+    let mut page = page::root(index);
+    let mut left = page::MAX_LEVELS - 1;
+    while 0 < left {
+        if audit::leaf_at(index, size, page) {
+            return page;
+        }
+        page = audit::first_child(index, k, size, page);
+        left -= 1;
+    }
+    page
+}
+
+// Whether the entries of the leaves are those of the records, each with its field as the key.
+fn entries_match(table: &[u8], index: &[u8], column: Column) -> bool
+    requires { ⌜ ColumnInside (now table) column × (headerGood (now index) ≡ true) × (column .length ≡ keyLength (now index)) ⌝ }
+    ensures { λ r. ⌜ r ≡ entriesMatch (now (table .entry)) column 0 (leafEntries (now (index .entry))) ⌝ }
+{
+    let size = page::file_size(index);
+    let first = first_leaf(index, column.length, size);
+    leaves_good(table, index, column, size, first)
+}
+
+// The refusals 24, 12, 13 and 27, in this order, of a table that was checked; 0 where there is none.
+fn match_refusal(table: &[u8], index: &[u8], shape: Shape, field: u32) -> u32
+    requires { ⌜ Shaped (now table) shape ⌝ }
+    ensures { λ r. ⌜ r ≡ matchRefusal (now (table .entry)) (now (index .entry)) field ⌝ }
+{
+    if !page::header_good(index) {
+        return BAD_INDEX_HEADER;
+    }
+    if !field::number_good(field as usize, shape.fields) {
+        return BAD_FIELD_NUMBER;
+    }
+    let form = field::field_form(table, (field - 1) as usize);
+    if form.kind != table::TYPE_C {
+        return OTHER_TYPE;
+    }
+    if form.length != page::key_length(index) {
+        return OTHER_KEY_LENGTH;
+    }
+    0
+}
+
+// The match of an index against a field of a table that was checked.
+fn match_checked(table: &[u8], index: &[u8], shape: Shape, field: u32) -> u32
+    requires { ⌜ Shaped (now table) shape ⌝ }
+    ensures { λ r. ⌜ Matched (now (table .entry)) (now (index .entry)) field r ⌝ }
+{
+    let refusal = match_refusal(table, index, shape, field);
+    if refusal != 0 {
+        return refusal;
+    }
+    if audit::audit(index) != 0 {
+        return UNSOUND_INDEX;
+    }
+    let form = field::field_form(table, (field - 1) as usize);
+    let column = Column {
+        records: shape.records,
+        offset: form.offset,
+        length: form.length,
+    };
+    if entries_match(table, index, column) {
+        0
+    } else {
+        NO_MATCH
+    }
+}
+
+// The match of an index against a field of a table, by its number, from 1.
+pub fn match_index(table: &[u8], index: &[u8], field: u32) -> u32
+    ensures { λ r. ⌜ Matched (now (table .entry)) (now (index .entry)) field r ⌝ }
+{
+    match table::check_table(table) {
+        Checked::Refused(number) => number,
+        Checked::Good(shape) => match_checked(table, index, shape, field),
+    }
+}
