@@ -850,6 +850,7 @@ static void test_match(void)
     MATCHES(2, 13);
     /* whatever its deletion byte */
     t.bytes[161] = 'x', MATCHES(1, 0);
+    t.bytes[161] = ' ', MATCHES(1, 0);
     /* a key that is not the record's field, in the table and in the index */
     t.bytes[162] ^= 1, MATCHES(1, 31);
     t.bytes[162] ^= 1, MATCHES(1, 0);
