@@ -82,6 +82,10 @@ uint32_t gl_index_lookup(const uint8_t *index, size_t index_len, const uint8_t *
 /* Inserts a key with its record's number. 24, 27, 28, 25, 29, 30. */
 uint32_t gl_index_insert(uint8_t *index, size_t index_len, const uint8_t *key, size_t key_len, uint32_t record);
 
+/* Matches an index against a field of a table: 0 where each record, deleted or not, has exactly one entry, its key that record's field, and there are
+   no other entries. 1 to 10, 24, 12, 13, 27, 25, 31. */
+uint32_t gl_match(const uint8_t *table, size_t table_len, const uint8_t *index, size_t index_len, uint32_t field);
+
 #ifdef __cplusplus
 }
 #endif

@@ -825,6 +825,61 @@ static void test_calls(const char *name, size_t len)
     give_back(&want);
 }
 
+/* Puts records 1 to `last` of a table into an index on its field 1. */
+static void index_records(lent *index, const lent *t, uint32_t k, uint32_t last)
+{
+    const uint8_t none = 0;
+    SAME(gl_index_fresh(index->bytes, index->len, k, (const uint8_t *)"BARCODE", 7), 0);
+    for (uint32_t i = 1; i <= last; i++) {
+        uint64_t start = 0, length = 0;
+        SAME(gl_text_part(t->bytes, t->len, &none, 0, i, 1, &start, &length), 0);
+        SAME(gl_index_insert(index->bytes, index->len, t->bytes + start, length, i), 0);
+    }
+    keep(index);
+}
+
+#define MATCHES(field, want) SAME(gl_match(t.bytes, t.len, index.bytes, index.len, field), want)
+
+static void test_match(void)
+{
+    lent t = load("crates/samples/data", "shp_point.dbf"), index = lend(NULL, 4096);
+    index_records(&index, &t, 10, 5);
+    MATCHES(1, 0);
+    MATCHES(0, 12);
+    MATCHES(5, 12);
+    MATCHES(2, 13);
+    /* whatever its deletion byte */
+    t.bytes[161] = 'x', MATCHES(1, 0);
+    t.bytes[161] = ' ', MATCHES(1, 0);
+    /* a key that is not the record's field, in the table and in the index */
+    t.bytes[162] ^= 1, MATCHES(1, 31);
+    t.bytes[162] ^= 1, MATCHES(1, 0);
+    index.bytes[512 + 12 + 13] = 2, MATCHES(1, 31);
+    index.bytes[512 + 12 + 13] = 1, MATCHES(1, 0);
+    /* an entry too many, and one too few */
+    SAME(gl_index_insert(index.bytes, index.len, (const uint8_t *)"PLT0000006", 10, 6), 0);
+    MATCHES(1, 31);
+    index_records(&index, &t, 10, 0);
+    MATCHES(1, 31);
+    for (uint32_t i = 1; i <= 4; i++) {
+        index_records(&index, &t, 10, i);
+        MATCHES(1, 31);
+    }
+    /* 27, 25, 24 and 1 to 10, each before the ones tested above it */
+    SAME(gl_index_fresh(index.bytes, index.len, 9, (const uint8_t *)"BARCODE", 7), 0);
+    MATCHES(1, 27);
+    index.bytes[512] = 0, MATCHES(1, 27);
+    index_records(&index, &t, 10, 5);
+    index.bytes[512] = 0, MATCHES(1, 25);
+    MATCHES(2, 13);
+    index.bytes[14] = 0, MATCHES(9, 24);
+    t.bytes[0] = 0x83, MATCHES(9, 2);
+    MARGINS(t);
+    MARGINS(index);
+    give_back(&t);
+    give_back(&index);
+}
+
 /* An insertion refuses what the audit refuses, and leaves it. */
 static void test_damaged_index(const char *name, const char *key)
 {
@@ -876,6 +931,7 @@ int main(int argc, char **argv)
     test_calls("k46_mixed", 32768);
     test_calls("k100_deep", 65536);
     test_calls("k100_full", 4096);
+    test_match();
     test_damaged_index("k1_bytes.idx", "\x80");
     test_damaged_index("k100_full.idx", "0123456789012345678901234567890123456789012345678901234567890123456789012345678901234567890123456789");
     printf("%lu comparisons, %lu differences\n", checks, differences);

@@ -19,6 +19,7 @@ ghost use Rattle.lookup.specs.Lookup.{lookupRule};
 ghost use Rattle.sound.specs.Sound.{Audited};
 ghost use Rattle.insert.specs.Calls.{insertRule, insertionNumber};
 ghost use Rattle.insert.specs.Fresh.{freshRule};
+ghost use Rattle.matching.specs.Match.{Matched};
 ghost use Rattle.gatherloom.specs.Lent.{planOf, listing, walkedOf};
 ghost use Rattle.gatherloom.specs.Answers.{out, sizes, dayOf, part, found, shapeOut, numberOut, dateOut, logicalOut, textOut, lookupOut, writingOut, insertionOut};
 
@@ -320,4 +321,12 @@ pub extern "C" fn gl_index_insert(index: &mut [u8], key: &[u8], number: u32) -> 
     ensures { λ r. ⌜ insertionOut (insertRule (now (index .entry)) (now (key .entry)) number) ≡ out r (now (index .exit)) ⌝ }
 {
     insertion_number(insert::insert(index, key, RecordNumber(number)))
+}
+
+// Matches an index against a field of a table: 0 where each record has exactly one entry, its key that record's field, and there are no others.
+#[no_mangle]
+pub extern "C" fn gl_match(table: &[u8], index: &[u8], field: u32) -> u32
+    ensures { λ r. ⌜ Matched (now (table .entry)) (now (index .entry)) field r ⌝ }
+{
+    matching::match_index(table, index, field)
 }
