@@ -59,7 +59,7 @@ fn options() -> Options {
 fn main() {
     let options = options();
     SEED.store(options.seed, Ordering::Relaxed);
-    for number in [7, 8, 11] {
+    for number in [4, 6, 7, 8, 11] {
         unsafe { signal(number, touched) };
     }
     let mut tally = Tally::new(options.seed);

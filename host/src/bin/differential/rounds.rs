@@ -349,7 +349,12 @@ fn made_index(r: &mut Random, a: &mut Arenas, tally: &mut Tally) {
 /// A path of full pages, so that an insertion splits every page on it, as far as there is room.
 fn spine(r: &mut Random, a: &mut Arenas, tally: &mut Tally) {
     let k = r.pick(&[46, 62, 100]);
-    let leaves = r.between(1, 12 * (index::capacity(k) - 1));
+    let step = index::capacity(k) - 1;
+    // as many leaves as make so many levels with the path full, or any
+    let leaves = match r.below(4) {
+        0 => r.between(1, 12 * step),
+        _ => 1 + step * (r.pick(&[1, 2, 5, 9, 10, 11, 11, 12]) - 1),
+    };
     let (mut bytes, key) = index::spine(r, k, leaves);
     let slack = 512 * r.below(15);
     bytes.extend(r.bytes(slack));
