@@ -1,9 +1,10 @@
-// What the program `inspect` does with its arguments: it prints what the library makes of a table, of its memo file and of its index, refusal numbers included.
+// What the program `inspect` does with its arguments: it prints what the library makes of a table, of its memo file and of its index, refusal
+// numbers included.
 //
 //     inspect TABLE [MEMO|- [INDEX|- [FIELD]]]
 //
-// With other arguments, or a file that can't be read or has more than 1,048,576 bytes, it prints the one line `40`, and says on standard error what was wrong.
-// All files are read before the first line is printed, so that `40` stands alone.
+// With other arguments, or a file that can't be read or has more than 1,048,576 bytes, it prints the one line `40`, and says on standard error what
+// was wrong. All files are read before the first line is printed, so that `40` stands alone. Without an index a field's number is not used.
 ghost use Prim.Native.Nat.{min};
 ghost use mathlib.Core.Path.{_≡_};
 ghost use Rattle.calendar.specs.Decimal.{isDigit};

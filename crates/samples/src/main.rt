@@ -1,5 +1,5 @@
-// Runs `inspect` on tables that other programs made, with their memo files and indexes, and on arguments that it refuses: for each run a line with its arguments, and
-// what `inspect` prints. README.md beside src/ says where the files and the expected lines came from.
+// Runs `inspect` on tables that other programs made, with their memo files and indexes, and on arguments that it refuses: for each run a line with
+// its arguments, and what `inspect` prints. README.md beside src/ says where the files and the expected lines came from.
 
 // The word of argument i, where there are as many arguments.
 fn word(arguments: usize, i: usize, text: &[u8]) {

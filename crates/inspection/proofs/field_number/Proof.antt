@@ -14,11 +14,6 @@ use Rattle.inspection.specs.Arguments.{fieldNumber}
 use Rattle.inspection.specs.ArgumentLaws.{too-short, too-long, numberFrom, from-start, from-digit, from-other, from-end, nine-digits}
 use Rattle.inspection.proofs.field_number.Statement.{statement}
 use Rattle.inspection.proofs.field_number.Tie as tie
-use Rattle.inspection.proofs.field_number.Reads as reads
-use Rattle.inspection.proofs.field_number.Lts as lts
-use Rattle.inspection.proofs.at_most_32_bits.Reads as at-most-32-bits-reads
-use Rattle.inspection.proofs.is_digit.Reads as is-digit-reads
-use Rattle.inspection.proofs.wide.Reads as wide-reads
 
 abbrev Inv-loop : tie.InvT-loop
 Inv-loop text number₀ i₀ number i =
