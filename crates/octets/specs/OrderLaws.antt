@@ -1,8 +1,8 @@
 -- Laws: the order of byte strings is total, for every length, and `ordering` goes by it, byte by byte. Assumes nothing.
-use mathlib.Core.Path.{_≡_, refl, sym}
+use mathlib.Core.Path.{_≡_, refl, sym, _∙_}
 use mathlib.Core.Bool.{Bool, true, false, cond}
 use mathlib.Core.List.{List, [], _∷_}
-use Prim.Native.Nat.{ℕ, _+_, _≤_, _<_}
+use Prim.Native.Nat.{ℕ, _+_, _*_, _≤_, _<_}
 use native.Mathlib.Numerals.{add-one}
 use native.Mathlib.Omega.{arith}
 use lib.ListN.{length, getD, drop, drop-of-length-le}
@@ -12,6 +12,7 @@ use borrow.Author.Tests.{ltb-true, ltb-false, eqb-true, eqb-false, lt-ltb, le-lt
 use Rattle.basis.specs.Tests.{either, contra}
 use Rattle.octets.specs.declared.Ordering.{Ordering}
 use Rattle.octets.specs.declared.Ordering.the-variants.{Below, Equal, Above}
+use Rattle.octets.specs.Bytes.{byteAt, le32}
 use Rattle.octets.specs.Order.{bytesLe, ordering}
 
 -- the first bytes decide where they differ, and the rest where they do not
@@ -118,9 +119,41 @@ ordering-goes-on a b i p q = rw (drop-cons a i 0 p, drop-of-length-le b q) (orde
 pub ordering-both-ended : (a b : List ℕ) (i : ℕ) → length a ≤ i → length b ≤ i → ordering (drop i a) (drop i b) ≡ Equal
 ordering-both-ended a b i p q = rw (drop-of-length-le a p, drop-of-length-le b q) (ordering-equal [])
 
+-- from i to j two strings agree, so that the order is decided behind j
+pub record Passed (a b : List ℕ) (i j : ℕ) : Type 0 where
+  pub left : j ≤ length a
+  pub right : j ≤ length b
+  pub rest : ordering (drop i a) (drop i b) ≡ ordering (drop j a) (drop j b)
+
+-- one byte further
+pub pass-byte : (a b : List ℕ) (i j n : ℕ) → n ≡ j + 1 → Passed a b i j → j < length a → j < length b → byteAt a j ≡ byteAt b j → Passed a b i n
+pass-byte a b i j n next p q r e = rw next (record { left = omega arith; right = omega arith; rest = p .rest ∙ ordering-at-same a b j q r e })
+
+pub pass-none : (a b : List ℕ) (i : ℕ) → i ≤ length a → i ≤ length b → Passed a b i i
+pass-none a b i p q = record { left = p; right = q; rest = refl }
+
+pub pass-on : (a b : List ℕ) (i j k : ℕ) → Passed a b i j → Passed a b j k → Passed a b i k
+pass-on a b i j k p q = record { left = q .left; right = q .right; rest = p .rest ∙ q .rest }
+
+-- equal numbers of four bytes are made of equal bytes
+same-bytes : (a b c d : ℕ) (e f g h : ℕ) → a < 256 → b < 256 → c < 256 → d < 256 → e < 256 → f < 256 → g < 256 → h < 256
+    → a + 256 * b + 65536 * c + 16777216 * d ≡ e + 256 * f + 65536 * g + 16777216 * h
+    → (a ≡ e) × (b ≡ f) × (c ≡ g) × (d ≡ h)
+same-bytes a b c d e f g h p0 p1 p2 p3 q0 q1 q2 q3 same = (omega arith, omega arith, omega arith, omega arith)
+
+-- so two strings agree in four bytes where the numbers there are equal
+pub pass-word : (a b : List ℕ) (i : ℕ) → ((j : ℕ) → byteAt a j < 256) → ((j : ℕ) → byteAt b j < 256) → i + 4 ≤ length a → i + 4 ≤ length b → le32 a i ≡ le32 b i
+    → Passed a b i (i + 4)
+unfolding le32
+pass-word a b i small-a small-b p q same =
+    let e = same-bytes (byteAt a i) (byteAt a (i + 1)) (byteAt a (i + 2)) (byteAt a (i + 3)) (byteAt b i) (byteAt b (i + 1)) (byteAt b (i + 2)) (byteAt b (i + 3))
+    (small-a _) (small-a _) (small-a _) (small-a _) (small-b _) (small-b _) (small-b _) (small-b _) same in
+    let one = pass-byte a b i i (i + 1) refl (pass-none a b i (omega arith) (omega arith)) (omega arith) (omega arith) (e .0) in
+    let two = pass-byte a b i (i + 1) (i + 2) (omega arith) one (omega arith) (omega arith) (e .1) in
+    let three = pass-byte a b i (i + 2) (i + 3) (omega arith) two (omega arith) (omega arith) (e .2) in
+    pass-byte a b i (i + 3) (i + 4) (omega arith) three (omega arith) (omega arith) (e .3)
+
 -- two strings have their first i bytes in common, and no more: one has ended there, or they differ
 pub record Parted (a b : List ℕ) (i : ℕ) : Type 0 where
-  pub left : i ≤ length a
-  pub right : i ≤ length b
-  pub rest : ordering a b ≡ ordering (drop i a) (drop i b)
-  pub differ : i < length a → i < length b → getD a i 0 ≡ getD b i 0 → ⊥
+  pub passed : Passed a b 0 i
+  pub differ : i < length a → i < length b → byteAt a i ≡ byteAt b i → ⊥

@@ -1,11 +1,12 @@
 // Numbers in bytes, stores into a buffer, the order of byte strings, and the blanks before a text: what every reader and writer of the files' bytes rests on.
 ghost use mathlib.Core.Path.{_≡_};
+ghost use mathlib.Core.Bool.{true};
 ghost use Prim.Native.Nat.{_+_, _-_, _≤_, _<_};
 ghost use lib.ListN.{length, replicate, drop};
 ghost use Rattle.octets.specs.Bytes.{byteAt, le16, le32, be16, be32, toLe16, toLe32, toBe32};
 ghost use Rattle.octets.specs.Store.{put};
 ghost use Rattle.octets.specs.Order.{ordering, isBelow, isEqual};
-ghost use Rattle.octets.specs.OrderLaws.{Parted};
+ghost use Rattle.octets.specs.OrderLaws.{Passed, Parted};
 ghost use Rattle.octets.specs.Text.{unpadded};
 
 // The order of one byte string to another.
@@ -108,11 +109,36 @@ pub fn fill(buf: &mut [u8], from: usize, to: usize, value: u8)
     }
 }
 
+// Whether two strings agree in the four bytes at an offset.
+fn words_agree(a: &[u8], b: &[u8], i: usize) -> bool
+    requires { ⌜ (i ≤ length (now a)) × (i ≤ length (now b)) ⌝ }
+    ensures { λ r. ⌜ (r ≡ true → Passed (now (a .entry)) (now (b .entry)) i (i + 4)) ⌝ }
+{
+    if a.len() - i < 4 {
+        return false;
+    }
+    if b.len() - i < 4 {
+        return false;
+    }
+    load_le32(a, i) == load_le32(b, i)
+}
+
+// How many bytes two strings have in common from the start, counted in fours.
+fn common_words(a: &[u8], b: &[u8]) -> usize
+    ensures { λ r. ⌜ Passed (now (a .entry)) (now (b .entry)) 0 r ⌝ }
+{
+    let mut i = 0;
+    while words_agree(a, b, i) {
+        i += 4;
+    }
+    i
+}
+
 // How many bytes two strings have in common from the start.
 fn common(a: &[u8], b: &[u8]) -> usize
     ensures { λ r. ⌜ Parted (now (a .entry)) (now (b .entry)) r ⌝ }
 {
-    let mut i = 0;
+    let mut i = common_words(a, b);
     while (i < a.len()) & (i < b.len()) {
         if a[i] != b[i] {
             return i;

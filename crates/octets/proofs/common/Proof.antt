@@ -1,29 +1,30 @@
--- `octets::common` meets its contract. The loop's invariant: both strings have the `i` bytes passed, and the order is that of what is left.
--- Assumes nothing.
-use Prim.Native.Nat.{_≤_, _<_, _-_}
-use mathlib.Core.Path.{_≡_, refl, _∙_}
-use mathlib.Core.Bool.{true}
+-- `octets::common` meets its contract. The loop's invariant: the strings agree in the `i` bytes passed. Assumes nothing.
+use Prim.Native.Nat.{_+_, _<_, _-_}
+use mathlib.Core.Path.{_≡_, refl}
 use native.Mathlib.Omega.{arith}
-use lib.Dec.{ltb}
-use lib.ListN.{length, drop}
+use lib.ListN.{length}
+use borrow.Author.Needs.{needs}
 use borrow.Author.Tests.{ltb-true, lt-ltb}
 use Rattle.basis.specs.Tests.{contra, both, join}
-use Rattle.octets.specs.Order.{ordering}
-use Rattle.octets.specs.OrderLaws.{ordering-at-same}
+use Rattle.octets.specs.OrderLaws.{Passed, pass-byte}
 use Rattle.octets.proofs.common.Statement.{statement}
 use Rattle.octets.proofs.common.Tie as tie
 
 abbrev Inv-loop : tie.InvT-loop
-Inv-loop a b i₀ i = (i ≤ length a) × (i ≤ length b) × (ordering a b ≡ ordering (drop i a) (drop i b))
+Inv-loop a b i₀ i = Passed a b 0 i
 
 abbrev μ-loop : tie.MeasureT-loop
 μ-loop a b i₀ i = length a - i
 
+common-words-requires : tie.Need-common-words-requires Inv-loop μ-loop
+common-words-requires c κs = search needs
+
 loop-holds : tie.Need-loop-holds Inv-loop μ-loop
-loop-holds c = (omega arith, omega arith, refl)
+loop-holds c = c .common-words .ensures
 
 -- both strings go on at i
-go-on : (c : tie.In-loop Inv-loop μ-loop) → (c .before .loop .i < length (c .before .before .args .a .now)) × (c .before .loop .i < length (c .before .before .args .b .now))
+go-on : (c : tie.In-loop Inv-loop μ-loop) → (c .before .loop .i < length (c .before .before .before .before .before .args .a .now))
+    × (c .before .loop .i < length (c .before .before .before .before .before .args .b .now))
 go-on c = let t = both _ _ (c .loop-test .taken) in (ltb-true _ _ (t .0), ltb-true _ _ (t .1))
 
 shared-slice-read-if1 : tie.Need-shared-slice-read-if1 Inv-loop μ-loop
@@ -35,8 +36,7 @@ shared-slice-read-if1-2 c = omega (arith, go-on (c .before .before))
 returns : tie.Need-returns Inv-loop μ-loop
 returns c =
     let at-loop = c .before .before .before .before in
-    let inv = at-loop .loop .inv in
-    record { left = inv .0; right = inv .1; rest = inv .2; differ = λ p q. c .if1 .taken }
+    record { passed = at-loop .loop .inv; differ = λ p q. c .if1 .taken }
 
 add-i : tie.Need-add-i Inv-loop μ-loop
 add-i c = omega (arith, go-on (c .before .before .before))
@@ -47,15 +47,13 @@ loop-less c = omega (arith, go-on (c .before .before .before))
 loop-again : tie.Need-loop-again Inv-loop μ-loop
 loop-again c =
     let at-loop = c .before .before .before .before in
-    let args = at-loop .before .args in
     let on = go-on (c .before .before .before) in
-    (omega (arith, on), omega (arith, on), at-loop .loop .inv .2 ∙ ordering-at-same (args .a .now) (args .b .now) (at-loop .loop .i) (on .0) (on .1) (c .if1 .left))
+    pass-byte _ _ 0 (at-loop .loop .i) (at-loop .loop .i + 1) refl (at-loop .loop .inv) (on .0) (on .1) (c .if1 .left)
 
 returns-2 : tie.Need-returns-2 Inv-loop μ-loop
 returns-2 c =
     let at-loop = c .before in
-    let inv = at-loop .loop .inv in
-    record { left = inv .0; right = inv .1; rest = inv .2; differ = λ p q same. contra (join _ _ (lt-ltb _ _ p) (lt-ltb _ _ q)) (c .loop-test .left) }
+    record { passed = at-loop .loop .inv; differ = λ p q same. contra (join _ _ (lt-ltb _ _ p) (lt-ltb _ _ q)) (c .loop-test .left) }
 
 pub common-spec : {M : Type 1} → statement M
 common-spec =
@@ -63,6 +61,7 @@ common-spec =
     (tie.spec
     Inv-loop
     μ-loop
+    common-words-requires
     loop-holds
     shared-slice-read-if1
     shared-slice-read-if1-2

@@ -12,17 +12,17 @@ common-requires c κs = search needs
 returns : tie.Need-returns
 returns c =
     let parted = c .before .before .common .ensures in
-    sym (parted .rest ∙ ordering-both-ended _ _ _ (c .if2 .taken) (c .before .if1 .taken))
+    sym (parted .passed .rest ∙ ordering-both-ended _ _ _ (c .if2 .taken) (c .before .if1 .taken))
 
 returns-2 : tie.Need-returns-2
 returns-2 c =
     let parted = c .before .before .common .ensures in
-    sym (parted .rest ∙ ordering-goes-on _ _ _ (c .if2 .left) (c .before .if1 .taken))
+    sym (parted .passed .rest ∙ ordering-goes-on _ _ _ (c .if2 .left) (c .before .if1 .taken))
 
 returns-3 : tie.Need-returns-3
 returns-3 c =
     let parted = c .before .before .common .ensures in
-    sym (parted .rest ∙ ordering-ended _ _ _ (c .if3 .taken) (c .before .if1 .left))
+    sym (parted .passed .rest ∙ ordering-ended _ _ _ (c .if3 .taken) (c .before .if1 .left))
 
 shared-slice-read-if4 : tie.Need-shared-slice-read-if4
 shared-slice-read-if4 c = omega arith
@@ -35,7 +35,7 @@ returns-4 c =
     let tests = c .before .before .before in
     let at-common = tests .before .before in
     let args = at-common .before .before .before .args in
-    sym (at-common .common .ensures .rest
+    sym (at-common .common .ensures .passed .rest
     ∙ ordering-at-less (args .a .now) (args .b .now) (at-common .common .result) (tests .if3 .left) (tests .before .if1 .left) (c .if4 .taken))
 
 returns-5 : tie.Need-returns-5
@@ -44,7 +44,7 @@ returns-5 c =
     let at-common = tests .before .before in
     let args = at-common .before .before .before .args in
     let differ = at-common .common .ensures .differ (tests .if3 .left) (tests .before .if1 .left) in
-    sym (at-common .common .ensures .rest
+    sym (at-common .common .ensures .passed .rest
     ∙ ordering-at-more (args .a .now) (args .b .now) (at-common .common .result) (tests .if3 .left) (tests .before .if1 .left) (omega (arith, differ)))
 
 pub compare-spec : {M : Type 1} → statement M
