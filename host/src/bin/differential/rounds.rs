@@ -374,19 +374,17 @@ fn spine(r: &mut Random, a: &mut Arenas, tally: &mut Tally) {
     calls::audit(tally, &lent, &own);
 }
 
-/// An index of up to 1 MiB, and a damaged copy.
+/// An index of up to 1 MiB, or of as many pages as may be or one or two less, and a damaged copy.
 fn large_index(r: &mut Random, a: &mut Arenas, tally: &mut Tally) {
-    let k = r.pick(&[3, 8, 10, 46, 100]);
-    let leaves = r.between(600, 1990);
+    let k = r.pick(&[3, 8, 10, 46, 100, 100]);
     let per_leaf = index::capacity(k).min(6);
+    let pages = r.pick(&[2047, 2046, 2045, 2040, 1500, 700]);
+    let leaves = index::leaves_for(pages, per_leaf);
     let entries = index::entries(r, k, leaves * per_leaf, 0);
     let mut bytes = index::tree(r, k, &entries, Fill::Exactly(per_leaf), 1);
     let limit = 1_048_576 + r.pick(&[0, 0, 1, 512]);
-    if bytes.len() < limit && r.one_in(2) {
-        bytes.resize(limit, 0x55);
-    }
-    if bytes.len() > limit {
-        return;
+    if r.one_in(2) {
+        bytes.resize(limit.max(bytes.len()), 0x55);
     }
     use_index(r, a, tally, &bytes, &entries, 0);
     index::damage(r, &mut bytes);
