@@ -11,7 +11,6 @@ fn built() -> PathBuf {
         println!("cargo:rerun-if-changed={}", root.join(read).display());
     }
     let archive = root.join("target/staticlib/libgatherloom.a");
-    println!("cargo:rerun-if-changed={}", archive.display());
     let ended = Command::new("rt")
         .args(["staticlib", "gatherloom"])
         .current_dir(&root)
@@ -25,10 +24,13 @@ fn main() {
     println!("cargo:rerun-if-env-changed=GATHERLOOM_ARCHIVE");
     println!("cargo:rerun-if-changed=build.rs");
     let archive = match env::var_os("GATHERLOOM_ARCHIVE") {
-        Some(named) => PathBuf::from(named),
+        Some(named) => {
+            let archive = PathBuf::from(named);
+            println!("cargo:rerun-if-changed={}", archive.display());
+            archive
+        }
         None => built(),
     };
-    println!("cargo:rerun-if-changed={}", archive.display());
     let folder = archive.parent().expect("an archive lies in a folder");
     println!("cargo:rustc-link-search=native={}", folder.display());
     println!("cargo:rustc-link-lib=static=gatherloom");

@@ -70,6 +70,20 @@ fn group(r: &mut Random, k: usize, entries: Vec<Entry>, fill: Fill) -> Vec<Vec<E
     pages
 }
 
+/// How many leaves a tree has whose pages have so many entries each, if it is to have so many pages at most.
+pub fn leaves_for(pages: usize, per_page: usize) -> usize {
+    let all = |leaves: usize| {
+        let mut level = leaves;
+        let mut all = 1;
+        while level > 1 {
+            all += level;
+            level = level.div_ceil(per_page);
+        }
+        all
+    };
+    (1..=pages).rev().find(|&n| all(n) <= pages).unwrap_or(1)
+}
+
 /// The levels of a tree, leaves first. An entry above a leaf carries the number of its child in the level below.
 fn levels(
     r: &mut Random,

@@ -66,19 +66,7 @@ pub fn index(
     pages: usize,
     alike: usize,
 ) -> (Vec<u8>, Vec<Entry>) {
-    let mut leaves = pages;
-    loop {
-        let mut all = 0;
-        let mut level = leaves;
-        while level > 1 {
-            all += level;
-            level = level.div_ceil(per_page);
-        }
-        if all + 1 <= pages {
-            break;
-        }
-        leaves -= 1;
-    }
+    let leaves = index::leaves_for(pages, per_page);
     let mut entries = index::entries(r, k - alike, leaves * per_page, 0);
     for e in &mut entries {
         e.0.splice(0..0, std::iter::repeat_n(b'S', alike));

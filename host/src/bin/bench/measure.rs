@@ -43,7 +43,7 @@ pub struct Times {
 }
 
 const SAMPLE_NS: f64 = 500_000.0;
-const SAMPLES: usize = 100;
+const SAMPLES: usize = 300;
 
 fn sample(prepare: &mut dyn FnMut(), runs: usize, run: &mut dyn FnMut() -> u64) -> (f64, u64) {
     prepare();

@@ -48,7 +48,7 @@ pub fn round(r: &mut Random, a: &mut Arenas, tally: &mut Tally) {
     if r.one_in(20) {
         spine(r, a, tally);
     }
-    if r.one_in(500) {
+    if r.one_in(300) {
         large_index(r, a, tally);
     }
     if tally.round % 5000 == 1 {
@@ -374,23 +374,35 @@ fn spine(r: &mut Random, a: &mut Arenas, tally: &mut Tally) {
     calls::audit(tally, &lent, &own);
 }
 
-/// An index of up to 1 MiB, and a damaged copy.
+/// An index of up to 1 MiB, or of as many pages as may be or one or two less, and a damaged copy.
 fn large_index(r: &mut Random, a: &mut Arenas, tally: &mut Tally) {
-    let k = r.pick(&[3, 8, 10, 46, 100]);
-    let leaves = r.between(600, 1990);
-    let per_leaf = index::capacity(k).min(6);
+    let k = r.pick(&[3, 8, 10, 46, 100, 100]);
+    let per_leaf = (index::capacity(k) - 1).min(6);
+    let pages = r.pick(&[2047, 2046, 2045, 2040, 700]);
+    let leaves = index::leaves_for(pages, per_leaf);
     let entries = index::entries(r, k, leaves * per_leaf, 0);
     let mut bytes = index::tree(r, k, &entries, Fill::Exactly(per_leaf), 1);
-    let limit = 1_048_576 + r.pick(&[0, 0, 1, 512]);
-    if bytes.len() < limit && r.one_in(2) {
-        bytes.resize(limit, 0x55);
+    if r.one_in(2) {
+        bytes.resize(1_048_576 + r.pick(&[0, 1, 512, 2048]), 0x55);
     }
-    if bytes.len() > limit {
-        return;
-    }
+    crowd(r, a, tally, &bytes, &entries);
     use_index(r, a, tally, &bytes, &entries, 0);
     index::damage(r, &mut bytes);
     use_index(r, a, tally, &bytes, &entries, 0);
+}
+
+/// Insertions into one leaf, so that it splits again and again, as far as the file may grow.
+fn crowd(r: &mut Random, a: &mut Arenas, tally: &mut Tally, bytes: &[u8], entries: &[Entry]) {
+    let lent = a.index.lend(bytes, r.one_in(2));
+    let mut own = bytes.to_vec();
+    let mut before = Vec::new();
+    let at = r.below(entries.len());
+    for record in 1..=8 {
+        let mut key = entries[at].0.clone();
+        *key.last_mut().unwrap() = r.byte();
+        let key = a.key.lend(&key, r.one_in(2));
+        calls::insert(tally, &lent, &mut own, &mut before, &key, record);
+    }
 }
 
 // ---- the match
