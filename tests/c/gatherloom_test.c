@@ -599,31 +599,53 @@ static void print_table(const lent *t, const lent *m)
     }
 }
 
+/* A run of `inspect`: its files, NULL or "-" for none, and its field as a word and as a number. */
+typedef struct { const char *table, *memo, *index, *field; uint32_t number; } run;
+
+static lent load_sample(const char *name)
+{
+    return name == NULL || strcmp(name, "-") == 0 ? lend("", 0) : load("crates/samples/data", name);
+}
+
+static void print_run(const run *r)
+{
+    lent t = load_sample(r->table), m = load_sample(r->memo), x = load_sample(r->index);
+    const char *const words[] = {r->table, r->memo, r->index, r->field};
+    print("==");
+    for (size_t k = 0; k < sizeof words / sizeof *words && words[k] != NULL; k++)
+        print(" %s", words[k]);
+    print("\n");
+    print_table(&t, &m);
+    if (r->index != NULL)
+        print("index %" PRIu32 "\n", gl_index_audit(x.bytes, x.len));
+    if (r->field != NULL)
+        print("match %" PRIu32 "\n", gl_match(t.bytes, t.len, x.bytes, x.len, r->number));
+    lent *const all[] = {&t, &m, &x};
+    for (size_t k = 0; k < sizeof all / sizeof *all; k++) {
+        UNCHANGED(*all[k]);
+        MARGINS(*all[k]);
+        give_back(all[k]);
+    }
+}
+
+/* The runs that stand in crates/samples/stdout before those of bad arguments, the first of which has none. */
 static void test_samples(void)
 {
-    static const char *const names[] = {"shp_point", "shp_comma", "xbase_plain", "xbase_f5", "fpc_fox", "fpc_l3",
-                                        "gdal", "pydbf_db3", "pydbf_fp", "xbase_83", "xbase_s20"};
-    for (size_t k = 0; k < sizeof names / sizeof *names; k++) {
-        char file[64];
-        snprintf(file, sizeof file, "%s.dbf", names[k]);
-        lent t = load("crates/samples/data", file), m = lend("", 0);
-        if (strcmp(names[k], "xbase_f5") == 0 || strcmp(names[k], "fpc_fox") == 0) {
-            give_back(&m);
-            snprintf(file, sizeof file, "%s.fpt", names[k]);
-            m = load("crates/samples/data", file);
-        }
-        print("== %s\n", names[k]);
-        print_table(&t, &m);
-        UNCHANGED(t);
-        UNCHANGED(m);
-        MARGINS(t);
-        MARGINS(m);
-        give_back(&t);
-        give_back(&m);
-    }
+    static const char unique[] = "xbase_s20_unique.idx";
+    static const run runs[] = {
+        {"shp_point.dbf", NULL, NULL, NULL, 0}, {"shp_comma.dbf", NULL, NULL, NULL, 0}, {"xbase_plain.dbf", NULL, NULL, NULL, 0},
+        {"fpc_l3.dbf", NULL, NULL, NULL, 0}, {"gdal.dbf", NULL, NULL, NULL, 0}, {"pydbf_db3.dbf", NULL, NULL, NULL, 0},
+        {"pydbf_fp.dbf", NULL, NULL, NULL, 0}, {"xbase_83.dbf", NULL, NULL, NULL, 0}, {"xbase_f5.dbf", "xbase_f5.fpt", NULL, NULL, 0},
+        {"fpc_fox.dbf", "fpc_fox.fpt", NULL, NULL, 0}, {"shp_comma.dbf", "-", NULL, NULL, 0}, {"xbase_s20.dbf", "-", "xbase_s20.idx", "1", 1},
+        {"xbase_s20.dbf", "-", unique, "1", 1}, {"pydbf_fp.dbf", "-", unique, NULL, 0}, {"pydbf_fp.dbf", "-", unique, "1", 1},
+        {"shp_point.dbf", "-", unique, "0", 0}, {"shp_point.dbf", "-", unique, "4294967297", UINT32_MAX}, {"shp_point.dbf", "-", unique, "2", 2},
+        {"shp_point.dbf", "-", unique, "0000000001", 1}};
+    for (size_t k = 0; k < sizeof runs / sizeof *runs; k++)
+        print_run(&runs[k]);
+    print("==\n");
     lent want = load("crates/samples", "stdout");
-    SAME(reported, want.len);
-    SAME_BYTES(report, want.bytes, want.len);
+    SAME(reported <= want.len, 1);
+    SAME_BYTES(report, want.bytes, reported < want.len ? reported : want.len);
     give_back(&want);
 }
 
