@@ -32,13 +32,14 @@ pub enum Writing {
 }
 
 // Where the reader stands in a text: among the blanks, after the minus, after a zero that is the whole part, among the whole
-// part's other digits, behind the point with so many digits to come; or past any hope, by a comma or otherwise.
+// part's other digits, behind the point with so many digits to come; or past any hope, by a comma or otherwise. The digits to come are a
+// u64 because a u32 is packed into one word with the phase, which is slower.
 pub enum Phase {
     Blank,
     Minus,
     Zero,
     Whole,
-    Fraction(u32),
+    Fraction(u64),
     Comma,
     Bad,
 }
@@ -103,7 +104,7 @@ fn whole_end(decimals: u32, c: u8) -> Phase
     ensures { λ r. ⌜ r ≡ wholeEnd decimals c ⌝ }
 {
     if (c == b'.') & (1 <= decimals) {
-        return Phase::Fraction(decimals);
+        return Phase::Fraction(decimals as u64);
     }
     Phase::Bad
 }
