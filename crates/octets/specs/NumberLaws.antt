@@ -1,7 +1,7 @@
 -- Laws: a number is read back as it was stored, and what is stored elsewhere does not touch it. Assumes nothing.
 use mathlib.Core.Path.{_≡_, refl, sym, ap, _∙_}
 use mathlib.Core.List.{List, [], _∷_, _++_}
-use Prim.Native.Nat.{ℕ, zero, suc, _+_, _*_, _/_, _^_, _≤_, _<_}
+use Prim.Native.Nat.{ℕ, zero, suc, _+_, _*_, _/_, _%_, _^_, _≤_, _<_}
 use native.Mathlib.Nat.{add-zero}
 use native.Mathlib.Omega.{arith}
 use lib.Dec.{lit<}
@@ -40,6 +40,30 @@ le32-toLe32 x h = omega arith
 pub be32-toBe32 : (x : ℕ) → x < 2 ^ 32 → be32 (toBe32 x) 0 ≡ x
 unfolding be32 toBe32
 be32-toBe32 x h = omega arith
+
+-- four bytes read one way and turned round are those bytes read the other way
+low-byte : (x r : ℕ) → x < 256 → (x + 256 * r) % 256 ≡ x
+low-byte x r h = omega arith
+
+high-bytes : (x r : ℕ) → x < 256 → (x + 256 * r) / 256 ≡ r
+high-bytes x r h = omega arith
+
+nested : (x y z w : ℕ) → x + 256 * y + 65536 * z + 16777216 * w ≡ x + 256 * (y + 256 * (z + 256 * w))
+nested x y z w = omega arith
+
+pub le32-turned : (s : List ℕ) (at : ℕ) → ((j : ℕ) → byteAt s j < 256) → be32 (toLe32 (le32 s at)) 0 ≡ be32 s at
+unfolding be32 le32 toLe32
+le32-turned s at small =
+    rw (
+      nested (byteAt s at) (byteAt s (at + 1)) (byteAt s (at + 2)) (byteAt s (at + 3)),
+      low-byte _ _ (small at),
+      high-bytes _ _ (small at),
+      low-byte _ _ (small (at + 1)),
+      high-bytes _ _ (small (at + 1)),
+      low-byte _ _ (small (at + 2)),
+      high-bytes _ _ (small (at + 2)),
+    )
+    (omega (arith, small (at + 3)))
 
 -- a number depends on its own bytes alone
 module _ (b : List ℕ) (at : ℕ) where

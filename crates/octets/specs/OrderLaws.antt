@@ -1,9 +1,10 @@
 -- Laws: the order of byte strings is total, for every length, and `ordering` goes by it, byte by byte. Assumes nothing.
-use mathlib.Core.Path.{_≡_, refl, sym, _∙_}
+use mathlib.Core.Path.{_≡_, refl, sym, ap, _∙_}
 use mathlib.Core.Bool.{Bool, true, false, cond}
 use mathlib.Core.List.{List, [], _∷_}
-use Prim.Native.Nat.{ℕ, _+_, _*_, _≤_, _<_}
-use native.Mathlib.Numerals.{add-one}
+use Prim.Native.Nat.{ℕ, zero, suc, _+_, _*_, _≤_, _<_}
+use native.Mathlib.Nat.{add-zero}
+use native.Mathlib.Numerals.{add-one, unary-clauses}
 use native.Mathlib.Omega.{arith}
 use lib.ListN.{length, getD, drop, drop-of-length-le}
 use lib.Seq.{drop-cons}
@@ -12,8 +13,8 @@ use borrow.Author.Tests.{ltb-true, ltb-false, eqb-true, eqb-false, lt-ltb, le-lt
 use Rattle.basis.specs.Tests.{either, contra}
 use Rattle.octets.specs.declared.Ordering.{Ordering}
 use Rattle.octets.specs.declared.Ordering.the-variants.{Below, Equal, Above}
-use Rattle.octets.specs.Bytes.{byteAt, le32}
-use Rattle.octets.specs.Order.{bytesLe, ordering}
+use Rattle.octets.specs.Bytes.{byteAt, le32, be32}
+use Rattle.octets.specs.Order.{bytesLe, ordering, isBelow}
 
 -- the first bytes decide where they differ, and the rest where they do not
 pub le-same : (x : ℕ) (a b : List ℕ) → bytesLe (x ∷ a) (x ∷ b) ≡ bytesLe a b
@@ -79,6 +80,14 @@ pub ordering-equal : (a : List ℕ) → ordering a a ≡ Equal
 unfolding ordering
 ordering-equal a = rw (le-refl a)
 
+-- what is below another has the other above it
+not-below : (a b : List ℕ) → bytesLe b a ≡ true → isBelow (ordering a b) ≡ false
+unfolding ordering
+not-below a b h = either (bytesLe a b) (λ e. rw (e, h)) (λ e. rw e)
+
+below-above : (a b : List ℕ) → ordering a b ≡ Below → ordering b a ≡ Above
+below-above a b e = either (bytesLe b a) (λ h. contra (ap isBelow e) (not-below a b h)) (λ h. ordering-above b a h)
+
 -- one byte after another
 pub ordering-less : (x y : ℕ) (a b : List ℕ) → x < y → ordering (x ∷ a) (y ∷ b) ≡ Below
 ordering-less x y a b h = ordering-below (x ∷ a) (y ∷ b) (le-more y x b a h)
@@ -119,41 +128,58 @@ ordering-goes-on a b i p q = rw (drop-cons a i 0 p, drop-of-length-le b q) (orde
 pub ordering-both-ended : (a b : List ℕ) (i : ℕ) → length a ≤ i → length b ≤ i → ordering (drop i a) (drop i b) ≡ Equal
 ordering-both-ended a b i p q = rw (drop-of-length-le a p, drop-of-length-le b q) (ordering-equal [])
 
--- from i to j two strings agree, so that the order is decided behind j
-pub record Passed (a b : List ℕ) (i j : ℕ) : Type 0 where
-  pub left : j ≤ length a
-  pub right : j ≤ length b
-  pub rest : ordering (drop i a) (drop i b) ≡ ordering (drop j a) (drop j b)
+-- the number of so many bytes from an offset on, the first highest
+numberOf : List ℕ → ℕ → ℕ → ℕ
+numberOf s i zero = 0
+numberOf s i (suc n) = 256 * numberOf s i n + byteAt s (i + n)
 
--- one byte further
-pub pass-byte : (a b : List ℕ) (i j n : ℕ) → n ≡ j + 1 → Passed a b i j → j < length a → j < length b → byteAt a j ≡ byteAt b j → Passed a b i n
-pass-byte a b i j n next p q r e = rw next (record { left = omega arith; right = omega arith; rest = p .rest ∙ ordering-at-same a b j q r e })
+-- such numbers are lower, equal or higher exactly as the bytes are, for any count of them
+module _ (a b : List ℕ) (i : ℕ) (small-a : (j : ℕ) → byteAt a j < 256) (small-b : (j : ℕ) → byteAt b j < 256) where
+  number-same : (n : ℕ) → i + n ≤ length a → i + n ≤ length b → numberOf a i n ≡ numberOf b i n
+      → ordering (drop i a) (drop i b) ≡ ordering (drop (i + n) a) (drop (i + n) b)
+  unfolding numberOf
+  number-same zero p q e = rw add-zero
+  number-same (suc n) p q e =
+      let last = ordering-at-same a b (i + n) (omega arith) (omega arith) (omega (arith, small-a (i + n), small-b (i + n))) in
+      number-same n (omega arith) (omega arith) (omega (arith, small-a (i + n), small-b (i + n))) ∙ simp unary-clauses (rw add-one at last)
 
-pub pass-none : (a b : List ℕ) (i : ℕ) → i ≤ length a → i ≤ length b → Passed a b i i
-pass-none a b i p q = record { left = p; right = q; rest = refl }
+  number-less : (n : ℕ) → i + n ≤ length a → i + n ≤ length b → numberOf a i n < numberOf b i n → ordering (drop i a) (drop i b) ≡ Below
+  unfolding numberOf
+  number-less zero p q l = absurd (omega arith)
+  number-less (suc n) p q l = either (ltb (numberOf a i n) (numberOf b i n))
+      (λ t. number-less n (omega arith) (omega arith) (ltb-true _ _ t))
+      (λ t. let h = ltb-false (numberOf a i n) (numberOf b i n) t in
+      let m = small-a (i + n) in let m′ = small-b (i + n) in
+      number-same n (omega arith) (omega arith) (omega arith) ∙ ordering-at-less a b (i + n) (omega arith) (omega arith) (omega arith))
 
-pub pass-on : (a b : List ℕ) (i j k : ℕ) → Passed a b i j → Passed a b j k → Passed a b i k
-pass-on a b i j k p q = record { left = q .left; right = q .right; rest = p .rest ∙ q .rest }
+-- four bytes are such a number
+be32-number : (s : List ℕ) (i : ℕ) → be32 s i ≡ numberOf s i 4
+unfolding be32 numberOf
+be32-number s i = rw add-zero (omega arith)
 
--- equal numbers of four bytes are made of equal bytes
-same-bytes : (a b c d : ℕ) (e f g h : ℕ) → a < 256 → b < 256 → c < 256 → d < 256 → e < 256 → f < 256 → g < 256 → h < 256
-    → a + 256 * b + 65536 * c + 16777216 * d ≡ e + 256 * f + 65536 * g + 16777216 * h
-    → (a ≡ e) × (b ≡ f) × (c ≡ g) × (d ≡ h)
-same-bytes a b c d e f g h p0 p1 p2 p3 q0 q1 q2 q3 same = (omega arith, omega arith, omega arith, omega arith)
+-- four bytes at a time decide as the bytes do; whether they are the same is told by either reading of them
+module _ (a b : List ℕ) (i : ℕ) (small-a : (j : ℕ) → byteAt a j < 256) (small-b : (j : ℕ) → byteAt b j < 256) where
+  le32-be32 : le32 a i ≡ le32 b i → be32 a i ≡ be32 b i
+  unfolding le32 be32
+  le32-be32 e = omega (arith, small-a i, small-a (i + 1), small-a (i + 2), small-a (i + 3), small-b i, small-b (i + 1), small-b (i + 2), small-b (i + 3))
 
--- so two strings agree in four bytes where the numbers there are equal
-pub pass-word : (a b : List ℕ) (i : ℕ) → ((j : ℕ) → byteAt a j < 256) → ((j : ℕ) → byteAt b j < 256) → i + 4 ≤ length a → i + 4 ≤ length b → le32 a i ≡ le32 b i
-    → Passed a b i (i + 4)
-unfolding le32
-pass-word a b i small-a small-b p q same =
-    let e = same-bytes (byteAt a i) (byteAt a (i + 1)) (byteAt a (i + 2)) (byteAt a (i + 3)) (byteAt b i) (byteAt b (i + 1)) (byteAt b (i + 2)) (byteAt b (i + 3))
-    (small-a _) (small-a _) (small-a _) (small-a _) (small-b _) (small-b _) (small-b _) (small-b _) same in
-    let one = pass-byte a b i i (i + 1) refl (pass-none a b i (omega arith) (omega arith)) (omega arith) (omega arith) (e .0) in
-    let two = pass-byte a b i (i + 1) (i + 2) (omega arith) one (omega arith) (omega arith) (e .1) in
-    let three = pass-byte a b i (i + 2) (i + 3) (omega arith) two (omega arith) (omega arith) (e .2) in
-    pass-byte a b i (i + 3) (i + 4) (omega arith) three (omega arith) (omega arith) (e .3)
+  be32-le32 : be32 a i ≡ be32 b i → le32 a i ≡ le32 b i
+  unfolding le32 be32
+  be32-le32 e =
+      let first : byteAt a i ≡ byteAt b i = omega (arith, small-a (i + 1), small-a (i + 2), small-a (i + 3), small-b (i + 1), small-b (i + 2), small-b (i + 3)) in
+      let second : byteAt a (i + 1) ≡ byteAt b (i + 1) = omega (arith, small-a (i + 2), small-a (i + 3), small-b (i + 2), small-b (i + 3)) in
+      let third : byteAt a (i + 2) ≡ byteAt b (i + 2) = omega (arith, small-a (i + 3), small-b (i + 3)) in
+      omega arith
 
--- two strings have their first i bytes in common, and no more: one has ended there, or they differ
-pub record Parted (a b : List ℕ) (i : ℕ) : Type 0 where
-  pub passed : Passed a b 0 i
-  pub differ : i < length a → i < length b → byteAt a i ≡ byteAt b i → ⊥
+  module _ (p : i + 4 ≤ length a) (q : i + 4 ≤ length b) where
+    pub word-same : le32 a i ≡ le32 b i → ordering (drop i a) (drop i b) ≡ ordering (drop (i + 4) a) (drop (i + 4) b)
+    word-same e = number-same a b i small-a small-b 4 p q (sym (be32-number a i) ∙ le32-be32 e ∙ be32-number b i)
+
+    pub word-less : be32 a i < be32 b i → ordering (drop i a) (drop i b) ≡ Below
+    word-less l = number-less a b i small-a small-b 4 p q (rw (be32-number a i, be32-number b i) at l)
+
+    pub word-more : (le32 a i ≡ le32 b i → ⊥) → be32 b i ≤ be32 a i → ordering (drop i a) (drop i b) ≡ Above
+    word-more differ m =
+        let apart : be32 a i ≡ be32 b i → ⊥ = λ e. differ (be32-le32 e) in
+        let more : be32 b i < be32 a i = omega (arith, m, apart) in
+        below-above (drop i b) (drop i a) (number-less b a i small-b small-a 4 q p (rw (be32-number a i, be32-number b i) at more))

@@ -6,7 +6,6 @@ ghost use lib.ListN.{length, replicate, drop};
 ghost use Rattle.octets.specs.Bytes.{byteAt, le16, le32, be16, be32, toLe16, toLe32, toBe32};
 ghost use Rattle.octets.specs.Store.{put};
 ghost use Rattle.octets.specs.Order.{ordering, isBelow, isEqual};
-ghost use Rattle.octets.specs.OrderLaws.{Passed, Parted};
 ghost use Rattle.octets.specs.Text.{unpadded};
 
 // The order of one byte string to another.
@@ -109,63 +108,66 @@ pub fn fill(buf: &mut [u8], from: usize, to: usize, value: u8)
     }
 }
 
-// Whether two strings agree in the four bytes at an offset.
-fn words_agree(a: &[u8], b: &[u8], i: usize) -> bool
+// Whether two strings both have four bytes more at an offset.
+fn words_left(a: &[u8], b: &[u8], i: usize) -> bool
     requires { ⌜ (i ≤ length (now a)) × (i ≤ length (now b)) ⌝ }
-    ensures { λ r. ⌜ (r ≡ true → Passed (now (a .entry)) (now (b .entry)) i (i + 4)) ⌝ }
+    ensures { λ r. ⌜ (r ≡ true → (i + 4 ≤ length (now (a .entry))) × (i + 4 ≤ length (now (b .entry)))) ⌝ }
 {
-    if a.len() - i < 4 {
-        return false;
-    }
-    if b.len() - i < 4 {
-        return false;
-    }
-    load_le32(a, i) == load_le32(b, i)
+    (4 <= a.len() - i) & (4 <= b.len() - i)
 }
 
-// How many bytes two strings have in common from the start, counted in fours.
-fn common_words(a: &[u8], b: &[u8]) -> usize
-    ensures { λ r. ⌜ Passed (now (a .entry)) (now (b .entry)) 0 r ⌝ }
+// The order of what two strings have from an offset on, byte by byte.
+fn compare_bytes(a: &[u8], b: &[u8], from: usize) -> Ordering
+    requires { ⌜ (from ≤ length (now a)) × (from ≤ length (now b)) ⌝ }
+    ensures { λ r. ⌜ r ≡ ordering (drop from (now (a .entry))) (drop from (now (b .entry))) ⌝ }
 {
-    let mut i = 0;
-    while words_agree(a, b, i) {
-        i += 4;
-    }
-    i
-}
-
-// How many bytes two strings have in common from the start.
-fn common(a: &[u8], b: &[u8]) -> usize
-    ensures { λ r. ⌜ Parted (now (a .entry)) (now (b .entry)) r ⌝ }
-{
-    let mut i = common_words(a, b);
+    let mut i = from;
     while (i < a.len()) & (i < b.len()) {
-        if a[i] != b[i] {
-            return i;
+        if a[i] < b[i] {
+            return Ordering::Below;
+        }
+        if b[i] < a[i] {
+            return Ordering::Above;
         }
         i += 1;
     }
-    i
+    if i < b.len() {
+        return Ordering::Below;
+    }
+    if i < a.len() {
+        return Ordering::Above;
+    }
+    Ordering::Equal
 }
 
-// The order of two byte strings of any lengths, by the first byte in which they differ.
+// The number of the same four bytes in the other order.
+fn swap_bytes(x: u32) -> u32
+    ensures { λ r. ⌜ r ≡ be32 (toLe32 x) 0 ⌝ }
+{
+    16777216 * (x % 256)
+        + 65536 * (x / 256 % 256)
+        + 256 * (x / 256 / 256 % 256)
+        + x / 256 / 256 / 256 % 256
+}
+
+// The order of two byte strings of any lengths: four bytes at a time, as numbers with the first byte highest, and the rest singly. Whether two words are the
+// same does not hang on the order of their bytes, so only those that differ are turned round.
 pub fn compare(a: &[u8], b: &[u8]) -> Ordering
     ensures { λ r. ⌜ r ≡ ordering (now (a .entry)) (now (b .entry)) ⌝ }
 {
-    let i = common(a, b);
-    if b.len() <= i {
-        if a.len() <= i {
-            return Ordering::Equal;
+    let mut i = 0;
+    while words_left(a, b, i) {
+        let x = load_le32(a, i);
+        let y = load_le32(b, i);
+        if x != y {
+            if swap_bytes(x) < swap_bytes(y) {
+                return Ordering::Below;
+            }
+            return Ordering::Above;
         }
-        return Ordering::Above;
+        i += 4;
     }
-    if a.len() <= i {
-        return Ordering::Below;
-    }
-    if a[i] < b[i] {
-        return Ordering::Below;
-    }
-    Ordering::Above
+    compare_bytes(a, b, i)
 }
 
 pub fn is_below(o: Ordering) -> bool
