@@ -4,7 +4,7 @@ use mathlib.Core.Path.{_≡_, refl, sym, ap, _∙_}
 use mathlib.Core.Bool.{Bool, true, false, _&&_}
 use mathlib.Core.List.{List, [], _∷_}
 use mathlib.Core.Option.{Option, none, some}
-use native.Mathlib.Nat.{min-eq-left, min-eq-right, min-le-right}
+use native.Mathlib.Nat.{min-le-right}
 use native.Mathlib.Omega.{arith}
 use lib.ListN.{length}
 use borrow.Author.Tests.{eq-eqb, ne-eqb}
@@ -14,32 +14,22 @@ use Rattle.octets.specs.declared.Ordering.{Ordering}
 use Rattle.octets.specs.Order.{ordering, isBelow, isEqual}
 use Rattle.page.specs.Header.{noPage, isPage}
 use Rattle.page.specs.HeaderLaws.{is-page}
-use Rattle.page.specs.Page.{countAt, capacity, entryOffset, keyAt, numberAt}
+use Rattle.page.specs.Page.{capacity, entryOffset, keyAt, numberAt}
 use Rattle.page.specs.PageLaws.{entry-low}
 use Rattle.page.specs.Reading.{entriesAt}
-use Rattle.page.specs.ReadingLaws.{entriesFrom, entries-by-index, entries-none, length-entries}
+use Rattle.page.specs.ReadingLaws.{entriesFrom, entries-by-index, entries-none, length-entries, count-none}
 use Rattle.sound.specs.Rule.{lastOf, leafEntries, upperEntries, firstChild}
 use Rattle.audit.specs.State.{InFile, EntriesWithin, keyFrom, leafEntry, upperEntry}
 
--- how many entries a page has
+-- the entries of a page
 module _ (b : List ℕ) (k size p : ℕ) where
-  pub count-none : isPage size p ≡ false → 0 ≡ length (entriesAt k size b p)
-  count-none e = rw (entries-none k size b p e)
-
-  module _ (e : isPage size p ≡ true) (n : ℕ) (en : n ≡ countAt b p) where
-    pub count-read : n ≤ capacity k → n ≡ length (entriesAt k size b p)
-    count-read h = sym (length-entries k size b p e ∙ rw (← en) (min-eq-left h))
-
-    pub count-full : capacity k < n → capacity k ≡ length (entriesAt k size b p)
-    count-full h = sym (length-entries k size b p e ∙ rw (← en) (min-eq-right (omega arith)))
-
   -- they are the entries with the numbers below that, and lie within the page
   module _ (n : ℕ) (en : n ≡ length (entriesAt k size b p)) where
     pub entries-are : entriesAt k size b p ≡ entriesFrom b k p n 0
     unfolding entriesFrom
     entries-are = either (isPage size p)
         (λ e. entries-by-index k size b p e ∙ ap (λ (m : ℕ). entriesFrom b k p m 0) (sym (en ∙ length-entries k size b p e)))
-        (λ e. let z : n ≡ 0 = en ∙ sym (count-none e) in rw z (entries-none k size b p e))
+        (λ e. let z : n ≡ 0 = en ∙ sym (count-none b k size p e) in rw z (entries-none k size b p e))
 
     pub entries-within : InFile b k size → EntriesWithin b k p n
     entries-within f = record {
@@ -47,7 +37,7 @@ module _ (b : List ℕ) (k size p : ℕ) where
           (λ e. let o = is-page size p e in
           let m : n ≤ capacity k = rw (en, length-entries k size b p e) (min-le-right _ _) in
           record { key = f .key; count = omega arith; page = omega arith })
-          (λ e. absurd (omega (arith, count-none e)));
+          (λ e. absurd (omega (arith, count-none b k size p e)));
     }
 
 -- the entries from entry i on

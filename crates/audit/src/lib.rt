@@ -37,29 +37,12 @@ struct Level {
     first: PageOffset,
 }
 
-// How many entries a page is read to have: none where it is no page of the file, and never more than the capacity.
-pub fn entry_count(index: &[u8], k: usize, size: usize, page: PageOffset) -> usize
-    requires { ⌜ InFile (now index) k size ⌝ }
-    ensures { λ r. ⌜ r ≡ length (entriesAt k size (now (index .entry)) (page .0)) ⌝ }
-{
-    if !page::is_page(size, page) {
-        return 0;
-    }
-    let head = Page::at(index, page);
-    let count = head.count as usize;
-    let most = Page::capacity(k);
-    if count <= most {
-        return count;
-    }
-    most
-}
-
 // Where the last key of a page begins, or 0 where it has none.
 fn last_key(index: &[u8], k: usize, size: usize, page: PageOffset) -> usize
     requires { ⌜ InFile (now index) k size ⌝ }
     ensures { λ r. ⌜ (keyFrom (now (index .entry)) k r ≡ lastOf none (entriesAt k size (now (index .entry)) (page .0))) × (r + k ≤ length (now (index .entry))) ⌝ }
 {
-    let count = entry_count(index, k, size, page);
+    let count = page::entry_count(index, k, size, page);
     if count == 0 {
         return 0;
     }
@@ -146,7 +129,7 @@ fn entries_fit(
     requires { ⌜ InFile (now index) k size ⌝ }
     ensures { λ r. ⌜ r ≡ entriesFit (now (index .entry)) k size attribute (last .0) (page .0) ⌝ }
 {
-    let count = entry_count(index, k, size, page);
+    let count = page::entry_count(index, k, size, page);
     if page::is_leaf(attribute) {
         return leaf_entries(index, k, page, count, last_key(index, k, size, last));
     }
@@ -236,7 +219,7 @@ fn check_children(
     requires { ⌜ InFile (now index) k size × (length (now marks) ≡ maxPages) ⌝ }
     ensures { λ r. ⌜ checkPages (now (index .entry)) k size attribute (childrenOf (now (index .entry)) k size (parent .0)) (progressOf s, now (marks .entry)) ≡ (progressOf r, now (marks .exit)) ⌝ }
 {
-    let count = entry_count(index, k, size, parent);
+    let count = page::entry_count(index, k, size, parent);
     let mut t = s;
     let mut i = 0;
     while i < count {
@@ -359,7 +342,7 @@ pub fn first_child(index: &[u8], k: usize, size: usize, page: PageOffset) -> Pag
     requires { ⌜ InFile (now index) k size ⌝ }
     ensures { λ r. ⌜ r .0 ≡ firstChild (now (index .entry)) k size (page .0) ⌝ }
 {
-    if entry_count(index, k, size, page) == 0 {
+    if page::entry_count(index, k, size, page) == 0 {
         return PageOffset(page::NO_PAGE);
     }
     page::child(index, k, page, 0)

@@ -28,7 +28,8 @@ use Rattle.page.specs.ReadingLaws.{window-window}
 use Rattle.layout.specs.WriteLaws.{capacity-least}
 use Rattle.sound.specs.Sound.{indexTree, linksOf, Sound}
 use Rattle.sound.specs.IndexLaws.{indexOf, settingOf, index-sound}
-use Rattle.insert.specs.Fresh.{printable, expressionGood, freshHeader, freshBuffer}
+use Rattle.insert.specs.CallLaws.{expression-most}
+use Rattle.insert.specs.Fresh.{maxExpression, expressionGood, freshHeader, freshBuffer}
 use Rattle.written.specs.EntryLaws.{entriesIn, page-of, entries-new, length-new}
 use Rattle.written.specs.HeadLaws.{Head, SameHead, put-header, new-head, new-header}
 use Rattle.growth.specs.InsertHeads.{Plain, one-of}
@@ -48,11 +49,8 @@ module _ (k : ℕ) (e b : List ℕ) (given : FreshGiven k e b) where
   abbrev b″ : List ℕ
   b″ = freshBuffer k e b
 
-  short : length e ≤ 220
-  unfolding expressionGood
-  short =
-      let t = both (leb 1 (length e) && leb (length e) 220) (printable e) (given .expression) in
-      leb-true (length e) 220 (both (leb 1 (length e)) (leb (length e) 220) (t .0) .1)
+  short : length e ≤ maxExpression
+  short = expression-most e (given .expression)
 
   key-fits : (1 ≤ k) × (k ≤ maxKey)
   unfolding keyLengthGood

@@ -3,22 +3,6 @@
 // copies of one of them are audited. README.md beside src/ says where the files came from.
 mod lists;
 
-ghost use Rattle.io.specs.Counts.{Counts};
-
-// Reads a file to the start of a buffer and answers how many bytes it has.
-fn load(path: &[u8], space: &mut [u8]) -> usize
-    ensures { λ r. ⌜ Counts r (now (space .exit)) ⌝ }
-{
-    let fd = os::open_read(path);
-    if fd < 0 {
-        os::fail(path);
-        return 0;
-    }
-    let n = io::read_full(fd, space);
-    libc::close(fd);
-    n
-}
-
 // Whether a line is an insertion that was accepted, `i KEY RECORD 0`.
 fn is_accepted(line: &[u8]) -> bool {
     if line.len() < 2 {
@@ -88,8 +72,8 @@ fn count_found(index: &[u8], calls: &[u8]) -> Tally {
 fn run(name: &[u8], index_path: &[u8], calls_path: &[u8], size: usize) {
     let mut index = io::large_buffer();
     let mut calls = io::large_buffer();
-    let n = load(index_path, &mut index);
-    let m = load(calls_path, &mut calls);
+    let n = files::load(index_path, &mut index).len;
+    let m = files::load(calls_path, &mut calls).len;
     lines::print(name);
     lines::print(b" audit ");
     lines::print_number(audit::audit(&index[..n]));
@@ -105,7 +89,7 @@ fn run(name: &[u8], index_path: &[u8], calls_path: &[u8], size: usize) {
 // Audits an index with one byte set to another value.
 fn damaged(name: &[u8], index_path: &[u8], at: usize, value: u8) {
     let mut index = io::large_buffer();
-    let n = load(index_path, &mut index);
+    let n = files::load(index_path, &mut index).len;
     let whole = &mut index[..n];
     if at < whole.len() {
         whole[at] = value;

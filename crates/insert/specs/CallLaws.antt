@@ -1,7 +1,7 @@
 -- Laws: the cases of insertion and of fresh, each from the tests that lead to it. Cited by the proofs of the two calls. Assumes nothing.
 use Prim.Native.Nat.{ℕ, suc, _+_, _-_, _≤_, _<_}
 use mathlib.Core.Path.{_≡_, refl, _∙_}
-use mathlib.Core.Bool.{Bool, true, false, _&&_}
+use mathlib.Core.Bool.{Bool, true, false, _&&_, and-true, and-false}
 use mathlib.Core.List.{List, _++_}
 use native.Mathlib.Numerals.{add-one}
 use native.Mathlib.Omega.{arith}
@@ -24,7 +24,7 @@ use Rattle.layout.specs.Layout.{newPage}
 use Rattle.insert.specs.Insertion.{insertedBuffer}
 use Rattle.insert.specs.Room.{noRoom}
 use Rattle.insert.specs.Calls.{left, isFound, insertRule}
-use Rattle.insert.specs.Fresh.{printable, expressionGood, freshHeader, freshBuffer, freshRule}
+use Rattle.insert.specs.Fresh.{printable, maxExpression, expressionGood, freshHeader, freshBuffer, freshRule}
 use Rattle.insert.specs.declared.Insertion.the-variants.{Accepted, Refused}
 
 -- the audit's answer decides the rule's test
@@ -150,6 +150,15 @@ pub key-most : (k : ℕ) → keyLengthGood k ≡ true → k ≤ maxKey
 unfolding keyLengthGood
 key-most k e = leb-true k maxKey (both (leb 1 k) (leb k maxKey) e .1)
 
-pub expression-most : (e : List ℕ) → expressionGood e ≡ true → length e ≤ 220
+-- an expression that is too long is not good, whatever its bytes are
+pub expression-long : (e : List ℕ) → maxExpression < length e → expressionGood e ≡ false
 unfolding expressionGood
-expression-most e t = leb-true (length e) 220 (both (leb 1 (length e)) (leb (length e) 220) (both _ (printable e) t .0) .1)
+expression-long e l = rw (lt-leb (length e) maxExpression l, and-false (leb 1 (length e)))
+
+pub expression-short : (e : List ℕ) → length e ≤ maxExpression → expressionGood e ≡ (leb 1 (length e) && printable e)
+unfolding expressionGood
+expression-short e l = rw (le-leb (length e) maxExpression l, and-true (leb 1 (length e)))
+
+pub expression-most : (e : List ℕ) → expressionGood e ≡ true → length e ≤ maxExpression
+unfolding expressionGood
+expression-most e t = leb-true (length e) maxExpression (both (leb 1 (length e)) (leb (length e) maxExpression) (both _ (printable e) t .0) .1)

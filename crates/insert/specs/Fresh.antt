@@ -16,9 +16,13 @@ unfoldable pub printable : List ℕ → Bool
 printable [] = true
 printable (c ∷ s) = leb 0x20 c && leb c 0x7E && printable s
 
+-- the header has room for an expression of 220 bytes, "16-235"
+abbrev pub maxExpression : ℕ
+maxExpression = 220
+
 -- "expression of 1 to 220 bytes 0x20-0x7E, else 24"
 unfoldable pub expressionGood : List ℕ → Bool
-expressionGood e = leb 1 (length e) && leb (length e) 220 && printable e
+expressionGood e = leb 1 (length e) && leb (length e) maxExpression && printable e
 
 -- "Root 512, free pointer 0xFFFFFFFF, F 1,024, key length k, features 1, the expression; .. all else in the 1,024 zero"
 unfoldable pub freshHeader : ℕ → List ℕ → List ℕ

@@ -19,7 +19,10 @@ ghost use Rattle.insert.specs.Insertion.{split, step, takeIn, afterChild
 ghost use Rattle.insert.specs.Answers.{outcomeOf, NextFits, maxOffset, maxGrown, visited};
 ghost use Rattle.insert.specs.Room.{onTop, pathFrom, newPages, levelsAfter, noRoom};
 ghost use Rattle.insert.specs.Calls.{left, isFound, insertRule};
-ghost use Rattle.insert.specs.Fresh.{printable, expressionGood, freshBuffer, freshRule};
+ghost use Rattle.insert.specs.Fresh.{printable, maxExpression, expressionGood, freshBuffer, freshRule};
+
+// The longest key expression.
+const MAX_EXPRESSION: usize = 220;
 
 // What a call that writes an index answers.
 pub enum Insertion {
@@ -347,16 +350,19 @@ fn all_printable(s: &[u8]) -> bool
     true
 }
 
-// Whether a key expression is good.
+// Whether a key expression is good. One that is too long is not looked at.
 fn expression_good(expression: &[u8]) -> bool
     ensures { λ r. ⌜ r ≡ expressionGood (now (expression .entry)) ⌝ }
 {
-    (1 <= expression.len()) & (expression.len() <= 220) & all_printable(expression)
+    if MAX_EXPRESSION < expression.len() {
+        return false;
+    }
+    (1 <= expression.len()) & all_printable(expression)
 }
 
 // Writes the header and the root of a fresh index.
 fn write_fresh(index: &mut [u8], k: u32, expression: &[u8])
-    requires { ⌜ (1024 ≤ length (now index)) × (k ≤ maxKey) × (length (now expression) ≤ 220) ⌝ }
+    requires { ⌜ (1024 ≤ length (now index)) × (k ≤ maxKey) × (length (now expression) ≤ maxExpression) ⌝ }
     ensures { λ _. ⌜ now (index .exit) ≡ freshBuffer k (now (expression .entry)) (now (index .entry)) ⌝ }
 {
     octets::store_le32(index, 0, Page::SIZE as u32);

@@ -1,5 +1,5 @@
 -- Laws: the bytes that are gathered for a page are those of the entries that the rule gives it. Assumes nothing.
-use Prim.Native.Nat.{ℕ, zero, suc, _+_, _-_, _*_, _≤_, _<_, min}
+use Prim.Native.Nat.{ℕ, zero, suc, _+_, _-_, _*_, _≤_, _<_}
 use mathlib.Core.Path.{_≡_, refl, sym, ap, _∙_}
 use mathlib.Core.Bool.{true, false, and-false}
 use mathlib.Core.List.{List, [], _∷_, _++_, append-assoc}
@@ -20,7 +20,7 @@ use Rattle.octets.specs.OrderLaws.{le-total, le-antisym}
 use Rattle.tree.specs.Order.{larger}
 use Rattle.tree.specs.Pairs.{lastKey, insertPair}
 use Rattle.page.specs.Header.{maxKey, pageSize, isPage}
-use Rattle.page.specs.Page.{countAt, entryArea, capacity, entryOffset, keyAt, numberAt, firstAtOrAbove}
+use Rattle.page.specs.Page.{entryArea, capacity, entryOffset, keyAt, numberAt, firstAtOrAbove}
 use Rattle.page.specs.Within.{Within}
 use Rattle.page.specs.KeyOrder.{bytesOrder}
 use Rattle.page.specs.PageLaws.{capacity-small, entries-fit, entries-inside, within-entry, entry-within}
@@ -29,18 +29,11 @@ use Rattle.layout.specs.Layout.{itemsIn, encode}
 use Rattle.layout.specs.Entries.{chosen, childOf, replaced, raised, twoFor}
 use Rattle.layout.specs.Given.{Listed, chosenAt}
 use Rattle.layout.specs.ItemLaws.{Fit, encode-append}
-use Rattle.layout.specs.EntryLaws.{itemsFrom, itemAt, items-in-fit, length-from, from-cons, take-from, drop-from, encode-from, entry-far, items-in, items-none, listed, listed-within, passed, passed-le, first-passed, above-all, not-above-all, insert-at, chosen-passed, chosen-last, replaced-at}
+use Rattle.layout.specs.EntryLaws.{itemsFrom, itemAt, items-in-fit, from-cons, take-from, drop-from, encode-from, entry-far, items-none, listed, listed-within, passed, passed-le, first-passed, above-all, not-above-all, insert-at, chosen-passed, chosen-last, replaced-at}
 
--- how many entries are read of a page
-module _ (k : ℕ) (b : List ℕ) (p : ℕ) where
-  pub count-none : isPage (length b) p ≡ false → 0 ≡ length (itemsIn k b p)
-  count-none e = sym (ap length (items-none k b p e))
-
-  pub count-full : isPage (length b) p ≡ true → capacity k < countAt b p → capacity k ≡ length (itemsIn k b p)
-  count-full e h = sym (ap length (items-in k b p e) ∙ length-from k b p (min (countAt b p) (capacity k)) 0 ∙ omega arith)
-
-  pub count-few : isPage (length b) p ≡ true → countAt b p ≤ capacity k → countAt b p ≡ length (itemsIn k b p)
-  count-few e h = sym (ap length (items-in k b p e) ∙ length-from k b p (min (countAt b p) (capacity k)) 0 ∙ omega arith)
+-- no page, no entries
+count-none : (k : ℕ) (b : List ℕ) (p : ℕ) → isPage (length b) p ≡ false → 0 ≡ length (itemsIn k b p)
+count-none k b p e = sym (ap length (items-none k b p e))
 
 -- the search in a page that has entries, and the entry that is chosen
 module _ (key : List ℕ) {b : List ℕ} {p n i : ℕ} (l : Listed b (length key) p n) (e : i ≡ firstAtOrAbove (keyAt b (length key) p) key n 0) where

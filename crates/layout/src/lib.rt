@@ -90,21 +90,12 @@ pub fn split_page(
     new_page(index, k, new, upper, &entries[cut..]);
 }
 
-// How many entries are read of a page: none where there is no page, and never more than the capacity.
+// How many entries are read of a page, in a file as long as the buffer.
 pub fn entry_count(index: &[u8], k: usize, page: PageOffset) -> usize
     requires { ⌜ k ≤ maxKey ⌝ }
     ensures { λ r. ⌜ r ≡ length (itemsIn k (now (index .entry)) (page .0)) ⌝ }
 {
-    if !page::is_page(index.len(), page) {
-        return 0;
-    }
-    let head = Page::at(index, page);
-    let count = head.count as usize;
-    let capacity = Page::capacity(k);
-    if capacity < count {
-        return capacity;
-    }
-    count
+    page::entry_count(index, k, index.len(), page)
 }
 
 // The number of the entry that a key goes under: the first at or above it, or the last.

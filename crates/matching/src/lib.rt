@@ -78,7 +78,7 @@ fn leaves_good(table: &[u8], index: &[u8], column: Column, size: usize, first: P
     let mut count = 0;
     let mut left = MAX_PAGES;
     while (0 < left) & page::is_page(size, page) {
-        let entries = audit::entry_count(index, column.length, size, page);
+        let entries = page::entry_count(index, column.length, size, page);
         if !leaf_good(table, index, column, page, entries) {
             return false;
         }

@@ -5,6 +5,8 @@ use mathlib.Core.List.{List}
 use lib.ListN.{length}
 use lib.Dec.{eqb, leb}
 use Rattle.octets.specs.Bytes.{byteAt, le16, le32}
+-- "pages of 512 bytes" and "0xFFFFFFFF for none", which the theory of the index names too
+pub use Rattle.tree.specs.Index.{pageSize, noPage}
 
 -- the largest index, "1,048,576", and the most levels, "at most 11": the two limits that a larger index changes
 abbrev pub maxBytes : ℕ
@@ -16,14 +18,6 @@ maxLevels = 11
 -- "k is 1 to 100"
 abbrev pub maxKey : ℕ
 maxKey = 100
-
--- "pages of 512 bytes"
-abbrev pub pageSize : ℕ
-pageSize = 512
-
--- "0xFFFFFFFF for none"
-abbrev pub noPage : ℕ
-noPage = 0xFFFFFFFF
 
 -- "0-3 root offset, 4-7 free pointer, 8-11 file size F, 12-13 key length k, 14 features"
 abbrev pub rootOffset : List ℕ → ℕ

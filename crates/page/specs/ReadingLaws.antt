@@ -1,13 +1,13 @@
 -- Laws: a page's entries by number, how many there are, and that they depend on the page's own bytes alone. Cited by what sound means, by the audit and by
 -- insertion. Assumes nothing.
-use Prim.Native.Nat.{ℕ, zero, suc, _+_, _-_, _*_, _≤_, min}
+use Prim.Native.Nat.{ℕ, zero, suc, _+_, _-_, _*_, _≤_, _<_, min}
 use mathlib.Core.Path.{_≡_, refl, sym, ap, _∙_}
 use mathlib.Core.Bool.{true, false}
 use mathlib.Core.List.{List, [], _∷_, map}
-use native.Mathlib.Nat.{add-zero, sub-zero, min-le-right, min-eq-left, suc-mul}
+use native.Mathlib.Nat.{add-zero, sub-zero, min-le-right, min-eq-left, min-eq-right, suc-mul}
 use native.Mathlib.Omega.{arith}
 use lib.Dec.{lit≤}
-use lib.ListN.{length, take, drop}
+use lib.ListN.{length, take, drop, length-map}
 use lib.Seq.{take-nil, take-take, drop-drop}
 use Rattle.octets.specs.Store.{window}
 use Rattle.octets.specs.NumberLaws.{be32-window, le16-same, le32-same}
@@ -79,6 +79,23 @@ length-entries-from b k p (suc n) i = ap suc (length-entries-from b k p n (i + 1
 
 pub length-entries : (k size : ℕ) (b : List ℕ) (p : ℕ) → isPage size p ≡ true → length (entriesAt k size b p) ≡ readCount k b p
 length-entries k size b p e = ap length (entries-by-index k size b p e) ∙ length-entries-from b k p (readCount k b p) 0
+
+-- each entry that is read is one that is stored
+pub length-numbered : (k size : ℕ) (b : List ℕ) (p : ℕ) → length (entriesAt k size b p) ≡ length (itemsAt k size b p)
+unfolding entriesAt
+length-numbered k size b p = length-map (itemsAt k size b p) numbered
+
+-- how many entries are read of a page: none where there is no page, and never more than the capacity
+module _ (b : List ℕ) (k size p : ℕ) where
+  pub count-none : isPage size p ≡ false → 0 ≡ length (entriesAt k size b p)
+  count-none e = rw (entries-none k size b p e)
+
+  module _ (e : isPage size p ≡ true) (n : ℕ) (en : n ≡ countAt b p) where
+    pub count-read : n ≤ capacity k → n ≡ length (entriesAt k size b p)
+    count-read h = sym (length-entries k size b p e ∙ rw (← en) (min-eq-left h))
+
+    pub count-full : capacity k < n → capacity k ≡ length (entriesAt k size b p)
+    count-full h = sym (length-entries k size b p e ∙ rw (← en) (min-eq-right (omega arith)))
 
 -- a page is read by its own bytes alone
 module _ (a b : List ℕ) (p : ℕ) (e : window a p pageSize ≡ window b p pageSize) where

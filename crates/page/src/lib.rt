@@ -7,6 +7,7 @@ ghost use lib.ListN.{length};
 ghost use Rattle.octets.specs.Order.{ordering};
 ghost use Rattle.page.specs.Header.{maxKey, pageSize, rootOffset, fileSize, keyLength, isPage, sizeGood, keyLengthGood, headerGood};
 ghost use Rattle.page.specs.Page.{attributeAt, countAt, leftAt, rightAt, leafBit, capacity, entryOffset, keyAt, numberAt, attributeGood, countGood, pageGood, firstAtOrAbove};
+ghost use Rattle.page.specs.Reading.{entriesAt};
 ghost use Rattle.page.specs.Within.{Within};
 
 // The largest index, in bytes.
@@ -167,6 +168,23 @@ pub fn page_good(
     }
     let head = Page::at(index, page);
     attribute_good(head.attribute, first, last) & count_good(k, head.attribute, head.count)
+}
+
+// How many entries a page is read to have: none where it is no page of the file, and never more than the capacity.
+pub fn entry_count(index: &[u8], k: usize, size: usize, page: PageOffset) -> usize
+    requires { ⌜ (k ≤ maxKey) × (size ≤ length (now index)) ⌝ }
+    ensures { λ r. ⌜ r ≡ length (entriesAt k size (now (index .entry)) (page .0)) ⌝ }
+{
+    if !is_page(size, page) {
+        return 0;
+    }
+    let head = Page::at(index, page);
+    let count = head.count as usize;
+    let most = Page::capacity(k);
+    if count <= most {
+        return count;
+    }
+    most
 }
 
 // Where entry i begins, or where the entries end if there are i.

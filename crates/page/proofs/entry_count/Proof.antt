@@ -1,13 +1,13 @@
--- `audit::entry_count` meets its contract: by the laws of how many entries a page is read to have.
+-- `page::entry_count` meets its contract: by the laws of how many entries a page is read to have.
 -- Assumes nothing.
 use mathlib.Core.Path.{sym, _∙_}
 use native.Mathlib.Omega.{arith}
 use borrow.Author.Tests.{not-true, not-false}
 use Rattle.page.specs.HeaderLaws.{is-page}
-use Rattle.audit.specs.EntryLaws.{count-none, count-read, count-full}
+use Rattle.page.specs.ReadingLaws.{count-none, count-read, count-full}
 use borrow.Author.Needs.{needs}
-use Rattle.audit.proofs.entry_count.Statement.{statement}
-use Rattle.audit.proofs.entry_count.Tie as tie
+use Rattle.page.proofs.entry_count.Statement.{statement}
+use Rattle.page.proofs.entry_count.Tie as tie
 
 is-page-requires : tie.Need-is-page-requires
 is-page-requires c κs = search needs
