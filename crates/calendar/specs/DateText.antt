@@ -4,8 +4,8 @@ use mathlib.Core.List.{List}
 use mathlib.Core.Bool.{Bool, cond, _&&_}
 use lib.ListN.{length, take, drop}
 use lib.Dec.{leb, eqb}
+use Rattle.octets.specs.Text.{every, blank, isDigit, numberOf}
 use Rattle.calendar.specs.Calendar.{isDate}
-use Rattle.calendar.specs.Decimal.{allBlank, allDigits, decimal}
 use Rattle.calendar.specs.declared.DateAnswer.{DateAnswer}
 use Rattle.calendar.specs.declared.DateAnswer.the-variants.{Value, Empty, Refused}
 
@@ -41,8 +41,8 @@ dateOfNumbers y m d =
 unfoldable pub dateOf : List ℕ → DateAnswer
 dateOf text =
     cond (eqb (length text) 8)
-    (cond (allBlank text) Empty
-    (cond (allDigits text)
-    (dateOfNumbers (decimal (yearPart text)) (decimal (monthPart text)) (decimal (dayPart text)))
+    (cond (every (eqb blank) text) Empty
+    (cond (every isDigit text)
+    (dateOfNumbers (numberOf (yearPart text)) (numberOf (monthPart text)) (numberOf (dayPart text)))
     (Refused badDateText)))
     (Refused badDateText)

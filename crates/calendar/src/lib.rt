@@ -1,12 +1,11 @@
 // Gregorian days, and the text of a D field. Document 01: "real days by the Gregorian rule, the month lengths held as two rows,
 // common years and leap years"; "D: YYYYMMDD, year 1 to 9999, or eight blanks".
+use octets::Digits;
+use octets::read_digits;
 ghost use Prim.Native.Nat.{_≤_};
 ghost use mathlib.Core.Path.{_≡_};
-ghost use lib.ListN.{length};
 ghost use Rattle.calendar.specs.Calendar.{isLeap, daysInMonth, isDate};
-ghost use Rattle.calendar.specs.Decimal.{allBlank, isDigit};
 ghost use Rattle.calendar.specs.DateText.{maxYear, dateOf, dateOfNumbers};
-ghost use Rattle.calendar.specs.Reading.{digitsOf};
 
 // January to December: common years, then leap years.
 const MONTH_LENGTHS: [[u8; 12]; 2] = [
@@ -64,49 +63,6 @@ pub enum DateAnswer {
     Refused(u32),
 }
 
-// What a part of the text says: the number its digits spell, or that a byte is no digit.
-enum Digits {
-    Number(u32),
-    Other,
-}
-
-fn is_blank(text: &[u8]) -> bool
-    ensures { λ r. ⌜ r ≡ allBlank (now (text .entry)) ⌝ }
-{
-    let mut i = 0;
-    while i < text.len() {
-        if text[i] != b' ' {
-            return false;
-        }
-        i += 1;
-    }
-    true
-}
-
-fn is_digit(byte: u32) -> bool
-    ensures { λ r. ⌜ r ≡ isDigit byte ⌝ }
-{
-    (0x30 <= byte) & (byte <= 0x39)
-}
-
-// Four digits at most, so that the number fits.
-fn read_digits(part: &[u8]) -> Digits
-    requires { ⌜ length (now part) ≤ 4 ⌝ }
-    ensures { λ r. ⌜ r ≡ digitsOf (now (part .entry)) ⌝ }
-{
-    let mut number = 0;
-    let mut i = 0;
-    while i < part.len() {
-        let byte = wide(part[i]);
-        if !is_digit(byte) {
-            return Digits::Other;
-        }
-        number = number * 10 + (byte - 0x30);
-        i += 1;
-    }
-    Digits::Number(number)
-}
-
 // A year of four digits is not above 9999, so that need not be tested.
 fn date_of_numbers(year: u32, month: u32, day: u32) -> DateAnswer
     requires { ⌜ year ≤ maxYear ⌝ }
@@ -128,7 +84,7 @@ pub fn read_date(text: &[u8]) -> DateAnswer
     if text.len() != 8 {
         return DateAnswer::Refused(BAD_DATE_TEXT);
     }
-    if is_blank(text) {
+    if octets::padding(text) == 8 {
         return DateAnswer::Empty;
     }
     let Digits::Number(year) = read_digits(&text[0..4]) else {
@@ -140,5 +96,5 @@ pub fn read_date(text: &[u8]) -> DateAnswer
     let Digits::Number(day) = read_digits(&text[6..8]) else {
         return DateAnswer::Refused(BAD_DATE_TEXT);
     };
-    date_of_numbers(year, month, day)
+    date_of_numbers(year as u32, month as u32, day as u32)
 }

@@ -13,9 +13,9 @@ use Rattle.basis.specs.Lists.{All}
 use Rattle.octets.specs.Bytes.{byteAt}
 use Rattle.calendar.specs.DateLaws.{date-refusal}
 use Rattle.calendar.specs.declared.DateAnswer.the-variants as date
-use Rattle.octets.specs.Text.{blank}
+use Rattle.octets.specs.Text.{every, blank}
 use Rattle.numeral.specs.Format.{formatGood, maxDigits, comma}
-use Rattle.numeral.specs.Reading.{readNumber, every, some, textGood, digitCount, valueOf}
+use Rattle.numeral.specs.Reading.{readNumber, some, textGood, digitCount, valueOf}
 use Rattle.numeral.specs.ReadingLaws.{refused-6}
 use Rattle.numeral.specs.declared.Number.the-variants as number
 use Rattle.memo.specs.Memo.{memoHeaderBytes, memoHeaderGood, numberedText, readText, memoText}

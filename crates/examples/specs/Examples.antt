@@ -7,7 +7,6 @@ use Prim.Native.Char.{code}
 use Prim.Native.String as text
 use lib.IntN.{ℤ, pos, negsuc}
 use Rattle.calendar.specs.Calendar as calendar
-use Rattle.calendar.specs.Decimal as decimal
 use Rattle.calendar.specs.DateText as date
 use Rattle.calendar.specs.declared.DateAnswer.{DateAnswer}
 use Rattle.calendar.specs.declared.DateAnswer.the-variants as day
@@ -15,6 +14,7 @@ use mathlib.Core.Bool.{Bool, true}
 use Rattle.octets.specs.Bytes as bytes
 use Rattle.octets.specs.Store as store
 use Rattle.octets.specs.Order as order
+use Rattle.octets.specs.Text as chars
 use Rattle.page.specs.Header as header
 use Rattle.page.specs.Page as page
 use Rattle.page.specs.Reading as pages
@@ -125,10 +125,10 @@ examples =
 -- the single statement: every call answers as the paper says
 pub examples-hold : map (λ e. answer (e .0)) examples ≡ map (λ e. e .1) examples
 unfolding examples answer ascii
-    reading.readNumber format.formatGood reading.every reading.some reading.after reading.front reading.hasMinus reading.withoutMinus reading.wholeGood
-    reading.fractionGood reading.wholePart reading.fraction reading.withoutPoint reading.digits reading.numberFrom reading.numberOf reading.textGood
+    reading.readNumber format.formatGood chars.every chars.unpadded reading.some reading.after reading.front reading.hasMinus reading.withoutMinus reading.wholeGood
+    reading.fractionGood reading.wholePart reading.fraction reading.withoutPoint reading.digits chars.numberFrom chars.numberOf reading.textGood
     reading.signed reading.valueOf reading.digitCount
-    date.dateOf decimal.allBlank decimal.allDigits decimal.isDigit decimal.decimal decimal.decimalFrom date.dateOfNumbers date.isFieldDate
+    date.dateOf date.dateOfNumbers date.isFieldDate
     calendar.isDate calendar.daysInMonth calendar.rowOf calendar.isLeap calendar.monthLengths
     tree.tree000 tree.padded tree.page tree.entry bytes.le16 bytes.le32 bytes.be32 bytes.toLe16 bytes.toLe32 bytes.toBe32 store.window order.bytesLe
     order.ordering header.isPage header.sizeGood header.keyLengthGood header.headerGood page.capacity page.entryOffset page.attributeGood page.countGood

@@ -7,9 +7,9 @@
 // was wrong. All files are read before the first line is printed, so that `40` stands alone. Without an index a field's number is not used.
 ghost use Prim.Native.Nat.{min};
 ghost use mathlib.Core.Path.{_≡_};
-ghost use Rattle.calendar.specs.Decimal.{isDigit};
 ghost use Rattle.inspection.specs.Arguments.{maxNumber, fieldNumber};
 use libc::STDERR_FILENO;
+use octets::Digits;
 
 // The greatest number of 32 bits, which no field of a table has.
 const MAX_NUMBER: u64 = 4294967295;
@@ -33,19 +33,6 @@ fn refuse_use() {
     refuse();
 }
 
-// A byte as a number; a call asks no proof that the byte fits.
-fn wide(byte: u8) -> u64
-    ensures { λ r. ⌜ r ≡ byte ⌝ }
-{
-    byte as u64
-}
-
-fn is_digit(byte: u64) -> bool
-    ensures { λ r. ⌜ r ≡ isDigit byte ⌝ }
-{
-    (0x30 <= byte) & (byte <= 0x39)
-}
-
 // A number, or the greatest of 32 bits where it does not fit.
 fn at_most_32_bits(n: u64) -> u32
     ensures { λ r. ⌜ r ≡ min n maxNumber ⌝ }
@@ -67,17 +54,10 @@ fn field_number(text: &[u8]) -> Field
     if 10 < text.len() {
         return Field::Other;
     }
-    let mut number = 0;
-    let mut i = 0;
-    while i < text.len() {
-        let byte = wide(text[i]);
-        if !is_digit(byte) {
-            return Field::Other;
-        }
-        number = number * 10 + (byte - 0x30);
-        i += 1;
+    match octets::read_digits(text) {
+        Digits::Number(number) => Field::Number(at_most_32_bits(number)),
+        Digits::Other => Field::Other,
     }
-    Field::Number(at_most_32_bits(number))
 }
 
 fn wanted_field(arguments: usize, field: &[u8]) -> Field {

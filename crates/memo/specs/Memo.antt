@@ -1,11 +1,11 @@
 -- Rules: the FPT memo file, document 01, "Field text", paragraph M, with refusals 21 to 23 in the paper's order.
-use Prim.Native.Nat.{ℕ, _+_, _*_, _-_, _%_}
-use mathlib.Core.Bool.{Bool, true, false, cond, _&&_}
+use Prim.Native.Nat.{ℕ, _+_, _*_, _%_}
+use mathlib.Core.Bool.{Bool, cond, _&&_}
 use mathlib.Core.List.{List, [], _∷_}
 use lib.ListN.{length}
 use lib.Dec.{leb, ltb, eqb}
 use Rattle.octets.specs.Bytes.{be16, be32}
-use Rattle.octets.specs.Text.{unpadded}
+use Rattle.octets.specs.Text.{every, unpadded, zeroDigit, isDigit, numberOf}
 use Rattle.memo.specs.declared.MemoNumber.{MemoNumber}
 use Rattle.memo.specs.declared.MemoNumber.the-variants.{Blank, Bad, Number}
 use Rattle.memo.specs.declared.MemoPlace.{MemoPlace}
@@ -18,19 +18,10 @@ memoHeaderBytes = 512
 abbrev pub maxMemoBytes : ℕ
 maxMemoBytes = 16777216
 
--- a character from `0` (48) to `9` (57)
-abbrev pub isDigit : ℕ → Bool
-isDigit c = leb 48 c && leb c 57
-
--- the number that digits to the text's end write, after those that wrote n
-unfoldable pub digitsAfter : ℕ → List ℕ → MemoNumber
-digitsAfter n [] = Number n
-digitsAfter n (c ∷ rest) = let whole = digitsAfter (10 * n + (c - 48)) rest in cond (isDigit c) whole Bad
-
 -- what follows the blanks: nothing, or "digits .., no leading zero, at least 1", so that the first is above `0`
 unfoldable pub digitsNumber : List ℕ → MemoNumber
 digitsNumber [] = Blank
-digitsNumber (c ∷ rest) = cond (ltb 48 c) (digitsAfter 0 (c ∷ rest)) Bad
+digitsNumber (c ∷ s) = cond (ltb zeroDigit c && every isDigit (c ∷ s)) (Number (numberOf (c ∷ s))) Bad
 
 -- "ten blanks is empty; else digits right-justified"; a text of another length is bad
 unfoldable pub memoNumber : List ℕ → MemoNumber

@@ -1,10 +1,11 @@
 // The FPT memo file: where the text of the memo that a table's M field names stands in the file.
+use octets::Digits;
 use octets::load_be16;
 use octets::load_be32;
 ghost use mathlib.Core.Path.{_≡_};
 ghost use Prim.Native.Nat.{_+_, _^_, _≤_, _<_};
-ghost use lib.ListN.{length, drop};
-ghost use Rattle.memo.specs.Memo.{memoHeaderBytes, isDigit, digitsNumber, memoNumber, blockSize, memoHeaderGood, headFits, endFits, blockText, numberedText, memoText};
+ghost use lib.ListN.{length};
+ghost use Rattle.memo.specs.Memo.{memoHeaderBytes, memoNumber, blockSize, memoHeaderGood, headFits, endFits, blockText, numberedText, memoText};
 
 // The header's length: the least length of a memo file, and the first place where a block can start.
 const HEADER_BYTES: usize = 512;
@@ -26,45 +27,24 @@ pub enum MemoPlace {
     Refused(u32),
 }
 
-// Whether a character is a decimal digit.
-fn is_digit(c: u8) -> bool
-    ensures { λ r. ⌜ r ≡ isDigit c ⌝ }
-{
-    (b'0' <= c) & (c <= b'9')
-}
-
-// The number that the characters of a text from one place on write. Ten digits fit a u64.
-fn digits_from(text: &[u8], from: usize) -> MemoNumber
-    requires { ⌜ (from ≤ length (now text)) × (length (now text) ≤ 10) ⌝ }
-    ensures { λ r. ⌜ r ≡ digitsNumber (drop from (now (text .entry))) ⌝ }
-{
-    if from == text.len() {
-        return MemoNumber::Blank;
-    }
-    if text[from] <= b'0' {
-        return MemoNumber::Bad;
-    }
-    let mut n: u64 = 0;
-    let mut i = from;
-    while i < text.len() {
-        let c = text[i];
-        if !is_digit(c) {
-            return MemoNumber::Bad;
-        }
-        n = 10 * n + (c - b'0') as u64;
-        i += 1;
-    }
-    MemoNumber::Number(n)
-}
-
-// The number of an M field's text.
+// The number of an M field's text. Behind the blanks stand digits without a leading zero.
 fn read_number(text: &[u8]) -> MemoNumber
     ensures { λ r. ⌜ r ≡ memoNumber (now (text .entry)) ⌝ }
 {
     if text.len() != 10 {
         return MemoNumber::Bad;
     }
-    digits_from(text, octets::padding(text))
+    let from = octets::padding(text);
+    if from == 10 {
+        return MemoNumber::Blank;
+    }
+    if text[from] <= b'0' {
+        return MemoNumber::Bad;
+    }
+    match octets::read_digits(&text[from..]) {
+        Digits::Number(n) => MemoNumber::Number(n),
+        Digits::Other => MemoNumber::Bad,
+    }
 }
 
 // The block size that the header gives.

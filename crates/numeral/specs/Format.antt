@@ -21,7 +21,7 @@ formatGood width decimals =
     leb 1 width && leb width maxWidth
     && (eqb decimals 0 || leb 1 decimals && leb decimals maxDecimals && leb (decimals + 2) width)
 
--- the characters that numeric text is made of, beside the blank
+-- the characters that numeric text is made of, beside blanks and digits
 abbrev pub comma : ℕ
 comma = 0x2C
 
@@ -30,10 +30,3 @@ minus = 0x2D
 
 abbrev pub point : ℕ
 point = 0x2E
-
-abbrev pub zeroDigit : ℕ
-zeroDigit = 0x30
-
--- "0-9"
-abbrev pub isDigit : ℕ → Bool
-isDigit c = leb zeroDigit c && leb c 0x39

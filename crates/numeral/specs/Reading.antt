@@ -1,20 +1,16 @@
 -- Rules: what a numeric text means. `readNumber` is what `read_number` answers, in document 01's order: 6, empty, 16, 17, 18, the value.
-use Prim.Native.Nat.{ℕ, zero, suc, _+_, _*_, _-_}
+use Prim.Native.Nat.{ℕ, zero, suc}
 use mathlib.Core.Bool.{Bool, true, false, _&&_, _||_, not}
 use mathlib.Core.List.{List, [], _∷_, _++_}
 use lib.Dec.{eqb, leb}
 use lib.ListN.{length}
 use lib.IntN.{ℤ, pos, negℤ}
-use Rattle.octets.specs.Text.{blank}
-use Rattle.numeral.specs.Format.{formatGood, maxDigits, comma, minus, point, zeroDigit, isDigit}
+use Rattle.octets.specs.Text.{every, blank, unpadded, zeroDigit, isDigit, numberOf}
+use Rattle.numeral.specs.Format.{formatGood, maxDigits, comma, minus, point}
 use Rattle.numeral.specs.declared.Number.{Number}
 use Rattle.numeral.specs.declared.Number.the-variants.{Value, Empty, Refused}
 
--- every character passes a test; some character does
-unfoldable pub every : (ℕ → Bool) → List ℕ → Bool
-every p [] = true
-every p (c ∷ s) = p c && every p s
-
+-- some character passes a test
 unfoldable pub some : (ℕ → Bool) → List ℕ → Bool
 some p [] = false
 some p (c ∷ s) = p c || some p s
@@ -62,21 +58,13 @@ withoutPoint (c ∷ s) = s
 unfoldable pub digits : List ℕ → List ℕ
 digits s = wholePart s ++ withoutPoint (fraction s)
 
--- the number that digits stand for, after the number n of the digits before them
-unfoldable pub numberFrom : ℕ → List ℕ → ℕ
-numberFrom n [] = n
-numberFrom n (c ∷ s) = numberFrom (10 * n + (c - zeroDigit)) s
-
-unfoldable pub numberOf : List ℕ → ℕ
-numberOf s = numberFrom 0 s
-
 -- "blanks, an optional minus, a whole part without needless leading zero, and, where decimals d > 0, a point and exactly d digits; no blank after.
 -- Minus zero is 17"
 unfoldable pub textGood : List ℕ → ℕ → Bool
 textGood s d =
-    let t = withoutMinus (after (eqb blank) s) in
+    let t = withoutMinus (unpadded s) in
     wholeGood (wholePart t) && fractionGood d (fraction t)
-    && not (hasMinus (after (eqb blank) s) && eqb (numberOf (digits t)) 0)
+    && not (hasMinus (unpadded s) && eqb (numberOf (digits t)) 0)
 
 -- a number with its sign
 unfoldable pub signed : Bool → ℕ → ℤ
@@ -85,11 +73,11 @@ signed true n = negℤ (pos n)
 
 -- "the value in units of 10 to the −d, signed"
 unfoldable pub valueOf : List ℕ → ℤ
-valueOf s = signed (hasMinus (after (eqb blank) s)) (numberOf (digits (withoutMinus (after (eqb blank) s))))
+valueOf s = signed (hasMinus (unpadded s)) (numberOf (digits (withoutMinus (unpadded s))))
 
 -- "the digits that 18 counts are those of the whole part and of the fraction together, a lone zero included"
 unfoldable pub digitCount : List ℕ → ℕ
-digitCount s = length (digits (withoutMinus (after (eqb blank) s)))
+digitCount s = length (digits (withoutMinus (unpadded s)))
 
 -- what a text of a field of its own length means, with so many decimals
 unfoldable pub readNumber : List ℕ → ℕ → Number

@@ -1,19 +1,21 @@
 -- Laws: the parts of a numeric text, that the number of its digits shows in their number, and when a text is refused with 6 or 16.
 -- Assumes nothing.
 use Prim.Native.Nat.{ℕ, zero, suc, _+_, _*_, _-_, _^_, _≤_, _<_}
-use mathlib.Core.Path.{_≡_, refl, sym}
+use mathlib.Core.Path.{_≡_, refl, sym, _∙_}
 use mathlib.Core.Bool.{Bool, true, false, _&&_, _||_, not, and-true, and-false, and-assoc}
 use mathlib.Core.List.{List, [], _∷_, _++_}
 use mathlib.Core.Logic.{_↔_}
-use native.Mathlib.Nat.{pow-le-pow-right, add-zero, zero-add, add-suc, suc-add, le-trans}
+use native.Mathlib.Nat.{pow-le-pow-right, zero-add, le-trans}
 use native.Mathlib.Omega.{arith}
 use lib.Dec.{eqb, leb, ltb, lit<, eqb·suc-zero}
 use lib.ListN.{length, length-append}
 use borrow.Author.Tests.{leb-true, leb-false, eqb-true, eqb-false, le-leb, lt-ltb, le-ltb}
 use Rattle.basis.specs.Tests.{either, contra, both, join}
-use Rattle.octets.specs.Text.{blank}
-use Rattle.numeral.specs.Format.{formatGood, maxWidth, maxDecimals, maxDigits, comma, point, zeroDigit, isDigit}
-use Rattle.numeral.specs.Reading.{every, some, after, front, wholeGood, fractionGood, wholePart, fraction, withoutPoint, digits, numberFrom, numberOf, textGood, valueOf, digitCount, readNumber}
+use Rattle.octets.specs.Text.{every, blank, zeroDigit, isDigit, numberFrom, numberOf}
+use Rattle.octets.specs.TextLaws.{digit-range, every-append}
+use Rattle.octets.specs.DigitLaws.{number-least, number-bound}
+use Rattle.numeral.specs.Format.{formatGood, maxWidth, maxDecimals, maxDigits, comma, point}
+use Rattle.numeral.specs.Reading.{some, after, front, wholeGood, fractionGood, wholePart, fraction, withoutPoint, digits, textGood, valueOf, digitCount, readNumber}
 use Rattle.numeral.specs.declared.Number.the-variants.{Value, Empty, Refused}
 
 -- a good format has at most 15 decimals
@@ -26,12 +28,6 @@ format-decimals width d e =
     (λ f.
     let tests = both (leb 1 d && leb d maxDecimals) (leb (d + 2) width) (rw f at (parts .1)) in
     leb-true _ _ (both (leb 1 d) (leb d maxDecimals) (tests .0) .1))
-
--- a digit's code
-pub digit-range : (c : ℕ) → isDigit c ≡ true → (zeroDigit ≤ c) × (c ≤ 0x39)
-digit-range c e =
-    let tests = both (leb zeroDigit c) (leb c 0x39) e in
-    (leb-true _ _ (tests .0), leb-true _ _ (tests .1))
 
 -- a text without a comma has none at its first character, nor behind it
 pub no-comma : (c : ℕ) (s : List ℕ) → some (eqb comma) (c ∷ s) ≡ false → (eqb comma c ≡ false) × (some (eqb comma) s ≡ false)
@@ -62,13 +58,6 @@ every-front p [] = refl
 every-front p (c ∷ s) = either (p c)
     (λ e. rw (front-more p c s e) (join _ _ e (every-front p s)))
     (λ e. rw (front-ends p c s e))
-
-pub every-append : (p : ℕ → Bool) (s t : List ℕ) → every p s ≡ true → every p t ≡ true → every p (s ++ t) ≡ true
-unfolding every
-every-append p [] t e f = f
-every-append p (c ∷ s) t e f =
-    let parts = both (p c) (every p s) e in
-    rw (parts .0) (every-append p s t (parts .1) f)
 
 -- a whole part has a digit
 pub none-whole : wholeGood [] ≡ false
@@ -108,28 +97,13 @@ fraction-digits d (c ∷ s) e =
     let tests = both (every isDigit s) (eqb (length s) d) (parts .1) in
     (tests .0, omega (arith, eqb-true))
 
--- behind a number of more than k digits, the digits s make one of more than k + length s
-pub number-least : (s : List ℕ) (k n : ℕ) → 10 ^ k ≤ n → 10 ^ (k + length s) ≤ numberFrom n s
-unfolding numberFrom
-number-least [] k n h = rw (add-zero k) h
-number-least (c ∷ s) k n h = rw (add-suc k (length s), ← (suc-add k (length s))) (number-least s (suc k) _ (omega arith))
-
--- and behind one of at most k, one of at most k + length s
-pub number-most : (s : List ℕ) (k n : ℕ) → n < 10 ^ k → every isDigit s ≡ true → numberFrom n s < 10 ^ (k + length s)
-unfolding numberFrom every
-number-most [] k n h e = rw (add-zero k) h
-number-most (c ∷ s) k n h e =
-    let parts = both (isDigit c) (every isDigit s) e in
-    let range = digit-range c (parts .0) in
-    rw (add-suc k (length s), ← (suc-add k (length s))) (number-most s (suc k) _ (omega arith) (parts .1))
-
 -- a whole part c ∷ w without needless leading zero, and the digits f behind the point
 module _ (c : ℕ) (w f : List ℕ) (whole : wholeGood (c ∷ w) ≡ true) where
   whole-most : every isDigit f ≡ true → numberOf (c ∷ w ++ f) < 10 ^ length (c ∷ w ++ f)
-  unfolding wholeGood numberOf
+  unfolding wholeGood
   whole-most e =
       let good = both (every isDigit (c ∷ w)) _ whole .0 in
-      rw (zero-add (length (c ∷ w ++ f))) at (number-most (c ∷ w ++ f) 0 0 (lit< tt) (every-append isDigit (c ∷ w) f good e))
+      number-bound (c ∷ w ++ f) (every-append isDigit (c ∷ w) f ∙ join _ _ good e)
 
   whole-least : length f ≤ maxDecimals → maxDigits < length (c ∷ w ++ f) → 10 ^ maxDigits ≤ numberOf (c ∷ w ++ f)
   unfolding wholeGood numberOf numberFrom every

@@ -4,8 +4,8 @@ use Prim.Native.Nat.{ℕ, _+_, _*_, _-_, _^_}
 use mathlib.Core.Bool.{Bool, false, cond, _&&_, _||_, not}
 use mathlib.Core.List.{List, [], _∷_}
 use lib.Dec.{eqb, leb, ltb}
-use Rattle.octets.specs.Text.{blank}
-use Rattle.numeral.specs.Format.{maxDigits, comma, minus, point, zeroDigit, isDigit}
+use Rattle.octets.specs.Text.{blank, zeroDigit, isDigit}
+use Rattle.numeral.specs.Format.{maxDigits, comma, minus, point}
 use Rattle.numeral.specs.Reading.{signed}
 use Rattle.numeral.specs.declared.Number.{Number}
 use Rattle.numeral.specs.declared.Number.the-variants as number

@@ -9,11 +9,11 @@ use native.Mathlib.Omega.{arith}
 use lib.Dec.{eqb, leb, ltb, eqb·suc-zero, eqb·zero-suc, eqb·suc-suc}
 use lib.ListN.{length, getD, drop, drop-of-length-le}
 use lib.Seq.{drop-cons}
-use borrow.Author.Tests.{ltb-true, ltb-false, eqb-true, le-leb, le-ltb, eq-eqb, ne-eqb}
+use borrow.Author.Tests.{ltb-true, ltb-false, eqb-true, le-leb, le-ltb, ne-eqb}
 use Rattle.basis.specs.Tests.{either, contra, both}
-use Rattle.octets.specs.Text.{blank, unpadded}
-use Rattle.numeral.specs.Format.{formatGood, maxDigits, comma, minus, point, zeroDigit, isDigit}
-use Rattle.numeral.specs.Reading.{every, some, after, front, hasMinus, withoutMinus, wholeGood, fractionGood, wholePart, fraction, withoutPoint, digits, numberFrom, numberOf, textGood, valueOf, digitCount, readNumber, signed}
+use Rattle.octets.specs.Text.{every, blank, unpadded, zeroDigit, isDigit, numberFrom, numberOf}
+use Rattle.numeral.specs.Format.{formatGood, maxDigits, comma, minus, point}
+use Rattle.numeral.specs.Reading.{some, after, front, hasMinus, withoutMinus, wholeGood, fractionGood, wholePart, fraction, withoutPoint, digits, textGood, valueOf, digitCount, readNumber, signed}
 use Rattle.numeral.specs.ReadingLaws.{format-decimals, no-comma, front-more, front-ends, after-more, after-ends, every-front, none-whole, zero-whole, zero-needless, digits-whole, fraction-empty, fraction-point, count-number}
 use Rattle.numeral.specs.Scan.{initial, afterDigit, wholeEnd, onward, afterOther, nextValue, step, scan, settled, meaning}
 use Rattle.numeral.specs.declared.Number.{Number}
@@ -208,9 +208,7 @@ module _ (d : ℕ) where
   pub scan-unpadded : (s : List ℕ) → scan (initial d) (unpadded s) ≡ scan (initial d) s
   unfolding unpadded
   scan-unpadded [] = refl
-  scan-unpadded (c ∷ s) = either (eqb c blank)
-      (λ e. rw e (scan-unpadded s ∙ sym (scan-blank c s (eq-eqb blank c (sym (eqb-true c blank e))))))
-      (λ e. rw e)
+  scan-unpadded (c ∷ s) = either (eqb blank c) (λ e. rw e (scan-unpadded s ∙ sym (scan-blank c s e))) (λ e. rw e)
 
   blanks-mean : (s : List ℕ) → every (eqb blank) s ≡ true → meaning (scan (initial d) s) ≡ number.Empty
   unfolding scan meaning every
@@ -220,12 +218,12 @@ module _ (d : ℕ) where
       rw (scan-blank c s (parts .0)) (blanks-mean s (parts .1))
 
   text-means : (s : List ℕ) → every (eqb blank) s ≡ false → some (eqb comma) s ≡ false
-      → meaning (scan (initial d) s) ≡ meant (hasMinus (after (eqb blank) s)) (withoutMinus (after (eqb blank) s))
-  unfolding every
+      → meaning (scan (initial d) s) ≡ meant (hasMinus (unpadded s)) (withoutMinus (unpadded s))
+  unfolding every unpadded
   text-means [] e f = contra refl e
   text-means (c ∷ s) e f = either (eqb blank c)
-      (λ g. rw (scan-blank c s g, after-more (eqb blank) c s g) (text-means s (rw g at e) (no-comma c s f .1)))
-      (λ g. rw (after-ends (eqb blank) c s g) (sign-means c s g f))
+      (λ g. rw (scan-blank c s g, g) (text-means s (rw g at e) (no-comma c s f .1)))
+      (λ g. rw g (sign-means c s g f))
 
 -- the paper's order at the end: 17 for the shape or minus zero, 18 for more than 18 digits, the value
 settled-is : (good n : Bool) (m count : ℕ) → (good ≡ true → leb count maxDigits ≡ ltb m (10 ^ maxDigits))
@@ -244,7 +242,7 @@ scan-means s d e = either (every (eqb blank) s)
     (λ f. either (some (eqb comma) s)
     (λ g. rw (e, f, g, readNumber) (comma-means s (initial d) g))
     (λ g. rw (e, f, g, readNumber)
-    (text-means d s f g ∙ settled-is _ _ _ (digitCount s) (count-number d (withoutMinus (after (eqb blank) s)) (format-decimals (length s) d e)))))
+    (text-means d s f g ∙ settled-is _ _ _ (digitCount s) (count-number d (withoutMinus (unpadded s)) (format-decimals (length s) d e)))))
 
 -- the characters are taken one after another, from the first on
 module _ (r : Reader) (s : List ℕ) (i : ℕ) where

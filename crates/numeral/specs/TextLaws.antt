@@ -5,19 +5,20 @@ use mathlib.Core.Bool.{Bool, true, false, _&&_, not}
 use mathlib.Core.List.{List, [], _∷_, _++_}
 use mathlib.Core.Logic.{_↔_}
 use Prim.Native.Nat.{ℕ, zero, suc, _-_, _/_, _^_, _≤_, _<_}
-use native.Mathlib.Nat.{sub-self}
 use native.Mathlib.Omega.{arith}
 use lib.Dec.{eqb, leb, ltb}
 use lib.IntN.{ℤ, pos, negsuc, natAbs}
 use lib.ListN.{length, replicate}
 use borrow.Author.Tests.{lt-ltb, le-ltb, ltb-true, ltb-false, eqb-true, eq-eqb, ne-eqb}
 use Rattle.basis.specs.Tests.{either, contra, both, join}
-use Rattle.octets.specs.Text.{blank}
-use Rattle.numeral.specs.Format.{maxDecimals, maxDigits, formatGood, comma, minus, point, isDigit}
-use Rattle.numeral.specs.Reading.{every, some, after, front, hasMinus, withoutMinus, wholeGood, fractionGood, wholePart, fraction, withoutPoint, digits, numberOf, textGood, signed, valueOf, digitCount, readNumber}
-use Rattle.numeral.specs.ReadingLaws.{format-decimals, digit-range, count-number}
-use Rattle.numeral.specs.Writing.{lastDigits, decimal, fractionText, signText, numberText, written, left, writeNumber}
-use Rattle.numeral.specs.DigitLaws.{length-lastDigits, decimal-some, lastDigits-digits, decimal-digits, decimal-good, number-written, digits-back}
+use Rattle.octets.specs.Text.{every, blank, unpadded, isDigit, numberOf, lastDigits, decimal}
+use Rattle.octets.specs.TextLaws.{digit-range, unpadded-digit, unpadded-blanks, unpadded-front, blanks-left}
+use Rattle.octets.specs.DigitLaws.{decimal-digits, decimal-some, lastDigits-digits, length-lastDigits}
+use Rattle.numeral.specs.Format.{maxDecimals, maxDigits, formatGood, comma, minus, point}
+use Rattle.numeral.specs.Reading.{some, after, front, hasMinus, withoutMinus, wholeGood, fractionGood, wholePart, fraction, withoutPoint, digits, textGood, signed, valueOf, digitCount, readNumber}
+use Rattle.numeral.specs.ReadingLaws.{format-decimals, count-number}
+use Rattle.numeral.specs.Writing.{fractionText, signText, numberText, written, left, writeNumber}
+use Rattle.numeral.specs.DigitLaws.{decimal-good, number-written, digits-back}
 use Rattle.numeral.specs.WritingLaws.{length-number, length-written, written-exactly}
 use Rattle.numeral.specs.declared.Number.{Number}
 use Rattle.numeral.specs.declared.Number.the-variants.{Value, Empty, Refused}
@@ -29,22 +30,6 @@ front-after : (p : ℕ → Bool) (s : List ℕ) → front p s ++ after p s ≡ s
 unfolding front after
 front-after p [] = refl
 front-after p (c ∷ s) = either (p c) (λ e. rw (e, front, after, front-after p s)) (λ e. rw (e, front, after))
-
-after-short : (p : ℕ → Bool) (s : List ℕ) → length (after p s) ≤ length s
-unfolding after
-after-short p [] = omega arith
-after-short p (c ∷ s) = either (p c) (λ e. rw (e, after) (let l = after-short p s in omega arith)) (λ e. rw (e, after) (omega arith))
-
-blanks-front : (s : List ℕ) → s ≡ replicate (length s - length (after (eqb blank) s)) blank ++ after (eqb blank) s
-unfolding after
-blanks-front [] = refl
-blanks-front (c ∷ s) = either (eqb blank c)
-    (λ e.
-    let b : c ≡ blank = sym (eqb-true blank c e) in
-    let l = after-short (eqb blank) s in
-    let m : suc (length s) - length (after (eqb blank) s) ≡ suc (length s - length (after (eqb blank) s)) = omega arith in
-    rw (e, after, m) (ap (λ (x : ℕ). x ∷ s) b ∙ ap (λ (l : List ℕ). blank ∷ l) (blanks-front s)))
-    (λ e. rw (e, after, sub-self))
 
 with-minus : (s : List ℕ) → hasMinus s ≡ true → s ≡ minus ∷ withoutMinus s
 unfolding hasMinus withoutMinus
@@ -101,41 +86,33 @@ module _ (t : List ℕ) (d : ℕ) (w : wholeGood (wholePart t) ≡ true) (f : fr
       let b = digits-back (wholePart t) (withoutPoint (fraction t)) d w (h .0) (h .1) in
       rw (digits-whole, h .2 (numberOf (digits t)) (b .1)) (front-after isDigit t)
 
--- a text from its sign on, and from its first digit on
-abbrev trimmed : List ℕ → List ℕ
-trimmed s = after (eqb blank) s
-
+-- a text from its first digit on
 abbrev unsigned : List ℕ → List ℕ
-unsigned s = withoutMinus (trimmed s)
+unsigned s = withoutMinus (unpadded s)
 
 module _ (s : List ℕ) (d : ℕ) (g : textGood s d ≡ true) where
-  good-parts : (wholeGood (wholePart (unsigned s)) ≡ true) × (fractionGood d (fraction (unsigned s)) ≡ true) × (not (hasMinus (trimmed s) && eqb (numberOf (digits (unsigned s))) 0) ≡ true)
+  good-parts : (wholeGood (wholePart (unsigned s)) ≡ true) × (fractionGood d (fraction (unsigned s)) ≡ true) × (not (hasMinus (unpadded s) && eqb (numberOf (digits (unsigned s))) 0) ≡ true)
   unfolding textGood
   good-parts =
-      let h = both (wholeGood (wholePart (unsigned s)) && fractionGood d (fraction (unsigned s))) (not (hasMinus (trimmed s) && eqb (numberOf (digits (unsigned s))) 0)) g in
+      let h = both (wholeGood (wholePart (unsigned s)) && fractionGood d (fraction (unsigned s))) (not (hasMinus (unpadded s) && eqb (numberOf (digits (unsigned s))) 0)) g in
       let k = both (wholeGood (wholePart (unsigned s))) (fractionGood d (fraction (unsigned s))) (h .0) in
       (k .0, k .1, h .1)
 
-  good-text : numberText d (valueOf s) ≡ trimmed s
+  good-text : numberText d (valueOf s) ≡ unpadded s
   unfolding numberText valueOf
   good-text =
       let h = good-parts in
-      rw (signed-abs, signed-text (hasMinus (trimmed s)) (numberOf (digits (unsigned s))) (h .2), digits-text (unsigned s) d (h .0) (h .1)) (sign-front (trimmed s))
+      rw (signed-abs, signed-text (hasMinus (unpadded s)) (numberOf (digits (unsigned s))) (h .2), digits-text (unsigned s) d (h .0) (h .1)) (sign-front (unpadded s))
 
   good-written : s ≡ written (length s) d (valueOf s)
   unfolding written
-  good-written = rw good-text (blanks-front s)
+  good-written = rw good-text (unpadded-front s)
 
   good-count : d ≤ maxDecimals → leb (digitCount s) maxDigits ≡ ltb (natAbs (valueOf s)) (10 ^ maxDigits)
   unfolding digitCount valueOf
   good-count h = let k = good-parts in rw signed-abs (count-number d (unsigned s) h (join _ _ (k .0) (k .1)))
 
 -- ---- a written text is good, and its value is the one written
-
-after-blanks : (k : ℕ) (s : List ℕ) → trimmed (replicate k blank ++ s) ≡ trimmed s
-unfolding after
-after-blanks zero s = refl
-after-blanks (suc k) s = after-blanks k s
 
 front-every : (p : ℕ → Bool) (w u : List ℕ) → every p w ≡ true → front p u ≡ [] → front p (w ++ u) ≡ w
 unfolding every front
@@ -152,13 +129,13 @@ after-every p (c ∷ w) u e =
     rw (k .0, after, after-every p w u (k .1))
 
 -- a digit is neither a blank nor a minus
-digits-first : (w u : List ℕ) → every isDigit w ≡ true → 1 ≤ length w → (trimmed (w ++ u) ≡ w ++ u) × (hasMinus (w ++ u) ≡ false) × (withoutMinus (w ++ u) ≡ w ++ u)
-unfolding every after hasMinus withoutMinus
+digits-first : (w u : List ℕ) → every isDigit w ≡ true → 1 ≤ length w → (unpadded (w ++ u) ≡ w ++ u) × (hasMinus (w ++ u) ≡ false) × (withoutMinus (w ++ u) ≡ w ++ u)
+unfolding every hasMinus withoutMinus
 digits-first [] u e l = absurd (omega arith)
 digits-first (c ∷ w) u e l =
     let k = both (isDigit c) (every isDigit w) e in
     let b = digit-range c (k .0) in
-    (rw (ne-eqb blank c (omega arith), after), ne-eqb c minus (omega arith), rw (ne-eqb c minus (omega arith), withoutMinus))
+    (unpadded-digit c (w ++ u) (k .0), ne-eqb c minus (omega arith), rw (ne-eqb c minus (omega arith), withoutMinus))
 
 fraction-stops : (d n : ℕ) → (front isDigit (fractionText d n) ≡ []) × (after isDigit (fractionText d n) ≡ fractionText d n)
 unfolding fractionText front after
@@ -192,9 +169,9 @@ module _ (d n : ℕ) where
 
 -- the text of a value
 number-parts : (d : ℕ) (v : ℤ)
-    → (trimmed (numberText d v) ≡ numberText d v) × (withoutMinus (numberText d v) ≡ body d (natAbs v)) × (signed (hasMinus (numberText d v)) (natAbs v) ≡ v)
+    → (unpadded (numberText d v) ≡ numberText d v) × (withoutMinus (numberText d v) ≡ body d (natAbs v)) × (signed (hasMinus (numberText d v)) (natAbs v) ≡ v)
     × (not (hasMinus (numberText d v) && eqb (natAbs v) 0) ≡ true)
-unfolding numberText signText after withoutMinus hasMinus signed
+unfolding numberText signText unpadded withoutMinus hasMinus signed
 number-parts d (pos n) =
     let h = digits-first (decimal (n / 10 ^ d)) (fractionText d n) (decimal-digits (n / 10 ^ d)) (decimal-some (n / 10 ^ d)) in
     (h .0, h .2, rw (h .1), rw (h .1))
@@ -229,27 +206,22 @@ unfolding signText some
 sign-plain (pos n) = refl
 sign-plain (negsuc n) = refl
 
-blanks-only : (s : List ℕ) → every (eqb blank) s ≡ true → trimmed s ≡ []
-unfolding every after
-blanks-only [] e = refl
-blanks-only (c ∷ s) e = let k = both (eqb blank c) (every (eqb blank) s) e in rw (k .0, after) (blanks-only s (k .1))
-
 module _ (width d : ℕ) (v : ℤ) where
-  written-trimmed : trimmed (written width d v) ≡ numberText d v
+  written-unpadded : unpadded (written width d v) ≡ numberText d v
   unfolding written
-  written-trimmed = after-blanks (width - length (numberText d v)) (numberText d v) ∙ number-parts d v .0
+  written-unpadded = unpadded-blanks (width - length (numberText d v)) (numberText d v) ∙ number-parts d v .0
 
   written-textGood : textGood (written width d v) d ≡ true
   unfolding textGood
   written-textGood =
       let h = number-parts d v in
-      rw (written-trimmed, h .1, body-good d (natAbs v), body-number d (natAbs v)) (h .3)
+      rw (written-unpadded, h .1, body-good d (natAbs v), body-number d (natAbs v)) (h .3)
 
   written-value : valueOf (written width d v) ≡ v
   unfolding valueOf
   written-value =
       let h = number-parts d v in
-      rw (written-trimmed, h .1, body-number d (natAbs v)) (h .2)
+      rw (written-unpadded, h .1, body-number d (natAbs v)) (h .2)
 
   written-plain : some (eqb comma) (written width d v) ≡ false
   unfolding written numberText
@@ -261,9 +233,9 @@ module _ (width d : ℕ) (v : ℤ) where
   written-shown : every (eqb blank) (written width d v) ≡ false
   written-shown = either (every (eqb blank) (written width d v))
       (λ e.
-      let l = ap length (sym written-trimmed ∙ blanks-only (written width d v) e) in
+      let l = eqb-true (length (unpadded (written width d v))) 0 (sym (blanks-left (written width d v)) ∙ e) in
       let s = decimal-some (natAbs v / 10 ^ d) in
-      absurd (omega (arith, length-number d v)))
+      absurd (omega (arith, ap length written-unpadded, length-number d v)))
       (λ e. e)
 
 -- ---- the reader's answers

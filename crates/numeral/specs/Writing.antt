@@ -1,29 +1,14 @@
 -- Rules: the one text of a value. `writeNumber` is what `write_number` answers and leaves in the buffer, in document 01's order: 6, 18, 19.
-use Prim.Native.Nat.{ℕ, zero, suc, _+_, _-_, _/_, _%_, _^_}
-use mathlib.Core.Bool.{Bool, true, false, cond}
+use Prim.Native.Nat.{ℕ, zero, suc, _-_, _/_, _^_}
+use mathlib.Core.Bool.{true, false}
 use mathlib.Core.List.{List, [], _∷_, _++_}
-use lib.Dec.{eqb, leb, ltb}
+use lib.Dec.{leb, ltb}
 use lib.ListN.{length, replicate}
 use lib.IntN.{ℤ, pos, negsuc, natAbs}
-use Rattle.octets.specs.Text.{blank}
-use Rattle.numeral.specs.Format.{formatGood, maxDigits, minus, point, zeroDigit}
+use Rattle.octets.specs.Text.{blank, lastDigits, decimal}
+use Rattle.numeral.specs.Format.{formatGood, maxDigits, minus, point}
 use Rattle.numeral.specs.declared.Writing.{Writing}
 use Rattle.numeral.specs.declared.Writing.the-variants.{Written, Refused}
-
--- the last count decimal digits of n
-unfoldable pub lastDigits : ℕ → ℕ → List ℕ
-lastDigits zero n = []
-lastDigits (suc count) n = lastDigits count (n / 10) ++ ((zeroDigit + n % 10) ∷ [])
-
--- the decimal digits of n "without needless leading zero", by at most fuel + 1 divisions; n itself is fuel enough
-unfoldable pub decimalFrom : ℕ → ℕ → List ℕ
-decimalFrom zero n = (zeroDigit + n % 10) ∷ []
-decimalFrom (suc fuel) n =
-    let rest = decimalFrom fuel (n / 10) in
-    elim (ltb n 10) [ true ↦ (zeroDigit + n) ∷ [] | false ↦ rest ++ ((zeroDigit + n % 10) ∷ []) ]
-
-unfoldable pub decimal : ℕ → List ℕ
-decimal n = decimalFrom n n
 
 -- "where decimals d > 0, a point and exactly d digits"
 unfoldable pub fractionText : ℕ → ℕ → List ℕ

@@ -15,10 +15,10 @@ use borrow.Author.Tests.{ltb-true, ltb-false, lt-ltb, le-ltb, leb-true, leb-fals
 use Rattle.basis.specs.Tests.{either, contra}
 use Rattle.octets.specs.Store.{put}
 use Rattle.octets.specs.StoreLaws.{put-cons, put-append, put-comm}
-use Rattle.octets.specs.Text.{blank}
-use Rattle.numeral.specs.Format.{maxDigits, formatGood, minus, point, zeroDigit}
-use Rattle.numeral.specs.Writing.{lastDigits, decimal, fractionText, signText, numberText, written, Left, left, writeNumber}
-use Rattle.numeral.specs.DigitLaws.{length-lastDigits, lastDigits-front, decimal-last}
+use Rattle.octets.specs.Text.{blank, zeroDigit, lastDigits, decimal}
+use Rattle.octets.specs.DigitLaws.{decimal-last, lastDigits-front, length-lastDigits}
+use Rattle.numeral.specs.Format.{maxDigits, formatGood, minus, point}
+use Rattle.numeral.specs.Writing.{fractionText, signText, numberText, written, Left, left, writeNumber}
 use Rattle.numeral.specs.declared.Writing.the-variants.{Written, Refused}
 
 -- ---- the parts of a value's text

@@ -1,14 +1,16 @@
 // Numeric text: what the characters of an N field mean, and the one text of a value.
+use octets::is_digit;
 ghost use mathlib.Core.Path.{_≡_};
 ghost use mathlib.Core.Bool.{true};
 ghost use Prim.Native.Nat.{ℕ, _+_, _≤_, _<_, _/_, _^_};
 ghost use lib.IntN.{natAbs};
 ghost use lib.ListN.{length};
 ghost use Rattle.octets.specs.Store.{put};
-ghost use Rattle.numeral.specs.Format.{maxWidth, maxDecimals, maxDigits, formatGood, isDigit};
+ghost use Rattle.octets.specs.Text.{isDigit, lastDigits, decimal};
+ghost use Rattle.numeral.specs.Format.{maxWidth, maxDecimals, maxDigits, formatGood};
 ghost use Rattle.numeral.specs.Reading.{readNumber, signed};
 ghost use Rattle.numeral.specs.Scan.{initial, firstDigit, afterDigit, wholeEnd, afterOther, nextValue, step, settled, meaning};
-ghost use Rattle.numeral.specs.Writing.{lastDigits, decimal, fractionText, signText, left, writeNumber};
+ghost use Rattle.numeral.specs.Writing.{fractionText, signText, left, writeNumber};
 
 // The widest field, and the most decimals.
 const MAX_WIDTH: usize = 20;
@@ -60,13 +62,6 @@ pub fn format_good(width: usize, decimals: u32) -> bool
         & (width <= MAX_WIDTH)
         & ((decimals == 0)
             | (1 <= decimals) & (decimals <= MAX_DECIMALS) & (decimals as usize + 2 <= width))
-}
-
-// Whether a character is a digit.
-fn is_digit(c: u8) -> bool
-    ensures { λ r. ⌜ r ≡ isDigit c ⌝ }
-{
-    (b'0' <= c) & (c <= b'9')
 }
 
 // The phase after the first digit of the whole part.

@@ -6,3 +6,4 @@ pub mod StoreLaws
 pub mod NumberLaws
 pub mod OrderLaws
 pub mod TextLaws
+pub mod DigitLaws

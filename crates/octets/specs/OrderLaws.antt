@@ -129,32 +129,32 @@ pub ordering-both-ended : (a b : List ℕ) (i : ℕ) → length a ≤ i → leng
 ordering-both-ended a b i p q = rw (drop-of-length-le a p, drop-of-length-le b q) (ordering-equal [])
 
 -- the number of so many bytes from an offset on, the first highest
-numberOf : List ℕ → ℕ → ℕ → ℕ
-numberOf s i zero = 0
-numberOf s i (suc n) = 256 * numberOf s i n + byteAt s (i + n)
+bytesNumber : List ℕ → ℕ → ℕ → ℕ
+bytesNumber s i zero = 0
+bytesNumber s i (suc n) = 256 * bytesNumber s i n + byteAt s (i + n)
 
 -- such numbers are lower, equal or higher exactly as the bytes are, for any count of them
 module _ (a b : List ℕ) (i : ℕ) (small-a : (j : ℕ) → byteAt a j < 256) (small-b : (j : ℕ) → byteAt b j < 256) where
-  number-same : (n : ℕ) → i + n ≤ length a → i + n ≤ length b → numberOf a i n ≡ numberOf b i n
+  number-same : (n : ℕ) → i + n ≤ length a → i + n ≤ length b → bytesNumber a i n ≡ bytesNumber b i n
       → ordering (drop i a) (drop i b) ≡ ordering (drop (i + n) a) (drop (i + n) b)
-  unfolding numberOf
+  unfolding bytesNumber
   number-same zero p q e = rw add-zero
   number-same (suc n) p q e =
       let last = ordering-at-same a b (i + n) (omega arith) (omega arith) (omega (arith, small-a (i + n), small-b (i + n))) in
       number-same n (omega arith) (omega arith) (omega (arith, small-a (i + n), small-b (i + n))) ∙ simp unary-clauses (rw add-one at last)
 
-  number-less : (n : ℕ) → i + n ≤ length a → i + n ≤ length b → numberOf a i n < numberOf b i n → ordering (drop i a) (drop i b) ≡ Below
-  unfolding numberOf
+  number-less : (n : ℕ) → i + n ≤ length a → i + n ≤ length b → bytesNumber a i n < bytesNumber b i n → ordering (drop i a) (drop i b) ≡ Below
+  unfolding bytesNumber
   number-less zero p q l = absurd (omega arith)
-  number-less (suc n) p q l = either (ltb (numberOf a i n) (numberOf b i n))
+  number-less (suc n) p q l = either (ltb (bytesNumber a i n) (bytesNumber b i n))
       (λ t. number-less n (omega arith) (omega arith) (ltb-true _ _ t))
-      (λ t. let h = ltb-false (numberOf a i n) (numberOf b i n) t in
+      (λ t. let h = ltb-false (bytesNumber a i n) (bytesNumber b i n) t in
       let m = small-a (i + n) in let m′ = small-b (i + n) in
       number-same n (omega arith) (omega arith) (omega arith) ∙ ordering-at-less a b (i + n) (omega arith) (omega arith) (omega arith))
 
 -- four bytes are such a number
-be32-number : (s : List ℕ) (i : ℕ) → be32 s i ≡ numberOf s i 4
-unfolding be32 numberOf
+be32-number : (s : List ℕ) (i : ℕ) → be32 s i ≡ bytesNumber s i 4
+unfolding be32 bytesNumber
 be32-number s i = rw add-zero (omega arith)
 
 -- four bytes at a time decide as the bytes do; whether they are the same is told by either reading of them

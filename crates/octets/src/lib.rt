@@ -1,4 +1,4 @@
-// Numbers in bytes, stores into a buffer, the order of byte strings, and the blanks before a text: what every reader and writer of the files' bytes rests on.
+// Numbers in bytes, stores into a buffer, the order of byte strings, and the blanks and digits of a text: what every reader and writer of the files' bytes rests on.
 ghost use mathlib.Core.Path.{_≡_};
 ghost use mathlib.Core.Bool.{true};
 ghost use Prim.Native.Nat.{_+_, _-_, _≤_, _<_};
@@ -6,13 +6,19 @@ ghost use lib.ListN.{length, replicate, drop};
 ghost use Rattle.octets.specs.Bytes.{byteAt, le16, le32, be16, be32, toLe16, toLe32, toBe32};
 ghost use Rattle.octets.specs.Store.{put};
 ghost use Rattle.octets.specs.Order.{ordering, isBelow, isEqual};
-ghost use Rattle.octets.specs.Text.{unpadded};
+ghost use Rattle.octets.specs.Text.{unpadded, isDigit, digitsOf};
 
 // The order of one byte string to another.
 pub enum Ordering {
     Below,
     Equal,
     Above,
+}
+
+// What a text says that should be digits: their number, or that there is another character.
+pub enum Digits {
+    Number(u64),
+    Other,
 }
 
 // The byte at an offset.
@@ -202,4 +208,29 @@ pub fn padding(text: &[u8]) -> usize
         i += 1;
     }
     i
+}
+
+// Whether a character is a digit.
+pub fn is_digit(c: u8) -> bool
+    ensures { λ r. ⌜ r ≡ isDigit c ⌝ }
+{
+    (b'0' <= c) & (c <= b'9')
+}
+
+// What a text of nineteen characters at most says, so that the number fits.
+pub fn read_digits(text: &[u8]) -> Digits
+    requires { ⌜ length (now text) ≤ 19 ⌝ }
+    ensures { λ r. ⌜ r ≡ digitsOf (now (text .entry)) ⌝ }
+{
+    let mut number: u64 = 0;
+    let mut i = 0;
+    while i < text.len() {
+        let c = text[i];
+        if !is_digit(c) {
+            return Digits::Other;
+        }
+        number = 10 * number + (c - b'0') as u64;
+        i += 1;
+    }
+    Digits::Number(number)
 }

@@ -1,16 +1,18 @@
 -- `calendar::read_date` meets its contract: the length and the blanks as the rule's cases, then the answer by what the three parts read as.
 -- Assumes nothing.
-use Prim.Native.Nat.{ℕ}
+use Prim.Native.Nat.{ℕ, _<_, _^_}
 use native.Mathlib.Omega.{arith}
 use mathlib.Core.Path.{_≡_, sym, _∙_}
 use mathlib.Core.List.{List}
-use lib.Seq.{length-take-le}
+use lib.Dec.{eqb}
+use lib.ListN.{length, drop}
 use borrow.Author.Needs.{needs}
-use Rattle.calendar.specs.Reading.{digitsOf}
-use Rattle.calendar.specs.DecimalLaws.{read-bound}
+use borrow.Author.Tests.{eq-eqb, ne-eqb}
+use Rattle.octets.specs.Text.{every, blank, digitsOf}
+use Rattle.octets.specs.TextLaws.{blanks-passed}
+use Rattle.octets.specs.declared.Digits.the-variants.{Number}
 use Rattle.calendar.specs.DateText.{yearPart, monthPart, dayPart, dateOf}
-use Rattle.calendar.specs.DateLaws.{date-length, date-empty, ofParts, by-parts}
-use Rattle.calendar.specs.declared.Digits.the-variants.{Number}
+use Rattle.calendar.specs.DateLaws.{date-length, date-empty, part-bound, ofParts, by-parts}
 use Rattle.calendar.proofs.read_date.Statement.{statement}
 use Rattle.calendar.proofs.read_date.Tie as tie
 
@@ -27,10 +29,15 @@ before-month c = c .before .before .before .before .before
 abbrev before-day : tie.After-known-told3 → tie.After-known-told2
 before-day c = c .before .before .before .before .before
 
+-- the blanks passed tell whether all eight bytes are
+blanks-told : (c : tie.After-padding)
+    → let text = c .before .before .before .args .text .now in every (eqb blank) text ≡ eqb (c .padding .result) (length text)
+blanks-told c = blanks-passed (c .before .before .before .args .text .now) (c .padding .result) (c .padding .ensures .0) (c .padding .ensures .1)
+
 -- eight bytes that are not all blank answer as their parts do
 by-their-parts : (c : tie.Else2)
     → dateOf (text-at c) ≡ ofParts (digitsOf (yearPart (text-at c))) (digitsOf (monthPart (text-at c))) (digitsOf (dayPart (text-at c)))
-by-their-parts c = by-parts _ (c .before .before .if1 .left) (sym (c .before .is-blank .ensures) ∙ c .if2 .left)
+by-their-parts c = by-parts _ (c .before .before .if1 .left) (blanks-told (c .before) ∙ ne-eqb _ _ (λ e. c .if2 .left (e ∙ c .before .before .if1 .left)))
 
 -- what each part was read as
 year-read : (c : tie.After-known-told) → digitsOf (yearPart (text-at (before-year c))) ≡ Number (c .before .year .given .0 .0)
@@ -47,11 +54,13 @@ day-read c = sym (c .before .before .before .read-digits3 .ensures) ∙ c .befor
 returns : tie.Need-returns
 returns c = sym (date-length _ (c .if1 .taken))
 
-is-blank-requires : tie.Need-is-blank-requires
-is-blank-requires c κs = search needs
+padding-requires : tie.Need-padding-requires
+padding-requires c κs = search needs
 
 returns-2 : tie.Need-returns-2
-returns-2 c = sym (date-empty _ (c .before .before .if1 .left) (sym (c .before .is-blank .ensures) ∙ c .if2 .taken))
+returns-2 c =
+    let eight = c .before .before .if1 .left in
+    sym (date-empty _ eight (blanks-told (c .before) ∙ eq-eqb _ _ (c .if2 .taken ∙ sym eight)))
 
 sub-read-digits : tie.Need-sub-read-digits
 sub-read-digits c = search needs
@@ -124,10 +133,27 @@ returns-5 c =
     let bad = sym (c .before .before .read-digits3 .ensures) ∙ c .enum-told3 .given .1 in
     sym (by-their-parts (before-year (before-month place)) ∙ rw (year-read (before-month place), month-read place, bad))
 
+-- each number has as many digits as its part, so it fits
+year-small : (c : tie.After-known-told) → c .before .year .given .0 .0 < 10 ^ 4
+year-small c = part-bound 4 (text-at (before-year c)) _ (year-read c)
+
+month-small : (c : tie.After-known-told2) → c .before .month .given .0 .0 < 10 ^ 2
+month-small c = part-bound 2 (drop 4 (text-at (before-year (before-month c)))) _ (month-read c)
+
+day-small : (c : tie.After-known-told3) → c .before .day .given .0 .0 < 10 ^ 2
+day-small c = part-bound 2 (drop 6 (text-at (before-year (before-month (before-day c))))) _ (day-read c)
+
+cast-date-of-numbers : tie.Need-cast-date-of-numbers
+cast-date-of-numbers c = omega (arith, year-small (before-month (before-day c)))
+
+cast-date-of-numbers-2 : tie.Need-cast-date-of-numbers-2
+cast-date-of-numbers-2 c = omega (arith, month-small (before-day c))
+
+cast-date-of-numbers-3 : tie.Need-cast-date-of-numbers-3
+cast-date-of-numbers-3 c = omega (arith, day-small c)
+
 date-of-numbers-requires : tie.Need-date-of-numbers-requires
-date-of-numbers-requires c κs =
-    let place = before-month (before-day c) in
-    omega (arith, read-bound _ 4 _ (length-take-le 4 (text-at (before-year place)) (omega arith)) (year-read place))
+date-of-numbers-requires c κs = omega (arith, year-small (before-month (before-day c)))
 
 returns-6 : tie.Need-returns-6
 returns-6 c =
@@ -141,7 +167,7 @@ read-date-spec =
     tie.close
     (tie.spec
     returns
-    is-blank-requires
+    padding-requires
     returns-2
     sub-read-digits
     part-read-digits-start
@@ -164,5 +190,8 @@ read-date-spec =
     enum-known-day
     enum-told-3
     returns-5
+    cast-date-of-numbers
+    cast-date-of-numbers-2
+    cast-date-of-numbers-3
     date-of-numbers-requires
     returns-6)

@@ -1,7 +1,7 @@
 -- `numeral::next_value` meets its contract: ten times a number below 10 ^ 18, and a digit more, fits a u64. Assumes nothing.
 use borrow.Author.Needs.{needs}
 use borrow.Author.Tests.{lt-ltb, le-ltb}
-use Rattle.numeral.specs.ReadingLaws.{digit-range}
+use Rattle.octets.specs.TextLaws.{digit-range}
 use Rattle.numeral.specs.Scan.{nextValue}
 use Rattle.numeral.proofs.next_value.Statement.{statement}
 use Rattle.numeral.proofs.next_value.Tie as tie

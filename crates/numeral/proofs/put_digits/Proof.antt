@@ -7,7 +7,7 @@ use native.Mathlib.Omega.{arith}
 use lib.ListN.{length, length-set}
 use Rattle.octets.specs.Store.{put}
 use Rattle.octets.specs.StoreLaws.{put-none}
-use Rattle.numeral.specs.Writing.{lastDigits}
+use Rattle.octets.specs.Text.{lastDigits}
 use Rattle.numeral.specs.WritingLaws.{put-digit, rest-digit}
 use Rattle.numeral.proofs.put_digits.Statement.{statement}
 use Rattle.numeral.proofs.put_digits.Tie as tie

@@ -6,9 +6,10 @@ use native.Mathlib.Nat.{pow-succ'}
 use native.Mathlib.Numerals.{add-one}
 use native.Mathlib.Omega.{arith}
 use lib.ListN.{length}
+use Rattle.octets.specs.Text.{decimal}
+use Rattle.octets.specs.DigitLaws.{decimal-fits, decimal-over, decimal-some}
 use Rattle.numeral.specs.Format.{maxDigits}
-use Rattle.numeral.specs.Writing.{decimal}
-use Rattle.numeral.specs.DigitLaws.{decimal-some, decimal-fits, decimal-over, decimal-short, decimal-long}
+use Rattle.numeral.specs.DigitLaws.{decimal-short, decimal-long}
 use Rattle.numeral.proofs.whole_length.Statement.{statement}
 use Rattle.numeral.proofs.whole_length.Tie as tie
 
