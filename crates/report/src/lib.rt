@@ -1,20 +1,23 @@
 // What the program `inspect` prints of a table and its memo file: a line for the check, the shape, each field, each record and each value; and of an
 // index, a line for the audit and one for the match. The library decides; here its answers are only spelled out.
+//
+// The table is checked once, and then read by the calls for a table that was checked.
 ghost use Prim.Native.Nat.{_≤_};
+ghost use mathlib.Core.Path.{_≡_};
 ghost use lib.ListN.{length};
+ghost use Rattle.table.specs.Table.{tableRefusal, recordCount, fieldCount};
+ghost use Rattle.field.specs.Field.{PlaceGood, Within};
 use calendar::Date;
 use calendar::DateAnswer;
 use cell::Logical;
 use cell::TextPlace;
 use field::FieldEntry;
-use field::Placed;
+use field::Place;
 use lines::print;
 use numeral::Number;
 use table::Checked;
-
-const KEPT: u32 = 0x20;
-
-const DELETED: u32 = 0x2A;
+use table::DELETED;
+use table::KEPT;
 
 const BAD_DELETION_BYTE: u32 = 15;
 
@@ -104,16 +107,20 @@ fn print_date(date: Date) {
     print_two_digits(date.day);
 }
 
-fn number_value(table: &[u8], i: u32, j: u32) {
-    match cell::read_number(table, i, j) {
+fn number_value(table: &[u8], place: Place)
+    requires { ⌜ Within (now table) place ⌝ }
+{
+    match cell::number_at(table, place) {
         Number::Value(value) => print_value(value),
         Number::Empty => print(b" empty"),
         Number::Refused(number) => print_number(number),
     }
 }
 
-fn date_value(table: &[u8], i: u32, j: u32) {
-    match cell::read_date(table, i, j) {
+fn date_value(table: &[u8], place: Place)
+    requires { ⌜ Within (now table) place ⌝ }
+{
+    match cell::date_at(table, place) {
         DateAnswer::Value(date) => print_date(date),
         DateAnswer::Empty => print(b" empty"),
         DateAnswer::Refused(number) => print_number(number),
@@ -128,78 +135,95 @@ fn print_logical(value: bool) {
     }
 }
 
-fn logical_value(table: &[u8], i: u32, j: u32) {
-    match cell::read_logical(table, i, j) {
+fn logical_value(table: &[u8], place: Place)
+    requires { ⌜ Within (now table) place ⌝ }
+{
+    match cell::logical_at(table, place) {
         Logical::Value(value) => print_logical(value),
         Logical::Empty => print(b" empty"),
         Logical::Refused(number) => print_number(number),
     }
 }
 
-fn text_value<'a>(table: &'a [u8], memo: &'a [u8], i: u32, j: u32) {
-    match cell::text_place(table, memo, i, j) {
+fn text_value<'a>(table: &'a [u8], memo: &'a [u8], place: Place)
+    requires { ⌜ Within (now table) place ⌝ }
+{
+    let text = cell::text_at(table, memo, place);
+    match text {
         TextPlace::Empty => print(b" empty"),
         TextPlace::Refused(number) => print_number(number),
         TextPlace::Table { .. } | TextPlace::Memo { .. } => {
-            print_quoted(cell::text(table, memo, i, j))
+            print_quoted(cell::text_part(table, memo, text))
         }
     }
 }
 
-// The line of field j of record i, read by the call for the field's type.
-fn value_line<'a>(table: &'a [u8], memo: &'a [u8], i: u32, j: u32) {
+// The value at a place, read by the call for the field's type.
+fn print_cell<'a>(table: &'a [u8], memo: &'a [u8], place: Place)
+    requires { ⌜ Within (now table) place ⌝ }
+{
+    let kind = place.form.kind;
+    match kind {
+        table::TYPE_N => number_value(table, place),
+        table::TYPE_D => date_value(table, place),
+        table::TYPE_L => logical_value(table, place),
+        _ => text_value(table, memo, place),
+    }
+}
+
+// The line of field j of record i.
+fn value_line<'a>(table: &'a [u8], memo: &'a [u8], i: u32, j: u32)
+    requires { ⌜ PlaceGood (now table) i j ⌝ }
+{
     print(b"value");
     print_number(i);
     print_number(j);
-    let answer = field::field_entry(table, j);
-    let kind = answer.entry.kind;
-    match kind {
-        b'N' => number_value(table, i, j),
-        b'D' => date_value(table, i, j),
-        b'L' => logical_value(table, i, j),
-        _ => text_value(table, memo, i, j),
-    }
+    print_cell(table, memo, field::place_at(table, i, j));
     print(b"\n");
 }
 
-fn value_lines<'a>(table: &'a [u8], memo: &'a [u8], i: u32, fields: u32) {
+// The lines of the fields of record i, up to the last.
+fn value_lines<'a>(table: &'a [u8], memo: &'a [u8], i: u32, last: u32)
+    requires { ⌜ PlaceGood (now table) i last ⌝ }
+{
     let mut j = 0;
-    while j < fields {
+    while j < last {
         j += 1;
         value_line(table, memo, i, j);
     }
 }
 
 // The lines of record i, which has this deletion byte.
-fn marked_record<'a>(table: &'a [u8], memo: &'a [u8], i: u32, fields: u32, mark: u32) {
+fn marked_record<'a>(table: &'a [u8], memo: &'a [u8], i: u32, last: u32, mark: u32)
+    requires { ⌜ PlaceGood (now table) i last ⌝ }
+{
     if mark == KEPT {
         print(b" live\n");
-        value_lines(table, memo, i, fields);
+        value_lines(table, memo, i, last);
         return;
     }
     if mark == DELETED {
         print(b" deleted\n");
-        value_lines(table, memo, i, fields);
+        value_lines(table, memo, i, last);
         return;
     }
     print_number(BAD_DELETION_BYTE);
     print(b"\n");
 }
 
-// The deletion byte comes with the place of field 1, which every table has.
-fn record_report<'a>(table: &'a [u8], memo: &'a [u8], i: u32, fields: u32) {
+// The deletion byte comes with a field's place.
+fn record_report<'a>(table: &'a [u8], memo: &'a [u8], i: u32, last: u32)
+    requires { ⌜ PlaceGood (now table) i last ⌝ }
+{
     print(b"record");
     print_number(i);
-    match field::field_place(table, i, 1) {
-        Placed::At(place) => marked_record(table, memo, i, fields, place.mark),
-        Placed::Refused(number) => {
-            print_number(number);
-            print(b"\n");
-        }
-    }
+    let place = field::place_at(table, i, last);
+    marked_record(table, memo, i, last, place.mark);
 }
 
-fn record_lines<'a>(table: &'a [u8], memo: &'a [u8], records: u32, fields: u32) {
+fn record_lines<'a>(table: &'a [u8], memo: &'a [u8], records: u32, fields: u32)
+    requires { ⌜ (tableRefusal (now table) ≡ 0) × (records ≡ recordCount (now table)) × (fields ≡ fieldCount (now table)) ⌝ }
+{
     let mut i = 0;
     while i < records {
         i += 1;
@@ -223,20 +247,19 @@ fn print_entry(entry: FieldEntry) {
     print_number(entry.decimals as u32);
 }
 
-// A good table refuses none of its fields; if it did, the number would be shown.
-fn field_line(table: &[u8], j: u32) {
+// The line of field j, from 1.
+fn field_line(table: &[u8], j: u32)
+    requires { ⌜ (tableRefusal (now table) ≡ 0) × (1 ≤ j) × (j ≤ fieldCount (now table)) ⌝ }
+{
     print(b"field");
     print_number(j);
-    let answer = field::field_entry(table, j);
-    if answer.refusal == 0 {
-        print_entry(answer.entry);
-    } else {
-        print_number(answer.refusal);
-    }
+    print_entry(field::entry_at(table, (j - 1) as usize));
     print(b"\n");
 }
 
-fn field_lines(table: &[u8], fields: u32) {
+fn field_lines(table: &[u8], fields: u32)
+    requires { ⌜ (tableRefusal (now table) ≡ 0) × (fields ≡ fieldCount (now table)) ⌝ }
+{
     let mut j = 0;
     while j < fields {
         j += 1;
