@@ -11,25 +11,25 @@ text-at-requires c κs = search needs
 enum-told : tie.Need-enum-told
 enum-told c = search needs
 
-slice-aggregate-print : tie.Need-slice-aggregate-print
-slice-aggregate-print c = search needs
+slice-aggregate-put : tie.Need-slice-aggregate-put
+slice-aggregate-put c = search needs
 
-print-requires : tie.Need-print-requires
-print-requires c κs = search needs
+put-requires : tie.Need-put-requires
+put-requires c κs = search needs
 
 enum-known-text : tie.Need-enum-known-text
 enum-known-text c = search needs
 
-print-number-requires : tie.Need-print-number-requires
-print-number-requires c κs = search needs
+put-number-requires : tie.Need-put-number-requires
+put-number-requires c κs = search needs
 
 text-part-requires : tie.Need-text-part-requires
 text-part-requires c κs =
-    let at = c .before in
+    let at = c .before .before in
     rw (at .text-at .ensures) (at-within _ _ _ _ _ (at .before .before .before .pre .inside))
 
-print-quoted-requires : tie.Need-print-quoted-requires
-print-quoted-requires c κs = search needs
+put-quoted-requires : tie.Need-put-quoted-requires
+put-quoted-requires c κs = search needs
 
 returns : tie.Need-returns
 returns c = search needs
@@ -46,12 +46,12 @@ text-value-spec =
     (tie.spec
     text-at-requires
     enum-told
-    slice-aggregate-print
-    print-requires
+    slice-aggregate-put
+    put-requires
     enum-known-text
-    print-number-requires
+    put-number-requires
     text-part-requires
-    print-quoted-requires
+    put-quoted-requires
     returns
     returns-2
     returns-3)
