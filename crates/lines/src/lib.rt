@@ -18,7 +18,11 @@ pub fn print_count(n: usize) {
 // A line is put together here, so that it is printed at once.
 pub type Line = [u8; 1024];
 
-// How many of a line's bytes are there to be kept: where they fill it, it is printed, and none are.
+pub fn empty_line() -> Line {
+    [0u8; 1024]
+}
+
+// Makes room in a line of n bytes: a full one is printed, and has none then. Answers how many it has.
 fn with_room(line: &Line, n: usize) -> usize
     ensures { λ r. ⌜ r < 1024 ⌝ }
 {

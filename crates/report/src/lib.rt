@@ -31,7 +31,7 @@ fn put_number(line: &mut Line, n: usize, number: u32) -> usize {
 
 // A line of a word and a number.
 fn answer_line(word: &[u8], number: u32) {
-    let mut line = [0u8; 1024];
+    let mut line = lines::empty_line();
     let end = put(&mut line, 0, word);
     let end = put_number(&mut line, end, number);
     print_line(&mut line, end);
@@ -180,7 +180,7 @@ fn put_cell<'a>(line: &mut Line, n: usize, table: &'a [u8], memo: &'a [u8], plac
 fn value_line<'a>(table: &'a [u8], memo: &'a [u8], i: u32, j: u32)
     requires { ⌜ PlaceGood (now table) i j ⌝ }
 {
-    let mut line = [0u8; 1024];
+    let mut line = lines::empty_line();
     let end = put(&mut line, 0, b"value");
     let end = put_number(&mut line, end, i);
     let end = put_number(&mut line, end, j);
@@ -212,18 +212,18 @@ fn put_mark(line: &mut Line, n: usize, mark: u32) -> usize {
 
 // The line of record i with this deletion byte.
 fn record_line(i: u32, mark: u32) {
-    let mut line = [0u8; 1024];
+    let mut line = lines::empty_line();
     let end = put(&mut line, 0, b"record");
     let end = put_number(&mut line, end, i);
     let end = put_mark(&mut line, end, mark);
     print_line(&mut line, end);
 }
 
-// The lines of record i and of its fields up to the last; a record with a bad deletion byte has none. The deletion byte comes with a field's place.
+// The lines of record i, and of its fields up to the last unless its deletion byte is bad. The byte comes with the place of field 1, which every table has.
 fn record_report<'a>(table: &'a [u8], memo: &'a [u8], i: u32, last: u32)
     requires { ⌜ PlaceGood (now table) i last ⌝ }
 {
-    let place = field::place_at(table, i, last);
+    let place = field::place_at(table, i, 1);
     let mark = place.mark;
     record_line(i, mark);
     if (mark == KEPT) | (mark == DELETED) {
@@ -261,7 +261,7 @@ fn put_entry(line: &mut Line, n: usize, entry: FieldEntry) -> usize {
 fn field_line(table: &[u8], j: u32)
     requires { ⌜ (tableRefusal (now table) ≡ 0) × (1 ≤ j) × (j ≤ fieldCount (now table)) ⌝ }
 {
-    let mut line = [0u8; 1024];
+    let mut line = lines::empty_line();
     let end = put(&mut line, 0, b"field");
     let end = put_number(&mut line, end, j);
     let entry = field::entry_at(table, (j - 1) as usize);
@@ -280,7 +280,7 @@ fn field_lines(table: &[u8], fields: u32)
 }
 
 fn shape_line(records: u32, fields: u32, record_length: usize) {
-    let mut line = [0u8; 1024];
+    let mut line = lines::empty_line();
     let end = put(&mut line, 0, b"shape");
     let end = put_number(&mut line, end, records);
     let end = put_number(&mut line, end, fields);

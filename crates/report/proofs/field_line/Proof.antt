@@ -7,6 +7,9 @@ use borrow.Author.Needs.{needs}
 use Rattle.report.proofs.field_line.Statement.{statement}
 use Rattle.report.proofs.field_line.Tie as tie
 
+empty-line-requires : tie.Need-empty-line-requires
+empty-line-requires c κs = search needs
+
 slice-aggregate-put : tie.Need-slice-aggregate-put
 slice-aggregate-put c = search needs
 
@@ -24,7 +27,7 @@ cast-entry-at c = search needs
 
 entry-at-requires : tie.Need-entry-at-requires
 entry-at-requires c κs =
-    let pre = c .before .before .before .before .before .before .pre in
+    let pre = c .before .before .before .before .before .before .before .pre in
     descriptor-inside _ (layout _ (pre .0)) _ (omega arith)
 
 put-entry-requires : tie.Need-put-entry-requires
@@ -40,6 +43,7 @@ pub field-line-spec : {M : Type 1} → statement M
 field-line-spec =
     tie.close
     (tie.spec
+    empty-line-requires
     slice-aggregate-put
     put-requires
     put-number-requires
