@@ -46,7 +46,7 @@ text-alone b m n i field c = rw c
 -- a memo's number in a file too short for a header, as the empty one is, is 22
 pub text-no-header : (b m : List ℕ) (i field k : ℕ) → cellRefusal Texts b i field ≡ 0 → fieldType b (field - 1) ≡ typeM
     → 1 ≤ k → k < 10 ^ 10 → fieldBytes b i field ≡ numberText 10 k → length m < memoHeaderBytes → textCell b m i field ≡ text.Refused 22
-unfolding textCell textAt memoText readText numberedText memoHeaderGood memoPart
+unfolding textCell textAt fieldBytes memoText readText numberedText memoHeaderGood memoPart
 text-no-header b m i field k none type from to number short =
     let said = number-exactly (fieldBytes b i field) k .1 (from, to, number) in
     rw (none, type, said, lt-leb memoHeaderBytes (length m) short)
@@ -135,7 +135,7 @@ module _ (b : List ℕ) (i field n : ℕ) where
       (λ z. let q : logical.Refused (cellRefusal Logicals b i field) ≡ logical.Refused n = rw z at e in check-numbered Logicals b i field n z (cc))
 
   pub place-refusal : (m : List ℕ) → textCell b m i field ≡ text.Refused n → Numbered n
-  unfolding textCell textAt
+  unfolding textCell textAt fieldBytes
   place-refusal m e =
       either (eqb (cellRefusal Texts b i field) 0)
       (λ z. either (eqb (fieldType b (field - 1)) typeC)

@@ -1,7 +1,8 @@
 -- Rules: document 01, "Field text": reading one field of one record. Refusals 1 to 13 and 15, then what concerns the text or the memo.
-use Prim.Native.Nat.{ℕ, _+_, _-_}
+use Prim.Native.Nat.{ℕ, _+_, _-_, _≤_}
 use mathlib.Core.List.{List, [], _∷_, _++_}
 use mathlib.Core.Bool.{Bool, true, false, cond, _||_}
+use lib.ListN.{length}
 use lib.Dec.{eqb}
 use Rattle.octets.specs.Bytes.{byteAt}
 use Rattle.octets.specs.Store.{window}
@@ -105,17 +106,21 @@ memoPart memo.Empty = text.Empty
 memoPart (memo.Refused n) = text.Refused n
 
 -- "C: all its bytes, blank or not"; "for an M field that part of the memo file itself"
-unfoldable pub textAt : List ℕ → List ℕ → ℕ → ℕ → TextPlace
-textAt b m i field =
-    cond (eqb (fieldType b (field - 1)) typeC)
-    (text.Table (fieldStart b i field) (fieldLength b (field - 1)))
-    (memoPart (memoText (fieldBytes b i field) m))
+unfoldable pub textAt : List ℕ → List ℕ → ℕ → ℕ → ℕ → TextPlace
+textAt b m type start len = cond (eqb type typeC) (text.Table start len) (memoPart (memoText (window b start len) m))
 
 -- "a call beside it, by value, answers the number, "empty" or "text"": the text's place
 unfoldable pub textCell : List ℕ → List ℕ → ℕ → ℕ → TextPlace
 textCell b m i field =
     let refusal = cellRefusal Texts b i field in
-    cond (eqb refusal 0) (textAt b m i field) (text.Refused refusal)
+    cond (eqb refusal 0) (textAt b m (fieldType b (field - 1)) (fieldStart b i field) (fieldLength b (field - 1))) (text.Refused refusal)
+
+-- a text's place lies in its file
+unfoldable pub TextWithin : List ℕ → List ℕ → TextPlace → Type 0
+TextWithin b m (text.Table start len) = start + len ≤ length b
+TextWithin b m (text.Memo start len) = start + len ≤ length m
+TextWithin b m text.Empty = Unit {0}
+TextWithin b m (text.Refused n) = Unit {0}
 
 -- what the text call hands back: "that part of the table itself", "that part of the memo file itself"; for a refusal "and for an empty field ...
 -- a part of no bytes"

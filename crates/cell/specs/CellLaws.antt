@@ -11,11 +11,10 @@ use Rattle.basis.specs.Tests.{either}
 use Rattle.basis.specs.Lists.{All, all-append}
 use Rattle.octets.specs.Bytes.{byteAt}
 use Rattle.octets.specs.Store.{window}
-use Rattle.table.specs.Table.{typeC, typeL, fieldType, fieldLength, fieldDecimals, fieldCount, recordCount, deletionByte, firstRefusal, tableChecks}
-use Rattle.table.specs.TableLaws.{layout, table-numbered, first-after, first-before, first-both, first-none}
-use Rattle.table.specs.FormLaws.{field-form, form-logical}
-use Rattle.field.specs.Field.{placeAt, placeOf, placeRefusal, formOf, numberGood}
-use Rattle.field.specs.FieldLaws.{placed-at, placed-refused, place-good, place-inside}
+use Rattle.table.specs.Table.{typeC, fieldType, fieldLength, fieldDecimals, fieldCount, recordCount, deletionByte, firstRefusal, tableChecks}
+use Rattle.table.specs.TableLaws.{table-numbered, first-after, first-before, first-both, first-none}
+use Rattle.field.specs.Field.{placeAt, placeOf, placeRefusal, Within, formOf, numberGood}
+use Rattle.field.specs.FieldLaws.{placed-at, placed-refused, place-good, place-within}
 use Rattle.field.specs.declared.Place.{Place}
 use Rattle.field.specs.declared.Placed.the-variants.{At, Refused}
 use Rattle.calendar.specs.DateText.{dateOf}
@@ -24,10 +23,9 @@ use Rattle.numeral.specs.Reading.{readNumber}
 use Rattle.numeral.specs.declared.Number.the-variants as number
 use Rattle.memo.specs.Memo.{memoText}
 use Rattle.memo.specs.MemoLaws.{text-inside}
-use Rattle.memo.specs.TestLaws.{first-arm}
 use Rattle.memo.specs.declared.MemoPlace.{MemoPlace}
 use Rattle.memo.specs.declared.MemoPlace.the-variants as memo
-use Rattle.cell.specs.Cell.{readsType, markGood, cellRefusal, cellPlace, fieldStart, fieldBytes, numberCell, dateCell, logicalOf, logicalCell, memoPart, textAt, textCell}
+use Rattle.cell.specs.Cell.{readsType, markGood, cellRefusal, cellPlace, fieldStart, fieldBytes, numberCell, dateCell, logicalOf, logicalCell, memoPart, textAt, textCell, TextWithin}
 use Rattle.cell.specs.declared.Reads.{Reads}
 use Rattle.cell.specs.declared.Reads.the-variants.{Numbers, Dates, Logicals, Texts}
 use Rattle.cell.specs.declared.Logical.the-variants as logical
@@ -104,7 +102,7 @@ pub record Readable (reads : Reads) (b : List ℕ) (i field : ℕ) (p : Place) :
   pub type : p .form .kind ≡ fieldType b (field - 1)
   pub len : p .form .length ≡ fieldLength b (field - 1)
   pub decimals : p .form .decimals ≡ fieldDecimals b (field - 1)
-  pub inside : p .start + p .form .length ≤ length b
+  pub within : Within b p
 
 module _ (reads : Reads) (b : List ℕ) (i field : ℕ) where
   pub cell-at : (p : Place) → cellPlace reads b i field ≡ At p → Readable reads b i field p
@@ -121,7 +119,7 @@ module _ (reads : Reads) (b : List ℕ) (i field : ℕ) where
         type = ap (λ (x : Place). x .form .kind) same;
         len = ap (λ (x : Place). x .form .length) same;
         decimals = ap (λ (x : Place). x .form .decimals) same;
-        inside = rw same (place-inside b i field (cell-both reads b i field none .0) .field-inside);
+        within = place-within b i field p (place-good b i field (cell-both reads b i field none .0)) same;
       })
       (λ z. let q : Refused (cellRefusal reads b i field) ≡ At p = rw z at e in let no : _≡_ {A = ℕ} 0 1 = cc in absurd (omega arith))
 
@@ -145,18 +143,6 @@ module _ (reads : Reads) (b : List ℕ) (i field : ℕ) where
       let parts = cell-both reads b i field e in
       let held = first-none (checks reads b i field) (lit< tt, (lit< tt, tt)) (parts .1) in
       record { place = parts .0; type = held .0; mark = held .1 .0 }
-
--- an L field has its one byte
-pub logical-inside : (b : List ℕ) (i field : ℕ) (p : Place) → cellPlace Logicals b i field ≡ At p → p .start < length b
-unfolding readsType
-logical-inside b i field p e =
-    let at = cell-at Logicals b i field p e in
-    let good = cell-good Logicals b i field (at .none) in
-    let place = place-good b i field (good .place) in
-    let type = eqb-true (fieldType b (field - 1)) typeL (good .type) in
-    let form = field-form b (layout b (place .table)) (field - 1) (omega arith) in
-    let one = form-logical (fieldLength b (field - 1)) (fieldDecimals b (field - 1)) (rw type at form) in
-    omega (arith, at .inside, at .len, one)
 
 -- a part by its start and its end
 pub part-window : (b : List ℕ) (start len : ℕ) → take (start + len - start) (drop start b) ≡ window b start len
@@ -193,61 +179,31 @@ module _ (b : List ℕ) (i field : ℕ) where
     unfolding logicalCell
     logical-read e = let good = cell-at Logicals b i field p e in rw (good .none, good .start)
 
-    pub text-table : (m : List ℕ) → cellPlace Texts b i field ≡ At p → p .form .kind ≡ typeC → textCell b m i field ≡ text.Table (p .start) (p .form .length)
-    unfolding textCell textAt
-    text-table m e c = let good = cell-at Texts b i field p e in rw (good .none, ← good .type, c, good .start, good .len)
-
-    pub text-memo : (m : List ℕ) → cellPlace Texts b i field ≡ At p → (p .form .kind ≡ typeC → ⊥)
-        → textCell b m i field ≡ memoPart (memoText (window b (p .start) (p .form .length)) m)
-    unfolding textCell textAt fieldBytes
-    text-memo m e c =
-        let good = cell-at Texts b i field p e in
-        rw (good .none, ← good .type, ne-eqb (p .form .kind) typeC c, good .start, good .len)
+    pub text-read : (m : List ℕ) → cellPlace Texts b i field ≡ At p → textCell b m i field ≡ textAt b m (p .form .kind) (p .start) (p .form .length)
+    unfolding textCell
+    text-read m e = let good = cell-at Texts b i field p e in rw (good .none, good .type, good .start, good .len)
 
 -- ---- every part handed out lies in its file
 
--- a value that the first arm cannot give is the second's
-second-arm : {A : Type 0} {x y z : A} (b : Bool) → (x ≡ z → ⊥) → cond b x y ≡ z → (b ≡ false) × (y ≡ z)
-second-arm true other e = absurd (other e)
-second-arm false other e = (refl, e)
+module _ (b m : List ℕ) where
+  memo-within : (s : List ℕ) (q : MemoPlace) → memoText s m ≡ q → TextWithin b m (memoPart q)
+  unfolding TextWithin memoPart
+  memo-within s (memo.Text a l) e = text-inside m a l s e .1
+  memo-within s memo.Empty e = tt
+  memo-within s (memo.Refused n) e = tt
 
--- an answer is one of four
-refused-table : (n a l : ℕ) → text.Refused n ≡ text.Table a l → ⊥
-refused-table n a l e = let z : _≡_ {A = ℕ} 0 1 = cc in omega arith
+  pub at-within : (type start len : ℕ) → start + len ≤ length b → TextWithin b m (textAt b m type start len)
+  unfolding TextWithin textAt
+  at-within type start len inside =
+      either (eqb type typeC)
+      (λ c. rw c inside)
+      (λ c. rw c (memo-within (window b start len) _ refl))
 
-refused-memo : (n a l : ℕ) → text.Refused n ≡ text.Memo a l → ⊥
-refused-memo n a l e = let z : _≡_ {A = ℕ} 0 1 = cc in omega arith
-
-table-memo : (c d a l : ℕ) → text.Table c d ≡ text.Memo a l → ⊥
-table-memo c d a l e = let z : _≡_ {A = ℕ} 0 1 = cc in omega arith
-
--- a memo's part is none of the table
-memo-table : (q : MemoPlace) (a l : ℕ) → memoPart q ≡ text.Table a l → ⊥
-unfolding memoPart
-memo-table (memo.Text c d) a l e = let z : _≡_ {A = ℕ} 0 1 = cc in omega arith
-memo-table memo.Empty a l e = let z : _≡_ {A = ℕ} 0 1 = cc in omega arith
-memo-table (memo.Refused n) a l e = let z : _≡_ {A = ℕ} 0 1 = cc in omega arith
-
-memo-text : (q : MemoPlace) (a l : ℕ) → memoPart q ≡ text.Memo a l → q ≡ memo.Text a l
-unfolding memoPart
-memo-text (memo.Text c d) a l e = cc
-memo-text memo.Empty a l e = let z : _≡_ {A = ℕ} 0 1 = cc in absurd (omega arith)
-memo-text (memo.Refused n) a l e = let z : _≡_ {A = ℕ} 0 1 = cc in absurd (omega arith)
-
-module _ (b m : List ℕ) (i field a l : ℕ) where
-  pub table-inside : textCell b m i field ≡ text.Table a l → a + l ≤ length b
-  unfolding textCell textAt fieldStart
-  table-inside e =
-      let read = first-arm (eqb (cellRefusal Texts b i field) 0) (refused-table (cellRefusal Texts b i field) a l) e in
-      let type = first-arm (eqb (fieldType b (field - 1)) typeC) (memo-table (memoText (fieldBytes b i field) m) a l) (read .1) in
-      let good = cell-good Texts b i field (eqb-true _ _ (read .0)) in
-      let start : fieldStart b i field ≡ a = cc in
-      let len : fieldLength b (field - 1) ≡ l = cc in
-      omega (arith, start, len, place-inside b i field (good .place) .field-inside)
-
-  pub memo-inside : textCell b m i field ≡ text.Memo a l → a + l ≤ length m
-  unfolding textCell textAt
-  memo-inside e =
-      let read = first-arm (eqb (cellRefusal Texts b i field) 0) (refused-memo (cellRefusal Texts b i field) a l) e in
-      let type = second-arm (eqb (fieldType b (field - 1)) typeC) (table-memo (fieldStart b i field) (fieldLength b (field - 1)) a l) (read .1) in
-      text-inside m a l (fieldBytes b i field) (memo-text (memoText (fieldBytes b i field) m) a l (type .1)) .1
+  pub text-within : (i field : ℕ) → TextWithin b m (textCell b m i field)
+  unfolding TextWithin textCell fieldStart placeAt formOf
+  text-within i field =
+      either (eqb (cellRefusal Texts b i field) 0)
+      (λ z.
+      let place = place-good b i field (cell-both Texts b i field (eqb-true _ _ z) .0) in
+      rw z (at-within (fieldType b (field - 1)) (fieldStart b i field) (fieldLength b (field - 1)) (place-within b i field _ place refl .inside)))
+      (λ z. rw z tt)

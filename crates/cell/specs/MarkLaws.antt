@@ -127,18 +127,18 @@ module _ (b : List ℕ) (i mark : ℕ) (good : tableRefusal b ≡ 0) (from : 1 �
         (λ some. rw some))
 
     pub text-alike : (m : List ℕ) → textCell (withMark b i mark) m i field ≡ textCell b m i field
-    unfolding textCell textAt
+    unfolding textCell textAt fieldBytes
     text-alike m =
         let c = withMark b i mark in
         let fits = layout b good .header in
         rw (refusal-same Texts) (either (eqb (cellRefusal Texts b i field) 0)
         (λ none. let l = inside Texts none in
-        rw (none, type-same b c fits same-header (field - 1) l, width-same b c fits same-header (field - 1) l, place-same Texts none, bytes-same Texts none))
+        rw (none, bytes-same Texts none, type-same b c fits same-header (field - 1) l, width-same b c fits same-header (field - 1) l, place-same Texts none))
         (λ some. rw some))
 
     -- and so is the part handed back
     pub part-alike : (m : List ℕ) → textPart (withMark b i mark) m (textCell (withMark b i mark) m i field) ≡ textPart b m (textCell b m i field)
-    unfolding textCell textAt textPart withMark
+    unfolding textCell textAt fieldBytes textPart withMark
     part-alike m =
         rw (text-alike m) (either (eqb (cellRefusal Texts b i field) 0)
         (λ none. either (eqb (fieldType b (field - 1)) typeC)

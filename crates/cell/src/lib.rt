@@ -1,27 +1,27 @@
 // Reading one field of one record. Document 01, "Field text": refusals 1 to 13 and 15, then what concerns the text or the memo.
+//
+// A call that is given the record's and the field's number makes all checks; one that is given a place is for a table that was checked.
 use calendar::DateAnswer;
+use field::Place;
 use field::Placed;
 use memo::MemoPlace;
 use numeral::Number;
+use table::DELETED;
+use table::KEPT;
+use table::TYPE_C;
+use table::TYPE_D;
+use table::TYPE_L;
+use table::TYPE_M;
+use table::TYPE_N;
 ghost use Prim.Native.Nat.{_+_, _≤_};
 ghost use mathlib.Core.Path.{_≡_};
 ghost use lib.ListN.{length};
+ghost use Rattle.octets.specs.Bytes.{byteAt};
 ghost use Rattle.octets.specs.Store.{window};
-ghost use Rattle.cell.specs.Cell.{readsType, markGood, cellPlace, numberCell, dateCell, logicalOf, logicalCell, memoPart, textCell, textPart};
-
-const KEPT: u32 = 0x20;
-
-const DELETED: u32 = 0x2A;
-
-const TYPE_C: u32 = 0x43;
-
-const TYPE_N: u32 = 0x4E;
-
-const TYPE_D: u32 = 0x44;
-
-const TYPE_L: u32 = 0x4C;
-
-const TYPE_M: u32 = 0x4D;
+ghost use Rattle.calendar.specs.DateText.{dateOf};
+ghost use Rattle.numeral.specs.Reading.{readNumber};
+ghost use Rattle.field.specs.Field.{Within};
+ghost use Rattle.cell.specs.Cell.{readsType, markGood, cellPlace, numberCell, dateCell, logicalOf, logicalCell, memoPart, textAt, textCell, TextWithin, textPart};
 
 const LETTER_T: u32 = 0x54;
 
@@ -104,18 +104,32 @@ fn cell_place(table: &[u8], reads: Reads, i: u32, field: u32) -> Placed
     }
 }
 
-// The value of an N field, in units of 10 to the -d.
+// The value of the N field at a place, in units of 10 to the -d.
+pub fn number_at(table: &[u8], place: Place) -> Number
+    requires { ⌜ Within (now table) place ⌝ }
+    ensures { λ r. ⌜ r ≡ readNumber (window (now (table .entry)) (place .start) (place .form .length)) (place .form .decimals) ⌝ }
+{
+    let text = part(table, place.start, place.form.length);
+    numeral::read_number(text, place.form.decimals)
+}
+
+// The value of an N field.
 pub fn read_number(table: &[u8], i: u32, field: u32) -> Number
     ensures { λ r. ⌜ r ≡ numberCell (now (table .entry)) i field ⌝ }
 {
     let placed = cell_place(table, Reads::Numbers, i, field);
     match placed {
         Placed::Refused(number) => Number::Refused(number),
-        Placed::At(place) => {
-            let text = part(table, place.start, place.form.length);
-            numeral::read_number(text, place.form.decimals)
-        }
+        Placed::At(place) => number_at(table, place),
     }
+}
+
+// The date of the D field at a place.
+pub fn date_at(table: &[u8], place: Place) -> DateAnswer
+    requires { ⌜ Within (now table) place ⌝ }
+    ensures { λ r. ⌜ r ≡ dateOf (window (now (table .entry)) (place .start) (place .form .length)) ⌝ }
+{
+    calendar::read_date(part(table, place.start, place.form.length))
 }
 
 // The date of a D field.
@@ -125,7 +139,7 @@ pub fn read_date(table: &[u8], i: u32, field: u32) -> DateAnswer
     let placed = cell_place(table, Reads::Dates, i, field);
     match placed {
         Placed::Refused(number) => DateAnswer::Refused(number),
-        Placed::At(place) => calendar::read_date(part(table, place.start, place.form.length)),
+        Placed::At(place) => date_at(table, place),
     }
 }
 
@@ -145,6 +159,14 @@ fn logical_of(c: u32) -> Logical
     Logical::Refused(BAD_LOGICAL_TEXT)
 }
 
+// The value of the L field at a place.
+pub fn logical_at(table: &[u8], place: Place) -> Logical
+    requires { ⌜ Within (now table) place ⌝ }
+    ensures { λ r. ⌜ r ≡ logicalOf (byteAt (now (table .entry)) (place .start)) ⌝ }
+{
+    logical_of(octets::byte(table, place.start))
+}
+
 // The value of an L field.
 pub fn read_logical(table: &[u8], i: u32, field: u32) -> Logical
     ensures { λ r. ⌜ r ≡ logicalCell (now (table .entry)) i field ⌝ }
@@ -152,7 +174,7 @@ pub fn read_logical(table: &[u8], i: u32, field: u32) -> Logical
     let placed = cell_place(table, Reads::Logicals, i, field);
     match placed {
         Placed::Refused(number) => Logical::Refused(number),
-        Placed::At(place) => logical_of(octets::byte(table, place.start)),
+        Placed::At(place) => logical_at(table, place),
     }
 }
 
@@ -166,33 +188,46 @@ fn memo_part(place: MemoPlace) -> TextPlace
     }
 }
 
-// Where the text of a C or an M field lies. A C field's call does not look at the memo file.
+// Where the text of the C or the M field at a place lies. For a C field the memo file is not looked at.
+pub fn text_at(table: &[u8], memo: &[u8], place: Place) -> TextPlace
+    requires { ⌜ Within (now table) place ⌝ }
+    ensures { λ r. ⌜ r ≡ textAt (now (table .entry)) (now (memo .entry)) (place .form .kind) (place .start) (place .form .length) ⌝ }
+{
+    let start = place.start;
+    let len = place.form.length;
+    if place.form.kind == TYPE_C {
+        return TextPlace::Table { start, len };
+    }
+    memo_part(memo::memo_place(part(table, start, len), memo))
+}
+
+// Where the text of a C or an M field lies.
 pub fn text_place(table: &[u8], memo: &[u8], i: u32, field: u32) -> TextPlace
     ensures { λ r. ⌜ r ≡ textCell (now (table .entry)) (now (memo .entry)) i field ⌝ }
 {
     let placed = cell_place(table, Reads::Texts, i, field);
     match placed {
         Placed::Refused(number) => TextPlace::Refused(number),
-        Placed::At(place) => {
-            let start = place.start;
-            let len = place.form.length;
-            if place.form.kind == TYPE_C {
-                return TextPlace::Table { start, len };
-            }
-            memo_part(memo::memo_place(part(table, start, len), memo))
-        }
+        Placed::At(place) => text_at(table, memo, place),
     }
 }
 
-// The text itself: a part of the table or of the memo file, of no bytes where there is none.
-pub fn text<'a>(table: &'a [u8], memo: &'a [u8], i: u32, field: u32) -> &'a [u8]
-    ensures { λ r. ⌜ now r ≡ textPart (now (table .entry)) (now (memo .entry)) (textCell (now (table .entry)) (now (memo .entry)) i field) ⌝ }
+// The text at its place: a part of the table or of the memo file, of no bytes where there is none.
+pub fn text_part<'a>(table: &'a [u8], memo: &'a [u8], place: TextPlace) -> &'a [u8]
+    requires { ⌜ TextWithin (now table) (now memo) place ⌝ }
+    ensures { λ r. ⌜ now r ≡ textPart (now (table .entry)) (now (memo .entry)) place ⌝ }
 {
-    let place = text_place(table, memo, i, field);
     match place {
         TextPlace::Table { start, len } => part(table, start, len),
         TextPlace::Memo { start, len } => part(memo, start, len),
         TextPlace::Empty => &table[..0],
         TextPlace::Refused(_) => &table[..0],
     }
+}
+
+// The text itself.
+pub fn text<'a>(table: &'a [u8], memo: &'a [u8], i: u32, field: u32) -> &'a [u8]
+    ensures { λ r. ⌜ now r ≡ textPart (now (table .entry)) (now (memo .entry)) (textCell (now (table .entry)) (now (memo .entry)) i field) ⌝ }
+{
+    text_part(table, memo, text_place(table, memo, i, field))
 }

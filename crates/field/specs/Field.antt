@@ -1,11 +1,12 @@
 -- Rules: document 01, one field by value: "a name, type, length and decimals", and where a field of a record lies. Refusals 1 to 10, 11 and 12.
-use Prim.Native.Nat.{ℕ, _+_, _-_}
+use Prim.Native.Nat.{ℕ, _+_, _-_, _≤_}
+use mathlib.Core.Path.{_≡_}
 use mathlib.Core.List.{List, [], _∷_, _++_}
 use mathlib.Core.Bool.{Bool, cond, _&&_}
-use lib.ListN.{replicate}
+use lib.ListN.{length, replicate}
 use lib.Dec.{eqb, leb}
 use Rattle.octets.specs.Store.{window}
-use Rattle.table.specs.Table.{descriptor, fieldType, fieldLength, fieldDecimals, fieldOffset, fieldCount, recordCount, recordStart, deletionByte, firstRefusal, tableChecks}
+use Rattle.table.specs.Table.{descriptor, fieldType, fieldLength, fieldDecimals, fieldOffset, fieldCount, recordCount, recordStart, deletionByte, firstRefusal, tableChecks, tableRefusal}
 use Rattle.field.specs.declared.FieldEntry.{FieldEntry}
 use Rattle.field.specs.declared.FieldAnswer.{FieldAnswer}
 use Rattle.field.specs.declared.FieldForm.{FieldForm}
@@ -67,6 +68,14 @@ formOf b j = record {
 unfoldable pub placeRefusal : List ℕ → ℕ → ℕ → ℕ
 placeRefusal b i field = firstRefusal (tableChecks b ++ ((numberGood i (recordCount b), 11) ∷ (numberGood field (fieldCount b), 12) ∷ []))
 
+-- what holds where none of these refuses: the table is good, and the record and the field are its own
+pub record PlaceGood (b : List ℕ) (i field : ℕ) : Type 0 where
+  pub table : tableRefusal b ≡ 0
+  pub record-from : 1 ≤ i
+  pub record-to : i ≤ recordCount b
+  pub field-from : 1 ≤ field
+  pub field-to : field ≤ fieldCount b
+
 -- the deletion byte of record i, and where its field lies in the table: "fields follow in order"
 unfoldable pub placeAt : List ℕ → ℕ → ℕ → Place
 placeAt b i field = record {
@@ -74,6 +83,11 @@ placeAt b i field = record {
   start = recordStart b i + fieldOffset b (field - 1);
   form = formOf b (field - 1);
 }
+
+-- a place in the table, of a byte at least
+pub record Within (b : List ℕ) (p : Place) : Type 0 where
+  pub some : 1 ≤ p .form .length
+  pub inside : p .start + p .form .length ≤ length b
 
 unfoldable pub placeOf : List ℕ → ℕ → ℕ → Placed
 placeOf b i field = cond (eqb (placeRefusal b i field) 0) (At (placeAt b i field)) (Refused (placeRefusal b i field))

@@ -11,12 +11,13 @@ use Rattle.basis.specs.Tests.{either, both}
 use Rattle.octets.specs.Bytes.{byteAt}
 use Rattle.octets.specs.Store.{window}
 use Rattle.octets.specs.StoreLaws.{window-cons}
-use Rattle.table.specs.Table.{fieldLength, fieldOffset, fieldCount, recordCount, recordStart, firstRefusal, tableChecks, tableRefusal, shapeOf, checkTable}
+use Rattle.table.specs.Table.{fieldCount, recordCount, recordStart, firstRefusal, tableChecks, tableRefusal, shapeOf, checkTable}
 use Rattle.table.specs.TableLaws.{layout, table-numbered, first-none, first-both, good-check, good-then}
+use Rattle.table.specs.FormLaws.{field-form, form-some}
 use Rattle.table.specs.RecordLaws.{field-inside, record-inside, record-positive}
 use Rattle.table.specs.declared.Shape.{Shape}
 use Rattle.table.specs.declared.Checked.the-variants.{Good}
-use Rattle.field.specs.Field.{numberGood, fieldRefusal, placeRefusal, placeAt, placeOf}
+use Rattle.field.specs.Field.{numberGood, fieldRefusal, placeRefusal, PlaceGood, formOf, placeAt, Within, placeOf}
 use Rattle.field.specs.declared.Place.{Place}
 use Rattle.field.specs.declared.Placed.the-variants.{At, Refused}
 
@@ -57,13 +58,6 @@ unfolding placeRefusal firstRefusal shapeOf
 place-checked b s i field e =
     good-then b s ((numberGood i (recordCount b), 11) ∷ (numberGood field (fieldCount b), 12) ∷ []) e ∙ rw (good-check b s e .1)
 
-pub record PlaceGood (b : List ℕ) (i field : ℕ) : Type 0 where
-  pub table : tableRefusal b ≡ 0
-  pub record-from : 1 ≤ i
-  pub record-to : i ≤ recordCount b
-  pub field-from : 1 ≤ field
-  pub field-to : field ≤ fieldCount b
-
 pub place-good : (b : List ℕ) (i field : ℕ) → placeRefusal b i field ≡ 0 → PlaceGood b i field
 unfolding placeRefusal tableRefusal
 place-good b i field e =
@@ -75,19 +69,20 @@ place-good b i field e =
     record { table = parts .0; record-from = records .0; record-to = records .1; field-from = fields .0; field-to = fields .1 }
 
 -- the record and the field lie in the table
-pub record PlaceInside (b : List ℕ) (i field : ℕ) : Type 0 where
-  pub mark-inside : recordStart b i < length b
-  pub field-inside : recordStart b i + fieldOffset b (field - 1) + fieldLength b (field - 1) ≤ length b
-
-pub place-inside : (b : List ℕ) (i field : ℕ) → placeRefusal b i field ≡ 0 → PlaceInside b i field
+pub mark-inside : (b : List ℕ) (i field : ℕ) → PlaceGood b i field → recordStart b i < length b
 unfolding recordStart
-place-inside b i field e =
-    let good = place-good b i field e in
+mark-inside b i field good =
+    let table = layout b (good .table) in
+    omega (arith, record-inside b table (i - 1) (omega arith), record-positive b table)
+
+pub place-within : (b : List ℕ) (i field : ℕ) (p : Place) → PlaceGood b i field → p ≡ placeAt b i field → Within b p
+unfolding placeAt formOf recordStart
+place-within b i field p good e =
     let table = layout b (good .table) in
     let within = record-inside b table (i - 1) (omega arith) in
-    let full = record-positive b table in
     let field-within = field-inside b table (field - 1) (omega arith) in
-    record { mark-inside = omega arith; field-inside = omega arith }
+    let some = form-some _ _ _ (field-form b table (field - 1) (omega arith)) in
+    rw e (record { some = some; inside = omega arith })
 
 -- what a caller learns from the answer's case
 pub placed-at : (b : List ℕ) (i field : ℕ) (p : Place) → placeOf b i field ≡ At p → (placeRefusal b i field ≡ 0) × (p ≡ placeAt b i field)

@@ -3,7 +3,7 @@ ghost use Prim.Native.Nat.{_+_, _≤_, _<_};
 ghost use mathlib.Core.Path.{_≡_};
 ghost use lib.ListN.{length};
 ghost use Rattle.table.specs.Table.{descriptor, fieldCount, tableRefusal};
-ghost use Rattle.field.specs.Field.{numberGood, entryOf, noEntry, fieldRefusal, fieldAnswer, formOf, placeRefusal, placeAt, placeOf};
+ghost use Rattle.field.specs.Field.{numberGood, entryOf, noEntry, fieldRefusal, fieldAnswer, formOf, placeRefusal, PlaceGood, placeAt, Within, placeOf};
 
 const BAD_RECORD_NUMBER: u32 = 11;
 
@@ -147,9 +147,10 @@ fn place_refusal(table: &[u8], i: u32, field: u32) -> u32
     }
 }
 
-fn place_at(table: &[u8], i: u32, field: u32) -> Place
-    requires { ⌜ placeRefusal (now table) i field ≡ 0 ⌝ }
-    ensures { λ r. ⌜ r ≡ placeAt (now (table .entry)) i field ⌝ }
+// Where a field of a record lies in a table that was checked and has both.
+pub fn place_at(table: &[u8], i: u32, field: u32) -> Place
+    requires { ⌜ PlaceGood (now table) i field ⌝ }
+    ensures { λ r. ⌜ (r ≡ placeAt (now (table .entry)) i field) × Within (now (table .entry)) r ⌝ }
 {
     let start = table::records_end(table, i - 1);
     let form = field_form(table, (field - 1) as usize);

@@ -1,34 +1,40 @@
 // What the program `inspect` prints of a table and its memo file: a line for the check, the shape, each field, each record and each value; and of an
 // index, a line for the audit and one for the match. The library decides; here its answers are only spelled out.
+//
+// The table is checked once, and then read by the calls for a table that was checked.
 ghost use Prim.Native.Nat.{_≤_};
+ghost use mathlib.Core.Path.{_≡_};
 ghost use lib.ListN.{length};
+ghost use Rattle.table.specs.Table.{tableRefusal, recordCount, fieldCount};
+ghost use Rattle.field.specs.Field.{PlaceGood, Within};
 use calendar::Date;
 use calendar::DateAnswer;
 use cell::Logical;
 use cell::TextPlace;
 use field::FieldEntry;
-use field::Placed;
-use lines::print;
+use field::Place;
+use lines::Line;
+use lines::print_line;
+use lines::put;
 use numeral::Number;
 use table::Checked;
-
-const KEPT: u32 = 0x20;
-
-const DELETED: u32 = 0x2A;
+use table::DELETED;
+use table::KEPT;
 
 const BAD_DELETION_BYTE: u32 = 15;
 
 // A blank and a number.
-fn print_number(n: u32) {
-    print(b" ");
-    lines::print_number(n);
+fn put_number(line: &mut Line, n: usize, number: u32) -> usize {
+    let end = put(line, n, b" ");
+    lines::put_number(line, end, number as u64)
 }
 
 // A line of a word and a number.
-fn answer_line(word: &[u8], n: u32) {
-    print(word);
-    print_number(n);
-    print(b"\n");
+fn answer_line(word: &[u8], number: u32) {
+    let mut line = lines::empty_line();
+    let end = put(&mut line, 0, word);
+    let end = put_number(&mut line, end, number);
+    print_line(&mut line, end);
 }
 
 // Whether a byte stands for itself between quotes.
@@ -57,149 +63,177 @@ fn hex_digit(n: u8) -> u8
     if n < 10 { b'0' + n } else { b'A' - 10 + n }
 }
 
-fn print_escaped(c: u8) {
+fn put_escaped(line: &mut Line, n: usize, c: u8) -> usize {
     let text = [b'\\', b'x', hex_digit(c / 16), hex_digit(c % 16)];
-    print(&text);
+    put(line, n, &text)
 }
 
 // Plain bytes in runs, each other one as \xHH.
-fn print_bytes(text: &[u8]) {
+fn put_bytes(line: &mut Line, n: usize, text: &[u8]) -> usize {
+    let mut to = n;
     let mut from = 0;
     while from < text.len() {
         let end = plain_end(text, from);
-        print(&text[from..end]);
+        to = put(line, to, &text[from..end]);
         if end < text.len() {
-            print_escaped(text[end]);
+            to = put_escaped(line, to, text[end]);
         }
         from = end + 1;
     }
+    to
 }
 
-fn print_quoted(text: &[u8]) {
-    print(b" 0 \"");
-    print_bytes(text);
-    print(b"\"");
+fn put_quoted(line: &mut Line, n: usize, text: &[u8]) -> usize {
+    let end = put(line, n, b" 0 \"");
+    let end = put_bytes(line, end, text);
+    put(line, end, b"\"")
 }
 
 // A value in decimal by the library's own writer: 20 characters hold each value that its reader gives.
-fn print_value(value: i64) {
+fn put_value(line: &mut Line, n: usize, value: i64) -> usize {
     let mut text = [0u8; 20];
     numeral::write_number(&mut text, 0, value);
-    print(b" 0 ");
-    print(lines::without_blanks(&text));
+    let end = put(line, n, b" 0 ");
+    put(line, end, lines::without_blanks(&text))
 }
 
 // The last two decimal digits of a number.
-fn print_two_digits(n: u32) {
-    let text = [b'0' + (n / 10 % 10) as u8, b'0' + (n % 10) as u8];
-    print(&text);
+fn put_two_digits(line: &mut Line, n: usize, number: u32) -> usize {
+    let text = [b'0' + (number / 10 % 10) as u8, b'0' + (number % 10) as u8];
+    put(line, n, &text)
 }
 
 // YYYYMMDD.
-fn print_date(date: Date) {
-    print(b" 0 ");
-    print_two_digits(date.year / 100);
-    print_two_digits(date.year);
-    print_two_digits(date.month);
-    print_two_digits(date.day);
+fn put_date(line: &mut Line, n: usize, date: Date) -> usize {
+    let end = put(line, n, b" 0 ");
+    let end = put_two_digits(line, end, date.year / 100);
+    let end = put_two_digits(line, end, date.year);
+    let end = put_two_digits(line, end, date.month);
+    put_two_digits(line, end, date.day)
 }
 
-fn number_value(table: &[u8], i: u32, j: u32) {
-    match cell::read_number(table, i, j) {
-        Number::Value(value) => print_value(value),
-        Number::Empty => print(b" empty"),
-        Number::Refused(number) => print_number(number),
-    }
-}
-
-fn date_value(table: &[u8], i: u32, j: u32) {
-    match cell::read_date(table, i, j) {
-        DateAnswer::Value(date) => print_date(date),
-        DateAnswer::Empty => print(b" empty"),
-        DateAnswer::Refused(number) => print_number(number),
-    }
-}
-
-fn print_logical(value: bool) {
+fn put_logical(line: &mut Line, n: usize, value: bool) -> usize {
     if value {
-        print(b" 0 T");
+        put(line, n, b" 0 T")
     } else {
-        print(b" 0 F");
+        put(line, n, b" 0 F")
     }
 }
 
-fn logical_value(table: &[u8], i: u32, j: u32) {
-    match cell::read_logical(table, i, j) {
-        Logical::Value(value) => print_logical(value),
-        Logical::Empty => print(b" empty"),
-        Logical::Refused(number) => print_number(number),
+fn number_value(line: &mut Line, n: usize, table: &[u8], place: Place) -> usize
+    requires { ⌜ Within (now table) place ⌝ }
+{
+    match cell::number_at(table, place) {
+        Number::Value(value) => put_value(line, n, value),
+        Number::Empty => put(line, n, b" empty"),
+        Number::Refused(number) => put_number(line, n, number),
     }
 }
 
-fn text_value<'a>(table: &'a [u8], memo: &'a [u8], i: u32, j: u32) {
-    match cell::text_place(table, memo, i, j) {
-        TextPlace::Empty => print(b" empty"),
-        TextPlace::Refused(number) => print_number(number),
+fn date_value(line: &mut Line, n: usize, table: &[u8], place: Place) -> usize
+    requires { ⌜ Within (now table) place ⌝ }
+{
+    match cell::date_at(table, place) {
+        DateAnswer::Value(date) => put_date(line, n, date),
+        DateAnswer::Empty => put(line, n, b" empty"),
+        DateAnswer::Refused(number) => put_number(line, n, number),
+    }
+}
+
+fn logical_value(line: &mut Line, n: usize, table: &[u8], place: Place) -> usize
+    requires { ⌜ Within (now table) place ⌝ }
+{
+    match cell::logical_at(table, place) {
+        Logical::Value(value) => put_logical(line, n, value),
+        Logical::Empty => put(line, n, b" empty"),
+        Logical::Refused(number) => put_number(line, n, number),
+    }
+}
+
+fn text_value<'a>(line: &mut Line, n: usize, table: &'a [u8], memo: &'a [u8], place: Place) -> usize
+    requires { ⌜ Within (now table) place ⌝ }
+{
+    let text = cell::text_at(table, memo, place);
+    match text {
+        TextPlace::Empty => put(line, n, b" empty"),
+        TextPlace::Refused(number) => put_number(line, n, number),
         TextPlace::Table { .. } | TextPlace::Memo { .. } => {
-            print_quoted(cell::text(table, memo, i, j))
+            put_quoted(line, n, cell::text_part(table, memo, text))
         }
     }
 }
 
-// The line of field j of record i, read by the call for the field's type.
-fn value_line<'a>(table: &'a [u8], memo: &'a [u8], i: u32, j: u32) {
-    print(b"value");
-    print_number(i);
-    print_number(j);
-    let answer = field::field_entry(table, j);
-    let kind = answer.entry.kind;
+// The value at a place, read by the call for the field's type.
+fn put_cell<'a>(line: &mut Line, n: usize, table: &'a [u8], memo: &'a [u8], place: Place) -> usize
+    requires { ⌜ Within (now table) place ⌝ }
+{
+    let kind = place.form.kind;
     match kind {
-        b'N' => number_value(table, i, j),
-        b'D' => date_value(table, i, j),
-        b'L' => logical_value(table, i, j),
-        _ => text_value(table, memo, i, j),
+        table::TYPE_N => number_value(line, n, table, place),
+        table::TYPE_D => date_value(line, n, table, place),
+        table::TYPE_L => logical_value(line, n, table, place),
+        _ => text_value(line, n, table, memo, place),
     }
-    print(b"\n");
 }
 
-fn value_lines<'a>(table: &'a [u8], memo: &'a [u8], i: u32, fields: u32) {
+// The line of field j of record i.
+fn value_line<'a>(table: &'a [u8], memo: &'a [u8], i: u32, j: u32)
+    requires { ⌜ PlaceGood (now table) i j ⌝ }
+{
+    let mut line = lines::empty_line();
+    let end = put(&mut line, 0, b"value");
+    let end = put_number(&mut line, end, i);
+    let end = put_number(&mut line, end, j);
+    let place = field::place_at(table, i, j);
+    let end = put_cell(&mut line, end, table, memo, place);
+    print_line(&mut line, end);
+}
+
+// The lines of the fields of record i, up to the last.
+fn value_lines<'a>(table: &'a [u8], memo: &'a [u8], i: u32, last: u32)
+    requires { ⌜ PlaceGood (now table) i last ⌝ }
+{
     let mut j = 0;
-    while j < fields {
+    while j < last {
         j += 1;
         value_line(table, memo, i, j);
     }
 }
 
-// The lines of record i, which has this deletion byte.
-fn marked_record<'a>(table: &'a [u8], memo: &'a [u8], i: u32, fields: u32, mark: u32) {
+fn put_mark(line: &mut Line, n: usize, mark: u32) -> usize {
     if mark == KEPT {
-        print(b" live\n");
-        value_lines(table, memo, i, fields);
-        return;
+        return put(line, n, b" live");
     }
     if mark == DELETED {
-        print(b" deleted\n");
-        value_lines(table, memo, i, fields);
-        return;
+        return put(line, n, b" deleted");
     }
-    print_number(BAD_DELETION_BYTE);
-    print(b"\n");
+    put_number(line, n, BAD_DELETION_BYTE)
 }
 
-// The deletion byte comes with the place of field 1, which every table has.
-fn record_report<'a>(table: &'a [u8], memo: &'a [u8], i: u32, fields: u32) {
-    print(b"record");
-    print_number(i);
-    match field::field_place(table, i, 1) {
-        Placed::At(place) => marked_record(table, memo, i, fields, place.mark),
-        Placed::Refused(number) => {
-            print_number(number);
-            print(b"\n");
-        }
+// The line of record i with this deletion byte.
+fn record_line(i: u32, mark: u32) {
+    let mut line = lines::empty_line();
+    let end = put(&mut line, 0, b"record");
+    let end = put_number(&mut line, end, i);
+    let end = put_mark(&mut line, end, mark);
+    print_line(&mut line, end);
+}
+
+// The lines of record i, and of its fields up to the last unless its deletion byte is bad. The byte comes with the place of field 1, which every table has.
+fn record_report<'a>(table: &'a [u8], memo: &'a [u8], i: u32, last: u32)
+    requires { ⌜ PlaceGood (now table) i last ⌝ }
+{
+    let place = field::place_at(table, i, 1);
+    let mark = place.mark;
+    record_line(i, mark);
+    if (mark == KEPT) | (mark == DELETED) {
+        value_lines(table, memo, i, last);
     }
 }
 
-fn record_lines<'a>(table: &'a [u8], memo: &'a [u8], records: u32, fields: u32) {
+fn record_lines<'a>(table: &'a [u8], memo: &'a [u8], records: u32, fields: u32)
+    requires { ⌜ (tableRefusal (now table) ≡ 0) × (records ≡ recordCount (now table)) × (fields ≡ fieldCount (now table)) ⌝ }
+{
     let mut i = 0;
     while i < records {
         i += 1;
@@ -208,35 +242,36 @@ fn record_lines<'a>(table: &'a [u8], memo: &'a [u8], records: u32, fields: u32) 
 }
 
 // A name's characters are plain, and the zeros after them are not.
-fn print_name(name: &[u8]) {
+fn put_name(line: &mut Line, n: usize, name: &[u8]) -> usize {
     let end = plain_end(name, 0);
-    print(b" ");
-    print(&name[0..end]);
+    let to = put(line, n, b" ");
+    put(line, to, &name[0..end])
 }
 
-fn print_entry(entry: FieldEntry) {
+fn put_entry(line: &mut Line, n: usize, entry: FieldEntry) -> usize {
     let name = entry.name;
-    print_name(&name);
     let kind = [b' ', entry.kind];
-    print(&kind);
-    print_number(entry.length as u32);
-    print_number(entry.decimals as u32);
+    let end = put_name(line, n, &name);
+    let end = put(line, end, &kind);
+    let end = put_number(line, end, entry.length as u32);
+    put_number(line, end, entry.decimals as u32)
 }
 
-// A good table refuses none of its fields; if it did, the number would be shown.
-fn field_line(table: &[u8], j: u32) {
-    print(b"field");
-    print_number(j);
-    let answer = field::field_entry(table, j);
-    if answer.refusal == 0 {
-        print_entry(answer.entry);
-    } else {
-        print_number(answer.refusal);
-    }
-    print(b"\n");
+// The line of field j, from 1.
+fn field_line(table: &[u8], j: u32)
+    requires { ⌜ (tableRefusal (now table) ≡ 0) × (1 ≤ j) × (j ≤ fieldCount (now table)) ⌝ }
+{
+    let mut line = lines::empty_line();
+    let end = put(&mut line, 0, b"field");
+    let end = put_number(&mut line, end, j);
+    let entry = field::entry_at(table, (j - 1) as usize);
+    let end = put_entry(&mut line, end, entry);
+    print_line(&mut line, end);
 }
 
-fn field_lines(table: &[u8], fields: u32) {
+fn field_lines(table: &[u8], fields: u32)
+    requires { ⌜ (tableRefusal (now table) ≡ 0) × (fields ≡ fieldCount (now table)) ⌝ }
+{
     let mut j = 0;
     while j < fields {
         j += 1;
@@ -245,12 +280,13 @@ fn field_lines(table: &[u8], fields: u32) {
 }
 
 fn shape_line(records: u32, fields: u32, record_length: usize) {
-    print(b"shape");
-    print_number(records);
-    print_number(fields);
-    print(b" ");
-    lines::print_count(record_length);
-    print(b"\n");
+    let mut line = lines::empty_line();
+    let end = put(&mut line, 0, b"shape");
+    let end = put_number(&mut line, end, records);
+    let end = put_number(&mut line, end, fields);
+    let end = put(&mut line, end, b" ");
+    let end = lines::put_number(&mut line, end, record_length as u64);
+    print_line(&mut line, end);
 }
 
 // All that a table and its memo file give; of a refused table, the number alone.

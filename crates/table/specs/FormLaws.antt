@@ -1,8 +1,9 @@
 -- Laws: what a good descriptor says of its field, type by type. Cited by the calls that read a field. Assumes nothing.
-use Prim.Native.Nat.{ℕ, _≤_, _<_}
+use Prim.Native.Nat.{ℕ, zero, suc, _≤_, _<_}
 use mathlib.Core.Path.{_≡_}
-use mathlib.Core.Bool.{true, _&&_, or-false, and-false}
+use mathlib.Core.Bool.{true, false, false≢true, _&&_, or-false, and-false}
 use mathlib.Core.List.{List}
+use native.Mathlib.Omega.{arith}
 use lib.Dec.{eqb, leb}
 use borrow.Author.Tests.{leb-true, eqb-true}
 use Rattle.basis.specs.Tests.{both}
@@ -14,6 +15,12 @@ use Rattle.table.specs.TableLaws.{Layout}
 pub field-form : (b : List ℕ) → Layout b → (j : ℕ) → j < fieldCount b → formGood (fieldType b j) (fieldLength b j) (fieldDecimals b j) ≡ true
 unfolding descriptorGood
 field-form b good j l = both (nameGood b (descriptor j)) (formGood (fieldType b j) (fieldLength b j) (fieldDecimals b j)) (good .fields j l) .1
+
+-- no form is good without a byte
+pub form-some : (type size decimals : ℕ) → formGood type size decimals ≡ true → 1 ≤ size
+unfolding formGood formatGood
+form-some type zero decimals h = let no : false ≡ true = simp (and-false, or-false) at h in absurd (false≢true no)
+form-some type (suc n) decimals h = omega arith
 
 module _ (size decimals : ℕ) where
   pub form-text : formGood typeC size decimals ≡ true → (1 ≤ size) × (size ≤ maxText)

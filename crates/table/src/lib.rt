@@ -23,6 +23,12 @@ const END_MARK: u8 = 0x0D;
 
 const FILE_END: u8 = 0x1A;
 
+// A record's deletion byte.
+pub const KEPT: u32 = 0x20;
+
+pub const DELETED: u32 = 0x2A;
+
+// A field's type.
 pub const TYPE_C: u32 = 0x43;
 
 pub const TYPE_N: u32 = 0x4E;

@@ -1,12 +1,10 @@
 // The walk over a table's undeleted records, one step by value. Document 01, "The table".
+use table::DELETED;
+use table::KEPT;
 ghost use Prim.Native.Nat.{_-_};
 ghost use mathlib.Core.Path.{_≡_};
 ghost use Rattle.table.specs.Table.{recordCount, tableRefusal};
 ghost use Rattle.walk.specs.Walk.{stepTo, walkFrom, walkStep};
-
-const KEPT: u32 = 0x20;
-
-const DELETED: u32 = 0x2A;
 
 const BAD_DELETION_BYTE: u32 = 15;
 

@@ -1,7 +1,8 @@
--- `cell::read_logical` meets its contract: a refusal, or what the field's one byte says. Assumes nothing.
-use mathlib.Core.Path.{sym, _∙_}
+-- `cell::read_logical` meets its contract: a refusal, or what stands at the field's place. Assumes nothing.
 use borrow.Author.Needs.{needs}
-use Rattle.cell.specs.CellLaws.{logical-inside, logical-refused, logical-read}
+use mathlib.Core.Path.{sym, _∙_}
+use Rattle.cell.specs.declared.Reads.the-variants.{Logicals}
+use Rattle.cell.specs.CellLaws.{cell-at, logical-refused, logical-read}
 use Rattle.cell.proofs.read_logical.Statement.{statement}
 use Rattle.cell.proofs.read_logical.Tie as tie
 
@@ -14,20 +15,19 @@ enum-known-placed c = search needs
 enum-known-placed-2 : tie.Need-enum-known-placed-2
 enum-known-placed-2 c = search needs
 
-byte-requires : tie.Need-byte-requires
-byte-requires c κs = logical-inside _ _ _ _ (sym (c .before .before .before .cell-place .ensures) ∙ c .before .placed2 .given .1)
-
-logical-of-requires : tie.Need-logical-of-requires
-logical-of-requires c κs = search needs
+logical-at-requires : tie.Need-logical-at-requires
+logical-at-requires c κs =
+    let at = c .before in
+    cell-at Logicals _ _ _ _ (sym (at .before .before .cell-place .ensures) ∙ at .placed2 .given .1) .within
 
 returns : tie.Need-returns
-returns c = sym (logical-refused _ _ _ _ (sym (c .before .before .before .cell-place .ensures) ∙ c .before .placed .given .1))
+returns c = let at = c .before in sym (logical-refused _ _ _ _ (sym (at .before .before .cell-place .ensures) ∙ at .placed .given .1))
 
 returns-2 : tie.Need-returns-2
 returns-2 c =
-    let at = c .before .before .before in
+    let at = c .before .before in
     let placed = sym (at .before .before .cell-place .ensures) ∙ at .placed2 .given .1 in
-    c .logical-of .ensures ∙ rw (c .before .byte .ensures .0) (sym (logical-read _ _ _ _ placed))
+    c .logical-at .ensures ∙ sym (logical-read _ _ _ _ placed)
 
 pub read-logical-spec : {M : Type 1} → statement M
 read-logical-spec =
@@ -36,7 +36,6 @@ read-logical-spec =
     cell-place-requires
     enum-known-placed
     enum-known-placed-2
-    byte-requires
-    logical-of-requires
+    logical-at-requires
     returns
     returns-2)

@@ -1,6 +1,6 @@
--- `cell::read_number` meets its contract: a refusal, or what the field's bytes say. Assumes nothing.
-use mathlib.Core.Path.{sym, _∙_}
+-- `cell::read_number` meets its contract: a refusal, or what stands at the field's place. Assumes nothing.
 use borrow.Author.Needs.{needs}
+use mathlib.Core.Path.{sym, _∙_}
 use Rattle.cell.specs.declared.Reads.the-variants.{Numbers}
 use Rattle.cell.specs.CellLaws.{cell-at, number-refused, number-read}
 use Rattle.cell.proofs.read_number.Statement.{statement}
@@ -15,22 +15,19 @@ enum-known-placed c = search needs
 enum-known-placed-2 : tie.Need-enum-known-placed-2
 enum-known-placed-2 c = search needs
 
-part-requires : tie.Need-part-requires
-part-requires c κs =
+number-at-requires : tie.Need-number-at-requires
+number-at-requires c κs =
     let at = c .before in
-    cell-at Numbers _ _ _ _ (sym (at .before .before .cell-place .ensures) ∙ at .placed2 .given .1) .inside
-
-read-number-requires : tie.Need-read-number-requires
-read-number-requires c κs = search needs
+    cell-at Numbers _ _ _ _ (sym (at .before .before .cell-place .ensures) ∙ at .placed2 .given .1) .within
 
 returns : tie.Need-returns
 returns c = let at = c .before in sym (number-refused _ _ _ _ (sym (at .before .before .cell-place .ensures) ∙ at .placed .given .1))
 
 returns-2 : tie.Need-returns-2
 returns-2 c =
-    let at = c .before .before .before in
+    let at = c .before .before in
     let placed = sym (at .before .before .cell-place .ensures) ∙ at .placed2 .given .1 in
-    c .read-number .ensures ∙ rw (c .before .part .ensures) (sym (number-read _ _ _ _ placed))
+    c .number-at .ensures ∙ sym (number-read _ _ _ _ placed)
 
 pub read-number-spec : {M : Type 1} → statement M
 read-number-spec =
@@ -39,7 +36,6 @@ read-number-spec =
     cell-place-requires
     enum-known-placed
     enum-known-placed-2
-    part-requires
-    read-number-requires
+    number-at-requires
     returns
     returns-2)

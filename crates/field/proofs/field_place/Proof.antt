@@ -2,6 +2,7 @@
 use mathlib.Core.Path.{sym, _∙_}
 use borrow.Author.Tests.{ne-eqb}
 use Rattle.field.specs.Field.{placeOf}
+use Rattle.field.specs.FieldLaws.{place-good}
 use borrow.Author.Needs.{needs}
 use Rattle.field.proofs.field_place.Statement.{statement}
 use Rattle.field.proofs.field_place.Tie as tie
@@ -17,13 +18,13 @@ returns c =
     rw (said, no)
 
 place-at-requires : tie.Need-place-at-requires
-place-at-requires c κs = sym (c .before .place-refusal .ensures) ∙ c .if1 .left
+place-at-requires c κs = place-good _ _ _ (sym (c .before .place-refusal .ensures) ∙ c .if1 .left)
 
 returns-2 : tie.Need-returns-2
 unfolding placeOf
 returns-2 c =
     let none = sym (c .before .before .place-refusal .ensures) ∙ c .before .if1 .left in
-    rw (none, c .place-at .ensures)
+    rw (none, c .place-at .ensures .0)
 
 pub field-place-spec : {M : Type 1} → statement M
 field-place-spec = tie.close (tie.spec place-refusal-requires returns place-at-requires returns-2)

@@ -1,49 +1,54 @@
 -- `field::place_at` meets its contract: the record and the field lie in the table. Assumes nothing.
-use Prim.Native.Nat.{_-_}
-use Rattle.table.specs.Table.{fieldOffset}
-use Rattle.field.specs.declared.FieldForm.{FieldForm}
-use Rattle.table.specs.Table.{recordStart, deletionByte}
-use mathlib.Core.Path.{_≡_, ap}
+use Prim.Native.Nat.{ℕ, _-_}
+use mathlib.Core.Path.{_≡_, refl, ap}
+use mathlib.Core.List.{List}
 use native.Mathlib.Omega.{arith}
-use Rattle.field.specs.Field.{placeAt, formOf}
-use Rattle.field.specs.FieldLaws.{place-good, place-inside}
+use Rattle.table.specs.Table.{recordStart, deletionByte, fieldOffset}
 use Rattle.table.specs.TableLaws.{layout}
+use Rattle.field.specs.declared.FieldForm.{FieldForm}
+use Rattle.field.specs.declared.Place.{Place}
+use Rattle.field.specs.Field.{PlaceGood, placeAt, formOf, Within}
+use Rattle.field.specs.FieldLaws.{mark-inside, place-within}
 use borrow.Author.Needs.{needs}
 use Rattle.field.proofs.place_at.Statement.{statement}
 use Rattle.field.proofs.place_at.Tie as tie
 
+-- the answer is the place, and lies in the table
+answered : (b : List ℕ) (i field : ℕ) (p : Place) → PlaceGood b i field → p ≡ placeAt b i field → (p ≡ placeAt b i field) × Within b p
+answered b i field p good e = (e, place-within b i field p good e)
+
 sub-records-end : tie.Need-sub-records-end
-sub-records-end c = omega (arith, place-good _ _ _ (c .before .pre) .record-from)
+sub-records-end c = search needs
 
 records-end-requires : tie.Need-records-end-requires
-records-end-requires c κs = layout _ (place-good _ _ _ (c .before .pre) .table) .header .long
+records-end-requires c κs = layout _ (c .before .pre .table) .header .long
 
 sub-field-form : tie.Need-sub-field-form
-sub-field-form c = omega (arith, place-good _ _ _ (c .before .before .pre) .field-from)
+sub-field-form c = search needs
 
 cast-field-form : tie.Need-cast-field-form
 cast-field-form c = search needs
 
 field-form-requires : tie.Need-field-form-requires
-field-form-requires c κs =
-    let good = place-good _ _ _ (c .before .before .pre) in
-    (good .table, omega arith)
+field-form-requires c κs = search needs
 
 byte-requires : tie.Need-byte-requires
 unfolding recordStart
-byte-requires c κs = omega (arith, place-inside _ _ _ (c .before .before .before .pre) .mark-inside, c .before .records-end .ensures .0)
+byte-requires c κs = omega (arith, mark-inside _ _ _ (c .before .before .before .pre), c .before .records-end .ensures .0)
 
 add-t7 : tie.Need-add-t7
-unfolding recordStart formOf
+unfolding recordStart formOf placeAt
 add-t7 c =
     let at-start = c .before .before .before in
     let args = at-start .before .before .args in
     let offset : c .before .before .field-form .result .offset ≡ fieldOffset (args .table .now) (args .field - 1) = ap (λ (f : FieldForm). f .offset) (c .before .before .field-form .ensures) in
-    omega (arith, place-inside _ _ _ (at-start .before .before .pre) .field-inside, at-start .records-end .ensures .0)
+    omega (arith, place-within _ _ _ _ (at-start .before .before .pre) refl .inside, at-start .records-end .ensures .0)
 
 returns : tie.Need-returns
 unfolding placeAt formOf recordStart deletionByte
-returns c = rw (c .before .byte .ensures .0, c .before .before .field-form .ensures, c .before .before .before .records-end .ensures .0)
+returns c =
+    answered _ _ _ _ (c .before .before .before .before .before .pre)
+    (rw (c .before .byte .ensures .0, c .before .before .field-form .ensures, c .before .before .before .records-end .ensures .0))
 
 pub place-at-spec : {M : Type 1} → statement M
 place-at-spec =

@@ -1,7 +1,8 @@
--- `report::record_lines` ends: the number of records to come falls.
+-- `report::record_lines` ends: the number of records to come falls. A good table has a field at least.
 -- Assumes nothing.
 use Prim.Native.Nat.{_-_}
 use borrow.Author.Needs.{needs}
+use Rattle.table.specs.TableLaws.{layout}
 use Rattle.report.proofs.record_lines.Statement.{statement}
 use Rattle.report.proofs.record_lines.Tie as tie
 
@@ -18,7 +19,9 @@ add-i : tie.Need-add-i Inv-loop μ-loop
 add-i c = search needs
 
 record-report-requires : tie.Need-record-report-requires Inv-loop μ-loop
-record-report-requires c κs = search needs
+record-report-requires c κs =
+    let some = layout _ (c .before .before .before .before .pre .0) .header .some in
+    search needs
 
 loop-less : tie.Need-loop-less Inv-loop μ-loop
 loop-less c = search needs

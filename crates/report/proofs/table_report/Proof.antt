@@ -1,11 +1,16 @@
--- `report::table_report` is safe: a good table has at most 128 fields, so that their count fits 32 bits.
+-- `report::table_report` is safe: a good table has at most 128 fields, so that their count fits 32 bits; what is printed of its fields and
+-- records needs no further check.
 -- Assumes nothing.
 use mathlib.Core.Path.{sym, _∙_}
 use native.Mathlib.Omega.{arith}
-use Rattle.table.specs.TableLaws.{layout, good-shape}
+use Rattle.table.specs.TableLaws.{layout, Shaped, good-shape}
 use borrow.Author.Needs.{needs}
 use Rattle.report.proofs.table_report.Statement.{statement}
 use Rattle.report.proofs.table_report.Tie as tie
+
+-- past the check the table is good, and the shape is its own
+shaped : (c : tie.After-struct-known) → Shaped (c .before .before .before .before .before .before .before .args .table .now) (c .before .before .shape .given .0 .0)
+shaped c = let good = c .before .before in good-shape _ _ (sym (good .before .before .check-table .ensures) ∙ good .shape .given .1)
 
 check-table-requires : tie.Need-check-table-requires
 check-table-requires c κs = search needs
@@ -24,8 +29,7 @@ enum-known-shape c = search needs
 
 cast-fields : tie.Need-cast-fields
 cast-fields c =
-    let good = c .before .before in
-    let said = good-shape _ _ (sym (good .before .before .check-table .ensures) ∙ good .shape .given .1) in
+    let said = shaped c in
     let few = layout _ (said .table) .header .few in
     omega (arith, said .fields)
 
@@ -39,10 +43,10 @@ shape-line-requires : tie.Need-shape-line-requires
 shape-line-requires c κs = search needs
 
 field-lines-requires : tie.Need-field-lines-requires
-field-lines-requires c κs = search needs
+field-lines-requires c κs = let said = shaped (c .before .before .before) in (said .table, said .fields)
 
 record-lines-requires : tie.Need-record-lines-requires
-record-lines-requires c κs = search needs
+record-lines-requires c κs = let said = shaped (c .before .before .before .before) in (said .table, said .records, said .fields)
 
 returns : tie.Need-returns
 returns c = search needs
