@@ -11,11 +11,7 @@ pub fn print_number(n: u32) {
     io::print_decimal(STDOUT_FILENO, n as u64);
 }
 
-pub fn print_count(n: usize) {
-    io::print_decimal(STDOUT_FILENO, n as u64);
-}
-
-// A line is put together here, so that it is printed at once.
+// Where a line is put together, so that it is printed at once.
 pub type Line = [u8; 1024];
 
 pub fn empty_line() -> Line {
@@ -48,6 +44,7 @@ pub fn put(line: &mut Line, n: usize, text: &[u8]) -> usize
     end
 }
 
+// Adds a number in decimal.
 pub fn put_number(line: &mut Line, n: usize, number: u64) -> usize {
     let mut digits = [0u8; 20];
     let k = io::decimal(number, &mut digits);
