@@ -5,6 +5,7 @@ use mathlib.Core.Bool.{Bool, cond, not, _&&_, _||_}
 use lib.ListN.{length}
 use lib.Dec.{eqb, leb}
 use Rattle.octets.specs.Bytes.{byteAt, le16, le32}
+use Rattle.octets.specs.Text.{isDigit}
 use Rattle.calendar.specs.Calendar.{isDate}
 use Rattle.numeral.specs.Format.{formatGood}
 use Rattle.table.specs.Range.{allBelow, anyBelow, sumBelow}
@@ -132,7 +133,7 @@ isLetter c = leb 0x41 c && leb c 0x5A
 
 -- "A-Z, 0-9, underscore"
 unfoldable pub isNameByte : ℕ → Bool
-isNameByte c = isLetter c || leb 0x30 c && leb c 0x39 || eqb c 0x5F
+isNameByte c = isLetter c || isDigit c || eqb c 0x5F
 
 -- a byte that may stand after another in a name: zero, or a byte of a name where no zero came before
 unfoldable pub mayFollow : ℕ → ℕ → Bool

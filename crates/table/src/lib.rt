@@ -149,7 +149,7 @@ fn is_letter(byte: u8) -> bool
 fn is_name_byte(byte: u8) -> bool
     ensures { λ r. ⌜ r ≡ isNameByte byte ⌝ }
 {
-    is_letter(byte) | ((0x30 <= byte) & (byte <= 0x39)) | (byte == 0x5F)
+    is_letter(byte) | octets::is_digit(byte) | (byte == 0x5F)
 }
 
 // Whether a byte may stand after another in a name: after a zero only a zero may.
