@@ -5,9 +5,9 @@ use Prim.Native.Nat.{ℕ, zero, suc, _+_, _*_, _/_, _%_, _^_, _≤_, _<_}
 use native.Mathlib.Nat.{add-zero}
 use native.Mathlib.Omega.{arith}
 use lib.Dec.{lit<}
-use lib.ListN.{length, getD}
+use lib.ListN.{length}
 use Rattle.basis.specs.Lists.{All}
-use Rattle.octets.specs.Bytes.{byteAt, le16, le32, be16, be32, toLe16, toLe32, toBe32}
+use Rattle.octets.specs.Bytes.{byteAt, le16, le32, be32, toLe16, toLe32, toBe32}
 use Rattle.octets.specs.Store.{put, window}
 use Rattle.octets.specs.StoreLaws.{getD-window, window-same}
 
@@ -93,9 +93,6 @@ le16-same a b at e = sym (le16-window a at) ∙ ap (λ s. le16 s 0) e ∙ le16-w
 pub le32-same : (a b : List ℕ) (at : ℕ) → window a at 4 ≡ window b at 4 → le32 a at ≡ le32 b at
 le32-same a b at e = sym (le32-window a at) ∙ ap (λ s. le32 s 0) e ∙ le32-window b at
 
-pub be32-same : (a b : List ℕ) (at : ℕ) → window a at 4 ≡ window b at 4 → be32 a at ≡ be32 b at
-be32-same a b at e = sym (be32-window a at) ∙ ap (λ s. be32 s 0) e ∙ be32-window b at
-
 -- a byte is below 256, and so numbers of two and four bytes have their bounds
 pub byte-small : (s : List ℕ) → All (λ x. x < 256) s → (i : ℕ) → byteAt s i < 256
 byte-small [] a zero = omega arith
@@ -111,7 +108,3 @@ module _ (s : List ℕ) (a : All (λ x. x < 256) s) (at : ℕ) where
   pub le32-small : le32 s at < 2 ^ 32
   unfolding le32
   le32-small = omega (arith, byte-small s a at, byte-small s a (at + 1), byte-small s a (at + 2), byte-small s a (at + 3))
-
-  pub be32-small : be32 s at < 2 ^ 32
-  unfolding be32
-  be32-small = omega (arith, byte-small s a at, byte-small s a (at + 1), byte-small s a (at + 2), byte-small s a (at + 3))

@@ -144,17 +144,6 @@ pub window-cons : (xs : List ℕ) (p m : ℕ) → p < length xs → window xs p 
 unfolding window
 window-cons xs p m h = rw (add-one, drop-cons xs p 0 h)
 
--- a turn of a move to the right, last byte first
-pub put-move : (xs : List ℕ) (from to n i : ℕ) → from ≤ to → to + n ≤ length xs → 0 < i → i ≤ n
-    → set (put xs (to + i) (window xs (from + i) (n - i))) (to + (i - 1)) (getD (put xs (to + i) (window xs (from + i) (n - i))) (from + (i - 1)) 0)
-    ≡ put xs (to + (i - 1)) (window xs (from + (i - 1)) (n - (i - 1)))
-put-move xs from to n i h l p q =
-    let e : n - (i - 1) ≡ suc (n - i) = omega arith in
-    let f : from + (i - 1) + 1 ≡ from + i = omega arith in
-    let g : to + (i - 1) + 1 ≡ to + i = omega arith in
-    let b : from + (i - 1) < length xs = omega arith in
-    rw (getD-put-low xs (to + i) (window xs (from + i) (n - i)) (from + (i - 1)) 0 (omega arith), e, window-cons xs (from + (i - 1)) (n - i) b, put-cons, f, g)
-
 -- an element of a part
 pub getD-window : (xs : List ℕ) (p n i d : ℕ) → i < n → getD (window xs p n) i d ≡ getD xs (p + i) d
 unfolding window
@@ -189,10 +178,3 @@ window-same xs at ys n e h =
     let s : put xs at ys ≡ take at xs ++ ys ++ drop (at + length ys) xs = put-splice xs at ys (omega arith) in
     let l : length (take at xs) ≡ at = simp length-take (omega arith) in
     rw (s, append-assoc, drop-at (take at xs) (ys ++ drop (at + length ys) xs) at l) (take-at ys _ n e)
-
--- a part of what was stored
-pub window-part : (xs : List ℕ) (at : ℕ) (pre ys post : List ℕ) (n : ℕ) → length ys ≡ n → at + length pre + n + length post ≤ length xs → window (put xs at (pre ++ (ys ++ post))) (at + length pre) n ≡ ys
-window-part xs at pre ys post n e h =
-    rw (put-append xs at pre (ys ++ post), put-append (put xs at pre) (at + length pre) ys post)
-    (window-before (put (put xs at pre) (at + length pre) ys) (at + length pre + length ys) post (at + length pre) n (omega arith)
-    ∙ window-same (put xs at pre) (at + length pre) ys n e (rw (length-put) (omega arith)))
