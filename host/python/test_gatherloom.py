@@ -189,6 +189,19 @@ class Tables(TestCase):
             self.assertRaises(TypeError, Table, source)
         self.assertRaises(FileNotFoundError, Table, SAMPLES / 'none.dbf')
 
+    def test_longest_table(self):
+        # a header of 65 bytes, records of two and the end byte are 16,777,216 in all
+        records = 8388575
+        head = b'\x03\x7c\x02\x1d' + records.to_bytes(4, 'little') + b'\x41\0\x02\0' + bytes(20)
+        table = head + b'X'.ljust(11, b'\0') + b'C' + bytes(4) + b'\1' + bytes(15) + b'\r' + records * b' x' + b'\x1a'
+        self.assertEqual(len(Table(table)), records)
+        with tempfile.TemporaryDirectory() as folder:
+            path = Path(folder) / 'long.dbf'
+            path.write_bytes(table)
+            self.assertEqual(Table(path).record(records)['X'], b'x')
+            path.write_bytes(table + b'\x1a')
+            self.refused(1, Table, path)
+
     def test_numbers_of_records_and_fields(self):
         table = sample('shp_point')
         for number in 0, 6, 2**32 - 1:
