@@ -162,12 +162,12 @@ def _load():
         raise ImportError(f'gatherloom: {path} could not be loaded ({error}); {remedy}') from None
     try:
         number = _declare(library, 'gl_interface', [])()
-    except AttributeError:
-        raise ImportError(f'gatherloom: {path} has no gl_interface, so it is older than gatherloom.py, or another library; {remedy}') from None
-    if number != INTERFACE:
-        raise ImportError(f'gatherloom: {path} has interface {number}, and gatherloom.py is for interface {INTERFACE}; {remedy}')
-    for name, arguments in _CALLS.items():
-        _declare(library, name, arguments)
+        if number != INTERFACE:
+            raise ImportError(f'gatherloom: {path} has interface {number}, and gatherloom.py is for interface {INTERFACE}; {remedy}')
+        for name, arguments in _CALLS.items():
+            _declare(library, name, arguments)
+    except AttributeError as error:
+        raise ImportError(f'gatherloom: {path} lacks a call, so it is older than gatherloom.py or another library ({error}); {remedy}') from None
     return library
 
 
@@ -272,7 +272,7 @@ class Table:
         return Record(self, operator.index(number))
 
     def walk(self, passed=0):
-        """A Walk over the undeleted records, behind the first `passed` ones."""
+        """A Walk over the undeleted records after the first `passed` ones."""
         return Walk(self, passed)
 
     def field_number(self, name):
@@ -387,7 +387,7 @@ class Record:
 
 
 class Walk:
-    """An iterator over the undeleted records of a Table. It raises Refusal 15 at a bad deletion byte; the next call of `next` goes on behind that record."""
+    """An iterator over the undeleted records of a Table. It raises Refusal 15 at a bad deletion byte; the next call of `next` continues after that record."""
 
     def __init__(self, table, passed=0):
         self._table = table
@@ -395,7 +395,7 @@ class Walk:
 
     @property
     def passed(self):
-        """How many records are passed. At the end it stays where it was behind the last record that was handed out."""
+        """How many records are passed. If none but deleted ones are left, it stays."""
         return self._position.passed
 
     def __iter__(self):
@@ -466,8 +466,8 @@ class Lookup(NamedTuple):
 class Index:
     """An index in a bytearray, `buffer`.
 
-    A bytearray is used in place, so that insertions write into it. Of a path or other bytes a copy is made, with zeros behind it up to `room` bytes: an
-    insertion that splits a page needs 512 bytes or more behind the index. The index itself is not checked here; `audit` does that.
+    A bytearray is used in place, so that insertions write into it. Of a path or other bytes a copy is made, with zeros after it up to `room` bytes: an
+    insertion that splits a page needs 512 bytes or more after the index. The index itself is not checked here; `audit` does that.
     """
 
     def __init__(self, source, room=0):

@@ -525,7 +525,8 @@ class Loading(TestCase):
         with tempfile.TemporaryDirectory() as folder:
             library = Path(folder) / 'other.so'
             for source, says in (
-                ('int other(void) { return 1; }', 'has no gl_interface'),
+                ('int other(void) { return 1; }', 'undefined symbol: gl_interface'),
+                ('unsigned gl_interface(void) { return 1; }', 'undefined symbol: gl_table_shape'),
                 ('unsigned gl_interface(void) { return 2; }', 'has interface 2, and gatherloom.py is for interface 1'),
             ):
                 subprocess.run(['cc', '-shared', '-fPIC', '-x', 'c', '-', '-o', library], input=source.encode(), check=True)
