@@ -1,0 +1,516 @@
+"""dBASE/FoxPro tables, FPT memo files and IDX indexes, read and written by the proved library Gatherloom.
+
+    import gatherloom
+
+    table = gatherloom.Table('run.dbf', memo='run.fpt')
+    for record in table:
+        if not record.deleted:
+            print(record.number, record['BARCODE'], record['CONC'])
+
+A call answers what the files' rules say, or refuses by number. A refusal is the exception `Refusal`, with the number in `.number` and its words
+in `.words`: a concentration written `2,150` is Refusal 16, never 2 and never 2150. Each field is refused for itself: `record['CONC']` raises, the record's
+other fields can be read, and `record.values()` has the Refusal itself in the field's place.
+
+A value is a `Decimal` with the field's decimals (N: `Decimal('2.150')`), a `datetime.date` (D), a bool (L) or bytes (C and M, as they lie in the file: no code
+page is guessed), and None if the field is empty. Records and fields are counted from 1, as the files' rules do.
+
+Where a source is asked for, it is a file's path (str or os.PathLike) or the file's content (bytes, bytearray or memoryview). A number that is negative or too
+large for the library is an OverflowError, an argument of another type a TypeError; neither reaches the library.
+
+Tables and Indexes may be used by several threads. A call holds the interpreter's lock, and an Index has a lock of its own.
+"""
+
+import ctypes
+import datetime
+import operator
+import os
+import threading
+from decimal import Context, Decimal, Inexact, InvalidOperation
+from pathlib import Path
+from typing import NamedTuple, Optional
+
+__all__ = ['Field', 'Index', 'Lookup', 'MemoMissing', 'Record', 'Refusal', 'Table', 'Walk', 'read_number', 'write_number']
+
+# ---- Refusals.
+
+WORDS = {
+    1: 'size of the table',
+    2: 'kind of table',
+    3: 'update date',
+    4: 'header length',
+    5: 'header end mark',
+    6: 'field descriptor',
+    7: 'field name twice',
+    8: 'memo field and kind of table',
+    9: 'record length',
+    10: 'table length',
+    11: 'record number',
+    12: 'field number',
+    13: 'field type',
+    14: 'field list too short',
+    15: 'deletion byte',
+    16: 'comma in a number',
+    17: 'not a number',
+    18: 'more than 18 digits',
+    19: 'does not fit the field',
+    20: 'not a date or logical value',
+    21: 'memo number or place',
+    22: 'memo header',
+    23: 'memo is not text',
+    24: 'index header',
+    25: 'index not sound',
+    27: 'key length',
+    28: 'record number 0',
+    29: 'key present',
+    30: 'no room',
+    31: 'index and table differ',
+}
+
+
+class Refusal(Exception):
+    """A refusal, by its number. Two Refusals of one number are equal."""
+
+    def __init__(self, number):
+        super().__init__(number)
+        self.number = number
+
+    @property
+    def words(self):
+        return WORDS.get(self.number, 'unknown refusal')
+
+    def __str__(self):
+        return f'{self.number} ({self.words})'
+
+    def __eq__(self, other):
+        return self.number == other.number if isinstance(other, Refusal) else NotImplemented
+
+    def __hash__(self):
+        return hash((Refusal, self.number))
+
+
+class MemoMissing(Exception):
+    """The text of an M field lies in a memo file, and the Table was given none."""
+
+    def __str__(self):
+        return "the table was opened without its memo file: Table(source, memo=..)"
+
+    def __eq__(self, other):
+        return True if isinstance(other, MemoMissing) else NotImplemented
+
+    def __hash__(self):
+        return hash(MemoMissing)
+
+
+# ---- The library. Its calls are those of include/gatherloom.h.
+
+# the number that gl_interface() gives for the calls as they are declared here
+INTERFACE = 1
+
+ACCEPTED, EMPTY, ABSENT, DONE = 0, 256, 257, 258
+
+
+class _Entry(ctypes.Structure):
+    _fields_ = [('name', ctypes.c_uint8 * 11), ('kind', ctypes.c_uint8), ('length', ctypes.c_uint8), ('decimals', ctypes.c_uint8)]
+
+
+class _Position(ctypes.Structure):
+    _fields_ = [('passed', ctypes.c_uint32)]
+
+
+# bytes pass as a pointer and a length
+_BYTES = [ctypes.c_void_p, ctypes.c_size_t]
+_NUMBER = ctypes.c_uint32
+
+
+def _out(kind):
+    return ctypes.POINTER(kind)
+
+
+_CALLS = {
+    'gl_table_shape': _BYTES + 3 * [_out(_NUMBER)],
+    'gl_fields': _BYTES + [_out(_Entry), ctypes.c_size_t],
+    'gl_walk': _BYTES + [_out(_Position), _out(_NUMBER)],
+    'gl_read_number': _BYTES + [_NUMBER, _NUMBER, _out(ctypes.c_int64)],
+    'gl_read_date': _BYTES + [_NUMBER, _NUMBER] + 3 * [_out(_NUMBER)],
+    'gl_read_logical': _BYTES + [_NUMBER, _NUMBER, _out(ctypes.c_uint8)],
+    'gl_text_part': 2 * _BYTES + [_NUMBER, _NUMBER] + 2 * [_out(ctypes.c_uint64)],
+    'gl_number_read': _BYTES + [_NUMBER, _out(ctypes.c_int64)],
+    'gl_number_write': _BYTES + [_NUMBER, ctypes.c_int64],
+    'gl_index_fresh': _BYTES + [_NUMBER] + _BYTES,
+    'gl_index_audit': _BYTES,
+    'gl_index_lookup': 2 * _BYTES + 2 * [_out(_NUMBER)],
+    'gl_index_insert': 2 * _BYTES + [_NUMBER],
+    'gl_match': 2 * _BYTES + [_NUMBER],
+}
+
+
+def _declare(library, name, arguments):
+    call = getattr(library, name)
+    call.argtypes = arguments
+    call.restype = _NUMBER
+    return call
+
+
+def _load():
+    """The shared library that GATHERLOOM_LIBRARY names, or the one that host/python/build makes."""
+    path = os.environ.get('GATHERLOOM_LIBRARY') or Path(__file__).resolve().parents[2] / 'target' / 'python' / 'libgatherloom.so'
+    remedy = 'run host/python/build, or name a library that fits in GATHERLOOM_LIBRARY'
+    try:
+        # PyDLL holds the interpreter's lock during a call, so that no other thread changes what the call was lent
+        library = ctypes.PyDLL(os.fspath(path))
+    except OSError as error:
+        raise ImportError(f'gatherloom: {path} could not be loaded ({error}); {remedy}') from None
+    try:
+        number = _declare(library, 'gl_interface', [])()
+        if number != INTERFACE:
+            raise ImportError(f'gatherloom: {path} has interface {number}, and gatherloom.py is for interface {INTERFACE}; {remedy}')
+        for name, arguments in _CALLS.items():
+            _declare(library, name, arguments)
+    except AttributeError as error:
+        raise ImportError(f'gatherloom: {path} lacks a call, so it is older than gatherloom.py or another library ({error}); {remedy}') from None
+    return library
+
+
+_library = _load()
+
+
+def _accepted(answer):
+    """The answer 0, 256, 257 or 258 of a call; another is a refusal, which is raised."""
+    if answer not in (ACCEPTED, EMPTY, ABSENT, DONE):
+        raise Refusal(answer)
+    return answer
+
+
+# ---- Arguments. ctypes would cut a number to its type's bits, so each is checked before.
+
+
+def _unsigned(value, what, bits=32):
+    if isinstance(value, bool):
+        raise TypeError(f'{what} is a bool, not a number')
+    value = operator.index(value)
+    if not 0 <= value < 1 << bits:
+        raise OverflowError(f'{what} {value} is not from 0 to 2**{bits} - 1')
+    return value
+
+
+def _bytes(value, what):
+    if not isinstance(value, (bytes, bytearray, memoryview)):
+        raise TypeError(f'{what} is bytes, not {type(value).__name__}')
+    return bytes(value)
+
+
+def _content(source, most):
+    """The bytes of a source. Of a longer file, most + 1 bytes are read: enough for every answer."""
+    if isinstance(source, (str, os.PathLike)):
+        with open(source, 'rb') as file:
+            return file.read(most + 1)
+    return _bytes(source, 'a source that is no path')
+
+
+def _lent(data):
+    """What passes bytes, or a bytearray that the call may write, as a pointer and a length."""
+    if isinstance(data, bytearray):
+        return (ctypes.c_uint8 * len(data)).from_buffer(data), len(data)
+    return data, len(data)
+
+
+# ---- The table.
+
+# the most bytes of a table or memo file, and of an index
+MAX_TABLE = 16777216
+MAX_INDEX = 1048576
+
+
+class Field(NamedTuple):
+    """A field of a table: its name, its type's letter (C, N, D, L or M), its length in bytes and its decimals."""
+
+    name: str
+    type: str
+    length: int
+    decimals: int
+
+
+def _decimal(units, decimals):
+    """units times 10 to the -decimals, in no context, so that nothing is rounded."""
+    return Decimal((int(units < 0), tuple(map(int, str(abs(units)))), -decimals))
+
+
+class Table:
+    """A table, with its memo file if one is given. Iterating over it gives each Record, deleted or not; `len` is the number of records.
+
+    A table that is not good is refused here, by 1 to 10. The file is read once and kept: a change of it later does not show.
+    """
+
+    def __init__(self, source, memo=None):
+        self._table = _content(source, MAX_TABLE)
+        self._memo = None if memo is None else _content(memo, MAX_TABLE)
+        records, fields, length = _NUMBER(), _NUMBER(), _NUMBER()
+        _accepted(_library.gl_table_shape(*_lent(self._table), ctypes.byref(records), ctypes.byref(fields), ctypes.byref(length)))
+        self._records = records.value
+        self.record_length = length.value
+        entries = (_Entry * fields.value)()
+        _accepted(_library.gl_fields(*_lent(self._table), entries, len(entries)))
+        #: the fields, in order
+        self.fields = tuple(Field(bytes(e.name).rstrip(b'\0').decode('ascii'), chr(e.kind), e.length, e.decimals) for e in entries)
+        self._numbers = {field.name: j for j, field in enumerate(self.fields, 1)}
+        self._marks = None
+        self._readers = {'N': self._number, 'D': self._date, 'L': self._logical, 'C': self._text, 'M': self._text}
+
+    def __len__(self):
+        return self._records
+
+    def __iter__(self):
+        return (Record(self, i) for i in range(1, len(self) + 1))
+
+    def __repr__(self):
+        return f'<Table of {len(self)} records, fields {", ".join(field.name for field in self.fields)}>'
+
+    def record(self, number):
+        """Record `number`, from 1. Refusal 11."""
+        if not 1 <= _unsigned(number, 'record number') <= len(self):
+            raise Refusal(11)
+        return Record(self, operator.index(number))
+
+    def walk(self, passed=0):
+        """A Walk over the undeleted records after the first `passed` ones."""
+        return Walk(self, passed)
+
+    def field_number(self, name):
+        """The number of the field of that name, from 1. KeyError if there is none."""
+        return self._numbers[name]
+
+    def value(self, record, field):
+        """The value of a field of a record, both by number from 1; None if it is empty. Refusals 11, 12, 15 to 18 and 20 to 23; MemoMissing."""
+        record, field = _unsigned(record, 'record number'), _unsigned(field, 'field number')
+        # a field that is not there is refused by any reader: 11 and 12 come before the field's type
+        kind = self.fields[field - 1].type if 1 <= field <= len(self.fields) else 'N'
+        return self._readers[kind](record, field)
+
+    def match(self, index, field):
+        """Returns if the Index has exactly one entry for each record, deleted or not, whose key is the record's field, and no other.
+
+        The field is a number or a name. Refusals 24, 12, 13, 27, 25, 31.
+        """
+        if not isinstance(index, Index):
+            raise TypeError(f'an Index is matched, not {type(index).__name__}')
+        number = self.field_number(field) if isinstance(field, str) else _unsigned(field, 'field number')
+        with index._lock:
+            _accepted(_library.gl_match(*_lent(self._table), *_lent(index.buffer), number))
+
+    def _number(self, record, field):
+        units = ctypes.c_int64()
+        if _accepted(_library.gl_read_number(*_lent(self._table), record, field, ctypes.byref(units))) == EMPTY:
+            return None
+        return _decimal(units.value, self.fields[field - 1].decimals)
+
+    def _date(self, record, field):
+        year, month, day = _NUMBER(), _NUMBER(), _NUMBER()
+        out = ctypes.byref(year), ctypes.byref(month), ctypes.byref(day)
+        if _accepted(_library.gl_read_date(*_lent(self._table), record, field, *out)) == EMPTY:
+            return None
+        return datetime.date(year.value, month.value, day.value)
+
+    def _logical(self, record, field):
+        value = ctypes.c_uint8()
+        if _accepted(_library.gl_read_logical(*_lent(self._table), record, field, ctypes.byref(value))) == EMPTY:
+            return None
+        return value.value == 1
+
+    def _text(self, record, field):
+        start, length = ctypes.c_uint64(), ctypes.c_uint64()
+        out = ctypes.byref(start), ctypes.byref(length)
+        answer = _library.gl_text_part(*_lent(self._table), *_lent(self._memo or b''), record, field, *out)
+        # 22 is given only if the field names a memo, and it then tells of the memo file: of no bytes here
+        if answer == 22 and self._memo is None:
+            raise MemoMissing
+        if _accepted(answer) == EMPTY:
+            return None
+        file = self._table if self.fields[field - 1].type == 'C' else self._memo
+        return file[start.value : start.value + length.value]
+
+    def _deletion(self):
+        """For each record 0 if it is kept, 1 if it is deleted, 15 if its deletion byte is neither: a walk stops at all but the deleted ones."""
+        if self._marks is None:
+            marks = bytearray(b'\1') * len(self)
+            position, record = _Position(), _NUMBER()
+            while True:
+                answer = _library.gl_walk(*_lent(self._table), ctypes.byref(position), ctypes.byref(record))
+                if answer == DONE:
+                    break
+                marks[position.passed - 1] = answer
+            self._marks = bytes(marks)
+        return self._marks
+
+
+class Record:
+    """A record of a Table, by its number. `record['CONC']` reads a field by name, `record.value(2)` by number; both raise the field's Refusal."""
+
+    __slots__ = ('table', 'number')
+    __iter__ = None
+
+    def __init__(self, table, number):
+        self.table = table
+        self.number = number
+
+    @property
+    def deleted(self):
+        """Whether the record is marked as deleted. Its fields are read like others. Refusal 15 if its deletion byte is no mark."""
+        mark = self.table._deletion()[self.number - 1]
+        if mark > 1:
+            raise Refusal(mark)
+        return mark == 1
+
+    def __getitem__(self, name):
+        """The value of the field of that name. KeyError if the table has none."""
+        return self.table.value(self.number, self.table.field_number(name))
+
+    def value(self, field):
+        """The value of a field by its number, from 1."""
+        return self.table.value(self.number, field)
+
+    def values(self):
+        """The values of all fields, in order. A field that is refused has its Refusal in its place, an M field of a Table without a memo file MemoMissing."""
+        values = []
+        for j in range(1, len(self.table.fields) + 1):
+            try:
+                values.append(self.value(j))
+            except (Refusal, MemoMissing) as refusal:
+                values.append(refusal.with_traceback(None))
+        return values
+
+    def items(self):
+        """Pairs of field name and value, as `values` has them."""
+        return list(zip((field.name for field in self.table.fields), self.values()))
+
+    def __repr__(self):
+        return f'<Record {self.number}: {dict(self.items())}>'
+
+
+class Walk:
+    """An iterator over the undeleted records of a Table. It raises Refusal 15 at a bad deletion byte; the next call of `next` continues after that record."""
+
+    def __init__(self, table, passed=0):
+        self._table = table
+        self._position = _Position(_unsigned(passed, 'position'))
+
+    @property
+    def passed(self):
+        """How many records are passed. If none but deleted ones are left, it stays."""
+        return self._position.passed
+
+    def __iter__(self):
+        return self
+
+    def __next__(self):
+        record = _NUMBER()
+        answer = _library.gl_walk(*_lent(self._table._table), ctypes.byref(self._position), ctypes.byref(record))
+        if _accepted(answer) == DONE:
+            raise StopIteration
+        return Record(self._table, record.value)
+
+
+# ---- Numeric text.
+
+
+def read_number(text, decimals):
+    """The Decimal that the text of an N field stands for, None if it is all blanks. The text's length is the field's. Refusals 6, 16, 17, 18."""
+    units = ctypes.c_int64()
+    decimals = _unsigned(decimals, 'decimal count')
+    if _accepted(_library.gl_number_read(*_lent(_bytes(text, 'numeric text')), decimals, ctypes.byref(units))) == EMPTY:
+        return None
+    return _decimal(units.value, decimals)
+
+
+def _units(value, decimals):
+    """value in units of 10 to the -decimals, exactly."""
+    if isinstance(value, bool) or not isinstance(value, (int, Decimal)):
+        raise TypeError(f'a number to write is a Decimal or an int, not {type(value).__name__}')
+    number = Decimal(value)
+    if not number.is_finite():
+        raise ValueError(f'{value} is no number')
+    exact = Context(prec=40, traps=[Inexact, InvalidOperation])
+    try:
+        units = int(number.quantize(Decimal((0, (1,), -decimals)), context=exact).scaleb(decimals, context=exact))
+    except Inexact:
+        raise ValueError(f'{value} has more than {decimals} decimals') from None
+    except InvalidOperation:
+        units = None
+    if units is None or not -(1 << 63) <= units < 1 << 63:
+        raise OverflowError(f'{value} with {decimals} decimals passes 64 bits')
+    return units
+
+
+def write_number(value, width, decimals):
+    """The one text of a Decimal or an int in an N field of `width` bytes. Refusals 6, 18, 19.
+
+    Nothing is rounded: a value with more decimals is a ValueError. A float is a TypeError, since it seldom is the number that it is written as.
+    """
+    decimals = _unsigned(decimals, 'decimal count')
+    text = bytearray(_unsigned(width, 'width', 63))
+    # 0 fits every good field, so this is 6 or accepted
+    _accepted(_library.gl_number_write(*_lent(text), decimals, 0))
+    _accepted(_library.gl_number_write(*_lent(text), decimals, _units(value, decimals)))
+    return bytes(text)
+
+
+# ---- The index.
+
+
+class Lookup(NamedTuple):
+    """What a lookup found: the key's record number, None if the key is absent; and how many pages were visited."""
+
+    record: Optional[int]
+    pages: int
+
+
+class Index:
+    """An index in a bytearray, `buffer`.
+
+    A bytearray is used in place, so that insertions write into it. Of a path or other bytes a copy is made, with zeros after it up to `room` bytes: an
+    insertion that splits a page needs 512 bytes or more after the index. The index itself is not checked here; `audit` does that.
+    """
+
+    def __init__(self, source, room=0):
+        room = _unsigned(room, 'room', 63)
+        if isinstance(source, bytearray):
+            if room:
+                raise ValueError("a bytearray is used in place, and its length is the room")
+            self.buffer = source
+        else:
+            self.buffer = bytearray(_content(source, MAX_INDEX))
+            self.buffer.extend(bytes(max(0, room - len(self.buffer))))
+        self._lock = threading.Lock()
+
+    @classmethod
+    def fresh(cls, buffer, key_length, expression):
+        """An index of no keys, made in the first 1,024 bytes of a bytearray; the others are room for insertions. Refusals 27, 24, 30."""
+        if not isinstance(buffer, bytearray):
+            raise TypeError(f'a fresh index is made in a bytearray, not {type(buffer).__name__}')
+        key_length, expression = _unsigned(key_length, 'key length'), _bytes(expression, 'an expression')
+        _accepted(_library.gl_index_fresh(*_lent(buffer), key_length, *_lent(expression)))
+        return cls(buffer)
+
+    def audit(self):
+        """Returns if the index is sound. Refusal 24 for its header, else 25."""
+        with self._lock:
+            _accepted(_library.gl_index_audit(*_lent(self.buffer)))
+
+    def lookup(self, key):
+        """The Lookup of a key. Refusals 24, 27, 25."""
+        key = _bytes(key, 'a key')
+        record, pages = _NUMBER(), _NUMBER()
+        with self._lock:
+            answer = _library.gl_index_lookup(*_lent(self.buffer), *_lent(key), ctypes.byref(record), ctypes.byref(pages))
+        return Lookup(None if _accepted(answer) == ABSENT else record.value, pages.value)
+
+    def insert(self, key, record):
+        """Inserts a key with its record's number. A refusal leaves the buffer as it was. Refusals 24, 27, 28, 25, 29, 30."""
+        key, record = _bytes(key, 'a key'), _unsigned(record, 'record number')
+        with self._lock:
+            _accepted(_library.gl_index_insert(*_lent(self.buffer), *_lent(key), record))
+
+    def file(self):
+        """The bytes of the index file: the buffer as far as the index's own size. An index that is not sound is refused, by 24 or 25."""
+        with self._lock:
+            _accepted(_library.gl_index_audit(*_lent(self.buffer)))
+            return bytes(self.buffer[: int.from_bytes(self.buffer[8:12], 'little')])

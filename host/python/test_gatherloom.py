@@ -1,0 +1,540 @@
+#!/usr/bin/env python3
+"""The tests of gatherloom.py: python3 host/python/test_gatherloom.py, once host/python/build has made the library.
+
+No expected answer was made by the library. Those of the tables of other programs were worked out by an implementation of document 01 that shares nothing with
+it (docs/FILES.md), as were the lists of calls on an index; the others are document 01's own examples or follow from its words.
+"""
+
+import datetime
+import os
+import pickle
+import shutil
+import subprocess
+import sys
+import tempfile
+import threading
+import unittest
+from decimal import Decimal, localcontext
+from pathlib import Path
+
+sys.path.insert(0, str(Path(__file__).resolve().parent))
+import gatherloom
+from gatherloom import Field, Index, Lookup, MemoMissing, Refusal, Table, read_number, write_number
+
+ROOT = Path(__file__).resolve().parents[2]
+SAMPLES = ROOT / 'crates' / 'samples' / 'data'
+INDEXES = ROOT / 'crates' / 'indexes' / 'data'
+
+PLAIN = (Field('BARCODE', 'C', 10, 0), Field('CONC', 'N', 8, 3), Field('RUN_DATE', 'D', 8, 0), Field('OK', 'L', 1, 0))
+MEMO = PLAIN + (Field('NOTE', 'M', 10, 0),)
+
+# Tables of other programs: their fields, and a line for each record: its number, live or deleted, and a word for each field: `-` for empty, `!16` for
+# refusal 16, `_` for a blank in a text.
+TABLES = {
+    'shp_point': (PLAIN, """
+        1 live PLT0000001 2.150 20240229 T
+        2 live PLT0000002 0.001 20240229 F
+        3 live PLT0000003 1234.500 20240229 T
+        4 deleted PLT0000004 17.250 20240229 F
+        5 live PLT0000005 9.999 20240229 T"""),
+    'shp_comma': (PLAIN, """
+        1 live PLT0000001 !16 20240229 T
+        2 live PLT0000002 !16 20240229 F
+        3 live PLT0000003 !16 20240229 T
+        4 deleted PLT0000004 !16 20240229 F
+        5 live PLT0000005 !16 20240229 T"""),
+    'xbase_plain': (PLAIN, """
+        1 live PLT0000001 2.150 20240229 T
+        2 deleted PLT0000002 -0.001 20231231 F
+        3 live PLT0000003 - - !20
+        4 live PLT0000004 2345.678 19991231 T
+        5 live PLT0000005 2.000 20240101 T"""),
+    'xbase_f5': (MEMO, f"""
+        1 live PLT0000001 2.150 20240229 T first_note
+        2 deleted PLT0000002 -0.001 20231231 F second
+        3 live PLT0000003 - - !20 -
+        4 live PLT0000004 2345.678 19991231 T {700 * 'x'}
+        5 live PLT0000005 2.000 20240101 T comma"""),
+    'fpc_fox': (MEMO, """
+        1 live PLT0007919 2.150 20240301 T !21
+        2 deleted PLT0015838 4.300 20240302 F !21
+        3 live PLT0023757 - - - -
+        4 live PLT0031676 8.600 20240304 F !21
+        5 live PLT0039595 10.750 20240305 T !21"""),
+    'fpc_l3': (PLAIN, """
+        1 live PLT0007919 2.150 20240301 T
+        2 deleted PLT0015838 4.300 20240302 F
+        3 live PLT0023757 - - -
+        4 live PLT0031676 8.600 20240304 F
+        5 live PLT0039595 10.750 20240305 T"""),
+    'gdal': (PLAIN[:3] + (Field('OK', 'N', 1, 0),), """
+        1 live PLT0000001 2.150 20240229 1
+        2 live PLT0000002 -0.001 20231231 0
+        3 live PLT0000003 !17 !20 !17
+        4 live PLT0000004 1234.500 19991231 1"""),
+    'pydbf_db3': (PLAIN, """
+        1 live PLT0000001 2.150 20240229 T
+        2 deleted PLT0000002 -0.001 20231231 F
+        3 live PLT0000003 - - !20
+        4 live PLT0000004 1234.500 19991231 T"""),
+}
+
+# the barcodes of xbase_s20.dbf, in the order of its records
+S20 = [b'PLT%07d' % (7919 * i) for i in range(1, 21)]
+
+# the lengths of the buffers on which the lists of calls were worked out (crates/indexes/README.md)
+ROOM = {'k1_bytes': 8192, 'k10_ascending': 32768, 'k10_descending': 32768, 'k10_random': 32768, 'k46_mixed': 32768, 'k100_deep': 65536,
+        'k100_full': 4096, 'paper_five': 2048, 'paper_full': 1024}
+
+NONE = 0xFFFFFFFF
+
+
+def expected(field, word):
+    if word == '-':
+        return None
+    if word.startswith('!'):
+        return Refusal(int(word[1:]))
+    return {
+        'C': lambda: word.encode(),
+        'M': lambda: word.replace('_', ' ').encode(),
+        'N': lambda: Decimal(word),
+        'D': lambda: datetime.datetime.strptime(word, '%Y%m%d').date(),
+        'L': lambda: {'T': True, 'F': False}[word],
+    }[field.type]()
+
+
+def sample(name):
+    memo = SAMPLES / f'{name}.fpt'
+    return Table(SAMPLES / f'{name}.dbf', memo=memo if memo.exists() else None)
+
+
+def page(attribute, left, right, *entries):
+    """A page of an index with keys of one byte."""
+    head = attribute.to_bytes(2, 'little') + len(entries).to_bytes(2, 'little') + left.to_bytes(4, 'little') + right.to_bytes(4, 'little')
+    return (head + b''.join(key + number.to_bytes(4, 'big') for key, number in entries)).ljust(512, b'\0')
+
+
+def tree_000():
+    """The tree of document 000 with the offsets of document 01."""
+    head = (512).to_bytes(4, 'little') + NONE.to_bytes(4, 'little') + (3584).to_bytes(4, 'little') + b'\1\0\1\0' + b'LETTER'
+    return (
+        head.ljust(512, b'\0')
+        + page(1, NONE, NONE, (b'F', 1024), (b'H', 1536))
+        + page(0, NONE, 1536, (b'C', 2048), (b'F', 2560))
+        + page(0, 1024, NONE, (b'H', 3072))
+        + page(2, NONE, 2560, (b'A', 1), (b'B', 2), (b'C', 3))
+        + page(2, 2048, 3072, (b'D', 4), (b'E', 5), (b'F', 6))
+        + page(2, 2560, NONE, (b'G', 7), (b'H', 8))
+    )
+
+
+class TestCase(unittest.TestCase):
+    def refused(self, number, call, *arguments):
+        with self.assertRaises(Refusal) as caught:
+            call(*arguments)
+        self.assertEqual(caught.exception.number, number)
+
+
+class Tables(TestCase):
+    def test_tables_of_other_programs(self):
+        for name, (fields, lines) in TABLES.items():
+            with self.subTest(name):
+                table = sample(name)
+                self.assertEqual(table.fields, fields)
+                self.assertEqual(table.record_length, 1 + sum(field.length for field in fields))
+                rows = [line.split() for line in lines.strip().splitlines()]
+                self.assertEqual(len(table), len(rows))
+                live = []
+                for record, row in zip(table, rows):
+                    self.assertEqual((record.number, record.deleted), (int(row[0]), row[1] == 'deleted'))
+                    self.assertEqual(len(row[2:]), len(fields))
+                    values = [expected(field, word) for field, word in zip(fields, row[2:])]
+                    self.assertEqual(record.values(), values)
+                    self.assertEqual(record.items(), list(zip([field.name for field in fields], values)))
+                    live += [record.number] * (row[1] == 'live')
+                    for j, (field, value) in enumerate(zip(fields, values), 1):
+                        self.check_value(record, j, field, value)
+                self.assertEqual([record.number for record in table.walk()], live)
+
+    def check_value(self, record, j, field, value):
+        if isinstance(value, Refusal):
+            self.refused(value.number, record.value, j)
+            self.refused(value.number, record.__getitem__, field.name)
+            return
+        for got in record.value(j), record[field.name], record.table.value(record.number, j):
+            self.assertEqual(got, value)
+            self.assertIs(type(got), type(value))
+            # 2.150 and not 2.15
+            self.assertEqual(str(got), str(value))
+
+    def test_refused_tables(self):
+        self.refused(4, Table, SAMPLES / 'pydbf_fp.dbf')
+        self.refused(2, Table, SAMPLES / 'xbase_83.dbf')
+        self.refused(1, Table, b'')
+        self.refused(1, Table, bytes(16777217))
+        good = (SAMPLES / 'shp_point.dbf').read_bytes()
+        for at, byte, number in (2, 13, 3), (32 * 4 + 32, 1, 5), (32, 0x61, 6), (0, 0xF5, 8), (10, 29, 9), (4, 4, 10):
+            self.refused(number, Table, good[:at] + bytes([byte]) + good[at + 1 :])
+
+    def test_sources(self):
+        path = SAMPLES / 'shp_point.dbf'
+        content = path.read_bytes()
+        for source in path, str(path), content, bytearray(content), memoryview(content):
+            self.assertEqual(Table(source).record(1)['CONC'], Decimal('2.150'))
+        changed = bytearray(content)
+        table = Table(changed)
+        changed[:] = bytes(len(changed))
+        self.assertEqual(table.record(1)['CONC'], Decimal('2.150'))
+        for source in None, 7, ['x']:
+            self.assertRaises(TypeError, Table, source)
+        self.assertRaises(FileNotFoundError, Table, SAMPLES / 'none.dbf')
+
+    def test_longest_table(self):
+        # a header of 65 bytes, records of two and the end byte are 16,777,216 in all
+        records = 8388575
+        head = b'\x03\x7c\x02\x1d' + records.to_bytes(4, 'little') + b'\x41\0\x02\0' + bytes(20)
+        table = head + b'X'.ljust(11, b'\0') + b'C' + bytes(4) + b'\1' + bytes(15) + b'\r' + records * b' x' + b'\x1a'
+        self.assertEqual(len(Table(table)), records)
+        with tempfile.TemporaryDirectory() as folder:
+            path = Path(folder) / 'long.dbf'
+            path.write_bytes(table)
+            self.assertEqual(Table(path).record(records)['X'], b'x')
+            path.write_bytes(table + b'\x1a')
+            self.refused(1, Table, path)
+
+    def test_numbers_of_records_and_fields(self):
+        table = sample('shp_point')
+        for number in 0, 6, 2**32 - 1:
+            self.refused(11, table.record, number)
+            self.refused(11, table.value, number, 1)
+            self.refused(11, table.value, number, 0)
+        for number in 0, 5, 2**32 - 1:
+            self.refused(12, table.record(1).value, number)
+        for number in -1, 2**32, 2**32 + 1:
+            self.assertRaises(OverflowError, table.record, number)
+            self.assertRaises(OverflowError, table.value, 1, number)
+            self.assertRaises(OverflowError, table.value, number, 1)
+            self.assertRaises(OverflowError, table.walk, number)
+        for number in 1.0, '1', None, True:
+            self.assertRaises(TypeError, table.record, number)
+            self.assertRaises(TypeError, table.value, 1, number)
+        self.assertRaises(KeyError, table.record(1).__getitem__, 'NONE')
+        self.assertRaises(TypeError, iter, table.record(1))
+
+    def test_bad_deletion_byte(self):
+        content = bytearray((SAMPLES / 'shp_point.dbf').read_bytes())
+        content[161 + 28] = 0x21
+        table = Table(content)
+        second = table.record(2)
+        self.refused(15, lambda: second.deleted)
+        self.assertEqual(second.values(), 4 * [Refusal(15)])
+        self.assertEqual([r.number for r in table if r.number != 2 and not r.deleted], [1, 3, 5])
+        walk = table.walk()
+        self.assertEqual(next(walk).number, 1)
+        self.refused(15, next, walk)
+        self.assertEqual(walk.passed, 2)
+        self.assertEqual([record.number for record in walk], [3, 5])
+        self.assertEqual(walk.passed, 5)
+
+    def test_walk_position(self):
+        table = sample('shp_point')
+        self.assertEqual([record.number for record in table.walk(3)], [5])
+        end = table.walk(2**32 - 1)
+        self.assertRaises(StopIteration, next, end)
+        self.assertEqual(end.passed, 2**32 - 1)
+        # with none but deleted records left the position stays
+        content = bytearray((SAMPLES / 'shp_point.dbf').read_bytes())
+        content[161 + 4 * 28] = 0x2A
+        walk = Table(content).walk(3)
+        self.assertRaises(StopIteration, next, walk)
+        self.assertEqual(walk.passed, 3)
+
+    def test_memo_file(self):
+        table = Table(SAMPLES / 'xbase_f5.dbf')
+        self.assertRaises(MemoMissing, table.record(1).__getitem__, 'NOTE')
+        self.assertEqual(table.record(1).values()[4], MemoMissing())
+        self.assertIsNone(table.record(3)['NOTE'])
+        self.assertEqual(table.record(1)['BARCODE'], b'PLT0000001')
+        self.refused(11, table.value, 9, 5)
+        self.refused(22, Table(SAMPLES / 'xbase_f5.dbf', memo=b'').value, 1, 5)
+        # leading zeros are 21 by the number's text, whatever the file is
+        self.refused(21, Table(SAMPLES / 'fpc_fox.dbf').value, 1, 5)
+
+    def test_reading_does_not_look_at_the_decimal_context(self):
+        with localcontext() as context:
+            context.prec = 1
+            self.assertEqual(str(sample('shp_point').record(3)['CONC']), '1234.500')
+            self.assertEqual(write_number(Decimal('1234.500'), 8, 3), b'1234.500')
+
+
+class NumericText(TestCase):
+    def test_examples_of_document_01(self):
+        self.assertEqual(str(read_number(b'   2.150', 3)), '2.150')
+        self.refused(16, read_number, b'   2,150', 3)
+        self.assertEqual(read_number(b'-0.001', 3), Decimal('-0.001'))
+        for text in b'-0.000', b'02.150', b'2.150 ':
+            self.refused(17, read_number, text, 3)
+        self.assertEqual(read_number(b'  2150', 0), 2150)
+        self.refused(18, read_number, b' ' + 19 * b'9', 0)
+        self.assertEqual(read_number(b'  ' + 18 * b'9', 0), 10**18 - 1)
+
+    def test_reading(self):
+        self.assertIsNone(read_number(b'        ', 3))
+        self.assertEqual(str(read_number(b'0.000', 3)), '0.000')
+        for text, decimals in (b'', 0), (21 * b'1', 0), (b'2.15', 3), (b'2.1', 2**32 - 1):
+            self.refused(6, read_number, text, decimals)
+        self.assertRaises(OverflowError, read_number, b'2150', -1)
+        self.assertRaises(OverflowError, read_number, b'2150', 2**32)
+        self.assertRaises(TypeError, read_number, '2150', 0)
+        self.assertRaises(TypeError, read_number, b'2150', 0.0)
+
+    def test_writing(self):
+        for value, width, decimals, text in (
+            (Decimal('2.150'), 8, 3, b'   2.150'),
+            (Decimal('2.15'), 8, 3, b'   2.150'),
+            (Decimal('215E-2'), 8, 3, b'   2.150'),
+            (2, 8, 3, b'   2.000'),
+            (Decimal('-0.001'), 6, 3, b'-0.001'),
+            (Decimal('-0'), 5, 3, b'0.000'),
+            (2150, 6, 0, b'  2150'),
+            (10**18 - 1, 20, 0, b'  999999999999999999'),
+            (1 - 10**18, 19, 0, b'-999999999999999999'),
+        ):
+            self.assertEqual(write_number(value, width, decimals), text)
+
+    def test_refused_writing(self):
+        for width, decimals in (0, 0), (21, 0), (4, 3), (20, 16), (8, 2**32 - 1):
+            self.refused(6, write_number, 1, width, decimals)
+            self.refused(6, write_number, 10**40, width, decimals)
+        self.refused(18, write_number, 10**18, 20, 0)
+        self.refused(18, write_number, -(2**63), 1, 0)
+        self.refused(19, write_number, Decimal('-2.150'), 5, 3)
+
+    def test_numbers_that_cannot_be_written(self):
+        for value in Decimal('2.1505'), Decimal('1E-999999'), Decimal('1E-999999999999999'), Decimal('NaN'), Decimal('sNaN'), Decimal('Infinity'):
+            self.assertRaises(ValueError, write_number, value, 8, 3)
+        for value in 2**63, -(2**63) - 1, Decimal('1E+999999'), Decimal('1E+999999999999999'):
+            self.assertRaises(OverflowError, write_number, value, 8, 0)
+        for value in 2.15, '2.150', True, None:
+            self.assertRaises(TypeError, write_number, value, 8, 3)
+        for width, decimals in (-1, 0), (2**64, 0), (8, -1), (8, 2**32):
+            self.assertRaises(OverflowError, write_number, 1, width, decimals)
+
+
+class Indexes(TestCase):
+    def test_tree_of_document_000(self):
+        index = Index(tree_000())
+        index.audit()
+        self.assertEqual(index.lookup(b'F'), Lookup(6, 3))
+        self.assertEqual(index.lookup(b'I'), Lookup(None, 1))
+        self.assertEqual([index.lookup(bytes([c])).record for c in b'ABCDEFGH'], [1, 2, 3, 4, 5, 6, 7, 8])
+        self.assertEqual(index.file(), tree_000())
+
+    def test_lists_of_calls(self):
+        for name, room in ROOM.items():
+            with self.subTest(name):
+                buffer = bytearray(room)
+                index = None
+                for line in (INDEXES / f'{name}.calls').read_text().splitlines():
+                    index = self.check_call(index, buffer, line.split())
+                file = (INDEXES / f'{name}.idx').read_bytes()
+                self.assertEqual(index.file(), file)
+                self.assertEqual(bytes(buffer), file.ljust(room, b'\0'))
+
+    def check_call(self, index, buffer, words):
+        def key(word):
+            return b'' if word == '-' else bytes.fromhex(word)
+
+        def answer(expected, call, *arguments):
+            if 0 < expected < 256:
+                before = bytes(buffer)
+                self.refused(expected, call, *arguments)
+                self.assertEqual(bytes(buffer), before)
+                return None
+            return call(*arguments)
+
+        if words[0] == 'f':
+            return answer(int(words[3]), Index.fresh, buffer, int(words[1]), key(words[2]))
+        if words[0] == 'i':
+            answer(int(words[3]), index.insert, key(words[1]), int(words[2]))
+        elif words[0] == 'l':
+            found = answer(int(words[2]), index.lookup, key(words[1]))
+            if found is not None:
+                record = None if int(words[2]) == 257 else int(words[3])
+                self.assertEqual(found, Lookup(record, int(words[4])))
+        else:
+            self.assertEqual(words[0], 'a')
+            answer(int(words[1]), index.audit)
+        return index
+
+    def test_fresh(self):
+        for key_length, expression, room, number in (
+            (0, b'', 0, 27),
+            (101, b'X', 1024, 27),
+            (10, b'', 0, 24),
+            (10, 221 * b'X', 1024, 24),
+            (10, b'\x1f', 1024, 24),
+            (10, b'X', 1023, 30),
+            (2**32 - 1, b'X', 1024, 27),
+        ):
+            buffer = bytearray(room * b'\xa5')
+            self.refused(number, Index.fresh, buffer, key_length, expression)
+            self.assertEqual(buffer, room * b'\xa5')
+        buffer = bytearray(1025 * b'\xa5')
+        index = Index.fresh(buffer, 10, b'BARCODE')
+        self.assertIs(index.buffer, buffer)
+        self.assertEqual(buffer[1024:], b'\xa5')
+        self.assertEqual(len(index.file()), 1024)
+        self.assertEqual(index.lookup(b'PLT0000001'), Lookup(None, 1))
+
+    def test_wrong_arguments(self):
+        for buffer in bytes(1024), memoryview(bytearray(1024)), None:
+            self.assertRaises(TypeError, Index.fresh, buffer, 10, b'X')
+        self.assertRaises(TypeError, Index.fresh, bytearray(1024), 10, 'X')
+        for key_length in -1, 2**32 + 10:
+            self.assertRaises(OverflowError, Index.fresh, bytearray(1024), key_length, b'X')
+        index = Index.fresh(bytearray(1024), 10, b'X')
+        before = bytes(index.buffer)
+        for record in -1, 2**32, 2**32 + 1:
+            self.assertRaises(OverflowError, index.insert, b'PLT0000001', record)
+        for record in 1.0, '1', None, True:
+            self.assertRaises(TypeError, index.insert, b'PLT0000001', record)
+        self.assertRaises(TypeError, index.insert, 'PLT0000001', 1)
+        self.assertRaises(TypeError, index.lookup, 'PLT0000001')
+        self.assertEqual(bytes(index.buffer), before)
+        self.assertRaises(ValueError, Index, bytearray(1024), 2048)
+        self.assertRaises(OverflowError, Index, bytes(1024), -1)
+
+    def test_room(self):
+        path = SAMPLES / 'xbase_s20_unique.idx'
+        tight = Index(path)
+        for i in range(100):
+            try:
+                tight.insert(b'QLT%07d' % i, 21 + i)
+            except Refusal as refusal:
+                self.assertEqual(refusal.number, 30)
+                break
+        else:
+            self.fail('an insertion without room was accepted')
+        wide = Index(path, room=65536)
+        self.assertEqual(len(wide.buffer), 65536)
+        for i in range(100):
+            wide.insert(b'QLT%07d' % i, 21 + i)
+        self.assertEqual(Index(wide.file()).lookup(b'QLT0000099').record, 120)
+        self.assertEqual(Index(path).file(), path.read_bytes())
+
+    def test_unsound(self):
+        for index in Index(b''), Index(SAMPLES / 'xbase_s20.idx'):
+            self.refused(24, index.audit)
+            self.refused(24, index.file)
+            self.refused(24, index.lookup, b'PLT0007919')
+            self.refused(24, index.insert, b'PLT0007919', 0)
+        # a child that points to its own parent
+        looped = bytearray(tree_000())
+        looped[512 + 12 + 1 : 512 + 12 + 5] = (512).to_bytes(4, 'big')
+        index = Index(looped)
+        self.refused(25, index.audit)
+        self.refused(25, index.lookup, b'A')
+        self.refused(25, index.insert, b'Z', 9)
+        self.refused(27, index.lookup, b'AA')
+
+    def test_match(self):
+        table = Table(SAMPLES / 'xbase_s20.dbf')
+        index = Index(SAMPLES / 'xbase_s20_unique.idx')
+        self.assertEqual([record['BARCODE'] for record in table], S20)
+        self.assertEqual([index.lookup(barcode).record for barcode in S20], list(range(1, 21)))
+        table.match(index, 'BARCODE')
+        table.match(index, 1)
+        self.refused(24, table.match, Index(SAMPLES / 'xbase_s20.idx'), 0)
+        self.refused(12, table.match, index, 0)
+        self.refused(12, table.match, index, 5)
+        self.refused(13, table.match, index, 'CONC')
+        self.refused(27, table.match, Index(tree_000()), 'BARCODE')
+        self.refused(31, sample('shp_point').match, index, 'BARCODE')
+        self.assertRaises(KeyError, table.match, index, 'NONE')
+        self.assertRaises(OverflowError, table.match, index, -1)
+        self.assertRaises(OverflowError, table.match, index, 2**32 + 1)
+        self.assertRaises(TypeError, table.match, index.buffer, 1)
+
+
+class Refusals(TestCase):
+    def test_words(self):
+        refusal = Refusal(16)
+        self.assertEqual((refusal.number, refusal.words, str(refusal)), (16, 'comma in a number', '16 (comma in a number)'))
+        self.assertEqual(pickle.loads(pickle.dumps(refusal)), refusal)
+        self.assertNotEqual(refusal, Refusal(17))
+        self.assertNotEqual(refusal, 16)
+        self.assertEqual(sorted(gatherloom.WORDS), [n for n in range(1, 32) if n != 26])
+
+
+class Threads(TestCase):
+    def run_all(self, work):
+        errors = []
+
+        def run(number):
+            try:
+                work(number)
+            except BaseException as error:
+                errors.append(error)
+
+        threads = [threading.Thread(target=run, args=(number,)) for number in range(8)]
+        for thread in threads:
+            thread.start()
+        for thread in threads:
+            thread.join()
+        self.assertEqual(errors, [])
+
+    def test_one_table(self):
+        table = sample('xbase_f5')
+        rows = [record.values() for record in table]
+
+        def work(number):
+            for _ in range(50):
+                self.assertEqual([record.values() for record in table], rows)
+                self.assertEqual([record.deleted for record in table], [False, True, False, False, False])
+
+        self.run_all(work)
+
+    def test_one_index(self):
+        index = Index.fresh(bytearray(65536), 10, b'BARCODE')
+
+        def work(number):
+            for i in range(50):
+                record = 50 * number + i + 1
+                index.insert(b'%010d' % record, record)
+                self.assertEqual(index.lookup(b'%010d' % record).record, record)
+
+        self.run_all(work)
+        index.audit()
+        self.assertEqual([index.lookup(b'%010d' % record).record for record in range(1, 401)], list(range(1, 401)))
+
+
+class Loading(TestCase):
+    def message(self, library):
+        """What a program that imports gatherloom with this library ends with."""
+        environment = dict(os.environ, GATHERLOOM_LIBRARY=str(library), PYTHONPATH=str(Path(__file__).resolve().parent))
+        ended = subprocess.run([sys.executable, '-c', 'import gatherloom'], env=environment, capture_output=True, text=True)
+        self.assertEqual(ended.returncode, 1)
+        return ended.stderr.splitlines()[-1]
+
+    def test_no_library(self):
+        self.assertRegex(self.message('/none.so'), r'^ImportError: gatherloom: /none.so could not be loaded .* run host/python/build')
+
+    @unittest.skipUnless(shutil.which('cc'), 'needs cc')
+    def test_libraries_of_another_interface(self):
+        with tempfile.TemporaryDirectory() as folder:
+            library = Path(folder) / 'other.so'
+            for source, says in (
+                ('int other(void) { return 1; }', 'undefined symbol: gl_interface'),
+                ('unsigned gl_interface(void) { return 1; }', 'undefined symbol: gl_table_shape'),
+                ('unsigned gl_interface(void) { return 2; }', 'has interface 2, and gatherloom.py is for interface 1'),
+            ):
+                subprocess.run(['cc', '-shared', '-fPIC', '-x', 'c', '-', '-o', library], input=source.encode(), check=True)
+                message = self.message(library)
+                self.assertTrue(message.startswith('ImportError: gatherloom: '), message)
+                self.assertIn(says, message)
+                self.assertIn('run host/python/build', message)
+
+
+if __name__ == '__main__':
+    unittest.main()
