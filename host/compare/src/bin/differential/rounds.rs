@@ -1,13 +1,13 @@
 //! The inputs of a round, and the calls made on them.
 use crate::calls;
 use crate::tally::Tally;
-use gatherloom_host::generate::{
+use gatherloom_compare::generate::{
     index::{self, Entry, Fill},
     table, text,
 };
-use gatherloom_host::lent::{Arena, Lent};
-use gatherloom_host::random::Random;
-use gatherloom_host::reference;
+use gatherloom_compare::lent::{Arena, Lent};
+use gatherloom_compare::random::Random;
+use gatherloom_compare::reference;
 
 const MOST: usize = 16_777_216;
 
