@@ -14,14 +14,17 @@ pub struct Decimal {
 }
 
 impl Decimal {
+    #[inline]
     pub(crate) fn new(units: i64, decimals: u32) -> Decimal {
         Decimal { units, decimals }
     }
 
+    #[inline]
     pub fn units(self) -> i64 {
         self.units
     }
 
+    #[inline]
     pub fn decimals(self) -> u32 {
         self.decimals
     }
@@ -38,6 +41,7 @@ impl fmt::Display for Decimal {
 }
 
 /// Reads a text as that of an N field of its length; `None` if it is all blanks.
+#[inline]
 pub fn read_number(text: &[u8], decimals: u32) -> Answer<Option<Decimal>> {
     compare_interface();
     let mut units = 0;
@@ -46,6 +50,7 @@ pub fn read_number(text: &[u8], decimals: u32) -> Answer<Option<Decimal>> {
 }
 
 /// Writes a count of units, each 10 to the -decimals, as the text of an N field of the buffer's length.
+#[inline]
 pub fn write_number(text: &mut [u8], decimals: u32, units: i64) -> Answer<()> {
     compare_interface();
     let answer = unsafe { ffi::gl_number_write(text.as_mut_ptr(), text.len(), decimals, units) };

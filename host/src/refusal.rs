@@ -85,6 +85,7 @@ impl fmt::Display for Refusal {
 impl Error for Refusal {}
 
 /// What an answer of 0 stands for, or the refusal.
+#[inline]
 pub(crate) fn accepted<T>(answer: u32, value: T) -> Answer<T> {
     if answer == 0 {
         return Ok(value);
@@ -96,6 +97,7 @@ pub(crate) fn accepted<T>(answer: u32, value: T) -> Answer<T> {
 }
 
 /// The same for a field that may be empty, which is `None`.
+#[inline]
 pub(crate) fn present<T>(answer: u32, value: T) -> Answer<Option<T>> {
     match answer {
         ffi::EMPTY => Ok(None),

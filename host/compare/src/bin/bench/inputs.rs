@@ -20,7 +20,7 @@ pub fn texts(r: &mut Random, width: usize, decimals: u32, digits: u32) -> Vec<Ve
 
 pub fn values(r: &mut Random, digits: u32) -> Vec<i64> {
     let size = 10u64.pow(digits);
-    (0..256).map(|_| (r.next() % size) as i64).collect()
+    (0..256).map(|_| (r.bits() % size) as i64).collect()
 }
 
 /// A table of a lab's shape: barcode, concentration, date, mark and well, over and over.
