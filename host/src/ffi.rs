@@ -1,4 +1,5 @@
-//! The C interface of the proved library, as its header declares it.
+//! The C interface of the proved library, as its header declares it. A call asks of its caller that each pointer and length are those of memory that is lent,
+//! and that what it may write overlaps nothing else. The other modules pass slices, and pointers to numbers of their own: so their `unsafe` blocks are sound.
 
 /// `gl_field_entry`
 #[repr(C)]

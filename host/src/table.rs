@@ -92,7 +92,7 @@ impl<'a> Table<'a> {
         })
     }
 
-    /// Checks 1 to 10 alone.
+    /// Whether a table is good: 1 to 10. `new` checks the same.
     pub fn check(bytes: &[u8]) -> Answer<()> {
         compare_interface();
         let answer = unsafe { ffi::gl_table_check(bytes.as_ptr(), bytes.len()) };
