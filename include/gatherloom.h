@@ -7,8 +7,10 @@
    Threads: a call keeps no state and holds nothing after it returns. Calls may run at the same time in several threads, as long as none of them writes what
    another one is lent.
 
-   Stack: the bytes that a call takes at most, beside those of memcpy and memset (tests/c/stack reads them from the archive):
-       numeric text 112; table, field list and walk 240; one field of one record 368; fresh 24; lookup 1,664; audit 2,377; match 2,521; insertion 10,168.
+   Stack: how many bytes a call takes at most, beside those of memcpy and memset. tests/c/stack reads it from the archive and compares.
+       gl_interface 8, gl_number_write 88, gl_number_read 112, gl_table_check 192, gl_table_shape 224, gl_fields 224, gl_walk 240, gl_read_logical 336,
+       gl_text_part 352, gl_read_number 368, gl_read_date 368, gl_index_fresh 24, gl_index_lookup 1664, gl_index_audit 2377, gl_match 2521,
+       gl_index_insert 10168
 
    The archive is for x86-64 Linux and the System V calling convention. It needs memcpy and memset alone, allocates no memory, has no writable data and is
    position independent. It uses SSE registers and the red zone below the stack pointer, which Linux keeps for user programs: kernel code can't call it. */

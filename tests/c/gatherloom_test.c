@@ -514,8 +514,8 @@ static void test_walk(void)
     give_back(&t);
 }
 
-/* ---- The reports on other programs' tables, made through C, against crates/samples/stdout, which has a line `== ARGUMENTS` for each run of `inspect`, and under
-   it what that prints. */
+/* ---- The reports on other programs' tables, made through C, against crates/samples/stdout, which has a line `== ARGUMENTS` for each run of `inspect`, and
+   under it what that prints. */
 
 static char report[1 << 18];
 static size_t reported;
