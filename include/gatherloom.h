@@ -49,7 +49,7 @@ enum gl_refusal {
     GL_REFUSED_HEADER_LENGTH = 4,       /* header length: not that of 1 to 128 fields, or the table is shorter */
     GL_REFUSED_HEADER_END_MARK = 5,     /* header end mark: the header's last byte is not 0x0D */
     GL_REFUSED_FIELD_DESCRIPTOR = 6,    /* field descriptor: a bad name, type, length or decimal count; for numeric text, a bad width or decimal count */
-    GL_REFUSED_FIELD_NAME_TWICE = 7,    /* field name twice */
+    GL_REFUSED_FIELD_NAME_TWICE = 7,    /* field name twice: two fields have the same name */
     GL_REFUSED_MEMO_FIELD_AND_KIND = 8, /* memo field and kind of table: an M field in kind 0x03, or none in kind 0xF5 */
     GL_REFUSED_RECORD_LENGTH = 9,       /* record length: not 1 + the fields' lengths, or above 4,000 */
     GL_REFUSED_TABLE_LENGTH = 10,       /* table length: not that of its records, with or without one byte 0x1A; the file was cut short or appended to */
@@ -64,7 +64,7 @@ enum gl_refusal {
     GL_REFUSED_NOT_A_NUMBER = 17,         /* not a number: or one in another form than the field's, as with needless zeros or blanks behind it */
     GL_REFUSED_TOO_MANY_DIGITS = 18,      /* more than 18 digits: in the text, or in the value that is to be written */
     GL_REFUSED_DOES_NOT_FIT = 19,         /* does not fit the field: the value's text is longer than the buffer */
-    GL_REFUSED_DATE_OR_LOGICAL = 20,      /* not a date or logical value */
+    GL_REFUSED_DATE_OR_LOGICAL = 20,      /* not a date or logical value: no day YYYYMMDD of the years 1 to 9999, or neither T nor F */
     GL_REFUSED_MEMO_NUMBER_OR_PLACE = 21, /* memo number or place: the field holds no block number, or that block is not within the memo file */
     GL_REFUSED_MEMO_HEADER = 22,          /* memo header: no memo file, or one with a bad size or block size; was the right file lent? */
     GL_REFUSED_MEMO_NOT_TEXT = 23,        /* memo is not text: the block is of another type */
