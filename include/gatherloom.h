@@ -1,8 +1,19 @@
 /* Gatherloom: dBASE/FoxPro tables, memo files and IDX indexes. Link with the archive that `rt staticlib gatherloom` builds.
 
-   Whatever bytes, numbers and lengths come in, a call ends, touches nothing outside what it was lent, and checks for itself; nothing is held
-   after it returns. The caller sees to it that no pointer is NULL, that as much stands behind each as is lent, and that what a call may write overlaps
-   nothing else that the same call is lent. */
+   Whatever bytes, numbers and lengths come in, a call ends, touches nothing outside what it was lent, and checks for itself. The caller sees to it that no
+   pointer is NULL, not even with a length of 0, that as much stands behind each as is lent, and that what a call may write overlaps nothing else that the same
+   call is lent.
+
+   Threads: a call keeps no state and holds nothing after it returns. Calls may run at the same time in several threads, as long as none of them writes what
+   another one is lent.
+
+   Stack: how many bytes a call takes at most, beside those of memcpy and memset. tests/c/stack reads it from the archive and compares.
+       gl_interface 8, gl_number_write 88, gl_number_read 112, gl_table_check 192, gl_table_shape 224, gl_fields 224, gl_walk 240, gl_read_logical 336,
+       gl_text_part 352, gl_read_number 368, gl_read_date 368, gl_index_fresh 24, gl_index_lookup 1664, gl_index_audit 2377, gl_match 2521,
+       gl_index_insert 10168
+
+   The archive is for x86-64 Linux and the System V calling convention. It needs memcpy and memset alone, allocates no memory, has no writable data and is
+   position independent. It uses SSE registers and the red zone below the stack pointer, which Linux keeps for user programs: kernel code can't call it. */
 #ifndef GATHERLOOM_H
 #define GATHERLOOM_H
 
@@ -13,16 +24,81 @@
 extern "C" {
 #endif
 
-/* Answers. 1 to 31 are the refusal numbers of document 01. Unless said otherwise, an out-parameter keeps what it held whenever the answer is
-   not 0, and so does every lent buffer. */
+/* ---- Versions. */
+
+#define GL_VERSION "0.2.0" /* raised with every change, see docs/CHANGES.md */
+#define GL_INTERFACE 1     /* raised with every change of the form of a call or a struct */
+
+/* The GL_INTERFACE of the archive. A host compares it with its own before the first call: if they differ, a call may write past what it is lent. */
+uint32_t gl_interface(void);
+
+/* ---- Answers. Unless said otherwise, an out-parameter keeps what it held whenever the answer is not 0, and so does every lent buffer. */
+
 #define GL_ACCEPTED 0 /* every out-parameter is set */
 #define GL_EMPTY 256  /* the field holds blanks */
 #define GL_ABSENT 257 /* the key is not in the index */
 #define GL_DONE 258   /* the walk has no record left */
 
+/* The refusals, by the numbers of document 01 (26 is unused). If several hold, a call answers the one that its comment names first. A table that is refused by
+   1 to 10 is not read at all: the lab has to send a good copy. */
+enum gl_refusal {
+    /* the table as a whole */
+    GL_REFUSED_TABLE_SIZE = 1,          /* size of the table: below 32 or above 16,777,216 bytes */
+    GL_REFUSED_TABLE_KIND = 2,          /* kind of table: byte 0 is neither 0x03 nor 0xF5; the file is of a kind that is not handled */
+    GL_REFUSED_UPDATE_DATE = 3,         /* update date: bytes 1 to 3 of the header are no calendar date */
+    GL_REFUSED_HEADER_LENGTH = 4,       /* header length: not that of 1 to 128 fields, or the table is shorter */
+    GL_REFUSED_HEADER_END_MARK = 5,     /* header end mark: the header's last byte is not 0x0D */
+    GL_REFUSED_FIELD_DESCRIPTOR = 6,    /* field descriptor: a bad name, type, length or decimal count; for numeric text, a bad width or decimal count */
+    GL_REFUSED_FIELD_NAME_TWICE = 7,    /* field name twice: two fields have the same name */
+    GL_REFUSED_MEMO_FIELD_AND_KIND = 8, /* memo field and kind of table: an M field in kind 0x03, or none in kind 0xF5 */
+    GL_REFUSED_RECORD_LENGTH = 9,       /* record length: not 1 + the fields' lengths, or above 4,000 */
+    GL_REFUSED_TABLE_LENGTH = 10,       /* table length: not that of its records, with or without one byte 0x1A; the file was cut short or appended to */
+    /* what a call asked for */
+    GL_REFUSED_RECORD_NUMBER = 11,        /* record number: 0 or above the record count; records count from 1 */
+    GL_REFUSED_FIELD_NUMBER = 12,         /* field number: 0 or above the field count; fields count from 1 */
+    GL_REFUSED_FIELD_TYPE = 13,           /* field type: not the one that this call reads; the field list has each field's type */
+    GL_REFUSED_FIELD_LIST_TOO_SHORT = 14, /* field list too short: lend an entry for each field, GL_FIELDS_MAX are always enough */
+    /* one record, one field */
+    GL_REFUSED_DELETION_BYTE = 15,        /* deletion byte: the record's first byte is neither 0x20 (live) nor 0x2A (deleted) */
+    GL_REFUSED_COMMA = 16,                /* comma in a number: decimal or thousands mark, nobody can tell; the value is not to be used */
+    GL_REFUSED_NOT_A_NUMBER = 17,         /* not a number: or one in another form than the field's, as with needless zeros or blanks behind it */
+    GL_REFUSED_TOO_MANY_DIGITS = 18,      /* more than 18 digits: in the text, or in the value that is to be written */
+    GL_REFUSED_DOES_NOT_FIT = 19,         /* does not fit the field: the value's text is longer than the buffer */
+    GL_REFUSED_DATE_OR_LOGICAL = 20,      /* not a date or logical value: no day YYYYMMDD of the years 1 to 9999, or neither T nor F */
+    GL_REFUSED_MEMO_NUMBER_OR_PLACE = 21, /* memo number or place: the field holds no block number, or that block is not within the memo file */
+    GL_REFUSED_MEMO_HEADER = 22,          /* memo header: no memo file, or one with a bad size or block size; was the right file lent? */
+    GL_REFUSED_MEMO_NOT_TEXT = 23,        /* memo is not text: the block is of another type */
+    /* the index */
+    GL_REFUSED_INDEX_HEADER = 24,           /* index header: not that of a plain index of distinct keys; for a fresh index, a bad key expression */
+    GL_REFUSED_INDEX_NOT_SOUND = 25,        /* index not sound: make it anew from the table by fresh and insertion */
+    GL_REFUSED_KEY_LENGTH = 27,             /* key length: not the index's; for a fresh index, not 1 to 100; for the match, not the field's length */
+    GL_REFUSED_RECORD_NUMBER_ZERO = 28,     /* record number 0: records count from 1 */
+    GL_REFUSED_KEY_PRESENT = 29,            /* key present: the index has the key already, and keeps its record */
+    GL_REFUSED_NO_ROOM = 30,                /* no room: lend a longer buffer; if the index would pass 1,048,576 bytes or 11 levels, it is full */
+    GL_REFUSED_INDEX_AND_TABLE_DIFFER = 31  /* index and table differ: make the index anew from the table */
+};
+
+/* ---- Limits. */
+
+#define GL_TABLE_MIN 32           /* bytes of a table */
+#define GL_TABLE_MAX 16777216
+#define GL_FIELDS_MAX 128         /* fields of a table, at least 1 */
+#define GL_RECORD_LENGTH_MAX 4000 /* bytes of a record, its deletion byte among them */
+#define GL_MEMO_MIN 512           /* bytes of a memo file */
+#define GL_MEMO_MAX 16777216
+#define GL_NUMBER_WIDTH_MAX 20    /* bytes of a numeric text, at least 1 */
+#define GL_NUMBER_DECIMALS_MAX 15 /* and at most the width less 2 */
+#define GL_NUMBER_DIGITS_MAX 18   /* digits of a number, those behind the point among them */
+#define GL_INDEX_MIN 1024         /* bytes of an index; its buffer may be longer */
+#define GL_INDEX_MAX 1048576
+#define GL_INDEX_LEVELS_MAX 11
+#define GL_KEY_MAX 100            /* bytes of a key, at least 1 */
+#define GL_EXPRESSION_MAX 220     /* bytes of a key expression, at least 1, each 0x20 to 0x7E */
+#define GL_STACK_MAX 10240        /* bytes of stack that are enough for any call */
+
 /* ---- The table. */
 
-/* 0 where the table is good, else 1 to 10. */
+/* 0 if the table is good, else 1 to 10. */
 uint32_t gl_table_check(const uint8_t *table, size_t table_len);
 
 /* How many records and fields there are, and the bytes of a record. 1 to 10. */
@@ -32,7 +108,7 @@ uint32_t gl_table_shape(const uint8_t *table, size_t table_len,
 /* A field: its name with zeros after it, its type's letter, its length, its decimals. */
 typedef struct { uint8_t name[11]; uint8_t kind; uint8_t length; uint8_t decimals; } gl_field_entry;
 
-/* The field list. 1 to 10, then 14 where fewer entries are lent than there are fields. Entries past the field count are kept. */
+/* The field list. 1 to 10, then 14 if fewer entries are lent than there are fields. Entries past the field count are kept. */
 uint32_t gl_fields(const uint8_t *table, size_t table_len, gl_field_entry *entries, size_t entry_count);
 
 /* How many records a walk has passed; 0 at first. */
@@ -53,8 +129,8 @@ uint32_t gl_read_date(const uint8_t *table, size_t table_len, uint32_t record, u
 /* An L field: 1 for true, 0 for false. 20. */
 uint32_t gl_read_logical(const uint8_t *table, size_t table_len, uint32_t record, uint32_t field, uint8_t *value);
 
-/* A C field's part of the table, or an M field's part of the memo file: where it starts and how long it is. 21, 22, 23 for an M field; a C field's
-   call does not look at the memo file. */
+/* A C field's part of the table, or an M field's part of the memo file: where it starts and how long it is. For an M field 21 for the number's text, 22,
+   21 for the block's place, 23; a C field's call does not look at the memo file. */
 uint32_t gl_text_part(const uint8_t *table, size_t table_len, const uint8_t *memo, size_t memo_len,
                       uint32_t record, uint32_t field, uint64_t *start, uint64_t *length);
 
@@ -72,7 +148,7 @@ uint32_t gl_number_write(uint8_t *text, size_t width, uint32_t decimals, int64_t
 uint32_t gl_index_fresh(uint8_t *index, size_t index_len, uint32_t key_length,
                         const uint8_t *expression, size_t expression_len);
 
-/* 0 exactly where the index is sound, 24 where its header is bad, else 25. */
+/* 0 exactly if the index is sound, 24 if its header is bad, else 25. */
 uint32_t gl_index_audit(const uint8_t *index, size_t index_len);
 
 /* The record of a key, and how many pages were visited. 24, 27, 25. 0 sets both; 257 sets pages alone. */
@@ -82,7 +158,7 @@ uint32_t gl_index_lookup(const uint8_t *index, size_t index_len, const uint8_t *
 /* Inserts a key with its record's number. 24, 27, 28, 25, 29, 30. */
 uint32_t gl_index_insert(uint8_t *index, size_t index_len, const uint8_t *key, size_t key_len, uint32_t record);
 
-/* Matches an index against a field of a table: 0 where each record, deleted or not, has exactly one entry, its key that record's field, and there are
+/* Matches an index against a field of a table: 0 if each record, deleted or not, has exactly one entry, its key that record's field, and there are
    no other entries. 1 to 10, 24, 12, 13, 27, 25, 31. */
 uint32_t gl_match(const uint8_t *table, size_t table_len, const uint8_t *index, size_t index_len, uint32_t field);
 

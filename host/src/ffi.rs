@@ -1,4 +1,5 @@
-//! The C interface of the proved library, as its header declares it.
+//! The C interface of the proved library, as its header declares it. A call asks of its caller that each pointer and length are those of memory that is lent,
+//! and that what it may write overlaps nothing else. The other modules pass slices, and pointers to numbers of their own: so their `unsafe` blocks are sound.
 
 /// `gl_field_entry`
 #[repr(C)]
@@ -17,12 +18,16 @@ pub struct Position {
     pub passed: u32,
 }
 
+/// `GL_INTERFACE`: the interface that is declared here.
+pub const INTERFACE: u32 = 1;
+
 /// The answers beside 0 and the refusal numbers.
 pub const EMPTY: u32 = 256;
 pub const ABSENT: u32 = 257;
 pub const DONE: u32 = 258;
 
 extern "C" {
+    pub fn gl_interface() -> u32;
     pub fn gl_table_check(table: *const u8, table_len: usize) -> u32;
     pub fn gl_table_shape(
         table: *const u8,

@@ -1,7 +1,25 @@
-//! The proved library for Rust programs on the host, and what it is compared with.
+//! dBASE/FoxPro tables, their FPT memo files and IDX indexes, read and written by a proved library: a call answers exactly what the rules say, or refuses by
+//! number and changes nothing.
+//!
+//! ```
+//! use gatherloom::{read_number, Refusal};
+//!
+//! let value = read_number(b"   2.150", 3).unwrap().unwrap();
+//! assert_eq!(value.units(), 2150);
+//! assert_eq!(value.to_string(), "2.150");
+//! assert_eq!(read_number(b"   2,150", 3), Err(Refusal::Comma));
+//! assert_eq!(Refusal::Comma.to_string(), "16 (comma in a number)");
+//! ```
+//!
+//! [`Table`] reads a table and its memo file; [`Index`] makes, audits, searches and extends an index. Both lie over bytes that the caller holds. [`ffi`]
+//! has the C interface itself.
 pub mod ffi;
-pub mod generate;
-pub mod lent;
-pub mod library;
-pub mod random;
-pub mod reference;
+mod index;
+mod number;
+mod refusal;
+mod table;
+
+pub use index::{Index, Lookup};
+pub use number::{read_number, write_number, Decimal};
+pub use refusal::{Answer, Refusal};
+pub use table::{Date, Field, Record, Records, Shape, Table, Value};

@@ -111,6 +111,7 @@ static void give_back(lent *l)
 /* ---- Files. */
 
 static const char *repository = ".";
+static const char samples[] = "crates/samples", samples_data[] = "crates/samples/data", indexes_data[] = "crates/indexes/data";
 
 static lent load(const char *folder, const char *name)
 {
@@ -125,6 +126,15 @@ static lent load(const char *folder, const char *name)
     size_t n = fread(space, 1, sizeof space, f);
     fclose(f);
     return lend(space, n);
+}
+
+/* ---- The archive is the one that the header declares. */
+
+static void test_interface(void)
+{
+    SAME(gl_interface(), GL_INTERFACE);
+    SAME(sizeof(gl_field_entry), 14);
+    SAME(sizeof(gl_position), 4);
 }
 
 /* ---- Numeric text. */
@@ -379,7 +389,7 @@ static void all_answer(const lent *t, uint32_t record, uint32_t field, uint32_t 
 /* Refusals 11, 12, 13 and 15, in this order. */
 static void test_read_order(void)
 {
-    lent t = load("crates/samples/data", "shp_point.dbf");
+    lent t = load(samples_data, "shp_point.dbf");
     all_answer(&t, 0, 0, 11);
     all_answer(&t, 6, 9, 11);
     all_answer(&t, UINT32_MAX, 1, 11);
@@ -425,7 +435,7 @@ static void refused_alike(const lent *t, uint32_t check)
 static void test_damaged_table(const char *name)
 {
     static const uint8_t masks[] = {0x01, 0x20, 0x80, 0xFF};
-    lent t = load("crates/samples/data", name);
+    lent t = load(samples_data, name);
     for (size_t i = 0; i < t.len; i++)
         for (size_t m = 0; m < sizeof masks; m++) {
             t.bytes[i] ^= masks[m];
@@ -448,7 +458,7 @@ static void test_damaged_table(const char *name)
 
 static void test_fields(void)
 {
-    lent t = load("crates/samples/data", "shp_point.dbf");
+    lent t = load(samples_data, "shp_point.dbf");
     gl_field_entry entries[6], before[6];
     memset(entries, CANARY, sizeof entries);
     memcpy(before, entries, sizeof entries);
@@ -472,7 +482,7 @@ static void test_fields(void)
 /* Record 4 of the table is deleted; record 2 is made bad. */
 static void test_walk(void)
 {
-    lent t = load("crates/samples/data", "shp_point.dbf");
+    lent t = load(samples_data, "shp_point.dbf");
     gl_position position = {0};
     OUT(uint32_t, record);
     t.bytes[161 + 28] = 'x';
@@ -504,7 +514,8 @@ static void test_walk(void)
     give_back(&t);
 }
 
-/* ---- The reports on other programs' tables, made through C, against crates/samples/stdout. */
+/* ---- The reports on other programs' tables, made through C, against crates/samples/stdout, which has a line `== ARGUMENTS` for each run of `inspect`, and
+   under it what that prints. */
 
 static char report[1 << 18];
 static size_t reported;
@@ -542,6 +553,7 @@ static void print_value(const lent *t, const lent *m, uint32_t i, uint32_t j, ui
     uint32_t year = 0, month = 0, day = 0, answer;
     uint8_t logical = 0;
     uint64_t start = 0, length = 0;
+    const lent *whole = m == NULL ? t : m; /* a C field's call does not look at the memo file */
     if (kind == 'N') {
         if ((answer = gl_read_number(t->bytes, t->len, i, j, &value)) == 0)
             print(" 0 %" PRId64, value);
@@ -551,8 +563,11 @@ static void print_value(const lent *t, const lent *m, uint32_t i, uint32_t j, ui
     } else if (kind == 'L') {
         if ((answer = gl_read_logical(t->bytes, t->len, i, j, &logical)) == 0)
             print(logical == 1 ? " 0 T" : " 0 F");
-    } else if ((answer = gl_text_part(t->bytes, t->len, m->bytes, m->len, i, j, &start, &length)) == 0) {
-        const lent *whole = kind == 'C' ? t : m;
+    } else if (kind == 'M' && m == NULL) {
+        print(" unread");
+        return;
+    } else if ((answer = gl_text_part(t->bytes, t->len, whole->bytes, whole->len, i, j, &start, &length)) == 0) {
+        whole = kind == 'C' ? t : m;
         SAME(start <= whole->len && length <= whole->len - start, 1);
         print_text(whole->bytes + start, length);
     }
@@ -599,54 +614,100 @@ static void print_table(const lent *t, const lent *m)
     }
 }
 
-/* A run of `inspect`: its files, NULL or "-" for none, and its field as a word and as a number. */
-typedef struct { const char *table, *memo, *index, *field; uint32_t number; } run;
-
-static lent load_sample(const char *name)
+/* The number of a field that is named by its number, or by its name; 0 if there is none of that name. */
+static uint32_t field_number(const lent *t, const char *word)
 {
-    return name == NULL || strcmp(name, "-") == 0 ? lend("", 0) : load("crates/samples/data", name);
+    gl_field_entry entries[GL_FIELDS_MAX];
+    memset(entries, 0, sizeof entries);
+    if (*word >= '0' && *word <= '9') {
+        unsigned long long n = strtoull(word, NULL, 10);
+        return n > UINT32_MAX ? UINT32_MAX : (uint32_t)n;
+    }
+    if (gl_fields(t->bytes, t->len, entries, GL_FIELDS_MAX) == 0)
+        for (uint32_t j = 1; j <= GL_FIELDS_MAX; j++)
+            if (strcmp((const char *)entries[j - 1].name, word) == 0)
+                return j;
+    return 0;
 }
 
-static void print_run(const run *r)
+enum { TABLE, MEMO, INDEX, FIELD, WORDS };
+
+/* Reports on the files of a run; a word that is NULL was not given. */
+static void print_run(char *const *words)
 {
-    lent t = load_sample(r->table), m = load_sample(r->memo), x = load_sample(r->index);
-    const char *const words[] = {r->table, r->memo, r->index, r->field};
-    print("==");
-    for (size_t k = 0; k < sizeof words / sizeof *words && words[k] != NULL; k++)
-        print(" %s", words[k]);
-    print("\n");
-    print_table(&t, &m);
-    if (r->index != NULL)
-        print("index %" PRIu32 "\n", gl_index_audit(x.bytes, x.len));
-    if (r->field != NULL)
-        print("match %" PRIu32 "\n", gl_match(t.bytes, t.len, x.bytes, x.len, r->number));
-    lent *const all[] = {&t, &m, &x};
-    for (size_t k = 0; k < sizeof all / sizeof *all; k++) {
-        UNCHANGED(*all[k]);
-        MARGINS(*all[k]);
-        give_back(all[k]);
+    lent files[FIELD];
+    int given[FIELD];
+    for (int k = TABLE; k < FIELD; k++) {
+        given[k] = words[k] != NULL && strcmp(words[k], "-") != 0;
+        files[k] = given[k] ? load(samples_data, words[k]) : lend("", 0);
+    }
+    const lent *t = &files[TABLE], *x = &files[INDEX];
+    print_table(t, given[MEMO] ? &files[MEMO] : NULL);
+    if (given[INDEX])
+        print("index %" PRIu32 "\n", gl_index_audit(x->bytes, x->len));
+    if (given[INDEX] && words[FIELD] != NULL)
+        print("match %" PRIu32 "\n", gl_match(t->bytes, t->len, x->bytes, x->len, field_number(t, words[FIELD])));
+    for (int k = TABLE; k < FIELD; k++) {
+        UNCHANGED(files[k]);
+        MARGINS(files[k]);
+        give_back(&files[k]);
     }
 }
 
-/* The runs that stand in crates/samples/stdout before those of bad arguments, the first of which has none. */
+/* The lines of a report as C is handed it: without a refusal's words in parentheses and the count of problems, and a number, `value I J 0 -0.001`, in units. */
+static void in_units(char *to, char *lines)
+{
+    for (char *line = strtok(lines, "\n"); line != NULL; line = strtok(NULL, "\n")) {
+        int quoted = strchr(line, '"') != NULL;
+        char *words = strstr(line, " ("), *point = strchr(line, '.'), *number = strrchr(line, ' ') + 1;
+        if (strncmp(line, "problems ", 9) == 0)
+            continue;
+        if (!quoted && words != NULL)
+            *words = 0;
+        if (!quoted && point != NULL) {
+            memmove(point, point + 1, strlen(point));
+            sprintf(number, "%lld", strtoll(number, NULL, 10));
+        }
+        to += sprintf(to, "%s\n", line);
+    }
+    *to = 0;
+}
+
+static void test_run(char *arguments, char *lines)
+{
+    static char want[sizeof report];
+    char *words[WORDS] = {NULL};
+    char *word = strtok(arguments, " ");
+    for (size_t k = 0; k < WORDS && word != NULL; k++, word = strtok(NULL, " "))
+        words[k] = word;
+    in_units(want, lines);
+    reported = 0;
+    print_run(words);
+    SAME(reported, strlen(want));
+    SAME_BYTES(report, want, reported);
+}
+
+/* Every run that `inspect` does not answer with 40. */
 static void test_samples(void)
 {
-    static const char unique[] = "xbase_s20_unique.idx";
-    static const run runs[] = {
-        {"shp_point.dbf", NULL, NULL, NULL, 0}, {"shp_comma.dbf", NULL, NULL, NULL, 0}, {"xbase_plain.dbf", NULL, NULL, NULL, 0},
-        {"fpc_l3.dbf", NULL, NULL, NULL, 0}, {"gdal.dbf", NULL, NULL, NULL, 0}, {"pydbf_db3.dbf", NULL, NULL, NULL, 0},
-        {"pydbf_fp.dbf", NULL, NULL, NULL, 0}, {"xbase_83.dbf", NULL, NULL, NULL, 0}, {"xbase_f5.dbf", "xbase_f5.fpt", NULL, NULL, 0},
-        {"fpc_fox.dbf", "fpc_fox.fpt", NULL, NULL, 0}, {"shp_comma.dbf", "-", NULL, NULL, 0}, {"xbase_s20.dbf", "-", "xbase_s20.idx", "1", 1},
-        {"xbase_s20.dbf", "-", unique, "1", 1}, {"pydbf_fp.dbf", "-", unique, NULL, 0}, {"pydbf_fp.dbf", "-", unique, "1", 1},
-        {"shp_point.dbf", "-", unique, "0", 0}, {"shp_point.dbf", "-", unique, "4294967297", UINT32_MAX}, {"shp_point.dbf", "-", unique, "2", 2},
-        {"shp_point.dbf", "-", unique, "0000000001", 1}};
-    for (size_t k = 0; k < sizeof runs / sizeof *runs; k++)
-        print_run(&runs[k]);
-    print("==\n");
-    lent want = load("crates/samples", "stdout");
-    SAME(reported <= want.len, 1);
-    SAME_BYTES(report, want.bytes, reported < want.len ? reported : want.len);
-    give_back(&want);
+    static char text[sizeof report];
+    lent file = load(samples, "stdout");
+    SAME(file.len < sizeof text, 1);
+    memcpy(text, file.bytes, file.len);
+    give_back(&file);
+    size_t runs = 0;
+    for (char *at = text; at != NULL;) {
+        char *arguments = at + 2, *lines = strchr(at, '\n') + 1;
+        at = strstr(lines - 1, "\n==");
+        lines[-1] = 0;
+        if (at != NULL)
+            *at++ = 0;
+        if (strncmp(lines, "40", 2) != 0) {
+            test_run(arguments, lines);
+            runs++;
+        }
+    }
+    SAME(runs >= 12, 1);
 }
 
 /* ---- The index. */
@@ -833,9 +894,9 @@ static void test_calls(const char *name, size_t len)
 {
     char file[64], *line;
     snprintf(file, sizeof file, "%s.calls", name);
-    lent text = load("crates/indexes/data", file), index = lend(NULL, len);
+    lent text = load(indexes_data, file), index = lend(NULL, len);
     snprintf(file, sizeof file, "%s.idx", name);
-    lent want = load("crates/indexes/data", file);
+    lent want = load(indexes_data, file);
     text.bytes[text.len] = 0; /* its first canary */
     for (line = strtok((char *)text.bytes, "\n"); line != NULL; line = strtok(NULL, "\n"))
         call_line(&index, line);
@@ -864,7 +925,7 @@ static void index_records(lent *index, const lent *t, uint32_t k, uint32_t last)
 
 static void test_match(void)
 {
-    lent t = load("crates/samples/data", "shp_point.dbf"), index = lend(NULL, 4096);
+    lent t = load(samples_data, "shp_point.dbf"), index = lend(NULL, 4096);
     index_records(&index, &t, 10, 5);
     MATCHES(1, 0);
     MATCHES(0, 12);
@@ -905,7 +966,7 @@ static void test_match(void)
 /* An insertion refuses what the audit refuses, and leaves it. */
 static void test_damaged_index(const char *name, const char *key)
 {
-    lent index = load("crates/indexes/data", name);
+    lent index = load(indexes_data, name);
     size_t n = strlen(key);
     for (size_t i = 0; i < index.len; i++) {
         index.bytes[i] ^= 0x11;
@@ -931,6 +992,7 @@ int main(int argc, char **argv)
 {
     if (argc > 1)
         repository = argv[1];
+    test_interface();
     test_number_read();
     test_number_write();
     test_dates();

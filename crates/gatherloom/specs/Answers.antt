@@ -23,6 +23,10 @@ use Rattle.lookup.specs.Lookup.{answerNumber, answerRecord, answerPages}
 use Rattle.lookup.specs.declared.Answer.{Answer}
 use Rattle.insert.specs.Calls.{Inserted, insertionNumber}
 
+-- the number that a host compares before its first call; it is raised with every change of a call's form
+abbrev pub interfaceNumber : ℕ
+interfaceNumber = 1
+
 -- an answer, and what is held after it
 pub record Out (A : Type 0) : Type 0 where
   pub answer : ℕ

@@ -21,7 +21,11 @@ ghost use Rattle.insert.specs.Calls.{insertRule, insertionNumber};
 ghost use Rattle.insert.specs.Fresh.{freshRule};
 ghost use Rattle.matching.specs.Match.{Matched};
 ghost use Rattle.gatherloom.specs.Lent.{planOf, listing, walkedOf};
-ghost use Rattle.gatherloom.specs.Answers.{out, sizes, dayOf, part, found, shapeOut, numberOut, dateOut, logicalOut, textOut, lookupOut, writingOut, insertionOut};
+ghost use Rattle.gatherloom.specs.Answers.{interfaceNumber, out, sizes, dayOf, part, found};
+ghost use Rattle.gatherloom.specs.Answers.{shapeOut, numberOut, dateOut, logicalOut, textOut, lookupOut, writingOut, insertionOut};
+
+// The number of this interface; the header has it as GL_INTERFACE.
+const INTERFACE: u32 = 1;
 
 // The answer where fewer entries are lent than there are fields.
 const LIST_TOO_SHORT: u32 = 14;
@@ -34,6 +38,14 @@ const ABSENT: u32 = 257;
 
 // The answer of a walk that has no record left.
 const DONE: u32 = 258;
+
+// Which interface the archive has, so that a host that was built for another one notices it before its first call.
+#[no_mangle]
+pub extern "C" fn gl_interface() -> u32
+    ensures { λ r. ⌜ r ≡ interfaceNumber ⌝ }
+{
+    INTERFACE
+}
 
 // Whether a table is good: 0, or the number of its refusal.
 #[no_mangle]

@@ -8,12 +8,12 @@ impl Random {
         let mut r = Random(seed.wrapping_mul(0x9E37_79B9_7F4A_7C15) | 1);
         // neighbouring seeds part ways
         for _ in 0..4 {
-            r.next();
+            r.bits();
         }
         r
     }
 
-    pub fn next(&mut self) -> u64 {
+    pub fn bits(&mut self) -> u64 {
         self.0 ^= self.0 >> 12;
         self.0 ^= self.0 << 25;
         self.0 ^= self.0 >> 27;
@@ -22,7 +22,7 @@ impl Random {
 
     /// A number from 0 to n - 1; 0 where n is 0.
     pub fn below(&mut self, n: usize) -> usize {
-        (((self.next() >> 32) * n as u64) >> 32) as usize
+        (((self.bits() >> 32) * n as u64) >> 32) as usize
     }
 
     /// A number from low to high, both included.
@@ -35,11 +35,11 @@ impl Random {
     }
 
     pub fn byte(&mut self) -> u8 {
-        (self.next() >> 56) as u8
+        (self.bits() >> 56) as u8
     }
 
     pub fn word(&mut self) -> u32 {
-        (self.next() >> 32) as u32
+        (self.bits() >> 32) as u32
     }
 
     pub fn pick<T: Copy>(&mut self, from: &[T]) -> T {
@@ -47,7 +47,7 @@ impl Random {
     }
 
     pub fn fill(&mut self, bytes: &mut [u8]) {
-        bytes.fill_with(|| (self.next() >> 56) as u8);
+        bytes.fill_with(|| (self.bits() >> 56) as u8);
     }
 
     pub fn bytes(&mut self, length: usize) -> Vec<u8> {

@@ -1,8 +1,8 @@
 //! Each call made both ways: by the library on lent memory that is watched, its out-parameters filled beforehand, and by the plain implementation.
 use crate::tally::{Call, Input, Tally};
-use gatherloom_host::ffi::{self, ABSENT, DONE, EMPTY};
-use gatherloom_host::lent::{Lent, Out};
-use gatherloom_host::reference::{self, Looked, Refusal, Step};
+use gatherloom::ffi::{self, ABSENT, DONE, EMPTY};
+use gatherloom_compare::lent::{Lent, Out};
+use gatherloom_compare::reference::{self, Looked, Refusal, Step};
 use Input::{Bytes, Number};
 
 /// What a reading call is due to answer and to leave in its out-parameters, which held `held`.

@@ -1,13 +1,13 @@
 //! The inputs of a round, and the calls made on them.
 use crate::calls;
 use crate::tally::Tally;
-use gatherloom_host::generate::{
+use gatherloom_compare::generate::{
     index::{self, Entry, Fill},
     table, text,
 };
-use gatherloom_host::lent::{Arena, Lent};
-use gatherloom_host::random::Random;
-use gatherloom_host::reference;
+use gatherloom_compare::lent::{Arena, Lent};
+use gatherloom_compare::random::Random;
+use gatherloom_compare::reference;
 
 const MOST: usize = 16_777_216;
 
@@ -61,7 +61,7 @@ fn numbers(r: &mut Random, a: &mut Arenas, tally: &mut Tally) {
         let (width, decimals) = text::format(r);
         let made = text::number(r, width, decimals);
         let lent = a.text.lend(&made, r.one_in(2));
-        calls::number_read(tally, &lent, decimals, r.next() as i64);
+        calls::number_read(tally, &lent, decimals, r.bits() as i64);
     }
     for _ in 0..100 {
         let (width, decimals) = text::format(r);
@@ -139,10 +139,10 @@ fn a_read(
     let kind = table.was().get(at).copied().unwrap_or(b'C');
     let kind = if r.one_in(12) { r.pick(b"CNDL") } else { kind };
     match kind {
-        b'N' => calls::read_number(tally, table, record, field, r.next() as i64),
+        b'N' => calls::read_number(tally, table, record, field, r.bits() as i64),
         b'D' => calls::read_date(tally, table, record, field, r.word()),
         b'L' => calls::read_logical(tally, table, record, field, r.byte()),
-        _ => calls::text_part(tally, table, memo, record, field, r.next()),
+        _ => calls::text_part(tally, table, memo, record, field, r.bits()),
     }
 }
 
@@ -170,8 +170,8 @@ fn longest_files(r: &mut Random, a: &mut Arenas, tally: &mut Tally) {
         bytes[4..8].copy_from_slice(&(count as u32).to_le_bytes());
         let lent = a.table.lend(&bytes, true);
         calls::table_check(tally, &lent);
-        calls::text_part(tally, &lent, &memo, 1, 1, r.next());
-        calls::text_part(tally, &lent, &memo, count as u32, 2, r.next());
+        calls::text_part(tally, &lent, &memo, 1, 1, r.bits());
+        calls::text_part(tally, &lent, &memo, count as u32, 2, r.bits());
         calls::walk(tally, &lent, count as u32 - 1, r.word());
     }
 }

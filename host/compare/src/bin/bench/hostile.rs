@@ -1,12 +1,13 @@
 //! Inputs that someone made to take long: no call may be slower on them than a small multiple of one pass over what it was lent.
 use crate::inputs;
 use crate::measure::{one_pass, Case, Times};
-use gatherloom_host::generate::{
+use gatherloom::{read_number, Index, Table};
+use gatherloom_compare::generate::{
     index::{self, Fill},
     table,
 };
-use gatherloom_host::random::Random;
-use gatherloom_host::{library, reference};
+use gatherloom_compare::random::Random;
+use gatherloom_compare::reference;
 
 pub fn run(word: &str) {
     texts(word);
@@ -26,7 +27,7 @@ fn texts(word: &str) {
         "numeric read",
         "1 MiB of blanks",
         &[&blanks],
-        Box::new(|| library::number_read(&blanks, 0).is_ok() as u64),
+        Box::new(|| read_number(&blanks, 0).is_ok() as u64),
         Box::new(|| reference::number_read(&blanks, 0).is_ok() as u64),
     );
     let index = std::cell::RefCell::new(vec![0; 1024]);
@@ -35,7 +36,7 @@ fn texts(word: &str) {
         "fresh",
         "an expression of 1 MiB",
         &[&blanks],
-        Box::new(|| library::fresh(&mut index.borrow_mut(), 10, &blanks).is_ok() as u64),
+        Box::new(|| Index::fresh(&mut index.borrow_mut()[..], 10, &blanks).is_ok() as u64),
         Box::new(|| reference::fresh(&mut index.borrow_mut(), 10, &blanks).is_ok() as u64),
     );
 }
@@ -63,7 +64,11 @@ fn insertion(word: &str) {
         calls: 1,
         limit: 0.0,
         prepare: Box::new(|| buffer.borrow_mut().copy_from_slice(&spine)),
-        library: Box::new(|| library::insert(&mut buffer.borrow_mut(), &key, 1).is_ok() as u64),
+        library: Box::new(|| {
+            Index::over(&mut buffer.borrow_mut()[..])
+                .insert(&key, 1)
+                .is_ok() as u64
+        }),
         plain: Box::new(|| reference::insert(&mut buffer.borrow_mut(), &key, 1).is_ok() as u64),
     };
     let times = case.times(true);
@@ -92,12 +97,13 @@ fn matches(word: &str) {
         ("every entry names record 1", &table, &one),
         ("8,000,000 records, one entry", &blank, &lone),
     ] {
+        let good = Table::new(table).unwrap();
         show(
             word,
             "match",
             input,
             &[table, index],
-            Box::new(|| library::match_index(table, index, 1).is_ok() as u64),
+            Box::new(|| Index::over(index).matches(&good, 1).is_ok() as u64),
             Box::new(|| reference::match_index(table, index, 1).is_ok() as u64),
         );
     }
@@ -147,19 +153,20 @@ fn tables(word: &str) {
         "table check",
         "128 names of 10 that differ in the last two characters",
         &[&names],
-        Box::new(|| library::check_table(&names).is_ok() as u64),
+        Box::new(|| Table::check(&names).is_ok() as u64),
         Box::new(|| reference::check_table(&names).is_ok() as u64),
     );
     let mut deleted = inputs::blank_records(8_000_000);
     for record in deleted[65..].chunks_exact_mut(2) {
         record[0] = b'*';
     }
+    let walked = Table::new(&deleted).unwrap();
     show(
         word,
         "walk",
         "8,000,000 records, all deleted",
         &[&deleted],
-        Box::new(|| library::walk(&deleted, &mut library::Position { passed: 0 }).is_ok() as u64),
+        Box::new(|| walked.live().next().is_none() as u64),
         Box::new(|| (reference::walk(&deleted, &mut 0) == reference::Step::Done) as u64),
     );
 }
@@ -173,7 +180,7 @@ fn index_calls(word: &str, name: &str, bytes: &[u8]) {
         "audit",
         name,
         &[bytes],
-        Box::new(|| library::audit(bytes).is_ok() as u64),
+        Box::new(|| Index::over(bytes).audit().is_ok() as u64),
         Box::new(|| reference::audit(bytes).is_ok() as u64),
     );
     for key in [key, low] {
@@ -183,7 +190,7 @@ fn index_calls(word: &str, name: &str, bytes: &[u8]) {
             "lookup",
             &input,
             &[bytes],
-            Box::new(|| library::lookup(bytes, &key).is_ok() as u64),
+            Box::new(|| Index::over(bytes).lookup(&key).is_ok() as u64),
             Box::new(|| {
                 let looked = reference::lookup(bytes, &key);
                 !matches!(looked, reference::Looked::Refused(_)) as u64

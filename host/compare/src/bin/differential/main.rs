@@ -5,7 +5,7 @@ mod calls;
 mod rounds;
 mod tally;
 
-use gatherloom_host::random::Random;
+use gatherloom_compare::random::Random;
 use std::sync::atomic::{AtomicU64, Ordering};
 use std::time::{Duration, Instant};
 use tally::Tally;

@@ -1,10 +1,10 @@
 //! The cases that have a limit.
 use crate::inputs;
 use crate::measure::Case;
-use gatherloom_host::generate::index::Entry;
-use gatherloom_host::library::{self, Looked};
-use gatherloom_host::random::Random;
-use gatherloom_host::reference;
+use gatherloom::{read_number, write_number, Decimal, Index, Lookup, Refusal, Table};
+use gatherloom_compare::generate::index::Entry;
+use gatherloom_compare::random::Random;
+use gatherloom_compare::reference;
 use std::cell::RefCell;
 
 const TEXT_AND_TABLE: f64 = 1.5;
@@ -53,6 +53,10 @@ fn sum_of<E>(answer: Result<Option<i64>, E>) -> u64 {
     answer.ok().flatten().unwrap_or(-1) as u64
 }
 
+fn units(answer: Result<Option<Decimal>, Refusal>) -> Result<Option<i64>, Refusal> {
+    answer.map(|value| value.map(Decimal::units))
+}
+
 /// Widths, decimals and numbers of digits.
 const FORMATS: [(usize, u32, u32); 5] =
     [(8, 3, 4), (8, 3, 7), (20, 0, 4), (20, 0, 18), (20, 6, 17)];
@@ -75,7 +79,7 @@ fn number_reads(word: &str) -> usize {
             library: Box::new(|| {
                 let sums = texts
                     .iter()
-                    .map(|t| sum_of(library::number_read(t, decimals)));
+                    .map(|t| sum_of(units(read_number(t, decimals))));
                 sums.fold(0, u64::wrapping_add)
             }),
             plain: Box::new(|| {
@@ -111,7 +115,7 @@ fn number_writes(word: &str) -> usize {
             calls: values.len(),
             limit: TEXT_AND_TABLE,
             prepare: Box::new(|| ()),
-            library: Box::new(|| written(&|b, v| library::number_write(b, decimals, v).is_ok())),
+            library: Box::new(|| written(&|b, v| write_number(b, decimals, v).is_ok())),
             plain: Box::new(|| written(&|b, v| reference::number_write(b, decimals, v).is_ok())),
         };
         over += show(word, case, false);
@@ -151,19 +155,20 @@ fn check<'a>(case: Make<'a, '_>, table: &'a [u8]) -> Case<'a> {
     case(
         "table check",
         1,
-        Box::new(|| library::check_table(table).is_ok() as u64),
+        Box::new(|| Table::check(table).is_ok() as u64),
         Box::new(|| reference::check_table(table).is_ok() as u64),
     )
 }
 
 fn reading<'a>(case: Make<'a, '_>, table: &'a [u8], fields: usize) -> Case<'a> {
+    let good = Table::new(table).unwrap();
     // the last field that is a number
     let field = if fields == 5 { 5 } else { 127 };
     case(
         "reading a number",
         RECORDS,
         Box::new(move || {
-            let sums = (1..=RECORDS as u32).map(|i| sum_of(library::read_number(table, i, field)));
+            let sums = (1..=RECORDS as u32).map(|i| sum_of(units(good.decimal(i, field))));
             sums.fold(0, u64::wrapping_add)
         }),
         Box::new(move || {
@@ -182,6 +187,7 @@ fn walking<'a>(case: Make<'a, '_>, table: &'a [u8]) -> Case<'a> {
         }
         sum
     };
+    let good = Table::new(table).unwrap();
     let mut passed = 0;
     let mut calls = 1;
     while let reference::Step::Record(_) = reference::walk(table, &mut passed) {
@@ -191,8 +197,8 @@ fn walking<'a>(case: Make<'a, '_>, table: &'a [u8]) -> Case<'a> {
         "walk",
         calls,
         Box::new(move || {
-            let mut position = library::Position { passed: 0 };
-            steps(&mut || library::walk(table, &mut position).unwrap_or(None))
+            let mut live = good.live();
+            steps(&mut || live.next()?.ok())
         }),
         Box::new(move || {
             let mut passed = 0;
@@ -235,11 +241,13 @@ fn lookups(word: &str) -> usize {
                 limit: LOOKUP,
                 prepare: Box::new(|| ()),
                 library: Box::new(|| {
-                    let looks = keys.iter().map(|key| match library::lookup(&index, key) {
-                        Ok(Looked::Found { record, pages }) => record as u64 + pages as u64,
-                        Ok(Looked::Absent { pages }) => pages as u64,
-                        Err(_) => 1000,
-                    });
+                    let looks = keys
+                        .iter()
+                        .map(|key| match Index::over(&index).lookup(key) {
+                            Ok(Lookup::Found { record, pages }) => record as u64 + pages as u64,
+                            Ok(Lookup::Absent { pages }) => pages as u64,
+                            Err(_) => 1000,
+                        });
                     looks.sum()
                 }),
                 plain: Box::new(|| {
@@ -268,7 +276,7 @@ fn audits(word: &str) -> usize {
             calls: 1,
             limit: WHOLE_INDEX,
             prepare: Box::new(|| ()),
-            library: Box::new(|| library::audit(&index).is_ok() as u64),
+            library: Box::new(|| Index::over(&index).audit().is_ok() as u64),
             plain: Box::new(|| reference::audit(&index).is_ok() as u64),
         };
         over += show(word, case, false);
@@ -300,7 +308,7 @@ fn insertions(word: &str) -> usize {
             calls: keys.len(),
             limit: WHOLE_INDEX,
             prepare: Box::new(|| buffer.borrow_mut().copy_from_slice(&index)),
-            library: Box::new(|| inserted(&|b, key| library::insert(b, key, 7).is_ok())),
+            library: Box::new(|| inserted(&|b, key| Index::over(b).insert(key, 7).is_ok())),
             plain: Box::new(|| inserted(&|b, key| reference::insert(b, key, 7).is_ok())),
         };
         over += show(word, case, true);
@@ -311,13 +319,14 @@ fn insertions(word: &str) -> usize {
 fn matches(word: &str) -> usize {
     let mut r = Random::new(6);
     let (table, index) = inputs::matching(&mut r, 30_000);
+    let good = Table::new(&table).unwrap();
     let case = Case {
         call: "match",
         input: "30,000 records, k = 10".to_string(),
         calls: 1,
         limit: WHOLE_INDEX,
         prepare: Box::new(|| ()),
-        library: Box::new(|| library::match_index(&table, &index, 1).is_ok() as u64),
+        library: Box::new(|| Index::over(&index).matches(&good, 1).is_ok() as u64),
         plain: Box::new(|| reference::match_index(&table, &index, 1).is_ok() as u64),
     };
     show(word, case, false)

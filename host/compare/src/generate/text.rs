@@ -7,7 +7,7 @@ const ODD: &[u8] = b" -.,0123456789+eE/:;\0\t\xA0\xB0";
 pub fn value(r: &mut Random) -> i64 {
     let power = |r: &mut Random| 10i64.pow(r.below(19) as u32);
     match r.below(8) {
-        0 => r.next() as i64,
+        0 => r.bits() as i64,
         1 => r.pick(&[
             0,
             i64::MIN,
@@ -19,7 +19,7 @@ pub fn value(r: &mut Random) -> i64 {
         3 => -(power(r) + r.below(3) as i64 - 1),
         _ => {
             let size = power(r) as u64;
-            let v = (r.next() % size) as i64;
+            let v = (r.bits() % size) as i64;
             if r.one_in(3) {
                 -v
             } else {
@@ -152,7 +152,7 @@ pub fn memo_number(r: &mut Random, near: &[u64]) -> [u8; 10] {
     }
     let number = match r.below(8) {
         0 => r.below(40) as u64,
-        1 => r.next() % 10_000_000_000,
+        1 => r.bits() % 10_000_000_000,
         2 => 9_999_999_999,
         3 => r.pick(near).saturating_sub(1),
         4 => r.pick(near) + 1,

@@ -1,5 +1,5 @@
 //! What watches lent memory does notice a byte written inside it, and one written beside it.
-use gatherloom_host::lent::{Arena, Out};
+use gatherloom_compare::lent::{Arena, Out};
 
 #[test]
 fn a_byte_changed_inside_is_noticed() {

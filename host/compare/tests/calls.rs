@@ -1,6 +1,7 @@
 //! The library and the plain Rust reading of document 01, both against another program's lists of calls: every answer, and the bytes of the index that
 //! they leave.
-use gatherloom_host::{library, reference};
+use gatherloom::{Answer, Index, Lookup};
+use gatherloom_compare::reference;
 use std::{fs, path::Path};
 
 /// Each list with the length of the buffer that it was made with.
@@ -23,13 +24,13 @@ struct Calls {
 }
 
 const LIBRARY: Calls = Calls {
-    fresh: |index, k, expression| by_number(library::fresh(index, k, expression)),
-    insert: |index, key, record| by_number(library::insert(index, key, record)),
-    audit: |index| by_number(library::audit(index)),
-    lookup: |index, key| match library::lookup(index, key) {
-        Ok(library::Looked::Found { record, pages }) => [0, record, pages],
-        Ok(library::Looked::Absent { pages }) => [257, 0, pages],
-        Err(library::Refusal(number)) => [number, 0, 0],
+    fresh: |index, k, expression| by_number(Index::fresh(index, k, expression)),
+    insert: |index, key, record| by_number(Index::over(index).insert(key, record)),
+    audit: |index| by_number(Index::over(index).audit()),
+    lookup: |index, key| match Index::over(index).lookup(key) {
+        Ok(Lookup::Found { record, pages }) => [0, record, pages],
+        Ok(Lookup::Absent { pages }) => [257, 0, pages],
+        Err(refusal) => [refusal.code(), 0, 0],
     },
 };
 
@@ -44,8 +45,8 @@ const PLAIN: Calls = Calls {
     },
 };
 
-fn by_number(answer: library::Answer<()>) -> u32 {
-    answer.err().map_or(0, |refusal| refusal.0)
+fn by_number<T>(answer: Answer<T>) -> u32 {
+    answer.err().map_or(0, |refusal| refusal.code())
 }
 
 fn bytes(hex: &str) -> Vec<u8> {
@@ -78,7 +79,7 @@ fn call(calls: &Calls, index: &mut [u8], words: &[&str]) -> (Vec<u32>, Vec<u32>)
 }
 
 fn replay(calls: &Calls) {
-    let data = Path::new(env!("CARGO_MANIFEST_DIR")).join("../crates/indexes/data");
+    let data = Path::new(env!("CARGO_MANIFEST_DIR")).join("../../crates/indexes/data");
     for (name, length) in LISTS {
         let mut index = vec![0u8; length];
         let list = fs::read_to_string(data.join(format!("{name}.calls"))).unwrap();

@@ -46,7 +46,7 @@ fn put_le32(b: &mut [u8], at: usize, x: u32) {
 const MONTHS: [u32; 12] = [31, 28, 31, 30, 31, 30, 31, 31, 30, 31, 30, 31];
 
 pub fn is_date(year: u32, month: u32, day: u32) -> bool {
-    let leap = year % 4 == 0 && (year % 100 != 0 || year % 400 == 0);
+    let leap = year.is_multiple_of(4) && (!year.is_multiple_of(100) || year.is_multiple_of(400));
     if !(1..=12).contains(&month) || day == 0 {
         return false;
     }
@@ -93,7 +93,11 @@ fn header_length(t: &[u8]) -> Result<usize, Refusal> {
         return Err(3);
     }
     let header = le16(t, 8) as usize;
-    if header < 65 || (header - 33) % 32 != 0 || (header - 33) / 32 > 128 || header > t.len() {
+    if header < 65
+        || !(header - 33).is_multiple_of(32)
+        || (header - 33) / 32 > 128
+        || header > t.len()
+    {
         return Err(4);
     }
     if t[header - 1] != 0x0D {
@@ -276,7 +280,7 @@ pub fn text_part(
         return Err(22);
     }
     let size = u16::from_be_bytes([memo[6], memo[7]]) as u64;
-    if size % 2 != 0 || !(32..=16_384).contains(&size) {
+    if !size.is_multiple_of(2) || !(32..=16_384).contains(&size) {
         return Err(22);
     }
     let (start, len) = (number * size, memo.len() as u64);
@@ -403,7 +407,7 @@ struct Head {
 }
 
 fn is_page(size: u32, p: u32) -> bool {
-    p % 512 == 0 && p >= 512 && p < size
+    p.is_multiple_of(512) && p >= 512 && p < size
 }
 
 fn header(b: &[u8]) -> Option<Head> {
@@ -415,7 +419,7 @@ fn header(b: &[u8]) -> Option<Head> {
         size: le32(b, 8),
         k: le16(b, 12) as usize,
     };
-    let good = head.size % 512 == 0
+    let good = head.size.is_multiple_of(512)
         && (1024..=MAX_BYTES).contains(&head.size)
         && head.size as usize <= b.len()
         && is_page(head.size, head.root)

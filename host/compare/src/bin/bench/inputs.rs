@@ -1,10 +1,10 @@
 //! The benchmark's inputs.
-use gatherloom_host::generate::{
+use gatherloom_compare::generate::{
     index::{self, Entry, Fill},
     table::{self, Column},
 };
-use gatherloom_host::random::Random;
-use gatherloom_host::reference;
+use gatherloom_compare::random::Random;
+use gatherloom_compare::reference;
 
 /// Values with at most so many digits, as texts of one format.
 pub fn texts(r: &mut Random, width: usize, decimals: u32, digits: u32) -> Vec<Vec<u8>> {
@@ -20,7 +20,7 @@ pub fn texts(r: &mut Random, width: usize, decimals: u32, digits: u32) -> Vec<Ve
 
 pub fn values(r: &mut Random, digits: u32) -> Vec<i64> {
     let size = 10u64.pow(digits);
-    (0..256).map(|_| (r.next() % size) as i64).collect()
+    (0..256).map(|_| (r.bits() % size) as i64).collect()
 }
 
 /// A table of a lab's shape: barcode, concentration, date, mark and well, over and over.
