@@ -17,9 +17,9 @@ use Rattle.octets.specs.DigitLaws.{decimal-digits, decimal-some, lastDigits-dig
 use Rattle.numeral.specs.Format.{maxDecimals, maxDigits, formatGood, comma, minus, point}
 use Rattle.numeral.specs.Reading.{some, after, front, hasMinus, withoutMinus, wholeGood, fractionGood, wholePart, fraction, withoutPoint, digits, textGood, signed, valueOf, digitCount, readNumber}
 use Rattle.numeral.specs.ReadingLaws.{format-decimals, count-number}
-use Rattle.numeral.specs.Writing.{fractionText, signText, numberText, written, left, writeNumber}
+use Rattle.numeral.specs.Writing.{fractionText, signText, numberText, written, Fits, left, writeNumber}
 use Rattle.numeral.specs.DigitLaws.{decimal-good, number-written, digits-back}
-use Rattle.numeral.specs.WritingLaws.{length-number, length-written, written-exactly}
+use Rattle.numeral.specs.WritingLaws.{length-number, length-written, fits-length, written-exactly}
 use Rattle.numeral.specs.declared.Number.{Number}
 use Rattle.numeral.specs.declared.Number.the-variants.{Value, Empty, Refused}
 use Rattle.numeral.specs.declared.Writing.the-variants.{Written}
@@ -326,23 +326,44 @@ too-long s d = (
   (λ h. read-many s d (h .1 .0) (h .0) (h .1 .1) (h .1 .2)),
 )
 
--- two accepted texts of one width, with one value, are the same text; and a text has one value
-pub one-text : (s t : List ℕ) (d : ℕ) (v : ℤ) → length s ≡ length t → readNumber s d ≡ Value v → readNumber t d ≡ Value v → s ≡ t
-one-text s t d v l p q = accepted s d v .0 p .1 ∙ ap (λ (width : ℕ). written width d v) l ∙ sym (accepted t d v .0 q .1)
+-- "each value that fits has one accepted text": it has one of the field's width
+pub some-text : (width d : ℕ) (v : ℤ) → Fits width d v → (length (written width d v) ≡ width) × (readNumber (written width d v) d ≡ Value v)
+some-text width d v f =
+    let l = fits-length width d v f in
+    let same = ap (λ (n : ℕ). written n d v) (sym l) in
+    (l, accepted (written width d v) d v .1 (rw l (f .format), same, f .small))
 
-pub one-value : (s : List ℕ) (d : ℕ) (v w : ℤ) → readNumber s d ≡ Value v → readNumber s d ≡ Value w → v ≡ w
-one-value s d v w p q = cc
+-- and no other, blanks aside, in a field of any width
+accepted-text : (s : List ℕ) (d : ℕ) (v : ℤ) → readNumber s d ≡ Value v → unpadded s ≡ numberText d v
+accepted-text s d v h = ap unpadded (accepted s d v .0 h .1) ∙ written-unpadded (length s) d v
+
+pub same-text : (s t : List ℕ) (d : ℕ) (v : ℤ) → readNumber s d ≡ Value v → readNumber t d ≡ Value v → unpadded s ≡ unpadded t
+same-text s t d v p q = accepted-text s d v p ∙ sym (accepted-text t d v q)
+
+-- so in one width the very same
+pub one-text : (s t : List ℕ) (d : ℕ) (v : ℤ) → length s ≡ length t → readNumber s d ≡ Value v → readNumber t d ≡ Value v → s ≡ t
+one-text s t d v l p q = unpadded-front s ∙ rw (same-text s t d v p q, l) (sym (unpadded-front t))
+
+-- "and each accepted text one value": texts that are the same, blanks aside, have one value, and that value fits
+accepted-value : (s : List ℕ) (d : ℕ) (v : ℤ) → readNumber s d ≡ Value v → valueOf s ≡ v
+accepted-value s d v h = let a = accepted s d v .0 h in is-value s d v (a .0) (a .1)
+
+pub same-value : (s t : List ℕ) (d : ℕ) (v w : ℤ) → unpadded s ≡ unpadded t → readNumber s d ≡ Value v → readNumber t d ≡ Value w → v ≡ w
+unfolding valueOf
+same-value s t d v w e p q = sym (accepted-value s d v p) ∙ rw e (accepted-value t d w q)
+
+pub value-fits : (s : List ℕ) (d : ℕ) (v : ℤ) → readNumber s d ≡ Value v → Fits (length s) d v
+value-fits s d v h =
+    let a = accepted s d v .0 h in
+    let l = ap length (a .1) ∙ length-written (length s) d v in
+    record { format = a .0; small = a .2; room = omega arith }
 
 -- what was written is read back
 pub read-back : (s t : List ℕ) (d : ℕ) (v : ℤ) → writeNumber s d v ≡ left t Written → readNumber t d ≡ Value v
 read-back s t d v h =
     let w = written-exactly s t d v .0 h in
-    let l : length t ≡ length s = rw (w .3, length-written) (omega (arith, w .2)) in
-    accepted t d v .1 (rw l (w .0), rw l (w .3), w .1)
+    rw (w .1) (some-text (length s) d v (w .0) .1)
 
 -- and what was read is what a write leaves, in any buffer of that width
 pub write-back : (s t : List ℕ) (d : ℕ) (v : ℤ) → length s ≡ length t → readNumber t d ≡ Value v → writeNumber s d v ≡ left t Written
-write-back s t d v l h =
-    let r = accepted t d v .0 h in
-    let e = ap length (r .1) ∙ length-written (length t) d v in
-    written-exactly s t d v .1 (rw l (r .0), r .2, omega arith, rw l (r .1))
+write-back s t d v l h = written-exactly s t d v .1 (rw l (value-fits t d v h), rw l (accepted t d v .0 h .1))
