@@ -14,8 +14,10 @@ use Rattle.basis.specs.Tests.{either, contra, both}
 use Rattle.octets.specs.Text.{every, blank, unpadded, zeroDigit, isDigit, numberFrom, numberOf}
 use Rattle.octets.specs.TextLaws.{digit-range}
 use Rattle.numeral.specs.Format.{formatGood, maxDigits, comma, minus, point}
-use Rattle.numeral.specs.Reading.{some, after, front, hasMinus, withoutMinus, wholeGood, fractionGood, wholePart, fraction, withoutPoint, digits, textGood, valueOf, digitCount, readNumber, signed}
-use Rattle.numeral.specs.ReadingLaws.{format-decimals, no-comma, front-more, front-ends, after-more, after-ends, every-front, none-whole, zero-whole, zero-needless, digits-whole, fraction-empty, fraction-point, count-number}
+use Rattle.numeral.specs.Reading.{some, after, front, hasMinus, withoutMinus, wholeGood, fractionGood, wholePart, fraction, withoutPoint, digits}
+use Rattle.numeral.specs.Reading.{textGood, valueOf, digitCount, readNumber, signed}
+use Rattle.numeral.specs.ReadingLaws.{format-decimals, no-comma, front-more, front-ends, after-more, after-ends, every-front, none-whole, zero-whole}
+use Rattle.numeral.specs.ReadingLaws.{zero-needless, digits-whole, fraction-empty, fraction-point, count-number}
 use Rattle.numeral.specs.Scan.{initial, amongBlanks, afterDigit, wholeEnd, onward, afterOther, nextValue, step, scan, settled, meaning}
 use Rattle.numeral.specs.declared.Number.{Number}
 use Rattle.numeral.specs.declared.Number.the-variants as number
@@ -33,7 +35,7 @@ agree-next v m c a = either (ltb v (10 ^ maxDigits))
     (λ p. let small = ltb-true v (10 ^ maxDigits) p in rw p (omega arith))
     (λ p. let large = ltb-false v (10 ^ maxDigits) p in rw p (omega arith))
 
--- so a text means the same by either
+-- numbers that agree settle a text alike
 agree-settled : (g n : Bool) (v m : ℕ) → Agree v m → settled g n v ≡ settled g n m
 unfolding settled
 agree-settled g n v m a = either (ltb v (10 ^ maxDigits))
@@ -106,7 +108,7 @@ module _ (d : ℕ) where
   unfolding scan step afterOther
   scan-other p q n v c s e f g h = rw (e, f, g, h)
 
-  -- behind the point, with so many digits to come
+  -- behind the point, with `left` digits to come
   next-place : (left c : ℕ) → afterDigit (phase.Fraction (suc left)) c ≡ phase.Fraction left
   next-place left c =
       let one : suc left - 1 ≡ left = omega arith in
@@ -234,7 +236,10 @@ module _ (d : ℕ) where
 -- the paper's order at the end: 17 for the shape or minus zero, 18 for more than 18 digits, the value
 settled-is : (good n : Bool) (m count : ℕ) → (good ≡ true → leb count maxDigits ≡ ltb m (10 ^ maxDigits))
     → settled good n m
-    ≡ elim (good && not (n && eqb m 0)) [ false ↦ number.Refused 17 | true ↦ elim (leb count maxDigits) [ false ↦ number.Refused 18 | true ↦ number.Value (signed n m) ] ]
+    ≡ elim (good && not (n && eqb m 0)) [
+      | false ↦ number.Refused 17
+      | true ↦ elim (leb count maxDigits) [ false ↦ number.Refused 18 | true ↦ number.Value (signed n m) ]
+    ]
 unfolding settled
 settled-is false n m count h = refl
 settled-is true n m count h = either (n && eqb m 0)

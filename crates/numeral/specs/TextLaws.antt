@@ -1,4 +1,4 @@
--- Laws: demand 2, the grammar of numeric text. A text is accepted exactly where it is the one written text of a value of at most 18 digits.
+-- Laws: demand 2, the grammar of numeric text. A text is accepted exactly if it is the written text of a value of at most 18 digits.
 -- Assumes nothing.
 use mathlib.Core.Path.{_≡_, refl, sym, ap, _∙_}
 use mathlib.Core.Bool.{Bool, true, false, _&&_, not}
@@ -15,7 +15,8 @@ use Rattle.octets.specs.Text.{every, blank, unpadded, isDigit, numberOf, lastDi
 use Rattle.octets.specs.TextLaws.{digit-range, unpadded-digit, unpadded-blanks, unpadded-front, blanks-left}
 use Rattle.octets.specs.DigitLaws.{decimal-digits, decimal-some, lastDigits-digits, length-lastDigits}
 use Rattle.numeral.specs.Format.{maxDecimals, maxDigits, formatGood, comma, minus, point}
-use Rattle.numeral.specs.Reading.{some, after, front, hasMinus, withoutMinus, wholeGood, fractionGood, wholePart, fraction, withoutPoint, digits, textGood, signed, valueOf, digitCount, readNumber}
+use Rattle.numeral.specs.Reading.{some, after, front, hasMinus, withoutMinus, wholeGood, fractionGood, wholePart, fraction, withoutPoint, digits}
+use Rattle.numeral.specs.Reading.{textGood, signed, valueOf, digitCount, readNumber}
 use Rattle.numeral.specs.ReadingLaws.{format-decimals, count-number}
 use Rattle.numeral.specs.Writing.{fractionText, signText, numberText, written, Fits, left, writeNumber}
 use Rattle.numeral.specs.DigitLaws.{decimal-good, number-written, digits-back}
@@ -73,7 +74,7 @@ signed-text true (suc n) e = refl
 sign-front : (s : List ℕ) → signOf (hasMinus s) ++ withoutMinus s ≡ s
 sign-front s = either (hasMinus s) (λ e. rw e (sym (with-minus s e))) (λ e. rw e (no-minus s e))
 
--- without its sign: so many digits before the point, and d behind
+-- without its sign: the whole part before the point, and d digits behind it
 module _ (t : List ℕ) (d : ℕ) (w : wholeGood (wholePart t) ≡ true) (f : fractionGood d (fraction t) ≡ true) where
   digits-whole : decimal (numberOf (digits t) / 10 ^ d) ≡ wholePart t
   unfolding digits
@@ -91,10 +92,12 @@ abbrev unsigned : List ℕ → List ℕ
 unsigned s = withoutMinus (unpadded s)
 
 module _ (s : List ℕ) (d : ℕ) (g : textGood s d ≡ true) where
-  good-parts : (wholeGood (wholePart (unsigned s)) ≡ true) × (fractionGood d (fraction (unsigned s)) ≡ true) × (not (hasMinus (unpadded s) && eqb (numberOf (digits (unsigned s))) 0) ≡ true)
+  good-parts : (wholeGood (wholePart (unsigned s)) ≡ true) × (fractionGood d (fraction (unsigned s)) ≡ true)
+      × (not (hasMinus (unpadded s) && eqb (numberOf (digits (unsigned s))) 0) ≡ true)
   unfolding textGood
   good-parts =
-      let h = both (wholeGood (wholePart (unsigned s)) && fractionGood d (fraction (unsigned s))) (not (hasMinus (unpadded s) && eqb (numberOf (digits (unsigned s))) 0)) g in
+      let good = wholeGood (wholePart (unsigned s)) && fractionGood d (fraction (unsigned s)) in
+      let h = both good (not (hasMinus (unpadded s) && eqb (numberOf (digits (unsigned s))) 0)) g in
       let k = both (wholeGood (wholePart (unsigned s))) (fractionGood d (fraction (unsigned s))) (h .0) in
       (k .0, k .1, h .1)
 
@@ -102,7 +105,8 @@ module _ (s : List ℕ) (d : ℕ) (g : textGood s d ≡ true) where
   unfolding numberText valueOf
   good-text =
       let h = good-parts in
-      rw (signed-abs, signed-text (hasMinus (unpadded s)) (numberOf (digits (unsigned s))) (h .2), digits-text (unsigned s) d (h .0) (h .1)) (sign-front (unpadded s))
+      let sign = signed-text (hasMinus (unpadded s)) (numberOf (digits (unsigned s))) (h .2) in
+      rw (signed-abs, sign, digits-text (unsigned s) d (h .0) (h .1)) (sign-front (unpadded s))
 
   good-written : s ≡ written (length s) d (valueOf s)
   unfolding written
@@ -129,7 +133,8 @@ after-every p (c ∷ w) u e =
     rw (k .0, after, after-every p w u (k .1))
 
 -- a digit is neither a blank nor a minus
-digits-first : (w u : List ℕ) → every isDigit w ≡ true → 1 ≤ length w → (unpadded (w ++ u) ≡ w ++ u) × (hasMinus (w ++ u) ≡ false) × (withoutMinus (w ++ u) ≡ w ++ u)
+digits-first : (w u : List ℕ) → every isDigit w ≡ true → 1 ≤ length w
+    → (unpadded (w ++ u) ≡ w ++ u) × (hasMinus (w ++ u) ≡ false) × (withoutMinus (w ++ u) ≡ w ++ u)
 unfolding every hasMinus withoutMinus
 digits-first [] u e l = absurd (omega arith)
 digits-first (c ∷ w) u e l =
@@ -302,7 +307,7 @@ not-same {m = m} {n = n} p q h = let z : m ≡ n = cc in absurd (omega arith)
 
 -- ---- demand 2
 
--- a text is accepted with the value v exactly where it is v's one text in its own width, and v has at most 18 digits
+-- a text is accepted with the value v exactly if it is v's written text in the text's own width, and v has at most 18 digits
 pub accepted : (s : List ℕ) (d : ℕ) (v : ℤ)
     → (readNumber s d ≡ Value v) ↔ ((formatGood (length s) d ≡ true) × (s ≡ written (length s) d v) × (natAbs v < 10 ^ maxDigits))
 accepted s d v = (
@@ -314,7 +319,7 @@ accepted s d v = (
   (λ h. read-few s d v (h .0) (h .1) (h .2)),
 )
 
--- it is refused by 18 exactly where it is the one text of a value of more than 18 digits
+-- it is refused by 18 exactly if it is the written text of a value of more than 18 digits
 pub too-long : (s : List ℕ) (d : ℕ)
     → (readNumber s d ≡ Refused 18) ↔ ((formatGood (length s) d ≡ true) × ((v : ℤ) × (s ≡ written (length s) d v) × (10 ^ maxDigits ≤ natAbs v)))
 too-long s d = (
@@ -333,10 +338,14 @@ some-text width d v f =
     let same = ap (λ (n : ℕ). written n d v) (sym l) in
     (l, accepted (written width d v) d v .1 (rw l (f .format), same, f .small))
 
--- and no other, blanks aside, in a field of any width
+-- what is accepted is the value's text, blanks aside, and the value is the text's
 accepted-text : (s : List ℕ) (d : ℕ) (v : ℤ) → readNumber s d ≡ Value v → unpadded s ≡ numberText d v
 accepted-text s d v h = ap unpadded (accepted s d v .0 h .1) ∙ written-unpadded (length s) d v
 
+accepted-value : (s : List ℕ) (d : ℕ) (v : ℤ) → readNumber s d ≡ Value v → valueOf s ≡ v
+accepted-value s d v h = let a = accepted s d v .0 h in is-value s d v (a .0) (a .1)
+
+-- and no other: two accepted texts of one value, of any two widths, are the same, blanks aside
 pub same-text : (s t : List ℕ) (d : ℕ) (v : ℤ) → readNumber s d ≡ Value v → readNumber t d ≡ Value v → unpadded s ≡ unpadded t
 same-text s t d v p q = accepted-text s d v p ∙ sym (accepted-text t d v q)
 
@@ -344,14 +353,12 @@ same-text s t d v p q = accepted-text s d v p ∙ sym (accepted-text t d v q)
 pub one-text : (s t : List ℕ) (d : ℕ) (v : ℤ) → length s ≡ length t → readNumber s d ≡ Value v → readNumber t d ≡ Value v → s ≡ t
 one-text s t d v l p q = unpadded-front s ∙ rw (same-text s t d v p q, l) (sym (unpadded-front t))
 
--- "and each accepted text one value": texts that are the same, blanks aside, have one value, and that value fits
-accepted-value : (s : List ℕ) (d : ℕ) (v : ℤ) → readNumber s d ≡ Value v → valueOf s ≡ v
-accepted-value s d v h = let a = accepted s d v .0 h in is-value s d v (a .0) (a .1)
-
+-- "and each accepted text one value": texts that are the same, blanks aside, have one value
 pub same-value : (s t : List ℕ) (d : ℕ) (v w : ℤ) → unpadded s ≡ unpadded t → readNumber s d ≡ Value v → readNumber t d ≡ Value w → v ≡ w
 unfolding valueOf
 same-value s t d v w e p q = sym (accepted-value s d v p) ∙ rw e (accepted-value t d w q)
 
+-- and that value fits
 pub value-fits : (s : List ℕ) (d : ℕ) (v : ℤ) → readNumber s d ≡ Value v → Fits (length s) d v
 value-fits s d v h =
     let a = accepted s d v .0 h in

@@ -43,7 +43,8 @@ length-fraction d n h = rw (fraction-some d n h, length-lastDigits) (omega arith
 
 -- ---- a turn of the digits' loop, from the right
 pub put-digit : (b : List ℕ) (at count n i : ℕ) → 0 < i → i ≤ count
-    → set (put b (at + i) (lastDigits (count - i) n)) (at + (i - 1)) (zeroDigit + n / 10 ^ (count - i) % 10) ≡ put b (at + (i - 1)) (lastDigits (count - (i - 1)) n)
+    → set (put b (at + i) (lastDigits (count - i) n)) (at + (i - 1)) (zeroDigit + n / 10 ^ (count - i) % 10)
+    ≡ put b (at + (i - 1)) (lastDigits (count - (i - 1)) n)
 put-digit b at count n i h l =
     let e : count - (i - 1) ≡ suc (count - i) = omega arith in
     let f : at + i ≡ at + (i - 1) + 1 = omega arith in
@@ -89,7 +90,10 @@ written-stores : (s : List ℕ) (d : ℕ) (v : ℤ) (at : ℕ) → at + length (
     → written (length s) d v
     ≡ put
     (put
-    (put (put s (at + length (signText v) + length (decimal (natAbs v / 10 ^ d))) (fractionText d (natAbs v))) (at + length (signText v)) (decimal (natAbs v / 10 ^ d)))
+    (put
+    (put s (at + length (signText v) + length (decimal (natAbs v / 10 ^ d))) (fractionText d (natAbs v)))
+    (at + length (signText v))
+    (decimal (natAbs v / 10 ^ d)))
     at
     (signText v))
     0
@@ -120,7 +124,7 @@ module _ (s : List ℕ) (d : ℕ) (v : ℤ) where
   unfolding writeNumber
   written-good e l m = rw (e, writeNumber, lt-ltb (natAbs v) (10 ^ maxDigits) l, le-leb (length (numberText d v)) (length s) m)
 
--- a value is written exactly where it fits, and the buffer is then its text
+-- a value is written exactly if it fits, and the buffer is then its text
 no-write : {X : Type 0} {l : Left} {s t : List ℕ} {n : ℕ} → l ≡ left s (Refused n) → l ≡ left t Written → X
 no-write {l} {s} {t} {n} p q =
     let r : Refused n ≡ Written = sym (ap (λ (l : Left). l .answer) p) ∙ ap (λ (l : Left). l .answer) q in

@@ -33,9 +33,9 @@ pub enum Writing {
     Refused(u32),
 }
 
-// Where the reader stands in a text: among the blanks, after the minus, after a zero that is the whole part, among the whole
-// part's other digits, behind the point with so many digits to come; or past any hope, by a comma or otherwise. The digits to come are a
-// u64 because a u32 is packed into one word with the phase, which is slower.
+// Where the reader stands in a text: among the blanks, after the minus, after a zero that is the whole part, among the whole part's other digits,
+// behind the point with the number of digits to come; or past any hope, by a comma or otherwise. The digits to come are a u64 because a u32 is
+// packed into one word with the phase, which is slower.
 pub enum Phase {
     Blank,
     Minus,
