@@ -13,7 +13,8 @@ use lib.ListN.{length}
 use borrow.Author.Tests.{eq-eqb, ne-eqb}
 use Rattle.basis.specs.Tests.{contra, both}
 use Rattle.octets.specs.Text.{every, zeroDigit, isDigit, numberOf, lastDigits, decimalFrom, decimal}
-use Rattle.octets.specs.DigitLaws.{ten-pos, decimal-some, decimal-fits, decimal-digits, leads, decimal-leads, number-after, number-decimal, number-lastDigits, number-div, last-number, decimal-number}
+use Rattle.octets.specs.DigitLaws.{ten-pos, decimal-some, decimal-fits, decimal-digits, leads, decimal-leads, number-after, number-decimal, number-lastDigits}
+use Rattle.octets.specs.DigitLaws.{number-div, last-number, decimal-number}
 use Rattle.numeral.specs.Reading.{wholeGood}
 
 -- the digits before the last d: all but d of them, and one at least

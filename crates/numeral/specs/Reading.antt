@@ -79,7 +79,7 @@ valueOf s = signed (hasMinus (unpadded s)) (numberOf (digits (withoutMinus (unpa
 unfoldable pub digitCount : List ℕ → ℕ
 digitCount s = length (digits (withoutMinus (unpadded s)))
 
--- what a text of a field of its own length means, with so many decimals
+-- what a text means in a field of the text's length, with d decimals
 unfoldable pub readNumber : List ℕ → ℕ → Number
 readNumber s d =
     elim (formatGood (length s) d) [

@@ -15,7 +15,8 @@ use Rattle.octets.specs.Text.{every, blank, zeroDigit, isDigit, numberFrom, num
 use Rattle.octets.specs.TextLaws.{digit-range, every-append}
 use Rattle.octets.specs.DigitLaws.{number-least, number-bound}
 use Rattle.numeral.specs.Format.{formatGood, maxWidth, maxDecimals, maxDigits, comma, point}
-use Rattle.numeral.specs.Reading.{some, after, front, wholeGood, fractionGood, wholePart, fraction, withoutPoint, digits, textGood, valueOf, digitCount, readNumber}
+use Rattle.numeral.specs.Reading.{some, after, front, wholeGood, fractionGood, wholePart, fraction, withoutPoint, digits, textGood, valueOf, digitCount}
+use Rattle.numeral.specs.Reading.{readNumber}
 use Rattle.numeral.specs.declared.Number.the-variants.{Value, Empty, Refused}
 
 -- a good format has at most 15 decimals
@@ -119,7 +120,7 @@ module _ (c : ℕ) (w f : List ℕ) (whole : wholeGood (c ∷ w) ≡ true) where
       let least = rw (zero-add (length (w ++ f))) at (number-least (w ++ f) 0 (10 * 0 + (c - zeroDigit)) (omega arith)) in
       le-trans (pow-le-pow-right (lit< tt) {i = maxDigits} {j = length (w ++ f)} (omega arith)) least)
 
--- so a good text has at most 18 digits exactly where their number has
+-- so a good text has at most 18 digits exactly if their number is below 10 to the 18
 count-shows : (count n : ℕ) → n < 10 ^ count → (maxDigits < count → 10 ^ maxDigits ≤ n) → leb count maxDigits ≡ ltb n (10 ^ maxDigits)
 count-shows count n most least = either (leb count maxDigits)
     (λ e. rw e (sym (lt-ltb n _ (le-trans most (pow-le-pow-right (lit< tt) (leb-true count maxDigits e))))))

@@ -1,7 +1,7 @@
 -- Laws: the reader's states, "taken one character after another, the running state handed on". That they end in what the text means is shown in
 -- ScanLaws.antt, so a reader need not believe these definitions.
 use Prim.Native.Nat.{ℕ, _+_, _*_, _-_, _^_}
-use mathlib.Core.Bool.{Bool, false, cond, _&&_, _||_, not}
+use mathlib.Core.Bool.{Bool, true, false, cond, _&&_, _||_, not}
 use mathlib.Core.List.{List, [], _∷_}
 use lib.Dec.{eqb, leb, ltb}
 use Rattle.octets.specs.Text.{blank, zeroDigit, isDigit}
@@ -16,6 +16,16 @@ use Rattle.numeral.specs.declared.Phase.the-variants as phase
 -- before the first character
 abbrev pub initial : ℕ → Reader
 initial d = record { decimals = d; phase = phase.Blank; negative = false; value = 0 }
+
+-- no character but blanks was taken yet
+abbrev pub amongBlanks : Phase → Bool
+amongBlanks phase.Blank = true
+amongBlanks phase.Minus = false
+amongBlanks phase.Zero = false
+amongBlanks phase.Whole = false
+amongBlanks (phase.Fraction left) = false
+amongBlanks phase.Comma = false
+amongBlanks phase.Bad = false
 
 -- the phase after the first digit c of the whole part
 abbrev pub firstDigit : ℕ → Phase
@@ -35,9 +45,9 @@ afterDigit phase.Bad c = phase.Bad
 abbrev pub wholeEnd : ℕ → ℕ → Phase
 wholeEnd d c = cond (eqb c point && leb 1 d) (phase.Fraction d) phase.Bad
 
--- the phase after the character c, which is neither a digit nor a comma
+-- the phase after the character c, which is neither a blank on the left nor a digit nor a comma
 abbrev pub onward : ℕ → Phase → ℕ → Phase
-onward d phase.Blank c = cond (eqb blank c) phase.Blank (cond (eqb c minus) phase.Minus phase.Bad)
+onward d phase.Blank c = cond (eqb c minus) phase.Minus phase.Bad
 onward d phase.Minus c = phase.Bad
 onward d phase.Zero c = wholeEnd d c
 onward d phase.Whole c = wholeEnd d c
@@ -45,7 +55,7 @@ onward d (phase.Fraction left) c = phase.Bad
 onward d phase.Comma c = phase.Comma
 onward d phase.Bad c = phase.Bad
 
--- the phase after the character c, which is no digit
+-- the phase after the character c, which is neither a blank on the left nor a digit
 unfoldable pub afterOther : ℕ → Phase → ℕ → Phase
 afterOther d p c = cond (eqb comma c) phase.Comma (onward d p c)
 
@@ -53,12 +63,13 @@ afterOther d p c = cond (eqb comma c) phase.Comma (onward d p c)
 unfoldable pub nextValue : ℕ → ℕ → ℕ
 nextValue n c = cond (ltb n (10 ^ maxDigits)) (10 * n + (c - zeroDigit)) n
 
--- the state after the character c
+-- the state after the character c: a blank on the left leaves it as it is
 unfoldable pub step : Reader → ℕ → Reader
 step r c =
-    cond (isDigit c)
+    cond (amongBlanks (r .phase) && eqb c blank) r
+    (cond (isDigit c)
     (record { decimals = r .decimals; phase = afterDigit (r .phase) c; negative = r .negative; value = nextValue (r .value) c })
-    (record { decimals = r .decimals; phase = afterOther (r .decimals) (r .phase) c; negative = r .negative || eqb c minus; value = r .value })
+    (record { decimals = r .decimals; phase = afterOther (r .decimals) (r .phase) c; negative = r .negative || eqb c minus; value = r .value }))
 
 -- the state after the characters of a text
 unfoldable pub scan : Reader → List ℕ → Reader

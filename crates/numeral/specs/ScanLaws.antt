@@ -9,13 +9,16 @@ use native.Mathlib.Omega.{arith}
 use lib.Dec.{eqb, leb, ltb, eqb·suc-zero, eqb·zero-suc, eqb·suc-suc}
 use lib.ListN.{length, getD, drop, drop-of-length-le}
 use lib.Seq.{drop-cons}
-use borrow.Author.Tests.{ltb-true, ltb-false, eqb-true, le-leb, le-ltb, ne-eqb}
+use borrow.Author.Tests.{ltb-true, ltb-false, eqb-true, eqb-false, le-leb, le-ltb, ne-eqb}
 use Rattle.basis.specs.Tests.{either, contra, both}
 use Rattle.octets.specs.Text.{every, blank, unpadded, zeroDigit, isDigit, numberFrom, numberOf}
+use Rattle.octets.specs.TextLaws.{digit-range}
 use Rattle.numeral.specs.Format.{formatGood, maxDigits, comma, minus, point}
-use Rattle.numeral.specs.Reading.{some, after, front, hasMinus, withoutMinus, wholeGood, fractionGood, wholePart, fraction, withoutPoint, digits, textGood, valueOf, digitCount, readNumber, signed}
-use Rattle.numeral.specs.ReadingLaws.{format-decimals, no-comma, front-more, front-ends, after-more, after-ends, every-front, none-whole, zero-whole, zero-needless, digits-whole, fraction-empty, fraction-point, count-number}
-use Rattle.numeral.specs.Scan.{initial, afterDigit, wholeEnd, onward, afterOther, nextValue, step, scan, settled, meaning}
+use Rattle.numeral.specs.Reading.{some, after, front, hasMinus, withoutMinus, wholeGood, fractionGood, wholePart, fraction, withoutPoint, digits}
+use Rattle.numeral.specs.Reading.{textGood, valueOf, digitCount, readNumber, signed}
+use Rattle.numeral.specs.ReadingLaws.{format-decimals, no-comma, front-more, front-ends, after-more, after-ends, every-front, none-whole, zero-whole}
+use Rattle.numeral.specs.ReadingLaws.{zero-needless, digits-whole, fraction-empty, fraction-point, count-number}
+use Rattle.numeral.specs.Scan.{initial, amongBlanks, afterDigit, wholeEnd, onward, afterOther, nextValue, step, scan, settled, meaning}
 use Rattle.numeral.specs.declared.Number.{Number}
 use Rattle.numeral.specs.declared.Number.the-variants as number
 use Rattle.numeral.specs.declared.Reader.{Reader}
@@ -32,7 +35,7 @@ agree-next v m c a = either (ltb v (10 ^ maxDigits))
     (λ p. let small = ltb-true v (10 ^ maxDigits) p in rw p (omega arith))
     (λ p. let large = ltb-false v (10 ^ maxDigits) p in rw p (omega arith))
 
--- so a text means the same by either
+-- numbers that agree settle a text alike
 agree-settled : (g n : Bool) (v m : ℕ) → Agree v m → settled g n v ≡ settled g n m
 unfolding settled
 agree-settled g n v m a = either (ltb v (10 ^ maxDigits))
@@ -41,19 +44,25 @@ agree-settled g n v m a = either (ltb v (10 ^ maxDigits))
     (λ p. let large = ltb-false v (10 ^ maxDigits) p in
     rw (ne-eqb v 0 (omega arith), ne-eqb m 0 (omega arith), p, le-ltb m (10 ^ maxDigits) (omega arith)))
 
+-- a digit is no blank
+digit-no-blank : (p : Phase) (c : ℕ) → isDigit c ≡ true → amongBlanks p && eqb c blank ≡ false
+digit-no-blank p c e =
+    let range = digit-range c e in
+    rw (ne-eqb c blank (omega arith)) (and-false (amongBlanks p))
+
 -- the phase after a digit and after another character
 module _ (r : Reader) (c : ℕ) where
   phase-digit : isDigit c ≡ true → step r c .phase ≡ afterDigit (r .phase) c
   unfolding step
-  phase-digit e = rw e
+  phase-digit e = rw (digit-no-blank (r .phase) c e, e)
 
-  phase-other : isDigit c ≡ false → eqb comma c ≡ false → step r c .phase ≡ onward (r .decimals) (r .phase) c
+  phase-other : amongBlanks (r .phase) && eqb c blank ≡ false → isDigit c ≡ false → eqb comma c ≡ false → step r c .phase ≡ onward (r .decimals) (r .phase) c
   unfolding step afterOther
-  phase-other e f = rw (e, f)
+  phase-other e f g = rw (e, f, g)
 
   phase-comma : eqb comma c ≡ true → step r c .phase ≡ phase.Comma
   unfolding step afterOther
-  phase-comma e = let same : c ≡ comma = sym (eqb-true comma c e) in rw same
+  phase-comma e = let same : c ≡ comma = sym (eqb-true comma c e) in rw (same, and-false (amongBlanks (r .phase)))
 
 -- a comma ends in 16, whatever comes before and after it
 comma-stays : (s : List ℕ) (r : Reader) → r .phase ≡ phase.Comma → meaning (scan r s) ≡ number.Refused 16
@@ -61,7 +70,7 @@ unfolding scan meaning
 comma-stays [] r e = rw e
 comma-stays (c ∷ s) r e = comma-stays s (step r c) (either (eqb comma c)
     (λ f. phase-comma r c f)
-    (λ f. either (isDigit c) (λ g. phase-digit r c g ∙ rw e) (λ g. phase-other r c g f ∙ rw e)))
+    (λ f. either (isDigit c) (λ g. phase-digit r c g ∙ rw e) (λ g. phase-other r c (rw e) g f ∙ rw e)))
 
 comma-means : (s : List ℕ) (r : Reader) → some (eqb comma) s ≡ true → meaning (scan r s) ≡ number.Refused 16
 unfolding scan some
@@ -76,7 +85,7 @@ unfolding scan meaning
 bad-stays [] r e f = rw e
 bad-stays (c ∷ s) r e f =
     let clear = no-comma c s f in
-    bad-stays s (step r c) (either (isDigit c) (λ g. phase-digit r c g ∙ rw e) (λ g. phase-other r c g (clear .0) ∙ rw e)) (clear .1)
+    bad-stays s (step r c) (either (isDigit c) (λ g. phase-digit r c g ∙ rw e) (λ g. phase-other r c (rw e) g (clear .0) ∙ rw e)) (clear .1)
 
 bad-means : (r : Reader) (c : ℕ) (s : List ℕ) (good n : Bool) (m : ℕ) → step r c .phase ≡ phase.Bad → some (eqb comma) s ≡ false → good ≡ false
     → meaning (scan r (c ∷ s)) ≡ settled good n m
@@ -91,14 +100,15 @@ module _ (d : ℕ) where
   scan-digit : (p q : Phase) (n : Bool) (v c : ℕ) (s : List ℕ) → isDigit c ≡ true → afterDigit p c ≡ q
       → scan (state p n v) (c ∷ s) ≡ scan (state q n (nextValue v c)) s
   unfolding scan step
-  scan-digit p q n v c s e f = rw (e, f)
+  scan-digit p q n v c s e f = rw (digit-no-blank p c e, e, f)
 
-  scan-other : (p q : Phase) (n : Bool) (v c : ℕ) (s : List ℕ) → isDigit c ≡ false → eqb comma c ≡ false → onward d p c ≡ q
+  scan-other : (p q : Phase) (n : Bool) (v c : ℕ) (s : List ℕ) → amongBlanks p && eqb c blank ≡ false → isDigit c ≡ false → eqb comma c ≡ false
+      → onward d p c ≡ q
       → scan (state p n v) (c ∷ s) ≡ scan (state q (n || eqb c minus) v) s
   unfolding scan step afterOther
-  scan-other p q n v c s e f g = rw (e, f, g)
+  scan-other p q n v c s e f g h = rw (e, f, g, h)
 
-  -- behind the point, with so many digits to come
+  -- behind the point, with `left` digits to come
   next-place : (left c : ℕ) → afterDigit (phase.Fraction (suc left)) c ≡ phase.Fraction left
   next-place left c =
       let one : suc left - 1 ≡ left = omega arith in
@@ -112,7 +122,7 @@ module _ (d : ℕ) where
   fraction-means (c ∷ s) zero n v m a e =
       let clear = no-comma c s e in
       let here = state (phase.Fraction 0) n v in
-      let past : step here c .phase ≡ phase.Bad = either (isDigit c) (phase-digit here c) (λ f. phase-other here c f (clear .0)) in
+      let past : step here c .phase ≡ phase.Bad = either (isDigit c) (phase-digit here c) (λ f. phase-other here c refl f (clear .0)) in
       bad-means here c s _ n _ past (clear .1) (rw (eqb·suc-zero (length s)) (and-false (every isDigit (c ∷ s))))
   fraction-means (c ∷ s) (suc left) n v m a e =
       let clear = no-comma c s e in
@@ -120,23 +130,25 @@ module _ (d : ℕ) where
       either (isDigit c)
       (λ f. rw (scan-digit (phase.Fraction (suc left)) (phase.Fraction left) n v c s f (next-place left c), f, eqb·suc-suc (length s) left)
       (fraction-means s left n (nextValue v c) (10 * m + (c - zeroDigit)) (agree-next v m c a) (clear .1)))
-      (λ f. bad-means here c s _ n _ (phase-other here c f (clear .0)) (clear .1) (rw f))
+      (λ f. bad-means here c s _ n _ (phase-other here c refl f (clear .0)) (clear .1) (rw f))
 
   -- behind the whole part
   point-means : (p : Phase) (n : Bool) (v m : ℕ) (s : List ℕ) → Agree v m → some (eqb comma) s ≡ false → onward d p point ≡ phase.Fraction d
       → meaning (scan (state p n v) (point ∷ s)) ≡ settled (every isDigit s && eqb (length s) d) n (numberFrom m s)
-  point-means p n v m s a e f = rw (scan-other p (phase.Fraction d) n v point s refl refl f, or-false n) (fraction-means s d n v m a e)
+  point-means p n v m s a e f =
+      rw (scan-other p (phase.Fraction d) n v point s (and-false (amongBlanks p)) refl refl f, or-false n) (fraction-means s d n v m a e)
 
-  end-means : (p : Phase) (n : Bool) (v m c : ℕ) (s : List ℕ) → Agree v m → isDigit c ≡ false → some (eqb comma) (c ∷ s) ≡ false → onward d p c ≡ wholeEnd d c
+  end-means : (p : Phase) (n : Bool) (v m c : ℕ) (s : List ℕ) → Agree v m → isDigit c ≡ false → some (eqb comma) (c ∷ s) ≡ false
+      → amongBlanks p ≡ false → onward d p c ≡ wholeEnd d c
       → meaning (scan (state p n v) (c ∷ s)) ≡ settled (fractionGood d (c ∷ s)) n (numberFrom m s)
-  end-means p n v m c s a e f g =
+  end-means p n v m c s a e f b g =
       let clear = no-comma c s f in
       let here = state p n v in
       either (eqb c point && leb 1 d)
       (λ h.
       let dot : c ≡ point = eqb-true c point (both (eqb c point) (leb 1 d) h .0) in
       rw (fraction-point d c s, h, dot) (point-means p n v m s a (clear .1) (rw (h, dot) at g)))
-      (λ h. bad-means here c s _ n _ (phase-other here c e (clear .0) ∙ g ∙ rw h) (clear .1) (rw (fraction-point d c s, h)))
+      (λ h. bad-means here c s _ n _ (phase-other here c (rw b) e (clear .0) ∙ g ∙ rw h) (clear .1) (rw (fraction-point d c s, h)))
 
   -- among the digits of a whole part whose first is no zero
   whole-means : (s : List ℕ) (n : Bool) (v m : ℕ) → Agree v m → some (eqb comma) s ≡ false
@@ -146,7 +158,7 @@ module _ (d : ℕ) where
   whole-means (c ∷ s) n v m a e = either (isDigit c)
       (λ f. rw (scan-digit phase.Whole phase.Whole n v c s f refl, front-more isDigit c s f, after-more isDigit c s f)
       (whole-means s n (nextValue v c) (10 * m + (c - zeroDigit)) (agree-next v m c a) (no-comma c s e .1)))
-      (λ f. rw (front-ends isDigit c s f, after-ends isDigit c s f) (end-means phase.Whole n v m c s a f e refl))
+      (λ f. rw (front-ends isDigit c s f, after-ends isDigit c s f) (end-means phase.Whole n v m c s a f e refl refl))
 
   -- after a zero, which is a whole part only by itself
   zero-means : (s : List ℕ) (n : Bool) → some (eqb comma) s ≡ false
@@ -157,7 +169,7 @@ module _ (d : ℕ) where
       let here = state phase.Zero n 0 in
       either (isDigit c)
       (λ f. bad-means here c s _ n _ (phase-digit here c f) (no-comma c s e .1) (rw (front-more isDigit c s f, zero-needless c (front isDigit s))))
-      (λ f. rw (front-ends isDigit c s f, after-ends isDigit c s f, zero-whole) (end-means phase.Zero n 0 0 c s refl f e refl))
+      (λ f. rw (front-ends isDigit c s f, after-ends isDigit c s f, zero-whole) (end-means phase.Zero n 0 0 c s refl f e refl refl))
 
   -- what a text means that begins with its whole part
   abbrev meant : Bool → List ℕ → Number
@@ -180,35 +192,31 @@ module _ (d : ℕ) where
       rw (same, scan-digit phase.Minus phase.Zero n 0 zeroDigit s refl refl) (zero-means s n (clear .1)))
       (λ g. rw (scan-digit phase.Minus phase.Whole n 0 c s f (rw g), digits-whole c (front isDigit s) f g (every-front isDigit s))
       (whole-means s n (nextValue 0 c) (10 * 0 + (c - zeroDigit)) (agree-next 0 0 c refl) (clear .1)))))
-      (λ f. bad-means here c s _ n _ (phase-other here c f (clear .0)) (clear .1) (rw (front-ends isDigit c s f, none-whole)))
+      (λ f. bad-means here c s _ n _ (phase-other here c refl f (clear .0)) (clear .1) (rw (front-ends isDigit c s f, none-whole)))
 
   -- an optional minus: the first character that is no blank
   scan-unsigned : (c : ℕ) (s : List ℕ) → eqb blank c ≡ false → eqb c minus ≡ false → eqb comma c ≡ false
       → scan (initial d) (c ∷ s) ≡ scan (state phase.Minus false 0) (c ∷ s)
   unfolding scan step afterOther
-  scan-unsigned c s e f g = either (isDigit c) (λ h. rw h) (λ h. rw (h, g, e, f))
+  scan-unsigned c s e f g =
+      let shown = ne-eqb c blank (λ b. eqb-false blank c e (sym b)) in
+      either (isDigit c) (λ h. rw (shown, h)) (λ h. rw (shown, h, g, f))
 
-  sign-means : (c : ℕ) (s : List ℕ) → eqb blank c ≡ false → some (eqb comma) (c ∷ s) ≡ false → meaning (scan (initial d) (c ∷ s)) ≡ meant (hasMinus (c ∷ s)) (withoutMinus (c ∷ s))
+  sign-means : (c : ℕ) (s : List ℕ) → eqb blank c ≡ false → some (eqb comma) (c ∷ s) ≡ false
+      → meaning (scan (initial d) (c ∷ s)) ≡ meant (hasMinus (c ∷ s)) (withoutMinus (c ∷ s))
   unfolding hasMinus withoutMinus
   sign-means c s e f =
       let clear = no-comma c s f in
       either (eqb c minus)
       (λ g.
       let same : c ≡ minus = eqb-true c minus g in
-      rw (same, scan-other phase.Blank phase.Minus false 0 minus s refl refl refl) (unsigned-means s true (clear .1)))
+      rw (same, scan-other phase.Blank phase.Minus false 0 minus s refl refl refl refl) (unsigned-means s true (clear .1)))
       (λ g. rw (scan-unsigned c s e g (clear .0), g, withoutMinus) (unsigned-means (c ∷ s) false f))
 
   -- blanks on the left, and nothing but blanks
   scan-blank : (c : ℕ) (s : List ℕ) → eqb blank c ≡ true → scan (initial d) (c ∷ s) ≡ scan (initial d) s
-  scan-blank c s e =
-      let same : c ≡ blank = sym (eqb-true blank c e) in
-      rw (same, scan-other phase.Blank phase.Blank false 0 blank s refl refl refl)
-
-  -- so the blanks may be passed first
-  pub scan-unpadded : (s : List ℕ) → scan (initial d) (unpadded s) ≡ scan (initial d) s
-  unfolding unpadded
-  scan-unpadded [] = refl
-  scan-unpadded (c ∷ s) = either (eqb blank c) (λ e. rw e (scan-unpadded s ∙ sym (scan-blank c s e))) (λ e. rw e)
+  unfolding scan step
+  scan-blank c s e = let same : c ≡ blank = sym (eqb-true blank c e) in rw same
 
   blanks-mean : (s : List ℕ) → every (eqb blank) s ≡ true → meaning (scan (initial d) s) ≡ number.Empty
   unfolding scan meaning every
@@ -228,7 +236,10 @@ module _ (d : ℕ) where
 -- the paper's order at the end: 17 for the shape or minus zero, 18 for more than 18 digits, the value
 settled-is : (good n : Bool) (m count : ℕ) → (good ≡ true → leb count maxDigits ≡ ltb m (10 ^ maxDigits))
     → settled good n m
-    ≡ elim (good && not (n && eqb m 0)) [ false ↦ number.Refused 17 | true ↦ elim (leb count maxDigits) [ false ↦ number.Refused 18 | true ↦ number.Value (signed n m) ] ]
+    ≡ elim (good && not (n && eqb m 0)) [
+      | false ↦ number.Refused 17
+      | true ↦ elim (leb count maxDigits) [ false ↦ number.Refused 18 | true ↦ number.Value (signed n m) ]
+    ]
 unfolding settled
 settled-is false n m count h = refl
 settled-is true n m count h = either (n && eqb m 0)

@@ -1,4 +1,4 @@
--- Laws: demand 2, the grammar of numeric text. A text is accepted exactly where it is the one written text of a value of at most 18 digits.
+-- Laws: demand 2, the grammar of numeric text. A text is accepted exactly if it is the written text of a value of at most 18 digits.
 -- Assumes nothing.
 use mathlib.Core.Path.{_≡_, refl, sym, ap, _∙_}
 use mathlib.Core.Bool.{Bool, true, false, _&&_, not}
@@ -15,11 +15,12 @@ use Rattle.octets.specs.Text.{every, blank, unpadded, isDigit, numberOf, lastDi
 use Rattle.octets.specs.TextLaws.{digit-range, unpadded-digit, unpadded-blanks, unpadded-front, blanks-left}
 use Rattle.octets.specs.DigitLaws.{decimal-digits, decimal-some, lastDigits-digits, length-lastDigits}
 use Rattle.numeral.specs.Format.{maxDecimals, maxDigits, formatGood, comma, minus, point}
-use Rattle.numeral.specs.Reading.{some, after, front, hasMinus, withoutMinus, wholeGood, fractionGood, wholePart, fraction, withoutPoint, digits, textGood, signed, valueOf, digitCount, readNumber}
+use Rattle.numeral.specs.Reading.{some, after, front, hasMinus, withoutMinus, wholeGood, fractionGood, wholePart, fraction, withoutPoint, digits}
+use Rattle.numeral.specs.Reading.{textGood, signed, valueOf, digitCount, readNumber}
 use Rattle.numeral.specs.ReadingLaws.{format-decimals, count-number}
-use Rattle.numeral.specs.Writing.{fractionText, signText, numberText, written, left, writeNumber}
+use Rattle.numeral.specs.Writing.{fractionText, signText, numberText, written, Fits, left, writeNumber}
 use Rattle.numeral.specs.DigitLaws.{decimal-good, number-written, digits-back}
-use Rattle.numeral.specs.WritingLaws.{length-number, length-written, written-exactly}
+use Rattle.numeral.specs.WritingLaws.{length-number, length-written, fits-length, written-exactly}
 use Rattle.numeral.specs.declared.Number.{Number}
 use Rattle.numeral.specs.declared.Number.the-variants.{Value, Empty, Refused}
 use Rattle.numeral.specs.declared.Writing.the-variants.{Written}
@@ -73,7 +74,7 @@ signed-text true (suc n) e = refl
 sign-front : (s : List ℕ) → signOf (hasMinus s) ++ withoutMinus s ≡ s
 sign-front s = either (hasMinus s) (λ e. rw e (sym (with-minus s e))) (λ e. rw e (no-minus s e))
 
--- without its sign: so many digits before the point, and d behind
+-- without its sign: the whole part before the point, and d digits behind it
 module _ (t : List ℕ) (d : ℕ) (w : wholeGood (wholePart t) ≡ true) (f : fractionGood d (fraction t) ≡ true) where
   digits-whole : decimal (numberOf (digits t) / 10 ^ d) ≡ wholePart t
   unfolding digits
@@ -91,10 +92,12 @@ abbrev unsigned : List ℕ → List ℕ
 unsigned s = withoutMinus (unpadded s)
 
 module _ (s : List ℕ) (d : ℕ) (g : textGood s d ≡ true) where
-  good-parts : (wholeGood (wholePart (unsigned s)) ≡ true) × (fractionGood d (fraction (unsigned s)) ≡ true) × (not (hasMinus (unpadded s) && eqb (numberOf (digits (unsigned s))) 0) ≡ true)
+  good-parts : (wholeGood (wholePart (unsigned s)) ≡ true) × (fractionGood d (fraction (unsigned s)) ≡ true)
+      × (not (hasMinus (unpadded s) && eqb (numberOf (digits (unsigned s))) 0) ≡ true)
   unfolding textGood
   good-parts =
-      let h = both (wholeGood (wholePart (unsigned s)) && fractionGood d (fraction (unsigned s))) (not (hasMinus (unpadded s) && eqb (numberOf (digits (unsigned s))) 0)) g in
+      let good = wholeGood (wholePart (unsigned s)) && fractionGood d (fraction (unsigned s)) in
+      let h = both good (not (hasMinus (unpadded s) && eqb (numberOf (digits (unsigned s))) 0)) g in
       let k = both (wholeGood (wholePart (unsigned s))) (fractionGood d (fraction (unsigned s))) (h .0) in
       (k .0, k .1, h .1)
 
@@ -102,7 +105,8 @@ module _ (s : List ℕ) (d : ℕ) (g : textGood s d ≡ true) where
   unfolding numberText valueOf
   good-text =
       let h = good-parts in
-      rw (signed-abs, signed-text (hasMinus (unpadded s)) (numberOf (digits (unsigned s))) (h .2), digits-text (unsigned s) d (h .0) (h .1)) (sign-front (unpadded s))
+      let sign = signed-text (hasMinus (unpadded s)) (numberOf (digits (unsigned s))) (h .2) in
+      rw (signed-abs, sign, digits-text (unsigned s) d (h .0) (h .1)) (sign-front (unpadded s))
 
   good-written : s ≡ written (length s) d (valueOf s)
   unfolding written
@@ -129,7 +133,8 @@ after-every p (c ∷ w) u e =
     rw (k .0, after, after-every p w u (k .1))
 
 -- a digit is neither a blank nor a minus
-digits-first : (w u : List ℕ) → every isDigit w ≡ true → 1 ≤ length w → (unpadded (w ++ u) ≡ w ++ u) × (hasMinus (w ++ u) ≡ false) × (withoutMinus (w ++ u) ≡ w ++ u)
+digits-first : (w u : List ℕ) → every isDigit w ≡ true → 1 ≤ length w
+    → (unpadded (w ++ u) ≡ w ++ u) × (hasMinus (w ++ u) ≡ false) × (withoutMinus (w ++ u) ≡ w ++ u)
 unfolding every hasMinus withoutMinus
 digits-first [] u e l = absurd (omega arith)
 digits-first (c ∷ w) u e l =
@@ -302,7 +307,7 @@ not-same {m = m} {n = n} p q h = let z : m ≡ n = cc in absurd (omega arith)
 
 -- ---- demand 2
 
--- a text is accepted with the value v exactly where it is v's one text in its own width, and v has at most 18 digits
+-- a text is accepted with the value v exactly if it is v's written text in the text's own width, and v has at most 18 digits
 pub accepted : (s : List ℕ) (d : ℕ) (v : ℤ)
     → (readNumber s d ≡ Value v) ↔ ((formatGood (length s) d ≡ true) × (s ≡ written (length s) d v) × (natAbs v < 10 ^ maxDigits))
 accepted s d v = (
@@ -314,7 +319,7 @@ accepted s d v = (
   (λ h. read-few s d v (h .0) (h .1) (h .2)),
 )
 
--- it is refused by 18 exactly where it is the one text of a value of more than 18 digits
+-- it is refused by 18 exactly if it is the written text of a value of more than 18 digits
 pub too-long : (s : List ℕ) (d : ℕ)
     → (readNumber s d ≡ Refused 18) ↔ ((formatGood (length s) d ≡ true) × ((v : ℤ) × (s ≡ written (length s) d v) × (10 ^ maxDigits ≤ natAbs v)))
 too-long s d = (
@@ -326,23 +331,46 @@ too-long s d = (
   (λ h. read-many s d (h .1 .0) (h .0) (h .1 .1) (h .1 .2)),
 )
 
--- two accepted texts of one width, with one value, are the same text; and a text has one value
-pub one-text : (s t : List ℕ) (d : ℕ) (v : ℤ) → length s ≡ length t → readNumber s d ≡ Value v → readNumber t d ≡ Value v → s ≡ t
-one-text s t d v l p q = accepted s d v .0 p .1 ∙ ap (λ (width : ℕ). written width d v) l ∙ sym (accepted t d v .0 q .1)
+-- "each value that fits has one accepted text": it has one of the field's width
+pub some-text : (width d : ℕ) (v : ℤ) → Fits width d v → (length (written width d v) ≡ width) × (readNumber (written width d v) d ≡ Value v)
+some-text width d v f =
+    let l = fits-length width d v f in
+    let same = ap (λ (n : ℕ). written n d v) (sym l) in
+    (l, accepted (written width d v) d v .1 (rw l (f .format), same, f .small))
 
-pub one-value : (s : List ℕ) (d : ℕ) (v w : ℤ) → readNumber s d ≡ Value v → readNumber s d ≡ Value w → v ≡ w
-one-value s d v w p q = cc
+-- what is accepted is the value's text, blanks aside, and the value is the text's
+accepted-text : (s : List ℕ) (d : ℕ) (v : ℤ) → readNumber s d ≡ Value v → unpadded s ≡ numberText d v
+accepted-text s d v h = ap unpadded (accepted s d v .0 h .1) ∙ written-unpadded (length s) d v
+
+accepted-value : (s : List ℕ) (d : ℕ) (v : ℤ) → readNumber s d ≡ Value v → valueOf s ≡ v
+accepted-value s d v h = let a = accepted s d v .0 h in is-value s d v (a .0) (a .1)
+
+-- and no other: two accepted texts of one value, of any two widths, are the same, blanks aside
+pub same-text : (s t : List ℕ) (d : ℕ) (v : ℤ) → readNumber s d ≡ Value v → readNumber t d ≡ Value v → unpadded s ≡ unpadded t
+same-text s t d v p q = accepted-text s d v p ∙ sym (accepted-text t d v q)
+
+-- so in one width the very same
+pub one-text : (s t : List ℕ) (d : ℕ) (v : ℤ) → length s ≡ length t → readNumber s d ≡ Value v → readNumber t d ≡ Value v → s ≡ t
+one-text s t d v l p q = unpadded-front s ∙ rw (same-text s t d v p q, l) (sym (unpadded-front t))
+
+-- "and each accepted text one value": texts that are the same, blanks aside, have one value
+pub same-value : (s t : List ℕ) (d : ℕ) (v w : ℤ) → unpadded s ≡ unpadded t → readNumber s d ≡ Value v → readNumber t d ≡ Value w → v ≡ w
+unfolding valueOf
+same-value s t d v w e p q = sym (accepted-value s d v p) ∙ rw e (accepted-value t d w q)
+
+-- and that value fits
+pub value-fits : (s : List ℕ) (d : ℕ) (v : ℤ) → readNumber s d ≡ Value v → Fits (length s) d v
+value-fits s d v h =
+    let a = accepted s d v .0 h in
+    let l = ap length (a .1) ∙ length-written (length s) d v in
+    record { format = a .0; small = a .2; room = omega arith }
 
 -- what was written is read back
 pub read-back : (s t : List ℕ) (d : ℕ) (v : ℤ) → writeNumber s d v ≡ left t Written → readNumber t d ≡ Value v
 read-back s t d v h =
     let w = written-exactly s t d v .0 h in
-    let l : length t ≡ length s = rw (w .3, length-written) (omega (arith, w .2)) in
-    accepted t d v .1 (rw l (w .0), rw l (w .3), w .1)
+    rw (w .1) (some-text (length s) d v (w .0) .1)
 
 -- and what was read is what a write leaves, in any buffer of that width
 pub write-back : (s t : List ℕ) (d : ℕ) (v : ℤ) → length s ≡ length t → readNumber t d ≡ Value v → writeNumber s d v ≡ left t Written
-write-back s t d v l h =
-    let r = accepted t d v .0 h in
-    let e = ap length (r .1) ∙ length-written (length t) d v in
-    written-exactly s t d v .1 (rw l (r .0), r .2, omega arith, rw l (r .1))
+write-back s t d v l h = written-exactly s t d v .1 (rw l (value-fits t d v h), rw l (accepted t d v .0 h .1))

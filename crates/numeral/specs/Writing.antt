@@ -1,5 +1,6 @@
 -- Rules: the one text of a value. `writeNumber` is what `write_number` answers and leaves in the buffer, in document 01's order: 6, 18, 19.
-use Prim.Native.Nat.{ℕ, zero, suc, _-_, _/_, _^_}
+use Prim.Native.Nat.{ℕ, zero, suc, _-_, _/_, _^_, _≤_, _<_}
+use mathlib.Core.Path.{_≡_}
 use mathlib.Core.Bool.{true, false}
 use mathlib.Core.List.{List, [], _∷_, _++_}
 use lib.Dec.{leb, ltb}
@@ -27,6 +28,15 @@ numberText d v = signText v ++ (decimal (natAbs v / 10 ^ d) ++ fractionText d (n
 -- "that one text, blanks on the left"
 unfoldable pub written : ℕ → ℕ → ℤ → List ℕ
 written width d v = replicate (width - length (numberText d v)) blank ++ numberText d v
+
+-- "each value that fits": the values that none of the writer's refusals concerns
+pub record Fits (width d : ℕ) (v : ℤ) : Type 0 where
+  -- not 6, "a bad width or decimal count"
+  pub format : formatGood width d ≡ true
+  -- not 18, "a value beyond 18 digits"
+  pub small : natAbs v < 10 ^ maxDigits
+  -- not 19, "value's text longer than the field"
+  pub room : length (numberText d v) ≤ width
 
 -- a buffer after a write, and the answer
 pub record Left : Type 0 where

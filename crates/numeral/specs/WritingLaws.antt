@@ -18,7 +18,7 @@ use Rattle.octets.specs.StoreLaws.{put-cons, put-append, put-comm}
 use Rattle.octets.specs.Text.{blank, zeroDigit, lastDigits, decimal}
 use Rattle.octets.specs.DigitLaws.{decimal-last, lastDigits-front, length-lastDigits}
 use Rattle.numeral.specs.Format.{maxDigits, formatGood, minus, point}
-use Rattle.numeral.specs.Writing.{fractionText, signText, numberText, written, Left, left, writeNumber}
+use Rattle.numeral.specs.Writing.{fractionText, signText, numberText, written, Fits, Left, left, writeNumber}
 use Rattle.numeral.specs.declared.Writing.the-variants.{Written, Refused}
 
 -- ---- the parts of a value's text
@@ -43,7 +43,8 @@ length-fraction d n h = rw (fraction-some d n h, length-lastDigits) (omega arith
 
 -- ---- a turn of the digits' loop, from the right
 pub put-digit : (b : List ℕ) (at count n i : ℕ) → 0 < i → i ≤ count
-    → set (put b (at + i) (lastDigits (count - i) n)) (at + (i - 1)) (zeroDigit + n / 10 ^ (count - i) % 10) ≡ put b (at + (i - 1)) (lastDigits (count - (i - 1)) n)
+    → set (put b (at + i) (lastDigits (count - i) n)) (at + (i - 1)) (zeroDigit + n / 10 ^ (count - i) % 10)
+    ≡ put b (at + (i - 1)) (lastDigits (count - (i - 1)) n)
 put-digit b at count n i h l =
     let e : count - (i - 1) ≡ suc (count - i) = omega arith in
     let f : at + i ≡ at + (i - 1) + 1 = omega arith in
@@ -63,6 +64,10 @@ length-number d v = rw (length-append, length-append) (omega arith)
 pub length-written : (width d : ℕ) (v : ℤ) → length (written width d v) ≡ width - length (numberText d v) + length (numberText d v)
 unfolding written
 length-written width d v = rw (length-append, length-replicate)
+
+-- a value that fits has a text as long as the width
+pub fits-length : (width d : ℕ) (v : ℤ) → Fits width d v → length (written width d v) ≡ width
+fits-length width d v f = rw length-written (omega (arith, f .room))
 
 -- a store over the whole buffer; two stores side by side, the right one first
 put-all : (xs ys : List ℕ) → length ys ≡ length xs → put xs 0 ys ≡ ys
@@ -85,7 +90,10 @@ written-stores : (s : List ℕ) (d : ℕ) (v : ℤ) (at : ℕ) → at + length (
     → written (length s) d v
     ≡ put
     (put
-    (put (put s (at + length (signText v) + length (decimal (natAbs v / 10 ^ d))) (fractionText d (natAbs v))) (at + length (signText v)) (decimal (natAbs v / 10 ^ d)))
+    (put
+    (put s (at + length (signText v) + length (decimal (natAbs v / 10 ^ d))) (fractionText d (natAbs v)))
+    (at + length (signText v))
+    (decimal (natAbs v / 10 ^ d)))
     at
     (signText v))
     0
@@ -116,7 +124,7 @@ module _ (s : List ℕ) (d : ℕ) (v : ℤ) where
   unfolding writeNumber
   written-good e l m = rw (e, writeNumber, lt-ltb (natAbs v) (10 ^ maxDigits) l, le-leb (length (numberText d v)) (length s) m)
 
--- a write that is made, and what it leaves
+-- a value is written exactly if it fits, and the buffer is then its text
 no-write : {X : Type 0} {l : Left} {s t : List ℕ} {n : ℕ} → l ≡ left s (Refused n) → l ≡ left t Written → X
 no-write {l} {s} {t} {n} p q =
     let r : Refused n ≡ Written = sym (ap (λ (l : Left). l .answer) p) ∙ ap (λ (l : Left). l .answer) q in
@@ -124,20 +132,19 @@ no-write {l} {s} {t} {n} p q =
     absurd (omega arith)
 
 pub written-exactly : (s t : List ℕ) (d : ℕ) (v : ℤ)
-    → (writeNumber s d v ≡ left t Written)
-    ↔ ((formatGood (length s) d ≡ true) × (natAbs v < 10 ^ maxDigits) × (length (numberText d v) ≤ length s) × (t ≡ written (length s) d v))
+    → (writeNumber s d v ≡ left t Written) ↔ (Fits (length s) d v × (t ≡ written (length s) d v))
 written-exactly s t d v = (
   (λ h. either (formatGood (length s) d)
       (λ f. either (ltb (natAbs v) (10 ^ maxDigits))
       (λ m. either (leb (length (numberText d v)) (length s))
       (λ l.
       let small = ltb-true _ _ m in
-      let fits = leb-true _ _ l in
-      (f, small, fits, ap (λ (l : Left). l .after) (sym h ∙ written-good s d v f small fits)))
+      let room = leb-true _ _ l in
+      (record { format = f; small = small; room = room }, ap (λ (l : Left). l .after) (sym h ∙ written-good s d v f small room)))
       (λ l. no-write (refused-width s d v f (ltb-true _ _ m) (leb-false _ _ l)) h))
       (λ m. no-write (refused-digits s d v f (ltb-false _ _ m)) h))
       (λ f. no-write (refused-format s d v f) h)),
-  (λ h. written-good s d v (h .0) (h .1) (h .2) ∙ ap (λ (b : List ℕ). left b Written) (sym (h .3))),
+  (λ h. written-good s d v (h .0 .format) (h .0 .small) (h .0 .room) ∙ ap (λ (b : List ℕ). left b Written) (sym (h .1))),
 )
 
 -- what the writer knows before it compares the widths: its value's magnitude, and the lengths of its text's three parts

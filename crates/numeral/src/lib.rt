@@ -9,7 +9,7 @@ ghost use Rattle.octets.specs.Store.{put};
 ghost use Rattle.octets.specs.Text.{isDigit, lastDigits, decimal};
 ghost use Rattle.numeral.specs.Format.{maxWidth, maxDecimals, maxDigits, formatGood};
 ghost use Rattle.numeral.specs.Reading.{readNumber, signed};
-ghost use Rattle.numeral.specs.Scan.{initial, firstDigit, afterDigit, wholeEnd, afterOther, nextValue, step, settled, meaning};
+ghost use Rattle.numeral.specs.Scan.{initial, amongBlanks, firstDigit, afterDigit, wholeEnd, afterOther, nextValue, step, settled, meaning};
 ghost use Rattle.numeral.specs.Writing.{fractionText, signText, left, writeNumber};
 
 // The widest field, and the most decimals.
@@ -33,9 +33,9 @@ pub enum Writing {
     Refused(u32),
 }
 
-// Where the reader stands in a text: among the blanks, after the minus, after a zero that is the whole part, among the whole
-// part's other digits, behind the point with so many digits to come; or past any hope, by a comma or otherwise. The digits to come are a
-// u64 because a u32 is packed into one word with the phase, which is slower.
+// Where the reader stands in a text: among the blanks, after the minus, after a zero that is the whole part, among the whole part's other digits,
+// behind the point with the number of digits to come; or past any hope, by a comma or otherwise. The digits to come are a u64 because a u32 is
+// packed into one word with the phase, which is slower.
 pub enum Phase {
     Blank,
     Minus,
@@ -62,6 +62,21 @@ pub fn format_good(width: usize, decimals: u32) -> bool
         & (width <= MAX_WIDTH)
         & ((decimals == 0)
             | (1 <= decimals) & (decimals <= MAX_DECIMALS) & (decimals as usize + 2 <= width))
+}
+
+// Whether the text has had no character but blanks so far.
+fn among_blanks(p: Phase) -> bool
+    ensures { λ r. ⌜ r ≡ amongBlanks p ⌝ }
+{
+    match p {
+        Phase::Blank => true,
+        Phase::Minus => false,
+        Phase::Zero => false,
+        Phase::Whole => false,
+        Phase::Fraction(_) => false,
+        Phase::Comma => false,
+        Phase::Bad => false,
+    }
 }
 
 // The phase after the first digit of the whole part.
@@ -104,7 +119,7 @@ fn whole_end(decimals: u32, c: u8) -> Phase
     Phase::Bad
 }
 
-// The phase after one character more that is no digit.
+// The phase after one character more that is neither a blank on the left nor a digit.
 fn after_other(decimals: u32, p: Phase, c: u8) -> Phase
     ensures { λ r. ⌜ r ≡ afterOther decimals p c ⌝ }
 {
@@ -113,9 +128,6 @@ fn after_other(decimals: u32, p: Phase, c: u8) -> Phase
     }
     match p {
         Phase::Blank => {
-            if c == b' ' {
-                return Phase::Blank;
-            }
             if c == b'-' {
                 return Phase::Minus;
             }
@@ -153,11 +165,14 @@ impl Reader {
         }
     }
 
-    // The state after one character more.
+    // The state after one character more. A blank on the left leaves it as it is; that is asked first, since most texts begin with blanks.
     fn take(self, c: u8) -> Reader
         ensures { λ r. ⌜ r ≡ step self c ⌝ }
     {
         let p = self.phase;
+        if among_blanks(p) & (c == b' ') {
+            return self;
+        }
         if is_digit(c) {
             return Reader {
                 decimals: self.decimals,
@@ -220,8 +235,7 @@ pub fn read_number(text: &[u8], decimals: u32) -> Number
         return Number::Refused(6);
     }
     let mut r = Reader::new(decimals);
-    // blanks on the left leave the state as it is
-    let mut i = octets::padding(text);
+    let mut i = 0;
     while i < text.len() {
         r = r.take(text[i]);
         i += 1;

@@ -8,7 +8,7 @@ use borrow.Author.Needs.{needs}
 use borrow.Author.Tests.{not-true, not-false}
 use Rattle.numeral.specs.ReadingLaws.{refused-6}
 use Rattle.numeral.specs.Scan.{initial, scan, meaning}
-use Rattle.numeral.specs.ScanLaws.{scan-unpadded, scan-next, scan-end, scan-means}
+use Rattle.numeral.specs.ScanLaws.{scan-next, scan-end, scan-means}
 use Rattle.numeral.proofs.read_number.Statement.{statement}
 use Rattle.numeral.proofs.read_number.Tie as tie
 
@@ -27,11 +27,8 @@ returns c = sym (refused-6 _ _ (sym (c .before .format-good .ensures) ∙ not-tr
 new-requires : tie.Need-new-requires Inv-loop μ-loop
 new-requires c κs = search needs
 
-padding-requires : tie.Need-padding-requires Inv-loop μ-loop
-padding-requires c κs = search needs
-
 loop-holds : tie.Need-loop-holds Inv-loop μ-loop
-loop-holds c = (c .padding .ensures .0, rw (c .before .new .ensures, c .padding .ensures .1) (sym (scan-unpadded _ _)))
+loop-holds c = (omega arith, rw (c .new .ensures))
 
 shared-slice-read-take : tie.Need-shared-slice-read-take Inv-loop μ-loop
 shared-slice-read-take c = omega arith
@@ -56,9 +53,10 @@ finish-requires c κs = search needs
 returns-2 : tie.Need-returns-2 Inv-loop μ-loop
 returns-2 c =
     let at-loop = c .before .before in
-    let checked = at-loop .before .before .before in
+    let checked = at-loop .before .before in
     let good = sym (checked .before .format-good .ensures) ∙ not-false _ (checked .if1 .left) in
-    c .finish .ensures ∙ ap meaning (sym (at-loop .loop .inv .1 ∙ scan-end (at-loop .loop .r) _ (at-loop .loop .i) (c .before .loop-test .left))) ∙ scan-means _ _ good
+    let all-taken = at-loop .loop .inv .1 ∙ scan-end (at-loop .loop .r) _ (at-loop .loop .i) (c .before .loop-test .left) in
+    c .finish .ensures ∙ ap meaning (sym all-taken) ∙ scan-means _ _ good
 
 pub read-number-spec : {M : Type 1} → statement M
 read-number-spec =
@@ -69,7 +67,6 @@ read-number-spec =
     format-good-requires
     returns
     new-requires
-    padding-requires
     loop-holds
     shared-slice-read-take
     take-requires

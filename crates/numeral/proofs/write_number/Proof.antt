@@ -83,7 +83,10 @@ add-put-fraction-2 : tie.Need-add-put-fraction-2
 add-put-fraction-2 c = search needs
 
 put-fraction-requires : tie.Need-put-fraction-requires
-put-fraction-requires c κs = let tail = c .before .before .fraction-length .ensures .0 (c .before .before .before .before .before .before .magnitude .result) in omega arith
+put-fraction-requires c κs =
+    let at-sizes = c .before .before in
+    let tail = at-sizes .fraction-length .ensures .0 (at-sizes .before .before .before .before .magnitude .result) in
+    omega arith
 
 add-put-digits : tie.Need-add-put-digits
 add-put-digits c = search needs
@@ -105,11 +108,12 @@ same-length c = search needs
 
 returns-4 : tie.Need-returns-4
 returns-4 c =
-    let at-digits = c .before .before .before .before .before .before .before .before .before .before in
+    let at-minus = c .before .before .before .before .before .before in
+    let at-digits = at-minus .before .before .before .before in
     let at-fraction = at-digits .before .before .before .before in
     let at-sizes = at-fraction .before .before .before in
     measured-written _ _ _ _ _ _ _ (measured at-sizes) _ _ (omega (arith, at-fraction .before .before .if3 .left)) (at-fraction .put-fraction .ensures .0)
-    (at-fraction .put-fraction .ensures .1) (at-digits .put-digits .ensures .1) (c .before .before .before .before .before .before .fill .ensures) (c .before .before .fill2 .ensures)
+    (at-fraction .put-fraction .ensures .1) (at-digits .put-digits .ensures .1) (at-minus .fill .ensures) (c .before .before .fill2 .ensures)
 
 pub write-number-spec : {M : Type 1} → statement M
 write-number-spec =
