@@ -1,22 +1,36 @@
--- Laws: an answer's number tells its case. 0 is a value's alone, 256 an empty field's and 257 an absent key's, since no refusal has any of them. Assumes nothing.
-use Prim.Native.Nat.{ℕ, zero, suc, _-_}
-use mathlib.Core.Path.{_≡_, refl}
-use mathlib.Core.Bool.{Bool}
+-- Laws: an answer's number tells its case. 0 is given for a value alone, 256 for an empty field, 257 for an absent key and 258 at the end of a walk, since no
+-- refusal has any of these numbers. Assumes nothing.
+use Prim.Native.Nat.{ℕ, zero, suc, _+_, _-_, _≤_}
+use mathlib.Core.Path.{_≡_, refl, sym, ap, _∙_}
+use mathlib.Core.Bool.{Bool, false}
 use mathlib.Core.List.{List}
+use mathlib.Core.Logic.{_↔_, _⊎_, inl, inr}
 use native.Mathlib.Omega.{arith}
 use lib.ListN.{length}
 use lib.IntN.{ℤ}
-use lib.Dec.{eqb}
+use lib.Dec.{eqb, lit<}
+use borrow.Author.Tests.{eqb-false, ne-eqb}
 use Rattle.basis.specs.Tests.{either}
 use Rattle.calendar.specs.declared.Date.{Date}
 use Rattle.calendar.specs.declared.DateAnswer.{DateAnswer}
 use Rattle.calendar.specs.declared.DateAnswer.the-variants as date
+use Rattle.numeral.specs.Reading.{readNumber}
 use Rattle.numeral.specs.declared.Number.{Number}
 use Rattle.numeral.specs.declared.Number.the-variants as number
+use Rattle.table.specs.Table.{recordCount, deletionByte, keptMark, deletedMark, tableChecks, tableRefusal, checkTable}
+use Rattle.table.specs.TableLaws.{refused-check}
+use Rattle.table.specs.declared.Shape.{Shape}
+use Rattle.table.specs.declared.Checked.{Checked}
+use Rattle.table.specs.declared.Checked.the-variants as table
+use Rattle.walk.specs.Walk.{walkFrom, walkStep}
+use Rattle.walk.specs.declared.Position.{Position}
+use Rattle.walk.specs.declared.Step.{Step}
+use Rattle.walk.specs.declared.Step.the-variants as step
 use Rattle.page.specs.Header.{maxLevels, rootOffset, keyLength, headerGood}
+use Rattle.page.specs.declared.RecordNumber.{RecordNumber}
 use Rattle.cell.specs.Cell.{numberCell, dateCell, logicalCell, textCell}
-use Rattle.cell.specs.Codes.{numberCode, dateCode, logicalCode, textCode}
-use Rattle.cell.specs.AnswerLaws.{Numbered, number-refusal, day-refusal, logical-refusal, place-refusal}
+use Rattle.cell.specs.Codes.{emptyCode, numberCode, dateCode, logicalCode, textCode}
+use Rattle.cell.specs.AnswerLaws.{Numbered, first-small, number-numbered, number-refusal, day-refusal, logical-refusal, place-refusal}
 use Rattle.cell.specs.declared.Logical.{Logical}
 use Rattle.cell.specs.declared.Logical.the-variants as logical
 use Rattle.cell.specs.declared.TextPlace.{TextPlace}
@@ -26,79 +40,177 @@ use Rattle.lookup.specs.declared.Visit.{Visit}
 use Rattle.lookup.specs.declared.Visit.the-variants as visit
 use Rattle.lookup.specs.declared.Answer.{Answer}
 use Rattle.lookup.specs.declared.Answer.the-variants as looked
+use Rattle.gatherloom.specs.Answers.{checkedNumber}
+use Rattle.gatherloom.specs.Lent.{stepNumber}
 
 -- two cases of an answer are never the same
 never : _≡_ {A = ℕ} 0 1 → ⊥
 never e = omega arith
 
--- ---- one field of one record
+-- ---- what a number tells, of any answer
 
-number-value : (a : Number) (small : (n : ℕ) → a ≡ number.Refused n → Numbered n) → numberCode a ≡ 0 → (v : ℤ) × (a ≡ number.Value v)
+-- the cases of an answer with number n: accepted, the one case that has the number `own`, or refused
+data Case (n own : ℕ) (Accepted Other : Type 0) : Type 0 where
+  accepted : n ≡ 0 → Accepted → Case n own Accepted Other
+  other : n ≡ own → Other → Case n own Accepted Other
+  refused : Numbered n → Case n own Accepted Other
+
+-- the number is 0 exactly if the call is accepted, and `own` exactly in the case that has it
+pub record Told (n own : ℕ) (Accepted Other : Type 0) : Type 0 where
+  pub on-zero : (n ≡ 0) ↔ Accepted
+  pub on-own : (n ≡ own) ↔ Other
+
+module _ {n own : ℕ} {Accepted Other : Type 0} (high : emptyCode ≤ own) where
+  zero-accepted : Case n own Accepted Other → n ≡ 0 → Accepted
+  zero-accepted (accepted e a) z = a
+  zero-accepted (other e o) z = absurd (omega (arith, e, z))
+  zero-accepted (refused small) z = absurd (omega (arith, z))
+
+  own-other : Case n own Accepted Other → n ≡ own → Other
+  own-other (accepted e a) z = absurd (omega (arith, e, z))
+  own-other (other e o) z = o
+  own-other (refused small) z = absurd (omega (arith, z))
+
+  told : Case n own Accepted Other → (Accepted → n ≡ 0) → (Other → n ≡ own) → Told n own Accepted Other
+  told case a o = record { on-zero = (zero-accepted case, a); on-own = (own-other case, o) }
+
+-- the refusals of an answer have numbers of refusals
+abbrev Small : {A : Type 0} → (ℕ → A) → A → Type 0
+Small refusal a = (n : ℕ) → a ≡ refusal n → Numbered n
+
+-- ---- the check of a table
+
+table-refusal : (b : List ℕ) (n : ℕ) → eqb (tableRefusal b) 0 ≡ false → tableRefusal b ≡ n → Numbered n
+unfolding tableRefusal tableChecks
+table-refusal b n some e =
+    let small = first-small (tableChecks b) (lit< tt, (lit< tt, (lit< tt, (lit< tt, (lit< tt, (lit< tt, (lit< tt, (lit< tt, (lit< tt, (lit< tt, tt)))))))))) in
+    let none = eqb-false (tableRefusal b) 0 some in
+    (omega (arith, e), omega (arith, e))
+
+check-refusal : (b : List ℕ) → Small table.Refused (checkTable b)
+check-refusal b n e =
+    let said = refused-check b n e in
+    table-refusal b n (ne-eqb (tableRefusal b) 0 (λ z. said .1 (said .0 ∙ z))) (sym (said .0))
+
+abbrev Shaped : Checked → Type 0
+Shaped a = (s : Shape) × (a ≡ table.Good s)
+
+check-case : (a : Checked) → Small table.Refused a → Case (checkedNumber a) emptyCode (Shaped a) ⊥
+check-case (table.Good s) small = accepted refl (s, refl)
+check-case (table.Refused n) small = refused (small n refl)
+
+-- 0 is a good table's; no table is empty
+pub shape-told : (b : List ℕ) → Told (checkedNumber (checkTable b)) emptyCode (Shaped (checkTable b)) ⊥
+shape-told b = told (omega arith) (check-case (checkTable b) (check-refusal b)) (λ good. ap checkedNumber (good .1)) (λ none. absurd none)
+
+-- ---- the walk
+
+walk-refusal : (b : List ℕ) (position passed left : ℕ) → Small step.Refused (walkFrom b position passed left .answer)
+unfolding walkFrom
+walk-refusal b position passed zero n e = absurd (never (cc))
+walk-refusal b position passed (suc left) n e =
+    let mark = deletionByte b (passed + 1) in
+    either (eqb mark keptMark)
+    (λ kept. let q : step.Record (passed + 1) ≡ step.Refused n = rw kept at e in absurd (never (cc)))
+    (λ other. either (eqb mark deletedMark)
+    (λ deleted. walk-refusal b position (passed + 1) left n (rw (other, deleted) at e))
+    (λ bad. let q : step.Refused 15 ≡ step.Refused n = rw (other, bad) at e in let k : 15 ≡ n = cc in (omega arith, omega arith)))
+
+step-refusal : (b : List ℕ) (position : Position) → Small step.Refused (walkStep b position .answer)
+unfolding walkStep
+step-refusal b position n e =
+    either (eqb (tableRefusal b) 0)
+    (λ good. walk-refusal b (position .passed) (position .passed) (recordCount b - position .passed) n (rw good at e))
+    (λ bad. let q : step.Refused (tableRefusal b) ≡ step.Refused n = rw bad at e in table-refusal b n bad (cc))
+
+abbrev Stepped : Step → Type 0
+Stepped a = (i : ℕ) × (a ≡ step.Record i)
+
+step-case : (a : Step) → Small step.Refused a → Case (stepNumber a) 258 (Stepped a) (a ≡ step.Done)
+step-case (step.Record i) small = accepted refl (i, refl)
+step-case step.Done small = other refl refl
+step-case (step.Refused n) small = refused (small n refl)
+
+step-told : (a : Step) → Small step.Refused a → Told (stepNumber a) 258 (Stepped a) (a ≡ step.Done)
+step-told a small = told (omega arith) (step-case a small) (λ found. ap stepNumber (found .1)) (λ done. ap stepNumber done)
+
+-- 0 is given with a record's number, 258 when the walk is done
+pub walk-told : (b : List ℕ) (position : Position)
+    → Told (stepNumber (walkStep b position .answer)) 258 (Stepped (walkStep b position .answer)) (walkStep b position .answer ≡ step.Done)
+walk-told b position = step-told (walkStep b position .answer) (step-refusal b position)
+
+-- ---- one field of one record, and numeric text: 0 with a value, 256 for an empty field
+
+abbrev Valued : Number → Type 0
+Valued a = (v : ℤ) × (a ≡ number.Value v)
+
+number-case : (a : Number) → Small number.Refused a → Case (numberCode a) emptyCode (Valued a) (a ≡ number.Empty)
 unfolding numberCode
-number-value (number.Value v) small e = (v, refl)
-number-value number.Empty small e = absurd (omega (arith, e))
-number-value (number.Refused n) small e = let p = small n refl in absurd (omega (arith, e))
+number-case (number.Value v) small = accepted refl (v, refl)
+number-case number.Empty small = other refl refl
+number-case (number.Refused n) small = refused (small n refl)
 
-number-none : (a : Number) (small : (n : ℕ) → a ≡ number.Refused n → Numbered n) → numberCode a ≡ 256 → a ≡ number.Empty
+number-by : (a : Number) → Small number.Refused a → Told (numberCode a) emptyCode (Valued a) (a ≡ number.Empty)
 unfolding numberCode
-number-none (number.Value v) small e = absurd (omega (arith, e))
-number-none number.Empty small e = refl
-number-none (number.Refused n) small e = let p = small n refl in absurd (omega (arith, e))
+number-by a small = told (omega arith) (number-case a small) (λ value. ap numberCode (value .1)) (λ empty. ap numberCode empty)
 
-day-value : (a : DateAnswer) (small : (n : ℕ) → a ≡ date.Refused n → Numbered n) → dateCode a ≡ 0 → (d : Date) × (a ≡ date.Value d)
+pub read-told : (text : List ℕ) (d : ℕ) → Told (numberCode (readNumber text d)) emptyCode (Valued (readNumber text d)) (readNumber text d ≡ number.Empty)
+read-told text d = number-by (readNumber text d) (number-numbered text d)
+
+abbrev Dated : DateAnswer → Type 0
+Dated a = (d : Date) × (a ≡ date.Value d)
+
+date-case : (a : DateAnswer) → Small date.Refused a → Case (dateCode a) emptyCode (Dated a) (a ≡ date.Empty)
 unfolding dateCode
-day-value (date.Value d) small e = (d, refl)
-day-value date.Empty small e = absurd (omega (arith, e))
-day-value (date.Refused n) small e = let p = small n refl in absurd (omega (arith, e))
+date-case (date.Value d) small = accepted refl (d, refl)
+date-case date.Empty small = other refl refl
+date-case (date.Refused n) small = refused (small n refl)
 
-day-none : (a : DateAnswer) (small : (n : ℕ) → a ≡ date.Refused n → Numbered n) → dateCode a ≡ 256 → a ≡ date.Empty
-unfolding dateCode
-day-none (date.Value d) small e = absurd (omega (arith, e))
-day-none date.Empty small e = refl
-day-none (date.Refused n) small e = let p = small n refl in absurd (omega (arith, e))
+abbrev Decided : Logical → Type 0
+Decided a = (v : Bool) × (a ≡ logical.Value v)
 
-logical-value : (a : Logical) (small : (n : ℕ) → a ≡ logical.Refused n → Numbered n) → logicalCode a ≡ 0 → (v : Bool) × (a ≡ logical.Value v)
+logical-case : (a : Logical) → Small logical.Refused a → Case (logicalCode a) emptyCode (Decided a) (a ≡ logical.Empty)
 unfolding logicalCode
-logical-value (logical.Value v) small e = (v, refl)
-logical-value logical.Empty small e = absurd (omega (arith, e))
-logical-value (logical.Refused n) small e = let p = small n refl in absurd (omega (arith, e))
+logical-case (logical.Value v) small = accepted refl (v, refl)
+logical-case logical.Empty small = other refl refl
+logical-case (logical.Refused n) small = refused (small n refl)
 
-logical-none : (a : Logical) (small : (n : ℕ) → a ≡ logical.Refused n → Numbered n) → logicalCode a ≡ 256 → a ≡ logical.Empty
-unfolding logicalCode
-logical-none (logical.Value v) small e = absurd (omega (arith, e))
-logical-none logical.Empty small e = refl
-logical-none (logical.Refused n) small e = let p = small n refl in absurd (omega (arith, e))
+-- a place in the table or in the memo file
+abbrev Located : TextPlace → Type 0
+Located a = (start len : ℕ) × ((a ≡ text.Table start len) ⊎ (a ≡ text.Memo start len))
 
-text-none : (a : TextPlace) (small : (n : ℕ) → a ≡ text.Refused n → Numbered n) → textCode a ≡ 256 → a ≡ text.Empty
+text-case : (a : TextPlace) → Small text.Refused a → Case (textCode a) emptyCode (Located a) (a ≡ text.Empty)
 unfolding textCode
-text-none (text.Table start size) small e = absurd (omega (arith, e))
-text-none (text.Memo start size) small e = absurd (omega (arith, e))
-text-none text.Empty small e = refl
-text-none (text.Refused n) small e = let p = small n refl in absurd (omega (arith, e))
+text-case (text.Table start len) small = accepted refl (start, len, inl refl)
+text-case (text.Memo start len) small = accepted refl (start, len, inr refl)
+text-case text.Empty small = other refl refl
+text-case (text.Refused n) small = refused (small n refl)
+
+located : (a : TextPlace) (start len : ℕ) → (a ≡ text.Table start len) ⊎ (a ≡ text.Memo start len) → textCode a ≡ 0
+unfolding textCode
+located a start len (inl e) = ap textCode e
+located a start len (inr e) = ap textCode e
 
 module _ (b : List ℕ) (i field : ℕ) where
-  pub number-accepted : numberCode (numberCell b i field) ≡ 0 → (v : ℤ) × (numberCell b i field ≡ number.Value v)
-  number-accepted = number-value (numberCell b i field) (number-refusal b i field)
+  pub number-told : let a = numberCell b i field in Told (numberCode a) emptyCode (Valued a) (a ≡ number.Empty)
+  number-told = number-by (numberCell b i field) (number-refusal b i field)
 
-  pub number-empty : numberCode (numberCell b i field) ≡ 256 → numberCell b i field ≡ number.Empty
-  number-empty = number-none (numberCell b i field) (number-refusal b i field)
+  pub date-told : let a = dateCell b i field in Told (dateCode a) emptyCode (Dated a) (a ≡ date.Empty)
+  unfolding dateCode
+  date-told = told (omega arith) (date-case (dateCell b i field) (day-refusal b i field)) (λ day. ap dateCode (day .1)) (λ empty. ap dateCode empty)
 
-  pub date-accepted : dateCode (dateCell b i field) ≡ 0 → (d : Date) × (dateCell b i field ≡ date.Value d)
-  date-accepted = day-value (dateCell b i field) (day-refusal b i field)
+  pub logical-told : let a = logicalCell b i field in Told (logicalCode a) emptyCode (Decided a) (a ≡ logical.Empty)
+  unfolding logicalCode
+  logical-told =
+      told (omega arith) (logical-case (logicalCell b i field) (logical-refusal b i field)) (λ value. ap logicalCode (value .1)) (λ empty. ap logicalCode empty)
 
-  pub date-empty : dateCode (dateCell b i field) ≡ 256 → dateCell b i field ≡ date.Empty
-  date-empty = day-none (dateCell b i field) (day-refusal b i field)
+  pub text-told : (m : List ℕ) → let a = textCell b m i field in Told (textCode a) emptyCode (Located a) (a ≡ text.Empty)
+  unfolding textCode
+  text-told m =
+      told (omega arith) (text-case (textCell b m i field) (λ n. place-refusal b i field n m))
+      (λ place. located (textCell b m i field) (place .0) (place .1) (place .2)) (λ empty. ap textCode empty)
 
-  pub logical-accepted : logicalCode (logicalCell b i field) ≡ 0 → (v : Bool) × (logicalCell b i field ≡ logical.Value v)
-  logical-accepted = logical-value (logicalCell b i field) (logical-refusal b i field)
-
-  pub logical-empty : logicalCode (logicalCell b i field) ≡ 256 → logicalCell b i field ≡ logical.Empty
-  logical-empty = logical-none (logicalCell b i field) (logical-refusal b i field)
-
-  pub text-empty : (m : List ℕ) → textCode (textCell b m i field) ≡ 256 → textCell b m i field ≡ text.Empty
-  text-empty m = text-none (textCell b m i field) (λ n. place-refusal b i field n m)
-
--- ---- lookup
+-- ---- lookup: 0 with a record's number, 257 for an absent key
 
 decided-numbered : (go : ℕ → Answer) → ((p n : ℕ) → go p ≡ looked.Refused n → Numbered n) → (pages : ℕ) (v : Visit) (n : ℕ) → decided go pages v ≡ looked.Refused n → Numbered n
 decided-numbered go small pages visit.Refused n e = let k : 25 ≡ n = cc in (omega arith, omega arith)
@@ -122,10 +234,17 @@ lookup-numbered b key n e =
     (λ misfit. let q : looked.Refused 27 ≡ looked.Refused n = rw (good, misfit, lookupRule) at e in let k : 27 ≡ n = cc in (omega arith, omega arith)))
     (λ bad. let q : looked.Refused 24 ≡ looked.Refused n = rw (bad, lookupRule) at e in let k : 24 ≡ n = cc in (omega arith, omega arith))
 
-absent-as : (a : Answer) (small : (n : ℕ) → a ≡ looked.Refused n → Numbered n) → answerNumber a ≡ 257 → (pages : ℕ) × (a ≡ looked.Absent pages)
-absent-as (looked.Found r pages) small e = absurd (omega (arith, e))
-absent-as (looked.Absent pages) small e = (pages, refl)
-absent-as (looked.Refused n) small e = let p = small n refl in absurd (omega (arith, e))
+abbrev Found : Answer → Type 0
+Found a = (r : RecordNumber) × (pages : ℕ) × (a ≡ looked.Found r pages)
 
-pub lookup-absent : (b key : List ℕ) → answerNumber (lookupRule b key) ≡ 257 → (pages : ℕ) × (lookupRule b key ≡ looked.Absent pages)
-lookup-absent b key = absent-as (lookupRule b key) (lookup-numbered b key)
+abbrev Absent : Answer → Type 0
+Absent a = (pages : ℕ) × (a ≡ looked.Absent pages)
+
+lookup-case : (a : Answer) → Small looked.Refused a → Case (answerNumber a) 257 (Found a) (Absent a)
+lookup-case (looked.Found r pages) small = accepted refl (r, pages, refl)
+lookup-case (looked.Absent pages) small = other refl (pages, refl)
+lookup-case (looked.Refused n) small = refused (small n refl)
+
+pub lookup-told : (b key : List ℕ) → let a = lookupRule b key in Told (answerNumber a) 257 (Found a) (Absent a)
+lookup-told b key =
+    told (omega arith) (lookup-case (lookupRule b key) (lookup-numbered b key)) (λ found. ap answerNumber (found .2)) (λ absent. ap answerNumber (absent .1))
