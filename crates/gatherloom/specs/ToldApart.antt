@@ -75,8 +75,8 @@ module _ {n own : ℕ} {Accepted Other : Type 0} (high : emptyCode ≤ own) wher
   told case a o = record { on-zero = (zero-accepted case, a); on-own = (own-other case, o) }
 
 -- the refusals of an answer have numbers of refusals
-abbrev Small : {A : Type 0} → (ℕ → A) → A → Type 0
-Small refusal a = (n : ℕ) → a ≡ refusal n → Numbered n
+abbrev RefusalsNumbered : {A : Type 0} → (ℕ → A) → A → Type 0
+RefusalsNumbered refusal a = (n : ℕ) → a ≡ refusal n → Numbered n
 
 -- ---- the check of a table
 
@@ -87,25 +87,25 @@ table-refusal b n some e =
     let none = eqb-false (tableRefusal b) 0 some in
     (omega (arith, e), omega (arith, e))
 
-check-refusal : (b : List ℕ) → Small table.Refused (checkTable b)
+check-refusal : (b : List ℕ) → RefusalsNumbered table.Refused (checkTable b)
 check-refusal b n e =
     let said = refused-check b n e in
     table-refusal b n (ne-eqb (tableRefusal b) 0 (λ z. said .1 (said .0 ∙ z))) (sym (said .0))
 
-abbrev Shaped : Checked → Type 0
-Shaped a = (s : Shape) × (a ≡ table.Good s)
+abbrev pub IsGood : Checked → Type 0
+IsGood a = (s : Shape) × (a ≡ table.Good s)
 
-check-case : (a : Checked) → Small table.Refused a → Case (checkedNumber a) emptyCode (Shaped a) ⊥
+check-case : (a : Checked) → RefusalsNumbered table.Refused a → Case (checkedNumber a) emptyCode (IsGood a) ⊥
 check-case (table.Good s) small = accepted refl (s, refl)
 check-case (table.Refused n) small = refused (small n refl)
 
 -- 0 is a good table's; no table is empty
-pub shape-told : (b : List ℕ) → Told (checkedNumber (checkTable b)) emptyCode (Shaped (checkTable b)) ⊥
+pub shape-told : (b : List ℕ) → Told (checkedNumber (checkTable b)) emptyCode (IsGood (checkTable b)) ⊥
 shape-told b = told (omega arith) (check-case (checkTable b) (check-refusal b)) (λ good. ap checkedNumber (good .1)) (λ none. absurd none)
 
 -- ---- the walk
 
-walk-refusal : (b : List ℕ) (position passed left : ℕ) → Small step.Refused (walkFrom b position passed left .answer)
+walk-refusal : (b : List ℕ) (position passed left : ℕ) → RefusalsNumbered step.Refused (walkFrom b position passed left .answer)
 unfolding walkFrom
 walk-refusal b position passed zero n e = absurd (never (cc))
 walk-refusal b position passed (suc left) n e =
@@ -116,70 +116,67 @@ walk-refusal b position passed (suc left) n e =
     (λ deleted. walk-refusal b position (passed + 1) left n (rw (other, deleted) at e))
     (λ bad. let q : step.Refused 15 ≡ step.Refused n = rw (other, bad) at e in let k : 15 ≡ n = cc in (omega arith, omega arith)))
 
-step-refusal : (b : List ℕ) (position : Position) → Small step.Refused (walkStep b position .answer)
+step-refusal : (b : List ℕ) (position : Position) → RefusalsNumbered step.Refused (walkStep b position .answer)
 unfolding walkStep
 step-refusal b position n e =
     either (eqb (tableRefusal b) 0)
     (λ good. walk-refusal b (position .passed) (position .passed) (recordCount b - position .passed) n (rw good at e))
     (λ bad. let q : step.Refused (tableRefusal b) ≡ step.Refused n = rw bad at e in table-refusal b n bad (cc))
 
-abbrev Stepped : Step → Type 0
-Stepped a = (i : ℕ) × (a ≡ step.Record i)
+abbrev pub IsRecord : Step → Type 0
+IsRecord a = (i : ℕ) × (a ≡ step.Record i)
 
-step-case : (a : Step) → Small step.Refused a → Case (stepNumber a) 258 (Stepped a) (a ≡ step.Done)
+step-case : (a : Step) → RefusalsNumbered step.Refused a → Case (stepNumber a) 258 (IsRecord a) (a ≡ step.Done)
 step-case (step.Record i) small = accepted refl (i, refl)
 step-case step.Done small = other refl refl
 step-case (step.Refused n) small = refused (small n refl)
 
-step-told : (a : Step) → Small step.Refused a → Told (stepNumber a) 258 (Stepped a) (a ≡ step.Done)
-step-told a small = told (omega arith) (step-case a small) (λ found. ap stepNumber (found .1)) (λ done. ap stepNumber done)
-
 -- 0 is given with a record's number, 258 when the walk is done
-pub walk-told : (b : List ℕ) (position : Position)
-    → Told (stepNumber (walkStep b position .answer)) 258 (Stepped (walkStep b position .answer)) (walkStep b position .answer ≡ step.Done)
-walk-told b position = step-told (walkStep b position .answer) (step-refusal b position)
+pub walk-told : (b : List ℕ) (position : Position) → let a = walkStep b position .answer in Told (stepNumber a) 258 (IsRecord a) (a ≡ step.Done)
+walk-told b position =
+    told (omega arith) (step-case (walkStep b position .answer) (step-refusal b position)) (λ found. ap stepNumber (found .1)) (λ done. ap stepNumber done)
 
 -- ---- one field of one record, and numeric text: 0 with a value, 256 for an empty field
 
-abbrev Valued : Number → Type 0
-Valued a = (v : ℤ) × (a ≡ number.Value v)
+abbrev pub IsValue : Number → Type 0
+IsValue a = (v : ℤ) × (a ≡ number.Value v)
 
-number-case : (a : Number) → Small number.Refused a → Case (numberCode a) emptyCode (Valued a) (a ≡ number.Empty)
+number-case : (a : Number) → RefusalsNumbered number.Refused a → Case (numberCode a) emptyCode (IsValue a) (a ≡ number.Empty)
 unfolding numberCode
 number-case (number.Value v) small = accepted refl (v, refl)
 number-case number.Empty small = other refl refl
 number-case (number.Refused n) small = refused (small n refl)
 
-number-by : (a : Number) → Small number.Refused a → Told (numberCode a) emptyCode (Valued a) (a ≡ number.Empty)
+value-told : (a : Number) → RefusalsNumbered number.Refused a → Told (numberCode a) emptyCode (IsValue a) (a ≡ number.Empty)
 unfolding numberCode
-number-by a small = told (omega arith) (number-case a small) (λ value. ap numberCode (value .1)) (λ empty. ap numberCode empty)
+value-told a small = told (omega arith) (number-case a small) (λ value. ap numberCode (value .1)) (λ empty. ap numberCode empty)
 
-pub read-told : (text : List ℕ) (d : ℕ) → Told (numberCode (readNumber text d)) emptyCode (Valued (readNumber text d)) (readNumber text d ≡ number.Empty)
-read-told text d = number-by (readNumber text d) (number-numbered text d)
+pub read-told : (text : List ℕ) (d : ℕ) → let a = readNumber text d in Told (numberCode a) emptyCode (IsValue a) (a ≡ number.Empty)
+read-told text d = value-told (readNumber text d) (number-numbered text d)
 
-abbrev Dated : DateAnswer → Type 0
-Dated a = (d : Date) × (a ≡ date.Value d)
+abbrev pub IsDay : DateAnswer → Type 0
+IsDay a = (d : Date) × (a ≡ date.Value d)
 
-date-case : (a : DateAnswer) → Small date.Refused a → Case (dateCode a) emptyCode (Dated a) (a ≡ date.Empty)
+date-case : (a : DateAnswer) → RefusalsNumbered date.Refused a → Case (dateCode a) emptyCode (IsDay a) (a ≡ date.Empty)
 unfolding dateCode
 date-case (date.Value d) small = accepted refl (d, refl)
 date-case date.Empty small = other refl refl
 date-case (date.Refused n) small = refused (small n refl)
 
-abbrev Decided : Logical → Type 0
-Decided a = (v : Bool) × (a ≡ logical.Value v)
+abbrev pub IsLogical : Logical → Type 0
+IsLogical a = (v : Bool) × (a ≡ logical.Value v)
 
-logical-case : (a : Logical) → Small logical.Refused a → Case (logicalCode a) emptyCode (Decided a) (a ≡ logical.Empty)
+logical-case : (a : Logical) → RefusalsNumbered logical.Refused a → Case (logicalCode a) emptyCode (IsLogical a) (a ≡ logical.Empty)
 unfolding logicalCode
 logical-case (logical.Value v) small = accepted refl (v, refl)
 logical-case logical.Empty small = other refl refl
 logical-case (logical.Refused n) small = refused (small n refl)
 
 -- a place in the table or in the memo file
-abbrev Located : TextPlace → Type 0
-Located a = (start len : ℕ) × ((a ≡ text.Table start len) ⊎ (a ≡ text.Memo start len))
+abbrev pub IsText : TextPlace → Type 0
+IsText a = (start len : ℕ) × ((a ≡ text.Table start len) ⊎ (a ≡ text.Memo start len))
 
-text-case : (a : TextPlace) → Small text.Refused a → Case (textCode a) emptyCode (Located a) (a ≡ text.Empty)
+text-case : (a : TextPlace) → RefusalsNumbered text.Refused a → Case (textCode a) emptyCode (IsText a) (a ≡ text.Empty)
 unfolding textCode
 text-case (text.Table start len) small = accepted refl (start, len, inl refl)
 text-case (text.Memo start len) small = accepted refl (start, len, inr refl)
@@ -192,19 +189,19 @@ located a start len (inl e) = ap textCode e
 located a start len (inr e) = ap textCode e
 
 module _ (b : List ℕ) (i field : ℕ) where
-  pub number-told : let a = numberCell b i field in Told (numberCode a) emptyCode (Valued a) (a ≡ number.Empty)
-  number-told = number-by (numberCell b i field) (number-refusal b i field)
+  pub number-told : let a = numberCell b i field in Told (numberCode a) emptyCode (IsValue a) (a ≡ number.Empty)
+  number-told = value-told (numberCell b i field) (number-refusal b i field)
 
-  pub date-told : let a = dateCell b i field in Told (dateCode a) emptyCode (Dated a) (a ≡ date.Empty)
+  pub date-told : let a = dateCell b i field in Told (dateCode a) emptyCode (IsDay a) (a ≡ date.Empty)
   unfolding dateCode
   date-told = told (omega arith) (date-case (dateCell b i field) (day-refusal b i field)) (λ day. ap dateCode (day .1)) (λ empty. ap dateCode empty)
 
-  pub logical-told : let a = logicalCell b i field in Told (logicalCode a) emptyCode (Decided a) (a ≡ logical.Empty)
+  pub logical-told : let a = logicalCell b i field in Told (logicalCode a) emptyCode (IsLogical a) (a ≡ logical.Empty)
   unfolding logicalCode
   logical-told =
       told (omega arith) (logical-case (logicalCell b i field) (logical-refusal b i field)) (λ value. ap logicalCode (value .1)) (λ empty. ap logicalCode empty)
 
-  pub text-told : (m : List ℕ) → let a = textCell b m i field in Told (textCode a) emptyCode (Located a) (a ≡ text.Empty)
+  pub text-told : (m : List ℕ) → let a = textCell b m i field in Told (textCode a) emptyCode (IsText a) (a ≡ text.Empty)
   unfolding textCode
   text-told m =
       told (omega arith) (text-case (textCell b m i field) (λ n. place-refusal b i field n m))
@@ -212,39 +209,40 @@ module _ (b : List ℕ) (i field : ℕ) where
 
 -- ---- lookup: 0 with a record's number, 257 for an absent key
 
-decided-numbered : (go : ℕ → Answer) → ((p n : ℕ) → go p ≡ looked.Refused n → Numbered n) → (pages : ℕ) (v : Visit) (n : ℕ) → decided go pages v ≡ looked.Refused n → Numbered n
-decided-numbered go small pages visit.Refused n e = let k : 25 ≡ n = cc in (omega arith, omega arith)
-decided-numbered go small pages visit.Absent n e = absurd (never (cc))
-decided-numbered go small pages (visit.Found r) n e = absurd (never (cc))
-decided-numbered go small pages (visit.Child c) n e = small (c .0) n e
+decided-refusal : (go : ℕ → Answer) → ((p : ℕ) → RefusalsNumbered looked.Refused (go p))
+    → (pages : ℕ) (v : Visit) → RefusalsNumbered looked.Refused (decided go pages v)
+decided-refusal go small pages visit.Refused n e = let k : 25 ≡ n = cc in (omega arith, omega arith)
+decided-refusal go small pages visit.Absent n e = absurd (never (cc))
+decided-refusal go small pages (visit.Found r) n e = absurd (never (cc))
+decided-refusal go small pages (visit.Child c) n e = small (c .0) n e
 
-from-numbered : (left : ℕ) (b key : List ℕ) (p n : ℕ) → lookupFrom left b key p ≡ looked.Refused n → Numbered n
+from-refusal : (left : ℕ) (b key : List ℕ) (p : ℕ) → RefusalsNumbered looked.Refused (lookupFrom left b key p)
 unfolding lookupFrom
-from-numbered zero b key p n e = let k : 25 ≡ n = cc in (omega arith, omega arith)
-from-numbered (suc left) b key p n e =
-    decided-numbered (lookupFrom left b key) (λ q m. from-numbered left b key q m)
+from-refusal zero b key p n e = let k : 25 ≡ n = cc in (omega arith, omega arith)
+from-refusal (suc left) b key p n e =
+    decided-refusal (lookupFrom left b key) (from-refusal left b key)
     (maxLevels - left) (visitRule b key p (eqb (maxLevels - left) 1) (eqb left 0)) n e
 
-lookup-numbered : (b key : List ℕ) (n : ℕ) → lookupRule b key ≡ looked.Refused n → Numbered n
+lookup-refusal : (b key : List ℕ) → RefusalsNumbered looked.Refused (lookupRule b key)
 unfolding lookupRule
-lookup-numbered b key n e =
+lookup-refusal b key n e =
     either (headerGood b)
     (λ good. either (eqb (length key) (keyLength b))
-    (λ fits. from-numbered maxLevels b key (rootOffset b) n (rw (good, fits, lookupRule) at e))
+    (λ fits. from-refusal maxLevels b key (rootOffset b) n (rw (good, fits, lookupRule) at e))
     (λ misfit. let q : looked.Refused 27 ≡ looked.Refused n = rw (good, misfit, lookupRule) at e in let k : 27 ≡ n = cc in (omega arith, omega arith)))
     (λ bad. let q : looked.Refused 24 ≡ looked.Refused n = rw (bad, lookupRule) at e in let k : 24 ≡ n = cc in (omega arith, omega arith))
 
-abbrev Found : Answer → Type 0
-Found a = (r : RecordNumber) × (pages : ℕ) × (a ≡ looked.Found r pages)
+abbrev pub IsFound : Answer → Type 0
+IsFound a = (r : RecordNumber) × (pages : ℕ) × (a ≡ looked.Found r pages)
 
-abbrev Absent : Answer → Type 0
-Absent a = (pages : ℕ) × (a ≡ looked.Absent pages)
+abbrev pub IsAbsent : Answer → Type 0
+IsAbsent a = (pages : ℕ) × (a ≡ looked.Absent pages)
 
-lookup-case : (a : Answer) → Small looked.Refused a → Case (answerNumber a) 257 (Found a) (Absent a)
+lookup-case : (a : Answer) → RefusalsNumbered looked.Refused a → Case (answerNumber a) 257 (IsFound a) (IsAbsent a)
 lookup-case (looked.Found r pages) small = accepted refl (r, pages, refl)
 lookup-case (looked.Absent pages) small = other refl (pages, refl)
 lookup-case (looked.Refused n) small = refused (small n refl)
 
-pub lookup-told : (b key : List ℕ) → let a = lookupRule b key in Told (answerNumber a) 257 (Found a) (Absent a)
+pub lookup-told : (b key : List ℕ) → let a = lookupRule b key in Told (answerNumber a) 257 (IsFound a) (IsAbsent a)
 lookup-told b key =
-    told (omega arith) (lookup-case (lookupRule b key) (lookup-numbered b key)) (λ found. ap answerNumber (found .2)) (λ absent. ap answerNumber (absent .1))
+    told (omega arith) (lookup-case (lookupRule b key) (lookup-refusal b key)) (λ found. ap answerNumber (found .2)) (λ absent. ap answerNumber (absent .1))

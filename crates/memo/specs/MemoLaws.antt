@@ -1,4 +1,5 @@
--- Laws: products that fit, the tests of a memo's place one after another, and that every text handed out lies in the file. Assumes nothing.
+-- Laws: products that fit, the tests of a memo's place one after another, that every text handed out lies in the file, and what an answer's number says.
+-- Assumes nothing.
 use mathlib.Core.Path.{_≡_, refl, sym, _∙_}
 use mathlib.Core.Bool.{true, false}
 use mathlib.Core.List.{List, [], _∷_}
@@ -14,7 +15,8 @@ use Rattle.memo.specs.declared.MemoNumber.the-variants.{Blank, Bad, Numb
 use Rattle.memo.specs.declared.MemoPlace.{MemoPlace}
 use Rattle.memo.specs.declared.MemoPlace.the-variants.{Text, Empty, Refused}
 use Rattle.memo.specs.TestLaws.{first-arm}
-use Rattle.memo.specs.Memo.{memoHeaderBytes, memoNumber, memoHeaderGood, headFits, endFits, placeGood, isText, textLength, blockText, blockStart, numberedText, readText, memoText, MemoAnswer}
+use Rattle.memo.specs.Memo.{memoHeaderBytes, memoNumber, memoHeaderGood, headFits, endFits, placeGood, isText, textLength}
+use Rattle.memo.specs.Memo.{blockText, blockStart, numberedText, readText, memoText, MemoAnswer}
 
 -- a number of blocks, of ten digits or four bytes, times a block size of two bytes: there is room for 8 more in 64 bits
 pub bytes-fit : (n size : ℕ) → n < 2 ^ 34 → size < 2 ^ 16 → n * size + 8 < 2 ^ 64
@@ -108,19 +110,19 @@ module _ (file : List ℕ) (n : ℕ) where
 
 -- ---- the answer by its number
 
-empty-refused : (n : ℕ) → Refused n ≡ Empty → ⊥
-empty-refused n e = let z : _≡_ {A = ℕ} 0 1 = cc in omega arith
+refused-empty : (n : ℕ) → Refused n ≡ Empty → ⊥
+refused-empty n e = let z : _≡_ {A = ℕ} 0 1 = cc in omega arith
 
 -- only ten blanks are empty
 read-empty : (file : List ℕ) (read : MemoNumber) → readText file read ≡ Empty → read ≡ Blank
 unfolding readText numberedText blockText
-read-empty file Bad e = absurd (empty-refused 21 e)
+read-empty file Bad e = absurd (refused-empty 21 e)
 read-empty file Blank e = refl
 read-empty file (Number n) e =
     let start = blockStart file n in
-    let header = first-arm (memoHeaderGood file) (empty-refused 22) e in
-    let place = first-arm (placeGood file start) (empty-refused 21) (header .1) in
-    let text = first-arm (isText file start) (empty-refused 23) (place .1) in
+    let header = first-arm (memoHeaderGood file) (refused-empty 22) e in
+    let place = first-arm (placeGood file start) (refused-empty 21) (header .1) in
+    let text = first-arm (isText file start) (refused-empty 23) (place .1) in
     absurd (empty-text (start + 8) (textLength file start) (sym (text .1)))
 
 blank-empty : (text file : List ℕ) (r : MemoPlace) → r ≡ memoText text file → memoNumber text ≡ Blank → r ≡ Empty
@@ -148,5 +150,5 @@ memo-answer text file (Refused n) e =
     record {
       case = e;
       accepted = (λ z. absurd (omega (arith, z)), λ part. absurd (no-values _ _ (part .1)));
-      empty = (λ z. absurd (omega (arith, z)), λ blank. absurd (empty-refused n (blank-empty text file _ e blank)));
+      empty = (λ z. absurd (omega (arith, z)), λ blank. absurd (refused-empty n (blank-empty text file _ e blank)));
     }
