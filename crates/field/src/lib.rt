@@ -3,7 +3,8 @@ ghost use Prim.Native.Nat.{_+_, _≤_, _<_};
 ghost use mathlib.Core.Path.{_≡_};
 ghost use lib.ListN.{length};
 ghost use Rattle.table.specs.Table.{descriptor, fieldCount, tableRefusal};
-ghost use Rattle.field.specs.Field.{numberGood, entryOf, noEntry, fieldRefusal, fieldAnswer, formOf, placeRefusal, PlaceGood, placeAt, Within, PlaceAnswer};
+ghost use Rattle.field.specs.Field.{numberGood, entryOf, noEntry, fieldRefusal, fieldAnswer, formOf};
+ghost use Rattle.field.specs.Field.{placeRefusal, PlaceGood, placeAt, Within, PlaceAnswer};
 
 const BAD_RECORD_NUMBER: u32 = 11;
 
