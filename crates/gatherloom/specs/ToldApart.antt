@@ -1,22 +1,26 @@
--- Laws: an answer's number tells its case. 0 is given for a value alone, 256 for an empty field, 257 for an absent key and 258 at the end of a walk, since no
--- refusal has any of these numbers. Assumes nothing.
-use Prim.Native.Nat.{ℕ, zero, suc, _+_, _-_, _≤_}
+-- Laws: an answer's number tells its case. 0 is given exactly if the call is accepted, 256 exactly for an empty field, 257 for an absent key and 258 at the end
+-- of a walk, since no refusal has any of these numbers. Assumes nothing.
+use Prim.Native.Nat.{ℕ, zero, suc, _+_, _-_, _^_, _≤_}
 use mathlib.Core.Path.{_≡_, refl, sym, ap, _∙_}
 use mathlib.Core.Bool.{Bool, false}
 use mathlib.Core.List.{List}
 use mathlib.Core.Logic.{_↔_, _⊎_, inl, inr}
 use native.Mathlib.Omega.{arith}
 use lib.ListN.{length}
-use lib.IntN.{ℤ}
-use lib.Dec.{eqb, lit<}
+use lib.IntN.{ℤ, natAbs}
+use lib.Dec.{eqb, leb, ltb, lit<}
 use borrow.Author.Tests.{eqb-false, ne-eqb}
 use Rattle.basis.specs.Tests.{either}
 use Rattle.calendar.specs.declared.Date.{Date}
 use Rattle.calendar.specs.declared.DateAnswer.{DateAnswer}
 use Rattle.calendar.specs.declared.DateAnswer.the-variants as date
+use Rattle.numeral.specs.Format.{formatGood, maxDigits}
 use Rattle.numeral.specs.Reading.{readNumber}
+use Rattle.numeral.specs.Writing.{numberText, writeNumber}
 use Rattle.numeral.specs.declared.Number.{Number}
 use Rattle.numeral.specs.declared.Number.the-variants as number
+use Rattle.numeral.specs.declared.Writing.{Writing}
+use Rattle.numeral.specs.declared.Writing.the-variants as writing
 use Rattle.table.specs.Table.{recordCount, deletionByte, keptMark, deletedMark, tableChecks, tableRefusal, checkTable}
 use Rattle.table.specs.TableLaws.{refused-check}
 use Rattle.table.specs.declared.Shape.{Shape}
@@ -26,7 +30,7 @@ use Rattle.walk.specs.Walk.{walkFrom, walkStep}
 use Rattle.walk.specs.declared.Position.{Position}
 use Rattle.walk.specs.declared.Step.{Step}
 use Rattle.walk.specs.declared.Step.the-variants as step
-use Rattle.page.specs.Header.{maxLevels, rootOffset, keyLength, headerGood}
+use Rattle.page.specs.Header.{maxLevels, rootOffset, keyLength, keyLengthGood, headerGood}
 use Rattle.page.specs.declared.RecordNumber.{RecordNumber}
 use Rattle.cell.specs.Cell.{numberCell, dateCell, logicalCell, textCell}
 use Rattle.cell.specs.Codes.{emptyCode, numberCode, dateCode, logicalCode, textCode}
@@ -40,7 +44,13 @@ use Rattle.lookup.specs.declared.Visit.{Visit}
 use Rattle.lookup.specs.declared.Visit.the-variants as visit
 use Rattle.lookup.specs.declared.Answer.{Answer}
 use Rattle.lookup.specs.declared.Answer.the-variants as looked
-use Rattle.gatherloom.specs.Answers.{checkedNumber}
+use Rattle.sound.specs.Rule.{pagesGood, unmarked}
+use Rattle.insert.specs.Room.{noRoom}
+use Rattle.insert.specs.Fresh.{expressionGood, freshRule}
+use Rattle.insert.specs.Calls.{insertionNumber, isFound, insertRule}
+use Rattle.insert.specs.declared.Insertion.{Insertion}
+use Rattle.insert.specs.declared.Insertion.the-variants as insertion
+use Rattle.gatherloom.specs.Answers.{checkedNumber, writingNumber}
 use Rattle.gatherloom.specs.Lent.{stepNumber}
 
 -- two cases of an answer are never the same
@@ -246,3 +256,71 @@ lookup-case (looked.Refused n) small = refused (small n refl)
 pub lookup-told : (b key : List ℕ) → let a = lookupRule b key in Told (answerNumber a) 257 (IsFound a) (IsAbsent a)
 lookup-told b key =
     told (omega arith) (lookup-case (lookupRule b key) (lookup-refusal b key)) (λ found. ap answerNumber (found .2)) (λ absent. ap answerNumber (absent .1))
+
+-- ---- the calls that write: 0 is given exactly where the call is accepted
+
+writing-numbered : (m n : ℕ) → Numbered m → writing.Refused m ≡ writing.Refused n → Numbered n
+writing-numbered m n small e = let k : m ≡ n = cc in (omega arith, omega arith)
+
+writing-refusal : (s : List ℕ) (d : ℕ) (v : ℤ) → RefusalsNumbered writing.Refused (writeNumber s d v .answer)
+unfolding writeNumber
+writing-refusal s d v n e =
+    either (formatGood (length s) d)
+    (λ format. either (ltb (natAbs v) (10 ^ maxDigits))
+    (λ few. either (leb (length (numberText d v)) (length s))
+    (λ fits. let q : writing.Written ≡ writing.Refused n = rw (format, few, fits, writeNumber) at e in absurd (never (cc)))
+    (λ long. writing-numbered 19 n (lit< tt, lit< tt) (rw (format, few, long, writeNumber) at e)))
+    (λ many. writing-numbered 18 n (lit< tt, lit< tt) (rw (format, many, writeNumber) at e)))
+    (λ bad. writing-numbered 6 n (lit< tt, lit< tt) (rw (bad, writeNumber) at e))
+
+writing-case : (a : Writing) → RefusalsNumbered writing.Refused a → Case (writingNumber a) emptyCode (a ≡ writing.Written) ⊥
+writing-case writing.Written small = accepted refl refl
+writing-case (writing.Refused n) small = refused (small n refl)
+
+pub write-told : (s : List ℕ) (d : ℕ) (v : ℤ) → let a = writeNumber s d v .answer in Told (writingNumber a) emptyCode (a ≡ writing.Written) ⊥
+write-told s d v =
+    told (omega arith) (writing-case (writeNumber s d v .answer) (writing-refusal s d v)) (λ done. ap writingNumber done) (λ none. absurd none)
+
+insertion-numbered : (m n : ℕ) → Numbered m → insertion.Refused m ≡ insertion.Refused n → Numbered n
+insertion-numbered m n small e = let k : m ≡ n = cc in (omega arith, omega arith)
+
+fresh-refusal : (b : List ℕ) (k : ℕ) (x : List ℕ) → RefusalsNumbered insertion.Refused (freshRule b k x .answer)
+unfolding freshRule
+fresh-refusal b k x n e =
+    either (keyLengthGood k)
+    (λ key. either (expressionGood x)
+    (λ printed. either (leb 1024 (length b))
+    (λ room. let q : insertion.Accepted ≡ insertion.Refused n = rw (key, printed, room, freshRule) at e in absurd (never (cc)))
+    (λ full. insertion-numbered 30 n (lit< tt, lit< tt) (rw (key, printed, full, freshRule) at e)))
+    (λ bad. insertion-numbered 24 n (lit< tt, lit< tt) (rw (key, bad, freshRule) at e)))
+    (λ bad. insertion-numbered 27 n (lit< tt, lit< tt) (rw (bad, freshRule) at e))
+
+insertion-case : (a : Insertion) → RefusalsNumbered insertion.Refused a → Case (insertionNumber a) emptyCode (a ≡ insertion.Accepted) ⊥
+insertion-case insertion.Accepted small = accepted refl refl
+insertion-case (insertion.Refused n) small = refused (small n refl)
+
+insertion-told : (a : Insertion) → RefusalsNumbered insertion.Refused a → Told (insertionNumber a) emptyCode (a ≡ insertion.Accepted) ⊥
+insertion-told a small = told (omega arith) (insertion-case a small) (λ done. ap insertionNumber done) (λ none. absurd none)
+
+pub fresh-told : (b : List ℕ) (k : ℕ) (x : List ℕ) → let a = freshRule b k x .answer in Told (insertionNumber a) emptyCode (a ≡ insertion.Accepted) ⊥
+fresh-told b k x = insertion-told (freshRule b k x .answer) (fresh-refusal b k x)
+
+insert-refusal : (b key : List ℕ) (r : ℕ) → RefusalsNumbered insertion.Refused (insertRule b key r .answer)
+unfolding insertRule
+insert-refusal b key r n e =
+    either (headerGood b)
+    (λ good. either (eqb (length key) (keyLength b))
+    (λ fits. either (eqb r 0)
+    (λ none. insertion-numbered 28 n (lit< tt, lit< tt) (rw (good, fits, none, insertRule) at e))
+    (λ some. either (pagesGood b unmarked)
+    (λ sound. either (isFound (lookupRule b key))
+    (λ found. insertion-numbered 29 n (lit< tt, lit< tt) (rw (good, fits, some, sound, found, insertRule) at e))
+    (λ absent. either (noRoom (keyLength b) b key)
+    (λ full. insertion-numbered 30 n (lit< tt, lit< tt) (rw (good, fits, some, sound, absent, full, insertRule) at e))
+    (λ room. let q : insertion.Accepted ≡ insertion.Refused n = rw (good, fits, some, sound, absent, room, insertRule) at e in absurd (never (cc)))))
+    (λ bad. insertion-numbered 25 n (lit< tt, lit< tt) (rw (good, fits, some, bad, insertRule) at e))))
+    (λ misfit. insertion-numbered 27 n (lit< tt, lit< tt) (rw (good, misfit, insertRule) at e)))
+    (λ bad. insertion-numbered 24 n (lit< tt, lit< tt) (rw (bad, insertRule) at e))
+
+pub insert-told : (b key : List ℕ) (r : ℕ) → let a = insertRule b key r .answer in Told (insertionNumber a) emptyCode (a ≡ insertion.Accepted) ⊥
+insert-told b key r = insertion-told (insertRule b key r .answer) (insert-refusal b key r)
