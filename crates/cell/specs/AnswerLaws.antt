@@ -57,7 +57,7 @@ text-no-header b m i field k none type from to number short =
 abbrev pub Numbered : ℕ → Type 0
 Numbered n = (0 < n) × (n < emptyCode)
 
-first-small : (checks : List (Bool × ℕ)) → All (λ (check : Bool × ℕ). check .1 < emptyCode) checks → firstRefusal checks < emptyCode
+pub first-small : (checks : List (Bool × ℕ)) → All (λ (check : Bool × ℕ). check .1 < emptyCode) checks → firstRefusal checks < emptyCode
 unfolding firstRefusal
 first-small [] p = lit< tt
 first-small (check ∷ checks) p =
@@ -80,7 +80,7 @@ check-numbered reads b i field n refused e =
     let none = eqb-false (cellRefusal reads b i field) 0 refused in
     (omega (arith, e), omega (arith, e))
 
-number-numbered : (s : List ℕ) (d n : ℕ) → readNumber s d ≡ number.Refused n → Numbered n
+pub number-numbered : (s : List ℕ) (d n : ℕ) → readNumber s d ≡ number.Refused n → Numbered n
 unfolding readNumber
 number-numbered s d n e =
     either (formatGood (length s) d)

@@ -91,3 +91,21 @@ pub record Within (b : List ℕ) (p : Place) : Type 0 where
 
 unfoldable pub placeOf : List ℕ → ℕ → ℕ → Placed
 placeOf b i field = cond (eqb (placeRefusal b i field) 0) (At (placeAt b i field)) (Refused (placeRefusal b i field))
+
+-- ---- the answer as document 01 counts it
+
+-- the number of an answer: 0 with a place, or the refusal's
+abbrev pub placedNumber : Placed → ℕ
+placedNumber (At p) = 0
+placedNumber (Refused n) = n
+
+-- its values: the place; "A refusal answers its number alone"
+abbrev pub placedValues : Placed → List Place
+placedValues (At p) = p ∷ []
+placedValues (Refused n) = []
+
+-- what `field_place` answers: the case, its number, and its values
+pub record PlaceAnswer (b : List ℕ) (i field : ℕ) (r : Placed) : Type 0 where
+  pub case : r ≡ placeOf b i field
+  pub number : placedNumber r ≡ placeRefusal b i field
+  pub values : placedValues r ≡ cond (eqb (placeRefusal b i field) 0) (placeAt b i field ∷ []) []

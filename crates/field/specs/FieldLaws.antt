@@ -17,8 +17,9 @@ use Rattle.table.specs.FormLaws.{field-form, form-some}
 use Rattle.table.specs.RecordLaws.{field-inside, record-inside, record-positive}
 use Rattle.table.specs.declared.Shape.{Shape}
 use Rattle.table.specs.declared.Checked.the-variants.{Good}
-use Rattle.field.specs.Field.{numberGood, fieldRefusal, placeRefusal, PlaceGood, formOf, placeAt, Within, placeOf}
+use Rattle.field.specs.Field.{numberGood, fieldRefusal, placeRefusal, PlaceGood, formOf, placeAt, Within, placeOf, PlaceAnswer}
 use Rattle.field.specs.declared.Place.{Place}
+use Rattle.field.specs.declared.Placed.{Placed}
 use Rattle.field.specs.declared.Placed.the-variants.{At, Refused}
 
 -- ---- one field
@@ -99,6 +100,14 @@ placed-refused b i field n e =
     (λ z. let q : At (placeAt b i field) ≡ Refused n = rw z at e in let no : _≡_ {A = ℕ} 0 1 = cc in absurd (omega arith))
     (λ z. let q : Refused (placeRefusal b i field) ≡ Refused n = rw z at e in
     let s : n ≡ placeRefusal b i field = cc in (s, λ w. eqb-false (placeRefusal b i field) 0 z (sym s ∙ w)))
+
+-- the case decides the number and the values
+pub place-answer : (b : List ℕ) (i field : ℕ) (r : Placed) → r ≡ placeOf b i field → PlaceAnswer b i field r
+unfolding placeOf
+place-answer b i field r e =
+    either (eqb (placeRefusal b i field) 0)
+    (λ z. record { case = e; number = rw (e, z, eqb-true (placeRefusal b i field) 0 z); values = rw (e, z) })
+    (λ z. record { case = e; number = rw (e, z); values = rw (e, z) })
 
 -- ---- an entry's name
 

@@ -3,7 +3,8 @@ ghost use Prim.Native.Nat.{_+_, _≤_, _<_};
 ghost use mathlib.Core.Path.{_≡_};
 ghost use lib.ListN.{length};
 ghost use Rattle.table.specs.Table.{descriptor, fieldCount, tableRefusal};
-ghost use Rattle.field.specs.Field.{numberGood, entryOf, noEntry, fieldRefusal, fieldAnswer, formOf, placeRefusal, PlaceGood, placeAt, Within, placeOf};
+ghost use Rattle.field.specs.Field.{numberGood, entryOf, noEntry, fieldRefusal, fieldAnswer, formOf};
+ghost use Rattle.field.specs.Field.{placeRefusal, PlaceGood, placeAt, Within, PlaceAnswer};
 
 const BAD_RECORD_NUMBER: u32 = 11;
 
@@ -163,7 +164,7 @@ pub fn place_at(table: &[u8], i: u32, field: u32) -> Place
 
 // Where a field of a record lies, both by their numbers, from 1.
 pub fn field_place(table: &[u8], i: u32, field: u32) -> Placed
-    ensures { λ r. ⌜ r ≡ placeOf (now (table .entry)) i field ⌝ }
+    ensures { λ r. ⌜ PlaceAnswer (now (table .entry)) i field r ⌝ }
 {
     let refusal = place_refusal(table, i, field);
     if refusal != 0 {

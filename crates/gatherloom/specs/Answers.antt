@@ -46,9 +46,17 @@ pub record Sizes : Type 0 where
 abbrev pub sizes : ℕ → ℕ → ℕ → Sizes
 sizes records fields recordLength = record { records = records; fields = fields; recordLength = recordLength }
 
+-- the number of a check: 0 for a good table, or the refusal's
+abbrev pub checkedNumber : Checked → ℕ
+checkedNumber (table.Good s) = 0
+checkedNumber (table.Refused n) = n
+
+abbrev pub shapeHeld : Checked → Sizes → Sizes
+shapeHeld (table.Good s) old = sizes (s .records) (s .fields) (s .«record_length»)
+shapeHeld (table.Refused n) old = old
+
 unfoldable pub shapeOut : Checked → Sizes → Out Sizes
-shapeOut (table.Good s) old = out 0 (sizes (s .records) (s .fields) (s .«record_length»))
-shapeOut (table.Refused n) old = out n old
+shapeOut answer old = out (checkedNumber answer) (shapeHeld answer old)
 
 -- ---- one field of one record: "256 for an empty field"
 

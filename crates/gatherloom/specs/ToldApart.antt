@@ -1,22 +1,40 @@
--- Laws: an answer's number tells its case. 0 is a value's alone, 256 an empty field's and 257 an absent key's, since no refusal has any of them. Assumes nothing.
-use Prim.Native.Nat.{ℕ, zero, suc, _-_}
-use mathlib.Core.Path.{_≡_, refl}
-use mathlib.Core.Bool.{Bool}
+-- Laws: an answer's number tells its case. 0 is given exactly if the call is accepted, 256 exactly for an empty field, 257 for an absent key and 258 at the end
+-- of a walk, since no refusal has any of these numbers. Assumes nothing.
+use Prim.Native.Nat.{ℕ, zero, suc, _+_, _-_, _^_, _≤_}
+use mathlib.Core.Path.{_≡_, refl, sym, ap, _∙_}
+use mathlib.Core.Bool.{Bool, false}
 use mathlib.Core.List.{List}
+use mathlib.Core.Logic.{_↔_, _⊎_, inl, inr}
 use native.Mathlib.Omega.{arith}
 use lib.ListN.{length}
-use lib.IntN.{ℤ}
-use lib.Dec.{eqb}
+use lib.IntN.{ℤ, natAbs}
+use lib.Dec.{eqb, leb, ltb, lit<}
+use borrow.Author.Tests.{eqb-false, ne-eqb}
 use Rattle.basis.specs.Tests.{either}
 use Rattle.calendar.specs.declared.Date.{Date}
 use Rattle.calendar.specs.declared.DateAnswer.{DateAnswer}
 use Rattle.calendar.specs.declared.DateAnswer.the-variants as date
+use Rattle.numeral.specs.Format.{formatGood, maxDigits}
+use Rattle.numeral.specs.Reading.{readNumber}
+use Rattle.numeral.specs.Writing.{numberText, writeNumber}
 use Rattle.numeral.specs.declared.Number.{Number}
 use Rattle.numeral.specs.declared.Number.the-variants as number
-use Rattle.page.specs.Header.{maxLevels, rootOffset, keyLength, headerGood}
+use Rattle.numeral.specs.declared.Writing.{Writing}
+use Rattle.numeral.specs.declared.Writing.the-variants as writing
+use Rattle.table.specs.Table.{recordCount, deletionByte, keptMark, deletedMark, tableChecks, tableRefusal, checkTable}
+use Rattle.table.specs.TableLaws.{refused-check}
+use Rattle.table.specs.declared.Shape.{Shape}
+use Rattle.table.specs.declared.Checked.{Checked}
+use Rattle.table.specs.declared.Checked.the-variants as table
+use Rattle.walk.specs.Walk.{walkFrom, walkStep}
+use Rattle.walk.specs.declared.Position.{Position}
+use Rattle.walk.specs.declared.Step.{Step}
+use Rattle.walk.specs.declared.Step.the-variants as step
+use Rattle.page.specs.Header.{maxLevels, rootOffset, keyLength, keyLengthGood, headerGood}
+use Rattle.page.specs.declared.RecordNumber.{RecordNumber}
 use Rattle.cell.specs.Cell.{numberCell, dateCell, logicalCell, textCell}
-use Rattle.cell.specs.Codes.{numberCode, dateCode, logicalCode, textCode}
-use Rattle.cell.specs.AnswerLaws.{Numbered, number-refusal, day-refusal, logical-refusal, place-refusal}
+use Rattle.cell.specs.Codes.{emptyCode, numberCode, dateCode, logicalCode, textCode}
+use Rattle.cell.specs.AnswerLaws.{Numbered, first-small, number-numbered, number-refusal, day-refusal, logical-refusal, place-refusal}
 use Rattle.cell.specs.declared.Logical.{Logical}
 use Rattle.cell.specs.declared.Logical.the-variants as logical
 use Rattle.cell.specs.declared.TextPlace.{TextPlace}
@@ -26,106 +44,283 @@ use Rattle.lookup.specs.declared.Visit.{Visit}
 use Rattle.lookup.specs.declared.Visit.the-variants as visit
 use Rattle.lookup.specs.declared.Answer.{Answer}
 use Rattle.lookup.specs.declared.Answer.the-variants as looked
+use Rattle.sound.specs.Rule.{pagesGood, unmarked}
+use Rattle.insert.specs.Room.{noRoom}
+use Rattle.insert.specs.Fresh.{expressionGood, freshRule}
+use Rattle.insert.specs.Calls.{insertionNumber, isFound, insertRule}
+use Rattle.insert.specs.declared.Insertion.{Insertion}
+use Rattle.insert.specs.declared.Insertion.the-variants as insertion
+use Rattle.gatherloom.specs.Answers.{checkedNumber, writingNumber}
+use Rattle.gatherloom.specs.Lent.{stepNumber}
 
 -- two cases of an answer are never the same
 never : _≡_ {A = ℕ} 0 1 → ⊥
 never e = omega arith
 
--- ---- one field of one record
+-- ---- what a number tells, of any answer
 
-number-value : (a : Number) (small : (n : ℕ) → a ≡ number.Refused n → Numbered n) → numberCode a ≡ 0 → (v : ℤ) × (a ≡ number.Value v)
+-- the cases of an answer with number n: accepted, the one case that has the number `own`, or refused
+data Case (n own : ℕ) (Accepted Other : Type 0) : Type 0 where
+  accepted : n ≡ 0 → Accepted → Case n own Accepted Other
+  other : n ≡ own → Other → Case n own Accepted Other
+  refused : Numbered n → Case n own Accepted Other
+
+-- the number is 0 exactly if the call is accepted, and `own` exactly in the case that has it
+pub record Told (n own : ℕ) (Accepted Other : Type 0) : Type 0 where
+  pub on-zero : (n ≡ 0) ↔ Accepted
+  pub on-own : (n ≡ own) ↔ Other
+
+module _ {n own : ℕ} {Accepted Other : Type 0} (high : emptyCode ≤ own) where
+  zero-accepted : Case n own Accepted Other → n ≡ 0 → Accepted
+  zero-accepted (accepted e a) z = a
+  zero-accepted (other e o) z = absurd (omega (arith, e, z))
+  zero-accepted (refused small) z = absurd (omega (arith, z))
+
+  own-other : Case n own Accepted Other → n ≡ own → Other
+  own-other (accepted e a) z = absurd (omega (arith, e, z))
+  own-other (other e o) z = o
+  own-other (refused small) z = absurd (omega (arith, z))
+
+  told : Case n own Accepted Other → (Accepted → n ≡ 0) → (Other → n ≡ own) → Told n own Accepted Other
+  told case a o = record { on-zero = (zero-accepted case, a); on-own = (own-other case, o) }
+
+-- the refusals of an answer have numbers of refusals
+abbrev RefusalsNumbered : {A : Type 0} → (ℕ → A) → A → Type 0
+RefusalsNumbered refusal a = (n : ℕ) → a ≡ refusal n → Numbered n
+
+-- ---- the check of a table
+
+table-refusal : (b : List ℕ) (n : ℕ) → eqb (tableRefusal b) 0 ≡ false → tableRefusal b ≡ n → Numbered n
+unfolding tableRefusal tableChecks
+table-refusal b n some e =
+    let small = first-small (tableChecks b) (lit< tt, (lit< tt, (lit< tt, (lit< tt, (lit< tt, (lit< tt, (lit< tt, (lit< tt, (lit< tt, (lit< tt, tt)))))))))) in
+    let none = eqb-false (tableRefusal b) 0 some in
+    (omega (arith, e), omega (arith, e))
+
+check-refusal : (b : List ℕ) → RefusalsNumbered table.Refused (checkTable b)
+check-refusal b n e =
+    let said = refused-check b n e in
+    table-refusal b n (ne-eqb (tableRefusal b) 0 (λ z. said .1 (said .0 ∙ z))) (sym (said .0))
+
+abbrev pub IsGood : Checked → Type 0
+IsGood a = (s : Shape) × (a ≡ table.Good s)
+
+check-case : (a : Checked) → RefusalsNumbered table.Refused a → Case (checkedNumber a) emptyCode (IsGood a) ⊥
+check-case (table.Good s) small = accepted refl (s, refl)
+check-case (table.Refused n) small = refused (small n refl)
+
+-- 0 is a good table's; no table is empty
+pub shape-told : (b : List ℕ) → Told (checkedNumber (checkTable b)) emptyCode (IsGood (checkTable b)) ⊥
+shape-told b = told (omega arith) (check-case (checkTable b) (check-refusal b)) (λ good. ap checkedNumber (good .1)) (λ none. absurd none)
+
+-- ---- the walk
+
+walk-refusal : (b : List ℕ) (position passed left : ℕ) → RefusalsNumbered step.Refused (walkFrom b position passed left .answer)
+unfolding walkFrom
+walk-refusal b position passed zero n e = absurd (never (cc))
+walk-refusal b position passed (suc left) n e =
+    let mark = deletionByte b (passed + 1) in
+    either (eqb mark keptMark)
+    (λ kept. let q : step.Record (passed + 1) ≡ step.Refused n = rw kept at e in absurd (never (cc)))
+    (λ other. either (eqb mark deletedMark)
+    (λ deleted. walk-refusal b position (passed + 1) left n (rw (other, deleted) at e))
+    (λ bad. let q : step.Refused 15 ≡ step.Refused n = rw (other, bad) at e in let k : 15 ≡ n = cc in (omega arith, omega arith)))
+
+step-refusal : (b : List ℕ) (position : Position) → RefusalsNumbered step.Refused (walkStep b position .answer)
+unfolding walkStep
+step-refusal b position n e =
+    either (eqb (tableRefusal b) 0)
+    (λ good. walk-refusal b (position .passed) (position .passed) (recordCount b - position .passed) n (rw good at e))
+    (λ bad. let q : step.Refused (tableRefusal b) ≡ step.Refused n = rw bad at e in table-refusal b n bad (cc))
+
+abbrev pub IsRecord : Step → Type 0
+IsRecord a = (i : ℕ) × (a ≡ step.Record i)
+
+step-case : (a : Step) → RefusalsNumbered step.Refused a → Case (stepNumber a) 258 (IsRecord a) (a ≡ step.Done)
+step-case (step.Record i) small = accepted refl (i, refl)
+step-case step.Done small = other refl refl
+step-case (step.Refused n) small = refused (small n refl)
+
+-- 0 is given with a record's number, 258 when the walk is done
+pub walk-told : (b : List ℕ) (position : Position) → let a = walkStep b position .answer in Told (stepNumber a) 258 (IsRecord a) (a ≡ step.Done)
+walk-told b position =
+    told (omega arith) (step-case (walkStep b position .answer) (step-refusal b position)) (λ found. ap stepNumber (found .1)) (λ done. ap stepNumber done)
+
+-- ---- one field of one record, and numeric text: 0 with a value, 256 for an empty field
+
+abbrev pub IsValue : Number → Type 0
+IsValue a = (v : ℤ) × (a ≡ number.Value v)
+
+number-case : (a : Number) → RefusalsNumbered number.Refused a → Case (numberCode a) emptyCode (IsValue a) (a ≡ number.Empty)
 unfolding numberCode
-number-value (number.Value v) small e = (v, refl)
-number-value number.Empty small e = absurd (omega (arith, e))
-number-value (number.Refused n) small e = let p = small n refl in absurd (omega (arith, e))
+number-case (number.Value v) small = accepted refl (v, refl)
+number-case number.Empty small = other refl refl
+number-case (number.Refused n) small = refused (small n refl)
 
-number-none : (a : Number) (small : (n : ℕ) → a ≡ number.Refused n → Numbered n) → numberCode a ≡ 256 → a ≡ number.Empty
+value-told : (a : Number) → RefusalsNumbered number.Refused a → Told (numberCode a) emptyCode (IsValue a) (a ≡ number.Empty)
 unfolding numberCode
-number-none (number.Value v) small e = absurd (omega (arith, e))
-number-none number.Empty small e = refl
-number-none (number.Refused n) small e = let p = small n refl in absurd (omega (arith, e))
+value-told a small = told (omega arith) (number-case a small) (λ value. ap numberCode (value .1)) (λ empty. ap numberCode empty)
 
-day-value : (a : DateAnswer) (small : (n : ℕ) → a ≡ date.Refused n → Numbered n) → dateCode a ≡ 0 → (d : Date) × (a ≡ date.Value d)
+pub read-told : (text : List ℕ) (d : ℕ) → let a = readNumber text d in Told (numberCode a) emptyCode (IsValue a) (a ≡ number.Empty)
+read-told text d = value-told (readNumber text d) (number-numbered text d)
+
+abbrev pub IsDay : DateAnswer → Type 0
+IsDay a = (d : Date) × (a ≡ date.Value d)
+
+date-case : (a : DateAnswer) → RefusalsNumbered date.Refused a → Case (dateCode a) emptyCode (IsDay a) (a ≡ date.Empty)
 unfolding dateCode
-day-value (date.Value d) small e = (d, refl)
-day-value date.Empty small e = absurd (omega (arith, e))
-day-value (date.Refused n) small e = let p = small n refl in absurd (omega (arith, e))
+date-case (date.Value d) small = accepted refl (d, refl)
+date-case date.Empty small = other refl refl
+date-case (date.Refused n) small = refused (small n refl)
 
-day-none : (a : DateAnswer) (small : (n : ℕ) → a ≡ date.Refused n → Numbered n) → dateCode a ≡ 256 → a ≡ date.Empty
-unfolding dateCode
-day-none (date.Value d) small e = absurd (omega (arith, e))
-day-none date.Empty small e = refl
-day-none (date.Refused n) small e = let p = small n refl in absurd (omega (arith, e))
+abbrev pub IsLogical : Logical → Type 0
+IsLogical a = (v : Bool) × (a ≡ logical.Value v)
 
-logical-value : (a : Logical) (small : (n : ℕ) → a ≡ logical.Refused n → Numbered n) → logicalCode a ≡ 0 → (v : Bool) × (a ≡ logical.Value v)
+logical-case : (a : Logical) → RefusalsNumbered logical.Refused a → Case (logicalCode a) emptyCode (IsLogical a) (a ≡ logical.Empty)
 unfolding logicalCode
-logical-value (logical.Value v) small e = (v, refl)
-logical-value logical.Empty small e = absurd (omega (arith, e))
-logical-value (logical.Refused n) small e = let p = small n refl in absurd (omega (arith, e))
+logical-case (logical.Value v) small = accepted refl (v, refl)
+logical-case logical.Empty small = other refl refl
+logical-case (logical.Refused n) small = refused (small n refl)
 
-logical-none : (a : Logical) (small : (n : ℕ) → a ≡ logical.Refused n → Numbered n) → logicalCode a ≡ 256 → a ≡ logical.Empty
-unfolding logicalCode
-logical-none (logical.Value v) small e = absurd (omega (arith, e))
-logical-none logical.Empty small e = refl
-logical-none (logical.Refused n) small e = let p = small n refl in absurd (omega (arith, e))
+-- a place in the table or in the memo file
+abbrev pub IsText : TextPlace → Type 0
+IsText a = (start len : ℕ) × ((a ≡ text.Table start len) ⊎ (a ≡ text.Memo start len))
 
-text-none : (a : TextPlace) (small : (n : ℕ) → a ≡ text.Refused n → Numbered n) → textCode a ≡ 256 → a ≡ text.Empty
+text-case : (a : TextPlace) → RefusalsNumbered text.Refused a → Case (textCode a) emptyCode (IsText a) (a ≡ text.Empty)
 unfolding textCode
-text-none (text.Table start size) small e = absurd (omega (arith, e))
-text-none (text.Memo start size) small e = absurd (omega (arith, e))
-text-none text.Empty small e = refl
-text-none (text.Refused n) small e = let p = small n refl in absurd (omega (arith, e))
+text-case (text.Table start len) small = accepted refl (start, len, inl refl)
+text-case (text.Memo start len) small = accepted refl (start, len, inr refl)
+text-case text.Empty small = other refl refl
+text-case (text.Refused n) small = refused (small n refl)
+
+located : (a : TextPlace) (start len : ℕ) → (a ≡ text.Table start len) ⊎ (a ≡ text.Memo start len) → textCode a ≡ 0
+unfolding textCode
+located a start len (inl e) = ap textCode e
+located a start len (inr e) = ap textCode e
 
 module _ (b : List ℕ) (i field : ℕ) where
-  pub number-accepted : numberCode (numberCell b i field) ≡ 0 → (v : ℤ) × (numberCell b i field ≡ number.Value v)
-  number-accepted = number-value (numberCell b i field) (number-refusal b i field)
+  pub number-told : let a = numberCell b i field in Told (numberCode a) emptyCode (IsValue a) (a ≡ number.Empty)
+  number-told = value-told (numberCell b i field) (number-refusal b i field)
 
-  pub number-empty : numberCode (numberCell b i field) ≡ 256 → numberCell b i field ≡ number.Empty
-  number-empty = number-none (numberCell b i field) (number-refusal b i field)
+  pub date-told : let a = dateCell b i field in Told (dateCode a) emptyCode (IsDay a) (a ≡ date.Empty)
+  unfolding dateCode
+  date-told = told (omega arith) (date-case (dateCell b i field) (day-refusal b i field)) (λ day. ap dateCode (day .1)) (λ empty. ap dateCode empty)
 
-  pub date-accepted : dateCode (dateCell b i field) ≡ 0 → (d : Date) × (dateCell b i field ≡ date.Value d)
-  date-accepted = day-value (dateCell b i field) (day-refusal b i field)
+  pub logical-told : let a = logicalCell b i field in Told (logicalCode a) emptyCode (IsLogical a) (a ≡ logical.Empty)
+  unfolding logicalCode
+  logical-told =
+      told (omega arith) (logical-case (logicalCell b i field) (logical-refusal b i field)) (λ value. ap logicalCode (value .1)) (λ empty. ap logicalCode empty)
 
-  pub date-empty : dateCode (dateCell b i field) ≡ 256 → dateCell b i field ≡ date.Empty
-  date-empty = day-none (dateCell b i field) (day-refusal b i field)
+  pub text-told : (m : List ℕ) → let a = textCell b m i field in Told (textCode a) emptyCode (IsText a) (a ≡ text.Empty)
+  unfolding textCode
+  text-told m =
+      told (omega arith) (text-case (textCell b m i field) (λ n. place-refusal b i field n m))
+      (λ place. located (textCell b m i field) (place .0) (place .1) (place .2)) (λ empty. ap textCode empty)
 
-  pub logical-accepted : logicalCode (logicalCell b i field) ≡ 0 → (v : Bool) × (logicalCell b i field ≡ logical.Value v)
-  logical-accepted = logical-value (logicalCell b i field) (logical-refusal b i field)
+-- ---- lookup: 0 with a record's number, 257 for an absent key
 
-  pub logical-empty : logicalCode (logicalCell b i field) ≡ 256 → logicalCell b i field ≡ logical.Empty
-  logical-empty = logical-none (logicalCell b i field) (logical-refusal b i field)
+decided-refusal : (go : ℕ → Answer) → ((p : ℕ) → RefusalsNumbered looked.Refused (go p))
+    → (pages : ℕ) (v : Visit) → RefusalsNumbered looked.Refused (decided go pages v)
+decided-refusal go small pages visit.Refused n e = let k : 25 ≡ n = cc in (omega arith, omega arith)
+decided-refusal go small pages visit.Absent n e = absurd (never (cc))
+decided-refusal go small pages (visit.Found r) n e = absurd (never (cc))
+decided-refusal go small pages (visit.Child c) n e = small (c .0) n e
 
-  pub text-empty : (m : List ℕ) → textCode (textCell b m i field) ≡ 256 → textCell b m i field ≡ text.Empty
-  text-empty m = text-none (textCell b m i field) (λ n. place-refusal b i field n m)
-
--- ---- lookup
-
-decided-numbered : (go : ℕ → Answer) → ((p n : ℕ) → go p ≡ looked.Refused n → Numbered n) → (pages : ℕ) (v : Visit) (n : ℕ) → decided go pages v ≡ looked.Refused n → Numbered n
-decided-numbered go small pages visit.Refused n e = let k : 25 ≡ n = cc in (omega arith, omega arith)
-decided-numbered go small pages visit.Absent n e = absurd (never (cc))
-decided-numbered go small pages (visit.Found r) n e = absurd (never (cc))
-decided-numbered go small pages (visit.Child c) n e = small (c .0) n e
-
-from-numbered : (left : ℕ) (b key : List ℕ) (p n : ℕ) → lookupFrom left b key p ≡ looked.Refused n → Numbered n
+from-refusal : (left : ℕ) (b key : List ℕ) (p : ℕ) → RefusalsNumbered looked.Refused (lookupFrom left b key p)
 unfolding lookupFrom
-from-numbered zero b key p n e = let k : 25 ≡ n = cc in (omega arith, omega arith)
-from-numbered (suc left) b key p n e =
-    decided-numbered (lookupFrom left b key) (λ q m. from-numbered left b key q m)
+from-refusal zero b key p n e = let k : 25 ≡ n = cc in (omega arith, omega arith)
+from-refusal (suc left) b key p n e =
+    decided-refusal (lookupFrom left b key) (from-refusal left b key)
     (maxLevels - left) (visitRule b key p (eqb (maxLevels - left) 1) (eqb left 0)) n e
 
-lookup-numbered : (b key : List ℕ) (n : ℕ) → lookupRule b key ≡ looked.Refused n → Numbered n
+lookup-refusal : (b key : List ℕ) → RefusalsNumbered looked.Refused (lookupRule b key)
 unfolding lookupRule
-lookup-numbered b key n e =
+lookup-refusal b key n e =
     either (headerGood b)
     (λ good. either (eqb (length key) (keyLength b))
-    (λ fits. from-numbered maxLevels b key (rootOffset b) n (rw (good, fits, lookupRule) at e))
+    (λ fits. from-refusal maxLevels b key (rootOffset b) n (rw (good, fits, lookupRule) at e))
     (λ misfit. let q : looked.Refused 27 ≡ looked.Refused n = rw (good, misfit, lookupRule) at e in let k : 27 ≡ n = cc in (omega arith, omega arith)))
     (λ bad. let q : looked.Refused 24 ≡ looked.Refused n = rw (bad, lookupRule) at e in let k : 24 ≡ n = cc in (omega arith, omega arith))
 
-absent-as : (a : Answer) (small : (n : ℕ) → a ≡ looked.Refused n → Numbered n) → answerNumber a ≡ 257 → (pages : ℕ) × (a ≡ looked.Absent pages)
-absent-as (looked.Found r pages) small e = absurd (omega (arith, e))
-absent-as (looked.Absent pages) small e = (pages, refl)
-absent-as (looked.Refused n) small e = let p = small n refl in absurd (omega (arith, e))
+abbrev pub IsFound : Answer → Type 0
+IsFound a = (r : RecordNumber) × (pages : ℕ) × (a ≡ looked.Found r pages)
 
-pub lookup-absent : (b key : List ℕ) → answerNumber (lookupRule b key) ≡ 257 → (pages : ℕ) × (lookupRule b key ≡ looked.Absent pages)
-lookup-absent b key = absent-as (lookupRule b key) (lookup-numbered b key)
+abbrev pub IsAbsent : Answer → Type 0
+IsAbsent a = (pages : ℕ) × (a ≡ looked.Absent pages)
+
+lookup-case : (a : Answer) → RefusalsNumbered looked.Refused a → Case (answerNumber a) 257 (IsFound a) (IsAbsent a)
+lookup-case (looked.Found r pages) small = accepted refl (r, pages, refl)
+lookup-case (looked.Absent pages) small = other refl (pages, refl)
+lookup-case (looked.Refused n) small = refused (small n refl)
+
+pub lookup-told : (b key : List ℕ) → let a = lookupRule b key in Told (answerNumber a) 257 (IsFound a) (IsAbsent a)
+lookup-told b key =
+    told (omega arith) (lookup-case (lookupRule b key) (lookup-refusal b key)) (λ found. ap answerNumber (found .2)) (λ absent. ap answerNumber (absent .1))
+
+-- ---- the calls that write: 0 is given exactly where the call is accepted
+
+writing-numbered : (m n : ℕ) → Numbered m → writing.Refused m ≡ writing.Refused n → Numbered n
+writing-numbered m n small e = let k : m ≡ n = cc in (omega arith, omega arith)
+
+writing-refusal : (s : List ℕ) (d : ℕ) (v : ℤ) → RefusalsNumbered writing.Refused (writeNumber s d v .answer)
+unfolding writeNumber
+writing-refusal s d v n e =
+    either (formatGood (length s) d)
+    (λ format. either (ltb (natAbs v) (10 ^ maxDigits))
+    (λ few. either (leb (length (numberText d v)) (length s))
+    (λ fits. let q : writing.Written ≡ writing.Refused n = rw (format, few, fits, writeNumber) at e in absurd (never (cc)))
+    (λ long. writing-numbered 19 n (lit< tt, lit< tt) (rw (format, few, long, writeNumber) at e)))
+    (λ many. writing-numbered 18 n (lit< tt, lit< tt) (rw (format, many, writeNumber) at e)))
+    (λ bad. writing-numbered 6 n (lit< tt, lit< tt) (rw (bad, writeNumber) at e))
+
+writing-case : (a : Writing) → RefusalsNumbered writing.Refused a → Case (writingNumber a) emptyCode (a ≡ writing.Written) ⊥
+writing-case writing.Written small = accepted refl refl
+writing-case (writing.Refused n) small = refused (small n refl)
+
+pub write-told : (s : List ℕ) (d : ℕ) (v : ℤ) → let a = writeNumber s d v .answer in Told (writingNumber a) emptyCode (a ≡ writing.Written) ⊥
+write-told s d v =
+    told (omega arith) (writing-case (writeNumber s d v .answer) (writing-refusal s d v)) (λ done. ap writingNumber done) (λ none. absurd none)
+
+insertion-numbered : (m n : ℕ) → Numbered m → insertion.Refused m ≡ insertion.Refused n → Numbered n
+insertion-numbered m n small e = let k : m ≡ n = cc in (omega arith, omega arith)
+
+fresh-refusal : (b : List ℕ) (k : ℕ) (x : List ℕ) → RefusalsNumbered insertion.Refused (freshRule b k x .answer)
+unfolding freshRule
+fresh-refusal b k x n e =
+    either (keyLengthGood k)
+    (λ key. either (expressionGood x)
+    (λ printed. either (leb 1024 (length b))
+    (λ room. let q : insertion.Accepted ≡ insertion.Refused n = rw (key, printed, room, freshRule) at e in absurd (never (cc)))
+    (λ full. insertion-numbered 30 n (lit< tt, lit< tt) (rw (key, printed, full, freshRule) at e)))
+    (λ bad. insertion-numbered 24 n (lit< tt, lit< tt) (rw (key, bad, freshRule) at e)))
+    (λ bad. insertion-numbered 27 n (lit< tt, lit< tt) (rw (bad, freshRule) at e))
+
+insertion-case : (a : Insertion) → RefusalsNumbered insertion.Refused a → Case (insertionNumber a) emptyCode (a ≡ insertion.Accepted) ⊥
+insertion-case insertion.Accepted small = accepted refl refl
+insertion-case (insertion.Refused n) small = refused (small n refl)
+
+insertion-told : (a : Insertion) → RefusalsNumbered insertion.Refused a → Told (insertionNumber a) emptyCode (a ≡ insertion.Accepted) ⊥
+insertion-told a small = told (omega arith) (insertion-case a small) (λ done. ap insertionNumber done) (λ none. absurd none)
+
+pub fresh-told : (b : List ℕ) (k : ℕ) (x : List ℕ) → let a = freshRule b k x .answer in Told (insertionNumber a) emptyCode (a ≡ insertion.Accepted) ⊥
+fresh-told b k x = insertion-told (freshRule b k x .answer) (fresh-refusal b k x)
+
+insert-refusal : (b key : List ℕ) (r : ℕ) → RefusalsNumbered insertion.Refused (insertRule b key r .answer)
+unfolding insertRule
+insert-refusal b key r n e =
+    either (headerGood b)
+    (λ good. either (eqb (length key) (keyLength b))
+    (λ fits. either (eqb r 0)
+    (λ none. insertion-numbered 28 n (lit< tt, lit< tt) (rw (good, fits, none, insertRule) at e))
+    (λ some. either (pagesGood b unmarked)
+    (λ sound. either (isFound (lookupRule b key))
+    (λ found. insertion-numbered 29 n (lit< tt, lit< tt) (rw (good, fits, some, sound, found, insertRule) at e))
+    (λ absent. either (noRoom (keyLength b) b key)
+    (λ full. insertion-numbered 30 n (lit< tt, lit< tt) (rw (good, fits, some, sound, absent, full, insertRule) at e))
+    (λ room. let q : insertion.Accepted ≡ insertion.Refused n = rw (good, fits, some, sound, absent, room, insertRule) at e in absurd (never (cc)))))
+    (λ bad. insertion-numbered 25 n (lit< tt, lit< tt) (rw (good, fits, some, bad, insertRule) at e))))
+    (λ misfit. insertion-numbered 27 n (lit< tt, lit< tt) (rw (good, misfit, insertRule) at e)))
+    (λ bad. insertion-numbered 24 n (lit< tt, lit< tt) (rw (bad, insertRule) at e))
+
+pub insert-told : (b key : List ℕ) (r : ℕ) → let a = insertRule b key r .answer in Told (insertionNumber a) emptyCode (a ≡ insertion.Accepted) ⊥
+insert-told b key r = insertion-told (insertRule b key r .answer) (insert-refusal b key r)

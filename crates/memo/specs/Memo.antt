@@ -1,5 +1,7 @@
 -- Rules: the FPT memo file, document 01, "Field text", paragraph M, with refusals 21 to 23 in the paper's order.
-use Prim.Native.Nat.{ℕ, _+_, _*_, _%_}
+use Prim.Native.Nat.{ℕ, _+_, _*_, _%_, _≤_}
+use mathlib.Core.Path.{_≡_}
+use mathlib.Core.Logic.{_↔_}
 use mathlib.Core.Bool.{Bool, cond, _&&_}
 use mathlib.Core.List.{List, [], _∷_}
 use lib.ListN.{length}
@@ -83,3 +85,23 @@ readText file (Number number) = numberedText file number
 -- "Memo: 21 for the number's text, 22, 21 for the place, 23."
 unfoldable pub memoText : List ℕ → List ℕ → MemoPlace
 memoText text file = readText file (memoNumber text)
+
+-- ---- the answer as document 01 counts it
+
+-- the number of an answer: 0 with a text's place, 256 for an empty field, or the refusal's
+abbrev pub memoPlaceNumber : MemoPlace → ℕ
+memoPlaceNumber (Text start len) = 0
+memoPlaceNumber Empty = 256
+memoPlaceNumber (Refused n) = n
+
+-- its values: where the text starts, and its length; "A refusal answers its number alone"
+abbrev pub memoPlaceValues : MemoPlace → List ℕ
+memoPlaceValues (Text start len) = start ∷ len ∷ []
+memoPlaceValues Empty = []
+memoPlaceValues (Refused n) = []
+
+-- what `memo_place` answers: the case; 0 exactly with a part of the file as the values; 256 exactly for ten blanks
+pub record MemoAnswer (text file : List ℕ) (r : MemoPlace) : Type 0 where
+  pub case : r ≡ memoText text file
+  pub accepted : (memoPlaceNumber r ≡ 0) ↔ ((part : ℕ × ℕ) × (memoPlaceValues r ≡ part .0 ∷ part .1 ∷ []) × (part .0 + part .1 ≤ length file))
+  pub empty : (memoPlaceNumber r ≡ 256) ↔ (memoNumber text ≡ Blank)

@@ -1,7 +1,8 @@
--- Laws: products that fit, the tests of a memo's place one after another, and that every text handed out lies in the file. Assumes nothing.
-use mathlib.Core.Path.{_≡_}
+-- Laws: products that fit, the tests of a memo's place one after another, that every text handed out lies in the file, and what an answer's number says.
+-- Assumes nothing.
+use mathlib.Core.Path.{_≡_, refl, sym, _∙_}
 use mathlib.Core.Bool.{true, false}
-use mathlib.Core.List.{List}
+use mathlib.Core.List.{List, [], _∷_}
 use Prim.Native.Nat.{ℕ, _+_, _*_, _^_, _≤_, _<_}
 use native.Mathlib.Nat.{mul-le-mul}
 use native.Mathlib.Omega.{arith}
@@ -11,9 +12,11 @@ use Rattle.basis.specs.Tests.{either, both}
 use Rattle.octets.specs.Bytes.{be32}
 use Rattle.memo.specs.declared.MemoNumber.{MemoNumber}
 use Rattle.memo.specs.declared.MemoNumber.the-variants.{Blank, Bad, Number}
+use Rattle.memo.specs.declared.MemoPlace.{MemoPlace}
 use Rattle.memo.specs.declared.MemoPlace.the-variants.{Text, Empty, Refused}
 use Rattle.memo.specs.TestLaws.{first-arm}
-use Rattle.memo.specs.Memo.{memoHeaderBytes, memoNumber, memoHeaderGood, headFits, endFits, placeGood, isText, textLength, blockText, blockStart, numberedText, readText, memoText}
+use Rattle.memo.specs.Memo.{memoHeaderBytes, memoNumber, memoHeaderGood, headFits, endFits, placeGood, isText, textLength}
+use Rattle.memo.specs.Memo.{blockText, blockStart, numberedText, readText, memoText, MemoAnswer}
 
 -- a number of blocks, of ten digits or four bytes, times a block size of two bytes: there is room for 8 more in 64 bits
 pub bytes-fit : (n size : ℕ) → n < 2 ^ 34 → size < 2 ^ 16 → n * size + 8 < 2 ^ 64
@@ -104,3 +107,48 @@ module _ (file : List ℕ) (n : ℕ) where
   pub text-refusal : (text : List ℕ) → memoText text file ≡ Refused n → (21 ≤ n) × (n ≤ 23)
   unfolding memoText
   text-refusal text e = read-refusal (memoNumber text) e
+
+-- ---- the answer by its number
+
+refused-empty : (n : ℕ) → Refused n ≡ Empty → ⊥
+refused-empty n e = let z : _≡_ {A = ℕ} 0 1 = cc in omega arith
+
+-- only ten blanks are empty
+read-empty : (file : List ℕ) (read : MemoNumber) → readText file read ≡ Empty → read ≡ Blank
+unfolding readText numberedText blockText
+read-empty file Bad e = absurd (refused-empty 21 e)
+read-empty file Blank e = refl
+read-empty file (Number n) e =
+    let start = blockStart file n in
+    let header = first-arm (memoHeaderGood file) (refused-empty 22) e in
+    let place = first-arm (placeGood file start) (refused-empty 21) (header .1) in
+    let text = first-arm (isText file start) (refused-empty 23) (place .1) in
+    absurd (empty-text (start + 8) (textLength file start) (sym (text .1)))
+
+blank-empty : (text file : List ℕ) (r : MemoPlace) → r ≡ memoText text file → memoNumber text ≡ Blank → r ≡ Empty
+unfolding memoText readText
+blank-empty text file r e blank = e ∙ rw blank
+
+no-values : (start len : ℕ) → [] ≡ start ∷ len ∷ [] → ⊥
+no-values start len e = let z : _≡_ {A = ℕ} 0 1 = cc in omega arith
+
+-- the case decides what the number says, since a refusal is 21, 22 or 23
+pub memo-answer : (text file : List ℕ) (r : MemoPlace) → r ≡ memoText text file → MemoAnswer text file r
+unfolding memoText
+memo-answer text file (Text start len) e = record {
+  case = e;
+  accepted = (λ z. ((start, len), refl, text-inside file start len text (sym e) .1), λ part. refl);
+  empty = (λ z. absurd (omega (arith, z)), λ blank. absurd (empty-text start len (sym (blank-empty text file _ e blank))));
+}
+memo-answer text file Empty e = record {
+  case = e;
+  accepted = (λ z. absurd (omega (arith, z)), λ part. absurd (no-values _ _ (part .1)));
+  empty = (λ z. read-empty file (memoNumber text) (sym e), λ blank. refl);
+}
+memo-answer text file (Refused n) e =
+    let bounds = text-refusal file n text (sym e) in
+    record {
+      case = e;
+      accepted = (λ z. absurd (omega (arith, z)), λ part. absurd (no-values _ _ (part .1)));
+      empty = (λ z. absurd (omega (arith, z)), λ blank. absurd (refused-empty n (blank-empty text file _ e blank)));
+    }

@@ -5,7 +5,7 @@ use octets::load_be32;
 ghost use mathlib.Core.Path.{_≡_};
 ghost use Prim.Native.Nat.{_+_, _^_, _≤_, _<_};
 ghost use lib.ListN.{length};
-ghost use Rattle.memo.specs.Memo.{memoHeaderBytes, memoNumber, blockSize, memoHeaderGood, headFits, endFits, blockText, numberedText, memoText};
+ghost use Rattle.memo.specs.Memo.{memoHeaderBytes, memoNumber, blockSize, memoHeaderGood, headFits, endFits, blockText, numberedText, MemoAnswer};
 
 // The header's length: the least length of a memo file, and the first place where a block can start.
 const HEADER_BYTES: usize = 512;
@@ -118,7 +118,7 @@ fn numbered_text(file: &[u8], number: u64) -> MemoPlace
 
 // Where the text of the memo that an M field's characters name stands in the memo file.
 pub fn memo_place(number: &[u8], file: &[u8]) -> MemoPlace
-    ensures { λ r. ⌜ r ≡ memoText (now (number .entry)) (now (file .entry)) ⌝ }
+    ensures { λ r. ⌜ MemoAnswer (now (number .entry)) (now (file .entry)) r ⌝ }
 {
     let read = read_number(number);
     match read {

@@ -21,7 +21,7 @@ reads-type-requires c κs = search needs
 returns : tie.Need-returns
 returns c =
     let at = c .before .before .before in
-    let placed = sym (at .before .before .field-place .ensures) ∙ at .placed2 .given .1 in
+    let placed = sym (at .before .before .field-place .ensures .case) ∙ at .placed2 .given .1 in
     sym (type-refused _ _ _ _ _ placed (failed (c .before .reads-type .ensures) (c .if1 .taken)))
 
 mark-good-requires : tie.Need-mark-good-requires
@@ -31,18 +31,18 @@ returns-2 : tie.Need-returns-2
 returns-2 c =
     let typed = c .before .before in
     let at = typed .before .before .before in
-    let placed = sym (at .before .before .field-place .ensures) ∙ at .placed2 .given .1 in
+    let placed = sym (at .before .before .field-place .ensures .case) ∙ at .placed2 .given .1 in
     let type = passed (typed .before .reads-type .ensures) (typed .if1 .left) in
     sym (mark-refused _ _ _ _ _ placed type (failed (c .before .mark-good .ensures) (c .if2 .taken)))
 
 returns-3 : tie.Need-returns-3
-returns-3 c = sym (place-refused _ _ _ _ _ (sym (c .before .before .before .field-place .ensures) ∙ c .before .placed .given .1))
+returns-3 c = sym (place-refused _ _ _ _ _ (sym (c .before .before .before .field-place .ensures .case) ∙ c .before .placed .given .1))
 
 returns-4 : tie.Need-returns-4
 returns-4 c =
     let typed = c .before .before in
     let at = typed .before .before .before in
-    let placed = sym (at .before .before .field-place .ensures) ∙ at .placed2 .given .1 in
+    let placed = sym (at .before .before .field-place .ensures .case) ∙ at .placed2 .given .1 in
     let type = passed (typed .before .reads-type .ensures) (typed .if1 .left) in
     sym (place-read _ _ _ _ _ placed type (passed (c .before .mark-good .ensures) (c .if2 .left)))
 

@@ -23,7 +23,7 @@ returns-2 : tie.Need-returns-2
 unfolding textAt
 returns-2 c =
     let other = c .before .before .before in
-    c .memo-part .ensures ∙ rw (c .before .memo-place .ensures, c .before .before .part .ensures, ne-eqb _ _ (other .if1 .left))
+    c .memo-part .ensures ∙ rw (c .before .memo-place .ensures .case, c .before .before .part .ensures, ne-eqb _ _ (other .if1 .left))
 
 pub text-at-spec : {M : Type 1} → statement M
 text-at-spec =

@@ -4,6 +4,7 @@ use mathlib.Core.Path.{sym, _∙_}
 use borrow.Author.Needs.{needs}
 use Rattle.memo.specs.Memo.{readText, memoText}
 use Rattle.memo.specs.NumberLaws.{number-between}
+use Rattle.memo.specs.MemoLaws.{memo-answer}
 use Rattle.memo.proofs.memo_place.Statement.{statement}
 use Rattle.memo.proofs.memo_place.Tie as tie
 
@@ -26,17 +27,17 @@ numbered-text-requires c κs =
 
 returns : tie.Need-returns
 unfolding memoText readText
-returns c = rw (sym (c .before .before .read-number .ensures) ∙ c .enum-told .given .1)
+returns c = memo-answer _ _ _ (rw (sym (c .before .before .read-number .ensures) ∙ c .enum-told .given .1))
 
 returns-2 : tie.Need-returns-2
 unfolding memoText readText
-returns-2 c = rw (sym (c .before .before .read-number .ensures) ∙ c .enum-told2 .given .1)
+returns-2 c = memo-answer _ _ _ (rw (sym (c .before .before .read-number .ensures) ∙ c .enum-told2 .given .1))
 
 returns-3 : tie.Need-returns-3
 unfolding memoText readText
 returns-3 c =
     let told = c .before .before in
-    rw (sym (told .before .before .read-number .ensures) ∙ told .read .given .1) (c .numbered-text .ensures)
+    memo-answer _ _ _ (rw (sym (told .before .before .read-number .ensures) ∙ told .read .given .1) (c .numbered-text .ensures))
 
 pub memo-place-spec : {M : Type 1} → statement M
 memo-place-spec =
