@@ -33,8 +33,8 @@ returns c =
     let at-calls = at-fresh .before .before .before in
     let at-index = at-calls .before .before in
     let made = at-fresh .fresh .ensures ∙ ap (left (at-fresh .fresh .last .0)) (at-told .enum-told .given .1) in (
-      batch-made _ _ _ _ _ made (at-run .run-calls .ensures),
-      λ z. batch-kept _ _ _ _ _ (λ i. at-index .slice-known .given i .fits) (λ i. at-calls .shared-slice-known2 .given i .fits) made (at-run .run-calls .ensures),
+      batch-made _ _ _ _ _ made (at-run .run-calls .ensures .0),
+      λ z. batch-kept _ _ _ _ _ (λ i. at-index .slice-known .given i .fits) (λ i. at-calls .shared-slice-known2 .given i .fits) made (at-run .run-calls .ensures .0),
     )
 
 same-length-3 : tie.Need-same-length-3
