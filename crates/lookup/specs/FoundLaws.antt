@@ -21,8 +21,8 @@ use Rattle.lookup.specs.declared.Visit.the-variants as visit
 use Rattle.lookup.specs.declared.Answer.{Answer}
 use Rattle.lookup.specs.declared.Answer.the-variants as answer
 
--- an entry with the key and the record number r, in a leaf that is the n-th page visited, from the 1st to the 11th. The leaf passes lookup's checks of that page:
--- it is a page of the file, its attribute is 0 to 3 and has the root bit exactly if it is the 1st page, and its count is good
+-- an entry with the key and the record number r, in a leaf that is the n-th page visited, from the 1st to the 11th. The leaf passes lookup's checks of that
+-- page: it is a page of the file, its attribute is 0 to 3 and has the root bit exactly if it is the 1st page, and its count is good
 pub record FoundAt (b key : List ℕ) (r : RecordNumber) (n : ℕ) : Type 0 where
   pub page : ℕ
   pub entry : ℕ
@@ -108,7 +108,8 @@ from-found (suc left) b key p r n l e =
     rw same at there)
     (λ c q. from-found left b key c r n (omega arith) q)
 
--- Theorem: a key that lookup finds after n pages is the key of an entry in the n-th page visited, a leaf that passes lookup's checks, and the record is that entry's
+-- Theorem: a key that lookup finds after n pages is the key of an entry in the n-th page visited, a leaf that passes lookup's checks, and the record is that
+-- entry's
 pub found-is-equal : (b key : List ℕ) (r : RecordNumber) (n : ℕ) → lookupRule b key ≡ answer.Found r n → FoundAt b key r n
 unfolding lookupRule
 found-is-equal b key r n e = either (headerGood b)

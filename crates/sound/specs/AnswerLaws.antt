@@ -1,5 +1,5 @@
--- Laws: the audit's rule leaves no choice: every buffer has an answer that meets `Audited`, and only one. Cited by no proof of the code: they are for readers of
--- the rule. Assumes nothing.
+-- Laws: the audit's rule leaves no choice: every buffer has an answer that meets `Audited`, and only one. Cited by no proof of the code: they are for readers
+-- of the rule. Assumes nothing.
 use Prim.Native.Nat.{ℕ}
 use mathlib.Core.Path.{_≡_, sym, _∙_}
 use mathlib.Core.List.{List}
