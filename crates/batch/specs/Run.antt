@@ -6,8 +6,10 @@ use lib.ListN.{length, take}
 use Rattle.octets.specs.Bytes.{toLe32}
 use Rattle.octets.specs.Store.{put}
 use Rattle.tree.specs.Book.{Call, insertion, lookupOf, Answer, refused, accepted, found, absent, resultsOf, finalOf}
-use Rattle.book.specs.Book.{Calls, bufferAfter, answersTo, BookKept}
+use Rattle.book.specs.Book.{Calls, bufferAfter, answersTo, Pairs, leafPairs, BookKept}
+use Rattle.page.specs.Header.{keyLength}
 use Rattle.lookup.specs.Lookup.{lookupRule, answerPages}
+use Rattle.sound.specs.Sound.{Sound}
 use Rattle.insert.specs.Calls.{Inserted}
 use Rattle.insert.specs.Fresh.{freshRule}
 use Rattle.insert.specs.declared.Insertion.the-variants.{Accepted, Refused}
@@ -91,10 +93,19 @@ afterFresh f s out =
 unfoldable pub batchRule : List ℕ → ℕ → List ℕ → List ℕ → List ℕ → Started
 batchRule b k e s out = afterFresh (freshRule b k e) s out
 
--- demand 3 of running code: fresh was accepted; of the calls that were made, the buffer that is left, the answers that were written, and the book
+-- demand 3 of running code, for keys of k bytes, from the book and the buffer b on: of the calls that were made, the buffer that is left, the answers that were
+-- written, and the book
+pub record RunKept (k : ℕ) (book : Pairs) (b s out after answers : List ℕ) (made : ℕ) : Type 0 where
+  pub count : made ≡ length (madeCalls s out)
+  pub buffer : after ≡ finalOf bufferAfter (madeCalls s out) b
+  pub written : answers ≡ put out 0 (repliesTo (madeCalls s out) b)
+  pub kept : BookKept k book (madeCalls s out) b
+
+-- of a run on a buffer that holds a sound index: the book begins at that index's own pairs
+abbrev pub SoundRunKept : (b s out after answers : List ℕ) (made : ℕ) → Type 0
+SoundRunKept b s out after answers made = (sound : Sound b) → RunKept (keyLength b) (leafPairs b sound) b s out after answers made
+
+-- of a batch: fresh was accepted, and the book begins without pairs
 pub record BatchKept (b : List ℕ) (k : ℕ) (e s out after answers : List ℕ) (made : ℕ) : Type 0 where
   pub fresh : freshRule b k e .answer ≡ Accepted
-  pub count : made ≡ length (madeCalls s out)
-  pub buffer : after ≡ finalOf bufferAfter (madeCalls s out) (freshRule b k e .after)
-  pub written : answers ≡ put out 0 (repliesTo (madeCalls s out) (freshRule b k e .after))
-  pub book : BookKept k (madeCalls s out) (freshRule b k e .after)
+  pub run : RunKept k [] (freshRule b k e .after) s out after answers made

@@ -16,9 +16,9 @@ use Rattle.octets.specs.Store.{put}
 use Rattle.octets.specs.StoreLaws.{put-append, put-none, length-put}
 use Rattle.octets.specs.NumberLaws.{length-toLe32}
 use Rattle.tree.specs.Book.{Call, finalOf}
-use Rattle.book.specs.Book.{Calls, FourBytes, insertionAnswer, lookupAnswer, answerTo, bufferAfter}
-use Rattle.book.specs.BookLaws.{demand-3, all-take}
-use Rattle.page.specs.Header.{keyLengthGood}
+use Rattle.book.specs.Book.{Calls, FourBytes, insertionAnswer, lookupAnswer, answerTo, bufferAfter, Pairs, leafPairs, BookKept}
+use Rattle.book.specs.BookLaws.{demand-3, demand-3-sound, all-take}
+use Rattle.page.specs.Header.{keyLength, keyLengthGood}
 use Rattle.lookup.specs.Lookup.{lookupRule, answerPages}
 use Rattle.lookup.specs.declared.Answer.{Answer as Looked}
 use Rattle.insert.specs.Calls.{Inserted, left, insertionNumber, insertRule}
@@ -28,7 +28,8 @@ use Rattle.insert.specs.declared.Insertion.{Insertion}
 use Rattle.insert.specs.declared.Insertion.the-variants.{Accepted, Refused}
 use Rattle.batch.specs.Encoding.{keyIn, keyEnd, callEnd, isCall, callAt, callsFrom, callsIn}
 use Rattle.batch.specs.EncodingLaws.{whole, lookup-there, insertion-there, key-part, calls-more, calls-none, calls-small}
-use Rattle.batch.specs.Run.{replyOf, replyBytes, pagesTo, repliesTo, answerSize, madeCalls, Ran, leaves, runRule, started, batchRule, BatchKept}
+use Rattle.batch.specs.Run.{replyOf, replyBytes, pagesTo, repliesTo, answerSize, madeCalls, Ran, leaves, runRule, started, batchRule}
+use Rattle.batch.specs.Run.{RunKept, SoundRunKept, BatchKept}
 use Rattle.batch.specs.declared.Reply.{Reply}
 
 -- the reply to a call on a buffer
@@ -154,19 +155,35 @@ pub all-octets : (s : List ℕ) → ((i : ℕ) → getD s i 0 < 256) → All (λ
 all-octets [] h = tt
 all-octets (x ∷ s) h = (h 0, all-octets s (λ i. h (suc i)))
 
+-- the calls that are made have record numbers of four bytes, since a list is made of bytes
+made-small : (s out : List ℕ) → ((i : ℕ) → getD s i 0 < 256) → All FourBytes (madeCalls s out)
+made-small s out os = all-take FourBytes (length out / answerSize) (callsIn s) (calls-small s (all-octets s os))
+
+-- what the rule leaves, with the book that keeps it
+run-kept : (k : ℕ) (book : Pairs) (b s out : List ℕ) {b′ out′ : List ℕ} {n : ℕ} → runRule b s out ≡ leaves b′ out′ n → BookKept k book (madeCalls s out) b
+    → RunKept k book b s out b′ out′ n
+unfolding runRule
+run-kept k book b s out r kept = record {
+  count = sym (ap (λ (x : Ran). x .made) r);
+  buffer = sym (ap (λ (x : Ran). x .after) r);
+  written = sym (ap (λ (x : Ran). x .answers) r);
+  kept = kept;
+}
+
+-- Theorem: demand 3 of a run on a buffer that holds a sound index
+pub sound-run-kept : (b s out : List ℕ) {b′ out′ : List ℕ} {n : ℕ} → ((i : ℕ) → getD b i 0 < 256) → ((i : ℕ) → getD s i 0 < 256)
+    → runRule b s out ≡ leaves b′ out′ n → SoundRunKept b s out b′ out′ n
+sound-run-kept b s out ob os r sound =
+    run-kept (keyLength b) (leafPairs b sound) b s out r (demand-3-sound b (all-octets b ob) sound (madeCalls s out) (made-small s out os))
+
 -- Theorem: demand 3 of a batch
 pub batch-kept : (b : List ℕ) (k : ℕ) (e s out : List ℕ) {b′ b″ out′ : List ℕ} {n : ℕ} → ((i : ℕ) → getD b i 0 < 256)
     → ((i : ℕ) → getD s i 0 < 256)
     → freshRule b k e ≡ left b′ Accepted → runRule b′ s out ≡ leaves b″ out′ n → BatchKept b k e s out b″ out′ n
-unfolding runRule
 batch-kept b k e s out {b′} ob os f r =
     let a : freshRule b k e .answer ≡ Accepted = ap (λ (i : Inserted). i .answer) f in
     let q : freshRule b k e .after ≡ b′ = ap (λ (i : Inserted). i .after) f in
-    let r′ = rw (← q) at r in
     record {
       fresh = a;
-      count = sym (ap (λ (x : Ran). x .made) r′);
-      buffer = sym (ap (λ (x : Ran). x .after) r′);
-      written = sym (ap (λ (x : Ran). x .answers) r′);
-      book = demand-3 b k e (all-octets b ob) a (madeCalls s out) (all-take FourBytes (length out / answerSize) (callsIn s) (calls-small s (all-octets s os)));
+      run = run-kept k [] (freshRule b k e .after) s out (rw (← q) at r) (demand-3 b k e (all-octets b ob) a (madeCalls s out) (made-small s out os));
     }

@@ -10,7 +10,7 @@ ghost use Rattle.octets.specs.Store.{put};
 ghost use Rattle.book.specs.Book.{insertionAnswer, lookupAnswer, answerTo, bufferAfter};
 ghost use Rattle.lookup.specs.Lookup.{answerPages};
 ghost use Rattle.batch.specs.Encoding.{isCall, callEnd, callAt};
-ghost use Rattle.batch.specs.Run.{answerSize, replyOf, replyBytes, pagesTo, leaves, runRule, started, batchRule, BatchKept};
+ghost use Rattle.batch.specs.Run.{answerSize, replyOf, replyBytes, pagesTo, leaves, runRule, SoundRunKept, started, batchRule, BatchKept};
 
 // The bytes of one answer.
 pub const ANSWER: usize = 12;
@@ -125,6 +125,7 @@ fn write_reply(answers: &mut [u8], at: usize, reply: Reply)
 // Makes the calls of a list one after another on a buffer as it stands, as many as there is room for their answers, and answers how many.
 pub fn run_calls(index: &mut [u8], calls: &[u8], answers: &mut [u8]) -> usize
     ensures { λ r. ⌜ runRule (now (index .entry)) (now (calls .entry)) (now (answers .entry)) ≡ leaves (now (index .exit)) (now (answers .exit)) r ⌝ }
+    ensures { λ r. ⌜ SoundRunKept (now (index .entry)) (now (calls .entry)) (now (answers .entry)) (now (index .exit)) (now (answers .exit)) r ⌝ }
 {
     let mut at = 0;
     let mut made = 0;

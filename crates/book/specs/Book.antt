@@ -1,5 +1,6 @@
 -- Rules: demand 3, one claim about a whole list of calls, each lent the buffer as the last left it. The calls are the rules that the contracts of insertion
--- and lookup cite; the book, its answers and its pairs are those of the crate tree.
+-- and lookup cite; the book, its answers and its pairs are those of the crate tree. The book begins at `book`: without pairs for a fresh index, and at the
+-- leaves' pairs for an index that a host brings.
 use Prim.Native.Nat.{ℕ, _+_, _^_, _<_}
 use mathlib.Core.Path.{_≡_}
 use mathlib.Core.Bool.{Bool, false, cond}
@@ -65,14 +66,22 @@ answersTo calls b = resultsOf answerTo bufferAfter calls b
 abbrev pub bufferAt : ℕ → Calls → List ℕ → List ℕ
 bufferAt n calls b = finalOf bufferAfter (take n calls) b
 
+-- pairs of a key and a record number
+abbrev pub Pairs : Type 0
+Pairs = List (List ℕ × ℕ)
+
 -- the book after the first n, fed "of the answers, only whether an insertion was 30"
-abbrev pub bookAt : ℕ → ℕ → Calls → List ℕ → List (List ℕ × ℕ)
-bookAt k n calls b = bookFinal bytesOrder (fits k) (take n calls) (noRooms (answersTo calls b)) []
+abbrev pub bookAt : ℕ → Pairs → ℕ → Calls → List ℕ → Pairs
+bookAt k book n calls b = bookFinal bytesOrder (fits k) (take n calls) (noRooms (answersTo calls b)) book
+
+-- the pairs of a sound index's leaves, left to right
+abbrev pub leafPairs : (b : List ℕ) → Sound b → Pairs
+leafPairs b s = pairs (s .height) (indexTree b (s .height))
 
 -- the index in a buffer is sound, so has at most 11 levels, and "the leaves' entries, left to right, are the book's pairs"
-pub record IndexHolds (b : List ℕ) (book : List (List ℕ × ℕ)) : Type 0 where
+pub record IndexHolds (b : List ℕ) (book : Pairs) : Type 0 where
   pub sound : Sound b
-  pub leaves : pairs (sound .height) (indexTree b (sound .height)) ≡ book
+  pub leaves : leafPairs b sound ≡ book
 
 -- of a call on a buffer: a key that is found is found after as many pages as there are levels, "the pages from the root to a leaf, both counted"
 abbrev pub VisitsLevels : Call (List ℕ) → List ℕ → Type 0
@@ -89,13 +98,13 @@ abbrev pub Each : (Call (List ℕ) → List ℕ → Type 0) → Calls → List �
 Each P [] b = Unit {0}
 Each P (c ∷ calls) b = P c b × Each P calls (bufferAfter c b)
 
--- the claim, for keys of k bytes, from the buffer b with the empty book on
-pub record BookKept (k : ℕ) (calls : Calls) (b : List ℕ) : Type 0 where
+-- the claim, for keys of k bytes: the list of calls, made from the buffer b on, is kept by the book that begins at `book`
+pub record BookKept (k : ℕ) (book : Pairs) (calls : Calls) (b : List ℕ) : Type 0 where
   -- "Every call answers so, never 24 or 25"
-  pub answers : answersTo calls b ≡ bookAnswers bytesOrder (fits k) calls (noRooms (answersTo calls b)) []
+  pub answers : answersTo calls b ≡ bookAnswers bytesOrder (fits k) calls (noRooms (answersTo calls b)) book
   -- "an insertion not refused so is 30 exactly when the rule above, on the index lent to it, says so"
-  pub room : answersTo calls b ≡ bookAnswers bytesOrder (fits k) calls (resultsOf noRoomFor bufferAfter calls b) []
-  -- "After fresh and after each call"
-  pub index : (n : ℕ) → IndexHolds (bufferAt n calls b) (bookAt k n calls b)
+  pub room : answersTo calls b ≡ bookAnswers bytesOrder (fits k) calls (resultsOf noRoomFor bufferAfter calls b) book
+  -- "After fresh and after each call": before the first call, and after each
+  pub index : (n : ℕ) → IndexHolds (bufferAt n calls b) (bookAt k book n calls b)
   pub visits : Each VisitsLevels calls b
   pub buffers : Each LeavesBuffer calls b

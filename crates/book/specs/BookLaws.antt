@@ -1,5 +1,5 @@
--- Laws: demand 3: from an accepted fresh on, every list of calls is kept by the book. Assumes nothing.
-use Prim.Native.Nat.{ℕ, zero, suc, _≤_, _<_}
+-- Laws: demand 3: from an accepted fresh on, and from any sound index on, every list of calls is kept by the book. Assumes nothing.
+use Prim.Native.Nat.{ℕ, zero, suc, _<_}
 use mathlib.Core.Path.{_≡_, refl, sym, ap, _∙_}
 use mathlib.Core.Bool.{Bool, true, false}
 use mathlib.Core.List.{List, [], _∷_}
@@ -8,24 +8,25 @@ use lib.Dec.{leb}
 use lib.ListN.{length, take}
 use borrow.Author.Tests.{leb-true}
 use Rattle.basis.specs.Lists.{All}
-use Rattle.basis.specs.Tests.{contra, both}
+use Rattle.basis.specs.Tests.{contra}
 use Rattle.tree.specs.Book.{Call, isAccepted, noRooms, finalOf, bookFinal, BookClaim}
 use Rattle.tree.specs.BookTheorem.{list-keeps, book-claim}
 use Rattle.tree.specs.Index.{held}
-use Rattle.page.specs.Header.{maxKey, keyLengthGood}
+use Rattle.page.specs.Header.{keyLength, keyLengthGood, headerGood}
+use Rattle.page.specs.HeaderLaws.{good-header}
 use Rattle.page.specs.KeyOrder.{bytesOrder}
 use Rattle.page.specs.Page.{capacity}
 use Rattle.layout.specs.WriteLaws.{capacity-least}
-use Rattle.sound.specs.IndexLaws.{indexOf}
+use Rattle.sound.specs.Sound.{Sound}
 use Rattle.insert.specs.Calls.{Inserted, left}
 use Rattle.insert.specs.Fresh.{expressionGood, freshBuffer, freshRule}
 use Rattle.insert.specs.declared.Insertion.{Insertion}
 use Rattle.insert.specs.declared.Insertion.the-variants.{Accepted, Refused}
-use Rattle.growth.specs.InsertHeads.{octets-plain}
-use Rattle.growth.specs.FreshLaws.{FreshGiven, fresh-is-sound}
-use Rattle.book.specs.Book.{Calls, insertionAnswer, answerTo, bufferAfter, noRoomFor, fits, FourBytes, answersTo, bufferAt, VisitsLevels}
-use Rattle.book.specs.Book.{LeavesBuffer, Each, BookKept}
-use Rattle.book.specs.CallLaws.{Kept, height-is, readIndex, keeping, kept-sound, visits-levels, leaves-buffer, same-answer, same-rule, keeps, same-next}
+use Rattle.growth.specs.InsertHeads.{Plain, octets-plain}
+use Rattle.growth.specs.FreshLaws.{FreshIs, fresh-is-sound}
+use Rattle.book.specs.Book.{Calls, insertionAnswer, answerTo, bufferAfter, noRoomFor, fits, FourBytes, answersTo, bufferAt, Pairs, leafPairs}
+use Rattle.book.specs.Book.{VisitsLevels, LeavesBuffer, Each, BookKept}
+use Rattle.book.specs.CallLaws.{Kept, readIndex, read-is, keeping, kept-sound, visits-levels, leaves-buffer, same-answer, same-rule, keeps, same-next}
 
 -- the first n of calls that all have a property have it
 pub all-take : (P : Call (List ℕ) → Type 0) (n : ℕ) (calls : Calls) → All P calls → All P (take n calls)
@@ -34,12 +35,16 @@ all-take P (suc n) [] a = tt
 all-take P (suc n) (c ∷ calls) a = (a .0, all-take P n calls (a .1))
 
 -- the book after the first n calls is fed the answers to those alone
-book-take : (k n : ℕ) (calls : Calls) (b : List ℕ) (book : List (List ℕ × ℕ))
+book-take : (k n : ℕ) (calls : Calls) (b : List ℕ) (book : Pairs)
     → bookFinal bytesOrder (fits k) (take n calls) (noRooms (answersTo (take n calls) b)) book
     ≡ bookFinal bytesOrder (fits k) (take n calls) (noRooms (answersTo calls b)) book
 book-take k zero calls b book = refl
 book-take k (suc n) [] b book = refl
 book-take k (suc n) (c ∷ calls) b book = book-take k n calls (bufferAfter c b) _
+
+-- the pairs that a buffer is read to have are those of its sound index
+own-pairs : (b : List ℕ) (s : Sound b) → held (readIndex b) ≡ leafPairs b s
+own-pairs b s = ap held (read-is b s)
 
 module _ (k size : ℕ) (two : 1 < capacity k) where
   each : (P : Call (List ℕ) → List ℕ → Type 0) → ((c : Call (List ℕ)) (b : List ℕ) → Kept k size b → P c b) → (calls : Calls) → All FourBytes calls
@@ -59,24 +64,42 @@ module _ (k size : ℕ) (two : 1 < capacity k) where
       (λ b i. kept-sound k size b i) (λ c b o i. keeps k size b i c o) (λ c b o i. same-answer k size b i c)
       (λ c b o i. same-next k size b i c o) (λ c b o i. same-rule k size b i c)
 
-  -- a list of calls on a buffer without pairs
-  list-kept : (calls : Calls) → All FourBytes calls → (b : List ℕ) → Kept k size b → held (readIndex b) ≡ [] → BookKept k calls b
-  list-kept calls o b kept empty = record {
-    answers = rw empty at (claim calls o b kept .answers);
-    room = rw empty at (claim calls o b kept .room);
-    index = λ n.
-        let first = take n calls in
-        let o′ = all-take FourBytes n calls o in
-        let after : Kept k size (bufferAt n calls b) = keeps-all first o′ b kept in
-        let c : held (readIndex (bufferAt n calls b)) ≡ bookFinal bytesOrder (fits k) (take n calls) (noRooms (answersTo (take n calls) b)) [] =
-        rw empty at (claim first o′ b kept .pairs) in
-        record {
-          sound = after .sound;
-          leaves = ap (λ (h : ℕ). held (indexOf (bufferAt n calls b) h)) (sym (height-is (bufferAt n calls b) (after .sound))) ∙ c ∙ book-take k n calls b [];
-        };
-    visits = each VisitsLevels (λ c b i. visits-levels k size b i c) calls o b kept;
-    buffers = each LeavesBuffer (λ c b i. leaves-buffer c b) calls o b kept;
-  }
+  -- a list of calls on a buffer that is kept: the book begins at the index's own pairs
+  list-kept : (calls : Calls) → All FourBytes calls → (b : List ℕ) (kept : Kept k size b) → BookKept k (leafPairs b (kept .sound)) calls b
+  list-kept calls o b kept =
+      let own : held (readIndex b) ≡ leafPairs b (kept .sound) = own-pairs b (kept .sound) in
+      record {
+        answers = rw own at (claim calls o b kept .answers);
+        room = rw own at (claim calls o b kept .room);
+        index = λ n.
+            let first = take n calls in
+            let o′ = all-take FourBytes n calls o in
+            let after : Kept k size (bufferAt n calls b) = keeps-all first o′ b kept in
+            let book : Pairs = leafPairs b (kept .sound) in
+            let c : held (readIndex (bufferAt n calls b)) ≡ bookFinal bytesOrder (fits k) (take n calls) (noRooms (answersTo (take n calls) b)) book =
+            rw own at (claim first o′ b kept .pairs) in
+            record {
+              sound = after .sound;
+              leaves = sym (own-pairs (bufferAt n calls b) (after .sound)) ∙ c ∙ book-take k n calls b book;
+            };
+        visits = each VisitsLevels (λ c b i. visits-levels k size b i c) calls o b kept;
+        buffers = each LeavesBuffer (λ c b i. leaves-buffer c b) calls o b kept;
+      }
+
+-- the header's key length is at most 100, so that a page holds more than one entry
+header-two : (b : List ℕ) → headerGood b ≡ true → 1 < capacity (keyLength b)
+header-two b e = omega (arith, capacity-least (keyLength b) (good-header b e .key-high))
+
+-- every list of calls on a buffer that holds a sound index is kept by the book that begins at that index's own pairs; `Plain` is what bytes below 256 give
+sound-kept : (b : List ℕ) → Plain b → (s : Sound b) → (calls : Calls) → All FourBytes calls → BookKept (keyLength b) (leafPairs b s) calls b
+sound-kept b plain s calls o =
+    list-kept (keyLength b) (length b) (header-two b (s .header)) calls o b (record { sound = s; keyIs = refl; as-long = refl; plain = plain })
+
+-- Theorem: demand 3 from any sound index on. Every list of calls on a buffer of bytes that holds a sound index is kept by the book that begins at that
+-- index's own pairs, for keys of the length in its header
+pub demand-3-sound : (b : List ℕ) → All (λ x. x < 256) b → (s : Sound b) → (calls : Calls) → All FourBytes calls
+    → BookKept (keyLength b) (leafPairs b s) calls b
+demand-3-sound b octets s calls o = sound-kept b (octets-plain b octets) s calls o
 
 -- fresh by its three tests
 fresh-tests : List ℕ → List ℕ → Bool → Bool → Bool → Inserted
@@ -107,19 +130,24 @@ unfolding freshRule fresh-tests
 fresh-accepted k e b a = tests-accepted b (freshBuffer k e b) (keyLengthGood k) (expressionGood e) (leb 1024 (length b))
     (ap (λ (x : Insertion). isAccepted (insertionAnswer x)) a)
 
-key-high : (k : ℕ) → keyLengthGood k ≡ true → k ≤ maxKey
-unfolding keyLengthGood
-key-high k e = leb-true k maxKey (both (leb 1 k) (leb k maxKey) e .1)
+-- what an accepted fresh leaves
+fresh-is : (b : List ℕ) (k : ℕ) (e : List ℕ) → All (λ x. x < 256) b → freshRule b k e .answer ≡ Accepted → FreshIs k e b
+fresh-is b k e octets a =
+    let f = fresh-accepted k e b a in
+    fresh-is-sound k e b (record {
+      key = f .keyGood;
+      expression = f .expressionGood;
+      room = leb-true 1024 (length b) (f .roomGood);
+      plain = octets-plain b octets;
+    })
 
--- Theorem: demand 3
+-- Theorem: demand 3. After an accepted fresh the book begins without pairs, since the fresh index is sound and has none
 pub demand-3 : (b : List ℕ) (k : ℕ) (e : List ℕ) → All (λ x. x < 256) b → freshRule b k e .answer ≡ Accepted → (calls : Calls)
     → All FourBytes calls
-    → BookKept k calls (freshRule b k e .after)
+    → BookKept k [] calls (freshRule b k e .after)
 demand-3 b k e octets a calls o =
-    let f = fresh-accepted k e b a in
-    let given : FreshGiven k e b = record { key = f .keyGood; expression = f .expressionGood; room = leb-true 1024 (length b) (f .roomGood); plain = octets-plain b octets } in
-    let i = fresh-is-sound k e b given in
-    let kept : Kept k (length b) (freshBuffer k e b) = record { sound = i .sound; keyIs = i .keyIs; as-long = i .as-long; plain = i .plain } in
-    let empty : held (readIndex (freshBuffer k e b)) ≡ [] =
-    ap (λ (h : ℕ). held (indexOf (freshBuffer k e b) h)) (height-is (freshBuffer k e b) (i .sound)) ∙ ap held (i .index) in
-    rw (f .leaves) (list-kept k (length b) (omega (arith, capacity-least k (key-high k (f .keyGood)))) calls o (freshBuffer k e b) kept empty)
+    let i = fresh-is b k e octets a in
+    let empty : leafPairs (freshBuffer k e b) (i .sound) ≡ [] = ap held (i .index) in
+    let kept : BookKept (keyLength (freshBuffer k e b)) (leafPairs (freshBuffer k e b) (i .sound)) calls (freshBuffer k e b) =
+    sound-kept (freshBuffer k e b) (i .plain) (i .sound) calls o in
+    rw (fresh-accepted k e b a .leaves) (rw (empty, i .keyIs) at kept)

@@ -126,7 +126,7 @@ answer-reply : (o : Option ℕ) (n : ℕ) → lookupAnswer (answerOf o n) ≡ fo
 answer-reply none n = refl
 answer-reply (some r) n = refl
 
-answer-found : (o : Option ℕ) (n : ℕ) → isFound (answerOf o n) ≡ isPresent o
+pub answer-found : (o : Option ℕ) (n : ℕ) → isFound (answerOf o n) ≡ isPresent o
 answer-found none n = refl
 answer-found (some r) n = refl
 

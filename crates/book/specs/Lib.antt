@@ -1,3 +1,4 @@
 pub mod Book
 pub mod CallLaws
 pub mod BookLaws
+pub mod InsertionAnswers

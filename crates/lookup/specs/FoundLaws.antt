@@ -1,12 +1,12 @@
--- Laws: "a found key is an equal one in the leaf", on any bytes. Assumes nothing.
+-- Laws: "a found key is an equal one in the leaf", on any bytes, and the leaf passes lookup's checks. Assumes nothing.
 use Prim.Native.Nat.{ℕ, zero, suc, _-_, _≤_, _<_}
-use mathlib.Core.Path.{_≡_, ap}
-use mathlib.Core.Bool.{Bool, true}
+use mathlib.Core.Path.{_≡_, sym, ap, _∙_}
+use mathlib.Core.Bool.{true}
 use mathlib.Core.List.{List}
 use native.Mathlib.Omega.{arith}
 use lib.ListN.{length}
 use lib.Dec.{eqb}
-use borrow.Author.Tests.{eqb-false}
+use borrow.Author.Tests.{eq-eqb, ne-eqb, eqb-true, eqb-false}
 use Rattle.basis.specs.Tests.{either}
 use Rattle.octets.specs.Order.{ordering, isEqual}
 use Rattle.page.specs.Header.{maxLevels, rootOffset, fileSize, keyLength, headerGood}
@@ -21,10 +21,13 @@ use Rattle.lookup.specs.declared.Visit.the-variants as visit
 use Rattle.lookup.specs.declared.Answer.{Answer}
 use Rattle.lookup.specs.declared.Answer.the-variants as answer
 
--- an entry of a leaf with that key and that record number
-pub record FoundAt (b key : List ℕ) (r : RecordNumber) : Type 0 where
+-- an entry with the key and the record number r, in a leaf that is the n-th page visited, from the 1st to the 11th. The leaf passes lookup's checks of that
+-- page: it is a page of the file, its attribute is 0 to 3 and has the root bit exactly if it is the 1st page, and its count is good
+pub record FoundAt (b key : List ℕ) (r : RecordNumber) (n : ℕ) : Type 0 where
   pub page : ℕ
   pub entry : ℕ
+  pub visits : (1 ≤ n) × (n ≤ maxLevels)
+  pub good : pageGood b (length key) (fileSize b) page (eqb n 1) (eqb n maxLevels) ≡ true
   pub inside : entry < countAt b page
   pub leaf : leafBit (attributeAt b page) ≡ true
   pub equal : keyAt b (length key) page entry ≡ key
@@ -46,43 +49,71 @@ not-refused e = impossible (cc)
 same-number : {m : ℕ} {r : RecordNumber} → visit.Found (recordOf m) ≡ visit.Found r → m ≡ r .0
 same-number {m} {r} e = let s : recordOf m ≡ r = cc in ap (λ (x : RecordNumber). x .0) s
 
-entry-found : (b key : List ℕ) (p i : ℕ) (r : RecordNumber) → i ≤ countAt b p → entrySays b key p i ≡ visit.Found r → FoundAt b key r
-unfolding entrySays
-entry-found b key p i r h e = either (eqb i (countAt b p))
-    (λ u. not-absent (rw u at e))
-    (λ u. either (leafBit (attributeAt b p))
-    (λ l. either (isEqual (ordering (keyAt b (length key) p i) key))
-    (λ q. record { page = p; entry = i; inside = omega (arith, eqb-false i (countAt b p) u); leaf = l; equal = equal-same _ _ q; number = same-number (rw (u, l, q) at e) })
-    (λ q. not-absent (rw (u, l, q) at e)))
-    (λ l. not-child (rw (u, l) at e)))
+-- the n-th page visited, which passes the checks
+module _ (b key : List ℕ) (p n : ℕ) (visits : (1 ≤ n) × (n ≤ maxLevels)) where
+  entry-found : (i : ℕ) (r : RecordNumber) → pageGood b (length key) (fileSize b) p (eqb n 1) (eqb n maxLevels) ≡ true → i ≤ countAt b p
+      → entrySays b key p i ≡ visit.Found r → FoundAt b key r n
+  unfolding entrySays
+  entry-found i r g h e = either (eqb i (countAt b p))
+      (λ u. not-absent (rw u at e))
+      (λ u. either (leafBit (attributeAt b p))
+      (λ l. either (isEqual (ordering (keyAt b (length key) p i) key))
+      (λ q. record {
+        page = p;
+        entry = i;
+        visits = visits;
+        good = g;
+        inside = omega (arith, eqb-false i (countAt b p) u);
+        leaf = l;
+        equal = equal-same _ _ q;
+        number = same-number (rw (u, l, q) at e);
+      })
+      (λ q. not-absent (rw (u, l, q) at e)))
+      (λ l. not-child (rw (u, l) at e)))
 
-visit-found : (b key : List ℕ) (p : ℕ) (first last : Bool) (r : RecordNumber) → visitRule b key p first last ≡ visit.Found r → FoundAt b key r
-unfolding visitRule pageSays
-visit-found b key p first last r e = either (pageGood b (length key) (fileSize b) p first last)
-    (λ g. entry-found b key p (firstAtOrAbove (keyAt b (length key) p) key (countAt b p) 0) r (omega (arith, first-bound (keyAt b (length key) p) key (countAt b p) 0)) (rw (g, visitRule) at e))
-    (λ g. not-refused (rw (g, visitRule) at e))
+  visit-found : (r : RecordNumber) → visitRule b key p (eqb n 1) (eqb n maxLevels) ≡ visit.Found r → FoundAt b key r n
+  unfolding visitRule pageSays
+  visit-found r e = either (pageGood b (length key) (fileSize b) p (eqb n 1) (eqb n maxLevels))
+      (λ g.
+      let bound = first-bound (keyAt b (length key) p) key (countAt b p) 0 in
+      entry-found (firstAtOrAbove (keyAt b (length key) p) key (countAt b p) 0) r g (omega arith) (rw (g, visitRule) at e))
+      (λ g. not-refused (rw (g, visitRule) at e))
 
--- a visit that leads to a record found it, or went on to a child
+-- a visit that leads to a record found it on that page, or went on to a child
 decided-found : {X : Type 0} {go : ℕ → Answer} (pages : ℕ) (v : Visit) {r : RecordNumber} {n : ℕ} → decided go pages v ≡ answer.Found r n
-    → (v ≡ visit.Found r → X) → ((c : ℕ) → go c ≡ answer.Found r n → X) → X
+    → (v ≡ visit.Found r → pages ≡ n → X) → ((c : ℕ) → go c ≡ answer.Found r n → X) → X
 decided-found pages visit.Refused e here on = impossible (cc)
 decided-found pages visit.Absent e here on = impossible (cc)
-decided-found pages (visit.Found s) {r} e here on = here (let q : s ≡ r = cc in ap (λ (x : RecordNumber). visit.Found x) q)
+decided-found pages (visit.Found s) {r} {n} e here on =
+    let q : s ≡ r = cc in
+    let same : pages ≡ n = cc in
+    here (ap (λ (x : RecordNumber). visit.Found x) q) same
 decided-found pages (visit.Child c) e here on = on (c .0) e
 
-from-found : (levels : ℕ) (b key : List ℕ) (p : ℕ) (r : RecordNumber) (n : ℕ) → lookupFrom levels b key p ≡ answer.Found r n → FoundAt b key r
-unfolding lookupFrom
-from-found zero b key p r n e = impossible (cc)
-from-found (suc left) b key p r n e =
-    decided-found (maxLevels - left) (visitRule b key p (eqb (maxLevels - left) 1) (eqb left 0)) e
-    (λ q. visit-found b key p (eqb (maxLevels - left) 1) (eqb left 0) r q)
-    (λ c q. from-found left b key c r n q)
+-- with none left under it, a page is the 11th
+last-visited : (left : ℕ) → left < maxLevels → eqb left 0 ≡ eqb (maxLevels - left) maxLevels
+last-visited left l = either (eqb left 0)
+    (λ e. e ∙ sym (eq-eqb (maxLevels - left) maxLevels (omega (arith, eqb-true left 0 e))))
+    (λ e. e ∙ sym (ne-eqb (maxLevels - left) maxLevels (λ q. omega (arith, eqb-false left 0 e, q))))
 
--- Theorem: a key that lookup finds is the key of an entry in a leaf, and the record is that entry's
-pub found-is-equal : (b key : List ℕ) (r : RecordNumber) (n : ℕ) → lookupRule b key ≡ answer.Found r n → FoundAt b key r
+from-found : (levels : ℕ) (b key : List ℕ) (p : ℕ) (r : RecordNumber) (n : ℕ) → levels ≤ maxLevels → lookupFrom levels b key p ≡ answer.Found r n
+    → FoundAt b key r n
+unfolding lookupFrom
+from-found zero b key p r n l e = impossible (cc)
+from-found (suc left) b key p r n l e =
+    decided-found (maxLevels - left) (visitRule b key p (eqb (maxLevels - left) 1) (eqb left 0)) e
+    (λ q same.
+    let visits : (1 ≤ maxLevels - left) × (maxLevels - left ≤ maxLevels) = (omega arith, omega arith) in
+    let there = visit-found b key p (maxLevels - left) visits r (rw (last-visited left (omega arith)) at q) in
+    rw same at there)
+    (λ c q. from-found left b key c r n (omega arith) q)
+
+-- Theorem: a key that lookup finds after n pages is the key of an entry in the n-th page visited, a leaf that passes lookup's checks, and the record is that
+-- entry's
+pub found-is-equal : (b key : List ℕ) (r : RecordNumber) (n : ℕ) → lookupRule b key ≡ answer.Found r n → FoundAt b key r n
 unfolding lookupRule
 found-is-equal b key r n e = either (headerGood b)
     (λ h. either (eqb (length key) (keyLength b))
-    (λ l. from-found maxLevels b key (rootOffset b) r n (rw (h, l, lookupRule) at e))
+    (λ l. from-found maxLevels b key (rootOffset b) r n (omega arith) (rw (h, l, lookupRule) at e))
     (λ l. let f : answer.Refused 27 ≡ answer.Found r n = rw (h, l, lookupRule) at e in impossible (cc)))
     (λ h. let f : answer.Refused 24 ≡ answer.Found r n = rw (h, lookupRule) at e in impossible (cc))

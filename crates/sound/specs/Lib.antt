@@ -9,6 +9,7 @@ pub mod MarkLaws
 pub mod LevelLaws
 pub mod ShapeLaws
 pub mod Accepted
+pub mod AnswerLaws
 pub mod Example
 pub mod IndexLaws
 pub mod PrefixLaws

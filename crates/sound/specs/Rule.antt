@@ -1,5 +1,6 @@
--- Rules: the audit's test as it is computed, page by page and level by level from the root down. Only the audit's inner functions cite it: that it
--- accepts exactly the sound indexes is proved in Accepted, so that a reader need not believe it.
+-- Rules: the audit's test as it is computed, page by page and level by level from the root down. The inner functions of the audit and of the match cite its
+-- parts; insertion's rule, which has to compute, tells 25 by `pagesGood`. That the test accepts exactly the sound indexes is proved in Accepted, and
+-- book/InsertionAnswers says what insertion's 25 means by `Sound`, so that a reader need not believe the test.
 -- Every check is local to a page, its left neighbour and its children: the audit carries the left neighbour along, and marks each page that it meets.
 use Prim.Native.Nat.{ℕ, zero, suc, _+_, _-_, _/_}
 use mathlib.Core.List.{List, [], _∷_, map}

@@ -32,9 +32,10 @@ returns c =
     let at-fresh = at-told .before .before .before .before in
     let at-calls = at-fresh .before .before .before in
     let at-index = at-calls .before .before in
-    let made = at-fresh .fresh .ensures ∙ ap (left (at-fresh .fresh .last .0)) (at-told .enum-told .given .1) in (
-      batch-made _ _ _ _ _ made (at-run .run-calls .ensures),
-      λ z. batch-kept _ _ _ _ _ (λ i. at-index .slice-known .given i .fits) (λ i. at-calls .shared-slice-known2 .given i .fits) made (at-run .run-calls .ensures),
+    let made = at-fresh .fresh .ensures ∙ ap (left (at-fresh .fresh .last .0)) (at-told .enum-told .given .1) in
+    let ran = at-run .run-calls .ensures .0 in (
+      batch-made _ _ _ _ _ made ran,
+      λ z. batch-kept _ _ _ _ _ (λ i. at-index .slice-known .given i .fits) (λ i. at-calls .shared-slice-known2 .given i .fits) made ran,
     )
 
 same-length-3 : tie.Need-same-length-3

@@ -1,5 +1,5 @@
 -- `batch::run_calls` meets its contract. The loop's invariant: what the rule leaves is what the calls still to be made leave, on the buffer and the answers as
--- they are. What is left of the list's bytes falls with each call. Assumes nothing.
+-- they are. What is left of the list's bytes falls with each call. Demand 3 follows, since the elements of lent slices are bytes. Assumes nothing.
 use Prim.Native.Nat.{ℕ, _-_, _≤_, _*_}
 use mathlib.Core.Path.{_≡_}
 use mathlib.Core.Bool.{true}
@@ -9,7 +9,7 @@ use lib.ListN.{length}
 use Rattle.batch.specs.Encoding.{isCall}
 use Rattle.batch.specs.EncodingLaws.{whole}
 use Rattle.batch.specs.Run.{answerSize}
-use Rattle.batch.specs.RunLaws.{turn-taken, Going, going-first, going-on, going-ends}
+use Rattle.batch.specs.RunLaws.{turn-taken, Going, going-first, going-on, going-ends, sound-run-kept}
 use Rattle.batch.proofs.run_calls.Statement.{statement}
 use Rattle.batch.proofs.run_calls.Tie as tie
 
@@ -81,7 +81,11 @@ same-length-2 : tie.Need-same-length-2 Inv-loop μ-loop
 same-length-2 c = c .before .before .loop .inv .long
 
 returns : tie.Need-returns Inv-loop μ-loop
-returns c = going-ends _ _ _ _ _ _ _ (c .before .before .loop .inv) (c .before .goes-on .ensures) (c .if1 .left)
+returns c =
+    let at-loop = c .before .before in
+    let at-calls = at-loop .before .before in
+    let ran = going-ends _ _ _ _ _ _ _ (at-loop .loop .inv) (c .before .goes-on .ensures) (c .if1 .left) in
+    (ran, sound-run-kept _ _ _ (λ i. at-calls .before .slice-known .given i .fits) (λ i. at-calls .shared-slice-known .given i .fits) ran)
 
 pub run-calls-spec : {M : Type 1} → statement M
 run-calls-spec =
