@@ -9,15 +9,14 @@ use lib.ListN.{length}
 use lib.Dec.{leb}
 use borrow.Author.Tests.{le-leb, lt-leb}
 use Rattle.basis.specs.Tests.{either}
-use Rattle.octets.specs.Bytes.{toLe32, toBe32}
-use Rattle.octets.specs.Store.{put}
+use Rattle.octets.specs.Bytes.{toBe32}
 use Rattle.tree.specs.Pairs.{insertPair}
 use Rattle.page.specs.Header.{maxLevels, noPage, pageSize, isPage, rootOffset, fileSize, keyLength}
 use Rattle.page.specs.Page.{attributeAt, leafBit, capacity}
 use Rattle.page.specs.KeyOrder.{bytesOrder}
 use Rattle.page.specs.Reading.{Item, items}
 use Rattle.page.specs.declared.PageOffset.{PageOffset}
-use Rattle.layout.specs.Layout.{itemsIn, withEntries, newPage, splitPage}
+use Rattle.layout.specs.Layout.{itemsIn, withRoot, withSize, withEntries, newPage, splitPage}
 use Rattle.layout.specs.Entries.{chosen, childOf, rootEntries}
 use Rattle.insert.specs.Insertion.{Outcome as RuleOutcome, kept, split, bad, Step, step, takeIn, afterChild, insertUnder, atRoot, insertedBuffer}
 use Rattle.insert.specs.Answers.{outcomeOf, NextFits, visited}
@@ -140,10 +139,10 @@ next-fits limit k left b key r p n (Split q) e h = omega (arith, split-bound k l
 next-fits limit k left b key r p n Bad e h = tt
 
 -- a page without entries has none to replace
-pub two-for-none : (k : ℕ) (b key : List ℕ) (p c q : ℕ) (xs : List ℕ) {s : Step} → length (itemsIn k b p) ≡ 0 → takeIn k b p (items k 0 xs) (q + pageSize) ≡ s
-    → afterChild k b key p c (split q) ≡ s
+pub two-for-none : (k : ℕ) (b key : List ℕ) (p c q : ℕ) (xs : List ℕ) {end : ℕ} {s : Step} → length (itemsIn k b p) ≡ 0 → end ≡ q + pageSize
+    → takeIn k b p (items k 0 xs) end ≡ s → afterChild k b key p c (split q) ≡ s
 unfolding items
-two-for-none k b key p c q xs h e = rw (none (itemsIn k b p) h) e
+two-for-none k b key p c q xs h f e = rw (none (itemsIn k b p) h, ← f) e
   where
     none : (es : List Item) → length es ≡ 0 → es ≡ []
     none [] h = refl
@@ -164,15 +163,15 @@ module _ (b key : List ℕ) (p : ℕ) where
   unfolding visited
   visit-child {a} {c} t e h q = rw (t, ← e, h, ← q)
 
--- the root
-module _ (b key : List ℕ) (p q : ℕ) where
-  pub root-none : isPage (length b) (q + pageSize) ≡ false → b ≡ atRoot (length key) b key p (split q)
-  root-none t = rw t
+-- the root, behind the new page at q
+module _ (b key : List ℕ) (p q : ℕ) {root : ℕ} (behind : root ≡ q + pageSize) where
+  pub root-none : isPage (length b) root ≡ false → b ≡ atRoot (length key) b key p (split q)
+  root-none t = rw (← behind, t)
 
-  pub root-new : {es : List Item} {l1 l2 l3 : List ℕ} → isPage (length b) (q + pageSize) ≡ true → es ≡ rootEntries (length key) b key p q
-      → l1 ≡ newPage b (q + pageSize) 1 noPage noPage es → l2 ≡ put l1 0 (toLe32 (q + pageSize)) → l3 ≡ put l2 8 (toLe32 (q + pageSize + pageSize))
+  pub root-new : {end : ℕ} {es : List Item} {l1 l2 l3 : List ℕ} → isPage (length b) root ≡ true → es ≡ rootEntries (length key) b key p q
+      → l1 ≡ newPage b root 1 noPage noPage es → l2 ≡ withRoot l1 root → end ≡ root + pageSize → l3 ≡ withSize l2 end
       → l3 ≡ atRoot (length key) b key p (split q)
-  root-new t e e1 e2 e3 = rw t (e3 ∙ rw (e2, e1, e))
+  root-new t e e1 e2 f e3 = rw (← behind, t) (e3 ∙ rw (f, e2, e1, e))
 
 -- the whole
 pub pair-inserted : (b key : List ℕ) (r : ℕ) {root file : ℕ} {b′ out : List ℕ} {o : RuleOutcome} → length key ≡ keyLength b → root ≡ rootOffset b → file ≡ fileSize b

@@ -1,4 +1,4 @@
-// Pages as they are written: the entries gathered for a page, a page with its entries, a new page, and a page that is split.
+// The header and pages as they are written: their numbers, the entries gathered for a page, a page with its entries, a new page, and a page that is split.
 use page::Page;
 use page::PageOffset;
 use page::RecordNumber;
@@ -10,17 +10,85 @@ ghost use Rattle.octets.specs.Bytes.{toBe32};
 ghost use Rattle.octets.specs.Store.{put, window};
 ghost use Rattle.tree.specs.Order.{larger};
 ghost use Rattle.tree.specs.Pairs.{lastKey, insertPair};
-ghost use Rattle.page.specs.Header.{maxKey, pageSize, isPage};
+ghost use Rattle.page.specs.Header.{maxKey, pageSize, expressionPlace, isPage};
 ghost use Rattle.page.specs.Page.{capacity, entryOffset, keyAt};
 ghost use Rattle.page.specs.Within.{Within};
 ghost use Rattle.page.specs.KeyOrder.{bytesOrder};
 ghost use Rattle.page.specs.Reading.{items};
+ghost use Rattle.layout.specs.Layout.{withAttribute, withCount, withLeft, withRight, withRoot, withSize, headerBytes};
 ghost use Rattle.layout.specs.Layout.{itemsIn, encode, withEntries, newPage, linkBeyond, splitPage};
 ghost use Rattle.layout.specs.Entries.{chosen, childOf, replaced, raised, twoFor, rootEntries};
 ghost use Rattle.layout.specs.Given.{Given, Over, Listed, roomSize, chosenAt};
 
-// The room in which the entries of a page are gathered: the entry area and one entry more.
-pub const ROOM: usize = 604;
+// The room in which the entries of a page are gathered: the entry area and one entry more, with the longest key.
+pub const ROOM: usize = Page::ENTRY_AREA + page::MAX_KEY + 4;
+
+// Gives a page an attribute.
+fn set_attribute(index: &mut [u8], page: PageOffset, attribute: u32)
+    requires { ⌜ page .0 + pageSize ≤ length (now index) ⌝ }
+    ensures { λ _. ⌜ now (index .exit) ≡ withAttribute (now (index .entry)) (page .0) attribute ⌝ }
+{
+    octets::store_le16(index, page.0 as usize, attribute);
+}
+
+// Gives a page a count.
+fn set_count(index: &mut [u8], page: PageOffset, count: u32)
+    requires { ⌜ page .0 + pageSize ≤ length (now index) ⌝ }
+    ensures { λ _. ⌜ now (index .exit) ≡ withCount (now (index .entry)) (page .0) count ⌝ }
+{
+    octets::store_le16(index, page.0 as usize + Page::COUNT_PLACE, count);
+}
+
+// Gives a page a left neighbour.
+fn link_left(index: &mut [u8], page: PageOffset, left: PageOffset)
+    requires { ⌜ page .0 + pageSize ≤ length (now index) ⌝ }
+    ensures { λ _. ⌜ now (index .exit) ≡ withLeft (now (index .entry)) (page .0) (left .0) ⌝ }
+{
+    octets::store_le32(index, page.0 as usize + Page::LEFT_PLACE, left.0);
+}
+
+// Gives a page a right neighbour.
+fn link_right(index: &mut [u8], page: PageOffset, right: PageOffset)
+    requires { ⌜ page .0 + pageSize ≤ length (now index) ⌝ }
+    ensures { λ _. ⌜ now (index .exit) ≡ withRight (now (index .entry)) (page .0) (right .0) ⌝ }
+{
+    octets::store_le32(index, page.0 as usize + Page::RIGHT_PLACE, right.0);
+}
+
+// Gives the header a root offset.
+pub fn set_root(index: &mut [u8], root: PageOffset)
+    requires { ⌜ pageSize ≤ length (now index) ⌝ }
+    ensures { λ _. ⌜ now (index .exit) ≡ withRoot (now (index .entry)) (root .0) ⌝ }
+{
+    octets::store_le32(index, page::ROOT_PLACE, root.0);
+}
+
+// Gives the header the file size with which the file ends at an offset.
+pub fn set_file_end(index: &mut [u8], end: PageOffset)
+    requires { ⌜ pageSize ≤ length (now index) ⌝ }
+    ensures { λ _. ⌜ now (index .exit) ≡ withSize (now (index .entry)) (end .0) ⌝ }
+{
+    octets::store_le32(index, page::SIZE_PLACE, end.0);
+}
+
+// Writes a header whole: zero after the key expression.
+pub fn new_header(index: &mut [u8], root: PageOffset, end: PageOffset, k: u32, expression: &[u8])
+    requires { ⌜ (pageSize ≤ length (now index)) × (expressionPlace + length (now expression) ≤ pageSize) ⌝ }
+    ensures { λ _. ⌜ now (index .exit) ≡ put (now (index .entry)) 0 (headerBytes (root .0) (end .0) k (now (expression .entry))) ⌝ }
+{
+    set_root(index, root);
+    octets::store_le32(index, page::FREE_PLACE, page::NO_PAGE);
+    set_file_end(index, end);
+    octets::store_le16(index, page::KEY_LENGTH_PLACE, k);
+    octets::store_le16(index, page::FEATURES_PLACE, page::GOOD_FEATURES);
+    octets::copy_in(index, page::EXPRESSION_PLACE, expression);
+    octets::fill(
+        index,
+        page::EXPRESSION_PLACE + expression.len(),
+        Page::SIZE,
+        0,
+    );
+}
 
 // Gives a page so many entries, held in a byte string: zero after the last.
 pub fn with_entries(index: &mut [u8], k: usize, page: PageOffset, count: usize, entries: &[u8])
@@ -28,7 +96,7 @@ pub fn with_entries(index: &mut [u8], k: usize, page: PageOffset, count: usize, 
     ensures { λ _. ⌜ now (index .exit) ≡ withEntries (now (index .entry)) (page .0) (items k count (now (entries .entry))) ⌝ }
 {
     let at = page.0 as usize;
-    octets::store_le16(index, at + 2, count as u32);
+    set_count(index, page, count as u32);
     octets::copy_in(index, at + Page::ENTRIES_START, entries);
     octets::fill(
         index,
@@ -43,10 +111,9 @@ pub fn new_page(index: &mut [u8], k: usize, page: PageOffset, head: Page, entrie
     requires { ⌜ Given (now index) k (page .0) (head .count) (now entries) ⌝ }
     ensures { λ _. ⌜ now (index .exit) ≡ newPage (now (index .entry)) (page .0) (head .attribute) (head .left .0) (head .right .0) (items k (head .count) (now (entries .entry))) ⌝ }
 {
-    let at = page.0 as usize;
-    octets::store_le16(index, at, head.attribute);
-    octets::store_le32(index, at + 4, head.left.0);
-    octets::store_le32(index, at + 8, head.right.0);
+    set_attribute(index, page, head.attribute);
+    link_left(index, page, head.left);
+    link_right(index, page, head.right);
     with_entries(index, k, page, head.count as usize, entries);
 }
 
@@ -55,7 +122,7 @@ fn link_beyond(index: &mut [u8], beyond: PageOffset, new: PageOffset)
     ensures { λ _. ⌜ now (index .exit) ≡ linkBeyond (now (index .entry)) (beyond .0) (new .0) ⌝ }
 {
     if page::is_page(index.len(), beyond) {
-        octets::store_le32(index, beyond.0 as usize + 4, new.0);
+        link_left(index, beyond, new);
     }
 }
 
@@ -71,15 +138,14 @@ pub fn split_page(
     requires { ⌜ Over (now index) k (page .0) count (now entries) × (isPage (length (now index)) (new .0) ≡ true) ⌝ }
     ensures { λ _. ⌜ now (index .exit) ≡ splitPage (now (index .entry)) (page .0) (items k count (now (entries .entry))) (new .0) ⌝ }
 {
-    let at = page.0 as usize;
     let head = Page::at(index, page);
     let attribute = head.attribute - head.attribute % 2;
     let right = head.right;
     let lower = (count + 1) / 2;
     let cut = lower * (k + 4);
     with_entries(index, k, page, lower, &entries[..cut]);
-    octets::store_le16(index, at, attribute);
-    octets::store_le32(index, at + 8, new.0);
+    set_attribute(index, page, attribute);
+    link_right(index, page, new);
     link_beyond(index, right, new);
     let upper = Page {
         attribute: attribute,
@@ -221,7 +287,7 @@ pub fn gather_pair(
     let at = i * (k + 4);
     copy_entries(room, 0, index, k, page, 0, i);
     octets::copy_in(room, at, key);
-    octets::store_be32(room, at + k, number.0);
+    page::put_record_number(room, at + k, number);
     copy_entries(room, at + k + 4, index, k, page, i, count);
 }
 
@@ -246,7 +312,7 @@ pub fn gather_two(
     copy_last_key(room, at, index, key, child);
     copy_number(room, at + k, index, k, page, i);
     copy_larger_key(room, next, index, key, page, i);
-    octets::store_be32(room, next + k, new.0);
+    page::put_child(room, next + k, new);
     copy_entries(room, next + k + 4, index, k, page, i + 1, count);
 }
 
@@ -257,7 +323,7 @@ pub fn gather_root(room: &mut [u8], index: &[u8], key: &[u8], old: PageOffset, n
 {
     let k = key.len();
     copy_last_key(room, 0, index, key, old);
-    octets::store_be32(room, k, old.0);
+    page::put_child(room, k, old);
     copy_last_key(room, k + 4, index, key, new);
-    octets::store_be32(room, k + 4 + k, new.0);
+    page::put_child(room, k + 4 + k, new);
 }

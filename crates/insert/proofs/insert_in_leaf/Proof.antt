@@ -24,14 +24,14 @@ slice-aggregate-gather-pair c = search needs
 gather-pair-requires : tie.Need-gather-pair-requires
 gather-pair-requires c κs = (counted (c .before .before), search needs)
 
-add-end : tie.Need-add-end
-add-end c = let s = products (c .before .before .before .before) in omega arith
+add-size : tie.Need-add-size
+add-size c = let s = products (c .before .before .before .before) in omega arith
 
-add-end-2 : tie.Need-add-end-2
-add-end-2 c = search needs
+add-size-2 : tie.Need-add-size-2
+add-size-2 c = search needs
 
-mul-end : tie.Need-mul-end
-mul-end c = let s = products (c .before .before .before .before) in omega arith
+mul-size : tie.Need-mul-size
+mul-size c = let s = products (c .before .before .before .before) in omega arith
 
 add-take-in : tie.Need-add-take-in
 add-take-in c = let s = products (c .before .before .before .before .before) in omega arith
@@ -60,9 +60,9 @@ insert-in-leaf-spec =
     entry-count-requires
     slice-aggregate-gather-pair
     gather-pair-requires
-    add-end
-    add-end-2
-    mul-end
+    add-size
+    add-size-2
+    mul-size
     add-take-in
     array-share-prefix-room
     slice-aggregate-take-in

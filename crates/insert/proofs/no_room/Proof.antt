@@ -4,7 +4,6 @@ use native.Mathlib.Omega.{arith}
 use Rattle.page.specs.Header.{maxLevels}
 use Rattle.page.specs.HeaderLaws.{GoodHeader, good-header}
 use Rattle.insert.specs.RoomLaws.{path-levels, path-run, pages-few, room-told}
-use Rattle.insert.specs.RoomLaws.{path-levels, pages-few, room-told}
 use borrow.Author.Needs.{needs}
 use Rattle.insert.proofs.no_room.Statement.{statement}
 use Rattle.insert.proofs.no_room.Tie as tie

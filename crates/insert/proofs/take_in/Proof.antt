@@ -21,7 +21,7 @@ same-length c = search needs
 returns : tie.Need-returns
 returns c =
     let args = c .before .before .before .before .before .before .before .before .args in
-    takes-kept (args .k) (args .index .now) (args .page .0) _ (args .file)
+    takes-kept (args .k) (args .index .now) (args .page .0) _ (args .end .0)
     (rw (length-items (args .k) (args .count) (args .entries .now)) (omega (arith, c .before .before .before .before .if1 .taken, c .before .before .before .before .before .capacity .ensures)))
     (c .before .before .with-entries .ensures)
 
@@ -31,7 +31,7 @@ is-page-requires c κs = search needs
 returns-2 : tie.Need-returns-2
 returns-2 c =
     let args = c .before .before .before .before .before .before .args in
-    takes-none (args .k) (args .index .now) (args .page .0) _ (args .file)
+    takes-none (args .k) (args .index .now) (args .page .0) _ (args .end .0)
     (rw (length-items (args .k) (args .count) (args .entries .now)) (omega (arith, c .before .before .if1 .left, c .before .before .before .capacity .ensures)))
     (sym (c .before .is-page .ensures) ∙ not-true _ (c .if2 .taken))
 
@@ -44,7 +44,7 @@ same-length-2 c = search needs
 returns-3 : tie.Need-returns-3
 returns-3 c =
     let args = c .before .before .before .before .before .before .before .before .before .before .args in
-    takes-split (args .k) (args .index .now) (args .page .0) _ (args .file)
+    takes-split (args .k) (args .index .now) (args .page .0) _ (args .end .0)
     (rw (length-items (args .k) (args .count) (args .entries .now)) (omega (arith, c .before .before .before .before .before .before .if1 .left, c .before .before .before .before .before .before .before .capacity .ensures)))
     (sym (c .before .before .before .before .before .is-page .ensures) ∙ not-false _ (c .before .before .before .before .if2 .left))
     (c .before .before .split-page .ensures)

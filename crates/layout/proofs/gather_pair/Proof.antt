@@ -29,11 +29,11 @@ copy-entries-requires c κs =
 copy-in-requires : tie.Need-copy-in-requires
 copy-in-requires c κs = let s = products (c .before .before .before .before .before) in omega arith
 
-add-store-be32 : tie.Need-add-store-be32
-add-store-be32 c = let s = products (c .before .before .before .before .before .before .before .before .before) in omega arith
+add-put-record-number : tie.Need-add-put-record-number
+add-put-record-number c = let s = products (c .before .before .before .before .before .before .before .before .before) in omega arith
 
-store-be32-requires : tie.Need-store-be32-requires
-store-be32-requires c κs = let s = products (c .before .before .before .before .before .before .before .before .before) in omega arith
+put-record-number-requires : tie.Need-put-record-number-requires
+put-record-number-requires c κs = let s = products (c .before .before .before .before .before .before .before .before .before) in omega arith
 
 add-copy-entries : tie.Need-add-copy-entries
 add-copy-entries c = let s = products (c .before .before .before .before .before .before .before .before .before .before .before .before .before) in omega arith
@@ -51,7 +51,7 @@ same-length c = search needs
 returns : tie.Need-returns
 returns c =
     let start = c .before .before .before .before .before .before .before .before .before .before .before .before .before .before .before .before .before .before .before .before in
-    pair-gathered (start .args .key .now) (start .pre .0) (c .before .before .before .before .before .before .before .before .before .before .before .before .before .before .before .before .first-at-or-above .ensures .0) _ _ (c .before .before .before .before .before .before .before .before .before .before .before .before .before .before .copy-entries .ensures) (c .before .before .before .before .before .before .before .before .before .before .copy-in .ensures) (c .before .before .before .before .before .before .store-be32 .ensures) (c .before .before .copy-entries2 .ensures)
+    pair-gathered (start .args .key .now) (start .pre .0) (c .before .before .before .before .before .before .before .before .before .before .before .before .before .before .before .before .first-at-or-above .ensures .0) _ _ (c .before .before .before .before .before .before .before .before .before .before .before .before .before .before .copy-entries .ensures) (c .before .before .before .before .before .before .before .before .before .before .copy-in .ensures) (c .before .before .before .before .before .before .put-record-number .ensures) (c .before .before .copy-entries2 .ensures)
 
 pub gather-pair-spec : {M : Type 1} → statement M
 gather-pair-spec =
@@ -62,8 +62,8 @@ gather-pair-spec =
     mul-at
     copy-entries-requires
     copy-in-requires
-    add-store-be32
-    store-be32-requires
+    add-put-record-number
+    put-record-number-requires
     add-copy-entries
     add-copy-entries-2
     copy-entries-requires-2

@@ -56,12 +56,12 @@ copy-larger-key-requires : tie.Need-copy-larger-key-requires
 copy-larger-key-requires c κs =
     let s = products (c .before .before .before .before .before .before .before .before .before .before .before .before .before) in (entry (c .before .before .before .before .before .before .before .before .before .before .before .before .before), omega arith)
 
-add-store-be32 : tie.Need-add-store-be32
-add-store-be32 c =
+add-put-child : tie.Need-add-put-child
+add-put-child c =
     let s = products (c .before .before .before .before .before .before .before .before .before .before .before .before .before .before .before .before .before) in omega arith
 
-store-be32-requires : tie.Need-store-be32-requires
-store-be32-requires c κs =
+put-child-requires : tie.Need-put-child-requires
+put-child-requires c κs =
     let s = products (c .before .before .before .before .before .before .before .before .before .before .before .before .before .before .before .before .before) in omega arith
 
 add-copy-entries : tie.Need-add-copy-entries
@@ -85,7 +85,7 @@ copy-entries-requires-2 c κs =
     let fits : i * (length (args .key .now) + 4) + length (args .key .now) + 4 + length (args .key .now) + 4 + (args .count - (i + 1)) * (length (args .key .now) + 4) ≤ roomSize = omega arith in (
       listed-within (c .before .before .before .before .before .before .before .before .before .before .before .before .before .before .before .before .before .before .before .before .before .before .before .before .before .pre .0),
       first,
-      omega (arith, c .before .before .before .before .before .before .before .before .before .before .before .before .before .before .before .before .before .before .before .before .before .before .before .before .before .pre .2, c .before .before .before .store-be32 .kept .0, c .before .before .before .before .before .before .before .copy-larger-key .kept .0, c .before .before .before .before .before .before .before .before .before .before .before .copy-number .kept .0, c .before .before .before .before .before .before .before .before .before .before .before .before .before .before .before .copy-last-key .kept .0, c .before .before .before .before .before .before .before .before .before .before .before .before .before .before .before .before .before .before .before .copy-entries .kept .0),
+      omega (arith, c .before .before .before .before .before .before .before .before .before .before .before .before .before .before .before .before .before .before .before .before .before .before .before .before .before .pre .2, c .before .before .before .put-child .kept .0, c .before .before .before .before .before .before .before .copy-larger-key .kept .0, c .before .before .before .before .before .before .before .before .before .before .before .copy-number .kept .0, c .before .before .before .before .before .before .before .before .before .before .before .before .before .before .before .copy-last-key .kept .0, c .before .before .before .before .before .before .before .before .before .before .before .before .before .before .before .before .before .before .before .copy-entries .kept .0),
     )
 
 same-length : tie.Need-same-length
@@ -95,7 +95,7 @@ returns : tie.Need-returns
 returns c =
     let start = c .before .before .before .before .before .before .before .before .before .before .before .before .before .before .before .before .before .before .before .before .before .before .before .before .before .before .before .before in
     let chosen = c .before .before .before .before .before .before .before .before .before .before .before .before .before .before .before .before .before .before .before .before .before .before .before .before .chosen-entry .ensures in
-    two-gathered (start .args .key .now) (start .pre .0) (chosen .0) (chosen .1) _ _ _ (c .before .before .before .before .before .before .before .before .before .before .before .before .before .before .before .before .before .before .before .before .before .before .copy-entries .ensures) (c .before .before .before .before .before .before .before .before .before .before .before .before .before .before .before .before .before .before .copy-last-key .ensures) (c .before .before .before .before .before .before .before .before .before .before .before .before .before .before .copy-number .ensures) (c .before .before .before .before .before .before .before .before .before .before .copy-larger-key .ensures) (c .before .before .before .before .before .before .store-be32 .ensures) (c .before .before .copy-entries2 .ensures)
+    two-gathered (start .args .key .now) (start .pre .0) (chosen .0) (chosen .1) _ _ _ (c .before .before .before .before .before .before .before .before .before .before .before .before .before .before .before .before .before .before .before .before .before .before .copy-entries .ensures) (c .before .before .before .before .before .before .before .before .before .before .before .before .before .before .before .before .before .before .copy-last-key .ensures) (c .before .before .before .before .before .before .before .before .before .before .before .before .before .before .copy-number .ensures) (c .before .before .before .before .before .before .before .before .before .before .copy-larger-key .ensures) (c .before .before .before .before .before .before .put-child .ensures) (c .before .before .copy-entries2 .ensures)
 
 pub gather-two-spec : {M : Type 1} → statement M
 gather-two-spec =
@@ -111,8 +111,8 @@ gather-two-spec =
     add-copy-number
     copy-number-requires
     copy-larger-key-requires
-    add-store-be32
-    store-be32-requires
+    add-put-child
+    put-child-requires
     add-copy-entries
     add-copy-entries-2
     add-copy-entries-3
