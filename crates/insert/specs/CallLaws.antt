@@ -62,7 +62,8 @@ module _ (b key : List ℕ) (r : ℕ) where
             unfolding insertRule
             refused-30 e = rw (header, eq-eqb (length key) (keyLength b) same, ne-eqb r 0 some, sound, absent, e, insertRule)
 
-            pub accepted-pair : {out : List ℕ} → noRoom (keyLength b) b key ≡ false → out ≡ insertedBuffer (keyLength b) b key r → insertRule b key r ≡ left out Accepted
+            pub accepted-pair : {out : List ℕ} → noRoom (keyLength b) b key ≡ false → out ≡ insertedBuffer (keyLength b) b key r
+                → insertRule b key r ≡ left out Accepted
             unfolding insertRule
             accepted-pair e q = rw (header, eq-eqb (length key) (keyLength b) same, ne-eqb r 0 some, sound, absent, e, insertRule, q)
 

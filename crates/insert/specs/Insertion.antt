@@ -13,7 +13,7 @@ use Rattle.page.specs.Reading.{Item}
 use Rattle.layout.specs.Layout.{itemsIn, withRoot, withSize, withEntries, newPage, splitPage}
 use Rattle.layout.specs.Entries.{chosen, childOf, replaced, raised, twoFor, rootEntries}
 
--- what an insertion under a page leaves for the page above to do: nothing, the file having so many bytes; or to take in the new page at q, the last of the
+-- what an insertion under a page leaves for the page above to do: nothing, the file having n bytes; or to take in the new page at q, the last of the
 -- file. The third does not occur on a sound index with room: it keeps the rule total
 pub data Outcome : Type 0 where
   kept : ℕ → Outcome
@@ -41,7 +41,7 @@ afterChild k b key p c (kept n) = step (raised k b key p) (kept n)
 afterChild k b key p c (split q) = takeIn k b p (replaced key (twoFor k b key c q) (itemsIn k b p)) (q + pageSize)
 afterChild k b key p c bad = step b bad
 
--- the pair goes in under the page at p, with so many levels left, falling from 11, the file having n bytes: into the page if it is a leaf, else under the
+-- the pair goes in under the page at p, with the levels left falling from 11, the file having n bytes: into the page if it is a leaf, else under the
 -- child that is chosen
 unfoldable pub insertUnder : ℕ → ℕ → List ℕ → List ℕ → ℕ → ℕ → ℕ → Step
 insertUnder k zero b key r p n = step b bad

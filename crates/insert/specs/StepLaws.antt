@@ -84,7 +84,7 @@ module _ (b key : List ℕ) (p : ℕ) where
       (λ u. (t, u, ap (λ (q : PageOffset). q .0) (same-child (rw (t, u) at e)))))
       (λ t. bad-child (sym (rw t at e)))
 
--- insertion by cases of the visit, with so many levels left
+-- insertion by cases of the visit
 module _ (b key : List ℕ) (r p n : ℕ) where
   pub under-bad : (levels : ℕ) → (levels ≡ 0 → ⊥) → visit.Bad ≡ visited b key p → insertUnder (length key) levels b key r p n ≡ step b bad
   unfolding insertUnder
@@ -98,7 +98,8 @@ module _ (b key : List ℕ) (r p n : ℕ) where
   under-leaf (suc left) s e = let v = visited-leaf b key p e in rw (v .0, v .1)
 
   pub under-child : (levels : ℕ) (c : PageOffset) {b′ : List ℕ} {o : RuleOutcome} → (levels ≡ 0 → ⊥) → visit.Child c ≡ visited b key p
-      → insertUnder (length key) (levels - 1) b key r (c .0) n ≡ step b′ o → insertUnder (length key) levels b key r p n ≡ afterChild (length key) b′ key p (c .0) o
+      → insertUnder (length key) (levels - 1) b key r (c .0) n ≡ step b′ o
+      → insertUnder (length key) levels b key r p n ≡ afterChild (length key) b′ key p (c .0) o
   unfolding insertUnder
   under-child zero c s e d = absurd (s refl)
   under-child (suc left) c s e d =
@@ -113,7 +114,8 @@ split-here k b p es n q e = either (leb (length es) (capacity k))
     (λ t. kept-split (rw t at e))
     (λ t. either (isPage (length b) n) (λ u. same-split (rw (t, u) at e)) (λ u. bad-split (rw (t, u) at e)))
 
-after-bound : (k : ℕ) (b key : List ℕ) (p c : ℕ) (o : RuleOutcome) (q m : ℕ) → ((x : ℕ) → o ≡ split x → x + pageSize ≤ m) → afterChild k b key p c o .outcome ≡ split q → q + pageSize ≤ m + pageSize
+after-bound : (k : ℕ) (b key : List ℕ) (p c : ℕ) (o : RuleOutcome) (q m : ℕ)
+    → ((x : ℕ) → o ≡ split x → x + pageSize ≤ m) → afterChild k b key p c o .outcome ≡ split q → q + pageSize ≤ m + pageSize
 after-bound k b key p c (kept n) q m h e = kept-split e
 after-bound k b key p c (split x) q m h e = omega (arith, h x refl, split-here k b p _ (x + pageSize) q e)
 after-bound k b key p c bad q m h e = bad-split e
@@ -158,8 +160,8 @@ module _ (b key : List ℕ) (p : ℕ) where
   unfolding visited
   visit-leaf {a} t e h = rw (t, ← e, h)
 
-  pub visit-child : {a : ℕ} {c : PageOffset} → isPage (length b) p ≡ true → a ≡ attributeAt b p → leafBit a ≡ false → c .0 ≡ childOf (chosen key (itemsIn (length key) b p))
-      → visit.Child c ≡ visited b key p
+  pub visit-child : {a : ℕ} {c : PageOffset} → isPage (length b) p ≡ true → a ≡ attributeAt b p → leafBit a ≡ false
+      → c .0 ≡ childOf (chosen key (itemsIn (length key) b p)) → visit.Child c ≡ visited b key p
   unfolding visited
   visit-child {a} {c} t e h q = rw (t, ← e, h, ← q)
 
@@ -174,7 +176,7 @@ module _ (b key : List ℕ) (p q : ℕ) {root : ℕ} (behind : root ≡ q + page
   root-new t e e1 e2 f e3 = rw (← behind, t) (e3 ∙ rw (f, e2, e1, e))
 
 -- the whole
-pub pair-inserted : (b key : List ℕ) (r : ℕ) {root file : ℕ} {b′ out : List ℕ} {o : RuleOutcome} → length key ≡ keyLength b → root ≡ rootOffset b → file ≡ fileSize b
-    → insertUnder (length key) maxLevels b key r root file ≡ step b′ o → out ≡ atRoot (length key) b′ key root o → out ≡ insertedBuffer (keyLength b) b key r
+pub pair-inserted : (b key : List ℕ) (r : ℕ) {root file : ℕ} {b′ out : List ℕ} {o : RuleOutcome}
+    → length key ≡ keyLength b → root ≡ rootOffset b → file ≡ fileSize b → insertUnder (length key) maxLevels b key r root file ≡ step b′ o → out ≡ atRoot (length key) b′ key root o → out ≡ insertedBuffer (keyLength b) b key r
 unfolding insertedBuffer
 pair-inserted b key r ek er ef e q = q ∙ rw (← ek, ← er, ← ef, e)

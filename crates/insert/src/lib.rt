@@ -50,7 +50,7 @@ pub enum Visit {
     Child(PageOffset),
 }
 
-// Gives a page so many entries, held in a byte string, or splits it: the new page is at the file's end.
+// Gives a page `count` entries, held in a byte string, or splits it: the new page begins at the file's end.
 fn take_in(
     index: &mut [u8],
     k: usize,
@@ -60,7 +60,8 @@ fn take_in(
     end: PageOffset,
 ) -> Outcome
     requires { ⌜ Over (now index) k (page .0) count (now entries) ⌝ }
-    ensures { λ r. ⌜ takeIn k (now (index .entry)) (page .0) (items k count (now (entries .entry))) (end .0) ≡ step (now (index .exit)) (outcomeOf r) ⌝ }
+    ensures { λ r. ⌜ takeIn k (now (index .entry)) (page .0) (items k count (now (entries .entry))) (end .0)
+        ≡ step (now (index .exit)) (outcomeOf r) ⌝ }
 {
     if count <= Page::capacity(k) {
         layout::with_entries(index, k, page, count, entries);
@@ -82,7 +83,9 @@ fn insert_in_leaf(
     end: PageOffset,
 ) -> Outcome
     requires { ⌜ (length (now key) ≤ maxKey) × (isPage (length (now index)) (page .0) ≡ true) ⌝ }
-    ensures { λ r. ⌜ takeIn (length (now (key .entry))) (now (index .entry)) (page .0) (insertPair bytesOrder (now (key .entry)) (toBe32 (number .0)) (itemsIn (length (now (key .entry))) (now (index .entry)) (page .0))) (end .0) ≡ step (now (index .exit)) (outcomeOf r) ⌝ }
+    ensures { λ r. ⌜ takeIn (length (now (key .entry))) (now (index .entry)) (page .0)
+        (insertPair bytesOrder (now (key .entry)) (toBe32 (number .0)) (itemsIn (length (now (key .entry))) (now (index .entry)) (page .0)))
+        (end .0) ≡ step (now (index .exit)) (outcomeOf r) ⌝ }
 {
     let mut room = [0u8; layout::ROOM];
     let count = layout::entry_count(index, key.len(), page);
@@ -100,7 +103,8 @@ fn take_in_two(
     new: PageOffset,
 ) -> Outcome
     requires { ⌜ (length (now key) ≤ maxKey) × (isPage (length (now index)) (page .0) ≡ true) × (new .0 + pageSize ≤ maxOffset) ⌝ }
-    ensures { λ r. ⌜ afterChild (length (now (key .entry))) (now (index .entry)) (now (key .entry)) (page .0) (child .0) (split (new .0)) ≡ step (now (index .exit)) (outcomeOf r) ⌝ }
+    ensures { λ r. ⌜ afterChild (length (now (key .entry))) (now (index .entry)) (now (key .entry)) (page .0) (child .0) (split (new .0))
+        ≡ step (now (index .exit)) (outcomeOf r) ⌝ }
 {
     let mut room = [0u8; layout::ROOM];
     let end = page::next_page(new);
@@ -122,7 +126,8 @@ fn after_child(
     below: Outcome,
 ) -> Outcome
     requires { ⌜ (length (now key) ≤ maxKey) × (isPage (length (now index)) (page .0) ≡ true) × NextFits maxOffset below ⌝ }
-    ensures { λ r. ⌜ afterChild (length (now (key .entry))) (now (index .entry)) (now (key .entry)) (page .0) (child .0) (outcomeOf below) ≡ step (now (index .exit)) (outcomeOf r) ⌝ }
+    ensures { λ r. ⌜ afterChild (length (now (key .entry))) (now (index .entry)) (now (key .entry)) (page .0) (child .0) (outcomeOf below)
+        ≡ step (now (index .exit)) (outcomeOf r) ⌝ }
 {
     match below {
         Outcome::Kept(end) => {
@@ -149,7 +154,7 @@ fn visit_page(index: &[u8], key: &[u8], page: PageOffset) -> Visit
     Visit::Child(layout::chosen_child(index, key, page))
 }
 
-// Insertion under a page, with so many levels left.
+// Insertion under a page, with `levels` levels left and the file's end at `end`.
 fn insert_under(
     index: &mut [u8],
     key: &[u8],
@@ -159,7 +164,8 @@ fn insert_under(
     end: PageOffset,
 ) -> Outcome
     requires { ⌜ (length (now key) ≤ maxKey) × (end .0 + pageSize * levels ≤ maxOffset) ⌝ }
-    ensures { λ r. ⌜ insertUnder (length (now (key .entry))) levels (now (index .entry)) (now (key .entry)) (number .0) (page .0) (end .0) ≡ step (now (index .exit)) (outcomeOf r) ⌝ }
+    ensures { λ r. ⌜ insertUnder (length (now (key .entry))) levels (now (index .entry)) (now (key .entry)) (number .0) (page .0) (end .0)
+        ≡ step (now (index .exit)) (outcomeOf r) ⌝ }
 {
     if levels == 0 {
         return Outcome::Bad;
@@ -247,7 +253,7 @@ fn on_top(full: bool, path: Path) -> Path
     }
 }
 
-// The path to a key from a page on, with so many levels left.
+// The path to a key from a page on, with `levels` levels left.
 fn path_from(index: &[u8], key: &[u8], page: PageOffset, levels: u32) -> Path
     requires { ⌜ (length (now key) ≤ maxKey) × (levels ≤ maxLevels) ⌝ }
     ensures { λ r. ⌜ r ≡ pathFrom (length (now (key .entry))) levels (now (index .entry)) (now (key .entry)) (page .0) ⌝ }

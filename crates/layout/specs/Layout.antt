@@ -1,4 +1,4 @@
--- Rules: the header and pages as bytes: what they hold once they are written. Cited by insertion and by fresh. A buffer b is read as far as its own length here.
+-- Rules: the header and pages as bytes, once they are written. Cited by insertion and by fresh. A buffer b is read as far as its own length here.
 use Prim.Native.Nat.{ℕ, _+_, _-_, _%_}
 use mathlib.Core.Bool.{cond}
 use mathlib.Core.List.{List, [], _∷_, _++_}

@@ -17,7 +17,8 @@ use Rattle.page.specs.Reading.{Item, items}
 use Rattle.page.specs.PageLaws.{entries-fit, capacity-small}
 use Rattle.page.specs.HeaderLaws.{is-page}
 use Rattle.page.specs.ReadingLaws.{items-take}
-use Rattle.layout.specs.Layout.{withCount, withRoot, withSize, headerBytes, encode, area, withEntries, newPage, linkBeyond, splitPage}
+use Rattle.layout.specs.Layout.{withAttribute, withCount, withLeft, withRight, withRoot, withSize, headerBytes}
+use Rattle.layout.specs.Layout.{encode, area, withEntries, newPage, withoutRoot, linkBeyond, splitPage}
 use Rattle.layout.specs.Given.{Given, Over, roomSize}
 use Rattle.layout.specs.ItemLaws.{length-items, encode-items, take-items, drop-items}
 
@@ -89,11 +90,12 @@ module _ {b s : List ℕ} {k p n o : ℕ} {l1 l2 l3 : List ℕ} (g : Given b k p
       let z = sizes g in
       let f : o ≡ p + entriesStart + length s = eo ∙ z .end in
       let r : p + pageSize - o ≡ entryArea - length s = omega (arith, f, z .bytes) in
-      e3 ∙ rw (r, f, e2, e1, length-items k n s, encode-whole k n s (g .size)) (sym (put-append (put b (p + 2) (toLe16 n)) (p + entriesStart) s (replicate (entryArea - length s) 0)))
+      e3 ∙ rw (r, f, e2, e1, length-items k n s, encode-whole k n s (g .size))
+      (sym (put-append (withCount b p n) (p + entriesStart) s (replicate (entryArea - length s) 0)))
 
 -- a page written whole, as the stores of its head and its entries
 new-page-stores : (b : List ℕ) (p a l r : ℕ) (es : List Item)
-    → newPage b p a l r es ≡ put (put (put (put (put b p (toLe16 a)) (p + 2) (toLe16 (length es))) (p + 4) (toLe32 l)) (p + 8) (toLe32 r)) (p + entriesStart) (area es)
+    → newPage b p a l r es ≡ put (withRight (withLeft (withCount (withAttribute b p a) p (length es)) p l) p r) (p + entriesStart) (area es)
 unfolding newPage
 new-page-stores b p a l r es =
     let n4 : p + 2 + 2 ≡ p + 4 = omega arith in
@@ -114,7 +116,7 @@ new-page-stores b p a l r es =
     )
 
 pub new-page-by : (b : List ℕ) (p a l r : ℕ) (es : List Item) {l1 l2 l3 l4 : List ℕ}
-    → l1 ≡ put b p (toLe16 a) → l2 ≡ put l1 (p + 4) (toLe32 l) → l3 ≡ put l2 (p + 8) (toLe32 r) → l4 ≡ withEntries l3 p es → l4 ≡ newPage b p a l r es
+    → l1 ≡ withAttribute b p a → l2 ≡ withLeft l1 p l → l3 ≡ withRight l2 p r → l4 ≡ withEntries l3 p es → l4 ≡ newPage b p a l r es
 unfolding withEntries
 new-page-by b p a l r es {l1} {l2} {l3} {l4} e1 e2 e3 e4 =
     let n = toLe16 (length es) in
@@ -173,8 +175,8 @@ module _ {b s : List ℕ} {k p n : ℕ} (g : Over b k p n s) where
   -- the stores of a split
   pub split-by : (q : ℕ) {a r : ℕ} {l1 l2 l3 l4 l5 : List ℕ} → a ≡ attributeAt b p → r ≡ rightAt b p
       → l1 ≡ withEntries b p (items k ((n + 1) / 2) (take ((n + 1) / 2 * (k + 4)) s))
-      → l2 ≡ put l1 p (toLe16 (a - a % 2)) → l3 ≡ put l2 (p + 8) (toLe32 q) → l4 ≡ linkBeyond l3 r q
-      → l5 ≡ newPage l4 q (a - a % 2) p r (items k (n - (n + 1) / 2) (take (length s - (n + 1) / 2 * (k + 4)) (drop ((n + 1) / 2 * (k + 4)) s)))
+      → l2 ≡ withAttribute l1 p (withoutRoot a) → l3 ≡ withRight l2 p q → l4 ≡ linkBeyond l3 r q
+      → l5 ≡ newPage l4 q (withoutRoot a) p r (items k (n - (n + 1) / 2) (take (length s - (n + 1) / 2 * (k + 4)) (drop ((n + 1) / 2 * (k + 4)) s)))
       → l5 ≡ splitPage b p (items k n s) q
   unfolding splitPage
   split-by q ea er e1 e2 e3 e4 e5 =

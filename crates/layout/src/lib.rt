@@ -63,7 +63,7 @@ pub fn set_root(index: &mut [u8], root: PageOffset)
     octets::store_le32(index, page::ROOT_PLACE, root.0);
 }
 
-// Gives the header the file size with which the file ends at an offset.
+// Gives the header the file size of a file that ends at an offset.
 pub fn set_file_end(index: &mut [u8], end: PageOffset)
     requires { ⌜ pageSize ≤ length (now index) ⌝ }
     ensures { λ _. ⌜ now (index .exit) ≡ withSize (now (index .entry)) (end .0) ⌝ }
@@ -90,7 +90,7 @@ pub fn new_header(index: &mut [u8], root: PageOffset, end: PageOffset, k: u32, e
     );
 }
 
-// Gives a page so many entries, held in a byte string: zero after the last.
+// Gives a page `count` entries, held in a byte string: zero after the last.
 pub fn with_entries(index: &mut [u8], k: usize, page: PageOffset, count: usize, entries: &[u8])
     requires { ⌜ Given (now index) k (page .0) count (now entries) ⌝ }
     ensures { λ _. ⌜ now (index .exit) ≡ withEntries (now (index .entry)) (page .0) (items k count (now (entries .entry))) ⌝ }
@@ -109,7 +109,8 @@ pub fn with_entries(index: &mut [u8], k: usize, page: PageOffset, count: usize, 
 // Writes a page whole.
 pub fn new_page(index: &mut [u8], k: usize, page: PageOffset, head: Page, entries: &[u8])
     requires { ⌜ Given (now index) k (page .0) (head .count) (now entries) ⌝ }
-    ensures { λ _. ⌜ now (index .exit) ≡ newPage (now (index .entry)) (page .0) (head .attribute) (head .left .0) (head .right .0) (items k (head .count) (now (entries .entry))) ⌝ }
+    ensures { λ _. ⌜ now (index .exit) ≡ newPage (now (index .entry)) (page .0) (head .attribute) (head .left .0) (head .right .0)
+        (items k (head .count) (now (entries .entry))) ⌝ }
 {
     set_attribute(index, page, head.attribute);
     link_left(index, page, head.left);
@@ -126,7 +127,7 @@ fn link_beyond(index: &mut [u8], beyond: PageOffset, new: PageOffset)
     }
 }
 
-// Splits a page that is to have so many entries, held in a byte string: the lower half stays, rounded up, and the rest go to a new page.
+// Splits a page that is to have `count` entries, held in a byte string: the lower half stays, rounded up, and the rest go to a new page.
 pub fn split_page(
     index: &mut [u8],
     k: usize,
@@ -248,7 +249,8 @@ fn copy_number(to: &mut [u8], at: usize, index: &[u8], k: usize, page: PageOffse
 // Copies the last key of a page, or a given key where the page has none.
 pub fn copy_last_key(to: &mut [u8], at: usize, index: &[u8], key: &[u8], page: PageOffset)
     requires { ⌜ (length (now key) ≤ maxKey) × (at + length (now key) ≤ length (now to)) ⌝ }
-    ensures { λ _. ⌜ now (to .exit) ≡ put (now (to .entry)) at (lastKey (now (key .entry)) (itemsIn (length (now (key .entry))) (now (index .entry)) (page .0))) ⌝ }
+    ensures { λ _. ⌜ now (to .exit) ≡ put (now (to .entry)) at
+        (lastKey (now (key .entry)) (itemsIn (length (now (key .entry))) (now (index .entry)) (page .0))) ⌝ }
 {
     let count = entry_count(index, key.len(), page);
     if count == 0 {
@@ -261,7 +263,8 @@ pub fn copy_last_key(to: &mut [u8], at: usize, index: &[u8], key: &[u8], page: P
 // Copies the larger of entry i's key and a key.
 fn copy_larger_key(to: &mut [u8], at: usize, index: &[u8], key: &[u8], page: PageOffset, i: usize)
     requires { ⌜ Within (now index) (length (now key)) (page .0) (i + 1) × (at + length (now key) ≤ length (now to)) ⌝ }
-    ensures { λ _. ⌜ now (to .exit) ≡ put (now (to .entry)) at (larger bytesOrder (keyAt (now (index .entry)) (length (now (key .entry))) (page .0) i) (now (key .entry))) ⌝ }
+    ensures { λ _. ⌜ now (to .exit) ≡ put (now (to .entry)) at
+        (larger bytesOrder (keyAt (now (index .entry)) (length (now (key .entry))) (page .0) i) (now (key .entry))) ⌝ }
 {
     if octets::is_below(page::compare_entry(index, page, i, key)) {
         octets::copy_in(to, at, key);
@@ -280,7 +283,8 @@ pub fn gather_pair(
     count: usize,
 )
     requires { ⌜ Listed (now index) (length (now key)) (page .0) count × (roomSize ≤ length (now room)) ⌝ }
-    ensures { λ _. ⌜ now (room .exit) ≡ put (now (room .entry)) 0 (encode (insertPair bytesOrder (now (key .entry)) (toBe32 (number .0)) (itemsIn (length (now (key .entry))) (now (index .entry)) (page .0)))) ⌝ }
+    ensures { λ _. ⌜ now (room .exit) ≡ put (now (room .entry)) 0
+        (encode (insertPair bytesOrder (now (key .entry)) (toBe32 (number .0)) (itemsIn (length (now (key .entry))) (now (index .entry)) (page .0)))) ⌝ }
 {
     let k = key.len();
     let i = page::first_at_or_above(index, page, count, key);
@@ -302,7 +306,9 @@ pub fn gather_two(
     new: PageOffset,
 )
     requires { ⌜ Listed (now index) (length (now key)) (page .0) count × (1 ≤ count) × (roomSize ≤ length (now room)) ⌝ }
-    ensures { λ _. ⌜ now (room .exit) ≡ put (now (room .entry)) 0 (encode (replaced (now (key .entry)) (twoFor (length (now (key .entry))) (now (index .entry)) (now (key .entry)) (child .0) (new .0)) (itemsIn (length (now (key .entry))) (now (index .entry)) (page .0)))) ⌝ }
+    ensures { λ _. ⌜ now (room .exit) ≡ put (now (room .entry)) 0
+        (encode (replaced (now (key .entry)) (twoFor (length (now (key .entry))) (now (index .entry)) (now (key .entry)) (child .0) (new .0))
+        (itemsIn (length (now (key .entry))) (now (index .entry)) (page .0)))) ⌝ }
 {
     let k = key.len();
     let i = chosen_entry(index, key, page, count);
@@ -319,7 +325,8 @@ pub fn gather_two(
 // Gathers the entries of a new root.
 pub fn gather_root(room: &mut [u8], index: &[u8], key: &[u8], old: PageOffset, new: PageOffset)
     requires { ⌜ (length (now key) ≤ maxKey) × (roomSize ≤ length (now room)) ⌝ }
-    ensures { λ _. ⌜ now (room .exit) ≡ put (now (room .entry)) 0 (encode (rootEntries (length (now (key .entry))) (now (index .entry)) (now (key .entry)) (old .0) (new .0))) ⌝ }
+    ensures { λ _. ⌜ now (room .exit) ≡ put (now (room .entry)) 0
+        (encode (rootEntries (length (now (key .entry))) (now (index .entry)) (now (key .entry)) (old .0) (new .0))) ⌝ }
 {
     let k = key.len();
     copy_last_key(room, 0, index, key, old);

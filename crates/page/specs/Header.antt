@@ -66,7 +66,7 @@ features b = byteAt b featuresPlace
 abbrev pub goodFeatures : ℕ
 goodFeatures = 1
 
--- p is the offset of "a page of F other than the first", for a file of so many bytes
+-- p is the offset of "a page of F other than the first", for a file of size bytes
 unfoldable pub isPage : ℕ → ℕ → Bool
 isPage size p = eqb (p % pageSize) 0 && (leb pageSize p && leb (p + pageSize) size)
 

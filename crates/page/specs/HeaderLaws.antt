@@ -6,7 +6,8 @@ use mathlib.Core.List.{List}
 use lib.ListN.{length}
 use borrow.Author.Tests.{leb-true, eqb-true, le-leb, eq-eqb}
 use Rattle.basis.specs.Tests.{both, join}
-use Rattle.page.specs.Header.{minBytes, maxBytes, maxKey, pageSize, noPage, rootOffset, freePointer, fileSize, keyLength, features, goodFeatures, isPage, sizeGood, keyLengthGood, headerGood}
+use Rattle.page.specs.Header.{minBytes, maxBytes, maxKey, pageSize, noPage, rootOffset, freePointer, fileSize, keyLength, features, goodFeatures}
+use Rattle.page.specs.Header.{isPage, sizeGood, keyLengthGood, headerGood}
 
 -- the offset of a page other than the first
 pub record IsPage (size p : ℕ) : Type 0 where

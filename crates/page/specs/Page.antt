@@ -67,7 +67,7 @@ unfoldable pub countGood : ℕ → ℕ → ℕ → Bool
 countGood k a n = leb n (capacity k) && (leb 1 n || eqb a 3)
 
 -- "It checks the pages it visits only: offset, attribute in 0-3, root bit on the first alone, count as above, a leaf if it is the 11th": the page at p,
--- in a file of so many bytes with keys of k bytes
+-- in a file of size bytes with keys of k bytes
 unfoldable pub pageGood : List ℕ → ℕ → ℕ → ℕ → Bool → Bool → Bool
 pageGood b k size p first last =
     isPage size p && (attributeGood (attributeAt b p) first last && countGood k (attributeAt b p) (countAt b p))

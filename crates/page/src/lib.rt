@@ -8,7 +8,8 @@ ghost use Rattle.octets.specs.Bytes.{toBe32};
 ghost use Rattle.octets.specs.Store.{put};
 ghost use Rattle.octets.specs.Order.{ordering};
 ghost use Rattle.page.specs.Header.{maxKey, maxOffset, pageSize, rootOffset, fileSize, keyLength, isPage, sizeGood, keyLengthGood, headerGood};
-ghost use Rattle.page.specs.Page.{attributeAt, countAt, leftAt, rightAt, leafBit, capacity, entryOffset, keyAt, numberAt, attributeGood, countGood, pageGood, firstAtOrAbove};
+ghost use Rattle.page.specs.Page.{attributeAt, countAt, leftAt, rightAt, leafBit, capacity, entryOffset, keyAt, numberAt};
+ghost use Rattle.page.specs.Page.{attributeGood, countGood, pageGood, firstAtOrAbove};
 ghost use Rattle.page.specs.Reading.{entriesAt};
 ghost use Rattle.page.specs.Within.{Within};
 
@@ -105,7 +106,7 @@ pub fn root(index: &[u8]) -> PageOffset
     PageOffset(octets::load_le32(index, ROOT_PLACE))
 }
 
-// The header's file size, taken as an offset: the file's end, where the next new page begins.
+// The header's file size, taken as an offset: the file's end, at which the next new page begins.
 pub fn file_end(index: &[u8]) -> PageOffset
     requires { ⌜ pageSize ≤ length (now index) ⌝ }
     ensures { λ r. ⌜ r .0 ≡ fileSize (now (index .entry)) ⌝ }
@@ -118,7 +119,7 @@ pub fn file_size(index: &[u8]) -> usize
     requires { ⌜ pageSize ≤ length (now index) ⌝ }
     ensures { λ r. ⌜ r ≡ fileSize (now (index .entry)) ⌝ }
 {
-    octets::load_le32(index, SIZE_PLACE) as usize
+    file_end(index).0 as usize
 }
 
 // The header's key length.
@@ -129,7 +130,7 @@ pub fn key_length(index: &[u8]) -> usize
     octets::load_le16(index, KEY_LENGTH_PLACE) as usize
 }
 
-// Whether an offset is that of a page other than the first, in a file of so many bytes.
+// Whether an offset is that of a page other than the first, in a file of `size` bytes.
 pub fn is_page(size: usize, page: PageOffset) -> bool
     ensures { λ r. ⌜ r ≡ isPage size (page .0) ⌝ }
 {
@@ -145,7 +146,7 @@ pub fn next_page(page: PageOffset) -> PageOffset
     PageOffset(page.0 + Page::SIZE as u32)
 }
 
-// Whether a file's size is good, in a buffer of so many bytes.
+// Whether a file's size is good, in a buffer of `buffer` bytes.
 fn size_good(buffer: usize, size: usize) -> bool
     ensures { λ r. ⌜ r ≡ sizeGood buffer size ⌝ }
 {
@@ -196,7 +197,7 @@ pub fn count_good(k: usize, attribute: u32, count: u32) -> bool
     (count as usize <= Page::capacity(k)) & ((1 <= count) | (attribute == 3))
 }
 
-// Whether a page that is visited is good, with keys of k bytes in a file of so many bytes.
+// Whether a page that is visited is good, with keys of k bytes in a file of `size` bytes.
 pub fn page_good(
     index: &[u8],
     k: usize,
@@ -290,7 +291,7 @@ pub fn compare_entry(index: &[u8], page: PageOffset, i: usize, key: &[u8]) -> Or
     octets::compare(&index[start..end], key)
 }
 
-// The first of so many entries whose key is at or above a key, or their number where there is none.
+// The first of `count` entries whose key is at or above a key, or `count` if there is none.
 pub fn first_at_or_above(index: &[u8], page: PageOffset, count: usize, key: &[u8]) -> usize
     requires { ⌜ Within (now index) (length (now key)) (page .0) count ⌝ }
     ensures { λ r. ⌜ (r ≡ firstAtOrAbove (keyAt (now (index .entry)) (length (now (key .entry))) (page .0)) (now (key .entry)) count 0) × (r ≤ count) ⌝ }

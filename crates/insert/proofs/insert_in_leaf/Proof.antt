@@ -9,10 +9,12 @@ use Rattle.insert.proofs.insert_in_leaf.Statement.{statement}
 use Rattle.insert.proofs.insert_in_leaf.Tie as tie
 
 -- the leaf's entries are counted
-counted : (c : tie.After-entry-count) → let args = c .before .before .before .before .args in Listed (args .index .now) (length (args .key .now)) (args .page .0) (c .entry-count .result)
+counted : (c : tie.After-entry-count) → let args = c .before .before .before .before .args in
+    Listed (args .index .now) (length (args .key .now)) (args .page .0) (c .entry-count .result)
 counted c = let pre = c .before .before .before .before .pre in record { key = pre .0; page = pre .1; count = c .entry-count .ensures }
 
-products : (c : tie.After-entry-count) → let args = c .before .before .before .before .args in Spread (args .index .now) (length (args .key .now)) (args .page .0) (c .entry-count .result) (c .entry-count .result)
+products : (c : tie.After-entry-count) → let args = c .before .before .before .before .args in
+    Spread (args .index .now) (length (args .key .now)) (args .page .0) (c .entry-count .result) (c .entry-count .result)
 products c = spread _ (counted c) (omega arith)
 
 entry-count-requires : tie.Need-entry-count-requires
@@ -41,17 +43,23 @@ array-share-prefix-room c = let s = products (c .before .before .before .before 
 
 slice-aggregate-take-in : tie.Need-slice-aggregate-take-in
 slice-aggregate-take-in c =
-    let s = products (c .before .before .before .before .before .before) in simp length-take (omega (arith, c .before .before .before .gather-pair .kept .0))
+    let s = products (c .before .before .before .before .before .before) in
+    simp length-take (omega (arith, c .before .before .before .gather-pair .kept .0))
 
 take-in-requires : tie.Need-take-in-requires
-take-in-requires c κs = one-more _ (counted (c .before .before .before .before .before .before)) (omega (arith, c .before .before .before .gather-pair .kept .0))
+take-in-requires c κs =
+    one-more _ (counted (c .before .before .before .before .before .before)) (omega (arith, c .before .before .before .gather-pair .kept .0))
 
 same-length : tie.Need-same-length
 same-length c = search needs
 
 returns : tie.Need-returns
 returns c =
-    rw (pair-read (c .before .before .before .before .before .before .before .before .before .before .before .before .before .args .key .now) (c .before .before .before .before .before .before .before .before .before .before .before .before .before .args .number .0) _ (counted (c .before .before .before .before .before .before .before .before .before)) (omega arith) (c .before .before .before .before .before .before .gather-pair .ensures)) at (c .before .before .take-in .ensures)
+    let gathered = c .before .before .before .before .before .before in
+    let count = gathered .before .before .before in
+    let args = count .before .before .before .before .args in
+    rw (pair-read (args .key .now) (args .number .0) _ (counted count) (omega arith) (gathered .gather-pair .ensures))
+    at (c .before .before .take-in .ensures)
 
 pub insert-in-leaf-spec : {M : Type 1} → statement M
 insert-in-leaf-spec =

@@ -30,8 +30,13 @@ same-length c = search needs
 
 returns : tie.Need-returns
 returns c =
-    let args = c .before .before .before .before .before .before .before .before .before .before .before .before .before .before .before .before .before .before .before .args in
-    root-gathered (args .index .now) (args .key .now) _ _ _ (c .before .before .before .before .before .before .before .before .before .before .before .before .before .before .copy-last-key .ensures) (c .before .before .before .before .before .before .before .before .before .before .put-child .ensures) (c .before .before .before .before .before .before .copy-last-key2 .ensures) (c .before .before .put-child2 .ensures)
+    let new = c .before .before in
+    let last2 = new .before .before .before .before in
+    let old = last2 .before .before .before .before in
+    let last = old .before .before .before .before in
+    let args = last .before .before .before .before .before .args in
+    root-gathered (args .index .now) (args .key .now) _ _ _ (last .copy-last-key .ensures) (old .put-child .ensures)
+    (last2 .copy-last-key2 .ensures) (new .put-child2 .ensures)
 
 pub gather-root-spec : {M : Type 1} → statement M
 gather-root-spec =

@@ -52,10 +52,14 @@ cast-t15 : tie.Need-cast-t15
 cast-t15 c = let h = halves (start (c .before .before .before .before .before .before .before .before .before .before) .pre .0) in omega arith
 
 sub-new-page : tie.Need-sub-new-page
-sub-new-page c = let h = halves (start (c .before .before .before .before .before .before .before .before .before .before .before) .pre .0) in omega arith
+sub-new-page c =
+    let h = halves (start (c .before .before .before .before .before .before .before .before .before .before .before) .pre .0) in
+    omega arith
 
 part-new-page-start : tie.Need-part-new-page-start
-part-new-page-start c = let h = halves (start (c .before .before .before .before .before .before .before .before .before .before .before) .pre .0) in omega arith
+part-new-page-start c =
+    let h = halves (start (c .before .before .before .before .before .before .before .before .before .before .before) .pre .0) in
+    omega arith
 
 part-new-page-end : tie.Need-part-new-page-end
 part-new-page-end c = search needs
