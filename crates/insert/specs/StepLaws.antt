@@ -177,6 +177,7 @@ module _ (b key : List ℕ) (p q : ℕ) {root : ℕ} (behind : root ≡ q + page
 
 -- the whole
 pub pair-inserted : (b key : List ℕ) (r : ℕ) {root file : ℕ} {b′ out : List ℕ} {o : RuleOutcome}
-    → length key ≡ keyLength b → root ≡ rootOffset b → file ≡ fileSize b → insertUnder (length key) maxLevels b key r root file ≡ step b′ o → out ≡ atRoot (length key) b′ key root o → out ≡ insertedBuffer (keyLength b) b key r
+    → length key ≡ keyLength b → root ≡ rootOffset b → file ≡ fileSize b → insertUnder (length key) maxLevels b key r root file ≡ step b′ o
+    → out ≡ atRoot (length key) b′ key root o → out ≡ insertedBuffer (keyLength b) b key r
 unfolding insertedBuffer
 pair-inserted b key r ek er ef e q = q ∙ rw (← ek, ← er, ← ef, e)
