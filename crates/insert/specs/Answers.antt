@@ -16,19 +16,15 @@ use Rattle.insert.specs.declared.Visit.the-variants as visit
 
 -- an outcome, as the rule has it
 abbrev pub outcomeOf : Outcome → RuleOutcome
-outcomeOf (Kept n) = kept n
+outcomeOf (Kept end) = kept (end .0)
 outcomeOf (Split q) = split (q .0)
 outcomeOf Bad = bad
 
 -- the page after a new one begins at or before a limit
 abbrev pub NextFits : ℕ → Outcome → Type 0
-NextFits limit (Kept n) = Unit {0}
+NextFits limit (Kept end) = Unit {0}
 NextFits limit (Split q) = q .0 + pageSize ≤ limit
 NextFits limit Bad = Unit {0}
-
--- an offset has 32 bits
-abbrev pub maxOffset : ℕ
-maxOffset = 0xFFFFFFFF
 
 -- the largest index, and a page more for each level
 abbrev pub maxGrown : ℕ

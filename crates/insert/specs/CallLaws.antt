@@ -1,26 +1,22 @@
 -- Laws: the cases of insertion and of fresh, each from the tests that lead to it. Cited by the proofs of the two calls. Assumes nothing.
-use Prim.Native.Nat.{ℕ, suc, _+_, _-_, _≤_, _<_}
+use Prim.Native.Nat.{ℕ, suc, _+_, _≤_, _<_}
 use mathlib.Core.Path.{_≡_, refl, _∙_}
 use mathlib.Core.Bool.{Bool, true, false, _&&_, and-true, and-false}
-use mathlib.Core.List.{List, _++_}
+use mathlib.Core.List.{List}
 use native.Mathlib.Numerals.{add-one}
-use native.Mathlib.Omega.{arith}
-use lib.ListN.{length, drop, getD, replicate, drop-of-length-le}
+use lib.ListN.{length, drop, getD, drop-of-length-le}
 use lib.Seq.{drop-cons}
 use lib.Dec.{leb}
 use borrow.Author.Tests.{eq-eqb, ne-eqb, leb-true, le-leb, lt-leb}
 use Rattle.basis.specs.Tests.{either, contra, both}
-use Rattle.octets.specs.Bytes.{toLe16, toLe32}
 use Rattle.octets.specs.Store.{put}
-use Rattle.octets.specs.StoreLaws.{put-append}
-use Rattle.octets.specs.NumberLaws.{length-toLe16, length-toLe32}
-use Rattle.page.specs.Header.{maxKey, noPage, keyLength, keyLengthGood, headerGood}
+use Rattle.page.specs.Header.{minBytes, maxKey, pageSize, noPage, keyLength, keyLengthGood, headerGood}
 use Rattle.page.specs.Reading.{items}
 use Rattle.sound.specs.Sound.{Audited}
 use Rattle.sound.specs.Rule.{pagesGood, unmarked}
 use Rattle.sound.specs.Accepted.{accepted}
 use Rattle.lookup.specs.Lookup.{lookupRule}
-use Rattle.layout.specs.Layout.{newPage}
+use Rattle.layout.specs.Layout.{headerBytes, newPage}
 use Rattle.insert.specs.Insertion.{insertedBuffer}
 use Rattle.insert.specs.Room.{noRoom}
 use Rattle.insert.specs.Calls.{left, isFound, insertRule}
@@ -66,7 +62,8 @@ module _ (b key : List ℕ) (r : ℕ) where
             unfolding insertRule
             refused-30 e = rw (header, eq-eqb (length key) (keyLength b) same, ne-eqb r 0 some, sound, absent, e, insertRule)
 
-            pub accepted-pair : {out : List ℕ} → noRoom (keyLength b) b key ≡ false → out ≡ insertedBuffer (keyLength b) b key r → insertRule b key r ≡ left out Accepted
+            pub accepted-pair : {out : List ℕ} → noRoom (keyLength b) b key ≡ false → out ≡ insertedBuffer (keyLength b) b key r
+                → insertRule b key r ≡ left out Accepted
             unfolding insertRule
             accepted-pair e q = rw (header, eq-eqb (length key) (keyLength b) same, ne-eqb r 0 some, sound, absent, e, insertRule, q)
 
@@ -95,36 +92,10 @@ unfolding printable
 printable-end s i h = rw (drop-of-length-le s h)
 
 -- the stores of a fresh index
-header-parts : (k : ℕ) (e : List ℕ)
-    → freshHeader k e ≡ toLe32 512 ++ (toLe32 noPage ++ (toLe32 1024 ++ (toLe16 k ++ (toLe16 1 ++ (e ++ replicate (496 - length e) 0)))))
-unfolding freshHeader toLe16
-header-parts k e = refl
-
-header-stored : (b e : List ℕ) (k : ℕ)
-    → put b 0 (freshHeader k e)
-    ≡ put (put (put (put (put (put (put b 0 (toLe32 512)) 4 (toLe32 noPage)) 8 (toLe32 1024)) 12 (toLe16 k)) 14 (toLe16 1)) 16 e) (16 + length e) (replicate (496 - length e) 0)
-header-stored b e k = rw (
-  header-parts k e,
-  put-append b 0 (toLe32 512),
-  length-toLe32 512,
-  put-append _ 4 (toLe32 noPage),
-  length-toLe32 noPage,
-  put-append _ 8 (toLe32 1024),
-  length-toLe32 1024,
-  put-append _ 12 (toLe16 k),
-  length-toLe16 k,
-  put-append _ 14 (toLe16 1),
-  length-toLe16 1,
-  put-append _ 16 e,
-)
-
-pub fresh-stored : (b e xs : List ℕ) (k : ℕ) {l1 l2 l3 l4 l5 l6 l7 l8 : List ℕ} → l1 ≡ put b 0 (toLe32 512) → l2 ≡ put l1 4 (toLe32 noPage) → l3 ≡ put l2 8 (toLe32 1024)
-    → l4 ≡ put l3 12 (toLe16 k) → l5 ≡ put l4 14 (toLe16 1) → l6 ≡ put l5 16 e → l7 ≡ put l6 (16 + length e) (replicate (512 - (16 + length e)) 0)
-    → l8 ≡ newPage l7 512 3 noPage noPage (items k 0 xs) → l8 ≡ freshBuffer k e b
-unfolding freshBuffer items
-fresh-stored b e xs k e1 e2 e3 e4 e5 e6 e7 e8 =
-    let z : 512 - (16 + length e) ≡ 496 - length e = omega arith in
-    e8 ∙ rw (e7, e6, e5, e4, e3, e2, e1, z, header-stored b e k)
+pub fresh-stored : (b e xs : List ℕ) (k : ℕ) {end : ℕ} {l1 l2 : List ℕ} → end ≡ minBytes → l1 ≡ put b 0 (headerBytes pageSize end k e)
+    → l2 ≡ newPage l1 pageSize 3 noPage noPage (items k 0 xs) → l2 ≡ freshBuffer k e b
+unfolding freshBuffer freshHeader items
+fresh-stored b e xs k z e1 e2 = e2 ∙ rw (e1, z)
 
 -- fresh, refusal by refusal in its order
 module _ (b : List ℕ) (k : ℕ) (e : List ℕ) where
@@ -138,13 +109,13 @@ module _ (b : List ℕ) (k : ℕ) (e : List ℕ) where
     fresh-24 t = rw (key, t, freshRule)
 
     module _ (good : expressionGood e ≡ true) where
-      pub fresh-30 : length b < 1024 → freshRule b k e ≡ left b (Refused 30)
+      pub fresh-30 : length b < minBytes → freshRule b k e ≡ left b (Refused 30)
       unfolding freshRule
-      fresh-30 h = rw (key, good, lt-leb 1024 (length b) h, freshRule)
+      fresh-30 h = rw (key, good, lt-leb minBytes (length b) h, freshRule)
 
-      pub fresh-made : {out : List ℕ} → 1024 ≤ length b → out ≡ freshBuffer k e b → freshRule b k e ≡ left out Accepted
+      pub fresh-made : {out : List ℕ} → minBytes ≤ length b → out ≡ freshBuffer k e b → freshRule b k e ≡ left out Accepted
       unfolding freshRule
-      fresh-made h q = rw (key, good, le-leb 1024 (length b) h, freshRule, q)
+      fresh-made h q = rw (key, good, le-leb minBytes (length b) h, freshRule, q)
 
 pub key-most : (k : ℕ) → keyLengthGood k ≡ true → k ≤ maxKey
 unfolding keyLengthGood

@@ -1,13 +1,12 @@
 -- Rules: a fresh index, "(27, 24, 30)", as the whole buffer that it leaves.
-use Prim.Native.Nat.{ℕ, _-_}
+use Prim.Native.Nat.{ℕ}
 use mathlib.Core.Bool.{Bool, true, false, _&&_}
-use mathlib.Core.List.{List, [], _∷_, _++_}
-use lib.ListN.{length, replicate}
+use mathlib.Core.List.{List, [], _∷_}
+use lib.ListN.{length}
 use lib.Dec.{leb}
-use Rattle.octets.specs.Bytes.{toLe16, toLe32}
 use Rattle.octets.specs.Store.{put}
-use Rattle.page.specs.Header.{noPage, keyLengthGood}
-use Rattle.layout.specs.Layout.{newPage}
+use Rattle.page.specs.Header.{minBytes, pageSize, noPage, keyLengthGood}
+use Rattle.layout.specs.Layout.{headerBytes, newPage}
 use Rattle.insert.specs.Calls.{Inserted, left}
 use Rattle.insert.specs.declared.Insertion.the-variants.{Accepted, Refused}
 
@@ -26,12 +25,11 @@ expressionGood e = leb 1 (length e) && leb (length e) maxExpression && printable
 
 -- "Root 512, free pointer 0xFFFFFFFF, F 1,024, key length k, features 1, the expression; .. all else in the 1,024 zero"
 unfoldable pub freshHeader : ℕ → List ℕ → List ℕ
-freshHeader k e =
-    toLe32 512 ++ (toLe32 noPage ++ (toLe32 1024 ++ (toLe16 k ++ (1 ∷ 0 ∷ (e ++ replicate (496 - length e) 0)))))
+freshHeader k e = headerBytes pageSize minBytes k e
 
 -- "the page at 512 has attribute 3, count 0, links none; .. later bytes kept"
 unfoldable pub freshBuffer : ℕ → List ℕ → List ℕ → List ℕ
-freshBuffer k e b = newPage (put b 0 (freshHeader k e)) 512 3 noPage noPage []
+freshBuffer k e b = newPage (put b 0 (freshHeader k e)) pageSize 3 noPage noPage []
 
 -- what fresh leaves and answers: "27, 24, 30", 27 for "k not 1 to 100", 30 for a buffer below 1,024
 unfoldable pub freshRule : List ℕ → ℕ → List ℕ → Inserted
@@ -40,7 +38,7 @@ freshRule b k e =
       | false ↦ left b (Refused 27)
       | true ↦ elim (expressionGood e) [
         | false ↦ left b (Refused 24)
-        | true ↦ elim (leb 1024 (length b)) [
+        | true ↦ elim (leb minBytes (length b)) [
           | false ↦ left b (Refused 30)
           | true ↦ left (freshBuffer k e b) Accepted
         ]

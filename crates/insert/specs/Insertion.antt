@@ -4,17 +4,16 @@ use mathlib.Core.Bool.{cond}
 use mathlib.Core.List.{List}
 use lib.ListN.{length}
 use lib.Dec.{leb}
-use Rattle.octets.specs.Bytes.{toLe32, toBe32}
-use Rattle.octets.specs.Store.{put}
+use Rattle.octets.specs.Bytes.{toBe32}
 use Rattle.tree.specs.Pairs.{insertPair}
 use Rattle.page.specs.Header.{maxLevels, noPage, pageSize, isPage, rootOffset, fileSize}
 use Rattle.page.specs.Page.{attributeAt, leafBit, capacity}
 use Rattle.page.specs.KeyOrder.{bytesOrder}
 use Rattle.page.specs.Reading.{Item}
-use Rattle.layout.specs.Layout.{itemsIn, withEntries, newPage, splitPage}
+use Rattle.layout.specs.Layout.{itemsIn, withRoot, withSize, withEntries, newPage, splitPage}
 use Rattle.layout.specs.Entries.{chosen, childOf, replaced, raised, twoFor, rootEntries}
 
--- what an insertion under a page leaves for the page above to do: nothing, the file having so many bytes; or to take in the new page at q, the last of the
+-- what an insertion under a page leaves for the page above to do: nothing, the file having n bytes; or to take in the new page at q, the last of the
 -- file. The third does not occur on a sound index with room: it keeps the rule total
 pub data Outcome : Type 0 where
   kept : ℕ → Outcome
@@ -42,7 +41,7 @@ afterChild k b key p c (kept n) = step (raised k b key p) (kept n)
 afterChild k b key p c (split q) = takeIn k b p (replaced key (twoFor k b key c q) (itemsIn k b p)) (q + pageSize)
 afterChild k b key p c bad = step b bad
 
--- the pair goes in under the page at p, with so many levels left, falling from 11, the file having n bytes: into the page if it is a leaf, else under the
+-- the pair goes in under the page at p, with the levels left falling from 11, the file having n bytes: into the page if it is a leaf, else under the
 -- child that is chosen
 unfoldable pub insertUnder : ℕ → ℕ → List ℕ → List ℕ → ℕ → ℕ → ℕ → Step
 insertUnder k zero b key r p n = step b bad
@@ -56,10 +55,10 @@ insertUnder k (suc left) b key r p n =
 -- the root after it: if it was split, "the new root last", over the two halves with their own last keys; and the header's root offset and file size. Where
 -- there is room, the new root is a page of the buffer
 abbrev pub atRoot : ℕ → List ℕ → List ℕ → ℕ → Outcome → List ℕ
-atRoot k b key p (kept n) = put b 8 (toLe32 n)
+atRoot k b key p (kept n) = withSize b n
 atRoot k b key p (split q) =
     let root = newPage b (q + pageSize) 1 noPage noPage (rootEntries k b key p q) in
-    let grown = put (put root 0 (toLe32 (q + pageSize))) 8 (toLe32 (q + pageSize + pageSize)) in
+    let grown = withSize (withRoot root (q + pageSize)) (q + pageSize + pageSize) in
     cond (isPage (length b) (q + pageSize)) grown b
 atRoot k b key p bad = b
 

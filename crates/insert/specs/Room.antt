@@ -18,7 +18,7 @@ nowhere = record { levels = 0; run = 0 }
 abbrev pub onTop : Bool → Path → Path
 onTop full path = record { levels = path .levels + 1; run = cond (full && eqb (path .run) (path .levels)) (path .run + 1) (path .run) }
 
--- the path to a key from the page at p on, with so many levels left: none where p is no page, which does not occur in a sound index
+-- the path to a key from the page at p on, with the levels left falling from 11: none where p is no page, which does not occur in a sound index
 unfoldable pub pathFrom : ℕ → ℕ → List ℕ → List ℕ → ℕ → Path
 pathFrom k zero b key p = nowhere
 pathFrom k (suc left) b key p =

@@ -9,15 +9,14 @@ use lib.ListN.{length}
 use lib.Dec.{leb}
 use borrow.Author.Tests.{le-leb, lt-leb}
 use Rattle.basis.specs.Tests.{either}
-use Rattle.octets.specs.Bytes.{toLe32, toBe32}
-use Rattle.octets.specs.Store.{put}
+use Rattle.octets.specs.Bytes.{toBe32}
 use Rattle.tree.specs.Pairs.{insertPair}
 use Rattle.page.specs.Header.{maxLevels, noPage, pageSize, isPage, rootOffset, fileSize, keyLength}
 use Rattle.page.specs.Page.{attributeAt, leafBit, capacity}
 use Rattle.page.specs.KeyOrder.{bytesOrder}
 use Rattle.page.specs.Reading.{Item, items}
 use Rattle.page.specs.declared.PageOffset.{PageOffset}
-use Rattle.layout.specs.Layout.{itemsIn, withEntries, newPage, splitPage}
+use Rattle.layout.specs.Layout.{itemsIn, withRoot, withSize, withEntries, newPage, splitPage}
 use Rattle.layout.specs.Entries.{chosen, childOf, rootEntries}
 use Rattle.insert.specs.Insertion.{Outcome as RuleOutcome, kept, split, bad, Step, step, takeIn, afterChild, insertUnder, atRoot, insertedBuffer}
 use Rattle.insert.specs.Answers.{outcomeOf, NextFits, visited}
@@ -85,7 +84,7 @@ module _ (b key : List ℕ) (p : ℕ) where
       (λ u. (t, u, ap (λ (q : PageOffset). q .0) (same-child (rw (t, u) at e)))))
       (λ t. bad-child (sym (rw t at e)))
 
--- insertion by cases of the visit, with so many levels left
+-- insertion by cases of the visit
 module _ (b key : List ℕ) (r p n : ℕ) where
   pub under-bad : (levels : ℕ) → (levels ≡ 0 → ⊥) → visit.Bad ≡ visited b key p → insertUnder (length key) levels b key r p n ≡ step b bad
   unfolding insertUnder
@@ -99,7 +98,8 @@ module _ (b key : List ℕ) (r p n : ℕ) where
   under-leaf (suc left) s e = let v = visited-leaf b key p e in rw (v .0, v .1)
 
   pub under-child : (levels : ℕ) (c : PageOffset) {b′ : List ℕ} {o : RuleOutcome} → (levels ≡ 0 → ⊥) → visit.Child c ≡ visited b key p
-      → insertUnder (length key) (levels - 1) b key r (c .0) n ≡ step b′ o → insertUnder (length key) levels b key r p n ≡ afterChild (length key) b′ key p (c .0) o
+      → insertUnder (length key) (levels - 1) b key r (c .0) n ≡ step b′ o
+      → insertUnder (length key) levels b key r p n ≡ afterChild (length key) b′ key p (c .0) o
   unfolding insertUnder
   under-child zero c s e d = absurd (s refl)
   under-child (suc left) c s e d =
@@ -114,7 +114,8 @@ split-here k b p es n q e = either (leb (length es) (capacity k))
     (λ t. kept-split (rw t at e))
     (λ t. either (isPage (length b) n) (λ u. same-split (rw (t, u) at e)) (λ u. bad-split (rw (t, u) at e)))
 
-after-bound : (k : ℕ) (b key : List ℕ) (p c : ℕ) (o : RuleOutcome) (q m : ℕ) → ((x : ℕ) → o ≡ split x → x + pageSize ≤ m) → afterChild k b key p c o .outcome ≡ split q → q + pageSize ≤ m + pageSize
+after-bound : (k : ℕ) (b key : List ℕ) (p c : ℕ) (o : RuleOutcome) (q m : ℕ)
+    → ((x : ℕ) → o ≡ split x → x + pageSize ≤ m) → afterChild k b key p c o .outcome ≡ split q → q + pageSize ≤ m + pageSize
 after-bound k b key p c (kept n) q m h e = kept-split e
 after-bound k b key p c (split x) q m h e = omega (arith, h x refl, split-here k b p _ (x + pageSize) q e)
 after-bound k b key p c bad q m h e = bad-split e
@@ -140,10 +141,10 @@ next-fits limit k left b key r p n (Split q) e h = omega (arith, split-bound k l
 next-fits limit k left b key r p n Bad e h = tt
 
 -- a page without entries has none to replace
-pub two-for-none : (k : ℕ) (b key : List ℕ) (p c q : ℕ) (xs : List ℕ) {s : Step} → length (itemsIn k b p) ≡ 0 → takeIn k b p (items k 0 xs) (q + pageSize) ≡ s
-    → afterChild k b key p c (split q) ≡ s
+pub two-for-none : (k : ℕ) (b key : List ℕ) (p c q : ℕ) (xs : List ℕ) {end : ℕ} {s : Step} → length (itemsIn k b p) ≡ 0 → end ≡ q + pageSize
+    → takeIn k b p (items k 0 xs) end ≡ s → afterChild k b key p c (split q) ≡ s
 unfolding items
-two-for-none k b key p c q xs h e = rw (none (itemsIn k b p) h) e
+two-for-none k b key p c q xs h f e = rw (none (itemsIn k b p) h, ← f) e
   where
     none : (es : List Item) → length es ≡ 0 → es ≡ []
     none [] h = refl
@@ -159,23 +160,24 @@ module _ (b key : List ℕ) (p : ℕ) where
   unfolding visited
   visit-leaf {a} t e h = rw (t, ← e, h)
 
-  pub visit-child : {a : ℕ} {c : PageOffset} → isPage (length b) p ≡ true → a ≡ attributeAt b p → leafBit a ≡ false → c .0 ≡ childOf (chosen key (itemsIn (length key) b p))
-      → visit.Child c ≡ visited b key p
+  pub visit-child : {a : ℕ} {c : PageOffset} → isPage (length b) p ≡ true → a ≡ attributeAt b p → leafBit a ≡ false
+      → c .0 ≡ childOf (chosen key (itemsIn (length key) b p)) → visit.Child c ≡ visited b key p
   unfolding visited
   visit-child {a} {c} t e h q = rw (t, ← e, h, ← q)
 
--- the root
-module _ (b key : List ℕ) (p q : ℕ) where
-  pub root-none : isPage (length b) (q + pageSize) ≡ false → b ≡ atRoot (length key) b key p (split q)
-  root-none t = rw t
+-- the root, behind the new page at q
+module _ (b key : List ℕ) (p q : ℕ) {root : ℕ} (behind : root ≡ q + pageSize) where
+  pub root-none : isPage (length b) root ≡ false → b ≡ atRoot (length key) b key p (split q)
+  root-none t = rw (← behind, t)
 
-  pub root-new : {es : List Item} {l1 l2 l3 : List ℕ} → isPage (length b) (q + pageSize) ≡ true → es ≡ rootEntries (length key) b key p q
-      → l1 ≡ newPage b (q + pageSize) 1 noPage noPage es → l2 ≡ put l1 0 (toLe32 (q + pageSize)) → l3 ≡ put l2 8 (toLe32 (q + pageSize + pageSize))
+  pub root-new : {end : ℕ} {es : List Item} {l1 l2 l3 : List ℕ} → isPage (length b) root ≡ true → es ≡ rootEntries (length key) b key p q
+      → l1 ≡ newPage b root 1 noPage noPage es → l2 ≡ withRoot l1 root → end ≡ root + pageSize → l3 ≡ withSize l2 end
       → l3 ≡ atRoot (length key) b key p (split q)
-  root-new t e e1 e2 e3 = rw t (e3 ∙ rw (e2, e1, e))
+  root-new t e e1 e2 f e3 = rw (← behind, t) (e3 ∙ rw (f, e2, e1, e))
 
 -- the whole
-pub pair-inserted : (b key : List ℕ) (r : ℕ) {root file : ℕ} {b′ out : List ℕ} {o : RuleOutcome} → length key ≡ keyLength b → root ≡ rootOffset b → file ≡ fileSize b
-    → insertUnder (length key) maxLevels b key r root file ≡ step b′ o → out ≡ atRoot (length key) b′ key root o → out ≡ insertedBuffer (keyLength b) b key r
+pub pair-inserted : (b key : List ℕ) (r : ℕ) {root file : ℕ} {b′ out : List ℕ} {o : RuleOutcome}
+    → length key ≡ keyLength b → root ≡ rootOffset b → file ≡ fileSize b → insertUnder (length key) maxLevels b key r root file ≡ step b′ o
+    → out ≡ atRoot (length key) b′ key root o → out ≡ insertedBuffer (keyLength b) b key r
 unfolding insertedBuffer
 pair-inserted b key r ek er ef e q = q ∙ rw (← ek, ← er, ← ef, e)

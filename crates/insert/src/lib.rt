@@ -9,14 +9,14 @@ ghost use lib.ListN.{length};
 ghost use lib.Dec.{leb};
 ghost use Rattle.octets.specs.Bytes.{toBe32};
 ghost use Rattle.tree.specs.Pairs.{insertPair};
-ghost use Rattle.page.specs.Header.{maxLevels, maxKey, pageSize, isPage, keyLength, headerGood};
+ghost use Rattle.page.specs.Header.{minBytes, maxLevels, maxKey, maxOffset, pageSize, isPage, keyLength, headerGood};
 ghost use Rattle.page.specs.Page.{capacity};
 ghost use Rattle.page.specs.KeyOrder.{bytesOrder};
 ghost use Rattle.page.specs.Reading.{items};
 ghost use Rattle.layout.specs.Layout.{itemsIn};
 ghost use Rattle.layout.specs.Given.{Over};
 ghost use Rattle.insert.specs.Insertion.{split, step, takeIn, afterChild, insertUnder, atRoot, insertedBuffer};
-ghost use Rattle.insert.specs.Answers.{outcomeOf, NextFits, maxOffset, maxGrown, visited};
+ghost use Rattle.insert.specs.Answers.{outcomeOf, NextFits, maxGrown, visited};
 ghost use Rattle.insert.specs.Room.{onTop, pathFrom, newPages, levelsAfter, noRoom};
 ghost use Rattle.insert.specs.Calls.{left, isFound, insertRule};
 ghost use Rattle.insert.specs.Fresh.{printable, maxExpression, expressionGood, freshBuffer, freshRule};
@@ -36,9 +36,9 @@ pub struct Path {
     pub run: u32,
 }
 
-// What an insertion under a page leaves for the page above: nothing, with the file's size, or to take in a new page.
+// What an insertion under a page leaves for the page above: nothing, with the file's end, or to take in a new page.
 pub enum Outcome {
-    Kept(u32),
+    Kept(PageOffset),
     Split(PageOffset),
     Bad,
 }
@@ -50,28 +50,28 @@ pub enum Visit {
     Child(PageOffset),
 }
 
-// Gives a page so many entries, held in a byte string, or splits it: the new page is at the file's end.
+// Gives a page `count` entries, held in a byte string, or splits it: the new page begins at the file's end.
 fn take_in(
     index: &mut [u8],
     k: usize,
     page: PageOffset,
     count: usize,
     entries: &[u8],
-    file: u32,
+    end: PageOffset,
 ) -> Outcome
     requires { ⌜ Over (now index) k (page .0) count (now entries) ⌝ }
-    ensures { λ r. ⌜ takeIn k (now (index .entry)) (page .0) (items k count (now (entries .entry))) file ≡ step (now (index .exit)) (outcomeOf r) ⌝ }
+    ensures { λ r. ⌜ takeIn k (now (index .entry)) (page .0) (items k count (now (entries .entry))) (end .0)
+        ≡ step (now (index .exit)) (outcomeOf r) ⌝ }
 {
     if count <= Page::capacity(k) {
         layout::with_entries(index, k, page, count, entries);
-        return Outcome::Kept(file);
+        return Outcome::Kept(end);
     }
-    let new = PageOffset(file);
-    if !page::is_page(index.len(), new) {
+    if !page::is_page(index.len(), end) {
         return Outcome::Bad;
     }
-    layout::split_page(index, k, page, count, entries, new);
-    Outcome::Split(new)
+    layout::split_page(index, k, page, count, entries, end);
+    Outcome::Split(end)
 }
 
 // Puts a pair into a leaf.
@@ -80,16 +80,18 @@ fn insert_in_leaf(
     key: &[u8],
     number: RecordNumber,
     page: PageOffset,
-    file: u32,
+    end: PageOffset,
 ) -> Outcome
     requires { ⌜ (length (now key) ≤ maxKey) × (isPage (length (now index)) (page .0) ≡ true) ⌝ }
-    ensures { λ r. ⌜ takeIn (length (now (key .entry))) (now (index .entry)) (page .0) (insertPair bytesOrder (now (key .entry)) (toBe32 (number .0)) (itemsIn (length (now (key .entry))) (now (index .entry)) (page .0))) file ≡ step (now (index .exit)) (outcomeOf r) ⌝ }
+    ensures { λ r. ⌜ takeIn (length (now (key .entry))) (now (index .entry)) (page .0)
+        (insertPair bytesOrder (now (key .entry)) (toBe32 (number .0)) (itemsIn (length (now (key .entry))) (now (index .entry)) (page .0)))
+        (end .0) ≡ step (now (index .exit)) (outcomeOf r) ⌝ }
 {
     let mut room = [0u8; layout::ROOM];
     let count = layout::entry_count(index, key.len(), page);
     layout::gather_pair(&mut room, index, key, number, page, count);
-    let end = (count + 1) * (key.len() + 4);
-    take_in(index, key.len(), page, count + 1, &room[..end], file)
+    let size = (count + 1) * (key.len() + 4);
+    take_in(index, key.len(), page, count + 1, &room[..size], end)
 }
 
 // Puts two entries for the one above a page that was split.
@@ -101,17 +103,18 @@ fn take_in_two(
     new: PageOffset,
 ) -> Outcome
     requires { ⌜ (length (now key) ≤ maxKey) × (isPage (length (now index)) (page .0) ≡ true) × (new .0 + pageSize ≤ maxOffset) ⌝ }
-    ensures { λ r. ⌜ afterChild (length (now (key .entry))) (now (index .entry)) (now (key .entry)) (page .0) (child .0) (split (new .0)) ≡ step (now (index .exit)) (outcomeOf r) ⌝ }
+    ensures { λ r. ⌜ afterChild (length (now (key .entry))) (now (index .entry)) (now (key .entry)) (page .0) (child .0) (split (new .0))
+        ≡ step (now (index .exit)) (outcomeOf r) ⌝ }
 {
     let mut room = [0u8; layout::ROOM];
-    let file = new.0 + Page::SIZE as u32;
+    let end = page::next_page(new);
     let count = layout::entry_count(index, key.len(), page);
     if count == 0 {
-        return take_in(index, key.len(), page, 0, &room[..0], file);
+        return take_in(index, key.len(), page, 0, &room[..0], end);
     }
     layout::gather_two(&mut room, index, key, page, count, child, new);
-    let end = (count + 1) * (key.len() + 4);
-    take_in(index, key.len(), page, count + 1, &room[..end], file)
+    let size = (count + 1) * (key.len() + 4);
+    take_in(index, key.len(), page, count + 1, &room[..size], end)
 }
 
 // What a page does after an insertion under its child.
@@ -123,12 +126,13 @@ fn after_child(
     below: Outcome,
 ) -> Outcome
     requires { ⌜ (length (now key) ≤ maxKey) × (isPage (length (now index)) (page .0) ≡ true) × NextFits maxOffset below ⌝ }
-    ensures { λ r. ⌜ afterChild (length (now (key .entry))) (now (index .entry)) (now (key .entry)) (page .0) (child .0) (outcomeOf below) ≡ step (now (index .exit)) (outcomeOf r) ⌝ }
+    ensures { λ r. ⌜ afterChild (length (now (key .entry))) (now (index .entry)) (now (key .entry)) (page .0) (child .0) (outcomeOf below)
+        ≡ step (now (index .exit)) (outcomeOf r) ⌝ }
 {
     match below {
-        Outcome::Kept(file) => {
+        Outcome::Kept(end) => {
             layout::raise_key(index, key, page);
-            Outcome::Kept(file)
+            Outcome::Kept(end)
         }
         Outcome::Split(new) => take_in_two(index, key, page, child, new),
         Outcome::Bad => Outcome::Bad,
@@ -150,17 +154,18 @@ fn visit_page(index: &[u8], key: &[u8], page: PageOffset) -> Visit
     Visit::Child(layout::chosen_child(index, key, page))
 }
 
-// Insertion under a page, with so many levels left.
+// Insertion under a page, with `levels` levels left and the file's end at `end`.
 fn insert_under(
     index: &mut [u8],
     key: &[u8],
     number: RecordNumber,
     page: PageOffset,
     levels: u32,
-    file: u32,
+    end: PageOffset,
 ) -> Outcome
-    requires { ⌜ (length (now key) ≤ maxKey) × (file + pageSize * levels ≤ maxOffset) ⌝ }
-    ensures { λ r. ⌜ insertUnder (length (now (key .entry))) levels (now (index .entry)) (now (key .entry)) (number .0) (page .0) file ≡ step (now (index .exit)) (outcomeOf r) ⌝ }
+    requires { ⌜ (length (now key) ≤ maxKey) × (end .0 + pageSize * levels ≤ maxOffset) ⌝ }
+    ensures { λ r. ⌜ insertUnder (length (now (key .entry))) levels (now (index .entry)) (now (key .entry)) (number .0) (page .0) (end .0)
+        ≡ step (now (index .exit)) (outcomeOf r) ⌝ }
 {
     if levels == 0 {
         return Outcome::Bad;
@@ -168,9 +173,9 @@ fn insert_under(
     let visit = visit_page(index, key, page);
     match visit {
         Visit::Bad => Outcome::Bad,
-        Visit::Leaf => insert_in_leaf(index, key, number, page, file),
+        Visit::Leaf => insert_in_leaf(index, key, number, page, end),
         Visit::Child(child) => {
-            let below = insert_under(index, key, number, child, levels - 1, file);
+            let below = insert_under(index, key, number, child, levels - 1, end);
             after_child(index, key, page, child, below)
         }
     }
@@ -181,14 +186,13 @@ fn new_root(index: &mut [u8], key: &[u8], old: PageOffset, new: PageOffset)
     requires { ⌜ (length (now key) ≤ maxKey) × (new .0 + pageSize ≤ maxGrown) ⌝ }
     ensures { λ _. ⌜ now (index .exit) ≡ atRoot (length (now (key .entry))) (now (index .entry)) (now (key .entry)) (old .0) (split (new .0)) ⌝ }
 {
-    let at = new.0 + Page::SIZE as u32;
-    let root = PageOffset(at);
+    let root = page::next_page(new);
     if !page::is_page(index.len(), root) {
         return;
     }
     let mut room = [0u8; layout::ROOM];
     layout::gather_root(&mut room, index, key, old, new);
-    let end = 2 * (key.len() + 4);
+    let size = 2 * (key.len() + 4);
     let none = PageOffset(page::NO_PAGE);
     let head = Page {
         attribute: 1,
@@ -196,9 +200,9 @@ fn new_root(index: &mut [u8], key: &[u8], old: PageOffset, new: PageOffset)
         left: none,
         right: none,
     };
-    layout::new_page(index, key.len(), root, head, &room[..end]);
-    octets::store_le32(index, 0, at);
-    octets::store_le32(index, 8, at + Page::SIZE as u32);
+    layout::new_page(index, key.len(), root, head, &room[..size]);
+    layout::set_root(index, root);
+    layout::set_file_end(index, page::next_page(root));
 }
 
 // What is left to do at the root.
@@ -207,7 +211,7 @@ fn at_root(index: &mut [u8], key: &[u8], root: PageOffset, below: Outcome)
     ensures { λ _. ⌜ now (index .exit) ≡ atRoot (length (now (key .entry))) (now (index .entry)) (now (key .entry)) (root .0) (outcomeOf below) ⌝ }
 {
     match below {
-        Outcome::Kept(file) => octets::store_le32(index, 8, file),
+        Outcome::Kept(end) => layout::set_file_end(index, end),
         Outcome::Split(new) => new_root(index, key, root, new),
         Outcome::Bad => {}
     }
@@ -219,8 +223,8 @@ fn insert_pair(index: &mut [u8], key: &[u8], number: RecordNumber)
     ensures { λ _. ⌜ now (index .exit) ≡ insertedBuffer (keyLength (now (index .entry))) (now (index .entry)) (now (key .entry)) (number .0) ⌝ }
 {
     let root = page::root(index);
-    let file = page::file_size(index) as u32;
-    let below = insert_under(index, key, number, root, page::MAX_LEVELS, file);
+    let end = page::file_end(index);
+    let below = insert_under(index, key, number, root, page::MAX_LEVELS, end);
     at_root(index, key, root, below);
 }
 
@@ -249,7 +253,7 @@ fn on_top(full: bool, path: Path) -> Path
     }
 }
 
-// The path to a key from a page on, with so many levels left.
+// The path to a key from a page on, with `levels` levels left.
 fn path_from(index: &[u8], key: &[u8], page: PageOffset, levels: u32) -> Path
     requires { ⌜ (length (now key) ≤ maxKey) × (levels ≤ maxLevels) ⌝ }
     ensures { λ r. ⌜ r ≡ pathFrom (length (now (key .entry))) levels (now (index .entry)) (now (key .entry)) (page .0) ⌝ }
@@ -294,7 +298,8 @@ fn no_room(index: &[u8], key: &[u8]) -> bool
     ensures { λ r. ⌜ r ≡ noRoom (keyLength (now (index .entry))) (now (index .entry)) (now (key .entry)) ⌝ }
 {
     let path = path_from(index, key, page::root(index), page::MAX_LEVELS);
-    let size = page::file_size(index) + Page::SIZE * new_pages(path) as usize;
+    let file = page::file_size(index);
+    let size = file + Page::SIZE * new_pages(path) as usize;
     (index.len() < size) | ((page::MAX_BYTES < size) | (page::MAX_LEVELS < levels_after(path)))
 }
 
@@ -362,16 +367,11 @@ fn expression_good(expression: &[u8]) -> bool
 
 // Writes the header and the root of a fresh index.
 fn write_fresh(index: &mut [u8], k: u32, expression: &[u8])
-    requires { ⌜ (1024 ≤ length (now index)) × (k ≤ maxKey) × (length (now expression) ≤ maxExpression) ⌝ }
+    requires { ⌜ (minBytes ≤ length (now index)) × (k ≤ maxKey) × (length (now expression) ≤ maxExpression) ⌝ }
     ensures { λ _. ⌜ now (index .exit) ≡ freshBuffer k (now (expression .entry)) (now (index .entry)) ⌝ }
 {
-    octets::store_le32(index, 0, Page::SIZE as u32);
-    octets::store_le32(index, 4, page::NO_PAGE);
-    octets::store_le32(index, 8, 1024);
-    octets::store_le16(index, 12, k);
-    octets::store_le16(index, 14, 1);
-    octets::copy_in(index, 16, expression);
-    octets::fill(index, 16 + expression.len(), Page::SIZE, 0);
+    let root = PageOffset(Page::SIZE as u32);
+    layout::new_header(index, root, page::next_page(root), k, expression);
     let none = PageOffset(page::NO_PAGE);
     let head = Page {
         attribute: 3,
@@ -379,20 +379,22 @@ fn write_fresh(index: &mut [u8], k: u32, expression: &[u8])
         left: none,
         right: none,
     };
-    layout::new_page(index, k as usize, PageOffset(512), head, &expression[..0]);
+    layout::new_page(index, k as usize, root, head, &expression[..0]);
 }
 
 // Makes a fresh index.
 pub fn fresh(index: &mut [u8], k: u32, expression: &[u8]) -> Insertion
     ensures { λ r. ⌜ freshRule (now (index .entry)) k (now (expression .entry)) ≡ left (now (index .exit)) r ⌝ }
 {
-    if !page::key_length_good(k as usize) {
+    let good_key = page::key_length_good(k as usize);
+    let good_expression = expression_good(expression);
+    if !good_key {
         return Insertion::Refused(27);
     }
-    if !expression_good(expression) {
+    if !good_expression {
         return Insertion::Refused(24);
     }
-    if index.len() < 1024 {
+    if index.len() < page::MIN_BYTES {
         return Insertion::Refused(30);
     }
     write_fresh(index, k, expression);

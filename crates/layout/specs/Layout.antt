@@ -1,4 +1,4 @@
--- Rules: pages as bytes: what a page that is written holds. Cited by insertion and by fresh. A buffer b is read as far as its own length here.
+-- Rules: the header and pages as bytes, once they are written. Cited by insertion and by fresh. A buffer b is read as far as its own length here.
 use Prim.Native.Nat.{ℕ, _+_, _-_, _%_}
 use mathlib.Core.Bool.{cond}
 use mathlib.Core.List.{List, [], _∷_, _++_}
@@ -6,8 +6,8 @@ use lib.ListN.{length, take, drop, replicate}
 use Rattle.octets.specs.Bytes.{toLe16, toLe32}
 use Rattle.octets.specs.Store.{put}
 use Rattle.tree.specs.Insertion.{half}
-use Rattle.page.specs.Header.{isPage}
-use Rattle.page.specs.Page.{attributeAt, rightAt, entriesStart, entryArea}
+use Rattle.page.specs.Header.{pageSize, noPage, rootPlace, sizePlace, expressionPlace, goodFeatures, isPage}
+use Rattle.page.specs.Page.{attributeAt, rightAt, countPlace, leftPlace, rightPlace, entriesStart, entryArea}
 use Rattle.page.specs.Reading.{Item, itemsAt}
 
 -- the entries of the page at p of the buffer
@@ -23,9 +23,35 @@ encode (e ∷ es) = e .0 ++ (e .1 ++ encode es)
 unfoldable pub area : List Item → List ℕ
 area es = encode es ++ replicate (entryArea - length (encode es)) 0
 
+-- the page at p with another attribute, count, left or right neighbour
+abbrev pub withAttribute : List ℕ → ℕ → ℕ → List ℕ
+withAttribute b p attribute = put b p (toLe16 attribute)
+
+abbrev pub withCount : List ℕ → ℕ → ℕ → List ℕ
+withCount b p count = put b (p + countPlace) (toLe16 count)
+
+abbrev pub withLeft : List ℕ → ℕ → ℕ → List ℕ
+withLeft b p left = put b (p + leftPlace) (toLe32 left)
+
+abbrev pub withRight : List ℕ → ℕ → ℕ → List ℕ
+withRight b p right = put b (p + rightPlace) (toLe32 right)
+
+-- the header with another root offset or file size
+abbrev pub withRoot : List ℕ → ℕ → List ℕ
+withRoot b root = put b rootPlace (toLe32 root)
+
+abbrev pub withSize : List ℕ → ℕ → List ℕ
+withSize b size = put b sizePlace (toLe32 size)
+
+-- a header written whole: "0-3 root offset, 4-7 free pointer, 8-11 file size F, 12-13 key length k, 14 features, 16-235 expression", all else zero
+abbrev pub headerBytes : ℕ → ℕ → ℕ → List ℕ → List ℕ
+headerBytes root size k e =
+    toLe32 root
+    ++ (toLe32 noPage ++ (toLe32 size ++ (toLe16 k ++ (goodFeatures ∷ 0 ∷ (e ++ replicate (pageSize - expressionPlace - length e) 0)))))
+
 -- the page at p with other entries: its count and its entry area
 unfoldable pub withEntries : List ℕ → ℕ → List Item → List ℕ
-withEntries b p es = put (put b (p + 2) (toLe16 (length es))) (p + entriesStart) (area es)
+withEntries b p es = put (withCount b p (length es)) (p + entriesStart) (area es)
 
 -- a page written whole: "0-1 attribute, 2-3 count, 4-7 left, 8-11 right, then entries"
 unfoldable pub newPage : List ℕ → ℕ → ℕ → ℕ → ℕ → List Item → List ℕ
@@ -38,7 +64,7 @@ withoutRoot a = a - a % 2
 
 -- the page beyond, at r, if there is one, gets q for its left neighbour
 unfoldable pub linkBeyond : List ℕ → ℕ → ℕ → List ℕ
-linkBeyond b r q = let linked = put b (r + 4) (toLe32 q) in cond (isPage (length b) r) linked b
+linkBeyond b r q = let linked = withLeft b r q in cond (isPage (length b) r) linked b
 
 -- "a page with capacity + 1 entries keeps the lower half, rounded up; the rest go to a new page" at q, its right neighbour. Neither has the root bit, both
 -- have the old leaf bit; the page beyond has the new page on its left
@@ -47,5 +73,5 @@ splitPage b p es q =
     let m = half (length es) in
     let a = withoutRoot (attributeAt b p) in
     let r = rightAt b p in
-    let lower = put (put (withEntries b p (take m es)) p (toLe16 a)) (p + 8) (toLe32 q) in
+    let lower = withRight (withAttribute (withEntries b p (take m es)) p a) p q in
     newPage (linkBeyond lower r q) q a p r (drop m es)

@@ -1,8 +1,8 @@
--- Laws: the stores that write a page are the rule's: a page with its entries, a new page, and a page that is split. Assumes nothing.
+-- Laws: the stores that write the header or a page are the rule's: a header, a page with its entries, a new page, and a page that is split. Assumes nothing.
 use Prim.Native.Nat.{ℕ, _+_, _-_, _*_, _/_, _%_, _≤_}
-use mathlib.Core.Path.{_≡_, sym, ap, _∙_}
+use mathlib.Core.Path.{_≡_, refl, sym, ap, _∙_}
 use mathlib.Core.Bool.{true}
-use mathlib.Core.List.{List}
+use mathlib.Core.List.{List, _++_}
 use native.Mathlib.Nat.{le-div-iff-mul-le, mul-le-mul-right, add-mul}
 use native.Mathlib.Omega.{arith}
 use lib.ListN.{length, take, drop, replicate, length-take, length-drop}
@@ -11,15 +11,52 @@ use Rattle.octets.specs.Bytes.{toLe16, toLe32}
 use Rattle.octets.specs.Store.{put}
 use Rattle.octets.specs.StoreLaws.{put-append, put-comm}
 use Rattle.octets.specs.NumberLaws.{length-toLe16, length-toLe32}
-use Rattle.page.specs.Header.{maxKey, pageSize, isPage}
+use Rattle.page.specs.Header.{maxKey, pageSize, noPage, freePlace, keyLengthPlace, featuresPlace, expressionPlace, goodFeatures, isPage}
 use Rattle.page.specs.Page.{attributeAt, rightAt, entriesStart, entryArea, capacity, entryOffset}
 use Rattle.page.specs.Reading.{Item, items}
 use Rattle.page.specs.PageLaws.{entries-fit, capacity-small}
 use Rattle.page.specs.HeaderLaws.{is-page}
 use Rattle.page.specs.ReadingLaws.{items-take}
-use Rattle.layout.specs.Layout.{encode, area, withEntries, newPage, linkBeyond, splitPage}
-use Rattle.layout.specs.Given.{Given, Over}
+use Rattle.layout.specs.Layout.{withAttribute, withCount, withLeft, withRight, withRoot, withSize, headerBytes}
+use Rattle.layout.specs.Layout.{encode, area, withEntries, newPage, withoutRoot, linkBeyond, splitPage}
+use Rattle.layout.specs.Given.{Given, Over, roomSize}
 use Rattle.layout.specs.ItemLaws.{length-items, encode-items, take-items, drop-items}
+
+-- a header written whole, as the stores of its parts: features is a byte, and the zero after it is stored with it
+header-parts : (root size k : ℕ) (e : List ℕ)
+    → headerBytes root size k e
+    ≡ toLe32 root
+    ++ (toLe32 noPage ++ (toLe32 size ++ (toLe16 k ++ (toLe16 goodFeatures ++ (e ++ replicate (pageSize - expressionPlace - length e) 0)))))
+unfolding toLe16
+header-parts root size k e = refl
+
+pub header-by : (b e : List ℕ) (root size k : ℕ) {l1 l2 l3 l4 l5 l6 l7 : List ℕ} → l1 ≡ withRoot b root → l2 ≡ put l1 freePlace (toLe32 noPage)
+    → l3 ≡ withSize l2 size → l4 ≡ put l3 keyLengthPlace (toLe16 k) → l5 ≡ put l4 featuresPlace (toLe16 goodFeatures) → l6 ≡ put l5 expressionPlace e
+    → l7 ≡ put l6 (expressionPlace + length e) (replicate (pageSize - (expressionPlace + length e)) 0) → l7 ≡ put b 0 (headerBytes root size k e)
+header-by b e root size k e1 e2 e3 e4 e5 e6 e7 =
+    let z : pageSize - (expressionPlace + length e) ≡ pageSize - expressionPlace - length e = omega arith in
+    e7
+    ∙ rw (
+      e6,
+      e5,
+      e4,
+      e3,
+      e2,
+      e1,
+      z,
+      header-parts root size k e,
+      put-append b 0 (toLe32 root),
+      length-toLe32 root,
+      put-append _ 4 (toLe32 noPage),
+      length-toLe32 noPage,
+      put-append _ 8 (toLe32 size),
+      length-toLe32 size,
+      put-append _ 12 (toLe16 k),
+      length-toLe16 k,
+      put-append _ 14 (toLe16 goodFeatures),
+      length-toLe16 goodFeatures,
+      put-append _ 16 e,
+    )
 
 -- the least that a page holds
 pub capacity-least : (k : ℕ) → k ≤ maxKey → 4 ≤ capacity k
@@ -46,18 +83,19 @@ pub encode-whole : (k n : ℕ) (s : List ℕ) → length s ≡ n * (k + 4) → e
 encode-whole k n s e = encode-items k n s (omega arith) ∙ take-all (n * (k + 4)) s (omega arith)
 
 module _ {b s : List ℕ} {k p n o : ℕ} {l1 l2 l3 : List ℕ} (g : Given b k p n s) where
-  pub with-entries-by : l1 ≡ put b (p + 2) (toLe16 n) → l2 ≡ put l1 (p + entriesStart) s → o ≡ entryOffset k p n
+  pub with-entries-by : l1 ≡ withCount b p n → l2 ≡ put l1 (p + entriesStart) s → o ≡ entryOffset k p n
       → l3 ≡ put l2 o (replicate (p + pageSize - o) 0) → l3 ≡ withEntries b p (items k n s)
   unfolding withEntries area
   with-entries-by e1 e2 eo e3 =
       let z = sizes g in
       let f : o ≡ p + entriesStart + length s = eo ∙ z .end in
       let r : p + pageSize - o ≡ entryArea - length s = omega (arith, f, z .bytes) in
-      e3 ∙ rw (r, f, e2, e1, length-items k n s, encode-whole k n s (g .size)) (sym (put-append (put b (p + 2) (toLe16 n)) (p + entriesStart) s (replicate (entryArea - length s) 0)))
+      e3 ∙ rw (r, f, e2, e1, length-items k n s, encode-whole k n s (g .size))
+      (sym (put-append (withCount b p n) (p + entriesStart) s (replicate (entryArea - length s) 0)))
 
 -- a page written whole, as the stores of its head and its entries
 new-page-stores : (b : List ℕ) (p a l r : ℕ) (es : List Item)
-    → newPage b p a l r es ≡ put (put (put (put (put b p (toLe16 a)) (p + 2) (toLe16 (length es))) (p + 4) (toLe32 l)) (p + 8) (toLe32 r)) (p + entriesStart) (area es)
+    → newPage b p a l r es ≡ put (withRight (withLeft (withCount (withAttribute b p a) p (length es)) p l) p r) (p + entriesStart) (area es)
 unfolding newPage
 new-page-stores b p a l r es =
     let n4 : p + 2 + 2 ≡ p + 4 = omega arith in
@@ -78,7 +116,7 @@ new-page-stores b p a l r es =
     )
 
 pub new-page-by : (b : List ℕ) (p a l r : ℕ) (es : List Item) {l1 l2 l3 l4 : List ℕ}
-    → l1 ≡ put b p (toLe16 a) → l2 ≡ put l1 (p + 4) (toLe32 l) → l3 ≡ put l2 (p + 8) (toLe32 r) → l4 ≡ withEntries l3 p es → l4 ≡ newPage b p a l r es
+    → l1 ≡ withAttribute b p a → l2 ≡ withLeft l1 p l → l3 ≡ withRight l2 p r → l4 ≡ withEntries l3 p es → l4 ≡ newPage b p a l r es
 unfolding withEntries
 new-page-by b p a l r es {l1} {l2} {l3} {l4} e1 e2 e3 e4 =
     let n = toLe16 (length es) in
@@ -96,7 +134,7 @@ pub record Halves (k n : ℕ) (s : List ℕ) : Type 0 where
   pub upper : n - (n + 1) / 2 ≤ capacity k
   pub rest : length s - (n + 1) / 2 * (k + 4) ≡ (n - (n + 1) / 2) * (k + 4)
   pub few : n ≤ 501
-  pub small : length s ≤ 604
+  pub small : length s ≤ roomSize
 
 pub halves : {b : List ℕ} {k p n : ℕ} {s : List ℕ} → Over b k p n s → Halves k n s
 halves {b} {k} {p} {n} {s} g =
@@ -137,8 +175,8 @@ module _ {b s : List ℕ} {k p n : ℕ} (g : Over b k p n s) where
   -- the stores of a split
   pub split-by : (q : ℕ) {a r : ℕ} {l1 l2 l3 l4 l5 : List ℕ} → a ≡ attributeAt b p → r ≡ rightAt b p
       → l1 ≡ withEntries b p (items k ((n + 1) / 2) (take ((n + 1) / 2 * (k + 4)) s))
-      → l2 ≡ put l1 p (toLe16 (a - a % 2)) → l3 ≡ put l2 (p + 8) (toLe32 q) → l4 ≡ linkBeyond l3 r q
-      → l5 ≡ newPage l4 q (a - a % 2) p r (items k (n - (n + 1) / 2) (take (length s - (n + 1) / 2 * (k + 4)) (drop ((n + 1) / 2 * (k + 4)) s)))
+      → l2 ≡ withAttribute l1 p (withoutRoot a) → l3 ≡ withRight l2 p q → l4 ≡ linkBeyond l3 r q
+      → l5 ≡ newPage l4 q (withoutRoot a) p r (items k (n - (n + 1) / 2) (take (length s - (n + 1) / 2 * (k + 4)) (drop ((n + 1) / 2 * (k + 4)) s)))
       → l5 ≡ splitPage b p (items k n s) q
   unfolding splitPage
   split-by q ea er e1 e2 e3 e4 e5 =

@@ -1,4 +1,4 @@
-// Pages as they are written: the entries gathered for a page, a page with its entries, a new page, and a page that is split.
+// The header and pages as they are written: their numbers, the entries gathered for a page, a page with its entries, a new page, and a page that is split.
 use page::Page;
 use page::PageOffset;
 use page::RecordNumber;
@@ -10,25 +10,93 @@ ghost use Rattle.octets.specs.Bytes.{toBe32};
 ghost use Rattle.octets.specs.Store.{put, window};
 ghost use Rattle.tree.specs.Order.{larger};
 ghost use Rattle.tree.specs.Pairs.{lastKey, insertPair};
-ghost use Rattle.page.specs.Header.{maxKey, pageSize, isPage};
+ghost use Rattle.page.specs.Header.{maxKey, pageSize, expressionPlace, isPage};
 ghost use Rattle.page.specs.Page.{capacity, entryOffset, keyAt};
 ghost use Rattle.page.specs.Within.{Within};
 ghost use Rattle.page.specs.KeyOrder.{bytesOrder};
 ghost use Rattle.page.specs.Reading.{items};
+ghost use Rattle.layout.specs.Layout.{withAttribute, withCount, withLeft, withRight, withRoot, withSize, headerBytes};
 ghost use Rattle.layout.specs.Layout.{itemsIn, encode, withEntries, newPage, linkBeyond, splitPage};
 ghost use Rattle.layout.specs.Entries.{chosen, childOf, replaced, raised, twoFor, rootEntries};
 ghost use Rattle.layout.specs.Given.{Given, Over, Listed, roomSize, chosenAt};
 
-// The room in which the entries of a page are gathered: the entry area and one entry more.
-pub const ROOM: usize = 604;
+// The room in which the entries of a page are gathered: the entry area and one entry more, with the longest key.
+pub const ROOM: usize = Page::ENTRY_AREA + page::MAX_KEY + 4;
 
-// Gives a page so many entries, held in a byte string: zero after the last.
+// Gives a page an attribute.
+fn set_attribute(index: &mut [u8], page: PageOffset, attribute: u32)
+    requires { ⌜ page .0 + pageSize ≤ length (now index) ⌝ }
+    ensures { λ _. ⌜ now (index .exit) ≡ withAttribute (now (index .entry)) (page .0) attribute ⌝ }
+{
+    octets::store_le16(index, page.0 as usize, attribute);
+}
+
+// Gives a page a count.
+fn set_count(index: &mut [u8], page: PageOffset, count: u32)
+    requires { ⌜ page .0 + pageSize ≤ length (now index) ⌝ }
+    ensures { λ _. ⌜ now (index .exit) ≡ withCount (now (index .entry)) (page .0) count ⌝ }
+{
+    octets::store_le16(index, page.0 as usize + Page::COUNT_PLACE, count);
+}
+
+// Gives a page a left neighbour.
+fn link_left(index: &mut [u8], page: PageOffset, left: PageOffset)
+    requires { ⌜ page .0 + pageSize ≤ length (now index) ⌝ }
+    ensures { λ _. ⌜ now (index .exit) ≡ withLeft (now (index .entry)) (page .0) (left .0) ⌝ }
+{
+    octets::store_le32(index, page.0 as usize + Page::LEFT_PLACE, left.0);
+}
+
+// Gives a page a right neighbour.
+fn link_right(index: &mut [u8], page: PageOffset, right: PageOffset)
+    requires { ⌜ page .0 + pageSize ≤ length (now index) ⌝ }
+    ensures { λ _. ⌜ now (index .exit) ≡ withRight (now (index .entry)) (page .0) (right .0) ⌝ }
+{
+    octets::store_le32(index, page.0 as usize + Page::RIGHT_PLACE, right.0);
+}
+
+// Gives the header a root offset.
+pub fn set_root(index: &mut [u8], root: PageOffset)
+    requires { ⌜ pageSize ≤ length (now index) ⌝ }
+    ensures { λ _. ⌜ now (index .exit) ≡ withRoot (now (index .entry)) (root .0) ⌝ }
+{
+    octets::store_le32(index, page::ROOT_PLACE, root.0);
+}
+
+// Gives the header the file size of a file that ends at an offset.
+pub fn set_file_end(index: &mut [u8], end: PageOffset)
+    requires { ⌜ pageSize ≤ length (now index) ⌝ }
+    ensures { λ _. ⌜ now (index .exit) ≡ withSize (now (index .entry)) (end .0) ⌝ }
+{
+    octets::store_le32(index, page::SIZE_PLACE, end.0);
+}
+
+// Writes a header whole: zero after the key expression.
+pub fn new_header(index: &mut [u8], root: PageOffset, end: PageOffset, k: u32, expression: &[u8])
+    requires { ⌜ (pageSize ≤ length (now index)) × (expressionPlace + length (now expression) ≤ pageSize) ⌝ }
+    ensures { λ _. ⌜ now (index .exit) ≡ put (now (index .entry)) 0 (headerBytes (root .0) (end .0) k (now (expression .entry))) ⌝ }
+{
+    set_root(index, root);
+    octets::store_le32(index, page::FREE_PLACE, page::NO_PAGE);
+    set_file_end(index, end);
+    octets::store_le16(index, page::KEY_LENGTH_PLACE, k);
+    octets::store_le16(index, page::FEATURES_PLACE, page::GOOD_FEATURES);
+    octets::copy_in(index, page::EXPRESSION_PLACE, expression);
+    octets::fill(
+        index,
+        page::EXPRESSION_PLACE + expression.len(),
+        Page::SIZE,
+        0,
+    );
+}
+
+// Gives a page `count` entries, held in a byte string: zero after the last.
 pub fn with_entries(index: &mut [u8], k: usize, page: PageOffset, count: usize, entries: &[u8])
     requires { ⌜ Given (now index) k (page .0) count (now entries) ⌝ }
     ensures { λ _. ⌜ now (index .exit) ≡ withEntries (now (index .entry)) (page .0) (items k count (now (entries .entry))) ⌝ }
 {
     let at = page.0 as usize;
-    octets::store_le16(index, at + 2, count as u32);
+    set_count(index, page, count as u32);
     octets::copy_in(index, at + Page::ENTRIES_START, entries);
     octets::fill(
         index,
@@ -41,12 +109,12 @@ pub fn with_entries(index: &mut [u8], k: usize, page: PageOffset, count: usize, 
 // Writes a page whole.
 pub fn new_page(index: &mut [u8], k: usize, page: PageOffset, head: Page, entries: &[u8])
     requires { ⌜ Given (now index) k (page .0) (head .count) (now entries) ⌝ }
-    ensures { λ _. ⌜ now (index .exit) ≡ newPage (now (index .entry)) (page .0) (head .attribute) (head .left .0) (head .right .0) (items k (head .count) (now (entries .entry))) ⌝ }
+    ensures { λ _. ⌜ now (index .exit) ≡ newPage (now (index .entry)) (page .0) (head .attribute) (head .left .0) (head .right .0)
+        (items k (head .count) (now (entries .entry))) ⌝ }
 {
-    let at = page.0 as usize;
-    octets::store_le16(index, at, head.attribute);
-    octets::store_le32(index, at + 4, head.left.0);
-    octets::store_le32(index, at + 8, head.right.0);
+    set_attribute(index, page, head.attribute);
+    link_left(index, page, head.left);
+    link_right(index, page, head.right);
     with_entries(index, k, page, head.count as usize, entries);
 }
 
@@ -55,11 +123,11 @@ fn link_beyond(index: &mut [u8], beyond: PageOffset, new: PageOffset)
     ensures { λ _. ⌜ now (index .exit) ≡ linkBeyond (now (index .entry)) (beyond .0) (new .0) ⌝ }
 {
     if page::is_page(index.len(), beyond) {
-        octets::store_le32(index, beyond.0 as usize + 4, new.0);
+        link_left(index, beyond, new);
     }
 }
 
-// Splits a page that is to have so many entries, held in a byte string: the lower half stays, rounded up, and the rest go to a new page.
+// Splits a page that is to have `count` entries, held in a byte string: the lower half stays, rounded up, and the rest go to a new page.
 pub fn split_page(
     index: &mut [u8],
     k: usize,
@@ -71,15 +139,14 @@ pub fn split_page(
     requires { ⌜ Over (now index) k (page .0) count (now entries) × (isPage (length (now index)) (new .0) ≡ true) ⌝ }
     ensures { λ _. ⌜ now (index .exit) ≡ splitPage (now (index .entry)) (page .0) (items k count (now (entries .entry))) (new .0) ⌝ }
 {
-    let at = page.0 as usize;
     let head = Page::at(index, page);
     let attribute = head.attribute - head.attribute % 2;
     let right = head.right;
     let lower = (count + 1) / 2;
     let cut = lower * (k + 4);
     with_entries(index, k, page, lower, &entries[..cut]);
-    octets::store_le16(index, at, attribute);
-    octets::store_le32(index, at + 8, new.0);
+    set_attribute(index, page, attribute);
+    link_right(index, page, new);
     link_beyond(index, right, new);
     let upper = Page {
         attribute: attribute,
@@ -182,7 +249,8 @@ fn copy_number(to: &mut [u8], at: usize, index: &[u8], k: usize, page: PageOffse
 // Copies the last key of a page, or a given key where the page has none.
 pub fn copy_last_key(to: &mut [u8], at: usize, index: &[u8], key: &[u8], page: PageOffset)
     requires { ⌜ (length (now key) ≤ maxKey) × (at + length (now key) ≤ length (now to)) ⌝ }
-    ensures { λ _. ⌜ now (to .exit) ≡ put (now (to .entry)) at (lastKey (now (key .entry)) (itemsIn (length (now (key .entry))) (now (index .entry)) (page .0))) ⌝ }
+    ensures { λ _. ⌜ now (to .exit) ≡ put (now (to .entry)) at
+        (lastKey (now (key .entry)) (itemsIn (length (now (key .entry))) (now (index .entry)) (page .0))) ⌝ }
 {
     let count = entry_count(index, key.len(), page);
     if count == 0 {
@@ -195,7 +263,8 @@ pub fn copy_last_key(to: &mut [u8], at: usize, index: &[u8], key: &[u8], page: P
 // Copies the larger of entry i's key and a key.
 fn copy_larger_key(to: &mut [u8], at: usize, index: &[u8], key: &[u8], page: PageOffset, i: usize)
     requires { ⌜ Within (now index) (length (now key)) (page .0) (i + 1) × (at + length (now key) ≤ length (now to)) ⌝ }
-    ensures { λ _. ⌜ now (to .exit) ≡ put (now (to .entry)) at (larger bytesOrder (keyAt (now (index .entry)) (length (now (key .entry))) (page .0) i) (now (key .entry))) ⌝ }
+    ensures { λ _. ⌜ now (to .exit) ≡ put (now (to .entry)) at
+        (larger bytesOrder (keyAt (now (index .entry)) (length (now (key .entry))) (page .0) i) (now (key .entry))) ⌝ }
 {
     if octets::is_below(page::compare_entry(index, page, i, key)) {
         octets::copy_in(to, at, key);
@@ -214,14 +283,15 @@ pub fn gather_pair(
     count: usize,
 )
     requires { ⌜ Listed (now index) (length (now key)) (page .0) count × (roomSize ≤ length (now room)) ⌝ }
-    ensures { λ _. ⌜ now (room .exit) ≡ put (now (room .entry)) 0 (encode (insertPair bytesOrder (now (key .entry)) (toBe32 (number .0)) (itemsIn (length (now (key .entry))) (now (index .entry)) (page .0)))) ⌝ }
+    ensures { λ _. ⌜ now (room .exit) ≡ put (now (room .entry)) 0
+        (encode (insertPair bytesOrder (now (key .entry)) (toBe32 (number .0)) (itemsIn (length (now (key .entry))) (now (index .entry)) (page .0)))) ⌝ }
 {
     let k = key.len();
     let i = page::first_at_or_above(index, page, count, key);
     let at = i * (k + 4);
     copy_entries(room, 0, index, k, page, 0, i);
     octets::copy_in(room, at, key);
-    octets::store_be32(room, at + k, number.0);
+    page::put_record_number(room, at + k, number);
     copy_entries(room, at + k + 4, index, k, page, i, count);
 }
 
@@ -236,7 +306,9 @@ pub fn gather_two(
     new: PageOffset,
 )
     requires { ⌜ Listed (now index) (length (now key)) (page .0) count × (1 ≤ count) × (roomSize ≤ length (now room)) ⌝ }
-    ensures { λ _. ⌜ now (room .exit) ≡ put (now (room .entry)) 0 (encode (replaced (now (key .entry)) (twoFor (length (now (key .entry))) (now (index .entry)) (now (key .entry)) (child .0) (new .0)) (itemsIn (length (now (key .entry))) (now (index .entry)) (page .0)))) ⌝ }
+    ensures { λ _. ⌜ now (room .exit) ≡ put (now (room .entry)) 0
+        (encode (replaced (now (key .entry)) (twoFor (length (now (key .entry))) (now (index .entry)) (now (key .entry)) (child .0) (new .0))
+        (itemsIn (length (now (key .entry))) (now (index .entry)) (page .0)))) ⌝ }
 {
     let k = key.len();
     let i = chosen_entry(index, key, page, count);
@@ -246,18 +318,19 @@ pub fn gather_two(
     copy_last_key(room, at, index, key, child);
     copy_number(room, at + k, index, k, page, i);
     copy_larger_key(room, next, index, key, page, i);
-    octets::store_be32(room, next + k, new.0);
+    page::put_child(room, next + k, new);
     copy_entries(room, next + k + 4, index, k, page, i + 1, count);
 }
 
 // Gathers the entries of a new root.
 pub fn gather_root(room: &mut [u8], index: &[u8], key: &[u8], old: PageOffset, new: PageOffset)
     requires { ⌜ (length (now key) ≤ maxKey) × (roomSize ≤ length (now room)) ⌝ }
-    ensures { λ _. ⌜ now (room .exit) ≡ put (now (room .entry)) 0 (encode (rootEntries (length (now (key .entry))) (now (index .entry)) (now (key .entry)) (old .0) (new .0))) ⌝ }
+    ensures { λ _. ⌜ now (room .exit) ≡ put (now (room .entry)) 0
+        (encode (rootEntries (length (now (key .entry))) (now (index .entry)) (now (key .entry)) (old .0) (new .0))) ⌝ }
 {
     let k = key.len();
     copy_last_key(room, 0, index, key, old);
-    octets::store_be32(room, k, old.0);
+    page::put_child(room, k, old);
     copy_last_key(room, k + 4, index, key, new);
-    octets::store_be32(room, k + 4 + k, new.0);
+    page::put_child(room, k + 4 + k, new);
 }

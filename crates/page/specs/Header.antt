@@ -8,6 +8,10 @@ use Rattle.octets.specs.Bytes.{byteAt, le16, le32}
 -- "pages of 512 bytes" and "0xFFFFFFFF for none", which the theory of the index names too
 pub use Rattle.tree.specs.Index.{pageSize, noPage}
 
+-- the smallest index, "1,024": a header and one page
+abbrev pub minBytes : ℕ
+minBytes = 1024
+
 -- the largest index, "1,048,576", and the most levels, "at most 11": the two limits that a larger index changes
 abbrev pub maxBytes : ℕ
 maxBytes = 1048576
@@ -19,29 +23,56 @@ maxLevels = 11
 abbrev pub maxKey : ℕ
 maxKey = 100
 
--- "0-3 root offset, 4-7 free pointer, 8-11 file size F, 12-13 key length k, 14 features"
+-- an offset has 32 bits
+abbrev pub maxOffset : ℕ
+maxOffset = 0xFFFFFFFF
+
+-- "0-3 root offset, 4-7 free pointer, 8-11 file size F, 12-13 key length k, 14 features, 16-235 expression": where each stands
+abbrev pub rootPlace : ℕ
+rootPlace = 0
+
+abbrev pub freePlace : ℕ
+freePlace = 4
+
+abbrev pub sizePlace : ℕ
+sizePlace = 8
+
+abbrev pub keyLengthPlace : ℕ
+keyLengthPlace = 12
+
+abbrev pub featuresPlace : ℕ
+featuresPlace = 14
+
+abbrev pub expressionPlace : ℕ
+expressionPlace = 16
+
+-- and the numbers there
 abbrev pub rootOffset : List ℕ → ℕ
-rootOffset b = le32 b 0
+rootOffset b = le32 b rootPlace
 
 abbrev pub freePointer : List ℕ → ℕ
-freePointer b = le32 b 4
+freePointer b = le32 b freePlace
 
 abbrev pub fileSize : List ℕ → ℕ
-fileSize b = le32 b 8
+fileSize b = le32 b sizePlace
 
 abbrev pub keyLength : List ℕ → ℕ
-keyLength b = le16 b 12
+keyLength b = le16 b keyLengthPlace
 
 abbrev pub features : List ℕ → ℕ
-features b = byteAt b 14
+features b = byteAt b featuresPlace
 
--- p is the offset of "a page of F other than the first", for a file of so many bytes
+-- "features is 1"
+abbrev pub goodFeatures : ℕ
+goodFeatures = 1
+
+-- p is the offset of "a page of F other than the first", for a file of size bytes
 unfoldable pub isPage : ℕ → ℕ → Bool
 isPage size p = eqb (p % pageSize) 0 && (leb pageSize p && leb (p + pageSize) size)
 
 -- "F is a multiple of 512 from 1,024 to 1,048,576 and within the buffer"
 unfoldable pub sizeGood : ℕ → ℕ → Bool
-sizeGood buffer size = eqb (size % pageSize) 0 && (leb 1024 size && (leb size maxBytes && leb size buffer))
+sizeGood buffer size = eqb (size % pageSize) 0 && (leb minBytes size && (leb size maxBytes && leb size buffer))
 
 -- "k is 1 to 100"
 unfoldable pub keyLengthGood : ℕ → Bool
@@ -54,4 +85,4 @@ headerGood b =
     leb pageSize (length b)
     && (sizeGood (length b) (fileSize b)
     && (isPage (fileSize b) (rootOffset b)
-    && (keyLengthGood (keyLength b) && (eqb (freePointer b) noPage && eqb (features b) 1))))
+    && (keyLengthGood (keyLength b) && (eqb (freePointer b) noPage && eqb (features b) goodFeatures))))

@@ -6,7 +6,8 @@ use mathlib.Core.List.{List}
 use lib.ListN.{length}
 use borrow.Author.Tests.{leb-true, eqb-true, le-leb, eq-eqb}
 use Rattle.basis.specs.Tests.{both, join}
-use Rattle.page.specs.Header.{maxBytes, maxKey, pageSize, noPage, rootOffset, freePointer, fileSize, keyLength, features, isPage, sizeGood, keyLengthGood, headerGood}
+use Rattle.page.specs.Header.{minBytes, maxBytes, maxKey, pageSize, noPage, rootOffset, freePointer, fileSize, keyLength, features, goodFeatures}
+use Rattle.page.specs.Header.{isPage, sizeGood, keyLengthGood, headerGood}
 
 -- the offset of a page other than the first
 pub record IsPage (size p : ℕ) : Type 0 where
@@ -29,14 +30,14 @@ is-page-from size p h = join _ _ (eq-eqb _ _ (h .whole)) (join _ _ (le-leb _ _ (
 pub record GoodHeader (b : List ℕ) : Type 0 where
   pub long : pageSize ≤ length b
   pub whole : fileSize b % pageSize ≡ 0
-  pub least : 1024 ≤ fileSize b
+  pub least : minBytes ≤ fileSize b
   pub most : fileSize b ≤ maxBytes
   pub within : fileSize b ≤ length b
   pub root : isPage (fileSize b) (rootOffset b) ≡ true
   pub key-low : 1 ≤ keyLength b
   pub key-high : keyLength b ≤ maxKey
   pub free : freePointer b ≡ noPage
-  pub plain : features b ≡ 1
+  pub plain : features b ≡ goodFeatures
 
 pub good-header : (b : List ℕ) → headerGood b ≡ true → GoodHeader b
 unfolding headerGood sizeGood keyLengthGood

@@ -8,24 +8,34 @@ use Rattle.octets.specs.Store.{window}
 use Rattle.octets.specs.Order.{bytesLe}
 use Rattle.page.specs.Header.{isPage}
 
--- "0-1 attribute (1 root, 2 leaf, summed), 2-3 count, 4-7 left, 8-11 right, then entries"
-abbrev pub attributeAt : List ℕ → ℕ → ℕ
-attributeAt b p = le16 b p
+-- "0-1 attribute (1 root, 2 leaf, summed), 2-3 count, 4-7 left, 8-11 right, then entries": where each stands behind the attribute, with which a page begins
+abbrev pub countPlace : ℕ
+countPlace = 2
 
-abbrev pub countAt : List ℕ → ℕ → ℕ
-countAt b p = le16 b (p + 2)
+abbrev pub leftPlace : ℕ
+leftPlace = 4
 
-abbrev pub leftAt : List ℕ → ℕ → ℕ
-leftAt b p = le32 b (p + 4)
-
-abbrev pub rightAt : List ℕ → ℕ → ℕ
-rightAt b p = le32 b (p + 8)
+abbrev pub rightPlace : ℕ
+rightPlace = 8
 
 abbrev pub entriesStart : ℕ
 entriesStart = 12
 
 abbrev pub entryArea : ℕ
 entryArea = 500
+
+-- and the numbers there
+abbrev pub attributeAt : List ℕ → ℕ → ℕ
+attributeAt b p = le16 b p
+
+abbrev pub countAt : List ℕ → ℕ → ℕ
+countAt b p = le16 b (p + countPlace)
+
+abbrev pub leftAt : List ℕ → ℕ → ℕ
+leftAt b p = le32 b (p + leftPlace)
+
+abbrev pub rightAt : List ℕ → ℕ → ℕ
+rightAt b p = le32 b (p + rightPlace)
 
 -- the root bit and the leaf bit of an attribute that is 0 to 3
 abbrev pub rootBit : ℕ → Bool
@@ -57,7 +67,7 @@ unfoldable pub countGood : ℕ → ℕ → ℕ → Bool
 countGood k a n = leb n (capacity k) && (leb 1 n || eqb a 3)
 
 -- "It checks the pages it visits only: offset, attribute in 0-3, root bit on the first alone, count as above, a leaf if it is the 11th": the page at p,
--- in a file of so many bytes with keys of k bytes
+-- in a file of size bytes with keys of k bytes
 unfoldable pub pageGood : List ℕ → ℕ → ℕ → ℕ → Bool → Bool → Bool
 pageGood b k size p first last =
     isPage size p && (attributeGood (attributeAt b p) first last && countGood k (attributeAt b p) (countAt b p))

@@ -20,7 +20,7 @@ unfoldable pub items : ℕ → ℕ → List ℕ → List Item
 items k zero xs = []
 items k (suc n) xs = (take k xs, take 4 (drop k xs)) ∷ items k n (drop (k + 4) xs)
 
--- the entries of the page at p, in a file of so many bytes: none where p is no page, and never more than the capacity
+-- the entries of the page at p, in a file of size bytes: none where p is no page, and never more than the capacity
 unfoldable pub itemsAt : ℕ → ℕ → List ℕ → ℕ → List Item
 itemsAt k size b p = cond (isPage size p) (items k (min (countAt b p) (capacity k)) (window b (p + entriesStart) entryArea)) []
 

@@ -4,11 +4,33 @@ ghost use mathlib.Core.Path.{_≡_};
 ghost use mathlib.Core.Bool.{Bool};
 ghost use Prim.Native.Nat.{ℕ, _+_, _≤_};
 ghost use lib.ListN.{length};
+ghost use Rattle.octets.specs.Bytes.{toBe32};
+ghost use Rattle.octets.specs.Store.{put};
 ghost use Rattle.octets.specs.Order.{ordering};
-ghost use Rattle.page.specs.Header.{maxKey, pageSize, rootOffset, fileSize, keyLength, isPage, sizeGood, keyLengthGood, headerGood};
-ghost use Rattle.page.specs.Page.{attributeAt, countAt, leftAt, rightAt, leafBit, capacity, entryOffset, keyAt, numberAt, attributeGood, countGood, pageGood, firstAtOrAbove};
+ghost use Rattle.page.specs.Header.{maxKey, maxOffset, pageSize, rootOffset, fileSize, keyLength, isPage, sizeGood, keyLengthGood, headerGood};
+ghost use Rattle.page.specs.Page.{attributeAt, countAt, leftAt, rightAt, leafBit, capacity, entryOffset, keyAt, numberAt};
+ghost use Rattle.page.specs.Page.{attributeGood, countGood, pageGood, firstAtOrAbove};
 ghost use Rattle.page.specs.Reading.{entriesAt};
 ghost use Rattle.page.specs.Within.{Within};
+
+// Where the header's numbers and its key expression stand.
+pub const ROOT_PLACE: usize = 0;
+
+pub const FREE_PLACE: usize = 4;
+
+pub const SIZE_PLACE: usize = 8;
+
+pub const KEY_LENGTH_PLACE: usize = 12;
+
+pub const FEATURES_PLACE: usize = 14;
+
+pub const EXPRESSION_PLACE: usize = 16;
+
+// The features of every index that is handled.
+pub const GOOD_FEATURES: u32 = 1;
+
+// The smallest index, in bytes: a header and one page.
+pub const MIN_BYTES: usize = 1024;
 
 // The largest index, in bytes.
 pub const MAX_BYTES: usize = 1048576;
@@ -39,6 +61,13 @@ pub struct Page {
 impl Page {
     pub const SIZE: usize = 512;
 
+    // Where the numbers of a page's head stand; its attribute is the first.
+    pub const COUNT_PLACE: usize = 2;
+
+    pub const LEFT_PLACE: usize = 4;
+
+    pub const RIGHT_PLACE: usize = 8;
+
     pub const ENTRIES_START: usize = 12;
 
     pub const ENTRY_AREA: usize = 500;
@@ -62,9 +91,9 @@ impl Page {
         let at = page.0 as usize;
         Page {
             attribute: octets::load_le16(index, at),
-            count: octets::load_le16(index, at + 2),
-            left: PageOffset(octets::load_le32(index, at + 4)),
-            right: PageOffset(octets::load_le32(index, at + 8)),
+            count: octets::load_le16(index, at + Self::COUNT_PLACE),
+            left: PageOffset(octets::load_le32(index, at + Self::LEFT_PLACE)),
+            right: PageOffset(octets::load_le32(index, at + Self::RIGHT_PLACE)),
         }
     }
 }
@@ -74,7 +103,15 @@ pub fn root(index: &[u8]) -> PageOffset
     requires { ⌜ pageSize ≤ length (now index) ⌝ }
     ensures { λ r. ⌜ r .0 ≡ rootOffset (now (index .entry)) ⌝ }
 {
-    PageOffset(octets::load_le32(index, 0))
+    PageOffset(octets::load_le32(index, ROOT_PLACE))
+}
+
+// The header's file size, taken as an offset: the file's end, at which the next new page begins.
+pub fn file_end(index: &[u8]) -> PageOffset
+    requires { ⌜ pageSize ≤ length (now index) ⌝ }
+    ensures { λ r. ⌜ r .0 ≡ fileSize (now (index .entry)) ⌝ }
+{
+    PageOffset(octets::load_le32(index, SIZE_PLACE))
 }
 
 // The header's file size.
@@ -82,7 +119,7 @@ pub fn file_size(index: &[u8]) -> usize
     requires { ⌜ pageSize ≤ length (now index) ⌝ }
     ensures { λ r. ⌜ r ≡ fileSize (now (index .entry)) ⌝ }
 {
-    octets::load_le32(index, 8) as usize
+    file_end(index).0 as usize
 }
 
 // The header's key length.
@@ -90,10 +127,10 @@ pub fn key_length(index: &[u8]) -> usize
     requires { ⌜ pageSize ≤ length (now index) ⌝ }
     ensures { λ r. ⌜ r ≡ keyLength (now (index .entry)) ⌝ }
 {
-    octets::load_le16(index, 12) as usize
+    octets::load_le16(index, KEY_LENGTH_PLACE) as usize
 }
 
-// Whether an offset is that of a page other than the first, in a file of so many bytes.
+// Whether an offset is that of a page other than the first, in a file of `size` bytes.
 pub fn is_page(size: usize, page: PageOffset) -> bool
     ensures { λ r. ⌜ r ≡ isPage size (page .0) ⌝ }
 {
@@ -101,11 +138,19 @@ pub fn is_page(size: usize, page: PageOffset) -> bool
     (at % Page::SIZE == 0) & ((Page::SIZE <= at) & (at + Page::SIZE <= size))
 }
 
-// Whether a file's size is good, in a buffer of so many bytes.
+// The offset at which a page ends and the next one begins.
+pub fn next_page(page: PageOffset) -> PageOffset
+    requires { ⌜ page .0 + pageSize ≤ maxOffset ⌝ }
+    ensures { λ r. ⌜ r .0 ≡ page .0 + pageSize ⌝ }
+{
+    PageOffset(page.0 + Page::SIZE as u32)
+}
+
+// Whether a file's size is good, in a buffer of `buffer` bytes.
 fn size_good(buffer: usize, size: usize) -> bool
     ensures { λ r. ⌜ r ≡ sizeGood buffer size ⌝ }
 {
-    (size % Page::SIZE == 0) & ((1024 <= size) & ((size <= MAX_BYTES) & (size <= buffer)))
+    (size % Page::SIZE == 0) & ((MIN_BYTES <= size) & ((size <= MAX_BYTES) & (size <= buffer)))
 }
 
 // Whether a key length is good.
@@ -126,7 +171,8 @@ pub fn header_good(index: &[u8]) -> bool
     size_good(index.len(), size)
         & (is_page(size, root(index))
             & (key_length_good(key_length(index))
-                & ((octets::load_le32(index, 4) == NO_PAGE) & (octets::byte(index, 14) == 1))))
+                & ((octets::load_le32(index, FREE_PLACE) == NO_PAGE)
+                    & (octets::byte(index, FEATURES_PLACE) == GOOD_FEATURES))))
 }
 
 // Whether an attribute that is 0 to 3 has the leaf bit.
@@ -151,7 +197,7 @@ pub fn count_good(k: usize, attribute: u32, count: u32) -> bool
     (count as usize <= Page::capacity(k)) & ((1 <= count) | (attribute == 3))
 }
 
-// Whether a page that is visited is good, with keys of k bytes in a file of so many bytes.
+// Whether a page that is visited is good, with keys of k bytes in a file of `size` bytes.
 pub fn page_good(
     index: &[u8],
     k: usize,
@@ -219,6 +265,22 @@ pub fn record_number(index: &[u8], k: usize, page: PageOffset, i: usize) -> Reco
     RecordNumber(entry_number(index, k, page, i))
 }
 
+// Stores the offset of a page as an entry's number.
+pub fn put_child(bytes: &mut [u8], at: usize, child: PageOffset)
+    requires { ⌜ at + 4 ≤ length (now bytes) ⌝ }
+    ensures { λ _. ⌜ now (bytes .exit) ≡ put (now (bytes .entry)) at (toBe32 (child .0)) ⌝ }
+{
+    octets::store_be32(bytes, at, child.0);
+}
+
+// Stores the number of a record as an entry's number.
+pub fn put_record_number(bytes: &mut [u8], at: usize, number: RecordNumber)
+    requires { ⌜ at + 4 ≤ length (now bytes) ⌝ }
+    ensures { λ _. ⌜ now (bytes .exit) ≡ put (now (bytes .entry)) at (toBe32 (number .0)) ⌝ }
+{
+    octets::store_be32(bytes, at, number.0);
+}
+
 // The order of entry i's key to a key.
 pub fn compare_entry(index: &[u8], page: PageOffset, i: usize, key: &[u8]) -> Ordering
     requires { ⌜ Within (now index) (length (now key)) (page .0) (i + 1) ⌝ }
@@ -229,7 +291,7 @@ pub fn compare_entry(index: &[u8], page: PageOffset, i: usize, key: &[u8]) -> Or
     octets::compare(&index[start..end], key)
 }
 
-// The first of so many entries whose key is at or above a key, or their number where there is none.
+// The first of `count` entries whose key is at or above a key, or `count` if there is none.
 pub fn first_at_or_above(index: &[u8], page: PageOffset, count: usize, key: &[u8]) -> usize
     requires { ⌜ Within (now index) (length (now key)) (page .0) count ⌝ }
     ensures { λ r. ⌜ (r ≡ firstAtOrAbove (keyAt (now (index .entry)) (length (now (key .entry))) (page .0)) (now (key .entry)) count 0) × (r ≤ count) ⌝ }

@@ -6,8 +6,8 @@ use Rattle.insert.proofs.at_root.Tie as tie
 enum-known-below : tie.Need-enum-known-below
 enum-known-below c = search needs
 
-store-le32-requires : tie.Need-store-le32-requires
-store-le32-requires c κs = search needs
+set-file-end-requires : tie.Need-set-file-end-requires
+set-file-end-requires c κs = search needs
 
 enum-known-below-2 : tie.Need-enum-known-below-2
 enum-known-below-2 c = search needs
@@ -22,7 +22,7 @@ same-length : tie.Need-same-length
 same-length c = search needs
 
 returns : tie.Need-returns
-returns c = rw (c .before .before .before .before .before .below .given .1) (c .before .before .store-le32 .ensures)
+returns c = rw (c .before .before .before .before .before .below .given .1) (c .before .before .set-file-end .ensures)
 
 same-length-2 : tie.Need-same-length-2
 same-length-2 c = search needs
@@ -38,7 +38,7 @@ at-root-spec =
     tie.close
     (tie.spec
     enum-known-below
-    store-le32-requires
+    set-file-end-requires
     enum-known-below-2
     new-root-requires
     enum-told

@@ -9,10 +9,12 @@ use Rattle.insert.proofs.insert_in_leaf.Statement.{statement}
 use Rattle.insert.proofs.insert_in_leaf.Tie as tie
 
 -- the leaf's entries are counted
-counted : (c : tie.After-entry-count) → let args = c .before .before .before .before .args in Listed (args .index .now) (length (args .key .now)) (args .page .0) (c .entry-count .result)
+counted : (c : tie.After-entry-count) → let args = c .before .before .before .before .args in
+    Listed (args .index .now) (length (args .key .now)) (args .page .0) (c .entry-count .result)
 counted c = let pre = c .before .before .before .before .pre in record { key = pre .0; page = pre .1; count = c .entry-count .ensures }
 
-products : (c : tie.After-entry-count) → let args = c .before .before .before .before .args in Spread (args .index .now) (length (args .key .now)) (args .page .0) (c .entry-count .result) (c .entry-count .result)
+products : (c : tie.After-entry-count) → let args = c .before .before .before .before .args in
+    Spread (args .index .now) (length (args .key .now)) (args .page .0) (c .entry-count .result) (c .entry-count .result)
 products c = spread _ (counted c) (omega arith)
 
 entry-count-requires : tie.Need-entry-count-requires
@@ -24,14 +26,14 @@ slice-aggregate-gather-pair c = search needs
 gather-pair-requires : tie.Need-gather-pair-requires
 gather-pair-requires c κs = (counted (c .before .before), search needs)
 
-add-end : tie.Need-add-end
-add-end c = let s = products (c .before .before .before .before) in omega arith
+add-size : tie.Need-add-size
+add-size c = let s = products (c .before .before .before .before) in omega arith
 
-add-end-2 : tie.Need-add-end-2
-add-end-2 c = search needs
+add-size-2 : tie.Need-add-size-2
+add-size-2 c = search needs
 
-mul-end : tie.Need-mul-end
-mul-end c = let s = products (c .before .before .before .before) in omega arith
+mul-size : tie.Need-mul-size
+mul-size c = let s = products (c .before .before .before .before) in omega arith
 
 add-take-in : tie.Need-add-take-in
 add-take-in c = let s = products (c .before .before .before .before .before) in omega arith
@@ -41,17 +43,23 @@ array-share-prefix-room c = let s = products (c .before .before .before .before 
 
 slice-aggregate-take-in : tie.Need-slice-aggregate-take-in
 slice-aggregate-take-in c =
-    let s = products (c .before .before .before .before .before .before) in simp length-take (omega (arith, c .before .before .before .gather-pair .kept .0))
+    let s = products (c .before .before .before .before .before .before) in
+    simp length-take (omega (arith, c .before .before .before .gather-pair .kept .0))
 
 take-in-requires : tie.Need-take-in-requires
-take-in-requires c κs = one-more _ (counted (c .before .before .before .before .before .before)) (omega (arith, c .before .before .before .gather-pair .kept .0))
+take-in-requires c κs =
+    one-more _ (counted (c .before .before .before .before .before .before)) (omega (arith, c .before .before .before .gather-pair .kept .0))
 
 same-length : tie.Need-same-length
 same-length c = search needs
 
 returns : tie.Need-returns
 returns c =
-    rw (pair-read (c .before .before .before .before .before .before .before .before .before .before .before .before .before .args .key .now) (c .before .before .before .before .before .before .before .before .before .before .before .before .before .args .number .0) _ (counted (c .before .before .before .before .before .before .before .before .before)) (omega arith) (c .before .before .before .before .before .before .gather-pair .ensures)) at (c .before .before .take-in .ensures)
+    let gathered = c .before .before .before .before .before .before in
+    let count = gathered .before .before .before in
+    let args = count .before .before .before .before .args in
+    rw (pair-read (args .key .now) (args .number .0) _ (counted count) (omega arith) (gathered .gather-pair .ensures))
+    at (c .before .before .take-in .ensures)
 
 pub insert-in-leaf-spec : {M : Type 1} → statement M
 insert-in-leaf-spec =
@@ -60,9 +68,9 @@ insert-in-leaf-spec =
     entry-count-requires
     slice-aggregate-gather-pair
     gather-pair-requires
-    add-end
-    add-end-2
-    mul-end
+    add-size
+    add-size-2
+    mul-size
     add-take-in
     array-share-prefix-room
     slice-aggregate-take-in

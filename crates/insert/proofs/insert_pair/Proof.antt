@@ -19,37 +19,41 @@ short s = let h = header s in omega (arith, s .pre .1)
 root-requires : tie.Need-root-requires
 root-requires c κs = header (c .before .before .before) .long
 
-file-size-requires : tie.Need-file-size-requires
-file-size-requires c κs = header (c .before .before .before .before .before) .long
-
-cast-file : tie.Need-cast-file
-cast-file c = let h = header (c .before .before .before .before .before .before) in omega (arith, c .file-size .ensures)
+file-end-requires : tie.Need-file-end-requires
+file-end-requires c κs = header (c .before .before .before .before .before) .long
 
 insert-under-requires : tie.Need-insert-under-requires
 insert-under-requires c κs =
-    let h = header (c .before .before .before .before .before .before .before) in (short (c .before .before .before .before .before .before .before), omega (arith, c .before .file-size .ensures))
+    let start = c .before .before .before .before .before .before .before in
+    let h = header start in
+    (short start, omega (arith, c .before .file-end .ensures))
 
 at-root-requires : tie.Need-at-root-requires
 at-root-requires c κs =
     let start = c .before .before .before .before .before .before .before .before .before .before .before in
     let h = header start in
-    (short start, omega (arith, c .before .before .before .insert-under .kept .0), next-fits _ _ _ _ _ _ _ _ (c .before .before .before .insert-under .result) (c .before .before .before .insert-under .ensures) (omega (arith, c .before .before .before .before .before .file-size .ensures)))
+    let below = c .before .before .before in (
+      short start,
+      omega (arith, below .insert-under .kept .0),
+      next-fits _ _ _ _ _ _ _ _ (below .insert-under .result) (below .insert-under .ensures) (omega (arith, below .before .before .file-end .ensures)),
+    )
 
 same-length : tie.Need-same-length
 same-length c = search needs
 
 returns : tie.Need-returns
 returns c =
-    let start = c .before .before .before .before .before .before .before .before .before .before .before .before .before .before in
-    pair-inserted _ (start .args .key .now) _ (start .pre .1) (c .before .before .before .before .before .before .before .before .before .before .root .ensures) (c .before .before .before .before .before .before .before .before .file-size .ensures) (c .before .before .before .before .before .before .insert-under .ensures) (c .before .before .at-root .ensures)
+    let below = c .before .before .before .before .before .before in
+    let start = below .before .before .before .before .before .before .before .before in
+    pair-inserted _ (start .args .key .now) _ (start .pre .1) (below .before .before .before .before .root .ensures) (below .before .before .file-end .ensures)
+    (below .insert-under .ensures) (c .before .before .at-root .ensures)
 
 pub insert-pair-spec : {M : Type 1} → statement M
 insert-pair-spec =
     tie.close
     (tie.spec
     root-requires
-    file-size-requires
-    cast-file
+    file-end-requires
     insert-under-requires
     at-root-requires
     same-length

@@ -1,12 +1,11 @@
 -- `insert::new_root` meets its contract: the root's page, then the header's two numbers; what was gathered reads as the rule's entries. Assumes nothing.
 use mathlib.Core.Path.{_≡_, sym, _∙_}
 use mathlib.Core.Bool.{true}
-use Prim.Native.Nat.{_+_}
 use native.Mathlib.Omega.{arith}
 use lib.ListN.{length, length-take}
 use borrow.Author.Tests.{not-true, not-false}
-use Rattle.page.specs.Header.{pageSize, isPage}
-use Rattle.page.specs.HeaderLaws.{is-page}
+use Rattle.page.specs.Header.{isPage}
+use Rattle.page.specs.HeaderLaws.{IsPage, is-page}
 use Rattle.layout.specs.WriteLaws.{capacity-least}
 use Rattle.layout.specs.FitLaws.{root-read}
 use Rattle.insert.specs.StepLaws.{root-none, root-new}
@@ -15,14 +14,14 @@ use Rattle.insert.proofs.new_root.Statement.{statement}
 use Rattle.insert.proofs.new_root.Tie as tie
 
 -- the new root is a page of the buffer
-page : (c : tie.Else1) → let args = c .before .before .before .before .before .args in isPage (length (args .index .now)) (args .new .0 + pageSize) ≡ true
-page c = sym (c .before .is-page .ensures) ∙ not-false _ (c .if1 .left)
+tested : (c : tie.Else1) → isPage (length (c .before .before .before .before .before .args .index .now)) (c .before .before .next-page .result .0) ≡ true
+tested c = sym (c .before .is-page .ensures) ∙ not-false _ (c .if1 .left)
 
-cast-at : tie.Need-cast-at
-cast-at c = search needs
+page : (c : tie.Else1) → IsPage (length (c .before .before .before .before .before .args .index .now)) (c .before .before .next-page .result .0)
+page c = is-page _ _ (tested c)
 
-add-at : tie.Need-add-at
-add-at c = search needs
+next-page-requires : tie.Need-next-page-requires
+next-page-requires c κs = search needs
 
 is-page-requires : tie.Need-is-page-requires
 is-page-requires c κs = search needs
@@ -30,7 +29,8 @@ is-page-requires c κs = search needs
 returns : tie.Need-returns
 returns c =
     let args = c .before .before .before .before .before .args in
-    root-none (args .index .now) (args .key .now) (args .old .0) (args .new .0) (sym (c .before .is-page .ensures) ∙ not-true _ (c .if1 .taken))
+    root-none (args .index .now) (args .key .now) (args .old .0) (args .new .0) (c .before .before .next-page .ensures)
+    (sym (c .before .is-page .ensures) ∙ not-true _ (c .if1 .taken))
 
 slice-aggregate-gather-root : tie.Need-slice-aggregate-gather-root
 slice-aggregate-gather-root c = search needs
@@ -38,67 +38,79 @@ slice-aggregate-gather-root c = search needs
 gather-root-requires : tie.Need-gather-root-requires
 gather-root-requires c κs = search needs
 
-add-end : tie.Need-add-end
-add-end c = search needs
+add-size : tie.Need-add-size
+add-size c = search needs
 
-mul-end : tie.Need-mul-end
-mul-end c = search needs
+mul-size : tie.Need-mul-size
+mul-size c = search needs
 
 array-share-prefix-room : tie.Need-array-share-prefix-room
 array-share-prefix-room c = search needs
 
 slice-aggregate-new-page : tie.Need-slice-aggregate-new-page
 slice-aggregate-new-page c =
-    simp length-take (omega (arith, c .before .before .before .gather-root .kept .0, c .before .before .before .before .before .before .before .before .before .before .before .pre .0))
+    let gathered = c .before .before .before in
+    simp length-take (omega (arith, gathered .gather-root .kept .0, gathered .before .before .before .before .before .before .before .before .pre .0))
 
 new-page-requires : tie.Need-new-page-requires
 new-page-requires c κs =
-    let g = is-page _ _ (page (c .before .before .before .before .before .before)) in
-    let args = c .before .before .before .before .before .before .before .before .before .before .before .args in
-    let m = capacity-least (length (args .key .now)) (c .before .before .before .before .before .before .before .before .before .before .before .pre .0) in
-    record { within = record { key = c .before .before .before .before .before .before .before .before .before .before .before .pre .0; count = omega arith; page = g .high }; size = simp length-take (omega (arith, c .before .before .before .gather-root .kept .0, c .before .before .before .before .before .before .before .before .before .before .before .pre .0)) }
+    let gathered = c .before .before .before in
+    let g = page (c .before .before .before .before .before .before) in
+    let start = gathered .before .before .before .before .before .before .before .before in
+    let m = capacity-least (length (start .args .key .now)) (start .pre .0) in
+    record {
+      within = record { key = start .pre .0; count = omega arith; page = g .high };
+      size = simp length-take (omega (arith, gathered .gather-root .kept .0, start .pre .0));
+    }
 
-store-le32-requires : tie.Need-store-le32-requires
-store-le32-requires c κs =
-    let g = is-page _ _ (page (c .before .before .before .before .before .before .before .before .before .before)) in omega (arith, c .before .before .before .new-page .kept .0)
+set-root-requires : tie.Need-set-root-requires
+set-root-requires c κs =
+    let g = page (c .before .before .before .before .before .before .before .before .before .before) in
+    omega (arith, c .before .before .before .new-page .kept .0)
 
-cast-store-le32 : tie.Need-cast-store-le32
-cast-store-le32 c = search needs
+next-page-requires-2 : tie.Need-next-page-requires-2
+next-page-requires-2 c κs =
+    let tested = c .before .before .before .before .before .before .before .before .before .before .before .before .before .before in
+    omega (arith, tested .before .before .next-page .ensures, tested .before .before .before .before .before .pre .1)
 
-add-store-le32 : tie.Need-add-store-le32
-add-store-le32 c = search needs
-
-store-le32-requires-2 : tie.Need-store-le32-requires-2
-store-le32-requires-2 c κs =
-    let g = is-page _ _ (page (c .before .before .before .before .before .before .before .before .before .before .before .before .before .before)) in omega (arith, c .before .before .before .store-le32 .kept .0, c .before .before .before .before .before .before .before .new-page .kept .0)
+set-file-end-requires : tie.Need-set-file-end-requires
+set-file-end-requires c κs =
+    let stored = c .before .before .before .before in
+    let written = c .before .before .before .before .before .before .before .before in
+    let g = page (written .before .before .before .before .before .before .before) in
+    omega (arith, stored .set-root .kept .0, written .new-page .kept .0)
 
 same-length : tie.Need-same-length
 same-length c = search needs
 
 returns-2 : tie.Need-returns-2
 returns-2 c =
-    let start = c .before .before .before .before .before .before .before .before .before .before .before .before .before .before .before .before .before .before .before .before .before .before in
+    let stored = c .before .before .before .before .before .before .before in
+    let written = stored .before .before .before .before in
+    let gathered = written .before .before .before .before in
+    let passed = gathered .before .before .before in
+    let start = passed .before .before .before .before .before in
     let args = start .args in
-    root-new (args .index .now) (args .key .now) (args .old .0) (args .new .0) (page (c .before .before .before .before .before .before .before .before .before .before .before .before .before .before .before .before .before)) (root-read (args .index .now) (args .key .now) (args .old .0) (args .new .0) _ (start .pre .0) (omega arith) (c .before .before .before .before .before .before .before .before .before .before .before .before .before .before .gather-root .ensures)) (c .before .before .before .before .before .before .before .before .before .before .new-page .ensures) (c .before .before .before .before .before .before .store-le32 .ensures) (c .before .before .store-le322 .ensures)
+    root-new (args .index .now) (args .key .now) (args .old .0) (args .new .0) (passed .before .before .next-page .ensures) (tested passed)
+    (root-read (args .index .now) (args .key .now) (args .old .0) (args .new .0) _ (start .pre .0) (omega arith) (gathered .gather-root .ensures))
+    (written .new-page .ensures) (stored .set-root .ensures) (c .before .before .before .next-page2 .ensures) (c .before .before .set-file-end .ensures)
 
 pub new-root-spec : {M : Type 1} → statement M
 new-root-spec =
     tie.close
     (tie.spec
-    cast-at
-    add-at
+    next-page-requires
     is-page-requires
     returns
     slice-aggregate-gather-root
     gather-root-requires
-    add-end
-    mul-end
+    add-size
+    mul-size
     array-share-prefix-room
     slice-aggregate-new-page
     new-page-requires
-    store-le32-requires
-    cast-store-le32
-    add-store-le32
-    store-le32-requires-2
+    set-root-requires
+    next-page-requires-2
+    set-file-end-requires
     same-length
     returns-2)

@@ -4,7 +4,6 @@ use native.Mathlib.Omega.{arith}
 use Rattle.page.specs.Header.{maxLevels}
 use Rattle.page.specs.HeaderLaws.{GoodHeader, good-header}
 use Rattle.insert.specs.RoomLaws.{path-levels, path-run, pages-few, room-told}
-use Rattle.insert.specs.RoomLaws.{path-levels, pages-few, room-told}
 use borrow.Author.Needs.{needs}
 use Rattle.insert.proofs.no_room.Statement.{statement}
 use Rattle.insert.proofs.no_room.Tie as tie
@@ -49,7 +48,10 @@ levels-after-requires c κs = few (c .before .before)
 
 returns : tie.Need-returns
 returns c =
-    room-told (c .before .before .before .before .before .before .before .args .index .now) (c .before .before .before .before .before .before .before .args .key .now) (c .before .before .before .before .before .before .before .pre .1) (c .before .before .before .before .root .ensures) (c .before .before .before .path-from .ensures) (c .before .before .file-size .ensures) (c .before .new-pages .ensures) (c .levels-after .ensures)
+    let root = c .before .before .before .before in
+    let start = root .before .before .before in
+    room-told (start .args .index .now) (start .args .key .now) (start .pre .1) (root .root .ensures) (c .before .before .before .path-from .ensures)
+    (c .before .before .file-size .ensures) (c .before .new-pages .ensures) (c .levels-after .ensures)
 
 pub no-room-spec : {M : Type 1} → statement M
 no-room-spec =

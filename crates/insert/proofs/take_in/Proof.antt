@@ -13,16 +13,18 @@ capacity-requires : tie.Need-capacity-requires
 capacity-requires c κs = search needs
 
 with-entries-requires : tie.Need-with-entries-requires
-with-entries-requires c κs = whole-given (c .before .before .before .before .before .pre) (omega (arith, c .before .if1 .taken, c .before .before .capacity .ensures))
+with-entries-requires c κs =
+    whole-given (c .before .before .before .before .before .pre) (omega (arith, c .before .if1 .taken, c .before .before .capacity .ensures))
 
 same-length : tie.Need-same-length
 same-length c = search needs
 
 returns : tie.Need-returns
 returns c =
-    let args = c .before .before .before .before .before .before .before .before .args in
-    takes-kept (args .k) (args .index .now) (args .page .0) _ (args .file)
-    (rw (length-items (args .k) (args .count) (args .entries .now)) (omega (arith, c .before .before .before .before .if1 .taken, c .before .before .before .before .before .capacity .ensures)))
+    let tested = c .before .before .before .before in
+    let args = tested .before .before .before .before .args in
+    takes-kept (args .k) (args .index .now) (args .page .0) _ (args .end .0)
+    (rw (length-items (args .k) (args .count) (args .entries .now)) (omega (arith, tested .if1 .taken, tested .before .capacity .ensures)))
     (c .before .before .with-entries .ensures)
 
 is-page-requires : tie.Need-is-page-requires
@@ -31,22 +33,25 @@ is-page-requires c κs = search needs
 returns-2 : tie.Need-returns-2
 returns-2 c =
     let args = c .before .before .before .before .before .before .args in
-    takes-none (args .k) (args .index .now) (args .page .0) _ (args .file)
+    takes-none (args .k) (args .index .now) (args .page .0) _ (args .end .0)
     (rw (length-items (args .k) (args .count) (args .entries .now)) (omega (arith, c .before .before .if1 .left, c .before .before .before .capacity .ensures)))
     (sym (c .before .is-page .ensures) ∙ not-true _ (c .if2 .taken))
 
 split-page-requires : tie.Need-split-page-requires
-split-page-requires c κs = (c .before .before .before .before .before .before .before .pre, sym (c .before .before .is-page .ensures) ∙ not-false _ (c .before .if2 .left))
+split-page-requires c κs =
+    (c .before .before .before .before .before .before .before .pre, sym (c .before .before .is-page .ensures) ∙ not-false _ (c .before .if2 .left))
 
 same-length-2 : tie.Need-same-length-2
 same-length-2 c = search needs
 
 returns-3 : tie.Need-returns-3
 returns-3 c =
-    let args = c .before .before .before .before .before .before .before .before .before .before .args in
-    takes-split (args .k) (args .index .now) (args .page .0) _ (args .file)
-    (rw (length-items (args .k) (args .count) (args .entries .now)) (omega (arith, c .before .before .before .before .before .before .if1 .left, c .before .before .before .before .before .before .before .capacity .ensures)))
-    (sym (c .before .before .before .before .before .is-page .ensures) ∙ not-false _ (c .before .before .before .before .if2 .left))
+    let page = c .before .before .before .before in
+    let tested = page .before .before in
+    let args = tested .before .before .before .before .args in
+    takes-split (args .k) (args .index .now) (args .page .0) _ (args .end .0)
+    (rw (length-items (args .k) (args .count) (args .entries .now)) (omega (arith, tested .if1 .left, tested .before .capacity .ensures)))
+    (sym (page .before .is-page .ensures) ∙ not-false _ (page .if2 .left))
     (c .before .before .split-page .ensures)
 
 pub take-in-spec : {M : Type 1} → statement M

@@ -11,17 +11,16 @@ use Rattle.insert.proofs.take_in_two.Statement.{statement}
 use Rattle.insert.proofs.take_in_two.Tie as tie
 
 -- the page's entries are counted
-counted : (c : tie.After-entry-count) → let args = c .before .before .before .before .before .args in Listed (args .index .now) (length (args .key .now)) (args .page .0) (c .entry-count .result)
+counted : (c : tie.After-entry-count) → let args = c .before .before .before .before .before .args in
+    Listed (args .index .now) (length (args .key .now)) (args .page .0) (c .entry-count .result)
 counted c = let pre = c .before .before .before .before .before .pre in record { key = pre .0; page = pre .1; count = c .entry-count .ensures }
 
-products : (c : tie.After-entry-count) → let args = c .before .before .before .before .before .args in Spread (args .index .now) (length (args .key .now)) (args .page .0) (c .entry-count .result) (c .entry-count .result)
+products : (c : tie.After-entry-count) → let args = c .before .before .before .before .before .args in
+    Spread (args .index .now) (length (args .key .now)) (args .page .0) (c .entry-count .result) (c .entry-count .result)
 products c = spread _ (counted c) (omega arith)
 
-cast-file : tie.Need-cast-file
-cast-file c = search needs
-
-add-file : tie.Need-add-file
-add-file c = search needs
+next-page-requires : tie.Need-next-page-requires
+next-page-requires c κs = search needs
 
 entry-count-requires : tie.Need-entry-count-requires
 entry-count-requires c κs = search needs
@@ -34,14 +33,18 @@ slice-aggregate-take-in c = search needs
 
 take-in-requires : tie.Need-take-in-requires
 take-in-requires c κs =
-    let pre = c .before .before .before .before .before .before .before .before .pre in record { key = pre .0; page = pre .1; count = omega arith; size = omega arith }
+    let pre = c .before .before .before .before .before .before .before .before .pre in
+    record { key = pre .0; page = pre .1; count = omega arith; size = omega arith }
 
 same-length : tie.Need-same-length
 same-length c = search needs
 
 returns : tie.Need-returns
 returns c =
-    two-for-none _ _ _ _ _ _ _ (sym (c .before .before .before .before .before .before .entry-count .ensures) ∙ c .before .before .before .before .before .if1 .taken) (c .before .before .take-in .ensures)
+    let tested = c .before .before .before .before .before in
+    let count = tested .before in
+    two-for-none _ _ _ _ _ _ _ (sym (count .entry-count .ensures) ∙ tested .if1 .taken) (count .before .before .next-page .ensures)
+    (c .before .before .take-in .ensures)
 
 slice-aggregate-gather-two : tie.Need-slice-aggregate-gather-two
 slice-aggregate-gather-two c = search needs
@@ -49,14 +52,14 @@ slice-aggregate-gather-two c = search needs
 gather-two-requires : tie.Need-gather-two-requires
 gather-two-requires c κs = (counted (c .before .before .before), omega (arith, c .before .before .if1 .left), search needs)
 
-add-end : tie.Need-add-end
-add-end c = let s = products (c .before .before .before .before .before) in omega arith
+add-size : tie.Need-add-size
+add-size c = let s = products (c .before .before .before .before .before) in omega arith
 
-add-end-2 : tie.Need-add-end-2
-add-end-2 c = search needs
+add-size-2 : tie.Need-add-size-2
+add-size-2 c = search needs
 
-mul-end : tie.Need-mul-end
-mul-end c = let s = products (c .before .before .before .before .before) in omega arith
+mul-size : tie.Need-mul-size
+mul-size c = let s = products (c .before .before .before .before .before) in omega arith
 
 add-take-in : tie.Need-add-take-in
 add-take-in c = let s = products (c .before .before .before .before .before .before) in omega arith
@@ -66,24 +69,30 @@ array-share-prefix-room-2 c = let s = products (c .before .before .before .befor
 
 slice-aggregate-take-in-2 : tie.Need-slice-aggregate-take-in-2
 slice-aggregate-take-in-2 c =
-    let s = products (c .before .before .before .before .before .before .before) in simp length-take (omega (arith, c .before .before .before .gather-two .kept .0))
+    let s = products (c .before .before .before .before .before .before .before) in
+    simp length-take (omega (arith, c .before .before .before .gather-two .kept .0))
 
 take-in-requires-2 : tie.Need-take-in-requires-2
-take-in-requires-2 c κs = one-more _ (counted (c .before .before .before .before .before .before .before)) (omega (arith, c .before .before .before .gather-two .kept .0))
+take-in-requires-2 c κs =
+    one-more _ (counted (c .before .before .before .before .before .before .before)) (omega (arith, c .before .before .before .gather-two .kept .0))
 
 same-length-2 : tie.Need-same-length-2
 same-length-2 c = search needs
 
 returns-2 : tie.Need-returns-2
 returns-2 c =
-    rw (two-read (c .before .before .before .before .before .before .before .before .before .before .before .before .before .before .before .args .key .now) _ _ _ (counted (c .before .before .before .before .before .before .before .before .before .before)) (c .before .before .before .before .before .before .before .before .before .if1 .left) (omega arith) (c .before .before .before .before .before .before .gather-two .ensures)) at (c .before .before .take-in2 .ensures)
+    let gathered = c .before .before .before .before .before .before in
+    let tested = gathered .before .before .before in
+    let count = tested .before in
+    let key = count .before .before .before .before .before .args .key .now in
+    rw (two-read key _ _ _ (counted count) (tested .if1 .left) (omega arith) (gathered .gather-two .ensures), count .before .before .next-page .ensures)
+    at (c .before .before .take-in2 .ensures)
 
 pub take-in-two-spec : {M : Type 1} → statement M
 take-in-two-spec =
     tie.close
     (tie.spec
-    cast-file
-    add-file
+    next-page-requires
     entry-count-requires
     array-share-prefix-room
     slice-aggregate-take-in
@@ -92,9 +101,9 @@ take-in-two-spec =
     returns
     slice-aggregate-gather-two
     gather-two-requires
-    add-end
-    add-end-2
-    mul-end
+    add-size
+    add-size-2
+    mul-size
     add-take-in
     array-share-prefix-room-2
     slice-aggregate-take-in-2

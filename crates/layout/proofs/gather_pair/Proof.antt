@@ -9,7 +9,8 @@ use Rattle.layout.proofs.gather_pair.Statement.{statement}
 use Rattle.layout.proofs.gather_pair.Tie as tie
 
 -- the products, where the search ends at entry i
-products : (c : tie.After-first-at-or-above) → let args = c .before .before .before .before .args in Spread (args .index .now) (length (args .key .now)) (args .page .0) (args .count) (c .first-at-or-above .result)
+products : (c : tie.After-first-at-or-above) → let args = c .before .before .before .before .args in
+    Spread (args .index .now) (length (args .key .now)) (args .page .0) (args .count) (c .first-at-or-above .result)
 products c = let start = c .before .before .before .before in spread _ (start .pre .0) (c .first-at-or-above .ensures .1)
 
 first-at-or-above-requires : tie.Need-first-at-or-above-requires
@@ -29,29 +30,41 @@ copy-entries-requires c κs =
 copy-in-requires : tie.Need-copy-in-requires
 copy-in-requires c κs = let s = products (c .before .before .before .before .before) in omega arith
 
-add-store-be32 : tie.Need-add-store-be32
-add-store-be32 c = let s = products (c .before .before .before .before .before .before .before .before .before) in omega arith
+add-put-record-number : tie.Need-add-put-record-number
+add-put-record-number c = let s = products (c .before .before .before .before .before .before .before .before .before) in omega arith
 
-store-be32-requires : tie.Need-store-be32-requires
-store-be32-requires c κs = let s = products (c .before .before .before .before .before .before .before .before .before) in omega arith
+put-record-number-requires : tie.Need-put-record-number-requires
+put-record-number-requires c κs = let s = products (c .before .before .before .before .before .before .before .before .before) in omega arith
 
 add-copy-entries : tie.Need-add-copy-entries
-add-copy-entries c = let s = products (c .before .before .before .before .before .before .before .before .before .before .before .before .before) in omega arith
+add-copy-entries c =
+    let s = products (c .before .before .before .before .before .before .before .before .before .before .before .before .before) in
+    omega arith
 
 add-copy-entries-2 : tie.Need-add-copy-entries-2
-add-copy-entries-2 c = let s = products (c .before .before .before .before .before .before .before .before .before .before .before .before .before) in omega arith
+add-copy-entries-2 c =
+    let s = products (c .before .before .before .before .before .before .before .before .before .before .before .before .before) in
+    omega arith
 
 copy-entries-requires-2 : tie.Need-copy-entries-requires-2
 copy-entries-requires-2 c κs =
-    let s = products (c .before .before .before .before .before .before .before .before .before .before .before .before .before) in (listed-within (c .before .before .before .before .before .before .before .before .before .before .before .before .before .before .before .before .before .pre .0), c .before .before .before .before .before .before .before .before .before .before .before .before .before .first-at-or-above .ensures .1, omega arith)
+    let found = c .before .before .before .before .before .before .before .before .before .before .before .before .before in
+    let s = products found in
+    (listed-within (found .before .before .before .before .pre .0), found .first-at-or-above .ensures .1, omega arith)
 
 same-length : tie.Need-same-length
 same-length c = search needs
 
 returns : tie.Need-returns
 returns c =
-    let start = c .before .before .before .before .before .before .before .before .before .before .before .before .before .before .before .before .before .before .before .before in
-    pair-gathered (start .args .key .now) (start .pre .0) (c .before .before .before .before .before .before .before .before .before .before .before .before .before .before .before .before .first-at-or-above .ensures .0) _ _ (c .before .before .before .before .before .before .before .before .before .before .before .before .before .before .copy-entries .ensures) (c .before .before .before .before .before .before .before .before .before .before .copy-in .ensures) (c .before .before .before .before .before .before .store-be32 .ensures) (c .before .before .copy-entries2 .ensures)
+    let after = c .before .before in
+    let number = after .before .before .before .before in
+    let key = number .before .before .before .before in
+    let first = key .before .before .before .before in
+    let found = first .before .before in
+    let start = found .before .before .before .before in
+    pair-gathered (start .args .key .now) (start .pre .0) (found .first-at-or-above .ensures .0) _ _ (first .copy-entries .ensures)
+    (key .copy-in .ensures) (number .put-record-number .ensures) (after .copy-entries2 .ensures)
 
 pub gather-pair-spec : {M : Type 1} → statement M
 gather-pair-spec =
@@ -62,8 +75,8 @@ gather-pair-spec =
     mul-at
     copy-entries-requires
     copy-in-requires
-    add-store-be32
-    store-be32-requires
+    add-put-record-number
+    put-record-number-requires
     add-copy-entries
     add-copy-entries-2
     copy-entries-requires-2

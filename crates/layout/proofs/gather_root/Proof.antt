@@ -7,8 +7,8 @@ use Rattle.layout.proofs.gather_root.Tie as tie
 copy-last-key-requires : tie.Need-copy-last-key-requires
 copy-last-key-requires c κs = search needs
 
-store-be32-requires : tie.Need-store-be32-requires
-store-be32-requires c κs = search needs
+put-child-requires : tie.Need-put-child-requires
+put-child-requires c κs = search needs
 
 add-copy-last-key : tie.Need-add-copy-last-key
 add-copy-last-key c = search needs
@@ -16,33 +16,38 @@ add-copy-last-key c = search needs
 copy-last-key-requires-2 : tie.Need-copy-last-key-requires-2
 copy-last-key-requires-2 c κs = search needs
 
-add-store-be32 : tie.Need-add-store-be32
-add-store-be32 c = search needs
+add-put-child : tie.Need-add-put-child
+add-put-child c = search needs
 
-add-store-be32-2 : tie.Need-add-store-be32-2
-add-store-be32-2 c = search needs
+add-put-child-2 : tie.Need-add-put-child-2
+add-put-child-2 c = search needs
 
-store-be32-requires-2 : tie.Need-store-be32-requires-2
-store-be32-requires-2 c κs = search needs
+put-child-requires-2 : tie.Need-put-child-requires-2
+put-child-requires-2 c κs = search needs
 
 same-length : tie.Need-same-length
 same-length c = search needs
 
 returns : tie.Need-returns
 returns c =
-    let args = c .before .before .before .before .before .before .before .before .before .before .before .before .before .before .before .before .before .before .before .args in
-    root-gathered (args .index .now) (args .key .now) _ _ _ (c .before .before .before .before .before .before .before .before .before .before .before .before .before .before .copy-last-key .ensures) (c .before .before .before .before .before .before .before .before .before .before .store-be32 .ensures) (c .before .before .before .before .before .before .copy-last-key2 .ensures) (c .before .before .store-be322 .ensures)
+    let new = c .before .before in
+    let last2 = new .before .before .before .before in
+    let old = last2 .before .before .before .before in
+    let last = old .before .before .before .before in
+    let args = last .before .before .before .before .before .args in
+    root-gathered (args .index .now) (args .key .now) _ _ _ (last .copy-last-key .ensures) (old .put-child .ensures)
+    (last2 .copy-last-key2 .ensures) (new .put-child2 .ensures)
 
 pub gather-root-spec : {M : Type 1} → statement M
 gather-root-spec =
     tie.close
     (tie.spec
     copy-last-key-requires
-    store-be32-requires
+    put-child-requires
     add-copy-last-key
     copy-last-key-requires-2
-    add-store-be32
-    add-store-be32-2
-    store-be32-requires-2
+    add-put-child
+    add-put-child-2
+    put-child-requires-2
     same-length
     returns)

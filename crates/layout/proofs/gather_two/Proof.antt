@@ -8,19 +8,26 @@ use Rattle.page.specs.Within.{Within}
 use Rattle.layout.specs.Given.{roomSize}
 use Rattle.layout.specs.EntryLaws.{listed-within}
 use Rattle.layout.specs.GatherLaws.{spread, Spread, two-gathered}
-use Prim.Native.Nat.{_+_}
 use borrow.Author.Needs.{needs}
 use Rattle.layout.proofs.gather_two.Statement.{statement}
 use Rattle.layout.proofs.gather_two.Tie as tie
 
 -- the products, where entry i is chosen: with i entries before, and with i + 1
 products : (c : tie.After-chosen-entry) → let args = c .before .before .before .before .args in let i = c .chosen-entry .result in
-    Spread (args .index .now) (length (args .key .now)) (args .page .0) (args .count) i × Spread (args .index .now) (length (args .key .now)) (args .page .0) (args .count) (i + 1)
-products c = let listed = c .before .before .before .before .pre .0 in (spread _ listed (omega (arith, c .chosen-entry .ensures .1)), spread _ listed (omega (arith, c .chosen-entry .ensures .1)))
+    Spread (args .index .now) (length (args .key .now)) (args .page .0) (args .count) i
+    × Spread (args .index .now) (length (args .key .now)) (args .page .0) (args .count) (i + 1)
+products c =
+    let listed = c .before .before .before .before .pre .0 in
+    (spread _ listed (omega (arith, c .chosen-entry .ensures .1)), spread _ listed (omega (arith, c .chosen-entry .ensures .1)))
 
 -- entry i lies within the page
-entry : (c : tie.After-chosen-entry) → let args = c .before .before .before .before .args in Within (args .index .now) (length (args .key .now)) (args .page .0) (c .chosen-entry .result + 1)
+entry : (c : tie.After-chosen-entry) → let args = c .before .before .before .before .args in
+    Within (args .index .now) (length (args .key .now)) (args .page .0) (c .chosen-entry .result + 1)
 entry c = within-entry _ (listed-within (c .before .before .before .before .pre .0)) (c .chosen-entry .ensures .1)
+
+-- the place where entry i is chosen, from the one where the larger key is copied
+abbrev chosen : tie.After-copy-larger-key → tie.After-chosen-entry
+chosen c = c .before .before .before .before .before .before .before .before .before .before .before .before .before .before
 
 chosen-entry-requires : tie.Need-chosen-entry-requires
 chosen-entry-requires c κs = search needs
@@ -50,42 +57,50 @@ add-copy-number c = let s = products (c .before .before .before .before .before 
 
 copy-number-requires : tie.Need-copy-number-requires
 copy-number-requires c κs =
-    let s = products (c .before .before .before .before .before .before .before .before .before) in (entry (c .before .before .before .before .before .before .before .before .before), omega arith)
+    let s = products (c .before .before .before .before .before .before .before .before .before) in
+    (entry (c .before .before .before .before .before .before .before .before .before), omega arith)
 
 copy-larger-key-requires : tie.Need-copy-larger-key-requires
 copy-larger-key-requires c κs =
-    let s = products (c .before .before .before .before .before .before .before .before .before .before .before .before .before) in (entry (c .before .before .before .before .before .before .before .before .before .before .before .before .before), omega arith)
+    let s = products (c .before .before .before .before .before .before .before .before .before .before .before .before .before) in
+    (entry (c .before .before .before .before .before .before .before .before .before .before .before .before .before), omega arith)
 
-add-store-be32 : tie.Need-add-store-be32
-add-store-be32 c =
-    let s = products (c .before .before .before .before .before .before .before .before .before .before .before .before .before .before .before .before .before) in omega arith
+add-put-child : tie.Need-add-put-child
+add-put-child c = let s = products (chosen (c .before .before .before)) in omega arith
 
-store-be32-requires : tie.Need-store-be32-requires
-store-be32-requires c κs =
-    let s = products (c .before .before .before .before .before .before .before .before .before .before .before .before .before .before .before .before .before) in omega arith
+put-child-requires : tie.Need-put-child-requires
+put-child-requires c κs = let s = products (chosen (c .before .before .before)) in omega arith
 
 add-copy-entries : tie.Need-add-copy-entries
-add-copy-entries c =
-    let s = products (c .before .before .before .before .before .before .before .before .before .before .before .before .before .before .before .before .before .before .before .before .before) in omega arith
+add-copy-entries c = let s = products (chosen (c .before .before .before .before .before .before .before)) in omega arith
 
 add-copy-entries-2 : tie.Need-add-copy-entries-2
-add-copy-entries-2 c =
-    let s = products (c .before .before .before .before .before .before .before .before .before .before .before .before .before .before .before .before .before .before .before .before .before) in omega arith
+add-copy-entries-2 c = let s = products (chosen (c .before .before .before .before .before .before .before)) in omega arith
 
 add-copy-entries-3 : tie.Need-add-copy-entries-3
-add-copy-entries-3 c =
-    let s = products (c .before .before .before .before .before .before .before .before .before .before .before .before .before .before .before .before .before .before .before .before .before) in omega arith
+add-copy-entries-3 c = let s = products (chosen (c .before .before .before .before .before .before .before)) in omega arith
 
 copy-entries-requires-2 : tie.Need-copy-entries-requires-2
 copy-entries-requires-2 c κs =
-    let s = products (c .before .before .before .before .before .before .before .before .before .before .before .before .before .before .before .before .before .before .before .before .before) in
-    let args = c .before .before .before .before .before .before .before .before .before .before .before .before .before .before .before .before .before .before .before .before .before .before .before .before .before .args in
-    let i = c .before .before .before .before .before .before .before .before .before .before .before .before .before .before .before .before .before .before .before .before .before .chosen-entry .result in
-    let first : i + 1 ≤ args .count = omega (arith, c .before .before .before .before .before .before .before .before .before .before .before .before .before .before .before .before .before .before .before .before .before .chosen-entry .ensures .1) in
-    let fits : i * (length (args .key .now) + 4) + length (args .key .now) + 4 + length (args .key .now) + 4 + (args .count - (i + 1)) * (length (args .key .now) + 4) ≤ roomSize = omega arith in (
-      listed-within (c .before .before .before .before .before .before .before .before .before .before .before .before .before .before .before .before .before .before .before .before .before .before .before .before .before .pre .0),
+    let larger = c .before .before .before .before .before .before .before in
+    let last = larger .before .before .before .before .before .before .before .before in
+    let s = products (chosen larger) in
+    let start = chosen larger .before .before .before .before in
+    let k = length (start .args .key .now) in
+    let i = chosen larger .chosen-entry .result in
+    let first : i + 1 ≤ start .args .count = omega (arith, chosen larger .chosen-entry .ensures .1) in
+    let fits : i * (k + 4) + k + 4 + k + 4 + (start .args .count - (i + 1)) * (k + 4) ≤ roomSize = omega arith in (
+      listed-within (start .pre .0),
       first,
-      omega (arith, c .before .before .before .before .before .before .before .before .before .before .before .before .before .before .before .before .before .before .before .before .before .before .before .before .before .pre .2, c .before .before .before .store-be32 .kept .0, c .before .before .before .before .before .before .before .copy-larger-key .kept .0, c .before .before .before .before .before .before .before .before .before .before .before .copy-number .kept .0, c .before .before .before .before .before .before .before .before .before .before .before .before .before .before .before .copy-last-key .kept .0, c .before .before .before .before .before .before .before .before .before .before .before .before .before .before .before .before .before .before .before .copy-entries .kept .0),
+      omega (
+        arith,
+        start .pre .2,
+        c .before .before .before .put-child .kept .0,
+        larger .copy-larger-key .kept .0,
+        larger .before .before .before .before .copy-number .kept .0,
+        last .copy-last-key .kept .0,
+        last .before .before .before .before .copy-entries .kept .0,
+      ),
     )
 
 same-length : tie.Need-same-length
@@ -93,9 +108,16 @@ same-length c = search needs
 
 returns : tie.Need-returns
 returns c =
-    let start = c .before .before .before .before .before .before .before .before .before .before .before .before .before .before .before .before .before .before .before .before .before .before .before .before .before .before .before .before in
-    let chosen = c .before .before .before .before .before .before .before .before .before .before .before .before .before .before .before .before .before .before .before .before .before .before .before .before .chosen-entry .ensures in
-    two-gathered (start .args .key .now) (start .pre .0) (chosen .0) (chosen .1) _ _ _ (c .before .before .before .before .before .before .before .before .before .before .before .before .before .before .before .before .before .before .before .before .before .before .copy-entries .ensures) (c .before .before .before .before .before .before .before .before .before .before .before .before .before .before .before .before .before .before .copy-last-key .ensures) (c .before .before .before .before .before .before .before .before .before .before .before .before .before .before .copy-number .ensures) (c .before .before .before .before .before .before .before .before .before .before .copy-larger-key .ensures) (c .before .before .before .before .before .before .store-be32 .ensures) (c .before .before .copy-entries2 .ensures)
+    let after = c .before .before in
+    let child = after .before .before .before .before in
+    let larger = child .before .before .before .before in
+    let number = larger .before .before .before .before in
+    let last = number .before .before .before .before in
+    let first = last .before .before .before .before in
+    let start = chosen larger .before .before .before .before in
+    let found = chosen larger .chosen-entry .ensures in
+    two-gathered (start .args .key .now) (start .pre .0) (found .0) (found .1) _ _ _ (first .copy-entries .ensures) (last .copy-last-key .ensures)
+    (number .copy-number .ensures) (larger .copy-larger-key .ensures) (child .put-child .ensures) (after .copy-entries2 .ensures)
 
 pub gather-two-spec : {M : Type 1} → statement M
 gather-two-spec =
@@ -111,8 +133,8 @@ gather-two-spec =
     add-copy-number
     copy-number-requires
     copy-larger-key-requires
-    add-store-be32
-    store-be32-requires
+    add-put-child
+    put-child-requires
     add-copy-entries
     add-copy-entries-2
     add-copy-entries-3

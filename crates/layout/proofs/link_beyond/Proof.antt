@@ -1,6 +1,5 @@
 -- `layout::link_beyond` meets its contract: it stores only where the rule's test holds. Assumes nothing.
 use mathlib.Core.Path.{sym, _∙_}
-use native.Mathlib.Omega.{arith}
 use Rattle.page.specs.HeaderLaws.{is-page}
 use Rattle.layout.specs.Layout.{linkBeyond}
 use borrow.Author.Needs.{needs}
@@ -10,14 +9,8 @@ use Rattle.layout.proofs.link_beyond.Tie as tie
 is-page-requires : tie.Need-is-page-requires
 is-page-requires c κs = search needs
 
-cast-store-le32 : tie.Need-cast-store-le32
-cast-store-le32 c = search needs
-
-add-store-le32 : tie.Need-add-store-le32
-add-store-le32 c = search needs
-
-store-le32-requires : tie.Need-store-le32-requires
-store-le32-requires c κs = let g = is-page _ _ (sym (c .before .before .before .is-page .ensures) ∙ c .before .before .if1 .taken) in omega arith
+link-left-requires : tie.Need-link-left-requires
+link-left-requires c κs = is-page _ _ (sym (c .before .before .is-page .ensures) ∙ c .before .if1 .taken) .high
 
 same-length : tie.Need-same-length
 same-length c = search needs
@@ -25,7 +18,9 @@ same-length c = search needs
 returns : tie.Need-returns
 unfolding linkBeyond
 returns c =
-    rw (sym (c .before .before .before .before .before .before .is-page .ensures) ∙ c .before .before .before .before .before .if1 .taken) (c .before .before .store-le32 .ensures)
+    let linked = c .before .before in
+    let tested = linked .before .before in
+    rw (sym (tested .before .is-page .ensures) ∙ tested .if1 .taken) (linked .link-left .ensures)
 
 returns-2 : tie.Need-returns-2
 unfolding linkBeyond
@@ -36,9 +31,7 @@ link-beyond-spec =
     tie.close
     (tie.spec
     is-page-requires
-    cast-store-le32
-    add-store-le32
-    store-le32-requires
+    link-left-requires
     same-length
     returns
     returns-2)

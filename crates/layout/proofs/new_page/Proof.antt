@@ -4,23 +4,14 @@ use borrow.Author.Needs.{needs}
 use Rattle.layout.proofs.new_page.Statement.{statement}
 use Rattle.layout.proofs.new_page.Tie as tie
 
-cast-at : tie.Need-cast-at
-cast-at c = search needs
+set-attribute-requires : tie.Need-set-attribute-requires
+set-attribute-requires c κs = search needs
 
-store-le16-requires : tie.Need-store-le16-requires
-store-le16-requires c κs = search needs
+link-left-requires : tie.Need-link-left-requires
+link-left-requires c κs = search needs
 
-add-store-le32 : tie.Need-add-store-le32
-add-store-le32 c = search needs
-
-store-le32-requires : tie.Need-store-le32-requires
-store-le32-requires c κs = search needs
-
-add-store-le32-2 : tie.Need-add-store-le32-2
-add-store-le32-2 c = search needs
-
-store-le32-requires-2 : tie.Need-store-le32-requires-2
-store-le32-requires-2 c κs = search needs
+link-right-requires : tie.Need-link-right-requires
+link-right-requires c κs = search needs
 
 cast-with-entries : tie.Need-cast-with-entries
 cast-with-entries c = search needs
@@ -33,18 +24,19 @@ same-length c = search needs
 
 returns : tie.Need-returns
 returns c =
-    new-page-by _ _ _ _ _ _ (c .before .before .before .before .before .before .before .before .before .before .before .before .before .before .before .store-le16 .ensures) (c .before .before .before .before .before .before .before .before .before .before .before .store-le32 .ensures) (c .before .before .before .before .before .before .before .store-le322 .ensures) (c .before .before .with-entries .ensures)
+    let given = c .before .before in
+    let right = given .before .before .before .before .before in
+    let left = right .before .before .before .before in
+    let attribute = left .before .before .before .before in
+    new-page-by _ _ _ _ _ _ (attribute .set-attribute .ensures) (left .link-left .ensures) (right .link-right .ensures) (given .with-entries .ensures)
 
 pub new-page-spec : {M : Type 1} → statement M
 new-page-spec =
     tie.close
     (tie.spec
-    cast-at
-    store-le16-requires
-    add-store-le32
-    store-le32-requires
-    add-store-le32-2
-    store-le32-requires-2
+    set-attribute-requires
+    link-left-requires
+    link-right-requires
     cast-with-entries
     with-entries-requires
     same-length

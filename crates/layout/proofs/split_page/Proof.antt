@@ -7,11 +7,12 @@ use borrow.Author.Needs.{needs}
 use Rattle.layout.proofs.split_page.Statement.{statement}
 use Rattle.layout.proofs.split_page.Tie as tie
 
-cast-at : tie.Need-cast-at
-cast-at c = search needs
+-- the call's start, from the place where the attribute is stored
+abbrev start : tie.After-set-attribute → tie.Start
+start c = c .before .before .before .before .before .before .before .before .before .before .before .before .before .before
 
 at-requires : tie.Need-at-requires
-at-requires c κs = is-page _ _ (c .before .before .before .before .pre .0 .page) .high
+at-requires c κs = is-page _ _ (c .before .before .before .pre .0 .page) .high
 
 sub-attribute : tie.Need-sub-attribute
 sub-attribute c = search needs
@@ -23,62 +24,69 @@ add-cut : tie.Need-add-cut
 add-cut c = search needs
 
 mul-cut : tie.Need-mul-cut
-mul-cut c = let h = halves (c .before .before .before .before .before .before .before .before .pre .0) in omega arith
+mul-cut c = let h = halves (c .before .before .before .before .before .before .before .pre .0) in omega arith
 
 slice-aggregate-with-entries : tie.Need-slice-aggregate-with-entries
-slice-aggregate-with-entries c = let h = halves (c .before .before .before .before .before .before .before .before .before .before .pre .0) in simp length-take (omega arith)
+slice-aggregate-with-entries c =
+    let h = halves (c .before .before .before .before .before .before .before .before .before .pre .0) in
+    simp length-take (omega arith)
 
 with-entries-requires : tie.Need-with-entries-requires
-with-entries-requires c κs = lower-given (c .before .before .before .before .before .before .before .before .before .before .pre .0)
+with-entries-requires c κs = lower-given (c .before .before .before .before .before .before .before .before .before .pre .0)
 
-store-le16-requires : tie.Need-store-le16-requires
-store-le16-requires c κs =
-    let g = is-page _ _ (c .before .before .before .before .before .before .before .before .before .before .before .before .before .before .pre .0 .page) in omega arith
+set-attribute-requires : tie.Need-set-attribute-requires
+set-attribute-requires c κs =
+    let g = is-page _ _ (c .before .before .before .before .before .before .before .before .before .before .before .before .before .pre .0 .page) in
+    omega arith
 
-add-store-le32 : tie.Need-add-store-le32
-add-store-le32 c = search needs
-
-store-le32-requires : tie.Need-store-le32-requires
-store-le32-requires c κs =
-    let g = is-page _ _ (c .before .before .before .before .before .before .before .before .before .before .before .before .before .before .before .before .before .before .pre .0 .page) in omega arith
+link-right-requires : tie.Need-link-right-requires
+link-right-requires c κs = let g = is-page _ _ (start (c .before .before .before) .pre .0 .page) in omega arith
 
 link-beyond-requires : tie.Need-link-beyond-requires
 link-beyond-requires c κs = search needs
 
-sub-t17 : tie.Need-sub-t17
-sub-t17 c = search needs
+sub-t16 : tie.Need-sub-t16
+sub-t16 c = search needs
 
-cast-t16 : tie.Need-cast-t16
-cast-t16 c =
-    let h = halves (c .before .before .before .before .before .before .before .before .before .before .before .before .before .before .before .before .before .before .before .before .before .before .before .before .before .pre .0) in omega arith
+cast-t15 : tie.Need-cast-t15
+cast-t15 c = let h = halves (start (c .before .before .before .before .before .before .before .before .before .before) .pre .0) in omega arith
 
 sub-new-page : tie.Need-sub-new-page
 sub-new-page c =
-    let h = halves (c .before .before .before .before .before .before .before .before .before .before .before .before .before .before .before .before .before .before .before .before .before .before .before .before .before .before .pre .0) in omega arith
+    let h = halves (start (c .before .before .before .before .before .before .before .before .before .before .before) .pre .0) in
+    omega arith
 
 part-new-page-start : tie.Need-part-new-page-start
 part-new-page-start c =
-    let h = halves (c .before .before .before .before .before .before .before .before .before .before .before .before .before .before .before .before .before .before .before .before .before .before .before .before .before .before .pre .0) in omega arith
+    let h = halves (start (c .before .before .before .before .before .before .before .before .before .before .before) .pre .0) in
+    omega arith
 
 part-new-page-end : tie.Need-part-new-page-end
 part-new-page-end c = search needs
 
 new-page-requires : tie.Need-new-page-requires
 new-page-requires c κs =
-    upper-given (c .before .before .before .before .before .before .before .before .before .before .before .before .before .before .before .before .before .before .before .before .before .before .before .before .before .before .before .pre .0) _ _ (search needs) (c .before .before .before .before .before .before .before .before .before .before .before .before .before .before .before .before .before .before .before .before .before .before .before .before .before .before .before .pre .1)
+    upper-given (start (c .before .before .before .before .before .before .before .before .before .before .before .before) .pre .0)
+    _ _ (search needs) (start (c .before .before .before .before .before .before .before .before .before .before .before .before) .pre .1)
 
 same-length : tie.Need-same-length
 same-length c = search needs
 
 returns : tie.Need-returns
 returns c =
-    split-by (c .before .before .before .before .before .before .before .before .before .before .before .before .before .before .before .before .before .before .before .before .before .before .before .before .before .before .before .before .before .before .pre .0) _ (c .before .before .before .before .before .before .before .before .before .before .before .before .before .before .before .before .before .before .before .before .before .before .before .before .before .at .ensures .0) (c .before .before .before .before .before .before .before .before .before .before .before .before .before .before .before .before .before .before .before .before .before .before .before .before .before .at .ensures .1 .1 .1) (c .before .before .before .before .before .before .before .before .before .before .before .before .before .before .before .before .before .before .before .with-entries .ensures) (c .before .before .before .before .before .before .before .before .before .before .before .before .before .before .before .store-le16 .ensures) (c .before .before .before .before .before .before .before .before .before .before .before .store-le32 .ensures) (c .before .before .before .before .before .before .before .link-beyond .ensures) (c .before .before .new-page .ensures)
+    let upper = c .before .before in
+    let beyond = upper .before .before .before .before .before in
+    let right = beyond .before .before .before .before in
+    let attribute = right .before .before .before .before in
+    let lower = attribute .before .before .before .before in
+    let head = lower .before .before .before .before .before .before in
+    split-by (head .before .before .before .before .pre .0) _ (head .at .ensures .0) (head .at .ensures .1 .1 .1) (lower .with-entries .ensures)
+    (attribute .set-attribute .ensures) (right .link-right .ensures) (beyond .link-beyond .ensures) (upper .new-page .ensures)
 
 pub split-page-spec : {M : Type 1} → statement M
 split-page-spec =
     tie.close
     (tie.spec
-    cast-at
     at-requires
     sub-attribute
     add-lower
@@ -86,12 +94,11 @@ split-page-spec =
     mul-cut
     slice-aggregate-with-entries
     with-entries-requires
-    store-le16-requires
-    add-store-le32
-    store-le32-requires
+    set-attribute-requires
+    link-right-requires
     link-beyond-requires
-    sub-t17
-    cast-t16
+    sub-t16
+    cast-t15
     sub-new-page
     part-new-page-start
     part-new-page-end

@@ -8,14 +8,11 @@ use Rattle.layout.proofs.with_entries.Tie as tie
 cast-at : tie.Need-cast-at
 cast-at c = search needs
 
-add-store-le16 : tie.Need-add-store-le16
-add-store-le16 c = search needs
+cast-set-count : tie.Need-cast-set-count
+cast-set-count c = let z = sizes (c .before .before .before .before .pre) in omega arith
 
-cast-store-le16 : tie.Need-cast-store-le16
-cast-store-le16 c = let z = sizes (c .before .before .before .before .pre) in omega arith
-
-store-le16-requires : tie.Need-store-le16-requires
-store-le16-requires c κs = search needs
+set-count-requires : tie.Need-set-count-requires
+set-count-requires c κs = search needs
 
 add-copy-in : tie.Need-add-copy-in
 add-copy-in c = search needs
@@ -31,23 +28,27 @@ add-fill c = search needs
 
 fill-requires : tie.Need-fill-requires
 fill-requires c κs =
-    let z = sizes (c .before .before .before .before .before .before .before .before .before .before .before .before .before .pre) in (omega (arith, c .entry-offset .ensures), omega arith)
+    let z = sizes (c .before .before .before .before .before .before .before .before .before .before .before .before .before .pre) in
+    (omega (arith, c .entry-offset .ensures), omega arith)
 
 same-length : tie.Need-same-length
 same-length c = search needs
 
 returns : tie.Need-returns
 returns c =
-    with-entries-by (c .before .before .before .before .before .before .before .before .before .before .before .before .before .before .before .before .pre) (c .before .before .before .before .before .before .before .before .before .before .before .store-le16 .ensures) (c .before .before .before .before .before .before .before .copy-in .ensures) (c .before .before .before .entry-offset .ensures) (c .before .before .fill .ensures)
+    let filled = c .before .before in
+    let copied = filled .before .before .before .before .before in
+    let counted = copied .before .before .before .before in
+    with-entries-by (counted .before .before .before .before .before .pre) (counted .set-count .ensures) (copied .copy-in .ensures)
+    (filled .before .entry-offset .ensures) (filled .fill .ensures)
 
 pub with-entries-spec : {M : Type 1} → statement M
 with-entries-spec =
     tie.close
     (tie.spec
     cast-at
-    add-store-le16
-    cast-store-le16
-    store-le16-requires
+    cast-set-count
+    set-count-requires
     add-copy-in
     copy-in-requires
     entry-offset-requires
