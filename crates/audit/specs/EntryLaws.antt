@@ -18,7 +18,7 @@ use Rattle.page.specs.Page.{capacity, entryOffset, keyAt, numberAt}
 use Rattle.page.specs.PageLaws.{entry-low}
 use Rattle.page.specs.Reading.{entriesAt}
 use Rattle.page.specs.ReadingLaws.{entriesFrom, entries-by-index, entries-none, length-entries, count-none}
-use Rattle.sound.specs.Rule.{lastOf, leafEntries, upperEntries, firstChild}
+use Rattle.sound.specs.Rule.{lastOf, leafEntriesGood, upperEntriesGood, firstChild}
 use Rattle.audit.specs.State.{InFile, EntriesWithin, keyFrom, leafEntry, upperEntry}
 
 -- the entries of a page
@@ -111,19 +111,19 @@ module _ (b : List ℕ) (k size p i c z : ℕ) (ec : c ≡ numberAt b k p i) (ez
 
 -- the loop over the n entries of a leaf, after the key at z₀: what is left to test from entry i on, after the key at z, decides
 abbrev pub LeafLeft : List ℕ → ℕ → ℕ → ℕ → ℕ → ℕ → ℕ → Type 0
-LeafLeft b k p n z₀ i z = leafEntries (keyFrom b k z₀) (entriesFrom b k p n 0) ≡ leafEntries (keyFrom b k z) (entriesFrom b k p (n - i) i)
+LeafLeft b k p n z₀ i z = leafEntriesGood (keyFrom b k z₀) (entriesFrom b k p n 0) ≡ leafEntriesGood (keyFrom b k z) (entriesFrom b k p (n - i) i)
 
 module _ (b : List ℕ) (k p n z₀ i z : ℕ) (inv : LeafLeft b k p n z₀ i z) where
-  pub leaf-end : n ≤ i → true ≡ leafEntries (keyFrom b k z₀) (entriesFrom b k p n 0)
-  unfolding leafEntries
+  pub leaf-end : n ≤ i → true ≡ leafEntriesGood (keyFrom b k z₀) (entriesFrom b k p n 0)
+  unfolding leafEntriesGood
   leaf-end h = sym (inv ∙ rw (from-end b k p n i h))
 
   module _ (h : i < n) (r : Bool) (er : r ≡ leafEntry b k p i z) where
-    leaf-step : leafEntries (keyFrom b k z₀) (entriesFrom b k p n 0) ≡ (r && leafEntries (some (keyAt b k p i)) (entriesFrom b k p (n - (i + 1)) (i + 1)))
-    unfolding leafEntries
+    leaf-step : leafEntriesGood (keyFrom b k z₀) (entriesFrom b k p n 0) ≡ (r && leafEntriesGood (some (keyAt b k p i)) (entriesFrom b k p (n - (i + 1)) (i + 1)))
+    unfolding leafEntriesGood
     leaf-step = inv ∙ rw (from-on b k p n i h, ← er)
 
-    pub leaf-off : r ≡ false → false ≡ leafEntries (keyFrom b k z₀) (entriesFrom b k p n 0)
+    pub leaf-off : r ≡ false → false ≡ leafEntriesGood (keyFrom b k z₀) (entriesFrom b k p n 0)
     leaf-off e = sym (leaf-step ∙ rw e)
 
     pub leaf-on : (at : ℕ) → r ≡ true → at ≡ entryOffset k p i → LeafLeft b k p n z₀ (i + 1) at
@@ -131,19 +131,19 @@ module _ (b : List ℕ) (k p n z₀ i z : ℕ) (inv : LeafLeft b k p n z₀ i z)
 
 -- the loop over the n entries of a page above, in the same way
 abbrev pub UpperLeft : List ℕ → ℕ → ℕ → ℕ → ℕ → ℕ → Type 0
-UpperLeft b k size p n i = upperEntries (entriesAt k size b) (entriesFrom b k p n 0) ≡ upperEntries (entriesAt k size b) (entriesFrom b k p (n - i) i)
+UpperLeft b k size p n i = upperEntriesGood (entriesAt k size b) (entriesFrom b k p n 0) ≡ upperEntriesGood (entriesAt k size b) (entriesFrom b k p (n - i) i)
 
 module _ (b : List ℕ) (k size p n i : ℕ) (inv : UpperLeft b k size p n i) where
-  pub upper-end : n ≤ i → true ≡ upperEntries (entriesAt k size b) (entriesFrom b k p n 0)
-  unfolding upperEntries
+  pub upper-end : n ≤ i → true ≡ upperEntriesGood (entriesAt k size b) (entriesFrom b k p n 0)
+  unfolding upperEntriesGood
   upper-end h = sym (inv ∙ rw (from-end b k p n i h))
 
   module _ (h : i < n) (r : Bool) (er : r ≡ upperEntry b k size p i) where
-    upper-step : upperEntries (entriesAt k size b) (entriesFrom b k p n 0) ≡ (r && upperEntries (entriesAt k size b) (entriesFrom b k p (n - (i + 1)) (i + 1)))
-    unfolding upperEntries
+    upper-step : upperEntriesGood (entriesAt k size b) (entriesFrom b k p n 0) ≡ (r && upperEntriesGood (entriesAt k size b) (entriesFrom b k p (n - (i + 1)) (i + 1)))
+    unfolding upperEntriesGood
     upper-step = inv ∙ rw (from-on b k p n i h, ← er)
 
-    pub upper-off : r ≡ false → false ≡ upperEntries (entriesAt k size b) (entriesFrom b k p n 0)
+    pub upper-off : r ≡ false → false ≡ upperEntriesGood (entriesAt k size b) (entriesFrom b k p n 0)
     upper-off e = sym (upper-step ∙ rw e)
 
     pub upper-on : r ≡ true → UpperLeft b k size p n (i + 1)

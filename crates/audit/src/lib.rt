@@ -16,7 +16,7 @@ ghost use Rattle.page.specs.Within.{Within};
 ghost use Rattle.page.specs.Reading.{entriesAt};
 ghost use Rattle.page.specs.ReadingLaws.{entriesFrom};
 ghost use Rattle.sound.specs.Sound.{Audited};
-ghost use Rattle.sound.specs.Rule.{maxPages, lastOf, leafEntries, upperEntries, entriesFit, pageFits, attributeOf, isLeaf, childrenOf, firstChild};
+ghost use Rattle.sound.specs.Rule.{maxPages, lastOf, leafEntriesGood, upperEntriesGood, entriesFit, pageFits, attributeOf, isLeaf, childrenOf, firstChild};
 ghost use Rattle.sound.specs.Rule.{pagesUnder, checkPage, checkPages, rootLevel, nextLevel, levelsUnder, markedFrom, pagesGood};
 ghost use Rattle.audit.specs.State.{InFile, EntriesWithin, keyFrom, leafEntry, upperEntry, progressOf, levelOf, startAt, refusedAt, closedAt};
 
@@ -76,7 +76,7 @@ fn leaf_entry(index: &[u8], k: usize, page: PageOffset, i: usize, last: usize) -
 // The same of so many entries of a page, one after another.
 fn leaf_entries(index: &[u8], k: usize, page: PageOffset, count: usize, last: usize) -> bool
     requires { ⌜ EntriesWithin (now index) k (page .0) count × (last + k ≤ length (now index)) ⌝ }
-    ensures { λ r. ⌜ r ≡ leafEntries (keyFrom (now (index .entry)) k last) (entriesFrom (now (index .entry)) k (page .0) count 0) ⌝ }
+    ensures { λ r. ⌜ r ≡ leafEntriesGood (keyFrom (now (index .entry)) k last) (entriesFrom (now (index .entry)) k (page .0) count 0) ⌝ }
 {
     let mut i = 0;
     let mut prior = last;
@@ -105,7 +105,7 @@ fn upper_entry(index: &[u8], k: usize, size: usize, page: PageOffset, i: usize) 
 // The same of so many entries of a page.
 fn upper_entries(index: &[u8], k: usize, size: usize, page: PageOffset, count: usize) -> bool
     requires { ⌜ InFile (now index) k size × EntriesWithin (now index) k (page .0) count ⌝ }
-    ensures { λ r. ⌜ r ≡ upperEntries (entriesAt k size (now (index .entry))) (entriesFrom (now (index .entry)) k (page .0) count 0) ⌝ }
+    ensures { λ r. ⌜ r ≡ upperEntriesGood (entriesAt k size (now (index .entry))) (entriesFrom (now (index .entry)) k (page .0) count 0) ⌝ }
 {
     let mut i = 0;
     while i < count {

@@ -21,7 +21,7 @@ use Rattle.book.specs.BookLaws.{demand-3, demand-3-sound, all-take}
 use Rattle.page.specs.Header.{keyLength, keyLengthGood}
 use Rattle.lookup.specs.Lookup.{lookupRule, answerPages}
 use Rattle.lookup.specs.declared.Answer.{Answer as Looked}
-use Rattle.insert.specs.Calls.{Inserted, left, insertionNumber, insertRule}
+use Rattle.insert.specs.Calls.{Inserted, left, insertionCode, insertRule}
 use Rattle.insert.specs.Fresh.{expressionGood, freshRule}
 use Rattle.insert.specs.CallLaws.{fresh-27, fresh-24, fresh-30, fresh-made}
 use Rattle.insert.specs.declared.Insertion.{Insertion}
@@ -137,7 +137,7 @@ module _ (b : List ℕ) (k : ℕ) (e s out : List ℕ) {b′ : List ℕ} where
 -- a refusal of fresh has a number
 pub refused-number : (b : List ℕ) (k : ℕ) (e : List ℕ) {b′ : List ℕ} {n : ℕ} → freshRule b k e ≡ left b′ (Refused n) → n ≡ 0 → ⊥
 refused-number b k e {b′} {n} f z =
-    let numbered : (x : ℕ) → freshRule b k e ≡ left b (Refused x) → x ≡ 0 = λ x g. ap (λ (i : Inserted). insertionNumber (i .answer)) (sym g ∙ f) ∙ z in
+    let numbered : (x : ℕ) → freshRule b k e ≡ left b (Refused x) → x ≡ 0 = λ x g. ap (λ (i : Inserted). insertionCode (i .answer)) (sym g ∙ f) ∙ z in
     either (keyLengthGood k)
     (λ key. either (expressionGood e)
     (λ good. either (leb 1024 (length b))

@@ -22,8 +22,8 @@ use Rattle.insert.specs.Calls.{Inserted, left}
 use Rattle.insert.specs.Fresh.{expressionGood, freshBuffer, freshRule}
 use Rattle.insert.specs.declared.Insertion.{Insertion}
 use Rattle.insert.specs.declared.Insertion.the-variants.{Accepted, Refused}
-use Rattle.growth.specs.InsertHeads.{Plain, octets-plain}
-use Rattle.growth.specs.FreshLaws.{FreshIs, fresh-is-sound}
+use Rattle.insert_laws.specs.InsertHeads.{Plain, octets-plain}
+use Rattle.insert_laws.specs.FreshLaws.{FreshIs, fresh-is-sound}
 use Rattle.book.specs.Book.{Calls, insertionAnswer, answerTo, bufferAfter, noRoomFor, fits, FourBytes, answersTo, bufferAt, Pairs, leafPairs}
 use Rattle.book.specs.Book.{VisitsLevels, LeavesBuffer, Each, BookKept}
 use Rattle.book.specs.CallLaws.{Kept, readIndex, read-is, keeping, kept-sound, visits-levels, leaves-buffer, same-answer, same-rule, keeps, same-next}

@@ -21,10 +21,10 @@ use Rattle.page.specs.Header.{maxBytes, maxLevels, rootOffset, keyLength, heade
 use Rattle.page.specs.HeaderLaws.{good-header}
 use Rattle.page.specs.KeyOrder.{bytesOrder}
 use Rattle.page.specs.declared.RecordNumber.{RecordNumber}
-use Rattle.lookup.specs.Lookup.{lookupRule, answerNumber, answerPages}
+use Rattle.lookup.specs.Lookup.{lookupRule, lookupCode, answerPages}
 use Rattle.lookup.specs.declared.Answer.{Answer as Looked}
 use Rattle.lookup.specs.declared.Answer.the-variants as looked
-use Rattle.found.specs.FoundLaws.{answerOf, lookup-tree, lookup-list, found-pages}
+use Rattle.lookup_laws.specs.FoundLaws.{answerOf, lookup-tree, lookup-list, found-pages}
 use Rattle.sound.specs.Accepted.{accepted as audit-accepts}
 use Rattle.sound.specs.Sound.{indexTree, Sound}
 use Rattle.sound.specs.Rule.{pagesGood, unmarked}
@@ -33,9 +33,9 @@ use Rattle.insert.specs.Calls.{Inserted, left, isFound, insertRule}
 use Rattle.insert.specs.Insertion.{insertedBuffer}
 use Rattle.insert.specs.Room.{pathFrom, noRoom}
 use Rattle.insert.specs.declared.Insertion.the-variants.{Accepted, Refused}
-use Rattle.growth.specs.InsertHeads.{Plain}
-use Rattle.growth.specs.RoomLaws.{sound-levels, room-is}
-use Rattle.growth.specs.InsertSound.{Accepts, insert-keeps-sound}
+use Rattle.insert_laws.specs.InsertHeads.{Plain}
+use Rattle.insert_laws.specs.RoomLaws.{sound-levels, room-is}
+use Rattle.insert_laws.specs.InsertSound.{Accepts, insert-keeps-sound}
 use Rattle.book.specs.Book.{insertionAnswer, lookupAnswer, answerTo, bufferAfter, noRoomFor, fits, FourBytes, VisitsLevels, LeavesBuffer}
 
 -- what each call keeps of a buffer of so many bytes, for keys of k bytes
@@ -183,7 +183,7 @@ module _ (k size : ℕ) (b : List ℕ) (kept : Kept k size b) where
       let long = eqb-true (length key) (keyLength b) (same-fit key ∙ f) in
       let there = answer-record _ _ r pages (sym (lookup-list b key s′ long) ∙ e) in
       sym (ap (λ (a : Looked). answerPages a 0) (sym (found-pages b key s′ long (r .0) there) ∙ e)))
-      (λ f. let z : _≡_ {A = ℕ} 27 0 = ap (λ (a : Looked). answerNumber a) (sym (misfit key f) ∙ e) in absurd (omega arith))
+      (λ f. let z : _≡_ {A = ℕ} 27 0 = ap (λ (a : Looked). lookupCode a) (sym (misfit key f) ∙ e) in absurd (omega arith))
 
   -- insertion
   same-room : (key : List ℕ) → noRoom (keyLength b) b key ≡ outOfRoom (keeping k size) key (readIndex b)

@@ -19,11 +19,11 @@ use Rattle.tree.specs.PairLaws.{find-get}
 use Rattle.page.specs.Header.{keyLength, headerGood}
 use Rattle.page.specs.KeyOrder.{bytesOrder}
 use Rattle.lookup.specs.Lookup.{lookupRule}
-use Rattle.found.specs.FoundLaws.{lookup-list}
+use Rattle.lookup_laws.specs.FoundLaws.{lookup-list}
 use Rattle.sound.specs.Sound.{Sound}
 use Rattle.sound.specs.Rule.{pagesGood, unmarked}
 use Rattle.sound.specs.Accepted.{accepted as audit-accepts}
-use Rattle.insert.specs.Calls.{Inserted, insertionNumber, isFound, insertRule}
+use Rattle.insert.specs.Calls.{Inserted, insertionCode, isFound, insertRule}
 use Rattle.insert.specs.CallLaws as calls
 use Rattle.insert.specs.Room.{noRoom}
 use Rattle.insert.specs.declared.Insertion.{Insertion}
@@ -205,7 +205,7 @@ module _ (b key : List ℕ) (r : ℕ) where
       (whether (eqb n 25) (Unsound b key r)
       (whether (eqb n 29) (Present b key r) (whether (eqb n 30) (Full b key r) (Fitting b key r))))))
 
-  answer-case : Case (insertionNumber answer)
+  answer-case : Case (insertionCode answer)
   unfolding Case whether
   answer-case = cases
       (λ c. rw (is-24 c) c)
@@ -216,8 +216,8 @@ module _ (b key : List ℕ) (r : ℕ) where
       (λ c. rw (is-30 c) c)
       (λ c. rw (is-accepted c) c)
 
-  from : (a : Insertion) → answer ≡ a → Case (insertionNumber a)
-  from a e = subst (λ (x : Insertion). Case (insertionNumber x)) e answer-case
+  from : (a : Insertion) → answer ≡ a → Case (insertionCode a)
+  from a e = subst (λ (x : Insertion). Case (insertionCode x)) e answer-case
 
   -- Theorem: insertion gives each of its answers exactly in that answer's case
   pub insertion-says : InsertionSays b key r (insertRule b key r .answer)

@@ -19,7 +19,7 @@ use Rattle.numeral.specs.Reading.{readNumber, some, textGood, digitCount, value
 use Rattle.numeral.specs.ReadingLaws.{refused-6}
 use Rattle.numeral.specs.declared.Number.the-variants as number
 use Rattle.memo.specs.Memo.{memoHeaderBytes, memoHeaderGood, numberedText, readText, memoText}
-use Rattle.memo.specs.NumberText.{numberText, number-exactly}
+use Rattle.memo.specs.NumberText.{memoNumberText, number-exactly}
 use Rattle.memo.specs.MemoLaws.{text-refusal}
 use Rattle.memo.specs.declared.MemoPlace.{MemoPlace}
 use Rattle.memo.specs.declared.MemoPlace.the-variants as memo
@@ -45,7 +45,7 @@ text-alone b m n i field c = rw c
 
 -- a memo's number in a file too short for a header, as the empty one is, is 22
 pub text-no-header : (b m : List ℕ) (i field k : ℕ) → cellRefusal Texts b i field ≡ 0 → fieldType b (field - 1) ≡ typeM
-    → 1 ≤ k → k < 10 ^ 10 → fieldBytes b i field ≡ numberText 10 k → length m < memoHeaderBytes → textCell b m i field ≡ text.Refused 22
+    → 1 ≤ k → k < 10 ^ 10 → fieldBytes b i field ≡ memoNumberText 10 k → length m < memoHeaderBytes → textCell b m i field ≡ text.Refused 22
 unfolding textCell textAt fieldBytes memoText readText numberedText memoHeaderGood memoPart
 text-no-header b m i field k none type from to number short =
     let said = number-exactly (fieldBytes b i field) k .1 (from, to, number) in

@@ -13,7 +13,7 @@ use Rattle.octets.specs.Bytes.{byteAt}
 use Rattle.octets.specs.Store.{window}
 use Rattle.table.specs.Table.{typeC, fieldType, fieldLength, fieldDecimals, fieldCount, recordCount, deletionByte, firstRefusal, tableChecks}
 use Rattle.table.specs.TableLaws.{table-numbered, first-after, first-before, first-both, first-none}
-use Rattle.field.specs.Field.{placeAt, placeOf, placeRefusal, Within, formOf, numberGood}
+use Rattle.field.specs.Field.{placeAt, placeOf, placeRefusal, PlaceInside, formOf, numberGood}
 use Rattle.field.specs.FieldLaws.{placed-at, placed-refused, place-good, place-within}
 use Rattle.field.specs.declared.Place.{Place}
 use Rattle.field.specs.declared.Placed.the-variants.{At, Refused}
@@ -102,7 +102,7 @@ pub record Readable (reads : Reads) (b : List ℕ) (i field : ℕ) (p : Place) :
   pub type : p .form .kind ≡ fieldType b (field - 1)
   pub len : p .form .length ≡ fieldLength b (field - 1)
   pub decimals : p .form .decimals ≡ fieldDecimals b (field - 1)
-  pub within : Within b p
+  pub within : PlaceInside b p
 
 module _ (reads : Reads) (b : List ℕ) (i field : ℕ) where
   pub cell-at : (p : Place) → cellPlace reads b i field ≡ At p → Readable reads b i field p

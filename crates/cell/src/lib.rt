@@ -20,7 +20,7 @@ ghost use Rattle.octets.specs.Bytes.{byteAt};
 ghost use Rattle.octets.specs.Store.{window};
 ghost use Rattle.calendar.specs.DateText.{dateOf};
 ghost use Rattle.numeral.specs.Reading.{readNumber};
-ghost use Rattle.field.specs.Field.{Within};
+ghost use Rattle.field.specs.Field.{PlaceInside};
 ghost use Rattle.cell.specs.Cell.{readsType, markGood, cellPlace, numberCell, dateCell, logicalOf, logicalCell, memoPart, textAt, textCell, TextWithin, textPart};
 
 const LETTER_T: u32 = 0x54;
@@ -106,7 +106,7 @@ fn cell_place(table: &[u8], reads: Reads, i: u32, field: u32) -> Placed
 
 // The value of the N field at a place, in units of 10 to the -d.
 pub fn number_at(table: &[u8], place: Place) -> Number
-    requires { ⌜ Within (now table) place ⌝ }
+    requires { ⌜ PlaceInside (now table) place ⌝ }
     ensures { λ r. ⌜ r ≡ readNumber (window (now (table .entry)) (place .start) (place .form .length)) (place .form .decimals) ⌝ }
 {
     let text = part(table, place.start, place.form.length);
@@ -126,7 +126,7 @@ pub fn read_number(table: &[u8], i: u32, field: u32) -> Number
 
 // The date of the D field at a place.
 pub fn date_at(table: &[u8], place: Place) -> DateAnswer
-    requires { ⌜ Within (now table) place ⌝ }
+    requires { ⌜ PlaceInside (now table) place ⌝ }
     ensures { λ r. ⌜ r ≡ dateOf (window (now (table .entry)) (place .start) (place .form .length)) ⌝ }
 {
     calendar::read_date(part(table, place.start, place.form.length))
@@ -161,7 +161,7 @@ fn logical_of(c: u32) -> Logical
 
 // The value of the L field at a place.
 pub fn logical_at(table: &[u8], place: Place) -> Logical
-    requires { ⌜ Within (now table) place ⌝ }
+    requires { ⌜ PlaceInside (now table) place ⌝ }
     ensures { λ r. ⌜ r ≡ logicalOf (byteAt (now (table .entry)) (place .start)) ⌝ }
 {
     logical_of(octets::byte(table, place.start))
@@ -190,7 +190,7 @@ fn memo_part(place: MemoPlace) -> TextPlace
 
 // Where the text of the C or the M field at a place lies. For a C field the memo file is not looked at.
 pub fn text_at(table: &[u8], memo: &[u8], place: Place) -> TextPlace
-    requires { ⌜ Within (now table) place ⌝ }
+    requires { ⌜ PlaceInside (now table) place ⌝ }
     ensures { λ r. ⌜ r ≡ textAt (now (table .entry)) (now (memo .entry)) (place .form .kind) (place .start) (place .form .length) ⌝ }
 {
     let start = place.start;

@@ -85,7 +85,7 @@ placeAt b i field = record {
 }
 
 -- a place in the table, of a byte at least
-pub record Within (b : List ℕ) (p : Place) : Type 0 where
+pub record PlaceInside (b : List ℕ) (p : Place) : Type 0 where
   pub some : 1 ≤ p .form .length
   pub inside : p .start + p .form .length ≤ length b
 
@@ -95,17 +95,17 @@ placeOf b i field = cond (eqb (placeRefusal b i field) 0) (At (placeAt b i field
 -- ---- the answer as document 01 counts it
 
 -- the number of an answer: 0 with a place, or the refusal's
-abbrev pub placedNumber : Placed → ℕ
-placedNumber (At p) = 0
-placedNumber (Refused n) = n
+abbrev pub placeCode : Placed → ℕ
+placeCode (At p) = 0
+placeCode (Refused n) = n
 
 -- its values: the place; "A refusal answers its number alone"
-abbrev pub placedValues : Placed → List Place
-placedValues (At p) = p ∷ []
-placedValues (Refused n) = []
+abbrev pub placeValues : Placed → List Place
+placeValues (At p) = p ∷ []
+placeValues (Refused n) = []
 
 -- what `field_place` answers: the case, its number, and its values
 pub record PlaceAnswer (b : List ℕ) (i field : ℕ) (r : Placed) : Type 0 where
   pub case : r ≡ placeOf b i field
-  pub number : placedNumber r ≡ placeRefusal b i field
-  pub values : placedValues r ≡ cond (eqb (placeRefusal b i field) 0) (placeAt b i field ∷ []) []
+  pub number : placeCode r ≡ placeRefusal b i field
+  pub values : placeValues r ≡ cond (eqb (placeRefusal b i field) 0) (placeAt b i field ∷ []) []

@@ -17,7 +17,7 @@ use Rattle.table.specs.FormLaws.{field-form, form-some}
 use Rattle.table.specs.RecordLaws.{field-inside, record-inside, record-positive}
 use Rattle.table.specs.declared.Shape.{Shape}
 use Rattle.table.specs.declared.Checked.the-variants.{Good}
-use Rattle.field.specs.Field.{numberGood, fieldRefusal, placeRefusal, PlaceGood, formOf, placeAt, Within, placeOf, PlaceAnswer}
+use Rattle.field.specs.Field.{numberGood, fieldRefusal, placeRefusal, PlaceGood, formOf, placeAt, PlaceInside, placeOf, PlaceAnswer}
 use Rattle.field.specs.declared.Place.{Place}
 use Rattle.field.specs.declared.Placed.{Placed}
 use Rattle.field.specs.declared.Placed.the-variants.{At, Refused}
@@ -76,7 +76,7 @@ mark-inside b i field good =
     let table = layout b (good .table) in
     omega (arith, record-inside b table (i - 1) (omega arith), record-positive b table)
 
-pub place-within : (b : List ℕ) (i field : ℕ) (p : Place) → PlaceGood b i field → p ≡ placeAt b i field → Within b p
+pub place-within : (b : List ℕ) (i field : ℕ) (p : Place) → PlaceGood b i field → p ≡ placeAt b i field → PlaceInside b p
 unfolding placeAt formOf recordStart
 place-within b i field p good e =
     let table = layout b (good .table) in

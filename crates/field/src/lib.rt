@@ -4,7 +4,7 @@ ghost use mathlib.Core.Path.{_≡_};
 ghost use lib.ListN.{length};
 ghost use Rattle.table.specs.Table.{descriptor, fieldCount, tableRefusal};
 ghost use Rattle.field.specs.Field.{numberGood, entryOf, noEntry, fieldRefusal, fieldAnswer, formOf};
-ghost use Rattle.field.specs.Field.{placeRefusal, PlaceGood, placeAt, Within, PlaceAnswer};
+ghost use Rattle.field.specs.Field.{placeRefusal, PlaceGood, placeAt, PlaceInside, PlaceAnswer};
 
 const BAD_RECORD_NUMBER: u32 = 11;
 
@@ -151,7 +151,7 @@ fn place_refusal(table: &[u8], i: u32, field: u32) -> u32
 // Where a field of a record lies in a table that was checked and has both.
 pub fn place_at(table: &[u8], i: u32, field: u32) -> Place
     requires { ⌜ PlaceGood (now table) i field ⌝ }
-    ensures { λ r. ⌜ (r ≡ placeAt (now (table .entry)) i field) × Within (now (table .entry)) r ⌝ }
+    ensures { λ r. ⌜ (r ≡ placeAt (now (table .entry)) i field) × PlaceInside (now (table .entry)) r ⌝ }
 {
     let start = table::records_end(table, i - 1);
     let form = field_form(table, (field - 1) as usize);

@@ -23,7 +23,7 @@ use Rattle.cell.specs.declared.TextPlace.{TextPlace}
 use Rattle.cell.specs.declared.TextPlace.the-variants as text
 use Rattle.lookup.specs.declared.Answer.{Answer}
 use Rattle.lookup.specs.declared.Answer.the-variants as looked
-use Rattle.gatherloom.specs.Answers.{out, Sizes, Part, Found, shapeOut, numberOut, dateOut, logicalOut, textOut, lookupOut, writingNumber, writingOut}
+use Rattle.gatherloom.specs.Answers.{out, Sizes, Part, Found, shapeOut, numberOut, dateOut, logicalOut, textOut, lookupOut, writingCode, writingOut}
 
 -- a good table's numbers are numbers of 32 bits
 pub record Small (s : Shape) : Type 0 where
@@ -37,7 +37,7 @@ shape-small b s e =
     record { fields = omega (arith, shape .fields, table .header .few); length = omega (arith, shape .length, table .small) }
 
 -- what a write leaves and answers, by the case of the answer
-pub writing-told : (wrote : Left) (after : List ℕ) (r answer : Writing) → wrote ≡ left after r → r ≡ answer → writingOut wrote ≡ out (writingNumber answer) after
+pub writing-told : (wrote : Left) (after : List ℕ) (r answer : Writing) → wrote ≡ left after r → r ≡ answer → writingOut wrote ≡ out (writingCode answer) after
 writing-told wrote after r answer e is = rw (e, is)
 
 -- ---- "an out-parameter keeps what it held whenever the answer is not 0"

@@ -19,9 +19,9 @@ use Rattle.cell.specs.declared.Logical.{Logical}
 use Rattle.cell.specs.declared.Logical.the-variants as logical
 use Rattle.cell.specs.declared.TextPlace.{TextPlace}
 use Rattle.cell.specs.declared.TextPlace.the-variants as text
-use Rattle.lookup.specs.Lookup.{answerNumber, answerRecord, answerPages}
+use Rattle.lookup.specs.Lookup.{lookupCode, answerRecord, answerPages}
 use Rattle.lookup.specs.declared.Answer.{Answer}
-use Rattle.insert.specs.Calls.{Inserted, insertionNumber}
+use Rattle.insert.specs.Calls.{Inserted, insertionCode}
 
 -- the number that a host compares before its first call; it is raised with every change of a call's form
 abbrev pub interfaceNumber : ℕ
@@ -47,16 +47,16 @@ abbrev pub sizes : ℕ → ℕ → ℕ → Sizes
 sizes records fields recordLength = record { records = records; fields = fields; recordLength = recordLength }
 
 -- the number of a check: 0 for a good table, or the refusal's
-abbrev pub checkedNumber : Checked → ℕ
-checkedNumber (table.Good s) = 0
-checkedNumber (table.Refused n) = n
+abbrev pub checkedCode : Checked → ℕ
+checkedCode (table.Good s) = 0
+checkedCode (table.Refused n) = n
 
 abbrev pub shapeHeld : Checked → Sizes → Sizes
 shapeHeld (table.Good s) old = sizes (s .records) (s .fields) (s .«record_length»)
 shapeHeld (table.Refused n) old = old
 
 unfoldable pub shapeOut : Checked → Sizes → Out Sizes
-shapeOut answer old = out (checkedNumber answer) (shapeHeld answer old)
+shapeOut answer old = out (checkedCode answer) (shapeHeld answer old)
 
 -- ---- one field of one record: "256 for an empty field"
 
@@ -112,12 +112,12 @@ textOut answer old = out (textCode answer) (textHeld answer old)
 
 -- ---- numeric text: the buffer after a write is the rule's
 
-abbrev pub writingNumber : Writing → ℕ
-writingNumber writing.Written = 0
-writingNumber (writing.Refused n) = n
+abbrev pub writingCode : Writing → ℕ
+writingCode writing.Written = 0
+writingCode (writing.Refused n) = n
 
 abbrev pub writingOut : Left → Out (List ℕ)
-writingOut left = out (writingNumber (left .answer)) (left .after)
+writingOut left = out (writingCode (left .answer)) (left .after)
 
 -- ---- the index
 
@@ -131,8 +131,8 @@ found number pages = record { number = number; pages = pages }
 
 -- "0 sets both; 257 sets pages alone"
 unfoldable pub lookupOut : Answer → Found → Out Found
-lookupOut answer old = out (answerNumber answer) (found (answerRecord answer (old .number)) (answerPages answer (old .pages)))
+lookupOut answer old = out (lookupCode answer) (found (answerRecord answer (old .number)) (answerPages answer (old .pages)))
 
 -- the buffer after fresh and after an insertion is the rule's
 abbrev pub insertionOut : Inserted → Out (List ℕ)
-insertionOut left = out (insertionNumber (left .answer)) (left .after)
+insertionOut left = out (insertionCode (left .answer)) (left .after)

@@ -46,10 +46,10 @@ listing b entries =
 -- ---- the walk
 
 -- the answer's number: 0 with a record, 258 at the end, or the refusal's
-abbrev pub stepNumber : Step → ℕ
-stepNumber (Record n) = 0
-stepNumber Done = 258
-stepNumber (Refused n) = n
+abbrev pub stepCode : Step → ℕ
+stepCode (Record n) = 0
+stepCode Done = 258
+stepCode (Refused n) = n
 
 -- the record's number, or what was there before
 abbrev pub stepRecord : Step → ℕ → ℕ
@@ -60,4 +60,4 @@ stepRecord (Refused n) old = old
 unfoldable pub walkedOf : List ℕ → Position → ℕ → LentStep
 walkedOf b position old =
     let walked = walkStep b position in
-    record { answer = stepNumber (walked .answer); position = walked .position; number = stepRecord (walked .answer) old }
+    record { answer = stepCode (walked .answer); position = walked .position; number = stepRecord (walked .answer) old }

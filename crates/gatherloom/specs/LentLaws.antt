@@ -27,7 +27,7 @@ use Rattle.walk.specs.declared.Step.the-variants.{Record, Done, Refused}
 use Rattle.walk.specs.declared.Walked.{Walked}
 use Rattle.gatherloom.specs.declared.Plan.{Plan}
 use Rattle.gatherloom.specs.declared.LentStep.{LentStep}
-use Rattle.gatherloom.specs.Lent.{listingRefusal, planOf, listed, Listing, listing, stepNumber, stepRecord, walkedOf}
+use Rattle.gatherloom.specs.Lent.{listingRefusal, planOf, listed, Listing, listing, stepCode, stepRecord, walkedOf}
 
 -- ---- the field list's plan
 
@@ -149,7 +149,7 @@ listing-entry b entries j none e l =
 
 -- a step by the case of its answer
 pub walked-as : (b : List ℕ) (position : Position) (old : ℕ) (walked : Walked) (answer : Step) → walked ≡ walkStep b position → walked .answer ≡ answer
-    → _≡_ {A = LentStep} (record { answer = stepNumber answer; position = walked .position; number = stepRecord answer old }) (walkedOf b position old)
+    → _≡_ {A = LentStep} (record { answer = stepCode answer; position = walked .position; number = stepRecord answer old }) (walkedOf b position old)
 unfolding walkedOf
 walked-as b position old walked answer e is = rw (← e, ← is)
 
@@ -191,17 +191,17 @@ walk-numbered b position =
     (λ some. rw some (let no = eqb-false (tableRefusal b) 0 some in (omega (arith, no), table-below b)))
 
 -- so the answer is 0 exactly with a record, whose number is then handed out, and 258 exactly at the end; what was there stays where it is not 0
-record-answer : (answer : Step) (old : ℕ) → Numbered answer → stepNumber answer ≡ 0 → answer ≡ Record (stepRecord answer old)
+record-answer : (answer : Step) (old : ℕ) → Numbered answer → stepCode answer ≡ 0 → answer ≡ Record (stepRecord answer old)
 record-answer (Record n) old p e = refl
 record-answer Done old p e = absurd (omega (arith, e))
 record-answer (Refused n) old p e = absurd (omega (arith, p .0, e))
 
-done-answer : (answer : Step) → Numbered answer → stepNumber answer ≡ 258 → answer ≡ Done
+done-answer : (answer : Step) → Numbered answer → stepCode answer ≡ 258 → answer ≡ Done
 done-answer (Record n) p e = absurd (omega (arith, e))
 done-answer Done p e = refl
 done-answer (Refused n) p e = absurd (omega (arith, p .1, e))
 
-other-answer : (answer : Step) (old : ℕ) → (stepNumber answer ≡ 0 → ⊥) → stepRecord answer old ≡ old
+other-answer : (answer : Step) (old : ℕ) → (stepCode answer ≡ 0 → ⊥) → stepRecord answer old ≡ old
 other-answer (Record n) old other = absurd (other refl)
 other-answer Done old other = refl
 other-answer (Refused n) old other = refl

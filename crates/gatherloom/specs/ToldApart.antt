@@ -39,7 +39,7 @@ use Rattle.cell.specs.declared.Logical.{Logical}
 use Rattle.cell.specs.declared.Logical.the-variants as logical
 use Rattle.cell.specs.declared.TextPlace.{TextPlace}
 use Rattle.cell.specs.declared.TextPlace.the-variants as text
-use Rattle.lookup.specs.Lookup.{visitRule, decided, lookupFrom, lookupRule, answerNumber}
+use Rattle.lookup.specs.Lookup.{visitRule, decided, lookupFrom, lookupRule, lookupCode}
 use Rattle.lookup.specs.declared.Visit.{Visit}
 use Rattle.lookup.specs.declared.Visit.the-variants as visit
 use Rattle.lookup.specs.declared.Answer.{Answer}
@@ -47,11 +47,11 @@ use Rattle.lookup.specs.declared.Answer.the-variants as looked
 use Rattle.sound.specs.Rule.{pagesGood, unmarked}
 use Rattle.insert.specs.Room.{noRoom}
 use Rattle.insert.specs.Fresh.{expressionGood, freshRule}
-use Rattle.insert.specs.Calls.{insertionNumber, isFound, insertRule}
+use Rattle.insert.specs.Calls.{insertionCode, isFound, insertRule}
 use Rattle.insert.specs.declared.Insertion.{Insertion}
 use Rattle.insert.specs.declared.Insertion.the-variants as insertion
-use Rattle.gatherloom.specs.Answers.{checkedNumber, writingNumber}
-use Rattle.gatherloom.specs.Lent.{stepNumber}
+use Rattle.gatherloom.specs.Answers.{checkedCode, writingCode}
+use Rattle.gatherloom.specs.Lent.{stepCode}
 
 -- two cases of an answer are never the same
 never : _≡_ {A = ℕ} 0 1 → ⊥
@@ -105,13 +105,13 @@ check-refusal b n e =
 abbrev pub IsGood : Checked → Type 0
 IsGood a = (s : Shape) × (a ≡ table.Good s)
 
-check-case : (a : Checked) → RefusalsNumbered table.Refused a → Case (checkedNumber a) emptyCode (IsGood a) ⊥
+check-case : (a : Checked) → RefusalsNumbered table.Refused a → Case (checkedCode a) emptyCode (IsGood a) ⊥
 check-case (table.Good s) small = accepted refl (s, refl)
 check-case (table.Refused n) small = refused (small n refl)
 
 -- 0 is a good table's; no table is empty
-pub shape-told : (b : List ℕ) → Told (checkedNumber (checkTable b)) emptyCode (IsGood (checkTable b)) ⊥
-shape-told b = told (omega arith) (check-case (checkTable b) (check-refusal b)) (λ good. ap checkedNumber (good .1)) (λ none. absurd none)
+pub shape-told : (b : List ℕ) → Told (checkedCode (checkTable b)) emptyCode (IsGood (checkTable b)) ⊥
+shape-told b = told (omega arith) (check-case (checkTable b) (check-refusal b)) (λ good. ap checkedCode (good .1)) (λ none. absurd none)
 
 -- ---- the walk
 
@@ -136,15 +136,15 @@ step-refusal b position n e =
 abbrev pub IsRecord : Step → Type 0
 IsRecord a = (i : ℕ) × (a ≡ step.Record i)
 
-step-case : (a : Step) → RefusalsNumbered step.Refused a → Case (stepNumber a) 258 (IsRecord a) (a ≡ step.Done)
+step-case : (a : Step) → RefusalsNumbered step.Refused a → Case (stepCode a) 258 (IsRecord a) (a ≡ step.Done)
 step-case (step.Record i) small = accepted refl (i, refl)
 step-case step.Done small = other refl refl
 step-case (step.Refused n) small = refused (small n refl)
 
 -- 0 is given with a record's number, 258 when the walk is done
-pub walk-told : (b : List ℕ) (position : Position) → let a = walkStep b position .answer in Told (stepNumber a) 258 (IsRecord a) (a ≡ step.Done)
+pub walk-told : (b : List ℕ) (position : Position) → let a = walkStep b position .answer in Told (stepCode a) 258 (IsRecord a) (a ≡ step.Done)
 walk-told b position =
-    told (omega arith) (step-case (walkStep b position .answer) (step-refusal b position)) (λ found. ap stepNumber (found .1)) (λ done. ap stepNumber done)
+    told (omega arith) (step-case (walkStep b position .answer) (step-refusal b position)) (λ found. ap stepCode (found .1)) (λ done. ap stepCode done)
 
 -- ---- one field of one record, and numeric text: 0 with a value, 256 for an empty field
 
@@ -248,14 +248,14 @@ IsFound a = (r : RecordNumber) × (pages : ℕ) × (a ≡ looked.Found r pages)
 abbrev pub IsAbsent : Answer → Type 0
 IsAbsent a = (pages : ℕ) × (a ≡ looked.Absent pages)
 
-lookup-case : (a : Answer) → RefusalsNumbered looked.Refused a → Case (answerNumber a) 257 (IsFound a) (IsAbsent a)
+lookup-case : (a : Answer) → RefusalsNumbered looked.Refused a → Case (lookupCode a) 257 (IsFound a) (IsAbsent a)
 lookup-case (looked.Found r pages) small = accepted refl (r, pages, refl)
 lookup-case (looked.Absent pages) small = other refl (pages, refl)
 lookup-case (looked.Refused n) small = refused (small n refl)
 
-pub lookup-told : (b key : List ℕ) → let a = lookupRule b key in Told (answerNumber a) 257 (IsFound a) (IsAbsent a)
+pub lookup-told : (b key : List ℕ) → let a = lookupRule b key in Told (lookupCode a) 257 (IsFound a) (IsAbsent a)
 lookup-told b key =
-    told (omega arith) (lookup-case (lookupRule b key) (lookup-refusal b key)) (λ found. ap answerNumber (found .2)) (λ absent. ap answerNumber (absent .1))
+    told (omega arith) (lookup-case (lookupRule b key) (lookup-refusal b key)) (λ found. ap lookupCode (found .2)) (λ absent. ap lookupCode (absent .1))
 
 -- ---- the calls that write: 0 is given exactly where the call is accepted
 
@@ -273,13 +273,13 @@ writing-refusal s d v n e =
     (λ many. writing-numbered 18 n (lit< tt, lit< tt) (rw (format, many, writeNumber) at e)))
     (λ bad. writing-numbered 6 n (lit< tt, lit< tt) (rw (bad, writeNumber) at e))
 
-writing-case : (a : Writing) → RefusalsNumbered writing.Refused a → Case (writingNumber a) emptyCode (a ≡ writing.Written) ⊥
+writing-case : (a : Writing) → RefusalsNumbered writing.Refused a → Case (writingCode a) emptyCode (a ≡ writing.Written) ⊥
 writing-case writing.Written small = accepted refl refl
 writing-case (writing.Refused n) small = refused (small n refl)
 
-pub write-told : (s : List ℕ) (d : ℕ) (v : ℤ) → let a = writeNumber s d v .answer in Told (writingNumber a) emptyCode (a ≡ writing.Written) ⊥
+pub write-told : (s : List ℕ) (d : ℕ) (v : ℤ) → let a = writeNumber s d v .answer in Told (writingCode a) emptyCode (a ≡ writing.Written) ⊥
 write-told s d v =
-    told (omega arith) (writing-case (writeNumber s d v .answer) (writing-refusal s d v)) (λ done. ap writingNumber done) (λ none. absurd none)
+    told (omega arith) (writing-case (writeNumber s d v .answer) (writing-refusal s d v)) (λ done. ap writingCode done) (λ none. absurd none)
 
 insertion-numbered : (m n : ℕ) → Numbered m → insertion.Refused m ≡ insertion.Refused n → Numbered n
 insertion-numbered m n small e = let k : m ≡ n = cc in (omega arith, omega arith)
@@ -295,14 +295,14 @@ fresh-refusal b k x n e =
     (λ bad. insertion-numbered 24 n (lit< tt, lit< tt) (rw (key, bad, freshRule) at e)))
     (λ bad. insertion-numbered 27 n (lit< tt, lit< tt) (rw (bad, freshRule) at e))
 
-insertion-case : (a : Insertion) → RefusalsNumbered insertion.Refused a → Case (insertionNumber a) emptyCode (a ≡ insertion.Accepted) ⊥
+insertion-case : (a : Insertion) → RefusalsNumbered insertion.Refused a → Case (insertionCode a) emptyCode (a ≡ insertion.Accepted) ⊥
 insertion-case insertion.Accepted small = accepted refl refl
 insertion-case (insertion.Refused n) small = refused (small n refl)
 
-insertion-told : (a : Insertion) → RefusalsNumbered insertion.Refused a → Told (insertionNumber a) emptyCode (a ≡ insertion.Accepted) ⊥
-insertion-told a small = told (omega arith) (insertion-case a small) (λ done. ap insertionNumber done) (λ none. absurd none)
+insertion-told : (a : Insertion) → RefusalsNumbered insertion.Refused a → Told (insertionCode a) emptyCode (a ≡ insertion.Accepted) ⊥
+insertion-told a small = told (omega arith) (insertion-case a small) (λ done. ap insertionCode done) (λ none. absurd none)
 
-pub fresh-told : (b : List ℕ) (k : ℕ) (x : List ℕ) → let a = freshRule b k x .answer in Told (insertionNumber a) emptyCode (a ≡ insertion.Accepted) ⊥
+pub fresh-told : (b : List ℕ) (k : ℕ) (x : List ℕ) → let a = freshRule b k x .answer in Told (insertionCode a) emptyCode (a ≡ insertion.Accepted) ⊥
 fresh-told b k x = insertion-told (freshRule b k x .answer) (fresh-refusal b k x)
 
 insert-refusal : (b key : List ℕ) (r : ℕ) → RefusalsNumbered insertion.Refused (insertRule b key r .answer)
@@ -322,5 +322,5 @@ insert-refusal b key r n e =
     (λ misfit. insertion-numbered 27 n (lit< tt, lit< tt) (rw (good, misfit, insertRule) at e)))
     (λ bad. insertion-numbered 24 n (lit< tt, lit< tt) (rw (bad, insertRule) at e))
 
-pub insert-told : (b key : List ℕ) (r : ℕ) → let a = insertRule b key r .answer in Told (insertionNumber a) emptyCode (a ≡ insertion.Accepted) ⊥
+pub insert-told : (b key : List ℕ) (r : ℕ) → let a = insertRule b key r .answer in Told (insertionCode a) emptyCode (a ≡ insertion.Accepted) ⊥
 insert-told b key r = insertion-told (insertRule b key r .answer) (insert-refusal b key r)

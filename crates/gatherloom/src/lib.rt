@@ -17,7 +17,7 @@ ghost use Rattle.table.specs.Table.{tableRefusal, checkTable};
 ghost use Rattle.cell.specs.Cell.{numberCell, dateCell, logicalCell, textCell};
 ghost use Rattle.lookup.specs.Lookup.{lookupRule};
 ghost use Rattle.sound.specs.Sound.{Audited};
-ghost use Rattle.insert.specs.Calls.{insertRule, insertionNumber};
+ghost use Rattle.insert.specs.Calls.{insertRule, insertionCode};
 ghost use Rattle.insert.specs.Fresh.{freshRule};
 ghost use Rattle.matching.specs.Match.{Matched};
 ghost use Rattle.gatherloom.specs.Lent.{planOf, listing, walkedOf};
@@ -278,7 +278,7 @@ pub extern "C" fn gl_number_write(text: &mut [u8], decimals: u32, value: i64) ->
 
 // The number of an answer to a call that writes an index.
 fn insertion_number(answer: Insertion) -> u32
-    ensures { λ r. ⌜ r ≡ insertionNumber answer ⌝ }
+    ensures { λ r. ⌜ r ≡ insertionCode answer ⌝ }
 {
     match answer {
         Insertion::Accepted => 0,

@@ -31,6 +31,6 @@ abbrev pub maxGrown : ℕ
 maxGrown = maxBytes + pageSize * maxLevels
 
 -- what insertion meets at p: no page, a leaf, or the child that is chosen
-unfoldable pub visited : List ℕ → List ℕ → ℕ → Visit
-visited b key p =
+unfoldable pub visitOf : List ℕ → List ℕ → ℕ → Visit
+visitOf b key p =
     cond (isPage (length b) p) (cond (leafBit (attributeAt b p)) visit.Leaf (visit.Child (pageAt (childOf (chosen key (itemsIn (length key) b p)))))) visit.Bad

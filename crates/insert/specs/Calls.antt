@@ -23,9 +23,9 @@ abbrev pub left : List ℕ → Insertion → Inserted
 left b a = record { after = b; answer = a }
 
 -- the number of an answer: 0 where the call is accepted, or the refusal's
-abbrev pub insertionNumber : Insertion → ℕ
-insertionNumber Accepted = 0
-insertionNumber (Refused n) = n
+abbrev pub insertionCode : Insertion → ℕ
+insertionCode Accepted = 0
+insertionCode (Refused n) = n
 
 -- "29 if the key is in a leaf": the one that lookup's steps lead to
 abbrev pub isFound : Answer → Bool

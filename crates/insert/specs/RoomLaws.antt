@@ -13,7 +13,7 @@ use Rattle.page.specs.declared.PageOffset.{PageOffset}
 use Rattle.layout.specs.Layout.{itemsIn}
 use Rattle.layout.specs.Entries.{chosen, childOf}
 use Rattle.insert.specs.Room.{nowhere, onTop, pathFrom, newPages, levelsAfter, noRoom}
-use Rattle.insert.specs.Answers.{visited}
+use Rattle.insert.specs.Answers.{visitOf}
 use Rattle.insert.specs.StepLaws.{visited-bad, visited-leaf, visited-child}
 use Rattle.insert.specs.declared.Path.{Path}
 use Rattle.insert.specs.declared.Visit.the-variants as visit
@@ -34,18 +34,18 @@ path-levels k (suc left) b key p = either (isPage (length b) p)
 
 -- by cases of the visit
 module _ (b key : List ℕ) (p : ℕ) where
-  pub path-bad : (levels : ℕ) → (levels ≡ 0 → ⊥) → visit.Bad ≡ visited b key p → nowhere ≡ pathFrom (length key) levels b key p
+  pub path-bad : (levels : ℕ) → (levels ≡ 0 → ⊥) → visit.Bad ≡ visitOf b key p → nowhere ≡ pathFrom (length key) levels b key p
   unfolding pathFrom
   path-bad zero s e = absurd (s refl)
   path-bad (suc left) s e = rw (visited-bad b key p e)
 
   module _ {full : Bool} (f : full ≡ leb (capacity (length key)) (length (itemsIn (length key) b p))) where
-    pub path-leaf : (levels : ℕ) → (levels ≡ 0 → ⊥) → visit.Leaf ≡ visited b key p → onTop full nowhere ≡ pathFrom (length key) levels b key p
+    pub path-leaf : (levels : ℕ) → (levels ≡ 0 → ⊥) → visit.Leaf ≡ visitOf b key p → onTop full nowhere ≡ pathFrom (length key) levels b key p
     unfolding pathFrom
     path-leaf zero s e = absurd (s refl)
     path-leaf (suc left) s e = let v = visited-leaf b key p e in rw (v .0, v .1, f)
 
-    pub path-child : (levels : ℕ) (c : PageOffset) {path : Path} → (levels ≡ 0 → ⊥) → visit.Child c ≡ visited b key p → path ≡ pathFrom (length key) (levels - 1) b key (c .0)
+    pub path-child : (levels : ℕ) (c : PageOffset) {path : Path} → (levels ≡ 0 → ⊥) → visit.Child c ≡ visitOf b key p → path ≡ pathFrom (length key) (levels - 1) b key (c .0)
         → onTop full path ≡ pathFrom (length key) levels b key p
     unfolding pathFrom
     path-child zero c s e q = absurd (s refl)

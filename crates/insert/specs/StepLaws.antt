@@ -19,7 +19,7 @@ use Rattle.page.specs.declared.PageOffset.{PageOffset}
 use Rattle.layout.specs.Layout.{itemsIn, withRoot, withSize, withEntries, newPage, splitPage}
 use Rattle.layout.specs.Entries.{chosen, childOf, rootEntries}
 use Rattle.insert.specs.Insertion.{Outcome as RuleOutcome, kept, split, bad, Step, step, takeIn, afterChild, insertUnder, atRoot, insertedBuffer}
-use Rattle.insert.specs.Answers.{outcomeOf, NextFits, visited}
+use Rattle.insert.specs.Answers.{outcomeOf, NextFits, visitOf}
 use Rattle.insert.specs.declared.Outcome.{Outcome}
 use Rattle.insert.specs.declared.Outcome.the-variants.{Kept, Split, Bad}
 use Rattle.insert.specs.declared.Visit.the-variants as visit
@@ -63,21 +63,21 @@ same-child e = cc
 
 -- what a visit tells
 module _ (b key : List ℕ) (p : ℕ) where
-  pub visited-bad : visit.Bad ≡ visited b key p → isPage (length b) p ≡ false
-  unfolding visited
+  pub visited-bad : visit.Bad ≡ visitOf b key p → isPage (length b) p ≡ false
+  unfolding visitOf
   visited-bad e = either (isPage (length b) p)
       (λ t. either (leafBit (attributeAt b p)) (λ u. bad-leaf (rw (t, u) at e)) (λ u. bad-child (rw (t, u) at e)))
       (λ t. t)
 
-  pub visited-leaf : visit.Leaf ≡ visited b key p → (isPage (length b) p ≡ true) × (leafBit (attributeAt b p) ≡ true)
-  unfolding visited
+  pub visited-leaf : visit.Leaf ≡ visitOf b key p → (isPage (length b) p ≡ true) × (leafBit (attributeAt b p) ≡ true)
+  unfolding visitOf
   visited-leaf e = either (isPage (length b) p)
       (λ t. either (leafBit (attributeAt b p)) (λ u. (t, u)) (λ u. leaf-child (rw (t, u) at e)))
       (λ t. bad-leaf (sym (rw t at e)))
 
-  pub visited-child : (c : PageOffset) → visit.Child c ≡ visited b key p
+  pub visited-child : (c : PageOffset) → visit.Child c ≡ visitOf b key p
       → (isPage (length b) p ≡ true) × (leafBit (attributeAt b p) ≡ false) × (c .0 ≡ childOf (chosen key (itemsIn (length key) b p)))
-  unfolding visited
+  unfolding visitOf
   visited-child c e = either (isPage (length b) p)
       (λ t. either (leafBit (attributeAt b p))
       (λ u. leaf-child (sym (rw (t, u) at e)))
@@ -86,18 +86,18 @@ module _ (b key : List ℕ) (p : ℕ) where
 
 -- insertion by cases of the visit
 module _ (b key : List ℕ) (r p n : ℕ) where
-  pub under-bad : (levels : ℕ) → (levels ≡ 0 → ⊥) → visit.Bad ≡ visited b key p → insertUnder (length key) levels b key r p n ≡ step b bad
+  pub under-bad : (levels : ℕ) → (levels ≡ 0 → ⊥) → visit.Bad ≡ visitOf b key p → insertUnder (length key) levels b key r p n ≡ step b bad
   unfolding insertUnder
   under-bad zero s e = absurd (s refl)
   under-bad (suc left) s e = rw (visited-bad b key p e)
 
-  pub under-leaf : (levels : ℕ) → (levels ≡ 0 → ⊥) → visit.Leaf ≡ visited b key p
+  pub under-leaf : (levels : ℕ) → (levels ≡ 0 → ⊥) → visit.Leaf ≡ visitOf b key p
       → insertUnder (length key) levels b key r p n ≡ takeIn (length key) b p (insertPair bytesOrder key (toBe32 r) (itemsIn (length key) b p)) n
   unfolding insertUnder
   under-leaf zero s e = absurd (s refl)
   under-leaf (suc left) s e = let v = visited-leaf b key p e in rw (v .0, v .1)
 
-  pub under-child : (levels : ℕ) (c : PageOffset) {b′ : List ℕ} {o : RuleOutcome} → (levels ≡ 0 → ⊥) → visit.Child c ≡ visited b key p
+  pub under-child : (levels : ℕ) (c : PageOffset) {b′ : List ℕ} {o : RuleOutcome} → (levels ≡ 0 → ⊥) → visit.Child c ≡ visitOf b key p
       → insertUnder (length key) (levels - 1) b key r (c .0) n ≡ step b′ o
       → insertUnder (length key) levels b key r p n ≡ afterChild (length key) b′ key p (c .0) o
   unfolding insertUnder
@@ -152,17 +152,17 @@ two-for-none k b key p c q xs h f e = rw (none (itemsIn k b p) h, ← f) e
 
 -- a visit by its tests
 module _ (b key : List ℕ) (p : ℕ) where
-  pub visit-bad : isPage (length b) p ≡ false → visit.Bad ≡ visited b key p
-  unfolding visited
+  pub visit-bad : isPage (length b) p ≡ false → visit.Bad ≡ visitOf b key p
+  unfolding visitOf
   visit-bad t = rw t
 
-  pub visit-leaf : {a : ℕ} → isPage (length b) p ≡ true → a ≡ attributeAt b p → leafBit a ≡ true → visit.Leaf ≡ visited b key p
-  unfolding visited
+  pub visit-leaf : {a : ℕ} → isPage (length b) p ≡ true → a ≡ attributeAt b p → leafBit a ≡ true → visit.Leaf ≡ visitOf b key p
+  unfolding visitOf
   visit-leaf {a} t e h = rw (t, ← e, h)
 
   pub visit-child : {a : ℕ} {c : PageOffset} → isPage (length b) p ≡ true → a ≡ attributeAt b p → leafBit a ≡ false
-      → c .0 ≡ childOf (chosen key (itemsIn (length key) b p)) → visit.Child c ≡ visited b key p
-  unfolding visited
+      → c .0 ≡ childOf (chosen key (itemsIn (length key) b p)) → visit.Child c ≡ visitOf b key p
+  unfolding visitOf
   visit-child {a} {c} t e h q = rw (t, ← e, h, ← q)
 
 -- the root, behind the new page at q

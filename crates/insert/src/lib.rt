@@ -16,7 +16,7 @@ ghost use Rattle.page.specs.Reading.{items};
 ghost use Rattle.layout.specs.Layout.{itemsIn};
 ghost use Rattle.layout.specs.Given.{Over};
 ghost use Rattle.insert.specs.Insertion.{split, step, takeIn, afterChild, insertUnder, atRoot, insertedBuffer};
-ghost use Rattle.insert.specs.Answers.{outcomeOf, NextFits, maxGrown, visited};
+ghost use Rattle.insert.specs.Answers.{outcomeOf, NextFits, maxGrown, visitOf};
 ghost use Rattle.insert.specs.Room.{onTop, pathFrom, newPages, levelsAfter, noRoom};
 ghost use Rattle.insert.specs.Calls.{left, isFound, insertRule};
 ghost use Rattle.insert.specs.Fresh.{printable, maxExpression, expressionGood, freshBuffer, freshRule};
@@ -142,7 +142,7 @@ fn after_child(
 // What an insertion meets at an offset.
 fn visit_page(index: &[u8], key: &[u8], page: PageOffset) -> Visit
     requires { ⌜ length (now key) ≤ maxKey ⌝ }
-    ensures { λ r. ⌜ r ≡ visited (now (index .entry)) (now (key .entry)) (page .0) ⌝ }
+    ensures { λ r. ⌜ r ≡ visitOf (now (index .entry)) (now (key .entry)) (page .0) ⌝ }
 {
     if !page::is_page(index.len(), page) {
         return Visit::Bad;

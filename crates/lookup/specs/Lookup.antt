@@ -15,8 +15,8 @@ use Rattle.lookup.specs.declared.Answer.{Answer}
 use Rattle.lookup.specs.declared.Answer.the-variants as answer
 
 -- an entry's number, taken as a child's offset or as a record number
-abbrev pub childOf : ℕ → PageOffset
-childOf n = record { 0 = n }
+abbrev pub offsetOf : ℕ → PageOffset
+offsetOf n = record { 0 = n }
 
 abbrev pub recordOf : ℕ → RecordNumber
 recordOf n = record { 0 = n }
@@ -27,7 +27,7 @@ entrySays b key p i =
     cond (eqb i (countAt b p)) visit.Absent
     (cond (leafBit (attributeAt b p))
     (cond (isEqual (ordering (keyAt b (length key) p i) key)) (visit.Found (recordOf (numberAt b (length key) p i))) visit.Absent)
-    (visit.Child (childOf (numberAt b (length key) p i))))
+    (visit.Child (offsetOf (numberAt b (length key) p i))))
 
 unfoldable pub pageSays : List ℕ → List ℕ → ℕ → Visit
 pageSays b key p = entrySays b key p (firstAtOrAbove (keyAt b (length key) p) key (countAt b p) 0)
@@ -61,10 +61,10 @@ lookupRule b key =
     ]
 
 -- the number of an answer: 0 where the key is found, 257 where it is absent, or the refusal's
-abbrev pub answerNumber : Answer → ℕ
-answerNumber (answer.Found r pages) = 0
-answerNumber (answer.Absent pages) = 257
-answerNumber (answer.Refused n) = n
+abbrev pub lookupCode : Answer → ℕ
+lookupCode (answer.Found r pages) = 0
+lookupCode (answer.Absent pages) = 257
+lookupCode (answer.Refused n) = n
 
 -- the record of an answer, and the pages visited; what was there before where an answer has none
 abbrev pub answerRecord : Answer → ℕ → ℕ

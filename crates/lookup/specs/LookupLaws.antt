@@ -11,7 +11,7 @@ use Rattle.octets.specs.declared.Ordering.{Ordering}
 use Rattle.octets.specs.Order.{ordering, isEqual}
 use Rattle.page.specs.Header.{maxLevels}
 use Rattle.page.specs.Page.{attributeAt, countAt, leafBit, keyAt, numberAt, firstAtOrAbove}
-use Rattle.lookup.specs.Lookup.{childOf, recordOf, entrySays, pageSays, visitRule, decided, lookupFrom}
+use Rattle.lookup.specs.Lookup.{offsetOf, recordOf, entrySays, pageSays, visitRule, decided, lookupFrom}
 use Rattle.lookup.specs.declared.Visit.{Visit}
 use Rattle.lookup.specs.declared.Visit.the-variants as visit
 
@@ -34,7 +34,7 @@ module _ {b key : List ℕ} {p a n i : ℕ} (s : Searched b key p a n i) where
     some : eqb i (countAt b p) ≡ false
     some = ne-eqb i (countAt b p) (λ q. ne (q ∙ sym (s .count)))
 
-    pub says-child : (m : ℕ) → leafBit a ≡ false → m ≡ numberAt b (length key) p i → visit.Child (childOf m) ≡ pageSays b key p
+    pub says-child : (m : ℕ) → leafBit a ≡ false → m ≡ numberAt b (length key) p i → visit.Child (offsetOf m) ≡ pageSays b key p
     unfolding entrySays
     says-child m h em = sym (says-entry ∙ simp (some, ← s .attribute, h, ← em))
 

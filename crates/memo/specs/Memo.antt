@@ -89,10 +89,10 @@ memoText text file = readText file (memoNumber text)
 -- ---- the answer as document 01 counts it
 
 -- the number of an answer: 0 with a text's place, 256 for an empty field, or the refusal's
-abbrev pub memoPlaceNumber : MemoPlace → ℕ
-memoPlaceNumber (Text start len) = 0
-memoPlaceNumber Empty = 256
-memoPlaceNumber (Refused n) = n
+abbrev pub memoPlaceCode : MemoPlace → ℕ
+memoPlaceCode (Text start len) = 0
+memoPlaceCode Empty = 256
+memoPlaceCode (Refused n) = n
 
 -- its values: where the text starts, and its length; "A refusal answers its number alone"
 abbrev pub memoPlaceValues : MemoPlace → List ℕ
@@ -103,5 +103,5 @@ memoPlaceValues (Refused n) = []
 -- what `memo_place` answers: the case; 0 exactly with a part of the file as the values; 256 exactly for ten blanks
 pub record MemoAnswer (text file : List ℕ) (r : MemoPlace) : Type 0 where
   pub case : r ≡ memoText text file
-  pub accepted : (memoPlaceNumber r ≡ 0) ↔ ((part : ℕ × ℕ) × (memoPlaceValues r ≡ part .0 ∷ part .1 ∷ []) × (part .0 + part .1 ≤ length file))
-  pub empty : (memoPlaceNumber r ≡ 256) ↔ (memoNumber text ≡ Blank)
+  pub accepted : (memoPlaceCode r ≡ 0) ↔ ((part : ℕ × ℕ) × (memoPlaceValues r ≡ part .0 ∷ part .1 ∷ []) × (part .0 + part .1 ≤ length file))
+  pub empty : (memoPlaceCode r ≡ 256) ↔ (memoNumber text ≡ Blank)

@@ -17,8 +17,8 @@ use Rattle.memo.specs.Memo.{digitsNumber, memoNumber}
 use Rattle.memo.specs.NumberLaws.{digits-said, number-read, number-between, bad-number}
 
 -- a number's text in k characters: its decimal digits, and blanks on the left
-unfoldable pub numberText : ℕ → ℕ → List ℕ
-numberText k n = replicate (k - length (decimal n)) blank ++ decimal n
+unfoldable pub memoNumberText : ℕ → ℕ → List ℕ
+memoNumberText k n = replicate (k - length (decimal n)) blank ++ decimal n
 
 -- ten characters are blanks and what they say
 text-is : (text s : List ℕ) → length text ≡ 10 → unpadded text ≡ s → text ≡ replicate (10 - length s) blank ++ s
@@ -36,16 +36,16 @@ said-digits (c ∷ s) e l =
     (λ z. let other = eqb-false c zeroDigit z in rw (unpadded-digit c s digit, lt-ltb zeroDigit c (omega arith), e))
 
 -- so a number's text says that number
-number-of : (n : ℕ) → 1 ≤ n → n < 10 ^ 10 → memoNumber (numberText 10 n) ≡ Number n
-unfolding memoNumber numberText
+number-of : (n : ℕ) → 1 ≤ n → n < 10 ^ 10 → memoNumber (memoNumberText 10 n) ≡ Number n
+unfolding memoNumber memoNumberText
 number-of n h l =
     let few = decimal-fits n 10 (omega arith) .1 l in
-    let long : length (numberText 10 n) ≡ 10 = rw (length-append, length-replicate) (omega arith) in
+    let long : length (memoNumberText 10 n) ≡ 10 = rw (length-append, length-replicate) (omega arith) in
     rw (long, unpadded-blanks, said-digits (decimal n) (decimal-digits n) (decimal-leads n h), number-decimal n)
 
 -- a text gives n exactly where it is the one text of n, and every number of one to ten digits has that text
-pub number-exactly : (text : List ℕ) (n : ℕ) → (memoNumber text ≡ Number n) ↔ ((1 ≤ n) × (n < 10 ^ 10) × (text ≡ numberText 10 n))
-unfolding numberText
+pub number-exactly : (text : List ℕ) (n : ℕ) → (memoNumber text ≡ Number n) ↔ ((1 ≤ n) × (n < 10 ^ 10) × (text ≡ memoNumberText 10 n))
+unfolding memoNumberText
 number-exactly text n = (
   λ e.
       let b = number-between text n e in

@@ -6,7 +6,7 @@ ghost use Prim.Native.Nat.{_≤_};
 ghost use mathlib.Core.Path.{_≡_};
 ghost use lib.ListN.{length};
 ghost use Rattle.table.specs.Table.{tableRefusal, recordCount, fieldCount};
-ghost use Rattle.field.specs.Field.{PlaceGood, Within};
+ghost use Rattle.field.specs.Field.{PlaceGood, PlaceInside};
 use calendar::Date;
 use calendar::DateAnswer;
 use cell::Logical;
@@ -121,7 +121,7 @@ fn put_logical(line: &mut Line, n: usize, value: bool) -> usize {
 }
 
 fn number_value(line: &mut Line, n: usize, table: &[u8], place: Place) -> usize
-    requires { ⌜ Within (now table) place ⌝ }
+    requires { ⌜ PlaceInside (now table) place ⌝ }
 {
     match cell::number_at(table, place) {
         Number::Value(value) => put_value(line, n, value),
@@ -131,7 +131,7 @@ fn number_value(line: &mut Line, n: usize, table: &[u8], place: Place) -> usize
 }
 
 fn date_value(line: &mut Line, n: usize, table: &[u8], place: Place) -> usize
-    requires { ⌜ Within (now table) place ⌝ }
+    requires { ⌜ PlaceInside (now table) place ⌝ }
 {
     match cell::date_at(table, place) {
         DateAnswer::Value(date) => put_date(line, n, date),
@@ -141,7 +141,7 @@ fn date_value(line: &mut Line, n: usize, table: &[u8], place: Place) -> usize
 }
 
 fn logical_value(line: &mut Line, n: usize, table: &[u8], place: Place) -> usize
-    requires { ⌜ Within (now table) place ⌝ }
+    requires { ⌜ PlaceInside (now table) place ⌝ }
 {
     match cell::logical_at(table, place) {
         Logical::Value(value) => put_logical(line, n, value),
@@ -151,7 +151,7 @@ fn logical_value(line: &mut Line, n: usize, table: &[u8], place: Place) -> usize
 }
 
 fn text_value<'a>(line: &mut Line, n: usize, table: &'a [u8], memo: &'a [u8], place: Place) -> usize
-    requires { ⌜ Within (now table) place ⌝ }
+    requires { ⌜ PlaceInside (now table) place ⌝ }
 {
     let text = cell::text_at(table, memo, place);
     match text {
@@ -165,7 +165,7 @@ fn text_value<'a>(line: &mut Line, n: usize, table: &'a [u8], memo: &'a [u8], pl
 
 // The value at a place, read by the call for the field's type.
 fn put_cell<'a>(line: &mut Line, n: usize, table: &'a [u8], memo: &'a [u8], place: Place) -> usize
-    requires { ⌜ Within (now table) place ⌝ }
+    requires { ⌜ PlaceInside (now table) place ⌝ }
 {
     let kind = place.form.kind;
     match kind {

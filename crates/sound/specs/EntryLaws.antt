@@ -18,7 +18,7 @@ use Rattle.tree.specs.PairLaws.{above-down}
 use Rattle.page.specs.Page.{leafBit}
 use Rattle.page.specs.KeyOrder.{bytesOrder, below-not-le, equal-same, equal-refl}
 use Rattle.page.specs.Reading.{entriesAt}
-use Rattle.sound.specs.Rule.{Entries, lastOf, isAbove, isSame, leafEntries, upperEntries, entriesFit}
+use Rattle.sound.specs.Rule.{Entries, lastOf, isAbove, isSame, leafEntriesGood, upperEntriesGood, entriesFit}
 use Rattle.sound.specs.Levels.{Top}
 use Rattle.sound.specs.RunLaws.{Checked}
 
@@ -78,16 +78,16 @@ after-above (some a) x h = below-not-le a x ∙ ap not h
 not-zero : (n : ℕ) → not (eqb n 0) ≡ true → 0 < n
 not-zero n h = omega (arith, eqb-false n 0 (not-true _ h))
 
-leaf-climbs : (o : Option (List ℕ)) (xs : Entries) → leafEntries o xs ≡ true → Climbs o xs
-unfolding leafEntries
+leaf-climbs : (o : Option (List ℕ)) (xs : Entries) → leafEntriesGood o xs ≡ true → Climbs o xs
+unfolding leafEntriesGood
 leaf-climbs o [] h = tt
 leaf-climbs o (x ∷ xs) h =
     let u = both _ _ h in
     let v = both _ _ (u .0) in
     (above-after o (x .0) (v .1), not-zero (x .1) (v .0), leaf-climbs (some (x .0)) xs (u .1))
 
-climbs-leaf : (o : Option (List ℕ)) (xs : Entries) → Climbs o xs → leafEntries o xs ≡ true
-unfolding leafEntries
+climbs-leaf : (o : Option (List ℕ)) (xs : Entries) → Climbs o xs → leafEntriesGood o xs ≡ true
+unfolding leafEntriesGood
 climbs-leaf o [] h = refl
 climbs-leaf o (x ∷ xs) h =
     join _ _ (join _ _ (ap not (ne-eqb (x .1) 0 (omega (arith, h .1)))) (after-above o (x .0) (h .0))) (climbs-leaf (some (x .0)) xs (h .2))
@@ -109,15 +109,15 @@ same-exactly x (y ∷ ys) h = (tt, equal-same _ _ (rw (last-some none x (y ∷ y
 exactly-same : (x : List ℕ) (xs : Entries) → NonEmpty xs → lastKey x xs ≡ x → isSame (lastOf none xs) x ≡ true
 exactly-same x xs s e = rw (last-some none x xs s, e) (equal-refl x)
 
-upper-exactly : (S : ℕ → Entries) (xs : Entries) → upperEntries S xs ≡ true → All (Exactly S) xs
-unfolding upperEntries
+upper-exactly : (S : ℕ → Entries) (xs : Entries) → upperEntriesGood S xs ≡ true → All (Exactly S) xs
+unfolding upperEntriesGood
 upper-exactly S [] h = tt
 upper-exactly S (x ∷ xs) h =
     let u = both _ _ h in
     (same-exactly (x .0) (S (x .1)) (u .0), upper-exactly S xs (u .1))
 
-exactly-upper : (S : ℕ → Entries) (xs : Entries) → All (Exactly S) xs → upperEntries S xs ≡ true
-unfolding upperEntries
+exactly-upper : (S : ℕ → Entries) (xs : Entries) → All (Exactly S) xs → upperEntriesGood S xs ≡ true
+unfolding upperEntriesGood
 exactly-upper S [] h = refl
 exactly-upper S (x ∷ xs) h = join _ _ (exactly-same (x .0) (S (x .1)) (h .0 .0) (h .0 .1)) (exactly-upper S xs (h .1))
 

@@ -11,7 +11,7 @@ use Rattle.page.specs.Header.{pageSize, noPage, isPage, sizeGood, keyLengthGood
 use Rattle.page.specs.Page.{capacity, countGood}
 use Rattle.page.specs.Reading.{items, itemsAt, entriesAt}
 use Rattle.sound.specs.Sound.{Sound}
-use Rattle.sound.specs.Rule.{leafEntries, upperEntries, chain, isLeaf, markedFrom, entriesFit, pageFits, checkPage, checkPages}
+use Rattle.sound.specs.Rule.{leafEntriesGood, upperEntriesGood, chain, isLeaf, markedFrom, entriesFit, pageFits, checkPage, checkPages}
 use Rattle.sound.specs.Rule.{rootLevel, nextLevel, levelsUnder, pagesGood, unmarked}
 use Rattle.sound.specs.Accepted.{accepted}
 
@@ -43,7 +43,7 @@ computed : (headerGood tree000 ≡ true)
     × (pagesGood (set tree000 2064 0) unmarked ≡ false)
     × (pagesGood (set tree000 1039 0) unmarked ≡ false)
     × (pagesGood (set tree000 1027 255) unmarked ≡ false)
-unfolding tree000 padded page entry le16 le32 be32 toLe16 toLe32 toBe32 window bytesLe ordering isPage sizeGood keyLengthGood headerGood capacity countGood items itemsAt entriesAt leafEntries upperEntries chain isLeaf markedFrom entriesFit pageFits checkPage checkPages rootLevel nextLevel levelsUnder pagesGood unmarked
+unfolding tree000 padded page entry le16 le32 be32 toLe16 toLe32 toBe32 window bytesLe ordering isPage sizeGood keyLengthGood headerGood capacity countGood items itemsAt entriesAt leafEntriesGood upperEntriesGood chain isLeaf markedFrom entriesFit pageFits checkPage checkPages rootLevel nextLevel levelsUnder pagesGood unmarked
 computed = (refl, refl, refl, refl, refl, refl, refl)
 
 pub tree000-sound : Sound tree000

@@ -37,14 +37,14 @@ isSame none x = false
 isSame (some a) x = isEqual (ordering a x)
 
 -- the entries of a leaf, after the key o: each key is above the one before it, each record number above 0
-unfoldable pub leafEntries : Option (List ℕ) → Entries → Bool
-leafEntries o [] = true
-leafEntries o (e ∷ es) = (not (eqb (e .1) 0) && isAbove o (e .0)) && leafEntries (some (e .0)) es
+unfoldable pub leafEntriesGood : Option (List ℕ) → Entries → Bool
+leafEntriesGood o [] = true
+leafEntriesGood o (e ∷ es) = (not (eqb (e .1) 0) && isAbove o (e .0)) && leafEntriesGood (some (e .0)) es
 
 -- the entries of a page above the leaves, in a store of pages: each key is the last of the child's
-unfoldable pub upperEntries : (ℕ → Entries) → Entries → Bool
-upperEntries S [] = true
-upperEntries S (e ∷ es) = isSame (lastOf none (S (e .1))) (e .0) && upperEntries S es
+unfoldable pub upperEntriesGood : (ℕ → Entries) → Entries → Bool
+upperEntriesGood S [] = true
+upperEntriesGood S (e ∷ es) = isSame (lastOf none (S (e .1))) (e .0) && upperEntriesGood S es
 
 -- the attribute of the pages of a level: 1 root, 2 leaf, summed
 abbrev pub attributeOf : Bool → Bool → ℕ
@@ -93,7 +93,7 @@ module _ (b : List ℕ) (k size : ℕ) where
 
   -- the entries of the page at p, on whose left is `last`
   unfoldable pub entriesFit : ℕ → ℕ → ℕ → Bool
-  entriesFit a last p = cond (leafBit a) (leafEntries (lastOf none (entriesOf last)) (entriesOf p)) (upperEntries entriesOf (entriesOf p))
+  entriesFit a last p = cond (leafBit a) (leafEntriesGood (lastOf none (entriesOf last)) (entriesOf p)) (upperEntriesGood entriesOf (entriesOf p))
 
   -- the page at p has the attribute a, a good count, links that agree with its left neighbour's, and good entries
   unfoldable pub pageFits : ℕ → ℕ → ℕ → ℕ → Bool

@@ -45,11 +45,11 @@ abbrev pub finding : Bool → Option ℕ → Answer
 finding fits held = refusedIf (not fits) 27 (foundOrAbsent held)
 
 -- an answer is 30; an answer is yes
-abbrev pub noRoom : Answer → Bool
-noRoom (refused n) = eqb n 30
-noRoom accepted = false
-noRoom (found r) = false
-noRoom absent = false
+abbrev pub isNoRoom : Answer → Bool
+isNoRoom (refused n) = eqb n 30
+isNoRoom accepted = false
+isNoRoom (found r) = false
+isNoRoom absent = false
 
 abbrev pub isAccepted : Answer → Bool
 isAccepted (refused n) = false
@@ -60,7 +60,7 @@ isAccepted absent = false
 -- "of the answers, only whether an insertion was 30"
 abbrev pub noRooms : List Answer → List Bool
 noRooms [] = []
-noRooms (a ∷ rest) = noRoom a ∷ noRooms rest
+noRooms (a ∷ rest) = isNoRoom a ∷ noRooms rest
 
 -- a list of calls made one after another on a state: what f gives for each call on the state that it is lent, and the state after all
 abbrev pub resultsOf : {K B X : Type 0} → (Call K → B → X) → (Call K → B → B) → List (Call K) → B → List X

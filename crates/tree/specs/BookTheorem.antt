@@ -6,7 +6,7 @@ use mathlib.Core.List.{List, [], _∷_}
 use Prim.Native.Nat.{ℕ, _<_}
 use Rattle.basis.specs.Lists.{All}
 use Rattle.tree.specs.Order.{Order}
-use Rattle.tree.specs.Book.{Call, insertion, lookupOf, Answer, noRoom, noRooms, resultsOf, finalOf, bookAnswer, bookAfter}
+use Rattle.tree.specs.Book.{Call, insertion, lookupOf, Answer, isNoRoom, noRooms, resultsOf, finalOf, bookAnswer, bookAfter}
 use Rattle.tree.specs.Book.{bookAnswers, bookFinal, BookClaim}
 use Rattle.tree.specs.Index.{Index, held, Setting, noRoomFor, answer, next}
 use Rattle.tree.specs.SoundIndex.{SoundIndex}
@@ -31,18 +31,18 @@ module _ {K B : Type 0} (s : Setting K) (two : 1 < s .capacity) (read : B → In
   leaves b = held (read b)
 
   -- one call
-  one-answer : (c : Call K) (b : B) → Ok c → Inv b → bookAnswer (s .order) (s .fits) c (noRoom (answerB c b)) (leaves b) ≡ answerB c b
+  one-answer : (c : Call K) (b : B) → Ok c → Inv b → bookAnswer (s .order) (s .fits) c (isNoRoom (answerB c b)) (leaves b) ≡ answerB c b
   one-answer c b o i = rw (same-answer c b o i) (answer-book s two c (read b) (sound b i))
 
   one-room : (c : Call K) (b : B) → Ok c → Inv b → bookAnswer (s .order) (s .fits) c (noRoomB c b) (leaves b) ≡ answerB c b
   one-room c b o i = rw (same-answer c b o i, same-room c b o i) (answer-room s two c (read b) (sound b i))
 
-  one-next : (c : Call K) (b : B) → Ok c → Inv b → bookAfter (s .order) (s .fits) c (noRoom (answerB c b)) (leaves b) ≡ leaves (nextB c b)
+  one-next : (c : Call K) (b : B) → Ok c → Inv b → bookAfter (s .order) (s .fits) c (isNoRoom (answerB c b)) (leaves b) ≡ leaves (nextB c b)
   one-next c b o i = rw (same-answer c b o i, same-next c b o i) (next-book s two c (read b) (sound b i))
 
   one-next-room : (c : Call K) (b : B) → Ok c → Inv b → bookAfter (s .order) (s .fits) c (noRoomB c b) (leaves b) ≡ leaves (nextB c b)
   one-next-room c b o i =
-      bookAfter-same (s .order) (s .fits) c (noRoomB c b) (noRoom (answerB c b)) (leaves b) (one-room c b o i ∙ sym (one-answer c b o i))
+      bookAfter-same (s .order) (s .fits) c (noRoomB c b) (isNoRoom (answerB c b)) (leaves b) (one-room c b o i ∙ sym (one-answer c b o i))
       ∙ one-next c b o i
 
   -- every list

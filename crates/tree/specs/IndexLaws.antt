@@ -24,21 +24,21 @@ use Rattle.tree.specs.InsertSized.{insert-sized}
 use Rattle.tree.specs.InsertPages.{newPages, Distinct, Unused, insert-pages}
 use Rattle.tree.specs.InsertNeeds.{insert-needs}
 use Rattle.tree.specs.InsertLinks.{insert-all-linked}
-use Rattle.tree.specs.Book.{Call, insertion, lookupOf, Answer, accepted, refusedIf, isPresent, verdict, noRoom, isAccepted}
+use Rattle.tree.specs.Book.{Call, insertion, lookupOf, Answer, accepted, refusedIf, isPresent, verdict, isNoRoom, isAccepted}
 use Rattle.tree.specs.Book.{bookAnswer, bookAfter}
-use Rattle.tree.specs.Index.{pageSize, noPage, newPage, Index, held, fresh, grown, Setting, outOfRoom, noRoomFor, answer, inserted, next}
+use Rattle.tree.specs.Index.{pageSize, noPage, newOffset, Index, held, fresh, grown, Setting, outOfRoom, noRoomFor, answer, inserted, next}
 use Rattle.tree.specs.Index.{nextLinks}
 use Rattle.tree.specs.SoundIndex.{PagesOnce, SoundIndex, LinkedIndex}
 
 -- the verdict on an insertion: told whether it was 30 it says the same, and it is yes only where no refusal's test holds
 pub verdict-room : (fits : Bool) (r : ℕ) (held : Option ℕ) (full : Bool) →
-    verdict fits r held (noRoom (verdict fits r held full)) ≡ verdict fits r held full
+    verdict fits r held (isNoRoom (verdict fits r held full)) ≡ verdict fits r held full
 verdict-room fits r held full = go (not fits) (eqb r 0) (isPresent held) full
   where
     four : Bool → Bool → Bool → Bool → Answer
     four a b c d = refusedIf a 27 (refusedIf b 28 (refusedIf c 29 (refusedIf d 30 accepted)))
 
-    go : (a b c d : Bool) → four a b c (noRoom (four a b c d)) ≡ four a b c d
+    go : (a b c d : Bool) → four a b c (isNoRoom (four a b c d)) ≡ four a b c d
     go true b c d = refl
     go false true c d = refl
     go false false true d = refl
@@ -65,25 +65,25 @@ accepted-acceptable true r held full e = either (eqb r 0)
     go none false p q = record { fitting = refl; positive = p; new = refl; room = refl }
 
 -- the offsets of new pages are the multiples of 512 from F up to the new F
-pub newPages-below : (size n z : ℕ) → z < size → occ z (newPages (newPage size) n) ≡ 0
+pub newPages-below : (size n z : ℕ) → z < size → occ z (newPages (newOffset size) n) ≡ 0
 newPages-below size zero z l = refl
-newPages-below size (suc n) z l = rw (ne-eqb z (newPage size n) (omega arith)) (omega (arith, newPages-below size n z l))
+newPages-below size (suc n) z l = rw (ne-eqb z (newOffset size n) (omega arith)) (omega (arith, newPages-below size n z l))
 
-pub newPages-beyond : (size n z : ℕ) → newPage size n ≤ z → occ z (newPages (newPage size) n) ≡ 0
+pub newPages-beyond : (size n z : ℕ) → newOffset size n ≤ z → occ z (newPages (newOffset size) n) ≡ 0
 newPages-beyond size zero z l = refl
-newPages-beyond size (suc n) z l = rw (ne-eqb z (newPage size n) (omega arith)) (omega (arith, newPages-beyond size n z (omega arith)))
+newPages-beyond size (suc n) z l = rw (ne-eqb z (newOffset size n) (omega arith)) (omega (arith, newPages-beyond size n z (omega arith)))
 
-pub newPages-unaligned : (size n z : ℕ) → size % pageSize ≡ 0 → (z % pageSize ≡ 0 → ⊥) → occ z (newPages (newPage size) n) ≡ 0
+pub newPages-unaligned : (size n z : ℕ) → size % pageSize ≡ 0 → (z % pageSize ≡ 0 → ⊥) → occ z (newPages (newOffset size) n) ≡ 0
 newPages-unaligned size zero z a o = refl
 newPages-unaligned size (suc n) z a o =
-    rw (ne-eqb z (newPage size n) (λ e. o (omega arith))) (omega (arith, newPages-unaligned size n z a o))
+    rw (ne-eqb z (newOffset size n) (λ e. o (omega arith))) (omega (arith, newPages-unaligned size n z a o))
 
-pub newPages-once : (size n z : ℕ) → size % pageSize ≡ 0 → z % pageSize ≡ 0 → size ≤ z → z < newPage size n →
-    occ z (newPages (newPage size) n) ≡ 1
+pub newPages-once : (size n z : ℕ) → size % pageSize ≡ 0 → z % pageSize ≡ 0 → size ≤ z → z < newOffset size n →
+    occ z (newPages (newOffset size) n) ≡ 1
 newPages-once size zero z a d l m = absurd (omega arith)
-newPages-once size (suc n) z a d l m = either (eqb z (newPage size n))
-    (λ e. rw e (omega (arith, newPages-beyond size n z (omega (arith, eqb-true z (newPage size n) e)))))
-    (λ e. rw e (omega (arith, newPages-once size n z a d l (omega (arith, eqb-false z (newPage size n) e)))))
+newPages-once size (suc n) z a d l m = either (eqb z (newOffset size n))
+    (λ e. rw e (omega (arith, newPages-beyond size n z (omega (arith, eqb-true z (newOffset size n) e)))))
+    (λ e. rw e (omega (arith, newPages-once size n z a d l (omega (arith, eqb-false z (newOffset size n) e)))))
 
 -- each page is reached at most once, and no new page is among them
 module _ {K : Type 0} (i : Index K) (p : PagesOnce i) where
@@ -96,12 +96,12 @@ module _ {K : Type 0} (i : Index K) (p : PagesOnce i) where
       (λ m. omega (arith, p .unaligned z (eqb-false (z % pageSize) 0 m)))))
       (λ e. omega (arith, p .beyond z (ltb-false z (i .size) e)))
 
-  pub newPage-unused : Unused (newPage (i .size)) (pages (i .height) (i .tree))
-  newPage-unused j = p .beyond (newPage (i .size) j) (omega arith)
+  pub newPage-unused : Unused (newOffset (i .size)) (pages (i .height) (i .tree))
+  newPage-unused j = p .beyond (newOffset (i .size) j) (omega arith)
 
   -- after an insertion each is again
   grown-pages : (g : Grown K) →
-      ((z : ℕ) → occ z (grownPages g) ≡ occ z (pages (i .height) (i .tree)) + occ z (newPages (newPage (i .size)) (g .2))) →
+      ((z : ℕ) → occ z (grownPages g) ≡ occ z (pages (i .height) (i .tree)) + occ z (newPages (newOffset (i .size)) (g .2))) →
       PagesOnce (grown (i .size) g)
   grown-pages g counts =
       let F : ℕ = i .size in
@@ -145,13 +145,13 @@ module _ {K : Type 0} (s : Setting K) (two : 1 < s .capacity) where
       SoundIndex s (inserted s k r i)
   inserted-sound i k r pos f room d =
       let h : ℕ = i .height in
-      let name : ℕ → ℕ = newPage (i .size) in
+      let name : ℕ → ℕ = newOffset (i .size) in
       let g : Grown K = insert (s .order) (s .capacity) name k r h (i .tree) in
       let rooted : Rooted h (i .tree) = sized-rooted (s .capacity) h (i .tree) (d .sized) in
       let needed : (g .2 ≡ needs (s .order) (s .capacity) k h (i .tree))
       × (suc (g .0) ≡ levelsAfter (s .order) (s .capacity) k h (i .tree)) =
       insert-needs (s .order) (s .capacity) name k r h (i .tree) (omega arith) (d .sized) in
-      let limit : ℕ = newPage (i .size) (needs (s .order) (s .capacity) k h (i .tree)) in
+      let limit : ℕ = newOffset (i .size) (needs (s .order) (s .capacity) k h (i .tree)) in
       let levels : ℕ = levelsAfter (s .order) (s .capacity) k h (i .tree) in
       let rooms : (ltb (s .maxSize) limit ≡ false) × (ltb (s .maxLevels) levels ≡ false) =
       room-both (ltb (s .maxSize) limit) (ltb (s .maxLevels) levels) room in
@@ -181,7 +181,7 @@ module _ {K : Type 0} (s : Setting K) (two : 1 < s .capacity) where
   next-linked (insertion k r) i l d c = either (isAccepted (answer s (insertion k r) i))
       (λ e. let p : PagesOnce i = d .pagesOnce in
       let g : SoundIndex s (inserted s k r i) = rw e at (next-sound (insertion k r) i d) in
-      rw e (insert-all-linked (s .order) (s .capacity) (omega arith) (newPage (i .size)) (λ a b u. omega arith)
+      rw e (insert-all-linked (s .order) (s .capacity) (omega arith) (newOffset (i .size)) (λ a b u. omega arith)
       noPage (λ a u. omega (arith, p .aligned)) k r (i .height) (i .tree) (d .sized)
       (pages-distinct i p) (newPage-unused i p) (p .unaligned noPage (λ u. omega arith)) l
       (pages-distinct (inserted s k r i) (g .pagesOnce)) c))
@@ -189,7 +189,7 @@ module _ {K : Type 0} (s : Setting K) (two : 1 < s .capacity) where
 
   -- Theorem: a call is answered as the book answers it, told whether that is 30; and by the rule for 30
   pub answer-book : (c : Call K) (i : Index K) → SoundIndex s i →
-      bookAnswer (s .order) (s .fits) c (noRoom (answer s c i)) (held i) ≡ answer s c i
+      bookAnswer (s .order) (s .fits) c (isNoRoom (answer s c i)) (held i) ≡ answer s c i
   answer-book (lookupOf k) i d =
       rw (
         lookup-find (s .order) k (i .height) (i .tree) (d .ordered),
@@ -207,10 +207,10 @@ module _ {K : Type 0} (s : Setting K) (two : 1 < s .capacity) where
 
   -- Theorem: the leaf pairs after a call are the book after it
   pub next-book : (c : Call K) (i : Index K) → SoundIndex s i →
-      bookAfter (s .order) (s .fits) c (noRoom (answer s c i)) (held i) ≡ held (next s c i)
+      bookAfter (s .order) (s .fits) c (isNoRoom (answer s c i)) (held i) ≡ held (next s c i)
   next-book (lookupOf k) i d = refl
   next-book (insertion k r) i d =
       rw (answer-book (insertion k r) i d)
       (either (isAccepted (answer s (insertion k r) i))
-      (λ e. rw e (sym (insert-pairs (s .order) (s .capacity) (newPage (i .size)) k r (i .height) (i .tree) (sized-rooted (s .capacity) (i .height) (i .tree) (d .sized)) (d .ordered))))
+      (λ e. rw e (sym (insert-pairs (s .order) (s .capacity) (newOffset (i .size)) k r (i .height) (i .tree) (sized-rooted (s .capacity) (i .height) (i .tree) (d .sized)) (d .ordered))))
       (λ e. rw e))

@@ -7,14 +7,14 @@ use Rattle.table.specs.Table.{recordStart, deletionByte, fieldOffset}
 use Rattle.table.specs.TableLaws.{layout}
 use Rattle.field.specs.declared.FieldForm.{FieldForm}
 use Rattle.field.specs.declared.Place.{Place}
-use Rattle.field.specs.Field.{PlaceGood, placeAt, formOf, Within}
+use Rattle.field.specs.Field.{PlaceGood, placeAt, formOf, PlaceInside}
 use Rattle.field.specs.FieldLaws.{mark-inside, place-within}
 use borrow.Author.Needs.{needs}
 use Rattle.field.proofs.place_at.Statement.{statement}
 use Rattle.field.proofs.place_at.Tie as tie
 
 -- the answer is the place, and lies in the table
-answered : (b : List ℕ) (i field : ℕ) (p : Place) → PlaceGood b i field → p ≡ placeAt b i field → (p ≡ placeAt b i field) × Within b p
+answered : (b : List ℕ) (i field : ℕ) (p : Place) → PlaceGood b i field → p ≡ placeAt b i field → (p ≡ placeAt b i field) × PlaceInside b p
 answered b i field p good e = (e, place-within b i field p good e)
 
 sub-records-end : tie.Need-sub-records-end

@@ -5,7 +5,7 @@ use mir.ValLaws.{toZ-ofZ}
 use Rattle.numeral.specs.Writing.{writeNumber}
 use Rattle.numeral.specs.declared.Writing.{Writing}
 use Rattle.numeral.specs.declared.Writing.the-variants.{Written, Refused}
-use Rattle.gatherloom.specs.Answers.{out, writingNumber, writingOut}
+use Rattle.gatherloom.specs.Answers.{out, writingCode, writingOut}
 use Rattle.gatherloom.specs.AnswerLaws.{writing-told}
 use borrow.Author.Needs.{needs}
 use Rattle.gatherloom.proofs.gl_number_write.Statement.{statement}
@@ -13,7 +13,7 @@ use Rattle.gatherloom.proofs.gl_number_write.Tie as tie
 
 -- what the buffer and the answer are, by the case of the library's answer
 wrote : (c : tie.After-write-number) (answer : Writing) → c .write-number .result ≡ answer
-    → let start = c .before .before .before in writingOut (writeNumber (start .args .text .now) (start .args .decimals) (start .args .value)) ≡ out (writingNumber answer) (c .write-number .last .0)
+    → let start = c .before .before .before in writingOut (writeNumber (start .args .text .now) (start .args .decimals) (start .args .value)) ≡ out (writingCode answer) (c .write-number .last .0)
 wrote c answer is =
     let start = c .before .before .before in
     writing-told _ _ _ answer (rw (toZ-ofZ w64 (start .args .value) (start .fits .value)) at (c .write-number .ensures)) is

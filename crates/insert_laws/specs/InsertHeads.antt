@@ -35,11 +35,11 @@ use Rattle.layout.specs.ItemLaws.{Fit}
 use Rattle.layout.specs.EntryLaws.{items-in-fit}
 use Rattle.sound.specs.Sound.{linksOf}
 use Rattle.insert.specs.Insertion.{Outcome, kept, split, bad, Step, takeIn, afterChild, insertUnder}
-use Rattle.written.specs.EntryLaws.{entriesIn, page-of, items-few}
-use Rattle.written.specs.HeadLaws.{Head, SameHead, SameHeader, with-head, with-header, raised-head, raised-header, split-head, split-header}
-use Rattle.growth.specs.ItemLists.{choose-numbered, insertPair-length, replaced-length}
-use Rattle.growth.specs.InsertEntries.{Usable, OutcomeIs, Shaped, Offered, replacement, Inserts, Free, inserts, items-some, two-fit}
-use Rattle.growth.specs.InsertEntries.{child-free, child-shaped, child-rest, page-is}
+use Rattle.layout_laws.specs.EntryLaws.{entriesIn, page-of, items-few}
+use Rattle.layout_laws.specs.HeadLaws.{Head, SameHead, SameHeader, with-head, with-header, raised-head, raised-header, split-head, split-header}
+use Rattle.insert_laws.specs.ItemLists.{choose-numbered, insertPair-length, replaced-length}
+use Rattle.insert_laws.specs.InsertEntries.{Usable, OutcomeIs, Shaped, Offered, replacement, Inserts, Free, inserts, items-some, two-fit}
+use Rattle.insert_laws.specs.InsertEntries.{child-free, child-shaped, child-rest, page-is}
 
 -- attributes and right links that are numbers of two and four bytes
 abbrev pub Plain : List ℕ → Type 0

@@ -25,7 +25,7 @@ use Rattle.page.specs.ReadingLaws.{attribute-same, count-same, left-same, right
 use Rattle.layout.specs.Layout.{itemsIn, area, withEntries, newPage, withoutRoot, linkBeyond, splitPage}
 use Rattle.layout.specs.Entries.{aboveAll, raised}
 use Rattle.layout.specs.ItemLaws.{Fit}
-use Rattle.written.specs.EntryLaws.{page-of, window-other, length-area, new-stores, length-with, length-beyond, items-few, halves-fit}
+use Rattle.layout_laws.specs.EntryLaws.{page-of, window-other, length-area, new-stores, length-with, length-beyond, items-few, halves-fit}
 
 -- the head of the page at z
 pub record Head (b : List ℕ) (z attribute count left right : ℕ) : Type 0 where

@@ -25,7 +25,7 @@ use Rattle.page.specs.KeyOrder.{bytesOrder}
 use Rattle.page.specs.Reading.{entriesAt}
 use Rattle.page.specs.ReadingLaws.{entries-by-count}
 use Rattle.page.specs.SearchLaws.{firstEntry, seek-some, seek-none}
-use Rattle.lookup.specs.Lookup.{childOf, recordOf, entrySays, pageSays, visitRule, decided, lookupFrom, lookupRule}
+use Rattle.lookup.specs.Lookup.{offsetOf, recordOf, entrySays, pageSays, visitRule, decided, lookupFrom, lookupRule}
 use Rattle.lookup.specs.declared.Visit.the-variants as visit
 use Rattle.lookup.specs.declared.Answer.{Answer}
 use Rattle.lookup.specs.declared.Answer.the-variants as answer
@@ -93,7 +93,7 @@ module _ (b key : List ℕ) (size p : ℕ) (page : isPage size p ≡ true) (full
   unfolding pageSays entrySays
   says-none e = rw (eq-eqb i (countAt b p) e)
 
-  says-child : leafBit (attributeAt b p) ≡ false → (i ≡ countAt b p → ⊥) → pageSays b key p ≡ visit.Child (childOf (entry .1))
+  says-child : leafBit (attributeAt b p) ≡ false → (i ≡ countAt b p → ⊥) → pageSays b key p ≡ visit.Child (offsetOf (entry .1))
   unfolding pageSays entrySays
   says-child l e = rw (ne-eqb i (countAt b p) e, l)
 

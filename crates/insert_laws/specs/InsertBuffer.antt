@@ -38,11 +38,11 @@ use Rattle.layout.specs.EntryLaws.{items-in-fit}
 use Rattle.layout.specs.GatherLaws.{length-last}
 use Rattle.sound.specs.Sound.{linksOf}
 use Rattle.insert.specs.Insertion.{Outcome, kept, split, bad, Step, insertUnder, atRoot, insertedBuffer}
-use Rattle.written.specs.EntryLaws.{entriesIn, page-of, length-new}
-use Rattle.written.specs.HeadLaws.{Head, SameHead, SameHeader, put-header, new-head, new-header}
-use Rattle.growth.specs.InsertEntries.{Usable, OutcomeIs, StepIs, Shaped, shaped-page, Offered, replacement, Free, inserts, topKey, RootIs}
-use Rattle.growth.specs.InsertEntries.{rootAfter, sizeAfter, root-inserts}
-use Rattle.growth.specs.InsertHeads.{Plain, unrooted, one-of, HeadsAfter, insert-heads}
+use Rattle.layout_laws.specs.EntryLaws.{entriesIn, page-of, length-new}
+use Rattle.layout_laws.specs.HeadLaws.{Head, SameHead, SameHeader, put-header, new-head, new-header}
+use Rattle.insert_laws.specs.InsertEntries.{Usable, OutcomeIs, StepIs, Shaped, shaped-page, Offered, replacement, Free, inserts, topKey, RootIs}
+use Rattle.insert_laws.specs.InsertEntries.{rootAfter, sizeAfter, root-inserts}
+use Rattle.insert_laws.specs.InsertHeads.{Plain, unrooted, one-of, HeadsAfter, insert-heads}
 
 -- the tree that a buffer's own length reads: insertion's rule reads so
 abbrev pub treeIn : ℕ → List ℕ → (h : ℕ) → Tree (List ℕ) h

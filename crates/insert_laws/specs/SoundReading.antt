@@ -22,9 +22,9 @@ use Rattle.page.specs.Reading.{itemsAt, entriesAt}
 use Rattle.sound.specs.Sound.{indexTree, Sound}
 use Rattle.sound.specs.MarkLaws.{occ-all}
 use Rattle.sound.specs.IndexLaws.{sound-sized}
-use Rattle.written.specs.EntryLaws.{entriesIn}
-use Rattle.growth.specs.InsertEntries.{Usable, Shaped}
-use Rattle.growth.specs.InsertBuffer.{treeIn}
+use Rattle.layout_laws.specs.EntryLaws.{entriesIn}
+use Rattle.insert_laws.specs.InsertEntries.{Usable, Shaped}
+use Rattle.insert_laws.specs.InsertBuffer.{treeIn}
 
 -- a page of a file is one of every longer file, and has the same entries there
 pub page-longer : {m n : ℕ} (p : ℕ) → m ≤ n → isPage m p ≡ true → isPage n p ≡ true

@@ -38,10 +38,10 @@ use Rattle.layout.specs.ItemLaws.{Fit}
 use Rattle.layout.specs.EntryLaws.{items-in-fit}
 use Rattle.layout.specs.GatherLaws.{length-last, length-larger}
 use Rattle.insert.specs.Insertion.{Outcome, kept, split, bad, Step, takeIn, afterChild, insertUnder, atRoot}
-use Rattle.written.specs.EntryLaws.{entriesIn, page-of, raise, items-few, entries-header, entries-with, length-with, entries-new, entries-split}
-use Rattle.written.specs.EntryLaws.{length-split, entries-raised, length-raised}
-use Rattle.growth.specs.ItemLists.{insertPair-numbered, choose-numbered, lastKey-numbered, replaced-place, insertPair-place}
-use Rattle.growth.specs.ItemLists.{insertPair-length, replaced-length, replaced-all}
+use Rattle.layout_laws.specs.EntryLaws.{entriesIn, page-of, raise, items-few, entries-header, entries-with, length-with, entries-new, entries-split}
+use Rattle.layout_laws.specs.EntryLaws.{length-split, entries-raised, length-raised}
+use Rattle.insert_laws.specs.ItemLists.{insertPair-numbered, choose-numbered, lastKey-numbered, replaced-place, insertPair-place}
+use Rattle.insert_laws.specs.ItemLists.{insertPair-length, replaced-length, replaced-all}
 
 -- a page of the buffer whose offset has four bytes
 abbrev pub Usable : List ℕ → ℕ → Type 0

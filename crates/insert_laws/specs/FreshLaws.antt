@@ -30,10 +30,10 @@ use Rattle.sound.specs.Sound.{indexTree, linksOf, Sound}
 use Rattle.sound.specs.IndexLaws.{indexOf, settingOf, index-sound}
 use Rattle.insert.specs.CallLaws.{expression-most}
 use Rattle.insert.specs.Fresh.{maxExpression, expressionGood, freshHeader, freshBuffer}
-use Rattle.written.specs.EntryLaws.{entriesIn, page-of, entries-new, length-new}
-use Rattle.written.specs.HeadLaws.{Head, SameHead, put-header, new-head, new-header}
-use Rattle.growth.specs.InsertHeads.{Plain, one-of}
-use Rattle.growth.specs.SoundReading.{entries-longer}
+use Rattle.layout_laws.specs.EntryLaws.{entriesIn, page-of, entries-new, length-new}
+use Rattle.layout_laws.specs.HeadLaws.{Head, SameHead, put-header, new-head, new-header}
+use Rattle.insert_laws.specs.InsertHeads.{Plain, one-of}
+use Rattle.insert_laws.specs.SoundReading.{entries-longer}
 
 -- what fresh accepts
 pub record FreshGiven (k : ℕ) (e b : List ℕ) : Type 0 where

@@ -44,13 +44,13 @@ use Rattle.sound.specs.MarkLaws.{occ-all}
 use Rattle.sound.specs.IndexLaws.{indexOf, settingOf, sound-index, sound-linked, all-occ, once-page, index-sound}
 use Rattle.insert.specs.Insertion.{insertedBuffer}
 use Rattle.insert.specs.Room.{noRoom}
-use Rattle.growth.specs.InsertEntries.{Usable}
-use Rattle.growth.specs.InsertHeads.{Plain, unrooted}
-use Rattle.growth.specs.InsertBuffer.{treeIn, grownBy, Ready, SameRest, tree-after, root-after, size-after, length-after, header-after}
-use Rattle.growth.specs.InsertBuffer.{HeadsIn, Rising, stays, rises, heads-in, linksAfter}
-use Rattle.growth.specs.AttributeLaws.{leaf-old, leaf-new, root-none, root-new, root-split, unrooted-same, small-old, small-new}
-use Rattle.growth.specs.SoundReading.{page-longer, read-shorter, sound-tree, sound-shaped}
-use Rattle.growth.specs.RoomLaws.{room-is}
+use Rattle.insert_laws.specs.InsertEntries.{Usable}
+use Rattle.insert_laws.specs.InsertHeads.{Plain, unrooted}
+use Rattle.insert_laws.specs.InsertBuffer.{treeIn, grownBy, Ready, SameRest, tree-after, root-after, size-after, length-after, header-after}
+use Rattle.insert_laws.specs.InsertBuffer.{HeadsIn, Rising, stays, rises, heads-in, linksAfter}
+use Rattle.insert_laws.specs.AttributeLaws.{leaf-old, leaf-new, root-none, root-new, root-split, unrooted-same, small-old, small-new}
+use Rattle.insert_laws.specs.SoundReading.{page-longer, read-shorter, sound-tree, sound-shaped}
+use Rattle.insert_laws.specs.RoomLaws.{room-is}
 
 accepted-when : (fits : Bool) (r : ℕ) (held : Option ℕ) (full : Bool) → fits ≡ true → 0 < r → held ≡ none → full ≡ false
     → isAccepted (verdict fits r held full) ≡ true

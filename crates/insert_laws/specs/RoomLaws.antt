@@ -24,10 +24,10 @@ use Rattle.sound.specs.Sound.{indexTree, Sound}
 use Rattle.sound.specs.IndexLaws.{indexOf, settingOf}
 use Rattle.insert.specs.declared.Path.{Path}
 use Rattle.insert.specs.Room.{onTop, pathFrom, noRoom}
-use Rattle.written.specs.EntryLaws.{entriesIn}
-use Rattle.growth.specs.ItemLists.{choose-numbered}
-use Rattle.growth.specs.InsertEntries.{Shaped, child-shaped}
-use Rattle.growth.specs.SoundReading.{sound-tree, sound-shaped}
+use Rattle.layout_laws.specs.EntryLaws.{entriesIn}
+use Rattle.insert_laws.specs.ItemLists.{choose-numbered}
+use Rattle.insert_laws.specs.InsertEntries.{Shaped, child-shaped}
+use Rattle.insert_laws.specs.SoundReading.{sound-tree, sound-shaped}
 
 and-comm : (a b : Bool) → (a && b) ≡ (b && a)
 and-comm true true = refl
