@@ -1,5 +1,5 @@
 /* Calls every function of the archive and compares: with document 01's examples, with the reports on other programs' tables that an independent
-   implementation worked out (crates/samples), and with that implementation's lists of calls and their index files (crates/indexes).
+   implementation worked out (crates/test_samples), and with that implementation's lists of calls and their index files (crates/test_indexes).
    What is lent lies between canaries, and what a call may not write is compared with what it was.
 
        gatherloom_test REPOSITORY
@@ -379,7 +379,7 @@ static void all_answer(const lent *t, uint32_t record, uint32_t field, uint32_t 
 /* Refusals 11, 12, 13 and 15, in this order. */
 static void test_read_order(void)
 {
-    lent t = load("crates/samples/data", "shp_point.dbf");
+    lent t = load("crates/test_samples/data", "shp_point.dbf");
     all_answer(&t, 0, 0, 11);
     all_answer(&t, 6, 9, 11);
     all_answer(&t, UINT32_MAX, 1, 11);
@@ -425,7 +425,7 @@ static void refused_alike(const lent *t, uint32_t check)
 static void test_damaged_table(const char *name)
 {
     static const uint8_t masks[] = {0x01, 0x20, 0x80, 0xFF};
-    lent t = load("crates/samples/data", name);
+    lent t = load("crates/test_samples/data", name);
     for (size_t i = 0; i < t.len; i++)
         for (size_t m = 0; m < sizeof masks; m++) {
             t.bytes[i] ^= masks[m];
@@ -448,7 +448,7 @@ static void test_damaged_table(const char *name)
 
 static void test_fields(void)
 {
-    lent t = load("crates/samples/data", "shp_point.dbf");
+    lent t = load("crates/test_samples/data", "shp_point.dbf");
     gl_field_entry entries[6], before[6];
     memset(entries, CANARY, sizeof entries);
     memcpy(before, entries, sizeof entries);
@@ -472,7 +472,7 @@ static void test_fields(void)
 /* Record 4 of the table is deleted; record 2 is made bad. */
 static void test_walk(void)
 {
-    lent t = load("crates/samples/data", "shp_point.dbf");
+    lent t = load("crates/test_samples/data", "shp_point.dbf");
     gl_position position = {0};
     OUT(uint32_t, record);
     t.bytes[161 + 28] = 'x';
@@ -504,10 +504,11 @@ static void test_walk(void)
     give_back(&t);
 }
 
-/* ---- The reports on other programs' tables, made through C, against crates/samples/stdout. */
+/* ---- The reports on other programs' tables, made through C, against crates/test_samples/stdout. */
 
 static char report[1 << 18];
 static size_t reported;
+static uint32_t problems;
 
 static void print(const char *how, ...)
 {
@@ -528,36 +529,76 @@ static void print_text(const uint8_t *text, uint64_t n)
     print("\"");
 }
 
-static void print_other(uint32_t answer)
+/* The words of the refusals that the runs below meet. */
+static const char *words(uint32_t refusal)
+{
+    switch (refusal) {
+    case 2: return "kind of table";
+    case 4: return "header length";
+    case 12: return "field number";
+    case 13: return "field type";
+    case 15: return "deletion byte";
+    case 16: return "comma in a number";
+    case 17: return "not a number";
+    case 20: return "not a date or logical value";
+    case 21: return "memo number or place";
+    case 24: return "index header";
+    case 31: return "index and table differ";
+    default: return "?";
+    }
+}
+
+static void print_answer(uint32_t answer)
 {
     if (answer == GL_EMPTY)
         print(" empty");
-    else
-        print(" %" PRIu32, answer);
+    else if (answer == 0)
+        print(" 0");
+    else {
+        print(" %" PRIu32 " (%s)", answer, words(answer));
+        problems++;
+    }
 }
 
-static void print_value(const lent *t, const lent *m, uint32_t i, uint32_t j, uint8_t kind)
+/* A value with its point, by the library's own writer. */
+static void print_number(int64_t value, uint32_t decimals)
 {
+    uint8_t text[20];
+    size_t from = 0;
+    SAME(gl_number_write(text, sizeof text, decimals, value), 0);
+    while (text[from] == ' ')
+        from++;
+    print(" 0 %.*s", (int)(sizeof text - from), (const char *)text + from);
+}
+
+/* The value of field j of record i; that of an M field is not read if there is no memo file. */
+static void print_value(const lent *t, const lent *m, uint32_t i, uint32_t j, const gl_field_entry *entry)
+{
+    const uint8_t kind = entry->kind;
     int64_t value = 0;
     uint32_t year = 0, month = 0, day = 0, answer;
     uint8_t logical = 0;
     uint64_t start = 0, length = 0;
+    if (kind == 'M' && m == NULL) {
+        print(" unread");
+        return;
+    }
     if (kind == 'N') {
         if ((answer = gl_read_number(t->bytes, t->len, i, j, &value)) == 0)
-            print(" 0 %" PRId64, value);
+            print_number(value, entry->decimals);
     } else if (kind == 'D') {
         if ((answer = gl_read_date(t->bytes, t->len, i, j, &year, &month, &day)) == 0)
             print(" 0 %04" PRIu32 "%02" PRIu32 "%02" PRIu32, year, month, day);
     } else if (kind == 'L') {
         if ((answer = gl_read_logical(t->bytes, t->len, i, j, &logical)) == 0)
             print(logical == 1 ? " 0 T" : " 0 F");
-    } else if ((answer = gl_text_part(t->bytes, t->len, m->bytes, m->len, i, j, &start, &length)) == 0) {
+    } else if ((answer = gl_text_part(t->bytes, t->len, m == NULL ? t->bytes : m->bytes, m == NULL ? 0 : m->len, i, j, &start, &length)) == 0) {
         const lent *whole = kind == 'C' ? t : m;
         SAME(start <= whole->len && length <= whole->len - start, 1);
         print_text(whole->bytes + start, length);
     }
     if (answer != 0)
-        print_other(answer);
+        print_answer(answer);
 }
 
 /* 'l' for each record that a walk hands out, 'b' for each that it refuses, 'd' for the others. */
@@ -580,7 +621,9 @@ static void print_table(const lent *t, const lent *m)
     static char marks[1 << 16];
     uint32_t records = 0, fields = 0, length = 0, check = gl_table_check(t->bytes, t->len);
     gl_field_entry entries[128];
-    print("table %" PRIu32 "\n", check);
+    print("table");
+    print_answer(check);
+    print("\n");
     if (check != 0)
         return;
     SAME(gl_table_shape(t->bytes, t->len, &records, &fields, &length), 0);
@@ -590,10 +633,15 @@ static void print_table(const lent *t, const lent *m)
         print("field %" PRIu32 " %s %c %d %d\n", j, (const char *)entries[j - 1].name, entries[j - 1].kind, entries[j - 1].length, entries[j - 1].decimals);
     walk_marks(t, marks, records);
     for (uint32_t i = 1; i <= records; i++) {
-        print("record %" PRIu32 " %s\n", i, marks[i] == 'l' ? "live" : marks[i] == 'd' ? "deleted" : "15");
+        print("record %" PRIu32, i);
+        if (marks[i] == 'b')
+            print_answer(15);
+        else
+            print(marks[i] == 'l' ? " live" : " deleted");
+        print("\n");
         for (uint32_t j = 1; j <= fields && marks[i] != 'b'; j++) {
             print("value %" PRIu32 " %" PRIu32, i, j);
-            print_value(t, m, i, j, entries[j - 1].kind);
+            print_value(t, m, i, j, &entries[j - 1]);
             print("\n");
         }
     }
@@ -602,9 +650,14 @@ static void print_table(const lent *t, const lent *m)
 /* A run of `inspect`: its files, NULL or "-" for none, and its field as a word and as a number. */
 typedef struct { const char *table, *memo, *index, *field; uint32_t number; } run;
 
+static int is_named(const char *name)
+{
+    return name != NULL && strcmp(name, "-") != 0;
+}
+
 static lent load_sample(const char *name)
 {
-    return name == NULL || strcmp(name, "-") == 0 ? lend("", 0) : load("crates/samples/data", name);
+    return is_named(name) ? load("crates/test_samples/data", name) : lend("", 0);
 }
 
 static void print_run(const run *r)
@@ -615,11 +668,19 @@ static void print_run(const run *r)
     for (size_t k = 0; k < sizeof words / sizeof *words && words[k] != NULL; k++)
         print(" %s", words[k]);
     print("\n");
-    print_table(&t, &m);
-    if (r->index != NULL)
-        print("index %" PRIu32 "\n", gl_index_audit(x.bytes, x.len));
-    if (r->field != NULL)
-        print("match %" PRIu32 "\n", gl_match(t.bytes, t.len, x.bytes, x.len, r->number));
+    problems = 0;
+    print_table(&t, is_named(r->memo) ? &m : NULL);
+    if (r->index != NULL) {
+        print("index");
+        print_answer(gl_index_audit(x.bytes, x.len));
+        print("\n");
+    }
+    if (r->field != NULL) {
+        print("match");
+        print_answer(gl_match(t.bytes, t.len, x.bytes, x.len, r->number));
+        print("\n");
+    }
+    print("problems %" PRIu32 "\n", problems);
     lent *const all[] = {&t, &m, &x};
     for (size_t k = 0; k < sizeof all / sizeof *all; k++) {
         UNCHANGED(*all[k]);
@@ -628,7 +689,7 @@ static void print_run(const run *r)
     }
 }
 
-/* The runs that stand in crates/samples/stdout before those of bad arguments, the first of which has none. */
+/* The runs that stand in crates/test_samples/stdout before those of bad arguments, the first of which has none. */
 static void test_samples(void)
 {
     static const char unique[] = "xbase_s20_unique.idx";
@@ -636,14 +697,14 @@ static void test_samples(void)
         {"shp_point.dbf", NULL, NULL, NULL, 0}, {"shp_comma.dbf", NULL, NULL, NULL, 0}, {"xbase_plain.dbf", NULL, NULL, NULL, 0},
         {"fpc_l3.dbf", NULL, NULL, NULL, 0}, {"gdal.dbf", NULL, NULL, NULL, 0}, {"pydbf_db3.dbf", NULL, NULL, NULL, 0},
         {"pydbf_fp.dbf", NULL, NULL, NULL, 0}, {"xbase_83.dbf", NULL, NULL, NULL, 0}, {"xbase_f5.dbf", "xbase_f5.fpt", NULL, NULL, 0},
-        {"fpc_fox.dbf", "fpc_fox.fpt", NULL, NULL, 0}, {"shp_comma.dbf", "-", NULL, NULL, 0}, {"xbase_s20.dbf", "-", "xbase_s20.idx", "1", 1},
+        {"fpc_fox.dbf", "fpc_fox.fpt", NULL, NULL, 0}, {"xbase_f5.dbf", "-", NULL, NULL, 0}, {"xbase_s20.dbf", "-", "xbase_s20.idx", "1", 1},
         {"xbase_s20.dbf", "-", unique, "1", 1}, {"pydbf_fp.dbf", "-", unique, NULL, 0}, {"pydbf_fp.dbf", "-", unique, "1", 1},
         {"shp_point.dbf", "-", unique, "0", 0}, {"shp_point.dbf", "-", unique, "4294967297", UINT32_MAX}, {"shp_point.dbf", "-", unique, "2", 2},
         {"shp_point.dbf", "-", unique, "0000000001", 1}};
     for (size_t k = 0; k < sizeof runs / sizeof *runs; k++)
         print_run(&runs[k]);
     print("==\n");
-    lent want = load("crates/samples", "stdout");
+    lent want = load("crates/test_samples", "stdout");
     SAME(reported <= want.len, 1);
     SAME_BYTES(report, want.bytes, reported < want.len ? reported : want.len);
     give_back(&want);
@@ -833,9 +894,9 @@ static void test_calls(const char *name, size_t len)
 {
     char file[64], *line;
     snprintf(file, sizeof file, "%s.calls", name);
-    lent text = load("crates/indexes/data", file), index = lend(NULL, len);
+    lent text = load("crates/test_indexes/data", file), index = lend(NULL, len);
     snprintf(file, sizeof file, "%s.idx", name);
-    lent want = load("crates/indexes/data", file);
+    lent want = load("crates/test_indexes/data", file);
     text.bytes[text.len] = 0; /* its first canary */
     for (line = strtok((char *)text.bytes, "\n"); line != NULL; line = strtok(NULL, "\n"))
         call_line(&index, line);
@@ -864,7 +925,7 @@ static void index_records(lent *index, const lent *t, uint32_t k, uint32_t last)
 
 static void test_match(void)
 {
-    lent t = load("crates/samples/data", "shp_point.dbf"), index = lend(NULL, 4096);
+    lent t = load("crates/test_samples/data", "shp_point.dbf"), index = lend(NULL, 4096);
     index_records(&index, &t, 10, 5);
     MATCHES(1, 0);
     MATCHES(0, 12);
@@ -905,7 +966,7 @@ static void test_match(void)
 /* An insertion refuses what the audit refuses, and leaves it. */
 static void test_damaged_index(const char *name, const char *key)
 {
-    lent index = load("crates/indexes/data", name);
+    lent index = load("crates/test_indexes/data", name);
     size_t n = strlen(key);
     for (size_t i = 0; i < index.len; i++) {
         index.bytes[i] ^= 0x11;
