@@ -1,7 +1,7 @@
-// What the program `inspect` prints of a table and its memo file: a line for the check, the shape, each field, each record and each value; and of an
-// index, a line for the audit and one for the match. The library decides; here its answers are only spelled out.
+// What the program `inspect` prints of a table and its memo file: a line for the check, the shape, each field, each record and each value; and the line of
+// an index's answer. The library decides; here its answers are only spelled out.
 //
-// The table is checked once, and then read by the calls for a table that was checked. A function that prints lines answers how many of them have a refusal.
+// Records are read by the calls for a table that was checked. A function that prints lines answers how many of them have a refusal.
 ghost use Prim.Native.Nat.{_*_, _≤_};
 ghost use mathlib.Core.Path.{_≡_};
 ghost use lib.ListN.{length};

@@ -87,9 +87,9 @@ fn run(name: &[u8], index_path: &[u8], calls_path: &[u8], size: usize) {
 }
 
 // Audits an index with one byte set to another value.
-fn damaged(name: &[u8], index_path: &[u8], at: usize, value: u8) {
+fn damaged(name: &[u8], at: usize, value: u8) {
     let mut index = io::large_buffer();
-    let n = files::load(index_path, &mut index).len;
+    let n = files::load(b"k10_random.idx", &mut index).len;
     let whole = &mut index[..n];
     if at < whole.len() {
         whole[at] = value;
@@ -131,22 +131,17 @@ fn paper_lists() {
 }
 
 fn damaged_headers() {
-    damaged(b"features 0", b"k10_random.idx", 14, 0);
-    damaged(b"key length 101", b"k10_random.idx", 12, 101);
-    damaged(
-        b"a file size that is no multiple of 512",
-        b"k10_random.idx",
-        8,
-        1,
-    );
+    damaged(b"features 0", 14, 0);
+    damaged(b"key length 101", 12, 101);
+    damaged(b"a file size that is no multiple of 512", 8, 1);
 }
 
 fn damaged_pages() {
-    damaged(b"a root bit on another page", b"k10_random.idx", 512, 3);
-    damaged(b"a count of 65,314", b"k10_random.idx", 515, 255);
-    damaged(b"a left link to no neighbour", b"k10_random.idx", 517, 2);
-    damaged(b"a first key of 255", b"k10_random.idx", 524, 255);
-    damaged(b"another record number", b"k10_random.idx", 534, 1);
+    damaged(b"a root bit on another page", 512, 3);
+    damaged(b"a count of 65,314", 515, 255);
+    damaged(b"a left link to no neighbour", 517, 2);
+    damaged(b"a first key of 255", 524, 255);
+    damaged(b"another record number", 534, 1);
 }
 
 fn main() {

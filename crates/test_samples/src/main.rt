@@ -33,6 +33,21 @@ fn with_index<'a>(table: &'a [u8], index: &'a [u8], field: &'a [u8]) {
     run(4, table, b"-", index, field);
 }
 
+// An index that is sound, and that of `xbase_s20` alone.
+fn with_sound_index<'a>(table: &'a [u8], field: &'a [u8]) {
+    with_index(table, b"xbase_s20_unique.idx", field);
+}
+
+// A table that the sound index does not belong to.
+fn with_other_index(field: &[u8]) {
+    with_sound_index(b"shp_point.dbf", field);
+}
+
+// A field without an index.
+fn with_field(field: &[u8]) {
+    with_index(b"shp_comma.dbf", b"-", field);
+}
+
 fn tables() {
     alone(b"shp_point.dbf");
     alone(b"shp_comma.dbf");
@@ -52,17 +67,17 @@ fn memos() {
 
 fn indexes() {
     with_index(b"xbase_s20.dbf", b"xbase_s20.idx", b"1");
-    with_index(b"xbase_s20.dbf", b"xbase_s20_unique.idx", b"1");
+    with_sound_index(b"xbase_s20.dbf", b"1");
     run(3, b"pydbf_fp.dbf", b"-", b"xbase_s20_unique.idx", b"");
-    with_index(b"pydbf_fp.dbf", b"xbase_s20_unique.idx", b"1");
+    with_sound_index(b"pydbf_fp.dbf", b"1");
 }
 
-// A table that the index does not belong to: no such field, a number for 33 bits, a field of another type, and records that have no entry.
+// No such field, a number for 33 bits, a field of another type, and records that have no entry.
 fn fields() {
-    with_index(b"shp_point.dbf", b"xbase_s20_unique.idx", b"0");
-    with_index(b"shp_point.dbf", b"xbase_s20_unique.idx", b"4294967297");
-    with_index(b"shp_point.dbf", b"xbase_s20_unique.idx", b"2");
-    with_index(b"shp_point.dbf", b"xbase_s20_unique.idx", b"0000000001");
+    with_other_index(b"0");
+    with_other_index(b"4294967297");
+    with_other_index(b"2");
+    with_other_index(b"0000000001");
 }
 
 fn refused_files() {
@@ -75,21 +90,21 @@ fn refused_files() {
 
 // The last is no refusal: without an index there is nothing to match.
 fn refused_fields() {
-    with_index(b"shp_comma.dbf", b"-", b"00000000001");
-    with_index(b"shp_comma.dbf", b"-", b"1a");
-    with_index(b"shp_comma.dbf", b"-", b"BARCODES_11");
-    with_index(b"shp_comma.dbf", b"-", b"1");
+    with_field(b"00000000001");
+    with_field(b"1a");
+    with_field(b"BARCODES_11");
+    with_field(b"1");
 }
 
 // Fields by their names: one that matches, one of another type, the beginning of a name, a name and more, and bytes that are no field's name. Of a refused
 // table no name is known, so that the match is refused as the table is.
 fn names() {
-    with_index(b"xbase_s20.dbf", b"xbase_s20_unique.idx", b"BARCODE");
-    with_index(b"shp_point.dbf", b"xbase_s20_unique.idx", b"OK");
-    with_index(b"shp_point.dbf", b"xbase_s20_unique.idx", b"BARCOD");
-    with_index(b"shp_point.dbf", b"xbase_s20_unique.idx", b"BARCODE_10");
+    with_sound_index(b"xbase_s20.dbf", b"BARCODE");
+    with_other_index(b"OK");
+    with_other_index(b"BARCOD");
+    with_other_index(b"BARCODE_10");
     with_index(b"shp_point.dbf", b"xbase_s20.idx", b"-");
-    with_index(b"pydbf_fp.dbf", b"xbase_s20_unique.idx", b"BARCODE");
+    with_sound_index(b"pydbf_fp.dbf", b"BARCODE");
 }
 
 // The text of a C or an M field as `inspect` prints it of a plain one; nothing is printed of a field without text.
