@@ -7,7 +7,7 @@ use std::{env, error::Error, fs};
 /// The incident's file: its numbers have commas.
 const INCIDENT: &str = concat!(
     env!("CARGO_MANIFEST_DIR"),
-    "/../crates/samples/data/shp_comma.dbf"
+    "/../crates/test_samples/data/shp_comma.dbf"
 );
 
 fn main() -> Result<(), Box<dyn Error>> {

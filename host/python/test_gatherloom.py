@@ -82,7 +82,7 @@ TABLES = {
 # the barcodes of xbase_s20.dbf, in the order of its records
 S20 = [b'PLT%07d' % (7919 * i) for i in range(1, 21)]
 
-# the lengths of the buffers on which the lists of calls were worked out (crates/indexes/README.md)
+# the lengths of the buffers on which the lists of calls were worked out (crates/test_indexes/README.md)
 ROOM = {'k1_bytes': 8192, 'k10_ascending': 32768, 'k10_descending': 32768, 'k10_random': 32768, 'k46_mixed': 32768, 'k100_deep': 65536,
         'k100_full': 4096, 'paper_five': 2048, 'paper_full': 1024}
 

@@ -1,5 +1,5 @@
 /* Calls every function of the archive and compares: with document 01's examples, with the reports on other programs' tables that an independent
-   implementation worked out (crates/samples), and with that implementation's lists of calls and their index files (crates/indexes).
+   implementation worked out (crates/test_samples), and with that implementation's lists of calls and their index files (crates/test_indexes).
    What is lent lies between canaries, and what a call may not write is compared with what it was.
 
        gatherloom_test REPOSITORY
@@ -111,7 +111,7 @@ static void give_back(lent *l)
 /* ---- Files. */
 
 static const char *repository = ".";
-static const char samples[] = "crates/samples", samples_data[] = "crates/samples/data", indexes_data[] = "crates/indexes/data";
+static const char samples[] = "crates/test_samples", samples_data[] = "crates/test_samples/data", indexes_data[] = "crates/test_indexes/data";
 
 static lent load(const char *folder, const char *name)
 {
@@ -514,7 +514,7 @@ static void test_walk(void)
     give_back(&t);
 }
 
-/* ---- The reports on other programs' tables, made through C, against crates/samples/stdout, which has a line `== ARGUMENTS` for each run of `inspect`, and
+/* ---- The reports on other programs' tables, made through C, against crates/test_samples/stdout, which has a line `== ARGUMENTS` for each run of `inspect`, and
    under it what that prints. */
 
 static char report[1 << 18];

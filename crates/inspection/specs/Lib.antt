@@ -1,2 +1,4 @@
 pub mod Arguments
 pub mod ArgumentLaws
+pub mod Names
+pub mod NameLaws

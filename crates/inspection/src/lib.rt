@@ -1,23 +1,28 @@
-// What the program `inspect` does with its arguments: it prints what the library makes of a table, of its memo file and of its index, refusal
-// numbers included.
+// What the program `inspect` does with its arguments: it prints what the library makes of a table, of its memo file and of its index, each refusal by
+// its number and its words, and how many refusals there are.
 //
 //     inspect TABLE [MEMO|- [INDEX|- [FIELD]]]
 //
 // With other arguments, or a file that can't be read or has more than 1,048,576 bytes, it prints the one line `40`, and says on standard error what
-// was wrong. All files are read before the first line is printed, so that `40` stands alone. Without an index a field's number is not used.
-ghost use Prim.Native.Nat.{min};
+// was wrong. All files are read before the first line is printed, so that `40` stands alone. Without an index a FIELD is not used.
+mod names;
+mod report;
+pub mod words;
+
+ghost use Prim.Native.Nat.{_≤_, min};
 ghost use mathlib.Core.Path.{_≡_};
-ghost use Rattle.inspection.specs.Arguments.{maxNumber, fieldNumber};
+ghost use Rattle.inspection.specs.Arguments.{maxNumber, fieldArgument};
 use libc::STDERR_FILENO;
 use octets::Digits;
 
 // The greatest number of 32 bits, which no field of a table has.
 const MAX_NUMBER: u64 = 4294967295;
 
-// What is said of a field: nothing, its number, or a word that is no number.
+// What is said of a field: nothing, its number, that the word is its name, or a word that is neither.
 enum Field {
     Unnamed,
     Number(u32),
+    Name,
     Other,
 }
 
@@ -28,7 +33,7 @@ fn refuse() {
 fn refuse_use() {
     io::write_all(
         STDERR_FILENO,
-        b"use: inspect TABLE [MEMO|- [INDEX|- [FIELD]]], where FIELD is 1 to 10 digits\n",
+        b"use: inspect TABLE [MEMO|- [INDEX|- [FIELD]]], where FIELD is a field's number of 1 to 10 digits or its name\n",
     );
     refuse();
 }
@@ -44,15 +49,18 @@ fn at_most_32_bits(n: u64) -> u32
     }
 }
 
-// The number of 1 to 10 digits. One that no table has is answered as another that no table has, where it does not fit.
-fn field_number(text: &[u8]) -> Field
-    ensures { λ r. ⌜ r ≡ fieldNumber (now (text .entry)) ⌝ }
+// What the argument FIELD says. A number that no table has is answered as another that no table has, where it does not fit.
+fn field_argument(text: &[u8]) -> Field
+    ensures { λ r. ⌜ r ≡ fieldArgument (now (text .entry)) ⌝ }
 {
     if text.len() < 1 {
         return Field::Other;
     }
     if 10 < text.len() {
         return Field::Other;
+    }
+    if !octets::is_digit(text[0]) {
+        return Field::Name;
     }
     match octets::read_digits(text) {
         Digits::Number(number) => Field::Number(at_most_32_bits(number)),
@@ -64,7 +72,7 @@ fn wanted_field(arguments: usize, field: &[u8]) -> Field {
     if arguments < 4 {
         return Field::Unnamed;
     }
-    field_number(field)
+    field_argument(field)
 }
 
 // The word of argument i, or the one for none where there are fewer arguments.
@@ -82,17 +90,29 @@ fn is_dash(word: &[u8]) -> bool {
     word[0] == b'-'
 }
 
-// The match is made where a field was named too.
-fn index_lines<'a>(table: &'a [u8], index: &'a [u8], wanted: Field) {
-    report::index_line(index);
-    if let Field::Number(number) = wanted {
-        report::match_line(table, index, number);
+// The line of the match, if a field was named too.
+fn match_lines<'a>(table: &'a [u8], index: &'a [u8], wanted: Field, field: &'a [u8]) -> u64
+    ensures { λ r. ⌜ r ≤ 1 ⌝ }
+{
+    match wanted {
+        Field::Number(number) => {
+            report::answer_line(b"match", matching::match_index(table, index, number))
+        }
+        Field::Name => report::answer_line(b"match", names::match_by_name(table, index, field)),
+        Field::Unnamed | Field::Other => 0,
     }
 }
 
-fn with_index<'a>(table: &'a [u8], memo: &'a [u8], index_path: &'a [u8], wanted: Field) {
+fn with_index<'a>(
+    table: &'a [u8],
+    memo: &'a [u8],
+    has_memo: bool,
+    index_path: &'a [u8],
+    wanted: Field,
+    field: &'a [u8],
+) {
     if is_dash(index_path) {
-        report::table_report(table, memo);
+        report::problems_line(report::table_report(table, memo, has_memo));
         return;
     }
     let mut index = files::space();
@@ -102,14 +122,22 @@ fn with_index<'a>(table: &'a [u8], memo: &'a [u8], index_path: &'a [u8], wanted:
         return;
     }
     let n = loaded.len;
-    report::table_report(table, memo);
-    index_lines(table, &index[..n], wanted);
+    let of_table = report::table_report(table, memo, has_memo);
+    let of_index = report::answer_line(b"index", audit::audit(&index[..n]));
+    let of_match = match_lines(table, &index[..n], wanted, field);
+    report::problems_line(of_table + of_index + of_match);
 }
 
-// Without a memo file the table is read with an empty one.
-fn with_memo<'a>(table: &'a [u8], memo_path: &'a [u8], index_path: &'a [u8], wanted: Field) {
+// Without a memo file M fields are not read.
+fn with_memo<'a>(
+    table: &'a [u8],
+    memo_path: &'a [u8],
+    index_path: &'a [u8],
+    wanted: Field,
+    field: &'a [u8],
+) {
     if is_dash(memo_path) {
-        with_index(table, b"", index_path, wanted);
+        with_index(table, b"", false, index_path, wanted, field);
         return;
     }
     let mut memo = files::space();
@@ -119,10 +147,16 @@ fn with_memo<'a>(table: &'a [u8], memo_path: &'a [u8], index_path: &'a [u8], wan
         return;
     }
     let n = loaded.len;
-    with_index(table, &memo[..n], index_path, wanted);
+    with_index(table, &memo[..n], true, index_path, wanted, field);
 }
 
-fn with_table<'a>(table_path: &'a [u8], memo_path: &'a [u8], index_path: &'a [u8], wanted: Field) {
+fn with_table<'a>(
+    table_path: &'a [u8],
+    memo_path: &'a [u8],
+    index_path: &'a [u8],
+    wanted: Field,
+    field: &'a [u8],
+) {
     let mut table = files::space();
     let loaded = files::load(table_path, &mut table);
     if !loaded.whole {
@@ -130,7 +164,7 @@ fn with_table<'a>(table_path: &'a [u8], memo_path: &'a [u8], index_path: &'a [u8
         return;
     }
     let n = loaded.len;
-    with_memo(&table[..n], memo_path, index_path, wanted);
+    with_memo(&table[..n], memo_path, index_path, wanted, field);
 }
 
 // The program on as many arguments as are counted; the words past them are not looked at.
@@ -148,10 +182,10 @@ pub fn inspect<'a>(
     let wanted = wanted_field(arguments, field);
     match wanted {
         Field::Other => refuse_use(),
-        Field::Unnamed | Field::Number(_) => {
+        Field::Unnamed | Field::Number(_) | Field::Name => {
             let memo_path = given(arguments, 2, memo, b"-");
             let index_path = given(arguments, 3, index, b"-");
-            with_table(table, memo_path, index_path, wanted)
+            with_table(table, memo_path, index_path, wanted, field)
         }
     }
 }

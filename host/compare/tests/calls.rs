@@ -79,7 +79,7 @@ fn call(calls: &Calls, index: &mut [u8], words: &[&str]) -> (Vec<u32>, Vec<u32>)
 }
 
 fn replay(calls: &Calls) {
-    let data = Path::new(env!("CARGO_MANIFEST_DIR")).join("../../crates/indexes/data");
+    let data = Path::new(env!("CARGO_MANIFEST_DIR")).join("../../crates/test_indexes/data");
     for (name, length) in LISTS {
         let mut index = vec![0u8; length];
         let list = fs::read_to_string(data.join(format!("{name}.calls"))).unwrap();

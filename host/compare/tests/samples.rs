@@ -4,7 +4,7 @@ use gatherloom_compare::reference;
 use std::{fs, path::PathBuf};
 
 fn data() -> PathBuf {
-    PathBuf::from(env!("CARGO_MANIFEST_DIR")).join("../../crates/samples/data")
+    PathBuf::from(env!("CARGO_MANIFEST_DIR")).join("../../crates/test_samples/data")
 }
 
 fn read(name: &str) -> Vec<u8> {

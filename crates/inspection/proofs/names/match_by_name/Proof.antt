@@ -1,0 +1,54 @@
+-- `inspection::names::match_by_name` meets its contract: the three cases of `NameMatched`. Assumes nothing.
+use mathlib.Core.Path.{_≡_, sym, _∙_}
+use borrow.Author.Needs.{needs}
+use Rattle.table.specs.TableLaws.{Shaped, good-shape}
+use Rattle.inspection.specs.NameLaws.{by-refusal, by-none, by-match}
+use Rattle.inspection.proofs.names.match_by_name.Statement.{statement}
+use Rattle.inspection.proofs.names.match_by_name.Tie as tie
+
+-- past the check the table is good, and the shape is its own
+shaped : (c : tie.After-known-told2) → Shaped (c .before .before .before .before .before .before .before .args .table .now) (c .before .shape .given .0 .0)
+shaped c = let good = c .before in good-shape _ _ (sym (good .before .before .check-table .ensures) ∙ good .shape .given .1)
+
+check-table-requires : tie.Need-check-table-requires
+check-table-requires c κs = search needs
+
+enum-known-number : tie.Need-enum-known-number
+enum-known-number c = search needs
+
+enum-known-shape : tie.Need-enum-known-shape
+enum-known-shape c = search needs
+
+named-field-requires : tie.Need-named-field-requires
+named-field-requires c κs = let said = shaped c in (said .table, said .fields)
+
+returns : tie.Need-returns
+returns c =
+    let said = shaped (c .before .before) in
+    by-none _ _ _ (said .table) (sym (c .before .named-field .ensures) ∙ c .if1 .taken)
+
+match-index-requires : tie.Need-match-index-requires
+match-index-requires c κs = search needs
+
+returns-2 : tie.Need-returns-2
+returns-2 c = by-refusal _ _ _ _ (sym (c .before .before .before .check-table .ensures) ∙ c .before .number .given .1)
+
+returns-3 : tie.Need-returns-3
+returns-3 c =
+    let asked = c .before .before in
+    let number = asked .named-field .ensures in
+    let said = shaped (asked .before) in
+    by-match _ _ _ _ (said .table) (λ none. c .before .if1 .left (number ∙ none)) (rw number at (c .match-index .ensures))
+
+pub match-by-name-spec : {M : Type 1} → statement M
+match-by-name-spec =
+    tie.close
+    (tie.spec
+    check-table-requires
+    enum-known-number
+    enum-known-shape
+    named-field-requires
+    returns
+    match-index-requires
+    returns-2
+    returns-3)

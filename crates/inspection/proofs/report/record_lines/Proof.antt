@@ -1,0 +1,48 @@
+-- `inspection::report::record_lines` meets its contract. The loop's invariant: no more lines with a refusal than fields of the records so far; the number of
+-- records to come falls. A good table has 1 to 128 fields.
+-- Assumes nothing.
+use Prim.Native.Nat.{_≤_, _-_, _*_}
+use native.Mathlib.Omega.{arith}
+use borrow.Author.Needs.{needs}
+use Rattle.table.specs.Table.{maxFields}
+use Rattle.table.specs.TableLaws.{layout}
+use Rattle.inspection.proofs.report.record_lines.Statement.{statement}
+use Rattle.inspection.proofs.report.record_lines.Tie as tie
+
+abbrev Inv-loop : tie.InvT-loop
+Inv-loop table memo has-memo records fields problems₀ i₀ problems i = (problems ≤ maxFields * i) × (i ≤ records)
+
+abbrev μ-loop : tie.MeasureT-loop
+μ-loop table memo has-memo records fields problems₀ i₀ problems i = records - i
+
+loop-holds : tie.Need-loop-holds Inv-loop μ-loop
+loop-holds c = search needs
+
+add-i : tie.Need-add-i Inv-loop μ-loop
+add-i c = search needs
+
+record-report-requires : tie.Need-record-report-requires Inv-loop μ-loop
+record-report-requires c κs =
+    let some = layout _ (c .before .before .before .before .pre .0) .header .some in
+    search needs
+
+add-problems : tie.Need-add-problems Inv-loop μ-loop
+add-problems c =
+    let few = layout _ (c .before .before .before .before .before .pre .0) .header .few in
+    omega (arith, c .record-report .ensures)
+
+loop-less : tie.Need-loop-less Inv-loop μ-loop
+loop-less c = search needs
+
+loop-again : tie.Need-loop-again Inv-loop μ-loop
+loop-again c =
+    let few = layout _ (c .before .before .before .before .before .pre .0) .header .few in
+    (omega (arith, c .record-report .ensures), omega arith)
+
+returns : tie.Need-returns Inv-loop μ-loop
+returns c = search needs
+
+pub record-lines-spec : {M : Type 1} → statement M
+record-lines-spec =
+    tie.close
+    (tie.spec Inv-loop μ-loop loop-holds add-i record-report-requires add-problems loop-less loop-again returns)

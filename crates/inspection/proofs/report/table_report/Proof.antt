@@ -1,0 +1,73 @@
+-- `inspection::report::table_report` is safe: a good table has at most 128 fields, so that their count fits 32 bits; what is printed of its fields and
+-- records needs no further check.
+-- Assumes nothing.
+use mathlib.Core.Path.{sym, _∙_}
+use native.Mathlib.Omega.{arith}
+use Rattle.table.specs.TableLaws.{layout, Shaped, good-shape}
+use borrow.Author.Needs.{needs}
+use Rattle.inspection.proofs.report.table_report.Statement.{statement}
+use Rattle.inspection.proofs.report.table_report.Tie as tie
+
+-- past the check the table is good, and the shape is its own
+shaped : (c : tie.After-struct-known) → Shaped (c .before .before .before .before .before .before .before .args .table .now) (c .before .before .shape .given .0 .0)
+shaped c = let good = c .before .before in good-shape _ _ (sym (good .before .before .check-table .ensures) ∙ good .shape .given .1)
+
+check-table-requires : tie.Need-check-table-requires
+check-table-requires c κs = search needs
+
+enum-known-number : tie.Need-enum-known-number
+enum-known-number c = search needs
+
+slice-aggregate-answer-line : tie.Need-slice-aggregate-answer-line
+slice-aggregate-answer-line c = search needs
+
+answer-line-requires : tie.Need-answer-line-requires
+answer-line-requires c κs = search needs
+
+enum-known-shape : tie.Need-enum-known-shape
+enum-known-shape c = search needs
+
+cast-fields : tie.Need-cast-fields
+cast-fields c =
+    let said = shaped c in
+    let few = layout _ (said .table) .header .few in
+    omega (arith, said .fields)
+
+slice-aggregate-answer-line-2 : tie.Need-slice-aggregate-answer-line-2
+slice-aggregate-answer-line-2 c = search needs
+
+answer-line-requires-2 : tie.Need-answer-line-requires-2
+answer-line-requires-2 c κs = search needs
+
+shape-line-requires : tie.Need-shape-line-requires
+shape-line-requires c κs = search needs
+
+field-lines-requires : tie.Need-field-lines-requires
+field-lines-requires c κs = search needs
+
+record-lines-requires : tie.Need-record-lines-requires
+record-lines-requires c κs = let said = shaped (c .before .before .before .before) in (said .table, said .records, said .fields)
+
+returns : tie.Need-returns
+returns c = search needs
+
+returns-2 : tie.Need-returns-2
+returns-2 c = search needs
+
+pub table-report-spec : {M : Type 1} → statement M
+table-report-spec =
+    tie.close
+    (tie.spec
+    check-table-requires
+    enum-known-number
+    slice-aggregate-answer-line
+    answer-line-requires
+    enum-known-shape
+    cast-fields
+    slice-aggregate-answer-line-2
+    answer-line-requires-2
+    shape-line-requires
+    field-lines-requires
+    record-lines-requires
+    returns
+    returns-2)

@@ -1,0 +1,389 @@
+// What the program `inspect` prints of a table and its memo file: a line for the check, the shape, each field, each record and each value; and the line of
+// an index's answer. The library decides; here its answers are only spelled out.
+//
+// Records are read by the calls for a table that was checked. A function that prints lines answers how many of them have a refusal.
+ghost use Prim.Native.Nat.{_*_, _≤_};
+ghost use mathlib.Core.Path.{_≡_};
+ghost use lib.ListN.{length};
+ghost use Rattle.table.specs.Table.{maxFields, tableRefusal, recordCount, fieldCount};
+ghost use Rattle.field.specs.Field.{PlaceGood, PlaceInside};
+use crate::words::put_words;
+use calendar::Date;
+use calendar::DateAnswer;
+use cell::Logical;
+use cell::TextPlace;
+use field::FieldEntry;
+use field::Place;
+use lines::Line;
+use lines::print_line;
+use lines::put;
+use numeral::Number;
+use table::Checked;
+use table::DELETED;
+use table::KEPT;
+
+const BAD_DELETION_BYTE: u32 = 15;
+
+// A line as far as it is put together: how many bytes it has, and whether a refusal is among them.
+struct Filled {
+    end: usize,
+    refused: bool,
+}
+
+fn good(end: usize) -> Filled {
+    Filled {
+        end,
+        refused: false,
+    }
+}
+
+// A blank and a number.
+fn put_number(line: &mut Line, n: usize, number: u32) -> usize {
+    let end = put(line, n, b" ");
+    lines::put_number(line, end, number as u64)
+}
+
+// A refusal: a blank, its number, and its words in parentheses.
+fn refuse(line: &mut Line, n: usize, number: u32) -> Filled {
+    let end = put_number(line, n, number);
+    let end = put(line, end, b" (");
+    let end = put_words(line, end, number);
+    let end = put(line, end, b")");
+    Filled { end, refused: true }
+}
+
+fn put_empty(line: &mut Line, n: usize) -> Filled {
+    good(put(line, n, b" empty"))
+}
+
+// How many lines with a refusal a line is.
+fn count(refused: bool) -> u64
+    ensures { λ r. ⌜ r ≤ 1 ⌝ }
+{
+    if refused { 1 } else { 0 }
+}
+
+fn put_answer(line: &mut Line, n: usize, answer: u32) -> Filled {
+    if answer == 0 {
+        return good(put(line, n, b" 0"));
+    }
+    refuse(line, n, answer)
+}
+
+// The line of a word and an answer, 0 or a refusal.
+pub fn answer_line(word: &[u8], answer: u32) -> u64
+    ensures { λ r. ⌜ r ≤ 1 ⌝ }
+{
+    let mut line = lines::empty_line();
+    let end = put(&mut line, 0, word);
+    let filled = put_answer(&mut line, end, answer);
+    print_line(&mut line, filled.end);
+    count(filled.refused)
+}
+
+// Whether a byte stands for itself between quotes.
+fn is_plain(c: u8) -> bool {
+    (0x20 <= c) & (c <= 0x7E) & (c != b'"') & (c != b'\\')
+}
+
+// Where the plain bytes end that begin at an index.
+fn plain_end(text: &[u8], from: usize) -> usize
+    requires { ⌜ from ≤ length (now text) ⌝ }
+    ensures { λ r. ⌜ (from ≤ r) × (r ≤ length (now (text .entry))) ⌝ }
+{
+    let mut end = from;
+    while end < text.len() {
+        if !is_plain(text[end]) {
+            break;
+        }
+        end += 1;
+    }
+    end
+}
+
+fn hex_digit(n: u8) -> u8
+    requires { ⌜ n ≤ 15 ⌝ }
+{
+    if n < 10 { b'0' + n } else { b'A' - 10 + n }
+}
+
+fn put_escaped(line: &mut Line, n: usize, c: u8) -> usize {
+    let text = [b'\\', b'x', hex_digit(c / 16), hex_digit(c % 16)];
+    put(line, n, &text)
+}
+
+// Plain bytes in runs, each other one as \xHH.
+fn put_bytes(line: &mut Line, n: usize, text: &[u8]) -> usize {
+    let mut to = n;
+    let mut from = 0;
+    while from < text.len() {
+        let end = plain_end(text, from);
+        to = put(line, to, &text[from..end]);
+        if end < text.len() {
+            to = put_escaped(line, to, text[end]);
+        }
+        from = end + 1;
+    }
+    to
+}
+
+fn put_quoted(line: &mut Line, n: usize, text: &[u8]) -> usize {
+    let end = put(line, n, b" 0 \"");
+    let end = put_bytes(line, end, text);
+    put(line, end, b"\"")
+}
+
+// A value with its point, by the library's own writer: 20 characters hold each value that its reader gives.
+fn put_value(line: &mut Line, n: usize, value: i64, decimals: u32) -> usize {
+    let mut text = [b' '; 20];
+    numeral::write_number(&mut text, decimals, value);
+    let from = octets::padding(&text);
+    let end = put(line, n, b" 0 ");
+    put(line, end, &text[from..])
+}
+
+// The last two decimal digits of a number.
+fn put_two_digits(line: &mut Line, n: usize, number: u32) -> usize {
+    let text = [b'0' + (number / 10 % 10) as u8, b'0' + (number % 10) as u8];
+    put(line, n, &text)
+}
+
+// YYYYMMDD.
+fn put_date(line: &mut Line, n: usize, date: Date) -> usize {
+    let end = put(line, n, b" 0 ");
+    let end = put_two_digits(line, end, date.year / 100);
+    let end = put_two_digits(line, end, date.year);
+    let end = put_two_digits(line, end, date.month);
+    put_two_digits(line, end, date.day)
+}
+
+fn put_logical(line: &mut Line, n: usize, value: bool) -> usize {
+    if value {
+        put(line, n, b" 0 T")
+    } else {
+        put(line, n, b" 0 F")
+    }
+}
+
+fn number_value(line: &mut Line, n: usize, table: &[u8], place: Place) -> Filled
+    requires { ⌜ PlaceInside (now table) place ⌝ }
+{
+    match cell::number_at(table, place) {
+        Number::Value(value) => good(put_value(line, n, value, place.form.decimals)),
+        Number::Empty => put_empty(line, n),
+        Number::Refused(number) => refuse(line, n, number),
+    }
+}
+
+fn date_value(line: &mut Line, n: usize, table: &[u8], place: Place) -> Filled
+    requires { ⌜ PlaceInside (now table) place ⌝ }
+{
+    match cell::date_at(table, place) {
+        DateAnswer::Value(date) => good(put_date(line, n, date)),
+        DateAnswer::Empty => put_empty(line, n),
+        DateAnswer::Refused(number) => refuse(line, n, number),
+    }
+}
+
+fn logical_value(line: &mut Line, n: usize, table: &[u8], place: Place) -> Filled
+    requires { ⌜ PlaceInside (now table) place ⌝ }
+{
+    match cell::logical_at(table, place) {
+        Logical::Value(value) => good(put_logical(line, n, value)),
+        Logical::Empty => put_empty(line, n),
+        Logical::Refused(number) => refuse(line, n, number),
+    }
+}
+
+fn text_value<'a>(
+    line: &mut Line,
+    n: usize,
+    table: &'a [u8],
+    memo: &'a [u8],
+    place: Place,
+) -> Filled
+    requires { ⌜ PlaceInside (now table) place ⌝ }
+{
+    let text = cell::text_at(table, memo, place);
+    match text {
+        TextPlace::Empty => put_empty(line, n),
+        TextPlace::Refused(number) => refuse(line, n, number),
+        TextPlace::Table { .. } | TextPlace::Memo { .. } => {
+            good(put_quoted(line, n, cell::text_part(table, memo, text)))
+        }
+    }
+}
+
+// The value at a place, read by the call for the field's type; that of an M field only if there is a memo file.
+fn put_cell<'a>(
+    line: &mut Line,
+    n: usize,
+    table: &'a [u8],
+    memo: &'a [u8],
+    has_memo: bool,
+    place: Place,
+) -> Filled
+    requires { ⌜ PlaceInside (now table) place ⌝ }
+{
+    let kind = place.form.kind;
+    if (kind == table::TYPE_M) & !has_memo {
+        return good(put(line, n, b" unread"));
+    }
+    match kind {
+        table::TYPE_N => number_value(line, n, table, place),
+        table::TYPE_D => date_value(line, n, table, place),
+        table::TYPE_L => logical_value(line, n, table, place),
+        _ => text_value(line, n, table, memo, place),
+    }
+}
+
+// The line of field j of record i.
+fn value_line<'a>(table: &'a [u8], memo: &'a [u8], has_memo: bool, i: u32, j: u32) -> u64
+    requires { ⌜ PlaceGood (now table) i j ⌝ }
+    ensures { λ r. ⌜ r ≤ 1 ⌝ }
+{
+    let mut line = lines::empty_line();
+    let end = put(&mut line, 0, b"value");
+    let end = put_number(&mut line, end, i);
+    let end = put_number(&mut line, end, j);
+    let place = field::place_at(table, i, j);
+    let filled = put_cell(&mut line, end, table, memo, has_memo, place);
+    print_line(&mut line, filled.end);
+    count(filled.refused)
+}
+
+// The lines of the fields of record i, up to the last.
+fn value_lines<'a>(table: &'a [u8], memo: &'a [u8], has_memo: bool, i: u32, last: u32) -> u64
+    requires { ⌜ PlaceGood (now table) i last ⌝ }
+    ensures { λ r. ⌜ r ≤ last ⌝ }
+{
+    let mut problems = 0;
+    let mut j = 0;
+    while j < last {
+        j += 1;
+        problems += value_line(table, memo, has_memo, i, j);
+    }
+    problems
+}
+
+fn put_mark(line: &mut Line, n: usize, mark: u32) -> Filled {
+    if mark == KEPT {
+        return good(put(line, n, b" live"));
+    }
+    if mark == DELETED {
+        return good(put(line, n, b" deleted"));
+    }
+    refuse(line, n, BAD_DELETION_BYTE)
+}
+
+// The line of record i with this deletion byte.
+fn record_line(i: u32, mark: u32) -> u64
+    ensures { λ r. ⌜ r ≤ 1 ⌝ }
+{
+    let mut line = lines::empty_line();
+    let end = put(&mut line, 0, b"record");
+    let end = put_number(&mut line, end, i);
+    let filled = put_mark(&mut line, end, mark);
+    print_line(&mut line, filled.end);
+    count(filled.refused)
+}
+
+// The lines of record i, and of its fields up to the last unless its deletion byte is bad. The byte comes with the place of field 1, which every table has.
+fn record_report<'a>(table: &'a [u8], memo: &'a [u8], has_memo: bool, i: u32, last: u32) -> u64
+    requires { ⌜ PlaceGood (now table) i last ⌝ }
+    ensures { λ r. ⌜ r ≤ last ⌝ }
+{
+    let place = field::place_at(table, i, 1);
+    let problems = record_line(i, place.mark);
+    if problems != 0 {
+        return problems;
+    }
+    value_lines(table, memo, has_memo, i, last)
+}
+
+fn record_lines<'a>(
+    table: &'a [u8],
+    memo: &'a [u8],
+    has_memo: bool,
+    records: u32,
+    fields: u32,
+) -> u64
+    requires { ⌜ (tableRefusal (now table) ≡ 0) × (records ≡ recordCount (now table)) × (fields ≡ fieldCount (now table)) ⌝ }
+    ensures { λ r. ⌜ r ≤ maxFields * records ⌝ }
+{
+    let mut problems = 0;
+    let mut i = 0;
+    while i < records {
+        i += 1;
+        problems += record_report(table, memo, has_memo, i, fields);
+    }
+    problems
+}
+
+// A name's characters are plain, and the zeros after them are not.
+fn put_name(line: &mut Line, n: usize, name: &[u8]) -> usize {
+    let end = plain_end(name, 0);
+    let to = put(line, n, b" ");
+    put(line, to, &name[0..end])
+}
+
+fn put_entry(line: &mut Line, n: usize, entry: FieldEntry) -> usize {
+    let name = entry.name;
+    let kind = [b' ', entry.kind];
+    let end = put_name(line, n, &name);
+    let end = put(line, end, &kind);
+    let end = put_number(line, end, entry.length as u32);
+    put_number(line, end, entry.decimals as u32)
+}
+
+// The line of field j, from 1.
+fn field_line(table: &[u8], j: u32) {
+    let mut line = lines::empty_line();
+    let end = put(&mut line, 0, b"field");
+    let end = put_number(&mut line, end, j);
+    let answer = field::field_entry(table, j);
+    let end = put_entry(&mut line, end, answer.entry);
+    print_line(&mut line, end);
+}
+
+fn field_lines(table: &[u8], fields: u32) {
+    let mut j = 0;
+    while j < fields {
+        j += 1;
+        field_line(table, j);
+    }
+}
+
+fn shape_line(records: u32, fields: u32, record_length: usize) {
+    let mut line = lines::empty_line();
+    let end = put(&mut line, 0, b"shape");
+    let end = put_number(&mut line, end, records);
+    let end = put_number(&mut line, end, fields);
+    let end = put(&mut line, end, b" ");
+    let end = lines::put_number(&mut line, end, record_length as u64);
+    print_line(&mut line, end);
+}
+
+// All that a table and its memo file give; of a refused table, the refusal alone.
+pub fn table_report<'a>(table: &'a [u8], memo: &'a [u8], has_memo: bool) -> u64
+    ensures { λ r. ⌜ r ≤ maxFields * 4294967295 ⌝ }
+{
+    match table::check_table(table) {
+        Checked::Refused(number) => answer_line(b"table", number),
+        Checked::Good(shape) => {
+            let fields = shape.fields as u32;
+            answer_line(b"table", 0);
+            shape_line(shape.records, fields, shape.record_length);
+            field_lines(table, fields);
+            record_lines(table, memo, has_memo, shape.records, fields)
+        }
+    }
+}
+
+// The last line: how many of the lines before it have a refusal.
+pub fn problems_line(problems: u64) {
+    let mut line = lines::empty_line();
+    let end = put(&mut line, 0, b"problems ");
+    let end = lines::put_number(&mut line, end, problems);
+    print_line(&mut line, end);
+}

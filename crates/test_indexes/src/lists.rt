@@ -1,0 +1,165 @@
+// Lists of calls: lines of text turned into bytes, run by `batch::run_batch`, and the answers printed as the lines have them.
+ghost use Prim.Native.Nat.{_≤_};
+ghost use lib.ListN.{length};
+
+// Appends a call to a list in bytes, and answers where the list ends then; a call that does not fit is left out.
+fn append_call(list: &mut [u8], at: usize, key: &[u8], is_insertion: bool, number: u32) -> usize
+    requires { ⌜ (at ≤ length (now list)) × (length (now key) ≤ 256) ⌝ }
+    ensures { λ r. ⌜ r ≤ length (now (list .exit)) ⌝ }
+{
+    let end = at + 3 + key.len();
+    if list.len() < end + 4 {
+        return at;
+    }
+    octets::store_le16(list, at + 1, key.len() as u32);
+    octets::copy_in(list, at + 3, key);
+    if is_insertion {
+        list[at] = 1;
+        octets::store_le32(list, end, number);
+        return end + 4;
+    }
+    list[at] = 0;
+    end
+}
+
+// Appends the call of a line, `i KEY RECORD ..` or `l KEY ..`; other lines are no calls of the list.
+fn append_line(list: &mut [u8], at: usize, line: &[u8]) -> usize
+    requires { ⌜ at ≤ length (now list) ⌝ }
+    ensures { λ r. ⌜ r ≤ length (now (list .exit)) ⌝ }
+{
+    if line.len() == 0 {
+        return at;
+    }
+    let kind = line[0];
+    if (kind != b'i') & (kind != b'l') {
+        return at;
+    }
+    let rest = test_lines::after_word(line);
+    let number = test_lines::first_number(test_lines::after_word(rest));
+    let mut key = [0u8; 256];
+    let n = test_lines::hex_bytes(test_lines::word(rest), &mut key);
+    append_call(list, at, &key[..n], kind == b'i', number)
+}
+
+// Writes the calls of all lines as bytes, and answers how many bytes there are.
+fn append_all(list: &mut [u8], text: &[u8]) -> usize
+    ensures { λ r. ⌜ r ≤ length (now (list .exit)) ⌝ }
+{
+    let mut at = 0;
+    let mut from = 0;
+    while from < text.len() {
+        let end = test_lines::find(text, from, b'\n');
+        at = append_line(list, at, &text[from..end]);
+        from = end + 1;
+    }
+    at
+}
+
+fn print_part(n: u32) {
+    lines::print(b" ");
+    test_lines::print_number(n);
+}
+
+// What is not in the answers: fresh's answer, how many calls were made, and the audit of the buffer after the last.
+struct Outcome {
+    fresh: u32,
+    made: usize,
+    audit: u32,
+}
+
+// Prints answer number n, of a lookup or of an insertion.
+fn print_reply(kind: u8, answers: &[u8], n: usize, made: usize) {
+    if made <= n {
+        lines::print(b" not made");
+        return;
+    }
+    if answers.len() / batch::ANSWER <= n {
+        lines::print(b" not written");
+        return;
+    }
+    let at = batch::ANSWER * n;
+    print_part(octets::load_le32(answers, at));
+    if kind == b'l' {
+        print_part(octets::load_le32(answers, at + 4));
+        print_part(octets::load_le32(answers, at + 8));
+    }
+}
+
+// Prints the answer of a line, and answers how many answers of calls are printed then.
+fn print_line(line: &[u8], answers: &[u8], n: usize, o: Outcome) -> usize {
+    if line.len() == 0 {
+        return n;
+    }
+    let kind = line[0];
+    lines::print(test_lines::word(line));
+    if kind == b'f' {
+        print_part(o.fresh);
+        lines::print(b"\n");
+        return n;
+    }
+    if kind == b'a' {
+        print_part(o.audit);
+        lines::print(b"\n");
+        return n;
+    }
+    print_reply(kind, answers, n, o.made);
+    lines::print(b"\n");
+    std::num::wrapping_add_usize(n, 1)
+}
+
+fn print_answers(text: &[u8], answers: &[u8], o: Outcome) {
+    let mut n = 0;
+    let mut from = 0;
+    while from < text.len() {
+        let end = test_lines::find(text, from, b'\n');
+        n = print_line(&text[from..end], answers, n, o);
+        from = end + 1;
+    }
+}
+
+// Whether a buffer begins with the bytes of an index file.
+fn begins_with(index: &[u8], file: &[u8]) -> bool {
+    let n = file.len();
+    if n < 1024 {
+        return false;
+    }
+    if index.len() < n {
+        return false;
+    }
+    octets::is_equal(octets::compare(&index[..n], file))
+}
+
+// Runs a list, `f K EXPRESSION ..` and calls; then prints the answers, and whether the buffer begins with an index file's bytes.
+fn replay(name: &[u8], text: &[u8], file: &[u8], index: &mut [u8]) {
+    let head = test_lines::after_word(text);
+    let mut expression = [0u8; 256];
+    let e = test_lines::hex_bytes(
+        test_lines::word(test_lines::after_word(head)),
+        &mut expression,
+    );
+    let mut list = io::large_buffer();
+    let n = append_all(&mut list, text);
+    let mut answers = io::large_buffer();
+    let k = test_lines::first_number(head);
+    let batch = batch::run_batch(index, k, &expression[..e], &list[..n], &mut answers);
+    let o = Outcome {
+        fresh: batch.fresh,
+        made: batch.made,
+        audit: audit::audit(index),
+    };
+    print_answers(text, &answers, o);
+    lines::print(name);
+    if begins_with(index, file) {
+        lines::print(b" same\n");
+    } else {
+        lines::print(b" differs\n");
+    }
+}
+
+// Runs a list on a buffer of so many zeros, at most 65,536.
+pub fn run_on_zeros(name: &[u8], text: &[u8], file: &[u8], size: usize) {
+    let mut space = io::large_buffer();
+    if size <= space.len() {
+        replay(name, text, file, &mut space[..size]);
+    }
+}

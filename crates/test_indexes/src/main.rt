@@ -1,0 +1,154 @@
+// Indexes that an independent implementation made, audited and looked up: each accepted insertion of a list of calls must be found in the index file after
+// the list, with its record. Each list is then run as bytes on a buffer of zeros, its answers printed, and the buffer compared with the index file. Then damaged
+// copies of one of them are audited. README.md beside src/ says where the files came from.
+mod lists;
+
+// Whether a line is an insertion that was accepted, `i KEY RECORD 0`.
+fn is_accepted(line: &[u8]) -> bool {
+    if line.len() < 2 {
+        return false;
+    }
+    let rest = test_lines::after_word(test_lines::after_word(line));
+    let answer = test_lines::after_word(rest);
+    if answer.len() != 1 {
+        return false;
+    }
+    (line[0] == b'i') & (answer[0] == b'0')
+}
+
+// Whether the key of such a line is found in the index, with the line's record.
+fn is_found(index: &[u8], line: &[u8]) -> bool {
+    let rest = test_lines::after_word(line);
+    let wanted = test_lines::first_number(test_lines::after_word(rest));
+    let mut key = [0u8; 100];
+    let k = test_lines::hex_bytes(test_lines::word(rest), &mut key);
+    looks_up(index, &key[..k], wanted)
+}
+
+fn looks_up(index: &[u8], key: &[u8], wanted: u32) -> bool {
+    match lookup::lookup(index, key) {
+        lookup::Answer::Found(number, _) => number.0 == wanted,
+        lookup::Answer::Absent(_) => false,
+        lookup::Answer::Refused(_) => false,
+    }
+}
+
+// How many accepted insertions there are, and how many of them are found.
+struct Tally {
+    accepted: u32,
+    found: u32,
+}
+
+fn tally_line(t: Tally, index: &[u8], line: &[u8]) -> Tally {
+    if !is_accepted(line) {
+        return t;
+    }
+    if is_found(index, line) {
+        return Tally {
+            accepted: std::num::wrapping_add_u32(t.accepted, 1),
+            found: std::num::wrapping_add_u32(t.found, 1),
+        };
+    }
+    Tally {
+        accepted: std::num::wrapping_add_u32(t.accepted, 1),
+        found: t.found,
+    }
+}
+
+fn count_found(index: &[u8], calls: &[u8]) -> Tally {
+    let mut t = Tally {
+        accepted: 0,
+        found: 0,
+    };
+    let mut from = 0;
+    while from < calls.len() {
+        let end = test_lines::find(calls, from, b'\n');
+        t = tally_line(t, index, &calls[from..end]);
+        from = end + 1;
+    }
+    t
+}
+
+fn run(name: &[u8], index_path: &[u8], calls_path: &[u8], size: usize) {
+    let mut index = io::large_buffer();
+    let mut calls = io::large_buffer();
+    let n = files::load(index_path, &mut index).len;
+    let m = files::load(calls_path, &mut calls).len;
+    lines::print(name);
+    lines::print(b" audit ");
+    test_lines::print_number(audit::audit(&index[..n]));
+    let t = count_found(&index[..n], &calls[..m]);
+    lines::print(b" accepted ");
+    test_lines::print_number(t.accepted);
+    lines::print(b" found ");
+    test_lines::print_number(t.found);
+    lines::print(b"\n");
+    lists::run_on_zeros(name, &calls[..m], &index[..n], size);
+}
+
+// Audits an index with one byte set to another value.
+fn damaged(name: &[u8], at: usize, value: u8) {
+    let mut index = io::large_buffer();
+    let n = files::load(b"k10_random.idx", &mut index).len;
+    let whole = &mut index[..n];
+    if at < whole.len() {
+        whole[at] = value;
+    }
+    lines::print(name);
+    lines::print(b" ");
+    test_lines::print_number(audit::audit(whole));
+    lines::print(b"\n");
+}
+
+// Lists whose keys have 10 bytes.
+fn short_keys() {
+    run(
+        b"k10_ascending",
+        b"k10_ascending.idx",
+        b"k10_ascending.calls",
+        32768,
+    );
+    run(
+        b"k10_descending",
+        b"k10_descending.idx",
+        b"k10_descending.calls",
+        32768,
+    );
+    run(b"k10_random", b"k10_random.idx", b"k10_random.calls", 32768);
+}
+
+// Lists whose keys have 46 or 100 bytes.
+fn long_keys() {
+    run(b"k46_mixed", b"k46_mixed.idx", b"k46_mixed.calls", 32768);
+    run(b"k100_deep", b"k100_deep.idx", b"k100_deep.calls", 65536);
+    run(b"k100_full", b"k100_full.idx", b"k100_full.calls", 4096);
+}
+
+// Lists written from document 01.
+fn paper_lists() {
+    run(b"paper_five", b"paper_five.idx", b"paper_five.calls", 2048);
+    run(b"paper_full", b"paper_full.idx", b"paper_full.calls", 1024);
+}
+
+fn damaged_headers() {
+    damaged(b"features 0", 14, 0);
+    damaged(b"key length 101", 12, 101);
+    damaged(b"a file size that is no multiple of 512", 8, 1);
+}
+
+fn damaged_pages() {
+    damaged(b"a root bit on another page", 512, 3);
+    damaged(b"a count of 65,314", 515, 255);
+    damaged(b"a left link to no neighbour", 517, 2);
+    damaged(b"a first key of 255", 524, 255);
+    damaged(b"another record number", 534, 1);
+}
+
+fn main() {
+    run(b"k1_bytes", b"k1_bytes.idx", b"k1_bytes.calls", 8192);
+    short_keys();
+    long_keys();
+    paper_lists();
+    damaged_headers();
+    damaged_pages();
+}
