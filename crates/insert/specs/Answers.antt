@@ -5,7 +5,7 @@ use mathlib.Core.List.{List}
 use lib.ListN.{length}
 use Rattle.page.specs.Header.{maxBytes, maxLevels, pageSize, isPage}
 use Rattle.page.specs.Page.{attributeAt, leafBit}
-use Rattle.lookup.specs.Lookup.{childOf as pageAt}
+use Rattle.lookup.specs.Lookup.{offsetOf}
 use Rattle.layout.specs.Layout.{itemsIn}
 use Rattle.layout.specs.Entries.{chosen, childOf}
 use Rattle.insert.specs.Insertion.{Outcome as RuleOutcome, kept, split, bad}
@@ -33,4 +33,4 @@ maxGrown = maxBytes + pageSize * maxLevels
 -- what insertion meets at p: no page, a leaf, or the child that is chosen
 unfoldable pub visitOf : List ℕ → List ℕ → ℕ → Visit
 visitOf b key p =
-    cond (isPage (length b) p) (cond (leafBit (attributeAt b p)) visit.Leaf (visit.Child (pageAt (childOf (chosen key (itemsIn (length key) b p)))))) visit.Bad
+    cond (isPage (length b) p) (cond (leafBit (attributeAt b p)) visit.Leaf (visit.Child (offsetOf (childOf (chosen key (itemsIn (length key) b p)))))) visit.Bad
