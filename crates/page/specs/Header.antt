@@ -6,7 +6,7 @@ use lib.ListN.{length}
 use lib.Dec.{eqb, leb}
 use Rattle.octets.specs.Bytes.{byteAt, le16, le32}
 -- "pages of 512 bytes" and "0xFFFFFFFF for none", which the theory of the index names too
-pub use Rattle.tree.specs.Index.{pageSize, noPage}
+pub use Rattle.tree.specs.Constants.{pageSize, noPage}
 
 -- the smallest index, "1,024": a header and one page
 abbrev pub minBytes : ℕ

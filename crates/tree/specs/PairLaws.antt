@@ -1,5 +1,4 @@
--- Laws: lookup and insertion in ascending lists of pairs, and their first and
--- last keys. Cited by the laws of ordered trees. Assumes nothing.
+-- Laws: lookup and insertion in ascending lists of pairs, and their first and last keys. Cited by the laws of ordered trees. Assumes nothing.
 use mathlib.Core.Path.{_≡_, refl, sym, ap, _∙_, subst}
 use mathlib.Core.List.{List, [], _∷_, _++_}
 use mathlib.Core.Option.{Option, none, some}
@@ -36,7 +35,7 @@ firstKey-append a [] ys s = absurd s
 firstKey-append a (x ∷ xs) ys s = refl
 
 module _ {K : Type 0} (O : Order K) where
-  -- a list that is all below the key is passed over; one that is all above what is at or above the key is not reached
+  -- lookup passes over a list that is all below the key, and does not reach a list that is all above a key at or above the key
   seek-past : {C : Type 0} (k a : K) (xs ys : List (K × C)) → Lt O a k → Below O a xs → seek O k (xs ++ ys) ≡ seek O k ys
   seek-past k a [] ys h b = refl
   seek-past k a (x ∷ xs) ys h b =
