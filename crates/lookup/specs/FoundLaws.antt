@@ -12,7 +12,7 @@ use Rattle.octets.specs.Order.{ordering, isEqual}
 use Rattle.page.specs.Header.{maxLevels, rootOffset, fileSize, keyLength, headerGood}
 use Rattle.page.specs.Page.{attributeAt, countAt, leafBit, keyAt, numberAt, pageGood, firstAtOrAbove}
 use Rattle.page.specs.PageLaws.{first-bound}
-use Rattle.page.specs.KeyOrder.{equal-same}
+use Rattle.page.specs.KeyOrderLaws.{equal-same}
 use Rattle.page.specs.declared.PageOffset.{PageOffset}
 use Rattle.page.specs.declared.RecordNumber.{RecordNumber}
 use Rattle.lookup.specs.Lookup.{recordOf, entrySays, pageSays, visitRule, decided, lookupFrom, lookupRule}

@@ -108,13 +108,13 @@ module _ (b key : List ℕ) (size p : ℕ) (page : isPage size p ≡ true) (full
   decided-leaf go n true r = refl
   decided-leaf go n false r = refl
 
-  pub leaf-decides : (go : ℕ → Answer) (n : ℕ) → leafBit (attributeAt b p) ≡ true
+  leaf-decides : (go : ℕ → Answer) (n : ℕ) → leafBit (attributeAt b p) ≡ true
       → decided go n (pageSays b key p) ≡ answerOf (find bytesOrder key (entriesAt (length key) size b p)) n
   leaf-decides go n l = searched
       (λ e s. rw (says-none e, s))
       (λ e s. rw (says-leaf l e (seek-le key (S p) entry s), s) (decided-leaf go n (bytesLe (entry .0) key) (entry .1)))
 
-  pub upper-decides : (go : ℕ → Answer) (n : ℕ) (f : List ℕ × ℕ → Option ℕ) (g : List ℕ × ℕ → List ℕ) → leafBit (attributeAt b p) ≡ false
+  upper-decides : (go : ℕ → Answer) (n : ℕ) (f : List ℕ × ℕ → Option ℕ) (g : List ℕ × ℕ → List ℕ) → leafBit (attributeAt b p) ≡ false
       → ((e : List ℕ × ℕ) → sought ≡ some e → go (e .1) ≡ answerOf (f e) (n + length (g e)))
       → decided go n (pageSays b key p) ≡ answerOf (follow f sought) (n + length (onward g sought))
   upper-decides go n f g l ok = searched

@@ -1,5 +1,5 @@
--- Laws: the audit passes over the pages of a level to its end exactly where they fit, name one another as neighbours, have good entries, and are unmarked
--- when they are met. Cited by the laws of levels. Assumes nothing.
+-- Laws: the audit passes over the pages of a level to its end exactly if they fit, name one another as neighbours, have good entries, and are unmarked when
+-- they are met. Cited by the laws of levels. Assumes nothing.
 use Prim.Native.Nat.{ℕ, _/_}
 use mathlib.Core.Path.{_≡_, refl, sym, ap, _∙_}
 use mathlib.Core.List.{List, [], _∷_}

@@ -5,6 +5,7 @@ use mathlib.Core.Path.{_≡_, sym, _∙_}
 use lib.ListN.{length}
 use borrow.Author.Tests.{not-true, not-false, eq-eqb, ne-eqb}
 use borrow.Author.Needs.{needs}
+use Rattle.basis.specs.Tests.{passed, failed}
 use Rattle.page.specs.HeaderLaws.{good-header}
 use Rattle.page.specs.Header.{keyLength, headerGood}
 use Rattle.lookup.specs.Lookup.{lookupRule}
@@ -16,7 +17,7 @@ start c = c .before .before .before .before
 
 -- what the two tests say where they are passed
 good : (c : tie.Else1) → headerGood (start c .args .index .now) ≡ true
-good c = sym (c .before .header-good .ensures) ∙ not-false _ (c .if1 .left)
+good c = passed (c .before .header-good .ensures) (c .if1 .left)
 
 whole : (c : tie.Else2) → let args = start (c .before .before) .args in length (args .key .now) ≡ keyLength (args .index .now)
 whole c = c .if2 .left ∙ c .before .key-length .ensures
@@ -26,7 +27,7 @@ header-good-requires c κs = search needs
 
 returns : tie.Need-returns
 unfolding lookupRule
-returns c = rw (sym (c .before .header-good .ensures) ∙ not-true _ (c .if1 .taken), lookupRule)
+returns c = rw (failed (c .before .header-good .ensures) (c .if1 .taken), lookupRule)
 
 key-length-requires : tie.Need-key-length-requires
 key-length-requires c κs = good-header _ (good c) .long

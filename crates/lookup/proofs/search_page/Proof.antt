@@ -3,6 +3,7 @@
 use mathlib.Core.Path.{_≡_, sym, _∙_}
 use mathlib.Core.Bool.{true}
 use borrow.Author.Needs.{needs}
+use Rattle.basis.specs.Tests.{passed, failed}
 use borrow.Author.Tests.{not-true, not-false}
 use Rattle.page.specs.Page.{leafBit}
 use Rattle.page.specs.declared.Page.{Page}
@@ -24,7 +25,7 @@ searched c =
     record { attribute = head-is .0; count = head-is .1 .0; first = c .first-at-or-above .ensures .0 }
 
 leaf : (c : tie.Else2) → leafBit (head (c .before .before .before) .attribute) ≡ true
-leaf c = sym (c .before .is-leaf .ensures) ∙ not-false _ (c .if2 .left)
+leaf c = passed (c .before .is-leaf .ensures) (c .if2 .left)
 
 at-requires : tie.Need-at-requires
 at-requires c κs = search needs
@@ -49,7 +50,7 @@ returns-2 c =
     let at-leaf = c .before .before in
     let at-if1 = at-leaf .before in
     says-child (searched (at-if1 .before)) (at-if1 .if1 .left) (c .child .result .0)
-    (sym (at-leaf .is-leaf .ensures) ∙ not-true _ (c .before .if2 .taken)) (c .child .ensures)
+    (failed (at-leaf .is-leaf .ensures) (c .before .if2 .taken)) (c .child .ensures)
 
 compare-entry-requires : tie.Need-compare-entry-requires
 compare-entry-requires c κs = search needs

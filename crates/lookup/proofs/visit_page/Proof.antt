@@ -4,6 +4,7 @@ use mathlib.Core.Path.{_≡_, sym, _∙_}
 use native.Mathlib.Omega.{arith}
 use lib.ListN.{length}
 use borrow.Author.Tests.{not-true, not-false}
+use Rattle.basis.specs.Tests.{passed, failed}
 use Rattle.page.specs.Page.{pageGood}
 use Rattle.page.specs.Header.{fileSize}
 use Rattle.page.specs.PageLaws.{within-page}
@@ -28,17 +29,17 @@ page-good-requires c κs = let h = good-header _ (c .before .before .before .pre
 
 returns : tie.Need-returns
 unfolding visitRule
-returns c = rw (sym (tested (c .before)) ∙ not-true _ (c .if1 .taken), visitRule)
+returns c = rw (failed (tested (c .before)) (c .if1 .taken), visitRule)
 
 search-page-requires : tie.Need-search-page-requires
 search-page-requires c κs =
     let pre = start (c .before) .pre in
     let h = good-header _ (pre .0) in
-    within-page _ _ _ _ _ _ (omega (arith, pre .1)) (h .within) (sym (tested (c .before)) ∙ not-false _ (c .if1 .left))
+    within-page _ _ _ _ _ _ (omega (arith, pre .1)) (h .within) (passed (tested (c .before)) (c .if1 .left))
 
 returns-2 : tie.Need-returns-2
 unfolding visitRule
-returns-2 c = rw (sym (tested (c .before .before)) ∙ not-false _ (c .before .if1 .left), visitRule) (c .search-page .ensures)
+returns-2 c = rw (passed (tested (c .before .before)) (c .before .if1 .left), visitRule) (c .search-page .ensures)
 
 pub visit-page-spec : {M : Type 1} → statement M
 visit-page-spec =
