@@ -4,16 +4,17 @@ use mathlib.Core.Path.{_≡_, sym, _∙_}
 use mathlib.Core.Bool.{true}
 use borrow.Author.Needs.{needs}
 use Rattle.basis.specs.Tests.{passed, failed}
-use borrow.Author.Tests.{not-true, not-false}
 use Rattle.page.specs.Page.{leafBit}
 use Rattle.page.specs.declared.Page.{Page}
 use Rattle.lookup.specs.LookupLaws.{Searched, says-none, says-child, says-found, says-other}
 use Rattle.lookup.proofs.search_page.Statement.{statement}
 use Rattle.lookup.proofs.search_page.Tie as tie
 
+-- the places: where the function starts, and past the search
 abbrev start : tie.After-first-at-or-above → tie.Start
 start c = c .before .before .before .before .before
 
+-- the page's head
 abbrev head : tie.After-first-at-or-above → Page
 head c = c .before .before .at .result
 

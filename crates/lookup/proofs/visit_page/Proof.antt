@@ -1,9 +1,8 @@
--- `lookup::visit_page` meets its contract: the page is searched only where it is good, and so lies within the buffer.
+-- `lookup::visit_page` meets its contract: the page is searched only if it is good, and then it lies within the buffer.
 -- Assumes nothing.
-use mathlib.Core.Path.{_≡_, sym, _∙_}
+use mathlib.Core.Path.{_≡_}
 use native.Mathlib.Omega.{arith}
 use lib.ListN.{length}
-use borrow.Author.Tests.{not-true, not-false}
 use Rattle.basis.specs.Tests.{passed, failed}
 use Rattle.page.specs.Page.{pageGood}
 use Rattle.page.specs.Header.{fileSize}
@@ -13,10 +12,11 @@ use Rattle.lookup.specs.Lookup.{visitRule}
 use Rattle.lookup.proofs.visit_page.Statement.{statement}
 use Rattle.lookup.proofs.visit_page.Tie as tie
 
+-- the place where the function starts
 abbrev start : tie.After-page-good → tie.Start
 start c = c .before .before .before .before
 
--- what the page's test says
+-- what the test of the page says
 tested : (c : tie.After-page-good) → let args = start c .args in
     c .page-good .result ≡ pageGood (args .index .now) (length (args .key .now)) (fileSize (args .index .now)) (args .page .0) (args .first) (args .last)
 tested c = cc (c .page-good .ensures, c .before .file-size .ensures)
