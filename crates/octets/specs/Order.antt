@@ -23,10 +23,6 @@ ordering a b = cond (bytesLe a b) (cond (bytesLe b a) Equal Below) Above
 unfoldable pub orderThen : ℕ → ℕ → Ordering → Ordering
 orderThen x y rest = cond (ltb x y) Below (cond (ltb y x) Above rest)
 
--- the n bytes of a and b from i on decide as the numbers x and y do: what comes after them counts only where x and y are equal
-abbrev pub Decides : List ℕ → List ℕ → ℕ → ℕ → ℕ → ℕ → Type 0
-Decides a b i n x y = ordering (drop i a) (drop i b) ≡ orderThen x y (ordering (drop (i + n) a) (drop (i + n) b))
-
 -- a and b agree in their first r bytes, and the eight from r on differ where both have them among the first n
 pub record Agree (a b : List ℕ) (n r : ℕ) : Type 0 where
   pub within : r ≤ n

@@ -1,6 +1,6 @@
 -- Laws: the order of byte strings is total, for every length, and `ordering` goes by it, byte by byte or by any count of bytes as one number. Assumes nothing.
 use mathlib.Core.Path.{_≡_, refl, sym, ap, _∙_}
-use mathlib.Core.Bool.{Bool, true, false, cond}
+use mathlib.Core.Bool.{Bool, true, false}
 use mathlib.Core.List.{List, [], _∷_}
 use Prim.Native.Nat.{ℕ, zero, suc, _+_, _*_, _≤_, _<_}
 use native.Mathlib.Nat.{add-zero, add-assoc}
@@ -14,7 +14,7 @@ use Rattle.basis.specs.Tests.{either, contra}
 use Rattle.octets.specs.declared.Ordering.{Ordering}
 use Rattle.octets.specs.declared.Ordering.the-variants.{Below, Equal, Above}
 use Rattle.octets.specs.Bytes.{byteAt, le32, le64, be32, bytesNumber}
-use Rattle.octets.specs.Order.{bytesLe, ordering, orderThen, Decides, smaller}
+use Rattle.octets.specs.Order.{bytesLe, ordering, orderThen, smaller}
 
 -- the first bytes decide where they differ, and the rest where they do not
 pub le-same : (x : ℕ) (a b : List ℕ) → bytesLe (x ∷ a) (x ∷ b) ≡ bytesLe a b
@@ -111,8 +111,19 @@ ordering-first x y a b = cases x y
     (λ l. ordering-above (x ∷ a) (y ∷ b) (le-more x y a b l) ∙ sym (then-more x y _ l))
     (λ e. rw (e, le-same y a b, le-same y b a) (sym (then-same y y _ refl)))
 
-pub byte-decides : (a b : List ℕ) (i : ℕ) → i < length a → i < length b → Decides a b i 1 (byteAt a i) (byteAt b i)
-byte-decides a b i p q = rw (drop-cons a i 0 p, drop-cons b i 0 q, add-one) (ordering-first _ _ _ _)
+-- the n bytes of a and b from i on decide as the numbers x and y do: what comes after them counts only where x and y are equal
+abbrev pub Decides : List ℕ → List ℕ → ℕ → ℕ → ℕ → ℕ → Type 0
+Decides a b i n x y = ordering (drop i a) (drop i b) ≡ orderThen x y (ordering (drop (i + n) a) (drop (i + n) b))
+
+module _ (a b : List ℕ) (i : ℕ) (p : i < length a) (q : i < length b) where
+  byte-decides : Decides a b i 1 (byteAt a i) (byteAt b i)
+  byte-decides = rw (drop-cons a i 0 p, drop-cons b i 0 q, add-one) (ordering-first _ _ _ _)
+
+  pub byte-apart : (byteAt a i ≡ byteAt b i → ⊥) → ordering (drop i a) (drop i b) ≡ orderThen (byteAt a i) (byteAt b i) Equal
+  byte-apart differ = byte-decides ∙ then-apart _ _ _ differ
+
+  pub byte-same : byteAt a i ≡ byteAt b i → ordering (drop i a) (drop i b) ≡ ordering (drop (i + 1) a) (drop (i + 1) b)
+  byte-same e = byte-decides ∙ then-same _ _ _ e
 
 -- a string that has ended is below one that goes on, and equal to one that has ended too: behind all bytes that both have the lengths decide
 shorter-below : (a b : List ℕ) (i : ℕ) → length a ≤ i → i < length b → ordering (drop i a) (drop i b) ≡ Below
@@ -129,13 +140,6 @@ lengths-decide a b n is-n = cases (length a) (length b)
     (λ l. longer-above a b n (omega arith) (omega arith) ∙ sym (then-more _ _ _ l))
     (λ e. let p : length a ≤ n = omega arith in let q : length b ≤ n = omega arith in
     rw (drop-of-length-le a p, drop-of-length-le b q) (ordering-equal [] ∙ sym (then-same _ _ _ e)))
-
--- two decisions, one after the other, are one: that of the second pair of numbers where the first are equal
-pub both-decide : (a b : List ℕ) (i m n x y u v : ℕ) → Decides a b i m x y → Decides a b (i + m) n u v
-    → Decides a b i (m + n) (cond (eqb x y) u x) (cond (eqb x y) v y)
-both-decide a b i m n x y u v p q = either (eqb x y)
-    (λ t. rw (t, ← add-assoc i m n) (p ∙ then-same x y _ (eqb-true x y t) ∙ q))
-    (λ t. rw t (p ∙ then-apart x y _ (eqb-false x y t) ∙ sym (then-apart x y _ (eqb-false x y t))))
 
 -- two digits of a number to the base of 256 decide as the number does
 then-digits : (x y p q : ℕ) (o : Ordering) → p < 256 → q < 256 → orderThen x y (orderThen p q o) ≡ orderThen (256 * x + p) (256 * y + q) o

@@ -1,13 +1,11 @@
 // Numbers in bytes, stores into a buffer, the order of byte strings, and the blanks and digits of a text: what every reader and writer of the files' bytes rests on.
 ghost use mathlib.Core.Path.{_≡_};
-ghost use mathlib.Core.Bool.{cond};
 ghost use Prim.Native.Nat.{_+_, _-_, _≤_, _<_};
-ghost use lib.Dec.{eqb};
 ghost use lib.ListN.{length, replicate, drop};
 ghost use Rattle.octets.specs.Bytes.{byteAt, le16, le32, le64, be16, be32, bytesNumber, toLe16, toLe32, toBe32};
 ghost use Rattle.octets.specs.Store.{put};
 ghost use Rattle.octets.specs.declared.Ordering.the-variants.{Equal};
-ghost use Rattle.octets.specs.Order.{ordering, orderThen, Decides, Agree, smaller, isBelow, isEqual};
+ghost use Rattle.octets.specs.Order.{ordering, orderThen, Agree, smaller, isBelow, isEqual};
 ghost use Rattle.octets.specs.Text.{unpadded, isDigit, digitsOf};
 
 // The order of one byte string to another.
@@ -15,13 +13,6 @@ pub enum Ordering {
     Below,
     Equal,
     Above,
-}
-
-// Two numbers that decide as the next bytes of two strings do, and how many bytes those are.
-struct Next {
-    x: u64,
-    y: u64,
-    count: usize,
 }
 
 // What a text says that should be digits: their number, or that there is another character.
@@ -197,67 +188,38 @@ fn order_of(x: u64, y: u64) -> Ordering
     Ordering::Equal
 }
 
-// The bytes of two strings at an offset, as numbers.
-fn next_byte(a: &[u8], b: &[u8], i: usize) -> Next
-    requires { ⌜ (i < length (now a)) × (i < length (now b)) ⌝ }
-    ensures { λ r. ⌜ Decides (now (a .entry)) (now (b .entry)) i 1 (r .x) (r .y) × (r .count ≡ 1) ⌝ }
-{
-    Next {
-        x: a[i] as u64,
-        y: b[i] as u64,
-        count: 1,
-    }
-}
-
-// What decides of two pairs of numbers, one after the other: the second if those of the first are equal.
-fn first_apart(p: Next, q: Next) -> Next
-    requires { ⌜ p .count + q .count ≤ 3 ⌝ }
-    ensures { λ r. ⌜ (r .x ≡ cond (eqb (p .x) (p .y)) (q .x) (p .x)) × (r .y ≡ cond (eqb (p .x) (p .y)) (q .y) (p .y)) × (r .count ≡ p .count + q .count) ⌝ }
-{
-    let count = p.count + q.count;
-    if p.x != p.y {
-        return Next {
-            x: p.x,
-            y: p.y,
-            count,
-        };
-    }
-    Next {
-        x: q.x,
-        y: q.y,
-        count,
-    }
-}
-
-// The next three bytes of two strings that have n, or the next one if three are not left. Which of three decides is chosen without a branch: where two keys
-// differ cannot be foreseen, but three bytes seldom leave it open, so that the processor guesses wrong less often.
-fn next_bytes(a: &[u8], b: &[u8], i: usize, n: usize) -> Next
-    requires { ⌜ (i < n) × (n ≤ length (now a)) × (n ≤ length (now b)) ⌝ }
-    ensures { λ r. ⌜ Decides (now (a .entry)) (now (b .entry)) i (r .count) (r .x) (r .y) × (1 ≤ r .count) × (i + r .count ≤ n) ⌝ }
-{
-    if n - i < 3 {
-        return next_byte(a, b, i);
-    }
-    first_apart(
-        next_byte(a, b, i),
-        first_apart(next_byte(a, b, i + 1), next_byte(a, b, i + 2)),
-    )
-}
-
-// The order of what two strings have from an offset on, byte by byte, and then by length; n is the shorter length.
-fn compare_bytes(a: &[u8], b: &[u8], from: usize, n: usize) -> Ordering
+// The order of what two strings have from an offset on, byte by byte up to the first that differs, and then by length; n is the shorter length.
+fn compare_rest(a: &[u8], b: &[u8], from: usize, n: usize) -> Ordering
     requires { ⌜ (from ≤ n) × (n ≡ smaller (length (now a)) (length (now b))) ⌝ }
     ensures { λ r. ⌜ r ≡ ordering (drop from (now (a .entry))) (drop from (now (b .entry))) ⌝ }
 {
     let mut i = from;
     while i < n {
-        let next = next_bytes(a, b, i, n);
-        if next.x != next.y {
-            return order_of(next.x, next.y);
+        if a[i] != b[i] {
+            return order_of(a[i] as u64, b[i] as u64);
         }
-        i += next.count;
+        i += 1;
     }
     order_of(a.len() as u64, b.len() as u64)
+}
+
+// The order of two short strings, byte by byte from the last back, so that the first that differs has the last word; n is the shorter length. No branch hangs
+// on a byte: where two keys differ cannot be foreseen, and a wrong guess costs the processor more than a few bytes.
+fn compare_short(a: &[u8], b: &[u8], n: usize) -> Ordering
+    requires { ⌜ n ≡ smaller (length (now a)) (length (now b)) ⌝ }
+    ensures { λ r. ⌜ r ≡ ordering (now (a .entry)) (now (b .entry)) ⌝ }
+{
+    let mut x = a.len() as u64;
+    let mut y = b.len() as u64;
+    let mut i = n;
+    while 0 < i {
+        i -= 1;
+        if a[i] != b[i] {
+            x = a[i] as u64;
+            y = b[i] as u64;
+        }
+    }
+    order_of(x, y)
 }
 
 // The order of two byte strings of any lengths: eight bytes at a time, as numbers with the first byte highest, and the rest singly.
@@ -269,7 +231,10 @@ pub fn compare(a: &[u8], b: &[u8]) -> Ordering
     if 8 <= n - i {
         return compare_words(a, b, i);
     }
-    compare_bytes(a, b, i, n)
+    if i == 0 {
+        return compare_short(a, b, n);
+    }
+    compare_rest(a, b, i, n)
 }
 
 pub fn is_below(o: Ordering) -> bool

@@ -20,11 +20,17 @@ compare-words-requires c κs = (omega arith, omega arith, c .before .same-words 
 returns : tie.Need-returns
 returns c = c .compare-words .ensures ∙ sym (c .before .before .same-words .ensures .same)
 
-compare-bytes-requires : tie.Need-compare-bytes-requires
-compare-bytes-requires c κs = search needs
+compare-short-requires : tie.Need-compare-short-requires
+compare-short-requires c κs = search needs
 
 returns-2 : tie.Need-returns-2
-returns-2 c = c .compare-bytes .ensures ∙ sym (c .before .before .same-words .ensures .same)
+returns-2 c = c .compare-short .ensures
+
+compare-rest-requires : tie.Need-compare-rest-requires
+compare-rest-requires c κs = search needs
+
+returns-3 : tie.Need-returns-3
+returns-3 c = c .compare-rest .ensures ∙ sym (c .before .before .before .same-words .ensures .same)
 
 pub compare-spec : {M : Type 1} → statement M
 compare-spec =
@@ -35,5 +41,7 @@ compare-spec =
     sub-if1
     compare-words-requires
     returns
-    compare-bytes-requires
-    returns-2)
+    compare-short-requires
+    returns-2
+    compare-rest-requires
+    returns-3)

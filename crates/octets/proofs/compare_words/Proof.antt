@@ -2,8 +2,7 @@
 use mathlib.Core.Path.{sym, _∙_}
 use native.Mathlib.Omega.{arith}
 use borrow.Author.Needs.{needs}
-use Rattle.octets.specs.Order.{Decides}
-use Rattle.octets.specs.OrderLaws.{number-decides, then-less, then-more}
+use Rattle.octets.specs.OrderLaws.{Decides, number-decides, then-less, then-more}
 use Rattle.octets.proofs.compare_words.Statement.{statement}
 use Rattle.octets.proofs.compare_words.Tie as tie
 
