@@ -44,7 +44,8 @@ returns c =
     let tested = c .before .before .before in
     let at-loop = tested .before .before .before .before in
     let args = at-loop .before .before .before .args in
-    c .order-of .ensures ∙ sym (at-loop .loop .inv .1 ∙ byte-apart (args .a .now) (args .b .now) (at-loop .loop .i) (omega arith) (omega arith) (tested .if1 .taken))
+    c .order-of .ensures
+    ∙ sym (at-loop .loop .inv .1 ∙ byte-apart (args .a .now) (args .b .now) (at-loop .loop .i) (omega arith) (omega arith) (tested .if1 .taken))
 
 add-i : tie.Need-add-i Inv-loop μ-loop
 add-i c = omega arith

@@ -14,7 +14,8 @@ load-be64-requires-2 c κs = search needs
 
 -- the two numbers that were read decide
 decides : (c : tie.After-load-be642)
-    → let args = c .before .before .before .before .args in Decides (args .a .now) (args .b .now) (args .i) 8 (c .before .load-be64 .result) (c .load-be642 .result)
+    → let args = c .before .before .before .before .args in
+    Decides (args .a .now) (args .b .now) (args .i) 8 (c .before .load-be64 .result) (c .load-be642 .result)
 decides c =
     let known = c .before .before in
     let pre = known .before .before .pre in
