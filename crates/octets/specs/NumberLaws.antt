@@ -93,8 +93,18 @@ le16-same a b at e = sym (le16-window a at) ∙ ap (λ s. le16 s 0) e ∙ le16-w
 pub le32-same : (a b : List ℕ) (at : ℕ) → window a at 4 ≡ window b at 4 → le32 a at ≡ le32 b at
 le32-same a b at e = sym (le32-window a at) ∙ ap (λ s. le32 s 0) e ∙ le32-window b at
 
--- a byte is below 256, and so numbers of two and four bytes have their bounds
-pub byte-small : (s : List ℕ) → All (λ x. x < 256) s → (i : ℕ) → byteAt s i < 256
+-- a number of four bytes is below 2 ^ 32
+module _ (s : List ℕ) (small : (j : ℕ) → byteAt s j < 256) (at : ℕ) where
+  pub le32-below : le32 s at < 2 ^ 32
+  unfolding le32
+  le32-below = omega (arith, small at, small (at + 1), small (at + 2), small (at + 3))
+
+  pub be32-below : be32 s at < 2 ^ 32
+  unfolding be32
+  be32-below = omega (arith, small at, small (at + 1), small (at + 2), small (at + 3))
+
+-- the same for a list whose members are bytes
+byte-small : (s : List ℕ) → All (λ x. x < 256) s → (i : ℕ) → byteAt s i < 256
 byte-small [] a zero = omega arith
 byte-small [] a (suc i) = omega arith
 byte-small (x ∷ s) a zero = a .0
@@ -106,5 +116,4 @@ module _ (s : List ℕ) (a : All (λ x. x < 256) s) (at : ℕ) where
   le16-small = omega (arith, byte-small s a at, byte-small s a (at + 1))
 
   pub le32-small : le32 s at < 2 ^ 32
-  unfolding le32
-  le32-small = omega (arith, byte-small s a at, byte-small s a (at + 1), byte-small s a (at + 2), byte-small s a (at + 3))
+  le32-small = le32-below s (byte-small s a) at

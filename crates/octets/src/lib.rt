@@ -2,10 +2,11 @@
 ghost use mathlib.Core.Path.{_≡_};
 ghost use Prim.Native.Nat.{_+_, _-_, _≤_, _<_};
 ghost use lib.ListN.{length, replicate, drop};
-ghost use Rattle.octets.specs.Bytes.{byteAt, le16, le32, le64, be16, be32, bytesNumber, toLe16, toLe32, toBe32};
+ghost use Rattle.octets.specs.Bytes.{byteAt, le16, le32, be16, be32, toLe16, toLe32, toBe32};
 ghost use Rattle.octets.specs.Store.{put};
 ghost use Rattle.octets.specs.declared.Ordering.the-variants.{Equal};
-ghost use Rattle.octets.specs.Order.{ordering, orderThen, Agree, smaller, isBelow, isEqual};
+ghost use Rattle.octets.specs.Order.{ordering, isBelow, isEqual};
+ghost use Rattle.octets.specs.Words.{le64, bytesNumber, smaller, orderThen, Agree};
 ghost use Rattle.octets.specs.Text.{unpadded, isDigit, digitsOf};
 
 // The order of one byte string to another.

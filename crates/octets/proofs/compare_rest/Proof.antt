@@ -5,7 +5,7 @@ use mathlib.Core.Path.{_≡_, refl, sym, _∙_}
 use native.Mathlib.Omega.{arith}
 use lib.ListN.{length, drop}
 use Rattle.octets.specs.Order.{ordering}
-use Rattle.octets.specs.OrderLaws.{byte-apart, byte-same, lengths-decide}
+use Rattle.octets.specs.WordLaws.{byte-apart, byte-same, lengths-decide}
 use Rattle.octets.proofs.compare_rest.Statement.{statement}
 use Rattle.octets.proofs.compare_rest.Tie as tie
 

@@ -7,8 +7,9 @@ use lib.ListN.{length, drop}
 use Rattle.octets.specs.declared.Ordering.{Ordering}
 use Rattle.octets.specs.declared.Ordering.the-variants.{Equal}
 use Rattle.octets.specs.Bytes.{byteAt}
-use Rattle.octets.specs.Order.{ordering, orderThen}
-use Rattle.octets.specs.OrderLaws.{byte-apart, byte-same, lengths-decide}
+use Rattle.octets.specs.Order.{ordering}
+use Rattle.octets.specs.Words.{orderThen}
+use Rattle.octets.specs.WordLaws.{byte-apart, byte-same, lengths-decide}
 use Rattle.octets.proofs.compare_short.Statement.{statement}
 use Rattle.octets.proofs.compare_short.Tie as tie
 

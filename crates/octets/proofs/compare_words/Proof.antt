@@ -2,7 +2,8 @@
 use mathlib.Core.Path.{sym, _∙_}
 use native.Mathlib.Omega.{arith}
 use borrow.Author.Needs.{needs}
-use Rattle.octets.specs.OrderLaws.{Decides, number-decides, then-less, then-more}
+use Rattle.octets.specs.Words.{Decides}
+use Rattle.octets.specs.WordLaws.{number-decides, then-less, then-more}
 use Rattle.octets.proofs.compare_words.Statement.{statement}
 use Rattle.octets.proofs.compare_words.Tie as tie
 
@@ -20,7 +21,7 @@ decides c =
     let known = c .before .before in
     let pre = known .before .before .pre in
     rw (c .before .load-be64 .ensures, c .load-be642 .ensures)
-    (number-decides _ _ _ (λ j. known .before .shared-slice-known .given j .fits) (λ j. known .shared-slice-known2 .given j .fits) 8 (pre .0) (pre .1))
+    (number-decides _ _ (λ j. known .before .shared-slice-known .given j .fits) (λ j. known .shared-slice-known2 .given j .fits) _ 8 (pre .0) (pre .1))
 
 returns : tie.Need-returns
 returns c = sym (decides (c .before) ∙ then-less _ _ _ (c .if1 .taken))

@@ -6,7 +6,7 @@ use native.Mathlib.Omega.{arith}
 use lib.ListN.{length, drop}
 use Rattle.octets.specs.Bytes.{byteAt}
 use Rattle.octets.specs.Order.{ordering}
-use Rattle.octets.specs.OrderLaws.{number-decides, then-same, word-same, word-apart}
+use Rattle.octets.specs.WordLaws.{number-decides, then-same, word-same, word-apart}
 use Rattle.octets.proofs.same_words.Statement.{statement}
 use Rattle.octets.proofs.same_words.Tie as tie
 
@@ -43,7 +43,7 @@ returns c =
     record {
       within = at-loop .loop .inv .0;
       same = at-loop .loop .inv .1;
-      apart = λ _. word-apart _ _ _ (small-a at-loop) (small-b at-loop) (λ e. c .if1 .taken (first ∙ e ∙ sym second));
+      apart = λ _. word-apart _ _ (small-a at-loop) (small-b at-loop) _ (λ e. c .if1 .taken (first ∙ e ∙ sym second));
     }
 
 add-i : tie.Need-add-i Inv-loop μ-loop
@@ -57,9 +57,9 @@ loop-again c =
     let at-loop = c .before .before .before .before in
     let first = c .before .before .load-le64 .ensures in
     let second = c .before .load-le642 .ensures in
-    let equal = word-same _ _ _ (small-a at-loop) (small-b at-loop) (sym first ∙ c .if1 .left ∙ second) in (
+    let equal = word-same _ _ (small-a at-loop) (small-b at-loop) _ (sym first ∙ c .if1 .left ∙ second) in (
       omega arith,
-      at-loop .loop .inv .1 ∙ number-decides _ _ _ (small-a at-loop) (small-b at-loop) 8 (omega arith) (omega arith) ∙ then-same _ _ _ equal,
+      at-loop .loop .inv .1 ∙ number-decides _ _ (small-a at-loop) (small-b at-loop) _ 8 (omega arith) (omega arith) ∙ then-same _ _ _ equal,
     )
 
 returns-2 : tie.Need-returns-2 Inv-loop μ-loop
