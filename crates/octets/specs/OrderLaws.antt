@@ -1,6 +1,6 @@
 -- Laws: the order of byte strings of any lengths is total, antisymmetric and transitive, and `ordering` goes by it. Cited by every proof about keys. Assumes nothing.
 use mathlib.Core.Path.{_≡_, refl, sym}
-use mathlib.Core.Bool.{Bool, true, false}
+use mathlib.Core.Bool.{true, false}
 use mathlib.Core.List.{List, [], _∷_}
 use Prim.Native.Nat.{ℕ, _≤_, _<_}
 use native.Mathlib.Omega.{arith}

@@ -1,7 +1,6 @@
 -- Laws: a byte, the lengths and any count of bytes as one number decide the order of two strings, and two words of eight bytes are equal or not by either reading.
 -- Cited by the proofs of `compare` and the functions that it calls. Assumes nothing.
 use mathlib.Core.Path.{_≡_, refl, sym, ap, _∙_}
-use mathlib.Core.Bool.{Bool}
 use mathlib.Core.List.{List, [], _∷_}
 use Prim.Native.Nat.{ℕ, zero, suc, _+_, _*_, _≤_, _<_}
 use native.Mathlib.Nat.{add-zero, add-assoc}

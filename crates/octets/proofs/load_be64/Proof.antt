@@ -1,4 +1,4 @@
--- `octets::load_be64` meets its contract, from what `load_be32` ensures of either half. Assumes nothing.
+-- `octets::load_be64` meets its contract, from what `load_be32` ensures of each half. Assumes nothing.
 use native.Mathlib.Omega.{arith}
 use borrow.Author.Needs.{needs}
 use Rattle.octets.specs.WordLaws.{be64-number}
