@@ -1,4 +1,4 @@
--- Laws: the order of byte strings of any lengths is total, antisymmetric and transitive, and `ordering` goes by it. Cited by every proof about keys. Assumes nothing.
+-- Laws: the order of byte strings of any lengths is total, antisymmetric and transitive, and `ordering` goes by it. Assumes nothing.
 use mathlib.Core.Path.{_≡_, refl, sym}
 use mathlib.Core.Bool.{true, false}
 use mathlib.Core.List.{List, [], _∷_}

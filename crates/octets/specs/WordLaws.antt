@@ -1,5 +1,5 @@
--- Laws: a byte, the lengths and any count of bytes as one number decide the order of two strings, and two words of eight bytes are equal or not by either reading.
--- Cited by the proofs of `compare` and the functions that it calls. Assumes nothing.
+-- Laws: any count of bytes as one number decides the order of two strings as the bytes do; so does one byte, and the length decides behind all bytes.
+-- The proofs of `compare` and of the functions that it calls cite them. Assumes nothing.
 use mathlib.Core.Path.{_≡_, refl, sym, ap, _∙_}
 use mathlib.Core.List.{List, [], _∷_}
 use Prim.Native.Nat.{ℕ, zero, suc, _+_, _*_, _≤_, _<_}

@@ -1,5 +1,5 @@
--- Steps: bytes as one number, and the order of strings by it. Only laws and the contracts of the functions that `compare` calls cite these definitions. A reader
--- need not believe them: the contract of `compare` cites `Order.ordering` alone.
+-- Steps: bytes as one number, and the order of strings by it. Only laws and the contracts of the functions that `compare` calls cite these definitions.
+-- A reader need not believe them: the contract of `compare` cites `Order.ordering` alone.
 use Prim.Native.Nat.{ℕ, zero, suc, _+_, _*_, _-_, _≤_}
 use mathlib.Core.Path.{_≡_}
 use mathlib.Core.List.{List}

@@ -1,4 +1,4 @@
--- `octets::read_digits` meets its contract. The loop's invariant: the text says what its characters from `i` on say behind `number`, and `number` has at most `i`
+-- `octets::read_digits` meets its contract. The loop's invariant: the text says what its characters from `i` on say behind `number`, which has at most `i`
 -- digits. Assumes nothing.
 use Prim.Native.Nat.{ℕ, _≤_, _<_, _-_, _^_}
 use native.Mathlib.Nat.{pow-le-pow-right}
