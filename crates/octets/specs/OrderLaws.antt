@@ -15,7 +15,7 @@ pub le-same : (x : ℕ) (a b : List ℕ) → bytesLe (x ∷ a) (x ∷ b) ≡ byt
 unfolding bytesLe
 le-same x a b = rw (eq-eqb x x refl)
 
-pub le-less : (x y : ℕ) (a b : List ℕ) → x < y → bytesLe (x ∷ a) (y ∷ b) ≡ true
+le-less : (x y : ℕ) (a b : List ℕ) → x < y → bytesLe (x ∷ a) (y ∷ b) ≡ true
 unfolding bytesLe
 le-less x y a b h = rw (ne-eqb x y (omega arith)) (lt-ltb x y h)
 
@@ -42,7 +42,7 @@ le-antisym (x ∷ a) (y ∷ b) p q = either (eqb x y)
     let t : a ≡ b = le-antisym a b (rw e at p) (rw (eq-eqb y x (sym d)) at q) in cc)
     (λ e. let l : x < y = ltb-true x y (rw e at p) in
     let m : y < x = ltb-true y x (rw (ne-eqb y x (omega arith)) at q) in
-    let b : ⊥ = omega arith in absurd b)
+    absurd (omega arith))
 
 pub le-trans : (a b c : List ℕ) → bytesLe a b ≡ true → bytesLe b c ≡ true → bytesLe a c ≡ true
 unfolding bytesLe

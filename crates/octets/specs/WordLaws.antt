@@ -101,8 +101,8 @@ unfolding be32 bytesNumber
 be64-number s i = rw (add-assoc i 4 1, add-assoc i 4 2, add-assoc i 4 3, add-zero) (omega arith)
 
 module _ (a b : List ℕ) (small-a : (j : ℕ) → byteAt a j < 256) (small-b : (j : ℕ) → byteAt b j < 256) where
-  -- What K2 asks to be shown once: n bytes as one number with the first byte highest are "lower, equal or higher exactly as the unsigned bytes do", for any n,
-  -- and so "for any key length".
+  -- K2 asks to show this once: n bytes as one number with the first byte highest give "lower, equal or higher exactly as the unsigned bytes do, for any key
+  -- length", since n is any count.
   pub number-decides : (i n : ℕ) → i + n ≤ length a → i + n ≤ length b → Decides a b i n (bytesNumber a i n) (bytesNumber b i n)
   unfolding bytesNumber
   number-decides i zero p q = rw add-zero (sym (then-same 0 0 _ refl))
