@@ -1,5 +1,5 @@
 -- Rules: numbers in bytes. Every other crate reads and writes the files' numbers by these definitions alone.
-use Prim.Native.Nat.{ℕ, zero, suc, _+_, _*_, _/_, _%_}
+use Prim.Native.Nat.{ℕ, _+_, _*_, _/_, _%_}
 use mathlib.Core.List.{List, [], _∷_}
 use lib.ListN.{getD}
 
@@ -7,15 +7,12 @@ use lib.ListN.{getD}
 abbrev pub byteAt : List ℕ → ℕ → ℕ
 byteAt s at = getD s at 0
 
--- "least significant byte first": the two, four and eight bytes at an offset
+-- "least significant byte first": the two and the four bytes at an offset
 unfoldable pub le16 : List ℕ → ℕ → ℕ
 le16 s at = byteAt s at + 256 * byteAt s (at + 1)
 
 unfoldable pub le32 : List ℕ → ℕ → ℕ
 le32 s at = byteAt s at + 256 * byteAt s (at + 1) + 65536 * byteAt s (at + 2) + 16777216 * byteAt s (at + 3)
-
-unfoldable pub le64 : List ℕ → ℕ → ℕ
-le64 s at = le32 s at + 4294967296 * le32 s (at + 4)
 
 -- "most significant first": the two and the four bytes at an offset
 unfoldable pub be16 : List ℕ → ℕ → ℕ
@@ -24,18 +21,13 @@ be16 s at = 256 * byteAt s at + byteAt s (at + 1)
 unfoldable pub be32 : List ℕ → ℕ → ℕ
 be32 s at = 16777216 * byteAt s at + 65536 * byteAt s (at + 1) + 256 * byteAt s (at + 2) + byteAt s (at + 3)
 
--- the first n bytes from an offset on, as one number with the first byte highest
-unfoldable pub bytesNumber : List ℕ → ℕ → ℕ → ℕ
-bytesNumber s at zero = 0
-bytesNumber s at (suc n) = 256 * bytesNumber s at n + byteAt s (at + n)
-
--- the bytes of a number: two or four, least significant first
+-- the two and the four bytes of a number, least significant first
 unfoldable pub toLe16 : ℕ → List ℕ
 toLe16 x = x % 256 ∷ x / 256 % 256 ∷ []
 
 unfoldable pub toLe32 : ℕ → List ℕ
 toLe32 x = x % 256 ∷ x / 256 % 256 ∷ x / 256 / 256 % 256 ∷ x / 256 / 256 / 256 % 256 ∷ []
 
--- four, most significant first
+-- the four bytes of a number, most significant first
 unfoldable pub toBe32 : ℕ → List ℕ
 toBe32 x = x / 256 / 256 / 256 % 256 ∷ x / 256 / 256 % 256 ∷ x / 256 % 256 ∷ x % 256 ∷ []

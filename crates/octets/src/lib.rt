@@ -1,11 +1,13 @@
-// Numbers in bytes, stores into a buffer, the order of byte strings, and the blanks and digits of a text: what every reader and writer of the files' bytes rests on.
+// Numbers in bytes, stores into a buffer, the order of byte strings, and the blanks and digits of a text. All code that reads or writes the files' bytes rests
+// on this crate.
 ghost use mathlib.Core.Path.{_≡_};
 ghost use Prim.Native.Nat.{_+_, _-_, _≤_, _<_};
 ghost use lib.ListN.{length, replicate, drop};
-ghost use Rattle.octets.specs.Bytes.{byteAt, le16, le32, le64, be16, be32, bytesNumber, toLe16, toLe32, toBe32};
+ghost use Rattle.octets.specs.Bytes.{byteAt, le16, le32, be16, be32, toLe16, toLe32, toBe32};
 ghost use Rattle.octets.specs.Store.{put};
 ghost use Rattle.octets.specs.declared.Ordering.the-variants.{Equal};
-ghost use Rattle.octets.specs.Order.{ordering, orderThen, Agree, smaller, isBelow, isEqual};
+ghost use Rattle.octets.specs.Order.{ordering, isBelow, isEqual};
+ghost use Rattle.octets.specs.Words.{le64, bytesNumber, smaller, orderThen, Agree};
 ghost use Rattle.octets.specs.Text.{unpadded, isDigit, digitsOf};
 
 // The order of one byte string to another.
@@ -15,7 +17,7 @@ pub enum Ordering {
     Above,
 }
 
-// What a text says that should be digits: their number, or that there is another character.
+// What a text says that should be digits: the number that they stand for, or that it has another character.
 pub enum Digits {
     Number(u64),
     Other,
@@ -61,7 +63,7 @@ fn load_le64(s: &[u8], at: usize) -> u64
     load_le32(s, at) as u64 + 4294967296 * (load_le32(s, at + 4) as u64)
 }
 
-// The number of the same four bytes in the other order.
+// The number that has the four bytes of x in the other order.
 fn swap_bytes(x: u32) -> u32
     ensures { λ r. ⌜ r ≡ be32 (toLe32 x) 0 ⌝ }
 {
@@ -71,8 +73,8 @@ fn swap_bytes(x: u32) -> u32
         + x / 256 / 256 / 256 % 256
 }
 
-// The four bytes at an offset, most significant first. They are read as the machine has them and turned round, since the compiler makes a load and a swap of
-// that before it weighs whether a caller takes the function in, and of a sum of bytes only after.
+// The four bytes at an offset, most significant first. The code reads them in the machine's order and turns them round: the compiler makes a load and a swap of
+// this before it decides what to inline, and of a sum of bytes only after.
 pub fn load_be32(s: &[u8], at: usize) -> u32
     requires { ⌜ at + 4 ≤ length (now s) ⌝ }
     ensures { λ r. ⌜ r ≡ be32 (now (s .entry)) at ⌝ }
@@ -129,7 +131,7 @@ pub fn copy_in(buf: &mut [u8], at: usize, src: &[u8])
     }
 }
 
-// Sets the bytes from one offset up to another to one value.
+// Sets the bytes from offset `from` up to, but not at, offset `to` to one value.
 pub fn fill(buf: &mut [u8], from: usize, to: usize, value: u8)
     requires { ⌜ (from ≤ to) × (to ≤ length (now buf)) ⌝ }
     ensures { λ _. ⌜ now (buf .exit) ≡ put (now (buf .entry)) from (replicate (to - from) value) ⌝ }
@@ -148,8 +150,8 @@ fn shorter(x: usize, y: usize) -> usize
     if x < y { x } else { y }
 }
 
-// How many bytes two strings agree in, in whole words of eight, where n is the shorter length. Whether two words are the same does not hang on the order of
-// their bytes, so they are read as the machine has them.
+// The count of bytes, in whole words of eight, in which two strings agree from the start; n is the shorter length. Two words are equal in either order of their
+// bytes, so the code reads them in the machine's order.
 fn same_words(a: &[u8], b: &[u8], n: usize) -> usize
     requires { ⌜ n ≡ smaller (length (now a)) (length (now b)) ⌝ }
     ensures { λ r. ⌜ Agree (now (a .entry)) (now (b .entry)) n r ⌝ }
@@ -164,7 +166,7 @@ fn same_words(a: &[u8], b: &[u8], n: usize) -> usize
     i
 }
 
-// The order of what two strings have from an offset on, if their next eight bytes differ: that of those bytes as numbers.
+// The order of two strings from an offset on, if their next eight bytes differ: these decide, as numbers with the first byte highest.
 fn compare_words(a: &[u8], b: &[u8], i: usize) -> Ordering
     requires { ⌜ (i + 8 ≤ length (now a)) × (i + 8 ≤ length (now b)) × (bytesNumber (now a) i 8 ≡ bytesNumber (now b) i 8 → ⊥) ⌝ }
     ensures { λ r. ⌜ r ≡ ordering (drop i (now (a .entry))) (drop i (now (b .entry))) ⌝ }
@@ -188,7 +190,7 @@ fn order_of(x: u64, y: u64) -> Ordering
     Ordering::Equal
 }
 
-// The order of what two strings have from an offset on, byte by byte up to the first that differs, and then by length; n is the shorter length.
+// The order of two strings from an offset on: the first byte that differs decides, or the length if none does; n is the shorter length.
 fn compare_rest(a: &[u8], b: &[u8], from: usize, n: usize) -> Ordering
     requires { ⌜ (from ≤ n) × (n ≡ smaller (length (now a)) (length (now b))) ⌝ }
     ensures { λ r. ⌜ r ≡ ordering (drop from (now (a .entry))) (drop from (now (b .entry))) ⌝ }
@@ -203,8 +205,8 @@ fn compare_rest(a: &[u8], b: &[u8], from: usize, n: usize) -> Ordering
     order_of(a.len() as u64, b.len() as u64)
 }
 
-// The order of two short strings, byte by byte from the last back, so that the first that differs has the last word; n is the shorter length. No branch hangs
-// on a byte: where two keys differ cannot be foreseen, and a wrong guess costs the processor more than a few bytes.
+// The order of two short strings; n is the shorter length. The loop goes from the last byte back, so the first byte that differs is the last to set x and y. No
+// branch depends on a byte: the processor cannot foresee where two keys differ, and a wrong guess costs more than a few bytes.
 fn compare_short(a: &[u8], b: &[u8], n: usize) -> Ordering
     requires { ⌜ n ≡ smaller (length (now a)) (length (now b)) ⌝ }
     ensures { λ r. ⌜ r ≡ ordering (now (a .entry)) (now (b .entry)) ⌝ }
@@ -257,7 +259,7 @@ pub fn is_equal(o: Ordering) -> bool
     }
 }
 
-// How many blanks a text begins with.
+// The count of blanks that a text begins with.
 pub fn padding(text: &[u8]) -> usize
     ensures { λ r. ⌜ (r ≤ length (now (text .entry))) × (drop r (now (text .entry)) ≡ unpadded (now (text .entry))) ⌝ }
 {
@@ -278,7 +280,7 @@ pub fn is_digit(c: u8) -> bool
     (b'0' <= c) & (c <= b'9')
 }
 
-// What a text of nineteen characters at most says, so that the number fits.
+// What a text says that should be digits. It has nineteen characters at most, so that the number fits 64 bits.
 pub fn read_digits(text: &[u8]) -> Digits
     requires { ⌜ length (now text) ≤ 19 ⌝ }
     ensures { λ r. ⌜ r ≡ digitsOf (now (text .entry)) ⌝ }

@@ -1,4 +1,4 @@
--- `octets::compare` meets its contract: the strings agree in whole words, and then the next word decides, or the bytes that are left. Assumes nothing.
+-- `octets::compare` meets its contract: the strings agree in whole words, and behind these the next word decides, or the bytes that are left. Assumes nothing.
 use mathlib.Core.Path.{sym, _∙_}
 use native.Mathlib.Omega.{arith}
 use borrow.Author.Needs.{needs}
@@ -18,7 +18,9 @@ compare-words-requires : tie.Need-compare-words-requires
 compare-words-requires c κs = (omega arith, omega arith, c .before .same-words .ensures .apart (omega arith))
 
 returns : tie.Need-returns
-returns c = c .compare-words .ensures ∙ sym (c .before .before .same-words .ensures .same)
+returns c =
+    let agree = c .before .before .same-words .ensures in
+    c .compare-words .ensures ∙ sym (agree .same)
 
 compare-short-requires : tie.Need-compare-short-requires
 compare-short-requires c κs = search needs
@@ -30,7 +32,9 @@ compare-rest-requires : tie.Need-compare-rest-requires
 compare-rest-requires c κs = search needs
 
 returns-3 : tie.Need-returns-3
-returns-3 c = c .compare-rest .ensures ∙ sym (c .before .before .before .same-words .ensures .same)
+returns-3 c =
+    let agree = c .before .before .before .same-words .ensures in
+    c .compare-rest .ensures ∙ sym (agree .same)
 
 pub compare-spec : {M : Type 1} → statement M
 compare-spec =

@@ -1,7 +1,7 @@
--- `octets::load_be64` meets its contract, from what `load_be32` ensures of either half. Assumes nothing.
+-- `octets::load_be64` meets its contract, from what `load_be32` ensures of each half. Assumes nothing.
 use native.Mathlib.Omega.{arith}
 use borrow.Author.Needs.{needs}
-use Rattle.octets.specs.OrderLaws.{be64-number}
+use Rattle.octets.specs.WordLaws.{be64-number}
 use Rattle.octets.proofs.load_be64.Statement.{statement}
 use Rattle.octets.proofs.load_be64.Tie as tie
 

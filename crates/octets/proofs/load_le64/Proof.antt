@@ -1,5 +1,5 @@
--- `octets::load_le64` meets its contract, from what `load_le32` ensures of either half. Assumes nothing.
-use Rattle.octets.specs.Bytes.{le64}
+-- `octets::load_le64` meets its contract, from what `load_le32` ensures of each half. Assumes nothing.
+use Rattle.octets.specs.Words.{le64}
 use borrow.Author.Needs.{needs}
 use Rattle.octets.proofs.load_le64.Statement.{statement}
 use Rattle.octets.proofs.load_le64.Tie as tie

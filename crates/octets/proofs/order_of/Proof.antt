@@ -1,7 +1,7 @@
 -- `octets::order_of` meets its contract. Assumes nothing.
 use mathlib.Core.Path.{sym}
 use native.Mathlib.Omega.{arith}
-use Rattle.octets.specs.OrderLaws.{then-less, then-more, then-same}
+use Rattle.octets.specs.WordLaws.{then-less, then-more, then-same}
 use Rattle.octets.proofs.order_of.Statement.{statement}
 use Rattle.octets.proofs.order_of.Tie as tie
 

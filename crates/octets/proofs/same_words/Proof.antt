@@ -1,12 +1,12 @@
--- `octets::same_words` meets its contract. The loop's invariant: the strings agree before `i`, so their order is that of what they have from `i` on.
+-- `octets::same_words` meets its contract. The loop's invariant: the strings agree before `i`, so the bytes from `i` on give their order.
 -- Assumes nothing.
-use Prim.Native.Nat.{ℕ, _+_, _-_, _≤_, _<_}
+use Prim.Native.Nat.{ℕ, _-_, _≤_, _<_}
 use mathlib.Core.Path.{_≡_, refl, sym, _∙_}
 use native.Mathlib.Omega.{arith}
-use lib.ListN.{length, drop}
+use lib.ListN.{drop}
 use Rattle.octets.specs.Bytes.{byteAt}
 use Rattle.octets.specs.Order.{ordering}
-use Rattle.octets.specs.OrderLaws.{number-decides, then-same, word-same, word-apart}
+use Rattle.octets.specs.WordLaws.{number-decides, then-same, word-same, word-apart}
 use Rattle.octets.proofs.same_words.Statement.{statement}
 use Rattle.octets.proofs.same_words.Tie as tie
 
@@ -28,6 +28,10 @@ load-le64-requires c κs = omega arith
 load-le64-requires-2 : tie.Need-load-le64-requires-2 Inv-loop μ-loop
 load-le64-requires-2 c κs = omega arith
 
+-- the place: the head of the loop, from the two words that the turn read
+abbrev turn : tie.After-load-le642 Inv-loop μ-loop → tie.At-loop Inv-loop μ-loop
+turn c = c .before .before .before
+
 -- a slice holds bytes
 small-a : (c : tie.At-loop Inv-loop μ-loop) (j : ℕ) → byteAt (c .before .before .before .args .a .now) j < 256
 small-a c j = c .before .before .shared-slice-known .given j .fits
@@ -37,13 +41,13 @@ small-b c j = c .before .shared-slice-known2 .given j .fits
 
 returns : tie.Need-returns Inv-loop μ-loop
 returns c =
-    let at-loop = c .before .before .before .before in
+    let at-loop = turn (c .before) in
     let first = c .before .before .load-le64 .ensures in
     let second = c .before .load-le642 .ensures in
     record {
       within = at-loop .loop .inv .0;
       same = at-loop .loop .inv .1;
-      apart = λ _. word-apart _ _ _ (small-a at-loop) (small-b at-loop) (λ e. c .if1 .taken (first ∙ e ∙ sym second));
+      apart = λ _. word-apart _ _ (small-a at-loop) (small-b at-loop) _ (λ e. c .if1 .taken (first ∙ e ∙ sym second));
     }
 
 add-i : tie.Need-add-i Inv-loop μ-loop
@@ -54,12 +58,12 @@ loop-less c = omega arith
 
 loop-again : tie.Need-loop-again Inv-loop μ-loop
 loop-again c =
-    let at-loop = c .before .before .before .before in
+    let at-loop = turn (c .before) in
     let first = c .before .before .load-le64 .ensures in
     let second = c .before .load-le642 .ensures in
-    let equal = word-same _ _ _ (small-a at-loop) (small-b at-loop) (sym first ∙ c .if1 .left ∙ second) in (
+    let equal = word-same _ _ (small-a at-loop) (small-b at-loop) _ (sym first ∙ c .if1 .left ∙ second) in (
       omega arith,
-      at-loop .loop .inv .1 ∙ number-decides _ _ _ (small-a at-loop) (small-b at-loop) 8 (omega arith) (omega arith) ∙ then-same _ _ _ equal,
+      at-loop .loop .inv .1 ∙ number-decides _ _ (small-a at-loop) (small-b at-loop) _ 8 (omega arith) (omega arith) ∙ then-same _ _ _ equal,
     )
 
 returns-2 : tie.Need-returns-2 Inv-loop μ-loop
