@@ -9,14 +9,14 @@ use lib.Dec.{eqb}
 use lib.ListN.{length, take}
 use Rattle.tree.specs.Book.{Call, insertion, lookupOf, Answer, refused, accepted, found, absent, isAccepted, noRooms, resultsOf, finalOf}
 use Rattle.tree.specs.Book.{bookAnswers, bookFinal}
-use Rattle.tree.specs.Tree.{pairs}
 use Rattle.page.specs.Header.{keyLength}
 use Rattle.page.specs.KeyOrder.{bytesOrder}
 use Rattle.page.specs.declared.RecordNumber.{RecordNumber}
 use Rattle.lookup.specs.Lookup.{lookupRule}
 use Rattle.lookup.specs.declared.Answer.{Answer as Looked}
 use Rattle.lookup.specs.declared.Answer.the-variants as looked
-use Rattle.sound.specs.Sound.{indexTree, Sound}
+use Rattle.sound.specs.Sound.{Sound}
+pub use Rattle.sound.specs.Sound.{leafPairs}
 use Rattle.insert.specs.Calls.{insertRule}
 use Rattle.insert.specs.Insertion.{insertedBuffer}
 use Rattle.insert.specs.Room.{noRoom}
@@ -73,10 +73,6 @@ Pairs = List (List ℕ × ℕ)
 -- the book after the first n, fed "of the answers, only whether an insertion was 30"
 abbrev pub bookAt : ℕ → Pairs → ℕ → Calls → List ℕ → Pairs
 bookAt k book n calls b = bookFinal bytesOrder (fits k) (take n calls) (noRooms (answersTo calls b)) book
-
--- the pairs of a sound index's leaves, left to right
-abbrev pub leafPairs : (b : List ℕ) → Sound b → Pairs
-leafPairs b s = pairs (s .height) (indexTree b (s .height))
 
 -- the index in a buffer is sound, so has at most 11 levels, and "the leaves' entries, left to right, are the book's pairs"
 pub record IndexHolds (b : List ℕ) (book : Pairs) : Type 0 where

@@ -16,7 +16,9 @@ use Rattle.numeral.specs.declared.Number.the-variants as number
 use Rattle.memo.specs.Memo.{memoText}
 use Rattle.memo.specs.declared.MemoPlace.{MemoPlace}
 use Rattle.memo.specs.declared.MemoPlace.the-variants as memo
-use Rattle.table.specs.Table.{typeC, typeN, typeD, typeL, typeM, keptMark, deletedMark, fieldType, fieldLength, fieldDecimals, fieldOffset, fieldCount, recordCount, recordStart, deletionByte, firstRefusal, tableChecks}
+use Rattle.table.specs.Table.{typeC, typeN, typeD, typeL, typeM, keptMark, deletedMark}
+use Rattle.table.specs.Table.{fieldType, fieldLength, fieldDecimals, fieldOffset, fieldCount, recordCount, recordStart, deletionByte}
+use Rattle.table.specs.Table.{firstRefusal, tableChecks}
 use Rattle.field.specs.Field.{placeAt, numberGood}
 use Rattle.field.specs.declared.Placed.{Placed}
 use Rattle.field.specs.declared.Placed.the-variants as placed
@@ -50,13 +52,7 @@ cellRefusal reads b i field =
     ∷ (markGood (deletionByte b i), 15)
     ∷ []))
 
--- where a field of a record lies, if the call may read it
-unfoldable pub cellPlace : Reads → List ℕ → ℕ → ℕ → Placed
-cellPlace reads b i field =
-    let refusal = cellRefusal reads b i field in
-    cond (eqb refusal 0) (placed.At (placeAt b i field)) (placed.Refused refusal)
-
--- "fields follow in order": where a field of a record starts in the table, and its bytes
+-- "fields follow in order": where the field of record i starts in the table, and its bytes
 unfoldable pub fieldStart : List ℕ → ℕ → ℕ → ℕ
 fieldStart b i field = recordStart b i + fieldOffset b (field - 1)
 
@@ -65,7 +61,7 @@ fieldBytes b i field = window b (fieldStart b i field) (fieldLength b (field - 1
 
 -- ---- N, D and L
 
--- N: what its text means, with the field's decimals
+-- N: the number that its text means, with the field's decimals
 unfoldable pub numberCell : List ℕ → ℕ → ℕ → Number
 numberCell b i field =
     let refusal = cellRefusal Numbers b i field in
@@ -91,7 +87,7 @@ logicalOf c =
     (cond (eqb c blank) logical.Empty
     (logical.Refused 20)))
 
--- L: what its one byte says
+-- L: the value of its one byte
 unfoldable pub logicalCell : List ℕ → ℕ → ℕ → Logical
 logicalCell b i field =
     let refusal = cellRefusal Logicals b i field in
@@ -99,7 +95,7 @@ logicalCell b i field =
 
 -- ---- C and M
 
--- a place in the memo file
+-- a place in the memo file, as the place of a text
 unfoldable pub memoPart : MemoPlace → TextPlace
 memoPart (memo.Text start len) = text.Memo start len
 memoPart memo.Empty = text.Empty
@@ -113,19 +109,29 @@ textAt b m type start len = cond (eqb type typeC) (text.Table start len) (memoPa
 unfoldable pub textCell : List ℕ → List ℕ → ℕ → ℕ → TextPlace
 textCell b m i field =
     let refusal = cellRefusal Texts b i field in
-    cond (eqb refusal 0) (textAt b m (fieldType b (field - 1)) (fieldStart b i field) (fieldLength b (field - 1))) (text.Refused refusal)
+    cond (eqb refusal 0)
+    (textAt b m (fieldType b (field - 1)) (fieldStart b i field) (fieldLength b (field - 1)))
+    (text.Refused refusal)
 
--- a text's place lies in its file
-unfoldable pub TextWithin : List ℕ → List ℕ → TextPlace → Type 0
-TextWithin b m (text.Table start len) = start + len ≤ length b
-TextWithin b m (text.Memo start len) = start + len ≤ length m
-TextWithin b m text.Empty = Unit {0}
-TextWithin b m (text.Refused n) = Unit {0}
-
--- what the text call hands back: "that part of the table itself", "that part of the memo file itself"; for a refusal "and for an empty field ...
+-- the part that the text call hands back: "that part of the table itself", "that part of the memo file itself"; for a refusal "and for an empty field ...
 -- a part of no bytes"
 unfoldable pub textPart : List ℕ → List ℕ → TextPlace → List ℕ
 textPart b m (text.Table start len) = window b start len
 textPart b m (text.Memo start len) = window m start len
 textPart b m text.Empty = []
 textPart b m (text.Refused n) = []
+
+-- ---- Steps: contracts of calls that take a place cite these two; who calls by numbers alone need not believe them
+
+-- where the field of record i lies, if the call may read it
+unfoldable pub cellPlace : Reads → List ℕ → ℕ → ℕ → Placed
+cellPlace reads b i field =
+    let refusal = cellRefusal reads b i field in
+    cond (eqb refusal 0) (placed.At (placeAt b i field)) (placed.Refused refusal)
+
+-- the place of a text lies in its file
+unfoldable pub TextWithin : List ℕ → List ℕ → TextPlace → Type 0
+TextWithin b m (text.Table start len) = start + len ≤ length b
+TextWithin b m (text.Memo start len) = start + len ≤ length m
+TextWithin b m text.Empty = Unit {0}
+TextWithin b m (text.Refused n) = Unit {0}

@@ -7,7 +7,7 @@ use native.Mathlib.Omega.{arith}
 use lib.ListN.{length, take, drop}
 use lib.Dec.{eqb, lit<}
 use borrow.Author.Tests.{eqb-true, eqb-false, ne-eqb}
-use Rattle.basis.specs.Tests.{either}
+use Rattle.basis.specs.Tests.{either, impossible}
 use Rattle.basis.specs.Lists.{All, all-append}
 use Rattle.octets.specs.Bytes.{byteAt}
 use Rattle.octets.specs.Store.{window}
@@ -25,7 +25,8 @@ use Rattle.memo.specs.Memo.{memoText}
 use Rattle.memo.specs.MemoLaws.{text-inside}
 use Rattle.memo.specs.declared.MemoPlace.{MemoPlace}
 use Rattle.memo.specs.declared.MemoPlace.the-variants as memo
-use Rattle.cell.specs.Cell.{readsType, markGood, cellRefusal, cellPlace, fieldStart, fieldBytes, numberCell, dateCell, logicalOf, logicalCell, memoPart, textAt, textCell, TextWithin}
+use Rattle.cell.specs.Cell.{readsType, markGood, cellRefusal, cellPlace, fieldStart, fieldBytes}
+use Rattle.cell.specs.Cell.{numberCell, dateCell, logicalOf, logicalCell, memoPart, textAt, textCell, TextWithin}
 use Rattle.cell.specs.declared.Reads.{Reads}
 use Rattle.cell.specs.declared.Reads.the-variants.{Numbers, Dates, Logicals, Texts}
 use Rattle.cell.specs.declared.Logical.the-variants as logical
@@ -57,12 +58,12 @@ module _ (reads : Reads) (b : List ℕ) (i field : ℕ) where
   unfolding cellRefusal placeRefusal
   cell-both e = first-both (tableChecks b ++ numbers) checks numbered (ap firstRefusal (append-assoc (tableChecks b) numbers checks) ∙ e)
 
-  -- the answer by its refusal
+  -- the answer of a call that refuses
   cell-refused : (n : ℕ) → cellRefusal reads b i field ≡ n → (n ≡ 0 → ⊥) → cellPlace reads b i field ≡ Refused n
   unfolding cellPlace
   cell-refused n e some = rw (e, ne-eqb n 0 some)
 
-  -- what each case of the place's answer makes of it
+  -- the call's answer, by the case of the field's place
   pub place-refused : (n : ℕ) → placeOf b i field ≡ Refused n → cellPlace reads b i field ≡ Refused n
   place-refused n e =
       let said = placed-refused b i field n e in
@@ -95,7 +96,7 @@ module _ (reads : Reads) (b : List ℕ) (i field : ℕ) where
 
 -- ---- what a call learns from the answer's case
 
--- no check refuses, and the place is that of the field, which lies in the table
+-- no check refuses, and the place is the field's, which lies in the table
 pub record Readable (reads : Reads) (b : List ℕ) (i field : ℕ) (p : Place) : Type 0 where
   pub none : cellRefusal reads b i field ≡ 0
   pub start : p .start ≡ fieldStart b i field
@@ -121,18 +122,18 @@ module _ (reads : Reads) (b : List ℕ) (i field : ℕ) where
         decimals = ap (λ (x : Place). x .form .decimals) same;
         within = place-within b i field p (place-good b i field (cell-both reads b i field none .0)) same;
       })
-      (λ z. let q : Refused (cellRefusal reads b i field) ≡ At p = rw z at e in let no : _≡_ {A = ℕ} 0 1 = cc in absurd (omega arith))
+      (λ z. let q : Refused (cellRefusal reads b i field) ≡ At p = rw z at e in impossible (cc))
 
   pub cell-none : (n : ℕ) → cellPlace reads b i field ≡ Refused n → (cellRefusal reads b i field ≡ n) × (n ≡ 0 → ⊥)
   unfolding cellPlace
   cell-none n e =
       either (eqb (cellRefusal reads b i field) 0)
-      (λ z. let q : At (placeAt b i field) ≡ Refused n = rw z at e in let no : _≡_ {A = ℕ} 0 1 = cc in absurd (omega arith))
+      (λ z. let q : At (placeAt b i field) ≡ Refused n = rw z at e in impossible (cc))
       (λ z.
       let q : Refused (cellRefusal reads b i field) ≡ Refused n = rw z at e in
       let same : cellRefusal reads b i field ≡ n = cc in (same, λ w. eqb-false (cellRefusal reads b i field) 0 z (same ∙ w)))
 
-  -- the checks that hold then
+  -- the checks that hold if none refuses
   pub record CellGood : Type 0 where
     pub place : placeRefusal b i field ≡ 0
     pub type : readsType reads (fieldType b (field - 1)) ≡ true
@@ -144,7 +145,7 @@ module _ (reads : Reads) (b : List ℕ) (i field : ℕ) where
       let held = first-none (checks reads b i field) (lit< tt, (lit< tt, tt)) (parts .1) in
       record { place = parts .0; type = held .0; mark = held .1 .0 }
 
--- a part by its start and its end
+-- the part from a start to an end is a window
 pub part-window : (b : List ℕ) (start len : ℕ) → take (start + len - start) (drop start b) ≡ window b start len
 unfolding window
 part-window b start len = let e : start + len - start ≡ len = omega arith in rw e

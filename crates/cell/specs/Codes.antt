@@ -1,4 +1,4 @@
--- Rules: the number of each answer about a field: 0 for a value, 256 for an empty field, else document 01's refusal number.
+-- Rules: the number of each answer about a field: 0 for a value, 256 for an empty field, or document 01's refusal number.
 use Prim.Native.Nat.{ℕ}
 use Rattle.calendar.specs.declared.DateAnswer.{DateAnswer}
 use Rattle.calendar.specs.declared.DateAnswer.the-variants as date

@@ -1,5 +1,5 @@
--- Laws: "Fields of deleted records are read like others": one good deletion mark in the place of another changes no answer about the record's
--- fields. Assumes nothing.
+-- Laws: "Fields of deleted records are read like others": if one good deletion mark replaces another, no answer about the record's fields changes.
+-- Assumes nothing.
 use Prim.Native.Nat.{ℕ, _+_, _-_, _≤_, _<_}
 use mathlib.Core.Path.{_≡_, refl}
 use mathlib.Core.Bool.{Bool, true}
@@ -13,7 +13,8 @@ use Rattle.basis.specs.Tests.{either}
 use Rattle.octets.specs.Store.{put}
 use Rattle.octets.specs.StoreLaws.{length-put, put-one, getD-put-low, getD-put-high, window-after}
 use Rattle.field.specs.Field.{numberGood}
-use Rattle.table.specs.Table.{typeC, fieldType, fieldLength, fieldCount, headerLength, recordLength, recordCount, recordsEnd, recordStart, deletionByte, firstRefusal, tableChecks, tableRefusal}
+use Rattle.table.specs.Table.{typeC, fieldType, fieldLength, fieldCount, headerLength, recordLength, recordCount, recordsEnd, recordStart, deletionByte}
+use Rattle.table.specs.Table.{firstRefusal, tableChecks, tableRefusal}
 use Rattle.table.specs.TableLaws.{layout}
 use Rattle.table.specs.RecordLaws.{offset-positive, record-positive}
 use Rattle.field.specs.FieldLaws.{place-good, number-range}
@@ -26,7 +27,7 @@ use Rattle.cell.specs.HeaderLaws.{SameHeader, checks-same, count-same, f
 use Rattle.cell.specs.declared.Reads.{Reads}
 use Rattle.cell.specs.declared.Reads.the-variants.{Numbers, Dates, Logicals, Texts}
 
--- the table with another byte as the deletion byte of record i
+-- the table with `mark` as the deletion byte of record i
 unfoldable pub withMark : List ℕ → ℕ → ℕ → List ℕ
 withMark b i mark = put b (recordStart b i) (mark ∷ [])
 
@@ -35,7 +36,7 @@ unfolding firstRefusal
 first-same [] more less e = e
 first-same (check ∷ checks) more less e = rw (first-same checks more less e)
 
--- a memo's part is not the table's
+-- the part of a memo does not depend on the table
 memo-alone : (b c m : List ℕ) (q : MemoPlace) → textPart b m (memoPart q) ≡ textPart c m (memoPart q)
 unfolding memoPart textPart
 memo-alone b c m (Text a l) = refl
@@ -84,7 +85,7 @@ module _ (b : List ℕ) (i mark : ℕ) (good : tableRefusal b ≡ 0) (from : 1 �
         (λ z. let range = number-range field (fieldCount b) z in rw (type-same b c fits same-header (field - 1) (omega arith), marked, old, new))
         (λ z. rw z)))
 
-    -- where no check refuses, the field is the same
+    -- if no check refuses, the field is the same
     module _ (reads : Reads) (none : eqb (cellRefusal reads b i field) 0 ≡ true) where
       inside : field - 1 < fieldCount b
       inside =

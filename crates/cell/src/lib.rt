@@ -1,6 +1,6 @@
 // Reading one field of one record. Document 01, "Field text": refusals 1 to 13 and 15, then what concerns the text or the memo.
 //
-// A call that is given the record's and the field's number makes all checks; one that is given a place is for a table that was checked.
+// A call that takes a record number and a field number makes all checks. A call that takes a place is for a table that was checked.
 use calendar::DateAnswer;
 use field::Place;
 use field::Placed;
@@ -21,7 +21,8 @@ ghost use Rattle.octets.specs.Store.{window};
 ghost use Rattle.calendar.specs.DateText.{dateOf};
 ghost use Rattle.numeral.specs.Reading.{readNumber};
 ghost use Rattle.field.specs.Field.{PlaceInside};
-ghost use Rattle.cell.specs.Cell.{readsType, markGood, cellPlace, numberCell, dateCell, logicalOf, logicalCell, memoPart, textAt, textCell, TextWithin, textPart};
+ghost use Rattle.cell.specs.Cell.{readsType, markGood, cellPlace, numberCell, dateCell, logicalOf, logicalCell};
+ghost use Rattle.cell.specs.Cell.{memoPart, textAt, textCell, TextWithin, textPart};
 
 const LETTER_T: u32 = 0x54;
 
@@ -29,13 +30,7 @@ const LETTER_F: u32 = 0x46;
 
 const BLANK: u32 = 0x20;
 
-const OTHER_TYPE: u32 = 13;
-
-const BAD_DELETION_BYTE: u32 = 15;
-
-const BAD_LOGICAL_TEXT: u32 = 20;
-
-// What a call reads.
+// The fields that a call reads, by their type.
 pub enum Reads {
     Numbers,
     Dates,
@@ -50,7 +45,7 @@ pub enum Logical {
     Refused(u32),
 }
 
-// Where the text of a C field lies in the table, or that of an M field in the memo file, or why there is none.
+// Where a text lies: a C field's in the table, an M field's in the memo file; or why there is none.
 pub enum TextPlace {
     Table { start: usize, len: usize },
     Memo { start: usize, len: usize },
@@ -58,7 +53,7 @@ pub enum TextPlace {
     Refused(u32),
 }
 
-// A part of a slice, by its start and its length.
+// The `len` bytes of a slice from `start` on.
 fn part(s: &[u8], start: usize, len: usize) -> &[u8]
     requires { ⌜ start + len ≤ length (now s) ⌝ }
     ensures { λ r. ⌜ now r ≡ window (now (s .entry)) start len ⌝ }
@@ -66,7 +61,7 @@ fn part(s: &[u8], start: usize, len: usize) -> &[u8]
     &s[start..start + len]
 }
 
-// Whether a call reads fields of a type.
+// Whether the call reads fields of the type `kind`.
 fn reads_type(reads: Reads, kind: u32) -> bool
     ensures { λ r. ⌜ r ≡ readsType reads kind ⌝ }
 {
@@ -78,33 +73,33 @@ fn reads_type(reads: Reads, kind: u32) -> bool
     }
 }
 
-// Whether a byte marks a record as kept or as deleted.
+// Whether the deletion byte marks a record as kept or as deleted.
 fn mark_good(mark: u32) -> bool
     ensures { λ r. ⌜ r ≡ markGood mark ⌝ }
 {
     (mark == KEPT) | (mark == DELETED)
 }
 
-// Where a field of a record lies, if the call may read it.
-fn cell_place(table: &[u8], reads: Reads, i: u32, field: u32) -> Placed
-    ensures { λ r. ⌜ r ≡ cellPlace reads (now (table .entry)) i field ⌝ }
+// Where the field of the record lies, if the call may read it.
+fn cell_place(table: &[u8], reads: Reads, number: u32, field: u32) -> Placed
+    ensures { λ r. ⌜ r ≡ cellPlace reads (now (table .entry)) number field ⌝ }
 {
-    let placed = field::field_place(table, i, field);
+    let placed = field::field_place(table, number, field);
     match placed {
-        Placed::Refused(number) => Placed::Refused(number),
+        Placed::Refused(refusal) => Placed::Refused(refusal),
         Placed::At(place) => {
             if !reads_type(reads, place.form.kind) {
-                return Placed::Refused(OTHER_TYPE);
+                return Placed::Refused(refusal::FIELD_TYPE);
             }
             if !mark_good(place.mark) {
-                return Placed::Refused(BAD_DELETION_BYTE);
+                return Placed::Refused(refusal::DELETION_BYTE);
             }
             Placed::At(place)
         }
     }
 }
 
-// The value of the N field at a place, in units of 10 to the -d.
+// The value of the N field at a place, in units of 10^-d, with the field's decimal count as d.
 pub fn number_at(table: &[u8], place: Place) -> Number
     requires { ⌜ PlaceInside (now table) place ⌝ }
     ensures { λ r. ⌜ r ≡ readNumber (window (now (table .entry)) (place .start) (place .form .length)) (place .form .decimals) ⌝ }
@@ -114,12 +109,12 @@ pub fn number_at(table: &[u8], place: Place) -> Number
 }
 
 // The value of an N field.
-pub fn read_number(table: &[u8], i: u32, field: u32) -> Number
-    ensures { λ r. ⌜ r ≡ numberCell (now (table .entry)) i field ⌝ }
+pub fn read_number(table: &[u8], number: u32, field: u32) -> Number
+    ensures { λ r. ⌜ r ≡ numberCell (now (table .entry)) number field ⌝ }
 {
-    let placed = cell_place(table, Reads::Numbers, i, field);
+    let placed = cell_place(table, Reads::Numbers, number, field);
     match placed {
-        Placed::Refused(number) => Number::Refused(number),
+        Placed::Refused(refusal) => Number::Refused(refusal),
         Placed::At(place) => number_at(table, place),
     }
 }
@@ -133,12 +128,12 @@ pub fn date_at(table: &[u8], place: Place) -> DateAnswer
 }
 
 // The date of a D field.
-pub fn read_date(table: &[u8], i: u32, field: u32) -> DateAnswer
-    ensures { λ r. ⌜ r ≡ dateCell (now (table .entry)) i field ⌝ }
+pub fn read_date(table: &[u8], number: u32, field: u32) -> DateAnswer
+    ensures { λ r. ⌜ r ≡ dateCell (now (table .entry)) number field ⌝ }
 {
-    let placed = cell_place(table, Reads::Dates, i, field);
+    let placed = cell_place(table, Reads::Dates, number, field);
     match placed {
-        Placed::Refused(number) => DateAnswer::Refused(number),
+        Placed::Refused(refusal) => DateAnswer::Refused(refusal),
         Placed::At(place) => date_at(table, place),
     }
 }
@@ -156,7 +151,7 @@ fn logical_of(c: u32) -> Logical
     if c == BLANK {
         return Logical::Empty;
     }
-    Logical::Refused(BAD_LOGICAL_TEXT)
+    Logical::Refused(refusal::DATE_OR_LOGICAL)
 }
 
 // The value of the L field at a place.
@@ -168,27 +163,28 @@ pub fn logical_at(table: &[u8], place: Place) -> Logical
 }
 
 // The value of an L field.
-pub fn read_logical(table: &[u8], i: u32, field: u32) -> Logical
-    ensures { λ r. ⌜ r ≡ logicalCell (now (table .entry)) i field ⌝ }
+pub fn read_logical(table: &[u8], number: u32, field: u32) -> Logical
+    ensures { λ r. ⌜ r ≡ logicalCell (now (table .entry)) number field ⌝ }
 {
-    let placed = cell_place(table, Reads::Logicals, i, field);
+    let placed = cell_place(table, Reads::Logicals, number, field);
     match placed {
-        Placed::Refused(number) => Logical::Refused(number),
+        Placed::Refused(refusal) => Logical::Refused(refusal),
         Placed::At(place) => logical_at(table, place),
     }
 }
 
+// A place in the memo file as the place of a text.
 fn memo_part(place: MemoPlace) -> TextPlace
     ensures { λ r. ⌜ r ≡ memoPart place ⌝ }
 {
     match place {
         MemoPlace::Text { start, len } => TextPlace::Memo { start, len },
         MemoPlace::Empty => TextPlace::Empty,
-        MemoPlace::Refused(number) => TextPlace::Refused(number),
+        MemoPlace::Refused(refusal) => TextPlace::Refused(refusal),
     }
 }
 
-// Where the text of the C or the M field at a place lies. For a C field the memo file is not looked at.
+// Where the text of the C or M field at a place lies. The memo file is not read for a C field.
 pub fn text_at(table: &[u8], memo: &[u8], place: Place) -> TextPlace
     requires { ⌜ PlaceInside (now table) place ⌝ }
     ensures { λ r. ⌜ r ≡ textAt (now (table .entry)) (now (memo .entry)) (place .form .kind) (place .start) (place .form .length) ⌝ }
@@ -201,18 +197,18 @@ pub fn text_at(table: &[u8], memo: &[u8], place: Place) -> TextPlace
     memo_part(memo::memo_place(part(table, start, len), memo))
 }
 
-// Where the text of a C or an M field lies.
-pub fn text_place(table: &[u8], memo: &[u8], i: u32, field: u32) -> TextPlace
-    ensures { λ r. ⌜ r ≡ textCell (now (table .entry)) (now (memo .entry)) i field ⌝ }
+// Where the text of a C or M field lies.
+pub fn text_place(table: &[u8], memo: &[u8], number: u32, field: u32) -> TextPlace
+    ensures { λ r. ⌜ r ≡ textCell (now (table .entry)) (now (memo .entry)) number field ⌝ }
 {
-    let placed = cell_place(table, Reads::Texts, i, field);
+    let placed = cell_place(table, Reads::Texts, number, field);
     match placed {
-        Placed::Refused(number) => TextPlace::Refused(number),
+        Placed::Refused(refusal) => TextPlace::Refused(refusal),
         Placed::At(place) => text_at(table, memo, place),
     }
 }
 
-// The text at its place: a part of the table or of the memo file, of no bytes where there is none.
+// The text at its place: a part of the table or of the memo file, of no bytes if there is no text.
 pub fn text_part<'a>(table: &'a [u8], memo: &'a [u8], place: TextPlace) -> &'a [u8]
     requires { ⌜ TextWithin (now table) (now memo) place ⌝ }
     ensures { λ r. ⌜ now r ≡ textPart (now (table .entry)) (now (memo .entry)) place ⌝ }
@@ -225,9 +221,11 @@ pub fn text_part<'a>(table: &'a [u8], memo: &'a [u8], place: TextPlace) -> &'a [
     }
 }
 
-// The text itself.
-pub fn text<'a>(table: &'a [u8], memo: &'a [u8], i: u32, field: u32) -> &'a [u8]
-    ensures { λ r. ⌜ now r ≡ textPart (now (table .entry)) (now (memo .entry)) (textCell (now (table .entry)) (now (memo .entry)) i field) ⌝ }
+// The text of a C or M field.
+pub fn text<'a>(table: &'a [u8], memo: &'a [u8], number: u32, field: u32) -> &'a [u8]
+    ensures { λ r. ⌜
+        now r ≡ textPart (now (table .entry)) (now (memo .entry)) (textCell (now (table .entry)) (now (memo .entry)) number field)
+        ⌝ }
 {
-    text_part(table, memo, text_place(table, memo, i, field))
+    text_part(table, memo, text_place(table, memo, number, field))
 }

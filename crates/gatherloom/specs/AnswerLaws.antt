@@ -1,4 +1,4 @@
--- Laws: what the calls' proofs cite of the answers, and that an out-parameter keeps what it held where the answer is not 0. Assumes nothing.
+-- Laws: what the calls' proofs cite of the answers; an out-parameter keeps what it held if the answer is not 0. Assumes nothing.
 use Prim.Native.Nat.{ℕ, _<_, _^_}
 use mathlib.Core.Path.{_≡_, refl}
 use mathlib.Core.List.{List}
@@ -21,9 +21,11 @@ use Rattle.cell.specs.declared.Logical.{Logical}
 use Rattle.cell.specs.declared.Logical.the-variants as logical
 use Rattle.cell.specs.declared.TextPlace.{TextPlace}
 use Rattle.cell.specs.declared.TextPlace.the-variants as text
+use Rattle.lookup.specs.Lookup.{absentCode}
 use Rattle.lookup.specs.declared.Answer.{Answer}
 use Rattle.lookup.specs.declared.Answer.the-variants as looked
-use Rattle.gatherloom.specs.Answers.{out, Sizes, Part, Found, shapeOut, numberOut, dateOut, logicalOut, textOut, lookupOut, writingCode, writingOut}
+use Rattle.gatherloom.specs.Answers.{out, Sizes, Part, Found, shapeOut, numberOut, dateOut, logicalOut, textOut, lookupOut}
+use Rattle.gatherloom.specs.Answers.{writingCode, writingOut}
 
 -- a good table's numbers are numbers of 32 bits
 pub record Small (s : Shape) : Type 0 where
@@ -36,8 +38,9 @@ shape-small b s e =
     let table = layout b (shape .table) in
     record { fields = omega (arith, shape .fields, table .header .few); length = omega (arith, shape .length, table .small) }
 
--- what a write leaves and answers, by the case of the answer
-pub writing-told : (wrote : Left) (after : List ℕ) (r answer : Writing) → wrote ≡ left after r → r ≡ answer → writingOut wrote ≡ out (writingCode answer) after
+-- the buffer and the answer of a write, by the case of the answer
+pub writing-told : (wrote : Left) (after : List ℕ) (r answer : Writing) → wrote ≡ left after r → r ≡ answer
+    → writingOut wrote ≡ out (writingCode answer) after
 writing-told wrote after r answer e is = rw (e, is)
 
 -- ---- "an out-parameter keeps what it held whenever the answer is not 0"
@@ -72,14 +75,15 @@ text-kept (text.Memo start size) old other = absurd (other refl)
 text-kept text.Empty old other = refl
 text-kept (text.Refused n) old other = refl
 
--- the record's number too; the pages are kept where the key is not absent either
+-- a lookup keeps the record's number, and the pages too if the key is not absent
 pub lookup-kept : (answer : Answer) (old : Found) → (lookupOut answer old .answer ≡ 0 → ⊥) → lookupOut answer old .held .number ≡ old .number
 unfolding lookupOut
 lookup-kept (looked.Found r pages) old other = absurd (other refl)
 lookup-kept (looked.Absent pages) old other = refl
 lookup-kept (looked.Refused n) old other = refl
 
-pub pages-kept : (answer : Answer) (old : Found) → (lookupOut answer old .answer ≡ 0 → ⊥) → (lookupOut answer old .answer ≡ 257 → ⊥) → lookupOut answer old .held ≡ old
+pub pages-kept : (answer : Answer) (old : Found) → (lookupOut answer old .answer ≡ 0 → ⊥) → (lookupOut answer old .answer ≡ absentCode → ⊥)
+    → lookupOut answer old .held ≡ old
 unfolding lookupOut
 pages-kept (looked.Found r pages) old other present = absurd (other refl)
 pages-kept (looked.Absent pages) old other present = absurd (present refl)

@@ -1,5 +1,5 @@
 -- Rules: what each call hands to C: the answer's number, and what its out-parameters or its lent buffer hold after it. "An out-parameter keeps what it held
--- whenever the answer is not 0, and so does every lent buffer": the last argument of a definition is what was there.
+-- whenever the answer is not 0, and so does every lent buffer": the last argument of a definition, `old`, is what was there.
 use Prim.Native.Nat.{ℕ}
 use mathlib.Core.Bool.{Bool, true, false}
 use mathlib.Core.List.{List}
@@ -23,7 +23,7 @@ use Rattle.lookup.specs.Lookup.{lookupCode, answerRecord, answerPages}
 use Rattle.lookup.specs.declared.Answer.{Answer}
 use Rattle.insert.specs.Calls.{Inserted, insertionCode}
 
--- the number that a host compares before its first call; it is raised with every change of a call's form
+-- the number that a host compares before its first call; every change of a call's form raises it
 abbrev pub interfaceNumber : ℕ
 interfaceNumber = 1
 
@@ -46,7 +46,7 @@ pub record Sizes : Type 0 where
 abbrev pub sizes : ℕ → ℕ → ℕ → Sizes
 sizes records fields recordLength = record { records = records; fields = fields; recordLength = recordLength }
 
--- the number of a check: 0 for a good table, or the refusal's
+-- the number of an answer: 0 for a good table, or the refusal's
 abbrev pub checkedCode : Checked → ℕ
 checkedCode (table.Good s) = 0
 checkedCode (table.Refused n) = n

@@ -21,19 +21,19 @@ use Rattle.gatherloom.specs.declared.LentStep.{LentStep}
 unfoldable pub listingRefusal : List ℕ → ℕ → ℕ
 listingRefusal b room = firstRefusal (tableChecks b ++ ((leb (fieldCount b) room, 14) ∷ []))
 
--- the refusal or 0, and how many entries are written: none where it refuses
+-- the refusal or 0, and how many entries are written: none if it refuses
 unfoldable pub planOf : List ℕ → ℕ → Plan
 planOf b room = record {
   answer = listingRefusal b room;
   count = cond (eqb (listingRefusal b room) 0) (fieldCount b) 0;
 }
 
--- the first entries overwritten by those of as many fields; "entries past f stay"
+-- the entries, with the first j overwritten by those of the first j fields; "entries past f stay"
 unfoldable pub listed : List ℕ → ℕ → List FieldEntry → List FieldEntry
 listed b zero entries = entries
 listed b (suc j) entries = set (listed b j entries) j (entryOf b j)
 
--- what a call that is lent entries answers, and what it leaves in them
+-- the call's answer, and the entries after it
 pub record Listing : Type 0 where
   pub answer : ℕ
   pub entries : List FieldEntry
@@ -45,18 +45,23 @@ listing b entries =
 
 -- ---- the walk
 
--- the answer's number: 0 with a record, 258 at the end, or the refusal's
+-- the number of the answer at the end of a walk
+abbrev pub doneCode : ℕ
+doneCode = 258
+
+-- the number of an answer: 0 for a record, 258 at the end, or the refusal's
 abbrev pub stepCode : Step → ℕ
 stepCode (Record n) = 0
-stepCode Done = 258
+stepCode Done = doneCode
 stepCode (Refused n) = n
 
--- the record's number, or what was there before
+-- the record's number, or the number that was there
 abbrev pub stepRecord : Step → ℕ → ℕ
 stepRecord (Record n) old = n
 stepRecord Done old = old
 stepRecord (Refused n) old = old
 
+-- a step from a position, with `old` as the number that was there
 unfoldable pub walkedOf : List ℕ → Position → ℕ → LentStep
 walkedOf b position old =
     let walked = walkStep b position in

@@ -1,4 +1,4 @@
--- Laws: what the calls over lent structs are made of. The field list's entry of a field is the answer by value for it. Assumes nothing.
+-- Laws: the parts of the calls over lent structs; entry j of the field list is the answer by value for field j + 1. Assumes nothing.
 use Prim.Native.Nat.{ℕ, zero, suc, _+_, _-_, _≤_, _<_}
 use mathlib.Core.Path.{_≡_, refl, sym, ap, subst, _∙_}
 use mathlib.Core.Bool.{Bool, true, cond}
@@ -10,17 +10,16 @@ use native.Mathlib.Omega.{arith}
 use lib.Seq.{getD-set-same, getD-set-other}
 use lib.ListN.{length, getD, set, length-set}
 use lib.Dec.{eqb, leb, lit<}
-use borrow.Author.Tests.{le-leb, lt-leb, leb-true, eqb-true, eqb-false, ne-eqb}
+use borrow.Author.Tests.{le-leb, lt-leb, leb-true, eqb-true, ne-eqb}
 use Rattle.basis.specs.Tests.{either}
-use Rattle.basis.specs.Lists.{All}
-use Rattle.table.specs.Table.{descriptor, maxFields, fieldCount, recordCount, deletionByte, keptMark, deletedMark, firstRefusal, tableChecks, tableRefusal, checkTable}
+use Rattle.table.specs.Table.{descriptor, maxFields, fieldCount, firstRefusal, tableChecks, tableRefusal, checkTable}
 use Rattle.table.specs.TableLaws.{layout, table-numbered, first-after, first-both, first-none, good-shape, good-then, refused-then, refused-check}
 use Rattle.table.specs.RecordLaws.{descriptor-inside}
 use Rattle.table.specs.declared.Shape.{Shape}
 use Rattle.table.specs.declared.Checked.the-variants.{Good, Refused as TableRefused}
 use Rattle.field.specs.Field.{entryOf, fieldRefusal, fieldAnswer, numberGood}
 use Rattle.field.specs.declared.FieldEntry.{FieldEntry}
-use Rattle.walk.specs.Walk.{walkFrom, walkStep}
+use Rattle.walk.specs.Walk.{walkStep}
 use Rattle.walk.specs.declared.Position.{Position}
 use Rattle.walk.specs.declared.Step.{Step}
 use Rattle.walk.specs.declared.Step.the-variants.{Record, Done, Refused}
@@ -31,8 +30,12 @@ use Rattle.gatherloom.specs.Lent.{listingRefusal, planOf, listed, Listin
 
 -- ---- the field list's plan
 
--- by the case of the table's check, and of the test of the room
-pub plan-refused : (b : List ℕ) (room n : ℕ) → checkTable b ≡ TableRefused n → _≡_ {A = Plan} (record { answer = n; count = 0 }) (planOf b room)
+-- the plan that answers `answer` and writes `count` entries
+abbrev planTo : ℕ → ℕ → Plan
+planTo answer count = record { answer = answer; count = count }
+
+-- the plan by the case of the table's check, and of the test of the room
+pub plan-refused : (b : List ℕ) (room n : ℕ) → checkTable b ≡ TableRefused n → planTo n 0 ≡ planOf b room
 unfolding planOf listingRefusal
 plan-refused b room n e =
     let refused : firstRefusal _ ≡ n = refused-then b n ((leb (fieldCount b) room, 14) ∷ []) e in
@@ -42,11 +45,11 @@ listing-checked : (b : List ℕ) (s : Shape) (room : ℕ) → checkTable b ≡ G
 unfolding listingRefusal firstRefusal
 listing-checked b s room e = good-then b s ((leb (fieldCount b) room, 14) ∷ []) e ∙ rw (good-shape b s e .fields)
 
-pub plan-short : (b : List ℕ) (s : Shape) (room : ℕ) → checkTable b ≡ Good s → room < s .fields → _≡_ {A = Plan} (record { answer = 14; count = 0 }) (planOf b room)
+pub plan-short : (b : List ℕ) (s : Shape) (room : ℕ) → checkTable b ≡ Good s → room < s .fields → planTo 14 0 ≡ planOf b room
 unfolding planOf
 plan-short b s room e short = rw (listing-checked b s room e, lt-leb _ _ short)
 
-pub plan-good : (b : List ℕ) (s : Shape) (room : ℕ) → checkTable b ≡ Good s → s .fields ≤ room → _≡_ {A = Plan} (record { answer = 0; count = s .fields }) (planOf b room)
+pub plan-good : (b : List ℕ) (s : Shape) (room : ℕ) → checkTable b ≡ Good s → s .fields ≤ room → planTo 0 (s .fields) ≡ planOf b room
 unfolding planOf
 plan-good b s room e enough = rw (listing-checked b s room e, le-leb _ _ enough, good-shape b s e .fields)
 
@@ -62,7 +65,7 @@ listing-good b room e =
     let held = first-none ((leb (fieldCount b) room, 14) ∷ []) (lit< tt, tt) (parts .1) in
     record { table = parts .0; enough = leb-true _ _ (held .0) }
 
--- so many entries have room, and each one's descriptor lies in the table
+-- `count` entries have room, and the descriptor of each lies in the table
 pub record CountFits (b : List ℕ) (room count : ℕ) : Type 0 where
   pub few : count ≤ maxFields
   pub within : (j : ℕ) → j < count → descriptor j + 32 ≤ length b
@@ -80,7 +83,7 @@ plan-fits b room =
 
 -- ---- the entries
 
--- as many as were lent
+-- the entries stay as many as were lent
 pub listed-length : (b : List ℕ) (count : ℕ) (entries : List FieldEntry) → length (listed b count entries) ≡ length entries
 unfolding listed
 listed-length b zero entries = refl
@@ -95,8 +98,9 @@ pub listed-more : (b : List ℕ) (j : ℕ) (entries : List FieldEntry) → set (
 unfolding listed
 listed-more b j entries = rw (add-one j)
 
--- each entry up to the count is that of its field
-pub listed-at : (b : List ℕ) (count j : ℕ) (entries : List FieldEntry) (none : FieldEntry) → j < count → count ≤ length entries → getD (listed b count entries) j none ≡ entryOf b j
+-- each entry below the count is its field's
+pub listed-at : (b : List ℕ) (count j : ℕ) (entries : List FieldEntry) (none : FieldEntry) → j < count → count ≤ length entries
+    → getD (listed b count entries) j none ≡ entryOf b j
 unfolding listed
 listed-at b zero j entries none l h = absurd (not-suc-le-zero l)
 listed-at b (suc count) j entries none l h =
@@ -106,8 +110,9 @@ listed-at b (suc count) j entries none l h =
     (λ less. getD-set-other (listed b count entries) count j (entryOf b count) none (λ e. omega arith) ∙ listed-at b count j entries none less (omega arith))
     (eq-or-lt-of-le (le-of-suc-le-suc l))
 
--- those past it stay
-pub listed-past : (b : List ℕ) (count j : ℕ) (entries : List FieldEntry) (none : FieldEntry) → count ≤ j → getD (listed b count entries) j none ≡ getD entries j none
+-- the entries past the count stay
+pub listed-past : (b : List ℕ) (count j : ℕ) (entries : List FieldEntry) (none : FieldEntry) → count ≤ j
+    → getD (listed b count entries) j none ≡ getD entries j none
 unfolding listed
 listed-past b zero j entries none l = refl
 listed-past b (suc count) j entries none l =
@@ -115,7 +120,7 @@ listed-past b (suc count) j entries none l =
 
 -- ---- the field list
 
--- what the loop leaves after so many turns as are planned
+-- what the loop leaves after the planned number of turns
 pub listing-is : (b : List ℕ) (entries : List FieldEntry) (j : ℕ) → j ≡ planOf b (length entries) .count
     → listing b entries ≡ record { answer = planOf b (length entries) .answer; entries = listed b j entries }
 unfolding listing
@@ -127,7 +132,7 @@ pub listing-refused : (b : List ℕ) (entries : List FieldEntry) → (listingRef
 unfolding listing planOf listed
 listing-refused b entries e = rw (ne-eqb (listingRefusal b (length entries)) 0 e)
 
--- else the first f are the fields'
+-- without a refusal the first f entries are the fields'
 pub listing-done : (b : List ℕ) (entries : List FieldEntry) → listingRefusal b (length entries) ≡ 0
     → listing b entries ≡ record { answer = 0; entries = listed b (fieldCount b) entries }
 unfolding listing planOf
@@ -141,7 +146,8 @@ listing-entry b entries j none e l =
     let good = listing-good b (length entries) e in
     let low : leb 1 (j + 1) ≡ true = le-leb 1 (j + 1) (omega arith) in
     let high : leb (j + 1) (fieldCount b) ≡ true = le-leb (j + 1) (fieldCount b) (omega arith) in
-    let checked : fieldRefusal b (j + 1) ≡ 0 = first-after (tableChecks b) ((numberGood (j + 1) (fieldCount b), 12) ∷ []) (table-numbered b) (good .table) ∙ rw (low, high) in
+    let checks : List (Bool × ℕ) = (numberGood (j + 1) (fieldCount b), 12) ∷ [] in
+    let checked : fieldRefusal b (j + 1) ≡ 0 = first-after (tableChecks b) checks (table-numbered b) (good .table) ∙ rw (low, high) in
     let same : j + 1 - 1 ≡ j = omega arith in
     ap (λ (x : Listing). getD (x .entries) j none) (listing-done b entries e) ∙ listed-at b (fieldCount b) j entries none l (good .enough) ∙ rw (checked, same)
 
@@ -153,66 +159,11 @@ pub walked-as : (b : List ℕ) (position : Position) (old : ℕ) (walked : Walke
 unfolding walkedOf
 walked-as b position old walked answer e is = rw (← e, ← is)
 
--- a refusal's number is neither 0 nor one of the answers from 256 on
-abbrev pub Numbered : Step → Type 0
-Numbered (Record n) = Unit {0}
-Numbered Done = Unit {0}
-Numbered (Refused n) = (0 < n) × (n < 256)
-
-first-below : (checks : List (Bool × ℕ)) (bound : ℕ) → 0 < bound → All (λ check. check .1 < bound) checks → firstRefusal checks < bound
-unfolding firstRefusal
-first-below [] bound some p = some
-first-below (check ∷ checks) bound some p =
-    either (check .0) (λ good. rw good (first-below checks bound some (p .1))) (λ bad. rw bad (p .0))
-
-table-below : (b : List ℕ) → tableRefusal b < 256
-unfolding tableRefusal tableChecks
-table-below b =
-    first-below (tableChecks b) 256 (lit< tt)
-    (lit< tt, (lit< tt, (lit< tt, (lit< tt, (lit< tt, (lit< tt, (lit< tt, (lit< tt, (lit< tt, (lit< tt, tt))))))))))
-
-from-numbered : (b : List ℕ) (position passed left : ℕ) → Numbered (walkFrom b position passed left .answer)
-unfolding walkFrom
-from-numbered b position passed zero = tt
-from-numbered b position passed (suc left) =
-    let mark = deletionByte b (passed + 1) in
-    either (eqb mark keptMark)
-    (λ kept. rw kept tt)
-    (λ other. either (eqb mark deletedMark)
-    (λ deleted. rw (other, deleted) (from-numbered b position (passed + 1) left))
-    (λ bad. rw (other, bad) (lit< tt, lit< tt)))
-
-pub walk-numbered : (b : List ℕ) (position : Position) → Numbered (walkStep b position .answer)
-unfolding walkStep
-walk-numbered b position =
-    let passed = position .passed in
-    either (eqb (tableRefusal b) 0)
-    (λ none. rw none (from-numbered b passed passed (recordCount b - passed)))
-    (λ some. rw some (let no = eqb-false (tableRefusal b) 0 some in (omega (arith, no), table-below b)))
-
--- so the answer is 0 exactly with a record, whose number is then handed out, and 258 exactly at the end; what was there stays where it is not 0
-record-answer : (answer : Step) (old : ℕ) → Numbered answer → stepCode answer ≡ 0 → answer ≡ Record (stepRecord answer old)
-record-answer (Record n) old p e = refl
-record-answer Done old p e = absurd (omega (arith, e))
-record-answer (Refused n) old p e = absurd (omega (arith, p .0, e))
-
-done-answer : (answer : Step) → Numbered answer → stepCode answer ≡ 258 → answer ≡ Done
-done-answer (Record n) p e = absurd (omega (arith, e))
-done-answer Done p e = refl
-done-answer (Refused n) p e = absurd (omega (arith, p .1, e))
-
+-- without a record the number stays
 other-answer : (answer : Step) (old : ℕ) → (stepCode answer ≡ 0 → ⊥) → stepRecord answer old ≡ old
 other-answer (Record n) old other = absurd (other refl)
 other-answer Done old other = refl
 other-answer (Refused n) old other = refl
-
-pub walked-record : (b : List ℕ) (position : Position) (old : ℕ) → walkedOf b position old .answer ≡ 0 → walkStep b position .answer ≡ Record (walkedOf b position old .number)
-unfolding walkedOf
-walked-record b position old e = record-answer (walkStep b position .answer) old (walk-numbered b position) e
-
-pub walked-done : (b : List ℕ) (position : Position) (old : ℕ) → walkedOf b position old .answer ≡ 258 → walkStep b position .answer ≡ Done
-unfolding walkedOf
-walked-done b position old e = done-answer (walkStep b position .answer) (walk-numbered b position) e
 
 pub walked-kept : (b : List ℕ) (position : Position) (old : ℕ) → (walkedOf b position old .answer ≡ 0 → ⊥) → walkedOf b position old .number ≡ old
 unfolding walkedOf

@@ -1,5 +1,12 @@
-pub mod AnswerLaws
+-- The C interface. Rules are what a reader must believe; laws are proved.
+
+-- Rules: what each call hands to C: the answer's number, and what its out-parameters or its lent buffer hold after it
 pub mod Answers
+-- Rules: the two calls over lent structs, the field list and the walk
 pub mod Lent
+-- Laws: what the calls' proofs cite of the answers; out-parameters keep what they held
+pub mod AnswerLaws
+-- Laws: the parts of the calls over lent structs; the field list is the answers by value
 pub mod LentLaws
+-- Laws: an answer's number tells its case
 pub mod ToldApart

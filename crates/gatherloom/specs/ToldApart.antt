@@ -1,5 +1,5 @@
--- Laws: an answer's number tells its case. 0 is given exactly if the call is accepted, 256 exactly for an empty field, 257 for an absent key and 258 at the end
--- of a walk, since no refusal has any of these numbers. Assumes nothing.
+-- Laws: an answer's number tells its case. 0 is given exactly if the call is accepted, 256 exactly for an empty field, 257 exactly for an absent key and 258
+-- exactly at the end of a walk, since no refusal has any of these numbers. Assumes nothing.
 use Prim.Native.Nat.{ℕ, zero, suc, _+_, _-_, _^_, _≤_}
 use mathlib.Core.Path.{_≡_, refl, sym, ap, _∙_}
 use mathlib.Core.Bool.{Bool, false}
@@ -10,7 +10,7 @@ use lib.ListN.{length}
 use lib.IntN.{ℤ, natAbs}
 use lib.Dec.{eqb, leb, ltb, lit<}
 use borrow.Author.Tests.{eqb-false, ne-eqb}
-use Rattle.basis.specs.Tests.{either}
+use Rattle.basis.specs.Tests.{either, impossible}
 use Rattle.calendar.specs.declared.Date.{Date}
 use Rattle.calendar.specs.declared.DateAnswer.{DateAnswer}
 use Rattle.calendar.specs.declared.DateAnswer.the-variants as date
@@ -34,12 +34,12 @@ use Rattle.page.specs.Header.{maxLevels, rootOffset, keyLength, keyLengthGood, 
 use Rattle.page.specs.declared.RecordNumber.{RecordNumber}
 use Rattle.cell.specs.Cell.{numberCell, dateCell, logicalCell, textCell}
 use Rattle.cell.specs.Codes.{emptyCode, numberCode, dateCode, logicalCode, textCode}
-use Rattle.cell.specs.AnswerLaws.{Numbered, first-small, number-numbered, number-refusal, day-refusal, logical-refusal, place-refusal}
+use Rattle.cell.specs.AnswerLaws.{Numbered, first-small, table-below, number-numbered, number-refusal, day-refusal, logical-refusal, place-refusal}
 use Rattle.cell.specs.declared.Logical.{Logical}
 use Rattle.cell.specs.declared.Logical.the-variants as logical
 use Rattle.cell.specs.declared.TextPlace.{TextPlace}
 use Rattle.cell.specs.declared.TextPlace.the-variants as text
-use Rattle.lookup.specs.Lookup.{visitRule, decided, lookupFrom, lookupRule, lookupCode}
+use Rattle.lookup.specs.Lookup.{visitRule, decided, lookupFrom, lookupRule, absentCode, lookupCode}
 use Rattle.lookup.specs.declared.Visit.{Visit}
 use Rattle.lookup.specs.declared.Visit.the-variants as visit
 use Rattle.lookup.specs.declared.Answer.{Answer}
@@ -51,11 +51,7 @@ use Rattle.insert.specs.Calls.{insertionCode, isFound, insertRule}
 use Rattle.insert.specs.declared.Insertion.{Insertion}
 use Rattle.insert.specs.declared.Insertion.the-variants as insertion
 use Rattle.gatherloom.specs.Answers.{checkedCode, writingCode}
-use Rattle.gatherloom.specs.Lent.{stepCode}
-
--- two cases of an answer are never the same
-never : _≡_ {A = ℕ} 0 1 → ⊥
-never e = omega arith
+use Rattle.gatherloom.specs.Lent.{doneCode, stepCode}
 
 -- ---- what a number tells, of any answer
 
@@ -91,9 +87,9 @@ RefusalsNumbered refusal a = (n : ℕ) → a ≡ refusal n → Numbered n
 -- ---- the check of a table
 
 table-refusal : (b : List ℕ) (n : ℕ) → eqb (tableRefusal b) 0 ≡ false → tableRefusal b ≡ n → Numbered n
-unfolding tableRefusal tableChecks
+unfolding tableRefusal
 table-refusal b n some e =
-    let small = first-small (tableChecks b) (lit< tt, (lit< tt, (lit< tt, (lit< tt, (lit< tt, (lit< tt, (lit< tt, (lit< tt, (lit< tt, (lit< tt, tt)))))))))) in
+    let small = first-small (tableChecks b) (table-below b) in
     let none = eqb-false (tableRefusal b) 0 some in
     (omega (arith, e), omega (arith, e))
 
@@ -109,7 +105,7 @@ check-case : (a : Checked) → RefusalsNumbered table.Refused a → Case (checke
 check-case (table.Good s) small = accepted refl (s, refl)
 check-case (table.Refused n) small = refused (small n refl)
 
--- 0 is a good table's; no table is empty
+-- 0 is given exactly for a good table; 256 is never given
 pub shape-told : (b : List ℕ) → Told (checkedCode (checkTable b)) emptyCode (IsGood (checkTable b)) ⊥
 shape-told b = told (omega arith) (check-case (checkTable b) (check-refusal b)) (λ good. ap checkedCode (good .1)) (λ none. absurd none)
 
@@ -117,11 +113,11 @@ shape-told b = told (omega arith) (check-case (checkTable b) (check-refusal b)) 
 
 walk-refusal : (b : List ℕ) (position passed left : ℕ) → RefusalsNumbered step.Refused (walkFrom b position passed left .answer)
 unfolding walkFrom
-walk-refusal b position passed zero n e = absurd (never (cc))
+walk-refusal b position passed zero n e = impossible (cc)
 walk-refusal b position passed (suc left) n e =
     let mark = deletionByte b (passed + 1) in
     either (eqb mark keptMark)
-    (λ kept. let q : step.Record (passed + 1) ≡ step.Refused n = rw kept at e in absurd (never (cc)))
+    (λ kept. let q : step.Record (passed + 1) ≡ step.Refused n = rw kept at e in impossible (cc))
     (λ other. either (eqb mark deletedMark)
     (λ deleted. walk-refusal b position (passed + 1) left n (rw (other, deleted) at e))
     (λ bad. let q : step.Refused 15 ≡ step.Refused n = rw (other, bad) at e in let k : 15 ≡ n = cc in (omega arith, omega arith)))
@@ -136,13 +132,13 @@ step-refusal b position n e =
 abbrev pub IsRecord : Step → Type 0
 IsRecord a = (i : ℕ) × (a ≡ step.Record i)
 
-step-case : (a : Step) → RefusalsNumbered step.Refused a → Case (stepCode a) 258 (IsRecord a) (a ≡ step.Done)
+step-case : (a : Step) → RefusalsNumbered step.Refused a → Case (stepCode a) doneCode (IsRecord a) (a ≡ step.Done)
 step-case (step.Record i) small = accepted refl (i, refl)
 step-case step.Done small = other refl refl
 step-case (step.Refused n) small = refused (small n refl)
 
--- 0 is given with a record's number, 258 when the walk is done
-pub walk-told : (b : List ℕ) (position : Position) → let a = walkStep b position .answer in Told (stepCode a) 258 (IsRecord a) (a ≡ step.Done)
+-- 0 is given exactly for a record, 258 exactly if the walk is done
+pub walk-told : (b : List ℕ) (position : Position) → let a = walkStep b position .answer in Told (stepCode a) doneCode (IsRecord a) (a ≡ step.Done)
 walk-told b position =
     told (omega arith) (step-case (walkStep b position .answer) (step-refusal b position)) (λ found. ap stepCode (found .1)) (λ done. ap stepCode done)
 
@@ -222,8 +218,8 @@ module _ (b : List ℕ) (i field : ℕ) where
 decided-refusal : (go : ℕ → Answer) → ((p : ℕ) → RefusalsNumbered looked.Refused (go p))
     → (pages : ℕ) (v : Visit) → RefusalsNumbered looked.Refused (decided go pages v)
 decided-refusal go small pages visit.Refused n e = let k : 25 ≡ n = cc in (omega arith, omega arith)
-decided-refusal go small pages visit.Absent n e = absurd (never (cc))
-decided-refusal go small pages (visit.Found r) n e = absurd (never (cc))
+decided-refusal go small pages visit.Absent n e = impossible (cc)
+decided-refusal go small pages (visit.Found r) n e = impossible (cc)
 decided-refusal go small pages (visit.Child c) n e = small (c .0) n e
 
 from-refusal : (left : ℕ) (b key : List ℕ) (p : ℕ) → RefusalsNumbered looked.Refused (lookupFrom left b key p)
@@ -248,16 +244,16 @@ IsFound a = (r : RecordNumber) × (pages : ℕ) × (a ≡ looked.Found r pages)
 abbrev pub IsAbsent : Answer → Type 0
 IsAbsent a = (pages : ℕ) × (a ≡ looked.Absent pages)
 
-lookup-case : (a : Answer) → RefusalsNumbered looked.Refused a → Case (lookupCode a) 257 (IsFound a) (IsAbsent a)
+lookup-case : (a : Answer) → RefusalsNumbered looked.Refused a → Case (lookupCode a) absentCode (IsFound a) (IsAbsent a)
 lookup-case (looked.Found r pages) small = accepted refl (r, pages, refl)
 lookup-case (looked.Absent pages) small = other refl (pages, refl)
 lookup-case (looked.Refused n) small = refused (small n refl)
 
-pub lookup-told : (b key : List ℕ) → let a = lookupRule b key in Told (lookupCode a) 257 (IsFound a) (IsAbsent a)
+pub lookup-told : (b key : List ℕ) → let a = lookupRule b key in Told (lookupCode a) absentCode (IsFound a) (IsAbsent a)
 lookup-told b key =
     told (omega arith) (lookup-case (lookupRule b key) (lookup-refusal b key)) (λ found. ap lookupCode (found .2)) (λ absent. ap lookupCode (absent .1))
 
--- ---- the calls that write: 0 is given exactly where the call is accepted
+-- ---- the calls that write: 0 is given exactly if the call is accepted
 
 writing-numbered : (m n : ℕ) → Numbered m → writing.Refused m ≡ writing.Refused n → Numbered n
 writing-numbered m n small e = let k : m ≡ n = cc in (omega arith, omega arith)
@@ -268,7 +264,7 @@ writing-refusal s d v n e =
     either (formatGood (length s) d)
     (λ format. either (ltb (natAbs v) (10 ^ maxDigits))
     (λ few. either (leb (length (numberText d v)) (length s))
-    (λ fits. let q : writing.Written ≡ writing.Refused n = rw (format, few, fits, writeNumber) at e in absurd (never (cc)))
+    (λ fits. let q : writing.Written ≡ writing.Refused n = rw (format, few, fits, writeNumber) at e in impossible (cc))
     (λ long. writing-numbered 19 n (lit< tt, lit< tt) (rw (format, few, long, writeNumber) at e)))
     (λ many. writing-numbered 18 n (lit< tt, lit< tt) (rw (format, many, writeNumber) at e)))
     (λ bad. writing-numbered 6 n (lit< tt, lit< tt) (rw (bad, writeNumber) at e))
@@ -290,7 +286,7 @@ fresh-refusal b k x n e =
     either (keyLengthGood k)
     (λ key. either (expressionGood x)
     (λ printed. either (leb 1024 (length b))
-    (λ room. let q : insertion.Accepted ≡ insertion.Refused n = rw (key, printed, room, freshRule) at e in absurd (never (cc)))
+    (λ room. let q : insertion.Accepted ≡ insertion.Refused n = rw (key, printed, room, freshRule) at e in impossible (cc))
     (λ full. insertion-numbered 30 n (lit< tt, lit< tt) (rw (key, printed, full, freshRule) at e)))
     (λ bad. insertion-numbered 24 n (lit< tt, lit< tt) (rw (key, bad, freshRule) at e)))
     (λ bad. insertion-numbered 27 n (lit< tt, lit< tt) (rw (bad, freshRule) at e))
@@ -317,7 +313,7 @@ insert-refusal b key r n e =
     (λ found. insertion-numbered 29 n (lit< tt, lit< tt) (rw (good, fits, some, sound, found, insertRule) at e))
     (λ absent. either (noRoom (keyLength b) b key)
     (λ full. insertion-numbered 30 n (lit< tt, lit< tt) (rw (good, fits, some, sound, absent, full, insertRule) at e))
-    (λ room. let q : insertion.Accepted ≡ insertion.Refused n = rw (good, fits, some, sound, absent, room, insertRule) at e in absurd (never (cc)))))
+    (λ room. let q : insertion.Accepted ≡ insertion.Refused n = rw (good, fits, some, sound, absent, room, insertRule) at e in impossible (cc))))
     (λ bad. insertion-numbered 25 n (lit< tt, lit< tt) (rw (good, fits, some, bad, insertRule) at e))))
     (λ misfit. insertion-numbered 27 n (lit< tt, lit< tt) (rw (good, misfit, insertRule) at e)))
     (λ bad. insertion-numbered 24 n (lit< tt, lit< tt) (rw (bad, insertRule) at e))

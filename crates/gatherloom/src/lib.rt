@@ -1,5 +1,5 @@
-// The C interface: what the firmware and every host program call. Each function takes what it was lent apart, calls the library and hands the answer
-// out by number.
+// The C interface: what the firmware and every host program call. Each function calls the library on what it was lent, returns the number of the answer, and
+// writes the answer's values to its out-parameters. An out-parameter keeps what it held whenever the answer is not 0, but for the pages of a lookup.
 use calendar::DateAnswer;
 use cell::Logical;
 use cell::TextPlace;
@@ -24,22 +24,10 @@ ghost use Rattle.gatherloom.specs.Lent.{planOf, listing, walkedOf};
 ghost use Rattle.gatherloom.specs.Answers.{interfaceNumber, out, sizes, dayOf, part, found};
 ghost use Rattle.gatherloom.specs.Answers.{shapeOut, numberOut, dateOut, logicalOut, textOut, lookupOut, writingOut, insertionOut};
 
-// The number of this interface; the header has it as GL_INTERFACE.
+// The number of this interface, GL_INTERFACE in the header.
 const INTERFACE: u32 = 1;
 
-// The answer where fewer entries are lent than there are fields.
-const LIST_TOO_SHORT: u32 = 14;
-
-// The answer where a field holds blanks.
-const EMPTY: u32 = 256;
-
-// The answer where a key is not in an index.
-const ABSENT: u32 = 257;
-
-// The answer of a walk that has no record left.
-const DONE: u32 = 258;
-
-// Which interface the archive has, so that a host that was built for another one notices it before its first call.
+// The interface of this archive: a host compares it with GL_INTERFACE before its first call.
 #[no_mangle]
 pub extern "C" fn gl_interface() -> u32
     ensures { λ r. ⌜ r ≡ interfaceNumber ⌝ }
@@ -47,14 +35,14 @@ pub extern "C" fn gl_interface() -> u32
     INTERFACE
 }
 
-// Whether a table is good: 0, or the number of its refusal.
+// Whether a table is good: 0, or its refusal.
 #[no_mangle]
 pub extern "C" fn gl_table_check(table: &[u8]) -> u32
     ensures { λ r. ⌜ r ≡ tableRefusal (now (table .entry)) ⌝ }
 {
     match table::check_table(table) {
         Checked::Good(_) => 0,
-        Checked::Refused(number) => number,
+        Checked::Refused(code) => code,
     }
 }
 
@@ -66,7 +54,10 @@ pub extern "C" fn gl_table_shape(
     fields: &mut u32,
     record_length: &mut u32,
 ) -> u32
-    ensures { λ r. ⌜ shapeOut (checkTable (now (table .entry))) (sizes (now (records .entry)) (now (fields .entry)) (now («record_length» .entry))) ≡ out r (sizes (now (records .exit)) (now (fields .exit)) (now («record_length» .exit))) ⌝ }
+    ensures { λ r. ⌜
+        shapeOut (checkTable (now (table .entry))) (sizes (now (records .entry)) (now (fields .entry)) (now («record_length» .entry)))
+        ≡ out r (sizes (now (records .exit)) (now (fields .exit)) (now («record_length» .exit)))
+        ⌝ }
 {
     match table::check_table(table) {
         Checked::Good(shape) => {
@@ -79,24 +70,25 @@ pub extern "C" fn gl_table_shape(
     }
 }
 
-// What the field list answers, and how many entries it writes: none where it refuses.
+// What the field list answers, and how many entries it writes: none if it refuses.
 pub struct Plan {
     pub answer: u32,
     pub count: usize,
 }
 
+// The plan for a table and `room` lent entries.
 fn listing_plan(table: &[u8], room: usize) -> Plan
     ensures { λ r. ⌜ r ≡ planOf (now (table .entry)) room ⌝ }
 {
     match table::check_table(table) {
-        Checked::Refused(number) => Plan {
-            answer: number,
+        Checked::Refused(refusal) => Plan {
+            answer: refusal,
             count: 0,
         },
         Checked::Good(shape) => {
             if room < shape.fields {
                 return Plan {
-                    answer: LIST_TOO_SHORT,
+                    answer: refusal::FIELD_LIST_TOO_SHORT,
                     count: 0,
                 };
             }
@@ -108,10 +100,12 @@ fn listing_plan(table: &[u8], room: usize) -> Plan
     }
 }
 
-// The field list, written into the entries that the host lends.
+// Writes the field list into the entries that the host lends.
 #[no_mangle]
 pub extern "C" fn gl_fields(table: &[u8], entries: &mut [FieldEntry]) -> u32
-    ensures { λ r. ⌜ listing (now (table .entry)) (now (entries .entry)) ≡ record { answer = r; entries = now (entries .exit) } ⌝ }
+    ensures { λ r. ⌜
+        listing (now (table .entry)) (now (entries .entry)) ≡ record { answer = r; entries = now (entries .exit) }
+        ⌝ }
 {
     let plan = listing_plan(table, entries.len());
     let count = plan.count;
@@ -123,14 +117,14 @@ pub extern "C" fn gl_fields(table: &[u8], entries: &mut [FieldEntry]) -> u32
     plan.answer
 }
 
-// A step of the walk as C is handed it: the answer, the position after it, and the record's number, which is what was there where the answer is not 0.
+// A step of the walk as it is handed to C: the answer, the position after the step, and the record's number, which stays as it was if the answer is not 0.
 pub struct LentStep {
     pub answer: u32,
     pub position: Position,
     pub number: u32,
 }
 
-// The step by value.
+// The step by value, from a position, with `number` as the number that was there.
 fn lent_step(table: &[u8], position: Position, number: u32) -> LentStep
     ensures { λ r. ⌜ r ≡ walkedOf (now (table .entry)) position number ⌝ }
 {
@@ -144,7 +138,7 @@ fn lent_step(table: &[u8], position: Position, number: u32) -> LentStep
             number: found,
         },
         walk::Step::Done => LentStep {
-            answer: DONE,
+            answer: refusal::DONE,
             position: after,
             number,
         },
@@ -156,10 +150,13 @@ fn lent_step(table: &[u8], position: Position, number: u32) -> LentStep
     }
 }
 
-// The walk: the position belongs to the host, and each call moves it on the spot.
+// One step of the walk. The position belongs to the host, and each call moves it on the spot.
 #[no_mangle]
 pub extern "C" fn gl_walk(table: &[u8], position: &mut Position, number: &mut u32) -> u32
-    ensures { λ r. ⌜ walkedOf (now (table .entry)) (now (position .entry)) (now (number .entry)) ≡ record { answer = r; position = now (position .exit); number = now (number .exit) } ⌝ }
+    ensures { λ r. ⌜
+        walkedOf (now (table .entry)) (now (position .entry)) (now (number .entry))
+        ≡ record { answer = r; position = now (position .exit); number = now (number .exit) }
+        ⌝ }
 {
     let step = lent_step(table, *position, *number);
     *position = step.position;
@@ -178,7 +175,7 @@ pub extern "C" fn gl_read_number(table: &[u8], number: u32, field: u32, value: &
             *value = read;
             0
         }
-        Number::Empty => EMPTY,
+        Number::Empty => refusal::EMPTY,
         Number::Refused(refusal) => refusal,
     }
 }
@@ -193,7 +190,10 @@ pub extern "C" fn gl_read_date(
     month: &mut u32,
     day: &mut u32,
 ) -> u32
-    ensures { λ r. ⌜ dateOut (dateCell (now (table .entry)) number field) (dayOf (now (year .entry)) (now (month .entry)) (now (day .entry))) ≡ out r (dayOf (now (year .exit)) (now (month .exit)) (now (day .exit))) ⌝ }
+    ensures { λ r. ⌜
+        dateOut (dateCell (now (table .entry)) number field) (dayOf (now (year .entry)) (now (month .entry)) (now (day .entry)))
+        ≡ out r (dayOf (now (year .exit)) (now (month .exit)) (now (day .exit)))
+        ⌝ }
 {
     let answer = cell::read_date(table, number, field);
     match answer {
@@ -203,7 +203,7 @@ pub extern "C" fn gl_read_date(
             *day = date.day;
             0
         }
-        DateAnswer::Empty => EMPTY,
+        DateAnswer::Empty => refusal::EMPTY,
         DateAnswer::Refused(refusal) => refusal,
     }
 }
@@ -219,7 +219,7 @@ pub extern "C" fn gl_read_logical(table: &[u8], number: u32, field: u32, value: 
             *value = read as u8;
             0
         }
-        Logical::Empty => EMPTY,
+        Logical::Empty => refusal::EMPTY,
         Logical::Refused(refusal) => refusal,
     }
 }
@@ -234,7 +234,10 @@ pub extern "C" fn gl_text_part(
     start: &mut u64,
     len: &mut u64,
 ) -> u32
-    ensures { λ r. ⌜ textOut (textCell (now (table .entry)) (now (memo .entry)) number field) (part (now (start .entry)) (now (len .entry))) ≡ out r (part (now (start .exit)) (now (len .exit))) ⌝ }
+    ensures { λ r. ⌜
+        textOut (textCell (now (table .entry)) (now (memo .entry)) number field) (part (now (start .entry)) (now (len .entry)))
+        ≡ out r (part (now (start .exit)) (now (len .exit)))
+        ⌝ }
 {
     let answer = cell::text_place(table, memo, number, field);
     match answer {
@@ -243,7 +246,7 @@ pub extern "C" fn gl_text_part(
             *len = n as u64;
             0
         }
-        TextPlace::Empty => EMPTY,
+        TextPlace::Empty => refusal::EMPTY,
         TextPlace::Refused(refusal) => refusal,
     }
 }
@@ -259,12 +262,12 @@ pub extern "C" fn gl_number_read(text: &[u8], decimals: u32, value: &mut i64) ->
             *value = meant;
             0
         }
-        Number::Empty => EMPTY,
+        Number::Empty => refusal::EMPTY,
         Number::Refused(refusal) => refusal,
     }
 }
 
-// Writes the one text of a value.
+// Writes a value as numeric text into the lent field.
 #[no_mangle]
 pub extern "C" fn gl_number_write(text: &mut [u8], decimals: u32, value: i64) -> u32
     ensures { λ r. ⌜ writingOut (writeNumber (now (text .entry)) decimals value) ≡ out r (now (text .exit)) ⌝ }
@@ -276,8 +279,8 @@ pub extern "C" fn gl_number_write(text: &mut [u8], decimals: u32, value: i64) ->
     }
 }
 
-// The number of an answer to a call that writes an index.
-fn insertion_number(answer: Insertion) -> u32
+// The number of the answer of a call that writes an index.
+fn insertion_code(answer: Insertion) -> u32
     ensures { λ r. ⌜ r ≡ insertionCode answer ⌝ }
 {
     match answer {
@@ -291,10 +294,10 @@ fn insertion_number(answer: Insertion) -> u32
 pub extern "C" fn gl_index_fresh(index: &mut [u8], key_length: u32, expression: &[u8]) -> u32
     ensures { λ r. ⌜ insertionOut (freshRule (now (index .entry)) «key_length» (now (expression .entry))) ≡ out r (now (index .exit)) ⌝ }
 {
-    insertion_number(insert::fresh(index, key_length, expression))
+    insertion_code(insert::fresh(index, key_length, expression))
 }
 
-// Audits an index: 24, 25, or 0 where it is sound.
+// Audits an index: 24, 25, or 0 if it is sound.
 #[no_mangle]
 pub extern "C" fn gl_index_audit(index: &[u8]) -> u32
     ensures { λ r. ⌜ Audited (now (index .entry)) r ⌝ }
@@ -302,7 +305,7 @@ pub extern "C" fn gl_index_audit(index: &[u8]) -> u32
     audit::audit(index)
 }
 
-// Looks a key up: its record, and the pages visited, which an absent key has too.
+// Looks a key up: the number of its record, and the pages visited, which are also written if the key is absent.
 #[no_mangle]
 pub extern "C" fn gl_index_lookup(
     index: &[u8],
@@ -310,7 +313,10 @@ pub extern "C" fn gl_index_lookup(
     number: &mut u32,
     pages: &mut u32,
 ) -> u32
-    ensures { λ r. ⌜ lookupOut (lookupRule (now (index .entry)) (now (key .entry))) (found (now (number .entry)) (now (pages .entry))) ≡ out r (found (now (number .exit)) (now (pages .exit))) ⌝ }
+    ensures { λ r. ⌜
+        lookupOut (lookupRule (now (index .entry)) (now (key .entry))) (found (now (number .entry)) (now (pages .entry)))
+        ≡ out r (found (now (number .exit)) (now (pages .exit)))
+        ⌝ }
 {
     let answer = lookup::lookup(index, key);
     match answer {
@@ -321,7 +327,7 @@ pub extern "C" fn gl_index_lookup(
         }
         lookup::Answer::Absent(searched) => {
             *pages = searched;
-            ABSENT
+            refusal::ABSENT
         }
         lookup::Answer::Refused(refusal) => refusal,
     }
@@ -332,10 +338,10 @@ pub extern "C" fn gl_index_lookup(
 pub extern "C" fn gl_index_insert(index: &mut [u8], key: &[u8], number: u32) -> u32
     ensures { λ r. ⌜ insertionOut (insertRule (now (index .entry)) (now (key .entry)) number) ≡ out r (now (index .exit)) ⌝ }
 {
-    insertion_number(insert::insert(index, key, RecordNumber(number)))
+    insertion_code(insert::insert(index, key, RecordNumber(number)))
 }
 
-// Matches an index against a field of a table: 0 where each record has exactly one entry, its key that record's field, and there are no others.
+// Matches an index against a field of a table: 0 if each record has exactly one entry, its key that record's field, and there are no others.
 #[no_mangle]
 pub extern "C" fn gl_match(table: &[u8], index: &[u8], field: u32) -> u32
     ensures { λ r. ⌜ Matched (now (table .entry)) (now (index .entry)) field r ⌝ }

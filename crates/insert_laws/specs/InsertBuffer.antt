@@ -15,7 +15,7 @@ use Rattle.octets.specs.Store.{put, window}
 use Rattle.octets.specs.StoreLaws.{length-put, window-before, window-after}
 use Rattle.octets.specs.NumberLaws.{length-toLe32, length-toBe32, le32-put, le32-same}
 use Rattle.tree.specs.Clauses.{Sized, Links}
-use Rattle.tree.specs.Index.{newPage as taken}
+use Rattle.tree.specs.Index.{newOffset}
 use Rattle.tree.specs.InsertNeeds.{insert-needs, root-splits}
 use Rattle.tree.specs.Insertion.{Grown, insert}
 use Rattle.tree.specs.Lists.{occ}
@@ -50,7 +50,7 @@ treeIn k b h = readTree (entriesIn k b) h (rootOffset b)
 
 -- the theory's insertion into it
 abbrev pub grownBy : (k h : ℕ) → List ℕ → List ℕ → ℕ → Grown (List ℕ)
-grownBy k h b key r = insert bytesOrder (capacity k) (taken (fileSize b)) key r h (treeIn k b h)
+grownBy k h b key r = insert bytesOrder (capacity k) (newOffset (fileSize b)) key r h (treeIn k b h)
 
 -- what a sound index of h + 1 levels gives for an insertion that has room
 pub record Ready (k h : ℕ) (b key : List ℕ) (r : ℕ) : Type 0 where
@@ -60,9 +60,9 @@ pub record Ready (k h : ℕ) (b key : List ℕ) (r : ℕ) : Type 0 where
   pub shaped : Shaped k h b (rootOffset b)
   pub sized : Sized (capacity k) h (treeIn k b h)
   pub once : (z : ℕ) → occ z (pages h (treeIn k b h)) ≤ 1
-  pub unused : (i : ℕ) → occ (taken (fileSize b) i) (pages h (treeIn k b h)) ≡ 0
-  pub room : (j : ℕ) → j < grownBy k h b key r .2 → Usable b (taken (fileSize b) j)
-  pub size32 : taken (fileSize b) (grownBy k h b key r .2) < 2 ^ 32
+  pub unused : (i : ℕ) → occ (newOffset (fileSize b) i) (pages h (treeIn k b h)) ≡ 0
+  pub room : (j : ℕ) → j < grownBy k h b key r .2 → Usable b (newOffset (fileSize b) j)
+  pub size32 : newOffset (fileSize b) (grownBy k h b key r .2) < 2 ^ 32
 
 reroot-more : (name : ℕ → ℕ) (h p : ℕ) (xs : List (List ℕ × ℕ)) (n : ℕ) (S : Store (List ℕ)) → n ≤ storeReroot name h p xs n S .2
 reroot-more name h p [] n S = omega arith
@@ -168,20 +168,20 @@ module _ (k h : ℕ) (b key : List ℕ) (r : ℕ) (ready : Ready k h b key r) wh
   W = replacement k (fileSize b) key r b h a (rootOffset b)
 
   abbrev g : StoreGrown (List ℕ)
-  g = storeInsert bytesOrder (capacity k) (taken (fileSize b)) key r h (rootOffset b) (entriesIn k b)
+  g = storeInsert bytesOrder (capacity k) (newOffset (fileSize b)) key r h (rootOffset b) (entriesIn k b)
 
   abbrev s : Step
   s = insertUnder k maxLevels b key r (rootOffset b) (fileSize b)
 
   -- the theory's insertion into the pages is its insertion into the tree
   seen : readGrown g ≡ grownBy k h b key r
-  seen = insert-read bytesOrder (capacity k) (taken (fileSize b)) (λ i j e. omega arith) key r h (rootOffset b) (entriesIn k b) (ready .once) (ready .unused)
+  seen = insert-read bytesOrder (capacity k) (newOffset (fileSize b)) (λ i j e. omega arith) key r h (rootOffset b) (entriesIn k b) (ready .once) (ready .unused)
 
-  room-store : (j : ℕ) → j < g .2 → Usable b (taken (fileSize b) j)
+  room-store : (j : ℕ) → j < g .2 → Usable b (newOffset (fileSize b) j)
   room-store j l = ready .room j (subst (λ (x : Grown (List ℕ)). j < x .2) seen l)
 
   free : Free k (fileSize b) key r b h a (rootOffset b)
-  free = (ready .once, ready .unused, (λ j l. room-store j (omega (arith, reroot-more (taken (fileSize b)) h (rootOffset b) (W .0) (W .1) (W .2)))))
+  free = (ready .once, ready .unused, (λ j l. room-store j (omega (arith, reroot-more (newOffset (fileSize b)) h (rootOffset b) (W .0) (W .1) (W .2)))))
 
   step-is : StepIs k (fileSize b) (length b) a (rootOffset b) s W
   step-is = inserts k (fileSize b) key r b (ready .offered) h maxLevels (rootOffset b) a (ready .levels) (ready .shaped) free
@@ -206,7 +206,7 @@ module _ (k h : ℕ) (b key : List ℕ) (r : ℕ) (ready : Ready k h b key r) wh
   new-root (kept n) t = tt
   new-root bad t = t
   new-root (split q) t =
-      let rooms : (j : ℕ) → j < suc (W .1) → Usable b (taken (fileSize b) j) = rw (t .1) at room-store in
+      let rooms : (j : ℕ) → j < suc (W .1) → Usable b (newOffset (fileSize b) j) = rw (t .1) at room-store in
       rw (t .0) (rooms (W .1) (omega arith) .0)
 
   rooted : Rooted k (rootOffset b) (s .outcome) (s .after) (insertedBuffer k b key r)
@@ -216,7 +216,7 @@ module _ (k h : ℕ) (b key : List ℕ) (r : ℕ) (ready : Ready k h b key r) wh
       let p = is-page (length b) (rootOffset b) (u .0) in
       let l = step-is .as-long in
       let s32 : sizeAfter (s .outcome) < 2 ^ 32 =
-      rw (root-is .size-is) (subst (λ (x : Grown (List ℕ)). taken (fileSize b) (x .2) < 2 ^ 32) (sym seen) (ready .size32)) in
+      rw (root-is .size-is) (subst (λ (x : Grown (List ℕ)). newOffset (fileSize b) (x .2) < 2 ^ 32) (sym seen) (ready .size32)) in
       at-root k (rootOffset b) key (ready .offered .two) (ready .offered .long) (s .after) (s .outcome) (rw l (new-root (s .outcome) (step-is .told)))
       (omega arith)
       (le32-same (s .after) b 0 (window-in-page (s .after) b 0 (same-header (s .outcome) (s .after) heads) 0 4 (omega arith)))
@@ -233,8 +233,8 @@ module _ (k h : ℕ) (b key : List ℕ) (r : ℕ) (ready : Ready k h b key r) wh
   pub root-after : rootOffset (insertedBuffer k b key r) ≡ grownBy k h b key r .1 .0
   root-after = rooted .rootIs ∙ root-is .root-is ∙ ap (λ (x : Grown (List ℕ)). x .1 .0) seen
 
-  pub size-after : fileSize (insertedBuffer k b key r) ≡ taken (fileSize b) (grownBy k h b key r .2)
-  size-after = rooted .sizeIs ∙ root-is .size-is ∙ ap (λ (x : Grown (List ℕ)). taken (fileSize b) (x .2)) seen
+  pub size-after : fileSize (insertedBuffer k b key r) ≡ newOffset (fileSize b) (grownBy k h b key r .2)
+  size-after = rooted .sizeIs ∙ root-is .size-is ∙ ap (λ (x : Grown (List ℕ)). newOffset (fileSize b) (x .2)) seen
 
   pub length-after : length (insertedBuffer k b key r) ≡ length b
   length-after = rooted .as-long ∙ step-is .as-long
@@ -253,7 +253,7 @@ module _ (k h : ℕ) (b key : List ℕ) (r : ℕ) (ready : Ready k h b key r) wh
 
   needed : (grownBy k h b key r .2 ≡ needs bytesOrder (capacity k) key h (treeIn k b h))
       × (suc (grownBy k h b key r .0) ≡ levelsAfter bytesOrder (capacity k) key h (treeIn k b h))
-  needed = insert-needs bytesOrder (capacity k) (taken (fileSize b)) key r h (treeIn k b h) (omega (arith, ready .offered .two)) (ready .sized)
+  needed = insert-needs bytesOrder (capacity k) (newOffset (fileSize b)) key r h (treeIn k b h) (omega (arith, ready .offered .two)) (ready .sized)
 
   -- the theory's numbers at each outcome: the pages that were split, the height and the root
   pub record Numbers (m height top : ℕ) : Type 0 where
@@ -261,7 +261,7 @@ module _ (k h : ℕ) (b key : List ℕ) (r : ℕ) (ready : Ready k h b key r) wh
     pub heightIs : grownBy k h b key r .0 ≡ height
     pub rootIs : grownBy k h b key r .1 .0 ≡ top
 
-  numbers-kept : (n m : ℕ) → OutcomeIs (fileSize b) a (rootOffset b) (kept n) W → n ≡ taken (fileSize b) m → Numbers m h (rootOffset b)
+  numbers-kept : (n m : ℕ) → OutcomeIs (fileSize b) a (rootOffset b) (kept n) W → n ≡ newOffset (fileSize b) m → Numbers m h (rootOffset b)
   numbers-kept n m t e =
       let g0 : g .0 ≡ h = rw (t .1) in
       let g1 : g .1 ≡ rootOffset b = rw (t .1) in
@@ -276,7 +276,7 @@ module _ (k h : ℕ) (b key : List ℕ) (r : ℕ) (ready : Ready k h b key r) wh
   numbers-split : (q : ℕ) → OutcomeIs (fileSize b) a (rootOffset b) (split q) W → Numbers (suc h) (suc h) (q + pageSize)
   numbers-split q t =
       let g0 : g .0 ≡ suc h = rw (t .1) in
-      let g1 : g .1 ≡ taken (fileSize b) (W .1) = rw (t .1) in
+      let g1 : g .1 ≡ newOffset (fileSize b) (W .1) = rw (t .1) in
       let h0 : grownBy k h b key r .0 ≡ suc h = ap (λ (x : Grown (List ℕ)). x .0) (sym seen) ∙ g0 in
       let x : fullRun ≡ suc h = either (eqb fullRun (suc h))
       (λ e. eqb-true fullRun (suc h) e)
@@ -285,27 +285,27 @@ module _ (k h : ℕ) (b key : List ℕ) (r : ℕ) (ready : Ready k h b key r) wh
 
   -- the theory's links after the insertion
   abbrev pub linksAfter : Links
-  linksAfter = relinked bytesOrder noPage (taken (fileSize b)) (capacity k) key h (treeIn k b h) (grownBy k h b key r) (linksOf b)
+  linksAfter = relinked bytesOrder noPage (newOffset (fileSize b)) (capacity k) key h (treeIn k b h) (grownBy k h b key r) (linksOf b)
 
   relinked-kept : (x : Grown (List ℕ)) → x .0 ≡ h
-      → relinked bytesOrder noPage (taken (fileSize b)) (capacity k) key h (treeIn k b h) x (linksOf b) ≡ relink path (taken (fileSize b)) fullRun (linksOf b)
+      → relinked bytesOrder noPage (newOffset (fileSize b)) (capacity k) key h (treeIn k b h) x (linksOf b) ≡ relink path (newOffset (fileSize b)) fullRun (linksOf b)
   relinked-kept x e = rw (eq-eqb (x .0) h e)
 
   relinked-split : (x : Grown (List ℕ)) (p : ℕ) → x .0 ≡ suc h → x .1 .0 ≡ p
-      → relinked bytesOrder noPage (taken (fileSize b)) (capacity k) key h (treeIn k b h) x (linksOf b)
-      ≡ clearLinks noPage p (relink path (taken (fileSize b)) fullRun (linksOf b))
+      → relinked bytesOrder noPage (newOffset (fileSize b)) (capacity k) key h (treeIn k b h) x (linksOf b)
+      ≡ clearLinks noPage p (relink path (newOffset (fileSize b)) fullRun (linksOf b))
   relinked-split x p e f = rw (ne-eqb (x .0) h (λ q. omega arith))
-      (ap (λ (y : ℕ). clearLinks noPage y (relink path (taken (fileSize b)) fullRun (linksOf b))) f)
+      (ap (λ (y : ℕ). clearLinks noPage y (relink path (newOffset (fileSize b)) fullRun (linksOf b))) f)
 
   -- what the heads of the pages are, where the root stays and where it rises
   pub data Rising : Type 0 where
     stays : grownBy k h b key r .0 ≡ h → grownBy k h b key r .1 .0 ≡ rootOffset b → fullRun ≤ h
-        → ((z : ℕ) → isPage (length b) z ≡ true → attributeAt (insertedBuffer k b key r) z ≡ unrooted path (taken (fileSize b)) fullRun
+        → ((z : ℕ) → isPage (length b) z ≡ true → attributeAt (insertedBuffer k b key r) z ≡ unrooted path (newOffset (fileSize b)) fullRun
         (attributeAt b) z) → Rising
-    rises : grownBy k h b key r .0 ≡ suc h → grownBy k h b key r .1 .0 ≡ taken (fileSize b) (suc h) → fullRun ≡ suc h
+    rises : grownBy k h b key r .0 ≡ suc h → grownBy k h b key r .1 .0 ≡ newOffset (fileSize b) (suc h) → fullRun ≡ suc h
         → ((z : ℕ) → isPage (length b) z ≡ true
         → attributeAt (insertedBuffer k b key r) z
-        ≡ cond (eqb z (taken (fileSize b) (suc h))) 1 (unrooted path (taken (fileSize b)) (suc h) (attributeAt b) z)) → Rising
+        ≡ cond (eqb z (newOffset (fileSize b) (suc h))) 1 (unrooted path (newOffset (fileSize b)) (suc h) (attributeAt b) z)) → Rising
 
   -- the heads of the pages after the insertion
   pub record HeadsIn : Type 0 where
@@ -313,7 +313,7 @@ module _ (k h : ℕ) (b key : List ℕ) (r : ℕ) (ready : Ready k h b key r) wh
         (rightAt (insertedBuffer k b key r) z ≡ linksAfter .right z)
     pub rising : Rising
     pub counts : (z : ℕ) → isPage (length b) z ≡ true → countAt b z ≤ capacity k → countAt (insertedBuffer k b key r) z ≤ capacity k
-    pub newCounts : (j : ℕ) → j < grownBy k h b key r .2 → countAt (insertedBuffer k b key r) (taken (fileSize b) j) ≤ capacity k
+    pub newCounts : (j : ℕ) → j < grownBy k h b key r .2 → countAt (insertedBuffer k b key r) (newOffset (fileSize b) j) ≤ capacity k
     pub plain : Plain (insertedBuffer k b key r)
 
   run-short : grownBy k h b key r .0 ≡ h → fullRun ≤ h
@@ -322,7 +322,7 @@ module _ (k h : ℕ) (b key : List ℕ) (r : ℕ) (ready : Ready k h b key r) wh
       (λ q. omega (
         arith,
         eqb-false fullRun (suc h) q,
-        root-splits bytesOrder (capacity k) (taken (fileSize b)) key r h key (treeIn k b h) (omega (arith, ready .offered .two)) (ready .sized) .most,
+        root-splits bytesOrder (capacity k) (newOffset (fileSize b)) key r h key (treeIn k b h) (omega (arith, ready .offered .two)) (ready .sized) .most,
       ))
 
   -- Theorem: they are the theory's
@@ -342,8 +342,8 @@ module _ (k h : ℕ) (b key : List ℕ) (r : ℕ) (ready : Ready k h b key r) wh
           let x : Numbers (c .0) h (rootOffset b) = numbers-kept n (c .0) t (c .1) in
           let short = run-short (x .heightIs) in
           let few : grownBy k h b key r .2 ≡ fullRun = rw (ne-eqb fullRun (suc h) (λ q. omega arith)) at (needed .0) in
-          let f : linksAfter ≡ relink path (taken (fileSize b)) (c .0) (linksOf b) =
-          relinked-kept (grownBy k h b key r) (x .heightIs) ∙ ap (λ (m : ℕ). relink path (taken (fileSize b)) m (linksOf b)) (x .splits) in
+          let f : linksAfter ≡ relink path (newOffset (fileSize b)) (c .0) (linksOf b) =
+          relinked-kept (grownBy k h b key r) (x .heightIs) ∙ ap (λ (m : ℕ). relink path (newOffset (fileSize b)) m (linksOf b)) (x .splits) in
           let v = c .2 in
           record {
             links = λ z p. (
@@ -351,11 +351,11 @@ module _ (k h : ℕ) (b key : List ℕ) (r : ℕ) (ready : Ready k h b key r) wh
               e .rights z (there z p) ∙ v .rights z p ∙ ap (λ (l : Links). l .right z) (sym f),
             );
             rising = stays (x .heightIs) (x .rootIs) short
-                (λ z p. e .attributes z (there z p) ∙ v .attributes z p ∙ ap (λ (m : ℕ). unrooted path (taken (fileSize b)) m (attributeAt b) z)
+                (λ z p. e .attributes z (there z p) ∙ v .attributes z p ∙ ap (λ (m : ℕ). unrooted path (newOffset (fileSize b)) m (attributeAt b) z)
                 (sym (x .splits)));
             counts = λ z p u. rw (e .counts z (there z p)) (v .counts z p u);
             newCounts = λ j l.
-                let N : ℕ = taken (fileSize b) j in
+                let N : ℕ = newOffset (fileSize b) j in
                 let u = v .newCounts j (omega (arith, x .splits)) in
                 rw (e .counts N (there N (u .0))) (u .1);
             plain = λ z p. let q = page-of z (sym length-after) p in rw (e .attributes z (there z q), e .rights z (there z q)) (v .plain z q);
@@ -363,11 +363,11 @@ module _ (k h : ℕ) (b key : List ℕ) (r : ℕ) (ready : Ready k h b key r) wh
       go (split q) t c e =
           let two = ready .offered .two in
           let x : Numbers (suc h) (suc h) (q + pageSize) = numbers-split q t in
-          let top : q + pageSize ≡ taken (fileSize b) (suc h) = omega (arith, c .0) in
+          let top : q + pageSize ≡ newOffset (fileSize b) (suc h) = omega (arith, c .0) in
           let few : grownBy k h b key r .2 ≡ suc fullRun = rw (eq-eqb fullRun (suc h) (x .splits)) at (needed .0) in
-          let f : linksAfter ≡ clearLinks noPage (q + pageSize) (relink path (taken (fileSize b)) (suc h) (linksOf b)) =
+          let f : linksAfter ≡ clearLinks noPage (q + pageSize) (relink path (newOffset (fileSize b)) (suc h) (linksOf b)) =
           relinked-split (grownBy k h b key r) (q + pageSize) (x .heightIs) (x .rootIs)
-          ∙ ap (λ (m : ℕ). clearLinks noPage (q + pageSize) (relink path (taken (fileSize b)) m (linksOf b))) (x .splits) in
+          ∙ ap (λ (m : ℕ). clearLinks noPage (q + pageSize) (relink path (newOffset (fileSize b)) m (linksOf b))) (x .splits) in
           let v = c .1 in
           let low : (z : ℕ) → isPage (length b) z ≡ true → countAt (s .after) z ≤ capacity k → countAt b″ z ≤ capacity k =
           λ z p u. rw (e .counts z (there z p)) (one-of (λ m. m ≤ capacity k) (eqb z (q + pageSize)) 2 (countAt (s .after) z) two u) in
@@ -378,14 +378,14 @@ module _ (k h : ℕ) (b key : List ℕ) (r : ℕ) (ready : Ready k h b key r) wh
             );
             rising = rises (x .heightIs) (x .rootIs ∙ top) (x .splits)
                 (λ z p. e .attributes z (there z p) ∙ ap (cond (eqb z (q + pageSize)) 1) (v .attributes z p)
-                ∙ ap (λ (y : ℕ). cond (eqb z y) 1 (unrooted path (taken (fileSize b)) (suc h) (attributeAt b) z)) top);
+                ∙ ap (λ (y : ℕ). cond (eqb z y) 1 (unrooted path (newOffset (fileSize b)) (suc h) (attributeAt b) z)) top);
             counts = λ z p u. low z p (v .counts z p u);
             newCounts = λ j l. either (eqb j (suc h))
                 (λ y. let same : j ≡ suc h = eqb-true j (suc h) y in
-                let N : ℕ = taken (fileSize b) (suc h) in
+                let N : ℕ = newOffset (fileSize b) (suc h) in
                 let page : isPage (length b) N ≡ true = rw (← top) (new-root (split q) t) in
                 rw (same, e .counts N (there N page), eq-eqb N (q + pageSize) (sym top)) two)
-                (λ y. let u = v .newCounts j (omega (arith, x .splits, eqb-false j (suc h) y)) in low (taken (fileSize b) j) (u .0) (u .1));
+                (λ y. let u = v .newCounts j (omega (arith, x .splits, eqb-false j (suc h) y)) in low (newOffset (fileSize b) j) (u .0) (u .1));
             plain = λ z p. let w = page-of z (sym length-after) p in (
               rw (e .attributes z (there z w)) (one-of (λ m. m < 2 ^ 16) (eqb z (q + pageSize)) 1 (attributeAt (s .after) z) (omega arith) (v .plain z w .0)),
               rw (e .rights z (there z w)) (one-of (λ m. m < 2 ^ 32) (eqb z (q + pageSize)) noPage (rightAt (s .after) z) (omega arith) (v .plain z w .1)),

@@ -13,7 +13,7 @@ use Rattle.basis.specs.Tests.{either}
 use Rattle.octets.specs.Bytes.{be32, toLe32, toBe32}
 use Rattle.octets.specs.Store.{put}
 use Rattle.octets.specs.NumberLaws.{length-toLe32, length-toBe32, be32-toBe32}
-use Rattle.tree.specs.Index.{newPage as taken}
+use Rattle.tree.specs.Index.{newOffset}
 use Rattle.tree.specs.InsertNeeds.{choose-all}
 use Rattle.tree.specs.InsertPages.{newPages-apart}
 use Rattle.tree.specs.ListLaws.{nonEmpty-length, occ-here, take-map, drop-map, occ-not-head}
@@ -47,8 +47,8 @@ Usable b p = (isPage (length b) p ≡ true) × (p < 2 ^ 32)
 
 -- what an outcome says of the theory's replacement for the page at p, with the key a above it
 abbrev pub OutcomeIs : ℕ → List ℕ → ℕ → Outcome → StoreReplacement (List ℕ) → Type 0
-OutcomeIs F a p (kept n) w = (n ≡ taken F (w .1)) × (w .0 ≡ (a, p) ∷ [])
-OutcomeIs F a p (split q) w = (q + pageSize ≡ taken F (w .1)) × (w .0 ≡ (lastKey a (w .2 p), p) ∷ (a, q) ∷ []) × NonEmpty (w .2 p) × (q < 2 ^ 32)
+OutcomeIs F a p (kept n) w = (n ≡ newOffset F (w .1)) × (w .0 ≡ (a, p) ∷ [])
+OutcomeIs F a p (split q) w = (q + pageSize ≡ newOffset F (w .1)) × (w .0 ≡ (lastKey a (w .2 p), p) ∷ (a, q) ∷ []) × NonEmpty (w .2 p) × (q < 2 ^ 32)
 OutcomeIs F a p bad w = ⊥
 
 -- a step leaves the entries that the theory's has, in a buffer as long as before, and tells so
@@ -67,7 +67,7 @@ items-some k b p y ys e = nonEmpty-numbered (itemsIn k b p) (rw e tt)
 
 -- a leaf, in the theory's words
 among-leaf : (key : List ℕ) (r : ℕ) (S : Store (List ℕ)) (cap F : ℕ) (es : List (List ℕ × ℕ))
-    → storeInsertAmong bytesOrder key r zero (λ c. storeInsertUnder bytesOrder cap (taken F) key r zero c 0 S) es 0 S ≡ (insertPair bytesOrder key r es, 0, S)
+    → storeInsertAmong bytesOrder key r zero (λ c. storeInsertUnder bytesOrder cap (newOffset F) key r zero c 0 S) es 0 S ≡ (insertPair bytesOrder key r es, 0, S)
 among-leaf key r S cap F [] = refl
 among-leaf key r S cap F (x ∷ xs) =
     ap (λ (l : List (List ℕ × ℕ)). (l, 0, S)) (insertPair-place key r (insertPair bytesOrder key r (choose bytesOrder key x xs ∷ [])) 0 0 x xs refl)
@@ -75,10 +75,10 @@ among-leaf key r S cap F (x ∷ xs) =
 module _ (k : ℕ) (two : 1 < capacity k) (F : ℕ) where
   -- a page that gets its entries, after m new pages
   take-in-is : (b : List ℕ) (p : ℕ) (a : List ℕ) (es : List Item) (m n : ℕ) → isPage (length b) p ≡ true → All (Fit k) es
-      → length es ≤ suc (capacity k) → n ≡ taken F m
-      → (p ≡ taken F m → ⊥)
-      → ((j : ℕ) → j < storeSplitIfOver (capacity k) (taken F) a p (map numbered es, m, entriesIn k b) .1 → Usable b (taken F j))
-      → StepIs k F (length b) a p (takeIn k b p es n) (storeSplitIfOver (capacity k) (taken F) a p (map numbered es, m, entriesIn k b))
+      → length es ≤ suc (capacity k) → n ≡ newOffset F m
+      → (p ≡ newOffset F m → ⊥)
+      → ((j : ℕ) → j < storeSplitIfOver (capacity k) (newOffset F) a p (map numbered es, m, entriesIn k b) .1 → Usable b (newOffset F j))
+      → StepIs k F (length b) a p (takeIn k b p es n) (storeSplitIfOver (capacity k) (newOffset F) a p (map numbered es, m, entriesIn k b))
   unfolding takeIn
   take-in-is b p a es m n tp f few en ne room = either (leb (length es) (capacity k))
       (λ e. rw (length-map es numbered, e) (record {
@@ -87,7 +87,7 @@ module _ (k : ℕ) (two : 1 < capacity k) (F : ℕ) where
         told = (en, refl);
       }))
       (λ e.
-      let rooms : (j : ℕ) → j < suc m → Usable b (taken F j) = rw (length-map es numbered, e) at room in
+      let rooms : (j : ℕ) → j < suc m → Usable b (newOffset F j) = rw (length-map es numbered, e) at room in
       let tq : Usable b n = rw en (rooms m (omega arith)) in
       let h = half (length es) in
       let over : capacity k < length es = leb-false (length es) (capacity k) e in
@@ -120,12 +120,12 @@ module _ (k : ℕ) (two : 1 < capacity k) (F : ℕ) where
     AfterChild b b′ p a v o [] = Unit {0}
     AfterChild b b′ p a v o (z ∷ zs) =
         OutcomeIs F (larger bytesOrder (choose bytesOrder key z zs .0) key) (choose bytesOrder key z zs .1) o v
-        → ((j : ℕ) → j < storeSplitIfOver (capacity k) (taken F) a p (storePlace bytesOrder key z zs v) .1 → Usable b (taken F j))
+        → ((j : ℕ) → j < storeSplitIfOver (capacity k) (newOffset F) a p (storePlace bytesOrder key z zs v) .1 → Usable b (newOffset F j))
         → StepIs k F (length b) a p (afterChild k b′ key p (choose bytesOrder key z zs .1) o)
-        (storeSplitIfOver (capacity k) (taken F) a p (storePlace bytesOrder key z zs v))
+        (storeSplitIfOver (capacity k) (newOffset F) a p (storePlace bytesOrder key z zs v))
 
     after-child-items : (b b′ : List ℕ) (p : ℕ) (a : List ℕ) (y : Item) (ys : List Item) (v : StoreReplacement (List ℕ)) (o : Outcome) → length b′ ≡ length b
-        → isPage (length b) p ≡ true → entriesIn k b′ ≡ v .2 → itemsIn k b′ p ≡ y ∷ ys → (p ≡ taken F (v .1) → ⊥)
+        → isPage (length b) p ≡ true → entriesIn k b′ ≡ v .2 → itemsIn k b′ p ≡ y ∷ ys → (p ≡ newOffset F (v .1) → ⊥)
         → AfterChild b b′ p a v o (map numbered (y ∷ ys))
     after-child-items b b′ p a y ys v bad lb tp sv sp ne t room = absurd t
     after-child-items b b′ p a y ys v (kept n) lb tp sv sp ne t room =
@@ -157,16 +157,16 @@ module _ (k : ℕ) (two : 1 < capacity k) (F : ℕ) where
         let le : length es ≡ 1 + length (y ∷ ys) = replaced-length key (twoFor k b′ key c q) 1 (λ e. refl) (y ∷ ys) tt in
         rw sp
         (subst (λ (w : StoreReplacement (List ℕ)). StepIs k F (length b) a p (takeIn k b′ p es (q + pageSize))
-        (storeSplitIfOver (capacity k) (taken F) a p w)) ew
+        (storeSplitIfOver (capacity k) (newOffset F) a p w)) ew
         (subst (λ (n : ℕ). StepIs k F n a p (takeIn k b′ p es (q + pageSize))
-        (storeSplitIfOver (capacity k) (taken F) a p (map numbered es, v .1, entriesIn k b′))) lb
+        (storeSplitIfOver (capacity k) (newOffset F) a p (map numbered es, v .1, entriesIn k b′))) lb
         (take-in-is b′ p a es (v .1) (q + pageSize) (page-of p lb tp) (two-fit b′ c q (y ∷ ys) fit) (omega arith) (t .0) ne
-        (λ j h. let u = room j (subst (λ (w : StoreReplacement (List ℕ)). j < storeSplitIfOver (capacity k) (taken F) a p w .1) ew h) in
-        (page-of (taken F j) lb (u .0), u .1)))))
+        (λ j h. let u = room j (subst (λ (w : StoreReplacement (List ℕ)). j < storeSplitIfOver (capacity k) (newOffset F) a p w .1) ew h) in
+        (page-of (newOffset F j) lb (u .0), u .1)))))
 
     -- the child's step leaves the page's entries with their numbers
     after-child-is : (b b′ : List ℕ) (p : ℕ) (a : List ℕ) (es : List (List ℕ × ℕ)) (v : StoreReplacement (List ℕ)) (o : Outcome) → length b′ ≡ length b
-        → isPage (length b) p ≡ true → entriesIn k b′ ≡ v .2 → entriesIn k b′ p ≡ es → (p ≡ taken F (v .1) → ⊥) → AfterChild b b′ p a v o es
+        → isPage (length b) p ≡ true → entriesIn k b′ ≡ v .2 → entriesIn k b′ p ≡ es → (p ≡ newOffset F (v .1) → ⊥) → AfterChild b b′ p a v o es
     after-child-is b b′ p a es v o lb tp sv sp ne = go (itemsIn k b′ p) refl
       where
         go : (is : List Item) → itemsIn k b′ p ≡ is → AfterChild b b′ p a v o es
@@ -190,7 +190,7 @@ child-shaped k h key b p y ys e f =
     (subst (λ (l : List Item). All (λ c. Shaped k h b (c .1)) (map numbered l)) e f))
 
 -- a page that is split takes one new page
-split-more : (cap F : ℕ) (a : List ℕ) (p : ℕ) (w : StoreReplacement (List ℕ)) → w .1 ≤ storeSplitIfOver cap (taken F) a p w .1
+split-more : (cap F : ℕ) (a : List ℕ) (p : ℕ) (w : StoreReplacement (List ℕ)) → w .1 ≤ storeSplitIfOver cap (newOffset F) a p w .1
 split-more cap F a p w = either (leb (length (w .0)) cap) (λ e. rw e (omega arith)) (λ e. rw e (omega arith))
 
 -- an insertion of a key of k bytes with a record number of four
@@ -202,20 +202,20 @@ pub record Offered (k : ℕ) (key : List ℕ) (r : ℕ) : Type 0 where
 module _ (k F : ℕ) (key : List ℕ) (r : ℕ) (b : List ℕ) where
   -- the theory's insertion under an entry, and its replacement for the page at p, which has h levels under it and the key a above it
   abbrev pub under : (h : ℕ) → List ℕ × ℕ → StoreReplacement (List ℕ)
-  under h e = storeInsertUnder bytesOrder (capacity k) (taken F) key r h e 0 (entriesIn k b)
+  under h e = storeInsertUnder bytesOrder (capacity k) (newOffset F) key r h e 0 (entriesIn k b)
 
   abbrev pub replacement : (h : ℕ) → List ℕ → ℕ → StoreReplacement (List ℕ)
-  replacement h a p = storeSplitIfOver (capacity k) (taken F) a p (storeInsertAmong bytesOrder key r h (under h) (entriesIn k b p) 0 (entriesIn k b))
+  replacement h a p = storeSplitIfOver (capacity k) (newOffset F) a p (storeInsertAmong bytesOrder key r h (under h) (entriesIn k b p) 0 (entriesIn k b))
 
   -- insertion's step at that page, with so many levels left, is the theory's
   abbrev pub Inserts : ℕ → ℕ → List ℕ → ℕ → Type 0
   Inserts h left a p = StepIs k F (length b) a p (insertUnder k left b key r p F) (replacement h a p)
 
-  -- each page there is reached once, the new pages are none of them, and those that are taken are pages of the buffer
+  -- each page there is reached once, the new pages are none of them, and those that are newOffset are pages of the buffer
   abbrev pub Free : (h : ℕ) → List ℕ → ℕ → Type 0
   Free h a p = ((z : ℕ) → occ z (pages h (readTree (entriesIn k b) h p)) ≤ 1)
-      × ((i : ℕ) → occ (taken F i) (pages h (readTree (entriesIn k b) h p)) ≡ 0)
-      × ((j : ℕ) → j < replacement h a p .1 → Usable b (taken F j))
+      × ((i : ℕ) → occ (newOffset F i) (pages h (readTree (entriesIn k b) h p)) ≡ 0)
+      × ((j : ℕ) → j < replacement h a p .1 → Usable b (newOffset F j))
 
   -- its step at a page above with the entries es
   abbrev pub UpperIs : ℕ → (h : ℕ) → List ℕ → ℕ → List Item → Type 0
@@ -225,7 +225,7 @@ module _ (k F : ℕ) (key : List ℕ) (r : ℕ) (b : List ℕ) where
       StepIs k F (length b) a p (afterChild k (d .after) key p c (d .outcome)) (replacement (suc h) a p)
 
   module _ (o : Offered k key r) where
-    leaf-is : (p : ℕ) (a : List ℕ) → isPage (length b) p ≡ true → (p ≡ taken F 0 → ⊥) → ((j : ℕ) → j < replacement zero a p .1 → Usable b (taken F j))
+    leaf-is : (p : ℕ) (a : List ℕ) → isPage (length b) p ≡ true → (p ≡ newOffset F 0 → ⊥) → ((j : ℕ) → j < replacement zero a p .1 → Usable b (newOffset F j))
         → StepIs k F (length b) a p (takeIn k b p (insertPair bytesOrder key (toBe32 r) (itemsIn k b p)) F) (replacement zero a p)
     leaf-is p a tp ne room =
         let es : List Item = insertPair bytesOrder key (toBe32 r) (itemsIn k b p) in
@@ -234,11 +234,11 @@ module _ (k F : ℕ) (key : List ℕ) (r : ℕ) (b : List ℕ) where
         let ew : _≡_ {A = StoreReplacement (List ℕ)} (map numbered es, 0, entriesIn k b)
         (storeInsertAmong bytesOrder key r zero (under zero) (entriesIn k b p) 0 (entriesIn k b)) =
         ap (λ (l : List (List ℕ × ℕ)). (l, 0, entriesIn k b)) en ∙ sym (among-leaf key r (entriesIn k b) (capacity k) F (entriesIn k b p)) in
-        subst (λ (w : StoreReplacement (List ℕ)). StepIs k F (length b) a p (takeIn k b p es F) (storeSplitIfOver (capacity k) (taken F) a p w)) ew
+        subst (λ (w : StoreReplacement (List ℕ)). StepIs k F (length b) a p (takeIn k b p es F) (storeSplitIfOver (capacity k) (newOffset F) a p w)) ew
         (take-in-is k (o .two) F b p a es 0 F tp
         (insertPair-all bytesOrder (Fit k) key (toBe32 r) (itemsIn k b p) (o .long, length-toBe32 r) (items-in-fit k b p))
         (omega (arith, items-few k b p, insertPair-length key (toBe32 r) (itemsIn k b p))) (omega arith) ne
-        (λ j h. room j (subst (λ (w : StoreReplacement (List ℕ)). j < storeSplitIfOver (capacity k) (taken F) a p w .1) ew h)))
+        (λ j h. room j (subst (λ (w : StoreReplacement (List ℕ)). j < storeSplitIfOver (capacity k) (newOffset F) a p w .1) ew h)))
 
     -- the child that the key leads to, under a page with the entries y ∷ ys
     module _ (h p : ℕ) (a : List ℕ) (y : Item) (ys : List Item) (ee : itemsIn k b p ≡ y ∷ ys) (u : Free (suc h) a p) where
@@ -265,14 +265,14 @@ module _ (k F : ℕ) (key : List ℕ) (r : ℕ) (b : List ℕ) where
           (concatMap (pagesUnder (suc h)) (map (readEntry (entriesIn k b) (suc h)) (numbered y ∷ map numbered ys)))) (choose-numbered key y ys)
           (choose-occ bytesOrder (entriesIn k b) (suc h) key z (numbered y) (map numbered ys)))
 
-      child-room : (j : ℕ) → j < storeSplitIfOver (capacity k) (taken F) a p
-          (storePlace bytesOrder key (numbered y) (map numbered ys) (under (suc h) (numbered child))) .1 → Usable b (taken F j)
-      child-room j l = u .2 j (subst (λ (w : StoreReplacement (List ℕ)). j < storeSplitIfOver (capacity k) (taken F) a p w .1) child-among l)
+      child-room : (j : ℕ) → j < storeSplitIfOver (capacity k) (newOffset F) a p
+          (storePlace bytesOrder key (numbered y) (map numbered ys) (under (suc h) (numbered child))) .1 → Usable b (newOffset F j)
+      child-room j l = u .2 j (subst (λ (w : StoreReplacement (List ℕ)). j < storeSplitIfOver (capacity k) (newOffset F) a p w .1) child-among l)
 
       pub child-free : Free h (larger bytesOrder (child .0) key) (childOf child)
       child-free =
           let more = split-more (capacity k) F a p (storePlace bytesOrder key (numbered y) (map numbered ys) (under (suc h) (numbered child))) in
-          ((λ z. omega (arith, u .0 z, child-occ z)), (λ i. omega (arith, u .1 i, child-occ (taken F i))), (λ j l. child-room j (omega arith)))
+          ((λ z. omega (arith, u .0 z, child-occ z)), (λ i. omega (arith, u .1 i, child-occ (newOffset F i))), (λ j l. child-room j (omega arith)))
 
       -- the page itself keeps its entries meanwhile
       pub child-rest : (left : ℕ) → Inserts h left (larger bytesOrder (child .0) key) (childOf child)
@@ -280,9 +280,9 @@ module _ (k F : ℕ) (key : List ℕ) (r : ℕ) (b : List ℕ) where
       child-rest left w =
           let v : StoreReplacement (List ℕ) = under (suc h) (numbered child) in
           let rest : v .2 p ≡ entriesIn k b p =
-          storeInsertUnder-refines bytesOrder (capacity k) (taken F) (λ i j e. omega arith) key r (suc h) 0 (entriesIn k b) (numbered child)
+          storeInsertUnder-refines bytesOrder (capacity k) (newOffset F) (λ i j e. omega arith) key r (suc h) 0 (entriesIn k b) (numbered child)
           (child-free .0) (child-free .1) .rest p
-          (omega (arith, u .0 p, child-occ p, ap countIf (eq-eqb p p refl))) (newPages-apart (taken F) (p ∷ below) (u .1) p (v .1) (occ-here p below)) in
+          (omega (arith, u .0 p, child-occ p, ap countIf (eq-eqb p p refl))) (newPages-apart (newOffset F) (p ∷ below) (u .1) p (v .1) (occ-here p below)) in
           ap (λ (T : Store (List ℕ)). T p) (w .entries) ∙ (rest ∙ es)
 
       -- the page at p, given the child's step
@@ -293,9 +293,9 @@ module _ (k F : ℕ) (key : List ℕ) (r : ℕ) (b : List ℕ) where
           let d : Step = insertUnder k left b key r (childOf child) F in
           let same = choose-numbered key y ys in
           let step-is = after-child-is k (o .two) F key (o .long) b (d .after) p a (map numbered (y ∷ ys)) v (d .outcome) (w .as-long) tp (w .entries)
-          (child-rest left w) (λ q. occ-not-head (taken F (v .1)) p below (u .1 (v .1)) (sym q)) in
+          (child-rest left w) (λ q. occ-not-head (newOffset F (v .1)) p below (u .1 (v .1)) (sym q)) in
           subst (λ (t : StoreReplacement (List ℕ)). StepIs k F (length b) a p (afterChild k (d .after) key p (childOf child) (d .outcome))
-          (storeSplitIfOver (capacity k) (taken F) a p t)) child-among
+          (storeSplitIfOver (capacity k) (newOffset F) a p t)) child-among
           (rw same at (step-is (rw same (w .told)) child-room))
 
     -- Theorem: insertion's step at the page at p, with h levels under it, is the theory's
@@ -305,7 +305,7 @@ module _ (k F : ℕ) (key : List ℕ) (r : ℕ) (b : List ℕ) where
     inserts (suc h) zero p a l f u = absurd (omega arith)
     inserts zero (suc left) p a l f u =
         rw (f .0 .0, f .1) (leaf-is p a (f .0 .0)
-        (λ q. occ-not-head (taken F 0) p (concatMap (pagesUnder zero) (map (readEntry (entriesIn k b) zero) (entriesIn k b p))) (u .1 0) (sym q)) (u .2))
+        (λ q. occ-not-head (newOffset F 0) p (concatMap (pagesUnder zero) (map (readEntry (entriesIn k b) zero) (entriesIn k b p))) (u .1 0) (sym q)) (u .2))
     inserts (suc h) (suc left) p a l f u = go (λ c y g. inserts h left c y (omega arith) g) (itemsIn k b p) refl
       where
         go : ((c : ℕ) (y : List ℕ) → Shaped k h b c → Free h y c → Inserts h left y c) → (es : List Item) → itemsIn k b p ≡ es → Inserts (suc h) (suc left) a p
@@ -330,7 +330,7 @@ sizeAfter bad = 0
 pub record RootIs (k F : ℕ) (b : List ℕ) (root size : ℕ) (g : StoreGrown (List ℕ)) : Type 0 where
   pub entries : entriesIn k b ≡ g .3
   pub root-is : root ≡ g .1
-  pub size-is : size ≡ taken F (g .2)
+  pub size-is : size ≡ newOffset F (g .2)
 
 module _ (k F : ℕ) (key : List ℕ) (r : ℕ) (b : List ℕ) (o : Offered k key r) where
   -- the root's own last key stands for the key above it
@@ -339,34 +339,34 @@ module _ (k F : ℕ) (key : List ℕ) (r : ℕ) (b : List ℕ) (o : Offered k ke
 
   -- the upper half of a root that was split ends as the whole did
   pub record UpperHalf (w : StoreReplacement (List ℕ)) (p q : ℕ) : Type 0 where
-    pub upper : storeSplitIfOver (capacity k) (taken F) (lastKey key (w .0)) p w .2 q ≡ drop (half (length (w .0))) (w .0)
+    pub upper : storeSplitIfOver (capacity k) (newOffset F) (lastKey key (w .0)) p w .2 q ≡ drop (half (length (w .0))) (w .0)
     pub some : NonEmpty (drop (half (length (w .0))) (w .0))
     pub last : lastKey key (drop (half (length (w .0))) (w .0)) ≡ lastKey key (w .0)
 
-  upper-half : (w : StoreReplacement (List ℕ)) (p q : ℕ) → capacity k < length (w .0) → q ≡ taken F (w .1) → UpperHalf w p q
+  upper-half : (w : StoreReplacement (List ℕ)) (p q : ℕ) → capacity k < length (w .0) → q ≡ newOffset F (w .1) → UpperHalf w p q
   upper-half w p q l e =
       let two = o .two in
       let m = half (length (w .0)) in
       let s : NonEmpty (drop m (w .0)) = nonEmpty-length (drop m (w .0)) (simp length-drop (omega arith)) in
       record {
-        upper = rw (lt-leb (length (w .0)) (capacity k) l, e) (write-here (write (w .2) p (take m (w .0))) (taken F (w .1)) (drop m (w .0)));
+        upper = rw (lt-leb (length (w .0)) (capacity k) l, e) (write-here (write (w .2) p (take m (w .0))) (newOffset F (w .1)) (drop m (w .0)));
         some = s;
         last = lastKey-default key (lastKey key (take m (w .0))) (drop m (w .0)) s ∙ sym (lastKey-append key (take m (w .0)) (drop m (w .0)))
             ∙ ap (lastKey key) (take-append-drop m (w .0));
       }
 
   -- where two entries stand for the page, it was split
-  split-case : (a : List ℕ) (p : ℕ) (w : StoreReplacement (List ℕ)) (x y : List ℕ × ℕ) → storeSplitIfOver (capacity k) (taken F) a p w .0 ≡ x ∷ y ∷ []
-      → (capacity k < length (w .0)) × (storeSplitIfOver (capacity k) (taken F) a p w .1 ≡ suc (w .1))
+  split-case : (a : List ℕ) (p : ℕ) (w : StoreReplacement (List ℕ)) (x y : List ℕ × ℕ) → storeSplitIfOver (capacity k) (newOffset F) a p w .0 ≡ x ∷ y ∷ []
+      → (capacity k < length (w .0)) × (storeSplitIfOver (capacity k) (newOffset F) a p w .1 ≡ suc (w .1))
   split-case a p w x y e = either (leb (length (w .0)) (capacity k))
       (λ u. let z : _≡_ {A = List (List ℕ × ℕ)} ((a, p) ∷ []) (x ∷ y ∷ []) = rw u at e in let n : _≡_ {A = ℕ} 1 2 = ap length z in absurd (omega arith))
       (λ u. (leb-false (length (w .0)) (capacity k) u, rw u))
 
   -- Theorem: the buffer with its root is the theory's
   pub root-inserts : (h p : ℕ) (s : Step) → Usable b p → StepIs k F (length b) (topKey h p) p s (replacement k F key r b h (topKey h p) p)
-      → ((j : ℕ) → j < storeInsert bytesOrder (capacity k) (taken F) key r h p (entriesIn k b) .2 → Usable b (taken F j))
+      → ((j : ℕ) → j < storeInsert bytesOrder (capacity k) (newOffset F) key r h p (entriesIn k b) .2 → Usable b (newOffset F j))
       → RootIs k F (atRoot k (s .after) key p (s .outcome)) (rootAfter p (s .outcome)) (sizeAfter (s .outcome))
-      (storeInsert bytesOrder (capacity k) (taken F) key r h p (entriesIn k b))
+      (storeInsert bytesOrder (capacity k) (newOffset F) key r h p (entriesIn k b))
   root-inserts h p s tp w room = go (s .outcome) (w .told)
     where
       a : List ℕ
@@ -376,7 +376,7 @@ module _ (k F : ℕ) (key : List ℕ) (r : ℕ) (b : List ℕ) (o : Offered k ke
       W = replacement k F key r b h (topKey h p) p
 
       go : (out : Outcome) → OutcomeIs F a p out W → RootIs k F (atRoot k (s .after) key p out) (rootAfter p out) (sizeAfter out)
-          (storeInsert bytesOrder (capacity k) (taken F) key r h p (entriesIn k b))
+          (storeInsert bytesOrder (capacity k) (newOffset F) key r h p (entriesIn k b))
       go bad t = absurd t
       go (kept n) t = rw (t .1) (record {
         entries = entries-header k (s .after) 8 (toLe32 n) (omega (arith, length-toLe32 n)) ∙ w .entries;
@@ -389,7 +389,7 @@ module _ (k F : ℕ) (key : List ℕ) (r : ℕ) (b : List ℕ) (o : Offered k ke
           let v : StoreReplacement (List ℕ) = storeInsertAmong bytesOrder key r h (under k F key r b h) (entriesIn k b p) 0 (entriesIn k b) in
           let c = split-case a p v (lastKey a (W .2 p), p) (a, q) (t .1) in
           let half-is = upper-half v p q (c .0) (omega (arith, t .0, c .1)) in
-          let rooms : (j : ℕ) → j < suc (W .1) → Usable b (taken F j) = rw (t .1) at room in
+          let rooms : (j : ℕ) → j < suc (W .1) → Usable b (newOffset F j) = rw (t .1) at room in
           let tn : isPage (length b′) top ≡ true = page-of top (w .as-long) (rw (t .0) (rooms (W .1) (omega arith) .0)) in
           let es : List Item = (lastKey key (itemsIn k b′ p), toBe32 p) ∷ (lastKey key (itemsIn k b′ q), toBe32 q) ∷ [] in
           let b1 : List ℕ = newPage b′ top 1 noPage noPage es in
@@ -406,7 +406,7 @@ module _ (k F : ℕ) (key : List ℕ) (r : ℕ) (b : List ℕ) (o : Offered k ke
           let q32 : be32 (toBe32 q) 0 ≡ q = be32-toBe32 q (t .3) in
           let em : map numbered es ≡ (lastKey a (W .2 p), p) ∷ (a, q) ∷ [] = λ i. (e1 i, p32 i) ∷ (e2 i, q32 i) ∷ [] in
           let s1 : entriesIn k b1 ≡ write (entriesIn k b′) top (map numbered es) = entries-new k b′ top 1 noPage noPage es tn fit (omega (arith, o .two)) in
-          let s2 : write (entriesIn k b′) top (map numbered es) ≡ write (W .2) (taken F (W .1)) ((lastKey a (W .2 p), p) ∷ (a, q) ∷ []) =
+          let s2 : write (entriesIn k b′) top (map numbered es) ≡ write (W .2) (newOffset F (W .1)) ((lastKey a (W .2 p), p) ∷ (a, q) ∷ []) =
           λ i. write (w .entries i) (t .0 i) (em i) in
           let s3 = entries-header k b2 8 (toLe32 (top + pageSize)) (omega (arith, length-toLe32 (top + pageSize)))
           ∙ entries-header k b1 0 (toLe32 top) (omega (arith, length-toLe32 top)) in

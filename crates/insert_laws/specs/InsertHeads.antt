@@ -12,7 +12,7 @@ use Rattle.basis.specs.Lists.{All}
 use Rattle.basis.specs.Tests.{either}
 use Rattle.octets.specs.Bytes.{toBe32}
 use Rattle.octets.specs.NumberLaws.{length-toBe32, le16-small, le32-small}
-use Rattle.tree.specs.Index.{newPage as taken}
+use Rattle.tree.specs.Index.{newOffset}
 use Rattle.tree.specs.ListLaws.{occ-not-head}
 use Rattle.tree.specs.Lists.{NonEmpty, concatMap, half}
 use Rattle.tree.specs.Order.{larger}
@@ -56,12 +56,12 @@ unrooted path name (suc m) A z =
 
 -- what m splits along a path, from the leaf up, and no other change of heads, make of b: `path j` is the page of level j
 pub record Heads (k F : ℕ) (path : ℕ → ℕ) (m : ℕ) (b b′ : List ℕ) : Type 0 where
-  pub lefts : (z : ℕ) → isPage (length b) z ≡ true → leftAt b′ z ≡ relink path (taken F) m (linksOf b) .left z
-  pub rights : (z : ℕ) → isPage (length b) z ≡ true → rightAt b′ z ≡ relink path (taken F) m (linksOf b) .right z
-  pub attributes : (z : ℕ) → isPage (length b) z ≡ true → attributeAt b′ z ≡ unrooted path (taken F) m (attributeAt b) z
+  pub lefts : (z : ℕ) → isPage (length b) z ≡ true → leftAt b′ z ≡ relink path (newOffset F) m (linksOf b) .left z
+  pub rights : (z : ℕ) → isPage (length b) z ≡ true → rightAt b′ z ≡ relink path (newOffset F) m (linksOf b) .right z
+  pub attributes : (z : ℕ) → isPage (length b) z ≡ true → attributeAt b′ z ≡ unrooted path (newOffset F) m (attributeAt b) z
   -- counts that are within the capacity stay so, and the new pages' are
   pub counts : (z : ℕ) → isPage (length b) z ≡ true → countAt b z ≤ capacity k → countAt b′ z ≤ capacity k
-  pub newCounts : (j : ℕ) → j < m → (isPage (length b) (taken F j) ≡ true) × (countAt b′ (taken F j) ≤ capacity k)
+  pub newCounts : (j : ℕ) → j < m → (isPage (length b) (newOffset F j) ≡ true) × (countAt b′ (newOffset F j) ≤ capacity k)
   pub header : SameHeader b b′
   pub plain : (z : ℕ) → isPage (length b) z ≡ true → (attributeAt b′ z < 2 ^ 16) × (rightAt b′ z < 2 ^ 32)
 
@@ -123,17 +123,17 @@ module _ (k F : ℕ) (path : ℕ → ℕ) (b : List ℕ) where
         rights = λ z t. q .right z (here z t) ∙ v .rights z t;
         attributes = λ z t. q .attribute z (here z t) ∙ v .attributes z t;
         counts = λ z t c. q .counts z (here z t) (v .counts z t c);
-        newCounts = λ j l. let c = v .newCounts j l in (c .0, q .counts (taken F j) (here (taken F j) (c .0)) (c .1));
+        newCounts = λ j l. let c = v .newCounts j l in (c .0, q .counts (newOffset F j) (here (newOffset F j) (c .0)) (c .1));
         header = q .header ∙ v .header;
         plain = λ z t. rw (q .attribute z (here z t), q .right z (here z t)) (v .plain z t);
       }
 
   -- one page more is split
-  heads-split : (m : ℕ) (b′ : List ℕ) (es : List Item) → Usable b (path m) → Usable b (taken F m) → (path m ≡ taken F m → ⊥) → All (Fit k) es → 1 < capacity k
-      → length es ≤ suc (capacity k) → length b′ ≡ length b → Heads k F path m b b′ → Heads k F path (suc m) b (splitPage b′ (path m) es (taken F m))
+  heads-split : (m : ℕ) (b′ : List ℕ) (es : List Item) → Usable b (path m) → Usable b (newOffset F m) → (path m ≡ newOffset F m → ⊥) → All (Fit k) es → 1 < capacity k
+      → length es ≤ suc (capacity k) → length b′ ≡ length b → Heads k F path m b b′ → Heads k F path (suc m) b (splitPage b′ (path m) es (newOffset F m))
   heads-split m b′ es tp tq ne f two few n v =
       let p = path m in
-      let q = taken F m in
+      let q = newOffset F m in
       let here : (z : ℕ) → isPage (length b) z ≡ true → isPage (length b′) z ≡ true = λ z t. page-of z n t in
       let pp = v .plain p (tp .0) in
       let i = half (length es) in
@@ -157,7 +157,7 @@ module _ (k F : ℕ) (path : ℕ → ℕ) (b : List ℕ) where
         counts = λ z t c. few-there z t (v .counts z t c);
         newCounts = λ j l. either (eqb j m)
             (λ e. let same : j ≡ m = eqb-true j m e in rw same (tq .0, rw (s q (tq .0) .countIs, eq-eqb q q refl) upper))
-            (λ e. let c = v .newCounts j (omega (arith, eqb-false j m e)) in (c .0, few-there (taken F j) (c .0) (c .1)));
+            (λ e. let c = v .newCounts j (omega (arith, eqb-false j m e)) in (c .0, few-there (newOffset F j) (c .0) (c .1)));
         header = split-header k b′ p es q (here p (tp .0)) (here q (tq .0)) ne f two few (tp .1) (tq .1) (pp .0) (pp .1) ∙ v .header;
         plain = λ z t. (
           rw (s z t .attributeIs) (one-of (λ n. n < 2 ^ 16) (eqb z q) a _ a16 (one-of (λ n. n < 2 ^ 16) (eqb z p) a (attributeAt b′ z) a16 (v .plain z t .0))),
@@ -168,8 +168,8 @@ module _ (k F : ℕ) (path : ℕ → ℕ) (b : List ℕ) where
 
 -- an outcome, and how many pages were split: at a page with h levels under it that is split, one on each level up to it
 abbrev pub HeadsAfter : ℕ → ℕ → (ℕ → ℕ) → ℕ → List ℕ → Outcome → List ℕ → Type 0
-HeadsAfter k F path h b (kept n) b′ = (m : ℕ) × (n ≡ taken F m) × Heads k F path m b b′
-HeadsAfter k F path h b (split q) b′ = (q ≡ taken F h) × Heads k F path (suc h) b b′
+HeadsAfter k F path h b (kept n) b′ = (m : ℕ) × (n ≡ newOffset F m) × Heads k F path m b b′
+HeadsAfter k F path h b (split q) b′ = (q ≡ newOffset F h) × Heads k F path (suc h) b b′
 HeadsAfter k F path h b bad b′ = ⊥
 
 -- the path's page on a page's own level, and below it
@@ -189,14 +189,14 @@ path-below k key b h j p a y ys es ne =
 module _ (k F : ℕ) (path : ℕ → ℕ) (two : 1 < capacity k) (b : List ℕ) where
   -- the theory has room for a page that is split
   split-room : (h : ℕ) (a : List ℕ) (p : ℕ) (b′ : List ℕ) (es : List Item) (n : ℕ) (v : StoreReplacement (List ℕ))
-      → OutcomeIs F a p (takeIn k b′ p es n .outcome) v → n ≡ taken F h
+      → OutcomeIs F a p (takeIn k b′ p es n .outcome) v → n ≡ newOffset F h
       → leb (length es) (capacity k) ≡ false → h < v .1
   unfolding takeIn
   split-room h a p b′ es n v t e f = either (isPage (length b′) n)
       (λ u. let g : OutcomeIs F a p (split n) v = rw (f, u) at t in omega (arith, g .0))
       (λ u. absurd (rw (f, u) at t))
 
-  take-in-heads : (h : ℕ) (b′ : List ℕ) (p : ℕ) (es : List Item) (n : ℕ) → p ≡ path h → n ≡ taken F h → Usable b p → length b′ ≡ length b → All (Fit k) es
+  take-in-heads : (h : ℕ) (b′ : List ℕ) (p : ℕ) (es : List Item) (n : ℕ) → p ≡ path h → n ≡ newOffset F h → Usable b p → length b′ ≡ length b → All (Fit k) es
       → length es ≤ suc (capacity k) → (p ≡ n → ⊥) → (leb (length es) (capacity k) ≡ false → Usable b n) → Heads k F path h b b′
       → HeadsAfter k F path h b (takeIn k b′ p es n .outcome) (takeIn k b′ p es n .after)
   unfolding takeIn
@@ -213,7 +213,7 @@ module _ (k F : ℕ) (path : ℕ → ℕ) (two : 1 < capacity k) (b : List ℕ) 
 module _ (k F : ℕ) (key : List ℕ) (r : ℕ) (b : List ℕ) (o : Offered k key r) (path : ℕ → ℕ) (plain : Plain b) where
   after-child-heads : (h : ℕ) (b′ : List ℕ) (p : ℕ) (a : List ℕ) (c : ℕ) (out : Outcome) (v : StoreReplacement (List ℕ))
       → HeadsAfter k F path h b out b′ → length b′ ≡ length b
-      → NonEmpty (itemsIn k b′ p) → p ≡ path (suc h) → Usable b p → (p ≡ taken F (suc h) → ⊥) → ((j : ℕ) → j < v .1 → Usable b (taken F j))
+      → NonEmpty (itemsIn k b′ p) → p ≡ path (suc h) → Usable b p → (p ≡ newOffset F (suc h) → ⊥) → ((j : ℕ) → j < v .1 → Usable b (newOffset F j))
       → OutcomeIs F a p (afterChild k b′ key p c out .outcome) v
       → HeadsAfter k F path (suc h) b (afterChild k b′ key p c out .outcome) (afterChild k b′ key p c out .after)
   after-child-heads h b′ p a c (kept n) v x lb some ep tp ne room t =
@@ -221,7 +221,7 @@ module _ (k F : ℕ) (key : List ℕ) (r : ℕ) (b : List ℕ) (o : Offered k ke
   after-child-heads h b′ p a c bad v x lb some ep tp ne room t = absurd x
   after-child-heads h b′ p a c (split q) v x lb some ep tp ne room t =
       let es : List Item = replaced key (twoFor k b′ key c q) (itemsIn k b′ p) in
-      let en : q + pageSize ≡ taken F (suc h) = omega (arith, x .0) in
+      let en : q + pageSize ≡ newOffset F (suc h) = omega (arith, x .0) in
       let le : length es ≡ 1 + length (itemsIn k b′ p) = replaced-length key (twoFor k b′ key c q) 1 (λ e. refl) (itemsIn k b′ p) some in
       take-in-heads k F path (o .two) b (suc h) b′ p es (q + pageSize) ep en tp lb
       (two-fit k (o .two) F key (o .long) b′ c q (itemsIn k b′ p) (items-in-fit k b′ p)) (omega (arith, items-few k b′ p)) (λ u. ne (u ∙ en))
@@ -243,12 +243,12 @@ module _ (k F : ℕ) (key : List ℕ) (r : ℕ) (b : List ℕ) (o : Offered k ke
       let es : List Item = insertPair bytesOrder key (toBe32 r) (itemsIn k b p) in
       let v : StoreReplacement (List ℕ) = replacement k F key r b zero a p in
       let t : OutcomeIs F a p (takeIn k b p es F .outcome) v = rw (f .0 .0, f .1) at (inserts k F key r b o zero (suc left) p a l f u .told) in
-      let ef : F ≡ taken F 0 = omega arith in
+      let ef : F ≡ newOffset F 0 = omega arith in
       rw (f .0 .0, f .1)
       (take-in-heads k F path (o .two) b zero b p es F (sym (path-own key zero a (readTree (entriesIn k b) zero p)) ∙ sym (x zero (omega arith))) ef (f .0) refl
       (insertPair-all bytesOrder (Fit k) key (toBe32 r) (itemsIn k b p) (o .long, length-toBe32 r) (items-in-fit k b p))
       (omega (arith, items-few k b p, insertPair-length key (toBe32 r) (itemsIn k b p)))
-      (λ e. occ-not-head (taken F 0) p (concatMap (pagesUnder zero) (map (readEntry (entriesIn k b) zero) (entriesIn k b p))) (u .1 0) (sym (e ∙ ef)))
+      (λ e. occ-not-head (newOffset F 0) p (concatMap (pagesUnder zero) (map (readEntry (entriesIn k b) zero) (entriesIn k b p))) (u .1 0) (sym (e ∙ ef)))
       (λ e. rw ef (u .2 0 (split-room k F path (o .two) b zero a p b es F v t ef e)))
       (heads-none k F path b plain))
   insert-heads (suc h) (suc left) p a l f u x = go (λ c y g w. insert-heads h left c y (omega arith) g w) (itemsIn k b p) refl
@@ -276,5 +276,5 @@ module _ (k F : ℕ) (key : List ℕ) (r : ℕ) (b : List ℕ) (o : Offered k ke
           (after-child-heads h (d .after) p a c (d .outcome) v (rec c A shaped free on) (w .as-long)
           (items-some k (d .after) p (numbered y) (map numbered ys) (child-rest k F key r b o h p a y ys e u left w))
           (sym (path-own key (suc h) a (readTree (entriesIn k b) (suc h) p)) ∙ sym (x (suc h) (omega arith))) (f .0)
-          (λ q. occ-not-head (taken F (suc h)) p (concatMap (pagesUnder (suc h)) (map (readEntry (entriesIn k b) (suc h)) (entriesIn k b p)))
+          (λ q. occ-not-head (newOffset F (suc h)) p (concatMap (pagesUnder (suc h)) (map (readEntry (entriesIn k b) (suc h)) (entriesIn k b p)))
           (u .1 (suc h)) (sym q)) (u .2) t))

@@ -15,7 +15,7 @@ use Rattle.octets.specs.StoreLaws.{getD-window}
 use Rattle.octets.specs.NumberLaws.{le16-same, le32-same}
 use Rattle.tree.specs.Book.{insertion, verdict, isAccepted}
 use Rattle.tree.specs.Clauses.{least, AllLinked}
-use Rattle.tree.specs.Index.{newPage as taken, Index, held, Setting, outOfRoom, answer, inserted}
+use Rattle.tree.specs.Index.{newOffset, Index, held, Setting, outOfRoom, answer, inserted}
 use Rattle.tree.specs.IndexLaws.{next-sound, next-linked, pages-distinct, newPage-unused}
 use Rattle.tree.specs.InsertLevels.{InsertedAfter, insert-level, levelUnder-pages, levelUnder-disjoint}
 use Rattle.tree.specs.InsertNeeds.{insert-needs, root-splits}
@@ -130,8 +130,8 @@ module _ (b key : List ℕ) (r : ℕ) (accepts : Accepts b key r) where
       let aligned = once .aligned in
       let positive = once .positive in
       let size = sound-after .withinSize in
-      let room : (j : ℕ) → j < x .2 → Usable b (taken (fileSize b) j) =
-      λ j l. (is-page-from (length b) (taken (fileSize b) j) (record { whole = omega arith; low = omega arith; high = omega arith }), omega arith) in
+      let room : (j : ℕ) → j < x .2 → Usable b (newOffset (fileSize b) j) =
+      λ j l. (is-page-from (length b) (newOffset (fileSize b) j) (record { whole = omega arith; low = omega arith; high = omega arith }), omega arith) in
       record {
         offered = record { two = two; long = accepts .long; r32 = accepts .r32 };
         levels = sound-before .withinLevels;
@@ -152,45 +152,45 @@ module _ (b key : List ℕ) (r : ℕ) (accepts : Accepts b key r) where
   splits = run bytesOrder (capacity k) key h t
 
   most : splits ≤ suc h
-  most = root-splits bytesOrder (capacity k) (taken F) key r h key t (omega (arith, two)) (sound-before .sized) .most
+  most = root-splits bytesOrder (capacity k) (newOffset F) key r h key t (omega (arith, two)) (sound-before .sized) .most
 
   need : x .2 ≡ needs bytesOrder (capacity k) key h t
-  need = insert-needs bytesOrder (capacity k) (taken F) key r h t (omega (arith, two)) (sound-before .sized) .0
+  need = insert-needs bytesOrder (capacity k) (newOffset F) key r h t (omega (arith, two)) (sound-before .sized) .0
 
   in-tree : (H j z : ℕ) (T : Tree (List ℕ) H) → 0 < occ z (level j H T) → 0 < occ z (pages H T)
   in-tree H j z T o = omega (arith, levelUnder-pages z j (suc H) (key, T))
 
   -- an old page is no new one
-  old-new : (z : ℕ) → 0 < occ z (pages h t) → (j : ℕ) → z ≡ taken F j → ⊥
+  old-new : (z : ℕ) → 0 < occ z (pages h t) → (j : ℕ) → z ≡ newOffset F j → ⊥
   old-new z o j e =
-      let n : occ (taken F j) (pages h t) ≡ 0 = sound-before .pagesOnce .beyond (taken F j) (omega arith) in
+      let n : occ (newOffset F j) (pages h t) ≡ 0 = sound-before .pagesOnce .beyond (newOffset F j) (omega arith) in
       let f : occ z (pages h t) ≡ 0 = rw e n in
       omega arith
 
   abbrev Level : ℕ → Type 0
-  Level j = InsertedAfter (path j) (taken F (0 + j)) (level j h t) (level j (x .0) (x .1))
+  Level j = InsertedAfter (path j) (newOffset F (0 + j)) (level j h t) (level j (x .0) (x .1))
 
   -- a page of a level after it: an old one of that level, or the new one after the page on the path
-  in-level : {X : Type 0} (j z : ℕ) → j ≤ h → 0 < occ z (level j (x .0) (x .1)) → (0 < occ z (level j h t) → X) → (j < splits → z ≡ taken F j → X) → X
+  in-level : {X : Type 0} (j z : ℕ) → j ≤ h → 0 < occ z (level j (x .0) (x .1)) → (0 < occ z (level j h t) → X) → (j < splits → z ≡ newOffset F j → X) → X
   in-level j z l o old new =
-      let q = insert-level bytesOrder (capacity k) (taken F) key r h t j (omega (arith, two)) (sound-before .sized) l in
+      let q = insert-level bytesOrder (capacity k) (newOffset F) key r h t j (omega (arith, two)) (sound-before .sized) l in
       either (ltb j splits)
       (λ e. let v : Level j = q .0 (ltb-true j splits e) in
-      either (eqb z (taken F (0 + j)))
-      (λ u. new (ltb-true j splits e) (eqb-true z (taken F (0 + j)) u ∙ omega arith))
+      either (eqb z (newOffset F (0 + j)))
+      (λ u. new (ltb-true j splits e) (eqb-true z (newOffset F (0 + j)) u ∙ omega arith))
       (λ u.
-      let p1 : occ z (level j (x .0) (x .1)) ≡ occ z (v .pre) + (countIf (eqb z (path j)) + (countIf (eqb z (taken F (0 + j))) + occ z (v .post))) =
-      ap (occ z) (v .now) ∙ occ-append z (v .pre) (path j ∷ taken F (0 + j) ∷ v .post) in
+      let p1 : occ z (level j (x .0) (x .1)) ≡ occ z (v .pre) + (countIf (eqb z (path j)) + (countIf (eqb z (newOffset F (0 + j))) + occ z (v .post))) =
+      ap (occ z) (v .now) ∙ occ-append z (v .pre) (path j ∷ newOffset F (0 + j) ∷ v .post) in
       let p2 : occ z (level j h t) ≡ occ z (v .pre) + (countIf (eqb z (path j)) + occ z (v .post)) =
       ap (occ z) (v .was) ∙ occ-append z (v .pre) (path j ∷ v .post) in
-      let p3 : countIf (eqb z (taken F (0 + j))) ≡ 0 = ap countIf u in
+      let p3 : countIf (eqb z (newOffset F (0 + j))) ≡ 0 = ap countIf u in
       old (omega arith)))
       (λ e. old (rw (← q .1 (ltb-false j splits e)) o))
 
   -- a page of the path that is split is a page of its level
   path-level : (j : ℕ) → j < splits → 0 < occ (path j) (level j h t)
   path-level j l =
-      let q = insert-level bytesOrder (capacity k) (taken F) key r h t j (omega (arith, two)) (sound-before .sized) (omega (arith, most)) in
+      let q = insert-level bytesOrder (capacity k) (newOffset F) key r h t j (omega (arith, two)) (sound-before .sized) (omega (arith, most)) in
       let v : Level j = q .0 l in
       let p : occ (path j) (level j h t) ≡ occ (path j) (v .pre) + (countIf (eqb (path j) (path j)) + occ (path j) (v .post)) =
       ap (occ (path j)) (v .was) ∙ occ-append (path j) (v .pre) (path j ∷ v .post) in
@@ -200,16 +200,16 @@ module _ (b key : List ℕ) (r : ℕ) (accepts : Accepts b key r) where
   path-old j l = in-tree h j (path j) t (path-level j l)
 
   -- a page of the tree after it is an old page or a new one
-  in-new : {X : Type 0} (n z : ℕ) → 0 < occ z (newPages (taken F) n) → ((j : ℕ) → j < n → z ≡ taken F j → X) → X
+  in-new : {X : Type 0} (n z : ℕ) → 0 < occ z (newPages (newOffset F) n) → ((j : ℕ) → j < n → z ≡ newOffset F j → X) → X
   in-new zero z o f = absurd (omega arith)
-  in-new (suc n) z o f = either (eqb z (taken F n))
-      (λ e. f n (omega arith) (eqb-true z (taken F n) e))
+  in-new (suc n) z o f = either (eqb z (newOffset F n))
+      (λ e. f n (omega arith) (eqb-true z (newOffset F n) e))
       (λ e. in-new n z (omega (arith, ap countIf e)) (λ j l. f j (omega arith)))
 
-  in-pages : {X : Type 0} (z : ℕ) → 0 < occ z (pages (x .0) (x .1)) → (0 < occ z (pages h t) → X) → ((j : ℕ) → j < x .2 → z ≡ taken F j → X) → X
+  in-pages : {X : Type 0} (z : ℕ) → 0 < occ z (pages (x .0) (x .1)) → (0 < occ z (pages h t) → X) → ((j : ℕ) → j < x .2 → z ≡ newOffset F j → X) → X
   in-pages z o old new =
-      let p : occ z (pages (x .0) (x .1)) ≡ occ z (pages h t) + occ z (newPages (taken F) (x .2)) =
-      insert-pages bytesOrder (capacity k) (taken F) key r z h t in
+      let p : occ z (pages (x .0) (x .1)) ≡ occ z (pages h t) + occ z (newPages (newOffset F) (x .2)) =
+      insert-pages bytesOrder (capacity k) (newOffset F) key r z h t in
       either (ltb 0 (occ z (pages h t)))
       (λ e. old (ltb-true 0 (occ z (pages h t)) e))
       (λ e. let y = ltb-false 0 (occ z (pages h t)) e in in-new (x .2) z (omega arith) new)
@@ -235,11 +235,11 @@ module _ (b key : List ℕ) (r : ℕ) (accepts : Accepts b key r) where
       (subst (λ (T : Tree (List ℕ) h). 0 < occ z (pages h T)) (sound-tree b (accepts .sound)) o) .1
 
   -- the leaf bits of a level below a new root
-  leaf-bits : (j z : ℕ) → j ≤ h → 0 < occ z (level j (x .0) (x .1)) → leafBit (unrooted path (taken F) splits (attributeAt b) z) ≡ eqb j 0
+  leaf-bits : (j z : ℕ) → j ≤ h → 0 < occ z (level j (x .0) (x .1)) → leafBit (unrooted path (newOffset F) splits (attributeAt b) z) ≡ eqb j 0
   leaf-bits j z l o = in-level j z l o
-      (λ f. leaf-old path (taken F) (attributeAt b) splits z (λ i m. old-new z (in-tree h j z t f) i) ∙ old-leaf j z l f)
-      (λ m e. ap (λ (y : ℕ). leafBit (unrooted path (taken F) splits (attributeAt b) y)) e
-      ∙ leaf-new path (taken F) (attributeAt b) (λ i i′ u. omega arith) splits (λ i i′ q. old-new (path i) (path-old i q) i′) j m
+      (λ f. leaf-old path (newOffset F) (attributeAt b) splits z (λ i m. old-new z (in-tree h j z t f) i) ∙ old-leaf j z l f)
+      (λ m e. ap (λ (y : ℕ). leafBit (unrooted path (newOffset F) splits (attributeAt b) y)) e
+      ∙ leaf-new path (newOffset F) (attributeAt b) (λ i i′ u. omega arith) splits (λ i i′ q. old-new (path i) (path-old i q) i′) j m
       ∙ old-leaf j (path j) l (path-level j m))
 
   -- the root is on the top level alone
@@ -264,7 +264,7 @@ module _ (b key : List ℕ) (r : ℕ) (accepts : Accepts b key r) where
     pub small : (z : ℕ) → 0 < occ z (pages (x .0) (x .1)) → attributeAt b″ z ≤ 3
 
   bits-stay : x .0 ≡ h → x .1 .0 ≡ rootOffset b → splits ≤ h
-      → ((z : ℕ) → isPage (length b) z ≡ true → attributeAt b″ z ≡ unrooted path (taken F) splits (attributeAt b) z) → Bits
+      → ((z : ℕ) → isPage (length b) z ≡ true → attributeAt b″ z ≡ unrooted path (newOffset F) splits (attributeAt b) z) → Bits
   bits-stay e0 e1 short at =
       let n2 : x .2 ≡ splits = rw (ne-eqb splits (suc h) (λ q. omega arith)) at need in
       record {
@@ -272,26 +272,26 @@ module _ (b key : List ℕ) (r : ℕ) (accepts : Accepts b key r) where
         root = λ z o. rw (at z (new-page z o), e1) (in-pages z o
             (λ f. either (eqb z (rootOffset b))
             (λ q. let v : z ≡ rootOffset b = eqb-true z (rootOffset b) q in
-            rw (unrooted-same path (taken F) (attributeAt b) splits z (λ j l. (old-new z f j, (λ u. root-high j l (omega arith) (sym v ∙ u))))) (old-root z f))
-            (λ q. rw q (root-none path (taken F) (attributeAt b) splits z (old-root z f ∙ q))))
-            (λ j l v. rw (v, ne-eqb (taken F j) (rootOffset b) (λ u. old-new (rootOffset b) root-old j (sym u)))
-            (root-new path (taken F) (attributeAt b) splits j (omega arith))));
+            rw (unrooted-same path (newOffset F) (attributeAt b) splits z (λ j l. (old-new z f j, (λ u. root-high j l (omega arith) (sym v ∙ u))))) (old-root z f))
+            (λ q. rw q (root-none path (newOffset F) (attributeAt b) splits z (old-root z f ∙ q))))
+            (λ j l v. rw (v, ne-eqb (newOffset F j) (rootOffset b) (λ u. old-new (rootOffset b) root-old j (sym u)))
+            (root-new path (newOffset F) (attributeAt b) splits j (omega arith))));
         small = λ z o. rw (at z (new-page z o)) (in-pages z o
-            (λ f. small-old path (taken F) (attributeAt b) splits path-small z (old-attribute z f))
-            (λ j l v. rw v (small-new path (taken F) (attributeAt b) splits path-small j (omega arith))));
+            (λ f. small-old path (newOffset F) (attributeAt b) splits path-small z (old-attribute z f))
+            (λ j l v. rw v (small-new path (newOffset F) (attributeAt b) splits path-small j (omega arith))));
       }
 
   -- the path's page on the top level is the root
   path-top : path h ≡ rootOffset b
   path-top = rw (eq-eqb h h refl)
 
-  bits-rise : x .0 ≡ suc h → x .1 .0 ≡ taken F (suc h) → splits ≡ suc h
-      → ((z : ℕ) → isPage (length b) z ≡ true → attributeAt b″ z ≡ cond (eqb z (taken F (suc h))) 1 (unrooted path (taken F) (suc h) (attributeAt b) z)) → Bits
+  bits-rise : x .0 ≡ suc h → x .1 .0 ≡ newOffset F (suc h) → splits ≡ suc h
+      → ((z : ℕ) → isPage (length b) z ≡ true → attributeAt b″ z ≡ cond (eqb z (newOffset F (suc h))) 1 (unrooted path (newOffset F) (suc h) (attributeAt b) z)) → Bits
   bits-rise e0 e1 er at-top =
-      let N : ℕ = taken F (suc h) in
+      let N : ℕ = newOffset F (suc h) in
       let n2 : x .2 ≡ suc splits = rw (eq-eqb splits (suc h) er) at need in
-      let at : (z : ℕ) → isPage (length b) z ≡ true → attributeAt b″ z ≡ cond (eqb z N) 1 (unrooted path (taken F) splits (attributeAt b) z) =
-      λ z p. at-top z p ∙ ap (λ (m : ℕ). cond (eqb z N) 1 (unrooted path (taken F) m (attributeAt b) z)) (sym er) in
+      let at : (z : ℕ) → isPage (length b) z ≡ true → attributeAt b″ z ≡ cond (eqb z N) 1 (unrooted path (newOffset F) splits (attributeAt b) z) =
+      λ z p. at-top z p ∙ ap (λ (m : ℕ). cond (eqb z N) 1 (unrooted path (newOffset F) m (attributeAt b) z)) (sym er) in
       record {
         leaf = λ j z l o. ap leafBit (at z (new-page z (in-tree (x .0) j z (x .1) o)))
             ∙ either (eqb j (suc h))
@@ -304,14 +304,14 @@ module _ (b key : List ℕ) (r : ℕ) (accepts : Accepts b key r) where
             (λ q. rw q (in-pages z o
             (λ f. either (eqb z (rootOffset b))
             (λ u. let v : z ≡ path h = eqb-true z (rootOffset b) u ∙ sym path-top in
-            rw v (root-split path (taken F) (attributeAt b) splits h (omega arith)))
-            (λ u. root-none path (taken F) (attributeAt b) splits z (old-root z f ∙ u)))
-            (λ j l v. rw v (root-new path (taken F) (attributeAt b) splits j (not-top j z q v (omega arith)))))));
+            rw v (root-split path (newOffset F) (attributeAt b) splits h (omega arith)))
+            (λ u. root-none path (newOffset F) (attributeAt b) splits z (old-root z f ∙ u)))
+            (λ j l v. rw v (root-new path (newOffset F) (attributeAt b) splits j (not-top j z q v (omega arith)))))));
         small = λ z o. rw (at z (new-page z o)) (either (eqb z N)
             (λ q. rw q (omega arith))
             (λ q. rw q (in-pages z o
-            (λ f. small-old path (taken F) (attributeAt b) splits path-small z (old-attribute z f))
-            (λ j l v. rw v (small-new path (taken F) (attributeAt b) splits path-small j (not-top j z q v (omega arith)))))));
+            (λ f. small-old path (newOffset F) (attributeAt b) splits path-small z (old-attribute z f))
+            (λ j l v. rw v (small-new path (newOffset F) (attributeAt b) splits path-small j (not-top j z q v (omega arith)))))));
       }
     where
       top-page : (j z : ℕ) → j ≡ x .0 → 0 < occ z (level j (x .0) (x .1)) → z ≡ x .1 .0
@@ -319,12 +319,12 @@ module _ (b key : List ℕ) (r : ℕ) (accepts : Accepts b key r) where
           let y : 0 < occ z (x .1 .0 ∷ []) = rw (eq-eqb j (x .0) e) at o in
           either (eqb z (x .1 .0)) (λ u. eqb-true z (x .1 .0) u) (λ u. absurd (omega (arith, ap countIf u)))
 
-      below-top : (j z : ℕ) → j ≤ h → 0 < occ z (level j (x .0) (x .1)) → z ≡ taken F (suc h) → ⊥
+      below-top : (j z : ℕ) → j ≤ h → 0 < occ z (level j (x .0) (x .1)) → z ≡ newOffset F (suc h) → ⊥
       below-top j z l o e = in-level j z l o (λ f. old-new z (in-tree h j z t f) (suc h) e) (λ m u. let q : j ≡ suc h = omega (arith, sym u ∙ e) in omega arith)
 
-      not-top : (j z : ℕ) → eqb z (taken F (suc h)) ≡ false → z ≡ taken F j → j < suc splits → j < splits
+      not-top : (j z : ℕ) → eqb z (newOffset F (suc h)) ≡ false → z ≡ newOffset F j → j < suc splits → j < splits
       not-top j z q v l = either (eqb j splits)
-          (λ u. absurd (eqb-false z (taken F (suc h)) q (v ∙ ap (taken F) (eqb-true j splits u ∙ er))))
+          (λ u. absurd (eqb-false z (newOffset F (suc h)) q (v ∙ ap (newOffset F) (eqb-true j splits u ∙ er))))
           (λ u. omega (arith, eqb-false j splits u))
 
   heads : HeadsIn k h b key r ready
@@ -441,7 +441,7 @@ insert-keeps-sound b key r accepts =
       sound = now .0;
       index = same;
       leaves = ap held same
-          ∙ insert-pairs bytesOrder (capacity (keyLength b)) (taken (fileSize b)) key r (s .height) (indexTree b (s .height))
+          ∙ insert-pairs bytesOrder (capacity (keyLength b)) (newOffset (fileSize b)) key r (s .height) (indexTree b (s .height))
           (sized-rooted (capacity (keyLength b)) (s .height) (indexTree b (s .height)) (old .sized)) (old .ordered);
       header = rest b key r accepts;
       keyIs = key-same b key r accepts;

@@ -22,6 +22,10 @@ offsetOf n = record { 0 = n }
 abbrev pub recordOf : ℕ → RecordNumber
 recordOf n = record { 0 = n }
 
+-- the number of the answer for an absent key
+abbrev pub absentCode : ℕ
+absentCode = 257
+
 -- what the page at p says by entry i, "the first entry at or above the key; none there: absent"; "a found key is an equal one in the leaf"
 unfoldable pub entrySays : List ℕ → List ℕ → ℕ → ℕ → Visit
 entrySays b key p i =
@@ -66,7 +70,7 @@ lookupRule b key =
 -- the code of an answer: 0 if the key is found, 257 if it is absent, or the refusal's number
 abbrev pub lookupCode : Answer → ℕ
 lookupCode (answer.Found r pages) = 0
-lookupCode (answer.Absent pages) = 257
+lookupCode (answer.Absent pages) = absentCode
 lookupCode (answer.Refused n) = n
 
 -- the record of an answer, and the pages visited; `old` if the answer has none

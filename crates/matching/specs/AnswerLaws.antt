@@ -1,23 +1,24 @@
--- Laws: the rule of match leaves no choice: 0, 25 and 31 are answered exactly where document 01 says so, and no two answers meet the rule. Cited by no proof
--- of the code: they are for readers of the rule. Assumes nothing.
+-- Laws: the rule of match leaves no choice: 0, 25 and 31 are answered exactly if document 01 says so, and no two answers meet the rule. No proof of the code
+-- cites them: they are for readers of the rule. Assumes nothing.
 use Prim.Native.Nat.{ℕ, _-_, _≤_, _<_}
 use mathlib.Core.Path.{_≡_, sym, _∙_}
 use mathlib.Core.Bool.{Bool}
 use mathlib.Core.List.{List, [], _∷_, _++_}
 use mathlib.Core.Logic.{_↔_, ⊎-elim}
 use native.Mathlib.Omega.{arith}
-use lib.Dec.{eqb, lit≤}
+use lib.Dec.{eqb}
 use borrow.Author.Tests.{eqb-true, eqb-false}
 use Rattle.basis.specs.Lists.{All, all-append, all-map}
 use Rattle.basis.specs.Tests.{either, contra}
 use Rattle.table.specs.Table.{typeC, fieldCount, fieldType, fieldLength, firstRefusal, tableChecks}
 use Rattle.table.specs.TableLaws.{first-pass, first-fail}
 use Rattle.field.specs.Field.{numberGood}
+use Rattle.cell.specs.AnswerLaws.{table-small}
 use Rattle.page.specs.Header.{keyLength, headerGood}
-use Rattle.sound.specs.Sound.{Sound}
+use Rattle.sound.specs.Sound.{Sound, leafPairs}
 use Rattle.sound.specs.Rule.{pagesGood, unmarked}
 use Rattle.sound.specs.Accepted.{accepted}
-use Rattle.matching.specs.Match.{matchRefusal, entriesOf, Matches, Matched}
+use Rattle.matching.specs.Match.{matchRefusal, Matches, Matched}
 use Rattle.matching.specs.Rule.{entriesMatch}
 use Rattle.matching.specs.TestLaws.{columnOf, test-exactly}
 use Rattle.matching.specs.CallLaws.{table-good, ready}
@@ -30,11 +31,6 @@ first-other n (check ∷ checks) some a e =
     either (check .0)
     (λ good. first-other n checks some (a .1) (sym (first-pass (check .0) (check .1) checks good) ∙ e))
     (λ bad. a .0 (sym (first-fail (check .0) (check .1) checks bad) ∙ e))
-
-table-small : (t : List ℕ) → All (λ check. check .1 ≤ 10) (tableChecks t)
-unfolding tableChecks
-table-small t =
-    (lit≤ tt, (lit≤ tt, (lit≤ tt, (lit≤ tt, (lit≤ tt, (lit≤ tt, (lit≤ tt, (lit≤ tt, (lit≤ tt, (lit≤ tt, tt))))))))))
 
 module _ (t b : List ℕ) (field : ℕ) where
   -- the checks before the audit give 1 to 10, 24, 12, 13 and 27 alone
@@ -50,10 +46,10 @@ module _ (t b : List ℕ) (field : ℕ) where
       first-other n (tableChecks t ++ more) (omega arith)
       (all-append (λ check. check .1 ≡ n → ⊥) (tableChecks t) more small (h, (f, (c, (k, tt))))) e
 
-  -- every case is one of four: refused before the audit, not sound, matching, not matching
+  -- the four cases: refused before the audit, not sound, matching, not matching
   cases : {X : Type 0} → ((matchRefusal t b field ≡ 0 → ⊥) → X) → (matchRefusal t b field ≡ 0 → (Sound b → ⊥) → X)
-      → (matchRefusal t b field ≡ 0 → (s : Sound b) → Matches t field (entriesOf b s) → X)
-      → (matchRefusal t b field ≡ 0 → (s : Sound b) → (Matches t field (entriesOf b s) → ⊥) → X) → X
+      → (matchRefusal t b field ≡ 0 → (s : Sound b) → Matches t field (leafPairs b s) → X)
+      → (matchRefusal t b field ≡ 0 → (s : Sound b) → (Matches t field (leafPairs b s) → ⊥) → X) → X
   cases refused unsound matching other = either (eqb (matchRefusal t b field) 0)
       (λ z.
       let none = eqb-true (matchRefusal t b field) 0 z in
@@ -61,33 +57,33 @@ module _ (t b : List ℕ) (field : ℕ) where
       either (pagesGood b unmarked)
       (λ p.
       let s = accepted b header .0 p in
-      let test = test-exactly t field (entriesOf b s) (s .ascending) in
-      either (entriesMatch t (columnOf t field) 0 (entriesOf b s))
+      let test = test-exactly t field (leafPairs b s) (s .ascending) in
+      either (entriesMatch t (columnOf t field) 0 (leafPairs b s))
       (λ e. matching none s (test .0 e))
       (λ e. other none s (λ m. contra (test .1 m) e)))
       (λ p. unsound none (λ s. contra (accepted b header .1 s) p)))
       (λ z. refused (eqb-false (matchRefusal t b field) 0 z))
 
-  -- what an answer says: no refusal before the audit, a sound index, and entries that match, or that do not
+  -- what 0, 31 and 25 say: no refusal before the audit; then a sound index whose entries match, one whose entries do not, or an index that is not sound
   pub record Accepted : Type 0 where
     pub none : matchRefusal t b field ≡ 0
     pub sound : Sound b
-    pub matching : Matches t field (entriesOf b sound)
+    pub matching : Matches t field (leafPairs b sound)
 
   pub record Differing : Type 0 where
     pub none : matchRefusal t b field ≡ 0
     pub sound : Sound b
-    pub differing : Matches t field (entriesOf b sound) → ⊥
+    pub differing : Matches t field (leafPairs b sound) → ⊥
 
   pub record Unsound : Type 0 where
     pub none : matchRefusal t b field ≡ 0
     pub unsound : Sound b → ⊥
 
   module _ (r : ℕ) (m : Matched t b field r) where
-    is-31 : matchRefusal t b field ≡ 0 → (s : Sound b) → (Matches t field (entriesOf b s) → ⊥) → r ≡ 31
+    is-31 : matchRefusal t b field ≡ 0 → (s : Sound b) → (Matches t field (leafPairs b s) → ⊥) → r ≡ 31
     is-31 z s x = ⊎-elim (λ e. absurd (x (m .accepted z s .0 e))) (λ e. e) (m .other z s)
 
-    -- Theorem: 0, 31 and 25 are answered exactly there
+    -- Theorem: 0, 31 and 25 are answered exactly in these cases
     pub accepted-exactly : (r ≡ 0) ↔ Accepted
     accepted-exactly = (
       λ e. cases

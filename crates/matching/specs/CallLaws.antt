@@ -19,15 +19,15 @@ use Rattle.field.specs.Field.{numberGood, formOf}
 use Rattle.field.specs.declared.FieldForm.{FieldForm}
 use Rattle.field.specs.FieldLaws.{number-range}
 use Rattle.page.specs.Header.{maxLevels, rootOffset, fileSize, keyLength, headerGood}
-use Rattle.sound.specs.Sound.{Sound, Audited}
+use Rattle.sound.specs.Sound.{Sound, leafPairs, Audited}
 use Rattle.sound.specs.Rule.{maxPages}
 use Rattle.matching.specs.declared.Column.{Column}
-use Rattle.matching.specs.Match.{matchRefusal, entriesOf, Matches, Matched}
+use Rattle.matching.specs.Match.{matchRefusal, Matches, Matched}
 use Rattle.matching.specs.Rule.{entriesMatch, firstLeaf, entriesAlong, leafEntries, ColumnInside}
 use Rattle.matching.specs.TestLaws.{columnOf, test-exactly}
 use Rattle.matching.specs.LeafLaws.{leaf-entries}
 
--- ---- the refusals after those of the table
+-- ---- the refusals after the table's
 
 module _ (t b : List ℕ) (field : ℕ) (good : tableRefusal t ≡ 0) where
   abbrev checks : List (Bool × ℕ)
@@ -103,7 +103,7 @@ pub table-good : (t b : List ℕ) (field : ℕ) → matchRefusal t b field ≡ 0
 unfolding matchRefusal tableRefusal
 table-good t b field e = first-both (tableChecks t) _ (table-numbered t) e .0
 
--- ---- what the calls hand on
+-- ---- the field and the leaves
 
 -- the leaves' entries from the first leaf on, by the header's numbers
 pub leaves-from : (t b : List ℕ) (c : Column) (size first : ℕ) (r : Bool) → c .length ≡ keyLength b → size ≡ fileSize b
@@ -114,13 +114,13 @@ leaves-from t b c size first r ek es ef er =
     let e : entriesAlong b (c .length) size maxPages first ≡ leafEntries b = rw (ef, ek, es) in
     er ∙ ap (entriesMatch t c 0) e
 
--- the field by the table's shape and the field's form
+-- the field, by the table's shape and the field's form
 pub column-is : (t : List ℕ) (s : Shape) (f : FieldForm) (field : ℕ) → Shaped t s → f ≡ formOf t (field - 1)
     → _≡_ {A = Column} (record { records = s .records; offset = f .offset; length = f .length }) (columnOf t field)
 unfolding formOf
 column-is t s f field shaped e = rw (shaped .records, e)
 
--- what is asked of it
+-- what `entries_match` asks of the field
 pub column-ready : (t b : List ℕ) (field : ℕ) (good : tableRefusal t ≡ 0) (c : Column) → c ≡ columnOf t field → Ready t b field good
     → ColumnInside t c × (headerGood b ≡ true) × (c .length ≡ keyLength b)
 column-ready t b field good c e r = rw e (r .column, r .header, r .width)
@@ -154,9 +154,9 @@ module _ (t b : List ℕ) (field : ℕ) where
           other = λ z s. absurd (not-sound s);
         }
 
-    -- a sound one, by the test of its entries
-    test-of : (s : Sound b) → (entriesMatch t (columnOf t field) 0 (leafEntries b) ≡ true) ↔ Matches t field (entriesOf b s)
-    test-of s = rw (leaf-entries b s) (test-exactly t field (entriesOf b s) (s .ascending))
+    -- a sound index, by the test of its entries
+    test-of : (s : Sound b) → (entriesMatch t (columnOf t field) 0 (leafEntries b) ≡ true) ↔ Matches t field (leafPairs b s)
+    test-of s = rw (leaf-entries b s) (test-exactly t field (leafPairs b s) (s .ascending))
 
     module _ (sound : a ≡ 0) (r : Bool) (er : r ≡ entriesMatch t (columnOf t field) 0 (leafEntries b)) where
       pub answer-matched : r ≡ true → Matched t b field 0

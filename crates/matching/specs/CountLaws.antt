@@ -1,4 +1,4 @@
--- Laws: n numbers from 1 to n, none of them twice, are all of them; and back. Cited by the law of the match's test. Assumes nothing.
+-- Laws: n numbers from 1 to n, none of them twice, are all of them; and back. The law of the match's test cites them. Assumes nothing.
 use Prim.Native.Nat.{ℕ, zero, suc, _+_, _≤_, _<_}
 use mathlib.Core.Path.{_≡_, refl}
 use mathlib.Core.List.{List, [], _∷_}
@@ -34,7 +34,7 @@ total-length : (n : ℕ) (xs : List ℕ) → All (λ x. (1 ≤ x) × (x ≤ n)) 
 total-length n [] a = total-none n
 total-length n (x ∷ xs) a = omega (arith, total-more n x xs (a .0 .0) (a .0 .1), total-length n xs (a .1))
 
--- each stands there at most once: at most n in all, and n only if each does
+-- if each number stands there at most once, they are at most n in all, and n only if each stands there
 total-few : (n : ℕ) (xs : List ℕ) → ((i : ℕ) → occ i xs ≤ 1) → total n xs ≤ n
 total-few zero xs h = omega arith
 total-few (suc n) xs h = omega (arith, h (suc n), total-few n xs h)

@@ -1,5 +1,5 @@
--- Laws: "each record 1 to n, whatever its deletion byte": another byte in the place of a record's deletion byte changes no answer of the match. Cited by no
--- proof of the code: they are for readers of the rule. Assumes nothing.
+-- Laws: "each record 1 to n, whatever its deletion byte": if another byte replaces a record's deletion byte, no answer of the match changes. No proof of the
+-- code cites them: they are for readers of the rule. Assumes nothing.
 use Prim.Native.Nat.{ℕ, _+_, _-_, _≤_, _<_}
 use mathlib.Core.Path.{_≡_, sym, _∙_}
 use mathlib.Core.List.{List, [], _∷_}
@@ -19,11 +19,12 @@ use Rattle.cell.specs.Cell.{fieldStart, fieldBytes}
 use Rattle.cell.specs.HeaderLaws.{SameHeader, checks-same, count-same, fields-same, end-same, type-same, width-same, offset-same}
 use Rattle.cell.specs.MarkLaws.{withMark, first-same, same-header}
 use Rattle.page.specs.Header.{headerGood}
+use Rattle.sound.specs.Sound.{leafPairs}
 use Rattle.sound.specs.Rule.{Entries}
-use Rattle.matching.specs.Match.{matchRefusal, entriesOf, Matches, Matched}
+use Rattle.matching.specs.Match.{matchRefusal, Matches, Matched}
 use Rattle.matching.specs.CallLaws.{table-good, ready}
 
--- where the first of two numbers of records ends
+-- fewer records end no later
 ends-before : (t : List ℕ) (k l : ℕ) → k ≤ l → recordsEnd t k ≤ recordsEnd t l
 unfolding recordsEnd
 ends-before t k l h = omega (arith, mul-le-mul-right (recordLength t) h)
@@ -38,7 +39,7 @@ module _ (t : List ℕ) (i mark field : ℕ) (good : tableRefusal t ≡ 0) (from
   abbrev same : SameHeader t (withMark t i mark)
   same = same-header t i mark good from to
 
-  -- the checks before the audit do not look at it
+  -- the checks before the audit do not read the deletion byte
   refusal-same : (b : List ℕ) → matchRefusal (withMark t i mark) b field ≡ matchRefusal t b field
   unfolding matchRefusal firstRefusal
   refusal-same b =
@@ -50,7 +51,7 @@ module _ (t : List ℕ) (i mark field : ℕ) (good : tableRefusal t ≡ 0) (from
       (λ z. rw (h, z)))
       (λ h. rw h)))
 
-  -- nor is it a byte of any record's field
+  -- and it is no byte of any record's field
   module _ (first : 1 ≤ field) (last : field ≤ fieldCount t) where
     start-same : (j : ℕ) → fieldStart (withMark t i mark) j field ≡ fieldStart t j field
     unfolding fieldStart recordStart
@@ -75,7 +76,7 @@ module _ (t : List ℕ) (i mark field : ℕ) (good : tableRefusal t ≡ 0) (from
         (λ e. window-before t (recordStart t i) (mark ∷ []) (fieldStart t j field) (fieldLength t (field - 1)) (apart j l (ltb-true j i e)))
         (λ e. window-after t (recordStart t i) (mark ∷ []) (fieldStart t j field) (fieldLength t (field - 1)) (later j (ltb-false j i e))))
 
-    -- so the entries match the one table where they match the other
+    -- so the entries match the one table exactly if they match the other
     matches-there : (es : Entries) → Matches t field es → Matches (withMark t i mark) field es
     matches-there es m =
         let n = count-same t T fits same in
@@ -107,8 +108,8 @@ module _ (t : List ℕ) (i mark field : ℕ) (good : tableRefusal t ≡ 0) (from
             let none : matchRefusal t b field ≡ 0 = sym e ∙ z in
             let known = ready t b field (table-good t b field none) none in
             let here = m .accepted none s in (
-              (λ q. matches-there (known .from) (known .to) (entriesOf b s) (here .0 q)),
-              (λ q. here .1 (matches-here (known .from) (known .to) (entriesOf b s) q)),
+              (λ q. matches-there (known .from) (known .to) (leafPairs b s) (here .0 q)),
+              (λ q. here .1 (matches-here (known .from) (known .to) (leafPairs b s) q)),
             );
         other = rw e (m .other);
       }

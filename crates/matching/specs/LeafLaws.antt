@@ -1,4 +1,4 @@
--- Laws: the entries that are read along the leaves of a sound index are those of its tree. Cited by the proof of the match. Assumes nothing.
+-- Laws: the entries that are read along the leaves of a sound index are its tree's. The proof of the match cites them. Assumes nothing.
 use Prim.Native.Nat.{ℕ, zero, suc, _-_, _≤_, _<_}
 use mathlib.Core.Path.{_≡_, refl, sym, ap, _∙_}
 use mathlib.Core.Bool.{Bool, true, false}
@@ -15,15 +15,14 @@ use Rattle.page.specs.Header.{maxBytes, maxLevels, noPage, rootOffset, fileSize
 use Rattle.page.specs.HeaderLaws.{good-header}
 use Rattle.page.specs.Page.{attributeAt, leafBit}
 use Rattle.page.specs.Reading.{entriesAt}
-use Rattle.sound.specs.Sound.{Sound, CountGood, linksOf}
 use Rattle.page.specs.Children.{isLeaf, firstChild}
+use Rattle.sound.specs.Sound.{Sound, CountGood, linksOf, leafPairs}
 use Rattle.sound.specs.Rule.{Entries, maxPages, chain, unmarked}
 use Rattle.sound.specs.Levels.{numbers, below, generation, reached, join-map, generation-below, generations-reached, all-of-map}
 use Rattle.sound.specs.Levels.{tree-pairs, tree-pages, level-generation, pages-generation}
 use Rattle.sound.specs.MarkLaws.{fresh-few, unmarked-length, once-fresh}
 use Rattle.sound.specs.LevelLaws.{chain-is, next-head}
 use Rattle.sound.specs.ShapeLaws.{rootEntry, levelPages, entries-filled}
-use Rattle.matching.specs.Match.{entriesOf}
 use Rattle.matching.specs.Rule.{firstLeaf, leafEntries}
 use Rattle.matching.specs.StepLaws.{first-here, first-lower}
 
@@ -40,7 +39,7 @@ module _ (b : List ℕ) (k size : ℕ) (most : size ≤ maxBytes) where
   abbrev Inner : List ℕ × ℕ → Type 0
   Inner e = (isLeaf b size (e .1) ≡ false) × NonEmpty (entriesAt k size b (e .1))
 
-  -- from the first page that some entries name, to the first of the leaves h levels under it
+  -- from the first page that the entries es name to the first of the leaves h levels under it
   first-is : (l h : ℕ) (es : Entries) (first : ℕ) → h ≤ l → NonEmpty es → first ≡ headOr noPage (numbers es)
       → ((i : ℕ) → i < h → All Inner (generation S i es)) → All (λ e. isLeaf b size (e .1) ≡ true) (generation S h es)
       → firstLeaf b k size l first ≡ headOr noPage (numbers (generation S h es))
@@ -53,7 +52,7 @@ module _ (b : List ℕ) (k size : ℕ) (most : size ≤ maxBytes) where
       first-lower b k size l first (rw e inner)
       ∙ first-is l h (below S es) (firstChild b k size first) (omega arith) (next .1) (next .0) (λ i o. above (suc i) (omega arith)) bottom
 
-  -- a level has no more pages than there are in all
+  -- a level has at most as many pages as the tree
   level-few : (h i : ℕ) (es : Entries) → i < h → length (numbers (generation S i es)) ≤ length (reached S h es)
   level-few zero i es l = absurd (omega arith)
   level-few (suc h) zero es l = omega (arith, length-append (numbers es) (reached S h (below S es)))
@@ -118,7 +117,7 @@ module _ (b : List ℕ) (s : Sound b) where
       (level-generation B [] R (s .height) (λ j ps. Linked noPage (linksOf b) noPage ps) (s .links) (s .height) (omega arith))
 
   -- Theorem: the entries that are read along the leaves are the tree's
-  pub leaf-entries : leafEntries b ≡ entriesOf b s
+  pub leaf-entries : leafEntries b ≡ leafPairs b s
   unfolding leafEntries
   leaf-entries =
       let E = generation B (s .height) (rootEntry R) in

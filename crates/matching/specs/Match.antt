@@ -10,11 +10,10 @@ use Rattle.table.specs.Table.{typeC, recordCount, fieldCount, fieldType, fieldL
 use Rattle.field.specs.Field.{numberGood}
 use Rattle.cell.specs.Cell.{fieldBytes}
 use Rattle.tree.specs.Lists.{occ}
-use Rattle.tree.specs.Tree.{pairs}
 use Rattle.page.specs.Header.{keyLength, headerGood}
-use Rattle.sound.specs.Sound.{indexTree, Sound}
+use Rattle.sound.specs.Sound.{Sound, leafPairs}
 
--- "table checks, index header, field number, field type C, field length k (27)": 1 to 10, 24, 12, 13, 27; 0 where none of them is given
+-- "table checks, index header, field number, field type C, field length k (27)": 1 to 10, 24, 12, 13, 27, or 0
 unfoldable pub matchRefusal : List ℕ → List ℕ → ℕ → ℕ
 matchRefusal t b field =
     firstRefusal (tableChecks t
@@ -24,11 +23,7 @@ matchRefusal t b field =
     ∷ (eqb (fieldLength t (field - 1)) (keyLength b), 27)
     ∷ []))
 
--- the entries of a sound index: its leaves' pairs of key and record number
-abbrev pub entriesOf : (b : List ℕ) → Sound b → List (List ℕ × ℕ)
-entriesOf b s = pairs (s .height) (indexTree b (s .height))
-
--- how many of some entries are those of record i
+-- how many of the entries name record i
 abbrev pub entriesFor : ℕ → List (List ℕ × ℕ) → ℕ
 entriesFor i es = occ i (map (λ e. e .1) es)
 
@@ -43,10 +38,10 @@ pub record Matches (t : List ℕ) (field : ℕ) (es : List (List ℕ × ℕ)) : 
 
 -- the answer r of the match of an index b against a field of a table t
 pub record Matched (t b : List ℕ) (field r : ℕ) : Type 0 where
-  -- the first refusal of 1 to 10, 24, 12, 13 and 27, where there is one
+  -- the first refusal of 1 to 10, 24, 12, 13 and 27, if there is one
   pub refused : (matchRefusal t b field ≡ 0 → ⊥) → r ≡ matchRefusal t b field
-  -- "audit": then 25, exactly where the index is not sound
+  -- "audit": then 25, exactly if the index is not sound
   pub unsound : matchRefusal t b field ≡ 0 → ((r ≡ 25) ↔ (Sound b → ⊥))
-  -- "then 31 unless ..": 0 exactly where the entries match, and else 31
-  pub accepted : matchRefusal t b field ≡ 0 → (s : Sound b) → ((r ≡ 0) ↔ Matches t field (entriesOf b s))
+  -- "then 31 unless ..": 0 exactly if the entries match, else 31
+  pub accepted : matchRefusal t b field ≡ 0 → (s : Sound b) → ((r ≡ 0) ↔ Matches t field (leafPairs b s))
   pub other : matchRefusal t b field ≡ 0 → (s : Sound b) → (r ≡ 0) ⊎ (r ≡ 31)

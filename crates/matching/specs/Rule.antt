@@ -1,5 +1,5 @@
--- Rules: the test that tells 0 from 31, as it is computed, entry after entry along the leaves. Only the match's inner functions cite it: that it holds exactly
--- where the entries match is proved in TestLaws, so that a reader need not believe it.
+-- Steps: the test that tells 0 from 31, as it is computed, entry after entry along the leaves. Only the match's inner functions cite it. TestLaws proves that
+-- it holds exactly if the entries match, so a reader need not believe it.
 use Prim.Native.Nat.{ℕ, zero, suc, _+_, _-_, _≤_}
 use mathlib.Core.Path.{_≡_}
 use mathlib.Core.Bool.{Bool, true, false, _&&_}
@@ -28,27 +28,27 @@ entryAt b k p i = (keyAt b k p i, numberAt b k p i)
 unfoldable pub columnBytes : List ℕ → Column → ℕ → List ℕ
 columnBytes t c i = window t (recordStart t i + c .offset) (c .length)
 
--- an entry is that of a record from 1 to n, and has its field as the key
+-- the entry names a record from 1 to n, and has this record's field as its key
 unfoldable pub entryGood : List ℕ → Column → List ℕ × ℕ → Bool
 entryGood t c e = numberGood (e .1) (c .records) && isEqual (ordering (e .0) (columnBytes t c (e .1)))
 
--- the same of some entries
+-- all entries do so
 unfoldable pub entriesGood : List ℕ → Column → Entries → Bool
 entriesGood t c [] = true
 entriesGood t c (e ∷ es) = entryGood t c e && entriesGood t c es
 
--- and there are n of them, with those that were counted before
+-- and are n, together with the `count` entries that were tested before
 unfoldable pub entriesMatch : List ℕ → Column → ℕ → Entries → Bool
 entriesMatch t c count es = entriesGood t c es && eqb (count + length es) (c .records)
 
 -- ---- leaves
 
--- the first leaf from a page on down, by the first children, past l pages at most
+-- the first leaf under the page at p, by the first children, at most l levels down
 unfoldable pub firstLeaf : List ℕ → ℕ → ℕ → ℕ → ℕ → ℕ
 firstLeaf b k size zero p = p
 firstLeaf b k size (suc l) p = elim (isLeaf b size p) [ true ↦ p | false ↦ firstLeaf b k size l (firstChild b k size p) ]
 
--- the entries of the pages from p on, n at most, each named by the right link of the one before it
+-- the entries of the pages from p on along the right links, n pages at most
 abbrev pub entriesAlong : List ℕ → ℕ → ℕ → ℕ → ℕ → Entries
 entriesAlong b k size n p = concatMap (entriesAt k size b) (chain b size n p)
 
@@ -57,7 +57,7 @@ unfoldable pub leafEntries : List ℕ → Entries
 leafEntries b =
     entriesAlong b (keyLength b) (fileSize b) maxPages (firstLeaf b (keyLength b) (fileSize b) (maxLevels - 1) (rootOffset b))
 
--- ---- what the inner functions ask of the table: the field lies in it, in each record from 1 to n
+-- ---- what the inner functions ask of the table: the field of each record from 1 to n lies in it
 pub record ColumnInside (t : List ℕ) (c : Column) : Type 0 where
   pub long : minTable ≤ length t
   pub inside : (i : ℕ) → numberGood i (c .records) ≡ true → recordStart t i + c .offset + c .length ≤ length t

@@ -1,5 +1,5 @@
--- Laws: one entry by its tests, and the loops over the entries of a leaf, over the leaves and down to the first leaf, by what is left to do. Cited by the
--- proofs of these functions. Assumes nothing.
+-- Laws: one entry by its tests, and the loops over the entries of a leaf, over the leaves and down to the first leaf, by what is left to do. The proofs of
+-- these functions cite them. Assumes nothing.
 use Prim.Native.Nat.{ℕ, zero, suc, _+_, _-_, _≤_, _<_}
 use mathlib.Core.Path.{_≡_, refl, sym, ap, _∙_}
 use mathlib.Core.Bool.{Bool, true, false, _&&_}
@@ -62,7 +62,7 @@ module _ (t : List ℕ) (c : Column) (number : ℕ) where
 
 -- ---- the entries of a leaf
 
--- what is left to test from entry i on decides
+-- the entries from i on decide
 abbrev pub EntriesLeft : List ℕ → Column → List ℕ → ℕ → ℕ → ℕ → Type 0
 EntriesLeft t c b p n i = entriesGood t c (entriesFrom b (c .length) p n 0) ≡ entriesGood t c (entriesFrom b (c .length) p (n - i) i)
 
@@ -82,7 +82,7 @@ module _ (t : List ℕ) (c : Column) (b : List ℕ) (p n i : ℕ) (inv : Entries
     pub entries-on : r ≡ true → EntriesLeft t c b p n (i + 1)
     entries-on e = entries-step ∙ rw e
 
--- a page has few entries
+-- a page has at most as many entries as its entry area has bytes
 pub entries-few : (k size : ℕ) (b : List ℕ) (p : ℕ) → length (entriesAt k size b p) ≤ entryArea
 entries-few k size b p = either (isPage size p)
     (λ e. let few = capacity-small k in rw (length-entries k size b p e) (omega (arith, min-le-right (countAt b p) (capacity k))))
@@ -103,7 +103,7 @@ unfolding chain
 chain-end b k size p zero h = refl
 chain-end b k size p (suc left) h = absurd (omega arith)
 
--- entries that pass are counted, and one that does not decides
+-- entries that pass are counted; one that fails decides
 module _ (t : List ℕ) (c : Column) where
   good-append : (xs ys : Entries) → entriesGood t c (xs ++ ys) ≡ (entriesGood t c xs && entriesGood t c ys)
   unfolding entriesGood
@@ -124,7 +124,7 @@ module _ (t : List ℕ) (c : Column) where
   unfolding entriesMatch entriesGood
   match-none count = let e : count + 0 ≡ count = omega arith in rw e
 
--- what is left to test from the page p on, with so many pages left and so many entries counted, decides
+-- the entries from the page p on decide, with `left` pages left and `count` entries counted
 abbrev pub LeavesLeft : List ℕ → Column → List ℕ → ℕ → ℕ → ℕ → ℕ → ℕ → Type 0
 LeavesLeft t c b size first p count left =
     entriesMatch t c 0 (entriesAlong b (c .length) size maxPages first) ≡ entriesMatch t c count (entriesAlong b (c .length) size left p)
@@ -166,7 +166,7 @@ module _ (b : List ℕ) (k size : ℕ) where
   unfolding firstLeaf
   first-lower l p e = rw (e, firstLeaf)
 
-  -- the leaf that is come to from the page p, with so many levels left, is that from the root
+  -- the first leaf under the page p, with `left` levels left, is the root's
   abbrev pub FirstLeft : ℕ → ℕ → ℕ → Type 0
   FirstLeft root p left = firstLeaf b k size (maxLevels - 1) root ≡ firstLeaf b k size left p
 

@@ -1,4 +1,4 @@
--- Laws: of entries whose keys ascend, the test that is computed holds exactly where they match. Cited by the proof of the match. Assumes nothing.
+-- Laws: if the keys of entries ascend, the test that is computed holds exactly if the entries match. The proof of the match cites it. Assumes nothing.
 use Prim.Native.Nat.{ℕ, _+_, _-_, _≤_}
 use mathlib.Core.Path.{_≡_, refl, sym, ap, _∙_}
 use mathlib.Core.Bool.{true, false}
@@ -27,16 +27,16 @@ use Rattle.matching.specs.Match.{Matches}
 use Rattle.matching.specs.Rule.{columnBytes, entryGood, entriesGood, entriesMatch}
 use Rattle.matching.specs.CountLaws.{each-once, as-many}
 
--- a number from 1 to a count, from its range
+-- a number in the range passes the test of numbers
 range-number : (i n : ℕ) → 1 ≤ i → i ≤ n → numberGood i n ≡ true
 unfolding numberGood
 range-number i n l u = join _ _ (le-leb 1 i l) (le-leb i n u)
 
--- two lists of bytes that are equal
+-- equal lists of bytes compare as equal
 same-equal : (a b : List ℕ) → a ≡ b → isEqual (ordering a b) ≡ true
 same-equal a b e = rw e (equal-refl b)
 
--- no record has two entries where each entry has its record's field as the key: they would have one key
+-- no record has two entries if the key of each entry is the field of its record: the two entries would have one key
 module _ (f : ℕ → List ℕ) where
   abbrev Own : List ℕ × ℕ → Type 0
   Own e = e .0 ≡ f (e .1)
@@ -90,7 +90,7 @@ column-field : (t : List ℕ) (field i : ℕ) → columnBytes t (columnOf t fiel
 unfolding columnBytes fieldBytes fieldStart
 column-field t field i = refl
 
--- Theorem: of entries whose keys ascend, the test holds exactly where they match
+-- Theorem: if the keys ascend, the test holds exactly if the entries match
 module _ (t : List ℕ) (field : ℕ) (es : Entries) (ascending : Ascending bytesOrder es) where
   abbrev C : Column
   C = columnOf t field

@@ -1,7 +1,8 @@
 // The match of an index against a field of a table. Document 01: "Match: table checks, index header, field number, field type C, field length k (27), audit,
 // then 31 unless each record 1 to n, whatever its deletion byte, has exactly one entry, its key that record's field, and there are no other entries."
-// Once the index is known to be sound, its leaf keys ascend, so that no two are equal. So it is enough to go along the leaves once: if each entry has the
-// field of a record of the table as its key, no record has two entries, and if there are as many entries as records, each has one.
+//
+// The leaf keys of a sound index ascend, so no two are equal. One pass along the leaves is therefore enough: if the key of each entry is the field of its
+// record, no record has two entries; if there are as many entries as records, each record has one.
 use page::Page;
 use page::PageOffset;
 use table::Checked;
@@ -18,26 +19,14 @@ ghost use Rattle.audit.specs.State.{InFile, EntriesWithin};
 ghost use Rattle.matching.specs.Match.{matchRefusal, Matched};
 ghost use Rattle.matching.specs.Rule.{entryAt, entryGood, entriesGood, entriesMatch, firstLeaf, entriesAlong, leafEntries, ColumnInside};
 
-const BAD_FIELD_NUMBER: u32 = 12;
-
-const OTHER_TYPE: u32 = 13;
-
-const BAD_INDEX_HEADER: u32 = 24;
-
-const UNSOUND_INDEX: u32 = 25;
-
-const OTHER_KEY_LENGTH: u32 = 27;
-
-const NO_MATCH: u32 = 31;
-
-// A field of all records of a table: their number, where it begins in a record, and its length.
+// One field of every record of a table: how many records there are, where the field starts in a record, and its length.
 struct Column {
     records: u32,
     offset: usize,
     length: usize,
 }
 
-// Whether entry i of a leaf is that of a record of the table and has its field as the key.
+// Whether entry i of a leaf names a record of the table and has this record's field as its key.
 fn entry_good(table: &[u8], index: &[u8], column: Column, page: PageOffset, i: usize) -> bool
     requires { ⌜ ColumnInside (now table) column × Within (now index) (column .length) (page .0) (i + 1) ⌝ }
     ensures { λ r. ⌜ r ≡ entryGood (now (table .entry)) column (entryAt (now (index .entry)) (column .length) (page .0) i) ⌝ }
@@ -51,7 +40,7 @@ fn entry_good(table: &[u8], index: &[u8], column: Column, page: PageOffset, i: u
     octets::is_equal(page::compare_entry(index, page, i, &table[start..end]))
 }
 
-// The same of so many entries of a leaf.
+// Whether the first `count` entries of a leaf all do so.
 fn leaf_good(table: &[u8], index: &[u8], column: Column, page: PageOffset, count: usize) -> bool
     requires { ⌜ ColumnInside (now table) column × EntriesWithin (now index) (column .length) (page .0) count ⌝ }
     ensures { λ r. ⌜ r ≡ entriesGood (now (table .entry)) column (entriesFrom (now (index .entry)) (column .length) (page .0) count 0) ⌝ }
@@ -66,7 +55,7 @@ fn leaf_good(table: &[u8], index: &[u8], column: Column, page: PageOffset, count
     true
 }
 
-// The same of the entries of the leaves from the first on, along the right links, and whether they are as many as the records.
+// Whether all entries of the leaves do so, from the leaf `first` on along the right links, and are as many as the records.
 fn leaves_good(table: &[u8], index: &[u8], column: Column, size: usize, first: PageOffset) -> bool
     requires { ⌜ ColumnInside (now table) column × InFile (now index) (column .length) size ⌝ }
     ensures { λ r. ⌜ r ≡ entriesMatch (now (table .entry)) column 0 (entriesAlong (now (index .entry)) (column .length) size maxPages (first .0)) ⌝ }
@@ -87,7 +76,7 @@ fn leaves_good(table: &[u8], index: &[u8], column: Column, size: usize, first: P
     count == column.records as usize
 }
 
-// The first leaf of an index, from the root on down by the first children.
+// The first leaf of an index: down from the root by the first children.
 fn first_leaf(index: &[u8], k: usize, size: usize) -> PageOffset
     requires { ⌜ InFile (now index) k size ⌝ }
     ensures { λ r. ⌜ r .0 ≡ firstLeaf (now (index .entry)) k size (maxLevels - 1) (rootOffset (now (index .entry))) ⌝ }
@@ -104,7 +93,7 @@ fn first_leaf(index: &[u8], k: usize, size: usize) -> PageOffset
     page
 }
 
-// Whether the entries of the leaves are those of the records, each with its field as the key.
+// Whether the entries of the leaves are one for each record, with the record's field as the key.
 fn entries_match(table: &[u8], index: &[u8], column: Column) -> bool
     requires { ⌜ ColumnInside (now table) column × (headerGood (now index) ≡ true) × (column .length ≡ keyLength (now index)) ⌝ }
     ensures { λ r. ⌜ r ≡ entriesMatch (now (table .entry)) column 0 (leafEntries (now (index .entry))) ⌝ }
@@ -114,23 +103,23 @@ fn entries_match(table: &[u8], index: &[u8], column: Column) -> bool
     leaves_good(table, index, column, size, first)
 }
 
-// The refusals 24, 12, 13 and 27, in this order, of a table that was checked; 0 where there is none.
+// The first refusal of 24, 12, 13 and 27, in this order, for a table that was checked; 0 if there is none.
 fn match_refusal(table: &[u8], index: &[u8], shape: Shape, field: u32) -> u32
     requires { ⌜ Shaped (now table) shape ⌝ }
     ensures { λ r. ⌜ r ≡ matchRefusal (now (table .entry)) (now (index .entry)) field ⌝ }
 {
     if !page::header_good(index) {
-        return BAD_INDEX_HEADER;
+        return refusal::INDEX_HEADER;
     }
     if !field::number_good(field as usize, shape.fields) {
-        return BAD_FIELD_NUMBER;
+        return refusal::FIELD_NUMBER;
     }
     let form = field::field_form(table, (field - 1) as usize);
     if form.kind != table::TYPE_C {
-        return OTHER_TYPE;
+        return refusal::FIELD_TYPE;
     }
     if form.length != page::key_length(index) {
-        return OTHER_KEY_LENGTH;
+        return refusal::KEY_LENGTH;
     }
     0
 }
@@ -145,7 +134,7 @@ fn match_checked(table: &[u8], index: &[u8], shape: Shape, field: u32) -> u32
         return refusal;
     }
     if audit::audit(index) != 0 {
-        return UNSOUND_INDEX;
+        return refusal::INDEX_NOT_SOUND;
     }
     let form = field::field_form(table, (field - 1) as usize);
     let column = Column {
@@ -156,16 +145,16 @@ fn match_checked(table: &[u8], index: &[u8], shape: Shape, field: u32) -> u32
     if entries_match(table, index, column) {
         0
     } else {
-        NO_MATCH
+        refusal::INDEX_AND_TABLE_DIFFER
     }
 }
 
-// The match of an index against a field of a table, by its number, from 1.
+// The match of an index against a field of a table. Fields are counted from 1.
 pub fn match_index(table: &[u8], index: &[u8], field: u32) -> u32
     ensures { λ r. ⌜ Matched (now (table .entry)) (now (index .entry)) field r ⌝ }
 {
     match table::check_table(table) {
-        Checked::Refused(number) => number,
+        Checked::Refused(refusal) => refusal,
         Checked::Good(shape) => match_checked(table, index, shape, field),
     }
 }

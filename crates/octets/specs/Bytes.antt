@@ -21,13 +21,13 @@ be16 s at = 256 * byteAt s at + byteAt s (at + 1)
 unfoldable pub be32 : List ℕ → ℕ → ℕ
 be32 s at = 16777216 * byteAt s at + 65536 * byteAt s (at + 1) + 256 * byteAt s (at + 2) + byteAt s (at + 3)
 
--- the bytes of a number: two or four, least significant first
+-- the two and the four bytes of a number, least significant first
 unfoldable pub toLe16 : ℕ → List ℕ
 toLe16 x = x % 256 ∷ x / 256 % 256 ∷ []
 
 unfoldable pub toLe32 : ℕ → List ℕ
 toLe32 x = x % 256 ∷ x / 256 % 256 ∷ x / 256 / 256 % 256 ∷ x / 256 / 256 / 256 % 256 ∷ []
 
--- four, most significant first
+-- the four bytes of a number, most significant first
 unfoldable pub toBe32 : ℕ → List ℕ
 toBe32 x = x / 256 / 256 / 256 % 256 ∷ x / 256 / 256 % 256 ∷ x / 256 % 256 ∷ x % 256 ∷ []

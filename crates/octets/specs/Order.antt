@@ -12,7 +12,7 @@ bytesLe [] b = true
 bytesLe (x ∷ a) [] = false
 bytesLe (x ∷ a) (y ∷ b) = let rest = bytesLe a b in cond (eqb x y) rest (ltb x y)
 
--- the order of a to b, by that one test
+-- the order of a to b, by that one test both ways
 unfoldable pub ordering : List ℕ → List ℕ → Ordering
 ordering a b = cond (bytesLe a b) (cond (bytesLe b a) Equal Below) Above
 

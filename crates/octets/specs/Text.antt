@@ -1,5 +1,5 @@
--- Rules: the characters of a text: blanks on its left, digits, the number that digits stand for, and the digits of a number. Cited by numeric text, dates, memo
--- numbers and the argument FIELD.
+-- Rules: the characters of a text: blanks on its left, digits, the number that digits stand for, and the digits of a number. Numeric text, dates, memo numbers
+-- and the argument FIELD cite them.
 use Prim.Native.Nat.{ℕ, zero, suc, _+_, _*_, _-_, _/_, _%_}
 use mathlib.Core.Bool.{Bool, true, false, cond, _&&_}
 use mathlib.Core.List.{List, [], _∷_, _++_}
@@ -12,11 +12,11 @@ unfoldable pub every : (ℕ → Bool) → List ℕ → Bool
 every p [] = true
 every p (c ∷ s) = p c && every p s
 
--- a blank; so a text is all blanks by `every (eqb blank)`
+-- a blank; a text is all blanks by `every (eqb blank)`
 abbrev pub blank : ℕ
 blank = 0x20
 
--- a text from its first character that is no blank on
+-- a text without the blanks on its left
 unfoldable pub unpadded : List ℕ → List ℕ
 unpadded [] = []
 unpadded (c ∷ s) = let tail = unpadded s in cond (eqb blank c) tail (c ∷ s)
@@ -28,7 +28,7 @@ zeroDigit = 0x30
 abbrev pub isDigit : ℕ → Bool
 isDigit c = leb zeroDigit c && leb c 0x39
 
--- the number that digits stand for, after the number n of the digits before them
+-- the number that the digits s stand for behind digits that stand for n
 unfoldable pub numberFrom : ℕ → List ℕ → ℕ
 numberFrom n [] = n
 numberFrom n (c ∷ s) = numberFrom (10 * n + (c - zeroDigit)) s
@@ -36,7 +36,7 @@ numberFrom n (c ∷ s) = numberFrom (10 * n + (c - zeroDigit)) s
 unfoldable pub numberOf : List ℕ → ℕ
 numberOf s = numberFrom 0 s
 
--- what a text says that should be digits: their number, or that there is another character
+-- what a text says that should be digits: the number that they stand for, or that it has another character
 unfoldable pub digitsOf : List ℕ → Digits
 digitsOf s = cond (every isDigit s) (Number (numberOf s)) Other
 
@@ -45,7 +45,7 @@ unfoldable pub lastDigits : ℕ → ℕ → List ℕ
 lastDigits zero n = []
 lastDigits (suc count) n = lastDigits count (n / 10) ++ ((zeroDigit + n % 10) ∷ [])
 
--- the decimal digits of n "without needless leading zero", by at most fuel + 1 divisions; n itself is fuel enough
+-- the decimal digits of n "without needless leading zero", at most the last fuel + 1 of them; n is fuel enough for all
 unfoldable pub decimalFrom : ℕ → ℕ → List ℕ
 decimalFrom zero n = (zeroDigit + n % 10) ∷ []
 decimalFrom (suc fuel) n =

@@ -18,11 +18,11 @@ use Rattle.octets.specs.declared.Digits.the-variants.{Number, Other}
 
 -- ---- one character
 
--- a digit's code
+-- a digit's code is from 0x30 to 0x39
 pub digit-range : (c : ℕ) → isDigit c ≡ true → (zeroDigit ≤ c) × (c ≤ 0x39)
 digit-range c e = let t = both (leb zeroDigit c) (leb c 0x39) e in (leb-true _ _ (t .0), leb-true _ _ (t .1))
 
--- a number below ten as a digit
+-- a number below ten has a digit
 pub digit-of : (n : ℕ) → n < 10 → isDigit (zeroDigit + n) ≡ true
 digit-of n small = join _ _ (le-leb zeroDigit (zeroDigit + n) (omega arith)) (le-leb (zeroDigit + n) 0x39 (omega arith))
 
@@ -35,7 +35,7 @@ every-append p (c ∷ s) t = rw (every-append p s t) (sym (and-assoc (p c) (ever
 
 -- ---- blanks on the left
 
--- they are passed one after another
+-- `unpadded` passes a blank and stops at another character
 module _ (text : List ℕ) (i : ℕ) (h : i < length text) where
   pub unpadded-blank : byteAt text i ≡ blank → unpadded (drop i text) ≡ unpadded (drop (i + 1) text)
   unfolding unpadded
@@ -45,12 +45,12 @@ module _ (text : List ℕ) (i : ℕ) (h : i < length text) where
   unfolding unpadded
   unpadded-other e = rw (drop-cons text i 0 h, ne-eqb blank _ (λ f. e (sym f)))
 
--- a digit is none
+-- a digit is no blank
 pub unpadded-digit : (c : ℕ) (s : List ℕ) → isDigit c ≡ true → unpadded (c ∷ s) ≡ c ∷ s
 unfolding unpadded
 unpadded-digit c s e = let r = digit-range c e in rw (ne-eqb blank c (omega arith))
 
--- blanks put before a text go away again
+-- `unpadded` takes away blanks that were put before a text
 pub unpadded-blanks : (k : ℕ) (s : List ℕ) → unpadded (replicate k blank ++ s) ≡ unpadded s
 unfolding unpadded
 unpadded-blanks zero s = refl
@@ -61,7 +61,7 @@ unfolding unpadded
 unpadded-short [] = omega arith
 unpadded-short (c ∷ s) = either (eqb blank c) (λ e. rw e (let l = unpadded-short s in omega arith)) (λ e. rw e (omega arith))
 
--- and only blanks go
+-- it takes away blanks alone
 pub unpadded-front : (s : List ℕ) → s ≡ replicate (length s - length (unpadded s)) blank ++ unpadded s
 unfolding unpadded
 unpadded-front [] = refl
@@ -73,7 +73,7 @@ unpadded-front (c ∷ s) = either (eqb blank c)
     rw (e, m) (ap (λ (x : ℕ). x ∷ s) b ∙ ap (λ (l : List ℕ). blank ∷ l) (unpadded-front s)))
     (λ e. rw (e, sub-self))
 
--- nothing is left of a text exactly where it is all blanks
+-- a text is all blanks exactly if nothing is left of it
 pub blanks-left : (s : List ℕ) → every (eqb blank) s ≡ eqb (length (unpadded s)) 0
 unfolding every unpadded
 blanks-left [] = refl
@@ -86,7 +86,7 @@ blanks-are (c ∷ s) e =
     let t = both (eqb blank c) (every (eqb blank) s) e in
     rw (← blanks-are s (t .1), ← eqb-true blank c (t .0))
 
--- how many blanks there are tells the same
+-- a text is all blanks exactly if the count i of its first blanks is its length
 pub blanks-passed : (s : List ℕ) (i : ℕ) → i ≤ length s → drop i s ≡ unpadded s → every (eqb blank) s ≡ eqb i (length s)
 blanks-passed s i h e =
     let l : length s - i ≡ length (unpadded s) = sym (length-drop i s) ∙ ap length e in
@@ -95,7 +95,7 @@ blanks-passed s i h e =
     (λ t. rw (t, eq-eqb (length (unpadded s)) 0 (omega (arith, eqb-true i (length s) t))))
     (λ t. rw (t, ne-eqb (length (unpadded s)) 0 (λ z. eqb-false i (length s) t (omega arith))))
 
--- digits are none
+-- a text of digits is not all blanks
 pub digits-no-blanks : (s : List ℕ) → 0 < length s → every isDigit s ≡ true → every (eqb blank) s ≡ false
 unfolding every
 digits-no-blanks [] h e = absurd (omega arith)
@@ -113,7 +113,7 @@ digits-unread s other = rw other
 
 -- ---- digits read one after another
 
--- what digits say behind the number n of those before them
+-- what the characters s say behind digits that stand for n
 unfoldable pub digitsFrom : ℕ → List ℕ → Digits
 digitsFrom n s = cond (every isDigit s) (Number (numberFrom n s)) Other
 
@@ -121,9 +121,10 @@ pub digits-start : (s : List ℕ) → digitsOf s ≡ digitsFrom 0 s
 unfolding digitsOf digitsFrom numberOf
 digits-start s = refl
 
--- a digit goes into the number, another character decides
+-- a digit goes into the number, and another character decides
 module _ (text : List ℕ) (i : ℕ) (h : i < length text) (n : ℕ) where
-  pub digits-more : isDigit (byteAt text i) ≡ true → digitsFrom n (drop i text) ≡ digitsFrom (10 * n + (byteAt text i - zeroDigit)) (drop (i + 1) text)
+  pub digits-more : isDigit (byteAt text i) ≡ true
+      → digitsFrom n (drop i text) ≡ digitsFrom (10 * n + (byteAt text i - zeroDigit)) (drop (i + 1) text)
   unfolding digitsFrom every numberFrom
   digits-more e = rw (add-one, drop-cons text i 0 h, e)
 

@@ -1,11 +1,13 @@
-// Numbers in bytes, stores into a buffer, the order of byte strings, and the blanks and digits of a text: what every reader and writer of the files' bytes rests on.
+// Numbers in bytes, stores into a buffer, the order of byte strings, and the blanks and digits of a text. All code that reads or writes the files' bytes rests
+// on this crate.
 ghost use mathlib.Core.Path.{_≡_};
-ghost use mathlib.Core.Bool.{true};
 ghost use Prim.Native.Nat.{_+_, _-_, _≤_, _<_};
 ghost use lib.ListN.{length, replicate, drop};
 ghost use Rattle.octets.specs.Bytes.{byteAt, le16, le32, be16, be32, toLe16, toLe32, toBe32};
 ghost use Rattle.octets.specs.Store.{put};
+ghost use Rattle.octets.specs.declared.Ordering.the-variants.{Equal};
 ghost use Rattle.octets.specs.Order.{ordering, isBelow, isEqual};
+ghost use Rattle.octets.specs.Words.{le64, bytesNumber, smaller, orderThen, Agree};
 ghost use Rattle.octets.specs.Text.{unpadded, isDigit, digitsOf};
 
 // The order of one byte string to another.
@@ -15,7 +17,7 @@ pub enum Ordering {
     Above,
 }
 
-// What a text says that should be digits: their number, or that there is another character.
+// What a text says that should be digits: the number that they stand for, or that it has another character.
 pub enum Digits {
     Number(u64),
     Other,
@@ -53,12 +55,39 @@ pub fn load_le32(s: &[u8], at: usize) -> u32
     byte(s, at) + 256 * byte(s, at + 1) + 65536 * byte(s, at + 2) + 16777216 * byte(s, at + 3)
 }
 
-// The four bytes at an offset, most significant first.
+// The eight bytes at an offset, least significant first.
+fn load_le64(s: &[u8], at: usize) -> u64
+    requires { ⌜ at + 8 ≤ length (now s) ⌝ }
+    ensures { λ r. ⌜ r ≡ le64 (now (s .entry)) at ⌝ }
+{
+    load_le32(s, at) as u64 + 4294967296 * (load_le32(s, at + 4) as u64)
+}
+
+// The number that has the four bytes of x in the other order.
+fn swap_bytes(x: u32) -> u32
+    ensures { λ r. ⌜ r ≡ be32 (toLe32 x) 0 ⌝ }
+{
+    16777216 * (x % 256)
+        + 65536 * (x / 256 % 256)
+        + 256 * (x / 256 / 256 % 256)
+        + x / 256 / 256 / 256 % 256
+}
+
+// The four bytes at an offset, most significant first. The code reads them in the machine's order and turns them round: the compiler makes a load and a swap of
+// this before it decides what to inline, and of a sum of bytes only after.
 pub fn load_be32(s: &[u8], at: usize) -> u32
     requires { ⌜ at + 4 ≤ length (now s) ⌝ }
     ensures { λ r. ⌜ r ≡ be32 (now (s .entry)) at ⌝ }
 {
-    16777216 * byte(s, at) + 65536 * byte(s, at + 1) + 256 * byte(s, at + 2) + byte(s, at + 3)
+    swap_bytes(load_le32(s, at))
+}
+
+// The eight bytes at an offset as one number, the first byte highest.
+fn load_be64(s: &[u8], at: usize) -> u64
+    requires { ⌜ at + 8 ≤ length (now s) ⌝ }
+    ensures { λ r. ⌜ r ≡ bytesNumber (now (s .entry)) at 8 ⌝ }
+{
+    4294967296 * (load_be32(s, at) as u64) + load_be32(s, at + 4) as u64
 }
 
 // Stores a number in two bytes, least significant first.
@@ -102,7 +131,7 @@ pub fn copy_in(buf: &mut [u8], at: usize, src: &[u8])
     }
 }
 
-// Sets the bytes from one offset up to another to one value.
+// Sets the bytes from offset `from` up to, but not at, offset `to` to one value.
 pub fn fill(buf: &mut [u8], from: usize, to: usize, value: u8)
     requires { ⌜ (from ≤ to) × (to ≤ length (now buf)) ⌝ }
     ensures { λ _. ⌜ now (buf .exit) ≡ put (now (buf .entry)) from (replicate (to - from) value) ⌝ }
@@ -114,66 +143,100 @@ pub fn fill(buf: &mut [u8], from: usize, to: usize, value: u8)
     }
 }
 
-// Whether two strings both have four bytes more at an offset.
-fn words_left(a: &[u8], b: &[u8], i: usize) -> bool
-    requires { ⌜ (i ≤ length (now a)) × (i ≤ length (now b)) ⌝ }
-    ensures { λ r. ⌜ (r ≡ true → (i + 4 ≤ length (now (a .entry))) × (i + 4 ≤ length (now (b .entry)))) ⌝ }
+// The smaller of two lengths.
+fn shorter(x: usize, y: usize) -> usize
+    ensures { λ r. ⌜ r ≡ smaller x y ⌝ }
 {
-    (4 <= a.len() - i) & (4 <= b.len() - i)
+    if x < y { x } else { y }
 }
 
-// The order of what two strings have from an offset on, byte by byte.
-fn compare_bytes(a: &[u8], b: &[u8], from: usize) -> Ordering
-    requires { ⌜ (from ≤ length (now a)) × (from ≤ length (now b)) ⌝ }
-    ensures { λ r. ⌜ r ≡ ordering (drop from (now (a .entry))) (drop from (now (b .entry))) ⌝ }
+// The count of bytes, in whole words of eight, in which two strings agree from the start; n is the shorter length. Two words are equal in either order of their
+// bytes, so the code reads them in the machine's order.
+fn same_words(a: &[u8], b: &[u8], n: usize) -> usize
+    requires { ⌜ n ≡ smaller (length (now a)) (length (now b)) ⌝ }
+    ensures { λ r. ⌜ Agree (now (a .entry)) (now (b .entry)) n r ⌝ }
 {
-    let mut i = from;
-    while (i < a.len()) & (i < b.len()) {
-        if a[i] < b[i] {
-            return Ordering::Below;
+    let mut i = 0;
+    while 8 <= n - i {
+        if load_le64(a, i) != load_le64(b, i) {
+            return i;
         }
-        if b[i] < a[i] {
-            return Ordering::Above;
-        }
-        i += 1;
+        i += 8;
     }
-    if i < b.len() {
+    i
+}
+
+// The order of two strings from an offset on, if their next eight bytes differ: these decide, as numbers with the first byte highest.
+fn compare_words(a: &[u8], b: &[u8], i: usize) -> Ordering
+    requires { ⌜ (i + 8 ≤ length (now a)) × (i + 8 ≤ length (now b)) × (bytesNumber (now a) i 8 ≡ bytesNumber (now b) i 8 → ⊥) ⌝ }
+    ensures { λ r. ⌜ r ≡ ordering (drop i (now (a .entry))) (drop i (now (b .entry))) ⌝ }
+{
+    if load_be64(a, i) < load_be64(b, i) {
         return Ordering::Below;
     }
-    if i < a.len() {
+    Ordering::Above
+}
+
+// The order of two numbers.
+fn order_of(x: u64, y: u64) -> Ordering
+    ensures { λ r. ⌜ r ≡ orderThen x y Equal ⌝ }
+{
+    if x < y {
+        return Ordering::Below;
+    }
+    if y < x {
         return Ordering::Above;
     }
     Ordering::Equal
 }
 
-// The number of the same four bytes in the other order.
-fn swap_bytes(x: u32) -> u32
-    ensures { λ r. ⌜ r ≡ be32 (toLe32 x) 0 ⌝ }
+// The order of two strings from an offset on: the first byte that differs decides, or the length if none does; n is the shorter length.
+fn compare_rest(a: &[u8], b: &[u8], from: usize, n: usize) -> Ordering
+    requires { ⌜ (from ≤ n) × (n ≡ smaller (length (now a)) (length (now b))) ⌝ }
+    ensures { λ r. ⌜ r ≡ ordering (drop from (now (a .entry))) (drop from (now (b .entry))) ⌝ }
 {
-    16777216 * (x % 256)
-        + 65536 * (x / 256 % 256)
-        + 256 * (x / 256 / 256 % 256)
-        + x / 256 / 256 / 256 % 256
+    let mut i = from;
+    while i < n {
+        if a[i] != b[i] {
+            return order_of(a[i] as u64, b[i] as u64);
+        }
+        i += 1;
+    }
+    order_of(a.len() as u64, b.len() as u64)
 }
 
-// The order of two byte strings of any lengths: four bytes at a time, as numbers with the first byte highest, and the rest singly. Whether two words are the
-// same does not hang on the order of their bytes, so only those that differ are turned round.
+// The order of two short strings; n is the shorter length. The loop goes from the last byte back, so the first byte that differs is the last to set x and y. No
+// branch depends on a byte: the processor cannot foresee where two keys differ, and a wrong guess costs more than a few bytes.
+fn compare_short(a: &[u8], b: &[u8], n: usize) -> Ordering
+    requires { ⌜ n ≡ smaller (length (now a)) (length (now b)) ⌝ }
+    ensures { λ r. ⌜ r ≡ ordering (now (a .entry)) (now (b .entry)) ⌝ }
+{
+    let mut x = a.len() as u64;
+    let mut y = b.len() as u64;
+    let mut i = n;
+    while 0 < i {
+        i -= 1;
+        if a[i] != b[i] {
+            x = a[i] as u64;
+            y = b[i] as u64;
+        }
+    }
+    order_of(x, y)
+}
+
+// The order of two byte strings of any lengths: eight bytes at a time, as numbers with the first byte highest, and the rest singly.
 pub fn compare(a: &[u8], b: &[u8]) -> Ordering
     ensures { λ r. ⌜ r ≡ ordering (now (a .entry)) (now (b .entry)) ⌝ }
 {
-    let mut i = 0;
-    while words_left(a, b, i) {
-        let x = load_le32(a, i);
-        let y = load_le32(b, i);
-        if x != y {
-            if swap_bytes(x) < swap_bytes(y) {
-                return Ordering::Below;
-            }
-            return Ordering::Above;
-        }
-        i += 4;
+    let n = shorter(a.len(), b.len());
+    let i = same_words(a, b, n);
+    if 8 <= n - i {
+        return compare_words(a, b, i);
     }
-    compare_bytes(a, b, i)
+    if i == 0 {
+        return compare_short(a, b, n);
+    }
+    compare_rest(a, b, i, n)
 }
 
 pub fn is_below(o: Ordering) -> bool
@@ -196,7 +259,7 @@ pub fn is_equal(o: Ordering) -> bool
     }
 }
 
-// How many blanks a text begins with.
+// The count of blanks that a text begins with.
 pub fn padding(text: &[u8]) -> usize
     ensures { λ r. ⌜ (r ≤ length (now (text .entry))) × (drop r (now (text .entry)) ≡ unpadded (now (text .entry))) ⌝ }
 {
@@ -217,7 +280,7 @@ pub fn is_digit(c: u8) -> bool
     (b'0' <= c) & (c <= b'9')
 }
 
-// What a text of nineteen characters at most says, so that the number fits.
+// What a text says that should be digits. It has nineteen characters at most, so that the number fits 64 bits.
 pub fn read_digits(text: &[u8]) -> Digits
     requires { ⌜ length (now text) ≤ 19 ⌝ }
     ensures { λ r. ⌜ r ≡ digitsOf (now (text .entry)) ⌝ }

@@ -1,4 +1,5 @@
-// The refusal numbers of document 01, each named once. Code gives the names; the rules in `specs/` give the numbers, to be held beside the paper.
+// The numbers that calls answer, each named once: document 01's refusals, and the C interface's answers that are no refusals. Code gives the names; the rules
+// in `specs/` give the numbers, to be held beside the paper.
 
 // ---- The table.
 
@@ -97,3 +98,14 @@ pub const NO_ROOM: u32 = 30;
 
 // The index and the table do not match.
 pub const INDEX_AND_TABLE_DIFFER: u32 = 31;
+
+// ---- Answers that are no refusals. 0 is an accepted call's.
+
+// The field or the numeric text holds blanks.
+pub const EMPTY: u32 = 256;
+
+// The key is not in the index.
+pub const ABSENT: u32 = 257;
+
+// The walk has no record left.
+pub const DONE: u32 = 258;

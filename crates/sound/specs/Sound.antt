@@ -62,6 +62,10 @@ pub record Sound (b : List ℕ) : Type 0 where
   -- "left and right name the neighbours on the level"
   pub links : AllLinked noPage (linksOf b) height (indexTree b height)
 
+-- the entries of a sound index: the pairs of key and record number of its leaves, left to right
+abbrev pub leafPairs : (b : List ℕ) → Sound b → List (List ℕ × ℕ)
+leafPairs b s = pairs (s .height) (indexTree b (s .height))
+
 -- the audit's answer: 24 exactly if the header is not good, 0 exactly if the index is sound, 25 in every other case
 pub record Audited (b : List ℕ) (r : ℕ) : Type 0 where
   pub bad : (r ≡ 24) ↔ (headerGood b ≡ false)

@@ -217,21 +217,20 @@ fn fields_good(table: &[u8]) -> bool
     true
 }
 
-// Whether the names of two fields are the same, byte by byte.
+// Whether the names of two fields are the same, byte by byte. All bytes are looked at, since a loop without a way out costs less than one that stops.
 fn same_name(table: &[u8], i: usize, j: usize) -> bool
     requires { ⌜ (descriptor i + 32 ≤ length (now table)) × (descriptor j + 32 ≤ length (now table)) ⌝ }
     ensures { λ r. ⌜ r ≡ sameName (now (table .entry)) i j ⌝ }
 {
     let a = DESCRIPTORS + DESCRIPTOR_LENGTH * i;
     let b = DESCRIPTORS + DESCRIPTOR_LENGTH * j;
+    let mut same = true;
     let mut k = 0;
     while k < NAME_LENGTH {
-        if table[a + k] != table[b + k] {
-            return false;
-        }
+        same = same & (table[a + k] == table[b + k]);
         k += 1;
     }
-    true
+    same
 }
 
 // Every pair of names is compared; a duplicate ends both loops.

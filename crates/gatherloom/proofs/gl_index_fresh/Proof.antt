@@ -6,15 +6,15 @@ use Rattle.gatherloom.proofs.gl_index_fresh.Tie as tie
 fresh-requires : tie.Need-fresh-requires
 fresh-requires c κs = search needs
 
-insertion-number-requires : tie.Need-insertion-number-requires
-insertion-number-requires c κs = search needs
+insertion-code-requires : tie.Need-insertion-code-requires
+insertion-code-requires c κs = search needs
 
 same-length : tie.Need-same-length
 same-length c = search needs
 
 returns : tie.Need-returns
-returns c = rw (c .before .before .before .fresh .ensures, c .insertion-number .ensures)
+returns c = rw (c .before .before .before .fresh .ensures, c .insertion-code .ensures)
 
 pub gl-index-fresh-spec : {M : Type 1} → statement M
 gl-index-fresh-spec =
-    tie.close (tie.spec fresh-requires insertion-number-requires same-length returns)
+    tie.close (tie.spec fresh-requires insertion-code-requires same-length returns)

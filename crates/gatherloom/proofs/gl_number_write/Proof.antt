@@ -11,12 +11,15 @@ use borrow.Author.Needs.{needs}
 use Rattle.gatherloom.proofs.gl_number_write.Statement.{statement}
 use Rattle.gatherloom.proofs.gl_number_write.Tie as tie
 
+abbrev start : tie.After-write-number → tie.Start
+start c = c .before .before .before
+
 -- what the buffer and the answer are, by the case of the library's answer
 wrote : (c : tie.After-write-number) (answer : Writing) → c .write-number .result ≡ answer
-    → let start = c .before .before .before in writingOut (writeNumber (start .args .text .now) (start .args .decimals) (start .args .value)) ≡ out (writingCode answer) (c .write-number .last .0)
+    → let args = start c .args in
+    writingOut (writeNumber (args .text .now) (args .decimals) (args .value)) ≡ out (writingCode answer) (c .write-number .last .0)
 wrote c answer is =
-    let start = c .before .before .before in
-    writing-told _ _ _ answer (rw (toZ-ofZ w64 (start .args .value) (start .fits .value)) at (c .write-number .ensures)) is
+    writing-told _ _ _ answer (rw (toZ-ofZ w64 (start c .args .value) (start c .fits .value)) at (c .write-number .ensures)) is
 
 write-number-requires : tie.Need-write-number-requires
 write-number-requires c κs = search needs
@@ -31,13 +34,18 @@ same-length : tie.Need-same-length
 same-length c = search needs
 
 returns : tie.Need-returns
-returns c = wrote (c .before .before .before .before) Written (c .enum-told .given .1)
+returns c =
+    let at-written = c .before .before .before .before in
+    wrote at-written Written (c .enum-told .given .1)
 
 same-length-2 : tie.Need-same-length-2
 same-length-2 c = search needs
 
 returns-2 : tie.Need-returns-2
-returns-2 c = wrote (c .before .before .before .before .before) (Refused _) (c .before .answer .given .1)
+returns-2 c =
+    let at-refused = c .before in
+    let at-written = at-refused .before .before .before .before in
+    wrote at-written (Refused _) (at-refused .answer .given .1)
 
 pub gl-number-write-spec : {M : Type 1} → statement M
 gl-number-write-spec =

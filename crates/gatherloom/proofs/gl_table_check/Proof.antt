@@ -11,15 +11,15 @@ check-table-requires c κs = search needs
 enum-told : tie.Need-enum-told
 enum-told c = search needs
 
-enum-known-number : tie.Need-enum-known-number
-enum-known-number c = search needs
+enum-known-code : tie.Need-enum-known-code
+enum-known-code c = search needs
 
 returns : tie.Need-returns
 returns c = sym (good-check _ _ (sym (c .before .before .check-table .ensures) ∙ c .enum-told .given .1) .0)
 
 returns-2 : tie.Need-returns-2
-returns-2 c = refused-check _ _ (sym (c .before .before .before .check-table .ensures) ∙ c .before .number .given .1) .0
+returns-2 c = refused-check _ _ (sym (c .before .before .before .check-table .ensures) ∙ c .before .code .given .1) .0
 
 pub gl-table-check-spec : {M : Type 1} → statement M
 gl-table-check-spec =
-    tie.close (tie.spec check-table-requires enum-told enum-known-number returns returns-2)
+    tie.close (tie.spec check-table-requires enum-told enum-known-code returns returns-2)

@@ -18,13 +18,17 @@ enum-known-answer-2 : tie.Need-enum-known-answer-2
 enum-known-answer-2 c = search needs
 
 returns : tie.Need-returns
-returns c = walked-as _ _ _ _ (Record _) (c .before .before .before .before .walk-step .ensures) (c .before .answer .given .1)
+returns c =
+    let at-record = c .before in
+    walked-as _ _ _ _ (Record _) (at-record .before .before .before .walk-step .ensures) (at-record .answer .given .1)
 
 returns-2 : tie.Need-returns-2
 returns-2 c = walked-as _ _ _ _ Done (c .before .before .before .walk-step .ensures) (c .enum-told .given .1)
 
 returns-3 : tie.Need-returns-3
-returns-3 c = walked-as _ _ _ _ (Refused _) (c .before .before .before .before .walk-step .ensures) (c .before .answer2 .given .1)
+returns-3 c =
+    let at-refused = c .before in
+    walked-as _ _ _ _ (Refused _) (at-refused .before .before .before .walk-step .ensures) (at-refused .answer2 .given .1)
 
 pub lent-step-spec : {M : Type 1} → statement M
 lent-step-spec =

@@ -8,8 +8,8 @@ use Rattle.gatherloom.proofs.listing_plan.Tie as tie
 check-table-requires : tie.Need-check-table-requires
 check-table-requires c κs = search needs
 
-enum-known-number : tie.Need-enum-known-number
-enum-known-number c = search needs
+enum-known-refusal : tie.Need-enum-known-refusal
+enum-known-refusal c = search needs
 
 enum-known-shape : tie.Need-enum-known-shape
 enum-known-shape c = search needs
@@ -20,7 +20,7 @@ returns c =
     plan-short _ _ _ (sym (good .before .before .check-table .ensures) ∙ good .shape .given .1) (c .if1 .taken)
 
 returns-2 : tie.Need-returns-2
-returns-2 c = plan-refused _ _ _ (sym (c .before .before .before .check-table .ensures) ∙ c .before .number .given .1)
+returns-2 c = plan-refused _ _ _ (sym (c .before .before .before .check-table .ensures) ∙ c .before .refusal .given .1)
 
 returns-3 : tie.Need-returns-3
 returns-3 c =
@@ -30,4 +30,4 @@ returns-3 c =
 pub listing-plan-spec : {M : Type 1} → statement M
 listing-plan-spec =
     tie.close
-    (tie.spec check-table-requires enum-known-number enum-known-shape returns returns-2 returns-3)
+    (tie.spec check-table-requires enum-known-refusal enum-known-shape returns returns-2 returns-3)

@@ -1,4 +1,4 @@
--- `matching::first_leaf` meets its contract. The loop's invariant: the leaf that is come to from `page`, with so many levels left, is that from the root.
+-- `matching::first_leaf` meets its contract. The loop's invariant: the first leaf under `page`, with `left` levels left, is the root's.
 -- Assumes nothing.
 use Prim.Native.Nat.{_-_, _≤_}
 use mathlib.Core.Path.{refl, sym, _∙_}
@@ -49,8 +49,8 @@ loop-again c =
     let at-loop = in-loop .before in
     let more = in-loop .loop-test .taken in (
       search needs,
-      first-on _ _ _ _ _ (at-loop .loop .left) (at-loop .loop .inv .1) _ (λ z. omega (arith, more, z)) (sym (tested .before .leaf-at .ensures) ∙ tested .if1 .left)
-          (c .first-child .ensures),
+      first-on _ _ _ _ _ (at-loop .loop .left) (at-loop .loop .inv .1) _ (λ z. omega (arith, more, z))
+          (sym (tested .before .leaf-at .ensures) ∙ tested .if1 .left) (c .first-child .ensures),
     )
 
 returns-2 : tie.Need-returns-2 Inv-loop μ-loop

@@ -1,6 +1,5 @@
--- `matching::leaves_good` meets its contract. The loop's invariant: what is left to test from `page` on, with the entries counted, is what there was to test; and
--- no more than 500 entries were counted for each page passed.
--- Assumes nothing.
+-- `matching::leaves_good` meets its contract. The loop's invariant: the entries from `page` on decide, with `count` entries counted, and each page passed had
+-- at most 500. Assumes nothing.
 use Prim.Native.Nat.{_+_, _*_, _≤_}
 use mathlib.Core.Path.{_≡_, refl, sym, _∙_}
 use mathlib.Core.Bool.{true}
@@ -35,7 +34,7 @@ at-loop c = c .before .before
 abbrev start : Test → tie.Start Inv-loop μ-loop
 start c = at-loop c .before .before .before
 
--- the loop goes on where a page may still come, and it is a page of the file
+-- the loop goes on if pages are left and `page` is a page of the file
 tests : (c : Test) → (ltb 0 (at-loop c .loop .left) ≡ true) × (c .before .is-page .result ≡ true)
 tests c = both (ltb 0 (at-loop c .loop .left)) (c .before .is-page .result) (c .if1 .taken)
 
@@ -45,7 +44,7 @@ some c z = let more = ltb-true 0 (at-loop c .loop .left) (tests c .0) in omega a
 page : (c : Test) → isPage (start c .args .size) (at-loop c .loop .page .0) ≡ true
 page c = sym (c .before .is-page .ensures) ∙ tests c .1
 
--- and it has few entries
+-- which has at most 500 entries
 few : (c : tie.After-entry-count Inv-loop μ-loop) → c .entry-count .result ≤ entryArea
 few c = rw (c .entry-count .ensures) (entries-few _ _ _ _)
 

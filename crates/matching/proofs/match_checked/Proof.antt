@@ -21,7 +21,7 @@ none c = sym (c .before .match-refusal .ensures) ∙ c .if1 .left
 open-ready : (c : tie.Else1) → Ready (start c .args .table .now) (start c .args .index .now) (start c .args .field) (start c .pre .table)
 open-ready c = ready _ _ _ (start c .pre .table) (none c)
 
--- the field is that of the table
+-- the column is the table's field
 column : (c : tie.After-field-form) → let args = start (c .before .before .before) .args in
     _≡_ {A = Column} (record { records = args .shape .records; offset = c .field-form .result .offset; length = c .field-form .result .length })
     (columnOf (args .table .now) (args .field))

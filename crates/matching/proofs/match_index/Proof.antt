@@ -10,8 +10,8 @@ use Rattle.matching.proofs.match_index.Tie as tie
 check-table-requires : tie.Need-check-table-requires
 check-table-requires c κs = search needs
 
-enum-known-number : tie.Need-enum-known-number
-enum-known-number c = search needs
+enum-known-refusal : tie.Need-enum-known-refusal
+enum-known-refusal c = search needs
 
 enum-known-shape : tie.Need-enum-known-shape
 enum-known-shape c = search needs
@@ -20,7 +20,7 @@ match-checked-requires : tie.Need-match-checked-requires
 match-checked-requires c κs = let good = c .before in good-shape _ _ (sym (good .before .before .check-table .ensures) ∙ good .shape .given .1)
 
 returns : tie.Need-returns
-returns c = let bad = c .before in answer-table _ _ _ _ (sym (bad .before .before .check-table .ensures) ∙ bad .number .given .1)
+returns c = let bad = c .before in answer-table _ _ _ _ (sym (bad .before .before .check-table .ensures) ∙ bad .refusal .given .1)
 
 returns-2 : tie.Need-returns-2
 returns-2 c = search needs
@@ -30,7 +30,7 @@ match-index-spec =
     tie.close
     (tie.spec
     check-table-requires
-    enum-known-number
+    enum-known-refusal
     enum-known-shape
     match-checked-requires
     returns

@@ -4,7 +4,7 @@ use Prim.Native.Nat.{_-_}
 use mathlib.Core.Path.{_≡_, sym, ap, _∙_}
 use mathlib.Core.Bool.{true}
 use native.Mathlib.Omega.{arith}
-use Rattle.memo.specs.TestLaws.{passed, failed}
+use Rattle.basis.specs.Tests.{passed, failed}
 use Rattle.table.specs.Table.{fieldCount, fieldType, fieldLength}
 use Rattle.field.specs.Field.{numberGood, formOf}
 use Rattle.field.specs.FieldLaws.{number-range}
@@ -20,7 +20,7 @@ use Rattle.matching.proofs.match_refusal.Tie as tie
 header : (c : tie.Else1) → headerGood (c .before .before .before .before .args .index .now) ≡ true
 header c = passed (c .before .header-good .ensures) (c .if1 .left)
 
--- past that of the number the field is one of the table's
+-- past the test of the number the field is one of the table's
 abbrev start : tie.Else2 → tie.Start
 start c = c .before .before .before .before .before .before
 

@@ -1,4 +1,4 @@
--- `octets::fill` meets its contract. The loop's invariant: the bytes from `from` up to `i` are set, and no other.
+-- `octets::fill` meets its contract. The loop's invariant: the bytes from `from` up to `i` are set, and no others.
 -- Assumes nothing.
 use Prim.Native.Nat.{_-_, _≤_}
 use mathlib.Core.Path.{_≡_, refl, sym, _∙_}

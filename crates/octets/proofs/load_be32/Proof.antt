@@ -1,68 +1,25 @@
--- `octets::load_be32` meets its contract, from what `byte` ensures of each byte.
--- Assumes nothing.
-use Rattle.octets.specs.Bytes.{be32}
+-- `octets::load_be32` meets its contract: four bytes read one way and turned round are those bytes read the other way. Assumes nothing.
+use Prim.Native.Nat.{ℕ, _<_}
+use mathlib.Core.List.{List}
+use mathlib.Core.Path.{_≡_, _∙_}
 use borrow.Author.Needs.{needs}
+use Rattle.octets.specs.Bytes.{byteAt, le32, be32, toLe32}
+use Rattle.octets.specs.NumberLaws.{le32-turned}
 use Rattle.octets.proofs.load_be32.Statement.{statement}
 use Rattle.octets.proofs.load_be32.Tie as tie
 
-byte-requires : tie.Need-byte-requires
-byte-requires c κs = search needs
+load-le32-requires : tie.Need-load-le32-requires
+load-le32-requires c κs = search needs
 
-mul-result : tie.Need-mul-result
-mul-result c = search needs
+swap-bytes-requires : tie.Need-swap-bytes-requires
+swap-bytes-requires c κs = search needs
 
-add-byte : tie.Need-add-byte
-add-byte c = search needs
-
-byte-requires-2 : tie.Need-byte-requires-2
-byte-requires-2 c κs = search needs
-
-mul-result-2 : tie.Need-mul-result-2
-mul-result-2 c = search needs
-
-add-result : tie.Need-add-result
-add-result c = search needs
-
-add-byte-2 : tie.Need-add-byte-2
-add-byte-2 c = search needs
-
-byte-requires-3 : tie.Need-byte-requires-3
-byte-requires-3 c κs = search needs
-
-mul-result-3 : tie.Need-mul-result-3
-mul-result-3 c = search needs
-
-add-result-2 : tie.Need-add-result-2
-add-result-2 c = search needs
-
-add-byte-3 : tie.Need-add-byte-3
-add-byte-3 c = search needs
-
-byte-requires-4 : tie.Need-byte-requires-4
-byte-requires-4 c κs = search needs
-
-add-result-3 : tie.Need-add-result-3
-add-result-3 c = search needs
+-- what was read, turned round
+turned : (s : List ℕ) (at x r : ℕ) → ((j : ℕ) → byteAt s j < 256) → x ≡ le32 s at → r ≡ be32 (toLe32 x) 0 → r ≡ be32 s at
+turned s at x r small is-x is-r = is-r ∙ rw is-x (le32-turned s at small)
 
 returns : tie.Need-returns
-unfolding be32
-returns c = search needs
+returns c = turned _ _ _ _ (λ j. c .before .before .shared-slice-known .given j .fits) (c .before .load-le32 .ensures) (c .swap-bytes .ensures)
 
 pub load-be32-spec : {M : Type 1} → statement M
-load-be32-spec =
-    tie.close
-    (tie.spec
-    byte-requires
-    mul-result
-    add-byte
-    byte-requires-2
-    mul-result-2
-    add-result
-    add-byte-2
-    byte-requires-3
-    mul-result-3
-    add-result-2
-    add-byte-3
-    byte-requires-4
-    add-result-3
-    returns)
+load-be32-spec = tie.close (tie.spec load-le32-requires swap-bytes-requires returns)

@@ -1,4 +1,4 @@
--- `octets::padding` meets its contract. The loop's invariant: without the `i` blanks passed, the text leaves the same after its blanks.
+-- `octets::padding` meets its contract. The loop's invariant: the text from `i` on has the same rest behind its blanks as the whole text.
 -- Assumes nothing.
 use Prim.Native.Nat.{_-_, _≤_}
 use mathlib.Core.Path.{_≡_, refl, sym, _∙_}

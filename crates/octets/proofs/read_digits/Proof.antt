@@ -1,4 +1,4 @@
--- `octets::read_digits` meets its contract. The loop's invariant: the text says what its characters from `i` on say behind the number so far, which has at most `i`
+-- `octets::read_digits` meets its contract. The loop's invariant: the text says what its characters from `i` on say behind `number`, which has at most `i`
 -- digits. Assumes nothing.
 use Prim.Native.Nat.{ℕ, _≤_, _<_, _-_, _^_}
 use native.Mathlib.Nat.{pow-le-pow-right}
@@ -9,7 +9,7 @@ use mathlib.Core.Bool.{true}
 use lib.Dec.{lit<}
 use lib.ListN.{length, drop}
 use borrow.Author.Needs.{needs}
-use borrow.Author.Tests.{not-true, not-false}
+use Rattle.basis.specs.Tests.{passed, failed}
 use Rattle.octets.specs.Bytes.{byteAt}
 use Rattle.octets.specs.Text.{isDigit, digitsOf}
 use Rattle.octets.specs.TextLaws.{digit-range, digitsFrom, digits-start, digits-more, digits-stop, digits-end}
@@ -23,6 +23,10 @@ Inv-loop text number₀ i₀ number i = (i ≤ length text) × (digitsOf text �
 abbrev μ-loop : tie.MeasureT-loop
 μ-loop text number₀ i₀ number i = length text - i
 
+-- the place: the turn of the loop, from the test of its character
+abbrev turn : tie.After-is-digit Inv-loop μ-loop → tie.In-loop Inv-loop μ-loop
+turn c = c .before .before
+
 loop-holds : tie.Need-loop-holds Inv-loop μ-loop
 loop-holds c = (search needs, digits-start _, search needs)
 
@@ -34,23 +38,23 @@ is-digit-requires c κs = search needs
 
 returns : tie.Need-returns Inv-loop μ-loop
 returns c =
-    let at-test = c .before .before .before in
-    let other = sym (c .before .is-digit .ensures) ∙ not-true _ (c .if1 .taken) in
-    sym (at-test .before .loop .inv .1 ∙ digits-stop _ _ (at-test .loop-test .taken) _ other)
+    let in-loop = turn (c .before) in
+    let other = failed (c .before .is-digit .ensures) (c .if1 .taken) in
+    sym (in-loop .before .loop .inv .1 ∙ digits-stop _ _ (in-loop .loop-test .taken) _ other)
 
--- the character that was read, which is a digit
+-- the character of the turn, which is a digit
 abbrev char : tie.Else1 Inv-loop μ-loop → ℕ
 char c =
-    let at-loop = c .before .before .before .before in
+    let at-loop = turn (c .before) .before in
     byteAt (at-loop .before .before .args .text .now) (at-loop .loop .i)
 
 is-one : (c : tie.Else1 Inv-loop μ-loop) → isDigit (char c) ≡ true
-is-one c = sym (c .before .is-digit .ensures) ∙ not-false _ (c .if1 .left)
+is-one c = passed (c .before .is-digit .ensures) (c .if1 .left)
 
--- the number so far has 18 digits at most
-small : (c : tie.Else1 Inv-loop μ-loop) → c .before .before .before .before .loop .number < 10 ^ 18
+-- the number before it has 18 digits at most
+small : (c : tie.Else1 Inv-loop μ-loop) → turn (c .before) .before .loop .number < 10 ^ 18
 small c =
-    let at-loop = c .before .before .before .before in
+    let at-loop = turn (c .before) .before in
     omega (arith, at-loop .loop .inv .2, pow-le-pow-right {n = 10} (lit< tt) {i = at-loop .loop .i} {j = 18} (omega arith))
 
 mul-number : tie.Need-mul-number Inv-loop μ-loop
@@ -73,9 +77,9 @@ loop-less c = search needs
 
 loop-again : tie.Need-loop-again Inv-loop μ-loop
 loop-again c =
-    let at-test = c .before .before .before in
-    let inv = at-test .before .loop .inv in
-    (search needs, inv .1 ∙ digits-more _ _ (at-test .loop-test .taken) _ (is-one c), rw add-one (digit-bound _ _ _ (inv .2) (is-one c)))
+    let in-loop = turn (c .before) in
+    let inv = in-loop .before .loop .inv in
+    (search needs, inv .1 ∙ digits-more _ _ (in-loop .loop-test .taken) _ (is-one c), rw add-one (digit-bound _ _ _ (inv .2) (is-one c)))
 
 returns-2 : tie.Need-returns-2 Inv-loop μ-loop
 returns-2 c = sym (c .before .loop .inv .1 ∙ digits-end _ _ _ (c .loop-test .left))

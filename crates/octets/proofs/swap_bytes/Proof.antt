@@ -1,4 +1,4 @@
--- `octets::swap_bytes` meets its contract: the rules' own sum. Assumes nothing.
+-- `octets::swap_bytes` meets its contract: its sum is the rule's. Assumes nothing.
 use mathlib.Core.Path.{refl}
 use borrow.Author.Needs.{needs}
 use Rattle.octets.specs.Bytes.{be32, toLe32}

@@ -211,7 +211,14 @@ fn walking<'a>(case: Make<'a, '_>, table: &'a [u8]) -> Case<'a> {
 }
 
 /// Key lengths, with how many entries a page has, about as many as random insertions leave, and how many bytes at the keys' start are all the same.
-const KEYS: [(usize, usize, usize); 4] = [(10, 24, 0), (10, 24, 6), (100, 3, 0), (100, 3, 96)];
+const KEYS: [(usize, usize, usize); 6] = [
+    (5, 40, 0),
+    (10, 24, 0),
+    (10, 24, 6),
+    (15, 18, 8),
+    (100, 3, 0),
+    (100, 3, 96),
+];
 
 fn named(size: &str, k: usize, alike: usize) -> String {
     match alike {
