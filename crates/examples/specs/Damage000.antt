@@ -1,4 +1,4 @@
--- Laws: the index of source document 000 is not sound if a single byte is changed: one computed statement. Assumes nothing.
+-- Laws: the audit's test refuses the index of source document 000 if one of five bytes is changed: a computed statement. Assumes nothing.
 use mathlib.Core.Path.{_≡_, refl}
 use mathlib.Core.Bool.{false}
 use Prim.Native.Nat.{ℕ}

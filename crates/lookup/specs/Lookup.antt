@@ -22,7 +22,7 @@ offsetOf n = record { 0 = n }
 abbrev pub recordOf : ℕ → RecordNumber
 recordOf n = record { 0 = n }
 
--- the number of the answer for an absent key
+-- the code of the answer for an absent key
 abbrev pub absentCode : ℕ
 absentCode = 257
 

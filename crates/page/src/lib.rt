@@ -260,7 +260,7 @@ pub fn child(index: &[u8], k: usize, page: PageOffset, i: usize) -> PageOffset
     PageOffset(entry_number(index, k, page, i))
 }
 
-// Entry i's number, taken as that of a record.
+// Entry i's number, taken as the number of a record.
 pub fn record_number(index: &[u8], k: usize, page: PageOffset, i: usize) -> RecordNumber
     requires { ⌜ Within (now index) k (page .0) (i + 1) ⌝ }
     ensures { λ r. ⌜ r .0 ≡ numberAt (now (index .entry)) k (page .0) i ⌝ }
@@ -268,7 +268,7 @@ pub fn record_number(index: &[u8], k: usize, page: PageOffset, i: usize) -> Reco
     RecordNumber(entry_number(index, k, page, i))
 }
 
-// Whether an offset is that of a leaf, in a file of `size` bytes.
+// Whether a leaf begins at an offset, in a file of `size` bytes.
 pub fn leaf_at(index: &[u8], size: usize, page: PageOffset) -> bool
     requires { ⌜ size ≤ length (now index) ⌝ }
     ensures { λ r. ⌜ r ≡ isLeaf (now (index .entry)) size (page .0) ⌝ }

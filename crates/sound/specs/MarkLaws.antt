@@ -1,4 +1,4 @@
--- Laws: the marks of the pages that were met, against how often each page stands among them. Cited by the laws of the audit's rule. Assumes nothing.
+-- Laws: the marks of the pages that were met, against how often each page stands among them. Cited by the laws of the audit's test. Assumes nothing.
 use Prim.Native.Nat.{ℕ, zero, suc, _+_, _-_, _*_, _/_, _%_, _≤_, _<_}
 use mathlib.Core.Path.{_≡_, refl, sym, ap, _∙_, subst}
 use mathlib.Core.List.{List, [], _∷_, _++_}

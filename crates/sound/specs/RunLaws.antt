@@ -15,7 +15,7 @@ use Rattle.page.specs.Page.{attributeAt, countAt, leftAt, rightAt, countGood}
 use Rattle.sound.specs.Sound.{linksOf}
 use Rattle.sound.specs.Rule.{Progress, refused, entriesFit, pageFits, checkPage, checkPages}
 
--- the marks after the pages ps, and that none of them is marked when it is met
+-- the marks after the pages ps; none of ps is marked when it is met
 abbrev pub markAll : List ℕ → List ℕ → List ℕ
 markAll m [] = m
 markAll m (p ∷ ps) = markAll (set m (p / pageSize) 1) ps

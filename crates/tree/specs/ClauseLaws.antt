@@ -71,8 +71,7 @@ exact-greatest cap h t s d =
     all-map2 (SizedUnder cap h) (ExactUnder h) (GreatestUnder h) (exact-greatestUnder cap h) (t .1) (s .2) d
 
 module _ {K : Type 0} (O : Order K) where
-  -- K1's words: the key above a child is at or above every leaf key under it, and
-  -- below the first leaf key under the next child of the same page
+  -- K1's words: the key above a child is at or above every leaf key under it, and below the first leaf key under the next child of the same page
   abbrev Bounded : {C : Type 0} → (K × C → List (K × ℕ)) → List (K × C) → Type 0
   Bounded under [] = Unit {0}
   Bounded under (x ∷ []) = Below O (x .0) (under x)

@@ -23,7 +23,7 @@ pub record Index (K : Type 0) : Type 0 where
   pub tree : Tree K height
   pub size : ℕ
 
--- its leaf pairs
+-- the leaf pairs of an index
 abbrev pub held : {K : Type 0} → Index K → List (K × ℕ)
 held i = pairs (i .height) (i .tree)
 

@@ -1,5 +1,5 @@
--- Laws: a fresh index is sound, every call keeps a sound index sound and linked, and answers and changes it as the
--- book does. Cited by the claim about lists of calls and by the laws of bytes. Assumes nothing.
+-- Laws: a fresh index is sound; every call keeps a sound index sound and linked, and answers and changes it as the book does. Cited by the theorem about
+-- lists of calls and by the laws of bytes. Assumes nothing.
 use mathlib.Core.Path.{_≡_, refl, sym}
 use mathlib.Core.Bool.{Bool, true, false, not, _||_}
 use mathlib.Core.Option.{Option, none, some}

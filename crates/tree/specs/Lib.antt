@@ -1,5 +1,5 @@
--- The theory of the index, in the order in which its parts rest on one another. Rules are what a reader must believe: `Sound`, the rules of lookup, insertion and
--- match, or the claim about lists of calls cite them. Steps are definitions that only laws cite: a reader need not believe them. Laws are proved.
+-- The theory of the index, in the order in which its parts rest on one another. Rules are what a reader must believe: `Sound`, the rules of lookup, insertion
+-- and match, or the claim about lists of calls cite them. Steps are definitions that only laws cite: a reader need not believe them. Laws are proved.
 
 -- Rules: the size of a page and the link to no page
 pub mod Constants

@@ -70,7 +70,7 @@ module _ {K : Type 0} (O : Order K) where
       (λ e. either (O .le (x .0) k) (λ f. rw (e, f)) (λ f. rw (e, f) (sym (get-above k (x .0) xs e (a .0)))))
       (λ e. rw e (find-get k xs (a .1)))
 
-  -- insertion of a pair, in the same way
+  -- insertion of a pair passes over and leaves alone the same lists
   pub insertPair-past : {C : Type 0} (k : K) (r : C) (a : K) (xs ys : List (K × C)) → Lt O a k → Below O a xs →
       insertPair O k r (xs ++ ys) ≡ xs ++ insertPair O k r ys
   insertPair-past k r a [] ys h b = refl

@@ -76,7 +76,7 @@ module _ {K : Type 0} (O : Order K) (S : Store K) (h : ℕ) (k : K) where
       occ-append z (pagesUnder h (readEntry S h x)) (pagesOf S h (y ∷ ys)) in
       either (O .le k (x .0)) (λ e. rw e (omega arith)) (λ e. rw e (omega (arith, choose-occ z y ys)))
 
-  -- the other entries read as before, if no page under them was changed
+  -- the other entries are read as before, if no page under them was changed
   place-read : (S1 : Store K) (n m j : ℕ) (g : Entry K h → ℕ → Replacement K (Child K h)) (rs : List (K × ℕ)) (x : K × ℕ)
       (xs : List (K × ℕ)) →
       map (readEntry S1 h) rs ≡ g (readEntry S h (choose O k x xs)) n .0 →
