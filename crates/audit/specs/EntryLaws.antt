@@ -1,44 +1,25 @@
--- Laws: the entries of a page by number, one by its tests, and the loops over them. Cited by the proofs of the functions on entries. Assumes nothing.
+-- Laws: the entries of a page by number, the tests of one entry, and the loops over entries. Cited by the proofs of the functions on entries. Assumes nothing.
 use Prim.Native.Nat.{ℕ, zero, suc, _+_, _-_, _≤_, _<_}
 use mathlib.Core.Path.{_≡_, refl, sym, ap, _∙_}
 use mathlib.Core.Bool.{Bool, true, false, _&&_}
 use mathlib.Core.List.{List, [], _∷_}
 use mathlib.Core.Option.{Option, none, some}
-use native.Mathlib.Nat.{min-le-right}
 use native.Mathlib.Omega.{arith}
 use lib.ListN.{length}
 use borrow.Author.Tests.{eq-eqb, ne-eqb}
-use Rattle.basis.specs.Tests.{either}
 use Rattle.octets.specs.Store.{window}
 use Rattle.octets.specs.declared.Ordering.{Ordering}
 use Rattle.octets.specs.Order.{ordering, isBelow, isEqual}
-use Rattle.page.specs.Header.{noPage, isPage}
-use Rattle.page.specs.HeaderLaws.{is-page}
-use Rattle.page.specs.Page.{capacity, entryOffset, keyAt, numberAt}
+use Rattle.page.specs.Page.{entryOffset, keyAt, numberAt}
 use Rattle.page.specs.PageLaws.{entry-low}
 use Rattle.page.specs.Reading.{entriesAt}
-use Rattle.page.specs.ReadingLaws.{entriesFrom, entries-by-index, entries-none, length-entries, count-none}
-use Rattle.sound.specs.Rule.{lastOf, leafEntriesGood, upperEntriesGood, firstChild}
+use Rattle.page.specs.ReadingLaws.{entriesFrom, entries-are, each-within}
+use Rattle.sound.specs.Rule.{lastOf, leafEntriesGood, upperEntriesGood}
 use Rattle.audit.specs.State.{InFile, EntriesWithin, keyFrom, leafEntry, upperEntry}
 
--- the entries of a page
-module _ (b : List ℕ) (k size p : ℕ) where
-  -- they are the entries with the numbers below that, and lie within the page
-  module _ (n : ℕ) (en : n ≡ length (entriesAt k size b p)) where
-    pub entries-are : entriesAt k size b p ≡ entriesFrom b k p n 0
-    unfolding entriesFrom
-    entries-are = either (isPage size p)
-        (λ e. entries-by-index k size b p e ∙ ap (λ (m : ℕ). entriesFrom b k p m 0) (sym (en ∙ length-entries k size b p e)))
-        (λ e. let z : n ≡ 0 = en ∙ sym (count-none b k size p e) in rw z (entries-none k size b p e))
-
-    pub entries-within : InFile b k size → EntriesWithin b k p n
-    entries-within f = record {
-      each = λ i h. either (isPage size p)
-          (λ e. let o = is-page size p e in
-          let m : n ≤ capacity k = rw (en, length-entries k size b p e) (min-le-right _ _) in
-          record { key = f .key; count = omega arith; page = omega arith })
-          (λ e. absurd (omega (arith, count-none b k size p e)));
-    }
+-- the n entries that are read of a page lie within it
+pub entries-within : (b : List ℕ) (k size p n : ℕ) → n ≡ length (entriesAt k size b p) → InFile b k size → EntriesWithin b k p n
+entries-within b k size p n en f = record { each = each-within b k size p n en (f .key) (f .within) }
 
 -- the entries from entry i on
 pub from-on : (b : List ℕ) (k p n i : ℕ) → i < n
@@ -50,7 +31,7 @@ pub from-end : (b : List ℕ) (k p n i : ℕ) → n ≤ i → entriesFrom b k p 
 unfolding entriesFrom
 from-end b k p n i h = let z : n - i ≡ 0 = omega arith in rw z
 
--- a key where an entry begins
+-- the key that begins where an entry begins
 some-key : (b : List ℕ) (k p i : ℕ) → keyFrom b k (entryOffset k p i) ≡ some (keyAt b k p i)
 unfolding keyFrom
 some-key b k p i = rw (ne-eqb (entryOffset k p i) 0 (omega (arith, entry-low k p i)))
@@ -73,16 +54,6 @@ pub last-none : (b : List ℕ) (k size p n : ℕ) → n ≡ length (entriesAt k 
 unfolding keyFrom entriesFrom
 last-none b k size p n en z = rw (entries-are b k size p n en, z)
 
--- the first child of a page
-pub first-none : (b : List ℕ) (k size p n : ℕ) → n ≡ length (entriesAt k size b p) → n ≡ 0 → noPage ≡ firstChild b k size p
-unfolding entriesFrom
-first-none b k size p n en z = rw (entries-are b k size p n en, z)
-
-pub first-some : (b : List ℕ) (k size p n x : ℕ) → n ≡ length (entriesAt k size b p) → (n ≡ 0 → ⊥) → x ≡ numberAt b k p 0 → x ≡ firstChild b k size p
-unfolding entriesFrom
-first-some b k size p zero x en ne ex = absurd (ne refl)
-first-some b k size p (suc m) x en ne ex = rw (entries-are b k size p (suc m) en) ex
-
 -- one entry of a leaf, by its tests
 module _ (b : List ℕ) (k p i z n : ℕ) (en : n ≡ numberAt b k p i) where
   pub leaf-zero : n ≡ 0 → false ≡ leafEntry b k p i z
@@ -98,7 +69,7 @@ module _ (b : List ℕ) (k p i z n : ℕ) (en : n ≡ numberAt b k p i) where
     unfolding keyFrom
     leaf-above h ea eo er = er ∙ rw (← en, ne-eqb n 0 positive, ne-eqb z 0 h, ← ea) (ap isBelow eo)
 
--- one entry of a page above
+-- one entry of a page above the leaves, by its tests
 module _ (b : List ℕ) (k size p i c z : ℕ) (ec : c ≡ numberAt b k p i) (ez : keyFrom b k z ≡ lastOf none (entriesAt k size b c)) where
   pub upper-none : z ≡ 0 → false ≡ upperEntry b k size p i
   unfolding keyFrom
@@ -109,9 +80,10 @@ module _ (b : List ℕ) (k size p i c z : ℕ) (ec : c ≡ numberAt b k p i) (ez
   unfolding keyFrom
   upper-same h ea eo er = er ∙ rw (← ec, ← ez, ne-eqb z 0 h, ← ea) (ap isEqual eo)
 
--- the loop over the n entries of a leaf, after the key at z₀: what is left to test from entry i on, after the key at z, decides
+-- the loop over the n entries of a leaf, after the key at z₀: the entries from entry i on, after the key at z, decide
 abbrev pub LeafLeft : List ℕ → ℕ → ℕ → ℕ → ℕ → ℕ → ℕ → Type 0
-LeafLeft b k p n z₀ i z = leafEntriesGood (keyFrom b k z₀) (entriesFrom b k p n 0) ≡ leafEntriesGood (keyFrom b k z) (entriesFrom b k p (n - i) i)
+LeafLeft b k p n z₀ i z =
+    leafEntriesGood (keyFrom b k z₀) (entriesFrom b k p n 0) ≡ leafEntriesGood (keyFrom b k z) (entriesFrom b k p (n - i) i)
 
 module _ (b : List ℕ) (k p n z₀ i z : ℕ) (inv : LeafLeft b k p n z₀ i z) where
   pub leaf-end : n ≤ i → true ≡ leafEntriesGood (keyFrom b k z₀) (entriesFrom b k p n 0)
@@ -119,7 +91,8 @@ module _ (b : List ℕ) (k p n z₀ i z : ℕ) (inv : LeafLeft b k p n z₀ i z)
   leaf-end h = sym (inv ∙ rw (from-end b k p n i h))
 
   module _ (h : i < n) (r : Bool) (er : r ≡ leafEntry b k p i z) where
-    leaf-step : leafEntriesGood (keyFrom b k z₀) (entriesFrom b k p n 0) ≡ (r && leafEntriesGood (some (keyAt b k p i)) (entriesFrom b k p (n - (i + 1)) (i + 1)))
+    leaf-step : leafEntriesGood (keyFrom b k z₀) (entriesFrom b k p n 0)
+        ≡ (r && leafEntriesGood (some (keyAt b k p i)) (entriesFrom b k p (n - (i + 1)) (i + 1)))
     unfolding leafEntriesGood
     leaf-step = inv ∙ rw (from-on b k p n i h, ← er)
 
@@ -129,9 +102,10 @@ module _ (b : List ℕ) (k p n z₀ i z : ℕ) (inv : LeafLeft b k p n z₀ i z)
     pub leaf-on : (at : ℕ) → r ≡ true → at ≡ entryOffset k p i → LeafLeft b k p n z₀ (i + 1) at
     leaf-on at e ea = leaf-step ∙ rw (e, ea, some-key b k p i)
 
--- the loop over the n entries of a page above, in the same way
+-- the loop over the n entries of a page above the leaves: the entries from entry i on decide
 abbrev pub UpperLeft : List ℕ → ℕ → ℕ → ℕ → ℕ → ℕ → Type 0
-UpperLeft b k size p n i = upperEntriesGood (entriesAt k size b) (entriesFrom b k p n 0) ≡ upperEntriesGood (entriesAt k size b) (entriesFrom b k p (n - i) i)
+UpperLeft b k size p n i =
+    upperEntriesGood (entriesAt k size b) (entriesFrom b k p n 0) ≡ upperEntriesGood (entriesAt k size b) (entriesFrom b k p (n - i) i)
 
 module _ (b : List ℕ) (k size p n i : ℕ) (inv : UpperLeft b k size p n i) where
   pub upper-end : n ≤ i → true ≡ upperEntriesGood (entriesAt k size b) (entriesFrom b k p n 0)
@@ -139,7 +113,8 @@ module _ (b : List ℕ) (k size p n i : ℕ) (inv : UpperLeft b k size p n i) wh
   upper-end h = sym (inv ∙ rw (from-end b k p n i h))
 
   module _ (h : i < n) (r : Bool) (er : r ≡ upperEntry b k size p i) where
-    upper-step : upperEntriesGood (entriesAt k size b) (entriesFrom b k p n 0) ≡ (r && upperEntriesGood (entriesAt k size b) (entriesFrom b k p (n - (i + 1)) (i + 1)))
+    upper-step : upperEntriesGood (entriesAt k size b) (entriesFrom b k p n 0)
+        ≡ (r && upperEntriesGood (entriesAt k size b) (entriesFrom b k p (n - (i + 1)) (i + 1)))
     unfolding upperEntriesGood
     upper-step = inv ∙ rw (from-on b k p n i h, ← er)
 

@@ -1,5 +1,12 @@
+-- The audit's inner values and the laws of its loops. What the audit answers is said in sound/Sound.
+
+-- Steps: the audit's values as its test has them, and what its inner functions ask of the buffer
 pub mod State
+-- Laws: the tests of entries, and the loops over them
 pub mod EntryLaws
-pub mod MarkLaws
+-- Laws: the tests of one page
 pub mod StepLaws
+-- Laws: the loops over children, pages and levels, and the answer
 pub mod PassLaws
+-- Laws: the loop over the marks
+pub mod MarkLaws

@@ -1,4 +1,4 @@
--- Laws: the loop over the marks. Cited by the proof of the test that all are set. Assumes nothing.
+-- Laws: the loop over the marks. Cited by the proof of `all_marked`. Assumes nothing.
 use Prim.Native.Nat.{ℕ, suc, _+_, _-_, _≤_, _<_}
 use mathlib.Core.Path.{_≡_, sym, _∙_}
 use mathlib.Core.Bool.{true, false}
@@ -8,7 +8,7 @@ use lib.ListN.{getD}
 use borrow.Author.Tests.{eq-eqb, ne-eqb}
 use Rattle.sound.specs.Rule.{markedFrom}
 
--- of the marks from 1 to n - 1, what is left to test from mark j on decides
+-- of the marks from 1 to n - 1, the marks from j on decide
 abbrev pub MarksLeft : List ℕ → ℕ → ℕ → Type 0
 MarksLeft m n j = markedFrom m (n - 1) 1 ≡ markedFrom m (n - j) j
 

@@ -1,4 +1,4 @@
--- Laws: the audit's passes over pages, children and levels, one after another, as its loops go. Cited by the proofs of those functions. Assumes nothing.
+-- Laws: the audit's loops over pages, children and levels. Cited by the proofs of the functions that have these loops. Assumes nothing.
 use Prim.Native.Nat.{ℕ, zero, suc, _+_, _-_, _/_, _≤_, _<_}
 use mathlib.Core.Path.{_≡_, refl, sym, ap, _∙_}
 use mathlib.Core.Bool.{Bool, true, false, not, _&&_}
@@ -11,14 +11,15 @@ use Rattle.page.specs.Header.{maxLevels, pageSize, isPage, rootOffset, fileSize
 use Rattle.page.specs.HeaderLaws.{good-header}
 use Rattle.page.specs.Page.{rightAt, numberAt}
 use Rattle.page.specs.Reading.{entriesAt}
-use Rattle.page.specs.ReadingLaws.{entriesFrom}
+use Rattle.page.specs.ReadingLaws.{entriesFrom, entries-are}
+use Rattle.page.specs.Children.{isLeaf, childrenOf, firstChild}
 use Rattle.page.specs.declared.PageOffset.{PageOffset}
-use Rattle.sound.specs.Rule.{Progress, Level, attributeOf, start, isLeaf, chain, pageFits, childrenOf, firstChild, children, pagesUnder}
+use Rattle.sound.specs.Rule.{Progress, Level, attributeOf, start, chain, pageFits, children, pagesUnder}
 use Rattle.sound.specs.Rule.{checkPage, checkPages, closed, checkLevel, rootLevel, nextLevel, levelsUnder, markedFrom, pagesGood}
 use Rattle.audit.specs.declared.Progress as declared-progress
 use Rattle.audit.specs.declared.Level as declared-level
 use Rattle.audit.specs.State.{InFile, progressOf, levelOf, startAt, closedAt}
-use Rattle.audit.specs.EntryLaws.{entries-are, from-on, from-end}
+use Rattle.audit.specs.EntryLaws.{from-on, from-end}
 
 module _ (b : List ℕ) (k size a : ℕ) where
   -- a pass that was refused stays as it is
@@ -26,7 +27,7 @@ module _ (b : List ℕ) (k size a : ℕ) where
   unfolding checkPage
   page-stopped p s m e = rw e
 
-  pub pages-stopped : (ps : List ℕ) (s : Progress) (m : List ℕ) → s .good ≡ false → checkPages b k size a ps (s, m) ≡ (s, m)
+  pages-stopped : (ps : List ℕ) (s : Progress) (m : List ℕ) → s .good ≡ false → checkPages b k size a ps (s, m) ≡ (s, m)
   unfolding checkPages
   pages-stopped [] s m e = refl
   pages-stopped (p ∷ ps) s m e = ap (checkPages b k size a ps) (page-stopped p s m e) ∙ pages-stopped ps s m e
@@ -54,7 +55,7 @@ module _ (b : List ℕ) (k size a : ℕ) where
   pages-append [] ys t = refl
   pages-append (x ∷ xs) ys t = pages-append xs ys (checkPage b k size a x (t .0) (t .1))
 
-  -- the loop over a page's entries: what is left to do from entry i on is all that there was to do
+  -- the loop over a page's n entries: the children from entry i on, from the state t, come to what all children come to
   abbrev pub childrenFrom : ℕ → ℕ → ℕ → List ℕ
   childrenFrom p n i = map (λ e. e .1) (entriesFrom b k p n i)
 
@@ -62,7 +63,8 @@ module _ (b : List ℕ) (k size a : ℕ) where
   ChildrenLeft p n i t₀ t = checkPages b k size a (childrenFrom p n 0) t₀ ≡ checkPages b k size a (childrenFrom p (n - i) i) t
 
   module _ (p n i : ℕ) (t₀ : Progress × List ℕ) (s : Progress) (m : List ℕ) (inv : ChildrenLeft p n i t₀ (s, m)) where
-    children-all : n ≡ length (entriesAt k size b p) → checkPages b k size a (childrenOf b k size p) t₀ ≡ checkPages b k size a (childrenFrom p (n - i) i) (s, m)
+    children-all : n ≡ length (entriesAt k size b p)
+        → checkPages b k size a (childrenOf b k size p) t₀ ≡ checkPages b k size a (childrenFrom p (n - i) i) (s, m)
     children-all en = rw (entries-are b k size p n en) inv
 
     pub children-stop : n ≡ length (entriesAt k size b p) → s .good ≡ false → checkPages b k size a (childrenOf b k size p) t₀ ≡ (s, m)
@@ -77,7 +79,7 @@ module _ (b : List ℕ) (k size a : ℕ) where
     unfolding checkPages
     children-on c u m′ h ec e = inv ∙ rw (from-on b k p n i h, ← ec) (ap (checkPages b k size a (childrenFrom p (n - (i + 1)) (i + 1))) e)
 
-  -- the loop over the pages of a level, with so many left, in the same way
+  -- the loop over the pages of a level, with at most `left` pages left: the pages from p on, from the state t, come to what all pages come to
   abbrev pub PagesLeft : ℕ → ℕ → ℕ → Progress × List ℕ → Progress × List ℕ → Type 0
   PagesLeft first p left t₀ t = checkPages b k size a (pagesUnder b k size first) t₀ ≡ checkPages b k size a (children b k size (chain b size left p)) t
 
@@ -106,7 +108,7 @@ module _ (b : List ℕ) (k size a : ℕ) where
         let rest = children b k size (chain b size (left - 1) q) in
         inv ∙ rw (chain-some p left q n e eq) (pages-append (childrenOf b k size p) rest t ∙ ap (checkPages b k size a rest) eu)
 
--- the level v that a pass s over the pages of a level came to, from s₀ at its start
+-- the level v that a pass over the pages of a level, from s₀ to s, comes to
 module _ (b : List ℕ) (k size a : ℕ) (first : PageOffset) (leaf : Bool) (s₀ s : declared-progress.Progress) (v : declared-level.Level) (m m′ : List ℕ)
     (el : leaf ≡ isLeaf b size (first .0)) (e₀ : s₀ ≡ startAt first) (ev : v ≡ closedAt s leaf first) where
   level-closed : (root : Bool) (ps : List ℕ) → a ≡ attributeOf root leaf → checkPages b k size a ps (progressOf s₀, m) ≡ (progressOf s, m′)
@@ -138,12 +140,12 @@ unfolding nextLevel
 next-kept b k size above n v m m′ l e =
     ap (λ (t : Level × List ℕ). length (t .1)) (sym e) ∙ level-length b k size false (firstChild b k size above) (pagesUnder b k size above) m ∙ l
 
--- the loop over the levels, with so many left, in the same way
+-- the loop over the levels: the levels under t, `left` at most, come to what those under t₀ come to
 module _ (b : List ℕ) (k size : ℕ) where
   abbrev pub LevelsLeft : ℕ → Level × List ℕ → Level × List ℕ → Type 0
   LevelsLeft left t₀ t = levelsUnder b k size (maxLevels - 1) t₀ ≡ levelsUnder b k size left t
 
-  -- the audit goes on under a level that is good and not that of the leaves
+  -- the audit goes on under a level that is good and whose pages are not leaves
   abbrev pub goesOn : Level → Bool
   goesOn v = v .good && not (v .leaf)
 

@@ -1,4 +1,5 @@
--- Rules: the audit's own values, as its rule has them, and what its inner functions ask of the buffer. No public contract cites these.
+-- Steps: the audit's own values, as its test has them, and what its inner functions ask of the buffer. No public contract cites these: a reader need not
+-- believe them.
 use Prim.Native.Nat.{ℕ, _+_, _≤_, _<_}
 use mathlib.Core.Bool.{Bool, true, false, cond, not, _&&_}
 use mathlib.Core.List.{List}
@@ -16,37 +17,37 @@ use Rattle.sound.specs.Rule.{lastOf, isAbove, isSame}
 use Rattle.audit.specs.declared.Progress.{Progress}
 use Rattle.audit.specs.declared.Level.{Level}
 
--- a file of so many bytes within the buffer, with keys of k bytes
+-- a file of `size` bytes within the buffer, with keys of k bytes
 pub record InFile (b : List ℕ) (k size : ℕ) : Type 0 where
   pub key : k ≤ maxKey
   pub long : pageSize ≤ length b
   pub within : size ≤ length b
   pub most : size ≤ maxBytes
 
--- each of n entries of the page at p lies within its page, and the page within the buffer
+-- each of the first n entries of the page at p lies within the page, and the page within the buffer
 pub record EntriesWithin (b : List ℕ) (k p n : ℕ) : Type 0 where
   pub each : (i : ℕ) → i < n → Within b k p (i + 1)
 
--- the key that begins at z, where 0 is none
+-- the key that begins at z, or none if z is 0
 unfoldable pub keyFrom : List ℕ → ℕ → ℕ → Option (List ℕ)
 keyFrom b k z = cond (eqb z 0) none (some (window b z k))
 
--- entry i of a leaf has a record number above 0, and a key above the one that begins at z
+-- entry i of a leaf has a record number above 0, and a key above the key that begins at z
 abbrev pub leafEntry : List ℕ → ℕ → ℕ → ℕ → ℕ → Bool
 leafEntry b k p i z = not (eqb (numberAt b k p i) 0) && isAbove (keyFrom b k z) (keyAt b k p i)
 
--- entry i of a page above the leaves has the last of the child's keys
+-- entry i of a page above the leaves has the last of the child's keys as its key
 abbrev pub upperEntry : List ℕ → ℕ → ℕ → ℕ → ℕ → Bool
 upperEntry b k size p i = isSame (lastOf none (entriesAt k size b (numberAt b k p i))) (keyAt b k p i)
 
--- the values of the two structs, as the rule has them
+-- the two structs, as the test has them
 abbrev pub progressOf : Progress → rule.Progress
 progressOf s = record { good = s .good; last = s .last .0; next = s .next .0 }
 
 abbrev pub levelOf : Level → rule.Level
 levelOf v = record { good = v .good; leaf = v .leaf; first = v .first .0 }
 
--- a refused struct, one at the start of a level, and a level at its end
+-- a struct after a page that was not good, at the start of a level, and of a level at its end
 abbrev pub refusedAt : Progress → Progress
 refusedAt s = record { good = false; last = s .last; next = s .next }
 

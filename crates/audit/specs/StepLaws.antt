@@ -12,11 +12,10 @@ use Rattle.page.specs.Header.{pageSize, isPage}
 use Rattle.page.specs.HeaderLaws.{IsPage, is-page}
 use Rattle.page.specs.Page.{attributeAt, countAt, leftAt, rightAt, leafBit, countGood}
 use Rattle.page.specs.Reading.{entriesAt}
-use Rattle.page.specs.ReadingLaws.{entriesFrom}
+use Rattle.page.specs.ReadingLaws.{entriesFrom, entries-are}
 use Rattle.sound.specs.Rule.{lastOf, leafEntriesGood, upperEntriesGood, entriesFit, pageFits, checkPage}
 use Rattle.audit.specs.declared.Progress.{Progress}
 use Rattle.audit.specs.State.{keyFrom, progressOf, refusedAt}
-use Rattle.audit.specs.EntryLaws.{entries-are}
 
 -- the entries of a page
 module _ (b : List ℕ) (k size a last p n : ℕ) (r : Bool) (en : n ≡ length (entriesAt k size b p)) where
@@ -29,7 +28,7 @@ module _ (b : List ℕ) (k size a last p n : ℕ) (r : Bool) (en : n ≡ length 
   unfolding entriesFit
   entries-upper l er = er ∙ rw l (ap (upperEntriesGood (entriesAt k size b)) (sym (entries-are b k size p n en)))
 
--- a page, whose head was read
+-- one page, whose head was read
 and-false : (x y z u v : Bool) → (x && (y && (z && u))) ≡ false → false ≡ (x && (y && (z && (u && v))))
 and-false true true true true v e = contra refl e
 and-false true true true false v e = refl

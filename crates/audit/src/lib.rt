@@ -1,6 +1,6 @@
 // The audit of an index: level by level from the root down, each page checked against its left neighbour and its children, and marked when it is met. The
-// pages of a level are the children of the level above, whose pages name one another by the right links that were checked there. So nothing is copied, a page
-// is checked once and never again, and the work is linear in the file's size whatever its bytes are.
+// pages of a level are the children of the level above, whose pages name one another by the right links that were checked there. So nothing is copied, each
+// page is checked once, and the work is linear in the file's size on any bytes.
 use octets::Ordering;
 use page::Page;
 use page::PageOffset;
@@ -16,31 +16,32 @@ ghost use Rattle.page.specs.Within.{Within};
 ghost use Rattle.page.specs.Reading.{entriesAt};
 ghost use Rattle.page.specs.ReadingLaws.{entriesFrom};
 ghost use Rattle.sound.specs.Sound.{Audited};
-ghost use Rattle.sound.specs.Rule.{maxPages, lastOf, leafEntriesGood, upperEntriesGood, entriesFit, pageFits, attributeOf, isLeaf, childrenOf, firstChild};
-ghost use Rattle.sound.specs.Rule.{pagesUnder, checkPage, checkPages, rootLevel, nextLevel, levelsUnder, markedFrom, pagesGood};
+ghost use Rattle.page.specs.Children.{childrenOf};
+ghost use Rattle.sound.specs.Rule.{maxPages, lastOf, leafEntriesGood, upperEntriesGood, entriesFit, pageFits, attributeOf, pagesUnder};
+ghost use Rattle.sound.specs.Rule.{checkPage, checkPages, rootLevel, nextLevel, levelsUnder, markedFrom, pagesGood};
 ghost use Rattle.audit.specs.State.{InFile, EntriesWithin, keyFrom, leafEntry, upperEntry, progressOf, levelOf, startAt, refusedAt, closedAt};
 
-// The most pages that an index has.
-const MAX_PAGES: usize = page::MAX_BYTES / Page::SIZE;
-
-// What is known of the pages met on a level: whether all were good, the last of them, and the page that is to come on its right.
+// What is known of the pages met on a level: whether all were good, the last page met, and the page that its right link names.
 struct Progress {
     good: bool,
     last: PageOffset,
     next: PageOffset,
 }
 
-// What is known of a level: whether it is good, whether it is that of the leaves, and its first page.
+// What is known of a level: whether it is good, whether its pages are leaves, and its first page.
 struct Level {
     good: bool,
     leaf: bool,
     first: PageOffset,
 }
 
-// Where the last key of a page begins, or 0 where it has none.
+// Where the last key of a page begins, or 0 if the page has none.
 fn last_key(index: &[u8], k: usize, size: usize, page: PageOffset) -> usize
     requires { ⌜ InFile (now index) k size ⌝ }
-    ensures { λ r. ⌜ (keyFrom (now (index .entry)) k r ≡ lastOf none (entriesAt k size (now (index .entry)) (page .0))) × (r + k ≤ length (now (index .entry))) ⌝ }
+    ensures { λ r. ⌜
+        (keyFrom (now (index .entry)) k r ≡ lastOf none (entriesAt k size (now (index .entry)) (page .0)))
+        × (r + k ≤ length (now (index .entry)))
+        ⌝ }
 {
     let count = page::entry_count(index, k, size, page);
     if count == 0 {
@@ -49,7 +50,7 @@ fn last_key(index: &[u8], k: usize, size: usize, page: PageOffset) -> usize
     page::entry_offset(k, page, count - 1)
 }
 
-// The order of the key that begins at x to the one that begins at y.
+// The order of the key that begins at x to the key that begins at y.
 fn key_order(index: &[u8], k: usize, x: usize, y: usize) -> Ordering
     requires { ⌜ (x + k ≤ length (now index)) × (y + k ≤ length (now index)) ⌝ }
     ensures { λ r. ⌜ r ≡ ordering (window (now (index .entry)) x k) (window (now (index .entry)) y k) ⌝ }
@@ -59,7 +60,7 @@ fn key_order(index: &[u8], k: usize, x: usize, y: usize) -> Ordering
     octets::compare(&index[x..x_end], &index[y..y_end])
 }
 
-// Whether a leaf entry has a record number above 0 and a key above the one that begins at `last`, where 0 is none.
+// Whether entry i of a leaf has a record number above 0, and a key above the key that begins at `last`, if that is not 0.
 fn leaf_entry(index: &[u8], k: usize, page: PageOffset, i: usize, last: usize) -> bool
     requires { ⌜ Within (now index) k (page .0) (i + 1) × (last + k ≤ length (now index)) ⌝ }
     ensures { λ r. ⌜ r ≡ leafEntry (now (index .entry)) k (page .0) i last ⌝ }
@@ -73,7 +74,7 @@ fn leaf_entry(index: &[u8], k: usize, page: PageOffset, i: usize, last: usize) -
     octets::is_below(key_order(index, k, last, page::entry_offset(k, page, i)))
 }
 
-// The same of so many entries of a page, one after another.
+// Whether the first `count` entries of a leaf are good, each after the entry before it.
 fn leaf_entries(index: &[u8], k: usize, page: PageOffset, count: usize, last: usize) -> bool
     requires { ⌜ EntriesWithin (now index) k (page .0) count × (last + k ≤ length (now index)) ⌝ }
     ensures { λ r. ⌜ r ≡ leafEntriesGood (keyFrom (now (index .entry)) k last) (entriesFrom (now (index .entry)) k (page .0) count 0) ⌝ }
@@ -90,7 +91,7 @@ fn leaf_entries(index: &[u8], k: usize, page: PageOffset, count: usize, last: us
     true
 }
 
-// Whether the key of an entry above a child is the last of the child's keys.
+// Whether the key of entry i, above a child, is the last of the child's keys.
 fn upper_entry(index: &[u8], k: usize, size: usize, page: PageOffset, i: usize) -> bool
     requires { ⌜ InFile (now index) k size × Within (now index) k (page .0) (i + 1) ⌝ }
     ensures { λ r. ⌜ r ≡ upperEntry (now (index .entry)) k size (page .0) i ⌝ }
@@ -102,7 +103,7 @@ fn upper_entry(index: &[u8], k: usize, size: usize, page: PageOffset, i: usize) 
     octets::is_equal(key_order(index, k, last, page::entry_offset(k, page, i)))
 }
 
-// The same of so many entries of a page.
+// Whether the first `count` entries of a page above the leaves are good.
 fn upper_entries(index: &[u8], k: usize, size: usize, page: PageOffset, count: usize) -> bool
     requires { ⌜ InFile (now index) k size × EntriesWithin (now index) k (page .0) count ⌝ }
     ensures { λ r. ⌜ r ≡ upperEntriesGood (entriesAt k size (now (index .entry))) (entriesFrom (now (index .entry)) k (page .0) count 0) ⌝ }
@@ -117,7 +118,7 @@ fn upper_entries(index: &[u8], k: usize, size: usize, page: PageOffset, count: u
     true
 }
 
-// Whether the entries of a page are good: of a leaf by the attribute, with `last` on its left, or of a page above.
+// Whether the entries of a page are good, as those of a leaf with `last` on its left or of a page above, which the attribute tells.
 fn entries_fit(
     index: &[u8],
     k: usize,
@@ -161,7 +162,7 @@ fn page_fits(
     entries_fit(index, k, size, attribute, last, page)
 }
 
-// A page that is not good: what was known stays.
+// A page was not good: the last page and the next stay.
 fn refused(s: Progress) -> Progress
     ensures { λ r. ⌜ r ≡ refusedAt s ⌝ }
 {
@@ -174,7 +175,7 @@ fn refused(s: Progress) -> Progress
     }
 }
 
-// One page more, and its mark.
+// Checks one page more, and marks it.
 fn check_page(
     index: &[u8],
     marks: &mut [u8],
@@ -206,7 +207,7 @@ fn check_page(
     }
 }
 
-// The children of a page, one after another, up to the first that is not good.
+// Checks the children of a page, one after another, up to the first that is not good.
 fn check_children(
     index: &[u8],
     marks: &mut [u8],
@@ -217,7 +218,10 @@ fn check_children(
     s: Progress,
 ) -> Progress
     requires { ⌜ InFile (now index) k size × (length (now marks) ≡ maxPages) ⌝ }
-    ensures { λ r. ⌜ checkPages (now (index .entry)) k size attribute (childrenOf (now (index .entry)) k size (parent .0)) (progressOf s, now (marks .entry)) ≡ (progressOf r, now (marks .exit)) ⌝ }
+    ensures { λ r. ⌜
+        checkPages (now (index .entry)) k size attribute (childrenOf (now (index .entry)) k size (parent .0)) (progressOf s, now (marks .entry))
+        ≡ (progressOf r, now (marks .exit))
+        ⌝ }
 {
     let count = page::entry_count(index, k, size, parent);
     let mut t = s;
@@ -240,7 +244,7 @@ fn check_children(
     t
 }
 
-// The children of the pages of a level, from its first page on along the right links.
+// Checks the children of the pages of a level, from its first page on along the right links.
 fn check_level(
     index: &[u8],
     marks: &mut [u8],
@@ -251,11 +255,14 @@ fn check_level(
     s: Progress,
 ) -> Progress
     requires { ⌜ InFile (now index) k size × (length (now marks) ≡ maxPages) ⌝ }
-    ensures { λ r. ⌜ checkPages (now (index .entry)) k size attribute (pagesUnder (now (index .entry)) k size (first .0)) (progressOf s, now (marks .entry)) ≡ (progressOf r, now (marks .exit)) ⌝ }
+    ensures { λ r. ⌜
+        checkPages (now (index .entry)) k size attribute (pagesUnder (now (index .entry)) k size (first .0)) (progressOf s, now (marks .entry))
+        ≡ (progressOf r, now (marks .exit))
+        ⌝ }
 {
     let mut t = s;
     let mut parent = first;
-    let mut left = MAX_PAGES;
+    let mut left = page::MAX_PAGES;
     while 0 < left {
         if !page::is_page(size, parent) {
             return t;
@@ -266,18 +273,6 @@ fn check_level(
         left -= 1;
     }
     t
-}
-
-// Whether a page is a leaf.
-pub fn leaf_at(index: &[u8], size: usize, page: PageOffset) -> bool
-    requires { ⌜ size ≤ length (now index) ⌝ }
-    ensures { λ r. ⌜ r ≡ isLeaf (now (index .entry)) size (page .0) ⌝ }
-{
-    if !page::is_page(size, page) {
-        return false;
-    }
-    let head = Page::at(index, page);
-    page::is_leaf(head.attribute)
 }
 
 // The attribute of the pages of a level.
@@ -296,7 +291,7 @@ fn attribute_of(root: bool, leaf: bool) -> u32
     0
 }
 
-// At the start of a level, whose first page is to be `first`.
+// The start of a level, whose first page has to be `first`.
 fn start(first: PageOffset) -> Progress
     ensures { λ r. ⌜ r ≡ startAt first ⌝ }
 {
@@ -307,7 +302,7 @@ fn start(first: PageOffset) -> Progress
     }
 }
 
-// A level at its end: it is good if no page is on the right of its last.
+// A level at its end: it is good if no page is on the right of its last page.
 fn closed(s: Progress, leaf: bool, first: PageOffset) -> Level
     ensures { λ r. ⌜ r ≡ closedAt s leaf first ⌝ }
 {
@@ -319,12 +314,12 @@ fn closed(s: Progress, leaf: bool, first: PageOffset) -> Level
     }
 }
 
-// The level of the root.
+// Checks the level of the root.
 fn root_level(index: &[u8], marks: &mut [u8], k: usize, size: usize, root: PageOffset) -> Level
     requires { ⌜ InFile (now index) k size × (length (now marks) ≡ maxPages) ⌝ }
     ensures { λ r. ⌜ rootLevel (now (index .entry)) k size (root .0) (now (marks .entry)) ≡ (levelOf r, now (marks .exit)) ⌝ }
 {
-    let leaf = leaf_at(index, size, root);
+    let leaf = page::leaf_at(index, size, root);
     let s = check_page(
         index,
         marks,
@@ -337,24 +332,13 @@ fn root_level(index: &[u8], marks: &mut [u8], k: usize, size: usize, root: PageO
     closed(s, leaf, root)
 }
 
-// The first child of a page, or none.
-pub fn first_child(index: &[u8], k: usize, size: usize, page: PageOffset) -> PageOffset
-    requires { ⌜ InFile (now index) k size ⌝ }
-    ensures { λ r. ⌜ r .0 ≡ firstChild (now (index .entry)) k size (page .0) ⌝ }
-{
-    if page::entry_count(index, k, size, page) == 0 {
-        return PageOffset(page::NO_PAGE);
-    }
-    page::child(index, k, page, 0)
-}
-
-// The level under the one whose first page is `above`.
+// Checks the level under the level whose first page is `above`.
 fn next_level(index: &[u8], marks: &mut [u8], k: usize, size: usize, above: PageOffset) -> Level
     requires { ⌜ InFile (now index) k size × (length (now marks) ≡ maxPages) ⌝ }
     ensures { λ r. ⌜ nextLevel (now (index .entry)) k size (above .0) (now (marks .entry)) ≡ (levelOf r, now (marks .exit)) ⌝ }
 {
-    let first = first_child(index, k, size, above);
-    let leaf = leaf_at(index, size, first);
+    let first = page::first_child(index, k, size, above);
+    let leaf = page::leaf_at(index, size, first);
     let s = check_level(
         index,
         marks,
@@ -367,10 +351,13 @@ fn next_level(index: &[u8], marks: &mut [u8], k: usize, size: usize, above: Page
     closed(s, leaf, first)
 }
 
-// The levels from the root down to the leaves, to the first that is not good, or to the last that may be.
+// Checks the levels from the root down to the leaves, to the first that is not good, or to the 11th.
 fn levels(index: &[u8], marks: &mut [u8], k: usize, size: usize, root: PageOffset) -> Level
     requires { ⌜ InFile (now index) k size × (length (now marks) ≡ maxPages) ⌝ }
-    ensures { λ r. ⌜ levelsUnder (now (index .entry)) k size (maxLevels - 1) (rootLevel (now (index .entry)) k size (root .0) (now (marks .entry))) ≡ (levelOf r, now (marks .exit)) ⌝ }
+    ensures { λ r. ⌜
+        levelsUnder (now (index .entry)) k size (maxLevels - 1) (rootLevel (now (index .entry)) k size (root .0) (now (marks .entry)))
+        ≡ (levelOf r, now (marks .exit))
+        ⌝ }
 {
     let mut level = root_level(index, marks, k, size, root);
     let mut left = page::MAX_LEVELS - 1;
@@ -385,7 +372,7 @@ fn levels(index: &[u8], marks: &mut [u8], k: usize, size: usize, root: PageOffse
     level
 }
 
-// Whether the marks of the pages from the second to the last of so many are set.
+// Whether the marks of all `pages` pages but the first are set.
 fn all_marked(marks: &[u8], pages: usize) -> bool
     requires { ⌜ (1 ≤ pages) × (pages ≤ length (now marks)) ⌝ }
     ensures { λ r. ⌜ r ≡ markedFrom (now (marks .entry)) (pages - 1) 1 ⌝ }
@@ -400,7 +387,7 @@ fn all_marked(marks: &[u8], pages: usize) -> bool
     true
 }
 
-// Whether the pages of an index with a good header are those of a sound one, with a mark lent for each page.
+// Whether an index with a good header is sound, with a mark lent for each page.
 fn pages_good(index: &[u8], marks: &mut [u8]) -> bool
     requires { ⌜ (headerGood (now index) ≡ true) × (length (now marks) ≡ maxPages) ⌝ }
     ensures { λ r. ⌜ r ≡ pagesGood (now (index .entry)) (now (marks .entry)) ⌝ }
@@ -411,13 +398,17 @@ fn pages_good(index: &[u8], marks: &mut [u8]) -> bool
     level.good & (level.leaf & all_marked(marks, size / Page::SIZE))
 }
 
-// The audit: 24 where the header is not good, 0 where the index is sound, else 25.
+// The audit: 24 if the header is not good, 0 if the index is sound, else 25.
 pub fn audit(index: &[u8]) -> u32
     ensures { λ r. ⌜ Audited (now (index .entry)) r ⌝ }
 {
     if !page::header_good(index) {
-        return 24;
+        return refusal::INDEX_HEADER;
     }
-    let mut marks = [0u8; MAX_PAGES];
-    if pages_good(index, &mut marks) { 0 } else { 25 }
+    let mut marks = [0u8; page::MAX_PAGES];
+    if pages_good(index, &mut marks) {
+        0
+    } else {
+        refusal::INDEX_NOT_SOUND
+    }
 }

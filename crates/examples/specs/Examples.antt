@@ -18,6 +18,7 @@ use Rattle.octets.specs.Text as chars
 use Rattle.page.specs.Header as header
 use Rattle.page.specs.Page as page
 use Rattle.page.specs.Reading as pages
+use Rattle.page.specs.Children as children
 use Rattle.lookup.specs.Lookup as lookup
 use Rattle.lookup.specs.declared.Answer.{Answer as Looked}
 use Rattle.lookup.specs.declared.Answer.the-variants as looked
@@ -133,7 +134,7 @@ unfolding examples answer ascii
     tree.tree000 tree.padded tree.page tree.entry bytes.le16 bytes.le32 bytes.be32 bytes.toLe16 bytes.toLe32 bytes.toBe32 store.window order.bytesLe
     order.ordering header.isPage header.sizeGood header.keyLengthGood header.headerGood page.capacity page.entryOffset page.attributeGood page.countGood
     page.pageGood page.firstAtOrAbove pages.items pages.itemsAt pages.entriesAt lookup.entrySays lookup.pageSays lookup.visitRule lookup.lookupFrom
-    lookup.lookupRule audit.leafEntriesGood audit.upperEntriesGood audit.chain audit.isLeaf audit.markedFrom audit.entriesFit audit.pageFits audit.checkPage
+    lookup.lookupRule audit.leafEntriesGood audit.upperEntriesGood audit.chain children.isLeaf audit.markedFrom audit.entriesFit audit.pageFits audit.checkPage
     audit.checkPages audit.rootLevel audit.nextLevel audit.levelsUnder audit.pagesGood audit.unmarked
     shown tree100.key100 tree100.grown store.put layout.encode layout.area layout.withEntries layout.newPage layout.linkBeyond layout.splitPage entries.raised
     insertion.takeIn insertion.insertUnder insertion.insertedBuffer fresh.freshHeader fresh.freshBuffer fresh.freshRule fresh.printable fresh.expressionGood
@@ -144,7 +145,7 @@ examples-hold = refl
 tree000-tests : (header.headerGood tree.tree000 ≡ true) × (audit.pagesGood tree.tree000 audit.unmarked ≡ true)
 unfolding order.ordering tree.tree000 tree.padded tree.page tree.entry bytes.le16 bytes.le32 bytes.be32 bytes.toLe16 bytes.toLe32 bytes.toBe32 store.window order.bytesLe
     header.isPage header.sizeGood header.keyLengthGood header.headerGood page.capacity page.countGood pages.items pages.itemsAt pages.entriesAt
-    audit.leafEntriesGood audit.upperEntriesGood audit.chain audit.isLeaf audit.markedFrom audit.entriesFit audit.pageFits audit.checkPage audit.checkPages
+    audit.leafEntriesGood audit.upperEntriesGood audit.chain children.isLeaf audit.markedFrom audit.entriesFit audit.pageFits audit.checkPage audit.checkPages
     audit.rootLevel audit.nextLevel audit.levelsUnder audit.pagesGood audit.unmarked
 tree000-tests = (refl, refl)
 

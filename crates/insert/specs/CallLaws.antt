@@ -10,7 +10,7 @@ use lib.Dec.{leb}
 use borrow.Author.Tests.{eq-eqb, ne-eqb, leb-true, le-leb, lt-leb}
 use Rattle.basis.specs.Tests.{either, contra, both}
 use Rattle.octets.specs.Store.{put}
-use Rattle.page.specs.Header.{minBytes, maxKey, pageSize, noPage, keyLength, keyLengthGood, headerGood}
+use Rattle.page.specs.Header.{minBytes, pageSize, noPage, keyLength, keyLengthGood, headerGood}
 use Rattle.page.specs.Reading.{items}
 use Rattle.sound.specs.Sound.{Audited}
 use Rattle.sound.specs.Rule.{pagesGood, unmarked}
@@ -116,10 +116,6 @@ module _ (b : List ℕ) (k : ℕ) (e : List ℕ) where
       pub fresh-made : {out : List ℕ} → minBytes ≤ length b → out ≡ freshBuffer k e b → freshRule b k e ≡ left out Accepted
       unfolding freshRule
       fresh-made h q = rw (key, good, le-leb minBytes (length b) h, freshRule, q)
-
-pub key-most : (k : ℕ) → keyLengthGood k ≡ true → k ≤ maxKey
-unfolding keyLengthGood
-key-most k e = leb-true k maxKey (both (leb 1 k) (leb k maxKey) e .1)
 
 -- an expression that is too long is not good, whatever its bytes are
 pub expression-long : (e : List ℕ) → maxExpression < length e → expressionGood e ≡ false

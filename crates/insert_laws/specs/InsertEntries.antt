@@ -16,13 +16,11 @@ use Rattle.octets.specs.NumberLaws.{length-toLe32, length-toBe32, be32-toBe32}
 use Rattle.tree.specs.Index.{newOffset}
 use Rattle.tree.specs.InsertNeeds.{choose-all}
 use Rattle.tree.specs.InsertPages.{newPages-apart}
-use Rattle.tree.specs.Insertion.{half}
 use Rattle.tree.specs.ListLaws.{nonEmpty-length, occ-here, take-map, drop-map, occ-not-head}
-use Rattle.tree.specs.Lists.{NonEmpty, concatMap, occ, countIf}
+use Rattle.tree.specs.Lists.{NonEmpty, concatMap, occ, countIf, half}
 use Rattle.tree.specs.Order.{larger}
 use Rattle.tree.specs.PairLaws.{insertPair-all, lastKey-default, lastKey-append}
-use Rattle.tree.specs.Pairs.{insertPair, lastKey}
-use Rattle.tree.specs.Room.{choose}
+use Rattle.tree.specs.Pairs.{insertPair, lastKey, choose}
 use Rattle.tree.specs.Store.{Store, readEntry, readTree}
 use Rattle.tree.specs.StoreInsertLaws.{storeInsertUnder-refines, choose-occ}
 use Rattle.tree.specs.StoreLaws.{write-here, write-other}

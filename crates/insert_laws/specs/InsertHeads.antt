@@ -13,14 +13,13 @@ use Rattle.basis.specs.Tests.{either}
 use Rattle.octets.specs.Bytes.{toBe32}
 use Rattle.octets.specs.NumberLaws.{length-toBe32, le16-small, le32-small}
 use Rattle.tree.specs.Index.{newOffset}
-use Rattle.tree.specs.Insertion.{half}
 use Rattle.tree.specs.ListLaws.{occ-not-head}
-use Rattle.tree.specs.Lists.{NonEmpty, concatMap}
+use Rattle.tree.specs.Lists.{NonEmpty, concatMap, half}
 use Rattle.tree.specs.Order.{larger}
 use Rattle.tree.specs.PairLaws.{insertPair-all}
-use Rattle.tree.specs.Pairs.{insertPair}
+use Rattle.tree.specs.Pairs.{insertPair, choose}
 use Rattle.tree.specs.Relinking.{pathPageUnder, relink}
-use Rattle.tree.specs.Room.{choose, atChosen}
+use Rattle.tree.specs.Room.{atChosen}
 use Rattle.tree.specs.Store.{readEntry, readTree}
 use Rattle.tree.specs.StoreLaws.{choose-read}
 use Rattle.tree.specs.StoreSteps.{StoreReplacement}

@@ -11,8 +11,7 @@ use Rattle.octets.specs.Bytes.{be32}
 use Rattle.octets.specs.Order.{bytesLe}
 use Rattle.tree.specs.Insertion.{place}
 use Rattle.tree.specs.Lists.{NonEmpty}
-use Rattle.tree.specs.Pairs.{insertPair, lastKey}
-use Rattle.tree.specs.Room.{choose}
+use Rattle.tree.specs.Pairs.{insertPair, lastKey, choose}
 use Rattle.page.specs.KeyOrder.{bytesOrder}
 use Rattle.page.specs.Reading.{Item, numbered}
 use Rattle.layout.specs.Entries.{replaced}

@@ -11,7 +11,8 @@ use lib.ListN.{length, length-map}
 use borrow.Author.Tests.{ltb-true, ltb-false, lt-ltb, le-ltb}
 use Rattle.basis.specs.Tests.{either}
 use Rattle.tree.specs.Index.{outOfRoom}
-use Rattle.tree.specs.Room.{choose, atChosen, run}
+use Rattle.tree.specs.Pairs.{choose}
+use Rattle.tree.specs.Room.{atChosen, run}
 use Rattle.tree.specs.StoreLookupLaws.{run-read}
 use Rattle.tree.specs.StoreSteps.{storeRun}
 use Rattle.page.specs.Header.{maxBytes, maxLevels, pageSize, rootOffset, fileSize, keyLength}

@@ -8,8 +8,7 @@ use Rattle.octets.specs.Bytes.{be32, toBe32}
 use Rattle.octets.specs.Store.{put}
 use Rattle.octets.specs.Order.{bytesLe}
 use Rattle.tree.specs.Order.{larger}
-use Rattle.tree.specs.Pairs.{lastKey}
-use Rattle.tree.specs.Room.{choose}
+use Rattle.tree.specs.Pairs.{lastKey, choose}
 use Rattle.page.specs.Page.{entryOffset}
 use Rattle.page.specs.KeyOrder.{bytesOrder}
 use Rattle.page.specs.Reading.{Item}

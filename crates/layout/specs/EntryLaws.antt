@@ -13,8 +13,7 @@ use Rattle.basis.specs.Lists.{All}
 use Rattle.octets.specs.Order.{bytesLe}
 use Rattle.octets.specs.Store.{window}
 use Rattle.octets.specs.StoreLaws.{length-window}
-use Rattle.tree.specs.Pairs.{insertPair}
-use Rattle.tree.specs.Room.{choose}
+use Rattle.tree.specs.Pairs.{insertPair, choose}
 use Rattle.page.specs.Header.{pageSize, isPage}
 use Rattle.page.specs.Page.{countAt, entriesStart, entryArea, capacity, entryOffset, keyAt, firstAtOrAbove}
 use Rattle.page.specs.Within.{Within}

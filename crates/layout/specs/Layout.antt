@@ -5,7 +5,7 @@ use mathlib.Core.List.{List, [], _∷_, _++_}
 use lib.ListN.{length, take, drop, replicate}
 use Rattle.octets.specs.Bytes.{toLe16, toLe32}
 use Rattle.octets.specs.Store.{put}
-use Rattle.tree.specs.Insertion.{half}
+use Rattle.tree.specs.Lists.{half}
 use Rattle.page.specs.Header.{pageSize, noPage, rootPlace, sizePlace, expressionPlace, goodFeatures, isPage}
 use Rattle.page.specs.Page.{attributeAt, rightAt, countPlace, leftPlace, rightPlace, entriesStart, entryArea}
 use Rattle.page.specs.Reading.{Item, itemsAt}

@@ -17,7 +17,7 @@ use Rattle.octets.specs.Order.{bytesLe}
 use Rattle.octets.specs.OrderLaws.{le-total}
 use Rattle.octets.specs.StoreLaws.{length-put, window-before, window-after, window-inside, window-same, length-window, drop-put}
 use Rattle.octets.specs.NumberLaws.{length-toLe16, length-toLe32, le16-same, le16-put}
-use Rattle.tree.specs.Insertion.{half}
+use Rattle.tree.specs.Lists.{half}
 use Rattle.tree.specs.Order.{larger}
 use Rattle.tree.specs.OrderLaws.{larger-same}
 use Rattle.tree.specs.Store.{Store}

@@ -15,7 +15,7 @@ use Rattle.octets.specs.Bytes.{le16, le32, toLe16, toLe32}
 use Rattle.octets.specs.Store.{put, window}
 use Rattle.octets.specs.StoreLaws.{length-put, window-before, window-after}
 use Rattle.octets.specs.NumberLaws.{length-toLe16, length-toLe32, le16-put, le32-put, le16-same, le32-same}
-use Rattle.tree.specs.Insertion.{half}
+use Rattle.tree.specs.Lists.{half}
 use Rattle.page.specs.Header.{pageSize, isPage}
 use Rattle.page.specs.Page.{attributeAt, countAt, leftAt, rightAt, entriesStart, capacity, entryOffset}
 use Rattle.page.specs.PageLaws.{entry-inside, entry-low, capacity-small}

@@ -7,12 +7,12 @@ use native.Mathlib.Omega.{arith}
 use lib.ListN.{length}
 use lib.Dec.{eqb}
 use borrow.Author.Tests.{eq-eqb, ne-eqb, eqb-true, eqb-false}
-use Rattle.basis.specs.Tests.{either}
+use Rattle.basis.specs.Tests.{either, impossible}
 use Rattle.octets.specs.Order.{ordering, isEqual}
 use Rattle.page.specs.Header.{maxLevels, rootOffset, fileSize, keyLength, headerGood}
 use Rattle.page.specs.Page.{attributeAt, countAt, leafBit, keyAt, numberAt, pageGood, firstAtOrAbove}
 use Rattle.page.specs.PageLaws.{first-bound}
-use Rattle.page.specs.KeyOrder.{equal-same}
+use Rattle.page.specs.KeyOrderLaws.{equal-same}
 use Rattle.page.specs.declared.PageOffset.{PageOffset}
 use Rattle.page.specs.declared.RecordNumber.{RecordNumber}
 use Rattle.lookup.specs.Lookup.{recordOf, entrySays, pageSays, visitRule, decided, lookupFrom, lookupRule}
@@ -21,8 +21,8 @@ use Rattle.lookup.specs.declared.Visit.the-variants as visit
 use Rattle.lookup.specs.declared.Answer.{Answer}
 use Rattle.lookup.specs.declared.Answer.the-variants as answer
 
--- an entry with the key and the record number r, in a leaf that is the n-th page visited, from the 1st to the 11th. The leaf passes lookup's checks of that
--- page: it is a page of the file, its attribute is 0 to 3 and has the root bit exactly if it is the 1st page, and its count is good
+-- an entry with the key and the record number r, in a leaf that is the n-th page visited, from the 1st to the 11th. The leaf passes lookup's checks: it is a
+-- page of the file, its attribute is 0 to 3 and has the root bit exactly if it is the 1st page, and its count is good
 pub record FoundAt (b key : List ℕ) (r : RecordNumber) (n : ℕ) : Type 0 where
   pub page : ℕ
   pub entry : ℕ
@@ -32,9 +32,6 @@ pub record FoundAt (b key : List ℕ) (r : RecordNumber) (n : ℕ) : Type 0 wher
   pub leaf : leafBit (attributeAt b page) ≡ true
   pub equal : keyAt b (length key) page entry ≡ key
   pub number : numberAt b (length key) page entry ≡ r .0
-
-impossible : {X : Type 0} → _≡_ {A = ℕ} 0 1 → X
-impossible z = absurd (omega arith)
 
 -- the answers are not one another
 not-absent : {X : Type 0} {r : RecordNumber} → visit.Absent ≡ visit.Found r → X
@@ -49,7 +46,7 @@ not-refused e = impossible (cc)
 same-number : {m : ℕ} {r : RecordNumber} → visit.Found (recordOf m) ≡ visit.Found r → m ≡ r .0
 same-number {m} {r} e = let s : recordOf m ≡ r = cc in ap (λ (x : RecordNumber). x .0) s
 
--- the n-th page visited, which passes the checks
+-- the n-th page visited
 module _ (b key : List ℕ) (p n : ℕ) (visits : (1 ≤ n) × (n ≤ maxLevels)) where
   entry-found : (i : ℕ) (r : RecordNumber) → pageGood b (length key) (fileSize b) p (eqb n 1) (eqb n maxLevels) ≡ true → i ≤ countAt b p
       → entrySays b key p i ≡ visit.Found r → FoundAt b key r n
@@ -90,7 +87,7 @@ decided-found pages (visit.Found s) {r} {n} e here on =
     here (ap (λ (x : RecordNumber). visit.Found x) q) same
 decided-found pages (visit.Child c) e here on = on (c .0) e
 
--- with none left under it, a page is the 11th
+-- a page with no level left under it is the 11th
 last-visited : (left : ℕ) → left < maxLevels → eqb left 0 ≡ eqb (maxLevels - left) maxLevels
 last-visited left l = either (eqb left 0)
     (λ e. e ∙ sym (eq-eqb (maxLevels - left) maxLevels (omega (arith, eqb-true left 0 e))))
@@ -108,7 +105,7 @@ from-found (suc left) b key p r n l e =
     rw same at there)
     (λ c q. from-found left b key c r n (omega arith) q)
 
--- Theorem: a key that lookup finds after n pages is the key of an entry in the n-th page visited, a leaf that passes lookup's checks, and the record is that
+-- Theorem: a key that lookup finds after n pages is the key of an entry in the n-th page visited, a leaf that passes lookup's checks, and the record is the
 -- entry's
 pub found-is-equal : (b key : List ℕ) (r : RecordNumber) (n : ℕ) → lookupRule b key ≡ answer.Found r n → FoundAt b key r n
 unfolding lookupRule

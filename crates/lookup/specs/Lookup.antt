@@ -1,4 +1,5 @@
--- Rules: lookup, "(24, 27, 25)": the steps from the root down, on any bytes, and the answer.
+-- Rules: lookup, "(24, 27, 25)": the steps from the root down, on any bytes, and the answer. Cited by the contract of lookup, by insertion and by the claim
+-- about lists of calls.
 use Prim.Native.Nat.{ℕ, zero, suc, _-_}
 use mathlib.Core.Bool.{Bool, true, false, cond}
 use mathlib.Core.List.{List}
@@ -14,14 +15,14 @@ use Rattle.lookup.specs.declared.Visit.the-variants as visit
 use Rattle.lookup.specs.declared.Answer.{Answer}
 use Rattle.lookup.specs.declared.Answer.the-variants as answer
 
--- an entry's number, taken as a child's offset or as a record number
+-- an entry's number, taken as the offset of a child or as the number of a record
 abbrev pub offsetOf : ℕ → PageOffset
 offsetOf n = record { 0 = n }
 
 abbrev pub recordOf : ℕ → RecordNumber
 recordOf n = record { 0 = n }
 
--- the number of the answer for an absent key
+-- the code of the answer for an absent key
 abbrev pub absentCode : ℕ
 absentCode = 257
 
@@ -33,6 +34,7 @@ entrySays b key p i =
     (cond (isEqual (ordering (keyAt b (length key) p i) key)) (visit.Found (recordOf (numberAt b (length key) p i))) visit.Absent)
     (visit.Child (offsetOf (numberAt b (length key) p i))))
 
+-- what the page at p says
 unfoldable pub pageSays : List ℕ → List ℕ → ℕ → Visit
 pageSays b key p = entrySays b key p (firstAtOrAbove (keyAt b (length key) p) key (countAt b p) 0)
 
@@ -40,20 +42,21 @@ pageSays b key p = entrySays b key p (firstAtOrAbove (keyAt b (length key) p) ke
 unfoldable pub visitRule : List ℕ → List ℕ → ℕ → Bool → Bool → Visit
 visitRule b key p first last = elim (pageGood b (length key) (fileSize b) p first last) [ true ↦ pageSays b key p | false ↦ visit.Refused ]
 
--- what a visit decides, with the pages visited up to it, where `go` is lookup from a child on
+-- what a visit decides after `pages` pages; `go` is lookup from a child on
 abbrev pub decided : (ℕ → Answer) → ℕ → Visit → Answer
 decided go pages visit.Refused = answer.Refused 25
 decided go pages visit.Absent = answer.Absent pages
 decided go pages (visit.Found r) = answer.Found r pages
 decided go pages (visit.Child c) = go (c .0)
 
--- lookup "goes down level by level": from the page at p on, with so many levels left, "falling from 11"; the first page visited is the one with all levels
--- left, and the 11th the one with none left under it
+-- lookup "goes down level by level": from the page at p on, with a number of levels left, "falling from 11"; the page that is visited with all levels left is
+-- the first, and the page with none left under it is the 11th
 unfoldable pub lookupFrom : ℕ → List ℕ → List ℕ → ℕ → Answer
 lookupFrom zero b key p = answer.Refused 25
 lookupFrom (suc left) b key p =
     decided (lookupFrom left b key) (maxLevels - left) (visitRule b key p (eqb (maxLevels - left) 1) (eqb left 0))
 
+-- the answer: "24, 27", then the steps from the root with 11 levels left
 unfoldable pub lookupRule : List ℕ → List ℕ → Answer
 lookupRule b key =
     elim (headerGood b) [
@@ -64,13 +67,13 @@ lookupRule b key =
       | false ↦ answer.Refused 24
     ]
 
--- the number of an answer: 0 where the key is found, 257 where it is absent, or the refusal's
+-- the code of an answer: 0 if the key is found, 257 if it is absent, or the refusal's number
 abbrev pub lookupCode : Answer → ℕ
 lookupCode (answer.Found r pages) = 0
 lookupCode (answer.Absent pages) = absentCode
 lookupCode (answer.Refused n) = n
 
--- the record of an answer, and the pages visited; what was there before where an answer has none
+-- the record of an answer, and the pages visited; `old` if the answer has none
 abbrev pub answerRecord : Answer → ℕ → ℕ
 answerRecord (answer.Found r pages) old = r .0
 answerRecord (answer.Absent pages) old = old

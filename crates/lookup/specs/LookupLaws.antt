@@ -1,4 +1,4 @@
--- Laws: what a page's entries say by case, and a step of lookup. Cited by the proofs of this crate's functions. Assumes nothing.
+-- Laws: what a page's entries say in each case, and a step of lookup. Cited by the proofs of this crate's functions. Assumes nothing.
 use Prim.Native.Nat.{ℕ, zero, suc, _-_}
 use mathlib.Core.Path.{_≡_, refl, sym, _∙_}
 use mathlib.Core.Bool.{true, false}
@@ -47,7 +47,7 @@ module _ {b key : List ℕ} {p a n i : ℕ} (s : Searched b key p a n i) where
       unfolding entrySays
       says-other h = sym (says-entry ∙ simp (some, ← s .attribute, leaf, ← eo, h))
 
--- a visit v that is w decides lookup with so many levels left, at least one
+-- the visit w decides lookup, if at least one level is left
 pub lookup-step : (levels : ℕ) (b key : List ℕ) (p : ℕ) (v w : Visit) → (levels ≡ 0 → ⊥)
     → v ≡ visitRule b key p (eqb (maxLevels - (levels - 1)) 1) (eqb (levels - 1) 0) → v ≡ w
     → decided (lookupFrom (levels - 1) b key) (maxLevels - (levels - 1)) w ≡ lookupFrom levels b key p

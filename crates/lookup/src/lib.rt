@@ -19,7 +19,7 @@ pub enum Visit {
     Child(PageOffset),
 }
 
-// What a lookup answers: the record and the pages visited, the pages visited, or the refusal's number.
+// What a lookup answers: the record found and the number of pages visited, absent after a number of pages, or the refusal's number.
 pub enum Answer {
     Found(RecordNumber, u32),
     Absent(u32),
@@ -46,7 +46,7 @@ fn search_page(index: &[u8], key: &[u8], page: PageOffset) -> Visit
     Visit::Absent
 }
 
-// A visit of a page: its checks come before its entries.
+// A visit of a page: its checks come before its entries. `first` and `last` say whether it is the first page visited, and the last that may be.
 fn visit_page(index: &[u8], key: &[u8], page: PageOffset, first: bool, last: bool) -> Visit
     requires { ⌜ (headerGood (now index) ≡ true) × (length (now key) ≡ keyLength (now index)) ⌝ }
     ensures { λ r. ⌜ r ≡ visitRule (now (index .entry)) (now (key .entry)) (page .0) first last ⌝ }
@@ -57,34 +57,34 @@ fn visit_page(index: &[u8], key: &[u8], page: PageOffset, first: bool, last: boo
     search_page(index, key, page)
 }
 
-// Lookup from a page on, with so many levels left.
+// Lookup from a page on, with `levels` levels left.
 fn lookup_from(index: &[u8], key: &[u8], page: PageOffset, levels: u32) -> Answer
     requires { ⌜ (levels ≤ maxLevels) × (headerGood (now index) ≡ true) × (length (now key) ≡ keyLength (now index)) ⌝ }
     ensures { λ r. ⌜ r ≡ lookupFrom levels (now (index .entry)) (now (key .entry)) (page .0) ⌝ }
 {
     if levels == 0 {
-        return Answer::Refused(25);
+        return Answer::Refused(refusal::INDEX_NOT_SOUND);
     }
     let left = levels - 1;
     let pages = page::MAX_LEVELS - left;
     let visit = visit_page(index, key, page, pages == 1, left == 0);
     match visit {
-        Visit::Refused => Answer::Refused(25),
+        Visit::Refused => Answer::Refused(refusal::INDEX_NOT_SOUND),
         Visit::Absent => Answer::Absent(pages),
         Visit::Found(number) => Answer::Found(number, pages),
         Visit::Child(child) => lookup_from(index, key, child, left),
     }
 }
 
-// The record of a key, or that the key is absent, with the pages visited.
+// The record of a key, or absent, with the number of pages visited.
 pub fn lookup(index: &[u8], key: &[u8]) -> Answer
     ensures { λ r. ⌜ r ≡ lookupRule (now (index .entry)) (now (key .entry)) ⌝ }
 {
     if !page::header_good(index) {
-        return Answer::Refused(24);
+        return Answer::Refused(refusal::INDEX_HEADER);
     }
     if key.len() != page::key_length(index) {
-        return Answer::Refused(27);
+        return Answer::Refused(refusal::KEY_LENGTH);
     }
     lookup_from(index, key, page::root(index), page::MAX_LEVELS)
 }

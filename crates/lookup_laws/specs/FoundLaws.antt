@@ -1,5 +1,5 @@
--- Laws: lookup on a sound index. Its steps give what the sorted list of the leaves' pairs has under the key, a found key after as many pages as there
--- are levels. Cited by the claim about lists of calls. Assumes nothing.
+-- Laws: lookup on a sound index. Its steps give what the sorted list of the leaves' pairs has under the key, a found key after as many pages as there are
+-- levels. Cited by the laws of the claim about lists of calls. Assumes nothing.
 use Prim.Native.Nat.{ℕ, zero, suc, _+_, _-_, _≤_, _<_}
 use mathlib.Core.Path.{_≡_, refl, sym, ap, ap₂, _∙_, subst}
 use mathlib.Core.Bool.{Bool, true, false, cond}
@@ -10,7 +10,7 @@ use lib.ListN.{length}
 use lib.Dec.{eqb}
 use borrow.Author.Tests.{eq-eqb, ne-eqb, eqb-true, eqb-false, leb-true}
 use Rattle.basis.specs.Lists.{All}
-use Rattle.basis.specs.Tests.{either, both}
+use Rattle.basis.specs.Tests.{either, both, impossible}
 use Rattle.octets.specs.Order.{bytesLe, ordering, isEqual}
 use Rattle.tree.specs.ListLaws.{all-unit, all-map2}
 use Rattle.tree.specs.Pairs.{follow, seek, find}
@@ -43,20 +43,20 @@ abbrev pub answerOf : Option ℕ → ℕ → Answer
 answerOf none n = answer.Absent n
 answerOf (some r) n = answer.Found (recordOf r) n
 
--- what a search gives is at or above the key, and has what all entries have
+-- the entry that a search gives is at or above the key, and has the property that all entries have
 seek-le : (key : List ℕ) (es : Entries) (e : List ℕ × ℕ) → seek bytesOrder key es ≡ some e → bytesLe key (e .0) ≡ true
-seek-le key [] e h = let z : _≡_ {A = ℕ} 0 1 = cc in absurd (omega arith)
+seek-le key [] e h = impossible (cc)
 seek-le key (x ∷ xs) e h = either (bytesLe key (x .0))
     (λ u. let d : some x ≡ some e = rw u at h in let q : x ≡ e = cc in subst (λ (y : List ℕ × ℕ). bytesLe key (y .0) ≡ true) q u)
     (λ u. seek-le key xs e (rw u at h))
 
 seek-all : (P : List ℕ × ℕ → Type 0) (key : List ℕ) (es : Entries) (e : List ℕ × ℕ) → All P es → seek bytesOrder key es ≡ some e → P e
-seek-all P key [] e a h = let z : _≡_ {A = ℕ} 0 1 = cc in absurd (omega arith)
+seek-all P key [] e a h = impossible (cc)
 seek-all P key (x ∷ xs) e a h = either (bytesLe key (x .0))
     (λ u. let d : some x ≡ some e = rw u at h in let q : x ≡ e = cc in subst P q (a .0))
     (λ u. seek-all P key xs e (a .1) (rw u at h))
 
--- a key at or above another is equal to it where it is at or below it too
+-- a key at or above another is equal to it if it is at or below it too
 equal-le : (a key : List ℕ) → bytesLe key a ≡ true → isEqual (ordering a key) ≡ bytesLe a key
 unfolding ordering
 equal-le a key h = either (bytesLe a key) (λ e. rw (e, h)) (λ e. rw e)
@@ -79,7 +79,7 @@ module _ (b key : List ℕ) (size p : ℕ) (page : isPage size p ≡ true) (full
   abbrev entry : List ℕ × ℕ
   entry = (keyAt b k p i, numberAt b k p i)
 
-  -- none is at or above the key, or this is the first that is
+  -- no entry is at or above the key, or entry i is the first that is
   searched : {X : Type 0} → (i ≡ countAt b p → sought ≡ none → X) → ((i ≡ countAt b p → ⊥) → sought ≡ some entry → X) → X
   searched f g =
       let es = entries-by-count k size b p page full in
@@ -108,20 +108,20 @@ module _ (b key : List ℕ) (size p : ℕ) (page : isPage size p ≡ true) (full
   decided-leaf go n true r = refl
   decided-leaf go n false r = refl
 
-  pub leaf-decides : (go : ℕ → Answer) (n : ℕ) → leafBit (attributeAt b p) ≡ true
+  leaf-decides : (go : ℕ → Answer) (n : ℕ) → leafBit (attributeAt b p) ≡ true
       → decided go n (pageSays b key p) ≡ answerOf (find bytesOrder key (entriesAt (length key) size b p)) n
   leaf-decides go n l = searched
       (λ e s. rw (says-none e, s))
       (λ e s. rw (says-leaf l e (seek-le key (S p) entry s), s) (decided-leaf go n (bytesLe (entry .0) key) (entry .1)))
 
-  pub upper-decides : (go : ℕ → Answer) (n : ℕ) (f : List ℕ × ℕ → Option ℕ) (g : List ℕ × ℕ → List ℕ) → leafBit (attributeAt b p) ≡ false
+  upper-decides : (go : ℕ → Answer) (n : ℕ) (f : List ℕ × ℕ → Option ℕ) (g : List ℕ × ℕ → List ℕ) → leafBit (attributeAt b p) ≡ false
       → ((e : List ℕ × ℕ) → sought ≡ some e → go (e .1) ≡ answerOf (f e) (n + length (g e)))
       → decided go n (pageSays b key p) ≡ answerOf (follow f sought) (n + length (onward g sought))
   upper-decides go n f g l ok = searched
       (λ e s. let z : n + 0 ≡ n = omega arith in rw (says-none e, s, z))
       (λ e s. rw (says-child l e, s) (ok entry s))
 
--- lookup's checks: an attribute as its level asks for it, on the first page, on the last that may be, or on another
+-- an attribute that is good on its level passes lookup's checks, on the first page, on the last that may be, or on another
 attribute-passes : (root leaf last : Bool) → (leaf ≡ false → last ≡ false) → attributeGood (attributeOf root leaf) root last ≡ true
 unfolding attributeGood
 attribute-passes true true last h = refl
@@ -134,7 +134,7 @@ first-is n = either (eqb n 0)
     (λ e. eq-eqb (n + 1) 1 (omega (arith, eqb-true n 0 e)) ∙ sym e)
     (λ e. ne-eqb (n + 1) 1 (omega (arith, eqb-false n 0 e)) ∙ sym e)
 
--- the pages of a sound index, level by level from an entry down: with `height` levels under the root, this one j levels under it
+-- the pages of a sound index with `height` levels under the root, level by level from an entry j levels under the root down
 module _ (b key : List ℕ) (height : ℕ) (few : height < maxLevels) where
   abbrev B : ℕ → Entries
   B = entriesAt (length key) (fileSize b) b
@@ -224,7 +224,8 @@ module _ (b key : List ℕ) (s : Sound b) (e : length key ≡ keyLength b) where
   abbrev stored : ℕ → ℕ → List (List ℕ × ℕ)
   stored k p = entriesAt k (fileSize b) b p
 
-  steps : lookupFrom maxLevels b key r ≡ answerOf (storeLookup bytesOrder key h r (stored (length key))) (0 + length (storeVisited bytesOrder key h r (stored (length key))))
+  steps : let S = stored (length key) in
+      lookupFrom maxLevels b key r ≡ answerOf (storeLookup bytesOrder key h r S) (0 + length (storeVisited bytesOrder key h r S))
   steps = descends b key h few h 0 (maxLevels - 1) r [] (omega arith) (omega arith) (levels-along b key h few (suc h) 0 (rootEntry r) fine-levels .0)
 
   -- Theorem: lookup's steps on a sound index, for a key of its length, are the theory's lookup in its tree
@@ -238,7 +239,7 @@ module _ (b key : List ℕ) (s : Sound b) (e : length key ≡ keyLength b) where
       rw (s .header, eq-eqb (length key) (keyLength b) e, lookupRule)
       (d ∙ ap₂ (λ (o : Option ℕ) (l : List ℕ). answerOf o (length l)) (sym (lookup-read bytesOrder S key h r)) (sym (visited-read bytesOrder S key h r)))
 
-  -- Theorem: and so what the sorted list of the leaves' pairs has under the key; absent exactly where it has none
+  -- Theorem: lookup gives what the sorted list of the leaves' pairs has under the key, absent exactly if it has none
   listed : lookup bytesOrder key h T ≡ find bytesOrder key (pairs h T)
   listed = lookup-find bytesOrder key h T (sound-index b s (fileSize b) (omega arith) .ordered)
 
@@ -252,6 +253,6 @@ module _ (b key : List ℕ) (s : Sound b) (e : length key ≡ keyLength b) where
       let z : suc h ≡ h + 1 = omega arith in
       lookup-list ∙ rw (f, v, z)
 
-  -- Theorem: and a key that is not there is absent
+  -- Theorem: a key that is not there is absent
   pub absent-list : find bytesOrder key (pairs h T) ≡ none → lookupRule b key ≡ answer.Absent (length (visited bytesOrder key h T))
   absent-list f = lookup-list ∙ rw f

@@ -15,8 +15,9 @@ use Rattle.page.specs.Header.{maxBytes, maxLevels, noPage, rootOffset, fileSize
 use Rattle.page.specs.HeaderLaws.{good-header}
 use Rattle.page.specs.Page.{attributeAt, leafBit}
 use Rattle.page.specs.Reading.{entriesAt}
+use Rattle.page.specs.Children.{isLeaf, firstChild}
 use Rattle.sound.specs.Sound.{Sound, CountGood, linksOf, leafPairs}
-use Rattle.sound.specs.Rule.{Entries, maxPages, chain, isLeaf, firstChild, unmarked}
+use Rattle.sound.specs.Rule.{Entries, maxPages, chain, unmarked}
 use Rattle.sound.specs.Levels.{numbers, below, generation, reached, join-map, generation-below, generations-reached, all-of-map}
 use Rattle.sound.specs.Levels.{tree-pairs, tree-pages, level-generation, pages-generation}
 use Rattle.sound.specs.MarkLaws.{fresh-few, unmarked-length, once-fresh}

@@ -14,7 +14,8 @@ use Rattle.tree.specs.Lists.{concatMap}
 use Rattle.page.specs.Header.{maxLevels, rootOffset, fileSize, keyLength}
 use Rattle.page.specs.Page.{keyAt, numberAt}
 use Rattle.page.specs.Reading.{entriesAt}
-use Rattle.sound.specs.Rule.{Entries, maxPages, chain, isLeaf, firstChild}
+use Rattle.page.specs.Children.{isLeaf, firstChild}
+use Rattle.sound.specs.Rule.{Entries, maxPages, chain}
 use Rattle.matching.specs.declared.Column.{Column}
 
 -- ---- entries

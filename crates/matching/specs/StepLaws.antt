@@ -22,9 +22,10 @@ use Rattle.page.specs.Header.{maxLevels, isPage}
 use Rattle.page.specs.Page.{countAt, capacity, entryArea, keyAt, numberAt, rightAt}
 use Rattle.page.specs.PageLaws.{capacity-small}
 use Rattle.page.specs.Reading.{entriesAt}
-use Rattle.page.specs.ReadingLaws.{entriesFrom, entries-none, length-entries}
-use Rattle.sound.specs.Rule.{Entries, maxPages, chain, isLeaf, firstChild}
-use Rattle.audit.specs.EntryLaws.{entries-are, from-on, from-end}
+use Rattle.page.specs.ReadingLaws.{entriesFrom, entries-are, entries-none, length-entries}
+use Rattle.page.specs.Children.{isLeaf, firstChild}
+use Rattle.sound.specs.Rule.{Entries, maxPages, chain}
+use Rattle.audit.specs.EntryLaws.{from-on, from-end}
 use Rattle.audit.specs.PassLaws.{chain-none, chain-some}
 use Rattle.matching.specs.declared.Column.{Column}
 use Rattle.matching.specs.Rule.{entryAt, columnBytes, entryGood, entriesGood, entriesMatch, firstLeaf, entriesAlong, ColumnInside}

@@ -19,9 +19,6 @@ ghost use Rattle.audit.specs.State.{InFile, EntriesWithin};
 ghost use Rattle.matching.specs.Match.{matchRefusal, Matched};
 ghost use Rattle.matching.specs.Rule.{entryAt, entryGood, entriesGood, entriesMatch, firstLeaf, entriesAlong, leafEntries, ColumnInside};
 
-// The most pages that an index has.
-const MAX_PAGES: usize = page::MAX_BYTES / Page::SIZE;
-
 // One field of every record of a table: how many records there are, where the field starts in a record, and its length.
 struct Column {
     records: u32,
@@ -65,7 +62,7 @@ fn leaves_good(table: &[u8], index: &[u8], column: Column, size: usize, first: P
 {
     let mut page = first;
     let mut count = 0;
-    let mut left = MAX_PAGES;
+    let mut left = page::MAX_PAGES;
     while (0 < left) & page::is_page(size, page) {
         let entries = page::entry_count(index, column.length, size, page);
         if !leaf_good(table, index, column, page, entries) {
@@ -87,10 +84,10 @@ fn first_leaf(index: &[u8], k: usize, size: usize) -> PageOffset
     let mut page = page::root(index);
     let mut left = page::MAX_LEVELS - 1;
     while 0 < left {
-        if audit::leaf_at(index, size, page) {
+        if page::leaf_at(index, size, page) {
             return page;
         }
-        page = audit::first_child(index, k, size, page);
+        page = page::first_child(index, k, size, page);
         left -= 1;
     }
     page

@@ -6,13 +6,13 @@ use lib.ListN.{length}
 use lib.Dec.{eqb, leb}
 use Rattle.octets.specs.Bytes.{byteAt, le16, le32}
 -- "pages of 512 bytes" and "0xFFFFFFFF for none", which the theory of the index names too
-pub use Rattle.tree.specs.Index.{pageSize, noPage}
+pub use Rattle.tree.specs.Constants.{pageSize, noPage}
 
 -- the smallest index, "1,024": a header and one page
 abbrev pub minBytes : ℕ
 minBytes = 1024
 
--- the largest index, "1,048,576", and the most levels, "at most 11": the two limits that a larger index changes
+-- the largest index, "1,048,576", and the most levels, "at most 11"
 abbrev pub maxBytes : ℕ
 maxBytes = 1048576
 
@@ -27,7 +27,7 @@ maxKey = 100
 abbrev pub maxOffset : ℕ
 maxOffset = 0xFFFFFFFF
 
--- "0-3 root offset, 4-7 free pointer, 8-11 file size F, 12-13 key length k, 14 features, 16-235 expression": where each stands
+-- "0-3 root offset, 4-7 free pointer, 8-11 file size F, 12-13 key length k, 14 features, 16-235 expression": where each number stands
 abbrev pub rootPlace : ℕ
 rootPlace = 0
 
@@ -46,7 +46,7 @@ featuresPlace = 14
 abbrev pub expressionPlace : ℕ
 expressionPlace = 16
 
--- and the numbers there
+-- the numbers of the header
 abbrev pub rootOffset : List ℕ → ℕ
 rootOffset b = le32 b rootPlace
 
@@ -66,7 +66,7 @@ features b = byteAt b featuresPlace
 abbrev pub goodFeatures : ℕ
 goodFeatures = 1
 
--- p is the offset of "a page of F other than the first", for a file of size bytes
+-- p is the offset of "a page of F other than the first", in a file of `size` bytes
 unfoldable pub isPage : ℕ → ℕ → Bool
 isPage size p = eqb (p % pageSize) 0 && (leb pageSize p && leb (p + pageSize) size)
 

@@ -26,6 +26,11 @@ pub is-page-from : (size p : ℕ) → IsPage size p → isPage size p ≡ true
 unfolding isPage
 is-page-from size p h = join _ _ (eq-eqb _ _ (h .whole)) (join _ _ (le-leb _ _ (h .low)) (le-leb _ _ (h .high)))
 
+-- a good key length
+pub good-key-length : (k : ℕ) → keyLengthGood k ≡ true → (1 ≤ k) × (k ≤ maxKey)
+unfolding keyLengthGood
+good-key-length k e = let t = both _ _ e in (leb-true _ _ (t .0), leb-true _ _ (t .1))
+
 -- a good header
 pub record GoodHeader (b : List ℕ) : Type 0 where
   pub long : pageSize ≤ length b
@@ -40,7 +45,7 @@ pub record GoodHeader (b : List ℕ) : Type 0 where
   pub plain : features b ≡ goodFeatures
 
 pub good-header : (b : List ℕ) → headerGood b ≡ true → GoodHeader b
-unfolding headerGood sizeGood keyLengthGood
+unfolding headerGood sizeGood
 good-header b e =
     let t1 = both _ _ e in
     let t2 = both _ _ (t1 .1) in
@@ -50,7 +55,7 @@ good-header b e =
     let s1 = both _ _ (t2 .0) in
     let s2 = both _ _ (s1 .1) in
     let s3 = both _ _ (s2 .1) in
-    let k = both _ _ (t4 .0) in
+    let k = good-key-length (keyLength b) (t4 .0) in
     record {
       long = leb-true _ _ (t1 .0);
       whole = eqb-true _ _ (s1 .0);
@@ -58,8 +63,8 @@ good-header b e =
       most = leb-true _ _ (s3 .0);
       within = leb-true _ _ (s3 .1);
       root = t3 .0;
-      key-low = leb-true _ _ (k .0);
-      key-high = leb-true _ _ (k .1);
+      key-low = k .0;
+      key-high = k .1;
       free = eqb-true _ _ (t5 .0);
       plain = eqb-true _ _ (t5 .1);
     }

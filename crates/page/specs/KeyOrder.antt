@@ -1,39 +1,10 @@
--- Rules: keys are ordered "as unsigned bytes": the order that the rules of trees take. Laws below it: what a comparison says of that order.
--- Assumes nothing.
+-- Rules: keys are ordered "as unsigned bytes". Cited by `Sound`, by insertion and by the claim about lists of calls.
 use Prim.Native.Nat.{ℕ}
-use mathlib.Core.Path.{_≡_, sym, ap, _∙_}
-use mathlib.Core.Bool.{true, false, not}
 use mathlib.Core.List.{List}
-use borrow.Author.Tests.{not-true, not-false}
-use Rattle.basis.specs.Tests.{either, contra}
-use Rattle.octets.specs.declared.Ordering.{Ordering}
-use Rattle.octets.specs.Order.{bytesLe, ordering, isBelow, isEqual}
-use Rattle.octets.specs.OrderLaws.{le-trans, le-total, le-antisym, le-refl}
+use Rattle.octets.specs.Order.{bytesLe}
+use Rattle.octets.specs.OrderLaws.{le-trans, le-total, le-antisym}
 use Rattle.tree.specs.Order.{Order}
 
+-- the order that the rules of trees take
 abbrev pub bytesOrder : Order (List ℕ)
 bytesOrder = record { le = bytesLe; trans = le-trans; total = le-total; antisym = le-antisym }
-
--- a is below b exactly when b is not at or below a
-pub below-not-le : (a b : List ℕ) → isBelow (ordering a b) ≡ not (bytesLe b a)
-unfolding ordering
-below-not-le a b = either (bytesLe a b)
-    (λ p. either (bytesLe b a) (λ q. rw (p, q)) (λ q. rw (p, q)))
-    (λ p. rw (p, le-total a b p))
-
-pub below : {o : Ordering} (a b : List ℕ) → o ≡ ordering a b → isBelow o ≡ true → bytesLe b a ≡ false
-below a b o e = not-true _ (sym (ap isBelow o ∙ below-not-le a b) ∙ e)
-
-pub at-or-above : {o : Ordering} (a b : List ℕ) → o ≡ ordering a b → isBelow o ≡ false → bytesLe b a ≡ true
-at-or-above a b o e = not-false _ (sym (ap isBelow o ∙ below-not-le a b) ∙ e)
-
--- equal strings are those that are at or below each other
-pub equal-same : (a b : List ℕ) → isEqual (ordering a b) ≡ true → a ≡ b
-unfolding ordering
-equal-same a b e = either (bytesLe a b)
-    (λ p. either (bytesLe b a) (λ q. le-antisym a b p q) (λ q. contra e (rw (p, q))))
-    (λ p. contra e (rw p))
-
-pub equal-refl : (a : List ℕ) → isEqual (ordering a a) ≡ true
-unfolding ordering
-equal-refl a = rw (le-refl a)

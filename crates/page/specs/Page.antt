@@ -1,4 +1,4 @@
--- Rules: a page of an index, its entries by number, and the checks and the search of a page that lookup visits.
+-- Rules: a page of an index, its entries by number, and the checks and the search of a page that lookup visits. Cited by lookup, insertion and `Sound`.
 use Prim.Native.Nat.{ℕ, zero, suc, _+_, _*_, _/_, _%_}
 use mathlib.Core.Bool.{Bool, true, false, _&&_, _||_, not, Bool·beq}
 use mathlib.Core.List.{List}
@@ -8,7 +8,7 @@ use Rattle.octets.specs.Store.{window}
 use Rattle.octets.specs.Order.{bytesLe}
 use Rattle.page.specs.Header.{isPage}
 
--- "0-1 attribute (1 root, 2 leaf, summed), 2-3 count, 4-7 left, 8-11 right, then entries": where each stands behind the attribute, with which a page begins
+-- "0-1 attribute (1 root, 2 leaf, summed), 2-3 count, 4-7 left, 8-11 right, then entries": where each stands after the page's offset; the attribute is first
 abbrev pub countPlace : ℕ
 countPlace = 2
 
@@ -24,7 +24,7 @@ entriesStart = 12
 abbrev pub entryArea : ℕ
 entryArea = 500
 
--- and the numbers there
+-- the numbers at the head of the page at p
 abbrev pub attributeAt : List ℕ → ℕ → ℕ
 attributeAt b p = le16 b p
 
@@ -66,13 +66,13 @@ attributeGood a first last = leb a 3 && (Bool·beq (rootBit a) first && (leafBit
 unfoldable pub countGood : ℕ → ℕ → ℕ → Bool
 countGood k a n = leb n (capacity k) && (leb 1 n || eqb a 3)
 
--- "It checks the pages it visits only: offset, attribute in 0-3, root bit on the first alone, count as above, a leaf if it is the 11th": the page at p,
--- in a file of size bytes with keys of k bytes
+-- "It checks the pages it visits only: offset, attribute in 0-3, root bit on the first alone, count as above, a leaf if it is the 11th": the page at p, in a
+-- file of `size` bytes with keys of k bytes
 unfoldable pub pageGood : List ℕ → ℕ → ℕ → ℕ → Bool → Bool → Bool
 pageGood b k size p first last =
     isPage size p && (attributeGood (attributeAt b p) first last && countGood k (attributeAt b p) (countAt b p))
 
--- "the first entry at or above the key": of n entries from entry i on; i + n where there is none
+-- "the first entry at or above the key": of n entries from entry i on; i + n if there is none
 unfoldable pub firstAtOrAbove : (ℕ → List ℕ) → List ℕ → ℕ → ℕ → ℕ
 firstAtOrAbove keys key zero i = i
 firstAtOrAbove keys key (suc n) i = elim (bytesLe key (keys i)) [ true ↦ i | false ↦ firstAtOrAbove keys key n (i + 1) ]

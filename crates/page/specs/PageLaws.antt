@@ -13,20 +13,21 @@ use borrow.Author.Tests.{leb-true}
 use Rattle.basis.specs.Tests.{either, both}
 use Rattle.octets.specs.Order.{bytesLe}
 use Rattle.page.specs.Header.{maxKey, pageSize, isPage}
-use Rattle.page.specs.Page.{attributeAt, countAt, entriesStart, entryArea, capacity, entryOffset, rootBit, leafBit, attributeGood, countGood, pageGood, firstAtOrAbove}
+use Rattle.page.specs.Page.{attributeAt, countAt, entriesStart, entryArea, capacity, entryOffset, rootBit, leafBit}
+use Rattle.page.specs.Page.{attributeGood, countGood, pageGood, firstAtOrAbove}
 use Rattle.page.specs.Within.{Within}
 use Rattle.page.specs.HeaderLaws.{is-page}
 
 -- a page that lookup may visit
-pub record GoodPage (b : List ℕ) (k size p : ℕ) (first last : Bool) : Type 0 where
-  pub page : isPage size p ≡ true
-  pub attribute : attributeAt b p ≤ 3
-  pub root : Bool·beq (rootBit (attributeAt b p)) first ≡ true
-  pub leaf : (leafBit (attributeAt b p) || not last) ≡ true
-  pub full : countAt b p ≤ capacity k
-  pub some : (leb 1 (countAt b p) || eqb (attributeAt b p) 3) ≡ true
+record GoodPage (b : List ℕ) (k size p : ℕ) (first last : Bool) : Type 0 where
+  page : isPage size p ≡ true
+  attribute : attributeAt b p ≤ 3
+  root : Bool·beq (rootBit (attributeAt b p)) first ≡ true
+  leaf : (leafBit (attributeAt b p) || not last) ≡ true
+  full : countAt b p ≤ capacity k
+  some : (leb 1 (countAt b p) || eqb (attributeAt b p) 3) ≡ true
 
-pub good-page : (b : List ℕ) (k size p : ℕ) (first last : Bool) → pageGood b k size p first last ≡ true → GoodPage b k size p first last
+good-page : (b : List ℕ) (k size p : ℕ) (first last : Bool) → pageGood b k size p first last ≡ true → GoodPage b k size p first last
 unfolding pageGood attributeGood countGood
 good-page b k size p first last e =
     let t = both _ _ e in
@@ -36,12 +37,12 @@ good-page b k size p first last e =
     let n = both _ _ (u .1) in
     record { page = t .0; attribute = leb-true _ _ (a .0); root = r .0; leaf = r .1; full = leb-true _ _ (n .0); some = n .1 }
 
--- entries up to the capacity fit: the one fact about products
+-- entries up to the capacity fit into the page: the one fact about products
 pub entries-fit : (k n : ℕ) → n ≤ capacity k → n * (k + 4) ≤ entryArea
 unfolding capacity
 entries-fit k n h = le-trans (mul-le-mul-right (k + 4) h) (div-mul-le-self entryArea (k + 4))
 
--- so they lie within the page
+-- entries up to the capacity end within the page
 pub entries-inside : (k p n : ℕ) → n ≤ capacity k → entryOffset k p n ≤ p + pageSize
 unfolding entryOffset
 entries-inside k p n h = omega (arith, entries-fit k n h)
@@ -60,7 +61,7 @@ entry-next k p i = rw add-one (omega (arith, suc-mul i (k + 4)))
 pub entry-inside : (k p i : ℕ) → i < capacity k → entryOffset k p i + (k + 4) ≤ p + pageSize
 entry-inside k p i h = omega (arith, entry-next k p i, entries-inside k p (i + 1) (omega arith))
 
--- and starts past the page's head
+-- an entry starts past the page's head
 pub entry-low : (k p i : ℕ) → p + entriesStart ≤ entryOffset k p i
 unfolding entryOffset
 entry-low k p i = omega arith
@@ -69,8 +70,9 @@ pub capacity-small : (k : ℕ) → capacity k ≤ entryArea
 unfolding capacity
 capacity-small k = div-le-self entryArea (k + 4)
 
--- what a call on entries asks, from a page that is good, and for one of its entries
-pub within-page : (b : List ℕ) (k size p : ℕ) (first last : Bool) → k ≤ maxKey → size ≤ length b → pageGood b k size p first last ≡ true → Within b k p (countAt b p)
+-- the entries of a good page, and each one of them, lie within the page
+pub within-page : (b : List ℕ) (k size p : ℕ) (first last : Bool) → k ≤ maxKey → size ≤ length b
+    → pageGood b k size p first last ≡ true → Within b k p (countAt b p)
 within-page b k size p first last h l e =
     let g = good-page b k size p first last e in
     let o = is-page size p (g .page) in
@@ -79,7 +81,7 @@ within-page b k size p first last h l e =
 pub within-entry : {b : List ℕ} {k p n : ℕ} (i : ℕ) → Within b k p n → i < n → Within b k p (i + 1)
 within-entry i w h = record { key = w .key; count = omega arith; page = w .page }
 
--- where one entry of those lies
+-- where entry i lies
 pub record EntryWithin (b : List ℕ) (k p i : ℕ) : Type 0 where
   pub key : k ≤ maxKey
   pub few : i < capacity k
@@ -110,7 +112,7 @@ module _ (keys : ℕ → List ℕ) (key : List ℕ) where
       (λ e. omega (arith, first-here n i e))
       (λ e. omega (arith, first-later n i e, first-bound n (i + 1)))
 
--- the same for a loop over n entries that has come to entry i
+-- the search by a loop over n entries that has come to entry i
 module _ (keys : ℕ → List ℕ) (key : List ℕ) (n i : ℕ) where
   pub loop-end : n ≤ i → firstAtOrAbove keys key (n - i) i ≡ i
   loop-end h = let z : n - i ≡ 0 = omega arith in rw z (first-end keys key i)

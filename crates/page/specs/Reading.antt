@@ -1,7 +1,7 @@
--- Rules: the one reading of bytes as pages and as a tree, total on any bytes. Cited by what sound means, by insertion and by the claim about lists of calls.
--- A page's number in the tree is its offset. The file's size is a parameter, so that a page's reading depends on its own bytes and that number alone.
+-- Rules: the one reading of bytes as pages and as a tree, total on any bytes. Cited by `Sound`, by insertion and by the claim about lists of calls.
+-- A page's number in the tree is its offset. The file's size is a parameter, so that a page's reading depends on its own bytes and the size alone.
 use Prim.Native.Nat.{ℕ, zero, suc, _+_, min}
-use mathlib.Core.Bool.{Bool, cond}
+use mathlib.Core.Bool.{cond}
 use mathlib.Core.List.{List, [], _∷_, map}
 use lib.ListN.{take, drop}
 use Rattle.octets.specs.Bytes.{be32}
@@ -20,11 +20,11 @@ unfoldable pub items : ℕ → ℕ → List ℕ → List Item
 items k zero xs = []
 items k (suc n) xs = (take k xs, take 4 (drop k xs)) ∷ items k n (drop (k + 4) xs)
 
--- the entries of the page at p, in a file of size bytes: none where p is no page, and never more than the capacity
+-- the entries of the page at p, in a file of `size` bytes: none if p is no page's offset, and never more than the capacity
 unfoldable pub itemsAt : ℕ → ℕ → List ℕ → ℕ → List Item
 itemsAt k size b p = cond (isPage size p) (items k (min (countAt b p) (capacity k)) (window b (p + entriesStart) entryArea)) []
 
--- the same, each with its number: "most significant first"
+-- an entry with its number: "most significant first"
 abbrev pub numbered : Item → List ℕ × ℕ
 numbered e = (e .0, be32 (e .1) 0)
 

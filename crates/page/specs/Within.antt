@@ -1,4 +1,4 @@
--- Rules: what the calls on a page's entries ask of the buffer.
+-- Steps: what the functions on a page's entries ask of the buffer. Only inner contracts cite it: a reader need not believe it.
 use Prim.Native.Nat.{ℕ, _+_, _≤_}
 use mathlib.Core.List.{List}
 use lib.ListN.{length}

@@ -12,6 +12,7 @@ ghost use Rattle.page.specs.Page.{attributeAt, countAt, leftAt, rightAt,
 ghost use Rattle.page.specs.Page.{attributeGood, countGood, pageGood, firstAtOrAbove};
 ghost use Rattle.page.specs.Reading.{entriesAt};
 ghost use Rattle.page.specs.Within.{Within};
+ghost use Rattle.page.specs.Children.{isLeaf, firstChild};
 
 // Where the header's numbers and its key expression stand.
 pub const ROOT_PLACE: usize = 0;
@@ -32,8 +33,10 @@ pub const GOOD_FEATURES: u32 = 1;
 // The smallest index, in bytes: a header and one page.
 pub const MIN_BYTES: usize = 1024;
 
-// The largest index, in bytes.
+// The largest index, in bytes and in pages.
 pub const MAX_BYTES: usize = 1048576;
+
+pub const MAX_PAGES: usize = MAX_BYTES / Page::SIZE;
 
 // The most levels from the root to a leaf, both counted.
 pub const MAX_LEVELS: u32 = 11;
@@ -61,7 +64,7 @@ pub struct Page {
 impl Page {
     pub const SIZE: usize = 512;
 
-    // Where the numbers of a page's head stand; its attribute is the first.
+    // Where the numbers of a page's head and its entries stand; the attribute is first.
     pub const COUNT_PLACE: usize = 2;
 
     pub const LEFT_PLACE: usize = 4;
@@ -130,7 +133,7 @@ pub fn key_length(index: &[u8]) -> usize
     octets::load_le16(index, KEY_LENGTH_PLACE) as usize
 }
 
-// Whether an offset is that of a page other than the first, in a file of `size` bytes.
+// Whether a page other than the first begins at an offset, in a file of `size` bytes.
 pub fn is_page(size: usize, page: PageOffset) -> bool
     ensures { λ r. ⌜ r ≡ isPage size (page .0) ⌝ }
 {
@@ -146,7 +149,7 @@ pub fn next_page(page: PageOffset) -> PageOffset
     PageOffset(page.0 + Page::SIZE as u32)
 }
 
-// Whether a file's size is good, in a buffer of `buffer` bytes.
+// Whether a file's size is good in a buffer of `buffer` bytes.
 fn size_good(buffer: usize, size: usize) -> bool
     ensures { λ r. ⌜ r ≡ sizeGood buffer size ⌝ }
 {
@@ -182,14 +185,14 @@ pub fn is_leaf(attribute: u32) -> bool
     2 <= attribute
 }
 
-// Whether an attribute is good, on the first page that is visited, on the last that may be, or on another.
+// Whether an attribute is good on the page that is visited first, on the last that may be visited, or on another.
 pub fn attribute_good(attribute: u32, first: bool, last: bool) -> bool
     ensures { λ r. ⌜ r ≡ attributeGood attribute first last ⌝ }
 {
     (attribute <= 3) & (((attribute % 2 == 1) == first) & (is_leaf(attribute) | !last))
 }
 
-// Whether a count is good, with keys of k bytes on a page of that attribute.
+// Whether a count is good on a page of an attribute, with keys of k bytes.
 pub fn count_good(k: usize, attribute: u32, count: u32) -> bool
     requires { ⌜ k ≤ maxKey ⌝ }
     ensures { λ r. ⌜ r ≡ countGood k attribute count ⌝ }
@@ -216,7 +219,7 @@ pub fn page_good(
     attribute_good(head.attribute, first, last) & count_good(k, head.attribute, head.count)
 }
 
-// How many entries a page is read to have: none where it is no page of the file, and never more than the capacity.
+// How many entries are read of a page: none if the offset is no page's, and never more than the capacity.
 pub fn entry_count(index: &[u8], k: usize, size: usize, page: PageOffset) -> usize
     requires { ⌜ (k ≤ maxKey) × (size ≤ length (now index)) ⌝ }
     ensures { λ r. ⌜ r ≡ length (entriesAt k size (now (index .entry)) (page .0)) ⌝ }
@@ -233,7 +236,7 @@ pub fn entry_count(index: &[u8], k: usize, size: usize, page: PageOffset) -> usi
     most
 }
 
-// Where entry i begins, or where the entries end if there are i.
+// Where entry i begins, which is where i entries end.
 pub fn entry_offset(k: usize, page: PageOffset, i: usize) -> usize
     requires { ⌜ (k ≤ maxKey) × (i ≤ capacity k) ⌝ }
     ensures { λ r. ⌜ r ≡ entryOffset k (page .0) i ⌝ }
@@ -257,12 +260,35 @@ pub fn child(index: &[u8], k: usize, page: PageOffset, i: usize) -> PageOffset
     PageOffset(entry_number(index, k, page, i))
 }
 
-// Entry i's number, taken as that of a record.
+// Entry i's number, taken as the number of a record.
 pub fn record_number(index: &[u8], k: usize, page: PageOffset, i: usize) -> RecordNumber
     requires { ⌜ Within (now index) k (page .0) (i + 1) ⌝ }
     ensures { λ r. ⌜ r .0 ≡ numberAt (now (index .entry)) k (page .0) i ⌝ }
 {
     RecordNumber(entry_number(index, k, page, i))
+}
+
+// Whether a leaf begins at an offset, in a file of `size` bytes.
+pub fn leaf_at(index: &[u8], size: usize, page: PageOffset) -> bool
+    requires { ⌜ size ≤ length (now index) ⌝ }
+    ensures { λ r. ⌜ r ≡ isLeaf (now (index .entry)) size (page .0) ⌝ }
+{
+    if !is_page(size, page) {
+        return false;
+    }
+    let head = Page::at(index, page);
+    is_leaf(head.attribute)
+}
+
+// The first child of a page, or the link to no page.
+pub fn first_child(index: &[u8], k: usize, size: usize, page: PageOffset) -> PageOffset
+    requires { ⌜ (k ≤ maxKey) × (size ≤ length (now index)) ⌝ }
+    ensures { λ r. ⌜ r .0 ≡ firstChild (now (index .entry)) k size (page .0) ⌝ }
+{
+    if entry_count(index, k, size, page) == 0 {
+        return PageOffset(NO_PAGE);
+    }
+    child(index, k, page, 0)
 }
 
 // Stores the offset of a page as an entry's number.

@@ -1,4 +1,4 @@
--- Laws: the audit's rule accepts exactly the sound indexes, and its three answers are those of `Audited`. Cited by the proof of the audit. Assumes nothing.
+-- Laws: the audit's test accepts exactly the sound indexes, and the three answers meet `Audited`. Cited by the proof of the audit. Assumes nothing.
 use Prim.Native.Nat.{ℕ, zero, suc, _-_, _/_, _%_, _≤_}
 use mathlib.Core.Path.{_≡_, refl, ap, _∙_}
 use mathlib.Core.List.{List, [], _∷_}
@@ -89,7 +89,7 @@ module _ (b : List ℕ) (k size root : ℕ) (whole : size % pageSize ≡ 0) (mos
       let marks : last .1 ≡ markAll unmarked (allPages (s .height)) = u .marks ∙ ap (λ (m : List ℕ). markAll m rest) (r .marks) in
       join _ _ (u .good) (join _ _ (u .leaf) (rw marks (once-marked size (allPages h) whole most inside (s .once))))
 
--- Theorem: the audit's rule accepts exactly the sound indexes
+-- Theorem: the audit's test accepts exactly the sound indexes
 pub accepted : (b : List ℕ) → headerGood b ≡ true → (pagesGood b unmarked ≡ true) ↔ Sound b
 unfolding pagesGood
 accepted b e =

@@ -1,4 +1,4 @@
--- Laws: the audit's rule leaves no choice: every buffer has an answer that meets `Audited`, and only one. Cited by no proof of the code: they are for readers
+-- Laws: the audit's rule leaves no choice: every buffer has an answer that meets `Audited`, and only one. No proof of the code cites them: they are for readers
 -- of the rule. Assumes nothing.
 use Prim.Native.Nat.{ℕ}
 use mathlib.Core.Path.{_≡_, sym, _∙_}
@@ -10,7 +10,7 @@ use Rattle.sound.specs.Sound.{Audited}
 use Rattle.sound.specs.Rule.{pagesGood, unmarked}
 use Rattle.sound.specs.Accepted.{answer-bad, answer-sound, answer-unsound}
 
--- an answer of the audit is 24, 0 or 25, and another one is 24 or 0 exactly when this one is
+-- an answer r of the audit is 24, 0 or 25, and another answer s is 24 or 0 exactly if r is
 module _ (b : List ℕ) (r s : ℕ) (a : Audited b r) (c : Audited b s) where
   same-bad : r ≡ 24 → s ≡ 24
   same-bad e = c .bad .1 (a .bad .0 e)

@@ -11,7 +11,7 @@ use Rattle.tree.specs.Clauses.{least}
 use Rattle.page.specs.Page.{rootBit, leafBit, capacity, countGood}
 use Rattle.sound.specs.Rule.{attributeOf}
 
--- the two bits of an attribute, and that they make it
+-- the two bits of an attribute, and the attribute that they make
 pub root-bit : (root leaf : Bool) → rootBit (attributeOf root leaf) ≡ root
 root-bit true true = refl
 root-bit true false = refl
@@ -36,11 +36,11 @@ attribute-is true false a h r l = omega (arith, eqb-true (a % 2) 1 r, leb-false 
 attribute-is false true a h r l = omega (arith, eqb-false (a % 2) 1 r, leb-true 2 a l)
 attribute-is false false a h r l = omega (arith, eqb-false (a % 2) 1 r, leb-false 2 a l)
 
--- the attribute of the pages i levels under the root, of h levels under it
+-- the attribute of the pages i levels under the root, which has h levels under it
 abbrev pub attributeAtLevel : ℕ → ℕ → ℕ
 attributeAtLevel h i = attributeOf (eqb i 0) (eqb i h)
 
--- where there are levels under the root, no page is root and leaf
+-- if there are levels under the root, no page is root and leaf
 not-both : (h i : ℕ) → 0 < h → eqb (attributeAtLevel h i) 3 ≡ false
 not-both h i l = either (eqb i 0)
     (λ e. let d : eqb i h ≡ false = ne-eqb i h (omega (arith, eqb-true i 0 e)) in rw (e, d))
@@ -54,7 +54,7 @@ or-left : (x y : Bool) → x || y ≡ true → y ≡ false → x ≡ true
 or-left true y h e = refl
 or-left false y h e = contra h e
 
--- a count that is good by the attribute is one by the number of levels
+-- a count that is good by the attribute is good by the number of levels
 pub count-good : (k h i n : ℕ) → i ≤ h → least h ≤ n → n ≤ capacity k → countGood k (attributeAtLevel h i) n ≡ true
 unfolding countGood
 count-good k zero i n l u c = let z : i ≡ 0 = omega arith in join _ _ (le-leb n (capacity k) c) (or-right (leb 1 n) _ (rw z))

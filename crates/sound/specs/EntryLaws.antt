@@ -16,13 +16,14 @@ use Rattle.tree.specs.OrderLaws.{lt-le}
 use Rattle.tree.specs.Pairs.{lastKey, Above, Ascending}
 use Rattle.tree.specs.PairLaws.{above-down}
 use Rattle.page.specs.Page.{leafBit}
-use Rattle.page.specs.KeyOrder.{bytesOrder, below-not-le, equal-same, equal-refl}
+use Rattle.page.specs.KeyOrder.{bytesOrder}
+use Rattle.page.specs.KeyOrderLaws.{below-not-le, equal-same, equal-refl}
 use Rattle.page.specs.Reading.{entriesAt}
 use Rattle.sound.specs.Rule.{Entries, lastOf, isAbove, isSame, leafEntriesGood, upperEntriesGood, entriesFit}
 use Rattle.sound.specs.Levels.{Top}
 use Rattle.sound.specs.RunLaws.{Checked}
 
--- a key is above another, where there is one
+-- a key is above another, if there is one
 abbrev After : Option (List ℕ) → List ℕ → Type 0
 After none x = Unit {0}
 After (some a) x = Lt bytesOrder a x
@@ -137,7 +138,9 @@ module _ (b : List ℕ) (k size a : ℕ) where
     unfolding entriesFit
     exactly-checked last [] c = tt
     exactly-checked last (p ∷ ps) c =
-        (rw upper (exactly-upper S (S p) (all-left (Exactly S) (S p) (concatMap S ps) c)), exactly-checked p ps (all-right (Exactly S) (S p) (concatMap S ps) c))
+        let here = all-left (Exactly S) (S p) (concatMap S ps) c in
+        let rest = all-right (Exactly S) (S p) (concatMap S ps) c in
+        (rw upper (exactly-upper S (S p) here), exactly-checked p ps rest)
 
   module _ (leaf : leafBit a ≡ true) where
     leaf-page : (last p : ℕ) → entriesFit b k size a last p ≡ true → Climbs (lastOf none (S last)) (S p)
@@ -148,7 +151,7 @@ module _ (b : List ℕ) (k size a : ℕ) where
     unfolding entriesFit
     page-leaf last p c = rw leaf (climbs-leaf (lastOf none (S last)) (S p) c)
 
-    -- where every page has an entry
+    -- pages that all have an entry
     next-last : (o : Option (List ℕ)) (p : ℕ) → NonEmpty (S p) → lastOf o (S p) ≡ lastOf none (S p)
     next-last o p s = last-some o [] (S p) s ∙ sym (last-some none [] (S p) s)
 

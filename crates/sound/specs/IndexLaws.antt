@@ -1,35 +1,36 @@
--- Laws: a sound index, read as a tree, is what the theory of calls keeps; and such a tree, with its pages' attributes, links and counts, makes an index sound.
--- Cited by insertion, by match and by the claim about lists of calls. Assumes nothing.
-use Prim.Native.Nat.{ℕ, zero, suc, _+_, _%_, _≤_, _<_}
-use mathlib.Core.Path.{_≡_, refl, sym, ap, _∙_, subst}
+-- Laws: a sound index, read as a tree, is what the theory of calls keeps; and an index is sound if its tree is what the theory keeps and its pages have good
+-- attributes, links and counts. Cited by the laws of lookup, insertion and match. Assumes nothing.
+use Prim.Native.Nat.{ℕ, _%_, _≤_, _<_}
+use mathlib.Core.Path.{_≡_, refl, ap, _∙_}
 use mathlib.Core.List.{List, [], _∷_}
-use mathlib.Core.Bool.{Bool, true, false}
+use mathlib.Core.Bool.{true}
 use native.Mathlib.Nat.{min-eq-left}
 use native.Mathlib.Omega.{arith}
-use lib.ListN.{length, length-map}
+use lib.ListN.{length}
 use lib.Dec.{eqb, ltb}
 use borrow.Author.Tests.{eqb-true, eqb-false, ltb-true, ltb-false}
 use Rattle.basis.specs.Lists.{All}
-use Rattle.basis.specs.Tests.{either, contra}
+use Rattle.basis.specs.Tests.{either}
 use Rattle.tree.specs.Lists.{occ}
 use Rattle.tree.specs.ListLaws.{all-map2, occ-here}
-use Rattle.tree.specs.Tree.{Tree, pages, level}
-use Rattle.tree.specs.Clauses.{least, SizedUnder, Sized, AllLinked}
-use Rattle.tree.specs.ClauseLaws.{greatest-ordered, ordered-greatest}
+use Rattle.tree.specs.Tree.{pages, level}
+use Rattle.tree.specs.Clauses.{least, Sized}
+use Rattle.tree.specs.Ordered.{ordered-ascending}
+use Rattle.tree.specs.ClauseLaws.{greatest-ordered, exact-greatest}
 use Rattle.tree.specs.Index.{Index, Setting}
 use Rattle.tree.specs.SoundIndex.{PagesOnce, SoundIndex, LinkedIndex}
-use Rattle.page.specs.Header.{maxLevels, pageSize, noPage, rootOffset, fileSize, keyLength, isPage, headerGood}
+use Rattle.page.specs.Header.{maxLevels, pageSize, rootOffset, fileSize, keyLength, isPage, headerGood}
 use Rattle.page.specs.Page.{attributeAt, countAt, rootBit, leafBit, capacity}
 use Rattle.page.specs.KeyOrder.{bytesOrder}
 use Rattle.page.specs.HeaderLaws.{IsPage, is-page, is-page-from, good-header}
 use Rattle.page.specs.Reading.{entriesAt}
 use Rattle.page.specs.ReadingLaws.{length-entries}
-use Rattle.sound.specs.Sound.{indexTree, linksOf, CountGood, Sound}
+use Rattle.sound.specs.Sound.{indexTree, indexPages, linksOf, CountGood, Sound}
 use Rattle.sound.specs.Levels.{pages-generation, sized-pages}
 use Rattle.sound.specs.MarkLaws.{occ-all}
 use Rattle.sound.specs.ShapeLaws.{tree-sized}
 
--- the index as the theory has it, and how it is kept: `most` is what F must not pass
+-- the index as the theory has it, and its setting: F may be `most` at most
 abbrev pub indexOf : List ℕ → ℕ → Index (List ℕ)
 indexOf b h = record { height = h; tree = indexTree b h; size = fileSize b }
 
@@ -45,10 +46,12 @@ module _ (b : List ℕ) where
       (pages-generation (entriesAt (keyLength b) (fileSize b) b) [] (rootOffset b) h (λ p. isPage (fileSize b) p ≡ true) (s .inside))
       (pages-generation (entriesAt (keyLength b) (fileSize b) b) [] (rootOffset b) h (CountGood b (keyLength b) h) (s .counts))
 
-  not-inside : (s : Sound b) (z : ℕ) → (IsPage (fileSize b) z → ⊥) → occ z (pages (s .height) (indexTree b (s .height))) ≡ 0
-  not-inside s z n = either (ltb 0 (occ z (pages (s .height) (indexTree b (s .height)))))
-      (λ e. absurd (n (is-page (fileSize b) z (occ-all (λ p. isPage (fileSize b) p ≡ true) z (pages (s .height) (indexTree b (s .height))) (s .inside) (ltb-true _ _ e)))))
-      (λ e. omega (arith, ltb-false 0 (occ z (pages (s .height) (indexTree b (s .height)))) e))
+  not-inside : (s : Sound b) (z : ℕ) → (IsPage (fileSize b) z → ⊥) → occ z (indexPages b (s .height)) ≡ 0
+  not-inside s z n = either (ltb 0 (occ z (indexPages b (s .height))))
+      (λ e.
+      let page = occ-all (λ p. isPage (fileSize b) p ≡ true) z (indexPages b (s .height)) (s .inside) (ltb-true _ _ e) in
+      absurd (n (is-page (fileSize b) z page)))
+      (λ e. omega (arith, ltb-false 0 (occ z (indexPages b (s .height))) e))
 
   sound-once : (s : Sound b) → PagesOnce (indexOf b (s .height))
   sound-once s =
@@ -93,28 +96,47 @@ pub once-page : {K : Type 0} (i : Index K) → PagesOnce i → (p : ℕ) → 0 <
 once-page i o p l =
     let ps = pages (i .height) (i .tree) in
     let aligned = o .aligned in
-    let whole : p % pageSize ≡ 0 = either (eqb (p % pageSize) 0) (λ e. eqb-true _ _ e) (λ e. absurd (omega (arith, o .unaligned p (eqb-false (p % pageSize) 0 e)))) in
-    let below : p < i .size = either (ltb p (i .size)) (λ e. ltb-true _ _ e) (λ e. absurd (omega (arith, o .beyond p (ltb-false p (i .size) e)))) in
-    let some : 0 < p = either (eqb p 0) (λ e. let z : occ p (pages (i .height) (i .tree)) ≡ 0 = ap (λ (q : ℕ). occ q ps) (eqb-true p 0 e) ∙ o .header in absurd (omega arith)) (λ e. omega (arith, eqb-false p 0 e)) in
+    let whole : p % pageSize ≡ 0 =
+    either (eqb (p % pageSize) 0) (λ e. eqb-true _ _ e) (λ e. absurd (omega (arith, o .unaligned p (eqb-false (p % pageSize) 0 e)))) in
+    let below : p < i .size =
+    either (ltb p (i .size)) (λ e. ltb-true _ _ e) (λ e. absurd (omega (arith, o .beyond p (ltb-false p (i .size) e)))) in
+    let none : p ≡ 0 → occ p ps ≡ 0 = λ e. ap (λ (q : ℕ). occ q ps) e ∙ o .header in
+    let some : 0 < p =
+    either (eqb p 0) (λ e. absurd (omega (arith, none (eqb-true p 0 e)))) (λ e. omega (arith, eqb-false p 0 e)) in
     is-page-from (i .size) p (record { whole = whole; low = omega arith; high = omega arith })
 
 module _ (b : List ℕ) (h : ℕ) where
-  -- Theorem: an index is sound whose header is good, that is sound in the theory, and whose pages have the attributes, links and counts that are asked of them
-  pub index-sound : (most : ℕ) → headerGood b ≡ true → SoundIndex (settingOf (keyLength b) most) (indexOf b h) → LinkedIndex (linksOf b) (indexOf b h)
-      → All (λ p. attributeAt b p ≤ 3) (pages h (indexTree b h)) → All (λ p. rootBit (attributeAt b p) ≡ eqb p (rootOffset b)) (pages h (indexTree b h))
-      → ((j : ℕ) → j ≤ h → All (λ p. leafBit (attributeAt b p) ≡ eqb j 0) (level j h (indexTree b h)))
-      → All (λ p. countAt b p ≤ capacity (keyLength b)) (pages h (indexTree b h)) → (s : Sound b) × (s .height ≡ h)
-  index-sound most e i l attributes rootBits leafBits counts =
-      let ps = pages h (indexTree b h) in
-      let S = entriesAt (keyLength b) (fileSize b) b in
-      let o = i .pagesOnce in
-      let inside : All (λ p. isPage (fileSize b) p ≡ true) (pages h (indexTree b h)) = all-occ (λ p. isPage (fileSize b) p ≡ true) ps (once-page (indexOf b h) o) in
-      let d = ordered-greatest bytesOrder h (indexTree b h) (i .ordered) (i .exact) in
-      let few = i .withinLevels in
-      let full = all-map2 (λ p. isPage (fileSize b) p ≡ true) (λ p. countAt b p ≤ capacity (keyLength b)) (λ p. length (entriesAt (keyLength b) (fileSize b) b p) ≡ countAt b p)
+  abbrev Inside : ℕ → Type 0
+  Inside p = isPage (fileSize b) p ≡ true
+
+  -- the page at p has at most as many entries as a page holds, as many are read of it, and it has the least count or more
+  abbrev NotOver : ℕ → Type 0
+  NotOver p = countAt b p ≤ capacity (keyLength b)
+
+  abbrev readOf : ℕ → ℕ
+  readOf p = length (entriesAt (keyLength b) (fileSize b) b p)
+
+  abbrev Enough : ℕ → Type 0
+  Enough p = least h ≤ countAt b p
+
+  counts-enough : (ps : List ℕ) → All Inside ps → All NotOver ps → All (λ p. least h ≤ readOf p) ps → All Enough ps
+  counts-enough ps inside counts sized =
+      let full = all-map2 Inside NotOver (λ p. readOf p ≡ countAt b p)
       (λ p u c. length-entries (keyLength b) (fileSize b) b p u ∙ min-eq-left c) ps inside counts in
-      let low : All (λ p. least h ≤ countAt b p) (pages h (indexTree b h)) = all-map2 (λ p. least h ≤ length (entriesAt (keyLength b) (fileSize b) b p)) (λ p. length (entriesAt (keyLength b) (fileSize b) b p) ≡ countAt b p) (λ p. least h ≤ countAt b p)
-      (λ p u c. omega arith) ps (sized-pages S (capacity (keyLength b)) h (rootOffset b) (i .sized)) full in (
+      all-map2 (λ p. least h ≤ readOf p) (λ p. readOf p ≡ countAt b p) Enough (λ p u c. omega arith) ps sized full
+
+  -- Theorem: an index is sound if its header is good, the theory calls it sound, and its pages have good attributes, links and counts
+  pub index-sound : (most : ℕ) → headerGood b ≡ true → SoundIndex (settingOf (keyLength b) most) (indexOf b h) → LinkedIndex (linksOf b) (indexOf b h)
+      → All (λ p. attributeAt b p ≤ 3) (indexPages b h) → All (λ p. rootBit (attributeAt b p) ≡ eqb p (rootOffset b)) (indexPages b h)
+      → ((j : ℕ) → j ≤ h → All (λ p. leafBit (attributeAt b p) ≡ eqb j 0) (level j h (indexTree b h)))
+      → All (λ p. countAt b p ≤ capacity (keyLength b)) (indexPages b h) → (s : Sound b) × (s .height ≡ h)
+  index-sound most e i l attributes rootBits leafBits counts =
+      let ps = indexPages b h in
+      let o = i .pagesOnce in
+      let few = i .withinLevels in
+      let inside = all-occ Inside ps (once-page (indexOf b h) o) in
+      let sized = sized-pages (entriesAt (keyLength b) (fileSize b) b) (capacity (keyLength b)) h (rootOffset b) (i .sized) in
+      let low = counts-enough ps inside counts sized in (
         record {
           header = e;
           height = h;
@@ -124,10 +146,10 @@ module _ (b : List ℕ) (h : ℕ) where
           rootBits = rootBits;
           leafBits = leafBits;
           levels = omega arith;
-          counts = all-map2 (λ p. least h ≤ countAt b p) (λ p. countAt b p ≤ capacity (keyLength b)) (CountGood b (keyLength b) h) (λ p u c. (u, c)) ps low counts;
-          ascending = d .0;
+          counts = all-map2 Enough NotOver (CountGood b (keyLength b) h) (λ p u c. (u, c)) ps low counts;
+          ascending = ordered-ascending bytesOrder h (indexTree b h) (i .ordered);
           records = i .records;
-          greatest = d .1;
+          greatest = exact-greatest (capacity (keyLength b)) h (indexTree b h) (i .sized) (i .exact);
           links = l;
         },
         refl,

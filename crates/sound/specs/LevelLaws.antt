@@ -1,5 +1,5 @@
--- Laws: the audit accepts the levels from the root down exactly where each is good, the last is that of the leaves, and no page is met twice. Cited by the
--- law of what the audit accepts. Assumes nothing.
+-- Laws: the audit accepts the levels from the root down exactly if each is good, the pages of the last are leaves, and no page is met twice. Cited by the law
+-- of what the audit accepts. Assumes nothing.
 use Prim.Native.Nat.{ℕ, zero, suc, _≤_, _<_}
 use mathlib.Core.Path.{_≡_, refl, sym, ap, _∙_}
 use mathlib.Core.List.{List, [], _∷_, _++_}
@@ -17,7 +17,8 @@ use Rattle.page.specs.Header.{maxBytes, noPage, isPage}
 use Rattle.page.specs.HeaderLaws.{is-page}
 use Rattle.page.specs.Reading.{entriesAt}
 use Rattle.sound.specs.Sound.{linksOf}
-use Rattle.sound.specs.Rule.{Entries, maxPages, Level, start, chain, isLeaf, attributeOf, checkLevel, children, firstChild, pagesUnder, nextLevel, levelsUnder}
+use Rattle.page.specs.Children.{isLeaf, firstChild}
+use Rattle.sound.specs.Rule.{Entries, maxPages, Level, start, chain, attributeOf, checkLevel, children, pagesUnder, nextLevel, levelsUnder}
 use Rattle.sound.specs.AttributeLaws.{leaf-bit}
 use Rattle.sound.specs.Levels.{numbers, below, generation, reached, map-append}
 use Rattle.sound.specs.MarkLaws.{fresh-append, fresh-left, fresh-right, mark-append, mark-length, fresh-few}
@@ -36,28 +37,28 @@ module _ (b : List ℕ) (k size : ℕ) where
     pub linked : Linked noPage (linksOf b) noPage ps
     pub checked : Checked b k size (attributeOf root leaf) noPage ps
 
-  -- the audit stands at a level whose pages the entries es name: they are read back from its first page on
+  -- the audit stands at a level whose pages the entries es name: the pages are read back from its first page on
   pub record StandsAt (es : Entries) (t : Level × List ℕ) : Type 0 where
     pub pages : chain b size maxPages (t .0 .first) ≡ numbers es
     pub head : t .0 .first ≡ headOr noPage (numbers es)
     pub marks : length (t .1) ≡ maxPages
 
-  -- what is known of a level that is good, after the marks m
+  -- what is known of a good level, after the marks m
   pub record Known (root : Bool) (m : List ℕ) (es : Entries) (t : Level × List ℕ) : Type 0 where
     pub level : LevelGood root (t .0 .leaf) (numbers es)
     pub fresh : Fresh m (numbers es)
     pub marks : t .1 ≡ markAll m (numbers es)
     pub stands : StandsAt es t
 
-  -- the levels under one whose pages es name, with h levels under it
+  -- the levels under the level whose pages es name, with h levels under it
   abbrev pub GoodUnder : ℕ → Entries → Type 0
   GoodUnder h es = (i : ℕ) → i < h → LevelGood false (eqb (suc i) h) (numbers (generation (entriesAt k size b) (suc i) es))
 
-  -- the pages of those levels
+  -- the pages of these levels
   abbrev pub lowerPages : ℕ → Entries → List ℕ
   lowerPages h es = reached (entriesAt k size b) h (below (entriesAt k size b) es)
 
-  -- the levels under one, l at most, as they are found from the marks m to the marks m′
+  -- the levels under a level, l at most, as they are found from the marks m to the marks m′
   pub record Found (l : ℕ) (leaf : Bool) (es : Entries) (m m′ : List ℕ) : Type 0 where
     pub height : ℕ
     pub few : height ≤ l
@@ -120,7 +121,7 @@ module _ (b : List ℕ) (k size : ℕ) (most : size ≤ maxBytes) where
       let c = passed-check b k size (attributeOf root leaf) (start first) m (p ∷ ps) refl passed in
       (rw is (join _ _ (c .0) (eq-eqb _ _ (c .1))), is)
 
-  -- the pages under those that some entries name
+  -- the pages under the pages that the entries es name
   numbers-below : (es : Entries) → children b k size (numbers es) ≡ numbers (below S es)
   numbers-below [] = refl
   numbers-below (e ∷ es) =
@@ -144,7 +145,7 @@ module _ (b : List ℕ) (k size : ℕ) (most : size ≤ maxBytes) where
   levels-good zero t g = g
   levels-good (suc l) t g = either (t .0 .good && not (t .0 .leaf)) (λ e. both _ _ e .0) (λ e. rw (e, levelsUnder) at g)
 
-  -- what is found from a level on: it is that of the leaves, or there is a good level under it
+  -- what is found from a level on: its pages are leaves, or there is a good level under it
   found-bottom : (l : ℕ) (leaf : Bool) (es : Entries) (m : List ℕ) → leaf ≡ true → Found b k size l leaf es m m
   found-bottom l leaf es m e =
       record { height = 0; few = omega arith; bottom = e; levels = λ i h. absurd (omega arith); fresh = tt; marks = refl }
@@ -234,7 +235,8 @@ module _ (b : List ℕ) (k size : ℕ) (most : size ≤ maxBytes) where
       let full = f zero (omega arith) in
       let n = next-good (eqb 1 (suc h)) es t s some full (v zero (omega arith)) (fresh-left (t .1) ps rest m) in
       let w = next-known es t s (n .0) in
-      let r = levels-reached l h (below S es) (next t) (omega arith) (next-head es (t .0 .first) some (s .head) full .1) (n .0) (n .1 ∙ same-suc 0 h) (w .stands)
+      let head = next-head es (t .0 .first) some (s .head) full in
+      let r = levels-reached l h (below S es) (next t) (omega arith) (head .1) (n .0) (n .1 ∙ same-suc 0 h) (w .stands)
       (λ i o. f (suc i) (omega arith)) (λ i o. rw (same-suc (suc i) h) at (v (suc i) (omega arith))) (rw (w .marks) (fresh-right (t .1) ps rest m)) in
       let marks = r .marks ∙ ap (λ (x : List ℕ). markAll x rest) (w .marks) ∙ sym (mark-append (t .1) ps rest) in
       rw (z, levelsUnder) (record { good = r .good; leaf = r .leaf; marks = marks })

@@ -1,5 +1,5 @@
--- Laws: the entries of a store level by level, from a list of entries down, and what they are in the trees that are read there: their levels, pairs and pages,
--- and what holds at every page. Cited by the laws of sound indexes. Assumes nothing.
+-- Laws: the entries of a store level by level, from a list of entries down, and the levels, pairs and pages of the trees that are read there, and what holds at
+-- every page. Cited by the laws of sound indexes. Assumes nothing.
 use mathlib.Core.Path.{_≡_, refl, sym, ap, _∙_, subst}
 use mathlib.Core.Bool.{true, false}
 use mathlib.Core.List.{List, [], _∷_, _++_, map, append-nil}
@@ -32,7 +32,7 @@ pub all-of-map : {A B : Type 0} (P : B → Type 0) (f : A → B) (xs : List A) �
 all-of-map P f [] a = tt
 all-of-map P f (x ∷ xs) a = (a .0, all-of-map P f xs (a .1))
 
-pub all-to-concat : {A B : Type 0} (P : B → Type 0) (f : A → List B) (xs : List A) → All (λ x. All P (f x)) xs → All P (concatMap f xs)
+all-to-concat : {A B : Type 0} (P : B → Type 0) (f : A → List B) (xs : List A) → All (λ x. All P (f x)) xs → All P (concatMap f xs)
 all-to-concat P f [] a = tt
 all-to-concat P f (x ∷ xs) a = all-append P (f x) (concatMap f xs) (a .0) (all-to-concat P f xs (a .1))
 
@@ -45,7 +45,7 @@ abbrev pub numbers : {K : Type 0} → List (K × ℕ) → List ℕ
 numbers es = map (λ e. e .1) es
 
 module _ {K : Type 0} (S : Store K) where
-  -- the entries of the pages that the entries of a list name, and of those so many levels further down
+  -- the entries of the pages that the entries es name, and those i levels further down
   abbrev pub below : List (K × ℕ) → List (K × ℕ)
   below es = concatMap (λ e. S (e .1)) es
 
@@ -53,7 +53,7 @@ module _ {K : Type 0} (S : Store K) where
   generation zero es = es
   generation (suc i) es = generation i (below es)
 
-  -- the pages that the entries name, and those of the levels under them: h levels in all
+  -- the pages that the entries name, and the pages of the levels under them: h levels in all
   abbrev pub reached : ℕ → List (K × ℕ) → List ℕ
   reached zero es = []
   reached (suc h) es = numbers es ++ reached h (below es)
@@ -66,7 +66,7 @@ module _ {K : Type 0} (S : Store K) where
   join-map g v [] = refl
   join-map g v (e ∷ es) = ap (λ l. g (v e) ++ l) (join-map g v es)
 
-  -- what is joined over the entries of a page, and then over those below
+  -- lists joined over the entries of a page, and then over the entries below
   join-page : {B : Type 0} (h : ℕ) (g : Entry K h → List B) (e : K × ℕ) (es : List (K × ℕ)) →
       concatMap g (readAll h (S (e .1) ++ below es)) ≡ concatMap g (readAll h (S (e .1))) ++ concatMap g (readAll h (below es))
   join-page h g e es =
@@ -78,7 +78,7 @@ module _ {K : Type 0} (S : Store K) where
   join-below h g (e ∷ es) = ap (λ l. concatMap g (readAll h (S (e .1))) ++ l) (join-below h g es) ∙ sym (join-page h g e es)
 
   -- the leaf pairs are the entries of the last generation
-  pub pairs-are : (h : ℕ) (es : List (K × ℕ)) → concatMap (pairsUnder h) (readAll h es) ≡ generation h es
+  pairs-are : (h : ℕ) (es : List (K × ℕ)) → concatMap (pairsUnder h) (readAll h es) ≡ generation h es
   pairs-are zero es = rw (map-read-zero S es) (concatMap-single es)
   pairs-are (suc h) es = join-map (pairsUnder (suc h)) (readEntry S (suc h)) es ∙ join-below h (pairsUnder h) es ∙ pairs-are h (below es)
 
@@ -93,14 +93,14 @@ module _ {K : Type 0} (S : Store K) where
   level-below j h e (x ∷ es) =
       rw e (ap (λ l. concatMap (levelUnder j h) (readAll h (S (x .1))) ++ l) (level-below j h e es) ∙ sym (join-page h (levelUnder j h) x es))
 
-  pub level-is : (h j : ℕ) → j ≤ h → (es : List (K × ℕ)) → concatMap (levelUnder j (suc h)) (readAll (suc h) es) ≡ numbers (generation (h - j) es)
+  level-is : (h j : ℕ) → j ≤ h → (es : List (K × ℕ)) → concatMap (levelUnder j (suc h)) (readAll (suc h) es) ≡ numbers (generation (h - j) es)
   level-is zero j l es = let e : zero - j ≡ zero = omega arith in rw e (level-here j zero (eq-eqb j zero (omega arith)) es)
   level-is (suc h) j l es = either (eqb j (suc h))
       (λ e. let d : suc h - j ≡ zero = omega (arith, eqb-true j (suc h) e) in rw d (level-here j (suc h) e es))
       (λ e. let m : j ≤ h = omega (arith, eqb-false j (suc h) e) in let d : suc h - j ≡ suc (h - j) = omega arith in
       rw d (level-below j (suc h) e es ∙ level-is h j m (below es)))
 
-  -- the pages, each as often
+  -- the pages, each as often as in the tree
   pages-below : (z h : ℕ) (es : List (K × ℕ)) →
       occ z (concatMap (pagesUnder (suc h)) (readAll (suc h) es)) ≡ occ z (numbers es) + occ z (concatMap (pagesUnder h) (readAll h (below es)))
   pages-below z h [] = refl
@@ -110,7 +110,7 @@ module _ {K : Type 0} (S : Store K) where
       let lower = concatMap (pagesUnder h) (readAll h (below es)) in
       rw (join-page h (pagesUnder h) x es) (omega (arith, pages-below z h es, occ-append z here later, occ-append z here lower))
 
-  pub pages-are : (z h : ℕ) (es : List (K × ℕ)) → occ z (concatMap (pagesUnder h) (readAll h es)) ≡ occ z (reached h es)
+  pages-are : (z h : ℕ) (es : List (K × ℕ)) → occ z (concatMap (pagesUnder h) (readAll h es)) ≡ occ z (reached h es)
   pages-are z zero es = ap (occ z) (join-map (pagesUnder zero) (readEntry S zero) es ∙ concatMap-none es)
   pages-are z (suc h) es = pages-below z h es ∙ omega (arith, pages-are z h (below es), occ-append z (numbers es) (reached h (below es)))
 
@@ -121,14 +121,14 @@ module _ {K : Type 0} (S : Store K) where
 
   module _ (R : K × ℕ → Type 0) where
     -- level by level
-    pub deep-levels : (h : ℕ) (es : List (K × ℕ)) → All (Deep R h) es → (i : ℕ) → i < h → All R (generation i es)
+    deep-levels : (h : ℕ) (es : List (K × ℕ)) → All (Deep R h) es → (i : ℕ) → i < h → All R (generation i es)
     deep-levels zero es d i l = absurd (omega arith)
     deep-levels (suc h) es d zero l = all-map (Deep R (suc h)) R (λ e x. x .0) es d
     deep-levels (suc h) es d (suc i) l =
         let under = all-map (Deep R (suc h)) (λ e. All (Deep R h) (S (e .1))) (λ e x. x .1) es d in
         deep-levels h (below es) (all-to-concat (Deep R h) (λ e. S (e .1)) es under) i (omega arith)
 
-    pub levels-deep : (h : ℕ) (es : List (K × ℕ)) → ((i : ℕ) → i < h → All R (generation i es)) → All (Deep R h) es
+    levels-deep : (h : ℕ) (es : List (K × ℕ)) → ((i : ℕ) → i < h → All R (generation i es)) → All (Deep R h) es
     levels-deep zero es a = all-unit es
     levels-deep (suc h) es a =
         all-map2 R (λ e. All (Deep R h) (S (e .1))) (Deep R (suc h)) (λ e x y. (x, y)) es (a zero (omega arith))
@@ -142,13 +142,13 @@ module _ {K : Type 0} (S : Store K) where
     abbrev AllUnder : ℕ → K × ℕ → Type 0
     AllUnder h e = All Q (pagesUnder h (readEntry S h e))
 
-    pub pages-deep : (h : ℕ) (es : List (K × ℕ)) → All Q (concatMap (pagesUnder h) (readAll h es)) → All (Deep Named h) es
+    pages-deep : (h : ℕ) (es : List (K × ℕ)) → All Q (concatMap (pagesUnder h) (readAll h es)) → All (Deep Named h) es
     pages-deep zero es a = all-unit es
     pages-deep (suc h) es a =
         all-map (AllUnder (suc h)) (Deep Named (suc h)) (λ e x. (x .0, pages-deep h (S (e .1)) (x .1))) es
         (all-of-concat Q (λ e. pagesUnder (suc h) (readEntry S (suc h) e)) es (rw (join-map (pagesUnder (suc h)) (readEntry S (suc h)) es) at a))
 
-    pub deep-pages : (h : ℕ) (es : List (K × ℕ)) → All (Deep Named h) es → All Q (concatMap (pagesUnder h) (readAll h es))
+    deep-pages : (h : ℕ) (es : List (K × ℕ)) → All (Deep Named h) es → All Q (concatMap (pagesUnder h) (readAll h es))
     deep-pages zero es a = rw (join-map (pagesUnder zero) (readEntry S zero) es, concatMap-none es) tt
     deep-pages (suc h) es a =
         rw (join-map (pagesUnder (suc h)) (readEntry S (suc h)) es)
@@ -167,13 +167,13 @@ module _ {K : Type 0} (S : Store K) where
   abbrev pub Counted : ℕ → K × ℕ → Type 0
   Counted cap e = (0 < length (S (e .1))) × (length (S (e .1)) ≤ cap)
 
-  pub deep-sized : (cap h : ℕ) (e : K × ℕ) → Deep (Counted cap) h e → SizedUnder cap h (readEntry S h e)
+  deep-sized : (cap h : ℕ) (e : K × ℕ) → Deep (Counted cap) h e → SizedUnder cap h (readEntry S h e)
   deep-sized cap zero e d = tt
   deep-sized cap (suc h) e d =
       let n = length-map (S (e .1)) (readEntry S h) in
       (rw n (d .0 .0), rw n (d .0 .1), read-all h (SizedUnder cap h) (Deep (Counted cap) h) (deep-sized cap h) (S (e .1)) (d .1))
 
-  -- and every page of a sized tree has an entry
+  -- every page of a sized tree has an entry
   abbrev Filled : ℕ → Type 0
   Filled p = 0 < length (S p)
 
@@ -194,15 +194,15 @@ module _ {K : Type 0} (S : Store K) where
   sized-pages cap (suc h) root s =
       (rw (length-map (S root) (readEntry S (suc h))) at (s .0), sized-level cap (suc h) (sized-under cap (suc h)) (S root) (s .2))
 
-  -- the key above a page is the page's last
+  -- the key above a page is the page's last key
   abbrev pub Top : K × ℕ → Type 0
   Top e = lastKey (e .0) (S (e .1)) ≡ e .0
 
-  pub deep-exact : (h : ℕ) (e : K × ℕ) → Deep Top h e → ExactUnder h (readEntry S h e)
+  deep-exact : (h : ℕ) (e : K × ℕ) → Deep Top h e → ExactUnder h (readEntry S h e)
   deep-exact zero e d = tt
   deep-exact (suc h) e d = (lastKey-read S h (e .0) (S (e .1)) ∙ d .0, read-all h (ExactUnder h) (Deep Top h) (deep-exact h) (S (e .1)) (d .1))
 
-  pub exact-deep : (h : ℕ) (e : K × ℕ) → ExactUnder h (readEntry S h e) → Deep Top h e
+  exact-deep : (h : ℕ) (e : K × ℕ) → ExactUnder h (readEntry S h e) → Deep Top h e
   exact-deep zero e d = tt
   exact-deep (suc h) e d = (sym (lastKey-read S h (e .0) (S (e .1))) ∙ d .0, all-read h (ExactUnder h) (Deep Top h) (exact-deep h) (S (e .1)) (d .1))
 

@@ -1,15 +1,29 @@
+-- What a sound index is, and the test that accepts exactly the sound indexes. Rules are what a reader must believe; steps are what only inner contracts, laws
+-- and the computing part of insertion's rule cite; laws are proved.
+
+-- Rules: what a sound index is, and what the audit answers
 pub mod Sound
+-- Steps: the audit's test, page by page and level by level
 pub mod Rule
+-- Laws: the attributes and counts of the pages of a level, against document 01's words
 pub mod AttributeLaws
-pub mod GreatestLaws
+-- Laws: the entries of a store level by level, and the trees that are read there
 pub mod Levels
+-- Laws: the audit's pass over the pages of one level
 pub mod RunLaws
+-- Laws: the audit's tests of entries, against ascending keys and exact keys above
 pub mod EntryLaws
+-- Laws: the marks of the pages met, against how often each page is met
 pub mod MarkLaws
+-- Laws: the audit's passes from level to level
 pub mod LevelLaws
+-- Laws: good levels, against document 01's clauses on the tree
 pub mod ShapeLaws
+-- Laws: the test accepts exactly the sound indexes
 pub mod Accepted
+-- Laws: every buffer has one answer that meets `Audited`
 pub mod AnswerLaws
-pub mod Example
+-- Laws: a sound index is what the theory of calls keeps, and back
 pub mod IndexLaws
+-- Laws: whether an index is sound depends on its first F bytes alone
 pub mod PrefixLaws

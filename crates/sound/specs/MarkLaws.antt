@@ -1,4 +1,4 @@
--- Laws: the marks of the pages that were met, against how often each page stands among them. Cited by the laws of the audit's rule. Assumes nothing.
+-- Laws: the marks of the pages that were met, against how often each page stands among them. Cited by the laws of the audit's test. Assumes nothing.
 use Prim.Native.Nat.{ℕ, zero, suc, _+_, _-_, _*_, _/_, _%_, _≤_, _<_}
 use mathlib.Core.Path.{_≡_, refl, sym, ap, _∙_, subst}
 use mathlib.Core.List.{List, [], _∷_, _++_}
@@ -16,7 +16,7 @@ use Rattle.page.specs.HeaderLaws.{is-page, is-page-from}
 use Rattle.sound.specs.Rule.{maxPages, markedFrom, unmarked}
 use Rattle.sound.specs.RunLaws.{markAll, Fresh}
 
--- what stands in a list of which all have a property has it
+-- a number that stands in a list has the property that all its members have
 pub occ-all : (Q : ℕ → Type 0) (z : ℕ) (ps : List ℕ) → All Q ps → 0 < occ z ps → Q z
 occ-all Q z [] a h = absurd (omega arith)
 occ-all Q z (p ∷ ps) a h = either (eqb z p)
@@ -50,9 +50,10 @@ Whole n ps = All (λ p. (p % pageSize ≡ 0) × (p / pageSize < n)) ps
 
 pages-whole : (size : ℕ) (ps : List ℕ) → size ≤ maxBytes → All (λ p. isPage size p ≡ true) ps → Whole maxPages ps
 pages-whole size ps most inside =
-    all-map (λ p. isPage size p ≡ true) (λ p. (p % pageSize ≡ 0) × (p / pageSize < maxPages)) (λ p e. let i = is-page size p e in (i .whole, omega arith)) ps inside
+    all-map (λ p. isPage size p ≡ true) (λ p. (p % pageSize ≡ 0) × (p / pageSize < maxPages))
+    (λ p e. let i = is-page size p e in (i .whole, omega arith)) ps inside
 
--- pages that are unmarked when they are met are no more than there are marks: each takes one of the zeros
+-- there are no more pages that are unmarked when they are met than marks: each takes one of the zeros
 zero-set : (m : List ℕ) (i : ℕ) → i < length m → getD m i 0 ≡ 0 → suc (occ 0 (set m i 1)) ≡ occ 0 m
 zero-set [] i l e = absurd (omega arith)
 zero-set (x ∷ m) zero l e = rw (eq-eqb 0 x (sym e)) (omega arith)
@@ -82,7 +83,7 @@ module _ (n : ℕ) (m : List ℕ) (p j : ℕ) (l : length m ≡ n) (w : p % page
   set-elsewhere : eqb (pageSize * j) p ≡ false → getD (set m (p / pageSize) 1) j 0 ≡ getD m j 0
   set-elsewhere e = getD-set-other m (p / pageSize) j 1 0 (λ d. eqb-false (pageSize * j) p e (omega arith))
 
--- what a page's mark was, and how often it is met, add up to its mark
+-- a page's old mark, and how often the page is met, add up to its new mark
 marks-count : (n : ℕ) (m ps : List ℕ) (j : ℕ) → length m ≡ n → Whole n ps → Fresh m ps → getD (markAll m ps) j 0 ≡ getD m j 0 + occ (pageSize * j) ps
 marks-count n m [] j l w f = omega arith
 marks-count n m (p ∷ ps) j l w f =
@@ -92,7 +93,7 @@ marks-count n m (p ∷ ps) j l w f =
     let z : getD m j 0 ≡ 0 = subst (λ (i : ℕ). getD m i 0 ≡ 0) (s .0) (f .0) in rw e (omega arith))
     (λ e. let s = set-elsewhere n m p j l (w .0 .0) (w .0 .1) e in rw e (omega arith))
 
--- where none is met more often than its mark allows, each is unmarked when it is met
+-- if no page is met more often than its mark allows, each is unmarked when it is met
 marks-fresh : (n : ℕ) (m ps : List ℕ) → length m ≡ n → Whole n ps → ((j : ℕ) → getD m j 0 + occ (pageSize * j) ps ≤ 1) → Fresh m ps
 marks-fresh n m [] l w h = tt
 marks-fresh n m (p ∷ ps) l w h =
@@ -143,7 +144,7 @@ module _ (size : ℕ) (ps : List ℕ) (whole : size % pageSize ≡ 0) (most : si
       let z = unmarked-zero j in
       omega arith
 
-  -- where every page but the first is marked, each was met once
+  -- if every page but the first is marked, each was met once
   pub marked-once : Fresh unmarked ps → markedFrom (markAll unmarked ps) (size / pageSize - 1) 1 ≡ true → (p : ℕ) → isPage size p ≡ true → occ p ps ≡ 1
   marked-once f h p e =
       let i = is-page size p e in
@@ -153,7 +154,7 @@ module _ (size : ℕ) (ps : List ℕ) (whole : size % pageSize ≡ 0) (most : si
       let n = marked-at (markAll unmarked ps) (size / pageSize - 1) 1 h (p / pageSize) (omega arith) (omega arith) in
       ap (λ (z : ℕ). occ z ps) (sym d) ∙ sym c ∙ n
 
-  -- and back: where each was met once, none was marked before, and all are marked
+  -- and back: if each was met once, none was marked before, and all are marked
   module _ (once : (p : ℕ) → isPage size p ≡ true → occ p ps ≡ 1) where
     at-most : (j : ℕ) → getD unmarked j 0 + occ (pageSize * j) ps ≤ 1
     at-most j = either (isPage size (pageSize * j))
@@ -167,4 +168,6 @@ module _ (size : ℕ) (ps : List ℕ) (whole : size % pageSize ≡ 0) (most : si
 
     pub once-marked : markedFrom (markAll unmarked ps) (size / pageSize - 1) 1 ≡ true
     once-marked = at-marked (markAll unmarked ps) (size / pageSize - 1) 1
-        (λ i a c. count-of i once-fresh ∙ once (pageSize * i) (is-page-from size (pageSize * i) (record { whole = omega arith; low = omega arith; high = omega arith })))
+        (λ i a c.
+        let page = is-page-from size (pageSize * i) (record { whole = omega arith; low = omega arith; high = omega arith }) in
+        count-of i once-fresh ∙ once (pageSize * i) page)

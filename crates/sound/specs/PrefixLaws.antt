@@ -27,11 +27,12 @@ use Rattle.page.specs.ReadingLaws.{window-window, entries-none, entries-same, a
 use Rattle.sound.specs.Levels.{pages-generation, generation-level}
 use Rattle.sound.specs.Sound.{indexTree, indexPages, linksOf, CountGood, Sound}
 
--- two buffers with the same first F bytes, of which the first is sound
+-- two buffers with the same first F bytes; the first is sound
 module _ (a b : List ℕ) (same : window a 0 (fileSize a) ≡ window b 0 (fileSize a)) (long : fileSize a ≤ length b) (s : Sound a) where
   part : (p n : ℕ) → p + n ≤ fileSize a → window a p n ≡ window b p n
   part p n h =
-      let e : window a (0 + p) n ≡ window b (0 + p) n = sym (window-window a 0 (fileSize a) p n h) ∙ ap (λ (w : List ℕ). window w p n) same ∙ window-window b 0 (fileSize a) p n h in
+      let e : window a (0 + p) n ≡ window b (0 + p) n =
+      sym (window-window a 0 (fileSize a) p n h) ∙ ap (λ (w : List ℕ). window w p n) same ∙ window-window b 0 (fileSize a) p n h in
       rw zero-add at e
 
   large : 1024 ≤ fileSize a

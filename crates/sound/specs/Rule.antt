@@ -1,19 +1,19 @@
--- Rules: the audit's test as it is computed, page by page and level by level from the root down. The inner functions of the audit and of the match cite its
--- parts; insertion's rule, which has to compute, tells 25 by `pagesGood`. That the test accepts exactly the sound indexes is proved in Accepted, and
--- book/InsertionAnswers says what insertion's 25 means by `Sound`, so that a reader need not believe the test.
+-- Steps: the audit's test as it is computed, page by page and level by level from the root down. The inner functions of the audit and of the match cite its
+-- parts; insertion's rule, which has to compute, tells 25 by `pagesGood`. A reader need not believe the test: Accepted proves that it accepts exactly the sound
+-- indexes, and book/InsertionAnswers says what insertion's 25 means by `Sound`.
 -- Every check is local to a page, its left neighbour and its children: the audit carries the left neighbour along, and marks each page that it meets.
 use Prim.Native.Nat.{ℕ, zero, suc, _+_, _-_, _/_}
-use mathlib.Core.List.{List, [], _∷_, map}
+use mathlib.Core.List.{List, [], _∷_}
 use mathlib.Core.Bool.{Bool, true, false, cond, not, _&&_}
 use mathlib.Core.Option.{Option, none, some}
 use lib.ListN.{getD, set, replicate}
 use lib.Dec.{eqb}
 use Rattle.octets.specs.Order.{ordering, isBelow, isEqual}
 use Rattle.tree.specs.Lists.{concatMap}
-use Rattle.tree.specs.Clauses.{headOr}
 use Rattle.page.specs.Header.{maxBytes, maxLevels, pageSize, noPage, rootOffset, fileSize, keyLength, isPage}
 use Rattle.page.specs.Page.{attributeAt, countAt, leftAt, rightAt, leafBit, countGood}
 use Rattle.page.specs.Reading.{entriesAt}
+use Rattle.page.specs.Children.{isLeaf, childrenOf, firstChild}
 
 abbrev pub Entries : Type 0
 Entries = List (List ℕ × ℕ)
@@ -22,12 +22,12 @@ Entries = List (List ℕ × ℕ)
 abbrev pub maxPages : ℕ
 maxPages = maxBytes / pageSize
 
--- the last key of some entries, the given one where there are none
+-- the last key of entries, o if there are none
 abbrev pub lastOf : Option (List ℕ) → Entries → Option (List ℕ)
 lastOf o [] = o
 lastOf o (e ∷ es) = lastOf (some (e .0)) es
 
--- whether a key is above another, where there is one; whether it is another
+-- the key x is above the other key, if there is one; x is the other key
 abbrev pub isAbove : Option (List ℕ) → List ℕ → Bool
 isAbove none x = true
 isAbove (some a) x = isBelow (ordering a x)
@@ -36,12 +36,12 @@ abbrev pub isSame : Option (List ℕ) → List ℕ → Bool
 isSame none x = false
 isSame (some a) x = isEqual (ordering a x)
 
--- the entries of a leaf, after the key o: each key is above the one before it, each record number above 0
+-- the entries of a leaf, after the key o: each key is above the key before it, each record number above 0
 unfoldable pub leafEntriesGood : Option (List ℕ) → Entries → Bool
 leafEntriesGood o [] = true
 leafEntriesGood o (e ∷ es) = (not (eqb (e .1) 0) && isAbove o (e .0)) && leafEntriesGood (some (e .0)) es
 
--- the entries of a page above the leaves, in a store of pages: each key is the last of the child's
+-- the entries of a page above the leaves, in the store S of pages: each key is the last of the child's keys
 unfoldable pub upperEntriesGood : (ℕ → Entries) → Entries → Bool
 upperEntriesGood S [] = true
 upperEntriesGood S (e ∷ es) = isSame (lastOf none (S (e .1))) (e .0) && upperEntriesGood S es
@@ -50,22 +50,23 @@ upperEntriesGood S (e ∷ es) = isSame (lastOf none (S (e .1))) (e .0) && upperE
 abbrev pub attributeOf : Bool → Bool → ℕ
 attributeOf root leaf = cond root 1 0 + cond leaf 2 0
 
--- what the audit knows of the pages met on a level: whether all were good, the last of them, and the page that is to come on its right
+-- what the audit knows of the pages met on a level: whether all were good, the last page met, and the page that its right link names
 pub record Progress : Type 0 where
   pub good : Bool
   pub last : ℕ
   pub next : ℕ
 
--- what it knows of a level: whether it is good, whether it is that of the leaves, and its first page
+-- what the audit knows of a level: whether it is good, whether its pages are leaves, and its first page
 pub record Level : Type 0 where
   pub good : Bool
   pub leaf : Bool
   pub first : ℕ
 
--- at the start of a level, whose first page is to be `first`
+-- the start of a level, whose first page has to be `first`
 abbrev pub start : ℕ → Progress
 start first = record { good = true; last = noPage; next = first }
 
+-- a page was not good
 abbrev pub refused : Progress → Progress
 refused s = record { good = false; last = s .last; next = s .next }
 
@@ -74,16 +75,12 @@ unfoldable pub chain : List ℕ → ℕ → ℕ → ℕ → List ℕ
 chain b size zero p = []
 chain b size (suc n) p = elim (isPage size p) [ true ↦ p ∷ chain b size n (rightAt b p) | false ↦ [] ]
 
--- whether a page is a leaf
-unfoldable pub isLeaf : List ℕ → ℕ → ℕ → Bool
-isLeaf b size p = isPage size p && leafBit (attributeAt b p)
-
 -- the l marks from j on are set
 unfoldable pub markedFrom : List ℕ → ℕ → ℕ → Bool
 markedFrom m zero j = true
 markedFrom m (suc l) j = eqb (getD m j 0) 1 && markedFrom m l (j + 1)
 
--- a good level goes to its end: no page is on the right of its last
+-- a level at its end: it is good if no page is on the right of its last page
 abbrev pub closed : Bool → ℕ → Progress × List ℕ → Level × List ℕ
 closed leaf first t = (record { good = t .0 .good && eqb (t .0 .next) noPage; leaf = leaf; first = first }, t .1)
 
@@ -91,11 +88,11 @@ module _ (b : List ℕ) (k size : ℕ) where
   abbrev pub entriesOf : ℕ → Entries
   entriesOf p = entriesAt k size b p
 
-  -- the entries of the page at p, on whose left is `last`
+  -- the entries of the page at p are good, with the page `last` on its left
   unfoldable pub entriesFit : ℕ → ℕ → ℕ → Bool
   entriesFit a last p = cond (leafBit a) (leafEntriesGood (lastOf none (entriesOf last)) (entriesOf p)) (upperEntriesGood entriesOf (entriesOf p))
 
-  -- the page at p has the attribute a, a good count, links that agree with its left neighbour's, and good entries
+  -- the page at p has the attribute a, a good count, links that agree with the page `last` on its left, and good entries
   unfoldable pub pageFits : ℕ → ℕ → ℕ → ℕ → Bool
   pageFits a p last next =
       isPage size p
@@ -114,7 +111,7 @@ module _ (b : List ℕ) (k size : ℕ) where
   checkPages a [] t = t
   checkPages a (p ∷ ps) t = checkPages a ps (checkPage a p (t .0) (t .1))
 
-  -- a level whose pages are ps, of which `first` is to be the first
+  -- a level whose pages are ps, of which `first` has to be the first
   abbrev pub checkLevel : Bool → ℕ → List ℕ → List ℕ → Level × List ℕ
   checkLevel root first ps m = closed (isLeaf b size first) first (checkPages (attributeOf root (isLeaf b size first)) ps (start first, m))
 
@@ -123,27 +120,21 @@ module _ (b : List ℕ) (k size : ℕ) where
   rootLevel root m = checkLevel true root (root ∷ []) m
 
   -- the level under a good one whose first page is `first`: the children of its pages
-  abbrev pub childrenOf : ℕ → List ℕ
-  childrenOf p = map (λ e. e .1) (entriesOf p)
-
-  abbrev pub firstChild : ℕ → ℕ
-  firstChild p = headOr noPage (childrenOf p)
-
   abbrev pub children : List ℕ → List ℕ
-  children ps = concatMap childrenOf ps
+  children ps = concatMap (childrenOf b k size) ps
 
   abbrev pub pagesUnder : ℕ → List ℕ
   pagesUnder first = children (chain b size maxPages first)
 
   unfoldable pub nextLevel : ℕ → List ℕ → Level × List ℕ
-  nextLevel first m = checkLevel false (firstChild first) (pagesUnder first) m
+  nextLevel first m = checkLevel false (firstChild b k size first) (pagesUnder first) m
 
-  -- the levels under one, l at most, down to the leaves or the first fault
+  -- the levels under a level, l at most, down to the leaves or the first fault
   unfoldable pub levelsUnder : ℕ → Level × List ℕ → Level × List ℕ
   levelsUnder zero t = t
   levelsUnder (suc l) t = elim (t .0 .good && not (t .0 .leaf)) [ true ↦ levelsUnder l (nextLevel (t .0 .first) (t .1)) | false ↦ t ]
 
-  -- the last level is good and that of the leaves, and every page but the first is marked
+  -- the last level is good, its pages are leaves, and every page but the first is marked
   abbrev pub complete : Level × List ℕ → Bool
   complete t = t .0 .good && (t .0 .leaf && markedFrom (t .1) (size / pageSize - 1) 1)
 

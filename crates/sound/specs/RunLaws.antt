@@ -1,5 +1,5 @@
--- Laws: the audit passes over the pages of a level to its end exactly where they fit, name one another as neighbours, have good entries, and are unmarked
--- when they are met. Cited by the laws of levels. Assumes nothing.
+-- Laws: the audit passes over the pages of a level to its end exactly if they fit, name one another as neighbours, have good entries, and are unmarked when
+-- they are met. Cited by the laws of levels. Assumes nothing.
 use Prim.Native.Nat.{ℕ, _/_}
 use mathlib.Core.Path.{_≡_, refl, sym, ap, _∙_}
 use mathlib.Core.List.{List, [], _∷_}
@@ -15,7 +15,7 @@ use Rattle.page.specs.Page.{attributeAt, countAt, leftAt, rightAt, countGood}
 use Rattle.sound.specs.Sound.{linksOf}
 use Rattle.sound.specs.Rule.{Progress, refused, entriesFit, pageFits, checkPage, checkPages}
 
--- the marks after the pages ps, and that none of them is marked when it is met
+-- the marks after the pages ps; none of ps is marked when it is met
 abbrev pub markAll : List ℕ → List ℕ → List ℕ
 markAll m [] = m
 markAll m (p ∷ ps) = markAll (set m (p / pageSize) 1) ps

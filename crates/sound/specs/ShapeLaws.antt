@@ -1,4 +1,4 @@
--- Laws: all levels of an index are good, as the audit checks them, exactly where document 01's clauses hold of its tree. Cited by the law of what the audit
+-- Laws: all levels of an index are good, as the audit checks them, exactly if document 01's clauses hold of its tree. Cited by the law of what the audit
 -- accepts, and by the laws of lookup on a sound index. Assumes nothing.
 use Prim.Native.Nat.{ℕ, zero, suc, _-_, _≤_, _<_}
 use mathlib.Core.Path.{_≡_, refl, sym, ap, _∙_, subst}
@@ -17,7 +17,7 @@ use Rattle.tree.specs.ListLaws.{all-map2, nonEmpty-length, occ-head, occ-not-he
 use Rattle.tree.specs.Pairs.{Ascending}
 use Rattle.tree.specs.Tree.{Tree, pairs}
 use Rattle.tree.specs.Clauses.{least, Sized, Greatest, Linked}
-use Rattle.tree.specs.ClauseLaws.{greatest-ordered}
+use Rattle.tree.specs.ClauseLaws.{greatest-ordered, exact-greatest}
 use Rattle.tree.specs.Store.{readTree}
 use Rattle.page.specs.Header.{maxBytes, maxLevels, noPage, rootOffset, fileSize, keyLength, isPage, headerGood}
 use Rattle.page.specs.Page.{attributeAt, countAt, rootBit, leafBit, capacity}
@@ -28,7 +28,6 @@ use Rattle.page.specs.ReadingLaws.{length-entries, entries-none}
 use Rattle.sound.specs.Sound.{linksOf, CountGood, Sound}
 use Rattle.sound.specs.Rule.{Entries, lastOf}
 use Rattle.sound.specs.AttributeLaws.{attributeAtLevel, root-bit, leaf-bit, attribute-small, attribute-is, count-good, good-count}
-use Rattle.sound.specs.GreatestLaws.{exact-greatest}
 use Rattle.sound.specs.Levels.{all-of-map, all-to-map, numbers, below, generation, generation-below, reached, reached-generations, join-map}
 use Rattle.sound.specs.Levels.{Counted, Top, tree-pairs, tree-pages, level-generation, generation-level, pages-generation, generation-pages}
 use Rattle.sound.specs.Levels.{generation-sized, generation-exact, exact-generation}
@@ -127,7 +126,7 @@ module _ (b : List ℕ) (k size root h : ℕ) (inside : InsideLevels b k size ro
     first-none : lastOf none (S noPage) ≡ none
     first-none = ap (lastOf none) (entries-none k size b noPage (not-page b k size most))
 
-    -- the leaves' entries, of which a lone root leaf may have none
+    -- the leaves' entries; a lone root leaf may have none
     leaves-climb : (a : ℕ) → leafBit a ≡ true → Checked b k size a noPage (levelPages b k size root h) → Climbs none (E (suc h))
     leaves-climb a leaf c = rw (first-none, entries-next h) at (go h refl)
       where
@@ -147,7 +146,7 @@ module _ (b : List ℕ) (k size root h : ℕ) (inside : InsideLevels b k size ro
     level-leaf i t e = leaf-bit (eqb i 0) (eqb i h) ∙ e
 
     -- the entries of every level, from the clauses on keys and records
-    pub clauses-checked : Ascending bytesOrder (pairs h (readTree (entriesAt k size b) h root))
+    clauses-checked : Ascending bytesOrder (pairs h (readTree (entriesAt k size b) h root))
         → All (λ e. 0 < e .1) (pairs h (readTree (entriesAt k size b) h root)) → Greatest h (readTree (entriesAt k size b) h root)
         → CheckedLevels b k size root h
     clauses-checked ascending records greatest i l = either (eqb i h)
@@ -163,13 +162,13 @@ module _ (b : List ℕ) (k size root h : ℕ) (inside : InsideLevels b k size ro
 
     -- and back
     module _ (checked : CheckedLevels b k size root h) where
-      pub checked-pairs : Ascending bytesOrder (pairs h (readTree (entriesAt k size b) h root))
+      checked-pairs : Ascending bytesOrder (pairs h (readTree (entriesAt k size b) h root))
           × All (λ e. 0 < e .1) (pairs h (readTree (entriesAt k size b) h root))
       checked-pairs =
           let leaf = level-leaf h true (eq-eqb h h refl) in
           climbs-ascend none (pairs h T) (rw (tree-pairs S [] root h) (leaves-climb (attributeAtLevel h h) leaf (checked h (omega arith))))
 
-      pub checked-greatest : Greatest h (readTree (entriesAt k size b) h root)
+      checked-greatest : Greatest h (readTree (entriesAt k size b) h root)
       checked-greatest = exact-greatest (capacity k) h T tree-sized (generation-exact S [] root h (λ i l.
           all-map (Exactly S) (Top S) (λ e x. x .1) (E (suc i))
           (rw (entries-next i) at (checked-exactly b k size (attributeAtLevel h i) (level-leaf i false (ne-eqb i h (omega arith))) noPage
@@ -180,13 +179,13 @@ occ-none : (z : ℕ) (ps : List ℕ) → occ z ps ≡ 0 → All (λ p. eqb p z �
 occ-none z [] e = tt
 occ-none z (p ∷ ps) e = (ne-eqb p z (λ d. occ-not-head z p ps e (sym d)), occ-none z ps (omega arith))
 
--- a level is that of the leaves, level 0 of the tree, where no level is under it
+-- the pages of a level are leaves, level 0 of the tree, if no level is under it
 last-level : (h i : ℕ) → i ≤ h → eqb (h - i) 0 ≡ eqb i h
 last-level h i l = either (eqb i h)
     (λ e. eq-eqb (h - i) 0 (omega (arith, eqb-true i h e)) ∙ sym e)
     (λ e. ne-eqb (h - i) 0 (omega (arith, eqb-false i h e)) ∙ sym e)
 
--- the pages' attributes and counts, where the root is reached once
+-- the pages' attributes and counts, if the root is reached once
 module _ (b : List ℕ) (k size root h : ℕ) where
   abbrev Pages : ℕ → List ℕ
   Pages i = levelPages b k size root i
@@ -279,7 +278,7 @@ module _ (b : List ℕ) where
         links = generation-level B [] R h (λ j ps. Linked noPage (linksOf b) noPage ps) (λ i l. s .levels i l .linked);
       }
 
-  -- Theorem: and a sound index has that shape
+  -- Theorem: a sound index has that shape
   sound-once : (s : Sound b) → ReachedOnce b (keyLength b) (fileSize b) (rootOffset b) (s .height)
   sound-once s p o = sym (tree-pages B [] R (s .height) p) ∙ s .once p o
 

@@ -1,6 +1,6 @@
--- Rules: what a sound index is, in document 01's clauses, order and words ("Sound: good header; every page ..", The index), on the tree that the bytes
--- are read as. The audit's contract cites `Audited`; the match's contract and the claim about lists of calls cite `Sound`. Insertion's rule computes with the
--- test of Rule, and the laws of book/InsertionAnswers say its answers by `Sound`.
+-- Rules: what a sound index is, in document 01's clauses, order and words ("Sound: good header; every page ..", The index), on the tree that the bytes are
+-- read as. The audit's contract cites `Audited`; the match's contract and the claim about lists of calls cite `Sound`. Insertion's rule computes with the test
+-- of Rule, and the laws of book/InsertionAnswers say its answers by `Sound`.
 use Prim.Native.Nat.{ℕ, _+_, _≤_, _<_}
 use mathlib.Core.Path.{_≡_}
 use mathlib.Core.List.{List}
@@ -21,7 +21,7 @@ use Rattle.page.specs.Reading.{treeOf}
 abbrev pub indexTree : (b : List ℕ) (h : ℕ) → Tree (List ℕ) h
 indexTree b h = treeOf (keyLength b) (fileSize b) b h
 
--- its pages, "reached from the root"
+-- the pages of that tree, "reached from the root"
 abbrev pub indexPages : List ℕ → ℕ → List ℕ
 indexPages b h = pages h (indexTree b h)
 
@@ -29,16 +29,17 @@ indexPages b h = pages h (indexTree b h)
 abbrev pub linksOf : List ℕ → Links
 linksOf b = record { left = leftAt b; right = rightAt b }
 
--- the count that the page at p has in its bytes, of the h + 1 levels' pages: "1 to capacity, save that a lone root leaf may have 0"
+-- the count in the bytes of the page at p, in an index with h levels under the root: "1 to capacity, save that a lone root leaf may have 0"
 abbrev pub CountGood : List ℕ → ℕ → ℕ → ℕ → Type 0
 CountGood b k h p = (least h ≤ countAt b p) × (countAt b p ≤ capacity k)
 
+-- "Sound": the clauses, each with the paper's words
 pub record Sound (b : List ℕ) : Type 0 where
   -- "good header"
   pub header : headerGood b ≡ true
   -- the number of levels under the root
   pub height : ℕ
-  -- "every page but the first is reached from the root exactly once": only such pages are reached, and each of them once
+  -- "every page but the first is reached from the root exactly once": only pages other than the first are reached, and each of them once
   pub inside : All (λ p. isPage (fileSize b) p ≡ true) (indexPages b height)
   pub once : (p : ℕ) → isPage (fileSize b) p ≡ true → occ p (indexPages b height) ≡ 1
   -- "attributes 0 to 3"
@@ -65,7 +66,7 @@ pub record Sound (b : List ℕ) : Type 0 where
 abbrev pub leafPairs : (b : List ℕ) → Sound b → List (List ℕ × ℕ)
 leafPairs b s = pairs (s .height) (indexTree b (s .height))
 
--- the audit's answer: 24 exactly where the header is not good, 0 exactly where the index is sound, 25 in every other case
+-- the audit's answer: 24 exactly if the header is not good, 0 exactly if the index is sound, 25 in every other case
 pub record Audited (b : List ℕ) (r : ℕ) : Type 0 where
   pub bad : (r ≡ 24) ↔ (headerGood b ≡ false)
   pub sound : (r ≡ 0) ↔ Sound b

@@ -1,4 +1,4 @@
--- Rules: the book of demand 3, and the one claim about a whole list of calls. Cited by the theorem that the library keeps it.
+-- Rules: the book of demand 3, and the one claim about a whole list of calls. Cited by the theorem that every list of calls is kept by the book.
 use mathlib.Core.Path.{_≡_}
 use mathlib.Core.Bool.{Bool, true, false, cond, not}
 use mathlib.Core.List.{List, [], _∷_}
@@ -20,7 +20,7 @@ pub data Answer : Type 0 where
   found : ℕ → Answer
   absent : Answer
 
--- a refusal where a test holds, else the answer that is given
+-- a refusal if a test holds, else the answer a
 abbrev pub refusedIf : Bool → ℕ → Answer → Answer
 refusedIf true n a = refused n
 refusedIf false n a = a
@@ -72,7 +72,7 @@ finalOf next [] b = b
 finalOf next (c ∷ cs) b = finalOf next cs (next c b)
 
 module _ {K : Type 0} (O : Order K) (fits : K → Bool) where
-  -- the book's answer to a call, given whether that was 30
+  -- the book's answer to a call, told whether the answer was 30
   abbrev pub bookAnswer : Call K → Bool → List (K × ℕ) → Answer
   bookAnswer (insertion k r) full book = verdict (fits k) r (get O k book) full
   bookAnswer (lookupOf k) full book = finding (fits k) (get O k book)
@@ -93,8 +93,8 @@ module _ {K : Type 0} (O : Order K) (fits : K → Bool) where
   bookFinal (c ∷ cs) [] book = book
   bookFinal (c ∷ cs) (f ∷ fs) book = bookFinal cs fs (bookAfter c f book)
 
-  -- "one claim about the whole list": of calls that answer and change a state, from state b and the book on;
-  -- `leaves` gives a state's leaf pairs, and `noRoomFor` is the rule for 30 on the state that is lent to a call
+  -- "one claim about the whole list", from state b and the book on: `answer` and `next` say what a call answers and how it changes a state, `leaves` gives a
+  -- state's leaf pairs, and `noRoomFor` is the rule for 30 on the state that is lent to a call
   pub record BookClaim {B : Type 0} (answer : Call K → B → Answer) (next : Call K → B → B) (leaves : B → List (K × ℕ))
       (noRoomFor : Call K → B → Bool) (cs : List (Call K)) (b : B) (book : List (K × ℕ)) : Type 0 where
     -- "every call answers so, never 24 or 25"

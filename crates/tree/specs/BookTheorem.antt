@@ -1,5 +1,5 @@
--- Laws: demand 3. What holds of one call on a sound index holds of every list of calls, on any state that reads
--- as an index. Cited by the crate of the book, where the state is the buffer. Assumes nothing.
+-- Laws: demand 3. What holds of one call on a sound index holds of every list of calls, on any state that is read as an index. Cited by the crate `book`,
+-- whose states are buffers. Assumes nothing.
 use mathlib.Core.Path.{_≡_, refl, sym, ap, _∙_}
 use mathlib.Core.Bool.{Bool}
 use mathlib.Core.List.{List, [], _∷_}
@@ -18,8 +18,8 @@ bookAfter-same : {K : Type 0} (O : Order K) (fits : K → Bool) (c : Call K) (f 
 bookAfter-same O fits (insertion k r) f g book e = rw e
 bookAfter-same O fits (lookupOf k) f g book e = refl
 
--- B are the states, each read as an index; Inv is what every call keeps, and Ok what is asked of a call (a record number of four
--- bytes); a call's answer, its next state and its rule for 30 are those of the index that the state reads as
+-- B are the states, each read as an index; Inv is what every call keeps, and Ok what is asked of a call (a record number of four bytes); a call's answer, its
+-- next state and its rule for 30 are those of the index that `read` gives for the state
 module _ {K B : Type 0} (s : Setting K) (two : 1 < s .capacity) (read : B → Index K)
     (answerB : Call K → B → Answer) (nextB : Call K → B → B) (noRoomB : Call K → B → Bool) (Inv : B → Type 0) (Ok : Call K → Type 0)
     (sound : (b : B) → Inv b → SoundIndex s (read b))

@@ -1,5 +1,5 @@
--- Laws: document 01's words for the order of a tree say `Ordered` and `Exact`, and these say the words. Cited by the laws
--- of sound bytes. The way leads over K1's words, by which a key above is a ceiling. Assumes nothing.
+-- Laws: document 01's words for the order of a tree say `Ordered` and `Exact`, and these say the words. Cited by the laws of sound bytes. The proof goes by
+-- K1's words, in which a key above is a ceiling. Assumes nothing.
 use mathlib.Core.Path.{_≡_, refl, sym, _∙_}
 use mathlib.Core.List.{List, [], _∷_}
 use Prim.Native.Nat.{ℕ, zero, suc, _<_}
@@ -14,24 +14,24 @@ use Rattle.tree.specs.PairLaws.{lastKey-default, lastKey-concatMap, firs
 use Rattle.tree.specs.PairLaws.{ascending-across, ascending-last, ascending-first}
 use Rattle.tree.specs.Tree.{Entry, Tree, pairsUnder, pairs}
 use Rattle.tree.specs.Clauses.{SizedUnder, Sized, GreatestUnder, Greatest}
-use Rattle.tree.specs.Ordered.{Rooted, Separated, OrderedUnder, Ordered, separated-all, ordered-ascending}
+use Rattle.tree.specs.Ordered.{Rooted, Separated, OrderedUnder, Ordered}
 use Rattle.tree.specs.Exact.{ExactUnder, Exact}
 
 -- the leaf pairs under an entry end with the key above them
 abbrev Ends : {K C : Type 0} → (K × C → List (K × ℕ)) → K × C → Type 0
 Ends {K} under x = (a : K) → lastKey a (under x) ≡ x .0
 
--- where counts are 1 or more, there is a leaf pair under every entry
+-- if counts are 1 or more, there is a leaf pair under every entry
 sized-level : {K C : Type 0} (S : K × C → Type 0) (under : K × C → List (K × ℕ)) → ((x : K × C) → S x → NonEmpty (under x)) →
     (xs : List (K × C)) → 0 < length xs → All S xs → NonEmpty (concatMap under xs)
 sized-level S under ok [] i s = absurd (omega arith)
 sized-level S under ok (x ∷ xs) i s = nonEmpty-left (under x) (concatMap under xs) (ok x (s .0))
 
-pub sized-nonEmpty : {K : Type 0} (cap h : ℕ) (x : Entry K h) → SizedUnder cap h x → NonEmpty (pairsUnder h x)
+sized-nonEmpty : {K : Type 0} (cap h : ℕ) (x : Entry K h) → SizedUnder cap h x → NonEmpty (pairsUnder h x)
 sized-nonEmpty cap zero x s = tt
 sized-nonEmpty cap (suc h) x s = sized-level (SizedUnder cap h) (pairsUnder h) (sized-nonEmpty cap h) (x .1 .1) (s .0) (s .2)
 
--- and only a lone root leaf is without entries
+-- only a lone root leaf has no entries
 pub sized-rooted : {K : Type 0} (cap h : ℕ) (t : Tree K h) → Sized cap h t → Rooted h t
 sized-rooted cap zero t s = tt
 sized-rooted cap (suc h) t s = nonEmpty-length (t .1) (s .0)
@@ -50,19 +50,38 @@ greatest-exact cap (suc h) x s g =
       all-map2 (SizedUnder cap h) (GreatestUnder h) (ExactUnder h) (greatest-exact cap h) (x .1 .1) (s .2) (g .1),
     )
 
+-- and back: an exact key above is the greatest leaf key under it
+exact-ends : {K : Type 0} (cap h : ℕ) (x : Entry K h) → SizedUnder cap h x → ExactUnder h x → Ends (pairsUnder h) x
+exact-ends cap zero x s d a = refl
+exact-ends cap (suc h) x s d a =
+    lastKey-concatMap (pairsUnder h) a (x .1 .1)
+    (all-map2 (SizedUnder cap h) (ExactUnder h) (Ends (pairsUnder h)) (exact-ends cap h) (x .1 .1) (s .2) (d .1))
+    ∙ (lastKey-default a (x .0) (x .1 .1) (nonEmpty-length (x .1 .1) (s .0)) ∙ d .0)
+
+exact-greatestUnder : {K : Type 0} (cap h : ℕ) (x : Entry K h) → SizedUnder cap h x → ExactUnder h x → GreatestUnder h x
+exact-greatestUnder cap zero x s d = tt
+exact-greatestUnder cap (suc h) x s d = (
+  exact-ends cap (suc h) x s d (x .0),
+  all-map2 (SizedUnder cap h) (ExactUnder h) (GreatestUnder h) (exact-greatestUnder cap h) (x .1 .1) (s .2) (d .1),
+)
+
+-- Theorem: in a tree whose pages have entries, a key above that is the page's own last key is the greatest under it
+pub exact-greatest : {K : Type 0} (cap h : ℕ) (t : Tree K h) → Sized cap h t → Exact h t → Greatest h t
+exact-greatest cap h t s d =
+    all-map2 (SizedUnder cap h) (ExactUnder h) (GreatestUnder h) (exact-greatestUnder cap h) (t .1) (s .2) d
+
 module _ {K : Type 0} (O : Order K) where
-  -- K1's words: the key above a child is at or above every leaf key under it, and
-  -- below the first leaf key under the next child of the same page
-  abbrev pub Bounded : {C : Type 0} → (K × C → List (K × ℕ)) → List (K × C) → Type 0
+  -- K1's words: the key above a child is at or above every leaf key under it, and below the first leaf key under the next child of the same page
+  abbrev Bounded : {C : Type 0} → (K × C → List (K × ℕ)) → List (K × C) → Type 0
   Bounded under [] = Unit {0}
   Bounded under (x ∷ []) = Below O (x .0) (under x)
   Bounded under (x ∷ y ∷ ys) = Below O (x .0) (under x) × Lt O (x .0) (firstKey (x .0) (under y)) × Bounded under (y ∷ ys)
 
-  abbrev pub CeilingUnder : (h : ℕ) → Entry K h → Type 0
+  abbrev CeilingUnder : (h : ℕ) → Entry K h → Type 0
   CeilingUnder zero x = Unit {0}
   CeilingUnder (suc h) x = Bounded (pairsUnder h) (x .1 .1) × All (CeilingUnder h) (x .1 .1)
 
-  abbrev pub Ceiling : (h : ℕ) → Tree K h → Type 0
+  abbrev Ceiling : (h : ℕ) → Tree K h → Type 0
   Ceiling h t = Bounded (pairsUnder h) (t .1) × All (CeilingUnder h) (t .1)
 
   -- one level: bounded entries of ascending leaf pairs are separated
@@ -95,8 +114,8 @@ module _ {K : Type 0} (O : Order K) where
         (x .1 .1) (s .2) (q .1) (q .0) a,
   )
 
-  -- Theorem: K1's words say `Ordered`
-  pub ceiling-ordered : (cap h : ℕ) (t : Tree K h) → Sized cap h t → Ascending O (pairs h t) → Ceiling h t → Ordered O h t
+  -- K1's words say `Ordered`
+  ceiling-ordered : (cap h : ℕ) (t : Tree K h) → Sized cap h t → Ascending O (pairs h t) → Ceiling h t → Ordered O h t
   ceiling-ordered cap h t s a c =
       bounded-separated (OrderedUnder O h) (SizedUnder cap h) (CeilingUnder h) (pairsUnder h) (sized-nonEmpty cap h)
       (ceiling-orderedUnder cap h)
@@ -158,29 +177,4 @@ module _ {K : Type 0} (O : Order K) where
           (greatest-parts h (t .1) g a),
     ),
     all-map2 (SizedUnder cap h) (GreatestUnder h) (ExactUnder h) (greatest-exact cap h) (t .1) (s .2) g,
-  )
-
-  -- and back: an exact key above is the greatest leaf key under it
-  exact-ends : (h : ℕ) (x : Entry K h) → OrderedUnder O h x → ExactUnder h x → Ends (pairsUnder h) x
-  exact-ends zero x g d b = refl
-  exact-ends (suc h) x g d b =
-      let ordered : All (OrderedUnder O h) (x .1 .1) = separated-all O (OrderedUnder O h) (pairsUnder h) (x .1 .1) (g .1) in
-      lastKey-concatMap (pairsUnder h) b (x .1 .1)
-      (all-map2 (OrderedUnder O h) (ExactUnder h) (Ends (pairsUnder h)) (exact-ends h) (x .1 .1) ordered (d .1))
-      ∙ (lastKey-default b (x .0) (x .1 .1) (g .0) ∙ d .0)
-
-  exact-greatest : (h : ℕ) (x : Entry K h) → OrderedUnder O h x → ExactUnder h x → GreatestUnder h x
-  exact-greatest zero x g d = tt
-  exact-greatest (suc h) x g d = (
-    exact-ends (suc h) x g d (x .0),
-    all-map2 (OrderedUnder O h) (ExactUnder h) (GreatestUnder h) (exact-greatest h) (x .1 .1)
-        (separated-all O (OrderedUnder O h) (pairsUnder h) (x .1 .1) (g .1)) (d .1),
-  )
-
-  -- Theorem: an ordered and exact tree is as document 01 says
-  pub ordered-greatest : (h : ℕ) (t : Tree K h) → Ordered O h t → Exact h t → Ascending O (pairs h t) × Greatest h t
-  ordered-greatest h t o d = (
-    ordered-ascending O h t o,
-    all-map2 (OrderedUnder O h) (ExactUnder h) (GreatestUnder h) (exact-greatest h) (t .1)
-        (separated-all O (OrderedUnder O h) (pairsUnder h) (t .1) o) d,
   )

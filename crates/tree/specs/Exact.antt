@@ -1,6 +1,5 @@
--- Laws: exact trees, in which the key above a page is the page's own last key, and that an insertion keeps
--- them so. Cited by the laws of sound indexes. Where keys above are ceilings alone (change request K1),
--- nothing but this file and its one field of a sound index goes. Assumes nothing.
+-- Laws: exact trees, in which the key above a page is the page's own last key; an insertion keeps a tree exact. Cited by the laws of sound indexes. If keys
+-- above are ceilings alone (change request K1), only this file and the field `exact` of a sound index go. Assumes nothing.
 use mathlib.Core.Path.{_≡_, sym, ap, _∙_}
 use mathlib.Core.List.{List, [], _∷_, _++_}
 use Prim.Native.Nat.{ℕ, zero, suc, _<_}
@@ -9,14 +8,14 @@ use lib.Dec.{leb}
 use borrow.Author.Tests.{leb-false}
 use Rattle.basis.specs.Lists.{All, all-append, all-left, all-right}
 use Rattle.basis.specs.Tests.{either}
-use Rattle.tree.specs.Lists.{NonEmpty, concatMap}
+use Rattle.tree.specs.Lists.{NonEmpty, concatMap, half}
 use Rattle.tree.specs.ListLaws.{all-unit, concatMap-nonEmpty}
 use Rattle.tree.specs.Order.{Order, Lt, larger}
 use Rattle.tree.specs.OrderLaws.{lt-le, le-lt-trans, larger-same}
 use Rattle.tree.specs.Pairs.{lastKey, insertPair}
 use Rattle.tree.specs.PairLaws.{lastKey-default, lastKey-append, insertPair-nonEmpty, between}
 use Rattle.tree.specs.Tree.{Page, Child, Entry, Tree, pairsUnder, pairs}
-use Rattle.tree.specs.Insertion.{Replacement, half, splitIfOver, place, reroot, insertUnder, insertEntries, insert}
+use Rattle.tree.specs.Insertion.{Replacement, splitIfOver, place, reroot, insertUnder, insertEntries, insert}
 use Rattle.tree.specs.Ordered.{Rooted, Separated, OrderedUnder, Ordered}
 use Rattle.tree.specs.SplitLaws.{splitIfOver-nonEmpty, lower-nonEmpty, upper-nonEmpty}
 use Rattle.tree.specs.InsertPairs.{insertEntries-pairs, root-pairs}
@@ -30,7 +29,7 @@ ExactUnder (suc h) x = (lastKey (x .0) (x .1 .1) ≡ x .0) × All (ExactUnder h)
 abbrev pub Exact : {K : Type 0} (h : ℕ) → Tree K h → Type 0
 Exact h t = All (ExactUnder h) (t .1)
 
--- a split, where E holds of the entries
+-- a split of a page of whose entries E holds
 module _ {K C : Type 0} (E : K × C → Type 0) where
   abbrev ExactPage : K × Page K C → Type 0
   ExactPage x = (lastKey (x .0) (x .1 .1) ≡ x .0) × All E (x .1 .1)

@@ -1,9 +1,9 @@
--- Rules: an index as a tree with its file size, the rule for refusal 30, and the
--- calls on it. The index in a buffer is read as such an index.
+-- Steps: an index as a tree with its file size, the rule for refusal 30, and the calls on it. The laws of bytes read the index in a buffer as such an index.
 use mathlib.Core.Bool.{Bool, false, cond, _||_}
 use mathlib.Core.List.{List, []}
 use Prim.Native.Nat.{ℕ, _+_, _*_}
 use lib.Dec.{ltb}
+use Rattle.tree.specs.Constants.{pageSize, noPage}
 use Rattle.tree.specs.Order.{Order}
 use Rattle.tree.specs.Pairs.{find}
 use Rattle.tree.specs.Tree.{Tree, pairs, lookup}
@@ -12,13 +12,6 @@ use Rattle.tree.specs.Insertion.{Grown, insert}
 use Rattle.tree.specs.Room.{needs, levelsAfter}
 use Rattle.tree.specs.Relinking.{relinked}
 use Rattle.tree.specs.Book.{Call, insertion, lookupOf, Answer, verdict, finding, isAccepted}
-
--- "pages of 512 bytes"; a link is "0xFFFFFFFF for none"
-abbrev pub pageSize : ℕ
-pageSize = 512
-
-abbrev pub noPage : ℕ
-noPage = 0xFFFFFFFF
 
 -- the new page taken after j others: "a new page at F, which grows by 512"
 abbrev pub newOffset : ℕ → ℕ → ℕ
@@ -30,7 +23,7 @@ pub record Index (K : Type 0) : Type 0 where
   pub tree : Tree K height
   pub size : ℕ
 
--- its leaf pairs
+-- the leaf pairs of an index
 abbrev pub held : {K : Type 0} → Index K → List (K × ℕ)
 held i = pairs (i .height) (i .tree)
 
@@ -42,8 +35,8 @@ fresh = record { height = 0; tree = (pageSize, []); size = 2 * pageSize }
 abbrev pub grown : {K : Type 0} → ℕ → Grown K → Index K
 grown size g = record { height = g .0; tree = g .1; size = newOffset size (g .2) }
 
--- what an index is kept by: the order of its keys, which keys have its key length, the capacity of a page, and the numbers that F and the
--- levels must not pass: the buffer's length or 1,048,576, whichever is less, and 11
+-- what an index is kept by: the order of its keys, the test that a key has its key length, the capacity of a page, and the most that F and the
+-- levels may be: the buffer's length or 1,048,576, whichever is less, and 11
 pub record Setting (K : Type 0) : Type 0 where
   pub order : Order K
   pub fits : K → Bool

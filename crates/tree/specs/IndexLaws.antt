@@ -1,5 +1,5 @@
--- Laws: a fresh index is sound, every call keeps a sound index sound and linked, and answers and changes it as the
--- book does. Cited by the claim about lists of calls and by the laws of bytes. Assumes nothing.
+-- Laws: a fresh index is sound; every call keeps a sound index sound and linked, and answers and changes it as the book does. Cited by the theorem about
+-- lists of calls and by the laws of bytes. Assumes nothing.
 use mathlib.Core.Path.{_≡_, refl, sym}
 use mathlib.Core.Bool.{Bool, true, false, not, _||_}
 use mathlib.Core.Option.{Option, none, some}
@@ -8,6 +8,7 @@ use native.Mathlib.Omega.{arith}
 use lib.Dec.{ltb, eqb}
 use borrow.Author.Tests.{ltb-true, ltb-false, eqb-true, eqb-false, eq-eqb, ne-eqb}
 use Rattle.basis.specs.Tests.{either, contra}
+use Rattle.tree.specs.Constants.{pageSize, noPage}
 use Rattle.tree.specs.Lists.{occ}
 use Rattle.tree.specs.Pairs.{find}
 use Rattle.tree.specs.PairLaws.{find-get, insertPair-all}
@@ -26,12 +27,11 @@ use Rattle.tree.specs.InsertNeeds.{insert-needs}
 use Rattle.tree.specs.InsertLinks.{insert-all-linked}
 use Rattle.tree.specs.Book.{Call, insertion, lookupOf, Answer, accepted, refusedIf, isPresent, verdict, isNoRoom, isAccepted}
 use Rattle.tree.specs.Book.{bookAnswer, bookAfter}
-use Rattle.tree.specs.Index.{pageSize, noPage, newOffset, Index, held, fresh, grown, Setting, outOfRoom, noRoomFor, answer, inserted, next}
-use Rattle.tree.specs.Index.{nextLinks}
+use Rattle.tree.specs.Index.{newOffset, Index, held, fresh, grown, Setting, outOfRoom, noRoomFor, answer, inserted, next, nextLinks}
 use Rattle.tree.specs.SoundIndex.{PagesOnce, SoundIndex, LinkedIndex}
 
--- the verdict on an insertion: told whether it was 30 it says the same, and it is yes only where no refusal's test holds
-pub verdict-room : (fits : Bool) (r : ℕ) (held : Option ℕ) (full : Bool) →
+-- the verdict on an insertion does not change if it is told whether it was 30
+verdict-room : (fits : Bool) (r : ℕ) (held : Option ℕ) (full : Bool) →
     verdict fits r held (isNoRoom (verdict fits r held full)) ≡ verdict fits r held full
 verdict-room fits r held full = go (not fits) (eqb r 0) (isPresent held) full
   where
@@ -45,6 +45,7 @@ verdict-room fits r held full = go (not fits) (eqb r 0) (isPresent held) full
     go false false false true = refl
     go false false false false = refl
 
+-- the verdict is yes only if no refusal's test holds
 pub record Acceptable (fits : Bool) (r : ℕ) (held : Option ℕ) (full : Bool) : Type 0 where
   pub fitting : fits ≡ true
   pub positive : 0 < r
@@ -65,20 +66,20 @@ accepted-acceptable true r held full e = either (eqb r 0)
     go none false p q = record { fitting = refl; positive = p; new = refl; room = refl }
 
 -- the offsets of new pages are the multiples of 512 from F up to the new F
-pub newPages-below : (size n z : ℕ) → z < size → occ z (newPages (newOffset size) n) ≡ 0
+newPages-below : (size n z : ℕ) → z < size → occ z (newPages (newOffset size) n) ≡ 0
 newPages-below size zero z l = refl
 newPages-below size (suc n) z l = rw (ne-eqb z (newOffset size n) (omega arith)) (omega (arith, newPages-below size n z l))
 
-pub newPages-beyond : (size n z : ℕ) → newOffset size n ≤ z → occ z (newPages (newOffset size) n) ≡ 0
+newPages-beyond : (size n z : ℕ) → newOffset size n ≤ z → occ z (newPages (newOffset size) n) ≡ 0
 newPages-beyond size zero z l = refl
 newPages-beyond size (suc n) z l = rw (ne-eqb z (newOffset size n) (omega arith)) (omega (arith, newPages-beyond size n z (omega arith)))
 
-pub newPages-unaligned : (size n z : ℕ) → size % pageSize ≡ 0 → (z % pageSize ≡ 0 → ⊥) → occ z (newPages (newOffset size) n) ≡ 0
+newPages-unaligned : (size n z : ℕ) → size % pageSize ≡ 0 → (z % pageSize ≡ 0 → ⊥) → occ z (newPages (newOffset size) n) ≡ 0
 newPages-unaligned size zero z a o = refl
 newPages-unaligned size (suc n) z a o =
     rw (ne-eqb z (newOffset size n) (λ e. o (omega arith))) (omega (arith, newPages-unaligned size n z a o))
 
-pub newPages-once : (size n z : ℕ) → size % pageSize ≡ 0 → z % pageSize ≡ 0 → size ≤ z → z < newOffset size n →
+newPages-once : (size n z : ℕ) → size % pageSize ≡ 0 → z % pageSize ≡ 0 → size ≤ z → z < newOffset size n →
     occ z (newPages (newOffset size) n) ≡ 1
 newPages-once size zero z a d l m = absurd (omega arith)
 newPages-once size (suc n) z a d l m = either (eqb z (newOffset size n))
@@ -99,7 +100,7 @@ module _ {K : Type 0} (i : Index K) (p : PagesOnce i) where
   pub newPage-unused : Unused (newOffset (i .size)) (pages (i .height) (i .tree))
   newPage-unused j = p .beyond (newOffset (i .size) j) (omega arith)
 
-  -- after an insertion each is again
+  -- after an insertion each page is reached at most once again
   grown-pages : (g : Grown K) →
       ((z : ℕ) → occ z (grownPages g) ≡ occ z (pages (i .height) (i .tree)) + occ z (newPages (newOffset (i .size)) (g .2))) →
       PagesOnce (grown (i .size) g)
@@ -175,7 +176,7 @@ module _ {K : Type 0} (s : Setting K) (two : 1 < s .capacity) where
       rw e (inserted-sound i k r (a .positive) (a .new) (a .room) d))
       (λ e. rw e d)
 
-  -- Theorem: and its levels linked
+  -- Theorem: a call keeps the levels linked
   pub next-linked : (c : Call K) (i : Index K) (l : Links) → SoundIndex s i → LinkedIndex l i → LinkedIndex (nextLinks s c i l) (next s c i)
   next-linked (lookupOf k) i l d c = c
   next-linked (insertion k r) i l d c = either (isAccepted (answer s (insertion k r) i))
@@ -187,7 +188,7 @@ module _ {K : Type 0} (s : Setting K) (two : 1 < s .capacity) where
       (pages-distinct (inserted s k r i) (g .pagesOnce)) c))
       (λ e. rw e c)
 
-  -- Theorem: a call is answered as the book answers it, told whether that is 30; and by the rule for 30
+  -- Theorem: a call is answered as the book answers it, if the book is told whether the answer is 30, or what the rule for 30 says
   pub answer-book : (c : Call K) (i : Index K) → SoundIndex s i →
       bookAnswer (s .order) (s .fits) c (isNoRoom (answer s c i)) (held i) ≡ answer s c i
   answer-book (lookupOf k) i d =
@@ -212,5 +213,6 @@ module _ {K : Type 0} (s : Setting K) (two : 1 < s .capacity) where
   next-book (insertion k r) i d =
       rw (answer-book (insertion k r) i d)
       (either (isAccepted (answer s (insertion k r) i))
-      (λ e. rw e (sym (insert-pairs (s .order) (s .capacity) (newOffset (i .size)) k r (i .height) (i .tree) (sized-rooted (s .capacity) (i .height) (i .tree) (d .sized)) (d .ordered))))
+      (λ e. let rooted : Rooted (i .height) (i .tree) = sized-rooted (s .capacity) (i .height) (i .tree) (d .sized) in
+      rw e (sym (insert-pairs (s .order) (s .capacity) (newOffset (i .size)) k r (i .height) (i .tree) rooted (d .ordered))))
       (λ e. rw e))

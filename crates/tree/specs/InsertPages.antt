@@ -1,5 +1,5 @@
--- Laws: the pages after an insertion are the old ones and the new ones, each as often as
--- before. Cited by the laws of sound indexes and of stores. Assumes nothing.
+-- Laws: the pages after an insertion are the old ones, each as often as before, and the new ones. Cited by the laws of sound indexes and of stores. Assumes
+-- nothing.
 use mathlib.Core.Path.{_≡_, refl, sym, ap, _∙_}
 use mathlib.Core.List.{List, [], _∷_, append-nil}
 use Prim.Native.Nat.{ℕ, zero, suc, _+_, _≤_, _<_}
@@ -8,12 +8,12 @@ use lib.ListN.{length, take, drop, take-append-drop}
 use lib.Dec.{leb, eqb}
 use borrow.Author.Tests.{ne-eqb}
 use Rattle.basis.specs.Tests.{either}
-use Rattle.tree.specs.Lists.{NonEmpty, concatMap, countIf, occ}
+use Rattle.tree.specs.Lists.{NonEmpty, concatMap, countIf, occ, half}
 use Rattle.tree.specs.ListLaws.{concatMap-append, occ-append, occ-differ}
 use Rattle.tree.specs.Order.{Order, larger}
 use Rattle.tree.specs.Pairs.{lastKey}
 use Rattle.tree.specs.Tree.{Page, Child, Entry, Tree, pagesUnder, pages}
-use Rattle.tree.specs.Insertion.{Replacement, half, splitIfOver, firstPair, place, grownPages, reroot, insertUnder, insertEntries}
+use Rattle.tree.specs.Insertion.{Replacement, splitIfOver, firstPair, place, grownPages, reroot, insertUnder, insertEntries}
 use Rattle.tree.specs.Insertion.{insert}
 use Rattle.tree.specs.SplitLaws.{splitIfOver-nonEmpty}
 

@@ -11,7 +11,8 @@ use Rattle.tree.specs.Order.{Order, larger}
 use Rattle.tree.specs.Pairs.{lastKey}
 use Rattle.tree.specs.Tree.{Page, Child, Entry, Tree}
 use Rattle.tree.specs.Clauses.{least, SizedUnder, Sized}
-use Rattle.tree.specs.Insertion.{Replacement, half, splitIfOver, place, reroot, insertUnder, insertEntries, insert}
+use Rattle.tree.specs.Lists.{half}
+use Rattle.tree.specs.Insertion.{Replacement, splitIfOver, place, reroot, insertUnder, insertEntries, insert}
 
 -- a list of 1 to n members, each of which has S
 abbrev OneTo : {A : Type 0} → (A → Type 0) → ℕ → List A → Type 0

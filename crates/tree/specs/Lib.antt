@@ -1,24 +1,31 @@
--- The theory of the index, in the order in which its parts rest on one another. Rules are what a reader must believe; laws are proved.
+-- The theory of the index, in the order in which its parts rest on one another. Rules are what a reader must believe: `Sound`, the rules of lookup, insertion
+-- and match, or the claim about lists of calls cite them. Steps are definitions that only laws cite: a reader need not believe them. Laws are proved.
 
--- Rules: joined lists, lists that are not empty, occurrences
+-- Rules: the size of a page and the link to no page
+pub mod Constants
+-- Rules: joined lists, lists that are not empty, occurrences, half of a count
 pub mod Lists
--- Laws: of these
+-- Laws: lists that are not empty, joined lists, occurrences
 pub mod ListLaws
 -- Rules: a total order as one test with three laws
 pub mod Order
--- Laws: of an order
+-- Laws: a total order
 pub mod OrderLaws
--- Rules: lists of pairs: lookup, insertion, ascending keys
+-- Rules: lists of pairs: lookup, insertion, the chosen entry, ascending keys
 pub mod Pairs
--- Laws: of lists of pairs
+-- Laws: lists of pairs
 pub mod PairLaws
 -- Rules: trees of pages by height; their leaf pairs, pages and levels; lookup and the pages it visits
 pub mod Tree
 -- Rules: document 01's clauses of a sound index on trees: counts, greatest keys, links
 pub mod Clauses
--- Rules: insertion into a tree
+-- Rules: stores of pages, read as trees
+pub mod Store
+-- Rules: the book of demand 3, and the claim about a whole list of calls
+pub mod Book
+-- Steps: insertion into a tree
 pub mod Insertion
--- Rules: the new pages and levels that an insertion means
+-- Steps: the new pages and levels that an insertion means
 pub mod Room
 -- Laws: ordered trees; lookup in one is lookup in the ascending list of its pairs
 pub mod Ordered
@@ -36,19 +43,17 @@ pub mod ClauseLaws
 pub mod InsertSized
 -- Laws: the pages after an insertion are the old ones and the new ones
 pub mod InsertPages
--- Laws: as many new pages and levels as the rule for refusal 30 says
+-- Laws: an insertion takes as many new pages and levels as the rule for refusal 30 says
 pub mod InsertNeeds
--- Rules: stores of pages, read as trees
-pub mod Store
--- Rules: lookup, the run of full pages, and insertion on a store, page by page
+-- Steps: lookup, the run of full pages, and insertion on a store, page by page
 pub mod StoreSteps
--- Laws: what a store reads as depends on the pages reached alone
+-- Laws: the tree that a store is read as depends on the pages reached alone
 pub mod StoreLaws
 -- Laws: lookup, visited pages and the run on a store are those on its tree
 pub mod StoreLookupLaws
 -- Laws: insertion into a store is insertion into its tree
 pub mod StoreInsertLaws
--- Rules: links after an insertion
+-- Steps: links after an insertion
 pub mod Relinking
 -- Laws: the pages of each level after an insertion
 pub mod InsertLevels
@@ -56,15 +61,13 @@ pub mod InsertLevels
 pub mod LinkLaws
 -- Laws: all levels are linked again after an insertion
 pub mod InsertLinks
--- Rules: the book of demand 3, and the claim about a whole list of calls
-pub mod Book
--- Rules: an index as a tree with a file size, the rule for refusal 30, the calls
+-- Steps: an index as a tree with a file size, the rule for refusal 30, the calls
 pub mod Index
--- Laws: what every call keeps of an index
+-- Steps: what every call keeps of an index
 pub mod SoundIndex
--- Laws: a call keeps it, and does as the book does
+-- Laws: a call keeps an index sound and linked, and answers as the book does
 pub mod IndexLaws
--- Laws: demand 3 for any state that reads as an index
+-- Laws: demand 3 for any state that is read as an index
 pub mod BookTheorem
 -- Laws: keys with one above all, for trees whose last children have no key
 pub mod Top

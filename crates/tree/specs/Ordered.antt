@@ -1,12 +1,10 @@
--- Laws: ordered trees, in which each key above is a ceiling; lookup in one gives what the ascending list of its
--- pairs has. Cited by every law of insertion. The order is the invariant that lookup and insertion rest on; that
--- a key above is the greatest under it is apart from it, in Exact. Assumes nothing.
+-- Laws: ordered trees, in which each key above is a ceiling; lookup in an ordered tree gives what the ascending list of its pairs has. Cited by every law of
+-- insertion. Lookup and insertion rest on the order alone; that a key above is the greatest under it is in Exact. Assumes nothing.
 use mathlib.Core.Path.{_≡_, refl, sym, ap, _∙_, subst}
 use mathlib.Core.List.{List, [], _∷_}
 use mathlib.Core.Option.{Option, none, some, IsSome}
 use Prim.Native.Nat.{ℕ, zero, suc}
 use lib.ListN.{length}
-use Rattle.basis.specs.Lists.{All}
 use Rattle.basis.specs.Tests.{either}
 use Rattle.tree.specs.Lists.{NonEmpty, concatMap}
 use Rattle.tree.specs.Order.{Order, Le}
@@ -14,8 +12,8 @@ use Rattle.tree.specs.Pairs.{follow, seek, find, Below, Above, Ascending
 use Rattle.tree.specs.PairLaws.{find-here, find-past, ascending-append}
 use Rattle.tree.specs.Tree.{Entry, Tree, pairsUnder, pairs, onward, lookupUnder, lookup, visitedUnder, visited}
 
--- an entry x before the entries xs of its page, with the leaf pairs that `under` gives for each: G holds of it, it
--- has a leaf pair, its key is at or above its own leaf keys and below those of the entries after it
+-- an entry x before the entries xs of its page, with the leaf pairs that `under` gives for each: G holds of x, x has a leaf pair, and its key is at or above
+-- its own leaf keys and below the leaf keys of xs
 pub record Separator {K C : Type 0} (O : Order K) (G : K × C → Type 0) (under : K × C → List (K × ℕ)) (x : K × C)
     (xs : List (K × C)) : Type 0 where
   pub good : G x
@@ -41,10 +39,6 @@ module _ {K : Type 0} (O : Order K) where
 
   abbrev pub Ordered : (h : ℕ) → Tree K h → Type 0
   Ordered h t = Separated (OrderedUnder h) (pairsUnder h) (t .1)
-
-  pub separated-all : {C : Type 0} (G : K × C → Type 0) (under : K × C → List (K × ℕ)) (xs : List (K × C)) → Separated G under xs → All G xs
-  separated-all G under [] c = tt
-  separated-all G under (x ∷ xs) c = (c .0 .good, separated-all G under xs (c .1))
 
   -- one level of lookup, abstract in what lies below
   lookup-level : {C : Type 0} (G : K × C → Type 0) (under : K × C → List (K × ℕ)) (f : K × C → Option ℕ) (k : K) →

@@ -1,5 +1,4 @@
--- Laws: lookup and insertion in ascending lists of pairs, and their first and
--- last keys. Cited by the laws of ordered trees. Assumes nothing.
+-- Laws: lookup and insertion in ascending lists of pairs, and their first and last keys. Cited by the laws of ordered trees. Assumes nothing.
 use mathlib.Core.Path.{_≡_, refl, sym, ap, _∙_, subst}
 use mathlib.Core.List.{List, [], _∷_, _++_}
 use mathlib.Core.Option.{Option, none, some}
@@ -36,7 +35,7 @@ firstKey-append a [] ys s = absurd s
 firstKey-append a (x ∷ xs) ys s = refl
 
 module _ {K : Type 0} (O : Order K) where
-  -- a list that is all below the key is passed over; one that is all above what is at or above the key is not reached
+  -- lookup passes over a list that is all below the key, and does not reach a list that is all above a key at or above the key
   seek-past : {C : Type 0} (k a : K) (xs ys : List (K × C)) → Lt O a k → Below O a xs → seek O k (xs ++ ys) ≡ seek O k ys
   seek-past k a [] ys h b = refl
   seek-past k a (x ∷ xs) ys h b =
@@ -71,7 +70,7 @@ module _ {K : Type 0} (O : Order K) where
       (λ e. either (O .le (x .0) k) (λ f. rw (e, f)) (λ f. rw (e, f) (sym (get-above k (x .0) xs e (a .0)))))
       (λ e. rw e (find-get k xs (a .1)))
 
-  -- insertion of a pair, in the same way
+  -- insertion of a pair passes over and leaves alone the same lists
   pub insertPair-past : {C : Type 0} (k : K) (r : C) (a : K) (xs ys : List (K × C)) → Lt O a k → Below O a xs →
       insertPair O k r (xs ++ ys) ≡ xs ++ insertPair O k r ys
   insertPair-past k r a [] ys h b = refl

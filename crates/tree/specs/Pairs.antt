@@ -1,17 +1,16 @@
--- Rules: lists of pairs, a key and what stands under it, by an order of keys.
--- Cited by the rules of trees, of sound indexes and of the book.
+-- Rules: lists of pairs, a key and what stands under it, by an order of keys. Cited by the rules of trees, of sound indexes, of insertion and of the book.
 use mathlib.Core.Bool.{cond, _&&_}
 use mathlib.Core.List.{List, [], _∷_}
 use mathlib.Core.Option.{Option, none, some}
 use Rattle.basis.specs.Lists.{All}
 use Rattle.tree.specs.Order.{Order, Le, Lt}
 
--- goes on with what was found, if anything was
+-- f of what was found, if anything was
 abbrev pub follow : {X Y : Type 0} → (X → Option Y) → Option X → Option Y
 follow f none = none
 follow f (some x) = f x
 
--- the key of the first pair, and of the last; the given key where there is none
+-- the key of the first pair, and of the last; `a` if there is no pair
 abbrev pub firstKey : {K C : Type 0} → K → List (K × C) → K
 firstKey a [] = a
 firstKey a (x ∷ xs) = x .0
@@ -26,7 +25,7 @@ module _ {K : Type 0} (O : Order K) where
   seek k [] = none
   seek k (x ∷ xs) = cond (O .le k (x .0)) (some x) (seek k xs)
 
-  -- what stands in a pair at or above the key, if its key is "an equal one"
+  -- what stands in a pair at or above the key, if the pair's key is "an equal one"
   abbrev pub ifEqual : {C : Type 0} → K → K × C → Option C
   ifEqual k x = cond (O .le (x .0) k) (some (x .1)) none
 
@@ -43,6 +42,11 @@ module _ {K : Type 0} (O : Order K) where
   abbrev pub insertPair : {C : Type 0} → K → C → List (K × C) → List (K × C)
   insertPair k r [] = (k, r) ∷ []
   insertPair k r (x ∷ xs) = cond (O .le k (x .0)) ((k, r) ∷ x ∷ xs) (x ∷ insertPair k r xs)
+
+  -- the entry that an insertion goes to: the first at or above the key, "the last if its key is above all"
+  abbrev pub choose : {C : Type 0} → K → K × C → List (K × C) → K × C
+  choose k x [] = x
+  choose k x (y ∷ ys) = cond (O .le k (x .0)) x (choose k y ys)
 
   -- all keys are at or below a key; all are above it
   abbrev pub Below : {C : Type 0} → K → List (K × C) → Type 0

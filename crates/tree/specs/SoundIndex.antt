@@ -1,5 +1,4 @@
--- Laws: what every call keeps of an index: the theory's form of a sound index,
--- to which the laws of bytes take document 01's. Assumes nothing.
+-- Steps: what every call keeps of an index. This is the theory's form of a sound index; the laws of bytes lead from document 01's form to it.
 use mathlib.Core.Path.{_≡_}
 use Prim.Native.Nat.{ℕ, suc, _%_, _≤_, _<_}
 use Rattle.basis.specs.Lists.{All}
@@ -8,7 +7,8 @@ use Rattle.tree.specs.Tree.{pages}
 use Rattle.tree.specs.Clauses.{Sized, Links, AllLinked}
 use Rattle.tree.specs.Ordered.{Ordered}
 use Rattle.tree.specs.Exact.{Exact}
-use Rattle.tree.specs.Index.{pageSize, noPage, Index, held, Setting}
+use Rattle.tree.specs.Constants.{pageSize, noPage}
+use Rattle.tree.specs.Index.{Index, held, Setting}
 
 -- "every page but the first is reached from the root exactly once": the pages of the file are the multiples of 512 below F
 pub record PagesOnce {K : Type 0} (i : Index K) : Type 0 where
@@ -19,7 +19,7 @@ pub record PagesOnce {K : Type 0} (i : Index K) : Type 0 where
   pub unaligned : (z : ℕ) → (z % pageSize ≡ 0 → ⊥) → occ z (pages (i .height) (i .tree)) ≡ 0
   pub beyond : (z : ℕ) → i .size ≤ z → occ z (pages (i .height) (i .tree)) ≡ 0
 
--- what the calls keep; `exact` is all that a release with ceilings drops
+-- what every call keeps; with keys above as ceilings (change request K1) only `exact` would go
 pub record SoundIndex {K : Type 0} (s : Setting K) (i : Index K) : Type 0 where
   pub ordered : Ordered (s .order) (i .height) (i .tree)
   pub exact : Exact (i .height) (i .tree)

@@ -1,5 +1,4 @@
--- Laws: a store after an insertion, page by page, reads as the insertion into the tree
--- that it read as before. Cited by the laws of bytes. Assumes nothing.
+-- Laws: a store after an insertion, page by page, is read as the tree after the insertion. Cited by the laws of bytes. Assumes nothing.
 use mathlib.Core.Path.{_≡_, refl, sym, ap, ap₂, _∙_, subst}
 use mathlib.Core.List.{List, [], _∷_, _++_, map, map-append}
 use Prim.Native.Nat.{ℕ, zero, suc, _+_, _≤_, _<_}
@@ -7,14 +6,13 @@ use native.Mathlib.Omega.{arith}
 use lib.ListN.{length, take, drop, length-map, take-append-drop}
 use lib.Dec.{leb}
 use Rattle.basis.specs.Tests.{either}
-use Rattle.tree.specs.Lists.{NonEmpty, concatMap, occ}
+use Rattle.tree.specs.Lists.{NonEmpty, concatMap, occ, half}
 use Rattle.tree.specs.ListLaws.{concatMap-append, take-map, drop-map, occ-append, occ-head, occ-here, occ-differ, occ-not-head}
 use Rattle.tree.specs.Order.{Order, larger}
-use Rattle.tree.specs.Pairs.{lastKey, insertPair}
+use Rattle.tree.specs.Pairs.{lastKey, insertPair, choose}
 use Rattle.tree.specs.Tree.{Child, Entry, Tree, pagesUnder, pages}
-use Rattle.tree.specs.Insertion.{Replacement, half, splitIfOver, firstPair, place, reroot, insertUnder, insertEntries, insertAtRoot}
+use Rattle.tree.specs.Insertion.{Replacement, splitIfOver, firstPair, place, reroot, insertUnder, insertEntries, insertAtRoot}
 use Rattle.tree.specs.Insertion.{insert}
-use Rattle.tree.specs.Room.{choose}
 use Rattle.tree.specs.InsertPages.{newPages, Distinct, Unused, Injective, newPages-apart, newPages-fresh, splitIfOver-pages}
 use Rattle.tree.specs.InsertPages.{insertEntries-pages}
 use Rattle.tree.specs.InsertNeeds.{place-choose}
@@ -34,7 +32,7 @@ pagesOf-append S h z xs ys =
     ∙ (ap (occ z) (concatMap-append (pagesUnder h) (map (readEntry S h) xs) (map (readEntry S h) ys))
     ∙ occ-append z (pagesOf S h xs) (pagesOf S h ys))
 
--- a page that was written, where the pages under its entries were not
+-- a page that was written, if the pages under its entries were not
 page-read : {K : Type 0} (S S′ : Store K) (h p : ℕ) (es : List (K × ℕ)) → S′ p ≡ es → AgreeOn S S′ (pagesOf S h es) →
     readChild S′ (suc h) p ≡ (p, map (readEntry S h) es)
 page-read {K} S S′ h p es e s = ap (λ (l : List (Entry K h)). (p, l)) (ap (map (readEntry S′ h)) e ∙ frame-entries S S′ h es s)
@@ -78,7 +76,7 @@ module _ {K : Type 0} (O : Order K) (S : Store K) (h : ℕ) (k : K) where
       occ-append z (pagesUnder h (readEntry S h x)) (pagesOf S h (y ∷ ys)) in
       either (O .le k (x .0)) (λ e. rw e (omega arith)) (λ e. rw e (omega (arith, choose-occ z y ys)))
 
-  -- the other entries read as before, if no page under them was changed
+  -- the other entries are read as before, if no page under them was changed
   place-read : (S1 : Store K) (n m j : ℕ) (g : Entry K h → ℕ → Replacement K (Child K h)) (rs : List (K × ℕ)) (x : K × ℕ)
       (xs : List (K × ℕ)) →
       map (readEntry S1 h) rs ≡ g (readEntry S h (choose O k x xs)) n .0 →
@@ -99,8 +97,8 @@ module _ {K : Type 0} (O : Order K) (S : Store K) (h : ℕ) (k : K) where
       (λ z l c. others z (omega (arith, parts z)) (rw e c))
       (λ z. omega (arith, d z, parts z)))))
 
--- an insertion into a store that does what the insertion into the tree does: what stands in the entry's place reads as there,
--- as many new pages were taken, and no page changed but those that were under the entry and the new ones
+-- an insertion into a store that does what the insertion into the tree does: the entries that replace the entry are read as the tree's, as many new pages
+-- were taken, and only pages under the entry and new ones changed
 pub record Refines {K : Type 0} (h : ℕ) (name : ℕ → ℕ) (S : Store K) (was : List ℕ) (w : StoreReplacement K)
     (q : Replacement K (Child K h)) : Type 0 where
   pub entries : map (readEntry (w .2) h) (w .0) ≡ q .0
@@ -211,7 +209,7 @@ module _ {K : Type 0} (O : Order K) (cap : ℕ) (name : ℕ → ℕ) (inj : Inje
       (page-read S (write S (name n) xs) (suc h) (name n) xs (write-here S (name n) xs)
       (λ z l. write-other S (name n) xs z (λ q. occ-differ (name n) z (pagesOf S (suc h) xs) o l (sym q))))
 
-  -- Theorem: the store after an insertion reads as the insertion into what it read as before
+  -- Theorem: the store after an insertion is read as the tree after the insertion
   pub insert-read : (h p : ℕ) (S : Store K) → Distinct (pages h (readTree S h p)) → Unused name (pages h (readTree S h p)) →
       readGrown (storeInsert O cap name k r h p S) ≡ insert O cap name k r h (readTree S h p)
   insert-read h p S d f =

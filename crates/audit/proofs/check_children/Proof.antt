@@ -1,5 +1,5 @@
--- `audit::check_children` meets its contract. The loop's invariant: what is left to do from entry `i` on, after the pages checked, is what there
--- was to do; the marks keep their number.
+-- `audit::check_children` meets its contract. The loop's invariant: the children from entry `i` on, from the state reached, come to what all children come
+-- to; the marks keep their number.
 -- Assumes nothing.
 use Prim.Native.Nat.{_-_, _≤_}
 use mathlib.Core.Path.{_≡_}
@@ -17,10 +17,22 @@ use Rattle.audit.proofs.check_children.Tie as tie
 
 abbrev Inv-loop : tie.InvT-loop
 Inv-loop index marks₀ k size attribute parent count t₀ i₀ marks t i =
-    (i ≤ count) × (length marks ≡ maxPages) × ChildrenLeft index k size attribute (parent .0) count i (progressOf t₀, marks₀) (progressOf t, marks)
+    (i ≤ count)
+    × (length marks ≡ maxPages)
+    × ChildrenLeft index k size attribute (parent .0) count i (progressOf t₀, marks₀) (progressOf t, marks)
 
 abbrev μ-loop : tie.MeasureT-loop
 μ-loop index marks₀ k size attribute parent count t₀ i₀ marks t i = count - i
+
+-- the places: where the function starts, the loop's head, inside the loop
+abbrev start : tie.At-loop Inv-loop μ-loop → tie.Start Inv-loop μ-loop
+start c = c .before .before .before .before
+
+abbrev in-loop : tie.Else1 Inv-loop μ-loop → tie.In-loop Inv-loop μ-loop
+in-loop c = c .before .before
+
+abbrev tested : tie.After-check-page Inv-loop μ-loop → tie.Else1 Inv-loop μ-loop
+tested c = c .before .before .before
 
 entry-count-requires : tie.Need-entry-count-requires Inv-loop μ-loop
 entry-count-requires c κs = search needs
@@ -33,23 +45,20 @@ same-length c = search needs
 
 returns : tie.Need-returns Inv-loop μ-loop
 returns c =
-    let at-loop = c .before .before .before in
-    let counted = at-loop .before in
-    children-stop _ _ _ _ _ _ (at-loop .loop .i) _ (progressOf (at-loop .loop .t)) (at-loop .loop .marks) (at-loop .loop .inv .2)
-    (counted .entry-count .ensures) (not-true _ (c .if1 .taken))
+    let head = c .before .before .before in
+    let loop = head .loop in
+    children-stop _ _ _ _ _ _ (loop .i) _ (progressOf (loop .t)) (loop .marks) (loop .inv .2)
+    (head .before .entry-count .ensures) (not-true _ (c .if1 .taken))
 
 child-requires : tie.Need-child-requires Inv-loop μ-loop
 child-requires c κs =
-    let at-loop = c .before .before .before .before in
-    let counted = at-loop .before in
-    let start = counted .before .before .before in
-    entries-within _ _ _ _ _ (counted .entry-count .ensures) (start .pre .0) .each (at-loop .loop .i) (search needs)
+    let head = in-loop (c .before) .before in
+    entries-within _ _ _ _ _ (head .before .entry-count .ensures) (start head .pre .0) .each (head .loop .i) (search needs)
 
 check-page-requires : tie.Need-check-page-requires Inv-loop μ-loop
 check-page-requires c κs =
-    let at-loop = c .before .before .before .before .before in
-    let start = at-loop .before .before .before .before in
-    (start .pre .0, at-loop .loop .inv .1)
+    let head = in-loop (c .before .before) .before in
+    (start head .pre .0, head .loop .inv .1)
 
 add-i : tie.Need-add-i Inv-loop μ-loop
 add-i c = search needs
@@ -60,14 +69,14 @@ loop-less c = search needs
 loop-again : tie.Need-loop-again Inv-loop μ-loop
 loop-again c =
     let done = c .before .before in
-    let in-loop = done .before .before .before .before .before in
-    let at-loop = in-loop .before in
-    let s = progressOf (at-loop .loop .t) in
+    let turn = in-loop (tested done) in
+    let loop = turn .before .loop in
+    let more = turn .loop-test .taken in
+    let s = progressOf (loop .t) in
     let t = progressOf (done .check-page .result) in (
-      omega (arith, in-loop .loop-test .taken),
-      page-kept _ _ _ _ _ maxPages s t (at-loop .loop .marks) _ (at-loop .loop .inv .1) (done .check-page .ensures),
-      children-on _ _ _ _ _ _ (at-loop .loop .i) _ s (at-loop .loop .marks) (at-loop .loop .inv .2) _ t _ (in-loop .loop-test .taken) (done .before .child .ensures)
-          (done .check-page .ensures),
+      omega (arith, more),
+      page-kept _ _ _ _ _ maxPages s t (loop .marks) _ (loop .inv .1) (done .check-page .ensures),
+      children-on _ _ _ _ _ _ (loop .i) _ s (loop .marks) (loop .inv .2) _ t _ more (done .before .child .ensures) (done .check-page .ensures),
     )
 
 same-length-2 : tie.Need-same-length-2 Inv-loop μ-loop
@@ -75,10 +84,9 @@ same-length-2 c = search needs
 
 returns-2 : tie.Need-returns-2 Inv-loop μ-loop
 returns-2 c =
-    let at-loop = c .before in
-    let counted = at-loop .before in
-    children-end _ _ _ _ _ _ (at-loop .loop .i) _ (progressOf (at-loop .loop .t)) (at-loop .loop .marks) (at-loop .loop .inv .2)
-    (counted .entry-count .ensures) (search needs)
+    let head = c .before in
+    let loop = head .loop in
+    children-end _ _ _ _ _ _ (loop .i) _ (progressOf (loop .t)) (loop .marks) (loop .inv .2) (head .before .entry-count .ensures) (search needs)
 
 pub check-children-spec : {M : Type 1} → statement M
 check-children-spec =

@@ -26,8 +26,8 @@ returns : tie.Need-returns
 returns c =
     let tested = c .before .before in
     let counted = tested .before .before in
-    entries-leaf _ _ _ _ _ _ _ _ (counted .entry-count .ensures) _ (sym (tested .before .is-leaf .ensures) ∙ tested .if1 .taken) (c .before .last-key .ensures .0)
-    (c .leaf-entries .ensures)
+    let leaf = sym (tested .before .is-leaf .ensures) ∙ tested .if1 .taken in
+    entries-leaf _ _ _ _ _ _ _ _ (counted .entry-count .ensures) _ leaf (c .before .last-key .ensures .0) (c .leaf-entries .ensures)
 
 upper-entries-requires : tie.Need-upper-entries-requires
 upper-entries-requires c κs =

@@ -38,7 +38,8 @@ compare-requires c κs = search needs
 returns : tie.Need-returns
 unfolding window
 returns c =
-    let args = c .before .before .before .before .args in
+    let start = c .before .before .before .before in
+    let args = start .args in
     let e : args .x + args .k - args .x ≡ args .k = omega arith in
     let f : args .y + args .k - args .y ≡ args .k = omega arith in
     c .compare .ensures ∙ rw (e, f)

@@ -1,4 +1,4 @@
--- `audit::last_key` meets its contract: the last entry, where there is one, lies within its page.
+-- `audit::last_key` meets its contract: the last entry, if there is one, lies within its page.
 -- Assumes nothing.
 use native.Mathlib.Omega.{arith}
 use Prim.Native.Nat.{_-_}
@@ -13,7 +13,7 @@ entry-count-requires c κs = search needs
 
 returns : tie.Need-returns
 returns c =
-    let args = c .before .before .before .pre in
+    let pre = c .before .before .before .pre in
     (last-none _ _ _ _ _ (c .before .entry-count .ensures) (c .if1 .taken), omega arith)
 
 sub-entry-offset : tie.Need-sub-entry-offset
@@ -28,9 +28,11 @@ entry-offset-requires c κs =
 
 returns-2 : tie.Need-returns-2
 returns-2 c =
-    let n = c .before .before .entry-count in
-    let some = c .before .if1 .left in
-    let w = entry-within (entries-within _ _ _ _ _ (n .ensures) (c .before .before .before .before .pre) .each (n .result - 1) (omega arith)) in
+    let tested = c .before in
+    let counted = tested .before in
+    let n = counted .entry-count in
+    let some = tested .if1 .left in
+    let w = entry-within (entries-within _ _ _ _ _ (n .ensures) (counted .before .before .pre) .each (n .result - 1) (omega arith)) in
     let at = c .entry-offset .ensures in
     (last-some _ _ _ _ _ _ (n .ensures) some at, omega arith)
 

@@ -1,5 +1,5 @@
--- `audit::leaf_entries` meets its contract. The loop's invariant: the entries passed are good, so that those from entry `i` on decide, after the key
--- at `prior`.
+-- `audit::leaf_entries` meets its contract. The loop's invariant: the entries passed are good, so that the entries from entry `i` on, after the key at
+-- `prior`, decide.
 -- Assumes nothing.
 use Prim.Native.Nat.{_+_, _-_, _≤_}
 use native.Mathlib.Nat.{sub-zero}
@@ -22,12 +22,15 @@ loop-holds : tie.Need-loop-holds Inv-loop μ-loop
 loop-holds c = (search needs, search needs, rw sub-zero)
 
 leaf-entry-requires : tie.Need-leaf-entry-requires Inv-loop μ-loop
-leaf-entry-requires c κs = (c .before .before .before .pre .0 .each (c .before .loop .i) (search needs), c .before .loop .inv .1)
+leaf-entry-requires c κs =
+    let head = c .before in
+    (head .before .before .pre .0 .each (head .loop .i) (search needs), head .loop .inv .1)
 
 returns : tie.Need-returns Inv-loop μ-loop
 returns c =
-    let at-loop = c .before .before .before in
-    leaf-off _ _ _ _ _ (at-loop .loop .i) (at-loop .loop .prior) (at-loop .loop .inv .2) (search needs) _ (c .before .leaf-entry .ensures) (not-true _ (c .if1 .taken))
+    let tested = c .before in
+    let loop = tested .before .before .loop in
+    leaf-off _ _ _ _ _ (loop .i) (loop .prior) (loop .inv .2) (search needs) _ (tested .leaf-entry .ensures) (not-true _ (c .if1 .taken))
 
 entry-offset-requires : tie.Need-entry-offset-requires Inv-loop μ-loop
 entry-offset-requires c κs =
@@ -43,17 +46,20 @@ loop-less c = search needs
 
 loop-again : tie.Need-loop-again Inv-loop μ-loop
 loop-again c =
-    let at-loop = c .before .before .before .before in
-    let more = c .before .before .before .loop-test .taken in
-    let w = entry-within (at-loop .before .before .pre .0 .each (at-loop .loop .i) more) in
+    let tested = c .before in
+    let turn = tested .before .before in
+    let head = turn .before in
+    let loop = head .loop in
+    let more = turn .loop-test .taken in
+    let w = entry-within (head .before .before .pre .0 .each (loop .i) more) in
     let at = c .entry-offset .ensures in (
       search needs,
       omega arith,
-      leaf-on _ _ _ _ _ (at-loop .loop .i) (at-loop .loop .prior) (at-loop .loop .inv .2) more _ (c .before .before .leaf-entry .ensures) _ (not-false _ (c .before .if1 .left)) at,
+      leaf-on _ _ _ _ _ (loop .i) (loop .prior) (loop .inv .2) more _ (tested .before .leaf-entry .ensures) _ (not-false _ (tested .if1 .left)) at,
     )
 
 returns-2 : tie.Need-returns-2 Inv-loop μ-loop
-returns-2 c = leaf-end _ _ _ _ _ (c .before .loop .i) (c .before .loop .prior) (c .before .loop .inv .2) (search needs)
+returns-2 c = let loop = c .before .loop in leaf-end _ _ _ _ _ (loop .i) (loop .prior) (loop .inv .2) (search needs)
 
 pub leaf-entries-spec : {M : Type 1} → statement M
 leaf-entries-spec =

@@ -1,5 +1,5 @@
--- `audit::levels` meets its contract. The loop's invariant: the levels under the one that was reached, with so many left, are those under the root's;
--- the marks keep their number.
+-- `audit::levels` meets its contract. The loop's invariant: the levels under the level reached, `left` at most, come to what those under the root's level
+-- come to; the marks keep their number.
 -- Assumes nothing.
 use Prim.Native.Nat.{_-_, _≤_}
 use mathlib.Core.Path.{_≡_, refl}
@@ -21,6 +21,16 @@ Inv-loop index marks₀ k size level₀ left₀ marks level left =
 abbrev μ-loop : tie.MeasureT-loop
 μ-loop index marks₀ k size level₀ left₀ marks level left = left
 
+-- the places: where the function starts, past the root's level, inside the loop
+abbrev start : tie.After-root-level Inv-loop μ-loop → tie.Start Inv-loop μ-loop
+start c = c .before .before .before .before
+
+abbrev rooted : tie.At-loop Inv-loop μ-loop → tie.After-root-level Inv-loop μ-loop
+rooted c = c .before .before .before
+
+abbrev in-loop : tie.Else1 Inv-loop μ-loop → tie.In-loop Inv-loop μ-loop
+in-loop c = c .before .before .before
+
 root-level-requires : tie.Need-root-level-requires Inv-loop μ-loop
 root-level-requires c κs = search needs
 
@@ -29,26 +39,26 @@ sub-left c = search needs
 
 loop-holds : tie.Need-loop-holds Inv-loop μ-loop
 loop-holds c =
-    let rooted = c .before .before in
-    let start = rooted .before .before .before .before in
-    let root = rooted .root-level in
-    (search needs, root-kept _ _ _ _ maxPages (levelOf (root .result)) (start .args .marks .now) _ (start .pre .1) (root .ensures), refl)
+    let first = c .before .before in
+    let root = first .root-level in
+    let entry = start first in
+    (search needs, root-kept _ _ _ _ maxPages (levelOf (root .result)) (entry .args .marks .now) _ (entry .pre .1) (root .ensures), refl)
 
 same-length : tie.Need-same-length Inv-loop μ-loop
 same-length c = search needs
 
 returns : tie.Need-returns Inv-loop μ-loop
 returns c =
-    let at-loop = c .before .before .before .before in
-    let rooted = at-loop .before .before .before in
-    levels-stop _ _ _ (at-loop .loop .left) _ (levelOf (at-loop .loop .level), at-loop .loop .marks) (at-loop .loop .inv .2) _ (rooted .root-level .ensures)
+    let turn = c .before .before .before in
+    let head = turn .before in
+    let loop = head .loop in
+    levels-stop _ _ _ (loop .left) _ (levelOf (loop .level), loop .marks) (loop .inv .2) _ (rooted head .root-level .ensures)
     (not-true _ (c .if1 .taken))
 
 next-level-requires : tie.Need-next-level-requires Inv-loop μ-loop
 next-level-requires c κs =
-    let at-loop = c .before .before .before .before .before .before in
-    let start = at-loop .before .before .before .before .before .before .before in
-    (start .pre .0, at-loop .loop .inv .1)
+    let head = in-loop (c .before .before) .before in
+    (start (rooted head) .pre .0, head .loop .inv .1)
 
 sub-left-2 : tie.Need-sub-left-2 Inv-loop μ-loop
 sub-left-2 c = search needs
@@ -60,13 +70,13 @@ loop-again : tie.Need-loop-again Inv-loop μ-loop
 loop-again c =
     let done = c .before .before in
     let tested = done .before .before .before in
-    let in-loop = tested .before .before .before in
-    let at-loop = in-loop .before in
-    let v = levelOf (at-loop .loop .level) in
-    let more = in-loop .loop-test .taken in (
+    let turn = in-loop tested in
+    let loop = turn .before .loop in
+    let v = levelOf (loop .level) in
+    let more = turn .loop-test .taken in (
       search needs,
-      next-kept _ _ _ _ maxPages (levelOf (done .next-level .result)) (at-loop .loop .marks) _ (at-loop .loop .inv .1) (done .next-level .ensures),
-      levels-on _ _ _ (at-loop .loop .left) _ (v, at-loop .loop .marks) (at-loop .loop .inv .2) _ (λ z. omega (arith, more, z)) (not-false _ (tested .if1 .left))
+      next-kept _ _ _ _ maxPages (levelOf (done .next-level .result)) (loop .marks) _ (loop .inv .1) (done .next-level .ensures),
+      levels-on _ _ _ (loop .left) _ (v, loop .marks) (loop .inv .2) _ (λ z. omega (arith, more, z)) (not-false _ (tested .if1 .left))
           (done .next-level .ensures),
     )
 
@@ -75,9 +85,9 @@ same-length-2 c = search needs
 
 returns-2 : tie.Need-returns-2 Inv-loop μ-loop
 returns-2 c =
-    let at-loop = c .before in
-    let rooted = at-loop .before .before .before in
-    levels-end _ _ _ (at-loop .loop .left) _ (levelOf (at-loop .loop .level), at-loop .loop .marks) (at-loop .loop .inv .2) _ (rooted .root-level .ensures) (search needs)
+    let head = c .before in
+    let loop = head .loop in
+    levels-end _ _ _ (loop .left) _ (levelOf (loop .level), loop .marks) (loop .inv .2) _ (rooted head .root-level .ensures) (search needs)
 
 pub levels-spec : {M : Type 1} → statement M
 levels-spec =

@@ -33,8 +33,8 @@ returns c =
     let attribute = begun .before in
     let leaf = attribute .before .before in
     let first = leaf .before .first-child in
-    next-closed _ _ _ _ (first .result) _ (begun .start .result) (done .check-level .result) (c .closed .result) _ _ (leaf .leaf-at .ensures) (begun .start .ensures)
-    (c .closed .ensures) _ (first .ensures) (attribute .attribute-of .ensures) (done .check-level .ensures)
+    next-closed _ _ _ _ (first .result) _ (begun .start .result) (done .check-level .result) (c .closed .result) _ _
+    (leaf .leaf-at .ensures) (begun .start .ensures) (c .closed .ensures) _ (first .ensures) (attribute .attribute-of .ensures) (done .check-level .ensures)
 
 pub next-level-spec : {M : Type 1} → statement M
 next-level-spec =

@@ -6,26 +6,39 @@ use borrow.Author.Needs.{needs}
 use Rattle.audit.proofs.pages_good.Statement.{statement}
 use Rattle.audit.proofs.pages_good.Tie as tie
 
+-- the places: where the function starts, past the header's numbers, past the levels
+abbrev start : tie.After-key-length → tie.Start
+start c = c .before .before .before
+
+abbrev sized : tie.After-root → tie.After-file-size
+sized c = c .before .before
+
+abbrev walked : tie.After-all-marked-arg → tie.After-levels
+walked c = c .before .before .before
+
 key-length-requires : tie.Need-key-length-requires
 key-length-requires c κs = let g = good-header _ (c .before .before .pre .0) in search needs
 
 file-size-requires : tie.Need-file-size-requires
-file-size-requires c κs = let g = good-header _ (c .before .before .before .pre .0) in search needs
+file-size-requires c κs = let g = good-header _ (start c .pre .0) in search needs
 
 root-requires : tie.Need-root-requires
-root-requires c κs = let g = good-header _ (c .before .before .before .before .before .pre .0) in search needs
+root-requires c κs = let g = good-header _ (start (c .before .before) .pre .0) in search needs
 
 levels-requires : tie.Need-levels-requires
 levels-requires c κs =
-    let start = c .before .before .before .before .before .before in
-    (in-file _ _ _ (start .pre .0) (c .before .before .before .key-length .ensures) (c .before .before .file-size .ensures), start .pre .1)
+    let size = sized c in
+    let key = size .before in
+    let pre = start key .pre in
+    (in-file _ _ _ (pre .0) (key .key-length .ensures) (size .file-size .ensures), pre .1)
 
 all-marked-requires : tie.Need-all-marked-requires
 all-marked-requires c κs =
-    let start = c .before .before .before .before .before .before .before .before .before .before in
-    let g = good-header _ (start .pre .0) in
-    let l = start .pre .1 in
-    let e = c .before .before .before .before .before .before .file-size .ensures in
+    let size = sized (walked c .before) in
+    let pre = start (size .before) .pre in
+    let g = good-header _ (pre .0) in
+    let l = pre .1 in
+    let e = size .file-size .ensures in
     search needs
 
 same-length : tie.Need-same-length
@@ -34,13 +47,13 @@ same-length c = search needs
 returns : tie.Need-returns
 returns c =
     let marked = c .before .before in
-    let walked = marked .before .before .before .before in
-    let root = walked .before in
-    let size = root .before .before in
+    let levels = walked (marked .before) in
+    let root = levels .before in
+    let size = sized root in
     let key = size .before in
-    let args = key .before .before .before .args in
-    pages-answer (args .index .now) _ _ _ (walked .levels .result) (args .marks .now) _ _ (key .key-length .ensures) (size .file-size .ensures) (root .root .ensures)
-    (walked .levels .ensures) (marked .all-marked .ensures)
+    let args = start key .args in
+    pages-answer (args .index .now) _ _ _ (levels .levels .result) (args .marks .now) _ _
+    (key .key-length .ensures) (size .file-size .ensures) (root .root .ensures) (levels .levels .ensures) (marked .all-marked .ensures)
 
 pub pages-good-spec : {M : Type 1} → statement M
 pages-good-spec =

@@ -30,8 +30,8 @@ returns c =
     let attribute = begun .before in
     let leaf = attribute .before .before in
     let start = leaf .before .before .before in
-    root-closed _ _ _ _ (start .args .root) _ (begun .start .result) (done .check-page .result) (c .closed .result) _ _ (leaf .leaf-at .ensures) (begun .start .ensures)
-    (c .closed .ensures) (attribute .attribute-of .ensures) (done .check-page .ensures)
+    root-closed _ _ _ _ (start .args .root) _ (begun .start .result) (done .check-page .result) (c .closed .result) _ _
+    (leaf .leaf-at .ensures) (begun .start .ensures) (c .closed .ensures) (attribute .attribute-of .ensures) (done .check-page .ensures)
 
 pub root-level-spec : {M : Type 1} → statement M
 root-level-spec =

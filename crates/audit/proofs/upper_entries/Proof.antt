@@ -18,12 +18,15 @@ loop-holds : tie.Need-loop-holds Inv-loop μ-loop
 loop-holds c = (search needs, rw sub-zero)
 
 upper-entry-requires : tie.Need-upper-entry-requires Inv-loop μ-loop
-upper-entry-requires c κs = (c .before .before .before .pre .0, c .before .before .before .pre .1 .each (c .before .loop .i) (search needs))
+upper-entry-requires c κs =
+    let head = c .before in
+    let pre = head .before .before .pre in
+    (pre .0, pre .1 .each (head .loop .i) (search needs))
 
 returns : tie.Need-returns Inv-loop μ-loop
 returns c =
-    let at-loop = c .before .before .before in
-    upper-off _ _ _ _ _ (at-loop .loop .i) (at-loop .loop .inv .1) (search needs) _ (c .before .upper-entry .ensures) (not-true _ (c .if1 .taken))
+    let loop = c .before .before .before .loop in
+    upper-off _ _ _ _ _ (loop .i) (loop .inv .1) (search needs) _ (c .before .upper-entry .ensures) (not-true _ (c .if1 .taken))
 
 add-i : tie.Need-add-i Inv-loop μ-loop
 add-i c = search needs
@@ -33,11 +36,11 @@ loop-less c = search needs
 
 loop-again : tie.Need-loop-again Inv-loop μ-loop
 loop-again c =
-    let at-loop = c .before .before .before in
-    (search needs, upper-on _ _ _ _ _ (at-loop .loop .i) (at-loop .loop .inv .1) (search needs) _ (c .before .upper-entry .ensures) (not-false _ (c .if1 .left)))
+    let loop = c .before .before .before .loop in
+    (search needs, upper-on _ _ _ _ _ (loop .i) (loop .inv .1) (search needs) _ (c .before .upper-entry .ensures) (not-false _ (c .if1 .left)))
 
 returns-2 : tie.Need-returns-2 Inv-loop μ-loop
-returns-2 c = upper-end _ _ _ _ _ (c .before .loop .i) (c .before .loop .inv .1) (search needs)
+returns-2 c = let loop = c .before .loop in upper-end _ _ _ _ _ (loop .i) (loop .inv .1) (search needs)
 
 pub upper-entries-spec : {M : Type 1} → statement M
 upper-entries-spec =

@@ -19,17 +19,22 @@ entry-offset-requires : tie.Need-entry-offset-requires
 entry-offset-requires c κs = search needs
 
 key-order-requires : tie.Need-key-order-requires
-key-order-requires c κs = let w = entry-within (c .before .before .before .before .before .pre .1) in let e = c .entry-offset .ensures in search needs
+key-order-requires c κs =
+    let last = c .before .before in
+    let w = entry-within (last .before .before .before .pre .1) in
+    let e = c .entry-offset .ensures in
+    search needs
 
 is-equal-requires : tie.Need-is-equal-requires
 is-equal-requires c κs = search needs
 
 returns-2 : tie.Need-returns-2
 returns-2 c =
-    let tested = c .before .before .before in
+    let compared = c .before in
+    let tested = compared .before .before in
     let last = tested .before in
-    upper-same _ _ _ _ _ _ _ (last .before .child .ensures) (last .last-key .ensures .0) (tested .if1 .left) (c .before .before .entry-offset .ensures)
-    (c .before .key-order .ensures) (c .is-equal .ensures)
+    upper-same _ _ _ _ _ _ _ (last .before .child .ensures) (last .last-key .ensures .0) (tested .if1 .left) (compared .before .entry-offset .ensures)
+    (compared .key-order .ensures) (c .is-equal .ensures)
 
 pub upper-entry-spec : {M : Type 1} → statement M
 upper-entry-spec =

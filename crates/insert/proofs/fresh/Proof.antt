@@ -4,7 +4,8 @@ use mathlib.Core.Bool.{true}
 use borrow.Author.Tests.{not-true, not-false}
 use Rattle.page.specs.Header.{keyLengthGood}
 use Rattle.insert.specs.Fresh.{expressionGood}
-use Rattle.insert.specs.CallLaws.{fresh-27, fresh-24, fresh-30, fresh-made, key-most, expression-most}
+use Rattle.page.specs.HeaderLaws.{good-key-length}
+use Rattle.insert.specs.CallLaws.{fresh-27, fresh-24, fresh-30, fresh-made, expression-most}
 use borrow.Author.Needs.{needs}
 use Rattle.insert.proofs.fresh.Statement.{statement}
 use Rattle.insert.proofs.fresh.Tie as tie
@@ -32,7 +33,7 @@ returns-3 : tie.Need-returns-3
 returns-3 c = fresh-30 _ _ _ (key (c .before .before)) (good (c .before)) (c .if3 .taken)
 
 write-fresh-requires : tie.Need-write-fresh-requires
-write-fresh-requires c κs = (c .before .if3 .left, key-most _ (key (c .before .before .before)), expression-most _ (good (c .before .before)))
+write-fresh-requires c κs = (c .before .if3 .left, good-key-length _ (key (c .before .before .before)) .1, expression-most _ (good (c .before .before)))
 
 same-length : tie.Need-same-length
 same-length c = search needs

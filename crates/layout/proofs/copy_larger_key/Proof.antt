@@ -1,6 +1,6 @@
 -- `layout::copy_larger_key` meets its contract: the comparison says which of the two is larger. Assumes nothing.
 use mathlib.Core.Path.{sym, _∙_}
-use Rattle.page.specs.KeyOrder.{below, at-or-above}
+use Rattle.page.specs.KeyOrderLaws.{below, at-or-above}
 use Rattle.layout.specs.GatherLaws.{larger-key, larger-entry}
 use borrow.Author.Needs.{needs}
 use Rattle.layout.proofs.copy_larger_key.Statement.{statement}

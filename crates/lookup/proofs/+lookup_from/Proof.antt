@@ -35,10 +35,16 @@ claims t = (visit-page-reads.Asked, visit-page-reads.Learnt, lookup-from-below t
 abbrev Visited : ℕ → Type 0
 Visited t = lookup-from-lts.After-visit-page (claims t) (lookup-from-at t) lookup-from.Post
 
+-- the place where the function starts
+abbrev start : (t : ℕ) → Visited t → lookup-from-lts.Start (claims t) (lookup-from-at t) lookup-from.Post
+start t c = c .before .before .before .before
+
 -- what a visit that is w decides
 step : (t : ℕ) (c : Visited t) (w : Visit) → c .visit-page .result ≡ w
-    → let args = c .before .before .before .before .args in let left = args .levels - 1 in
-    decided (lookupFrom left (now (args .index)) (now (args .key))) (maxLevels - left) w ≡ lookupFrom (args .levels) (now (args .index)) (now (args .key)) (args .page .0)
+    → let args = start t c .args in
+    let left = args .levels - 1 in
+    decided (lookupFrom left (now (args .index)) (now (args .key))) (maxLevels - left) w
+    ≡ lookupFrom (args .levels) (now (args .index)) (now (args .key)) (args .page .0)
 step t c w e = lookup-step _ _ _ _ (c .visit-page .result) w (c .before .if1 .left) (c .visit-page .ensures) e
 
 lookup-from-returns : (t : ℕ) → lookup-from-lts.Need-returns (claims t) (lookup-from-at t) lookup-from.Post
@@ -68,8 +74,9 @@ lookup-from-enum-known-visit-2 t c = search needs
 
 lookup-from-lookup-from-requires : (t : ℕ) → lookup-from-lts.Need-lookup-from-requires (claims t) (lookup-from-at t) lookup-from.Post
 lookup-from-lookup-from-requires t c κs =
-    let start = c .before .before .before .before .before .before .before in
-    (omega (arith, start .pre .0, c .before .before .before .before .if1 .left), (omega (arith, start .pre .1 .0), start .pre .1 .1, start .pre .1 .2))
+    let visited = c .before .before .before in
+    let pre = start t visited .pre in
+    (omega (arith, pre .0, visited .before .if1 .left), (omega (arith, pre .1 .0), pre .1 .1, pre .1 .2))
 
 lookup-from-returns-2 : (t : ℕ) → lookup-from-lts.Need-returns-2 (claims t) (lookup-from-at t) lookup-from.Post
 lookup-from-returns-2 t c = step t (c .before .before) _ (c .enum-told .given .1)

@@ -3,22 +3,27 @@
 use mathlib.Core.Bool.{true}
 use mathlib.Core.Path.{_≡_, sym, _∙_}
 use lib.ListN.{length}
-use borrow.Author.Tests.{not-true, not-false, eq-eqb, ne-eqb}
+use borrow.Author.Tests.{eq-eqb, ne-eqb}
 use borrow.Author.Needs.{needs}
+use Rattle.basis.specs.Tests.{passed, failed}
 use Rattle.page.specs.HeaderLaws.{good-header}
 use Rattle.page.specs.Header.{keyLength, headerGood}
 use Rattle.lookup.specs.Lookup.{lookupRule}
 use Rattle.lookup.proofs.lookup.Statement.{statement}
 use Rattle.lookup.proofs.lookup.Tie as tie
 
+-- the places: where the function starts, past the test of the header, past the test of the key's length
 abbrev start : tie.Else1 → tie.Start
 start c = c .before .before .before .before
 
--- what the two tests say where they are passed
-good : (c : tie.Else1) → headerGood (start c .args .index .now) ≡ true
-good c = sym (c .before .header-good .ensures) ∙ not-false _ (c .if1 .left)
+abbrev headed : tie.Else2 → tie.Else1
+headed c = c .before .before
 
-whole : (c : tie.Else2) → let args = start (c .before .before) .args in length (args .key .now) ≡ keyLength (args .index .now)
+-- what the two tests say if they are passed
+good : (c : tie.Else1) → headerGood (start c .args .index .now) ≡ true
+good c = passed (c .before .header-good .ensures) (c .if1 .left)
+
+whole : (c : tie.Else2) → let args = start (headed c) .args in length (args .key .now) ≡ keyLength (args .index .now)
 whole c = c .if2 .left ∙ c .before .key-length .ensures
 
 header-good-requires : tie.Need-header-good-requires
@@ -26,7 +31,7 @@ header-good-requires c κs = search needs
 
 returns : tie.Need-returns
 unfolding lookupRule
-returns c = rw (sym (c .before .header-good .ensures) ∙ not-true _ (c .if1 .taken), lookupRule)
+returns c = rw (failed (c .before .header-good .ensures) (c .if1 .taken), lookupRule)
 
 key-length-requires : tie.Need-key-length-requires
 key-length-requires c κs = good-header _ (good c) .long
@@ -36,15 +41,16 @@ unfolding lookupRule
 returns-2 c = rw (good (c .before .before), ne-eqb _ _ (λ e. c .if2 .taken (e ∙ sym (c .before .key-length .ensures))), lookupRule)
 
 root-requires : tie.Need-root-requires
-root-requires c κs = good-header _ (good (c .before .before)) .long
+root-requires c κs = good-header _ (good (headed c)) .long
 
 lookup-from-requires : tie.Need-lookup-from-requires
-lookup-from-requires c κs = (search needs, good (c .before .before .before), whole (c .before))
+lookup-from-requires c κs = (search needs, good (headed (c .before)), whole (c .before))
 
 returns-3 : tie.Need-returns-3
 unfolding lookupRule
 returns-3 c =
-    rw (good (c .before .before .before .before), eq-eqb _ _ (whole (c .before .before)), lookupRule)
+    let tested = c .before .before in
+    rw (good (headed tested), eq-eqb _ _ (whole tested), lookupRule)
     (c .lookup-from .ensures ∙ rw (c .before .root .ensures))
 
 pub lookup-spec : {M : Type 1} → statement M

@@ -3,16 +3,18 @@
 use mathlib.Core.Path.{_≡_, sym, _∙_}
 use mathlib.Core.Bool.{true}
 use borrow.Author.Needs.{needs}
-use borrow.Author.Tests.{not-true, not-false}
+use Rattle.basis.specs.Tests.{passed, failed}
 use Rattle.page.specs.Page.{leafBit}
 use Rattle.page.specs.declared.Page.{Page}
 use Rattle.lookup.specs.LookupLaws.{Searched, says-none, says-child, says-found, says-other}
 use Rattle.lookup.proofs.search_page.Statement.{statement}
 use Rattle.lookup.proofs.search_page.Tie as tie
 
+-- the places: where the function starts, and past the search
 abbrev start : tie.After-first-at-or-above → tie.Start
 start c = c .before .before .before .before .before
 
+-- the page's head
 abbrev head : tie.After-first-at-or-above → Page
 head c = c .before .before .at .result
 
@@ -24,7 +26,7 @@ searched c =
     record { attribute = head-is .0; count = head-is .1 .0; first = c .first-at-or-above .ensures .0 }
 
 leaf : (c : tie.Else2) → leafBit (head (c .before .before .before) .attribute) ≡ true
-leaf c = sym (c .before .is-leaf .ensures) ∙ not-false _ (c .if2 .left)
+leaf c = passed (c .before .is-leaf .ensures) (c .if2 .left)
 
 at-requires : tie.Need-at-requires
 at-requires c κs = search needs
@@ -49,7 +51,7 @@ returns-2 c =
     let at-leaf = c .before .before in
     let at-if1 = at-leaf .before in
     says-child (searched (at-if1 .before)) (at-if1 .if1 .left) (c .child .result .0)
-    (sym (at-leaf .is-leaf .ensures) ∙ not-true _ (c .before .if2 .taken)) (c .child .ensures)
+    (failed (at-leaf .is-leaf .ensures) (c .before .if2 .taken)) (c .child .ensures)
 
 compare-entry-requires : tie.Need-compare-entry-requires
 compare-entry-requires c κs = search needs

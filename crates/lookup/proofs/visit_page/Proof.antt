@@ -1,9 +1,9 @@
--- `lookup::visit_page` meets its contract: the page is searched only where it is good, and so lies within the buffer.
+-- `lookup::visit_page` meets its contract: the page is searched only if it is good, and then it lies within the buffer.
 -- Assumes nothing.
-use mathlib.Core.Path.{_≡_, sym, _∙_}
+use mathlib.Core.Path.{_≡_}
 use native.Mathlib.Omega.{arith}
 use lib.ListN.{length}
-use borrow.Author.Tests.{not-true, not-false}
+use Rattle.basis.specs.Tests.{passed, failed}
 use Rattle.page.specs.Page.{pageGood}
 use Rattle.page.specs.Header.{fileSize}
 use Rattle.page.specs.PageLaws.{within-page}
@@ -12,10 +12,11 @@ use Rattle.lookup.specs.Lookup.{visitRule}
 use Rattle.lookup.proofs.visit_page.Statement.{statement}
 use Rattle.lookup.proofs.visit_page.Tie as tie
 
+-- the place where the function starts
 abbrev start : tie.After-page-good → tie.Start
 start c = c .before .before .before .before
 
--- what the page's test says
+-- what the test of the page says
 tested : (c : tie.After-page-good) → let args = start c .args in
     c .page-good .result ≡ pageGood (args .index .now) (length (args .key .now)) (fileSize (args .index .now)) (args .page .0) (args .first) (args .last)
 tested c = cc (c .page-good .ensures, c .before .file-size .ensures)
@@ -28,17 +29,17 @@ page-good-requires c κs = let h = good-header _ (c .before .before .before .pre
 
 returns : tie.Need-returns
 unfolding visitRule
-returns c = rw (sym (tested (c .before)) ∙ not-true _ (c .if1 .taken), visitRule)
+returns c = rw (failed (tested (c .before)) (c .if1 .taken), visitRule)
 
 search-page-requires : tie.Need-search-page-requires
 search-page-requires c κs =
     let pre = start (c .before) .pre in
     let h = good-header _ (pre .0) in
-    within-page _ _ _ _ _ _ (omega (arith, pre .1)) (h .within) (sym (tested (c .before)) ∙ not-false _ (c .if1 .left))
+    within-page _ _ _ _ _ _ (omega (arith, pre .1)) (h .within) (passed (tested (c .before)) (c .if1 .left))
 
 returns-2 : tie.Need-returns-2
 unfolding visitRule
-returns-2 c = rw (sym (tested (c .before .before)) ∙ not-false _ (c .before .if1 .left), visitRule) (c .search-page .ensures)
+returns-2 c = rw (passed (tested (c .before .before)) (c .before .if1 .left), visitRule) (c .search-page .ensures)
 
 pub visit-page-spec : {M : Type 1} → statement M
 visit-page-spec =

@@ -10,11 +10,15 @@ use Rattle.page.specs.PageLaws.{entry-within}
 use Rattle.page.proofs.compare_entry.Statement.{statement}
 use Rattle.page.proofs.compare_entry.Tie as tie
 
+-- the place where the function starts
+abbrev start : tie.After-entry-offset → tie.Start
+start c = c .before .before .before
+
 entry-offset-requires : tie.Need-entry-offset-requires
 entry-offset-requires c κs = search needs
 
 add-end : tie.Need-add-end
-add-end c = let w = entry-within (c .before .before .before .pre) in omega arith
+add-end c = let w = entry-within (start c .pre) in omega arith
 
 sub-compare : tie.Need-sub-compare
 sub-compare c = search needs
@@ -23,7 +27,7 @@ part-compare-start : tie.Need-part-compare-start
 part-compare-start c = search needs
 
 part-compare-end : tie.Need-part-compare-end
-part-compare-end c = let w = entry-within (c .before .before .before .pre) in omega arith
+part-compare-end c = let w = entry-within (start c .pre) in omega arith
 
 compare-requires : tie.Need-compare-requires
 compare-requires c κs = search needs

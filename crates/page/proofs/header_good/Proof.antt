@@ -6,6 +6,10 @@ use Rattle.page.specs.Header.{headerGood}
 use Rattle.page.proofs.header_good.Statement.{statement}
 use Rattle.page.proofs.header_good.Tie as tie
 
+-- the place past the test of the length
+abbrev long-enough : tie.After-byte → tie.Else1
+long-enough c = c .before .before .before .before .before .before .before .before
+
 returns : tie.Need-returns
 unfolding headerGood
 returns c = rw (lt-leb _ _ (c .if1 .taken))
@@ -36,7 +40,7 @@ byte-requires c κs = search needs
 
 returns-2 : tie.Need-returns-2
 unfolding headerGood
-returns-2 c = rw (le-leb _ _ (c .before .before .before .before .before .before .before .before .if1 .left)) (cc)
+returns-2 c = rw (le-leb _ _ (long-enough c .if1 .left)) (cc)
 
 pub header-good-spec : {M : Type 1} → statement M
 header-good-spec =

@@ -1,0 +1,27 @@
+-- Laws: the audit's test refuses the index of source document 000 if one of five bytes is changed: a computed statement. Assumes nothing.
+use mathlib.Core.Path.{_≡_, refl}
+use mathlib.Core.Bool.{false}
+use Prim.Native.Nat.{ℕ}
+use lib.ListN.{set}
+use Rattle.octets.specs.Bytes as bytes
+use Rattle.octets.specs.Store as store
+use Rattle.octets.specs.Order as order
+use Rattle.page.specs.Header as header
+use Rattle.page.specs.Page as page
+use Rattle.page.specs.Reading as pages
+use Rattle.page.specs.Children as children
+use Rattle.sound.specs.Rule as audit
+use Rattle.examples.specs.Tree000 as tree
+
+-- byte 1,036: B and not C above leaf 2,048; byte 3,078: a wrong left link in leaf 3,072; byte 2,064: record number 0;
+-- byte 1,039: a child at offset 0; byte 1,027: a count above the capacity
+pub damaged-refused : (audit.pagesGood (set tree.tree000 1036 66) audit.unmarked ≡ false)
+    × (audit.pagesGood (set tree.tree000 3078 255) audit.unmarked ≡ false)
+    × (audit.pagesGood (set tree.tree000 2064 0) audit.unmarked ≡ false)
+    × (audit.pagesGood (set tree.tree000 1039 0) audit.unmarked ≡ false)
+    × (audit.pagesGood (set tree.tree000 1027 255) audit.unmarked ≡ false)
+unfolding tree.tree000 tree.padded tree.page tree.entry bytes.le16 bytes.le32 bytes.be32 bytes.toLe16 bytes.toLe32 bytes.toBe32 store.window order.bytesLe
+    order.ordering header.isPage page.capacity page.countGood pages.items pages.itemsAt pages.entriesAt
+    audit.leafEntriesGood audit.upperEntriesGood audit.chain children.isLeaf audit.markedFrom audit.entriesFit audit.pageFits audit.checkPage
+    audit.checkPages audit.rootLevel audit.nextLevel audit.levelsUnder audit.pagesGood audit.unmarked
+damaged-refused = (refl, refl, refl, refl, refl)
