@@ -1,0 +1,5 @@
+pub mod Append
+pub mod UpdateDate
+pub mod Extent
+pub mod CheckLaws
+pub mod ExtentLaws
