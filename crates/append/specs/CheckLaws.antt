@@ -242,7 +242,7 @@ module _ (b : List ℕ) (n : ℕ) (long : minTable ≤ n) where
 -- ---- an append that is accepted
 
 -- the count with a record more fits four bytes
-few-enough : (t : List ℕ) {room : ℕ} {r : List ℕ} {count : ℕ} → Layout t → Taken t room r → recordCount t ≡ count → count < maxTable
+pub few-enough : (t : List ℕ) {room : ℕ} {r : List ℕ} {count : ℕ} → Layout t → Taken t room r → recordCount t ≡ count → count < maxTable
 unfolding newEnd
 few-enough t good given e = omega (arith, e, given .small, count-within t good, records-next t (recordCount t), record-positive t good)
 

@@ -10,7 +10,7 @@ use borrow.Author.Tests.{eqb-true, eqb-false, le-leb, lt-leb, ne-eqb, leb-true}
 use Rattle.basis.specs.Tests.{either, both}
 use Rattle.basis.specs.Lists.{All}
 use Rattle.table.specs.Table.{minTable, sizeGood, lengthGood, firstRefusal, tableChecks, tableRefusal}
-use Rattle.table.specs.TableLaws.{first-pass, first-none, first-after, first-before, size-long}
+use Rattle.table.specs.TableLaws.{first-pass, first-none, first-after, first-before, size-long, table-numbered}
 use Rattle.append.specs.Extent.{formChecks, formRefusal, ownEnd, extentRefusal, extentRule}
 
 -- a refusal is below what all numbers of the checks are below
@@ -68,6 +68,11 @@ module _ (b : List ℕ) where
       (λ good. absurd (some (said ∙ rw good)))
       (λ bad. absurd (other (said ∙ rw bad))))
       (λ some. sym (form-first (eqb-false (formRefusal b) 0 some)))
+
+  -- the length of a good table fits a form
+  pub length-good : tableRefusal b ≡ 0 → lengthGood b ≡ true
+  unfolding tableRefusal tableChecks
+  length-good e = first-none (tableChecks b) (table-numbered b) e .1 .1 .1 .1 .1 .1 .1 .1 .1 .0
 
   -- a good form has a header
   pub form-long : formRefusal b ≡ 0 → minTable ≤ length b

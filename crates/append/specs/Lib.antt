@@ -3,3 +3,10 @@ pub mod UpdateDate
 pub mod Extent
 pub mod CheckLaws
 pub mod ExtentLaws
+pub mod SameForm
+pub mod ImageLaws
+pub mod CrashLaws
+pub mod ReadLaws
+pub mod NewTableLaws
+pub mod DateLaws
+pub mod CommaLaws
