@@ -18,7 +18,8 @@ ghost use Rattle.cell.specs.Cell.{logicalOf};
 ghost use Rattle.octets.specs.Bytes.{byteAt};
 ghost use Rattle.table.specs.Table.{fieldCount, recordLength, tableRefusal, checkTable};
 ghost use Rattle.table.specs.declared.Checked.the-variants.{Good};
-ghost use Rattle.append.specs.Append.{checkHeld, numberRefusal, dateRefusal, logicalRefusal, memoRefusal, textRefusal, textsRefusal, roomFor, recordRefusal, appendRefusal, Appendable, stored, appendRule, done};
+ghost use Rattle.append.specs.Append.{checkHeld, numberRefusal, dateRefusal, logicalRefusal, memoRefusal, textRefusal, textsRefusal};
+ghost use Rattle.append.specs.Append.{roomFor, recordRefusal, appendRefusal, Appendable, stored, appendRule, done};
 ghost use Rattle.append.specs.UpdateDate.{storableDate, setDateRule, dated};
 ghost use Rattle.append.specs.Extent.{formRefusal, extentRule};
 
@@ -195,16 +196,16 @@ fn store_record(buffer: &mut [u8], bytes: &[u8]) -> Appended
     octets::copy_in(buffer, place, bytes);
     buffer[place + bytes.len()] = table::FILE_END;
     octets::store_le32(buffer, COUNT_AT, records + 1);
+    let length = bytes.len() + 1;
+    let record_store = Store { place, length };
+    let count_store = Store {
+        place: COUNT_AT,
+        length: COUNT_LENGTH,
+    };
     Appended {
         refusal: 0,
-        first: Store {
-            place,
-            length: bytes.len() + 1,
-        },
-        second: Store {
-            place: COUNT_AT,
-            length: COUNT_LENGTH,
-        },
+        first: record_store,
+        second: count_store,
     }
 }
 

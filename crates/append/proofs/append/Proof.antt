@@ -21,7 +21,10 @@ same-length-2 : tie.Need-same-length-2
 same-length-2 c = search needs
 
 returns-2 : tie.Need-returns-2
-returns-2 c = append-stored _ _ _ (sym (c .before .before .before .before .before .append-refusal .ensures) ∙ c .before .before .before .before .if1 .left) ∙ c .before .before .store-record .ensures
+returns-2 c =
+    let stored = c .before .before in
+    let passed = stored .before .before in
+    append-stored _ _ _ (sym (passed .before .append-refusal .ensures) ∙ passed .if1 .left) ∙ stored .store-record .ensures
 
 pub append-spec : {M : Type 1} → statement M
 append-spec =

@@ -30,7 +30,10 @@ returns c = sym (held-refused _ _ _ _ (sym (c .before .before .before .check-hel
 
 returns-2 : tie.Need-returns-2
 unfolding appendRefusal recordRefusal
-returns-2 c = c .record-refusal .ensures ∙ sym (held-then _ _ _ _ (sym (c .before .before .before .before .before .check-held .ensures) ∙ c .before .before .before .shape .given .1))
+returns-2 c =
+    let good = c .before .before .before in
+    let said = sym (good .before .before .check-held .ensures) ∙ good .shape .given .1 in
+    c .record-refusal .ensures ∙ sym (held-then _ _ _ _ said)
 
 pub append-refusal-spec : {M : Type 1} → statement M
 append-refusal-spec =

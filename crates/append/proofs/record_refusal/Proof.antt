@@ -31,12 +31,17 @@ marked c = mark (c .before) ∙ not-false _ (c .if2 .left)
 
 -- what is said of the texts, and of the room
 texts : (c : tie.After-texts-refusal)
-    → c .texts-refusal .result ≡ textsRefusal (c .before .before .before .before .before .before .before .before .args .table .now) (c .before .before .before .before .before .before .before .before .args .bytes .now) 0 (fieldCount (c .before .before .before .before .before .before .before .before .args .table .now))
+    → let args = c .before .before .before .before .before .before .before .before .args in
+    c .texts-refusal .result ≡ textsRefusal (args .table .now) (args .bytes .now) 0 (fieldCount (args .table .now))
 texts c = c .texts-refusal .ensures ∙ rw (shaped (c .before .before .before .before .before .before .before .before) .fields)
 
-room : (c : tie.After-room-for) → roomFor (newEnd (c .before .before .before .before .before .before .before .before .before .before .before .before .args .table .now)) (c .before .before .before .before .before .before .before .before .before .before .before .before .args .room) ≡ c .room-for .result
+room : (c : tie.After-room-for)
+    → let args = c .before .before .before .before .before .before .before .before .before .before .before .before .args in
+    roomFor (newEnd (args .table .now)) (args .room) ≡ c .room-for .result
 unfolding newEnd
-room c = sym (c .room-for .ensures ∙ rw (c .before .records-end .ensures .0, shaped (c .before .before .before .before .before .before .before .before .before .before .before .before) .records))
+room c =
+    let start = c .before .before .before .before .before .before .before .before .before .before .before .before in
+    sym (c .room-for .ensures ∙ rw (c .before .records-end .ensures .0, shaped start .records))
 
 returns : tie.Need-returns
 returns c = sym (record-9 _ _ _ (λ e. c .if1 .taken (e ∙ sym (shaped (c .before .before .before .before) .length))))
@@ -55,8 +60,9 @@ texts-refusal-requires c κs = let known = shaped (c .before .before .before .be
 
 returns-3 : tie.Need-returns-3
 returns-3 c =
+    let marked-at = c .before .before in
     let said = texts (c .before) in
-    said ∙ sym (record-text _ _ _ (long (c .before .before .before .before .before)) (marked (c .before .before)) (λ z. c .if3 .taken (said ∙ z)))
+    said ∙ sym (record-text _ _ _ (long (marked-at .before .before .before)) (marked marked-at) (λ z. c .if3 .taken (said ∙ z)))
 
 add-records-end : tie.Need-add-records-end
 add-records-end c =
@@ -75,11 +81,17 @@ room-for-requires c κs = search needs
 
 returns-4 : tie.Need-returns-4
 returns-4 c =
-    sym (record-30 _ _ _ (long (c .before .before .before .before .before .before .before .before .before)) (marked (c .before .before .before .before .before .before)) (sym (texts (c .before .before .before .before .before)) ∙ c .before .before .before .before .if3 .left) (room (c .before) ∙ not-true _ (c .if4 .taken)))
+    let read = c .before .before .before .before in
+    let marked-at = read .before .before in
+    let none = sym (texts (read .before)) ∙ read .if3 .left in
+    sym (record-30 _ _ _ (long (marked-at .before .before .before)) (marked marked-at) none (room (c .before) ∙ not-true _ (c .if4 .taken)))
 
 returns-5 : tie.Need-returns-5
 returns-5 c =
-    sym (record-taken _ _ _ (long (c .before .before .before .before .before .before .before .before .before)) (marked (c .before .before .before .before .before .before)) (sym (texts (c .before .before .before .before .before)) ∙ c .before .before .before .before .if3 .left) (room (c .before) ∙ not-false _ (c .if4 .left)))
+    let read = c .before .before .before .before in
+    let marked-at = read .before .before in
+    let none = sym (texts (read .before)) ∙ read .if3 .left in
+    sym (record-taken _ _ _ (long (marked-at .before .before .before)) (marked marked-at) none (room (c .before) ∙ not-false _ (c .if4 .left)))
 
 pub record-refusal-spec : {M : Type 1} → statement M
 record-refusal-spec =

@@ -11,11 +11,13 @@ use Rattle.append.proofs.set_date.Statement.{statement}
 use Rattle.append.proofs.set_date.Tie as tie
 
 -- the date that passed its test
-date : (c : tie.Else1) → StorableDate (c .before .before .before .before .before .before .before .args .year) (c .before .before .before .before .before .before .before .args .month) (c .before .before .before .before .before .before .before .args .day)
+date : (c : tie.Else1)
+    → let args = c .before .before .before .before .before .before .before .args in
+    StorableDate (args .year) (args .month) (args .day)
 date c = storable _ _ _ (sym (c .before .storable-date .ensures) ∙ not-false _ (c .if1 .left))
 
 header : (c : tie.Else1) → minTable ≤ length (c .before .before .before .before .before .before .before .args .buffer .now)
-header c = held-header _ _ _ (sym (c .before .before .before .before .check-held .ensures) ∙ c .before .before .enum-told .given .1)
+header c = let good = c .before .before in held-header _ _ _ (sym (good .before .before .check-held .ensures) ∙ good .enum-told .given .1)
 
 check-held-requires : tie.Need-check-held-requires
 check-held-requires c κs = search needs
@@ -33,7 +35,10 @@ same-length : tie.Need-same-length
 same-length c = search needs
 
 returns : tie.Need-returns
-returns c = date-3 _ _ _ _ _ _ (sym (c .before .before .before .before .check-held .ensures) ∙ c .before .before .enum-told .given .1) (sym (c .before .storable-date .ensures) ∙ not-true _ (c .if1 .taken))
+returns c =
+    let good = c .before .before in
+    let said = sym (good .before .before .check-held .ensures) ∙ good .enum-told .given .1 in
+    date-3 _ _ _ _ _ _ said (sym (c .before .storable-date .ensures) ∙ not-true _ (c .if1 .taken))
 
 sub-buffer : tie.Need-sub-buffer
 sub-buffer c = omega (arith, date c .year-from)
@@ -72,7 +77,10 @@ same-length-3 : tie.Need-same-length-3
 same-length-3 c = search needs
 
 returns-3 : tie.Need-returns-3
-returns-3 c = date-set _ _ _ _ _ _ (sym (c .before .before .before .before .check-held .ensures) ∙ c .before .before .enum-told .given .1) (sym (c .before .storable-date .ensures) ∙ not-false _ (c .if1 .left))
+returns-3 c =
+    let good = c .before .before in
+    let said = sym (good .before .before .check-held .ensures) ∙ good .enum-told .given .1 in
+    date-set _ _ _ _ _ _ said (sym (c .before .storable-date .ensures) ∙ not-false _ (c .if1 .left))
 
 pub set-date-spec : {M : Type 1} → statement M
 set-date-spec =

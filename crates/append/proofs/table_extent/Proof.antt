@@ -26,10 +26,15 @@ records-end-requires : tie.Need-records-end-requires
 records-end-requires c κs = form-long _ (sym (c .before .before .form-refusal .ensures) ∙ c .before .if1 .left)
 
 returns-2 : tie.Need-returns-2
-returns-2 c = sym (extent-short _ (sym (c .before .before .before .before .form-refusal .ensures) ∙ c .before .before .before .if1 .left) (omega (arith, own (c .before))))
+returns-2 c =
+    let passed = c .before .before .before in
+    sym (extent-short _ (sym (passed .before .form-refusal .ensures) ∙ passed .if1 .left) (omega (arith, own (c .before))))
 
 returns-3 : tie.Need-returns-3
-returns-3 c = rw (own (c .before)) (sym (extent-told _ (sym (c .before .before .before .before .form-refusal .ensures) ∙ c .before .before .before .if1 .left) (omega (arith, own (c .before)))))
+returns-3 c =
+    let passed = c .before .before .before in
+    let ends = own (c .before) in
+    rw ends (sym (extent-told _ (sym (passed .before .form-refusal .ensures) ∙ passed .if1 .left) (omega arith)))
 
 pub table-extent-spec : {M : Type 1} → statement M
 table-extent-spec =

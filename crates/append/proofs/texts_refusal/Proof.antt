@@ -24,20 +24,32 @@ inside c = descriptor-inside _ (layout _ (c .before .before .before .before .pre
 
 -- its text ends by its length, in the record
 ends : (c : tie.After-byte3 Inv-loop μ-loop)
-    → c .before .before .before .before .loop .start + c .byte3 .result ≡ c .before .before .before .before .loop .start + fieldLength (c .before .before .before .before .before .before .before .args .table .now) (c .before .before .before .before .loop .j)
+    → let at-loop = c .before .before .before .before in
+    at-loop .loop .start + c .byte3 .result ≡ at-loop .loop .start + fieldLength (at-loop .before .before .before .args .table .now) (at-loop .loop .j)
 ends c = rw (c .byte3 .ensures .0)
 
-text-end : (c : tie.After-byte3 Inv-loop μ-loop) → c .before .before .before .before .loop .start + c .byte3 .result ≤ length (c .before .before .before .before .before .before .before .args .bytes .now)
+text-end : (c : tie.After-byte3 Inv-loop μ-loop)
+    → let at-loop = c .before .before .before .before in
+    at-loop .loop .start + c .byte3 .result ≤ length (at-loop .before .before .before .args .bytes .now)
 text-end c =
-    let good = layout _ (c .before .before .before .before .before .before .before .pre .0) in
-    omega (arith, ends c, c .before .before .before .before .loop .inv .1, c .before .before .before .before .before .before .before .pre .2, field-inside _ good (c .before .before .before .before .loop .j) (omega arith))
+    let at-loop = c .before .before .before .before in
+    let pre = at-loop .before .before .before .pre in
+    omega (arith, ends c, at-loop .loop .inv .1, pre .2, field-inside _ (layout _ (pre .0)) (at-loop .loop .j) (omega arith))
 
 -- what is said of it is the rule's
 refused : (c : tie.After-text-refusal Inv-loop μ-loop)
-    → c .text-refusal .result ≡ fieldRefused (c .before .before .before .before .before .before .before .before .before .args .table .now) (c .before .before .before .before .before .before .before .before .before .args .bytes .now) (c .before .before .before .before .before .before .loop .j)
+    → let at-loop = c .before .before .before .before .before .before in
+    let args = at-loop .before .before .before .args in
+    c .text-refusal .result ≡ fieldRefused (args .table .now) (args .bytes .now) (at-loop .loop .j)
 refused c =
+    let at-loop = c .before .before .before .before .before .before in
+    let sized = c .before .before in
     c .text-refusal .ensures
-    ∙ rw (c .before .before .before .before .byte .ensures .0, c .before .before .before .byte2 .ensures .0, text-part _ _ (c .before .before .before .before .before .before .loop .j) _ _ (c .before .before .before .before .before .before .loop .inv .1) (ends (c .before .before)))
+    ∙ rw (
+      sized .before .before .byte .ensures .0,
+      sized .before .byte2 .ensures .0,
+      text-part _ _ (at-loop .loop .j) _ _ (at-loop .loop .inv .1) (ends sized),
+    )
 
 loop-holds : tie.Need-loop-holds Inv-loop μ-loop
 loop-holds c = let none : c .before .before .args .fields - 0 ≡ c .before .before .args .fields = omega arith in (omega arith, sym (offset-first _), rw none)
