@@ -16,7 +16,8 @@ use Rattle.numeral.specs.declared.Number.the-variants as number
 use Rattle.memo.specs.Memo.{memoNumber}
 use Rattle.memo.specs.declared.MemoNumber.{MemoNumber}
 use Rattle.memo.specs.declared.MemoNumber.the-variants as memo
-use Rattle.table.specs.Table.{minTable, maxTable, fileEnd, typeN, typeD, typeL, typeM, fieldType, fieldLength, fieldDecimals, fieldOffset, fieldCount, recordLength, recordCount, recordsEnd, firstRefusal, tableChecks, checkTable}
+use Rattle.table.specs.Table.{minTable, maxTable, fileEnd, typeN, typeD, typeL, typeM, fieldType, fieldLength, fieldDecimals, fieldOffset, fieldCount}
+use Rattle.table.specs.Table.{recordLength, recordCount, recordsEnd, firstRefusal, tableChecks, checkTable}
 use Rattle.table.specs.declared.Checked.{Checked}
 use Rattle.table.specs.declared.Checked.the-variants.{Refused}
 use Rattle.cell.specs.Cell.{markGood, logicalOf}

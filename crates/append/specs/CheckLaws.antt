@@ -1,6 +1,6 @@
 -- Laws: how the code's tests meet the refusals of an append and of a new date, and the stores their rule. Assumes nothing.
-use Prim.Native.Nat.{ℕ, zero, suc, _+_, _*_, _-_, _≤_, _<_}
-use mathlib.Core.Path.{_≡_, refl, sym, ap, _∙_}
+use Prim.Native.Nat.{ℕ, suc, _+_, _*_, _-_, _≤_, _<_}
+use mathlib.Core.Path.{_≡_, sym, ap, _∙_}
 use mathlib.Core.Bool.{Bool, true, false, _&&_}
 use mathlib.Core.List.{List, [], _∷_, _++_}
 use native.Mathlib.Nat.{mul-le-mul-left, mul-one}
@@ -10,24 +10,26 @@ use lib.Seq.{getD-take, length-take-le}
 use lib.Dec.{eqb, leb, lit<}
 use borrow.Author.Tests.{leb-true, eqb-true, eqb-false, le-leb, lt-leb, eq-eqb, ne-eqb}
 use Rattle.basis.specs.Tests.{either, both, impossible}
-use Rattle.basis.specs.Lists.{All}
 use Rattle.octets.specs.Bytes.{byteAt, le16, le32, toLe32}
 use Rattle.octets.specs.Store.{put, window}
 use Rattle.octets.specs.StoreLaws.{put-snoc, stored2, length-window}
-use Rattle.octets.specs.NumberLaws.{length-toLe32}
 use Rattle.calendar.specs.CalendarLaws.{date-range}
 use Rattle.calendar.specs.Calendar.{isDate}
 use Rattle.calendar.specs.DateText.{dateOf}
 use Rattle.numeral.specs.Reading.{readNumber}
 use Rattle.memo.specs.Memo.{memoNumber}
 use Rattle.cell.specs.Cell.{markGood, logicalOf}
-use Rattle.table.specs.Table.{minTable, maxTable, fileEnd, typeN, typeD, typeL, typeM, fieldType, fieldLength, fieldDecimals, fieldOffset, fieldCount, headerLength, recordLength, recordCount, recordsEnd, sizeGood, firstRefusal, tableChecks, tableRefusal, checkTable}
-use Rattle.table.specs.TableLaws.{Layout, layout, table-numbered, first-pass, first-fail, first-none, first-both, good-check, good-then, refused-check, refused-then, Shaped, good-shape}
+use Rattle.table.specs.Table.{minTable, maxTable, fileEnd, typeN, typeD, typeL, typeM, fieldType, fieldLength, fieldDecimals, fieldOffset, fieldCount}
+use Rattle.table.specs.Table.{headerLength, recordLength, recordCount, recordsEnd, sizeGood, firstRefusal, tableChecks, tableRefusal, checkTable}
+use Rattle.table.specs.TableLaws.{Layout, layout, table-numbered, first-pass, first-fail, first-none, first-both, good-check, good-then, refused-check}
+use Rattle.table.specs.TableLaws.{refused-then}
 use Rattle.table.specs.FormLaws.{field-form, form-some}
 use Rattle.table.specs.RecordLaws.{field-inside, record-positive, records-next}
 use Rattle.table.specs.declared.Shape.{Shape}
 use Rattle.table.specs.declared.Checked.the-variants.{Good, Refused}
-use Rattle.append.specs.Append.{heldChecks, checkHeld, numberRefusal, dateRefusal, logicalRefusal, memoRefusal, textRefusal, textIn, textsRefusal, roomFor, newEnd, recordChecks, recordRefusal, appendRefusal, recordWrite, countWrite, stored, appendRule, done, Appendable}
+use Rattle.append.specs.Append.{heldChecks, checkHeld, numberRefusal, dateRefusal, logicalRefusal, memoRefusal, textRefusal, textIn, textsRefusal}
+use Rattle.append.specs.Append.{roomFor, newEnd, recordChecks, recordRefusal, appendRefusal, recordWrite, countWrite, stored, appendRule, done}
+use Rattle.append.specs.Append.{Appendable}
 use Rattle.append.specs.UpdateDate.{firstYear, lastYear, storableDate, setDateRefusal, dateWrite, setDateRule, dated}
 
 -- ---- the table in the buffer
@@ -338,4 +340,5 @@ module _ (b : List ℕ) (n year month day : ℕ) where
     pub date-set : storableDate year month day ≡ true → setDateRule b n year month day ≡ dated (set (set (set b 1 (year - firstYear)) 2 month) 3 day) 0
     unfolding setDateRule setDateRefusal firstRefusal dateWrite
     date-set good =
-        rw (held-then b n s ((storableDate year month day, 3) ∷ []) e, good, put-snoc b 1 ((year - firstYear) ∷ month ∷ []) day, ← stored2 b 1 (year - firstYear) month)
+        let years = year - firstYear in
+        rw (held-then b n s ((storableDate year month day, 3) ∷ []) e, good, put-snoc b 1 (years ∷ month ∷ []) day, ← stored2 b 1 years month)

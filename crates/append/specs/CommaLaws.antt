@@ -1,29 +1,28 @@
 -- Laws: a record with a comma in numeric text is never written. Demand 2's rule reads the text, so that no append can put into a table what no call would
 -- read from it. Assumes nothing.
 use Prim.Native.Nat.{ℕ, zero, suc, _+_, _≤_, _<_}
-use mathlib.Core.Path.{_≡_, refl, sym, ap, _∙_}
-use mathlib.Core.Bool.{Bool, true, false}
+use mathlib.Core.Path.{_≡_, sym, _∙_}
+use mathlib.Core.Bool.{true, false}
 use mathlib.Core.List.{List}
-use native.Mathlib.Nat.{not-suc-le-zero}
 use native.Mathlib.Omega.{arith}
 use lib.ListN.{length, take}
 use lib.Dec.{eqb}
 use borrow.Author.Tests.{eqb-true, eqb-false, ne-eqb}
-use Rattle.basis.specs.Tests.{either, contra}
+use Rattle.basis.specs.Tests.{either}
 use Rattle.octets.specs.Bytes.{byteAt}
 use Rattle.octets.specs.StoreLaws.{length-window}
 use Rattle.numeral.specs.Format.{comma, formatGood}
-use Rattle.numeral.specs.Reading.{some, readNumber}
+use Rattle.numeral.specs.Reading.{some}
 use Rattle.numeral.specs.ReadingLaws.{refused-16}
 use Rattle.numeral.specs.declared.Number.the-variants as number
 use Rattle.cell.specs.Cell.{markGood}
 use Rattle.table.specs.Table.{typeN, fieldType, fieldLength, fieldDecimals, fieldOffset, fieldCount, recordLength}
-use Rattle.table.specs.TableLaws.{Layout, layout, good-check, check-good}
+use Rattle.table.specs.TableLaws.{Layout, layout, good-check}
 use Rattle.table.specs.FormLaws.{field-form, form-numeric}
 use Rattle.table.specs.RecordLaws.{field-inside}
 use Rattle.table.specs.declared.Shape.{Shape}
 use Rattle.table.specs.declared.Checked.the-variants.{Good}
-use Rattle.append.specs.Append.{checkHeld, numberRefusal, textRefusal, textIn, textsRefusal, recordRefusal, appendRefusal, appendRule, done}
+use Rattle.append.specs.Append.{checkHeld, numberRefusal, textIn, textsRefusal, recordRefusal, appendRefusal, appendRule, done}
 use Rattle.append.specs.CheckLaws.{held-good, held-then, text-number, fieldRefused, record-text, Accepted, append-refused}
 
 -- ---- the fields one after another

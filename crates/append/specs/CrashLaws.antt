@@ -13,14 +13,16 @@ use Rattle.octets.specs.Store.{put, window}
 use Rattle.octets.specs.StoreLaws.{length-put, put-splice, window-before, window-after, window-inside, window-same}
 use Rattle.octets.specs.NumberLaws.{length-toLe32}
 use Rattle.table.specs.Table.{minTable, maxTable, fileEnd, headerLength, recordLength, recordCount, recordsEnd, sizeGood, dateGood, tableRefusal}
-use Rattle.table.specs.TableLaws.{HeaderFits, layout}
+use Rattle.table.specs.TableLaws.{layout}
 use Rattle.table.specs.RecordLaws.{records-next}
-use Rattle.append.specs.Append.{newEnd, write, recordWrite, countWrite, stored, appendRefusal, appendRule}
+use Rattle.append.specs.Append.{newEnd, write, told, recordWrite, countWrite}
 use Rattle.append.specs.Extent.{formRefusal, ownEnd, extentRule}
 use Rattle.append.specs.ExtentLaws.{form-good}
-use Rattle.append.specs.CheckLaws.{table-small, count-front, end-front, length-front, new-front, Accepted, accepted, accepted-long, few-enough, append-stored}
-use Rattle.append.specs.SameForm.{SameForm, length-same, end-same, date-good, form-kept}
-use Rattle.append.specs.ImageLaws.{shortened, counted, Whole, whole-good, tail-shortened, tail-extent, more-shortened, more-extent, more-good, more-marked}
+use Rattle.append.specs.CheckLaws.{table-small, count-front, end-front, length-front, new-front, Accepted, accepted-long, few-enough}
+use Rattle.table.specs.SameForm.{SameForm, length-same, end-same}
+use Rattle.append.specs.FormLaws.{date-good, form-kept}
+use Rattle.append.specs.ImageLaws.{shortened, counted, Whole, whole-good, tail-shortened, tail-extent, more-shortened, more-extent, more-good}
+use Rattle.append.specs.ImageLaws.{more-marked}
 
 -- ---- a table without what follows its records
 
@@ -207,20 +209,21 @@ module _ (b : List ℕ) (n : ℕ) (r : List ℕ) (a : Accepted b n r) where
 
   -- ---- what the host is told
 
-  -- it copies from the buffer, after the call, as many bytes as it is told from the place that it is told
   abbrev after : List ℕ
   after = write (countWrite b) (write (recordWrite b r) b)
 
-  -- these are the bytes of the two stores
-  pub told-first : window after end (length r + 1) ≡ recordWrite b r .bytes
+  -- the bytes that it finds in the buffer, after the call, where it is told and as many as it is told, are those of the two stores
+  pub told-first : window after (told (recordWrite b r) .place) (told (recordWrite b r) .length) ≡ recordWrite b r .bytes
   unfolding recordWrite countWrite ownEnd
   told-first =
-      let record-bytes = r ++ (fileEnd ∷ []) in
-      window-after (put b end record-bytes) 4 (toLe32 (recordCount b + 1)) end (length r + 1) (omega (arith, length-toLe32 (recordCount b + 1), behind-eight))
-      ∙ window-same b end record-bytes (length r + 1) (length-append r (fileEnd ∷ [])) (omega (arith, room))
+      let bytes = r ++ (fileEnd ∷ []) in
+      let count = toLe32 (recordCount b + 1) in
+      window-after (put b end bytes) 4 count end (length bytes) (omega (arith, length-toLe32 (recordCount b + 1), behind-eight))
+      ∙ window-same b end bytes (length bytes) refl (omega (arith, room, length-append r (fileEnd ∷ [])))
 
-  pub told-second : window after 4 4 ≡ countWrite b .bytes
+  pub told-second : window after (told (countWrite b) .place) (told (countWrite b) .length) ≡ countWrite b .bytes
   unfolding recordWrite countWrite ownEnd
   told-second =
-      window-same (put b end (r ++ (fileEnd ∷ []))) 4 (toLe32 (recordCount b + 1)) 4 (length-toLe32 (recordCount b + 1))
-      (rw length-put (omega (arith, room, behind-eight)))
+      let count = toLe32 (recordCount b + 1) in
+      window-same (put b end (r ++ (fileEnd ∷ []))) 4 count (length count) refl
+      (rw length-put (omega (arith, room, behind-eight, length-toLe32 (recordCount b + 1))))

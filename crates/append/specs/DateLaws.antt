@@ -1,7 +1,7 @@
 -- Laws: a table with a new update date passes its checks, has that date, and is as before otherwise. Assumes nothing.
 use Prim.Native.Nat.{ℕ, _+_, _-_, _≤_, _<_}
 use mathlib.Core.Path.{_≡_, refl, sym, ap, _∙_}
-use mathlib.Core.Bool.{Bool, true}
+use mathlib.Core.Bool.{true}
 use mathlib.Core.List.{List, [], _∷_}
 use native.Mathlib.Nat.{le-refl}
 use native.Mathlib.Omega.{arith}
@@ -10,15 +10,14 @@ use lib.Dec.{lit<}
 use Rattle.octets.specs.Bytes.{byteAt, le32}
 use Rattle.octets.specs.Store.{put, window}
 use Rattle.octets.specs.StoreLaws.{length-put, getD-put-low, getD-put-high, getD-window, window-same, window-inside}
-use Rattle.calendar.specs.Calendar.{isDate}
-use Rattle.table.specs.Table.{minTable, headerLength, recordCount, recordsEnd, sizeGood, dateGood, lengthGood, tableRefusal}
+use Rattle.table.specs.Table.{recordCount, recordsEnd, sizeGood, dateGood, lengthGood, tableRefusal}
 use Rattle.table.specs.TableLaws.{layout}
 use Rattle.append.specs.Append.{write}
 use Rattle.append.specs.UpdateDate.{firstYear, storableDate, dateWrite}
-use Rattle.append.specs.Extent.{ownEnd}
 use Rattle.append.specs.ExtentLaws.{form-good, length-good}
-use Rattle.append.specs.CheckLaws.{StorableDate, storable}
-use Rattle.append.specs.SameForm.{SameForm, end-same, size-good, table-kept}
+use Rattle.append.specs.CheckLaws.{storable}
+use Rattle.table.specs.SameForm.{SameForm, end-same}
+use Rattle.append.specs.FormLaws.{size-good, table-kept}
 use Rattle.append.specs.ReadLaws.{Extends}
 
 -- a good table with these bytes 1 to 3

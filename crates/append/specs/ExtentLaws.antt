@@ -1,16 +1,16 @@
 -- Laws: the checks of a table's form are its checks but the last. Assumes nothing.
 use Prim.Native.Nat.{ℕ, _≤_, _<_}
 use mathlib.Core.Path.{_≡_, refl, sym, ap, _∙_}
-use mathlib.Core.Bool.{Bool, true, false}
+use mathlib.Core.Bool.{Bool, true}
 use mathlib.Core.List.{List, [], _∷_, _++_}
 use native.Mathlib.Omega.{arith}
 use lib.ListN.{length}
 use lib.Dec.{eqb, leb, lit<}
-use borrow.Author.Tests.{eqb-true, eqb-false, le-leb, lt-leb, ne-eqb, leb-true}
-use Rattle.basis.specs.Tests.{either, both}
+use borrow.Author.Tests.{eqb-true, eqb-false, le-leb, lt-leb, ne-eqb}
+use Rattle.basis.specs.Tests.{either}
 use Rattle.basis.specs.Lists.{All}
-use Rattle.table.specs.Table.{minTable, sizeGood, lengthGood, firstRefusal, tableChecks, tableRefusal}
-use Rattle.table.specs.TableLaws.{first-pass, first-none, first-after, first-before, size-long, table-numbered}
+use Rattle.table.specs.Table.{minTable, lengthGood, firstRefusal, tableChecks, tableRefusal}
+use Rattle.table.specs.TableLaws.{first-none, first-after, first-before, size-long, table-numbered}
 use Rattle.append.specs.Extent.{formChecks, formRefusal, ownEnd, extentRefusal, extentRule}
 
 -- a refusal is below what all numbers of the checks are below

@@ -1,25 +1,25 @@
 -- Laws: a file whose first bytes are a table's, whatever follows them: shortened by its own count it is that table. An append's two stores lead from such a
 -- file to one that begins with the new table. Assumes nothing.
-use Prim.Native.Nat.{ℕ, _+_, _*_, _-_, _^_, _≤_, _<_}
+use Prim.Native.Nat.{ℕ, _+_, _-_, _≤_, _<_}
 use mathlib.Core.Path.{_≡_, refl, sym, ap, _∙_}
-use mathlib.Core.Bool.{Bool, true, false, _&&_}
-use mathlib.Core.List.{List, [], _∷_, _++_, append-assoc}
+use mathlib.Core.Bool.{true}
+use mathlib.Core.List.{List, [], _∷_, _++_}
 use native.Mathlib.Omega.{arith}
 use lib.ListN.{length, take, length-append, List·getD-append}
 use lib.Seq.{take-at, getD-at}
-use lib.Dec.{eqb, leb, lit<}
+use lib.Dec.{lit<}
 use borrow.Author.Tests.{le-leb, eq-eqb, ne-eqb}
-use Rattle.basis.specs.Tests.{both}
-use Rattle.octets.specs.Bytes.{byteAt, le16, le32, toLe32}
+use Rattle.octets.specs.Bytes.{byteAt, le32, toLe32}
 use Rattle.octets.specs.Store.{put, window}
 use Rattle.octets.specs.StoreLaws.{length-put, getD-put-low, getD-put-high, window-inside}
 use Rattle.octets.specs.NumberLaws.{length-toLe32, le32-put}
-use Rattle.table.specs.Table.{minTable, maxTable, fileEnd, headerLength, recordLength, recordCount, recordsEnd, sizeGood, dateGood, lengthGood, tableRefusal}
+use Rattle.table.specs.Table.{minTable, maxTable, fileEnd, recordLength, recordCount, recordsEnd, sizeGood, dateGood, lengthGood, tableRefusal}
 use Rattle.table.specs.TableLaws.{HeaderFits}
 use Rattle.table.specs.RecordLaws.{records-next}
-use Rattle.append.specs.Extent.{formChecks, formRefusal, ownEnd, extentRule}
+use Rattle.append.specs.Extent.{formRefusal, ownEnd, extentRule}
 use Rattle.append.specs.ExtentLaws.{extent-told}
-use Rattle.append.specs.SameForm.{SameForm, header-same, length-same, end-same, form-header, form-kept, table-kept, date-good, size-good}
+use Rattle.table.specs.SameForm.{SameForm, end-same}
+use Rattle.append.specs.FormLaws.{form-header, form-kept, table-kept, date-good, size-good}
 
 -- a file shortened to H + n·R by its own count
 unfoldable pub shortened : List ℕ → List ℕ
@@ -128,7 +128,8 @@ module _ (old r : List ℕ) (whole : Whole old) (fills : length r ≡ recordLeng
   pub more-shortened : shortened more ≡ counted old (old ++ r)
   unfolding shortened counted window
   more-shortened =
-      let front = window-inside file 4 (toLe32 (recordCount old + 1)) 0 (length old + length r) (omega (arith, length-toLe32 (recordCount old + 1), header .long)) in
+      let count = recordCount old + 1 in
+      let front = window-inside file 4 (toLe32 count) 0 (length old + length r) (omega (arith, length-toLe32 count, header .long)) in
       rw more-end (front ∙ rw (take-at (old ++ r) tail (length old + length r) (length-append old r)))
 
   module _ (small : length file ≤ maxTable) where

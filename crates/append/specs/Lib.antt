@@ -3,7 +3,7 @@ pub mod UpdateDate
 pub mod Extent
 pub mod CheckLaws
 pub mod ExtentLaws
-pub mod SameForm
+pub mod FormLaws
 pub mod ImageLaws
 pub mod CrashLaws
 pub mod ReadLaws

@@ -1,9 +1,9 @@
 -- Laws: after an accepted append the table has one record more. Each old record reads as before, the new one as the bytes given, and the walk hands out the
 -- old numbers and then the new one, unless it is deleted. Assumes nothing.
 use Prim.Native.Nat.{ℕ, zero, suc, _+_, _-_, _≤_, _<_}
-use mathlib.Core.Path.{_≡_, refl, sym, ap, _∙_}
-use mathlib.Core.Bool.{Bool, true, false, cond}
-use mathlib.Core.List.{List, [], _∷_, _++_, append-assoc, append-nil}
+use mathlib.Core.Path.{_≡_, ap, _∙_}
+use mathlib.Core.Bool.{true, cond}
+use mathlib.Core.List.{List, [], _∷_, _++_}
 use native.Mathlib.Numerals.{add-one}
 use native.Mathlib.Omega.{arith}
 use lib.ListN.{length, take, length-append, List·getD-append}
@@ -11,19 +11,21 @@ use lib.Seq.{getD-append-add}
 use lib.Dec.{eqb}
 use Rattle.basis.specs.Tests.{either}
 use Rattle.octets.specs.Bytes.{byteAt}
-use Rattle.table.specs.Table.{fileEnd, keptMark, deletedMark, headerLength, recordCount, deletionByte, tableRefusal}
+use Rattle.octets.specs.Store.{window}
+use Rattle.table.specs.Table.{fileEnd, keptMark, deletedMark, headerLength, recordCount, deletionByte}
 use Rattle.table.specs.TableLaws.{layout}
-use Rattle.cell.specs.Cell.{markGood}
 use Rattle.walk.specs.RunLaws.{handedOut, walkRun, walk-whole}
 use Rattle.walk.specs.declared.Step.{Step}
-use Rattle.walk.specs.declared.Step.the-variants.{Record, Done, Refused}
-use Rattle.append.specs.Append.{newEnd, appendRefusal, appendRule}
+use Rattle.walk.specs.declared.Step.the-variants.{Record, Done}
+use Rattle.append.specs.declared.Store.{Store}
 use Rattle.append.specs.Extent.{ownEnd}
-use Rattle.append.specs.CheckLaws.{Accepted, accepted}
-use Rattle.append.specs.SameForm.{header-same}
+use Rattle.append.specs.Append.{newEnd, appendRefusal, recordWrite, countWrite, stored, appendRule}
+use Rattle.append.specs.CheckLaws.{Accepted, accepted, append-stored}
+use Rattle.table.specs.SameForm.{header-same}
 use Rattle.append.specs.ImageLaws.{shortened, beyond, kept, more-form, more-count}
-use Rattle.append.specs.CrashLaws.{behind, cut-byte, cut-form, cut-count, cut-length, cut-whole, newFile, fills, few, crash-safe, new-file}
-use Rattle.append.specs.ReadLaws.{Extends, Added, mark-same, last-mark}
+use Rattle.append.specs.CrashLaws.{behind, cut-byte, cut-form, cut-count, cut-length, cut-whole, newFile, fills, few, crash-safe, new-file, told-first}
+use Rattle.append.specs.CrashLaws.{told-second}
+use Rattle.append.specs.ReadLaws.{Added, mark-same, last-mark}
 
 module _ (b : List ℕ) (n : ℕ) (r : List ℕ) (a : Accepted b n r) where
   abbrev t : List ℕ
@@ -81,6 +83,27 @@ module _ (b : List ℕ) (n : ℕ) (r : List ℕ) (a : Accepted b n r) where
         mark = a .taken .mark;
         bytes = new-byte;
       }
+
+-- what the call leaves begins with the new table
+pub append-leaves : (b : List ℕ) (n : ℕ) (r : List ℕ) → appendRefusal b n r ≡ 0
+    → (take (newEnd b) (appendRule b n r .after) ≡ newFile (take n b) r) × Added (take n b) r (newFile (take n b) r)
+unfolding stored
+append-leaves b n r e =
+    let a = accepted b n r e in
+    (rw (append-stored b n r e) (new-file b n r a), added b n r a)
+
+-- the part of a buffer that a host is told of
+abbrev pub copied : List ℕ → Store → List ℕ
+copied b s = window b (s .place) (s .length)
+
+-- the host copies from it, where it is told, the very bytes that the crash law speaks of
+pub append-told : (b : List ℕ) (n : ℕ) (r : List ℕ) → appendRefusal b n r ≡ 0
+    → (copied (appendRule b n r .after) (appendRule b n r .answer .first) ≡ recordWrite b r .bytes)
+    × (copied (appendRule b n r .after) (appendRule b n r .answer .second) ≡ countWrite b .bytes)
+unfolding stored
+append-told b n r e =
+    let a = accepted b n r e in
+    (rw (append-stored b n r e) (told-first b n r a), rw (append-stored b n r e) (told-second b n r a))
 
 -- ---- the walk
 

@@ -1,14 +1,14 @@
 -- Laws: a table that was written to reads as before. Each record that it had reads as before in every field, after an append and after a new date, and the
 -- walk hands out the numbers that it did. Assumes nothing.
-use Prim.Native.Nat.{ℕ, zero, suc, _+_, _-_, _≤_, _<_}
+use Prim.Native.Nat.{ℕ, _+_, _-_, _≤_, _<_}
 use mathlib.Core.Path.{_≡_, refl, sym, ap, _∙_}
-use mathlib.Core.Bool.{Bool, true, false, cond}
-use mathlib.Core.List.{List, [], _∷_, _++_}
+use mathlib.Core.Bool.{Bool, true}
+use mathlib.Core.List.{List, [], _∷_}
 use native.Mathlib.Nat.{mul-le-mul-right, add-mul}
 use native.Mathlib.Omega.{arith}
 use lib.ListN.{length}
 use lib.Seq.{ext-getD}
-use lib.Dec.{eqb, lit<}
+use lib.Dec.{eqb}
 use borrow.Author.Tests.{eqb-true, le-leb}
 use Rattle.basis.specs.Tests.{either}
 use Rattle.octets.specs.Bytes.{byteAt}
@@ -18,7 +18,7 @@ use Rattle.table.specs.Table.{typeC, typeN, typeD, typeL, typeM, fieldType, fie
 use Rattle.table.specs.Table.{recordLength, recordCount, recordsEnd, recordStart, deletionByte, firstRefusal, tableChecks, tableRefusal}
 use Rattle.table.specs.FormLaws.{field-form, form-some}
 use Rattle.table.specs.TableLaws.{HeaderFits, layout, table-numbered, first-after}
-use Rattle.table.specs.RecordLaws.{offset-positive, record-positive, field-inside, record-inside}
+use Rattle.table.specs.RecordLaws.{record-positive, field-inside}
 use Rattle.field.specs.Field.{numberGood}
 use Rattle.field.specs.FieldLaws.{place-good, number-range}
 use Rattle.memo.specs.Memo.{memoText}
@@ -26,13 +26,14 @@ use Rattle.memo.specs.declared.MemoPlace.{MemoPlace}
 use Rattle.memo.specs.declared.MemoPlace.the-variants.{Text, Empty, Refused}
 use Rattle.calendar.specs.DateText.{dateOf}
 use Rattle.numeral.specs.Reading.{readNumber}
-use Rattle.cell.specs.Cell.{readsType, markGood, cellRefusal, fieldStart, fieldBytes, numberCell, dateCell, logicalOf, logicalCell, memoPart, textAt, textCell, textPart}
+use Rattle.cell.specs.Cell.{readsType, markGood, cellRefusal, fieldStart, fieldBytes, numberCell, dateCell, logicalOf, logicalCell, memoPart, textAt}
+use Rattle.cell.specs.Cell.{textCell, textPart}
 use Rattle.cell.specs.CellLaws.{cell-good}
 use Rattle.cell.specs.declared.Reads.{Reads}
 use Rattle.cell.specs.declared.Reads.the-variants.{Numbers, Dates, Logicals, Texts}
 use Rattle.append.specs.Append.{textIn}
 use Rattle.append.specs.Extent.{ownEnd}
-use Rattle.append.specs.SameForm.{SameForm, header-same, length-same, fields-same, end-same, type-same, width-same, decimals-same, offset-same}
+use Rattle.table.specs.SameForm.{SameForm, fields-same, end-same, type-same, width-same, decimals-same, offset-same}
 
 -- two parts with the same bytes
 window-alike : (b c : List ℕ) (from at n : ℕ) → from + n ≤ length b → at + n ≤ length c → ((k : ℕ) → k < n → byteAt c (at + k) ≡ byteAt b (from + k))
@@ -176,8 +177,11 @@ module _ (t c : List ℕ) (more : Extends t c) where
       unfolding textCell textAt fieldBytes
       text-alike m =
           rw (refusal-same Texts) (either (eqb (cellRefusal Texts t i field) 0)
-          (λ none. let l = inside Texts none in
-          rw (none, bytes-same Texts none, type-same t c header (more .form) (field - 1) l, width-same t c header (more .form) (field - 1) l, place-same Texts none))
+          (λ none.
+          let l = inside Texts none in
+          let type = type-same t c header (more .form) (field - 1) l in
+          let width = width-same t c header (more .form) (field - 1) l in
+          rw (none, bytes-same Texts none, type, width, place-same Texts none))
           (λ some. rw some))
 
       -- and so is the part handed back
@@ -186,7 +190,9 @@ module _ (t c : List ℕ) (more : Extends t c) where
       part-alike m =
           rw (text-alike m) (either (eqb (cellRefusal Texts t i field) 0)
           (λ none. either (eqb (fieldType t (field - 1)) typeC)
-          (λ chars. rw (none, chars) (rw (place-same Texts none, width-same t c header (more .form) (field - 1) (inside Texts none)) at (bytes-same Texts none)))
+          (λ chars.
+          let width = width-same t c header (more .form) (field - 1) (inside Texts none) in
+          rw (none, chars) (rw (place-same Texts none, width) at (bytes-same Texts none)))
           (λ memo. rw (none, memo) (memo-alone c t m (memoText (fieldBytes t i field) m))))
           (λ some. rw some))
 

@@ -56,7 +56,10 @@ returns-2 : tie.Need-returns-2
 returns-2 c = sym (record-15 _ _ _ (long (c .before .before .before)) (mark (c .before) ∙ not-true _ (c .if2 .taken)))
 
 texts-refusal-requires : tie.Need-texts-refusal-requires
-texts-refusal-requires c κs = let known = shaped (c .before .before .before .before .before .before .before) in (known .table, known .fields, long (c .before .before .before))
+texts-refusal-requires c κs =
+    let fills = c .before .before .before in
+    let known = shaped (fills .before .before .before .before) in
+    (known .table, known .fields, long fills)
 
 returns-3 : tie.Need-returns-3
 returns-3 c =

@@ -1,5 +1,5 @@
 -- `append::store_record` meets its contract: the two stores are the rule's. Assumes nothing.
-use mathlib.Core.Path.{_≡_, refl, ap, _∙_}
+use mathlib.Core.Path.{refl, ap, _∙_}
 use Prim.Native.Nat.{_+_, _<_}
 use native.Mathlib.Omega.{arith}
 use lib.ListN.{length, length-set}
@@ -39,7 +39,10 @@ add-store-le32 : tie.Need-add-store-le32
 add-store-le32 c = omega (arith, count-fits (c .before .before .before .before .before .before .before))
 
 store-le32-requires : tie.Need-store-le32-requires
-store-le32-requires c κs = rw (length-set, c .before .before .before .copy-in .ensures, length-put) (omega (arith, c .before .before .before .before .before .before .before .before .before .before .before .pre .long))
+store-le32-requires c κs =
+    let copied = c .before .before .before in
+    let start = copied .before .before .before .before .before .before .before .before in
+    rw (length-set, copied .copy-in .ensures, length-put) (omega (arith, start .pre .long))
 
 add-length : tie.Need-add-length
 add-length c = search needs
@@ -53,7 +56,9 @@ returns : tie.Need-returns
 returns c =
     let copied = c .before .before .before .before .before .before in
     let placed = copied .before .before in
-    stored-as _ _ _ _ _ _ _ (placed .before .before .load-le32 .ensures) (placed .records-end .ensures .0) (copied .copy-in .ensures) refl (c .before .before .store-le32 .ensures)
+    let counted = placed .before .before in
+    let last = c .before .before in
+    stored-as _ _ _ _ _ _ _ (counted .load-le32 .ensures) (placed .records-end .ensures .0) (copied .copy-in .ensures) refl (last .store-le32 .ensures)
 
 pub store-record-spec : {M : Type 1} → statement M
 store-record-spec =

@@ -1,5 +1,5 @@
 -- `append::text_refusal` meets its contract: the type decides who reads the text. Assumes nothing.
-use mathlib.Core.Path.{refl, sym, _∙_}
+use mathlib.Core.Path.{sym, _∙_}
 use Rattle.append.specs.CheckLaws.{text-number, text-date, text-logical, text-memo, text-any}
 use borrow.Author.Needs.{needs}
 use Rattle.append.proofs.text_refusal.Statement.{statement}

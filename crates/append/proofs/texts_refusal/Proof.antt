@@ -1,10 +1,9 @@
 -- `append::texts_refusal` meets its contract. The loop's invariant: `start` is the offset of field `j`, and the fields from it on decide. Assumes nothing.
 use Prim.Native.Nat.{_+_, _-_, _≤_}
-use mathlib.Core.Path.{_≡_, refl, sym, _∙_}
+use mathlib.Core.Path.{_≡_, sym, _∙_}
 use native.Mathlib.Omega.{arith}
 use lib.ListN.{length}
-use borrow.Author.Needs.{needs}
-use Rattle.table.specs.Table.{descriptor, fieldLength, fieldOffset, fieldCount}
+use Rattle.table.specs.Table.{descriptor, fieldLength, fieldOffset}
 use Rattle.table.specs.TableLaws.{layout}
 use Rattle.table.specs.RecordLaws.{offset-first, offset-next, field-inside, descriptor-inside}
 use Rattle.append.specs.Append.{textsRefusal}
@@ -13,7 +12,8 @@ use Rattle.append.proofs.texts_refusal.Statement.{statement}
 use Rattle.append.proofs.texts_refusal.Tie as tie
 
 abbrev Inv-loop : tie.InvT-loop
-Inv-loop table fields bytes start₀ j₀ start j = (j ≤ fields) × (start ≡ fieldOffset table j) × (textsRefusal table bytes 0 fields ≡ textsRefusal table bytes j (fields - j))
+Inv-loop table fields bytes start₀ j₀ start j =
+    (j ≤ fields) × (start ≡ fieldOffset table j) × (textsRefusal table bytes 0 fields ≡ textsRefusal table bytes j (fields - j))
 
 abbrev μ-loop : tie.MeasureT-loop
 μ-loop table fields bytes start₀ j₀ start j = fields - j

@@ -1,22 +1,19 @@
--- Laws: what a table's header says of its form, all but the size, the update date and the record count, stands in byte 0 and from byte 8 on. So two tables
--- that agree there have one form, whatever their dates, counts and lengths. Assumes nothing.
+-- Laws: what a table's header says of its form, all but the update date and the record count, stands in byte 0 and from byte 8 on. So two tables that agree
+-- there have one form, whatever their dates, counts and lengths. Assumes nothing.
 use Prim.Native.Nat.{ℕ, zero, suc, _+_, _*_, _-_, _≤_, _<_}
-use mathlib.Core.Path.{_≡_, refl, sym, _∙_}
+use mathlib.Core.Path.{_≡_, refl}
 use mathlib.Core.Bool.{Bool, true}
-use mathlib.Core.List.{List, [], _∷_}
+use mathlib.Core.List.{List}
 use native.Mathlib.Omega.{arith}
 use lib.ListN.{length}
-use lib.Dec.{eqb, leb}
 use borrow.Author.Tests.{le-leb, eq-eqb}
-use Rattle.basis.specs.Lists.{All}
 use Rattle.octets.specs.Bytes.{byteAt, le16}
 use Rattle.table.specs.Range.{allBelow, anyBelow, sumBelow}
-use Rattle.table.specs.Table.{descriptor, fieldType, fieldLength, fieldDecimals, fieldOffset, fieldCount, headerLength, recordLength, recordsEnd}
-use Rattle.table.specs.Table.{sizeGood, kindGood, dateGood, headerGood, endMarkGood, nameGood, nameGoesOn, descriptorGood, fieldsGood, sameByte, sameName}
-use Rattle.table.specs.Table.{nameTaken, namesDiffer, isMemo, hasMemo, memoKindGood, recordLengthGood, lengthGood, firstRefusal, tableChecks, tableRefusal}
-use Rattle.table.specs.TableLaws.{HeaderFits, header-fits, first-pass, first-none}
-use Rattle.append.specs.Extent.{formChecks, formRefusal}
-use Rattle.append.specs.ExtentLaws.{form-numbered, form-passed}
+use Rattle.table.specs.Table.{maxFields, descriptor, fieldType, fieldLength, fieldDecimals, fieldOffset, fieldCount, headerLength, recordLength}
+use Rattle.table.specs.Table.{recordsEnd}
+use Rattle.table.specs.Table.{kindGood, headerGood, endMarkGood, nameGood, nameGoesOn, descriptorGood, fieldsGood, sameByte, sameName}
+use Rattle.table.specs.Table.{nameTaken, namesDiffer, isMemo, hasMemo, memoKindGood, recordLengthGood}
+use Rattle.table.specs.TableLaws.{HeaderFits}
 
 -- ---- tests and sums that agree on every number below a bound
 
@@ -34,12 +31,6 @@ sum-same : (p q : ℕ → ℕ) (n : ℕ) → ((j : ℕ) → j < n → p j ≡ q 
 unfolding sumBelow
 sum-same p q zero h = refl
 sum-same p q (suc n) h = rw (sum-same p q n (λ j l. h j (omega arith)), h n (omega arith))
-
--- checks that all hold refuse nothing
-first-all : (checks : List (Bool × ℕ)) → All (λ check. check .0 ≡ true) checks → firstRefusal checks ≡ 0
-unfolding firstRefusal
-first-all [] p = refl
-first-all (check ∷ checks) p = first-pass (check .0) (check .1) checks (p .0) ∙ first-all checks (p .1)
 
 -- ---- two tables of one form
 
@@ -83,11 +74,11 @@ module _ (b c : List ℕ) (fits : HeaderFits b) (same : SameForm b c) where
 
   -- ---- check by check
 
-  kind-same : kindGood c ≡ kindGood b
+  pub kind-same : kindGood c ≡ kindGood b
   unfolding kindGood
   kind-same = rw (same .first)
 
-  mark-same : endMarkGood c ≡ endMarkGood b
+  pub mark-same : endMarkGood c ≡ endMarkGood b
   unfolding endMarkGood
   mark-same = rw (header-same, same .rest (headerLength b - 1) (omega (arith, fits .form)) (omega (arith, fits .form)))
 
@@ -104,7 +95,7 @@ module _ (b c : List ℕ) (fits : HeaderFits b) (same : SameForm b c) where
             (λ k m. rw (byte k (omega arith), same .rest (at + k + 1) (omega arith) (omega (arith, fits .form)))),
       )
 
-  descriptors-same : fieldsGood c ≡ fieldsGood b
+  pub descriptors-same : fieldsGood c ≡ fieldsGood b
   unfolding fieldsGood descriptorGood
   descriptors-same =
       rw fields-same (all-same (descriptorGood c) (descriptorGood b) (fieldCount b)
@@ -114,7 +105,7 @@ module _ (b c : List ℕ) (fits : HeaderFits b) (same : SameForm b c) where
   unfolding sameName sameByte
   pair-same i j l m = all-same (sameByte c i j) (sameByte b i j) 11 (λ k n. rw (inner i k l (omega arith), inner j k m (omega arith)))
 
-  names-same : namesDiffer c ≡ namesDiffer b
+  pub names-same : namesDiffer c ≡ namesDiffer b
   unfolding namesDiffer nameTaken
   names-same =
       rw (
@@ -123,16 +114,16 @@ module _ (b c : List ℕ) (fits : HeaderFits b) (same : SameForm b c) where
             (λ i l. any-same (sameName c i) (sameName b i) i (λ j m. pair-same i j l (omega arith))),
       )
 
-  memo-same : memoKindGood c ≡ memoKindGood b
+  pub memo-same : memoKindGood c ≡ memoKindGood b
   unfolding memoKindGood hasMemo isMemo
   memo-same = rw (same .first, fields-same, any-same (isMemo c) (isMemo b) (fieldCount b) (λ j l. rw (type-same j l)))
 
-  filled-same : recordLengthGood c ≡ recordLengthGood b
+  pub filled-same : recordLengthGood c ≡ recordLengthGood b
   unfolding recordLengthGood
   filled-same = rw (length-same, fields-same, offset-same (fieldCount b) (omega arith))
 
   -- the header's length, if the header lies in the table
-  form-inside : headerLength b ≤ length c → headerGood c ≡ true
+  pub form-inside : headerLength b ≤ length c → headerGood c ≡ true
   unfolding headerGood
   form-inside inside =
       rw (
@@ -140,60 +131,6 @@ module _ (b c : List ℕ) (fits : HeaderFits b) (same : SameForm b c) where
         fields-same,
         eq-eqb (headerLength b) (33 + 32 * fieldCount b) (fits .form),
         le-leb 1 (fieldCount b) (fits .some),
-        le-leb (fieldCount b) 128 (fits .few),
+        le-leb (fieldCount b) maxFields (fits .few),
         le-leb (headerLength b) (length c) inside,
       )
-
--- what a good form gives
-module _ (b : List ℕ) (good : formRefusal b ≡ 0) where
-  held : All (λ check. check .0 ≡ true) (formChecks b)
-  unfolding formRefusal
-  held = first-none (formChecks b) (form-numbered b) good
-
-  pub form-header : HeaderFits b
-  unfolding formChecks tableChecks
-  form-header = header-fits b (held .0) (held .1 .1 .1 .0)
-
-  pub size-good : sizeGood b ≡ true
-  unfolding formChecks tableChecks
-  size-good = held .0
-
-  pub date-good : dateGood b ≡ true
-  unfolding formChecks tableChecks
-  date-good = held .1 .1 .0
-
--- a good form is one also with another size, date, count and length, if these are good
-module _ (b c : List ℕ) (good : formRefusal b ≡ 0) where
-  module _ (same : SameForm b c) (size : sizeGood c ≡ true) (date : dateGood c ≡ true) (inside : headerLength b ≤ length c) where
-    pub form-kept : formRefusal c ≡ 0
-    unfolding formRefusal formChecks tableChecks
-    form-kept =
-        let fits = form-header b good in
-        let was = held b good in
-        let marks = was .1 .1 .1 .1 in
-        first-all (formChecks c) (
-          size,
-          (
-            kind-same b c fits same ∙ was .1 .0,
-            (
-              date,
-              (
-                form-inside b c fits same inside,
-                (
-                  mark-same b c fits same ∙ marks .0,
-                  (
-                    descriptors-same b c fits same ∙ marks .1 .0,
-                    (
-                      names-same b c fits same ∙ marks .1 .1 .0,
-                      (memo-same b c fits same ∙ marks .1 .1 .1 .0, (filled-same b c fits same ∙ marks .1 .1 .1 .1 .0, tt)),
-                    ),
-                  ),
-                ),
-              ),
-            ),
-          ),
-        )
-
-    pub table-kept : lengthGood c ≡ true → tableRefusal c ≡ 0
-    unfolding firstRefusal
-    table-kept ended = form-passed c form-kept ∙ rw ended
