@@ -3,3 +3,5 @@ pub mod Answers
 pub mod Lent
 pub mod LentLaws
 pub mod ToldApart
+pub mod Writing
+pub mod WritingLaws
