@@ -117,6 +117,23 @@ typedef struct { uint32_t passed; } gl_position;
 /* The next undeleted record. 1 to 10, then 0 with the record's number, 15 (the position has moved past the bad record) or 258 (the position stays). */
 uint32_t gl_walk(const uint8_t *table, size_t table_len, gl_position *position, uint32_t *record);
 
+/* ---- Writing a table. It lies in the buffer's first table_len bytes; the buffer may be longer. */
+
+/* Appends one record, given as its bytes: the deletion byte and each field's text. 10 where table_len is above buffer_len, 1 to 10, 9 where the record has
+   another length than the table's records, 15, then for each field's text in order 16 to 18, 20 or 21 (the memo file is not looked at), 30 where the table
+   would be longer than the buffer or than 16,777,216 bytes. 0 sets all four: the two stores that were made in the buffer. A host makes them in its file from
+   the buffer's bytes, in this order: record_length bytes at record_place, and only when these are safe count_length bytes at count_place. After a power loss
+   in between, gl_table_extent tells the length to shorten the file to; it is then the table as it was before the call. */
+uint32_t gl_table_append(uint8_t *buffer, size_t buffer_len, size_t table_len, const uint8_t *record, size_t record_len,
+                         uint64_t *record_place, uint64_t *record_length, uint64_t *count_place, uint64_t *count_length);
+
+/* Sets the update date, bytes 1 to 3. 10 where table_len is above buffer_len, 1 to 10, 3 where it is no date from 1900 to 2155. */
+uint32_t gl_table_set_date(uint8_t *buffer, size_t buffer_len, size_t table_len, uint32_t year, uint32_t month, uint32_t day);
+
+/* For the host after a power loss: the length of the table that a file begins with, by its own count and without an end mark. 1 to 9, 10 where the file is
+   shorter than that. */
+uint32_t gl_table_extent(const uint8_t *table, size_t table_len, uint64_t *length);
+
 /* ---- One field of one record, both counted from 1. 1 to 13, 15, then what concerns the text; 256 for an empty field. */
 
 /* An N field's value, in units of 10 to the -decimals. 16, 17, 18. */

@@ -908,6 +908,145 @@ static void test_calls(const char *name, size_t len)
     give_back(&want);
 }
 
+/* ---- Writing a table: a list of calls with their answers, and the tables after the last. */
+
+static void has_extent(const uint8_t *file, size_t len, uint64_t want)
+{
+    lent l = lend(file, len);
+    OUT(uint64_t, length);
+    SAME(gl_table_extent(l.bytes, l.len, &length[1]), 0);
+    HELD(length, want);
+    SAME(gl_table_check(l.bytes, (size_t)want), 0);
+    UNCHANGED(l);
+    MARGINS(l);
+    give_back(&l);
+}
+
+static uint64_t extent_of(const lent *t)
+{
+    uint64_t length = 0;
+    SAME(gl_table_extent(t->bytes, t->len, &length), 0);
+    return length;
+}
+
+/* Power fails at every byte of the first store, and then after both: what a file shortened to its extent holds. */
+static void loses_power(const lent *t, const uint64_t store[4])
+{
+    size_t old = (size_t)store[0], end = (size_t)(store[0] + store[1]);
+    uint8_t *file = room(end);
+    memcpy(file, t->copy, old);
+    memcpy(file + old, t->bytes + old, end - old);
+    for (size_t cut = old; cut <= end; cut++)
+        has_extent(file, cut, old);
+    memcpy(file + store[2], t->bytes + store[2], (size_t)store[3]);
+    has_extent(file, end, end - 1);
+    SAME_BYTES(file, t->bytes, end);
+    SAME_BYTES(t->bytes + end, t->copy + end, t->len - end);
+    SAME(gl_table_check(file, end), 0);
+    free(file);
+}
+
+static void append_line(lent *t, size_t table_len, const char *rest)
+{
+    static char word[512];
+    static uint8_t bytes[256];
+    uint32_t answer = 0;
+    uint64_t want[4] = {OLD, OLD, OLD, OLD};
+    sscanf(rest, "%511s %" SCNu32 " %" SCNu64 " %" SCNu64 " %" SCNu64 " %" SCNu64, word, &answer, &want[0], &want[1], &want[2], &want[3]);
+    size_t n = hex(word, bytes);
+    lent record = lend(bytes, n);
+    OUT(uint64_t, record_place);
+    OUT(uint64_t, record_length);
+    OUT(uint64_t, count_place);
+    OUT(uint64_t, count_length);
+    SAME(gl_table_append(t->bytes, t->len, table_len, record.bytes, record.len,
+                         &record_place[1], &record_length[1], &count_place[1], &count_length[1]), answer);
+    HELD(record_place, want[0]);
+    HELD(record_length, want[1]);
+    HELD(count_place, want[2]);
+    HELD(count_length, want[3]);
+    if (answer == 0)
+        loses_power(t, want);
+    else
+        UNCHANGED(*t);
+    UNCHANGED(record);
+    MARGINS(record);
+    give_back(&record);
+}
+
+static void date_line(lent *t, size_t table_len, const char *rest)
+{
+    uint32_t y = 0, m = 0, d = 0, answer = 0;
+    sscanf(rest, "%" SCNu32 " %" SCNu32 " %" SCNu32 " %" SCNu32, &y, &m, &d, &answer);
+    SAME(gl_table_set_date(t->bytes, t->len, table_len, y, m, d), answer);
+    if (answer == 0) {
+        t->copy[1] = (uint8_t)(y - 1900);
+        t->copy[2] = (uint8_t)m;
+        t->copy[3] = (uint8_t)d;
+    }
+    UNCHANGED(*t);
+}
+
+static void image_line(const lent *t, const char *rest)
+{
+    char name[64];
+    size_t len = 0;
+    sscanf(rest, "%63s %zu", name, &len);
+    lent want = load("crates/test_writing/data", name);
+    SAME(want.len, len);
+    SAME(extent_of(t) + 1, len);
+    SAME_BYTES(t->bytes, want.bytes, len);
+    give_back(&want);
+}
+
+/* `lay_out YEAR MONTH DAY ROOM FIELDS ANSWER`: an accepted one's table is the file that ROOM names, in a buffer of bytes 0xEE. */
+static void lay_out_line(lent *t, const char *line)
+{
+    char name[16];
+    size_t len = strlen(line);
+    if (strcmp(line + len - 2, " 0") != 0)
+        return;
+    sscanf(line, "lay_out %*s %*s %*s %15s", name);
+    lent laid = load("crates/test_writing/data", name);
+    give_back(t);
+    *t = lend(NULL, strtoul(name, NULL, 10));
+    memset(t->bytes, 0xEE, t->len);
+    memcpy(t->bytes, laid.bytes, laid.len);
+    give_back(&laid);
+}
+
+static void write_line(lent *t, const char *line)
+{
+    if (strncmp(line, "lay_out ", 8) == 0) {
+        lay_out_line(t, line);
+        return;
+    }
+    size_t table_len = (size_t)extent_of(t) + 1;
+    keep(t);
+    if (strncmp(line, "append ", 7) == 0)
+        append_line(t, table_len, line + 7);
+    else if (strncmp(line, "append_longer ", 14) == 0)
+        append_line(t, t->len + 1, line + 14);
+    else if (strncmp(line, "date ", 5) == 0)
+        date_line(t, table_len, line + 5);
+    else if (strncmp(line, "image ", 6) == 0)
+        image_line(t, line + 6);
+    else
+        SAME(line[0], 0);
+    MARGINS(*t);
+}
+
+static void test_writing(void)
+{
+    char *line;
+    lent text = load("crates/test_writing/data", "k3_writing.calls"), t = lend(NULL, 1);
+    text.bytes[text.len] = 0; /* its first canary */
+    for (line = strtok((char *)text.bytes, "\n"); line != NULL; line = strtok(NULL, "\n"))
+        write_line(&t, line);
+    give_back(&text);
+    give_back(&t);
+}
+
 /* Puts records 1 to `last` of a table into an index on its field 1. */
 static void index_records(lent *index, const lent *t, uint32_t k, uint32_t last)
 {
@@ -1015,6 +1154,7 @@ int main(int argc, char **argv)
     test_calls("k46_mixed", 32768);
     test_calls("k100_deep", 65536);
     test_calls("k100_full", 4096);
+    test_writing();
     test_match();
     test_damaged_index("k1_bytes.idx", "\x80");
     test_damaged_index("k100_full.idx", "0123456789012345678901234567890123456789012345678901234567890123456789012345678901234567890123456789");

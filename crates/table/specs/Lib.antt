@@ -5,3 +5,4 @@ pub mod TableLaws
 pub mod RecordLaws
 pub mod FormLaws
 pub mod NameLaws
+pub mod SameForm

@@ -7,7 +7,7 @@ ghost use Rattle.table.specs.TableLaws.{HeaderFits};
 
 const MIN_TABLE: usize = 32;
 
-const MAX_TABLE: usize = 16777216;
+pub const MAX_TABLE: usize = 16777216;
 
 const MAX_FIELDS: usize = 128;
 
@@ -21,7 +21,7 @@ const MEMO_KIND: u32 = 0xF5;
 
 const END_MARK: u8 = 0x0D;
 
-const FILE_END: u8 = 0x1A;
+pub const FILE_END: u8 = 0x1A;
 
 // A record's deletion byte.
 pub const KEPT: u32 = 0x20;

@@ -1,0 +1,12 @@
+pub mod Append
+pub mod UpdateDate
+pub mod Extent
+pub mod CheckLaws
+pub mod ExtentLaws
+pub mod FormLaws
+pub mod ImageLaws
+pub mod CrashLaws
+pub mod ReadLaws
+pub mod NewTableLaws
+pub mod DateLaws
+pub mod CommaLaws
