@@ -36,20 +36,20 @@ fn print_appended(done: Appended) {
 // `RECORD ..`, with the table's length.
 fn append_line(buffer: &mut [u8], len: usize, line: &[u8]) {
     let mut bytes = [0u8; 256];
-    let n = lines::hex_bytes(lines::word(line), &mut bytes);
+    let n = test_lines::hex_bytes(test_lines::word(line), &mut bytes);
     print_appended(append::append(buffer, len, &bytes[..n]));
 }
 
 // `YEAR MONTH DAY ..`
 fn date_line(buffer: &mut [u8], len: usize, line: &[u8]) {
-    let month = lines::after_word(line);
-    let day = lines::after_word(month);
+    let month = test_lines::after_word(line);
+    let day = test_lines::after_word(month);
     let answer = append::set_date(
         buffer,
         len,
-        lines::first_number(line),
-        lines::first_number(month),
-        lines::first_number(day),
+        test_lines::first_number(line),
+        test_lines::first_number(month),
+        test_lines::first_number(day),
     );
     print_part(answer as usize);
     lines::print(b"\n");
@@ -66,7 +66,7 @@ fn print_same(same: bool) {
 // `FILE LENGTH`: whether the table is the file.
 fn image_line(buffer: &[u8], len: usize, line: &[u8]) {
     let mut file = io::large_buffer();
-    let n = files::load(lines::word(line), &mut file).len;
+    let n = files::load(test_lines::word(line), &mut file).len;
     if len != n {
         print_same(false);
         return;
@@ -81,8 +81,8 @@ fn image_line(buffer: &[u8], len: usize, line: &[u8]) {
 
 // A line on the buffer as the last accepted one left it.
 fn write_line(buffer: &mut [u8], line: &[u8]) {
-    let rest = lines::after_word(line);
-    let kind = lines::word(line);
+    let rest = test_lines::after_word(line);
+    let kind = test_lines::word(line);
     let len = table_len(buffer);
     lines::print(kind);
     if kind.len() == 4 {
@@ -118,14 +118,14 @@ fn laid_out(buffer: &mut [u8], room: usize, line: &[u8]) -> usize
     if !is_accepted(line) {
         return room;
     }
-    let month = lines::after_word(lines::after_word(line));
-    let at_room = lines::after_word(lines::after_word(month));
-    let wanted = lines::first_number(at_room) as usize;
+    let month = test_lines::after_word(test_lines::after_word(line));
+    let at_room = test_lines::after_word(test_lines::after_word(month));
+    let wanted = test_lines::first_number(at_room) as usize;
     if buffer.len() < wanted {
         return room;
     }
     octets::fill(buffer, 0, wanted, 0xEE);
-    files::load(lines::word(at_room), &mut buffer[..wanted]);
+    files::load(test_lines::word(at_room), &mut buffer[..wanted]);
     wanted
 }
 
