@@ -148,7 +148,7 @@ fn run(buffer: &mut [u8], calls: &[u8]) {
     let mut room = 0;
     let mut from = 0;
     while from < calls.len() {
-        let end = lines::find(calls, from, b'\n');
+        let end = test_lines::find(calls, from, b'\n');
         room = line(buffer, room, &calls[from..end]);
         from = end + 1;
     }
