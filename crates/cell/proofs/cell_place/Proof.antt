@@ -1,7 +1,7 @@
 -- `cell::cell_place` meets its contract: the place's own refusal, or the tests of the type and of the deletion byte in their order. Assumes nothing.
 use mathlib.Core.Path.{sym, _∙_}
 use borrow.Author.Needs.{needs}
-use Rattle.memo.specs.TestLaws.{passed, failed}
+use Rattle.basis.specs.Tests.{passed, failed}
 use Rattle.cell.specs.CellLaws.{place-refused, type-refused, mark-refused, place-read}
 use Rattle.cell.proofs.cell_place.Statement.{statement}
 use Rattle.cell.proofs.cell_place.Tie as tie

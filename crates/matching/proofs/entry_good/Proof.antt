@@ -5,7 +5,7 @@ use mathlib.Core.Path.{_≡_}
 use mathlib.Core.Bool.{true}
 use native.Mathlib.Omega.{arith}
 use lib.ListN.{length}
-use Rattle.memo.specs.TestLaws.{passed, failed}
+use Rattle.basis.specs.Tests.{passed, failed}
 use Rattle.field.specs.Field.{numberGood}
 use Rattle.field.specs.FieldLaws.{number-range}
 use Rattle.matching.specs.StepLaws.{entry-outside, field-inside, field-length, entry-compared}

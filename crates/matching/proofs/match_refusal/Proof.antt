@@ -4,7 +4,7 @@ use Prim.Native.Nat.{_-_}
 use mathlib.Core.Path.{_≡_, sym, ap, _∙_}
 use mathlib.Core.Bool.{true}
 use native.Mathlib.Omega.{arith}
-use Rattle.memo.specs.TestLaws.{passed, failed}
+use Rattle.basis.specs.Tests.{passed, failed}
 use Rattle.table.specs.Table.{fieldCount, fieldType, fieldLength}
 use Rattle.field.specs.Field.{numberGood, formOf}
 use Rattle.field.specs.FieldLaws.{number-range}
