@@ -2,5 +2,4 @@ pub mod Cell
 pub mod Codes
 pub mod CellLaws
 pub mod AnswerLaws
-pub mod HeaderLaws
 pub mod MarkLaws
