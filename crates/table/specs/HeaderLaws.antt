@@ -6,9 +6,11 @@ use mathlib.Core.List.{List}
 use native.Mathlib.Omega.{arith}
 use lib.ListN.{length}
 use Rattle.octets.specs.Bytes.{byteAt, le16, le32}
 use Rattle.table.specs.Range.{allBelow, anyBelow, sumBelow}
-use Rattle.table.specs.Table.{descriptor, fieldType, fieldLength, fieldDecimals, fieldOffset, fieldCount, headerLength, recordLength, recordCount, recordsEnd, sizeGood, kindGood, dateGood, headerGood, endMarkGood, nameGood, nameGoesOn, descriptorGood, fieldsGood, sameByte, sameName, nameTaken, namesDiffer, isMemo, hasMemo, memoKindGood, recordLengthGood, lengthGood, tableChecks}
+use Rattle.table.specs.Table.{descriptor, fieldType, fieldLength, fieldDecimals, fieldOffset, fieldCount, headerLength, recordLength, recordCount}
+use Rattle.table.specs.Table.{recordsEnd, sizeGood, kindGood, dateGood, headerGood, endMarkGood, nameGood, nameGoesOn, descriptorGood, fieldsGood}
+use Rattle.table.specs.Table.{sameByte, sameName, nameTaken, namesDiffer, isMemo, hasMemo, memoKindGood, recordLengthGood, lengthGood, tableChecks}
 use Rattle.table.specs.TableLaws.{HeaderFits}
 
 -- ---- tests and sums that agree on every number below a bound
 
@@ -27,7 +29,7 @@ unfolding sumBelow
 sum-same p q zero h = refl
 sum-same p q (suc n) h = rw (sum-same p q n (λ j l. h j (omega arith)), h n (omega arith))
 
--- ---- two tables with one header
+-- ---- two tables with the same header
 
 pub record SameHeader (b c : List ℕ) : Type 0 where
   pub size : length c ≡ length b
@@ -35,18 +37,18 @@ pub record SameHeader (b c : List ℕ) : Type 0 where
   pub after : byteAt c (recordsEnd b (recordCount b)) ≡ byteAt b (recordsEnd b (recordCount b))
 
 module _ (b c : List ℕ) (fits : HeaderFits b) (same : SameHeader b c) where
-  -- a byte before the descriptors, and a byte of one
+  -- the bytes before the descriptors, and the bytes of a descriptor, are the same
   early : (k : ℕ) → k < 32 → byteAt c k ≡ byteAt b k
   early k l = same .header k (omega (arith, fits .form))
 
   inner : (j k : ℕ) → j < fieldCount b → k < 32 → byteAt c (descriptor j + k) ≡ byteAt b (descriptor j + k)
   inner j k l m = same .header (descriptor j + k) (omega (arith, fits .form))
 
-  pub header-same : headerLength c ≡ headerLength b
+  header-same : headerLength c ≡ headerLength b
   unfolding headerLength le16
   header-same = rw (early 8 (omega arith), early 9 (omega arith))
 
-  pub length-same : recordLength c ≡ recordLength b
+  length-same : recordLength c ≡ recordLength b
   unfolding recordLength le16
   length-same = rw (early 10 (omega arith), early 11 (omega arith))
 
