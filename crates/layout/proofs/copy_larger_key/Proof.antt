@@ -1,4 +1,4 @@
--- `layout::copy_larger_key` meets its contract: the comparison says which of the two is larger. Assumes nothing.
+-- `layout::copy_larger_key` meets its contract: the comparison says which of the two keys is larger. Assumes nothing.
 use mathlib.Core.Path.{sym, _∙_}
 use Rattle.page.specs.KeyOrder.{below, at-or-above}
 use Rattle.layout.specs.GatherLaws.{larger-key, larger-entry}
@@ -20,7 +20,11 @@ same-length c = search needs
 
 returns : tie.Need-returns
 returns c =
-    c .before .before .copy-in .ensures ∙ rw (← larger-key _ _ (below _ _ (c .before .before .before .before .before .before .compare-entry .ensures) (sym (c .before .before .before .before .before .is-below .ensures) ∙ c .before .before .before .before .if1 .taken)))
+    let copied = c .before .before in
+    let taken = copied .before .before in
+    let tested = taken .before in
+    copied .copy-in .ensures
+    ∙ rw (← larger-key _ _ (below _ _ (tested .before .compare-entry .ensures) (sym (tested .is-below .ensures) ∙ taken .if1 .taken)))
 
 copy-key-requires : tie.Need-copy-key-requires
 copy-key-requires c κs = search needs
@@ -30,7 +34,11 @@ same-length-2 c = search needs
 
 returns-2 : tie.Need-returns-2
 returns-2 c =
-    c .before .before .copy-key .ensures ∙ rw (← larger-entry _ _ (at-or-above _ _ (c .before .before .before .before .before .before .compare-entry .ensures) (sym (c .before .before .before .before .before .is-below .ensures) ∙ c .before .before .before .before .if1 .left)))
+    let copied = c .before .before in
+    let left = copied .before .before in
+    let tested = left .before in
+    copied .copy-key .ensures
+    ∙ rw (← larger-entry _ _ (at-or-above _ _ (tested .before .compare-entry .ensures) (sym (tested .is-below .ensures) ∙ left .if1 .left)))
 
 pub copy-larger-key-spec : {M : Type 1} → statement M
 copy-larger-key-spec =
