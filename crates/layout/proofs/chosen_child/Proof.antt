@@ -11,9 +11,12 @@ use borrow.Author.Needs.{needs}
 use Rattle.layout.proofs.chosen_child.Statement.{statement}
 use Rattle.layout.proofs.chosen_child.Tie as tie
 
--- the call's start, from the place where the entries are counted
+-- the places: the call's start, from where the entries are counted; that place, from where the entry is chosen
 abbrev start : tie.After-entry-count → tie.Start
 start c = c .before .before .before
+
+abbrev at-count : tie.After-chosen-entry → tie.After-entry-count
+at-count c = c .before .before
 
 -- the page's entries are counted
 counted : (c : tie.After-entry-count) → let args = start c .args in
@@ -34,16 +37,13 @@ chosen-entry-requires : tie.Need-chosen-entry-requires
 chosen-entry-requires c κs = (counted (c .before), omega (arith, c .if1 .left))
 
 child-requires : tie.Need-child-requires
-child-requires c κs =
-    let count = c .before .before in
-    within-entry _ (listed-within (counted count)) (c .chosen-entry .ensures .1)
+child-requires c κs = within-entry _ (listed-within (counted (at-count c))) (c .chosen-entry .ensures .1)
 
 returns-2 : tie.Need-returns-2
 returns-2 c =
-    let chosen = c .before in
-    let count = chosen .before .before in
-    let entry = chosen .chosen-entry .ensures in
-    c .child .ensures ∙ child-listed (counted count) (start count .args .key .now) _ (entry .0) (entry .1)
+    c .child .ensures
+    ∙ child-listed (counted (at-count (c .before))) (start (at-count (c .before)) .args .key .now) _
+    (c .before .chosen-entry .ensures .0) (c .before .chosen-entry .ensures .1)
 
 pub chosen-child-spec : {M : Type 1} → statement M
 chosen-child-spec =

@@ -9,9 +9,12 @@ use borrow.Author.Needs.{needs}
 use Rattle.layout.proofs.copy_last_key.Statement.{statement}
 use Rattle.layout.proofs.copy_last_key.Tie as tie
 
--- the call's start, from the place where the count is not 0
+-- the places: the call's start, from where the count is not 0; that place, from where the key is copied
 abbrev start : tie.Else1 → tie.Start
 start c = c .before .before .before .before .before
+
+abbrev some : tie.After-copy-key → tie.Else1
+some c = c .before .before
 
 -- a page that has entries is a page
 counted : (c : tie.Else1) → let args = start c .args in
@@ -38,17 +41,17 @@ sub-copy-key c = search needs
 
 copy-key-requires : tie.Need-copy-key-requires
 copy-key-requires c κs =
-    let some = c .before in
-    (within-last (listed-within (counted some)) (some .if1 .left), start some .pre .1)
+    let tested = c .before in
+    (within-last (listed-within (counted tested)) (tested .if1 .left), start tested .pre .1)
 
 same-length-2 : tie.Need-same-length-2
 same-length-2 c = search needs
 
 returns-2 : tie.Need-returns-2
 returns-2 c =
-    let copied = c .before .before in
-    let some = copied .before .before in
-    copied .copy-key .ensures ∙ rw (last-listed (counted some) (start some .args .key .now) (omega (arith, some .if1 .left)))
+    c .before .before .copy-key .ensures
+    ∙ rw (last-listed (counted (some (c .before .before))) (start (some (c .before .before)) .args .key .now)
+    (omega (arith, some (c .before .before) .if1 .left)))
 
 pub copy-last-key-spec : {M : Type 1} → statement M
 copy-last-key-spec =
