@@ -13,7 +13,10 @@ use Rattle.octets.specs.Store.{put}
 use Rattle.octets.specs.StoreLaws.{put-splice}
 use Rattle.octets.specs.NumberLaws.{length-toBe32}
 use Rattle.octets.specs.Order.{bytesLe}
+use Rattle.tree.specs.Lists.{NonEmpty}
+use Rattle.tree.specs.ListLaws.{nonEmpty-length}
 use Rattle.tree.specs.Pairs.{lastKey, insertPair}
+use Rattle.tree.specs.PairLaws.{insertPair-all}
 use Rattle.page.specs.Header.{maxKey}
 use Rattle.page.specs.KeyOrder.{bytesOrder}
 use Rattle.page.specs.Reading.{Item, items}
@@ -24,42 +27,39 @@ use Rattle.layout.specs.ItemLaws.{Fit, length-encode, items-encode}
 use Rattle.layout.specs.EntryLaws.{items-in-fit}
 use Rattle.layout.specs.GatherLaws.{length-last, length-larger, put-next, spread}
 
--- a property of a leaf's entries and of a new pair is one of all together
-insert-all : (P : Item → Type 0) (key c : List ℕ) (es : List Item) → P (key, c) → All P es → All P (insertPair bytesOrder key c es)
-insert-all P key c [] h a = (h, tt)
-insert-all P key c (x ∷ xs) h a = either (bytesLe key (x .0)) (λ e. rw e (h, a)) (λ e. rw e (a .0, insert-all P key c xs h (a .1)))
-
-length-insert : (key c : List ℕ) (es : List Item) → length (insertPair bytesOrder key c es) ≡ length es + 1
+-- how many entries a leaf has with one more pair
+pub length-insert : (key c : List ℕ) (es : List Item) → length (insertPair bytesOrder key c es) ≡ length es + 1
 length-insert key c [] = refl
 length-insert key c (x ∷ xs) = either (bytesLe key (x .0)) (λ e. rw e (omega arith)) (λ e. rw e (ap suc (length-insert key c xs) ∙ omega arith))
 
 -- a property of entries and of those put in the place of one is one of all together
-replaced-all : (P : Item → Type 0) (key : List ℕ) (f : Item → List Item) (es : List Item)
-    → ((x : Item) → P x → All P (f x)) → All P es → All P (replaced key f es)
-replaced-all P key f [] h a = tt
-replaced-all P key f (x ∷ []) h a = h x (a .0)
-replaced-all P key f (x ∷ y ∷ ys) h a = either (bytesLe key (x .0))
+replaced-all : (P : Item → Type 0) (key : List ℕ) (f : Item → List Item) → ((x : Item) → P x → All P (f x)) → (es : List Item) → All P es
+    → All P (replaced key f es)
+replaced-all P key f h [] a = tt
+replaced-all P key f h (x ∷ []) a = h x (a .0)
+replaced-all P key f h (x ∷ y ∷ ys) a = either (bytesLe key (x .0))
     (λ e. rw e (all-append P (f x) (y ∷ ys) (h x (a .0)) (a .1)))
-    (λ e. rw e (a .0, replaced-all P key f (y ∷ ys) h (a .1)))
+    (λ e. rw e (a .0, replaced-all P key f h (y ∷ ys) (a .1)))
 
-length-replaced : (key : List ℕ) (f : Item → List Item) (es : List Item)
-    → ((x : Item) → length (f x) ≡ 2) → (length es ≡ 0 → ⊥) → length (replaced key f es) ≡ length es + 1
-length-replaced key f [] h s = absurd (s refl)
-length-replaced key f (x ∷ []) h s = h x
-length-replaced key f (x ∷ y ∷ ys) h s = either (bytesLe key (x .0))
-    (λ e. rw e (length-append (f x) (y ∷ ys) ∙ omega (arith, h x)))
-    (λ e. rw e (ap suc (length-replaced key f (y ∷ ys) h (λ z. omega (arith, z))) ∙ omega arith))
+-- how many entries there are with n + 1 in the place of one
+pub length-replaced : (key : List ℕ) (f : Item → List Item) (n : ℕ) → ((x : Item) → length (f x) ≡ suc n) → (es : List Item) → NonEmpty es
+    → length (replaced key f es) ≡ n + length es
+length-replaced key f n h [] s = absurd s
+length-replaced key f n h (x ∷ []) s = omega (arith, h x)
+length-replaced key f n h (x ∷ y ∷ ys) s = either (bytesLe key (x .0))
+    (λ e. rw e (omega (arith, length-append (f x) (y ∷ ys), h x)))
+    (λ e. rw e (omega (arith, length-replaced key f n h (y ∷ ys) tt)))
 
 -- the entries of a leaf with one more pair, and of a page with two in the place of one
-module _ (b key : List ℕ) (p : ℕ) where
-  pair-fit : (r : ℕ) → All (Fit (length key)) (insertPair bytesOrder key (toBe32 r) (itemsIn (length key) b p))
-  pair-fit r = insert-all (Fit (length key)) key (toBe32 r) (itemsIn (length key) b p) (refl, length-toBe32 r) (items-in-fit (length key) b p)
+module _ (k : ℕ) (b key : List ℕ) (long : length key ≡ k) where
+  pub pair-fit : (r p : ℕ) → All (Fit k) (insertPair bytesOrder key (toBe32 r) (itemsIn k b p))
+  pair-fit r p = insertPair-all bytesOrder (Fit k) key (toBe32 r) (itemsIn k b p) (long, length-toBe32 r) (items-in-fit k b p)
 
-  two-fit : (c q : ℕ) → All (Fit (length key)) (replaced key (twoFor (length key) b key c q) (itemsIn (length key) b p))
-  two-fit c q =
-      let low = length-last (length key) key refl (itemsIn (length key) b c) (items-in-fit (length key) b c) in
-      replaced-all (Fit (length key)) key (twoFor (length key) b key c q) (itemsIn (length key) b p)
-      (λ x f. ((low, f .1), ((length-larger (x .0) key (f .0), length-toBe32 q), tt))) (items-in-fit (length key) b p)
+  pub two-fit : (c q : ℕ) (es : List Item) → All (Fit k) es → All (Fit k) (replaced key (twoFor k b key c q) es)
+  two-fit c q es f =
+      let low = length-last k key long (itemsIn k b c) (items-in-fit k b c) in
+      replaced-all (Fit k) key (twoFor k b key c q)
+      (λ x g. ((low, g .1), ((length-larger (x .0) key (g .0 ∙ sym long) ∙ long, length-toBe32 q), tt))) es f
 
 -- what is gathered is read back
 gathered : (k n : ℕ) (es : List Item) (zs : List ℕ) {room : List ℕ} → All (Fit k) es → length es ≡ n → n * (k + 4) ≤ length zs → room ≡ put zs 0 (encode es)
@@ -83,7 +83,7 @@ pair-read key {b} {p} {n} r zs l h e =
     let s = spread n l (omega arith) in
     let es = itemsIn (length key) b p in
     let count : length (insertPair bytesOrder key (toBe32 r) es) ≡ n + 1 = length-insert key (toBe32 r) es ∙ rw (← l .count) in
-    gathered (length key) (n + 1) (insertPair bytesOrder key (toBe32 r) es) zs (pair-fit b key p r) count (omega arith) e
+    gathered (length key) (n + 1) (insertPair bytesOrder key (toBe32 r) es) zs (pair-fit (length key) b key refl r p) count (omega arith) e
 
 pub two-read : (key : List ℕ) {b : List ℕ} {p n : ℕ} (c q : ℕ) (zs : List ℕ) {room : List ℕ} → Listed b (length key) p n → (n ≡ 0 → ⊥) → roomSize ≤ length zs
     → room ≡ put zs 0 (encode (replaced key (twoFor (length key) b key c q) (itemsIn (length key) b p)))
@@ -92,8 +92,9 @@ two-read key {b} {p} {n} c q zs l ne h e =
     let s = spread n l (omega arith) in
     let es = itemsIn (length key) b p in
     let f = twoFor (length key) b key c q in
-    let count : length (replaced key f es) ≡ n + 1 = length-replaced key f es (λ x. refl) (λ z. ne (l .count ∙ z)) ∙ rw (← l .count) in
-    gathered (length key) (n + 1) (replaced key f es) zs (two-fit b key p c q) count (omega arith) e
+    let some : NonEmpty es = nonEmpty-length es (omega (arith, l .count)) in
+    let count : length (replaced key f es) ≡ n + 1 = omega (arith, length-replaced key f 1 (λ x. refl) es some, l .count) in
+    gathered (length key) (n + 1) (replaced key f es) zs (two-fit (length key) b key refl c q es (items-in-fit (length key) b p)) count (omega arith) e
 
 -- the entries of a new root
 module _ (b key : List ℕ) (p q : ℕ) where

@@ -1,2 +1,6 @@
+-- Laws of the stores that write a page or the header.
+
+-- Laws: the entries of every page after each store
 pub mod EntryLaws
+-- Laws: the head of every page, and the file's header, after each store
 pub mod HeadLaws
