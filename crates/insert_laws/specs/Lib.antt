@@ -1,4 +1,4 @@
--- Laws of insertion and of fresh on bytes, in the order in which they rest on one another.
+-- Insertion and fresh on bytes: laws, in the order in which they rest on one another.
 
 -- Laws: a change of a list of stored entries is the same change of the list with their numbers
 pub mod ItemLists

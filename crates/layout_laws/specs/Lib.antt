@@ -1,4 +1,4 @@
--- Laws of the stores that write a page or the header.
+-- The stores that write a page or the header: laws.
 
 -- Laws: the entries of every page after each store
 pub mod EntryLaws

@@ -81,8 +81,8 @@ same-length-3 c = search needs
 
 returns-3 : tie.Need-returns-3
 returns-3 c =
-    let length = c .before .before in
-    refused-28 _ _ _ (header (at-header length)) (same length) (c .if3 .taken)
+    let measured = c .before .before in
+    refused-28 _ _ _ (header (at-header measured)) (same measured) (c .if3 .taken)
 
 audit-requires : tie.Need-audit-requires
 audit-requires c κs = search needs
@@ -93,9 +93,9 @@ same-length-4 c = search needs
 returns-4 : tie.Need-returns-4
 returns-4 c =
     let number = at-number (c .before) in
-    let length = at-length number in
-    let good = header (at-header length) in
-    refused-25 _ _ _ good (same length) (number .if3 .left) (audit-unsound _ good (c .before .audit .ensures) (c .if4 .taken))
+    let measured = at-length number in
+    let good = header (at-header measured) in
+    refused-25 _ _ _ good (same measured) (number .if3 .left) (audit-unsound _ good (c .before .audit .ensures) (c .if4 .taken))
 
 lookup-requires : tie.Need-lookup-requires
 lookup-requires c κs = search needs
@@ -110,14 +110,14 @@ returns-5 : tie.Need-returns-5
 returns-5 c =
     let audited = at-sound (c .before) in
     let number = at-number (audited .before) in
-    let length = at-length number in
+    let measured = at-length number in
     let found = sym (looked-up (c .before)) ∙ c .if5 .taken in
-    refused-29 _ _ _ (header (at-header length)) (same length) (number .if3 .left) (sound audited) found
+    refused-29 _ _ _ (header (at-header measured)) (same measured) (number .if3 .left) (sound audited) found
 
 no-room-requires : tie.Need-no-room-requires
 no-room-requires c κs =
-    let length = at-length (at-number (at-sound (c .before .before) .before)) in
-    (header (at-header length), same length)
+    let measured = at-length (at-number (at-sound (c .before .before) .before)) in
+    (header (at-header measured), same measured)
 
 same-length-6 : tie.Need-same-length-6
 same-length-6 c = search needs
@@ -127,16 +127,16 @@ returns-6 c =
     let absent = at-absent (c .before) in
     let audited = at-sound (absent .before) in
     let number = at-number (audited .before) in
-    let length = at-length number in
+    let measured = at-length number in
     let not-found = sym (looked-up (absent .before)) ∙ absent .if5 .left in
     let full = sym (c .before .no-room .ensures) ∙ c .if6 .taken in
-    refused-30 _ _ _ (header (at-header length)) (same length) (number .if3 .left) (sound audited) not-found full
+    refused-30 _ _ _ (header (at-header measured)) (same measured) (number .if3 .left) (sound audited) not-found full
 
 insert-pair-requires : tie.Need-insert-pair-requires
 insert-pair-requires c κs =
     let absent = at-absent (c .before .before) in
-    let length = at-length (at-number (at-sound (absent .before) .before)) in
-    (header (at-header length), same length)
+    let measured = at-length (at-number (at-sound (absent .before) .before)) in
+    (header (at-header measured), same measured)
 
 same-length-7 : tie.Need-same-length-7
 same-length-7 c = search needs
@@ -148,10 +148,10 @@ returns-7 c =
     let absent = at-absent (room .before) in
     let audited = at-sound (absent .before) in
     let number = at-number (audited .before) in
-    let length = at-length number in
+    let measured = at-length number in
     let not-found = sym (looked-up (absent .before)) ∙ absent .if5 .left in
     let not-full = sym (room .before .no-room .ensures) ∙ room .if6 .left in
-    accepted-pair _ _ _ (header (at-header length)) (same length) (number .if3 .left) (sound audited) not-found not-full (inserted .insert-pair .ensures)
+    accepted-pair _ _ _ (header (at-header measured)) (same measured) (number .if3 .left) (sound audited) not-found not-full (inserted .insert-pair .ensures)
 
 pub insert-spec : {M : Type 1} → statement M
 insert-spec =

@@ -84,8 +84,9 @@ returns c =
     let right = beyond .before .before .before .before in
     let attribute = right .before .before .before .before in
     let lower = attribute .before .before .before .before in
-    let head = lower .before .before .before .before .before .before in
-    split-by (head .before .before .before .before .pre .0) _ (head .at .ensures .0) (head .at .ensures .1 .1 .1) (lower .with-entries .ensures)
+    let right-known = lower .before .before .before in
+    let head = right-known .before .before .before in
+    split-by (start right-known .pre .0) _ (head .at .ensures .0) (head .at .ensures .1 .1 .1) (lower .with-entries .ensures)
     (attribute .set-attribute .ensures) (right .link-right .ensures) (beyond .link-beyond .ensures) (upper .new-page .ensures)
 
 pub split-page-spec : {M : Type 1} → statement M
