@@ -35,12 +35,12 @@ isFound (looked.Refused n) = false
 
 -- what insertion leaves and answers: a refusal leaves the buffer as it was
 unfoldable pub insertRule : List ℕ → List ℕ → ℕ → Inserted
-insertRule b key r =
+insertRule b key number =
     elim (headerGood b) [
       | false ↦ left b (Refused 24)
       | true ↦ elim (eqb (length key) (keyLength b)) [
         | false ↦ left b (Refused 27)
-        | true ↦ elim (eqb r 0) [
+        | true ↦ elim (eqb number 0) [
           | true ↦ left b (Refused 28)
           | false ↦ elim (pagesGood b unmarked) [
             | false ↦ left b (Refused 25)
@@ -48,7 +48,7 @@ insertRule b key r =
               | true ↦ left b (Refused 29)
               | false ↦ elim (noRoom (keyLength b) b key) [
                 | true ↦ left b (Refused 30)
-                | false ↦ left (insertedBuffer (keyLength b) b key r) Accepted
+                | false ↦ left (insertedBuffer (keyLength b) b key number) Accepted
               ]
             ]
           ]

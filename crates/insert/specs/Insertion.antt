@@ -44,11 +44,11 @@ afterChild k b key p c bad = step b bad
 -- the pair goes in under the page at p, in a file of n bytes, with the levels left falling from 11: into the page if it is a leaf, else under the chosen
 -- child
 unfoldable pub insertUnder : ℕ → ℕ → List ℕ → List ℕ → ℕ → ℕ → ℕ → Step
-insertUnder k zero b key r p n = step b bad
-insertUnder k (suc left) b key r p n =
-    let leaf = takeIn k b p (insertPair bytesOrder key (toBe32 r) (itemsIn k b p)) n in
+insertUnder k zero b key number p n = step b bad
+insertUnder k (suc left) b key number p n =
+    let leaf = takeIn k b p (insertPair bytesOrder key (toBe32 number) (itemsIn k b p)) n in
     let c = childOf (chosen key (itemsIn k b p)) in
-    let below = insertUnder k left b key r c n in
+    let below = insertUnder k left b key number c n in
     let upper = afterChild k (below .after) key p c (below .outcome) in
     cond (isPage (length b) p) (cond (leafBit (attributeAt b p)) leaf upper) (step b bad)
 
@@ -64,6 +64,6 @@ atRoot k b key p bad = b
 
 -- the buffer after an insertion that is accepted
 unfoldable pub insertedBuffer : ℕ → List ℕ → List ℕ → ℕ → List ℕ
-insertedBuffer k b key r =
-    let s = insertUnder k maxLevels b key r (rootOffset b) (fileSize b) in
+insertedBuffer k b key number =
+    let s = insertUnder k maxLevels b key number (rootOffset b) (fileSize b) in
     atRoot k (s .after) key (rootOffset b) (s .outcome)
