@@ -73,7 +73,7 @@ among-leaf key r S cap F (x ∷ xs) =
     ap (λ (l : List (List ℕ × ℕ)). (l, 0, S)) (insertPair-place key r (insertPair bytesOrder key r (choose bytesOrder key x xs ∷ [])) 0 0 x xs refl)
 
 module _ (k : ℕ) (two : 1 < capacity k) (F : ℕ) where
-  -- a page that gets its entries, after m new pages
+  -- a page that gets entries, after m new pages were taken
   take-in-is : (b : List ℕ) (p : ℕ) (a : List ℕ) (es : List Item) (m n : ℕ) → isPage (length b) p ≡ true → All (Fit k) es
       → length es ≤ suc (capacity k) → n ≡ newOffset F m
       → (p ≡ newOffset F m → ⊥)
@@ -106,7 +106,7 @@ module _ (k : ℕ) (two : 1 < capacity k) (F : ℕ) where
     lastKey-store : (b : List ℕ) (c : ℕ) (a : List ℕ) → NonEmpty (entriesIn k b c) → lastKey key (itemsIn k b c) ≡ lastKey a (entriesIn k b c)
     lastKey-store b c a s = sym (lastKey-numbered key (itemsIn k b c)) ∙ lastKey-default key a (map numbered (itemsIn k b c)) s
 
-    -- a page above with the entries es, after the child that the key leads to: b is the buffer before the child, b′ after it
+    -- a page above with the entries es, after the step at the child that the key leads to: b is the buffer before that step, b′ after it
     abbrev AfterChild : List ℕ → List ℕ → ℕ → List ℕ → StoreReplacement (List ℕ) → Outcome → List (List ℕ × ℕ) → Type 0
     AfterChild b b′ p a v o [] = Unit {0}
     AfterChild b b′ p a v o (z ∷ zs) =

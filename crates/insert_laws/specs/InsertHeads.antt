@@ -54,7 +54,7 @@ unrooted path name (suc m) A z =
     let a : ℕ = withoutRoot (unrooted path name m A (path m)) in
     cond (eqb z (name m)) a (cond (eqb z (path m)) a (unrooted path name m A z))
 
--- what m splits along a path, from the leaf up, and no other change of heads, make of b: `path j` is the page of level j
+-- b′ is b after m splits along a path, from the leaf up, and no other change of heads: `path j` is the page of level j
 pub record Heads (k F : ℕ) (path : ℕ → ℕ) (m : ℕ) (b b′ : List ℕ) : Type 0 where
   pub lefts : (z : ℕ) → isPage (length b) z ≡ true → leftAt b′ z ≡ relink path (newOffset F) m (linksOf b) .left z
   pub rights : (z : ℕ) → isPage (length b) z ≡ true → rightAt b′ z ≡ relink path (newOffset F) m (linksOf b) .right z
@@ -172,7 +172,7 @@ HeadsAfter k F path h b (kept n) b′ = (m : ℕ) × (n ≡ newOffset F m) × He
 HeadsAfter k F path h b (split q) b′ = (q ≡ newOffset F h) × Heads k F path (suc h) b b′
 HeadsAfter k F path h b bad b′ = ⊥
 
--- the path's page on a page's own level, and below it
+-- the page of the path on the level of a page, and on the levels below it
 path-own : (key : List ℕ) (h : ℕ) (a : List ℕ) (t : Tree (List ℕ) h) → pathPageUnder bytesOrder key h (suc h) (a, t) ≡ t .0
 path-own key h a t = rw (eq-eqb h h refl)
 
