@@ -16,7 +16,7 @@ monthLengths =
     (31 ∷ 28 ∷ 31 ∷ 30 ∷ 31 ∷ 30 ∷ 31 ∷ 31 ∷ 30 ∷ 31 ∷ 30 ∷ 31 ∷ [])
     ∷ (31 ∷ 29 ∷ 31 ∷ 30 ∷ 31 ∷ 30 ∷ 31 ∷ 31 ∷ 30 ∷ 31 ∷ 30 ∷ 31 ∷ []) ∷ []
 
--- the number of a year's row
+-- a year's row: 0 or 1
 unfoldable pub rowOf : ℕ → ℕ
 rowOf year = cond (isLeap year) 1 0
 

@@ -1,4 +1,4 @@
--- Laws: of leap years, month lengths and dates. Assumes nothing.
+-- Laws: leap years, month lengths and dates. Assumes nothing.
 use Prim.Native.Nat.{ℕ, zero, suc, _+_, _-_, _≤_, _<_}
 use native.Mathlib.Omega.{arith}
 use native.Mathlib.Nat.{le-of-suc-le-suc, not-suc-le-zero}
@@ -14,7 +14,7 @@ use Rattle.basis.specs.Tests.{both}
 use Rattle.basis.specs.Lists.{All}
 use Rattle.calendar.specs.Calendar.{isLeap, monthLengths, rowOf, daysInMonth, isDate}
 
--- a year's row is one of the two
+-- a year's row is 0 or 1
 pub row-below : (year : ℕ) → rowOf year < 2
 unfolding rowOf
 row-below year = one-of (isLeap year)
@@ -23,13 +23,13 @@ row-below year = one-of (isLeap year)
     one-of true = omega arith
     one-of false = omega arith
 
--- a flag for a leap year, taken as an index, is the year's row
+-- the flag of a leap year, as an index, is the year's row
 pub flag-row : (leap : Bool) (year : ℕ) → leap ≡ isLeap year → boolByte leap ≡ rowOf year
 unfolding rowOf
 flag-row true year is = rw (← is)
 flag-row false year is = rw (← is)
 
--- what holds of all members holds of the one at an index
+-- what holds of all members holds of the member at index i
 all-at : {A : Type 0} (P : A → Type 0) (xs : List A) (d : A) → All P xs → (i : ℕ) → i < length xs → P (getD xs i d)
 all-at P [] d ps i h = absurd (not-suc-le-zero h)
 all-at P (x ∷ xs) d ps zero h = ps .0
@@ -65,7 +65,7 @@ sum (x ∷ xs) = x + sum xs
 unfoldable pub daysInYear : ℕ → ℕ
 daysInYear year = sum (getD monthLengths (rowOf year) [])
 
--- a leap year has 366 days, a common one 365
+-- a leap year has 366 days, a common year 365
 pub leap-days : (year : ℕ) → isLeap year ≡ true → daysInYear year ≡ 366
 unfolding daysInYear sum monthLengths rowOf
 leap-days year leap = rw leap

@@ -1,4 +1,4 @@
--- Laws: of the text of a D field: its cases, its three parts, one text for a date and one date for an accepted text. Assumes nothing.
+-- Laws: the text of a D field: its cases, its three parts, one text for a day and one day for an accepted text. Assumes nothing.
 use Prim.Native.Nat.{ℕ, _^_, _≤_, _<_}
 use native.Mathlib.Nat.{pow-le-pow-right}
 use native.Mathlib.Omega.{arith}
@@ -10,7 +10,7 @@ use lib.ListN.{length, take, drop, replicate, length-append, length-take, length
 use lib.Seq.{take-all, take-add, drop-drop, length-take-le, take-at, drop-at}
 use lib.Dec.{leb, eqb, lit<}
 use borrow.Author.Tests.{leb-true, le-leb, eqb-true, eqb-false, ne-eqb}
-use Rattle.basis.specs.Tests.{either, both}
+use Rattle.basis.specs.Tests.{either, both, impossible}
 use Rattle.octets.specs.Text.{every, blank, isDigit, numberOf, digitsOf, lastDigits}
 use Rattle.octets.specs.TextLaws.{every-append, blanks-are, digits-no-blanks, digits-read, digits-unread}
 use Rattle.octets.specs.DigitLaws.{length-lastDigits, lastDigits-digits, number-last, number-bound, last-number}
@@ -35,11 +35,11 @@ module _ (text : List ℕ) (eight : length text ≡ 8) where
   date-empty blanks = rw (eight, blanks)
 
   module _ (nonblank : every (eqb blank) text ≡ false) where
-    pub date-other : every isDigit text ≡ false → dateOf text ≡ Refused badDateText
+    date-other : every isDigit text ≡ false → dateOf text ≡ Refused badDateText
     unfolding dateOf
     date-other other = rw (eight, nonblank, other)
 
-    pub date-digits : every isDigit text ≡ true
+    date-digits : every isDigit text ≡ true
         → dateOf text ≡ dateOfNumbers (numberOf (yearPart text)) (numberOf (monthPart text)) (numberOf (dayPart text))
     unfolding dateOf
     date-digits all = rw (eight, nonblank, all)
@@ -61,10 +61,6 @@ day-refused : (day : Date) → holds day ≡ false → dateOfNumbers (day .year)
 unfolding dateOfNumbers
 day-refused day bad = rw bad
 
--- what follows from answers that differ
-never : {X : Type 0} → _≡_ {A = ℕ} 0 1 → X
-never e = absurd (omega arith)
-
 -- a text is refused, empty or eight digits that name its day
 by-cases : {X : Type 0} (text : List ℕ) → (dateOf text ≡ Refused badDateText → X)
     → (length text ≡ 8 → every (eqb blank) text ≡ true → dateOf text ≡ Empty → X)
@@ -85,13 +81,13 @@ by-cases text refused empty value =
 -- ---- the three parts
 
 -- eight bytes are their three parts
-pub date-parts : (text : List ℕ) → length text ≡ 8 → text ≡ yearPart text ++ monthPart text ++ dayPart text
+date-parts : (text : List ℕ) → length text ≡ 8 → text ≡ yearPart text ++ monthPart text ++ dayPart text
 date-parts text eight =
     let front = sym (take-all 8 text (omega arith)) ∙ take-add 4 4 text in
     let back = take-add 2 2 (drop 4 text) ∙ ap (λ (l : List ℕ). monthPart text ++ take 2 l) (drop-drop 2 4 text) in
     front ∙ rw back (sym (append-assoc (yearPart text) (monthPart text) (dayPart text)))
 
--- all bytes are digits when those of each part are
+-- all bytes are digits exactly if those of each part are
 parts-digits : (text : List ℕ) → length text ≡ 8
     → every isDigit text ≡ every isDigit (yearPart text) && every isDigit (monthPart text) && every isDigit (dayPart text)
 parts-digits text eight = simp every-append at (ap (every isDigit) (date-parts text eight))
@@ -104,7 +100,7 @@ part-bound w s n is =
     let same : numberOf (take w s) ≡ n = cc (digits-read (take w s) all) in
     let few : length (take w s) ≤ w = omega (arith, length-take w s) in
     omega (arith, number-bound (take w s) all, pow-le-pow-right {n = 10} (lit< tt) {i = length (take w s)} {j = w} few))
-    (λ other. never (cc (digits-unread (take w s) other)))
+    (λ other. impossible (cc (digits-unread (take w s) other)))
 
 -- the answer by what each part reads as
 abbrev pub ofParts : Digits → Digits → Digits → DateAnswer
@@ -191,7 +187,7 @@ text-accepted day h =
     )
     (day-accepted day (field-good day h))
 
--- digits are the text, as wide, of their number
+-- w digits are the last w digits of their number
 part-back : (s : List ℕ) (w : ℕ) → length s ≡ w → every isDigit s ≡ true → lastDigits w (numberOf s) ≡ s
 unfolding numberOf
 part-back s w long all = rw long at (last-number 0 s all)
@@ -210,16 +206,16 @@ digits-are text eight all =
       part-back (dayPart text) 2 (length-take-le 2 (drop 6 text) (rw length-drop (omega arith))) (whole .1),
     ))
 
--- a text that is accepted is its day's
+-- an accepted text is the text of its day
 accepted-text : (text : List ℕ) (day : Date) → dateOf text ≡ Value day → (text ≡ dateText day) × FieldDate day
 accepted-text text day is =
     by-cases text
-    (λ refused. never (cc))
-    (λ eight blanks empty. never (cc))
+    (λ refused. impossible (cc))
+    (λ eight blanks empty. impossible (cc))
     (λ eight all good value. let same : named text ≡ day = cc in
     (digits-are text eight all ∙ ap dateText same, rw same at (field-date (named text) good)))
 
--- a text is accepted as a day just when it is the day's text, and the day one that a D field can hold
+-- a text is accepted as a day exactly if it is the day's text, and a D field can hold the day
 pub date-accepted : (text : List ℕ) (day : Date) → dateOf text ≡ Value day ↔ (text ≡ dateText day) × FieldDate day
 date-accepted text day = (accepted-text text day, λ h. rw (h .0) (text-accepted day (h .1)))
 
@@ -229,22 +225,22 @@ date-one-text s t day p q = accepted-text s day p .0 ∙ sym (accepted-text t da
 
 -- ---- the other answers
 
--- a text is empty just when it is eight blanks
+-- a text is empty exactly if it is eight blanks
 pub date-blanks : (text : List ℕ) → dateOf text ≡ Empty ↔ text ≡ replicate 8 blank
 unfolding every
 date-blanks text = (
   λ is.
       by-cases text
-      (λ refused. never (cc))
+      (λ refused. impossible (cc))
       (λ eight blanks empty. rw eight at (blanks-are text blanks))
-      (λ eight all good value. never (cc)),
+      (λ eight all good value. impossible (cc)),
   λ is. rw is (date-empty (replicate 8 blank) refl refl),
 )
 
--- a refusal has the one number
+-- a refusal is 20
 pub date-refusal : (text : List ℕ) (n : ℕ) → dateOf text ≡ Refused n → n ≡ badDateText
 date-refusal text n is =
     by-cases text
     (λ refused. cc)
-    (λ eight blanks empty. never (cc))
-    (λ eight all good value. never (cc))
+    (λ eight blanks empty. impossible (cc))
+    (λ eight all good value. impossible (cc))

@@ -13,7 +13,7 @@ use Rattle.calendar.specs.declared.DateAnswer.the-variants.{Value, Empty
 abbrev pub badDateText : ℕ
 badDateText = 20
 
--- "year 1 to 9999"
+-- the greatest year of a D field
 abbrev pub maxYear : ℕ
 maxYear = 9999
 
@@ -27,17 +27,17 @@ monthPart text = take 2 (drop 4 text)
 abbrev pub dayPart : List ℕ → List ℕ
 dayPart text = take 2 (drop 6 text)
 
--- a date that a D field can hold
+-- "year 1 to 9999" and a real day
 unfoldable pub isFieldDate : ℕ → ℕ → ℕ → Bool
 isFieldDate year month day = leb 1 year && leb year maxYear && isDate year month day
 
--- the answer for eight digits with these numbers
+-- the answer for eight digits whose parts are the numbers y, m and d
 unfoldable pub dateOfNumbers : ℕ → ℕ → ℕ → DateAnswer
 dateOfNumbers y m d =
     cond (isFieldDate y m d) (Value (record { year = y; month = m; day = d })) (Refused badDateText)
 
--- Eight blanks are empty; eight digits YYYYMMDD of a date are that date; all else is refused. The table's checks make a D field
--- eight bytes long, so document 01 doesn't speak of other lengths: they are refused too.
+-- Eight blanks are empty; eight digits YYYYMMDD of a date are that date; all else is refused. A text of another length is refused too: document 01 does
+-- not speak of one, since the table's checks make a D field eight bytes long.
 unfoldable pub dateOf : List ℕ → DateAnswer
 dateOf text =
     cond (eqb (length text) 8)

@@ -13,10 +13,7 @@ const MONTH_LENGTHS: [[u8; 12]; 2] = [
     [31, 29, 31, 30, 31, 30, 31, 31, 30, 31, 30, 31],
 ];
 
-// The refusal "bad date or logical text".
-const BAD_DATE_TEXT: u32 = 20;
-
-// A byte as a number; a call asks no proof that the byte fits.
+// A byte as a number, by a call, so that the caller need not prove that it fits.
 fn wide(byte: u8) -> u32
     ensures { λ r. ⌜ r ≡ byte ⌝ }
 {
@@ -37,7 +34,7 @@ fn days_in_month(year: u32, month: u32) -> u32
     wide(MONTH_LENGTHS[leap][month as usize - 1])
 }
 
-// Whether the calendar has this day. Any year goes: each caller says which years it allows.
+// Whether the calendar has this day. The caller says which years it allows: this call takes any.
 pub fn is_date(year: u32, month: u32, day: u32) -> bool
     ensures { λ r. ⌜ r ≡ isDate year month day ⌝ }
 {
@@ -63,38 +60,38 @@ pub enum DateAnswer {
     Refused(u32),
 }
 
-// A year of four digits is not above 9999, so that need not be tested.
+// The date of a year, a month and a day. A year of four digits is at most 9999, so no test says that.
 fn date_of_numbers(year: u32, month: u32, day: u32) -> DateAnswer
     requires { ⌜ year ≤ maxYear ⌝ }
     ensures { λ r. ⌜ r ≡ dateOfNumbers year month day ⌝ }
 {
     if year < 1 {
-        return DateAnswer::Refused(BAD_DATE_TEXT);
+        return DateAnswer::Refused(refusal::DATE_OR_LOGICAL);
     }
     if !is_date(year, month, day) {
-        return DateAnswer::Refused(BAD_DATE_TEXT);
+        return DateAnswer::Refused(refusal::DATE_OR_LOGICAL);
     }
     DateAnswer::Value(Date { year, month, day })
 }
 
-// Eight blanks are empty; eight digits YYYYMMDD of a date, year 1 to 9999, are that date; any other text is refused.
+// Reads the text of a D field: eight blanks are empty; eight digits YYYYMMDD of a date, year 1 to 9999, are that date; any other text is refused.
 pub fn read_date(text: &[u8]) -> DateAnswer
     ensures { λ r. ⌜ r ≡ dateOf (now (text .entry)) ⌝ }
 {
     if text.len() != 8 {
-        return DateAnswer::Refused(BAD_DATE_TEXT);
+        return DateAnswer::Refused(refusal::DATE_OR_LOGICAL);
     }
     if octets::padding(text) == 8 {
         return DateAnswer::Empty;
     }
     let Digits::Number(year) = read_digits(&text[0..4]) else {
-        return DateAnswer::Refused(BAD_DATE_TEXT);
+        return DateAnswer::Refused(refusal::DATE_OR_LOGICAL);
     };
     let Digits::Number(month) = read_digits(&text[4..6]) else {
-        return DateAnswer::Refused(BAD_DATE_TEXT);
+        return DateAnswer::Refused(refusal::DATE_OR_LOGICAL);
     };
     let Digits::Number(day) = read_digits(&text[6..8]) else {
-        return DateAnswer::Refused(BAD_DATE_TEXT);
+        return DateAnswer::Refused(refusal::DATE_OR_LOGICAL);
     };
     date_of_numbers(year as u32, month as u32, day as u32)
 }

@@ -32,7 +32,7 @@ use Rattle.cell.specs.declared.Reads.the-variants.{Numbers, Dates, Logic
 use Rattle.cell.specs.declared.Logical.the-variants as logical
 use Rattle.cell.specs.declared.TextPlace.the-variants as text
 
--- ---- the checks of a call: those of the place, and then 13 and 15
+-- ---- the checks of a call: the place's checks, then 13 and 15
 
 module _ (reads : Reads) (b : List ℕ) (i field : ℕ) where
   -- 11 and 12
@@ -124,7 +124,7 @@ module _ (reads : Reads) (b : List ℕ) (i field : ℕ) where
       })
       (λ z. let q : Refused (cellRefusal reads b i field) ≡ At p = rw z at e in impossible (cc))
 
-  pub cell-none : (n : ℕ) → cellPlace reads b i field ≡ Refused n → (cellRefusal reads b i field ≡ n) × (n ≡ 0 → ⊥)
+  cell-none : (n : ℕ) → cellPlace reads b i field ≡ Refused n → (cellRefusal reads b i field ≡ n) × (n ≡ 0 → ⊥)
   unfolding cellPlace
   cell-none n e =
       either (eqb (cellRefusal reads b i field) 0)

@@ -8,7 +8,5 @@ pub mod Codes
 pub mod CellLaws
 -- Laws: a C field's answer is the table's alone; no refusal has the number of a value or of an empty field
 pub mod AnswerLaws
--- Laws: tables with the same header and the same records' count read alike
-pub mod HeaderLaws
 -- Laws: fields of deleted records are read like others
 pub mod MarkLaws

@@ -23,7 +23,7 @@ use Rattle.memo.specs.declared.MemoPlace.{MemoPlace}
 use Rattle.memo.specs.declared.MemoPlace.the-variants.{Text, Empty, Refused}
 use Rattle.cell.specs.Cell.{markGood, cellRefusal, fieldStart, fieldBytes, numberCell, dateCell, logicalCell, memoPart, textAt, textCell, textPart}
 use Rattle.cell.specs.CellLaws.{cell-good}
-use Rattle.cell.specs.HeaderLaws.{SameHeader, checks-same, count-same, fields-same, end-same, type-same, width-same, decimals-same, offset-same}
+use Rattle.table.specs.HeaderLaws.{SameHeader, checks-same, count-same, fields-same, end-same, type-same, width-same, decimals-same, offset-same}
 use Rattle.cell.specs.declared.Reads.{Reads}
 use Rattle.cell.specs.declared.Reads.the-variants.{Numbers, Dates, Logicals, Texts}
 

@@ -1,4 +1,5 @@
--- Rules: document 01, one field by value: "a name, type, length and decimals", and where a field of a record lies. Refusals 1 to 10, 11 and 12.
+-- Rules: document 01, one field by value: "a name, type, length and decimals", and where a field of a record lies. Refusals 1 to 10, 11 and 12. Cited by
+-- `field_entry` and `field_place`.
 use Prim.Native.Nat.{ℕ, _+_, _-_, _≤_}
 use mathlib.Core.Path.{_≡_}
 use mathlib.Core.List.{List, [], _∷_, _++_}
@@ -6,7 +7,8 @@ use mathlib.Core.Bool.{Bool, cond, _&&_}
 use lib.ListN.{length, replicate}
 use lib.Dec.{eqb, leb}
 use Rattle.octets.specs.Store.{window}
-use Rattle.table.specs.Table.{descriptor, fieldType, fieldLength, fieldDecimals, fieldOffset, fieldCount, recordCount, recordStart, deletionByte, firstRefusal, tableChecks, tableRefusal}
+use Rattle.table.specs.Table.{descriptor, fieldType, fieldLength, fieldDecimals, fieldOffset, fieldCount, recordCount, recordStart, deletionByte}
+use Rattle.table.specs.Table.{firstRefusal, tableChecks, tableRefusal}
 use Rattle.field.specs.declared.FieldEntry.{FieldEntry}
 use Rattle.field.specs.declared.FieldAnswer.{FieldAnswer}
 use Rattle.field.specs.declared.FieldForm.{FieldForm}
@@ -29,7 +31,7 @@ entryOf b j = record {
   decimals = fieldDecimals b j;
 }
 
--- what stands beside a refusal
+-- the entry beside a refusal: zeros
 unfoldable pub noEntry : FieldEntry
 noEntry = record {
   name = replicate 11 0;
@@ -38,7 +40,7 @@ noEntry = record {
   decimals = 0;
 }
 
--- "record number 0 or above the count", "field number 0 or above f": true where the number is from 1 to the count
+-- "record number 0 or above the count", "field number 0 or above f": true if the number is from 1 to the count
 unfoldable pub numberGood : ℕ → ℕ → Bool
 numberGood number count = leb 1 number && leb number count
 
@@ -55,7 +57,7 @@ fieldAnswer b field = record {
 
 -- ---- a field in a record
 
--- what a reader needs of field j, from 0: its offset is that in a record
+-- what a reader needs of field j, from 0; the offset counts from the record's start
 unfoldable pub formOf : List ℕ → ℕ → FieldForm
 formOf b j = record {
   kind = fieldType b j;
@@ -66,46 +68,46 @@ formOf b j = record {
 
 -- "1 to 10 ... then 11, 12": "record number 0 or above the count", "field number 0 or above f"
 unfoldable pub placeRefusal : List ℕ → ℕ → ℕ → ℕ
-placeRefusal b i field = firstRefusal (tableChecks b ++ ((numberGood i (recordCount b), 11) ∷ (numberGood field (fieldCount b), 12) ∷ []))
+placeRefusal b number field = firstRefusal (tableChecks b ++ ((numberGood number (recordCount b), 11) ∷ (numberGood field (fieldCount b), 12) ∷ []))
 
--- what holds where none of these refuses: the table is good, and the record and the field are its own
-pub record PlaceGood (b : List ℕ) (i field : ℕ) : Type 0 where
+-- what holds if none of these refuses: the table is good, and has the record and the field
+pub record PlaceGood (b : List ℕ) (number field : ℕ) : Type 0 where
   pub table : tableRefusal b ≡ 0
-  pub record-from : 1 ≤ i
-  pub record-to : i ≤ recordCount b
+  pub record-from : 1 ≤ number
+  pub record-to : number ≤ recordCount b
   pub field-from : 1 ≤ field
   pub field-to : field ≤ fieldCount b
 
--- the deletion byte of record i, and where its field lies in the table: "fields follow in order"
+-- the record's deletion byte, and where its field lies in the table: "fields follow in order"
 unfoldable pub placeAt : List ℕ → ℕ → ℕ → Place
-placeAt b i field = record {
-  mark = deletionByte b i;
-  start = recordStart b i + fieldOffset b (field - 1);
+placeAt b number field = record {
+  mark = deletionByte b number;
+  start = recordStart b number + fieldOffset b (field - 1);
   form = formOf b (field - 1);
 }
 
--- a place in the table, of a byte at least
+-- a place lies in the table, and has a byte at least
 pub record PlaceInside (b : List ℕ) (p : Place) : Type 0 where
   pub some : 1 ≤ p .form .length
   pub inside : p .start + p .form .length ≤ length b
 
 unfoldable pub placeOf : List ℕ → ℕ → ℕ → Placed
-placeOf b i field = cond (eqb (placeRefusal b i field) 0) (At (placeAt b i field)) (Refused (placeRefusal b i field))
+placeOf b number field = cond (eqb (placeRefusal b number field) 0) (At (placeAt b number field)) (Refused (placeRefusal b number field))
 
 -- ---- the answer as document 01 counts it
 
--- the number of an answer: 0 with a place, or the refusal's
+-- an answer's number: 0 for a place, or the refusal's
 abbrev pub placeCode : Placed → ℕ
 placeCode (At p) = 0
 placeCode (Refused n) = n
 
--- its values: the place; "A refusal answers its number alone"
+-- an answer's values: the place; "A refusal answers its number alone"
 abbrev pub placeValues : Placed → List Place
 placeValues (At p) = p ∷ []
 placeValues (Refused n) = []
 
 -- what `field_place` answers: the case, its number, and its values
-pub record PlaceAnswer (b : List ℕ) (i field : ℕ) (r : Placed) : Type 0 where
-  pub case : r ≡ placeOf b i field
-  pub number : placeCode r ≡ placeRefusal b i field
-  pub values : placeValues r ≡ cond (eqb (placeRefusal b i field) 0) (placeAt b i field ∷ []) []
+pub record PlaceAnswer (b : List ℕ) (number field : ℕ) (r : Placed) : Type 0 where
+  pub case : r ≡ placeOf b number field
+  pub code : placeCode r ≡ placeRefusal b number field
+  pub values : placeValues r ≡ cond (eqb (placeRefusal b number field) 0) (placeAt b number field ∷ []) []

@@ -1,4 +1,4 @@
--- Laws: what the answers about one field are made of, and that a field's bytes lie in the table. Assumes nothing.
+-- Laws: what the answers about a field say, and a field's bytes lie in the table. Assumes nothing.
 use Prim.Native.Nat.{ℕ, zero, suc, _+_, _-_, _≤_, _<_}
 use mathlib.Core.Path.{_≡_, refl, sym, ap, _∙_}
 use mathlib.Core.Bool.{Bool, true, cond}
@@ -7,7 +7,7 @@ use native.Mathlib.Omega.{arith}
 use lib.ListN.{length}
 use lib.Dec.{eqb, leb, lit<}
 use borrow.Author.Tests.{leb-true, eqb-true, eqb-false}
-use Rattle.basis.specs.Tests.{either, both}
+use Rattle.basis.specs.Tests.{either, both, impossible}
 use Rattle.octets.specs.Bytes.{byteAt}
 use Rattle.octets.specs.Store.{window}
 use Rattle.octets.specs.StoreLaws.{window-cons}
@@ -31,12 +31,12 @@ number-range number count h =
     let parts = both (leb 1 number) (leb number count) h in
     (leb-true 1 number (parts .0), leb-true number count (parts .1))
 
--- in a good table the test of the number decides
+-- in a good table the test of the field's number decides
 pub field-checked : (b : List ℕ) (s : Shape) (field : ℕ) → checkTable b ≡ Good s → fieldRefusal b field ≡ cond (numberGood field (s .fields)) 0 12
 unfolding fieldRefusal firstRefusal shapeOf
 field-checked b s field e = good-then b s ((numberGood field (fieldCount b), 12) ∷ []) e ∙ rw (good-check b s e .1)
 
--- without refusal the table is good and the field is one of its f
+-- without refusal the table is good and has the field
 pub record FieldGood (b : List ℕ) (field : ℕ) : Type 0 where
   pub table : tableRefusal b ≡ 0
   pub from : 1 ≤ field
@@ -53,70 +53,70 @@ field-good b field e =
 
 -- ---- a field of a record
 
-pub place-checked : (b : List ℕ) (s : Shape) (i field : ℕ) → checkTable b ≡ Good s
-    → placeRefusal b i field ≡ cond (numberGood i (s .records)) (cond (numberGood field (s .fields)) 0 12) 11
+pub place-checked : (b : List ℕ) (s : Shape) (number field : ℕ) → checkTable b ≡ Good s
+    → placeRefusal b number field ≡ cond (numberGood number (s .records)) (cond (numberGood field (s .fields)) 0 12) 11
 unfolding placeRefusal firstRefusal shapeOf
-place-checked b s i field e =
-    good-then b s ((numberGood i (recordCount b), 11) ∷ (numberGood field (fieldCount b), 12) ∷ []) e ∙ rw (good-check b s e .1)
+place-checked b s number field e =
+    good-then b s ((numberGood number (recordCount b), 11) ∷ (numberGood field (fieldCount b), 12) ∷ []) e ∙ rw (good-check b s e .1)
 
-pub place-good : (b : List ℕ) (i field : ℕ) → placeRefusal b i field ≡ 0 → PlaceGood b i field
+pub place-good : (b : List ℕ) (number field : ℕ) → placeRefusal b number field ≡ 0 → PlaceGood b number field
 unfolding placeRefusal tableRefusal
-place-good b i field e =
-    let numbers : List (Bool × ℕ) = (numberGood i (recordCount b), 11) ∷ (numberGood field (fieldCount b), 12) ∷ [] in
+place-good b number field e =
+    let numbers : List (Bool × ℕ) = (numberGood number (recordCount b), 11) ∷ (numberGood field (fieldCount b), 12) ∷ [] in
     let parts = first-both (tableChecks b) numbers (table-numbered b) e in
     let held = first-none numbers (lit< tt, (lit< tt, tt)) (parts .1) in
-    let records = number-range i (recordCount b) (held .0) in
+    let records = number-range number (recordCount b) (held .0) in
     let fields = number-range field (fieldCount b) (held .1 .0) in
     record { table = parts .0; record-from = records .0; record-to = records .1; field-from = fields .0; field-to = fields .1 }
 
 -- the record and the field lie in the table
-pub mark-inside : (b : List ℕ) (i field : ℕ) → PlaceGood b i field → recordStart b i < length b
+pub mark-inside : (b : List ℕ) (number field : ℕ) → PlaceGood b number field → recordStart b number < length b
 unfolding recordStart
-mark-inside b i field good =
+mark-inside b number field good =
     let table = layout b (good .table) in
-    omega (arith, record-inside b table (i - 1) (omega arith), record-positive b table)
+    omega (arith, record-inside b table (number - 1) (omega arith), record-positive b table)
 
-pub place-within : (b : List ℕ) (i field : ℕ) (p : Place) → PlaceGood b i field → p ≡ placeAt b i field → PlaceInside b p
+pub place-within : (b : List ℕ) (number field : ℕ) (p : Place) → PlaceGood b number field → p ≡ placeAt b number field → PlaceInside b p
 unfolding placeAt formOf recordStart
-place-within b i field p good e =
+place-within b number field p good e =
     let table = layout b (good .table) in
-    let within = record-inside b table (i - 1) (omega arith) in
+    let within = record-inside b table (number - 1) (omega arith) in
     let field-within = field-inside b table (field - 1) (omega arith) in
     let some = form-some _ _ _ (field-form b table (field - 1) (omega arith)) in
     rw e (record { some = some; inside = omega arith })
 
 -- what a caller learns from the answer's case
-pub placed-at : (b : List ℕ) (i field : ℕ) (p : Place) → placeOf b i field ≡ At p → (placeRefusal b i field ≡ 0) × (p ≡ placeAt b i field)
+pub placed-at : (b : List ℕ) (number field : ℕ) (p : Place) → placeOf b number field ≡ At p → (placeRefusal b number field ≡ 0) × (p ≡ placeAt b number field)
 unfolding placeOf
-placed-at b i field p e =
-    either (eqb (placeRefusal b i field) 0)
-    (λ z. let q : At (placeAt b i field) ≡ At p = rw z at e in (eqb-true (placeRefusal b i field) 0 z, cc))
-    (λ z. let q : Refused (placeRefusal b i field) ≡ At p = rw z at e in let no : _≡_ {A = ℕ} 0 1 = cc in absurd (omega arith))
+placed-at b number field p e =
+    either (eqb (placeRefusal b number field) 0)
+    (λ z. let q : At (placeAt b number field) ≡ At p = rw z at e in (eqb-true (placeRefusal b number field) 0 z, cc))
+    (λ z. let q : Refused (placeRefusal b number field) ≡ At p = rw z at e in impossible (cc))
 
-pub placed-refused : (b : List ℕ) (i field n : ℕ) → placeOf b i field ≡ Refused n → (n ≡ placeRefusal b i field) × (n ≡ 0 → ⊥)
+pub placed-refused : (b : List ℕ) (number field n : ℕ) → placeOf b number field ≡ Refused n → (n ≡ placeRefusal b number field) × (n ≡ 0 → ⊥)
 unfolding placeOf
-placed-refused b i field n e =
-    either (eqb (placeRefusal b i field) 0)
-    (λ z. let q : At (placeAt b i field) ≡ Refused n = rw z at e in let no : _≡_ {A = ℕ} 0 1 = cc in absurd (omega arith))
-    (λ z. let q : Refused (placeRefusal b i field) ≡ Refused n = rw z at e in
-    let s : n ≡ placeRefusal b i field = cc in (s, λ w. eqb-false (placeRefusal b i field) 0 z (sym s ∙ w)))
+placed-refused b number field n e =
+    either (eqb (placeRefusal b number field) 0)
+    (λ z. let q : At (placeAt b number field) ≡ Refused n = rw z at e in impossible (cc))
+    (λ z. let q : Refused (placeRefusal b number field) ≡ Refused n = rw z at e in
+    let s : n ≡ placeRefusal b number field = cc in (s, λ w. eqb-false (placeRefusal b number field) 0 z (sym s ∙ w)))
 
 -- the case decides the number and the values
-pub place-answer : (b : List ℕ) (i field : ℕ) (r : Placed) → r ≡ placeOf b i field → PlaceAnswer b i field r
+pub place-answer : (b : List ℕ) (number field : ℕ) (r : Placed) → r ≡ placeOf b number field → PlaceAnswer b number field r
 unfolding placeOf
-place-answer b i field r e =
-    either (eqb (placeRefusal b i field) 0)
-    (λ z. record { case = e; number = rw (e, z, eqb-true (placeRefusal b i field) 0 z); values = rw (e, z) })
-    (λ z. record { case = e; number = rw (e, z); values = rw (e, z) })
+place-answer b number field r e =
+    either (eqb (placeRefusal b number field) 0)
+    (λ z. record { case = e; code = rw (e, z, eqb-true (placeRefusal b number field) 0 z); values = rw (e, z) })
+    (λ z. record { case = e; code = rw (e, z); values = rw (e, z) })
 
 -- ---- an entry's name
 
--- n bytes read one after another, from the one k after an offset on
+-- n bytes one after another, the first at k after the offset `at`
 unfoldable pub bytesFrom : List ℕ → ℕ → ℕ → ℕ → List ℕ
 bytesFrom b at k zero = []
 bytesFrom b at k (suc n) = byteAt b (at + k) ∷ bytesFrom b at (suc k) n
 
--- are a part of the table
+-- they are a window of the table
 bytes-window : (b : List ℕ) (at k n : ℕ) → at + k + n ≤ length b → window b (at + k) n ≡ bytesFrom b at k n
 unfolding bytesFrom window
 bytes-window b at k zero h = refl

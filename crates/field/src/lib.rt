@@ -1,14 +1,10 @@
-// One field of a table by value: its entry, and where it lies in a record. Document 01, "The table": refusals 1 to 10, 11 and 12.
+// One field of a table: its entry, and where it lies in a record. Document 01, "The table": refusals 1 to 10, 11 and 12.
 ghost use Prim.Native.Nat.{_+_, _≤_, _<_};
 ghost use mathlib.Core.Path.{_≡_};
 ghost use lib.ListN.{length};
 ghost use Rattle.table.specs.Table.{descriptor, fieldCount, tableRefusal};
 ghost use Rattle.field.specs.Field.{numberGood, entryOf, noEntry, fieldRefusal, fieldAnswer, formOf};
 ghost use Rattle.field.specs.Field.{placeRefusal, PlaceGood, placeAt, PlaceInside, PlaceAnswer};
-
-const BAD_RECORD_NUMBER: u32 = 11;
-
-const BAD_FIELD_NUMBER: u32 = 12;
 
 // A field as the host lists it.
 #[repr(C)]
@@ -19,13 +15,13 @@ pub struct FieldEntry {
     pub decimals: u8,
 }
 
-// An entry, or the number of a refusal and an entry of zeros.
+// The answer for one field: 0 and its entry, or a refusal's number and an entry of zeros.
 pub struct FieldAnswer {
     pub refusal: u32,
     pub entry: FieldEntry,
 }
 
-// A field as its reader needs it; the offset is that in a record.
+// A field as its reader needs it; `offset` counts from the record's start.
 pub struct FieldForm {
     pub kind: u32,
     pub offset: usize,
@@ -33,7 +29,7 @@ pub struct FieldForm {
     pub decimals: u32,
 }
 
-// A field of a record: the record's deletion byte, and where the field starts in the table.
+// A field of a record: the record's deletion byte, where the field starts in the table, and its form.
 pub struct Place {
     pub mark: u32,
     pub start: usize,
@@ -45,6 +41,7 @@ pub enum Placed {
     Refused(u32),
 }
 
+// The entry of field j, from 0.
 pub fn entry_at(table: &[u8], j: usize) -> FieldEntry
     requires { ⌜ descriptor j + 32 ≤ length (now table) ⌝ }
     ensures { λ r. ⌜ r ≡ entryOf (now (table .entry)) j ⌝ }
@@ -82,7 +79,7 @@ fn no_entry() -> FieldEntry
     }
 }
 
-// Whether a record's or a field's number is from 1 to the count.
+// Whether the number of a record or a field is from 1 to the count.
 pub fn number_good(number: usize, count: usize) -> bool
     ensures { λ r. ⌜ r ≡ numberGood number count ⌝ }
 {
@@ -93,12 +90,12 @@ fn field_refusal(table: &[u8], field: u32) -> u32
     ensures { λ r. ⌜ r ≡ fieldRefusal (now (table .entry)) field ⌝ }
 {
     match table::check_table(table) {
-        table::Checked::Refused(number) => number,
+        table::Checked::Refused(refused) => refused,
         table::Checked::Good(shape) => {
             if number_good(field as usize, shape.fields) {
                 0
             } else {
-                BAD_FIELD_NUMBER
+                refusal::FIELD_NUMBER
             }
         }
     }
@@ -117,7 +114,7 @@ pub fn field_entry(table: &[u8], field: u32) -> FieldAnswer
     FieldAnswer { refusal: 0, entry }
 }
 
-// What a reader needs of field j, from 0, of a table that was checked.
+// The form of field j, from 0, of a table that was checked.
 pub fn field_form(table: &[u8], j: usize) -> FieldForm
     requires { ⌜ (tableRefusal (now table) ≡ 0) × (j < fieldCount (now table)) ⌝ }
     ensures { λ r. ⌜ r ≡ formOf (now (table .entry)) j ⌝ }
@@ -131,29 +128,29 @@ pub fn field_form(table: &[u8], j: usize) -> FieldForm
     }
 }
 
-fn place_refusal(table: &[u8], i: u32, field: u32) -> u32
-    ensures { λ r. ⌜ r ≡ placeRefusal (now (table .entry)) i field ⌝ }
+fn place_refusal(table: &[u8], number: u32, field: u32) -> u32
+    ensures { λ r. ⌜ r ≡ placeRefusal (now (table .entry)) number field ⌝ }
 {
     match table::check_table(table) {
-        table::Checked::Refused(number) => number,
+        table::Checked::Refused(refused) => refused,
         table::Checked::Good(shape) => {
-            if !number_good(i as usize, shape.records as usize) {
-                return BAD_RECORD_NUMBER;
+            if !number_good(number as usize, shape.records as usize) {
+                return refusal::RECORD_NUMBER;
             }
             if !number_good(field as usize, shape.fields) {
-                return BAD_FIELD_NUMBER;
+                return refusal::FIELD_NUMBER;
             }
             0
         }
     }
 }
 
-// Where a field of a record lies in a table that was checked and has both.
-pub fn place_at(table: &[u8], i: u32, field: u32) -> Place
-    requires { ⌜ PlaceGood (now table) i field ⌝ }
-    ensures { λ r. ⌜ (r ≡ placeAt (now (table .entry)) i field) × PlaceInside (now (table .entry)) r ⌝ }
+// Where field `field` of record `number` lies, both from 1, in a table that was checked and has both.
+pub fn place_at(table: &[u8], number: u32, field: u32) -> Place
+    requires { ⌜ PlaceGood (now table) number field ⌝ }
+    ensures { λ r. ⌜ (r ≡ placeAt (now (table .entry)) number field) × PlaceInside (now (table .entry)) r ⌝ }
 {
-    let start = table::records_end(table, i - 1);
+    let start = table::records_end(table, number - 1);
     let form = field_form(table, (field - 1) as usize);
     Place {
         mark: octets::byte(table, start),
@@ -162,13 +159,13 @@ pub fn place_at(table: &[u8], i: u32, field: u32) -> Place
     }
 }
 
-// Where a field of a record lies, both by their numbers, from 1.
-pub fn field_place(table: &[u8], i: u32, field: u32) -> Placed
-    ensures { λ r. ⌜ PlaceAnswer (now (table .entry)) i field r ⌝ }
+// Where field `field` of record `number` lies, both from 1.
+pub fn field_place(table: &[u8], number: u32, field: u32) -> Placed
+    ensures { λ r. ⌜ PlaceAnswer (now (table .entry)) number field r ⌝ }
 {
-    let refusal = place_refusal(table, i, field);
+    let refusal = place_refusal(table, number, field);
     if refusal != 0 {
         return Placed::Refused(refusal);
     }
-    Placed::At(place_at(table, i, field))
+    Placed::At(place_at(table, number, field))
 }

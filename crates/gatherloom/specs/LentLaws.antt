@@ -54,11 +54,11 @@ unfolding planOf
 plan-good b s room e enough = rw (listing-checked b s room e, le-leb _ _ enough, good-shape b s e .fields)
 
 -- without refusal the table is good and its fields have room
-pub record ListingGood (b : List ℕ) (room : ℕ) : Type 0 where
+record ListingGood (b : List ℕ) (room : ℕ) : Type 0 where
   pub table : tableRefusal b ≡ 0
   pub enough : fieldCount b ≤ room
 
-pub listing-good : (b : List ℕ) (room : ℕ) → listingRefusal b room ≡ 0 → ListingGood b room
+listing-good : (b : List ℕ) (room : ℕ) → listingRefusal b room ≡ 0 → ListingGood b room
 unfolding listingRefusal tableRefusal
 listing-good b room e =
     let parts = first-both (tableChecks b) ((leb (fieldCount b) room, 14) ∷ []) (table-numbered b) e in
@@ -99,7 +99,7 @@ unfolding listed
 listed-more b j entries = rw (add-one j)
 
 -- each entry below the count is its field's
-pub listed-at : (b : List ℕ) (count j : ℕ) (entries : List FieldEntry) (none : FieldEntry) → j < count → count ≤ length entries
+listed-at : (b : List ℕ) (count j : ℕ) (entries : List FieldEntry) (none : FieldEntry) → j < count → count ≤ length entries
     → getD (listed b count entries) j none ≡ entryOf b j
 unfolding listed
 listed-at b zero j entries none l h = absurd (not-suc-le-zero l)
@@ -133,7 +133,7 @@ unfolding listing planOf listed
 listing-refused b entries e = rw (ne-eqb (listingRefusal b (length entries)) 0 e)
 
 -- without a refusal the first f entries are the fields'
-pub listing-done : (b : List ℕ) (entries : List FieldEntry) → listingRefusal b (length entries) ≡ 0
+listing-done : (b : List ℕ) (entries : List FieldEntry) → listingRefusal b (length entries) ≡ 0
     → listing b entries ≡ record { answer = 0; entries = listed b (fieldCount b) entries }
 unfolding listing planOf
 listing-done b entries e = rw e

@@ -1,5 +1,8 @@
 // The C interface: what the firmware and every host program call. Each function calls the library on what it was lent, returns the number of the answer, and
 // writes the answer's values to its out-parameters. An out-parameter keeps what it held whenever the answer is not 0, but for the pages of a lookup.
+//
+// How to read a contract: r is the number returned; `now (x .entry)` is what x held before the call, and `now (x .exit)` what it holds after it. So
+// `numberOut (rule) (now (value .entry)) ≡ out r (now (value .exit))` says: the rule's answer and the old value alone fix r and the new value.
 use calendar::DateAnswer;
 use cell::Logical;
 use cell::TextPlace;
@@ -8,6 +11,9 @@ use insert::Insertion;
 use numeral::Number;
 use numeral::Writing;
 use page::RecordNumber;
+use refusal::ABSENT;
+use refusal::DONE;
+use refusal::EMPTY;
 use table::Checked;
 use walk::Position;
 ghost use mathlib.Core.Path.{_≡_};
@@ -142,7 +148,7 @@ fn lent_step(table: &[u8], position: Position, number: u32) -> LentStep
             number: found,
         },
         walk::Step::Done => LentStep {
-            answer: refusal::DONE,
+            answer: DONE,
             position: after,
             number,
         },
@@ -179,7 +185,7 @@ pub extern "C" fn gl_read_number(table: &[u8], number: u32, field: u32, value: &
             *value = read;
             0
         }
-        Number::Empty => refusal::EMPTY,
+        Number::Empty => EMPTY,
         Number::Refused(refusal) => refusal,
     }
 }
@@ -207,7 +213,7 @@ pub extern "C" fn gl_read_date(
             *day = date.day;
             0
         }
-        DateAnswer::Empty => refusal::EMPTY,
+        DateAnswer::Empty => EMPTY,
         DateAnswer::Refused(refusal) => refusal,
     }
 }
@@ -223,7 +229,7 @@ pub extern "C" fn gl_read_logical(table: &[u8], number: u32, field: u32, value: 
             *value = read as u8;
             0
         }
-        Logical::Empty => refusal::EMPTY,
+        Logical::Empty => EMPTY,
         Logical::Refused(refusal) => refusal,
     }
 }
@@ -250,7 +256,7 @@ pub extern "C" fn gl_text_part(
             *len = n as u64;
             0
         }
-        TextPlace::Empty => refusal::EMPTY,
+        TextPlace::Empty => EMPTY,
         TextPlace::Refused(refusal) => refusal,
     }
 }
@@ -266,7 +272,7 @@ pub extern "C" fn gl_number_read(text: &[u8], decimals: u32, value: &mut i64) ->
             *value = meant;
             0
         }
-        Number::Empty => refusal::EMPTY,
+        Number::Empty => EMPTY,
         Number::Refused(refusal) => refusal,
     }
 }
@@ -331,7 +337,7 @@ pub extern "C" fn gl_index_lookup(
         }
         lookup::Answer::Absent(searched) => {
             *pages = searched;
-            refusal::ABSENT
+            ABSENT
         }
         lookup::Answer::Refused(refusal) => refusal,
     }

@@ -1,4 +1,5 @@
--- Rules: what the inner functions of insertion answer, as the rules have it, and how far the new pages may lie.
+-- Steps: what the inner functions of insertion answer, in the rules' terms, and how far new pages may lie. Inner contracts, laws and proofs cite them: a
+-- reader need not believe them.
 use Prim.Native.Nat.{ℕ, _+_, _*_, _≤_}
 use mathlib.Core.Bool.{cond}
 use mathlib.Core.List.{List}
@@ -14,23 +15,24 @@ use Rattle.insert.specs.declared.Outcome.the-variants.{Kept, Split, Bad}
 use Rattle.insert.specs.declared.Visit.{Visit}
 use Rattle.insert.specs.declared.Visit.the-variants as visit
 
--- an outcome, as the rule has it
+-- an outcome in the rule's terms
 abbrev pub outcomeOf : Outcome → RuleOutcome
 outcomeOf (Kept end) = kept (end .0)
 outcomeOf (Split q) = split (q .0)
 outcomeOf Bad = bad
 
--- the page after a new one begins at or before a limit
+-- the page after a new one, if there is a new one, begins at or before the limit
 abbrev pub NextFits : ℕ → Outcome → Type 0
 NextFits limit (Kept end) = Unit {0}
 NextFits limit (Split q) = q .0 + pageSize ≤ limit
 NextFits limit Bad = Unit {0}
 
--- the largest index, and a page more for each level
+-- the size of the largest index, with one page more for each level
 abbrev pub maxGrown : ℕ
 maxGrown = maxBytes + pageSize * maxLevels
 
--- what insertion meets at p: no page, a leaf, or the child that is chosen
+-- what insertion meets at p: no page, a leaf, or a page above the chosen child
 unfoldable pub visitOf : List ℕ → List ℕ → ℕ → Visit
 visitOf b key p =
-    cond (isPage (length b) p) (cond (leafBit (attributeAt b p)) visit.Leaf (visit.Child (offsetOf (childOf (chosen key (itemsIn (length key) b p)))))) visit.Bad
+    let child = visit.Child (offsetOf (childOf (chosen key (itemsIn (length key) b p)))) in
+    cond (isPage (length b) p) (cond (leafBit (attributeAt b p)) visit.Leaf child) visit.Bad

@@ -67,7 +67,7 @@ module _ (b key : List ℕ) (r : ℕ) where
             unfolding insertRule
             accepted-pair e q = rw (header, eq-eqb (length key) (keyLength b) same, ne-eqb r 0 some, sound, absent, e, insertRule, q)
 
--- printable bytes, one after another
+-- a conjunction of three tests, by the first two
 first-fails : (a b x : Bool) → (a && b) ≡ false → (a && b && x) ≡ false
 first-fails true true x e = contra refl e
 first-fails true false x e = refl
@@ -78,6 +78,7 @@ first-holds true true x e = refl
 first-holds true false x e = contra e refl
 first-holds false b x e = contra e refl
 
+-- printable bytes, one after another
 module _ (s : List ℕ) (i : ℕ) {c : ℕ} (h : i < length s) (e : c ≡ getD s i 0) where
   pub unprintable-here : (leb 0x20 c && leb c 0x7E) ≡ false → printable (drop i s) ≡ false
   unfolding printable
@@ -117,7 +118,7 @@ module _ (b : List ℕ) (k : ℕ) (e : List ℕ) where
       unfolding freshRule
       fresh-made h q = rw (key, good, le-leb minBytes (length b) h, freshRule, q)
 
--- an expression that is too long is not good, whatever its bytes are
+-- an expression that is too long is bad, whatever its bytes are
 pub expression-long : (e : List ℕ) → maxExpression < length e → expressionGood e ≡ false
 unfolding expressionGood
 expression-long e l = rw (lt-leb (length e) maxExpression l, and-false (leb 1 (length e)))

@@ -22,25 +22,25 @@ pub record Inserted : Type 0 where
 abbrev pub left : List ℕ → Insertion → Inserted
 left b a = record { after = b; answer = a }
 
--- the number of an answer: 0 where the call is accepted, or the refusal's
+-- an answer's number: 0 if the call is accepted, or the refusal's
 abbrev pub insertionCode : Insertion → ℕ
 insertionCode Accepted = 0
 insertionCode (Refused n) = n
 
--- "29 if the key is in a leaf": the one that lookup's steps lead to
+-- "29 if the key is in a leaf": lookup's steps lead to that leaf
 abbrev pub isFound : Answer → Bool
 isFound (looked.Found r pages) = true
 isFound (looked.Absent pages) = false
 isFound (looked.Refused n) = false
 
--- what insertion leaves and answers; a refusal leaves the buffer as it was
+-- what insertion leaves and answers: a refusal leaves the buffer as it was
 unfoldable pub insertRule : List ℕ → List ℕ → ℕ → Inserted
-insertRule b key r =
+insertRule b key number =
     elim (headerGood b) [
       | false ↦ left b (Refused 24)
       | true ↦ elim (eqb (length key) (keyLength b)) [
         | false ↦ left b (Refused 27)
-        | true ↦ elim (eqb r 0) [
+        | true ↦ elim (eqb number 0) [
           | true ↦ left b (Refused 28)
           | false ↦ elim (pagesGood b unmarked) [
             | false ↦ left b (Refused 25)
@@ -48,7 +48,7 @@ insertRule b key r =
               | true ↦ left b (Refused 29)
               | false ↦ elim (noRoom (keyLength b) b key) [
                 | true ↦ left b (Refused 30)
-                | false ↦ left (insertedBuffer (keyLength b) b key r) Accepted
+                | false ↦ left (insertedBuffer (keyLength b) b key number) Accepted
               ]
             ]
           ]

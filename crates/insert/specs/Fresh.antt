@@ -1,4 +1,4 @@
--- Rules: a fresh index, "(27, 24, 30)", as the whole buffer that it leaves.
+-- Rules: what fresh answers and leaves, "(27, 24, 30)", as the whole buffer.
 use Prim.Native.Nat.{ℕ}
 use mathlib.Core.Bool.{Bool, true, false, _&&_}
 use mathlib.Core.List.{List, [], _∷_}

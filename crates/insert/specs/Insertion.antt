@@ -13,8 +13,8 @@ use Rattle.page.specs.Reading.{Item}
 use Rattle.layout.specs.Layout.{itemsIn, withRoot, withSize, withEntries, newPage, splitPage}
 use Rattle.layout.specs.Entries.{chosen, childOf, replaced, raised, twoFor, rootEntries}
 
--- what an insertion under a page leaves for the page above to do: nothing, the file having n bytes; or to take in the new page at q, the last of the
--- file. The third does not occur on a sound index with room: it keeps the rule total
+-- what an insertion under a page leaves for the page above to do: nothing, in a file of n bytes; or to take in the new page at q, the last of the file. The
+-- third does not occur on a sound index with room: it keeps the rule total
 pub data Outcome : Type 0 where
   kept : ℕ → Outcome
   split : ℕ → Outcome
@@ -28,7 +28,7 @@ pub record Step : Type 0 where
 abbrev pub step : List ℕ → Outcome → Step
 step b o = record { after = b; outcome = o }
 
--- the page at p gets the entries es, the file having n bytes: it holds them, or is split, "a new page at F"
+-- the page at p gets the entries es, in a file of n bytes: it holds them, or is split, "a new page at F"
 unfoldable pub takeIn : ℕ → List ℕ → ℕ → List Item → ℕ → Step
 takeIn k b p es n =
     let whole = step (withEntries b p es) (kept n) in
@@ -41,19 +41,19 @@ afterChild k b key p c (kept n) = step (raised k b key p) (kept n)
 afterChild k b key p c (split q) = takeIn k b p (replaced key (twoFor k b key c q) (itemsIn k b p)) (q + pageSize)
 afterChild k b key p c bad = step b bad
 
--- the pair goes in under the page at p, with the levels left falling from 11, the file having n bytes: into the page if it is a leaf, else under the
--- child that is chosen
+-- the pair goes in under the page at p, in a file of n bytes, with the levels left falling from 11: into the page if it is a leaf, else under the chosen
+-- child
 unfoldable pub insertUnder : ℕ → ℕ → List ℕ → List ℕ → ℕ → ℕ → ℕ → Step
-insertUnder k zero b key r p n = step b bad
-insertUnder k (suc left) b key r p n =
-    let leaf = takeIn k b p (insertPair bytesOrder key (toBe32 r) (itemsIn k b p)) n in
+insertUnder k zero b key number p n = step b bad
+insertUnder k (suc left) b key number p n =
+    let leaf = takeIn k b p (insertPair bytesOrder key (toBe32 number) (itemsIn k b p)) n in
     let c = childOf (chosen key (itemsIn k b p)) in
-    let below = insertUnder k left b key r c n in
+    let below = insertUnder k left b key number c n in
     let upper = afterChild k (below .after) key p c (below .outcome) in
     cond (isPage (length b) p) (cond (leafBit (attributeAt b p)) leaf upper) (step b bad)
 
--- the root after it: if it was split, "the new root last", over the two halves with their own last keys; and the header's root offset and file size. Where
--- there is room, the new root is a page of the buffer
+-- the root at p after the insertion under it: if it was split, "the new root last", over the two halves with their own last keys; and the header's root
+-- offset and file size. If there is room, the new root is a page of the buffer
 abbrev pub atRoot : ℕ → List ℕ → List ℕ → ℕ → Outcome → List ℕ
 atRoot k b key p (kept n) = withSize b n
 atRoot k b key p (split q) =
@@ -64,6 +64,6 @@ atRoot k b key p bad = b
 
 -- the buffer after an insertion that is accepted
 unfoldable pub insertedBuffer : ℕ → List ℕ → List ℕ → ℕ → List ℕ
-insertedBuffer k b key r =
-    let s = insertUnder k maxLevels b key r (rootOffset b) (fileSize b) in
+insertedBuffer k b key number =
+    let s = insertUnder k maxLevels b key number (rootOffset b) (fileSize b) in
     atRoot k (s .after) key (rootOffset b) (s .outcome)

@@ -1,4 +1,4 @@
--- Rules: the new pages and the levels that an insertion means, read off the path to the key; and so refusal 30.
+-- Rules: the new pages and levels that an insertion needs, read off the path to the key, and refusal 30.
 use Prim.Native.Nat.{ℕ, zero, suc, _+_, _*_}
 use mathlib.Core.Bool.{Bool, cond, _||_, _&&_}
 use mathlib.Core.List.{List}
@@ -10,15 +10,15 @@ use Rattle.layout.specs.Layout.{itemsIn}
 use Rattle.layout.specs.Entries.{chosen, childOf}
 use Rattle.insert.specs.declared.Path.{Path}
 
--- a path from a page down to the leaf has levels, and full pages "in an unbroken run from the leaf up"; the path from no page
+-- a path goes from a page down to a leaf: `levels` pages, of which `run` are full "in an unbroken run from the leaf up". The path from no page
 abbrev pub nowhere : Path
 nowhere = record { levels = 0; run = 0 }
 
--- one page more on top, full or not: it joins a run that has all the levels under it
+-- a path with one page more on top: a full page joins a run that has all levels under it
 abbrev pub onTop : Bool → Path → Path
 onTop full path = record { levels = path .levels + 1; run = cond (full && eqb (path .run) (path .levels)) (path .run + 1) (path .run) }
 
--- the path to a key from the page at p on, with the levels left falling from 11: none where p is no page, which does not occur in a sound index
+-- the path to a key from the page at p on, with the levels left falling from 11; `nowhere` if p is no page, which does not occur in a sound index
 unfoldable pub pathFrom : ℕ → ℕ → List ℕ → List ℕ → ℕ → Path
 pathFrom k zero b key p = nowhere
 pathFrom k (suc left) b key p =
@@ -26,16 +26,14 @@ pathFrom k (suc left) b key p =
     let upper = onTop full (pathFrom k left b key (childOf (chosen key (itemsIn k b p)))) in
     cond (isPage (length b) p) (cond (leafBit (attributeAt b p)) (onTop full nowhere) upper) nowhere
 
--- "One is needed for each full page in an unbroken run from the leaf up, and one more if the run has the root"
-abbrev pub newPages : Path → ℕ
-newPages path = cond (eqb (path .run) (path .levels)) (path .run + 1) (path .run)
+-- "and one more if the run has the root": a page more, and a level more
+abbrev pub rootSplit : Path → ℕ
+rootSplit path = cond (eqb (path .run) (path .levels)) 1 0
 
-abbrev pub levelsAfter : Path → ℕ
-levelsAfter path = cond (eqb (path .run) (path .levels)) (path .levels + 1) (path .levels)
-
--- "30 is given exactly when F would pass the buffer or 1,048,576, or levels would pass 11"
+-- new pages: "One is needed for each full page in an unbroken run from the leaf up, and one more if the run has the root. 30 is given exactly when F would
+-- pass the buffer or 1,048,576, or levels would pass 11"
 unfoldable pub noRoom : ℕ → List ℕ → List ℕ → Bool
 noRoom k b key =
     let path = pathFrom k maxLevels b key (rootOffset b) in
-    let size = fileSize b + pageSize * newPages path in
-    ltb (length b) size || (ltb maxBytes size || ltb maxLevels (levelsAfter path))
+    let size = fileSize b + pageSize * (path .run + rootSplit path) in
+    ltb (length b) size || (ltb maxBytes size || ltb maxLevels (path .levels + rootSplit path))

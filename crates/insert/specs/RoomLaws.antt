@@ -12,13 +12,13 @@ use Rattle.page.specs.Page.{attributeAt, leafBit, capacity}
 use Rattle.page.specs.declared.PageOffset.{PageOffset}
 use Rattle.layout.specs.Layout.{itemsIn}
 use Rattle.layout.specs.Entries.{chosen, childOf}
-use Rattle.insert.specs.Room.{nowhere, onTop, pathFrom, newPages, levelsAfter, noRoom}
+use Rattle.insert.specs.Room.{nowhere, onTop, pathFrom, rootSplit, noRoom}
 use Rattle.insert.specs.Answers.{visitOf}
 use Rattle.insert.specs.StepLaws.{visited-bad, visited-leaf, visited-child}
 use Rattle.insert.specs.declared.Path.{Path}
 use Rattle.insert.specs.declared.Visit.the-variants as visit
 
--- a page on top of a path makes its run no longer than it
+-- with a page on top, the run has no more pages than the path has levels
 top-run : (full : Bool) (path : Path) → path .run ≤ path .levels → onTop full path .run ≤ onTop full path .levels
 top-run full path h = either (full && eqb (path .run) (path .levels)) (λ e. rw e (omega arith)) (λ e. rw e (omega arith))
 
@@ -32,7 +32,7 @@ path-levels k (suc left) b key p = either (isPage (length b) p)
     (λ u. rw (t, u) (omega (arith, path-levels k left b key (childOf (chosen key (itemsIn k b p)))))))
     (λ t. rw t (omega arith))
 
--- by cases of the visit
+-- the path, by cases of the visit
 module _ (b key : List ℕ) (p : ℕ) where
   pub path-bad : (levels : ℕ) → (levels ≡ 0 → ⊥) → visit.Bad ≡ visitOf b key p → nowhere ≡ pathFrom (length key) levels b key p
   unfolding pathFrom
@@ -45,8 +45,8 @@ module _ (b key : List ℕ) (p : ℕ) where
     path-leaf zero s e = absurd (s refl)
     path-leaf (suc left) s e = let v = visited-leaf b key p e in rw (v .0, v .1, f)
 
-    pub path-child : (levels : ℕ) (c : PageOffset) {path : Path} → (levels ≡ 0 → ⊥) → visit.Child c ≡ visitOf b key p → path ≡ pathFrom (length key) (levels - 1) b key (c .0)
-        → onTop full path ≡ pathFrom (length key) levels b key p
+    pub path-child : (levels : ℕ) (c : PageOffset) {path : Path} → (levels ≡ 0 → ⊥) → visit.Child c ≡ visitOf b key p
+        → path ≡ pathFrom (length key) (levels - 1) b key (c .0) → onTop full path ≡ pathFrom (length key) levels b key p
     unfolding pathFrom
     path-child zero c s e q = absurd (s refl)
     path-child (suc left) c s e q =
@@ -54,22 +54,26 @@ module _ (b key : List ℕ) (p : ℕ) where
         let l : suc left - 1 ≡ left = omega arith in
         rw (v .0, v .1, f, q, l, v .2)
 
--- and its run is no longer than it
+-- the run has no more pages than the path has levels
 pub path-run : (k left : ℕ) (b key : List ℕ) (p : ℕ) → pathFrom k left b key p .run ≤ pathFrom k left b key p .levels
 unfolding pathFrom
 path-run k zero b key p = omega arith
-path-run k (suc left) b key p = either (isPage (length b) p)
+path-run k (suc left) b key p =
+    let full = leb (capacity k) (length (itemsIn k b p)) in
+    let c = childOf (chosen key (itemsIn k b p)) in
+    either (isPage (length b) p)
     (λ t. either (leafBit (attributeAt b p))
-    (λ u. rw (t, u) (top-run (leb (capacity k) (length (itemsIn k b p))) nowhere (omega arith)))
-    (λ u. rw (t, u) (top-run (leb (capacity k) (length (itemsIn k b p))) (pathFrom k left b key (childOf (chosen key (itemsIn k b p)))) (path-run k left b key _))))
+    (λ u. rw (t, u) (top-run full nowhere (omega arith)))
+    (λ u. rw (t, u) (top-run full (pathFrom k left b key c) (path-run k left b key c))))
     (λ t. rw t (omega arith))
 
-pub pages-few : (path : Path) → path .run ≤ path .levels → newPages path ≤ path .levels + 1
-pages-few path h = either (eqb (path .run) (path .levels)) (λ e. rw e (omega arith)) (λ e. rw e (omega arith))
+-- at most one root is split
+pub root-once : (path : Path) → rootSplit path ≤ 1
+root-once path = either (eqb (path .run) (path .levels)) (λ e. rw e (omega arith)) (λ e. rw e (omega arith))
 
 -- the tests of room, on the path's numbers
-pub room-told : (b key : List ℕ) {path : Path} {root file n l : ℕ} → length key ≡ keyLength b → root ≡ rootOffset b → path ≡ pathFrom (length key) maxLevels b key root
-    → file ≡ fileSize b → n ≡ newPages path → l ≡ levelsAfter path
-    → (ltb (length b) (file + pageSize * n) || (ltb maxBytes (file + pageSize * n) || ltb maxLevels l)) ≡ noRoom (keyLength b) b key
+pub room-told : (b key : List ℕ) {path : Path} {root file more : ℕ} → let size = file + pageSize * (path .run + more) in
+    length key ≡ keyLength b → root ≡ rootOffset b → path ≡ pathFrom (length key) maxLevels b key root → more ≡ rootSplit path → file ≡ fileSize b
+    → (ltb (length b) size || (ltb maxBytes size || ltb maxLevels (path .levels + more))) ≡ noRoom (keyLength b) b key
 unfolding noRoom
-room-told b key ek er ep ef en el = rw (en, el, ep, ef, er, ek)
+room-told b key ek er ep em ef = rw (em, ep, ef, er, ek)

@@ -8,7 +8,7 @@ use native.Mathlib.Omega.{arith}
 use lib.ListN.{length}
 use lib.Dec.{leb}
 use borrow.Author.Tests.{le-leb, lt-leb}
-use Rattle.basis.specs.Tests.{either}
+use Rattle.basis.specs.Tests.{either, impossible}
 use Rattle.octets.specs.Bytes.{toBe32}
 use Rattle.tree.specs.Pairs.{insertPair}
 use Rattle.page.specs.Header.{maxLevels, noPage, pageSize, isPage, rootOffset, fileSize, keyLength}
@@ -17,24 +17,24 @@ use Rattle.page.specs.KeyOrder.{bytesOrder}
 use Rattle.page.specs.Reading.{Item, items}
 use Rattle.page.specs.declared.PageOffset.{PageOffset}
 use Rattle.layout.specs.Layout.{itemsIn, withRoot, withSize, withEntries, newPage, splitPage}
-use Rattle.layout.specs.Entries.{chosen, childOf, rootEntries}
+use Rattle.layout.specs.Entries.{chosen, childOf, replaced, twoFor, rootEntries}
 use Rattle.insert.specs.Insertion.{Outcome as RuleOutcome, kept, split, bad, Step, step, takeIn, afterChild, insertUnder, atRoot, insertedBuffer}
 use Rattle.insert.specs.Answers.{outcomeOf, NextFits, visitOf}
 use Rattle.insert.specs.declared.Outcome.{Outcome}
 use Rattle.insert.specs.declared.Outcome.the-variants.{Kept, Split, Bad}
 use Rattle.insert.specs.declared.Visit.the-variants as visit
 
--- the outcomes are three
+-- the three outcomes differ
 kept-split : {X : Type 0} {n q : ℕ} → kept n ≡ split q → X
-kept-split e = let z : _≡_ {A = ℕ} 0 1 = cc in absurd (omega arith)
+kept-split e = impossible cc
 
 bad-split : {X : Type 0} {q : ℕ} → bad ≡ split q → X
-bad-split e = let z : _≡_ {A = ℕ} 0 1 = cc in absurd (omega arith)
+bad-split e = impossible cc
 
 same-split : {n q : ℕ} → split n ≡ split q → q ≡ n
 same-split e = cc
 
--- a page that gets entries holds them, is split, or there is no page for the rest
+-- a page that gets entries holds them, is split, or stays if there is no page for the rest
 module _ (k : ℕ) (b : List ℕ) (p : ℕ) (es : List Item) (n : ℕ) where
   pub takes-kept : {out : List ℕ} → length es ≤ capacity k → out ≡ withEntries b p es → takeIn k b p es n ≡ step out (kept n)
   unfolding takeIn
@@ -48,20 +48,20 @@ module _ (k : ℕ) (b : List ℕ) (p : ℕ) (es : List Item) (n : ℕ) where
   unfolding takeIn
   takes-none h t = rw (lt-leb _ _ h, t)
 
--- the kinds of a visit are three
+-- the three kinds of a visit differ
 bad-leaf : {X : Type 0} → visit.Bad ≡ visit.Leaf → X
-bad-leaf e = let z : _≡_ {A = ℕ} 0 1 = cc in absurd (omega arith)
+bad-leaf e = impossible cc
 
 bad-child : {X : Type 0} {c : PageOffset} → visit.Bad ≡ visit.Child c → X
-bad-child e = let z : _≡_ {A = ℕ} 0 1 = cc in absurd (omega arith)
+bad-child e = impossible cc
 
 leaf-child : {X : Type 0} {c : PageOffset} → visit.Leaf ≡ visit.Child c → X
-leaf-child e = let z : _≡_ {A = ℕ} 0 1 = cc in absurd (omega arith)
+leaf-child e = impossible cc
 
 same-child : {c d : PageOffset} → visit.Child c ≡ visit.Child d → c ≡ d
 same-child e = cc
 
--- what a visit tells
+-- what a visit says of the page
 module _ (b key : List ℕ) (p : ℕ) where
   pub visited-bad : visit.Bad ≡ visitOf b key p → isPage (length b) p ≡ false
   unfolding visitOf
@@ -107,7 +107,7 @@ module _ (b key : List ℕ) (r p n : ℕ) where
       let f : suc left - 1 ≡ left = omega arith in
       rw (v .0, v .1, ← v .2, rw f at d)
 
--- a new page lies at the file's end, so that it is found in 32 bits while the levels left last
+-- a new page begins at the file's end: with a page for each level left, its offset stays below the limit
 split-here : (k : ℕ) (b : List ℕ) (p : ℕ) (es : List Item) (n q : ℕ) → takeIn k b p es n .outcome ≡ split q → q ≡ n
 unfolding takeIn
 split-here k b p es n q e = either (leb (length es) (capacity k))
@@ -120,7 +120,7 @@ after-bound k b key p c (kept n) q m h e = kept-split e
 after-bound k b key p c (split x) q m h e = omega (arith, h x refl, split-here k b p _ (x + pageSize) q e)
 after-bound k b key p c bad q m h e = bad-split e
 
-pub split-bound : (k left : ℕ) (b key : List ℕ) (r p n q : ℕ) → insertUnder k left b key r p n .outcome ≡ split q → q + pageSize ≤ n + pageSize * left
+split-bound : (k left : ℕ) (b key : List ℕ) (r p n q : ℕ) → insertUnder k left b key r p n .outcome ≡ split q → q + pageSize ≤ n + pageSize * left
 unfolding insertUnder
 split-bound k zero b key r p n q e = bad-split e
 split-bound k (suc left) b key r p n q e =
@@ -140,7 +140,11 @@ next-fits limit k left b key r p n (Kept x) e h = tt
 next-fits limit k left b key r p n (Split q) e h = omega (arith, split-bound k left b key r p n (q .0) (ap (λ (s : Step). s .outcome) e))
 next-fits limit k left b key r p n Bad e h = tt
 
--- a page without entries has none to replace
+-- a page above one that was split gets the rule's entries; a page without entries has none to replace
+pub two-for-some : (k : ℕ) (b key : List ℕ) (p c q : ℕ) (es : List Item) {end : ℕ} {s : Step} → es ≡ replaced key (twoFor k b key c q) (itemsIn k b p)
+    → end ≡ q + pageSize → takeIn k b p es end ≡ s → afterChild k b key p c (split q) ≡ s
+two-for-some k b key p c q es g f e = rw (← g, ← f) e
+
 pub two-for-none : (k : ℕ) (b key : List ℕ) (p c q : ℕ) (xs : List ℕ) {end : ℕ} {s : Step} → length (itemsIn k b p) ≡ 0 → end ≡ q + pageSize
     → takeIn k b p (items k 0 xs) end ≡ s → afterChild k b key p c (split q) ≡ s
 unfolding items
@@ -165,7 +169,7 @@ module _ (b key : List ℕ) (p : ℕ) where
   unfolding visitOf
   visit-child {a} {c} t e h q = rw (t, ← e, h, ← q)
 
--- the root, behind the new page at q
+-- the new root begins at the end of the new page at q
 module _ (b key : List ℕ) (p q : ℕ) {root : ℕ} (behind : root ≡ q + pageSize) where
   pub root-none : isPage (length b) root ≡ false → b ≡ atRoot (length key) b key p (split q)
   root-none t = rw (← behind, t)
@@ -175,7 +179,7 @@ module _ (b key : List ℕ) (p q : ℕ) {root : ℕ} (behind : root ≡ q + page
       → l3 ≡ atRoot (length key) b key p (split q)
   root-new t e e1 e2 f e3 = rw (← behind, t) (e3 ∙ rw (f, e2, e1, e))
 
--- the whole
+-- the whole insertion
 pub pair-inserted : (b key : List ℕ) (r : ℕ) {root file : ℕ} {b′ out : List ℕ} {o : RuleOutcome}
     → length key ≡ keyLength b → root ≡ rootOffset b → file ≡ fileSize b → insertUnder (length key) maxLevels b key r root file ≡ step b′ o
     → out ≡ atRoot (length key) b′ key root o → out ≡ insertedBuffer (keyLength b) b key r

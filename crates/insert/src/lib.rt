@@ -17,7 +17,7 @@ ghost use Rattle.layout.specs.Layout.{itemsIn};
 ghost use Rattle.layout.specs.Given.{Over};
 ghost use Rattle.insert.specs.Insertion.{split, step, takeIn, afterChild, insertUnder, atRoot, insertedBuffer};
 ghost use Rattle.insert.specs.Answers.{outcomeOf, NextFits, maxGrown, visitOf};
-ghost use Rattle.insert.specs.Room.{onTop, pathFrom, newPages, levelsAfter, noRoom};
+ghost use Rattle.insert.specs.Room.{onTop, pathFrom, rootSplit, noRoom};
 ghost use Rattle.insert.specs.Calls.{left, isFound, insertRule};
 ghost use Rattle.insert.specs.Fresh.{printable, maxExpression, expressionGood, freshBuffer, freshRule};
 
@@ -30,13 +30,13 @@ pub enum Insertion {
     Refused(u32),
 }
 
-// Of the path from a page down to the leaf that a key leads to: its levels, and the full pages in an unbroken run from the leaf up.
+// The path from a page down to the leaf that a key leads to: how many levels it has, and how many full pages in an unbroken run from the leaf up.
 pub struct Path {
     pub levels: u32,
     pub run: u32,
 }
 
-// What an insertion under a page leaves for the page above: nothing, with the file's end, or to take in a new page.
+// What an insertion under a page leaves for the page above to do: nothing, with the file's end; or to take in a new page; or it met no page.
 pub enum Outcome {
     Kept(PageOffset),
     Split(PageOffset),
@@ -50,7 +50,7 @@ pub enum Visit {
     Child(PageOffset),
 }
 
-// Gives a page `count` entries, held in a byte string, or splits it: the new page begins at the file's end.
+// Gives a page `count` entries, held in the bytes `entries`, or splits it: the new page begins at the file's end, `end`.
 fn take_in(
     index: &mut [u8],
     k: usize,
@@ -94,7 +94,7 @@ fn insert_in_leaf(
     take_in(index, key.len(), page, count + 1, &room[..size], end)
 }
 
-// Puts two entries for the one above a page that was split.
+// Puts two entries, for `child` and `new`, in the place of the one above `child`, which was split.
 fn take_in_two(
     index: &mut [u8],
     key: &[u8],
@@ -117,7 +117,7 @@ fn take_in_two(
     take_in(index, key.len(), page, count + 1, &room[..size], end)
 }
 
-// What a page does after an insertion under its child.
+// What a page does after an insertion under its child left `below`.
 fn after_child(
     index: &mut [u8],
     key: &[u8],
@@ -181,7 +181,7 @@ fn insert_under(
     }
 }
 
-// A new root over one that was split, and the header's root offset and file size.
+// Writes a new root over `old`, which was split, and `new`; and the header's root offset and file size.
 fn new_root(index: &mut [u8], key: &[u8], old: PageOffset, new: PageOffset)
     requires { ⌜ (length (now key) ≤ maxKey) × (new .0 + pageSize ≤ maxGrown) ⌝ }
     ensures { λ _. ⌜ now (index .exit) ≡ atRoot (length (now (key .entry))) (now (index .entry)) (now (key .entry)) (old .0) (split (new .0)) ⌝ }
@@ -205,7 +205,7 @@ fn new_root(index: &mut [u8], key: &[u8], old: PageOffset, new: PageOffset)
     layout::set_file_end(index, page::next_page(root));
 }
 
-// What is left to do at the root.
+// What is done at the root after an insertion under it left `below`.
 fn at_root(index: &mut [u8], key: &[u8], root: PageOffset, below: Outcome)
     requires { ⌜ (length (now key) ≤ maxKey) × (pageSize ≤ length (now index)) × NextFits maxGrown below ⌝ }
     ensures { λ _. ⌜ now (index .exit) ≡ atRoot (length (now (key .entry))) (now (index .entry)) (now (key .entry)) (root .0) (outcomeOf below) ⌝ }
@@ -236,7 +236,7 @@ fn is_full(index: &[u8], k: usize, page: PageOffset) -> bool
     Page::capacity(k) <= layout::entry_count(index, k, page)
 }
 
-// A path with one page more on top, full or not.
+// A path with one page more on top, which is full or not.
 fn on_top(full: bool, path: Path) -> Path
     requires { ⌜ path .levels ≤ maxLevels ⌝ }
     ensures { λ r. ⌜ r ≡ onTop full path ⌝ }
@@ -253,7 +253,7 @@ fn on_top(full: bool, path: Path) -> Path
     }
 }
 
-// The path to a key from a page on, with `levels` levels left.
+// The path to `key` from a page on, with `levels` levels left.
 fn path_from(index: &[u8], key: &[u8], page: PageOffset, levels: u32) -> Path
     requires { ⌜ (length (now key) ≤ maxKey) × (levels ≤ maxLevels) ⌝ }
     ensures { λ r. ⌜ r ≡ pathFrom (length (now (key .entry))) levels (now (index .entry)) (now (key .entry)) (page .0) ⌝ }
@@ -270,26 +270,14 @@ fn path_from(index: &[u8], key: &[u8], page: PageOffset, levels: u32) -> Path
     }
 }
 
-// How many new pages an insertion takes.
-fn new_pages(path: Path) -> u32
-    requires { ⌜ path .levels ≤ maxLevels ⌝ }
-    ensures { λ r. ⌜ r ≡ newPages path ⌝ }
+// How many roots an insertion splits: 1 if the run of full pages has the root, else 0.
+fn root_split(path: Path) -> u32
+    ensures { λ r. ⌜ r ≡ rootSplit path ⌝ }
 {
     if path.run == path.levels {
-        return path.run + 1;
+        return 1;
     }
-    path.run
-}
-
-// How many levels there are after an insertion.
-fn levels_after(path: Path) -> u32
-    requires { ⌜ path .levels ≤ maxLevels ⌝ }
-    ensures { λ r. ⌜ r ≡ levelsAfter path ⌝ }
-{
-    if path.run == path.levels {
-        return path.levels + 1;
-    }
-    path.levels
+    0
 }
 
 // Whether there is no room for an insertion.
@@ -298,9 +286,10 @@ fn no_room(index: &[u8], key: &[u8]) -> bool
     ensures { λ r. ⌜ r ≡ noRoom (keyLength (now (index .entry))) (now (index .entry)) (now (key .entry)) ⌝ }
 {
     let path = path_from(index, key, page::root(index), page::MAX_LEVELS);
+    let more = root_split(path);
     let file = page::file_size(index);
-    let size = file + Page::SIZE * new_pages(path) as usize;
-    (index.len() < size) | ((page::MAX_BYTES < size) | (page::MAX_LEVELS < levels_after(path)))
+    let size = file + Page::SIZE * (path.run + more) as usize;
+    (index.len() < size) | ((page::MAX_BYTES < size) | (page::MAX_LEVELS < path.levels + more))
 }
 
 // Whether a lookup found its key.
@@ -314,27 +303,27 @@ fn is_found(answer: lookup::Answer) -> bool
     }
 }
 
-// Inserts a key with its record number.
+// Inserts `key` with its record number, `number`.
 pub fn insert(index: &mut [u8], key: &[u8], number: RecordNumber) -> Insertion
     ensures { λ r. ⌜ insertRule (now (index .entry)) (now (key .entry)) (number .0) ≡ left (now (index .exit)) r ⌝ }
 {
     if !page::header_good(index) {
-        return Insertion::Refused(24);
+        return Insertion::Refused(refusal::INDEX_HEADER);
     }
     if key.len() != page::key_length(index) {
-        return Insertion::Refused(27);
+        return Insertion::Refused(refusal::KEY_LENGTH);
     }
     if number.0 == 0 {
-        return Insertion::Refused(28);
+        return Insertion::Refused(refusal::RECORD_NUMBER_ZERO);
     }
     if audit::audit(index) != 0 {
-        return Insertion::Refused(25);
+        return Insertion::Refused(refusal::INDEX_NOT_SOUND);
     }
     if is_found(lookup::lookup(index, key)) {
-        return Insertion::Refused(29);
+        return Insertion::Refused(refusal::KEY_PRESENT);
     }
     if no_room(index, key) {
-        return Insertion::Refused(30);
+        return Insertion::Refused(refusal::NO_ROOM);
     }
     insert_pair(index, key, number);
     Insertion::Accepted
@@ -355,7 +344,7 @@ fn all_printable(s: &[u8]) -> bool
     true
 }
 
-// Whether a key expression is good. One that is too long is not looked at.
+// Whether a key expression is good. The bytes of one that is too long are not looked at.
 fn expression_good(expression: &[u8]) -> bool
     ensures { λ r. ⌜ r ≡ expressionGood (now (expression .entry)) ⌝ }
 {
@@ -382,20 +371,20 @@ fn write_fresh(index: &mut [u8], k: u32, expression: &[u8])
     layout::new_page(index, k as usize, root, head, &expression[..0]);
 }
 
-// Makes a fresh index.
+// Writes a fresh index with keys of `k` bytes.
 pub fn fresh(index: &mut [u8], k: u32, expression: &[u8]) -> Insertion
     ensures { λ r. ⌜ freshRule (now (index .entry)) k (now (expression .entry)) ≡ left (now (index .exit)) r ⌝ }
 {
     let good_key = page::key_length_good(k as usize);
     let good_expression = expression_good(expression);
     if !good_key {
-        return Insertion::Refused(27);
+        return Insertion::Refused(refusal::KEY_LENGTH);
     }
     if !good_expression {
-        return Insertion::Refused(24);
+        return Insertion::Refused(refusal::INDEX_HEADER);
     }
     if index.len() < page::MIN_BYTES {
-        return Insertion::Refused(30);
+        return Insertion::Refused(refusal::NO_ROOM);
     }
     write_fresh(index, k, expression);
     Insertion::Accepted

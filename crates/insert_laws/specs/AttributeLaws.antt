@@ -22,7 +22,7 @@ root-gone : (x : ℕ) → rootBit (withoutRoot x) ≡ false
 root-gone x = ne-eqb ((x - x % 2) % 2) 1 (λ e. omega arith)
 
 module _ (path name : ℕ → ℕ) (A : ℕ → ℕ) where
-  -- a page that is not new keeps its leaf bit; a new page has that of the page that was split
+  -- an old page keeps its leaf bit; a new page has the leaf bit of the page that was split
   pub leaf-old : (m z : ℕ) → ((j : ℕ) → j < m → z ≡ name j → ⊥) → leafBit (unrooted path name m A z) ≡ leafBit (A z)
   leaf-old zero z n = refl
   leaf-old (suc m) z n =
@@ -41,7 +41,7 @@ module _ (path name : ℕ → ℕ) (A : ℕ → ℕ) where
       rw (ne-eqb (name j) (name m) (λ o. q (inj j m o)), ne-eqb (name j) (path m) (λ o. apart m j (omega arith) (sym o)))
       (leaf-new inj m (λ i i′ o. apart i i′ (omega arith)) j (omega (arith, q))))
 
-  -- no root bit appears, and neither half of a page that was split has it; other pages keep what they have
+  -- neither half of a page that was split has the root bit; all other pages keep theirs
   pub root-none : (m z : ℕ) → rootBit (A z) ≡ false → rootBit (unrooted path name m A z) ≡ false
   root-none zero z e = e
   root-none (suc m) z e = either (eqb z (name m))

@@ -1,10 +1,10 @@
 -- Laws: a fresh index is sound and empty. Cited by the claim about lists of calls. Assumes nothing.
 use mathlib.Core.Path.{_≡_, refl, sym, ap, _∙_, subst}
-use mathlib.Core.Bool.{true, cond, _&&_}
+use mathlib.Core.Bool.{true, cond}
 use mathlib.Core.List.{List, [], map}
 use Prim.Native.Nat.{ℕ, _+_, _^_, _≤_, _<_, min}
 use native.Mathlib.Omega.{arith}
-use lib.Dec.{eqb, leb}
+use lib.Dec.{eqb}
 use lib.ListN.{length, getD, length-append, length-replicate}
 use borrow.Author.Tests.{leb-true}
 use Rattle.basis.specs.Lists.{All}
@@ -20,7 +20,8 @@ use Rattle.tree.specs.SoundIndex.{SoundIndex}
 use Rattle.tree.specs.Store.{Store, readEntry}
 use Rattle.tree.specs.StoreLaws.{write-here}
 use Rattle.tree.specs.Tree.{Tree, pages, level}
-use Rattle.page.specs.Header.{maxBytes, maxKey, noPage, pageSize, isPage, rootOffset, freePointer, fileSize, keyLength, features, keyLengthGood, headerGood}
+use Rattle.page.specs.Header.{minBytes, maxBytes, maxKey, noPage, pageSize, isPage, headerGood}
+use Rattle.page.specs.Header.{rootOffset, freePointer, fileSize, keyLength, features, keyLengthGood}
 use Rattle.page.specs.HeaderLaws.{is-page-from, good-header-from}
 use Rattle.page.specs.Page.{attributeAt, countAt, leftAt, rightAt, rootBit, leafBit, capacity}
 use Rattle.page.specs.Reading.{entriesAt}
@@ -35,11 +36,11 @@ use Rattle.layout_laws.specs.HeadLaws.{Head, SameHead, put-header, new-head, ne
 use Rattle.insert_laws.specs.InsertHeads.{Plain, one-of}
 use Rattle.insert_laws.specs.SoundReading.{entries-longer}
 
--- what fresh accepts
+-- what fresh is given if it is accepted
 pub record FreshGiven (k : ℕ) (e b : List ℕ) : Type 0 where
   pub key : keyLengthGood k ≡ true
   pub expression : expressionGood e ≡ true
-  pub room : 1024 ≤ length b
+  pub room : minBytes ≤ length b
   pub plain : Plain b
 
 module _ (k : ℕ) (e b : List ℕ) (given : FreshGiven k e b) where
@@ -63,31 +64,31 @@ module _ (k : ℕ) (e b : List ℕ) (given : FreshGiven k e b) where
   l0 : length b0 ≡ length b
   l0 = length-put b 0 (freshHeader k e)
 
-  first : isPage (length b) 512 ≡ true
-  first = is-page-from (length b) 512 (record { whole = refl; low = omega arith; high = omega (arith, given .room) })
+  first : isPage (length b) pageSize ≡ true
+  first = is-page-from (length b) pageSize (record { whole = refl; low = omega arith; high = omega (arith, given .room) })
 
   few : 0 ≤ capacity k
   few = omega arith
 
   long : length b″ ≡ length b
   unfolding freshBuffer
-  long = length-new b0 512 3 noPage noPage [] ∙ l0
+  long = length-new b0 pageSize 3 noPage noPage [] ∙ l0
 
-  -- the header's bytes
+  -- the bytes of the header
   header : window b″ 0 pageSize ≡ freshHeader k e
   unfolding freshBuffer
   header =
-      new-header k b0 512 3 noPage noPage [] (page-of 512 l0 first) (omega arith) (omega arith) (omega arith) tt few
+      new-header k b0 pageSize 3 noPage noPage [] (page-of pageSize l0 first) (omega arith) (omega arith) (omega arith) tt few
       ∙ window-same b 0 (freshHeader k e) pageSize length-header (omega (arith, given .room))
 
   part : (i n : ℕ) → i + n ≤ pageSize → window b″ (0 + i) n ≡ window (freshHeader k e) i n
   part i n l = sym (window-window b″ 0 pageSize i n l) ∙ ap (λ (w : List ℕ). window w i n) header
 
-  root-is : rootOffset b″ ≡ 512
+  root-is : rootOffset b″ ≡ pageSize
   unfolding le32 freshHeader toLe32
   root-is = le32-same b″ (freshHeader k e) 0 (part 0 4 (omega arith))
 
-  size-is : fileSize b″ ≡ 1024
+  size-is : fileSize b″ ≡ minBytes
   unfolding le32 freshHeader toLe32
   size-is = le32-same b″ (freshHeader k e) 8 (part 8 4 (omega arith))
 
@@ -103,23 +104,25 @@ module _ (k : ℕ) (e b : List ℕ) (given : FreshGiven k e b) where
   unfolding freshHeader toLe32 toLe16
   features-are = sym (getD-window b″ 0 pageSize 14 0 (omega arith)) ∙ ap (λ (w : List ℕ). getD w 14 0) header
 
-  -- the page at 512
+  -- the heads of all pages: the root is the page at 512
   heads : (z : ℕ) → isPage (length b) z ≡ true
-      → Head b″ z (cond (eqb z 512) 3 (attributeAt b0 z)) (cond (eqb z 512) 0 (countAt b0 z)) (cond (eqb z 512) noPage (leftAt b0 z))
-      (cond (eqb z 512) noPage (rightAt b0 z))
+      → Head b″ z (cond (eqb z pageSize) 3 (attributeAt b0 z)) (cond (eqb z pageSize) 0 (countAt b0 z)) (cond (eqb z pageSize) noPage (leftAt b0 z))
+      (cond (eqb z pageSize) noPage (rightAt b0 z))
   unfolding freshBuffer
-  heads z t = new-head k b0 512 3 noPage noPage [] (page-of 512 l0 first) (omega arith) (omega arith) (omega arith) tt few z (page-of z l0 t)
+  heads z t = new-head k b0 pageSize 3 noPage noPage [] (page-of pageSize l0 first) (omega arith) (omega arith) (omega arith) tt few z (page-of z l0 t)
 
-  entries-are : entriesIn k b″ 512 ≡ []
+  entries-are : entriesIn k b″ pageSize ≡ []
   unfolding freshBuffer
-  entries-are = ap (λ (S : Store (List ℕ)). S 512) (entries-new k b0 512 3 noPage noPage [] (page-of 512 l0 first) tt few) ∙ write-here (entriesIn k b0) 512 []
+  entries-are =
+      ap (λ (S : Store (List ℕ)). S pageSize) (entries-new k b0 pageSize 3 noPage noPage [] (page-of pageSize l0 first) tt few)
+      ∙ write-here (entriesIn k b0) pageSize []
 
-  tree-is : indexTree b″ 0 ≡ (512, [])
+  tree-is : indexTree b″ 0 ≡ (pageSize, [])
   tree-is =
-      let none : entriesAt k 1024 b″ 512 ≡ [] =
-      sym (entries-longer k 1024 b″ 512 (rw long (given .room))
-      (is-page-from 1024 512 (record { whole = refl; low = omega arith; high = omega arith }))) ∙ entries-are in
-      rw (key-is, size-is, root-is) (ap (λ (l : List (List ℕ × ℕ)). (512, map (readEntry (entriesAt k 1024 b″) 0) l)) none)
+      let none : entriesAt k minBytes b″ pageSize ≡ [] =
+      sym (entries-longer k minBytes b″ pageSize (rw long (given .room))
+      (is-page-from minBytes pageSize (record { whole = refl; low = omega arith; high = omega arith }))) ∙ entries-are in
+      rw (key-is, size-is, root-is) (ap (λ (l : List (List ℕ × ℕ)). (pageSize, map (readEntry (entriesAt k minBytes b″) 0) l)) none)
 
   index-is : indexOf b″ 0 ≡ fresh
   index-is = λ i. record { height = 0; tree = tree-is i; size = size-is i }
@@ -131,18 +134,18 @@ module _ (k : ℕ) (e b : List ℕ) (given : FreshGiven k e b) where
     least = rw size-is (omega arith);
     most = rw size-is (omega arith);
     within = rw (size-is, long) (given .room);
-    root = rw (size-is, root-is) (is-page-from 1024 512 (record { whole = refl; low = omega arith; high = omega arith }));
+    root = rw (size-is, root-is) (is-page-from minBytes pageSize (record { whole = refl; low = omega arith; high = omega arith }));
     key-low = rw key-is (key-fits .0);
     key-high = rw key-is (key-fits .1);
     free = free-is;
     plain = features-are;
   })
 
-  as-tree : (P : Tree (List ℕ) 0 → Type 0) → P (512, []) → P (indexTree b″ 0)
+  as-tree : (P : Tree (List ℕ) 0 → Type 0) → P (pageSize, []) → P (indexTree b″ 0)
   as-tree P p = subst P (sym tree-is) p
 
-  at-first : Head b″ 512 3 0 noPage noPage
-  at-first = heads 512 first
+  at-first : Head b″ pageSize 3 0 noPage noPage
+  at-first = heads pageSize first
 
   sound-is : (s : Sound b″) × (s .height ≡ 0)
   sound-is =
@@ -164,8 +167,8 @@ module _ (k : ℕ) (e b : List ℕ) (given : FreshGiven k e b) where
       let p : isPage (length b) z ≡ true = page-of z (sym long) t in
       let h = heads z p in
       let g : SameHead b b0 z = put-header b 0 (freshHeader k e) (omega (arith, length-header)) z p in (
-        rw (h .attributeIs) (one-of (λ n. n < 2 ^ 16) (eqb z 512) 3 (attributeAt b0 z) (omega arith) (rw (g .attributeIs) (given .plain z p .0))),
-        rw (h .rightIs) (one-of (λ n. n < 2 ^ 32) (eqb z 512) noPage (rightAt b0 z) (omega arith) (rw (g .rightIs) (given .plain z p .1))),
+        rw (h .attributeIs) (one-of (λ n. n < 2 ^ 16) (eqb z pageSize) 3 (attributeAt b0 z) (omega arith) (rw (g .attributeIs) (given .plain z p .0))),
+        rw (h .rightIs) (one-of (λ n. n < 2 ^ 32) (eqb z pageSize) noPage (rightAt b0 z) (omega arith) (rw (g .rightIs) (given .plain z p .1))),
       )
 
 -- what fresh leaves: a sound index without pairs

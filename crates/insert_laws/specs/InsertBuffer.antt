@@ -44,11 +44,11 @@ use Rattle.insert_laws.specs.InsertEntries.{Usable, OutcomeIs, StepIs, S
 use Rattle.insert_laws.specs.InsertEntries.{rootAfter, sizeAfter, root-inserts}
 use Rattle.insert_laws.specs.InsertHeads.{Plain, unrooted, one-of, HeadsAfter, insert-heads}
 
--- the tree that a buffer's own length reads: insertion's rule reads so
+-- the tree that is read up to the buffer's length, as insertion's rule reads it
 abbrev pub treeIn : ℕ → List ℕ → (h : ℕ) → Tree (List ℕ) h
 treeIn k b h = readTree (entriesIn k b) h (rootOffset b)
 
--- the theory's insertion into it
+-- the theory's insertion into that tree
 abbrev pub grownBy : (k h : ℕ) → List ℕ → List ℕ → ℕ → Grown (List ℕ)
 grownBy k h b key r = insert bytesOrder (capacity k) (newOffset (fileSize b)) key r h (treeIn k b h)
 
@@ -81,15 +81,15 @@ pub record SameRest (b b′ : List ℕ) : Type 0 where
   pub rest : window b′ 12 500 ≡ window b 12 500
 
 -- what writing the root leaves of b′
-pub record Rooted (k root : ℕ) (o : Outcome) (b′ b″ : List ℕ) : Type 0 where
-  pub as-long : length b″ ≡ length b′
-  pub attributes : (z : ℕ) → isPage (length b′) z ≡ true → attributeAt b″ z ≡ crowned 1 o z (attributeAt b′)
-  pub lefts : (z : ℕ) → isPage (length b′) z ≡ true → leftAt b″ z ≡ crowned noPage o z (leftAt b′)
-  pub rights : (z : ℕ) → isPage (length b′) z ≡ true → rightAt b″ z ≡ crowned noPage o z (rightAt b′)
-  pub counts : (z : ℕ) → isPage (length b′) z ≡ true → countAt b″ z ≡ crowned 2 o z (countAt b′)
-  pub rootIs : rootOffset b″ ≡ rootAfter root o
-  pub sizeIs : fileSize b″ ≡ sizeAfter o
-  pub header : SameRest b′ b″
+record Rooted (k root : ℕ) (o : Outcome) (b′ b″ : List ℕ) : Type 0 where
+  as-long : length b″ ≡ length b′
+  attributes : (z : ℕ) → isPage (length b′) z ≡ true → attributeAt b″ z ≡ crowned 1 o z (attributeAt b′)
+  lefts : (z : ℕ) → isPage (length b′) z ≡ true → leftAt b″ z ≡ crowned noPage o z (leftAt b′)
+  rights : (z : ℕ) → isPage (length b′) z ≡ true → rightAt b″ z ≡ crowned noPage o z (rightAt b′)
+  counts : (z : ℕ) → isPage (length b′) z ≡ true → countAt b″ z ≡ crowned 2 o z (countAt b′)
+  rootIs : rootOffset b″ ≡ rootAfter root o
+  sizeIs : fileSize b″ ≡ sizeAfter o
+  header : SameRest b′ b″
 
 -- the new root is a page of the buffer
 abbrev NewRoot : ℕ → Outcome → Type 0
@@ -256,10 +256,10 @@ module _ (k h : ℕ) (b key : List ℕ) (r : ℕ) (ready : Ready k h b key r) wh
   needed = insert-needs bytesOrder (capacity k) (newOffset (fileSize b)) key r h (treeIn k b h) (omega (arith, ready .offered .two)) (ready .sized)
 
   -- the theory's numbers at each outcome: the pages that were split, the height and the root
-  pub record Numbers (m height top : ℕ) : Type 0 where
-    pub splits : fullRun ≡ m
-    pub heightIs : grownBy k h b key r .0 ≡ height
-    pub rootIs : grownBy k h b key r .1 .0 ≡ top
+  record Numbers (m height top : ℕ) : Type 0 where
+    splits : fullRun ≡ m
+    heightIs : grownBy k h b key r .0 ≡ height
+    rootIs : grownBy k h b key r .1 .0 ≡ top
 
   numbers-kept : (n m : ℕ) → OutcomeIs (fileSize b) a (rootOffset b) (kept n) W → n ≡ newOffset (fileSize b) m → Numbers m h (rootOffset b)
   numbers-kept n m t e =
@@ -297,7 +297,7 @@ module _ (k h : ℕ) (b key : List ℕ) (r : ℕ) (ready : Ready k h b key r) wh
   relinked-split x p e f = rw (ne-eqb (x .0) h (λ q. omega arith))
       (ap (λ (y : ℕ). clearLinks noPage y (relink path (newOffset (fileSize b)) fullRun (linksOf b))) f)
 
-  -- what the heads of the pages are, where the root stays and where it rises
+  -- what the heads of the pages are, if the root stays and if it rises
   pub data Rising : Type 0 where
     stays : grownBy k h b key r .0 ≡ h → grownBy k h b key r .1 .0 ≡ rootOffset b → fullRun ≤ h
         → ((z : ℕ) → isPage (length b) z ≡ true → attributeAt (insertedBuffer k b key r) z ≡ unrooted path (newOffset (fileSize b)) fullRun
@@ -325,7 +325,7 @@ module _ (k h : ℕ) (b key : List ℕ) (r : ℕ) (ready : Ready k h b key r) wh
         root-splits bytesOrder (capacity k) (newOffset (fileSize b)) key r h key (treeIn k b h) (omega (arith, ready .offered .two)) (ready .sized) .most,
       ))
 
-  -- Theorem: they are the theory's
+  -- Theorem: the heads of the pages are the theory's
   pub heads-in : HeadsIn
   heads-in = go (s .outcome) (step-is .told) heads rooted
     where

@@ -19,7 +19,7 @@ use Rattle.tree.specs.InsertPages.{newPages-apart}
 use Rattle.tree.specs.ListLaws.{nonEmpty-length, occ-here, take-map, drop-map, occ-not-head}
 use Rattle.tree.specs.Lists.{NonEmpty, concatMap, occ, countIf, half}
 use Rattle.tree.specs.Order.{larger}
-use Rattle.tree.specs.PairLaws.{insertPair-all, lastKey-default, lastKey-append}
+use Rattle.tree.specs.PairLaws.{lastKey-default, lastKey-append}
 use Rattle.tree.specs.Pairs.{insertPair, lastKey, choose}
 use Rattle.tree.specs.Store.{Store, readEntry, readTree}
 use Rattle.tree.specs.StoreInsertLaws.{storeInsertUnder-refines, choose-occ}
@@ -34,12 +34,12 @@ use Rattle.layout.specs.Layout.{itemsIn, newPage}
 use Rattle.layout.specs.Entries.{chosen, childOf, replaced, twoFor}
 use Rattle.layout.specs.ItemLaws.{Fit}
 use Rattle.layout.specs.EntryLaws.{items-in-fit}
-use Rattle.layout.specs.GatherLaws.{length-last, length-larger}
+use Rattle.layout.specs.GatherLaws.{length-last}
+use Rattle.layout.specs.FitLaws.{length-insert, length-replaced, pair-fit, two-fit}
 use Rattle.insert.specs.Insertion.{Outcome, kept, split, bad, Step, takeIn, afterChild, insertUnder, atRoot}
 use Rattle.layout_laws.specs.EntryLaws.{entriesIn, page-of, raise, items-few, entries-header, entries-with, length-with, entries-new, entries-split}
 use Rattle.layout_laws.specs.EntryLaws.{length-split, entries-raised, length-raised}
 use Rattle.insert_laws.specs.ItemLists.{insertPair-numbered, choose-numbered, lastKey-numbered, replaced-place, insertPair-place}
-use Rattle.insert_laws.specs.ItemLists.{insertPair-length, replaced-length, replaced-all}
 
 -- a page of the buffer whose offset has four bytes
 abbrev pub Usable : List ℕ → ℕ → Type 0
@@ -51,7 +51,7 @@ OutcomeIs F a p (kept n) w = (n ≡ newOffset F (w .1)) × (w .0 ≡ (a, p) ∷ 
 OutcomeIs F a p (split q) w = (q + pageSize ≡ newOffset F (w .1)) × (w .0 ≡ (lastKey a (w .2 p), p) ∷ (a, q) ∷ []) × NonEmpty (w .2 p) × (q < 2 ^ 32)
 OutcomeIs F a p bad w = ⊥
 
--- a step leaves the entries that the theory's has, in a buffer as long as before, and tells so
+-- a step leaves the theory's entries, in a buffer of `size` bytes, and its outcome says so
 pub record StepIs (k F size : ℕ) (a : List ℕ) (p : ℕ) (s : Step) (w : StoreReplacement (List ℕ)) : Type 0 where
   pub entries : entriesIn k (s .after) ≡ w .2
   pub as-long : length (s .after) ≡ size
@@ -61,7 +61,7 @@ nonEmpty-numbered : (es : List Item) → NonEmpty (map numbered es) → NonEmpty
 nonEmpty-numbered [] s = s
 nonEmpty-numbered (x ∷ xs) s = tt
 
--- a page whose entries, with their numbers, begin with one
+-- a page that has entries
 pub items-some : (k : ℕ) (b : List ℕ) (p : ℕ) (y : List ℕ × ℕ) (ys : List (List ℕ × ℕ)) → entriesIn k b p ≡ y ∷ ys → NonEmpty (itemsIn k b p)
 items-some k b p y ys e = nonEmpty-numbered (itemsIn k b p) (rw e tt)
 
@@ -73,7 +73,7 @@ among-leaf key r S cap F (x ∷ xs) =
     ap (λ (l : List (List ℕ × ℕ)). (l, 0, S)) (insertPair-place key r (insertPair bytesOrder key r (choose bytesOrder key x xs ∷ [])) 0 0 x xs refl)
 
 module _ (k : ℕ) (two : 1 < capacity k) (F : ℕ) where
-  -- a page that gets its entries, after m new pages
+  -- a page that gets entries, after m new pages were taken
   take-in-is : (b : List ℕ) (p : ℕ) (a : List ℕ) (es : List Item) (m n : ℕ) → isPage (length b) p ≡ true → All (Fit k) es
       → length es ≤ suc (capacity k) → n ≡ newOffset F m
       → (p ≡ newOffset F m → ⊥)
@@ -106,16 +106,7 @@ module _ (k : ℕ) (two : 1 < capacity k) (F : ℕ) where
     lastKey-store : (b : List ℕ) (c : ℕ) (a : List ℕ) → NonEmpty (entriesIn k b c) → lastKey key (itemsIn k b c) ≡ lastKey a (entriesIn k b c)
     lastKey-store b c a s = sym (lastKey-numbered key (itemsIn k b c)) ∙ lastKey-default key a (map numbered (itemsIn k b c)) s
 
-    -- the entries of a page above whose child was split
-    pub two-fit : (b : List ℕ) (c q : ℕ) (es : List Item) → All (Fit k) es → All (Fit k) (replaced key (twoFor k b key c q) es)
-    two-fit b c q es f =
-        replaced-all (Fit k) key (twoFor k b key c q)
-        (λ e g. (
-          (length-last k key long (itemsIn k b c) (items-in-fit k b c), g .1),
-          ((length-larger (e .0) key (g .0 ∙ sym long) ∙ long, length-toBe32 q), tt),
-        )) es f
-
-    -- a page above with the entries es, after the child that the key leads to: b is the buffer before the child, b′ after it
+    -- a page above with the entries es, after the step at the child that the key leads to: b is the buffer before that step, b′ after it
     abbrev AfterChild : List ℕ → List ℕ → ℕ → List ℕ → StoreReplacement (List ℕ) → Outcome → List (List ℕ × ℕ) → Type 0
     AfterChild b b′ p a v o [] = Unit {0}
     AfterChild b b′ p a v o (z ∷ zs) =
@@ -132,7 +123,7 @@ module _ (k : ℕ) (two : 1 < capacity k) (F : ℕ) where
         let es : List Item = replaced key (raise key) (y ∷ ys) in
         let e : map numbered es ≡ storePlace bytesOrder key (numbered y) (map numbered ys) v .0 =
         replaced-place key (raise key) (v .0) (v .1) 0 y ys (sym (t .1 ∙ rw (choose-numbered key y ys))) in
-        let l : length (map numbered es) ≡ length (y ∷ ys) = length-map es numbered ∙ replaced-length key (raise key) 0 (λ z. refl) (y ∷ ys) tt ∙ omega arith in
+        let l : length (map numbered es) ≡ length (y ∷ ys) = length-map es numbered ∙ length-replaced key (raise key) 0 (λ z. refl) (y ∷ ys) tt ∙ omega arith in
         let u : leb (length (map numbered es)) (capacity k) ≡ true = le-leb (length (map numbered es)) (capacity k) (rw l (rw sp at (items-few k b′ p))) in
         rw (← e, u) (record {
           entries = entries-raised k b′ key p (page-of p lb tp) long ∙ rw (sv, sp);
@@ -154,13 +145,13 @@ module _ (k : ℕ) (two : 1 < capacity k) (F : ℕ) where
         (storePlace bytesOrder key (numbered y) (map numbered ys) v) = λ i. (em i, v .1, sv i) in
         let fit : All (Fit k) (y ∷ ys) = rw sp at (items-in-fit k b′ p) in
         let few : length (y ∷ ys) ≤ capacity k = rw sp at (items-few k b′ p) in
-        let le : length es ≡ 1 + length (y ∷ ys) = replaced-length key (twoFor k b′ key c q) 1 (λ e. refl) (y ∷ ys) tt in
+        let le : length es ≡ 1 + length (y ∷ ys) = length-replaced key (twoFor k b′ key c q) 1 (λ e. refl) (y ∷ ys) tt in
         rw sp
         (subst (λ (w : StoreReplacement (List ℕ)). StepIs k F (length b) a p (takeIn k b′ p es (q + pageSize))
         (storeSplitIfOver (capacity k) (newOffset F) a p w)) ew
         (subst (λ (n : ℕ). StepIs k F n a p (takeIn k b′ p es (q + pageSize))
         (storeSplitIfOver (capacity k) (newOffset F) a p (map numbered es, v .1, entriesIn k b′))) lb
-        (take-in-is b′ p a es (v .1) (q + pageSize) (page-of p lb tp) (two-fit b′ c q (y ∷ ys) fit) (omega arith) (t .0) ne
+        (take-in-is b′ p a es (v .1) (q + pageSize) (page-of p lb tp) (two-fit k b′ key long c q (y ∷ ys) fit) (omega arith) (t .0) ne
         (λ j h. let u = room j (subst (λ (w : StoreReplacement (List ℕ)). j < storeSplitIfOver (capacity k) (newOffset F) a p w .1) ew h) in
         (page-of (newOffset F j) lb (u .0), u .1)))))
 
@@ -207,17 +198,17 @@ module _ (k F : ℕ) (key : List ℕ) (r : ℕ) (b : List ℕ) where
   abbrev pub replacement : (h : ℕ) → List ℕ → ℕ → StoreReplacement (List ℕ)
   replacement h a p = storeSplitIfOver (capacity k) (newOffset F) a p (storeInsertAmong bytesOrder key r h (under h) (entriesIn k b p) 0 (entriesIn k b))
 
-  -- insertion's step at that page, with so many levels left, is the theory's
+  -- insertion's step at that page, with `left` levels left, is the theory's
   abbrev pub Inserts : ℕ → ℕ → List ℕ → ℕ → Type 0
   Inserts h left a p = StepIs k F (length b) a p (insertUnder k left b key r p F) (replacement h a p)
 
-  -- each page there is reached once, the new pages are none of them, and those that are newOffset are pages of the buffer
+  -- each page under the page at p is reached once, no new page is one of them, and the new pages that are newOffset are pages of the buffer
   abbrev pub Free : (h : ℕ) → List ℕ → ℕ → Type 0
   Free h a p = ((z : ℕ) → occ z (pages h (readTree (entriesIn k b) h p)) ≤ 1)
       × ((i : ℕ) → occ (newOffset F i) (pages h (readTree (entriesIn k b) h p)) ≡ 0)
       × ((j : ℕ) → j < replacement h a p .1 → Usable b (newOffset F j))
 
-  -- its step at a page above with the entries es
+  -- insertion's step at a page above with the entries es
   abbrev pub UpperIs : ℕ → (h : ℕ) → List ℕ → ℕ → List Item → Type 0
   UpperIs left h a p es =
       let c : ℕ = childOf (chosen key es) in
@@ -236,8 +227,8 @@ module _ (k F : ℕ) (key : List ℕ) (r : ℕ) (b : List ℕ) where
         ap (λ (l : List (List ℕ × ℕ)). (l, 0, entriesIn k b)) en ∙ sym (among-leaf key r (entriesIn k b) (capacity k) F (entriesIn k b p)) in
         subst (λ (w : StoreReplacement (List ℕ)). StepIs k F (length b) a p (takeIn k b p es F) (storeSplitIfOver (capacity k) (newOffset F) a p w)) ew
         (take-in-is k (o .two) F b p a es 0 F tp
-        (insertPair-all bytesOrder (Fit k) key (toBe32 r) (itemsIn k b p) (o .long, length-toBe32 r) (items-in-fit k b p))
-        (omega (arith, items-few k b p, insertPair-length key (toBe32 r) (itemsIn k b p))) (omega arith) ne
+        (pair-fit k b key (o .long) r p)
+        (omega (arith, items-few k b p, length-insert key (toBe32 r) (itemsIn k b p))) (omega arith) ne
         (λ j h. room j (subst (λ (w : StoreReplacement (List ℕ)). j < storeSplitIfOver (capacity k) (newOffset F) a p w .1) ew h)))
 
     -- the child that the key leads to, under a page with the entries y ∷ ys
@@ -274,7 +265,7 @@ module _ (k F : ℕ) (key : List ℕ) (r : ℕ) (b : List ℕ) where
           let more = split-more (capacity k) F a p (storePlace bytesOrder key (numbered y) (map numbered ys) (under (suc h) (numbered child))) in
           ((λ z. omega (arith, u .0 z, child-occ z)), (λ i. omega (arith, u .1 i, child-occ (newOffset F i))), (λ j l. child-room j (omega arith)))
 
-      -- the page itself keeps its entries meanwhile
+      -- the child's step keeps the entries of the page at p
       pub child-rest : (left : ℕ) → Inserts h left (larger bytesOrder (child .0) key) (childOf child)
           → entriesIn k (insertUnder k left b key r (childOf child) F .after) p ≡ map numbered (y ∷ ys)
       child-rest left w =
@@ -338,10 +329,10 @@ module _ (k F : ℕ) (key : List ℕ) (r : ℕ) (b : List ℕ) (o : Offered k ke
   topKey h p = lastKey key (storeInsertAmong bytesOrder key r h (under k F key r b h) (entriesIn k b p) 0 (entriesIn k b) .0)
 
   -- the upper half of a root that was split ends as the whole did
-  pub record UpperHalf (w : StoreReplacement (List ℕ)) (p q : ℕ) : Type 0 where
-    pub upper : storeSplitIfOver (capacity k) (newOffset F) (lastKey key (w .0)) p w .2 q ≡ drop (half (length (w .0))) (w .0)
-    pub some : NonEmpty (drop (half (length (w .0))) (w .0))
-    pub last : lastKey key (drop (half (length (w .0))) (w .0)) ≡ lastKey key (w .0)
+  record UpperHalf (w : StoreReplacement (List ℕ)) (p q : ℕ) : Type 0 where
+    upper : storeSplitIfOver (capacity k) (newOffset F) (lastKey key (w .0)) p w .2 q ≡ drop (half (length (w .0))) (w .0)
+    some : NonEmpty (drop (half (length (w .0))) (w .0))
+    last : lastKey key (drop (half (length (w .0))) (w .0)) ≡ lastKey key (w .0)
 
   upper-half : (w : StoreReplacement (List ℕ)) (p q : ℕ) → capacity k < length (w .0) → q ≡ newOffset F (w .1) → UpperHalf w p q
   upper-half w p q l e =
@@ -355,7 +346,7 @@ module _ (k F : ℕ) (key : List ℕ) (r : ℕ) (b : List ℕ) (o : Offered k ke
             ∙ ap (lastKey key) (take-append-drop m (w .0));
       }
 
-  -- where two entries stand for the page, it was split
+  -- if two entries stand for the page, it was split
   split-case : (a : List ℕ) (p : ℕ) (w : StoreReplacement (List ℕ)) (x y : List ℕ × ℕ) → storeSplitIfOver (capacity k) (newOffset F) a p w .0 ≡ x ∷ y ∷ []
       → (capacity k < length (w .0)) × (storeSplitIfOver (capacity k) (newOffset F) a p w .1 ≡ suc (w .1))
   split-case a p w x y e = either (leb (length (w .0)) (capacity k))

@@ -11,13 +11,12 @@ use borrow.Author.Tests.{leb-true, eqb-true, eqb-false, eq-eqb, ne-eqb}
 use Rattle.basis.specs.Lists.{All}
 use Rattle.basis.specs.Tests.{either}
 use Rattle.octets.specs.Bytes.{toBe32}
-use Rattle.octets.specs.NumberLaws.{length-toBe32, le16-small, le32-small}
+use Rattle.octets.specs.NumberLaws.{le16-small, le32-small}
 use Rattle.tree.specs.Index.{newOffset}
 use Rattle.tree.specs.ListLaws.{occ-not-head}
 use Rattle.tree.specs.Lists.{NonEmpty, concatMap, half}
 use Rattle.tree.specs.Order.{larger}
-use Rattle.tree.specs.PairLaws.{insertPair-all}
-use Rattle.tree.specs.Pairs.{insertPair, choose}
+use Rattle.tree.specs.Pairs.{insertPair}
 use Rattle.tree.specs.Relinking.{pathPageUnder, relink}
 use Rattle.tree.specs.Room.{atChosen}
 use Rattle.tree.specs.Store.{readEntry, readTree}
@@ -32,12 +31,13 @@ use Rattle.layout.specs.Layout.{itemsIn, withEntries, withoutRoot, splitPage}
 use Rattle.layout.specs.Entries.{chosen, childOf, replaced, raised, twoFor}
 use Rattle.layout.specs.ItemLaws.{Fit}
 use Rattle.layout.specs.EntryLaws.{items-in-fit}
+use Rattle.layout.specs.FitLaws.{length-insert, length-replaced, pair-fit, two-fit}
 use Rattle.sound.specs.Sound.{linksOf}
 use Rattle.insert.specs.Insertion.{Outcome, kept, split, bad, Step, takeIn, afterChild, insertUnder}
 use Rattle.layout_laws.specs.EntryLaws.{entriesIn, page-of, items-few}
 use Rattle.layout_laws.specs.HeadLaws.{Head, SameHead, SameHeader, with-head, with-header, raised-head, raised-header, split-head, split-header}
-use Rattle.insert_laws.specs.ItemLists.{choose-numbered, insertPair-length, replaced-length}
-use Rattle.insert_laws.specs.InsertEntries.{Usable, OutcomeIs, Shaped, Offered, replacement, Inserts, Free, inserts, items-some, two-fit}
+use Rattle.insert_laws.specs.ItemLists.{choose-numbered}
+use Rattle.insert_laws.specs.InsertEntries.{Usable, OutcomeIs, Shaped, Offered, replacement, Inserts, Free, inserts, items-some}
 use Rattle.insert_laws.specs.InsertEntries.{child-free, child-shaped, child-rest, page-is}
 
 -- attributes and right links that are numbers of two and four bytes
@@ -54,7 +54,7 @@ unrooted path name (suc m) A z =
     let a : ℕ = withoutRoot (unrooted path name m A (path m)) in
     cond (eqb z (name m)) a (cond (eqb z (path m)) a (unrooted path name m A z))
 
--- what m splits along a path, from the leaf up, and no other change of heads, make of b: `path j` is the page of level j
+-- b′ is b after m splits along a path, from the leaf up, and no other change of heads: `path j` is the page of level j
 pub record Heads (k F : ℕ) (path : ℕ → ℕ) (m : ℕ) (b b′ : List ℕ) : Type 0 where
   pub lefts : (z : ℕ) → isPage (length b) z ≡ true → leftAt b′ z ≡ relink path (newOffset F) m (linksOf b) .left z
   pub rights : (z : ℕ) → isPage (length b) z ≡ true → rightAt b′ z ≡ relink path (newOffset F) m (linksOf b) .right z
@@ -66,14 +66,14 @@ pub record Heads (k F : ℕ) (path : ℕ → ℕ) (m : ℕ) (b b′ : List ℕ) 
   pub plain : (z : ℕ) → isPage (length b) z ≡ true → (attributeAt b′ z < 2 ^ 16) × (rightAt b′ z < 2 ^ 32)
 
 -- a step that changes no attribute and no link, and keeps counts within the capacity
-pub record EntriesOnly (k : ℕ) (b b′ : List ℕ) : Type 0 where
-  pub attribute : (z : ℕ) → isPage (length b) z ≡ true → attributeAt b′ z ≡ attributeAt b z
-  pub left : (z : ℕ) → isPage (length b) z ≡ true → leftAt b′ z ≡ leftAt b z
-  pub right : (z : ℕ) → isPage (length b) z ≡ true → rightAt b′ z ≡ rightAt b z
-  pub counts : (z : ℕ) → isPage (length b) z ≡ true → countAt b z ≤ capacity k → countAt b′ z ≤ capacity k
-  pub header : SameHeader b b′
+record EntriesOnly (k : ℕ) (b b′ : List ℕ) : Type 0 where
+  attribute : (z : ℕ) → isPage (length b) z ≡ true → attributeAt b′ z ≡ attributeAt b z
+  left : (z : ℕ) → isPage (length b) z ≡ true → leftAt b′ z ≡ leftAt b z
+  right : (z : ℕ) → isPage (length b) z ≡ true → rightAt b′ z ≡ rightAt b z
+  counts : (z : ℕ) → isPage (length b) z ≡ true → countAt b z ≤ capacity k → countAt b′ z ≤ capacity k
+  header : SameHeader b b′
 
--- what holds of both holds of the one that a test gives
+-- a property of both arms is one of the arm that a test gives
 pub one-of : (P : ℕ → Type 0) (s : Bool) (x y : ℕ) → P x → P y → P (cond s x y)
 one-of P true x y i j = i
 one-of P false x y i j = j
@@ -172,7 +172,7 @@ HeadsAfter k F path h b (kept n) b′ = (m : ℕ) × (n ≡ newOffset F m) × He
 HeadsAfter k F path h b (split q) b′ = (q ≡ newOffset F h) × Heads k F path (suc h) b b′
 HeadsAfter k F path h b bad b′ = ⊥
 
--- the path's page on a page's own level, and below it
+-- the page of the path on the level of a page, and on the levels below it
 path-own : (key : List ℕ) (h : ℕ) (a : List ℕ) (t : Tree (List ℕ) h) → pathPageUnder bytesOrder key h (suc h) (a, t) ≡ t .0
 path-own key h a t = rw (eq-eqb h h refl)
 
@@ -222,9 +222,9 @@ module _ (k F : ℕ) (key : List ℕ) (r : ℕ) (b : List ℕ) (o : Offered k ke
   after-child-heads h b′ p a c (split q) v x lb some ep tp ne room t =
       let es : List Item = replaced key (twoFor k b′ key c q) (itemsIn k b′ p) in
       let en : q + pageSize ≡ newOffset F (suc h) = omega (arith, x .0) in
-      let le : length es ≡ 1 + length (itemsIn k b′ p) = replaced-length key (twoFor k b′ key c q) 1 (λ e. refl) (itemsIn k b′ p) some in
+      let le : length es ≡ 1 + length (itemsIn k b′ p) = length-replaced key (twoFor k b′ key c q) 1 (λ e. refl) (itemsIn k b′ p) some in
       take-in-heads k F path (o .two) b (suc h) b′ p es (q + pageSize) ep en tp lb
-      (two-fit k (o .two) F key (o .long) b′ c q (itemsIn k b′ p) (items-in-fit k b′ p)) (omega (arith, items-few k b′ p)) (λ u. ne (u ∙ en))
+      (two-fit k b′ key (o .long) c q (itemsIn k b′ p) (items-in-fit k b′ p)) (omega (arith, items-few k b′ p)) (λ u. ne (u ∙ en))
       (λ e. rw en (room (suc h) (split-room k F path (o .two) b (suc h) a p b′ es (q + pageSize) v t en e))) (x .1)
 
   -- the heads after insertion's step at the page at p
@@ -246,8 +246,8 @@ module _ (k F : ℕ) (key : List ℕ) (r : ℕ) (b : List ℕ) (o : Offered k ke
       let ef : F ≡ newOffset F 0 = omega arith in
       rw (f .0 .0, f .1)
       (take-in-heads k F path (o .two) b zero b p es F (sym (path-own key zero a (readTree (entriesIn k b) zero p)) ∙ sym (x zero (omega arith))) ef (f .0) refl
-      (insertPair-all bytesOrder (Fit k) key (toBe32 r) (itemsIn k b p) (o .long, length-toBe32 r) (items-in-fit k b p))
-      (omega (arith, items-few k b p, insertPair-length key (toBe32 r) (itemsIn k b p)))
+      (pair-fit k b key (o .long) r p)
+      (omega (arith, items-few k b p, length-insert key (toBe32 r) (itemsIn k b p)))
       (λ e. occ-not-head (newOffset F 0) p (concatMap (pagesUnder zero) (map (readEntry (entriesIn k b) zero) (entriesIn k b p))) (u .1 0) (sym (e ∙ ef)))
       (λ e. rw ef (u .2 0 (split-room k F path (o .two) b zero a p b es F v t ef e)))
       (heads-none k F path b plain))

@@ -79,7 +79,7 @@ module _ (b key : List ℕ) (r : ℕ) (accepts : Accepts b key r) where
   abbrev t : Tree (List ℕ) (accepts .sound .height)
   t = treeIn (keyLength b) b (accepts .sound .height)
 
-  -- the index as it is read as far as the buffer goes, and after the insertion
+  -- the index read up to the buffer's length, before the insertion and after it
   abbrev before : Index (List ℕ)
   before = record { height = accepts .sound .height; tree = treeIn (keyLength b) b (accepts .sound .height); size = fileSize b }
 
@@ -117,7 +117,7 @@ module _ (b key : List ℕ) (r : ℕ) (accepts : Accepts b key r) where
   sound-after : SoundIndex kept-by after
   sound-after = rw taken-in at (next-sound kept-by two (insertion key r) before sound-before)
 
-  -- the pages before it and after it are pages of the buffer
+  -- the pages before the insertion and after it are pages of the buffer
   old-page : (z : ℕ) → 0 < occ z (pages h t) → isPage (length b) z ≡ true
   old-page z o = page-longer z (good .within) (once-page before (sound-before .pagesOnce) z o)
 
@@ -170,7 +170,7 @@ module _ (b key : List ℕ) (r : ℕ) (accepts : Accepts b key r) where
   abbrev Level : ℕ → Type 0
   Level j = InsertedAfter (path j) (newOffset F (0 + j)) (level j h t) (level j (x .0) (x .1))
 
-  -- a page of a level after it: an old one of that level, or the new one after the page on the path
+  -- a page of a level after the insertion is an old page of that level, or the new one after the page on the path
   in-level : {X : Type 0} (j z : ℕ) → j ≤ h → 0 < occ z (level j (x .0) (x .1)) → (0 < occ z (level j h t) → X) → (j < splits → z ≡ newOffset F j → X) → X
   in-level j z l o old new =
       let q = insert-level bytesOrder (capacity k) (newOffset F) key r h t j (omega (arith, two)) (sound-before .sized) l in
@@ -199,7 +199,7 @@ module _ (b key : List ℕ) (r : ℕ) (accepts : Accepts b key r) where
   path-old : (j : ℕ) → j < splits → 0 < occ (path j) (pages h t)
   path-old j l = in-tree h j (path j) t (path-level j l)
 
-  -- a page of the tree after it is an old page or a new one
+  -- a page of the tree after the insertion is an old page or a new one
   in-new : {X : Type 0} (n z : ℕ) → 0 < occ z (newPages (newOffset F) n) → ((j : ℕ) → j < n → z ≡ newOffset F j → X) → X
   in-new zero z o f = absurd (omega arith)
   in-new (suc n) z o f = either (eqb z (newOffset F n))
@@ -257,11 +257,11 @@ module _ (b key : List ℕ) (r : ℕ) (accepts : Accepts b key r) where
   path-small : (j : ℕ) → j < splits → attributeAt b (path j) ≤ 3
   path-small j l = old-attribute (path j) (path-old j l)
 
-  -- the attributes of the pages after it
-  pub record Bits : Type 0 where
-    pub leaf : (j z : ℕ) → j ≤ x .0 → 0 < occ z (level j (x .0) (x .1)) → leafBit (attributeAt b″ z) ≡ eqb j 0
-    pub root : (z : ℕ) → 0 < occ z (pages (x .0) (x .1)) → rootBit (attributeAt b″ z) ≡ eqb z (x .1 .0)
-    pub small : (z : ℕ) → 0 < occ z (pages (x .0) (x .1)) → attributeAt b″ z ≤ 3
+  -- the attributes of the pages after the insertion
+  record Bits : Type 0 where
+    leaf : (j z : ℕ) → j ≤ x .0 → 0 < occ z (level j (x .0) (x .1)) → leafBit (attributeAt b″ z) ≡ eqb j 0
+    root : (z : ℕ) → 0 < occ z (pages (x .0) (x .1)) → rootBit (attributeAt b″ z) ≡ eqb z (x .1 .0)
+    small : (z : ℕ) → 0 < occ z (pages (x .0) (x .1)) → attributeAt b″ z ≤ 3
 
   bits-stay : x .0 ≡ h → x .1 .0 ≡ rootOffset b → splits ≤ h
       → ((z : ℕ) → isPage (length b) z ≡ true → attributeAt b″ z ≡ unrooted path (newOffset F) splits (attributeAt b) z) → Bits
@@ -387,7 +387,7 @@ module _ (b key : List ℕ) (r : ℕ) (accepts : Accepts b key r) where
         plain = features-same ∙ good .plain;
       })
 
-  -- the new tree, read as far as the file goes
+  -- the new tree, read up to the file's size
   tree-is : indexTree b″ (x .0) ≡ x .1
   tree-is =
       let read : treeIn k b″ (x .0) ≡ x .1 = tree-after k h b key r ready in

@@ -1,22 +1,18 @@
--- Laws: lists of stored entries where a pair goes in or an entry is replaced, and the same lists with their numbers, as the theory has them. Cited by
--- the laws of insertion on bytes. Assumes nothing.
+-- Laws: a pair put into a list of stored entries, or an entry of it replaced, is the same change of the list with their numbers, which the theory has. Cited
+-- by the laws of insertion on bytes. Assumes nothing.
 use mathlib.Core.Path.{_≡_, refl, ap, _∙_}
 use mathlib.Core.List.{List, [], _∷_, _++_, map, map-append}
-use Prim.Native.Nat.{ℕ, suc, _+_}
-use native.Mathlib.Omega.{arith}
-use lib.ListN.{length, length-append}
-use Rattle.basis.specs.Lists.{All, all-append}
+use Prim.Native.Nat.{ℕ}
 use Rattle.basis.specs.Tests.{either}
 use Rattle.octets.specs.Bytes.{be32}
 use Rattle.octets.specs.Order.{bytesLe}
 use Rattle.tree.specs.Insertion.{place}
-use Rattle.tree.specs.Lists.{NonEmpty}
 use Rattle.tree.specs.Pairs.{insertPair, lastKey, choose}
 use Rattle.page.specs.KeyOrder.{bytesOrder}
 use Rattle.page.specs.Reading.{Item, numbered}
 use Rattle.layout.specs.Entries.{replaced}
 
--- what is done to entries goes by their keys, so it is the same with their numbers
+-- what is done to entries depends on their keys alone, so it is the same with their numbers
 pub insertPair-numbered : (key c : List ℕ) (es : List Item) → map numbered (insertPair bytesOrder key c es) ≡ insertPair bytesOrder key (be32 c 0)
     (map numbered es)
 insertPair-numbered key c [] = refl
@@ -30,7 +26,7 @@ pub lastKey-numbered : (a : List ℕ) (es : List Item) → lastKey a (map number
 lastKey-numbered a [] = refl
 lastKey-numbered a (x ∷ xs) = lastKey-numbered (x .0) xs
 
--- the chosen entry is replaced, in the theory's words; and a pair goes in beside it
+-- the replacement of the chosen entry, and the insertion of a pair beside it, in the theory's words
 pub replaced-place : (key : List ℕ) (f : Item → List Item) (rows : List (List ℕ × ℕ)) (m j : ℕ) (x : Item) (xs : List Item)
     → map numbered (f (choose bytesOrder key x xs)) ≡ rows
     → map numbered (replaced key f (x ∷ xs)) ≡ place bytesOrder key (λ y i. (rows, m)) (numbered x) (map numbered xs) j .0
@@ -46,25 +42,3 @@ insertPair-place key r rows m j x [] e = e
 insertPair-place key r rows m j x (y ∷ ys) e = either (bytesLe key (x .0))
     (λ u. rw u (ap (λ l. l ++ (y ∷ ys)) (rw (u, u) at e)))
     (λ u. rw u (ap (λ l. x ∷ l) (insertPair-place key r rows m j y ys (rw u at e))))
-
--- how many entries there are then
-pub insertPair-length : (key c : List ℕ) (es : List Item) → length (insertPair bytesOrder key c es) ≡ suc (length es)
-insertPair-length key c [] = refl
-insertPair-length key c (x ∷ xs) = either (bytesLe key (x .0)) (λ e. rw e) (λ e. rw e (ap suc (insertPair-length key c xs)))
-
-pub replaced-length : (key : List ℕ) (f : Item → List Item) (n : ℕ) → ((e : Item) → length (f e) ≡ suc n) → (es : List Item) → NonEmpty es
-    → length (replaced key f es) ≡ n + length es
-replaced-length key f n ok [] s = absurd s
-replaced-length key f n ok (x ∷ []) s = omega (arith, ok x)
-replaced-length key f n ok (x ∷ y ∷ ys) s = either (bytesLe key (x .0))
-    (λ e. rw e (omega (arith, length-append (f x) (y ∷ ys), ok x)))
-    (λ e. rw e (omega (arith, replaced-length key f n ok (y ∷ ys) tt)))
-
--- what holds of all of them
-pub replaced-all : (P : Item → Type 0) (key : List ℕ) (f : Item → List Item) → ((e : Item) → P e → All P (f e)) → (es : List Item) → All P es
-    → All P (replaced key f es)
-replaced-all P key f ok [] a = tt
-replaced-all P key f ok (x ∷ []) a = ok x (a .0)
-replaced-all P key f ok (x ∷ y ∷ ys) a = either (bytesLe key (x .0))
-    (λ e. rw e (all-append P (f x) (y ∷ ys) (ok x (a .0)) (a .1)))
-    (λ e. rw e (a .0, replaced-all P key f ok (y ∷ ys) (a .1)))

@@ -1,9 +1,20 @@
+-- Insertion and fresh on bytes: laws, in the order in which they rest on one another.
+
+-- Laws: a change of a list of stored entries is the same change of the list with their numbers
 pub mod ItemLists
+-- Laws: the entries of all pages after insertion's steps
 pub mod InsertEntries
+-- Laws: the heads of all pages, and the file's header, after insertion's steps
 pub mod InsertHeads
+-- Laws: the whole buffer after an insertion
 pub mod InsertBuffer
+-- Laws: the bits of the attributes after an insertion
 pub mod AttributeLaws
+-- Laws: a sound index read up to the buffer's length is the one read up to the file's
 pub mod SoundReading
+-- Laws: the rule for refusal 30 on bytes is the theory's
 pub mod RoomLaws
+-- Laws: an insertion keeps an index sound
 pub mod InsertSound
+-- Laws: a fresh index is sound and empty
 pub mod FreshLaws

@@ -4,6 +4,7 @@ use mathlib.Core.Path.{_≡_, refl, sym, ap, _∙_}
 use mathlib.Core.Bool.{Bool, true, false, cond, _||_, _&&_}
 use mathlib.Core.List.{List, [], _∷_, map}
 use Prim.Native.Nat.{ℕ, zero, suc, _+_, _*_, _<_, min}
+use native.Mathlib.Nat.{add-zero}
 use native.Mathlib.Numerals.{add-one}
 use native.Mathlib.Omega.{arith}
 use lib.Dec.{eqb, leb, ltb}
@@ -73,13 +74,18 @@ pub sound-levels : (b key : List ℕ) (s : Sound b) → pathFrom (keyLength b) m
 sound-levels b key s = ap (λ (path : Path). path .levels)
     (path-is (keyLength b) key b (s .height) maxLevels (rootOffset b) (omega (arith, s .levels)) (sound-shaped b s))
 
--- F would pass the buffer or 1,048,576 exactly when it would pass the lesser
+-- F would pass the buffer or 1,048,576 exactly if it would pass the lesser
 less-both : (a b c : ℕ) → ltb (min a b) c ≡ (ltb a c || ltb b c)
 less-both a b c = either (ltb a c)
     (λ e. rw e (lt-ltb (min a b) c (omega (arith, ltb-true a c e))))
     (λ e. either (ltb b c)
     (λ f. rw (e, f) (lt-ltb (min a b) c (omega (arith, ltb-true b c f))))
     (λ f. rw (e, f) (le-ltb (min a b) c (omega (arith, ltb-false a c e, ltb-false b c f)))))
+
+-- one more if a test holds
+one-if : (t : Bool) (n : ℕ) → n + cond t 1 0 ≡ cond t (suc n) n
+one-if true n = add-one n
+one-if false n = add-zero n
 
 or-assoc : (a b c : Bool) → (a || (b || c)) ≡ ((a || b) || c)
 or-assoc true b c = refl
@@ -97,5 +103,6 @@ room-is b key s =
     path-is k key b h maxLevels (rootOffset b) (omega (arith, s .levels)) (sound-shaped b s) in
     let same : run bytesOrder (capacity k) key h (indexTree b h) ≡ d =
     ap (run bytesOrder (capacity k) key h) (sym (sound-tree b s)) ∙ run-read bytesOrder (entriesIn k b) (capacity k) key h (rootOffset b) in
-    let size = fileSize b + pageSize * cond (eqb d (suc h)) (suc d) d in
-    rw (path, same, less-both (length b) maxBytes size, add-one d, add-one (suc h)) (or-assoc (ltb (length b) size) (ltb maxBytes size) _)
+    let all = eqb d (suc h) in
+    let size = fileSize b + pageSize * cond all (suc d) d in
+    rw (path, same, less-both (length b) maxBytes size, one-if all d, one-if all (suc h)) (or-assoc (ltb (length b) size) (ltb maxBytes size) _)

@@ -1,5 +1,5 @@
--- Laws: a sound index, read as far as the buffer goes, as insertion's rule reads it, is the tree that is read as far as the file goes; every page of it is one
--- of the buffer, has the leaf bit at the bottom only and entries above. Cited by the laws of room and of insertion. Assumes nothing.
+-- Laws: insertion's rule reads a sound index up to the buffer's length, and reads the tree that is read up to the file's. Every page of that tree is one of
+-- the buffer, has the leaf bit at the bottom only and entries above. Cited by the laws of room and of insertion. Assumes nothing.
 use mathlib.Core.Path.{_≡_, refl, sym, _∙_, subst}
 use mathlib.Core.Bool.{true}
 use mathlib.Core.List.{List, [], _∷_, map}
@@ -26,7 +26,7 @@ use Rattle.layout_laws.specs.EntryLaws.{entriesIn}
 use Rattle.insert_laws.specs.InsertEntries.{Usable, Shaped}
 use Rattle.insert_laws.specs.InsertBuffer.{treeIn}
 
--- a page of a file is one of every longer file, and has the same entries there
+-- a page of a file is a page of every longer file, and has the same entries there
 pub page-longer : {m n : ℕ} (p : ℕ) → m ≤ n → isPage m p ≡ true → isPage n p ≡ true
 page-longer {m} {n} p l t = let g = is-page m p t in is-page-from n p (record { whole = g .whole; low = g .low; high = omega arith })
 
@@ -34,8 +34,8 @@ pub entries-longer : (k size : ℕ) (b : List ℕ) (p : ℕ) → size ≤ length
 unfolding entriesAt itemsAt
 entries-longer k size b p l t = rw (t, page-longer p l t)
 
--- so what is read from a root is the same, where all pages reached are pages of the file
-pub read-longer : (k size : ℕ) (b : List ℕ) (h root : ℕ) → size ≤ length b
+-- the tree read from a root is the same in a longer file, if all pages reached are pages of the file
+read-longer : (k size : ℕ) (b : List ℕ) (h root : ℕ) → size ≤ length b
     → ((z : ℕ) → 0 < occ z (pages h (readTree (entriesAt k size b) h root)) → isPage size z ≡ true)
     → readTree (entriesIn k b) h root ≡ readTree (entriesAt k size b) h root
 read-longer k size b h root l inside = frame (entriesAt k size b) (entriesIn k b) (suc h) ([], root) (λ z o. entries-longer k size b z l (inside z o))
@@ -54,7 +54,7 @@ module _ (k : ℕ) (b : List ℕ) where
   abbrev S : Store (List ℕ)
   S = entriesIn k b
 
-  -- under a list of entries of pages with h levels under them
+  -- the same of the pages under a list of entries, with h levels under each
   abbrev PagesUsable : ℕ → List (List ℕ × ℕ) → Type 0
   PagesUsable h es = (z : ℕ) → 0 < occ z (concatMap (pagesUnder (suc h)) (map (readEntry S (suc h)) es)) → Usable b z
 
@@ -94,10 +94,10 @@ module _ (k : ℕ) (b : List ℕ) where
 
 module _ (b : List ℕ) (s : Sound b) where
   -- every page of the tree is a page of the file
-  pub sound-page : (z : ℕ) → 0 < occ z (pages (s .height) (indexTree b (s .height))) → isPage (fileSize b) z ≡ true
+  sound-page : (z : ℕ) → 0 < occ z (pages (s .height) (indexTree b (s .height))) → isPage (fileSize b) z ≡ true
   sound-page z o = occ-all (λ p. isPage (fileSize b) p ≡ true) z (pages (s .height) (indexTree b (s .height))) (s .inside) o
 
-  pub sound-usable : (z : ℕ) → 0 < occ z (pages (s .height) (indexTree b (s .height))) → Usable b z
+  sound-usable : (z : ℕ) → 0 < occ z (pages (s .height) (indexTree b (s .height))) → Usable b z
   sound-usable z o =
       let g = good-header b (s .header) in
       let p = is-page (fileSize b) z (sound-page z o) in
@@ -107,7 +107,7 @@ module _ (b : List ℕ) (s : Sound b) where
   pub sound-tree : treeIn (keyLength b) b (s .height) ≡ indexTree b (s .height)
   sound-tree = read-longer (keyLength b) (fileSize b) b (s .height) (rootOffset b) (good-header b (s .header) .within) sound-page
 
-  -- Theorem: a sound index has the shape that insertion's steps go by
+  -- Theorem: a sound index has the shape that the laws of insertion's steps ask for
   pub sound-shaped : Shaped (keyLength b) (s .height) b (rootOffset b)
   sound-shaped =
       let h = s .height in

@@ -1,4 +1,4 @@
--- Rules: a page's entries where a pair goes in or a page below was split. Cited by insertion and by the room that it needs.
+-- Rules: a page's entries after a pair goes in or a page below was split. Cited by insertion and by the rule for refusal 30.
 use Prim.Native.Nat.{ℕ, _-_}
 use mathlib.Core.Bool.{Bool, true, false, cond, _&&_}
 use mathlib.Core.List.{List, [], _∷_, _++_}
@@ -19,22 +19,23 @@ abbrev pub chosen : List ℕ → List Item → Item
 chosen key [] = ([], [])
 chosen key (x ∷ xs) = choose bytesOrder key x xs
 
+-- the number of an entry as a page's offset
 abbrev pub childOf : Item → ℕ
 childOf e = be32 (e .1) 0
 
--- entries with others in the place of that one
+-- entries with those of f in the place of the chosen one
 abbrev pub replaced : List ℕ → (Item → List Item) → List Item → List Item
 replaced key f [] = []
 replaced key f (x ∷ []) = f x
 replaced key f (x ∷ y ∷ ys) = cond (bytesLe key (x .0)) (f x ++ (y ∷ ys)) (x ∷ replaced key f (y ∷ ys))
 
--- whether the key is above all of a page
+-- whether the key is above all keys of the entries
 abbrev pub aboveAll : List ℕ → List Item → Bool
 aboveAll key [] = true
 aboveAll key (x ∷ xs) = cond (bytesLe key (x .0)) false (aboveAll key xs)
 
--- "keys above": where no page splits below it, a page changes only the key of the entry gone through, and only if the new key is above it, that is,
--- above all: then it is the last entry's. A page without entries stays
+-- "keys above": if no page below it splits, a page changes only the key of the entry gone through, and only if the new key is above that key. The new key
+-- is then above all keys of the page, and the entry gone through is the last. A page without entries stays
 unfoldable pub raised : ℕ → List ℕ → List ℕ → ℕ → List ℕ
 raised k b key p =
     let es = itemsIn k b p in

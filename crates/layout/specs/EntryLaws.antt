@@ -1,5 +1,5 @@
--- Laws: a page's entries by number: how many there are, where the search ends, which one is chosen, and the bytes of those before and after it. Assumes
--- nothing.
+-- Laws: a page's entries by number: how many there are, where the search ends, which entry is chosen, and the bytes of the entries before and after it.
+-- Assumes nothing.
 use Prim.Native.Nat.{ℕ, zero, suc, _+_, _-_, _*_, _≤_, _<_}
 use mathlib.Core.Path.{_≡_, refl, sym, ap, _∙_}
 use mathlib.Core.Bool.{true, false, cond}
@@ -35,11 +35,11 @@ itemsFrom k b p n i = items k n (drop (entryOffset k p i) b)
 abbrev pub itemAt : ℕ → List ℕ → ℕ → ℕ → Item
 itemAt k b p i = (keyAt b k p i, window b (entryOffset k p i + k) 4)
 
-pub length-from : (k : ℕ) (b : List ℕ) (p n i : ℕ) → length (itemsFrom k b p n i) ≡ n
+length-from : (k : ℕ) (b : List ℕ) (p n i : ℕ) → length (itemsFrom k b p n i) ≡ n
 unfolding itemsFrom
 length-from k b p n i = length-items k n (drop (entryOffset k p i) b)
 
-pub from-none : (k : ℕ) (b : List ℕ) (p i : ℕ) → itemsFrom k b p 0 i ≡ []
+from-none : (k : ℕ) (b : List ℕ) (p i : ℕ) → itemsFrom k b p 0 i ≡ []
 unfolding itemsFrom items
 from-none k b p i = refl
 
@@ -60,13 +60,14 @@ pub drop-from : (k : ℕ) (b : List ℕ) (p m n : ℕ) → m ≤ n → drop m (i
 unfolding itemsFrom
 drop-from k b p m n h = drop-items k m n (drop (entryOffset k p 0) b) h ∙ rw (drop-drop (m * (k + 4)) (entryOffset k p 0) b, ← entry-far k p 0 m, zero-add)
 
--- their bytes
-pub encode-from : (k : ℕ) (b : List ℕ) (p n i : ℕ) → i + n ≤ capacity k → p + pageSize ≤ length b → encode (itemsFrom k b p n i) ≡ window b (entryOffset k p i) (n * (k + 4))
+-- the bytes of n entries from entry i on
+pub encode-from : (k : ℕ) (b : List ℕ) (p n i : ℕ) → i + n ≤ capacity k → p + pageSize ≤ length b
+    → encode (itemsFrom k b p n i) ≡ window b (entryOffset k p i) (n * (k + 4))
 unfolding itemsFrom window
 encode-from k b p n i h l = encode-items k n (drop (entryOffset k p i) b) (rw length-drop (omega (arith, entries-inside k p (i + n) h, entry-far k p i n)))
 
--- the entries of a page of the buffer; there are none where there is no page
-pub items-in : (k : ℕ) (b : List ℕ) (p : ℕ) → isPage (length b) p ≡ true → itemsIn k b p ≡ itemsFrom k b p (readCount k b p) 0
+-- the entries of a page of the buffer; there are none if p is no page
+items-in : (k : ℕ) (b : List ℕ) (p : ℕ) → isPage (length b) p ≡ true → itemsIn k b p ≡ itemsFrom k b p (readCount k b p) 0
 unfolding itemsAt itemsFrom window
 items-in k b p e =
     rw (e, items-take k (readCount k b p) entryArea (drop (p + entriesStart) b) (entries-fit k (readCount k b p) (min-le-right _ _)), entry-first k p)
@@ -80,11 +81,12 @@ pub items-in-fit : (k : ℕ) (b : List ℕ) (p : ℕ) → All (Fit k) (itemsIn k
 unfolding itemsAt
 items-in-fit k b p = either (isPage (length b) p)
     (λ e. let n = readCount k b p in
-    let w : length (window b (p + entriesStart) entryArea) ≡ entryArea = length-window b (p + entriesStart) entryArea (omega (arith, is-page (length b) p e .high)) in
-    rw e (items-fit k n (window b (p + entriesStart) entryArea) (omega (arith, entries-fit k n (min-le-right (countAt b p) (capacity k))))))
+    let stored = window b (p + entriesStart) entryArea in
+    let w : length stored ≡ entryArea = length-window b (p + entriesStart) entryArea (omega (arith, is-page (length b) p e .high)) in
+    rw e (items-fit k n stored (omega (arith, entries-fit k n (min-le-right (countAt b p) (capacity k))))))
     (λ e. rw e tt)
 
--- what a page's entries are, given how many
+-- the n entries that a page has
 pub listed : {b : List ℕ} {k p n : ℕ} → Listed b k p n → itemsIn k b p ≡ itemsFrom k b p n 0
 listed {b} {k} {p} {n} l =
     let e = items-in k b p (l .page) in
@@ -97,52 +99,52 @@ listed-within {b} {k} {p} {n} l =
     record { key = l .key; count = omega (arith, min-le-right (countAt b p) (capacity k)); page = is-page (length b) p (l .page) .high }
 
 -- how many entries a search passes: those before the first at or above the key
-abbrev pub passed : List ℕ → List Item → ℕ
-passed key [] = 0
-passed key (x ∷ xs) = cond (bytesLe key (x .0)) 0 (suc (passed key xs))
+abbrev pub passedCount : List ℕ → List Item → ℕ
+passedCount key [] = 0
+passedCount key (x ∷ xs) = cond (bytesLe key (x .0)) 0 (suc (passedCount key xs))
 
-pub passed-le : (key : List ℕ) (es : List Item) → passed key es ≤ length es
+pub passed-le : (key : List ℕ) (es : List Item) → passedCount key es ≤ length es
 passed-le key [] = omega arith
 passed-le key (x ∷ xs) = either (bytesLe key (x .0)) (λ e. rw e (omega arith)) (λ e. rw e (omega (arith, passed-le key xs)))
 
--- the search in the page passes them
-pub first-passed : (k : ℕ) (b key : List ℕ) (p n i : ℕ) → firstAtOrAbove (keyAt b k p) key n i ≡ i + passed key (itemsFrom k b p n i)
+-- the search in the page ends after the entries passed
+pub first-passed : (k : ℕ) (b key : List ℕ) (p n i : ℕ) → firstAtOrAbove (keyAt b k p) key n i ≡ i + passedCount key (itemsFrom k b p n i)
 unfolding firstAtOrAbove
 first-passed k b key p zero i = rw (from-none k b p i) (sym (add-zero i))
 first-passed k b key p (suc n) i = either (bytesLe key (keyAt b k p i))
     (λ e. rw (from-cons k b p n i, e, firstAtOrAbove) (sym (add-zero i)))
     (λ e. rw (from-cons k b p n i, e, firstAtOrAbove) (first-passed k b key p n (i + 1) ∙ omega arith))
 
--- a key is above all where the search passes all
-pub above-all : (key : List ℕ) (es : List Item) → passed key es ≡ length es → aboveAll key es ≡ true
+-- a key is above all exactly if the search passes all
+pub above-all : (key : List ℕ) (es : List Item) → passedCount key es ≡ length es → aboveAll key es ≡ true
 above-all key [] h = refl
 above-all key (x ∷ xs) h = either (bytesLe key (x .0))
     (λ e. absurd (omega (arith, rw e at h)))
     (λ e. rw e (above-all key xs (omega (arith, rw e at h))))
 
-pub not-above-all : (key : List ℕ) (es : List Item) → passed key es < length es → aboveAll key es ≡ false
+pub not-above-all : (key : List ℕ) (es : List Item) → passedCount key es < length es → aboveAll key es ≡ false
 not-above-all key [] h = absurd (omega arith)
 not-above-all key (x ∷ xs) h = either (bytesLe key (x .0))
     (λ e. rw e)
     (λ e. rw e (not-above-all key xs (omega (arith, rw e at h))))
 
 -- a leaf's entries with one more
-pub insert-at : (key c : List ℕ) (es : List Item) → insertPair bytesOrder key c es ≡ take (passed key es) es ++ ((key, c) ∷ drop (passed key es) es)
+pub insert-at : (key c : List ℕ) (es : List Item) → insertPair bytesOrder key c es ≡ take (passedCount key es) es ++ ((key, c) ∷ drop (passedCount key es) es)
 insert-at key c [] = refl
 insert-at key c (x ∷ xs) = either (bytesLe key (x .0)) (λ e. rw e) (λ e. rw e (ap (λ (l : List Item). x ∷ l) (insert-at key c xs)))
 
 -- the chosen entry is the first that is not passed, or the last
-pub chosen-passed : (key : List ℕ) (x : Item) (xs : List Item) → passed key (x ∷ xs) < length (x ∷ xs) → chosenAt key (x ∷ xs) ≡ passed key (x ∷ xs)
+pub chosen-passed : (key : List ℕ) (x : Item) (xs : List Item) → passedCount key (x ∷ xs) < length (x ∷ xs) → chosenAt key (x ∷ xs) ≡ passedCount key (x ∷ xs)
 chosen-passed key x [] h = either (bytesLe key (x .0)) (λ e. rw e) (λ e. absurd (omega (arith, rw e at h)))
 chosen-passed key x (y ∷ ys) h = either (bytesLe key (x .0)) (λ e. rw e) (λ e. rw e (ap suc (chosen-passed key y ys (omega (arith, rw e at h)))))
 
-pub chosen-last : (key : List ℕ) (x : Item) (xs : List Item) → passed key (x ∷ xs) ≡ length (x ∷ xs) → chosenAt key (x ∷ xs) ≡ length xs
+pub chosen-last : (key : List ℕ) (x : Item) (xs : List Item) → passedCount key (x ∷ xs) ≡ length (x ∷ xs) → chosenAt key (x ∷ xs) ≡ length xs
 chosen-last key x [] h = refl
 chosen-last key x (y ∷ ys) h = either (bytesLe key (x .0))
     (λ e. absurd (omega (arith, rw e at h)))
     (λ e. rw e (ap suc (chosen-last key y ys (omega (arith, rw e at h)))))
 
--- entries with others in its place
+-- entries with others in the place of the chosen one
 pub replaced-at : (key : List ℕ) (f : Item → List Item) (x : Item) (xs : List Item)
     → replaced key f (x ∷ xs) ≡ take (chosenAt key (x ∷ xs)) (x ∷ xs) ++ (f (choose bytesOrder key x xs) ++ drop (suc (chosenAt key (x ∷ xs))) (x ∷ xs))
 replaced-at key f x [] = sym (append-nil (f x))

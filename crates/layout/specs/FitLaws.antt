@@ -1,4 +1,4 @@
--- Laws: the entries that a page gets have keys of k bytes and numbers of four, how many they are, and so that they are read back from the bytes gathered.
+-- Laws: the entries that a page gets: their keys have k bytes and their numbers four, how many they are, and that the bytes gathered read back as them.
 -- Assumes nothing.
 use Prim.Native.Nat.{ℕ, suc, _+_, _*_, _≤_}
 use mathlib.Core.Path.{_≡_, refl, sym, ap, _∙_}
@@ -13,7 +13,10 @@ use Rattle.octets.specs.Store.{put}
 use Rattle.octets.specs.StoreLaws.{put-splice}
 use Rattle.octets.specs.NumberLaws.{length-toBe32}
 use Rattle.octets.specs.Order.{bytesLe}
+use Rattle.tree.specs.Lists.{NonEmpty}
+use Rattle.tree.specs.ListLaws.{nonEmpty-length}
 use Rattle.tree.specs.Pairs.{lastKey, insertPair}
+use Rattle.tree.specs.PairLaws.{insertPair-all}
 use Rattle.page.specs.Header.{maxKey}
 use Rattle.page.specs.KeyOrder.{bytesOrder}
 use Rattle.page.specs.Reading.{Item, items}
@@ -24,42 +27,42 @@ use Rattle.layout.specs.ItemLaws.{Fit, length-encode, items-encode}
 use Rattle.layout.specs.EntryLaws.{items-in-fit}
 use Rattle.layout.specs.GatherLaws.{length-last, length-larger, put-next, spread}
 
--- what is true of a leaf's entries and of a new pair is true of all together
-pub insert-all : (P : Item → Type 0) (key c : List ℕ) (es : List Item) → P (key, c) → All P es → All P (insertPair bytesOrder key c es)
-insert-all P key c [] h a = (h, tt)
-insert-all P key c (x ∷ xs) h a = either (bytesLe key (x .0)) (λ e. rw e (h, a)) (λ e. rw e (a .0, insert-all P key c xs h (a .1)))
-
+-- how many entries a leaf has with one more pair
 pub length-insert : (key c : List ℕ) (es : List Item) → length (insertPair bytesOrder key c es) ≡ length es + 1
 length-insert key c [] = refl
 length-insert key c (x ∷ xs) = either (bytesLe key (x .0)) (λ e. rw e (omega arith)) (λ e. rw e (ap suc (length-insert key c xs) ∙ omega arith))
 
--- and so where entries stand in the place of one
-pub replaced-all : (P : Item → Type 0) (key : List ℕ) (f : Item → List Item) (es : List Item) → ((x : Item) → P x → All P (f x)) → All P es → All P (replaced key f es)
-replaced-all P key f [] h a = tt
-replaced-all P key f (x ∷ []) h a = h x (a .0)
-replaced-all P key f (x ∷ y ∷ ys) h a = either (bytesLe key (x .0))
+-- a property of entries and of those put in the place of one is one of all together
+replaced-all : (P : Item → Type 0) (key : List ℕ) (f : Item → List Item) → ((x : Item) → P x → All P (f x)) → (es : List Item) → All P es
+    → All P (replaced key f es)
+replaced-all P key f h [] a = tt
+replaced-all P key f h (x ∷ []) a = h x (a .0)
+replaced-all P key f h (x ∷ y ∷ ys) a = either (bytesLe key (x .0))
     (λ e. rw e (all-append P (f x) (y ∷ ys) (h x (a .0)) (a .1)))
-    (λ e. rw e (a .0, replaced-all P key f (y ∷ ys) h (a .1)))
+    (λ e. rw e (a .0, replaced-all P key f h (y ∷ ys) (a .1)))
 
-pub length-replaced : (key : List ℕ) (f : Item → List Item) (es : List Item) → ((x : Item) → length (f x) ≡ 2) → (length es ≡ 0 → ⊥) → length (replaced key f es) ≡ length es + 1
-length-replaced key f [] h s = absurd (s refl)
-length-replaced key f (x ∷ []) h s = h x
-length-replaced key f (x ∷ y ∷ ys) h s = either (bytesLe key (x .0))
-    (λ e. rw e (length-append (f x) (y ∷ ys) ∙ omega (arith, h x)))
-    (λ e. rw e (ap suc (length-replaced key f (y ∷ ys) h (λ z. omega (arith, z))) ∙ omega arith))
+-- how many entries there are with n + 1 in the place of one
+pub length-replaced : (key : List ℕ) (f : Item → List Item) (n : ℕ) → ((x : Item) → length (f x) ≡ suc n) → (es : List Item) → NonEmpty es
+    → length (replaced key f es) ≡ n + length es
+length-replaced key f n h [] s = absurd s
+length-replaced key f n h (x ∷ []) s = omega (arith, h x)
+length-replaced key f n h (x ∷ y ∷ ys) s = either (bytesLe key (x .0))
+    (λ e. rw e (omega (arith, length-append (f x) (y ∷ ys), h x)))
+    (λ e. rw e (omega (arith, length-replaced key f n h (y ∷ ys) tt)))
 
--- the entries of a leaf with a pair more, and of a page with two for one
-module _ (b key : List ℕ) (p : ℕ) where
-  pub pair-fit : (r : ℕ) → All (Fit (length key)) (insertPair bytesOrder key (toBe32 r) (itemsIn (length key) b p))
-  pair-fit r = insert-all (Fit (length key)) key (toBe32 r) (itemsIn (length key) b p) (refl, length-toBe32 r) (items-in-fit (length key) b p)
+-- the entries of a leaf with one more pair, and of a page with two in the place of one
+module _ (k : ℕ) (b key : List ℕ) (long : length key ≡ k) where
+  pub pair-fit : (r p : ℕ) → All (Fit k) (insertPair bytesOrder key (toBe32 r) (itemsIn k b p))
+  pair-fit r p = insertPair-all bytesOrder (Fit k) key (toBe32 r) (itemsIn k b p) (long, length-toBe32 r) (items-in-fit k b p)
 
-  pub two-fit : (c q : ℕ) → All (Fit (length key)) (replaced key (twoFor (length key) b key c q) (itemsIn (length key) b p))
-  two-fit c q = replaced-all (Fit (length key)) key (twoFor (length key) b key c q) (itemsIn (length key) b p)
-      (λ x f. ((length-last (length key) key refl (itemsIn (length key) b c) (items-in-fit (length key) b c), f .1), ((length-larger (x .0) key (f .0), length-toBe32 q), tt)))
-      (items-in-fit (length key) b p)
+  pub two-fit : (c q : ℕ) (es : List Item) → All (Fit k) es → All (Fit k) (replaced key (twoFor k b key c q) es)
+  two-fit c q es f =
+      let low = length-last k key long (itemsIn k b c) (items-in-fit k b c) in
+      replaced-all (Fit k) key (twoFor k b key c q)
+      (λ x g. ((low, g .1), ((length-larger (x .0) key (g .0 ∙ sym long) ∙ long, length-toBe32 q), tt))) es f
 
--- what was gathered is read back
-pub gathered : (k n : ℕ) (es : List Item) (zs : List ℕ) {room : List ℕ} → All (Fit k) es → length es ≡ n → n * (k + 4) ≤ length zs → room ≡ put zs 0 (encode es)
+-- what is gathered is read back
+gathered : (k n : ℕ) (es : List Item) (zs : List ℕ) {room : List ℕ} → All (Fit k) es → length es ≡ n → n * (k + 4) ≤ length zs → room ≡ put zs 0 (encode es)
     → items k n (take (n * (k + 4)) room) ≡ es
 gathered k n es zs f e h q =
     let l : length (encode es) ≡ n * (k + 4) = length-encode k es f ∙ ap (λ (m : ℕ). m * (k + 4)) e in
@@ -67,7 +70,7 @@ gathered k n es zs f e h q =
     let t : take (n * (k + 4)) (put zs 0 (encode es)) ≡ encode es = rw s (take-at (encode es) (drop (0 + length (encode es)) zs) (n * (k + 4)) l) in
     rw (q, t, ← e) (ap (items k (length es)) (sym (append-nil (encode es))) ∙ items-encode k es [] f)
 
--- what was gathered for a page that has n entries is one more
+-- what is gathered for a page with n entries is n + 1 entries
 pub one-more : {b : List ℕ} {k p n : ℕ} (room : List ℕ) → Listed b k p n → roomSize ≤ length room → Over b k p (n + 1) (take ((n + 1) * (k + 4)) room)
 one-more {b} {k} {p} {n} room l h =
     let s = spread n l (omega arith) in
@@ -79,7 +82,8 @@ pub pair-read : (key : List ℕ) {b : List ℕ} {p n : ℕ} (r : ℕ) (zs : List
 pair-read key {b} {p} {n} r zs l h e =
     let s = spread n l (omega arith) in
     let es = itemsIn (length key) b p in
-    gathered (length key) (n + 1) (insertPair bytesOrder key (toBe32 r) es) zs (pair-fit b key p r) (length-insert key (toBe32 r) es ∙ rw (← l .count)) (omega arith) e
+    let count : length (insertPair bytesOrder key (toBe32 r) es) ≡ n + 1 = length-insert key (toBe32 r) es ∙ rw (← l .count) in
+    gathered (length key) (n + 1) (insertPair bytesOrder key (toBe32 r) es) zs (pair-fit (length key) b key refl r p) count (omega arith) e
 
 pub two-read : (key : List ℕ) {b : List ℕ} {p n : ℕ} (c q : ℕ) (zs : List ℕ) {room : List ℕ} → Listed b (length key) p n → (n ≡ 0 → ⊥) → roomSize ≤ length zs
     → room ≡ put zs 0 (encode (replaced key (twoFor (length key) b key c q) (itemsIn (length key) b p)))
@@ -88,7 +92,9 @@ two-read key {b} {p} {n} c q zs l ne h e =
     let s = spread n l (omega arith) in
     let es = itemsIn (length key) b p in
     let f = twoFor (length key) b key c q in
-    gathered (length key) (n + 1) (replaced key f es) zs (two-fit b key p c q) (length-replaced key f es (λ x. refl) (λ z. ne (l .count ∙ z)) ∙ rw (← l .count)) (omega arith) e
+    let some : NonEmpty es = nonEmpty-length es (omega (arith, l .count)) in
+    let count : length (replaced key f es) ≡ n + 1 = omega (arith, length-replaced key f 1 (λ x. refl) es some, l .count) in
+    gathered (length key) (n + 1) (replaced key f es) zs (two-fit (length key) b key refl c q es (items-in-fit (length key) b p)) count (omega arith) e
 
 -- the entries of a new root
 module _ (b key : List ℕ) (p q : ℕ) where
@@ -108,8 +114,15 @@ module _ (b key : List ℕ) (p q : ℕ) where
       let right = lastKey key (itemsIn (length key) b q) in
       let l2 : length (left ++ toBe32 p) ≡ length key + 4 = length-append left (toBe32 p) ∙ rw (f .0 .0, f .0 .1) in
       let l3 : length ((left ++ toBe32 p) ++ right) ≡ length key + 4 + length key = length-append (left ++ toBe32 p) right ∙ rw (l2, f .1 .0 .0) in
-      e4 ∙ rw (e3, e2, e1, put-next zs left (toBe32 p) (length key) (f .0 .0), put-next zs (left ++ toBe32 p) right _ l2, put-next zs ((left ++ toBe32 p) ++ right) (toBe32 q) _ l3, append-nil (toBe32 q))
-      (ap (put zs 0) (simp append-assoc))
+      e4 ∙ rw (
+        e3,
+        e2,
+        e1,
+        put-next zs left (toBe32 p) (length key) (f .0 .0),
+        put-next zs (left ++ toBe32 p) right _ l2,
+        put-next zs ((left ++ toBe32 p) ++ right) (toBe32 q) _ l3,
+        append-nil (toBe32 q),
+      ) (ap (put zs 0) (simp append-assoc))
 
   pub root-read : (zs : List ℕ) {room : List ℕ} → length key ≤ maxKey → roomSize ≤ length zs → room ≡ put zs 0 (encode (rootEntries (length key) b key p q))
       → items (length key) 2 (take (2 * (length key + 4)) room) ≡ rootEntries (length key) b key p q

@@ -29,7 +29,9 @@ use Rattle.layout.specs.Layout.{itemsIn, encode}
 use Rattle.layout.specs.Entries.{chosen, childOf, replaced, raised, twoFor}
 use Rattle.layout.specs.Given.{Listed, chosenAt}
 use Rattle.layout.specs.ItemLaws.{Fit, encode-append}
-use Rattle.layout.specs.EntryLaws.{itemsFrom, itemAt, items-in-fit, from-cons, take-from, drop-from, encode-from, entry-far, items-none, listed, listed-within, passed, passed-le, first-passed, above-all, not-above-all, insert-at, chosen-passed, chosen-last, replaced-at}
+use Rattle.layout.specs.EntryLaws.{itemsFrom, itemAt, items-in-fit, from-cons, take-from, drop-from, encode-from, entry-far, items-none}
+use Rattle.layout.specs.EntryLaws.{listed, listed-within, passedCount, passed-le, first-passed, above-all, not-above-all}
+use Rattle.layout.specs.EntryLaws.{insert-at, chosen-passed, chosen-last, replaced-at}
 
 -- no page, no entries
 count-none : (k : ℕ) (b : List ℕ) (p : ℕ) → isPage (length b) p ≡ false → 0 ≡ length (itemsIn k b p)
@@ -37,17 +39,17 @@ count-none k b p e = sym (ap length (items-none k b p e))
 
 -- the search in a page that has entries, and the entry that is chosen
 module _ (key : List ℕ) {b : List ℕ} {p n i : ℕ} (l : Listed b (length key) p n) (e : i ≡ firstAtOrAbove (keyAt b (length key) p) key n 0) where
-  pub search-passed : i ≡ passed key (itemsIn (length key) b p)
-  search-passed = e ∙ first-passed (length key) b key p n 0 ∙ zero-add _ ∙ ap (passed key) (sym (listed l))
+  search-passed : i ≡ passedCount key (itemsIn (length key) b p)
+  search-passed = e ∙ first-passed (length key) b key p n 0 ∙ zero-add _ ∙ ap (passedCount key) (sym (listed l))
 
-  pub search-le : i ≤ n
+  search-le : i ≤ n
   search-le = omega (arith, search-passed, passed-le key (itemsIn (length key) b p), l .count)
 
-chosen-first : (key : List ℕ) (es : List Item) → passed key es < length es → passed key es ≡ chosenAt key es
+chosen-first : (key : List ℕ) (es : List Item) → passedCount key es < length es → passedCount key es ≡ chosenAt key es
 chosen-first key [] h = absurd (omega arith)
 chosen-first key (x ∷ xs) h = sym (chosen-passed key x xs h)
 
-chosen-end : (key : List ℕ) (es : List Item) → 1 ≤ length es → passed key es ≡ length es → length es - 1 ≡ chosenAt key es
+chosen-end : (key : List ℕ) (es : List Item) → 1 ≤ length es → passedCount key es ≡ length es → length es - 1 ≡ chosenAt key es
 chosen-end key [] h e = absurd (omega arith)
 chosen-end key (x ∷ xs) h e = sym (chosen-last key x xs e ∙ omega arith)
 
@@ -82,12 +84,12 @@ last-get : (key : List ℕ) (x : Item) (xs : List Item) → lastKey key (x ∷ x
 last-get key x [] = refl
 last-get key x (y ∷ ys) = last-get (x .0) y ys
 
--- in a page
+-- the entry with a number, the chosen one and the last, in a page
 module _ {b : List ℕ} {k p n : ℕ} (l : Listed b k p n) where
-  pub get-listed : (i : ℕ) → i < n → getD (itemsIn k b p) i noItem ≡ itemAt k b p i
+  get-listed : (i : ℕ) → i < n → getD (itemsIn k b p) i noItem ≡ itemAt k b p i
   get-listed i h = rw (listed l) (get-from k b p n 0 i noItem h ∙ ap (itemAt k b p) (zero-add i))
 
-  pub chosen-listed : (key : List ℕ) (i : ℕ) → i ≡ chosenAt key (itemsIn k b p) → i < n → chosen key (itemsIn k b p) ≡ itemAt k b p i
+  chosen-listed : (key : List ℕ) (i : ℕ) → i ≡ chosenAt key (itemsIn k b p) → i < n → chosen key (itemsIn k b p) ≡ itemAt k b p i
   chosen-listed key i e h = chosen-get key (itemsIn k b p) ∙ rw (← e) (get-listed i h)
 
   pub last-listed : (key : List ℕ) → 1 ≤ n → keyAt b k p (n - 1) ≡ lastKey key (itemsIn k b p)
@@ -120,7 +122,7 @@ counted-some {b} {k} {p} h e s = record {
 pub within-last : {b : List ℕ} {k p n : ℕ} → Within b k p n → (n ≡ 0 → ⊥) → Within b k p (n - 1 + 1)
 within-last {b} {k} {p} {n} w s = let e : n - 1 + 1 ≡ n = omega arith in rw e w
 
--- a store that follows another
+-- a store that begins where another ends
 pub put-next : (zs xs ys : List ℕ) (a : ℕ) → length xs ≡ a → put (put zs 0 xs) a ys ≡ put zs 0 (xs ++ ys)
 put-next zs xs ys a e = sym (put-append zs 0 xs ys ∙ rw (zero-add, e))
 
@@ -146,7 +148,7 @@ run-copied {b} {k} {p} {first} {end} w h zs at {from} {upto} ef eu e =
     let r = run w h in
     e ∙ rw (part-window b from upto ((end - first) * (k + 4)) (omega arith), ef)
 
--- the products that a gathering meets, with i of n entries before the new one
+-- the products of sizes that a gathering meets, with i of n entries before the new one
 pub record Spread (b : List ℕ) (k p n i : ℕ) : Type 0 where
   pub inside : p + pageSize ≤ length b
   pub key : k ≤ maxKey
@@ -175,7 +177,7 @@ spread {b} {k} {p} {n} i l h =
     }
 
 module _ {b : List ℕ} {k p n : ℕ} (l : Listed b k p n) where
-  -- the bytes of the first entries, and of those from one on
+  -- the bytes of the first i entries, and of the entries from entry i on
   before-bytes : (i : ℕ) → i ≤ n → encode (take i (itemsIn k b p)) ≡ window b (entryOffset k p 0) (i * (k + 4))
   before-bytes i h =
       let w = listed-within l in
@@ -210,11 +212,20 @@ module _ (key : List ℕ) {b : List ℕ} {p n i : ℕ} (l : Listed b (length key
       let rest = window b (entryOffset (length key) p i) ((n - i) * (length key + 4)) in
       let la = length-before l i (search-le key l e) in
       let lb : length (first ++ key) ≡ i * (length key + 4) + length key = length-append first key ∙ rw la in
-      let lc : length ((first ++ key) ++ toBe32 r) ≡ i * (length key + 4) + length key + 4 = length-append (first ++ key) (toBe32 r) ∙ rw (lb, length-toBe32 r) in
-      e4 ∙ rw (e3, e2, e1, sub-zero, put-next zs first key (i * (length key + 4)) la, put-next zs (first ++ key) (toBe32 r) _ lb, put-next zs ((first ++ key) ++ toBe32 r) rest _ lc, pair-bytes (toBe32 r))
-      (ap (put zs 0) (simp append-assoc))
+      let lc : length ((first ++ key) ++ toBe32 r) ≡ i * (length key + 4) + length key + 4 =
+      length-append (first ++ key) (toBe32 r) ∙ rw (lb, length-toBe32 r) in
+      e4 ∙ rw (
+        e3,
+        e2,
+        e1,
+        sub-zero,
+        put-next zs first key (i * (length key + 4)) la,
+        put-next zs (first ++ key) (toBe32 r) _ lb,
+        put-next zs ((first ++ key) ++ toBe32 r) rest _ lc,
+        pair-bytes (toBe32 r),
+      ) (ap (put zs 0) (simp append-assoc))
 
--- the lengths of a last key and of the larger of two
+-- the lengths of a last key and of the larger of two keys
 pub length-last : (k : ℕ) (key : List ℕ) → length key ≡ k → (es : List Item) → All (Fit k) es → length (lastKey key es) ≡ k
 length-last k key e [] f = e
 length-last k key e (x ∷ xs) f = length-last k (x .0) (f .0 .0) xs (f .1)
@@ -275,10 +286,13 @@ module _ (key : List ℕ) {b : List ℕ} {p n i : ℕ} (l : Listed b (length key
       let w = entry-within (within-entry i (listed-within l) h) in
       let l1 = length-before l i (omega arith) in
       let l2 : length (first ++ low) ≡ i * (k + 4) + k = length-append first low ∙ rw (l1, length-last k key refl (itemsIn k b c) (items-in-fit k b c)) in
-      let l3 : length ((first ++ low) ++ number) ≡ i * (k + 4) + k + 4 = length-append (first ++ low) number ∙ rw (l2, length-window b (entryOffset k p i + k) 4 (omega arith)) in
+      let l3 : length ((first ++ low) ++ number) ≡ i * (k + 4) + k + 4 =
+      length-append (first ++ low) number ∙ rw (l2, length-window b (entryOffset k p i + k) 4 (omega arith)) in
       let lk : length (keyAt b k p i) ≡ k = length-window b (entryOffset k p i) k (omega arith) in
-      let l4 : length (((first ++ low) ++ number) ++ high) ≡ i * (k + 4) + k + 4 + k = length-append ((first ++ low) ++ number) high ∙ rw (l3, length-larger (keyAt b k p i) key lk) in
-      let l5 : length ((((first ++ low) ++ number) ++ high) ++ toBe32 q) ≡ i * (k + 4) + k + 4 + k + 4 = length-append (((first ++ low) ++ number) ++ high) (toBe32 q) ∙ rw (l4, length-toBe32 q) in
+      let l4 : length (((first ++ low) ++ number) ++ high) ≡ i * (k + 4) + k + 4 + k =
+      length-append ((first ++ low) ++ number) high ∙ rw (l3, length-larger (keyAt b k p i) key lk) in
+      let l5 : length ((((first ++ low) ++ number) ++ high) ++ toBe32 q) ≡ i * (k + 4) + k + 4 + k + 4 =
+      length-append (((first ++ low) ++ number) ++ high) (toBe32 q) ∙ rw (l4, length-toBe32 q) in
       e6 ∙ rw (
         e5,
         e4,
@@ -300,8 +314,8 @@ module _ (key : List ℕ) {b : List ℕ} {p n : ℕ} (l : Listed b (length key) 
   unfolding raised
   raised-none z = rw (lt-leb 1 (length (itemsIn (length key) b p)) (omega (arith, l .count)))
 
-  pub raised-here : {i o : ℕ} {out : List ℕ} → (n ≡ 0 → ⊥) → i ≡ firstAtOrAbove (keyAt b (length key) p) key n 0 → i ≡ n → o ≡ entryOffset (length key) p (n - 1)
-      → out ≡ put b o key → out ≡ raised (length key) b key p
+  pub raised-here : {i o : ℕ} {out : List ℕ} → (n ≡ 0 → ⊥) → i ≡ firstAtOrAbove (keyAt b (length key) p) key n 0 → i ≡ n
+      → o ≡ entryOffset (length key) p (n - 1) → out ≡ put b o key → out ≡ raised (length key) b key p
   unfolding raised
   raised-here s e q eo eb =
       let es = itemsIn (length key) b p in

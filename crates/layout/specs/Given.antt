@@ -1,4 +1,5 @@
--- Rules: what the calls on a page that is written ask of the buffer b: n entries with keys of k bytes, held in the byte string s, for the page at p.
+-- Steps: what the functions ask of the buffer b and of the byte string s that holds n entries with keys of k bytes for the page at p; and the number of the
+-- chosen entry. Inner contracts, laws and proofs cite them: a reader need not believe them.
 use Prim.Native.Nat.{ℕ, suc, _+_, _*_, _≤_}
 use mathlib.Core.Path.{_≡_}
 use mathlib.Core.Bool.{true, cond}
@@ -11,12 +12,12 @@ use Rattle.page.specs.Within.{Within}
 use Rattle.page.specs.Reading.{Item}
 use Rattle.layout.specs.Layout.{itemsIn}
 
--- the page has room for them
+-- the page has room for the n entries
 pub record Given (b : List ℕ) (k p n : ℕ) (s : List ℕ) : Type 0 where
   pub within : Within b k p n
   pub size : length s ≡ n * (k + 4)
 
--- the page has room for them, or for all but one
+-- the page has room for the n entries, or for all but one
 pub record Over (b : List ℕ) (k p n : ℕ) (s : List ℕ) : Type 0 where
   pub key : k ≤ maxKey
   pub page : isPage (length b) p ≡ true
@@ -33,7 +34,7 @@ pub record Listed (b : List ℕ) (k p n : ℕ) : Type 0 where
 abbrev pub roomSize : ℕ
 roomSize = entryArea + maxKey + 4
 
--- the number of the entry that is chosen
+-- the number of the entry that `Entries.chosen` gives
 abbrev pub chosenAt : List ℕ → List Item → ℕ
 chosenAt key [] = 0
 chosenAt key (x ∷ []) = 0

@@ -62,7 +62,13 @@ module _ (k : ℕ) where
   encode-items zero xs h = rw (zero-mul (k + 4))
   encode-items (suc n) xs h =
       let m : suc n * (k + 4) ≡ k + (4 + n * (k + 4)) = suc-mul n (k + 4) ∙ omega arith in
-      rw (m, take-add k (4 + n * (k + 4)) xs, take-add 4 (n * (k + 4)) (drop k xs), drop-drop 4 k xs, encode-items n (drop (k + 4) xs) (simp length-drop (omega arith)))
+      rw (
+        m,
+        take-add k (4 + n * (k + 4)) xs,
+        take-add 4 (n * (k + 4)) (drop k xs),
+        drop-drop 4 k xs,
+        encode-items n (drop (k + 4) xs) (simp length-drop (omega arith)),
+      )
 
   -- the first m entries, and those after them
   pub take-items : (m n : ℕ) (xs : List ℕ) → m ≤ n → take m (items k n xs) ≡ items k m xs

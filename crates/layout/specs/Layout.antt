@@ -1,4 +1,4 @@
--- Rules: the header and pages as bytes, once they are written. Cited by insertion and by fresh. A buffer b is read as far as its own length here.
+-- Rules: the header and pages as bytes. Cited by insertion and by fresh. A buffer b is read up to its own length here.
 use Prim.Native.Nat.{ℕ, _+_, _-_, _%_}
 use mathlib.Core.Bool.{cond}
 use mathlib.Core.List.{List, [], _∷_, _++_}
@@ -14,7 +14,7 @@ use Rattle.page.specs.Reading.{Item, itemsAt}
 abbrev pub itemsIn : ℕ → List ℕ → ℕ → List Item
 itemsIn k b p = itemsAt k (length b) b p
 
--- entries as bytes: each "key, then" number
+-- entries as bytes: each the key, then the number
 unfoldable pub encode : List Item → List ℕ
 encode [] = []
 encode (e ∷ es) = e .0 ++ (e .1 ++ encode es)

@@ -1,8 +1,18 @@
+-- The header and pages as they are written, in the order in which the parts rest on one another.
+
+-- Rules: the header and pages as bytes
 pub mod Layout
+-- Rules: a page's entries after a pair goes in or a page below was split
 pub mod Entries
+-- Steps: what the functions ask of their arguments, and the number of the chosen entry
 pub mod Given
+-- Laws: entries as bytes and back
 pub mod ItemLaws
+-- Laws: the stores of the functions are the rule's
 pub mod WriteLaws
+-- Laws: a page's entries by number
 pub mod EntryLaws
+-- Laws: the bytes gathered for a page are those of the rule's entries
 pub mod GatherLaws
+-- Laws: the bytes gathered for a page are read back as the rule's entries
 pub mod FitLaws

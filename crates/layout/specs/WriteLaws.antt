@@ -1,5 +1,5 @@
--- Laws: the stores that write the header or a page are the rule's: a header, a page with its entries, a new page, and a page that is split. Assumes nothing.
-use Prim.Native.Nat.{ℕ, _+_, _-_, _*_, _/_, _%_, _≤_}
+-- Laws: the stores that write a header, a page's entries, a new page or a page that is split are the rule's. Assumes nothing.
+use Prim.Native.Nat.{ℕ, _+_, _-_, _*_, _/_, _≤_}
 use mathlib.Core.Path.{_≡_, refl, sym, ap, _∙_}
 use mathlib.Core.Bool.{true}
 use mathlib.Core.List.{List, _++_}
@@ -22,7 +22,7 @@ use Rattle.layout.specs.Layout.{encode, area, withEntries, newPage, with
 use Rattle.layout.specs.Given.{Given, Over, roomSize}
 use Rattle.layout.specs.ItemLaws.{length-items, encode-items, take-items, drop-items}
 
--- a header written whole, as the stores of its parts: features is a byte, and the zero after it is stored with it
+-- a header written whole, as the stores of its parts: the features are one byte, stored with the zero after it
 header-parts : (root size k : ℕ) (e : List ℕ)
     → headerBytes root size k e
     ≡ toLe32 root
@@ -63,7 +63,7 @@ pub capacity-least : (k : ℕ) → k ≤ maxKey → 4 ≤ capacity k
 unfolding capacity
 capacity-least k h = le-div-iff-mul-le {k = k + 4} {x = 4} {y = entryArea} (omega arith) .1 (omega arith)
 
--- the products that a page with n entries meets
+-- the products of sizes that a page with n entries meets
 pub record Sizes (b : List ℕ) (k p n : ℕ) (s : List ℕ) : Type 0 where
   pub inside : p + pageSize ≤ length b
   pub key : k ≤ maxKey
@@ -78,8 +78,8 @@ sizes {b} {k} {p} {n} {s} g =
     let c = capacity-small k in
     record { inside = w .page; key = w .key; few = omega arith; bytes = omega (arith, entries-fit k n (w .count), g .size); end = omega (arith, g .size) }
 
--- a byte string that is just n entries
-pub encode-whole : (k n : ℕ) (s : List ℕ) → length s ≡ n * (k + 4) → encode (items k n s) ≡ s
+-- a byte string of n entries and no more
+encode-whole : (k n : ℕ) (s : List ℕ) → length s ≡ n * (k + 4) → encode (items k n s) ≡ s
 encode-whole k n s e = encode-items k n s (omega arith) ∙ take-all (n * (k + 4)) s (omega arith)
 
 module _ {b s : List ℕ} {k p n o : ℕ} {l1 l2 l3 : List ℕ} (g : Given b k p n s) where
@@ -126,7 +126,7 @@ new-page-by b p a l r es {l1} {l2} {l3} {l4} e1 e2 e3 e4 =
     ∙ put-comm (put l1 (p + 4) (toLe32 l)) (p + 2) n (p + 8) (toLe32 r) (omega (arith, length-toLe16 (length es))))) in
     e4 ∙ rw (c, e1) (sym (new-page-stores b p a l r es))
 
--- the products that a split meets
+-- the products of sizes that a split meets
 pub record Halves (k n : ℕ) (s : List ℕ) : Type 0 where
   pub low : (n + 1) / 2 ≤ n
   pub cut : (n + 1) / 2 * (k + 4) ≤ length s
@@ -155,7 +155,7 @@ halves {b} {k} {p} {n} {s} g =
     }
 
 module _ {b s : List ℕ} {k p n : ℕ} (g : Over b k p n s) where
-  -- they fit the page
+  -- n entries that fit the page
   pub whole-given : n ≤ capacity k → Given b k p n s
   whole-given h = record { within = record { key = g .key; count = h; page = is-page (length b) p (g .page) .high }; size = g .size }
 

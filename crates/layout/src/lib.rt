@@ -1,4 +1,4 @@
-// The header and pages as they are written: their numbers, the entries gathered for a page, a page with its entries, a new page, and a page that is split.
+// Writes the header and pages: their numbers, the entries gathered for a page, a page's entries, a new page, and a page that is split.
 use page::Page;
 use page::PageOffset;
 use page::RecordNumber;
@@ -11,7 +11,7 @@ ghost use Rattle.octets.specs.Store.{put, window};
 ghost use Rattle.tree.specs.Order.{larger};
 ghost use Rattle.tree.specs.Pairs.{lastKey, insertPair};
 ghost use Rattle.page.specs.Header.{maxKey, pageSize, expressionPlace, isPage};
-ghost use Rattle.page.specs.Page.{capacity, entryOffset, keyAt};
+ghost use Rattle.page.specs.Page.{entryOffset, keyAt};
 ghost use Rattle.page.specs.Within.{Within};
 ghost use Rattle.page.specs.KeyOrder.{bytesOrder};
 ghost use Rattle.page.specs.Reading.{items};
@@ -20,10 +20,10 @@ ghost use Rattle.layout.specs.Layout.{itemsIn, encode, withEntries, newP
 ghost use Rattle.layout.specs.Entries.{chosen, childOf, replaced, raised, twoFor, rootEntries};
 ghost use Rattle.layout.specs.Given.{Given, Over, Listed, roomSize, chosenAt};
 
-// The room in which the entries of a page are gathered: the entry area and one entry more, with the longest key.
+// The room in which the entries of a page are gathered: the entry area and one more entry with the longest key.
 pub const ROOM: usize = Page::ENTRY_AREA + page::MAX_KEY + 4;
 
-// Gives a page an attribute.
+// Gives a page the attribute `attribute`.
 fn set_attribute(index: &mut [u8], page: PageOffset, attribute: u32)
     requires { ⌜ page .0 + pageSize ≤ length (now index) ⌝ }
     ensures { λ _. ⌜ now (index .exit) ≡ withAttribute (now (index .entry)) (page .0) attribute ⌝ }
@@ -31,7 +31,7 @@ fn set_attribute(index: &mut [u8], page: PageOffset, attribute: u32)
     octets::store_le16(index, page.0 as usize, attribute);
 }
 
-// Gives a page a count.
+// Gives a page the count `count`.
 fn set_count(index: &mut [u8], page: PageOffset, count: u32)
     requires { ⌜ page .0 + pageSize ≤ length (now index) ⌝ }
     ensures { λ _. ⌜ now (index .exit) ≡ withCount (now (index .entry)) (page .0) count ⌝ }
@@ -39,7 +39,7 @@ fn set_count(index: &mut [u8], page: PageOffset, count: u32)
     octets::store_le16(index, page.0 as usize + Page::COUNT_PLACE, count);
 }
 
-// Gives a page a left neighbour.
+// Gives a page the left neighbour `left`.
 fn link_left(index: &mut [u8], page: PageOffset, left: PageOffset)
     requires { ⌜ page .0 + pageSize ≤ length (now index) ⌝ }
     ensures { λ _. ⌜ now (index .exit) ≡ withLeft (now (index .entry)) (page .0) (left .0) ⌝ }
@@ -47,7 +47,7 @@ fn link_left(index: &mut [u8], page: PageOffset, left: PageOffset)
     octets::store_le32(index, page.0 as usize + Page::LEFT_PLACE, left.0);
 }
 
-// Gives a page a right neighbour.
+// Gives a page the right neighbour `right`.
 fn link_right(index: &mut [u8], page: PageOffset, right: PageOffset)
     requires { ⌜ page .0 + pageSize ≤ length (now index) ⌝ }
     ensures { λ _. ⌜ now (index .exit) ≡ withRight (now (index .entry)) (page .0) (right .0) ⌝ }
@@ -55,7 +55,7 @@ fn link_right(index: &mut [u8], page: PageOffset, right: PageOffset)
     octets::store_le32(index, page.0 as usize + Page::RIGHT_PLACE, right.0);
 }
 
-// Gives the header a root offset.
+// Gives the header the root offset `root`.
 pub fn set_root(index: &mut [u8], root: PageOffset)
     requires { ⌜ pageSize ≤ length (now index) ⌝ }
     ensures { λ _. ⌜ now (index .exit) ≡ withRoot (now (index .entry)) (root .0) ⌝ }
@@ -63,7 +63,7 @@ pub fn set_root(index: &mut [u8], root: PageOffset)
     octets::store_le32(index, page::ROOT_PLACE, root.0);
 }
 
-// Gives the header the file size of a file that ends at an offset.
+// Gives the header the size of a file that ends at `end`.
 pub fn set_file_end(index: &mut [u8], end: PageOffset)
     requires { ⌜ pageSize ≤ length (now index) ⌝ }
     ensures { λ _. ⌜ now (index .exit) ≡ withSize (now (index .entry)) (end .0) ⌝ }
@@ -71,7 +71,7 @@ pub fn set_file_end(index: &mut [u8], end: PageOffset)
     octets::store_le32(index, page::SIZE_PLACE, end.0);
 }
 
-// Writes a header whole: zero after the key expression.
+// Writes the whole header, with zeros after the key expression.
 pub fn new_header(index: &mut [u8], root: PageOffset, end: PageOffset, k: u32, expression: &[u8])
     requires { ⌜ (pageSize ≤ length (now index)) × (expressionPlace + length (now expression) ≤ pageSize) ⌝ }
     ensures { λ _. ⌜ now (index .exit) ≡ put (now (index .entry)) 0 (headerBytes (root .0) (end .0) k (now (expression .entry))) ⌝ }
@@ -90,7 +90,7 @@ pub fn new_header(index: &mut [u8], root: PageOffset, end: PageOffset, k: u32, e
     );
 }
 
-// Gives a page `count` entries, held in a byte string: zero after the last.
+// Gives a page `count` entries, held in the bytes `entries`, with zeros after the last.
 pub fn with_entries(index: &mut [u8], k: usize, page: PageOffset, count: usize, entries: &[u8])
     requires { ⌜ Given (now index) k (page .0) count (now entries) ⌝ }
     ensures { λ _. ⌜ now (index .exit) ≡ withEntries (now (index .entry)) (page .0) (items k count (now (entries .entry))) ⌝ }
@@ -106,7 +106,7 @@ pub fn with_entries(index: &mut [u8], k: usize, page: PageOffset, count: usize, 
     );
 }
 
-// Writes a page whole.
+// Writes a whole page: `head`, then its entries, held in the bytes `entries`.
 pub fn new_page(index: &mut [u8], k: usize, page: PageOffset, head: Page, entries: &[u8])
     requires { ⌜ Given (now index) k (page .0) (head .count) (now entries) ⌝ }
     ensures { λ _. ⌜ now (index .exit) ≡ newPage (now (index .entry)) (page .0) (head .attribute) (head .left .0) (head .right .0)
@@ -118,7 +118,7 @@ pub fn new_page(index: &mut [u8], k: usize, page: PageOffset, head: Page, entrie
     with_entries(index, k, page, head.count as usize, entries);
 }
 
-// The page beyond, if there is one, gets a new left neighbour.
+// The page at `beyond`, if it is a page, gets the left neighbour `new`.
 fn link_beyond(index: &mut [u8], beyond: PageOffset, new: PageOffset)
     ensures { λ _. ⌜ now (index .exit) ≡ linkBeyond (now (index .entry)) (beyond .0) (new .0) ⌝ }
 {
@@ -127,7 +127,7 @@ fn link_beyond(index: &mut [u8], beyond: PageOffset, new: PageOffset)
     }
 }
 
-// Splits a page that is to have `count` entries, held in a byte string: the lower half stays, rounded up, and the rest go to a new page.
+// Splits a page that gets `count` entries, held in the bytes `entries`: it keeps the lower half, rounded up; the rest go to a new page at `new`.
 pub fn split_page(
     index: &mut [u8],
     k: usize,
@@ -157,7 +157,7 @@ pub fn split_page(
     new_page(index, k, new, upper, &entries[cut..]);
 }
 
-// How many entries are read of a page, in a file as long as the buffer.
+// How many entries a page has, in a file as long as the buffer.
 pub fn entry_count(index: &[u8], k: usize, page: PageOffset) -> usize
     requires { ⌜ k ≤ maxKey ⌝ }
     ensures { λ r. ⌜ r ≡ length (itemsIn k (now (index .entry)) (page .0)) ⌝ }
@@ -165,7 +165,7 @@ pub fn entry_count(index: &[u8], k: usize, page: PageOffset) -> usize
     page::entry_count(index, k, index.len(), page)
 }
 
-// The number of the entry that a key goes under: the first at or above it, or the last.
+// The number of the entry that `key` goes under: the first at or above `key`, or the last.
 fn chosen_entry(index: &[u8], key: &[u8], page: PageOffset, count: usize) -> usize
     requires { ⌜ Listed (now index) (length (now key)) (page .0) count × (1 ≤ count) ⌝ }
     ensures { λ r. ⌜ (r ≡ chosenAt (now (key .entry)) (itemsIn (length (now (key .entry))) (now (index .entry)) (page .0))) × (r < count) ⌝ }
@@ -177,7 +177,7 @@ fn chosen_entry(index: &[u8], key: &[u8], page: PageOffset, count: usize) -> usi
     i
 }
 
-// The child that a key goes under.
+// The child that `key` goes under; 0, which is no page's offset, if the page has no entries.
 pub fn chosen_child(index: &[u8], key: &[u8], page: PageOffset) -> PageOffset
     requires { ⌜ (length (now key) ≤ maxKey) × (isPage (length (now index)) (page .0) ≡ true) ⌝ }
     ensures { λ r. ⌜ r .0 ≡ childOf (chosen (now (key .entry)) (itemsIn (length (now (key .entry))) (now (index .entry)) (page .0))) ⌝ }
@@ -194,7 +194,7 @@ pub fn chosen_child(index: &[u8], key: &[u8], page: PageOffset) -> PageOffset
     )
 }
 
-// Raises the last key of a page to a key that is above all of them.
+// Raises the last key of a page to `key` if `key` is above all keys of the page.
 pub fn raise_key(index: &mut [u8], key: &[u8], page: PageOffset)
     requires { ⌜ (length (now key) ≤ maxKey) × (isPage (length (now index)) (page .0) ≡ true) ⌝ }
     ensures { λ _. ⌜ now (index .exit) ≡ raised (length (now (key .entry))) (now (index .entry)) (now (key .entry)) (page .0) ⌝ }
@@ -208,7 +208,7 @@ pub fn raise_key(index: &mut [u8], key: &[u8], page: PageOffset)
     }
 }
 
-// Copies the entries of a page from one number up to another.
+// Copies the entries of a page from entry `first` on, up to but without entry `end`.
 fn copy_entries(
     to: &mut [u8],
     at: usize,
@@ -226,7 +226,7 @@ fn copy_entries(
     octets::copy_in(to, at, &index[from..upto]);
 }
 
-// Copies entry i's key.
+// Copies the key of entry `i`.
 fn copy_key(to: &mut [u8], at: usize, index: &[u8], k: usize, page: PageOffset, i: usize)
     requires { ⌜ Within (now index) k (page .0) (i + 1) × (at + k ≤ length (now to)) ⌝ }
     ensures { λ _. ⌜ now (to .exit) ≡ put (now (to .entry)) at (keyAt (now (index .entry)) k (page .0) i) ⌝ }
@@ -236,7 +236,7 @@ fn copy_key(to: &mut [u8], at: usize, index: &[u8], k: usize, page: PageOffset, 
     octets::copy_in(to, at, &index[from..upto]);
 }
 
-// Copies the four bytes of entry i's number.
+// Copies the four bytes of the number of entry `i`.
 fn copy_number(to: &mut [u8], at: usize, index: &[u8], k: usize, page: PageOffset, i: usize)
     requires { ⌜ Within (now index) k (page .0) (i + 1) × (at + 4 ≤ length (now to)) ⌝ }
     ensures { λ _. ⌜ now (to .exit) ≡ put (now (to .entry)) at (window (now (index .entry)) (entryOffset k (page .0) i + k) 4) ⌝ }
@@ -246,7 +246,7 @@ fn copy_number(to: &mut [u8], at: usize, index: &[u8], k: usize, page: PageOffse
     octets::copy_in(to, at, &index[from..upto]);
 }
 
-// Copies the last key of a page, or a given key where the page has none.
+// Copies the last key of a page, or `key` if the page has no entries.
 pub fn copy_last_key(to: &mut [u8], at: usize, index: &[u8], key: &[u8], page: PageOffset)
     requires { ⌜ (length (now key) ≤ maxKey) × (at + length (now key) ≤ length (now to)) ⌝ }
     ensures { λ _. ⌜ now (to .exit) ≡ put (now (to .entry)) at
@@ -260,7 +260,7 @@ pub fn copy_last_key(to: &mut [u8], at: usize, index: &[u8], key: &[u8], page: P
     copy_key(to, at, index, key.len(), page, count - 1);
 }
 
-// Copies the larger of entry i's key and a key.
+// Copies the larger of the key of entry `i` and `key`.
 fn copy_larger_key(to: &mut [u8], at: usize, index: &[u8], key: &[u8], page: PageOffset, i: usize)
     requires { ⌜ Within (now index) (length (now key)) (page .0) (i + 1) × (at + length (now key) ≤ length (now to)) ⌝ }
     ensures { λ _. ⌜ now (to .exit) ≡ put (now (to .entry)) at
@@ -273,7 +273,7 @@ fn copy_larger_key(to: &mut [u8], at: usize, index: &[u8], key: &[u8], page: Pag
     copy_key(to, at, index, key.len(), page, i);
 }
 
-// Gathers the entries of a leaf with one pair more.
+// Gathers the entries of a leaf with one more: `key` with its record number.
 pub fn gather_pair(
     room: &mut [u8],
     index: &[u8],
@@ -295,7 +295,7 @@ pub fn gather_pair(
     copy_entries(room, at + k + 4, index, k, page, i, count);
 }
 
-// Gathers the entries of a page above one that was split: two for the one that the key goes under.
+// Gathers the entries of a page whose child at `child` was split: two, for `child` and for `new`, in the place of the one that `key` goes under.
 pub fn gather_two(
     room: &mut [u8],
     index: &[u8],
@@ -322,7 +322,7 @@ pub fn gather_two(
     copy_entries(room, next + k + 4, index, k, page, i + 1, count);
 }
 
-// Gathers the entries of a new root.
+// Gathers the entries of a new root: one for `old` and one for `new`.
 pub fn gather_root(room: &mut [u8], index: &[u8], key: &[u8], old: PageOffset, new: PageOffset)
     requires { ⌜ (length (now key) ≤ maxKey) × (roomSize ≤ length (now room)) ⌝ }
     ensures { λ _. ⌜ now (room .exit) ≡ put (now (room .entry)) 0

@@ -38,11 +38,11 @@ use Rattle.layout.specs.ItemLaws.{Fit, length-encode, length-items, items-encod
 abbrev pub entriesIn : ℕ → List ℕ → Store (List ℕ)
 entriesIn k b p = map numbered (itemsIn k b p)
 
--- a page of a buffer is one of every buffer as long
+-- a page of a buffer is a page of every buffer of its length
 pub page-of : {m n : ℕ} (p : ℕ) → m ≡ n → isPage n p ≡ true → isPage m p ≡ true
 page-of p e t = ap (λ (l : ℕ). isPage l p) e ∙ t
 
--- a store into the page at x leaves the bytes of the page at z
+-- a store into the page at x keeps the bytes of the page at z
 module _ (b : List ℕ) (x at : ℕ) (ys : List ℕ) (hx : x % pageSize ≡ 0) (low : x ≤ at) (high : at + length ys ≤ x + pageSize) (z : ℕ)
     (hz : z % pageSize ≡ 0) (ne : z ≡ x → ⊥) where
   pub window-other : (i n : ℕ) → z ≤ i → i + n ≤ z + pageSize → window (put b at ys) i n ≡ window b i n
@@ -58,7 +58,7 @@ module _ (k : ℕ) where
       (λ t. rw (e, t, le16-same b′ b (z + 2) (f t), g t))
       (λ t. rw (e, t))
 
-  -- a store into the page at x leaves the entries of the others
+  -- a store into the page at x keeps the entries of all other pages
   items-other : (b : List ℕ) (x at : ℕ) (ys : List ℕ) → x % pageSize ≡ 0 → x ≤ at → at + length ys ≤ x + pageSize → (z : ℕ) → (z ≡ x → ⊥)
       → itemsIn k (put b at ys) z ≡ itemsIn k b z
   items-other b x at ys hx low high z ne =
@@ -67,14 +67,14 @@ module _ (k : ℕ) where
       items-cong b (put b at ys) z (length-put b at ys) (λ t. clear t (z + 2) 2 (omega arith) (omega arith))
       (λ t. clear t (z + entriesStart) entryArea (omega arith) (omega arith))
 
-  -- a store into a page's attribute, into its links or into the header leaves all entries
-  pub entries-attribute : (b : List ℕ) (x : ℕ) (ys : List ℕ) → x % pageSize ≡ 0 → length ys ≤ 2 → entriesIn k (put b x ys) ≡ entriesIn k b
+  -- a store into a page's attribute, into its links or into the header keeps all entries
+  entries-attribute : (b : List ℕ) (x : ℕ) (ys : List ℕ) → x % pageSize ≡ 0 → length ys ≤ 2 → entriesIn k (put b x ys) ≡ entriesIn k b
   entries-attribute b x ys hx l = fun-ext (λ z. ap (map numbered) (either (eqb z x)
       (λ e. rw (eqb-true z x e) (items-cong b (put b x ys) x (length-put b x ys)
       (λ t. window-after b x ys (x + 2) 2 (omega arith)) (λ t. window-after b x ys (x + entriesStart) entryArea (omega arith))))
       (λ e. items-other b x x ys hx (omega arith) (omega arith) z (eqb-false z x e))))
 
-  pub entries-links : (b : List ℕ) (x at : ℕ) (ys : List ℕ) → x % pageSize ≡ 0 → x + 4 ≤ at → at + length ys ≤ x + entriesStart
+  entries-links : (b : List ℕ) (x at : ℕ) (ys : List ℕ) → x % pageSize ≡ 0 → x + 4 ≤ at → at + length ys ≤ x + entriesStart
       → entriesIn k (put b at ys) ≡ entriesIn k b
   entries-links b x at ys hx low high = fun-ext (λ z. ap (map numbered) (either (eqb z x)
       (λ e. rw (eqb-true z x e) (items-cong b (put b at ys) x (length-put b at ys)
@@ -209,7 +209,7 @@ module _ (k : ℕ) where
       ∙ ap (λ (S : Store (List ℕ)). write S q (map numbered (drop m es))) lower
 
 -- entries whose last key is raised
-abbrev pub lastTo : List ℕ → List Item → List Item
+abbrev lastTo : List ℕ → List Item → List Item
 lastTo key [] = []
 lastTo key (x ∷ []) = (key, x .1) ∷ []
 lastTo key (x ∷ y ∷ ys) = x ∷ lastTo key (y ∷ ys)
@@ -264,7 +264,7 @@ module _ (k : ℕ) where
       (λ e. rw e (length-put b (entryOffset k p (length (itemsIn k b p) - 1)) key))
       (λ e. rw e)
 
-  pub items-read : (b : List ℕ) (p : ℕ) → isPage (length b) p ≡ true → itemsIn k b p ≡ items k (readCount k b p) (window b (p + entriesStart) entryArea)
+  items-read : (b : List ℕ) (p : ℕ) → isPage (length b) p ≡ true → itemsIn k b p ≡ items k (readCount k b p) (window b (p + entriesStart) entryArea)
   unfolding itemsAt
   items-read b p t = rw t
 
@@ -289,7 +289,7 @@ module _ (k : ℕ) where
       )
       (items-last key m w lk (rw (length-window b (p + entriesStart) entryArea (omega (arith, is-page (length b) p t .high))) fits))
 
-  -- where no page splits below it, a page has the larger key in the place of the one gone through
+  -- if no page splits below it, a page has the larger key in the place of the key gone through
   pub entries-raised : (b key : List ℕ) (p : ℕ) → isPage (length b) p ≡ true → length key ≡ k
       → entriesIn k (raised k b key p) ≡ write (entriesIn k b) p (map numbered (replaced key (raise key) (itemsIn k b p)))
   unfolding raised

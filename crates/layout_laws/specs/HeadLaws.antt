@@ -34,12 +34,12 @@ pub record Head (b : List ℕ) (z attribute count left right : ℕ) : Type 0 whe
   pub leftIs : leftAt b z ≡ left
   pub rightIs : rightAt b z ≡ right
 
--- in a buffer b′ it is as in b
+-- the head of the page at z is the same in b′ as in b
 abbrev pub SameHead : List ℕ → List ℕ → ℕ → Type 0
 SameHead b b′ z = Head b′ z (attributeAt b z) (countAt b z) (leftAt b z) (rightAt b z)
 
 module _ (b : List ℕ) (x : ℕ) (tx : isPage (length b) x ≡ true) (z : ℕ) (tz : isPage (length b) z ≡ true) where
-  -- a store into the page at x leaves bytes of the page at z: that is another page, or they stand before or after what is stored
+  -- a store into the page at x keeps bytes of the page at z, if z is another page or the bytes stand before or after the store
   kept : (at : ℕ) (ys : List ℕ) (i m : ℕ) → x ≤ at → at + length ys ≤ x + pageSize → z ≤ i → i + m ≤ z + pageSize
       → (z ≡ x → (i + m ≤ at) ⊎ (at + length ys ≤ i)) → window (put b at ys) i m ≡ window b i m
   kept at ys i m l1 l2 l3 l4 apart = either (eqb z x)
@@ -129,14 +129,14 @@ module _ (b : List ℕ) (x : ℕ) (tx : isPage (length b) x ≡ true) (z : ℕ) 
         rightIs = stored32 (x + 8) (z + 8) r h (omega arith) (omega arith) (omega arith);
       }
 
--- the file's header is a page that no store into another touches
+-- a store behind the file's header keeps the header
 abbrev pub SameHeader : List ℕ → List ℕ → Type 0
 SameHeader b b′ = window b′ 0 pageSize ≡ window b 0 pageSize
 
 put-outside : (b : List ℕ) (at : ℕ) (ys : List ℕ) → pageSize ≤ at → SameHeader b (put b at ys)
 put-outside b at ys h = window-before b at ys 0 pageSize (omega arith)
 
--- and a store into it touches no page
+-- a store into the file's header keeps the head of every page
 pub put-header : (b : List ℕ) (at : ℕ) (ys : List ℕ) → at + length ys ≤ pageSize → (z : ℕ) → isPage (length b) z ≡ true → SameHead b (put b at ys) z
 put-header b at ys h z t =
     let g = is-page (length b) z t .low in
@@ -221,7 +221,7 @@ module _ (k : ℕ) where
     unfolding newPage
     new-header = put-outside b q _ (is-page (length b) q tq .low)
 
-  -- the page beyond
+  -- the page beyond, at r, gets q for its left neighbour
   module _ (b : List ℕ) (r q : ℕ) (q32 : q < 2 ^ 32) where
     beyond-head : (z : ℕ) → isPage (length b) z ≡ true → Head (linkBeyond b r q) z (attributeAt b z) (countAt b z) (cond (eqb z r) q (leftAt b z)) (rightAt b z)
     unfolding linkBeyond
@@ -235,7 +235,7 @@ module _ (k : ℕ) where
         (λ e. rw e (put-outside b (r + 4) (toLe32 q) (omega (arith, is-page (length b) r e .low))))
         (λ e. rw e)
 
-  -- a page at p that is split, the new page at q: neither has the root bit, and q stands between p and the page beyond
+  -- the page at p is split, with the new page at q: neither has the root bit, and q stands between p and the page beyond
   module _ (b : List ℕ) (p : ℕ) (es : List Item) (q : ℕ) (tp : isPage (length b) p ≡ true) (tq : isPage (length b) q ≡ true) (ne : p ≡ q → ⊥)
       (f : All (Fit k) es) (two : 1 < capacity k) (few : length es ≤ suc (capacity k)) (p32 : p < 2 ^ 32) (q32 : q < 2 ^ 32)
       (a16 : attributeAt b p < 2 ^ 16) (r32 : rightAt b p < 2 ^ 32) where

@@ -1,2 +1,6 @@
+-- The stores that write a page or the header: laws.
+
+-- Laws: the entries of every page after each store
 pub mod EntryLaws
+-- Laws: the head of every page, and the file's header, after each store
 pub mod HeadLaws

@@ -1,4 +1,4 @@
--- Laws: the refusals before the audit, one by one; what is known once there is none; and the answers of the match. Cited by the proofs of the match's calls.
+-- Laws: the refusals before the audit, one by one; what is known if there is none; the answers of the match. The proofs of the match's calls cite them.
 -- Assumes nothing.
 use Prim.Native.Nat.{ℕ, _-_, _≤_}
 use mathlib.Core.Path.{_≡_, refl, sym, ap, _∙_}

@@ -16,7 +16,7 @@ use Rattle.table.specs.RecordLaws.{field-inside, records-next, offset-positive}
 use Rattle.field.specs.Field.{numberGood}
 use Rattle.field.specs.FieldLaws.{number-range}
 use Rattle.cell.specs.Cell.{fieldStart, fieldBytes}
-use Rattle.cell.specs.HeaderLaws.{SameHeader, checks-same, count-same, fields-same, end-same, type-same, width-same, offset-same}
+use Rattle.table.specs.HeaderLaws.{SameHeader, checks-same, count-same, fields-same, end-same, type-same, width-same, offset-same}
 use Rattle.cell.specs.MarkLaws.{withMark, first-same, same-header}
 use Rattle.page.specs.Header.{headerGood}
 use Rattle.sound.specs.Sound.{leafPairs}

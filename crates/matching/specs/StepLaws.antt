@@ -32,9 +32,9 @@ use Rattle.matching.specs.Rule.{entryAt, columnBytes, entryGood, entries
 
 -- ---- one entry
 
--- a part of the table by its start and its end
-abbrev pub part : List ℕ → ℕ → ℕ → List ℕ
-part t at n = take (at + n - at) (drop at t)
+-- the bytes from `at` to `at + n`, as a slice by its start and its end takes them
+abbrev pub sliced : List ℕ → ℕ → ℕ → List ℕ
+sliced t at n = take (at + n - at) (drop at t)
 
 module _ (t : List ℕ) (c : Column) (number : ℕ) where
   pub entry-outside : (b : List ℕ) (p i : ℕ) → number ≡ numberAt b (c .length) p i → numberGood number (c .records) ≡ false
@@ -48,11 +48,11 @@ module _ (t : List ℕ) (c : Column) (number : ℕ) where
     unfolding recordStart
     field-inside = omega (arith, column .inside number h)
 
-    pub field-length : length (part t (start + c .offset) (c .length)) ≡ c .length
+    pub field-length : length (sliced t (start + c .offset) (c .length)) ≡ c .length
     field-length = rw (part-window t (start + c .offset) (c .length)) (length-window t (start + c .offset) (c .length) field-inside)
 
     pub entry-compared : (b : List ℕ) (p i : ℕ) (o : Ordering) (r : Bool) → number ≡ numberAt b (c .length) p i
-        → o ≡ ordering (keyAt b (length (part t (start + c .offset) (c .length))) p i) (part t (start + c .offset) (c .length))
+        → o ≡ ordering (keyAt b (length (sliced t (start + c .offset) (c .length))) p i) (sliced t (start + c .offset) (c .length))
         → r ≡ isEqual o → r ≡ entryGood t c (entryAt b (c .length) p i)
     unfolding entryGood columnBytes recordStart
     entry-compared b p i o r en eo er =

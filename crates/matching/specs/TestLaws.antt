@@ -50,7 +50,7 @@ module _ (f : ℕ → List ℕ) where
   none-later e [] o os v = refl
   none-later e (x ∷ es) o os v = rw (ne-eqb (e .1) (x .1) (own-differ e x o (os .0) (v .0))) (omega (arith, none-later e es o (os .1) (v .1)))
 
-  pub at-most-once : (es : Entries) → All (λ e. e .0 ≡ f (e .1)) es → Ascending bytesOrder es → (i : ℕ) → occ i (numbers es) ≤ 1
+  at-most-once : (es : Entries) → All (λ e. e .0 ≡ f (e .1)) es → Ascending bytesOrder es → (i : ℕ) → occ i (numbers es) ≤ 1
   at-most-once [] os a i = omega arith
   at-most-once (e ∷ es) os a i = either (eqb i (e .1))
       (λ q. let z : occ i (numbers es) ≡ 0 = rw (eqb-true i (e .1) q) (none-later e es (os .0) (os .1) (a .0)) in rw q (omega arith))

@@ -1,4 +1,4 @@
--- Rules: the FPT memo file, document 01, "Field text", paragraph M, with refusals 21 to 23 in the paper's order.
+-- Rules: the FPT memo file, document 01, "Field text", paragraph M, with refusals 21 to 23 in the paper's order. Cited by `memo_place`.
 use Prim.Native.Nat.{ℕ, _+_, _*_, _%_, _≤_}
 use mathlib.Core.Path.{_≡_}
 use mathlib.Core.Logic.{_↔_}
@@ -20,7 +20,7 @@ memoHeaderBytes = 512
 abbrev pub maxMemoBytes : ℕ
 maxMemoBytes = 16777216
 
--- what follows the blanks: nothing, or "digits .., no leading zero, at least 1", so that the first is above `0`
+-- behind the blanks stands nothing, or "digits .., no leading zero, at least 1": the first digit is above `0`
 unfoldable pub digitsNumber : List ℕ → MemoNumber
 digitsNumber [] = Blank
 digitsNumber (c ∷ s) = cond (ltb zeroDigit c && every isDigit (c ∷ s)) (Number (numberOf (c ∷ s))) Bad
@@ -63,20 +63,20 @@ headFits file start = leb memoHeaderBytes start && leb (start + 8) (length file)
 abbrev pub endFits : List ℕ → ℕ → Bool
 endFits file end = leb end (length file) && leb end (nextFree file * blockSize file)
 
--- and that end is "start + 8 + length"
+-- both, the text's end being "start + 8 + length"
 unfoldable pub placeGood : List ℕ → ℕ → Bool
 placeGood file start = headFits file start && endFits file (start + 8 + textLength file start)
 
--- the block that starts there: 21 for its place, then 23 for its type; else where its text starts, and its length
+-- the block at `start`: 21 for its place, then 23 for its type; else where its text starts, and its length
 unfoldable pub blockText : List ℕ → ℕ → MemoPlace
 blockText file start =
     cond (placeGood file start) (cond (isText file start) (Text (start + 8) (textLength file start)) (Refused 23)) (Refused 21)
 
--- the block of a number: 22 for the header, then the block
+-- the memo with this number: 22 for the header, then its block
 unfoldable pub numberedText : List ℕ → ℕ → MemoPlace
 numberedText file number = cond (memoHeaderGood file) (blockText file (blockStart file number)) (Refused 22)
 
--- by what the number's text says; an empty field does not look at the file
+-- the answer by what the M field's text says; an empty field does not look at the file
 unfoldable pub readText : List ℕ → MemoNumber → MemoPlace
 readText file Bad = Refused 21
 readText file Blank = Empty
@@ -88,19 +88,19 @@ memoText text file = readText file (memoNumber text)
 
 -- ---- the answer as document 01 counts it
 
--- the number of an answer: 0 with a text's place, 256 for an empty field, or the refusal's
+-- an answer's number: 0 for a text's place, 256 for an empty field, or the refusal's
 abbrev pub memoPlaceCode : MemoPlace → ℕ
 memoPlaceCode (Text start len) = 0
 memoPlaceCode Empty = 256
 memoPlaceCode (Refused n) = n
 
--- its values: where the text starts, and its length; "A refusal answers its number alone"
+-- an answer's values: where the text starts, and its length; "A refusal answers its number alone"
 abbrev pub memoPlaceValues : MemoPlace → List ℕ
 memoPlaceValues (Text start len) = start ∷ len ∷ []
 memoPlaceValues Empty = []
 memoPlaceValues (Refused n) = []
 
--- what `memo_place` answers: the case; 0 exactly with a part of the file as the values; 256 exactly for ten blanks
+-- what `memo_place` answers: the case; 0 exactly if the values are a part of the file; 256 exactly for ten blanks
 pub record MemoAnswer (text file : List ℕ) (r : MemoPlace) : Type 0 where
   pub case : r ≡ memoText text file
   pub accepted : (memoPlaceCode r ≡ 0) ↔ ((part : ℕ × ℕ) × (memoPlaceValues r ≡ part .0 ∷ part .1 ∷ []) × (part .0 + part .1 ≤ length file))

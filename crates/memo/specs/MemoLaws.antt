@@ -1,5 +1,4 @@
--- Laws: products that fit, the tests of a memo's place one after another, that every text handed out lies in the file, and what an answer's number says.
--- Assumes nothing.
+-- Laws: products that fit, a memo's place test by test, every text handed out lies in the file, and what an answer's number says. Assumes nothing.
 use mathlib.Core.Path.{_≡_, refl, sym, _∙_}
 use mathlib.Core.Bool.{true, false}
 use mathlib.Core.List.{List, [], _∷_}
@@ -8,36 +7,35 @@ use native.Mathlib.Nat.{mul-le-mul}
 use native.Mathlib.Omega.{arith}
 use lib.ListN.{length}
 use borrow.Author.Tests.{leb-true, ne-eqb}
-use Rattle.basis.specs.Tests.{either, both}
+use Rattle.basis.specs.Tests.{either, both, first-arm, impossible}
 use Rattle.octets.specs.Bytes.{be32}
 use Rattle.memo.specs.declared.MemoNumber.{MemoNumber}
 use Rattle.memo.specs.declared.MemoNumber.the-variants.{Blank, Bad, Number}
 use Rattle.memo.specs.declared.MemoPlace.{MemoPlace}
 use Rattle.memo.specs.declared.MemoPlace.the-variants.{Text, Empty, Refused}
-use Rattle.memo.specs.TestLaws.{first-arm}
 use Rattle.memo.specs.Memo.{memoHeaderBytes, memoNumber, memoHeaderGood, headFits, endFits, placeGood, isText, textLength}
 use Rattle.memo.specs.Memo.{blockText, blockStart, numberedText, readText, memoText, MemoAnswer}
 
--- a number of blocks, of ten digits or four bytes, times a block size of two bytes: there is room for 8 more in 64 bits
+-- a number of ten digits or four bytes, times a block size of two bytes, leaves room for 8 more in 64 bits
 pub bytes-fit : (n size : ℕ) → n < 2 ^ 34 → size < 2 ^ 16 → n * size + 8 < 2 ^ 64
 bytes-fit n size h l =
     let m : n ≤ 2 ^ 34 = omega arith in
     let k : size ≤ 2 ^ 16 = omega arith in
     let p : n * size ≤ 2 ^ 34 * 2 ^ 16 = mul-le-mul m k in omega arith
 
--- a file with a good header has one
+-- a file with a good header has 512 bytes
 pub header-long : (file : List ℕ) → memoHeaderGood file ≡ true → memoHeaderBytes ≤ length file
 unfolding memoHeaderGood
 header-long file e = leb-true memoHeaderBytes (length file) (both _ _ (both _ _ (both _ _ (both _ _ e .0) .0) .0) .0)
 
-pub end-inside : (file : List ℕ) (end : ℕ) → endFits file end ≡ true → end ≤ length file
+end-inside : (file : List ℕ) (end : ℕ) → endFits file end ≡ true → end ≤ length file
 end-inside file end e = leb-true end (length file) (both _ _ e .0)
 
 module _ (file : List ℕ) (start : ℕ) where
   pub head-inside : headFits file start ≡ true → (memoHeaderBytes ≤ start) × (start + 8 ≤ length file)
   head-inside e = let p = both _ _ e in (leb-true memoHeaderBytes start (p .0), leb-true (start + 8) (length file) (p .1))
 
-  -- the four answers of a block, by the tests in their order
+  -- a block's four answers, by the tests in their order
   pub text-no-head : headFits file start ≡ false → blockText file start ≡ Refused 21
   unfolding blockText placeGood
   text-no-head e = rw e
@@ -55,12 +53,12 @@ module _ (file : List ℕ) (start : ℕ) where
     unfolding blockText placeGood
     text-found g h = rw (f, ← e, g, h)
 
--- an answer is one of three
+-- the three cases of an answer differ
 empty-text : (a l : ℕ) → Empty ≡ Text a l → ⊥
-empty-text a l e = let z : _≡_ {A = ℕ} 0 1 = cc in omega arith
+empty-text a l e = impossible (cc)
 
 refused-text : (k a l : ℕ) → Refused k ≡ Text a l → ⊥
-refused-text k a l e = let z : _≡_ {A = ℕ} 0 1 = cc in omega arith
+refused-text k a l e = impossible (cc)
 
 -- every text handed out lies in the file, after the header and the 8 bytes before it
 module _ (file : List ℕ) (a l : ℕ) where
@@ -84,21 +82,21 @@ module _ (file : List ℕ) (a l : ℕ) where
   unfolding memoText
   text-inside text e = read-inside (memoNumber text) e
 
--- a refusal has one of three numbers
+-- a refusal is 21, 22 or 23
 module _ (file : List ℕ) (n : ℕ) where
   block-refusal : (start : ℕ) → blockText file start ≡ Refused n → (21 ≤ n) × (n ≤ 23)
   unfolding blockText
   block-refusal start e =
       either (placeGood file start)
       (λ place. either (isText file start)
-      (λ text. let q : Text (start + 8) (textLength file start) ≡ Refused n = rw (place, text) at e in let z : _≡_ {A = ℕ} 0 1 = cc in absurd (omega arith))
+      (λ text. let q : Text (start + 8) (textLength file start) ≡ Refused n = rw (place, text) at e in impossible (cc))
       (λ other. let q : Refused 23 ≡ Refused n = rw (place, other) at e in let k : 23 ≡ n = cc in omega arith))
       (λ bad. let q : Refused 21 ≡ Refused n = rw bad at e in let k : 21 ≡ n = cc in omega arith)
 
   read-refusal : (read : MemoNumber) → readText file read ≡ Refused n → (21 ≤ n) × (n ≤ 23)
   unfolding readText numberedText
   read-refusal Bad e = let k : 21 ≡ n = cc in omega arith
-  read-refusal Blank e = let z : _≡_ {A = ℕ} 0 1 = cc in absurd (omega arith)
+  read-refusal Blank e = impossible (cc)
   read-refusal (Number k) e =
       either (memoHeaderGood file)
       (λ good. block-refusal (blockStart file k) (rw good at e))
@@ -111,9 +109,9 @@ module _ (file : List ℕ) (n : ℕ) where
 -- ---- the answer by its number
 
 refused-empty : (n : ℕ) → Refused n ≡ Empty → ⊥
-refused-empty n e = let z : _≡_ {A = ℕ} 0 1 = cc in omega arith
+refused-empty n e = impossible (cc)
 
--- only ten blanks are empty
+-- only a blank number's text is answered empty
 read-empty : (file : List ℕ) (read : MemoNumber) → readText file read ≡ Empty → read ≡ Blank
 unfolding readText numberedText blockText
 read-empty file Bad e = absurd (refused-empty 21 e)
@@ -130,9 +128,9 @@ unfolding memoText readText
 blank-empty text file r e blank = e ∙ rw blank
 
 no-values : (start len : ℕ) → [] ≡ start ∷ len ∷ [] → ⊥
-no-values start len e = let z : _≡_ {A = ℕ} 0 1 = cc in omega arith
+no-values start len e = impossible (cc)
 
--- the case decides what the number says, since a refusal is 21, 22 or 23
+-- an answer's number tells its case, since a refusal is 21, 22 or 23
 pub memo-answer : (text file : List ℕ) (r : MemoPlace) → r ≡ memoText text file → MemoAnswer text file r
 unfolding memoText
 memo-answer text file (Text start len) e = record {

@@ -1,4 +1,4 @@
--- Laws: what a memo number's text says from one place on, and the numbers that it can give. Assumes nothing.
+-- Laws: what a memo number's text says from its character i on, and the numbers that it can give. Assumes nothing.
 use mathlib.Core.Path.{_≡_, sym}
 use mathlib.Core.Bool.{_&&_}
 use mathlib.Core.List.{List, [], _∷_}
@@ -9,7 +9,7 @@ use lib.Dec.{ltb, eqb, lit<}
 use lib.ListN.{length, take, drop, length-drop, drop-of-length-le}
 use lib.Seq.{drop-cons, take-all}
 use borrow.Author.Tests.{ltb-true, lt-ltb, le-ltb, eqb-true}
-use Rattle.basis.specs.Tests.{either, both}
+use Rattle.basis.specs.Tests.{either, both, first-arm, impossible}
 use Rattle.octets.specs.Bytes.{byteAt}
 use Rattle.octets.specs.Text.{every, unpadded, zeroDigit, isDigit, numberFrom, numberOf, digitsOf, decimal}
 use Rattle.octets.specs.TextLaws.{unpadded-short}
@@ -18,7 +18,6 @@ use Rattle.octets.specs.declared.Digits.{Digits}
 use Rattle.octets.specs.declared.Digits.the-variants as digits
 use Rattle.memo.specs.declared.MemoNumber.{MemoNumber}
 use Rattle.memo.specs.declared.MemoNumber.the-variants.{Blank, Bad, Number}
-use Rattle.memo.specs.TestLaws.{first-arm}
 use Rattle.memo.specs.Memo.{digitsNumber, memoNumber}
 
 -- ---- a text from its character i on
@@ -32,12 +31,12 @@ pub number-blank : (text : List ℕ) (i : ℕ) → length text ≤ i → digitsN
 unfolding digitsNumber
 number-blank text i h = rw (drop-of-length-le)
 
--- what digits say of the number
+-- what the digits behind the blanks say
 abbrev pub ofDigits : Digits → MemoNumber
 ofDigits (digits.Number n) = Number n
 ofDigits digits.Other = Bad
 
--- the first character decides whether they are digits without a leading zero
+-- the first character behind the blanks tells a leading zero
 module _ (text : List ℕ) (i : ℕ) (h : i < length text) where
   pub number-zero : byteAt text i ≤ zeroDigit → digitsNumber (drop i text) ≡ Bad
   unfolding digitsNumber
@@ -51,19 +50,19 @@ module _ (text : List ℕ) (i : ℕ) (h : i < length text) where
 
 -- ---- the numbers
 
--- what a text says is one of three
+-- what a text says is one of three cases, which differ
 pub bad-number : (n : ℕ) → Bad ≡ Number n → ⊥
-bad-number n e = let z : _≡_ {A = ℕ} 0 1 = cc in omega arith
+bad-number n e = impossible (cc)
 
 blank-number : (n : ℕ) → Blank ≡ Number n → ⊥
-blank-number n e = let z : _≡_ {A = ℕ} 0 1 = cc in omega arith
+blank-number n e = impossible (cc)
 
--- a first digit that is not 0 makes a number that is not
+-- a number whose first digit is above 0 is at least 1
 number-some : (c : ℕ) (s : List ℕ) → zeroDigit < c → 1 ≤ numberOf (c ∷ s)
 unfolding numberOf numberFrom
 number-some c s h = omega (arith, number-least s 0 (10 * 0 + (c - zeroDigit)) (omega arith), ten-pos (0 + length s))
 
--- digits that say a number are its own
+-- digits that say n are n's decimal digits
 pub digits-said : (s : List ℕ) (n : ℕ) → digitsNumber s ≡ Number n → (1 ≤ n) × (n < 10 ^ length s) × (s ≡ decimal n)
 unfolding digitsNumber
 digits-said [] n e = absurd (blank-number n e)
@@ -74,12 +73,13 @@ digits-said (c ∷ s) n e =
     let same : numberOf (c ∷ s) ≡ n = cc in
     rw (← same) (number-some c s first, number-bound (c ∷ s) (tests .1), sym (decimal-number c s (tests .1) (λ l z. omega arith)))
 
--- what a text says that is not bad is said by ten characters
-pub number-read : (text : List ℕ) (q : MemoNumber) → (Bad ≡ q → ⊥) → memoNumber text ≡ q → (length text ≡ 10) × (digitsNumber (unpadded text) ≡ q)
+-- a text that is not bad has ten characters
+pub number-read : (text : List ℕ) (q : MemoNumber) → (Bad ≡ q → ⊥) → memoNumber text ≡ q
+    → (length text ≡ 10) × (digitsNumber (unpadded text) ≡ q)
 unfolding memoNumber
-number-read text q other e = let a = first-arm (eqb (length text) 10) other e in (eqb-true (length text) 10 (a .0), a .1)
+number-read text q other e = let ten = first-arm (eqb (length text) 10) other e in (eqb-true (length text) 10 (ten .0), ten .1)
 
--- a number read is at least 1 and has at most ten digits
+-- a number that is read is at least 1 and has at most ten digits
 pub number-between : (text : List ℕ) (n : ℕ) → memoNumber text ≡ Number n → (1 ≤ n) × (n < 10 ^ 10)
 number-between text n e =
     let read = number-read text (Number n) (bad-number n) e in

@@ -8,7 +8,7 @@ use native.Mathlib.Omega.{arith}
 use lib.Dec.{ltb, eqb}
 use lib.ListN.{length, replicate, length-append, length-replicate}
 use borrow.Author.Tests.{lt-ltb, eqb-false}
-use Rattle.basis.specs.Tests.{either, contra, both}
+use Rattle.basis.specs.Tests.{either, contra, both, impossible}
 use Rattle.octets.specs.Text.{every, blank, unpadded, zeroDigit, isDigit, numberOf, decimal}
 use Rattle.octets.specs.TextLaws.{digit-range, unpadded-digit, unpadded-blanks, unpadded-front}
 use Rattle.octets.specs.DigitLaws.{decimal-fits, decimal-digits, leads, decimal-leads, number-decimal}
@@ -16,15 +16,15 @@ use Rattle.memo.specs.declared.MemoNumber.the-variants.{Blank, Bad, Numb
 use Rattle.memo.specs.Memo.{digitsNumber, memoNumber}
 use Rattle.memo.specs.NumberLaws.{digits-said, number-read, number-between, bad-number}
 
--- a number's text in k characters: its decimal digits, and blanks on the left
+-- the text of n in k characters: blanks on the left, then its decimal digits
 unfoldable pub memoNumberText : ℕ → ℕ → List ℕ
 memoNumberText k n = replicate (k - length (decimal n)) blank ++ decimal n
 
--- ten characters are blanks and what they say
+-- ten characters are blanks, and behind them what is left without the blanks
 text-is : (text s : List ℕ) → length text ≡ 10 → unpadded text ≡ s → text ≡ replicate (10 - length s) blank ++ s
 text-is text s long e = rw (long, e) at (unpadded-front text)
 
--- digits of which the first is no zero say their number
+-- digits whose first is no zero say their number
 said-digits : (w : List ℕ) → every isDigit w ≡ true → leads w ≡ true → digitsNumber (unpadded w) ≡ Number (numberOf w)
 unfolding every leads digitsNumber
 said-digits [] e l = contra l refl
@@ -35,7 +35,7 @@ said-digits (c ∷ s) e l =
     (λ z. contra l (rw z))
     (λ z. let other = eqb-false c zeroDigit z in rw (unpadded-digit c s digit, lt-ltb zeroDigit c (omega arith), e))
 
--- so a number's text says that number
+-- so the text of n says n
 number-of : (n : ℕ) → 1 ≤ n → n < 10 ^ 10 → memoNumber (memoNumberText 10 n) ≡ Number n
 unfolding memoNumber memoNumberText
 number-of n h l =
@@ -43,7 +43,7 @@ number-of n h l =
     let long : length (memoNumberText 10 n) ≡ 10 = rw (length-append, length-replicate) (omega arith) in
     rw (long, unpadded-blanks, said-digits (decimal n) (decimal-digits n) (decimal-leads n h), number-decimal n)
 
--- a text gives n exactly where it is the one text of n, and every number of one to ten digits has that text
+-- a text says n exactly if it is the text of n, and n is from 1 to ten digits
 pub number-exactly : (text : List ℕ) (n : ℕ) → (memoNumber text ≡ Number n) ↔ ((1 ≤ n) × (n < 10 ^ 10) × (text ≡ memoNumberText 10 n))
 unfolding memoNumberText
 number-exactly text n = (
@@ -55,14 +55,14 @@ number-exactly text n = (
 )
 
 bad-blank : Bad ≡ Blank → ⊥
-bad-blank e = let z : _≡_ {A = ℕ} 0 1 = cc in omega arith
+bad-blank e = impossible (cc)
 
--- nothing is said by nothing alone
+-- a text is blank only if nothing stands behind its blanks
 nothing-said : (s : List ℕ) → digitsNumber s ≡ Blank → s ≡ []
 unfolding digitsNumber
 nothing-said [] e = refl
 nothing-said (c ∷ s) e = either (ltb zeroDigit c && every isDigit (c ∷ s))
-    (λ t. let q : Number (numberOf (c ∷ s)) ≡ Blank = rw t at e in let z : _≡_ {A = ℕ} 0 1 = cc in absurd (omega arith))
+    (λ t. let q : Number (numberOf (c ∷ s)) ≡ Blank = rw t at e in impossible (cc))
     (λ t. absurd (bad-blank (rw t at e)))
 
 -- "ten blanks is empty"

@@ -1,5 +1,4 @@
--- Laws: the whole part and the fraction of a number as it is written. Cited by the writer's proofs and by the laws between reading and writing.
--- Assumes nothing.
+-- Laws: the whole part and the fraction of a number as it is written. Assumes nothing.
 use mathlib.Core.Path.{_≡_, refl}
 use mathlib.Core.Bool.{true, _||_, not}
 use mathlib.Core.List.{List, [], _∷_, _++_}
@@ -17,7 +16,7 @@ use Rattle.octets.specs.DigitLaws.{ten-pos, decimal-some, decimal-fits, decimal
 use Rattle.octets.specs.DigitLaws.{number-div, last-number, decimal-number}
 use Rattle.numeral.specs.Reading.{wholeGood}
 
--- the digits before the last d: all but d of them, and one at least
+-- the digits before the last d: all but d digits of n, and one at least
 module _ (n d : ℕ) where
   shift-fits : (k : ℕ) → 1 ≤ k → (length (decimal (n / 10 ^ d)) ≤ k) ↔ (length (decimal n) ≤ k + d)
   shift-fits k h =
@@ -54,18 +53,18 @@ decimal-good (suc n) = leads-good (decimal (suc n)) (decimal-digits (suc n)) (de
 
 -- ---- the number that they stand for, and back
 
--- the digits of a number, d of them behind the point
+-- the written digits of n, d of them behind the point, stand for n
 pub number-written : (n d : ℕ) → numberOf (decimal (n / 10 ^ d) ++ lastDigits d n) ≡ n
 number-written n d = rw (number-after (decimal (n / 10 ^ d)), number-lastDigits, number-decimal (n / 10 ^ d)) (div-add-mod' n (10 ^ d))
 
-pub decimal-whole : (w : List ℕ) → wholeGood w ≡ true → decimal (numberOf w) ≡ w
+decimal-whole : (w : List ℕ) → wholeGood w ≡ true → decimal (numberOf w) ≡ w
 unfolding wholeGood
 decimal-whole [] e = contra e refl
 decimal-whole (c ∷ s) e =
     let h = both (every isDigit (c ∷ s)) (not (eqb c zeroDigit) || eqb (length s) 0) e in
     decimal-number c s (h .0) (λ l z. contra (h .1) (rw (eq-eqb c zeroDigit z, ne-eqb (length s) 0 (omega arith))))
 
--- the digits of a number as it is written, d of them behind the point
+-- and a whole part and d digits behind the point are the written digits of their number
 pub digits-back : (w f : List ℕ) (d : ℕ) → wholeGood w ≡ true → every isDigit f ≡ true → length f ≡ d
     → (decimal (numberOf (w ++ f) / 10 ^ d) ≡ w) × (lastDigits d (numberOf (w ++ f)) ≡ f)
 digits-back w f d a b e = rw (number-after w f, ← e) (rw (number-div (numberOf w) f b) (decimal-whole w a), last-number (numberOf w) f b)

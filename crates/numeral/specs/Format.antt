@@ -1,4 +1,5 @@
--- Rules: the width and the decimal count of a numeric field, and the characters of its text. Cited by the table's checks and by both numeric calls.
+-- Rules: the width and the decimal count of a numeric field, and the characters of its text. Cited by `format_good`, the table's checks, `read_number` and
+-- `write_number`.
 use Prim.Native.Nat.{ℕ, _+_}
 use mathlib.Core.Bool.{Bool, _&&_, _||_}
 use lib.Dec.{eqb, leb}
@@ -11,7 +12,7 @@ maxWidth = 20
 abbrev pub maxDecimals : ℕ
 maxDecimals = 15
 
--- "at most 18 digits in all", so the largest value is one less than this
+-- "At most 18 digits in all"
 abbrev pub maxDigits : ℕ
 maxDigits = 18
 
@@ -21,7 +22,7 @@ formatGood width decimals =
     leb 1 width && leb width maxWidth
     && (eqb decimals 0 || leb 1 decimals && leb decimals maxDecimals && leb (decimals + 2) width)
 
--- the characters that numeric text is made of, beside blanks and digits
+-- the characters of numeric text beside blanks and digits, and the comma, which it may not have
 abbrev pub comma : ℕ
 comma = 0x2C
 

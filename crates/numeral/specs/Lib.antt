@@ -1,9 +1,20 @@
+-- Numeric text.
+
+-- Rules: the widths and decimal counts of numeric fields, and the characters of their texts
 pub mod Format
+-- Rules: what a numeric text means
 pub mod Reading
+-- Rules: the one text of a value
 pub mod Writing
+-- Steps: the reader's states, character by character
 pub mod Scan
+-- Laws: the parts of a numeric text; its digits and their number; when 6 and 16 are given
 pub mod ReadingLaws
+-- Laws: the reader's states end in what the text means
 pub mod ScanLaws
+-- Laws: the whole part and the fraction of a number as it is written
 pub mod DigitLaws
+-- Laws: the writer's stores leave the written text, and its answers come in their order
 pub mod WritingLaws
+-- Laws: demand 2, the grammar of numeric text
 pub mod TextLaws

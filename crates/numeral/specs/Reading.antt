@@ -1,4 +1,5 @@
--- Rules: what a numeric text means. `readNumber` is what `read_number` answers, in document 01's order: 6, empty, 16, 17, 18, the value.
+-- Rules: what a numeric text means. `readNumber` is what `read_number` answers, in document 01's order: 6, empty, 16, 17, 18, the value. Cited by
+-- `read_number`.
 use Prim.Native.Nat.{ℕ, zero, suc}
 use mathlib.Core.Bool.{Bool, true, false, _&&_, _||_, not}
 use mathlib.Core.List.{List, [], _∷_, _++_}
@@ -10,12 +11,12 @@ use Rattle.numeral.specs.Format.{formatGood, maxDigits, comma, minus, po
 use Rattle.numeral.specs.declared.Number.{Number}
 use Rattle.numeral.specs.declared.Number.the-variants.{Value, Empty, Refused}
 
--- some character passes a test
+-- some character passes the test p
 unfoldable pub some : (ℕ → Bool) → List ℕ → Bool
 some p [] = false
 some p (c ∷ s) = p c || some p s
 
--- the text without the characters at its front that pass a test, and those characters
+-- the text without the characters at its front that pass the test p, and those characters
 unfoldable pub after : (ℕ → Bool) → List ℕ → List ℕ
 after p [] = []
 after p (c ∷ s) = elim (p c) [ true ↦ after p s | false ↦ c ∷ s ]
@@ -33,7 +34,7 @@ unfoldable pub withoutMinus : List ℕ → List ℕ
 withoutMinus [] = []
 withoutMinus (c ∷ s) = elim (eqb c minus) [ true ↦ s | false ↦ c ∷ s ]
 
--- "a whole part without needless leading zero": digits, of which the first is no zero unless it is the only one
+-- "a whole part without needless leading zero": digits, and the first is no zero unless it is the only one
 unfoldable pub wholeGood : List ℕ → Bool
 wholeGood [] = false
 wholeGood (c ∷ s) = every isDigit (c ∷ s) && (not (eqb c zeroDigit) || eqb (length s) 0)
@@ -44,7 +45,7 @@ fractionGood zero s = eqb (length s) 0
 fractionGood (suc d) [] = false
 fractionGood (suc d) (c ∷ s) = eqb c point && every isDigit s && eqb (length s) (suc d)
 
--- the digits of a text whose sign is gone: those of the whole part and those after the point
+-- the digits of a text without its sign: the whole part's, and those behind the point
 unfoldable pub wholePart : List ℕ → List ℕ
 wholePart s = front isDigit s
 

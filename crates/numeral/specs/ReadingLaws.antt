@@ -1,5 +1,4 @@
--- Laws: the parts of a numeric text, that the number of its digits shows in their number, and when a text is refused with 6 or 16.
--- Assumes nothing.
+-- Laws: the parts of a numeric text, the count of its digits shows in their number, and when 6 and 16 are given. Assumes nothing.
 use Prim.Native.Nat.{ℕ, zero, suc, _+_, _*_, _-_, _^_, _≤_, _<_}
 use mathlib.Core.Path.{_≡_, refl, sym, _∙_}
 use mathlib.Core.Bool.{Bool, true, false, _&&_, _||_, not, and-true, and-false, and-assoc}
@@ -30,7 +29,7 @@ format-decimals width d e =
     let tests = both (leb 1 d && leb d maxDecimals) (leb (d + 2) width) (rw f at (parts .1)) in
     leb-true _ _ (both (leb 1 d) (leb d maxDecimals) (tests .0) .1))
 
--- a text without a comma has none at its first character, nor behind it
+-- the first character of a text without a comma is none, and behind it is none
 pub no-comma : (c : ℕ) (s : List ℕ) → some (eqb comma) (c ∷ s) ≡ false → (eqb comma c ≡ false) × (some (eqb comma) s ≡ false)
 unfolding some
 no-comma c s e = either (eqb comma c) (λ f. contra (rw f) e) (λ f. (f, rw f at e))
@@ -74,7 +73,7 @@ pub zero-needless : (c : ℕ) (w : List ℕ) → wholeGood (zeroDigit ∷ c ∷ 
 unfolding wholeGood
 zero-needless c w = rw (eqb·suc-zero (length w)) (and-false (every isDigit (zeroDigit ∷ c ∷ w)))
 
--- any digits may follow another digit
+-- any digits may follow a first digit that is no zero
 pub digits-whole : (c : ℕ) (w : List ℕ) → isDigit c ≡ true → eqb c zeroDigit ≡ false → every isDigit w ≡ true → wholeGood (c ∷ w) ≡ true
 unfolding wholeGood every
 digits-whole c w e f g = rw (e, f, g)
@@ -90,7 +89,7 @@ unfolding fractionGood
 fraction-point zero c s = rw (eqb·suc-zero (length s), and-false (eqb c point))
 fraction-point (suc d) c s = rw (le-leb 1 (suc d) (omega arith), and-true (eqb c point)) (and-assoc (eqb c point) (every isDigit s) (eqb (length s) (suc d)))
 
-pub fraction-digits : (d : ℕ) (s : List ℕ) → fractionGood d s ≡ true → (every isDigit (withoutPoint s) ≡ true) × (length (withoutPoint s) ≤ d)
+fraction-digits : (d : ℕ) (s : List ℕ) → fractionGood d s ≡ true → (every isDigit (withoutPoint s) ≡ true) × (length (withoutPoint s) ≤ d)
 unfolding withoutPoint every
 fraction-digits d [] e = (refl, omega arith)
 fraction-digits d (c ∷ s) e =
@@ -145,7 +144,7 @@ pub refused-6 : (s : List ℕ) (d : ℕ) → formatGood (length s) d ≡ false �
 unfolding readNumber
 refused-6 s d e = rw (e, readNumber)
 
--- 16 is given for a comma in a text of a good format, and only then
+-- 16 is given exactly if a text of a good format has a comma
 comma-no-blank : (s : List ℕ) → some (eqb comma) s ≡ true → every (eqb blank) s ≡ false
 unfolding some every
 comma-no-blank [] e = contra e refl

@@ -1,5 +1,5 @@
--- Laws: the reader's states, "taken one character after another, the running state handed on". That they end in what the text means is shown in
--- ScanLaws.antt, so a reader need not believe these definitions.
+-- Steps: the reader's states, "taken one character after another, the running state handed on". ScanLaws.antt shows that they end in what the text
+-- means, so a reader need not believe these definitions.
 use Prim.Native.Nat.{ℕ, _+_, _*_, _-_, _^_}
 use mathlib.Core.Bool.{Bool, true, false, cond, _&&_, _||_, not}
 use mathlib.Core.List.{List, [], _∷_}
@@ -17,7 +17,7 @@ use Rattle.numeral.specs.declared.Phase.the-variants as phase
 abbrev pub initial : ℕ → Reader
 initial d = record { decimals = d; phase = phase.Blank; negative = false; value = 0 }
 
--- no character but blanks was taken yet
+-- only blanks were taken so far
 abbrev pub amongBlanks : Phase → Bool
 amongBlanks phase.Blank = true
 amongBlanks phase.Minus = false
@@ -41,7 +41,7 @@ afterDigit (phase.Fraction left) c = cond (leb 1 left) (phase.Fraction (left - 1
 afterDigit phase.Comma c = phase.Comma
 afterDigit phase.Bad c = phase.Bad
 
--- the phase after the character c behind the whole part, where d digits are to come
+-- the phase after the character c behind the whole part, in a field of d decimals
 abbrev pub wholeEnd : ℕ → ℕ → Phase
 wholeEnd d c = cond (eqb c point && leb 1 d) (phase.Fraction d) phase.Bad
 
@@ -59,7 +59,7 @@ onward d phase.Bad c = phase.Bad
 unfoldable pub afterOther : ℕ → Phase → ℕ → Phase
 afterOther d p c = cond (eqb comma c) phase.Comma (onward d p c)
 
--- the number of the digits so far with c behind them; one of more than 18 digits stays, so that nothing overflows
+-- the number n of the digits so far with the digit c behind them; a number of more than 18 digits stays, so that nothing overflows
 unfoldable pub nextValue : ℕ → ℕ → ℕ
 nextValue n c = cond (ltb n (10 ^ maxDigits)) (10 * n + (c - zeroDigit)) n
 
@@ -76,13 +76,13 @@ unfoldable pub scan : Reader → List ℕ → Reader
 scan r [] = r
 scan r (c ∷ s) = scan (step r c) s
 
--- what a text with the number n means, with a minus or without: if it is not complete it is 17, as minus zero is; more than 18 digits are 18
+-- what a text with the number n means, with a minus or without: 17 if it is not complete or is minus zero, 18 if it has more than 18 digits
 unfoldable pub settled : Bool → Bool → ℕ → Number
 settled complete negative n =
     cond (not complete || negative && eqb n 0) (number.Refused 17)
     (cond (ltb n (10 ^ maxDigits)) (number.Value (signed negative n)) (number.Refused 18))
 
--- what a text means that ended in a state
+-- what a text means if it ends in a state
 abbrev pub ended : Phase → Reader → Number
 ended phase.Blank r = number.Empty
 ended phase.Minus r = number.Refused 17

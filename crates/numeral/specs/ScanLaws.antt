@@ -1,5 +1,5 @@
--- Laws: the reader's states end in what the text means (`scan-means`), and `read_number` goes through them. Each law `..-means` says what a text
--- means of which the reader has taken a part, by the rule of Reading.antt for what is left. Assumes nothing.
+-- Laws: the reader's states end in what the text means (`scan-means`). Each law `..-means` says, by the rules of Reading.antt, what a text means whose
+-- rest s the reader has yet to take from a state. Assumes nothing.
 use Prim.Native.Nat.{ℕ, zero, suc, _+_, _*_, _-_, _^_, _≤_, _<_, min}
 use mathlib.Core.Path.{_≡_, refl, sym, _∙_}
 use mathlib.Core.Bool.{Bool, true, false, _&&_, _||_, not, and-false, or-false}
@@ -79,7 +79,7 @@ comma-means (c ∷ s) r e = either (eqb comma c)
     (λ f. comma-stays s (step r c) (phase-comma r c f))
     (λ f. comma-means s (step r c) (rw f at e))
 
--- without one, a text past any hope ends in 17, as one of no good shape does
+-- without a comma, a bad text ends in 17
 bad-stays : (s : List ℕ) (r : Reader) → r .phase ≡ phase.Bad → some (eqb comma) s ≡ false → meaning (scan r s) ≡ number.Refused 17
 unfolding scan meaning
 bad-stays [] r e f = rw e
@@ -96,7 +96,7 @@ module _ (d : ℕ) where
   abbrev state : Phase → Bool → ℕ → Reader
   state p n v = record { decimals = d; phase = p; negative = n; value = v }
 
-  -- a digit leaves the sign, another character the value
+  -- a digit leaves the sign, and another character leaves the value
   scan-digit : (p q : Phase) (n : Bool) (v c : ℕ) (s : List ℕ) → isDigit c ≡ true → afterDigit p c ≡ q
       → scan (state p n v) (c ∷ s) ≡ scan (state q n (nextValue v c)) s
   unfolding scan step

@@ -1,5 +1,4 @@
--- Laws: demand 2, the grammar of numeric text. A text is accepted exactly if it is the written text of a value of at most 18 digits.
--- Assumes nothing.
+-- Laws: demand 2, the grammar of numeric text. A text is accepted exactly if it is the written text of a value of at most 18 digits. Assumes nothing.
 use mathlib.Core.Path.{_≡_, refl, sym, ap, _∙_}
 use mathlib.Core.Bool.{Bool, true, false, _&&_, not}
 use mathlib.Core.List.{List, [], _∷_, _++_}
@@ -10,7 +9,7 @@ use lib.Dec.{eqb, leb, ltb}
 use lib.IntN.{ℤ, pos, negsuc, natAbs}
 use lib.ListN.{length, replicate}
 use borrow.Author.Tests.{lt-ltb, le-ltb, ltb-true, ltb-false, eqb-true, eq-eqb, ne-eqb}
-use Rattle.basis.specs.Tests.{either, contra, both, join}
+use Rattle.basis.specs.Tests.{either, contra, both, join, impossible}
 use Rattle.octets.specs.Text.{every, blank, unpadded, isDigit, numberOf, lastDigits, decimal}
 use Rattle.octets.specs.TextLaws.{digit-range, unpadded-digit, unpadded-blanks, unpadded-front, blanks-left}
 use Rattle.octets.specs.DigitLaws.{decimal-digits, decimal-some, lastDigits-digits, length-lastDigits}
@@ -74,18 +73,18 @@ signed-text true (suc n) e = refl
 sign-front : (s : List ℕ) → signOf (hasMinus s) ++ withoutMinus s ≡ s
 sign-front s = either (hasMinus s) (λ e. rw e (sym (with-minus s e))) (λ e. rw e (no-minus s e))
 
--- without its sign: the whole part before the point, and d digits behind it
+-- a good text without its sign is its number as it is written
 module _ (t : List ℕ) (d : ℕ) (w : wholeGood (wholePart t) ≡ true) (f : fractionGood d (fraction t) ≡ true) where
-  digits-whole : decimal (numberOf (digits t) / 10 ^ d) ≡ wholePart t
+  whole-written : decimal (numberOf (digits t) / 10 ^ d) ≡ wholePart t
   unfolding digits
-  digits-whole = let h = fraction-shape d (fraction t) f in digits-back (wholePart t) (withoutPoint (fraction t)) d w (h .0) (h .1) .0
+  whole-written = let h = fraction-shape d (fraction t) f in digits-back (wholePart t) (withoutPoint (fraction t)) d w (h .0) (h .1) .0
 
   digits-text : decimal (numberOf (digits t) / 10 ^ d) ++ fractionText d (numberOf (digits t)) ≡ t
   unfolding digits wholePart fraction
   digits-text =
       let h = fraction-shape d (fraction t) f in
       let b = digits-back (wholePart t) (withoutPoint (fraction t)) d w (h .0) (h .1) in
-      rw (digits-whole, h .2 (numberOf (digits t)) (b .1)) (front-after isDigit t)
+      rw (whole-written, h .2 (numberOf (digits t)) (b .1)) (front-after isDigit t)
 
 -- a text from its first digit on
 abbrev unsigned : List ℕ → List ℕ
@@ -182,7 +181,7 @@ number-parts d (pos n) =
     (h .0, h .2, rw (h .1), rw (h .1))
 number-parts d (negsuc n) = (refl, refl, refl, rw (ne-eqb (suc n) 0 (omega arith)))
 
--- no comma stands in it, and not blanks alone
+-- the text of a value has no comma, and a character beside blanks
 some-append : (p : ℕ → Bool) (s t : List ℕ) → some p s ≡ false → some p t ≡ false → some p (s ++ t) ≡ false
 unfolding some
 some-append p [] t a b = b
@@ -245,7 +244,7 @@ module _ (width d : ℕ) (v : ℤ) where
 
 -- ---- the reader's answers
 
--- every text comes to one of six answers
+-- every text has one of six answers
 by-answer : {X : Type 0} (s : List ℕ) (d : ℕ)
     → (readNumber s d ≡ Refused 6 → X)
     → (readNumber s d ≡ Empty → X)
@@ -294,13 +293,13 @@ module _ (s : List ℕ) (d : ℕ) (v : ℤ) (f : formatGood (length s) d ≡ tru
 
 -- two answers that differ
 not-value : {X : Type 0} {r : Number} {n : ℕ} {v : ℤ} → r ≡ Refused n → r ≡ Value v → X
-not-value p q = let z : _≡_ {A = ℕ} 0 1 = cc in absurd (omega arith)
+not-value p q = impossible (cc)
 
 not-empty : {X : Type 0} {r : Number} {v : ℤ} → r ≡ Empty → r ≡ Value v → X
-not-empty p q = let z : _≡_ {A = ℕ} 0 1 = cc in absurd (omega arith)
+not-empty p q = impossible (cc)
 
 not-refused : {X : Type 0} {r : Number} {n : ℕ} → r ≡ Empty → r ≡ Refused n → X
-not-refused p q = let z : _≡_ {A = ℕ} 0 1 = cc in absurd (omega arith)
+not-refused p q = impossible (cc)
 
 not-same : {X : Type 0} {r : Number} {m n : ℕ} → r ≡ Refused m → r ≡ Refused n → m < n → X
 not-same {m = m} {n = n} p q h = let z : m ≡ n = cc in absurd (omega arith)
@@ -349,7 +348,7 @@ accepted-value s d v h = let a = accepted s d v .0 h in is-value s d v (a .0) (a
 pub same-text : (s t : List ℕ) (d : ℕ) (v : ℤ) → readNumber s d ≡ Value v → readNumber t d ≡ Value v → unpadded s ≡ unpadded t
 same-text s t d v p q = accepted-text s d v p ∙ sym (accepted-text t d v q)
 
--- so in one width the very same
+-- so two accepted texts of one value and one width are the same
 pub one-text : (s t : List ℕ) (d : ℕ) (v : ℤ) → length s ≡ length t → readNumber s d ≡ Value v → readNumber t d ≡ Value v → s ≡ t
 one-text s t d v l p q = unpadded-front s ∙ rw (same-text s t d v p q, l) (sym (unpadded-front t))
 

@@ -1,4 +1,5 @@
--- Rules: the one text of a value. `writeNumber` is what `write_number` answers and leaves in the buffer, in document 01's order: 6, 18, 19.
+-- Rules: the one text of a value. `writeNumber` is what `write_number` answers and leaves in the buffer, in document 01's order: 6, 18, 19. Cited by
+-- `write_number`.
 use Prim.Native.Nat.{ℕ, zero, suc, _-_, _/_, _^_, _≤_, _<_}
 use mathlib.Core.Path.{_≡_}
 use mathlib.Core.Bool.{true, false}
@@ -29,7 +30,7 @@ numberText d v = signText v ++ (decimal (natAbs v / 10 ^ d) ++ fractionText d (n
 unfoldable pub written : ℕ → ℕ → ℤ → List ℕ
 written width d v = replicate (width - length (numberText d v)) blank ++ numberText d v
 
--- "each value that fits": the values that none of the writer's refusals concerns
+-- "each value that fits": none of the writer's refusals concerns it
 pub record Fits (width d : ℕ) (v : ℤ) : Type 0 where
   -- not 6, "a bad width or decimal count"
   pub format : formatGood width d ≡ true
@@ -46,7 +47,7 @@ pub record Left : Type 0 where
 abbrev pub left : List ℕ → Writing → Left
 left s a = record { after = s; answer = a }
 
--- what a write of v into the buffer s, whose length is the width, leaves and answers: a refusal leaves the buffer as it was
+-- what a write of v into the buffer s leaves and answers: the length of s is the width, and a refusal leaves s as it was
 unfoldable pub writeNumber : List ℕ → ℕ → ℤ → Left
 writeNumber s d v =
     elim (formatGood (length s) d) [

@@ -1,5 +1,4 @@
--- Laws: the writer's stores leave the written text, and `writeNumber` answers in its order. Cited by the writer's proofs.
--- Assumes nothing.
+-- Laws: the writer's stores leave the written text, and `writeNumber` answers in its order. Assumes nothing.
 use mathlib.Core.Path.{_≡_, refl, sym, ap, _∙_}
 use mathlib.Core.Bool.{true, false}
 use mathlib.Core.List.{List, [], _∷_, _++_}
@@ -12,7 +11,7 @@ use lib.IntN.{ℤ, pos, negsuc, natAbs}
 use lib.ListN.{length, length-append, length-replicate, replicate, set}
 use lib.Signed.{ltZ}
 use borrow.Author.Tests.{ltb-true, ltb-false, lt-ltb, le-ltb, leb-true, leb-false, le-leb, lt-leb}
-use Rattle.basis.specs.Tests.{either, contra}
+use Rattle.basis.specs.Tests.{either, contra, impossible}
 use Rattle.octets.specs.Store.{put}
 use Rattle.octets.specs.StoreLaws.{put-cons, put-append, put-comm}
 use Rattle.octets.specs.Text.{blank, zeroDigit, lastDigits, decimal}
@@ -69,7 +68,7 @@ length-written width d v = rw (length-append, length-replicate)
 pub fits-length : (width d : ℕ) (v : ℤ) → Fits width d v → length (written width d v) ≡ width
 fits-length width d v f = rw length-written (omega (arith, f .room))
 
--- a store over the whole buffer; two stores side by side, the right one first
+-- a store over the whole buffer; a store of two parts is a store of the right part and then of the left
 put-all : (xs ys : List ℕ) → length ys ≡ length xs → put xs 0 ys ≡ ys
 unfolding put
 put-all [] [] e = refl
@@ -115,11 +114,11 @@ module _ (s : List ℕ) (d : ℕ) (v : ℤ) where
   unfolding writeNumber
   refused-digits e l = rw (e, writeNumber, le-ltb (natAbs v) (10 ^ maxDigits) l)
 
-  pub refused-width : formatGood (length s) d ≡ true → natAbs v < 10 ^ maxDigits → length s < length (numberText d v) → writeNumber s d v ≡ left s (Refused 19)
+  refused-width : formatGood (length s) d ≡ true → natAbs v < 10 ^ maxDigits → length s < length (numberText d v) → writeNumber s d v ≡ left s (Refused 19)
   unfolding writeNumber
   refused-width e l m = rw (e, writeNumber, lt-ltb (natAbs v) (10 ^ maxDigits) l, lt-leb (length (numberText d v)) (length s) m)
 
-  pub written-good : formatGood (length s) d ≡ true → natAbs v < 10 ^ maxDigits → length (numberText d v) ≤ length s
+  written-good : formatGood (length s) d ≡ true → natAbs v < 10 ^ maxDigits → length (numberText d v) ≤ length s
       → writeNumber s d v ≡ left (written (length s) d v) Written
   unfolding writeNumber
   written-good e l m = rw (e, writeNumber, lt-ltb (natAbs v) (10 ^ maxDigits) l, le-leb (length (numberText d v)) (length s) m)
@@ -128,8 +127,7 @@ module _ (s : List ℕ) (d : ℕ) (v : ℤ) where
 no-write : {X : Type 0} {l : Left} {s t : List ℕ} {n : ℕ} → l ≡ left s (Refused n) → l ≡ left t Written → X
 no-write {l} {s} {t} {n} p q =
     let r : Refused n ≡ Written = sym (ap (λ (l : Left). l .answer) p) ∙ ap (λ (l : Left). l .answer) q in
-    let z : _≡_ {A = ℕ} 0 1 = cc in
-    absurd (omega arith)
+    impossible (cc)
 
 pub written-exactly : (s t : List ℕ) (d : ℕ) (v : ℤ)
     → (writeNumber s d v ≡ left t Written) ↔ (Fits (length s) d v × (t ≡ written (length s) d v))
@@ -147,7 +145,7 @@ written-exactly s t d v = (
   (λ h. written-good s d v (h .0 .format) (h .0 .small) (h .0 .room) ∙ ap (λ (b : List ℕ). left b Written) (sym (h .1))),
 )
 
--- what the writer knows before it compares the widths: its value's magnitude, and the lengths of its text's three parts
+-- what the writer knows before it compares the widths: the magnitude of v, and the lengths of the text's three parts
 pub record Measured (s : List ℕ) (d : ℕ) (v : ℤ) (n sign count tail : ℕ) : Type 0 where
   pub format : formatGood (length s) d ≡ true
   pub magnitude : n ≡ natAbs v
@@ -163,7 +161,7 @@ module _ (s : List ℕ) (d : ℕ) (v : ℤ) (n sign count tail : ℕ) (m : Measu
   pub measured-refused : length s < sign + count + tail → writeNumber s d v ≡ left s (Refused 19)
   measured-refused h = refused-width s d v (m .format) (rw (m .magnitude) at (m .small)) (rw size h)
 
-  -- the four stores, each on what the one before it left
+  -- the four stores, each on the buffer that the last one left
   pub measured-written : (at whole : ℕ) {b₁ b₂ b₃ b₄ : List ℕ} → at + (sign + count + tail) ≡ length s → whole ≡ n / 10 ^ d
       → b₁ ≡ put s (at + sign + count) (fractionText d n)
       → b₂ ≡ put b₁ (at + sign) (lastDigits count whole)

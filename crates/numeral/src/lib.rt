@@ -17,10 +17,10 @@ const MAX_WIDTH: usize = 20;
 
 const MAX_DECIMALS: u32 = 15;
 
-// The least number of more than 18 digits.
+// The least number of 19 digits.
 const PAST_DIGITS: u64 = 1000000000000000000;
 
-// What a numeric text means: a value in units of 10 to the -d, nothing, or a refusal's number.
+// What a numeric text means: a value in units of 10 to the -decimals, empty, or a refusal's number.
 pub enum Number {
     Value(i64),
     Empty,
@@ -33,9 +33,9 @@ pub enum Writing {
     Refused(u32),
 }
 
-// Where the reader stands in a text: among the blanks, after the minus, after a zero that is the whole part, among the whole part's other digits,
-// behind the point with the number of digits to come; or past any hope, by a comma or otherwise. The digits to come are a u64 because a u32 is
-// packed into one word with the phase, which is slower.
+// Where the reader stands in a text: among the blanks, after the minus, after a zero that begins the whole part, among a whole part that begins
+// with another digit, behind the point with the number of digits to come; or in a text that is refused, for a comma or otherwise. The digits to come
+// are a u64: the compiler packs a u32 into one word with the phase, which is slower.
 pub enum Phase {
     Blank,
     Minus,
@@ -46,7 +46,7 @@ pub enum Phase {
     Bad,
 }
 
-// The reader's running state. `value` is the number of the digits so far, or some number of more than 18 digits once they have more.
+// The reader's running state. `value` is the number of the digits so far; once they are more than 18, it is some number of more than 18 digits.
 pub struct Reader {
     pub decimals: u32,
     pub phase: Phase,
@@ -64,7 +64,7 @@ pub fn format_good(width: usize, decimals: u32) -> bool
             | (1 <= decimals) & (decimals <= MAX_DECIMALS) & (decimals as usize + 2 <= width))
 }
 
-// Whether the text has had no character but blanks so far.
+// Whether only blanks were taken so far.
 fn among_blanks(p: Phase) -> bool
     ensures { λ r. ⌜ r ≡ amongBlanks p ⌝ }
 {
@@ -79,7 +79,7 @@ fn among_blanks(p: Phase) -> bool
     }
 }
 
-// The phase after the first digit of the whole part.
+// The phase after the first digit c of the whole part.
 fn first_digit(c: u8) -> Phase
     ensures { λ r. ⌜ r ≡ firstDigit c ⌝ }
 {
@@ -89,7 +89,7 @@ fn first_digit(c: u8) -> Phase
     Phase::Whole
 }
 
-// The phase after one digit more.
+// The phase after the digit c.
 fn after_digit(p: Phase, c: u8) -> Phase
     ensures { λ r. ⌜ r ≡ afterDigit p c ⌝ }
 {
@@ -109,7 +109,7 @@ fn after_digit(p: Phase, c: u8) -> Phase
     }
 }
 
-// The phase after the character behind the whole part.
+// The phase after the character c behind the whole part.
 fn whole_end(decimals: u32, c: u8) -> Phase
     ensures { λ r. ⌜ r ≡ wholeEnd decimals c ⌝ }
 {
@@ -119,7 +119,7 @@ fn whole_end(decimals: u32, c: u8) -> Phase
     Phase::Bad
 }
 
-// The phase after one character more that is neither a blank on the left nor a digit.
+// The phase after the character c, which is neither a blank on the left nor a digit.
 fn after_other(decimals: u32, p: Phase, c: u8) -> Phase
     ensures { λ r. ⌜ r ≡ afterOther decimals p c ⌝ }
 {
@@ -142,7 +142,7 @@ fn after_other(decimals: u32, p: Phase, c: u8) -> Phase
     }
 }
 
-// The number of the digits so far and this one; a number of more than 18 digits stays as it is.
+// The number of the digits so far with the digit c behind them; a number of more than 18 digits stays as it is.
 fn next_value(n: u64, c: u8) -> u64
     requires { ⌜ isDigit c ≡ true ⌝ }
     ensures { λ r. ⌜ r ≡ nextValue n c ⌝ }
@@ -165,7 +165,7 @@ impl Reader {
         }
     }
 
-    // The state after one character more. A blank on the left leaves it as it is; that is asked first, since most texts begin with blanks.
+    // The state after the character c. A blank on the left leaves it as it is; this is asked first, since most texts begin with blanks.
     fn take(self, c: u8) -> Reader
         ensures { λ r. ⌜ r ≡ step self c ⌝ }
     {
@@ -189,24 +189,24 @@ impl Reader {
         }
     }
 
-    // What a text means that ended in this state.
+    // What the text means if it ends in this state.
     fn finish(self) -> Number
         ensures { λ r. ⌜ r ≡ meaning self ⌝ }
     {
         let p = self.phase;
         match p {
             Phase::Blank => Number::Empty,
-            Phase::Minus => Number::Refused(17),
+            Phase::Minus => Number::Refused(refusal::NOT_A_NUMBER),
             Phase::Zero => settle(self.decimals == 0, self.negative, self.value),
             Phase::Whole => settle(self.decimals == 0, self.negative, self.value),
             Phase::Fraction(left) => settle(left == 0, self.negative, self.value),
-            Phase::Comma => Number::Refused(16),
-            Phase::Bad => Number::Refused(17),
+            Phase::Comma => Number::Refused(refusal::COMMA),
+            Phase::Bad => Number::Refused(refusal::NOT_A_NUMBER),
         }
     }
 }
 
-// A number with its sign.
+// The number n with its sign.
 fn signed_value(negative: bool, n: u64) -> i64
     requires { ⌜ n < 10 ^ maxDigits ⌝ }
     ensures { λ r. ⌜ r ≡ signed negative n ⌝ }
@@ -214,25 +214,25 @@ fn signed_value(negative: bool, n: u64) -> i64
     if negative { -(n as i64) } else { n as i64 }
 }
 
-// What a text with this number means: one that is not complete is refused, and so are minus zero and a number of more than 18 digits.
+// What a text with the number n means. It is refused if it is not complete, is minus zero, or has more than 18 digits.
 fn settle(complete: bool, negative: bool, n: u64) -> Number
     ensures { λ r. ⌜ r ≡ settled complete negative n ⌝ }
 {
     if !complete | negative & (n == 0) {
-        return Number::Refused(17);
+        return Number::Refused(refusal::NOT_A_NUMBER);
     }
     if n < PAST_DIGITS {
         return Number::Value(signed_value(negative, n));
     }
-    Number::Refused(18)
+    Number::Refused(refusal::TOO_MANY_DIGITS)
 }
 
-// Reads a numeric text; its length is the field's width.
+// Reads a numeric text. Its length is the field's width.
 pub fn read_number(text: &[u8], decimals: u32) -> Number
     ensures { λ r. ⌜ r ≡ readNumber (now (text .entry)) decimals ⌝ }
 {
     if !format_good(text.len(), decimals) {
-        return Number::Refused(6);
+        return Number::Refused(refusal::FIELD_DESCRIPTOR);
     }
     let mut r = Reader::new(decimals);
     let mut i = 0;
@@ -243,21 +243,21 @@ pub fn read_number(text: &[u8], decimals: u32) -> Number
     r.finish()
 }
 
-// The magnitude of any value.
+// The magnitude of v, which may be the least value of 64 bits.
 fn magnitude(v: i64) -> u64
     ensures { λ r. ⌜ r ≡ natAbs v ⌝ }
 {
     if v < 0 { (-1 - v) as u64 + 1 } else { v as u64 }
 }
 
-// How many characters the sign takes.
+// The length of the sign of v.
 fn sign_length(v: i64) -> usize
     ensures { λ r. ⌜ (r ≡ length (signText v)) × (r ≤ 1) ⌝ }
 {
     if v < 0 { 1 } else { 0 }
 }
 
-// How many digits stand before the point: all but `places` of the number's digits, and one at least.
+// The number of digits before the point: all but `places` of the digits of n, and one at least.
 fn whole_length(n: u64, places: usize) -> usize
     requires { ⌜ n < 10 ^ maxDigits ⌝ }
     ensures { λ r. ⌜ (r ≡ length (decimal (n / 10 ^ places))) × (r ≤ maxDigits) ⌝ }
@@ -271,7 +271,7 @@ fn whole_length(n: u64, places: usize) -> usize
     if count <= places { 1 } else { count - places }
 }
 
-// How many characters the point and the digits after it take.
+// The length of the point and the digits behind it.
 fn fraction_length(places: usize) -> usize
     requires { ⌜ places ≤ maxDecimals ⌝ }
     ensures { λ r. ⌜ (((n : ℕ) → r ≡ length (fractionText places n)) × (r ≤ maxWidth)) ⌝ }
@@ -279,7 +279,7 @@ fn fraction_length(places: usize) -> usize
     if places == 0 { 0 } else { places + 1 }
 }
 
-// Writes the last `count` digits of a number, from the right, and answers the number without them.
+// Writes the last `count` digits of n at `at`, from the right, and answers n without them.
 fn put_digits(text: &mut [u8], at: usize, count: usize, n: u64) -> u64
     requires { ⌜ at + count ≤ length (now text) ⌝ }
     ensures { λ r. ⌜ (r ≡ n / 10 ^ count) × (now (text .exit) ≡ put (now (text .entry)) at (lastDigits count n)) ⌝ }
@@ -294,7 +294,7 @@ fn put_digits(text: &mut [u8], at: usize, count: usize, n: u64) -> u64
     rest
 }
 
-// Writes the point and the digits after it, and answers the number before the point.
+// Writes the point and the digits behind it at `at`, and answers the number before the point.
 fn put_fraction(text: &mut [u8], at: usize, places: usize, n: u64) -> u64
     requires { ⌜ at + length (fractionText places n) ≤ length (now text) ⌝ }
     ensures { λ r. ⌜ (r ≡ n / 10 ^ places) × (now (text .exit) ≡ put (now (text .entry)) at (fractionText places n)) ⌝ }
@@ -307,26 +307,26 @@ fn put_fraction(text: &mut [u8], at: usize, places: usize, n: u64) -> u64
     whole
 }
 
-// Writes the one text of a value, blanks on the left; the buffer's length is the field's width. A refusal leaves the buffer as it was.
+// Writes the one text of a value, blanks on the left. The buffer's length is the field's width. A refusal leaves the buffer as it was.
 pub fn write_number(text: &mut [u8], decimals: u32, value: i64) -> Writing
     ensures { λ r. ⌜ writeNumber (now (text .entry)) decimals value ≡ left (now (text .exit)) r ⌝ }
 {
     let width = text.len();
     if !format_good(width, decimals) {
-        return Writing::Refused(6);
+        return Writing::Refused(refusal::FIELD_DESCRIPTOR);
     }
     let n = magnitude(value);
     if PAST_DIGITS <= n {
-        return Writing::Refused(18);
+        return Writing::Refused(refusal::TOO_MANY_DIGITS);
     }
     let places = decimals as usize;
     let sign = sign_length(value);
     let count = whole_length(n, places);
     let size = sign + count + fraction_length(places);
     if width < size {
-        return Writing::Refused(19);
+        return Writing::Refused(refusal::DOES_NOT_FIT);
     }
-    // from the right; the sign is a run of minuses, one or none
+    // the parts from the right; the sign is a run of minuses, one or none
     let at = width - size;
     let whole = put_fraction(text, at + sign + count, places, n);
     put_digits(text, at + sign, count, whole);

@@ -1,4 +1,4 @@
--- Laws: what a good descriptor says of its field, type by type. Cited by the calls that read a field. Assumes nothing.
+-- Laws: what a good descriptor says of its field, type by type. Assumes nothing.
 use Prim.Native.Nat.{ℕ, zero, suc, _≤_, _<_}
 use mathlib.Core.Path.{_≡_}
 use mathlib.Core.Bool.{true, false, false≢true, _&&_, or-false, and-false}
@@ -8,7 +8,8 @@ use lib.Dec.{eqb, leb}
 use borrow.Author.Tests.{leb-true, eqb-true}
 use Rattle.basis.specs.Tests.{both}
 use Rattle.numeral.specs.Format.{formatGood}
-use Rattle.table.specs.Table.{descriptor, fieldType, fieldLength, fieldDecimals, fieldCount, maxText, typeC, typeN, typeD, typeL, typeM, nameGood, formGood, descriptorGood}
+use Rattle.table.specs.Table.{descriptor, fieldType, fieldLength, fieldDecimals, fieldCount, maxText, typeC, typeN, typeD, typeL, typeM}
+use Rattle.table.specs.Table.{nameGood, formGood, descriptorGood}
 use Rattle.table.specs.TableLaws.{Layout}
 
 -- each field of a good table has a good form
@@ -16,12 +17,13 @@ pub field-form : (b : List ℕ) → Layout b → (j : ℕ) → j < fieldCount b 
 unfolding descriptorGood
 field-form b good j l = both (nameGood b (descriptor j)) (formGood (fieldType b j) (fieldLength b j) (fieldDecimals b j)) (good .fields j l) .1
 
--- no form is good without a byte
+-- a good form has a byte at least
 pub form-some : (type size decimals : ℕ) → formGood type size decimals ≡ true → 1 ≤ size
 unfolding formGood formatGood
 form-some type zero decimals h = let no : false ≡ true = simp (and-false, or-false) at h in absurd (false≢true no)
 form-some type (suc n) decimals h = omega arith
 
+-- the lengths that a good form can have, type by type
 module _ (size decimals : ℕ) where
   pub form-text : formGood typeC size decimals ≡ true → (1 ≤ size) × (size ≤ maxText)
   unfolding formGood

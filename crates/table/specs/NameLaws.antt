@@ -1,5 +1,5 @@
--- Laws: the rule of names is document 01's sentence: a name is good exactly where some n from 1 to 10 of its bytes are A-Z, 0-9 or underscore,
--- the first a letter, and all others to byte 10 are zero. Assumes nothing.
+-- Laws: the rule of names is document 01's sentence: a name is good exactly if its first n bytes, n from 1 to 10, are A-Z, 0-9 or underscore, the first
+-- a letter, and all others to byte 10 are zero. Assumes nothing.
 use Prim.Native.Nat.{ℕ, zero, suc, _+_, _≤_, _<_}
 use mathlib.Core.Path.{_≡_, refl, sym}
 use mathlib.Core.Bool.{true, false, not, _&&_}
@@ -24,7 +24,7 @@ pub record NameOf (b : List ℕ) (at n : ℕ) : Type 0 where
   pub named : (k : ℕ) → k < n → isNameByte (byteAt b (at + k)) ≡ true
   pub zeros : (k : ℕ) → n ≤ k → k ≤ 10 → byteAt b (at + k) ≡ 0
 
--- the same of the bytes to byte m alone
+-- a name of n bytes, as far as the bytes to byte m tell
 record Ended (b : List ℕ) (at m n : ℕ) : Type 0 where
   some : 1 ≤ n
   few : n ≤ m
@@ -96,7 +96,8 @@ module _ (b : List ℕ) (at : ℕ) where
   }
 
   -- the bytes to byte m are all of a name, or the name has ended
-  so-far : isLetter (byteAt b at) ≡ true → ((k : ℕ) → k < 10 → nameGoesOn b at k ≡ true) → (m : ℕ) → m ≤ 10 → Goes m ⊎ ((n : ℕ) × Ended b at m n)
+  so-far : isLetter (byteAt b at) ≡ true → ((k : ℕ) → k < 10 → nameGoesOn b at k ≡ true) → (m : ℕ) → m ≤ 10
+      → Goes m ⊎ ((n : ℕ) × Ended b at m n)
   unfolding nameGoesOn
   so-far letter on zero l = inl (λ k h. let q : at + k ≡ at = omega arith in rw q (letter-name _ letter))
   so-far letter on (suc m) l =

@@ -1,4 +1,4 @@
--- Rules: a test of every number below a bound, of some number below it, and the sum over them. The checks of a table's fields are made of these.
+-- Rules: a test of every number below a bound, a test of some number, and a sum over them. Cited by the checks of a table's fields.
 use Prim.Native.Nat.{ℕ, zero, suc, _+_}
 use mathlib.Core.Bool.{Bool, true, false, _&&_, _||_}
 
@@ -12,7 +12,7 @@ unfoldable pub anyBelow : (ℕ → Bool) → ℕ → Bool
 anyBelow test zero = false
 anyBelow test (suc n) = anyBelow test n || test n
 
--- the sum of the amounts of the numbers below n
+-- the sum of `amount` over the numbers below n
 unfoldable pub sumBelow : (ℕ → ℕ) → ℕ → ℕ
 sumBelow amount zero = 0
 sumBelow amount (suc n) = sumBelow amount n + amount n

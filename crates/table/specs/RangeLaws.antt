@@ -1,5 +1,5 @@
--- Laws: how a loop over the numbers below a bound meets `allBelow`, `anyBelow` and `sumBelow`: one number more, a number that decides, and
--- what a test of all says of each. Assumes nothing.
+-- Laws: a loop over the numbers below a bound meets `allBelow`, `anyBelow` and `sumBelow`: one number more, a number that decides, and what a
+-- test of all says of each. Assumes nothing.
 use Prim.Native.Nat.{ℕ, zero, suc, _+_, _≤_, _<_}
 use mathlib.Core.Path.{_≡_, refl, subst}
 use mathlib.Core.Bool.{Bool, true, false, and-false, or-true, or-false}
@@ -69,7 +69,7 @@ module _ (amount : ℕ → ℕ) where
   unfolding sumBelow
   sum-more i = rw (add-one i)
 
-  -- a sum over fewer numbers is at most the whole, with the next amount too
+  -- a sum over the numbers below i, and the amount of i, are at most the sum over the numbers below n
   pub sum-within : (i n : ℕ) → i < n → sumBelow amount i + amount i ≤ sumBelow amount n
   unfolding sumBelow
   sum-within i zero l = absurd (not-suc-le-zero l)

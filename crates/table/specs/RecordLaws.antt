@@ -1,5 +1,5 @@
--- Laws: where records and fields lie in a table without refusal. The deletion byte and the fields tile a record; records follow the header
--- one after another and end in the table. Assumes nothing.
+-- Laws: where records and fields lie in a table without refusal: the deletion byte and the fields tile a record; records follow the header, one
+-- after another, and end in the table. Assumes nothing.
 use Prim.Native.Nat.{ℕ, zero, suc, _+_, _≤_, _<_}
 use mathlib.Core.Path.{_≡_, sym, ap, _∙_}
 use mathlib.Core.List.{List, [], _++_, append-assoc, append-nil}
@@ -36,7 +36,7 @@ pub offset-positive : (b : List ℕ) (j : ℕ) → 1 ≤ fieldOffset b j
 unfolding fieldOffset
 offset-positive b j = omega arith
 
--- the bytes of the first j fields of the record that starts at an offset, one after another
+-- the bytes of the first j fields of the record at offset `at`, one after another
 unfoldable pub fieldParts : List ℕ → ℕ → ℕ → List ℕ
 fieldParts b at zero = []
 fieldParts b at (suc j) = fieldParts b at j ++ window b (at + fieldOffset b j) (fieldLength b j)
@@ -72,7 +72,7 @@ pub records-next : (b : List ℕ) (k : ℕ) → recordsEnd b (k + 1) ≡ records
 unfolding recordsEnd
 records-next b k = omega (arith, add-mul k 1 (recordLength b))
 
--- the first k + 1 records end in the table, where it has so many
+-- the first k + 1 records end in the table if it has as many
 pub record-inside : (b : List ℕ) → Layout b → (k : ℕ) → k < recordCount b → recordsEnd b k + recordLength b ≤ length b
 unfolding recordsEnd
 record-inside b good k l = omega (arith, good .records, add-mul k 1 (recordLength b), mul-le-mul-right (recordLength b) l)

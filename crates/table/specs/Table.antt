@@ -1,4 +1,5 @@
--- Rules: document 01, "The table": what a table's header says, and refusals 1 to 10 in their order. Every call on a table answers by these first.
+-- Rules: document 01, "The table": what a table's header says, and refusals 1 to 10 in their order. Cited by every call on a table, which answers by
+-- these first.
 use Prim.Native.Nat.{ℕ, _+_, _*_, _-_, _/_}
 use mathlib.Core.List.{List, [], _∷_}
 use mathlib.Core.Bool.{Bool, cond, not, _&&_, _||_}
@@ -104,7 +105,7 @@ fieldDecimals b j = byteAt b (descriptor j + 17)
 unfoldable pub fieldOffset : List ℕ → ℕ → ℕ
 fieldOffset b j = 1 + sumBelow (fieldLength b) j
 
--- ---- the checks, each true where its refusal is not given
+-- ---- the checks, each true if its refusal is not given
 
 -- 1: "table below 32 or above 16,777,216 bytes"
 unfoldable pub sizeGood : List ℕ → Bool
@@ -135,7 +136,7 @@ isLetter c = leb 0x41 c && leb c 0x5A
 unfoldable pub isNameByte : ℕ → Bool
 isNameByte c = isLetter c || isDigit c || eqb c 0x5F
 
--- a byte that may stand after another in a name: zero, or a byte of a name where no zero came before
+-- c may stand after the byte `before` in a name: c is zero, or c is a name's byte and `before` is not zero
 unfoldable pub mayFollow : ℕ → ℕ → Bool
 mayFollow before c = eqb c 0 || isNameByte c && not (eqb before 0)
 
@@ -194,7 +195,7 @@ memoKindGood b = not (eqb (tableKind b) plainKind && hasMemo b || eqb (tableKind
 unfoldable pub recordLengthGood : List ℕ → Bool
 recordLengthGood b = eqb (recordLength b) (fieldOffset b (fieldCount b)) && leb (recordLength b) maxRecord
 
--- where the first k records end: "H + n·R" for all n of them
+-- where the first k records end: "H + n·R" if k is n
 unfoldable pub recordsEnd : List ℕ → ℕ → ℕ
 recordsEnd b k = headerLength b + k * recordLength b
 
@@ -213,7 +214,7 @@ recordStart b i = recordsEnd b (i - 1)
 unfoldable pub deletionByte : List ℕ → ℕ → ℕ
 deletionByte b i = byteAt b (recordStart b i)
 
--- "deletion byte is neither 0x20 nor 0x2A": the mark of a record that is kept, and of a deleted one
+-- "deletion byte is neither 0x20 nor 0x2A": the mark of a record that is kept, and of a deleted record
 abbrev pub keptMark : ℕ
 keptMark = 0x20
 

@@ -1,4 +1,4 @@
--- Laws: what each check gives those that come after it, and what a table without refusal gives every call on it (`Layout`). Assumes nothing.
+-- Laws: what each check gives the later ones, and what a table without refusal gives every call on it (`Layout`). Assumes nothing.
 use Prim.Native.Nat.{ℕ, _+_, _*_, _≤_, _<_}
 use mathlib.Core.Path.{_≡_, refl, sym, ap, _∙_}
 use mathlib.Core.Bool.{Bool, true, false, _&&_}
@@ -7,17 +7,19 @@ use native.Mathlib.Omega.{arith}
 use lib.ListN.{length}
 use lib.Dec.{eqb, leb, lit<}
 use borrow.Author.Tests.{leb-true, eqb-true, eqb-false, eq-eqb, ne-eqb}
-use Rattle.basis.specs.Tests.{either, both}
+use Rattle.basis.specs.Tests.{either, both, impossible}
 use Rattle.basis.specs.Lists.{All}
 use Rattle.octets.specs.Bytes.{byteAt}
 use Rattle.table.specs.RangeLaws.{all-at}
-use Rattle.table.specs.Table.{minTable, maxTable, maxFields, maxRecord, fileEnd, tableKind, headerLength, recordLength, recordCount, recordsEnd, fieldCount, fieldOffset, sizeGood, kindGood, headerGood, descriptorGood, fieldsGood, recordLengthGood, lengthGood, firstRefusal, tableChecks, tableRefusal, shapeOf, checkTable}
+use Rattle.table.specs.Table.{minTable, maxTable, maxFields, maxRecord, fileEnd, tableKind, headerLength, recordLength, recordCount, recordsEnd}
+use Rattle.table.specs.Table.{fieldCount, fieldOffset, sizeGood, kindGood, headerGood, descriptorGood, fieldsGood, recordLengthGood, lengthGood}
+use Rattle.table.specs.Table.{firstRefusal, tableChecks, tableRefusal, shapeOf, checkTable}
 use Rattle.table.specs.declared.Shape.{Shape}
 use Rattle.table.specs.declared.Checked.the-variants.{Good, Refused}
 
 -- ---- the first of several checks
 
--- where it holds the others decide, and where it fails its number is the answer
+-- if the first check holds the others decide, and if it fails its number is the answer
 pub first-pass : (good : Bool) (number : ℕ) (checks : List (Bool × ℕ)) → good ≡ true → firstRefusal ((good, number) ∷ checks) ≡ firstRefusal checks
 unfolding firstRefusal
 first-pass good number checks e = rw e
@@ -26,16 +28,20 @@ pub first-fail : (good : Bool) (number : ℕ) (checks : List (Bool × ℕ)) → 
 unfolding firstRefusal
 first-fail good number checks e = rw e
 
--- no refusal: every check holds, as no check has the number 0
-pub first-none : (checks : List (Bool × ℕ)) → All (λ check. 0 < check .1) checks → firstRefusal checks ≡ 0 → All (λ check. check .0 ≡ true) checks
+-- a check's number is not 0
+abbrev pub Numbered : Bool × ℕ → Type 0
+Numbered check = 0 < check .1
+
+-- no refusal: every check holds
+pub first-none : (checks : List (Bool × ℕ)) → All Numbered checks → firstRefusal checks ≡ 0 → All (λ check. check .0 ≡ true) checks
 first-none [] p e = tt
 first-none (check ∷ checks) p e =
     either (check .0)
     (λ good. (good, first-none checks (p .1) (sym (first-pass (check .0) (check .1) checks good) ∙ e)))
     (λ bad. absurd (omega (arith, p .0, sym (first-fail (check .0) (check .1) checks bad) ∙ e)))
 
--- checks after others: they decide where the first ones hold, and else the first ones do
-pub first-after : (checks more : List (Bool × ℕ)) → All (λ check. 0 < check .1) checks → firstRefusal checks ≡ 0 → firstRefusal (checks ++ more) ≡ firstRefusal more
+-- checks after others decide if the first ones hold; else the first ones do
+pub first-after : (checks more : List (Bool × ℕ)) → All Numbered checks → firstRefusal checks ≡ 0 → firstRefusal (checks ++ more) ≡ firstRefusal more
 first-after [] more p e = refl
 first-after (check ∷ checks) more p e =
     let held = first-none (check ∷ checks) p e in
@@ -52,7 +58,8 @@ first-before (check ∷ checks) more e =
     ∙ sym (first-pass (check .0) (check .1) checks good))
     (λ bad. first-fail (check .0) (check .1) (checks ++ more) bad ∙ sym (first-fail (check .0) (check .1) checks bad))
 
-pub first-both : (checks more : List (Bool × ℕ)) → All (λ check. 0 < check .1) checks → firstRefusal (checks ++ more) ≡ 0 → (firstRefusal checks ≡ 0) × (firstRefusal more ≡ 0)
+pub first-both : (checks more : List (Bool × ℕ)) → All Numbered checks → firstRefusal (checks ++ more) ≡ 0
+    → (firstRefusal checks ≡ 0) × (firstRefusal more ≡ 0)
 first-both checks more p e =
     either (eqb (firstRefusal checks) 0)
     (λ z. let none = eqb-true (firstRefusal checks) 0 z in (none, sym (first-after checks more p none) ∙ e))
@@ -60,12 +67,12 @@ first-both checks more p e =
 
 -- ---- single checks
 
--- check 1: the bytes that every header has are there
+-- check 1: a table has the 32 bytes before the descriptors
 pub size-long : (b : List ℕ) → sizeGood b ≡ true → minTable ≤ length b
 unfolding sizeGood
 size-long b h = leb-true minTable (length b) (both (leb minTable (length b)) (leb (length b) maxTable) h .0)
 
--- the header that bytes 8-9 tell of lies in the table, with the descriptors and the end mark
+-- the header, with its descriptors and its end mark, lies in the table
 pub record HeaderFits (b : List ℕ) : Type 0 where
   pub long : minTable ≤ length b
   pub form : headerLength b ≡ 33 + 32 * fieldCount b
@@ -113,7 +120,7 @@ pub record Layout (b : List ℕ) : Type 0 where
   pub records : recordsEnd b (recordCount b) ≤ length b
 
 -- no check of a table has the number 0
-pub table-numbered : (b : List ℕ) → All (λ check. 0 < check .1) (tableChecks b)
+pub table-numbered : (b : List ℕ) → All Numbered (tableChecks b)
 unfolding tableChecks
 table-numbered b =
     (lit< tt, (lit< tt, (lit< tt, (lit< tt, (lit< tt, (lit< tt, (lit< tt, (lit< tt, (lit< tt, (lit< tt, tt))))))))))
@@ -148,15 +155,17 @@ pub good-check : (b : List ℕ) (s : Shape) → checkTable b ≡ Good s → (tab
 good-check b s e =
     either (eqb (tableRefusal b) 0)
     (λ z. let zero = eqb-true (tableRefusal b) 0 z in let q = check-good b zero in (zero, cc))
-    (λ z. let q = check-refused b (eqb-false (tableRefusal b) 0 z) in let no : _≡_ {A = ℕ} 0 1 = cc in absurd (omega arith))
+    (λ z. let q = check-refused b (eqb-false (tableRefusal b) 0 z) in impossible (cc))
 
 pub refused-check : (b : List ℕ) (n : ℕ) → checkTable b ≡ Refused n → (n ≡ tableRefusal b) × (n ≡ 0 → ⊥)
 refused-check b n e =
     either (eqb (tableRefusal b) 0)
-    (λ z. let q = check-good b (eqb-true (tableRefusal b) 0 z) in let no : _≡_ {A = ℕ} 0 1 = cc in absurd (omega arith))
-    (λ z. let q = check-refused b (eqb-false (tableRefusal b) 0 z) in let s : n ≡ tableRefusal b = cc in (s, λ w. eqb-false (tableRefusal b) 0 z (sym s ∙ w)))
+    (λ z. let q = check-good b (eqb-true (tableRefusal b) 0 z) in impossible (cc))
+    (λ z.
+    let q = check-refused b (eqb-false (tableRefusal b) 0 z) in
+    let s : n ≡ tableRefusal b = cc in (s, λ w. eqb-false (tableRefusal b) 0 z (sym s ∙ w)))
 
--- so each number of the shape is the header's
+-- so each number of the shape is the header's own
 pub record Shaped (b : List ℕ) (s : Shape) : Type 0 where
   pub table : tableRefusal b ≡ 0
   pub kind : s .kind ≡ tableKind b
@@ -178,7 +187,7 @@ good-shape b s e =
       fields = ap (λ (x : Shape). x .fields) (good .1);
     }
 
--- a call whose checks come after the table's: what its refusal is in each case of the answer
+-- a call whose checks come after the table's: its refusal, in each case of the table's answer
 pub good-then : (b : List ℕ) (s : Shape) (more : List (Bool × ℕ)) → checkTable b ≡ Good s → firstRefusal (tableChecks b ++ more) ≡ firstRefusal more
 unfolding tableRefusal
 good-then b s more e = first-after (tableChecks b) more (table-numbered b) (good-check b s e .0)

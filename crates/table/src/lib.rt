@@ -2,7 +2,10 @@
 ghost use Prim.Native.Nat.{_+_, _*_, _^_, _≤_, _<_};
 ghost use mathlib.Core.Path.{_≡_};
 ghost use lib.ListN.{length};
-ghost use Rattle.table.specs.Table.{minTable, maxFields, recordCount, headerLength, recordLength, fieldCount, descriptor, fieldOffset, sizeGood, kindGood, dateGood, headerGood, endMarkGood, isLetter, isNameByte, mayFollow, nameGood, formGood, descriptorGood, fieldsGood, sameName, namesDiffer, hasMemo, memoKindGood, recordLengthGood, recordsEnd, lengthGood, tableRefusal, shapeOf, checkTable};
+ghost use Rattle.table.specs.Table.{minTable, maxFields, recordCount, headerLength, recordLength, fieldCount, descriptor, fieldOffset, recordsEnd};
+ghost use Rattle.table.specs.Table.{sizeGood, kindGood, dateGood, headerGood, endMarkGood, isLetter, isNameByte, mayFollow, nameGood, formGood};
+ghost use Rattle.table.specs.Table.{descriptorGood, fieldsGood, sameName, namesDiffer, hasMemo, memoKindGood, recordLengthGood, lengthGood};
+ghost use Rattle.table.specs.Table.{tableRefusal, shapeOf, checkTable};
 ghost use Rattle.table.specs.TableLaws.{HeaderFits};
 
 const MIN_TABLE: usize = 32;
@@ -23,12 +26,12 @@ const END_MARK: u8 = 0x0D;
 
 pub const FILE_END: u8 = 0x1A;
 
-// A record's deletion byte.
+// The deletion byte of a record that is kept, and of a deleted record.
 pub const KEPT: u32 = 0x20;
 
 pub const DELETED: u32 = 0x2A;
 
-// A field's type.
+// The types of fields.
 pub const TYPE_C: u32 = 0x43;
 
 pub const TYPE_N: u32 = 0x4E;
@@ -39,7 +42,7 @@ pub const TYPE_L: u32 = 0x4C;
 
 pub const TYPE_M: u32 = 0x4D;
 
-// Where the descriptors begin, how long each is, and what stands where in one.
+// Where the descriptors begin, how long each is, and where its type, length and decimals stand.
 pub const DESCRIPTORS: usize = 32;
 
 pub const DESCRIPTOR_LENGTH: usize = 32;
@@ -50,7 +53,7 @@ pub const LENGTH_AT: usize = 16;
 
 pub const DECIMALS_AT: usize = 17;
 
-// A name's bytes, and the last of them, which is zero.
+// A name has 11 bytes, and byte 10, the last, is zero.
 const NAME_LENGTH: usize = 11;
 
 const NAME_LAST: usize = 10;
@@ -152,7 +155,7 @@ fn is_name_byte(byte: u8) -> bool
     is_letter(byte) | octets::is_digit(byte) | (byte == 0x5F)
 }
 
-// Whether a byte may stand after another in a name: after a zero only a zero may.
+// Whether `byte` may stand after the byte `before` in a name: only a zero may stand after a zero.
 fn may_follow(before: u8, byte: u8) -> bool
     ensures { λ r. ⌜ r ≡ mayFollow before byte ⌝ }
 {
@@ -176,7 +179,7 @@ fn name_good(table: &[u8], at: usize) -> bool
     table[at + NAME_LAST] == 0
 }
 
-// The type, length and decimal count of a field.
+// Whether a field of this type may have this length and this decimal count.
 fn form_good(kind: u32, length: u32, decimals: u32) -> bool
     ensures { λ r. ⌜ r ≡ formGood kind length decimals ⌝ }
 {
@@ -217,7 +220,7 @@ fn fields_good(table: &[u8]) -> bool
     true
 }
 
-// Whether the names of two fields are the same, byte by byte. All bytes are looked at, since a loop without a way out costs less than one that stops.
+// Whether fields i and j, from 0, have the same name, byte by byte. All bytes are looked at, since a loop without a way out costs less than one that stops.
 fn same_name(table: &[u8], i: usize, j: usize) -> bool
     requires { ⌜ (descriptor i + 32 ≤ length (now table)) × (descriptor j + 32 ≤ length (now table)) ⌝ }
     ensures { λ r. ⌜ r ≡ sameName (now (table .entry)) i j ⌝ }
@@ -233,13 +236,13 @@ fn same_name(table: &[u8], i: usize, j: usize) -> bool
     same
 }
 
-// Every pair of names is compared; a duplicate ends both loops.
+// Whether all names differ: every pair is compared, and a pair of equal names ends both loops.
 fn names_differ(table: &[u8]) -> bool
     requires { ⌜ HeaderFits (now table) ⌝ }
     ensures { λ r. ⌜ r ≡ namesDiffer (now (table .entry)) ⌝ }
 {
     let mut differ = true;
-    // from the last name back, each with all before it
+    // each name, from the last back, with all before it
     let mut later = field_count(table);
     'fields: while 1 < later {
         later -= 1;
@@ -279,7 +282,7 @@ fn memo_kind_good(table: &[u8]) -> bool
     !(((kind == PLAIN_KIND) & memo) | ((kind == MEMO_KIND) & !memo))
 }
 
-// Where field j starts in a record: after the deletion byte and the fields before it.
+// Where field j, from 0, starts in a record: after the deletion byte and the fields before it.
 pub fn field_offset(table: &[u8], j: usize) -> usize
     requires { ⌜ (j ≤ maxFields) × (descriptor j ≤ length (now table)) ⌝ }
     ensures { λ r. ⌜ (r ≡ fieldOffset (now (table .entry)) j) × (r ≤ 1 + 255 * j) ⌝ }
@@ -302,7 +305,7 @@ fn record_length_good(table: &[u8]) -> bool
     (length == sum) & (length <= MAX_RECORD)
 }
 
-// Where the first records of a count end: exact arithmetic for every count of 32 bits.
+// Where the first `count` records end. Nothing overflows, whatever the header says.
 pub fn records_end(table: &[u8], count: u32) -> usize
     requires { ⌜ minTable ≤ length (now table) ⌝ }
     ensures { λ r. ⌜ (r ≡ recordsEnd (now (table .entry)) count) × (r < 2 ^ 49) ⌝ }
@@ -329,34 +332,34 @@ fn table_refusal(table: &[u8]) -> u32
     ensures { λ r. ⌜ r ≡ tableRefusal (now (table .entry)) ⌝ }
 {
     if !size_good(table) {
-        return 1;
+        return refusal::TABLE_SIZE;
     }
     if !kind_good(table) {
-        return 2;
+        return refusal::TABLE_KIND;
     }
     if !date_good(table) {
-        return 3;
+        return refusal::UPDATE_DATE;
     }
     if !header_good(table) {
-        return 4;
+        return refusal::HEADER_LENGTH;
     }
     if !end_mark_good(table) {
-        return 5;
+        return refusal::HEADER_END_MARK;
     }
     if !fields_good(table) {
-        return 6;
+        return refusal::FIELD_DESCRIPTOR;
     }
     if !names_differ(table) {
-        return 7;
+        return refusal::FIELD_NAME_TWICE;
     }
     if !memo_kind_good(table) {
-        return 8;
+        return refusal::MEMO_FIELD_AND_KIND;
     }
     if !record_length_good(table) {
-        return 9;
+        return refusal::RECORD_LENGTH;
     }
     if !length_good(table) {
-        return 10;
+        return refusal::TABLE_LENGTH;
     }
     0
 }

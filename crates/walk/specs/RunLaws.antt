@@ -1,4 +1,4 @@
--- Laws: the walk from 0 to done hands out exactly the undeleted records, in order, with 15 in the place of each bad deletion byte. Assumes nothing.
+-- Laws: a walk from 0 to done hands out exactly the undeleted records, in order, and 15 for each bad deletion byte. Assumes nothing.
 use Prim.Native.Nat.{ℕ, zero, suc, _+_, _-_, _≤_}
 use mathlib.Core.Path.{_≡_, refl, _∙_}
 use mathlib.Core.Bool.{cond}
@@ -14,7 +14,7 @@ use Rattle.walk.specs.declared.Step.{Step}
 use Rattle.walk.specs.declared.Step.the-variants.{Record, Done, Refused}
 use Rattle.walk.specs.Walk.{walkFrom, walkStep}
 
--- what is to be handed out of the `left` records after the first `passed`: the number of each that is kept, 15 at each bad deletion byte
+-- what the `left` records after the first `passed` give: the number of each that is kept, 15 for each bad deletion byte
 unfoldable pub handedOut : List ℕ → ℕ → ℕ → List Step
 handedOut b passed zero = []
 handedOut b passed (suc left) =
@@ -22,13 +22,13 @@ handedOut b passed (suc left) =
     let rest = handedOut b (passed + 1) left in
     cond (eqb mark keptMark) (Record (passed + 1) ∷ rest) (cond (eqb mark deletedMark) rest (Refused 15 ∷ rest))
 
--- an answer and those of the calls after it: none after done
+-- an answer and the answers of the calls after it: none after done
 abbrev pub andThen : Step → List Step → List Step
 andThen (Record i) rest = Record i ∷ rest
 andThen Done rest = Done ∷ []
 andThen (Refused n) rest = Refused n ∷ rest
 
--- the answers of a host's calls, at most so many, each with the position that the one before it left, until done
+-- the answers of at most `calls` calls, each with the position that the last one left, until done
 unfoldable pub walkRun : List ℕ → Position → ℕ → List Step
 walkRun b position zero = []
 walkRun b position (suc calls) = andThen (walkStep b position .answer) (walkRun b (walkStep b position .position) calls)
@@ -57,9 +57,11 @@ module _ (b : List ℕ) (good : tableRefusal b ≡ 0) where
       (λ deleted. rw (other, deleted) (run-from left position (passed + 1) (suc calls) here (omega arith)))
       (λ bad. rw (other, bad, rest)))
 
-  -- the calls from any position up to the end, one more than there are records left
-  pub walk-run : (passed left : ℕ) → passed + left ≡ recordCount b → walkRun b (record { passed = passed }) (left + 1) ≡ handedOut b passed left ++ (Done ∷ [])
+  -- a walk from any position to its end: one call more than records are left
+  walk-run : (passed left : ℕ) → passed + left ≡ recordCount b
+      → walkRun b (record { passed = passed }) (left + 1) ≡ handedOut b passed left ++ (Done ∷ [])
   walk-run passed left e = rw (add-one left) (step-then passed left left e ∙ run-from left passed passed left e (le-refl left))
 
+  -- a walk from 0
   pub walk-whole : walkRun b (record { passed = 0 }) (recordCount b + 1) ≡ handedOut b 0 (recordCount b) ++ (Done ∷ [])
   walk-whole = walk-run 0 (recordCount b) (omega arith)

@@ -1,4 +1,4 @@
--- Laws: how the loop of a step meets the rule, one record after another. Assumes nothing.
+-- Laws: the loop of a step meets the rule, one record after another. Assumes nothing.
 use Prim.Native.Nat.{ℕ, suc, _+_, _-_, _≤_, _<_}
 use mathlib.Core.Path.{_≡_}
 use mathlib.Core.List.{List}
@@ -13,7 +13,7 @@ use Rattle.walk.specs.declared.Position.{Position}
 use Rattle.walk.specs.declared.Step.the-variants.{Record, Done, Refused}
 use Rattle.walk.specs.Walk.{stepTo, walkFrom, walkStep}
 
--- the deletion byte of the record after the first k stands where those end
+-- the deletion byte of record k + 1 stands where the first k records end
 pub mark-after : (b : List ℕ) (k : ℕ) → deletionByte b (k + 1) ≡ byteAt b (recordsEnd b k)
 unfolding deletionByte recordStart
 mark-after b k = let e : k + 1 - 1 ≡ k = omega arith in rw e
@@ -32,7 +32,8 @@ module _ (b : List ℕ) (position passed n : ℕ) (h : passed < n) where
   unfolding walkFrom
   walk-kept e = rw (one-left, e)
 
-  pub walk-deleted : deletionByte b (passed + 1) ≡ deletedMark → walkFrom b position passed (n - passed) ≡ walkFrom b position (passed + 1) (n - (passed + 1))
+  pub walk-deleted : deletionByte b (passed + 1) ≡ deletedMark
+      → walkFrom b position passed (n - passed) ≡ walkFrom b position (passed + 1) (n - (passed + 1))
   unfolding walkFrom
   walk-deleted e = rw (one-left, e)
 

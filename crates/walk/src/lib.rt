@@ -6,14 +6,13 @@ ghost use mathlib.Core.Path.{_≡_};
 ghost use Rattle.table.specs.Table.{recordCount, tableRefusal};
 ghost use Rattle.walk.specs.Walk.{stepTo, walkFrom, walkStep};
 
-const BAD_DELETION_BYTE: u32 = 15;
-
-// How many records a walk has passed, 0 at first. It belongs to the host.
+// The host's place in a walk: the number of records passed, 0 at first.
 #[repr(C)]
 pub struct Position {
     pub passed: u32,
 }
 
+// What a step answers: a record's number, done, or a refusal's number.
 pub enum Step {
     Record(u32),
     Done,
@@ -35,7 +34,7 @@ fn step_to(answer: Step, passed: u32) -> Walked
     }
 }
 
-// The step in a good table of n records.
+// The step from a position in a good table of n records.
 fn step_from(table: &[u8], n: u32, position: u32) -> Walked
     requires { ⌜ (tableRefusal (now table) ≡ 0) × (n ≡ recordCount (now table)) ⌝ }
     ensures { λ r. ⌜ r ≡ walkFrom (now (table .entry)) position position (n - position) ⌝ }
@@ -47,21 +46,21 @@ fn step_from(table: &[u8], n: u32, position: u32) -> Walked
             return step_to(Step::Record(passed + 1), passed + 1);
         }
         if mark != DELETED {
-            return step_to(Step::Refused(BAD_DELETION_BYTE), passed + 1);
+            return step_to(Step::Refused(refusal::DELETION_BYTE), passed + 1);
         }
         passed += 1;
     }
     step_to(Step::Done, position)
 }
 
-// The next undeleted record after those passed. A bad deletion byte is refused and passed; at the end, and where only deleted
-// records are left, the position stays.
+// The next undeleted record after those passed. A record with a bad deletion byte is refused and passed. If no record is left, or only deleted ones,
+// the answer is done and the position stays.
 pub fn walk_step(table: &[u8], position: Position) -> Walked
     ensures { λ r. ⌜ r ≡ walkStep (now (table .entry)) position ⌝ }
 {
     let passed = position.passed;
     match table::check_table(table) {
         table::Checked::Good(shape) => step_from(table, shape.records, passed),
-        table::Checked::Refused(number) => step_to(Step::Refused(number), passed),
+        table::Checked::Refused(refused) => step_to(Step::Refused(refused), passed),
     }
 }

@@ -1,8 +1,8 @@
 -- `calendar::date_of_numbers` meets its contract: each return is a case of the rule, in its order. Assumes nothing.
 use native.Mathlib.Omega.{arith}
-use mathlib.Core.Path.{sym, _∙_}
 use borrow.Author.Needs.{needs}
-use borrow.Author.Tests.{le-leb, lt-leb, not-true, not-false}
+use borrow.Author.Tests.{le-leb, lt-leb}
+use Rattle.basis.specs.Tests.{passed, failed}
 use Rattle.calendar.specs.DateText.{isFieldDate, dateOfNumbers}
 use Rattle.calendar.proofs.date_of_numbers.Statement.{statement}
 use Rattle.calendar.proofs.date_of_numbers.Tie as tie
@@ -18,14 +18,14 @@ returns-2 : tie.Need-returns-2
 unfolding isFieldDate dateOfNumbers
 returns-2 c =
     let start = c .before .before .before in
-    let no = sym (c .before .is-date .ensures) ∙ not-true _ (c .if2 .taken) in
+    let no = failed (c .before .is-date .ensures) (c .if2 .taken) in
     simp (le-leb 1 (start .args .year) (omega arith), le-leb _ _ (start .pre), no)
 
 returns-3 : tie.Need-returns-3
 unfolding isFieldDate dateOfNumbers
 returns-3 c =
     let start = c .before .before .before in
-    let yes = sym (c .before .is-date .ensures) ∙ not-false _ (c .if2 .left) in
+    let yes = passed (c .before .is-date .ensures) (c .if2 .left) in
     simp (le-leb 1 (start .args .year) (omega arith), le-leb _ _ (start .pre), yes)
 
 pub date-of-numbers-spec : {M : Type 1} → statement M

@@ -9,7 +9,7 @@ use Rattle.calendar.specs.CalendarLaws.{row-below, flag-row}
 use Rattle.calendar.proofs.days_in_month.Statement.{statement}
 use Rattle.calendar.proofs.days_in_month.Tie as tie
 
--- a flag as an index is the number of the year's row
+-- the flag that `is_leap` answers, as an index, is the year's row
 row : (c : tie.After-is-leap) → boolByte (c .is-leap .result) ≡ rowOf (c .before .args .year)
 row c = flag-row _ _ (c .is-leap .ensures)
 

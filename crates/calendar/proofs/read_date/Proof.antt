@@ -16,10 +16,14 @@ use Rattle.calendar.specs.DateLaws.{date-length, date-empty, part-bound,
 use Rattle.calendar.proofs.read_date.Statement.{statement}
 use Rattle.calendar.proofs.read_date.Tie as tie
 
--- the places: past the test for blanks, past each part that was digits
-abbrev text-at : tie.Else2 → List ℕ
-text-at c = c .before .before .before .before .args .text .now
+-- the text, at the count of its blanks and past the test of that count
+abbrev text-counted : tie.After-padding → List ℕ
+text-counted c = c .before .before .before .args .text .now
 
+abbrev text-at : tie.Else2 → List ℕ
+text-at c = text-counted (c .before)
+
+-- the place before the reading of each part, from past its test
 abbrev before-year : tie.After-known-told → tie.Else2
 before-year c = c .before .before .before .before .before
 
@@ -29,15 +33,16 @@ before-month c = c .before .before .before .before .before
 abbrev before-day : tie.After-known-told3 → tie.After-known-told2
 before-day c = c .before .before .before .before .before
 
--- the blanks passed tell whether all eight bytes are
-blanks-told : (c : tie.After-padding)
-    → let text = c .before .before .before .args .text .now in every (eqb blank) text ≡ eqb (c .padding .result) (length text)
-blanks-told c = blanks-passed (c .before .before .before .args .text .now) (c .padding .result) (c .padding .ensures .0) (c .padding .ensures .1)
+-- all bytes are blanks exactly if as many are counted
+blanks-told : (c : tie.After-padding) → every (eqb blank) (text-counted c) ≡ eqb (c .padding .result) (length (text-counted c))
+blanks-told c = blanks-passed (text-counted c) (c .padding .result) (c .padding .ensures .0) (c .padding .ensures .1)
 
--- eight bytes that are not all blank answer as their parts do
+-- eight bytes that are not all blanks answer as their parts do
 by-their-parts : (c : tie.Else2)
     → dateOf (text-at c) ≡ ofParts (digitsOf (yearPart (text-at c))) (digitsOf (monthPart (text-at c))) (digitsOf (dayPart (text-at c)))
-by-their-parts c = by-parts _ (c .before .before .if1 .left) (blanks-told (c .before) ∙ ne-eqb _ _ (λ e. c .if2 .left (e ∙ c .before .before .if1 .left)))
+by-their-parts c =
+    let eight = c .before .before .if1 .left in
+    by-parts _ eight (blanks-told (c .before) ∙ ne-eqb _ _ (λ e. c .if2 .left (e ∙ eight)))
 
 -- what each part was read as
 year-read : (c : tie.After-known-told) → digitsOf (yearPart (text-at (before-year c))) ≡ Number (c .before .year .given .0 .0)

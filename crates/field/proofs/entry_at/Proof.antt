@@ -97,9 +97,9 @@ shared-slice-read-t30-2 c = search needs
 returns : tie.Need-returns
 unfolding entryOf fieldName bytesFrom
 returns c =
-    let args = c .before .before .before .before .before .before .before .before .before .before .before .before .before .before .args in
-    let name = window-bytes (args .table .now) (descriptor (args .j)) 10 (omega arith) in
-    rw name
+    let at-name = c .before .before .before in
+    let args = at-name .before .before .before .before .before .before .before .before .before .before .before .args in
+    rw (window-bytes (args .table .now) (descriptor (args .j)) 10 (omega arith))
 
 pub entry-at-spec : {M : Type 1} → statement M
 entry-at-spec =

@@ -1,18 +1,17 @@
 -- `field::field_entry` meets its contract: the entry of a field of a good table, or zeros. Assumes nothing.
-use Rattle.field.specs.FieldLaws.{FieldGood}
 use mathlib.Core.Path.{sym, _∙_}
 use native.Mathlib.Omega.{arith}
 use borrow.Author.Tests.{ne-eqb}
 use Rattle.field.specs.Field.{fieldAnswer}
-use Rattle.field.specs.FieldLaws.{field-good}
+use Rattle.field.specs.FieldLaws.{FieldGood, field-good}
 use Rattle.table.specs.TableLaws.{layout}
 use Rattle.table.specs.RecordLaws.{descriptor-inside}
 use borrow.Author.Needs.{needs}
 use Rattle.field.proofs.field_entry.Statement.{statement}
 use Rattle.field.proofs.field_entry.Tie as tie
 
--- past the test the field is one of a good table's
-good : (c : tie.Else1) → FieldGood (c .before .before .before .args .table .now) (c .before .before .before .args .field)
+-- past the test the table is good and has the field
+good : (c : tie.Else1) → let args = c .before .before .before .args in FieldGood (args .table .now) (args .field)
 good c = field-good _ _ (sym (c .before .field-refusal .ensures) ∙ c .if1 .left)
 
 field-refusal-requires : tie.Need-field-refusal-requires

@@ -14,8 +14,9 @@ use Rattle.field.proofs.place_at.Statement.{statement}
 use Rattle.field.proofs.place_at.Tie as tie
 
 -- the answer is the place, and lies in the table
-answered : (b : List ℕ) (i field : ℕ) (p : Place) → PlaceGood b i field → p ≡ placeAt b i field → (p ≡ placeAt b i field) × PlaceInside b p
-answered b i field p good e = (e, place-within b i field p good e)
+answered : (b : List ℕ) (number field : ℕ) (p : Place) → PlaceGood b number field → p ≡ placeAt b number field
+    → (p ≡ placeAt b number field) × PlaceInside b p
+answered b number field p good e = (e, place-within b number field p good e)
 
 sub-records-end : tie.Need-sub-records-end
 sub-records-end c = search needs
@@ -41,14 +42,16 @@ unfolding recordStart formOf placeAt
 add-t7 c =
     let at-start = c .before .before .before in
     let args = at-start .before .before .args in
-    let offset : c .before .before .field-form .result .offset ≡ fieldOffset (args .table .now) (args .field - 1) = ap (λ (f : FieldForm). f .offset) (c .before .before .field-form .ensures) in
+    let form = c .before .before .field-form in
+    let offset : form .result .offset ≡ fieldOffset (args .table .now) (args .field - 1) = ap (λ (f : FieldForm). f .offset) (form .ensures) in
     omega (arith, place-within _ _ _ _ (at-start .before .before .pre) refl .inside, at-start .records-end .ensures .0)
 
 returns : tie.Need-returns
 unfolding placeAt formOf recordStart deletionByte
 returns c =
-    answered _ _ _ _ (c .before .before .before .before .before .pre)
-    (rw (c .before .byte .ensures .0, c .before .before .field-form .ensures, c .before .before .before .records-end .ensures .0))
+    let at-start = c .before .before .before in
+    answered _ _ _ _ (at-start .before .before .pre)
+    (rw (c .before .byte .ensures .0, c .before .before .field-form .ensures, at-start .records-end .ensures .0))
 
 pub place-at-spec : {M : Type 1} → statement M
 place-at-spec =

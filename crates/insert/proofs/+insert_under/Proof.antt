@@ -8,7 +8,6 @@ use borrow.Author.Needs.{needs}
 use borrow.Fn.Kinds.{In}
 use borrow.Fn.PlainCycle.{Measures, is, falls, and}
 use Rattle.page.specs.Header.{isPage}
-use Rattle.page.specs.Page.{attributeAt, leafBit}
 use Rattle.insert.specs.Insertion.{insertUnder}
 use Rattle.insert.specs.StepLaws.{visited-leaf, visited-child, under-bad, under-leaf, under-child, next-fits}
 use Rattle.insert.proofs.insert_under.Reads as insert-under
@@ -44,20 +43,48 @@ claims t = (
   after-child-reads.Learnt,
 )
 
--- a visit that met a leaf, and one that met a page above a child, met a page
-leaf : (t : ℕ) (c : insert-under-lts.After-enum-told2 (claims t) (insert-under-at t) insert-under.Post)
-    → let args = c .before .before .before .before .before .before .before .args in (isPage (length (args .index .now)) (args .page .0) ≡ true) × (leafBit (attributeAt (args .index .now) (args .page .0)) ≡ true)
-leaf t c = visited-leaf _ _ _ (sym (c .enum-told2 .given .1) ∙ c .before .before .visit-page .ensures)
+-- the places of a call with t levels left: its start, the visit of the page, and what the visit met
+abbrev Start : ℕ → Type 0
+Start t = insert-under-lts.Start (claims t) (insert-under-at t) insert-under.Post
 
-child : (t : ℕ) (c : insert-under-lts.After-visit (claims t) (insert-under-at t) insert-under.Post) → let args = c .before .before .before .before .before .before .before .args in isPage (length (args .index .now)) (args .page .0) ≡ true
-child t c = visited-child _ _ _ _ (sym (c .visit .given .1) ∙ c .before .before .visit-page .ensures) .0
+abbrev Visited : ℕ → Type 0
+Visited t = insert-under-lts.After-visit-page (claims t) (insert-under-at t) insert-under.Post
+
+abbrev MetLeaf : ℕ → Type 0
+MetLeaf t = insert-under-lts.After-enum-told2 (claims t) (insert-under-at t) insert-under.Post
+
+abbrev MetChild : ℕ → Type 0
+MetChild t = insert-under-lts.After-visit (claims t) (insert-under-at t) insert-under.Post
+
+-- from the visit back to the start, and from what it met back to it
+abbrev start : (t : ℕ) → Visited t → Start t
+start t c = c .before .before .before .before .before
+
+abbrev leaf-visit : (t : ℕ) → MetLeaf t → Visited t
+leaf-visit t c = c .before .before
+
+abbrev child-visit : (t : ℕ) → MetChild t → Visited t
+child-visit t c = c .before .before
+
+-- a page is visited only if levels are left
+levels-left : (t : ℕ) (c : Visited t) → start t c .args .levels ≡ 0 → ⊥
+levels-left t c = c .before .before .if1 .left
+
+-- a visit that met a leaf, and one that met a page above a child, met a page
+leaf : (t : ℕ) (c : MetLeaf t) → let args = start t (leaf-visit t c) .args in isPage (length (args .index .now)) (args .page .0) ≡ true
+leaf t c = visited-leaf _ _ _ (sym (c .enum-told2 .given .1) ∙ leaf-visit t c .visit-page .ensures) .0
+
+child : (t : ℕ) (c : MetChild t) → let args = start t (child-visit t c) .args in isPage (length (args .index .now)) (args .page .0) ≡ true
+child t c = visited-child _ _ _ _ (sym (c .visit .given .1) ∙ child-visit t c .visit-page .ensures) .0
 
 insert-under-returns : (t : ℕ) → insert-under-lts.Need-returns (claims t) (insert-under-at t) insert-under.Post
 unfolding insertUnder
 insert-under-returns t c = rw (c .if1 .taken)
 
 insert-under-visit-page-requires : (t : ℕ) → insert-under-lts.Need-visit-page-requires (claims t) (insert-under-at t) insert-under.Post
-insert-under-visit-page-requires t c κs = c .before .before .before .before .pre .1 .0
+insert-under-visit-page-requires t c κs =
+    let at-start = c .before .before .before .before in
+    at-start .pre .1 .0
 
 insert-under-enum-told : (t : ℕ) → insert-under-lts.Need-enum-told (claims t) (insert-under-at t) insert-under.Post
 insert-under-enum-told t c = search needs
@@ -66,7 +93,9 @@ insert-under-enum-told-2 : (t : ℕ) → insert-under-lts.Need-enum-told-2 (clai
 insert-under-enum-told-2 t c = search needs
 
 insert-under-insert-in-leaf-requires : (t : ℕ) → insert-under-lts.Need-insert-in-leaf-requires (claims t) (insert-under-at t) insert-under.Post
-insert-under-insert-in-leaf-requires t c κs = (c .before .before .before .before .before .before .before .before .pre .1 .0, leaf t (c .before) .0)
+insert-under-insert-in-leaf-requires t c κs =
+    let met = c .before in
+    (start t (leaf-visit t met) .pre .1 .0, leaf t met)
 
 insert-under-enum-known-visit : (t : ℕ) → insert-under-lts.Need-enum-known-visit (claims t) (insert-under-at t) insert-under.Post
 insert-under-enum-known-visit t c = search needs
@@ -76,36 +105,54 @@ insert-under-sub-insert-under t c = search needs
 
 insert-under-insert-under-requires : (t : ℕ) → insert-under-lts.Need-insert-under-requires (claims t) (insert-under-at t) insert-under.Post
 insert-under-insert-under-requires t c κs =
-    let start = c .before .before .before .before .before .before .before .before .before in
-    (omega (arith, start .pre .0, c .before .before .before .before .before .before .if1 .left), (start .pre .1 .0, omega (arith, start .pre .1 .1)))
+    let visited = child-visit t (c .before .before) in
+    let pre = start t visited .pre in
+    (omega (arith, pre .0, levels-left t visited), (pre .1 .0, omega (arith, pre .1 .1)))
 
 insert-under-after-child-requires : (t : ℕ) → insert-under-lts.Need-after-child-requires (claims t) (insert-under-at t) insert-under.Post
 insert-under-after-child-requires t c κs =
-    let start = c .before .before .before .before .before .before .before .before .before .before .before .before .before in
-    let below = c .before .before .before .insert-under in (
-      start .pre .1 .0,
-      rw (below .kept .0) (child t (c .before .before .before .before .before .before)),
-      next-fits _ _ _ _ _ _ _ _ (below .result) (below .ensures) (omega (arith, start .pre .1 .1)),
+    let returned = c .before .before .before in
+    let below = returned .insert-under in
+    let met = returned .before .before .before in
+    let pre = start t (child-visit t met) .pre in (
+      pre .1 .0,
+      rw (below .kept .0) (child t met),
+      next-fits _ _ _ _ _ _ _ _ (below .result) (below .ensures) (omega (arith, pre .1 .1)),
     )
 
 insert-under-same-length : (t : ℕ) → insert-under-lts.Need-same-length (claims t) (insert-under-at t) insert-under.Post
 insert-under-same-length t c = search needs
 
 insert-under-returns-2 : (t : ℕ) → insert-under-lts.Need-returns-2 (claims t) (insert-under-at t) insert-under.Post
-insert-under-returns-2 t c = under-bad _ _ _ _ _ _ (c .before .before .before .before .if1 .left) (sym (c .enum-told .given .1) ∙ c .before .before .visit-page .ensures)
+insert-under-returns-2 t c =
+    let visited = c .before .before in
+    under-bad _ _ _ _ _ _ (levels-left t visited) (sym (c .enum-told .given .1) ∙ visited .visit-page .ensures)
 
 insert-under-same-length-2 : (t : ℕ) → insert-under-lts.Need-same-length-2 (claims t) (insert-under-at t) insert-under.Post
 insert-under-same-length-2 t c = c .before .before .insert-in-leaf .kept .0
 
 insert-under-returns-3 : (t : ℕ) → insert-under-lts.Need-returns-3 (claims t) (insert-under-at t) insert-under.Post
-insert-under-returns-3 t c = under-leaf _ _ _ _ _ _ (c .before .before .before .before .before .before .before .before .if1 .left) (sym (c .before .before .before .before .enum-told2 .given .1) ∙ c .before .before .before .before .before .before .visit-page .ensures) ∙ c .before .before .insert-in-leaf .ensures
+insert-under-returns-3 t c =
+    let inserted = c .before .before in
+    let met = inserted .before .before in
+    let visited = leaf-visit t met in
+    under-leaf _ _ _ _ _ _ (levels-left t visited) (sym (met .enum-told2 .given .1) ∙ visited .visit-page .ensures)
+    ∙ inserted .insert-in-leaf .ensures
 
 insert-under-same-length-3 : (t : ℕ) → insert-under-lts.Need-same-length-3 (claims t) (insert-under-at t) insert-under.Post
-insert-under-same-length-3 t c = c .before .before .after-child .kept .0 ∙ c .before .before .before .before .before .before .insert-under .kept .0
+insert-under-same-length-3 t c =
+    let finished = c .before .before in
+    let returned = finished .before .before .before .before in
+    finished .after-child .kept .0 ∙ returned .insert-under .kept .0
 
 insert-under-returns-4 : (t : ℕ) → insert-under-lts.Need-returns-4 (claims t) (insert-under-at t) insert-under.Post
 insert-under-returns-4 t c =
-    under-child _ _ _ _ _ _ _ (c .before .before .before .before .before .before .before .before .before .before .before .before .before .if1 .left) (sym (c .before .before .before .before .before .before .before .before .before .visit .given .1) ∙ c .before .before .before .before .before .before .before .before .before .before .before .visit-page .ensures) (c .before .before .before .before .before .before .insert-under .ensures) ∙ c .before .before .after-child .ensures
+    let finished = c .before .before in
+    let returned = finished .before .before .before .before in
+    let met = returned .before .before .before in
+    let visited = child-visit t met in
+    under-child _ _ _ _ _ _ _ (levels-left t visited) (sym (met .visit .given .1) ∙ visited .visit-page .ensures) (returned .insert-under .ensures)
+    ∙ finished .after-child .ensures
 
 pub +insert-under-spec : {M : Type 1} → statement M
 +insert-under-spec = close μ-insert-under λ t. insert-under-lts.spec (claims t)

@@ -1,6 +1,6 @@
 -- `insert::path_from` meets its contract, by induction on the levels left, which fall with each call. Assumes nothing.
 use Prim.Native.Nat.{ℕ, _-_, _<_}
-use mathlib.Core.Path.{sym, _∙_}
+use mathlib.Core.Path.{_≡_, sym, _∙_}
 use native.Mathlib.Omega.{arith}
 use lib.ListN.{length}
 use borrow.Author.Needs.{needs}
@@ -41,6 +41,27 @@ claims t = (
   path-from.Post,
 )
 
+-- the places of a call with t levels left: its start, the visit of the page, and a child that the visit met
+abbrev Start : ℕ → Type 0
+Start t = path-from-lts.Start (claims t) (path-from-at t) path-from.Post
+
+abbrev Visited : ℕ → Type 0
+Visited t = path-from-lts.After-visit-page (claims t) (path-from-at t) path-from.Post
+
+abbrev MetChild : ℕ → Type 0
+MetChild t = path-from-lts.After-visit (claims t) (path-from-at t) path-from.Post
+
+-- from the visit back to the start, and from the child back to the visit
+abbrev start : (t : ℕ) → Visited t → Start t
+start t c = c .before .before .before .before .before
+
+abbrev child-visit : (t : ℕ) → MetChild t → Visited t
+child-visit t c = c .before .before
+
+-- a page is visited only if levels are left
+levels-left : (t : ℕ) (c : Visited t) → start t c .args .levels ≡ 0 → ⊥
+levels-left t c = c .before .before .if1 .left
+
 path-from-returns : (t : ℕ) → path-from-lts.Need-returns (claims t) (path-from-at t) path-from.Post
 unfolding pathFrom
 path-from-returns t c = rw (c .if1 .taken)
@@ -49,7 +70,9 @@ path-from-is-full-requires : (t : ℕ) → path-from-lts.Need-is-full-requires (
 path-from-is-full-requires t c κs = c .before .before .before .pre .1 .0
 
 path-from-visit-page-requires : (t : ℕ) → path-from-lts.Need-visit-page-requires (claims t) (path-from-at t) path-from.Post
-path-from-visit-page-requires t c κs = c .before .before .before .before .pre .1 .0
+path-from-visit-page-requires t c κs =
+    let at-start = c .before .before .before .before in
+    at-start .pre .1 .0
 
 path-from-enum-told : (t : ℕ) → path-from-lts.Need-enum-told (claims t) (path-from-at t) path-from.Post
 path-from-enum-told t c = search needs
@@ -68,23 +91,38 @@ path-from-sub-path-from t c = search needs
 
 path-from-path-from-requires : (t : ℕ) → path-from-lts.Need-path-from-requires (claims t) (path-from-at t) path-from.Post
 path-from-path-from-requires t c κs =
-    let start = c .before .before .before .before .before .before .before .before in
-    (omega (arith, start .pre .0, c .before .before .before .before .before .if1 .left), (start .pre .1 .0, omega (arith, start .pre .1 .1)))
+    let visited = child-visit t (c .before) in
+    let pre = start t visited .pre in
+    (omega (arith, pre .0, levels-left t visited), (pre .1 .0, omega (arith, pre .1 .1)))
 
 path-from-on-top-requires-2 : (t : ℕ) → path-from-lts.Need-on-top-requires-2 (claims t) (path-from-at t) path-from.Post
 path-from-on-top-requires-2 t c κs =
-    let start = c .before .before .before .before .before .before .before .before .before in
-    rw (c .path-from .ensures) (omega (arith, path-levels (length (start .args .key .now)) (start .args .levels - 1) (start .args .index .now) (start .args .key .now) (c .before .before .visit .given .0 .0 .0), start .pre .1 .1))
+    let met = c .before .before in
+    let at-start = start t (child-visit t met) in
+    let key = at-start .args .key .now in
+    let few = path-levels (length key) (at-start .args .levels - 1) (at-start .args .index .now) key (met .visit .given .0 .0 .0) in
+    rw (c .path-from .ensures) (omega (arith, few, at-start .pre .1 .1))
 
 path-from-returns-2 : (t : ℕ) → path-from-lts.Need-returns-2 (claims t) (path-from-at t) path-from.Post
-path-from-returns-2 t c = path-bad _ _ _ _ (c .before .before .before .before .if1 .left) (sym (c .enum-told .given .1) ∙ c .before .before .visit-page .ensures)
+path-from-returns-2 t c =
+    let visited = c .before .before in
+    path-bad _ _ _ _ (levels-left t visited) (sym (c .enum-told .given .1) ∙ visited .visit-page .ensures)
 
 path-from-returns-3 : (t : ℕ) → path-from-lts.Need-returns-3 (claims t) (path-from-at t) path-from.Post
-path-from-returns-3 t c = c .on-top .ensures ∙ path-leaf _ _ _ (c .before .before .before .before .is-full .ensures) _ (c .before .before .before .before .before .if1 .left) (sym (c .before .enum-told2 .given .1) ∙ c .before .before .before .visit-page .ensures)
+path-from-returns-3 t c =
+    let met = c .before in
+    let visited = met .before .before in
+    c .on-top .ensures
+    ∙ path-leaf _ _ _ (visited .before .is-full .ensures) _ (levels-left t visited) (sym (met .enum-told2 .given .1) ∙ visited .visit-page .ensures)
 
 path-from-returns-4 : (t : ℕ) → path-from-lts.Need-returns-4 (claims t) (path-from-at t) path-from.Post
 path-from-returns-4 t c =
-    c .on-top2 .ensures ∙ path-child _ _ _ (c .before .before .before .before .before .before .is-full .ensures) _ _ (c .before .before .before .before .before .before .before .if1 .left) (sym (c .before .before .before .visit .given .1) ∙ c .before .before .before .before .before .visit-page .ensures) (c .before .path-from .ensures)
+    let returned = c .before in
+    let met = returned .before .before in
+    let visited = child-visit t met in
+    let child = sym (met .visit .given .1) ∙ visited .visit-page .ensures in
+    c .on-top2 .ensures
+    ∙ path-child _ _ _ (visited .before .is-full .ensures) _ _ (levels-left t visited) child (returned .path-from .ensures)
 
 pub +path-from-spec : {M : Type 1} → statement M
 +path-from-spec = close μ-path-from λ t. path-from-lts.spec (claims t)

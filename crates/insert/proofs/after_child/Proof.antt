@@ -13,7 +13,10 @@ enum-known-below-2 : tie.Need-enum-known-below-2
 enum-known-below-2 c = search needs
 
 take-in-two-requires : tie.Need-take-in-two-requires
-take-in-two-requires c κs = let pre = c .before .before .before .before .before .before .pre in (pre .0, pre .1, rw (c .before .before .below2 .given .1) at (pre .2))
+take-in-two-requires c κs =
+    let split = c .before .before in
+    let start = split .before .before .before .before in
+    (start .pre .0, start .pre .1, rw (split .below2 .given .1) at (start .pre .2))
 
 enum-told : tie.Need-enum-told
 enum-told c = search needs
@@ -22,13 +25,19 @@ same-length : tie.Need-same-length
 same-length c = search needs
 
 returns : tie.Need-returns
-returns c = rw (c .before .before .before .before .before .below .given .1, c .before .before .raise-key .ensures)
+returns c =
+    let raised = c .before .before in
+    let kept = raised .before .before .before in
+    rw (kept .below .given .1, raised .raise-key .ensures)
 
 same-length-2 : tie.Need-same-length-2
 same-length-2 c = search needs
 
 returns-2 : tie.Need-returns-2
-returns-2 c = rw (c .before .before .before .before .before .below2 .given .1) (c .before .before .take-in-two .ensures)
+returns-2 c =
+    let taken-in = c .before .before in
+    let split = taken-in .before .before .before in
+    rw (split .below2 .given .1) (taken-in .take-in-two .ensures)
 
 returns-3 : tie.Need-returns-3
 returns-3 c = rw (c .enum-told .given .1)

@@ -1,5 +1,5 @@
 -- `insert::expression_good` meets its contract: the rule's three tests. Assumes nothing.
-use mathlib.Core.Path.{sym, _∙_}
+use mathlib.Core.Path.{sym}
 use Rattle.insert.specs.CallLaws.{expression-long, expression-short}
 use borrow.Author.Needs.{needs}
 use Rattle.insert.proofs.expression_good.Statement.{statement}

@@ -1,7 +1,7 @@
 -- `insert::fresh` meets its contract: the rule's tests in its order. Assumes nothing.
-use mathlib.Core.Path.{_≡_, sym, _∙_}
+use mathlib.Core.Path.{_≡_}
 use mathlib.Core.Bool.{true}
-use borrow.Author.Tests.{not-true, not-false}
+use Rattle.basis.specs.Tests.{passed, failed}
 use Rattle.page.specs.Header.{keyLengthGood}
 use Rattle.insert.specs.Fresh.{expressionGood}
 use Rattle.page.specs.HeaderLaws.{good-key-length}
@@ -10,12 +10,16 @@ use borrow.Author.Needs.{needs}
 use Rattle.insert.proofs.fresh.Statement.{statement}
 use Rattle.insert.proofs.fresh.Tie as tie
 
--- the tests that were passed
-key : (c : tie.Else1) → keyLengthGood (c .before .before .before .before .before .args .k) ≡ true
-key c = sym (c .before .before .key-length-good .ensures) ∙ not-false _ (c .if1 .left)
+-- the call's start, from behind the first test
+abbrev start : tie.Else1 → tie.Start
+start c = c .before .before .before .before .before
 
-good : (c : tie.Else2) → expressionGood (c .before .before .before .before .before .before .args .expression .now) ≡ true
-good c = sym (c .before .before .expression-good .ensures) ∙ not-false _ (c .if2 .left)
+-- the tests that were passed: the key length is good, the expression is good
+key : (c : tie.Else1) → keyLengthGood (start c .args .k) ≡ true
+key c = passed (c .before .before .key-length-good .ensures) (c .if1 .left)
+
+good : (c : tie.Else2) → expressionGood (start (c .before) .args .expression .now) ≡ true
+good c = passed (c .before .before .expression-good .ensures) (c .if2 .left)
 
 key-length-good-requires : tie.Need-key-length-good-requires
 key-length-good-requires c κs = search needs
@@ -24,24 +28,29 @@ expression-good-requires : tie.Need-expression-good-requires
 expression-good-requires c κs = search needs
 
 returns : tie.Need-returns
-returns c = fresh-27 _ _ _ (sym (c .before .before .key-length-good .ensures) ∙ not-true _ (c .if1 .taken))
+returns c = fresh-27 _ _ _ (failed (c .before .before .key-length-good .ensures) (c .if1 .taken))
 
 returns-2 : tie.Need-returns-2
-returns-2 c = fresh-24 _ _ _ (key (c .before)) (sym (c .before .before .expression-good .ensures) ∙ not-true _ (c .if2 .taken))
+returns-2 c = fresh-24 _ _ _ (key (c .before)) (failed (c .before .before .expression-good .ensures) (c .if2 .taken))
 
 returns-3 : tie.Need-returns-3
 returns-3 c = fresh-30 _ _ _ (key (c .before .before)) (good (c .before)) (c .if3 .taken)
 
 write-fresh-requires : tie.Need-write-fresh-requires
-write-fresh-requires c κs = (c .before .if3 .left, good-key-length _ (key (c .before .before .before)) .1, expression-most _ (good (c .before .before)))
+write-fresh-requires c κs =
+    let room = c .before in
+    let expression = room .before in
+    (room .if3 .left, good-key-length _ (key (expression .before)) .1, expression-most _ (good expression))
 
 same-length : tie.Need-same-length
 same-length c = search needs
 
 returns-4 : tie.Need-returns-4
 returns-4 c =
-    let passed = c .before .before .before .before in
-    fresh-made _ _ _ (key (passed .before .before)) (good (passed .before)) (passed .if3 .left) (c .before .before .write-fresh .ensures)
+    let written = c .before .before in
+    let room = written .before .before in
+    let expression = room .before in
+    fresh-made _ _ _ (key (expression .before)) (good expression) (room .if3 .left) (written .write-fresh .ensures)
 
 pub fresh-spec : {M : Type 1} → statement M
 fresh-spec =

@@ -1,30 +1,62 @@
 -- `insert::insert` meets its contract: the rule's tests in its order. Assumes nothing.
+use Prim.Native.Nat.{ℕ}
 use mathlib.Core.Path.{_≡_, sym, ap, _∙_}
-use mathlib.Core.Bool.{true, false}
+use mathlib.Core.Bool.{true}
+use mathlib.Core.List.{List}
 use lib.ListN.{length}
-use borrow.Author.Tests.{not-true, not-false}
+use Rattle.basis.specs.Tests.{passed, failed}
 use Rattle.page.specs.Header.{keyLength, headerGood}
 use Rattle.page.specs.HeaderLaws.{good-header}
 use Rattle.sound.specs.Rule.{pagesGood, unmarked}
 use Rattle.lookup.specs.Lookup.{lookupRule}
 use Rattle.insert.specs.Calls.{isFound}
-use Rattle.insert.specs.CallLaws.{audit-sound, audit-unsound, refused-24, refused-27, refused-28, refused-25, refused-29, refused-30, accepted-pair}
+use Rattle.insert.specs.CallLaws.{audit-sound, audit-unsound}
+use Rattle.insert.specs.CallLaws.{refused-24, refused-27, refused-28, refused-25, refused-29, refused-30, accepted-pair}
 use borrow.Author.Needs.{needs}
 use Rattle.insert.proofs.insert.Statement.{statement}
 use Rattle.insert.proofs.insert.Tie as tie
 
--- the tests that were passed: the header is good, the key has its length, the index is sound, the key is absent
-header : (c : tie.Else1) → headerGood (c .before .before .before .before .before .args .index .now) ≡ true
-header c = sym (c .before .header-good .ensures) ∙ not-false _ (c .if1 .left)
+-- the places: the call's start, from behind the first test; and the place behind each test, from the place behind the next
+abbrev start : tie.Else1 → tie.Start
+start c = c .before .before .before .before .before
 
-same : (c : tie.Else2) → let args = c .before .before .before .before .before .before .before .before .args in length (args .key .now) ≡ keyLength (args .index .now)
+abbrev at-header : tie.Else2 → tie.Else1
+at-header c = c .before .before .before
+
+abbrev at-length : tie.Else3 → tie.Else2
+at-length c = c .before .before
+
+abbrev at-number : tie.After-audit → tie.Else3
+at-number c = c .before .before
+
+abbrev at-sound : tie.After-is-found → tie.Else4
+at-sound c = c .before .before .before
+
+abbrev at-absent : tie.After-no-room → tie.Else5
+at-absent c = c .before .before
+
+-- the buffer and the key of the call, from behind the third test
+abbrev index : tie.Else3 → List ℕ
+index c = start (at-header (at-length c)) .args .index .now
+
+abbrev key : tie.Else3 → List ℕ
+key c = start (at-header (at-length c)) .args .key .now
+
+-- the tests that were passed: the header is good, the key has its length, the index is sound
+header : (c : tie.Else1) → headerGood (start c .args .index .now) ≡ true
+header c = passed (c .before .header-good .ensures) (c .if1 .left)
+
+same : (c : tie.Else2) → let args = start (at-header c) .args in length (args .key .now) ≡ keyLength (args .index .now)
 same c = c .if2 .left ∙ c .before .key-length .ensures
 
-sound : (c : tie.Else4) → pagesGood (c .before .before .before .before .before .before .before .before .before .before .before .before .before .args .index .now) unmarked ≡ true
-sound c = audit-sound _ (header (c .before .before .before .before .before .before .before .before)) (c .before .audit .ensures) (c .if4 .left)
+sound : (c : tie.Else4) → pagesGood (index (at-number (c .before))) unmarked ≡ true
+sound c =
+    let audited = c .before in
+    audit-sound _ (header (at-header (at-length (at-number audited)))) (audited .audit .ensures) (c .if4 .left)
 
-absent : (c : tie.Else5) → let args = c .before .before .before .before .before .before .before .before .before .before .before .before .before .before .before .before .before .args in isFound (lookupRule (args .index .now) (args .key .now)) ≡ false
-absent c = sym (c .before .is-found .ensures ∙ ap isFound (c .before .before .lookup .ensures)) ∙ c .if5 .left
+-- what the lookup said of the key
+looked-up : (c : tie.After-is-found) → let number = at-number (at-sound c .before) in c .is-found .result ≡ isFound (lookupRule (index number) (key number))
+looked-up c = c .is-found .ensures ∙ ap isFound (c .before .lookup .ensures)
 
 header-good-requires : tie.Need-header-good-requires
 header-good-requires c κs = search needs
@@ -33,7 +65,7 @@ same-length : tie.Need-same-length
 same-length c = search needs
 
 returns : tie.Need-returns
-returns c = refused-24 _ _ _ (sym (c .before .header-good .ensures) ∙ not-true _ (c .if1 .taken))
+returns c = refused-24 _ _ _ (failed (c .before .header-good .ensures) (c .if1 .taken))
 
 key-length-requires : tie.Need-key-length-requires
 key-length-requires c κs = good-header _ (header (c .before)) .long
@@ -48,7 +80,9 @@ same-length-3 : tie.Need-same-length-3
 same-length-3 c = search needs
 
 returns-3 : tie.Need-returns-3
-returns-3 c = refused-28 _ _ _ (header (c .before .before .before .before .before)) (same (c .before .before)) (c .if3 .taken)
+returns-3 c =
+    let measured = c .before .before in
+    refused-28 _ _ _ (header (at-header measured)) (same measured) (c .if3 .taken)
 
 audit-requires : tie.Need-audit-requires
 audit-requires c κs = search needs
@@ -58,8 +92,10 @@ same-length-4 c = search needs
 
 returns-4 : tie.Need-returns-4
 returns-4 c =
-    let h = header (c .before .before .before .before .before .before .before .before) in
-    refused-25 _ _ _ h (same (c .before .before .before .before .before)) (c .before .before .before .if3 .left) (audit-unsound _ h (c .before .audit .ensures) (c .if4 .taken))
+    let number = at-number (c .before) in
+    let measured = at-length number in
+    let good = header (at-header measured) in
+    refused-25 _ _ _ good (same measured) (number .if3 .left) (audit-unsound _ good (c .before .audit .ensures) (c .if4 .taken))
 
 lookup-requires : tie.Need-lookup-requires
 lookup-requires c κs = search needs
@@ -72,29 +108,50 @@ same-length-5 c = search needs
 
 returns-5 : tie.Need-returns-5
 returns-5 c =
-    refused-29 _ _ _ (header (c .before .before .before .before .before .before .before .before .before .before .before .before)) (same (c .before .before .before .before .before .before .before .before .before)) (c .before .before .before .before .before .before .before .if3 .left) (sound (c .before .before .before .before)) (sym (c .before .is-found .ensures ∙ ap isFound (c .before .before .lookup .ensures)) ∙ c .if5 .taken)
+    let audited = at-sound (c .before) in
+    let number = at-number (audited .before) in
+    let measured = at-length number in
+    let found = sym (looked-up (c .before)) ∙ c .if5 .taken in
+    refused-29 _ _ _ (header (at-header measured)) (same measured) (number .if3 .left) (sound audited) found
 
 no-room-requires : tie.Need-no-room-requires
 no-room-requires c κs =
-    (header (c .before .before .before .before .before .before .before .before .before .before .before .before .before), same (c .before .before .before .before .before .before .before .before .before .before))
+    let measured = at-length (at-number (at-sound (c .before .before) .before)) in
+    (header (at-header measured), same measured)
 
 same-length-6 : tie.Need-same-length-6
 same-length-6 c = search needs
 
 returns-6 : tie.Need-returns-6
 returns-6 c =
-    refused-30 _ _ _ (header (c .before .before .before .before .before .before .before .before .before .before .before .before .before .before .before)) (same (c .before .before .before .before .before .before .before .before .before .before .before .before)) (c .before .before .before .before .before .before .before .before .before .before .if3 .left) (sound (c .before .before .before .before .before .before .before)) (absent (c .before .before .before)) (sym (c .before .no-room .ensures) ∙ c .if6 .taken)
+    let absent = at-absent (c .before) in
+    let audited = at-sound (absent .before) in
+    let number = at-number (audited .before) in
+    let measured = at-length number in
+    let not-found = sym (looked-up (absent .before)) ∙ absent .if5 .left in
+    let full = sym (c .before .no-room .ensures) ∙ c .if6 .taken in
+    refused-30 _ _ _ (header (at-header measured)) (same measured) (number .if3 .left) (sound audited) not-found full
 
 insert-pair-requires : tie.Need-insert-pair-requires
 insert-pair-requires c κs =
-    (header (c .before .before .before .before .before .before .before .before .before .before .before .before .before .before .before .before), same (c .before .before .before .before .before .before .before .before .before .before .before .before .before))
+    let absent = at-absent (c .before .before) in
+    let measured = at-length (at-number (at-sound (absent .before) .before)) in
+    (header (at-header measured), same measured)
 
 same-length-7 : tie.Need-same-length-7
 same-length-7 c = search needs
 
 returns-7 : tie.Need-returns-7
 returns-7 c =
-    accepted-pair _ _ _ (header (c .before .before .before .before .before .before .before .before .before .before .before .before .before .before .before .before .before .before .before)) (same (c .before .before .before .before .before .before .before .before .before .before .before .before .before .before .before .before)) (c .before .before .before .before .before .before .before .before .before .before .before .before .before .before .if3 .left) (sound (c .before .before .before .before .before .before .before .before .before .before .before)) (absent (c .before .before .before .before .before .before .before)) (sym (c .before .before .before .before .before .no-room .ensures) ∙ c .before .before .before .before .if6 .left) (c .before .before .insert-pair .ensures)
+    let inserted = c .before .before in
+    let room = inserted .before .before in
+    let absent = at-absent (room .before) in
+    let audited = at-sound (absent .before) in
+    let number = at-number (audited .before) in
+    let measured = at-length number in
+    let not-found = sym (looked-up (absent .before)) ∙ absent .if5 .left in
+    let not-full = sym (room .before .no-room .ensures) ∙ room .if6 .left in
+    accepted-pair _ _ _ (header (at-header measured)) (same measured) (number .if3 .left) (sound audited) not-found not-full (inserted .insert-pair .ensures)
 
 pub insert-spec : {M : Type 1} → statement M
 insert-spec =

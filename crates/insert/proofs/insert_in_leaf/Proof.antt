@@ -1,4 +1,4 @@
--- `insert::insert_in_leaf` meets its contract: what was gathered reads as the rule's entries. Assumes nothing.
+-- `insert::insert_in_leaf` meets its contract: what is gathered reads as the rule's entries. Assumes nothing.
 use native.Mathlib.Omega.{arith}
 use lib.ListN.{length, length-take}
 use Rattle.layout.specs.Given.{Listed}
@@ -8,12 +8,20 @@ use borrow.Author.Needs.{needs}
 use Rattle.insert.proofs.insert_in_leaf.Statement.{statement}
 use Rattle.insert.proofs.insert_in_leaf.Tie as tie
 
--- the leaf's entries are counted
-counted : (c : tie.After-entry-count) → let args = c .before .before .before .before .args in
-    Listed (args .index .now) (length (args .key .now)) (args .page .0) (c .entry-count .result)
-counted c = let pre = c .before .before .before .before .pre in record { key = pre .0; page = pre .1; count = c .entry-count .ensures }
+-- the places: the call's start, from where the entries are counted; that place, from where they are gathered
+abbrev start : tie.After-entry-count → tie.Start
+start c = c .before .before .before .before
 
-products : (c : tie.After-entry-count) → let args = c .before .before .before .before .args in
+abbrev before-gathering : tie.After-gather-pair → tie.After-entry-count
+before-gathering c = c .before .before .before
+
+-- the leaf's entries are counted
+counted : (c : tie.After-entry-count) → let args = start c .args in
+    Listed (args .index .now) (length (args .key .now)) (args .page .0) (c .entry-count .result)
+counted c = let pre = start c .pre in record { key = pre .0; page = pre .1; count = c .entry-count .ensures }
+
+-- the products of sizes, with all entries before the new one
+products : (c : tie.After-entry-count) → let args = start c .args in
     Spread (args .index .now) (length (args .key .now)) (args .page .0) (c .entry-count .result) (c .entry-count .result)
 products c = spread _ (counted c) (omega arith)
 
@@ -27,39 +35,45 @@ gather-pair-requires : tie.Need-gather-pair-requires
 gather-pair-requires c κs = (counted (c .before .before), search needs)
 
 add-size : tie.Need-add-size
-add-size c = let s = products (c .before .before .before .before) in omega arith
+add-size c = let s = products (before-gathering (c .before)) in omega arith
 
 add-size-2 : tie.Need-add-size-2
 add-size-2 c = search needs
 
 mul-size : tie.Need-mul-size
-mul-size c = let s = products (c .before .before .before .before) in omega arith
+mul-size c = let s = products (before-gathering (c .before)) in omega arith
 
 add-take-in : tie.Need-add-take-in
-add-take-in c = let s = products (c .before .before .before .before .before) in omega arith
+add-take-in c = let s = products (before-gathering (c .before .before)) in omega arith
 
 array-share-prefix-room : tie.Need-array-share-prefix-room
-array-share-prefix-room c = let s = products (c .before .before .before .before .before) in omega (arith, c .before .before .gather-pair .kept .0)
+array-share-prefix-room c =
+    let gathered = c .before .before in
+    let s = products (before-gathering gathered) in
+    omega (arith, gathered .gather-pair .kept .0)
 
 slice-aggregate-take-in : tie.Need-slice-aggregate-take-in
 slice-aggregate-take-in c =
-    let s = products (c .before .before .before .before .before .before) in
-    simp length-take (omega (arith, c .before .before .before .gather-pair .kept .0))
+    let gathered = c .before .before .before in
+    let s = products (before-gathering gathered) in
+    simp length-take (omega (arith, gathered .gather-pair .kept .0))
 
 take-in-requires : tie.Need-take-in-requires
 take-in-requires c κs =
-    one-more _ (counted (c .before .before .before .before .before .before)) (omega (arith, c .before .before .before .gather-pair .kept .0))
+    let gathered = c .before .before .before in
+    one-more _ (counted (before-gathering gathered)) (omega (arith, gathered .gather-pair .kept .0))
 
 same-length : tie.Need-same-length
 same-length c = search needs
 
 returns : tie.Need-returns
 returns c =
-    let gathered = c .before .before .before .before .before .before in
-    let count = gathered .before .before .before in
-    let args = count .before .before .before .before .args in
+    let taken-in = c .before .before in
+    let gathered = taken-in .before .before .before .before in
+    let count = before-gathering gathered in
+    let args = start count .args in
     rw (pair-read (args .key .now) (args .number .0) _ (counted count) (omega arith) (gathered .gather-pair .ensures))
-    at (c .before .before .take-in .ensures)
+    at (taken-in .take-in .ensures)
 
 pub insert-in-leaf-spec : {M : Type 1} → statement M
 insert-in-leaf-spec =

@@ -9,7 +9,14 @@ use borrow.Author.Needs.{needs}
 use Rattle.insert.proofs.insert_pair.Statement.{statement}
 use Rattle.insert.proofs.insert_pair.Tie as tie
 
--- the header is good, and the key's length is its own
+-- the places: the call's start, from where the file's end is known; that place, from where the pair is inserted under the root
+abbrev start : tie.After-file-end → tie.Start
+start c = c .before .before .before .before .before .before
+
+abbrev at-end : tie.After-insert-under → tie.After-file-end
+at-end c = c .before .before
+
+-- the header is good, and the key is no longer than the longest key
 header : (s : tie.Start) → GoodHeader (s .args .index .now)
 header s = good-header _ (s .pre .0)
 
@@ -20,22 +27,25 @@ root-requires : tie.Need-root-requires
 root-requires c κs = header (c .before .before .before) .long
 
 file-end-requires : tie.Need-file-end-requires
-file-end-requires c κs = header (c .before .before .before .before .before) .long
+file-end-requires c κs =
+    let at-start = c .before .before .before .before .before in
+    header at-start .long
 
 insert-under-requires : tie.Need-insert-under-requires
 insert-under-requires c κs =
-    let start = c .before .before .before .before .before .before .before in
-    let h = header start in
-    (short start, omega (arith, c .before .file-end .ensures))
+    let at-start = start (c .before) in
+    let h = header at-start in
+    (short at-start, omega (arith, c .before .file-end .ensures))
 
 at-root-requires : tie.Need-at-root-requires
 at-root-requires c κs =
-    let start = c .before .before .before .before .before .before .before .before .before .before .before in
-    let h = header start in
-    let below = c .before .before .before in (
-      short start,
+    let below = c .before .before .before in
+    let end = at-end below in
+    let at-start = start end in
+    let h = header at-start in (
+      short at-start,
       omega (arith, below .insert-under .kept .0),
-      next-fits _ _ _ _ _ _ _ _ (below .insert-under .result) (below .insert-under .ensures) (omega (arith, below .before .before .file-end .ensures)),
+      next-fits _ _ _ _ _ _ _ _ (below .insert-under .result) (below .insert-under .ensures) (omega (arith, end .file-end .ensures)),
     )
 
 same-length : tie.Need-same-length
@@ -43,10 +53,12 @@ same-length c = search needs
 
 returns : tie.Need-returns
 returns c =
-    let below = c .before .before .before .before .before .before in
-    let start = below .before .before .before .before .before .before .before .before in
-    pair-inserted _ (start .args .key .now) _ (start .pre .1) (below .before .before .before .before .root .ensures) (below .before .before .file-end .ensures)
-    (below .insert-under .ensures) (c .before .before .at-root .ensures)
+    let finished = c .before .before in
+    let below = finished .before .before .before .before in
+    let end = at-end below in
+    let at-start = start end in
+    pair-inserted _ (at-start .args .key .now) _ (at-start .pre .1) (end .before .before .root .ensures) (end .file-end .ensures)
+    (below .insert-under .ensures) (finished .at-root .ensures)
 
 pub insert-pair-spec : {M : Type 1} → statement M
 insert-pair-spec =

@@ -1,9 +1,9 @@
--- `insert::new_root` meets its contract: the root's page, then the header's two numbers; what was gathered reads as the rule's entries. Assumes nothing.
-use mathlib.Core.Path.{_≡_, sym, _∙_}
+-- `insert::new_root` meets its contract: the root's page, then the header's two numbers; what is gathered reads as the rule's entries. Assumes nothing.
+use mathlib.Core.Path.{_≡_}
 use mathlib.Core.Bool.{true}
 use native.Mathlib.Omega.{arith}
 use lib.ListN.{length, length-take}
-use borrow.Author.Tests.{not-true, not-false}
+use Rattle.basis.specs.Tests.{passed, failed}
 use Rattle.page.specs.Header.{isPage}
 use Rattle.page.specs.HeaderLaws.{IsPage, is-page}
 use Rattle.layout.specs.WriteLaws.{capacity-least}
@@ -13,11 +13,25 @@ use borrow.Author.Needs.{needs}
 use Rattle.insert.proofs.new_root.Statement.{statement}
 use Rattle.insert.proofs.new_root.Tie as tie
 
--- the new root is a page of the buffer
-tested : (c : tie.Else1) → isPage (length (c .before .before .before .before .before .args .index .now)) (c .before .before .next-page .result .0) ≡ true
-tested c = sym (c .before .is-page .ensures) ∙ not-false _ (c .if1 .left)
+-- the places: the call's start, from behind the test; behind the test, from where the entries are gathered; and the place after each step, from the place
+-- after the next
+abbrev start : tie.Else1 → tie.Start
+start c = c .before .before .before .before .before
 
-page : (c : tie.Else1) → IsPage (length (c .before .before .before .before .before .args .index .now)) (c .before .before .next-page .result .0)
+abbrev at-test : tie.After-gather-root → tie.Else1
+at-test c = c .before .before .before
+
+abbrev at-gathering : tie.After-new-page → tie.After-gather-root
+at-gathering c = c .before .before .before .before
+
+abbrev at-page : tie.After-set-root → tie.After-new-page
+at-page c = c .before .before .before .before
+
+-- the new root is a page of the buffer
+tested : (c : tie.Else1) → isPage (length (start c .args .index .now)) (c .before .before .next-page .result .0) ≡ true
+tested c = passed (c .before .is-page .ensures) (c .if1 .left)
+
+page : (c : tie.Else1) → IsPage (length (start c .args .index .now)) (c .before .before .next-page .result .0)
 page c = is-page _ _ (tested c)
 
 next-page-requires : tie.Need-next-page-requires
@@ -28,9 +42,10 @@ is-page-requires c κs = search needs
 
 returns : tie.Need-returns
 returns c =
-    let args = c .before .before .before .before .before .args in
+    let at-start = c .before .before .before .before .before in
+    let args = at-start .args in
     root-none (args .index .now) (args .key .now) (args .old .0) (args .new .0) (c .before .before .next-page .ensures)
-    (sym (c .before .is-page .ensures) ∙ not-true _ (c .if1 .taken))
+    (failed (c .before .is-page .ensures) (c .if1 .taken))
 
 slice-aggregate-gather-root : tie.Need-slice-aggregate-gather-root
 slice-aggregate-gather-root c = search needs
@@ -50,34 +65,36 @@ array-share-prefix-room c = search needs
 slice-aggregate-new-page : tie.Need-slice-aggregate-new-page
 slice-aggregate-new-page c =
     let gathered = c .before .before .before in
-    simp length-take (omega (arith, gathered .gather-root .kept .0, gathered .before .before .before .before .before .before .before .before .pre .0))
+    simp length-take (omega (arith, gathered .gather-root .kept .0, start (at-test gathered) .pre .0))
 
 new-page-requires : tie.Need-new-page-requires
 new-page-requires c κs =
     let gathered = c .before .before .before in
-    let g = page (c .before .before .before .before .before .before) in
-    let start = gathered .before .before .before .before .before .before .before .before in
-    let m = capacity-least (length (start .args .key .now)) (start .pre .0) in
+    let g = page (at-test gathered) in
+    let at-start = start (at-test gathered) in
+    let m = capacity-least (length (at-start .args .key .now)) (at-start .pre .0) in
     record {
-      within = record { key = start .pre .0; count = omega arith; page = g .high };
-      size = simp length-take (omega (arith, gathered .gather-root .kept .0, start .pre .0));
+      within = record { key = at-start .pre .0; count = omega arith; page = g .high };
+      size = simp length-take (omega (arith, gathered .gather-root .kept .0, at-start .pre .0));
     }
 
 set-root-requires : tie.Need-set-root-requires
 set-root-requires c κs =
-    let g = page (c .before .before .before .before .before .before .before .before .before .before) in
-    omega (arith, c .before .before .before .new-page .kept .0)
+    let written = c .before .before .before in
+    let g = page (at-test (at-gathering written)) in
+    omega (arith, written .new-page .kept .0)
 
 next-page-requires-2 : tie.Need-next-page-requires-2
 next-page-requires-2 c κs =
-    let tested = c .before .before .before .before .before .before .before .before .before .before .before .before .before .before in
-    omega (arith, tested .before .before .next-page .ensures, tested .before .before .before .before .before .pre .1)
+    let stored = c .before .before .before in
+    let test = at-test (at-gathering (at-page stored)) in
+    omega (arith, test .before .before .next-page .ensures, start test .pre .1)
 
 set-file-end-requires : tie.Need-set-file-end-requires
 set-file-end-requires c κs =
     let stored = c .before .before .before .before in
-    let written = c .before .before .before .before .before .before .before .before in
-    let g = page (written .before .before .before .before .before .before .before) in
+    let written = at-page stored in
+    let g = page (at-test (at-gathering written)) in
     omega (arith, stored .set-root .kept .0, written .new-page .kept .0)
 
 same-length : tie.Need-same-length
@@ -85,15 +102,17 @@ same-length c = search needs
 
 returns-2 : tie.Need-returns-2
 returns-2 c =
-    let stored = c .before .before .before .before .before .before .before in
-    let written = stored .before .before .before .before in
-    let gathered = written .before .before .before .before in
-    let passed = gathered .before .before .before in
-    let start = passed .before .before .before .before .before in
-    let args = start .args in
-    root-new (args .index .now) (args .key .now) (args .old .0) (args .new .0) (passed .before .before .next-page .ensures) (tested passed)
-    (root-read (args .index .now) (args .key .now) (args .old .0) (args .new .0) _ (start .pre .0) (omega arith) (gathered .gather-root .ensures))
-    (written .new-page .ensures) (stored .set-root .ensures) (c .before .before .before .next-page2 .ensures) (c .before .before .set-file-end .ensures)
+    let finished = c .before .before in
+    let end = finished .before in
+    let stored = end .before .before .before .before in
+    let written = at-page stored in
+    let gathered = at-gathering written in
+    let test = at-test gathered in
+    let at-start = start test in
+    let args = at-start .args in
+    root-new (args .index .now) (args .key .now) (args .old .0) (args .new .0) (test .before .before .next-page .ensures) (tested test)
+    (root-read (args .index .now) (args .key .now) (args .old .0) (args .new .0) _ (at-start .pre .0) (omega arith) (gathered .gather-root .ensures))
+    (written .new-page .ensures) (stored .set-root .ensures) (end .next-page2 .ensures) (finished .set-file-end .ensures)
 
 pub new-root-spec : {M : Type 1} → statement M
 new-root-spec =

@@ -14,9 +14,12 @@ add-t5 c = search needs
 
 add-t6 : tie.Need-add-t6
 add-t6 c =
-    let path = c .before .before .before .before .args .path in
-    let same : path .run ≡ path .levels = eqb-true (path .run) (path .levels) (both (c .before .before .before .before .args .full) (eqb (path .run) (path .levels)) (c .before .before .if1 .taken) .1) in
-    let fits : path .run + 1 < 2 ^ 32 = omega (arith, c .before .before .before .before .pre) in
+    let tested = c .before .before in
+    let start = tested .before .before in
+    let path = start .args .path in
+    let whole = both (start .args .full) (eqb (path .run) (path .levels)) (tested .if1 .taken) .1 in
+    let same : path .run ≡ path .levels = eqb-true (path .run) (path .levels) whole in
+    let fits : path .run + 1 < 2 ^ 32 = omega (arith, start .pre) in
     record { fits = fits }
 
 returns : tie.Need-returns

@@ -1,7 +1,10 @@
 -- `insert::take_in` meets its contract: the rule's three cases, by its two tests. Assumes nothing.
-use mathlib.Core.Path.{sym, _∙_}
+use Prim.Native.Nat.{_≤_, _<_}
 use native.Mathlib.Omega.{arith}
-use borrow.Author.Tests.{not-true, not-false}
+use lib.ListN.{length}
+use Rattle.basis.specs.Tests.{passed, failed}
+use Rattle.page.specs.Page.{capacity}
+use Rattle.page.specs.Reading.{items}
 use Rattle.layout.specs.ItemLaws.{length-items}
 use Rattle.layout.specs.WriteLaws.{whole-given}
 use Rattle.insert.specs.StepLaws.{takes-kept, takes-split, takes-none}
@@ -9,50 +12,65 @@ use borrow.Author.Needs.{needs}
 use Rattle.insert.proofs.take_in.Statement.{statement}
 use Rattle.insert.proofs.take_in.Tie as tie
 
+-- the call's start, from the place where the capacity is known
+abbrev start : tie.After-capacity → tie.Start
+start c = c .before .before .before
+
+-- the entries fit the page, and they do not
+fit : (c : tie.Then1) → let args = start (c .before) .args in length (items (args .k) (args .count) (args .entries .now)) ≤ capacity (args .k)
+fit c =
+    let args = start (c .before) .args in
+    rw (length-items (args .k) (args .count) (args .entries .now)) (omega (arith, c .if1 .taken, c .before .capacity .ensures))
+
+too-many : (c : tie.Else1) → let args = start (c .before) .args in capacity (args .k) < length (items (args .k) (args .count) (args .entries .now))
+too-many c =
+    let args = start (c .before) .args in
+    rw (length-items (args .k) (args .count) (args .entries .now)) (omega (arith, c .if1 .left, c .before .capacity .ensures))
+
 capacity-requires : tie.Need-capacity-requires
 capacity-requires c κs = search needs
 
 with-entries-requires : tie.Need-with-entries-requires
 with-entries-requires c κs =
-    whole-given (c .before .before .before .before .before .pre) (omega (arith, c .before .if1 .taken, c .before .before .capacity .ensures))
+    let tested = c .before in
+    whole-given (start (tested .before) .pre) (omega (arith, tested .if1 .taken, tested .before .capacity .ensures))
 
 same-length : tie.Need-same-length
 same-length c = search needs
 
 returns : tie.Need-returns
 returns c =
-    let tested = c .before .before .before .before in
-    let args = tested .before .before .before .before .args in
-    takes-kept (args .k) (args .index .now) (args .page .0) _ (args .end .0)
-    (rw (length-items (args .k) (args .count) (args .entries .now)) (omega (arith, tested .if1 .taken, tested .before .capacity .ensures)))
-    (c .before .before .with-entries .ensures)
+    let written = c .before .before in
+    let tested = written .before .before in
+    let args = start (tested .before) .args in
+    takes-kept (args .k) (args .index .now) (args .page .0) _ (args .end .0) (fit tested) (written .with-entries .ensures)
 
 is-page-requires : tie.Need-is-page-requires
 is-page-requires c κs = search needs
 
 returns-2 : tie.Need-returns-2
 returns-2 c =
-    let args = c .before .before .before .before .before .before .args in
-    takes-none (args .k) (args .index .now) (args .page .0) _ (args .end .0)
-    (rw (length-items (args .k) (args .count) (args .entries .now)) (omega (arith, c .before .before .if1 .left, c .before .before .before .capacity .ensures)))
-    (sym (c .before .is-page .ensures) ∙ not-true _ (c .if2 .taken))
+    let tested = c .before .before in
+    let args = start (tested .before) .args in
+    takes-none (args .k) (args .index .now) (args .page .0) _ (args .end .0) (too-many tested) (failed (c .before .is-page .ensures) (c .if2 .taken))
 
 split-page-requires : tie.Need-split-page-requires
 split-page-requires c κs =
-    (c .before .before .before .before .before .before .before .pre, sym (c .before .before .is-page .ensures) ∙ not-false _ (c .before .if2 .left))
+    let page = c .before in
+    let tested = page .before .before in
+    (start (tested .before) .pre, passed (page .before .is-page .ensures) (page .if2 .left))
 
 same-length-2 : tie.Need-same-length-2
 same-length-2 c = search needs
 
 returns-3 : tie.Need-returns-3
 returns-3 c =
-    let page = c .before .before .before .before in
+    let halved = c .before .before in
+    let page = halved .before .before in
     let tested = page .before .before in
-    let args = tested .before .before .before .before .args in
-    takes-split (args .k) (args .index .now) (args .page .0) _ (args .end .0)
-    (rw (length-items (args .k) (args .count) (args .entries .now)) (omega (arith, tested .if1 .left, tested .before .capacity .ensures)))
-    (sym (page .before .is-page .ensures) ∙ not-false _ (page .if2 .left))
-    (c .before .before .split-page .ensures)
+    let args = start (tested .before) .args in
+    takes-split (args .k) (args .index .now) (args .page .0) _ (args .end .0) (too-many tested) (passed (page .before .is-page .ensures) (page .if2 .left))
+    (halved .split-page .ensures)
 
 pub take-in-spec : {M : Type 1} → statement M
 take-in-spec =

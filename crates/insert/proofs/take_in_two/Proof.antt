@@ -1,21 +1,29 @@
--- `insert::take_in_two` meets its contract: what was gathered reads as the rule's entries; a page without entries has none to replace. Assumes nothing.
+-- `insert::take_in_two` meets its contract: what is gathered reads as the rule's entries; a page without entries has none to replace. Assumes nothing.
 use mathlib.Core.Path.{sym, _∙_}
 use native.Mathlib.Omega.{arith}
 use lib.ListN.{length, length-take}
 use Rattle.layout.specs.Given.{Listed}
 use Rattle.layout.specs.GatherLaws.{Spread, spread}
 use Rattle.layout.specs.FitLaws.{one-more, two-read}
-use Rattle.insert.specs.StepLaws.{two-for-none}
+use Rattle.insert.specs.StepLaws.{two-for-some, two-for-none}
 use borrow.Author.Needs.{needs}
 use Rattle.insert.proofs.take_in_two.Statement.{statement}
 use Rattle.insert.proofs.take_in_two.Tie as tie
 
--- the page's entries are counted
-counted : (c : tie.After-entry-count) → let args = c .before .before .before .before .before .args in
-    Listed (args .index .now) (length (args .key .now)) (args .page .0) (c .entry-count .result)
-counted c = let pre = c .before .before .before .before .before .pre in record { key = pre .0; page = pre .1; count = c .entry-count .ensures }
+-- the places: the call's start, from where the entries are counted; where there are some, from where they are gathered
+abbrev start : tie.After-entry-count → tie.Start
+start c = c .before .before .before .before .before
 
-products : (c : tie.After-entry-count) → let args = c .before .before .before .before .before .args in
+abbrev before-gathering : tie.After-gather-two → tie.Else1
+before-gathering c = c .before .before .before
+
+-- the page's entries are counted
+counted : (c : tie.After-entry-count) → let args = start c .args in
+    Listed (args .index .now) (length (args .key .now)) (args .page .0) (c .entry-count .result)
+counted c = let pre = start c .pre in record { key = pre .0; page = pre .1; count = c .entry-count .ensures }
+
+-- the products of sizes, with all entries before the new one
+products : (c : tie.After-entry-count) → let args = start c .args in
     Spread (args .index .now) (length (args .key .now)) (args .page .0) (c .entry-count .result) (c .entry-count .result)
 products c = spread _ (counted c) (omega arith)
 
@@ -33,7 +41,7 @@ slice-aggregate-take-in c = search needs
 
 take-in-requires : tie.Need-take-in-requires
 take-in-requires c κs =
-    let pre = c .before .before .before .before .before .before .before .before .pre in
+    let pre = start (c .before .before .before) .pre in
     record { key = pre .0; page = pre .1; count = omega arith; size = omega arith }
 
 same-length : tie.Need-same-length
@@ -41,52 +49,61 @@ same-length c = search needs
 
 returns : tie.Need-returns
 returns c =
-    let tested = c .before .before .before .before .before in
-    let count = tested .before in
-    two-for-none _ _ _ _ _ _ _ (sym (count .entry-count .ensures) ∙ tested .if1 .taken) (count .before .before .next-page .ensures)
-    (c .before .before .take-in .ensures)
+    let taken-in = c .before .before in
+    let empty = taken-in .before .before .before in
+    let count = empty .before in
+    two-for-none _ _ _ _ _ _ _ (sym (count .entry-count .ensures) ∙ empty .if1 .taken) (count .before .before .next-page .ensures)
+    (taken-in .take-in .ensures)
 
 slice-aggregate-gather-two : tie.Need-slice-aggregate-gather-two
 slice-aggregate-gather-two c = search needs
 
 gather-two-requires : tie.Need-gather-two-requires
-gather-two-requires c κs = (counted (c .before .before .before), omega (arith, c .before .before .if1 .left), search needs)
+gather-two-requires c κs =
+    let some = c .before .before in
+    (counted (some .before), omega (arith, some .if1 .left), search needs)
 
 add-size : tie.Need-add-size
-add-size c = let s = products (c .before .before .before .before .before) in omega arith
+add-size c = let s = products (before-gathering (c .before) .before) in omega arith
 
 add-size-2 : tie.Need-add-size-2
 add-size-2 c = search needs
 
 mul-size : tie.Need-mul-size
-mul-size c = let s = products (c .before .before .before .before .before) in omega arith
+mul-size c = let s = products (before-gathering (c .before) .before) in omega arith
 
 add-take-in : tie.Need-add-take-in
-add-take-in c = let s = products (c .before .before .before .before .before .before) in omega arith
+add-take-in c = let s = products (before-gathering (c .before .before) .before) in omega arith
 
 array-share-prefix-room-2 : tie.Need-array-share-prefix-room-2
-array-share-prefix-room-2 c = let s = products (c .before .before .before .before .before .before) in omega (arith, c .before .before .gather-two .kept .0)
+array-share-prefix-room-2 c =
+    let gathered = c .before .before in
+    let s = products (before-gathering gathered .before) in
+    omega (arith, gathered .gather-two .kept .0)
 
 slice-aggregate-take-in-2 : tie.Need-slice-aggregate-take-in-2
 slice-aggregate-take-in-2 c =
-    let s = products (c .before .before .before .before .before .before .before) in
-    simp length-take (omega (arith, c .before .before .before .gather-two .kept .0))
+    let gathered = c .before .before .before in
+    let s = products (before-gathering gathered .before) in
+    simp length-take (omega (arith, gathered .gather-two .kept .0))
 
 take-in-requires-2 : tie.Need-take-in-requires-2
 take-in-requires-2 c κs =
-    one-more _ (counted (c .before .before .before .before .before .before .before)) (omega (arith, c .before .before .before .gather-two .kept .0))
+    let gathered = c .before .before .before in
+    one-more _ (counted (before-gathering gathered .before)) (omega (arith, gathered .gather-two .kept .0))
 
 same-length-2 : tie.Need-same-length-2
 same-length-2 c = search needs
 
 returns-2 : tie.Need-returns-2
 returns-2 c =
-    let gathered = c .before .before .before .before .before .before in
-    let tested = gathered .before .before .before in
-    let count = tested .before in
-    let key = count .before .before .before .before .before .args .key .now in
-    rw (two-read key _ _ _ (counted count) (tested .if1 .left) (omega arith) (gathered .gather-two .ensures), count .before .before .next-page .ensures)
-    at (c .before .before .take-in2 .ensures)
+    let taken-in = c .before .before in
+    let gathered = taken-in .before .before .before .before in
+    let some = before-gathering gathered in
+    let count = some .before in
+    let key = start count .args .key .now in
+    two-for-some _ _ _ _ _ _ _ (two-read key _ _ _ (counted count) (some .if1 .left) (omega arith) (gathered .gather-two .ensures))
+    (count .before .before .next-page .ensures) (taken-in .take-in2 .ensures)
 
 pub take-in-two-spec : {M : Type 1} → statement M
 take-in-two-spec =

@@ -1,4 +1,4 @@
--- `insert::write_fresh` meets its contract: the header behind which the file ends with its root, and that root. Assumes nothing.
+-- `insert::write_fresh` meets its contract: the header, then the root, at whose end the file ends. Assumes nothing.
 use Rattle.insert.specs.CallLaws.{fresh-stored}
 use borrow.Author.Needs.{needs}
 use Rattle.insert.proofs.write_fresh.Statement.{statement}

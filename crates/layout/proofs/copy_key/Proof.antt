@@ -7,11 +7,15 @@ use borrow.Author.Needs.{needs}
 use Rattle.layout.proofs.copy_key.Statement.{statement}
 use Rattle.layout.proofs.copy_key.Tie as tie
 
+-- the call's start, from the place where the entry's offset is known
+abbrev start : tie.After-entry-offset → tie.Start
+start c = c .before .before .before
+
 entry-offset-requires : tie.Need-entry-offset-requires
 entry-offset-requires c κs = search needs
 
 add-upto : tie.Need-add-upto
-add-upto c = let w = entry-within (c .before .before .before .pre .0) in omega (arith, c .entry-offset .ensures)
+add-upto c = let w = entry-within (start c .pre .0) in omega (arith, c .entry-offset .ensures)
 
 sub-copy-in : tie.Need-sub-copy-in
 sub-copy-in c = search needs
@@ -20,7 +24,7 @@ part-copy-in-start : tie.Need-part-copy-in-start
 part-copy-in-start c = search needs
 
 part-copy-in-end : tie.Need-part-copy-in-end
-part-copy-in-end c = let w = entry-within (c .before .before .before .before .pre .0) in omega (arith, c .before .entry-offset .ensures)
+part-copy-in-end c = let w = entry-within (start (c .before) .pre .0) in omega (arith, c .before .entry-offset .ensures)
 
 copy-in-requires : tie.Need-copy-in-requires
 copy-in-requires c κs = search needs
@@ -29,7 +33,10 @@ same-length : tie.Need-same-length
 same-length c = search needs
 
 returns : tie.Need-returns
-returns c = c .before .before .copy-in .ensures ∙ rw (part-window _ _ _ _ refl, c .before .before .before .before .before .entry-offset .ensures)
+returns c =
+    let copied = c .before .before in
+    let offset = copied .before .before .before in
+    copied .copy-in .ensures ∙ rw (part-window _ _ _ _ refl, offset .entry-offset .ensures)
 
 pub copy-key-spec : {M : Type 1} → statement M
 copy-key-spec =

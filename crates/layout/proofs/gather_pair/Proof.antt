@@ -8,10 +8,23 @@ use borrow.Author.Needs.{needs}
 use Rattle.layout.proofs.gather_pair.Statement.{statement}
 use Rattle.layout.proofs.gather_pair.Tie as tie
 
--- the products, where the search ends at entry i
-products : (c : tie.After-first-at-or-above) → let args = c .before .before .before .before .args in
+-- the places: the call's start, from where the search has ended; and the place before each store, from the one before the next
+abbrev start : tie.After-first-at-or-above → tie.Start
+start c = c .before .before .before .before
+
+abbrev before-key : tie.After-copy-in-arg → tie.After-copy-entries-arg
+before-key c = c .before .before .before .before
+
+abbrev before-number : tie.After-put-record-number-arg → tie.After-copy-in-arg
+before-number c = c .before .before .before .before
+
+abbrev before-rest : tie.After-copy-entries-arg2 → tie.After-put-record-number-arg
+before-rest c = c .before .before .before .before
+
+-- the products of sizes, if the search ends at entry i
+products : (c : tie.After-first-at-or-above) → let args = start c .args in
     Spread (args .index .now) (length (args .key .now)) (args .page .0) (args .count) (c .first-at-or-above .result)
-products c = let start = c .before .before .before .before in spread _ (start .pre .0) (c .first-at-or-above .ensures .1)
+products c = spread _ (start c .pre .0) (c .first-at-or-above .ensures .1)
 
 first-at-or-above-requires : tie.Need-first-at-or-above-requires
 first-at-or-above-requires c κs = listed-within (c .before .before .before .pre .0)
@@ -24,47 +37,44 @@ mul-at c = let s = products c in omega arith
 
 copy-entries-requires : tie.Need-copy-entries-requires
 copy-entries-requires c κs =
-    let s = products (c .before) in let w = listed-within (c .before .before .before .before .before .pre .0) in
+    let s = products (c .before) in
+    let w = listed-within (start (c .before) .pre .0) in
     (record { key = w .key; count = omega arith; page = w .page }, omega arith, rw sub-zero (omega arith))
 
 copy-in-requires : tie.Need-copy-in-requires
-copy-in-requires c κs = let s = products (c .before .before .before .before .before) in omega arith
+copy-in-requires c κs = let s = products (before-key c .before) in omega arith
 
 add-put-record-number : tie.Need-add-put-record-number
-add-put-record-number c = let s = products (c .before .before .before .before .before .before .before .before .before) in omega arith
+add-put-record-number c = let s = products (before-key (before-number c) .before) in omega arith
 
 put-record-number-requires : tie.Need-put-record-number-requires
-put-record-number-requires c κs = let s = products (c .before .before .before .before .before .before .before .before .before) in omega arith
+put-record-number-requires c κs = let s = products (before-key (before-number c) .before) in omega arith
 
 add-copy-entries : tie.Need-add-copy-entries
-add-copy-entries c =
-    let s = products (c .before .before .before .before .before .before .before .before .before .before .before .before .before) in
-    omega arith
+add-copy-entries c = let s = products (before-key (before-number (before-rest c)) .before) in omega arith
 
 add-copy-entries-2 : tie.Need-add-copy-entries-2
-add-copy-entries-2 c =
-    let s = products (c .before .before .before .before .before .before .before .before .before .before .before .before .before) in
-    omega arith
+add-copy-entries-2 c = let s = products (before-key (before-number (before-rest c)) .before) in omega arith
 
 copy-entries-requires-2 : tie.Need-copy-entries-requires-2
 copy-entries-requires-2 c κs =
-    let found = c .before .before .before .before .before .before .before .before .before .before .before .before .before in
+    let found = before-key (before-number (before-rest c)) .before in
     let s = products found in
-    (listed-within (found .before .before .before .before .pre .0), found .first-at-or-above .ensures .1, omega arith)
+    (listed-within (start found .pre .0), found .first-at-or-above .ensures .1, omega arith)
 
 same-length : tie.Need-same-length
 same-length c = search needs
 
 returns : tie.Need-returns
 returns c =
-    let after = c .before .before in
-    let number = after .before .before .before .before in
+    let rest = c .before .before in
+    let number = rest .before .before .before .before in
     let key = number .before .before .before .before in
     let first = key .before .before .before .before in
     let found = first .before .before in
-    let start = found .before .before .before .before in
-    pair-gathered (start .args .key .now) (start .pre .0) (found .first-at-or-above .ensures .0) _ _ (first .copy-entries .ensures)
-    (key .copy-in .ensures) (number .put-record-number .ensures) (after .copy-entries2 .ensures)
+    let at-start = start found in
+    pair-gathered (at-start .args .key .now) (at-start .pre .0) (found .first-at-or-above .ensures .0) _ _ (first .copy-entries .ensures)
+    (key .copy-in .ensures) (number .put-record-number .ensures) (rest .copy-entries2 .ensures)
 
 pub gather-pair-spec : {M : Type 1} → statement M
 gather-pair-spec =

@@ -34,7 +34,8 @@ returns c =
     let last2 = new .before .before .before .before in
     let old = last2 .before .before .before .before in
     let last = old .before .before .before .before in
-    let args = last .before .before .before .before .before .args in
+    let start = last .before .before .before .before .before in
+    let args = start .args in
     root-gathered (args .index .now) (args .key .now) _ _ _ (last .copy-last-key .ensures) (old .put-child .ensures)
     (last2 .copy-last-key2 .ensures) (new .put-child2 .ensures)
 

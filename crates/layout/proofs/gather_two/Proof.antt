@@ -12,22 +12,41 @@ use borrow.Author.Needs.{needs}
 use Rattle.layout.proofs.gather_two.Statement.{statement}
 use Rattle.layout.proofs.gather_two.Tie as tie
 
--- the products, where entry i is chosen: with i entries before, and with i + 1
-products : (c : tie.After-chosen-entry) → let args = c .before .before .before .before .args in let i = c .chosen-entry .result in
+-- the places: the call's start, from where entry i is chosen; and the place before each store, from the one before the next
+abbrev start : tie.After-chosen-entry → tie.Start
+start c = c .before .before .before .before
+
+abbrev before-low : tie.After-copy-last-key-arg → tie.After-copy-entries-arg
+before-low c = c .before .before .before .before
+
+abbrev before-number : tie.After-copy-number-arg → tie.After-copy-last-key-arg
+before-number c = c .before .before .before .before
+
+abbrev before-high : tie.After-copy-larger-key-arg → tie.After-copy-number-arg
+before-high c = c .before .before .before .before
+
+abbrev before-child : tie.After-put-child-arg → tie.After-copy-larger-key-arg
+before-child c = c .before .before .before .before
+
+abbrev before-rest : tie.After-copy-entries-arg2 → tie.After-put-child-arg
+before-rest c = c .before .before .before .before
+
+-- the place where entry i is chosen, from the one before the larger key is copied
+abbrev chosen : tie.After-copy-larger-key-arg → tie.After-chosen-entry
+chosen c = before-low (before-number (before-high c)) .before
+
+-- the products of sizes, if entry i is chosen: with i entries before, and with i + 1
+products : (c : tie.After-chosen-entry) → let args = start c .args in let i = c .chosen-entry .result in
     Spread (args .index .now) (length (args .key .now)) (args .page .0) (args .count) i
     × Spread (args .index .now) (length (args .key .now)) (args .page .0) (args .count) (i + 1)
 products c =
-    let listed = c .before .before .before .before .pre .0 in
+    let listed = start c .pre .0 in
     (spread _ listed (omega (arith, c .chosen-entry .ensures .1)), spread _ listed (omega (arith, c .chosen-entry .ensures .1)))
 
 -- entry i lies within the page
-entry : (c : tie.After-chosen-entry) → let args = c .before .before .before .before .args in
+entry : (c : tie.After-chosen-entry) → let args = start c .args in
     Within (args .index .now) (length (args .key .now)) (args .page .0) (c .chosen-entry .result + 1)
-entry c = within-entry _ (listed-within (c .before .before .before .before .pre .0)) (c .chosen-entry .ensures .1)
-
--- the place where entry i is chosen, from the one where the larger key is copied
-abbrev chosen : tie.After-copy-larger-key → tie.After-chosen-entry
-chosen c = c .before .before .before .before .before .before .before .before .before .before .before .before .before .before
+entry c = within-entry _ (listed-within (start c .pre .0)) (c .chosen-entry .ensures .1)
 
 chosen-entry-requires : tie.Need-chosen-entry-requires
 chosen-entry-requires c κs = search needs
@@ -46,60 +65,64 @@ add-next-2 c = let s = products c in omega arith
 
 copy-entries-requires : tie.Need-copy-entries-requires
 copy-entries-requires c κs =
-    let s = products (c .before) in let w = entry (c .before) in
+    let s = products (c .before) in
+    let w = entry (c .before) in
     (record { key = w .key; count = omega arith; page = w .page }, omega arith, rw sub-zero (omega arith))
 
 copy-last-key-requires : tie.Need-copy-last-key-requires
-copy-last-key-requires c κs = let s = products (c .before .before .before .before .before) in (s .0 .key, omega arith)
+copy-last-key-requires c κs = let s = products (before-low c .before) in (s .0 .key, omega arith)
 
 add-copy-number : tie.Need-add-copy-number
-add-copy-number c = let s = products (c .before .before .before .before .before .before .before .before .before) in omega arith
+add-copy-number c = let s = products (before-low (before-number c) .before) in omega arith
 
 copy-number-requires : tie.Need-copy-number-requires
 copy-number-requires c κs =
-    let s = products (c .before .before .before .before .before .before .before .before .before) in
-    (entry (c .before .before .before .before .before .before .before .before .before), omega arith)
+    let at-entry = before-low (before-number c) .before in
+    let s = products at-entry in
+    (entry at-entry, omega arith)
 
 copy-larger-key-requires : tie.Need-copy-larger-key-requires
-copy-larger-key-requires c κs =
-    let s = products (c .before .before .before .before .before .before .before .before .before .before .before .before .before) in
-    (entry (c .before .before .before .before .before .before .before .before .before .before .before .before .before), omega arith)
+copy-larger-key-requires c κs = let s = products (chosen c) in (entry (chosen c), omega arith)
 
 add-put-child : tie.Need-add-put-child
-add-put-child c = let s = products (chosen (c .before .before .before)) in omega arith
+add-put-child c = let s = products (chosen (before-child c)) in omega arith
 
 put-child-requires : tie.Need-put-child-requires
-put-child-requires c κs = let s = products (chosen (c .before .before .before)) in omega arith
+put-child-requires c κs = let s = products (chosen (before-child c)) in omega arith
 
 add-copy-entries : tie.Need-add-copy-entries
-add-copy-entries c = let s = products (chosen (c .before .before .before .before .before .before .before)) in omega arith
+add-copy-entries c = let s = products (chosen (before-child (before-rest c))) in omega arith
 
 add-copy-entries-2 : tie.Need-add-copy-entries-2
-add-copy-entries-2 c = let s = products (chosen (c .before .before .before .before .before .before .before)) in omega arith
+add-copy-entries-2 c = let s = products (chosen (before-child (before-rest c))) in omega arith
 
 add-copy-entries-3 : tie.Need-add-copy-entries-3
-add-copy-entries-3 c = let s = products (chosen (c .before .before .before .before .before .before .before)) in omega arith
+add-copy-entries-3 c = let s = products (chosen (before-child (before-rest c))) in omega arith
 
 copy-entries-requires-2 : tie.Need-copy-entries-requires-2
 copy-entries-requires-2 c κs =
-    let larger = c .before .before .before .before .before .before .before in
-    let last = larger .before .before .before .before .before .before .before .before in
-    let s = products (chosen larger) in
-    let start = chosen larger .before .before .before .before in
-    let k = length (start .args .key .now) in
-    let i = chosen larger .chosen-entry .result in
-    let first : i + 1 ≤ start .args .count = omega (arith, chosen larger .chosen-entry .ensures .1) in
-    let fits : i * (k + 4) + k + 4 + k + 4 + (start .args .count - (i + 1)) * (k + 4) ≤ roomSize = omega arith in (
-      listed-within (start .pre .0),
-      first,
+    let child = c .before .before .before in
+    let high = child .before .before .before .before in
+    let number = high .before .before .before .before in
+    let low = number .before .before .before .before in
+    let first = low .before .before .before .before in
+    let at-entry = chosen (high .before) in
+    let at-start = start at-entry in
+    let s = products at-entry in
+    let k = length (at-start .args .key .now) in
+    let i = at-entry .chosen-entry .result in
+    let next : i + 1 ≤ at-start .args .count = omega (arith, at-entry .chosen-entry .ensures .1) in
+    let fits : i * (k + 4) + k + 4 + k + 4 + (at-start .args .count - (i + 1)) * (k + 4) ≤ roomSize = omega arith in (
+      listed-within (at-start .pre .0),
+      next,
       omega (
         arith,
-        start .pre .2,
-        c .before .before .before .put-child .kept .0,
-        larger .copy-larger-key .kept .0,
-        larger .before .before .before .before .copy-number .kept .0,
-        last .copy-last-key .kept .0,
-        last .before .before .before .before .copy-entries .kept .0,
+        at-start .pre .2,
+        child .put-child .kept .0,
+        high .copy-larger-key .kept .0,
+        number .copy-number .kept .0,
+        low .copy-last-key .kept .0,
+        first .copy-entries .kept .0,
       ),
     )
 
@@ -108,16 +131,17 @@ same-length c = search needs
 
 returns : tie.Need-returns
 returns c =
-    let after = c .before .before in
-    let child = after .before .before .before .before in
-    let larger = child .before .before .before .before in
-    let number = larger .before .before .before .before in
-    let last = number .before .before .before .before in
-    let first = last .before .before .before .before in
-    let start = chosen larger .before .before .before .before in
-    let found = chosen larger .chosen-entry .ensures in
-    two-gathered (start .args .key .now) (start .pre .0) (found .0) (found .1) _ _ _ (first .copy-entries .ensures) (last .copy-last-key .ensures)
-    (number .copy-number .ensures) (larger .copy-larger-key .ensures) (child .put-child .ensures) (after .copy-entries2 .ensures)
+    let rest = c .before .before in
+    let child = rest .before .before .before .before in
+    let high = child .before .before .before .before in
+    let number = high .before .before .before .before in
+    let low = number .before .before .before .before in
+    let first = low .before .before .before .before in
+    let at-entry = chosen (high .before) in
+    let at-start = start at-entry in
+    let found = at-entry .chosen-entry .ensures in
+    two-gathered (at-start .args .key .now) (at-start .pre .0) (found .0) (found .1) _ _ _ (first .copy-entries .ensures) (low .copy-last-key .ensures)
+    (number .copy-number .ensures) (high .copy-larger-key .ensures) (child .put-child .ensures) (rest .copy-entries2 .ensures)
 
 pub gather-two-spec : {M : Type 1} → statement M
 gather-two-spec =

@@ -1,4 +1,4 @@
--- `layout::link_beyond` meets its contract: it stores only where the rule's test holds. Assumes nothing.
+-- `layout::link_beyond` meets its contract: it stores only if the rule's test holds. Assumes nothing.
 use mathlib.Core.Path.{sym, _∙_}
 use Rattle.page.specs.HeaderLaws.{is-page}
 use Rattle.layout.specs.Layout.{linkBeyond}

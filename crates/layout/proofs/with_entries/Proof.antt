@@ -5,11 +5,21 @@ use borrow.Author.Needs.{needs}
 use Rattle.layout.proofs.with_entries.Statement.{statement}
 use Rattle.layout.proofs.with_entries.Tie as tie
 
+-- the places: the call's start, from before the count is stored; and the place before each store, from the one before the next
+abbrev start : tie.After-set-count-arg → tie.Start
+start c = c .before .before .before .before
+
+abbrev before-copy : tie.After-copy-in-arg → tie.After-set-count-arg
+before-copy c = c .before .before .before .before
+
+abbrev before-fill : tie.After-entry-offset → tie.After-copy-in-arg
+before-fill c = c .before .before .before .before .before
+
 cast-at : tie.Need-cast-at
 cast-at c = search needs
 
 cast-set-count : tie.Need-cast-set-count
-cast-set-count c = let z = sizes (c .before .before .before .before .pre) in omega arith
+cast-set-count c = let z = sizes (start c .pre) in omega arith
 
 set-count-requires : tie.Need-set-count-requires
 set-count-requires c κs = search needs
@@ -18,7 +28,7 @@ add-copy-in : tie.Need-add-copy-in
 add-copy-in c = search needs
 
 copy-in-requires : tie.Need-copy-in-requires
-copy-in-requires c κs = let z = sizes (c .before .before .before .before .before .before .before .before .pre) in omega arith
+copy-in-requires c κs = let z = sizes (start (before-copy c) .pre) in omega arith
 
 entry-offset-requires : tie.Need-entry-offset-requires
 entry-offset-requires c κs = search needs
@@ -28,7 +38,7 @@ add-fill c = search needs
 
 fill-requires : tie.Need-fill-requires
 fill-requires c κs =
-    let z = sizes (c .before .before .before .before .before .before .before .before .before .before .before .before .before .pre) in
+    let z = sizes (start (before-copy (before-fill c)) .pre) in
     (omega (arith, c .entry-offset .ensures), omega arith)
 
 same-length : tie.Need-same-length
@@ -37,10 +47,11 @@ same-length c = search needs
 returns : tie.Need-returns
 returns c =
     let filled = c .before .before in
-    let copied = filled .before .before .before .before .before in
+    let offset = filled .before in
+    let copied = offset .before .before .before .before in
     let counted = copied .before .before .before .before in
-    with-entries-by (counted .before .before .before .before .before .pre) (counted .set-count .ensures) (copied .copy-in .ensures)
-    (filled .before .entry-offset .ensures) (filled .fill .ensures)
+    with-entries-by (start (counted .before) .pre) (counted .set-count .ensures) (copied .copy-in .ensures)
+    (offset .entry-offset .ensures) (filled .fill .ensures)
 
 pub with-entries-spec : {M : Type 1} → statement M
 with-entries-spec =

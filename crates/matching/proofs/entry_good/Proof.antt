@@ -40,7 +40,7 @@ numbered c = c .before .before .before
 abbrev start : tie.Else1 → tie.Start
 start c = numbered c .before .before .before
 
--- past it the number is that of a record
+-- past the test the number is a record's
 number : (c : tie.Else1) → numberGood (numbered c .record-number .result .0) (start c .args .column .records) ≡ true
 number c = passed (c .before .number-good .ensures) (c .if1 .left)
 

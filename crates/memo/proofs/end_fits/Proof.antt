@@ -1,5 +1,4 @@
--- `memo::end_fits` meets its contract: four bytes times two fit 64 bits.
--- Assumes nothing.
+-- `memo::end_fits` meets its contract: a number of four bytes times a number of two bytes fits 64 bits. Assumes nothing.
 use native.Mathlib.Omega.{arith}
 use borrow.Author.Needs.{needs}
 use Rattle.memo.specs.MemoLaws.{bytes-fit}

@@ -1,5 +1,4 @@
--- `memo::header_good` meets its contract: a file shorter than a header is not good, and in any other the tests are the rule's.
--- Assumes nothing.
+-- `memo::header_good` meets its contract: a file shorter than a header is not good, and for any other the tests are the rule's. Assumes nothing.
 use borrow.Author.Needs.{needs}
 use borrow.Author.Tests.{lt-leb, le-leb}
 use Rattle.memo.specs.Memo.{memoHeaderGood}

@@ -1,5 +1,4 @@
--- `memo::memo_place` meets its contract, by what the number's text says.
--- Assumes nothing.
+-- `memo::memo_place` meets its contract, case by case of what the M field's text says. Assumes nothing.
 use mathlib.Core.Path.{sym, _∙_}
 use borrow.Author.Needs.{needs}
 use Rattle.memo.specs.Memo.{readText, memoText}

@@ -12,7 +12,7 @@ use Rattle.memo.specs.NumberLaws.{number-said, number-blank, ofDigits, n
 use Rattle.memo.proofs.read_number.Statement.{statement}
 use Rattle.memo.proofs.read_number.Tie as tie
 
--- the text, how many blanks it begins with, and the part behind them
+-- the text, the number of blanks at its front, and the part behind them
 abbrev text-at : tie.After-padding → List ℕ
 text-at c = c .before .before .before .args .text .now
 
@@ -25,11 +25,14 @@ behind c = drop (from c) (text-at c)
 by-behind : (c : tie.After-padding) → memoNumber (text-at c) ≡ digitsNumber (behind c)
 by-behind c = number-said (text-at c) (from c) (c .before .if1 .left) (c .padding .ensures .1)
 
--- past the test of the first character there
-by-digits : (c : tie.Else3) → let place = c .before .before .before in memoNumber (text-at place) ≡ ofDigits (digitsOf (take (length (text-at place) - from place) (behind place)))
-by-digits c =
-    let place = c .before .before .before in
-    by-behind place ∙ number-digits (text-at place) (from place) (omega arith) (c .if3 .left)
+-- past the test of the first character behind the blanks
+abbrev counted : tie.Else3 → tie.After-padding
+counted c = c .before .before .before
+
+by-digits : (c : tie.Else3)
+    → let text = text-at (counted c) in
+    memoNumber text ≡ ofDigits (digitsOf (take (length text - from (counted c)) (behind (counted c))))
+by-digits c = by-behind (counted c) ∙ number-digits (text-at (counted c)) (from (counted c)) (omega arith) (c .if3 .left)
 
 returns : tie.Need-returns
 unfolding memoNumber

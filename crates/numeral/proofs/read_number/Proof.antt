@@ -5,7 +5,7 @@ use mathlib.Core.Path.{_≡_, sym, ap, _∙_}
 use native.Mathlib.Omega.{arith}
 use lib.ListN.{length, drop}
 use borrow.Author.Needs.{needs}
-use borrow.Author.Tests.{not-true, not-false}
+use Rattle.basis.specs.Tests.{passed, failed}
 use Rattle.numeral.specs.ReadingLaws.{refused-6}
 use Rattle.numeral.specs.Scan.{initial, scan, meaning}
 use Rattle.numeral.specs.ScanLaws.{scan-next, scan-end, scan-means}
@@ -22,7 +22,7 @@ format-good-requires : tie.Need-format-good-requires Inv-loop μ-loop
 format-good-requires c κs = search needs
 
 returns : tie.Need-returns Inv-loop μ-loop
-returns c = sym (refused-6 _ _ (sym (c .before .format-good .ensures) ∙ not-true _ (c .if1 .taken)))
+returns c = sym (refused-6 _ _ (failed (c .before .format-good .ensures) (c .if1 .taken)))
 
 new-requires : tie.Need-new-requires Inv-loop μ-loop
 new-requires c κs = search needs
@@ -54,7 +54,7 @@ returns-2 : tie.Need-returns-2 Inv-loop μ-loop
 returns-2 c =
     let at-loop = c .before .before in
     let checked = at-loop .before .before in
-    let good = sym (checked .before .format-good .ensures) ∙ not-false _ (checked .if1 .left) in
+    let good = passed (checked .before .format-good .ensures) (checked .if1 .left) in
     let all-taken = at-loop .loop .inv .1 ∙ scan-end (at-loop .loop .r) _ (at-loop .loop .i) (c .before .loop-test .left) in
     c .finish .ensures ∙ ap meaning (sym all-taken) ∙ scan-means _ _ good
 

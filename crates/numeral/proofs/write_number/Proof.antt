@@ -1,14 +1,15 @@
 -- `numeral::write_number` meets its contract: each refusal is the rule's, and the four stores, from the right, leave the written text.
 -- Assumes nothing.
-use mathlib.Core.Path.{_≡_, sym, ap, _∙_}
+use mathlib.Core.Path.{_≡_, ap, _∙_}
 use mathlib.Core.Bool.{true}
 use native.Mathlib.Omega.{arith}
 use lib.IntN.{natAbs}
 use lib.ListN.{length}
 use mir.Syntax.{w64}
+use mir.Val.{toZ, ofZ}
 use mir.ValLaws.{toZ-ofZ}
 use borrow.Author.Needs.{needs}
-use borrow.Author.Tests.{not-true, not-false}
+use Rattle.basis.specs.Tests.{passed, failed}
 use Rattle.numeral.specs.Format.{formatGood}
 use Rattle.numeral.specs.Writing.{signText}
 use Rattle.numeral.specs.ReadingLaws.{format-decimals}
@@ -17,46 +18,57 @@ use Rattle.numeral.proofs.write_number.Statement.{statement}
 use Rattle.numeral.proofs.write_number.Tie as tie
 
 -- past the first refusal the format is good
-good : (c : tie.Else1) → let start = c .before .before .before in formatGood (length (start .args .text .now)) (start .args .decimals) ≡ true
-good c = sym (c .before .format-good .ensures) ∙ not-false _ (c .if1 .left)
+abbrev start : tie.Else1 → tie.Start
+start c = c .before .before .before
+
+good : (c : tie.Else1) → formatGood (length (start c .args .text .now)) (start c .args .decimals) ≡ true
+good c = passed (c .before .format-good .ensures) (c .if1 .left)
+
+-- the magnitude of the value, once it was measured, and the value as the code has it
+abbrev checked : tie.After-magnitude → tie.Else1
+checked c = c .before
+
+same-value : (c : tie.Else1) → toZ w64 (ofZ w64 (start c .args .value)) ≡ start c .args .value
+same-value c = toZ-ofZ w64 (start c .args .value) (start c .fits .value)
 
 -- what the calls before the comparison of the widths have shown
+abbrev at-magnitude : tie.After-fraction-length → tie.After-magnitude
+at-magnitude c = c .before .before .before .before
+
 measured : (c : tie.After-fraction-length)
-    → let start = c .before .before .before .before .before .before .before .before in
+    → let args = start (checked (at-magnitude c)) .args in
     Measured
-    (start .args .text .now)
-    (start .args .decimals)
-    (start .args .value)
-    (c .before .before .before .before .magnitude .result)
+    (args .text .now)
+    (args .decimals)
+    (args .value)
+    (at-magnitude c .magnitude .result)
     (c .before .before .sign-length .result)
     (c .before .whole-length .result)
     (c .fraction-length .result)
 measured c =
-    let start = c .before .before .before .before .before .before .before .before in
-    let same = toZ-ofZ w64 (start .args .value) (start .fits .value) in
+    let same = same-value (checked (at-magnitude c)) in
     record {
-      format = good (c .before .before .before .before .before);
-      magnitude = c .before .before .before .before .magnitude .ensures ∙ ap natAbs same;
+      format = good (checked (at-magnitude c));
+      magnitude = at-magnitude c .magnitude .ensures ∙ ap natAbs same;
       small = c .before .before .before .if2 .left;
       the-sign = c .before .before .sign-length .ensures .0 ∙ ap (λ v. length (signText v)) same;
       the-whole = c .before .whole-length .ensures .0;
-      the-fraction = c .fraction-length .ensures .0 (c .before .before .before .before .magnitude .result);
+      the-fraction = c .fraction-length .ensures .0 (at-magnitude c .magnitude .result);
     }
 
 format-good-requires : tie.Need-format-good-requires
 format-good-requires c κs = search needs
 
 returns : tie.Need-returns
-returns c = refused-format _ _ _ (sym (c .before .format-good .ensures) ∙ not-true _ (c .if1 .taken))
+returns c = refused-format _ _ _ (failed (c .before .format-good .ensures) (c .if1 .taken))
 
 magnitude-requires : tie.Need-magnitude-requires
 magnitude-requires c κs = search needs
 
 returns-2 : tie.Need-returns-2
 returns-2 c =
-    let start = c .before .before .before .before .before in
-    let same = toZ-ofZ w64 (start .args .value) (start .fits .value) in
-    refused-digits _ _ _ (good (c .before .before)) (rw (c .before .magnitude .ensures, same) at (c .if2 .taken))
+    let at-format = checked (c .before) in
+    refused-digits _ _ _ (good at-format) (rw (c .before .magnitude .ensures, same-value at-format) at (c .if2 .taken))
 
 sign-length-requires : tie.Need-sign-length-requires
 sign-length-requires c κs = search needs
@@ -68,7 +80,7 @@ add-size : tie.Need-add-size
 add-size c = search needs
 
 fraction-length-requires : tie.Need-fraction-length-requires
-fraction-length-requires c κs = format-decimals _ _ (good (c .before .before .before .before))
+fraction-length-requires c κs = let at-magnitude = c .before .before .before in format-decimals _ _ (good (checked at-magnitude))
 
 add-size-2 : tie.Need-add-size-2
 add-size-2 c = search needs
@@ -85,7 +97,7 @@ add-put-fraction-2 c = search needs
 put-fraction-requires : tie.Need-put-fraction-requires
 put-fraction-requires c κs =
     let at-sizes = c .before .before in
-    let tail = at-sizes .fraction-length .ensures .0 (at-sizes .before .before .before .before .magnitude .result) in
+    let tail = at-sizes .fraction-length .ensures .0 (at-magnitude at-sizes .magnitude .result) in
     omega arith
 
 add-put-digits : tie.Need-add-put-digits

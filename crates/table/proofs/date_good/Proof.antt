@@ -22,7 +22,9 @@ is-date-requires c κs = search needs
 
 returns : tie.Need-returns
 unfolding dateGood
-returns c = c .is-date .ensures ∙ rw (c .before .byte3 .ensures .0, c .before .before .byte2 .ensures .0, c .before .before .before .byte .ensures .0)
+returns c =
+    let at-bytes = c .before in
+    c .is-date .ensures ∙ rw (at-bytes .byte3 .ensures .0, at-bytes .before .byte2 .ensures .0, at-bytes .before .before .byte .ensures .0)
 
 pub date-good-spec : {M : Type 1} → statement M
 date-good-spec =

@@ -38,7 +38,13 @@ returns : tie.Need-returns
 unfolding descriptorGood
 returns c =
     let at-bytes = c .before .before in
-    rw (c .name-good .ensures, c .before .form-good .ensures, at-bytes .byte3 .ensures .0, at-bytes .before .byte2 .ensures .0, at-bytes .before .before .byte .ensures .0)
+    rw (
+      c .name-good .ensures,
+      c .before .form-good .ensures,
+      at-bytes .byte3 .ensures .0,
+      at-bytes .before .byte2 .ensures .0,
+      at-bytes .before .before .byte .ensures .0,
+    )
 
 pub descriptor-good-spec : {M : Type 1} → statement M
 descriptor-good-spec =

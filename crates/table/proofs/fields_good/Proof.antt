@@ -1,10 +1,10 @@
 -- `table::fields_good` meets its contract. The loop's invariant: the descriptors passed are good. Assumes nothing.
 use Prim.Native.Nat.{_-_, _≤_}
 use native.Mathlib.Omega.{arith}
-use mathlib.Core.Path.{_≡_, sym, _∙_}
+use mathlib.Core.Path.{_≡_, sym}
 use mathlib.Core.Bool.{true}
-use borrow.Author.Tests.{not-true, not-false}
 use borrow.Author.Needs.{needs}
+use Rattle.basis.specs.Tests.{passed, failed}
 use Rattle.table.specs.Range.{allBelow}
 use Rattle.table.specs.RangeLaws.{all-none, all-more, all-stop}
 use Rattle.table.specs.Table.{fieldCount, descriptorGood, fieldsGood}
@@ -31,7 +31,8 @@ unfolding fieldsGood
 returns c =
     let at-loop = c .before .before .before in
     let table = at-loop .before .before .before .args .table .now in
-    sym (all-stop (descriptorGood table) (at-loop .loop .j) (fieldCount table) (omega arith) (sym (c .before .descriptor-good .ensures) ∙ not-true _ (c .if1 .taken)))
+    let bad = failed (c .before .descriptor-good .ensures) (c .if1 .taken) in
+    sym (all-stop (descriptorGood table) (at-loop .loop .j) (fieldCount table) (omega arith) bad)
 
 add-j : tie.Need-add-j Inv-loop μ-loop
 add-j c = search needs
@@ -42,7 +43,7 @@ loop-less c = search needs
 loop-again : tie.Need-loop-again Inv-loop μ-loop
 loop-again c =
     let at-loop = c .before .before .before in
-    (omega arith, all-more _ (at-loop .loop .j) (at-loop .loop .inv .1) (sym (c .before .descriptor-good .ensures) ∙ not-false _ (c .if1 .left)))
+    (omega arith, all-more _ (at-loop .loop .j) (at-loop .loop .inv .1) (passed (c .before .descriptor-good .ensures) (c .if1 .left)))
 
 returns-2 : tie.Need-returns-2 Inv-loop μ-loop
 unfolding fieldsGood

@@ -1,10 +1,10 @@
 -- `table::name_good` meets its contract. The loop's invariant: the bytes up to byte k may stand after one another. Assumes nothing.
-use borrow.Author.Tests.{not-true, not-false}
 use Prim.Native.Nat.{_-_, _≤_}
 use native.Mathlib.Omega.{arith}
-use mathlib.Core.Path.{_≡_, sym, _∙_}
+use mathlib.Core.Path.{_≡_}
 use mathlib.Core.Bool.{true}
 use borrow.Author.Needs.{needs}
+use Rattle.basis.specs.Tests.{passed, failed}
 use Rattle.table.specs.Range.{allBelow}
 use Rattle.table.specs.RangeLaws.{all-none, all-more, all-stop}
 use Rattle.table.specs.Table.{nameGoesOn, nameGood}
@@ -26,7 +26,7 @@ is-letter-requires c κs = search needs
 returns : tie.Need-returns Inv-loop μ-loop
 unfolding nameGood
 returns c =
-    let no = sym (c .before .is-letter .ensures) ∙ not-true _ (c .if1 .taken) in
+    let no = failed (c .before .is-letter .ensures) (c .if1 .taken) in
     rw no
 
 loop-holds : tie.Need-loop-holds Inv-loop μ-loop
@@ -55,8 +55,9 @@ unfolding nameGood nameGoesOn
 returns-2 c =
     let at-loop = c .before .before .before .before .before in
     let args = at-loop .before .before .before .before .before .args in
-    let letter = sym (at-loop .before .before .is-letter .ensures) ∙ not-false _ (at-loop .before .if1 .left) in
-    let no = all-stop (nameGoesOn (args .table .now) (args .at)) (at-loop .loop .k) 10 (omega arith) (sym (c .before .may-follow .ensures) ∙ not-true _ (c .if2 .taken)) in
+    let letter = passed (at-loop .before .before .is-letter .ensures) (at-loop .before .if1 .left) in
+    let stops = failed (c .before .may-follow .ensures) (c .if2 .taken) in
+    let no = all-stop (nameGoesOn (args .table .now) (args .at)) (at-loop .loop .k) 10 (omega arith) stops in
     rw (letter, no)
 
 add-k : tie.Need-add-k Inv-loop μ-loop
@@ -69,7 +70,7 @@ loop-again : tie.Need-loop-again Inv-loop μ-loop
 unfolding nameGoesOn
 loop-again c =
     let at-loop = c .before .before .before .before .before in
-    (omega arith, all-more _ (at-loop .loop .k) (at-loop .loop .inv .1) (sym (c .before .may-follow .ensures) ∙ not-false _ (c .if2 .left)))
+    (omega arith, all-more _ (at-loop .loop .k) (at-loop .loop .inv .1) (passed (c .before .may-follow .ensures) (c .if2 .left)))
 
 add-result : tie.Need-add-result Inv-loop μ-loop
 add-result c = search needs
@@ -81,7 +82,7 @@ returns-3 : tie.Need-returns-3 Inv-loop μ-loop
 unfolding nameGood
 returns-3 c =
     let at-loop = c .before .before in
-    let letter = sym (at-loop .before .before .is-letter .ensures) ∙ not-false _ (at-loop .before .if1 .left) in
+    let letter = passed (at-loop .before .before .is-letter .ensures) (at-loop .before .if1 .left) in
     let end : at-loop .loop .k ≡ 10 = omega arith in
     rw (letter, rw end at (at-loop .loop .inv .1))
 

@@ -23,7 +23,13 @@ returns : tie.Need-returns
 unfolding shapeOf
 returns c =
     let at-records = c .before .before .before in
-    rw (c .field-count .ensures .0, c .before .record-length .ensures .0, c .before .before .header-length .ensures .0, at-records .record-count .ensures, at-records .before .byte .ensures .0)
+    rw (
+      c .field-count .ensures .0,
+      c .before .record-length .ensures .0,
+      c .before .before .header-length .ensures .0,
+      at-records .record-count .ensures,
+      at-records .before .byte .ensures .0,
+    )
 
 pub shape-of-spec : {M : Type 1} → statement M
 shape-of-spec =

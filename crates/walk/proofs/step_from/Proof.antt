@@ -1,8 +1,9 @@
 -- `walk::step_from` meets its contract. The loop's invariant: the step from the position is the step from the records passed. Assumes nothing.
-use Prim.Native.Nat.{_+_, _-_}
-use mathlib.Core.Path.{_≡_, refl, sym, _∙_}
+use Prim.Native.Nat.{_+_, _-_, _<_}
+use mathlib.Core.Path.{_≡_, refl, sym, ap, _∙_}
 use native.Mathlib.Omega.{arith}
 use borrow.Author.Needs.{needs}
+use Rattle.octets.specs.Bytes.{byteAt}
 use Rattle.walk.specs.Walk.{walkFrom}
 use Rattle.walk.specs.WalkLaws.{mark-after, walk-kept, walk-deleted, walk-bad, walk-end}
 use Rattle.table.specs.Table.{deletionByte}
@@ -17,9 +18,18 @@ Inv-loop table n position passed₀ passed = walkFrom table position position (n
 abbrev μ-loop : tie.MeasureT-loop
 μ-loop table n position passed₀ passed = n - passed
 
--- the byte that was read is the deletion byte of the next record
-mark : (c : tie.After-byte Inv-loop μ-loop) → c .byte .result ≡ deletionByte (c .before .before .before .before .before .args .table .now) (c .before .before .before .loop .passed + 1)
-mark c = c .byte .ensures .0 ∙ rw (c .before .records-end .ensures .0) (sym (mark-after _ _))
+-- the turn in which a byte is read: it is the deletion byte of the next record, which there is
+abbrev at-loop : tie.After-byte Inv-loop μ-loop → tie.At-loop Inv-loop μ-loop
+at-loop c = c .before .before .before
+
+mark : (c : tie.After-byte Inv-loop μ-loop)
+    → c .byte .result ≡ deletionByte (at-loop c .before .before .args .table .now) (at-loop c .loop .passed + 1)
+mark c =
+    let table = at-loop c .before .before .args .table .now in
+    c .byte .ensures .0 ∙ ap (byteAt table) (c .before .records-end .ensures .0) ∙ sym (mark-after table (at-loop c .loop .passed))
+
+more : (c : tie.After-byte Inv-loop μ-loop) → at-loop c .loop .passed < at-loop c .before .before .args .n
+more c = c .before .before .loop-test .taken
 
 loop-holds : tie.Need-loop-holds Inv-loop μ-loop
 loop-holds c = refl
@@ -46,8 +56,7 @@ step-to-requires c κs = search needs
 returns : tie.Need-returns Inv-loop μ-loop
 returns c =
     let at-byte = c .before .before in
-    let at-loop = at-byte .before .before .before in
-    c .step-to .ensures ∙ sym (at-loop .loop .inv ∙ walk-kept _ _ _ _ (at-byte .before .before .loop-test .taken) (sym (mark at-byte) ∙ c .before .if1 .taken))
+    c .step-to .ensures ∙ sym (at-loop at-byte .loop .inv ∙ walk-kept _ _ _ _ (more at-byte) (sym (mark at-byte) ∙ c .before .if1 .taken))
 
 add-step-to-2 : tie.Need-add-step-to-2 Inv-loop μ-loop
 add-step-to-2 c = search needs
@@ -58,8 +67,10 @@ step-to-requires-2 c κs = search needs
 returns-2 : tie.Need-returns-2 Inv-loop μ-loop
 returns-2 c =
     let at-byte = c .before .before .before in
-    let at-loop = at-byte .before .before .before in
-    c .step-to2 .ensures ∙ sym (at-loop .loop .inv ∙ walk-bad _ _ _ _ (at-byte .before .before .loop-test .taken) (λ e. c .before .before .if1 .left (mark at-byte ∙ e)) (λ e. c .before .if2 .taken (mark at-byte ∙ e)))
+    let kept = c .before .before .if1 .left in
+    let deleted = c .before .if2 .taken in
+    let bad = walk-bad _ _ _ _ (more at-byte) (λ e. kept (mark at-byte ∙ e)) (λ e. deleted (mark at-byte ∙ e)) in
+    c .step-to2 .ensures ∙ sym (at-loop at-byte .loop .inv ∙ bad)
 
 add-passed : tie.Need-add-passed Inv-loop μ-loop
 add-passed c = search needs
@@ -70,16 +81,14 @@ loop-less c = search needs
 loop-again : tie.Need-loop-again Inv-loop μ-loop
 loop-again c =
     let at-byte = c .before .before in
-    let at-loop = at-byte .before .before .before in
-    at-loop .loop .inv ∙ walk-deleted _ _ _ _ (at-byte .before .before .loop-test .taken) (sym (mark at-byte) ∙ c .if2 .left)
+    at-loop at-byte .loop .inv ∙ walk-deleted _ _ _ _ (more at-byte) (sym (mark at-byte) ∙ c .if2 .left)
 
 step-to-requires-3 : tie.Need-step-to-requires-3 Inv-loop μ-loop
 step-to-requires-3 c κs = search needs
 
 returns-3 : tie.Need-returns-3 Inv-loop μ-loop
 returns-3 c =
-    let at-loop = c .before .before in
-    c .step-to3 .ensures ∙ sym (at-loop .loop .inv ∙ walk-end _ _ _ _ (c .before .loop-test .left))
+    c .step-to3 .ensures ∙ sym (c .before .before .loop .inv ∙ walk-end _ _ _ _ (c .before .loop-test .left))
 
 pub step-from-spec : {M : Type 1} → statement M
 step-from-spec =

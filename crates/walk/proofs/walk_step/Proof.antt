@@ -14,20 +14,25 @@ enum-known-shape c = search needs
 
 step-from-requires : tie.Need-step-from-requires
 step-from-requires c κs =
-    let good = good-shape _ _ (sym (c .before .before .before .check-table .ensures) ∙ c .before .shape .given .1) in
+    let told = c .before in
+    let good = good-shape _ _ (sym (told .before .before .check-table .ensures) ∙ told .shape .given .1) in
     (good .table, good .records)
 
-enum-known-number : tie.Need-enum-known-number
-enum-known-number c = search needs
+enum-known-refused : tie.Need-enum-known-refused
+enum-known-refused c = search needs
 
 step-to-requires : tie.Need-step-to-requires
 step-to-requires c κs = search needs
 
 returns : tie.Need-returns
-returns c = c .step-from .ensures ∙ sym (walk-good _ _ _ (sym (c .before .before .before .before .check-table .ensures) ∙ c .before .before .shape .given .1))
+returns c =
+    let told = c .before .before in
+    c .step-from .ensures ∙ sym (walk-good _ _ _ (sym (told .before .before .check-table .ensures) ∙ told .shape .given .1))
 
 returns-2 : tie.Need-returns-2
-returns-2 c = c .step-to .ensures ∙ sym (walk-refused _ _ _ (sym (c .before .before .before .before .check-table .ensures) ∙ c .before .before .number .given .1))
+returns-2 c =
+    let told = c .before .before in
+    c .step-to .ensures ∙ sym (walk-refused _ _ _ (sym (told .before .before .check-table .ensures) ∙ told .refused .given .1))
 
 pub walk-step-spec : {M : Type 1} → statement M
 walk-step-spec =
@@ -36,7 +41,7 @@ walk-step-spec =
     check-table-requires
     enum-known-shape
     step-from-requires
-    enum-known-number
+    enum-known-refused
     step-to-requires
     returns
     returns-2)
