@@ -50,7 +50,7 @@ module _ (t : List ℕ) (good : tableRefusal t ≡ 0) where
   unfolding recordCount le32
   cut-count = rw (early 4 (lit< tt), early 5 (lit< tt), early 6 (lit< tt), early 7 (lit< tt))
 
-  pub cut-record : recordLength (shortened t) ≡ recordLength t
+  cut-record : recordLength (shortened t) ≡ recordLength t
   cut-record = length-same t (shortened t) (layout t good .header) cut-form
 
   pub cut-length : length (shortened t) ≡ ownEnd t

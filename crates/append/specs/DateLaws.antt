@@ -33,13 +33,13 @@ module _ (t : List ℕ) (year month day : ℕ) (good : tableRefusal t ≡ 0) (da
   long = let header = layout t good .header in omega (arith, header .form)
 
   -- bytes 1 to 3 are the date, and no other byte changes
-  pub dated-byte : (i : ℕ) → i < 3 → byteAt c (1 + i) ≡ byteAt bytes i
+  dated-byte : (i : ℕ) → i < 3 → byteAt c (1 + i) ≡ byteAt bytes i
   dated-byte i h = sym (getD-window c 1 3 i 0 h) ∙ ap (λ (s : List ℕ). byteAt s i) (window-same t 1 bytes 3 refl (omega (arith, long)))
 
-  pub dated-first : byteAt c 0 ≡ byteAt t 0
+  dated-first : byteAt c 0 ≡ byteAt t 0
   dated-first = getD-put-low t 1 bytes 0 0 (lit< tt)
 
-  pub dated-rest : (k : ℕ) → 4 ≤ k → byteAt c k ≡ byteAt t k
+  dated-rest : (k : ℕ) → 4 ≤ k → byteAt c k ≡ byteAt t k
   dated-rest k h = getD-put-high t 1 bytes k 0 (omega arith)
 
   form : SameForm t c
@@ -66,7 +66,7 @@ module _ (t : List ℕ) (year month day : ℕ) (good : tableRefusal t ≡ 0) (da
       let header = layout t good .header in
       rw (count-same, end-same t c header form (recordCount t), length-put t 1 bytes, dated-rest (recordsEnd t (recordCount t)) end-far) (length-good t good)
 
-  pub dated-good : tableRefusal c ≡ 0
+  dated-good : tableRefusal c ≡ 0
   unfolding sizeGood
   dated-good =
       let header = layout t good .header in
@@ -74,7 +74,7 @@ module _ (t : List ℕ) (year month day : ℕ) (good : tableRefusal t ≡ 0) (da
       table-kept t c table form (rw (length-put t 1 bytes) (size-good t table)) date-stored (rw length-put (header .inside)) length-kept
 
   -- every record reads as before
-  pub dated-extends : Extends t c
+  dated-extends : Extends t c
   dated-extends = record {
     old = good;
     new = dated-good;
@@ -84,7 +84,7 @@ module _ (t : List ℕ) (year month day : ℕ) (good : tableRefusal t ≡ 0) (da
   }
 
 -- so does the table in the buffer
-pub dated-front : (b : List ℕ) (n year month day : ℕ) → 4 ≤ n → take n (write (dateWrite year month day) b) ≡ write (dateWrite year month day) (take n b)
+dated-front : (b : List ℕ) (n year month day : ℕ) → 4 ≤ n → take n (write (dateWrite year month day) b) ≡ write (dateWrite year month day) (take n b)
 unfolding dateWrite window
 dated-front b n year month day h = window-inside b 1 ((year - firstYear) ∷ month ∷ day ∷ []) 0 n h
 
