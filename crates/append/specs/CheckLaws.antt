@@ -225,7 +225,7 @@ module _ (b : List ℕ) (n : ℕ) (long : minTable ≤ n) where
   unfolding recordCount le32
   count-front = rw (early 4 (lit< tt), early 5 (lit< tt), early 6 (lit< tt), early 7 (lit< tt))
 
-  pub header-front : headerLength (take n b) ≡ headerLength b
+  header-front : headerLength (take n b) ≡ headerLength b
   unfolding headerLength le16
   header-front = rw (early 8 (lit< tt), early 9 (lit< tt))
 

@@ -29,7 +29,7 @@ use Rattle.append.specs.CheckLaws.{held-good, held-then, text-number, fi
 
 module _ (t r : List ℕ) where
   -- no field is refused: each is not
-  pub texts-each : (left j : ℕ) → textsRefusal t r j left ≡ 0 → (i : ℕ) → j ≤ i → i < j + left → fieldRefused t r i ≡ 0
+  texts-each : (left j : ℕ) → textsRefusal t r j left ≡ 0 → (i : ℕ) → j ≤ i → i < j + left → fieldRefused t r i ≡ 0
   unfolding textsRefusal
   texts-each zero j none i from to = absurd (omega arith)
   texts-each (suc left) j none i from to =
@@ -42,7 +42,7 @@ module _ (t r : List ℕ) where
       (λ stopped. let said : fieldRefused t r j ≡ 0 = rw stopped at none in absurd (eqb-false (fieldRefused t r j) 0 stopped said))
 
   -- the first that is refused decides
-  pub texts-first : (left j i : ℕ) → j ≤ i → i < j + left → ((h : ℕ) → j ≤ h → h < i → fieldRefused t r h ≡ 0) → (fieldRefused t r i ≡ 0 → ⊥)
+  texts-first : (left j i : ℕ) → j ≤ i → i < j + left → ((h : ℕ) → j ≤ h → h < i → fieldRefused t r h ≡ 0) → (fieldRefused t r i ≡ 0 → ⊥)
       → textsRefusal t r j left ≡ fieldRefused t r i
   unfolding textsRefusal
   texts-first zero j i from to before refused = absurd (omega arith)
@@ -68,7 +68,7 @@ module _ (t r : List ℕ) (good : Layout t) (long : length r ≡ recordLength t)
       (form-numeric (fieldLength t j) (fieldDecimals t j) (rw n at (field-form t good j l)))
 
   -- a comma in it is refused by 16
-  pub comma-text : some (eqb comma) (textIn t r j) ≡ true → fieldRefused t r j ≡ 16
+  comma-text : some (eqb comma) (textIn t r j) ≡ true → fieldRefused t r j ≡ 16
   unfolding numberRefusal
   comma-text has =
       text-number (fieldType t j) (fieldDecimals t j) (textIn t r j) n

@@ -6,11 +6,12 @@ use mathlib.Core.List.{List, [], _∷_, _++_, append-assoc, append-nil}
 use native.Mathlib.Omega.{arith}
 use lib.ListN.{length, take, drop, length-append, take-append-drop}
 use lib.Seq.{getD-take, length-take-le, take-take, take-at}
-use lib.Dec.{lit<}
-use borrow.Author.Tests.{le-leb}
+use lib.Dec.{ltb, lit<}
+use borrow.Author.Tests.{le-leb, ltb-true, ltb-false}
+use Rattle.basis.specs.Tests.{either}
 use Rattle.octets.specs.Bytes.{byteAt, le32, toLe32}
 use Rattle.octets.specs.Store.{put, window}
-use Rattle.octets.specs.StoreLaws.{length-put, put-splice, window-before, window-after, window-inside, window-same}
+use Rattle.octets.specs.StoreLaws.{length-put, getD-put-low, getD-put-high, put-splice, window-before, window-after, window-inside, window-same}
 use Rattle.octets.specs.NumberLaws.{length-toLe32}
 use Rattle.table.specs.Table.{minTable, maxTable, fileEnd, headerLength, recordLength, recordCount, recordsEnd, sizeGood, dateGood, tableRefusal}
 use Rattle.table.specs.TableLaws.{layout}
@@ -49,7 +50,7 @@ module _ (t : List ℕ) (good : tableRefusal t ≡ 0) where
   unfolding recordCount le32
   cut-count = rw (early 4 (lit< tt), early 5 (lit< tt), early 6 (lit< tt), early 7 (lit< tt))
 
-  pub cut-record : recordLength (shortened t) ≡ recordLength t
+  cut-record : recordLength (shortened t) ≡ recordLength t
   cut-record = length-same t (shortened t) (layout t good .header) cut-form
 
   pub cut-length : length (shortened t) ≡ ownEnd t
@@ -211,6 +212,25 @@ module _ (b : List ℕ) (n : ℕ) (r : List ℕ) (a : Accepted b n r) where
 
   abbrev after : List ℕ
   after = write (countWrite b) (write (recordWrite b r) b)
+
+  -- no byte outside them changes
+  pub elsewhere : (k : ℕ) → (4 ≤ k → k < 8 → ⊥) → (end ≤ k → k < end + length r + 1 → ⊥) → byteAt after k ≡ byteAt b k
+  unfolding recordWrite countWrite ownEnd
+  elsewhere k outside-count outside-record =
+      let bytes = r ++ (fileEnd ∷ []) in
+      let count = toLe32 (recordCount b + 1) in
+      let record-kept : byteAt (put b end bytes) k ≡ byteAt b k =
+      either (ltb k end)
+      (λ low. getD-put-low b end bytes k 0 (ltb-true k end low))
+      (λ high. either (ltb k (end + length r + 1))
+      (λ inside. absurd (outside-record (ltb-false k end high) (ltb-true k (end + length r + 1) inside)))
+      (λ beyond. getD-put-high b end bytes k 0 (omega (arith, ltb-false k (end + length r + 1) beyond, length-append r (fileEnd ∷ []))))) in
+      either (ltb k 4)
+      (λ low. getD-put-low (put b end bytes) 4 count k 0 (ltb-true k 4 low))
+      (λ high. either (ltb k 8)
+      (λ inside. absurd (outside-count (ltb-false k 4 high) (ltb-true k 8 inside)))
+      (λ beyond. getD-put-high (put b end bytes) 4 count k 0 (omega (arith, ltb-false k 8 beyond, length-toLe32 (recordCount b + 1)))))
+      ∙ record-kept
 
   -- the bytes that it finds in the buffer, after the call, where it is told and as many as it is told, are those of the two stores
   pub told-first : window after (told (recordWrite b r) .place) (told (recordWrite b r) .length) ≡ recordWrite b r .bytes

@@ -24,7 +24,7 @@ first-below bound (check ∷ checks) some p =
 
 module _ (b : List ℕ) where
   -- the length's check comes last
-  pub form-then-length : tableChecks b ≡ formChecks b ++ ((lengthGood b, 10) ∷ [])
+  form-then-length : tableChecks b ≡ formChecks b ++ ((lengthGood b, 10) ∷ [])
   unfolding formChecks tableChecks
   form-then-length = refl
 
@@ -37,7 +37,7 @@ module _ (b : List ℕ) where
   form-below = first-below 10 (formChecks b) (lit< tt) (lit< tt, (lit< tt, (lit< tt, (lit< tt, (lit< tt, (lit< tt, (lit< tt, (lit< tt, (lit< tt, tt)))))))))
 
   -- a table's refusal is its form's, or that of its length
-  pub form-first : (formRefusal b ≡ 0 → ⊥) → tableRefusal b ≡ formRefusal b
+  form-first : (formRefusal b ≡ 0 → ⊥) → tableRefusal b ≡ formRefusal b
   unfolding tableRefusal formRefusal
   form-first some = ap firstRefusal form-then-length ∙ first-before (formChecks b) ((lengthGood b, 10) ∷ []) some
 

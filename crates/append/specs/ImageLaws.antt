@@ -51,14 +51,14 @@ module _ (old : List ℕ) (whole : Whole old) where
     abbrev early : (k : ℕ) → k < minTable → byteAt (old ++ tail) k ≡ byteAt old k
     early k h = front k (omega (arith, fits .long))
 
-    pub tail-form : SameForm old (old ++ tail)
+    tail-form : SameForm old (old ++ tail)
     tail-form = record { first = early 0 (lit< tt); rest = λ k l m. front k (omega (arith, fits .inside)) }
 
-    pub tail-count : recordCount (old ++ tail) ≡ recordCount old
+    tail-count : recordCount (old ++ tail) ≡ recordCount old
     unfolding recordCount le32
     tail-count = rw (early 4 (lit< tt), early 5 (lit< tt), early 6 (lit< tt), early 7 (lit< tt))
 
-    pub tail-end : ownEnd (old ++ tail) ≡ length old
+    tail-end : ownEnd (old ++ tail) ≡ length old
     unfolding ownEnd
     tail-end = rw (tail-count, end-same old (old ++ tail) fits tail-form (recordCount old)) (sym (whole .exact))
 
@@ -119,7 +119,7 @@ module _ (old r : List ℕ) (whole : Whole old) (fills : length r ≡ recordLeng
   unfolding counted recordCount
   more-count = le32-put file 4 (recordCount old + 1) (omega arith) (omega (arith, long, header .long))
 
-  pub more-end : ownEnd more ≡ length old + length r
+  more-end : ownEnd more ≡ length old + length r
   unfolding ownEnd
   more-end =
       rw (more-count, end-same old more header more-form (recordCount old + 1), records-next old (recordCount old), ← whole .exact, fills)

@@ -130,7 +130,7 @@ module _ (t r c : List ℕ) (added : Added t r c) where
       (λ live. rw live)
       (λ other. either (eqb (deletionByte t (passed + 1)) deletedMark) (λ gone. rw (other, gone)) (λ bad. rw (other, bad))))
 
-  pub walk-more : handedOut c 0 (recordCount c) ≡ handedOut t 0 (recordCount t) ++ stepOf (byteAt r 0) (recordCount t + 1)
+  walk-more : handedOut c 0 (recordCount c) ≡ handedOut t 0 (recordCount t) ++ stepOf (byteAt r 0) (recordCount t + 1)
   walk-more =
       ap (λ (k : ℕ). handedOut c 0 k) (added .count ∙ add-one (recordCount t)) ∙ handed-more (recordCount t) 0 (omega arith)
 

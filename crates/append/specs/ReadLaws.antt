@@ -241,7 +241,7 @@ module _ (t r c : List ℕ) (added : Added t r c) where
     below = omega arith
 
     -- the bytes of each field are those given
-    pub last-bytes : fieldBytes c last field ≡ textIn t r j
+    last-bytes : fieldBytes c last field ≡ textIn t r j
     unfolding fieldBytes fieldStart textIn
     last-bytes =
         let within = field-inside t (layout t (more .old)) j below in
