@@ -12,17 +12,17 @@ const MIN_TABLE: usize = 32;
 
 pub const MAX_TABLE: usize = 16777216;
 
-const MAX_FIELDS: usize = 128;
+pub const MAX_FIELDS: usize = 128;
 
 const MAX_RECORD: usize = 4000;
 
 const MAX_TEXT: u32 = 254;
 
-const PLAIN_KIND: u32 = 0x03;
+pub const PLAIN_KIND: u32 = 0x03;
 
-const MEMO_KIND: u32 = 0xF5;
+pub const MEMO_KIND: u32 = 0xF5;
 
-const END_MARK: u8 = 0x0D;
+pub const END_MARK: u8 = 0x0D;
 
 pub const FILE_END: u8 = 0x1A;
 
@@ -258,7 +258,7 @@ fn names_differ(table: &[u8]) -> bool
     differ
 }
 
-fn has_memo(table: &[u8]) -> bool
+pub fn has_memo(table: &[u8]) -> bool
     requires { ⌜ HeaderFits (now table) ⌝ }
     ensures { λ r. ⌜ r ≡ hasMemo (now (table .entry)) ⌝ }
 {
