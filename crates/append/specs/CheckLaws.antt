@@ -13,13 +13,13 @@ use Rattle.basis.specs.Tests.{either, both, impossible}
 use Rattle.octets.specs.Bytes.{byteAt, le16, le32, toLe32}
 use Rattle.octets.specs.Store.{put, window}
 use Rattle.octets.specs.StoreLaws.{put-snoc, stored2, length-window}
-use Rattle.calendar.specs.CalendarLaws.{date-range}
 use Rattle.calendar.specs.Calendar.{isDate}
 use Rattle.calendar.specs.DateText.{dateOf}
 use Rattle.numeral.specs.Reading.{readNumber}
 use Rattle.memo.specs.Memo.{memoNumber}
 use Rattle.cell.specs.Cell.{markGood, logicalOf}
 use Rattle.table.specs.Table.{minTable, maxTable, fileEnd, typeN, typeD, typeL, typeM, fieldType, fieldLength, fieldDecimals, fieldOffset, fieldCount}
+use Rattle.table.specs.Table.{firstYear, storableDate}
 use Rattle.table.specs.Table.{headerLength, recordLength, recordCount, recordsEnd, sizeGood, firstRefusal, tableChecks, tableRefusal, checkTable}
 use Rattle.table.specs.TableLaws.{Layout, layout, table-numbered, first-pass, first-fail, first-none, first-both, good-check, good-then, refused-check}
 use Rattle.table.specs.TableLaws.{refused-then}
@@ -30,7 +30,7 @@ use Rattle.table.specs.declared.Checked.the-variants.{Good, Refused}
 use Rattle.append.specs.Append.{heldChecks, checkHeld, numberRefusal, dateRefusal, logicalRefusal, memoRefusal, textRefusal, textIn, textsRefusal}
 use Rattle.append.specs.Append.{roomFor, newEnd, recordChecks, recordRefusal, appendRefusal, recordWrite, countWrite, stored, appendRule, done}
 use Rattle.append.specs.Append.{Appendable}
-use Rattle.append.specs.UpdateDate.{firstYear, lastYear, storableDate, setDateRefusal, dateWrite, setDateRule, dated}
+use Rattle.append.specs.UpdateDate.{setDateRefusal, dateWrite, setDateRule, dated}
 
 -- ---- the table in the buffer
 
@@ -303,27 +303,6 @@ stored-as b r b₁ b₂ b₃ place count n p e₁ e₂ e₃ =
     rw (e₃, ← two, p, n, length-append r (fileEnd ∷ []))
 
 -- ---- the date
-
-pub record StorableDate (year month day : ℕ) : Type 0 where
-  pub year-from : firstYear ≤ year
-  pub year-to : year ≤ lastYear
-  pub month-to : month ≤ 12
-  pub day-to : day ≤ 31
-  pub date : isDate year month day ≡ true
-
-pub storable : (year month day : ℕ) → storableDate year month day ≡ true → StorableDate year month day
-unfolding storableDate
-storable year month day e =
-    let parts = both (leb firstYear year && leb year lastYear) (isDate year month day) e in
-    let years = both (leb firstYear year) (leb year lastYear) (parts .0) in
-    let range = date-range year month day (parts .1) in
-    record {
-      year-from = leb-true firstYear year (years .0);
-      year-to = leb-true year lastYear (years .1);
-      month-to = range .month-to;
-      day-to = range .day-31;
-      date = parts .1;
-    }
 
 -- a new date by the answer about the table
 module _ (b : List ℕ) (n year month day : ℕ) where

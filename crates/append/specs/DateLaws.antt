@@ -11,12 +11,14 @@ use lib.Dec.{lit<}
 use Rattle.octets.specs.Bytes.{byteAt, le32}
 use Rattle.octets.specs.Store.{put, window}
 use Rattle.octets.specs.StoreLaws.{length-put, getD-put-low, getD-put-high, getD-window, window-same, window-inside}
+use Rattle.table.specs.Table.{firstYear, storableDate}
+use Rattle.table.specs.DateLaws.{storable}
 use Rattle.table.specs.Table.{recordCount, recordsEnd, sizeGood, dateGood, lengthGood, tableRefusal}
 use Rattle.table.specs.TableLaws.{layout, first-none}
 use Rattle.append.specs.Append.{write}
-use Rattle.append.specs.UpdateDate.{firstYear, storableDate, setDateRefusal, dateWrite, setDateRule}
+use Rattle.append.specs.UpdateDate.{setDateRefusal, dateWrite, setDateRule}
 use Rattle.append.specs.ExtentLaws.{form-good, length-good}
-use Rattle.append.specs.CheckLaws.{held-none, storable}
+use Rattle.append.specs.CheckLaws.{held-none}
 use Rattle.table.specs.SameForm.{SameForm, end-same}
 use Rattle.append.specs.FormLaws.{size-good, table-kept}
 use Rattle.append.specs.ReadLaws.{Extends}

@@ -1,23 +1,12 @@
 -- Rules: setting a table's update date, document 02, K3: "A call of its own sets the date: append's table checks, then 3."
 use Prim.Native.Nat.{ℕ, _-_}
 use mathlib.Core.List.{List, [], _∷_}
-use mathlib.Core.Bool.{Bool, cond, _&&_}
-use lib.Dec.{eqb, leb}
-use Rattle.calendar.specs.Calendar.{isDate}
-use Rattle.table.specs.Table.{firstRefusal}
+use mathlib.Core.Bool.{cond}
+use lib.Dec.{eqb}
+use Rattle.table.specs.Table.{firstRefusal, firstYear, storableDate}
 use Rattle.append.specs.Append.{heldChecks, Write, write}
 
--- document 01, "Bytes 1-3: year less 1900, month, day": the years that one byte holds
-abbrev pub firstYear : ℕ
-firstYear = 1900
-
-abbrev pub lastYear : ℕ
-lastYear = 2155
-
--- 3: "update date isn't a calendar date", or its year has no byte
-unfoldable pub storableDate : ℕ → ℕ → ℕ → Bool
-storableDate year month day = leb firstYear year && leb year lastYear && isDate year month day
-
+-- "append's table checks, then 3"
 unfoldable pub setDateRefusal : List ℕ → ℕ → ℕ → ℕ → ℕ → ℕ
 setDateRefusal b n year month day = firstRefusal (heldChecks b n ((storableDate year month day, 3) ∷ []))
 

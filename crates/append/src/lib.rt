@@ -20,7 +20,7 @@ ghost use Rattle.table.specs.Table.{fieldCount, recordLength, tableRefusal, che
 ghost use Rattle.table.specs.declared.Checked.the-variants.{Good};
 ghost use Rattle.append.specs.Append.{checkHeld, numberRefusal, dateRefusal, logicalRefusal, memoRefusal, textRefusal, textsRefusal};
 ghost use Rattle.append.specs.Append.{roomFor, recordRefusal, appendRefusal, Appendable, stored, appendRule, done};
-ghost use Rattle.append.specs.UpdateDate.{storableDate, setDateRule, dated};
+ghost use Rattle.append.specs.UpdateDate.{setDateRule, dated};
 ghost use Rattle.append.specs.Extent.{formRefusal, extentRule};
 
 // Where the header holds the update date and the record count.
@@ -29,11 +29,6 @@ const DATE_AT: usize = 1;
 const COUNT_AT: usize = 4;
 
 const COUNT_LENGTH: usize = 4;
-
-// The year of the date's first byte 0.
-const FIRST_YEAR: u32 = 1900;
-
-const LAST_YEAR: u32 = 2155;
 
 // A store: `length` of the buffer's bytes, from offset `place` on.
 pub struct Store {
@@ -230,14 +225,6 @@ pub fn append(buffer: &mut [u8], table_len: usize, bytes: &[u8]) -> Appended
     store_record(buffer, bytes)
 }
 
-// Whether the header can hold a date: a calendar date whose year less 1900 is a byte.
-fn storable_date(year: u32, month: u32, day: u32) -> bool
-    ensures { λ r. ⌜ r ≡ storableDate year month day ⌝ }
-{
-    let real = calendar::is_date(year, month, day);
-    (FIRST_YEAR <= year) & (year <= LAST_YEAR) & real
-}
-
 // Sets the update date of the table in the buffer's first `table_len` bytes: 0, or the number of the refusal.
 pub fn set_date(buffer: &mut [u8], table_len: usize, year: u32, month: u32, day: u32) -> u32
     ensures { λ r. ⌜ setDateRule (now (buffer .entry)) «table_len» year month day ≡ dated (now (buffer .exit)) r ⌝ }
@@ -245,10 +232,10 @@ pub fn set_date(buffer: &mut [u8], table_len: usize, year: u32, month: u32, day:
     match check_held(buffer, table_len) {
         Checked::Refused(number) => number,
         Checked::Good(_) => {
-            if !storable_date(year, month, day) {
+            if !table::storable_date(year, month, day) {
                 return refusal::UPDATE_DATE;
             }
-            buffer[DATE_AT] = (year - FIRST_YEAR) as u8;
+            buffer[DATE_AT] = (year - table::FIRST_YEAR) as u8;
             buffer[DATE_AT + 1] = month as u8;
             buffer[DATE_AT + 2] = day as u8;
             0

@@ -15,13 +15,14 @@ use Rattle.octets.specs.Bytes.{byteAt}
 use Rattle.octets.specs.Store.{put, window}
 use Rattle.octets.specs.StoreLaws.{length-put, length-window, getD-window, window-same, put-splice}
 use Rattle.table.specs.Table.{maxFields, maxRecord, descriptor, fieldCount, recordCount, fieldsGood, namesDiffer}
-use Rattle.table.specs.Table.{firstRefusal, tableRefusal}
+use Rattle.table.specs.Table.{firstRefusal, tableRefusal, storableDate}
+use Rattle.table.specs.DateLaws.{storable}
 use Rattle.table.specs.TableLaws.{first-none}
 use Rattle.field.specs.Field.{fieldName, entryOf, noEntry}
 use Rattle.field.specs.declared.FieldEntry.{FieldEntry}
-use Rattle.laying.specs.Laying.{descriptorOf, descriptorsOf, headerSize, recordSize, laidOut, storableDate, layChecks, layRefusal, layOut}
+use Rattle.laying.specs.Laying.{descriptorOf, descriptorsOf, headerSize, recordSize, laidOut, layChecks, layRefusal, layOut}
 use Rattle.laying.specs.Laying.{layOutRule, Laid, laid}
-use Rattle.laying.specs.LayingLaws.{storable, count-range, Holds, length-laid, laid-holds, laid-records, laid-header, count-held, laid-checks}
+use Rattle.laying.specs.LayingLaws.{count-range, Holds, length-laid, laid-holds, laid-records, laid-header, count-held, laid-checks}
 
 -- ---- no refusal
 

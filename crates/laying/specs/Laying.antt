@@ -7,10 +7,9 @@ use lib.ListN.{length, replicate}
 use lib.Dec.{eqb, leb}
 use Rattle.octets.specs.Bytes.{toLe16, toLe32}
 use Rattle.octets.specs.Store.{put}
-use Rattle.calendar.specs.Calendar.{isDate}
 use Rattle.table.specs.Range.{anyBelow}
 use Rattle.table.specs.Table.{minTable, maxFields, maxRecord, plainKind, memoKind, endMark, fileEnd, headerLength, isMemo, fieldOffset, fieldsGood}
-use Rattle.table.specs.Table.{namesDiffer, firstRefusal, tableChecks}
+use Rattle.table.specs.Table.{namesDiffer, firstRefusal, tableChecks, firstYear, storableDate}
 use Rattle.field.specs.declared.FieldEntry.{FieldEntry}
 use Rattle.laying.specs.declared.FieldList.{FieldList}
 
@@ -52,13 +51,6 @@ headerSize f = 33 + 32 * f
 unfoldable pub recordSize : List ℕ → ℕ → ℕ
 recordSize ds f = fieldOffset (placed ds) f
 
--- document 01, "Bytes 1-3: year less 1900, month, day": the years that one byte holds
-abbrev pub firstYear : ℕ
-firstYear = 1900
-
-abbrev pub lastYear : ℕ
-lastYear = 2155
-
 -- "Bytes 4-7: record count n. 8-9: header length H. 10-11: record length R.": no record, and the other bytes up to the descriptors zero
 unfoldable pub headerOf : List ℕ → ℕ → ℕ → ℕ → ℕ → List ℕ
 headerOf ds f year month day =
@@ -70,10 +62,6 @@ unfoldable pub laidOut : List ℕ → ℕ → ℕ → ℕ → ℕ → List ℕ
 laidOut ds f year month day = headerOf ds f year month day ++ (ds ++ (endMark ∷ fileEnd ∷ []))
 
 -- ---- the refusals in their order
-
--- 3: "update date isn't a calendar date", or its year has no byte
-unfoldable pub storableDate : ℕ → ℕ → ℕ → Bool
-storableDate year month day = leb firstYear year && leb year lastYear && isDate year month day
 
 -- 4: "f from 1 to 128"
 unfoldable pub countGood : ℕ → Bool

@@ -16,43 +16,22 @@ use Rattle.octets.specs.Store.{put, window}
 use Rattle.octets.specs.StoreLaws.{length-put, put-append, put-comm, stored2, getD-window, window-same, window-before}
 use Rattle.octets.specs.NumberLaws.{length-toLe16, le16-put, le16-same}
 use Rattle.calendar.specs.Calendar.{isDate}
-use Rattle.calendar.specs.CalendarLaws.{date-range}
 use Rattle.table.specs.Range.{anyBelow}
 use Rattle.table.specs.RangeLaws.{any-same, sum-same}
 use Rattle.table.specs.Table.{minTable, maxTable, maxFields, maxRecord, plainKind, memoKind, endMark, fileEnd, descriptor, fieldLength}
 use Rattle.table.specs.Table.{fieldOffset, fieldCount, headerLength, recordLength, recordCount, recordsEnd, sizeGood, kindGood, dateGood, headerGood}
 use Rattle.table.specs.Table.{endMarkGood, fieldsGood, namesDiffer, isMemo, hasMemo, memoKindGood, recordLengthGood, lengthGood, firstRefusal, tableChecks}
-use Rattle.table.specs.Table.{checkTable}
+use Rattle.table.specs.Table.{checkTable, firstYear, storableDate}
+use Rattle.table.specs.DateLaws.{StorableDate, storable}
 use Rattle.table.specs.TableLaws.{HeaderFits, first-pass, good-then, refused-then, refused-check, good-shape}
 use Rattle.table.specs.declared.Shape.{Shape}
 use Rattle.table.specs.declared.Checked.the-variants.{Good, Refused}
 use Rattle.field.specs.declared.FieldEntry.{FieldEntry}
 use Rattle.laying.specs.declared.FieldList.{FieldList}
-use Rattle.laying.specs.Laying.{descriptorOf, withField, placed, kindFor, listsMemo, headerSize, recordSize, firstYear, lastYear, headerOf, laidOut}
-use Rattle.laying.specs.Laying.{storableDate, countGood, layChecks, layRefusal, layOut, layTable, laid}
+use Rattle.laying.specs.Laying.{descriptorOf, withField, placed, kindFor, listsMemo, headerSize, recordSize, headerOf, laidOut}
+use Rattle.laying.specs.Laying.{countGood, layChecks, layRefusal, layOut, layTable, laid}
 
 -- ---- the date and the count
-
-pub record StorableDate (year month day : ℕ) : Type 0 where
-  pub year-from : firstYear ≤ year
-  pub year-to : year ≤ lastYear
-  pub month-to : month ≤ 12
-  pub day-to : day ≤ 31
-  pub date : isDate year month day ≡ true
-
-pub storable : (year month day : ℕ) → storableDate year month day ≡ true → StorableDate year month day
-unfolding storableDate
-storable year month day e =
-    let parts = both (leb firstYear year && leb year lastYear) (isDate year month day) e in
-    let years = both (leb firstYear year) (leb year lastYear) (parts .0) in
-    let range = date-range year month day (parts .1) in
-    record {
-      year-from = leb-true firstYear year (years .0);
-      year-to = leb-true year lastYear (years .1);
-      month-to = range .month-to;
-      day-to = range .day-31;
-      date = parts .1;
-    }
 
 pub count-range : (f : ℕ) → countGood f ≡ true → (1 ≤ f) × (f ≤ maxFields)
 unfolding countGood

@@ -6,13 +6,8 @@ ghost use mathlib.Core.Path.{_≡_};
 ghost use lib.ListN.{length, take};
 ghost use Rattle.table.specs.Table.{maxFields, headerLength, hasMemo};
 ghost use Rattle.table.specs.TableLaws.{HeaderFits};
-ghost use Rattle.laying.specs.Laying.{noFields, withField, storableDate, countGood, kindFor, layOut, layTable, laid};
+ghost use Rattle.laying.specs.Laying.{noFields, withField, countGood, kindFor, layOut, layTable, laid};
 ghost use Rattle.laying.specs.LayingLaws.{Layable, Written};
-
-// The year of the date's first byte 0, and the last that the byte holds.
-const FIRST_YEAR: u32 = 1900;
-
-const LAST_YEAR: u32 = 2155;
 
 // Where the header holds its own length and the record's, and where it says no more.
 const HEADER_LENGTH_AT: usize = 8;
@@ -58,14 +53,6 @@ pub fn with_field(list: FieldList, j: usize, entry: FieldEntry) -> FieldList
     FieldList { bytes }
 }
 
-// Whether the header can hold a date: a calendar date whose year less 1900 is a byte.
-fn storable_date(year: u32, month: u32, day: u32) -> bool
-    ensures { λ r. ⌜ r ≡ storableDate year month day ⌝ }
-{
-    let real = calendar::is_date(year, month, day);
-    (FIRST_YEAR <= year) & (year <= LAST_YEAR) & real
-}
-
 fn count_good(count: usize) -> bool
     ensures { λ r. ⌜ r ≡ countGood count ⌝ }
 {
@@ -96,7 +83,7 @@ fn write_table(room: &mut [u8], descriptors: &[u8], count: usize, year: u32, mon
     octets::store_le16(room, RECORD_LENGTH_AT, length as u32);
     let first = [
         kind,
-        (year - FIRST_YEAR) as u8,
+        (year - table::FIRST_YEAR) as u8,
         month as u8,
         day as u8,
         0,
@@ -138,7 +125,7 @@ pub fn lay_out(
 ) -> u32
     ensures { λ r. ⌜ layOut (now (buffer .entry)) (take (32 * count) (list .bytes)) count year month day ≡ laid (now (buffer .exit)) r ⌝ }
 {
-    if !storable_date(year, month, day) {
+    if !table::storable_date(year, month, day) {
         return refusal::UPDATE_DATE;
     }
     if !count_good(count) {

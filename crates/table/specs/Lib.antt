@@ -18,3 +18,5 @@ pub mod NameLaws
 pub mod SameForm
 -- Laws: the checks look at the header, the length and the byte after the records alone
 pub mod HeaderLaws
+-- Laws: what holds of a date that the header can store
+pub mod DateLaws

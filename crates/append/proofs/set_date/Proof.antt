@@ -5,7 +5,8 @@ use Prim.Native.Nat.{_≤_}
 use lib.ListN.{length, length-set}
 use borrow.Author.Tests.{not-true, not-false}
 use Rattle.table.specs.Table.{minTable}
-use Rattle.append.specs.CheckLaws.{StorableDate, storable, held-header, date-refused, date-3, date-set}
+use Rattle.table.specs.DateLaws.{StorableDate, storable}
+use Rattle.append.specs.CheckLaws.{held-header, date-refused, date-3, date-set}
 use borrow.Author.Needs.{needs}
 use Rattle.append.proofs.set_date.Statement.{statement}
 use Rattle.append.proofs.set_date.Tie as tie

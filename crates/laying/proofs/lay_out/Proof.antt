@@ -6,7 +6,8 @@ use lib.ListN.{length, take}
 use lib.Seq.{length-take-le}
 use Rattle.basis.specs.Tests.{passed, failed}
 use Rattle.table.specs.Table.{maxFields}
-use Rattle.laying.specs.LayingLaws.{count-range, Layable, storable, lay-3, lay-4, made-length, lay-made}
+use Rattle.table.specs.DateLaws.{storable}
+use Rattle.laying.specs.LayingLaws.{count-range, Layable, lay-3, lay-4, made-length, lay-made}
 use borrow.Author.Needs.{needs}
 use Rattle.laying.proofs.lay_out.Statement.{statement}
 use Rattle.laying.proofs.lay_out.Tie as tie

@@ -1,8 +1,8 @@
--- `laying::storable_date` meets its contract, from what `is_date` ensures. Assumes nothing.
-use Rattle.laying.specs.Laying.{storableDate}
+-- `table::storable_date` meets its contract, from what `is_date` ensures. Assumes nothing.
+use Rattle.table.specs.Table.{storableDate}
 use borrow.Author.Needs.{needs}
-use Rattle.laying.proofs.storable_date.Statement.{statement}
-use Rattle.laying.proofs.storable_date.Tie as tie
+use Rattle.table.proofs.storable_date.Statement.{statement}
+use Rattle.table.proofs.storable_date.Tie as tie
 
 is-date-requires : tie.Need-is-date-requires
 is-date-requires c κs = search needs
