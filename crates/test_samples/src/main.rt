@@ -145,7 +145,7 @@ fn words_line(number: u32) {
     let mut line = lines::empty_line();
     let end = lines::put_number(&mut line, 0, number as u64);
     let end = lines::put(&mut line, end, b" ");
-    let end = inspection::words::put_words(&mut line, end, number);
+    let end = words::put_words(&mut line, end, number);
     lines::print_line(&mut line, end);
 }
 
