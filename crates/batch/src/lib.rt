@@ -13,7 +13,7 @@ ghost use Rattle.batch.specs.Encoding.{isCall, callEnd, callAt};
 ghost use Rattle.batch.specs.Run.{answerSize, replyOf, replyBytes, replyTo, leaves, runRule, SoundRunKept, started, batchRule, BatchKept};
 
 // The bytes of one answer.
-pub const ANSWER: usize = 12;
+pub const ANSWER_SIZE: usize = 12;
 
 // The code of a lookup whose key is absent.
 const ABSENT: u32 = 257;
@@ -58,7 +58,7 @@ fn goes_on(calls: &[u8], at: usize, room: usize) -> bool
     requires { ⌜ at ≤ length (now calls) ⌝ }
     ensures { λ r. ⌜ r ≡ isCall (now (calls .entry)) at && leb answerSize room ⌝ }
 {
-    is_call(calls, at) & (ANSWER <= room)
+    is_call(calls, at) & (ANSWER_SIZE <= room)
 }
 
 // An insertion's answer.
@@ -136,9 +136,9 @@ pub fn run_calls(index: &mut [u8], calls: &[u8], answers: &mut [u8]) -> usize
 {
     let mut at = 0;
     let mut made = 0;
-    while goes_on(calls, at, answers.len() - ANSWER * made) {
+    while goes_on(calls, at, answers.len() - ANSWER_SIZE * made) {
         let reply = make_call(index, calls, at);
-        write_reply(answers, ANSWER * made, reply);
+        write_reply(answers, ANSWER_SIZE * made, reply);
         at = call_end(calls, at);
         made += 1;
     }

@@ -131,15 +131,15 @@ answer-found none n = refl
 answer-found (some r) n = refl
 
 -- the record that was found, by lookup's answer
-recordIn : Looked → Option ℕ
-recordIn (looked.Found r pages) = some (r .0)
-recordIn (looked.Absent pages) = none
-recordIn (looked.Refused n) = none
+foundRecord : Looked → Option ℕ
+foundRecord (looked.Found r pages) = some (r .0)
+foundRecord (looked.Absent pages) = none
+foundRecord (looked.Refused n) = none
 
 answer-record : (o : Option ℕ) (n : ℕ) (r : RecordNumber) (m : ℕ) → answerOf o n ≡ looked.Found r m → o ≡ some (r .0)
-unfolding recordIn
-answer-record none n r m e = ap recordIn e
-answer-record (some x) n r m e = ap recordIn e
+unfolding foundRecord
+answer-record none n r m e = ap foundRecord e
+answer-record (some x) n r m e = ap foundRecord e
 
 module _ (k size : ℕ) (b : List ℕ) (kept : Kept k size b) where
   abbrev s : Sound b
