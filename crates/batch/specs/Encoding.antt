@@ -1,5 +1,5 @@
 -- Rules: a list of calls as bytes, so that code can be lent one. A call is its kind, 0 for a lookup and 1 for an insertion, the length of its key in two bytes,
--- the key and, for an insertion, its record number in four. Numbers are least significant byte first. The list ends where no whole call stands.
+-- the key, and for an insertion its record number in four bytes. Numbers are least significant byte first. The list ends where no whole call stands.
 use Prim.Native.Nat.{ℕ, zero, suc, _+_, _*_, _^_, _<_}
 use mathlib.Core.Bool.{Bool, true, false, cond, _&&_}
 use mathlib.Core.List.{List, [], _∷_, _++_}
@@ -10,7 +10,7 @@ use Rattle.octets.specs.Store.{window}
 use Rattle.tree.specs.Book.{Call, insertion, lookupOf}
 use Rattle.book.specs.Book.{Calls}
 
--- of the call at an offset: its key, the offset past the key, and the offset past the call, which is four bytes on for kind 1
+-- of the call at an offset: its key, the offset past the key, and the offset past the call, four bytes further for kind 1
 abbrev pub keyIn : List ℕ → ℕ → List ℕ
 keyIn s at = window s (at + 3) (le16 s (at + 1))
 
@@ -24,19 +24,20 @@ callEnd s at = keyEnd s at + 4 * byteAt s at
 unfoldable pub isCall : List ℕ → ℕ → Bool
 isCall s at = leb (at + 3) (length s) && (leb (byteAt s at) 1 && leb (callEnd s at) (length s))
 
+-- the call that stands there
 unfoldable pub callAt : List ℕ → ℕ → Call (List ℕ)
 callAt s at = cond (eqb (byteAt s at) 0) (lookupOf (keyIn s at)) (insertion (keyIn s at) (le32 s (keyEnd s at)))
 
--- the calls from an offset on, so many at most
+-- the calls from an offset on, at most as many as the first argument says
 unfoldable pub callsFrom : ℕ → List ℕ → ℕ → Calls
 callsFrom zero s at = []
 callsFrom (suc n) s at = elim (isCall s at) [ true ↦ callAt s at ∷ callsFrom n s (callEnd s at) | false ↦ [] ]
 
--- a call has at least three bytes, so that there are at most as many calls as bytes
+-- all calls of a list. A call has at least three bytes, so there are at most as many calls as bytes
 unfoldable pub callsIn : List ℕ → Calls
 callsIn s = callsFrom (length s) s 0
 
--- the same from the other side: the bytes of a call, and of a list of calls
+-- the bytes of a call, and of a list of calls
 abbrev pub framed : ℕ → List ℕ → List ℕ → List ℕ
 framed kind key number = kind ∷ (toLe16 (length key) ++ (key ++ number))
 
@@ -48,7 +49,7 @@ abbrev pub listBytes : Calls → List ℕ
 listBytes [] = []
 listBytes (c ∷ calls) = callBytes c ++ listBytes calls
 
--- a call that has such bytes: a key shorter than 65,536 bytes, a record number of four
+-- a call that can be given as bytes: its key is shorter than 65,536 bytes, and its record number fits four bytes
 abbrev pub Encodable : Call (List ℕ) → Type 0
 Encodable (lookupOf key) = length key < 2 ^ 16
 Encodable (insertion key r) = (length key < 2 ^ 16) × (r < 2 ^ 32)

@@ -1,4 +1,4 @@
--- Laws: where a call stands, and that it is the one its bytes say. Cited by the proofs of the code. Assumes nothing.
+-- Laws: where a call stands in a list, and which call it is by its bytes. Cited by the proofs of the code. Assumes nothing.
 use Prim.Native.Nat.{ℕ, zero, suc, _+_, _-_, _≤_, _<_}
 use mathlib.Core.Path.{_≡_, refl}
 use mathlib.Core.Bool.{true, false, _&&_}
@@ -16,7 +16,7 @@ use Rattle.tree.specs.Book.{insertion, lookupOf}
 use Rattle.book.specs.Book.{FourBytes}
 use Rattle.batch.specs.Encoding.{keyIn, keyEnd, callEnd, isCall, callAt, callsFrom, callsIn}
 
--- a whole call lies inside
+-- a whole call lies inside the list
 pub record Whole (s : List ℕ) (at : ℕ) : Type 0 where
   pub head : at + 3 ≤ length s
   pub kind : byteAt s at ≤ 1
@@ -30,16 +30,17 @@ whole s at e =
     record { head = leb-true _ _ (p .0); kind = leb-true _ _ (q .0); end = leb-true _ _ (q .1) }
 
 module _ (s : List ℕ) (at : ℕ) where
-  -- too few bytes are no call, and where there are enough the other two tests decide
+  -- fewer than three bytes are no call; with three or more the other two tests decide
   pub no-head : length s < at + 3 → isCall s at ≡ false
   unfolding isCall
   no-head h = rw (lt-leb (at + 3) (length s) h)
 
-  pub by-kind : {kind end : ℕ} → at + 3 ≤ length s → kind ≡ byteAt s at → end ≡ callEnd s at → (leb kind 1 && leb end (length s)) ≡ isCall s at
+  pub by-kind : {kind end : ℕ} → at + 3 ≤ length s → kind ≡ byteAt s at → end ≡ callEnd s at
+      → (leb kind 1 && leb end (length s)) ≡ isCall s at
   unfolding isCall
   by-kind h e f = rw (e, f, le-leb (at + 3) (length s) h)
 
-  -- the call of each kind
+  -- the call by its kind
   pub lookup-there : byteAt s at ≡ 0 → callAt s at ≡ lookupOf (keyIn s at)
   unfolding callAt
   lookup-there e = rw (e)
@@ -48,12 +49,12 @@ module _ (s : List ℕ) (at : ℕ) where
   unfolding callAt
   insertion-there e = rw (ne-eqb (byteAt s at) 0 e)
 
-  -- the key as a part of the bytes
+  -- the key, as the code cuts it out of the list
   pub key-part : {n : ℕ} → n ≡ le16 s (at + 1) → take (at + 3 + n - (at + 3)) (drop (at + 3) s) ≡ keyIn s at
   unfolding window
   key-part {n} e = let z : at + 3 + n - (at + 3) ≡ n = omega arith in rw (z, e)
 
--- a list of calls from an offset on: one call, and those behind it; or none
+-- a list of calls from an offset on: one call and the calls behind it, or none
 module _ (s : List ℕ) (at f : ℕ) where
   pub calls-more : isCall s at ≡ true → callsFrom (suc f) s at ≡ callAt s at ∷ callsFrom f s (callEnd s at)
   unfolding callsFrom
@@ -68,7 +69,7 @@ unfolding callsFrom
 calls-none s at zero e = refl
 calls-none s at (suc f) e = calls-end s at f e
 
--- record numbers have four bytes
+-- the record numbers of a list of bytes have four bytes
 module _ (s : List ℕ) (a : All (λ x. x < 256) s) where
   four-bytes : (at : ℕ) → FourBytes (callAt s at)
   four-bytes at = either (eqb (byteAt s at) 0)

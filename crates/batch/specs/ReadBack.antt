@@ -1,4 +1,4 @@
--- Laws: a list of calls is read back from its bytes, so that every list with keys shorter than 65,536 bytes can be run; and the bound in `callsIn` never cuts a
+-- Laws: a list of calls is read back from its bytes, so every list with keys shorter than 65,536 bytes can be run; and the bound in `callsIn` never cuts a
 -- list short. Assumes nothing.
 use Prim.Native.Nat.{ℕ, zero, suc, _+_, _*_, _/_, _%_, _^_, _≤_, _<_}
 use mathlib.Core.Path.{_≡_, refl, sym, ap, _∙_}
@@ -19,7 +19,7 @@ use Rattle.batch.specs.Encoding.{keyIn, keyEnd, callEnd, isCall, callAt,
 use Rattle.batch.specs.EncodingLaws.{whole, no-head, lookup-there, insertion-there, calls-more, calls-none}
 use Rattle.batch.specs.Run.{answerSize, madeCalls}
 
--- more room in the bound makes no difference
+-- a bound of a third of the bytes is enough: a greater one gives the same calls
 pub calls-enough : (f n : ℕ) (s : List ℕ) (at : ℕ) → length s ≤ at + 3 * f → callsFrom (f + n) s at ≡ callsFrom f s at
 calls-enough zero n s at h = let e = no-head s at (omega arith) in calls-none s at (0 + n) e ∙ sym (calls-none s at 0 e)
 calls-enough (suc f) n s at h = either (isCall s at)
@@ -33,7 +33,7 @@ is-whole : (s : List ℕ) (at : ℕ) → at + 3 ≤ length s → byteAt s at ≤
 unfolding isCall
 is-whole s at h k e = rw (le-leb (at + 3) (length s) h, le-leb (byteAt s at) 1 k, le-leb (callEnd s at) (length s) e)
 
--- a call between other bytes
+-- a call with `pre` before it and `post` behind it
 module _ (pre : List ℕ) (kind : ℕ) (key number post : List ℕ) (short : length key < 2 ^ 16) where
   byte-there : byteAt (pre ++ (framed kind key number ++ post)) (length pre) ≡ kind
   byte-there = getD-at pre kind _ 0 (length pre) refl
@@ -49,7 +49,9 @@ module _ (pre : List ℕ) (kind : ℕ) (key number post : List ℕ) (short : len
 
   key-there : keyIn (pre ++ (framed kind key number ++ post)) (length pre) ≡ key
   unfolding window toLe16
-  key-there = rw (size-there, drop-append-add pre (framed kind key number ++ post) 3, append-assoc key number post) (take-at key (number ++ post) (length key) refl)
+  key-there =
+      rw (size-there, drop-append-add pre (framed kind key number ++ post) 3, append-assoc key number post)
+      (take-at key (number ++ post) (length key) refl)
 
   behind : drop (length pre + 3 + length key) (pre ++ (framed kind key number ++ post)) ≡ number ++ post
   unfolding toLe16
@@ -62,7 +64,7 @@ module _ (pre : List ℕ) (kind : ℕ) (key number post : List ℕ) (short : len
   unfolding toLe16
   long = simp length-append (omega arith)
 
--- the call of each kind, read back
+-- the call c of `size` bytes stands at an offset
 pub record There (s : List ℕ) (at : ℕ) (c : Call (List ℕ)) (size : ℕ) : Type 0 where
   pub whole-call : isCall s at ≡ true
   pub same-call : callAt s at ≡ c
@@ -72,6 +74,7 @@ framed-length : (kind : ℕ) (key number : List ℕ) → length (framed kind key
 unfolding toLe16
 framed-length kind key number = simp length-append (omega arith)
 
+-- a call of each kind stands where its bytes are
 module _ (pre key post : List ℕ) (short : length key < 2 ^ 16) where
   lookup-back : There (pre ++ (framed 0 key [] ++ post)) (length pre) (lookupOf key) (length (framed 0 key []))
   lookup-back =
@@ -113,7 +116,7 @@ there : (pre : List ℕ) (c : Call (List ℕ)) (post : List ℕ) → Encodable c
 there pre (lookupOf key) post short = lookup-back pre key post short
 there pre (insertion key r) post e = insertion-back pre key post (e .0) r (e .1)
 
--- a list behind other bytes
+-- a list of calls behind other bytes
 list-back : (calls : Calls) → All Encodable calls → (pre : List ℕ) (f : ℕ) → length calls ≤ f → callsFrom f (pre ++ listBytes calls) (length pre) ≡ calls
 list-back [] a pre f h = calls-none (pre ++ []) (length pre) f (no-head (pre ++ []) (length pre) (simp length-append (omega arith)))
 list-back (c ∷ calls) a pre zero h = absurd (omega arith)
@@ -134,7 +137,7 @@ list-long : (calls : Calls) → length calls ≤ length (listBytes calls)
 list-long [] = omega arith
 list-long (c ∷ calls) = rw (length-append (callBytes c) (listBytes calls)) (omega (arith, call-long c, list-long calls))
 
--- Theorem: a list of calls is read back from its bytes, and made whole where there is room for all answers
+-- Theorem: a list of calls is read back from its bytes, and all its calls are made if there is room for all answers
 module _ (calls : Calls) (a : All Encodable calls) where
   pub calls-back : callsIn (listBytes calls) ≡ calls
   unfolding callsIn

@@ -1,4 +1,5 @@
--- Laws: a call that the code makes is the rule's; one turn of the run of a list of calls, and its end. Cited by the proofs of the code. Assumes nothing.
+-- Laws: a call that the code makes is the rule's; one turn of the run of a list of calls, and its end; demand 3. Cited by the proofs of the code.
+-- Assumes nothing.
 use Prim.Native.Nat.{ℕ, suc, _+_, _*_, _-_, _/_, _≤_, _<_}
 use mathlib.Core.Path.{_≡_, refl, sym, ap, _∙_}
 use mathlib.Core.Bool.{Bool, true, false, _&&_}
@@ -9,16 +10,16 @@ use lib.Dec.{leb}
 use lib.ListN.{length, take, drop, getD}
 use lib.Seq.{take-nil}
 use borrow.Author.Tests.{leb-true, leb-false}
-use Rattle.basis.specs.Lists.{All}
-use Rattle.basis.specs.Tests.{either, both}
+use Rattle.basis.specs.Lists.{All, all-take}
+use Rattle.basis.specs.Tests.{either, both, impossible}
 use Rattle.octets.specs.Bytes.{byteAt, le16, le32, toLe32}
 use Rattle.octets.specs.Store.{put}
 use Rattle.octets.specs.StoreLaws.{put-append, put-none, length-put}
 use Rattle.octets.specs.NumberLaws.{length-toLe32}
 use Rattle.tree.specs.Book.{Call, finalOf}
-use Rattle.book.specs.Book.{Calls, FourBytes, insertionAnswer, lookupAnswer, answerTo, bufferAfter, Pairs, leafPairs, BookKept}
-use Rattle.book.specs.BookLaws.{demand-3, demand-3-sound, all-take}
-use Rattle.page.specs.Header.{keyLength, keyLengthGood}
+use Rattle.book.specs.Book.{Calls, FourBytes, insertionAnswer, lookupAnswer, bufferAfter, Pairs, leafPairs, BookKept}
+use Rattle.book.specs.BookLaws.{demand-3, demand-3-sound}
+use Rattle.page.specs.Header.{minBytes, keyLength, keyLengthGood}
 use Rattle.lookup.specs.Lookup.{lookupRule, answerPages}
 use Rattle.lookup.specs.declared.Answer.{Answer as Looked}
 use Rattle.insert.specs.Calls.{Inserted, left, insertionCode, insertRule}
@@ -28,17 +29,14 @@ use Rattle.insert.specs.declared.Insertion.{Insertion}
 use Rattle.insert.specs.declared.Insertion.the-variants.{Accepted, Refused}
 use Rattle.batch.specs.Encoding.{keyIn, keyEnd, callEnd, isCall, callAt, callsFrom, callsIn}
 use Rattle.batch.specs.EncodingLaws.{whole, lookup-there, insertion-there, key-part, calls-more, calls-none, calls-small}
-use Rattle.batch.specs.Run.{replyOf, replyBytes, pagesTo, repliesTo, answerSize, madeCalls, Ran, leaves, runRule, started, batchRule}
+use Rattle.batch.specs.Run.{replyOf, replyBytes, replyTo, repliesTo, answerSize, madeCalls, Ran, leaves, runRule, started, batchRule}
 use Rattle.batch.specs.Run.{RunKept, SoundRunKept, BatchKept}
 use Rattle.batch.specs.declared.Reply.{Reply}
 
--- the reply to a call on a buffer
-abbrev pub replyTo : Call (List ℕ) → List ℕ → Reply
-replyTo c b = replyOf (answerTo c b) (pagesTo c b)
-
 -- a call of each kind, as the code makes it
 module _ (b s : List ℕ) (at : ℕ) {n kind : ℕ} {r : Reply} (size : n ≡ le16 s (at + 1)) (known : kind ≡ byteAt s at) where
-  pub lookup-made : {a : Looked} → kind ≡ 0 → a ≡ lookupRule b (take (at + 3 + n - (at + 3)) (drop (at + 3) s)) → r ≡ replyOf (lookupAnswer a) (answerPages a 0)
+  pub lookup-made : {a : Looked} → kind ≡ 0 → a ≡ lookupRule b (take (at + 3 + n - (at + 3)) (drop (at + 3) s))
+      → r ≡ replyOf (lookupAnswer a) (answerPages a 0)
       → (b ≡ bufferAfter (callAt s at) b) × (r ≡ replyTo (callAt s at) b)
   lookup-made z e q = rw (lookup-there s at (sym known ∙ z)) (refl, q ∙ rw (e, key-part s at size))
 
@@ -49,18 +47,21 @@ module _ (b s : List ℕ) (at : ℕ) {n kind : ℕ} {r : Reply} (size : n ≡ le
       let g : insertRule b (keyIn s at) (le32 s (keyEnd s at)) ≡ left after a = rw (f, key-part s at size, size) at e in
       rw (insertion-there s at (λ y. z (known ∙ y))) (sym (ap (λ (i : Inserted). i .after) g), q ∙ rw (g))
 
--- in a turn there is a whole call, and room for its answer
+-- a turn is taken if there is a whole call, and room of n bytes for its answer
 pub turn-taken : (s : List ℕ) (at n : ℕ) {r : Bool} → r ≡ isCall s at && leb answerSize n → r ≡ true → (isCall s at ≡ true) × (answerSize ≤ n)
 turn-taken s at n e t = let p = both (isCall s at) (leb answerSize n) (sym e ∙ t) in (p .0, leb-true answerSize n (p .1))
 
--- the stores of an answer
-pub reply-stored : (out : List ℕ) (at : ℕ) (r : Reply) {l1 l2 l3 : List ℕ} → l1 ≡ put out at (toLe32 (r .code)) → l2 ≡ put l1 (at + 4) (toLe32 (r .number))
+-- an answer's three stores are one
+pub reply-stored : (out : List ℕ) (at : ℕ) (r : Reply) {l1 l2 l3 : List ℕ} → l1 ≡ put out at (toLe32 (r .code))
+    → l2 ≡ put l1 (at + 4) (toLe32 (r .number))
     → l3 ≡ put l2 (at + 8) (toLe32 (r .pages)) → l3 ≡ put out at (replyBytes r)
 reply-stored out at r e1 e2 e3 =
-    let z : at + 4 + 4 ≡ at + 8 = omega arith in
-    e3 ∙ rw (e2, e1, put-append out at (toLe32 (r .code)), length-toLe32 (r .code), put-append _ (at + 4) (toLe32 (r .number)), length-toLe32 (r .number), z)
+    let third : at + 4 + 4 ≡ at + 8 = omega arith in
+    e3
+    ∙ rw (e2, e1, put-append out at (toLe32 (r .code)), length-toLe32 (r .code))
+    (rw (put-append _ (at + 4) (toLe32 (r .number)), length-toLe32 (r .number), third))
 
--- calls made on a buffer, the answers written from place m on
+-- calls made on the buffer b, after m calls: their answers are written behind the first m answers
 unfoldable pub madeOn : Calls → List ℕ → List ℕ → ℕ → Ran
 madeOn calls b out m = leaves (finalOf bufferAfter calls b) (put out (answerSize * m) (repliesTo calls b)) (m + length calls)
 
@@ -80,7 +81,8 @@ made-more c calls b out m =
     let n : m + suc (length calls) ≡ m + 1 + length calls = omega arith in
     rw (put-append out (answerSize * m) (replyBytes (replyTo c b)) (repliesTo calls (bufferAfter c b)), reply-length (replyTo c b), l, n)
 
--- the loop's invariant: what the rule leaves is what the calls that are still to be made leave, from offset `at` on, on the buffer as it is, after m calls
+-- the loop's invariant after m calls: what the rule leaves is what the calls still to be made, from offset `at` on, leave of the buffer and the answers
+-- as they are
 pub record Going (b₀ s out₀ b out : List ℕ) (at m : ℕ) : Type 0 where
   pub same : length b ≡ length b₀
   pub long : length out ≡ length out₀
@@ -97,7 +99,7 @@ going-first b s out =
     record { same = refl; long = refl; inside = omega arith; passed = omega arith; room = omega arith; rest = rw (zero-add, n, f) }
 
 module _ (b₀ s out₀ b out : List ℕ) (at m : ℕ) (g : Going b₀ s out₀ b out at m) where
-  -- a turn
+  -- one turn more
   pub going-on : {b′ out′ : List ℕ} {r : Reply} → isCall s at ≡ true → answerSize ≤ length out - answerSize * m → length b′ ≡ length b
       → b′ ≡ bufferAfter (callAt s at) b → r ≡ replyTo (callAt s at) b → out′ ≡ put out (answerSize * m) (replyBytes r)
       → Going b₀ s out₀ b′ out′ (callEnd s at) (m + 1)
@@ -114,7 +116,7 @@ module _ (b₀ s out₀ b out : List ℕ) (at m : ℕ) (g : Going b₀ s out₀ 
         rest = g .rest ∙ rw (n, f, calls-more s at (length s - (m + 1)) e) (made-more (callAt s at) _ b out m ∙ rw (o, q, p));
       }
 
-  -- the end: no whole call, or no room
+  -- the end: there is no whole call, or no room for its answer
   pub going-ends : {r : Bool} → r ≡ isCall s at && leb answerSize (length out - answerSize * m) → r ≡ false → runRule b₀ s out₀ ≡ leaves b out m
   going-ends t e = g .rest ∙ either (isCall s at)
       (λ y.
@@ -123,7 +125,7 @@ module _ (b₀ s out₀ b out : List ℕ) (at m : ℕ) (g : Going b₀ s out₀ 
       rw (n) (made-none b out m))
       (λ y. rw (calls-none s at (length s - m) y, take-nil) (made-none b out m))
 
--- a batch, by fresh's answer
+-- a batch by fresh's answer
 module _ (b : List ℕ) (k : ℕ) (e s out : List ℕ) {b′ : List ℕ} where
   pub batch-made : {b″ out′ : List ℕ} {n : ℕ} → freshRule b k e ≡ left b′ Accepted → runRule b′ s out ≡ leaves b″ out′ n
       → batchRule b k e s out ≡ started b″ out′ (record { fresh = 0; made = n })
@@ -134,33 +136,34 @@ module _ (b : List ℕ) (k : ℕ) (e s out : List ℕ) {b′ : List ℕ} where
   unfolding batchRule
   batch-refused f = rw (f)
 
--- a refusal of fresh has a number
+-- a refusal of fresh does not have the number 0
 pub refused-number : (b : List ℕ) (k : ℕ) (e : List ℕ) {b′ : List ℕ} {n : ℕ} → freshRule b k e ≡ left b′ (Refused n) → n ≡ 0 → ⊥
 refused-number b k e {b′} {n} f z =
-    let numbered : (x : ℕ) → freshRule b k e ≡ left b (Refused x) → x ≡ 0 = λ x g. ap (λ (i : Inserted). insertionCode (i .answer)) (sym g ∙ f) ∙ z in
+    let zero : (x : ℕ) → freshRule b k e ≡ left b (Refused x) → x ≡ 0 = λ x g.
+    ap (λ (i : Inserted). insertionCode (i .answer)) (sym g ∙ f) ∙ z in
     either (keyLengthGood k)
     (λ key. either (expressionGood e)
-    (λ good. either (leb 1024 (length b))
+    (λ good. either (leb minBytes (length b))
     (λ room.
-    let made = fresh-made b k e key good (leb-true 1024 (length b) room) refl in
-    let y : _≡_ {A = Insertion} Accepted (Refused n) = ap (λ (i : Inserted). i .answer) (sym made ∙ f) in
-    let w : _≡_ {A = ℕ} 0 1 = cc in
-    omega arith)
-    (λ room. let w = numbered 30 (fresh-30 b k e key good (leb-false 1024 (length b) room)) in omega arith))
-    (λ bad. let w = numbered 24 (fresh-24 b k e key bad) in omega arith))
-    (λ bad. let w = numbered 27 (fresh-27 b k e bad) in omega arith)
+    let made = fresh-made b k e key good (leb-true minBytes (length b) room) refl in
+    let same : _≡_ {A = Insertion} Accepted (Refused n) = ap (λ (i : Inserted). i .answer) (sym made ∙ f) in
+    impossible (cc))
+    (λ room. omega (arith, zero 30 (fresh-30 b k e key good (leb-false minBytes (length b) room)))))
+    (λ bad. omega (arith, zero 24 (fresh-24 b k e key bad))))
+    (λ bad. omega (arith, zero 27 (fresh-27 b k e bad)))
 
--- bytes, one by one and all of them
-pub all-octets : (s : List ℕ) → ((i : ℕ) → getD s i 0 < 256) → All (λ x. x < 256) s
+-- bytes below 256, one by one, are so all together
+all-octets : (s : List ℕ) → ((i : ℕ) → getD s i 0 < 256) → All (λ x. x < 256) s
 all-octets [] h = tt
 all-octets (x ∷ s) h = (h 0, all-octets s (λ i. h (suc i)))
 
--- the calls that are made have record numbers of four bytes, since a list is made of bytes
+-- the calls that are made have record numbers of four bytes, since the list holds bytes
 made-small : (s out : List ℕ) → ((i : ℕ) → getD s i 0 < 256) → All FourBytes (madeCalls s out)
 made-small s out os = all-take FourBytes (length out / answerSize) (callsIn s) (calls-small s (all-octets s os))
 
--- what the rule leaves, with the book that keeps it
-run-kept : (k : ℕ) (book : Pairs) (b s out : List ℕ) {b′ out′ : List ℕ} {n : ℕ} → runRule b s out ≡ leaves b′ out′ n → BookKept k book (madeCalls s out) b
+-- what the rule leaves, and the book that keeps it, are demand 3 of the run
+run-kept : (k : ℕ) (book : Pairs) (b s out : List ℕ) {b′ out′ : List ℕ} {n : ℕ} → runRule b s out ≡ leaves b′ out′ n
+    → BookKept k book (madeCalls s out) b
     → RunKept k book b s out b′ out′ n
 unfolding runRule
 run-kept k book b s out r kept = record {

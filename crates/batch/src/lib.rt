@@ -1,4 +1,4 @@
-// A list of calls run by code: fresh, and then insertions and lookups, each lent the buffer as the last one left it.
+// A list of calls run by code: fresh, and then insertions and lookups, each lent the buffer as the last call left it.
 use insert::Insertion;
 use page::RecordNumber;
 ghost use mathlib.Core.Path.{_≡_};
@@ -7,22 +7,26 @@ ghost use Prim.Native.Nat.{_+_, _≤_};
 ghost use lib.ListN.{length};
 ghost use lib.Dec.{leb};
 ghost use Rattle.octets.specs.Store.{put};
-ghost use Rattle.book.specs.Book.{insertionAnswer, lookupAnswer, answerTo, bufferAfter};
+ghost use Rattle.book.specs.Book.{insertionAnswer, lookupAnswer, bufferAfter};
 ghost use Rattle.lookup.specs.Lookup.{answerPages};
 ghost use Rattle.batch.specs.Encoding.{isCall, callEnd, callAt};
-ghost use Rattle.batch.specs.Run.{answerSize, replyOf, replyBytes, pagesTo, leaves, runRule, SoundRunKept, started, batchRule, BatchKept};
+ghost use Rattle.batch.specs.Run.{answerSize, replyOf, replyBytes, replyTo, leaves, runRule, SoundRunKept, started, batchRule, BatchKept};
 
 // The bytes of one answer.
-pub const ANSWER: usize = 12;
+pub const ANSWER_SIZE: usize = 12;
 
-// What a call answers, as it is written: 0, the refusal's number or 257 for absent; the record that was found; and the pages that a lookup visited.
+// The code of a lookup whose key is absent.
+const ABSENT: u32 = 257;
+
+// What a call answers, as it is written: its code, 0, the refusal's number or `ABSENT`; the number of the record that was found; and how many pages a lookup
+// visited.
 pub struct Reply {
     pub code: u32,
     pub number: u32,
     pub pages: u32,
 }
 
-// What a batch answers: what fresh answered, 0 or its refusal's number, and how many calls were made after it.
+// What a batch answers: fresh's code, 0 or its refusal's number, and how many calls were made after it.
 pub struct Batch {
     pub fresh: u32,
     pub made: usize,
@@ -54,7 +58,7 @@ fn goes_on(calls: &[u8], at: usize, room: usize) -> bool
     requires { ⌜ at ≤ length (now calls) ⌝ }
     ensures { λ r. ⌜ r ≡ isCall (now (calls .entry)) at && leb answerSize room ⌝ }
 {
-    is_call(calls, at) & (ANSWER <= room)
+    is_call(calls, at) & (ANSWER_SIZE <= room)
 }
 
 // An insertion's answer.
@@ -86,7 +90,7 @@ fn looked_up(answer: lookup::Answer) -> Reply
             pages,
         },
         lookup::Answer::Absent(pages) => Reply {
-            code: 257,
+            code: ABSENT,
             number: 0,
             pages,
         },
@@ -101,7 +105,10 @@ fn looked_up(answer: lookup::Answer) -> Reply
 // Makes the call at an offset.
 fn make_call(index: &mut [u8], calls: &[u8], at: usize) -> Reply
     requires { ⌜ isCall (now calls) at ≡ true ⌝ }
-    ensures { λ r. ⌜ (now (index .exit) ≡ bufferAfter (callAt (now (calls .entry)) at) (now (index .entry))) × (r ≡ replyOf (answerTo (callAt (now (calls .entry)) at) (now (index .entry))) (pagesTo (callAt (now (calls .entry)) at) (now (index .entry)))) ⌝ }
+    ensures { λ r. ⌜
+        (now (index .exit) ≡ bufferAfter (callAt (now (calls .entry)) at) (now (index .entry)))
+        × (r ≡ replyTo (callAt (now (calls .entry)) at) (now (index .entry)))
+        ⌝ }
 {
     let from = at + 3;
     let end = from + octets::load_le16(calls, at + 1) as usize;
@@ -112,7 +119,7 @@ fn make_call(index: &mut [u8], calls: &[u8], at: usize) -> Reply
     inserted(insert::insert(index, &calls[from..end], number))
 }
 
-// Writes an answer.
+// Writes an answer at an offset.
 fn write_reply(answers: &mut [u8], at: usize, reply: Reply)
     requires { ⌜ at + answerSize ≤ length (now answers) ⌝ }
     ensures { λ _. ⌜ now (answers .exit) ≡ put (now (answers .entry)) at (replyBytes reply) ⌝ }
@@ -122,23 +129,23 @@ fn write_reply(answers: &mut [u8], at: usize, reply: Reply)
     octets::store_le32(answers, at + 8, reply.pages);
 }
 
-// Makes the calls of a list one after another on a buffer as it stands, as many as there is room for their answers, and answers how many.
+// Makes the calls of a list one after another on a buffer, as many as there is room for their answers, and answers how many.
 pub fn run_calls(index: &mut [u8], calls: &[u8], answers: &mut [u8]) -> usize
     ensures { λ r. ⌜ runRule (now (index .entry)) (now (calls .entry)) (now (answers .entry)) ≡ leaves (now (index .exit)) (now (answers .exit)) r ⌝ }
     ensures { λ r. ⌜ SoundRunKept (now (index .entry)) (now (calls .entry)) (now (answers .entry)) (now (index .exit)) (now (answers .exit)) r ⌝ }
 {
     let mut at = 0;
     let mut made = 0;
-    while goes_on(calls, at, answers.len() - ANSWER * made) {
+    while goes_on(calls, at, answers.len() - ANSWER_SIZE * made) {
         let reply = make_call(index, calls, at);
-        write_reply(answers, ANSWER * made, reply);
+        write_reply(answers, ANSWER_SIZE * made, reply);
         at = call_end(calls, at);
         made += 1;
     }
     made
 }
 
-// Makes a fresh index and then the calls of a list, if fresh is accepted.
+// Makes a fresh index, and then the calls of a list if fresh is accepted.
 pub fn run_batch(
     index: &mut [u8],
     k: u32,
@@ -146,8 +153,15 @@ pub fn run_batch(
     calls: &[u8],
     answers: &mut [u8],
 ) -> Batch
-    ensures { λ r. ⌜ batchRule (now (index .entry)) k (now (expression .entry)) (now (calls .entry)) (now (answers .entry)) ≡ started (now (index .exit)) (now (answers .exit)) r ⌝ }
-    ensures { λ r. ⌜ (r .fresh ≡ 0 → BatchKept (now (index .entry)) k (now (expression .entry)) (now (calls .entry)) (now (answers .entry)) (now (index .exit)) (now (answers .exit)) (r .made)) ⌝ }
+    ensures { λ r. ⌜
+        batchRule (now (index .entry)) k (now (expression .entry)) (now (calls .entry)) (now (answers .entry))
+        ≡ started (now (index .exit)) (now (answers .exit)) r
+        ⌝ }
+    ensures { λ r. ⌜
+        (r .fresh ≡ 0
+        → BatchKept (now (index .entry)) k (now (expression .entry)) (now (calls .entry)) (now (answers .entry))
+        (now (index .exit)) (now (answers .exit)) (r .made))
+        ⌝ }
 {
     match insert::fresh(index, k, expression) {
         Insertion::Accepted => Batch {

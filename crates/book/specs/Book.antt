@@ -1,6 +1,6 @@
--- Rules: demand 3, one claim about a whole list of calls, each lent the buffer as the last left it. The calls are the rules that the contracts of insertion
--- and lookup cite; the book, its answers and its pairs are those of the crate tree. The book begins at `book`: without pairs for a fresh index, and at the
--- leaves' pairs for an index that a host brings.
+-- Rules: demand 3, one claim about a whole list of calls, each lent the buffer as the last call left it. The calls are the rules that the contracts of
+-- insertion and lookup cite; the book, its answers and its pairs are those of the crate `tree`. The book begins at `book`: without pairs for a fresh index,
+-- and at the leaves' pairs for an index that a host brings.
 use Prim.Native.Nat.{ℕ, _+_, _^_, _<_}
 use mathlib.Core.Path.{_≡_}
 use mathlib.Core.Bool.{Bool, false, cond}
@@ -37,7 +37,7 @@ lookupAnswer (looked.Found r pages) = found (r .0)
 lookupAnswer (looked.Absent pages) = absent
 lookupAnswer (looked.Refused n) = refused n
 
--- a call on a buffer: what it answers, the buffer that it leaves, and the rule for 30 on the index lent to it
+-- a call on the buffer b: what it answers, the buffer that it leaves, and the rule for 30 on the index in b
 abbrev pub answerTo : Call (List ℕ) → List ℕ → Answer
 answerTo (insertion key r) b = insertionAnswer (insertRule b key r .answer)
 answerTo (lookupOf key) b = lookupAnswer (lookupRule b key)
@@ -50,16 +50,16 @@ abbrev pub noRoomFor : Call (List ℕ) → List ℕ → Bool
 noRoomFor (insertion key r) b = noRoom (keyLength b) b key
 noRoomFor (lookupOf key) b = false
 
--- "a key not of k bytes"
+-- a key has k bytes; 27 is for "a key not of k bytes"
 abbrev pub fits : ℕ → List ℕ → Bool
 fits k key = eqb (length key) k
 
--- record numbers of four bytes; keys of any length
+-- the record number of a call fits four bytes; its key may have any length
 abbrev pub FourBytes : Call (List ℕ) → Type 0
 FourBytes (insertion key r) = r < 2 ^ 32
 FourBytes (lookupOf key) = Unit {0}
 
--- a list of calls: its answers, and the buffer after the first n
+-- a list of calls made from the buffer b on: its answers, and the buffer after the first n calls
 abbrev pub answersTo : Calls → List ℕ → List Answer
 answersTo calls b = resultsOf answerTo bufferAfter calls b
 
@@ -70,31 +70,32 @@ bufferAt n calls b = finalOf bufferAfter (take n calls) b
 abbrev pub Pairs : Type 0
 Pairs = List (List ℕ × ℕ)
 
--- the book after the first n, fed "of the answers, only whether an insertion was 30"
+-- the book after the first n calls, fed "of the answers, only whether an insertion was 30"
 abbrev pub bookAt : ℕ → Pairs → ℕ → Calls → List ℕ → Pairs
 bookAt k book n calls b = bookFinal bytesOrder (fits k) (take n calls) (noRooms (answersTo calls b)) book
 
--- the index in a buffer is sound, so has at most 11 levels, and "the leaves' entries, left to right, are the book's pairs"
+-- the index in a buffer is sound, so it has at most 11 levels, and "the leaves' entries, left to right, are the book's pairs"
 pub record IndexHolds (b : List ℕ) (book : Pairs) : Type 0 where
   pub sound : Sound b
   pub leaves : leafPairs b sound ≡ book
 
--- of a call on a buffer: a key that is found is found after as many pages as there are levels, "the pages from the root to a leaf, both counted"
+-- a lookup that finds its key has visited as many pages as the index has levels, "the pages from the root to a leaf, both counted"
 abbrev pub VisitsLevels : Call (List ℕ) → List ℕ → Type 0
 VisitsLevels (insertion key r) b = Unit {0}
 VisitsLevels (lookupOf key) b = (s : Sound b) (r : RecordNumber) (pages : ℕ) → lookupRule b key ≡ looked.Found r pages → pages ≡ s .height + 1
 
--- an insertion that is accepted leaves the buffer that document 01's steps make, and one that is refused leaves it as it was
+-- an accepted insertion leaves the buffer that document 01's steps make, and a refused one leaves the buffer as it was
 abbrev pub LeavesBuffer : Call (List ℕ) → List ℕ → Type 0
-LeavesBuffer (insertion key r) b = bufferAfter (insertion key r) b ≡ cond (isAccepted (answerTo (insertion key r) b)) (insertedBuffer (keyLength b) b key r) b
+LeavesBuffer (insertion key r) b =
+    bufferAfter (insertion key r) b ≡ cond (isAccepted (answerTo (insertion key r) b)) (insertedBuffer (keyLength b) b key r) b
 LeavesBuffer (lookupOf key) b = Unit {0}
 
--- what holds of each call of a list and the buffer lent to it
+-- P holds of each call of a list and the buffer lent to it
 abbrev pub Each : (Call (List ℕ) → List ℕ → Type 0) → Calls → List ℕ → Type 0
 Each P [] b = Unit {0}
 Each P (c ∷ calls) b = P c b × Each P calls (bufferAfter c b)
 
--- the claim, for keys of k bytes: the list of calls, made from the buffer b on, is kept by the book that begins at `book`
+-- the claim, for keys of k bytes: the book that begins at `book` keeps the list of calls, made from the buffer b on
 pub record BookKept (k : ℕ) (book : Pairs) (calls : Calls) (b : List ℕ) : Type 0 where
   -- "Every call answers so, never 24 or 25"
   pub answers : answersTo calls b ≡ bookAnswers bytesOrder (fits k) calls (noRooms (answersTo calls b)) book

@@ -1,4 +1,4 @@
--- Laws: demand 3: from an accepted fresh on, and from any sound index on, every list of calls is kept by the book. Assumes nothing.
+-- Laws: demand 3. After an accepted fresh, and from any sound index on, the book keeps every list of calls. Assumes nothing.
 use Prim.Native.Nat.{ℕ, zero, suc, _<_}
 use mathlib.Core.Path.{_≡_, refl, sym, ap, _∙_}
 use mathlib.Core.Bool.{Bool, true, false}
@@ -7,12 +7,12 @@ use native.Mathlib.Omega.{arith}
 use lib.Dec.{leb}
 use lib.ListN.{length, take}
 use borrow.Author.Tests.{leb-true}
-use Rattle.basis.specs.Lists.{All}
+use Rattle.basis.specs.Lists.{All, all-take}
 use Rattle.basis.specs.Tests.{contra}
 use Rattle.tree.specs.Book.{Call, isAccepted, noRooms, finalOf, bookFinal, BookClaim}
 use Rattle.tree.specs.BookTheorem.{list-keeps, book-claim}
 use Rattle.tree.specs.Index.{held}
-use Rattle.page.specs.Header.{keyLength, keyLengthGood, headerGood}
+use Rattle.page.specs.Header.{minBytes, keyLength, keyLengthGood, headerGood}
 use Rattle.page.specs.HeaderLaws.{good-header}
 use Rattle.page.specs.KeyOrder.{bytesOrder}
 use Rattle.page.specs.Page.{capacity}
@@ -28,13 +28,7 @@ use Rattle.book.specs.Book.{Calls, insertionAnswer, answerTo, bufferAfte
 use Rattle.book.specs.Book.{VisitsLevels, LeavesBuffer, Each, BookKept}
 use Rattle.book.specs.CallLaws.{Kept, readIndex, read-is, keeping, kept-sound, visits-levels, leaves-buffer, same-answer, same-rule, keeps, same-next}
 
--- the first n of calls that all have a property have it
-pub all-take : (P : Call (List ℕ) → Type 0) (n : ℕ) (calls : Calls) → All P calls → All P (take n calls)
-all-take P zero calls a = tt
-all-take P (suc n) [] a = tt
-all-take P (suc n) (c ∷ calls) a = (a .0, all-take P n calls (a .1))
-
--- the book after the first n calls is fed the answers to those alone
+-- the book after the first n calls needs the answers to these calls alone
 book-take : (k n : ℕ) (calls : Calls) (b : List ℕ) (book : Pairs)
     → bookFinal bytesOrder (fits k) (take n calls) (noRooms (answersTo (take n calls) b)) book
     ≡ bookFinal bytesOrder (fits k) (take n calls) (noRooms (answersTo calls b)) book
@@ -42,11 +36,12 @@ book-take k zero calls b book = refl
 book-take k (suc n) [] b book = refl
 book-take k (suc n) (c ∷ calls) b book = book-take k n calls (bufferAfter c b) _
 
--- the pairs that a buffer is read to have are those of its sound index
+-- the pairs that the theory reads in a buffer are those of its sound index
 own-pairs : (b : List ℕ) (s : Sound b) → held (readIndex b) ≡ leafPairs b s
 own-pairs b s = ap held (read-is b s)
 
 module _ (k size : ℕ) (two : 1 < capacity k) where
+  -- what holds of one call on a kept buffer holds of each call of a list
   each : (P : Call (List ℕ) → List ℕ → Type 0) → ((c : Call (List ℕ)) (b : List ℕ) → Kept k size b → P c b) → (calls : Calls) → All FourBytes calls
       → (b : List ℕ) → Kept k size b → Each P calls b
   each P ok [] o b kept = tt
@@ -64,7 +59,7 @@ module _ (k size : ℕ) (two : 1 < capacity k) where
       (λ b i. kept-sound k size b i) (λ c b o i. keeps k size b i c o) (λ c b o i. same-answer k size b i c)
       (λ c b o i. same-next k size b i c o) (λ c b o i. same-rule k size b i c)
 
-  -- a list of calls on a buffer that is kept: the book begins at the index's own pairs
+  -- a list of calls on a kept buffer: the book begins at the index's own pairs
   list-kept : (calls : Calls) → All FourBytes calls → (b : List ℕ) (kept : Kept k size b) → BookKept k (leafPairs b (kept .sound)) calls b
   list-kept calls o b kept =
       let own : held (readIndex b) ≡ leafPairs b (kept .sound) = own-pairs b (kept .sound) in
@@ -86,11 +81,11 @@ module _ (k size : ℕ) (two : 1 < capacity k) where
         buffers = each LeavesBuffer (λ c b i. leaves-buffer c b) calls o b kept;
       }
 
--- the header's key length is at most 100, so that a page holds more than one entry
+-- the key length in a good header is at most 100, so a page holds more than one entry
 header-two : (b : List ℕ) → headerGood b ≡ true → 1 < capacity (keyLength b)
 header-two b e = omega (arith, capacity-least (keyLength b) (good-header b e .key-high))
 
--- every list of calls on a buffer that holds a sound index is kept by the book that begins at that index's own pairs; `Plain` is what bytes below 256 give
+-- the book that begins at a sound index's own pairs keeps every list of calls on its buffer; `Plain` follows for a buffer of bytes
 sound-kept : (b : List ℕ) → Plain b → (s : Sound b) → (calls : Calls) → All FourBytes calls → BookKept (keyLength b) (leafPairs b s) calls b
 sound-kept b plain s calls o =
     list-kept (keyLength b) (length b) (header-two b (s .header)) calls o b (record { sound = s; keyIs = refl; as-long = refl; plain = plain })
@@ -101,7 +96,7 @@ pub demand-3-sound : (b : List ℕ) → All (λ x. x < 256) b → (s : Sound b) 
     → BookKept (keyLength b) (leafPairs b s) calls b
 demand-3-sound b octets s calls o = sound-kept b (octets-plain b octets) s calls o
 
--- fresh by its three tests
+-- what fresh leaves and answers, by its three tests
 fresh-tests : List ℕ → List ℕ → Bool → Bool → Bool → Inserted
 fresh-tests b b″ key expression room =
     elim key [
@@ -109,7 +104,7 @@ fresh-tests b b″ key expression room =
       | true ↦ elim expression [ false ↦ left b (Refused 24) | true ↦ elim room [ false ↦ left b (Refused 30) | true ↦ left b″ Accepted ] ]
     ]
 
--- is accepted only where they hold
+-- it is accepted only if all three hold
 pub record FreshAccepted (b b″ after : List ℕ) (key expression room : Bool) : Type 0 where
   pub keyGood : key ≡ true
   pub expressionGood : expression ≡ true
@@ -125,23 +120,23 @@ tests-accepted b b″ true true false e = contra e refl
 tests-accepted b b″ true true true e = record { keyGood = refl; expressionGood = refl; roomGood = refl; leaves = refl }
 
 fresh-accepted : (k : ℕ) (e b : List ℕ) → freshRule b k e .answer ≡ Accepted
-    → FreshAccepted b (freshBuffer k e b) (freshRule b k e .after) (keyLengthGood k) (expressionGood e) (leb 1024 (length b))
+    → FreshAccepted b (freshBuffer k e b) (freshRule b k e .after) (keyLengthGood k) (expressionGood e) (leb minBytes (length b))
 unfolding freshRule fresh-tests
-fresh-accepted k e b a = tests-accepted b (freshBuffer k e b) (keyLengthGood k) (expressionGood e) (leb 1024 (length b))
+fresh-accepted k e b a = tests-accepted b (freshBuffer k e b) (keyLengthGood k) (expressionGood e) (leb minBytes (length b))
     (ap (λ (x : Insertion). isAccepted (insertionAnswer x)) a)
 
--- what an accepted fresh leaves
+-- an accepted fresh leaves a sound index without pairs
 fresh-is : (b : List ℕ) (k : ℕ) (e : List ℕ) → All (λ x. x < 256) b → freshRule b k e .answer ≡ Accepted → FreshIs k e b
 fresh-is b k e octets a =
     let f = fresh-accepted k e b a in
     fresh-is-sound k e b (record {
       key = f .keyGood;
       expression = f .expressionGood;
-      room = leb-true 1024 (length b) (f .roomGood);
+      room = leb-true minBytes (length b) (f .roomGood);
       plain = octets-plain b octets;
     })
 
--- Theorem: demand 3. After an accepted fresh the book begins without pairs, since the fresh index is sound and has none
+-- Theorem: demand 3. After an accepted fresh the book begins without pairs, since a fresh index is sound and has none
 pub demand-3 : (b : List ℕ) (k : ℕ) (e : List ℕ) → All (λ x. x < 256) b → freshRule b k e .answer ≡ Accepted → (calls : Calls)
     → All FourBytes calls
     → BookKept k [] calls (freshRule b k e .after)

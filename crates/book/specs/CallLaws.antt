@@ -1,5 +1,5 @@
--- Laws: one call of insertion or lookup on a buffer that holds a sound index is the theory's call on that index, and keeps it sound. Cited by the theorem about
--- lists of calls. Assumes nothing.
+-- Laws: one call of insertion or lookup on a buffer that holds a sound index is the theory's call on that index, and keeps it sound. Cited by `BookLaws`.
+-- Assumes nothing.
 use Prim.Native.Nat.{ℕ, _-_, _^_, _<_, min}
 use mathlib.Core.Path.{_≡_, refl, sym, ap, _∙_, subst}
 use mathlib.Core.Bool.{Bool, true, false, cond, not}
@@ -9,7 +9,7 @@ use native.Mathlib.Omega.{arith}
 use lib.Dec.{eqb}
 use lib.ListN.{length}
 use borrow.Author.Tests.{eqb-true}
-use Rattle.basis.specs.Tests.{either}
+use Rattle.basis.specs.Tests.{either, impossible}
 use Rattle.tree.specs.Book.{Call, insertion, lookupOf, accepted, absent, refusedIf, isPresent, foundOrAbsent, isAccepted}
 use Rattle.tree.specs.Index.{Index, held, Setting, outOfRoom, noRoomFor as noRoomTo, answer, inserted, next}
 use Rattle.tree.specs.IndexLaws.{accepted-acceptable}
@@ -21,7 +21,7 @@ use Rattle.page.specs.Header.{maxBytes, maxLevels, rootOffset, keyLength, heade
 use Rattle.page.specs.HeaderLaws.{good-header}
 use Rattle.page.specs.KeyOrder.{bytesOrder}
 use Rattle.page.specs.declared.RecordNumber.{RecordNumber}
-use Rattle.lookup.specs.Lookup.{lookupRule, lookupCode, answerPages}
+use Rattle.lookup.specs.Lookup.{lookupRule, answerPages}
 use Rattle.lookup.specs.declared.Answer.{Answer as Looked}
 use Rattle.lookup.specs.declared.Answer.the-variants as looked
 use Rattle.lookup_laws.specs.FoundLaws.{answerOf, lookup-tree, lookup-list, found-pages}
@@ -38,18 +38,18 @@ use Rattle.insert_laws.specs.RoomLaws.{sound-levels, room-is}
 use Rattle.insert_laws.specs.InsertSound.{Accepts, insert-keeps-sound}
 use Rattle.book.specs.Book.{insertionAnswer, lookupAnswer, answerTo, bufferAfter, noRoomFor, fits, FourBytes, VisitsLevels, LeavesBuffer}
 
--- what each call keeps of a buffer of so many bytes, for keys of k bytes
+-- what each call keeps of a buffer of `size` bytes, for keys of k bytes
 pub record Kept (k size : ℕ) (b : List ℕ) : Type 0 where
   pub sound : Sound b
   pub keyIs : keyLength b ≡ k
   pub as-long : length b ≡ size
   pub plain : Plain b
 
--- the levels under the root, by the bytes: those of the path to any key
+-- the levels below the root, read from the bytes: those of the path to any key
 unfoldable pub heightIn : List ℕ → ℕ
 heightIn b = pathFrom (keyLength b) maxLevels b [] (rootOffset b) .levels - 1
 
-pub height-is : (b : List ℕ) (s : Sound b) → heightIn b ≡ s .height
+height-is : (b : List ℕ) (s : Sound b) → heightIn b ≡ s .height
 unfolding heightIn
 height-is b s = omega (arith, sound-levels b [] s)
 
@@ -60,11 +60,11 @@ readIndex b = indexOf b (heightIn b)
 pub read-is : (b : List ℕ) (s : Sound b) → readIndex b ≡ indexOf b (s .height)
 read-is b s = ap (indexOf b) (height-is b s)
 
--- what an index of key length k in a buffer of so many bytes is kept by
+-- the setting in which the theory keeps an index of key length k in a buffer of `size` bytes
 abbrev pub keeping : ℕ → ℕ → Setting (List ℕ)
 keeping k size = settingOf k (min size maxBytes)
 
--- insertion's refusals, "24, 27, 28, 25 .., 29 .., 30", by their tests: on a good header, sound pages
+-- insertion's refusals, "24, 27, 28, 25 .., 29 .., 30", by their tests; b″ is the buffer after an accepted insertion
 refusals : List ℕ → List ℕ → Bool → Bool → Bool → Bool → Bool → Bool → Inserted
 refusals b b″ good fit zero audit there full =
     elim good [
@@ -84,7 +84,7 @@ refusals b b″ good fit zero audit there full =
       ]
     ]
 
--- on a sound index these are the book's
+-- on a sound index the refusals are the book's
 refusals-answer : (b b″ : List ℕ) (fit zero there full : Bool)
     → insertionAnswer (refusals b b″ true fit zero true there full .answer)
     ≡ refusedIf (not fit) 27 (refusedIf zero 28 (refusedIf there 29 (refusedIf full 30 accepted)))
@@ -95,7 +95,7 @@ refusals-answer b b″ true false true full = refl
 refusals-answer b b″ true false false true = refl
 refusals-answer b b″ true false false false = refl
 
--- and a refusal leaves the buffer
+-- a refusal leaves the buffer as it was
 refusals-after : (b b″ : List ℕ) (good fit zero audit there full : Bool)
     → refusals b b″ good fit zero audit there full .after ≡ cond (isAccepted (insertionAnswer (refusals b b″ good fit zero audit there full .answer))) b″ b
 unfolding refusals
@@ -121,7 +121,7 @@ leaves-buffer (insertion key r) b =
     (isFound (lookupRule b key)) (noRoom (keyLength b) b key)
 leaves-buffer (lookupOf key) b = tt
 
--- an answer by what was found
+-- lookup's answer, by the record that was found
 answer-reply : (o : Option ℕ) (n : ℕ) → lookupAnswer (answerOf o n) ≡ foundOrAbsent o
 answer-reply none n = refl
 answer-reply (some r) n = refl
@@ -130,22 +130,22 @@ pub answer-found : (o : Option ℕ) (n : ℕ) → isFound (answerOf o n) ≡ isP
 answer-found none n = refl
 answer-found (some r) n = refl
 
--- and back
-recordIn : Looked → Option ℕ
-recordIn (looked.Found r pages) = some (r .0)
-recordIn (looked.Absent pages) = none
-recordIn (looked.Refused n) = none
+-- the record that was found, by lookup's answer
+foundRecord : Looked → Option ℕ
+foundRecord (looked.Found r pages) = some (r .0)
+foundRecord (looked.Absent pages) = none
+foundRecord (looked.Refused n) = none
 
 answer-record : (o : Option ℕ) (n : ℕ) (r : RecordNumber) (m : ℕ) → answerOf o n ≡ looked.Found r m → o ≡ some (r .0)
-unfolding recordIn
-answer-record none n r m e = ap recordIn e
-answer-record (some x) n r m e = ap recordIn e
+unfolding foundRecord
+answer-record none n r m e = ap foundRecord e
+answer-record (some x) n r m e = ap foundRecord e
 
 module _ (k size : ℕ) (b : List ℕ) (kept : Kept k size b) where
   abbrev s : Sound b
   s = kept .sound
 
-  -- the theory's index, and what it is kept by
+  -- the theory's index in this buffer, and that it is sound there
   same-index : readIndex b ≡ indexOf b (s .height)
   same-index = read-is b s
 
@@ -175,7 +175,7 @@ module _ (k size : ℕ) (b : List ℕ) (kept : Kept k size b) where
       (λ f. rw (found-is key f, f) (answer-reply (lookup bytesOrder key (heightIn b) (indexTree b (heightIn b))) _))
       (λ f. rw (misfit key f, f))
 
-  -- a key that is found is found after as many pages as there are levels
+  -- Theorem: a lookup that finds its key has visited as many pages as the index has levels
   pub visits-levels : (c : Call (List ℕ)) → VisitsLevels c b
   visits-levels (insertion key r) = tt
   visits-levels (lookupOf key) = λ s′ r pages e. either (fits k key)
@@ -183,7 +183,7 @@ module _ (k size : ℕ) (b : List ℕ) (kept : Kept k size b) where
       let long = eqb-true (length key) (keyLength b) (same-fit key ∙ f) in
       let there = answer-record _ _ r pages (sym (lookup-list b key s′ long) ∙ e) in
       sym (ap (λ (a : Looked). answerPages a 0) (sym (found-pages b key s′ long (r .0) there) ∙ e)))
-      (λ f. let z : _≡_ {A = ℕ} 27 0 = ap (λ (a : Looked). lookupCode a) (sym (misfit key f) ∙ e) in absurd (omega arith))
+      (λ f. let other : looked.Refused 27 ≡ looked.Found r pages = sym (misfit key f) ∙ e in impossible (cc))
 
   -- insertion
   same-room : (key : List ℕ) → noRoom (keyLength b) b key ≡ outOfRoom (keeping k size) key (readIndex b)
@@ -208,7 +208,7 @@ module _ (k size : ℕ) (b : List ℕ) (kept : Kept k size b) where
       (λ f. rw (same-fit key, f, same-found key f, same-room key))
       (λ f. rw (same-fit key, f)))
 
-  -- Theorem: each call answers as the theory's does, by the theory's rule for 30
+  -- Theorem: each call answers as the theory's call does, and is 30 by the theory's rule
   pub same-answer : (c : Call (List ℕ)) → answerTo c b ≡ answer (keeping k size) c (readIndex b)
   same-answer (insertion key r) = insert-answers key r
   same-answer (lookupOf key) = lookup-answers key
@@ -217,11 +217,11 @@ module _ (k size : ℕ) (b : List ℕ) (kept : Kept k size b) where
   same-rule (insertion key r) = same-room key
   same-rule (lookupOf key) = refl
 
-  -- an insertion that is refused
+  -- a refused insertion
   stays : (key : List ℕ) (r : ℕ) → isAccepted (answerTo (insertion key r) b) ≡ false → bufferAfter (insertion key r) b ≡ b
   stays key r e = leaves-buffer (insertion key r) b ∙ rw e
 
-  -- an insertion that is accepted
+  -- an accepted insertion
   module _ (key : List ℕ) (r : ℕ) (r32 : r < 2 ^ 32) (e : isAccepted (answerTo (insertion key r) b) ≡ true) where
     accepts : Accepts b key r
     accepts =
@@ -254,7 +254,7 @@ module _ (k size : ℕ) (b : List ℕ) (kept : Kept k size b) where
         ∙ ap (λ (n : ℕ). inserted (keeping k n) key r (indexOf b (s .height))) (kept .as-long)
         ∙ ap (inserted (keeping k size) key r) (sym same-index)
 
-  -- Theorem: each call keeps the buffer, and the index after it is the theory's
+  -- Theorem: each call keeps what `Kept` says, and the index after it is the theory's
   pub keeps : (c : Call (List ℕ)) → FourBytes c → Kept k size (bufferAfter c b)
   keeps (insertion key r) r32 = either (isAccepted (answerTo (insertion key r) b))
       (λ e. rw (after key r r32 e) (kept-inserted key r r32 e))

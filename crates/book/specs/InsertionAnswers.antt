@@ -1,5 +1,5 @@
 -- Laws: what each answer of insertion says, in document 01's order, "24, 27, 28, 25 by full audit, 29 if the key is in a leaf, 30". The rule computes with the
--- audit's test and with lookup's steps; here `Sound` and the pairs of the leaves stand in their place. Cited by no proof of the code: they are for readers of
+-- audit's test and with lookup's steps; here `Sound` and the leaves' pairs stand in their place. No proof of the code cites these laws: they are for readers of
 -- the rule. Assumes nothing.
 use Prim.Native.Nat.{ℕ, _<_}
 use mathlib.Core.Path.{_≡_, refl, sym, ap, _∙_, subst}
@@ -31,7 +31,7 @@ use Rattle.insert.specs.declared.Insertion.the-variants.{Accepted, Refused}
 use Rattle.book.specs.Book.{Pairs, leafPairs}
 use Rattle.book.specs.CallLaws.{answer-found}
 
--- a key is that of one of some pairs
+-- one of the pairs has the key
 abbrev pub HasKey : List ℕ → Pairs → Type 0
 HasKey key [] = ⊥
 HasKey key (e ∷ es) = (e .0 ≡ key) ⊎ HasKey key es
@@ -40,7 +40,7 @@ HasKey key (e ∷ es) = (e .0 ≡ key) ⊎ HasKey key es
 pub record BadHeader (b : List ℕ) : Type 0 where
   pub header : headerGood b ≡ false
 
--- 27: the header is good, and the key has not k bytes
+-- 27: the header is good, and the key does not have k bytes
 pub record WrongLength (b key : List ℕ) : Type 0 where
   pub header : headerGood b ≡ true
   pub other : length key ≡ keyLength b → ⊥
@@ -94,7 +94,7 @@ pub record InsertionSays (b key : List ℕ) (r : ℕ) (a : Insertion) : Type 0 w
   pub refused-30 : (a ≡ Refused 30) ↔ Full b key r
   pub accepted : (a ≡ Accepted) ↔ Fitting b key r
 
--- what a list has under a key, by its pairs
+-- a list of pairs has something under a key exactly when one of its pairs has the key
 get-has : (key : List ℕ) (es : Pairs) → isPresent (get bytesOrder key es) ≡ true → HasKey key es
 get-has key [] e = contra e refl
 get-has key (x ∷ es) e = either (bytesLe key (x .0) && bytesLe (x .0) key)
@@ -118,7 +118,7 @@ module _ (b key : List ℕ) (s : Sound b) (fits : length key ≡ keyLength b) wh
   pub found-exactly : (isFound (lookupRule b key) ≡ true) ↔ HasKey key (leafPairs b s)
   found-exactly = ((λ e. get-has key (leafPairs b s) (sym found-is ∙ e)), (λ h. found-is ∙ has-get key (leafPairs b s) h))
 
--- a type by a test
+-- A if the test holds, else B
 whether : Bool → Type 0 → Type 0 → Type 0
 whether true A B = A
 whether false A B = B
@@ -196,7 +196,7 @@ module _ (b key : List ℕ) (r : ℕ) where
       ap (λ (i : Inserted). i .answer)
       (calls.accepted-pair b key r (a .header) (a .fits) (not-zero (a .number)) (pages-good (c .new .sound)) (not-found (c .new)) (c .room) refl)
 
-  -- the case by the answer's number, 0 that of an insertion that is accepted
+  -- the case by the answer's code; an accepted insertion has 0
   Case : ℕ → Type 0
   Case n =
       whether (eqb n 24) (BadHeader b)

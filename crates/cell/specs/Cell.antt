@@ -121,7 +121,7 @@ textPart b m (text.Memo start len) = window m start len
 textPart b m text.Empty = []
 textPart b m (text.Refused n) = []
 
--- ---- Steps: contracts of calls that take a place cite these two; who calls by numbers alone need not believe them
+-- ---- Steps: the contracts of `cell_place` and `text_part` cite these two; who calls by numbers need not believe them
 
 -- where the field of record i lies, if the call may read it
 unfoldable pub cellPlace : Reads → List ℕ → ℕ → ℕ → Placed

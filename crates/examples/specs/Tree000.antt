@@ -1,15 +1,15 @@
--- Rules: the index of source document 000 as document 01 gives it, byte by byte: k = 1, three levels, records 1 to 8, F 3,584.
+-- Rules: the index of source document 000 as document 01 gives it, byte by byte: k = 1, three levels, records 1 to 8, F 3,584. Assumes nothing.
 use mathlib.Core.List.{List, [], _∷_, _++_}
 use Prim.Native.Nat.{ℕ, _-_}
 use lib.ListN.{length, replicate}
 use Rattle.octets.specs.Bytes.{toLe16, toLe32, toBe32}
 use Rattle.page.specs.Header.{noPage}
 
--- bytes with zeros after them, a page long
+-- a page: the bytes, and zeros behind them up to 512
 unfoldable pub padded : List ℕ → List ℕ
 padded bytes = bytes ++ replicate (512 - length bytes) 0
 
--- an entry: a key of one byte and its number
+-- an entry: a key of one byte, and its number
 unfoldable pub entry : ℕ → ℕ → List ℕ
 entry key number = key ∷ toBe32 number
 

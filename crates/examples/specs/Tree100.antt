@@ -5,11 +5,11 @@ use lib.ListN.{replicate}
 use Rattle.insert.specs.Calls.{insertRule}
 use Rattle.insert.specs.Fresh.{freshRule}
 
--- the key of 100 bytes that ends in a byte
+-- the key of 100 bytes that ends in the byte x: 99 blanks before it
 unfoldable pub key100 : ℕ → List ℕ
 key100 x = replicate 99 32 ++ (x ∷ [])
 
--- a buffer after fresh, with the expression `NAME`, and insertions of the keys 1 to n, each with its own number as the record's
+-- a buffer of `size` bytes after fresh, with the expression `NAME`, and insertions of the keys 1 to n, key x with the record number x
 unfoldable pub grown : ℕ → ℕ → List ℕ
 grown size zero = freshRule (replicate size 7) 100 (78 ∷ 65 ∷ 77 ∷ 69 ∷ []) .after
 grown size (suc n) = insertRule (grown size n) (key100 (suc n)) (suc n) .after

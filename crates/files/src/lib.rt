@@ -1,23 +1,23 @@
-// Whole files. One is read to the start of a buffer, or refused, with a message on standard error that says why.
+// Whole files. A file is read to the start of a buffer, or refused with a message on standard error that says why.
 ghost use mathlib.Core.Path.{_≡_};
 ghost use lib.ListN.{length};
 ghost use Rattle.io.specs.Counts.{Counts};
 use libc::STDERR_FILENO;
 
-// Room for a file of 1,048,576 bytes. The `ensures` gives only the length, which lending the array as a slice needs.
+// Room for a file of 1,048,576 bytes. The `ensures` gives only the length: it is all that lending the array as a slice needs.
 pub fn space() -> [u8; 1048576]
     ensures { λ r. ⌜ 1048576 ≡ length r ⌝ }
 {
     [0; 1048576]
 }
 
-// Whether a file is whole at the start of a buffer, and how many bytes of it are there.
+// Whether the whole file stands at the start of a buffer, and how many of its bytes stand there.
 pub struct Loaded {
     pub whole: bool,
     pub len: usize,
 }
 
-// A program's argument that is longer than any file's name comes as an empty path.
+// The message for a file that can't be opened. An argument that is longer than any file's name comes as an empty path.
 fn refuse_unopened(path: &[u8]) {
     if path.len() == 0 {
         io::write_all(
@@ -36,7 +36,7 @@ fn refuse_long(path: &[u8], room: usize) {
     io::write_all(STDERR_FILENO, b" bytes\n");
 }
 
-// Whether the file ends where reading it into the buffer stopped: that may also be where the buffer was full, or where it could not be read.
+// Whether the file ends where reading it into the buffer stopped. Reading also stops if the buffer is full, and if the file can't be read.
 fn is_at_end(fd: i32, path: &[u8], room: usize) -> bool {
     let mut more = [0u8; 1];
     let got = libc::read(fd, &mut more);
@@ -51,7 +51,7 @@ fn is_at_end(fd: i32, path: &[u8], room: usize) -> bool {
     true
 }
 
-// Reads a file, of as many bytes as the buffer has at most.
+// Reads a file of at most as many bytes as the buffer has.
 pub fn load(path: &[u8], buffer: &mut [u8]) -> Loaded
     ensures { λ r. ⌜ Counts (r .len) (now (buffer .exit)) ⌝ }
 {

@@ -16,7 +16,7 @@ use Rattle.tree.specs.Index.{newOffset}
 use Rattle.tree.specs.ListLaws.{occ-not-head}
 use Rattle.tree.specs.Lists.{NonEmpty, concatMap, half}
 use Rattle.tree.specs.Order.{larger}
-use Rattle.tree.specs.Pairs.{insertPair}
+use Rattle.tree.specs.Pairs.{insertPair, choose}
 use Rattle.tree.specs.Relinking.{pathPageUnder, relink}
 use Rattle.tree.specs.Room.{atChosen}
 use Rattle.tree.specs.Store.{readEntry, readTree}

@@ -1,4 +1,4 @@
-// The program that the service desk runs on a lab's files: `inspection` does the work, here the arguments are taken.
+// The program that the service desk runs on a lab's files. It takes the arguments; `inspection` does the work.
 
 // How many arguments there are besides the program's own name.
 fn arguments() -> usize {
@@ -6,7 +6,7 @@ fn arguments() -> usize {
     if words == 0 { 0 } else { words - 1 }
 }
 
-// An argument that does not fit its buffer comes as an empty word, which names no file and is no number. No file's name has more than 4,095 bytes.
+// An argument that does not fit its buffer comes as an empty word, which names no file and is no FIELD. No file's name has more than 4,095 bytes.
 fn main() {
     let mut table = io::buffer();
     let mut memo = io::buffer();

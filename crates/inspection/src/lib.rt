@@ -3,28 +3,13 @@
 //
 //     inspect TABLE [MEMO|- [INDEX|- [FIELD]]]
 //
-// With other arguments, or a file that can't be read or has more than 1,048,576 bytes, it prints the one line `40`, and says on standard error what
-// was wrong. All files are read before the first line is printed, so that `40` stands alone. Without an index a FIELD is not used.
-mod names;
+// For other arguments, and for a file that can't be read or has more than 1,048,576 bytes, it prints the one line `40`, and says on standard error what
+// was wrong. It reads all files before it prints the first line, so that `40` stands alone. Without an index it does not use a FIELD.
 mod report;
-pub mod words;
 
-ghost use Prim.Native.Nat.{_≤_, min};
-ghost use mathlib.Core.Path.{_≡_};
-ghost use Rattle.inspection.specs.Arguments.{maxNumber, fieldArgument};
+ghost use Prim.Native.Nat.{_≤_};
+use argument::Field;
 use libc::STDERR_FILENO;
-use octets::Digits;
-
-// The greatest number of 32 bits, which no field of a table has.
-const MAX_NUMBER: u64 = 4294967295;
-
-// What is said of a field: nothing, its number, that the word is its name, or a word that is neither.
-enum Field {
-    Unnamed,
-    Number(u32),
-    Name,
-    Other,
-}
 
 fn refuse() {
     lines::print(b"40\n");
@@ -38,44 +23,14 @@ fn refuse_use() {
     refuse();
 }
 
-// A number, or the greatest of 32 bits where it does not fit.
-fn at_most_32_bits(n: u64) -> u32
-    ensures { λ r. ⌜ r ≡ min n maxNumber ⌝ }
-{
-    if n < MAX_NUMBER {
-        n as u32
-    } else {
-        MAX_NUMBER as u32
-    }
-}
-
-// What the argument FIELD says. A number that no table has is answered as another that no table has, where it does not fit.
-fn field_argument(text: &[u8]) -> Field
-    ensures { λ r. ⌜ r ≡ fieldArgument (now (text .entry)) ⌝ }
-{
-    if text.len() < 1 {
-        return Field::Other;
-    }
-    if 10 < text.len() {
-        return Field::Other;
-    }
-    if !octets::is_digit(text[0]) {
-        return Field::Name;
-    }
-    match octets::read_digits(text) {
-        Digits::Number(number) => Field::Number(at_most_32_bits(number)),
-        Digits::Other => Field::Other,
-    }
-}
-
 fn wanted_field(arguments: usize, field: &[u8]) -> Field {
     if arguments < 4 {
         return Field::Unnamed;
     }
-    field_argument(field)
+    argument::field_argument(field)
 }
 
-// The word of argument i, or the one for none where there are fewer arguments.
+// The word of argument i, or `none` if there are fewer arguments.
 fn given<'a>(arguments: usize, i: usize, word: &'a [u8], none: &'a [u8]) -> &'a [u8] {
     if arguments < i {
         return none;
@@ -90,7 +45,7 @@ fn is_dash(word: &[u8]) -> bool {
     word[0] == b'-'
 }
 
-// The line of the match, if a field was named too.
+// The line of the match, if a FIELD was given. Answers how many lines have a refusal.
 fn match_lines<'a>(table: &'a [u8], index: &'a [u8], wanted: Field, field: &'a [u8]) -> u64
     ensures { λ r. ⌜ r ≤ 1 ⌝ }
 {
@@ -98,11 +53,15 @@ fn match_lines<'a>(table: &'a [u8], index: &'a [u8], wanted: Field, field: &'a [
         Field::Number(number) => {
             report::answer_line(b"match", matching::match_index(table, index, number))
         }
-        Field::Name => report::answer_line(b"match", names::match_by_name(table, index, field)),
+        Field::Name => report::answer_line(
+            b"match",
+            argument::names::match_by_name(table, index, field),
+        ),
         Field::Unnamed | Field::Other => 0,
     }
 }
 
+// Reads the index, if one was given, and prints all lines.
 fn with_index<'a>(
     table: &'a [u8],
     memo: &'a [u8],
@@ -128,7 +87,7 @@ fn with_index<'a>(
     report::problems_line(of_table + of_index + of_match);
 }
 
-// Without a memo file M fields are not read.
+// Reads the memo file, if one was given: M fields are read only then.
 fn with_memo<'a>(
     table: &'a [u8],
     memo_path: &'a [u8],
@@ -167,7 +126,7 @@ fn with_table<'a>(
     with_memo(&table[..n], memo_path, index_path, wanted, field);
 }
 
-// The program on as many arguments as are counted; the words past them are not looked at.
+// The program, with `arguments` words; words past them are not looked at.
 pub fn inspect<'a>(
     arguments: usize,
     table: &'a [u8],

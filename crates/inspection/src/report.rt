@@ -1,13 +1,12 @@
 // What the program `inspect` prints of a table and its memo file: a line for the check, the shape, each field, each record and each value; and the line of
-// an index's answer. The library decides; here its answers are only spelled out.
+// an index's answer. The library decides; this module only spells its answers out.
 //
-// Records are read by the calls for a table that was checked. A function that prints lines answers how many of them have a refusal.
+// It reads records by the calls for a table that was checked. A function that prints lines answers how many of them have a refusal.
 ghost use Prim.Native.Nat.{_*_, _≤_};
 ghost use mathlib.Core.Path.{_≡_};
 ghost use lib.ListN.{length};
 ghost use Rattle.table.specs.Table.{maxFields, tableRefusal, recordCount, fieldCount};
 ghost use Rattle.field.specs.Field.{PlaceGood, PlaceInside};
-use crate::words::put_words;
 use calendar::Date;
 use calendar::DateAnswer;
 use cell::Logical;
@@ -21,10 +20,9 @@ use numeral::Number;
 use table::Checked;
 use table::DELETED;
 use table::KEPT;
+use words::put_words;
 
-const BAD_DELETION_BYTE: u32 = 15;
-
-// A line as far as it is put together: how many bytes it has, and whether a refusal is among them.
+// A line so far: how many bytes it has, and whether a refusal is among them.
 struct Filled {
     end: usize,
     refused: bool,
@@ -43,11 +41,11 @@ fn put_number(line: &mut Line, n: usize, number: u32) -> usize {
     lines::put_number(line, end, number as u64)
 }
 
-// A refusal: a blank, its number, and its words in parentheses.
-fn refuse(line: &mut Line, n: usize, number: u32) -> Filled {
-    let end = put_number(line, n, number);
+// A refusal: a blank, its code, and its words in parentheses.
+fn refuse(line: &mut Line, n: usize, code: u32) -> Filled {
+    let end = put_number(line, n, code);
     let end = put(line, end, b" (");
-    let end = put_words(line, end, number);
+    let end = put_words(line, end, code);
     let end = put(line, end, b")");
     Filled { end, refused: true }
 }
@@ -56,7 +54,7 @@ fn put_empty(line: &mut Line, n: usize) -> Filled {
     good(put(line, n, b" empty"))
 }
 
-// How many lines with a refusal a line is.
+// A line counts 1 if it has a refusal.
 fn count(refused: bool) -> u64
     ensures { λ r. ⌜ r ≤ 1 ⌝ }
 {
@@ -70,7 +68,7 @@ fn put_answer(line: &mut Line, n: usize, answer: u32) -> Filled {
     refuse(line, n, answer)
 }
 
-// The line of a word and an answer, 0 or a refusal.
+// A line of a word and an answer: 0, or a refusal's code.
 pub fn answer_line(word: &[u8], answer: u32) -> u64
     ensures { λ r. ⌜ r ≤ 1 ⌝ }
 {
@@ -81,12 +79,12 @@ pub fn answer_line(word: &[u8], answer: u32) -> u64
     count(filled.refused)
 }
 
-// Whether a byte stands for itself between quotes.
+// Whether a byte is printed as it is between quotes.
 fn is_plain(c: u8) -> bool {
     (0x20 <= c) & (c <= 0x7E) & (c != b'"') & (c != b'\\')
 }
 
-// Where the plain bytes end that begin at an index.
+// The end of the run of plain bytes that begins at `from`.
 fn plain_end(text: &[u8], from: usize) -> usize
     requires { ⌜ from ≤ length (now text) ⌝ }
     ensures { λ r. ⌜ (from ≤ r) × (r ≤ length (now (text .entry))) ⌝ }
@@ -112,7 +110,7 @@ fn put_escaped(line: &mut Line, n: usize, c: u8) -> usize {
     put(line, n, &text)
 }
 
-// Plain bytes in runs, each other one as \xHH.
+// Plain bytes in runs, and each other byte as \xHH.
 fn put_bytes(line: &mut Line, n: usize, text: &[u8]) -> usize {
     let mut to = n;
     let mut from = 0;
@@ -133,7 +131,7 @@ fn put_quoted(line: &mut Line, n: usize, text: &[u8]) -> usize {
     put(line, end, b"\"")
 }
 
-// A value with its point, by the library's own writer: 20 characters hold each value that its reader gives.
+// A value with its point, by the library's own writer: 20 characters hold every value that the reader gives.
 fn put_value(line: &mut Line, n: usize, value: i64, decimals: u32) -> usize {
     let mut text = [b' '; 20];
     numeral::write_number(&mut text, decimals, value);
@@ -171,7 +169,7 @@ fn number_value(line: &mut Line, n: usize, table: &[u8], place: Place) -> Filled
     match cell::number_at(table, place) {
         Number::Value(value) => good(put_value(line, n, value, place.form.decimals)),
         Number::Empty => put_empty(line, n),
-        Number::Refused(number) => refuse(line, n, number),
+        Number::Refused(code) => refuse(line, n, code),
     }
 }
 
@@ -181,7 +179,7 @@ fn date_value(line: &mut Line, n: usize, table: &[u8], place: Place) -> Filled
     match cell::date_at(table, place) {
         DateAnswer::Value(date) => good(put_date(line, n, date)),
         DateAnswer::Empty => put_empty(line, n),
-        DateAnswer::Refused(number) => refuse(line, n, number),
+        DateAnswer::Refused(code) => refuse(line, n, code),
     }
 }
 
@@ -191,7 +189,7 @@ fn logical_value(line: &mut Line, n: usize, table: &[u8], place: Place) -> Fille
     match cell::logical_at(table, place) {
         Logical::Value(value) => good(put_logical(line, n, value)),
         Logical::Empty => put_empty(line, n),
-        Logical::Refused(number) => refuse(line, n, number),
+        Logical::Refused(code) => refuse(line, n, code),
     }
 }
 
@@ -207,14 +205,14 @@ fn text_value<'a>(
     let text = cell::text_at(table, memo, place);
     match text {
         TextPlace::Empty => put_empty(line, n),
-        TextPlace::Refused(number) => refuse(line, n, number),
+        TextPlace::Refused(code) => refuse(line, n, code),
         TextPlace::Table { .. } | TextPlace::Memo { .. } => {
             good(put_quoted(line, n, cell::text_part(table, memo, text)))
         }
     }
 }
 
-// The value at a place, read by the call for the field's type; that of an M field only if there is a memo file.
+// The value at a place, read by the call for the field's type. An M field is read only if there is a memo file.
 fn put_cell<'a>(
     line: &mut Line,
     n: usize,
@@ -237,31 +235,31 @@ fn put_cell<'a>(
     }
 }
 
-// The line of field j of record i.
-fn value_line<'a>(table: &'a [u8], memo: &'a [u8], has_memo: bool, i: u32, j: u32) -> u64
-    requires { ⌜ PlaceGood (now table) i j ⌝ }
+// The line of field j of a record.
+fn value_line<'a>(table: &'a [u8], memo: &'a [u8], has_memo: bool, number: u32, j: u32) -> u64
+    requires { ⌜ PlaceGood (now table) number j ⌝ }
     ensures { λ r. ⌜ r ≤ 1 ⌝ }
 {
     let mut line = lines::empty_line();
     let end = put(&mut line, 0, b"value");
-    let end = put_number(&mut line, end, i);
+    let end = put_number(&mut line, end, number);
     let end = put_number(&mut line, end, j);
-    let place = field::place_at(table, i, j);
+    let place = field::place_at(table, number, j);
     let filled = put_cell(&mut line, end, table, memo, has_memo, place);
     print_line(&mut line, filled.end);
     count(filled.refused)
 }
 
-// The lines of the fields of record i, up to the last.
-fn value_lines<'a>(table: &'a [u8], memo: &'a [u8], has_memo: bool, i: u32, last: u32) -> u64
-    requires { ⌜ PlaceGood (now table) i last ⌝ }
+// The lines of the fields of a record, from 1 to `last`.
+fn value_lines<'a>(table: &'a [u8], memo: &'a [u8], has_memo: bool, number: u32, last: u32) -> u64
+    requires { ⌜ PlaceGood (now table) number last ⌝ }
     ensures { λ r. ⌜ r ≤ last ⌝ }
 {
     let mut problems = 0;
     let mut j = 0;
     while j < last {
         j += 1;
-        problems += value_line(table, memo, has_memo, i, j);
+        problems += value_line(table, memo, has_memo, number, j);
     }
     problems
 }
@@ -273,32 +271,33 @@ fn put_mark(line: &mut Line, n: usize, mark: u32) -> Filled {
     if mark == DELETED {
         return good(put(line, n, b" deleted"));
     }
-    refuse(line, n, BAD_DELETION_BYTE)
+    refuse(line, n, refusal::DELETION_BYTE)
 }
 
-// The line of record i with this deletion byte.
-fn record_line(i: u32, mark: u32) -> u64
+// The line of a record, by its deletion byte.
+fn record_line(number: u32, mark: u32) -> u64
     ensures { λ r. ⌜ r ≤ 1 ⌝ }
 {
     let mut line = lines::empty_line();
     let end = put(&mut line, 0, b"record");
-    let end = put_number(&mut line, end, i);
+    let end = put_number(&mut line, end, number);
     let filled = put_mark(&mut line, end, mark);
     print_line(&mut line, filled.end);
     count(filled.refused)
 }
 
-// The lines of record i, and of its fields up to the last unless its deletion byte is bad. The byte comes with the place of field 1, which every table has.
-fn record_report<'a>(table: &'a [u8], memo: &'a [u8], has_memo: bool, i: u32, last: u32) -> u64
-    requires { ⌜ PlaceGood (now table) i last ⌝ }
+// The line of a record and, if its deletion byte is good, the lines of its fields from 1 to `last`. The byte comes with the place of field 1, which every table
+// has.
+fn record_report<'a>(table: &'a [u8], memo: &'a [u8], has_memo: bool, number: u32, last: u32) -> u64
+    requires { ⌜ PlaceGood (now table) number last ⌝ }
     ensures { λ r. ⌜ r ≤ last ⌝ }
 {
-    let place = field::place_at(table, i, 1);
-    let problems = record_line(i, place.mark);
+    let place = field::place_at(table, number, 1);
+    let problems = record_line(number, place.mark);
     if problems != 0 {
         return problems;
     }
-    value_lines(table, memo, has_memo, i, last)
+    value_lines(table, memo, has_memo, number, last)
 }
 
 fn record_lines<'a>(
@@ -312,15 +311,15 @@ fn record_lines<'a>(
     ensures { λ r. ⌜ r ≤ maxFields * records ⌝ }
 {
     let mut problems = 0;
-    let mut i = 0;
-    while i < records {
-        i += 1;
-        problems += record_report(table, memo, has_memo, i, fields);
+    let mut number = 0;
+    while number < records {
+        number += 1;
+        problems += record_report(table, memo, has_memo, number, fields);
     }
     problems
 }
 
-// A name's characters are plain, and the zeros after them are not.
+// A field's name: its characters are plain, and the zeros behind them are not.
 fn put_name(line: &mut Line, n: usize, name: &[u8]) -> usize {
     let end = plain_end(name, 0);
     let to = put(line, n, b" ");
@@ -364,12 +363,12 @@ fn shape_line(records: u32, fields: u32, record_length: usize) {
     print_line(&mut line, end);
 }
 
-// All that a table and its memo file give; of a refused table, the refusal alone.
+// All lines of a table and its memo file. A refused table has one line, its refusal.
 pub fn table_report<'a>(table: &'a [u8], memo: &'a [u8], has_memo: bool) -> u64
     ensures { λ r. ⌜ r ≤ maxFields * 4294967295 ⌝ }
 {
     match table::check_table(table) {
-        Checked::Refused(number) => answer_line(b"table", number),
+        Checked::Refused(code) => answer_line(b"table", code),
         Checked::Good(shape) => {
             let fields = shape.fields as u32;
             answer_line(b"table", 0);

@@ -1,4 +1,4 @@
-// Printing: a text, and a line that is put together and printed at once.
+// Printing: a text, and a line that is put together first and then printed by one write.
 ghost use Prim.Native.Nat.{_≤_, _<_};
 ghost use lib.ListN.{length};
 use libc::STDOUT_FILENO;
@@ -7,14 +7,14 @@ pub fn print(text: &[u8]) {
     io::write_all(STDOUT_FILENO, text);
 }
 
-// Where a line is put together, so that it is printed at once.
+// Where a line is put together. Its first n bytes are the line so far.
 pub type Line = [u8; 1024];
 
 pub fn empty_line() -> Line {
     [0u8; 1024]
 }
 
-// Makes room in a line of n bytes: a full one is printed, and has none then. Answers how many it has.
+// Makes room for a byte in a line of n bytes: a full line is printed, and is empty then. Answers how many bytes the line has.
 fn with_room(line: &Line, n: usize) -> usize
     ensures { λ r. ⌜ r < 1024 ⌝ }
 {
@@ -25,7 +25,7 @@ fn with_room(line: &Line, n: usize) -> usize
     0
 }
 
-// Adds a text to the first n bytes of a line and answers how many there are then. A line that gets too long is printed in pieces.
+// Adds a text to a line of n bytes, and answers how many bytes the line has then. A line that gets too long is printed in pieces.
 pub fn put(line: &mut Line, n: usize, text: &[u8]) -> usize
     ensures { λ r. ⌜ r ≤ 1024 ⌝ }
 {
@@ -40,7 +40,7 @@ pub fn put(line: &mut Line, n: usize, text: &[u8]) -> usize
     end
 }
 
-// Adds a number in decimal.
+// Adds a number in decimal to a line of n bytes.
 pub fn put_number(line: &mut Line, n: usize, number: u64) -> usize {
     let mut digits = [0u8; 20];
     let k = io::decimal(number, &mut digits);
@@ -53,7 +53,7 @@ fn print_first(text: &[u8], n: usize)
     print(&text[0..n]);
 }
 
-// Prints the first n bytes of a line, and the end of the line.
+// Prints a line of n bytes, and a line end behind it.
 pub fn print_line(line: &mut Line, n: usize) {
     let end = put(line, n, b"\n");
     print_first(line, end);

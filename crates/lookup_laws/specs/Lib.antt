@@ -1,2 +1,4 @@
--- Laws: lookup on a sound index: what the list of the leaves' pairs has under the key, and the number of pages visited
+-- Lookup on a sound index.
+
+-- Laws: what lookup finds in the list of the leaves' pairs, and the number of pages visited
 pub mod FoundLaws

@@ -1,8 +1,8 @@
-// Lists of calls: lines of text turned into bytes, run by `batch::run_batch`, and the answers printed as the lines have them.
+// Lists of calls: lines of text are turned into bytes and run by `batch::run_batch`, and the answers are printed as the lines have them.
 ghost use Prim.Native.Nat.{_≤_};
 ghost use lib.ListN.{length};
 
-// Appends a call to a list in bytes, and answers where the list ends then; a call that does not fit is left out.
+// Appends a call to the first `at` bytes of a list, and answers where the list ends then. A call that does not fit is left out.
 fn append_call(list: &mut [u8], at: usize, key: &[u8], is_insertion: bool, number: u32) -> usize
     requires { ⌜ (at ≤ length (now list)) × (length (now key) ≤ 256) ⌝ }
     ensures { λ r. ⌜ r ≤ length (now (list .exit)) ⌝ }
@@ -22,7 +22,7 @@ fn append_call(list: &mut [u8], at: usize, key: &[u8], is_insertion: bool, numbe
     end
 }
 
-// Appends the call of a line, `i KEY RECORD ..` or `l KEY ..`; other lines are no calls of the list.
+// Appends the call of a line, `i KEY RECORD ..` or `l KEY ..`. Another line is no call of the list.
 fn append_line(list: &mut [u8], at: usize, line: &[u8]) -> usize
     requires { ⌜ at ≤ length (now list) ⌝ }
     ensures { λ r. ⌜ r ≤ length (now (list .exit)) ⌝ }
@@ -60,24 +60,24 @@ fn print_part(n: u32) {
     test_lines::print_number(n);
 }
 
-// What is not in the answers: fresh's answer, how many calls were made, and the audit of the buffer after the last.
+// What the written answers do not have: fresh's answer, how many calls were made, and the audit of the buffer after the last call.
 struct Outcome {
     fresh: u32,
     made: usize,
     audit: u32,
 }
 
-// Prints answer number n, of a lookup or of an insertion.
+// Prints answer n, from 0, of a lookup or of an insertion.
 fn print_reply(kind: u8, answers: &[u8], n: usize, made: usize) {
     if made <= n {
         lines::print(b" not made");
         return;
     }
-    if answers.len() / batch::ANSWER <= n {
+    if answers.len() / batch::ANSWER_SIZE <= n {
         lines::print(b" not written");
         return;
     }
-    let at = batch::ANSWER * n;
+    let at = batch::ANSWER_SIZE * n;
     print_part(octets::load_le32(answers, at));
     if kind == b'l' {
         print_part(octets::load_le32(answers, at + 4));
@@ -85,7 +85,7 @@ fn print_reply(kind: u8, answers: &[u8], n: usize, made: usize) {
     }
 }
 
-// Prints the answer of a line, and answers how many answers of calls are printed then.
+// Prints the answer of a line. n answers of calls are printed before it; the result is how many are printed then.
 fn print_line(line: &[u8], answers: &[u8], n: usize, o: Outcome) -> usize {
     if line.len() == 0 {
         return n;
@@ -129,25 +129,8 @@ fn begins_with(index: &[u8], file: &[u8]) -> bool {
     octets::is_equal(octets::compare(&index[..n], file))
 }
 
-// Runs a list, `f K EXPRESSION ..` and calls; then prints the answers, and whether the buffer begins with an index file's bytes.
-fn replay(name: &[u8], text: &[u8], file: &[u8], index: &mut [u8]) {
-    let head = test_lines::after_word(text);
-    let mut expression = [0u8; 256];
-    let e = test_lines::hex_bytes(
-        test_lines::word(test_lines::after_word(head)),
-        &mut expression,
-    );
-    let mut list = io::large_buffer();
-    let n = append_all(&mut list, text);
-    let mut answers = io::large_buffer();
-    let k = test_lines::first_number(head);
-    let batch = batch::run_batch(index, k, &expression[..e], &list[..n], &mut answers);
-    let o = Outcome {
-        fresh: batch.fresh,
-        made: batch.made,
-        audit: audit::audit(index),
-    };
-    print_answers(text, &answers, o);
+// Prints whether a buffer begins with the bytes of an index file.
+fn print_same(name: &[u8], index: &[u8], file: &[u8]) {
     lines::print(name);
     if begins_with(index, file) {
         lines::print(b" same\n");
@@ -156,7 +139,34 @@ fn replay(name: &[u8], text: &[u8], file: &[u8], index: &mut [u8]) {
     }
 }
 
-// Runs a list on a buffer of so many zeros, at most 65,536.
+// Runs a list, `f K EXPRESSION ..` and calls, on a buffer, and writes the answers.
+fn run_list(text: &[u8], index: &mut [u8], answers: &mut [u8]) -> Outcome {
+    let head = test_lines::after_word(text);
+    let mut expression = [0u8; 256];
+    let e = test_lines::hex_bytes(
+        test_lines::word(test_lines::after_word(head)),
+        &mut expression,
+    );
+    let mut list = io::large_buffer();
+    let n = append_all(&mut list, text);
+    let k = test_lines::first_number(head);
+    let batch = batch::run_batch(index, k, &expression[..e], &list[..n], answers);
+    Outcome {
+        fresh: batch.fresh,
+        made: batch.made,
+        audit: audit::audit(index),
+    }
+}
+
+// Runs a list on a buffer, and prints the answers and whether the buffer begins with an index file's bytes.
+fn replay(name: &[u8], text: &[u8], file: &[u8], index: &mut [u8]) {
+    let mut answers = io::large_buffer();
+    let o = run_list(text, index, &mut answers);
+    print_answers(text, &answers, o);
+    print_same(name, index, file);
+}
+
+// Runs a list on a buffer of `size` zeros, at most 65,536.
 pub fn run_on_zeros(name: &[u8], text: &[u8], file: &[u8], size: usize) {
     let mut space = io::large_buffer();
     if size <= space.len() {

@@ -1,6 +1,6 @@
-// Indexes that an independent implementation made, audited and looked up: each accepted insertion of a list of calls must be found in the index file after
-// the list, with its record. Each list is then run as bytes on a buffer of zeros, its answers printed, and the buffer compared with the index file. Then damaged
-// copies of one of them are audited. README.md beside src/ says where the files came from.
+// Audits indexes that an independent implementation made, and looks keys up in them: each accepted insertion of a list of calls must be found in the index
+// file after the list, with its record. Then the program runs each list as bytes on a buffer of zeros, prints the answers, and compares the buffer with the
+// index file. At last it audits damaged copies of one index. README.md beside src/ says where the files came from.
 mod lists;
 
 // Whether a line is an insertion that was accepted, `i KEY RECORD 0`.
@@ -16,7 +16,7 @@ fn is_accepted(line: &[u8]) -> bool {
     (line[0] == b'i') & (answer[0] == b'0')
 }
 
-// Whether the key of such a line is found in the index, with the line's record.
+// Whether the index has the key of such a line, with the line's record.
 fn is_found(index: &[u8], line: &[u8]) -> bool {
     let rest = test_lines::after_word(line);
     let wanted = test_lines::first_number(test_lines::after_word(rest));
@@ -33,7 +33,7 @@ fn looks_up(index: &[u8], key: &[u8], wanted: u32) -> bool {
     }
 }
 
-// How many accepted insertions there are, and how many of them are found.
+// How many insertions of a list were accepted, and how many of their keys are found.
 struct Tally {
     accepted: u32,
     found: u32,
@@ -69,24 +69,40 @@ fn count_found(index: &[u8], calls: &[u8]) -> Tally {
     t
 }
 
-fn run(name: &[u8], index_path: &[u8], calls_path: &[u8], size: usize) {
-    let mut index = io::large_buffer();
-    let mut calls = io::large_buffer();
-    let n = files::load(index_path, &mut index).len;
-    let m = files::load(calls_path, &mut calls).len;
-    lines::print(name);
-    lines::print(b" audit ");
-    test_lines::print_number(audit::audit(&index[..n]));
-    let t = count_found(&index[..n], &calls[..m]);
+fn print_tally(t: Tally) {
     lines::print(b" accepted ");
     test_lines::print_number(t.accepted);
     lines::print(b" found ");
     test_lines::print_number(t.found);
     lines::print(b"\n");
+}
+
+// Prints the audit of an index file, and how many accepted keys of its list it has.
+fn print_index(name: &[u8], index: &[u8], calls: &[u8]) {
+    lines::print(name);
+    lines::print(b" audit ");
+    test_lines::print_number(audit::audit(index));
+    print_tally(count_found(index, calls));
+}
+
+// Reads an index file and its list of calls, and prints all lines of the two. The list runs on a buffer of `size` zeros.
+fn run(name: &[u8], index_path: &[u8], calls_path: &[u8], size: usize) {
+    let mut index = io::large_buffer();
+    let mut calls = io::large_buffer();
+    let n = files::load(index_path, &mut index).len;
+    let m = files::load(calls_path, &mut calls).len;
+    print_index(name, &index[..n], &calls[..m]);
     lists::run_on_zeros(name, &calls[..m], &index[..n], size);
 }
 
-// Audits an index with one byte set to another value.
+fn print_audit(name: &[u8], index: &[u8]) {
+    lines::print(name);
+    lines::print(b" ");
+    test_lines::print_number(audit::audit(index));
+    lines::print(b"\n");
+}
+
+// Audits a copy of an index in which the byte at an offset has another value.
 fn damaged(name: &[u8], at: usize, value: u8) {
     let mut index = io::large_buffer();
     let n = files::load(b"k10_random.idx", &mut index).len;
@@ -94,10 +110,7 @@ fn damaged(name: &[u8], at: usize, value: u8) {
     if at < whole.len() {
         whole[at] = value;
     }
-    lines::print(name);
-    lines::print(b" ");
-    test_lines::print_number(audit::audit(whole));
-    lines::print(b"\n");
+    print_audit(name, whole);
 }
 
 // Lists whose keys have 10 bytes.

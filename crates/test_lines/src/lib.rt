@@ -1,4 +1,4 @@
-// Lines of words, as the test programs read them: a line's words, decimal numbers and bytes in hexadecimal; and the printing of a number.
+// Lines of words, as the test programs read them: a line's words, decimal numbers, and bytes in hexadecimal. And a number is printed.
 ghost use Prim.Native.Nat.{_≤_};
 ghost use lib.ListN.{length};
 use libc::STDOUT_FILENO;
@@ -7,7 +7,7 @@ pub fn print_number(n: u32) {
     io::print_decimal(STDOUT_FILENO, n as u64);
 }
 
-// The index of a byte from an index on, or the length.
+// The first index from `from` on where the byte stands, or the length.
 pub fn find(s: &[u8], from: usize, byte: u8) -> usize
     requires { ⌜ from ≤ length (now s) ⌝ }
     ensures { λ r. ⌜ (from ≤ r) × (r ≤ length (now (s .entry))) ⌝ }
@@ -28,7 +28,7 @@ pub fn word(s: &[u8]) -> &[u8] {
     &s[..end]
 }
 
-// What follows the first word and one space.
+// The text behind the first word and one space.
 pub fn after_word(s: &[u8]) -> &[u8] {
     let end = find(s, 0, b' ');
     if end < s.len() {
@@ -37,7 +37,7 @@ pub fn after_word(s: &[u8]) -> &[u8] {
     &s[end..]
 }
 
-// The number of the first word, of at most nine digits.
+// The number that the first word says, in at most nine digits.
 pub fn first_number(s: &[u8]) -> u32 {
     let end = find(s, 0, b' ');
     let mut n: u32 = 0;
@@ -59,7 +59,7 @@ fn hex_value(c: u8) -> u8
     (c % 16 + 9) % 16
 }
 
-// Writes the bytes that a word in hexadecimal stands for, and answers how many there are; `-` stands for none.
+// Writes the bytes that a word in hexadecimal says, and answers how many there are. `-` says none.
 pub fn hex_bytes(word: &[u8], out: &mut [u8]) -> usize
     ensures { λ r. ⌜ r ≤ length (now (out .exit)) ⌝ }
 {

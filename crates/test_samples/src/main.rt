@@ -1,9 +1,9 @@
-// Runs `inspect` on tables that other programs made, with their memo files and indexes, and on arguments that it refuses: for each run a line with
-// its arguments, and what `inspect` prints. Then the texts of a table as `cell::text` hands them back, and the words of each refusal. README.md beside
-// src/ says where the files and the expected lines came from.
+// Runs `inspect` on tables that other programs made, with their memo files and indexes, and on arguments that it refuses: for each run it prints a line with
+// the arguments, and then what `inspect` prints. Then it prints the texts of a table as `cell::text` hands them back, and the words of each refusal. README.md
+// beside src/ says where the files and the expected lines came from.
 use lines::print;
 
-// The word of argument i, where there are as many arguments.
+// Prints the word of argument i, if there are as many arguments.
 fn word(arguments: usize, i: usize, text: &[u8]) {
     if i <= arguments {
         print(b" ");
@@ -33,17 +33,17 @@ fn with_index<'a>(table: &'a [u8], index: &'a [u8], field: &'a [u8]) {
     run(4, table, b"-", index, field);
 }
 
-// An index that is sound, and that of `xbase_s20` alone.
+// Runs on the sound index of `xbase_s20`.
 fn with_sound_index<'a>(table: &'a [u8], field: &'a [u8]) {
     with_index(table, b"xbase_s20_unique.idx", field);
 }
 
-// A table that the sound index does not belong to.
+// Runs on a table that the sound index does not belong to.
 fn with_other_index(field: &[u8]) {
     with_sound_index(b"shp_point.dbf", field);
 }
 
-// A field without an index.
+// Runs with a FIELD and without an index.
 fn with_field(field: &[u8]) {
     with_index(b"shp_comma.dbf", b"-", field);
 }
@@ -96,8 +96,8 @@ fn refused_fields() {
     with_field(b"1");
 }
 
-// Fields by their names: one that matches, one of another type, the beginning of a name, a name and more, and bytes that are no field's name. Of a refused
-// table no name is known, so that the match is refused as the table is.
+// Fields by their names: one that matches, one of another type, the beginning of a name, a name and more, and bytes that are no field's name. The last run is
+// on a refused table: no name of it is known, so the match's answer is the table's refusal.
 fn names() {
     with_sound_index(b"xbase_s20.dbf", b"BARCODE");
     with_other_index(b"OK");
@@ -107,14 +107,14 @@ fn names() {
     with_sound_index(b"pydbf_fp.dbf", b"BARCODE");
 }
 
-// The text of a C or an M field as `inspect` prints it of a plain one; nothing is printed of a field without text.
-fn text_line<'a>(table: &'a [u8], memo: &'a [u8], i: u32, j: u32) {
-    let text = cell::text(table, memo, i, j);
+// Prints the text of a C or an M field as `inspect` prints a text of plain bytes, and nothing for a field without text.
+fn text_line<'a>(table: &'a [u8], memo: &'a [u8], number: u32, j: u32) {
+    let text = cell::text(table, memo, number, j);
     if text.len() == 0 {
         return;
     }
     print(b"value ");
-    test_lines::print_number(i);
+    test_lines::print_number(number);
     print(b" ");
     test_lines::print_number(j);
     print(b" 0 \"");
@@ -122,10 +122,10 @@ fn text_line<'a>(table: &'a [u8], memo: &'a [u8], i: u32, j: u32) {
     print(b"\"\n");
 }
 
-// The two fields of xbase_f5 that have texts.
-fn record_texts<'a>(table: &'a [u8], memo: &'a [u8], i: u32) {
-    text_line(table, memo, i, 1);
-    text_line(table, memo, i, 5);
+// The two fields of `xbase_f5` that have texts.
+fn record_texts<'a>(table: &'a [u8], memo: &'a [u8], number: u32) {
+    text_line(table, memo, number, 1);
+    text_line(table, memo, number, 5);
 }
 
 fn texts() {
@@ -141,21 +141,21 @@ fn texts() {
     record_texts(&table[..n], &memo[..m], 5);
 }
 
-fn words_line(number: u32) {
+fn words_line(code: u32) {
     let mut line = lines::empty_line();
-    let end = lines::put_number(&mut line, 0, number as u64);
+    let end = lines::put_number(&mut line, 0, code as u64);
     let end = lines::put(&mut line, end, b" ");
-    let end = inspection::words::put_words(&mut line, end, number);
+    let end = words::put_words(&mut line, end, code);
     lines::print_line(&mut line, end);
 }
 
-// 26 is no refusal and has none.
+// The words of the codes 1 to 40. 26 is no refusal and has none.
 fn words() {
     print(b"-- words\n");
-    let mut number = 0;
-    while number < 40 {
-        number += 1;
-        words_line(number);
+    let mut code = 0;
+    while code < 40 {
+        code += 1;
+        words_line(code);
     }
 }
 

@@ -2,7 +2,7 @@
 //   n DECIMALS TEXT           read a numeric text
 //   d TEXT                    read a date's text
 //   w WIDTH DECIMALS VALUE    write a value
-// The rest of the line after one space is the text, blanks and all.
+// TEXT is the rest of the line behind one space, blanks and all.
 ghost use Prim.Native.Nat.{_≤_};
 use libc::STDIN_FILENO;
 
@@ -37,9 +37,9 @@ fn line(s: &[u8]) {
     write_line(rest);
 }
 
-fn refused(n: u32) {
+fn refused(code: u32) {
     lines::print(b"refused ");
-    test_lines::print_number(n);
+    test_lines::print_number(code);
 }
 
 // A value in decimal, by the library's own writer: 20 characters hold any value that it accepts.
@@ -54,7 +54,7 @@ fn number_line(s: &[u8]) {
     match numeral::read_number(test_lines::after_word(s), test_lines::first_number(s)) {
         numeral::Number::Value(v) => print_value(v),
         numeral::Number::Empty => lines::print(b"empty"),
-        numeral::Number::Refused(n) => refused(n),
+        numeral::Number::Refused(code) => refused(code),
     }
     lines::print(b"\n");
 }
@@ -63,7 +63,7 @@ fn date_line(s: &[u8]) {
     match calendar::read_date(s) {
         calendar::DateAnswer::Value(d) => print_date(d),
         calendar::DateAnswer::Empty => lines::print(b"empty"),
-        calendar::DateAnswer::Refused(n) => refused(n),
+        calendar::DateAnswer::Refused(code) => refused(code),
     }
     lines::print(b"\n");
 }
@@ -76,18 +76,18 @@ fn print_date(d: calendar::Date) {
     test_lines::print_number(d.day);
 }
 
-// A width that the buffer below has; 24 is wider than any field.
+// A width that the buffer of `write_line` has: 24 is wider than any field.
 fn at_most_24(width: usize) -> usize
     ensures { λ r. ⌜ r ≤ 24 ⌝ }
 {
     if width <= 24 { width } else { 24 }
 }
 
-// Writes a value into a field and prints the answer and what the field then holds.
+// Writes a value into a field, and prints the answer and what the field holds then.
 fn write_field(field: &mut [u8], decimals: u32, value: i64) {
     match numeral::write_number(field, decimals, value) {
         numeral::Writing::Written => lines::print(b"written"),
-        numeral::Writing::Refused(n) => refused(n),
+        numeral::Writing::Refused(code) => refused(code),
     }
     lines::print(b" [");
     lines::print(field);

@@ -20,8 +20,9 @@ call-end-requires c κs = search needs
 
 returns-2 : tie.Need-returns-2
 returns-2 c =
-    let start = c .before .before .before .before in
-    by-kind (start .args .calls .now) (start .args .at) (omega (arith, c .before .before .if1 .left)) (c .before .byte .ensures .0) (c .call-end .ensures)
+    let at-if = c .before .before in
+    let args = at-if .before .before .args in
+    by-kind (args .calls .now) (args .at) (omega (arith, at-if .if1 .left)) (c .before .byte .ensures .0) (c .call-end .ensures)
 
 pub is-call-spec : {M : Type 1} → statement M
 is-call-spec = tie.close (tie.spec sub-if1 returns byte-requires call-end-requires returns-2)

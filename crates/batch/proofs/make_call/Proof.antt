@@ -6,7 +6,17 @@ use borrow.Author.Needs.{needs}
 use Rattle.batch.proofs.make_call.Statement.{statement}
 use Rattle.batch.proofs.make_call.Tie as tie
 
--- the call lies inside
+-- the places: back from the key's length to the start, and from either side of the kind's test to the key's length
+abbrev start : tie.After-load-le16 → tie.Start
+start c = c .before .before .before
+
+abbrev lookup-size : tie.Then1 → tie.After-load-le16
+lookup-size c = c .before .before
+
+abbrev insert-size : tie.Else1 → tie.After-load-le16
+insert-size c = c .before .before
+
+-- the call lies inside the list
 inside : (c : tie.Start) → Whole (c .args .calls .now) (c .args .at)
 inside c = whole _ _ (c .pre)
 
@@ -23,10 +33,10 @@ cast-end : tie.Need-cast-end
 cast-end c = search needs
 
 add-end : tie.Need-add-end
-add-end c = let w = inside (c .before .before .before) in omega arith
+add-end c = let w = inside (start c) in omega arith
 
 byte-requires : tie.Need-byte-requires
-byte-requires c κs = let w = inside (c .before .before .before) in omega arith
+byte-requires c κs = let w = inside (start c) in omega arith
 
 sub-lookup : tie.Need-sub-lookup
 sub-lookup c = search needs
@@ -35,7 +45,7 @@ part-lookup-start : tie.Need-part-lookup-start
 part-lookup-start c = search needs
 
 part-lookup-end : tie.Need-part-lookup-end
-part-lookup-end c = let w = inside (c .before .before .before .before .before .before) in omega arith
+part-lookup-end c = let w = inside (start (lookup-size (c .before))) in omega arith
 
 lookup-requires : tie.Need-lookup-requires
 lookup-requires c κs = search needs
@@ -50,11 +60,12 @@ returns : tie.Need-returns
 returns c =
     let at-lookup = c .before in
     let at-if = at-lookup .before .before .before in
-    let at-size = at-if .before .before in
-    lookup-made _ _ _ (at-size .load-le16 .ensures .0) (at-if .before .byte .ensures .0) (at-if .if1 .taken) (at-lookup .lookup .ensures) (c .looked-up .ensures)
+    let size = lookup-size at-if .load-le16 .ensures .0 in
+    let kind = at-if .before .byte .ensures .0 in
+    lookup-made _ _ _ size kind (at-if .if1 .taken) (at-lookup .lookup .ensures) (c .looked-up .ensures)
 
 load-le32-requires : tie.Need-load-le32-requires
-load-le32-requires c κs = let w = inside (c .before .before .before .before .before) in omega arith
+load-le32-requires c κs = let w = inside (start (insert-size c)) in omega arith
 
 sub-insert : tie.Need-sub-insert
 sub-insert c = search needs
@@ -63,7 +74,7 @@ part-insert-start : tie.Need-part-insert-start
 part-insert-start c = search needs
 
 part-insert-end : tie.Need-part-insert-end
-part-insert-end c = let w = inside (c .before .before .before .before .before .before .before) in omega arith
+part-insert-end c = let w = inside (start (insert-size (c .before .before))) in omega arith
 
 insert-requires : tie.Need-insert-requires
 insert-requires c κs = search needs
@@ -79,9 +90,9 @@ returns-2 c =
     let at-insert = c .before .before .before in
     let at-number = at-insert .before .before .before in
     let at-if = at-number .before in
-    let at-size = at-if .before .before in
-    insertion-made _ _ _ (at-size .load-le16 .ensures .0) (at-if .before .byte .ensures .0) (at-if .if1 .left) (at-number .load-le32 .ensures)
-    (at-insert .insert .ensures) (c .inserted .ensures)
+    let size = insert-size at-if .load-le16 .ensures .0 in
+    let kind = at-if .before .byte .ensures .0 in
+    insertion-made _ _ _ size kind (at-if .if1 .left) (at-number .load-le32 .ensures) (at-insert .insert .ensures) (c .inserted .ensures)
 
 pub make-call-spec : {M : Type 1} → statement M
 make-call-spec =

@@ -1,5 +1,5 @@
--- `batch::run_calls` meets its contract. The loop's invariant: what the rule leaves is what the calls still to be made leave, on the buffer and the answers as
--- they are. What is left of the list's bytes falls with each call. Demand 3 follows, since the elements of lent slices are bytes. Assumes nothing.
+-- `batch::run_calls` meets its contract. The loop's invariant: what the rule leaves is what the calls still to be made leave of the buffer and the answers as
+-- they are. The measure is the rest of the list's bytes. Demand 3 follows, since the elements of lent slices are bytes. Assumes nothing.
 use Prim.Native.Nat.{ℕ, _-_, _≤_, _*_}
 use mathlib.Core.Path.{_≡_}
 use mathlib.Core.Bool.{true}
@@ -19,22 +19,25 @@ Inv-loop index₀ calls answers₀ at₀ made₀ index answers at made = Going i
 abbrev μ-loop : tie.MeasureT-loop
 μ-loop index₀ calls answers₀ at₀ made₀ index answers at made = length calls - at
 
--- in a turn there is a whole call, and room for its answer
+-- what a turn begins with: a whole call, and room for its answer
 pub record Turn (calls answers : List ℕ) (at made : ℕ) : Type 0 where
   pub call : isCall calls at ≡ true
   pub room : answerSize ≤ length answers - answerSize * made
 
-turn : (c : tie.Then1 Inv-loop μ-loop)
-    → let at-loop = c .before .before in
-    Turn (at-loop .before .before .before .before .args .calls .now) (at-loop .loop .answers) (at-loop .loop .at) (at-loop .loop .made)
-turn c = let t = turn-taken _ _ _ (c .before .goes-on .ensures) (c .if1 .taken) in record { call = t .0; room = t .1 }
+-- the places: back from the loop to the start, from the answer's store to the test that the turn began with, and from the turn's end to that store
+abbrev start : tie.At-loop Inv-loop μ-loop → tie.Start Inv-loop μ-loop
+start c = c .before .before .before .before
 
--- the test that a turn began with, from where its answer is written and from its end
-abbrev at-test : (c : tie.After-write-reply-arg Inv-loop μ-loop) → tie.Then1 Inv-loop μ-loop
+abbrev at-test : tie.After-write-reply-arg Inv-loop μ-loop → tie.Then1 Inv-loop μ-loop
 at-test c = let at-make = c .before .before .before in at-make .before .before
 
-abbrev at-write : (c : tie.After-call-end Inv-loop μ-loop) → tie.After-write-reply-arg Inv-loop μ-loop
+abbrev at-write : tie.After-call-end Inv-loop μ-loop → tie.After-write-reply-arg Inv-loop μ-loop
 at-write c = c .before .before .before .before
+
+turn : (c : tie.Then1 Inv-loop μ-loop)
+    → let at-loop = c .before .before in
+    Turn (start at-loop .args .calls .now) (at-loop .loop .answers) (at-loop .loop .at) (at-loop .loop .made)
+turn c = let t = turn-taken _ _ _ (c .before .goes-on .ensures) (c .if1 .taken) in record { call = t .0; room = t .1 }
 
 loop-holds : tie.Need-loop-holds Inv-loop μ-loop
 loop-holds c = going-first _ _ _
@@ -71,8 +74,9 @@ loop-again c =
     let written = c .before .before .before .write-reply .ensures in
     let called = at-write c .before .before .before .make-call in
     let test = at-test (at-write c) in
+    let t = turn test in
     rw (c .call-end .ensures)
-    (going-on _ _ _ _ _ _ _ (test .before .before .loop .inv) (turn test .call) (turn test .room) (called .kept .0) (called .ensures .0) (called .ensures .1) written)
+    (going-on _ _ _ _ _ _ _ (test .before .before .loop .inv) (t .call) (t .room) (called .kept .0) (called .ensures .0) (called .ensures .1) written)
 
 same-length : tie.Need-same-length Inv-loop μ-loop
 same-length c = c .before .before .loop .inv .same
@@ -84,8 +88,9 @@ returns : tie.Need-returns Inv-loop μ-loop
 returns c =
     let at-loop = c .before .before in
     let at-calls = at-loop .before .before in
+    let at-index = at-calls .before in
     let ran = going-ends _ _ _ _ _ _ _ (at-loop .loop .inv) (c .before .goes-on .ensures) (c .if1 .left) in
-    (ran, sound-run-kept _ _ _ (λ i. at-calls .before .slice-known .given i .fits) (λ i. at-calls .shared-slice-known .given i .fits) ran)
+    (ran, sound-run-kept _ _ _ (λ i. at-index .slice-known .given i .fits) (λ i. at-calls .shared-slice-known .given i .fits) ran)
 
 pub run-calls-spec : {M : Type 1} → statement M
 run-calls-spec =

@@ -1,4 +1,4 @@
--- `files::space` has the length that its contract says: by the law on a list of equal elements, since none of its bytes is to be computed.
+-- `files::space` has the length that its contract says. The law on a list of equal elements gives it, so that the prover computes none of the bytes.
 -- Assumes nothing.
 use Prim.Native.Nat.{ℕ}
 use mathlib.Core.Path.{sym}

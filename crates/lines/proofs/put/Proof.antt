@@ -1,5 +1,4 @@
--- `lines::put` stays inside its slices and ends. The loop's invariant: no more bytes are counted than the line holds.
--- Assumes nothing.
+-- `lines::put` stays inside its slices and ends. The loop's invariant: the line has at most 1,024 bytes. Assumes nothing.
 use Prim.Native.Nat.{_≤_, _-_}
 use borrow.Author.Needs.{needs}
 use lib.ListN.{length}

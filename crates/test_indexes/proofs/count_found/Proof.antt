@@ -1,5 +1,4 @@
--- `test_indexes::count_found` ends. What is left of the calls falls with each line.
--- Assumes nothing.
+-- `test_indexes::count_found` ends. The rest of the calls gets shorter with each line. Assumes nothing.
 use Prim.Native.Nat.{_-_}
 use borrow.Author.Needs.{needs}
 use lib.ListN.{length}

@@ -1,5 +1,4 @@
--- `test_indexes::is_found` stays inside its buffer: the key is the first bytes of it.
--- Assumes nothing.
+-- `test_indexes::is_found` stays inside its buffer: the key is the first bytes of it. Assumes nothing.
 use mathlib.Core.Path.{sym}
 use borrow.Author.Needs.{needs}
 use lib.Seq.{length-take-le}

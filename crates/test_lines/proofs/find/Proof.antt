@@ -1,5 +1,4 @@
--- `test_lines::find` meets its contract. The loop's invariant: the index is between `from` and the length.
--- Assumes nothing.
+-- `test_lines::find` meets its contract. The loop's invariant: the index is between `from` and the length. Assumes nothing.
 use Prim.Native.Nat.{_≤_, _-_}
 use borrow.Author.Needs.{needs}
 use lib.ListN.{length}

@@ -1,5 +1,4 @@
--- `test_lines::first_number` ends and overflows nowhere. The loop's invariant: the index is at most the word's end.
--- Assumes nothing.
+-- `test_lines::first_number` ends and overflows nowhere. The loop's invariant: the index is at most the word's end. Assumes nothing.
 use Prim.Native.Nat.{_≤_, _-_}
 use borrow.Author.Needs.{needs}
 use Rattle.test_lines.proofs.first_number.Statement.{statement}

@@ -1,5 +1,4 @@
--- `test_lines::hex_bytes` stays inside its slices. The loop's invariant: no more bytes are written than the buffer holds.
--- Assumes nothing.
+-- `test_lines::hex_bytes` stays inside its slices. The loop's invariant: no more bytes are written than the buffer holds. Assumes nothing.
 use Prim.Native.Nat.{_≤_, _-_}
 use mathlib.Core.Path.{_≡_}
 use borrow.Author.Needs.{needs}

@@ -1,5 +1,4 @@
--- `test_lines::word` hands back a part of its text.
--- Assumes nothing.
+-- `test_lines::word` hands back a part of its text. Assumes nothing.
 use mathlib.Core.Path.{sym}
 use borrow.Author.Needs.{needs}
 use lib.Seq.{length-take-le}

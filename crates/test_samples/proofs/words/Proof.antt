@@ -1,15 +1,14 @@
--- `test_samples::words` ends: the number of refusals to come falls.
--- Assumes nothing.
+-- `test_samples::words` ends: fewer codes are left with each turn. Assumes nothing.
 use Prim.Native.Nat.{_-_}
 use borrow.Author.Needs.{needs}
 use Rattle.test_samples.proofs.words.Statement.{statement}
 use Rattle.test_samples.proofs.words.Tie as tie
 
 abbrev Inv-loop : tie.InvT-loop
-Inv-loop number₀ number = Unit {0}
+Inv-loop code₀ code = Unit {0}
 
 abbrev μ-loop : tie.MeasureT-loop
-μ-loop number₀ number = 40 - number
+μ-loop code₀ code = 40 - code
 
 slice-aggregate-print : tie.Need-slice-aggregate-print Inv-loop μ-loop
 slice-aggregate-print c = search needs
@@ -20,8 +19,8 @@ print-requires c κs = search needs
 loop-holds : tie.Need-loop-holds Inv-loop μ-loop
 loop-holds c = search needs
 
-add-number : tie.Need-add-number Inv-loop μ-loop
-add-number c = search needs
+add-code : tie.Need-add-code Inv-loop μ-loop
+add-code c = search needs
 
 words-line-requires : tie.Need-words-line-requires Inv-loop μ-loop
 words-line-requires c κs = search needs
@@ -44,7 +43,7 @@ words-spec =
     slice-aggregate-print
     print-requires
     loop-holds
-    add-number
+    add-code
     words-line-requires
     loop-less
     loop-again

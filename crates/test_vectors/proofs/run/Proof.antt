@@ -1,5 +1,4 @@
--- `test_vectors::run` ends. What is left of the input falls with each line.
--- Assumes nothing.
+-- `test_vectors::run` ends: the rest of the input gets shorter with each line. Assumes nothing.
 use Prim.Native.Nat.{_-_}
 use borrow.Author.Needs.{needs}
 use lib.ListN.{length}

@@ -1,5 +1,4 @@
--- `test_vectors::write_line` stays inside its buffer: the field is its first `width` bytes.
--- Assumes nothing.
+-- `test_vectors::write_line` stays inside its buffer: the field is the first `width` bytes. Assumes nothing.
 use mathlib.Core.Path.{sym}
 use lib.Seq.{length-take-le}
 use borrow.Author.Needs.{needs}

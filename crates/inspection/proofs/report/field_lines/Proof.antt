@@ -1,5 +1,4 @@
--- `inspection::report::field_lines` ends: the number of fields to come falls.
--- Assumes nothing.
+-- `inspection::report::field_lines` ends: fewer fields are left with each turn. Assumes nothing.
 use Prim.Native.Nat.{_-_}
 use borrow.Author.Needs.{needs}
 use Rattle.inspection.proofs.report.field_lines.Statement.{statement}

@@ -1,5 +1,4 @@
--- `inspection::report::plain_end` answers an index from `from` to the length. The loop's invariant: the index is between the two.
--- Assumes nothing.
+-- `inspection::report::plain_end` answers an index from `from` to the length. The loop's invariant: the index is between the two. Assumes nothing.
 use Prim.Native.Nat.{_≤_, _-_}
 use borrow.Author.Needs.{needs}
 use lib.ListN.{length}

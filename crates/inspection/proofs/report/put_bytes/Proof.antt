@@ -1,5 +1,4 @@
--- `inspection::report::put_bytes` stays inside its text and ends: what is left of the text falls with each run.
--- Assumes nothing.
+-- `inspection::report::put_bytes` stays inside its text and ends: the rest of the text gets shorter with each run. Assumes nothing.
 use Prim.Native.Nat.{_-_}
 use borrow.Author.Needs.{needs}
 use lib.ListN.{length}

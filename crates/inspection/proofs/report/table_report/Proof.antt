@@ -1,6 +1,5 @@
--- `inspection::report::table_report` is safe: a good table has at most 128 fields, so that their count fits 32 bits; what is printed of its fields and
--- records needs no further check.
--- Assumes nothing.
+-- `inspection::report::table_report` meets its contract: a good table has at most 128 fields, so their count fits 32 bits, and its fields and records are
+-- printed without a further check. Assumes nothing.
 use mathlib.Core.Path.{sym, _∙_}
 use native.Mathlib.Omega.{arith}
 use Rattle.table.specs.TableLaws.{layout, Shaped, good-shape}
@@ -8,15 +7,25 @@ use borrow.Author.Needs.{needs}
 use Rattle.inspection.proofs.report.table_report.Statement.{statement}
 use Rattle.inspection.proofs.report.table_report.Tie as tie
 
+-- the places: back from the shape's fields to the shape of a good table, from there to the check, and from the check to the start
+abbrev good-table : tie.After-struct-known → tie.After-shape
+good-table c = c .before .before
+
+abbrev checked : tie.After-shape → tie.After-check-table
+checked c = c .before .before
+
+abbrev start : tie.After-check-table → tie.Start
+start c = c .before .before .before
+
 -- past the check the table is good, and the shape is its own
-shaped : (c : tie.After-struct-known) → Shaped (c .before .before .before .before .before .before .before .args .table .now) (c .before .before .shape .given .0 .0)
-shaped c = let good = c .before .before in good-shape _ _ (sym (good .before .before .check-table .ensures) ∙ good .shape .given .1)
+shaped : (c : tie.After-shape) → Shaped (start (checked c) .args .table .now) (c .shape .given .0 .0)
+shaped c = good-shape _ _ (sym (checked c .check-table .ensures) ∙ c .shape .given .1)
 
 check-table-requires : tie.Need-check-table-requires
 check-table-requires c κs = search needs
 
-enum-known-number : tie.Need-enum-known-number
-enum-known-number c = search needs
+enum-known-code : tie.Need-enum-known-code
+enum-known-code c = search needs
 
 slice-aggregate-answer-line : tie.Need-slice-aggregate-answer-line
 slice-aggregate-answer-line c = search needs
@@ -29,7 +38,7 @@ enum-known-shape c = search needs
 
 cast-fields : tie.Need-cast-fields
 cast-fields c =
-    let said = shaped c in
+    let said = shaped (good-table c) in
     let few = layout _ (said .table) .header .few in
     omega (arith, said .fields)
 
@@ -46,7 +55,7 @@ field-lines-requires : tie.Need-field-lines-requires
 field-lines-requires c κs = search needs
 
 record-lines-requires : tie.Need-record-lines-requires
-record-lines-requires c κs = let said = shaped (c .before .before .before .before) in (said .table, said .records, said .fields)
+record-lines-requires c κs = let said = shaped (good-table (c .before .before .before .before)) in (said .table, said .records, said .fields)
 
 returns : tie.Need-returns
 returns c = search needs
@@ -59,7 +68,7 @@ table-report-spec =
     tie.close
     (tie.spec
     check-table-requires
-    enum-known-number
+    enum-known-code
     slice-aggregate-answer-line
     answer-line-requires
     enum-known-shape

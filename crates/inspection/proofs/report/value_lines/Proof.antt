@@ -1,4 +1,4 @@
--- `inspection::report::value_lines` meets its contract. The loop's invariant: no more lines with a refusal than fields so far.
+-- `inspection::report::value_lines` meets its contract. The loop's invariant: there are at most as many lines with a refusal as fields so far.
 -- Assumes nothing.
 use Prim.Native.Nat.{_≤_, _-_}
 use borrow.Author.Needs.{needs}
@@ -6,10 +6,10 @@ use Rattle.inspection.proofs.report.value_lines.Statement.{statement}
 use Rattle.inspection.proofs.report.value_lines.Tie as tie
 
 abbrev Inv-loop : tie.InvT-loop
-Inv-loop table memo has-memo i last problems₀ j₀ problems j = (problems ≤ j) × (j ≤ last)
+Inv-loop table memo has-memo number last problems₀ j₀ problems j = (problems ≤ j) × (j ≤ last)
 
 abbrev μ-loop : tie.MeasureT-loop
-μ-loop table memo has-memo i last problems₀ j₀ problems j = last - j
+μ-loop table memo has-memo number last problems₀ j₀ problems j = last - j
 
 loop-holds : tie.Need-loop-holds Inv-loop μ-loop
 loop-holds c = search needs

@@ -1,4 +1,4 @@
--- `test_indexes::lists::print_answers` ends. What is left of the text falls with each line. Assumes nothing.
+-- `test_indexes::lists::print_answers` ends. The rest of the text gets shorter with each line. Assumes nothing.
 use Prim.Native.Nat.{_-_}
 use borrow.Author.Needs.{needs}
 use lib.ListN.{length}

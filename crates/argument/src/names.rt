@@ -4,19 +4,17 @@ ghost use mathlib.Core.Path.{_≡_};
 ghost use lib.ListN.{length};
 ghost use Rattle.octets.specs.Bytes.{byteAt};
 ghost use Rattle.table.specs.Table.{descriptor, tableRefusal, fieldCount};
-ghost use Rattle.inspection.specs.Names.{hasName, namedField, NameMatched};
+ghost use Rattle.argument.specs.Names.{hasName, namedField, NameMatched};
 use table::Checked;
 
-const NO_SUCH_FIELD: u32 = 12;
-
-// A byte of a text, 0 past its end.
+// Byte k of a text, 0 past its end.
 fn byte_or_zero(text: &[u8], k: usize) -> u8
     ensures { λ r. ⌜ r ≡ byteAt (now (text .entry)) k ⌝ }
 {
     if k < text.len() { text[k] } else { 0 }
 }
 
-// Whether field j, from 0, has a name: its 11 bytes are the name and zeros.
+// Whether field j, from 0, has the name: its 11 bytes are the name's, and zeros behind them.
 fn has_name(table: &[u8], name: &[u8], j: usize) -> bool
     requires { ⌜ descriptor j + 32 ≤ length (now table) ⌝ }
     ensures { λ r. ⌜ r ≡ hasName (now (table .entry)) (now (name .entry)) j ⌝ }
@@ -32,7 +30,7 @@ fn has_name(table: &[u8], name: &[u8], j: usize) -> bool
     true
 }
 
-// The number of the field that has a name, 0 if none has.
+// The number of the field that has the name, 0 if none has it.
 fn named_field(table: &[u8], name: &[u8], fields: usize) -> u32
     requires { ⌜ (tableRefusal (now table) ≡ 0) × (fields ≡ fieldCount (now table)) ⌝ }
     ensures { λ r. ⌜ r ≡ namedField (now (table .entry)) (now (name .entry)) ⌝ }
@@ -47,16 +45,16 @@ fn named_field(table: &[u8], name: &[u8], fields: usize) -> u32
     0
 }
 
-// The match of an index against the field that has a name. Nothing is known of a refused table's names, so that its refusal is the answer.
+// The match of an index against the field that has the name. A refused table has no names that are known, so its refusal is the answer.
 pub fn match_by_name<'a>(table: &'a [u8], index: &'a [u8], name: &'a [u8]) -> u32
     ensures { λ r. ⌜ NameMatched (now (table .entry)) (now (index .entry)) (now (name .entry)) r ⌝ }
 {
     match table::check_table(table) {
-        Checked::Refused(number) => number,
+        Checked::Refused(code) => code,
         Checked::Good(shape) => {
             let field = named_field(table, name, shape.fields);
             if field == 0 {
-                return NO_SUCH_FIELD;
+                return refusal::FIELD_NUMBER;
             }
             matching::match_index(table, index, field)
         }

@@ -9,27 +9,28 @@ use Rattle.table.specs.Range.{allBelow}
 use Rattle.table.specs.Table.{descriptor, fieldCount, tableRefusal}
 use Rattle.matching.specs.Match.{Matched}
 
--- byte k of the name of field j, from 0, is that of a name; past a name's end stand zeros
+-- byte k of the name of field j, from 0, is byte k of `name`, which reads as 0 past its end
 unfoldable pub nameByte : List ℕ → List ℕ → ℕ → ℕ → Bool
 nameByte b name j k = eqb (byteAt b (descriptor j + k)) (byteAt name k)
 
--- field j has a name: all 11 bytes
+-- field j has the name: all 11 bytes agree
 unfoldable pub hasName : List ℕ → List ℕ → ℕ → Bool
 hasName b name j = allBelow (nameByte b name j) 11
 
--- the number, from 1, of the first of n fields that has a name, 0 if none has
+-- the number, from 1, of the first of the first n fields that has the name; 0 if none has it
 unfoldable pub namedBelow : List ℕ → List ℕ → ℕ → ℕ
 namedBelow b name zero = 0
 namedBelow b name (suc j) =
     let before = namedBelow b name j in
     cond (leb 1 before) before (cond (hasName b name j) (suc j) 0)
 
+-- the number of the field of a table that has the name; 0 if none has it
 unfoldable pub namedField : List ℕ → List ℕ → ℕ
 namedField b name = namedBelow b name (fieldCount b)
 
--- the answer r of the match of an index b against the field of a table t that has a name
+-- the answer r of the match of the index b against the field of the table t that has the name
 pub record NameMatched (t b name : List ℕ) (r : ℕ) : Type 0 where
-  -- nothing is known of the fields of a table that is refused
+  -- a refused table answers its own refusal, since nothing is known of its fields
   pub refused : (tableRefusal t ≡ 0 → ⊥) → r ≡ tableRefusal t
   -- "12 if no field has that name"
   pub none : tableRefusal t ≡ 0 → namedField t name ≡ 0 → r ≡ 12

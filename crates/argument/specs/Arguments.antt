@@ -6,8 +6,8 @@ use lib.ListN.{length}
 use lib.Dec.{leb}
 use Rattle.octets.specs.Bytes.{byteAt}
 use Rattle.octets.specs.Text.{every, isDigit, numberOf}
-use Rattle.inspection.specs.declared.Field.{Field}
-use Rattle.inspection.specs.declared.Field.the-variants.{Number, Name, Other}
+use Rattle.argument.specs.declared.Field.{Field}
+use Rattle.argument.specs.declared.Field.the-variants.{Number, Name, Other}
 
 -- "FIELD is a field's number, 1 to 10 digits"
 unfoldable pub isNumber : List ℕ → Bool
@@ -17,10 +17,10 @@ isNumber text = leb 1 (length text) && leb (length text) 10 && every isDigit tex
 unfoldable pub isName : List ℕ → Bool
 isName text = leb 1 (length text) && leb (length text) 10 && not (isDigit (byteAt text 0))
 
--- the greatest number of 32 bits. No table has a field of that number, nor one of a greater number
+-- the greatest number of 32 bits. No table has a field of this number or of a greater one
 abbrev pub maxNumber : ℕ
 maxNumber = 4294967295
 
--- that it is a name, the field's number, or that the argument is another
+-- a text is a name, a field's number, or neither
 unfoldable pub fieldArgument : List ℕ → Field
 fieldArgument text = cond (isName text) Name (cond (isNumber text) (Number (min (numberOf text) maxNumber)) Other)

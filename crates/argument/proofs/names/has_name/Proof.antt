@@ -1,4 +1,4 @@
--- `inspection::names::has_name` meets its contract. The loop's invariant: the field's name has the name's bytes before byte k. Assumes nothing.
+-- `argument::names::has_name` meets its contract. The loop's invariant: the field's name has the name's bytes before byte k. Assumes nothing.
 use Prim.Native.Nat.{_-_, _≤_}
 use mathlib.Core.Path.{_≡_, sym}
 use mathlib.Core.Bool.{true}
@@ -7,9 +7,9 @@ use borrow.Author.Needs.{needs}
 use borrow.Author.Tests.{eq-eqb, ne-eqb}
 use Rattle.table.specs.Range.{allBelow}
 use Rattle.table.specs.RangeLaws.{all-none, all-more, all-stop}
-use Rattle.inspection.specs.Names.{nameByte, hasName}
-use Rattle.inspection.proofs.names.has_name.Statement.{statement}
-use Rattle.inspection.proofs.names.has_name.Tie as tie
+use Rattle.argument.specs.Names.{nameByte, hasName}
+use Rattle.argument.proofs.names.has_name.Statement.{statement}
+use Rattle.argument.proofs.names.has_name.Tie as tie
 
 abbrev Inv-loop : tie.InvT-loop
 Inv-loop table name j at k₀ k = (k ≤ 11) × (allBelow (nameByte table name j) k ≡ true)

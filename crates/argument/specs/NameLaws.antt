@@ -1,5 +1,5 @@
--- Laws: how a loop over a table's fields meets `namedBelow`: one field more, and a field that has the name; and the three cases of `NameMatched`.
--- Assumes nothing.
+-- Laws: `namedBelow` over one field more, and at a field that has the name; and the three cases of `NameMatched`. Cited by the proofs of `named_field` and
+-- `match_by_name`. Assumes nothing.
 use Prim.Native.Nat.{ℕ, zero, suc, _+_, _<_}
 use mathlib.Core.Path.{_≡_, refl, subst, _∙_}
 use mathlib.Core.Bool.{true, false}
@@ -13,7 +13,7 @@ use Rattle.table.specs.Table.{tableRefusal, checkTable}
 use Rattle.table.specs.TableLaws.{refused-check}
 use Rattle.table.specs.declared.Checked.the-variants.{Refused}
 use Rattle.matching.specs.Match.{Matched}
-use Rattle.inspection.specs.Names.{hasName, namedBelow, namedField, NameMatched}
+use Rattle.argument.specs.Names.{hasName, namedBelow, namedField, NameMatched}
 
 module _ (b name : List ℕ) where
   pub named-none : namedBelow b name 0 ≡ 0
@@ -24,7 +24,7 @@ module _ (b name : List ℕ) where
   unfolding namedBelow
   named-more j none other = rw (add-one j, none, other)
 
-  -- the first that has the name is the answer, whatever follows
+  -- the first field that has the name is the answer, whatever follows
   pub named-stop : (j n : ℕ) → j < n → namedBelow b name j ≡ 0 → hasName b name j ≡ true → namedBelow b name n ≡ suc j
   unfolding namedBelow
   named-stop j zero below none has = absurd (not-suc-le-zero below)
@@ -34,6 +34,7 @@ module _ (b name : List ℕ) where
       (λ lt. rw (named-stop j n lt none has, le-leb 1 (suc j) (omega arith)))
       (eq-or-lt-of-le (le-of-suc-le-suc below))
 
+-- the answer for a refused table, for a name that no field has, and for the field that has it
 module _ (t b name : List ℕ) where
   pub by-refusal : (n : ℕ) → checkTable t ≡ Refused n → NameMatched t b name n
   by-refusal n said =

@@ -1,12 +1,11 @@
--- `inspection::field_argument` meets its contract: the length and the first byte as the rule's cases, then the answer by what the digits say.
--- Assumes nothing.
+-- `argument::field_argument` meets its contract: the length and the first byte are the rule's cases, and then the digits decide. Assumes nothing.
 use native.Mathlib.Omega.{arith}
 use mathlib.Core.Path.{sym, ap, _∙_}
 use borrow.Author.Needs.{needs}
-use borrow.Author.Tests.{not-true, not-false}
-use Rattle.inspection.specs.ArgumentLaws.{too-short, too-long, by-name, ofDigits, by-digits}
-use Rattle.inspection.proofs.field_argument.Statement.{statement}
-use Rattle.inspection.proofs.field_argument.Tie as tie
+use Rattle.basis.specs.Tests.{passed, failed}
+use Rattle.argument.specs.ArgumentLaws.{too-short, too-long, by-name, ofDigits, by-digits}
+use Rattle.argument.proofs.field_argument.Statement.{statement}
+use Rattle.argument.proofs.field_argument.Tie as tie
 
 returns : tie.Need-returns
 returns c = sym (too-short _ (search needs))
@@ -22,8 +21,7 @@ is-digit-requires c κs = search needs
 
 returns-3 : tie.Need-returns-3
 returns-3 c =
-    let other = sym (c .before .is-digit .ensures) ∙ not-true _ (c .if3 .taken) in
-    sym (by-name _ (omega arith) (omega arith) other)
+    sym (by-name _ (omega arith) (omega arith) (failed (c .before .is-digit .ensures) (c .if3 .taken)))
 
 read-digits-requires : tie.Need-read-digits-requires
 read-digits-requires c κs = search needs
@@ -41,14 +39,14 @@ returns-4 : tie.Need-returns-4
 returns-4 c =
     let told = c .before .before in
     let asked = told .before .before in
-    let first = sym (asked .before .before .is-digit .ensures) ∙ not-false _ (asked .before .if3 .left) in
+    let first = passed (asked .before .before .is-digit .ensures) (asked .before .if3 .left) in
     let said = sym (asked .read-digits .ensures) ∙ told .number .given .1 in
     rw (c .at-most-32-bits .ensures) (sym (by-digits _ (omega arith) (omega arith) first ∙ ap ofDigits said))
 
 returns-5 : tie.Need-returns-5
 returns-5 c =
     let asked = c .before .before in
-    let first = sym (asked .before .before .is-digit .ensures) ∙ not-false _ (asked .before .if3 .left) in
+    let first = passed (asked .before .before .is-digit .ensures) (asked .before .if3 .left) in
     let said = sym (asked .read-digits .ensures) ∙ c .enum-told .given .1 in
     sym (by-digits _ (omega arith) (omega arith) first ∙ ap ofDigits said)
 

@@ -1,4 +1,4 @@
--- `inspection::names::named_field` meets its contract. The loop's invariant: no field before field j has the name. A good table has at most 128 fields.
+-- `argument::names::named_field` meets its contract. The loop's invariant: no field before field j has the name. A good table has at most 128 fields.
 -- Assumes nothing.
 use Prim.Native.Nat.{ℕ, _-_, _≤_}
 use mathlib.Core.List.{List}
@@ -9,10 +9,10 @@ use borrow.Author.Needs.{needs}
 use Rattle.table.specs.Table.{tableRefusal, fieldCount}
 use Rattle.table.specs.TableLaws.{layout}
 use Rattle.table.specs.RecordLaws.{descriptor-inside}
-use Rattle.inspection.specs.Names.{namedBelow, namedField}
-use Rattle.inspection.specs.NameLaws.{named-none, named-more, named-stop}
-use Rattle.inspection.proofs.names.named_field.Statement.{statement}
-use Rattle.inspection.proofs.names.named_field.Tie as tie
+use Rattle.argument.specs.Names.{namedBelow, namedField}
+use Rattle.argument.specs.NameLaws.{named-none, named-more, named-stop}
+use Rattle.argument.proofs.names.named_field.Statement.{statement}
+use Rattle.argument.proofs.names.named_field.Tie as tie
 
 abbrev Inv-loop : tie.InvT-loop
 Inv-loop table name fields j₀ j = (j ≤ fields) × (namedBelow table name j ≡ 0)
@@ -20,6 +20,11 @@ Inv-loop table name fields j₀ j = (j ≤ fields) × (namedBelow table name j �
 abbrev μ-loop : tie.MeasureT-loop
 μ-loop table name fields j₀ j = fields - j
 
+-- the start of the function, from the loop
+abbrev start : tie.At-loop Inv-loop μ-loop → tie.Start Inv-loop μ-loop
+start c = c .before .before .before
+
+-- a good table has at most 128 fields
 few : (b : List ℕ) {fields : ℕ} → (tableRefusal b ≡ 0) × (fields ≡ fieldCount b) → fields ≤ 128
 few b good = omega (arith, good .1, layout b (good .0) .header .few)
 
@@ -28,22 +33,21 @@ loop-holds c = (omega arith, named-none _ _)
 
 has-name-requires : tie.Need-has-name-requires Inv-loop μ-loop
 has-name-requires c κs =
-    let pre = c .before .before .before .before .pre in
+    let pre = start (c .before) .pre in
     descriptor-inside _ (layout _ (pre .0)) _ (omega (arith, pre .1))
 
 cast-result : tie.Need-cast-result Inv-loop μ-loop
-cast-result c = omega (arith, few _ (c .before .before .before .before .before .before .pre))
+cast-result c = omega (arith, few _ (start (c .before .before .before) .pre))
 
 add-result : tie.Need-add-result Inv-loop μ-loop
-add-result c = omega (arith, few _ (c .before .before .before .before .before .before .pre))
+add-result c = omega (arith, few _ (start (c .before .before .before) .pre))
 
 returns : tie.Need-returns Inv-loop μ-loop
 unfolding namedField
 returns c =
     let at-loop = c .before .before .before in
-    let start = at-loop .before .before .before in
     let has = sym (c .before .has-name .ensures) ∙ c .if1 .taken in
-    add-one _ ∙ sym (named-stop _ _ (at-loop .loop .j) _ (omega (arith, start .pre .1)) (at-loop .loop .inv .1) has)
+    add-one _ ∙ sym (named-stop _ _ (at-loop .loop .j) _ (omega (arith, start at-loop .pre .1)) (at-loop .loop .inv .1) has)
 
 add-j : tie.Need-add-j Inv-loop μ-loop
 add-j c = search needs
@@ -61,8 +65,8 @@ returns-2 : tie.Need-returns-2 Inv-loop μ-loop
 unfolding namedField
 returns-2 c =
     let at-loop = c .before in
-    let start = at-loop .before .before .before in
-    let end : at-loop .loop .j ≡ fieldCount (start .args .table .now) = omega (arith, start .pre .1) in
+    let from = start at-loop in
+    let end : at-loop .loop .j ≡ fieldCount (from .args .table .now) = omega (arith, from .pre .1) in
     sym (rw end at (at-loop .loop .inv .1))
 
 pub named-field-spec : {M : Type 1} → statement M

@@ -1,10 +1,10 @@
--- `inspection::names::byte_or_zero` meets its contract: past the end `byteAt` is 0. Assumes nothing.
+-- `argument::names::byte_or_zero` meets its contract: past the end `byteAt` is 0. Assumes nothing.
 use mathlib.Core.Path.{sym}
 use native.Mathlib.Omega.{arith}
 use borrow.Author.Needs.{needs}
 use lib.ListN.{List·getD-eq-default}
-use Rattle.inspection.proofs.names.byte_or_zero.Statement.{statement}
-use Rattle.inspection.proofs.names.byte_or_zero.Tie as tie
+use Rattle.argument.proofs.names.byte_or_zero.Statement.{statement}
+use Rattle.argument.proofs.names.byte_or_zero.Tie as tie
 
 shared-slice-read-result : tie.Need-shared-slice-read-result
 shared-slice-read-result c = search needs

@@ -1,4 +1,0 @@
-pub mod Arguments
-pub mod ArgumentLaws
-pub mod Names
-pub mod NameLaws
