@@ -10,7 +10,7 @@ use Rattle.book.specs.Book.{Calls, answerTo, bufferAfter, answersTo, Pairs, lea
 use Rattle.page.specs.Header.{keyLength}
 use Rattle.lookup.specs.Lookup.{lookupRule, answerPages}
 use Rattle.sound.specs.Sound.{Sound}
-use Rattle.insert.specs.Calls.{Inserted}
+use Rattle.insert.specs.Calls.{AfterCall}
 use Rattle.insert.specs.Fresh.{freshRule}
 use Rattle.insert.specs.declared.Insertion.the-variants.{Accepted, Refused}
 use Rattle.batch.specs.Encoding.{callsIn}
@@ -87,7 +87,7 @@ abbrev pub started : List ℕ → List ℕ → Batch → Started
 started b out r = record { after = b; answers = out; batch = r }
 
 -- fresh, and then the calls if fresh is accepted; else nothing is touched
-abbrev pub afterFresh : Inserted → List ℕ → List ℕ → Started
+abbrev pub afterFresh : AfterCall → List ℕ → List ℕ → Started
 afterFresh f s out =
     elim (f .answer) [
       | Accepted ↦ let r = runRule (f .after) s out in started (r .after) (r .answers) (record { fresh = 0; made = r .made })

@@ -22,7 +22,7 @@ use Rattle.book.specs.BookLaws.{demand-3, demand-3-sound}
 use Rattle.page.specs.Header.{minBytes, keyLength, keyLengthGood}
 use Rattle.lookup.specs.Lookup.{lookupRule, answerPages}
 use Rattle.lookup.specs.declared.Answer.{Answer as Looked}
-use Rattle.insert.specs.Calls.{Inserted, left, insertionCode, insertRule}
+use Rattle.insert.specs.Calls.{AfterCall, afterCall, insertionCode, insertRule}
 use Rattle.insert.specs.Fresh.{expressionGood, freshRule}
 use Rattle.insert.specs.CallLaws.{fresh-27, fresh-24, fresh-30, fresh-made}
 use Rattle.insert.specs.declared.Insertion.{Insertion}
@@ -41,11 +41,11 @@ module _ (b s : List ℕ) (at : ℕ) {n kind : ℕ} {r : Reply} (size : n ≡ le
   lookup-made z e q = rw (lookup-there s at (sym known ∙ z)) (refl, q ∙ rw (e, key-part s at size))
 
   pub insertion-made : {a : Insertion} {after : List ℕ} {number : ℕ} → (kind ≡ 0 → ⊥) → number ≡ le32 s (at + 3 + n)
-      → insertRule b (take (at + 3 + n - (at + 3)) (drop (at + 3) s)) number ≡ left after a → r ≡ replyOf (insertionAnswer a) 0
+      → insertRule b (take (at + 3 + n - (at + 3)) (drop (at + 3) s)) number ≡ afterCall after a → r ≡ replyOf (insertionAnswer a) 0
       → (after ≡ bufferAfter (callAt s at) b) × (r ≡ replyTo (callAt s at) b)
   insertion-made {a} {after} {number} z f e q =
-      let g : insertRule b (keyIn s at) (le32 s (keyEnd s at)) ≡ left after a = rw (f, key-part s at size, size) at e in
-      rw (insertion-there s at (λ y. z (known ∙ y))) (sym (ap (λ (i : Inserted). i .after) g), q ∙ rw (g))
+      let g : insertRule b (keyIn s at) (le32 s (keyEnd s at)) ≡ afterCall after a = rw (f, key-part s at size, size) at e in
+      rw (insertion-there s at (λ y. z (known ∙ y))) (sym (ap (λ (i : AfterCall). i .after) g), q ∙ rw (g))
 
 -- a turn is taken if there is a whole call, and room of n bytes for its answer
 pub turn-taken : (s : List ℕ) (at n : ℕ) {r : Bool} → r ≡ isCall s at && leb answerSize n → r ≡ true → (isCall s at ≡ true) × (answerSize ≤ n)
@@ -127,26 +127,26 @@ module _ (b₀ s out₀ b out : List ℕ) (at m : ℕ) (g : Going b₀ s out₀ 
 
 -- a batch by fresh's answer
 module _ (b : List ℕ) (k : ℕ) (e s out : List ℕ) {b′ : List ℕ} where
-  pub batch-made : {b″ out′ : List ℕ} {n : ℕ} → freshRule b k e ≡ left b′ Accepted → runRule b′ s out ≡ leaves b″ out′ n
+  pub batch-made : {b″ out′ : List ℕ} {n : ℕ} → freshRule b k e ≡ afterCall b′ Accepted → runRule b′ s out ≡ leaves b″ out′ n
       → batchRule b k e s out ≡ started b″ out′ (record { fresh = 0; made = n })
   unfolding batchRule
   batch-made f r = rw (f, r)
 
-  pub batch-refused : {n : ℕ} → freshRule b k e ≡ left b′ (Refused n) → batchRule b k e s out ≡ started b′ out (record { fresh = n; made = 0 })
+  pub batch-refused : {n : ℕ} → freshRule b k e ≡ afterCall b′ (Refused n) → batchRule b k e s out ≡ started b′ out (record { fresh = n; made = 0 })
   unfolding batchRule
   batch-refused f = rw (f)
 
 -- a refusal of fresh does not have the number 0
-pub refused-number : (b : List ℕ) (k : ℕ) (e : List ℕ) {b′ : List ℕ} {n : ℕ} → freshRule b k e ≡ left b′ (Refused n) → n ≡ 0 → ⊥
+pub refused-number : (b : List ℕ) (k : ℕ) (e : List ℕ) {b′ : List ℕ} {n : ℕ} → freshRule b k e ≡ afterCall b′ (Refused n) → n ≡ 0 → ⊥
 refused-number b k e {b′} {n} f z =
-    let zero : (x : ℕ) → freshRule b k e ≡ left b (Refused x) → x ≡ 0 = λ x g.
-    ap (λ (i : Inserted). insertionCode (i .answer)) (sym g ∙ f) ∙ z in
+    let zero : (x : ℕ) → freshRule b k e ≡ afterCall b (Refused x) → x ≡ 0 = λ x g.
+    ap (λ (i : AfterCall). insertionCode (i .answer)) (sym g ∙ f) ∙ z in
     either (keyLengthGood k)
     (λ key. either (expressionGood e)
     (λ good. either (leb minBytes (length b))
     (λ room.
     let made = fresh-made b k e key good (leb-true minBytes (length b) room) refl in
-    let same : _≡_ {A = Insertion} Accepted (Refused n) = ap (λ (i : Inserted). i .answer) (sym made ∙ f) in
+    let same : _≡_ {A = Insertion} Accepted (Refused n) = ap (λ (i : AfterCall). i .answer) (sym made ∙ f) in
     impossible (cc))
     (λ room. omega (arith, zero 30 (fresh-30 b k e key good (leb-false minBytes (length b) room)))))
     (λ bad. omega (arith, zero 24 (fresh-24 b k e key bad))))
@@ -182,10 +182,10 @@ sound-run-kept b s out ob os r sound =
 -- Theorem: demand 3 of a batch
 pub batch-kept : (b : List ℕ) (k : ℕ) (e s out : List ℕ) {b′ b″ out′ : List ℕ} {n : ℕ} → ((i : ℕ) → getD b i 0 < 256)
     → ((i : ℕ) → getD s i 0 < 256)
-    → freshRule b k e ≡ left b′ Accepted → runRule b′ s out ≡ leaves b″ out′ n → BatchKept b k e s out b″ out′ n
+    → freshRule b k e ≡ afterCall b′ Accepted → runRule b′ s out ≡ leaves b″ out′ n → BatchKept b k e s out b″ out′ n
 batch-kept b k e s out {b′} ob os f r =
-    let a : freshRule b k e .answer ≡ Accepted = ap (λ (i : Inserted). i .answer) f in
-    let q : freshRule b k e .after ≡ b′ = ap (λ (i : Inserted). i .after) f in
+    let a : freshRule b k e .answer ≡ Accepted = ap (λ (i : AfterCall). i .answer) f in
+    let q : freshRule b k e .after ≡ b′ = ap (λ (i : AfterCall). i .after) f in
     record {
       fresh = a;
       run = run-kept k [] (freshRule b k e .after) s out (rw (← q) at r) (demand-3 b k e (all-octets b ob) a (madeCalls s out) (made-small s out os));

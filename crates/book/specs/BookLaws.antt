@@ -18,7 +18,7 @@ use Rattle.page.specs.KeyOrder.{bytesOrder}
 use Rattle.page.specs.Page.{capacity}
 use Rattle.layout.specs.WriteLaws.{capacity-least}
 use Rattle.sound.specs.Sound.{Sound}
-use Rattle.insert.specs.Calls.{Inserted, left}
+use Rattle.insert.specs.Calls.{AfterCall, afterCall}
 use Rattle.insert.specs.Fresh.{expressionGood, freshBuffer, freshRule}
 use Rattle.insert.specs.declared.Insertion.{Insertion}
 use Rattle.insert.specs.declared.Insertion.the-variants.{Accepted, Refused}
@@ -97,11 +97,11 @@ pub demand-3-sound : (b : List ℕ) → All (λ x. x < 256) b → (s : Sound b) 
 demand-3-sound b octets s calls o = sound-kept b (octets-plain b octets) s calls o
 
 -- what fresh leaves and answers, by its three tests
-fresh-tests : List ℕ → List ℕ → Bool → Bool → Bool → Inserted
+fresh-tests : List ℕ → List ℕ → Bool → Bool → Bool → AfterCall
 fresh-tests b b″ key expression room =
     elim key [
-      | false ↦ left b (Refused 27)
-      | true ↦ elim expression [ false ↦ left b (Refused 24) | true ↦ elim room [ false ↦ left b (Refused 30) | true ↦ left b″ Accepted ] ]
+      | false ↦ afterCall b (Refused 27)
+      | true ↦ elim expression [ false ↦ afterCall b (Refused 24) | true ↦ elim room [ false ↦ afterCall b (Refused 30) | true ↦ afterCall b″ Accepted ] ]
     ]
 
 -- it is accepted only if all three hold

@@ -29,7 +29,7 @@ use Rattle.sound.specs.Accepted.{accepted as audit-accepts}
 use Rattle.sound.specs.Sound.{indexTree, Sound}
 use Rattle.sound.specs.Rule.{pagesGood, unmarked}
 use Rattle.sound.specs.IndexLaws.{indexOf, settingOf, sound-index}
-use Rattle.insert.specs.Calls.{Inserted, left, isFound, insertRule}
+use Rattle.insert.specs.Calls.{AfterCall, afterCall, isFound, insertRule}
 use Rattle.insert.specs.Insertion.{insertedBuffer}
 use Rattle.insert.specs.Room.{pathFrom, noRoom}
 use Rattle.insert.specs.declared.Insertion.the-variants.{Accepted, Refused}
@@ -65,19 +65,19 @@ abbrev pub keeping : ℕ → ℕ → Setting (List ℕ)
 keeping k size = settingOf k (min size maxBytes)
 
 -- insertion's refusals, "24, 27, 28, 25 .., 29 .., 30", by their tests; b″ is the buffer after an accepted insertion
-refusals : List ℕ → List ℕ → Bool → Bool → Bool → Bool → Bool → Bool → Inserted
+refusals : List ℕ → List ℕ → Bool → Bool → Bool → Bool → Bool → Bool → AfterCall
 refusals b b″ good fit zero audit there full =
     elim good [
-      | false ↦ left b (Refused 24)
+      | false ↦ afterCall b (Refused 24)
       | true ↦ elim fit [
-        | false ↦ left b (Refused 27)
+        | false ↦ afterCall b (Refused 27)
         | true ↦ elim zero [
-          | true ↦ left b (Refused 28)
+          | true ↦ afterCall b (Refused 28)
           | false ↦ elim audit [
-            | false ↦ left b (Refused 25)
+            | false ↦ afterCall b (Refused 25)
             | true ↦ elim there [
-              | true ↦ left b (Refused 29)
-              | false ↦ elim full [ true ↦ left b (Refused 30) | false ↦ left b″ Accepted ]
+              | true ↦ afterCall b (Refused 29)
+              | false ↦ elim full [ true ↦ afterCall b (Refused 30) | false ↦ afterCall b″ Accepted ]
             ]
           ]
         ]

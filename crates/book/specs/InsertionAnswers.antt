@@ -23,7 +23,7 @@ use Rattle.lookup_laws.specs.FoundLaws.{lookup-list}
 use Rattle.sound.specs.Sound.{Sound}
 use Rattle.sound.specs.Rule.{pagesGood, unmarked}
 use Rattle.sound.specs.Accepted.{accepted as audit-accepts}
-use Rattle.insert.specs.Calls.{Inserted, insertionCode, isFound, insertRule}
+use Rattle.insert.specs.Calls.{AfterCall, insertionCode, isFound, insertRule}
 use Rattle.insert.specs.CallLaws as calls
 use Rattle.insert.specs.Room.{noRoom}
 use Rattle.insert.specs.declared.Insertion.{Insertion}
@@ -165,35 +165,35 @@ module _ (b key : List ℕ) (r : ℕ) where
 
   -- in each case the rule gives its answer
   is-24 : BadHeader b → answer ≡ Refused 24
-  is-24 c = ap (λ (i : Inserted). i .answer) (calls.refused-24 b key r (c .header))
+  is-24 c = ap (λ (i : AfterCall). i .answer) (calls.refused-24 b key r (c .header))
 
   is-27 : WrongLength b key → answer ≡ Refused 27
-  is-27 c = ap (λ (i : Inserted). i .answer) (calls.refused-27 b key r (c .header) (c .other))
+  is-27 c = ap (λ (i : AfterCall). i .answer) (calls.refused-27 b key r (c .header) (c .other))
 
   is-28 : NoNumber b key r → answer ≡ Refused 28
-  is-28 c = ap (λ (i : Inserted). i .answer) (calls.refused-28 b key r (c .header) (c .fits) (c .zero))
+  is-28 c = ap (λ (i : AfterCall). i .answer) (calls.refused-28 b key r (c .header) (c .fits) (c .zero))
 
   is-25 : Unsound b key r → answer ≡ Refused 25
   is-25 c =
       let a = c .asked in
-      ap (λ (i : Inserted). i .answer) (calls.refused-25 b key r (a .header) (a .fits) (not-zero (a .number)) (pages-bad (a .header) (c .unsound)))
+      ap (λ (i : AfterCall). i .answer) (calls.refused-25 b key r (a .header) (a .fits) (not-zero (a .number)) (pages-bad (a .header) (c .unsound)))
 
   is-29 : Present b key r → answer ≡ Refused 29
   is-29 c =
       let a = c .asked in
-      ap (λ (i : Inserted). i .answer)
+      ap (λ (i : AfterCall). i .answer)
       (calls.refused-29 b key r (a .header) (a .fits) (not-zero (a .number)) (pages-good (c .sound)) (found-exactly b key (c .sound) (a .fits) .1 (c .there)))
 
   is-30 : Full b key r → answer ≡ Refused 30
   is-30 c =
       let a = c .new .asked in
-      ap (λ (i : Inserted). i .answer)
+      ap (λ (i : AfterCall). i .answer)
       (calls.refused-30 b key r (a .header) (a .fits) (not-zero (a .number)) (pages-good (c .new .sound)) (not-found (c .new)) (c .full))
 
   is-accepted : Fitting b key r → answer ≡ Accepted
   is-accepted c =
       let a = c .new .asked in
-      ap (λ (i : Inserted). i .answer)
+      ap (λ (i : AfterCall). i .answer)
       (calls.accepted-pair b key r (a .header) (a .fits) (not-zero (a .number)) (pages-good (c .new .sound)) (not-found (c .new)) (c .room) refl)
 
   -- the case by the answer's code; an accepted insertion has 0

@@ -7,7 +7,7 @@ use lib.IntN.{ℤ}
 use Rattle.calendar.specs.declared.Date.{Date}
 use Rattle.calendar.specs.declared.DateAnswer.{DateAnswer}
 use Rattle.calendar.specs.declared.DateAnswer.the-variants as date
-use Rattle.numeral.specs.Writing.{Left, left}
+use Rattle.numeral.specs.Writing.{AfterWrite, afterWrite}
 use Rattle.numeral.specs.declared.Number.{Number}
 use Rattle.numeral.specs.declared.Number.the-variants as number
 use Rattle.numeral.specs.declared.Writing.{Writing}
@@ -39,7 +39,7 @@ shape-small b s e =
     record { fields = omega (arith, shape .fields, table .header .few); length = omega (arith, shape .length, table .small) }
 
 -- the buffer and the answer of a write, by the case of the answer
-pub writing-told : (wrote : Left) (after : List ℕ) (r answer : Writing) → wrote ≡ left after r → r ≡ answer
+pub writing-told : (wrote : AfterWrite) (after : List ℕ) (r answer : Writing) → wrote ≡ afterWrite after r → r ≡ answer
     → writingOut wrote ≡ out (writingCode answer) after
 writing-told wrote after r answer e is = rw (e, is)
 

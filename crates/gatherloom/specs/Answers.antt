@@ -7,7 +7,7 @@ use lib.IntN.{ℤ}
 use Rattle.calendar.specs.declared.Date.{Date}
 use Rattle.calendar.specs.declared.DateAnswer.{DateAnswer}
 use Rattle.calendar.specs.declared.DateAnswer.the-variants as date
-use Rattle.numeral.specs.Writing.{Left}
+use Rattle.numeral.specs.Writing.{AfterWrite}
 use Rattle.numeral.specs.declared.Number.{Number}
 use Rattle.numeral.specs.declared.Number.the-variants as number
 use Rattle.numeral.specs.declared.Writing.{Writing}
@@ -21,7 +21,7 @@ use Rattle.cell.specs.declared.TextPlace.{TextPlace}
 use Rattle.cell.specs.declared.TextPlace.the-variants as text
 use Rattle.lookup.specs.Lookup.{lookupCode, answerRecord, answerPages}
 use Rattle.lookup.specs.declared.Answer.{Answer}
-use Rattle.insert.specs.Calls.{Inserted, insertionCode}
+use Rattle.insert.specs.Calls.{AfterCall, insertionCode}
 
 -- the number that a host compares before its first call; every change of a call's form raises it
 abbrev pub interfaceNumber : ℕ
@@ -116,7 +116,7 @@ abbrev pub writingCode : Writing → ℕ
 writingCode writing.Written = 0
 writingCode (writing.Refused n) = n
 
-abbrev pub writingOut : Left → Out (List ℕ)
+abbrev pub writingOut : AfterWrite → Out (List ℕ)
 writingOut left = out (writingCode (left .answer)) (left .after)
 
 -- ---- the index
@@ -134,5 +134,5 @@ unfoldable pub lookupOut : Answer → Found → Out Found
 lookupOut answer old = out (lookupCode answer) (found (answerRecord answer (old .number)) (answerPages answer (old .pages)))
 
 -- the buffer after fresh and after an insertion is the rule's
-abbrev pub insertionOut : Inserted → Out (List ℕ)
+abbrev pub insertionOut : AfterCall → Out (List ℕ)
 insertionOut left = out (insertionCode (left .answer)) (left .after)

@@ -19,7 +19,7 @@ use Rattle.lookup.specs.Lookup.{lookupRule}
 use Rattle.layout.specs.Layout.{headerBytes, newPage}
 use Rattle.insert.specs.Insertion.{insertedBuffer}
 use Rattle.insert.specs.Room.{noRoom}
-use Rattle.insert.specs.Calls.{left, isFound, insertRule}
+use Rattle.insert.specs.Calls.{afterCall, isFound, insertRule}
 use Rattle.insert.specs.Fresh.{printable, maxExpression, expressionGood, freshHeader, freshBuffer, freshRule}
 use Rattle.insert.specs.declared.Insertion.the-variants.{Accepted, Refused}
 
@@ -33,37 +33,37 @@ module _ (b : List ℕ) {r : ℕ} (h : headerGood b ≡ true) (a : Audited b r) 
 
 -- insertion, refusal by refusal in its order
 module _ (b key : List ℕ) (r : ℕ) where
-  pub refused-24 : headerGood b ≡ false → insertRule b key r ≡ left b (Refused 24)
+  pub refused-24 : headerGood b ≡ false → insertRule b key r ≡ afterCall b (Refused 24)
   unfolding insertRule
   refused-24 e = rw (e, insertRule)
 
   module _ (header : headerGood b ≡ true) where
-    pub refused-27 : (length key ≡ keyLength b → ⊥) → insertRule b key r ≡ left b (Refused 27)
+    pub refused-27 : (length key ≡ keyLength b → ⊥) → insertRule b key r ≡ afterCall b (Refused 27)
     unfolding insertRule
     refused-27 s = rw (header, ne-eqb (length key) (keyLength b) s, insertRule)
 
     module _ (same : length key ≡ keyLength b) where
-      pub refused-28 : r ≡ 0 → insertRule b key r ≡ left b (Refused 28)
+      pub refused-28 : r ≡ 0 → insertRule b key r ≡ afterCall b (Refused 28)
       unfolding insertRule
       refused-28 z = rw (header, eq-eqb (length key) (keyLength b) same, eq-eqb r 0 z, insertRule)
 
       module _ (some : r ≡ 0 → ⊥) where
-        pub refused-25 : pagesGood b unmarked ≡ false → insertRule b key r ≡ left b (Refused 25)
+        pub refused-25 : pagesGood b unmarked ≡ false → insertRule b key r ≡ afterCall b (Refused 25)
         unfolding insertRule
         refused-25 e = rw (header, eq-eqb (length key) (keyLength b) same, ne-eqb r 0 some, e, insertRule)
 
         module _ (sound : pagesGood b unmarked ≡ true) where
-          pub refused-29 : isFound (lookupRule b key) ≡ true → insertRule b key r ≡ left b (Refused 29)
+          pub refused-29 : isFound (lookupRule b key) ≡ true → insertRule b key r ≡ afterCall b (Refused 29)
           unfolding insertRule
           refused-29 e = rw (header, eq-eqb (length key) (keyLength b) same, ne-eqb r 0 some, sound, e, insertRule)
 
           module _ (absent : isFound (lookupRule b key) ≡ false) where
-            pub refused-30 : noRoom (keyLength b) b key ≡ true → insertRule b key r ≡ left b (Refused 30)
+            pub refused-30 : noRoom (keyLength b) b key ≡ true → insertRule b key r ≡ afterCall b (Refused 30)
             unfolding insertRule
             refused-30 e = rw (header, eq-eqb (length key) (keyLength b) same, ne-eqb r 0 some, sound, absent, e, insertRule)
 
             pub accepted-pair : {out : List ℕ} → noRoom (keyLength b) b key ≡ false → out ≡ insertedBuffer (keyLength b) b key r
-                → insertRule b key r ≡ left out Accepted
+                → insertRule b key r ≡ afterCall out Accepted
             unfolding insertRule
             accepted-pair e q = rw (header, eq-eqb (length key) (keyLength b) same, ne-eqb r 0 some, sound, absent, e, insertRule, q)
 
@@ -100,21 +100,21 @@ fresh-stored b e xs k z e1 e2 = e2 ∙ rw (e1, z)
 
 -- fresh, refusal by refusal in its order
 module _ (b : List ℕ) (k : ℕ) (e : List ℕ) where
-  pub fresh-27 : keyLengthGood k ≡ false → freshRule b k e ≡ left b (Refused 27)
+  pub fresh-27 : keyLengthGood k ≡ false → freshRule b k e ≡ afterCall b (Refused 27)
   unfolding freshRule
   fresh-27 t = rw (t, freshRule)
 
   module _ (key : keyLengthGood k ≡ true) where
-    pub fresh-24 : expressionGood e ≡ false → freshRule b k e ≡ left b (Refused 24)
+    pub fresh-24 : expressionGood e ≡ false → freshRule b k e ≡ afterCall b (Refused 24)
     unfolding freshRule
     fresh-24 t = rw (key, t, freshRule)
 
     module _ (good : expressionGood e ≡ true) where
-      pub fresh-30 : length b < minBytes → freshRule b k e ≡ left b (Refused 30)
+      pub fresh-30 : length b < minBytes → freshRule b k e ≡ afterCall b (Refused 30)
       unfolding freshRule
       fresh-30 h = rw (key, good, lt-leb minBytes (length b) h, freshRule)
 
-      pub fresh-made : {out : List ℕ} → minBytes ≤ length b → out ≡ freshBuffer k e b → freshRule b k e ≡ left out Accepted
+      pub fresh-made : {out : List ℕ} → minBytes ≤ length b → out ≡ freshBuffer k e b → freshRule b k e ≡ afterCall out Accepted
       unfolding freshRule
       fresh-made h q = rw (key, good, le-leb minBytes (length b) h, freshRule, q)
 

@@ -15,12 +15,12 @@ use Rattle.insert.specs.declared.Insertion.{Insertion}
 use Rattle.insert.specs.declared.Insertion.the-variants.{Accepted, Refused}
 
 -- a buffer after a call, and the answer
-pub record Inserted : Type 0 where
+pub record AfterCall : Type 0 where
   pub after : List ℕ
   pub answer : Insertion
 
-abbrev pub left : List ℕ → Insertion → Inserted
-left b a = record { after = b; answer = a }
+abbrev pub afterCall : List ℕ → Insertion → AfterCall
+afterCall b a = record { after = b; answer = a }
 
 -- an answer's number: 0 if the call is accepted, or the refusal's
 abbrev pub insertionCode : Insertion → ℕ
@@ -34,21 +34,21 @@ isFound (looked.Absent pages) = false
 isFound (looked.Refused n) = false
 
 -- what insertion leaves and answers: a refusal leaves the buffer as it was
-unfoldable pub insertRule : List ℕ → List ℕ → ℕ → Inserted
+unfoldable pub insertRule : List ℕ → List ℕ → ℕ → AfterCall
 insertRule b key number =
     elim (headerGood b) [
-      | false ↦ left b (Refused 24)
+      | false ↦ afterCall b (Refused 24)
       | true ↦ elim (eqb (length key) (keyLength b)) [
-        | false ↦ left b (Refused 27)
+        | false ↦ afterCall b (Refused 27)
         | true ↦ elim (eqb number 0) [
-          | true ↦ left b (Refused 28)
+          | true ↦ afterCall b (Refused 28)
           | false ↦ elim (pagesGood b unmarked) [
-            | false ↦ left b (Refused 25)
+            | false ↦ afterCall b (Refused 25)
             | true ↦ elim (isFound (lookupRule b key)) [
-              | true ↦ left b (Refused 29)
+              | true ↦ afterCall b (Refused 29)
               | false ↦ elim (noRoom (keyLength b) b key) [
-                | true ↦ left b (Refused 30)
-                | false ↦ left (insertedBuffer (keyLength b) b key number) Accepted
+                | true ↦ afterCall b (Refused 30)
+                | false ↦ afterCall (insertedBuffer (keyLength b) b key number) Accepted
               ]
             ]
           ]

@@ -7,7 +7,7 @@ use lib.Dec.{leb}
 use Rattle.octets.specs.Store.{put}
 use Rattle.page.specs.Header.{minBytes, pageSize, noPage, keyLengthGood}
 use Rattle.layout.specs.Layout.{headerBytes, newPage}
-use Rattle.insert.specs.Calls.{Inserted, left}
+use Rattle.insert.specs.Calls.{AfterCall, afterCall}
 use Rattle.insert.specs.declared.Insertion.the-variants.{Accepted, Refused}
 
 -- "bytes 0x20-0x7E"
@@ -32,15 +32,15 @@ unfoldable pub freshBuffer : ℕ → List ℕ → List ℕ → List ℕ
 freshBuffer k e b = newPage (put b 0 (freshHeader k e)) pageSize 3 noPage noPage []
 
 -- what fresh leaves and answers: "27, 24, 30", 27 for "k not 1 to 100", 30 for a buffer below 1,024
-unfoldable pub freshRule : List ℕ → ℕ → List ℕ → Inserted
+unfoldable pub freshRule : List ℕ → ℕ → List ℕ → AfterCall
 freshRule b k e =
     elim (keyLengthGood k) [
-      | false ↦ left b (Refused 27)
+      | false ↦ afterCall b (Refused 27)
       | true ↦ elim (expressionGood e) [
-        | false ↦ left b (Refused 24)
+        | false ↦ afterCall b (Refused 24)
         | true ↦ elim (leb minBytes (length b)) [
-          | false ↦ left b (Refused 30)
-          | true ↦ left (freshBuffer k e b) Accepted
+          | false ↦ afterCall b (Refused 30)
+          | true ↦ afterCall (freshBuffer k e b) Accepted
         ]
       ]
     ]

@@ -18,7 +18,7 @@ ghost use Rattle.layout.specs.Given.{Over};
 ghost use Rattle.insert.specs.Insertion.{split, step, takeIn, afterChild, insertUnder, atRoot, insertedBuffer};
 ghost use Rattle.insert.specs.Answers.{outcomeOf, NextFits, maxGrown, visitOf};
 ghost use Rattle.insert.specs.Room.{onTop, pathFrom, rootSplit, noRoom};
-ghost use Rattle.insert.specs.Calls.{left, isFound, insertRule};
+ghost use Rattle.insert.specs.Calls.{afterCall, isFound, insertRule};
 ghost use Rattle.insert.specs.Fresh.{printable, maxExpression, expressionGood, freshBuffer, freshRule};
 
 // The longest key expression.
@@ -305,7 +305,7 @@ fn is_found(answer: lookup::Answer) -> bool
 
 // Inserts `key` with its record number, `number`.
 pub fn insert(index: &mut [u8], key: &[u8], number: RecordNumber) -> Insertion
-    ensures { λ r. ⌜ insertRule (now (index .entry)) (now (key .entry)) (number .0) ≡ left (now (index .exit)) r ⌝ }
+    ensures { λ r. ⌜ insertRule (now (index .entry)) (now (key .entry)) (number .0) ≡ afterCall (now (index .exit)) r ⌝ }
 {
     if !page::header_good(index) {
         return Insertion::Refused(refusal::INDEX_HEADER);
@@ -373,7 +373,7 @@ fn write_fresh(index: &mut [u8], k: u32, expression: &[u8])
 
 // Writes a fresh index with keys of `k` bytes.
 pub fn fresh(index: &mut [u8], k: u32, expression: &[u8]) -> Insertion
-    ensures { λ r. ⌜ freshRule (now (index .entry)) k (now (expression .entry)) ≡ left (now (index .exit)) r ⌝ }
+    ensures { λ r. ⌜ freshRule (now (index .entry)) k (now (expression .entry)) ≡ afterCall (now (index .exit)) r ⌝ }
 {
     let good_key = page::key_length_good(k as usize);
     let good_expression = expression_good(expression);

@@ -175,7 +175,8 @@ module _ (k h : ℕ) (b key : List ℕ) (r : ℕ) (ready : Ready k h b key r) wh
 
   -- the theory's insertion into the pages is its insertion into the tree
   seen : readGrown g ≡ grownBy k h b key r
-  seen = insert-read bytesOrder (capacity k) (newOffset (fileSize b)) (λ i j e. omega arith) key r h (rootOffset b) (entriesIn k b) (ready .once) (ready .unused)
+  seen =
+      insert-read bytesOrder (capacity k) (newOffset (fileSize b)) (λ i j e. omega arith) key r h (rootOffset b) (entriesIn k b) (ready .once) (ready .unused)
 
   room-store : (j : ℕ) → j < g .2 → Usable b (newOffset (fileSize b) j)
   room-store j l = ready .room j (subst (λ (x : Grown (List ℕ)). j < x .2) seen l)
@@ -288,7 +289,8 @@ module _ (k h : ℕ) (b key : List ℕ) (r : ℕ) (ready : Ready k h b key r) wh
   linksAfter = relinked bytesOrder noPage (newOffset (fileSize b)) (capacity k) key h (treeIn k b h) (grownBy k h b key r) (linksOf b)
 
   relinked-kept : (x : Grown (List ℕ)) → x .0 ≡ h
-      → relinked bytesOrder noPage (newOffset (fileSize b)) (capacity k) key h (treeIn k b h) x (linksOf b) ≡ relink path (newOffset (fileSize b)) fullRun (linksOf b)
+      → relinked bytesOrder noPage (newOffset (fileSize b)) (capacity k) key h (treeIn k b h) x (linksOf b)
+      ≡ relink path (newOffset (fileSize b)) fullRun (linksOf b)
   relinked-kept x e = rw (eq-eqb (x .0) h e)
 
   relinked-split : (x : Grown (List ℕ)) (p : ℕ) → x .0 ≡ suc h → x .1 .0 ≡ p

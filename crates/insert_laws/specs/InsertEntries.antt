@@ -67,7 +67,8 @@ items-some k b p y ys e = nonEmpty-numbered (itemsIn k b p) (rw e tt)
 
 -- a leaf, in the theory's words
 among-leaf : (key : List ℕ) (r : ℕ) (S : Store (List ℕ)) (cap F : ℕ) (es : List (List ℕ × ℕ))
-    → storeInsertAmong bytesOrder key r zero (λ c. storeInsertUnder bytesOrder cap (newOffset F) key r zero c 0 S) es 0 S ≡ (insertPair bytesOrder key r es, 0, S)
+    → storeInsertAmong bytesOrder key r zero (λ c. storeInsertUnder bytesOrder cap (newOffset F) key r zero c 0 S) es 0 S
+    ≡ (insertPair bytesOrder key r es, 0, S)
 among-leaf key r S cap F [] = refl
 among-leaf key r S cap F (x ∷ xs) =
     ap (λ (l : List (List ℕ × ℕ)). (l, 0, S)) (insertPair-place key r (insertPair bytesOrder key r (choose bytesOrder key x xs ∷ [])) 0 0 x xs refl)

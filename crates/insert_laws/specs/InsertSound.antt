@@ -272,7 +272,8 @@ module _ (b key : List ℕ) (r : ℕ) (accepts : Accepts b key r) where
         root = λ z o. rw (at z (new-page z o), e1) (in-pages z o
             (λ f. either (eqb z (rootOffset b))
             (λ q. let v : z ≡ rootOffset b = eqb-true z (rootOffset b) q in
-            rw (unrooted-same path (newOffset F) (attributeAt b) splits z (λ j l. (old-new z f j, (λ u. root-high j l (omega arith) (sym v ∙ u))))) (old-root z f))
+            rw (unrooted-same path (newOffset F) (attributeAt b) splits z (λ j l. (old-new z f j, (λ u. root-high j l (omega arith) (sym v ∙ u)))))
+            (old-root z f))
             (λ q. rw q (root-none path (newOffset F) (attributeAt b) splits z (old-root z f ∙ q))))
             (λ j l v. rw (v, ne-eqb (newOffset F j) (rootOffset b) (λ u. old-new (rootOffset b) root-old j (sym u)))
             (root-new path (newOffset F) (attributeAt b) splits j (omega arith))));
@@ -286,7 +287,8 @@ module _ (b key : List ℕ) (r : ℕ) (accepts : Accepts b key r) where
   path-top = rw (eq-eqb h h refl)
 
   bits-rise : x .0 ≡ suc h → x .1 .0 ≡ newOffset F (suc h) → splits ≡ suc h
-      → ((z : ℕ) → isPage (length b) z ≡ true → attributeAt b″ z ≡ cond (eqb z (newOffset F (suc h))) 1 (unrooted path (newOffset F) (suc h) (attributeAt b) z)) → Bits
+      → ((z : ℕ) → isPage (length b) z ≡ true
+      → attributeAt b″ z ≡ cond (eqb z (newOffset F (suc h))) 1 (unrooted path (newOffset F) (suc h) (attributeAt b) z)) → Bits
   bits-rise e0 e1 er at-top =
       let N : ℕ = newOffset F (suc h) in
       let n2 : x .2 ≡ suc splits = rw (eq-eqb splits (suc h) er) at need in

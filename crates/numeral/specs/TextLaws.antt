@@ -17,7 +17,7 @@ use Rattle.numeral.specs.Format.{maxDecimals, maxDigits, formatGood, com
 use Rattle.numeral.specs.Reading.{some, after, front, hasMinus, withoutMinus, wholeGood, fractionGood, wholePart, fraction, withoutPoint, digits}
 use Rattle.numeral.specs.Reading.{textGood, signed, valueOf, digitCount, readNumber}
 use Rattle.numeral.specs.ReadingLaws.{format-decimals, count-number}
-use Rattle.numeral.specs.Writing.{fractionText, signText, numberText, written, Fits, left, writeNumber}
+use Rattle.numeral.specs.Writing.{fractionText, signText, numberText, written, Fits, afterWrite, writeNumber}
 use Rattle.numeral.specs.DigitLaws.{decimal-good, number-written, digits-back}
 use Rattle.numeral.specs.WritingLaws.{length-number, length-written, fits-length, written-exactly}
 use Rattle.numeral.specs.declared.Number.{Number}
@@ -365,11 +365,11 @@ value-fits s d v h =
     record { format = a .0; small = a .2; room = omega arith }
 
 -- what was written is read back
-pub read-back : (s t : List ℕ) (d : ℕ) (v : ℤ) → writeNumber s d v ≡ left t Written → readNumber t d ≡ Value v
+pub read-back : (s t : List ℕ) (d : ℕ) (v : ℤ) → writeNumber s d v ≡ afterWrite t Written → readNumber t d ≡ Value v
 read-back s t d v h =
     let w = written-exactly s t d v .0 h in
     rw (w .1) (some-text (length s) d v (w .0) .1)
 
 -- and what was read is what a write leaves, in any buffer of that width
-pub write-back : (s t : List ℕ) (d : ℕ) (v : ℤ) → length s ≡ length t → readNumber t d ≡ Value v → writeNumber s d v ≡ left t Written
+pub write-back : (s t : List ℕ) (d : ℕ) (v : ℤ) → length s ≡ length t → readNumber t d ≡ Value v → writeNumber s d v ≡ afterWrite t Written
 write-back s t d v l h = written-exactly s t d v .1 (rw l (value-fits t d v h), rw l (accepted t d v .0 h .1))

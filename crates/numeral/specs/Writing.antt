@@ -40,23 +40,23 @@ pub record Fits (width d : ℕ) (v : ℤ) : Type 0 where
   pub room : length (numberText d v) ≤ width
 
 -- a buffer after a write, and the answer
-pub record Left : Type 0 where
+pub record AfterWrite : Type 0 where
   pub after : List ℕ
   pub answer : Writing
 
-abbrev pub left : List ℕ → Writing → Left
-left s a = record { after = s; answer = a }
+abbrev pub afterWrite : List ℕ → Writing → AfterWrite
+afterWrite s a = record { after = s; answer = a }
 
 -- what a write of v into the buffer s leaves and answers: the length of s is the width, and a refusal leaves s as it was
-unfoldable pub writeNumber : List ℕ → ℕ → ℤ → Left
+unfoldable pub writeNumber : List ℕ → ℕ → ℤ → AfterWrite
 writeNumber s d v =
     elim (formatGood (length s) d) [
-      | false ↦ left s (Refused 6)
+      | false ↦ afterWrite s (Refused 6)
       | true ↦ elim (ltb (natAbs v) (10 ^ maxDigits)) [
-        | false ↦ left s (Refused 18)
+        | false ↦ afterWrite s (Refused 18)
         | true ↦ elim (leb (length (numberText d v)) (length s)) [
-          | false ↦ left s (Refused 19)
-          | true ↦ left (written (length s) d v) Written
+          | false ↦ afterWrite s (Refused 19)
+          | true ↦ afterWrite (written (length s) d v) Written
         ]
       ]
     ]

@@ -10,7 +10,7 @@ ghost use Rattle.octets.specs.Text.{isDigit, lastDigits, decimal};
 ghost use Rattle.numeral.specs.Format.{maxWidth, maxDecimals, maxDigits, formatGood};
 ghost use Rattle.numeral.specs.Reading.{readNumber, signed};
 ghost use Rattle.numeral.specs.Scan.{initial, amongBlanks, firstDigit, afterDigit, wholeEnd, afterOther, nextValue, step, settled, meaning};
-ghost use Rattle.numeral.specs.Writing.{fractionText, signText, left, writeNumber};
+ghost use Rattle.numeral.specs.Writing.{fractionText, signText, afterWrite, writeNumber};
 
 // The widest field, and the most decimals.
 const MAX_WIDTH: usize = 20;
@@ -309,7 +309,7 @@ fn put_fraction(text: &mut [u8], at: usize, places: usize, n: u64) -> u64
 
 // Writes the one text of a value, blanks on the left. The buffer's length is the field's width. A refusal leaves the buffer as it was.
 pub fn write_number(text: &mut [u8], decimals: u32, value: i64) -> Writing
-    ensures { λ r. ⌜ writeNumber (now (text .entry)) decimals value ≡ left (now (text .exit)) r ⌝ }
+    ensures { λ r. ⌜ writeNumber (now (text .entry)) decimals value ≡ afterWrite (now (text .exit)) r ⌝ }
 {
     let width = text.len();
     if !format_good(width, decimals) {

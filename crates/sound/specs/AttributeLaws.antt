@@ -6,7 +6,7 @@ use mathlib.Core.Bool.{Bool, true, false, _||_}
 use native.Mathlib.Omega.{arith}
 use lib.Dec.{eqb, leb}
 use borrow.Author.Tests.{ne-eqb, eqb-true, eqb-false, le-leb, leb-true, leb-false}
-use Rattle.basis.specs.Tests.{either, contra, both, join}
+use Rattle.basis.specs.Tests.{either, contra, both, join, or-left}
 use Rattle.tree.specs.Clauses.{least}
 use Rattle.page.specs.Page.{rootBit, leafBit, capacity, countGood}
 use Rattle.sound.specs.Rule.{attributeOf}
@@ -49,10 +49,6 @@ not-both h i l = either (eqb i 0)
 or-right : (x y : Bool) → y ≡ true → x || y ≡ true
 or-right true y e = refl
 or-right false y e = e
-
-or-left : (x y : Bool) → x || y ≡ true → y ≡ false → x ≡ true
-or-left true y h e = refl
-or-left false y h e = contra h e
 
 -- a count that is good by the attribute is good by the number of levels
 pub count-good : (k h i n : ℕ) → i ≤ h → least h ≤ n → n ≤ capacity k → countGood k (attributeAtLevel h i) n ≡ true
