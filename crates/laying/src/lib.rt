@@ -6,7 +6,7 @@ ghost use mathlib.Core.Path.{_≡_};
 ghost use lib.ListN.{length, take};
 ghost use Rattle.table.specs.Table.{maxFields, headerLength, hasMemo};
 ghost use Rattle.table.specs.TableLaws.{HeaderFits};
-ghost use Rattle.laying.specs.Laying.{noFields, withField, storableDate, countGood, kindFor, layOut, layTable, laid};
+ghost use Rattle.laying.specs.Laying.{noFields, withField, listedCount, storableDate, countGood, kindFor, layOut, layTable, laid};
 ghost use Rattle.laying.specs.LayingLaws.{Layable, Written};
 
 // The year of the date's first byte 0, and the last that the byte holds.
@@ -56,6 +56,17 @@ pub fn with_field(list: FieldList, j: usize, entry: FieldEntry) -> FieldList
     bytes[at + table::LENGTH_AT] = entry.length;
     bytes[at + table::DECIMALS_AT] = entry.decimals;
     FieldList { bytes }
+}
+
+// How many fields of a list of `given` are taken: no table has more than 128.
+pub fn listed_count(given: usize) -> usize
+    ensures { λ r. ⌜ r ≡ listedCount given ⌝ }
+{
+    if given < table::MAX_FIELDS {
+        given
+    } else {
+        table::MAX_FIELDS
+    }
 }
 
 // Whether the header can hold a date: a calendar date whose year less 1900 is a byte.
