@@ -29,6 +29,7 @@ ghost use Rattle.matching.specs.Match.{Matched};
 ghost use Rattle.append.specs.Append.{appendRule};
 ghost use Rattle.append.specs.UpdateDate.{setDateRule, dated};
 ghost use Rattle.append.specs.Extent.{extentRule};
+ghost use Rattle.laying.specs.Laying.{layOutRule, laid};
 ghost use Rattle.gatherloom.specs.Lent.{planOf, listing, walkedOf};
 ghost use Rattle.gatherloom.specs.Answers.{interfaceNumber, out, sizes, dayOf, part, found};
 ghost use Rattle.gatherloom.specs.Answers.{shapeOut, numberOut, dateOut, logicalOut, textOut, lookupOut, writingOut, insertionOut};
@@ -412,4 +413,26 @@ pub extern "C" fn gl_table_extent(table: &[u8], length: &mut u64) -> u32
     }
     *length = extent.length as u64;
     0
+}
+
+// Lays out an empty table with the fields that the host lists: 0, or the number of the refusal, which changes nothing.
+#[no_mangle]
+pub extern "C" fn gl_table_lay_out(
+    buffer: &mut [u8],
+    entries: &[FieldEntry],
+    year: u32,
+    month: u32,
+    day: u32,
+) -> u32
+    ensures { λ r. ⌜ layOutRule (now (buffer .entry)) (now (entries .entry)) year month day ≡ laid (now (buffer .exit)) r ⌝ }
+{
+    let given = entries.len();
+    let count = laying::listed_count(given);
+    let mut list = laying::no_fields();
+    let mut j: usize = 0;
+    while j < count {
+        list = laying::with_field(list, j, entries[j]);
+        j += 1;
+    }
+    laying::lay_out(buffer, list, given, year, month, day)
 }

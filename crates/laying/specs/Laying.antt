@@ -4,7 +4,7 @@ use Prim.Native.Nat.{ℕ, _+_, _*_, _-_}
 use mathlib.Core.List.{List, [], _∷_, _++_}
 use mathlib.Core.Bool.{Bool, cond, _&&_}
 use lib.ListN.{length, replicate}
-use lib.Dec.{eqb, leb}
+use lib.Dec.{eqb, leb, ltb}
 use Rattle.octets.specs.Bytes.{toLe16, toLe32}
 use Rattle.octets.specs.Store.{put}
 use Rattle.table.specs.Range.{anyBelow}
@@ -30,6 +30,10 @@ noFields = record { bytes = replicate 4096 0 }
 
 unfoldable pub withField : FieldList → ℕ → FieldEntry → FieldList
 withField list j e = record { bytes = put (list .bytes) (32 * j) (descriptorOf e) }
+
+-- how many fields of a list are taken: a longer list is refused by 4
+unfoldable pub listedCount : ℕ → ℕ
+listedCount given = cond (ltb given maxFields) given maxFields
 
 -- ---- the table's bytes, from the descriptors ds of f fields and a date
 

@@ -1,3 +1,4 @@
 pub mod Laying
 pub mod LayingLaws
 pub mod EmptyLaws
+pub mod CopyLaws

@@ -6,7 +6,7 @@ ghost use mathlib.Core.Path.{_≡_};
 ghost use lib.ListN.{length, take};
 ghost use Rattle.table.specs.Table.{maxFields, headerLength, hasMemo};
 ghost use Rattle.table.specs.TableLaws.{HeaderFits};
-ghost use Rattle.laying.specs.Laying.{noFields, withField, countGood, kindFor, layOut, layTable, laid};
+ghost use Rattle.laying.specs.Laying.{noFields, withField, listedCount, countGood, kindFor, layOut, layTable, laid};
 ghost use Rattle.laying.specs.LayingLaws.{Layable, Written};
 
 // Where the header holds its own length and the record's, and where it says no more.
@@ -51,6 +51,17 @@ pub fn with_field(list: FieldList, j: usize, entry: FieldEntry) -> FieldList
     bytes[at + table::LENGTH_AT] = entry.length;
     bytes[at + table::DECIMALS_AT] = entry.decimals;
     FieldList { bytes }
+}
+
+// How many fields of a list of `given` are taken: no table has more than 128.
+pub fn listed_count(given: usize) -> usize
+    ensures { λ r. ⌜ r ≡ listedCount given ⌝ }
+{
+    if given < table::MAX_FIELDS {
+        given
+    } else {
+        table::MAX_FIELDS
+    }
 }
 
 fn count_good(count: usize) -> bool
