@@ -125,6 +125,12 @@ uint32_t gl_walk(const uint8_t *table, size_t table_len, gl_position *position, 
    the second the file holds the old table, after it the new one. After a power loss, and before any other call, the host shortens the file to the length that
    gl_table_extent gives: with the first store alone, or a part of it, other calls refuse the file by 10. */
 
+/* Lays out a table of these fields and no records. 3 unless it is a date of the years 1900 to 2155, 4 unless there are 1 to 128 entries, 6, 7, 9, 30 if the
+   buffer has fewer than 34 + 32 * entry_count bytes. So many are written, the end mark last: that is the table, and the whole file. Later bytes are kept. The
+   kind of table follows from whether an M field is listed. */
+uint32_t gl_table_lay_out(uint8_t *buffer, size_t buffer_len, const gl_field_entry *entries, size_t entry_count,
+                          uint32_t year, uint32_t month, uint32_t day);
+
 /* Appends one record, given as its bytes: the deletion byte and each field's text. 10 if table_len is above buffer_len, 1 to 10, 9 if the record has another
    length than the table's, 15, then for each field's text in order 16 to 18 (N), 20 (D and L) or 21 (M: its form alone, the memo file is not looked at), with
    blanks accepted; 30 if the new end mark would lie past the buffer or past 16,777,216 bytes. 0 sets all four: the two stores, the record with the new end

@@ -14,8 +14,8 @@ other fields can be read, and `record.values()` has the Refusal itself in the fi
 A value is a `Decimal` with the field's decimals (N: `Decimal('2.150')`), a `datetime.date` (D), a bool (L) or bytes (C and M, as they lie in the file: no code
 page is guessed), and None if the field is empty. Records and fields are counted from 1, as the files' rules do.
 
-`append` and `set_date` write a table that lies in a bytearray. An append answers the two stores that the file is to get; after a power loss `extent` gives the
-length to shorten the file to, and that is the old table or the new one:
+`lay_out`, `append` and `set_date` write a table that lies in a bytearray. An append answers the two stores that the file is to get; after a power loss
+`extent` gives the length to shorten the file to, and that is the old table or the new one:
 
     for store in gatherloom.append(buffer, table_len, record):
         os.pwrite(file, buffer[store.place : store.place + store.length], store.place)
@@ -36,8 +36,8 @@ from decimal import Context, Decimal, Inexact, InvalidOperation
 from pathlib import Path
 from typing import NamedTuple, Optional
 
-__all__ = ['Field', 'Index', 'Lookup', 'MemoMissing', 'Record', 'Refusal', 'Store', 'Stores', 'Table', 'Walk', 'append', 'extent', 'read_number', 'set_date',
-           'write_number']
+__all__ = ['Field', 'Index', 'Lookup', 'MemoMissing', 'Record', 'Refusal', 'Store', 'Stores', 'Table', 'Walk', 'append', 'extent', 'lay_out', 'read_number',
+           'set_date', 'write_number']
 
 # ---- Refusals.
 
@@ -138,6 +138,7 @@ _CALLS = {
     'gl_table_shape': _BYTES + 3 * [_out(_NUMBER)],
     'gl_fields': _BYTES + [_out(_Entry), ctypes.c_size_t],
     'gl_walk': _BYTES + [_out(_Position), _out(_NUMBER)],
+    'gl_table_lay_out': _BYTES + [_out(_Entry), ctypes.c_size_t] + 3 * [_NUMBER],
     'gl_table_append': _BYTES + [ctypes.c_size_t] + _BYTES + 4 * [_out(ctypes.c_uint64)],
     'gl_table_set_date': _BYTES + [ctypes.c_size_t] + 3 * [_NUMBER],
     'gl_table_extent': _BYTES + [_out(ctypes.c_uint64)],
@@ -446,6 +447,32 @@ class Stores(NamedTuple):
     def table_len(self):
         """The table's length now, with its end mark."""
         return self.record.place + self.record.length
+
+
+def _entry(field):
+    """The entry of a Field. A name or type that the entry has no room for is left out of it, and so refused by 6."""
+    name, kind, length, decimals = field
+    for text, what in (name, 'name'), (kind, 'type'):
+        if not isinstance(text, str):
+            raise TypeError(f"a field's {what} is a str, not {type(text).__name__}")
+    entry = _Entry(length=_unsigned(length, 'field length', 8), decimals=_unsigned(decimals, 'decimal count', 8))
+    if name.isascii() and len(name) <= len(entry.name) and '\0' not in name:
+        entry.name[: len(name)] = name.encode('ascii')
+    if kind.isascii() and len(kind) == 1:
+        entry.kind = ord(kind)
+    return entry
+
+
+def lay_out(buffer, fields, date):
+    """Lays out a table of these Fields and no records in the first bytes of a bytearray, and gives its length; the bytes after it stay.
+
+    The date is a datetime.date. Refusals 3 if its year is not from 1900 to 2155, 4 unless there are 1 to 128 fields, 6 for a bad one, 7 if two have one name, 9
+    if a record would have more than 4,000 bytes, and 30. A refusal leaves the buffer as it was.
+    """
+    entries = [_entry(field) for field in fields]
+    lent = (_Entry * len(entries))(*entries)
+    _accepted(_library.gl_table_lay_out(*_lent(_buffer(buffer, 'a table is laid out')), lent, len(entries), *_day(date)))
+    return 34 + 32 * len(entries)
 
 
 def append(buffer, table_len, record):

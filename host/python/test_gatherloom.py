@@ -19,7 +19,7 @@ from pathlib import Path
 
 sys.path.insert(0, str(Path(__file__).resolve().parent))
 import gatherloom
-from gatherloom import Field, Index, Lookup, MemoMissing, Refusal, Store, Stores, Table, append, extent, read_number, set_date, write_number
+from gatherloom import Field, Index, Lookup, MemoMissing, Refusal, Store, Stores, Table, append, extent, lay_out, read_number, set_date, write_number
 
 ROOT = Path(__file__).resolve().parents[2]
 SAMPLES = ROOT / 'crates' / 'test_samples' / 'data'
@@ -276,9 +276,46 @@ class Writing(TestCase):
                 words = line.split()
                 if words[0] != 'lay_out':
                     self.check_call(buffer, words)
-                elif words[6] == '0':
-                    # the table as the call leaves it is the file that its room names
-                    buffer = bytearray((WRITING / words[4]).read_bytes().ljust(int(words[4]), b'\xee'))
+                else:
+                    buffer = self.check_lay_out(words) or buffer
+
+    def check_lay_out(self, words):
+        """The buffer after an accepted call: the table is then the file that its room names."""
+        *day, room = map(int, words[1:5])
+        parts = [] if words[5] == '-' else [word.split(':') for word in words[5].split(',')]
+        fields = [Field(name, kind, int(length), int(decimals)) for name, kind, length, decimals in parts]
+        buffer = bytearray(room * b'\xee')
+        if day == [2023, 2, 29]:
+            self.assertRaises(ValueError, datetime.date, *day)
+        elif words[6] != '0':
+            self.refused(int(words[6]), lay_out, buffer, fields, datetime.date(*day))
+            self.assertEqual(buffer, room * b'\xee')
+        else:
+            table_len = lay_out(buffer, fields, datetime.date(*day))
+            self.assertEqual(table_len, extent(buffer) + 1)
+            self.assertEqual(buffer, (WRITING / words[4]).read_bytes().ljust(room, b'\xee'))
+            self.assertEqual(Table(buffer[:table_len]).fields, tuple(fields))
+            return buffer
+        return None
+
+    def test_fields_that_no_entry_holds(self):
+        today = datetime.date(2026, 11, 16)
+        buffer = bytearray(1000)
+        for name in '', 'ABCDEFGHIJK', 'ABCDEFGHIJKL', 'A\0', 'ABCDEFGHIJ\0K', '\xc9':
+            self.refused(6, lay_out, buffer, [Field(name, 'L', 1, 0)], today)
+        for kind in '', 'LL', '\u0141', '\0':
+            self.refused(6, lay_out, buffer, [Field('A', kind, 1, 0)], today)
+        for length, decimals in (256, 0), (-1, 0), (8, 256):
+            self.assertRaises(OverflowError, lay_out, buffer, [Field('A', 'N', length, decimals)], today)
+        for field in Field(b'A', 'L', 1, 0), Field('A', b'L', 1, 0), Field('A', 76, 1, 0), Field('A', 'L', 1.0, 0):
+            self.assertRaises(TypeError, lay_out, buffer, [field], today)
+        self.assertRaises(TypeError, lay_out, bytes(1000), PLAIN, today)
+        self.assertRaises(TypeError, lay_out, buffer, PLAIN, (2024, 2, 29))
+        self.assertEqual(buffer, bytes(1000))
+        # the fields of one table lay out another
+        table_len = lay_out(buffer, sample('xbase_f5').fields, today)
+        self.assertEqual(Table(buffer[:table_len]).fields, MEMO)
+        self.assertEqual(buffer[0], 0xF5)
 
     def check_call(self, buffer, words):
         before, table_len = bytes(buffer), extent(buffer) + 1

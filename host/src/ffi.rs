@@ -48,6 +48,15 @@ extern "C" {
         position: *mut Position,
         record: *mut u32,
     ) -> u32;
+    pub fn gl_table_lay_out(
+        buffer: *mut u8,
+        buffer_len: usize,
+        entries: *const FieldEntry,
+        entry_count: usize,
+        year: u32,
+        month: u32,
+        day: u32,
+    ) -> u32;
     pub fn gl_table_append(
         buffer: *mut u8,
         buffer_len: usize,

@@ -11,8 +11,8 @@
 //! assert_eq!(Refusal::Comma.to_string(), "16 (comma in a number)");
 //! ```
 //!
-//! [`Table`] reads a table and its memo file, and appends to a table; [`Index`] makes, audits, searches and extends an index. Both lie over bytes that the
-//! caller holds. [`ffi`] has the C interface itself.
+//! [`Table`] reads a table and its memo file, and lays out and extends a table; [`Index`] makes, audits, searches and extends an index. Both lie over bytes
+//! that the caller holds. [`ffi`] has the C interface itself.
 pub mod ffi;
 mod index;
 mod number;

@@ -1,7 +1,7 @@
 //! Writing a table, which lies in the first bytes of a buffer.
 use crate::ffi;
 use crate::refusal::{accepted, compare_interface, Answer};
-use crate::table::{Date, Table};
+use crate::table::{Date, Field, Table};
 use std::ops::Range;
 
 /// Bytes that a call has written into the buffer, and that the file is still to get.
@@ -40,6 +40,41 @@ impl Stores {
 }
 
 impl Table<'_> {
+    /// Lays out a table of these fields and no records in the buffer's first bytes, the end mark last, and gives its length; later bytes stay. Fields of
+    /// another table will do: their numbers are not looked at. 3 unless it is a date of the years 1900 to 2155, 4 unless there are 1 to 128 fields, 6 for a
+    /// bad one, 7 if two have one name, 9 if a record would have more than 4,000 bytes, 30 if the buffer is too short.
+    ///
+    /// ```
+    /// use gatherloom::{Date, Field, Refusal, Table};
+    ///
+    /// let fields = [Field::new("BARCODE", b'C', 10, 0), Field::new("CONC", b'N', 8, 3)];
+    /// let date = Date { year: 2024, month: 2, day: 29 };
+    /// let mut buffer = vec![0; 1000];
+    /// let empty = Table::lay_out(&mut buffer, &fields, date)?;
+    /// let stores = Table::append(&mut buffer, empty, b" PLT0000001   2.150")?;
+    /// let comma = Table::append(&mut buffer, stores.table_len(), b" PLT0000002   2,150");
+    /// assert_eq!(comma, Err(Refusal::Comma));
+    /// let table = Table::new(&buffer[..stores.table_len()])?;
+    /// assert_eq!(table.decimal(1, 2)?.unwrap().units(), 2150);
+    /// # Ok::<(), Refusal>(())
+    /// ```
+    pub fn lay_out(buffer: &mut [u8], fields: &[Field], date: Date) -> Answer<usize> {
+        compare_interface();
+        let entries: Vec<ffi::FieldEntry> = fields.iter().map(Field::entry).collect();
+        let answer = unsafe {
+            ffi::gl_table_lay_out(
+                buffer.as_mut_ptr(),
+                buffer.len(),
+                entries.as_ptr(),
+                entries.len(),
+                date.year,
+                date.month,
+                date.day,
+            )
+        };
+        accepted(answer, 34 + 32 * entries.len())
+    }
+
     /// Appends one record, given as its bytes, to the table in the buffer's first `table_len` bytes. 10 if there are fewer, 1 to 10, 9 if the record has
     /// another length than the table's, 15, then each field's text in order by 16 to 18, 20 or 21, 30 if the table would be longer than the buffer or
     /// than 16,777,216 bytes.

@@ -1042,20 +1042,87 @@ static void image_line(const lent *t, const char *rest)
     give_back(&want);
 }
 
-/* `lay_out YEAR MONTH DAY ROOM FIELDS ANSWER`: an accepted one's table is the file that ROOM names, in a buffer of bytes 0xEE. */
+/* NAME:TYPE:LENGTH:DECIMALS,.. as entries; `-` is none. Gives how many. */
+static size_t field_entries(const char *word, gl_field_entry *to)
+{
+    size_t n = 0;
+    if (strcmp(word, "-") == 0)
+        return 0;
+    for (; word != NULL; word = strchr(word, ',')) {
+        char name[16], kind;
+        unsigned length, decimals;
+        word += *word == ',';
+        SAME(sscanf(word, "%15[^:]:%c:%u:%u", name, &kind, &length, &decimals), 4);
+        memset(&to[n], 0, sizeof *to);
+        memcpy(to[n].name, name, strlen(name) < 11 ? strlen(name) : 11);
+        to[n].kind = (uint8_t)kind;
+        to[n].length = (uint8_t)length;
+        to[n].decimals = (uint8_t)decimals;
+        n++;
+    }
+    return n;
+}
+
+static uint32_t lay_out(const lent *t, const gl_field_entry *entries, size_t n, const uint32_t date[3])
+{
+    lent list = lend(entries, n * sizeof *entries);
+    uint32_t answer = gl_table_lay_out(t->bytes, t->len, (const gl_field_entry *)list.bytes, n, date[0], date[1], date[2]);
+    UNCHANGED(list);
+    MARGINS(list);
+    MARGINS(*t);
+    give_back(&list);
+    return answer;
+}
+
+/* `lay_out YEAR MONTH DAY ROOM FIELDS ANSWER`, on a buffer of bytes 0xEE: an accepted one's table is the file that ROOM names. */
 static void lay_out_line(lent *t, const char *line)
 {
-    char name[16];
-    size_t len = strlen(line);
-    if (strcmp(line + len - 2, " 0") != 0)
+    static char word[4096], name[16];
+    static gl_field_entry entries[GL_FIELDS_MAX];
+    uint32_t date[3] = {0, 0, 0}, answer = 0;
+    sscanf(line, "lay_out %" SCNu32 " %" SCNu32 " %" SCNu32 " %15s %4095s %" SCNu32, &date[0], &date[1], &date[2], name, word, &answer);
+    lent buffer = lend(NULL, strtoul(name, NULL, 10));
+    memset(buffer.bytes, 0xEE, buffer.len);
+    keep(&buffer);
+    SAME(lay_out(&buffer, entries, field_entries(word, entries), date), answer);
+    if (answer != 0) {
+        UNCHANGED(buffer);
+        give_back(&buffer);
         return;
-    sscanf(line, "lay_out %*s %*s %*s %15s", name);
+    }
     lent laid = load("crates/test_writing/data", name);
-    give_back(t);
-    *t = lend(NULL, strtoul(name, NULL, 10));
-    memset(t->bytes, 0xEE, t->len);
-    memcpy(t->bytes, laid.bytes, laid.len);
+    memcpy(buffer.copy, laid.bytes, laid.len);
+    UNCHANGED(buffer);
     give_back(&laid);
+    give_back(t);
+    *t = buffer;
+}
+
+/* The most fields and one more, the longest record and one byte more, and a buffer of just the table's length and one byte less. */
+static void test_lay_out_limits(void)
+{
+    static const uint32_t date[3] = {2155, 12, 31}, late[3] = {2156, 1, 1};
+    gl_field_entry entries[GL_FIELDS_MAX + 1];
+    memset(entries, 0, sizeof entries);
+    for (size_t i = 0; i <= GL_FIELDS_MAX; i++) {
+        entries[i].name[0] = 'A', entries[i].name[1] = (uint8_t)('A' + i / 16), entries[i].name[2] = (uint8_t)('A' + i % 16);
+        entries[i].kind = 'C', entries[i].length = i < 31 ? 32 : 31;
+    }
+    entries[0].length = 33; /* with 32 the record has 1 + 31 * 32 + 97 * 31 = 4,000 bytes */
+    lent t = lend(NULL, 34 + 32 * GL_FIELDS_MAX);
+    SAME(lay_out(&t, entries, GL_FIELDS_MAX + 1, date), 4);
+    SAME(lay_out(&t, entries, GL_FIELDS_MAX, late), 3);
+    SAME(gl_table_lay_out(t.bytes, t.len - 1, entries, GL_FIELDS_MAX, date[0], date[1], date[2]), 9);
+    entries[0].length = 32;
+    SAME(gl_table_lay_out(t.bytes, t.len - 1, entries, GL_FIELDS_MAX, date[0], date[1], date[2]), 30);
+    UNCHANGED(t);
+    SAME(lay_out(&t, entries, GL_FIELDS_MAX, date), 0);
+    uint32_t records = OLD, fields = 0, length = 0;
+    SAME(gl_table_shape(t.bytes, t.len, &records, &fields, &length), 0);
+    SAME(records, 0);
+    SAME(fields, GL_FIELDS_MAX);
+    SAME(length, GL_RECORD_LENGTH_MAX);
+    give_back(&t);
 }
 
 static void write_line(lent *t, const char *line)
@@ -1252,6 +1319,7 @@ int main(int argc, char **argv)
     test_calls("k100_deep", 65536);
     test_calls("k100_full", 4096);
     test_writing();
+    test_lay_out_limits();
     test_longest_table();
     test_set_date();
     test_match();

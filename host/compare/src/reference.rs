@@ -370,6 +370,54 @@ pub fn append(buffer: &mut [u8], length: usize, record: &[u8]) -> Result<[Store;
     Ok([(place as u64, record.len() as u64 + 1), (4, 4)])
 }
 
+/// An update date's bytes in the header, or 3.
+fn date_bytes(year: u32, month: u32, day: u32) -> Result<[u8; 3], Refusal> {
+    if !(1900..=2155).contains(&year) || !is_date(year, month, day) {
+        return Err(3);
+    }
+    Ok([(year - 1900) as u8, month as u8, day as u8])
+}
+
+/// Lays out a table of no records: 3, 4 for the number of fields, 6, 7, 9, 30.
+pub fn lay_out(
+    buffer: &mut [u8],
+    fields: &[Field],
+    (year, month, day): (u32, u32, u32),
+) -> Result<(), Refusal> {
+    let date = date_bytes(year, month, day)?;
+    if fields.is_empty() || fields.len() > 128 {
+        return Err(4);
+    }
+    let header = 33 + 32 * fields.len();
+    let mut t = vec![0; header + 1];
+    for (d, field) in t[32..].chunks_exact_mut(32).zip(fields) {
+        d[..11].copy_from_slice(&field.name);
+        d[11] = field.kind;
+        d[16] = field.length;
+        d[17] = field.decimals;
+    }
+    if !t[32..].chunks_exact(32).all(descriptor_good) {
+        return Err(6);
+    }
+    if !names_differ(&t, fields.len()) {
+        return Err(7);
+    }
+    let record = 1 + fields.iter().map(|f| f.length as u32).sum::<u32>();
+    if record > 4000 {
+        return Err(9);
+    }
+    let made = buffer.get_mut(..=header).ok_or(30u32)?;
+    let memo = fields.iter().any(|f| f.kind == b'M');
+    t[0] = if memo { 0xF5 } else { 0x03 };
+    t[1..4].copy_from_slice(&date);
+    put_le16(&mut t, 8, header as u32);
+    put_le16(&mut t, 10, record);
+    t[header - 1] = 0x0D;
+    t[header] = 0x1A;
+    made.copy_from_slice(&t);
+    Ok(())
+}
+
 /// Sets the update date: append's checks of the table, then 3.
 pub fn set_date(
     buffer: &mut [u8],
@@ -377,10 +425,8 @@ pub fn set_date(
     (year, month, day): (u32, u32, u32),
 ) -> Result<(), Refusal> {
     check_held(buffer, length)?;
-    if !(1900..=2155).contains(&year) || !is_date(year, month, day) {
-        return Err(3);
-    }
-    buffer[1..4].copy_from_slice(&[(year - 1900) as u8, month as u8, day as u8]);
+    let bytes = date_bytes(year, month, day)?;
+    buffer[1..4].copy_from_slice(&bytes);
     Ok(())
 }
 

@@ -1,5 +1,5 @@
 //! Writing a table: another program's list of calls, both ways; and what a file holds wherever power fails in an append.
-use gatherloom::{Answer, Date, Refusal, Store, Stores, Table};
+use gatherloom::{Answer, Date, Field, Refusal, Store, Stores, Table};
 use gatherloom_compare::reference;
 use std::{fs, path::PathBuf};
 
@@ -12,12 +12,24 @@ type Appended = Result<[u64; 4], u32>;
 
 /// The calls that write, by number as the list has them.
 struct Calls {
+    lay_out: fn(&mut [u8], &[Field], [u32; 3]) -> u32,
     append: fn(&mut [u8], usize, &[u8]) -> Appended,
     set_date: fn(&mut [u8], usize, [u32; 3]) -> u32,
     extent: fn(&[u8]) -> Result<u64, u32>,
 }
 
 const LIBRARY: Calls = Calls {
+    lay_out: |buffer, fields, [year, month, day]| {
+        let date = Date { year, month, day };
+        let length = by_number(Table::lay_out(buffer, fields, date));
+        length.map_or_else(
+            |n| n,
+            |length| {
+                assert_eq!(Table::extent(buffer), Ok(length as u64 - 1));
+                0
+            },
+        )
+    },
     append: |buffer, table_len, record| {
         let stores = by_number(Table::append(buffer, table_len, record))?.in_order();
         Ok(numbers(stores.map(|s| (s.place, s.length))))
@@ -30,6 +42,20 @@ const LIBRARY: Calls = Calls {
 };
 
 const PLAIN: Calls = Calls {
+    lay_out: |buffer, fields, [year, month, day]| {
+        let entry = |f: &Field| {
+            let mut name = [0; 11];
+            name[..f.name().len()].copy_from_slice(f.name().as_bytes());
+            reference::Field {
+                name,
+                kind: f.kind,
+                length: f.length,
+                decimals: f.decimals,
+            }
+        };
+        let entries: Vec<reference::Field> = fields.iter().map(entry).collect();
+        reference::lay_out(buffer, &entries, (year, month, day)).map_or_else(|n| n, |()| 0)
+    },
     append: |buffer, table_len, record| Ok(numbers(reference::append(buffer, table_len, record)?)),
     set_date: |buffer, table_len, [year, month, day]| {
         let date = (year, month, day);
@@ -67,12 +93,31 @@ fn listed(words: &[&str]) -> Appended {
     }
 }
 
-/// A buffer of bytes 0xEE that begins with the table as an accepted `lay_out` leaves it: the file that its room names.
-fn laid_out(room: &str) -> Vec<u8> {
-    let table = fs::read(data().join(room)).unwrap();
-    let mut buffer = vec![0xEE; room.parse().unwrap()];
-    buffer[..table.len()].copy_from_slice(&table);
-    buffer
+fn fields(word: &str) -> Vec<Field> {
+    let field = |word: &str| {
+        let parts: Vec<&str> = word.split(':').collect();
+        let [length, decimals] = [parts[2], parts[3]].map(|n| n.parse().unwrap());
+        Field::new(parts[0], parts[1].as_bytes()[0], length, decimals)
+    };
+    match word {
+        "-" => Vec::new(),
+        _ => word.split(',').map(field).collect(),
+    }
+}
+
+/// Lays out a table in a buffer of bytes 0xEE, and gives the buffer if it is accepted: the table is then the file that its room names.
+fn laid_out(calls: &Calls, line: &str, words: &[&str]) -> Option<Vec<u8>> {
+    let mut buffer = vec![0xEE; words[4].parse().unwrap()];
+    let mut want = buffer.clone();
+    let date = [1, 2, 3].map(|i| number(words[i]));
+    let answer = (calls.lay_out)(&mut buffer, &fields(words[5]), date);
+    assert_eq!(answer, number(words[6]), "{line}");
+    if answer == 0 {
+        let table = fs::read(data().join(words[4])).unwrap();
+        want[..table.len()].copy_from_slice(&table);
+    }
+    assert_eq!(buffer, want, "{line}");
+    (answer == 0).then_some(buffer)
 }
 
 fn replay(calls: &Calls) {
@@ -81,9 +126,7 @@ fn replay(calls: &Calls) {
     for line in list.lines() {
         let words: Vec<&str> = line.split(' ').collect();
         if words[0] == "lay_out" {
-            if words[6] == "0" {
-                buffer = laid_out(words[4]);
-            }
+            buffer = laid_out(calls, line, &words).unwrap_or(buffer);
             continue;
         }
         let table_len = (calls.extent)(&buffer).unwrap() as usize + 1;
@@ -122,6 +165,38 @@ fn the_library_writes_as_the_other_program() {
 #[test]
 fn plain_rust_writes_as_the_other_program() {
     replay(&PLAIN);
+}
+
+/// A name that an entry has no room for, or with a zero in it, is not taken for another.
+#[test]
+fn a_name_is_laid_out_whole_or_not_at_all() {
+    let date = Date {
+        year: 2024,
+        month: 2,
+        day: 29,
+    };
+    let mut buffer = [0xEE; 66];
+    for name in [
+        "",
+        "ABCDEFGHIJK",
+        "ABCDEFGHIJKL",
+        "A\0",
+        "ABCDEFGHIJ\0",
+        "ABCDEFGHIJ\0K",
+        "É",
+    ] {
+        let got = Table::lay_out(&mut buffer, &[Field::new(name, b'L', 1, 0)], date);
+        assert_eq!(got, Err(Refusal::FieldDescriptor), "{name:?}");
+        assert_eq!(buffer, [0xEE; 66]);
+    }
+    let fields = [Field::new("ABCDEFGHIJ", b'L', 1, 0)];
+    assert_eq!(Table::lay_out(&mut buffer, &fields, date), Ok(66));
+    let table = Table::new(&buffer).unwrap();
+    assert_eq!(table.fields()[0].name(), "ABCDEFGHIJ");
+    // fields of a table lay out another
+    let mut other = [0; 66];
+    assert_eq!(Table::lay_out(&mut other, table.fields(), date), Ok(66));
+    assert_eq!(other, buffer);
 }
 
 /// A file's bytes with a store, or some of it, made.

@@ -165,6 +165,27 @@ fn columns_of(t: &[u8]) -> Vec<Column> {
     t[32..header - 1].chunks_exact(32).map(column).collect()
 }
 
+/// A list of fields as its entries' bytes: those of a table's descriptors, damaged now and then, or too few or too many.
+pub fn field_list(r: &mut Random) -> Vec<u8> {
+    let with_memo = r.one_in(4);
+    let mut columns = columns(r, with_memo);
+    match r.below(30) {
+        0 => columns.clear(),
+        1 => {
+            let one = column(r, b'L');
+            columns.resize(r.between(127, 130), one);
+        }
+        _ => (),
+    }
+    let shared = r.below(9);
+    let mut t = blank(&columns, 0x03, 0, shared);
+    if r.one_in(4) {
+        damage_descriptor(r, &mut t);
+    }
+    let entry = |d: &[u8]| [&d[..12], &d[16..18]].concat();
+    t[32..].chunks_exact(32).flat_map(entry).collect()
+}
+
 /// A text that is read for what it is.
 fn fill_good(r: &mut Random, c: Column, cell: &mut [u8]) {
     match c.kind {

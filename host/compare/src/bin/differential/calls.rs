@@ -115,6 +115,39 @@ pub fn walk(tally: &mut Tally, table: &Lent, passed: u32, held: u32) -> (u32, u3
     (due.0, after)
 }
 
+/// The list is lent as its bytes, `list`.
+pub fn lay_out(tally: &mut Tally, buffer: &Lent, list: &Lent, date: [u32; 3]) {
+    let count = list.length() / ENTRY;
+    let [year, month, day] = date;
+    let got = unsafe {
+        ffi::gl_table_lay_out(
+            buffer.place(),
+            buffer.length(),
+            list.place().cast(),
+            count,
+            year,
+            month,
+            day,
+        )
+    };
+    let entries: Vec<reference::Field> = list.was().chunks_exact(ENTRY).map(entry).collect();
+    let mut own = buffer.was().to_vec();
+    let due = number_of(reference::lay_out(&mut own, &entries, (year, month, day)));
+    tally.hold(
+        Call::TableLayOut,
+        (got, ()),
+        (due, ()),
+        buffer.holds(&own) && list.kept(),
+        &[
+            Bytes("buffer", buffer.was()),
+            Bytes("list", list.was()),
+            Number("year", year.into()),
+            Number("month", month.into()),
+            Number("day", day.into()),
+        ],
+    );
+}
+
 /// `own` holds what the lent buffer does, before and after; `before` is room for a copy.
 pub fn append(
     tally: &mut Tally,

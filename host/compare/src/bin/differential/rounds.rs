@@ -41,6 +41,9 @@ pub fn round(r: &mut Random, a: &mut Arenas, tally: &mut Tally) {
     for _ in 0..4 {
         a_table(r, a, tally);
     }
+    for _ in 0..8 {
+        a_laid_out_table(r, a, tally);
+    }
     for _ in 0..4 {
         a_written_table(r, a, tally);
     }
@@ -183,6 +186,21 @@ fn longest_files(r: &mut Random, a: &mut Arenas, tally: &mut Tally) {
 }
 
 // ---- writing a table
+
+/// A table laid out from a list of fields, in a buffer of about its length.
+fn a_laid_out_table(r: &mut Random, a: &mut Arenas, tally: &mut Tally) {
+    let list = table::field_list(r);
+    let table = 34 + 32 * (list.len() / 14);
+    let length = match r.below(6) {
+        0 => r.below(table + 1),
+        _ => table + r.pick(&[0, 0, 1, 500]) - r.below(2),
+    };
+    let before = r.bytes(length);
+    let date = update_date(r);
+    let buffer = a.table.lend(&before, r.one_in(2));
+    let list = a.list.lend(&list, r.one_in(2));
+    calls::lay_out(tally, &buffer, &list, date);
+}
 
 /// A buffer's length for a table: so that a record or a few have room, or just none.
 fn room_for(r: &mut Random, length: usize, record: usize) -> usize {
