@@ -14,11 +14,11 @@ use Rattle.basis.specs.Tests.{either}
 use Rattle.basis.specs.Lists.{all-append, all-left}
 use Rattle.octets.specs.Store.{put, window}
 use Rattle.octets.specs.StoreLaws.{put-none, put-append, window-same}
-use Rattle.table.specs.Table.{maxFields}
+use Rattle.table.specs.Table.{maxFields, storableDate}
 use Rattle.field.specs.Field.{noEntry}
 use Rattle.field.specs.declared.FieldEntry.{FieldEntry}
 use Rattle.laying.specs.declared.FieldList.{FieldList}
-use Rattle.laying.specs.Laying.{descriptorOf, descriptorsOf, noFields, withField, listedCount, storableDate, countGood, layOut, layOutRule}
+use Rattle.laying.specs.Laying.{descriptorOf, descriptorsOf, noFields, withField, listedCount, countGood, layOut, layOutRule}
 use Rattle.laying.specs.LayingLaws.{lay-3, lay-4}
 use Rattle.laying.specs.EmptyLaws.{Named, length-descriptors}
 
