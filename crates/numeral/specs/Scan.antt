@@ -17,59 +17,54 @@ use Rattle.numeral.specs.declared.Phase.the-variants as phase
 abbrev pub initial : ℕ → Reader
 initial d = record { decimals = d; phase = phase.Blank; negative = false; value = 0 }
 
--- only blanks were taken so far
-abbrev pub amongBlanks : Phase → Bool
-amongBlanks phase.Blank = true
-amongBlanks phase.Minus = false
-amongBlanks phase.Zero = false
-amongBlanks phase.Whole = false
-amongBlanks (phase.Fraction left) = false
-amongBlanks phase.Comma = false
-amongBlanks phase.Bad = false
+-- the phase after the character c, which makes the text refused
+abbrev pub refusedAt : ℕ → Phase
+refusedAt c = cond (eqb comma c) phase.Comma phase.Bad
 
 -- the phase after the first digit c of the whole part
 abbrev pub firstDigit : ℕ → Phase
 firstDigit c = cond (eqb c zeroDigit) phase.Zero phase.Whole
 
--- the phase after the digit c
-abbrev pub afterDigit : Phase → ℕ → Phase
-afterDigit phase.Blank c = firstDigit c
-afterDigit phase.Minus c = firstDigit c
-afterDigit phase.Zero c = phase.Bad
-afterDigit phase.Whole c = phase.Whole
-afterDigit (phase.Fraction left) c = cond (leb 1 left) (phase.Fraction (left - 1)) phase.Bad
-afterDigit phase.Comma c = phase.Comma
-afterDigit phase.Bad c = phase.Bad
-
 -- the phase after the character c behind the whole part, in a field of d decimals
 abbrev pub wholeEnd : ℕ → ℕ → Phase
-wholeEnd d c = cond (eqb c point && leb 1 d) (phase.Fraction d) phase.Bad
+wholeEnd d c = cond (eqb c point && leb 1 d) (phase.Fraction d) (refusedAt c)
 
--- the phase after the character c, which is neither a blank on the left nor a digit nor a comma
-abbrev pub onward : ℕ → Phase → ℕ → Phase
-onward d phase.Blank c = cond (eqb c minus) phase.Minus phase.Bad
-onward d phase.Minus c = phase.Bad
-onward d phase.Zero c = wholeEnd d c
-onward d phase.Whole c = wholeEnd d c
-onward d (phase.Fraction left) c = phase.Bad
-onward d phase.Comma c = phase.Comma
-onward d phase.Bad c = phase.Bad
-
--- the phase after the character c, which is neither a blank on the left nor a digit
-unfoldable pub afterOther : ℕ → Phase → ℕ → Phase
-afterOther d p c = cond (eqb comma c) phase.Comma (onward d p c)
+-- the phase after a digit behind the point, if `left` digits were to come
+abbrev pub nextPlace : ℕ → Phase
+nextPlace left = cond (leb 1 left) (phase.Fraction (left - 1)) phase.Bad
 
 -- the number n of the digits so far with the digit c behind them; a number of more than 18 digits stays, so that nothing overflows
 unfoldable pub nextValue : ℕ → ℕ → ℕ
 nextValue n c = cond (ltb n (10 ^ maxDigits)) (10 * n + (c - zeroDigit)) n
 
--- the state after the character c: a blank on the left leaves it as it is
+-- the state r in the phase p
+abbrev pub inPhase : Reader → Phase → Reader
+inPhase r p = record { decimals = r .decimals; phase = p; negative = r .negative; value = r .value }
+
+-- the state r after the character c: in the phase p with one digit more if c is a digit, otherwise in the phase q
+abbrev pub byDigit : Reader → ℕ → Phase → Phase → Reader
+byDigit r c p q =
+    cond (isDigit c) (record { decimals = r .decimals; phase = p; negative = r .negative; value = nextValue (r .value) c }) (inPhase r q)
+
+-- the state r after the character c, if only blanks were taken before it: a blank leaves it as it is
+abbrev pub afterBlanks : Reader → ℕ → Reader
+afterBlanks r c =
+    cond (eqb blank c) r
+    (cond (eqb c minus) (record { decimals = r .decimals; phase = phase.Minus; negative = true; value = r .value })
+    (byDigit r c (firstDigit c) (refusedAt c)))
+
+-- the state r, which stands in the phase p, after the character c
+abbrev pub stepIn : Phase → Reader → ℕ → Reader
+stepIn phase.Blank r c = afterBlanks r c
+stepIn phase.Minus r c = byDigit r c (firstDigit c) (refusedAt c)
+stepIn phase.Zero r c = inPhase r (wholeEnd (r .decimals) c)
+stepIn phase.Whole r c = byDigit r c phase.Whole (wholeEnd (r .decimals) c)
+stepIn (phase.Fraction left) r c = byDigit r c (nextPlace left) (refusedAt c)
+stepIn phase.Comma r c = r
+stepIn phase.Bad r c = inPhase r (refusedAt c)
+
 unfoldable pub step : Reader → ℕ → Reader
-step r c =
-    cond (amongBlanks (r .phase) && eqb c blank) r
-    (cond (isDigit c)
-    (record { decimals = r .decimals; phase = afterDigit (r .phase) c; negative = r .negative; value = nextValue (r .value) c })
-    (record { decimals = r .decimals; phase = afterOther (r .decimals) (r .phase) c; negative = r .negative || eqb c minus; value = r .value }))
+step r c = stepIn (r .phase) r c
 
 -- the state after the characters of a text
 unfoldable pub scan : Reader → List ℕ → Reader

@@ -1,15 +1,15 @@
 -- Laws: the reader's states end in what the text means (`scan-means`). Each law `..-means` says, by the rules of Reading.antt, what a text means whose
 -- rest s the reader has yet to take from a state. Assumes nothing.
 use Prim.Native.Nat.{ℕ, zero, suc, _+_, _*_, _-_, _^_, _≤_, _<_, min}
-use mathlib.Core.Path.{_≡_, refl, sym, _∙_}
-use mathlib.Core.Bool.{Bool, true, false, _&&_, _||_, not, and-false, or-false}
+use mathlib.Core.Path.{_≡_, refl, sym, ap, _∙_}
+use mathlib.Core.Bool.{Bool, true, false, _&&_, not, and-false}
 use mathlib.Core.List.{List, [], _∷_}
 use native.Mathlib.Numerals.{add-one}
 use native.Mathlib.Omega.{arith}
 use lib.Dec.{eqb, leb, ltb, eqb·suc-zero, eqb·zero-suc, eqb·suc-suc}
 use lib.ListN.{length, getD, drop, drop-of-length-le}
 use lib.Seq.{drop-cons}
-use borrow.Author.Tests.{ltb-true, ltb-false, eqb-true, eqb-false, le-leb, le-ltb, ne-eqb}
+use borrow.Author.Tests.{ltb-true, ltb-false, eqb-true, le-leb, le-ltb, ne-eqb}
 use Rattle.basis.specs.Tests.{either, contra, both}
 use Rattle.octets.specs.Text.{every, blank, unpadded, zeroDigit, isDigit, numberFrom, numberOf}
 use Rattle.octets.specs.TextLaws.{digit-range}
@@ -18,7 +18,7 @@ use Rattle.numeral.specs.Reading.{some, after, front, hasMinus, withoutM
 use Rattle.numeral.specs.Reading.{textGood, valueOf, digitCount, readNumber, signed}
 use Rattle.numeral.specs.ReadingLaws.{format-decimals, no-comma, front-more, front-ends, after-more, after-ends, every-front, none-whole, zero-whole}
 use Rattle.numeral.specs.ReadingLaws.{zero-needless, digits-whole, fraction-empty, fraction-point, count-number}
-use Rattle.numeral.specs.Scan.{initial, amongBlanks, afterDigit, wholeEnd, onward, afterOther, nextValue, step, scan, settled, meaning}
+use Rattle.numeral.specs.Scan.{initial, wholeEnd, nextPlace, nextValue, stepIn, step, scan, settled, meaning}
 use Rattle.numeral.specs.declared.Number.{Number}
 use Rattle.numeral.specs.declared.Number.the-variants as number
 use Rattle.numeral.specs.declared.Reader.{Reader}
@@ -44,132 +44,119 @@ agree-settled g n v m a = either (ltb v (10 ^ maxDigits))
     (λ p. let large = ltb-false v (10 ^ maxDigits) p in
     rw (ne-eqb v 0 (omega arith), ne-eqb m 0 (omega arith), p, le-ltb m (10 ^ maxDigits) (omega arith)))
 
--- a digit is no blank
-digit-no-blank : (p : Phase) (c : ℕ) → isDigit c ≡ true → amongBlanks p && eqb c blank ≡ false
-digit-no-blank p c e =
-    let range = digit-range c e in
-    rw (ne-eqb c blank (omega arith)) (and-false (amongBlanks p))
+-- the state after a character, by the phase
+pub step-in : {p : Phase} (r : Reader) (c : ℕ) → r .phase ≡ p → step r c ≡ stepIn p r c
+unfolding step
+step-in r c e = ap (λ q. stepIn q r c) e
 
--- the phase after a digit and after another character
-module _ (r : Reader) (c : ℕ) where
-  phase-digit : isDigit c ≡ true → step r c .phase ≡ afterDigit (r .phase) c
-  unfolding step
-  phase-digit e = rw (digit-no-blank (r .phase) c e, e)
-
-  phase-other : amongBlanks (r .phase) && eqb c blank ≡ false → isDigit c ≡ false → eqb comma c ≡ false → step r c .phase ≡ onward (r .decimals) (r .phase) c
-  unfolding step afterOther
-  phase-other e f g = rw (e, f, g)
-
-  phase-comma : eqb comma c ≡ true → step r c .phase ≡ phase.Comma
-  unfolding step afterOther
-  phase-comma e = let same : c ≡ comma = sym (eqb-true comma c e) in rw (same, and-false (amongBlanks (r .phase)))
+-- the state after the first character goes on with the others
+scan-to : {q : Reader} (r : Reader) (c : ℕ) (s : List ℕ) → step r c ≡ q → scan r (c ∷ s) ≡ scan q s
+unfolding scan
+scan-to r c s e = rw e
 
 -- a comma ends in 16, whatever comes before and after it
+comma-taken : (p : Phase) (r : Reader) → r .phase ≡ p → stepIn p r comma .phase ≡ phase.Comma
+comma-taken phase.Blank r e = refl
+comma-taken phase.Minus r e = refl
+comma-taken phase.Zero r e = refl
+comma-taken phase.Whole r e = refl
+comma-taken (phase.Fraction left) r e = refl
+comma-taken phase.Comma r e = e
+comma-taken phase.Bad r e = refl
+
 comma-stays : (s : List ℕ) (r : Reader) → r .phase ≡ phase.Comma → meaning (scan r s) ≡ number.Refused 16
-unfolding scan meaning
+unfolding scan step meaning
 comma-stays [] r e = rw e
-comma-stays (c ∷ s) r e = comma-stays s (step r c) (either (eqb comma c)
-    (λ f. phase-comma r c f)
-    (λ f. either (isDigit c) (λ g. phase-digit r c g ∙ rw e) (λ g. phase-other r c (rw e) g f ∙ rw e)))
+comma-stays (c ∷ s) r e = comma-stays s (step r c) (rw e)
 
 comma-means : (s : List ℕ) (r : Reader) → some (eqb comma) s ≡ true → meaning (scan r s) ≡ number.Refused 16
-unfolding scan some
+unfolding scan step some
 comma-means [] r e = contra e refl
 comma-means (c ∷ s) r e = either (eqb comma c)
-    (λ f. comma-stays s (step r c) (phase-comma r c f))
+    (λ f. let same : c ≡ comma = sym (eqb-true comma c f) in rw same (comma-stays s (step r comma) (comma-taken (r .phase) r refl)))
     (λ f. comma-means s (step r c) (rw f at e))
 
 -- without a comma, a bad text ends in 17
 bad-stays : (s : List ℕ) (r : Reader) → r .phase ≡ phase.Bad → some (eqb comma) s ≡ false → meaning (scan r s) ≡ number.Refused 17
-unfolding scan meaning
+unfolding scan step meaning
 bad-stays [] r e f = rw e
 bad-stays (c ∷ s) r e f =
     let clear = no-comma c s f in
-    bad-stays s (step r c) (either (isDigit c) (λ g. phase-digit r c g ∙ rw e) (λ g. phase-other r c (rw e) g (clear .0) ∙ rw e)) (clear .1)
+    bad-stays s (step r c) (rw (e, clear .0)) (clear .1)
 
 bad-means : (r : Reader) (c : ℕ) (s : List ℕ) (good n : Bool) (m : ℕ) → step r c .phase ≡ phase.Bad → some (eqb comma) s ≡ false → good ≡ false
     → meaning (scan r (c ∷ s)) ≡ settled good n m
 unfolding scan settled
 bad-means r c s good n m e f g = rw g (bad-stays s (step r c) e f)
 
+-- a digit is no point
+no-point : (c : ℕ) → isDigit c ≡ true → eqb c point ≡ false
+no-point c e = let range = digit-range c e in ne-eqb c point (omega arith)
+
 module _ (d : ℕ) where
   abbrev state : Phase → Bool → ℕ → Reader
   state p n v = record { decimals = d; phase = p; negative = n; value = v }
 
-  -- a digit leaves the sign, and another character leaves the value
-  scan-digit : (p q : Phase) (n : Bool) (v c : ℕ) (s : List ℕ) → isDigit c ≡ true → afterDigit p c ≡ q
-      → scan (state p n v) (c ∷ s) ≡ scan (state q n (nextValue v c)) s
-  unfolding scan step
-  scan-digit p q n v c s e f = rw (digit-no-blank p c e, e, f)
-
-  scan-other : (p q : Phase) (n : Bool) (v c : ℕ) (s : List ℕ) → amongBlanks p && eqb c blank ≡ false → isDigit c ≡ false → eqb comma c ≡ false
-      → onward d p c ≡ q
-      → scan (state p n v) (c ∷ s) ≡ scan (state q (n || eqb c minus) v) s
-  unfolding scan step afterOther
-  scan-other p q n v c s e f g h = rw (e, f, g, h)
-
   -- behind the point, with `left` digits to come
-  next-place : (left c : ℕ) → afterDigit (phase.Fraction (suc left)) c ≡ phase.Fraction left
-  next-place left c =
+  next-place : (left : ℕ) → nextPlace (suc left) ≡ phase.Fraction left
+  next-place left =
       let one : suc left - 1 ≡ left = omega arith in
       rw (le-leb 1 (suc left) (omega arith), one)
 
   fraction-means : (s : List ℕ) (left : ℕ) (n : Bool) (v m : ℕ) → Agree v m → some (eqb comma) s ≡ false
       → meaning (scan (state (phase.Fraction left) n v) s) ≡ settled (every isDigit s && eqb (length s) left) n (numberFrom m s)
-  unfolding scan meaning every numberFrom
+  unfolding scan step meaning every numberFrom
   fraction-means [] zero n v m a e = agree-settled true n v m a
   fraction-means [] (suc left) n v m a e = rw (eqb·suc-zero left, eqb·zero-suc left) (agree-settled false n v m a)
   fraction-means (c ∷ s) zero n v m a e =
       let clear = no-comma c s e in
       let here = state (phase.Fraction 0) n v in
-      let past : step here c .phase ≡ phase.Bad = either (isDigit c) (phase-digit here c) (λ f. phase-other here c refl f (clear .0)) in
+      let past : step here c .phase ≡ phase.Bad = either (isDigit c) (λ f. rw f) (λ f. rw (f, clear .0)) in
       bad-means here c s _ n _ past (clear .1) (rw (eqb·suc-zero (length s)) (and-false (every isDigit (c ∷ s))))
   fraction-means (c ∷ s) (suc left) n v m a e =
       let clear = no-comma c s e in
       let here = state (phase.Fraction (suc left)) n v in
       either (isDigit c)
-      (λ f. rw (scan-digit (phase.Fraction (suc left)) (phase.Fraction left) n v c s f (next-place left c), f, eqb·suc-suc (length s) left)
+      (λ f.
+      let next : step here c ≡ state (phase.Fraction left) n (nextValue v c) = rw (f, next-place left) in
+      rw (scan-to here c s next, f, eqb·suc-suc (length s) left)
       (fraction-means s left n (nextValue v c) (10 * m + (c - zeroDigit)) (agree-next v m c a) (clear .1)))
-      (λ f. bad-means here c s _ n _ (phase-other here c refl f (clear .0)) (clear .1) (rw f))
+      (λ f. bad-means here c s _ n _ (rw (f, clear .0)) (clear .1) (rw f))
 
   -- behind the whole part
-  point-means : (p : Phase) (n : Bool) (v m : ℕ) (s : List ℕ) → Agree v m → some (eqb comma) s ≡ false → onward d p point ≡ phase.Fraction d
-      → meaning (scan (state p n v) (point ∷ s)) ≡ settled (every isDigit s && eqb (length s) d) n (numberFrom m s)
-  point-means p n v m s a e f =
-      rw (scan-other p (phase.Fraction d) n v point s (and-false (amongBlanks p)) refl refl f, or-false n) (fraction-means s d n v m a e)
-
-  end-means : (p : Phase) (n : Bool) (v m c : ℕ) (s : List ℕ) → Agree v m → isDigit c ≡ false → some (eqb comma) (c ∷ s) ≡ false
-      → amongBlanks p ≡ false → onward d p c ≡ wholeEnd d c
+  end-means : (p : Phase) (n : Bool) (v m c : ℕ) (s : List ℕ) → Agree v m → some (eqb comma) (c ∷ s) ≡ false
+      → step (state p n v) c ≡ state (wholeEnd d c) n v
       → meaning (scan (state p n v) (c ∷ s)) ≡ settled (fractionGood d (c ∷ s)) n (numberFrom m s)
-  end-means p n v m c s a e f b g =
-      let clear = no-comma c s f in
-      let here = state p n v in
+  unfolding scan
+  end-means p n v m c s a e g =
+      let clear = no-comma c s e in
       either (eqb c point && leb 1 d)
-      (λ h.
-      let dot : c ≡ point = eqb-true c point (both (eqb c point) (leb 1 d) h .0) in
-      rw (fraction-point d c s, h, dot) (point-means p n v m s a (clear .1) (rw (h, dot) at g)))
-      (λ h. bad-means here c s _ n _ (phase-other here c (rw b) e (clear .0) ∙ g ∙ rw h) (clear .1) (rw (fraction-point d c s, h)))
+      (λ h. rw (g, fraction-point d c s, h) (fraction-means s d n v m a (clear .1)))
+      (λ h. bad-means (state p n v) c s _ n _ (rw (g, h, clear .0)) (clear .1) (rw (fraction-point d c s, h)))
 
   -- among the digits of a whole part whose first is no zero
   whole-means : (s : List ℕ) (n : Bool) (v m : ℕ) → Agree v m → some (eqb comma) s ≡ false
       → meaning (scan (state phase.Whole n v) s) ≡ settled (fractionGood d (fraction s)) n (numberFrom m (digits s))
-  unfolding scan meaning after front fraction wholePart withoutPoint digits numberFrom
+  unfolding scan step meaning after front fraction wholePart withoutPoint digits numberFrom
   whole-means [] n v m a e = rw (fraction-empty d) (agree-settled (eqb d 0) n v m a)
   whole-means (c ∷ s) n v m a e = either (isDigit c)
-      (λ f. rw (scan-digit phase.Whole phase.Whole n v c s f refl, front-more isDigit c s f, after-more isDigit c s f)
+      (λ f.
+      let next : step (state phase.Whole n v) c ≡ state phase.Whole n (nextValue v c) = rw f in
+      rw (scan-to (state phase.Whole n v) c s next, front-more isDigit c s f, after-more isDigit c s f)
       (whole-means s n (nextValue v c) (10 * m + (c - zeroDigit)) (agree-next v m c a) (no-comma c s e .1)))
-      (λ f. rw (front-ends isDigit c s f, after-ends isDigit c s f) (end-means phase.Whole n v m c s a f e refl refl))
+      (λ f. rw (front-ends isDigit c s f, after-ends isDigit c s f) (end-means phase.Whole n v m c s a e (rw f)))
 
   -- after a zero, which is a whole part only by itself
   zero-means : (s : List ℕ) (n : Bool) → some (eqb comma) s ≡ false
       → meaning (scan (state phase.Zero n 0) s) ≡ settled (wholeGood (zeroDigit ∷ wholePart s) && fractionGood d (fraction s)) n (numberOf (digits s))
-  unfolding scan meaning after front fraction wholePart withoutPoint digits numberOf numberFrom
+  unfolding scan step meaning after front fraction wholePart withoutPoint digits numberOf numberFrom
   zero-means [] n e = rw (zero-whole, fraction-empty d)
   zero-means (c ∷ s) n e =
-      let here = state phase.Zero n 0 in
+      let clear = no-comma c s e in
       either (isDigit c)
-      (λ f. bad-means here c s _ n _ (phase-digit here c f) (no-comma c s e .1) (rw (front-more isDigit c s f, zero-needless c (front isDigit s))))
-      (λ f. rw (front-ends isDigit c s f, after-ends isDigit c s f, zero-whole) (end-means phase.Zero n 0 0 c s refl f e refl refl))
+      (λ f. bad-means (state phase.Zero n 0) c s _ n _ (rw (no-point c f, clear .0)) (clear .1)
+      (rw (front-more isDigit c s f, zero-needless c (front isDigit s))))
+      (λ f. rw (front-ends isDigit c s f, after-ends isDigit c s f, zero-whole) (end-means phase.Zero n 0 0 c s refl e refl))
 
   -- what a text means that begins with its whole part
   abbrev meant : Bool → List ℕ → Number
@@ -180,7 +167,7 @@ module _ (d : ℕ) where
   nothing-means n = refl
 
   unsigned-means : (s : List ℕ) (n : Bool) → some (eqb comma) s ≡ false → meaning (scan (state phase.Minus n 0) s) ≡ meant n s
-  unfolding scan meaning nextValue fraction wholePart digits numberOf numberFrom
+  unfolding scan step meaning nextValue fraction wholePart digits numberOf numberFrom
   unsigned-means [] n e = nothing-means n
   unsigned-means (c ∷ s) n e =
       let clear = no-comma c s e in
@@ -189,34 +176,25 @@ module _ (d : ℕ) where
       (λ f. rw (front-more isDigit c s f, after-more isDigit c s f) (either (eqb c zeroDigit)
       (λ g.
       let same : c ≡ zeroDigit = eqb-true c zeroDigit g in
-      rw (same, scan-digit phase.Minus phase.Zero n 0 zeroDigit s refl refl) (zero-means s n (clear .1)))
-      (λ g. rw (scan-digit phase.Minus phase.Whole n 0 c s f (rw g), digits-whole c (front isDigit s) f g (every-front isDigit s))
+      rw (same, scan-to here zeroDigit s refl) (zero-means s n (clear .1)))
+      (λ g.
+      let next : step here c ≡ state phase.Whole n (nextValue 0 c) = rw (f, g) in
+      rw (scan-to here c s next, digits-whole c (front isDigit s) f g (every-front isDigit s))
       (whole-means s n (nextValue 0 c) (10 * 0 + (c - zeroDigit)) (agree-next 0 0 c refl) (clear .1)))))
-      (λ f. bad-means here c s _ n _ (phase-other here c refl f (clear .0)) (clear .1) (rw (front-ends isDigit c s f, none-whole)))
+      (λ f. bad-means here c s _ n _ (rw (f, clear .0)) (clear .1) (rw (front-ends isDigit c s f, none-whole)))
 
   -- an optional minus: the first character that is no blank
-  scan-unsigned : (c : ℕ) (s : List ℕ) → eqb blank c ≡ false → eqb c minus ≡ false → eqb comma c ≡ false
-      → scan (initial d) (c ∷ s) ≡ scan (state phase.Minus false 0) (c ∷ s)
-  unfolding scan step afterOther
-  scan-unsigned c s e f g =
-      let shown = ne-eqb c blank (λ b. eqb-false blank c e (sym b)) in
-      either (isDigit c) (λ h. rw (shown, h)) (λ h. rw (shown, h, g, f))
-
   sign-means : (c : ℕ) (s : List ℕ) → eqb blank c ≡ false → some (eqb comma) (c ∷ s) ≡ false
       → meaning (scan (initial d) (c ∷ s)) ≡ meant (hasMinus (c ∷ s)) (withoutMinus (c ∷ s))
-  unfolding hasMinus withoutMinus
-  sign-means c s e f =
-      let clear = no-comma c s f in
-      either (eqb c minus)
-      (λ g.
-      let same : c ≡ minus = eqb-true c minus g in
-      rw (same, scan-other phase.Blank phase.Minus false 0 minus s refl refl refl refl) (unsigned-means s true (clear .1)))
-      (λ g. rw (scan-unsigned c s e g (clear .0), g, withoutMinus) (unsigned-means (c ∷ s) false f))
+  unfolding scan step hasMinus withoutMinus
+  sign-means c s e f = either (eqb c minus)
+      (λ g. rw (e, g, withoutMinus) (unsigned-means s true (no-comma c s f .1)))
+      (λ g. rw (e, g, withoutMinus) (unsigned-means (c ∷ s) false f))
 
   -- blanks on the left, and nothing but blanks
   scan-blank : (c : ℕ) (s : List ℕ) → eqb blank c ≡ true → scan (initial d) (c ∷ s) ≡ scan (initial d) s
   unfolding scan step
-  scan-blank c s e = let same : c ≡ blank = sym (eqb-true blank c e) in rw same
+  scan-blank c s e = rw e
 
   blanks-mean : (s : List ℕ) → every (eqb blank) s ≡ true → meaning (scan (initial d) s) ≡ number.Empty
   unfolding scan meaning every

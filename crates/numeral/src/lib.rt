@@ -4,12 +4,13 @@ ghost use mathlib.Core.Path.{_≡_};
 ghost use mathlib.Core.Bool.{true};
 ghost use Prim.Native.Nat.{ℕ, _+_, _≤_, _<_, _/_, _^_};
 ghost use lib.IntN.{natAbs};
-ghost use lib.ListN.{length};
+ghost use lib.ListN.{length, drop};
 ghost use Rattle.octets.specs.Store.{put};
 ghost use Rattle.octets.specs.Text.{isDigit, lastDigits, decimal};
 ghost use Rattle.numeral.specs.Format.{maxWidth, maxDecimals, maxDigits, formatGood};
 ghost use Rattle.numeral.specs.Reading.{readNumber, signed};
-ghost use Rattle.numeral.specs.Scan.{initial, amongBlanks, firstDigit, afterDigit, wholeEnd, afterOther, nextValue, step, settled, meaning};
+ghost use Rattle.numeral.specs.Scan.{initial, refusedAt, firstDigit, wholeEnd, nextPlace, nextValue, inPhase, byDigit, afterBlanks};
+ghost use Rattle.numeral.specs.Scan.{step, scan, settled, meaning};
 ghost use Rattle.numeral.specs.Writing.{fractionText, signText, afterWrite, writeNumber};
 
 // The widest field, and the most decimals.
@@ -64,19 +65,14 @@ pub fn format_good(width: usize, decimals: u32) -> bool
             | (1 <= decimals) & (decimals <= MAX_DECIMALS) & (decimals as usize + 2 <= width))
 }
 
-// Whether only blanks were taken so far.
-fn among_blanks(p: Phase) -> bool
-    ensures { λ r. ⌜ r ≡ amongBlanks p ⌝ }
+// The phase after the character c, which makes the text refused.
+fn refused_at(c: u8) -> Phase
+    ensures { λ r. ⌜ r ≡ refusedAt c ⌝ }
 {
-    match p {
-        Phase::Blank => true,
-        Phase::Minus => false,
-        Phase::Zero => false,
-        Phase::Whole => false,
-        Phase::Fraction(_) => false,
-        Phase::Comma => false,
-        Phase::Bad => false,
+    if c == b',' {
+        return Phase::Comma;
     }
+    Phase::Bad
 }
 
 // The phase after the first digit c of the whole part.
@@ -89,26 +85,6 @@ fn first_digit(c: u8) -> Phase
     Phase::Whole
 }
 
-// The phase after the digit c.
-fn after_digit(p: Phase, c: u8) -> Phase
-    ensures { λ r. ⌜ r ≡ afterDigit p c ⌝ }
-{
-    match p {
-        Phase::Blank => first_digit(c),
-        Phase::Minus => first_digit(c),
-        Phase::Zero => Phase::Bad,
-        Phase::Whole => Phase::Whole,
-        Phase::Fraction(left) => {
-            if 1 <= left {
-                return Phase::Fraction(left - 1);
-            }
-            Phase::Bad
-        }
-        Phase::Comma => Phase::Comma,
-        Phase::Bad => Phase::Bad,
-    }
-}
-
 // The phase after the character c behind the whole part.
 fn whole_end(decimals: u32, c: u8) -> Phase
     ensures { λ r. ⌜ r ≡ wholeEnd decimals c ⌝ }
@@ -116,30 +92,17 @@ fn whole_end(decimals: u32, c: u8) -> Phase
     if (c == b'.') & (1 <= decimals) {
         return Phase::Fraction(decimals as u64);
     }
-    Phase::Bad
+    refused_at(c)
 }
 
-// The phase after the character c, which is neither a blank on the left nor a digit.
-fn after_other(decimals: u32, p: Phase, c: u8) -> Phase
-    ensures { λ r. ⌜ r ≡ afterOther decimals p c ⌝ }
+// The phase after a digit behind the point, if `left` digits were to come.
+fn next_place(left: u64) -> Phase
+    ensures { λ r. ⌜ r ≡ nextPlace left ⌝ }
 {
-    if c == b',' {
-        return Phase::Comma;
+    if 1 <= left {
+        return Phase::Fraction(left - 1);
     }
-    match p {
-        Phase::Blank => {
-            if c == b'-' {
-                return Phase::Minus;
-            }
-            Phase::Bad
-        }
-        Phase::Minus => Phase::Bad,
-        Phase::Zero => whole_end(decimals, c),
-        Phase::Whole => whole_end(decimals, c),
-        Phase::Fraction(_) => Phase::Bad,
-        Phase::Comma => Phase::Comma,
-        Phase::Bad => Phase::Bad,
-    }
+    Phase::Bad
 }
 
 // The number of the digits so far with the digit c behind them; a number of more than 18 digits stays as it is.
@@ -165,28 +128,78 @@ impl Reader {
         }
     }
 
-    // The state after the character c. A blank on the left leaves it as it is; this is asked first, since most texts begin with blanks.
-    fn take(self, c: u8) -> Reader
-        ensures { λ r. ⌜ r ≡ step self c ⌝ }
+    // The state in the phase p.
+    fn in_phase(self, p: Phase) -> Reader
+        ensures { λ r. ⌜ r ≡ inPhase self p ⌝ }
     {
-        let p = self.phase;
-        if among_blanks(p) & (c == b' ') {
-            return self;
+        Reader {
+            decimals: self.decimals,
+            phase: p,
+            negative: self.negative,
+            value: self.value,
         }
+    }
+
+    // The state after the character c: in the phase p with one digit more if c is a digit, otherwise in the phase q.
+    fn by_digit(self, c: u8, p: Phase, q: Phase) -> Reader
+        ensures { λ r. ⌜ r ≡ byDigit self c p q ⌝ }
+    {
         if is_digit(c) {
             return Reader {
                 decimals: self.decimals,
-                phase: after_digit(p, c),
+                phase: p,
                 negative: self.negative,
                 value: next_value(self.value, c),
             };
         }
-        Reader {
-            decimals: self.decimals,
-            phase: after_other(self.decimals, p, c),
-            negative: self.negative | (c == b'-'),
-            value: self.value,
+        self.in_phase(q)
+    }
+
+    // The state after the character c, if only blanks were taken before it.
+    fn after_blanks(self, c: u8) -> Reader
+        ensures { λ r. ⌜ r ≡ afterBlanks self c ⌝ }
+    {
+        if c == b' ' {
+            return self;
         }
+        if c == b'-' {
+            return Reader {
+                decimals: self.decimals,
+                phase: Phase::Minus,
+                negative: true,
+                value: self.value,
+            };
+        }
+        self.by_digit(c, first_digit(c), refused_at(c))
+    }
+
+    // The state after the character c. Each phase tests first what is likely there.
+    fn take(self, c: u8) -> Reader
+        ensures { λ r. ⌜ r ≡ step self c ⌝ }
+    {
+        let p = self.phase;
+        match p {
+            Phase::Blank => self.after_blanks(c),
+            Phase::Minus => self.by_digit(c, first_digit(c), refused_at(c)),
+            Phase::Zero => self.in_phase(whole_end(self.decimals, c)),
+            Phase::Whole => self.by_digit(c, Phase::Whole, whole_end(self.decimals, c)),
+            Phase::Fraction(left) => self.by_digit(c, next_place(left), refused_at(c)),
+            Phase::Comma => self,
+            Phase::Bad => self.in_phase(refused_at(c)),
+        }
+    }
+
+    // The state after the characters of the text from `at` on.
+    fn take_rest(self, text: &[u8], at: usize) -> Reader
+        ensures { λ r. ⌜ r ≡ scan self (drop at (now (text .entry))) ⌝ }
+    {
+        let mut r = self;
+        let mut i = at;
+        while i < text.len() {
+            r = r.take(text[i]);
+            i += 1;
+        }
+        r
     }
 
     // What the text means if it ends in this state.
@@ -227,7 +240,7 @@ fn settle(complete: bool, negative: bool, n: u64) -> Number
     Number::Refused(refusal::TOO_MANY_DIGITS)
 }
 
-// Reads a numeric text. Its length is the field's width.
+// Reads a numeric text. Its length is the field's width. The blanks on the left have a loop of their own, since most texts begin with blanks.
 pub fn read_number(text: &[u8], decimals: u32) -> Number
     ensures { λ r. ⌜ r ≡ readNumber (now (text .entry)) decimals ⌝ }
 {
@@ -237,10 +250,13 @@ pub fn read_number(text: &[u8], decimals: u32) -> Number
     let mut r = Reader::new(decimals);
     let mut i = 0;
     while i < text.len() {
+        if text[i] != b' ' {
+            break;
+        }
         r = r.take(text[i]);
         i += 1;
     }
-    r.finish()
+    r.take_rest(text, i).finish()
 }
 
 // The magnitude of v, which may be the least value of 64 bits.

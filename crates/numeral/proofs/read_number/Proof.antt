@@ -1,6 +1,6 @@
--- `numeral::read_number` meets its contract. The loop's invariant: the state after the first `i` characters ends, by those that are left, where the
--- whole text ends. Assumes nothing.
-use Prim.Native.Nat.{_≤_, _-_}
+-- `numeral::read_number` meets its contract. The loop's invariant: the state at character `i` ends, by the characters from `i` on, where the whole
+-- text ends. It holds where the loop is left, at the first character that is no blank too. Assumes nothing.
+use Prim.Native.Nat.{_-_}
 use mathlib.Core.Path.{_≡_, sym, ap, _∙_}
 use native.Mathlib.Omega.{arith}
 use lib.ListN.{length, drop}
@@ -8,12 +8,12 @@ use borrow.Author.Needs.{needs}
 use Rattle.basis.specs.Tests.{passed, failed}
 use Rattle.numeral.specs.ReadingLaws.{refused-6}
 use Rattle.numeral.specs.Scan.{initial, scan, meaning}
-use Rattle.numeral.specs.ScanLaws.{scan-next, scan-end, scan-means}
+use Rattle.numeral.specs.ScanLaws.{scan-next, scan-means}
 use Rattle.numeral.proofs.read_number.Statement.{statement}
 use Rattle.numeral.proofs.read_number.Tie as tie
 
 abbrev Inv-loop : tie.InvT-loop
-Inv-loop text decimals r₀ i₀ r i = (i ≤ length text) × (scan (initial decimals) text ≡ scan r (drop i text))
+Inv-loop text decimals r₀ i₀ r i = scan (initial decimals) text ≡ scan r (drop i text)
 
 abbrev μ-loop : tie.MeasureT-loop
 μ-loop text decimals r₀ i₀ r i = length text - i
@@ -28,7 +28,10 @@ new-requires : tie.Need-new-requires Inv-loop μ-loop
 new-requires c κs = search needs
 
 loop-holds : tie.Need-loop-holds Inv-loop μ-loop
-loop-holds c = (omega arith, rw (c .new .ensures))
+loop-holds c = rw (c .new .ensures)
+
+shared-slice-read-if2 : tie.Need-shared-slice-read-if2 Inv-loop μ-loop
+shared-slice-read-if2 c = omega arith
 
 shared-slice-read-take : tie.Need-shared-slice-read-take Inv-loop μ-loop
 shared-slice-read-take c = omega arith
@@ -44,19 +47,22 @@ loop-less c = omega arith
 
 loop-again : tie.Need-loop-again Inv-loop μ-loop
 loop-again c =
-    let at-loop = c .before .before .before in
-    (omega arith, at-loop .loop .inv .1 ∙ rw (c .take .ensures) (scan-next (at-loop .loop .r) _ (at-loop .loop .i) (omega arith)))
+    let at-loop = c .before .before .before .before .before .loop in
+    at-loop .inv ∙ rw (c .take .ensures) (scan-next (at-loop .r) _ (at-loop .i) (omega arith))
+
+take-rest-requires : tie.Need-take-rest-requires Inv-loop μ-loop
+take-rest-requires c κs = search needs
 
 finish-requires : tie.Need-finish-requires Inv-loop μ-loop
 finish-requires c κs = search needs
 
 returns-2 : tie.Need-returns-2 Inv-loop μ-loop
 returns-2 c =
-    let at-loop = c .before .before in
+    let at-loop = c .before .before .before in
     let checked = at-loop .before .before in
     let good = passed (checked .before .format-good .ensures) (checked .if1 .left) in
-    let all-taken = at-loop .loop .inv .1 ∙ scan-end (at-loop .loop .r) _ (at-loop .loop .i) (c .before .loop-test .left) in
-    c .finish .ensures ∙ ap meaning (sym all-taken) ∙ scan-means _ _ good
+    let all-taken = c .before .take-rest .ensures ∙ sym (at-loop .loop .inv) in
+    c .finish .ensures ∙ ap meaning all-taken ∙ scan-means _ _ good
 
 pub read-number-spec : {M : Type 1} → statement M
 read-number-spec =
@@ -68,10 +74,12 @@ read-number-spec =
     returns
     new-requires
     loop-holds
+    shared-slice-read-if2
     shared-slice-read-take
     take-requires
     add-i
     loop-less
     loop-again
+    take-rest-requires
     finish-requires
     returns-2)

@@ -1,58 +1,123 @@
--- `numeral::Reader::take` meets its contract: a blank on the left leaves the state, a digit or another character changes it field by field.
--- Assumes nothing.
-use mathlib.Core.Path.{_≡_, sym, _∙_}
-use mathlib.Core.Bool.{false, _&&_}
-use lib.Dec.{eqb}
+-- `numeral::Reader::take` meets its contract, phase by phase. Assumes nothing.
+use mathlib.Core.Path.{sym, _∙_}
 use borrow.Author.Needs.{needs}
-use Rattle.octets.specs.Text.{blank}
-use Rattle.numeral.specs.Scan.{amongBlanks, step}
+use Rattle.numeral.specs.ScanLaws.{step-in}
 use Rattle.numeral.proofs.Reader.take.Statement.{statement}
 use Rattle.numeral.proofs.Reader.take.Tie as tie
 
-among-blanks-requires : tie.Need-among-blanks-requires
-among-blanks-requires c κs = search needs
+enum-told : tie.Need-enum-told
+enum-told c = search needs
+
+after-blanks-requires : tie.Need-after-blanks-requires
+after-blanks-requires c κs = search needs
+
+enum-told-2 : tie.Need-enum-told-2
+enum-told-2 c = search needs
+
+first-digit-requires : tie.Need-first-digit-requires
+first-digit-requires c κs = search needs
+
+refused-at-requires : tie.Need-refused-at-requires
+refused-at-requires c κs = search needs
+
+by-digit-requires : tie.Need-by-digit-requires
+by-digit-requires c κs = search needs
+
+enum-told-3 : tie.Need-enum-told-3
+enum-told-3 c = search needs
+
+whole-end-requires : tie.Need-whole-end-requires
+whole-end-requires c κs = search needs
+
+in-phase-requires : tie.Need-in-phase-requires
+in-phase-requires c κs = search needs
+
+enum-told-4 : tie.Need-enum-told-4
+enum-told-4 c = search needs
+
+whole-end-requires-2 : tie.Need-whole-end-requires-2
+whole-end-requires-2 c κs = search needs
+
+by-digit-requires-2 : tie.Need-by-digit-requires-2
+by-digit-requires-2 c κs = search needs
+
+enum-known-p : tie.Need-enum-known-p
+enum-known-p c = search needs
+
+next-place-requires : tie.Need-next-place-requires
+next-place-requires c κs = search needs
+
+refused-at-requires-2 : tie.Need-refused-at-requires-2
+refused-at-requires-2 c κs = search needs
+
+by-digit-requires-3 : tie.Need-by-digit-requires-3
+by-digit-requires-3 c κs = search needs
+
+enum-told-5 : tie.Need-enum-told-5
+enum-told-5 c = search needs
+
+enum-told-6 : tie.Need-enum-told-6
+enum-told-6 c = search needs
+
+refused-at-requires-3 : tie.Need-refused-at-requires-3
+refused-at-requires-3 c κs = search needs
+
+in-phase-requires-2 : tie.Need-in-phase-requires-2
+in-phase-requires-2 c κs = search needs
 
 returns : tie.Need-returns
-unfolding step
-returns c = rw (← (c .before .among-blanks .ensures), c .if1 .taken)
-
--- past the first test
-no-blank : (c : tie.Else1) → let start = c .before .before in amongBlanks (start .args .self .phase) && eqb (start .args .c) blank ≡ false
-no-blank c = rw (c .before .among-blanks .ensures) at (c .if1 .left)
-
-is-digit-requires : tie.Need-is-digit-requires
-is-digit-requires c κs = search needs
-
-after-digit-requires : tie.Need-after-digit-requires
-after-digit-requires c κs = search needs
-
-next-value-requires : tie.Need-next-value-requires
-next-value-requires c κs = sym (c .before .before .is-digit .ensures) ∙ c .before .if2 .taken
+returns c = c .after-blanks .ensures ∙ sym (step-in _ _ (c .before .enum-told .given .1))
 
 returns-2 : tie.Need-returns-2
-unfolding step
 returns-2 c =
-    let tested = c .before .before in
-    rw (no-blank (tested .before .before), ← (tested .before .is-digit .ensures), tested .if2 .taken, c .before .after-digit .ensures, c .next-value .ensures)
-
-after-other-requires : tie.Need-after-other-requires
-after-other-requires c κs = search needs
+    c .by-digit .ensures
+    ∙ rw (c .before .before .first-digit .ensures, c .before .refused-at .ensures) (sym (step-in _ _ (c .before .before .before .enum-told2 .given .1)))
 
 returns-3 : tie.Need-returns-3
-unfolding step
-returns-3 c =
-    let tested = c .before .before in
-    rw (no-blank (tested .before .before), ← (tested .before .is-digit .ensures), tested .if2 .left, c .before .after-other .ensures)
+returns-3 c = c .in-phase .ensures ∙ rw (c .before .whole-end .ensures) (sym (step-in _ _ (c .before .before .enum-told3 .given .1)))
+
+returns-4 : tie.Need-returns-4
+returns-4 c = c .by-digit2 .ensures ∙ rw (c .before .whole-end2 .ensures) (sym (step-in _ _ (c .before .before .enum-told4 .given .1)))
+
+returns-5 : tie.Need-returns-5
+returns-5 c =
+    c .by-digit3 .ensures
+    ∙ rw (c .before .before .next-place .ensures, c .before .refused-at2 .ensures) (sym (step-in _ _ (c .before .before .before .before .p .given .1)))
+
+returns-6 : tie.Need-returns-6
+returns-6 c = sym (step-in _ _ (c .enum-told5 .given .1))
+
+returns-7 : tie.Need-returns-7
+returns-7 c = c .in-phase2 .ensures ∙ rw (c .before .refused-at3 .ensures) (sym (step-in _ _ (c .before .before .enum-told6 .given .1)))
 
 pub take-spec : {M : Type 1} → statement M
 take-spec =
     tie.close
     (tie.spec
-    among-blanks-requires
+    enum-told
+    after-blanks-requires
+    enum-told-2
+    first-digit-requires
+    refused-at-requires
+    by-digit-requires
+    enum-told-3
+    whole-end-requires
+    in-phase-requires
+    enum-told-4
+    whole-end-requires-2
+    by-digit-requires-2
+    enum-known-p
+    next-place-requires
+    refused-at-requires-2
+    by-digit-requires-3
+    enum-told-5
+    enum-told-6
+    refused-at-requires-3
+    in-phase-requires-2
     returns
-    is-digit-requires
-    after-digit-requires
-    next-value-requires
     returns-2
-    after-other-requires
-    returns-3)
+    returns-3
+    returns-4
+    returns-5
+    returns-6
+    returns-7)
