@@ -46,10 +46,10 @@ abbrev pub byDigit : Reader → ℕ → Phase → Phase → Reader
 byDigit r c p q =
     cond (isDigit c) (record { decimals = r .decimals; phase = p; negative = r .negative; value = nextValue (r .value) c }) (inPhase r q)
 
--- the state r after the character c, if only blanks were taken before it: a blank leaves it as it is
+-- the state r after the character c, if only blanks were taken before it: a blank leaves it among the blanks
 abbrev pub afterBlanks : Reader → ℕ → Reader
 afterBlanks r c =
-    cond (eqb blank c) r
+    cond (eqb blank c) (inPhase r phase.Blank)
     (cond (eqb c minus) (record { decimals = r .decimals; phase = phase.Minus; negative = true; value = r .value })
     (byDigit r c (firstDigit c) (refusedAt c)))
 
@@ -60,7 +60,7 @@ stepIn phase.Minus r c = byDigit r c (firstDigit c) (refusedAt c)
 stepIn phase.Zero r c = inPhase r (wholeEnd (r .decimals) c)
 stepIn phase.Whole r c = byDigit r c phase.Whole (wholeEnd (r .decimals) c)
 stepIn (phase.Fraction left) r c = byDigit r c (nextPlace left) (refusedAt c)
-stepIn phase.Comma r c = r
+stepIn phase.Comma r c = inPhase r phase.Comma
 stepIn phase.Bad r c = inPhase r (refusedAt c)
 
 unfoldable pub step : Reader → ℕ → Reader

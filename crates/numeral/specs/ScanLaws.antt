@@ -55,14 +55,14 @@ unfolding scan
 scan-to r c s e = rw e
 
 -- a comma ends in 16, whatever comes before and after it
-comma-taken : (p : Phase) (r : Reader) → r .phase ≡ p → stepIn p r comma .phase ≡ phase.Comma
-comma-taken phase.Blank r e = refl
-comma-taken phase.Minus r e = refl
-comma-taken phase.Zero r e = refl
-comma-taken phase.Whole r e = refl
-comma-taken (phase.Fraction left) r e = refl
-comma-taken phase.Comma r e = e
-comma-taken phase.Bad r e = refl
+comma-taken : (p : Phase) (r : Reader) → stepIn p r comma .phase ≡ phase.Comma
+comma-taken phase.Blank r = refl
+comma-taken phase.Minus r = refl
+comma-taken phase.Zero r = refl
+comma-taken phase.Whole r = refl
+comma-taken (phase.Fraction left) r = refl
+comma-taken phase.Comma r = refl
+comma-taken phase.Bad r = refl
 
 comma-stays : (s : List ℕ) (r : Reader) → r .phase ≡ phase.Comma → meaning (scan r s) ≡ number.Refused 16
 unfolding scan step meaning
@@ -73,7 +73,7 @@ comma-means : (s : List ℕ) (r : Reader) → some (eqb comma) s ≡ true → me
 unfolding scan step some
 comma-means [] r e = contra e refl
 comma-means (c ∷ s) r e = either (eqb comma c)
-    (λ f. let same : c ≡ comma = sym (eqb-true comma c f) in rw same (comma-stays s (step r comma) (comma-taken (r .phase) r refl)))
+    (λ f. let same : c ≡ comma = sym (eqb-true comma c f) in rw same (comma-stays s (step r comma) (comma-taken (r .phase) r)))
     (λ f. comma-means s (step r c) (rw f at e))
 
 -- without a comma, a bad text ends in 17

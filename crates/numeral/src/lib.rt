@@ -128,7 +128,8 @@ impl Reader {
         }
     }
 
-    // The state in the phase p.
+    // The state in the phase p. A state that stays is made anew by this too: a copy of the whole struct takes along the bytes between its fields,
+    // which is slower.
     fn in_phase(self, p: Phase) -> Reader
         ensures { λ r. ⌜ r ≡ inPhase self p ⌝ }
     {
@@ -160,7 +161,7 @@ impl Reader {
         ensures { λ r. ⌜ r ≡ afterBlanks self c ⌝ }
     {
         if c == b' ' {
-            return self;
+            return self.in_phase(Phase::Blank);
         }
         if c == b'-' {
             return Reader {
@@ -184,7 +185,7 @@ impl Reader {
             Phase::Zero => self.in_phase(whole_end(self.decimals, c)),
             Phase::Whole => self.by_digit(c, Phase::Whole, whole_end(self.decimals, c)),
             Phase::Fraction(left) => self.by_digit(c, next_place(left), refused_at(c)),
-            Phase::Comma => self,
+            Phase::Comma => self.in_phase(Phase::Comma),
             Phase::Bad => self.in_phase(refused_at(c)),
         }
     }

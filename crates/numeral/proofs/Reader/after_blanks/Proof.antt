@@ -7,8 +7,11 @@ use Rattle.numeral.specs.Format.{minus}
 use Rattle.numeral.proofs.Reader.after_blanks.Statement.{statement}
 use Rattle.numeral.proofs.Reader.after_blanks.Tie as tie
 
+in-phase-requires : tie.Need-in-phase-requires
+in-phase-requires c κs = search needs
+
 returns : tie.Need-returns
-returns c = rw (eq-eqb blank _ (sym (c .if1 .taken)))
+returns c = rw (eq-eqb blank _ (sym (c .before .if1 .taken))) (c .in-phase .ensures)
 
 returns-2 : tie.Need-returns-2
 returns-2 c = rw (ne-eqb blank _ (λ e. c .before .if1 .left (sym e)), eq-eqb _ minus (c .if2 .taken))
@@ -33,6 +36,7 @@ pub after-blanks-spec : {M : Type 1} → statement M
 after-blanks-spec =
     tie.close
     (tie.spec
+    in-phase-requires
     returns
     returns-2
     first-digit-requires

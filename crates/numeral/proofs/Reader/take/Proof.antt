@@ -56,14 +56,17 @@ by-digit-requires-3 c κs = search needs
 enum-told-5 : tie.Need-enum-told-5
 enum-told-5 c = search needs
 
+in-phase-requires-2 : tie.Need-in-phase-requires-2
+in-phase-requires-2 c κs = search needs
+
 enum-told-6 : tie.Need-enum-told-6
 enum-told-6 c = search needs
 
 refused-at-requires-3 : tie.Need-refused-at-requires-3
 refused-at-requires-3 c κs = search needs
 
-in-phase-requires-2 : tie.Need-in-phase-requires-2
-in-phase-requires-2 c κs = search needs
+in-phase-requires-3 : tie.Need-in-phase-requires-3
+in-phase-requires-3 c κs = search needs
 
 returns : tie.Need-returns
 returns c = c .after-blanks .ensures ∙ sym (step-in _ _ (c .before .enum-told .given .1))
@@ -85,10 +88,10 @@ returns-5 c =
     ∙ rw (c .before .before .next-place .ensures, c .before .refused-at2 .ensures) (sym (step-in _ _ (c .before .before .before .before .p .given .1)))
 
 returns-6 : tie.Need-returns-6
-returns-6 c = sym (step-in _ _ (c .enum-told5 .given .1))
+returns-6 c = c .in-phase2 .ensures ∙ sym (step-in _ _ (c .before .enum-told5 .given .1))
 
 returns-7 : tie.Need-returns-7
-returns-7 c = c .in-phase2 .ensures ∙ rw (c .before .refused-at3 .ensures) (sym (step-in _ _ (c .before .before .enum-told6 .given .1)))
+returns-7 c = c .in-phase3 .ensures ∙ rw (c .before .refused-at3 .ensures) (sym (step-in _ _ (c .before .before .enum-told6 .given .1)))
 
 pub take-spec : {M : Type 1} → statement M
 take-spec =
@@ -111,9 +114,10 @@ take-spec =
     refused-at-requires-2
     by-digit-requires-3
     enum-told-5
+    in-phase-requires-2
     enum-told-6
     refused-at-requires-3
-    in-phase-requires-2
+    in-phase-requires-3
     returns
     returns-2
     returns-3
