@@ -4,6 +4,8 @@ ghost use Prim.Native.Nat.{_≤_};
 ghost use lib.ListN.{length};
 use append::Appended;
 use append::Store;
+use field::FieldEntry;
+use laying::FieldList;
 use libc::STDOUT_FILENO;
 
 // The greatest buffer of the list.
@@ -101,32 +103,112 @@ fn write_line(buffer: &mut [u8], line: &[u8]) {
     append_line(buffer, std::num::wrapping_add_usize(buffer.len(), 1), rest);
 }
 
-// Whether a line's last word is 0.
-fn is_accepted(line: &[u8]) -> bool {
-    let n = line.len();
-    if n < 2 {
-        return false;
-    }
-    (line[n - 2] == b' ') & (line[n - 1] == b'0')
+// The fields of a `lay_out` line. The list takes the first 128 of them; `count` counts all.
+struct Fields {
+    list: FieldList,
+    count: usize,
 }
 
-// `lay_out YEAR MONTH DAY ROOM ..`: an accepted one's table is read from the file that ROOM names, into a buffer of bytes 0xEE, ROOM of which are then lent.
-fn laid_out(buffer: &mut [u8], room: usize, line: &[u8]) -> usize
+// A field's name with zeros behind it. A word above eleven bytes is no name.
+fn name_of(word: &[u8]) -> [u8; 11] {
+    let mut name = [0u8; 11];
+    if word.len() <= 11 {
+        octets::copy_in(&mut name, 0, word);
+    }
+    name
+}
+
+fn first_byte(word: &[u8]) -> u8 {
+    if word.len() == 0 {
+        return 0;
+    }
+    word[0]
+}
+
+// `NAME TYPE LENGTH DECIMALS ..`
+fn entry_of(text: &[u8]) -> FieldEntry {
+    let kind = test_lines::after_word(text);
+    let length = test_lines::after_word(kind);
+    let decimals = test_lines::after_word(length);
+    FieldEntry {
+        name: name_of(test_lines::word(text)),
+        kind: first_byte(kind),
+        length: (test_lines::first_number(length) % 256) as u8,
+        decimals: (test_lines::first_number(decimals) % 256) as u8,
+    }
+}
+
+// A list with another field j, if it is one of the first 128.
+fn listed(list: FieldList, j: usize, text: &[u8]) -> FieldList {
+    if j < table::MAX_FIELDS {
+        return laying::with_field(list, j, entry_of(text));
+    }
+    list
+}
+
+// `FIELD,FIELD,.. ANSWER`, or `- ANSWER` for no field.
+fn fields_of(text: &[u8]) -> Fields {
+    let mut list = laying::no_fields();
+    let mut count = 0;
+    if first_byte(text) == b'-' {
+        return Fields { list, count };
+    }
+    let mut from = 0;
+    while from < text.len() {
+        let end = test_lines::find(text, from, b',');
+        list = listed(list, count, &text[from..end]);
+        count += 1;
+        from = end + 1;
+    }
+    Fields { list, count }
+}
+
+// `YEAR MONTH DAY ROOM FIELDS ..`, on a buffer of ROOM bytes.
+fn lay_out(buffer: &mut [u8], line: &[u8]) -> u32 {
+    let month = test_lines::after_word(line);
+    let day = test_lines::after_word(month);
+    let fields = fields_of(test_lines::after_word(test_lines::after_word(day)));
+    laying::lay_out(
+        buffer,
+        fields.list,
+        fields.count,
+        test_lines::first_number(line),
+        test_lines::first_number(month),
+        test_lines::first_number(day),
+    )
+}
+
+// Lays the line's table out in a buffer of its own and prints the answer. If it is 0, that buffer becomes the front of the list's, and is what is lent.
+fn laid_out(buffer: &mut [u8], room: usize, own: &mut [u8], line: &[u8]) -> usize
+    requires { ⌜ (room ≤ length (now buffer)) × (length (now own) ≤ length (now buffer)) ⌝ }
+    ensures { λ r. ⌜ r ≤ length (now (buffer .exit)) ⌝ }
+{
+    let answer = lay_out(own, line);
+    lines::print(b"lay_out");
+    print_part(answer as usize);
+    lines::print(b"\n");
+    if answer != 0 {
+        return room;
+    }
+    octets::copy_in(buffer, 0, own);
+    own.len()
+}
+
+// `YEAR MONTH DAY ROOM ..`, on a buffer of ROOM bytes 0xEE. A ROOM above the list's buffer prints nothing.
+fn lay_out_line(buffer: &mut [u8], room: usize, line: &[u8]) -> usize
     requires { ⌜ room ≤ length (now buffer) ⌝ }
     ensures { λ r. ⌜ r ≤ length (now (buffer .exit)) ⌝ }
 {
-    if !is_accepted(line) {
-        return room;
-    }
-    let month = test_lines::after_word(test_lines::after_word(line));
-    let at_room = test_lines::after_word(test_lines::after_word(month));
-    let wanted = test_lines::first_number(at_room) as usize;
+    let day = test_lines::after_word(test_lines::after_word(line));
+    let wanted = test_lines::first_number(test_lines::after_word(day)) as usize;
     if buffer.len() < wanted {
         return room;
     }
-    octets::fill(buffer, 0, wanted, 0xEE);
-    files::load(test_lines::word(at_room), &mut buffer[..wanted]);
-    wanted
+    if ROOM < wanted {
+        return room;
+    }
+    let mut own = [0xEEu8; ROOM];
+    laid_out(buffer, room, &mut own[..wanted], line)
 }
 
 // A line, and how many bytes of the buffer are lent after it.
@@ -138,10 +220,23 @@ fn line(buffer: &mut [u8], room: usize, text: &[u8]) -> usize
         return room;
     }
     if text[0] == b'l' {
-        return laid_out(buffer, room, text);
+        return lay_out_line(buffer, room, test_lines::after_word(text));
     }
     write_line(&mut buffer[..room], text);
     room
+}
+
+fn blank_if_colon(c: u8) -> u8 {
+    if c == b':' { b' ' } else { c }
+}
+
+// Colons become blanks, so that the parts of a field are words.
+fn blank_colons(calls: &mut [u8]) {
+    let mut i = 0;
+    while i < calls.len() {
+        calls[i] = blank_if_colon(calls[i]);
+        i += 1;
+    }
 }
 
 fn run(buffer: &mut [u8], calls: &[u8]) {
@@ -154,9 +249,14 @@ fn run(buffer: &mut [u8], calls: &[u8]) {
     }
 }
 
+fn run_blanked(calls: &mut [u8]) {
+    blank_colons(calls);
+    let mut buffer = [0u8; ROOM];
+    run(&mut buffer, calls);
+}
+
 fn main() {
     let mut calls = io::large_buffer();
     let n = files::load(b"k3_writing.calls", &mut calls).len;
-    let mut buffer = [0u8; ROOM];
-    run(&mut buffer, &calls[..n]);
+    run_blanked(&mut calls[..n]);
 }

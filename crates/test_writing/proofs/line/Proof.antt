@@ -11,8 +11,11 @@ returns c = search needs
 shared-slice-read-if2 : tie.Need-shared-slice-read-if2
 shared-slice-read-if2 c = search needs
 
-laid-out-requires : tie.Need-laid-out-requires
-laid-out-requires c κs = search needs
+after-word-requires : tie.Need-after-word-requires
+after-word-requires c κs = search needs
+
+lay-out-line-requires : tie.Need-lay-out-line-requires
+lay-out-line-requires c κs = search needs
 
 same-length : tie.Need-same-length
 same-length c = search needs
@@ -41,7 +44,8 @@ line-spec =
     (tie.spec
     returns
     shared-slice-read-if2
-    laid-out-requires
+    after-word-requires
+    lay-out-line-requires
     same-length
     returns-2
     slice-relend-prefix-write-line
