@@ -8,9 +8,9 @@
    another one is lent.
 
    Stack: how many bytes a call takes at most, beside those of memcpy and memset. tests/c/stack reads it from the archive and compares.
-       gl_interface 8, gl_number_write 88, gl_number_read 112, gl_table_check 192, gl_table_shape 224, gl_fields 224, gl_walk 240, gl_read_logical 336,
-       gl_text_part 352, gl_read_number 368, gl_read_date 368, gl_index_fresh 24, gl_index_lookup 1664, gl_index_audit 2377, gl_match 2521,
-       gl_index_insert 10168
+       gl_interface 8, gl_number_write 88, gl_number_read 112, gl_table_check 192, gl_table_shape 224, gl_fields 224, gl_walk 240, gl_table_set_date 224,
+       gl_table_extent 224, gl_table_append 272, gl_read_logical 336, gl_text_part 352, gl_read_number 368, gl_read_date 384, gl_index_fresh 24,
+       gl_index_lookup 1664, gl_index_audit 2377, gl_match 2521, gl_index_insert 10168
 
    The archive is for x86-64 Linux and the System V calling convention. It needs memcpy and memset alone, allocates no memory, has no writable data and is
    position independent. It uses SSE registers and the red zone below the stack pointer, which Linux keeps for user programs: kernel code can't call it. */
@@ -26,7 +26,7 @@ extern "C" {
 
 /* ---- Versions. */
 
-#define GL_VERSION "0.3.0" /* raised with every change, see docs/CHANGES.md */
+#define GL_VERSION "0.4.0" /* raised with every change, see docs/CHANGES.md */
 #define GL_INTERFACE 1     /* raised with every change of the form of a call or a struct */
 
 /* The GL_INTERFACE of the archive. A host compares it with its own before the first call: if they differ, a call may write past what it is lent. */
@@ -45,14 +45,15 @@ enum gl_refusal {
     /* the table as a whole */
     GL_REFUSED_TABLE_SIZE = 1,          /* size of the table: below 32 or above 16,777,216 bytes */
     GL_REFUSED_TABLE_KIND = 2,          /* kind of table: byte 0 is neither 0x03 nor 0xF5; the file is of a kind that is not handled */
-    GL_REFUSED_UPDATE_DATE = 3,         /* update date: bytes 1 to 3 of the header are no calendar date */
+    GL_REFUSED_UPDATE_DATE = 3,         /* update date: bytes 1 to 3 of the header are no calendar date; to set, no date of the years 1900 to 2155 */
     GL_REFUSED_HEADER_LENGTH = 4,       /* header length: not that of 1 to 128 fields, or the table is shorter */
     GL_REFUSED_HEADER_END_MARK = 5,     /* header end mark: the header's last byte is not 0x0D */
     GL_REFUSED_FIELD_DESCRIPTOR = 6,    /* field descriptor: a bad name, type, length or decimal count; for numeric text, a bad width or decimal count */
     GL_REFUSED_FIELD_NAME_TWICE = 7,    /* field name twice: two fields have the same name */
     GL_REFUSED_MEMO_FIELD_AND_KIND = 8, /* memo field and kind of table: an M field in kind 0x03, or none in kind 0xF5 */
-    GL_REFUSED_RECORD_LENGTH = 9,       /* record length: not 1 + the fields' lengths, or above 4,000 */
-    GL_REFUSED_TABLE_LENGTH = 10,       /* table length: not that of its records, with or without one byte 0x1A; the file was cut short or appended to */
+    GL_REFUSED_RECORD_LENGTH = 9,       /* record length: not 1 + the fields' lengths, or above 4,000; to append, not the table's */
+    GL_REFUSED_TABLE_LENGTH = 10,       /* table length: not that of its records, with or without one byte 0x1A; the file was cut short or appended to,
+                                           or power failed in an append (gl_table_extent); to write, longer than the buffer */
     /* what a call asked for */
     GL_REFUSED_RECORD_NUMBER = 11,        /* record number: 0 or above the record count; records count from 1 */
     GL_REFUSED_FIELD_NUMBER = 12,         /* field number: 0 or above the field count; fields count from 1 */
@@ -74,7 +75,7 @@ enum gl_refusal {
     GL_REFUSED_KEY_LENGTH = 27,             /* key length: not the index's; for a fresh index, not 1 to 100; for the match, not the field's length */
     GL_REFUSED_RECORD_NUMBER_ZERO = 28,     /* record number 0: records count from 1 */
     GL_REFUSED_KEY_PRESENT = 29,            /* key present: the index has the key already, and keeps its record */
-    GL_REFUSED_NO_ROOM = 30,                /* no room: lend a longer buffer; if the index would pass 1,048,576 bytes or 11 levels, it is full */
+    GL_REFUSED_NO_ROOM = 30,                /* no room: lend a longer buffer; past 16,777,216 bytes a table is full, past 1,048,576 or 11 levels an index */
     GL_REFUSED_INDEX_AND_TABLE_DIFFER = 31  /* index and table differ: make the index anew from the table */
 };
 
@@ -116,6 +117,34 @@ typedef struct { uint32_t passed; } gl_position;
 
 /* The next undeleted record. 1 to 10, then 0 with the record's number, 15 (the position has moved past the bad record) or 258 (the position stays). */
 uint32_t gl_walk(const uint8_t *table, size_t table_len, gl_position *position, uint32_t *record);
+
+/* ---- Writing a table. It lies in the buffer's first table_len bytes; the buffer may be longer.
+
+   An append makes two stores in the buffer, and the host makes them in its file, each in its place. First the record's, record_length bytes at record_place;
+   only when these are durable (fsync), the count's, count_length bytes at count_place, which lie in one sector of the disk and must get there together. Before
+   the second the file holds the old table, after it the new one. After a power loss, and before any other call, the host shortens the file to the length that
+   gl_table_extent gives: with the first store alone, or a part of it, other calls refuse the file by 10. */
+
+/* Lays out a table of these fields and no records. 3 unless it is a date of the years 1900 to 2155, 4 unless there are 1 to 128 entries, 6, 7, 9, 30 if the
+   buffer has fewer than 34 + 32 * entry_count bytes. So many are written, the end mark last: that is the table, and the whole file. Later bytes are kept. The
+   kind of table follows from whether an M field is listed. */
+uint32_t gl_table_lay_out(uint8_t *buffer, size_t buffer_len, const gl_field_entry *entries, size_t entry_count,
+                          uint32_t year, uint32_t month, uint32_t day);
+
+/* Appends one record, given as its bytes: the deletion byte and each field's text. 10 if table_len is above buffer_len, 1 to 10, 9 if the record has another
+   length than the table's, 15, then for each field's text in order 16 to 18 (N), 20 (D and L) or 21 (M: its form alone, the memo file is not looked at), with
+   blanks accepted; 30 if the new end mark would lie past the buffer or past 16,777,216 bytes. 0 sets all four: the two stores, the record with the new end
+   mark, and the count. The table's length is then record_place + record_length. */
+uint32_t gl_table_append(uint8_t *buffer, size_t buffer_len, size_t table_len, const uint8_t *record, size_t record_len,
+                         uint64_t *record_place, uint64_t *record_length, uint64_t *count_place, uint64_t *count_length);
+
+/* Sets the update date, bytes 1 to 3. 10 if table_len is above buffer_len, 1 to 10 (so a table with a bad date stays refused), 3 unless it is a date of the
+   years 1900 to 2155. */
+uint32_t gl_table_set_date(uint8_t *buffer, size_t buffer_len, size_t table_len, uint32_t year, uint32_t month, uint32_t day);
+
+/* For the host after a power loss: the length of the table that a file begins with, by the table's own count and without an end mark. 1 to 9, 10 if the file
+   is shorter. */
+uint32_t gl_table_extent(const uint8_t *table, size_t table_len, uint64_t *length);
 
 /* ---- One field of one record, both counted from 1. 1 to 13, 15, then what concerns the text; 256 for an empty field. */
 

@@ -14,6 +14,13 @@ other fields can be read, and `record.values()` has the Refusal itself in the fi
 A value is a `Decimal` with the field's decimals (N: `Decimal('2.150')`), a `datetime.date` (D), a bool (L) or bytes (C and M, as they lie in the file: no code
 page is guessed), and None if the field is empty. Records and fields are counted from 1, as the files' rules do.
 
+`lay_out`, `append` and `set_date` write a table that lies in a bytearray. An append answers the two stores that the file is to get; after a power loss
+`extent` gives the length to shorten the file to, and that is the old table or the new one:
+
+    for store in gatherloom.append(buffer, table_len, record):
+        os.pwrite(file, buffer[store.place : store.place + store.length], store.place)
+        os.fsync(file)
+
 Where a source is asked for, it is a file's path (str or os.PathLike) or the file's content (bytes, bytearray or memoryview). A number that is negative or too
 large for the library is an OverflowError, an argument of another type a TypeError; neither reaches the library.
 
@@ -29,7 +36,8 @@ from decimal import Context, Decimal, Inexact, InvalidOperation
 from pathlib import Path
 from typing import NamedTuple, Optional
 
-__all__ = ['Field', 'Index', 'Lookup', 'MemoMissing', 'Record', 'Refusal', 'Table', 'Walk', 'read_number', 'write_number']
+__all__ = ['Field', 'Index', 'Lookup', 'MemoMissing', 'Record', 'Refusal', 'Store', 'Stores', 'Table', 'Walk', 'append', 'extent', 'lay_out', 'read_number',
+           'set_date', 'write_number']
 
 # ---- Refusals.
 
@@ -130,6 +138,10 @@ _CALLS = {
     'gl_table_shape': _BYTES + 3 * [_out(_NUMBER)],
     'gl_fields': _BYTES + [_out(_Entry), ctypes.c_size_t],
     'gl_walk': _BYTES + [_out(_Position), _out(_NUMBER)],
+    'gl_table_lay_out': _BYTES + [_out(_Entry), ctypes.c_size_t] + 3 * [_NUMBER],
+    'gl_table_append': _BYTES + [ctypes.c_size_t] + _BYTES + 4 * [_out(ctypes.c_uint64)],
+    'gl_table_set_date': _BYTES + [ctypes.c_size_t] + 3 * [_NUMBER],
+    'gl_table_extent': _BYTES + [_out(ctypes.c_uint64)],
     'gl_read_number': _BYTES + [_NUMBER, _NUMBER, _out(ctypes.c_int64)],
     'gl_read_date': _BYTES + [_NUMBER, _NUMBER] + 3 * [_out(_NUMBER)],
     'gl_read_logical': _BYTES + [_NUMBER, _NUMBER, _out(ctypes.c_uint8)],
@@ -197,6 +209,12 @@ def _bytes(value, what):
     if not isinstance(value, (bytes, bytearray, memoryview)):
         raise TypeError(f'{what} is bytes, not {type(value).__name__}')
     return bytes(value)
+
+
+def _buffer(value, what):
+    if not isinstance(value, bytearray):
+        raise TypeError(f'{what} in a bytearray, not {type(value).__name__}')
+    return value
 
 
 def _content(source, most):
@@ -409,6 +427,89 @@ class Walk:
         return Record(self._table, record.value)
 
 
+# ---- Writing a table, which lies in the first bytes of a bytearray.
+
+
+class Store(NamedTuple):
+    """Bytes that a call has written into the buffer, and that the file is to get: where they lie in both, and how many they are."""
+
+    place: int
+    length: int
+
+
+class Stores(NamedTuple):
+    """The two stores of an append, in the order in which the file must get them: the record and the end mark; the count, once those are durable."""
+
+    record: Store
+    count: Store
+
+    @property
+    def table_len(self):
+        """The table's length now, with its end mark."""
+        return self.record.place + self.record.length
+
+
+def _entry(field):
+    """The entry of a Field. A name or type that the entry has no room for is left out of it, and so refused by 6."""
+    name, kind, length, decimals = field
+    for text, what in (name, 'name'), (kind, 'type'):
+        if not isinstance(text, str):
+            raise TypeError(f"a field's {what} is a str, not {type(text).__name__}")
+    entry = _Entry(length=_unsigned(length, 'field length', 8), decimals=_unsigned(decimals, 'decimal count', 8))
+    if name.isascii() and len(name) <= len(entry.name) and '\0' not in name:
+        entry.name[: len(name)] = name.encode('ascii')
+    if kind.isascii() and len(kind) == 1:
+        entry.kind = ord(kind)
+    return entry
+
+
+def lay_out(buffer, fields, date):
+    """Lays out a table of these Fields and no records in the first bytes of a bytearray, and gives its length; the bytes after it stay.
+
+    The date is a datetime.date. Refusals 3 if its year is not from 1900 to 2155, 4 unless there are 1 to 128 fields, 6 for a bad one, 7 if two have one name, 9
+    if a record would have more than 4,000 bytes, and 30. A refusal leaves the buffer as it was.
+    """
+    entries = [_entry(field) for field in fields]
+    lent = (_Entry * len(entries))(*entries)
+    _accepted(_library.gl_table_lay_out(*_lent(_buffer(buffer, 'a table is laid out')), lent, len(entries), *_day(date)))
+    return 34 + 32 * len(entries)
+
+
+def append(buffer, table_len, record):
+    """Appends one record, given as its bytes, to the table in the first `table_len` bytes of a bytearray, and gives the Stores.
+
+    The bytes after the table are the room for the record. Refusals 10 if the table is longer than the buffer, 1 to 10, 9 if the record has another length than
+    the table's, 15, for each field's text in order 16 to 18, 20 or 21, and 30. A refusal leaves the buffer as it was.
+    """
+    table_len, record = _unsigned(table_len, 'table length', 63), _bytes(record, 'a record')
+    out = [ctypes.c_uint64() for _ in range(4)]
+    _accepted(_library.gl_table_append(*_lent(_buffer(buffer, 'a table is written')), table_len, *_lent(record), *map(ctypes.byref, out)))
+    record_place, record_length, count_place, count_length = (number.value for number in out)
+    return Stores(Store(record_place, record_length), Store(count_place, count_length))
+
+
+def _day(date):
+    if not isinstance(date, datetime.date):
+        raise TypeError(f'an update date is a datetime.date, not {type(date).__name__}')
+    return date.year, date.month, date.day
+
+
+def set_date(buffer, table_len, date):
+    """Sets the update date of the table in the first `table_len` bytes of a bytearray: its bytes 1 to 3. The date is a datetime.date.
+
+    Refusals 10 if the table is longer than the buffer, 1 to 10, and 3 if the year is not from 1900 to 2155.
+    """
+    table_len = _unsigned(table_len, 'table length', 63)
+    _accepted(_library.gl_table_set_date(*_lent(_buffer(buffer, 'a table is written')), table_len, *_day(date)))
+
+
+def extent(source):
+    """The length to shorten a table's file to after a power loss: that of its table, by the table's own count and without an end mark. Refusals 1 to 10."""
+    file, length = _content(source, MAX_TABLE), ctypes.c_uint64()
+    _accepted(_library.gl_table_extent(*_lent(file), ctypes.byref(length)))
+    return length.value
+
+
 # ---- Numeric text.
 
 
@@ -484,8 +585,7 @@ class Index:
     @classmethod
     def fresh(cls, buffer, key_length, expression):
         """An index of no keys, made in the first 1,024 bytes of a bytearray; the others are room for insertions. Refusals 27, 24, 30."""
-        if not isinstance(buffer, bytearray):
-            raise TypeError(f'a fresh index is made in a bytearray, not {type(buffer).__name__}')
+        _buffer(buffer, 'a fresh index is made')
         key_length, expression = _unsigned(key_length, 'key length'), _bytes(expression, 'an expression')
         _accepted(_library.gl_index_fresh(*_lent(buffer), key_length, *_lent(expression)))
         return cls(buffer)

@@ -19,11 +19,12 @@ from pathlib import Path
 
 sys.path.insert(0, str(Path(__file__).resolve().parent))
 import gatherloom
-from gatherloom import Field, Index, Lookup, MemoMissing, Refusal, Table, read_number, write_number
+from gatherloom import Field, Index, Lookup, MemoMissing, Refusal, Store, Stores, Table, append, extent, lay_out, read_number, set_date, write_number
 
 ROOT = Path(__file__).resolve().parents[2]
-SAMPLES = ROOT / 'crates' / 'samples' / 'data'
-INDEXES = ROOT / 'crates' / 'indexes' / 'data'
+SAMPLES = ROOT / 'crates' / 'test_samples' / 'data'
+INDEXES = ROOT / 'crates' / 'test_indexes' / 'data'
+WRITING = ROOT / 'crates' / 'test_writing' / 'data'
 
 PLAIN = (Field('BARCODE', 'C', 10, 0), Field('CONC', 'N', 8, 3), Field('RUN_DATE', 'D', 8, 0), Field('OK', 'L', 1, 0))
 MEMO = PLAIN + (Field('NOTE', 'M', 10, 0),)
@@ -265,6 +266,152 @@ class Tables(TestCase):
             context.prec = 1
             self.assertEqual(str(sample('shp_point').record(3)['CONC']), '1234.500')
             self.assertEqual(write_number(Decimal('1234.500'), 8, 3), b'1234.500')
+
+
+class Writing(TestCase):
+    def test_list_of_calls(self):
+        buffer = None
+        for line in (WRITING / 'k3_writing.calls').read_text().splitlines():
+            with self.subTest(line):
+                words = line.split()
+                if words[0] != 'lay_out':
+                    self.check_call(buffer, words)
+                else:
+                    buffer = self.check_lay_out(words) or buffer
+
+    def check_lay_out(self, words):
+        """The buffer after an accepted call: the table is then the file that its room names."""
+        *day, room = map(int, words[1:5])
+        parts = [] if words[5] == '-' else [word.split(':') for word in words[5].split(',')]
+        fields = [Field(name, kind, int(length), int(decimals)) for name, kind, length, decimals in parts]
+        buffer = bytearray(room * b'\xee')
+        if day == [2023, 2, 29]:
+            self.assertRaises(ValueError, datetime.date, *day)
+        elif words[6] != '0':
+            self.refused(int(words[6]), lay_out, buffer, fields, datetime.date(*day))
+            self.assertEqual(buffer, room * b'\xee')
+        else:
+            table_len = lay_out(buffer, fields, datetime.date(*day))
+            self.assertEqual(table_len, extent(buffer) + 1)
+            self.assertEqual(buffer, (WRITING / words[4]).read_bytes().ljust(room, b'\xee'))
+            self.assertEqual(Table(buffer[:table_len]).fields, tuple(fields))
+            return buffer
+        return None
+
+    def test_fields_that_no_entry_holds(self):
+        today = datetime.date(2026, 11, 16)
+        buffer = bytearray(1000)
+        for name in '', 'ABCDEFGHIJK', 'ABCDEFGHIJKL', 'A\0', 'ABCDEFGHIJ\0K', '\xc9':
+            self.refused(6, lay_out, buffer, [Field(name, 'L', 1, 0)], today)
+        for kind in '', 'LL', '\u0141', '\0':
+            self.refused(6, lay_out, buffer, [Field('A', kind, 1, 0)], today)
+        for length, decimals in (256, 0), (-1, 0), (8, 256):
+            self.assertRaises(OverflowError, lay_out, buffer, [Field('A', 'N', length, decimals)], today)
+        for field in Field(b'A', 'L', 1, 0), Field('A', b'L', 1, 0), Field('A', 76, 1, 0), Field('A', 'L', 1.0, 0):
+            self.assertRaises(TypeError, lay_out, buffer, [field], today)
+        self.assertRaises(TypeError, lay_out, bytes(1000), PLAIN, today)
+        self.assertRaises(TypeError, lay_out, buffer, PLAIN, (2024, 2, 29))
+        self.assertEqual(buffer, bytes(1000))
+        # the fields of one table lay out another
+        table_len = lay_out(buffer, sample('xbase_f5').fields, today)
+        self.assertEqual(Table(buffer[:table_len]).fields, MEMO)
+        self.assertEqual(buffer[0], 0xF5)
+
+    def check_call(self, buffer, words):
+        before, table_len = bytes(buffer), extent(buffer) + 1
+        if words[0] == 'image':
+            self.assertEqual(buffer[:table_len], (WRITING / words[1]).read_bytes())
+            self.assertEqual(table_len, int(words[2]))
+        elif words[0] == 'date':
+            self.check_date(buffer, table_len, list(map(int, words[1:])))
+        else:
+            length = table_len if words[0] == 'append' else len(buffer) + 1
+            record, answer = bytes.fromhex(words[1]), int(words[2])
+            if answer:
+                self.refused(answer, append, buffer, length, record)
+                self.assertEqual(buffer, before)
+                return
+            stores = append(buffer, length, record)
+            place, length, *count = map(int, words[3:])
+            self.assertEqual(stores, Stores(Store(place, length), Store(*count)))
+            self.check_stores(before[:table_len], buffer, stores)
+
+    def check_date(self, buffer, table_len, numbers):
+        *day, answer = numbers
+        before = bytes(buffer)
+        if answer:
+            # of the list's dates, those that are refused are none to Python either
+            self.assertRaises(ValueError, datetime.date, *day)
+            return
+        set_date(buffer, table_len, datetime.date(*day))
+        self.assertEqual(buffer, before[:1] + bytes([day[0] - 1900, *day[1:]]) + before[4:])
+
+    def check_stores(self, old, buffer, stores):
+        """Makes the stores in a file, and power fails after each byte of the first."""
+        place = stores.record.place
+        self.assertEqual(stores.table_len, place + stores.record.length)
+        for cut in range(stores.record.length + 1):
+            self.check_extent(old[:place] + buffer[place : place + cut], old[:place])
+        with tempfile.TemporaryDirectory() as folder:
+            path = Path(folder) / 'run.dbf'
+            path.write_bytes(old)
+            for store, kept in zip(stores, (old[:place], bytes(buffer[: stores.table_len - 1]))):
+                with open(path, 'r+b') as file:
+                    file.seek(store.place)
+                    file.write(buffer[store.place : store.place + store.length])
+                self.check_extent(path, kept)
+            self.assertEqual(path.read_bytes(), buffer[: stores.table_len])
+
+    def check_extent(self, source, kept):
+        content = source.read_bytes() if isinstance(source, Path) else source
+        self.assertEqual(content[: extent(source)], kept)
+        self.assertEqual(len(Table(kept)), int.from_bytes(kept[4:8], 'little'))
+
+    def test_refused_tables(self):
+        good = (SAMPLES / 'shp_point.dbf').read_bytes()
+        record = good[161 : 161 + 28]
+        today = datetime.date(2026, 11, 16)
+        for at, byte, number in (0, 0x83, 2), (2, 13, 3), (32 * 4 + 32, 1, 5), (32, 0x61, 6), (0, 0xF5, 8), (10, 29, 9), (4, 6, 10):
+            buffer = bytearray(good + bytes(100))
+            buffer[at] = byte
+            before = bytes(buffer)
+            self.refused(number, append, buffer, len(good), record)
+            self.refused(number, set_date, buffer, len(good), today)
+            self.refused(number, extent, buffer[: len(good)])
+            self.refused(10, append, buffer, len(buffer) + 1, record)
+            self.refused(10, set_date, buffer, len(buffer) + 1, today)
+            self.assertEqual(buffer, before)
+        self.refused(1, extent, b'')
+        self.refused(1, extent, bytes(16777217))
+        self.refused(30, append, bytearray(good), len(good), record)
+
+    def test_dates(self):
+        buffer = bytearray((SAMPLES / 'shp_point.dbf').read_bytes())
+        for date, stored in (datetime.date(1900, 1, 1), b'\0\1\1'), (datetime.date(2155, 12, 31), b'\xff\x0c\x1f'):
+            set_date(buffer, len(buffer), date)
+            self.assertEqual(buffer[1:4], stored)
+        for date in datetime.date(1899, 12, 31), datetime.date(2156, 1, 1), datetime.date.max, datetime.date.min:
+            self.refused(3, set_date, buffer, len(buffer), date)
+        self.assertEqual(buffer[1:4], b'\xff\x0c\x1f')
+        for date in None, (2024, 2, 29), '2024-02-29', 20240229:
+            self.assertRaises(TypeError, set_date, buffer, len(buffer), date)
+
+    def test_wrong_arguments(self):
+        good = (SAMPLES / 'shp_point.dbf').read_bytes()
+        record = good[161 : 161 + 28]
+        for buffer in good, memoryview(bytearray(good)), None, str(SAMPLES / 'shp_point.dbf'):
+            self.assertRaises(TypeError, append, buffer, len(good), record)
+            self.assertRaises(TypeError, set_date, buffer, len(good), datetime.date(2024, 2, 29))
+        buffer = bytearray(good + bytes(100))
+        for length in -1, 2**63, 2**64 + len(good):
+            self.assertRaises(OverflowError, append, buffer, length, record)
+            self.assertRaises(OverflowError, set_date, buffer, length, datetime.date(2024, 2, 29))
+        for length in 1.0, '1', None, True:
+            self.assertRaises(TypeError, append, buffer, length, record)
+        self.assertRaises(TypeError, append, buffer, len(good), record.decode())
+        self.assertRaises(TypeError, extent, 7)
+        self.assertEqual(buffer, good + bytes(100))
+        self.assertEqual(extent(SAMPLES / 'shp_point.dbf'), extent(good))
 
 
 class NumericText(TestCase):

@@ -48,6 +48,35 @@ extern "C" {
         position: *mut Position,
         record: *mut u32,
     ) -> u32;
+    pub fn gl_table_lay_out(
+        buffer: *mut u8,
+        buffer_len: usize,
+        entries: *const FieldEntry,
+        entry_count: usize,
+        year: u32,
+        month: u32,
+        day: u32,
+    ) -> u32;
+    pub fn gl_table_append(
+        buffer: *mut u8,
+        buffer_len: usize,
+        table_len: usize,
+        record: *const u8,
+        record_len: usize,
+        record_place: *mut u64,
+        record_length: *mut u64,
+        count_place: *mut u64,
+        count_length: *mut u64,
+    ) -> u32;
+    pub fn gl_table_set_date(
+        buffer: *mut u8,
+        buffer_len: usize,
+        table_len: usize,
+        year: u32,
+        month: u32,
+        day: u32,
+    ) -> u32;
+    pub fn gl_table_extent(table: *const u8, table_len: usize, length: *mut u64) -> u32;
     pub fn gl_read_number(
         table: *const u8,
         table_len: usize,

@@ -11,15 +11,17 @@
 //! assert_eq!(Refusal::Comma.to_string(), "16 (comma in a number)");
 //! ```
 //!
-//! [`Table`] reads a table and its memo file; [`Index`] makes, audits, searches and extends an index. Both lie over bytes that the caller holds. [`ffi`]
-//! has the C interface itself.
+//! [`Table`] reads a table and its memo file, and lays out and extends a table; [`Index`] makes, audits, searches and extends an index. Both lie over bytes
+//! that the caller holds. [`ffi`] has the C interface itself.
 pub mod ffi;
 mod index;
 mod number;
 mod refusal;
 mod table;
+mod writing;
 
 pub use index::{Index, Lookup};
 pub use number::{read_number, write_number, Decimal};
 pub use refusal::{Answer, Refusal};
 pub use table::{Date, Field, Record, Records, Shape, Table, Value};
+pub use writing::{Store, Stores};

@@ -39,7 +39,7 @@ pub struct Shape {
 /// A field of a table.
 #[derive(Clone, Copy, Debug, PartialEq, Eq)]
 pub struct Field {
-    /// From 1.
+    /// From 1; 0 for a field of no table yet.
     pub number: u32,
     /// `b'C'`, `b'N'`, `b'D'`, `b'L'` or `b'M'`.
     pub kind: u8,
@@ -49,10 +49,34 @@ pub struct Field {
 }
 
 impl Field {
-    /// Letters A to Z, digits and underscores.
+    /// A field to lay out a table with. Laying out checks it: a name that an entry has no room for is no name there, and so refused by 6.
+    pub fn new(name: &str, kind: u8, length: u8, decimals: u8) -> Field {
+        let mut held = [0; 11];
+        if name.len() <= held.len() && !name.contains('\0') {
+            held[..name.len()].copy_from_slice(name.as_bytes());
+        }
+        Field {
+            number: 0,
+            kind,
+            length,
+            decimals,
+            name: held,
+        }
+    }
+
+    /// A good table's: letters A to Z, digits and underscores.
     pub fn name(&self) -> &str {
         let length = self.name.iter().position(|&c| c == 0).unwrap_or(11);
-        str::from_utf8(&self.name[..length]).expect("a good table's names are ASCII")
+        str::from_utf8(&self.name[..length]).expect("a name is ASCII, or was given as text")
+    }
+
+    pub(crate) fn entry(&self) -> ffi::FieldEntry {
+        ffi::FieldEntry {
+            name: self.name,
+            kind: self.kind,
+            length: self.length,
+            decimals: self.decimals,
+        }
     }
 }
 

@@ -1,5 +1,5 @@
 /* Calls every function of the archive and compares: with document 01's examples, with the reports on other programs' tables that an independent
-   implementation worked out (crates/test_samples), and with that implementation's lists of calls and their index files (crates/test_indexes).
+   implementation worked out (crates/test_samples), and with that implementation's lists of calls and their files (crates/test_indexes, crates/test_writing).
    What is lent lies between canaries, and what a call may not write is compared with what it was.
 
        gatherloom_test REPOSITORY
@@ -409,6 +409,32 @@ static void test_read_order(void)
     give_back(&t);
 }
 
+/* Append and the date refuse a bad table by the check's number, and so does the extent, which takes a file that is too long. */
+static void refused_writing(const lent *t, uint32_t check)
+{
+    const uint8_t none = 0;
+    OUT(uint64_t, record_place);
+    OUT(uint64_t, record_length);
+    OUT(uint64_t, count_place);
+    OUT(uint64_t, count_length);
+    OUT(uint64_t, length);
+    SAME(gl_table_append(t->bytes, t->len, t->len, &none, 0, &record_place[1], &record_length[1], &count_place[1], &count_length[1]), check);
+    HELD(record_place, OLD);
+    HELD(record_length, OLD);
+    HELD(count_place, OLD);
+    HELD(count_length, OLD);
+    SAME(gl_table_set_date(t->bytes, t->len, t->len, 2024, 2, 29), check);
+    SAME(gl_table_set_date(t->bytes, t->len, t->len + 1, 2024, 2, 29), 10);
+    uint32_t extent = gl_table_extent(t->bytes, t->len, &length[1]);
+    if (extent != 0) {
+        SAME(extent, check);
+        HELD(length, OLD);
+    } else {
+        SAME(check, 10);
+        SAME(length[1] < t->len, 1);
+    }
+}
+
 /* Where a table is refused, every call answers the check's number and leaves what it was lent. */
 static void refused_alike(const lent *t, uint32_t check)
 {
@@ -430,6 +456,7 @@ static void refused_alike(const lent *t, uint32_t check)
     SAME(position.passed, OLD);
     SAME_BYTES(&entry, &before, sizeof entry);
     all_answer(t, 0, 0, check);
+    refused_writing(t, check);
 }
 
 static void test_damaged_table(const char *name)
@@ -448,8 +475,11 @@ static void test_damaged_table(const char *name)
             UNCHANGED(t);
             t.bytes[i] ^= masks[m];
         }
-    for (size_t n = 0; n < t.len - 1; n++)
+    for (size_t n = 0; n < t.len - 1; n++) {
+        uint64_t length;
         SAME(gl_table_check(t.bytes, n) != 0, 1);
+        SAME(gl_table_extent(t.bytes, n, &length) != 0, 1);
+    }
     SAME(gl_table_check(t.bytes, 0), 1);
     SAME(gl_table_check(t.bytes, 31), 1);
     MARGINS(t);
@@ -514,8 +544,8 @@ static void test_walk(void)
     give_back(&t);
 }
 
-/* ---- The reports on other programs' tables, made through C, against crates/test_samples/stdout, which has a line `== ARGUMENTS` for each run of `inspect`, and
-   under it what that prints. */
+/* ---- The reports on other programs' tables, made through C, against crates/test_samples/stdout, which has a line `== ARGUMENTS` for each run of
+   `inspect`, and under it what that prints. */
 
 static char report[1 << 18];
 static size_t reported;
@@ -633,6 +663,15 @@ static uint32_t field_number(const lent *t, const char *word)
 enum { TABLE, MEMO, INDEX, FIELD, WORDS };
 
 /* Reports on the files of a run; a word that is NULL was not given. */
+/* The match's answer; 12 if no field of a good table has the name, before all that concerns the index. */
+static uint32_t matched(const lent *t, const lent *x, const char *word)
+{
+    uint32_t field = field_number(t, word);
+    if (field == 0 && (*word < '0' || *word > '9') && gl_table_check(t->bytes, t->len) == 0)
+        return 12;
+    return gl_match(t->bytes, t->len, x->bytes, x->len, field);
+}
+
 static void print_run(char *const *words)
 {
     lent files[FIELD];
@@ -646,7 +685,7 @@ static void print_run(char *const *words)
     if (given[INDEX])
         print("index %" PRIu32 "\n", gl_index_audit(x->bytes, x->len));
     if (given[INDEX] && words[FIELD] != NULL)
-        print("match %" PRIu32 "\n", gl_match(t->bytes, t->len, x->bytes, x->len, field_number(t, words[FIELD])));
+        print("match %" PRIu32 "\n", matched(t, x, words[FIELD]));
     for (int k = TABLE; k < FIELD; k++) {
         UNCHANGED(files[k]);
         MARGINS(files[k]);
@@ -687,7 +726,7 @@ static void test_run(char *arguments, char *lines)
     SAME_BYTES(report, want, reported);
 }
 
-/* Every run that `inspect` does not answer with 40. */
+/* Every run that `inspect` does not answer with 40. The lines from the first `-- ` on are of another program. */
 static void test_samples(void)
 {
     static char text[sizeof report];
@@ -695,6 +734,9 @@ static void test_samples(void)
     SAME(file.len < sizeof text, 1);
     memcpy(text, file.bytes, file.len);
     give_back(&file);
+    char *rest = strstr(text, "\n-- ");
+    if (rest != NULL)
+        rest[1] = 0;
     size_t runs = 0;
     for (char *at = text; at != NULL;) {
         char *arguments = at + 2, *lines = strchr(at, '\n') + 1;
@@ -908,6 +950,267 @@ static void test_calls(const char *name, size_t len)
     give_back(&want);
 }
 
+/* ---- Writing a table: a list of calls with their answers, and the tables after the last. */
+
+static void has_extent(const uint8_t *file, size_t len, uint64_t want)
+{
+    lent l = lend(file, len);
+    OUT(uint64_t, length);
+    SAME(gl_table_extent(l.bytes, l.len, &length[1]), 0);
+    HELD(length, want);
+    SAME(gl_table_check(l.bytes, (size_t)want), 0);
+    UNCHANGED(l);
+    MARGINS(l);
+    give_back(&l);
+}
+
+static uint64_t extent_of(const lent *t)
+{
+    uint64_t length = 0;
+    SAME(gl_table_extent(t->bytes, t->len, &length), 0);
+    return length;
+}
+
+/* Power fails at every byte of the first store, and then after both: what a file shortened to its extent holds. */
+static void loses_power(const lent *t, const uint64_t store[4])
+{
+    size_t old = (size_t)store[0], end = (size_t)(store[0] + store[1]);
+    uint8_t *file = room(end);
+    has_extent(t->copy, old + 1, old); /* none made, the old end mark still there */
+    memcpy(file, t->copy, old);
+    memcpy(file + old, t->bytes + old, end - old);
+    for (size_t cut = old; cut <= end; cut++)
+        has_extent(file, cut, old);
+    memcpy(file + store[2], t->bytes + store[2], (size_t)store[3]);
+    has_extent(file, end, end - 1);
+    SAME_BYTES(file, t->bytes, end);
+    SAME_BYTES(t->bytes + end, t->copy + end, t->len - end);
+    SAME(gl_table_check(file, end), 0);
+    free(file);
+}
+
+static void append_line(lent *t, size_t table_len, const char *rest)
+{
+    static char word[512];
+    static uint8_t bytes[256];
+    uint32_t answer = 0;
+    uint64_t want[4] = {OLD, OLD, OLD, OLD};
+    sscanf(rest, "%511s %" SCNu32 " %" SCNu64 " %" SCNu64 " %" SCNu64 " %" SCNu64, word, &answer, &want[0], &want[1], &want[2], &want[3]);
+    size_t n = hex(word, bytes);
+    lent record = lend(bytes, n);
+    OUT(uint64_t, record_place);
+    OUT(uint64_t, record_length);
+    OUT(uint64_t, count_place);
+    OUT(uint64_t, count_length);
+    SAME(gl_table_append(t->bytes, t->len, table_len, record.bytes, record.len,
+                         &record_place[1], &record_length[1], &count_place[1], &count_length[1]), answer);
+    HELD(record_place, want[0]);
+    HELD(record_length, want[1]);
+    HELD(count_place, want[2]);
+    HELD(count_length, want[3]);
+    if (answer == 0)
+        loses_power(t, want);
+    else
+        UNCHANGED(*t);
+    UNCHANGED(record);
+    MARGINS(record);
+    give_back(&record);
+}
+
+static void date_line(lent *t, size_t table_len, const char *rest)
+{
+    uint32_t y = 0, m = 0, d = 0, answer = 0;
+    sscanf(rest, "%" SCNu32 " %" SCNu32 " %" SCNu32 " %" SCNu32, &y, &m, &d, &answer);
+    SAME(gl_table_set_date(t->bytes, t->len, table_len, y, m, d), answer);
+    if (answer == 0) {
+        t->copy[1] = (uint8_t)(y - 1900);
+        t->copy[2] = (uint8_t)m;
+        t->copy[3] = (uint8_t)d;
+    }
+    UNCHANGED(*t);
+}
+
+static void image_line(const lent *t, const char *rest)
+{
+    char name[64];
+    size_t len = 0;
+    sscanf(rest, "%63s %zu", name, &len);
+    lent want = load("crates/test_writing/data", name);
+    SAME(want.len, len);
+    SAME(extent_of(t) + 1, len);
+    SAME_BYTES(t->bytes, want.bytes, len);
+    give_back(&want);
+}
+
+/* NAME:TYPE:LENGTH:DECIMALS,.. as entries; `-` is none. Gives how many. */
+static size_t field_entries(const char *word, gl_field_entry *to)
+{
+    size_t n = 0;
+    if (strcmp(word, "-") == 0)
+        return 0;
+    for (; word != NULL; word = strchr(word, ',')) {
+        char name[16], kind;
+        unsigned length, decimals;
+        word += *word == ',';
+        SAME(sscanf(word, "%15[^:]:%c:%u:%u", name, &kind, &length, &decimals), 4);
+        memset(&to[n], 0, sizeof *to);
+        memcpy(to[n].name, name, strlen(name) < 11 ? strlen(name) : 11);
+        to[n].kind = (uint8_t)kind;
+        to[n].length = (uint8_t)length;
+        to[n].decimals = (uint8_t)decimals;
+        n++;
+    }
+    return n;
+}
+
+static uint32_t lay_out(const lent *t, const gl_field_entry *entries, size_t n, const uint32_t date[3])
+{
+    lent list = lend(entries, n * sizeof *entries);
+    uint32_t answer = gl_table_lay_out(t->bytes, t->len, (const gl_field_entry *)list.bytes, n, date[0], date[1], date[2]);
+    UNCHANGED(list);
+    MARGINS(list);
+    MARGINS(*t);
+    give_back(&list);
+    return answer;
+}
+
+/* `lay_out YEAR MONTH DAY ROOM FIELDS ANSWER`, on a buffer of bytes 0xEE: an accepted one's table is the file that ROOM names. */
+static void lay_out_line(lent *t, const char *line)
+{
+    static char word[4096], name[16];
+    static gl_field_entry entries[GL_FIELDS_MAX];
+    uint32_t date[3] = {0, 0, 0}, answer = 0;
+    sscanf(line, "lay_out %" SCNu32 " %" SCNu32 " %" SCNu32 " %15s %4095s %" SCNu32, &date[0], &date[1], &date[2], name, word, &answer);
+    lent buffer = lend(NULL, strtoul(name, NULL, 10));
+    memset(buffer.bytes, 0xEE, buffer.len);
+    keep(&buffer);
+    SAME(lay_out(&buffer, entries, field_entries(word, entries), date), answer);
+    if (answer != 0) {
+        UNCHANGED(buffer);
+        give_back(&buffer);
+        return;
+    }
+    lent laid = load("crates/test_writing/data", name);
+    memcpy(buffer.copy, laid.bytes, laid.len);
+    UNCHANGED(buffer);
+    give_back(&laid);
+    give_back(t);
+    *t = buffer;
+}
+
+/* The most fields and one more, the longest record and one byte more, and a buffer of just the table's length and one byte less. */
+static void test_lay_out_limits(void)
+{
+    static const uint32_t date[3] = {2155, 12, 31}, late[3] = {2156, 1, 1};
+    gl_field_entry entries[GL_FIELDS_MAX + 1];
+    memset(entries, 0, sizeof entries);
+    for (size_t i = 0; i <= GL_FIELDS_MAX; i++) {
+        entries[i].name[0] = 'A', entries[i].name[1] = (uint8_t)('A' + i / 16), entries[i].name[2] = (uint8_t)('A' + i % 16);
+        entries[i].kind = 'C', entries[i].length = i < 31 ? 32 : 31;
+    }
+    entries[0].length = 33; /* with 32 the record has 1 + 31 * 32 + 97 * 31 = 4,000 bytes */
+    lent t = lend(NULL, 34 + 32 * GL_FIELDS_MAX);
+    SAME(lay_out(&t, entries, GL_FIELDS_MAX + 1, date), 4);
+    SAME(lay_out(&t, entries, GL_FIELDS_MAX, late), 3);
+    SAME(gl_table_lay_out(t.bytes, t.len - 1, entries, GL_FIELDS_MAX, date[0], date[1], date[2]), 9);
+    entries[0].length = 32;
+    SAME(gl_table_lay_out(t.bytes, t.len - 1, entries, GL_FIELDS_MAX, date[0], date[1], date[2]), 30);
+    UNCHANGED(t);
+    SAME(lay_out(&t, entries, GL_FIELDS_MAX, date), 0);
+    uint32_t records = OLD, fields = 0, length = 0;
+    SAME(gl_table_shape(t.bytes, t.len, &records, &fields, &length), 0);
+    SAME(records, 0);
+    SAME(fields, GL_FIELDS_MAX);
+    SAME(length, GL_RECORD_LENGTH_MAX);
+    give_back(&t);
+}
+
+static void write_line(lent *t, const char *line)
+{
+    if (strncmp(line, "lay_out ", 8) == 0) {
+        lay_out_line(t, line);
+        return;
+    }
+    size_t table_len = (size_t)extent_of(t) + 1;
+    keep(t);
+    if (strncmp(line, "append ", 7) == 0)
+        append_line(t, table_len, line + 7);
+    else if (strncmp(line, "append_longer ", 14) == 0)
+        append_line(t, t->len + 1, line + 14);
+    else if (strncmp(line, "date ", 5) == 0)
+        date_line(t, table_len, line + 5);
+    else if (strncmp(line, "image ", 6) == 0)
+        image_line(t, line + 6);
+    else
+        SAME(line[0], 0);
+    MARGINS(*t);
+}
+
+static void test_writing(void)
+{
+    char *line;
+    lent text = load("crates/test_writing/data", "k3_writing.calls"), t = lend(NULL, 1);
+    text.bytes[text.len] = 0; /* its first canary */
+    for (line = strtok((char *)text.bytes, "\n"); line != NULL; line = strtok(NULL, "\n"))
+        write_line(&t, line);
+    give_back(&text);
+    give_back(&t);
+}
+
+static uint32_t append_blanks(lent *t, size_t table_len, size_t record_len, uint64_t *end)
+{
+    uint8_t blanks[16];
+    uint64_t place = 0, length = 0, count_place = 0, count_length = 0;
+    memset(blanks, ' ', sizeof blanks);
+    uint32_t answer = gl_table_append(t->bytes, t->len, table_len, blanks, record_len, &place, &length, &count_place, &count_length);
+    *end = place + length;
+    return answer;
+}
+
+/* A table with records of two bytes that is full with its end mark at 16,777,216 bytes, and a buffer that is longer. */
+static void test_longest_table(void)
+{
+    static const form one[] = {{'C', 1, 0}};
+    uint64_t end = 0;
+    lent t = lend(NULL, GL_TABLE_MAX + 4);
+    make_table(t.bytes, 0x03, one, 1, "  ");
+    memset(t.bytes + 65, ' ', t.len - 65);
+    put32(t.bytes + 4, (GL_TABLE_MAX - 66) / 2 - 1);
+    keep(&t);
+    SAME(append_blanks(&t, GL_TABLE_MAX - 3, 2, &end), 0);
+    SAME(end, GL_TABLE_MAX);
+    SAME(gl_table_check(t.bytes, GL_TABLE_MAX), 0);
+    keep(&t);
+    SAME(append_blanks(&t, GL_TABLE_MAX, 2, &end), 30);
+    SAME(append_blanks(&t, GL_TABLE_MAX, 1, &end), 9);
+    SAME(append_blanks(&t, GL_TABLE_MAX + 4, 2, &end), 1);
+    SAME(append_blanks(&t, GL_TABLE_MAX + 5, 2, &end), 10);
+    SAME(append_blanks(&t, SIZE_MAX, 2, &end), 10);
+    UNCHANGED(t);
+    MARGINS(t);
+    give_back(&t);
+}
+
+static void test_set_date(void)
+{
+    static const uint32_t refused[][3] = {{1899, 12, 31}, {2156, 1, 1},  {1900, 2, 29}, {2155, 2, 29},         {2024, 0, 1},
+                                          {2024, 13, 1},  {2024, 1, 0},  {2024, 4, 31}, {UINT32_MAX, 1, 1},    {2024, 258, 1},
+                                          {2024, 1, 257}, {2024, 2, 30}, {0, 1, 1},     {2024, 1, UINT32_MAX}, {2280, 1, 1}};
+    lent t = load(samples_data, "shp_point.dbf");
+    for (size_t i = 0; i < sizeof refused / sizeof *refused; i++)
+        SAME(gl_table_set_date(t.bytes, t.len, t.len, refused[i][0], refused[i][1], refused[i][2]), 3);
+    SAME(gl_table_set_date(t.bytes, t.len, t.len + 1, 1899, 1, 1), 10);
+    UNCHANGED(t);
+    SAME(gl_table_set_date(t.bytes, t.len, t.len, 1900, 1, 1), 0);
+    SAME_BYTES(t.bytes + 1, "\0\1\1", 3);
+    SAME(gl_table_set_date(t.bytes, t.len, t.len, 2155, 12, 31), 0);
+    SAME_BYTES(t.bytes + 1, "\xFF\14\37", 3);
+    SAME_BYTES(t.bytes, t.copy, 1);
+    SAME_BYTES(t.bytes + 4, t.copy + 4, t.len - 4);
+    MARGINS(t);
+    give_back(&t);
+}
+
 /* Puts records 1 to `last` of a table into an index on its field 1. */
 static void index_records(lent *index, const lent *t, uint32_t k, uint32_t last)
 {
@@ -1015,6 +1318,10 @@ int main(int argc, char **argv)
     test_calls("k46_mixed", 32768);
     test_calls("k100_deep", 65536);
     test_calls("k100_full", 4096);
+    test_writing();
+    test_lay_out_limits();
+    test_longest_table();
+    test_set_date();
     test_match();
     test_damaged_index("k1_bytes.idx", "\x80");
     test_damaged_index("k100_full.idx", "0123456789012345678901234567890123456789012345678901234567890123456789012345678901234567890123456789");

@@ -73,8 +73,8 @@ fn reads_type(reads: Reads, kind: u32) -> bool
     }
 }
 
-// Whether the deletion byte marks a record as kept or as deleted.
-fn mark_good(mark: u32) -> bool
+// Whether a deletion byte marks a record as kept or as deleted.
+pub fn mark_good(mark: u32) -> bool
     ensures { λ r. ⌜ r ≡ markGood mark ⌝ }
 {
     (mark == KEPT) | (mark == DELETED)
@@ -139,7 +139,7 @@ pub fn read_date(table: &[u8], number: u32, field: u32) -> DateAnswer
 }
 
 // What the one character of an L field says.
-fn logical_of(c: u32) -> Logical
+pub fn logical_of(c: u32) -> Logical
     ensures { λ r. ⌜ r ≡ logicalOf c ⌝ }
 {
     if c == LETTER_T {

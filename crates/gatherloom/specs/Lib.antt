@@ -10,3 +10,5 @@ pub mod AnswerLaws
 pub mod LentLaws
 -- Laws: an answer's number tells its case
 pub mod ToldApart
+pub mod Writing
+pub mod WritingLaws

@@ -26,9 +26,14 @@ ghost use Rattle.sound.specs.Sound.{Audited};
 ghost use Rattle.insert.specs.Calls.{insertRule, insertionCode};
 ghost use Rattle.insert.specs.Fresh.{freshRule};
 ghost use Rattle.matching.specs.Match.{Matched};
+ghost use Rattle.append.specs.Append.{appendRule};
+ghost use Rattle.append.specs.UpdateDate.{setDateRule, dated};
+ghost use Rattle.append.specs.Extent.{extentRule};
+ghost use Rattle.laying.specs.Laying.{layOutRule, laid};
 ghost use Rattle.gatherloom.specs.Lent.{planOf, listing, walkedOf};
 ghost use Rattle.gatherloom.specs.Answers.{interfaceNumber, out, sizes, dayOf, part, found};
 ghost use Rattle.gatherloom.specs.Answers.{shapeOut, numberOut, dateOut, logicalOut, textOut, lookupOut, writingOut, insertionOut};
+ghost use Rattle.gatherloom.specs.Writing.{stores, written, appendOut, extentOut};
 
 // The number of this interface, GL_INTERFACE in the header.
 const INTERFACE: u32 = 1;
@@ -353,4 +358,81 @@ pub extern "C" fn gl_match(table: &[u8], index: &[u8], field: u32) -> u32
     ensures { λ r. ⌜ Matched (now (table .entry)) (now (index .entry)) field r ⌝ }
 {
     matching::match_index(table, index, field)
+}
+
+// Appends a record to the table in the buffer's first `table_len` bytes. The two stores are set in the order in which the file must get them.
+#[no_mangle]
+pub extern "C" fn gl_table_append(
+    buffer: &mut [u8],
+    table_len: usize,
+    bytes: &[u8],
+    record_place: &mut u64,
+    record_length: &mut u64,
+    count_place: &mut u64,
+    count_length: &mut u64,
+) -> u32
+    ensures { λ r. ⌜
+        appendOut (appendRule (now (buffer .entry)) «table_len» (now (bytes .entry)))
+        (stores (now («record_place» .entry)) (now («record_length» .entry)) (now («count_place» .entry)) (now («count_length» .entry)))
+        ≡ out r (written (now (buffer .exit))
+        (stores (now («record_place» .exit)) (now («record_length» .exit)) (now («count_place» .exit)) (now («count_length» .exit)))) ⌝ }
+{
+    let appended = append::append(buffer, table_len, bytes);
+    if appended.refusal != 0 {
+        return appended.refusal;
+    }
+    *record_place = appended.first.place as u64;
+    *record_length = appended.first.length as u64;
+    *count_place = appended.second.place as u64;
+    *count_length = appended.second.length as u64;
+    0
+}
+
+// Sets the update date of the table in the buffer's first `table_len` bytes.
+#[no_mangle]
+pub extern "C" fn gl_table_set_date(
+    buffer: &mut [u8],
+    table_len: usize,
+    year: u32,
+    month: u32,
+    day: u32,
+) -> u32
+    ensures { λ r. ⌜ setDateRule (now (buffer .entry)) «table_len» year month day ≡ dated (now (buffer .exit)) r ⌝ }
+{
+    append::set_date(buffer, table_len, year, month, day)
+}
+
+// The length that the host shortens a table's file to after a power loss.
+#[no_mangle]
+pub extern "C" fn gl_table_extent(table: &[u8], length: &mut u64) -> u32
+    ensures { λ r. ⌜ extentOut (extentRule (now (table .entry))) (now (length .entry)) ≡ out r (now (length .exit)) ⌝ }
+{
+    let extent = append::table_extent(table);
+    if extent.refusal != 0 {
+        return extent.refusal;
+    }
+    *length = extent.length as u64;
+    0
+}
+
+// Lays out an empty table with the fields that the host lists: 0, or the number of the refusal, which changes nothing.
+#[no_mangle]
+pub extern "C" fn gl_table_lay_out(
+    buffer: &mut [u8],
+    entries: &[FieldEntry],
+    year: u32,
+    month: u32,
+    day: u32,
+) -> u32
+    ensures { λ r. ⌜ layOutRule (now (buffer .entry)) (now (entries .entry)) year month day ≡ laid (now (buffer .exit)) r ⌝ }
+{
+    let given = entries.len();
+    let count = laying::listed_count(given);
+    let mut list = laying::no_fields();
+    let mut j: usize = 0;
+    while j < count {
+        list = laying::with_field(list, j, entries[j]);
+        j += 1;
+    }
+    laying::lay_out(buffer, list, given, year, month, day)
 }

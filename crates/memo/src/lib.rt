@@ -15,7 +15,7 @@ const HEADER_BYTES: usize = 512;
 const MAX_MEMO_BYTES: usize = 16777216;
 
 // What the ten characters of an M field say.
-enum MemoNumber {
+pub enum MemoNumber {
     Blank,
     Bad,
     Number(u64),
@@ -29,7 +29,7 @@ pub enum MemoPlace {
 }
 
 // Reads an M field's text: blanks, then digits without a leading zero.
-fn read_number(text: &[u8]) -> MemoNumber
+pub fn read_number(text: &[u8]) -> MemoNumber
     ensures { λ r. ⌜ r ≡ memoNumber (now (text .entry)) ⌝ }
 {
     if text.len() != 10 {

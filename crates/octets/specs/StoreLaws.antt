@@ -59,7 +59,7 @@ pub put-append : (xs : List ℕ) (at : ℕ) (ys zs : List ℕ) → put xs at (ys
 put-append xs at ys zs = simp put-sets (sets-append ys xs at zs)
 
 -- a store of one byte more at the end
-put-snoc : (xs : List ℕ) (at : ℕ) (ys : List ℕ) (a : ℕ) → put xs at (ys ++ (a ∷ [])) ≡ set (put xs at ys) (at + length ys) a
+pub put-snoc : (xs : List ℕ) (at : ℕ) (ys : List ℕ) (a : ℕ) → put xs at (ys ++ (a ∷ [])) ≡ set (put xs at ys) (at + length ys) a
 put-snoc xs at ys a = simp put-sets (sets-append ys xs at (a ∷ []))
 
 sets-comm : (ys xs : List ℕ) (at at′ : ℕ) (zs : List ℕ) → at + length ys ≤ at′ → sets (sets xs at ys) at′ zs ≡ sets (sets xs at′ zs) at ys

@@ -60,6 +60,17 @@ module _ (test : ℕ → Bool) where
       ⊎-elim (λ (q : i ≡ n). rw (subst (λ (k : ℕ). test k ≡ true) q e) (or-true (anyBelow test n)))
       (λ lt. rw (any-stop i n lt e)) (eq-or-lt-of-le (le-of-suc-le-suc l))
 
+-- tests and amounts that agree on every number below a bound
+pub any-same : (p q : ℕ → Bool) (n : ℕ) → ((j : ℕ) → j < n → p j ≡ q j) → anyBelow p n ≡ anyBelow q n
+unfolding anyBelow
+any-same p q zero h = refl
+any-same p q (suc n) h = rw (any-same p q n (λ j l. h j (omega arith)), h n (omega arith))
+
+pub sum-same : (p q : ℕ → ℕ) (n : ℕ) → ((j : ℕ) → j < n → p j ≡ q j) → sumBelow p n ≡ sumBelow q n
+unfolding sumBelow
+sum-same p q zero h = refl
+sum-same p q (suc n) h = rw (sum-same p q n (λ j l. h j (omega arith)), h n (omega arith))
+
 module _ (amount : ℕ → ℕ) where
   pub sum-none : sumBelow amount 0 ≡ 0
   unfolding sumBelow

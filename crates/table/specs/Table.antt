@@ -119,6 +119,16 @@ kindGood b = eqb (tableKind b) plainKind || eqb (tableKind b) memoKind
 unfoldable pub dateGood : List ℕ → Bool
 dateGood b = isDate (1900 + byteAt b 1) (byteAt b 2) (byteAt b 3)
 
+-- the years that byte 1 holds; document 02, K3: a date that is to be stored is 3 if it "isn't a calendar date", or if its year has no byte
+abbrev pub firstYear : ℕ
+firstYear = 1900
+
+abbrev pub lastYear : ℕ
+lastYear = 2155
+
+unfoldable pub storableDate : ℕ → ℕ → ℕ → Bool
+storableDate year month day = leb firstYear year && leb year lastYear && isDate year month day
+
 -- 4: "bytes 8-9 aren't 33 + 32f with f from 1 to 128, or exceed the table's length"
 unfoldable pub headerGood : List ℕ → Bool
 headerGood b =

@@ -5,26 +5,31 @@ ghost use lib.ListN.{length};
 ghost use Rattle.table.specs.Table.{minTable, maxFields, recordCount, headerLength, recordLength, fieldCount, descriptor, fieldOffset, recordsEnd};
 ghost use Rattle.table.specs.Table.{sizeGood, kindGood, dateGood, headerGood, endMarkGood, isLetter, isNameByte, mayFollow, nameGood, formGood};
 ghost use Rattle.table.specs.Table.{descriptorGood, fieldsGood, sameName, namesDiffer, hasMemo, memoKindGood, recordLengthGood, lengthGood};
-ghost use Rattle.table.specs.Table.{tableRefusal, shapeOf, checkTable};
+ghost use Rattle.table.specs.Table.{tableRefusal, shapeOf, checkTable, storableDate};
 ghost use Rattle.table.specs.TableLaws.{HeaderFits};
 
 const MIN_TABLE: usize = 32;
 
-const MAX_TABLE: usize = 16777216;
+pub const MAX_TABLE: usize = 16777216;
 
-const MAX_FIELDS: usize = 128;
+// The year of the update date whose byte is 0, and the last year that a byte holds.
+pub const FIRST_YEAR: u32 = 1900;
+
+const LAST_YEAR: u32 = 2155;
+
+pub const MAX_FIELDS: usize = 128;
 
 const MAX_RECORD: usize = 4000;
 
 const MAX_TEXT: u32 = 254;
 
-const PLAIN_KIND: u32 = 0x03;
+pub const PLAIN_KIND: u32 = 0x03;
 
-const MEMO_KIND: u32 = 0xF5;
+pub const MEMO_KIND: u32 = 0xF5;
 
-const END_MARK: u8 = 0x0D;
+pub const END_MARK: u8 = 0x0D;
 
-const FILE_END: u8 = 0x1A;
+pub const FILE_END: u8 = 0x1A;
 
 // The deletion byte of a record that is kept, and of a deleted record.
 pub const KEPT: u32 = 0x20;
@@ -90,8 +95,16 @@ fn date_good(table: &[u8]) -> bool
     requires { ⌜ minTable ≤ length (now table) ⌝ }
     ensures { λ r. ⌜ r ≡ dateGood (now (table .entry)) ⌝ }
 {
-    let year = 1900 + octets::byte(table, 1);
+    let year = FIRST_YEAR + octets::byte(table, 1);
     calendar::is_date(year, octets::byte(table, 2), octets::byte(table, 3))
+}
+
+// Whether the header can hold a date: a calendar date whose year less 1900 is a byte.
+pub fn storable_date(year: u32, month: u32, day: u32) -> bool
+    ensures { λ r. ⌜ r ≡ storableDate year month day ⌝ }
+{
+    let real = calendar::is_date(year, month, day);
+    (FIRST_YEAR <= year) & (year <= LAST_YEAR) & real
 }
 
 fn header_length(table: &[u8]) -> usize
@@ -258,7 +271,7 @@ fn names_differ(table: &[u8]) -> bool
     differ
 }
 
-fn has_memo(table: &[u8]) -> bool
+pub fn has_memo(table: &[u8]) -> bool
     requires { ⌜ HeaderFits (now table) ⌝ }
     ensures { λ r. ⌜ r ≡ hasMemo (now (table .entry)) ⌝ }
 {

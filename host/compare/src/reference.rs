@@ -14,6 +14,13 @@ pub struct Shape {
     pub record_length: usize,
 }
 
+impl Shape {
+    /// H + n * R.
+    fn end(&self) -> u64 {
+        self.header_length as u64 + self.records as u64 * self.record_length as u64
+    }
+}
+
 #[repr(C)]
 #[derive(Clone, Copy, Debug, PartialEq, Eq)]
 pub struct Field {
@@ -83,7 +90,7 @@ fn descriptor_good(d: &[u8]) -> bool {
 
 /// Checks 1 to 5, and the header's length.
 fn header_length(t: &[u8]) -> Result<usize, Refusal> {
-    if t.len() < 32 || t.len() > 16_777_216 {
+    if t.len() < 32 || t.len() > TABLE_MOST {
         return Err(1);
     }
     if t[0] != 0x03 && t[0] != 0xF5 {
@@ -111,8 +118,8 @@ fn names_differ(t: &[u8], fields: usize) -> bool {
     (0..fields).all(|i| (i + 1..fields).all(|j| name(i) != name(j)))
 }
 
-/// Checks 1 to 10.
-pub fn check_table(t: &[u8]) -> Result<Shape, Refusal> {
+/// Checks 1 to 9: all but the table's length.
+fn check_form(t: &[u8]) -> Result<Shape, Refusal> {
     let header = header_length(t)?;
     let fields = (header - 33) / 32;
     let descriptors = || t[32..header - 1].chunks_exact(32);
@@ -129,19 +136,23 @@ pub fn check_table(t: &[u8]) -> Result<Shape, Refusal> {
     if record != 1 + descriptors().map(|d| d[16] as usize).sum::<usize>() || record > 4000 {
         return Err(9);
     }
-    let records = le32(t, 4);
-    let end = header as u64 + records as u64 * record as u64;
-    let len = t.len() as u64;
-    if len != end && !(len == end + 1 && t[end as usize] == 0x1A) {
-        return Err(10);
-    }
     Ok(Shape {
         kind: t[0],
-        records,
+        records: le32(t, 4),
         fields,
         header_length: header,
         record_length: record,
     })
+}
+
+/// Checks 1 to 10.
+pub fn check_table(t: &[u8]) -> Result<Shape, Refusal> {
+    let shape = check_form(t)?;
+    let (end, len) = (shape.end(), t.len() as u64);
+    if len != end && !(len == end + 1 && t[end as usize] == 0x1A) {
+        return Err(10);
+    }
+    Ok(shape)
 }
 
 fn field_at(t: &[u8], j: usize) -> Field {
@@ -248,12 +259,29 @@ fn date_text(text: &[u8]) -> Result<Option<(u32, u32, u32)>, Refusal> {
 
 pub fn read_logical(t: &[u8], record: u32, field: u32) -> Result<Option<bool>, Refusal> {
     let (_, at) = cell(t, record, field, b"L")?;
-    match t[at] {
+    logical_text(t[at])
+}
+
+fn logical_text(text: u8) -> Result<Option<bool>, Refusal> {
+    match text {
         b'T' => Ok(Some(true)),
         b'F' => Ok(Some(false)),
         b' ' => Ok(None),
         _ => Err(20),
     }
+}
+
+/// The number of a memo's block.
+fn memo_number(text: &[u8]) -> Result<Option<u64>, Refusal> {
+    let Some(first) = text.iter().position(|&c| c != b' ') else {
+        return Ok(None);
+    };
+    let digits = &text[first..];
+    if digits[0] == b'0' || !digits.iter().all(u8::is_ascii_digit) {
+        return Err(21);
+    }
+    let number = digits.iter().fold(0u64, |n, c| 10 * n + (c - b'0') as u64);
+    Ok(Some(number))
 }
 
 /// Where a text lies: in the table, or in the memo file.
@@ -267,15 +295,9 @@ pub fn text_part(
     if entry.kind == b'C' {
         return Ok(Some((at, entry.length as usize)));
     }
-    let text = &t[at..at + 10];
-    let Some(first) = text.iter().position(|&c| c != b' ') else {
+    let Some(number) = memo_number(&t[at..at + 10])? else {
         return Ok(None);
     };
-    let digits = &text[first..];
-    if digits[0] == b'0' || !digits.iter().all(u8::is_ascii_digit) {
-        return Err(21);
-    }
-    let number = digits.iter().fold(0u64, |n, c| 10 * n + (c - b'0') as u64);
     if memo.len() < 512 || memo.len() > 16_777_216 {
         return Err(22);
     }
@@ -296,6 +318,125 @@ pub fn text_part(
         return Err(23);
     }
     Ok(Some((at + 8, length as usize)))
+}
+
+// ---- writing a table
+
+const TABLE_MOST: usize = 16_777_216;
+
+/// The table in a buffer's first `length` bytes: 10 if there are fewer, then 1 to 10.
+fn check_held(buffer: &[u8], length: usize) -> Result<Shape, Refusal> {
+    check_table(buffer.get(..length).ok_or(10u32)?)
+}
+
+/// A field's text, as reading takes it: 16 to 18, 20, or 21 for the form of a memo's number.
+fn check_text(field: &Field, text: &[u8]) -> Result<(), Refusal> {
+    match field.kind {
+        b'N' => number_read(text, field.decimals as u32).map(|_| ()),
+        b'D' => date_text(text).map(|_| ()),
+        b'L' => logical_text(text[0]).map(|_| ()),
+        b'M' => memo_number(text).map(|_| ()),
+        _ => Ok(()),
+    }
+}
+
+/// Bytes that were written: their place, and how many they are.
+pub type Store = (u64, u64);
+
+/// Appends a record, and gives the record's store and the count's.
+pub fn append(buffer: &mut [u8], length: usize, record: &[u8]) -> Result<[Store; 2], Refusal> {
+    let shape = check_held(buffer, length)?;
+    if record.len() != shape.record_length {
+        return Err(9);
+    }
+    if record[0] != 0x20 && record[0] != 0x2A {
+        return Err(15);
+    }
+    let mut rest = &record[1..];
+    for j in 0..shape.fields {
+        let field = field_at(buffer, j);
+        let (text, after) = rest.split_at(field.length as usize);
+        check_text(&field, text)?;
+        rest = after;
+    }
+    let place = shape.end() as usize;
+    let mark = place + record.len();
+    if mark + 1 > buffer.len() || mark + 1 > TABLE_MOST {
+        return Err(30);
+    }
+    buffer[place..mark].copy_from_slice(record);
+    buffer[mark] = 0x1A;
+    put_le32(buffer, 4, shape.records + 1);
+    Ok([(place as u64, record.len() as u64 + 1), (4, 4)])
+}
+
+/// An update date's bytes in the header, or 3.
+fn date_bytes(year: u32, month: u32, day: u32) -> Result<[u8; 3], Refusal> {
+    if !(1900..=2155).contains(&year) || !is_date(year, month, day) {
+        return Err(3);
+    }
+    Ok([(year - 1900) as u8, month as u8, day as u8])
+}
+
+/// Lays out a table of no records: 3, 4 for the number of fields, 6, 7, 9, 30.
+pub fn lay_out(
+    buffer: &mut [u8],
+    fields: &[Field],
+    (year, month, day): (u32, u32, u32),
+) -> Result<(), Refusal> {
+    let date = date_bytes(year, month, day)?;
+    if fields.is_empty() || fields.len() > 128 {
+        return Err(4);
+    }
+    let header = 33 + 32 * fields.len();
+    let mut t = vec![0; header + 1];
+    for (d, field) in t[32..].chunks_exact_mut(32).zip(fields) {
+        d[..11].copy_from_slice(&field.name);
+        d[11] = field.kind;
+        d[16] = field.length;
+        d[17] = field.decimals;
+    }
+    if !t[32..].chunks_exact(32).all(descriptor_good) {
+        return Err(6);
+    }
+    if !names_differ(&t, fields.len()) {
+        return Err(7);
+    }
+    let record = 1 + fields.iter().map(|f| f.length as u32).sum::<u32>();
+    if record > 4000 {
+        return Err(9);
+    }
+    let made = buffer.get_mut(..=header).ok_or(30u32)?;
+    let memo = fields.iter().any(|f| f.kind == b'M');
+    t[0] = if memo { 0xF5 } else { 0x03 };
+    t[1..4].copy_from_slice(&date);
+    put_le16(&mut t, 8, header as u32);
+    put_le16(&mut t, 10, record);
+    t[header - 1] = 0x0D;
+    t[header] = 0x1A;
+    made.copy_from_slice(&t);
+    Ok(())
+}
+
+/// Sets the update date: append's checks of the table, then 3.
+pub fn set_date(
+    buffer: &mut [u8],
+    length: usize,
+    (year, month, day): (u32, u32, u32),
+) -> Result<(), Refusal> {
+    check_held(buffer, length)?;
+    let bytes = date_bytes(year, month, day)?;
+    buffer[1..4].copy_from_slice(&bytes);
+    Ok(())
+}
+
+/// The length that a file is shortened to after a power loss: 1 to 9, then 10 if the file is shorter.
+pub fn extent(file: &[u8]) -> Result<u64, Refusal> {
+    let shape = check_form(file)?;
+    if shape.end() > file.len() as u64 {
+        return Err(10);
+    }
+    Ok(shape.end())
 }
 
 // ---- numeric text

@@ -154,6 +154,78 @@ pub fn table(r: &mut Random, memos: &[u64]) -> Vec<u8> {
     t
 }
 
+/// The columns of a table, as its descriptors have them.
+fn columns_of(t: &[u8]) -> Vec<Column> {
+    let header = u16::from_le_bytes([t[8], t[9]]) as usize;
+    let column = |d: &[u8]| Column {
+        kind: d[11],
+        length: d[16],
+        decimals: d[17],
+    };
+    t[32..header - 1].chunks_exact(32).map(column).collect()
+}
+
+/// A list of fields as its entries' bytes: those of a table's descriptors, damaged now and then, or too few or too many.
+pub fn field_list(r: &mut Random) -> Vec<u8> {
+    let with_memo = r.one_in(4);
+    let mut columns = columns(r, with_memo);
+    match r.below(30) {
+        0 => columns.clear(),
+        1 => {
+            let one = column(r, b'L');
+            columns.resize(r.between(127, 130), one);
+        }
+        _ => (),
+    }
+    let shared = r.below(9);
+    let mut t = blank(&columns, 0x03, 0, shared);
+    if r.one_in(4) {
+        damage_descriptor(r, &mut t);
+    }
+    let entry = |d: &[u8]| [&d[..12], &d[16..18]].concat();
+    t[32..].chunks_exact(32).flat_map(entry).collect()
+}
+
+/// A text that is read for what it is.
+fn fill_good(r: &mut Random, c: Column, cell: &mut [u8]) {
+    match c.kind {
+        b'C' => r.fill(cell),
+        b'N' => cell.copy_from_slice(&text::good_number(r, cell.len(), c.decimals as u32)),
+        b'D' => cell.copy_from_slice(&text::good_date(r)),
+        b'L' => cell[0] = r.pick(b"TF "),
+        _ => cell.copy_from_slice(&text::good_memo_number(r)),
+    }
+}
+
+/// A record for a good table: good, or with a text, the deletion byte or the length that may be bad.
+pub fn record(r: &mut Random, t: &[u8]) -> Vec<u8> {
+    let columns = columns_of(t);
+    let bad = match r.below(3) {
+        0 => Some(r.below(columns.len())),
+        _ => None,
+    };
+    let mut made = vec![r.pick(b" *")];
+    for (j, &c) in columns.iter().enumerate() {
+        let mut cell = vec![0; c.length as usize];
+        if bad == Some(j) {
+            fill_cell(r, c, &mut cell, &[1, 16]);
+        } else {
+            fill_good(r, c, &mut cell);
+        }
+        made.extend(cell);
+    }
+    match r.below(24) {
+        0 => made[0] = r.byte(),
+        1 => made.push(b' '),
+        2 => {
+            made.pop();
+        }
+        3 => made.clear(),
+        _ => (),
+    }
+    made
+}
+
 /// A record count that gives the same length as the true one where the product is cut to 32 bits.
 fn wrapped_count(r: &mut Random, t: &[u8]) -> u32 {
     let count = u32::from_le_bytes(t[4..8].try_into().unwrap());

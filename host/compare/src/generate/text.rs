@@ -107,15 +107,29 @@ pub fn number(r: &mut Random, width: usize, decimals: u32) -> Vec<u8> {
     text
 }
 
+/// A numeric text that is read: a value's text if it fits, else blanks.
+pub fn good_number(r: &mut Random, width: usize, decimals: u32) -> Vec<u8> {
+    let text = written(value(r) % 1_000_000_000_000_000_000, width, decimals);
+    if text.len() == width {
+        text
+    } else {
+        vec![b' '; width]
+    }
+}
+
 fn two(n: usize) -> [u8; 2] {
     [b'0' + (n / 10 % 10) as u8, b'0' + (n % 10) as u8]
 }
 
+fn digits_of(year: usize, month: usize, day: usize) -> [u8; 8] {
+    let parts = [two(year / 100), two(year), two(month), two(day)];
+    parts.concat().try_into().unwrap()
+}
+
 /// A date's eight characters.
 pub fn date(r: &mut Random) -> [u8; 8] {
-    let mut text = [b' '; 8];
     if r.one_in(8) {
-        return text;
+        return [b' '; 8];
     }
     let year = match r.below(4) {
         0 => r.pick(&[0, 1, 4, 100, 400, 1900, 2000, 2023, 2024, 2100, 9999]),
@@ -127,14 +141,21 @@ pub fn date(r: &mut Random) -> [u8; 8] {
         0 => r.below(100),
         _ => r.pick(&[0, 1, 28, 29, 30, 31, 32]),
     };
-    text[..2].copy_from_slice(&two(year / 100));
-    text[2..4].copy_from_slice(&two(year));
-    text[4..6].copy_from_slice(&two(month));
-    text[6..].copy_from_slice(&two(day));
+    let mut text = digits_of(year, month, day);
     if r.one_in(6) {
         spoil(r, &mut text);
     }
     text
+}
+
+/// A date that is read: a day of any year, or blanks.
+pub fn good_date(r: &mut Random) -> [u8; 8] {
+    let (year, month, day) = (r.between(1, 9999), r.between(1, 12), r.between(1, 28));
+    match r.below(4) {
+        0 => [b' '; 8],
+        1 => *b"20240229",
+        _ => digits_of(year, month, day),
+    }
 }
 
 pub fn logical(r: &mut Random) -> u8 {
@@ -142,6 +163,17 @@ pub fn logical(r: &mut Random) -> u8 {
         0 => r.byte(),
         _ => r.pick(b"TF TF tfYN?\0"),
     }
+}
+
+/// A memo number's ten characters that is read: no leading zero, or blanks.
+pub fn good_memo_number(r: &mut Random) -> [u8; 10] {
+    let digits = r.between(1, 10);
+    let mut text = [b' '; 10];
+    if r.one_in(4) {
+        return text;
+    }
+    text[10 - digits..].fill_with(|| r.between(b'1' as usize, b'9' as usize) as u8);
+    text
 }
 
 /// A memo number's ten characters, near the numbers given.

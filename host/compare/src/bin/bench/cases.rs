@@ -9,6 +9,7 @@ use std::cell::RefCell;
 
 const TEXT_AND_TABLE: f64 = 1.5;
 const LOOKUP: f64 = 2.0;
+const APPEND: f64 = 1.1;
 const WHOLE_INDEX: f64 = 3.0;
 
 /// Runs the cases whose call has the word in it; says how many are over their limit.
@@ -18,6 +19,7 @@ pub fn run(word: &str) -> usize {
         number_reads,
         number_writes,
         tables,
+        appends,
         lookups,
         audits,
         insertions,
@@ -208,6 +210,41 @@ fn walking<'a>(case: Make<'a, '_>, table: &'a [u8]) -> Case<'a> {
             })
         }),
     )
+}
+
+/// An append to tables of few and of many records: the time is that of the header and of one record.
+fn appends(word: &str) -> usize {
+    let mut r = Random::new(8);
+    let mut over = 0;
+    for (records, named) in [(10, "10"), (30_000, "30,000")] {
+        let mut table = inputs::table(&mut r, 5, records);
+        let length = table.len();
+        let record = table[length - 32..].to_vec();
+        table.resize(length + record.len() + 1, 0);
+        let buffer = RefCell::new(table.clone());
+        let appended = |append: &dyn Fn(&mut [u8]) -> Option<u64>| {
+            let mut buffer = buffer.borrow_mut();
+            // the count is set back, so that every append is the first
+            buffer[4..8].copy_from_slice(&table[4..8]);
+            let place = append(&mut buffer).unwrap_or(0);
+            place + u32::from_le_bytes(buffer[4..8].try_into().unwrap()) as u64
+        };
+        let case = Case {
+            call: "append",
+            input: format!("{named} records of 5 fields"),
+            calls: 1,
+            limit: APPEND,
+            prepare: Box::new(|| ()),
+            library: Box::new(|| {
+                appended(&|b| Some(Table::append(b, length, &record).ok()?.record.place))
+            }),
+            plain: Box::new(|| {
+                appended(&|b| Some(reference::append(b, length, &record).ok()?[0].0))
+            }),
+        };
+        over += show(word, case, false);
+    }
+    over
 }
 
 /// Key lengths, with how many entries a page has, about as many as random insertions leave, and how many bytes at the keys' start are all the same.

@@ -115,6 +115,128 @@ pub fn walk(tally: &mut Tally, table: &Lent, passed: u32, held: u32) -> (u32, u3
     (due.0, after)
 }
 
+/// The list is lent as its bytes, `list`.
+pub fn lay_out(tally: &mut Tally, buffer: &Lent, list: &Lent, date: [u32; 3]) {
+    let count = list.length() / ENTRY;
+    let [year, month, day] = date;
+    let got = unsafe {
+        ffi::gl_table_lay_out(
+            buffer.place(),
+            buffer.length(),
+            list.place().cast(),
+            count,
+            year,
+            month,
+            day,
+        )
+    };
+    let entries: Vec<reference::Field> = list.was().chunks_exact(ENTRY).map(entry).collect();
+    let mut own = buffer.was().to_vec();
+    let due = number_of(reference::lay_out(&mut own, &entries, (year, month, day)));
+    tally.hold(
+        Call::TableLayOut,
+        (got, ()),
+        (due, ()),
+        buffer.holds(&own) && list.kept(),
+        &[
+            Bytes("buffer", buffer.was()),
+            Bytes("list", list.was()),
+            Number("year", year.into()),
+            Number("month", month.into()),
+            Number("day", day.into()),
+        ],
+    );
+}
+
+/// `own` holds what the lent buffer does, before and after; `before` is room for a copy.
+pub fn append(
+    tally: &mut Tally,
+    buffer: &Lent,
+    own: &mut [u8],
+    before: &mut Vec<u8>,
+    length: usize,
+    record: &Lent,
+    held: u64,
+) -> u32 {
+    let mut stores = [held; 4].map(Out::new);
+    let [record_place, record_length, count_place, count_length] = &mut stores;
+    let got = unsafe {
+        ffi::gl_table_append(
+            buffer.place(),
+            buffer.length(),
+            length,
+            record.place(),
+            record.length(),
+            record_place.place(),
+            record_length.place(),
+            count_place.place(),
+            count_length.place(),
+        )
+    };
+    before.clear();
+    before.extend_from_slice(own);
+    let due = match reference::append(own, length, record.was()) {
+        Ok([record, count]) => (0, [record.0, record.1, count.0, count.1]),
+        Err(number) => (number, [held; 4]),
+    };
+    let intact = stores.iter().all(Out::intact);
+    tally.hold(
+        Call::TableAppend,
+        (got, stores.map(|out| out.value())),
+        due,
+        buffer.holds(own) && record.kept() && intact,
+        &[
+            Bytes("buffer", before),
+            Number("table length", length as i64),
+            Bytes("record", record.was()),
+        ],
+    );
+    due.0
+}
+
+/// `own` holds what the lent buffer does, before and after; `before` is room for a copy.
+pub fn set_date(
+    tally: &mut Tally,
+    buffer: &Lent,
+    own: &mut [u8],
+    before: &mut Vec<u8>,
+    length: usize,
+    date: [u32; 3],
+) {
+    let [year, month, day] = date;
+    let got = unsafe {
+        ffi::gl_table_set_date(buffer.place(), buffer.length(), length, year, month, day)
+    };
+    before.clear();
+    before.extend_from_slice(own);
+    let due = number_of(reference::set_date(own, length, (year, month, day)));
+    tally.hold(
+        Call::TableSetDate,
+        (got, ()),
+        (due, ()),
+        buffer.holds(own),
+        &[
+            Bytes("buffer", before),
+            Number("table length", length as i64),
+            Number("year", year.into()),
+            Number("month", month.into()),
+            Number("day", day.into()),
+        ],
+    );
+}
+
+pub fn extent(tally: &mut Tally, file: &Lent, held: u64) {
+    let mut length = Out::new(held);
+    let got = unsafe { ffi::gl_table_extent(file.place(), file.length(), length.place()) };
+    tally.hold(
+        Call::TableExtent,
+        (got, length.value()),
+        due(reference::extent(file.was()).map(Some), held),
+        file.kept() && length.intact(),
+        &[Bytes("file", file.was())],
+    );
+}
+
 fn cell_inputs<'a>(table: &'a Lent, record: u32, field: u32) -> [Input<'a>; 3] {
     [
         Bytes("table", table.was()),

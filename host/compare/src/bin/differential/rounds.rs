@@ -19,17 +19,19 @@ pub struct Arenas {
     key: Arena,
     text: Arena,
     list: Arena,
+    record: Arena,
 }
 
 impl Arenas {
     pub fn new() -> Arenas {
         Arenas {
-            table: Arena::new(MOST + 1),
+            table: Arena::new(MOST + 4096),
             memo: Arena::new(MOST + 1),
             index: Arena::new(1_048_576 + 4096),
             key: Arena::new(512),
             text: Arena::new(64),
             list: Arena::new(14 * 256),
+            record: Arena::new(4096),
         }
     }
 }
@@ -38,6 +40,12 @@ pub fn round(r: &mut Random, a: &mut Arenas, tally: &mut Tally) {
     numbers(r, a, tally);
     for _ in 0..4 {
         a_table(r, a, tally);
+    }
+    for _ in 0..8 {
+        a_laid_out_table(r, a, tally);
+    }
+    for _ in 0..4 {
+        a_written_table(r, a, tally);
     }
     fresh_calls(r, a, tally);
     grown_index(r, a, tally);
@@ -53,6 +61,7 @@ pub fn round(r: &mut Random, a: &mut Arenas, tally: &mut Tally) {
     }
     if tally.round % 5000 == 1 {
         longest_files(r, a, tally);
+        longest_append(r, a, tally);
     }
 }
 
@@ -173,6 +182,136 @@ fn longest_files(r: &mut Random, a: &mut Arenas, tally: &mut Tally) {
         calls::text_part(tally, &lent, &memo, 1, 1, r.bits());
         calls::text_part(tally, &lent, &memo, count as u32, 2, r.bits());
         calls::walk(tally, &lent, count as u32 - 1, r.word());
+    }
+}
+
+// ---- writing a table
+
+/// A table laid out from a list of fields, in a buffer of about its length.
+fn a_laid_out_table(r: &mut Random, a: &mut Arenas, tally: &mut Tally) {
+    let list = table::field_list(r);
+    let table = 34 + 32 * (list.len() / 14);
+    let length = match r.below(6) {
+        0 => r.below(table + 1),
+        _ => table + r.pick(&[0, 0, 1, 500]) - r.below(2),
+    };
+    let before = r.bytes(length);
+    let date = update_date(r);
+    let buffer = a.table.lend(&before, r.one_in(2));
+    let list = a.list.lend(&list, r.one_in(2));
+    calls::lay_out(tally, &buffer, &list, date);
+}
+
+/// A buffer's length for a table: so that a record or a few have room, or just none.
+fn room_for(r: &mut Random, length: usize, record: usize) -> usize {
+    let few = record * r.below(3);
+    let near = r.pick(&[
+        0,
+        record - 1,
+        record,
+        record + 1,
+        record + 2,
+        2 * record + 1,
+    ]);
+    length + few + near
+}
+
+/// A table's length as a host may give it: mostly the right one.
+fn length_given(r: &mut Random, right: usize, buffer: usize) -> usize {
+    match r.below(16) {
+        0 => r.pick(&[
+            0,
+            right.saturating_sub(1),
+            right + 1,
+            buffer,
+            buffer + 1,
+            usize::MAX,
+        ]),
+        _ => right,
+    }
+}
+
+/// Appends and dates on a table in a longer buffer, and what a file then holds if power fails.
+fn a_written_table(r: &mut Random, a: &mut Arenas, tally: &mut Tally) {
+    let good = table::table(r, &[1, 16]);
+    let record = u16::from_le_bytes([good[10], good[11]]) as usize;
+    let mut own = good.clone();
+    for _ in 0..r.pick(&[0, 0, 0, 0, 0, 1, 1, 2]) {
+        table::damage(r, &mut own);
+    }
+    let mut length = own.len();
+    let room = room_for(r, length, record);
+    own.extend(r.bytes(room - length));
+    let at_first = own.clone();
+    let mut before = Vec::new();
+    let lent = a.table.lend(&at_first, r.one_in(2));
+    for _ in 0..6 {
+        let given = length_given(r, length, room);
+        let made = table::record(r, &good);
+        let made = a.record.lend(&made, r.one_in(2));
+        let held = r.bits();
+        let answer = calls::append(tally, &lent, &mut own, &mut before, given, &made, held);
+        if answer == 0 {
+            length = reference::extent(&own[..room]).unwrap() as usize + 1;
+        }
+        if r.one_in(3) {
+            let given = length_given(r, length, room);
+            let date = update_date(r);
+            calls::set_date(tally, &lent, &mut own, &mut before, given, date);
+        }
+    }
+    extents(r, a, tally, &own, &before);
+}
+
+/// A date near the ends of the years that a header holds, mostly a good one.
+fn update_date(r: &mut Random) -> [u32; 3] {
+    let year = r.pick(&[1900, 1901, 2000, 2023, 2024, 2100, 2155]);
+    match r.below(4) {
+        0 => [r.near(&[1900, 2155]), r.near(&[1, 12]), r.near(&[1, 31])],
+        1 => [year, 2, r.pick(&[28, 29, 30])],
+        _ => [year, r.between(1, 12) as u32, r.between(1, 31) as u32],
+    }
+}
+
+/// Extents of a table's file as it is, cut anywhere, and with a count that is not its own.
+fn extents(r: &mut Random, a: &mut Arenas, tally: &mut Tally, new: &[u8], old: &[u8]) {
+    let mut torn = new.to_vec();
+    if r.one_in(2) && old.len() >= 8 {
+        torn[4..8].copy_from_slice(&old[4..8]);
+    }
+    for _ in 0..4 {
+        let cut = if r.one_in(4) {
+            torn.len()
+        } else {
+            r.below(torn.len() + 1)
+        };
+        let file = a.table.lend(&torn[..cut], r.one_in(2));
+        calls::extent(tally, &file, r.bits());
+    }
+}
+
+/// Appends to a table until it is full, in a buffer that has room for more. With H = 65 and R = 5 the last end mark taken is the 16,777,216th byte; with H = 97
+/// and R = 3 the first one refused would be the next.
+fn longest_append(r: &mut Random, a: &mut Arenas, tally: &mut Tally) {
+    for lengths in [&[4][..], &[1, 1]] {
+        let column = |&length: &u8| table::Column {
+            kind: b'C',
+            length,
+            decimals: 0,
+        };
+        let columns: Vec<table::Column> = lengths.iter().map(column).collect();
+        let header = 33 + 32 * columns.len();
+        let record = vec![b' '; 1 + lengths.iter().sum::<u8>() as usize];
+        let mut own = table::blank(&columns, 0x03, (MOST - header) / record.len() - 1, 0);
+        let mut length = own.len();
+        own.resize(MOST + 2 * record.len(), b' ');
+        let at_first = own.clone();
+        let mut before = Vec::new();
+        let lent = a.table.lend(&at_first, true);
+        let made = a.record.lend(&record, true);
+        while calls::append(tally, &lent, &mut own, &mut before, length, &made, r.bits()) == 0 {
+            length += record.len();
+        }
     }
 }
 

@@ -7,6 +7,10 @@ pub enum Call {
     TableShape,
     Fields,
     Walk,
+    TableLayOut,
+    TableAppend,
+    TableSetDate,
+    TableExtent,
     ReadNumber,
     ReadDate,
     ReadLogical,
@@ -20,12 +24,19 @@ pub enum Call {
     Match,
 }
 
-/// Each call's name and every answer that document 01 lets it give.
-const CALLS: [(&str, &[u32]); 15] = [
+/// Each call's name and every answer that the documents let it give.
+const CALLS: [(&str, &[u32]); 19] = [
     ("gl_table_check", &[0, 1, 2, 3, 4, 5, 6, 7, 8, 9, 10]),
     ("gl_table_shape", &[0, 1, 2, 3, 4, 5, 6, 7, 8, 9, 10]),
     ("gl_fields", &[0, 1, 2, 3, 4, 5, 6, 7, 8, 9, 10, 14]),
     ("gl_walk", &[0, 1, 2, 3, 4, 5, 6, 7, 8, 9, 10, 15, 258]),
+    ("gl_table_lay_out", &[0, 3, 4, 6, 7, 9, 30]),
+    (
+        "gl_table_append",
+        &[0, 1, 2, 3, 4, 5, 6, 7, 8, 9, 10, 15, 16, 17, 18, 20, 21, 30],
+    ),
+    ("gl_table_set_date", &[0, 1, 2, 3, 4, 5, 6, 7, 8, 9, 10]),
+    ("gl_table_extent", &[0, 1, 2, 3, 4, 5, 6, 7, 8, 9, 10]),
     (
         "gl_read_number",
         &[

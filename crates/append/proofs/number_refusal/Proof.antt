@@ -1,0 +1,42 @@
+-- `append::number_refusal` meets its contract, by the case of what `read_number` answers. Assumes nothing.
+use mathlib.Core.Path.{sym, _∙_}
+use Rattle.append.specs.Append.{numberRefusal}
+use borrow.Author.Needs.{needs}
+use Rattle.append.proofs.number_refusal.Statement.{statement}
+use Rattle.append.proofs.number_refusal.Tie as tie
+
+read-number-requires : tie.Need-read-number-requires
+read-number-requires c κs = search needs
+
+enum-told : tie.Need-enum-told
+enum-told c = search needs
+
+enum-told-2 : tie.Need-enum-told-2
+enum-told-2 c = search needs
+
+enum-known-number : tie.Need-enum-known-number
+enum-known-number c = search needs
+
+returns : tie.Need-returns
+unfolding numberRefusal
+returns c = rw (sym (c .before .before .read-number .ensures) ∙ c .enum-told .given .1)
+
+returns-2 : tie.Need-returns-2
+unfolding numberRefusal
+returns-2 c = rw (sym (c .before .before .read-number .ensures) ∙ c .enum-told2 .given .1)
+
+returns-3 : tie.Need-returns-3
+unfolding numberRefusal
+returns-3 c = rw (sym (c .before .before .before .read-number .ensures) ∙ c .before .number .given .1)
+
+pub number-refusal-spec : {M : Type 1} → statement M
+number-refusal-spec =
+    tie.close
+    (tie.spec
+    read-number-requires
+    enum-told
+    enum-told-2
+    enum-known-number
+    returns
+    returns-2
+    returns-3)

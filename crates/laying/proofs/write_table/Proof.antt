@@ -1,0 +1,120 @@
+-- `laying::write_table` meets its contract: the stores one after another are the rule's. Assumes nothing.
+use native.Mathlib.Omega.{arith}
+use lib.ListN.{length-set}
+use Rattle.laying.specs.LayingLaws.{begun-fits, begun-size, written}
+use borrow.Author.Needs.{needs}
+use Rattle.laying.proofs.write_table.Statement.{statement}
+use Rattle.laying.proofs.write_table.Tie as tie
+
+mul-end : tie.Need-mul-end
+mul-end c = search needs
+
+add-end : tie.Need-add-end
+add-end c = search needs
+
+add-store-le16 : tie.Need-add-store-le16
+add-store-le16 c = search needs
+
+cast-store-le16 : tie.Need-cast-store-le16
+cast-store-le16 c = search needs
+
+store-le16-requires : tie.Need-store-le16-requires
+store-le16-requires c κs = search needs
+
+copy-in-requires : tie.Need-copy-in-requires
+copy-in-requires c κs = search needs
+
+kind-of-requires : tie.Need-kind-of-requires
+kind-of-requires c κs =
+    let copied = c .before .before .before in
+    let stored = copied .before .before .before .before in
+    begun-fits _ _ _ _ _ _ _ _ (stored .before .before .before .before .pre) (stored .store-le16 .ensures) (copied .copy-in .ensures)
+
+field-offset-requires : tie.Need-field-offset-requires
+field-offset-requires c κs = search needs
+
+cast-store-le16-2 : tie.Need-cast-store-le16-2
+cast-store-le16-2 c = search needs
+
+store-le16-requires-2 : tie.Need-store-le16-requires-2
+store-le16-requires-2 c κs = search needs
+
+sub-t15 : tie.Need-sub-t15
+sub-t15 c = search needs
+
+cast-t24 : tie.Need-cast-t24
+cast-t24 c = search needs
+
+cast-t25 : tie.Need-cast-t25
+cast-t25 c = search needs
+
+cast-t26 : tie.Need-cast-t26
+cast-t26 c = search needs
+
+slice-aggregate-copy-in : tie.Need-slice-aggregate-copy-in
+slice-aggregate-copy-in c = search needs
+
+copy-in-requires-2 : tie.Need-copy-in-requires-2
+copy-in-requires-2 c κs = search needs
+
+fill-requires : tie.Need-fill-requires
+fill-requires c κs = search needs
+
+slice-write-room : tie.Need-slice-write-room
+slice-write-room c = search needs
+
+add-room : tie.Need-add-room
+add-room c = search needs
+
+slice-write-room-2 : tie.Need-slice-write-room-2
+slice-write-room-2 c = simp length-set (omega arith)
+
+same-length : tie.Need-same-length
+same-length c = simp length-set (search needs)
+
+returns : tie.Need-returns
+returns c =
+    let filled = c .before .before in
+    let dated = filled .before .before .before .before in
+    let sized = dated .before .before .before .before .before in
+    let offset = sized .before .before in
+    let kind = offset .before .before in
+    let copied = kind .before .before .before .before in
+    let stored = copied .before .before .before .before in
+    let pre = stored .before .before .before .before .pre in
+    let e₁ = stored .store-le16 .ensures in
+    let e₂ = copied .copy-in .ensures in
+    let size = offset .field-offset .ensures in
+    let e₃ = sized .store-le162 .ensures in
+    let e₄ = dated .copy-in2 .ensures in
+    record {
+      bytes = written _ _ _ _ _ _ _ _ pre e₁ e₂ _ _ _ _ _ (kind .kind-of .ensures) (size .0) e₃ e₄ (filled .fill .ensures);
+      small = omega (arith, size .0, size .1, begun-size _ _ _ _ _ _ _ _ pre e₁ e₂, pre .few);
+    }
+
+pub write-table-spec : {M : Type 1} → statement M
+write-table-spec =
+    tie.close
+    (tie.spec
+    mul-end
+    add-end
+    add-store-le16
+    cast-store-le16
+    store-le16-requires
+    copy-in-requires
+    kind-of-requires
+    field-offset-requires
+    cast-store-le16-2
+    store-le16-requires-2
+    sub-t15
+    cast-t24
+    cast-t25
+    cast-t26
+    slice-aggregate-copy-in
+    copy-in-requires-2
+    fill-requires
+    slice-write-room
+    add-room
+    slice-write-room-2
+    same-length
+    returns)

@@ -1,0 +1,150 @@
+// An empty table, laid out from a list of fields. The table is made in a room of its own and passes the table's checks there, before the buffer is touched.
+use field::FieldEntry;
+use table::Checked;
+ghost use Prim.Native.Nat.{_+_, _*_, _<_};
+ghost use mathlib.Core.Path.{_≡_};
+ghost use lib.ListN.{length, take};
+ghost use Rattle.table.specs.Table.{maxFields, headerLength, hasMemo};
+ghost use Rattle.table.specs.TableLaws.{HeaderFits};
+ghost use Rattle.laying.specs.Laying.{noFields, withField, listedCount, countGood, kindFor, layOut, layTable, laid};
+ghost use Rattle.laying.specs.LayingLaws.{Layable, Written};
+
+// Where the header holds its own length and the record's, and where it says no more.
+const HEADER_LENGTH_AT: usize = 8;
+
+const RECORD_LENGTH_AT: usize = 10;
+
+const UNREAD_AT: usize = 12;
+
+const NAME_LENGTH: usize = 11;
+
+// The descriptors of 128 fields, and the longest table that is laid out: its header and its end mark.
+const LIST_LENGTH: usize = 4096;
+
+const ROOM: usize = 4130;
+
+// The descriptors of up to 128 fields, one after another.
+pub struct FieldList {
+    pub bytes: [u8; 4096],
+}
+
+pub fn no_fields() -> FieldList
+    ensures { λ r. ⌜ r ≡ noFields ⌝ }
+{
+    FieldList {
+        bytes: [0; LIST_LENGTH],
+    }
+}
+
+// A list with another field j, from 0. The bytes of a descriptor that nothing reads are zero.
+pub fn with_field(list: FieldList, j: usize, entry: FieldEntry) -> FieldList
+    requires { ⌜ j < maxFields ⌝ }
+    ensures { λ r. ⌜ r ≡ withField list j entry ⌝ }
+{
+    let mut bytes = list.bytes;
+    let at = table::DESCRIPTOR_LENGTH * j;
+    let name = entry.name;
+    octets::copy_in(&mut bytes, at, &name);
+    let end = at + table::DESCRIPTOR_LENGTH;
+    octets::fill(&mut bytes, at + NAME_LENGTH, end, 0);
+    bytes[at + table::TYPE_AT] = entry.kind;
+    bytes[at + table::LENGTH_AT] = entry.length;
+    bytes[at + table::DECIMALS_AT] = entry.decimals;
+    FieldList { bytes }
+}
+
+// How many fields of a list of `given` are taken: no table has more than 128.
+pub fn listed_count(given: usize) -> usize
+    ensures { λ r. ⌜ r ≡ listedCount given ⌝ }
+{
+    if given < table::MAX_FIELDS {
+        given
+    } else {
+        table::MAX_FIELDS
+    }
+}
+
+fn count_good(count: usize) -> bool
+    ensures { λ r. ⌜ r ≡ countGood count ⌝ }
+{
+    (1 <= count) & (count <= table::MAX_FIELDS)
+}
+
+// The kind of a table whose header says its length and whose descriptors are there.
+fn kind_of(table: &[u8]) -> u8
+    requires { ⌜ HeaderFits (now table) ⌝ }
+    ensures { λ r. ⌜ r ≡ kindFor (hasMemo (now (table .entry))) ⌝ }
+{
+    if table::has_memo(table) {
+        return table::MEMO_KIND as u8;
+    }
+    table::PLAIN_KIND as u8
+}
+
+// Writes a table's bytes to the front of a room: the header with its descriptors, and the end mark.
+fn write_table(room: &mut [u8], descriptors: &[u8], count: usize, year: u32, month: u32, day: u32)
+    requires { ⌜ Layable (length (now room)) (length (now descriptors)) count year month day ⌝ }
+    ensures { λ _. ⌜ Written (now (room .entry)) (now (room .exit)) (now (descriptors .entry)) count year month day ⌝ }
+{
+    let end = table::DESCRIPTORS + table::DESCRIPTOR_LENGTH * count;
+    octets::store_le16(room, HEADER_LENGTH_AT, (end + 1) as u32);
+    octets::copy_in(room, table::DESCRIPTORS, descriptors);
+    let kind = kind_of(room);
+    let length = table::field_offset(room, count);
+    octets::store_le16(room, RECORD_LENGTH_AT, length as u32);
+    let first = [
+        kind,
+        (year - table::FIRST_YEAR) as u8,
+        month as u8,
+        day as u8,
+        0,
+        0,
+        0,
+        0,
+    ];
+    octets::copy_in(room, 0, &first);
+    octets::fill(room, UNREAD_AT, table::DESCRIPTORS, 0);
+    room[end] = table::END_MARK;
+    room[end + 1] = table::FILE_END;
+}
+
+// Writes a table to the front of the buffer, if it passes its own checks and fits.
+fn lay_table(buffer: &mut [u8], table: &[u8]) -> u32
+    requires { ⌜ length (now table) ≡ headerLength (now table) + 1 ⌝ }
+    ensures { λ r. ⌜ layTable (now (buffer .entry)) (now (table .entry)) ≡ laid (now (buffer .exit)) r ⌝ }
+{
+    match table::check_table(table) {
+        Checked::Refused(number) => number,
+        Checked::Good(shape) => {
+            if buffer.len() < shape.header_length + 1 {
+                return refusal::NO_ROOM;
+            }
+            octets::copy_in(buffer, 0, table);
+            0
+        }
+    }
+}
+
+// Lays out an empty table with the first `count` fields of a list: 0, or the number of the refusal, which changes nothing.
+pub fn lay_out(
+    buffer: &mut [u8],
+    list: FieldList,
+    count: usize,
+    year: u32,
+    month: u32,
+    day: u32,
+) -> u32
+    ensures { λ r. ⌜ layOut (now (buffer .entry)) (take (32 * count) (list .bytes)) count year month day ≡ laid (now (buffer .exit)) r ⌝ }
+{
+    if !table::storable_date(year, month, day) {
+        return refusal::UPDATE_DATE;
+    }
+    if !count_good(count) {
+        return refusal::HEADER_LENGTH;
+    }
+    let mut room = [0u8; ROOM];
+    let descriptors = list.bytes;
+    let end = table::DESCRIPTOR_LENGTH * count;
+    write_table(&mut room, &descriptors[..end], count, year, month, day);
+    lay_table(buffer, &room[..table::DESCRIPTORS + end + 2])
+}
