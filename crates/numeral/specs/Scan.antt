@@ -41,10 +41,13 @@ nextValue n c = cond (ltb n (10 ^ maxDigits)) (10 * n + (c - zeroDigit)) n
 abbrev pub inPhase : Reader → Phase → Reader
 inPhase r p = record { decimals = r .decimals; phase = p; negative = r .negative; value = r .value }
 
+-- the state r in the phase p, with the digit c behind the others
+abbrev pub withDigit : Reader → Phase → ℕ → Reader
+withDigit r p c = record { decimals = r .decimals; phase = p; negative = r .negative; value = nextValue (r .value) c }
+
 -- the state r after the character c: in the phase p with one digit more if c is a digit, otherwise in the phase q
 abbrev pub byDigit : Reader → ℕ → Phase → Phase → Reader
-byDigit r c p q =
-    cond (isDigit c) (record { decimals = r .decimals; phase = p; negative = r .negative; value = nextValue (r .value) c }) (inPhase r q)
+byDigit r c p q = cond (isDigit c) (withDigit r p c) (inPhase r q)
 
 -- the state r after the character c, if only blanks were taken before it: a blank leaves it among the blanks
 abbrev pub afterBlanks : Reader → ℕ → Reader
@@ -53,12 +56,16 @@ afterBlanks r c =
     (cond (eqb c minus) (record { decimals = r .decimals; phase = phase.Minus; negative = true; value = r .value })
     (byDigit r c (firstDigit c) (refusedAt c)))
 
+-- the state r after the character c, if digits of the whole part were taken before it, the first no zero
+abbrev pub afterWhole : Reader → ℕ → Reader
+afterWhole r c = byDigit r c phase.Whole (wholeEnd (r .decimals) c)
+
 -- the state r, which stands in the phase p, after the character c
 abbrev pub stepIn : Phase → Reader → ℕ → Reader
 stepIn phase.Blank r c = afterBlanks r c
 stepIn phase.Minus r c = byDigit r c (firstDigit c) (refusedAt c)
 stepIn phase.Zero r c = inPhase r (wholeEnd (r .decimals) c)
-stepIn phase.Whole r c = byDigit r c phase.Whole (wholeEnd (r .decimals) c)
+stepIn phase.Whole r c = afterWhole r c
 stepIn (phase.Fraction left) r c = byDigit r c (nextPlace left) (refusedAt c)
 stepIn phase.Comma r c = inPhase r phase.Comma
 stepIn phase.Bad r c = inPhase r (refusedAt c)

@@ -9,8 +9,8 @@ ghost use Rattle.octets.specs.Store.{put};
 ghost use Rattle.octets.specs.Text.{isDigit, lastDigits, decimal};
 ghost use Rattle.numeral.specs.Format.{maxWidth, maxDecimals, maxDigits, formatGood};
 ghost use Rattle.numeral.specs.Reading.{readNumber, signed};
-ghost use Rattle.numeral.specs.Scan.{initial, refusedAt, firstDigit, wholeEnd, nextPlace, nextValue, inPhase, byDigit, afterBlanks};
-ghost use Rattle.numeral.specs.Scan.{step, scan, settled, meaning};
+ghost use Rattle.numeral.specs.Scan.{initial, refusedAt, firstDigit, wholeEnd, nextPlace, nextValue, inPhase, withDigit, byDigit};
+ghost use Rattle.numeral.specs.Scan.{afterBlanks, afterWhole, step, scan, settled, meaning};
 ghost use Rattle.numeral.specs.Writing.{fractionText, signText, left, writeNumber};
 
 // The widest field, and the most decimals.
@@ -141,17 +141,25 @@ impl Reader {
         }
     }
 
+    // The state in the phase p, with the digit c behind the others.
+    fn with_digit(self, p: Phase, c: u8) -> Reader
+        requires { ⌜ isDigit c ≡ true ⌝ }
+        ensures { λ r. ⌜ r ≡ withDigit self p c ⌝ }
+    {
+        Reader {
+            decimals: self.decimals,
+            phase: p,
+            negative: self.negative,
+            value: next_value(self.value, c),
+        }
+    }
+
     // The state after the character c: in the phase p with one digit more if c is a digit, otherwise in the phase q.
     fn by_digit(self, c: u8, p: Phase, q: Phase) -> Reader
         ensures { λ r. ⌜ r ≡ byDigit self c p q ⌝ }
     {
         if is_digit(c) {
-            return Reader {
-                decimals: self.decimals,
-                phase: p,
-                negative: self.negative,
-                value: next_value(self.value, c),
-            };
+            return self.with_digit(p, c);
         }
         self.in_phase(q)
     }
@@ -174,6 +182,16 @@ impl Reader {
         self.by_digit(c, first_digit(c), refused_at(c))
     }
 
+    // The state after the character c, if digits of the whole part were taken before it, the first no zero. The digit is tested before all else.
+    fn after_whole(self, c: u8) -> Reader
+        ensures { λ r. ⌜ r ≡ afterWhole self c ⌝ }
+    {
+        if is_digit(c) {
+            return self.with_digit(Phase::Whole, c);
+        }
+        self.in_phase(whole_end(self.decimals, c))
+    }
+
     // The state after the character c. Each phase tests first what is likely there.
     fn take(self, c: u8) -> Reader
         ensures { λ r. ⌜ r ≡ step self c ⌝ }
@@ -183,7 +201,7 @@ impl Reader {
             Phase::Blank => self.after_blanks(c),
             Phase::Minus => self.by_digit(c, first_digit(c), refused_at(c)),
             Phase::Zero => self.in_phase(whole_end(self.decimals, c)),
-            Phase::Whole => self.by_digit(c, Phase::Whole, whole_end(self.decimals, c)),
+            Phase::Whole => self.after_whole(c),
             Phase::Fraction(left) => self.by_digit(c, next_place(left), refused_at(c)),
             Phase::Comma => self.in_phase(Phase::Comma),
             Phase::Bad => self.in_phase(refused_at(c)),

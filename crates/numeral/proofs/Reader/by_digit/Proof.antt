@@ -7,11 +7,11 @@ use Rattle.numeral.proofs.Reader.by_digit.Tie as tie
 is-digit-requires : tie.Need-is-digit-requires
 is-digit-requires c κs = search needs
 
-next-value-requires : tie.Need-next-value-requires
-next-value-requires c κs = sym (c .before .is-digit .ensures) ∙ c .if1 .taken
+with-digit-requires : tie.Need-with-digit-requires
+with-digit-requires c κs = sym (c .before .is-digit .ensures) ∙ c .if1 .taken
 
 returns : tie.Need-returns
-returns c = rw (← (c .before .before .is-digit .ensures), c .before .if1 .taken, c .next-value .ensures)
+returns c = rw (← (c .before .before .is-digit .ensures), c .before .if1 .taken) (c .with-digit .ensures)
 
 in-phase-requires : tie.Need-in-phase-requires
 in-phase-requires c κs = search needs
@@ -21,4 +21,4 @@ returns-2 c = rw (← (c .before .before .is-digit .ensures), c .before .if1 .le
 
 pub by-digit-spec : {M : Type 1} → statement M
 by-digit-spec =
-    tie.close (tie.spec is-digit-requires next-value-requires returns in-phase-requires returns-2)
+    tie.close (tie.spec is-digit-requires with-digit-requires returns in-phase-requires returns-2)

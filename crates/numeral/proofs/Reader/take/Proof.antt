@@ -35,11 +35,8 @@ in-phase-requires c κs = search needs
 enum-told-4 : tie.Need-enum-told-4
 enum-told-4 c = search needs
 
-whole-end-requires-2 : tie.Need-whole-end-requires-2
-whole-end-requires-2 c κs = search needs
-
-by-digit-requires-2 : tie.Need-by-digit-requires-2
-by-digit-requires-2 c κs = search needs
+after-whole-requires : tie.Need-after-whole-requires
+after-whole-requires c κs = search needs
 
 enum-known-p : tie.Need-enum-known-p
 enum-known-p c = search needs
@@ -50,8 +47,8 @@ next-place-requires c κs = search needs
 refused-at-requires-2 : tie.Need-refused-at-requires-2
 refused-at-requires-2 c κs = search needs
 
-by-digit-requires-3 : tie.Need-by-digit-requires-3
-by-digit-requires-3 c κs = search needs
+by-digit-requires-2 : tie.Need-by-digit-requires-2
+by-digit-requires-2 c κs = search needs
 
 enum-told-5 : tie.Need-enum-told-5
 enum-told-5 c = search needs
@@ -80,11 +77,11 @@ returns-3 : tie.Need-returns-3
 returns-3 c = c .in-phase .ensures ∙ rw (c .before .whole-end .ensures) (sym (step-in _ _ (c .before .before .enum-told3 .given .1)))
 
 returns-4 : tie.Need-returns-4
-returns-4 c = c .by-digit2 .ensures ∙ rw (c .before .whole-end2 .ensures) (sym (step-in _ _ (c .before .before .enum-told4 .given .1)))
+returns-4 c = c .after-whole .ensures ∙ sym (step-in _ _ (c .before .enum-told4 .given .1))
 
 returns-5 : tie.Need-returns-5
 returns-5 c =
-    c .by-digit3 .ensures
+    c .by-digit2 .ensures
     ∙ rw (c .before .before .next-place .ensures, c .before .refused-at2 .ensures) (sym (step-in _ _ (c .before .before .before .before .p .given .1)))
 
 returns-6 : tie.Need-returns-6
@@ -107,12 +104,11 @@ take-spec =
     whole-end-requires
     in-phase-requires
     enum-told-4
-    whole-end-requires-2
-    by-digit-requires-2
+    after-whole-requires
     enum-known-p
     next-place-requires
     refused-at-requires-2
-    by-digit-requires-3
+    by-digit-requires-2
     enum-told-5
     in-phase-requires-2
     enum-told-6
