@@ -41,25 +41,40 @@ nextValue n c = cond (ltb n (10 ^ maxDigits)) (10 * n + (c - zeroDigit)) n
 abbrev pub inPhase : Reader → Phase → Reader
 inPhase r p = record { decimals = r .decimals; phase = p; negative = r .negative; value = r .value }
 
+-- the state r in the phase p, with the digit c behind the others
+abbrev pub withDigit : Reader → Phase → ℕ → Reader
+withDigit r p c = record { decimals = r .decimals; phase = p; negative = r .negative; value = nextValue (r .value) c }
+
 -- the state r after the character c: in the phase p with one digit more if c is a digit, otherwise in the phase q
 abbrev pub byDigit : Reader → ℕ → Phase → Phase → Reader
-byDigit r c p q =
-    cond (isDigit c) (record { decimals = r .decimals; phase = p; negative = r .negative; value = nextValue (r .value) c }) (inPhase r q)
+byDigit r c p q = cond (isDigit c) (withDigit r p c) (inPhase r q)
+
+-- the state r after the character c, if the sign was taken before it, or there is none
+abbrev pub afterSign : Reader → ℕ → Reader
+afterSign r c = byDigit r c (firstDigit c) (refusedAt c)
 
 -- the state r after the character c, if only blanks were taken before it: a blank leaves it among the blanks
 abbrev pub afterBlanks : Reader → ℕ → Reader
 afterBlanks r c =
     cond (eqb blank c) (inPhase r phase.Blank)
     (cond (eqb c minus) (record { decimals = r .decimals; phase = phase.Minus; negative = true; value = r .value })
-    (byDigit r c (firstDigit c) (refusedAt c)))
+    (afterSign r c))
+
+-- the state r after the character c, if digits of the whole part were taken before it, the first no zero
+abbrev pub afterWhole : Reader → ℕ → Reader
+afterWhole r c = byDigit r c phase.Whole (wholeEnd (r .decimals) c)
+
+-- the state r after the character c, if the point was taken before it and `left` digits are to come
+abbrev pub afterPoint : Reader → ℕ → ℕ → Reader
+afterPoint r left c = byDigit r c (nextPlace left) (refusedAt c)
 
 -- the state r, which stands in the phase p, after the character c
 abbrev pub stepIn : Phase → Reader → ℕ → Reader
 stepIn phase.Blank r c = afterBlanks r c
-stepIn phase.Minus r c = byDigit r c (firstDigit c) (refusedAt c)
+stepIn phase.Minus r c = afterSign r c
 stepIn phase.Zero r c = inPhase r (wholeEnd (r .decimals) c)
-stepIn phase.Whole r c = byDigit r c phase.Whole (wholeEnd (r .decimals) c)
-stepIn (phase.Fraction left) r c = byDigit r c (nextPlace left) (refusedAt c)
+stepIn phase.Whole r c = afterWhole r c
+stepIn (phase.Fraction left) r c = afterPoint r left c
 stepIn phase.Comma r c = inPhase r phase.Comma
 stepIn phase.Bad r c = inPhase r (refusedAt c)
 

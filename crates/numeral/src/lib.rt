@@ -9,8 +9,8 @@ ghost use Rattle.octets.specs.Store.{put};
 ghost use Rattle.octets.specs.Text.{isDigit, lastDigits, decimal};
 ghost use Rattle.numeral.specs.Format.{maxWidth, maxDecimals, maxDigits, formatGood};
 ghost use Rattle.numeral.specs.Reading.{readNumber, signed};
-ghost use Rattle.numeral.specs.Scan.{initial, refusedAt, firstDigit, wholeEnd, nextPlace, nextValue, inPhase, byDigit, afterBlanks};
-ghost use Rattle.numeral.specs.Scan.{step, scan, settled, meaning};
+ghost use Rattle.numeral.specs.Scan.{initial, refusedAt, firstDigit, wholeEnd, nextPlace, nextValue, inPhase, withDigit};
+ghost use Rattle.numeral.specs.Scan.{afterSign, afterBlanks, afterWhole, afterPoint, step, scan, settled, meaning};
 ghost use Rattle.numeral.specs.Writing.{fractionText, signText, afterWrite, writeNumber};
 
 // The widest field, and the most decimals.
@@ -69,10 +69,7 @@ pub fn format_good(width: usize, decimals: u32) -> bool
 fn refused_at(c: u8) -> Phase
     ensures { λ r. ⌜ r ≡ refusedAt c ⌝ }
 {
-    if c == b',' {
-        return Phase::Comma;
-    }
-    Phase::Bad
+    if c == b',' { Phase::Comma } else { Phase::Bad }
 }
 
 // The phase after the first digit c of the whole part.
@@ -141,19 +138,27 @@ impl Reader {
         }
     }
 
-    // The state after the character c: in the phase p with one digit more if c is a digit, otherwise in the phase q.
-    fn by_digit(self, c: u8, p: Phase, q: Phase) -> Reader
-        ensures { λ r. ⌜ r ≡ byDigit self c p q ⌝ }
+    // The state in the phase p, with the digit c behind the others.
+    fn with_digit(self, p: Phase, c: u8) -> Reader
+        requires { ⌜ isDigit c ≡ true ⌝ }
+        ensures { λ r. ⌜ r ≡ withDigit self p c ⌝ }
+    {
+        Reader {
+            decimals: self.decimals,
+            phase: p,
+            negative: self.negative,
+            value: next_value(self.value, c),
+        }
+    }
+
+    // The state after the character c, if the sign was taken before it, or there is none.
+    fn after_sign(self, c: u8) -> Reader
+        ensures { λ r. ⌜ r ≡ afterSign self c ⌝ }
     {
         if is_digit(c) {
-            return Reader {
-                decimals: self.decimals,
-                phase: p,
-                negative: self.negative,
-                value: next_value(self.value, c),
-            };
+            return self.with_digit(first_digit(c), c);
         }
-        self.in_phase(q)
+        self.in_phase(refused_at(c))
     }
 
     // The state after the character c, if only blanks were taken before it.
@@ -171,7 +176,27 @@ impl Reader {
                 value: self.value,
             };
         }
-        self.by_digit(c, first_digit(c), refused_at(c))
+        self.after_sign(c)
+    }
+
+    // The state after the character c, if digits of the whole part were taken before it, the first no zero.
+    fn after_whole(self, c: u8) -> Reader
+        ensures { λ r. ⌜ r ≡ afterWhole self c ⌝ }
+    {
+        if is_digit(c) {
+            return self.with_digit(Phase::Whole, c);
+        }
+        self.in_phase(whole_end(self.decimals, c))
+    }
+
+    // The state after the character c, if the point was taken before it and `left` digits are to come.
+    fn after_point(self, left: u64, c: u8) -> Reader
+        ensures { λ r. ⌜ r ≡ afterPoint self left c ⌝ }
+    {
+        if is_digit(c) {
+            return self.with_digit(next_place(left), c);
+        }
+        self.in_phase(refused_at(c))
     }
 
     // The state after the character c. Each phase tests first what is likely there.
@@ -181,10 +206,10 @@ impl Reader {
         let p = self.phase;
         match p {
             Phase::Blank => self.after_blanks(c),
-            Phase::Minus => self.by_digit(c, first_digit(c), refused_at(c)),
+            Phase::Minus => self.after_sign(c),
             Phase::Zero => self.in_phase(whole_end(self.decimals, c)),
-            Phase::Whole => self.by_digit(c, Phase::Whole, whole_end(self.decimals, c)),
-            Phase::Fraction(left) => self.by_digit(c, next_place(left), refused_at(c)),
+            Phase::Whole => self.after_whole(c),
+            Phase::Fraction(left) => self.after_point(left, c),
             Phase::Comma => self.in_phase(Phase::Comma),
             Phase::Bad => self.in_phase(refused_at(c)),
         }

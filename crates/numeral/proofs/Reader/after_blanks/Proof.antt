@@ -16,21 +16,12 @@ returns c = rw (eq-eqb blank _ (sym (c .before .if1 .taken))) (c .in-phase .ensu
 returns-2 : tie.Need-returns-2
 returns-2 c = rw (ne-eqb blank _ (λ e. c .before .if1 .left (sym e)), eq-eqb _ minus (c .if2 .taken))
 
-first-digit-requires : tie.Need-first-digit-requires
-first-digit-requires c κs = search needs
-
-refused-at-requires : tie.Need-refused-at-requires
-refused-at-requires c κs = search needs
-
-by-digit-requires : tie.Need-by-digit-requires
-by-digit-requires c κs = search needs
+after-sign-requires : tie.Need-after-sign-requires
+after-sign-requires c κs = search needs
 
 returns-3 : tie.Need-returns-3
 returns-3 c =
-    let phases = c .before .before in
-    let tested = phases .before in
-    rw (ne-eqb blank _ (λ e. tested .before .if1 .left (sym e)), ne-eqb _ minus (tested .if2 .left))
-    (rw (← (phases .first-digit .ensures), ← (c .before .refused-at .ensures)) (c .by-digit .ensures))
+    rw (ne-eqb blank _ (λ e. c .before .before .if1 .left (sym e)), ne-eqb _ minus (c .before .if2 .left)) (c .after-sign .ensures)
 
 pub after-blanks-spec : {M : Type 1} → statement M
 after-blanks-spec =
@@ -39,7 +30,5 @@ after-blanks-spec =
     in-phase-requires
     returns
     returns-2
-    first-digit-requires
-    refused-at-requires
-    by-digit-requires
+    after-sign-requires
     returns-3)

@@ -14,14 +14,8 @@ after-blanks-requires c κs = search needs
 enum-told-2 : tie.Need-enum-told-2
 enum-told-2 c = search needs
 
-first-digit-requires : tie.Need-first-digit-requires
-first-digit-requires c κs = search needs
-
-refused-at-requires : tie.Need-refused-at-requires
-refused-at-requires c κs = search needs
-
-by-digit-requires : tie.Need-by-digit-requires
-by-digit-requires c κs = search needs
+after-sign-requires : tie.Need-after-sign-requires
+after-sign-requires c κs = search needs
 
 enum-told-3 : tie.Need-enum-told-3
 enum-told-3 c = search needs
@@ -35,23 +29,14 @@ in-phase-requires c κs = search needs
 enum-told-4 : tie.Need-enum-told-4
 enum-told-4 c = search needs
 
-whole-end-requires-2 : tie.Need-whole-end-requires-2
-whole-end-requires-2 c κs = search needs
-
-by-digit-requires-2 : tie.Need-by-digit-requires-2
-by-digit-requires-2 c κs = search needs
+after-whole-requires : tie.Need-after-whole-requires
+after-whole-requires c κs = search needs
 
 enum-known-p : tie.Need-enum-known-p
 enum-known-p c = search needs
 
-next-place-requires : tie.Need-next-place-requires
-next-place-requires c κs = search needs
-
-refused-at-requires-2 : tie.Need-refused-at-requires-2
-refused-at-requires-2 c κs = search needs
-
-by-digit-requires-3 : tie.Need-by-digit-requires-3
-by-digit-requires-3 c κs = search needs
+after-point-requires : tie.Need-after-point-requires
+after-point-requires c κs = search needs
 
 enum-told-5 : tie.Need-enum-told-5
 enum-told-5 c = search needs
@@ -62,8 +47,8 @@ in-phase-requires-2 c κs = search needs
 enum-told-6 : tie.Need-enum-told-6
 enum-told-6 c = search needs
 
-refused-at-requires-3 : tie.Need-refused-at-requires-3
-refused-at-requires-3 c κs = search needs
+refused-at-requires : tie.Need-refused-at-requires
+refused-at-requires c κs = search needs
 
 in-phase-requires-3 : tie.Need-in-phase-requires-3
 in-phase-requires-3 c κs = search needs
@@ -72,26 +57,22 @@ returns : tie.Need-returns
 returns c = c .after-blanks .ensures ∙ sym (step-in _ _ (c .before .enum-told .given .1))
 
 returns-2 : tie.Need-returns-2
-returns-2 c =
-    c .by-digit .ensures
-    ∙ rw (c .before .before .first-digit .ensures, c .before .refused-at .ensures) (sym (step-in _ _ (c .before .before .before .enum-told2 .given .1)))
+returns-2 c = c .after-sign .ensures ∙ sym (step-in _ _ (c .before .enum-told2 .given .1))
 
 returns-3 : tie.Need-returns-3
 returns-3 c = c .in-phase .ensures ∙ rw (c .before .whole-end .ensures) (sym (step-in _ _ (c .before .before .enum-told3 .given .1)))
 
 returns-4 : tie.Need-returns-4
-returns-4 c = c .by-digit2 .ensures ∙ rw (c .before .whole-end2 .ensures) (sym (step-in _ _ (c .before .before .enum-told4 .given .1)))
+returns-4 c = c .after-whole .ensures ∙ sym (step-in _ _ (c .before .enum-told4 .given .1))
 
 returns-5 : tie.Need-returns-5
-returns-5 c =
-    c .by-digit3 .ensures
-    ∙ rw (c .before .before .next-place .ensures, c .before .refused-at2 .ensures) (sym (step-in _ _ (c .before .before .before .before .p .given .1)))
+returns-5 c = c .after-point .ensures ∙ sym (step-in _ _ (c .before .before .p .given .1))
 
 returns-6 : tie.Need-returns-6
 returns-6 c = c .in-phase2 .ensures ∙ sym (step-in _ _ (c .before .enum-told5 .given .1))
 
 returns-7 : tie.Need-returns-7
-returns-7 c = c .in-phase3 .ensures ∙ rw (c .before .refused-at3 .ensures) (sym (step-in _ _ (c .before .before .enum-told6 .given .1)))
+returns-7 c = c .in-phase3 .ensures ∙ rw (c .before .refused-at .ensures) (sym (step-in _ _ (c .before .before .enum-told6 .given .1)))
 
 pub take-spec : {M : Type 1} → statement M
 take-spec =
@@ -100,23 +81,18 @@ take-spec =
     enum-told
     after-blanks-requires
     enum-told-2
-    first-digit-requires
-    refused-at-requires
-    by-digit-requires
+    after-sign-requires
     enum-told-3
     whole-end-requires
     in-phase-requires
     enum-told-4
-    whole-end-requires-2
-    by-digit-requires-2
+    after-whole-requires
     enum-known-p
-    next-place-requires
-    refused-at-requires-2
-    by-digit-requires-3
+    after-point-requires
     enum-told-5
     in-phase-requires-2
     enum-told-6
-    refused-at-requires-3
+    refused-at-requires
     in-phase-requires-3
     returns
     returns-2
