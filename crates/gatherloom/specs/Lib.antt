@@ -10,5 +10,7 @@ pub mod AnswerLaws
 pub mod LentLaws
 -- Laws: an answer's number tells its case
 pub mod ToldApart
+-- Rules: what the calls that write a table hand to C
 pub mod Writing
+-- Laws: what the proofs of these calls cite; out-parameters keep what they held
 pub mod WritingLaws

@@ -1,4 +1,4 @@
--- Laws: what the proofs of the calls that write a table cite of their answers, and that an out-parameter keeps what it held where the answer is not 0.
+-- Laws: what the proofs of the calls that write a table cite of their answers, and that an out-parameter keeps what it held if the answer is not 0.
 -- Assumes nothing.
 use Prim.Native.Nat.{ℕ}
 use mathlib.Core.Path.{_≡_}
