@@ -130,7 +130,8 @@ module _ (k F : ℕ) (path : ℕ → ℕ) (b : List ℕ) where
 
   -- one page more is split
   heads-split : (m : ℕ) (b′ : List ℕ) (es : List Item) → Usable b (path m) → Usable b (newOffset F m) → (path m ≡ newOffset F m → ⊥)
-      → All (Fit k) es → 1 < capacity k → length es ≤ suc (capacity k) → length b′ ≡ length b → Heads k F path m b b′ → Heads k F path (suc m) b (splitPage b′ (path m) es (newOffset F m))
+      → All (Fit k) es → 1 < capacity k → length es ≤ suc (capacity k) → length b′ ≡ length b
+      → Heads k F path m b b′ → Heads k F path (suc m) b (splitPage b′ (path m) es (newOffset F m))
   heads-split m b′ es tp tq ne f two few n v =
       let p = path m in
       let q = newOffset F m in

@@ -114,7 +114,8 @@ module _ (s : List ℕ) (d : ℕ) (v : ℤ) where
   unfolding writeNumber
   refused-digits e l = rw (e, writeNumber, le-ltb (natAbs v) (10 ^ maxDigits) l)
 
-  refused-width : formatGood (length s) d ≡ true → natAbs v < 10 ^ maxDigits → length s < length (numberText d v) → writeNumber s d v ≡ afterWrite s (Refused 19)
+  refused-width : formatGood (length s) d ≡ true → natAbs v < 10 ^ maxDigits → length s < length (numberText d v)
+      → writeNumber s d v ≡ afterWrite s (Refused 19)
   unfolding writeNumber
   refused-width e l m = rw (e, writeNumber, lt-ltb (natAbs v) (10 ^ maxDigits) l, lt-leb (length (numberText d v)) (length s) m)
 
