@@ -4,7 +4,7 @@
 pub mod Layout
 -- Rules: a page's entries after a pair goes in or a page below was split
 pub mod Entries
--- Steps: what the functions ask of their arguments, and the number of the chosen entry
+-- Steps: what the functions ask of their arguments
 pub mod Given
 -- Laws: entries as bytes and back
 pub mod ItemLaws
