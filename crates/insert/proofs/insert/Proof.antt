@@ -5,11 +5,12 @@ use mathlib.Core.Bool.{true}
 use mathlib.Core.List.{List}
 use lib.ListN.{length}
 use Rattle.basis.specs.Tests.{passed, failed}
-use Rattle.page.specs.Header.{keyLength, headerGood}
+use Rattle.page.specs.Header.{maxLevels, keyLength, headerGood}
 use Rattle.page.specs.HeaderLaws.{good-header}
 use Rattle.sound.specs.Rule.{pagesGood, unmarked}
-use Rattle.lookup.specs.Lookup.{lookupRule}
-use Rattle.insert.specs.Calls.{isFound}
+use Rattle.insert.specs.declared.Path.{Path}
+use Rattle.insert.specs.Room.{pathTo, noRoom}
+use Rattle.insert.specs.RoomLaws.{path-levels, path-run}
 use Rattle.insert.specs.CallLaws.{audit-sound, audit-unsound}
 use Rattle.insert.specs.CallLaws.{refused-24, refused-27, refused-28, refused-25, refused-29, refused-30, accepted-pair}
 use borrow.Author.Needs.{needs}
@@ -29,18 +30,21 @@ at-length c = c .before .before
 abbrev at-number : tie.After-audit → tie.Else3
 at-number c = c .before .before
 
-abbrev at-sound : tie.After-is-found → tie.Else4
-at-sound c = c .before .before .before
+abbrev at-sound : tie.After-path-to → tie.Else4
+at-sound c = c .before .before
 
 abbrev at-absent : tie.After-no-room → tie.Else5
 at-absent c = c .before .before
 
--- the buffer and the key of the call, from behind the third test
+-- the buffer, the key and the record number of the call, from behind the third test
 abbrev index : tie.Else3 → List ℕ
 index c = start (at-header (at-length c)) .args .index .now
 
 abbrev key : tie.Else3 → List ℕ
 key c = start (at-header (at-length c)) .args .key .now
+
+abbrev number : tie.Else3 → ℕ
+number c = start (at-header (at-length c)) .args .number .0
 
 -- the tests that were passed: the header is good, the key has its length, the index is sound
 header : (c : tie.Else1) → headerGood (start c .args .index .now) ≡ true
@@ -54,9 +58,14 @@ sound c =
     let audited = c .before in
     audit-sound _ (header (at-header (at-length (at-number audited)))) (audited .audit .ensures) (c .if4 .left)
 
--- what the lookup said of the key
-looked-up : (c : tie.After-is-found) → let number = at-number (at-sound c .before) in c .is-found .result ≡ isFound (lookupRule (index number) (key number))
-looked-up c = c .is-found .ensures ∙ ap isFound (c .before .lookup .ensures)
+-- the path is the rule's: so is what its leaf says of the key
+present : (c : tie.After-path-to) → let at = at-number (at-sound c .before) in
+    c .path-to .result .present ≡ pathTo (keyLength (index at)) (index at) (key at) (number at) .present
+present c = ap (λ (path : Path). path .present) (c .path-to .ensures)
+
+full : (c : tie.After-no-room) → let path = at-absent c .before in let at = at-number (at-sound path .before) in
+    c .no-room .result ≡ noRoom (index at) (pathTo (keyLength (index at)) (index at) (key at) (number at))
+full c = c .no-room .ensures ∙ ap (noRoom _) (at-absent c .before .path-to .ensures)
 
 header-good-requires : tie.Need-header-good-requires
 header-good-requires c κs = search needs
@@ -92,16 +101,15 @@ same-length-4 c = search needs
 
 returns-4 : tie.Need-returns-4
 returns-4 c =
-    let number = at-number (c .before) in
-    let measured = at-length number in
+    let at = at-number (c .before) in
+    let measured = at-length at in
     let good = header (at-header measured) in
-    refused-25 _ _ _ good (same measured) (number .if3 .left) (audit-unsound _ good (c .before .audit .ensures) (c .if4 .taken))
+    refused-25 _ _ _ good (same measured) (at .if3 .left) (audit-unsound _ good (c .before .audit .ensures) (c .if4 .taken))
 
-lookup-requires : tie.Need-lookup-requires
-lookup-requires c κs = search needs
-
-is-found-requires : tie.Need-is-found-requires
-is-found-requires c κs = search needs
+path-to-requires : tie.Need-path-to-requires
+path-to-requires c κs =
+    let measured = at-length (at-number (c .before .before)) in
+    (header (at-header measured), same measured)
 
 same-length-5 : tie.Need-same-length-5
 same-length-5 c = search needs
@@ -109,15 +117,16 @@ same-length-5 c = search needs
 returns-5 : tie.Need-returns-5
 returns-5 c =
     let audited = at-sound (c .before) in
-    let number = at-number (audited .before) in
-    let measured = at-length number in
-    let found = sym (looked-up (c .before)) ∙ c .if5 .taken in
-    refused-29 _ _ _ (header (at-header measured)) (same measured) (number .if3 .left) (sound audited) found
+    let at = at-number (audited .before) in
+    let measured = at-length at in
+    let found = sym (present (c .before)) ∙ c .if5 .taken in
+    refused-29 _ _ _ (header (at-header measured)) (same measured) (at .if3 .left) (sound audited) found
 
 no-room-requires : tie.Need-no-room-requires
 no-room-requires c κs =
-    let measured = at-length (at-number (at-sound (c .before .before) .before)) in
-    (header (at-header measured), same measured)
+    let path = c .before .before in
+    let measured = at-length (at-number (at-sound path .before)) in
+    (header (at-header measured), rw (path .path-to .ensures) (path-levels _ maxLevels _ _ _), rw (path .path-to .ensures) (path-run _ maxLevels _ _ _))
 
 same-length-6 : tie.Need-same-length-6
 same-length-6 c = search needs
@@ -126,11 +135,10 @@ returns-6 : tie.Need-returns-6
 returns-6 c =
     let absent = at-absent (c .before) in
     let audited = at-sound (absent .before) in
-    let number = at-number (audited .before) in
-    let measured = at-length number in
-    let not-found = sym (looked-up (absent .before)) ∙ absent .if5 .left in
-    let full = sym (c .before .no-room .ensures) ∙ c .if6 .taken in
-    refused-30 _ _ _ (header (at-header measured)) (same measured) (number .if3 .left) (sound audited) not-found full
+    let at = at-number (audited .before) in
+    let measured = at-length at in
+    let not-found = sym (present (absent .before)) ∙ absent .if5 .left in
+    refused-30 _ _ _ (header (at-header measured)) (same measured) (at .if3 .left) (sound audited) not-found (sym (full (c .before)) ∙ c .if6 .taken)
 
 insert-pair-requires : tie.Need-insert-pair-requires
 insert-pair-requires c κs =
@@ -147,11 +155,11 @@ returns-7 c =
     let room = inserted .before .before in
     let absent = at-absent (room .before) in
     let audited = at-sound (absent .before) in
-    let number = at-number (audited .before) in
-    let measured = at-length number in
-    let not-found = sym (looked-up (absent .before)) ∙ absent .if5 .left in
-    let not-full = sym (room .before .no-room .ensures) ∙ room .if6 .left in
-    accepted-pair _ _ _ (header (at-header measured)) (same measured) (number .if3 .left) (sound audited) not-found not-full (inserted .insert-pair .ensures)
+    let at = at-number (audited .before) in
+    let measured = at-length at in
+    let not-found = sym (present (absent .before)) ∙ absent .if5 .left in
+    let not-full = sym (full (room .before)) ∙ room .if6 .left in
+    accepted-pair _ _ _ (header (at-header measured)) (same measured) (at .if3 .left) (sound audited) not-found not-full (inserted .insert-pair .ensures)
 
 pub insert-spec : {M : Type 1} → statement M
 insert-spec =
@@ -168,8 +176,7 @@ insert-spec =
     audit-requires
     same-length-4
     returns-4
-    lookup-requires
-    is-found-requires
+    path-to-requires
     same-length-5
     returns-5
     no-room-requires
