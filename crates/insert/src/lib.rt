@@ -186,13 +186,7 @@ fn insert_under(
 }
 
 // Writes a new root over `old`, which was split, and `new`, on a page from `supply`; and the header's root offset and supply.
-fn new_root(
-    index: &mut [u8],
-    key: &[u8],
-    old: PageOffset,
-    new: PageOffset,
-    supply: Supply,
-)
+fn new_root(index: &mut [u8], key: &[u8], old: PageOffset, new: PageOffset, supply: Supply)
     requires { ⌜ (length (now key) ≤ maxKey) × Lasts 1 supply ⌝ }
     ensures { λ _. ⌜ now (index .exit) ≡ atRoot (length (now (key .entry))) (now (index .entry)) (now (key .entry)) (old .0) (split (new .0) supply) ⌝ }
 {

@@ -35,7 +35,7 @@ use Rattle.tree.specs.SupplyLaws.{taken-injective}
 use Rattle.tree.specs.SoundIndex.{SoundIndex, LinkedIndex}
 use Rattle.tree.specs.Tree.{Tree, pagesUnder, pages, pairs, levelUnder, level}
 use Rattle.page.specs.Header.{maxBytes, noPage, isPage, rootOffset, fileSize, keyLength, features, headerGood}
-use Rattle.page.specs.HeaderLaws.{is-page-from, GoodHeader, good-header, good-header-from}
+use Rattle.page.specs.HeaderLaws.{GoodHeader, good-header, good-header-from}
 use Rattle.page.specs.KeyOrder.{bytesOrder}
 use Rattle.page.specs.Page.{attributeAt, countAt, rootBit, leafBit, capacity}
 use Rattle.page.specs.Reading.{entriesAt}
@@ -323,7 +323,9 @@ module _ (b key : List ℕ) (r : ℕ) (accepts : Accepts b key r) where
           either (eqb z (x .1 .0)) (λ u. eqb-true z (x .1 .0) u) (λ u. absurd (omega (arith, ap countIf u)))
 
       below-top : (j z : ℕ) → j ≤ h → 0 < occ z (level j (x .0) (x .1)) → z ≡ takenPage F (suc h) → ⊥
-      below-top j z l o e = in-level j z l o (λ f. old-new z (in-tree h j z t f) (suc h) e) (λ m u. let q : j ≡ suc h = taken-injective F j (suc h) (sym u ∙ e) in omega arith)
+      below-top j z l o e = in-level j z l o
+          (λ f. old-new z (in-tree h j z t f) (suc h) e)
+          (λ m u. let q : j ≡ suc h = taken-injective F j (suc h) (sym u ∙ e) in omega arith)
 
       not-top : (j z : ℕ) → eqb z (takenPage F (suc h)) ≡ false → z ≡ takenPage F j → j < suc splits → j < splits
       not-top j z q v l = either (eqb j splits)
@@ -414,7 +416,8 @@ module _ (b key : List ℕ) (r : ℕ) (accepts : Accepts b key r) where
       (subst (SoundIndex kept-by) (sym index-is) sound-after))
       (subst (λ (T : Tree (List ℕ) (x .0)). AllLinked noPage (linksOf b″) (x .0) T) (sym tree-is) linked-after)
       (all-occ (λ p. attributeAt b″ p ≤ 3) ps (λ z o. bits .small z (there z o)))
-      (all-occ (λ p. rootBit (attributeAt b″ p) ≡ eqb p (rootOffset b″)) ps (λ z o. bits .root z (there z o) ∙ ap (eqb z) (sym (root-after k (namingOf b) h b key r ready))))
+      (all-occ (λ p. rootBit (attributeAt b″ p) ≡ eqb p (rootOffset b″)) ps
+      (λ z o. bits .root z (there z o) ∙ ap (eqb z) (sym (root-after k (namingOf b) h b key r ready))))
       (λ j l. all-occ (λ p. leafBit (attributeAt b″ p) ≡ eqb j 0) (level j (x .0) (indexTree b″ (x .0)))
       (λ z o. bits .leaf j z l (subst (λ (T : Tree (List ℕ) (x .0)). 0 < occ z (level j (x .0) T)) tree-is o)))
       (all-occ (λ p. countAt b″ p ≤ capacity (keyLength b″)) ps (λ z o. rw key-same (counts-after z (there z o))))
