@@ -1,5 +1,5 @@
--- Laws: a fresh index is sound; an insertion keeps a sound index sound and linked; every call answers and changes it as the book does. Cited by the theorem about
--- lists of calls and by the laws of bytes. Assumes nothing.
+-- Laws: a fresh index is sound; an insertion keeps a sound index sound and linked; every call answers and changes it as the book does. Cited by the theorem
+-- about lists of calls and by the laws of bytes. Assumes nothing.
 use mathlib.Core.Path.{_≡_, refl, sym}
 use mathlib.Core.Bool.{Bool, true, false, not, _||_}
 use mathlib.Core.Option.{Option, none, some}
@@ -25,25 +25,26 @@ use Rattle.tree.specs.InsertSized.{insert-sized}
 use Rattle.tree.specs.InsertPages.{newPages, Distinct, Unused, insert-pages}
 use Rattle.tree.specs.InsertNeeds.{insert-needs}
 use Rattle.tree.specs.InsertLinks.{insert-all-linked}
-use Rattle.tree.specs.Book.{Call, insertion, lookupOf, Answer, accepted, refusedIf, isPresent, verdict, isNoRoom, isAccepted}
+use Rattle.tree.specs.Book.{Call, insertion, lookupOf, Answer, KeyTests, accepted, refusedIf, isPresent, verdict, isNoRoom, isAccepted}
 use Rattle.tree.specs.Book.{bookAnswer, bookAfter}
 use Rattle.tree.specs.Index.{newOffset, Index, held, fresh, grown, Setting, outOfRoom, noRoomFor, answer, inserted, insertedLinks, next}
 use Rattle.tree.specs.SoundIndex.{PagesOnce, SoundIndex, LinkedIndex}
 
 -- the verdict on an insertion does not change if it is told whether it was 30
-verdict-room : (fits : Bool) (r : ℕ) (held : Option ℕ) (full : Bool) →
-    verdict fits r held (isNoRoom (verdict fits r held full)) ≡ verdict fits r held full
-verdict-room fits r held full = go (not fits) (eqb r 0) (isPresent held) full
+verdict-room : (fits barred : Bool) (r : ℕ) (held : Option ℕ) (full : Bool) →
+    verdict fits barred r held (isNoRoom (verdict fits barred r held full)) ≡ verdict fits barred r held full
+verdict-room fits barred r held full = go (not fits) barred (eqb r 0) (isPresent held) full
   where
-    four : Bool → Bool → Bool → Bool → Answer
-    four a b c d = refusedIf a 27 (refusedIf b 28 (refusedIf c 29 (refusedIf d 30 accepted)))
+    five : Bool → Bool → Bool → Bool → Bool → Answer
+    five a b c d e = refusedIf a 27 (refusedIf b 32 (refusedIf c 28 (refusedIf d 29 (refusedIf e 30 accepted))))
 
-    go : (a b c d : Bool) → four a b c (isNoRoom (four a b c d)) ≡ four a b c d
-    go true b c d = refl
-    go false true c d = refl
-    go false false true d = refl
-    go false false false true = refl
-    go false false false false = refl
+    go : (a b c d e : Bool) → five a b c d (isNoRoom (five a b c d e)) ≡ five a b c d e
+    go true b c d e = refl
+    go false true c d e = refl
+    go false false true d e = refl
+    go false false false true e = refl
+    go false false false false true = refl
+    go false false false false false = refl
 
 -- the verdict is yes only if no refusal's test holds
 pub record Acceptable (fits : Bool) (r : ℕ) (held : Option ℕ) (full : Bool) : Type 0 where
@@ -52,10 +53,11 @@ pub record Acceptable (fits : Bool) (r : ℕ) (held : Option ℕ) (full : Bool) 
   pub new : held ≡ none
   pub room : full ≡ false
 
-pub accepted-acceptable : (fits : Bool) (r : ℕ) (held : Option ℕ) (full : Bool) → isAccepted (verdict fits r held full) ≡ true →
+pub accepted-acceptable : (fits barred : Bool) (r : ℕ) (held : Option ℕ) (full : Bool) → isAccepted (verdict fits barred r held full) ≡ true →
     Acceptable fits r held full
-accepted-acceptable false r held full e = contra e refl
-accepted-acceptable true r held full e = either (eqb r 0)
+accepted-acceptable false barred r held full e = contra e refl
+accepted-acceptable true true r held full e = contra e refl
+accepted-acceptable true false r held full e = either (eqb r 0)
     (λ z. contra (rw z at e) refl)
     (λ z. go held full (omega (arith, eqb-false r 0 z)) (rw z at e))
   where
@@ -179,30 +181,31 @@ module _ {K : Type 0} (s : Setting K) (two : 1 < s .capacity) where
       (pages-distinct (inserted s k r i) (g .pagesOnce)) c
 
   -- Theorem: a call is answered as the book answers it, if the book is told whether the answer is 30, or what the rule for 30 says
-  pub answer-book : (c : Call K) (i : Index K) → SoundIndex s i →
-      bookAnswer (s .order) (s .fits) c (isNoRoom (answer s c i)) (held i) ≡ answer s c i
-  answer-book (lookupOf k) i d =
+  pub answer-book : (tests : KeyTests K) (c : Call K) (i : Index K) → SoundIndex s i →
+      bookAnswer (s .order) tests c (isNoRoom (answer s tests c i)) (held i) ≡ answer s tests c i
+  answer-book tests (lookupOf k) i d =
       rw (
         lookup-find (s .order) k (i .height) (i .tree) (d .ordered),
         find-get (s .order) k (held i)
             (ordered-ascending (s .order) (i .height) (i .tree) (d .ordered)),
       )
-  answer-book (insertion k r) i d =
+  answer-book tests (insertion k r) i d =
       rw (← find-get (s .order) k (held i) (ordered-ascending (s .order) (i .height) (i .tree) (d .ordered)))
-      (verdict-room (s .fits k) r (find (s .order) k (held i)) (outOfRoom s k i))
+      (verdict-room (tests .fits k) (tests .barred k) r (find (s .order) k (held i)) (outOfRoom s k i))
 
-  pub answer-room : (c : Call K) (i : Index K) → SoundIndex s i → bookAnswer (s .order) (s .fits) c (noRoomFor s c i) (held i) ≡ answer s c i
-  answer-room (lookupOf k) i d = answer-book (lookupOf k) i d
-  answer-room (insertion k r) i d =
+  pub answer-room : (tests : KeyTests K) (c : Call K) (i : Index K) → SoundIndex s i →
+      bookAnswer (s .order) tests c (noRoomFor s c i) (held i) ≡ answer s tests c i
+  answer-room tests (lookupOf k) i d = answer-book tests (lookupOf k) i d
+  answer-room tests (insertion k r) i d =
       rw (← find-get (s .order) k (held i) (ordered-ascending (s .order) (i .height) (i .tree) (d .ordered)))
 
   -- Theorem: the leaf pairs after a call are the book after it
-  pub next-book : (c : Call K) (i : Index K) → SoundIndex s i →
-      bookAfter (s .order) (s .fits) c (isNoRoom (answer s c i)) (held i) ≡ held (next s c i)
-  next-book (lookupOf k) i d = refl
-  next-book (insertion k r) i d =
-      rw (answer-book (insertion k r) i d)
-      (either (isAccepted (answer s (insertion k r) i))
+  pub next-book : (tests : KeyTests K) (c : Call K) (i : Index K) → SoundIndex s i →
+      bookAfter (s .order) tests c (isNoRoom (answer s tests c i)) (held i) ≡ held (next s tests c i)
+  next-book tests (lookupOf k) i d = refl
+  next-book tests (insertion k r) i d =
+      rw (answer-book tests (insertion k r) i d)
+      (either (isAccepted (answer s tests (insertion k r) i))
       (λ e. let rooted : Rooted (i .height) (i .tree) = sized-rooted (s .capacity) (i .height) (i .tree) (d .sized) in
       rw e (sym (insert-pairs (s .order) (s .capacity) (newOffset (i .size)) k r (i .height) (i .tree) rooted (d .ordered))))
       (λ e. rw e))
