@@ -150,7 +150,7 @@ fn long_keys() {
     );
 }
 
-// An index of an earlier release, with control bytes in its keys, in a buffer of 8,192 bytes: its audit, and the calls of a list on it.
+// An index of an earlier release, with control bytes in its keys: its audit, and the calls of a list on it.
 fn earlier_release() {
     let mut index = io::large_buffer();
     let mut calls = io::large_buffer();
@@ -158,8 +158,8 @@ fn earlier_release() {
     files::load(b"earlier.idx", &mut index);
     let m = files::load(b"earlier.calls", &mut calls).len;
     let n = files::load(b"earlier_after.idx", &mut after).len;
-    print_audit(b"earlier", &index[..8192]);
-    lists::run_on_index(b"earlier", &calls[..m], &after[..n], &mut index[..8192]);
+    print_audit(b"earlier", &index);
+    lists::run_on_index(b"earlier", &calls[..m], &after[..n], &mut index);
 }
 
 // Lists written from document 01.
