@@ -19,7 +19,7 @@ ghost use Rattle.layout.specs.Given.{Over, Lasts};
 ghost use Rattle.insert.specs.Insertion.{split, step, takeIn, afterChild, insertUnder, atRoot, insertedBuffer};
 ghost use Rattle.insert.specs.Answers.{outcomeOf, NextFits, visitOf};
 ghost use Rattle.insert.specs.Room.{onTop, pathFrom, pathTo, rootSplit, noRoom};
-ghost use Rattle.insert.specs.Calls.{afterCall, insertRule};
+ghost use Rattle.insert.specs.Calls.{afterCall, hasControl, insertRule};
 ghost use Rattle.insert.specs.Fresh.{printable, maxExpression, expressionGood, freshBuffer, freshRule};
 
 // The longest key expression.
@@ -326,6 +326,20 @@ fn no_room(index: &[u8], path: Path) -> bool
     (index.len() < size) | ((page::MAX_BYTES < size) | (page::MAX_LEVELS < path.levels + more))
 }
 
+// Whether a key has a control byte.
+fn has_control(key: &[u8]) -> bool
+    ensures { λ r. ⌜ r ≡ hasControl (now (key .entry)) ⌝ }
+{
+    let mut i = 0;
+    while i < key.len() {
+        if octets::byte(key, i) < 0x20 {
+            return true;
+        }
+        i += 1;
+    }
+    false
+}
+
 // Inserts `key` with its record number, `number`.
 pub fn insert(index: &mut [u8], key: &[u8], number: RecordNumber) -> Insertion
     ensures { λ r. ⌜ insertRule (now (index .entry)) (now (key .entry)) (number .0) ≡ afterCall (now (index .exit)) r ⌝ }
@@ -333,8 +347,12 @@ pub fn insert(index: &mut [u8], key: &[u8], number: RecordNumber) -> Insertion
     if !page::header_good(index) {
         return Insertion::Refused(refusal::INDEX_HEADER);
     }
+    let control = has_control(key);
     if key.len() != page::key_length(index) {
         return Insertion::Refused(refusal::KEY_LENGTH);
+    }
+    if control {
+        return Insertion::Refused(refusal::CONTROL_BYTE);
     }
     if number.0 == 0 {
         return Insertion::Refused(refusal::RECORD_NUMBER_ZERO);

@@ -1,7 +1,7 @@
 -- Laws: for how many pages more a supply lasts, and the supply after pages were taken one by one. Cited by the proofs of the functions and by the laws of
 -- insertion. Assumes nothing.
-use Prim.Native.Nat.{ℕ, zero, suc, _+_, _-_, _≤_, _<_}
-use mathlib.Core.Path.{_≡_, refl}
+use Prim.Native.Nat.{ℕ, suc, _+_, _-_, _≤_, _<_}
+use mathlib.Core.Path.{_≡_}
 use mathlib.Core.List.{List}
 use native.Mathlib.Omega.{arith}
 use Rattle.page.specs.Header.{maxLevels}

@@ -312,7 +312,8 @@ module _ (k : ℕ) where
           let e3 = beyond-head s2 r q q32 z (page-of z n2 tz) in
           let e4 = new-head s3 q a p r (drop m es) (page-of q n3 tq) (omega arith) p32 r32 (halves-fit k es m f .1) upper-few z (page-of z n3 tz) in
           record {
-            attributeIs = e4 .attributeIs ∙ ap (cond (eqb z q) a) (e3 .attributeIs ∙ e2 .attributeIs ∙ e1 .attributeIs ∙ ap (cond (eqb z p) a) (e0 .attributeIs));
+            attributeIs = e4 .attributeIs
+                ∙ ap (cond (eqb z q) a) (e3 .attributeIs ∙ e2 .attributeIs ∙ e1 .attributeIs ∙ ap (cond (eqb z p) a) (e0 .attributeIs));
             countIs = e4 .countIs ∙ ap (cond (eqb z q) (length (drop m es))) (e3 .countIs ∙ e2 .countIs ∙ e1 .countIs ∙ e0 .countIs);
             leftIs = e4 .leftIs ∙ ap (cond (eqb z q) p) (e3 .leftIs ∙ ap (cond (eqb z r) q) (e2 .leftIs ∙ e1 .leftIs ∙ e0 .leftIs));
             rightIs = e4 .rightIs ∙ ap (cond (eqb z q) r) (e3 .rightIs ∙ e2 .rightIs ∙ ap (cond (eqb z p) q) (e1 .rightIs ∙ e0 .rightIs))

@@ -13,7 +13,7 @@ use Rattle.tree.specs.Insertion.{Grown, insert}
 use Rattle.tree.specs.Room.{needs, levelsAfter}
 use Rattle.tree.specs.Relinking.{relinked}
 use Rattle.tree.specs.Supply.{takenPage, sizeAfter}
-use Rattle.tree.specs.Book.{Call, insertion, lookupOf, Answer, verdict, finding, isAccepted}
+use Rattle.tree.specs.Book.{Call, insertion, lookupOf, Answer, KeyTests, verdict, finding, isAccepted}
 
 -- an index: the levels under the root, the tree, whose pages are named by their offsets, and the file size F
 pub record Index (K : Type 0) : Type 0 where
@@ -33,11 +33,10 @@ fresh = record { height = 0; tree = (pageSize, []); size = 2 * pageSize }
 abbrev pub grown : {K : Type 0} → ℕ → Grown K → Index K
 grown size g = record { height = g .0; tree = g .1; size = sizeAfter size (g .2) }
 
--- what an index is kept by: the order of its keys, the test that a key has its key length, the capacity of a page, and the most that F and the
--- levels may be: the buffer's length or 1,048,576, whichever is less, and 11
+-- what an index is kept by: the order of its keys, the capacity of a page, and the most that F and the levels may be: the buffer's length or 1,048,576,
+-- whichever is less, and 11
 pub record Setting (K : Type 0) : Type 0 where
   pub order : Order K
-  pub fits : K → Bool
   pub capacity : ℕ
   pub maxSize : ℕ
   pub maxLevels : ℕ
@@ -58,22 +57,20 @@ module _ {K : Type 0} (s : Setting K) where
   noRoomFor (lookupOf k) i = false
 
   -- the answer to a call
-  abbrev pub answer : Call K → Index K → Answer
-  answer (insertion k r) i = verdict (s .fits k) r (has (keptBy .pairLe) (k, r) (held i)) (outOfRoom (k, r) i)
-  answer (lookupOf k) i = finding (s .fits k) (lookup (s .order) k (i .height) (i .tree))
+  abbrev pub answer : KeyTests K → Call K → Index K → Answer
+  answer tests (insertion k r) i = verdict (tests .fits k) (tests .barred k) r (has (keptBy .pairLe) (k, r) (held i)) (outOfRoom (k, r) i)
+  answer tests (lookupOf k) i = finding (tests .fits k) (lookup (s .order) k (i .height) (i .tree))
 
   -- the index after an accepted insertion, and after a call
   abbrev pub inserted : K × ℕ → Index K → Index K
   inserted e i = grown (i .size) (insert keptBy (s .capacity) (takenPage (i .size)) e (i .height) (i .tree))
 
-  abbrev pub next : Call K → Index K → Index K
-  next (insertion k r) i = cond (isAccepted (answer (insertion k r) i)) (inserted (k, r) i) i
-  next (lookupOf k) i = i
+  abbrev pub next : KeyTests K → Call K → Index K → Index K
+  next tests (insertion k r) i = cond (isAccepted (answer tests (insertion k r) i)) (inserted (k, r) i) i
+  next tests (lookupOf k) i = i
 
-  -- the links after a call
-  abbrev pub nextLinks : Call K → Index K → Links → Links
-  nextLinks (insertion k r) i l =
-      cond (isAccepted (answer (insertion k r) i))
-      (relinked (keptBy .route (k, r)) noPage (takenPage (i .size)) (s .capacity) (i .height) (i .tree)
-      (insert keptBy (s .capacity) (takenPage (i .size)) (k, r) (i .height) (i .tree)) l) l
-  nextLinks (lookupOf k) i l = l
+  -- the links after an accepted insertion
+  abbrev pub insertedLinks : K × ℕ → Index K → Links → Links
+  insertedLinks e i l =
+      relinked (keptBy .route e) noPage (takenPage (i .size)) (s .capacity) (i .height) (i .tree)
+      (insert keptBy (s .capacity) (takenPage (i .size)) e (i .height) (i .tree)) l

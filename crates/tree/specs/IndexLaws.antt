@@ -1,5 +1,5 @@
--- Laws: a fresh index is sound; every call keeps a sound index sound and linked, and answers and changes it as the book does. Cited by the theorem about
--- lists of calls and by the laws of bytes. Assumes nothing.
+-- Laws: a fresh index is sound; an insertion keeps a sound index sound and linked; every call answers and changes it as the book does. Cited by the theorem
+-- about lists of calls and by the laws of bytes. Assumes nothing.
 use mathlib.Core.Path.{_≡_, refl, sym}
 use mathlib.Core.Bool.{Bool, true, false, not, _||_}
 use Prim.Native.Nat.{ℕ, suc, _+_, _*_, _%_, _≤_, _<_}
@@ -27,24 +27,26 @@ use Rattle.tree.specs.SupplyLaws.{taken-injective, taken-some, taken-bel
 use Rattle.tree.specs.InsertPages.{newPages, Distinct, Unused, insert-pages}
 use Rattle.tree.specs.InsertNeeds.{insert-needs}
 use Rattle.tree.specs.InsertLinks.{insert-all-linked}
-use Rattle.tree.specs.Book.{Call, insertion, lookupOf, Answer, accepted, refusedIf, verdict, isNoRoom, isAccepted}
+use Rattle.tree.specs.Book.{Call, insertion, lookupOf, Answer, KeyTests, accepted, refusedIf, verdict, isNoRoom, isAccepted}
 use Rattle.tree.specs.Book.{bookAnswer, bookAfter}
-use Rattle.tree.specs.Index.{Index, held, fresh, grown, Setting, keptBy, outOfRoom, noRoomFor, answer, inserted, next, nextLinks}
+use Rattle.tree.specs.Index.{Index, held, fresh, grown, Setting, keptBy, outOfRoom, noRoomFor, answer, inserted, insertedLinks, next}
 use Rattle.tree.specs.SoundIndex.{PagesOnce, SoundIndex, LinkedIndex}
 
 -- the verdict on an insertion does not change if it is told whether it was 30
-verdict-room : (fits : Bool) (r : ℕ) (held full : Bool) → verdict fits r held (isNoRoom (verdict fits r held full)) ≡ verdict fits r held full
-verdict-room fits r held full = go (not fits) (eqb r 0) held full
+verdict-room : (fits barred : Bool) (r : ℕ) (held full : Bool) →
+    verdict fits barred r held (isNoRoom (verdict fits barred r held full)) ≡ verdict fits barred r held full
+verdict-room fits barred r held full = go (not fits) barred (eqb r 0) held full
   where
-    four : Bool → Bool → Bool → Bool → Answer
-    four a b c d = refusedIf a 27 (refusedIf b 28 (refusedIf c 29 (refusedIf d 30 accepted)))
+    five : Bool → Bool → Bool → Bool → Bool → Answer
+    five a b c d e = refusedIf a 27 (refusedIf b 32 (refusedIf c 28 (refusedIf d 29 (refusedIf e 30 accepted))))
 
-    go : (a b c d : Bool) → four a b c (isNoRoom (four a b c d)) ≡ four a b c d
-    go true b c d = refl
-    go false true c d = refl
-    go false false true d = refl
-    go false false false true = refl
-    go false false false false = refl
+    go : (a b c d e : Bool) → five a b c d (isNoRoom (five a b c d e)) ≡ five a b c d e
+    go true b c d e = refl
+    go false true c d e = refl
+    go false false true d e = refl
+    go false false false true e = refl
+    go false false false false true = refl
+    go false false false false false = refl
 
 -- the verdict is yes only if no refusal's test holds
 pub record Acceptable (fits : Bool) (r : ℕ) (held full : Bool) : Type 0 where
@@ -53,9 +55,11 @@ pub record Acceptable (fits : Bool) (r : ℕ) (held full : Bool) : Type 0 where
   pub new : held ≡ false
   pub room : full ≡ false
 
-pub accepted-acceptable : (fits : Bool) (r : ℕ) (held full : Bool) → isAccepted (verdict fits r held full) ≡ true → Acceptable fits r held full
-accepted-acceptable false r held full e = contra e refl
-accepted-acceptable true r held full e = either (eqb r 0)
+pub accepted-acceptable : (fits barred : Bool) (r : ℕ) (held full : Bool) → isAccepted (verdict fits barred r held full) ≡ true →
+    Acceptable fits r held full
+accepted-acceptable false barred r held full e = contra e refl
+accepted-acceptable true true r held full e = contra e refl
+accepted-acceptable true false r held full e = either (eqb r 0)
     (λ z. contra (rw z at e) refl)
     (λ z. go held full (omega (arith, eqb-false r 0 z)) (rw z at e))
   where
@@ -120,7 +124,8 @@ fresh-sound s two room levels = record {
 }
 
 module _ {K : Type 0} (s : Setting K) (two : 1 < s .capacity) where
-  inserted-sound : (i : Index K) (e : K × ℕ) → 0 < e .1 → has (keptBy s .pairLe) e (held i) ≡ false → outOfRoom s e i ≡ false → SoundIndex s i →
+  -- Theorem: an insertion of a pair that is not there, with room for it, keeps an index sound
+  pub inserted-sound : (i : Index K) (e : K × ℕ) → 0 < e .1 → has (keptBy s .pairLe) e (held i) ≡ false → outOfRoom s e i ≡ false → SoundIndex s i →
       SoundIndex s (inserted s e i)
   inserted-sound i e pos f room d =
       let h : ℕ = i .height in
@@ -146,49 +151,41 @@ module _ {K : Type 0} (s : Setting K) (two : 1 < s .capacity) where
         withinLevels = omega (arith, needed .1, ltb-false (s .maxLevels) levels (rooms .1));
       }
 
-  -- Theorem: a call keeps an index sound
-  pub next-sound : (c : Call K) (i : Index K) → SoundIndex s i → SoundIndex s (next s c i)
-  next-sound (lookupOf k) i d = d
-  next-sound (insertion k r) i d = either (isAccepted (answer s (insertion k r) i))
-      (λ e. let a : Acceptable (s .fits k) r (has (keptBy s .pairLe) (k, r) (held i)) (outOfRoom s (k, r) i) =
-      accepted-acceptable (s .fits k) r (has (keptBy s .pairLe) (k, r) (held i)) (outOfRoom s (k, r) i) e in
-      rw e (inserted-sound i (k, r) (a .positive) (a .new) (a .room) d))
-      (λ e. rw e d)
-
-  -- Theorem: a call keeps the levels linked
-  pub next-linked : (c : Call K) (i : Index K) (l : Links) → SoundIndex s i → LinkedIndex l i → LinkedIndex (nextLinks s c i l) (next s c i)
-  next-linked (lookupOf k) i l d c = c
-  next-linked (insertion k r) i l d c = either (isAccepted (answer s (insertion k r) i))
-      (λ e. let p : PagesOnce i = d .pagesOnce in
-      let g : SoundIndex s (inserted s (k, r) i) = rw e at (next-sound (insertion k r) i d) in
-      rw e (insert-all-linked (keptBy s) (s .capacity) (omega arith) (takenPage (i .size)) (taken-injective (i .size))
-      noPage (taken-some (i .size) (p .aligned)) (k, r) (i .height) (i .tree) (d .sized)
+  -- Theorem: such an insertion keeps the levels linked
+  pub inserted-linked : (i : Index K) (e : K × ℕ) (l : Links) → SoundIndex s i → SoundIndex s (inserted s e i) → LinkedIndex l i →
+      LinkedIndex (insertedLinks s e i l) (inserted s e i)
+  inserted-linked i e l d g c =
+      let p : PagesOnce i = d .pagesOnce in
+      insert-all-linked (keptBy s) (s .capacity) (omega arith) (takenPage (i .size)) (taken-injective (i .size))
+      noPage (taken-some (i .size) (p .aligned)) e (i .height) (i .tree) (d .sized)
       (pages-distinct i p) (taken-unused i p) (p .unaligned noPage (λ u. omega arith)) l
-      (pages-distinct (inserted s (k, r) i) (g .pagesOnce)) c))
-      (λ e. rw e c)
+      (pages-distinct (inserted s e i) (g .pagesOnce)) c
 
   -- Theorem: a call is answered as the book answers it, if the book is told whether the answer is 30, or what the rule for 30 says
-  pub answer-book : (c : Call K) (i : Index K) → SoundIndex s i →
-      bookAnswer (s .order) (s .fits) c (isNoRoom (answer s c i)) (held i) ≡ answer s c i
-  answer-book (lookupOf k) i d =
+  pub answer-book : (tests : KeyTests K) (c : Call K) (i : Index K) → SoundIndex s i →
+      bookAnswer (s .order) tests c (isNoRoom (answer s tests c i)) (held i) ≡ answer s tests c i
+  answer-book tests (lookupOf k) i d =
       rw (
         lookup-find (s .order) k (i .height) (i .tree) (d .ordered),
         find-get (s .order) k (held i)
             (ordered-ascending (s .order) (i .height) (i .tree) (d .ordered)),
       )
-  answer-book (insertion k r) i d = verdict-room (s .fits k) r (has (keptBy s .pairLe) (k, r) (held i)) (outOfRoom s (k, r) i)
+  answer-book tests (insertion k r) i d =
+      verdict-room (tests .fits k) (tests .barred k) r (has (keptBy s .pairLe) (k, r) (held i)) (outOfRoom s (k, r) i)
 
-  pub answer-room : (c : Call K) (i : Index K) → SoundIndex s i → bookAnswer (s .order) (s .fits) c (noRoomFor s c i) (held i) ≡ answer s c i
-  answer-room (lookupOf k) i d = answer-book (lookupOf k) i d
-  answer-room (insertion k r) i d = refl
+  pub answer-room : (tests : KeyTests K) (c : Call K) (i : Index K) → SoundIndex s i →
+      bookAnswer (s .order) tests c (noRoomFor s c i) (held i) ≡ answer s tests c i
+  answer-room tests (lookupOf k) i d = answer-book tests (lookupOf k) i d
+  answer-room tests (insertion k r) i d = refl
 
   -- Theorem: the leaf pairs after a call are the book after it
-  pub next-book : (c : Call K) (i : Index K) → SoundIndex s i →
-      bookAfter (s .order) (s .fits) c (isNoRoom (answer s c i)) (held i) ≡ held (next s c i)
-  next-book (lookupOf k) i d = refl
-  next-book (insertion k r) i d =
-      rw (answer-book (insertion k r) i d)
-      (either (isAccepted (answer s (insertion k r) i))
+  pub next-book : (tests : KeyTests K) (c : Call K) (i : Index K) → SoundIndex s i →
+      bookAfter (s .order) tests c (isNoRoom (answer s tests c i)) (held i) ≡ held (next s tests c i)
+  next-book tests (lookupOf k) i d = refl
+  next-book tests (insertion k r) i d =
+      rw (answer-book tests (insertion k r) i d)
+      (either (isAccepted (answer s tests (insertion k r) i))
       (λ e. let rooted : Rooted (i .height) (i .tree) = sized-rooted (s .capacity) (i .height) (i .tree) (d .sized) in
-      rw e (sym (insert-pairs (keptBy s) (s .capacity) (takenPage (i .size)) (k, r) (distinct-leading (s .order) (k, r)) (i .height) (i .tree) rooted (d .ordered))))
+      rw e (sym (insert-pairs (keptBy s) (s .capacity) (takenPage (i .size)) (k, r) (distinct-leading (s .order) (k, r)) (i .height)
+      (i .tree) rooted (d .ordered))))
       (λ e. rw e))

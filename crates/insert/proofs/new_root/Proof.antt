@@ -1,4 +1,5 @@
--- `insert::new_root` meets its contract: the root's page, then the header's root offset and supply; what is gathered reads as the rule's entries. Assumes nothing.
+-- `insert::new_root` meets its contract: the root's page, then the header's root offset and supply; what is gathered reads as the rule's entries. Assumes
+-- nothing.
 use mathlib.Core.Path.{_≡_}
 use mathlib.Core.Bool.{true}
 use native.Mathlib.Omega.{arith}

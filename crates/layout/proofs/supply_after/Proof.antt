@@ -1,7 +1,7 @@
 -- `layout::supply_after` meets its contract. The loop's invariant: what is left to take from the supply that is left comes to the rule's supply. Assumes
 -- nothing.
 use Prim.Native.Nat.{_≤_, _-_}
-use mathlib.Core.Path.{_≡_, sym, ap, _∙_}
+use mathlib.Core.Path.{_≡_, sym, _∙_}
 use native.Mathlib.Nat.{sub-zero}
 use native.Mathlib.Omega.{arith}
 use borrow.Author.Needs.{needs}
