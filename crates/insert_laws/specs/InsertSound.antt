@@ -440,8 +440,8 @@ insert-keeps-sound b key r accepts =
       sound = now .0;
       index = same;
       leaves = ap held same
-          ∙ insert-pairs keeping (capacity (keyLength b)) (takenPage (fileSize b)) (key, r) (distinct-leading bytesOrder (key, r)) (s .height) (indexTree b (s .height))
-          (sized-rooted (capacity (keyLength b)) (s .height) (indexTree b (s .height)) (old .sized)) (old .ordered);
+          ∙ insert-pairs keeping (capacity (keyLength b)) (takenPage (fileSize b)) (key, r) (distinct-leading bytesOrder (key, r)) (s .height)
+          (indexTree b (s .height)) (sized-rooted (capacity (keyLength b)) (s .height) (indexTree b (s .height)) (old .sized)) (old .ordered);
       header = rest b key r accepts;
       keyIs = key-same b key r accepts;
       as-long = long b key r accepts;

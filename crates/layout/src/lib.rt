@@ -353,7 +353,8 @@ pub fn gather_pair(
 )
     requires { ⌜ Listed (now index) (length (now key)) (page .0) count × (roomSize ≤ length (now room)) ⌝ }
     ensures { λ _. ⌜ now (room .exit) ≡ put (now (room .entry)) 0
-        (encode (insertPair (byKey bytesOrder) (stored (now (key .entry)) (number .0)) (itemsIn (length (now (key .entry))) (now (index .entry)) (page .0)))) ⌝ }
+        (encode (insertPair (byKey bytesOrder) (stored (now (key .entry)) (number .0))
+        (itemsIn (length (now (key .entry))) (now (index .entry)) (page .0)))) ⌝ }
 {
     let k = key.len();
     let i = page::first_at_or_above(index, page, count, key);

@@ -139,6 +139,7 @@ module _ {K : Type 0} (O : Order K) (cap : ℕ) (pos : 0 < cap) (name : ℕ → 
       let last : K = lastKey (e .0) (q .0) in
       let z : Replacement K (Child K (suc h)) = splitIfOver cap name last (t .0) q in
       let i : NonEmpty (q .0) =
-      concatMap-nonEmpty (pairsUnder h) (q .0) (rw (root-pairs (distinctKeys O) cap name e (distinct-leading O e) h t 0 s o) (insertPair-nonEmpty (byKey O) e (pairs h t))) in
+      concatMap-nonEmpty (pairsUnder h) (q .0)
+      (rw (root-pairs (distinctKeys O) cap name e (distinct-leading O e) h t 0 s o) (insertPair-nonEmpty (byKey O) e (pairs h t))) in
       reroot-exact h t (z .0) (z .1) (splitIfOver-nonEmpty cap name last (t .0) q)
       (splitIfOver-exact (ExactUnder h) cap pos name last (t .0) q (root-exact h t 0 s o d) (lastKey-default last (e .0) (q .0) i))
