@@ -1,0 +1,16 @@
+-- `numeral::whole_start` meets its contract: each answer is the rule at the test that led there. Assumes nothing.
+use borrow.Author.Needs.{needs}
+use Rattle.numeral.proofs.whole_start.Statement.{statement}
+use Rattle.numeral.proofs.whole_start.Tie as tie
+
+returns : tie.Need-returns
+returns c = rw (c .if1 .taken)
+
+refused-at-requires : tie.Need-refused-at-requires
+refused-at-requires c κs = search needs
+
+returns-2 : tie.Need-returns-2
+returns-2 c = rw (c .before .if1 .left) (c .refused-at .ensures)
+
+pub whole-start-spec : {M : Type 1} → statement M
+whole-start-spec = tie.close (tie.spec returns refused-at-requires returns-2)
