@@ -25,13 +25,17 @@ refusedAt c = cond (eqb comma c) phase.Comma phase.Bad
 abbrev pub firstDigit : ℕ → Phase
 firstDigit c = cond (eqb c zeroDigit) phase.Zero phase.Whole
 
+-- the character c is the point of a text with d decimals, which has one "where decimals d > 0"
+abbrev pub isPoint : ℕ → ℕ → Bool
+isPoint d c = eqb c point && leb 1 d
+
 -- the phase after the character c behind the whole part, in a field of d decimals
 abbrev pub wholeEnd : ℕ → ℕ → Phase
-wholeEnd d c = cond (eqb c point && leb 1 d) (phase.Fraction d) (refusedAt c)
+wholeEnd d c = cond (isPoint d c) (phase.Fraction d) (refusedAt c)
 
 -- the phase after the character c, no digit, at which the whole part should begin, in a field of d decimals
 abbrev pub wholeStart : ℕ → ℕ → Phase
-wholeStart d c = cond (eqb c point && leb 1 d) (phase.Dropped d) (refusedAt c)
+wholeStart d c = cond (isPoint d c) (phase.Dropped d) (refusedAt c)
 
 -- the phase after a digit behind the point, if `left` digits were to come
 abbrev pub nextPlace : ℕ → Phase

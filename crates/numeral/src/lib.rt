@@ -9,7 +9,7 @@ ghost use Rattle.octets.specs.Store.{put};
 ghost use Rattle.octets.specs.Text.{isDigit, lastDigits, decimal};
 ghost use Rattle.numeral.specs.Format.{maxWidth, maxDecimals, maxDigits, formatGood};
 ghost use Rattle.numeral.specs.Reading.{readNumber, signed};
-ghost use Rattle.numeral.specs.Scan.{initial, refusedAt, firstDigit, wholeEnd, wholeStart, nextPlace, nextZero, nextValue, inPhase, withDigit};
+ghost use Rattle.numeral.specs.Scan.{initial, refusedAt, firstDigit, isPoint, wholeEnd, wholeStart, nextPlace, nextZero, nextValue, inPhase, withDigit};
 ghost use Rattle.numeral.specs.Scan.{afterSign, afterBlanks, afterWhole, afterPoint, afterDropped, step, scan, settled, meaning};
 ghost use Rattle.numeral.specs.Writing.{fractionText, signText, afterWrite, writeNumber};
 
@@ -84,11 +84,18 @@ fn first_digit(c: u8) -> Phase
     Phase::Whole
 }
 
+// Whether the character c is the point of a text with this many decimals: one without decimals has none.
+fn is_point(decimals: u32, c: u8) -> bool
+    ensures { λ r. ⌜ r ≡ isPoint decimals c ⌝ }
+{
+    (c == b'.') & (1 <= decimals)
+}
+
 // The phase after the character c behind the whole part.
 fn whole_end(decimals: u32, c: u8) -> Phase
     ensures { λ r. ⌜ r ≡ wholeEnd decimals c ⌝ }
 {
-    if (c == b'.') & (1 <= decimals) {
+    if is_point(decimals, c) {
         return Phase::Fraction(decimals as u64);
     }
     refused_at(c)
@@ -98,7 +105,7 @@ fn whole_end(decimals: u32, c: u8) -> Phase
 fn whole_start(decimals: u32, c: u8) -> Phase
     ensures { λ r. ⌜ r ≡ wholeStart decimals c ⌝ }
 {
-    if (c == b'.') & (1 <= decimals) {
+    if is_point(decimals, c) {
         return Phase::Dropped(decimals as u64);
     }
     refused_at(c)
