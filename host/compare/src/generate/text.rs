@@ -71,7 +71,7 @@ fn written(v: i64, width: usize, decimals: u32) -> Vec<u8> {
     made
 }
 
-/// The text without its zero before the point, if that is its whole part: as long as before, if it was no longer than the width.
+/// The text without its zero before the point, if that is its whole part. A blank on the left makes up for it if the text is then shorter than the width.
 fn without_zero(mut text: Vec<u8>, width: usize) -> Vec<u8> {
     let Some(point) = text.iter().position(|&c| c == b'.') else {
         return text;
@@ -86,7 +86,7 @@ fn without_zero(mut text: Vec<u8>, width: usize) -> Vec<u8> {
     text
 }
 
-/// A value whose whole part is zero, with so many decimals.
+/// A value whose whole part is zero, in units of 10 to the -decimals.
 fn below_one(r: &mut Random, decimals: u32) -> i64 {
     value(r) % 10i64.pow(decimals.min(18))
 }
