@@ -67,6 +67,7 @@ wholeMissing t = eqb (length (wholePart t)) 0
 unfoldable pub zeroDropped : ℕ → List ℕ → Bool
 zeroDropped d t = wholeMissing t && leb 1 d && not (every (eqb zeroDigit) (digits t))
 
+-- a whole part "without needless leading zero" or, by K4, a missing one
 abbrev pub wholeAccepted : ℕ → List ℕ → Bool
 wholeAccepted d t = wholeGood (wholePart t) || zeroDropped d t
 

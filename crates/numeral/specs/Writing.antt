@@ -27,7 +27,7 @@ signText (negsuc n) = minus ∷ []
 unfoldable pub numberText : ℕ → ℤ → List ℕ
 numberText d v = signText v ++ (decimal (natAbs v / 10 ^ d) ++ fractionText d (natAbs v))
 
--- K4: the same without the digits before the point. It is read if they are a zero and the value is not, and it is never written
+-- K4: the characters of a value without the digits before the point. They are read if those digits are a zero and the value is not, and never written
 unfoldable pub shortText : ℕ → ℤ → List ℕ
 shortText d v = signText v ++ fractionText d (natAbs v)
 
@@ -44,7 +44,7 @@ pub record Fits (width d : ℕ) (v : ℤ) : Type 0 where
   -- not 19, "value's text longer than the field"
   pub room : length (numberText d v) ≤ width
 
--- K4: the values that `shortText` stands for
+-- K4: the values that are read from their `shortText`
 pub record Short (d : ℕ) (v : ℤ) : Type 0 where
   -- "such a whole part is zero"
   pub whole : natAbs v / 10 ^ d ≡ 0
