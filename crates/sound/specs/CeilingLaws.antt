@@ -180,9 +180,9 @@ module _ (b : List ℕ) (k size : ℕ) where
         let here = entry-ceiling h x (y ∷ ys) (d .0) (d .1) ascending in
         let rest = entries-ceilings h (y ∷ ys) (d .1) (ascending-right bytesOrder (pairs h (readTree S h (x .1))) (leafPairs h (y ∷ ys)) ascending) in (
           (λ g.
-          let t = both (upperEntryGood b k size h x (y ∷ ys)) _ g in
-          let v = here .0 (t .0) in
-          let w = rest .0 (t .1) in
-          ((v .0, w .0), (v .1, w .1))),
+              let t = both (upperEntryGood b k size h x (y ∷ ys)) _ g in
+              let v = here .0 (t .0) in
+              let w = rest .0 (t .1) in
+              ((v .0, w .0), (v .1, w .1))),
           (λ c. join _ _ (here .1 (c .0 .0, c .1 .0)) (rest .1 (c .0 .1, c .1 .1))),
         )

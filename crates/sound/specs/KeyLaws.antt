@@ -1,7 +1,7 @@
 -- Laws: on an index of good shape, the audit's second pass accepts exactly the keys above pages that are ceilings. Cited by the law of what the audit accepts,
 -- and by the laws of the match, which goes along the leaves. Assumes nothing.
 use Prim.Native.Nat.{ℕ, zero, suc, _-_, _%_, _≤_, _<_}
-use mathlib.Core.Path.{_≡_, refl, sym, ap, _∙_}
+use mathlib.Core.Path.{_≡_, refl, ap, _∙_}
 use mathlib.Core.List.{List, [], _∷_}
 use mathlib.Core.Bool.{true, false}
 use mathlib.Core.Logic.{_↔_}
@@ -115,20 +115,22 @@ module _ (b : List ℕ) (k size : ℕ) (most : size ≤ maxBytes) where
     levels-ceilings zero es first some e chained full ascends = ((λ g. all-unit es), (λ c. refl))
     levels-ceilings (suc h) es first some e chained full ascends =
         let d = full (omega arith) in
-        let next = next-head b k size most es first some e (all-map (Full b k size cap (suc h)) (λ e. NonEmpty (S (e .1))) (full-some b k size cap (suc h)) es d) in
+        let filled = all-map (Full b k size cap (suc h)) (λ e. NonEmpty (S (e .1))) (full-some b k size cap (suc h)) es d in
+        let next = next-head b k size most es first some e filled in
         let here = pages-ceilings h es d ascends in
         let rest = levels-ceilings h (below S es) (firstChild b k size first) (next .1) (next .0) (λ i l. chained (suc i) (omega arith))
         (λ l. full-below h es d) (ascends-below h es ascends) in
         let along : chain b size maxPages first ≡ numbers es = ap (chain b size maxPages) e ∙ chained 0 (omega arith) in (
           (λ g.
-          let t = both (upperPagesGood b k size h (chain b size maxPages first)) _ g in
-          all-map2 (λ e. PageCeilings b k size h (S (e .1))) (Lower h) (λ e. Ceilings bytesOrder (suc h) (under (suc h) e)) (ceilings-join h) es
-          (here .0 (rw along at (t .0)))
-          (all-of-concat (λ f. Ceilings bytesOrder h (under h f)) (λ e. S (e .1)) es (rest .0 (t .1)))),
+              let t = both (upperPagesGood b k size h (chain b size maxPages first)) _ g in
+              all-map2 (λ e. PageCeilings b k size h (S (e .1))) (Lower h) (λ e. Ceilings bytesOrder (suc h) (under (suc h) e)) (ceilings-join h) es
+              (here .0 (rw along at (t .0)))
+              (all-of-concat (λ f. Ceilings bytesOrder h (under h f)) (λ e. S (e .1)) es (rest .0 (t .1)))),
           (λ c.
-          let pages = all-map (λ e. Ceilings bytesOrder (suc h) (under (suc h) e)) (λ e. PageCeilings b k size h (S (e .1))) (λ e u. (u .0, u .1)) es c in
-          let lower = all-map (λ e. Ceilings bytesOrder (suc h) (under (suc h) e)) (Lower h) (ceilings-lower h) es c in
-          join (upperPagesGood b k size h (chain b size maxPages first)) _ (rw along (here .1 pages)) (rest .1 (all-to-concat (λ f. Ceilings bytesOrder h (under h f)) (λ e. S (e .1)) es lower))),
+              let pages = all-map (λ e. Ceilings bytesOrder (suc h) (under (suc h) e)) (λ e. PageCeilings b k size h (S (e .1))) (λ e u. (u .0, u .1)) es c in
+              let lower = all-map (λ e. Ceilings bytesOrder (suc h) (under (suc h) e)) (Lower h) (ceilings-lower h) es c in
+              join (upperPagesGood b k size h (chain b size maxPages first)) _ (rw along (here .1 pages))
+              (rest .1 (all-to-concat (λ f. Ceilings bytesOrder h (under h f)) (λ e. S (e .1)) es lower))),
         )
 
   -- a level has at most as many pages as the tree
