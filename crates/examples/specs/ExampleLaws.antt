@@ -20,6 +20,7 @@ use Rattle.sound.specs.Rule as audit
 use Rattle.sound.specs.Accepted.{accepted}
 use Rattle.layout.specs.Layout as layout
 use Rattle.layout.specs.Entries as entries
+use Rattle.layout.specs.Supply as supply
 use Rattle.insert.specs.Insertion as insertion
 use Rattle.insert.specs.Fresh as fresh
 use Rattle.insert.specs.Room as room
@@ -41,7 +42,8 @@ unfolding examples answer ascii reading.readNumber format.formatGood chars.every
     audit.levelsUnder audit.heightOf audit.down audit.upperPagesGood audit.upperLevelsGood audit.shapeGood audit.keysAboveGood audit.pagesGood
     audit.unmarked shown tree100.key100 tree100.grown store.put layout.encode layout.area layout.withEntries layout.newPage layout.linkBeyond
     layout.splitPage entries.raised insertion.takeIn insertion.insertUnder insertion.insertedBuffer fresh.freshHeader fresh.freshBuffer fresh.freshRule
-    fresh.printable fresh.expressionGood room.pathFrom room.noRoom calls.insertRule
+    fresh.printable fresh.expressionGood room.pathFrom room.noRoom calls.insertRule supply.supplyOf supply.takePage supply.supplyAfter supply.withSupply
+    calls.hasControl
 examples-hold = refl
 
 -- the audit's tests of the tree in 000

@@ -59,6 +59,10 @@ pub mod InsertLevels
 pub mod LinkLaws
 -- Laws: all levels are linked again after an insertion
 pub mod InsertLinks
+-- Steps: the supply of new pages
+pub mod Supply
+-- Laws: the pages that are taken from the supply
+pub mod SupplyLaws
 -- Steps: an index as a tree with a file size, the rule for refusal 30, the calls
 pub mod Index
 -- Steps: what every call keeps of an index
