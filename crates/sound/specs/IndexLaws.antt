@@ -16,7 +16,7 @@ use Rattle.tree.specs.ListLaws.{all-map2, occ-here}
 use Rattle.tree.specs.Tree.{pages, level}
 use Rattle.tree.specs.Clauses.{least, Sized}
 use Rattle.tree.specs.Ordered.{ordered-ascending}
-use Rattle.tree.specs.ClauseLaws.{greatest-ordered, exact-greatest}
+use Rattle.tree.specs.ClauseLaws.{ceilings-ordered, ordered-ceilings}
 use Rattle.tree.specs.Index.{Index, Setting}
 use Rattle.tree.specs.SoundIndex.{PagesOnce, SoundIndex, LinkedIndex}
 use Rattle.page.specs.Header.{maxLevels, pageSize, rootOffset, fileSize, keyLength, isPage, headerGood}
@@ -72,10 +72,8 @@ module _ (b : List ℕ) where
       let h = s .height in
       let few = s .levels in
       let z = sound-sized s in
-      let o = greatest-ordered bytesOrder (capacity (keyLength b)) h (indexTree b h) z (s .ascending) (s .greatest) in
       record {
-        ordered = o .0;
-        exact = o .1;
+        ordered = ceilings-ordered bytesOrder (capacity (keyLength b)) h (indexTree b h) (z .2) (s .ascending) (s .ceilings);
         sized = z;
         pagesOnce = sound-once s;
         records = s .records;
@@ -149,7 +147,7 @@ module _ (b : List ℕ) (h : ℕ) where
           counts = all-map2 Enough NotOver (CountGood b (keyLength b) h) (λ p u c. (u, c)) ps low counts;
           ascending = ordered-ascending bytesOrder h (indexTree b h) (i .ordered);
           records = i .records;
-          greatest = exact-greatest (capacity (keyLength b)) h (indexTree b h) (i .sized) (i .exact);
+          ceilings = ordered-ceilings bytesOrder h (indexTree b h) (i .ordered);
           links = l;
         },
         refl,

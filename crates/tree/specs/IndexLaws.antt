@@ -19,7 +19,6 @@ use Rattle.tree.specs.Ordered.{Rooted, lookup-find, ordered-ascending}
 use Rattle.tree.specs.RouteLaws.{Leading, distinct-leading}
 use Rattle.tree.specs.InsertPairs.{insert-pairs}
 use Rattle.tree.specs.InsertOrdered.{insert-ordered}
-use Rattle.tree.specs.Exact.{insert-exact}
 use Rattle.tree.specs.ClauseLaws.{sized-rooted}
 use Rattle.tree.specs.InsertSized.{insert-sized}
 use Rattle.tree.specs.Supply.{takenPage, sizeAfter}
@@ -108,7 +107,6 @@ room-both false b e = (refl, e)
 pub fresh-sound : {K : Type 0} (s : Setting K) → 1 < s .capacity → 2 * pageSize ≤ s .maxSize → 1 ≤ s .maxLevels → SoundIndex s fresh
 fresh-sound s two room levels = record {
   ordered = tt;
-  exact = tt;
   sized = (omega arith, omega arith, tt);
   pagesOnce = record {
     positive = omega arith;
@@ -142,7 +140,6 @@ module _ {K : Type 0} (s : Setting K) (two : 1 < s .capacity) where
       room-both (ltb (s .maxSize) limit) (ltb (s .maxLevels) levels) room in
       record {
         ordered = insert-ordered (keptBy s) (s .capacity) (omega arith) name e leading h (i .tree) rooted (d .ordered) f;
-        exact = insert-exact (s .order) (s .capacity) (omega arith) name e h (i .tree) rooted (d .ordered) (d .exact);
         sized = insert-sized (keptBy s) (s .capacity) two name e h (i .tree) (d .sized);
         pagesOnce = grown-pages i (d .pagesOnce) g (λ z. insert-pages (keptBy s) (s .capacity) name e z h (i .tree));
         records = rw (insert-pairs (keptBy s) (s .capacity) name e leading h (i .tree) rooted (d .ordered))

@@ -6,7 +6,6 @@ use Rattle.tree.specs.Lists.{occ}
 use Rattle.tree.specs.Tree.{pages}
 use Rattle.tree.specs.Clauses.{Sized, Links, AllLinked}
 use Rattle.tree.specs.Ordered.{Ordered}
-use Rattle.tree.specs.Exact.{Exact}
 use Rattle.tree.specs.Constants.{pageSize, noPage}
 use Rattle.tree.specs.Index.{Index, held, Setting}
 
@@ -19,10 +18,9 @@ pub record PagesOnce {K : Type 0} (i : Index K) : Type 0 where
   pub unaligned : (z : ℕ) → (z % pageSize ≡ 0 → ⊥) → occ z (pages (i .height) (i .tree)) ≡ 0
   pub beyond : (z : ℕ) → i .size ≤ z → occ z (pages (i .height) (i .tree)) ≡ 0
 
--- what every call keeps; with keys above as ceilings (change request K1) only `exact` would go
+-- what every call keeps
 pub record SoundIndex {K : Type 0} (s : Setting K) (i : Index K) : Type 0 where
   pub ordered : Ordered (s .order) (i .height) (i .tree)
-  pub exact : Exact (i .height) (i .tree)
   pub sized : Sized (s .capacity) (i .height) (i .tree)
   pub pagesOnce : PagesOnce i
   pub records : All (λ e. 0 < e .1) (held i)
