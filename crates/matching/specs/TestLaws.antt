@@ -28,7 +28,7 @@ use Rattle.matching.specs.Rule.{columnOf, columnBytes, entryGood, entrie
 use Rattle.matching.specs.CountLaws.{each-once, as-many}
 
 -- a number in the range passes the test of numbers
-range-number : (i n : ℕ) → 1 ≤ i → i ≤ n → numberGood i n ≡ true
+pub range-number : (i n : ℕ) → 1 ≤ i → i ≤ n → numberGood i n ≡ true
 unfolding numberGood
 range-number i n l u = join _ _ (le-leb 1 i l) (le-leb i n u)
 

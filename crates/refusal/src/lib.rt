@@ -1,5 +1,5 @@
-// The numbers that calls answer, each named once: document 01's refusals, and the C interface's answers that are no refusals. Code gives the names; the rules
-// in `specs/` give the numbers, to be held beside the paper.
+// The numbers that calls answer, each named once: the refusals of documents 01 and 02, and the C interface's answers that are no refusals. Code gives the
+// names; the rules in `specs/` give the numbers, to be held beside the paper.
 
 // ---- The table.
 
@@ -98,6 +98,25 @@ pub const NO_ROOM: u32 = 30;
 
 // The index and the table do not match.
 pub const INDEX_AND_TABLE_DIFFER: u32 = 31;
+
+// ---- The dilution of a sample.
+
+// The barcode is absent from the index, or its record is deleted.
+pub const BARCODE_ABSENT: u32 = 35;
+
+// The concentration is empty, zero or negative.
+pub const NO_CONCENTRATION: u32 = 36;
+
+// The target or the final volume is out of its range.
+pub const TARGET_OR_VOLUME: u32 = 37;
+
+// The target is above the concentration.
+pub const TARGET_ABOVE_CONCENTRATION: u32 = 38;
+
+// ---- A program's arguments.
+
+// Other arguments or input, or a file that can't be read or is too long.
+pub const ARGUMENTS_OR_FILES: u32 = 40;
 
 // ---- Answers that are no refusals. 0 is an accepted call's.
 
