@@ -47,3 +47,14 @@ unless-first [] d some = absurd (some refl)
 unless-first (x ∷ xs) d some = either (x .0)
     (λ good. rw good (unless-first xs d (λ e. some (first-pass (x .0) (x .1) xs good ∙ e))))
     (λ bad. rw bad)
+
+-- what checks with numbers refuse has a number, if what follows them has
+pub unless-named : (xs : List (Bool × ℕ)) (d : Dilution) (n : ℕ) → All Named xs → (d ≡ Refused n → n ≡ 0 → ⊥) → unless xs d ≡ Refused n → n ≡ 0 → ⊥
+unfolding unless
+unless-named [] d n p h e z = h e z
+unless-named (x ∷ xs) d n p h e z = either (x .0)
+    (λ good. unless-named xs d n (p .1) h (sym (unless-pass (x .0) (x .1) xs d good) ∙ e) z)
+    (λ bad.
+    let q : Refused (x .1) ≡ Refused n = sym (unless-fail (x .0) (x .1) xs d bad) ∙ e in
+    let same : x .1 ≡ n = cc in
+    p .0 bad (same ∙ z))

@@ -8,8 +8,8 @@ use native.Mathlib.Omega.{arith}
 use lib.ListN.{length}
 use lib.Dec.{eqb, leb, ltb}
 use borrow.Author.Tests.{eqb-true, eqb-false, eq-eqb, ne-eqb, lt-ltb}
-use Rattle.basis.specs.Tests.{either, both, join}
-use Rattle.basis.specs.Lists.{All}
+use Rattle.basis.specs.Tests.{impossible}
+use Rattle.basis.specs.Lists.{All, all-append}
 use Rattle.table.specs.Table.{fieldCount, recordCount, fieldDecimals, firstRefusal, tableRefusal}
 use Rattle.table.specs.TableLaws.{first-pass, first-fail}
 use Rattle.field.specs.Field.{numberGood, PlaceGood}
@@ -18,8 +18,9 @@ use Rattle.cell.specs.Cell.{fieldBytes}
 use Rattle.page.specs.Header.{keyLength}
 use Rattle.matching.specs.Computed.{matchAnswer}
 use Rattle.dilution.specs.Dilution.{isConcentration, fieldChecks, sheetChecks, recordWith, barcodeChecks, unless, recordDilution, diluteRule, Dilutable}
-use Rattle.dilution.specs.CheckLaws.{unless-pass, unless-fail, unless-append, unless-none, unless-first, Named, first-passes}
-use Rattle.dilution.specs.BarcodeLaws.{good-table, own-length, record-named, record-own}
+use Rattle.dilution.specs.Dilution.{volumesOf, concentrationText, textRefusal, concentrationOf, textChecks, volumeChecks, dilutionOf}
+use Rattle.dilution.specs.CheckLaws.{unless-pass, unless-fail, unless-append, unless-none, unless-first, unless-named, Named, first-passes}
+use Rattle.dilution.specs.BarcodeLaws.{good-table, known, own-length, record-named, record-own}
 use Rattle.dilution.specs.declared.Dilution.{Dilution}
 use Rattle.dilution.specs.declared.Dilution.the-variants.{Refused}
 
@@ -60,7 +61,16 @@ module _ (t b : List ℕ) (barcodeField field : ℕ) where
       concentration = passes .1 .1 .0;
     }
 
-    -- each record of the table may then be diluted
+    -- each record of the table then has a barcode, and may be diluted
+    pub sheet-barcode : (i : ℕ) → 1 ≤ i → i ≤ recordCount t → PlaceGood t i barcodeField
+    sheet-barcode i from to = record {
+      table = good-table t b barcodeField (sheet-good .matched);
+      record-from = from;
+      record-to = to;
+      field-from = known t b barcodeField (sheet-good .matched) .from;
+      field-to = known t b barcodeField (sheet-good .matched) .to;
+    }
+
     pub sheet-dilutable : (i : ℕ) → 1 ≤ i → i ≤ recordCount t → Dilutable t i field
     sheet-dilutable i from to = record {
       place = record {
@@ -118,3 +128,19 @@ module _ (t b : List ℕ) (barcodeField field : ℕ) where
       let own = record-own t b barcodeField m i from to in
       let len = own-length t b barcodeField m i from to in
       sym (dilute-record (fieldBytes t i barcodeField) target final none len i (sym own) (λ e. omega (arith, from, e)))
+
+  -- Theorem: a refusal is a number above 0
+  pub dilute-numbered : (barcode : List ℕ) (target final n : ℕ) → diluteRule t b barcodeField field barcode target final ≡ Refused n → n ≡ 0 → ⊥
+  unfolding diluteRule recordDilution dilutionOf barcodeChecks textChecks volumeChecks volumesOf
+  dilute-numbered barcode target final n e =
+      let i = recordWith b barcode in
+      let text = textRefusal (concentrationText t i field) in
+      let c = concentrationOf (concentrationText t i field) in
+      unless-named (checks ++ barcodeChecks b barcode) (recordDilution t i field target final) n
+      (all-append Named checks (barcodeChecks b barcode) sheet-named ((λ bad q. omega (arith, q)), ((λ bad q. omega (arith, q)), tt)))
+      (unless-named (textChecks t i field) (dilutionOf c target final) n
+      ((λ bad q. omega (arith, q)), ((λ bad q. omega (arith, q)), ((λ bad q. eqb-false text 0 bad q), tt)))
+      (unless-named (volumeChecks c target final) (volumesOf c target final) n
+      ((λ bad q. omega (arith, q)), ((λ bad q. omega (arith, q)), ((λ bad q. omega (arith, q)), tt)))
+      (λ q z. impossible (cc))))
+      e
