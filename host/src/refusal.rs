@@ -66,6 +66,11 @@ refusals! {
     29 KeyPresent "key present"
     30 NoRoom "no room"
     31 IndexAndTableDiffer "index and table differ"
+    35 BarcodeAbsent "barcode absent or deleted"
+    36 NoConcentration "no concentration"
+    37 TargetOrVolume "target or volume out of range"
+    38 TargetAboveConcentration "target above concentration"
+    40 ArgumentsOrFiles "arguments or files"
 }
 
 impl Refusal {
