@@ -71,6 +71,16 @@ module _ (c amount x : ℕ) (some : 0 < c) (r : Rounded c amount x) where
   rounded-tenth : NearestTenth c amount x
   rounded-tenth = record { near = omega (arith, r .below, r .above); nearest = rounded-nearest; upper = rounded-upper }
 
+-- Theorem: the quotient, and one more if the remainder is half the concentration or more, is the sample
+module _ (c target final whole rest : ℕ) (some : 0 < c) (parts : whole * c + rest ≡ target * final) (low : rest < c) where
+  pub sample-up : c ≤ 2 * rest → whole + 1 ≡ sampleOf c target final
+  sample-up half =
+      let more : (whole + 1) * c ≡ whole * c + 1 * c = add-mul whole 1 c in
+      one-rounded c (target * final) _ some (sample-rounded c target final some) (whole + 1) (record { below = omega arith; above = omega arith })
+
+  pub sample-down : 2 * rest < c → whole ≡ sampleOf c target final
+  sample-down less = one-rounded c (target * final) _ some (sample-rounded c target final some) whole (record { below = omega arith; above = omega arith })
+
 -- Theorem: the sample is the nearest tenth, halves up
 pub sample-nearest : (c target final : ℕ) → 0 < c → NearestTenth c (target * final) (sampleOf c target final)
 sample-nearest c target final some = rounded-tenth c (target * final) _ some (sample-rounded c target final some)

@@ -8,7 +8,7 @@ use lookup::Answer;
 use numeral::Number;
 ghost use mathlib.Core.Path.{_≡_};
 ghost use mathlib.Core.Bool.{true};
-ghost use Prim.Native.Nat.{_≤_, _<_, _^_};
+ghost use Prim.Native.Nat.{_≤_, _<_};
 ghost use Rattle.table.specs.Table.{firstRefusal, tableRefusal};
 ghost use Rattle.field.specs.Field.{placeAt, PlaceInside};
 ghost use Rattle.dilution.specs.Dilution.{maxTarget, maxFinal, sampleOf, volumesOf, inRange, textRefusal, concentrationOf, amountOf};
@@ -61,18 +61,24 @@ fn in_range(target: u64, final_volume: u64) -> bool
     (1 <= target) & (target <= MAX_TARGET) & (1 <= final_volume) & (final_volume <= MAX_FINAL)
 }
 
-// The sample's volume: target × final ÷ concentration to the nearest tenth, halves up. No sum overflows, whatever the concentration: 2c is below 2⁶⁴, and
-// 2 × target × final is at most 2 × 10¹³.
+// The sample's volume: target × final ÷ concentration to the nearest tenth, halves up. Nothing overflows, whatever the concentration: target × final is at most
+// 10¹³.
 fn sample_of(concentration: u64, target: u64, final_volume: u64) -> u64
-    requires { ⌜ (0 < concentration) × (concentration < 2 ^ 63) × (target ≤ maxTarget) × («final_volume» ≤ maxFinal) ⌝ }
+    requires { ⌜ (0 < concentration) × (target ≤ maxTarget) × («final_volume» ≤ maxFinal) ⌝ }
     ensures { λ r. ⌜ r ≡ sampleOf concentration target «final_volume» ⌝ }
 {
-    (2 * target * final_volume + concentration) / (2 * concentration)
+    let amount = target * final_volume;
+    let whole = amount / concentration;
+    let rest = amount % concentration;
+    if concentration <= 2 * rest {
+        return whole + 1;
+    }
+    whole
 }
 
 // The volumes of sample and diluent.
 fn volumes_of(concentration: u64, target: u64, final_volume: u64) -> Dilution
-    requires { ⌜ (0 < concentration) × (concentration < 2 ^ 63) × (target ≤ concentration) × (target ≤ maxTarget) × («final_volume» ≤ maxFinal) ⌝ }
+    requires { ⌜ (0 < concentration) × (target ≤ concentration) × (target ≤ maxTarget) × («final_volume» ≤ maxFinal) ⌝ }
     ensures { λ r. ⌜ r ≡ volumesOf concentration target «final_volume» ⌝ }
 {
     let volume = sample_of(concentration, target, final_volume);
@@ -83,7 +89,6 @@ fn volumes_of(concentration: u64, target: u64, final_volume: u64) -> Dilution
 
 // The dilution of a sample of this concentration, 0 for none: 36, 37, 38, or the volumes.
 fn dilution_of(concentration: u64, target: u64, final_volume: u64) -> Dilution
-    requires { ⌜ concentration < 2 ^ 63 ⌝ }
     ensures { λ r. ⌜ r ≡ dilutionOf concentration target «final_volume» ⌝ }
 {
     let ranged = in_range(target, final_volume);
@@ -112,14 +117,14 @@ fn text_refusal(text: Number) -> u32
 
 // A value as a concentration: a negative value is none, 0.
 fn amount_of(value: i64) -> u64
-    ensures { λ r. ⌜ (r ≡ amountOf value) × (r < 2 ^ 63) ⌝ }
+    ensures { λ r. ⌜ r ≡ amountOf value ⌝ }
 {
     if value < 0 { 0 } else { value as u64 }
 }
 
 // The concentration that a text says, 0 for none.
 fn concentration_of(text: Number) -> u64
-    ensures { λ r. ⌜ (r ≡ concentrationOf text) × (r < 2 ^ 63) ⌝ }
+    ensures { λ r. ⌜ r ≡ concentrationOf text ⌝ }
 {
     match text {
         Number::Value(value) => amount_of(value),

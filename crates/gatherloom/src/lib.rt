@@ -393,7 +393,10 @@ pub extern "C" fn gl_dilute(
         final_volume,
     );
     match answer {
-        Dilution::Volumes { sample: drawn, diluent: added } => {
+        Dilution::Volumes {
+            sample: drawn,
+            diluent: added,
+        } => {
             *sample = drawn;
             *diluent = added;
             0

@@ -23,7 +23,17 @@ fn run_all<'a>(table: &'a [u8], index: &'a [u8]) {
     let mut i = 0;
     while i < INPUTS {
         i += 1;
-        let path = [b'k', b'1', b'1', b'_', b'0' + i / 10, b'0' + i % 10, b'.', b'i', b'n'];
+        let path = [
+            b'k',
+            b'1',
+            b'1',
+            b'_',
+            b'0' + i / 10,
+            b'0' + i % 10,
+            b'.',
+            b'i',
+            b'n',
+        ];
         title(&path);
         run(table, index, &path);
     }

@@ -1,11 +1,10 @@
--- `dilution::amount_of` meets its contract: a value that is not negative is its own magnitude, below 2 ^ 63. Assumes nothing.
+-- `dilution::amount_of` meets its contract: a value that is not negative is its own magnitude. Assumes nothing.
 use mathlib.Core.Path.{_≡_, refl, sym, _∙_}
 use mathlib.Core.Bool.{true, false}
-use Prim.Native.Nat.{_<_, _^_}
 use native.Mathlib.Omega.{arith}
 use lib.IntN.{ℤ, pos, negsuc, natAbs}
 use lib.Signed.{ltZ, nonNeg}
-use lib.Dec.{T, lit<}
+use lib.Dec.{T}
 use mir.Syntax.{w64}
 use mir.Val.{SFits, Fits, toZ, ofZ}
 use mir.ValLaws.{toZ-ofZ}
@@ -19,10 +18,6 @@ not-negative : (v : ℤ) → ltZ v (pos 0) ≡ false → SFits w64 v → T (nonN
 not-negative (pos n) e f = (tt, record { fits = omega (arith, f .sfits) })
 not-negative (negsuc n) e f = contra refl e
 
-small : (v : ℤ) → ltZ v (pos 0) ≡ false → SFits w64 v → natAbs v < 2 ^ 63
-small (pos n) e f = omega (arith, f .sfits)
-small (negsuc n) e f = contra refl e
-
 -- the value as it is read back from its bits
 read-back : (c : tie.Else1) → toZ w64 (ofZ w64 (c .before .args .value)) ≡ c .before .args .value
 read-back c = toZ-ofZ w64 (c .before .args .value) (c .before .fits .value)
@@ -31,10 +26,10 @@ cast-result : tie.Need-cast-result
 cast-result c = let same = read-back c in rw same (not-negative _ (rw same at (c .if1 .left)) (c .before .fits .value))
 
 returns : tie.Need-returns
-returns c = (sym (amount-none _ (rw (toZ-ofZ w64 (c .before .args .value) (c .before .fits .value)) at (c .if1 .taken))), lit< tt)
+returns c = sym (amount-none _ (rw (toZ-ofZ w64 (c .before .args .value) (c .before .fits .value)) at (c .if1 .taken)))
 
 returns-2 : tie.Need-returns-2
-returns-2 c = let same = read-back c in rw same (sym (amount-some _ (rw same at (c .if1 .left))), small _ (rw same at (c .if1 .left)) (c .before .fits .value))
+returns-2 c = let same = read-back c in rw same (sym (amount-some _ (rw same at (c .if1 .left))))
 
 pub amount-of-spec : {M : Type 1} → statement M
 amount-of-spec = tie.close (tie.spec cast-result returns returns-2)

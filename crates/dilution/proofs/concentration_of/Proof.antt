@@ -23,7 +23,7 @@ returns : tie.Need-returns
 returns c =
     let read = c .before .before .text .given in
     let same = toZ-ofZ w64 (read .0 .0) (sfits-of (c .before .known-told .given .0 .1)) in
-    (value-read _ _ _ (read .1) (rw same at (c .amount-of .ensures .0)), c .amount-of .ensures .1)
+    value-read _ _ _ (read .1) (rw same at (c .amount-of .ensures))
 
 returns-2 : tie.Need-returns-2
 unfolding concentrationOf

@@ -27,7 +27,7 @@ returns-3 c = sym (refused-38 _ _ _ (c .before .before .if1 .left) (ranged (c .b
 volumes-of-requires : tie.Need-volumes-of-requires
 volumes-of-requires c κs =
     let bounds = range-bounds _ _ (ranged (c .before)) in
-    (omega (arith, c .before .before .if1 .left), c .before .before .before .before .pre, omega arith, bounds .0, bounds .1)
+    (omega (arith, c .before .before .if1 .left), omega arith, bounds .0, bounds .1)
 
 returns-4 : tie.Need-returns-4
 returns-4 c =

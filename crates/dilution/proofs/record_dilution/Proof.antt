@@ -72,7 +72,7 @@ returns-4 c =
     let args = read .before .before .before .before .before .before .before .args in
     let none = sym (refused .text-refusal .ensures ∙ ap textRefusal (text read)) ∙ amount .before .if3 .left in
     c .dilution-of .ensures
-    ∙ ap (λ x. dilutionOf x (args .target) (args .final-volume)) (amount .concentration-of .ensures .0 ∙ ap concentrationOf (text read))
+    ∙ ap (λ x. dilutionOf x (args .target) (args .final-volume)) (amount .concentration-of .ensures ∙ ap concentrationOf (text read))
     ∙ sym (text-read _ _ _ _ _ (marked (read .before .before .before)) (kept (read .before)) none)
 
 pub record-dilution-spec : {M : Type 1} → statement M

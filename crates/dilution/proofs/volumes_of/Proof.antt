@@ -11,13 +11,13 @@ use Rattle.dilution.proofs.volumes_of.Tie as tie
 at-most : (c : tie.After-sample-of) → c .sample-of .result ≤ c .before .args .final-volume
 at-most c =
     let start = c .before in
-    rw (c .sample-of .ensures) (sample-most (start .args .concentration) (start .args .target) (start .args .final-volume) (start .pre .0) (start .pre .2))
+    rw (c .sample-of .ensures) (sample-most (start .args .concentration) (start .args .target) (start .args .final-volume) (start .pre .0) (start .pre .1))
 
 sample-of-requires : tie.Need-sample-of-requires
 sample-of-requires c κs = search needs
 
 cast-sample : tie.Need-cast-sample
-cast-sample c = record { fits = omega (arith, at-most c, c .before .pre .4) }
+cast-sample c = record { fits = omega (arith, at-most c, c .before .pre .3) }
 
 sub-diluent : tie.Need-sub-diluent
 sub-diluent c = at-most c
