@@ -12,3 +12,5 @@ pub mod StepLaws
 pub mod BarcodeLaws
 -- Laws: the call's answer by its checks; a record's answer is what the call gives for the record's barcode
 pub mod DilutionLaws
+-- Laws: what an answer with volumes says
+pub mod AnswerLaws
