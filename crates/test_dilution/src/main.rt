@@ -1,5 +1,5 @@
-// Runs the dilution sheet on the samples of the program `dilute`: each of 21 inputs on a table and its index, and one input on an index of other keys. For each
-// run it prints a line with the file's name, and then the sheet. README.md beside src/ says where the files and the expected lines came from.
+// Runs the dilution sheet on the samples of the program `dilute`: each of 21 inputs on a table and its index, one input on an index that is not sound, and on the
+// incident's table. For each run it prints a line with a file's name, and then the sheet. README.md beside src/ says where the files and lines came from.
 use lines::print;
 
 const INPUTS: u8 = 21;
@@ -39,7 +39,21 @@ fn run_all<'a>(table: &'a [u8], index: &'a [u8]) {
     }
 }
 
-fn main() {
+// The incident's table, and the same table written with points, with one index on their barcodes.
+fn incident() {
+    let mut comma = io::large_buffer();
+    let mut point = io::large_buffer();
+    let mut index = io::large_buffer();
+    let a = files::load(b"shp_comma.dbf", &mut comma).len;
+    let b = files::load(b"shp_point.dbf", &mut point).len;
+    let c = files::load(b"shp_comma.idx", &mut index).len;
+    title(b"shp_comma.dbf");
+    run(&comma[..a], &index[..c], b"k11_01.in");
+    title(b"shp_point.dbf");
+    run(&point[..b], &index[..c], b"k11_01.in");
+}
+
+fn samples() {
     let mut table = io::large_buffer();
     let mut index = io::large_buffer();
     let mut other = io::large_buffer();
@@ -49,4 +63,9 @@ fn main() {
     run_all(&table[..a], &index[..b]);
     title(b"k11_wrong.idx");
     run(&table[..a], &other[..c], b"k11_01.in");
+}
+
+fn main() {
+    samples();
+    incident();
 }
