@@ -141,5 +141,6 @@ pub placed-text : (t : List ℕ) (i field : ℕ) (p : Place) → p ≡ placeAt t
     → readNumber (window t (p .start) (p .form .length)) (p .form .decimals) ≡ concentrationText t i field
 unfolding placeAt formOf concentrationText fieldBytes fieldStart isConcentration
 placed-text t i field p e c =
-    let decimals : fieldDecimals t (field - 1) ≡ concentrationDecimals = eqb-true _ _ (both (eqb (fieldType t (field - 1)) typeN) (eqb (fieldDecimals t (field - 1)) concentrationDecimals) c .1) in
+    let tests = both (eqb (fieldType t (field - 1)) typeN) (eqb (fieldDecimals t (field - 1)) concentrationDecimals) c in
+    let decimals : fieldDecimals t (field - 1) ≡ concentrationDecimals = eqb-true _ _ (tests .1) in
     rw (e, decimals)

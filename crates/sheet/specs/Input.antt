@@ -1,5 +1,5 @@
--- Rules: the program's standard input, document 02, K11: "four lines of 1 to 10 digits, each ended by one line feed, nothing after: barcode field, concentration
--- field, target, final."
+-- Rules: the program's standard input, document 02, K11: "four lines of 1 to 10 digits, each ended by one line feed, nothing after: barcode field,
+-- concentration field, target, final."
 use Prim.Native.Nat.{ℕ, _+_, min}
 use mathlib.Core.Bool.{Bool, true, false, cond, _&&_}
 use mathlib.Core.List.{List}

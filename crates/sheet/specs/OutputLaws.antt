@@ -5,12 +5,13 @@ use mathlib.Core.Bool.{true, false}
 use mathlib.Core.List.{List, [], _∷_, _++_}
 use native.Mathlib.Omega.{arith}
 use lib.ListN.{length, take, length-append}
+use lib.Seq.{length-take-le}
 use lib.Dec.{leb}
 use borrow.Author.Tests.{leb-true, leb-false}
 use Rattle.basis.specs.Tests.{either}
 use Rattle.octets.specs.Store.{put}
 use Rattle.octets.specs.StoreLaws.{length-put, put-append, put-none}
-use Rattle.sheet.specs.Output.{Output, output, wrote}
+use Rattle.sheet.specs.Output.{Output, output, wrote, Counts}
 
 -- ---- a store past the end, and one that is cut off at the end
 
@@ -56,6 +57,9 @@ wrote-ends b at text c m e =
     let end : min (at + length text) (length b) ≡ m = ap (λ (o : Output). o .end) e in
     let same : length c ≡ length b = ap length (sym after) ∙ length-put b at text in
     (same, omega arith)
+
+pub wrote-counts : (b : List ℕ) (at : ℕ) (text c : List ℕ) (m : ℕ) → wrote b at text ≡ output c m → Counts m c
+wrote-counts b at text c m e = let ends = wrote-ends b at text c m e in (ends .1, sym (length-take-le m c (ends .1)))
 
 -- ---- one after another
 

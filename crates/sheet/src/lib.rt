@@ -8,7 +8,7 @@ ghost use lib.ListN.{length};
 ghost use Rattle.table.specs.Table.{recordCount, firstRefusal};
 ghost use Rattle.octets.specs.Text.{decimal};
 ghost use Rattle.dilution.specs.Dilution.{sheetChecks};
-ghost use Rattle.sheet.specs.Output.{wrote, output};
+ghost use Rattle.sheet.specs.Output.{wrote, output, Counts};
 ghost use Rattle.sheet.specs.Sheet.{numberText, answerText, recordLine, linesAfter, aloneText, requestText, sheetText};
 use dilution::Dilution;
 use input::Input;
@@ -139,6 +139,7 @@ fn put_request(table: &[u8], index: &[u8], request: Request, out: &mut [u8]) -> 
 // Writes the sheet into the lent buffer, and answers how many bytes it has there.
 pub fn sheet(table: &[u8], index: &[u8], input: &[u8], out: &mut [u8]) -> usize
     ensures { λ r. ⌜ wrote (now (out .entry)) 0 (sheetText (now (table .entry)) (now (index .entry)) (now (input .entry))) ≡ output (now (out .exit)) r ⌝ }
+    ensures { λ r. ⌜ Counts r (now (out .exit)) ⌝ }
 {
     let asked = input::read_input(input);
     match asked {

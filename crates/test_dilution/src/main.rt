@@ -1,8 +1,6 @@
-// Runs the dilution sheet on the samples of the program `dilute`: each of 21 inputs on a table and its index, one input on an index that is not sound, and on the
-// incident's table. For each run it prints a line with a file's name, and then the sheet. README.md beside src/ says where the files and lines came from.
+// Runs the dilution sheet on the samples of the program `dilute`: each of 21 inputs on a table and its index, one input on an index that is not sound, and on
+// the incident's table. For each run it prints a line with a file's name, and then the sheet. README.md beside src/ says where the files and lines came from.
 use lines::print;
-
-const INPUTS: u8 = 21;
 
 // Prints the sheet of the input in a file.
 fn run<'a>(table: &'a [u8], index: &'a [u8], input_path: &'a [u8]) {
@@ -19,24 +17,33 @@ fn title(path: &[u8]) {
     print(b"\n");
 }
 
+fn titled<'a>(table: &'a [u8], index: &'a [u8], input_path: &'a [u8]) {
+    title(input_path);
+    run(table, index, input_path);
+}
+
 fn run_all<'a>(table: &'a [u8], index: &'a [u8]) {
-    let mut i = 0;
-    while i < INPUTS {
-        i += 1;
-        let path = [
-            b'k',
-            b'1',
-            b'1',
-            b'_',
-            b'0' + i / 10,
-            b'0' + i % 10,
-            b'.',
-            b'i',
-            b'n',
-        ];
-        title(&path);
-        run(table, index, &path);
-    }
+    titled(table, index, b"k11_01.in");
+    titled(table, index, b"k11_02.in");
+    titled(table, index, b"k11_03.in");
+    titled(table, index, b"k11_04.in");
+    titled(table, index, b"k11_05.in");
+    titled(table, index, b"k11_06.in");
+    titled(table, index, b"k11_07.in");
+    titled(table, index, b"k11_08.in");
+    titled(table, index, b"k11_09.in");
+    titled(table, index, b"k11_10.in");
+    titled(table, index, b"k11_11.in");
+    titled(table, index, b"k11_12.in");
+    titled(table, index, b"k11_13.in");
+    titled(table, index, b"k11_14.in");
+    titled(table, index, b"k11_15.in");
+    titled(table, index, b"k11_16.in");
+    titled(table, index, b"k11_17.in");
+    titled(table, index, b"k11_18.in");
+    titled(table, index, b"k11_19.in");
+    titled(table, index, b"k11_20.in");
+    titled(table, index, b"k11_21.in");
 }
 
 // The incident's table, and the same table written with points, with one index on their barcodes.

@@ -1004,7 +1004,11 @@ pub fn dilute(
     if (concentration.kind, concentration.decimals) != (b'N', 3) {
         return Err(13);
     }
-    let offset = |j: u32| 1 + (1..j).map(|i| field_at(t, i as usize - 1).length as usize).sum::<usize>();
+    let offset = |j: u32| {
+        1 + (1..j)
+            .map(|i| field_at(t, i as usize - 1).length as usize)
+            .sum::<usize>()
+    };
     let key_length = field_at(t, fields.0 as usize - 1).length as usize;
     if barcode.len() != key_length {
         return Err(27);

@@ -10,7 +10,9 @@ use Rattle.dilution.proofs.sheet_refusal.Tie as tie
 
 answered : (c : tie.After-match-index) → let args = c .before .before .before .args in
     c .match-index .result ≡ matchAnswer (args .table .now) (args .index .now) (args .barcode-field)
-answered c = let args = c .before .before .before .args in answer-computed (args .table .now) (args .index .now) (args .barcode-field) _ .0 (c .match-index .ensures)
+answered c =
+    let args = c .before .before .before .args in
+    answer-computed (args .table .now) (args .index .now) (args .barcode-field) _ .0 (c .match-index .ensures)
 
 match-index-requires : tie.Need-match-index-requires
 match-index-requires c κs = search needs

@@ -54,7 +54,8 @@ loop-again c =
     let start = at-loop .before .before .before .before .before in
     let args = start .args in
     let ends = wrote-ends _ _ _ _ _ (put .put-record .ensures) in
-    let more = lines-more (args .table .now) (args .index .now) (args .request) (at-loop .before .record-count .result) (at-loop .loop .number) (in-loop .loop-test .taken) in (
+    let records = at-loop .before .record-count .result in
+    let more = lines-more (args .table .now) (args .index .now) (args .request) records (at-loop .loop .number) (in-loop .loop-test .taken) in (
       omega arith,
       ends .0 ∙ at-loop .loop .inv .1,
       ends .1,

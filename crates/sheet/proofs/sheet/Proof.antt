@@ -2,6 +2,7 @@
 use mathlib.Core.Path.{_≡_, refl, sym, ap, _∙_}
 use borrow.Author.Needs.{needs}
 use Rattle.sheet.specs.Sheet.{inputText, sheetText}
+use Rattle.sheet.specs.OutputLaws.{wrote-counts}
 use Rattle.sheet.proofs.sheet.Statement.{statement}
 use Rattle.sheet.proofs.sheet.Tie as tie
 
@@ -28,7 +29,8 @@ unfolding sheetText inputText
 returns c =
     let ended = c .before .before in
     let told = ended .before .before .before in
-    rw (sym (told .before .before .read-input .ensures) ∙ told .asked .given .1) (ended .put-request .ensures)
+    let text = ended .put-request .ensures in
+    (rw (sym (told .before .before .read-input .ensures) ∙ told .asked .given .1) text, wrote-counts _ _ _ _ _ text)
 
 same-length-2 : tie.Need-same-length-2
 same-length-2 c = search needs
@@ -38,7 +40,8 @@ unfolding sheetText inputText
 returns-2 c =
     let ended = c .before .before in
     let told = ended .before .before in
-    rw (sym (told .before .before .read-input .ensures) ∙ told .enum-told .given .1) (ended .put-alone .ensures)
+    let text = ended .put-alone .ensures in
+    (rw (sym (told .before .before .read-input .ensures) ∙ told .enum-told .given .1) text, wrote-counts _ _ _ _ _ text)
 
 pub sheet-spec : {M : Type 1} → statement M
 sheet-spec =

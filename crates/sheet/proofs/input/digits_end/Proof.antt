@@ -30,7 +30,10 @@ returns : tie.Need-returns Inv-loop μ-loop
 returns c =
     let tested = c .before in
     let in-loop = tested .before .before in
-    omega (arith, in-loop .before .loop .inv, digits-stop (in-loop .before .before .before .args .input .now) (in-loop .before .loop .end) (in-loop .loop-test .taken) (failed (tested .is-digit .ensures) (c .if1 .taken)))
+    let at-loop = in-loop .before in
+    let none = digits-stop (at-loop .before .before .args .input .now) (at-loop .loop .end) (in-loop .loop-test .taken)
+    (failed (tested .is-digit .ensures) (c .if1 .taken)) in
+    omega (arith, at-loop .loop .inv)
 
 add-end : tie.Need-add-end Inv-loop μ-loop
 add-end c = omega arith
@@ -42,7 +45,10 @@ loop-again : tie.Need-loop-again Inv-loop μ-loop
 loop-again c =
     let tested = c .before in
     let in-loop = tested .before .before in
-    omega (arith, in-loop .before .loop .inv, digits-more (in-loop .before .before .before .args .input .now) (in-loop .before .loop .end) (in-loop .loop-test .taken) (passed (tested .is-digit .ensures) (c .if1 .left)))
+    let at-loop = in-loop .before in
+    let more = digits-more (at-loop .before .before .args .input .now) (at-loop .loop .end) (in-loop .loop-test .taken)
+    (passed (tested .is-digit .ensures) (c .if1 .left)) in
+    omega (arith, at-loop .loop .inv)
 
 returns-2 : tie.Need-returns-2 Inv-loop μ-loop
 returns-2 c = omega (arith, c .before .loop .inv, digits-none (c .before .before .before .args .input .now) (c .before .loop .end) (c .loop-test .left))

@@ -383,7 +383,8 @@ fn dilutions(word: &str) -> usize {
     let (mut table, index) = inputs::matching(&mut r, 2_000);
     let (header, record) = (33 + 32 * 5, 32);
     table[header + 999 * record] = b' ';
-    reference::number_write(&mut table[header + 999 * record + 11..][..8], 3, 2150).expect("there is room");
+    reference::number_write(&mut table[header + 999 * record + 11..][..8], 3, 2150)
+        .expect("there is room");
     let barcode = table[header + 999 * record + 1..][..10].to_vec();
     let good = Table::new(&table).unwrap();
     let asked = Dilution {

@@ -652,7 +652,11 @@ fn concentration(r: &mut Random, width: usize) -> Vec<u8> {
         1 => r.below(10) as u64,
         _ => r.bits() % most.min(100_000),
     };
-    format!("{:>width$}", format!("{}.{:03}", units / 1000, units % 1000)).into_bytes()
+    format!(
+        "{:>width$}",
+        format!("{}.{:03}", units / 1000, units % 1000)
+    )
+    .into_bytes()
 }
 
 /// A table of barcodes and concentrations, with its index, each mostly good; barcodes are looked for that are there and that are not.
@@ -666,11 +670,23 @@ fn a_sheet(r: &mut Random, a: &mut Arenas, tally: &mut Tally) {
     let width = r.between(5, 20);
     let decimals = if r.one_in(16) { r.below(4) } else { 3 };
     let (barcodes, concentrations) = (
-        table::Column { kind: b'C', length: k as u8, decimals: 0 },
-        table::Column { kind: b'N', length: width as u8, decimals: decimals as u8 },
+        table::Column {
+            kind: b'C',
+            length: k as u8,
+            decimals: 0,
+        },
+        table::Column {
+            kind: b'N',
+            length: width as u8,
+            decimals: decimals as u8,
+        },
     );
     let swapped = r.one_in(2);
-    let columns = if swapped { [concentrations, barcodes] } else { [barcodes, concentrations] };
+    let columns = if swapped {
+        [concentrations, barcodes]
+    } else {
+        [barcodes, concentrations]
+    };
     let mut table = table::blank(&columns, 0x03, keys.len(), 0);
     for (i, e) in keys.iter_mut().enumerate() {
         let record = &mut table[97 + i * (1 + k + width)..][..1 + k + width];
@@ -702,7 +718,13 @@ fn a_sheet(r: &mut Random, a: &mut Arenas, tally: &mut Tally) {
         _ => (),
     }
     let fields = if swapped { (2, 1) } else { (1, 2) };
-    let near = |r: &mut Random, field: u32| if r.one_in(24) { r.near(&[0, 1, 2, 3]) } else { field };
+    let near = |r: &mut Random, field: u32| {
+        if r.one_in(24) {
+            r.near(&[0, 1, 2, 3])
+        } else {
+            field
+        }
+    };
     let asked = calls::Dilution {
         fields: (near(r, fields.0), near(r, fields.1)),
         target: match r.below(8) {
