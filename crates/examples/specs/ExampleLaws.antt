@@ -32,8 +32,8 @@ use Rattle.examples.specs.Examples.{ascii, shown, answer, examples}
 pub examples-hold : map (λ e. answer (e .0)) examples ≡ map (λ e. e .1) examples
 unfolding examples answer ascii reading.readNumber format.formatGood chars.every chars.unpadded reading.some reading.after reading.front
     reading.hasMinus reading.withoutMinus reading.wholeGood reading.fractionGood reading.wholePart reading.fraction reading.withoutPoint
-    reading.digits chars.numberFrom chars.numberOf reading.textGood reading.signed reading.valueOf reading.digitCount date.dateOf date.dateOfNumbers
-    date.isFieldDate calendar.isDate calendar.daysInMonth calendar.rowOf calendar.isLeap calendar.monthLengths tree.tree000 tree.padded tree.page
+    reading.digits reading.wholeMissing reading.zeroDropped chars.numberFrom chars.numberOf reading.textGood reading.signed reading.valueOf
+    reading.digitCount date.dateOf date.dateOfNumbers date.isFieldDate calendar.isDate calendar.daysInMonth calendar.rowOf calendar.isLeap calendar.monthLengths tree.tree000 tree.padded tree.page
     tree.entry bytes.le16 bytes.le32 bytes.be32 bytes.toLe16 bytes.toLe32 bytes.toBe32 store.window order.bytesLe order.ordering header.isPage
     header.sizeGood header.keyLengthGood header.headerGood page.capacity page.entryOffset page.attributeGood page.countGood page.pageGood
     page.firstAtOrAbove pages.items pages.itemsAt pages.entriesAt lookup.entrySays lookup.pageSays lookup.visitRule lookup.lookupFrom
