@@ -12,3 +12,5 @@ pub mod OutputLaws
 pub mod InputLaws
 -- Laws: a number's decimal text; the lines of the records, one after another
 pub mod SheetLaws
+-- Laws: how long a sheet's text is at most
+pub mod LengthLaws
