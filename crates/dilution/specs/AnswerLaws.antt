@@ -1,11 +1,11 @@
 -- Laws: what an answer with volumes says, for who pipettes by it. No proof of the code cites them: they are for readers of the rule. Assumes nothing.
 use Prim.Native.Nat.{ℕ, _+_, _*_, _-_, _≤_, _<_}
-use mathlib.Core.Path.{_≡_, refl, sym, ap, _∙_}
-use mathlib.Core.Bool.{Bool, true, false, not, _&&_, _||_}
+use mathlib.Core.Path.{_≡_, refl, sym, _∙_}
+use mathlib.Core.Bool.{Bool, true}
 use mathlib.Core.List.{List, [], _∷_, _++_}
 use native.Mathlib.Omega.{arith}
 use lib.ListN.{length}
-use lib.Dec.{eqb, leb, ltb}
+use lib.Dec.{eqb}
 use lib.IntN.{pos, negsuc}
 use borrow.Author.Tests.{eqb-true, leb-true, ltb-true, not-true}
 use Rattle.basis.specs.Tests.{either, or-left, impossible}
@@ -17,7 +17,7 @@ use Rattle.cell.specs.Cell.{fieldBytes}
 use Rattle.matching.specs.Match.{Matched}
 use Rattle.matching.specs.Computed.{matchAnswer}
 use Rattle.matching.specs.AnswerLaws.{answer-computed}
-use Rattle.dilution.specs.Dilution.{sampleOf, volumesOf, inRange, concentrationText, textRefusal, amountOf, concentrationOf, fieldChecks, sheetChecks}
+use Rattle.dilution.specs.Dilution.{sampleOf, volumesOf, concentrationText, amountOf, concentrationOf, sheetChecks}
 use Rattle.dilution.specs.Dilution.{recordWith, barcodeChecks, textChecks, volumeChecks, unless, dilutionOf, recordDilution, diluteRule}
 use Rattle.dilution.specs.CheckLaws.{unless-pass, unless-fail}
 use Rattle.dilution.specs.VolumeLaws.{NearestTenth, sample-nearest, sample-most}

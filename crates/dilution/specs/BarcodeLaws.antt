@@ -1,31 +1,29 @@
 -- Laws: once table and index match, the record that has a barcode is the one whose field it is. Assumes nothing.
 use Prim.Native.Nat.{ℕ, _+_, _-_, _≤_, _<_}
 use mathlib.Core.Path.{_≡_, refl, sym, ap, _∙_}
-use mathlib.Core.Bool.{true, false, _&&_}
-use mathlib.Core.List.{List, [], _∷_, map}
+use mathlib.Core.Bool.{_&&_}
+use mathlib.Core.List.{List, [], _∷_}
 use mathlib.Core.Option.{Option, none, some}
 use native.Mathlib.Omega.{arith}
 use lib.ListN.{length}
 use lib.Dec.{eqb}
 use borrow.Author.Tests.{eqb-true}
-use Rattle.basis.specs.Tests.{either, both, join, contra, impossible}
+use Rattle.basis.specs.Tests.{either, both, contra, impossible}
 use Rattle.basis.specs.Lists.{All}
 use Rattle.octets.specs.Order.{bytesLe}
 use Rattle.octets.specs.OrderLaws.{le-refl, le-antisym}
 use Rattle.octets.specs.StoreLaws.{length-window}
 use Rattle.table.specs.Table.{recordCount, fieldLength, tableRefusal}
-use Rattle.table.specs.TableLaws.{layout}
 use Rattle.cell.specs.Cell.{fieldStart, fieldBytes}
-use Rattle.tree.specs.Lists.{occ}
 use Rattle.tree.specs.Pairs.{get, find, Above, Ascending}
 use Rattle.tree.specs.PairLaws.{find-get}
 use Rattle.tree.specs.Tree.{visited}
 use Rattle.page.specs.Header.{keyLength}
 use Rattle.page.specs.KeyOrder.{bytesOrder}
-use Rattle.sound.specs.Sound.{Sound, leafPairs, indexTree}
+use Rattle.sound.specs.Sound.{leafPairs, indexTree}
 use Rattle.lookup.specs.Lookup.{answerRecord}
 use Rattle.lookup_laws.specs.FoundLaws.{answerOf, lookup-list}
-use Rattle.matching.specs.Match.{Matches, entriesFor}
+use Rattle.matching.specs.Match.{entriesFor}
 use Rattle.matching.specs.Computed.{matchAnswer}
 use Rattle.matching.specs.CallLaws.{Ready, ready, table-good}
 use Rattle.matching.specs.AnswerLaws.{Accepted, accepted-exactly, answer-computed}
@@ -87,7 +85,7 @@ answered none n = refl
 answered (some i) n = refl
 
 module _ (t b : List ℕ) (field : ℕ) (matched : matchAnswer t b field ≡ 0) where
-  pub met : Accepted t b field
+  met : Accepted t b field
   met = accepted-exactly t b field 0 (answer-computed t b field 0 .1 (sym matched)) .0 refl
 
   pub good-table : tableRefusal t ≡ 0

@@ -1,6 +1,6 @@
 -- Rules: the dilution of one barcode, document 02, K11: "from barcode, target concentration (thousandths of nM, as the CONC field with three decimals) and
 -- final volume (tenths of a microlitre, 1 to 10,000), give the sample volume in tenths." The call `dilute` cites `diluteRule`.
-use Prim.Native.Nat.{ℕ, _+_, _*_, _-_, _/_, _<_}
+use Prim.Native.Nat.{ℕ, _+_, _*_, _-_, _/_}
 use mathlib.Core.Path.{_≡_}
 use mathlib.Core.Bool.{Bool, true, cond, not, _&&_}
 use mathlib.Core.List.{List, [], _∷_, _++_}

@@ -1,18 +1,18 @@
 -- Laws: the call's answer by the checks that its code makes; a record's answer is what the call gives for its barcode; what an answer with volumes says.
 -- Assumes nothing.
-use Prim.Native.Nat.{ℕ, suc, _+_, _*_, _-_, _≤_, _<_}
-use mathlib.Core.Path.{_≡_, refl, sym, ap, _∙_}
-use mathlib.Core.Bool.{Bool, true, false, not, _&&_}
+use Prim.Native.Nat.{ℕ, _+_, _-_, _≤_}
+use mathlib.Core.Path.{_≡_, sym, _∙_}
+use mathlib.Core.Bool.{Bool, true}
 use mathlib.Core.List.{List, [], _∷_, _++_}
 use native.Mathlib.Omega.{arith}
 use lib.ListN.{length}
-use lib.Dec.{eqb, leb, ltb}
+use lib.Dec.{ltb}
 use borrow.Author.Tests.{eqb-true, eqb-false, eq-eqb, ne-eqb, lt-ltb}
 use Rattle.basis.specs.Tests.{impossible}
 use Rattle.basis.specs.Lists.{All, all-append}
-use Rattle.table.specs.Table.{fieldCount, recordCount, fieldDecimals, firstRefusal, tableRefusal}
+use Rattle.table.specs.Table.{fieldCount, recordCount, firstRefusal}
 use Rattle.table.specs.TableLaws.{first-pass, first-fail}
-use Rattle.field.specs.Field.{numberGood, PlaceGood}
+use Rattle.field.specs.Field.{PlaceGood}
 use Rattle.field.specs.FieldLaws.{number-range}
 use Rattle.cell.specs.Cell.{fieldBytes}
 use Rattle.page.specs.Header.{keyLength}
@@ -20,7 +20,7 @@ use Rattle.matching.specs.Computed.{matchAnswer}
 use Rattle.dilution.specs.Dilution.{isConcentration, fieldChecks, sheetChecks, recordWith, barcodeChecks, unless, recordDilution, diluteRule, Dilutable}
 use Rattle.dilution.specs.Dilution.{volumesOf, concentrationText, textRefusal, concentrationOf, textChecks, volumeChecks, dilutionOf}
 use Rattle.dilution.specs.CheckLaws.{unless-pass, unless-fail, unless-append, unless-none, unless-first, unless-named, Named, first-passes}
-use Rattle.dilution.specs.BarcodeLaws.{good-table, known, own-length, record-named, record-own}
+use Rattle.dilution.specs.BarcodeLaws.{good-table, known, own-length, record-own}
 use Rattle.dilution.specs.declared.Dilution.{Dilution}
 use Rattle.dilution.specs.declared.Dilution.the-variants.{Refused}
 

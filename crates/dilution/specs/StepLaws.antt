@@ -1,13 +1,13 @@
 -- Laws: how the tests that the code makes meet the checks of the rule. The proofs of this crate's functions cite them. Assumes nothing.
-use Prim.Native.Nat.{ℕ, _+_, _*_, _-_, _^_, _≤_, _<_}
+use Prim.Native.Nat.{ℕ, _-_, _≤_, _<_}
 use mathlib.Core.Path.{_≡_, refl, sym, ap, _∙_}
-use mathlib.Core.Bool.{Bool, true, false, cond, not, _&&_}
+use mathlib.Core.Bool.{Bool, true, false, cond, _&&_}
 use mathlib.Core.List.{List, [], _∷_}
 use native.Mathlib.Omega.{arith}
 use lib.Dec.{eqb, leb, ltb, lit<}
 use lib.IntN.{ℤ, pos, negsuc, natAbs}
 use lib.Signed.{ltZ}
-use borrow.Author.Tests.{eqb-true, eq-eqb, ne-eqb, leb-true, lt-ltb, le-leb, lt-leb, ltb-true}
+use borrow.Author.Tests.{eqb-true, ne-eqb, leb-true, lt-ltb, le-leb, lt-leb, ltb-true}
 use Rattle.basis.specs.Tests.{both, contra}
 use Rattle.octets.specs.Store.{window}
 use Rattle.numeral.specs.Reading.{readNumber}
@@ -22,7 +22,6 @@ use Rattle.field.specs.declared.Place.{Place}
 use Rattle.cell.specs.Cell.{markGood, fieldStart, fieldBytes}
 use Rattle.dilution.specs.Dilution.{maxTarget, maxFinal, volumesOf, inRange, concentrationDecimals, concentrationText, textRefusal, amountOf}
 use Rattle.dilution.specs.Dilution.{concentrationOf, isConcentration, fieldChecks, textChecks, volumeChecks, unless, dilutionOf, recordDilution}
-use Rattle.dilution.specs.declared.Dilution.{Dilution}
 use Rattle.dilution.specs.declared.Dilution.the-variants.{Refused}
 
 -- ---- the concentration's field

@@ -1,9 +1,8 @@
 -- Laws: "to the nearest tenth, halves up, so twice the gap, times the concentration, is at most the concentration"; "Sample and diluent add to the final
 -- volume". Assumes nothing.
-use Prim.Native.Nat.{ℕ, suc, _+_, _*_, _-_, _/_, _≤_, _<_}
-use mathlib.Core.Path.{_≡_, refl, sym, ap, _∙_}
+use Prim.Native.Nat.{ℕ, _+_, _*_, _-_, _/_, _≤_, _<_}
+use mathlib.Core.Path.{_≡_}
 use mathlib.Core.Logic.{_⊎_, inl, inr}
-use mathlib.Core.Bool.{true, false}
 use native.Mathlib.Nat.{mul-assoc, mul-comm, mul-left-comm, add-mul, mul-le-mul-right, div-mul-le-self, lt-div-mul-add, div-lt-iff-lt-mul}
 use native.Mathlib.Omega.{arith}
 use lib.Dec.{ltb, eqb}

@@ -3,14 +3,11 @@
 //
 // `dilute` makes all checks for one barcode. A sheet of many records is checked once by `sheet_refusal`, and then each record is diluted by
 // `record_dilution`, which gives the very answer of `dilute` for the record's barcode.
-use field::Place;
 use lookup::Answer;
 use numeral::Number;
 ghost use mathlib.Core.Path.{_≡_};
-ghost use mathlib.Core.Bool.{true};
 ghost use Prim.Native.Nat.{_≤_, _<_};
 ghost use Rattle.table.specs.Table.{firstRefusal, tableRefusal};
-ghost use Rattle.field.specs.Field.{placeAt, PlaceInside};
 ghost use Rattle.dilution.specs.Dilution.{maxTarget, maxFinal, sampleOf, volumesOf, inRange, textRefusal, concentrationOf, amountOf};
 ghost use Rattle.dilution.specs.Dilution.{fieldChecks, sheetChecks, recordWith, dilutionOf, recordDilution, diluteRule, Dilutable};
 

@@ -1,19 +1,18 @@
 -- Laws: how the code reads a line of the input. Assumes nothing.
-use Prim.Native.Nat.{ℕ, suc, _+_, _-_, _≤_, _<_}
-use mathlib.Core.Path.{_≡_, refl, sym, ap, _∙_}
-use mathlib.Core.Bool.{Bool, true, false, cond, _&&_}
+use Prim.Native.Nat.{ℕ, _+_, _-_, _≤_, _<_}
+use mathlib.Core.Path.{_≡_, refl, ap, _∙_}
+use mathlib.Core.Bool.{Bool, true, false, _&&_}
 use mathlib.Core.List.{List, [], _∷_}
 use native.Mathlib.Omega.{arith}
 use native.Mathlib.Numerals.{add-one}
 use lib.ListN.{length, take, drop, drop-of-length-le, List·getD-eq-default}
 use lib.Seq.{drop-cons}
 use lib.Dec.{eqb, leb}
-use borrow.Author.Tests.{leb-true, eqb-true, le-leb, lt-leb, eq-eqb, ne-eqb}
-use Rattle.basis.specs.Tests.{either, both}
+use borrow.Author.Tests.{le-leb, lt-leb, eq-eqb, ne-eqb}
+use Rattle.basis.specs.Tests.{either}
 use Rattle.octets.specs.Bytes.{byteAt}
-use Rattle.octets.specs.Text.{every, isDigit, numberOf, digitsOf}
+use Rattle.octets.specs.Text.{isDigit, numberOf, digitsOf}
 use Rattle.octets.specs.TextLaws.{digits-read}
-use Rattle.octets.specs.declared.Digits.{Digits}
 use Rattle.octets.specs.declared.Digits.the-variants.{Number}
 use Rattle.numeral.specs.Reading.{front}
 use Rattle.numeral.specs.ReadingLaws.{front-more, front-ends, every-front}

@@ -1,27 +1,27 @@
 -- Laws: how long a sheet's text is at most: so a buffer of 7 times the table's bytes and 4 more holds all of it. No proof of the code cites them: they are for
 -- who lends the buffer. Assumes nothing.
 use Prim.Native.Nat.{ℕ, zero, suc, _+_, _*_, _-_, _^_, _≤_, _<_}
-use mathlib.Core.Path.{_≡_, refl, sym, ap, _∙_}
-use mathlib.Core.Bool.{Bool, true, false}
+use mathlib.Core.Path.{_≡_, refl}
+use mathlib.Core.Bool.{Bool, true}
 use mathlib.Core.List.{List, [], _∷_, _++_}
 use native.Mathlib.Nat.{add-mul, mul-left-comm, mul-le-mul-left}
 use native.Mathlib.Omega.{arith}
 use lib.ListN.{length, length-append, length-take}
-use lib.Dec.{eqb, leb, lit<}
-use borrow.Author.Tests.{eqb-true, eqb-false, ltb-true, leb-true}
+use lib.Dec.{eqb, lit<}
+use borrow.Author.Tests.{eqb-true, ltb-true, leb-true}
 use Rattle.basis.specs.Tests.{either}
 use Rattle.basis.specs.Lists.{All, all-append}
 use Rattle.octets.specs.Store.{window}
-use Rattle.octets.specs.Text.{blank, decimal}
+use Rattle.octets.specs.Text.{decimal}
 use Rattle.octets.specs.DigitLaws.{decimal-fits}
 use Rattle.numeral.specs.declared.Number.{Number}
 use Rattle.numeral.specs.declared.Number.the-variants as text
-use Rattle.table.specs.Table.{typeC, recordCount, recordLength, recordsEnd, fieldCount, fieldType, fieldLength, firstRefusal, tableChecks, tableRefusal}
+use Rattle.table.specs.Table.{recordCount, recordLength, recordsEnd, fieldLength, firstRefusal, tableChecks}
 use Rattle.table.specs.Table.{deletionByte, deletedMark}
 use Rattle.table.specs.TableLaws.{layout}
 use Rattle.table.specs.RecordLaws.{field-inside, offset-positive}
 use Rattle.table.specs.FormLaws.{field-form, form-some}
-use Rattle.cell.specs.Cell.{fieldStart, fieldBytes}
+use Rattle.cell.specs.Cell.{fieldBytes}
 use Rattle.cell.specs.AnswerLaws.{first-small, table-below, number-numbered}
 use Rattle.matching.specs.Match.{matchRefusal}
 use Rattle.matching.specs.Computed.{matchAnswer}

@@ -1,25 +1,25 @@
 -- Laws: a number's decimal text by the library's writer; the lines of the records, one after another; a record's line by the record's own answer. Assumes
 -- nothing.
-use Prim.Native.Nat.{ℕ, zero, suc, _+_, _-_, _/_, _^_, _≤_, _<_}
+use Prim.Native.Nat.{ℕ, suc, _+_, _-_, _^_, _≤_, _<_}
 use mathlib.Core.Path.{_≡_, refl, sym, ap, _∙_}
-use mathlib.Core.Bool.{true, false}
+use mathlib.Core.Bool.{true}
 use mathlib.Core.List.{List, [], _∷_, _++_, append-nil}
 use native.Mathlib.Nat.{div-one}
 use native.Mathlib.Omega.{arith}
 use lib.ListN.{length, take, drop, length-drop}
 use lib.Seq.{take-all}
 use lib.IntN.{ℤ, pos}
-use borrow.Author.Tests.{eq-eqb, ne-eqb}
+use borrow.Author.Tests.{ne-eqb}
 use Rattle.basis.specs.Tests.{both}
-use Rattle.octets.specs.Text.{every, blank, isDigit, unpadded, decimal}
+use Rattle.octets.specs.Text.{every, isDigit, unpadded, decimal}
 use Rattle.octets.specs.TextLaws.{unpadded-digit, unpadded-blanks}
 use Rattle.octets.specs.DigitLaws.{decimal-digits, decimal-fits}
 use Rattle.numeral.specs.Format.{formatGood}
 use Rattle.numeral.specs.Writing.{numberText, signText, fractionText, written, Fits, AfterWrite, afterWrite, writeNumber}
 use Rattle.numeral.specs.WritingLaws.{written-exactly, fits-length}
 use Rattle.numeral.specs.declared.Writing.{Writing}
-use Rattle.table.specs.Table.{deletedMark, recordCount, deletionByte, fieldLength, firstRefusal}
-use Rattle.field.specs.Field.{formOf, placeAt, PlaceGood}
+use Rattle.table.specs.Table.{deletedMark, recordCount, deletionByte, firstRefusal}
+use Rattle.field.specs.Field.{formOf, placeAt}
 use Rattle.field.specs.declared.Place.{Place}
 use Rattle.cell.specs.Cell.{fieldStart, fieldBytes}
 use Rattle.cell.specs.CellLaws.{part-window}

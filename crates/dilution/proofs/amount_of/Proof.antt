@@ -1,6 +1,6 @@
 -- `dilution::amount_of` meets its contract: a value that is not negative is its own magnitude. Assumes nothing.
-use mathlib.Core.Path.{_≡_, refl, sym, _∙_}
-use mathlib.Core.Bool.{true, false}
+use mathlib.Core.Path.{_≡_, refl, sym}
+use mathlib.Core.Bool.{false}
 use native.Mathlib.Omega.{arith}
 use lib.IntN.{ℤ, pos, negsuc, natAbs}
 use lib.Signed.{ltZ, nonNeg}
@@ -9,7 +9,6 @@ use mir.Syntax.{w64}
 use mir.Val.{SFits, Fits, toZ, ofZ}
 use mir.ValLaws.{toZ-ofZ}
 use Rattle.basis.specs.Tests.{contra}
-use Rattle.dilution.specs.Dilution.{amountOf}
 use Rattle.dilution.specs.StepLaws.{amount-none, amount-some}
 use Rattle.dilution.proofs.amount_of.Statement.{statement}
 use Rattle.dilution.proofs.amount_of.Tie as tie

@@ -1,12 +1,11 @@
 -- `dilution::dilute` meets its contract: the sheet's checks, the barcode's length, its record, and then by the record. Assumes nothing.
-use Prim.Native.Nat.{_≤_}
-use mathlib.Core.Path.{_≡_, sym, ap, _∙_}
+use mathlib.Core.Path.{_≡_, sym, _∙_}
 use native.Mathlib.Omega.{arith}
 use lib.ListN.{length}
 use Rattle.table.specs.Table.{firstRefusal}
 use Rattle.page.specs.Header.{keyLength}
 use Rattle.page.specs.HeaderLaws.{good-header}
-use Rattle.dilution.specs.Dilution.{sheetChecks, recordDilution}
+use Rattle.dilution.specs.Dilution.{sheetChecks}
 use Rattle.dilution.specs.BarcodeLaws.{known, record-named}
 use Rattle.dilution.specs.DilutionLaws.{sheet-good, sheet-dilutable, dilute-refused, dilute-27, dilute-absent, dilute-record}
 use borrow.Author.Needs.{needs}

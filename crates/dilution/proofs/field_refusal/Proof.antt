@@ -1,5 +1,5 @@
 -- `dilution::field_refusal` meets its contract: 12 is the answer of the entry's call, 13 by its type and decimals. Assumes nothing.
-use mathlib.Core.Path.{_≡_, sym, _∙_}
+use mathlib.Core.Path.{sym, _∙_}
 use Rattle.dilution.specs.StepLaws.{field-12, field-tested}
 use borrow.Author.Needs.{needs}
 use Rattle.dilution.proofs.field_refusal.Statement.{statement}

@@ -1,7 +1,6 @@
 -- `dilution::record_dilution` meets its contract: the deletion byte, the text, and then by the concentration. Assumes nothing.
 use mathlib.Core.Path.{_≡_, sym, ap, _∙_}
-use mathlib.Core.Bool.{true, false}
-use native.Mathlib.Omega.{arith}
+use mathlib.Core.Bool.{true}
 use Rattle.basis.specs.Tests.{passed, failed}
 use Rattle.table.specs.Table.{deletionByte, deletedMark}
 use Rattle.cell.specs.Cell.{markGood}

@@ -1,5 +1,5 @@
 -- `dilution::record_with` meets its contract: the cases of lookup's answer. Assumes nothing.
-use mathlib.Core.Path.{_≡_, sym, ap, _∙_}
+use mathlib.Core.Path.{sym, ap, _∙_}
 use Rattle.lookup.specs.Lookup.{answerRecord}
 use Rattle.lookup.specs.declared.Answer.{Answer}
 use Rattle.dilution.specs.Dilution.{recordWith}

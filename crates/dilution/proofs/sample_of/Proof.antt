@@ -1,5 +1,5 @@
 -- `dilution::sample_of` meets its contract: nothing overflows, and the quotient, rounded by the remainder, is the sample. Assumes nothing.
-use Prim.Native.Nat.{_+_, _*_, _/_, _%_, _≤_}
+use Prim.Native.Nat.{_*_, _≤_}
 use native.Mathlib.Nat.{mul-le-mul, div-add-mod', mod-lt, mod-le, div-le-self}
 use native.Mathlib.Omega.{arith}
 use Rattle.dilution.specs.VolumeLaws.{sample-up, sample-down}

@@ -1,6 +1,5 @@
 -- `dilution::volumes_of` meets its contract: the sample is at most the final volume. Assumes nothing.
 use Prim.Native.Nat.{_≤_}
-use mathlib.Core.Path.{_≡_, sym, ap, _∙_}
 use native.Mathlib.Omega.{arith}
 use Rattle.dilution.specs.Dilution.{volumesOf}
 use Rattle.dilution.specs.VolumeLaws.{sample-most}

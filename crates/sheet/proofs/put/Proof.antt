@@ -1,7 +1,6 @@
 -- `sheet::put` meets its contract: nothing past the end, the whole text, or as much of it as there is room for. Assumes nothing.
-use mathlib.Core.Path.{_≡_, refl, sym, ap, _∙_}
 use native.Mathlib.Omega.{arith}
-use lib.ListN.{length, take, length-take}
+use lib.ListN.{length-take}
 use borrow.Author.Needs.{needs}
 use Rattle.sheet.specs.OutputLaws.{wrote-past, wrote-whole, wrote-cut}
 use Rattle.sheet.proofs.put.Statement.{statement}

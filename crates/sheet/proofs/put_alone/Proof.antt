@@ -1,5 +1,5 @@
 -- `sheet::put_alone` meets its contract: the number and the line's end, one behind the other. Assumes nothing.
-use mathlib.Core.Path.{_≡_, refl, sym, ap, _∙_}
+use mathlib.Core.Path.{_∙_}
 use borrow.Author.Needs.{needs}
 use Rattle.sheet.specs.Sheet.{aloneText}
 use Rattle.sheet.specs.OutputLaws.{wrote-then}

@@ -1,5 +1,5 @@
 -- `sheet::put_answer` meets its contract, by the case of the answer: its parts are written one behind the other. Assumes nothing.
-use mathlib.Core.Path.{_≡_, refl, sym, ap, _∙_}
+use mathlib.Core.Path.{_∙_}
 use borrow.Author.Needs.{needs}
 use Rattle.sheet.specs.Sheet.{answerText}
 use Rattle.sheet.specs.OutputLaws.{wrote-then}

@@ -1,5 +1,5 @@
 -- `sheet::put_number` meets its contract: a blank and the digits, one behind the other. Assumes nothing.
-use mathlib.Core.Path.{_≡_, refl, sym, ap, _∙_}
+use mathlib.Core.Path.{_∙_}
 use mathlib.Core.List.{[], _∷_}
 use Rattle.octets.specs.Text.{blank}
 use borrow.Author.Needs.{needs}

@@ -1,8 +1,6 @@
 -- `sheet::put_record` meets its contract: nothing for a deleted record; else the barcode, and the answer behind it. Assumes nothing.
-use mathlib.Core.Path.{_≡_, refl, sym, ap, _∙_}
+use mathlib.Core.Path.{sym, _∙_}
 use mathlib.Core.List.{[]}
-use native.Mathlib.Omega.{arith}
-use lib.ListN.{length}
 use borrow.Author.Needs.{needs}
 use Rattle.dilution.specs.DilutionLaws.{sheet-barcode, sheet-dilutable}
 use Rattle.dilution.specs.StepLaws.{placed-mark}

@@ -1,15 +1,14 @@
 -- `sheet::put_records` meets its contract. The loop's invariant: the lines of the records that are left, written from `end` on, make the whole sheet.
 -- Assumes nothing.
-use Prim.Native.Nat.{_+_, _-_, _≤_}
-use mathlib.Core.Path.{_≡_, refl, sym, ap, _∙_}
+use Prim.Native.Nat.{_-_, _≤_}
+use mathlib.Core.Path.{_≡_, refl, sym, _∙_}
 use mathlib.Core.List.{[]}
 use native.Mathlib.Omega.{arith}
 use lib.ListN.{length}
-use Rattle.table.specs.Table.{recordCount}
 use Rattle.table.specs.TableLaws.{layout}
 use Rattle.dilution.specs.BarcodeLaws.{good-table}
 use Rattle.dilution.specs.DilutionLaws.{sheet-good}
-use Rattle.sheet.specs.Output.{wrote, output}
+use Rattle.sheet.specs.Output.{wrote}
 use Rattle.sheet.specs.Sheet.{linesAfter}
 use Rattle.sheet.specs.OutputLaws.{wrote-none, wrote-then, wrote-ends}
 use Rattle.sheet.specs.SheetLaws.{lines-more, lines-end}

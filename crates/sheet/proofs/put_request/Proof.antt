@@ -1,5 +1,5 @@
 -- `sheet::put_request` meets its contract: the refusal alone, or the lines of all records. Assumes nothing.
-use mathlib.Core.Path.{_≡_, refl, sym, ap, _∙_}
+use mathlib.Core.Path.{sym, _∙_}
 use borrow.Author.Needs.{needs}
 use Rattle.sheet.specs.SheetLaws.{request-refused, request-lines}
 use Rattle.sheet.proofs.put_request.Statement.{statement}

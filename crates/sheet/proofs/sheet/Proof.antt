@@ -1,5 +1,5 @@
 -- `sheet::sheet` meets its contract, by the case of the input. Assumes nothing.
-use mathlib.Core.Path.{_≡_, refl, sym, ap, _∙_}
+use mathlib.Core.Path.{sym, _∙_}
 use borrow.Author.Needs.{needs}
 use Rattle.sheet.specs.Sheet.{inputText, sheetText}
 use Rattle.sheet.specs.OutputLaws.{wrote-counts}

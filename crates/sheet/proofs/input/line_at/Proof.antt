@@ -1,9 +1,8 @@
 -- `sheet::input::line_at` meets its contract: the tests of the line, and then the number of its digits. Assumes nothing.
-use Prim.Native.Nat.{_+_, _-_, _<_}
-use mathlib.Core.Path.{_≡_, refl, sym, ap, _∙_}
-use mathlib.Core.Bool.{true}
+use Prim.Native.Nat.{_-_}
+use mathlib.Core.Path.{_≡_, sym, _∙_}
 use native.Mathlib.Omega.{arith}
-use lib.ListN.{length, length-take}
+use lib.ListN.{length-take}
 use borrow.Author.Needs.{needs}
 use Rattle.basis.specs.Tests.{impossible}
 use Rattle.octets.specs.Text.{numberOf}

@@ -1,5 +1,5 @@
 -- `sheet::input::next_line` meets its contract: none behind none, else the line at its end. Assumes nothing.
-use mathlib.Core.Path.{_≡_, refl, sym, ap, _∙_}
+use mathlib.Core.Path.{sym, _∙_}
 use borrow.Author.Needs.{needs}
 use borrow.Author.Tests.{not-true, not-false}
 use Rattle.sheet.specs.InputLaws.{next-none, next-some}

@@ -1,5 +1,5 @@
 -- `sheet::input::read_input` meets its contract: four lines, one behind another, and nothing after. Assumes nothing.
-use mathlib.Core.Path.{_≡_, refl, sym, ap, _∙_}
+use mathlib.Core.Path.{sym, ap, _∙_}
 use borrow.Author.Needs.{needs}
 use Rattle.sheet.specs.declared.input.Request.{Request}
 use Rattle.sheet.specs.declared.input.Input.the-variants.{Asked}
