@@ -1,5 +1,4 @@
--- Laws: a free list that a page joins at the head, that loses its head, and that is read; how many free pages a file can have. Cited by the laws of bytes and
--- of sound indexes. Assumes nothing.
+-- Laws: the free list after a page joins it at the head, and how it is read off a file. Cited by the laws of bytes. Assumes nothing.
 use mathlib.Core.Path.{_≡_, refl, sym, ap, ap₂, _∙_}
 use mathlib.Core.List.{List, [], _∷_}
 use Prim.Native.Nat.{ℕ, zero, suc, _+_, _*_, _%_, _≤_, _<_}
@@ -45,22 +44,3 @@ module _ (none : ℕ) (next : ℕ → ℕ) where
       rw (ne-eqb head none (λ e. occ-not-head none p ps o (sym e ∙ c .0)), chainFrom)
       (ap₂ (λ (x : ℕ) (l : List ℕ). x ∷ l) (c .0)
       (ap (λ x. chainFrom none next n (next x)) (c .0) ∙ chained-read n (next p) ps (omega arith) (omega arith) (c .1)))
-
--- a list without page p is shorter by as often as it had p
-without-length : (p : ℕ) (l : List ℕ) → length (without p l) + occ p l ≡ length l
-without-length p [] = refl
-without-length p (x ∷ xs) = either (eqb x p)
-    (λ e. rw (e, eq-eqb p x (sym (eqb-true x p e))) (omega (arith, without-length p xs)))
-    (λ e. rw (e, ne-eqb p x (λ q. eqb-false x p e (sym q))) (omega (arith, without-length p xs)))
-
--- Theorem: of n pages that a file has, at most n are different
-pub pages-few : (n : ℕ) (l : List ℕ) → Distinct l → ((z : ℕ) → 0 < occ z l → (z < pageSize * n) × (z % pageSize ≡ 0)) → length l ≤ n
-pages-few zero [] d low = omega arith
-pages-few zero (x ∷ xs) d low = let l : x < 0 = omega (arith, low x (occ-here x xs) .0) in absurd (omega arith)
-pages-few (suc n) l d low =
-    let p : ℕ = pageSize * n in
-    let few : length (without p l) ≤ n = pages-few n (without p l) (λ z. omega (arith, d z, without-occ z p l))
-    (λ z i. let at : (z < pageSize * suc n) × (z % pageSize ≡ 0) = low z (omega (arith, without-occ z p l)) in
-    let ne : z ≡ p → ⊥ = λ e. without-none z p l e i in
-    (omega arith, at .1)) in
-    omega (arith, d p, without-length p l)

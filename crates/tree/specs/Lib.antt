@@ -89,8 +89,10 @@ pub mod RemovalLevels
 pub mod RemovalLinks
 -- Rules: the free list as it lies in a file
 pub mod FreeChain
--- Laws: the free list after a page joins it; how it is read; how many free pages there can be
+-- Laws: the free list after a page joins it, and how it is read
 pub mod FreeChainLaws
+-- Laws: how many pages a file and a tree have
+pub mod PageCount
 -- Steps: an index as a tree with a file size, the rule for refusal 30, the calls
 pub mod Index
 -- Steps: what every call keeps of an index
