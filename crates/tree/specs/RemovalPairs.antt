@@ -17,7 +17,7 @@ use Rattle.tree.specs.SplitLaws.{underPage}
 use Rattle.tree.specs.Ordered.{Separated, OrderedUnder, Ordered}
 
 -- what stands under a page is what stands under the entries that it is left with, also if it is left with none
-pub unlessEmptied-under : {K C B : Type 0} (under : K × C → List B) (a : K) (p : ℕ) (xs : List (K × C)) →
+unlessEmptied-under : {K C B : Type 0} (under : K × C → List B) (a : K) (p : ℕ) (xs : List (K × C)) →
     concatMap (underPage under) (unlessEmptied a p xs) ≡ concatMap under xs
 unlessEmptied-under under a p [] = refl
 unlessEmptied-under under a p (x ∷ xs) = append-nil (concatMap under (x ∷ xs))

@@ -16,7 +16,7 @@ use Rattle.tree.specs.LinkLaws.{SameLinks, linked-same, headOr-differ}
 use Rattle.tree.specs.Unlinking.{unlink, unlinkAll, without, withoutAll}
 
 -- a list of pages without page p
-pub without-absent : (p : ℕ) (l : List ℕ) → occ p l ≡ 0 → without p l ≡ l
+without-absent : (p : ℕ) (l : List ℕ) → occ p l ≡ 0 → without p l ≡ l
 without-absent p [] o = refl
 without-absent p (x ∷ xs) o = rw (ne-eqb x p (λ e. occ-not-head p x xs o (sym e))) (ap (λ l. x ∷ l) (without-absent p xs (omega arith)))
 
@@ -108,7 +108,7 @@ module _ (none : ℕ) (l : Links) (p : ℕ) where
       ) e)
 
   -- Theorem: a level is linked again without the page p that is unlinked
-  pub linked-without : (prev : ℕ) (ps : List ℕ) → Distinct ps → occ none ps ≡ 0 → occ prev ps ≡ 0 → 0 < occ p ps →
+  linked-without : (prev : ℕ) (ps : List ℕ) → Distinct ps → occ none ps ≡ 0 → occ prev ps ≡ 0 → 0 < occ p ps →
       Linked none l prev ps → Linked none (unlink p l) prev (without p ps)
   linked-without prev [] d n o i c = tt
   linked-without prev (x ∷ xs) d n o i c =
@@ -127,7 +127,7 @@ module _ (none : ℕ) (l : Links) (p : ℕ) where
       ))
 
   -- Theorem: a level that has no page in common with the level of p stays linked
-  pub linked-apart : (ps qs : List ℕ) → occ none ps ≡ 0 → 0 < occ p qs → Linked none l none qs →
+  linked-apart : (ps qs : List ℕ) → occ none ps ≡ 0 → 0 < occ p qs → Linked none l none qs →
       ((z : ℕ) → 0 < occ z ps → occ z qs ≡ 0) → Linked none l none ps → Linked none (unlink p l) none ps
   linked-apart ps qs n i q a c =
       linked-same none l (unlink p l) none ps
