@@ -46,9 +46,9 @@ pub mod InsertPages
 -- Laws: an insertion takes as many new pages and levels as the rule for refusal 30 says
 pub mod InsertNeeds
 -- Steps: new pages from the free list, then at the file's end; how emptied pages join the free list
-pub mod Supply
+pub mod FreeList
 -- Laws: the pages taken and the pages left free
-pub mod SupplyLaws
+pub mod FreeListLaws
 -- Steps: removal from a tree, and the pages emptied by it
 pub mod Removal
 -- Laws: the leaf pairs after a removal

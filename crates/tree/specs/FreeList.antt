@@ -10,9 +10,9 @@ firstThen f rest zero = f
 firstThen f rest (suc j) = rest j
 
 -- the naming of new pages, by how many were taken before: "free pages from the head before it grows F"
-abbrev pub takenPage : List ℕ → (ℕ → ℕ) → ℕ → ℕ
-takenPage [] later = later
-takenPage (f ∷ fs) later = firstThen f (takenPage fs later)
+abbrev pub freeFirst : List ℕ → (ℕ → ℕ) → ℕ → ℕ
+freeFirst [] later = later
+freeFirst (f ∷ fs) later = firstThen f (freeFirst fs later)
 
 -- the free list after n pages were taken
 abbrev pub freeAfter : ℕ → List ℕ → List ℕ
