@@ -94,8 +94,8 @@ pub fn is_found(answer: Answer) -> bool
     ensures { λ r. ⌜ r ≡ isFound answer ⌝ }
 {
     match answer {
-        Answer::Found(number, pages) => true,
-        Answer::Absent(pages) => false,
+        Answer::Found(number, visited) => true,
+        Answer::Absent(visited) => false,
         Answer::Refused(reason) => false,
     }
 }
