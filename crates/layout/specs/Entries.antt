@@ -1,8 +1,8 @@
--- Rules: a page's entries after a pair goes in or a page below was split. Cited by insertion and by the rule for refusal 30.
-use Prim.Native.Nat.{ℕ, _-_}
+-- Rules: a page's entries after a pair goes in, a page below was split or an entry goes. Cited by insertion, by removal and by the rule for refusal 30.
+use Prim.Native.Nat.{ℕ, suc, _-_}
 use mathlib.Core.Bool.{Bool, true, false, cond, _&&_}
 use mathlib.Core.List.{List, [], _∷_, _++_}
-use lib.ListN.{length}
+use lib.ListN.{length, take, drop}
 use lib.Dec.{leb}
 use Rattle.octets.specs.Bytes.{be32, toBe32}
 use Rattle.octets.specs.Store.{put}
@@ -50,3 +50,7 @@ twoFor k b key c q e = (lastKey key (itemsIn k b c), e .1) ∷ (larger bytesOrde
 -- the entries of a new root, over the two halves at p and q with their own last keys
 abbrev pub rootEntries : ℕ → List ℕ → List ℕ → ℕ → ℕ → List Item
 rootEntries k b key p q = (lastKey key (itemsIn k b p), toBe32 p) ∷ (lastKey key (itemsIn k b q), toBe32 q) ∷ []
+
+-- "The entry goes: the later entries of the page move up": entries without entry i
+abbrev pub withoutEntry : ℕ → List Item → List Item
+withoutEntry i es = take i es ++ drop (suc i) es

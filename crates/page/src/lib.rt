@@ -7,7 +7,8 @@ ghost use lib.ListN.{length};
 ghost use Rattle.octets.specs.Bytes.{toBe32};
 ghost use Rattle.octets.specs.Store.{put};
 ghost use Rattle.octets.specs.Order.{ordering};
-ghost use Rattle.page.specs.Header.{maxKey, maxOffset, pageSize, rootOffset, fileSize, keyLength, isPage, sizeGood, keyLengthGood, headerGood};
+ghost use Rattle.page.specs.Header.{maxKey, maxOffset, pageSize, rootOffset, freePointer, fileSize, keyLength};
+ghost use Rattle.page.specs.Header.{isPage, sizeGood, keyLengthGood, headerGood};
 ghost use Rattle.page.specs.Page.{attributeAt, countAt, leftAt, rightAt, leafBit, capacity, entryOffset, keyAt, numberAt};
 ghost use Rattle.page.specs.Page.{attributeGood, countGood, pageGood, firstAtOrAbove};
 ghost use Rattle.page.specs.Reading.{entriesAt};
@@ -107,6 +108,14 @@ pub fn root(index: &[u8]) -> PageOffset
     ensures { λ r. ⌜ r .0 ≡ rootOffset (now (index .entry)) ⌝ }
 {
     PageOffset(octets::load_le32(index, ROOT_PLACE))
+}
+
+// The header's free pointer: the head of the free list, or none.
+pub fn free_pointer(index: &[u8]) -> PageOffset
+    requires { ⌜ pageSize ≤ length (now index) ⌝ }
+    ensures { λ r. ⌜ r .0 ≡ freePointer (now (index .entry)) ⌝ }
+{
+    PageOffset(octets::load_le32(index, FREE_PLACE))
 }
 
 // The header's file size, taken as an offset: the file's end, at which the next new page begins.

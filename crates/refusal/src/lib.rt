@@ -99,6 +99,9 @@ pub const NO_ROOM: u32 = 30;
 // The index and the table do not match.
 pub const INDEX_AND_TABLE_DIFFER: u32 = 31;
 
+// The key to strike off is absent.
+pub const KEY_ABSENT: u32 = 33;
+
 // ---- Answers that are no refusals. 0 is an accepted call's.
 
 // The field or the numeric text holds blanks.

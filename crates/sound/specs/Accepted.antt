@@ -8,7 +8,7 @@ use native.Mathlib.Omega.{arith}
 use lib.Dec.{eqb}
 use borrow.Author.Tests.{ne-eqb}
 use Rattle.basis.specs.Lists.{All}
-use Rattle.basis.specs.Tests.{contra, both, join}
+use Rattle.basis.specs.Tests.{either, contra, both, join}
 use Rattle.tree.specs.Pairs.{Ascending}
 use Rattle.tree.specs.Tree.{pairs}
 use Rattle.tree.specs.Clauses.{Greatest}
@@ -149,3 +149,11 @@ module _ (b : List ℕ) (h : headerGood b ≡ true) where
     sound = ((λ q. absurd (omega (arith, q))), (λ s. contra (accepted b h .1 s) e));
     other = inr (inr refl);
   }
+
+-- what each answer says of the test
+module _ (b : List ℕ) {r : ℕ} (h : headerGood b ≡ true) (a : Audited b r) where
+  pub audit-sound : r ≡ 0 → pagesGood b unmarked ≡ true
+  audit-sound e = accepted b h .1 (a .sound .0 e)
+
+  pub audit-unsound : (r ≡ 0 → ⊥) → pagesGood b unmarked ≡ false
+  audit-unsound s = either (pagesGood b unmarked) (λ t. absurd (s (a .sound .1 (accepted b h .0 t)))) (λ t. t)

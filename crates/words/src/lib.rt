@@ -53,11 +53,11 @@ fn put_index_words(line: &mut Line, n: usize, code: u32) -> usize {
     }
 }
 
-// 32 to 40: refusals of the page that no call of the library gives, so the crate `refusal` does not name them.
+// 32 to 40: refusals of the page that no call of the C interface gives. The crate `refusal` names those that a crate of the library gives.
 fn put_other_words(line: &mut Line, n: usize, code: u32) -> usize {
     match code {
         32 => put(line, n, b"control byte in the key"),
-        33 => put(line, n, b"key absent"),
+        refusal::KEY_ABSENT => put(line, n, b"key absent"),
         34 => put(line, n, b"no number to index"),
         35 => put(line, n, b"barcode absent or deleted"),
         36 => put(line, n, b"no concentration"),
