@@ -1,0 +1,94 @@
+-- Laws: the audit's walk along the free list, against document 02's clauses on it. Cited by the law that the audit's test accepts exactly the sound indexes.
+-- Assumes nothing.
+use Prim.Native.Nat.{ℕ, zero, suc, _+_, _/_, _≤_}
+use mathlib.Core.Path.{_≡_, refl, sym, ap, _∙_}
+use mathlib.Core.List.{List, [], _∷_}
+use mathlib.Core.Bool.{Bool, true, false}
+use native.Mathlib.Omega.{arith}
+use lib.ListN.{length, getD, set}
+use lib.Dec.{eqb}
+use borrow.Author.Tests.{eqb-true, eqb-false, eq-eqb, ne-eqb}
+use Rattle.basis.specs.Lists.{All}
+use Rattle.basis.specs.Tests.{either, contra, both, join}
+use Rattle.octets.specs.Store.{window}
+use Rattle.octets.specs.Order.{bytesLe, ordering, isEqual}
+use Rattle.octets.specs.OrderLaws.{le-antisym, ordering-equal}
+use Rattle.tree.specs.FreeChain.{Chained}
+use Rattle.page.specs.Header.{maxBytes, pageSize, noPage, isPage}
+use Rattle.page.specs.HeaderLaws.{is-page}
+use Rattle.page.specs.Page.{rightAt, rightPlace, entriesStart, entryArea}
+use Rattle.sound.specs.Sound.{zeros, FreePage}
+use Rattle.sound.specs.Rule.{isFreePage, freeFits, checkFree}
+use Rattle.sound.specs.RunLaws.{markAll, Fresh}
+
+-- byte strings that compare as equal are equal
+same-bytes : (a b : List ℕ) → isEqual (ordering a b) ≡ true → a ≡ b
+unfolding ordering
+same-bytes a b e = either (bytesLe a b)
+    (λ l. either (bytesLe b a) (λ m. le-antisym a b l m) (λ m. contra (rw (l, m) at e) refl))
+    (λ l. contra (rw l at e) refl)
+
+same-equal : (a b : List ℕ) → a ≡ b → isEqual (ordering a b) ≡ true
+same-equal a b e = rw e (rw (ordering-equal b))
+
+module _ (b : List ℕ) (k size : ℕ) where
+  -- the test of a free page's bytes
+  free-page : (p : ℕ) → isFreePage b k size p ≡ true → FreePage b p
+  unfolding isFreePage
+  free-page p e =
+      let t = both _ _ e in
+      (same-bytes (window b p rightPlace) (zeros rightPlace) (t .0), same-bytes (window b (p + entriesStart) entryArea) (zeros entryArea) (t .1))
+
+  page-free : (p : ℕ) → FreePage b p → isFreePage b k size p ≡ true
+  unfolding isFreePage
+  page-free p f =
+      join _ _ (same-equal (window b p rightPlace) (zeros rightPlace) (f .0)) (same-equal (window b (p + entriesStart) entryArea) (zeros entryArea) (f .1))
+
+  -- the pages ps are the free list from p on, each a page of the file, in a free page's form, and not marked when it is met
+  pub record Free (p : ℕ) (m ps : List ℕ) : Type 0 where
+    pub chained : Chained noPage (rightAt b) p ps
+    pub inside : All (λ q. isPage size q ≡ true) ps
+    pub pages : All (FreePage b) ps
+    pub fresh : Fresh m ps
+
+  -- one page more at the head
+  free-onto : (p : ℕ) (m ps : List ℕ) → freeFits b k size p m ≡ true → Free (rightAt b p) (set m (p / pageSize) 1) ps → Free p m (p ∷ ps)
+  unfolding freeFits
+  free-onto p m ps u f =
+      let v = both _ _ u in
+      let w = both _ _ (v .1) in
+      record { chained = (refl, f .chained); inside = (v .0, f .inside); pages = (free-page p (w .0), f .pages); fresh = (eqb-true _ _ (w .1), f .fresh) }
+
+  -- a list that was passed is the free list, and the pages on it are marked
+  abbrev Found : ℕ → ℕ → List ℕ → Type 0
+  Found n p m = (ps : List ℕ) × Free p m ps × (checkFree b k size n p m .1 ≡ markAll m ps)
+
+  pub free-found : (n p : ℕ) (m : List ℕ) → checkFree b k size n p m .0 ≡ true → Found n p m
+  unfolding checkFree
+  free-found zero p m e = ([], record { chained = eqb-true p noPage e; inside = tt; pages = tt; fresh = tt }, refl)
+  free-found (suc n) p m e = either (eqb p noPage)
+      (λ t. ([], record { chained = eqb-true p noPage t; inside = tt; pages = tt; fresh = tt }, rw (t, checkFree)))
+      (λ t. either (freeFits b k size p m)
+      (λ u.
+      let f = free-found n (rightAt b p) (set m (p / pageSize) 1) (rw (t, u, checkFree) at e) in
+      (p ∷ f .0, free-onto p m (f .0) u (f .1), rw (t, u, checkFree) (f .2)))
+      (λ u. contra (rw (t, u, checkFree) at e) refl))
+
+  free-fits : (p : ℕ) (m : List ℕ) → isPage size p ≡ true → FreePage b p → getD m (p / pageSize) 0 ≡ 0 → freeFits b k size p m ≡ true
+  unfolding freeFits
+  free-fits p m i f e = join _ _ i (join _ _ (page-free p f) (eq-eqb _ _ e))
+
+  -- and back: the free list is passed if at most n pages are on it
+  pub free-passed : size ≤ maxBytes → (n p : ℕ) (m ps : List ℕ) → length ps ≤ n → Free p m ps → checkFree b k size n p m ≡ (true, markAll m ps)
+  unfolding checkFree
+  free-passed most zero p m [] l f = rw (eq-eqb p noPage (f .chained))
+  free-passed most zero p m (q ∷ ps) l f = absurd (omega arith)
+  free-passed most (suc n) p m [] l f = rw (eq-eqb p noPage (f .chained), checkFree)
+  free-passed most (suc n) p m (q ∷ ps) l f =
+      let e = f .chained .0 in
+      let i = is-page size q (f .inside .0) in
+      let some : eqb q noPage ≡ false = ne-eqb q noPage (λ z. omega arith) in
+      let fits = free-fits q m (f .inside .0) (f .pages .0) (f .fresh .0) in
+      rw (e, some, fits, checkFree)
+      (free-passed most n (rightAt b q) (set m (q / pageSize) 1) ps (omega arith)
+      (record { chained = f .chained .1; inside = f .inside .1; pages = f .pages .1; fresh = f .fresh .1 }))
