@@ -68,10 +68,8 @@ module _ {K : Type 0} (s : Setting K) where
   next (insertion k r) i = cond (isAccepted (answer (insertion k r) i)) (inserted k r i) i
   next (lookupOf k) i = i
 
-  -- the links after a call
-  abbrev pub nextLinks : Call K → Index K → Links → Links
-  nextLinks (insertion k r) i l =
-      cond (isAccepted (answer (insertion k r) i))
-      (relinked (s .order) noPage (newOffset (i .size)) (s .capacity) k (i .height) (i .tree)
-      (insert (s .order) (s .capacity) (newOffset (i .size)) k r (i .height) (i .tree)) l) l
-  nextLinks (lookupOf k) i l = l
+  -- the links after an accepted insertion
+  abbrev pub insertedLinks : K → ℕ → Index K → Links → Links
+  insertedLinks k r i l =
+      relinked (s .order) noPage (newOffset (i .size)) (s .capacity) k (i .height) (i .tree)
+      (insert (s .order) (s .capacity) (newOffset (i .size)) k r (i .height) (i .tree)) l

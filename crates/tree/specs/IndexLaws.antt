@@ -1,4 +1,4 @@
--- Laws: a fresh index is sound; every call keeps a sound index sound and linked, and answers and changes it as the book does. Cited by the theorem about
+-- Laws: a fresh index is sound; an insertion keeps a sound index sound and linked; every call answers and changes it as the book does. Cited by the theorem about
 -- lists of calls and by the laws of bytes. Assumes nothing.
 use mathlib.Core.Path.{_≡_, refl, sym}
 use mathlib.Core.Bool.{Bool, true, false, not, _||_}
@@ -27,7 +27,7 @@ use Rattle.tree.specs.InsertNeeds.{insert-needs}
 use Rattle.tree.specs.InsertLinks.{insert-all-linked}
 use Rattle.tree.specs.Book.{Call, insertion, lookupOf, Answer, accepted, refusedIf, isPresent, verdict, isNoRoom, isAccepted}
 use Rattle.tree.specs.Book.{bookAnswer, bookAfter}
-use Rattle.tree.specs.Index.{newOffset, Index, held, fresh, grown, Setting, outOfRoom, noRoomFor, answer, inserted, next, nextLinks}
+use Rattle.tree.specs.Index.{newOffset, Index, held, fresh, grown, Setting, outOfRoom, noRoomFor, answer, inserted, insertedLinks, next}
 use Rattle.tree.specs.SoundIndex.{PagesOnce, SoundIndex, LinkedIndex}
 
 -- the verdict on an insertion does not change if it is told whether it was 30
@@ -142,7 +142,8 @@ fresh-sound s two room levels = record {
 }
 
 module _ {K : Type 0} (s : Setting K) (two : 1 < s .capacity) where
-  inserted-sound : (i : Index K) (k : K) (r : ℕ) → 0 < r → find (s .order) k (held i) ≡ none → outOfRoom s k i ≡ false → SoundIndex s i →
+  -- Theorem: an insertion of a key that is not there, with room for it, keeps an index sound
+  pub inserted-sound : (i : Index K) (k : K) (r : ℕ) → 0 < r → find (s .order) k (held i) ≡ none → outOfRoom s k i ≡ false → SoundIndex s i →
       SoundIndex s (inserted s k r i)
   inserted-sound i k r pos f room d =
       let h : ℕ = i .height in
@@ -167,26 +168,15 @@ module _ {K : Type 0} (s : Setting K) (two : 1 < s .capacity) where
         withinLevels = omega (arith, needed .1, ltb-false (s .maxLevels) levels (rooms .1));
       }
 
-  -- Theorem: a call keeps an index sound
-  pub next-sound : (c : Call K) (i : Index K) → SoundIndex s i → SoundIndex s (next s c i)
-  next-sound (lookupOf k) i d = d
-  next-sound (insertion k r) i d = either (isAccepted (answer s (insertion k r) i))
-      (λ e. let a : Acceptable (s .fits k) r (find (s .order) k (held i)) (outOfRoom s k i) =
-      accepted-acceptable (s .fits k) r (find (s .order) k (held i)) (outOfRoom s k i) e in
-      rw e (inserted-sound i k r (a .positive) (a .new) (a .room) d))
-      (λ e. rw e d)
-
-  -- Theorem: a call keeps the levels linked
-  pub next-linked : (c : Call K) (i : Index K) (l : Links) → SoundIndex s i → LinkedIndex l i → LinkedIndex (nextLinks s c i l) (next s c i)
-  next-linked (lookupOf k) i l d c = c
-  next-linked (insertion k r) i l d c = either (isAccepted (answer s (insertion k r) i))
-      (λ e. let p : PagesOnce i = d .pagesOnce in
-      let g : SoundIndex s (inserted s k r i) = rw e at (next-sound (insertion k r) i d) in
-      rw e (insert-all-linked (s .order) (s .capacity) (omega arith) (newOffset (i .size)) (λ a b u. omega arith)
+  -- Theorem: such an insertion keeps the levels linked
+  pub inserted-linked : (i : Index K) (k : K) (r : ℕ) (l : Links) → SoundIndex s i → SoundIndex s (inserted s k r i) → LinkedIndex l i →
+      LinkedIndex (insertedLinks s k r i l) (inserted s k r i)
+  inserted-linked i k r l d g c =
+      let p : PagesOnce i = d .pagesOnce in
+      insert-all-linked (s .order) (s .capacity) (omega arith) (newOffset (i .size)) (λ a b u. omega arith)
       noPage (λ a u. omega (arith, p .aligned)) k r (i .height) (i .tree) (d .sized)
       (pages-distinct i p) (newPage-unused i p) (p .unaligned noPage (λ u. omega arith)) l
-      (pages-distinct (inserted s k r i) (g .pagesOnce)) c))
-      (λ e. rw e c)
+      (pages-distinct (inserted s k r i) (g .pagesOnce)) c
 
   -- Theorem: a call is answered as the book answers it, if the book is told whether the answer is 30, or what the rule for 30 says
   pub answer-book : (c : Call K) (i : Index K) → SoundIndex s i →
