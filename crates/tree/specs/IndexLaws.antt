@@ -22,12 +22,14 @@ use Rattle.tree.specs.InsertOrdered.{insert-ordered}
 use Rattle.tree.specs.Exact.{insert-exact}
 use Rattle.tree.specs.ClauseLaws.{sized-rooted}
 use Rattle.tree.specs.InsertSized.{insert-sized}
+use Rattle.tree.specs.Supply.{takenPage, sizeAfter}
+use Rattle.tree.specs.SupplyLaws.{taken-injective, taken-some, taken-below, taken-beyond, taken-unaligned, taken-once}
 use Rattle.tree.specs.InsertPages.{newPages, Distinct, Unused, insert-pages}
 use Rattle.tree.specs.InsertNeeds.{insert-needs}
 use Rattle.tree.specs.InsertLinks.{insert-all-linked}
 use Rattle.tree.specs.Book.{Call, insertion, lookupOf, Answer, accepted, refusedIf, isPresent, verdict, isNoRoom, isAccepted}
 use Rattle.tree.specs.Book.{bookAnswer, bookAfter}
-use Rattle.tree.specs.Index.{newOffset, Index, held, fresh, grown, Setting, outOfRoom, noRoomFor, answer, inserted, insertedLinks, next}
+use Rattle.tree.specs.Index.{Index, held, fresh, grown, Setting, outOfRoom, noRoomFor, answer, inserted, insertedLinks, next}
 use Rattle.tree.specs.SoundIndex.{PagesOnce, SoundIndex, LinkedIndex}
 
 -- the verdict on an insertion does not change if it is told whether it was 30
@@ -65,27 +67,6 @@ accepted-acceptable true r held full e = either (eqb r 0)
     go none true p q = contra q refl
     go none false p q = record { fitting = refl; positive = p; new = refl; room = refl }
 
--- the offsets of new pages are the multiples of 512 from F up to the new F
-newPages-below : (size n z : ℕ) → z < size → occ z (newPages (newOffset size) n) ≡ 0
-newPages-below size zero z l = refl
-newPages-below size (suc n) z l = rw (ne-eqb z (newOffset size n) (omega arith)) (omega (arith, newPages-below size n z l))
-
-newPages-beyond : (size n z : ℕ) → newOffset size n ≤ z → occ z (newPages (newOffset size) n) ≡ 0
-newPages-beyond size zero z l = refl
-newPages-beyond size (suc n) z l = rw (ne-eqb z (newOffset size n) (omega arith)) (omega (arith, newPages-beyond size n z (omega arith)))
-
-newPages-unaligned : (size n z : ℕ) → size % pageSize ≡ 0 → (z % pageSize ≡ 0 → ⊥) → occ z (newPages (newOffset size) n) ≡ 0
-newPages-unaligned size zero z a o = refl
-newPages-unaligned size (suc n) z a o =
-    rw (ne-eqb z (newOffset size n) (λ e. o (omega arith))) (omega (arith, newPages-unaligned size n z a o))
-
-newPages-once : (size n z : ℕ) → size % pageSize ≡ 0 → z % pageSize ≡ 0 → size ≤ z → z < newOffset size n →
-    occ z (newPages (newOffset size) n) ≡ 1
-newPages-once size zero z a d l m = absurd (omega arith)
-newPages-once size (suc n) z a d l m = either (eqb z (newOffset size n))
-    (λ e. rw e (omega (arith, newPages-beyond size n z (omega (arith, eqb-true z (newOffset size n) e)))))
-    (λ e. rw e (omega (arith, newPages-once size n z a d l (omega (arith, eqb-false z (newOffset size n) e)))))
-
 -- each page is reached at most once, and no new page is among them
 module _ {K : Type 0} (i : Index K) (p : PagesOnce i) where
   pub pages-distinct : Distinct (pages (i .height) (i .tree))
@@ -97,12 +78,12 @@ module _ {K : Type 0} (i : Index K) (p : PagesOnce i) where
       (λ m. omega (arith, p .unaligned z (eqb-false (z % pageSize) 0 m)))))
       (λ e. omega (arith, p .beyond z (ltb-false z (i .size) e)))
 
-  pub newPage-unused : Unused (newOffset (i .size)) (pages (i .height) (i .tree))
-  newPage-unused j = p .beyond (newOffset (i .size) j) (omega arith)
+  pub taken-unused : Unused (takenPage (i .size)) (pages (i .height) (i .tree))
+  taken-unused j = p .beyond (takenPage (i .size) j) (omega arith)
 
   -- after an insertion each page is reached at most once again
   grown-pages : (g : Grown K) →
-      ((z : ℕ) → occ z (grownPages g) ≡ occ z (pages (i .height) (i .tree)) + occ z (newPages (newOffset (i .size)) (g .2))) →
+      ((z : ℕ) → occ z (grownPages g) ≡ occ z (pages (i .height) (i .tree)) + occ z (newPages (takenPage (i .size)) (g .2))) →
       PagesOnce (grown (i .size) g)
   grown-pages g counts =
       let F : ℕ = i .size in
@@ -110,12 +91,12 @@ module _ {K : Type 0} (i : Index K) (p : PagesOnce i) where
       record {
         positive = omega (arith, p .positive);
         aligned = omega (arith, p .aligned);
-        header = omega (arith, counts 0, p .header, newPages-below F n 0 (p .positive));
+        header = omega (arith, counts 0, p .header, taken-below F n 0 (p .positive));
         once = λ z a b m. either (ltb z F)
-            (λ e. let l : z < F = ltb-true z F e in omega (arith, counts z, p .once z a l m, newPages-below F n z l))
-            (λ e. let l : F ≤ z = ltb-false z F e in omega (arith, counts z, p .beyond z l, newPages-once F n z (p .aligned) m l b));
-        unaligned = λ z o. omega (arith, counts z, p .unaligned z o, newPages-unaligned F n z (p .aligned) o);
-        beyond = λ z a. omega (arith, counts z, p .beyond z (omega arith), newPages-beyond F n z a);
+            (λ e. let l : z < F = ltb-true z F e in omega (arith, counts z, p .once z a l m, taken-below F n z l))
+            (λ e. let l : F ≤ z = ltb-false z F e in omega (arith, counts z, p .beyond z l, taken-once F n z (p .aligned) m l b));
+        unaligned = λ z o. omega (arith, counts z, p .unaligned z o, taken-unaligned F n z (p .aligned) o);
+        beyond = λ z a. omega (arith, counts z, p .beyond z (omega arith), taken-beyond F n z a);
       }
 
 -- neither limit is passed
@@ -147,13 +128,13 @@ module _ {K : Type 0} (s : Setting K) (two : 1 < s .capacity) where
       SoundIndex s (inserted s k r i)
   inserted-sound i k r pos f room d =
       let h : ℕ = i .height in
-      let name : ℕ → ℕ = newOffset (i .size) in
+      let name : ℕ → ℕ = takenPage (i .size) in
       let g : Grown K = insert (s .order) (s .capacity) name k r h (i .tree) in
       let rooted : Rooted h (i .tree) = sized-rooted (s .capacity) h (i .tree) (d .sized) in
       let needed : (g .2 ≡ needs (s .order) (s .capacity) k h (i .tree))
       × (suc (g .0) ≡ levelsAfter (s .order) (s .capacity) k h (i .tree)) =
       insert-needs (s .order) (s .capacity) name k r h (i .tree) (omega arith) (d .sized) in
-      let limit : ℕ = newOffset (i .size) (needs (s .order) (s .capacity) k h (i .tree)) in
+      let limit : ℕ = sizeAfter (i .size) (needs (s .order) (s .capacity) k h (i .tree)) in
       let levels : ℕ = levelsAfter (s .order) (s .capacity) k h (i .tree) in
       let rooms : (ltb (s .maxSize) limit ≡ false) × (ltb (s .maxLevels) levels ≡ false) =
       room-both (ltb (s .maxSize) limit) (ltb (s .maxLevels) levels) room in
@@ -173,9 +154,9 @@ module _ {K : Type 0} (s : Setting K) (two : 1 < s .capacity) where
       LinkedIndex (insertedLinks s k r i l) (inserted s k r i)
   inserted-linked i k r l d g c =
       let p : PagesOnce i = d .pagesOnce in
-      insert-all-linked (s .order) (s .capacity) (omega arith) (newOffset (i .size)) (λ a b u. omega arith)
-      noPage (λ a u. omega (arith, p .aligned)) k r (i .height) (i .tree) (d .sized)
-      (pages-distinct i p) (newPage-unused i p) (p .unaligned noPage (λ u. omega arith)) l
+      insert-all-linked (s .order) (s .capacity) (omega arith) (takenPage (i .size)) (taken-injective (i .size))
+      noPage (taken-some (i .size) (p .aligned)) k r (i .height) (i .tree) (d .sized)
+      (pages-distinct i p) (taken-unused i p) (p .unaligned noPage (λ u. omega arith)) l
       (pages-distinct (inserted s k r i) (g .pagesOnce)) c
 
   -- Theorem: a call is answered as the book answers it, if the book is told whether the answer is 30, or what the rule for 30 says
@@ -204,5 +185,5 @@ module _ {K : Type 0} (s : Setting K) (two : 1 < s .capacity) where
       rw (answer-book (insertion k r) i d)
       (either (isAccepted (answer s (insertion k r) i))
       (λ e. let rooted : Rooted (i .height) (i .tree) = sized-rooted (s .capacity) (i .height) (i .tree) (d .sized) in
-      rw e (sym (insert-pairs (s .order) (s .capacity) (newOffset (i .size)) k r (i .height) (i .tree) rooted (d .ordered))))
+      rw e (sym (insert-pairs (s .order) (s .capacity) (takenPage (i .size)) k r (i .height) (i .tree) rooted (d .ordered))))
       (λ e. rw e))
