@@ -6,14 +6,15 @@ use mathlib.Core.Option.{Option, none, some}
 use Prim.Native.Nat.{ℕ}
 use lib.Dec.{eqb}
 use Rattle.tree.specs.Order.{Order}
-use Rattle.tree.specs.Pairs.{get, insertPair}
+use Rattle.tree.specs.Pairs.{get, insertPair, removePair}
 
 -- the arguments of a call, "the buffer left out"
 pub data Call (K : Type 0) : Type 0 where
   insertion : K → ℕ → Call K
+  removalOf : K → Call K
   lookupOf : K → Call K
 
--- a refusal with its number; an insertion's yes; a lookup's record, or absent
+-- a refusal with its number; an insertion's or a removal's yes; a lookup's record, or absent
 pub data Answer : Type 0 where
   refused : ℕ → Answer
   accepted : Answer
@@ -34,6 +35,10 @@ isPresent (some r) = true
 abbrev pub verdict : Bool → ℕ → Option ℕ → Bool → Answer
 verdict fits r held full =
     refusedIf (not fits) 27 (refusedIf (eqb r 0) 28 (refusedIf (isPresent held) 29 (refusedIf full 30 accepted)))
+
+-- removal: "27 for a key not of k bytes, else 33 for a key not in it"; then accepted
+abbrev pub striking : Bool → Option ℕ → Answer
+striking fits held = refusedIf (not fits) 27 (refusedIf (not (isPresent held)) 33 accepted)
 
 -- what a lookup that is not refused answers
 abbrev pub foundOrAbsent : Option ℕ → Answer
@@ -75,11 +80,14 @@ module _ {K : Type 0} (O : Order K) (fits : K → Bool) where
   -- the book's answer to a call, told whether the answer was 30
   abbrev pub bookAnswer : Call K → Bool → List (K × ℕ) → Answer
   bookAnswer (insertion k r) full book = verdict (fits k) r (get O k book) full
+  bookAnswer (removalOf k) full book = striking (fits k) (get O k book)
   bookAnswer (lookupOf k) full book = finding (fits k) (get O k book)
 
-  -- the book after a call: "none of these changes the book, nor does 30. Otherwise it is accepted and its pair goes in"
+  -- the book after a call: "none of these changes the book, nor does 30. Otherwise it is accepted and its pair goes in"; after
+  -- a removal that is accepted "the pair goes"
   abbrev pub bookAfter : Call K → Bool → List (K × ℕ) → List (K × ℕ)
   bookAfter (insertion k r) full book = cond (isAccepted (verdict (fits k) r (get O k book) full)) (insertPair O k r book) book
+  bookAfter (removalOf k) full book = cond (isAccepted (bookAnswer (removalOf k) full book)) (removePair O k book) book
   bookAfter (lookupOf k) full book = book
 
   -- the book's answers to a list of calls, and the book after it

@@ -6,7 +6,7 @@ use mathlib.Core.List.{List, [], _∷_}
 use Prim.Native.Nat.{ℕ, _<_}
 use Rattle.basis.specs.Lists.{All}
 use Rattle.tree.specs.Order.{Order}
-use Rattle.tree.specs.Book.{Call, insertion, lookupOf, Answer, isNoRoom, noRooms, resultsOf, finalOf, bookAnswer, bookAfter}
+use Rattle.tree.specs.Book.{Call, insertion, removalOf, lookupOf, Answer, isNoRoom, noRooms, resultsOf, finalOf, bookAnswer, bookAfter}
 use Rattle.tree.specs.Book.{bookAnswers, bookFinal, BookClaim}
 use Rattle.tree.specs.Index.{Index, held, Setting, noRoomFor, answer, next}
 use Rattle.tree.specs.SoundIndex.{SoundIndex}
@@ -16,6 +16,7 @@ use Rattle.tree.specs.IndexLaws.{answer-book, answer-room, next-book}
 bookAfter-same : {K : Type 0} (O : Order K) (fits : K → Bool) (c : Call K) (f g : Bool) (book : List (K × ℕ)) →
     bookAnswer O fits c f book ≡ bookAnswer O fits c g book → bookAfter O fits c f book ≡ bookAfter O fits c g book
 bookAfter-same O fits (insertion k r) f g book e = rw e
+bookAfter-same O fits (removalOf k) f g book e = refl
 bookAfter-same O fits (lookupOf k) f g book e = refl
 
 -- B are the states, each read as an index; Inv is what every call keeps, and Ok what is asked of a call (a record number of four bytes); a call's answer, its

@@ -97,12 +97,16 @@ pub mod PageCount
 pub mod Supply
 -- Laws: the pages that are taken from the supply
 pub mod SupplyLaws
--- Steps: an index as a tree with a file size, the rule for refusal 30, the calls
+-- Steps: an index as a tree with a free list and a file size, the rule for refusal 30, the calls
 pub mod Index
 -- Steps: what every call keeps of an index
 pub mod SoundIndex
+-- Laws: each page is in the tree once or on the free list once
+pub mod IndexPages
 -- Laws: a call keeps an index sound and linked, and answers as the book does
 pub mod IndexLaws
+-- Laws: F never shrinks, and is bounded by the pairs held; a key struck off and put in again is found
+pub mod ReuseLaws
 -- Laws: demand 3 for any state that is read as an index
 pub mod BookTheorem
 -- Laws: keys with one above all, for trees whose last children have no key

@@ -113,6 +113,19 @@ module _ {K : Type 0} (O : Order K) where
       (λ e. rw e)
       (λ e. rw e (ap (λ l. x ∷ l) (removePair-here k a xs ys h v)))
 
+  -- a pair that is put in is found, and a key that is struck off an ascending list is not there any more
+  pub find-inserted : {C : Type 0} (k : K) (r : C) (xs : List (K × C)) → find O k (insertPair O k r xs) ≡ some r
+  find-inserted k r [] = rw (le-refl O k)
+  find-inserted k r (x ∷ xs) = either (O .le k (x .0)) (λ e. rw (e, le-refl O k)) (λ e. rw (e, e) (find-inserted k r xs))
+
+  pub get-removed : {C : Type 0} (k : K) (xs : List (K × C)) → Ascending O xs → get O k (removePair O k xs) ≡ none
+  get-removed k [] a = refl
+  get-removed k (x ∷ xs) a = either (O .le k (x .0))
+      (λ e. either (O .le (x .0) k)
+      (λ f. rw (e, f) (get-above k (x .0) xs e (a .0)))
+      (λ f. rw (e, f, e, f) (get-removed k xs (a .1))))
+      (λ e. rw (e, e) (get-removed k xs (a .1)))
+
   -- what holds of the new pair and of all the old ones holds of all
   pub insertPair-all : {C : Type 0} (P : K × C → Type 0) (k : K) (r : C) (xs : List (K × C)) → P (k, r) → All P xs →
       All P (insertPair O k r xs)
