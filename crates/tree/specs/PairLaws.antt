@@ -115,8 +115,8 @@ module _ {K : Type 0} (O : Order K) where
 
   -- a pair that is put in is found, and a key that is struck off an ascending list is not there any more
   pub find-inserted : {C : Type 0} (k : K) (r : C) (xs : List (K × C)) → find O k (insertPair O k r xs) ≡ some r
-  find-inserted k r [] = rw (le-refl O k)
-  find-inserted k r (x ∷ xs) = either (O .le k (x .0)) (λ e. rw (e, le-refl O k)) (λ e. rw (e, e) (find-inserted k r xs))
+  find-inserted k r [] = rw (le-refl O k, le-refl O k)
+  find-inserted k r (x ∷ xs) = either (O .le k (x .0)) (λ e. rw (e, le-refl O k, le-refl O k)) (λ e. rw (e, e) (find-inserted k r xs))
 
   pub get-removed : {C : Type 0} (k : K) (xs : List (K × C)) → Ascending O xs → get O k (removePair O k xs) ≡ none
   get-removed k [] a = refl

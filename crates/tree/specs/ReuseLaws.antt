@@ -40,7 +40,7 @@ freeAfter-none (suc n) [] l = refl
 freeAfter-none (suc n) (f ∷ fs) l = freeAfter-none n fs (omega arith)
 
 module _ {K : Type 0} (s : Setting K) where
-  pub fresh-bounded : (m : ℕ) → 0 < m → 0 < s .maxLevels → fresh {K} .size ≤ sizeFor s m
+  pub fresh-bounded : (m : ℕ) → 0 < m → 0 < s .maxLevels → fresh {K = K} .size ≤ sizeFor s m
   fresh-bounded m pos levels = let one : 1 * 1 ≤ s .maxLevels * m = mul-le-mul levels pos in omega arith
 
   -- an index with no free page is as small as the pages of its tree allow
@@ -112,6 +112,6 @@ module _ {K : Type 0} (s : Setting K) where
           (takenPage (j .free) (j .size)) k r (j .height) (j .tree) (sized-rooted (s .capacity) (j .height) (j .tree) (struck .sized))
           (struck .ordered) in
           rw (yes, can .fitting) (
-            rw (not-there, (rw yes at room), ne-eqb r 0 (omega arith))
-            (ap (finding true) (lookup-find (s .order) k (inserted s k r j .height) (inserted s k r j .tree) (back .ordered)
-            ∙ (ap (find (s .order) k) put ∙ find-inserted (s .order) k r (held j)))))
+          rw (not-there, (rw yes at room), ne-eqb r 0 (omega arith))
+          (ap (finding true) (lookup-find (s .order) k (inserted s k r j .height) (inserted s k r j .tree) (back .ordered)
+          ∙ (ap (find (s .order) k) put ∙ find-inserted (s .order) k r (held j)))))
