@@ -2,7 +2,6 @@
 -- lists of calls and by the laws of bytes. Assumes nothing.
 use mathlib.Core.Path.{_≡_, refl, sym}
 use mathlib.Core.Bool.{Bool, true, false, not, _||_}
-use mathlib.Core.Option.{Option, none, some}
 use Prim.Native.Nat.{ℕ, zero, suc, _+_, _*_, _%_, _≤_, _<_}
 use native.Mathlib.Omega.{arith}
 use lib.Dec.{ltb, eqb}
@@ -10,30 +9,32 @@ use borrow.Author.Tests.{ltb-true, ltb-false, eqb-true, eqb-false, eq-eqb, ne-eq
 use Rattle.basis.specs.Tests.{either, contra}
 use Rattle.tree.specs.Constants.{pageSize, noPage}
 use Rattle.tree.specs.Lists.{occ}
-use Rattle.tree.specs.Pairs.{find}
+use Rattle.tree.specs.Pairs.{has}
 use Rattle.tree.specs.PairLaws.{find-get, insertPair-all}
 use Rattle.tree.specs.Tree.{pages}
 use Rattle.tree.specs.Clauses.{Links}
 use Rattle.tree.specs.Insertion.{Grown, grownPages, insert}
 use Rattle.tree.specs.Room.{needs, levelsAfter}
 use Rattle.tree.specs.Ordered.{Rooted, lookup-find, ordered-ascending}
+use Rattle.tree.specs.RouteLaws.{Leading, distinct-leading}
 use Rattle.tree.specs.InsertPairs.{insert-pairs}
 use Rattle.tree.specs.InsertOrdered.{insert-ordered}
 use Rattle.tree.specs.Exact.{insert-exact}
 use Rattle.tree.specs.ClauseLaws.{sized-rooted}
 use Rattle.tree.specs.InsertSized.{insert-sized}
+use Rattle.tree.specs.Supply.{takenPage, sizeAfter}
+use Rattle.tree.specs.SupplyLaws.{taken-injective, taken-some, taken-below, taken-beyond, taken-unaligned, taken-once}
 use Rattle.tree.specs.InsertPages.{newPages, Distinct, Unused, insert-pages}
 use Rattle.tree.specs.InsertNeeds.{insert-needs}
 use Rattle.tree.specs.InsertLinks.{insert-all-linked}
-use Rattle.tree.specs.Book.{Call, insertion, lookupOf, Answer, accepted, refusedIf, isPresent, verdict, isNoRoom, isAccepted}
+use Rattle.tree.specs.Book.{Call, insertion, lookupOf, Answer, accepted, refusedIf, verdict, isNoRoom, isAccepted}
 use Rattle.tree.specs.Book.{bookAnswer, bookAfter}
-use Rattle.tree.specs.Index.{newOffset, Index, held, fresh, grown, Setting, outOfRoom, noRoomFor, answer, inserted, next, nextLinks}
+use Rattle.tree.specs.Index.{Index, held, fresh, grown, Setting, keptBy, outOfRoom, noRoomFor, answer, inserted, next, nextLinks}
 use Rattle.tree.specs.SoundIndex.{PagesOnce, SoundIndex, LinkedIndex}
 
 -- the verdict on an insertion does not change if it is told whether it was 30
-verdict-room : (fits : Bool) (r : ℕ) (held : Option ℕ) (full : Bool) →
-    verdict fits r held (isNoRoom (verdict fits r held full)) ≡ verdict fits r held full
-verdict-room fits r held full = go (not fits) (eqb r 0) (isPresent held) full
+verdict-room : (fits : Bool) (r : ℕ) (held full : Bool) → verdict fits r held (isNoRoom (verdict fits r held full)) ≡ verdict fits r held full
+verdict-room fits r held full = go (not fits) (eqb r 0) held full
   where
     four : Bool → Bool → Bool → Bool → Answer
     four a b c d = refusedIf a 27 (refusedIf b 28 (refusedIf c 29 (refusedIf d 30 accepted)))
@@ -46,45 +47,22 @@ verdict-room fits r held full = go (not fits) (eqb r 0) (isPresent held) full
     go false false false false = refl
 
 -- the verdict is yes only if no refusal's test holds
-pub record Acceptable (fits : Bool) (r : ℕ) (held : Option ℕ) (full : Bool) : Type 0 where
+pub record Acceptable (fits : Bool) (r : ℕ) (held full : Bool) : Type 0 where
   pub fitting : fits ≡ true
   pub positive : 0 < r
-  pub new : held ≡ none
+  pub new : held ≡ false
   pub room : full ≡ false
 
-pub accepted-acceptable : (fits : Bool) (r : ℕ) (held : Option ℕ) (full : Bool) → isAccepted (verdict fits r held full) ≡ true →
-    Acceptable fits r held full
+pub accepted-acceptable : (fits : Bool) (r : ℕ) (held full : Bool) → isAccepted (verdict fits r held full) ≡ true → Acceptable fits r held full
 accepted-acceptable false r held full e = contra e refl
 accepted-acceptable true r held full e = either (eqb r 0)
     (λ z. contra (rw z at e) refl)
     (λ z. go held full (omega (arith, eqb-false r 0 z)) (rw z at e))
   where
-    go : (o : Option ℕ) (b : Bool) → 0 < r → isAccepted (refusedIf (isPresent o) 29 (refusedIf b 30 accepted)) ≡ true →
-        Acceptable true r o b
-    go (some s) b p q = contra q refl
-    go none true p q = contra q refl
-    go none false p q = record { fitting = refl; positive = p; new = refl; room = refl }
-
--- the offsets of new pages are the multiples of 512 from F up to the new F
-newPages-below : (size n z : ℕ) → z < size → occ z (newPages (newOffset size) n) ≡ 0
-newPages-below size zero z l = refl
-newPages-below size (suc n) z l = rw (ne-eqb z (newOffset size n) (omega arith)) (omega (arith, newPages-below size n z l))
-
-newPages-beyond : (size n z : ℕ) → newOffset size n ≤ z → occ z (newPages (newOffset size) n) ≡ 0
-newPages-beyond size zero z l = refl
-newPages-beyond size (suc n) z l = rw (ne-eqb z (newOffset size n) (omega arith)) (omega (arith, newPages-beyond size n z (omega arith)))
-
-newPages-unaligned : (size n z : ℕ) → size % pageSize ≡ 0 → (z % pageSize ≡ 0 → ⊥) → occ z (newPages (newOffset size) n) ≡ 0
-newPages-unaligned size zero z a o = refl
-newPages-unaligned size (suc n) z a o =
-    rw (ne-eqb z (newOffset size n) (λ e. o (omega arith))) (omega (arith, newPages-unaligned size n z a o))
-
-newPages-once : (size n z : ℕ) → size % pageSize ≡ 0 → z % pageSize ≡ 0 → size ≤ z → z < newOffset size n →
-    occ z (newPages (newOffset size) n) ≡ 1
-newPages-once size zero z a d l m = absurd (omega arith)
-newPages-once size (suc n) z a d l m = either (eqb z (newOffset size n))
-    (λ e. rw e (omega (arith, newPages-beyond size n z (omega (arith, eqb-true z (newOffset size n) e)))))
-    (λ e. rw e (omega (arith, newPages-once size n z a d l (omega (arith, eqb-false z (newOffset size n) e)))))
+    go : (h f : Bool) → 0 < r → isAccepted (refusedIf h 29 (refusedIf f 30 accepted)) ≡ true → Acceptable true r h f
+    go true f p q = contra q refl
+    go false true p q = contra q refl
+    go false false p q = record { fitting = refl; positive = p; new = refl; room = refl }
 
 -- each page is reached at most once, and no new page is among them
 module _ {K : Type 0} (i : Index K) (p : PagesOnce i) where
@@ -97,12 +75,12 @@ module _ {K : Type 0} (i : Index K) (p : PagesOnce i) where
       (λ m. omega (arith, p .unaligned z (eqb-false (z % pageSize) 0 m)))))
       (λ e. omega (arith, p .beyond z (ltb-false z (i .size) e)))
 
-  pub newPage-unused : Unused (newOffset (i .size)) (pages (i .height) (i .tree))
-  newPage-unused j = p .beyond (newOffset (i .size) j) (omega arith)
+  pub taken-unused : Unused (takenPage (i .size)) (pages (i .height) (i .tree))
+  taken-unused j = p .beyond (takenPage (i .size) j) (omega arith)
 
   -- after an insertion each page is reached at most once again
   grown-pages : (g : Grown K) →
-      ((z : ℕ) → occ z (grownPages g) ≡ occ z (pages (i .height) (i .tree)) + occ z (newPages (newOffset (i .size)) (g .2))) →
+      ((z : ℕ) → occ z (grownPages g) ≡ occ z (pages (i .height) (i .tree)) + occ z (newPages (takenPage (i .size)) (g .2))) →
       PagesOnce (grown (i .size) g)
   grown-pages g counts =
       let F : ℕ = i .size in
@@ -110,12 +88,12 @@ module _ {K : Type 0} (i : Index K) (p : PagesOnce i) where
       record {
         positive = omega (arith, p .positive);
         aligned = omega (arith, p .aligned);
-        header = omega (arith, counts 0, p .header, newPages-below F n 0 (p .positive));
+        header = omega (arith, counts 0, p .header, taken-below F n 0 (p .positive));
         once = λ z a b m. either (ltb z F)
-            (λ e. let l : z < F = ltb-true z F e in omega (arith, counts z, p .once z a l m, newPages-below F n z l))
-            (λ e. let l : F ≤ z = ltb-false z F e in omega (arith, counts z, p .beyond z l, newPages-once F n z (p .aligned) m l b));
-        unaligned = λ z o. omega (arith, counts z, p .unaligned z o, newPages-unaligned F n z (p .aligned) o);
-        beyond = λ z a. omega (arith, counts z, p .beyond z (omega arith), newPages-beyond F n z a);
+            (λ e. let l : z < F = ltb-true z F e in omega (arith, counts z, p .once z a l m, taken-below F n z l))
+            (λ e. let l : F ≤ z = ltb-false z F e in omega (arith, counts z, p .beyond z l, taken-once F n z (p .aligned) m l b));
+        unaligned = λ z o. omega (arith, counts z, p .unaligned z o, taken-unaligned F n z (p .aligned) o);
+        beyond = λ z a. omega (arith, counts z, p .beyond z (omega arith), taken-beyond F n z a);
       }
 
 -- neither limit is passed
@@ -142,27 +120,28 @@ fresh-sound s two room levels = record {
 }
 
 module _ {K : Type 0} (s : Setting K) (two : 1 < s .capacity) where
-  inserted-sound : (i : Index K) (k : K) (r : ℕ) → 0 < r → find (s .order) k (held i) ≡ none → outOfRoom s k i ≡ false → SoundIndex s i →
-      SoundIndex s (inserted s k r i)
-  inserted-sound i k r pos f room d =
+  inserted-sound : (i : Index K) (e : K × ℕ) → 0 < e .1 → has (keptBy s .pairLe) e (held i) ≡ false → outOfRoom s e i ≡ false → SoundIndex s i →
+      SoundIndex s (inserted s e i)
+  inserted-sound i e pos f room d =
       let h : ℕ = i .height in
-      let name : ℕ → ℕ = newOffset (i .size) in
-      let g : Grown K = insert (s .order) (s .capacity) name k r h (i .tree) in
+      let name : ℕ → ℕ = takenPage (i .size) in
+      let g : Grown K = insert (keptBy s) (s .capacity) name e h (i .tree) in
+      let leading : Leading (keptBy s) e = distinct-leading (s .order) e in
       let rooted : Rooted h (i .tree) = sized-rooted (s .capacity) h (i .tree) (d .sized) in
-      let needed : (g .2 ≡ needs (s .order) (s .capacity) k h (i .tree))
-      × (suc (g .0) ≡ levelsAfter (s .order) (s .capacity) k h (i .tree)) =
-      insert-needs (s .order) (s .capacity) name k r h (i .tree) (omega arith) (d .sized) in
-      let limit : ℕ = newOffset (i .size) (needs (s .order) (s .capacity) k h (i .tree)) in
-      let levels : ℕ = levelsAfter (s .order) (s .capacity) k h (i .tree) in
+      let needed : (g .2 ≡ needs (keptBy s .route e) (s .capacity) h (i .tree))
+      × (suc (g .0) ≡ levelsAfter (keptBy s .route e) (s .capacity) h (i .tree)) =
+      insert-needs (keptBy s) (s .capacity) name e h (i .tree) (omega arith) (d .sized) in
+      let limit : ℕ = sizeAfter (i .size) (needs (keptBy s .route e) (s .capacity) h (i .tree)) in
+      let levels : ℕ = levelsAfter (keptBy s .route e) (s .capacity) h (i .tree) in
       let rooms : (ltb (s .maxSize) limit ≡ false) × (ltb (s .maxLevels) levels ≡ false) =
       room-both (ltb (s .maxSize) limit) (ltb (s .maxLevels) levels) room in
       record {
-        ordered = insert-ordered (s .order) (s .capacity) (omega arith) name k r h (i .tree) rooted (d .ordered) f;
-        exact = insert-exact (s .order) (s .capacity) (omega arith) name k r h (i .tree) rooted (d .ordered) (d .exact);
-        sized = insert-sized (s .order) (s .capacity) two name k r h (i .tree) (d .sized);
-        pagesOnce = grown-pages i (d .pagesOnce) g (λ z. insert-pages (s .order) (s .capacity) name k r z h (i .tree));
-        records = rw (insert-pairs (s .order) (s .capacity) name k r h (i .tree) rooted (d .ordered))
-            (insertPair-all (s .order) (λ e. 0 < e .1) k r (held i) pos (d .records));
+        ordered = insert-ordered (keptBy s) (s .capacity) (omega arith) name e leading h (i .tree) rooted (d .ordered) f;
+        exact = insert-exact (s .order) (s .capacity) (omega arith) name e h (i .tree) rooted (d .ordered) (d .exact);
+        sized = insert-sized (keptBy s) (s .capacity) two name e h (i .tree) (d .sized);
+        pagesOnce = grown-pages i (d .pagesOnce) g (λ z. insert-pages (keptBy s) (s .capacity) name e z h (i .tree));
+        records = rw (insert-pairs (keptBy s) (s .capacity) name e leading h (i .tree) rooted (d .ordered))
+            (insertPair-all (keptBy s .pairLe) (λ x. 0 < x .1) e (held i) pos (d .records));
         withinSize = omega (arith, needed .0, ltb-false (s .maxSize) limit (rooms .0));
         withinLevels = omega (arith, needed .1, ltb-false (s .maxLevels) levels (rooms .1));
       }
@@ -171,9 +150,9 @@ module _ {K : Type 0} (s : Setting K) (two : 1 < s .capacity) where
   pub next-sound : (c : Call K) (i : Index K) → SoundIndex s i → SoundIndex s (next s c i)
   next-sound (lookupOf k) i d = d
   next-sound (insertion k r) i d = either (isAccepted (answer s (insertion k r) i))
-      (λ e. let a : Acceptable (s .fits k) r (find (s .order) k (held i)) (outOfRoom s k i) =
-      accepted-acceptable (s .fits k) r (find (s .order) k (held i)) (outOfRoom s k i) e in
-      rw e (inserted-sound i k r (a .positive) (a .new) (a .room) d))
+      (λ e. let a : Acceptable (s .fits k) r (has (keptBy s .pairLe) (k, r) (held i)) (outOfRoom s (k, r) i) =
+      accepted-acceptable (s .fits k) r (has (keptBy s .pairLe) (k, r) (held i)) (outOfRoom s (k, r) i) e in
+      rw e (inserted-sound i (k, r) (a .positive) (a .new) (a .room) d))
       (λ e. rw e d)
 
   -- Theorem: a call keeps the levels linked
@@ -181,11 +160,11 @@ module _ {K : Type 0} (s : Setting K) (two : 1 < s .capacity) where
   next-linked (lookupOf k) i l d c = c
   next-linked (insertion k r) i l d c = either (isAccepted (answer s (insertion k r) i))
       (λ e. let p : PagesOnce i = d .pagesOnce in
-      let g : SoundIndex s (inserted s k r i) = rw e at (next-sound (insertion k r) i d) in
-      rw e (insert-all-linked (s .order) (s .capacity) (omega arith) (newOffset (i .size)) (λ a b u. omega arith)
-      noPage (λ a u. omega (arith, p .aligned)) k r (i .height) (i .tree) (d .sized)
-      (pages-distinct i p) (newPage-unused i p) (p .unaligned noPage (λ u. omega arith)) l
-      (pages-distinct (inserted s k r i) (g .pagesOnce)) c))
+      let g : SoundIndex s (inserted s (k, r) i) = rw e at (next-sound (insertion k r) i d) in
+      rw e (insert-all-linked (keptBy s) (s .capacity) (omega arith) (takenPage (i .size)) (taken-injective (i .size))
+      noPage (taken-some (i .size) (p .aligned)) (k, r) (i .height) (i .tree) (d .sized)
+      (pages-distinct i p) (taken-unused i p) (p .unaligned noPage (λ u. omega arith)) l
+      (pages-distinct (inserted s (k, r) i) (g .pagesOnce)) c))
       (λ e. rw e c)
 
   -- Theorem: a call is answered as the book answers it, if the book is told whether the answer is 30, or what the rule for 30 says
@@ -197,14 +176,11 @@ module _ {K : Type 0} (s : Setting K) (two : 1 < s .capacity) where
         find-get (s .order) k (held i)
             (ordered-ascending (s .order) (i .height) (i .tree) (d .ordered)),
       )
-  answer-book (insertion k r) i d =
-      rw (← find-get (s .order) k (held i) (ordered-ascending (s .order) (i .height) (i .tree) (d .ordered)))
-      (verdict-room (s .fits k) r (find (s .order) k (held i)) (outOfRoom s k i))
+  answer-book (insertion k r) i d = verdict-room (s .fits k) r (has (keptBy s .pairLe) (k, r) (held i)) (outOfRoom s (k, r) i)
 
   pub answer-room : (c : Call K) (i : Index K) → SoundIndex s i → bookAnswer (s .order) (s .fits) c (noRoomFor s c i) (held i) ≡ answer s c i
   answer-room (lookupOf k) i d = answer-book (lookupOf k) i d
-  answer-room (insertion k r) i d =
-      rw (← find-get (s .order) k (held i) (ordered-ascending (s .order) (i .height) (i .tree) (d .ordered)))
+  answer-room (insertion k r) i d = refl
 
   -- Theorem: the leaf pairs after a call are the book after it
   pub next-book : (c : Call K) (i : Index K) → SoundIndex s i →
@@ -214,5 +190,5 @@ module _ {K : Type 0} (s : Setting K) (two : 1 < s .capacity) where
       rw (answer-book (insertion k r) i d)
       (either (isAccepted (answer s (insertion k r) i))
       (λ e. let rooted : Rooted (i .height) (i .tree) = sized-rooted (s .capacity) (i .height) (i .tree) (d .sized) in
-      rw e (sym (insert-pairs (s .order) (s .capacity) (newOffset (i .size)) k r (i .height) (i .tree) rooted (d .ordered))))
+      rw e (sym (insert-pairs (keptBy s) (s .capacity) (takenPage (i .size)) (k, r) (distinct-leading (s .order) (k, r)) (i .height) (i .tree) rooted (d .ordered))))
       (λ e. rw e))
