@@ -1,20 +1,21 @@
--- Laws: a fresh index is sound; an insertion keeps a sound index sound and linked; every call answers and changes it as the book does. Cited by the theorem about
+-- Laws: a fresh index is sound; every call keeps a sound index sound and linked, and answers and changes it as the book does. Cited by the theorem about
 -- lists of calls and by the laws of bytes. Assumes nothing.
-use mathlib.Core.Path.{_≡_, refl, sym}
+use mathlib.Core.Path.{_≡_, refl, sym, _∙_}
 use mathlib.Core.Bool.{Bool, true, false, not, _||_}
-use mathlib.Core.Option.{Option, none, some, IsSome}
 use Prim.Native.Nat.{ℕ, suc, _*_, _≤_, _<_}
 use native.Mathlib.Omega.{arith}
 use lib.Dec.{ltb, eqb}
 use borrow.Author.Tests.{ltb-false, eqb-false, eq-eqb, ne-eqb}
 use Rattle.basis.specs.Tests.{either, contra}
 use Rattle.tree.specs.Constants.{pageSize, noPage}
-use Rattle.tree.specs.Pairs.{find}
-use Rattle.tree.specs.PairLaws.{find-get, insertPair-all}
+use Rattle.tree.specs.Pairs.{has, removePair}
+use Rattle.tree.specs.PairLaws.{find-get, insertPair-all, present-has}
 use Rattle.tree.specs.Clauses.{Links}
+use Rattle.tree.specs.Keeping.{Route}
 use Rattle.tree.specs.Insertion.{Grown}
 use Rattle.tree.specs.Room.{needs, levelsAfter}
 use Rattle.tree.specs.Ordered.{Rooted, lookup-find, ordered-ascending}
+use Rattle.tree.specs.RouteLaws.{Leading, distinct-leading}
 use Rattle.tree.specs.InsertPairs.{insert-pairs}
 use Rattle.tree.specs.InsertOrdered.{insert-ordered}
 use Rattle.tree.specs.ClauseLaws.{sized-rooted}
@@ -24,62 +25,62 @@ use Rattle.tree.specs.SupplyLaws.{taken-injective, taken-some}
 use Rattle.tree.specs.InsertPages.{insert-pages}
 use Rattle.tree.specs.InsertNeeds.{insert-needs}
 use Rattle.tree.specs.InsertLinks.{insert-all-linked}
-use Rattle.tree.specs.Removal.{Route, routeTo}
 use Rattle.tree.specs.RemovalPairs.{remove-all, remove-pairs}
 use Rattle.tree.specs.RemovalOrdered.{remove-ordered}
 use Rattle.tree.specs.RemovalSized.{remove-sized, remove-low}
 use Rattle.tree.specs.RemovalLinks.{remove-all-linked}
-use Rattle.tree.specs.Book.{Call, insertion, removalOf, lookupOf, Answer, accepted, refusedIf, isPresent, verdict, striking, isNoRoom, isAccepted}
+use Rattle.tree.specs.Book.{Call, insertion, removalOf, lookupOf, Answer, KeyTests, accepted, refusedIf, verdict, striking, isNoRoom, isAccepted}
 use Rattle.tree.specs.Book.{bookAnswer, bookAfter}
-use Rattle.tree.specs.Index.{Index, held, fresh, Setting, outOfRoom, noRoomFor, answer, insertedTree, inserted, insertedLinks}
-use Rattle.tree.specs.Index.{removed, removedLinks, next}
+use Rattle.tree.specs.Index.{Index, held, fresh, Setting, keptBy, outOfRoom, noRoomFor, answer, insertedTree, strikingRoute}
+use Rattle.tree.specs.Index.{inserted, insertedLinks, removed, removedLinks, next}
 use Rattle.tree.specs.SoundIndex.{PagesOnce, SoundIndex, LinkedIndex}
 use Rattle.tree.specs.IndexPages.{pages-distinct, free-distinct, free-beyond, noPage-unused, taken-unused, grown-pages, removed-pages}
 
 -- the verdict on an insertion does not change if it is told whether it was 30
-verdict-room : (fits : Bool) (r : ℕ) (held : Option ℕ) (full : Bool) →
-    verdict fits r held (isNoRoom (verdict fits r held full)) ≡ verdict fits r held full
-verdict-room fits r held full = go (not fits) (eqb r 0) (isPresent held) full
+verdict-room : (fits barred : Bool) (r : ℕ) (held full : Bool) →
+    verdict fits barred r held (isNoRoom (verdict fits barred r held full)) ≡ verdict fits barred r held full
+verdict-room fits barred r held full = go (not fits) barred (eqb r 0) held full
   where
-    four : Bool → Bool → Bool → Bool → Answer
-    four a b c d = refusedIf a 27 (refusedIf b 28 (refusedIf c 29 (refusedIf d 30 accepted)))
+    five : Bool → Bool → Bool → Bool → Bool → Answer
+    five a b c d e = refusedIf a 27 (refusedIf b 32 (refusedIf c 28 (refusedIf d 29 (refusedIf e 30 accepted))))
 
-    go : (a b c d : Bool) → four a b c (isNoRoom (four a b c d)) ≡ four a b c d
-    go true b c d = refl
-    go false true c d = refl
-    go false false true d = refl
-    go false false false true = refl
-    go false false false false = refl
+    go : (a b c d e : Bool) → five a b c d (isNoRoom (five a b c d e)) ≡ five a b c d e
+    go true b c d e = refl
+    go false true c d e = refl
+    go false false true d e = refl
+    go false false false true e = refl
+    go false false false false true = refl
+    go false false false false false = refl
 
 -- the verdict is yes only if no refusal's test holds
-pub record Acceptable (fits : Bool) (r : ℕ) (held : Option ℕ) (full : Bool) : Type 0 where
+pub record Acceptable (fits : Bool) (r : ℕ) (held full : Bool) : Type 0 where
   pub fitting : fits ≡ true
   pub positive : 0 < r
-  pub new : held ≡ none
+  pub new : held ≡ false
   pub room : full ≡ false
 
-pub accepted-acceptable : (fits : Bool) (r : ℕ) (held : Option ℕ) (full : Bool) → isAccepted (verdict fits r held full) ≡ true →
+pub accepted-acceptable : (fits barred : Bool) (r : ℕ) (held full : Bool) → isAccepted (verdict fits barred r held full) ≡ true →
     Acceptable fits r held full
-accepted-acceptable false r held full e = contra e refl
-accepted-acceptable true r held full e = either (eqb r 0)
+accepted-acceptable false barred r held full e = contra e refl
+accepted-acceptable true true r held full e = contra e refl
+accepted-acceptable true false r held full e = either (eqb r 0)
     (λ z. contra (rw z at e) refl)
     (λ z. go held full (omega (arith, eqb-false r 0 z)) (rw z at e))
   where
-    go : (o : Option ℕ) (b : Bool) → 0 < r → isAccepted (refusedIf (isPresent o) 29 (refusedIf b 30 accepted)) ≡ true →
-        Acceptable true r o b
-    go (some s) b p q = contra q refl
-    go none true p q = contra q refl
-    go none false p q = record { fitting = refl; positive = p; new = refl; room = refl }
+    go : (h f : Bool) → 0 < r → isAccepted (refusedIf h 29 (refusedIf f 30 accepted)) ≡ true → Acceptable true r h f
+    go true f p q = contra q refl
+    go false true p q = contra q refl
+    go false false p q = record { fitting = refl; positive = p; new = refl; room = refl }
 
 -- a removal is accepted only if its key fits and is there
-pub record Strikable (fits : Bool) (held : Option ℕ) : Type 0 where
+pub record Strikable (fits held : Bool) : Type 0 where
   pub fitting : fits ≡ true
-  pub present : IsSome held
+  pub there : held ≡ true
 
-pub accepted-strikable : (fits : Bool) (held : Option ℕ) → isAccepted (striking fits held) ≡ true → Strikable fits held
+pub accepted-strikable : (fits held : Bool) → isAccepted (striking fits held) ≡ true → Strikable fits held
 accepted-strikable false held e = contra e refl
-accepted-strikable true none e = contra e refl
-accepted-strikable true (some r) e = record { fitting = refl; present = tt }
+accepted-strikable true false e = contra e refl
+accepted-strikable true true e = record { fitting = refl; there = refl }
 
 -- neither limit is passed
 room-both : (a b : Bool) → (a || b) ≡ false → (a ≡ false) × (b ≡ false)
@@ -104,46 +105,47 @@ fresh-sound s two room levels = record {
 }
 
 module _ {K : Type 0} (s : Setting K) (two : 1 < s .capacity) where
-  -- Theorem: an insertion of a key that is not there, with room for it, keeps an index sound
-  pub inserted-sound : (i : Index K) (k : K) (r : ℕ) → 0 < r → find (s .order) k (held i) ≡ none → outOfRoom s k i ≡ false → SoundIndex s i →
-      SoundIndex s (inserted s k r i)
-  inserted-sound i k r pos f room d =
+  -- Theorem: an insertion of a pair that is not there, with room for it, keeps an index sound
+  pub inserted-sound : (i : Index K) (e : K × ℕ) → 0 < e .1 → has (keptBy s .pairLe) e (held i) ≡ false → outOfRoom s e i ≡ false → SoundIndex s i →
+      SoundIndex s (inserted s e i)
+  inserted-sound i e pos f room d =
       let h : ℕ = i .height in
       let name : ℕ → ℕ = takenPage (i .free) (i .size) in
-      let g : Grown K = insertedTree s k r i in
+      let g : Grown K = insertedTree s e i in
+      let leading : Leading (keptBy s) e = distinct-leading (s .order) e in
       let rooted : Rooted h (i .tree) = sized-rooted (s .capacity) h (i .tree) (d .sized) in
-      let needed : (g .2 ≡ needs (s .order) (s .capacity) k h (i .tree))
-      × (suc (g .0) ≡ levelsAfter (s .order) (s .capacity) k h (i .tree)) =
-      insert-needs (s .order) (s .capacity) name k r h (i .tree) (omega arith) (d .sized) in
-      let limit : ℕ = sizeAfter (i .free) (i .size) (needs (s .order) (s .capacity) k h (i .tree)) in
-      let levels : ℕ = levelsAfter (s .order) (s .capacity) k h (i .tree) in
+      let needed : (g .2 ≡ needs (keptBy s .route e) (s .capacity) h (i .tree))
+      × (suc (g .0) ≡ levelsAfter (keptBy s .route e) (s .capacity) h (i .tree)) =
+      insert-needs (keptBy s) (s .capacity) name e h (i .tree) (omega arith) (d .sized) in
+      let limit : ℕ = sizeAfter (i .free) (i .size) (needs (keptBy s .route e) (s .capacity) h (i .tree)) in
+      let levels : ℕ = levelsAfter (keptBy s .route e) (s .capacity) h (i .tree) in
       let rooms : (ltb (s .maxSize) limit ≡ false) × (ltb (s .maxLevels) levels ≡ false) =
       room-both (ltb (s .maxSize) limit) (ltb (s .maxLevels) levels) room in
       record {
-        ordered = insert-ordered (s .order) (s .capacity) (omega arith) name k r h (i .tree) rooted (d .ordered) f;
-        sized = insert-sized (s .order) (s .capacity) two name k r h (i .tree) (d .sized);
-        pagesOnce = grown-pages i (d .pagesOnce) g (λ z. insert-pages (s .order) (s .capacity) name k r z h (i .tree));
-        records = rw (insert-pairs (s .order) (s .capacity) name k r h (i .tree) rooted (d .ordered))
-            (insertPair-all (s .order) (λ e. 0 < e .1) k r (held i) pos (d .records));
+        ordered = insert-ordered (keptBy s) (s .capacity) (omega arith) name e leading h (i .tree) rooted (d .ordered) f;
+        sized = insert-sized (keptBy s) (s .capacity) two name e h (i .tree) (d .sized);
+        pagesOnce = grown-pages i (d .pagesOnce) g (λ z. insert-pages (keptBy s) (s .capacity) name e z h (i .tree));
+        records = rw (insert-pairs (keptBy s) (s .capacity) name e leading h (i .tree) rooted (d .ordered))
+            (insertPair-all (keptBy s .pairLe) (λ x. 0 < x .1) e (held i) pos (d .records));
         withinSize = omega (arith, needed .0, ltb-false (s .maxSize) limit (rooms .0));
         withinLevels = omega (arith, needed .1, ltb-false (s .maxLevels) levels (rooms .1));
       }
 
   -- Theorem: such an insertion keeps the levels linked
-  pub inserted-linked : (i : Index K) (k : K) (r : ℕ) (l : Links) → SoundIndex s i → SoundIndex s (inserted s k r i) → LinkedIndex l i →
-      LinkedIndex (insertedLinks s k r i l) (inserted s k r i)
-  inserted-linked i k r l d g c =
+  pub inserted-linked : (i : Index K) (e : K × ℕ) (l : Links) → SoundIndex s i → SoundIndex s (inserted s e i) → LinkedIndex l i →
+      LinkedIndex (insertedLinks s e i l) (inserted s e i)
+  inserted-linked i e l d g c =
       let p : PagesOnce i = d .pagesOnce in
-      insert-all-linked (s .order) (s .capacity) (omega arith) (takenPage (i .free) (i .size))
+      insert-all-linked (keptBy s) (s .capacity) (omega arith) (takenPage (i .free) (i .size))
       (taken-injective (i .size) (i .free) (free-distinct i p) (free-beyond i p))
       noPage (taken-some (i .size) (i .free) (free-distinct i p) (free-beyond i p) (p .aligned) (omega (arith, noPage-unused i p)))
-      k r (i .height) (i .tree) (d .sized) (pages-distinct i p) (taken-unused i p) (omega (arith, noPage-unused i p)) l
-      (pages-distinct (inserted s k r i) (g .pagesOnce)) c
+      e (i .height) (i .tree) (d .sized) (pages-distinct i p) (taken-unused i p) (omega (arith, noPage-unused i p)) l
+      (pages-distinct (inserted s e i) (g .pagesOnce)) c
 
   -- Theorem: a removal, of whatever key, keeps an index sound
   pub removed-sound : (i : Index K) (k : K) → SoundIndex s i → SoundIndex s (removed s k i)
   removed-sound i k d =
-      let route : Route K = routeTo (s .order) k in
+      let route : Route K = strikingRoute s k in
       record {
         ordered = remove-ordered (s .order) route (i .height) (i .tree) (d .ordered);
         sized = remove-sized route (s .capacity) (i .height) (i .tree) (d .sized);
@@ -157,41 +159,47 @@ module _ {K : Type 0} (s : Setting K) (two : 1 < s .capacity) where
   pub removed-linked : (i : Index K) (k : K) (l : Links) → SoundIndex s i → LinkedIndex l i → LinkedIndex (removedLinks s k i l) (removed s k i)
   removed-linked i k l d c =
       let p : PagesOnce i = d .pagesOnce in
-      remove-all-linked (routeTo (s .order) k) noPage k (i .height) (i .tree) (pages-distinct i p) (omega (arith, noPage-unused i p)) l c
+      remove-all-linked (strikingRoute s k) noPage k (i .height) (i .tree) (pages-distinct i p) (omega (arith, noPage-unused i p)) l c
+
+  -- Theorem: after a removal of a key that is there, the leaf pairs are the old ones without it
+  pub removed-pairs : (i : Index K) (k : K) → SoundIndex s i → has (keptBy s .pairLe) (k, 0) (held i) ≡ true →
+      held (removed s k i) ≡ removePair (keptBy s .pairLe) (k, 0) (held i)
+  removed-pairs i k d there =
+      remove-pairs (keptBy s) (k, 0) (distinct-leading (s .order) (k, 0)) (i .height) (i .tree) (d .ordered)
+      (present-has (s .order) (k, 0) (held i) (ordered-ascending (s .order) (i .height) (i .tree) (d .ordered)) ∙ there)
 
   -- Theorem: a call is answered as the book answers it, if the book is told whether the answer is 30, or what the rule for 30 says
-  pub answer-book : (c : Call K) (i : Index K) → SoundIndex s i →
-      bookAnswer (s .order) (s .fits) c (isNoRoom (answer s c i)) (held i) ≡ answer s c i
-  answer-book (lookupOf k) i d =
+  pub answer-book : (tests : KeyTests K) (c : Call K) (i : Index K) → SoundIndex s i →
+      bookAnswer (s .order) tests c (isNoRoom (answer s tests c i)) (held i) ≡ answer s tests c i
+  answer-book tests (lookupOf k) i d =
       rw (
         lookup-find (s .order) k (i .height) (i .tree) (d .ordered),
         find-get (s .order) k (held i)
             (ordered-ascending (s .order) (i .height) (i .tree) (d .ordered)),
       )
-  answer-book (removalOf k) i d = rw (find-get (s .order) k (held i) (ordered-ascending (s .order) (i .height) (i .tree) (d .ordered)))
-  answer-book (insertion k r) i d =
-      rw (← find-get (s .order) k (held i) (ordered-ascending (s .order) (i .height) (i .tree) (d .ordered)))
-      (verdict-room (s .fits k) r (find (s .order) k (held i)) (outOfRoom s k i))
+  answer-book tests (removalOf k) i d = refl
+  answer-book tests (insertion k r) i d =
+      verdict-room (tests .fits k) (tests .barred k) r (has (keptBy s .pairLe) (k, r) (held i)) (outOfRoom s (k, r) i)
 
-  pub answer-room : (c : Call K) (i : Index K) → SoundIndex s i → bookAnswer (s .order) (s .fits) c (noRoomFor s c i) (held i) ≡ answer s c i
-  answer-room (lookupOf k) i d = answer-book (lookupOf k) i d
-  answer-room (removalOf k) i d = answer-book (removalOf k) i d
-  answer-room (insertion k r) i d =
-      rw (← find-get (s .order) k (held i) (ordered-ascending (s .order) (i .height) (i .tree) (d .ordered)))
+  pub answer-room : (tests : KeyTests K) (c : Call K) (i : Index K) → SoundIndex s i →
+      bookAnswer (s .order) tests c (noRoomFor s c i) (held i) ≡ answer s tests c i
+  answer-room tests (lookupOf k) i d = answer-book tests (lookupOf k) i d
+  answer-room tests (removalOf k) i d = refl
+  answer-room tests (insertion k r) i d = refl
 
   -- Theorem: the leaf pairs after a call are the book after it
-  pub next-book : (c : Call K) (i : Index K) → SoundIndex s i →
-      bookAfter (s .order) (s .fits) c (isNoRoom (answer s c i)) (held i) ≡ held (next s c i)
-  next-book (lookupOf k) i d = refl
-  next-book (removalOf k) i d =
-      rw (answer-book (removalOf k) i d)
-      (either (isAccepted (answer s (removalOf k) i))
-      (λ e. let a : Strikable (s .fits k) (find (s .order) k (held i)) = accepted-strikable (s .fits k) (find (s .order) k (held i)) e in
-      rw e (sym (remove-pairs (s .order) k (i .height) (i .tree) (d .ordered) (a .present))))
-      (λ e. rw e))
-  next-book (insertion k r) i d =
-      rw (answer-book (insertion k r) i d)
-      (either (isAccepted (answer s (insertion k r) i))
+  pub next-book : (tests : KeyTests K) (c : Call K) (i : Index K) → SoundIndex s i →
+      bookAfter (s .order) tests c (isNoRoom (answer s tests c i)) (held i) ≡ held (next s tests c i)
+  next-book tests (lookupOf k) i d = refl
+  next-book tests (removalOf k) i d = either (isAccepted (answer s tests (removalOf k) i))
+      (λ e. let a : Strikable (tests .fits k) (has (keptBy s .pairLe) (k, 0) (held i)) =
+      accepted-strikable (tests .fits k) (has (keptBy s .pairLe) (k, 0) (held i)) e in
+      rw e (sym (removed-pairs i k d (a .there))))
+      (λ e. rw e)
+  next-book tests (insertion k r) i d =
+      rw (answer-book tests (insertion k r) i d)
+      (either (isAccepted (answer s tests (insertion k r) i))
       (λ e. let rooted : Rooted (i .height) (i .tree) = sized-rooted (s .capacity) (i .height) (i .tree) (d .sized) in
-      rw e (sym (insert-pairs (s .order) (s .capacity) (takenPage (i .free) (i .size)) k r (i .height) (i .tree) rooted (d .ordered))))
+      rw e (sym (insert-pairs (keptBy s) (s .capacity) (takenPage (i .free) (i .size)) (k, r) (distinct-leading (s .order) (k, r)) (i .height) (i .tree) rooted
+      (d .ordered))))
       (λ e. rw e))

@@ -12,13 +12,13 @@ use Rattle.tree.specs.Lists.{occ}
 use Rattle.tree.specs.Tree.{pages}
 use Rattle.tree.specs.Insertion.{Grown, grownPages}
 use Rattle.tree.specs.InsertPages.{newPages, Distinct, Unused}
-use Rattle.tree.specs.Removal.{routeTo, emptied}
+use Rattle.tree.specs.Removal.{emptied}
 use Rattle.tree.specs.RemovalPages.{remove-pages}
 use Rattle.tree.specs.FreeList.{lacking}
 use Rattle.tree.specs.FreeListLaws.{freeFirst-pages, freeFirst-cases, joinFree-pages}
 use Rattle.tree.specs.Supply.{pageAtEnd, takenPage}
 use Rattle.tree.specs.SupplyLaws.{atEnd-below, atEnd-beyond, atEnd-unaligned, atEnd-once}
-use Rattle.tree.specs.Index.{Index, grown, Setting, removed}
+use Rattle.tree.specs.Index.{Index, grown, Setting, strikingRoute, removed}
 use Rattle.tree.specs.SoundIndex.{used, PagesOnce}
 
 module _ {K : Type 0} (i : Index K) (p : PagesOnce i) where
@@ -76,9 +76,9 @@ module _ {K : Type 0} (i : Index K) (p : PagesOnce i) where
   -- Theorem: so is each page after a removal
   pub removed-pages : (s : Setting K) (k : K) → PagesOnce (removed s k i)
   removed-pages s k =
-      let out : List ℕ = emptied (routeTo (s .order) k) (i .height) (i .tree) in
+      let out : List ℕ = emptied (strikingRoute s k) (i .height) (i .tree) in
       let same : (z : ℕ) → used z (removed s k i) ≡ used z i =
-      λ z. omega (arith, remove-pages (routeTo (s .order) k) z (i .height) (i .tree), joinFree-pages z out (i .free)) in
+      λ z. omega (arith, remove-pages (strikingRoute s k) z (i .height) (i .tree), joinFree-pages z out (i .free)) in
       record {
         positive = p .positive;
         aligned = p .aligned;
