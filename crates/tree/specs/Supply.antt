@@ -1,6 +1,6 @@
 -- Steps: the supply of new pages of an index: which page is taken, and the free list and the file size after it. Cited by the rule for refusal 30 on trees and
 -- by insertion into an index.
-use mathlib.Core.List.{List}
+use mathlib.Core.List.{List, []}
 use Prim.Native.Nat.{ℕ, _+_, _*_}
 use Rattle.tree.specs.Constants.{pageSize}
 use Rattle.tree.specs.FreeList.{freeFirst, lacking}
