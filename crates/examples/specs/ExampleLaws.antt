@@ -41,7 +41,7 @@ unfolding examples answer ascii reading.readNumber format.formatGood chars.every
     audit.levelsUnder audit.heightOf audit.upperPagesGood audit.upperLevelsGood audit.shapeGood audit.keysAboveGood audit.pagesGood audit.unmarked shown
     tree100.key100 tree100.grown store.put layout.encode layout.area layout.withEntries layout.newPage layout.linkBeyond layout.splitPage entries.raised
     insertion.takeIn insertion.insertUnder insertion.insertedBuffer fresh.freshHeader fresh.freshBuffer fresh.freshRule fresh.printable
-    fresh.expressionGood room.pathFrom room.noRoom calls.insertRule
+    fresh.expressionGood room.pathFrom room.noRoom calls.hasControl calls.insertRule
 examples-hold = refl
 
 -- the audit's tests of the tree in 000

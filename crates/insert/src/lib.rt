@@ -18,7 +18,7 @@ ghost use Rattle.layout.specs.Given.{Over};
 ghost use Rattle.insert.specs.Insertion.{split, step, takeIn, afterChild, insertUnder, atRoot, insertedBuffer};
 ghost use Rattle.insert.specs.Answers.{outcomeOf, NextFits, maxGrown, visitOf};
 ghost use Rattle.insert.specs.Room.{onTop, pathFrom, rootSplit, noRoom};
-ghost use Rattle.insert.specs.Calls.{afterCall, isFound, insertRule};
+ghost use Rattle.insert.specs.Calls.{afterCall, hasControl, isFound, insertRule};
 ghost use Rattle.insert.specs.Fresh.{printable, maxExpression, expressionGood, freshBuffer, freshRule};
 
 // The longest key expression.
@@ -303,6 +303,20 @@ fn is_found(answer: lookup::Answer) -> bool
     }
 }
 
+// Whether a key has a control byte.
+fn has_control(key: &[u8]) -> bool
+    ensures { λ r. ⌜ r ≡ hasControl (now (key .entry)) ⌝ }
+{
+    let mut i = 0;
+    while i < key.len() {
+        if octets::byte(key, i) < 0x20 {
+            return true;
+        }
+        i += 1;
+    }
+    false
+}
+
 // Inserts `key` with its record number, `number`.
 pub fn insert(index: &mut [u8], key: &[u8], number: RecordNumber) -> Insertion
     ensures { λ r. ⌜ insertRule (now (index .entry)) (now (key .entry)) (number .0) ≡ afterCall (now (index .exit)) r ⌝ }
@@ -310,8 +324,12 @@ pub fn insert(index: &mut [u8], key: &[u8], number: RecordNumber) -> Insertion
     if !page::header_good(index) {
         return Insertion::Refused(refusal::INDEX_HEADER);
     }
+    let control = has_control(key);
     if key.len() != page::key_length(index) {
         return Insertion::Refused(refusal::KEY_LENGTH);
+    }
+    if control {
+        return Insertion::Refused(refusal::CONTROL_BYTE);
     }
     if number.0 == 0 {
         return Insertion::Refused(refusal::RECORD_NUMBER_ZERO);

@@ -1,9 +1,9 @@
 -- Laws: an insertion that is accepted keeps an index sound, and its leaf pairs are the old ones with the new pair. Cited by the claim about lists of calls.
 -- Assumes nothing.
 use mathlib.Core.Path.{_≡_, refl, sym, ap, _∙_, subst}
-use mathlib.Core.Bool.{Bool, true, false, cond}
+use mathlib.Core.Bool.{true, false, cond}
 use mathlib.Core.List.{List, [], _∷_}
-use mathlib.Core.Option.{Option, none}
+use mathlib.Core.Option.{none}
 use Prim.Native.Nat.{ℕ, zero, suc, _+_, _^_, _≤_, _<_, min}
 use native.Mathlib.Omega.{arith}
 use lib.Dec.{eqb, ltb}
@@ -13,10 +13,9 @@ use Rattle.basis.specs.Tests.{either}
 use Rattle.octets.specs.Store.{window}
 use Rattle.octets.specs.StoreLaws.{getD-window}
 use Rattle.octets.specs.NumberLaws.{le16-same, le32-same}
-use Rattle.tree.specs.Book.{insertion, verdict, isAccepted}
 use Rattle.tree.specs.Clauses.{least, AllLinked}
-use Rattle.tree.specs.Index.{newOffset, Index, held, Setting, outOfRoom, answer, inserted}
-use Rattle.tree.specs.IndexLaws.{next-sound, next-linked, pages-distinct, newPage-unused}
+use Rattle.tree.specs.Index.{newOffset, Index, held, Setting, outOfRoom, inserted}
+use Rattle.tree.specs.IndexLaws.{inserted-sound, inserted-linked, pages-distinct, newPage-unused}
 use Rattle.tree.specs.InsertLevels.{InsertedAfter, insert-level, levelUnder-pages, levelUnder-disjoint}
 use Rattle.tree.specs.InsertNeeds.{insert-needs, root-splits}
 use Rattle.tree.specs.InsertPairs.{insert-pairs}
@@ -51,10 +50,6 @@ use Rattle.insert_laws.specs.InsertBuffer.{HeadsIn, Rising, stays, rises
 use Rattle.insert_laws.specs.AttributeLaws.{leaf-old, leaf-new, root-none, root-new, root-split, unrooted-same, small-old, small-new}
 use Rattle.insert_laws.specs.SoundReading.{page-longer, read-shorter, sound-tree, sound-shaped}
 use Rattle.insert_laws.specs.RoomLaws.{room-is}
-
-accepted-when : (fits : Bool) (r : ℕ) (held : Option ℕ) (full : Bool) → fits ≡ true → 0 < r → held ≡ none → full ≡ false
-    → isAccepted (verdict fits r held full) ≡ true
-accepted-when fits r held full f p n u = rw (f, ne-eqb r 0 (λ e. omega arith), n, u)
 
 -- an insertion that is accepted, into a buffer that holds a sound index
 pub record Accepts (b key : List ℕ) (r : ℕ) : Type 0 where
@@ -107,15 +102,11 @@ module _ (b key : List ℕ) (r : ℕ) (accepts : Accepts b key r) where
   sound-before : SoundIndex kept-by before
   sound-before = subst (SoundIndex kept-by) (sym before-is) (sound-index b (accepts .sound) (min (length b) maxBytes) (omega (arith, good .within, good .most)))
 
-  taken-in : isAccepted (answer kept-by (insertion key r) before) ≡ true
-  taken-in =
-      accepted-when (eqb (length key) k) r (find bytesOrder key (held before)) (outOfRoom kept-by key before) (eq-eqb (length key) k (accepts .long))
-      (accepts .positive)
-      (ap (λ (i : Index (List ℕ)). find bytesOrder key (held i)) before-is ∙ accepts .absent)
-      (ap (outOfRoom kept-by key) before-is ∙ sym (room-is b key (accepts .sound)) ∙ accepts .room)
-
   sound-after : SoundIndex kept-by after
-  sound-after = rw taken-in at (next-sound kept-by two (insertion key r) before sound-before)
+  sound-after =
+      inserted-sound kept-by two before key r (accepts .positive)
+      (ap (λ (i : Index (List ℕ)). find bytesOrder key (held i)) before-is ∙ accepts .absent)
+      (ap (outOfRoom kept-by key) before-is ∙ sym (room-is b key (accepts .sound)) ∙ accepts .room) sound-before
 
   -- the pages before the insertion and after it are pages of the buffer
   old-page : (z : ℕ) → 0 < occ z (pages h t) → isPage (length b) z ≡ true
@@ -343,7 +334,7 @@ module _ (b key : List ℕ) (r : ℕ) (accepts : Accepts b key r) where
   linked-after j l =
       let linked : LinkedIndex (linksOf b) before = subst (LinkedIndex (linksOf b)) (sym before-is) (sound-linked b (accepts .sound)) in
       let e : AllLinked noPage (linksAfter k h b key r ready) (x .0) (x .1) =
-      rw taken-in at (next-linked kept-by two (insertion key r) before (linksOf b) sound-before linked) in
+      inserted-linked kept-by two before key r (linksOf b) sound-before sound-after linked in
       linked-same noPage (linksAfter k h b key r ready) (linksOf b″) noPage (level j (x .0) (x .1))
       (λ z o. heads .links z (new-page z (in-tree (x .0) j z (x .1) o))) (e j l)
 

@@ -1,122 +1,86 @@
 -- Laws: a fresh index is sound; every call keeps a sound index sound and linked, and answers and changes it as the book does. Cited by the theorem about
 -- lists of calls and by the laws of bytes. Assumes nothing.
-use mathlib.Core.Path.{_≡_, refl, sym}
+use mathlib.Core.Path.{_≡_, refl, sym, _∙_}
 use mathlib.Core.Bool.{Bool, true, false, not, _||_}
-use mathlib.Core.Option.{Option, none, some}
-use Prim.Native.Nat.{ℕ, zero, suc, _+_, _*_, _%_, _≤_, _<_}
+use Prim.Native.Nat.{ℕ, suc, _*_, _≤_, _<_}
 use native.Mathlib.Omega.{arith}
 use lib.Dec.{ltb, eqb}
-use borrow.Author.Tests.{ltb-true, ltb-false, eqb-true, eqb-false, eq-eqb, ne-eqb}
+use borrow.Author.Tests.{ltb-false, eqb-false, eq-eqb, ne-eqb}
 use Rattle.basis.specs.Tests.{either, contra}
 use Rattle.tree.specs.Constants.{pageSize, noPage}
-use Rattle.tree.specs.Lists.{occ}
-use Rattle.tree.specs.Pairs.{find}
-use Rattle.tree.specs.PairLaws.{find-get, insertPair-all}
-use Rattle.tree.specs.Tree.{pages}
+use Rattle.tree.specs.Pairs.{has, removePair}
+use Rattle.tree.specs.PairLaws.{find-get, insertPair-all, present-has}
 use Rattle.tree.specs.Clauses.{Links}
-use Rattle.tree.specs.Insertion.{Grown, grownPages, insert}
+use Rattle.tree.specs.Keeping.{Route}
+use Rattle.tree.specs.Insertion.{Grown}
 use Rattle.tree.specs.Room.{needs, levelsAfter}
 use Rattle.tree.specs.Ordered.{Rooted, lookup-find, ordered-ascending}
+use Rattle.tree.specs.RouteLaws.{Leading, distinct-leading}
 use Rattle.tree.specs.InsertPairs.{insert-pairs}
 use Rattle.tree.specs.InsertOrdered.{insert-ordered}
-use Rattle.tree.specs.Exact.{insert-exact}
 use Rattle.tree.specs.ClauseLaws.{sized-rooted}
 use Rattle.tree.specs.InsertSized.{insert-sized}
-use Rattle.tree.specs.InsertPages.{newPages, Distinct, Unused, insert-pages}
+use Rattle.tree.specs.Supply.{takenPage, sizeAfter}
+use Rattle.tree.specs.SupplyLaws.{taken-injective, taken-some}
+use Rattle.tree.specs.InsertPages.{insert-pages}
 use Rattle.tree.specs.InsertNeeds.{insert-needs}
 use Rattle.tree.specs.InsertLinks.{insert-all-linked}
-use Rattle.tree.specs.Book.{Call, insertion, lookupOf, Answer, accepted, refusedIf, isPresent, verdict, isNoRoom, isAccepted}
+use Rattle.tree.specs.RemovalPairs.{remove-all, remove-pairs}
+use Rattle.tree.specs.RemovalOrdered.{remove-ordered}
+use Rattle.tree.specs.RemovalSized.{remove-sized, remove-low}
+use Rattle.tree.specs.RemovalLinks.{remove-all-linked}
+use Rattle.tree.specs.Book.{Call, insertion, removalOf, lookupOf, Answer, KeyTests, accepted, refusedIf, verdict, striking, isNoRoom, isAccepted}
 use Rattle.tree.specs.Book.{bookAnswer, bookAfter}
-use Rattle.tree.specs.Index.{newOffset, Index, held, fresh, grown, Setting, outOfRoom, noRoomFor, answer, inserted, next, nextLinks}
+use Rattle.tree.specs.Index.{Index, held, fresh, Setting, keptBy, outOfRoom, noRoomFor, answer, insertedTree, strikingRoute}
+use Rattle.tree.specs.Index.{inserted, insertedLinks, removed, removedLinks, next}
 use Rattle.tree.specs.SoundIndex.{PagesOnce, SoundIndex, LinkedIndex}
+use Rattle.tree.specs.IndexPages.{pages-distinct, free-distinct, free-beyond, noPage-unused, taken-unused, grown-pages, removed-pages}
 
 -- the verdict on an insertion does not change if it is told whether it was 30
-verdict-room : (fits : Bool) (r : ℕ) (held : Option ℕ) (full : Bool) →
-    verdict fits r held (isNoRoom (verdict fits r held full)) ≡ verdict fits r held full
-verdict-room fits r held full = go (not fits) (eqb r 0) (isPresent held) full
+verdict-room : (fits barred : Bool) (r : ℕ) (held full : Bool) →
+    verdict fits barred r held (isNoRoom (verdict fits barred r held full)) ≡ verdict fits barred r held full
+verdict-room fits barred r held full = go (not fits) barred (eqb r 0) held full
   where
-    four : Bool → Bool → Bool → Bool → Answer
-    four a b c d = refusedIf a 27 (refusedIf b 28 (refusedIf c 29 (refusedIf d 30 accepted)))
+    five : Bool → Bool → Bool → Bool → Bool → Answer
+    five a b c d e = refusedIf a 27 (refusedIf b 32 (refusedIf c 28 (refusedIf d 29 (refusedIf e 30 accepted))))
 
-    go : (a b c d : Bool) → four a b c (isNoRoom (four a b c d)) ≡ four a b c d
-    go true b c d = refl
-    go false true c d = refl
-    go false false true d = refl
-    go false false false true = refl
-    go false false false false = refl
+    go : (a b c d e : Bool) → five a b c d (isNoRoom (five a b c d e)) ≡ five a b c d e
+    go true b c d e = refl
+    go false true c d e = refl
+    go false false true d e = refl
+    go false false false true e = refl
+    go false false false false true = refl
+    go false false false false false = refl
 
 -- the verdict is yes only if no refusal's test holds
-pub record Acceptable (fits : Bool) (r : ℕ) (held : Option ℕ) (full : Bool) : Type 0 where
+pub record Acceptable (fits : Bool) (r : ℕ) (held full : Bool) : Type 0 where
   pub fitting : fits ≡ true
   pub positive : 0 < r
-  pub new : held ≡ none
+  pub new : held ≡ false
   pub room : full ≡ false
 
-pub accepted-acceptable : (fits : Bool) (r : ℕ) (held : Option ℕ) (full : Bool) → isAccepted (verdict fits r held full) ≡ true →
+pub accepted-acceptable : (fits barred : Bool) (r : ℕ) (held full : Bool) → isAccepted (verdict fits barred r held full) ≡ true →
     Acceptable fits r held full
-accepted-acceptable false r held full e = contra e refl
-accepted-acceptable true r held full e = either (eqb r 0)
+accepted-acceptable false barred r held full e = contra e refl
+accepted-acceptable true true r held full e = contra e refl
+accepted-acceptable true false r held full e = either (eqb r 0)
     (λ z. contra (rw z at e) refl)
     (λ z. go held full (omega (arith, eqb-false r 0 z)) (rw z at e))
   where
-    go : (o : Option ℕ) (b : Bool) → 0 < r → isAccepted (refusedIf (isPresent o) 29 (refusedIf b 30 accepted)) ≡ true →
-        Acceptable true r o b
-    go (some s) b p q = contra q refl
-    go none true p q = contra q refl
-    go none false p q = record { fitting = refl; positive = p; new = refl; room = refl }
+    go : (h f : Bool) → 0 < r → isAccepted (refusedIf h 29 (refusedIf f 30 accepted)) ≡ true → Acceptable true r h f
+    go true f p q = contra q refl
+    go false true p q = contra q refl
+    go false false p q = record { fitting = refl; positive = p; new = refl; room = refl }
 
--- the offsets of new pages are the multiples of 512 from F up to the new F
-newPages-below : (size n z : ℕ) → z < size → occ z (newPages (newOffset size) n) ≡ 0
-newPages-below size zero z l = refl
-newPages-below size (suc n) z l = rw (ne-eqb z (newOffset size n) (omega arith)) (omega (arith, newPages-below size n z l))
+-- a removal is accepted only if its key fits and is there
+pub record Strikable (fits held : Bool) : Type 0 where
+  pub fitting : fits ≡ true
+  pub there : held ≡ true
 
-newPages-beyond : (size n z : ℕ) → newOffset size n ≤ z → occ z (newPages (newOffset size) n) ≡ 0
-newPages-beyond size zero z l = refl
-newPages-beyond size (suc n) z l = rw (ne-eqb z (newOffset size n) (omega arith)) (omega (arith, newPages-beyond size n z (omega arith)))
-
-newPages-unaligned : (size n z : ℕ) → size % pageSize ≡ 0 → (z % pageSize ≡ 0 → ⊥) → occ z (newPages (newOffset size) n) ≡ 0
-newPages-unaligned size zero z a o = refl
-newPages-unaligned size (suc n) z a o =
-    rw (ne-eqb z (newOffset size n) (λ e. o (omega arith))) (omega (arith, newPages-unaligned size n z a o))
-
-newPages-once : (size n z : ℕ) → size % pageSize ≡ 0 → z % pageSize ≡ 0 → size ≤ z → z < newOffset size n →
-    occ z (newPages (newOffset size) n) ≡ 1
-newPages-once size zero z a d l m = absurd (omega arith)
-newPages-once size (suc n) z a d l m = either (eqb z (newOffset size n))
-    (λ e. rw e (omega (arith, newPages-beyond size n z (omega (arith, eqb-true z (newOffset size n) e)))))
-    (λ e. rw e (omega (arith, newPages-once size n z a d l (omega (arith, eqb-false z (newOffset size n) e)))))
-
--- each page is reached at most once, and no new page is among them
-module _ {K : Type 0} (i : Index K) (p : PagesOnce i) where
-  pub pages-distinct : Distinct (pages (i .height) (i .tree))
-  pages-distinct z = either (ltb z (i .size))
-      (λ e. either (eqb z 0)
-      (λ f. rw (eqb-true z 0 f) (omega (arith, p .header)))
-      (λ f. either (eqb (z % pageSize) 0)
-      (λ m. omega (arith, p .once z (omega (arith, eqb-false z 0 f)) (ltb-true z (i .size) e) (eqb-true (z % pageSize) 0 m)))
-      (λ m. omega (arith, p .unaligned z (eqb-false (z % pageSize) 0 m)))))
-      (λ e. omega (arith, p .beyond z (ltb-false z (i .size) e)))
-
-  pub newPage-unused : Unused (newOffset (i .size)) (pages (i .height) (i .tree))
-  newPage-unused j = p .beyond (newOffset (i .size) j) (omega arith)
-
-  -- after an insertion each page is reached at most once again
-  grown-pages : (g : Grown K) →
-      ((z : ℕ) → occ z (grownPages g) ≡ occ z (pages (i .height) (i .tree)) + occ z (newPages (newOffset (i .size)) (g .2))) →
-      PagesOnce (grown (i .size) g)
-  grown-pages g counts =
-      let F : ℕ = i .size in
-      let n : ℕ = g .2 in
-      record {
-        positive = omega (arith, p .positive);
-        aligned = omega (arith, p .aligned);
-        header = omega (arith, counts 0, p .header, newPages-below F n 0 (p .positive));
-        once = λ z a b m. either (ltb z F)
-            (λ e. let l : z < F = ltb-true z F e in omega (arith, counts z, p .once z a l m, newPages-below F n z l))
-            (λ e. let l : F ≤ z = ltb-false z F e in omega (arith, counts z, p .beyond z l, newPages-once F n z (p .aligned) m l b));
-        unaligned = λ z o. omega (arith, counts z, p .unaligned z o, newPages-unaligned F n z (p .aligned) o);
-        beyond = λ z a. omega (arith, counts z, p .beyond z (omega arith), newPages-beyond F n z a);
-      }
+pub accepted-strikable : (fits held : Bool) → isAccepted (striking fits held) ≡ true → Strikable fits held
+accepted-strikable false held e = contra e refl
+accepted-strikable true false e = contra e refl
+accepted-strikable true true e = record { fitting = refl; there = refl }
 
 -- neither limit is passed
 room-both : (a b : Bool) → (a || b) ≡ false → (a ≡ false) × (b ≡ false)
@@ -126,7 +90,6 @@ room-both false b e = (refl, e)
 pub fresh-sound : {K : Type 0} (s : Setting K) → 1 < s .capacity → 2 * pageSize ≤ s .maxSize → 1 ≤ s .maxLevels → SoundIndex s fresh
 fresh-sound s two room levels = record {
   ordered = tt;
-  exact = tt;
   sized = (omega arith, omega arith, tt);
   pagesOnce = record {
     positive = omega arith;
@@ -142,77 +105,101 @@ fresh-sound s two room levels = record {
 }
 
 module _ {K : Type 0} (s : Setting K) (two : 1 < s .capacity) where
-  inserted-sound : (i : Index K) (k : K) (r : ℕ) → 0 < r → find (s .order) k (held i) ≡ none → outOfRoom s k i ≡ false → SoundIndex s i →
-      SoundIndex s (inserted s k r i)
-  inserted-sound i k r pos f room d =
+  -- Theorem: an insertion of a pair that is not there, with room for it, keeps an index sound
+  pub inserted-sound : (i : Index K) (e : K × ℕ) → 0 < e .1 → has (keptBy s .pairLe) e (held i) ≡ false → outOfRoom s e i ≡ false → SoundIndex s i →
+      SoundIndex s (inserted s e i)
+  inserted-sound i e pos f room d =
       let h : ℕ = i .height in
-      let name : ℕ → ℕ = newOffset (i .size) in
-      let g : Grown K = insert (s .order) (s .capacity) name k r h (i .tree) in
+      let name : ℕ → ℕ = takenPage (i .free) (i .size) in
+      let g : Grown K = insertedTree s e i in
+      let leading : Leading (keptBy s) e = distinct-leading (s .order) e in
       let rooted : Rooted h (i .tree) = sized-rooted (s .capacity) h (i .tree) (d .sized) in
-      let needed : (g .2 ≡ needs (s .order) (s .capacity) k h (i .tree))
-      × (suc (g .0) ≡ levelsAfter (s .order) (s .capacity) k h (i .tree)) =
-      insert-needs (s .order) (s .capacity) name k r h (i .tree) (omega arith) (d .sized) in
-      let limit : ℕ = newOffset (i .size) (needs (s .order) (s .capacity) k h (i .tree)) in
-      let levels : ℕ = levelsAfter (s .order) (s .capacity) k h (i .tree) in
+      let needed : (g .2 ≡ needs (keptBy s .route e) (s .capacity) h (i .tree))
+      × (suc (g .0) ≡ levelsAfter (keptBy s .route e) (s .capacity) h (i .tree)) =
+      insert-needs (keptBy s) (s .capacity) name e h (i .tree) (omega arith) (d .sized) in
+      let limit : ℕ = sizeAfter (i .free) (i .size) (needs (keptBy s .route e) (s .capacity) h (i .tree)) in
+      let levels : ℕ = levelsAfter (keptBy s .route e) (s .capacity) h (i .tree) in
       let rooms : (ltb (s .maxSize) limit ≡ false) × (ltb (s .maxLevels) levels ≡ false) =
       room-both (ltb (s .maxSize) limit) (ltb (s .maxLevels) levels) room in
       record {
-        ordered = insert-ordered (s .order) (s .capacity) (omega arith) name k r h (i .tree) rooted (d .ordered) f;
-        exact = insert-exact (s .order) (s .capacity) (omega arith) name k r h (i .tree) rooted (d .ordered) (d .exact);
-        sized = insert-sized (s .order) (s .capacity) two name k r h (i .tree) (d .sized);
-        pagesOnce = grown-pages i (d .pagesOnce) g (λ z. insert-pages (s .order) (s .capacity) name k r z h (i .tree));
-        records = rw (insert-pairs (s .order) (s .capacity) name k r h (i .tree) rooted (d .ordered))
-            (insertPair-all (s .order) (λ e. 0 < e .1) k r (held i) pos (d .records));
+        ordered = insert-ordered (keptBy s) (s .capacity) (omega arith) name e leading h (i .tree) rooted (d .ordered) f;
+        sized = insert-sized (keptBy s) (s .capacity) two name e h (i .tree) (d .sized);
+        pagesOnce = grown-pages i (d .pagesOnce) g (λ z. insert-pages (keptBy s) (s .capacity) name e z h (i .tree));
+        records = rw (insert-pairs (keptBy s) (s .capacity) name e leading h (i .tree) rooted (d .ordered))
+            (insertPair-all (keptBy s .pairLe) (λ x. 0 < x .1) e (held i) pos (d .records));
         withinSize = omega (arith, needed .0, ltb-false (s .maxSize) limit (rooms .0));
         withinLevels = omega (arith, needed .1, ltb-false (s .maxLevels) levels (rooms .1));
       }
 
-  -- Theorem: a call keeps an index sound
-  pub next-sound : (c : Call K) (i : Index K) → SoundIndex s i → SoundIndex s (next s c i)
-  next-sound (lookupOf k) i d = d
-  next-sound (insertion k r) i d = either (isAccepted (answer s (insertion k r) i))
-      (λ e. let a : Acceptable (s .fits k) r (find (s .order) k (held i)) (outOfRoom s k i) =
-      accepted-acceptable (s .fits k) r (find (s .order) k (held i)) (outOfRoom s k i) e in
-      rw e (inserted-sound i k r (a .positive) (a .new) (a .room) d))
-      (λ e. rw e d)
+  -- Theorem: such an insertion keeps the levels linked
+  pub inserted-linked : (i : Index K) (e : K × ℕ) (l : Links) → SoundIndex s i → SoundIndex s (inserted s e i) → LinkedIndex l i →
+      LinkedIndex (insertedLinks s e i l) (inserted s e i)
+  inserted-linked i e l d g c =
+      let p : PagesOnce i = d .pagesOnce in
+      insert-all-linked (keptBy s) (s .capacity) (omega arith) (takenPage (i .free) (i .size))
+      (taken-injective (i .size) (i .free) (free-distinct i p) (free-beyond i p))
+      noPage (taken-some (i .size) (i .free) (free-distinct i p) (free-beyond i p) (p .aligned) (omega (arith, noPage-unused i p)))
+      e (i .height) (i .tree) (d .sized) (pages-distinct i p) (taken-unused i p) (omega (arith, noPage-unused i p)) l
+      (pages-distinct (inserted s e i) (g .pagesOnce)) c
 
-  -- Theorem: a call keeps the levels linked
-  pub next-linked : (c : Call K) (i : Index K) (l : Links) → SoundIndex s i → LinkedIndex l i → LinkedIndex (nextLinks s c i l) (next s c i)
-  next-linked (lookupOf k) i l d c = c
-  next-linked (insertion k r) i l d c = either (isAccepted (answer s (insertion k r) i))
-      (λ e. let p : PagesOnce i = d .pagesOnce in
-      let g : SoundIndex s (inserted s k r i) = rw e at (next-sound (insertion k r) i d) in
-      rw e (insert-all-linked (s .order) (s .capacity) (omega arith) (newOffset (i .size)) (λ a b u. omega arith)
-      noPage (λ a u. omega (arith, p .aligned)) k r (i .height) (i .tree) (d .sized)
-      (pages-distinct i p) (newPage-unused i p) (p .unaligned noPage (λ u. omega arith)) l
-      (pages-distinct (inserted s k r i) (g .pagesOnce)) c))
-      (λ e. rw e c)
+  -- Theorem: a removal, of whatever key, keeps an index sound
+  pub removed-sound : (i : Index K) (k : K) → SoundIndex s i → SoundIndex s (removed s k i)
+  removed-sound i k d =
+      let route : Route K = strikingRoute s k in
+      record {
+        ordered = remove-ordered (s .order) route (i .height) (i .tree) (d .ordered);
+        sized = remove-sized route (s .capacity) (i .height) (i .tree) (d .sized);
+        pagesOnce = removed-pages i (d .pagesOnce) s k;
+        records = remove-all (λ e. 0 < e .1) route (i .height) (i .tree) (d .records);
+        withinSize = d .withinSize;
+        withinLevels = omega (arith, d .withinLevels, remove-low route (i .height) (i .tree));
+      }
+
+  -- Theorem: a removal keeps the levels linked
+  pub removed-linked : (i : Index K) (k : K) (l : Links) → SoundIndex s i → LinkedIndex l i → LinkedIndex (removedLinks s k i l) (removed s k i)
+  removed-linked i k l d c =
+      let p : PagesOnce i = d .pagesOnce in
+      remove-all-linked (strikingRoute s k) noPage k (i .height) (i .tree) (pages-distinct i p) (omega (arith, noPage-unused i p)) l c
+
+  -- Theorem: after a removal of a key that is there, the leaf pairs are the old ones without it
+  pub removed-pairs : (i : Index K) (k : K) → SoundIndex s i → has (keptBy s .pairLe) (k, 0) (held i) ≡ true →
+      held (removed s k i) ≡ removePair (keptBy s .pairLe) (k, 0) (held i)
+  removed-pairs i k d there =
+      remove-pairs (keptBy s) (k, 0) (distinct-leading (s .order) (k, 0)) (i .height) (i .tree) (d .ordered)
+      (present-has (s .order) (k, 0) (held i) (ordered-ascending (s .order) (i .height) (i .tree) (d .ordered)) ∙ there)
 
   -- Theorem: a call is answered as the book answers it, if the book is told whether the answer is 30, or what the rule for 30 says
-  pub answer-book : (c : Call K) (i : Index K) → SoundIndex s i →
-      bookAnswer (s .order) (s .fits) c (isNoRoom (answer s c i)) (held i) ≡ answer s c i
-  answer-book (lookupOf k) i d =
+  pub answer-book : (tests : KeyTests K) (c : Call K) (i : Index K) → SoundIndex s i →
+      bookAnswer (s .order) tests c (isNoRoom (answer s tests c i)) (held i) ≡ answer s tests c i
+  answer-book tests (lookupOf k) i d =
       rw (
         lookup-find (s .order) k (i .height) (i .tree) (d .ordered),
         find-get (s .order) k (held i)
             (ordered-ascending (s .order) (i .height) (i .tree) (d .ordered)),
       )
-  answer-book (insertion k r) i d =
-      rw (← find-get (s .order) k (held i) (ordered-ascending (s .order) (i .height) (i .tree) (d .ordered)))
-      (verdict-room (s .fits k) r (find (s .order) k (held i)) (outOfRoom s k i))
+  answer-book tests (removalOf k) i d = refl
+  answer-book tests (insertion k r) i d =
+      verdict-room (tests .fits k) (tests .barred k) r (has (keptBy s .pairLe) (k, r) (held i)) (outOfRoom s (k, r) i)
 
-  pub answer-room : (c : Call K) (i : Index K) → SoundIndex s i → bookAnswer (s .order) (s .fits) c (noRoomFor s c i) (held i) ≡ answer s c i
-  answer-room (lookupOf k) i d = answer-book (lookupOf k) i d
-  answer-room (insertion k r) i d =
-      rw (← find-get (s .order) k (held i) (ordered-ascending (s .order) (i .height) (i .tree) (d .ordered)))
+  pub answer-room : (tests : KeyTests K) (c : Call K) (i : Index K) → SoundIndex s i →
+      bookAnswer (s .order) tests c (noRoomFor s c i) (held i) ≡ answer s tests c i
+  answer-room tests (lookupOf k) i d = answer-book tests (lookupOf k) i d
+  answer-room tests (removalOf k) i d = refl
+  answer-room tests (insertion k r) i d = refl
 
   -- Theorem: the leaf pairs after a call are the book after it
-  pub next-book : (c : Call K) (i : Index K) → SoundIndex s i →
-      bookAfter (s .order) (s .fits) c (isNoRoom (answer s c i)) (held i) ≡ held (next s c i)
-  next-book (lookupOf k) i d = refl
-  next-book (insertion k r) i d =
-      rw (answer-book (insertion k r) i d)
-      (either (isAccepted (answer s (insertion k r) i))
+  pub next-book : (tests : KeyTests K) (c : Call K) (i : Index K) → SoundIndex s i →
+      bookAfter (s .order) tests c (isNoRoom (answer s tests c i)) (held i) ≡ held (next s tests c i)
+  next-book tests (lookupOf k) i d = refl
+  next-book tests (removalOf k) i d = either (isAccepted (answer s tests (removalOf k) i))
+      (λ e. let a : Strikable (tests .fits k) (has (keptBy s .pairLe) (k, 0) (held i)) =
+      accepted-strikable (tests .fits k) (has (keptBy s .pairLe) (k, 0) (held i)) e in
+      rw e (sym (removed-pairs i k d (a .there))))
+      (λ e. rw e)
+  next-book tests (insertion k r) i d =
+      rw (answer-book tests (insertion k r) i d)
+      (either (isAccepted (answer s tests (insertion k r) i))
       (λ e. let rooted : Rooted (i .height) (i .tree) = sized-rooted (s .capacity) (i .height) (i .tree) (d .sized) in
-      rw e (sym (insert-pairs (s .order) (s .capacity) (newOffset (i .size)) k r (i .height) (i .tree) rooted (d .ordered))))
+      rw e (sym (insert-pairs (keptBy s) (s .capacity) (takenPage (i .free) (i .size)) (k, r) (distinct-leading (s .order) (k, r)) (i .height) (i .tree) rooted
+      (d .ordered))))
       (λ e. rw e))
