@@ -44,6 +44,25 @@ module _ (b : List ℕ) (k size : ℕ) where
   page-free p f =
       join _ _ (same-equal (window b p rightPlace) (zeros rightPlace) (f .0)) (same-equal (window b (p + entriesStart) entryArea) (zeros entryArea) (f .1))
 
+  -- one step of the walk, by what is met
+  module _ (n p : ℕ) (m : List ℕ) where
+    pub free-end : eqb p noPage ≡ true → checkFree b k size n p m ≡ (true, m)
+    unfolding checkFree
+    free-end t = go n
+      where
+        go : (n : ℕ) → checkFree b k size n p m ≡ (true, m)
+        go zero = rw t
+        go (suc n) = rw (t, checkFree)
+
+    module _ (t : eqb p noPage ≡ false) where
+      pub free-stop : freeFits b k size p m ≡ false → checkFree b k size (suc n) p m ≡ (false, m)
+      unfolding checkFree
+      free-stop u = rw (t, u, checkFree)
+
+      pub free-on : freeFits b k size p m ≡ true → checkFree b k size (suc n) p m ≡ checkFree b k size n (rightAt b p) (set m (p / pageSize) 1)
+      unfolding checkFree
+      free-on u = rw (t, u, checkFree)
+
   -- the pages ps are the free list from p on, each a page of the file, in a free page's form, and not marked when it is met
   pub record Free (p : ℕ) (m ps : List ℕ) : Type 0 where
     pub chained : Chained noPage (rightAt b) p ps
@@ -67,12 +86,13 @@ module _ (b : List ℕ) (k size : ℕ) where
   unfolding checkFree
   free-found zero p m e = ([], record { chained = eqb-true p noPage e; inside = tt; pages = tt; fresh = tt }, refl)
   free-found (suc n) p m e = either (eqb p noPage)
-      (λ t. ([], record { chained = eqb-true p noPage t; inside = tt; pages = tt; fresh = tt }, rw (t, checkFree)))
+      (λ t. ([], record { chained = eqb-true p noPage t; inside = tt; pages = tt; fresh = tt }, ap (λ r. r .1) (free-end (suc n) p m t)))
       (λ t. either (freeFits b k size p m)
       (λ u.
-      let f = free-found n (rightAt b p) (set m (p / pageSize) 1) (rw (t, u, checkFree) at e) in
-      (p ∷ f .0, free-onto p m (f .0) u (f .1), rw (t, u, checkFree) (f .2)))
-      (λ u. contra (rw (t, u, checkFree) at e) refl))
+      let on = free-on n p m t u in
+      let f = free-found n (rightAt b p) (set m (p / pageSize) 1) (sym (ap (λ r. r .0) on) ∙ e) in
+      (p ∷ f .0, free-onto p m (f .0) u (f .1), ap (λ r. r .1) on ∙ f .2))
+      (λ u. contra (sym (ap (λ r. r .0) (free-stop n p m t u)) ∙ e) refl))
 
   free-fits : (p : ℕ) (m : List ℕ) → isPage size p ≡ true → FreePage b p → getD m (p / pageSize) 0 ≡ 0 → freeFits b k size p m ≡ true
   unfolding freeFits
@@ -80,15 +100,11 @@ module _ (b : List ℕ) (k size : ℕ) where
 
   -- and back: the free list is passed if at most n pages are on it
   pub free-passed : size ≤ maxBytes → (n p : ℕ) (m ps : List ℕ) → length ps ≤ n → Free p m ps → checkFree b k size n p m ≡ (true, markAll m ps)
-  unfolding checkFree
-  free-passed most zero p m [] l f = rw (eq-eqb p noPage (f .chained))
+  free-passed most n p m [] l f = free-end n p m (eq-eqb p noPage (f .chained))
   free-passed most zero p m (q ∷ ps) l f = absurd (omega arith)
-  free-passed most (suc n) p m [] l f = rw (eq-eqb p noPage (f .chained), checkFree)
   free-passed most (suc n) p m (q ∷ ps) l f =
-      let e = f .chained .0 in
       let i = is-page size q (f .inside .0) in
-      let some : eqb q noPage ≡ false = ne-eqb q noPage (λ z. omega arith) in
       let fits = free-fits q m (f .inside .0) (f .pages .0) (f .fresh .0) in
-      rw (e, some, fits, checkFree)
-      (free-passed most n (rightAt b q) (set m (q / pageSize) 1) ps (omega arith)
+      ap (λ (r : ℕ). checkFree b k size (suc n) r m) (f .chained .0) ∙ free-on n q m (ne-eqb q noPage (λ z. omega arith)) fits
+      ∙ (free-passed most n (rightAt b q) (set m (q / pageSize) 1) ps (omega arith)
       (record { chained = f .chained .1; inside = f .inside .1; pages = f .pages .1; fresh = f .fresh .1 }))

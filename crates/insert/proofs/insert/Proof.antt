@@ -10,7 +10,7 @@ use Rattle.page.specs.HeaderLaws.{good-header}
 use Rattle.sound.specs.Rule.{pagesGood, unmarked}
 use Rattle.sound.specs.Accepted.{audit-sound, audit-unsound}
 use Rattle.lookup.specs.Lookup.{lookupRule}
-use Rattle.insert.specs.Calls.{hasControl}
+use Rattle.insert.specs.Calls.{hasControl, isFound}
 use Rattle.insert.specs.CallLaws.{refused-24, refused-27, refused-32, refused-28, refused-25, refused-29, refused-30, accepted-pair}
 use borrow.Author.Needs.{needs}
 use Rattle.insert.proofs.insert.Statement.{statement}
