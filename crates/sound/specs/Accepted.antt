@@ -12,7 +12,7 @@ use Rattle.basis.specs.Lists.{All, all-append}
 use Rattle.basis.specs.Tests.{either, contra, both, join}
 use Rattle.tree.specs.Pairs.{Ascending}
 use Rattle.tree.specs.Tree.{pairs}
-use Rattle.tree.specs.Clauses.{Greatest}
+use Rattle.tree.specs.Clauses.{Ceilings}
 use Rattle.page.specs.Header.{maxBytes, maxLevels, pageSize, rootOffset, freePointer, fileSize, keyLength, isPage, headerGood}
 use Rattle.page.specs.HeaderLaws.{good-header}
 use Rattle.page.specs.KeyOrder.{bytesOrder}
@@ -27,7 +27,7 @@ use Rattle.sound.specs.MarkLaws.{marked-once, once-fresh, once-marked}
 use Rattle.sound.specs.FreeLaws.{Free, free-found, free-passed}
 use Rattle.sound.specs.LevelLaws.{LevelGood, Known, GoodUnder, lowerPages, Found, level-known, level-good, levels-good, levels-found, levels-reached}
 use Rattle.sound.specs.ShapeLaws.{rootEntry, GoodLevels, Shape, levels-inside, levels-counts, entries-filled, shape-pairs, shape-sound, sound-shape}
-use Rattle.sound.specs.KeyLaws.{height-is, keys-greatest, greatest-keys}
+use Rattle.sound.specs.KeyLaws.{height-is, keys-ceilings}
 
 module _ (b : List ℕ) (k size root : ℕ) (whole : size % pageSize ≡ 0) (most : size ≤ maxBytes) where
   abbrev S : ℕ → Entries
@@ -142,16 +142,14 @@ shape-accepted b e =
       shape-complete b (keyLength b) (fileSize b) (rootOffset b) (g .whole) (g .most),
     )
 
--- and then the second pass accepts exactly the keys above pages that are the greatest under them
+-- and then the second pass accepts exactly the keys above pages that are ceilings
 pub keys-accepted : (b : List ℕ) → headerGood b ≡ true → (s : Shape b (keyLength b) (fileSize b) (rootOffset b))
-    → Ascending bytesOrder (pairs (s .height) (indexTree b (s .height))) → (keysAboveGood b ≡ true) ↔ Greatest (s .height) (indexTree b (s .height))
+    → Ascending bytesOrder (pairs (s .height) (indexTree b (s .height))) → (keysAboveGood b ≡ true) ↔ Ceilings bytesOrder (s .height) (indexTree b (s .height))
 unfolding keysAboveGood
 keys-accepted b e s ascending =
     let g = good-header b e in
-    let h = height-is b (keyLength b) (fileSize b) (rootOffset b) (g .whole) (g .most) s in (
-      (λ t. keys-greatest b (keyLength b) (fileSize b) (rootOffset b) (g .whole) (g .most) s (rw h at t)),
-      (λ t. rw h (greatest-keys b (keyLength b) (fileSize b) (rootOffset b) (g .whole) (g .most) s ascending t)),
-    )
+    rw (height-is b (keyLength b) (fileSize b) (rootOffset b) (g .whole) (g .most) s)
+    (keys-ceilings b (keyLength b) (fileSize b) (rootOffset b) (g .whole) (g .most) s ascending)
 
 -- Theorem: the audit's test accepts exactly the sound indexes
 pub accepted : (b : List ℕ) → headerGood b ≡ true → (pagesGood b unmarked ≡ true) ↔ Sound b
@@ -163,7 +161,7 @@ accepted b e = (
       shape-sound b e s (keys-accepted b e s (shape-pairs b e s .0) .0 (u .1))),
   (λ s.
       let shape = sound-shape b s in
-      join _ _ (shape-accepted b e .1 shape) (keys-accepted b e shape (s .ascending) .1 (s .greatest))),
+      join _ _ (shape-accepted b e .1 shape) (keys-accepted b e shape (s .ascending) .1 (s .ceilings))),
 )
 
 -- the three answers

@@ -1,5 +1,5 @@
--- Laws: the audit's tests of entries, page after page, say that leaf keys ascend and record numbers are above 0, and that keys above are the last of their
--- pages. Cited by the laws of levels and of keys above pages. Assumes nothing.
+-- Laws: the audit's tests of leaf entries, page after page, say that leaf keys ascend and record numbers are above 0. Cited by the laws of the shape. Assumes
+-- nothing.
 use Prim.Native.Nat.{ℕ, _<_}
 use mathlib.Core.Path.{_≡_, refl, sym, ap, _∙_}
 use mathlib.Core.List.{List, [], _∷_, _++_}
@@ -9,7 +9,7 @@ use native.Mathlib.Omega.{arith}
 use lib.Dec.{eqb}
 use borrow.Author.Tests.{ne-eqb, eqb-false, not-true}
 use Rattle.basis.specs.Lists.{All}
-use Rattle.basis.specs.Tests.{contra, both, join}
+use Rattle.basis.specs.Tests.{both, join}
 use Rattle.tree.specs.Lists.{NonEmpty, concatMap}
 use Rattle.tree.specs.Order.{Lt}
 use Rattle.tree.specs.OrderLaws.{lt-le}
@@ -17,10 +17,9 @@ use Rattle.tree.specs.Pairs.{lastKey, Above, Ascending}
 use Rattle.tree.specs.PairLaws.{above-down}
 use Rattle.page.specs.Page.{leafBit}
 use Rattle.page.specs.KeyOrder.{bytesOrder}
-use Rattle.page.specs.KeyOrderLaws.{below-not-le, equal-same, equal-refl}
+use Rattle.page.specs.KeyOrderLaws.{below-not-le}
 use Rattle.page.specs.Reading.{entriesAt}
-use Rattle.sound.specs.Rule.{Entries, lastOf, isAbove, isSame, leafEntriesGood, upperEntriesGood, entriesFit}
-use Rattle.sound.specs.Levels.{Top}
+use Rattle.sound.specs.Rule.{Entries, lastOf, isAbove, leafEntriesGood, entriesFit}
 use Rattle.sound.specs.RunLaws.{Checked}
 
 -- a key is above another, if there is one
@@ -94,33 +93,10 @@ climbs-leaf o (x ∷ xs) h =
     join _ _ (join _ _ (ap not (ne-eqb (x .1) 0 (omega (arith, h .1)))) (after-above o (x .0) (h .0))) (climbs-leaf (some (x .0)) xs (h .2))
 
 -- the last key, as an option and beside a default
-last-some : (o : Option (List ℕ)) (a : List ℕ) (xs : Entries) → NonEmpty xs → lastOf o xs ≡ some (lastKey a xs)
+pub last-some : (o : Option (List ℕ)) (a : List ℕ) (xs : Entries) → NonEmpty xs → lastOf o xs ≡ some (lastKey a xs)
 last-some o a [] s = absurd s
 last-some o a (x ∷ []) s = refl
 last-some o a (x ∷ y ∷ xs) s = last-some (some (x .0)) (x .0) (y ∷ xs) tt
-
--- the test of a key above
-abbrev pub Exactly : (ℕ → Entries) → List ℕ × ℕ → Type 0
-Exactly S e = NonEmpty (S (e .1)) × Top S e
-
-same-exactly : (x : List ℕ) (xs : Entries) → isSame (lastOf none xs) x ≡ true → NonEmpty xs × (lastKey x xs ≡ x)
-same-exactly x [] h = contra h refl
-same-exactly x (y ∷ ys) h = (tt, equal-same _ _ (rw (last-some none x (y ∷ ys) tt) at h))
-
-exactly-same : (x : List ℕ) (xs : Entries) → NonEmpty xs → lastKey x xs ≡ x → isSame (lastOf none xs) x ≡ true
-exactly-same x xs s e = rw (last-some none x xs s, e) (equal-refl x)
-
-pub upper-exactly : (S : ℕ → Entries) (xs : Entries) → upperEntriesGood S xs ≡ true → All (Exactly S) xs
-unfolding upperEntriesGood
-upper-exactly S [] h = tt
-upper-exactly S (x ∷ xs) h =
-    let u = both _ _ h in
-    (same-exactly (x .0) (S (x .1)) (u .0), upper-exactly S xs (u .1))
-
-pub exactly-upper : (S : ℕ → Entries) (xs : Entries) → All (Exactly S) xs → upperEntriesGood S xs ≡ true
-unfolding upperEntriesGood
-exactly-upper S [] h = refl
-exactly-upper S (x ∷ xs) h = join _ _ (exactly-same (x .0) (S (x .1)) (h .0 .0) (h .0 .1)) (exactly-upper S xs (h .1))
 
 -- page after page
 module _ (b : List ℕ) (k size a : ℕ) where

@@ -1,36 +1,36 @@
--- Laws: on an index of good shape, the audit's second pass accepts exactly the keys above pages that document 01's clause asks for. Cited by the law of what
--- the audit accepts, and by the laws of the match, which goes along the leaves. Assumes nothing.
+-- Laws: on an index of good shape, the audit's second pass accepts exactly the keys above pages that are ceilings. Cited by the law of what the audit accepts,
+-- and by the laws of the match, which goes along the leaves. Assumes nothing.
 use Prim.Native.Nat.{ℕ, zero, suc, _-_, _%_, _≤_, _<_}
 use mathlib.Core.Path.{_≡_, refl, sym, ap, _∙_}
 use mathlib.Core.List.{List, [], _∷_, _++_}
 use mathlib.Core.Bool.{true, false}
+use mathlib.Core.Logic.{_↔_}
 use native.Mathlib.Omega.{arith}
 use lib.ListN.{length, length-append}
 use lib.Dec.{eqb}
 use borrow.Author.Tests.{ne-eqb}
-use Rattle.basis.specs.Lists.{All, all-append, all-left, all-right, all-map}
+use Rattle.basis.specs.Lists.{All, all-append, all-map}
 use Rattle.basis.specs.Tests.{both, join}
-use Rattle.tree.specs.Lists.{NonEmpty, concatMap}
-use Rattle.tree.specs.ListLaws.{all-map2}
+use Rattle.tree.specs.Lists.{NonEmpty}
+use Rattle.tree.specs.ListLaws.{all-unit, all-map2}
 use Rattle.tree.specs.Pairs.{Ascending}
-use Rattle.tree.specs.Tree.{Tree, pairs}
-use Rattle.tree.specs.Clauses.{Sized, Greatest, headOr}
-use Rattle.tree.specs.ClauseLaws.{greatest-ordered, exact-greatest}
-use Rattle.tree.specs.Store.{readTree}
+use Rattle.tree.specs.Tree.{Tree, pairsUnder, pairs}
+use Rattle.tree.specs.Clauses.{Ceilings, headOr}
+use Rattle.tree.specs.ClauseLaws.{ascending-parts}
+use Rattle.tree.specs.Store.{readEntry, readTree}
 use Rattle.page.specs.Header.{maxBytes, maxLevels, pageSize, noPage, isPage}
 use Rattle.page.specs.Page.{capacity}
 use Rattle.page.specs.KeyOrder.{bytesOrder}
 use Rattle.page.specs.Reading.{entriesAt}
 use Rattle.page.specs.Children.{isLeaf, firstChild}
-use Rattle.sound.specs.Rule.{Entries, maxPages, chain, unmarked, heightOf, upperPagesGood, upperLevelsGood}
+use Rattle.sound.specs.Rule.{Entries, maxPages, chain, unmarked, heightOf, upperEntriesGood, upperPagesGood, upperLevelsGood}
 use Rattle.sound.specs.AttributeLaws.{attributeAtLevel}
-use Rattle.sound.specs.Levels.{all-of-map, numbers, below, generation, reached, generations-reached, join-map}
-use Rattle.sound.specs.Levels.{Top, generation-exact, exact-generation}
+use Rattle.sound.specs.Levels.{all-of-map, all-to-map, all-of-concat, all-to-concat, numbers, readAll, below, generation, reached, generations-reached}
 use Rattle.sound.specs.RunLaws.{Fits, Fresh}
-use Rattle.sound.specs.EntryLaws.{Exactly, upper-exactly, exactly-upper}
+use Rattle.sound.specs.CeilingLaws.{Full, full-some, full-children, PageCeilings, entries-ceilings}
 use Rattle.sound.specs.MarkLaws.{fresh-left, fresh-few, unmarked-length, once-fresh}
 use Rattle.sound.specs.LevelLaws.{same-suc, chain-is, next-head, leaf-known, FullAbove}
-use Rattle.sound.specs.ShapeLaws.{rootEntry, levelPages, Shape, levels-inside, levels-counts, entries-filled, tree-sized}
+use Rattle.sound.specs.ShapeLaws.{rootEntry, levelPages, Shape, least-one, levels-inside, levels-counts, entries-filled, tree-sized}
 
 -- what holds of the pages that entries name holds of the first of them
 pub head-all : (Q : ℕ → Type 0) (es : Entries) → NonEmpty es → All (λ e. Q (e .1)) es → Q (headOr noPage (numbers es))
@@ -61,51 +61,75 @@ module _ (b : List ℕ) (k size : ℕ) (most : size ≤ maxBytes) where
       rw (inner, heightOf) (ap suc (height-found l h (below S es) (firstChild b k size first) (omega arith) (next .1) (next .0)
       (λ i o. rw (same-suc i h) at (leaves (suc i) (omega arith))) (λ i o. full (suc i) (omega arith))))
 
-  -- the pages of one level
-  pages-exactly : (ps : List ℕ) → upperPagesGood b k size ps ≡ true → All (Exactly S) (concatMap S ps)
-  unfolding upperPagesGood
-  pages-exactly [] g = tt
-  pages-exactly (p ∷ ps) g =
-      let u = both _ _ g in
-      all-append (Exactly S) (S p) (concatMap S ps) (upper-exactly S (S p) (u .0)) (pages-exactly ps (u .1))
+  module _ (cap : ℕ) where
+    -- the tree under the page that an entry names, which has h levels under it
+    abbrev under : (h : ℕ) → List ℕ × ℕ → Tree (List ℕ) h
+    under h e = readTree S h (e .1)
 
-  exactly-pages : (ps : List ℕ) → All (Exactly S) (concatMap S ps) → upperPagesGood b k size ps ≡ true
-  unfolding upperPagesGood
-  exactly-pages [] a = refl
-  exactly-pages (p ∷ ps) a =
-      join _ _ (exactly-upper S (S p) (all-left (Exactly S) (S p) (concatMap S ps) a)) (exactly-pages ps (all-right (Exactly S) (S p) (concatMap S ps) a))
+    abbrev Ascends : ℕ → List ℕ × ℕ → Type 0
+    Ascends h e = Ascending bytesOrder (pairs h (under h e))
 
-  -- the levels under the pages that the entries es name, h levels in all, are read back along their right links
-  abbrev Chained : ℕ → Entries → Type 0
-  Chained h es = (i : ℕ) → i < h → chain b size maxPages (headOr noPage (numbers (generation S i es))) ≡ numbers (generation S i es)
+    -- the pages of one level
+    pages-ceilings : (h : ℕ) (es : Entries) → All (Full b k size cap (suc h)) es → All (Ascends (suc h)) es
+        → (upperPagesGood b k size h (numbers es) ≡ true) ↔ All (λ e. PageCeilings b k size h (S (e .1))) es
+    unfolding upperPagesGood
+    pages-ceilings h [] d a = ((λ g. tt), (λ c. refl))
+    pages-ceilings h (e ∷ es) d a =
+        let here = entries-ceilings b k size cap h (S (e .1)) (full-children b k size cap h e (d .0)) (a .0) in
+        let rest = pages-ceilings h es (d .1) (a .1) in (
+          (λ g. let t = both (upperEntriesGood b k size h (S (e .1))) _ g in (here .0 (t .0), rest .0 (t .1))),
+          (λ c. join _ _ (here .1 (c .0)) (rest .1 (c .1))),
+        )
 
-  abbrev ExactlyUnder : ℕ → Entries → Type 0
-  ExactlyUnder h es = (i : ℕ) → i < h → All (Exactly S) (generation S (suc i) es)
+    -- the levels under the pages that the entries es name, h levels in all, are read back along their right links
+    abbrev Chained : ℕ → Entries → Type 0
+    Chained h es = (i : ℕ) → i < h → chain b size maxPages (headOr noPage (numbers (generation S i es))) ≡ numbers (generation S i es)
 
-  along : (es : Entries) (first : ℕ) → first ≡ headOr noPage (numbers es) → chain b size maxPages (headOr noPage (numbers es)) ≡ numbers es
-      → concatMap S (chain b size maxPages first) ≡ below S es
-  along es first e c = ap (λ (p : ℕ). concatMap S (chain b size maxPages p)) e ∙ ap (concatMap S) c ∙ join-map S S (λ e. e .1) es
+    -- what holds of the pages that es name holds of their children
+    full-below : (h : ℕ) (es : Entries) → All (Full b k size cap (suc h)) es → All (Full b k size cap h) (below S es)
+    full-below h es d =
+        all-to-concat (Full b k size cap h) (λ e. S (e .1)) es
+        (all-map (Full b k size cap (suc h)) (λ e. All (Full b k size cap h) (S (e .1))) (full-children b k size cap h) es d)
 
-  levels-exactly : (h : ℕ) (es : Entries) (first : ℕ) → NonEmpty es → first ≡ headOr noPage (numbers es) → FullAbove b k size most h es → Chained h es
-      → upperLevelsGood b k size h first ≡ true → ExactlyUnder h es
-  unfolding upperLevelsGood
-  levels-exactly zero es first some e full c g i l = absurd (omega arith)
-  levels-exactly (suc h) es first some e full c g zero l =
-      rw (along es first e (c 0 (omega arith))) at (pages-exactly (chain b size maxPages first) (both _ _ g .0))
-  levels-exactly (suc h) es first some e full c g (suc i) l =
-      let next = next-head b k size most es first some e (full 0 (omega arith)) in
-      levels-exactly h (below S es) (firstChild b k size first) (next .1) (next .0) (λ j o. full (suc j) (omega arith)) (λ j o. c (suc j) (omega arith))
-      (both (upperPagesGood b k size (chain b size maxPages first)) _ g .1) i (omega arith)
+    ascends-below : (h : ℕ) (es : Entries) → All (Ascends (suc h)) es → All (Ascends h) (below S es)
+    ascends-below h es a =
+        all-to-concat (Ascends h) (λ e. S (e .1)) es
+        (all-map (Ascends (suc h)) (λ e. All (Ascends h) (S (e .1)))
+        (λ e u. all-of-map (λ x. Ascending bytesOrder (pairsUnder (suc h) x)) (readEntry S (suc h)) (S (e .1))
+        (ascending-parts bytesOrder (pairsUnder (suc h)) (readAll S (suc h) (S (e .1))) u)) es a)
 
-  exactly-levels : (h : ℕ) (es : Entries) (first : ℕ) → NonEmpty es → first ≡ headOr noPage (numbers es) → FullAbove b k size most h es → Chained h es
-      → ExactlyUnder h es → upperLevelsGood b k size h first ≡ true
-  unfolding upperLevelsGood
-  exactly-levels zero es first some e full c a = refl
-  exactly-levels (suc h) es first some e full c a =
-      let next = next-head b k size most es first some e (full 0 (omega arith)) in
-      join _ _ (exactly-pages (chain b size maxPages first) (rw (along es first e (c 0 (omega arith))) (a 0 (omega arith))))
-      (exactly-levels h (below S es) (firstChild b k size first) (next .1) (next .0) (λ j o. full (suc j) (omega arith)) (λ j o. c (suc j) (omega arith))
-      (λ i l. a (suc i) (omega arith)))
+    -- the clause on a tree: its root's entries, and the trees under them
+    abbrev Lower : ℕ → List ℕ × ℕ → Type 0
+    Lower h e = All (λ f. Ceilings bytesOrder h (under h f)) (S (e .1))
+
+    ceilings-join : (h : ℕ) (e : List ℕ × ℕ) → PageCeilings b k size h (S (e .1)) → Lower h e → Ceilings bytesOrder (suc h) (under (suc h) e)
+    ceilings-join h e c d = (c .0, c .1, all-to-map (λ x. Ceilings bytesOrder h (x .1)) (readEntry S (suc h)) (S (e .1)) d)
+
+    ceilings-lower : (h : ℕ) (e : List ℕ × ℕ) → Ceilings bytesOrder (suc h) (under (suc h) e) → Lower h e
+    ceilings-lower h e c = all-of-map (λ x. Ceilings bytesOrder h (x .1)) (readEntry S (suc h)) (S (e .1)) (c .2)
+
+    levels-ceilings : (h : ℕ) (es : Entries) (first : ℕ) → NonEmpty es → first ≡ headOr noPage (numbers es) → Chained h es
+        → (0 < h → All (Full b k size cap h) es) → All (Ascends h) es
+        → (upperLevelsGood b k size h first ≡ true) ↔ All (λ e. Ceilings bytesOrder h (under h e)) es
+    unfolding upperLevelsGood
+    levels-ceilings zero es first some e chained full ascends = ((λ g. all-unit es), (λ c. refl))
+    levels-ceilings (suc h) es first some e chained full ascends =
+        let d = full (omega arith) in
+        let next = next-head b k size most es first some e (all-map (Full b k size cap (suc h)) (λ e. NonEmpty (S (e .1))) (full-some b k size cap (suc h)) es d) in
+        let here = pages-ceilings h es d ascends in
+        let rest = levels-ceilings h (below S es) (firstChild b k size first) (next .1) (next .0) (λ i l. chained (suc i) (omega arith))
+        (λ l. full-below h es d) (ascends-below h es ascends) in
+        let along : chain b size maxPages first ≡ numbers es = ap (chain b size maxPages) e ∙ chained 0 (omega arith) in (
+          (λ g.
+              let t = both (upperPagesGood b k size h (chain b size maxPages first)) _ g in
+              all-map2 (λ e. PageCeilings b k size h (S (e .1))) (Lower h) (λ e. Ceilings bytesOrder (suc h) (under (suc h) e)) (ceilings-join h) es
+              (here .0 (rw along at (t .0)))
+              (all-of-concat (λ f. Ceilings bytesOrder h (under h f)) (λ e. S (e .1)) es (rest .0 (t .1)))),
+          (λ c.
+              let pages = all-map (λ e. Ceilings bytesOrder (suc h) (under (suc h) e)) (λ e. PageCeilings b k size h (S (e .1))) (λ e u. (u .0, u .1)) es c in
+              let lower = all-map (λ e. Ceilings bytesOrder (suc h) (under (suc h) e)) (Lower h) (ceilings-lower h) es c in
+              join (upperPagesGood b k size h (chain b size maxPages first)) _ (rw along (here .1 pages)) (rest .1 (all-to-concat (λ f. Ceilings bytesOrder h (under h f)) (λ e. S (e .1)) es lower))),
+        )
 
   -- a level has at most as many pages as the tree
   level-few : (h i : ℕ) (es : Entries) → i < h → length (numbers (generation S i es)) ≤ length (reached S h es)
@@ -124,9 +148,6 @@ module _ (b : List ℕ) (k size root : ℕ) (whole : size % pageSize ≡ 0) (mos
 
   abbrev E : ℕ → Entries
   E i = generation (entriesAt k size b) i (rootEntry root)
-
-  abbrev T : Tree (List ℕ) (s .height)
-  T = readTree (entriesAt k size b) (s .height) root
 
   filled : (i : ℕ) → i ≤ h → 0 < h → All (λ e. NonEmpty (C (e .1))) (E i)
   filled = entries-filled b k size root h (levels-inside b k size root h (s .levels)) (levels-counts b k size root h (s .levels))
@@ -156,20 +177,17 @@ module _ (b : List ℕ) (k size root : ℕ) (whole : size % pageSize ≡ 0) (mos
       let here = level-few b k size most (suc h) i (rootEntry root) (omega arith) in
       chain-is b k size most maxPages noPage (levelPages b k size root i) (omega arith) (levels-inside b k size root h (s .levels) i l) (s .levels i l .linked)
 
-  sized : Sized (capacity k) (s .height) (readTree (entriesAt k size b) (s .height) root)
-  sized = tree-sized b k size root h (levels-inside b k size root h (s .levels)) (levels-counts b k size root h (s .levels))
+  full-root : 0 < h → Full b k size (capacity k) h ([], root)
+  full-root positive =
+      let z = tree-sized b k size root h (levels-inside b k size root h (s .levels)) (levels-counts b k size root h (s .levels)) in
+      let one = least-one h positive in
+      let some = z .0 in
+      (omega arith, z .1, z .2)
 
-  -- Theorem: the keys above pages that the second pass accepts are the greatest under them
-  pub keys-greatest : upperLevelsGood b k size (s .height) root ≡ true → Greatest (s .height) (readTree (entriesAt k size b) (s .height) root)
-  keys-greatest g =
-      let a = levels-exactly b k size most h (rootEntry root) root tt refl full (λ i l. level-chain i (omega arith)) g in
-      exact-greatest (capacity k) h T sized (generation-exact C [] root h (λ i l. all-map (Exactly C) (Top C) (λ e x. x .1) (E (suc i)) (a i l)))
-
-  -- and back, if the leaf keys ascend
-  pub greatest-keys : Ascending bytesOrder (pairs (s .height) (readTree (entriesAt k size b) (s .height) root))
-      → Greatest (s .height) (readTree (entriesAt k size b) (s .height) root) → upperLevelsGood b k size (s .height) root ≡ true
-  greatest-keys ascending greatest =
-      let exact = greatest-ordered bytesOrder (capacity k) h T sized ascending greatest .1 in
-      exactly-levels b k size most h (rootEntry root) root tt refl full (λ i l. level-chain i (omega arith))
-      (λ i l. all-map2 (λ e. NonEmpty (C (e .1))) (Top C) (Exactly C) (λ e x y. (x, y)) (E (suc i)) (filled (suc i) (omega arith) (omega arith))
-      (exact-generation C [] root h exact i l))
+  -- Theorem: if the leaf keys ascend, the second pass accepts exactly the keys above pages that are ceilings
+  pub keys-ceilings : Ascending bytesOrder (pairs (s .height) (readTree (entriesAt k size b) (s .height) root))
+      → (upperLevelsGood b k size (s .height) root ≡ true) ↔ Ceilings bytesOrder (s .height) (readTree (entriesAt k size b) (s .height) root)
+  keys-ceilings ascending =
+      let levels = levels-ceilings b k size most (capacity k) h (rootEntry root) root tt refl (λ i l. level-chain i (omega arith))
+      (λ l. (full-root l, tt)) (ascending, tt) in
+      ((λ g. levels .0 g .0), (λ c. levels .1 (c, tt)))

@@ -12,12 +12,10 @@ use Rattle.basis.specs.Tests.{either}
 use Rattle.basis.specs.Lists.{All, all-append, all-left, all-right, all-map}
 use Rattle.tree.specs.Lists.{concatMap, occ}
 use Rattle.tree.specs.ListLaws.{all-unit, all-map2, concatMap-append, concatMap-single, concatMap-none, occ-append}
-use Rattle.tree.specs.Pairs.{lastKey}
 use Rattle.tree.specs.Clauses.{least, SizedUnder, Sized}
 use Rattle.tree.specs.Tree.{Entry, pairsUnder, pairs, pagesUnder, pages, levelUnder, level}
-use Rattle.tree.specs.Exact.{ExactUnder, Exact}
 use Rattle.tree.specs.Store.{Store, readEntry, readTree}
-use Rattle.tree.specs.StoreLaws.{map-read-zero, lastKey-read}
+use Rattle.tree.specs.StoreLaws.{map-read-zero}
 
 -- lists
 pub map-append : {A B : Type 0} (f : A → B) (xs ys : List A) → map f (xs ++ ys) ≡ map f xs ++ map f ys
@@ -32,7 +30,7 @@ pub all-of-map : {A B : Type 0} (P : B → Type 0) (f : A → B) (xs : List A) �
 all-of-map P f [] a = tt
 all-of-map P f (x ∷ xs) a = (a .0, all-of-map P f xs (a .1))
 
-all-to-concat : {A B : Type 0} (P : B → Type 0) (f : A → List B) (xs : List A) → All (λ x. All P (f x)) xs → All P (concatMap f xs)
+pub all-to-concat : {A B : Type 0} (P : B → Type 0) (f : A → List B) (xs : List A) → All (λ x. All P (f x)) xs → All P (concatMap f xs)
 all-to-concat P f [] a = tt
 all-to-concat P f (x ∷ xs) a = all-append P (f x) (concatMap f xs) (a .0) (all-to-concat P f xs (a .1))
 
@@ -59,7 +57,7 @@ module _ {K : Type 0} (S : Store K) where
   reached (suc h) es = numbers es ++ reached h (below es)
 
   -- the entries read with h levels under them
-  abbrev readAll : (h : ℕ) → List (K × ℕ) → List (Entry K h)
+  abbrev pub readAll : (h : ℕ) → List (K × ℕ) → List (Entry K h)
   readAll h es = map (readEntry S h) es
 
   pub join-map : {B C : Type 0} (g : C → List B) (v : K × ℕ → C) (es : List (K × ℕ)) → concatMap g (map v es) ≡ concatMap (λ e. g (v e)) es
@@ -194,18 +192,6 @@ module _ {K : Type 0} (S : Store K) where
   sized-pages cap (suc h) root s =
       (rw (length-map (S root) (readEntry S (suc h))) at (s .0), sized-level cap (suc h) (sized-under cap (suc h)) (S root) (s .2))
 
-  -- the key above a page is the page's last key
-  abbrev pub Top : K × ℕ → Type 0
-  Top e = lastKey (e .0) (S (e .1)) ≡ e .0
-
-  deep-exact : (h : ℕ) (e : K × ℕ) → Deep Top h e → ExactUnder h (readEntry S h e)
-  deep-exact zero e d = tt
-  deep-exact (suc h) e d = (lastKey-read S h (e .0) (S (e .1)) ∙ d .0, read-all h (ExactUnder h) (Deep Top h) (deep-exact h) (S (e .1)) (d .1))
-
-  exact-deep : (h : ℕ) (e : K × ℕ) → ExactUnder h (readEntry S h e) → Deep Top h e
-  exact-deep zero e d = tt
-  exact-deep (suc h) e d = (sym (lastKey-read S h (e .0) (S (e .1))) ∙ d .0, all-read h (ExactUnder h) (Deep Top h) (exact-deep h) (S (e .1)) (d .1))
-
   -- every entry of every level
   pub generation-below : (i : ℕ) (es : List (K × ℕ)) → below (generation i es) ≡ generation (suc i) es
   generation-below zero es = refl
@@ -266,17 +252,10 @@ module _ {K : Type 0} (S : Store K) where
     below-top : (i : ℕ) → generation (suc i) ((a, root) ∷ []) ≡ generation i (S root)
     below-top i = ap (generation i) (append-nil (S root))
 
-    -- counts and keys above, level by level
+    -- counts, level by level
     pub generation-sized : (cap : ℕ) → least h ≤ length (S root) → length (S root) ≤ cap →
         ((i : ℕ) → i < h → All (Counted cap) (generation (suc i) ((a, root) ∷ []))) → Sized cap h (readTree S h root)
     generation-sized cap l u c =
         let n = length-map (S root) (readEntry S h) in
         let d = levels-deep (Counted cap) h (S root) (λ i m. rw (below-top i) at (c i m)) in
         (rw n l, rw n u, read-all h (SizedUnder cap h) (Deep (Counted cap) h) (deep-sized cap h) (S root) d)
-
-    pub generation-exact : ((i : ℕ) → i < h → All Top (generation (suc i) ((a, root) ∷ []))) → Exact h (readTree S h root)
-    generation-exact c =
-        read-all h (ExactUnder h) (Deep Top h) (deep-exact h) (S root) (levels-deep Top h (S root) (λ i m. rw (below-top i) at (c i m)))
-
-    pub exact-generation : Exact h (readTree S h root) → (i : ℕ) → i < h → All Top (generation (suc i) ((a, root) ∷ []))
-    exact-generation x i m = rw (below-top i) (deep-levels Top h (S root) (all-read h (ExactUnder h) (Deep Top h) (exact-deep h) (S root) x) i m)

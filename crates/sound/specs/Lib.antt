@@ -11,7 +11,7 @@ pub mod AttributeLaws
 pub mod Levels
 -- Laws: the audit's pass over the pages of one level
 pub mod RunLaws
--- Laws: the audit's tests of entries, against ascending keys and exact keys above
+-- Laws: the audit's tests of leaf entries, against ascending keys
 pub mod EntryLaws
 -- Laws: the marks of the pages met, against how often each page is met
 pub mod MarkLaws
@@ -21,7 +21,9 @@ pub mod FreeLaws
 pub mod LevelLaws
 -- Laws: good levels, against document 01's clauses on the tree, but for keys above pages
 pub mod ShapeLaws
--- Laws: the audit's pass over the keys above pages, against document 01's clause on them
+-- Laws: the audit's test of the keys over a page's children, against K1's clause
+pub mod CeilingLaws
+-- Laws: the audit's pass over the keys above pages, against K1's clause
 pub mod KeyLaws
 -- Laws: the test accepts exactly the sound indexes
 pub mod Accepted

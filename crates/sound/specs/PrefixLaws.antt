@@ -17,7 +17,7 @@ use Rattle.tree.specs.Lists.{occ}
 use Rattle.tree.specs.Pairs.{Ascending}
 use Rattle.tree.specs.Tree.{Tree, pairs, pages, level}
 use Rattle.tree.specs.Store.{Store, readTree}
-use Rattle.tree.specs.Clauses.{Greatest, Linked}
+use Rattle.tree.specs.Clauses.{Ceilings, Linked}
 use Rattle.tree.specs.FreeChain.{Chained}
 use Rattle.page.specs.Header.{pageSize, noPage, rootOffset, freePointer, fileSize, keyLength, features, isPage, headerGood}
 use Rattle.page.specs.HeaderLaws.{is-page, good-header, good-header-from}
@@ -141,7 +141,7 @@ module _ (a b : List ℕ) (same : window a 0 (fileSize a) ≡ window b 0 (fileSi
     counts = at-pages (CountGood a (keyLength a) h) (CountGood b (keyLength b) h) (λ p i x. rw (count-same a b p (page p i), key) at x) (s .counts);
     ascending = subst (λ (t : Tree (List ℕ) h). Ascending bytesOrder (pairs h t)) (tree h) (s .ascending);
     records = subst (λ (t : Tree (List ℕ) h). All (λ e. 0 < e .1) (pairs h t)) (tree h) (s .records);
-    greatest = subst (λ (t : Tree (List ℕ) h). Greatest h t) (tree h) (s .greatest);
+    ceilings = subst (λ (t : Tree (List ℕ) h). Ceilings bytesOrder h t) (tree h) (s .ceilings);
     links = λ j l. subst (λ (t : Tree (List ℕ) h). Linked noPage (linksOf b) noPage (level j h t)) (tree h)
         (links-same noPage (level j h (indexTree a h)) (levels-inside j l) (s .links j l));
   }

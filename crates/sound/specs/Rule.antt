@@ -5,7 +5,7 @@
 -- along, and marks each page that it meets. The second pass tests the keys above pages: the links are good by then, and the height is known.
 use Prim.Native.Nat.{ℕ, zero, suc, _+_, _-_, _/_}
 use mathlib.Core.List.{List, [], _∷_}
-use mathlib.Core.Bool.{Bool, true, false, cond, not, _&&_}
+use mathlib.Core.Bool.{Bool, true, false, cond, not, _&&_, _||_}
 use mathlib.Core.Option.{Option, none, some}
 use lib.ListN.{getD, set, replicate}
 use lib.Dec.{eqb}
@@ -25,29 +25,45 @@ Entries = List (List ℕ × ℕ)
 abbrev pub maxPages : ℕ
 maxPages = maxBytes / pageSize
 
--- the last key of entries, o if there are none
+-- the first key of entries, and the last, o if there are none
+abbrev pub firstOf : Entries → Option (List ℕ)
+firstOf [] = none
+firstOf (e ∷ es) = some (e .0)
+
 abbrev pub lastOf : Option (List ℕ) → Entries → Option (List ℕ)
 lastOf o [] = o
 lastOf o (e ∷ es) = lastOf (some (e .0)) es
 
--- the key x is above the other key, if there is one; x is the other key
+-- the key x is above the other key, if there is one
 abbrev pub isAbove : Option (List ℕ) → List ℕ → Bool
 isAbove none x = true
 isAbove (some a) x = isBelow (ordering a x)
-
-abbrev pub isSame : Option (List ℕ) → List ℕ → Bool
-isSame none x = false
-isSame (some a) x = isEqual (ordering a x)
 
 -- the entries of a leaf, after the key o: each key is above the key before it, each record number above 0
 unfoldable pub leafEntriesGood : Option (List ℕ) → Entries → Bool
 leafEntriesGood o [] = true
 leafEntriesGood o (e ∷ es) = (not (eqb (e .1) 0) && isAbove o (e .0)) && leafEntriesGood (some (e .0)) es
 
--- the entries of a page above the leaves, in the store S of pages: each key is the last of the child's keys
-unfoldable pub upperEntriesGood : (ℕ → Entries) → Entries → Bool
-upperEntriesGood S [] = true
-upperEntriesGood S (e ∷ es) = isSame (lastOf none (S (e .1))) (e .0) && upperEntriesGood S es
+-- the number of the last entry, n if there is none
+abbrev pub lastNumber : ℕ → Entries → ℕ
+lastNumber n [] = n
+lastNumber n (e ∷ es) = lastNumber (e .1) es
+
+-- the page that f leads to in h steps from the page at p
+unfoldable pub down : (ℕ → ℕ) → ℕ → ℕ → ℕ
+down f zero p = p
+down f (suc h) p = down f h (f p)
+
+-- the key x over a child is a ceiling, if `next` says whether x is below the first leaf key under the next child: x is the last leaf key under the child,
+-- and then below the next anyway, since leaf keys ascend; or x is above the last leaf key, and below the next
+abbrev pub isCeiling : Option (List ℕ) → List ℕ → Bool → Bool
+isCeiling none x next = false
+isCeiling (some a) x next = isEqual (ordering a x) || (isBelow (ordering a x) && next)
+
+-- the key x is below the other key, and there is one
+abbrev pub isUnder : List ℕ → Option (List ℕ) → Bool
+isUnder x none = false
+isUnder x (some a) = isBelow (ordering x a)
 
 -- the attribute of the pages of a level: 1 root, 2 leaf, summed
 abbrev pub attributeOf : Bool → Bool → ℕ
@@ -169,15 +185,39 @@ module _ (b : List ℕ) (k size : ℕ) where
   heightOf zero p = 0
   heightOf (suc l) p = elim (isLeaf b size p) [ true ↦ 0 | false ↦ suc (heightOf l (firstChild b k size p)) ]
 
-  -- the entries of the pages of a level above the leaves
-  unfoldable pub upperPagesGood : List ℕ → Bool
-  upperPagesGood [] = true
-  upperPagesGood (p ∷ ps) = upperEntriesGood entriesOf (entriesOf p) && upperPagesGood ps
+  -- the first and the last of the leaf keys under the page at p, which has h levels under it
+  abbrev pub lastChild : ℕ → ℕ
+  lastChild p = lastNumber noPage (entriesOf p)
+
+  abbrev pub firstLeafKey : ℕ → ℕ → Option (List ℕ)
+  firstLeafKey h p = firstOf (entriesOf (down (firstChild b k size) h p))
+
+  abbrev pub lastLeafKey : ℕ → ℕ → Option (List ℕ)
+  lastLeafKey h p = lastOf none (entriesOf (down lastChild h p))
+
+  -- the key x is below the first leaf key under the next child, that of the first of the entries es, which has h levels under it
+  abbrev pub belowNext : ℕ → List ℕ → Entries → Bool
+  belowNext h x [] = true
+  belowNext h x (e ∷ es) = isUnder x (firstLeafKey h (e .1))
+
+  -- the key of the entry e, before the entries es of its page, is a ceiling; e's child has h levels under it
+  abbrev pub upperEntryGood : ℕ → List ℕ × ℕ → Entries → Bool
+  upperEntryGood h e es = isCeiling (lastLeafKey h (e .1)) (e .0) (belowNext h (e .0) es)
+
+  -- the entries of a page above the leaves, whose children have h levels under them
+  unfoldable pub upperEntriesGood : ℕ → Entries → Bool
+  upperEntriesGood h [] = true
+  upperEntriesGood h (e ∷ es) = upperEntryGood h e es && upperEntriesGood h es
+
+  -- the entries of the pages of a level
+  unfoldable pub upperPagesGood : ℕ → List ℕ → Bool
+  upperPagesGood h [] = true
+  upperPagesGood h (p ∷ ps) = upperEntriesGood h (entriesOf p) && upperPagesGood h ps
 
   -- the keys above pages: of the level whose first page is `first`, which has h levels under it, and of those levels but the leaves
   unfoldable pub upperLevelsGood : ℕ → ℕ → Bool
   upperLevelsGood zero first = true
-  upperLevelsGood (suc h) first = upperPagesGood (chain b size maxPages first) && upperLevelsGood h (firstChild b k size first)
+  upperLevelsGood (suc h) first = upperPagesGood h (chain b size maxPages first) && upperLevelsGood h (firstChild b k size first)
 
 -- all but the keys above pages, of an index whose header is good, from the marks m on
 unfoldable pub shapeGood : List ℕ → List ℕ → Bool

@@ -16,7 +16,7 @@ use Rattle.tree.specs.Lists.{NonEmpty, concatMap, occ}
 use Rattle.tree.specs.ListLaws.{all-map2, nonEmpty-length, occ-append, occ-here, occ-head, occ-not-head}
 use Rattle.tree.specs.Pairs.{Ascending}
 use Rattle.tree.specs.Tree.{Tree, pairs}
-use Rattle.tree.specs.Clauses.{least, Sized, Greatest, Linked}
+use Rattle.tree.specs.Clauses.{least, Sized, Ceilings, Linked}
 use Rattle.tree.specs.Store.{readTree}
 use Rattle.page.specs.Header.{maxBytes, maxLevels, noPage, rootOffset, fileSize, keyLength, isPage, headerGood}
 use Rattle.page.specs.Page.{attributeAt, countAt, rootBit, leafBit, capacity}
@@ -75,7 +75,7 @@ pub record Shape (b : List ℕ) (k size root : ℕ) : Type 0 where
   pub freePages : All (FreePage b) free
   pub once : OnceAmong b k size root height free
 
-least-one : (h : ℕ) → 0 < h → least h ≡ 1
+pub least-one : (h : ℕ) → 0 < h → least h ≡ 1
 least-one zero l = absurd (omega arith)
 least-one (suc h) l = refl
 
@@ -268,8 +268,9 @@ module _ (b : List ℕ) where
       (good-header b e .most) (λ i l. s .levels i l .checked)
 
   -- Theorem: an index of that shape is sound if its keys above pages are
-  pub shape-sound : headerGood b ≡ true → (s : Shape b (keyLength b) (fileSize b) (rootOffset b)) → Greatest (s .height) (indexTree b (s .height)) → Sound b
-  shape-sound e s greatest =
+  pub shape-sound : headerGood b ≡ true → (s : Shape b (keyLength b) (fileSize b) (rootOffset b))
+      → Ceilings bytesOrder (s .height) (indexTree b (s .height)) → Sound b
+  shape-sound e s ceilings =
       let h = s .height in
       let few = s .few in
       let g = good-header b e in
@@ -292,7 +293,7 @@ module _ (b : List ℕ) where
         counts = generation-pages B [] R h (CountGood b (keyLength b) h) counts;
         ascending = p .0;
         records = p .1;
-        greatest = greatest;
+        ceilings = ceilings;
         links = generation-level B [] R h (λ j ps. Linked noPage (linksOf b) noPage ps) (λ i l. s .levels i l .linked);
       }
 

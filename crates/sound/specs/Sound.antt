@@ -1,5 +1,5 @@
--- Rules: what a sound index is, in document 01's clauses, order and words ("Sound: good header; every page ..", The index), on the tree that the bytes are
--- read as. The audit's contract cites `Audited`; the match's contract and the claim about lists of calls cite `Sound`. Insertion's rule computes with the test
+-- Rules: what a sound index is, in document 01's clauses, order and words ("Sound: good header; every page ..", The index), and for keys above pages in change
+-- request K1's, on the tree that the bytes are read as. The audit's contract cites `Audited`; the match's contract and the claim about lists of calls cite `Sound`. Insertion's rule computes with the test
 -- of Rule, and the laws of book/InsertionAnswers say its answers by `Sound`.
 use Prim.Native.Nat.{ℕ, _+_, _≤_, _<_}
 use mathlib.Core.Path.{_≡_}
@@ -13,7 +13,7 @@ use Rattle.octets.specs.Store.{window}
 use Rattle.tree.specs.Lists.{occ}
 use Rattle.tree.specs.Pairs.{Ascending}
 use Rattle.tree.specs.Tree.{Tree, pairs, pages, level}
-use Rattle.tree.specs.Clauses.{least, Greatest, Links, AllLinked}
+use Rattle.tree.specs.Clauses.{least, Ceilings, Links, AllLinked}
 use Rattle.tree.specs.FreeChain.{Chained}
 use Rattle.page.specs.Header.{maxLevels, noPage, rootOffset, freePointer, fileSize, keyLength, isPage, headerGood}
 use Rattle.page.specs.Page.{attributeAt, countAt, leftAt, rightAt, rootBit, leafBit, capacity, rightPlace, entriesStart, entryArea}
@@ -77,8 +77,8 @@ pub record Sound (b : List ℕ) : Type 0 where
   pub ascending : Ascending bytesOrder (pairs height (indexTree b height))
   -- "record numbers above 0"
   pub records : All (λ e. 0 < e .1) (pairs height (indexTree b height))
-  -- "the key above a child equals the greatest key under it"
-  pub greatest : Greatest height (indexTree b height)
+  -- "the key above a child is at or above every leaf key under it, and below the first leaf key under the next child of the same page"
+  pub ceilings : Ceilings bytesOrder height (indexTree b height)
   -- "left and right name the neighbours on the level"
   pub links : AllLinked noPage (linksOf b) height (indexTree b height)
 

@@ -43,9 +43,7 @@ pub mod InsertPairs
 pub mod LeafLaws
 -- Laws: an insertion keeps the order
 pub mod InsertOrdered
--- Laws: exact keys above pages; an insertion keeps them
-pub mod Exact
--- Laws: document 01's words for the order, and the theory's, say the same
+-- Laws: the clauses of a sound index for the order, and the theory's order, say the same
 pub mod ClauseLaws
 -- Laws: an insertion keeps counts within capacity
 pub mod InsertSized

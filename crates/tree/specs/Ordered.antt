@@ -1,5 +1,5 @@
 -- Laws: ordered trees, in which each key above is a ceiling; lookup in an ordered tree gives what the ascending list of its pairs has. Cited by every law of
--- insertion. Lookup and insertion rest on the order alone; that a key above is the greatest under it is in Exact. Assumes nothing.
+-- insertion. Assumes nothing.
 use mathlib.Core.Path.{_≡_, refl, sym, ap, _∙_, subst}
 use mathlib.Core.List.{List, [], _∷_}
 use mathlib.Core.Option.{Option, none, some, IsSome}

@@ -1,0 +1,188 @@
+-- Laws: the audit's test of the keys over the children of a page, which goes down to the last leaf key under a child and to the first under the next one, says
+-- that these keys are ceilings. Cited by the laws of keys above pages. Assumes nothing.
+use Prim.Native.Nat.{ℕ, zero, suc}
+use mathlib.Core.Path.{_≡_, refl, sym, ap, _∙_, subst}
+use mathlib.Core.List.{List, [], _∷_, _++_, append-nil}
+use mathlib.Core.Bool.{Bool, true, false, not}
+use mathlib.Core.Option.{none, some}
+use mathlib.Core.Logic.{_↔_}
+use lib.ListN.{length-map}
+use Rattle.basis.specs.Lists.{All, all-left}
+use Rattle.basis.specs.Tests.{either, contra, both, join}
+use Rattle.tree.specs.Lists.{NonEmpty, concatMap}
+use Rattle.tree.specs.ListLaws.{concatMap-single, nonEmpty-length}
+use Rattle.tree.specs.Order.{Le, Lt}
+use Rattle.tree.specs.OrderLaws.{lt-le}
+use Rattle.tree.specs.Pairs.{firstKey, lastKey, Below, Ascending}
+use Rattle.tree.specs.PairLaws.{lastKey-all, lastKey-append, firstKey-append, below-up, ascending-left, ascending-right, ascending-across, ascending-last}
+use Rattle.tree.specs.Tree.{pairsUnder, pairs}
+use Rattle.tree.specs.Clauses.{SizedUnder, AtOrAbove, BelowNext, headOr}
+use Rattle.tree.specs.ClauseLaws.{sized-nonEmpty, firstKey-above}
+use Rattle.tree.specs.Store.{readEntry, readTree}
+use Rattle.tree.specs.StoreLaws.{map-read-zero}
+use Rattle.octets.specs.Order.{bytesLe, ordering, isBelow, isEqual}
+use Rattle.octets.specs.OrderLaws.{le-antisym}
+use Rattle.page.specs.Header.{noPage}
+use Rattle.page.specs.KeyOrder.{bytesOrder}
+use Rattle.page.specs.KeyOrderLaws.{below, below-not-le, equal-same, equal-refl}
+use Rattle.page.specs.Reading.{entriesAt}
+use Rattle.sound.specs.Rule.{Entries, firstOf, lastNumber, down, isCeiling, firstLeafKey, lastLeafKey, belowNext, upperEntryGood, upperEntriesGood}
+use Rattle.sound.specs.Levels.{all-of-map, numbers, readAll}
+use Rattle.sound.specs.EntryLaws.{last-some}
+
+-- below, as a test and as the order has it
+below-lt : (a b : List ℕ) → isBelow (ordering a b) ≡ true → Lt bytesOrder a b
+below-lt a b e = below a b refl e
+
+lt-below : (a b : List ℕ) → Lt bytesOrder a b → isBelow (ordering a b) ≡ true
+lt-below a b l = below-not-le a b ∙ ap not l
+
+first-some : (a : List ℕ) (xs : Entries) → NonEmpty xs → firstOf xs ≡ some (firstKey a xs)
+first-some a [] s = absurd s
+first-some a (x ∷ xs) s = refl
+
+last-le : (x a : List ℕ) (u : Entries) → NonEmpty u → Below bytesOrder x u → Le bytesOrder (lastKey a u) x
+last-le x a [] s c = absurd s
+last-le x a (y ∷ ys) s c = lastKey-all (λ z. Le bytesOrder z x) (y .0) ys (c .0) (c .1)
+
+-- the test of a key x over a child with the leaf pairs u, whose last key is l: N is what `next` says, and follows if x is l
+module _ (x a : List ℕ) (u : Entries) (next : Bool) (N : Type 0) (some-u : NonEmpty u) (ascending : Ascending bytesOrder u)
+    (holds : next ≡ true → N) (tells : N → next ≡ true) (follows : lastKey a u ≡ x → N) where
+  abbrev l : List ℕ
+  l = lastKey a u
+
+  covered : Below bytesOrder l u
+  covered = ascending-last bytesOrder a u ascending
+
+  test-ceiling : isCeiling (some (lastKey a u)) x next ≡ true → Below bytesOrder x u × N
+  test-ceiling g = either (isEqual (ordering l x))
+      (λ e. let same = equal-same l x e in (subst (λ z. Below bytesOrder z u) same covered, follows same))
+      (λ e. let v = both (isBelow (ordering l x)) next (rw e at g) in
+      (below-up bytesOrder l x (lt-le bytesOrder l x (below-lt l x (v .0))) u covered, holds (v .1)))
+
+  ceiling-test : Below bytesOrder x u × N → isCeiling (some (lastKey a u)) x next ≡ true
+  ceiling-test c = either (isEqual (ordering l x))
+      (λ e. rw e)
+      (λ e. let apart : bytesLe x l ≡ false = either (bytesLe x l)
+      (λ o. let same = le-antisym l x (last-le x a u some-u (c .0)) o in contra (subst (λ z. isEqual (ordering l z) ≡ true) same (equal-refl l)) e)
+      (λ o. o) in rw e (join _ _ (lt-below l x apart) (tells (c .1))))
+
+module _ (b : List ℕ) (k size : ℕ) where
+  abbrev S : ℕ → Entries
+  S = entriesAt k size b
+
+  -- the page that an entry names, which has h levels under it, and the pages of those levels have entries
+  abbrev pub Full : ℕ → ℕ → List ℕ × ℕ → Type 0
+  Full cap h e = SizedUnder cap (suc h) (readEntry (entriesAt k size b) (suc h) e)
+
+  pub full-some : (cap h : ℕ) (e : List ℕ × ℕ) → Full cap h e → NonEmpty (entriesAt k size b (e .1))
+  full-some cap h e d = nonEmpty-length (S (e .1)) (rw (length-map (S (e .1)) (readEntry S h)) at (d .0))
+
+  pub full-children : (cap h : ℕ) (e : List ℕ × ℕ) → Full cap (suc h) e → All (Full cap h) (entriesAt k size b (e .1))
+  full-children cap h e d = all-of-map (SizedUnder cap (suc h)) (readEntry S (suc h)) (S (e .1)) (d .2)
+
+  -- the leaf pairs under the entries xs, whose pages have h levels under them
+  abbrev leafPairs : ℕ → Entries → Entries
+  leafPairs h xs = concatMap (pairsUnder (suc h)) (readAll (entriesAt k size b) (suc h) xs)
+
+  -- the keys of the entries xs of a page are ceilings, over pages that have h levels under them
+  abbrev pub PageCeilings : ℕ → Entries → Type 0
+  PageCeilings h xs =
+      AtOrAbove bytesOrder (pairsUnder (suc h)) (readAll (entriesAt k size b) (suc h) xs)
+      × BelowNext bytesOrder (pairsUnder (suc h)) (readAll (entriesAt k size b) (suc h) xs)
+
+  -- a leaf's pairs are its entries
+  leaf-entries : (p : ℕ) → pairs zero (readTree S zero p) ≡ S p
+  leaf-entries p = rw (map-read-zero S (S p)) (concatMap-single (S p))
+
+  module _ (cap : ℕ) where
+    -- down by first entries is the first leaf key
+    abbrev FirstIs : ℕ → Type 0
+    FirstIs h = (a : List ℕ) (e : List ℕ × ℕ) → Full cap h e → firstLeafKey b k size h (e .1) ≡ some (firstKey a (pairs h (readTree S h (e .1))))
+
+    first-of-children : (h : ℕ) → FirstIs h → (a : List ℕ) (xs : Entries) → NonEmpty xs → All (Full cap h) xs
+        → firstLeafKey b k size h (headOr noPage (numbers xs)) ≡ some (firstKey a (leafPairs h xs))
+    first-of-children h ok a [] s d = absurd s
+    first-of-children h ok a (x ∷ xs) s d =
+        ok a x (d .0)
+        ∙ sym (ap some (firstKey-append a (pairs h (readTree S h (x .1))) (leafPairs h xs) (sized-nonEmpty cap (suc h) (readEntry S (suc h) x) (d .0))))
+
+    first-leaf : (h : ℕ) → FirstIs h
+    unfolding down
+    first-leaf zero a e d = rw (leaf-entries (e .1)) (first-some a (S (e .1)) (full-some cap zero e d))
+    first-leaf (suc h) a e d = first-of-children h (first-leaf h) a (S (e .1)) (full-some cap (suc h) e d) (full-children cap h e d)
+
+    -- down by last entries is the last leaf key
+    abbrev LastIs : ℕ → Type 0
+    LastIs h = (a : List ℕ) (e : List ℕ × ℕ) → Full cap h e → lastLeafKey b k size h (e .1) ≡ some (lastKey a (pairs h (readTree S h (e .1))))
+
+    last-of-children : (h : ℕ) → LastIs h → (a : List ℕ) (n : ℕ) (xs : Entries) → NonEmpty xs → All (Full cap h) xs
+        → lastLeafKey b k size h (lastNumber n xs) ≡ some (lastKey a (leafPairs h xs))
+    last-of-children h ok a n [] s d = absurd s
+    last-of-children h ok a n (x ∷ []) s d = rw (append-nil (pairs h (readTree S h (x .1)))) (ok a x (d .0))
+    last-of-children h ok a n (x ∷ y ∷ ys) s d =
+        last-of-children h ok (lastKey a (pairs h (readTree S h (x .1)))) (x .1) (y ∷ ys) tt (d .1)
+        ∙ sym (ap some (lastKey-append a (pairs h (readTree S h (x .1))) (leafPairs h (y ∷ ys))))
+
+    last-leaf : (h : ℕ) → LastIs h
+    unfolding down
+    last-leaf zero a e d = rw (leaf-entries (e .1)) (last-some none a (S (e .1)) (full-some cap zero e d))
+    last-leaf (suc h) a e d = last-of-children h (last-leaf h) a noPage (S (e .1)) (full-some cap (suc h) e d) (full-children cap h e d)
+
+    -- the key x is below the first leaf key under the first of the entries xs, if there is one
+    abbrev Next : ℕ → List ℕ → Entries → Type 0
+    Next h x [] = Unit {0}
+    Next h x (y ∷ ys) = Lt bytesOrder x (firstKey x (pairs h (readTree S h (y .1))))
+
+    next-holds : (h : ℕ) (x : List ℕ) (ys : Entries) → All (Full cap h) ys → belowNext b k size h x ys ≡ true → Next h x ys
+    next-holds h x [] d e = tt
+    next-holds h x (y ∷ ys) d e = below-lt x _ (rw (first-leaf h x y (d .0)) at e)
+
+    next-tells : (h : ℕ) (x : List ℕ) (ys : Entries) → All (Full cap h) ys → Next h x ys → belowNext b k size h x ys ≡ true
+    next-tells h x [] d n = refl
+    next-tells h x (y ∷ ys) d n = rw (first-leaf h x y (d .0)) (lt-below x _ n)
+
+    -- the last leaf key under an entry is below the leaf keys under the next
+    next-follows : (h : ℕ) (x : List ℕ) (u ys : Entries) → NonEmpty u → All (Full cap h) ys → Ascending bytesOrder (u ++ leafPairs h ys)
+        → lastKey x u ≡ x → Next h x ys
+    next-follows h x u [] s d ascending e = tt
+    next-follows h x u (y ∷ ys) s d ascending e =
+        let v = pairs h (readTree S h (y .1)) in
+        firstKey-above bytesOrder x v (sized-nonEmpty cap (suc h) (readEntry S (suc h) y) (d .0))
+        (all-left (λ e. Lt bytesOrder x (e .0)) v (leafPairs h ys)
+        (rw e at (ascending-across bytesOrder x u (v ++ leafPairs h ys) s ascending)))
+
+    -- one entry
+    entry-ceiling : (h : ℕ) (e : List ℕ × ℕ) (es : Entries) → Full cap h e → All (Full cap h) es → Ascending bytesOrder (leafPairs h (e ∷ es))
+        → (upperEntryGood b k size h e es ≡ true) ↔ (Below bytesOrder (e .0) (pairs h (readTree S h (e .1))) × Next h (e .0) es)
+    entry-ceiling h e es d ds ascending =
+        let x = e .0 in
+        let u = pairs h (readTree S h (e .1)) in
+        let some-u = sized-nonEmpty cap (suc h) (readEntry S (suc h) e) d in
+        let own = ascending-left bytesOrder u (leafPairs h es) ascending in
+        let follows = next-follows h x u es some-u ds ascending in
+        rw (last-leaf h x e d) (
+          test-ceiling x x u (belowNext b k size h x es) (Next h x es) some-u own (next-holds h x es ds) (next-tells h x es ds) follows,
+          ceiling-test x x u (belowNext b k size h x es) (Next h x es) some-u own (next-holds h x es ds) (next-tells h x es ds) follows,
+        )
+
+    -- Theorem: the test of a page's entries says that their keys are ceilings
+    pub entries-ceilings : (h : ℕ) (xs : Entries) → All (Full cap h) xs → Ascending bytesOrder (concatMap (pairsUnder (suc h)) (readAll S (suc h) xs))
+        → (upperEntriesGood b k size h xs ≡ true) ↔ PageCeilings h xs
+    unfolding upperEntriesGood
+    entries-ceilings h [] d ascending = ((λ g. (tt, tt)), (λ c. refl))
+    entries-ceilings h (x ∷ []) d ascending =
+        let here = entry-ceiling h x [] (d .0) tt ascending in (
+          (λ g. ((here .0 (both _ _ g .0) .0, tt), tt)),
+          (λ c. join _ _ (here .1 (c .0 .0, tt)) refl),
+        )
+    entries-ceilings h (x ∷ y ∷ ys) d ascending =
+        let here = entry-ceiling h x (y ∷ ys) (d .0) (d .1) ascending in
+        let rest = entries-ceilings h (y ∷ ys) (d .1) (ascending-right bytesOrder (pairs h (readTree S h (x .1))) (leafPairs h (y ∷ ys)) ascending) in (
+          (λ g.
+              let t = both (upperEntryGood b k size h x (y ∷ ys)) _ g in
+              let v = here .0 (t .0) in
+              let w = rest .0 (t .1) in
+              ((v .0, w .0), (v .1, w .1))),
+          (λ c. join _ _ (here .1 (c .0 .0, c .1 .0)) (rest .1 (c .0 .1, c .1 .1))),
+        )
