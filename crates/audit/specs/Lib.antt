@@ -10,5 +10,7 @@ pub mod StepLaws
 pub mod PassLaws
 -- Laws: the second pass's loops over pages and levels, and the answer
 pub mod KeyLaws
+-- Laws: the free list
+pub mod FreeLaws
 -- Laws: the loop over the marks
 pub mod MarkLaws

@@ -60,11 +60,11 @@ module _ (b : List ℕ) (k size root : ℕ) (whole : size % pageSize ≡ 0) (mos
   all-inside h ps v i = all-append (λ p. isPage size p ≡ true) (allPages h) ps (pages-inside h v) i
 
   found-shape : (t : Level × List ℕ) (m : List ℕ) → Known b k size true unmarked (rootEntry root) t
-      → Found b k size (maxLevels - 1) (t .0 .leaf) (rootEntry root) (t .1) m → restFree b k size (freePointer b) m ≡ true → Shape b k size root
+      → Found b k size (maxLevels - 1) (t .0 .leaf) (rootEntry root) (t .1) m → restFree b size (freePointer b) m ≡ true → Shape b k size root
   unfolding restFree
   found-shape t m r f e =
-      let c = both (checkFree b k size maxPages (freePointer b) m .0) _ e in
-      let free = free-found b k size maxPages (freePointer b) m (c .0) in
+      let c = both (checkFree b size maxPages (freePointer b) m .0) _ e in
+      let free = free-found b size maxPages (freePointer b) m (c .0) in
       let few = f .few in
       let rest = lowerPages b k size (f .height) (rootEntry root) in
       let good = all-good (f .height) (t .0 .leaf) (f .bottom) (r .level) (f .levels) in
@@ -73,7 +73,7 @@ module _ (b : List ℕ) (k size root : ℕ) (whole : size % pageSize ≡ 0) (mos
       let ps = free .0 in
       let every : Fresh unmarked (allPages (f .height) ++ ps) =
       fresh-append unmarked (allPages (f .height)) ps fresh (subst (λ (n : List ℕ). Fresh n ps) marks (free .1 .fresh)) in
-      let all-marks : checkFree b k size maxPages (freePointer b) m .1 ≡ markAll unmarked (allPages (f .height) ++ ps) =
+      let all-marks : checkFree b size maxPages (freePointer b) m .1 ≡ markAll unmarked (allPages (f .height) ++ ps) =
       free .2 ∙ ap (λ (n : List ℕ). markAll n ps) marks ∙ sym (mark-append unmarked (allPages (f .height)) ps) in
       record {
         height = f .height;
@@ -99,20 +99,20 @@ module _ (b : List ℕ) (k size root : ℕ) (whole : size % pageSize ≡ 0) (mos
   root-good leaf v f = level-good b k size most true leaf root (root ∷ []) unmarked tt refl v f
 
   -- the free list is passed after the tree's pages
-  free-complete : (s : Shape b k size root) (m : List ℕ) → m ≡ markAll unmarked (allPages (s .height)) → restFree b k size (freePointer b) m ≡ true
+  free-complete : (s : Shape b k size root) (m : List ℕ) → m ≡ markAll unmarked (allPages (s .height)) → restFree b size (freePointer b) m ≡ true
   unfolding restFree
   free-complete s m e =
       let ps = s .free in
       let inside = all-inside (s .height) ps (s .levels) (s .freeInside) in
       let every = once-fresh size (allPages (s .height) ++ ps) whole most inside (s .once) in
-      let free : Free b k size (freePointer b) m ps = record {
+      let free : Free b size (freePointer b) m ps = record {
         chained = s .freeList;
         inside = s .freeInside;
         pages = s .freePages;
         fresh = rw e (fresh-right unmarked (allPages (s .height)) ps every);
       } in
       let few = fresh-few size m ps most (ap length e ∙ mark-length unmarked (allPages (s .height)) ∙ unmarked-length) (s .freeInside) (free .fresh) in
-      let passed = free-passed b k size most maxPages (freePointer b) m ps few free in
+      let passed = free-passed b size most maxPages (freePointer b) m ps few free in
       let marks : markAll m ps ≡ markAll unmarked (allPages (s .height) ++ ps) =
       ap (λ (n : List ℕ). markAll n ps) e ∙ sym (mark-append unmarked (allPages (s .height)) ps) in
       rw passed (rw marks (once-marked size (allPages (s .height) ++ ps) whole most inside (s .once)))

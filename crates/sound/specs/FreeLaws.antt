@@ -31,35 +31,35 @@ same-bytes a b e = either (bytesLe a b)
 same-equal : (a b : List ℕ) → a ≡ b → isEqual (ordering a b) ≡ true
 same-equal a b e = rw e (rw (ordering-equal b))
 
-module _ (b : List ℕ) (k size : ℕ) where
+module _ (b : List ℕ) (size : ℕ) where
   -- the test of a free page's bytes
-  free-page : (p : ℕ) → isFreePage b k size p ≡ true → FreePage b p
+  free-page : (p : ℕ) → isFreePage b p ≡ true → FreePage b p
   unfolding isFreePage
   free-page p e =
       let t = both _ _ e in
       (same-bytes (window b p rightPlace) (zeros rightPlace) (t .0), same-bytes (window b (p + entriesStart) entryArea) (zeros entryArea) (t .1))
 
-  page-free : (p : ℕ) → FreePage b p → isFreePage b k size p ≡ true
+  page-free : (p : ℕ) → FreePage b p → isFreePage b p ≡ true
   unfolding isFreePage
   page-free p f =
       join _ _ (same-equal (window b p rightPlace) (zeros rightPlace) (f .0)) (same-equal (window b (p + entriesStart) entryArea) (zeros entryArea) (f .1))
 
   -- one step of the walk, by what is met
   module _ (n p : ℕ) (m : List ℕ) where
-    pub free-end : eqb p noPage ≡ true → checkFree b k size n p m ≡ (true, m)
+    pub free-end : eqb p noPage ≡ true → checkFree b size n p m ≡ (true, m)
     unfolding checkFree
     free-end t = go n
       where
-        go : (n : ℕ) → checkFree b k size n p m ≡ (true, m)
+        go : (n : ℕ) → checkFree b size n p m ≡ (true, m)
         go zero = rw t
         go (suc n) = rw (t, checkFree)
 
     module _ (t : eqb p noPage ≡ false) where
-      pub free-stop : freeFits b k size p m ≡ false → checkFree b k size (suc n) p m ≡ (false, m)
+      pub free-stop : freeFits b size p m ≡ false → checkFree b size (suc n) p m ≡ (false, m)
       unfolding checkFree
       free-stop u = rw (t, u, checkFree)
 
-      pub free-on : freeFits b k size p m ≡ true → checkFree b k size (suc n) p m ≡ checkFree b k size n (rightAt b p) (set m (p / pageSize) 1)
+      pub free-on : freeFits b size p m ≡ true → checkFree b size (suc n) p m ≡ checkFree b size n (rightAt b p) (set m (p / pageSize) 1)
       unfolding checkFree
       free-on u = rw (t, u, checkFree)
 
@@ -71,7 +71,7 @@ module _ (b : List ℕ) (k size : ℕ) where
     pub fresh : Fresh m ps
 
   -- one page more at the head
-  free-onto : (p : ℕ) (m ps : List ℕ) → freeFits b k size p m ≡ true → Free (rightAt b p) (set m (p / pageSize) 1) ps → Free p m (p ∷ ps)
+  free-onto : (p : ℕ) (m ps : List ℕ) → freeFits b size p m ≡ true → Free (rightAt b p) (set m (p / pageSize) 1) ps → Free p m (p ∷ ps)
   unfolding freeFits
   free-onto p m ps u f =
       let v = both _ _ u in
@@ -80,31 +80,31 @@ module _ (b : List ℕ) (k size : ℕ) where
 
   -- a list that was passed is the free list, and the pages on it are marked
   abbrev Found : ℕ → ℕ → List ℕ → Type 0
-  Found n p m = (ps : List ℕ) × Free p m ps × (checkFree b k size n p m .1 ≡ markAll m ps)
+  Found n p m = (ps : List ℕ) × Free p m ps × (checkFree b size n p m .1 ≡ markAll m ps)
 
-  pub free-found : (n p : ℕ) (m : List ℕ) → checkFree b k size n p m .0 ≡ true → Found n p m
+  pub free-found : (n p : ℕ) (m : List ℕ) → checkFree b size n p m .0 ≡ true → Found n p m
   unfolding checkFree
   free-found zero p m e = ([], record { chained = eqb-true p noPage e; inside = tt; pages = tt; fresh = tt }, refl)
   free-found (suc n) p m e = either (eqb p noPage)
       (λ t. ([], record { chained = eqb-true p noPage t; inside = tt; pages = tt; fresh = tt }, ap (λ r. r .1) (free-end (suc n) p m t)))
-      (λ t. either (freeFits b k size p m)
+      (λ t. either (freeFits b size p m)
       (λ u.
       let on = free-on n p m t u in
       let f = free-found n (rightAt b p) (set m (p / pageSize) 1) (sym (ap (λ r. r .0) on) ∙ e) in
       (p ∷ f .0, free-onto p m (f .0) u (f .1), ap (λ r. r .1) on ∙ f .2))
       (λ u. contra (sym (ap (λ r. r .0) (free-stop n p m t u)) ∙ e) refl))
 
-  free-fits : (p : ℕ) (m : List ℕ) → isPage size p ≡ true → FreePage b p → getD m (p / pageSize) 0 ≡ 0 → freeFits b k size p m ≡ true
+  free-fits : (p : ℕ) (m : List ℕ) → isPage size p ≡ true → FreePage b p → getD m (p / pageSize) 0 ≡ 0 → freeFits b size p m ≡ true
   unfolding freeFits
   free-fits p m i f e = join _ _ i (join _ _ (page-free p f) (eq-eqb _ _ e))
 
   -- and back: the free list is passed if at most n pages are on it
-  pub free-passed : size ≤ maxBytes → (n p : ℕ) (m ps : List ℕ) → length ps ≤ n → Free p m ps → checkFree b k size n p m ≡ (true, markAll m ps)
+  pub free-passed : size ≤ maxBytes → (n p : ℕ) (m ps : List ℕ) → length ps ≤ n → Free p m ps → checkFree b size n p m ≡ (true, markAll m ps)
   free-passed most n p m [] l f = free-end n p m (eq-eqb p noPage (f .chained))
   free-passed most zero p m (q ∷ ps) l f = absurd (omega arith)
   free-passed most (suc n) p m (q ∷ ps) l f =
       let i = is-page size q (f .inside .0) in
       let fits = free-fits q m (f .inside .0) (f .pages .0) (f .fresh .0) in
-      ap (λ (r : ℕ). checkFree b k size (suc n) r m) (f .chained .0) ∙ free-on n q m (ne-eqb q noPage (λ z. omega arith)) fits
+      ap (λ (r : ℕ). checkFree b size (suc n) r m) (f .chained .0) ∙ free-on n q m (ne-eqb q noPage (λ z. omega arith)) fits
       ∙ (free-passed most n (rightAt b q) (set m (q / pageSize) 1) ps (omega arith)
       (record { chained = f .chained .1; inside = f .inside .1; pages = f .pages .1; fresh = f .fresh .1 }))

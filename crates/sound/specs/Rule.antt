@@ -103,6 +103,29 @@ markedFrom m (suc l) j = eqb (getD m j 0) 1 && markedFrom m l (j + 1)
 abbrev pub closed : Bool → ℕ → Progress × List ℕ → Level × List ℕ
 closed leaf first t = (record { good = t .0 .good && eqb (t .0 .next) noPage; leaf = leaf; first = first }, t .1)
 
+-- the page at p is zero but for bytes 8-11
+unfoldable pub isFreePage : List ℕ → ℕ → Bool
+isFreePage b p =
+    isEqual (ordering (window b p rightPlace) (zeros rightPlace))
+    && isEqual (ordering (window b (p + entriesStart) entryArea) (zeros entryArea))
+
+-- the page at p is a free page of the file, and the marks m do not have it
+unfoldable pub freeFits : List ℕ → ℕ → ℕ → List ℕ → Bool
+freeFits b size p m = isPage size p && (isFreePage b p && eqb (getD m (p / pageSize) 0) 0)
+
+-- the free list from p on, n pages at most: each fits and gets its mark, and the last names none
+unfoldable pub checkFree : List ℕ → ℕ → ℕ → ℕ → List ℕ → Bool × List ℕ
+checkFree b size zero p m = (eqb p noPage, m)
+checkFree b size (suc n) p m =
+    elim (eqb p noPage) [
+      | true ↦ (true, m)
+      | false ↦ elim (freeFits b size p m) [ true ↦ checkFree b size n (rightAt b p) (set m (p / pageSize) 1) | false ↦ (false, m) ]
+    ]
+
+-- the free list, which begins at p, is good, and then every page but the first is marked
+unfoldable pub restFree : List ℕ → ℕ → ℕ → List ℕ → Bool
+restFree b size p m = let f = checkFree b size maxPages p m in f .0 && markedFrom (f .1) (size / pageSize - 1) 1
+
 module _ (b : List ℕ) (k size : ℕ) where
   abbrev pub entriesOf : ℕ → Entries
   entriesOf p = entriesAt k size b p
@@ -153,32 +176,9 @@ module _ (b : List ℕ) (k size : ℕ) where
   levelsUnder zero t = t
   levelsUnder (suc l) t = elim (t .0 .good && not (t .0 .leaf)) [ true ↦ levelsUnder l (nextLevel (t .0 .first) (t .1)) | false ↦ t ]
 
-  -- the page at p is zero but for bytes 8-11
-  unfoldable pub isFreePage : ℕ → Bool
-  isFreePage p =
-      isEqual (ordering (window b p rightPlace) (zeros rightPlace))
-      && isEqual (ordering (window b (p + entriesStart) entryArea) (zeros entryArea))
-
-  -- it is a free page of the file, and the marks m do not have it
-  unfoldable pub freeFits : ℕ → List ℕ → Bool
-  freeFits p m = isPage size p && (isFreePage p && eqb (getD m (p / pageSize) 0) 0)
-
-  -- the free list from p on, n pages at most: each fits and gets its mark, and the last names none
-  unfoldable pub checkFree : ℕ → ℕ → List ℕ → Bool × List ℕ
-  checkFree zero p m = (eqb p noPage, m)
-  checkFree (suc n) p m =
-      elim (eqb p noPage) [
-        | true ↦ (true, m)
-        | false ↦ elim (freeFits p m) [ true ↦ checkFree n (rightAt b p) (set m (p / pageSize) 1) | false ↦ (false, m) ]
-      ]
-
-  -- the free list, which begins at p, is good, and then every page but the first is marked
-  unfoldable pub restFree : ℕ → List ℕ → Bool
-  restFree p m = let f = checkFree maxPages p m in f .0 && markedFrom (f .1) (size / pageSize - 1) 1
-
   -- the last level is good, its pages are leaves, and every other page but the first is free
   abbrev pub complete : ℕ → Level × List ℕ → Bool
-  complete free t = t .0 .good && (t .0 .leaf && restFree free (t .1))
+  complete free t = t .0 .good && (t .0 .leaf && restFree b size free (t .1))
 
   -- the number of levels under the page at p, l at most, which the first children show
   unfoldable pub heightOf : ℕ → ℕ → ℕ

@@ -1,0 +1,76 @@
+-- Laws: the tests of one free page, and the loop along the free list. Cited by the proofs of `mark_free` and `free_list`. Assumes nothing.
+use Prim.Native.Nat.{ℕ, zero, suc, _-_, _/_}
+use mathlib.Core.Path.{_≡_, refl, sym, ap, _∙_}
+use mathlib.Core.Bool.{Bool, true, false}
+use mathlib.Core.List.{List}
+use native.Mathlib.Omega.{arith}
+use lib.ListN.{getD, set}
+use lib.Dec.{eqb}
+use borrow.Author.Tests.{eq-eqb, ne-eqb}
+use Rattle.basis.specs.Tests.{either, contra}
+use Rattle.page.specs.Header.{pageSize, noPage, isPage}
+use Rattle.page.specs.Page.{rightAt}
+use Rattle.sound.specs.Rule.{maxPages, isFreePage, freeFits, checkFree}
+use Rattle.sound.specs.FreeLaws.{free-end, free-stop, free-on}
+use Rattle.audit.specs.State.{markFree}
+
+module _ (b : List ℕ) (size p : ℕ) (m : List ℕ) where
+  -- one page, test by test
+  pub mark-outside : isPage size p ≡ false → markFree b size p m ≡ (false, m)
+  unfolding markFree freeFits
+  mark-outside e = rw e
+
+  module _ (page : isPage size p ≡ true) where
+    pub mark-other : isFreePage b p ≡ false → markFree b size p m ≡ (false, m)
+    unfolding markFree freeFits
+    mark-other e = rw (page, e)
+
+    module _ (free : isFreePage b p ≡ true) where
+      pub mark-met : (getD m (p / pageSize) 0 ≡ 0 → ⊥) → markFree b size p m ≡ (false, m)
+      unfolding markFree freeFits
+      mark-met e = rw (page, free, ne-eqb (getD m (p / pageSize) 0) 0 e)
+
+      pub mark-good : getD m (p / pageSize) 0 ≡ 0 → markFree b size p m ≡ (true, set m (p / pageSize) 1)
+      unfolding markFree freeFits
+      mark-good e = rw (page, free, eq-eqb (getD m (p / pageSize) 0) 0 e)
+
+  -- a page that gets its mark is one of the file
+  pub marked-inside : {m′ : List ℕ} → markFree b size p m ≡ (true, m′) → isPage size p ≡ true
+  marked-inside e = either (isPage size p) (λ t. t) (λ t. contra (sym (ap (λ r. r .0) (mark-outside t)) ∙ ap (λ r. r .0) e) refl)
+
+module _ (b : List ℕ) (size : ℕ) where
+  -- a step of the walk, by what became of the page
+  walk-stop : (n p : ℕ) (m m′ : List ℕ) → eqb p noPage ≡ false → markFree b size p m ≡ (false, m′) → checkFree b size (suc n) p m ≡ (false, m′)
+  unfolding markFree
+  walk-stop n p m m′ t e = either (freeFits b size p m)
+      (λ u. contra refl (sym (ap (λ r. r .0) (rw u at e))))
+      (λ u. free-stop b size n p m t u ∙ (rw u at e))
+
+  walk-on : (n p : ℕ) (m m′ : List ℕ) → eqb p noPage ≡ false → markFree b size p m ≡ (true, m′)
+      → checkFree b size (suc n) p m ≡ checkFree b size n (rightAt b p) m′
+  unfolding markFree
+  walk-on n p m m′ t e = either (freeFits b size p m)
+      (λ u. free-on b size n p m t u ∙ ap (λ (r : Bool × List ℕ). checkFree b size n (rightAt b p) (r .1)) (rw u at e))
+      (λ u. contra refl (ap (λ r. r .0) (rw u at e)))
+
+  -- of the whole list from `first` on, with the marks m₀, the pages from p on decide, `left` at most, with the marks m
+  abbrev pub FreeLeft : ℕ → List ℕ → ℕ → List ℕ → ℕ → Type 0
+  FreeLeft first m₀ p m left = checkFree b size maxPages first m₀ ≡ checkFree b size left p m
+
+  module _ (first : ℕ) (m₀ : List ℕ) (p : ℕ) (m : List ℕ) (left : ℕ) (inv : FreeLeft first m₀ p m left) where
+    pub list-end : p ≡ noPage → checkFree b size maxPages first m₀ ≡ (true, m)
+    list-end e = inv ∙ free-end b size left p m (eq-eqb p noPage e)
+
+    pub list-long : left ≡ 0 → checkFree b size maxPages first m₀ ≡ (eqb p noPage, m)
+    unfolding checkFree
+    list-long e = inv ∙ rw e
+
+    module _ (m′ : List ℕ) (some : p ≡ noPage → ⊥) (more : left ≡ 0 → ⊥) where
+      less : left ≡ suc (left - 1)
+      less = omega (arith, more)
+
+      pub list-off : markFree b size p m ≡ (false, m′) → checkFree b size maxPages first m₀ ≡ (false, m′)
+      list-off e = inv ∙ ap (λ (n : ℕ). checkFree b size n p m) less ∙ walk-stop (left - 1) p m m′ (ne-eqb p noPage some) e
+
+      pub list-on : (q : ℕ) → q ≡ rightAt b p → markFree b size p m ≡ (true, m′) → FreeLeft first m₀ q m′ (left - 1)
+      list-on q eq e = inv ∙ ap (λ (n : ℕ). checkFree b size n p m) less ∙ walk-on (left - 1) p m m′ (ne-eqb p noPage some) e ∙ rw eq
