@@ -102,7 +102,7 @@ module _ {K : Type 0} (route : Route K) where
           rest = λ z o. c .rest z (omega (arith, parts z));
         })
 
-  -- the removal among the entries es of a page, h levels above the leaves' entries
+  -- a removal among the entries es of a page, with h levels under them, that does what the removal from the tree does
   abbrev RemovesAmong : (h : ℕ) → Store K → List (K × ℕ) → StoreRemoved K → Type 0
   RemovesAmong h S es w =
       Removes h S (pagesOf S h es) w (removeEntries route h (map (readEntry S h) es)) (emptiedAmong route h (map (readEntry S h) es))
