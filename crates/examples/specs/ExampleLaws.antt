@@ -20,6 +20,7 @@ use Rattle.sound.specs.Rule as audit
 use Rattle.sound.specs.Accepted.{accepted}
 use Rattle.layout.specs.Layout as layout
 use Rattle.layout.specs.Entries as entries
+use Rattle.layout.specs.Supply as supply
 use Rattle.insert.specs.Insertion as insertion
 use Rattle.insert.specs.Fresh as fresh
 use Rattle.insert.specs.Room as room
@@ -40,7 +41,7 @@ unfolding examples answer ascii reading.readNumber format.formatGood chars.every
     audit.chain children.isLeaf audit.markedFrom audit.entriesFit audit.pageFits audit.checkPage audit.checkPages audit.rootLevel audit.nextLevel
     audit.levelsUnder audit.heightOf audit.upperPagesGood audit.upperLevelsGood audit.shapeGood audit.keysAboveGood audit.pagesGood audit.unmarked shown
     tree100.key100 tree100.grown store.put layout.encode layout.area layout.withEntries layout.newPage layout.linkBeyond layout.splitPage entries.raised
-    insertion.takeIn insertion.insertUnder insertion.insertedBuffer fresh.freshHeader fresh.freshBuffer fresh.freshRule fresh.printable
+    supply.supplyOf supply.takePage supply.supplyAfter supply.withSupply insertion.takeIn insertion.insertUnder insertion.insertedBuffer fresh.freshHeader fresh.freshBuffer fresh.freshRule fresh.printable
     fresh.expressionGood room.pathFrom room.noRoom calls.hasControl calls.insertRule
 examples-hold = refl
 
