@@ -25,8 +25,9 @@ ghost use Rattle.layout.specs.Given.{Given, Over, Listed, Lasts, roomSiz
 // The room in which the entries of a page are gathered: the entry area and one more entry with the longest key.
 pub const ROOM: usize = Page::ENTRY_AREA + page::MAX_KEY + 4;
 
-// The supply of new pages: the file's end, at which the next one begins.
+// The supply of new pages: the head of the free list, and the file's end, at which the next page begins if none is free.
 pub struct Supply {
+    pub free: PageOffset,
     pub end: PageOffset,
 }
 
@@ -97,21 +98,38 @@ pub fn supply_of(index: &[u8]) -> Supply
     requires { ⌜ pageSize ≤ length (now index) ⌝ }
     ensures { λ r. ⌜ r ≡ supplyOf (now (index .entry)) ⌝ }
 {
+    let free = page::free_pointer(index);
+    let end = page::file_end(index);
     Supply {
-        end: page::file_end(index),
+        free: free,
+        end: end,
     }
 }
 
-// Takes a page from a supply, before the page is written. Pages at the file's end are taken without a look at the index.
+// Takes a page from a supply, before the page is written: the head of the free list, or else a page at the file's end. A head that is no page is taken for none.
 pub fn take_page(index: &[u8], supply: Supply) -> Taken
     requires { ⌜ Lasts 1 supply ⌝ }
     ensures { λ r. ⌜ r ≡ takePage (now (index .entry)) supply ⌝ }
 {
+    let free = supply.free;
     let end = supply.end;
+    if page::is_page(index.len(), free) {
+        let next = Page::at(index, free).right;
+        return Taken {
+            page: free,
+            rest: Supply {
+                free: next,
+                end: end,
+            },
+        };
+    }
     let next = page::next_page(end);
     Taken {
         page: end,
-        rest: Supply { end: next },
+        rest: Supply {
+            free: free,
+            end: next,
+        },
     }
 }
 
@@ -135,6 +153,7 @@ pub fn set_supply(index: &mut [u8], supply: Supply)
     requires { ⌜ pageSize ≤ length (now index) ⌝ }
     ensures { λ _. ⌜ now (index .exit) ≡ withSupply (now (index .entry)) supply ⌝ }
 {
+    set_free(index, supply.free);
     set_file_end(index, supply.end);
 }
 
