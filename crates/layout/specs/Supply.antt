@@ -22,8 +22,8 @@ supplyOf b = supplyFrom (freePointer b) (fileSize b)
 unfoldable pub takePage : List ℕ → Supply → Taken
 takePage b s =
     let head = s .free .0 in
-    let reused = record { page = s .free; rest = supplyFrom (rightAt b head) (s .end .0) } in
-    let added = record { page = s .end; rest = supplyFrom head (s .end .0 + pageSize) } in
+    let reused : Taken = record { page = s .free; rest = supplyFrom (rightAt b head) (s .end .0) } in
+    let added : Taken = record { page = s .end; rest = supplyFrom head (s .end .0 + pageSize) } in
     cond (isPage (length b) head) reused added
 
 -- the supply after n pages were taken

@@ -29,12 +29,12 @@ taken-lasts n b s h = either (isPage (length b) (s .free .0)) (λ e. rw e (omega
 -- the page that is taken, by whether a page is free: the head of the free list, or the page at the file's end
 module _ (b : List ℕ) (s : Supply) where
   pub takes-free : {next : PageOffset} → isPage (length b) (s .free .0) ≡ true → next .0 ≡ rightAt b (s .free .0)
-      → record { page = s .free; rest = record { free = next; end = s .end } } ≡ takePage b s
+      → _≡_ {A = Taken} (record { page = s .free; rest = record { free = next; end = s .end } }) (takePage b s)
   unfolding takePage
   takes-free e n = rw (e, ← n)
 
   pub takes-end : {next : PageOffset} → isPage (length b) (s .free .0) ≡ false → next .0 ≡ s .end .0 + pageSize
-      → record { page = s .end; rest = record { free = s .free; end = next } } ≡ takePage b s
+      → _≡_ {A = Taken} (record { page = s .end; rest = record { free = s .free; end = next } }) (takePage b s)
   unfolding takePage
   takes-end e n = rw (e, ← n)
 
