@@ -1,7 +1,7 @@
--- Laws: for how many pages more a supply lasts, and the supply after pages were taken one by one. Cited by the proofs of the functions and by the laws of
+-- Laws: for how many pages more a supply lasts, the page that is taken, and the supply after pages were taken one by one. Cited by the proofs of the functions and by the laws of
 -- insertion. Assumes nothing.
 use Prim.Native.Nat.{ℕ, suc, _+_, _-_, _≤_, _<_}
-use mathlib.Core.Path.{_≡_}
+use mathlib.Core.Path.{_≡_, _∙_}
 use mathlib.Core.Bool.{true, false}
 use mathlib.Core.List.{List}
 use lib.ListN.{length}
@@ -11,7 +11,8 @@ use Rattle.page.specs.Header.{maxLevels, pageSize, isPage}
 use Rattle.page.specs.HeaderLaws.{GoodHeader}
 use Rattle.page.specs.Page.{rightAt}
 use Rattle.page.specs.declared.PageOffset.{PageOffset}
-use Rattle.layout.specs.Supply.{supplyOf, takePage, supplyAfter}
+use Rattle.layout.specs.Layout.{withFree, withSize}
+use Rattle.layout.specs.Supply.{supplyOf, takePage, supplyAfter, withSupply}
 use Rattle.layout.specs.Given.{Lasts}
 use Rattle.layout.specs.declared.Supply.{Supply}
 use Rattle.layout.specs.declared.Taken.{Taken}
@@ -46,3 +47,8 @@ after-on n i b s l = let e : n - i ≡ suc (n - (i + 1)) = omega arith in rw e
 pub after-end : (n i : ℕ) (b : List ℕ) (s : Supply) → n ≤ i → supplyAfter (n - i) b s ≡ s
 unfolding supplyAfter
 after-end n i b s l = let e : n - i ≡ 0 = omega arith in rw e
+
+-- the stores of a supply's two numbers, one after the other
+pub supply-put : (b : List ℕ) (s : Supply) {l1 l2 : List ℕ} → l1 ≡ withFree b (s .free .0) → l2 ≡ withSize l1 (s .end .0) → l2 ≡ withSupply b s
+unfolding withSupply
+supply-put b s e f = f ∙ rw e

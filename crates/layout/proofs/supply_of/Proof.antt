@@ -12,7 +12,7 @@ file-end-requires c κs = search needs
 
 returns : tie.Need-returns
 unfolding supplyOf
-returns c = rw (c .before .before .free-pointer .ensures, c .file-end .ensures)
+returns c = rw (c .before .free-pointer .ensures, c .file-end .ensures)
 
 pub supply-of-spec : {M : Type 1} → statement M
 supply-of-spec = tie.close (tie.spec free-pointer-requires file-end-requires returns)

@@ -10,19 +10,20 @@ is-page-requires : tie.Need-is-page-requires
 is-page-requires c κs = search needs
 
 at-requires : tie.Need-at-requires
-at-requires c κs = is-page _ _ (sym (c .before .before .is-page .ensures) ∙ c .before .if1 .taken) .high
+at-requires c κs = is-page _ _ (sym (c .before .is-page .ensures) ∙ c .if1 .taken) .high
 
 returns : tie.Need-returns
 returns c =
-    let tested = c .before .before in
-    takes-free _ _ (sym (tested .before .is-page .ensures) ∙ tested .if1 .taken) (c .at .ensures .1 .1 .1)
+    let read = c .before in
+    let tested = read .before in
+    takes-free _ _ (sym (tested .before .is-page .ensures) ∙ tested .if1 .taken) (read .at .ensures .1 .1 .1)
 
 next-page-requires : tie.Need-next-page-requires
 next-page-requires c κs = search needs
 
 returns-2 : tie.Need-returns-2
 returns-2 c =
-    let tested = c .before .before in
+    let tested = c .before in
     takes-end _ _ (sym (tested .before .is-page .ensures) ∙ tested .if1 .left) (c .next-page .ensures)
 
 pub take-page-spec : {M : Type 1} → statement M
