@@ -11,12 +11,13 @@ ghost use mathlib.Core.Option.{none};
 ghost use Prim.Native.Nat.{ℕ, _+_, _-_, _≤_};
 ghost use lib.ListN.{length};
 ghost use Rattle.octets.specs.Store.{window};
-ghost use Rattle.octets.specs.Order.{ordering};
+ghost use Rattle.octets.specs.Order.{ordering, isEqual};
 ghost use Rattle.page.specs.Header.{minBytes, maxBytes, maxLevels, pageSize, freePointer, headerGood};
 ghost use Rattle.page.specs.Within.{Within};
 ghost use Rattle.page.specs.Reading.{entriesAt};
 ghost use Rattle.page.specs.ReadingLaws.{entriesFrom};
-ghost use Rattle.sound.specs.Sound.{Audited};
+ghost use Rattle.page.specs.Page.{entryArea};
+ghost use Rattle.sound.specs.Sound.{zeros, Audited};
 ghost use Rattle.page.specs.Children.{childrenOf};
 ghost use Rattle.sound.specs.Rule.{maxPages, lastOf, leafEntriesGood, upperEntriesGood, entriesFit, pageFits, attributeOf, chain, pagesUnder};
 ghost use Rattle.sound.specs.Rule.{checkPage, checkPages, rootLevel, nextLevel, levelsUnder, markedFrom, isFreePage, checkFree, restFree, shapeGood};
@@ -362,18 +363,24 @@ fn all_marked(marks: &[u8], pages: usize) -> bool
     true
 }
 
+// Whether `n` bytes of the index from `at` on are zero.
+fn is_zero(index: &[u8], at: usize, n: usize) -> bool
+    requires { ⌜ (at + n ≤ length (now index)) × (n ≤ entryArea) ⌝ }
+    ensures { λ r. ⌜ r ≡ isEqual (ordering (window (now (index .entry)) at n) (zeros n)) ⌝ }
+{
+    let blank = [0u8; Page::ENTRY_AREA];
+    let end = at + n;
+    octets::is_equal(octets::compare(&index[at..end], &blank[..n]))
+}
+
 // Whether a page is zero but for its right link.
 fn is_free_page(index: &[u8], page: PageOffset) -> bool
     requires { ⌜ page .0 + pageSize ≤ length (now index) ⌝ }
     ensures { λ r. ⌜ r ≡ isFreePage (now (index .entry)) (page .0) ⌝ }
 {
-    let zeros = [0u8; Page::ENTRY_AREA];
     let at = page.0 as usize;
-    let link = at + Page::RIGHT_PLACE;
-    let entries = at + Page::ENTRIES_START;
-    let end = at + Page::SIZE;
-    octets::is_equal(octets::compare(&index[at..link], &zeros[..Page::RIGHT_PLACE]))
-        & octets::is_equal(octets::compare(&index[entries..end], &zeros))
+    is_zero(index, at, Page::RIGHT_PLACE)
+        & is_zero(index, at + Page::ENTRIES_START, Page::ENTRY_AREA)
 }
 
 // Whether a page is a free page of the file that has no mark. Then it gets its mark.
