@@ -14,7 +14,7 @@ use Rattle.page.specs.KeyOrder.{bytesOrder}
 use Rattle.page.specs.Reading.{Item}
 use Rattle.layout.specs.Layout.{itemsIn}
 
--- the entry that "lookup's steps lead to, the last if its key is above all"
+-- the entry that an insertion goes by: "the first entry at or above the key, else the last" (K1)
 abbrev pub chosen : List ℕ → List Item → Item
 chosen key [] = ([], [])
 chosen key (x ∷ xs) = choose bytesOrder key x xs
@@ -34,20 +34,20 @@ abbrev pub aboveAll : List ℕ → List Item → Bool
 aboveAll key [] = true
 aboveAll key (x ∷ xs) = cond (bytesLe key (x .0)) false (aboveAll key xs)
 
--- "keys above": if no page below it splits, a page changes only the key of the entry gone through, and only if the new key is above that key. The new key
--- is then above all keys of the page, and the entry gone through is the last. A page without entries stays
+-- insertion "raises each key above that is lower than the new key" (K1): if no page below it splits, a page changes only the key of the entry gone through, and
+-- only if the new key is above that key. The new key is then above all keys of the page, and the entry gone through is the last. A page without entries stays
 unfoldable pub raised : ℕ → List ℕ → List ℕ → ℕ → List ℕ
 raised k b key p =
     let es = itemsIn k b p in
     let higher = put b (entryOffset k p (length es - 1)) key in
     cond (leb 1 (length es) && aboveAll key es) higher b
 
--- two entries for the one above a page that was split: the greatest key that stayed, over the old page, and the larger of the old key above and the new
--- key, over the new page at q
+-- two entries for the one above a page that was split: "the left half gets its own last key above it; the right half keeps the larger of the old key above and
+-- the new key" (K1). The left half is the old page, the right half the new page at q
 abbrev pub twoFor : ℕ → List ℕ → List ℕ → ℕ → ℕ → Item → List Item
 twoFor k b key c q e = (lastKey key (itemsIn k b c), e .1) ∷ (larger bytesOrder (e .0) key, toBe32 q) ∷ []
 
--- the entries of a new root, over the two halves at p and q with their own last keys
+-- the entries of a new root, over the halves at p and q: each has "its own last key" above it (K1)
 abbrev pub rootEntries : ℕ → List ℕ → List ℕ → ℕ → ℕ → List Item
 rootEntries k b key p q = (lastKey key (itemsIn k b p), toBe32 p) ∷ (lastKey key (itemsIn k b q), toBe32 q) ∷ []
 
