@@ -1,4 +1,5 @@
--- Laws: the entries of a page by number, the tests of one entry, and the loops over entries. Cited by the proofs of the functions on entries. Assumes nothing.
+-- Laws: the entries of a page by number, the tests of one leaf entry, and the loop over leaf entries. Cited by the proofs of the functions on entries. Assumes
+-- nothing.
 use Prim.Native.Nat.{ℕ, zero, suc, _+_, _-_, _≤_, _<_}
 use mathlib.Core.Path.{_≡_, refl, sym, ap, _∙_}
 use mathlib.Core.Bool.{Bool, true, false, _&&_}
@@ -9,13 +10,13 @@ use lib.ListN.{length}
 use borrow.Author.Tests.{eq-eqb, ne-eqb}
 use Rattle.octets.specs.Store.{window}
 use Rattle.octets.specs.declared.Ordering.{Ordering}
-use Rattle.octets.specs.Order.{ordering, isBelow, isEqual}
+use Rattle.octets.specs.Order.{ordering, isBelow}
 use Rattle.page.specs.Page.{entryOffset, keyAt, numberAt}
 use Rattle.page.specs.PageLaws.{entry-low}
 use Rattle.page.specs.Reading.{entriesAt}
 use Rattle.page.specs.ReadingLaws.{entriesFrom, entries-are, each-within}
-use Rattle.sound.specs.Rule.{lastOf, leafEntriesGood, upperEntriesGood}
-use Rattle.audit.specs.State.{InFile, EntriesWithin, keyFrom, leafEntry, upperEntry}
+use Rattle.sound.specs.Rule.{lastOf, leafEntriesGood}
+use Rattle.audit.specs.State.{InFile, EntriesWithin, keyFrom, leafEntry}
 
 -- the n entries that are read of a page lie within it
 pub entries-within : (b : List ℕ) (k size p n : ℕ) → n ≡ length (entriesAt k size b p) → InFile b k size → EntriesWithin b k p n
@@ -32,7 +33,7 @@ unfolding entriesFrom
 from-end b k p n i h = let z : n - i ≡ 0 = omega arith in rw z
 
 -- the key that begins where an entry begins
-some-key : (b : List ℕ) (k p i : ℕ) → keyFrom b k (entryOffset k p i) ≡ some (keyAt b k p i)
+pub some-key : (b : List ℕ) (k p i : ℕ) → keyFrom b k (entryOffset k p i) ≡ some (keyAt b k p i)
 unfolding keyFrom
 some-key b k p i = rw (ne-eqb (entryOffset k p i) 0 (omega (arith, entry-low k p i)))
 
@@ -69,17 +70,6 @@ module _ (b : List ℕ) (k p i z n : ℕ) (en : n ≡ numberAt b k p i) where
     unfolding keyFrom
     leaf-above h ea eo er = er ∙ rw (← en, ne-eqb n 0 positive, ne-eqb z 0 h, ← ea) (ap isBelow eo)
 
--- one entry of a page above the leaves, by its tests
-module _ (b : List ℕ) (k size p i c z : ℕ) (ec : c ≡ numberAt b k p i) (ez : keyFrom b k z ≡ lastOf none (entriesAt k size b c)) where
-  pub upper-none : z ≡ 0 → false ≡ upperEntry b k size p i
-  unfolding keyFrom
-  upper-none h = rw (← ec, ← ez, eq-eqb z 0 h)
-
-  pub upper-same : {at : ℕ} {o : Ordering} {r : Bool} → (z ≡ 0 → ⊥) → at ≡ entryOffset k p i → o ≡ ordering (window b z k) (window b at k) → r ≡ isEqual o
-      → r ≡ upperEntry b k size p i
-  unfolding keyFrom
-  upper-same h ea eo er = er ∙ rw (← ec, ← ez, ne-eqb z 0 h, ← ea) (ap isEqual eo)
-
 -- the loop over the n entries of a leaf, after the key at z₀: the entries from entry i on, after the key at z, decide
 abbrev pub LeafLeft : List ℕ → ℕ → ℕ → ℕ → ℕ → ℕ → ℕ → Type 0
 LeafLeft b k p n z₀ i z =
@@ -101,28 +91,3 @@ module _ (b : List ℕ) (k p n z₀ i z : ℕ) (inv : LeafLeft b k p n z₀ i z)
 
     pub leaf-on : (at : ℕ) → r ≡ true → at ≡ entryOffset k p i → LeafLeft b k p n z₀ (i + 1) at
     leaf-on at e ea = leaf-step ∙ rw (e, ea, some-key b k p i)
-
--- the loop over the n entries of a page above the leaves: the entries from entry i on decide
-abbrev pub UpperLeft : List ℕ → ℕ → ℕ → ℕ → ℕ → ℕ → Type 0
-UpperLeft b k size p n i =
-    upperEntriesGood (entriesAt k size b) (entriesAt k size b p) ≡ upperEntriesGood (entriesAt k size b) (entriesFrom b k p (n - i) i)
-
-pub upper-start : (b : List ℕ) (k size p n : ℕ) → n ≡ length (entriesAt k size b p) → UpperLeft b k size p n 0
-upper-start b k size p n en = let e : n - 0 ≡ n = omega arith in rw e (ap (upperEntriesGood (entriesAt k size b)) (entries-are b k size p n en))
-
-module _ (b : List ℕ) (k size p n i : ℕ) (inv : UpperLeft b k size p n i) where
-  pub upper-end : n ≤ i → true ≡ upperEntriesGood (entriesAt k size b) (entriesAt k size b p)
-  unfolding upperEntriesGood
-  upper-end h = sym (inv ∙ rw (from-end b k p n i h))
-
-  module _ (h : i < n) (r : Bool) (er : r ≡ upperEntry b k size p i) where
-    upper-step : upperEntriesGood (entriesAt k size b) (entriesAt k size b p)
-        ≡ (r && upperEntriesGood (entriesAt k size b) (entriesFrom b k p (n - (i + 1)) (i + 1)))
-    unfolding upperEntriesGood
-    upper-step = inv ∙ rw (from-on b k p n i h, ← er)
-
-    pub upper-off : r ≡ false → false ≡ upperEntriesGood (entriesAt k size b) (entriesAt k size b p)
-    upper-off e = sym (upper-step ∙ rw e)
-
-    pub upper-on : r ≡ true → UpperLeft b k size p n (i + 1)
-    upper-on e = upper-step ∙ rw e

@@ -1,9 +1,9 @@
--- Laws: the loops of the audit's second pass, over the pages of a level, the levels and the first children, and its answer. Cited by the proofs of the functions
--- that have these loops. Assumes nothing.
-use Prim.Native.Nat.{ℕ, zero, suc, _+_, _-_, _≤_, _<_}
+-- Laws: the loops of the audit's second pass, over the pages of a level, the levels and the first children, and its answer. Cited by the proofs of the
+-- functions that have these loops. Assumes nothing.
+use Prim.Native.Nat.{ℕ, suc, _+_, _-_, _≤_, _<_}
 use mathlib.Core.Path.{_≡_, refl, sym, ap, _∙_}
 use mathlib.Core.Bool.{Bool, true, false, _&&_}
-use mathlib.Core.List.{List, [], _∷_}
+use mathlib.Core.List.{List}
 use native.Mathlib.Omega.{arith}
 use Rattle.page.specs.Header.{maxLevels, isPage, rootOffset, fileSize, keyLength}
 use Rattle.page.specs.Page.{rightAt}
@@ -13,33 +13,31 @@ use Rattle.sound.specs.Rule.{maxPages, chain, upperEntriesGood, heightOf, upper
 use Rattle.audit.specs.PassLaws.{chain-none, chain-some}
 
 module _ (b : List ℕ) (k size : ℕ) where
-  abbrev S : ℕ → List (List ℕ × ℕ)
-  S = entriesAt k size b
+  -- the loop over the pages of a level, whose children have h levels under them: of all pages, the pages from p on decide, `left` at most
+  abbrev pub UpperPagesLeft : ℕ → ℕ → ℕ → ℕ → Type 0
+  UpperPagesLeft h first p left = upperPagesGood b k size h (chain b size maxPages first) ≡ upperPagesGood b k size h (chain b size left p)
 
-  -- the loop over the pages of a level: of all pages, the pages from p on decide, `left` at most
-  abbrev pub UpperPagesLeft : ℕ → ℕ → ℕ → Type 0
-  UpperPagesLeft first p left = upperPagesGood b k size (chain b size maxPages first) ≡ upperPagesGood b k size (chain b size left p)
-
-  module _ (first p left : ℕ) (inv : UpperPagesLeft first p left) where
-    pub upper-pages-none : isPage size p ≡ false → true ≡ upperPagesGood b k size (chain b size maxPages first)
+  module _ (h first p left : ℕ) (inv : UpperPagesLeft h first p left) where
+    pub upper-pages-none : isPage size p ≡ false → true ≡ upperPagesGood b k size h (chain b size maxPages first)
     unfolding upperPagesGood
     upper-pages-none e = sym (inv ∙ rw (chain-none b k size 0 p left e))
 
-    pub upper-pages-end : left ≡ 0 → true ≡ upperPagesGood b k size (chain b size maxPages first)
+    pub upper-pages-end : left ≡ 0 → true ≡ upperPagesGood b k size h (chain b size maxPages first)
     unfolding chain upperPagesGood
     upper-pages-end e = sym (inv ∙ rw e)
 
-    module _ (q : ℕ) (r : Bool) (more : left ≡ 0 → ⊥) (page : isPage size p ≡ true) (er : r ≡ upperEntriesGood S (S p)) where
-      upper-pages-step : (q : ℕ) → q ≡ rightAt b p
-          → upperPagesGood b k size (chain b size maxPages first) ≡ (r && upperPagesGood b k size (chain b size (left - 1) q))
-      unfolding upperPagesGood
-      upper-pages-step q eq = inv ∙ rw (chain-some b k size 0 p left q more page eq, ← er)
+    module _ (q : ℕ) (r : Bool) (more : left ≡ 0 → ⊥) (page : isPage size p ≡ true) (er : r ≡ upperEntriesGood b k size h (entriesAt k size b p))
+      where
+        upper-pages-step : (q : ℕ) → q ≡ rightAt b p
+            → upperPagesGood b k size h (chain b size maxPages first) ≡ (r && upperPagesGood b k size h (chain b size (left - 1) q))
+        unfolding upperPagesGood
+        upper-pages-step q eq = inv ∙ rw (chain-some b k size 0 p left q more page eq, ← er)
 
-      pub upper-pages-off : r ≡ false → false ≡ upperPagesGood b k size (chain b size maxPages first)
-      upper-pages-off e = sym (upper-pages-step (rightAt b p) refl ∙ rw e)
+        pub upper-pages-off : r ≡ false → false ≡ upperPagesGood b k size h (chain b size maxPages first)
+        upper-pages-off e = sym (upper-pages-step (rightAt b p) refl ∙ rw e)
 
-      pub upper-pages-on : q ≡ rightAt b p → r ≡ true → UpperPagesLeft first q (left - 1)
-      upper-pages-on eq e = upper-pages-step q eq ∙ rw e
+        pub upper-pages-on : q ≡ rightAt b p → r ≡ true → UpperPagesLeft h first q (left - 1)
+        upper-pages-on eq e = upper-pages-step q eq ∙ rw e
 
   -- the loop over the levels: of `height` levels, the `left` levels from the page p on decide
   abbrev pub UpperLevelsLeft : ℕ → ℕ → ℕ → ℕ → Type 0
@@ -50,7 +48,7 @@ module _ (b : List ℕ) (k size : ℕ) where
     unfolding upperLevelsGood
     upper-levels-end e = sym (inv ∙ rw e)
 
-    module _ (r : Bool) (more : 0 < left) (er : r ≡ upperPagesGood b k size (chain b size maxPages p)) where
+    module _ (r : Bool) (more : 0 < left) (er : r ≡ upperPagesGood b k size (left - 1) (chain b size maxPages p)) where
       upper-levels-step : upperLevelsGood b k size height first ≡ (r && upperLevelsGood b k size (left - 1) (firstChild b k size p))
       unfolding upperLevelsGood
       upper-levels-step = let s : left ≡ suc (left - 1) = omega arith in inv ∙ ap (λ (l : ℕ). upperLevelsGood b k size l p) s ∙ rw er

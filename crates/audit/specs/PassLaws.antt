@@ -181,14 +181,14 @@ unfolding shapeGood
 shape-answer b k size root v m m′ g ek es er e eg = rw (← ek, ← es, ← er, e, eg)
 
 -- and of its end: the free list, then the marks
-module _ (b : List ℕ) (size p : ℕ) (m m′ : List ℕ) where
-  pub rest-bad : checkFree b size maxPages p m ≡ (false, m′) → false ≡ restFree b size p m
+module _ (b : List ℕ) (size p first : ℕ) (m m′ : List ℕ) (r : Bool) (ep : first ≡ p) (e : checkFree b size maxPages first m ≡ (r, m′)) where
+  pub rest-bad : r ≡ false → false ≡ restFree b size p m
   unfolding restFree
-  rest-bad e = rw e
+  rest-bad t = rw (← ep, e, t)
 
-  pub rest-marks : (g : Bool) → checkFree b size maxPages p m ≡ (true, m′) → g ≡ markedFrom m′ (size / pageSize - 1) 1 → g ≡ restFree b size p m
+  pub rest-marks : (g : Bool) → r ≡ true → g ≡ markedFrom m′ (size / pageSize - 1) 1 → g ≡ restFree b size p m
   unfolding restFree
-  rest-marks g e eg = rw e eg
+  rest-marks g t eg = rw (← ep, e, t) eg
 
 -- what a good header says of the file
 pub in-file : (b : List ℕ) (k size : ℕ) → headerGood b ≡ true → k ≡ keyLength b → size ≡ fileSize b → InFile b k size

@@ -1,6 +1,6 @@
 -- Steps: the audit's own values, as its test has them, and what its inner functions ask of the buffer. No public contract cites these: a reader need not
 -- believe them.
-use Prim.Native.Nat.{ℕ, _+_, _/_, _≤_, _<_}
+use Prim.Native.Nat.{ℕ, _+_, _-_, _/_, _≤_, _<_}
 use mathlib.Core.Bool.{Bool, true, false, cond, not, _&&_}
 use mathlib.Core.List.{List}
 use mathlib.Core.Option.{Option, none, some}
@@ -9,11 +9,11 @@ use lib.Dec.{eqb}
 use Rattle.octets.specs.Store.{window}
 use Rattle.page.specs.Header.{maxBytes, maxKey, pageSize, noPage}
 use Rattle.page.specs.Page.{keyAt, numberAt}
-use Rattle.page.specs.Reading.{entriesAt}
+use Rattle.page.specs.ReadingLaws.{entriesFrom}
 use Rattle.page.specs.Within.{Within}
 use Rattle.page.specs.declared.PageOffset.{PageOffset}
 use Rattle.sound.specs.Rule as rule
-use Rattle.sound.specs.Rule.{lastOf, isAbove, isSame}
+use Rattle.sound.specs.Rule.{isAbove, upperEntryGood}
 use Rattle.audit.specs.declared.Progress.{Progress}
 use Rattle.audit.specs.declared.Level.{Level}
 
@@ -36,9 +36,9 @@ keyFrom b k z = cond (eqb z 0) none (some (window b z k))
 abbrev pub leafEntry : List ℕ → ℕ → ℕ → ℕ → ℕ → Bool
 leafEntry b k p i z = not (eqb (numberAt b k p i) 0) && isAbove (keyFrom b k z) (keyAt b k p i)
 
--- entry i of a page above the leaves has the last of the child's keys as its key
-abbrev pub upperEntry : List ℕ → ℕ → ℕ → ℕ → ℕ → Bool
-upperEntry b k size p i = isSame (lastOf none (entriesAt k size b (numberAt b k p i))) (keyAt b k p i)
+-- the key of entry i of a page above the leaves, of n entries, is a ceiling; the children have h levels under them
+abbrev pub upperEntry : List ℕ → ℕ → ℕ → ℕ → ℕ → ℕ → ℕ → Bool
+upperEntry b k size h p n i = upperEntryGood b k size h (keyAt b k p i, numberAt b k p i) (entriesFrom b k p (n - (i + 1)) (i + 1))
 
 -- the page at p of the free list: whether it fits, and the marks after it
 unfoldable pub markFree : List ℕ → ℕ → ℕ → List ℕ → Bool × List ℕ

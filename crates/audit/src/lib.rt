@@ -1,26 +1,27 @@
 // The audit of an index, in two passes, each level by level from the root down. The first checks each page against its left neighbour, and marks it when it is
 // met. The pages of a level are the children of the level above, whose pages name one another by the right links that were checked there. The second checks the
-// keys above pages, once the links are known to be good. So nothing is copied, each page is checked once in each pass, and the work is linear in the file's size
-// on any bytes.
+// keys above pages, once the links are known to be good and leaf keys to ascend: each against the last leaf key under its child and the first under the next
+// child, at most 10 steps down. So nothing is copied, each page is checked once in each pass, and the work is linear in the file's size on any bytes.
 use octets::Ordering;
 use page::Page;
 use page::PageOffset;
 ghost use mathlib.Core.Path.{_≡_};
 ghost use mathlib.Core.Bool.{Bool, true};
 ghost use mathlib.Core.Option.{none};
-ghost use Prim.Native.Nat.{ℕ, _+_, _-_, _≤_};
+ghost use Prim.Native.Nat.{ℕ, _+_, _-_, _≤_, _<_};
 ghost use lib.ListN.{length};
 ghost use Rattle.octets.specs.Store.{window};
-ghost use Rattle.octets.specs.Order.{ordering};
+ghost use Rattle.octets.specs.Order.{ordering, isEqual};
 ghost use Rattle.page.specs.Header.{minBytes, maxBytes, maxLevels, pageSize, freePointer, headerGood};
 ghost use Rattle.page.specs.Within.{Within};
 ghost use Rattle.page.specs.Reading.{entriesAt};
 ghost use Rattle.page.specs.ReadingLaws.{entriesFrom};
-ghost use Rattle.sound.specs.Sound.{Audited};
-ghost use Rattle.page.specs.Children.{childrenOf};
-ghost use Rattle.sound.specs.Rule.{maxPages, lastOf, leafEntriesGood, upperEntriesGood, entriesFit, pageFits, attributeOf, chain, pagesUnder};
+ghost use Rattle.page.specs.Page.{entryArea};
+ghost use Rattle.sound.specs.Sound.{zeros, Audited};
+ghost use Rattle.page.specs.Children.{childrenOf, firstChild};
+ghost use Rattle.sound.specs.Rule.{maxPages, firstOf, lastOf, leafEntriesGood, entriesFit, pageFits, attributeOf, chain, pagesUnder};
 ghost use Rattle.sound.specs.Rule.{checkPage, checkPages, rootLevel, nextLevel, levelsUnder, markedFrom, isFreePage, checkFree, restFree, shapeGood};
-ghost use Rattle.sound.specs.Rule.{heightOf, upperPagesGood, upperLevelsGood, keysAboveGood, pagesGood};
+ghost use Rattle.sound.specs.Rule.{heightOf, down, lastChild, belowNext, upperEntriesGood, upperPagesGood, upperLevelsGood, keysAboveGood, pagesGood};
 ghost use Rattle.audit.specs.State.{InFile, EntriesWithin, keyFrom, leafEntry, upperEntry, markFree, progressOf, levelOf, startAt, refusedAt, closedAt};
 
 // What is known of the pages met on a level: whether all were good, the last page met, and the page that its right link names.
@@ -362,18 +363,24 @@ fn all_marked(marks: &[u8], pages: usize) -> bool
     true
 }
 
+// Whether `n` bytes of the index from `at` on are zero.
+fn is_zero(index: &[u8], at: usize, n: usize) -> bool
+    requires { ⌜ (at + n ≤ length (now index)) × (n ≤ entryArea) ⌝ }
+    ensures { λ r. ⌜ r ≡ isEqual (ordering (window (now (index .entry)) at n) (zeros n)) ⌝ }
+{
+    let blank = [0u8; Page::ENTRY_AREA];
+    let end = at + n;
+    octets::is_equal(octets::compare(&index[at..end], &blank[..n]))
+}
+
 // Whether a page is zero but for its right link.
 fn is_free_page(index: &[u8], page: PageOffset) -> bool
     requires { ⌜ page .0 + pageSize ≤ length (now index) ⌝ }
     ensures { λ r. ⌜ r ≡ isFreePage (now (index .entry)) (page .0) ⌝ }
 {
-    let zeros = [0u8; Page::ENTRY_AREA];
     let at = page.0 as usize;
-    let link = at + Page::RIGHT_PLACE;
-    let entries = at + Page::ENTRIES_START;
-    let end = at + Page::SIZE;
-    octets::is_equal(octets::compare(&index[at..link], &zeros[..Page::RIGHT_PLACE]))
-        & octets::is_equal(octets::compare(&index[entries..end], &zeros))
+    is_zero(index, at, Page::RIGHT_PLACE)
+        & is_zero(index, at + Page::ENTRIES_START, Page::ENTRY_AREA)
 }
 
 // Whether a page is a free page of the file that has no mark. Then it gets its mark.
@@ -438,27 +445,124 @@ fn shape_good(index: &[u8], marks: &mut [u8]) -> bool
     level.good & (level.leaf & rest_free(index, marks, size))
 }
 
-// Whether the key of entry i, above a child, is the last of the child's keys.
-fn upper_entry(index: &[u8], k: usize, size: usize, page: PageOffset, i: usize) -> bool
-    requires { ⌜ InFile (now index) k size × Within (now index) k (page .0) (i + 1) ⌝ }
-    ensures { λ r. ⌜ r ≡ upperEntry (now (index .entry)) k size (page .0) i ⌝ }
+// Where the first key of a page begins, or 0 if the page has none.
+fn first_key(index: &[u8], k: usize, size: usize, page: PageOffset) -> usize
+    requires { ⌜ InFile (now index) k size ⌝ }
+    ensures { λ r. ⌜
+        (keyFrom (now (index .entry)) k r ≡ firstOf (entriesAt k size (now (index .entry)) (page .0)))
+        × (r + k ≤ length (now (index .entry)))
+        ⌝ }
 {
-    let last = last_key(index, k, size, page::child(index, k, page, i));
+    if page::entry_count(index, k, size, page) == 0 {
+        return 0;
+    }
+    page::entry_offset(k, page, 0)
+}
+
+// The last child of a page, or the link to no page.
+fn last_child(index: &[u8], k: usize, size: usize, page: PageOffset) -> PageOffset
+    requires { ⌜ InFile (now index) k size ⌝ }
+    ensures { λ r. ⌜ r .0 ≡ lastChild (now (index .entry)) k size (page .0) ⌝ }
+{
+    let count = page::entry_count(index, k, size, page);
+    if count == 0 {
+        return PageOffset(page::NO_PAGE);
+    }
+    page::child(index, k, page, count - 1)
+}
+
+// The page `under` levels under a page, down by first entries.
+fn first_under(index: &[u8], k: usize, size: usize, under: u32, page: PageOffset) -> PageOffset
+    requires { ⌜ InFile (now index) k size ⌝ }
+    ensures { λ r. ⌜ r .0 ≡ down (firstChild (now (index .entry)) k size) under (page .0) ⌝ }
+{
+    let mut left = under;
+    let mut lower = page;
+    while 0 < left {
+        lower = page::first_child(index, k, size, lower);
+        left -= 1;
+    }
+    lower
+}
+
+// The page `under` levels under a page, down by last entries.
+fn last_under(index: &[u8], k: usize, size: usize, under: u32, page: PageOffset) -> PageOffset
+    requires { ⌜ InFile (now index) k size ⌝ }
+    ensures { λ r. ⌜ r .0 ≡ down (lastChild (now (index .entry)) k size) under (page .0) ⌝ }
+{
+    let mut left = under;
+    let mut lower = page;
+    while 0 < left {
+        lower = last_child(index, k, size, lower);
+        left -= 1;
+    }
+    lower
+}
+
+// Whether the key that begins at `key` is below the first leaf key under the child of entry i, which has `under` levels under it. If the page, of `count`
+// entries, has no entry i, there is no such bound.
+fn below_next(
+    index: &[u8],
+    k: usize,
+    size: usize,
+    under: u32,
+    page: PageOffset,
+    count: usize,
+    i: usize,
+    key: usize,
+) -> bool
+    requires { ⌜ InFile (now index) k size × EntriesWithin (now index) k (page .0) count × (key + k ≤ length (now index)) ⌝ }
+    ensures { λ r. ⌜
+        r ≡ belowNext (now (index .entry)) k size under (window (now (index .entry)) key k) (entriesFrom (now (index .entry)) k (page .0) (count - i) i)
+        ⌝ }
+{
+    if count <= i {
+        return true;
+    }
+    let child = page::child(index, k, page, i);
+    let first = first_key(index, k, size, first_under(index, k, size, under, child));
+    if first == 0 {
+        return false;
+    }
+    octets::is_below(key_order(index, k, key, first))
+}
+
+// Whether the key of entry i, above a child that has `under` levels under it, is a ceiling: at or above the last leaf key under the child, and below the first
+// under the next child of the page, of `count` entries. Leaf keys ascend, so that a key equal to the last leaf key under the child is below the next.
+fn upper_entry(
+    index: &[u8],
+    k: usize,
+    size: usize,
+    under: u32,
+    page: PageOffset,
+    count: usize,
+    i: usize,
+) -> bool
+    requires { ⌜ InFile (now index) k size × EntriesWithin (now index) k (page .0) count × (i < count) ⌝ }
+    ensures { λ r. ⌜ r ≡ upperEntry (now (index .entry)) k size under (page .0) count i ⌝ }
+{
+    let child = page::child(index, k, page, i);
+    let last = last_key(index, k, size, last_under(index, k, size, under, child));
     if last == 0 {
         return false;
     }
-    octets::is_equal(key_order(index, k, last, page::entry_offset(k, page, i)))
+    let key = page::entry_offset(k, page, i);
+    match key_order(index, k, last, key) {
+        Ordering::Below => below_next(index, k, size, under, page, count, i + 1, key),
+        Ordering::Equal => true,
+        Ordering::Above => false,
+    }
 }
 
-// Whether the entries of a page above the leaves are good.
-fn upper_entries(index: &[u8], k: usize, size: usize, page: PageOffset) -> bool
+// Whether the entries of a page above the leaves are good. Its children have `under` levels under them.
+fn upper_entries(index: &[u8], k: usize, size: usize, under: u32, page: PageOffset) -> bool
     requires { ⌜ InFile (now index) k size ⌝ }
-    ensures { λ r. ⌜ r ≡ upperEntriesGood (entriesAt k size (now (index .entry))) (entriesAt k size (now (index .entry)) (page .0)) ⌝ }
+    ensures { λ r. ⌜ r ≡ upperEntriesGood (now (index .entry)) k size under (entriesAt k size (now (index .entry)) (page .0)) ⌝ }
 {
     let count = page::entry_count(index, k, size, page);
     let mut i = 0;
     while i < count {
-        if !upper_entry(index, k, size, page, i) {
+        if !upper_entry(index, k, size, under, page, count, i) {
             return false;
         }
         i += 1;
@@ -466,10 +570,11 @@ fn upper_entries(index: &[u8], k: usize, size: usize, page: PageOffset) -> bool
     true
 }
 
-// Whether the entries of the pages of a level above the leaves are good, from its first page on along the right links.
-fn upper_pages(index: &[u8], k: usize, size: usize, first: PageOffset) -> bool
+// Whether the entries of the pages of a level above the leaves are good, from its first page on along the right links. Their children have `under` levels under
+// them.
+fn upper_pages(index: &[u8], k: usize, size: usize, under: u32, first: PageOffset) -> bool
     requires { ⌜ InFile (now index) k size ⌝ }
-    ensures { λ r. ⌜ r ≡ upperPagesGood (now (index .entry)) k size (chain (now (index .entry)) size maxPages (first .0)) ⌝ }
+    ensures { λ r. ⌜ r ≡ upperPagesGood (now (index .entry)) k size under (chain (now (index .entry)) size maxPages (first .0)) ⌝ }
 {
     let mut page = first;
     let mut left = page::MAX_PAGES;
@@ -477,7 +582,7 @@ fn upper_pages(index: &[u8], k: usize, size: usize, first: PageOffset) -> bool
         if !page::is_page(size, page) {
             return true;
         }
-        if !upper_entries(index, k, size, page) {
+        if !upper_entries(index, k, size, under, page) {
             return false;
         }
         let head = Page::at(index, page);
@@ -495,11 +600,11 @@ fn upper_levels(index: &[u8], k: usize, size: usize, height: u32, first: PageOff
     let mut left = height;
     let mut page = first;
     while 0 < left {
-        if !upper_pages(index, k, size, page) {
+        left -= 1;
+        if !upper_pages(index, k, size, left, page) {
             return false;
         }
         page = page::first_child(index, k, size, page);
-        left -= 1;
     }
     true
 }

@@ -41,8 +41,8 @@ unfolding examples answer ascii reading.readNumber format.formatGood chars.every
     audit.chain children.isLeaf audit.markedFrom audit.entriesFit audit.pageFits audit.checkPage audit.checkPages audit.rootLevel audit.nextLevel
     audit.levelsUnder audit.heightOf audit.upperPagesGood audit.upperLevelsGood audit.shapeGood audit.keysAboveGood audit.pagesGood audit.unmarked shown
     tree100.key100 tree100.grown store.put layout.encode layout.area layout.withEntries layout.newPage layout.linkBeyond layout.splitPage entries.raised
-    supply.supplyOf supply.takePage supply.supplyAfter supply.withSupply insertion.takeIn insertion.insertUnder insertion.insertedBuffer fresh.freshHeader fresh.freshBuffer fresh.freshRule fresh.printable
-    fresh.expressionGood room.pathFrom room.noRoom calls.hasControl calls.insertRule
+    supply.supplyOf supply.takePage supply.supplyAfter supply.withSupply insertion.takeIn insertion.insertUnder insertion.insertedBuffer
+    fresh.freshHeader fresh.freshBuffer fresh.freshRule fresh.printable fresh.expressionGood room.pathFrom room.noRoom calls.hasControl calls.insertRule audit.down
 examples-hold = refl
 
 -- the audit's tests of the tree in 000
@@ -50,7 +50,7 @@ tree000-tests : (header.headerGood tree.tree000 ≡ true) × (audit.pagesGood tr
 unfolding order.ordering tree.tree000 tree.padded tree.page tree.entry bytes.le16 bytes.le32 bytes.be32 bytes.toLe16 bytes.toLe32 bytes.toBe32 store.window
     order.bytesLe header.isPage header.sizeGood header.keyLengthGood header.headerGood page.capacity page.countGood pages.items pages.itemsAt
     pages.entriesAt audit.leafEntriesGood audit.upperEntriesGood audit.chain children.isLeaf audit.markedFrom audit.entriesFit audit.pageFits
-    audit.checkPage audit.checkPages audit.rootLevel audit.nextLevel audit.levelsUnder audit.heightOf audit.upperPagesGood audit.upperLevelsGood
+    audit.checkPage audit.checkPages audit.rootLevel audit.nextLevel audit.levelsUnder audit.heightOf audit.down audit.upperPagesGood audit.upperLevelsGood
     audit.shapeGood audit.keysAboveGood audit.pagesGood audit.unmarked
 tree000-tests = (refl, refl)
 

@@ -15,7 +15,7 @@ use Rattle.page.specs.KeyOrder.{bytesOrder}
 use Rattle.page.specs.Reading.{Item}
 use Rattle.layout.specs.Layout.{itemsIn}
 
--- the number of the entry that the entry e goes under: "lookup's steps lead to" it, "the last if its key is above all"
+-- the number of the entry that the entry e goes under: "the first entry at or above the key, else the last" (K1)
 abbrev pub chosenAt : Item → List Item → ℕ
 chosenAt e es = position (passesLower bytesOrder e) es
 
@@ -31,20 +31,20 @@ childOf i es = be32 (itemOf i es .1) 0
 abbrev pub replaced : ℕ → (Item → List Item) → List Item → List Item
 replaced i f es = replaceAt i (f (itemOf i es)) es
 
--- "keys above": if no page below it splits, the page at p changes only the key of entry i, the one gone through, and only if the new key is above that key. A
--- page without such an entry stays
+-- insertion "raises each key above that is lower than the new key" (K1): if no page below it splits, the page at p changes only the key of entry i, the one gone
+-- through, and only if the new key is above that key. A page without such an entry stays
 unfoldable pub raised : ℕ → List ℕ → List ℕ → ℕ → ℕ → List ℕ
 raised k b key p i =
     let es = itemsIn k b p in
     let higher = put b (entryOffset k p i) key in
     cond (ltb i (length es) && not (bytesLe key (itemOf i es .0))) higher b
 
--- two entries for the one above a page that was split: the greatest key that stayed, over the old page, and the larger of the old key above and the new
--- key, over the new page at q
+-- two entries for the one above a page that was split: "the left half gets its own last key above it; the right half keeps the larger of the old key above and
+-- the new key" (K1). The left half is the old page, the right half the new page at q
 abbrev pub twoFor : ℕ → List ℕ → List ℕ → ℕ → ℕ → Item → List Item
 twoFor k b key c q e = (lastKey key (itemsIn k b c), e .1) ∷ (larger bytesOrder (e .0) key, toBe32 q) ∷ []
 
--- the entries of a new root, over the two halves at p and q with their own last keys
+-- the entries of a new root, over the halves at p and q: each has "its own last key" above it (K1)
 abbrev pub rootEntries : ℕ → List ℕ → List ℕ → ℕ → ℕ → List Item
 rootEntries k b key p q = (lastKey key (itemsIn k b p), toBe32 p) ∷ (lastKey key (itemsIn k b q), toBe32 q) ∷ []
 

@@ -1,4 +1,5 @@
--- Laws: the audit's test accepts exactly the sound indexes, pass by pass, and the three answers meet `Audited`. Cited by the proof of the audit. Assumes nothing.
+-- Laws: the audit's test accepts exactly the sound indexes, pass by pass, and the three answers meet `Audited`. Cited by the proof of the audit. Assumes
+-- nothing.
 use Prim.Native.Nat.{ℕ, zero, suc, _-_, _/_, _%_, _≤_}
 use mathlib.Core.Path.{_≡_, refl, sym, ap, _∙_, subst}
 use mathlib.Core.List.{List, [], _∷_, _++_}

@@ -115,7 +115,8 @@ module _ (b : List ℕ) (k size : ℕ) (most : size ≤ maxBytes) where
     levels-ceilings zero es first some e chained full ascends = ((λ g. all-unit es), (λ c. refl))
     levels-ceilings (suc h) es first some e chained full ascends =
         let d = full (omega arith) in
-        let next = next-head b k size most es first some e (all-map (Full b k size cap (suc h)) (λ e. NonEmpty (S (e .1))) (full-some b k size cap (suc h)) es d) in
+        let filled = all-map (Full b k size cap (suc h)) (λ e. NonEmpty (S (e .1))) (full-some b k size cap (suc h)) es d in
+        let next = next-head b k size most es first some e filled in
         let here = pages-ceilings h es d ascends in
         let rest = levels-ceilings h (below S es) (firstChild b k size first) (next .1) (next .0) (λ i l. chained (suc i) (omega arith))
         (λ l. full-below h es d) (ascends-below h es ascends) in
@@ -128,7 +129,8 @@ module _ (b : List ℕ) (k size : ℕ) (most : size ≤ maxBytes) where
           (λ c.
               let pages = all-map (λ e. Ceilings bytesOrder (suc h) (under (suc h) e)) (λ e. PageCeilings b k size h (S (e .1))) (λ e u. (u .0, u .1)) es c in
               let lower = all-map (λ e. Ceilings bytesOrder (suc h) (under (suc h) e)) (Lower h) (ceilings-lower h) es c in
-              join (upperPagesGood b k size h (chain b size maxPages first)) _ (rw along (here .1 pages)) (rest .1 (all-to-concat (λ f. Ceilings bytesOrder h (under h f)) (λ e. S (e .1)) es lower))),
+              join (upperPagesGood b k size h (chain b size maxPages first)) _ (rw along (here .1 pages))
+              (rest .1 (all-to-concat (λ f. Ceilings bytesOrder h (under h f)) (λ e. S (e .1)) es lower))),
         )
 
   -- a level has at most as many pages as the tree

@@ -113,7 +113,7 @@ module _ {K : Type 0} (S : Store K) where
   pages-are z (suc h) es = pages-below z h es ∙ omega (arith, pages-are z h (below es), occ-append z (numbers es) (reached h (below es)))
 
   -- a property R of each entry, and of the entries of the page that it names, h levels deep in all
-  abbrev pub Deep : (K × ℕ → Type 0) → ℕ → K × ℕ → Type 0
+  abbrev Deep : (K × ℕ → Type 0) → ℕ → K × ℕ → Type 0
   Deep R zero e = Unit {0}
   Deep R (suc h) e = R e × All (Deep R h) (S (e .1))
 

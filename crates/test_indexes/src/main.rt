@@ -1,6 +1,7 @@
 // Audits indexes that an independent implementation made, and looks keys up in them: each accepted insertion of a list of calls must be found in the index
 // file after the list, with its record. Then the program runs each list as bytes on a buffer of zeros, prints the answers, and compares the buffer with the
-// index file. At last it audits damaged copies of one index. README.md beside src/ says where the files came from.
+// index file. It audits indexes whose keys above pages are ceilings, or break that rule, and runs lists on them. At last it audits damaged copies of one index.
+// README.md beside src/ says where the files came from.
 mod lists;
 
 // Whether a line is an insertion that was accepted, `i KEY RECORD 0`.
@@ -102,6 +103,16 @@ fn print_audit(name: &[u8], index: &[u8]) {
     lines::print(b"\n");
 }
 
+// Audits an index file, and runs a list of calls on it, in a buffer of 65,536 bytes.
+fn run_on_file(name: &[u8], index_path: &[u8], calls_path: &[u8]) {
+    let mut index = io::large_buffer();
+    let mut calls = io::large_buffer();
+    let _ = files::load(index_path, &mut index);
+    let m = files::load(calls_path, &mut calls).len;
+    print_audit(name, &index);
+    lists::run_on_index(&calls[..m], &mut index);
+}
+
 // Audits a copy of an index in which the byte at an offset has another value.
 fn damaged(name: &[u8], at: usize, value: u8) {
     let mut index = io::large_buffer();
@@ -143,6 +154,49 @@ fn paper_lists() {
     run(b"paper_full", b"paper_full.idx", b"paper_full.calls", 1024);
 }
 
+// Indexes whose keys above pages are ceilings, and copies that break the rule by one. Keys of 10 bytes, two levels.
+fn short_ceilings() {
+    run_on_file(
+        b"ceilings_k10_struck",
+        b"ceilings_k10_struck.idx",
+        b"ceilings_k10_struck.calls",
+    );
+    run_on_file(
+        b"ceilings_k10_too_low",
+        b"ceilings_k10_too_low.idx",
+        b"ceilings_k10_too_low.calls",
+    );
+    run_on_file(
+        b"ceilings_k10_meets_next",
+        b"ceilings_k10_meets_next.idx",
+        b"ceilings_k10_meets_next.calls",
+    );
+}
+
+// Keys of 100 bytes, four levels.
+fn long_ceilings() {
+    run_on_file(
+        b"ceilings_k100_struck",
+        b"ceilings_k100_struck.idx",
+        b"ceilings_k100_struck.calls",
+    );
+    run_on_file(
+        b"ceilings_k100_too_low",
+        b"ceilings_k100_too_low.idx",
+        b"ceilings_k100_too_low.calls",
+    );
+    run_on_file(
+        b"ceilings_k100_meets_next",
+        b"ceilings_k100_meets_next.idx",
+        b"ceilings_k100_meets_next.calls",
+    );
+    run_on_file(
+        b"ceilings_k100_inner_last_high",
+        b"ceilings_k100_inner_last_high.idx",
+        b"ceilings_k100_inner_last_high.calls",
+    );
+}
+
 fn damaged_headers() {
     damaged(b"features 0", 14, 0);
     damaged(b"key length 101", 12, 101);
@@ -162,6 +216,8 @@ fn main() {
     short_keys();
     long_keys();
     paper_lists();
+    short_ceilings();
+    long_ceilings();
     damaged_headers();
     damaged_pages();
 }

@@ -1,5 +1,5 @@
 -- Laws: lookup, insertion and removal in ascending lists of pairs, and their first and last keys. Cited by the laws of ordered trees. Assumes nothing.
-use mathlib.Core.Path.{_≡_, refl, sym, ap, _∙_}
+use mathlib.Core.Path.{_≡_, refl, sym, ap, subst, _∙_}
 use mathlib.Core.Bool.{Bool, true, false, _&&_}
 use mathlib.Core.List.{List, [], _∷_, _++_, map}
 use mathlib.Core.Option.{none, some}
@@ -23,14 +23,6 @@ lastKey-append a (x ∷ xs) ys = lastKey-append (x .0) xs ys
 pub lastKey-all : {K C : Type 0} (P : K → Type 0) (a : K) (xs : List (K × C)) → P a → All (λ x. P (x .0)) xs → P (lastKey a xs)
 lastKey-all P a [] p q = p
 lastKey-all P a (x ∷ xs) p q = lastKey-all P (x .0) xs (q .0) (q .1)
-
--- the last key of joined lists, each of which ends with the key that it stands under
-pub lastKey-concatMap : {K C D : Type 0} (under : K × C → List (K × D)) (b : K) (xs : List (K × C)) →
-    All (λ x. (a : K) → lastKey a (under x) ≡ x .0) xs → lastKey b (concatMap under xs) ≡ lastKey b xs
-lastKey-concatMap under b [] g = refl
-lastKey-concatMap under b (x ∷ xs) g =
-    lastKey-append b (under x) (concatMap under xs)
-    ∙ (ap (λ a. lastKey a (concatMap under xs)) (g .0 b) ∙ lastKey-concatMap under (x .0) xs (g .1))
 
 pub firstKey-append : {K C : Type 0} (a : K) (xs ys : List (K × C)) → NonEmpty xs → firstKey a (xs ++ ys) ≡ firstKey a xs
 firstKey-append a [] ys s = absurd s

@@ -649,7 +649,9 @@ fn sound(b: &[u8], head: &Head) -> bool {
             return false;
         };
         if leaf {
-            return leaves_good(b, head.k, &level) && reached[1..].iter().all(|&r| r);
+            return leaves_good(b, head.k, &level)
+                && reached[1..].iter().all(|&r| r)
+                && leaf_bounds(b, head.k, head.root).is_some();
         }
         let Some(below) = children(b, head, &level) else {
             return false;
@@ -690,30 +692,37 @@ fn level_good(
     leaf
 }
 
-/// The children of a level's pages, if the key above each is its last.
+/// The children of a level's pages, if there are no more than pages in the file.
 fn children(b: &[u8], head: &Head, level: &[u32]) -> Option<Vec<u32>> {
     let mut below = Vec::new();
     for &p in level {
         let page = Page::at(b, head.k, p);
-        for i in 0..page.count() {
-            let c = page.number(i);
-            if !is_page(head.size, c) {
-                return None;
-            }
-            let child = Page::at(b, head.k, c);
-            if child.count() == 0
-                || child.count() > capacity(head.k)
-                || child.key(child.count() - 1) != page.key(i)
-            {
-                return None;
-            }
-            below.push(c);
-        }
+        below.extend((0..page.count()).map(|i| page.number(i)));
         if below.len() > head.size as usize / 512 {
             return None;
         }
     }
     Some(below)
+}
+
+/// The first and the last leaf key under a page of a tree of good shape, if each key above a child is at or above the leaf keys under the child, and below those
+/// under the next child of its page.
+fn leaf_bounds(b: &[u8], k: usize, p: u32) -> Option<(&[u8], &[u8])> {
+    let page = Page::at(b, k, p);
+    if page.leaf() {
+        let mut keys = page.entries().map(|e| &e[..k]);
+        let first = keys.next().unwrap_or(&[]);
+        return Some((first, keys.last().unwrap_or(first)));
+    }
+    let (first, mut last) = leaf_bounds(b, k, page.number(0))?;
+    for i in 1..page.count() {
+        let (low, high) = leaf_bounds(b, k, page.number(i))?;
+        if page.key(i - 1) < last || page.key(i - 1) >= low {
+            return None;
+        }
+        last = high;
+    }
+    (page.key(page.count() - 1) >= last).then_some((first, last))
 }
 
 fn leaves_good(b: &[u8], k: usize, leaves: &[u32]) -> bool {

@@ -1,49 +1,106 @@
 -- `audit::upper_entry` meets its contract: test for test.
 -- Assumes nothing.
-use Rattle.page.specs.PageLaws.{entry-within}
-use Rattle.audit.specs.EntryLaws.{upper-none, upper-same}
 use borrow.Author.Needs.{needs}
+use Rattle.page.specs.PageLaws.{entry-within}
+use Rattle.audit.specs.CeilingLaws.{upper-none, upper-below, upper-equal, upper-above}
 use Rattle.audit.proofs.upper_entry.Statement.{statement}
 use Rattle.audit.proofs.upper_entry.Tie as tie
 
+-- the places: past the child, its last leaf key, the test of that, the comparison
+abbrev past-child : tie.After-last-key → tie.After-child
+past-child c = c .before .before
+
+abbrev tested : tie.After-key-order → tie.Else1
+tested c = c .before .before
+
 child-requires : tie.Need-child-requires
-child-requires c κs = search needs
+child-requires c κs = let pre = c .before .pre in pre .1 .each _ (pre .2)
+
+last-under-requires : tie.Need-last-under-requires
+last-under-requires c κs = search needs
 
 last-key-requires : tie.Need-last-key-requires
 last-key-requires c κs = search needs
 
 returns : tie.Need-returns
-returns c = upper-none _ _ _ _ _ _ _ (c .before .before .child .ensures) (c .before .last-key .ensures .0) (c .if1 .taken)
+returns c =
+    let last = c .before in
+    upper-none _ _ _ _ _ _ _ _ _ _ (past-child last .child .ensures) (last .before .last-under .ensures) (last .last-key .ensures .0) (c .if1 .taken)
 
 entry-offset-requires : tie.Need-entry-offset-requires
-entry-offset-requires c κs = search needs
+entry-offset-requires c κs =
+    let pre = past-child (c .before) .before .before .pre in
+    let w = entry-within (pre .1 .each _ (pre .2)) in
+    search needs
 
 key-order-requires : tie.Need-key-order-requires
 key-order-requires c κs =
     let last = c .before .before in
-    let w = entry-within (last .before .before .before .pre .1) in
+    let pre = past-child last .before .before .pre in
+    let w = entry-within (pre .1 .each _ (pre .2)) in
     let e = c .entry-offset .ensures in
     search needs
 
-is-equal-requires : tie.Need-is-equal-requires
-is-equal-requires c κs = search needs
+enum-told : tie.Need-enum-told
+enum-told c = search needs
+
+add-below-next : tie.Need-add-below-next
+add-below-next c = search needs
+
+below-next-requires : tie.Need-below-next-requires
+below-next-requires c κs =
+    let compared = c .before .before in
+    let last = tested compared .before in
+    let pre = past-child last .before .before .pre in
+    let w = entry-within (pre .1 .each _ (pre .2)) in
+    let e = compared .before .entry-offset .ensures in
+    (pre .0, pre .1, search needs)
+
+enum-told-2 : tie.Need-enum-told-2
+enum-told-2 c = search needs
+
+enum-told-3 : tie.Need-enum-told-3
+enum-told-3 c = search needs
 
 returns-2 : tie.Need-returns-2
 returns-2 c =
-    let compared = c .before in
-    let tested = compared .before .before in
-    let last = tested .before in
-    upper-same _ _ _ _ _ _ _ (last .before .child .ensures) (last .last-key .ensures .0) (tested .if1 .left) (compared .before .entry-offset .ensures)
-    (compared .key-order .ensures) (c .is-equal .ensures)
+    let compared = c .before .before .before in
+    let key = compared .before in
+    let last = tested compared .before in
+    upper-below _ _ _ _ _ _ _ _ _ _ (past-child last .child .ensures) (last .before .last-under .ensures) (last .last-key .ensures .0)
+    _ _ (tested compared .if1 .left) (key .entry-offset .ensures) (compared .key-order .ensures) _ (c .before .enum-told .given .1) (c .below-next .ensures)
+
+returns-3 : tie.Need-returns-3
+returns-3 c =
+    let compared = c .before .before in
+    let key = compared .before in
+    let last = tested compared .before in
+    upper-equal _ _ _ _ _ _ _ _ _ _ (past-child last .child .ensures) (last .before .last-under .ensures) (last .last-key .ensures .0)
+    _ _ (tested compared .if1 .left) (key .entry-offset .ensures) (compared .key-order .ensures) (c .enum-told2 .given .1)
+
+returns-4 : tie.Need-returns-4
+returns-4 c =
+    let compared = c .before .before in
+    let key = compared .before in
+    let last = tested compared .before in
+    upper-above _ _ _ _ _ _ _ _ _ _ (past-child last .child .ensures) (last .before .last-under .ensures) (last .last-key .ensures .0)
+    _ _ (tested compared .if1 .left) (key .entry-offset .ensures) (compared .key-order .ensures) (c .enum-told3 .given .1)
 
 pub upper-entry-spec : {M : Type 1} → statement M
 upper-entry-spec =
     tie.close
     (tie.spec
     child-requires
+    last-under-requires
     last-key-requires
     returns
     entry-offset-requires
     key-order-requires
-    is-equal-requires
-    returns-2)
+    enum-told
+    add-below-next
+    below-next-requires
+    enum-told-2
+    enum-told-3
+    returns-2
+    returns-3
+    returns-4)

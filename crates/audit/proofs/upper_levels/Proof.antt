@@ -17,6 +17,9 @@ abbrev μ-loop : tie.MeasureT-loop
 loop-holds : tie.Need-loop-holds Inv-loop μ-loop
 loop-holds c = (search needs, refl)
 
+sub-left : tie.Need-sub-left Inv-loop μ-loop
+sub-left c = search needs
+
 upper-pages-requires : tie.Need-upper-pages-requires Inv-loop μ-loop
 upper-pages-requires c κs = search needs
 
@@ -29,9 +32,6 @@ returns c =
 
 first-child-requires : tie.Need-first-child-requires Inv-loop μ-loop
 first-child-requires c κs = search needs
-
-sub-left : tie.Need-sub-left Inv-loop μ-loop
-sub-left c = search needs
 
 loop-less : tie.Need-loop-less Inv-loop μ-loop
 loop-less c = search needs
@@ -56,10 +56,10 @@ upper-levels-spec =
     Inv-loop
     μ-loop
     loop-holds
+    sub-left
     upper-pages-requires
     returns
     first-child-requires
-    sub-left
     loop-less
     loop-again
     returns-2)

@@ -84,6 +84,12 @@ pub fn leaves_for(pages: usize, per_page: usize) -> usize {
     (1..=pages).rev().find(|&n| all(n) <= pages).unwrap_or(1)
 }
 
+/// The entries over the pages of a level: each page's last key, and its number in the level.
+fn over(below: &[Vec<Entry>]) -> Vec<Entry> {
+    let key = |page: &Vec<Entry>| page.last().unwrap().0.clone();
+    below.iter().map(key).zip(0..).collect()
+}
+
 /// The levels of a tree, leaves first. An entry above a leaf carries the number of its child in the level below.
 fn levels(
     r: &mut Random,
@@ -102,11 +108,7 @@ fn levels(
         if below.len() == 1 && made.len() >= least {
             return made;
         }
-        let above = below
-            .iter()
-            .enumerate()
-            .map(|(i, page)| (page.last().unwrap().0.clone(), i as u32))
-            .collect();
+        let above = over(below);
         // pages of one entry do not make a level smaller
         let fill = match fill {
             Fill::Any if made.len() < 4 => Fill::Any,
@@ -215,6 +217,120 @@ fn laid_out(r: &mut Random, k: usize, levels: &[Vec<Vec<Entry>>]) -> Vec<u8> {
     let size = b.len() as u32;
     write_header(&mut b, k, below[0], size);
     b
+}
+
+/// An index of 11 levels: `leaves` one-entry leaves, over them levels of one-entry pages, and full pages at the top. k is at least 2.
+pub fn chains(r: &mut Random, k: usize, leaves: usize) -> Vec<u8> {
+    let numbered = |n: u16| {
+        let mut key = vec![b'S'; k];
+        key[k - 2..].copy_from_slice(&(16 * n).to_be_bytes());
+        (key, 1 + n as u32)
+    };
+    let entries = (0..leaves as u16).map(numbered).collect();
+    let mut full = 0;
+    let mut width = leaves;
+    while width > 1 {
+        width = width.div_ceil(capacity(k));
+        full += 1;
+    }
+    let mut made = vec![group(r, k, entries, Fill::Exactly(1))];
+    while made.len() < 11 {
+        let fill = if made.len() < 11 - full { Fill::Exactly(1) } else { Fill::Full };
+        let above = over(made.last().unwrap());
+        made.push(group(r, k, above, fill));
+    }
+    laid_out(r, k, &made)
+}
+
+/// A key above a page: where it stands, the last leaf key under its child, and the first under the next child of its page, if there is one.
+struct Above {
+    at: usize,
+    low: Vec<u8>,
+    high: Option<Vec<u8>>,
+}
+
+/// Collects the keys above pages under the page at p of a sound index. The result is the first and the last leaf key under that page.
+fn keys_above(b: &[u8], k: usize, p: usize, found: &mut Vec<Above>) -> (Vec<u8>, Vec<u8>) {
+    let count = u16::from_le_bytes([b[p + 2], b[p + 3]]) as usize;
+    let entry = |i: usize| p + 12 + i * (k + 4);
+    let key = |i: usize| b[entry(i)..entry(i) + k].to_vec();
+    if count == 0 {
+        return (Vec::new(), Vec::new());
+    }
+    if b[p] & 2 != 0 {
+        return (key(0), key(count - 1));
+    }
+    let child = |i: usize| {
+        let at = entry(i) + k;
+        u32::from_be_bytes(b[at..at + 4].try_into().unwrap()) as usize
+    };
+    let bounds: Vec<_> = (0..count).map(|i| keys_above(b, k, child(i), found)).collect();
+    for i in 0..count {
+        found.push(Above {
+            at: entry(i),
+            low: bounds[i].1.clone(),
+            high: bounds.get(i + 1).map(|next| next.0.clone()),
+        });
+    }
+    (bounds[0].0.clone(), bounds[count - 1].1.clone())
+}
+
+fn all_keys_above(b: &[u8]) -> (usize, Vec<Above>) {
+    let k = b[12] as usize;
+    let root = u32::from_le_bytes(b[..4].try_into().unwrap()) as usize;
+    let mut found = Vec::new();
+    keys_above(b, k, root, &mut found);
+    (k, found)
+}
+
+/// The key one above, or one below, as numbers of k bytes; none past the ends.
+fn neighbour(key: &[u8], up: bool) -> Option<Vec<u8>> {
+    let (end, start) = if up { (0xFF, 0) } else { (0, 0xFF) };
+    let mut key = key.to_vec();
+    let i = key.iter().rposition(|&c| c != end)?;
+    key[i] = key[i].wrapping_add(if up { 1 } else { 0xFF });
+    key[i + 1..].fill(start);
+    Some(key)
+}
+
+/// A key at or above `low` and below `high`, if there is one, at either end or between.
+fn within(r: &mut Random, low: &[u8], high: Option<&[u8]>) -> Vec<u8> {
+    let key = match r.below(4) {
+        0 => neighbour(low, true),
+        1 => {
+            let mut key = low.to_vec();
+            let from = r.below(key.len());
+            r.fill(&mut key[from..]);
+            Some(key)
+        }
+        _ => high.map_or(Some(vec![0xFF; low.len()]), |h| neighbour(h, false)),
+    };
+    key.filter(|key| &key[..] >= low && high.is_none_or(|h| &key[..] < h))
+        .unwrap_or(low.to_vec())
+}
+
+/// Raises keys above the pages of a sound index within their bounds, one in so many.
+pub fn raise(r: &mut Random, b: &mut [u8], one_in: usize) {
+    let (k, found) = all_keys_above(b);
+    for above in found {
+        if r.one_in(one_in) {
+            let key = within(r, &above.low, above.high.as_deref());
+            b[above.at..above.at + k].copy_from_slice(&key);
+        }
+    }
+}
+
+/// Puts a key above a page of a sound index just outside its bounds: one below the last leaf key under its child, or the first under the next one.
+pub fn misplace(r: &mut Random, b: &mut [u8]) {
+    let (k, found) = all_keys_above(b);
+    if found.is_empty() {
+        return;
+    }
+    let above = &found[r.below(found.len())];
+    let wrong = if r.one_in(2) { neighbour(&above.low, false) } else { above.high.clone() };
+    if let Some(key) = wrong {
+        b[above.at..above.at + k].copy_from_slice(&key);
+    }
 }
 
 /// A page of the file, or something that only looks like one.

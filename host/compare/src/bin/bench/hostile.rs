@@ -229,6 +229,20 @@ fn indexes() -> Vec<(String, Vec<u8>)> {
         "11 levels of one-entry pages".to_string(),
         index::tree(&mut r, 10, &one, Fill::Full, 11),
     ));
+    for k in [2, 10] {
+        let mut bytes = index::chains(&mut r, k, 226);
+        index::raise(&mut r, &mut bytes, 1);
+        let name = format!("11 levels, full pages over one-entry pages, keys raised, k = {k}");
+        made.push((name, bytes));
+    }
+    for k in [10, 100] {
+        let per_page = index::capacity(k);
+        let single = index::entries(&mut r, k, index::leaves_for(2047, per_page), 0);
+        let mut bytes = index::tree(&mut r, k, &single, Fill::Exactly(1), 1);
+        index::raise(&mut r, &mut bytes, 1);
+        let name = format!("1 MiB, full pages over one-entry leaves, keys raised, k = {k}");
+        made.push((name, bytes));
+    }
     let (spine, _) = index::spine(&mut r, 100, 31);
     made.push(("11 levels, one path of full pages".to_string(), spine));
     made

@@ -454,7 +454,7 @@ fn use_index(
     }
 }
 
-/// A sound tree of a random shape, then damaged copies of it.
+/// A sound tree of a random shape, its keys above pages exact or raised, then damaged copies of it.
 fn made_index(r: &mut Random, a: &mut Arenas, tally: &mut Tally) {
     let k = key_length(r);
     let style = r.below(4);
@@ -470,13 +470,21 @@ fn made_index(r: &mut Random, a: &mut Arenas, tally: &mut Tally) {
         _ => 1,
     };
     let mut sound = index::tree(r, k, &entries, fill, least);
+    if r.one_in(2) {
+        let share = r.pick(&[1, 2, 8]);
+        index::raise(r, &mut sound, share);
+    }
     let slack = r.pick(&[0, 0, 1, 512, 1024, 3000]);
     sound.extend(r.bytes(slack));
     use_index(r, a, tally, &sound, &entries, style);
     for _ in 0..8 {
         let mut bytes = sound.clone();
-        for _ in 0..r.pick(&[1, 1, 1, 2, 4]) {
-            index::damage(r, &mut bytes);
+        if r.one_in(4) {
+            index::misplace(r, &mut bytes);
+        } else {
+            for _ in 0..r.pick(&[1, 1, 1, 2, 4]) {
+                index::damage(r, &mut bytes);
+            }
         }
         if r.one_in(16) {
             bytes.truncate(r.below(bytes.len() + 1));
@@ -495,6 +503,9 @@ fn spine(r: &mut Random, a: &mut Arenas, tally: &mut Tally) {
         _ => 1 + step * (r.pick(&[1, 2, 5, 9, 10, 11, 11, 12]) - 1),
     };
     let (mut bytes, key) = index::spine(r, k, leaves);
+    if r.one_in(4) {
+        index::raise(r, &mut bytes, 2);
+    }
     let slack = 512 * r.below(15);
     bytes.extend(r.bytes(slack));
     let lent = a.index.lend(&bytes, r.one_in(2));
@@ -521,6 +532,9 @@ fn large_index(r: &mut Random, a: &mut Arenas, tally: &mut Tally) {
     let leaves = index::leaves_for(pages, per_leaf);
     let entries = index::entries(r, k, leaves * per_leaf, 0);
     let mut bytes = index::tree(r, k, &entries, Fill::Exactly(per_leaf), 1);
+    if r.one_in(2) {
+        index::raise(r, &mut bytes, 2);
+    }
     if r.one_in(2) {
         bytes.resize(1_048_576 + r.pick(&[0, 1, 512, 2048]), 0x55);
     }
@@ -589,6 +603,9 @@ fn a_match(r: &mut Random, a: &mut Arenas, tally: &mut Tally) {
     keys.sort();
     spoil_entries(r, k, &mut keys);
     let mut index = index::tree(r, k, &keys, Fill::Any, 1);
+    if r.one_in(4) {
+        index::raise(r, &mut index, 2);
+    }
     match r.below(12) {
         0..=1 => table::damage(r, &mut table),
         2..=3 => index::damage(r, &mut index),

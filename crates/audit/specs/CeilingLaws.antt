@@ -1,0 +1,120 @@
+-- Laws: the tests of the keys over the children of a page, down to the leaf keys that bound them, and the loop over them. Cited by the proofs of the functions
+-- on these keys. Assumes nothing.
+use Prim.Native.Nat.{ℕ, zero, suc, _+_, _-_, _≤_, _<_}
+use mathlib.Core.Path.{_≡_, refl, sym, ap, _∙_}
+use mathlib.Core.Bool.{Bool, true, false, _&&_}
+use mathlib.Core.List.{List}
+use mathlib.Core.Option.{none}
+use native.Mathlib.Omega.{arith}
+use lib.ListN.{length}
+use borrow.Author.Tests.{eq-eqb, ne-eqb}
+use Rattle.octets.specs.Store.{window}
+use Rattle.octets.specs.declared.Ordering.{Ordering}
+use Rattle.octets.specs.declared.Ordering.the-variants.{Below, Equal, Above}
+use Rattle.octets.specs.Order.{ordering, isBelow}
+use Rattle.page.specs.Header.{noPage}
+use Rattle.page.specs.Page.{entryOffset, numberAt}
+use Rattle.page.specs.Reading.{entriesAt}
+use Rattle.page.specs.ReadingLaws.{entriesFrom, entries-are}
+use Rattle.page.specs.Children.{firstChild}
+use Rattle.sound.specs.Rule.{firstOf, lastOf, lastNumber, down, lastChild, belowNext, upperEntriesGood}
+use Rattle.audit.specs.State.{keyFrom, upperEntry}
+use Rattle.audit.specs.EntryLaws.{from-on, from-end, some-key}
+
+-- the first key of a page
+module _ (b : List ℕ) (k size p n : ℕ) (en : n ≡ length (entriesAt k size b p)) where
+  pub first-none : n ≡ 0 → keyFrom b k 0 ≡ firstOf (entriesAt k size b p)
+  unfolding keyFrom entriesFrom
+  first-none z = rw (entries-are b k size p n en, z)
+
+  pub first-some : (x : ℕ) → (n ≡ 0 → ⊥) → x ≡ entryOffset k p 0 → keyFrom b k x ≡ firstOf (entriesAt k size b p)
+  unfolding entriesFrom
+  first-some x ne ex =
+      let e : n ≡ suc (n - 1) = omega arith in
+      rw (ex, some-key b k p 0, entries-are b k size p (suc (n - 1)) (sym e ∙ en))
+
+  -- the last child
+  pub child-none : n ≡ 0 → noPage ≡ lastChild b k size p
+  unfolding entriesFrom
+  child-none z = rw (entries-are b k size p n en, z)
+
+last-number : (b : List ℕ) (k p m i x : ℕ) → lastNumber x (entriesFrom b k p (suc m) i) ≡ numberAt b k p (i + m)
+unfolding entriesFrom
+last-number b k p zero i x = let e : i + 0 ≡ i = omega arith in rw e
+last-number b k p (suc m) i x = let e : i + 1 + m ≡ i + suc m = omega arith in rw (← e) (last-number b k p m (i + 1) (numberAt b k p i))
+
+pub child-some : (b : List ℕ) (k size p n c : ℕ) → n ≡ length (entriesAt k size b p) → (n ≡ 0 → ⊥) → c ≡ numberAt b k p (n - 1) → c ≡ lastChild b k size p
+child-some b k size p zero c en ne ec = absurd (ne refl)
+child-some b k size p (suc m) c en ne ec =
+    let e : suc m - 1 ≡ 0 + m = omega arith in
+    ec ∙ rw (e, entries-are b k size p (suc m) en) (sym (last-number b k p m 0 noPage))
+
+-- the loop down: `left` levels from the page p on lead to where all h levels lead
+module _ (f : ℕ → ℕ) (h q left p : ℕ) (inv : down f h q ≡ down f left p) where
+  pub down-end : left ≡ 0 → p ≡ down f h q
+  unfolding down
+  down-end e = sym (inv ∙ rw e)
+
+  pub down-on : (c : ℕ) → 0 < left → c ≡ f p → down f h q ≡ down f (left - 1) c
+  unfolding down
+  down-on c more ec = let s : left ≡ suc (left - 1) = omega arith in inv ∙ ap (λ (l : ℕ). down f l p) s ∙ rw ec
+
+-- the next child, that of entry i, if there is one
+module _ (b : List ℕ) (k size h p n i x : ℕ) where
+  pub next-end : n ≤ i → true ≡ belowNext b k size h (window b x k) (entriesFrom b k p (n - i) i)
+  next-end l = rw (from-end b k p n i l)
+
+  module _ (c q z : ℕ) (more : i < n) (ec : c ≡ numberAt b k p i) (eq : q ≡ down (firstChild b k size) h c)
+      (ez : keyFrom b k z ≡ firstOf (entriesAt k size b q)) where
+    pub next-none : z ≡ 0 → false ≡ belowNext b k size h (window b x k) (entriesFrom b k p (n - i) i)
+    unfolding keyFrom
+    next-none e = rw (from-on b k p n i more, ← ec, ← eq, ← ez, eq-eqb z 0 e)
+
+    pub next-below : {o : Ordering} {r : Bool} → (z ≡ 0 → ⊥) → o ≡ ordering (window b x k) (window b z k) → r ≡ isBelow o
+        → r ≡ belowNext b k size h (window b x k) (entriesFrom b k p (n - i) i)
+    unfolding keyFrom
+    next-below e eo er = er ∙ rw (from-on b k p n i more, ← ec, ← eq, ← ez, ne-eqb z 0 e) (ap isBelow eo)
+
+-- one entry of a page above the leaves, by its tests
+module _ (b : List ℕ) (k size h p n i c q z : ℕ) (ec : c ≡ numberAt b k p i) (eq : q ≡ down (lastChild b k size) h c)
+    (ez : keyFrom b k z ≡ lastOf none (entriesAt k size b q)) where
+  pub upper-none : z ≡ 0 → false ≡ upperEntry b k size h p n i
+  unfolding keyFrom
+  upper-none e = rw (← ec, ← eq, ← ez, eq-eqb z 0 e)
+
+  module _ (at : ℕ) (o : Ordering) (some : z ≡ 0 → ⊥) (ea : at ≡ entryOffset k p i) (eo : o ≡ ordering (window b z k) (window b at k)) where
+    pub upper-below : (r : Bool) → o ≡ Below → r ≡ belowNext b k size h (window b at k) (entriesFrom b k p (n - (i + 1)) (i + 1))
+        → r ≡ upperEntry b k size h p n i
+    unfolding keyFrom
+    upper-below r e er = er ∙ rw (← ec, ← eq, ← ez, ne-eqb z 0 some, ← ea, ← eo, e)
+
+    pub upper-equal : o ≡ Equal → true ≡ upperEntry b k size h p n i
+    unfolding keyFrom
+    upper-equal e = rw (← ec, ← eq, ← ez, ne-eqb z 0 some, ← ea, ← eo, e)
+
+    pub upper-above : o ≡ Above → false ≡ upperEntry b k size h p n i
+    unfolding keyFrom
+    upper-above e = rw (← ec, ← eq, ← ez, ne-eqb z 0 some, ← ea, ← eo, e)
+
+-- the loop over the n entries of a page above the leaves: the entries from entry i on decide
+abbrev pub UpperLeft : List ℕ → ℕ → ℕ → ℕ → ℕ → ℕ → ℕ → Type 0
+UpperLeft b k size h p n i = upperEntriesGood b k size h (entriesAt k size b p) ≡ upperEntriesGood b k size h (entriesFrom b k p (n - i) i)
+
+pub upper-start : (b : List ℕ) (k size h p n : ℕ) → n ≡ length (entriesAt k size b p) → UpperLeft b k size h p n 0
+upper-start b k size h p n en = let e : n - 0 ≡ n = omega arith in rw e (ap (upperEntriesGood b k size h) (entries-are b k size p n en))
+
+module _ (b : List ℕ) (k size h p n i : ℕ) (inv : UpperLeft b k size h p n i) where
+  pub upper-end : n ≤ i → true ≡ upperEntriesGood b k size h (entriesAt k size b p)
+  unfolding upperEntriesGood
+  upper-end l = sym (inv ∙ rw (from-end b k p n i l))
+
+  module _ (more : i < n) (r : Bool) (er : r ≡ upperEntry b k size h p n i) where
+    upper-step : upperEntriesGood b k size h (entriesAt k size b p) ≡ (r && upperEntriesGood b k size h (entriesFrom b k p (n - (i + 1)) (i + 1)))
+    unfolding upperEntriesGood
+    upper-step = inv ∙ rw (from-on b k p n i more, ← er)
+
+    pub upper-off : r ≡ false → false ≡ upperEntriesGood b k size h (entriesAt k size b p)
+    upper-off e = sym (upper-step ∙ rw e)
+
+    pub upper-on : r ≡ true → UpperLeft b k size h p n (i + 1)
+    upper-on e = upper-step ∙ rw e
