@@ -7,7 +7,7 @@ use Rattle.insert.specs.Fresh.{freshRule}
 
 -- the key of 100 bytes that ends in the digit x: 99 blanks before it
 unfoldable pub key100 : ℕ → List ℕ
-key100 x = replicate 99 32 ++ (48 + x ∷ [])
+key100 x = replicate 99 32 ++ ((48 + x) ∷ [])
 
 -- a buffer of `size` bytes after fresh, with the expression `NAME`, and insertions of the keys 1 to n, key x with the record number x
 unfoldable pub grown : ℕ → ℕ → List ℕ

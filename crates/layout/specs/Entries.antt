@@ -15,6 +15,10 @@ use Rattle.page.specs.KeyOrder.{bytesOrder}
 use Rattle.page.specs.Reading.{Item}
 use Rattle.layout.specs.Layout.{itemsIn}
 
+-- a key with its record number, as an entry stores them
+abbrev pub stored : List ℕ → ℕ → Item
+stored key number = (key, toBe32 number)
+
 -- the number of the entry that the entry e goes under: "the first entry at or above the key, else the last" (K1)
 abbrev pub chosenAt : Item → List Item → ℕ
 chosenAt e es = position (passesLower bytesOrder e) es

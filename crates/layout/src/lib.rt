@@ -7,7 +7,6 @@ ghost use mathlib.Core.Bool.{Bool, true};
 ghost use mathlib.Core.List.{[]};
 ghost use Prim.Native.Nat.{ℕ, _+_, _-_, _*_, _≤_, _<_};
 ghost use lib.ListN.{length};
-ghost use Rattle.octets.specs.Bytes.{toBe32};
 ghost use Rattle.octets.specs.Store.{put, window};
 ghost use Rattle.tree.specs.Order.{larger};
 ghost use Rattle.tree.specs.Pairs.{lastKey, byKey, present, insertPair};
@@ -18,7 +17,7 @@ ghost use Rattle.page.specs.KeyOrder.{bytesOrder};
 ghost use Rattle.page.specs.Reading.{items};
 ghost use Rattle.layout.specs.Layout.{withAttribute, withCount, withLeft, withRight, withRoot, withFree, withSize, headerBytes};
 ghost use Rattle.layout.specs.Layout.{itemsIn, encode, withEntries, newPage, linkBeyond, splitPage, linkBefore, unlinked, freed};
-ghost use Rattle.layout.specs.Entries.{chosenAt, childOf, replaced, raised, twoFor, rootEntries, withoutEntry};
+ghost use Rattle.layout.specs.Entries.{stored, chosenAt, childOf, replaced, raised, twoFor, rootEntries, withoutEntry};
 ghost use Rattle.layout.specs.Supply.{supplyOf, takePage, supplyAfter, withSupply};
 ghost use Rattle.layout.specs.Given.{Given, Over, Listed, Lasts, roomSize};
 
@@ -307,7 +306,7 @@ pub fn entry_count(index: &[u8], k: usize, page: PageOffset) -> usize
 // distinct, so the record number is not looked at.
 pub fn chosen_entry(index: &[u8], key: &[u8], number: RecordNumber, page: PageOffset) -> usize
     requires { ⌜ (length (now key) ≤ maxKey) × (isPage (length (now index)) (page .0) ≡ true) ⌝ }
-    ensures { λ r. ⌜ r ≡ chosenAt (now (key .entry), toBe32 (number .0)) (itemsIn (length (now (key .entry))) (now (index .entry)) (page .0)) ⌝ }
+    ensures { λ r. ⌜ r ≡ chosenAt (stored (now (key .entry)) (number .0)) (itemsIn (length (now (key .entry))) (now (index .entry)) (page .0)) ⌝ }
 {
     let count = entry_count(index, key.len(), page);
     if count == 0 {
@@ -334,7 +333,7 @@ pub fn child_of(index: &[u8], k: usize, page: PageOffset, i: usize) -> PageOffse
 // Whether a leaf has `key`: the first entry at or above it is an equal one. Keys are distinct, so the record number is not looked at.
 pub fn is_present(index: &[u8], key: &[u8], number: RecordNumber, page: PageOffset) -> bool
     requires { ⌜ (length (now key) ≤ maxKey) × (isPage (length (now index)) (page .0) ≡ true) ⌝ }
-    ensures { λ r. ⌜ r ≡ present (byKey bytesOrder) (now (key .entry), toBe32 (number .0))
+    ensures { λ r. ⌜ r ≡ present (byKey bytesOrder) (stored (now (key .entry)) (number .0))
         (itemsIn (length (now (key .entry))) (now (index .entry)) (page .0)) ⌝ }
 {
     let count = entry_count(index, key.len(), page);
@@ -434,7 +433,7 @@ pub fn gather_pair(
 )
     requires { ⌜ Listed (now index) (length (now key)) (page .0) count × (roomSize ≤ length (now room)) ⌝ }
     ensures { λ _. ⌜ now (room .exit) ≡ put (now (room .entry)) 0
-        (encode (insertPair (byKey bytesOrder) (now (key .entry), toBe32 (number .0)) (itemsIn (length (now (key .entry))) (now (index .entry)) (page .0)))) ⌝ }
+        (encode (insertPair (byKey bytesOrder) (stored (now (key .entry)) (number .0)) (itemsIn (length (now (key .entry))) (now (index .entry)) (page .0)))) ⌝ }
 {
     let k = key.len();
     let i = page::first_at_or_above(index, page, count, key);
