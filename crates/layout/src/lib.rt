@@ -97,11 +97,9 @@ pub fn supply_of(index: &[u8]) -> Supply
     requires { ⌜ pageSize ≤ length (now index) ⌝ }
     ensures { λ r. ⌜ r ≡ supplyOf (now (index .entry)) ⌝ }
 {
-    let free = page::free_pointer(index);
-    let end = page::file_end(index);
     Supply {
-        free: free,
-        end: end,
+        free: page::free_pointer(index),
+        end: page::file_end(index),
     }
 }
 
@@ -112,6 +110,7 @@ pub fn take_page(index: &[u8], supply: Supply) -> Taken
 {
     let free = supply.free;
     let end = supply.end;
+    let beyond = page::next_page(end);
     if page::is_page(index.len(), free) {
         let next = Page::at(index, free).right;
         return Taken {
@@ -122,12 +121,11 @@ pub fn take_page(index: &[u8], supply: Supply) -> Taken
             },
         };
     }
-    let next = page::next_page(end);
     Taken {
         page: end,
         rest: Supply {
             free: free,
-            end: next,
+            end: beyond,
         },
     }
 }

@@ -6,6 +6,9 @@ use borrow.Author.Needs.{needs}
 use Rattle.layout.proofs.take_page.Statement.{statement}
 use Rattle.layout.proofs.take_page.Tie as tie
 
+next-page-requires : tie.Need-next-page-requires
+next-page-requires c κs = search needs
+
 is-page-requires : tie.Need-is-page-requires
 is-page-requires c κs = search needs
 
@@ -18,13 +21,10 @@ returns c =
     let tested = read .before in
     takes-free _ _ (sym (tested .before .is-page .ensures) ∙ tested .if1 .taken) (read .at .ensures .1 .1 .1)
 
-next-page-requires : tie.Need-next-page-requires
-next-page-requires c κs = search needs
-
 returns-2 : tie.Need-returns-2
 returns-2 c =
     let tested = c .before in
-    takes-end _ _ (sym (tested .before .is-page .ensures) ∙ tested .if1 .left) (c .next-page .ensures)
+    takes-end _ _ (sym (tested .is-page .ensures) ∙ c .if1 .left) (tested .before .next-page .ensures)
 
 pub take-page-spec : {M : Type 1} → statement M
-take-page-spec = tie.close (tie.spec is-page-requires at-requires returns next-page-requires returns-2)
+take-page-spec = tie.close (tie.spec next-page-requires is-page-requires at-requires returns returns-2)
