@@ -2,6 +2,8 @@
 
 -- Laws: a change of a list of stored entries is the same change of the list with their numbers
 pub mod ItemLists
+-- Laws: the pages taken from a free list and from the file's end
+pub mod TakenPages
 -- Laws: new pages by their names
 pub mod Naming
 -- Laws: the entries of all pages after insertion's steps
