@@ -1,5 +1,5 @@
--- Laws: a page that an insertion neither finds in the tree nor takes keeps the form of a free page: its left link stays, and its other bytes do. Cited by the law
--- that an insertion keeps an index sound. Assumes nothing.
+-- Laws: a page that an insertion neither finds in the tree nor takes keeps the form of a free page: its left link stays, and its other bytes do. Cited by the
+-- law that an insertion keeps an index sound. Assumes nothing.
 use mathlib.Core.Path.{_≡_, refl, sym, ap, ap₂, _∙_}
 use mathlib.Core.Bool.{true, or-true}
 use mathlib.Core.List.{List, [], _∷_, _++_}
@@ -113,7 +113,8 @@ pub free-kept : (b b′ : List ℕ) (z : ℕ) → length b′ ≡ length b → i
     → FreePage b′ z
 free-kept b b′ z as-long page same left free =
     let inside = is-page (length b) z page .high in
-    let front : window b z 4 ≡ zeros 4 = rw add-zero at (sym (window-window b z 8 0 4 (omega arith))) ∙ ap (λ (w : List ℕ). window w 0 4) (free .0) ∙ zero-front in
+    let front : window b z 4 ≡ zeros 4 =
+    rw add-zero at (sym (window-window b z 8 0 4 (omega arith))) ∙ ap (λ (w : List ℕ). window w 0 4) (free .0) ∙ zero-front in
     let back : window b (z + 4) 4 ≡ zeros 4 = sym (window-window b z 8 4 4 (omega arith)) ∙ ap (λ (w : List ℕ). window w 4 4) (free .0) ∙ zero-back in
     let none : leftAt b z ≡ 0 = sym (le32-window b (z + 4)) ∙ ap (λ (w : List ℕ). le32 w 0) back ∙ zero-number in
     let link : window b′ (z + 4) 4 ≡ zeros 4 =

@@ -280,7 +280,8 @@ module _ (k : ℕ) (N : Naming) (key : List ℕ) (r : ℕ) (b : List ℕ) where
       child-among =
           ap (λ (i : ℕ). gathered k (o .two) N b (o .supplied) key (o .long) i (under (suc h) (numbered child)) (map numbered (y ∷ ys)))
           (sym (position-numbered key (toBe32 r) r (y ∷ ys)))
-          ∙ ap (λ (e : List ℕ × ℕ). storePlace (passes (key, r) (suc h)) (map numbered (y ∷ ys)) (under (suc h) e)) (sym (chosen-numbered key (toBe32 r) r y ys))
+          ∙ ap (λ (e : List ℕ × ℕ). storePlace (passes (key, r) (suc h)) (map numbered (y ∷ ys)) (under (suc h) e))
+          (sym (chosen-numbered key (toBe32 r) r y ys))
           ∙ ap (λ (l : List (List ℕ × ℕ)). storeInsertAmong keeping (passes (key, r)) (key, r) (suc h) (under (suc h)) l 0 (entriesIn k b)) (sym es)
 
       child-occ : (z : ℕ) → occ z (pagesUnder (suc h) (readEntry (entriesIn k b) (suc h) (numbered child))) ≤ occ z below

@@ -252,7 +252,8 @@ module _ (k : ℕ) (N : Naming) (key : List ℕ) (r : ℕ) (b : List ℕ) (o : O
   insert-heads (suc h) zero p a l f u x = absurd (omega arith)
   insert-heads zero (suc left) p a l f u x =
       let es : List Item = insertPair (byKey bytesOrder) (stored key r) (itemsIn k b p) in
-      let w : StoreReplacement (List ℕ) = storeInsertAmong keeping (passes (key, r)) (key, r) zero (under k N key r b zero) (entriesIn k b p) 0 (entriesIn k b) in
+      let w : StoreReplacement (List ℕ) =
+      storeInsertAmong keeping (passes (key, r)) (key, r) zero (under k N key r b zero) (entriesIn k b p) 0 (entriesIn k b) in
       let t : OutcomeIs N a p (takeIn k b p es (supplyOf b) .outcome) (storeSplitIfOver (capacity k) (N .name) a p w) =
       rw (f .0 .0, f .1) at (inserts k N key r b o zero (suc left) p a l f u .told) in
       let none : w .1 ≡ 0 = ap (λ (y : StoreReplacement (List ℕ)). y .1) (among-leaf (key, r) (entriesIn k b) (capacity k) (N .name) (entriesIn k b p)) in

@@ -400,7 +400,8 @@ module _ (b key : List ℕ) (r : ℕ) (accepts : Accepts b key r) where
       let pointers : All (λ p. freeGood (after .size) p ≡ true) (accepts .sound .free) =
       all-map (λ p. isPage (fileSize b) p ≡ true) (λ p. freeGood (after .size) p ≡ true) (λ p t. page-good (after .size) p (page-longer p (omega arith) t))
       (accepts .sound .free) (accepts .sound .freeInside) in
-      let root : isPage (after .size) (x .1 .0) ≡ true = once-page after once (x .1 .0) (omega (arith, occ-here (x .1 .0) (concatMap (pagesUnder (x .0)) (x .1 .1)))) in
+      let root : isPage (after .size) (x .1 .0) ≡ true =
+      once-page after once (x .1 .0) (omega (arith, occ-here (x .1 .0) (concatMap (pagesUnder (x .0)) (x .1 .1)))) in
       good-header-from b″ (record {
         long = rw long (good .long);
         whole = rw size-is aligned;
@@ -469,7 +470,8 @@ module _ (b key : List ℕ) (r : ℕ) (accepts : Accepts b key r) where
     its-left : leftAt b″ (name j) ≡ leftAt b (name j)
     its-left =
         heads .links (name j) its-page .0
-        ∙ relinked-left (keeping .route (key, r)) noPage name (capacity k) h t x (linksOf b) (name j) (λ i l. not-taken i (omega (arith, few))) not-beyond not-root
+        ∙ relinked-left (keeping .route (key, r)) noPage name (capacity k) h t x (linksOf b) (name j) (λ i l. not-taken i (omega (arith, few))) not-beyond
+        not-root
 
     its-form : FreePage b″ (name j)
     its-form = free-kept b b″ (name j) long its-page its-bytes its-left (its (FreePage b) (accepts .sound .freePages))
@@ -524,8 +526,8 @@ insert-keeps-sound b key r accepts =
       sound = now .0;
       index = same;
       leaves = ap held same
-          ∙ insert-pairs keeping (capacity (keyLength b)) (takenPage (s .free) (fileSize b)) (key, r) (distinct-leading bytesOrder (key, r)) (s .height) (indexTree b (s .height))
-          (sized-rooted (capacity (keyLength b)) (s .height) (indexTree b (s .height)) (old .sized)) (old .ordered);
+          ∙ insert-pairs keeping (capacity (keyLength b)) (takenPage (s .free) (fileSize b)) (key, r) (distinct-leading bytesOrder (key, r))
+          (s .height) (indexTree b (s .height)) (sized-rooted (capacity (keyLength b)) (s .height) (indexTree b (s .height)) (old .sized)) (old .ordered);
       header = rest b key r accepts;
       keyIs = key-same b key r accepts;
       as-long = long b key r accepts;

@@ -1,5 +1,5 @@
 -- Laws: insertion's rule reads a sound index up to the buffer's length, and reads the tree that is read up to the file's. Every page of that tree is one of
--- the buffer, has the leaf bit at the bottom only and entries above; and its free list is a supply. Cited by the laws of room and of insertion. Assumes nothing.
+-- the buffer, has the leaf bit at the bottom only and entries above; its free list is a supply. Cited by the laws of room and of insertion. Assumes nothing.
 use mathlib.Core.Path.{_≡_, refl, sym, _∙_, subst}
 use mathlib.Core.Bool.{true}
 use mathlib.Core.List.{List, [], _∷_, map}
