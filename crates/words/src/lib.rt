@@ -57,7 +57,7 @@ fn put_index_words(line: &mut Line, n: usize, code: u32) -> usize {
 // 33 to 40: document 02. The crate `refusal` does not name those that nothing gives yet.
 fn put_other_words(line: &mut Line, n: usize, code: u32) -> usize {
     match code {
-        33 => put(line, n, b"key absent"),
+        refusal::KEY_ABSENT => put(line, n, b"key absent"),
         34 => put(line, n, b"no number to index"),
         refusal::BARCODE_ABSENT => put(line, n, b"barcode absent or deleted"),
         refusal::NO_CONCENTRATION => put(line, n, b"no concentration"),
