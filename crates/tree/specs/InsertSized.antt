@@ -19,7 +19,7 @@ abbrev OneTo : {A : Type 0} → (A → Type 0) → ℕ → List A → Type 0
 OneTo S n l = All S l × (length l ≤ n) × (0 < length l)
 
 module _ {K C : Type 0} (cap : ℕ) (S : K × C → Type 0) where
-  abbrev SizedPage : K × Page K C → Type 0
+  abbrev pub SizedPage : K × Page K C → Type 0
   SizedPage x = (0 < length (x .1 .1)) × (length (x .1 .1) ≤ cap) × All S (x .1 .1)
 
   splitIfOver-sized : 0 < cap → (name : ℕ → ℕ) (a : K) (p : ℕ) (q : Replacement K C) → OneTo S (suc cap) (q .0) →
@@ -54,7 +54,7 @@ place-sized O k g S ok x (y ∷ ys) n d = either (O .le k (x .0))
     let f : OneTo S (suc (suc (length ys))) (place O k g y ys n .0) = place-sized O k g S ok y ys n (d .1) in
     ((d .0, f .0), omega arith, omega arith)))
 
-least-le : (h : ℕ) → least h ≤ 1
+pub least-le : (h : ℕ) → least h ≤ 1
 least-le zero = omega arith
 least-le (suc h) = omega arith
 

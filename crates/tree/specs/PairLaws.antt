@@ -1,5 +1,6 @@
--- Laws: lookup and insertion in ascending lists of pairs, and their first and last keys. Cited by the laws of ordered trees. Assumes nothing.
+-- Laws: lookup, insertion and removal in ascending lists of pairs, and their first and last keys. Cited by the laws of ordered trees. Assumes nothing.
 use mathlib.Core.Path.{_≡_, refl, sym, ap, _∙_, subst}
+use mathlib.Core.Bool.{_&&_}
 use mathlib.Core.List.{List, [], _∷_, _++_}
 use mathlib.Core.Option.{Option, none, some}
 use Rattle.basis.specs.Lists.{All, all-append, all-left, all-map}
@@ -7,7 +8,7 @@ use Rattle.basis.specs.Tests.{either, contra}
 use Rattle.tree.specs.Lists.{NonEmpty, concatMap}
 use Rattle.tree.specs.Order.{Order, Le, Lt}
 use Rattle.tree.specs.OrderLaws.{le-refl, lt-le, lt-le-trans, le-lt-trans}
-use Rattle.tree.specs.Pairs.{follow, firstKey, lastKey, seek, ifEqual, find, get, insertPair, Below, Above, Ascending}
+use Rattle.tree.specs.Pairs.{follow, firstKey, lastKey, seek, ifEqual, find, get, insertPair, removePair, Below, Above, Ascending}
 
 -- the last key
 pub lastKey-default : {K C : Type 0} (a b : K) (xs : List (K × C)) → NonEmpty xs → lastKey a xs ≡ lastKey b xs
@@ -89,6 +90,28 @@ module _ {K : Type 0} (O : Order K) where
   insertPair-here k r a [] ys h v = insertPair-first k r a ys h v
   insertPair-here k r a (x ∷ xs) ys h v =
       either (O .le k (x .0)) (λ e. rw e) (λ e. rw e (ap (λ l. x ∷ l) (insertPair-here k r a xs ys h v)))
+
+  -- removal of a pair passes over and leaves alone the same lists
+  pub removePair-past : {C : Type 0} (k a : K) (xs ys : List (K × C)) → Lt O a k → Below O a xs →
+      removePair O k (xs ++ ys) ≡ xs ++ removePair O k ys
+  removePair-past k a [] ys h b = refl
+  removePair-past k a (x ∷ xs) ys h b =
+      let e : Lt O (x .0) k = le-lt-trans O (x .0) a k (b .0) h in
+      rw e (ap (λ l. x ∷ l) (removePair-past k a xs ys h (b .1)))
+
+  removePair-none : {C : Type 0} (k a : K) (ys : List (K × C)) → Le O k a → Above O a ys → removePair O k ys ≡ ys
+  removePair-none k a [] h v = refl
+  removePair-none k a (y ∷ ys) h v =
+      let f : Lt O k (y .0) = le-lt-trans O k a (y .0) h (v .0) in
+      let e : Le O k (y .0) = lt-le O k (y .0) f in
+      rw (e, f) (ap (λ l. y ∷ l) (removePair-none k a ys h (v .1)))
+
+  pub removePair-here : {C : Type 0} (k a : K) (xs ys : List (K × C)) → Le O k a → Above O a ys →
+      removePair O k (xs ++ ys) ≡ removePair O k xs ++ ys
+  removePair-here k a [] ys h v = removePair-none k a ys h v
+  removePair-here k a (x ∷ xs) ys h v = either (O .le k (x .0) && O .le (x .0) k)
+      (λ e. rw e)
+      (λ e. rw e (ap (λ l. x ∷ l) (removePair-here k a xs ys h v)))
 
   -- what holds of the new pair and of all the old ones holds of all
   pub insertPair-all : {C : Type 0} (P : K × C → Type 0) (k : K) (r : C) (xs : List (K × C)) → P (k, r) → All P xs →

@@ -43,6 +43,11 @@ module _ {K : Type 0} (O : Order K) where
   insertPair k r [] = (k, r) ∷ []
   insertPair k r (x ∷ xs) = cond (O .le k (x .0)) ((k, r) ∷ x ∷ xs) (x ∷ insertPair k r xs)
 
+  -- a list without the first pair whose key is equal
+  abbrev pub removePair : {C : Type 0} → K → List (K × C) → List (K × C)
+  removePair k [] = []
+  removePair k (x ∷ xs) = cond (O .le k (x .0) && O .le (x .0) k) xs (x ∷ removePair k xs)
+
   -- the entry that an insertion goes to: the first at or above the key, "the last if its key is above all"
   abbrev pub choose : {C : Type 0} → K → K × C → List (K × C) → K × C
   choose k x [] = x
