@@ -1,0 +1,111 @@
+-- Laws: entries, heads and bytes of every page, and the file's header, after a page is unlinked from its neighbours, and after it joins the free list. Cited by
+-- the laws of removal. Assumes nothing.
+use mathlib.Core.Path.{_≡_, refl, sym, ap, _∙_}
+use mathlib.Core.Bool.{true, cond}
+use mathlib.Core.List.{List, [], _++_}
+use Prim.Native.Nat.{ℕ, _+_, _-_, _^_, _≤_, _<_}
+use native.Mathlib.Omega.{arith}
+use lib.ListN.{length, length-append}
+use lib.Dec.{eqb}
+use borrow.Author.Tests.{eqb-true, ne-eqb}
+use Rattle.basis.specs.Tests.{either, contra}
+use Rattle.octets.specs.Bytes.{toLe16, toLe32}
+use Rattle.octets.specs.Store.{put, window}
+use Rattle.octets.specs.StoreLaws.{length-put, window-before, window-after, window-same}
+use Rattle.octets.specs.NumberLaws.{length-toLe16, length-toLe32, le32-put}
+use Rattle.tree.specs.StoreSteps.{write}
+use Rattle.page.specs.Header.{pageSize, freePlace, sizePlace, freePointer, isPage}
+use Rattle.page.specs.HeaderLaws.{is-page}
+use Rattle.page.specs.Page.{attributeAt, countAt, leftAt, rightAt, capacity, entryArea}
+use Rattle.layout.specs.Layout.{area, newPage, linkBeyond, linkBefore, unlinked, freed}
+use Rattle.layout_laws.specs.EntryLaws.{entriesIn, page-of, window-other, entries-links, entries-header, entries-new, entries-beyond, length-area}
+use Rattle.layout_laws.specs.EntryLaws.{length-beyond, length-new}
+use Rattle.layout_laws.specs.HeadLaws.{Head, SameHead, SameHeader, put-right, put-outside, put-header, new-head, new-header, beyond-head, beyond-header}
+
+pub length-before : (b : List ℕ) (l q : ℕ) → length (linkBefore b l q) ≡ length b
+unfolding linkBefore
+length-before b l q = either (isPage (length b) l) (λ e. rw e (length-put b (l + 8) (toLe32 q))) (λ e. rw e)
+
+pub length-unlinked : (b : List ℕ) (p : ℕ) → length (unlinked b p) ≡ length b
+unfolding unlinked
+length-unlinked b p = length-before (linkBeyond b (rightAt b p) (leftAt b p)) (leftAt b p) (rightAt b p) ∙ length-beyond b (rightAt b p) (leftAt b p)
+
+pub length-freed : (b : List ℕ) (p : ℕ) → length (freed b p) ≡ length b
+unfolding freed
+length-freed b p = length-put (newPage b p 0 0 (freePointer b) []) freePlace (toLe32 p) ∙ length-new b p 0 0 (freePointer b) []
+
+-- entries: links hold none, and a page that joins the free list has none
+module _ (k : ℕ) where
+  entries-before : (b : List ℕ) (l q : ℕ) → entriesIn k (linkBefore b l q) ≡ entriesIn k b
+  unfolding linkBefore
+  entries-before b l q = either (isPage (length b) l)
+      (λ e. rw e (entries-links k b l (l + 8) (toLe32 q) (is-page (length b) l e .whole) (omega arith) (omega (arith, length-toLe32 q))))
+      (λ e. rw e)
+
+  pub entries-unlinked : (b : List ℕ) (p : ℕ) → entriesIn k (unlinked b p) ≡ entriesIn k b
+  unfolding unlinked
+  entries-unlinked b p =
+      entries-before (linkBeyond b (rightAt b p) (leftAt b p)) (leftAt b p) (rightAt b p) ∙ entries-beyond k b (rightAt b p) (leftAt b p)
+
+  pub entries-freed : (b : List ℕ) (p : ℕ) → isPage (length b) p ≡ true → entriesIn k (freed b p) ≡ write (entriesIn k b) p []
+  unfolding freed
+  entries-freed b p t =
+      entries-header k (newPage b p 0 0 (freePointer b) []) freePlace (toLe32 p) (omega (arith, length-toLe32 p))
+      ∙ entries-new k b p 0 0 (freePointer b) [] t tt (omega arith)
+
+-- heads: the neighbours of an unlinked page become neighbours of each other
+before-head : (b : List ℕ) (l q : ℕ) → q < 2 ^ 32 → (z : ℕ) → isPage (length b) z ≡ true
+    → Head (linkBefore b l q) z (attributeAt b z) (countAt b z) (leftAt b z) (cond (eqb z l) q (rightAt b z))
+unfolding linkBefore
+before-head b l q q32 z tz = either (isPage (length b) l)
+    (λ e. rw e (put-right b l e z tz q q32))
+    (λ e. rw (e, ne-eqb z l (λ u. contra tz (ap (isPage (length b)) u ∙ e))) (record { attributeIs = refl; countIs = refl; leftIs = refl; rightIs = refl }))
+
+before-header : (b : List ℕ) (l q : ℕ) → SameHeader b (linkBefore b l q)
+unfolding linkBefore
+before-header b l q = either (isPage (length b) l)
+    (λ e. rw e (put-outside b (l + 8) (toLe32 q) (omega (arith, is-page (length b) l e .low))))
+    (λ e. rw e)
+
+module _ (b : List ℕ) (p : ℕ) (l32 : leftAt b p < 2 ^ 32) (r32 : rightAt b p < 2 ^ 32) where
+  pub unlinked-head : (z : ℕ) → isPage (length b) z ≡ true → Head (unlinked b p) z (attributeAt b z) (countAt b z)
+      (cond (eqb z (rightAt b p)) (leftAt b p) (leftAt b z)) (cond (eqb z (leftAt b p)) (rightAt b p) (rightAt b z))
+  unfolding unlinked
+  unlinked-head z tz =
+      let l = leftAt b p in
+      let r = rightAt b p in
+      let b1 = linkBeyond b r l in
+      let s1 = beyond-head 0 b r l l32 z tz in
+      let s2 = before-head b1 l r r32 z (page-of z (length-beyond b r l) tz) in
+      record {
+        attributeIs = s2 .attributeIs ∙ s1 .attributeIs;
+        countIs = s2 .countIs ∙ s1 .countIs;
+        leftIs = s2 .leftIs ∙ s1 .leftIs;
+        rightIs = s2 .rightIs ∙ ap (cond (eqb z l) r) (s1 .rightIs);
+      }
+
+  pub unlinked-header : SameHeader b (unlinked b p)
+  unfolding unlinked
+  unlinked-header = before-header (linkBeyond b (rightAt b p) (leftAt b p)) (leftAt b p) (rightAt b p) ∙ beyond-header 0 b (rightAt b p) (leftAt b p) l32
+
+-- a page that joins the free list has the head of a free page, and no other head changes
+module _ (b : List ℕ) (p : ℕ) (tp : isPage (length b) p ≡ true) (next32 : freePointer b < 2 ^ 32) where
+  pub freed-head : (z : ℕ) → isPage (length b) z ≡ true → Head (freed b p) z (cond (eqb z p) 0 (attributeAt b z)) (cond (eqb z p) 0 (countAt b z))
+      (cond (eqb z p) 0 (leftAt b z)) (cond (eqb z p) (freePointer b) (rightAt b z))
+  unfolding freed
+  freed-head z tz =
+      let next = freePointer b in
+      let b1 = newPage b p 0 0 next [] in
+      let s1 = new-head 0 b p 0 0 next [] tp (omega arith) (omega arith) next32 tt (omega arith) z tz in
+      let s2 = put-header b1 freePlace (toLe32 p) (omega (arith, length-toLe32 p)) z (page-of z (length-new b p 0 0 next []) tz) in
+      record {
+        attributeIs = s2 .attributeIs ∙ s1 .attributeIs;
+        countIs = s2 .countIs ∙ s1 .countIs;
+        leftIs = s2 .leftIs ∙ s1 .leftIs;
+        rightIs = s2 .rightIs ∙ s1 .rightIs;
+      }
+
+-- the header but for its free pointer
+pub record SameButFree (b b′ : List ℕ) : Type 0 where
+  pub before : window b′ 0 freePlace ≡ window b 0 freePlace
+  pub after : window b′ sizePlace (pageSize - sizePlace) ≡ window b sizePlace (pageSize - sizePlace)
