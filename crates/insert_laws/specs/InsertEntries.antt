@@ -39,11 +39,9 @@ use Rattle.layout.specs.FitLaws.{length-insert, length-replaced, pair-fit, two-
 use Rattle.insert.specs.Insertion.{Outcome, kept, split, bad, Step, takeIn, afterChild, insertUnder, atRoot}
 use Rattle.layout_laws.specs.EntryLaws.{entriesIn, page-of, raise, items-few, entries-header, entries-with, length-with, entries-new, entries-split}
 use Rattle.layout_laws.specs.EntryLaws.{length-split, entries-raised, length-raised}
+-- a page of the buffer whose offset has four bytes, for those who cite a law of it
+pub use Rattle.layout_laws.specs.EntryLaws.{Usable}
 use Rattle.insert_laws.specs.ItemLists.{insertPair-numbered, choose-numbered, lastKey-numbered, replaced-place, insertPair-place}
-
--- a page of the buffer whose offset has four bytes
-abbrev pub Usable : List ℕ → ℕ → Type 0
-Usable b p = (isPage (length b) p ≡ true) × (p < 2 ^ 32)
 
 -- what an outcome says of the theory's replacement for the page at p, with the key a above it
 abbrev pub OutcomeIs : ℕ → List ℕ → ℕ → Outcome → StoreReplacement (List ℕ) → Type 0

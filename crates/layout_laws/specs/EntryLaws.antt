@@ -38,6 +38,10 @@ use Rattle.layout.specs.ItemLaws.{Fit, length-encode, length-items, items-encod
 abbrev pub entriesIn : ℕ → List ℕ → Store (List ℕ)
 entriesIn k b p = map numbered (itemsIn k b p)
 
+-- a page of the buffer whose offset has four bytes
+abbrev pub Usable : List ℕ → ℕ → Type 0
+Usable b p = (isPage (length b) p ≡ true) × (p < 2 ^ 32)
+
 -- a page of a buffer is a page of every buffer of its length
 pub page-of : {m n : ℕ} (p : ℕ) → m ≡ n → isPage n p ≡ true → isPage m p ≡ true
 page-of p e t = ap (λ (l : ℕ). isPage l p) e ∙ t

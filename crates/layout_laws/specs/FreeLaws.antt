@@ -1,26 +1,26 @@
 -- Laws: entries, heads and bytes of every page, and the file's header, after a page is unlinked from its neighbours, and after it joins the free list. Cited by
 -- the laws of removal. Assumes nothing.
-use mathlib.Core.Path.{_≡_, refl, sym, ap, _∙_}
+use mathlib.Core.Path.{_≡_, refl, ap, _∙_}
 use mathlib.Core.Bool.{true, cond}
-use mathlib.Core.List.{List, [], _++_}
-use Prim.Native.Nat.{ℕ, _+_, _-_, _^_, _≤_, _<_}
+use mathlib.Core.List.{List, []}
+use Prim.Native.Nat.{ℕ, _+_, _-_, _^_, _<_}
 use native.Mathlib.Omega.{arith}
-use lib.ListN.{length, length-append}
-use lib.Dec.{eqb}
-use borrow.Author.Tests.{eqb-true, ne-eqb}
+use lib.ListN.{length}
+use lib.Dec.{eqb, lit≤}
+use borrow.Author.Tests.{ne-eqb}
 use Rattle.basis.specs.Tests.{either, contra}
-use Rattle.octets.specs.Bytes.{toLe16, toLe32}
-use Rattle.octets.specs.Store.{put, window}
-use Rattle.octets.specs.StoreLaws.{length-put, window-before, window-after, window-same}
-use Rattle.octets.specs.NumberLaws.{length-toLe16, length-toLe32, le32-put}
+use Rattle.octets.specs.Bytes.{toLe32}
+use Rattle.octets.specs.Store.{window}
+use Rattle.octets.specs.StoreLaws.{length-put, window-before, window-after}
+use Rattle.octets.specs.NumberLaws.{length-toLe32, le32-put, le32-same}
 use Rattle.tree.specs.StoreSteps.{write}
 use Rattle.page.specs.Header.{pageSize, freePlace, sizePlace, freePointer, isPage}
 use Rattle.page.specs.HeaderLaws.{is-page}
-use Rattle.page.specs.Page.{attributeAt, countAt, leftAt, rightAt, capacity, entryArea}
-use Rattle.layout.specs.Layout.{area, newPage, linkBeyond, linkBefore, unlinked, freed}
-use Rattle.layout_laws.specs.EntryLaws.{entriesIn, page-of, window-other, entries-links, entries-header, entries-new, entries-beyond, length-area}
-use Rattle.layout_laws.specs.EntryLaws.{length-beyond, length-new}
-use Rattle.layout_laws.specs.HeadLaws.{Head, SameHead, SameHeader, put-right, put-outside, put-header, new-head, new-header, beyond-head, beyond-header}
+use Rattle.page.specs.Page.{attributeAt, countAt, leftAt, rightAt}
+use Rattle.page.specs.ReadingLaws.{window-in-page}
+use Rattle.layout.specs.Layout.{newPage, linkBeyond, linkBefore, unlinked, freed}
+use Rattle.layout_laws.specs.EntryLaws.{entriesIn, page-of, entries-links, entries-header, entries-new, entries-beyond, length-beyond, length-new}
+use Rattle.layout_laws.specs.HeadLaws.{Head, SameHeader, put-right, put-outside, put-header, new-head, beyond-head, beyond-header}
 
 pub length-before : (b : List ℕ) (l q : ℕ) → length (linkBefore b l q) ≡ length b
 unfolding linkBefore
@@ -109,3 +109,32 @@ module _ (b : List ℕ) (p : ℕ) (tp : isPage (length b) p ≡ true) (next32 : 
 pub record SameButFree (b b′ : List ℕ) : Type 0 where
   pub before : window b′ 0 freePlace ≡ window b 0 freePlace
   pub after : window b′ sizePlace (pageSize - sizePlace) ≡ window b sizePlace (pageSize - sizePlace)
+
+pub same-header : (b b′ : List ℕ) → SameHeader b b′ → SameButFree b b′
+same-header b b′ e = record { before = window-in-page b′ b 0 e 0 4 (lit≤ tt); after = window-in-page b′ b 0 e 8 504 (lit≤ tt) }
+
+pub same-free : (b b′ : List ℕ) → SameHeader b b′ → freePointer b′ ≡ freePointer b
+same-free b b′ e = le32-same b′ b 4 (window-in-page b′ b 0 e 4 4 (lit≤ tt))
+
+-- the header names the page that joins the free list, and is otherwise as it was
+module _ (b : List ℕ) (p : ℕ) (tp : isPage (length b) p ≡ true) where
+  freed-outside : SameHeader b (newPage b p 0 0 (freePointer b) [])
+  unfolding newPage
+  freed-outside = put-outside b p _ (is-page (length b) p tp .low)
+
+  pub freed-header : SameButFree b (freed b p)
+  unfolding freed
+  freed-header =
+      let b1 = newPage b p 0 0 (freePointer b) [] in
+      let s = same-header b b1 freed-outside in
+      let n = length-toLe32 p in
+      record {
+        before = window-before b1 freePlace (toLe32 p) 0 freePlace (omega arith) ∙ s .before;
+        after = window-after b1 freePlace (toLe32 p) sizePlace (pageSize - sizePlace) (omega arith) ∙ s .after;
+      }
+
+  pub freed-free : p < 2 ^ 32 → freePointer (freed b p) ≡ p
+  unfolding freed
+  freed-free p32 =
+      let g = is-page (length b) p tp in
+      le32-put (newPage b p 0 0 (freePointer b) []) freePlace p p32 (omega (arith, length-new b p 0 0 (freePointer b) [], g .low, g .high))
