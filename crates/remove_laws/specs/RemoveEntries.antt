@@ -117,7 +117,7 @@ module _ (k : ℕ) where
   length-out : (b : List ℕ) (c : ℕ) → length (freed (unlinked b c) c) ≡ length b
   length-out b c = length-freed (unlinked b c) c ∙ length-unlinked b c
 
-  pub entries-out : (b : List ℕ) (c : ℕ) → isPage (length b) c ≡ true → entriesIn k (freed (unlinked b c) c) ≡ write (entriesIn k b) c []
+  entries-out : (b : List ℕ) (c : ℕ) → isPage (length b) c ≡ true → entriesIn k (freed (unlinked b c) c) ≡ write (entriesIn k b) c []
   entries-out b c t = entries-freed k (unlinked b c) c (page-of c (length-unlinked b c) t) ∙ ap (λ (S : Store (List ℕ)). write S c []) (entries-unlinked k b c)
 
   -- the page at p after the step at its child at c, which is under entry i and the key a, and which left the store T
@@ -204,11 +204,24 @@ module _ (k : ℕ) (key b : List ℕ) where
           let under = pagesOf (entriesIn k b) (suc h) (entriesIn k b p) in
           omega (arith, d p, occ-head p under, entry-pages (entriesIn k b) (suc h) p (through p) (entriesIn k b p) inside)
 
-      pub child-differs : p ≡ below p → ⊥
+      child-differs : p ≡ below p → ⊥
       child-differs e = occ-not-head p (below p) (pagesOf (entriesIn k b) h (entriesIn k b (below p))) child-apart e
 
-      pub own-kept : storeAfter key (entriesIn k b) h (below p) p ≡ entriesIn k b p
+      own-kept : storeAfter key (entriesIn k b) h (below p) p ≡ entriesIn k b p
       own-kept = remove-others (routeTo bytesOrder key) h (below p) (entriesIn k b) child-distinct p child-apart
+
+      -- the page at p has entry i still, once the child's step was made and the child freed
+      pub still-inside : (s : Step) → StepIs k (length b) (below p) s (storeAfter key (entriesIn k b) h (below p)) → isPage (length b) (below p) ≡ true
+          → through p < length (itemsIn k (freed (unlinked (s .after) (below p)) (below p)) p)
+      still-inside s w tc =
+          let c = below p in
+          let b′ = freed (unlinked (s .after) c) c in
+          let own : entriesIn k b′ p ≡ entriesIn k b p =
+          ap (λ (T : Store (List ℕ)). T p) (entries-out k (s .after) c (page-of c (w .as-long) tc))
+          ∙ write-other (entriesIn k (s .after)) c [] p child-differs
+          ∙ ap (λ (T : Store (List ℕ)). T p) (w .entries)
+          ∙ own-kept in
+          rw (← length-map (itemsIn k b′ p) numbered, own) inside
 
   -- Theorem: removal's step at the page at p, with h levels under it, is the theory's
   pub removes : (h left p : ℕ) → h < left → Filled k h b p → Distinct (pages h (readTree (entriesIn k b) h p)) → Removes h left p

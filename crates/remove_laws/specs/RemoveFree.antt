@@ -5,17 +5,22 @@ use mathlib.Core.Bool.{true, false}
 use mathlib.Core.List.{List, [], _∷_, _++_, append-nil}
 use Prim.Native.Nat.{ℕ, zero, suc, _+_, _^_, _≤_, _<_}
 use native.Mathlib.Omega.{arith}
-use lib.ListN.{length, length-map}
+use lib.ListN.{length}
 use lib.Dec.{eqb}
 use borrow.Author.Tests.{lt-ltb, le-leb, eqb-true, eqb-false, eq-eqb, ne-eqb}
 use Rattle.basis.specs.Lists.{All}
 use Rattle.basis.specs.Tests.{either}
 use Rattle.octets.specs.Store.{window}
+use Rattle.tree.specs.InsertPages.{Distinct}
 use Rattle.tree.specs.Lists.{occ}
-use Rattle.tree.specs.ListLaws.{occ-append, occ-differ, occ-here, occ-behind}
+use Rattle.tree.specs.ListLaws.{occ-append, occ-differ, occ-here, occ-not-head}
 use Rattle.tree.specs.FreeChain.{Chained}
 use Rattle.tree.specs.FreeChainLaws.{chained-join}
 use Rattle.tree.specs.FreeList.{joinFree}
+use Rattle.tree.specs.Removal.{ifEmptied}
+use Rattle.tree.specs.Store.{readTree}
+use Rattle.tree.specs.StoreInsertLaws.{pagesOf}
+use Rattle.tree.specs.Tree.{pages as treePages}
 use Rattle.page.specs.Header.{pageSize, noPage, freePointer, isPage}
 use Rattle.tree.specs.Unlinking.{unlinkAll}
 use Rattle.page.specs.Page.{rightAt, capacity}
@@ -26,13 +31,16 @@ use Rattle.layout.specs.ItemLaws.{Fit}
 use Rattle.layout.specs.EntryLaws.{items-in-fit}
 use Rattle.layout.specs.FitLaws.{without-all, length-without}
 use Rattle.sound.specs.Sound.{linksOf}
-use Rattle.remove.specs.Removal.{takeOut}
-use Rattle.layout_laws.specs.EntryLaws.{Usable, page-of, items-few}
+use Rattle.remove.specs.Removal.{Outcome, kept, emptied, bad, Step, takeOut, afterChild, removeUnder}
+use Rattle.layout_laws.specs.EntryLaws.{entriesIn, Usable, page-of, items-few}
 use Rattle.layout_laws.specs.HeadLaws.{with-header}
-use Rattle.layout_laws.specs.FreeLaws.{freePage, same-free, length-unlinked, unlinked-header, unlinked-bytes, freed-head, freed-free, freed-bytes, freed-own}
-use Rattle.layout_laws.specs.FreeLaws.{with-bytes}
+use Rattle.layout_laws.specs.FreeLaws.{freePage, same-free, length-unlinked, unlinked-header, unlinked-bytes, length-freed}
+use Rattle.layout_laws.specs.FreeLaws.{freed-head, freed-free, freed-bytes, freed-own, with-bytes}
 use Rattle.remove_laws.specs.AwayLaws.{Away, Clear, Apart, away-first, away-last, clear-first, clear-last}
-use Rattle.remove_laws.specs.RemoveHeads.{Heads}
+use Rattle.remove_laws.specs.EntryLists.{route-is, route-inside, entry-all, entry-pages}
+use Rattle.remove_laws.specs.RemoveEntries.{OutcomeIs, emptiedFrom, storeAfter, leaf-emptied, upper-emptied, Filled, filled-page}
+use Rattle.remove_laws.specs.RemoveEntries.{through, below, Removes, some, inside, child-is, child-distinct, child-apart, still-inside, removes}
+use Rattle.remove_laws.specs.RemoveHeads.{Plain, Heads, emptied-inside, emptied-apart, remove-heads}
 
 -- the pages ps join a list one after another, "each at the head": each names the head before it, and the last is the head at the end
 abbrev pub Joined : (ℕ → ℕ) → ℕ → List ℕ → ℕ → Type 0
@@ -128,3 +136,69 @@ module _ (k : ℕ) (qs b : List ℕ) where
     where
       before-last : (ps : List ℕ) (c z : ℕ) → (z ≡ c → ⊥) → 0 < occ z (ps ++ (c ∷ [])) → 0 < occ z ps
       before-last ps c z ne o = let none : occ z (c ∷ []) ≡ 0 = rw (ne-eqb z c ne) in omega (arith, occ-append z ps (c ∷ []))
+
+module _ (k : ℕ) (key b : List ℕ) (plain : Plain b) (qs : List ℕ) where
+  -- the free pages after removal's step at the page at p, all of whose pages are in the list qs
+  abbrev Goes : (h left p : ℕ) → Type 0
+  Goes h left p = Freed qs (emptiedFrom key (entriesIn k b) h p) b (removeUnder k left b key p .after)
+
+  abbrev Inside : (h p : ℕ) → Type 0
+  Inside h p = (z : ℕ) → 0 < occ z (treePages h (readTree (entriesIn k b) h p)) → 0 < occ z qs
+
+  -- the page at p after the step at its child at c, which emptied the pages ps
+  after-child-free : (ps b′ : List ℕ) (p i c : ℕ) (o : Outcome) (es : List (List ℕ × ℕ)) → length b′ ≡ length b → isPage (length b) p ≡ true → Usable b c
+      → 0 < occ p qs → 0 < occ c qs → occ p ps ≡ 0 → occ c ps ≡ 0 → (p ≡ c → ⊥) → i < length (itemsIn k (freed (unlinked b′ c) c) p) → OutcomeIs o es
+      → Heads k ps b b′ → Freed qs ps b b′ → Freed qs (ps ++ ifEmptied c es) b (afterChild k b′ p i c o .after)
+  after-child-free ps b′ p i c kept [] n tp tc op oc np nc ne l t w v = absurd t
+  after-child-free ps b′ p i c kept (x ∷ xs) n tp tc op oc np nc ne l t w v = rw (append-nil ps) v
+  after-child-free ps b′ p i c emptied es n tp tc op oc np nc ne l t w v =
+      let m : length (freed (unlinked b′ c) c) ≡ length b = length-freed (unlinked b′ c) c ∙ length-unlinked b′ c ∙ n in
+      let none : occ p (ps ++ (c ∷ [])) ≡ 0 =
+      let other : occ p (c ∷ []) ≡ 0 = rw (ne-eqb p c ne) in omega (arith, occ-append p ps (c ∷ [])) in
+      rw t (freed-taken k qs b (ps ++ (c ∷ [])) (freed (unlinked b′ c) c) p i m tp l op none (freed-out k qs b ps b′ c n tc oc nc w v))
+  after-child-free ps b′ p i c bad es n tp tc op oc np nc ne l t w v = absurd t
+
+  -- Theorem: removal's step frees the emptied pages, leaf first, and keeps the bytes of pages outside the tree
+  pub remove-free : (h left p : ℕ) → h < left → Filled k h b p → Distinct (treePages h (readTree (entriesIn k b) h p)) → Inside h p → Goes h left p
+  unfolding removeUnder
+  remove-free zero zero p l f d i = absurd (omega arith)
+  remove-free (suc h) zero p l f d i = absurd (omega arith)
+  remove-free zero (suc left) p l f d i =
+      let S = entriesIn k b in
+      let es = itemsIn k b p in
+      let more = some k key b p (f .2) in
+      rw (le-leb 1 (length es) more, f .1, leaf-emptied key S (through k key b p) p (inside k key b p (f .2)) (route-is key S zero es))
+      (freed-taken k qs b [] b p (through k key b p) refl (f .0 .0) (route-inside key es more) (i p (occ-here p (pagesOf S zero (S p)))) refl
+      (freed-none k qs b))
+  remove-free (suc h) (suc left) p l f d i =
+      rw (
+        le-leb 1 (length (itemsIn k b p)) (some k key b p (f .2)),
+        f .1,
+        upper-emptied key (entriesIn k b) (through k key b p) p (inside k key b p (f .2)) h (route-is key (entriesIn k b) (suc h) (itemsIn k b p)),
+      ) (subst UpperGoes (sym (child-is k key b p (f .2))) (upper (λ q g o u. remove-free h left q (omega arith) g o u)))
+    where
+      c : ℕ
+      c = below k key b p
+
+      UpperGoes : ℕ → Type 0
+      UpperGoes q =
+          let s : Step = removeUnder k left b key q in
+          let ps : List ℕ = emptiedFrom key (entriesIn k b) h c ++ ifEmptied c (storeAfter key (entriesIn k b) h c c) in
+          Freed qs ps b (afterChild k (s .after) p (through k key b p) q (s .outcome) .after)
+
+      upper : ((q : ℕ) → Filled k h b q → Distinct (treePages h (readTree (entriesIn k b) h q)) → Inside h q → Goes h left q) → UpperGoes c
+      upper rec =
+          let S = entriesIn k b in
+          let s : Step = removeUnder k left b key c in
+          let at = inside k key b p (f .2) in
+          let under : Filled k h b c = entry-all (λ e. Filled k h b (e .1)) (through k key b p) (S p) at (f .3) in
+          let once = child-distinct k key b p (f .2) h d in
+          let w : Removes k key b h left c = removes k key b h left c (omega arith) under once in
+          let within : Inside h c = λ z o. i z (omega (arith, entry-pages S (suc h) z (through k key b p) (S p) at)) in
+          let apart = child-apart k key b p (f .2) h d in
+          let there = still-inside k key b p (f .2) h d s w (filled-page k h b c under .0) in
+          after-child-free (emptiedFrom key S h c) (s .after) p (through k key b p) c (s .outcome) (storeAfter key S h c c) (w .as-long) (f .0 .0)
+          (filled-page k h b c under) (i p (occ-here p (pagesOf S (suc h) (S p)))) (within c (occ-here c (pagesOf S h (S c))))
+          (omega (arith, apart, emptied-inside k key b plain h c p once)) (emptied-apart k key b plain h c once)
+          (λ e. occ-not-head p c (pagesOf S h (S c)) apart e) there (w .told)
+          (remove-heads k key b plain h left c (omega arith) under once) (rec c under once within)

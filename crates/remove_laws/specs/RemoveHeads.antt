@@ -5,7 +5,7 @@ use mathlib.Core.Bool.{Bool, true, false, cond}
 use mathlib.Core.List.{List, [], _∷_, _++_, append-nil}
 use Prim.Native.Nat.{ℕ, zero, suc, _+_, _^_, _≤_, _<_}
 use native.Mathlib.Omega.{arith}
-use lib.ListN.{length, length-map}
+use lib.ListN.{length}
 use lib.Dec.{eqb}
 use borrow.Author.Tests.{lt-ltb, le-leb, ne-eqb}
 use Rattle.basis.specs.Lists.{All}
@@ -15,14 +15,12 @@ use Rattle.tree.specs.Lists.{NonEmpty, occ, concatMap}
 use Rattle.tree.specs.ListLaws.{occ-append, occ-head, occ-here}
 use Rattle.tree.specs.Removal.{routeTo, ifEmptied, settle, shrunkPages, removeEntries}
 use Rattle.tree.specs.RemovalPages.{remove-pages}
-use Rattle.tree.specs.Store.{Store, readTree}
+use Rattle.tree.specs.Store.{readTree}
 use Rattle.tree.specs.StoreRemovalLaws.{emptied-read}
-use Rattle.tree.specs.StoreLaws.{write-other}
 use Rattle.tree.specs.Tree.{Entry, pagesUnder, pages}
 use Rattle.tree.specs.Unlinking.{unlink, unlinkAll}
 use Rattle.page.specs.Header.{freePointer, isPage}
 use Rattle.page.specs.KeyOrder.{bytesOrder}
-use Rattle.page.specs.Reading.{numbered}
 use Rattle.page.specs.Page.{attributeAt, countAt, leftAt, rightAt, capacity}
 use Rattle.layout.specs.Layout.{itemsIn, unlinked, freed}
 use Rattle.layout.specs.Entries.{withoutEntry}
@@ -36,8 +34,8 @@ use Rattle.layout_laws.specs.HeadLaws.{Head, with-head, with-header}
 use Rattle.layout_laws.specs.FreeLaws.{SameButFree, same-header, same-free, length-unlinked, unlinked-head, unlinked-header}
 use Rattle.layout_laws.specs.FreeLaws.{length-freed, freed-head, freed-header, freed-free}
 use Rattle.remove_laws.specs.EntryLists.{route-is, route-inside, entry-all}
-use Rattle.remove_laws.specs.RemoveEntries.{OutcomeIs, emptiedFrom, storeAfter, leaf-emptied, upper-emptied, entries-out, Filled, filled-page}
-use Rattle.remove_laws.specs.RemoveEntries.{through, below, Removes, some, inside, child-is, child-distinct, child-differs, own-kept, removes}
+use Rattle.remove_laws.specs.RemoveEntries.{OutcomeIs, emptiedFrom, storeAfter, leaf-emptied, upper-emptied, Filled, filled-page}
+use Rattle.remove_laws.specs.RemoveEntries.{through, below, Removes, some, inside, child-is, child-distinct, still-inside, removes}
 
 -- links and a free pointer that are numbers of four bytes
 pub record Plain (b : List ℕ) : Type 0 where
@@ -148,8 +146,14 @@ module _ (k : ℕ) (b : List ℕ) where
           (omega arith, ne-eqb z c (λ e. let one = occ-head z [] in absurd (omega (arith, ap (λ x. occ z (x ∷ [])) e))))
 
 module _ (k : ℕ) (key b : List ℕ) (plain : Plain b) where
-  -- the emptied pages under the page at p are none but pages under it
-  emptied-apart : (h p : ℕ) → Distinct (pages h (readTree (entriesIn k b) h p)) → occ p (emptiedFrom key (entriesIn k b) h p) ≡ 0
+  -- the emptied pages are pages of the tree, and the root is none of them
+  pub emptied-inside : (h p z : ℕ) → Distinct (pages h (readTree (entriesIn k b) h p))
+      → occ z (emptiedFrom key (entriesIn k b) h p) ≤ occ z (pages h (readTree (entriesIn k b) h p))
+  emptied-inside h p z d =
+      rw (emptied-read (routeTo bytesOrder key) h p (entriesIn k b) d)
+      (omega (arith, remove-pages (routeTo bytesOrder key) z h (readTree (entriesIn k b) h p)))
+
+  pub emptied-apart : (h p : ℕ) → Distinct (pages h (readTree (entriesIn k b) h p)) → occ p (emptiedFrom key (entriesIn k b) h p) ≡ 0
   emptied-apart h p d =
       let t = readTree (entriesIn k b) h p in
       let all = remove-pages (routeTo bytesOrder key) p h t in
@@ -209,11 +213,6 @@ module _ (k : ℕ) (key b : List ℕ) (plain : Plain b) where
           let once = child-distinct k key b p (f .2) h d in
           let w : Removes k key b h left c = removes k key b h left c (omega arith) under once in
           let b′ = freed (unlinked (s .after) c) c in
-          let own : entriesIn k b′ p ≡ S p =
-          ap (λ (T : Store (List ℕ)). T p) (entries-out k (s .after) c (page-of c (w .as-long) (filled-page k h b c under .0)))
-          ∙ write-other (entriesIn k (s .after)) c [] p (child-differs k key b p (f .2) h d)
-          ∙ ap (λ (T : Store (List ℕ)). T p) (w .entries)
-          ∙ own-kept k key b p (f .2) h d in
-          let there : through k key b p < length (itemsIn k b′ p) = rw (← length-map (itemsIn k b′ p) numbered, own) (inside k key b p (f .2)) in
+          let there : through k key b p < length (itemsIn k b′ p) = still-inside k key b p (f .2) h d s w (filled-page k h b c under .0) in
           after-child-heads (emptiedFrom key S h c) (s .after) p (through k key b p) c (s .outcome) (storeAfter key S h c c) (w .as-long) (f .0 .0)
           (filled-page k h b c under) (emptied-apart h c once) there (w .told) (rec c under once)
