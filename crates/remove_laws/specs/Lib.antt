@@ -10,3 +10,5 @@ pub mod RemoveHeads
 pub mod AwayLaws
 -- Laws: the bytes of free pages, of pages outside the tree, and the free list after removal's steps
 pub mod RemoveFree
+-- Laws: the whole buffer after a removal
+pub mod RemoveBuffer

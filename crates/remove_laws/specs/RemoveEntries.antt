@@ -6,13 +6,13 @@ use mathlib.Core.List.{List, [], _∷_, _++_, map}
 use Prim.Native.Nat.{ℕ, zero, suc, _≤_, _<_}
 use native.Mathlib.Omega.{arith}
 use lib.ListN.{length, length-map}
-use lib.Dec.{eqb}
-use borrow.Author.Tests.{lt-ltb, le-leb, eqb-true}
+use lib.Dec.{eqb, ltb}
+use borrow.Author.Tests.{ltb-true, ltb-false, lt-ltb, le-leb, eqb-true, eqb-false}
 use Rattle.basis.specs.Lists.{All}
 use Rattle.basis.specs.Tests.{either}
 use Rattle.tree.specs.InsertPages.{Distinct}
 use Rattle.tree.specs.Lists.{NonEmpty, occ}
-use Rattle.tree.specs.ListLaws.{occ-head, occ-not-head}
+use Rattle.tree.specs.ListLaws.{occ-append, occ-head, occ-behind, occ-not-head}
 use Rattle.tree.specs.Removal.{routeTo, replaceAt, ifEmptied}
 use Rattle.tree.specs.Store.{Store, readEntry, readTree}
 use Rattle.tree.specs.StoreInsertLaws.{pagesOf}
@@ -168,6 +168,31 @@ pub filled-page : (k h : ℕ) (b : List ℕ) (p : ℕ) → Filled k h b p → Us
 filled-page k zero b p f = f .0
 filled-page k (suc h) b p f = f .0
 
+-- the pages of such a tree are pages of the buffer
+module _ (k : ℕ) (b : List ℕ) (z : ℕ) where
+  under-pages : (h : ℕ) → ((p : ℕ) → Filled k h b p → 0 < occ z (pages h (readTree (entriesIn k b) h p)) → isPage (length b) z ≡ true)
+      → (es : List (List ℕ × ℕ)) → All (λ e. Filled k h b (e .1)) es → 0 < occ z (pagesOf (entriesIn k b) (suc h) es) → isPage (length b) z ≡ true
+  under-pages h ok [] f o = absurd (omega arith)
+  under-pages h ok (e ∷ es) f o =
+      let here = pages h (readTree (entriesIn k b) h (e .1)) in
+      let both = occ-append z here (pagesOf (entriesIn k b) (suc h) es) in
+      either (ltb 0 (occ z here))
+      (λ u. ok (e .1) (f .0) (ltb-true 0 (occ z here) u))
+      (λ u. under-pages h ok es (f .1) (omega (arith, ltb-false 0 (occ z here) u)))
+
+  pub filled-pages : (h p : ℕ) → Filled k h b p → 0 < occ z (pages h (readTree (entriesIn k b) h p)) → isPage (length b) z ≡ true
+  filled-pages zero p f o = either (eqb z p)
+      (λ e. rw (eqb-true z p e) (f .0 .0))
+      (λ e. absurd (omega (arith, no-pages (entriesIn k b) (entriesIn k b p), occ-behind z p (pagesOf (entriesIn k b) zero (entriesIn k b p)) (eqb-false z p e) o)))
+    where
+      no-pages : (S : Store (List ℕ)) (es : List (List ℕ × ℕ)) → occ z (pagesOf S zero es) ≡ 0
+      no-pages S [] = refl
+      no-pages S (e ∷ es) = no-pages S es
+  filled-pages (suc h) p f o = either (eqb z p)
+      (λ e. rw (eqb-true z p e) (f .0 .0))
+      (λ e. under-pages h (λ q g u. filled-pages h q g u) (entriesIn k b p) (f .3)
+      (occ-behind z p (pagesOf (entriesIn k b) (suc h) (entriesIn k b p)) (eqb-false z p e) o))
+
 some-items : (es : List Item) → NonEmpty (map numbered es) → 0 < length es
 some-items [] s = absurd s
 some-items (x ∷ xs) s = omega arith
@@ -261,7 +286,7 @@ module _ (k : ℕ) (key b : List ℕ) where
           rw same (record { entries = u .entries; as-long = u .as-long ∙ w .as-long; told = u .told })
 
   -- the root: it has what it is left with
-  root-is : (p : ℕ) (s : Step) (T : Store (List ℕ)) → isPage (length b) p ≡ true → StepIs k (length b) p s T
+  pub root-is : (p : ℕ) (s : Step) (T : Store (List ℕ)) → isPage (length b) p ≡ true → StepIs k (length b) p s T
       → entriesIn k (atRoot (s .after) p (s .outcome)) ≡ T
   root-is p s T tp w = go (s .outcome) (w .told)
     where

@@ -77,7 +77,7 @@ module _ (k : ℕ) (qs b : List ℕ) where
   freed-none = record { pages = λ z o. absurd (omega arith); others = λ z t o a. refl; forms = λ c z o. absurd (omega arith); joined = λ c. refl }
 
   -- a step that keeps the free pointer and the bytes of all pages but p
-  freed-but : (ps b′ b″ : List ℕ) (p : ℕ) → length b′ ≡ length b → 0 < occ p qs → occ p ps ≡ 0 → freePointer b″ ≡ freePointer b′
+  pub freed-but : (ps b′ b″ : List ℕ) (p : ℕ) → length b′ ≡ length b → 0 < occ p qs → occ p ps ≡ 0 → freePointer b″ ≡ freePointer b′
       → ((z : ℕ) → isPage (length b) z ≡ true → (z ≡ p → ⊥) → window b″ z pageSize ≡ window b′ z pageSize) → Freed qs ps b b′ → Freed qs ps b b″
   freed-but ps b′ b″ p n op np e same v =
       let early : (z : ℕ) → 0 < occ z ps → window b″ z pageSize ≡ window b′ z pageSize =
