@@ -39,7 +39,7 @@ uint32_t gl_interface(void);
 #define GL_ABSENT 257 /* the key is not in the index */
 #define GL_DONE 258   /* the walk has no record left */
 
-/* The refusals, by the numbers of document 01 (26 is unused). If several hold, a call answers the one that its comment names first. A table that is refused by
+/* The refusals, by the numbers of documents 01 and 02 (26 is unused). If several hold, a call answers the one that its comment names first. A table that is refused by
    1 to 10 is not read at all: the lab has to send a good copy. */
 enum gl_refusal {
     /* the table as a whole */
@@ -76,7 +76,8 @@ enum gl_refusal {
     GL_REFUSED_RECORD_NUMBER_ZERO = 28,     /* record number 0: records count from 1 */
     GL_REFUSED_KEY_PRESENT = 29,            /* key present: the index has the key already, and keeps its record */
     GL_REFUSED_NO_ROOM = 30,                /* no room: lend a longer buffer; past 16,777,216 bytes a table is full, past 1,048,576 or 11 levels an index */
-    GL_REFUSED_INDEX_AND_TABLE_DIFFER = 31  /* index and table differ: make the index anew from the table */
+    GL_REFUSED_INDEX_AND_TABLE_DIFFER = 31, /* index and table differ: make the index anew from the table */
+    GL_REFUSED_CONTROL_BYTE = 32            /* control byte in the key: a byte below 0x20 in a key to insert; was the barcode scanned well? */
 };
 
 /* ---- Limits. */
@@ -184,7 +185,8 @@ uint32_t gl_index_audit(const uint8_t *index, size_t index_len);
 uint32_t gl_index_lookup(const uint8_t *index, size_t index_len, const uint8_t *key, size_t key_len,
                          uint32_t *record, uint32_t *pages);
 
-/* Inserts a key with its record's number. 24, 27, 28, 25, 29, 30. */
+/* Inserts a key with its record's number. 24, 27, 32, 28, 25, 29, 30. An index that an earlier release made may hold keys with control bytes: the other
+   calls take them as any key. */
 uint32_t gl_index_insert(uint8_t *index, size_t index_len, const uint8_t *key, size_t key_len, uint32_t record);
 
 /* Matches an index against a field of a table: 0 if each record, deleted or not, has exactly one entry, its key that record's field, and there are

@@ -72,6 +72,7 @@ WORDS = {
     29: 'key present',
     30: 'no room',
     31: 'index and table differ',
+    32: 'control byte in the key',
 }
 
 
@@ -604,7 +605,7 @@ class Index:
         return Lookup(None if _accepted(answer) == ABSENT else record.value, pages.value)
 
     def insert(self, key, record):
-        """Inserts a key with its record's number. A refusal leaves the buffer as it was. Refusals 24, 27, 28, 25, 29, 30."""
+        """Inserts a key with its record's number. A refusal leaves the buffer as it was. Refusals 24, 27, 32, 28, 25, 29, 30."""
         key, record = _bytes(key, 'a key'), _unsigned(record, 'record number')
         with self._lock:
             _accepted(_library.gl_index_insert(*_lent(self.buffer), *_lent(key), record))

@@ -85,7 +85,7 @@ S20 = [b'PLT%07d' % (7919 * i) for i in range(1, 21)]
 
 # the lengths of the buffers on which the lists of calls were worked out (crates/test_indexes/README.md)
 ROOM = {'k1_bytes': 8192, 'k10_ascending': 32768, 'k10_descending': 32768, 'k10_random': 32768, 'k46_mixed': 32768, 'k100_deep': 65536,
-        'k100_full': 4096, 'paper_five': 2048, 'paper_full': 1024}
+        'k100_full': 4096, 'k100_deep_raised': 65536, 'k100_full_raised': 4096, 'k5_control': 16384, 'paper_five': 2048, 'paper_full': 1024}
 
 NONE = 0xFFFFFFFF
 
@@ -488,6 +488,30 @@ class Indexes(TestCase):
                 self.assertEqual(index.file(), file)
                 self.assertEqual(bytes(buffer), file.ljust(room, b'\0'))
 
+    def test_earlier_release(self):
+        """An index with control bytes in its keys is sound and they are found, but none can be inserted."""
+        index = Index(INDEXES / 'earlier.idx', room=8192)
+        index.audit()
+        for line in (INDEXES / 'earlier.calls').read_text().splitlines():
+            self.check_call(index, index.buffer, line.split())
+        self.assertEqual(index.file(), (INDEXES / 'earlier_after.idx').read_bytes())
+
+    def test_control_bytes(self):
+        index = Index.fresh(bytearray(1024), 10, b'BARCODE')
+        before = bytes(index.buffer)
+        for at in range(10):
+            key = b'PLT0000001'[:at] + b'\r' + b'PLT0000001'[at + 1 :]
+            self.refused(32, index.insert, key, 1)
+            self.refused(32, index.insert, key, 0)
+            self.refused(27, index.insert, key + b'\r', 1)
+            self.assertEqual(index.lookup(key), Lookup(None, 1))
+        for byte in range(256):
+            self.refused(32 if byte < 0x20 else 28, index.insert, b'PLT000000' + bytes([byte]), 0)
+        self.assertEqual(bytes(index.buffer), before)
+        index.insert(b'PLT000000 ', 1)
+        self.assertEqual(index.lookup(b'PLT000000 '), Lookup(1, 1))
+        self.assertEqual(str(Refusal(32)), '32 (control byte in the key)')
+
     def check_call(self, index, buffer, words):
         def key(word):
             return b'' if word == '-' else bytes.fromhex(word)
@@ -611,7 +635,7 @@ class Refusals(TestCase):
         self.assertEqual(pickle.loads(pickle.dumps(refusal)), refusal)
         self.assertNotEqual(refusal, Refusal(17))
         self.assertNotEqual(refusal, 16)
-        self.assertEqual(sorted(gatherloom.WORDS), [n for n in range(1, 32) if n != 26])
+        self.assertEqual(sorted(gatherloom.WORDS), [n for n in range(1, 33) if n != 26])
 
 
 class Threads(TestCase):

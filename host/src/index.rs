@@ -103,7 +103,7 @@ impl<B: AsRef<[u8]> + AsMut<[u8]>> Index<B> {
         accepted(answer, Index { bytes })
     }
 
-    /// Inserts a key with its record's number. The bytes past the index are the room that it can grow into.
+    /// Inserts a key with its record's number; a key with a byte below 0x20 is refused. The bytes past the index are the room that it can grow into.
     pub fn insert(&mut self, key: &[u8], record: u32) -> Answer<()> {
         let index = self.bytes.as_mut();
         let answer = unsafe {

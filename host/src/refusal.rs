@@ -66,10 +66,11 @@ refusals! {
     29 KeyPresent "key present"
     30 NoRoom "no room"
     31 IndexAndTableDiffer "index and table differ"
+    32 ControlByte "control byte in the key"
 }
 
 impl Refusal {
-    /// The number, as document 01 and the C header have it.
+    /// The number, as the papers and the C header have it.
     pub fn code(self) -> u32 {
         self as u32
     }

@@ -932,22 +932,75 @@ static void call_line(lent *index, char *line)
     }
 }
 
-static void test_calls(const char *name, size_t len)
+static void make_calls(lent *index, const char *calls, const char *after)
 {
-    char file[64], *line;
-    snprintf(file, sizeof file, "%s.calls", name);
-    lent text = load(indexes_data, file), index = lend(NULL, len);
-    snprintf(file, sizeof file, "%s.idx", name);
-    lent want = load(indexes_data, file);
+    char *line;
+    lent text = load(indexes_data, calls), want = load(indexes_data, after);
     text.bytes[text.len] = 0; /* its first canary */
     for (line = strtok((char *)text.bytes, "\n"); line != NULL; line = strtok(NULL, "\n"))
-        call_line(&index, line);
-    SAME(want.len <= index.len, 1);
-    SAME_BYTES(index.bytes, want.bytes, want.len);
-    MARGINS(index);
+        call_line(index, line);
+    SAME(want.len <= index->len, 1);
+    SAME_BYTES(index->bytes, want.bytes, want.len);
+    MARGINS(*index);
     give_back(&text);
-    give_back(&index);
     give_back(&want);
+}
+
+static void test_calls(const char *name, size_t len)
+{
+    char calls[64], after[64];
+    lent index = lend(NULL, len);
+    snprintf(calls, sizeof calls, "%s.calls", name);
+    snprintf(after, sizeof after, "%s.idx", name);
+    make_calls(&index, calls, after);
+    give_back(&index);
+}
+
+/* An index of an earlier release has keys with control bytes: it is sound and they are found, but none can be inserted. */
+static void test_earlier_release(void)
+{
+    lent file = load(indexes_data, "earlier.idx"), index = lend(NULL, 8192);
+    memcpy(index.bytes, file.bytes, file.len);
+    SAME(gl_index_audit(index.bytes, index.len), 0);
+    make_calls(&index, "earlier.calls", "earlier_after.idx");
+    give_back(&file);
+    give_back(&index);
+}
+
+/* A carriage return inside a barcode is refused at every place, and so is every byte below 0x20, after 27 and before 28. */
+static void test_control_bytes(void)
+{
+    uint8_t key[10];
+    lent index = lend(NULL, 1024);
+    SAME(gl_index_fresh(index.bytes, index.len, 10, (const uint8_t *)"BARCODE", 7), 0);
+    keep(&index);
+    for (size_t at = 0; at < 10; at++) {
+        memcpy(key, "PLT0000001", 10);
+        key[at] = '\r';
+        SAME(gl_index_insert(index.bytes, index.len, key, 10, 1), GL_REFUSED_CONTROL_BYTE);
+        SAME(gl_index_insert(index.bytes, index.len, key, 10, 0), GL_REFUSED_CONTROL_BYTE);
+        SAME(gl_index_insert(index.bytes, index.len, key, 9, 1), GL_REFUSED_KEY_LENGTH);
+        LOOKS_UP(&index, key, 10, GL_ABSENT, 0, 1);
+        UNCHANGED(index);
+    }
+    memcpy(key, "PLT0000001", 10);
+    for (uint32_t byte = 0; byte < 256; byte++) {
+        key[9] = (uint8_t)byte;
+        SAME(gl_index_insert(index.bytes, index.len, key, 10, 0), byte < 0x20 ? 32 : 28);
+        UNCHANGED(index);
+    }
+    key[9] = 0x20;
+    SAME(gl_index_insert(index.bytes, index.len, key, 10, 1), 0);
+    LOOKS_UP(&index, key, 10, 0, 1, 1);
+    /* 24 comes before it, 25 after it */
+    key[9] = 0x1F;
+    index.bytes[512] = 0, keep(&index);
+    SAME(gl_index_insert(index.bytes, index.len, key, 10, 1), 32);
+    index.bytes[4] = 0, keep(&index);
+    SAME(gl_index_insert(index.bytes, index.len, key, 10, 1), 24);
+    UNCHANGED(index);
+    MARGINS(index);
+    give_back(&index);
 }
 
 /* ---- Writing a table: a list of calls with their answers, and the tables after the last. */
@@ -1318,13 +1371,18 @@ int main(int argc, char **argv)
     test_calls("k46_mixed", 32768);
     test_calls("k100_deep", 65536);
     test_calls("k100_full", 4096);
+    test_calls("k100_deep_raised", 65536);
+    test_calls("k100_full_raised", 4096);
+    test_calls("k5_control", 16384);
+    test_earlier_release();
+    test_control_bytes();
     test_writing();
     test_lay_out_limits();
     test_longest_table();
     test_set_date();
     test_match();
     test_damaged_index("k1_bytes.idx", "\x80");
-    test_damaged_index("k100_full.idx", "0123456789012345678901234567890123456789012345678901234567890123456789012345678901234567890123456789");
+    test_damaged_index("k100_full_raised.idx", "0123456789012345678901234567890123456789012345678901234567890123456789012345678901234567890123456789");
     printf("%lu comparisons, %lu differences\n", checks, differences);
     return differences == 0 ? 0 : 1;
 }

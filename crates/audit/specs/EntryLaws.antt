@@ -105,20 +105,23 @@ module _ (b : List ℕ) (k p n z₀ i z : ℕ) (inv : LeafLeft b k p n z₀ i z)
 -- the loop over the n entries of a page above the leaves: the entries from entry i on decide
 abbrev pub UpperLeft : List ℕ → ℕ → ℕ → ℕ → ℕ → ℕ → Type 0
 UpperLeft b k size p n i =
-    upperEntriesGood (entriesAt k size b) (entriesFrom b k p n 0) ≡ upperEntriesGood (entriesAt k size b) (entriesFrom b k p (n - i) i)
+    upperEntriesGood (entriesAt k size b) (entriesAt k size b p) ≡ upperEntriesGood (entriesAt k size b) (entriesFrom b k p (n - i) i)
+
+pub upper-start : (b : List ℕ) (k size p n : ℕ) → n ≡ length (entriesAt k size b p) → UpperLeft b k size p n 0
+upper-start b k size p n en = let e : n - 0 ≡ n = omega arith in rw e (ap (upperEntriesGood (entriesAt k size b)) (entries-are b k size p n en))
 
 module _ (b : List ℕ) (k size p n i : ℕ) (inv : UpperLeft b k size p n i) where
-  pub upper-end : n ≤ i → true ≡ upperEntriesGood (entriesAt k size b) (entriesFrom b k p n 0)
+  pub upper-end : n ≤ i → true ≡ upperEntriesGood (entriesAt k size b) (entriesAt k size b p)
   unfolding upperEntriesGood
   upper-end h = sym (inv ∙ rw (from-end b k p n i h))
 
   module _ (h : i < n) (r : Bool) (er : r ≡ upperEntry b k size p i) where
-    upper-step : upperEntriesGood (entriesAt k size b) (entriesFrom b k p n 0)
+    upper-step : upperEntriesGood (entriesAt k size b) (entriesAt k size b p)
         ≡ (r && upperEntriesGood (entriesAt k size b) (entriesFrom b k p (n - (i + 1)) (i + 1)))
     unfolding upperEntriesGood
     upper-step = inv ∙ rw (from-on b k p n i h, ← er)
 
-    pub upper-off : r ≡ false → false ≡ upperEntriesGood (entriesAt k size b) (entriesFrom b k p n 0)
+    pub upper-off : r ≡ false → false ≡ upperEntriesGood (entriesAt k size b) (entriesAt k size b p)
     upper-off e = sym (upper-step ∙ rw e)
 
     pub upper-on : r ≡ true → UpperLeft b k size p n (i + 1)

@@ -6,7 +6,9 @@ pub mod State
 pub mod EntryLaws
 -- Laws: the tests of one page
 pub mod StepLaws
--- Laws: the loops over children, pages and levels, and the answer
+-- Laws: the first pass's loops over children, pages and levels, and its answer
 pub mod PassLaws
+-- Laws: the second pass's loops over pages and levels, and the answer
+pub mod KeyLaws
 -- Laws: the loop over the marks
 pub mod MarkLaws

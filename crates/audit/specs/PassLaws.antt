@@ -15,7 +15,7 @@ use Rattle.page.specs.ReadingLaws.{entriesFrom, entries-are}
 use Rattle.page.specs.Children.{isLeaf, childrenOf, firstChild}
 use Rattle.page.specs.declared.PageOffset.{PageOffset}
 use Rattle.sound.specs.Rule.{Progress, Level, attributeOf, start, chain, pageFits, children, pagesUnder}
-use Rattle.sound.specs.Rule.{checkPage, checkPages, closed, checkLevel, rootLevel, nextLevel, levelsUnder, markedFrom, pagesGood}
+use Rattle.sound.specs.Rule.{checkPage, checkPages, closed, checkLevel, rootLevel, nextLevel, levelsUnder, markedFrom, shapeGood}
 use Rattle.audit.specs.declared.Progress as declared-progress
 use Rattle.audit.specs.declared.Level as declared-level
 use Rattle.audit.specs.State.{InFile, progressOf, levelOf, startAt, closedAt}
@@ -172,13 +172,13 @@ module _ (b : List ℕ) (k size : ℕ) where
         → LevelsLeft (left - 1) t₀ u
     levels-on u n e h = inv ∙ (under-some left t n e ∙ ap (levelsUnder b k size (left - 1)) h)
 
--- the answer
-pub pages-answer : (b : List ℕ) (k size root : ℕ) (v : declared-level.Level) (m m′ : List ℕ) (g : Bool)
+-- the answer of the first pass
+pub shape-answer : (b : List ℕ) (k size root : ℕ) (v : declared-level.Level) (m m′ : List ℕ) (g : Bool)
     → k ≡ keyLength b → size ≡ fileSize b → root ≡ rootOffset b
     → levelsUnder b k size (maxLevels - 1) (rootLevel b k size root m) ≡ (levelOf v, m′) → g ≡ markedFrom m′ (size / pageSize - 1) 1
-    → (v .good && (v .leaf && g)) ≡ pagesGood b m
-unfolding pagesGood
-pages-answer b k size root v m m′ g ek es er e eg = rw (← ek, ← es, ← er, e, eg)
+    → (v .good && (v .leaf && g)) ≡ shapeGood b m
+unfolding shapeGood
+shape-answer b k size root v m m′ g ek es er e eg = rw (← ek, ← es, ← er, e, eg)
 
 -- what a good header says of the file
 pub in-file : (b : List ℕ) (k size : ℕ) → headerGood b ≡ true → k ≡ keyLength b → size ≡ fileSize b → InFile b k size

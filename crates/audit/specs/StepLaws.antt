@@ -13,20 +13,20 @@ use Rattle.page.specs.HeaderLaws.{IsPage, is-page}
 use Rattle.page.specs.Page.{attributeAt, countAt, leftAt, rightAt, leafBit, countGood}
 use Rattle.page.specs.Reading.{entriesAt}
 use Rattle.page.specs.ReadingLaws.{entriesFrom, entries-are}
-use Rattle.sound.specs.Rule.{lastOf, leafEntriesGood, upperEntriesGood, entriesFit, pageFits, checkPage}
+use Rattle.sound.specs.Rule.{lastOf, leafEntriesGood, entriesFit, pageFits, checkPage}
 use Rattle.audit.specs.declared.Progress.{Progress}
 use Rattle.audit.specs.State.{keyFrom, progressOf, refusedAt}
 
 -- the entries of a page
-module _ (b : List ℕ) (k size a last p n : ℕ) (r : Bool) (en : n ≡ length (entriesAt k size b p)) where
-  pub entries-leaf : (z : ℕ) → leafBit a ≡ true → keyFrom b k z ≡ lastOf none (entriesAt k size b last)
+module _ (b : List ℕ) (k size a last p : ℕ) where
+  pub entries-leaf : (n z : ℕ) (r : Bool) → n ≡ length (entriesAt k size b p) → leafBit a ≡ true → keyFrom b k z ≡ lastOf none (entriesAt k size b last)
       → r ≡ leafEntriesGood (keyFrom b k z) (entriesFrom b k p n 0) → r ≡ entriesFit b k size a last p
   unfolding entriesFit
-  entries-leaf z l ez er = er ∙ rw (l, ← ez, entries-are b k size p n en)
+  entries-leaf n z r en l ez er = er ∙ rw (l, ← ez, entries-are b k size p n en)
 
-  pub entries-upper : leafBit a ≡ false → r ≡ upperEntriesGood (entriesAt k size b) (entriesFrom b k p n 0) → r ≡ entriesFit b k size a last p
+  pub entries-upper : leafBit a ≡ false → true ≡ entriesFit b k size a last p
   unfolding entriesFit
-  entries-upper l er = er ∙ rw l (ap (upperEntriesGood (entriesAt k size b)) (sym (entries-are b k size p n en)))
+  entries-upper l = rw l
 
 -- one page, whose head was read
 and-false : (x y z u v : Bool) → (x && (y && (z && u))) ≡ false → false ≡ (x && (y && (z && (u && v))))

@@ -1,6 +1,7 @@
-// The audit of an index: level by level from the root down, each page checked against its left neighbour and its children, and marked when it is met. The
-// pages of a level are the children of the level above, whose pages name one another by the right links that were checked there. So nothing is copied, each
-// page is checked once, and the work is linear in the file's size on any bytes.
+// The audit of an index, in two passes, each level by level from the root down. The first checks each page against its left neighbour, and marks it when it is
+// met. The pages of a level are the children of the level above, whose pages name one another by the right links that were checked there. The second checks the
+// keys above pages, once the links are known to be good. So nothing is copied, each page is checked once in each pass, and the work is linear in the file's size
+// on any bytes.
 use octets::Ordering;
 use page::Page;
 use page::PageOffset;
@@ -17,8 +18,9 @@ ghost use Rattle.page.specs.Reading.{entriesAt};
 ghost use Rattle.page.specs.ReadingLaws.{entriesFrom};
 ghost use Rattle.sound.specs.Sound.{Audited};
 ghost use Rattle.page.specs.Children.{childrenOf};
-ghost use Rattle.sound.specs.Rule.{maxPages, lastOf, leafEntriesGood, upperEntriesGood, entriesFit, pageFits, attributeOf, pagesUnder};
-ghost use Rattle.sound.specs.Rule.{checkPage, checkPages, rootLevel, nextLevel, levelsUnder, markedFrom, pagesGood};
+ghost use Rattle.sound.specs.Rule.{maxPages, lastOf, leafEntriesGood, upperEntriesGood, entriesFit, pageFits, attributeOf, chain, pagesUnder};
+ghost use Rattle.sound.specs.Rule.{checkPage, checkPages, rootLevel, nextLevel, levelsUnder, markedFrom, shapeGood};
+ghost use Rattle.sound.specs.Rule.{heightOf, upperPagesGood, upperLevelsGood, keysAboveGood, pagesGood};
 ghost use Rattle.audit.specs.State.{InFile, EntriesWithin, keyFrom, leafEntry, upperEntry, progressOf, levelOf, startAt, refusedAt, closedAt};
 
 // What is known of the pages met on a level: whether all were good, the last page met, and the page that its right link names.
@@ -91,34 +93,7 @@ fn leaf_entries(index: &[u8], k: usize, page: PageOffset, count: usize, last: us
     true
 }
 
-// Whether the key of entry i, above a child, is the last of the child's keys.
-fn upper_entry(index: &[u8], k: usize, size: usize, page: PageOffset, i: usize) -> bool
-    requires { ⌜ InFile (now index) k size × Within (now index) k (page .0) (i + 1) ⌝ }
-    ensures { λ r. ⌜ r ≡ upperEntry (now (index .entry)) k size (page .0) i ⌝ }
-{
-    let last = last_key(index, k, size, page::child(index, k, page, i));
-    if last == 0 {
-        return false;
-    }
-    octets::is_equal(key_order(index, k, last, page::entry_offset(k, page, i)))
-}
-
-// Whether the first `count` entries of a page above the leaves are good.
-fn upper_entries(index: &[u8], k: usize, size: usize, page: PageOffset, count: usize) -> bool
-    requires { ⌜ InFile (now index) k size × EntriesWithin (now index) k (page .0) count ⌝ }
-    ensures { λ r. ⌜ r ≡ upperEntriesGood (entriesAt k size (now (index .entry))) (entriesFrom (now (index .entry)) k (page .0) count 0) ⌝ }
-{
-    let mut i = 0;
-    while i < count {
-        if !upper_entry(index, k, size, page, i) {
-            return false;
-        }
-        i += 1;
-    }
-    true
-}
-
-// Whether the entries of a page are good, as those of a leaf with `last` on its left or of a page above, which the attribute tells.
+// Whether the entries of a page are good if it is a leaf, which the attribute tells, with `last` on its left.
 fn entries_fit(
     index: &[u8],
     k: usize,
@@ -130,11 +105,11 @@ fn entries_fit(
     requires { ⌜ InFile (now index) k size ⌝ }
     ensures { λ r. ⌜ r ≡ entriesFit (now (index .entry)) k size attribute (last .0) (page .0) ⌝ }
 {
-    let count = page::entry_count(index, k, size, page);
-    if page::is_leaf(attribute) {
-        return leaf_entries(index, k, page, count, last_key(index, k, size, last));
+    if !page::is_leaf(attribute) {
+        return true;
     }
-    upper_entries(index, k, size, page, count)
+    let count = page::entry_count(index, k, size, page);
+    leaf_entries(index, k, page, count, last_key(index, k, size, last))
 }
 
 // Whether a page has the attribute, a good count, links that agree with those of `last` on its left, and good entries.
@@ -387,15 +362,120 @@ fn all_marked(marks: &[u8], pages: usize) -> bool
     true
 }
 
-// Whether an index with a good header is sound, with a mark lent for each page.
-fn pages_good(index: &[u8], marks: &mut [u8]) -> bool
+// Whether all but the keys above pages is good in an index with a good header, with a mark lent for each page.
+fn shape_good(index: &[u8], marks: &mut [u8]) -> bool
     requires { ⌜ (headerGood (now index) ≡ true) × (length (now marks) ≡ maxPages) ⌝ }
-    ensures { λ r. ⌜ r ≡ pagesGood (now (index .entry)) (now (marks .entry)) ⌝ }
+    ensures { λ r. ⌜ r ≡ shapeGood (now (index .entry)) (now (marks .entry)) ⌝ }
 {
     let k = page::key_length(index);
     let size = page::file_size(index);
     let level = levels(index, marks, k, size, page::root(index));
     level.good & (level.leaf & all_marked(marks, size / Page::SIZE))
+}
+
+// Whether the key of entry i, above a child, is the last of the child's keys.
+fn upper_entry(index: &[u8], k: usize, size: usize, page: PageOffset, i: usize) -> bool
+    requires { ⌜ InFile (now index) k size × Within (now index) k (page .0) (i + 1) ⌝ }
+    ensures { λ r. ⌜ r ≡ upperEntry (now (index .entry)) k size (page .0) i ⌝ }
+{
+    let last = last_key(index, k, size, page::child(index, k, page, i));
+    if last == 0 {
+        return false;
+    }
+    octets::is_equal(key_order(index, k, last, page::entry_offset(k, page, i)))
+}
+
+// Whether the entries of a page above the leaves are good.
+fn upper_entries(index: &[u8], k: usize, size: usize, page: PageOffset) -> bool
+    requires { ⌜ InFile (now index) k size ⌝ }
+    ensures { λ r. ⌜ r ≡ upperEntriesGood (entriesAt k size (now (index .entry))) (entriesAt k size (now (index .entry)) (page .0)) ⌝ }
+{
+    let count = page::entry_count(index, k, size, page);
+    let mut i = 0;
+    while i < count {
+        if !upper_entry(index, k, size, page, i) {
+            return false;
+        }
+        i += 1;
+    }
+    true
+}
+
+// Whether the entries of the pages of a level above the leaves are good, from its first page on along the right links.
+fn upper_pages(index: &[u8], k: usize, size: usize, first: PageOffset) -> bool
+    requires { ⌜ InFile (now index) k size ⌝ }
+    ensures { λ r. ⌜ r ≡ upperPagesGood (now (index .entry)) k size (chain (now (index .entry)) size maxPages (first .0)) ⌝ }
+{
+    let mut page = first;
+    let mut left = page::MAX_PAGES;
+    while 0 < left {
+        if !page::is_page(size, page) {
+            return true;
+        }
+        if !upper_entries(index, k, size, page) {
+            return false;
+        }
+        let head = Page::at(index, page);
+        page = head.right;
+        left -= 1;
+    }
+    true
+}
+
+// Whether the keys above pages are good on the level whose first page is `first` and on the levels under it, of which there are `height`.
+fn upper_levels(index: &[u8], k: usize, size: usize, height: u32, first: PageOffset) -> bool
+    requires { ⌜ InFile (now index) k size ⌝ }
+    ensures { λ r. ⌜ r ≡ upperLevelsGood (now (index .entry)) k size height (first .0) ⌝ }
+{
+    let mut left = height;
+    let mut page = first;
+    while 0 < left {
+        if !upper_pages(index, k, size, page) {
+            return false;
+        }
+        page = page::first_child(index, k, size, page);
+        left -= 1;
+    }
+    true
+}
+
+// The number of levels under the root, 10 at most, which the first children show.
+fn height_of(index: &[u8], k: usize, size: usize, root: PageOffset) -> u32
+    requires { ⌜ InFile (now index) k size ⌝ }
+    ensures { λ r. ⌜ r ≡ heightOf (now (index .entry)) k size (maxLevels - 1) (root .0) ⌝ }
+{
+    let mut height = 0;
+    let mut page = root;
+    while height < page::MAX_LEVELS - 1 {
+        if page::leaf_at(index, size, page) {
+            return height;
+        }
+        page = page::first_child(index, k, size, page);
+        height += 1;
+    }
+    height
+}
+
+// Whether the keys above pages are good in an index with a good header.
+fn keys_above_good(index: &[u8]) -> bool
+    requires { ⌜ headerGood (now index) ≡ true ⌝ }
+    ensures { λ r. ⌜ r ≡ keysAboveGood (now (index .entry)) ⌝ }
+{
+    let k = page::key_length(index);
+    let size = page::file_size(index);
+    let root = page::root(index);
+    upper_levels(index, k, size, height_of(index, k, size, root), root)
+}
+
+// Whether an index with a good header is sound, with a mark lent for each page.
+fn pages_good(index: &[u8], marks: &mut [u8]) -> bool
+    requires { ⌜ (headerGood (now index) ≡ true) × (length (now marks) ≡ maxPages) ⌝ }
+    ensures { λ r. ⌜ r ≡ pagesGood (now (index .entry)) (now (marks .entry)) ⌝ }
+{
+    if !shape_good(index, marks) {
+        return false;
+    }
+    keys_above_good(index)
 }
 
 // The audit: 24 if the header is not good, 0 if the index is sound, else 25.

@@ -7,7 +7,7 @@ use mathlib.Core.Bool.{Bool, false, cond}
 use mathlib.Core.List.{List, [], _∷_}
 use lib.Dec.{eqb}
 use lib.ListN.{length, take}
-use Rattle.tree.specs.Book.{Call, insertion, lookupOf, Answer, refused, accepted, found, absent, isAccepted, noRooms, resultsOf, finalOf}
+use Rattle.tree.specs.Book.{Call, insertion, lookupOf, Answer, refused, accepted, found, absent, KeyTests, isAccepted, noRooms, resultsOf, finalOf}
 use Rattle.tree.specs.Book.{bookAnswers, bookFinal}
 use Rattle.page.specs.Header.{keyLength}
 use Rattle.page.specs.KeyOrder.{bytesOrder}
@@ -17,7 +17,7 @@ use Rattle.lookup.specs.declared.Answer.{Answer as Looked}
 use Rattle.lookup.specs.declared.Answer.the-variants as looked
 use Rattle.sound.specs.Sound.{Sound}
 pub use Rattle.sound.specs.Sound.{leafPairs}
-use Rattle.insert.specs.Calls.{insertRule}
+use Rattle.insert.specs.Calls.{hasControl, insertRule}
 use Rattle.insert.specs.Insertion.{insertedBuffer}
 use Rattle.insert.specs.Room.{noRoom}
 use Rattle.insert.specs.declared.Insertion.{Insertion}
@@ -54,6 +54,10 @@ noRoomFor (lookupOf key) b = false
 abbrev pub fits : ℕ → List ℕ → Bool
 fits k key = eqb (length key) k
 
+-- what the book asks of the keys of an index of barcodes: 27 for a key not of k bytes, 32 for an insertion's key "with any byte below 0x20"
+abbrev pub barcodes : ℕ → KeyTests (List ℕ)
+barcodes k = record { fits = fits k; barred = hasControl }
+
 -- the record number of a call fits four bytes; its key may have any length
 abbrev pub FourBytes : Call (List ℕ) → Type 0
 FourBytes (insertion key r) = r < 2 ^ 32
@@ -72,7 +76,7 @@ Pairs = List (List ℕ × ℕ)
 
 -- the book after the first n calls, fed "of the answers, only whether an insertion was 30"
 abbrev pub bookAt : ℕ → Pairs → ℕ → Calls → List ℕ → Pairs
-bookAt k book n calls b = bookFinal bytesOrder (fits k) (take n calls) (noRooms (answersTo calls b)) book
+bookAt k book n calls b = bookFinal bytesOrder (barcodes k) (take n calls) (noRooms (answersTo calls b)) book
 
 -- the index in a buffer is sound, so it has at most 11 levels, and "the leaves' entries, left to right, are the book's pairs"
 pub record IndexHolds (b : List ℕ) (book : Pairs) : Type 0 where
@@ -98,9 +102,9 @@ Each P (c ∷ calls) b = P c b × Each P calls (bufferAfter c b)
 -- the claim, for keys of k bytes: the book that begins at `book` keeps the list of calls, made from the buffer b on
 pub record BookKept (k : ℕ) (book : Pairs) (calls : Calls) (b : List ℕ) : Type 0 where
   -- "Every call answers so, never 24 or 25"
-  pub answers : answersTo calls b ≡ bookAnswers bytesOrder (fits k) calls (noRooms (answersTo calls b)) book
+  pub answers : answersTo calls b ≡ bookAnswers bytesOrder (barcodes k) calls (noRooms (answersTo calls b)) book
   -- "an insertion not refused so is 30 exactly when the rule above, on the index lent to it, says so"
-  pub room : answersTo calls b ≡ bookAnswers bytesOrder (fits k) calls (resultsOf noRoomFor bufferAfter calls b) book
+  pub room : answersTo calls b ≡ bookAnswers bytesOrder (barcodes k) calls (resultsOf noRoomFor bufferAfter calls b) book
   -- "After fresh and after each call": before the first call, and after each
   pub index : (n : ℕ) → IndexHolds (bufferAt n calls b) (bookAt k book n calls b)
   pub visits : Each VisitsLevels calls b

@@ -24,14 +24,14 @@ use Rattle.insert.specs.declared.Insertion.{Insertion}
 use Rattle.insert.specs.declared.Insertion.the-variants.{Accepted, Refused}
 use Rattle.insert_laws.specs.InsertHeads.{Plain, octets-plain}
 use Rattle.insert_laws.specs.FreshLaws.{FreshIs, fresh-is-sound}
-use Rattle.book.specs.Book.{Calls, insertionAnswer, answerTo, bufferAfter, noRoomFor, fits, FourBytes, answersTo, bufferAt, Pairs, leafPairs}
+use Rattle.book.specs.Book.{Calls, insertionAnswer, answerTo, bufferAfter, noRoomFor, barcodes, FourBytes, answersTo, bufferAt, Pairs, leafPairs}
 use Rattle.book.specs.Book.{VisitsLevels, LeavesBuffer, Each, BookKept}
 use Rattle.book.specs.CallLaws.{Kept, readIndex, read-is, keeping, kept-sound, visits-levels, leaves-buffer, same-answer, same-rule, keeps, same-next}
 
 -- the book after the first n calls needs the answers to these calls alone
 book-take : (k n : ℕ) (calls : Calls) (b : List ℕ) (book : Pairs)
-    → bookFinal bytesOrder (fits k) (take n calls) (noRooms (answersTo (take n calls) b)) book
-    ≡ bookFinal bytesOrder (fits k) (take n calls) (noRooms (answersTo calls b)) book
+    → bookFinal bytesOrder (barcodes k) (take n calls) (noRooms (answersTo (take n calls) b)) book
+    ≡ bookFinal bytesOrder (barcodes k) (take n calls) (noRooms (answersTo calls b)) book
 book-take k zero calls b book = refl
 book-take k (suc n) [] b book = refl
 book-take k (suc n) (c ∷ calls) b book = book-take k n calls (bufferAfter c b) _
@@ -49,13 +49,13 @@ module _ (k size : ℕ) (two : 1 < capacity k) where
 
   -- the theory's theorem, with buffers for states
   claim : (calls : Calls) → All FourBytes calls → (b : List ℕ) → Kept k size b
-      → BookClaim bytesOrder (fits k) answerTo bufferAfter (λ b. held (readIndex b)) noRoomFor calls b (held (readIndex b))
-  claim = book-claim (keeping k size) two readIndex answerTo bufferAfter noRoomFor (Kept k size) FourBytes
+      → BookClaim bytesOrder (barcodes k) answerTo bufferAfter (λ b. held (readIndex b)) noRoomFor calls b (held (readIndex b))
+  claim = book-claim (keeping k size) two (barcodes k) readIndex answerTo bufferAfter noRoomFor (Kept k size) FourBytes
       (λ b i. kept-sound k size b i) (λ c b o i. keeps k size b i c o) (λ c b o i. same-answer k size b i c)
       (λ c b o i. same-next k size b i c o) (λ c b o i. same-rule k size b i c)
 
   keeps-all : (calls : Calls) → All FourBytes calls → (b : List ℕ) → Kept k size b → Kept k size (finalOf bufferAfter calls b)
-  keeps-all = list-keeps (keeping k size) two readIndex answerTo bufferAfter noRoomFor (Kept k size) FourBytes
+  keeps-all = list-keeps (keeping k size) two (barcodes k) readIndex answerTo bufferAfter noRoomFor (Kept k size) FourBytes
       (λ b i. kept-sound k size b i) (λ c b o i. keeps k size b i c o) (λ c b o i. same-answer k size b i c)
       (λ c b o i. same-next k size b i c o) (λ c b o i. same-rule k size b i c)
 
@@ -71,7 +71,7 @@ module _ (k size : ℕ) (two : 1 < capacity k) where
             let o′ = all-take FourBytes n calls o in
             let after : Kept k size (bufferAt n calls b) = keeps-all first o′ b kept in
             let book : Pairs = leafPairs b (kept .sound) in
-            let c : held (readIndex (bufferAt n calls b)) ≡ bookFinal bytesOrder (fits k) (take n calls) (noRooms (answersTo (take n calls) b)) book =
+            let c : held (readIndex (bufferAt n calls b)) ≡ bookFinal bytesOrder (barcodes k) (take n calls) (noRooms (answersTo (take n calls) b)) book =
             rw own at (claim first o′ b kept .pairs) in
             record {
               sound = after .sound;

@@ -29,14 +29,14 @@ use Rattle.sound.specs.Accepted.{accepted as audit-accepts}
 use Rattle.sound.specs.Sound.{indexTree, Sound}
 use Rattle.sound.specs.Rule.{pagesGood, unmarked}
 use Rattle.sound.specs.IndexLaws.{indexOf, settingOf, sound-index}
-use Rattle.insert.specs.Calls.{AfterCall, afterCall, isFound, insertRule}
+use Rattle.insert.specs.Calls.{AfterCall, afterCall, hasControl, isFound, insertRule}
 use Rattle.insert.specs.Insertion.{insertedBuffer}
 use Rattle.insert.specs.Room.{pathFrom, noRoom}
 use Rattle.insert.specs.declared.Insertion.the-variants.{Accepted, Refused}
 use Rattle.insert_laws.specs.InsertHeads.{Plain}
 use Rattle.insert_laws.specs.RoomLaws.{sound-levels, room-is}
 use Rattle.insert_laws.specs.InsertSound.{Accepts, insert-keeps-sound}
-use Rattle.book.specs.Book.{insertionAnswer, lookupAnswer, answerTo, bufferAfter, noRoomFor, fits, FourBytes, VisitsLevels, LeavesBuffer}
+use Rattle.book.specs.Book.{insertionAnswer, lookupAnswer, answerTo, bufferAfter, noRoomFor, fits, barcodes, FourBytes, VisitsLevels, LeavesBuffer}
 
 -- what each call keeps of a buffer of `size` bytes, for keys of k bytes
 pub record Kept (k size : ℕ) (b : List ℕ) : Type 0 where
@@ -64,20 +64,23 @@ read-is b s = ap (indexOf b) (height-is b s)
 abbrev pub keeping : ℕ → ℕ → Setting (List ℕ)
 keeping k size = settingOf k (min size maxBytes)
 
--- insertion's refusals, "24, 27, 28, 25 .., 29 .., 30", by their tests; b″ is the buffer after an accepted insertion
-refusals : List ℕ → List ℕ → Bool → Bool → Bool → Bool → Bool → Bool → AfterCall
-refusals b b″ good fit zero audit there full =
+-- insertion's refusals, "24, 27, 28, 25 .., 29 .., 30", and 32 "after 27 and before 28", by their tests; b″ is the buffer after an accepted insertion
+refusals : List ℕ → List ℕ → Bool → Bool → Bool → Bool → Bool → Bool → Bool → AfterCall
+refusals b b″ good fit control zero audit there full =
     elim good [
       | false ↦ afterCall b (Refused 24)
       | true ↦ elim fit [
         | false ↦ afterCall b (Refused 27)
-        | true ↦ elim zero [
-          | true ↦ afterCall b (Refused 28)
-          | false ↦ elim audit [
-            | false ↦ afterCall b (Refused 25)
-            | true ↦ elim there [
-              | true ↦ afterCall b (Refused 29)
-              | false ↦ elim full [ true ↦ afterCall b (Refused 30) | false ↦ afterCall b″ Accepted ]
+        | true ↦ elim control [
+          | true ↦ afterCall b (Refused 32)
+          | false ↦ elim zero [
+            | true ↦ afterCall b (Refused 28)
+            | false ↦ elim audit [
+              | false ↦ afterCall b (Refused 25)
+              | true ↦ elim there [
+                | true ↦ afterCall b (Refused 29)
+                | false ↦ elim full [ true ↦ afterCall b (Refused 30) | false ↦ afterCall b″ Accepted ]
+              ]
             ]
           ]
         ]
@@ -85,30 +88,33 @@ refusals b b″ good fit zero audit there full =
     ]
 
 -- on a sound index the refusals are the book's
-refusals-answer : (b b″ : List ℕ) (fit zero there full : Bool)
-    → insertionAnswer (refusals b b″ true fit zero true there full .answer)
-    ≡ refusedIf (not fit) 27 (refusedIf zero 28 (refusedIf there 29 (refusedIf full 30 accepted)))
+refusals-answer : (b b″ : List ℕ) (fit control zero there full : Bool)
+    → insertionAnswer (refusals b b″ true fit control zero true there full .answer)
+    ≡ refusedIf (not fit) 27 (refusedIf control 32 (refusedIf zero 28 (refusedIf there 29 (refusedIf full 30 accepted))))
 unfolding refusals
-refusals-answer b b″ false zero there full = refl
-refusals-answer b b″ true true there full = refl
-refusals-answer b b″ true false true full = refl
-refusals-answer b b″ true false false true = refl
-refusals-answer b b″ true false false false = refl
+refusals-answer b b″ false control zero there full = refl
+refusals-answer b b″ true true zero there full = refl
+refusals-answer b b″ true false true there full = refl
+refusals-answer b b″ true false false true full = refl
+refusals-answer b b″ true false false false true = refl
+refusals-answer b b″ true false false false false = refl
 
 -- a refusal leaves the buffer as it was
-refusals-after : (b b″ : List ℕ) (good fit zero audit there full : Bool)
-    → refusals b b″ good fit zero audit there full .after ≡ cond (isAccepted (insertionAnswer (refusals b b″ good fit zero audit there full .answer))) b″ b
+refusals-after : (b b″ : List ℕ) (good fit control zero audit there full : Bool)
+    → refusals b b″ good fit control zero audit there full .after
+    ≡ cond (isAccepted (insertionAnswer (refusals b b″ good fit control zero audit there full .answer))) b″ b
 unfolding refusals
-refusals-after b b″ false fit zero audit there full = refl
-refusals-after b b″ true false zero audit there full = refl
-refusals-after b b″ true true true audit there full = refl
-refusals-after b b″ true true false false there full = refl
-refusals-after b b″ true true false true true full = refl
-refusals-after b b″ true true false true false true = refl
-refusals-after b b″ true true false true false false = refl
+refusals-after b b″ false fit control zero audit there full = refl
+refusals-after b b″ true false control zero audit there full = refl
+refusals-after b b″ true true true zero audit there full = refl
+refusals-after b b″ true true false true audit there full = refl
+refusals-after b b″ true true false false false there full = refl
+refusals-after b b″ true true false false true true full = refl
+refusals-after b b″ true true false false true false true = refl
+refusals-after b b″ true true false false true false false = refl
 
 insert-refusals : (b key : List ℕ) (r : ℕ) → insertRule b key r
-    ≡ refusals b (insertedBuffer (keyLength b) b key r) (headerGood b) (eqb (length key) (keyLength b)) (eqb r 0) (pagesGood b unmarked)
+    ≡ refusals b (insertedBuffer (keyLength b) b key r) (headerGood b) (eqb (length key) (keyLength b)) (hasControl key) (eqb r 0) (pagesGood b unmarked)
     (isFound (lookupRule b key)) (noRoom (keyLength b) b key)
 unfolding insertRule refusals
 insert-refusals b key r = refl
@@ -117,8 +123,8 @@ insert-refusals b key r = refl
 pub leaves-buffer : (c : Call (List ℕ)) (b : List ℕ) → LeavesBuffer c b
 unfolding insertRule refusals
 leaves-buffer (insertion key r) b =
-    refusals-after b (insertedBuffer (keyLength b) b key r) (headerGood b) (eqb (length key) (keyLength b)) (eqb r 0) (pagesGood b unmarked)
-    (isFound (lookupRule b key)) (noRoom (keyLength b) b key)
+    refusals-after b (insertedBuffer (keyLength b) b key r) (headerGood b) (eqb (length key) (keyLength b)) (hasControl key) (eqb r 0)
+    (pagesGood b unmarked) (isFound (lookupRule b key)) (noRoom (keyLength b) b key)
 leaves-buffer (lookupOf key) b = tt
 
 -- lookup's answer, by the record that was found
@@ -170,7 +176,7 @@ module _ (k size : ℕ) (b : List ℕ) (kept : Kept k size b) where
   unfolding lookupRule
   misfit key f = rw (s .header, same-fit key ∙ f, lookupRule)
 
-  lookup-answers : (key : List ℕ) → answerTo (lookupOf key) b ≡ answer (keeping k size) (lookupOf key) (readIndex b)
+  lookup-answers : (key : List ℕ) → answerTo (lookupOf key) b ≡ answer (keeping k size) (barcodes k) (lookupOf key) (readIndex b)
   lookup-answers key = either (fits k key)
       (λ f. rw (found-is key f, f) (answer-reply (lookup bytesOrder key (heightIn b) (indexTree b (heightIn b))) _))
       (λ f. rw (misfit key f, f))
@@ -199,17 +205,17 @@ module _ (k size : ℕ) (b : List ℕ) (kept : Kept k size b) where
       (length (visited bytesOrder key (heightIn b) (indexTree b (heightIn b))))
       ∙ ap isPresent (lookup-find bytesOrder key (heightIn b) (indexTree b (heightIn b)) (kept-sound .ordered))
 
-  insert-answers : (key : List ℕ) (r : ℕ) → answerTo (insertion key r) b ≡ answer (keeping k size) (insertion key r) (readIndex b)
+  insert-answers : (key : List ℕ) (r : ℕ) → answerTo (insertion key r) b ≡ answer (keeping k size) (barcodes k) (insertion key r) (readIndex b)
   insert-answers key r =
       rw (insert-refusals b key r, s .header, audit-accepts b (s .header) .1 s)
-      (refusals-answer b (insertedBuffer (keyLength b) b key r) (eqb (length key) (keyLength b)) (eqb r 0) (isFound (lookupRule b key))
-      (noRoom (keyLength b) b key)
+      (refusals-answer b (insertedBuffer (keyLength b) b key r) (eqb (length key) (keyLength b)) (hasControl key) (eqb r 0)
+      (isFound (lookupRule b key)) (noRoom (keyLength b) b key)
       ∙ either (fits k key)
       (λ f. rw (same-fit key, f, same-found key f, same-room key))
       (λ f. rw (same-fit key, f)))
 
   -- Theorem: each call answers as the theory's call does, and is 30 by the theory's rule
-  pub same-answer : (c : Call (List ℕ)) → answerTo c b ≡ answer (keeping k size) c (readIndex b)
+  pub same-answer : (c : Call (List ℕ)) → answerTo c b ≡ answer (keeping k size) (barcodes k) c (readIndex b)
   same-answer (insertion key r) = insert-answers key r
   same-answer (lookupOf key) = lookup-answers key
 
@@ -225,7 +231,8 @@ module _ (k size : ℕ) (b : List ℕ) (kept : Kept k size b) where
   module _ (key : List ℕ) (r : ℕ) (r32 : r < 2 ^ 32) (e : isAccepted (answerTo (insertion key r) b) ≡ true) where
     accepts : Accepts b key r
     accepts =
-        let a = accepted-acceptable (fits k key) r (find bytesOrder key (held (readIndex b))) (outOfRoom (keeping k size) key (readIndex b))
+        let a = accepted-acceptable (fits k key) (hasControl key) r (find bytesOrder key (held (readIndex b)))
+        (outOfRoom (keeping k size) key (readIndex b))
         (ap isAccepted (sym (insert-answers key r)) ∙ e) in
         record {
           sound = s;
@@ -261,9 +268,9 @@ module _ (k size : ℕ) (b : List ℕ) (kept : Kept k size b) where
       (λ e. rw (stays key r e) kept)
   keeps (lookupOf key) r32 = kept
 
-  pub same-next : (c : Call (List ℕ)) → FourBytes c → readIndex (bufferAfter c b) ≡ next (keeping k size) c (readIndex b)
+  pub same-next : (c : Call (List ℕ)) → FourBytes c → readIndex (bufferAfter c b) ≡ next (keeping k size) (barcodes k) c (readIndex b)
   same-next (insertion key r) r32 =
-      let q : isAccepted (answerTo (insertion key r) b) ≡ isAccepted (answer (keeping k size) (insertion key r) (readIndex b)) =
+      let q : isAccepted (answerTo (insertion key r) b) ≡ isAccepted (answer (keeping k size) (barcodes k) (insertion key r) (readIndex b)) =
       ap isAccepted (insert-answers key r) in
       either (isAccepted (answerTo (insertion key r) b))
       (λ e. ap readIndex (after key r r32 e) ∙ next-inserted key r r32 e ∙ rw (sym q ∙ e))

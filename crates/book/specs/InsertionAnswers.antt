@@ -1,6 +1,6 @@
--- Laws: what each answer of insertion says, in document 01's order, "24, 27, 28, 25 by full audit, 29 if the key is in a leaf, 30". The rule computes with the
--- audit's test and with lookup's steps; here `Sound` and the leaves' pairs stand in their place. No proof of the code cites these laws: they are for readers of
--- the rule. Assumes nothing.
+-- Laws: what each answer of insertion says, in the order "24, 27, 28, 25 by full audit, 29 if the key is in a leaf, 30", with 32 "after 27 and before 28". The
+-- rule computes with the audit's test and with lookup's steps; here `Sound` and the leaves' pairs stand in their place. No proof of the code cites these laws:
+-- they are for readers of the rule. Assumes nothing.
 use Prim.Native.Nat.{ℕ, _<_}
 use mathlib.Core.Path.{_≡_, refl, sym, ap, _∙_, subst}
 use mathlib.Core.Bool.{Bool, true, false, _&&_}
@@ -23,7 +23,7 @@ use Rattle.lookup_laws.specs.FoundLaws.{lookup-list}
 use Rattle.sound.specs.Sound.{Sound}
 use Rattle.sound.specs.Rule.{pagesGood, unmarked}
 use Rattle.sound.specs.Accepted.{accepted as audit-accepts}
-use Rattle.insert.specs.Calls.{AfterCall, insertionCode, isFound, insertRule}
+use Rattle.insert.specs.Calls.{AfterCall, insertionCode, hasControl, isFound, insertRule}
 use Rattle.insert.specs.CallLaws as calls
 use Rattle.insert.specs.Room.{noRoom}
 use Rattle.insert.specs.declared.Insertion.{Insertion}
@@ -45,16 +45,24 @@ pub record WrongLength (b key : List ℕ) : Type 0 where
   pub header : headerGood b ≡ true
   pub other : length key ≡ keyLength b → ⊥
 
--- 28: the key has k bytes, and the record number is 0
+-- 32: the key has k bytes, and one of them is below 0x20
+pub record ControlByte (b key : List ℕ) : Type 0 where
+  pub header : headerGood b ≡ true
+  pub fits : length key ≡ keyLength b
+  pub control : hasControl key ≡ true
+
+-- 28: the key has k bytes, none below 0x20, and the record number is 0
 pub record NoNumber (b key : List ℕ) (r : ℕ) : Type 0 where
   pub header : headerGood b ≡ true
   pub fits : length key ≡ keyLength b
+  pub clean : hasControl key ≡ false
   pub zero : r ≡ 0
 
--- none of these: the header is good, the key has k bytes and the record number is above 0
+-- none of these: the header is good, the key has k bytes, none below 0x20, and the record number is above 0
 pub record Asked (b key : List ℕ) (r : ℕ) : Type 0 where
   pub header : headerGood b ≡ true
   pub fits : length key ≡ keyLength b
+  pub clean : hasControl key ≡ false
   pub number : 0 < r
 
 -- 25: and the index is not sound
@@ -84,10 +92,11 @@ pub record Fitting (b key : List ℕ) (r : ℕ) : Type 0 where
   pub new : New b key r
   pub room : noRoom (keyLength b) b key ≡ false
 
--- the answer a to an insertion of a key with the record number r: each of the seven answers is given exactly when
+-- the answer a to an insertion of a key with the record number r: each of the eight answers is given exactly when
 pub record InsertionSays (b key : List ℕ) (r : ℕ) (a : Insertion) : Type 0 where
   pub refused-24 : (a ≡ Refused 24) ↔ BadHeader b
   pub refused-27 : (a ≡ Refused 27) ↔ WrongLength b key
+  pub refused-32 : (a ≡ Refused 32) ↔ ControlByte b key
   pub refused-28 : (a ≡ Refused 28) ↔ NoNumber b key r
   pub refused-25 : (a ≡ Refused 25) ↔ Unsound b key r
   pub refused-29 : (a ≡ Refused 29) ↔ Present b key r
@@ -124,17 +133,19 @@ whether true A B = A
 whether false A B = B
 
 module _ (b key : List ℕ) (r : ℕ) where
-  -- every insertion is one of the seven cases
-  cases : {X : Type 0} → (BadHeader b → X) → (WrongLength b key → X) → (NoNumber b key r → X) → (Unsound b key r → X) → (Present b key r → X)
-      → (Full b key r → X) → (Fitting b key r → X) → X
-  cases f24 f27 f28 f25 f29 f30 made = either (headerGood b)
+  -- every insertion is one of the eight cases
+  cases : {X : Type 0} → (BadHeader b → X) → (WrongLength b key → X) → (ControlByte b key → X) → (NoNumber b key r → X) → (Unsound b key r → X)
+      → (Present b key r → X) → (Full b key r → X) → (Fitting b key r → X) → X
+  cases f24 f27 f32 f28 f25 f29 f30 made = either (headerGood b)
       (λ h. either (eqb (length key) (keyLength b))
       (λ l.
       let fits = eqb-true (length key) (keyLength b) l in
-      either (eqb r 0)
-      (λ z. f28 (record { header = h; fits = fits; zero = eqb-true r 0 z }))
+      either (hasControl key)
+      (λ c. f32 (record { header = h; fits = fits; control = c }))
+      (λ c. either (eqb r 0)
+      (λ z. f28 (record { header = h; fits = fits; clean = c; zero = eqb-true r 0 z }))
       (λ z.
-      let asked : Asked b key r = record { header = h; fits = fits; number = omega (arith, eqb-false r 0 z) } in
+      let asked : Asked b key r = record { header = h; fits = fits; clean = c; number = omega (arith, eqb-false r 0 z) } in
       either (pagesGood b unmarked)
       (λ p.
       let s = audit-accepts b h .0 p in
@@ -144,7 +155,7 @@ module _ (b key : List ℕ) (r : ℕ) where
       (λ f.
       let new : New b key r = record { asked = asked; sound = s; absent = λ t. contra (found .1 t) f } in
       either (noRoom (keyLength b) b key) (λ n. f30 (record { new = new; full = n })) (λ n. made (record { new = new; room = n }))))
-      (λ p. f25 (record { asked = asked; unsound = λ s. contra (audit-accepts b h .1 s) p }))))
+      (λ p. f25 (record { asked = asked; unsound = λ s. contra (audit-accepts b h .1 s) p })))))
       (λ l. f27 (record { header = h; other = eqb-false (length key) (keyLength b) l })))
       (λ h. f24 (record { header = h }))
 
@@ -170,46 +181,52 @@ module _ (b key : List ℕ) (r : ℕ) where
   is-27 : WrongLength b key → answer ≡ Refused 27
   is-27 c = ap (λ (i : AfterCall). i .answer) (calls.refused-27 b key r (c .header) (c .other))
 
+  is-32 : ControlByte b key → answer ≡ Refused 32
+  is-32 c = ap (λ (i : AfterCall). i .answer) (calls.refused-32 b key r (c .header) (c .fits) (c .control))
+
   is-28 : NoNumber b key r → answer ≡ Refused 28
-  is-28 c = ap (λ (i : AfterCall). i .answer) (calls.refused-28 b key r (c .header) (c .fits) (c .zero))
+  is-28 c = ap (λ (i : AfterCall). i .answer) (calls.refused-28 b key r (c .header) (c .fits) (c .clean) (c .zero))
 
   is-25 : Unsound b key r → answer ≡ Refused 25
   is-25 c =
       let a = c .asked in
-      ap (λ (i : AfterCall). i .answer) (calls.refused-25 b key r (a .header) (a .fits) (not-zero (a .number)) (pages-bad (a .header) (c .unsound)))
+      ap (λ (i : AfterCall). i .answer) (calls.refused-25 b key r (a .header) (a .fits) (a .clean) (not-zero (a .number)) (pages-bad (a .header) (c .unsound)))
 
   is-29 : Present b key r → answer ≡ Refused 29
   is-29 c =
       let a = c .asked in
       ap (λ (i : AfterCall). i .answer)
-      (calls.refused-29 b key r (a .header) (a .fits) (not-zero (a .number)) (pages-good (c .sound)) (found-exactly b key (c .sound) (a .fits) .1 (c .there)))
+      (calls.refused-29 b key r (a .header) (a .fits) (a .clean) (not-zero (a .number)) (pages-good (c .sound))
+      (found-exactly b key (c .sound) (a .fits) .1 (c .there)))
 
   is-30 : Full b key r → answer ≡ Refused 30
   is-30 c =
       let a = c .new .asked in
       ap (λ (i : AfterCall). i .answer)
-      (calls.refused-30 b key r (a .header) (a .fits) (not-zero (a .number)) (pages-good (c .new .sound)) (not-found (c .new)) (c .full))
+      (calls.refused-30 b key r (a .header) (a .fits) (a .clean) (not-zero (a .number)) (pages-good (c .new .sound)) (not-found (c .new)) (c .full))
 
   is-accepted : Fitting b key r → answer ≡ Accepted
   is-accepted c =
       let a = c .new .asked in
       ap (λ (i : AfterCall). i .answer)
-      (calls.accepted-pair b key r (a .header) (a .fits) (not-zero (a .number)) (pages-good (c .new .sound)) (not-found (c .new)) (c .room) refl)
+      (calls.accepted-pair b key r (a .header) (a .fits) (a .clean) (not-zero (a .number)) (pages-good (c .new .sound)) (not-found (c .new)) (c .room) refl)
 
   -- the case by the answer's code; an accepted insertion has 0
   Case : ℕ → Type 0
   Case n =
       whether (eqb n 24) (BadHeader b)
       (whether (eqb n 27) (WrongLength b key)
+      (whether (eqb n 32) (ControlByte b key)
       (whether (eqb n 28) (NoNumber b key r)
       (whether (eqb n 25) (Unsound b key r)
-      (whether (eqb n 29) (Present b key r) (whether (eqb n 30) (Full b key r) (Fitting b key r))))))
+      (whether (eqb n 29) (Present b key r) (whether (eqb n 30) (Full b key r) (Fitting b key r)))))))
 
   answer-case : Case (insertionCode answer)
   unfolding Case whether
   answer-case = cases
       (λ c. rw (is-24 c) c)
       (λ c. rw (is-27 c) c)
+      (λ c. rw (is-32 c) c)
       (λ c. rw (is-28 c) c)
       (λ c. rw (is-25 c) c)
       (λ c. rw (is-29 c) c)
@@ -225,6 +242,7 @@ module _ (b key : List ℕ) (r : ℕ) where
   insertion-says = record {
     refused-24 = (from (Refused 24), is-24);
     refused-27 = (from (Refused 27), is-27);
+    refused-32 = (from (Refused 32), is-32);
     refused-28 = (from (Refused 28), is-28);
     refused-25 = (from (Refused 25), is-25);
     refused-29 = (from (Refused 29), is-29);
@@ -237,18 +255,21 @@ module _ (b key : List ℕ) (r : ℕ) where
   one-answer a a′ s t = cases
       (λ c. s .refused-24 .1 c ∙ sym (t .refused-24 .1 c))
       (λ c. s .refused-27 .1 c ∙ sym (t .refused-27 .1 c))
+      (λ c. s .refused-32 .1 c ∙ sym (t .refused-32 .1 c))
       (λ c. s .refused-28 .1 c ∙ sym (t .refused-28 .1 c))
       (λ c. s .refused-25 .1 c ∙ sym (t .refused-25 .1 c))
       (λ c. s .refused-29 .1 c ∙ sym (t .refused-29 .1 c))
       (λ c. s .refused-30 .1 c ∙ sym (t .refused-30 .1 c))
       (λ c. s .accepted .1 c ∙ sym (t .accepted .1 c))
 
-  -- Theorem: on a sound index insertion refuses with 29 exactly when the key has k bytes, the record number is above 0 and the key is among the leaves' pairs
-  pub present-exactly : (s : Sound b) → (insertRule b key r .answer ≡ Refused 29) ↔ ((length key ≡ keyLength b) × (0 < r) × HasKey key (leafPairs b s))
+  -- Theorem: on a sound index insertion refuses with 29 exactly when the key has k bytes, none below 0x20, the record number is above 0 and the key is among
+  -- the leaves' pairs
+  pub present-exactly : (s : Sound b) → (insertRule b key r .answer ≡ Refused 29)
+      ↔ ((length key ≡ keyLength b) × (hasControl key ≡ false) × (0 < r) × HasKey key (leafPairs b s))
   present-exactly s = (
     λ e.
         let c = insertion-says .refused-29 .0 e in
         let fits = c .asked .fits in
-        (fits, c .asked .number, found-exactly b key s fits .0 (found-exactly b key (c .sound) fits .1 (c .there))),
-    λ p. is-29 (record { asked = record { header = s .header; fits = p .0; number = p .1 }; sound = s; there = p .2 }),
+        (fits, c .asked .clean, c .asked .number, found-exactly b key s fits .0 (found-exactly b key (c .sound) fits .1 (c .there))),
+    λ p. is-29 (record { asked = record { header = s .header; fits = p .0; clean = p .1; number = p .2 }; sound = s; there = p .3 }),
   )

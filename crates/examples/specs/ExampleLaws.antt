@@ -20,6 +20,7 @@ use Rattle.sound.specs.Rule as audit
 use Rattle.sound.specs.Accepted.{accepted}
 use Rattle.layout.specs.Layout as layout
 use Rattle.layout.specs.Entries as entries
+use Rattle.layout.specs.Supply as supply
 use Rattle.insert.specs.Insertion as insertion
 use Rattle.insert.specs.Fresh as fresh
 use Rattle.insert.specs.Room as room
@@ -30,26 +31,16 @@ use Rattle.examples.specs.Examples.{ascii, shown, answer, examples}
 
 -- Theorem: every call of the list answers as the paper says
 pub examples-hold : map (λ e. answer (e .0)) examples ≡ map (λ e. e .1) examples
-unfolding examples answer ascii reading.readNumber format.formatGood chars.every chars.unpadded reading.some reading.after reading.front
-    reading.hasMinus reading.withoutMinus reading.wholeGood reading.fractionGood reading.wholePart reading.fraction reading.withoutPoint
-    reading.digits chars.numberFrom chars.numberOf reading.textGood reading.signed reading.valueOf reading.digitCount date.dateOf date.dateOfNumbers
-    date.isFieldDate calendar.isDate calendar.daysInMonth calendar.rowOf calendar.isLeap calendar.monthLengths tree.tree000 tree.padded tree.page
-    tree.entry bytes.le16 bytes.le32 bytes.be32 bytes.toLe16 bytes.toLe32 bytes.toBe32 store.window order.bytesLe order.ordering header.isPage
-    header.sizeGood header.keyLengthGood header.headerGood page.capacity page.entryOffset page.attributeGood page.countGood page.pageGood
-    page.firstAtOrAbove pages.items pages.itemsAt pages.entriesAt lookup.entrySays lookup.pageSays lookup.visitRule lookup.lookupFrom
-    lookup.lookupRule audit.leafEntriesGood audit.upperEntriesGood audit.chain children.isLeaf audit.markedFrom audit.entriesFit audit.pageFits
-    audit.checkPage audit.checkPages audit.rootLevel audit.nextLevel audit.levelsUnder audit.pagesGood audit.unmarked shown tree100.key100
-    tree100.grown store.put layout.encode layout.area layout.withEntries layout.newPage layout.linkBeyond layout.splitPage entries.raised
-    insertion.takeIn insertion.insertUnder insertion.insertedBuffer fresh.freshHeader fresh.freshBuffer fresh.freshRule fresh.printable
-    fresh.expressionGood room.pathFrom room.noRoom calls.insertRule
+unfolding examples answer ascii reading.readNumber format.formatGood chars.every chars.unpadded reading.some reading.after reading.front reading.hasMinus reading.withoutMinus reading.wholeGood reading.fractionGood reading.wholePart reading.fraction reading.withoutPoint reading.digits chars.numberFrom chars.numberOf reading.textGood reading.signed reading.valueOf reading.digitCount date.dateOf date.dateOfNumbers date.isFieldDate calendar.isDate calendar.daysInMonth calendar.rowOf calendar.isLeap calendar.monthLengths tree.tree000 tree.padded tree.page tree.entry bytes.le16 bytes.le32 bytes.be32 bytes.toLe16 bytes.toLe32 bytes.toBe32 store.window order.bytesLe order.ordering header.isPage header.sizeGood header.keyLengthGood header.headerGood page.capacity page.entryOffset page.attributeGood page.countGood page.pageGood page.firstAtOrAbove pages.items pages.itemsAt pages.entriesAt lookup.entrySays lookup.pageSays lookup.visitRule lookup.lookupFrom lookup.lookupRule audit.leafEntriesGood audit.upperEntriesGood audit.chain children.isLeaf audit.markedFrom audit.entriesFit audit.pageFits audit.checkPage audit.checkPages audit.rootLevel audit.nextLevel audit.levelsUnder audit.heightOf audit.upperPagesGood audit.upperLevelsGood audit.shapeGood audit.keysAboveGood audit.pagesGood audit.unmarked shown tree100.key100 tree100.grown store.put layout.encode layout.area layout.withEntries layout.newPage layout.linkBeyond layout.splitPage entries.raised insertion.takeIn insertion.insertUnder insertion.insertedBuffer fresh.freshHeader fresh.freshBuffer fresh.freshRule fresh.printable fresh.expressionGood room.pathFrom room.noRoom calls.insertRule supply.supplyOf supply.takePage supply.supplyAfter supply.withSupply calls.hasControl
 examples-hold = refl
 
 -- the audit's tests of the tree in 000
 tree000-tests : (header.headerGood tree.tree000 ≡ true) × (audit.pagesGood tree.tree000 audit.unmarked ≡ true)
-unfolding order.ordering tree.tree000 tree.padded tree.page tree.entry bytes.le16 bytes.le32 bytes.be32 bytes.toLe16 bytes.toLe32 bytes.toBe32
-    store.window order.bytesLe header.isPage header.sizeGood header.keyLengthGood header.headerGood page.capacity page.countGood pages.items
-    pages.itemsAt pages.entriesAt audit.leafEntriesGood audit.upperEntriesGood audit.chain children.isLeaf audit.markedFrom audit.entriesFit
-    audit.pageFits audit.checkPage audit.checkPages audit.rootLevel audit.nextLevel audit.levelsUnder audit.pagesGood audit.unmarked
+unfolding order.ordering tree.tree000 tree.padded tree.page tree.entry bytes.le16 bytes.le32 bytes.be32 bytes.toLe16 bytes.toLe32 bytes.toBe32 store.window
+    order.bytesLe header.isPage header.sizeGood header.keyLengthGood header.headerGood page.capacity page.countGood pages.items pages.itemsAt
+    pages.entriesAt audit.leafEntriesGood audit.upperEntriesGood audit.chain children.isLeaf audit.markedFrom audit.entriesFit audit.pageFits
+    audit.checkPage audit.checkPages audit.rootLevel audit.nextLevel audit.levelsUnder audit.heightOf audit.upperPagesGood audit.upperLevelsGood
+    audit.shapeGood audit.keysAboveGood audit.pagesGood audit.unmarked
 tree000-tests = (refl, refl)
 
 -- Theorem: the tree in 000 is sound, "every page but the first is reached from the root exactly once" and all the rest, by the audit's theorem

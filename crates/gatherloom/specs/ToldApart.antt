@@ -47,7 +47,7 @@ use Rattle.lookup.specs.declared.Answer.the-variants as looked
 use Rattle.sound.specs.Rule.{pagesGood, unmarked}
 use Rattle.insert.specs.Room.{noRoom}
 use Rattle.insert.specs.Fresh.{expressionGood, freshRule}
-use Rattle.insert.specs.Calls.{insertionCode, isFound, insertRule}
+use Rattle.insert.specs.Calls.{insertionCode, hasControl, isFound, insertRule}
 use Rattle.insert.specs.declared.Insertion.{Insertion}
 use Rattle.insert.specs.declared.Insertion.the-variants as insertion
 use Rattle.gatherloom.specs.Answers.{checkedCode, writingCode}
@@ -306,15 +306,17 @@ unfolding insertRule
 insert-refusal b key r n e =
     either (headerGood b)
     (λ good. either (eqb (length key) (keyLength b))
-    (λ fits. either (eqb r 0)
-    (λ none. insertion-numbered 28 n (lit< tt, lit< tt) (rw (good, fits, none, insertRule) at e))
+    (λ fits. either (hasControl key)
+    (λ control. insertion-numbered 32 n (lit< tt, lit< tt) (rw (good, fits, control, insertRule) at e))
+    (λ clean. either (eqb r 0)
+    (λ none. insertion-numbered 28 n (lit< tt, lit< tt) (rw (good, fits, clean, none, insertRule) at e))
     (λ some. either (pagesGood b unmarked)
     (λ sound. either (isFound (lookupRule b key))
-    (λ found. insertion-numbered 29 n (lit< tt, lit< tt) (rw (good, fits, some, sound, found, insertRule) at e))
+    (λ found. insertion-numbered 29 n (lit< tt, lit< tt) (rw (good, fits, clean, some, sound, found, insertRule) at e))
     (λ absent. either (noRoom (keyLength b) b key)
-    (λ full. insertion-numbered 30 n (lit< tt, lit< tt) (rw (good, fits, some, sound, absent, full, insertRule) at e))
-    (λ room. let q : insertion.Accepted ≡ insertion.Refused n = rw (good, fits, some, sound, absent, room, insertRule) at e in impossible (cc))))
-    (λ bad. insertion-numbered 25 n (lit< tt, lit< tt) (rw (good, fits, some, bad, insertRule) at e))))
+    (λ full. insertion-numbered 30 n (lit< tt, lit< tt) (rw (good, fits, clean, some, sound, absent, full, insertRule) at e))
+    (λ room. let q : insertion.Accepted ≡ insertion.Refused n = rw (good, fits, clean, some, sound, absent, room, insertRule) at e in impossible (cc))))
+    (λ bad. insertion-numbered 25 n (lit< tt, lit< tt) (rw (good, fits, clean, some, bad, insertRule) at e)))))
     (λ misfit. insertion-numbered 27 n (lit< tt, lit< tt) (rw (good, misfit, insertRule) at e)))
     (λ bad. insertion-numbered 24 n (lit< tt, lit< tt) (rw (bad, insertRule) at e))
 

@@ -7,7 +7,7 @@ use native.Mathlib.Numerals.{add-one}
 use lib.ListN.{length, drop, getD, drop-of-length-le}
 use lib.Seq.{drop-cons}
 use lib.Dec.{leb}
-use borrow.Author.Tests.{eq-eqb, ne-eqb, leb-true, le-leb, lt-leb}
+use borrow.Author.Tests.{eq-eqb, ne-eqb, leb-true, le-leb, lt-leb, lt-ltb, le-ltb}
 use Rattle.basis.specs.Tests.{contra, both}
 use Rattle.octets.specs.Store.{put}
 use Rattle.page.specs.Header.{minBytes, pageSize, noPage, keyLength, keyLengthGood, headerGood}
@@ -17,7 +17,7 @@ use Rattle.lookup.specs.Lookup.{lookupRule}
 use Rattle.layout.specs.Layout.{headerBytes, newPage}
 use Rattle.insert.specs.Insertion.{insertedBuffer}
 use Rattle.insert.specs.Room.{noRoom}
-use Rattle.insert.specs.Calls.{afterCall, isFound, insertRule}
+use Rattle.insert.specs.Calls.{afterCall, hasControl, isFound, insertRule}
 use Rattle.insert.specs.Fresh.{printable, maxExpression, expressionGood, freshHeader, freshBuffer, freshRule}
 use Rattle.insert.specs.declared.Insertion.the-variants.{Accepted, Refused}
 
@@ -33,29 +33,48 @@ module _ (b key : List ℕ) (r : ℕ) where
     refused-27 s = rw (header, ne-eqb (length key) (keyLength b) s, insertRule)
 
     module _ (same : length key ≡ keyLength b) where
-      pub refused-28 : r ≡ 0 → insertRule b key r ≡ afterCall b (Refused 28)
+      pub refused-32 : hasControl key ≡ true → insertRule b key r ≡ afterCall b (Refused 32)
       unfolding insertRule
-      refused-28 z = rw (header, eq-eqb (length key) (keyLength b) same, eq-eqb r 0 z, insertRule)
+      refused-32 c = rw (header, eq-eqb (length key) (keyLength b) same, c, insertRule)
 
-      module _ (some : r ≡ 0 → ⊥) where
-        pub refused-25 : pagesGood b unmarked ≡ false → insertRule b key r ≡ afterCall b (Refused 25)
+      module _ (clean : hasControl key ≡ false) where
+        pub refused-28 : r ≡ 0 → insertRule b key r ≡ afterCall b (Refused 28)
         unfolding insertRule
-        refused-25 e = rw (header, eq-eqb (length key) (keyLength b) same, ne-eqb r 0 some, e, insertRule)
+        refused-28 z = rw (header, eq-eqb (length key) (keyLength b) same, clean, eq-eqb r 0 z, insertRule)
 
-        module _ (sound : pagesGood b unmarked ≡ true) where
-          pub refused-29 : isFound (lookupRule b key) ≡ true → insertRule b key r ≡ afterCall b (Refused 29)
+        module _ (some : r ≡ 0 → ⊥) where
+          pub refused-25 : pagesGood b unmarked ≡ false → insertRule b key r ≡ afterCall b (Refused 25)
           unfolding insertRule
-          refused-29 e = rw (header, eq-eqb (length key) (keyLength b) same, ne-eqb r 0 some, sound, e, insertRule)
+          refused-25 e = rw (header, eq-eqb (length key) (keyLength b) same, clean, ne-eqb r 0 some, e, insertRule)
 
-          module _ (absent : isFound (lookupRule b key) ≡ false) where
-            pub refused-30 : noRoom (keyLength b) b key ≡ true → insertRule b key r ≡ afterCall b (Refused 30)
+          module _ (sound : pagesGood b unmarked ≡ true) where
+            pub refused-29 : isFound (lookupRule b key) ≡ true → insertRule b key r ≡ afterCall b (Refused 29)
             unfolding insertRule
-            refused-30 e = rw (header, eq-eqb (length key) (keyLength b) same, ne-eqb r 0 some, sound, absent, e, insertRule)
+            refused-29 e = rw (header, eq-eqb (length key) (keyLength b) same, clean, ne-eqb r 0 some, sound, e, insertRule)
 
-            pub accepted-pair : {out : List ℕ} → noRoom (keyLength b) b key ≡ false → out ≡ insertedBuffer (keyLength b) b key r
-                → insertRule b key r ≡ afterCall out Accepted
-            unfolding insertRule
-            accepted-pair e q = rw (header, eq-eqb (length key) (keyLength b) same, ne-eqb r 0 some, sound, absent, e, insertRule, q)
+            module _ (absent : isFound (lookupRule b key) ≡ false) where
+              pub refused-30 : noRoom (keyLength b) b key ≡ true → insertRule b key r ≡ afterCall b (Refused 30)
+              unfolding insertRule
+              refused-30 e = rw (header, eq-eqb (length key) (keyLength b) same, clean, ne-eqb r 0 some, sound, absent, e, insertRule)
+
+              pub accepted-pair : {out : List ℕ} → noRoom (keyLength b) b key ≡ false → out ≡ insertedBuffer (keyLength b) b key r
+                  → insertRule b key r ≡ afterCall out Accepted
+              unfolding insertRule
+              accepted-pair e q = rw (header, eq-eqb (length key) (keyLength b) same, clean, ne-eqb r 0 some, sound, absent, e, insertRule, q)
+
+-- the bytes of a key, one after another: a control byte decides, any other leaves the rest to decide
+module _ (s : List ℕ) (i : ℕ) {c : ℕ} (h : i < length s) (e : c ≡ getD s i 0) where
+  pub control-here : c < 0x20 → hasControl (drop i s) ≡ true
+  unfolding hasControl
+  control-here l = rw (drop-cons s i 0 h, ← e, lt-ltb c 0x20 l)
+
+  pub control-later : 0x20 ≤ c → hasControl (drop i s) ≡ hasControl (drop (i + 1) s)
+  unfolding hasControl
+  control-later l = rw (add-one, drop-cons s i 0 h, ← e, le-ltb c 0x20 l)
+
+pub control-end : (s : List ℕ) (i : ℕ) → length s ≤ i → hasControl (drop i s) ≡ false
+unfolding hasControl
+control-end s i h = rw (drop-of-length-le s h)
 
 -- a conjunction of three tests, by the first two
 first-fails : (a b x : Bool) → (a && b) ≡ false → (a && b && x) ≡ false

@@ -1,9 +1,9 @@
--- Rules: what insertion answers and leaves, "in this order: 24, 27, 28, 25 by full audit, 29 if the key is in a leaf, 30".
+-- Rules: what insertion answers and leaves, "in this order: 24, 27, 28, 25 by full audit, 29 if the key is in a leaf, 30", and 32 "after 27 and before 28".
 use Prim.Native.Nat.{ℕ}
-use mathlib.Core.Bool.{Bool, true, false}
-use mathlib.Core.List.{List}
+use mathlib.Core.Bool.{Bool, true, false, _||_}
+use mathlib.Core.List.{List, [], _∷_}
 use lib.ListN.{length}
-use lib.Dec.{eqb}
+use lib.Dec.{eqb, ltb}
 use Rattle.page.specs.Header.{headerGood, keyLength}
 use Rattle.sound.specs.Rule.{pagesGood, unmarked}
 use Rattle.lookup.specs.Lookup.{lookupRule}
@@ -27,6 +27,11 @@ abbrev pub insertionCode : Insertion → ℕ
 insertionCode Accepted = 0
 insertionCode (Refused n) = n
 
+-- "Insertion refuses a key with any byte below 0x20, number 32"
+unfoldable pub hasControl : List ℕ → Bool
+hasControl [] = false
+hasControl (c ∷ s) = ltb c 0x20 || hasControl s
+
 -- "29 if the key is in a leaf": lookup's steps lead to that leaf
 abbrev pub isFound : Answer → Bool
 isFound (looked.Found r pages) = true
@@ -40,15 +45,18 @@ insertRule b key number =
       | false ↦ afterCall b (Refused 24)
       | true ↦ elim (eqb (length key) (keyLength b)) [
         | false ↦ afterCall b (Refused 27)
-        | true ↦ elim (eqb number 0) [
-          | true ↦ afterCall b (Refused 28)
-          | false ↦ elim (pagesGood b unmarked) [
-            | false ↦ afterCall b (Refused 25)
-            | true ↦ elim (isFound (lookupRule b key)) [
-              | true ↦ afterCall b (Refused 29)
-              | false ↦ elim (noRoom (keyLength b) b key) [
-                | true ↦ afterCall b (Refused 30)
-                | false ↦ afterCall (insertedBuffer (keyLength b) b key number) Accepted
+        | true ↦ elim (hasControl key) [
+          | true ↦ afterCall b (Refused 32)
+          | false ↦ elim (eqb number 0) [
+            | true ↦ afterCall b (Refused 28)
+            | false ↦ elim (pagesGood b unmarked) [
+              | false ↦ afterCall b (Refused 25)
+              | true ↦ elim (isFound (lookupRule b key)) [
+                | true ↦ afterCall b (Refused 29)
+                | false ↦ elim (noRoom (keyLength b) b key) [
+                  | true ↦ afterCall b (Refused 30)
+                  | false ↦ afterCall (insertedBuffer (keyLength b) b key number) Accepted
+                ]
               ]
             ]
           ]

@@ -6,11 +6,12 @@ use mathlib.Core.Bool.{true, cond}
 use mathlib.Core.List.{List, [], _∷_}
 use lib.ListN.{length}
 use Rattle.octets.specs.Order.{bytesLe}
-use Rattle.page.specs.Header.{maxKey, isPage}
+use Rattle.page.specs.Header.{maxKey, maxOffset, pageSize, isPage}
 use Rattle.page.specs.Page.{capacity, entryArea}
 use Rattle.page.specs.Within.{Within}
 use Rattle.page.specs.Reading.{Item}
 use Rattle.layout.specs.Layout.{itemsIn}
+use Rattle.layout.specs.declared.Supply.{Supply}
 
 -- the page has room for the n entries
 pub record Given (b : List ℕ) (k p n : ℕ) (s : List ℕ) : Type 0 where
@@ -29,6 +30,10 @@ pub record Listed (b : List ℕ) (k p n : ℕ) : Type 0 where
   pub key : k ≤ maxKey
   pub page : isPage (length b) p ≡ true
   pub count : n ≡ length (itemsIn k b p)
+
+-- n pages more can be taken from a supply, and the file's end then still has 32 bits
+abbrev pub Lasts : ℕ → Supply → Type 0
+Lasts n supply = supply .end .0 + pageSize * n ≤ maxOffset
 
 -- the room in which entries are gathered: the entry area and one entry more
 abbrev pub roomSize : ℕ

@@ -1,4 +1,4 @@
-// Writes the header and pages: their numbers, the entries gathered for a page, a page's entries, a new page, and a page that is split.
+// Writes the header and pages: their numbers, the supply of new pages, the entries gathered for a page, a page's entries, a new page, and a page that is split.
 use page::Page;
 use page::PageOffset;
 use page::RecordNumber;
@@ -19,10 +19,22 @@ ghost use Rattle.page.specs.Reading.{items};
 ghost use Rattle.layout.specs.Layout.{withAttribute, withCount, withLeft, withRight, withRoot, withFree, withSize, headerBytes};
 ghost use Rattle.layout.specs.Layout.{itemsIn, encode, withEntries, newPage, linkBeyond, splitPage, linkBefore, unlinked, freed};
 ghost use Rattle.layout.specs.Entries.{chosen, childOf, replaced, raised, twoFor, rootEntries, withoutEntry};
-ghost use Rattle.layout.specs.Given.{Given, Over, Listed, roomSize, chosenAt};
+ghost use Rattle.layout.specs.Supply.{supplyOf, takePage, supplyAfter, withSupply};
+ghost use Rattle.layout.specs.Given.{Given, Over, Listed, Lasts, roomSize, chosenAt};
 
 // The room in which the entries of a page are gathered: the entry area and one more entry with the longest key.
 pub const ROOM: usize = Page::ENTRY_AREA + page::MAX_KEY + 4;
+
+// The supply of new pages: the file's end, at which the next one begins.
+pub struct Supply {
+    pub end: PageOffset,
+}
+
+// A new page, and the supply after it was taken.
+pub struct Taken {
+    pub page: PageOffset,
+    pub rest: Supply,
+}
 
 // Gives a page the attribute `attribute`.
 fn set_attribute(index: &mut [u8], page: PageOffset, attribute: u32)
@@ -73,11 +85,57 @@ fn set_free(index: &mut [u8], free: PageOffset)
 }
 
 // Gives the header the size of a file that ends at `end`.
-pub fn set_file_end(index: &mut [u8], end: PageOffset)
+fn set_file_end(index: &mut [u8], end: PageOffset)
     requires { ⌜ pageSize ≤ length (now index) ⌝ }
     ensures { λ _. ⌜ now (index .exit) ≡ withSize (now (index .entry)) (end .0) ⌝ }
 {
     octets::store_le32(index, page::SIZE_PLACE, end.0);
+}
+
+// The supply of an index.
+pub fn supply_of(index: &[u8]) -> Supply
+    requires { ⌜ pageSize ≤ length (now index) ⌝ }
+    ensures { λ r. ⌜ r ≡ supplyOf (now (index .entry)) ⌝ }
+{
+    Supply {
+        end: page::file_end(index),
+    }
+}
+
+// Takes a page from a supply, before the page is written. Pages at the file's end are taken without a look at the index.
+pub fn take_page(index: &[u8], supply: Supply) -> Taken
+    requires { ⌜ Lasts 1 supply ⌝ }
+    ensures { λ r. ⌜ r ≡ takePage (now (index .entry)) supply ⌝ }
+{
+    let end = supply.end;
+    let next = page::next_page(end);
+    Taken {
+        page: end,
+        rest: Supply { end: next },
+    }
+}
+
+// The supply after `count` pages were taken from it.
+pub fn supply_after(index: &[u8], supply: Supply, count: u32) -> Supply
+    requires { ⌜ Lasts count supply ⌝ }
+    ensures { λ r. ⌜ r ≡ supplyAfter count (now (index .entry)) supply ⌝ }
+{
+    let mut rest = supply;
+    let mut i = 0;
+    while i < count {
+        let taken = take_page(index, rest);
+        rest = taken.rest;
+        i += 1;
+    }
+    rest
+}
+
+// Stores in the header what it keeps of a supply.
+pub fn set_supply(index: &mut [u8], supply: Supply)
+    requires { ⌜ pageSize ≤ length (now index) ⌝ }
+    ensures { λ _. ⌜ now (index .exit) ≡ withSupply (now (index .entry)) supply ⌝ }
+{
+    set_file_end(index, supply.end);
 }
 
 // Writes the whole header, with zeros after the key expression.

@@ -6,7 +6,7 @@ use mathlib.Core.List.{List}
 use mathlib.Core.Logic.{_⊎_, inl, inr}
 use Prim.Native.Nat.{ℕ, suc, _+_, _-_, _^_, _≤_, _<_}
 use native.Mathlib.Omega.{arith}
-use lib.ListN.{length, take, drop, length-take, length-drop}
+use lib.ListN.{length, take, drop, length-append, length-take, length-drop}
 use lib.Dec.{leb, eqb}
 use borrow.Author.Tests.{leb-true, eqb-true, eqb-false, ne-eqb}
 use Rattle.basis.specs.Lists.{All}
@@ -66,6 +66,10 @@ module _ (b : List ℕ) (x : ℕ) (tx : isPage (length b) x ≡ true) (z : ℕ) 
       (λ u. let same : i ≡ at = omega (arith, eqb-true z x u) in
       rw (u, same) (le32-put b at v h (omega (arith, is-page (length b) x tx .high))))
       (λ u. rw u (le32-same (put b at (toLe32 v)) b i (kept at (toLe32 v) i 4 l (omega arith) (omega arith) (omega arith) (λ q. absurd (eqb-false z x u q)))))
+
+  -- a store into the page at x keeps the right neighbour of another page
+  right-other : (z ≡ x → ⊥) → (at : ℕ) (ys : List ℕ) → x ≤ at → at + length ys ≤ x + pageSize → rightAt (put b at ys) z ≡ rightAt b z
+  right-other ne at ys l m = le32-same (put b at ys) b (z + 8) (kept at ys (z + 8) 4 l m (omega arith) (omega arith) (λ e. absurd (ne e)))
 
   -- a store into the page's entries, its count, its attribute, its left link, its right link
   put-entries : (at : ℕ) (ys : List ℕ) → x + entriesStart ≤ at → at + length ys ≤ x + pageSize → SameHead b (put b at ys) z
@@ -188,6 +192,13 @@ module _ (k : ℕ) where
     pub raised-header : SameHeader b (raised k b key p)
     raised-header = let g = is-page (length b) p tp .low in raised-as (λ c. SameHeader b c) refl (λ at l m. put-outside b at key (omega arith))
 
+  -- a page that is written whole keeps the right neighbours of all others
+  right-new : (b : List ℕ) (q a l r : ℕ) (es : List Item) → isPage (length b) q ≡ true → All (Fit k) es → length es ≤ capacity k
+      → (z : ℕ) → isPage (length b) z ≡ true → (z ≡ q → ⊥) → rightAt (newPage b q a l r es) z ≡ rightAt b z
+  unfolding newPage
+  right-new b q a l r es tq f few z tz ne = right-other b q tq z tz ne q _ (omega arith)
+      (simp (length-append, length-toLe16, length-toLe32) (omega (arith, length-area k es f few)))
+
   -- a page that is written whole
   module _ (b : List ℕ) (q a l r : ℕ) (es : List Item) (tq : isPage (length b) q ≡ true) (ha : a < 2 ^ 16) (hl : l < 2 ^ 32) (hr : r < 2 ^ 32)
       (f : All (Fit k) es) (few : length es ≤ capacity k) where
@@ -237,8 +248,7 @@ module _ (k : ℕ) where
 
   -- the page at p is split, with the new page at q: neither has the root bit, and q stands between p and the page beyond
   module _ (b : List ℕ) (p : ℕ) (es : List Item) (q : ℕ) (tp : isPage (length b) p ≡ true) (tq : isPage (length b) q ≡ true) (ne : p ≡ q → ⊥)
-      (f : All (Fit k) es) (two : 1 < capacity k) (few : length es ≤ suc (capacity k)) (p32 : p < 2 ^ 32) (q32 : q < 2 ^ 32)
-      (a16 : attributeAt b p < 2 ^ 16) (r32 : rightAt b p < 2 ^ 32) where
+      (f : All (Fit k) es) (two : 1 < capacity k) (few : length es ≤ suc (capacity k)) where
     abbrev m : ℕ
     m = half (length es)
 
@@ -272,35 +282,50 @@ module _ (k : ℕ) where
     upper-few : length (drop m es) ≤ capacity k
     upper-few = simp length-drop (omega arith)
 
-    pub split-head : (z : ℕ) → isPage (length b) z ≡ true → Head (splitPage b p es q) z
-        (cond (eqb z q) (withoutRoot (attributeAt b p)) (cond (eqb z p) (withoutRoot (attributeAt b p)) (attributeAt b z)))
-        (cond (eqb z q) (length (drop (half (length es)) es)) (cond (eqb z p) (length (take (half (length es)) es)) (countAt b z)))
-        (cond (eqb z q) p (cond (eqb z (rightAt b p)) q (leftAt b z)))
-        (cond (eqb z p) q (cond (eqb z q) (rightAt b p) (rightAt b z)))
+    -- all other pages keep their right neighbour
+    pub split-rights : q < 2 ^ 32 → (z : ℕ) → isPage (length b) z ≡ true → (z ≡ p → ⊥) → (z ≡ q → ⊥) → rightAt (splitPage b p es q) z ≡ rightAt b z
     unfolding splitPage
-    split-head z tz =
+    split-rights q32 z tz np nq =
         let a = withoutRoot (attributeAt b p) in
         let r = rightAt b p in
-        let gp = is-page (length b) p tp in
-        let e0 = with-head b p (take m es) tp (halves-fit k es m f .0) lower-few z tz in
-        let e1 = put-attribute s0 p (page-of p n0 tp) z (page-of z n0 tz) a (omega arith) in
-        let e2 = put-right s1 p (page-of p n1 tp) z (page-of z n1 tz) q q32 in
-        let e3 = beyond-head s2 r q q32 z (page-of z n2 tz) in
-        let e4 = new-head s3 q a p r (drop m es) (page-of q n3 tq) (omega arith) p32 r32 (halves-fit k es m f .1) upper-few z (page-of z n3 tz) in
-        record {
-          attributeIs = e4 .attributeIs ∙ ap (cond (eqb z q) a) (e3 .attributeIs ∙ e2 .attributeIs ∙ e1 .attributeIs ∙ ap (cond (eqb z p) a) (e0 .attributeIs));
-          countIs = e4 .countIs ∙ ap (cond (eqb z q) (length (drop m es))) (e3 .countIs ∙ e2 .countIs ∙ e1 .countIs ∙ e0 .countIs);
-          leftIs = e4 .leftIs ∙ ap (cond (eqb z q) p) (e3 .leftIs ∙ ap (cond (eqb z r) q) (e2 .leftIs ∙ e1 .leftIs ∙ e0 .leftIs));
-          rightIs = e4 .rightIs ∙ ap (cond (eqb z q) r) (e3 .rightIs ∙ e2 .rightIs ∙ ap (cond (eqb z p) q) (e1 .rightIs ∙ e0 .rightIs))
-              ∙ either (eqb z p) (λ u. rw (u, ne-eqb z q (λ v. ne (sym (eqb-true z p u) ∙ v)))) (λ u. rw u);
-        }
+        let e0 = with-head b p (take m es) tp (halves-fit k es m f .0) lower-few z tz .rightIs in
+        let e1 = right-other s0 p (page-of p n0 tp) z (page-of z n0 tz) np p (toLe16 a) (omega arith) (omega (arith, length-toLe16 a)) in
+        let e2 = right-other s1 p (page-of p n1 tp) z (page-of z n1 tz) np (p + 8) (toLe32 q) (omega arith) (omega (arith, length-toLe32 q)) in
+        let e3 = beyond-head s2 r q q32 z (page-of z n2 tz) .rightIs in
+        let e4 = right-new s3 q a p r (drop m es) (page-of q n3 tq) (halves-fit k es m f .1) upper-few z (page-of z n3 tz) nq in
+        e4 ∙ e3 ∙ e2 ∙ e1 ∙ e0
 
-    pub split-header : SameHeader b (splitPage b p es q)
-    unfolding splitPage
-    split-header =
-        let g = is-page (length b) p tp .low in
-        new-header s3 q (withoutRoot (attributeAt b p)) p (rightAt b p) (drop m es) (page-of q n3 tq) (omega arith) p32 r32 (halves-fit k es m f .1) upper-few
-        ∙ beyond-header s2 (rightAt b p) q q32
-        ∙ put-outside s1 (p + 8) (toLe32 q) (omega arith)
-        ∙ put-outside s0 p (toLe16 (withoutRoot (attributeAt b p))) g
-        ∙ with-header b p (take m es) tp (halves-fit k es m f .0) lower-few
+    module _ (p32 : p < 2 ^ 32) (q32 : q < 2 ^ 32) (a16 : attributeAt b p < 2 ^ 16) (r32 : rightAt b p < 2 ^ 32) where
+      pub split-head : (z : ℕ) → isPage (length b) z ≡ true → Head (splitPage b p es q) z
+          (cond (eqb z q) (withoutRoot (attributeAt b p)) (cond (eqb z p) (withoutRoot (attributeAt b p)) (attributeAt b z)))
+          (cond (eqb z q) (length (drop (half (length es)) es)) (cond (eqb z p) (length (take (half (length es)) es)) (countAt b z)))
+          (cond (eqb z q) p (cond (eqb z (rightAt b p)) q (leftAt b z)))
+          (cond (eqb z p) q (cond (eqb z q) (rightAt b p) (rightAt b z)))
+      unfolding splitPage
+      split-head z tz =
+          let a = withoutRoot (attributeAt b p) in
+          let r = rightAt b p in
+          let gp = is-page (length b) p tp in
+          let e0 = with-head b p (take m es) tp (halves-fit k es m f .0) lower-few z tz in
+          let e1 = put-attribute s0 p (page-of p n0 tp) z (page-of z n0 tz) a (omega arith) in
+          let e2 = put-right s1 p (page-of p n1 tp) z (page-of z n1 tz) q q32 in
+          let e3 = beyond-head s2 r q q32 z (page-of z n2 tz) in
+          let e4 = new-head s3 q a p r (drop m es) (page-of q n3 tq) (omega arith) p32 r32 (halves-fit k es m f .1) upper-few z (page-of z n3 tz) in
+          record {
+            attributeIs = e4 .attributeIs
+                ∙ ap (cond (eqb z q) a) (e3 .attributeIs ∙ e2 .attributeIs ∙ e1 .attributeIs ∙ ap (cond (eqb z p) a) (e0 .attributeIs));
+            countIs = e4 .countIs ∙ ap (cond (eqb z q) (length (drop m es))) (e3 .countIs ∙ e2 .countIs ∙ e1 .countIs ∙ e0 .countIs);
+            leftIs = e4 .leftIs ∙ ap (cond (eqb z q) p) (e3 .leftIs ∙ ap (cond (eqb z r) q) (e2 .leftIs ∙ e1 .leftIs ∙ e0 .leftIs));
+            rightIs = e4 .rightIs ∙ ap (cond (eqb z q) r) (e3 .rightIs ∙ e2 .rightIs ∙ ap (cond (eqb z p) q) (e1 .rightIs ∙ e0 .rightIs))
+                ∙ either (eqb z p) (λ u. rw (u, ne-eqb z q (λ v. ne (sym (eqb-true z p u) ∙ v)))) (λ u. rw u);
+          }
+
+      pub split-header : SameHeader b (splitPage b p es q)
+      unfolding splitPage
+      split-header =
+          let g = is-page (length b) p tp .low in
+          new-header s3 q (withoutRoot (attributeAt b p)) p (rightAt b p) (drop m es) (page-of q n3 tq) (omega arith) p32 r32 (halves-fit k es m f .1) upper-few
+          ∙ beyond-header s2 (rightAt b p) q q32
+          ∙ put-outside s1 (p + 8) (toLe32 q) (omega arith)
+          ∙ put-outside s0 p (toLe16 (withoutRoot (attributeAt b p))) g
+          ∙ with-header b p (take m es) tp (halves-fit k es m f .0) lower-few

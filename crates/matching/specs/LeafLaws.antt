@@ -4,32 +4,26 @@ use mathlib.Core.Path.{_≡_, refl, sym, ap, _∙_}
 use mathlib.Core.Bool.{Bool, true, false}
 use mathlib.Core.List.{List, [], _∷_}
 use native.Mathlib.Omega.{arith}
-use lib.ListN.{length, length-append}
 use lib.Dec.{eqb}
 use borrow.Author.Tests.{eq-eqb, ne-eqb}
 use Rattle.basis.specs.Lists.{All, all-map}
 use Rattle.tree.specs.Lists.{NonEmpty, concatMap}
 use Rattle.tree.specs.ListLaws.{all-map2}
-use Rattle.tree.specs.Clauses.{headOr, Linked}
+use Rattle.tree.specs.Clauses.{headOr}
 use Rattle.page.specs.Header.{maxBytes, maxLevels, noPage, rootOffset, fileSize, keyLength, isPage}
 use Rattle.page.specs.HeaderLaws.{good-header}
 use Rattle.page.specs.Page.{attributeAt, leafBit}
 use Rattle.page.specs.Reading.{entriesAt}
 use Rattle.page.specs.Children.{isLeaf, firstChild}
-use Rattle.sound.specs.Sound.{Sound, CountGood, linksOf, leafPairs}
-use Rattle.sound.specs.Rule.{Entries, maxPages, chain, unmarked}
-use Rattle.sound.specs.Levels.{numbers, below, generation, reached, join-map, generation-below, generations-reached, all-of-map}
-use Rattle.sound.specs.Levels.{tree-pairs, tree-pages, level-generation, pages-generation}
-use Rattle.sound.specs.MarkLaws.{fresh-few, unmarked-length, once-fresh}
-use Rattle.sound.specs.LevelLaws.{chain-is, next-head}
-use Rattle.sound.specs.ShapeLaws.{rootEntry, levelPages, entries-filled}
+use Rattle.sound.specs.Sound.{Sound, CountGood, leafPairs}
+use Rattle.sound.specs.Rule.{Entries, maxPages, chain}
+use Rattle.sound.specs.Levels.{numbers, below, generation, join-map, generation-below, all-of-map}
+use Rattle.sound.specs.Levels.{tree-pairs, level-generation, pages-generation}
+use Rattle.sound.specs.LevelLaws.{next-head}
+use Rattle.sound.specs.ShapeLaws.{rootEntry, levelPages, entries-filled, sound-shape}
+use Rattle.sound.specs.KeyLaws.{head-all, level-chain}
 use Rattle.matching.specs.Rule.{firstLeaf, leafEntries}
 use Rattle.matching.specs.StepLaws.{first-here, first-lower}
-
--- what holds of the pages that entries name holds of the first of them
-head-all : (Q : ℕ → Type 0) (es : Entries) → NonEmpty es → All (λ e. Q (e .1)) es → Q (headOr noPage (numbers es))
-head-all Q [] s a = absurd s
-head-all Q (e ∷ es) s a = a .0
 
 module _ (b : List ℕ) (k size : ℕ) (most : size ≤ maxBytes) where
   abbrev S : ℕ → Entries
@@ -51,13 +45,6 @@ module _ (b : List ℕ) (k size : ℕ) (most : size ≤ maxBytes) where
       let inner = head-all (λ p. isLeaf b size p ≡ false) es some (all-map Inner (λ e. isLeaf b size (e .1) ≡ false) (λ e x. x .0) es here) in
       first-lower b k size l first (rw e inner)
       ∙ first-is l h (below S es) (firstChild b k size first) (omega arith) (next .1) (next .0) (λ i o. above (suc i) (omega arith)) bottom
-
-  -- a level has at most as many pages as the tree
-  level-few : (h i : ℕ) (es : Entries) → i < h → length (numbers (generation S i es)) ≤ length (reached S h es)
-  level-few zero i es l = absurd (omega arith)
-  level-few (suc h) zero es l = omega (arith, length-append (numbers es) (reached S h (below S es)))
-  level-few (suc h) (suc i) es l =
-      omega (arith, length-append (numbers es) (reached S h (below S es)), level-few h i (below S es) (omega arith))
 
 module _ (b : List ℕ) (s : Sound b) where
   abbrev K : ℕ
@@ -100,21 +87,8 @@ module _ (b : List ℕ) (s : Sound b) where
       (leaves (s .height) true (omega arith) (eq-eqb (s .height - s .height) 0 (omega arith)))
 
   -- the last level, along its right links
-  leaves-few : length (levelPages b K F R (s .height)) ≤ maxPages
-  leaves-few =
-      let all = reached B (suc (s .height)) (rootEntry R) in
-      let in-all = generations-reached B (λ p. isPage (fileSize b) p ≡ true) (suc (s .height)) (rootEntry R) (λ i l. inside i (omega arith)) in
-      let fresh = once-fresh F all (good-header b (s .header) .whole) most in-all (λ p o. sym (tree-pages B [] R (s .height) p) ∙ s .once p o) in
-      omega (
-        arith,
-        level-few b K F most (suc (s .height)) (s .height) (rootEntry R) (omega arith),
-        fresh-few F unmarked all most unmarked-length in-all fresh,
-      )
-
   leaves-chain : chain b (fileSize b) maxPages (headOr noPage (levelPages b K F R (s .height))) ≡ levelPages b K F R (s .height)
-  leaves-chain =
-      chain-is b K F most maxPages noPage (levelPages b K F R (s .height)) leaves-few (inside (s .height) (omega arith))
-      (level-generation B [] R (s .height) (λ j ps. Linked noPage (linksOf b) noPage ps) (s .links) (s .height) (omega arith))
+  leaves-chain = level-chain b K F R (good-header b (s .header) .whole) most (sound-shape b s) (s .height) (omega arith)
 
   -- Theorem: the entries that are read along the leaves are the tree's
   pub leaf-entries : leafEntries b ≡ leafPairs b s

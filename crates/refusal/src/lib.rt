@@ -1,5 +1,5 @@
-// The numbers that calls answer, each named once: document 01's refusals, and the C interface's answers that are no refusals. Code gives the names; the rules
-// in `specs/` give the numbers, to be held beside the paper.
+// The numbers that calls answer, each named once: the refusals of documents 01 and 02, and the C interface's answers that are no refusals. Code gives the
+// names; the rules in `specs/` give the numbers, to be held beside the papers.
 
 // ---- The table.
 
@@ -98,6 +98,9 @@ pub const NO_ROOM: u32 = 30;
 
 // The index and the table do not match.
 pub const INDEX_AND_TABLE_DIFFER: u32 = 31;
+
+// The key that is offered to the index has a control byte, one below 0x20.
+pub const CONTROL_BYTE: u32 = 32;
 
 // The key to strike off is absent.
 pub const KEY_ABSENT: u32 = 33;

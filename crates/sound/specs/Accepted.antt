@@ -1,4 +1,4 @@
--- Laws: the audit's test accepts exactly the sound indexes, and the three answers meet `Audited`. Cited by the proof of the audit. Assumes nothing.
+-- Laws: the audit's test accepts exactly the sound indexes, pass by pass, and the three answers meet `Audited`. Cited by the proof of the audit. Assumes nothing.
 use Prim.Native.Nat.{ℕ, zero, suc, _-_, _/_, _%_, _≤_}
 use mathlib.Core.Path.{_≡_, refl, ap, _∙_}
 use mathlib.Core.List.{List, [], _∷_}
@@ -9,16 +9,21 @@ use lib.Dec.{eqb}
 use borrow.Author.Tests.{ne-eqb}
 use Rattle.basis.specs.Lists.{All}
 use Rattle.basis.specs.Tests.{either, contra, both, join}
+use Rattle.tree.specs.Pairs.{Ascending}
+use Rattle.tree.specs.Tree.{pairs}
+use Rattle.tree.specs.Clauses.{Greatest}
 use Rattle.page.specs.Header.{maxBytes, maxLevels, pageSize, rootOffset, fileSize, keyLength, isPage, headerGood}
 use Rattle.page.specs.HeaderLaws.{good-header}
+use Rattle.page.specs.KeyOrder.{bytesOrder}
 use Rattle.page.specs.Reading.{entriesAt}
-use Rattle.sound.specs.Sound.{Sound, Audited}
-use Rattle.sound.specs.Rule.{Entries, Level, rootLevel, levelsUnder, markedFrom, complete, pagesGood, unmarked}
+use Rattle.sound.specs.Sound.{indexTree, Sound, Audited}
+use Rattle.sound.specs.Rule.{Entries, Level, rootLevel, levelsUnder, markedFrom, complete, shapeGood, keysAboveGood, pagesGood, unmarked}
 use Rattle.sound.specs.Levels.{reached, generations-reached}
 use Rattle.sound.specs.RunLaws.{markAll, Fresh}
 use Rattle.sound.specs.MarkLaws.{fresh-append, fresh-left, fresh-right, unmarked-length, marked-once, once-fresh, once-marked}
 use Rattle.sound.specs.LevelLaws.{LevelGood, Known, GoodUnder, lowerPages, Found, level-known, level-good, levels-good, levels-found, levels-reached}
-use Rattle.sound.specs.ShapeLaws.{rootEntry, GoodLevels, Shape, levels-inside, levels-counts, entries-filled, shape-sound, sound-shape}
+use Rattle.sound.specs.ShapeLaws.{rootEntry, GoodLevels, Shape, levels-inside, levels-counts, entries-filled, shape-pairs, shape-sound, sound-shape}
+use Rattle.sound.specs.KeyLaws.{height-is, keys-greatest, greatest-keys}
 
 module _ (b : List ℕ) (k size root : ℕ) (whole : size % pageSize ≡ 0) (most : size ≤ maxBytes) where
   abbrev S : ℕ → Entries
@@ -89,14 +94,38 @@ module _ (b : List ℕ) (k size root : ℕ) (whole : size % pageSize ≡ 0) (mos
       let marks : last .1 ≡ markAll unmarked (allPages (s .height)) = u .marks ∙ ap (λ (m : List ℕ). markAll m rest) (r .marks) in
       join _ _ (u .good) (join _ _ (u .leaf) (rw marks (once-marked size (allPages h) whole most inside (s .once))))
 
+-- Theorem: the first pass accepts exactly the shapes that are good
+pub shape-accepted : (b : List ℕ) → headerGood b ≡ true → (shapeGood b unmarked ≡ true) ↔ Shape b (keyLength b) (fileSize b) (rootOffset b)
+unfolding shapeGood
+shape-accepted b e =
+    let g = good-header b e in (
+      complete-shape b (keyLength b) (fileSize b) (rootOffset b) (g .whole) (g .most),
+      shape-complete b (keyLength b) (fileSize b) (rootOffset b) (g .whole) (g .most),
+    )
+
+-- and then the second pass accepts exactly the keys above pages that are the greatest under them
+pub keys-accepted : (b : List ℕ) → headerGood b ≡ true → (s : Shape b (keyLength b) (fileSize b) (rootOffset b))
+    → Ascending bytesOrder (pairs (s .height) (indexTree b (s .height))) → (keysAboveGood b ≡ true) ↔ Greatest (s .height) (indexTree b (s .height))
+unfolding keysAboveGood
+keys-accepted b e s ascending =
+    let g = good-header b e in
+    let h = height-is b (keyLength b) (fileSize b) (rootOffset b) (g .whole) (g .most) s in (
+      (λ t. keys-greatest b (keyLength b) (fileSize b) (rootOffset b) (g .whole) (g .most) s (rw h at t)),
+      (λ t. rw h (greatest-keys b (keyLength b) (fileSize b) (rootOffset b) (g .whole) (g .most) s ascending t)),
+    )
+
 -- Theorem: the audit's test accepts exactly the sound indexes
 pub accepted : (b : List ℕ) → headerGood b ≡ true → (pagesGood b unmarked ≡ true) ↔ Sound b
 unfolding pagesGood
-accepted b e =
-    let g = good-header b e in (
-      (λ h. shape-sound b e (complete-shape b (keyLength b) (fileSize b) (rootOffset b) (g .whole) (g .most) h)),
-      (λ s. shape-complete b (keyLength b) (fileSize b) (rootOffset b) (g .whole) (g .most) (sound-shape b s)),
-    )
+accepted b e = (
+  (λ h.
+      let u = both (shapeGood b unmarked) (keysAboveGood b) h in
+      let s = shape-accepted b e .0 (u .0) in
+      shape-sound b e s (keys-accepted b e s (shape-pairs b e s .0) .0 (u .1))),
+  (λ s.
+      let shape = sound-shape b s in
+      join _ _ (shape-accepted b e .1 shape) (keys-accepted b e shape (s .ascending) .1 (s .greatest))),
+)
 
 -- the three answers
 pub answer-bad : (b : List ℕ) → headerGood b ≡ false → Audited b 24

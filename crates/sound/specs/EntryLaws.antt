@@ -1,5 +1,5 @@
 -- Laws: the audit's tests of entries, page after page, say that leaf keys ascend and record numbers are above 0, and that keys above are the last of their
--- pages. Cited by the laws of levels. Assumes nothing.
+-- pages. Cited by the laws of levels and of keys above pages. Assumes nothing.
 use Prim.Native.Nat.{ℕ, _<_}
 use mathlib.Core.Path.{_≡_, refl, sym, ap, _∙_}
 use mathlib.Core.List.{List, [], _∷_, _++_}
@@ -8,7 +8,7 @@ use mathlib.Core.Option.{Option, none, some}
 use native.Mathlib.Omega.{arith}
 use lib.Dec.{eqb}
 use borrow.Author.Tests.{ne-eqb, eqb-false, not-true}
-use Rattle.basis.specs.Lists.{All, all-append, all-left, all-right}
+use Rattle.basis.specs.Lists.{All}
 use Rattle.basis.specs.Tests.{contra, both, join}
 use Rattle.tree.specs.Lists.{NonEmpty, concatMap}
 use Rattle.tree.specs.Order.{Lt}
@@ -110,14 +110,14 @@ same-exactly x (y ∷ ys) h = (tt, equal-same _ _ (rw (last-some none x (y ∷ y
 exactly-same : (x : List ℕ) (xs : Entries) → NonEmpty xs → lastKey x xs ≡ x → isSame (lastOf none xs) x ≡ true
 exactly-same x xs s e = rw (last-some none x xs s, e) (equal-refl x)
 
-upper-exactly : (S : ℕ → Entries) (xs : Entries) → upperEntriesGood S xs ≡ true → All (Exactly S) xs
+pub upper-exactly : (S : ℕ → Entries) (xs : Entries) → upperEntriesGood S xs ≡ true → All (Exactly S) xs
 unfolding upperEntriesGood
 upper-exactly S [] h = tt
 upper-exactly S (x ∷ xs) h =
     let u = both _ _ h in
     (same-exactly (x .0) (S (x .1)) (u .0), upper-exactly S xs (u .1))
 
-exactly-upper : (S : ℕ → Entries) (xs : Entries) → All (Exactly S) xs → upperEntriesGood S xs ≡ true
+pub exactly-upper : (S : ℕ → Entries) (xs : Entries) → All (Exactly S) xs → upperEntriesGood S xs ≡ true
 unfolding upperEntriesGood
 exactly-upper S [] h = refl
 exactly-upper S (x ∷ xs) h = join _ _ (exactly-same (x .0) (S (x .1)) (h .0 .0) (h .0 .1)) (exactly-upper S xs (h .1))
@@ -127,20 +127,11 @@ module _ (b : List ℕ) (k size a : ℕ) where
   abbrev S : ℕ → Entries
   S = entriesAt k size b
 
-  module _ (upper : leafBit a ≡ false) where
-    pub checked-exactly : (last : ℕ) (ps : List ℕ) → Checked b k size a last ps → All (Exactly (entriesAt k size b)) (concatMap (entriesAt k size b) ps)
-    unfolding entriesFit
-    checked-exactly last [] c = tt
-    checked-exactly last (p ∷ ps) c =
-        all-append (Exactly S) (S p) (concatMap S ps) (upper-exactly S (S p) (rw upper at (c .0))) (checked-exactly p ps (c .1))
-
-    pub exactly-checked : (last : ℕ) (ps : List ℕ) → All (Exactly (entriesAt k size b)) (concatMap (entriesAt k size b) ps) → Checked b k size a last ps
-    unfolding entriesFit
-    exactly-checked last [] c = tt
-    exactly-checked last (p ∷ ps) c =
-        let here = all-left (Exactly S) (S p) (concatMap S ps) c in
-        let rest = all-right (Exactly S) (S p) (concatMap S ps) c in
-        (rw upper (exactly-upper S (S p) here), exactly-checked p ps rest)
+  -- nothing is asked of the entries of a page above the leaves
+  pub upper-checked : leafBit a ≡ false → (last : ℕ) (ps : List ℕ) → Checked b k size a last ps
+  unfolding entriesFit
+  upper-checked upper last [] = tt
+  upper-checked upper last (p ∷ ps) = (rw upper, upper-checked upper p ps)
 
   module _ (leaf : leafBit a ≡ true) where
     leaf-page : (last p : ℕ) → entriesFit b k size a last p ≡ true → Climbs (lastOf none (S last)) (S p)

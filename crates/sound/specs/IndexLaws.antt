@@ -35,7 +35,7 @@ abbrev pub indexOf : List ℕ → ℕ → Index (List ℕ)
 indexOf b h = record { height = h; tree = indexTree b h; size = fileSize b }
 
 abbrev pub settingOf : ℕ → ℕ → Setting (List ℕ)
-settingOf k most = record { order = bytesOrder; fits = λ key. eqb (length key) k; capacity = capacity k; maxSize = most; maxLevels = maxLevels }
+settingOf k most = record { order = bytesOrder; capacity = capacity k; maxSize = most; maxLevels = maxLevels }
 
 module _ (b : List ℕ) where
   -- every page of a sound index is one of the file, and has as many entries as its count says

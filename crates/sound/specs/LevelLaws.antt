@@ -25,7 +25,7 @@ use Rattle.sound.specs.MarkLaws.{fresh-append, fresh-left, fresh-right, 
 use Rattle.sound.specs.RunLaws.{markAll, Fresh, Fits, Checked, Passed, check-passed, passed-check}
 
 -- tests on the number of a level
-same-suc : (i n : ℕ) → eqb (suc i) (suc n) ≡ eqb i n
+pub same-suc : (i n : ℕ) → eqb (suc i) (suc n) ≡ eqb i n
 same-suc i n = either (eqb i n)
     (λ e. eq-eqb (suc i) (suc n) (ap suc (eqb-true i n e)) ∙ sym e)
     (λ e. ne-eqb (suc i) (suc n) (λ q. eqb-false i n e (omega arith)) ∙ sym e)
@@ -107,7 +107,7 @@ module _ (b : List ℕ) (k size : ℕ) (most : size ≤ maxBytes) where
       passed-known root (isLeaf b size first) first m es (checkLevel b k size root first (numbers es) m) n refl refl (c .1) (c .0)
 
   -- and back
-  leaf-known : (root leaf : Bool) (p : ℕ) → Fits b k size (attributeOf root leaf) p → isLeaf b size p ≡ leaf
+  pub leaf-known : (root leaf : Bool) (p : ℕ) → Fits b k size (attributeOf root leaf) p → isLeaf b size p ≡ leaf
   unfolding isLeaf
   leaf-known root leaf p f = rw (f .page, f .attribute) (leaf-bit root leaf)
 

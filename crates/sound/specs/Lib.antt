@@ -17,8 +17,10 @@ pub mod EntryLaws
 pub mod MarkLaws
 -- Laws: the audit's passes from level to level
 pub mod LevelLaws
--- Laws: good levels, against document 01's clauses on the tree
+-- Laws: good levels, against document 01's clauses on the tree, but for keys above pages
 pub mod ShapeLaws
+-- Laws: the audit's pass over the keys above pages, against document 01's clause on them
+pub mod KeyLaws
 -- Laws: the test accepts exactly the sound indexes
 pub mod Accepted
 -- Laws: every buffer has one answer that meets `Audited`

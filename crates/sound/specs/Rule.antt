@@ -1,7 +1,8 @@
--- Steps: the audit's test as it is computed, page by page and level by level from the root down. The inner functions of the audit and of the match cite its
--- parts; insertion's rule, which has to compute, tells 25 by `pagesGood`. A reader need not believe the test: Accepted proves that it accepts exactly the sound
--- indexes, and book/InsertionAnswers says what insertion's 25 means by `Sound`.
--- Every check is local to a page, its left neighbour and its children: the audit carries the left neighbour along, and marks each page that it meets.
+-- Steps: the audit's test as it is computed, in two passes, each page by page and level by level from the root down. The inner functions of the audit and of
+-- the match cite its parts; insertion's rule, which has to compute, tells 25 by `pagesGood`. A reader need not believe the test: Accepted proves that it
+-- accepts exactly the sound indexes, and book/InsertionAnswers says what insertion's 25 means by `Sound`.
+-- The first pass tests all but the keys above pages: the shape. Each of its checks is local to a page and its left neighbour; it carries the left neighbour
+-- along, and marks each page that it meets. The second pass tests the keys above pages: the links are good by then, and the height is known.
 use Prim.Native.Nat.{ℕ, zero, suc, _+_, _-_, _/_}
 use mathlib.Core.List.{List, [], _∷_}
 use mathlib.Core.Bool.{Bool, true, false, cond, not, _&&_}
@@ -88,9 +89,9 @@ module _ (b : List ℕ) (k size : ℕ) where
   abbrev pub entriesOf : ℕ → Entries
   entriesOf p = entriesAt k size b p
 
-  -- the entries of the page at p are good, with the page `last` on its left
+  -- the entries of the page at p are good if it is a leaf, with the page `last` on its left
   unfoldable pub entriesFit : ℕ → ℕ → ℕ → Bool
-  entriesFit a last p = cond (leafBit a) (leafEntriesGood (lastOf none (entriesOf last)) (entriesOf p)) (upperEntriesGood entriesOf (entriesOf p))
+  entriesFit a last p = cond (leafBit a) (leafEntriesGood (lastOf none (entriesOf last)) (entriesOf p)) true
 
   -- the page at p has the attribute a, a good count, links that agree with the page `last` on its left, and good entries
   unfoldable pub pageFits : ℕ → ℕ → ℕ → ℕ → Bool
@@ -138,11 +139,35 @@ module _ (b : List ℕ) (k size : ℕ) where
   abbrev pub complete : Level × List ℕ → Bool
   complete t = t .0 .good && (t .0 .leaf && markedFrom (t .1) (size / pageSize - 1) 1)
 
--- all pages of an index whose header is good, from the marks m on
-unfoldable pub pagesGood : List ℕ → List ℕ → Bool
-pagesGood b m =
+  -- the number of levels under the page at p, l at most, which the first children show
+  unfoldable pub heightOf : ℕ → ℕ → ℕ
+  heightOf zero p = 0
+  heightOf (suc l) p = elim (isLeaf b size p) [ true ↦ 0 | false ↦ suc (heightOf l (firstChild b k size p)) ]
+
+  -- the entries of the pages of a level above the leaves
+  unfoldable pub upperPagesGood : List ℕ → Bool
+  upperPagesGood [] = true
+  upperPagesGood (p ∷ ps) = upperEntriesGood entriesOf (entriesOf p) && upperPagesGood ps
+
+  -- the keys above pages: of the level whose first page is `first`, which has h levels under it, and of those levels but the leaves
+  unfoldable pub upperLevelsGood : ℕ → ℕ → Bool
+  upperLevelsGood zero first = true
+  upperLevelsGood (suc h) first = upperPagesGood (chain b size maxPages first) && upperLevelsGood h (firstChild b k size first)
+
+-- all but the keys above pages, of an index whose header is good, from the marks m on
+unfoldable pub shapeGood : List ℕ → List ℕ → Bool
+shapeGood b m =
     complete b (keyLength b) (fileSize b)
     (levelsUnder b (keyLength b) (fileSize b) (maxLevels - 1) (rootLevel b (keyLength b) (fileSize b) (rootOffset b) m))
+
+-- the keys above pages
+unfoldable pub keysAboveGood : List ℕ → Bool
+keysAboveGood b =
+    upperLevelsGood b (keyLength b) (fileSize b) (heightOf b (keyLength b) (fileSize b) (maxLevels - 1) (rootOffset b)) (rootOffset b)
+
+-- all pages
+unfoldable pub pagesGood : List ℕ → List ℕ → Bool
+pagesGood b m = shapeGood b m && keysAboveGood b
 
 -- no page is marked
 unfoldable pub unmarked : List ℕ

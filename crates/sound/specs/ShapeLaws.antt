@@ -1,5 +1,5 @@
--- Laws: all levels of an index are good, as the audit checks them, exactly if document 01's clauses hold of its tree. Cited by the law of what the audit
--- accepts, and by the laws of lookup on a sound index. Assumes nothing.
+-- Laws: all levels of an index are good, as the audit's first pass checks them, exactly if document 01's clauses but the one on keys above pages hold of its
+-- tree. Cited by the laws of what the audit accepts and of keys above pages, and by the laws of lookup and match on a sound index. Assumes nothing.
 use Prim.Native.Nat.{ℕ, zero, suc, _-_, _≤_, _<_}
 use mathlib.Core.Path.{_≡_, refl, sym, ap, _∙_, subst}
 use mathlib.Core.List.{List, [], _∷_}
@@ -17,7 +17,6 @@ use Rattle.tree.specs.ListLaws.{all-map2, nonEmpty-length, occ-head, occ-not-he
 use Rattle.tree.specs.Pairs.{Ascending}
 use Rattle.tree.specs.Tree.{Tree, pairs}
 use Rattle.tree.specs.Clauses.{least, Sized, Greatest, Linked}
-use Rattle.tree.specs.ClauseLaws.{greatest-ordered, exact-greatest}
 use Rattle.tree.specs.Store.{readTree}
 use Rattle.page.specs.Header.{maxBytes, maxLevels, noPage, rootOffset, fileSize, keyLength, isPage, headerGood}
 use Rattle.page.specs.Page.{attributeAt, countAt, rootBit, leafBit, capacity}
@@ -25,14 +24,14 @@ use Rattle.page.specs.KeyOrder.{bytesOrder}
 use Rattle.page.specs.HeaderLaws.{good-header}
 use Rattle.page.specs.Reading.{entriesAt}
 use Rattle.page.specs.ReadingLaws.{length-entries, entries-none}
-use Rattle.sound.specs.Sound.{linksOf, CountGood, Sound}
+use Rattle.sound.specs.Sound.{indexTree, linksOf, CountGood, Sound}
 use Rattle.sound.specs.Rule.{Entries, lastOf}
 use Rattle.sound.specs.AttributeLaws.{attributeAtLevel, root-bit, leaf-bit, attribute-small, attribute-is, count-good, good-count}
 use Rattle.sound.specs.Levels.{all-of-map, all-to-map, numbers, below, generation, generation-below, reached, reached-generations, join-map}
-use Rattle.sound.specs.Levels.{Counted, Top, tree-pairs, tree-pages, level-generation, generation-level, pages-generation, generation-pages}
-use Rattle.sound.specs.Levels.{generation-sized, generation-exact, exact-generation}
+use Rattle.sound.specs.Levels.{Counted, tree-pairs, tree-pages, level-generation, generation-level, pages-generation, generation-pages}
+use Rattle.sound.specs.Levels.{generation-sized}
 use Rattle.sound.specs.RunLaws.{Fits, Checked}
-use Rattle.sound.specs.EntryLaws.{Climbs, Exactly, climbs-ascend, ascend-climbs, checked-exactly, exactly-checked}
+use Rattle.sound.specs.EntryLaws.{Climbs, climbs-ascend, ascend-climbs, upper-checked}
 use Rattle.sound.specs.EntryLaws.{checked-climbs, climbs-checked, lone-climbs, climbs-lone}
 use Rattle.sound.specs.LevelLaws.{LevelGood, not-page}
 
@@ -145,34 +144,22 @@ module _ (b : List ℕ) (k size root h : ℕ) (inside : InsideLevels b k size ro
     level-leaf : (i : ℕ) (t : Bool) → eqb i h ≡ t → leafBit (attributeAtLevel h i) ≡ t
     level-leaf i t e = leaf-bit (eqb i 0) (eqb i h) ∙ e
 
-    -- the entries of every level, from the clauses on keys and records
+    -- the entries of every level, from the clauses on leaf keys and records
     clauses-checked : Ascending bytesOrder (pairs h (readTree (entriesAt k size b) h root))
-        → All (λ e. 0 < e .1) (pairs h (readTree (entriesAt k size b) h root)) → Greatest h (readTree (entriesAt k size b) h root)
-        → CheckedLevels b k size root h
-    clauses-checked ascending records greatest i l = either (eqb i h)
+        → All (λ e. 0 < e .1) (pairs h (readTree (entriesAt k size b) h root)) → CheckedLevels b k size root h
+    clauses-checked ascending records i l = either (eqb i h)
         (λ e. let d : i ≡ h = eqb-true i h e in
         subst (λ (j : ℕ). Checked b k size (attributeAtLevel h i) noPage (levelPages b k size root j)) (sym d)
         (climb-leaves (attributeAtLevel h i) (level-leaf i true e)
         (rw (tree-pairs S [] root h) at (ascend-climbs (pairs h T) ascending records))))
-        (λ e. let lt : i < h = omega (arith, eqb-false i h e) in
-        let exact = greatest-ordered bytesOrder (capacity k) h T tree-sized ascending greatest .1 in
-        exactly-checked b k size (attributeAtLevel h i) (level-leaf i false e) noPage (levelPages b k size root i)
-        (rw (entries-next i) (all-map2 (λ e. NonEmpty (S (e .1))) (Top S) (Exactly S) (λ e x y. (x, y)) (E (suc i))
-        (entries-filled (suc i) (omega arith) (omega arith)) (exact-generation S [] root h exact i lt))))
+        (λ e. upper-checked b k size (attributeAtLevel h i) (level-leaf i false e) noPage (levelPages b k size root i))
 
     -- and back
-    module _ (checked : CheckedLevels b k size root h) where
-      checked-pairs : Ascending bytesOrder (pairs h (readTree (entriesAt k size b) h root))
-          × All (λ e. 0 < e .1) (pairs h (readTree (entriesAt k size b) h root))
-      checked-pairs =
-          let leaf = level-leaf h true (eq-eqb h h refl) in
-          climbs-ascend none (pairs h T) (rw (tree-pairs S [] root h) (leaves-climb (attributeAtLevel h h) leaf (checked h (omega arith))))
-
-      checked-greatest : Greatest h (readTree (entriesAt k size b) h root)
-      checked-greatest = exact-greatest (capacity k) h T tree-sized (generation-exact S [] root h (λ i l.
-          all-map (Exactly S) (Top S) (λ e x. x .1) (E (suc i))
-          (rw (entries-next i) at (checked-exactly b k size (attributeAtLevel h i) (level-leaf i false (ne-eqb i h (omega arith))) noPage
-          (levelPages b k size root i) (checked i (omega arith))))))
+    checked-pairs : CheckedLevels b k size root h → Ascending bytesOrder (pairs h (readTree (entriesAt k size b) h root))
+        × All (λ e. 0 < e .1) (pairs h (readTree (entriesAt k size b) h root))
+    checked-pairs checked =
+        let leaf = level-leaf h true (eq-eqb h h refl) in
+        climbs-ascend none (pairs h T) (rw (tree-pairs S [] root h) (leaves-climb (attributeAtLevel h h) leaf (checked h (omega arith))))
 
 -- the root stands on its own level alone
 occ-none : (z : ℕ) (ps : List ℕ) → occ z ps ≡ 0 → All (λ p. eqb p z ≡ false) ps
@@ -252,16 +239,22 @@ module _ (b : List ℕ) where
   abbrev B : ℕ → Entries
   B = entriesAt (keyLength b) (fileSize b) b
 
-  -- Theorem: an index of that shape is sound
-  pub shape-sound : headerGood b ≡ true → Shape b (keyLength b) (fileSize b) (rootOffset b) → Sound b
-  shape-sound e s =
+  -- the leaf pairs of an index of that shape ascend, and their record numbers are above 0
+  pub shape-pairs : headerGood b ≡ true → (s : Shape b (keyLength b) (fileSize b) (rootOffset b))
+      → Ascending bytesOrder (pairs (s .height) (indexTree b (s .height))) × All (λ e. 0 < e .1) (pairs (s .height) (indexTree b (s .height)))
+  shape-pairs e s =
+      checked-pairs b K F R (s .height) (levels-inside b K F R (s .height) (s .levels)) (levels-counts b K F R (s .height) (s .levels))
+      (good-header b e .most) (λ i l. s .levels i l .checked)
+
+  -- Theorem: an index of that shape is sound if its keys above pages are
+  pub shape-sound : headerGood b ≡ true → (s : Shape b (keyLength b) (fileSize b) (rootOffset b)) → Greatest (s .height) (indexTree b (s .height)) → Sound b
+  shape-sound e s greatest =
       let h = s .height in
       let few = s .few in
       let g = good-header b e in
       let inside = levels-inside b K F R h (s .levels) in
       let counts = levels-counts b K F R h (s .levels) in
-      let checked : CheckedLevels b (keyLength b) (fileSize b) (rootOffset b) (s .height) = λ i l. s .levels i l .checked in
-      let p = checked-pairs b K F R h inside counts (g .most) checked in
+      let p = shape-pairs e s in
       record {
         header = e;
         height = h;
@@ -274,12 +267,12 @@ module _ (b : List ℕ) where
         counts = generation-pages B [] R h (CountGood b (keyLength b) h) counts;
         ascending = p .0;
         records = p .1;
-        greatest = checked-greatest b K F R h inside counts (g .most) checked;
+        greatest = greatest;
         links = generation-level B [] R h (λ j ps. Linked noPage (linksOf b) noPage ps) (λ i l. s .levels i l .linked);
       }
 
   -- Theorem: a sound index has that shape
-  sound-once : (s : Sound b) → ReachedOnce b (keyLength b) (fileSize b) (rootOffset b) (s .height)
+  pub sound-once : (s : Sound b) → ReachedOnce b (keyLength b) (fileSize b) (rootOffset b) (s .height)
   sound-once s p o = sym (tree-pages B [] R (s .height) p) ∙ s .once p o
 
   pub sound-levels : (s : Sound b) → GoodLevels b (keyLength b) (fileSize b) (rootOffset b) (s .height)
@@ -294,10 +287,10 @@ module _ (b : List ℕ) where
             (level-root b K F R h (sound-once s R (good-header b (s .header) .root)) i l)
             (level-generation B [] R h (λ j ps. All (λ p. leafBit (attributeAt b p) ≡ eqb j 0) ps) (s .leafBits) i l) (counts i l);
         linked = level-generation B [] R h (λ j ps. Linked noPage (linksOf b) noPage ps) (s .links) i l;
-        checked = clauses-checked b K F R h inside counts (good-header b (s .header) .most) (s .ascending) (s .records) (s .greatest) i l;
+        checked = clauses-checked b K F R h inside counts (good-header b (s .header) .most) (s .ascending) (s .records) i l;
       }
 
-  pub sound-shape : Sound b → Shape b (keyLength b) (fileSize b) (rootOffset b)
+  abbrev pub sound-shape : Sound b → Shape b (keyLength b) (fileSize b) (rootOffset b)
   sound-shape s =
       let few = s .levels in
       record { height = s .height; few = omega arith; levels = sound-levels s; once = sound-once s }

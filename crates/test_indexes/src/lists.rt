@@ -158,6 +158,26 @@ fn run_list(text: &[u8], index: &mut [u8], answers: &mut [u8]) -> Outcome {
     }
 }
 
+// Makes the calls of a list without `f` on the index that a buffer holds, and writes the answers.
+fn make_calls(text: &[u8], index: &mut [u8], answers: &mut [u8]) -> Outcome {
+    let mut list = io::large_buffer();
+    let n = append_all(&mut list, text);
+    let made = batch::run_calls(index, &list[..n], answers);
+    Outcome {
+        fresh: 0,
+        made,
+        audit: audit::audit(index),
+    }
+}
+
+// Runs such a list, and prints the answers and whether the buffer begins with an index file's bytes.
+pub fn run_on_index(name: &[u8], text: &[u8], file: &[u8], index: &mut [u8]) {
+    let mut answers = io::large_buffer();
+    let o = make_calls(text, index, &mut answers);
+    print_answers(text, &answers, o);
+    print_same(name, index, file);
+}
+
 // Runs a list on a buffer, and prints the answers and whether the buffer begins with an index file's bytes.
 fn replay(name: &[u8], text: &[u8], file: &[u8], index: &mut [u8]) {
     let mut answers = io::large_buffer();

@@ -1,6 +1,7 @@
 // Audits indexes that an independent implementation made, and looks keys up in them: each accepted insertion of a list of calls must be found in the index
 // file after the list, with its record. Then the program runs each list as bytes on a buffer of zeros, prints the answers, and compares the buffer with the
-// index file. At last it audits damaged copies of one index. README.md beside src/ says where the files came from.
+// index file. One list runs on an index of an earlier release, whose keys have control bytes. At last the program audits damaged copies of one index. README.md
+// beside src/ says where the files came from.
 mod lists;
 
 // Whether a line is an insertion that was accepted, `i KEY RECORD 0`.
@@ -135,6 +136,30 @@ fn long_keys() {
     run(b"k46_mixed", b"k46_mixed.idx", b"k46_mixed.calls", 32768);
     run(b"k100_deep", b"k100_deep.idx", b"k100_deep.calls", 65536);
     run(b"k100_full", b"k100_full.idx", b"k100_full.calls", 4096);
+    run(
+        b"k100_deep_raised",
+        b"k100_deep_raised.idx",
+        b"k100_deep_raised.calls",
+        65536,
+    );
+    run(
+        b"k100_full_raised",
+        b"k100_full_raised.idx",
+        b"k100_full_raised.calls",
+        4096,
+    );
+}
+
+// An index of an earlier release, with control bytes in its keys: its audit, and the calls of a list on it.
+fn earlier_release() {
+    let mut index = io::large_buffer();
+    let mut calls = io::large_buffer();
+    let mut after = io::large_buffer();
+    files::load(b"earlier.idx", &mut index);
+    let m = files::load(b"earlier.calls", &mut calls).len;
+    let n = files::load(b"earlier_after.idx", &mut after).len;
+    print_audit(b"earlier", &index);
+    lists::run_on_index(b"earlier", &calls[..m], &after[..n], &mut index);
 }
 
 // Lists written from document 01.
@@ -160,8 +185,10 @@ fn damaged_pages() {
 fn main() {
     run(b"k1_bytes", b"k1_bytes.idx", b"k1_bytes.calls", 8192);
     short_keys();
+    run(b"k5_control", b"k5_control.idx", b"k5_control.calls", 16384);
     long_keys();
     paper_lists();
+    earlier_release();
     damaged_headers();
     damaged_pages();
 }

@@ -1,7 +1,7 @@
 -- Steps: an index as a tree with its file size, the rule for refusal 30, and the calls on it. The laws of bytes read the index in a buffer as such an index.
 use mathlib.Core.Bool.{Bool, false, cond, _||_}
 use mathlib.Core.List.{List, []}
-use Prim.Native.Nat.{ℕ, _+_, _*_}
+use Prim.Native.Nat.{ℕ, _*_}
 use lib.Dec.{ltb}
 use Rattle.tree.specs.Constants.{pageSize, noPage}
 use Rattle.tree.specs.Order.{Order}
@@ -11,11 +11,8 @@ use Rattle.tree.specs.Clauses.{Links}
 use Rattle.tree.specs.Insertion.{Grown, insert}
 use Rattle.tree.specs.Room.{needs, levelsAfter}
 use Rattle.tree.specs.Relinking.{relinked}
-use Rattle.tree.specs.Book.{Call, insertion, lookupOf, Answer, verdict, finding, isAccepted}
-
--- the new page taken after j others: "a new page at F, which grows by 512"
-abbrev pub newOffset : ℕ → ℕ → ℕ
-newOffset size j = size + pageSize * j
+use Rattle.tree.specs.Supply.{takenPage, sizeAfter}
+use Rattle.tree.specs.Book.{Call, insertion, lookupOf, Answer, KeyTests, verdict, finding, isAccepted}
 
 -- an index: the levels under the root, the tree, whose pages are named by their offsets, and the file size F
 pub record Index (K : Type 0) : Type 0 where
@@ -33,13 +30,12 @@ fresh = record { height = 0; tree = (pageSize, []); size = 2 * pageSize }
 
 -- an index of file size `size` after its tree has become g
 abbrev pub grown : {K : Type 0} → ℕ → Grown K → Index K
-grown size g = record { height = g .0; tree = g .1; size = newOffset size (g .2) }
+grown size g = record { height = g .0; tree = g .1; size = sizeAfter size (g .2) }
 
--- what an index is kept by: the order of its keys, the test that a key has its key length, the capacity of a page, and the most that F and the
--- levels may be: the buffer's length or 1,048,576, whichever is less, and 11
+-- what an index is kept by: the order of its keys, the capacity of a page, and the most that F and the levels may be: the buffer's length or 1,048,576,
+-- whichever is less, and 11
 pub record Setting (K : Type 0) : Type 0 where
   pub order : Order K
-  pub fits : K → Bool
   pub capacity : ℕ
   pub maxSize : ℕ
   pub maxLevels : ℕ
@@ -48,7 +44,7 @@ module _ {K : Type 0} (s : Setting K) where
   -- the rule for 30, of an insertion's key and of a call: "30 is given exactly when F would pass the buffer or 1,048,576, or levels would pass 11"
   abbrev pub outOfRoom : K → Index K → Bool
   outOfRoom k i =
-      ltb (s .maxSize) (newOffset (i .size) (needs (s .order) (s .capacity) k (i .height) (i .tree)))
+      ltb (s .maxSize) (sizeAfter (i .size) (needs (s .order) (s .capacity) k (i .height) (i .tree)))
       || ltb (s .maxLevels) (levelsAfter (s .order) (s .capacity) k (i .height) (i .tree))
 
   abbrev pub noRoomFor : Call K → Index K → Bool
@@ -56,22 +52,20 @@ module _ {K : Type 0} (s : Setting K) where
   noRoomFor (lookupOf k) i = false
 
   -- the answer to a call
-  abbrev pub answer : Call K → Index K → Answer
-  answer (insertion k r) i = verdict (s .fits k) r (find (s .order) k (held i)) (outOfRoom k i)
-  answer (lookupOf k) i = finding (s .fits k) (lookup (s .order) k (i .height) (i .tree))
+  abbrev pub answer : KeyTests K → Call K → Index K → Answer
+  answer tests (insertion k r) i = verdict (tests .fits k) (tests .barred k) r (find (s .order) k (held i)) (outOfRoom k i)
+  answer tests (lookupOf k) i = finding (tests .fits k) (lookup (s .order) k (i .height) (i .tree))
 
   -- the index after an accepted insertion, and after a call
   abbrev pub inserted : K → ℕ → Index K → Index K
-  inserted k r i = grown (i .size) (insert (s .order) (s .capacity) (newOffset (i .size)) k r (i .height) (i .tree))
+  inserted k r i = grown (i .size) (insert (s .order) (s .capacity) (takenPage (i .size)) k r (i .height) (i .tree))
 
-  abbrev pub next : Call K → Index K → Index K
-  next (insertion k r) i = cond (isAccepted (answer (insertion k r) i)) (inserted k r i) i
-  next (lookupOf k) i = i
+  abbrev pub next : KeyTests K → Call K → Index K → Index K
+  next tests (insertion k r) i = cond (isAccepted (answer tests (insertion k r) i)) (inserted k r i) i
+  next tests (lookupOf k) i = i
 
-  -- the links after a call
-  abbrev pub nextLinks : Call K → Index K → Links → Links
-  nextLinks (insertion k r) i l =
-      cond (isAccepted (answer (insertion k r) i))
-      (relinked (s .order) noPage (newOffset (i .size)) (s .capacity) k (i .height) (i .tree)
-      (insert (s .order) (s .capacity) (newOffset (i .size)) k r (i .height) (i .tree)) l) l
-  nextLinks (lookupOf k) i l = l
+  -- the links after an accepted insertion
+  abbrev pub insertedLinks : K → ℕ → Index K → Links → Links
+  insertedLinks k r i l =
+      relinked (s .order) noPage (takenPage (i .size)) (s .capacity) k (i .height) (i .tree)
+      (insert (s .order) (s .capacity) (takenPage (i .size)) k r (i .height) (i .tree)) l

@@ -1,9 +1,9 @@
--- Laws: a fresh index is sound; every call keeps a sound index sound and linked, and answers and changes it as the book does. Cited by the theorem about
--- lists of calls and by the laws of bytes. Assumes nothing.
+-- Laws: a fresh index is sound; an insertion keeps a sound index sound and linked; every call answers and changes it as the book does. Cited by the theorem
+-- about lists of calls and by the laws of bytes. Assumes nothing.
 use mathlib.Core.Path.{_≡_, refl, sym}
 use mathlib.Core.Bool.{Bool, true, false, not, _||_}
 use mathlib.Core.Option.{Option, none, some}
-use Prim.Native.Nat.{ℕ, zero, suc, _+_, _*_, _%_, _≤_, _<_}
+use Prim.Native.Nat.{ℕ, suc, _+_, _*_, _%_, _≤_, _<_}
 use native.Mathlib.Omega.{arith}
 use lib.Dec.{ltb, eqb}
 use borrow.Author.Tests.{ltb-true, ltb-false, eqb-true, eqb-false, eq-eqb, ne-eqb}
@@ -22,28 +22,31 @@ use Rattle.tree.specs.InsertOrdered.{insert-ordered}
 use Rattle.tree.specs.Exact.{insert-exact}
 use Rattle.tree.specs.ClauseLaws.{sized-rooted}
 use Rattle.tree.specs.InsertSized.{insert-sized}
+use Rattle.tree.specs.Supply.{takenPage, sizeAfter}
+use Rattle.tree.specs.SupplyLaws.{taken-injective, taken-some, taken-below, taken-beyond, taken-unaligned, taken-once}
 use Rattle.tree.specs.InsertPages.{newPages, Distinct, Unused, insert-pages}
 use Rattle.tree.specs.InsertNeeds.{insert-needs}
 use Rattle.tree.specs.InsertLinks.{insert-all-linked}
-use Rattle.tree.specs.Book.{Call, insertion, lookupOf, Answer, accepted, refusedIf, isPresent, verdict, isNoRoom, isAccepted}
+use Rattle.tree.specs.Book.{Call, insertion, lookupOf, Answer, KeyTests, accepted, refusedIf, isPresent, verdict, isNoRoom, isAccepted}
 use Rattle.tree.specs.Book.{bookAnswer, bookAfter}
-use Rattle.tree.specs.Index.{newOffset, Index, held, fresh, grown, Setting, outOfRoom, noRoomFor, answer, inserted, next, nextLinks}
+use Rattle.tree.specs.Index.{Index, held, fresh, grown, Setting, outOfRoom, noRoomFor, answer, inserted, insertedLinks, next}
 use Rattle.tree.specs.SoundIndex.{PagesOnce, SoundIndex, LinkedIndex}
 
 -- the verdict on an insertion does not change if it is told whether it was 30
-verdict-room : (fits : Bool) (r : ℕ) (held : Option ℕ) (full : Bool) →
-    verdict fits r held (isNoRoom (verdict fits r held full)) ≡ verdict fits r held full
-verdict-room fits r held full = go (not fits) (eqb r 0) (isPresent held) full
+verdict-room : (fits barred : Bool) (r : ℕ) (held : Option ℕ) (full : Bool) →
+    verdict fits barred r held (isNoRoom (verdict fits barred r held full)) ≡ verdict fits barred r held full
+verdict-room fits barred r held full = go (not fits) barred (eqb r 0) (isPresent held) full
   where
-    four : Bool → Bool → Bool → Bool → Answer
-    four a b c d = refusedIf a 27 (refusedIf b 28 (refusedIf c 29 (refusedIf d 30 accepted)))
+    five : Bool → Bool → Bool → Bool → Bool → Answer
+    five a b c d e = refusedIf a 27 (refusedIf b 32 (refusedIf c 28 (refusedIf d 29 (refusedIf e 30 accepted))))
 
-    go : (a b c d : Bool) → four a b c (isNoRoom (four a b c d)) ≡ four a b c d
-    go true b c d = refl
-    go false true c d = refl
-    go false false true d = refl
-    go false false false true = refl
-    go false false false false = refl
+    go : (a b c d e : Bool) → five a b c d (isNoRoom (five a b c d e)) ≡ five a b c d e
+    go true b c d e = refl
+    go false true c d e = refl
+    go false false true d e = refl
+    go false false false true e = refl
+    go false false false false true = refl
+    go false false false false false = refl
 
 -- the verdict is yes only if no refusal's test holds
 pub record Acceptable (fits : Bool) (r : ℕ) (held : Option ℕ) (full : Bool) : Type 0 where
@@ -52,10 +55,11 @@ pub record Acceptable (fits : Bool) (r : ℕ) (held : Option ℕ) (full : Bool) 
   pub new : held ≡ none
   pub room : full ≡ false
 
-pub accepted-acceptable : (fits : Bool) (r : ℕ) (held : Option ℕ) (full : Bool) → isAccepted (verdict fits r held full) ≡ true →
+pub accepted-acceptable : (fits barred : Bool) (r : ℕ) (held : Option ℕ) (full : Bool) → isAccepted (verdict fits barred r held full) ≡ true →
     Acceptable fits r held full
-accepted-acceptable false r held full e = contra e refl
-accepted-acceptable true r held full e = either (eqb r 0)
+accepted-acceptable false barred r held full e = contra e refl
+accepted-acceptable true true r held full e = contra e refl
+accepted-acceptable true false r held full e = either (eqb r 0)
     (λ z. contra (rw z at e) refl)
     (λ z. go held full (omega (arith, eqb-false r 0 z)) (rw z at e))
   where
@@ -64,27 +68,6 @@ accepted-acceptable true r held full e = either (eqb r 0)
     go (some s) b p q = contra q refl
     go none true p q = contra q refl
     go none false p q = record { fitting = refl; positive = p; new = refl; room = refl }
-
--- the offsets of new pages are the multiples of 512 from F up to the new F
-newPages-below : (size n z : ℕ) → z < size → occ z (newPages (newOffset size) n) ≡ 0
-newPages-below size zero z l = refl
-newPages-below size (suc n) z l = rw (ne-eqb z (newOffset size n) (omega arith)) (omega (arith, newPages-below size n z l))
-
-newPages-beyond : (size n z : ℕ) → newOffset size n ≤ z → occ z (newPages (newOffset size) n) ≡ 0
-newPages-beyond size zero z l = refl
-newPages-beyond size (suc n) z l = rw (ne-eqb z (newOffset size n) (omega arith)) (omega (arith, newPages-beyond size n z (omega arith)))
-
-newPages-unaligned : (size n z : ℕ) → size % pageSize ≡ 0 → (z % pageSize ≡ 0 → ⊥) → occ z (newPages (newOffset size) n) ≡ 0
-newPages-unaligned size zero z a o = refl
-newPages-unaligned size (suc n) z a o =
-    rw (ne-eqb z (newOffset size n) (λ e. o (omega arith))) (omega (arith, newPages-unaligned size n z a o))
-
-newPages-once : (size n z : ℕ) → size % pageSize ≡ 0 → z % pageSize ≡ 0 → size ≤ z → z < newOffset size n →
-    occ z (newPages (newOffset size) n) ≡ 1
-newPages-once size zero z a d l m = absurd (omega arith)
-newPages-once size (suc n) z a d l m = either (eqb z (newOffset size n))
-    (λ e. rw e (omega (arith, newPages-beyond size n z (omega (arith, eqb-true z (newOffset size n) e)))))
-    (λ e. rw e (omega (arith, newPages-once size n z a d l (omega (arith, eqb-false z (newOffset size n) e)))))
 
 -- each page is reached at most once, and no new page is among them
 module _ {K : Type 0} (i : Index K) (p : PagesOnce i) where
@@ -97,12 +80,12 @@ module _ {K : Type 0} (i : Index K) (p : PagesOnce i) where
       (λ m. omega (arith, p .unaligned z (eqb-false (z % pageSize) 0 m)))))
       (λ e. omega (arith, p .beyond z (ltb-false z (i .size) e)))
 
-  pub newPage-unused : Unused (newOffset (i .size)) (pages (i .height) (i .tree))
-  newPage-unused j = p .beyond (newOffset (i .size) j) (omega arith)
+  pub taken-unused : Unused (takenPage (i .size)) (pages (i .height) (i .tree))
+  taken-unused j = p .beyond (takenPage (i .size) j) (omega arith)
 
   -- after an insertion each page is reached at most once again
   grown-pages : (g : Grown K) →
-      ((z : ℕ) → occ z (grownPages g) ≡ occ z (pages (i .height) (i .tree)) + occ z (newPages (newOffset (i .size)) (g .2))) →
+      ((z : ℕ) → occ z (grownPages g) ≡ occ z (pages (i .height) (i .tree)) + occ z (newPages (takenPage (i .size)) (g .2))) →
       PagesOnce (grown (i .size) g)
   grown-pages g counts =
       let F : ℕ = i .size in
@@ -110,12 +93,12 @@ module _ {K : Type 0} (i : Index K) (p : PagesOnce i) where
       record {
         positive = omega (arith, p .positive);
         aligned = omega (arith, p .aligned);
-        header = omega (arith, counts 0, p .header, newPages-below F n 0 (p .positive));
+        header = omega (arith, counts 0, p .header, taken-below F n 0 (p .positive));
         once = λ z a b m. either (ltb z F)
-            (λ e. let l : z < F = ltb-true z F e in omega (arith, counts z, p .once z a l m, newPages-below F n z l))
-            (λ e. let l : F ≤ z = ltb-false z F e in omega (arith, counts z, p .beyond z l, newPages-once F n z (p .aligned) m l b));
-        unaligned = λ z o. omega (arith, counts z, p .unaligned z o, newPages-unaligned F n z (p .aligned) o);
-        beyond = λ z a. omega (arith, counts z, p .beyond z (omega arith), newPages-beyond F n z a);
+            (λ e. let l : z < F = ltb-true z F e in omega (arith, counts z, p .once z a l m, taken-below F n z l))
+            (λ e. let l : F ≤ z = ltb-false z F e in omega (arith, counts z, p .beyond z l, taken-once F n z (p .aligned) m l b));
+        unaligned = λ z o. omega (arith, counts z, p .unaligned z o, taken-unaligned F n z (p .aligned) o);
+        beyond = λ z a. omega (arith, counts z, p .beyond z (omega arith), taken-beyond F n z a);
       }
 
 -- neither limit is passed
@@ -142,17 +125,18 @@ fresh-sound s two room levels = record {
 }
 
 module _ {K : Type 0} (s : Setting K) (two : 1 < s .capacity) where
-  inserted-sound : (i : Index K) (k : K) (r : ℕ) → 0 < r → find (s .order) k (held i) ≡ none → outOfRoom s k i ≡ false → SoundIndex s i →
+  -- Theorem: an insertion of a key that is not there, with room for it, keeps an index sound
+  pub inserted-sound : (i : Index K) (k : K) (r : ℕ) → 0 < r → find (s .order) k (held i) ≡ none → outOfRoom s k i ≡ false → SoundIndex s i →
       SoundIndex s (inserted s k r i)
   inserted-sound i k r pos f room d =
       let h : ℕ = i .height in
-      let name : ℕ → ℕ = newOffset (i .size) in
+      let name : ℕ → ℕ = takenPage (i .size) in
       let g : Grown K = insert (s .order) (s .capacity) name k r h (i .tree) in
       let rooted : Rooted h (i .tree) = sized-rooted (s .capacity) h (i .tree) (d .sized) in
       let needed : (g .2 ≡ needs (s .order) (s .capacity) k h (i .tree))
       × (suc (g .0) ≡ levelsAfter (s .order) (s .capacity) k h (i .tree)) =
       insert-needs (s .order) (s .capacity) name k r h (i .tree) (omega arith) (d .sized) in
-      let limit : ℕ = newOffset (i .size) (needs (s .order) (s .capacity) k h (i .tree)) in
+      let limit : ℕ = sizeAfter (i .size) (needs (s .order) (s .capacity) k h (i .tree)) in
       let levels : ℕ = levelsAfter (s .order) (s .capacity) k h (i .tree) in
       let rooms : (ltb (s .maxSize) limit ≡ false) × (ltb (s .maxLevels) levels ≡ false) =
       room-both (ltb (s .maxSize) limit) (ltb (s .maxLevels) levels) room in
@@ -167,52 +151,42 @@ module _ {K : Type 0} (s : Setting K) (two : 1 < s .capacity) where
         withinLevels = omega (arith, needed .1, ltb-false (s .maxLevels) levels (rooms .1));
       }
 
-  -- Theorem: a call keeps an index sound
-  pub next-sound : (c : Call K) (i : Index K) → SoundIndex s i → SoundIndex s (next s c i)
-  next-sound (lookupOf k) i d = d
-  next-sound (insertion k r) i d = either (isAccepted (answer s (insertion k r) i))
-      (λ e. let a : Acceptable (s .fits k) r (find (s .order) k (held i)) (outOfRoom s k i) =
-      accepted-acceptable (s .fits k) r (find (s .order) k (held i)) (outOfRoom s k i) e in
-      rw e (inserted-sound i k r (a .positive) (a .new) (a .room) d))
-      (λ e. rw e d)
-
-  -- Theorem: a call keeps the levels linked
-  pub next-linked : (c : Call K) (i : Index K) (l : Links) → SoundIndex s i → LinkedIndex l i → LinkedIndex (nextLinks s c i l) (next s c i)
-  next-linked (lookupOf k) i l d c = c
-  next-linked (insertion k r) i l d c = either (isAccepted (answer s (insertion k r) i))
-      (λ e. let p : PagesOnce i = d .pagesOnce in
-      let g : SoundIndex s (inserted s k r i) = rw e at (next-sound (insertion k r) i d) in
-      rw e (insert-all-linked (s .order) (s .capacity) (omega arith) (newOffset (i .size)) (λ a b u. omega arith)
-      noPage (λ a u. omega (arith, p .aligned)) k r (i .height) (i .tree) (d .sized)
-      (pages-distinct i p) (newPage-unused i p) (p .unaligned noPage (λ u. omega arith)) l
-      (pages-distinct (inserted s k r i) (g .pagesOnce)) c))
-      (λ e. rw e c)
+  -- Theorem: such an insertion keeps the levels linked
+  pub inserted-linked : (i : Index K) (k : K) (r : ℕ) (l : Links) → SoundIndex s i → SoundIndex s (inserted s k r i) → LinkedIndex l i →
+      LinkedIndex (insertedLinks s k r i l) (inserted s k r i)
+  inserted-linked i k r l d g c =
+      let p : PagesOnce i = d .pagesOnce in
+      insert-all-linked (s .order) (s .capacity) (omega arith) (takenPage (i .size)) (taken-injective (i .size))
+      noPage (taken-some (i .size) (p .aligned)) k r (i .height) (i .tree) (d .sized)
+      (pages-distinct i p) (taken-unused i p) (p .unaligned noPage (λ u. omega arith)) l
+      (pages-distinct (inserted s k r i) (g .pagesOnce)) c
 
   -- Theorem: a call is answered as the book answers it, if the book is told whether the answer is 30, or what the rule for 30 says
-  pub answer-book : (c : Call K) (i : Index K) → SoundIndex s i →
-      bookAnswer (s .order) (s .fits) c (isNoRoom (answer s c i)) (held i) ≡ answer s c i
-  answer-book (lookupOf k) i d =
+  pub answer-book : (tests : KeyTests K) (c : Call K) (i : Index K) → SoundIndex s i →
+      bookAnswer (s .order) tests c (isNoRoom (answer s tests c i)) (held i) ≡ answer s tests c i
+  answer-book tests (lookupOf k) i d =
       rw (
         lookup-find (s .order) k (i .height) (i .tree) (d .ordered),
         find-get (s .order) k (held i)
             (ordered-ascending (s .order) (i .height) (i .tree) (d .ordered)),
       )
-  answer-book (insertion k r) i d =
+  answer-book tests (insertion k r) i d =
       rw (← find-get (s .order) k (held i) (ordered-ascending (s .order) (i .height) (i .tree) (d .ordered)))
-      (verdict-room (s .fits k) r (find (s .order) k (held i)) (outOfRoom s k i))
+      (verdict-room (tests .fits k) (tests .barred k) r (find (s .order) k (held i)) (outOfRoom s k i))
 
-  pub answer-room : (c : Call K) (i : Index K) → SoundIndex s i → bookAnswer (s .order) (s .fits) c (noRoomFor s c i) (held i) ≡ answer s c i
-  answer-room (lookupOf k) i d = answer-book (lookupOf k) i d
-  answer-room (insertion k r) i d =
+  pub answer-room : (tests : KeyTests K) (c : Call K) (i : Index K) → SoundIndex s i →
+      bookAnswer (s .order) tests c (noRoomFor s c i) (held i) ≡ answer s tests c i
+  answer-room tests (lookupOf k) i d = answer-book tests (lookupOf k) i d
+  answer-room tests (insertion k r) i d =
       rw (← find-get (s .order) k (held i) (ordered-ascending (s .order) (i .height) (i .tree) (d .ordered)))
 
   -- Theorem: the leaf pairs after a call are the book after it
-  pub next-book : (c : Call K) (i : Index K) → SoundIndex s i →
-      bookAfter (s .order) (s .fits) c (isNoRoom (answer s c i)) (held i) ≡ held (next s c i)
-  next-book (lookupOf k) i d = refl
-  next-book (insertion k r) i d =
-      rw (answer-book (insertion k r) i d)
-      (either (isAccepted (answer s (insertion k r) i))
+  pub next-book : (tests : KeyTests K) (c : Call K) (i : Index K) → SoundIndex s i →
+      bookAfter (s .order) tests c (isNoRoom (answer s tests c i)) (held i) ≡ held (next s tests c i)
+  next-book tests (lookupOf k) i d = refl
+  next-book tests (insertion k r) i d =
+      rw (answer-book tests (insertion k r) i d)
+      (either (isAccepted (answer s tests (insertion k r) i))
       (λ e. let rooted : Rooted (i .height) (i .tree) = sized-rooted (s .capacity) (i .height) (i .tree) (d .sized) in
-      rw e (sym (insert-pairs (s .order) (s .capacity) (newOffset (i .size)) k r (i .height) (i .tree) rooted (d .ordered))))
+      rw e (sym (insert-pairs (s .order) (s .capacity) (takenPage (i .size)) k r (i .height) (i .tree) rooted (d .ordered))))
       (λ e. rw e))

@@ -93,6 +93,10 @@ pub mod FreeChain
 pub mod FreeChainLaws
 -- Laws: how many pages a file and a tree have
 pub mod PageCount
+-- Steps: the supply of new pages
+pub mod Supply
+-- Laws: the pages that are taken from the supply
+pub mod SupplyLaws
 -- Steps: an index as a tree with a file size, the rule for refusal 30, the calls
 pub mod Index
 -- Steps: what every call keeps of an index

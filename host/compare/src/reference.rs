@@ -804,6 +804,9 @@ pub fn insert(b: &mut [u8], key: &[u8], record: u32) -> Result<(), Refusal> {
     if key.len() != head.k {
         return Err(27);
     }
+    if key.iter().any(|&c| c < 0x20) {
+        return Err(32);
+    }
     if record == 0 {
         return Err(28);
     }

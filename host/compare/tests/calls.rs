@@ -2,16 +2,24 @@
 //! they leave.
 use gatherloom::{Answer, Index, Lookup};
 use gatherloom_compare::reference;
-use std::{fs, path::Path};
+use std::{
+    fs,
+    path::{Path, PathBuf},
+};
 
 /// Each list with the length of the buffer that it was made with.
-const LISTS: [(&str, usize); 7] = [
+const LISTS: [(&str, usize); 12] = [
     ("k10_ascending", 32768),
     ("k10_descending", 32768),
     ("k10_random", 32768),
     ("k1_bytes", 8192),
     ("k100_deep", 65536),
+    ("k5_control", 16384),
     ("k100_full", 4096),
+    ("k100_deep_raised", 65536),
+    ("k100_full_raised", 4096),
+    ("paper_five", 2048),
+    ("paper_full", 1024),
     ("k46_mixed", 32768),
 ];
 
@@ -78,19 +86,33 @@ fn call(calls: &Calls, index: &mut [u8], words: &[&str]) -> (Vec<u32>, Vec<u32>)
     (answers, words[first..].iter().map(|w| number(w)).collect())
 }
 
-fn replay(calls: &Calls) {
-    let data = Path::new(env!("CARGO_MANIFEST_DIR")).join("../../crates/test_indexes/data");
-    for (name, length) in LISTS {
-        let mut index = vec![0u8; length];
-        let list = fs::read_to_string(data.join(format!("{name}.calls"))).unwrap();
-        for line in list.lines() {
-            let words: Vec<&str> = line.split(' ').collect();
-            let (got, expected) = call(calls, &mut index, &words);
-            assert_eq!(got, expected, "{name}: {line}");
-        }
-        let left = fs::read(data.join(format!("{name}.idx"))).unwrap();
-        assert_eq!(index[..left.len()], left[..], "{name}: the bytes left");
+fn data(file: &str) -> PathBuf {
+    Path::new(env!("CARGO_MANIFEST_DIR"))
+        .join("../../crates/test_indexes/data")
+        .join(file)
+}
+
+/// Makes the calls of a list on a buffer, and compares the bytes left with an index file.
+fn make(calls: &Calls, index: &mut [u8], name: &str, after: &str) {
+    let list = fs::read_to_string(data(&format!("{name}.calls"))).unwrap();
+    for line in list.lines() {
+        let words: Vec<&str> = line.split(' ').collect();
+        let (got, expected) = call(calls, index, &words);
+        assert_eq!(got, expected, "{name}: {line}");
     }
+    let left = fs::read(data(after)).unwrap();
+    assert_eq!(index[..left.len()], left[..], "{name}: the bytes left");
+}
+
+/// Every list on zeros, and one on an index of an earlier release, whose keys have control bytes.
+fn replay(calls: &Calls) {
+    for (name, length) in LISTS {
+        make(calls, &mut vec![0; length], name, &format!("{name}.idx"));
+    }
+    let mut index = fs::read(data("earlier.idx")).unwrap();
+    assert_eq!((calls.audit)(&index), 0);
+    index.resize(8192, 0);
+    make(calls, &mut index, "earlier", "earlier_after.idx");
 }
 
 #[test]

@@ -1,68 +1,43 @@
--- `audit::pages_good` meets its contract: the header's numbers are good, so that the file lies within the index and has a mark for each page.
+-- `audit::pages_good` meets its contract: one pass after the other.
 -- Assumes nothing.
-use Rattle.page.specs.HeaderLaws.{good-header}
-use Rattle.audit.specs.PassLaws.{in-file, pages-answer}
 use borrow.Author.Needs.{needs}
+use borrow.Author.Tests.{not-true, not-false}
+use Rattle.audit.specs.KeyLaws.{pages-bad, pages-answer}
 use Rattle.audit.proofs.pages_good.Statement.{statement}
 use Rattle.audit.proofs.pages_good.Tie as tie
 
--- the places: where the function starts, past the header's numbers, past the levels
-abbrev start : tie.After-key-length → tie.Start
-start c = c .before .before .before
-
-abbrev sized : tie.After-root → tie.After-file-size
-sized c = c .before .before
-
-abbrev walked : tie.After-all-marked-arg → tie.After-levels
-walked c = c .before .before .before
-
-key-length-requires : tie.Need-key-length-requires
-key-length-requires c κs = let g = good-header _ (c .before .before .pre .0) in search needs
-
-file-size-requires : tie.Need-file-size-requires
-file-size-requires c κs = let g = good-header _ (start c .pre .0) in search needs
-
-root-requires : tie.Need-root-requires
-root-requires c κs = let g = good-header _ (start (c .before .before) .pre .0) in search needs
-
-levels-requires : tie.Need-levels-requires
-levels-requires c κs =
-    let size = sized c in
-    let key = size .before in
-    let pre = start key .pre in
-    (in-file _ _ _ (pre .0) (key .key-length .ensures) (size .file-size .ensures), pre .1)
-
-all-marked-requires : tie.Need-all-marked-requires
-all-marked-requires c κs =
-    let size = sized (walked c .before) in
-    let pre = start (size .before) .pre in
-    let g = good-header _ (pre .0) in
-    let l = pre .1 in
-    let e = size .file-size .ensures in
-    search needs
+shape-good-requires : tie.Need-shape-good-requires
+shape-good-requires c κs = search needs
 
 same-length : tie.Need-same-length
 same-length c = search needs
 
 returns : tie.Need-returns
 returns c =
-    let marked = c .before .before in
-    let levels = walked (marked .before) in
-    let root = levels .before in
-    let size = sized root in
-    let key = size .before in
-    let args = start key .args in
-    pages-answer (args .index .now) _ _ _ (levels .levels .result) (args .marks .now) _ _
-    (key .key-length .ensures) (size .file-size .ensures) (root .root .ensures) (levels .levels .ensures) (marked .all-marked .ensures)
+    let shape = c .before .before .before in
+    let args = shape .before .before .before .before .args in
+    pages-bad (args .index .now) (args .marks .now) _ (shape .shape-good .ensures) (not-true _ (c .if1 .taken))
+
+keys-above-good-requires : tie.Need-keys-above-good-requires
+keys-above-good-requires c κs = search needs
+
+same-length-2 : tie.Need-same-length-2
+same-length-2 c = search needs
+
+returns-2 : tie.Need-returns-2
+returns-2 c =
+    let tested = c .before in
+    let shape = tested .before .before .before in
+    let args = shape .before .before .before .before .args in
+    pages-answer (args .index .now) (args .marks .now) _ (shape .shape-good .ensures) _ (not-false _ (tested .if1 .left)) (c .keys-above-good .ensures)
 
 pub pages-good-spec : {M : Type 1} → statement M
 pages-good-spec =
     tie.close
     (tie.spec
-    key-length-requires
-    file-size-requires
-    root-requires
-    levels-requires
-    all-marked-requires
+    shape-good-requires
     same-length
-    returns)
+    returns
+    keys-above-good-requires
+    same-length-2
+    returns-2)

@@ -1,9 +1,8 @@
 -- `audit::upper_entries` meets its contract. The loop's invariant: the entries passed are good, so that those from entry `i` on decide.
 -- Assumes nothing.
 use Prim.Native.Nat.{_-_, _≤_}
-use native.Mathlib.Nat.{sub-zero}
 use borrow.Author.Tests.{not-true, not-false}
-use Rattle.audit.specs.EntryLaws.{UpperLeft, upper-end, upper-off, upper-on}
+use Rattle.audit.specs.EntryLaws.{entries-within, UpperLeft, upper-start, upper-end, upper-off, upper-on}
 use borrow.Author.Needs.{needs}
 use Rattle.audit.proofs.upper_entries.Statement.{statement}
 use Rattle.audit.proofs.upper_entries.Tie as tie
@@ -14,14 +13,21 @@ Inv-loop index k size page count i₀ i = (i ≤ count) × UpperLeft index k siz
 abbrev μ-loop : tie.MeasureT-loop
 μ-loop index k size page count i₀ i = count - i
 
+-- where the function starts
+abbrev start : tie.At-loop Inv-loop μ-loop → tie.Start Inv-loop μ-loop
+start c = c .before .before .before
+
+entry-count-requires : tie.Need-entry-count-requires Inv-loop μ-loop
+entry-count-requires c κs = search needs
+
 loop-holds : tie.Need-loop-holds Inv-loop μ-loop
-loop-holds c = (search needs, rw sub-zero)
+loop-holds c = (search needs, upper-start _ _ _ _ _ (c .entry-count .ensures))
 
 upper-entry-requires : tie.Need-upper-entry-requires Inv-loop μ-loop
 upper-entry-requires c κs =
     let head = c .before in
-    let pre = head .before .before .pre in
-    (pre .0, pre .1 .each (head .loop .i) (search needs))
+    let file = start head .pre in
+    (file, entries-within _ _ _ _ _ (head .before .entry-count .ensures) file .each (head .loop .i) (search needs))
 
 returns : tie.Need-returns Inv-loop μ-loop
 returns c =
@@ -48,6 +54,7 @@ upper-entries-spec =
     (tie.spec
     Inv-loop
     μ-loop
+    entry-count-requires
     loop-holds
     upper-entry-requires
     returns

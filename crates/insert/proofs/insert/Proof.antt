@@ -1,7 +1,7 @@
 -- `insert::insert` meets its contract: the rule's tests in its order. Assumes nothing.
 use Prim.Native.Nat.{ℕ}
 use mathlib.Core.Path.{_≡_, sym, ap, _∙_}
-use mathlib.Core.Bool.{true}
+use mathlib.Core.Bool.{true, false}
 use mathlib.Core.List.{List}
 use lib.ListN.{length}
 use Rattle.basis.specs.Tests.{passed, failed}
@@ -10,8 +10,8 @@ use Rattle.page.specs.HeaderLaws.{good-header}
 use Rattle.sound.specs.Rule.{pagesGood, unmarked}
 use Rattle.sound.specs.Accepted.{audit-sound, audit-unsound}
 use Rattle.lookup.specs.Lookup.{lookupRule}
-use Rattle.insert.specs.Calls.{isFound}
-use Rattle.insert.specs.CallLaws.{refused-24, refused-27, refused-28, refused-25, refused-29, refused-30, accepted-pair}
+use Rattle.insert.specs.Calls.{hasControl, isFound}
+use Rattle.insert.specs.CallLaws.{refused-24, refused-27, refused-32, refused-28, refused-25, refused-29, refused-30, accepted-pair}
 use borrow.Author.Needs.{needs}
 use Rattle.insert.proofs.insert.Statement.{statement}
 use Rattle.insert.proofs.insert.Tie as tie
@@ -21,41 +21,48 @@ abbrev start : tie.Else1 → tie.Start
 start c = c .before .before .before .before .before
 
 abbrev at-header : tie.Else2 → tie.Else1
-at-header c = c .before .before .before
+at-header c = c .before .before .before .before
 
 abbrev at-length : tie.Else3 → tie.Else2
-at-length c = c .before .before
+at-length c = c .before
 
-abbrev at-number : tie.After-audit → tie.Else3
+abbrev at-clean : tie.Else4 → tie.Else3
+at-clean c = c .before .before
+
+abbrev at-number : tie.After-audit → tie.Else4
 at-number c = c .before .before
 
-abbrev at-sound : tie.After-is-found → tie.Else4
+abbrev at-sound : tie.After-is-found → tie.Else5
 at-sound c = c .before .before .before
 
-abbrev at-absent : tie.After-no-room → tie.Else5
+abbrev at-absent : tie.After-no-room → tie.Else6
 at-absent c = c .before .before
 
--- the buffer and the key of the call, from behind the third test
+-- the buffer and the key of the call, from behind the test of the key's bytes
 abbrev index : tie.Else3 → List ℕ
 index c = start (at-header (at-length c)) .args .index .now
 
 abbrev key : tie.Else3 → List ℕ
 key c = start (at-header (at-length c)) .args .key .now
 
--- the tests that were passed: the header is good, the key has its length, the index is sound
+-- the tests that were passed: the header is good, the key has its length and no control byte, the index is sound
 header : (c : tie.Else1) → headerGood (start c .args .index .now) ≡ true
 header c = passed (c .before .header-good .ensures) (c .if1 .left)
 
 same : (c : tie.Else2) → let args = start (at-header c) .args in length (args .key .now) ≡ keyLength (args .index .now)
 same c = c .if2 .left ∙ c .before .key-length .ensures
 
-sound : (c : tie.Else4) → pagesGood (index (at-number (c .before))) unmarked ≡ true
+clean : (c : tie.Else3) → hasControl (key c) ≡ false
+clean c = sym (at-length c .before .before .before .has-control .ensures) ∙ c .if3 .left
+
+sound : (c : tie.Else5) → pagesGood (index (at-clean (at-number (c .before)))) unmarked ≡ true
 sound c =
     let audited = c .before in
-    audit-sound _ (header (at-header (at-length (at-number audited)))) (audited .audit .ensures) (c .if4 .left)
+    audit-sound _ (header (at-header (at-length (at-clean (at-number audited))))) (audited .audit .ensures) (c .if5 .left)
 
 -- what the lookup said of the key
-looked-up : (c : tie.After-is-found) → let number = at-number (at-sound c .before) in c .is-found .result ≡ isFound (lookupRule (index number) (key number))
+looked-up : (c : tie.After-is-found)
+    → let free = at-clean (at-number (at-sound c .before)) in c .is-found .result ≡ isFound (lookupRule (index free) (key free))
 looked-up c = c .is-found .ensures ∙ ap isFound (c .before .lookup .ensures)
 
 header-good-requires : tie.Need-header-good-requires
@@ -67,35 +74,49 @@ same-length c = search needs
 returns : tie.Need-returns
 returns c = refused-24 _ _ _ (failed (c .before .header-good .ensures) (c .if1 .taken))
 
+has-control-requires : tie.Need-has-control-requires
+has-control-requires c κs = search needs
+
 key-length-requires : tie.Need-key-length-requires
-key-length-requires c κs = good-header _ (header (c .before)) .long
+key-length-requires c κs = good-header _ (header (c .before .before)) .long
 
 same-length-2 : tie.Need-same-length-2
 same-length-2 c = search needs
 
 returns-2 : tie.Need-returns-2
-returns-2 c = refused-27 _ _ _ (header (c .before .before .before)) (λ e. c .if2 .taken (e ∙ sym (c .before .key-length .ensures)))
+returns-2 c = refused-27 _ _ _ (header (c .before .before .before .before)) (λ e. c .if2 .taken (e ∙ sym (c .before .key-length .ensures)))
 
 same-length-3 : tie.Need-same-length-3
 same-length-3 c = search needs
 
 returns-3 : tie.Need-returns-3
 returns-3 c =
-    let measured = c .before .before in
-    refused-28 _ _ _ (header (at-header measured)) (same measured) (c .if3 .taken)
-
-audit-requires : tie.Need-audit-requires
-audit-requires c κs = search needs
+    let measured = c .before in
+    let control = sym (measured .before .before .before .has-control .ensures) ∙ c .if3 .taken in
+    refused-32 _ _ _ (header (at-header measured)) (same measured) control
 
 same-length-4 : tie.Need-same-length-4
 same-length-4 c = search needs
 
 returns-4 : tie.Need-returns-4
 returns-4 c =
+    let free = c .before .before in
+    let measured = at-length free in
+    refused-28 _ _ _ (header (at-header measured)) (same measured) (clean free) (c .if4 .taken)
+
+audit-requires : tie.Need-audit-requires
+audit-requires c κs = search needs
+
+same-length-5 : tie.Need-same-length-5
+same-length-5 c = search needs
+
+returns-5 : tie.Need-returns-5
+returns-5 c =
     let number = at-number (c .before) in
-    let measured = at-length number in
+    let free = at-clean number in
+    let measured = at-length free in
     let good = header (at-header measured) in
-    refused-25 _ _ _ good (same measured) (number .if3 .left) (audit-unsound _ good (c .before .audit .ensures) (c .if4 .taken))
+    refused-25 _ _ _ good (same measured) (clean free) (number .if4 .left) (audit-unsound _ good (c .before .audit .ensures) (c .if5 .taken))
 
 lookup-requires : tie.Need-lookup-requires
 lookup-requires c κs = search needs
@@ -103,39 +124,21 @@ lookup-requires c κs = search needs
 is-found-requires : tie.Need-is-found-requires
 is-found-requires c κs = search needs
 
-same-length-5 : tie.Need-same-length-5
-same-length-5 c = search needs
-
-returns-5 : tie.Need-returns-5
-returns-5 c =
-    let audited = at-sound (c .before) in
-    let number = at-number (audited .before) in
-    let measured = at-length number in
-    let found = sym (looked-up (c .before)) ∙ c .if5 .taken in
-    refused-29 _ _ _ (header (at-header measured)) (same measured) (number .if3 .left) (sound audited) found
-
-no-room-requires : tie.Need-no-room-requires
-no-room-requires c κs =
-    let measured = at-length (at-number (at-sound (c .before .before) .before)) in
-    (header (at-header measured), same measured)
-
 same-length-6 : tie.Need-same-length-6
 same-length-6 c = search needs
 
 returns-6 : tie.Need-returns-6
 returns-6 c =
-    let absent = at-absent (c .before) in
-    let audited = at-sound (absent .before) in
+    let audited = at-sound (c .before) in
     let number = at-number (audited .before) in
-    let measured = at-length number in
-    let not-found = sym (looked-up (absent .before)) ∙ absent .if5 .left in
-    let full = sym (c .before .no-room .ensures) ∙ c .if6 .taken in
-    refused-30 _ _ _ (header (at-header measured)) (same measured) (number .if3 .left) (sound audited) not-found full
+    let free = at-clean number in
+    let measured = at-length free in
+    let found = sym (looked-up (c .before)) ∙ c .if6 .taken in
+    refused-29 _ _ _ (header (at-header measured)) (same measured) (clean free) (number .if4 .left) (sound audited) found
 
-insert-pair-requires : tie.Need-insert-pair-requires
-insert-pair-requires c κs =
-    let absent = at-absent (c .before .before) in
-    let measured = at-length (at-number (at-sound (absent .before) .before)) in
+no-room-requires : tie.Need-no-room-requires
+no-room-requires c κs =
+    let measured = at-length (at-clean (at-number (at-sound (c .before .before) .before))) in
     (header (at-header measured), same measured)
 
 same-length-7 : tie.Need-same-length-7
@@ -143,15 +146,37 @@ same-length-7 c = search needs
 
 returns-7 : tie.Need-returns-7
 returns-7 c =
+    let absent = at-absent (c .before) in
+    let audited = at-sound (absent .before) in
+    let number = at-number (audited .before) in
+    let free = at-clean number in
+    let measured = at-length free in
+    let not-found = sym (looked-up (absent .before)) ∙ absent .if6 .left in
+    let full = sym (c .before .no-room .ensures) ∙ c .if7 .taken in
+    refused-30 _ _ _ (header (at-header measured)) (same measured) (clean free) (number .if4 .left) (sound audited) not-found full
+
+insert-pair-requires : tie.Need-insert-pair-requires
+insert-pair-requires c κs =
+    let absent = at-absent (c .before .before) in
+    let measured = at-length (at-clean (at-number (at-sound (absent .before) .before))) in
+    (header (at-header measured), same measured)
+
+same-length-8 : tie.Need-same-length-8
+same-length-8 c = search needs
+
+returns-8 : tie.Need-returns-8
+returns-8 c =
     let inserted = c .before .before in
     let room = inserted .before .before in
     let absent = at-absent (room .before) in
     let audited = at-sound (absent .before) in
     let number = at-number (audited .before) in
-    let measured = at-length number in
-    let not-found = sym (looked-up (absent .before)) ∙ absent .if5 .left in
-    let not-full = sym (room .before .no-room .ensures) ∙ room .if6 .left in
-    accepted-pair _ _ _ (header (at-header measured)) (same measured) (number .if3 .left) (sound audited) not-found not-full (inserted .insert-pair .ensures)
+    let free = at-clean number in
+    let measured = at-length free in
+    let not-found = sym (looked-up (absent .before)) ∙ absent .if6 .left in
+    let not-full = sym (room .before .no-room .ensures) ∙ room .if7 .left in
+    accepted-pair _ _ _ (header (at-header measured)) (same measured) (clean free) (number .if4 .left) (sound audited) not-found not-full
+    (inserted .insert-pair .ensures)
 
 pub insert-spec : {M : Type 1} → statement M
 insert-spec =
@@ -160,21 +185,24 @@ insert-spec =
     header-good-requires
     same-length
     returns
+    has-control-requires
     key-length-requires
     same-length-2
     returns-2
     same-length-3
     returns-3
-    audit-requires
     same-length-4
     returns-4
-    lookup-requires
-    is-found-requires
+    audit-requires
     same-length-5
     returns-5
-    no-room-requires
+    lookup-requires
+    is-found-requires
     same-length-6
     returns-6
-    insert-pair-requires
+    no-room-requires
     same-length-7
-    returns-7)
+    returns-7
+    insert-pair-requires
+    same-length-8
+    returns-8)

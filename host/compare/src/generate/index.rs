@@ -27,7 +27,14 @@ impl Fill {
     }
 }
 
-/// A key: of few different bytes, or of any, or one that differs from others only at its end.
+/// Adds 0x20 to each control byte of a key, so that an insertion does not refuse the key by 32.
+pub fn raise_control(key: &mut [u8]) {
+    for c in key.iter_mut().filter(|c| **c < 0x20) {
+        *c += 0x20;
+    }
+}
+
+/// A key: of few different bytes, or of any, or one that differs from others only at its end. A style from 4 on has no control bytes.
 pub fn key(r: &mut Random, k: usize, style: usize) -> Vec<u8> {
     let mut key = vec![b'B'; k];
     match style % 4 {
@@ -43,6 +50,9 @@ pub fn key(r: &mut Random, k: usize, style: usize) -> Vec<u8> {
             key.fill(b'0');
             key[k - shown..].copy_from_slice(&n[n.len() - shown..]);
         }
+    }
+    if style >= 4 {
+        raise_control(&mut key);
     }
     key
 }
@@ -123,7 +133,9 @@ fn levels(
 pub fn spine(r: &mut Random, k: usize, pages: usize) -> (Vec<u8>, Vec<u8>) {
     let numbered = |n: usize| {
         let mut key = vec![b'S'; k];
-        key[k - 2..].copy_from_slice(&(n as u16).to_be_bytes());
+        // two digits to the base 224, none of them a control byte
+        key[k - 2] = 0x20 + (n / 224) as u8;
+        key[k - 1] = 0x20 + (n % 224) as u8;
         key
     };
     let almost = |r: &mut Random| capacity(k) - r.one_in(12) as usize;

@@ -58,7 +58,7 @@ pub fn table(r: &mut Random, fields: usize, records: usize) -> Vec<u8> {
     t
 }
 
-/// An index of so many pages at most, each with so many entries, its keys random but for so many bytes at their start.
+/// An index of so many pages at most, each with so many entries, its keys random but for so many bytes at their start, and without control bytes.
 pub fn index(
     r: &mut Random,
     k: usize,
@@ -67,7 +67,7 @@ pub fn index(
     alike: usize,
 ) -> (Vec<u8>, Vec<Entry>) {
     let leaves = index::leaves_for(pages, per_page);
-    let mut entries = index::entries(r, k - alike, leaves * per_page, 0);
+    let mut entries = index::entries(r, k - alike, leaves * per_page, 4);
     for e in &mut entries {
         e.0.splice(0..0, std::iter::repeat_n(b'S', alike));
     }

@@ -369,6 +369,19 @@ fn probe(r: &mut Random, k: usize, entries: &[Entry], style: usize) -> Vec<u8> {
     key
 }
 
+/// A key as it is offered to an insertion: for the most part without control bytes, now and then as it is or with one at any place.
+fn offered(r: &mut Random, mut key: Vec<u8>) -> Vec<u8> {
+    if r.one_in(8) {
+        return key;
+    }
+    index::raise_control(&mut key);
+    if r.one_in(12) && !key.is_empty() {
+        let at = r.below(key.len());
+        key[at] = r.pick(&[0, 1, 0x0D, 0x1F, 0x1F, 0x20]);
+    }
+    key
+}
+
 fn looks(r: &mut Random, key: &mut Arena, tally: &mut Tally, index: &Lent, own: &[u8], k: &[u8]) {
     let lent = key.lend(k, r.one_in(2));
     calls::lookup(tally, index, own, &lent, r.word());
@@ -390,12 +403,14 @@ fn grown_index(r: &mut Random, a: &mut Arenas, tally: &mut Tally) {
         let expression = a.key.lend(b"BARCODE", true);
         calls::fresh(tally, &lent, &mut own, k as u32, &expression);
     }
-    let style = r.below(4);
+    let least = r.pick(&[0, 4, 4, 4]);
+    let style = r.between(least, 7);
     let keys = ordered_entries(r, k, style);
     let mut refused = 0;
     for i in 0..keys.len() {
         let key = if r.one_in(10) {
-            probe(r, k, &keys, style)
+            let near = probe(r, k, &keys, style);
+            offered(r, near)
         } else {
             keys[i].0.clone()
         };
@@ -446,6 +461,7 @@ fn use_index(
     let mut before = Vec::new();
     for _ in 0..r.pick(&[1, 1, 1, 6]) {
         let key = probe(r, k, entries, style);
+        let key = offered(r, key);
         let key = a.key.lend(&key, r.one_in(2));
         let record = if r.one_in(16) { 0 } else { r.word().max(1) };
         if calls::insert(tally, &lent, &mut own, &mut before, &key, record) == 25 {
@@ -457,7 +473,7 @@ fn use_index(
 /// A sound tree of a random shape, then damaged copies of it.
 fn made_index(r: &mut Random, a: &mut Arenas, tally: &mut Tally) {
     let k = key_length(r);
-    let style = r.below(4);
+    let style = r.below(8);
     let draws = r.pick(&[0, 1, 3, 10, 40, 120]);
     let entries = index::entries(r, k, draws, style);
     let fill = match r.below(3) {
@@ -519,15 +535,16 @@ fn large_index(r: &mut Random, a: &mut Arenas, tally: &mut Tally) {
     let per_leaf = (index::capacity(k) - 1).min(6);
     let pages = r.pick(&[2047, 2046, 2045, 2040, 700]);
     let leaves = index::leaves_for(pages, per_leaf);
-    let entries = index::entries(r, k, leaves * per_leaf, 0);
+    let style = r.pick(&[0, 4, 4, 4]);
+    let entries = index::entries(r, k, leaves * per_leaf, style);
     let mut bytes = index::tree(r, k, &entries, Fill::Exactly(per_leaf), 1);
     if r.one_in(2) {
         bytes.resize(1_048_576 + r.pick(&[0, 1, 512, 2048]), 0x55);
     }
     crowd(r, a, tally, &bytes, &entries);
-    use_index(r, a, tally, &bytes, &entries, 0);
+    use_index(r, a, tally, &bytes, &entries, style);
     index::damage(r, &mut bytes);
-    use_index(r, a, tally, &bytes, &entries, 0);
+    use_index(r, a, tally, &bytes, &entries, style);
 }
 
 /// Insertions into one leaf, so that it splits again and again, as far as the file may grow.
