@@ -6,8 +6,6 @@ pub mod EntryLists
 pub mod RemoveEntries
 -- Laws: attributes, links and counts of all pages, and the header, after removal's steps
 pub mod RemoveHeads
--- Laws: which pages unlinkings leave alone
-pub mod AwayLaws
 -- Laws: the bytes of free pages, of pages outside the tree, and the free list after removal's steps
 pub mod RemoveFree
 -- Laws: the whole buffer after a removal

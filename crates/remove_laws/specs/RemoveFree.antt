@@ -36,7 +36,7 @@ use Rattle.layout_laws.specs.EntryLaws.{entriesIn, Usable, page-of, items-few}
 use Rattle.layout_laws.specs.HeadLaws.{with-header}
 use Rattle.layout_laws.specs.FreeLaws.{freePage, same-free, length-unlinked, unlinked-header, unlinked-bytes, length-freed}
 use Rattle.layout_laws.specs.FreeLaws.{freed-head, freed-free, freed-bytes, freed-own, with-bytes}
-use Rattle.remove_laws.specs.AwayLaws.{Away, Clear, Apart, away-first, away-last, clear-first, clear-last}
+use Rattle.tree.specs.AwayLaws.{Away, Clear, Apart, away-first, away-last, clear-first, clear-last}
 use Rattle.remove_laws.specs.EntryLists.{route-is, route-inside, entry-all, entry-pages}
 use Rattle.remove_laws.specs.RemoveEntries.{OutcomeIs, emptiedFrom, storeAfter, leaf-emptied, upper-emptied, Filled, filled-page}
 use Rattle.remove_laws.specs.RemoveEntries.{through, below, Removes, some, inside, child-is, child-distinct, child-apart, still-inside, removes}
