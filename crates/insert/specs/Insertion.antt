@@ -1,23 +1,25 @@
 -- Rules: insertion, page by page, as the whole buffer that document 01's steps leave. k is the key length; the buffer holds a sound index with room.
-use Prim.Native.Nat.{ℕ, zero, suc, _+_}
+use Prim.Native.Nat.{ℕ, zero, suc}
 use mathlib.Core.Bool.{cond}
 use mathlib.Core.List.{List}
 use lib.ListN.{length}
 use lib.Dec.{leb}
 use Rattle.octets.specs.Bytes.{toBe32}
 use Rattle.tree.specs.Pairs.{insertPair}
-use Rattle.page.specs.Header.{maxLevels, noPage, pageSize, isPage, rootOffset, fileSize}
+use Rattle.page.specs.Header.{maxLevels, noPage, isPage, rootOffset}
 use Rattle.page.specs.Page.{attributeAt, leafBit, capacity}
 use Rattle.page.specs.KeyOrder.{bytesOrder}
 use Rattle.page.specs.Reading.{Item}
-use Rattle.layout.specs.Layout.{itemsIn, withRoot, withSize, withEntries, newPage, splitPage}
+use Rattle.layout.specs.declared.Supply.{Supply}
+use Rattle.layout.specs.Supply.{supplyOf, takePage, withSupply}
+use Rattle.layout.specs.Layout.{itemsIn, withRoot, withEntries, newPage, splitPage}
 use Rattle.layout.specs.Entries.{chosen, childOf, replaced, raised, twoFor, rootEntries}
 
--- what an insertion under a page leaves for the page above to do: nothing, in a file of n bytes; or to take in the new page at q, the last of the file. The
--- third does not occur on a sound index with room: it keeps the rule total
+-- what an insertion under a page leaves for the page above to do: nothing; or to take in the new page at q. Both have the supply that is left. The third does
+-- not occur on a sound index with room: it keeps the rule total
 pub data Outcome : Type 0 where
-  kept : ℕ → Outcome
-  split : ℕ → Outcome
+  kept : Supply → Outcome
+  split : ℕ → Supply → Outcome
   bad : Outcome
 
 -- a buffer after a step, and the outcome
@@ -28,42 +30,44 @@ pub record Step : Type 0 where
 abbrev pub step : List ℕ → Outcome → Step
 step b o = record { after = b; outcome = o }
 
--- the page at p gets the entries es, in a file of n bytes: it holds them, or is split, "a new page at F"
-unfoldable pub takeIn : ℕ → List ℕ → ℕ → List Item → ℕ → Step
-takeIn k b p es n =
-    let whole = step (withEntries b p es) (kept n) in
-    let halves = step (splitPage b p es n) (split n) in
-    cond (leb (length es) (capacity k)) whole (cond (isPage (length b) n) halves (step b bad))
+-- the page at p gets the entries es: it holds them, or is split, with a new page from the supply s
+unfoldable pub takeIn : ℕ → List ℕ → ℕ → List Item → Supply → Step
+takeIn k b p es s =
+    let whole = step (withEntries b p es) (kept s) in
+    let new = takePage b s in
+    let halves = step (splitPage b p es (new .page .0)) (split (new .page .0) (new .rest)) in
+    cond (leb (length es) (capacity k)) whole (cond (isPage (length b) (new .page .0)) halves (step b bad))
 
 -- the page at p after an insertion under its child at c
 abbrev pub afterChild : ℕ → List ℕ → List ℕ → ℕ → ℕ → Outcome → Step
-afterChild k b key p c (kept n) = step (raised k b key p) (kept n)
-afterChild k b key p c (split q) = takeIn k b p (replaced key (twoFor k b key c q) (itemsIn k b p)) (q + pageSize)
+afterChild k b key p c (kept s) = step (raised k b key p) (kept s)
+afterChild k b key p c (split q s) = takeIn k b p (replaced key (twoFor k b key c q) (itemsIn k b p)) s
 afterChild k b key p c bad = step b bad
 
--- the pair goes in under the page at p, in a file of n bytes, with the levels left falling from 11: into the page if it is a leaf, else under the chosen
--- child
-unfoldable pub insertUnder : ℕ → ℕ → List ℕ → List ℕ → ℕ → ℕ → ℕ → Step
-insertUnder k zero b key number p n = step b bad
-insertUnder k (suc left) b key number p n =
-    let leaf = takeIn k b p (insertPair bytesOrder key (toBe32 number) (itemsIn k b p)) n in
+-- the pair goes in under the page at p, with the supply s of new pages and the levels left falling from 11: into the page if it is a leaf, else under the
+-- chosen child
+unfoldable pub insertUnder : ℕ → ℕ → List ℕ → List ℕ → ℕ → ℕ → Supply → Step
+insertUnder k zero b key number p s = step b bad
+insertUnder k (suc left) b key number p s =
+    let leaf = takeIn k b p (insertPair bytesOrder key (toBe32 number) (itemsIn k b p)) s in
     let c = childOf (chosen key (itemsIn k b p)) in
-    let below = insertUnder k left b key number c n in
+    let below = insertUnder k left b key number c s in
     let upper = afterChild k (below .after) key p c (below .outcome) in
     cond (isPage (length b) p) (cond (leafBit (attributeAt b p)) leaf upper) (step b bad)
 
 -- the root at p after the insertion under it: if it was split, "the new root last", over the two halves with their own last keys; and the header's root
--- offset and file size. If there is room, the new root is a page of the buffer
+-- offset and supply. If there is room, the new root is a page of the buffer
 abbrev pub atRoot : ℕ → List ℕ → List ℕ → ℕ → Outcome → List ℕ
-atRoot k b key p (kept n) = withSize b n
-atRoot k b key p (split q) =
-    let root = newPage b (q + pageSize) 1 noPage noPage (rootEntries k b key p q) in
-    let grown = withSize (withRoot root (q + pageSize)) (q + pageSize + pageSize) in
-    cond (isPage (length b) (q + pageSize)) grown b
+atRoot k b key p (kept s) = withSupply b s
+atRoot k b key p (split q s) =
+    let new = takePage b s in
+    let root = newPage b (new .page .0) 1 noPage noPage (rootEntries k b key p q) in
+    let grown = withSupply (withRoot root (new .page .0)) (new .rest) in
+    cond (isPage (length b) (new .page .0)) grown b
 atRoot k b key p bad = b
 
 -- the buffer after an insertion that is accepted
 unfoldable pub insertedBuffer : ℕ → List ℕ → List ℕ → ℕ → List ℕ
 insertedBuffer k b key number =
-    let s = insertUnder k maxLevels b key number (rootOffset b) (fileSize b) in
+    let s = insertUnder k maxLevels b key number (rootOffset b) (supplyOf b) in
     atRoot k (s .after) key (rootOffset b) (s .outcome)

@@ -2,7 +2,7 @@
 
 -- Rules: insertion, page by page
 pub mod Insertion
--- Steps: what the inner functions answer, and how far new pages may lie
+-- Steps: what the inner functions answer, and that a page more can be taken after a split
 pub mod Answers
 -- Rules: the new pages and levels that an insertion needs, and refusal 30
 pub mod Room

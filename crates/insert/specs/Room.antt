@@ -1,12 +1,13 @@
 -- Rules: the new pages and levels that an insertion needs, read off the path to the key, and refusal 30.
-use Prim.Native.Nat.{ℕ, zero, suc, _+_, _*_}
+use Prim.Native.Nat.{ℕ, zero, suc, _+_}
 use mathlib.Core.Bool.{Bool, cond, _||_, _&&_}
 use mathlib.Core.List.{List}
 use lib.ListN.{length}
 use lib.Dec.{eqb, leb, ltb}
-use Rattle.page.specs.Header.{maxBytes, maxLevels, pageSize, isPage, rootOffset, fileSize}
+use Rattle.page.specs.Header.{maxBytes, maxLevels, isPage, rootOffset}
 use Rattle.page.specs.Page.{attributeAt, leafBit, capacity}
 use Rattle.layout.specs.Layout.{itemsIn}
+use Rattle.layout.specs.Supply.{supplyOf, supplyAfter}
 use Rattle.layout.specs.Entries.{chosen, childOf}
 use Rattle.insert.specs.declared.Path.{Path}
 
@@ -31,9 +32,9 @@ abbrev pub rootSplit : Path → ℕ
 rootSplit path = cond (eqb (path .run) (path .levels)) 1 0
 
 -- new pages: "One is needed for each full page in an unbroken run from the leaf up, and one more if the run has the root. 30 is given exactly when F would
--- pass the buffer or 1,048,576, or levels would pass 11"
+-- pass the buffer or 1,048,576, or levels would pass 11": F is the file's end after these pages were taken from the supply
 unfoldable pub noRoom : ℕ → List ℕ → List ℕ → Bool
 noRoom k b key =
     let path = pathFrom k maxLevels b key (rootOffset b) in
-    let size = fileSize b + pageSize * (path .run + rootSplit path) in
+    let size = supplyAfter (path .run + rootSplit path) b (supplyOf b) .end .0 in
     ltb (length b) size || (ltb maxBytes size || ltb maxLevels (path .levels + rootSplit path))

@@ -1,5 +1,5 @@
 -- Laws: the cases of the path to a key, each from what leads to it, and how long it is. Cited by the proofs of the functions. Assumes nothing.
-use Prim.Native.Nat.{ℕ, zero, suc, _+_, _-_, _*_, _≤_}
+use Prim.Native.Nat.{ℕ, zero, suc, _+_, _-_, _≤_}
 use mathlib.Core.Path.{_≡_, refl}
 use mathlib.Core.Bool.{Bool, _&&_, _||_}
 use mathlib.Core.List.{List}
@@ -7,10 +7,12 @@ use native.Mathlib.Omega.{arith}
 use lib.ListN.{length}
 use lib.Dec.{eqb, leb, ltb}
 use Rattle.basis.specs.Tests.{either}
-use Rattle.page.specs.Header.{maxBytes, maxLevels, pageSize, isPage, rootOffset, fileSize, keyLength}
+use Rattle.page.specs.Header.{maxBytes, maxLevels, isPage, rootOffset, keyLength}
 use Rattle.page.specs.Page.{attributeAt, leafBit, capacity}
 use Rattle.page.specs.declared.PageOffset.{PageOffset}
 use Rattle.layout.specs.Layout.{itemsIn}
+use Rattle.layout.specs.declared.Supply.{Supply}
+use Rattle.layout.specs.Supply.{supplyOf, supplyAfter}
 use Rattle.layout.specs.Entries.{chosen, childOf}
 use Rattle.insert.specs.Room.{nowhere, onTop, pathFrom, rootSplit, noRoom}
 use Rattle.insert.specs.Answers.{visitOf}
@@ -72,8 +74,9 @@ pub root-once : (path : Path) → rootSplit path ≤ 1
 root-once path = either (eqb (path .run) (path .levels)) (λ e. rw e (omega arith)) (λ e. rw e (omega arith))
 
 -- the tests of room, on the path's numbers
-pub room-told : (b key : List ℕ) {path : Path} {root file more : ℕ} → let size = file + pageSize * (path .run + more) in
-    length key ≡ keyLength b → root ≡ rootOffset b → path ≡ pathFrom (length key) maxLevels b key root → more ≡ rootSplit path → file ≡ fileSize b
+pub room-told : (b key : List ℕ) {path : Path} {root more : ℕ} {supply after : Supply} → let size = after .end .0 in
+    length key ≡ keyLength b → root ≡ rootOffset b → path ≡ pathFrom (length key) maxLevels b key root → more ≡ rootSplit path → supply ≡ supplyOf b
+    → after ≡ supplyAfter (path .run + more) b supply
     → (ltb (length b) size || (ltb maxBytes size || ltb maxLevels (path .levels + more))) ≡ noRoom (keyLength b) b key
 unfolding noRoom
-room-told b key ek er ep em ef = rw (em, ep, ef, er, ek)
+room-told b key ek er ep em es ea = rw (ea, em, ep, es, er, ek)

@@ -1,6 +1,6 @@
--- Laws: the cases of insertion's steps, each from what leads to it, and that a new page's offset has 32 bits. Cited by the proofs of the functions.
+-- Laws: the cases of insertion's steps, each from what leads to it, and that the supply lasts for the page above. Cited by the proofs of the functions.
 -- Assumes nothing.
-use Prim.Native.Nat.{ℕ, zero, suc, _+_, _-_, _*_, _≤_, _<_}
+use Prim.Native.Nat.{ℕ, zero, suc, _+_, _-_, _≤_, _<_}
 use mathlib.Core.Path.{_≡_, refl, sym, ap, _∙_}
 use mathlib.Core.Bool.{true, false}
 use mathlib.Core.List.{List, [], _∷_}
@@ -11,12 +11,17 @@ use borrow.Author.Tests.{le-leb, lt-leb}
 use Rattle.basis.specs.Tests.{either, impossible}
 use Rattle.octets.specs.Bytes.{toBe32}
 use Rattle.tree.specs.Pairs.{insertPair}
-use Rattle.page.specs.Header.{maxLevels, noPage, pageSize, isPage, rootOffset, fileSize, keyLength}
+use Rattle.page.specs.Header.{maxLevels, noPage, isPage, rootOffset, keyLength}
 use Rattle.page.specs.Page.{attributeAt, leafBit, capacity}
 use Rattle.page.specs.KeyOrder.{bytesOrder}
 use Rattle.page.specs.Reading.{Item, items}
 use Rattle.page.specs.declared.PageOffset.{PageOffset}
-use Rattle.layout.specs.Layout.{itemsIn, withRoot, withSize, withEntries, newPage, splitPage}
+use Rattle.layout.specs.declared.Supply.{Supply}
+use Rattle.layout.specs.declared.Taken.{Taken}
+use Rattle.layout.specs.Given.{Lasts}
+use Rattle.layout.specs.Supply.{supplyOf, takePage, withSupply}
+use Rattle.layout.specs.SupplyLaws.{taken-lasts}
+use Rattle.layout.specs.Layout.{itemsIn, withRoot, withEntries, newPage, splitPage}
 use Rattle.layout.specs.Entries.{chosen, childOf, replaced, twoFor, rootEntries}
 use Rattle.insert.specs.Insertion.{Outcome as RuleOutcome, kept, split, bad, Step, step, takeIn, afterChild, insertUnder, atRoot, insertedBuffer}
 use Rattle.insert.specs.Answers.{outcomeOf, NextFits, visitOf}
@@ -25,28 +30,30 @@ use Rattle.insert.specs.declared.Outcome.the-variants.{Kept, Split, Bad}
 use Rattle.insert.specs.declared.Visit.the-variants as visit
 
 -- the three outcomes differ
-kept-split : {X : Type 0} {n q : ℕ} → kept n ≡ split q → X
+kept-split : {X : Type 0} {s t : Supply} {q : ℕ} → kept s ≡ split q t → X
 kept-split e = impossible cc
 
-bad-split : {X : Type 0} {q : ℕ} → bad ≡ split q → X
+bad-split : {X : Type 0} {q : ℕ} {t : Supply} → bad ≡ split q t → X
 bad-split e = impossible cc
 
-same-split : {n q : ℕ} → split n ≡ split q → q ≡ n
+same-split : {p q : ℕ} {s t : Supply} → split p s ≡ split q t → t ≡ s
 same-split e = cc
 
 -- a page that gets entries holds them, is split, or stays if there is no page for the rest
-module _ (k : ℕ) (b : List ℕ) (p : ℕ) (es : List Item) (n : ℕ) where
-  pub takes-kept : {out : List ℕ} → length es ≤ capacity k → out ≡ withEntries b p es → takeIn k b p es n ≡ step out (kept n)
+module _ (k : ℕ) (b : List ℕ) (p : ℕ) (es : List Item) (s : Supply) where
+  pub takes-kept : {out : List ℕ} → length es ≤ capacity k → out ≡ withEntries b p es → takeIn k b p es s ≡ step out (kept s)
   unfolding takeIn
   takes-kept h e = rw (le-leb _ _ h, e)
 
-  pub takes-split : {out : List ℕ} → capacity k < length es → isPage (length b) n ≡ true → out ≡ splitPage b p es n → takeIn k b p es n ≡ step out (split n)
-  unfolding takeIn
-  takes-split h t e = rw (lt-leb _ _ h, t, e)
+  module _ {new : Taken} (taken : new ≡ takePage b s) where
+    pub takes-split : {out : List ℕ} → capacity k < length es → isPage (length b) (new .page .0) ≡ true → out ≡ splitPage b p es (new .page .0)
+        → takeIn k b p es s ≡ step out (split (new .page .0) (new .rest))
+    unfolding takeIn
+    takes-split h t e = rw (lt-leb _ _ h, ← taken, t, e)
 
-  pub takes-none : capacity k < length es → isPage (length b) n ≡ false → takeIn k b p es n ≡ step b bad
-  unfolding takeIn
-  takes-none h t = rw (lt-leb _ _ h, t)
+    pub takes-none : capacity k < length es → isPage (length b) (new .page .0) ≡ false → takeIn k b p es s ≡ step b bad
+    unfolding takeIn
+    takes-none h t = rw (lt-leb _ _ h, ← taken, t)
 
 -- the three kinds of a visit differ
 bad-leaf : {X : Type 0} → visit.Bad ≡ visit.Leaf → X
@@ -85,70 +92,75 @@ module _ (b key : List ℕ) (p : ℕ) where
       (λ t. bad-child (sym (rw t at e)))
 
 -- insertion by cases of the visit
-module _ (b key : List ℕ) (r p n : ℕ) where
-  pub under-bad : (levels : ℕ) → (levels ≡ 0 → ⊥) → visit.Bad ≡ visitOf b key p → insertUnder (length key) levels b key r p n ≡ step b bad
+module _ (b key : List ℕ) (r p : ℕ) (s : Supply) where
+  pub under-bad : (levels : ℕ) → (levels ≡ 0 → ⊥) → visit.Bad ≡ visitOf b key p → insertUnder (length key) levels b key r p s ≡ step b bad
   unfolding insertUnder
-  under-bad zero s e = absurd (s refl)
-  under-bad (suc left) s e = rw (visited-bad b key p e)
+  under-bad zero some e = absurd (some refl)
+  under-bad (suc left) some e = rw (visited-bad b key p e)
 
   pub under-leaf : (levels : ℕ) → (levels ≡ 0 → ⊥) → visit.Leaf ≡ visitOf b key p
-      → insertUnder (length key) levels b key r p n ≡ takeIn (length key) b p (insertPair bytesOrder key (toBe32 r) (itemsIn (length key) b p)) n
+      → insertUnder (length key) levels b key r p s ≡ takeIn (length key) b p (insertPair bytesOrder key (toBe32 r) (itemsIn (length key) b p)) s
   unfolding insertUnder
-  under-leaf zero s e = absurd (s refl)
-  under-leaf (suc left) s e = let v = visited-leaf b key p e in rw (v .0, v .1)
+  under-leaf zero some e = absurd (some refl)
+  under-leaf (suc left) some e = let v = visited-leaf b key p e in rw (v .0, v .1)
 
   pub under-child : (levels : ℕ) (c : PageOffset) {b′ : List ℕ} {o : RuleOutcome} → (levels ≡ 0 → ⊥) → visit.Child c ≡ visitOf b key p
-      → insertUnder (length key) (levels - 1) b key r (c .0) n ≡ step b′ o
-      → insertUnder (length key) levels b key r p n ≡ afterChild (length key) b′ key p (c .0) o
+      → insertUnder (length key) (levels - 1) b key r (c .0) s ≡ step b′ o
+      → insertUnder (length key) levels b key r p s ≡ afterChild (length key) b′ key p (c .0) o
   unfolding insertUnder
-  under-child zero c s e d = absurd (s refl)
-  under-child (suc left) c s e d =
+  under-child zero c some e d = absurd (some refl)
+  under-child (suc left) c some e d =
       let v = visited-child b key p c e in
       let f : suc left - 1 ≡ left = omega arith in
       rw (v .0, v .1, ← v .2, rw f at d)
 
--- a new page begins at the file's end: with a page for each level left, its offset stays below the limit
-split-here : (k : ℕ) (b : List ℕ) (p : ℕ) (es : List Item) (n q : ℕ) → takeIn k b p es n .outcome ≡ split q → q ≡ n
+-- a supply that lasts for a page on each level left and for m more lasts for m after a split
+split-here : (k : ℕ) (b : List ℕ) (p : ℕ) (es : List Item) (s : Supply) (q : ℕ) (t : Supply) → takeIn k b p es s .outcome ≡ split q t → t ≡ takePage b s .rest
 unfolding takeIn
-split-here k b p es n q e = either (leb (length es) (capacity k))
-    (λ t. kept-split (rw t at e))
-    (λ t. either (isPage (length b) n) (λ u. same-split (rw (t, u) at e)) (λ u. bad-split (rw (t, u) at e)))
+split-here k b p es s q t e = either (leb (length es) (capacity k))
+    (λ u. kept-split (rw u at e))
+    (λ u. either (isPage (length b) (takePage b s .page .0)) (λ v. same-split (rw (u, v) at e)) (λ v. bad-split (rw (u, v) at e)))
 
-after-bound : (k : ℕ) (b key : List ℕ) (p c : ℕ) (o : RuleOutcome) (q m : ℕ)
-    → ((x : ℕ) → o ≡ split x → x + pageSize ≤ m) → afterChild k b key p c o .outcome ≡ split q → q + pageSize ≤ m + pageSize
-after-bound k b key p c (kept n) q m h e = kept-split e
-after-bound k b key p c (split x) q m h e = omega (arith, h x refl, split-here k b p _ (x + pageSize) q e)
-after-bound k b key p c bad q m h e = bad-split e
+take-in-lasts : (k : ℕ) (b : List ℕ) (p : ℕ) (es : List Item) (s : Supply) (q : ℕ) (t : Supply) (m : ℕ) → Lasts (m + 1) s
+    → takeIn k b p es s .outcome ≡ split q t → Lasts m t
+take-in-lasts k b p es s q t m h e = rw (split-here k b p es s q t e) (taken-lasts m b s h)
 
-split-bound : (k left : ℕ) (b key : List ℕ) (r p n q : ℕ) → insertUnder k left b key r p n .outcome ≡ split q → q + pageSize ≤ n + pageSize * left
+after-lasts : (k : ℕ) (b key : List ℕ) (p c : ℕ) (o : RuleOutcome) (q : ℕ) (t : Supply) (m : ℕ)
+    → ((x : ℕ) (y : Supply) → o ≡ split x y → Lasts (m + 1) y) → afterChild k b key p c o .outcome ≡ split q t → Lasts m t
+after-lasts k b key p c (kept s) q t m h e = kept-split e
+after-lasts k b key p c (split x y) q t m h e = take-in-lasts k b p _ y q t m (h x y refl) e
+after-lasts k b key p c bad q t m h e = bad-split e
+
+split-lasts : (k left : ℕ) (b key : List ℕ) (r p : ℕ) (s : Supply) (q : ℕ) (t : Supply) (m : ℕ) → Lasts (left + m) s
+    → insertUnder k left b key r p s .outcome ≡ split q t → Lasts m t
 unfolding insertUnder
-split-bound k zero b key r p n q e = bad-split e
-split-bound k (suc left) b key r p n q e =
+split-lasts k zero b key r p s q t m h e = bad-split e
+split-lasts k (suc left) b key r p s q t m h e =
     let es = itemsIn k b p in
     let c = childOf (chosen key es) in
-    let below = insertUnder k left b key r c n in
-    let m : n + pageSize * suc left ≡ n + pageSize * left + pageSize = omega arith in
+    let below = insertUnder k left b key r c s in
     either (isPage (length b) p)
-    (λ t. either (leafBit (attributeAt b p))
-    (λ u. omega (arith, split-here k b p (insertPair bytesOrder key (toBe32 r) es) n q (rw (t, u) at e)))
-    (λ u. rw m (after-bound k (below .after) key p c (below .outcome) q (n + pageSize * left) (λ x h. split-bound k left b key r c n x h) (rw (t, u) at e))))
-    (λ t. bad-split (rw t at e))
+    (λ u. either (leafBit (attributeAt b p))
+    (λ v. take-in-lasts k b p (insertPair bytesOrder key (toBe32 r) es) s q t m (omega (arith, h)) (rw (u, v) at e))
+    (λ v. after-lasts k (below .after) key p c (below .outcome) q t m (λ x y f. split-lasts k left b key r c s x y (m + 1) (omega (arith, h)) f)
+    (rw (u, v) at e)))
+    (λ u. bad-split (rw u at e))
 
-pub next-fits : (limit k left : ℕ) (b key : List ℕ) (r p n : ℕ) {out : List ℕ} (o : Outcome) → insertUnder k left b key r p n ≡ step out (outcomeOf o)
-    → n + pageSize * left ≤ limit → NextFits limit o
-next-fits limit k left b key r p n (Kept x) e h = tt
-next-fits limit k left b key r p n (Split q) e h = omega (arith, split-bound k left b key r p n (q .0) (ap (λ (s : Step). s .outcome) e))
-next-fits limit k left b key r p n Bad e h = tt
+pub next-fits : (k left : ℕ) (b key : List ℕ) (r p : ℕ) (s : Supply) {out : List ℕ} (o : Outcome) → insertUnder k left b key r p s ≡ step out (outcomeOf o)
+    → Lasts (left + 1) s → NextFits o
+next-fits k left b key r p s (Kept t) e h = tt
+next-fits k left b key r p s (Split q t) e h = split-lasts k left b key r p s (q .0) t 1 h (ap (λ (x : Step). x .outcome) e)
+next-fits k left b key r p s Bad e h = tt
 
 -- a page above one that was split gets the rule's entries; a page without entries has none to replace
-pub two-for-some : (k : ℕ) (b key : List ℕ) (p c q : ℕ) (es : List Item) {end : ℕ} {s : Step} → es ≡ replaced key (twoFor k b key c q) (itemsIn k b p)
-    → end ≡ q + pageSize → takeIn k b p es end ≡ s → afterChild k b key p c (split q) ≡ s
-two-for-some k b key p c q es g f e = rw (← g, ← f) e
+pub two-for-some : (k : ℕ) (b key : List ℕ) (p c q : ℕ) (s : Supply) (es : List Item) {out : Step} → es ≡ replaced key (twoFor k b key c q) (itemsIn k b p)
+    → takeIn k b p es s ≡ out → afterChild k b key p c (split q s) ≡ out
+two-for-some k b key p c q s es g e = rw (← g) e
 
-pub two-for-none : (k : ℕ) (b key : List ℕ) (p c q : ℕ) (xs : List ℕ) {end : ℕ} {s : Step} → length (itemsIn k b p) ≡ 0 → end ≡ q + pageSize
-    → takeIn k b p (items k 0 xs) end ≡ s → afterChild k b key p c (split q) ≡ s
+pub two-for-none : (k : ℕ) (b key : List ℕ) (p c q : ℕ) (s : Supply) (xs : List ℕ) {out : Step} → length (itemsIn k b p) ≡ 0
+    → takeIn k b p (items k 0 xs) s ≡ out → afterChild k b key p c (split q s) ≡ out
 unfolding items
-two-for-none k b key p c q xs h f e = rw (none (itemsIn k b p) h, ← f) e
+two-for-none k b key p c q s xs h e = rw (none (itemsIn k b p) h) e
   where
     none : (es : List Item) → length es ≡ 0 → es ≡ []
     none [] h = refl
@@ -169,19 +181,19 @@ module _ (b key : List ℕ) (p : ℕ) where
   unfolding visitOf
   visit-child {a} {c} t e h q = rw (t, ← e, h, ← q)
 
--- the new root begins at the end of the new page at q
-module _ (b key : List ℕ) (p q : ℕ) {root : ℕ} (behind : root ≡ q + pageSize) where
-  pub root-none : isPage (length b) root ≡ false → b ≡ atRoot (length key) b key p (split q)
-  root-none t = rw (← behind, t)
+-- the new root is taken from the supply that the split of the old one left
+module _ (b key : List ℕ) (p q : ℕ) (s : Supply) {new : Taken} (taken : new ≡ takePage b s) where
+  pub root-none : isPage (length b) (new .page .0) ≡ false → b ≡ atRoot (length key) b key p (split q s)
+  root-none t = rw (← taken, t)
 
-  pub root-new : {end : ℕ} {es : List Item} {l1 l2 l3 : List ℕ} → isPage (length b) root ≡ true → es ≡ rootEntries (length key) b key p q
-      → l1 ≡ newPage b root 1 noPage noPage es → l2 ≡ withRoot l1 root → end ≡ root + pageSize → l3 ≡ withSize l2 end
-      → l3 ≡ atRoot (length key) b key p (split q)
-  root-new t e e1 e2 f e3 = rw (← behind, t) (e3 ∙ rw (f, e2, e1, e))
+  pub root-new : {es : List Item} {l1 l2 l3 : List ℕ} → isPage (length b) (new .page .0) ≡ true → es ≡ rootEntries (length key) b key p q
+      → l1 ≡ newPage b (new .page .0) 1 noPage noPage es → l2 ≡ withRoot l1 (new .page .0) → l3 ≡ withSupply l2 (new .rest)
+      → l3 ≡ atRoot (length key) b key p (split q s)
+  root-new t e e1 e2 e3 = rw (← taken, t) (e3 ∙ rw (e2, e1, e))
 
 -- the whole insertion
-pub pair-inserted : (b key : List ℕ) (r : ℕ) {root file : ℕ} {b′ out : List ℕ} {o : RuleOutcome}
-    → length key ≡ keyLength b → root ≡ rootOffset b → file ≡ fileSize b → insertUnder (length key) maxLevels b key r root file ≡ step b′ o
+pub pair-inserted : (b key : List ℕ) (r : ℕ) {root : ℕ} {supply : Supply} {b′ out : List ℕ} {o : RuleOutcome}
+    → length key ≡ keyLength b → root ≡ rootOffset b → supply ≡ supplyOf b → insertUnder (length key) maxLevels b key r root supply ≡ step b′ o
     → out ≡ atRoot (length key) b′ key root o → out ≡ insertedBuffer (keyLength b) b key r
 unfolding insertedBuffer
-pair-inserted b key r ek er ef e q = q ∙ rw (← ek, ← er, ← ef, e)
+pair-inserted b key r ek er es e q = q ∙ rw (← ek, ← er, ← es, e)

@@ -1,22 +1,23 @@
 // A fresh index, and insertion.
+use layout::Supply;
 use page::Page;
 use page::PageOffset;
 use page::RecordNumber;
 ghost use mathlib.Core.Path.{_≡_};
 ghost use mathlib.Core.Bool.{Bool, true};
-ghost use Prim.Native.Nat.{ℕ, _+_, _*_, _≤_};
+ghost use Prim.Native.Nat.{ℕ, _≤_};
 ghost use lib.ListN.{length};
 ghost use lib.Dec.{leb};
 ghost use Rattle.octets.specs.Bytes.{toBe32};
 ghost use Rattle.tree.specs.Pairs.{insertPair};
-ghost use Rattle.page.specs.Header.{minBytes, maxLevels, maxKey, maxOffset, pageSize, isPage, keyLength, headerGood};
+ghost use Rattle.page.specs.Header.{minBytes, maxLevels, maxKey, pageSize, isPage, keyLength, headerGood};
 ghost use Rattle.page.specs.Page.{capacity};
 ghost use Rattle.page.specs.KeyOrder.{bytesOrder};
 ghost use Rattle.page.specs.Reading.{items};
 ghost use Rattle.layout.specs.Layout.{itemsIn};
-ghost use Rattle.layout.specs.Given.{Over};
+ghost use Rattle.layout.specs.Given.{Over, Lasts};
 ghost use Rattle.insert.specs.Insertion.{split, step, takeIn, afterChild, insertUnder, atRoot, insertedBuffer};
-ghost use Rattle.insert.specs.Answers.{outcomeOf, NextFits, maxGrown, visitOf};
+ghost use Rattle.insert.specs.Answers.{outcomeOf, NextFits, visitOf};
 ghost use Rattle.insert.specs.Room.{onTop, pathFrom, rootSplit, noRoom};
 ghost use Rattle.insert.specs.Calls.{afterCall, isFound, insertRule};
 ghost use Rattle.insert.specs.Fresh.{printable, maxExpression, expressionGood, freshBuffer, freshRule};
@@ -36,10 +37,10 @@ pub struct Path {
     pub run: u32,
 }
 
-// What an insertion under a page leaves for the page above to do: nothing, with the file's end; or to take in a new page; or it met no page.
+// What an insertion under a page leaves for the page above to do: nothing; or to take in a new page, both with the supply that is left; or it met no page.
 pub enum Outcome {
-    Kept(PageOffset),
-    Split(PageOffset),
+    Kept(Supply),
+    Split(PageOffset, Supply),
     Bad,
 }
 
@@ -50,28 +51,31 @@ pub enum Visit {
     Child(PageOffset),
 }
 
-// Gives a page `count` entries, held in the bytes `entries`, or splits it: the new page begins at the file's end, `end`.
+// Gives a page `count` entries, held in the bytes `entries`, or splits it, with a new page from `supply`.
 fn take_in(
     index: &mut [u8],
     k: usize,
     page: PageOffset,
     count: usize,
     entries: &[u8],
-    end: PageOffset,
+    supply: Supply,
 ) -> Outcome
-    requires { ⌜ Over (now index) k (page .0) count (now entries) ⌝ }
-    ensures { λ r. ⌜ takeIn k (now (index .entry)) (page .0) (items k count (now (entries .entry))) (end .0)
+    requires { ⌜ Over (now index) k (page .0) count (now entries) × Lasts 1 supply ⌝ }
+    ensures { λ r. ⌜ takeIn k (now (index .entry)) (page .0) (items k count (now (entries .entry))) supply
         ≡ step (now (index .exit)) (outcomeOf r) ⌝ }
 {
     if count <= Page::capacity(k) {
         layout::with_entries(index, k, page, count, entries);
-        return Outcome::Kept(end);
+        return Outcome::Kept(supply);
     }
-    if !page::is_page(index.len(), end) {
+    let taken = layout::take_page(index, supply);
+    let new = taken.page;
+    if !page::is_page(index.len(), new) {
         return Outcome::Bad;
     }
-    layout::split_page(index, k, page, count, entries, end);
-    Outcome::Split(end)
+    layout::split_page(index, k, page, count, entries, new);
+    let rest = taken.rest;
+    Outcome::Split(new, rest)
 }
 
 // Puts a pair into a leaf.
@@ -80,18 +84,18 @@ fn insert_in_leaf(
     key: &[u8],
     number: RecordNumber,
     page: PageOffset,
-    end: PageOffset,
+    supply: Supply,
 ) -> Outcome
-    requires { ⌜ (length (now key) ≤ maxKey) × (isPage (length (now index)) (page .0) ≡ true) ⌝ }
+    requires { ⌜ (length (now key) ≤ maxKey) × (isPage (length (now index)) (page .0) ≡ true) × Lasts 1 supply ⌝ }
     ensures { λ r. ⌜ takeIn (length (now (key .entry))) (now (index .entry)) (page .0)
         (insertPair bytesOrder (now (key .entry)) (toBe32 (number .0)) (itemsIn (length (now (key .entry))) (now (index .entry)) (page .0)))
-        (end .0) ≡ step (now (index .exit)) (outcomeOf r) ⌝ }
+        supply ≡ step (now (index .exit)) (outcomeOf r) ⌝ }
 {
     let mut room = [0u8; layout::ROOM];
     let count = layout::entry_count(index, key.len(), page);
     layout::gather_pair(&mut room, index, key, number, page, count);
     let size = (count + 1) * (key.len() + 4);
-    take_in(index, key.len(), page, count + 1, &room[..size], end)
+    take_in(index, key.len(), page, count + 1, &room[..size], supply)
 }
 
 // Puts two entries, for `child` and `new`, in the place of the one above `child`, which was split.
@@ -101,20 +105,20 @@ fn take_in_two(
     page: PageOffset,
     child: PageOffset,
     new: PageOffset,
+    supply: Supply,
 ) -> Outcome
-    requires { ⌜ (length (now key) ≤ maxKey) × (isPage (length (now index)) (page .0) ≡ true) × (new .0 + pageSize ≤ maxOffset) ⌝ }
-    ensures { λ r. ⌜ afterChild (length (now (key .entry))) (now (index .entry)) (now (key .entry)) (page .0) (child .0) (split (new .0))
+    requires { ⌜ (length (now key) ≤ maxKey) × (isPage (length (now index)) (page .0) ≡ true) × Lasts 1 supply ⌝ }
+    ensures { λ r. ⌜ afterChild (length (now (key .entry))) (now (index .entry)) (now (key .entry)) (page .0) (child .0) (split (new .0) supply)
         ≡ step (now (index .exit)) (outcomeOf r) ⌝ }
 {
     let mut room = [0u8; layout::ROOM];
-    let end = page::next_page(new);
     let count = layout::entry_count(index, key.len(), page);
     if count == 0 {
-        return take_in(index, key.len(), page, 0, &room[..0], end);
+        return take_in(index, key.len(), page, 0, &room[..0], supply);
     }
     layout::gather_two(&mut room, index, key, page, count, child, new);
     let size = (count + 1) * (key.len() + 4);
-    take_in(index, key.len(), page, count + 1, &room[..size], end)
+    take_in(index, key.len(), page, count + 1, &room[..size], supply)
 }
 
 // What a page does after an insertion under its child left `below`.
@@ -125,16 +129,16 @@ fn after_child(
     child: PageOffset,
     below: Outcome,
 ) -> Outcome
-    requires { ⌜ (length (now key) ≤ maxKey) × (isPage (length (now index)) (page .0) ≡ true) × NextFits maxOffset below ⌝ }
+    requires { ⌜ (length (now key) ≤ maxKey) × (isPage (length (now index)) (page .0) ≡ true) × NextFits below ⌝ }
     ensures { λ r. ⌜ afterChild (length (now (key .entry))) (now (index .entry)) (now (key .entry)) (page .0) (child .0) (outcomeOf below)
         ≡ step (now (index .exit)) (outcomeOf r) ⌝ }
 {
     match below {
-        Outcome::Kept(end) => {
+        Outcome::Kept(supply) => {
             layout::raise_key(index, key, page);
-            Outcome::Kept(end)
+            Outcome::Kept(supply)
         }
-        Outcome::Split(new) => take_in_two(index, key, page, child, new),
+        Outcome::Split(new, supply) => take_in_two(index, key, page, child, new, supply),
         Outcome::Bad => Outcome::Bad,
     }
 }
@@ -154,17 +158,17 @@ fn visit_page(index: &[u8], key: &[u8], page: PageOffset) -> Visit
     Visit::Child(layout::chosen_child(index, key, page))
 }
 
-// Insertion under a page, with `levels` levels left and the file's end at `end`.
+// Insertion under a page, with `levels` levels left and new pages from `supply`.
 fn insert_under(
     index: &mut [u8],
     key: &[u8],
     number: RecordNumber,
     page: PageOffset,
     levels: u32,
-    end: PageOffset,
+    supply: Supply,
 ) -> Outcome
-    requires { ⌜ (length (now key) ≤ maxKey) × (end .0 + pageSize * levels ≤ maxOffset) ⌝ }
-    ensures { λ r. ⌜ insertUnder (length (now (key .entry))) levels (now (index .entry)) (now (key .entry)) (number .0) (page .0) (end .0)
+    requires { ⌜ (length (now key) ≤ maxKey) × Lasts levels supply ⌝ }
+    ensures { λ r. ⌜ insertUnder (length (now (key .entry))) levels (now (index .entry)) (now (key .entry)) (number .0) (page .0) supply
         ≡ step (now (index .exit)) (outcomeOf r) ⌝ }
 {
     if levels == 0 {
@@ -173,20 +177,27 @@ fn insert_under(
     let visit = visit_page(index, key, page);
     match visit {
         Visit::Bad => Outcome::Bad,
-        Visit::Leaf => insert_in_leaf(index, key, number, page, end),
+        Visit::Leaf => insert_in_leaf(index, key, number, page, supply),
         Visit::Child(child) => {
-            let below = insert_under(index, key, number, child, levels - 1, end);
+            let below = insert_under(index, key, number, child, levels - 1, supply);
             after_child(index, key, page, child, below)
         }
     }
 }
 
-// Writes a new root over `old`, which was split, and `new`; and the header's root offset and file size.
-fn new_root(index: &mut [u8], key: &[u8], old: PageOffset, new: PageOffset)
-    requires { ⌜ (length (now key) ≤ maxKey) × (new .0 + pageSize ≤ maxGrown) ⌝ }
-    ensures { λ _. ⌜ now (index .exit) ≡ atRoot (length (now (key .entry))) (now (index .entry)) (now (key .entry)) (old .0) (split (new .0)) ⌝ }
+// Writes a new root over `old`, which was split, and `new`, on a page from `supply`; and the header's root offset and supply.
+fn new_root(
+    index: &mut [u8],
+    key: &[u8],
+    old: PageOffset,
+    new: PageOffset,
+    supply: Supply,
+)
+    requires { ⌜ (length (now key) ≤ maxKey) × Lasts 1 supply ⌝ }
+    ensures { λ _. ⌜ now (index .exit) ≡ atRoot (length (now (key .entry))) (now (index .entry)) (now (key .entry)) (old .0) (split (new .0) supply) ⌝ }
 {
-    let root = page::next_page(new);
+    let taken = layout::take_page(index, supply);
+    let root = taken.page;
     if !page::is_page(index.len(), root) {
         return;
     }
@@ -202,17 +213,17 @@ fn new_root(index: &mut [u8], key: &[u8], old: PageOffset, new: PageOffset)
     };
     layout::new_page(index, key.len(), root, head, &room[..size]);
     layout::set_root(index, root);
-    layout::set_file_end(index, page::next_page(root));
+    layout::set_supply(index, taken.rest);
 }
 
 // What is done at the root after an insertion under it left `below`.
 fn at_root(index: &mut [u8], key: &[u8], root: PageOffset, below: Outcome)
-    requires { ⌜ (length (now key) ≤ maxKey) × (pageSize ≤ length (now index)) × NextFits maxGrown below ⌝ }
+    requires { ⌜ (length (now key) ≤ maxKey) × (pageSize ≤ length (now index)) × NextFits below ⌝ }
     ensures { λ _. ⌜ now (index .exit) ≡ atRoot (length (now (key .entry))) (now (index .entry)) (now (key .entry)) (root .0) (outcomeOf below) ⌝ }
 {
     match below {
-        Outcome::Kept(end) => layout::set_file_end(index, end),
-        Outcome::Split(new) => new_root(index, key, root, new),
+        Outcome::Kept(supply) => layout::set_supply(index, supply),
+        Outcome::Split(new, supply) => new_root(index, key, root, new, supply),
         Outcome::Bad => {}
     }
 }
@@ -223,8 +234,8 @@ fn insert_pair(index: &mut [u8], key: &[u8], number: RecordNumber)
     ensures { λ _. ⌜ now (index .exit) ≡ insertedBuffer (keyLength (now (index .entry))) (now (index .entry)) (now (key .entry)) (number .0) ⌝ }
 {
     let root = page::root(index);
-    let end = page::file_end(index);
-    let below = insert_under(index, key, number, root, page::MAX_LEVELS, end);
+    let supply = layout::supply_of(index);
+    let below = insert_under(index, key, number, root, page::MAX_LEVELS, supply);
     at_root(index, key, root, below);
 }
 
@@ -287,8 +298,9 @@ fn no_room(index: &[u8], key: &[u8]) -> bool
 {
     let path = path_from(index, key, page::root(index), page::MAX_LEVELS);
     let more = root_split(path);
-    let file = page::file_size(index);
-    let size = file + Page::SIZE * (path.run + more) as usize;
+    let supply = layout::supply_of(index);
+    let after = layout::supply_after(index, supply, path.run + more);
+    let size = after.end.0 as usize;
     (index.len() < size) | ((page::MAX_BYTES < size) | (page::MAX_LEVELS < path.levels + more))
 }
 

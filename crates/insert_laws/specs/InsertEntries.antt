@@ -12,8 +12,8 @@ use Rattle.basis.specs.Lists.{All}
 use Rattle.basis.specs.Tests.{either}
 use Rattle.octets.specs.Bytes.{be32, toLe32, toBe32}
 use Rattle.octets.specs.Store.{put}
+use Rattle.octets.specs.StoreLaws.{length-put}
 use Rattle.octets.specs.NumberLaws.{length-toLe32, length-toBe32, be32-toBe32}
-use Rattle.tree.specs.Index.{newOffset}
 use Rattle.tree.specs.InsertNeeds.{choose-all}
 use Rattle.tree.specs.InsertPages.{newPages-apart}
 use Rattle.tree.specs.ListLaws.{nonEmpty-length, occ-here, take-map, drop-map, occ-not-head}
@@ -30,6 +30,10 @@ use Rattle.page.specs.Header.{noPage, pageSize, isPage}
 use Rattle.page.specs.KeyOrder.{bytesOrder}
 use Rattle.page.specs.Page.{attributeAt, leafBit, capacity}
 use Rattle.page.specs.Reading.{Item, numbered}
+use Rattle.layout.specs.declared.Supply.{Supply}
+use Rattle.layout.specs.declared.Taken.{Taken}
+use Rattle.layout.specs.Given.{Lasts}
+use Rattle.layout.specs.Supply.{atEnd, supplyOf, takePage}
 use Rattle.layout.specs.Layout.{itemsIn, newPage}
 use Rattle.layout.specs.Entries.{chosen, childOf, replaced, twoFor}
 use Rattle.layout.specs.ItemLaws.{Fit}
@@ -38,24 +42,24 @@ use Rattle.layout.specs.GatherLaws.{length-last}
 use Rattle.layout.specs.FitLaws.{length-insert, length-replaced, pair-fit, two-fit}
 use Rattle.insert.specs.Insertion.{Outcome, kept, split, bad, Step, takeIn, afterChild, insertUnder, atRoot}
 use Rattle.layout_laws.specs.EntryLaws.{entriesIn, page-of, raise, items-few, entries-header, entries-with, length-with, entries-new, entries-split}
-use Rattle.layout_laws.specs.EntryLaws.{length-split, entries-raised, length-raised}
+use Rattle.layout_laws.specs.EntryLaws.{length-new, length-split, entries-raised, length-raised}
+use Rattle.layout_laws.specs.HeadLaws.{with-head, raised-head, split-rights}
+use Rattle.layout_laws.specs.SupplyLaws.{supply-stored}
+use Rattle.insert_laws.specs.Naming.{Naming, Usable, Untaken, nextOf, Supplied}
 use Rattle.insert_laws.specs.ItemLists.{insertPair-numbered, choose-numbered, lastKey-numbered, replaced-place, insertPair-place}
 
--- a page of the buffer whose offset has four bytes
-abbrev pub Usable : List ℕ → ℕ → Type 0
-Usable b p = (isPage (length b) p ≡ true) × (p < 2 ^ 32)
-
 -- what an outcome says of the theory's replacement for the page at p, with the key a above it
-abbrev pub OutcomeIs : ℕ → List ℕ → ℕ → Outcome → StoreReplacement (List ℕ) → Type 0
-OutcomeIs F a p (kept n) w = (n ≡ newOffset F (w .1)) × (w .0 ≡ (a, p) ∷ [])
-OutcomeIs F a p (split q) w = (q + pageSize ≡ newOffset F (w .1)) × (w .0 ≡ (lastKey a (w .2 p), p) ∷ (a, q) ∷ []) × NonEmpty (w .2 p) × (q < 2 ^ 32)
-OutcomeIs F a p bad w = ⊥
+abbrev pub OutcomeIs : Naming → List ℕ → ℕ → Outcome → StoreReplacement (List ℕ) → Type 0
+OutcomeIs N a p (kept s) w = (s ≡ N .left (w .1)) × (w .0 ≡ (a, p) ∷ [])
+OutcomeIs N a p (split q s) w = (s ≡ N .left (w .1)) × (w .0 ≡ (lastKey a (w .2 p), p) ∷ (a, q) ∷ []) × NonEmpty (w .2 p) × (q < 2 ^ 32)
+OutcomeIs N a p bad w = ⊥
 
--- a step leaves the theory's entries, in a buffer of `size` bytes, and its outcome says so
-pub record StepIs (k F size : ℕ) (a : List ℕ) (p : ℕ) (s : Step) (w : StoreReplacement (List ℕ)) : Type 0 where
+-- a step that began with the buffer b leaves the theory's entries and the pages not taken yet, and its outcome says so
+pub record StepIs (k : ℕ) (N : Naming) (b a : List ℕ) (p : ℕ) (s : Step) (w : StoreReplacement (List ℕ)) : Type 0 where
   pub entries : entriesIn k (s .after) ≡ w .2
-  pub as-long : length (s .after) ≡ size
-  pub told : OutcomeIs F a p (s .outcome) w
+  pub as-long : length (s .after) ≡ length b
+  pub untaken : Untaken N (w .1) b (s .after)
+  pub told : OutcomeIs N a p (s .outcome) w
 
 nonEmpty-numbered : (es : List Item) → NonEmpty (map numbered es) → NonEmpty es
 nonEmpty-numbered [] s = s
@@ -66,61 +70,68 @@ pub items-some : (k : ℕ) (b : List ℕ) (p : ℕ) (y : List ℕ × ℕ) (ys : 
 items-some k b p y ys e = nonEmpty-numbered (itemsIn k b p) (rw e tt)
 
 -- a leaf, in the theory's words
-among-leaf : (key : List ℕ) (r : ℕ) (S : Store (List ℕ)) (cap F : ℕ) (es : List (List ℕ × ℕ))
-    → storeInsertAmong bytesOrder key r zero (λ c. storeInsertUnder bytesOrder cap (newOffset F) key r zero c 0 S) es 0 S
+pub among-leaf : (key : List ℕ) (r : ℕ) (S : Store (List ℕ)) (cap : ℕ) (name : ℕ → ℕ) (es : List (List ℕ × ℕ))
+    → storeInsertAmong bytesOrder key r zero (λ c. storeInsertUnder bytesOrder cap name key r zero c 0 S) es 0 S
     ≡ (insertPair bytesOrder key r es, 0, S)
-among-leaf key r S cap F [] = refl
-among-leaf key r S cap F (x ∷ xs) =
+among-leaf key r S cap name [] = refl
+among-leaf key r S cap name (x ∷ xs) =
     ap (λ (l : List (List ℕ × ℕ)). (l, 0, S)) (insertPair-place key r (insertPair bytesOrder key r (choose bytesOrder key x xs ∷ [])) 0 0 x xs refl)
 
-module _ (k : ℕ) (two : 1 < capacity k) (F : ℕ) where
-  -- a page that gets entries, after m new pages were taken
-  take-in-is : (b : List ℕ) (p : ℕ) (a : List ℕ) (es : List Item) (m n : ℕ) → isPage (length b) p ≡ true → All (Fit k) es
-      → length es ≤ suc (capacity k) → n ≡ newOffset F m
-      → (p ≡ newOffset F m → ⊥)
-      → ((j : ℕ) → j < storeSplitIfOver (capacity k) (newOffset F) a p (map numbered es, m, entriesIn k b) .1 → Usable b (newOffset F j))
-      → StepIs k F (length b) a p (takeIn k b p es n) (storeSplitIfOver (capacity k) (newOffset F) a p (map numbered es, m, entriesIn k b))
+-- the last key of a page that has entries
+lastKey-store : (k : ℕ) (key b : List ℕ) (c : ℕ) (a : List ℕ) → NonEmpty (entriesIn k b c) → lastKey key (itemsIn k b c) ≡ lastKey a (entriesIn k b c)
+lastKey-store k key b c a s = sym (lastKey-numbered key (itemsIn k b c)) ∙ lastKey-default key a (map numbered (itemsIn k b c)) s
+
+module _ (k : ℕ) (two : 1 < capacity k) (N : Naming) (b : List ℕ) (given : Supplied N b) where
+  -- a page that gets entries, after m new pages were taken: b is the buffer before the first of them, b′ the one now
+  take-in-is : (b′ : List ℕ) (p : ℕ) (a : List ℕ) (es : List Item) (m : ℕ) (s : Supply) → length b′ ≡ length b → isPage (length b) p ≡ true → All (Fit k) es
+      → length es ≤ suc (capacity k) → s ≡ N .left m → ((j : ℕ) → p ≡ N .name j → ⊥) → Untaken N m b b′
+      → ((j : ℕ) → j < storeSplitIfOver (capacity k) (N .name) a p (map numbered es, m, entriesIn k b′) .1 → Usable b (N .name j))
+      → StepIs k N b a p (takeIn k b′ p es s) (storeSplitIfOver (capacity k) (N .name) a p (map numbered es, m, entriesIn k b′))
   unfolding takeIn
-  take-in-is b p a es m n tp f few en ne room = either (leb (length es) (capacity k))
-      (λ e. rw (length-map es numbered, e) (record {
-        entries = entries-with k b p es tp f (leb-true (length es) (capacity k) e);
-        as-long = length-with k b p es;
+  take-in-is b′ p a es m s lb tp f few en ne un room = either (leb (length es) (capacity k))
+      (λ e. let fits = leb-true (length es) (capacity k) e in rw (length-map es numbered, e) (record {
+        entries = entries-with k b′ p es (page-of p lb tp) f fits;
+        as-long = length-with k b′ p es ∙ lb;
+        untaken = λ j l t. with-head k b′ p es (page-of p lb tp) f fits (N .name j) (page-of (N .name j) lb t) .rightIs ∙ un j l t;
         told = (en, refl);
       }))
       (λ e.
-      let rooms : (j : ℕ) → j < suc m → Usable b (newOffset F j) = rw (length-map es numbered, e) at room in
-      let tq : Usable b n = rw en (rooms m (omega arith)) in
+      let n : ℕ = N .name m in
+      let rooms : (j : ℕ) → j < suc m → Usable b (N .name j) = rw (length-map es numbered, e) at room in
+      let tq : Usable b n = rooms m (omega arith) in
+      let tp′ : isPage (length b′) p ≡ true = page-of p lb tp in
+      let tq′ : isPage (length b′) n ≡ true = page-of n lb (tq .0) in
       let h = half (length es) in
       let over : capacity k < length es = leb-false (length es) (capacity k) e in
       let lower : length (take h es) ≡ h = simp length-take (omega arith) in
       let some : NonEmpty (map numbered (take h es)) = nonEmpty-length (map numbered (take h es)) (rw (length-map (take h es) numbered, lower) (omega arith)) in
-      let S : Store (List ℕ) = write (entriesIn k b) p (map numbered (take h es)) in
+      let S : Store (List ℕ) = write (entriesIn k b′) p (map numbered (take h es)) in
       let stays : write S n (map numbered (drop h es)) p ≡ map numbered (take h es) =
-      write-other S n (map numbered (drop h es)) p (λ q. ne (q ∙ en)) ∙ write-here (entriesIn k b) p (map numbered (take h es)) in
-      rw (length-map es numbered, e, tq .0, take-map numbered h es, drop-map numbered h es, ← en) (record {
-        entries = entries-split k b p es n tp (tq .0) f two few;
-        as-long = length-split b p es n;
-        told = (rw en (omega arith), rw stays, rw stays some, tq .1);
+      write-other S n (map numbered (drop h es)) p (ne m) ∙ write-here (entriesIn k b′) p (map numbered (take h es)) in
+      let other : (j : ℕ) → suc m ≤ j → N .name j ≡ n → ⊥ = λ j l q. let same : j ≡ m = given .distinct j m q in omega arith in
+      rw (en, given .takes m b′ lb un, length-map es numbered, e, tq′, take-map numbered h es, drop-map numbered h es) (record {
+        entries = entries-split k b′ p es n tp′ tq′ f two few;
+        as-long = length-split b′ p es n ∙ lb;
+        untaken = λ j l t. split-rights k b′ p es n tp′ tq′ (ne m) f two few (tq .1) (N .name j) (page-of (N .name j) lb t) (λ q. ne j (sym q)) (other j l)
+            ∙ un j (omega arith) t;
+        told = (refl, rw stays, rw stays some, tq .1);
       }))
 
   module _ (key : List ℕ) (long : length key ≡ k) where
-    lastKey-store : (b : List ℕ) (c : ℕ) (a : List ℕ) → NonEmpty (entriesIn k b c) → lastKey key (itemsIn k b c) ≡ lastKey a (entriesIn k b c)
-    lastKey-store b c a s = sym (lastKey-numbered key (itemsIn k b c)) ∙ lastKey-default key a (map numbered (itemsIn k b c)) s
-
     -- a page above with the entries es, after the step at the child that the key leads to: b is the buffer before that step, b′ after it
-    abbrev AfterChild : List ℕ → List ℕ → ℕ → List ℕ → StoreReplacement (List ℕ) → Outcome → List (List ℕ × ℕ) → Type 0
-    AfterChild b b′ p a v o [] = Unit {0}
-    AfterChild b b′ p a v o (z ∷ zs) =
-        OutcomeIs F (larger bytesOrder (choose bytesOrder key z zs .0) key) (choose bytesOrder key z zs .1) o v
-        → ((j : ℕ) → j < storeSplitIfOver (capacity k) (newOffset F) a p (storePlace bytesOrder key z zs v) .1 → Usable b (newOffset F j))
-        → StepIs k F (length b) a p (afterChild k b′ key p (choose bytesOrder key z zs .1) o)
-        (storeSplitIfOver (capacity k) (newOffset F) a p (storePlace bytesOrder key z zs v))
+    abbrev AfterChild : List ℕ → ℕ → List ℕ → StoreReplacement (List ℕ) → Outcome → List (List ℕ × ℕ) → Type 0
+    AfterChild b′ p a v o [] = Unit {0}
+    AfterChild b′ p a v o (z ∷ zs) =
+        OutcomeIs N (larger bytesOrder (choose bytesOrder key z zs .0) key) (choose bytesOrder key z zs .1) o v
+        → ((j : ℕ) → j < storeSplitIfOver (capacity k) (N .name) a p (storePlace bytesOrder key z zs v) .1 → Usable b (N .name j))
+        → StepIs k N b a p (afterChild k b′ key p (choose bytesOrder key z zs .1) o)
+        (storeSplitIfOver (capacity k) (N .name) a p (storePlace bytesOrder key z zs v))
 
-    after-child-items : (b b′ : List ℕ) (p : ℕ) (a : List ℕ) (y : Item) (ys : List Item) (v : StoreReplacement (List ℕ)) (o : Outcome) → length b′ ≡ length b
-        → isPage (length b) p ≡ true → entriesIn k b′ ≡ v .2 → itemsIn k b′ p ≡ y ∷ ys → (p ≡ newOffset F (v .1) → ⊥)
-        → AfterChild b b′ p a v o (map numbered (y ∷ ys))
-    after-child-items b b′ p a y ys v bad lb tp sv sp ne t room = absurd t
-    after-child-items b b′ p a y ys v (kept n) lb tp sv sp ne t room =
+    after-child-items : (b′ : List ℕ) (p : ℕ) (a : List ℕ) (y : Item) (ys : List Item) (v : StoreReplacement (List ℕ)) (o : Outcome) → length b′ ≡ length b
+        → isPage (length b) p ≡ true → entriesIn k b′ ≡ v .2 → itemsIn k b′ p ≡ y ∷ ys → ((j : ℕ) → p ≡ N .name j → ⊥) → Untaken N (v .1) b b′
+        → AfterChild b′ p a v o (map numbered (y ∷ ys))
+    after-child-items b′ p a y ys v bad lb tp sv sp ne un t room = absurd t
+    after-child-items b′ p a y ys v (kept s) lb tp sv sp ne un t room =
         let es : List Item = replaced key (raise key) (y ∷ ys) in
         let e : map numbered es ≡ storePlace bytesOrder key (numbered y) (map numbered ys) v .0 =
         replaced-place key (raise key) (v .0) (v .1) 0 y ys (sym (t .1 ∙ rw (choose-numbered key y ys))) in
@@ -129,15 +140,16 @@ module _ (k : ℕ) (two : 1 < capacity k) (F : ℕ) where
         rw (← e, u) (record {
           entries = entries-raised k b′ key p (page-of p lb tp) long ∙ rw (sv, sp);
           as-long = length-raised k b′ key p ∙ lb;
+          untaken = λ j i x. raised-head k b′ key p (page-of p lb tp) long (N .name j) (page-of (N .name j) lb x) .rightIs ∙ un j i x;
           told = (t .0, refl);
         })
-    after-child-items b b′ p a y ys v (split q) lb tp sv sp ne t room =
+    after-child-items b′ p a y ys v (split q s) lb tp sv sp ne un t room =
         let e : List ℕ × ℕ = choose bytesOrder key (numbered y) (map numbered ys) in
         let c : ℕ = e .1 in
         let A : List ℕ = larger bytesOrder (e .0) key in
         let es : List Item = replaced key (twoFor k b′ key c q) (y ∷ ys) in
         let svc : entriesIn k b′ c ≡ v .2 c = ap (λ (S : Store (List ℕ)). S c) sv in
-        let low : lastKey key (itemsIn k b′ c) ≡ lastKey A (v .2 c) = lastKey-store b′ c A (rw svc (t .2)) ∙ ap (lastKey A) svc in
+        let low : lastKey key (itemsIn k b′ c) ≡ lastKey A (v .2 c) = lastKey-store k key b′ c A (rw svc (t .2)) ∙ ap (lastKey A) svc in
         let em : map numbered es ≡ storePlace bytesOrder key (numbered y) (map numbered ys) v .0 =
         replaced-place key (twoFor k b′ key c q) (v .0) (v .1) 0 y ys
         (rw (low, be32-toBe32 q (t .3)) (ap (λ (x : List ℕ × ℕ). (lastKey A (v .2 c), x .1) ∷ (larger bytesOrder (x .0) key, q) ∷ [])
@@ -148,22 +160,19 @@ module _ (k : ℕ) (two : 1 < capacity k) (F : ℕ) where
         let few : length (y ∷ ys) ≤ capacity k = rw sp at (items-few k b′ p) in
         let le : length es ≡ 1 + length (y ∷ ys) = length-replaced key (twoFor k b′ key c q) 1 (λ e. refl) (y ∷ ys) tt in
         rw sp
-        (subst (λ (w : StoreReplacement (List ℕ)). StepIs k F (length b) a p (takeIn k b′ p es (q + pageSize))
-        (storeSplitIfOver (capacity k) (newOffset F) a p w)) ew
-        (subst (λ (n : ℕ). StepIs k F n a p (takeIn k b′ p es (q + pageSize))
-        (storeSplitIfOver (capacity k) (newOffset F) a p (map numbered es, v .1, entriesIn k b′))) lb
-        (take-in-is b′ p a es (v .1) (q + pageSize) (page-of p lb tp) (two-fit k b′ key long c q (y ∷ ys) fit) (omega arith) (t .0) ne
-        (λ j h. let u = room j (subst (λ (w : StoreReplacement (List ℕ)). j < storeSplitIfOver (capacity k) (newOffset F) a p w .1) ew h) in
-        (page-of (newOffset F j) lb (u .0), u .1)))))
+        (subst (λ (w : StoreReplacement (List ℕ)). StepIs k N b a p (takeIn k b′ p es s) (storeSplitIfOver (capacity k) (N .name) a p w)) ew
+        (take-in-is b′ p a es (v .1) s lb tp (two-fit k b′ key long c q (y ∷ ys) fit) (omega arith) (t .0) ne un
+        (λ j h. room j (subst (λ (w : StoreReplacement (List ℕ)). j < storeSplitIfOver (capacity k) (N .name) a p w .1) ew h))))
 
     -- the child's step leaves the page's entries with their numbers
-    after-child-is : (b b′ : List ℕ) (p : ℕ) (a : List ℕ) (es : List (List ℕ × ℕ)) (v : StoreReplacement (List ℕ)) (o : Outcome) → length b′ ≡ length b
-        → isPage (length b) p ≡ true → entriesIn k b′ ≡ v .2 → entriesIn k b′ p ≡ es → (p ≡ newOffset F (v .1) → ⊥) → AfterChild b b′ p a v o es
-    after-child-is b b′ p a es v o lb tp sv sp ne = go (itemsIn k b′ p) refl
+    after-child-is : (b′ : List ℕ) (p : ℕ) (a : List ℕ) (es : List (List ℕ × ℕ)) (v : StoreReplacement (List ℕ)) (o : Outcome) → length b′ ≡ length b
+        → isPage (length b) p ≡ true → entriesIn k b′ ≡ v .2 → entriesIn k b′ p ≡ es → ((j : ℕ) → p ≡ N .name j → ⊥) → Untaken N (v .1) b b′
+        → AfterChild b′ p a v o es
+    after-child-is b′ p a es v o lb tp sv sp ne un = go (itemsIn k b′ p) refl
       where
-        go : (is : List Item) → itemsIn k b′ p ≡ is → AfterChild b b′ p a v o es
-        go [] e = subst (AfterChild b b′ p a v o) (sym (ap (map numbered) e) ∙ sp) tt
-        go (y ∷ ys) e = subst (AfterChild b b′ p a v o) (sym (ap (map numbered) e) ∙ sp) (after-child-items b b′ p a y ys v o lb tp sv e ne)
+        go : (is : List Item) → itemsIn k b′ p ≡ is → AfterChild b′ p a v o es
+        go [] e = subst (AfterChild b′ p a v o) (sym (ap (map numbered) e) ∙ sp) tt
+        go (y ∷ ys) e = subst (AfterChild b′ p a v o) (sym (ap (map numbered) e) ∙ sp) (after-child-items b′ p a y ys v o lb tp sv e ne un)
 
 -- the page at p, with h levels under it, and every page under it is a page of the buffer, has the leaf bit at the bottom only, and has entries above it
 abbrev pub Shaped : ℕ → (h : ℕ) → List ℕ → ℕ → Type 0
@@ -182,55 +191,61 @@ child-shaped k h key b p y ys e f =
     (subst (λ (l : List Item). All (λ c. Shaped k h b (c .1)) (map numbered l)) e f))
 
 -- a page that is split takes one new page
-split-more : (cap F : ℕ) (a : List ℕ) (p : ℕ) (w : StoreReplacement (List ℕ)) → w .1 ≤ storeSplitIfOver cap (newOffset F) a p w .1
-split-more cap F a p w = either (leb (length (w .0)) cap) (λ e. rw e (omega arith)) (λ e. rw e (omega arith))
+split-more : (cap : ℕ) (name : ℕ → ℕ) (a : List ℕ) (p : ℕ) (w : StoreReplacement (List ℕ)) → w .1 ≤ storeSplitIfOver cap name a p w .1
+split-more cap name a p w = either (leb (length (w .0)) cap) (λ e. rw e (omega arith)) (λ e. rw e (omega arith))
 
--- an insertion of a key of k bytes with a record number of four
-pub record Offered (k : ℕ) (key : List ℕ) (r : ℕ) : Type 0 where
+-- an insertion of a key of k bytes with a record number of four, and with new pages from the supply of the index in b
+pub record Offered (k : ℕ) (N : Naming) (key : List ℕ) (r : ℕ) (b : List ℕ) : Type 0 where
+  pub supplied : Supplied N b
   pub two : 1 < capacity k
   pub long : length key ≡ k
   pub r32 : r < 2 ^ 32
 
-module _ (k F : ℕ) (key : List ℕ) (r : ℕ) (b : List ℕ) where
+module _ (k : ℕ) (N : Naming) (key : List ℕ) (r : ℕ) (b : List ℕ) where
   -- the theory's insertion under an entry, and its replacement for the page at p, which has h levels under it and the key a above it
   abbrev pub under : (h : ℕ) → List ℕ × ℕ → StoreReplacement (List ℕ)
-  under h e = storeInsertUnder bytesOrder (capacity k) (newOffset F) key r h e 0 (entriesIn k b)
+  under h e = storeInsertUnder bytesOrder (capacity k) (N .name) key r h e 0 (entriesIn k b)
 
   abbrev pub replacement : (h : ℕ) → List ℕ → ℕ → StoreReplacement (List ℕ)
-  replacement h a p = storeSplitIfOver (capacity k) (newOffset F) a p (storeInsertAmong bytesOrder key r h (under h) (entriesIn k b p) 0 (entriesIn k b))
+  replacement h a p = storeSplitIfOver (capacity k) (N .name) a p (storeInsertAmong bytesOrder key r h (under h) (entriesIn k b p) 0 (entriesIn k b))
 
   -- insertion's step at that page, with `left` levels left, is the theory's
   abbrev pub Inserts : ℕ → ℕ → List ℕ → ℕ → Type 0
-  Inserts h left a p = StepIs k F (length b) a p (insertUnder k left b key r p F) (replacement h a p)
+  Inserts h left a p = StepIs k N b a p (insertUnder k left b key r p (supplyOf b)) (replacement h a p)
 
-  -- each page under the page at p is reached once, no new page is one of them, and the new pages that are newOffset are pages of the buffer
+  -- each page under the page at p is reached once, no new page is one of them, and the new pages that are taken are pages of the buffer
   abbrev pub Free : (h : ℕ) → List ℕ → ℕ → Type 0
   Free h a p = ((z : ℕ) → occ z (pages h (readTree (entriesIn k b) h p)) ≤ 1)
-      × ((i : ℕ) → occ (newOffset F i) (pages h (readTree (entriesIn k b) h p)) ≡ 0)
-      × ((j : ℕ) → j < replacement h a p .1 → Usable b (newOffset F j))
+      × ((i : ℕ) → occ (N .name i) (pages h (readTree (entriesIn k b) h p)) ≡ 0)
+      × ((j : ℕ) → j < replacement h a p .1 → Usable b (N .name j))
 
   -- insertion's step at a page above with the entries es
   abbrev pub UpperIs : ℕ → (h : ℕ) → List ℕ → ℕ → List Item → Type 0
   UpperIs left h a p es =
       let c : ℕ = childOf (chosen key es) in
-      let d : Step = insertUnder k left b key r c F in
-      StepIs k F (length b) a p (afterChild k (d .after) key p c (d .outcome)) (replacement (suc h) a p)
+      let d : Step = insertUnder k left b key r c (supplyOf b) in
+      StepIs k N b a p (afterChild k (d .after) key p c (d .outcome)) (replacement (suc h) a p)
 
-  module _ (o : Offered k key r) where
-    leaf-is : (p : ℕ) (a : List ℕ) → isPage (length b) p ≡ true → (p ≡ newOffset F 0 → ⊥) → ((j : ℕ) → j < replacement zero a p .1 → Usable b (newOffset F j))
-        → StepIs k F (length b) a p (takeIn k b p (insertPair bytesOrder key (toBe32 r) (itemsIn k b p)) F) (replacement zero a p)
+  -- the page at p is no new page
+  pub own-page : (h : ℕ) (a : List ℕ) (p : ℕ) → Free h a p → (j : ℕ) → p ≡ N .name j → ⊥
+  own-page h a p u j q = occ-not-head (N .name j) p (concatMap (pagesUnder h) (map (readEntry (entriesIn k b) h) (entriesIn k b p))) (u .1 j) (sym q)
+
+  module _ (o : Offered k N key r b) where
+    leaf-is : (p : ℕ) (a : List ℕ) → isPage (length b) p ≡ true → ((j : ℕ) → p ≡ N .name j → ⊥)
+        → ((j : ℕ) → j < replacement zero a p .1 → Usable b (N .name j))
+        → StepIs k N b a p (takeIn k b p (insertPair bytesOrder key (toBe32 r) (itemsIn k b p)) (supplyOf b)) (replacement zero a p)
     leaf-is p a tp ne room =
         let es : List Item = insertPair bytesOrder key (toBe32 r) (itemsIn k b p) in
         let en : map numbered es ≡ insertPair bytesOrder key r (entriesIn k b p) =
         insertPair-numbered key (toBe32 r) (itemsIn k b p) ∙ rw (be32-toBe32 r (o .r32)) in
         let ew : _≡_ {A = StoreReplacement (List ℕ)} (map numbered es, 0, entriesIn k b)
         (storeInsertAmong bytesOrder key r zero (under zero) (entriesIn k b p) 0 (entriesIn k b)) =
-        ap (λ (l : List (List ℕ × ℕ)). (l, 0, entriesIn k b)) en ∙ sym (among-leaf key r (entriesIn k b) (capacity k) F (entriesIn k b p)) in
-        subst (λ (w : StoreReplacement (List ℕ)). StepIs k F (length b) a p (takeIn k b p es F) (storeSplitIfOver (capacity k) (newOffset F) a p w)) ew
-        (take-in-is k (o .two) F b p a es 0 F tp
+        ap (λ (l : List (List ℕ × ℕ)). (l, 0, entriesIn k b)) en ∙ sym (among-leaf key r (entriesIn k b) (capacity k) (N .name) (entriesIn k b p)) in
+        subst (λ (w : StoreReplacement (List ℕ)). StepIs k N b a p (takeIn k b p es (supplyOf b)) (storeSplitIfOver (capacity k) (N .name) a p w)) ew
+        (take-in-is k (o .two) N b (o .supplied) b p a es 0 (supplyOf b) refl tp
         (pair-fit k b key (o .long) r p)
-        (omega (arith, items-few k b p, length-insert key (toBe32 r) (itemsIn k b p))) (omega arith) ne
-        (λ j h. room j (subst (λ (w : StoreReplacement (List ℕ)). j < storeSplitIfOver (capacity k) (newOffset F) a p w .1) ew h)))
+        (omega (arith, items-few k b p, length-insert key (toBe32 r) (itemsIn k b p))) (o .supplied .starts) ne (λ j l t. refl)
+        (λ j h. room j (subst (λ (w : StoreReplacement (List ℕ)). j < storeSplitIfOver (capacity k) (N .name) a p w .1) ew h)))
 
     -- the child that the key leads to, under a page with the entries y ∷ ys
     module _ (h p : ℕ) (a : List ℕ) (y : Item) (ys : List Item) (ee : itemsIn k b p ≡ y ∷ ys) (u : Free (suc h) a p) where
@@ -243,7 +258,7 @@ module _ (k F : ℕ) (key : List ℕ) (r : ℕ) (b : List ℕ) where
       abbrev below : List ℕ
       below = concatMap (pagesUnder (suc h)) (map (readEntry (entriesIn k b) (suc h)) (entriesIn k b p))
 
-      child-among : storePlace bytesOrder key (numbered y) (map numbered ys) (under (suc h) (numbered child))
+      pub child-among : storePlace bytesOrder key (numbered y) (map numbered ys) (under (suc h) (numbered child))
           ≡ storeInsertAmong bytesOrder key r (suc h) (under (suc h)) (entriesIn k b p) 0 (entriesIn k b)
       child-among =
           ap (λ (e : List ℕ × ℕ). storePlace bytesOrder key (numbered y) (map numbered ys) (under (suc h) e)) (sym (choose-numbered key y ys))
@@ -257,24 +272,24 @@ module _ (k F : ℕ) (key : List ℕ) (r : ℕ) (b : List ℕ) where
           (concatMap (pagesUnder (suc h)) (map (readEntry (entriesIn k b) (suc h)) (numbered y ∷ map numbered ys)))) (choose-numbered key y ys)
           (choose-occ bytesOrder (entriesIn k b) (suc h) key z (numbered y) (map numbered ys)))
 
-      child-room : (j : ℕ) → j < storeSplitIfOver (capacity k) (newOffset F) a p
-          (storePlace bytesOrder key (numbered y) (map numbered ys) (under (suc h) (numbered child))) .1 → Usable b (newOffset F j)
-      child-room j l = u .2 j (subst (λ (w : StoreReplacement (List ℕ)). j < storeSplitIfOver (capacity k) (newOffset F) a p w .1) child-among l)
+      child-room : (j : ℕ) → j < storeSplitIfOver (capacity k) (N .name) a p
+          (storePlace bytesOrder key (numbered y) (map numbered ys) (under (suc h) (numbered child))) .1 → Usable b (N .name j)
+      child-room j l = u .2 j (subst (λ (w : StoreReplacement (List ℕ)). j < storeSplitIfOver (capacity k) (N .name) a p w .1) child-among l)
 
       pub child-free : Free h (larger bytesOrder (child .0) key) (childOf child)
       child-free =
-          let more = split-more (capacity k) F a p (storePlace bytesOrder key (numbered y) (map numbered ys) (under (suc h) (numbered child))) in
-          ((λ z. omega (arith, u .0 z, child-occ z)), (λ i. omega (arith, u .1 i, child-occ (newOffset F i))), (λ j l. child-room j (omega arith)))
+          let more = split-more (capacity k) (N .name) a p (storePlace bytesOrder key (numbered y) (map numbered ys) (under (suc h) (numbered child))) in
+          ((λ z. omega (arith, u .0 z, child-occ z)), (λ i. omega (arith, u .1 i, child-occ (N .name i))), (λ j l. child-room j (omega arith)))
 
       -- the child's step keeps the entries of the page at p
       pub child-rest : (left : ℕ) → Inserts h left (larger bytesOrder (child .0) key) (childOf child)
-          → entriesIn k (insertUnder k left b key r (childOf child) F .after) p ≡ map numbered (y ∷ ys)
+          → entriesIn k (insertUnder k left b key r (childOf child) (supplyOf b) .after) p ≡ map numbered (y ∷ ys)
       child-rest left w =
           let v : StoreReplacement (List ℕ) = under (suc h) (numbered child) in
           let rest : v .2 p ≡ entriesIn k b p =
-          storeInsertUnder-refines bytesOrder (capacity k) (newOffset F) (λ i j e. omega arith) key r (suc h) 0 (entriesIn k b) (numbered child)
+          storeInsertUnder-refines bytesOrder (capacity k) (N .name) (o .supplied .distinct) key r (suc h) 0 (entriesIn k b) (numbered child)
           (child-free .0) (child-free .1) .rest p
-          (omega (arith, u .0 p, child-occ p, ap countIf (eq-eqb p p refl))) (newPages-apart (newOffset F) (p ∷ below) (u .1) p (v .1) (occ-here p below)) in
+          (omega (arith, u .0 p, child-occ p, ap countIf (eq-eqb p p refl))) (newPages-apart (N .name) (p ∷ below) (u .1) p (v .1) (occ-here p below)) in
           ap (λ (T : Store (List ℕ)). T p) (w .entries) ∙ (rest ∙ es)
 
       -- the page at p, given the child's step
@@ -282,12 +297,12 @@ module _ (k F : ℕ) (key : List ℕ) (r : ℕ) (b : List ℕ) where
           → UpperIs left h a p (y ∷ ys)
       page-is left tp w =
           let v : StoreReplacement (List ℕ) = under (suc h) (numbered child) in
-          let d : Step = insertUnder k left b key r (childOf child) F in
+          let d : Step = insertUnder k left b key r (childOf child) (supplyOf b) in
           let same = choose-numbered key y ys in
-          let step-is = after-child-is k (o .two) F key (o .long) b (d .after) p a (map numbered (y ∷ ys)) v (d .outcome) (w .as-long) tp (w .entries)
-          (child-rest left w) (λ q. occ-not-head (newOffset F (v .1)) p below (u .1 (v .1)) (sym q)) in
-          subst (λ (t : StoreReplacement (List ℕ)). StepIs k F (length b) a p (afterChild k (d .after) key p (childOf child) (d .outcome))
-          (storeSplitIfOver (capacity k) (newOffset F) a p t)) child-among
+          let step-is = after-child-is k (o .two) N b (o .supplied) key (o .long) (d .after) p a (map numbered (y ∷ ys)) v (d .outcome) (w .as-long) tp
+          (w .entries) (child-rest left w) (own-page (suc h) a p u) (w .untaken) in
+          subst (λ (t : StoreReplacement (List ℕ)). StepIs k N b a p (afterChild k (d .after) key p (childOf child) (d .outcome))
+          (storeSplitIfOver (capacity k) (N .name) a p t)) child-among
           (rw same at (step-is (rw same (w .told)) child-room))
 
     -- Theorem: insertion's step at the page at p, with h levels under it, is the theory's
@@ -296,8 +311,7 @@ module _ (k F : ℕ) (key : List ℕ) (r : ℕ) (b : List ℕ) where
     inserts zero zero p a l f u = absurd (omega arith)
     inserts (suc h) zero p a l f u = absurd (omega arith)
     inserts zero (suc left) p a l f u =
-        rw (f .0 .0, f .1) (leaf-is p a (f .0 .0)
-        (λ q. occ-not-head (newOffset F 0) p (concatMap (pagesUnder zero) (map (readEntry (entriesIn k b) zero) (entriesIn k b p))) (u .1 0) (sym q)) (u .2))
+        rw (f .0 .0, f .1) (leaf-is p a (f .0 .0) (own-page zero a p u) (u .2))
     inserts (suc h) (suc left) p a l f u = go (λ c y g. inserts h left c y (omega arith) g) (itemsIn k b p) refl
       where
         go : ((c : ℕ) (y : List ℕ) → Shaped k h b c → Free h y c → Inserts h left y c) → (es : List Item) → itemsIn k b p ≡ es → Inserts (suc h) (suc left) a p
@@ -307,99 +321,107 @@ module _ (k F : ℕ) (key : List ℕ) (r : ℕ) (b : List ℕ) where
             (child-shaped k h key b p y ys e (f .3)) (child-free h p a y ys e u) in
             rw (f .0 .0, f .1) (subst (UpperIs left h a p) (sym e) (page-is h p a y ys e u left (f .0 .0) w))
 
--- the root offset and the file size after an outcome at the root p
-abbrev pub rootAfter : ℕ → Outcome → ℕ
-rootAfter p (kept n) = p
-rootAfter p (split q) = q + pageSize
-rootAfter p bad = p
+-- the page that is the root after an outcome at the root p, in the buffer b, and the supply that is left
+abbrev pub rootAfter : List ℕ → ℕ → Outcome → Taken
+rootAfter b p (kept s) = record { page = record { 0 = p }; rest = s }
+rootAfter b p (split q s) = takePage b s
+rootAfter b p bad = record { page = record { 0 = p }; rest = atEnd 0 }
 
-abbrev pub sizeAfter : Outcome → ℕ
-sizeAfter (kept n) = n
-sizeAfter (split q) = q + pageSize + pageSize
-sizeAfter bad = 0
-
--- the buffer has the entries of the theory's insertion, its root and its size
-pub record RootIs (k F : ℕ) (b : List ℕ) (root size : ℕ) (g : StoreGrown (List ℕ)) : Type 0 where
+-- the buffer has the entries of the theory's insertion, its root and its supply
+pub record RootIs (k : ℕ) (N : Naming) (b : List ℕ) (root : Taken) (g : StoreGrown (List ℕ)) : Type 0 where
   pub entries : entriesIn k b ≡ g .3
-  pub root-is : root ≡ g .1
-  pub size-is : size ≡ newOffset F (g .2)
+  pub root-is : root .page .0 ≡ g .1
+  pub left-is : root .rest ≡ N .left (g .2)
 
-module _ (k F : ℕ) (key : List ℕ) (r : ℕ) (b : List ℕ) (o : Offered k key r) where
+second-of : {x y z t : List ℕ × ℕ} → _≡_ {A = List (List ℕ × ℕ)} (x ∷ y ∷ []) (z ∷ t ∷ []) → t ≡ y
+second-of e = cc
+
+-- a page for which one entry stands was not split, and one for which two stand was
+module _ (cap : ℕ) (name : ℕ → ℕ) (a : List ℕ) (p : ℕ) (w : StoreReplacement (List ℕ)) where
+  pub kept-case : (x : List ℕ × ℕ) → storeSplitIfOver cap name a p w .0 ≡ x ∷ [] → storeSplitIfOver cap name a p w .1 ≡ w .1
+  kept-case x e = either (leb (length (w .0)) cap)
+      (λ u. rw u)
+      (λ u. let n : storeSplitIfOver cap name a p w .1 ≡ suc (w .1) = rw u in
+      let m : _≡_ {A = ℕ} 2 1 = ap length (rw u at e) in absurd (omega arith))
+
+  pub split-case : (x y : List ℕ × ℕ) → storeSplitIfOver cap name a p w .0 ≡ x ∷ y ∷ []
+      → (cap < length (w .0)) × (storeSplitIfOver cap name a p w .1 ≡ suc (w .1)) × (y .1 ≡ name (w .1))
+  split-case x y e = either (leb (length (w .0)) cap)
+      (λ u. let m : _≡_ {A = ℕ} 1 2 = ap length (rw u at e) in absurd (omega arith))
+      (λ u. (leb-false (length (w .0)) cap u, rw u, ap (λ (z : List ℕ × ℕ). z .1) (second-of (rw u at e))))
+
+module _ (k : ℕ) (N : Naming) (key : List ℕ) (r : ℕ) (b : List ℕ) (o : Offered k N key r b) where
   -- the root's own last key stands for the key above it
   abbrev pub topKey : (h p : ℕ) → List ℕ
-  topKey h p = lastKey key (storeInsertAmong bytesOrder key r h (under k F key r b h) (entriesIn k b p) 0 (entriesIn k b) .0)
+  topKey h p = lastKey key (storeInsertAmong bytesOrder key r h (under k N key r b h) (entriesIn k b p) 0 (entriesIn k b) .0)
 
   -- the upper half of a root that was split ends as the whole did
   record UpperHalf (w : StoreReplacement (List ℕ)) (p q : ℕ) : Type 0 where
-    upper : storeSplitIfOver (capacity k) (newOffset F) (lastKey key (w .0)) p w .2 q ≡ drop (half (length (w .0))) (w .0)
+    upper : storeSplitIfOver (capacity k) (N .name) (lastKey key (w .0)) p w .2 q ≡ drop (half (length (w .0))) (w .0)
     some : NonEmpty (drop (half (length (w .0))) (w .0))
     last : lastKey key (drop (half (length (w .0))) (w .0)) ≡ lastKey key (w .0)
 
-  upper-half : (w : StoreReplacement (List ℕ)) (p q : ℕ) → capacity k < length (w .0) → q ≡ newOffset F (w .1) → UpperHalf w p q
+  upper-half : (w : StoreReplacement (List ℕ)) (p q : ℕ) → capacity k < length (w .0) → q ≡ N .name (w .1) → UpperHalf w p q
   upper-half w p q l e =
       let two = o .two in
       let m = half (length (w .0)) in
       let s : NonEmpty (drop m (w .0)) = nonEmpty-length (drop m (w .0)) (simp length-drop (omega arith)) in
       record {
-        upper = rw (lt-leb (length (w .0)) (capacity k) l, e) (write-here (write (w .2) p (take m (w .0))) (newOffset F (w .1)) (drop m (w .0)));
+        upper = rw (lt-leb (length (w .0)) (capacity k) l, e) (write-here (write (w .2) p (take m (w .0))) (N .name (w .1)) (drop m (w .0)));
         some = s;
         last = lastKey-default key (lastKey key (take m (w .0))) (drop m (w .0)) s ∙ sym (lastKey-append key (take m (w .0)) (drop m (w .0)))
             ∙ ap (lastKey key) (take-append-drop m (w .0));
       }
 
-  -- if two entries stand for the page, it was split
-  split-case : (a : List ℕ) (p : ℕ) (w : StoreReplacement (List ℕ)) (x y : List ℕ × ℕ) → storeSplitIfOver (capacity k) (newOffset F) a p w .0 ≡ x ∷ y ∷ []
-      → (capacity k < length (w .0)) × (storeSplitIfOver (capacity k) (newOffset F) a p w .1 ≡ suc (w .1))
-  split-case a p w x y e = either (leb (length (w .0)) (capacity k))
-      (λ u. let z : _≡_ {A = List (List ℕ × ℕ)} ((a, p) ∷ []) (x ∷ y ∷ []) = rw u at e in let n : _≡_ {A = ℕ} 1 2 = ap length z in absurd (omega arith))
-      (λ u. (leb-false (length (w .0)) (capacity k) u, rw u))
-
   -- Theorem: the buffer with its root is the theory's
-  pub root-inserts : (h p : ℕ) (s : Step) → Usable b p → StepIs k F (length b) (topKey h p) p s (replacement k F key r b h (topKey h p) p)
-      → ((j : ℕ) → j < storeInsert bytesOrder (capacity k) (newOffset F) key r h p (entriesIn k b) .2 → Usable b (newOffset F j))
-      → RootIs k F (atRoot k (s .after) key p (s .outcome)) (rootAfter p (s .outcome)) (sizeAfter (s .outcome))
-      (storeInsert bytesOrder (capacity k) (newOffset F) key r h p (entriesIn k b))
-  root-inserts h p s tp w room = go (s .outcome) (w .told)
+  pub root-inserts : (h p : ℕ) (s : Step) → Usable b p → pageSize ≤ length b → StepIs k N b (topKey h p) p s (replacement k N key r b h (topKey h p) p)
+      → ((j : ℕ) → j < storeInsert bytesOrder (capacity k) (N .name) key r h p (entriesIn k b) .2 → Usable b (N .name j))
+      → Lasts 0 (N .left (storeInsert bytesOrder (capacity k) (N .name) key r h p (entriesIn k b) .2))
+      → RootIs k N (atRoot k (s .after) key p (s .outcome)) (rootAfter (s .after) p (s .outcome))
+      (storeInsert bytesOrder (capacity k) (N .name) key r h p (entriesIn k b))
+  root-inserts h p s tp low w room lasts = go (s .outcome) (w .told)
     where
       a : List ℕ
       a = topKey h p
 
       W : StoreReplacement (List ℕ)
-      W = replacement k F key r b h (topKey h p) p
+      W = replacement k N key r b h (topKey h p) p
 
-      go : (out : Outcome) → OutcomeIs F a p out W → RootIs k F (atRoot k (s .after) key p out) (rootAfter p out) (sizeAfter out)
-          (storeInsert bytesOrder (capacity k) (newOffset F) key r h p (entriesIn k b))
+      go : (out : Outcome) → OutcomeIs N a p out W → RootIs k N (atRoot k (s .after) key p out) (rootAfter (s .after) p out)
+          (storeInsert bytesOrder (capacity k) (N .name) key r h p (entriesIn k b))
       go bad t = absurd t
-      go (kept n) t = rw (t .1) (record {
-        entries = entries-header k (s .after) 8 (toLe32 n) (omega (arith, length-toLe32 n)) ∙ w .entries;
+      go (kept s′) t = rw (t .1) (record {
+        entries = supply-stored (s .after) s′ (rw (w .as-long) low) (rw (t .0) (rw (t .1) at lasts)) .entries k ∙ w .entries;
         root-is = refl;
-        size-is = t .0;
+        left-is = t .0;
       })
-      go (split q) t =
+      go (split q s′) t =
           let b′ : List ℕ = s .after in
-          let top : ℕ = q + pageSize in
-          let v : StoreReplacement (List ℕ) = storeInsertAmong bytesOrder key r h (under k F key r b h) (entriesIn k b p) 0 (entriesIn k b) in
-          let c = split-case a p v (lastKey a (W .2 p), p) (a, q) (t .1) in
-          let half-is = upper-half v p q (c .0) (omega (arith, t .0, c .1)) in
-          let rooms : (j : ℕ) → j < suc (W .1) → Usable b (newOffset F j) = rw (t .1) at room in
-          let tn : isPage (length b′) top ≡ true = page-of top (w .as-long) (rw (t .0) (rooms (W .1) (omega arith) .0)) in
+          let top : ℕ = N .name (W .1) in
+          let new : takePage b′ s′ ≡ nextOf N (W .1) = ap (takePage b′) (t .0) ∙ o .supplied .takes (W .1) b′ (w .as-long) (w .untaken) in
+          let v : StoreReplacement (List ℕ) = storeInsertAmong bytesOrder key r h (under k N key r b h) (entriesIn k b p) 0 (entriesIn k b) in
+          let c = split-case (capacity k) (N .name) a p v (lastKey a (W .2 p), p) (a, q) (t .1) in
+          let half-is = upper-half v p q (c .0) (c .2) in
+          let rooms : (j : ℕ) → j < suc (W .1) → Usable b (N .name j) = rw (t .1) at room in
+          let tn : isPage (length b′) top ≡ true = page-of top (w .as-long) (rooms (W .1) (omega arith) .0) in
           let es : List Item = (lastKey key (itemsIn k b′ p), toBe32 p) ∷ (lastKey key (itemsIn k b′ q), toBe32 q) ∷ [] in
           let b1 : List ℕ = newPage b′ top 1 noPage noPage es in
           let b2 : List ℕ = put b1 0 (toLe32 top) in
           let at : (z : ℕ) → entriesIn k b′ z ≡ W .2 z = λ z. ap (λ (T : Store (List ℕ)). T z) (w .entries) in
           let e1 : lastKey key (itemsIn k b′ p) ≡ lastKey a (W .2 p) =
-          lastKey-store k (o .two) F key (o .long) b′ p a (rw (at p) (t .2)) ∙ ap (lastKey a) (at p) in
+          lastKey-store k key b′ p a (rw (at p) (t .2)) ∙ ap (lastKey a) (at p) in
           let eq : entriesIn k b′ q ≡ drop (half (length (v .0))) (v .0) = at q ∙ half-is .upper in
           let e2 : lastKey key (itemsIn k b′ q) ≡ a =
-          lastKey-store k (o .two) F key (o .long) b′ q key (rw eq (half-is .some)) ∙ ap (lastKey key) eq ∙ half-is .last in
+          lastKey-store k key b′ q key (rw eq (half-is .some)) ∙ ap (lastKey key) eq ∙ half-is .last in
           let long : (z : ℕ) → length (lastKey key (itemsIn k b′ z)) ≡ k = λ z. length-last k key (o .long) (itemsIn k b′ z) (items-in-fit k b′ z) in
           let fit : All (Fit k) es = ((long p, length-toBe32 p), ((long q, length-toBe32 q), tt)) in
           let p32 : be32 (toBe32 p) 0 ≡ p = be32-toBe32 p (tp .1) in
           let q32 : be32 (toBe32 q) 0 ≡ q = be32-toBe32 q (t .3) in
           let em : map numbered es ≡ (lastKey a (W .2 p), p) ∷ (a, q) ∷ [] = λ i. (e1 i, p32 i) ∷ (e2 i, q32 i) ∷ [] in
           let s1 : entriesIn k b1 ≡ write (entriesIn k b′) top (map numbered es) = entries-new k b′ top 1 noPage noPage es tn fit (omega (arith, o .two)) in
-          let s2 : write (entriesIn k b′) top (map numbered es) ≡ write (W .2) (newOffset F (W .1)) ((lastKey a (W .2 p), p) ∷ (a, q) ∷ []) =
-          λ i. write (w .entries i) (t .0 i) (em i) in
-          let s3 = entries-header k b2 8 (toLe32 (top + pageSize)) (omega (arith, length-toLe32 (top + pageSize)))
+          let s2 : write (entriesIn k b′) top (map numbered es) ≡ write (W .2) (N .name (W .1)) ((lastKey a (W .2 p), p) ∷ (a, q) ∷ []) =
+          λ i. write (w .entries i) top (em i) in
+          let l2 : length b2 ≡ length b = length-put b1 0 (toLe32 top) ∙ length-new b′ top 1 noPage noPage es ∙ w .as-long in
+          let s3 = supply-stored b2 (N .left (suc (W .1))) (rw l2 low) (rw (t .1) at lasts) .entries k
           ∙ entries-header k b1 0 (toLe32 top) (omega (arith, length-toLe32 top)) in
-          rw (t .1, tn) (record { entries = s3 ∙ s1 ∙ s2; root-is = t .0; size-is = omega (arith, t .0) })
+          rw (t .1, new, tn) (record { entries = s3 ∙ s1 ∙ s2; root-is = refl; left-is = refl })

@@ -12,21 +12,21 @@ use Rattle.basis.specs.Lists.{All}
 use Rattle.basis.specs.Tests.{either}
 use Rattle.octets.specs.Bytes.{toBe32}
 use Rattle.octets.specs.NumberLaws.{le16-small, le32-small}
-use Rattle.tree.specs.Index.{newOffset}
-use Rattle.tree.specs.ListLaws.{occ-not-head}
-use Rattle.tree.specs.Lists.{NonEmpty, concatMap, half}
+use Rattle.tree.specs.Lists.{NonEmpty, half}
 use Rattle.tree.specs.Order.{larger}
-use Rattle.tree.specs.Pairs.{insertPair, choose}
+use Rattle.tree.specs.Pairs.{insertPair, lastKey, choose}
 use Rattle.tree.specs.Relinking.{pathPageUnder, relink}
 use Rattle.tree.specs.Room.{atChosen}
 use Rattle.tree.specs.Store.{readEntry, readTree}
 use Rattle.tree.specs.StoreLaws.{choose-read}
-use Rattle.tree.specs.StoreSteps.{StoreReplacement}
-use Rattle.tree.specs.Tree.{pagesUnder, Tree}
-use Rattle.page.specs.Header.{pageSize, isPage}
+use Rattle.tree.specs.StoreSteps.{StoreReplacement, storeSplitIfOver, storeInsertAmong}
+use Rattle.tree.specs.Tree.{Tree}
+use Rattle.page.specs.Header.{isPage}
 use Rattle.page.specs.KeyOrder.{bytesOrder}
 use Rattle.page.specs.Page.{attributeAt, countAt, leftAt, rightAt, capacity}
 use Rattle.page.specs.Reading.{Item, numbered}
+use Rattle.layout.specs.declared.Supply.{Supply}
+use Rattle.layout.specs.Supply.{supplyOf, takePage}
 use Rattle.layout.specs.Layout.{itemsIn, withEntries, withoutRoot, splitPage}
 use Rattle.layout.specs.Entries.{chosen, childOf, replaced, raised, twoFor}
 use Rattle.layout.specs.ItemLaws.{Fit}
@@ -37,8 +37,9 @@ use Rattle.insert.specs.Insertion.{Outcome, kept, split, bad, Step, takeIn, aft
 use Rattle.layout_laws.specs.EntryLaws.{entriesIn, page-of, items-few}
 use Rattle.layout_laws.specs.HeadLaws.{Head, SameHead, SameHeader, with-head, with-header, raised-head, raised-header, split-head, split-header}
 use Rattle.insert_laws.specs.ItemLists.{choose-numbered}
-use Rattle.insert_laws.specs.InsertEntries.{Usable, OutcomeIs, Shaped, Offered, replacement, Inserts, Free, inserts, items-some}
-use Rattle.insert_laws.specs.InsertEntries.{child-free, child-shaped, child-rest, page-is}
+use Rattle.insert_laws.specs.Naming.{Naming, Usable, Untaken, nextOf, Supplied}
+use Rattle.insert_laws.specs.InsertEntries.{OutcomeIs, Shaped, Offered, under, replacement, Inserts, Free, own-page, inserts, items-some, among-leaf}
+use Rattle.insert_laws.specs.InsertEntries.{kept-case, split-case, child-among, child-free, child-shaped, child-rest, page-is}
 
 -- attributes and right links that are numbers of two and four bytes
 abbrev pub Plain : List ℕ → Type 0
@@ -55,13 +56,13 @@ unrooted path name (suc m) A z =
     cond (eqb z (name m)) a (cond (eqb z (path m)) a (unrooted path name m A z))
 
 -- b′ is b after m splits along a path, from the leaf up, and no other change of heads: `path j` is the page of level j
-pub record Heads (k F : ℕ) (path : ℕ → ℕ) (m : ℕ) (b b′ : List ℕ) : Type 0 where
-  pub lefts : (z : ℕ) → isPage (length b) z ≡ true → leftAt b′ z ≡ relink path (newOffset F) m (linksOf b) .left z
-  pub rights : (z : ℕ) → isPage (length b) z ≡ true → rightAt b′ z ≡ relink path (newOffset F) m (linksOf b) .right z
-  pub attributes : (z : ℕ) → isPage (length b) z ≡ true → attributeAt b′ z ≡ unrooted path (newOffset F) m (attributeAt b) z
+pub record Heads (k : ℕ) (N : Naming) (path : ℕ → ℕ) (m : ℕ) (b b′ : List ℕ) : Type 0 where
+  pub lefts : (z : ℕ) → isPage (length b) z ≡ true → leftAt b′ z ≡ relink path (N .name) m (linksOf b) .left z
+  pub rights : (z : ℕ) → isPage (length b) z ≡ true → rightAt b′ z ≡ relink path (N .name) m (linksOf b) .right z
+  pub attributes : (z : ℕ) → isPage (length b) z ≡ true → attributeAt b′ z ≡ unrooted path (N .name) m (attributeAt b) z
   -- counts that are within the capacity stay so, and the new pages' are
   pub counts : (z : ℕ) → isPage (length b) z ≡ true → countAt b z ≤ capacity k → countAt b′ z ≤ capacity k
-  pub newCounts : (j : ℕ) → j < m → (isPage (length b) (newOffset F j) ≡ true) × (countAt b′ (newOffset F j) ≤ capacity k)
+  pub newCounts : (j : ℕ) → j < m → (isPage (length b) (N .name j) ≡ true) × (countAt b′ (N .name j) ≤ capacity k)
   pub header : SameHeader b b′
   pub plain : (z : ℕ) → isPage (length b) z ≡ true → (attributeAt b′ z < 2 ^ 16) × (rightAt b′ z < 2 ^ 32)
 
@@ -103,8 +104,8 @@ module _ (k : ℕ) where
         header = raised-header k b key p tp long;
       }
 
-module _ (k F : ℕ) (path : ℕ → ℕ) (b : List ℕ) where
-  heads-none : Plain b → Heads k F path 0 b b
+module _ (k : ℕ) (N : Naming) (path : ℕ → ℕ) (b : List ℕ) where
+  heads-none : Plain b → Heads k N path 0 b b
   heads-none plain = record {
     lefts = λ z t. refl;
     rights = λ z t. refl;
@@ -115,7 +116,7 @@ module _ (k F : ℕ) (path : ℕ → ℕ) (b : List ℕ) where
     plain = plain;
   }
 
-  heads-entries : (m : ℕ) (b′ b″ : List ℕ) → length b′ ≡ length b → Heads k F path m b b′ → EntriesOnly k b′ b″ → Heads k F path m b b″
+  heads-entries : (m : ℕ) (b′ b″ : List ℕ) → length b′ ≡ length b → Heads k N path m b b′ → EntriesOnly k b′ b″ → Heads k N path m b b″
   heads-entries m b′ b″ n v q =
       let here : (z : ℕ) → isPage (length b) z ≡ true → isPage (length b′) z ≡ true = λ z t. page-of z n t in
       record {
@@ -123,18 +124,18 @@ module _ (k F : ℕ) (path : ℕ → ℕ) (b : List ℕ) where
         rights = λ z t. q .right z (here z t) ∙ v .rights z t;
         attributes = λ z t. q .attribute z (here z t) ∙ v .attributes z t;
         counts = λ z t c. q .counts z (here z t) (v .counts z t c);
-        newCounts = λ j l. let c = v .newCounts j l in (c .0, q .counts (newOffset F j) (here (newOffset F j) (c .0)) (c .1));
+        newCounts = λ j l. let c = v .newCounts j l in (c .0, q .counts (N .name j) (here (N .name j) (c .0)) (c .1));
         header = q .header ∙ v .header;
         plain = λ z t. rw (q .attribute z (here z t), q .right z (here z t)) (v .plain z t);
       }
 
   -- one page more is split
-  heads-split : (m : ℕ) (b′ : List ℕ) (es : List Item) → Usable b (path m) → Usable b (newOffset F m) → (path m ≡ newOffset F m → ⊥)
+  heads-split : (m : ℕ) (b′ : List ℕ) (es : List Item) → Usable b (path m) → Usable b (N .name m) → (path m ≡ N .name m → ⊥)
       → All (Fit k) es → 1 < capacity k → length es ≤ suc (capacity k) → length b′ ≡ length b
-      → Heads k F path m b b′ → Heads k F path (suc m) b (splitPage b′ (path m) es (newOffset F m))
+      → Heads k N path m b b′ → Heads k N path (suc m) b (splitPage b′ (path m) es (N .name m))
   heads-split m b′ es tp tq ne f two few n v =
       let p = path m in
-      let q = newOffset F m in
+      let q = N .name m in
       let here : (z : ℕ) → isPage (length b) z ≡ true → isPage (length b′) z ≡ true = λ z t. page-of z n t in
       let pp = v .plain p (tp .0) in
       let i = half (length es) in
@@ -158,7 +159,7 @@ module _ (k F : ℕ) (path : ℕ → ℕ) (b : List ℕ) where
         counts = λ z t c. few-there z t (v .counts z t c);
         newCounts = λ j l. either (eqb j m)
             (λ e. let same : j ≡ m = eqb-true j m e in rw same (tq .0, rw (s q (tq .0) .countIs, eq-eqb q q refl) upper))
-            (λ e. let c = v .newCounts j (omega (arith, eqb-false j m e)) in (c .0, few-there (newOffset F j) (c .0) (c .1)));
+            (λ e. let c = v .newCounts j (omega (arith, eqb-false j m e)) in (c .0, few-there (N .name j) (c .0) (c .1)));
         header = split-header k b′ p es q (here p (tp .0)) (here q (tq .0)) ne f two few (tp .1) (tq .1) (pp .0) (pp .1) ∙ v .header;
         plain = λ z t. (
           rw (s z t .attributeIs) (one-of (λ n. n < 2 ^ 16) (eqb z q) a _ a16 (one-of (λ n. n < 2 ^ 16) (eqb z p) a (attributeAt b′ z) a16 (v .plain z t .0))),
@@ -167,11 +168,11 @@ module _ (k F : ℕ) (path : ℕ → ℕ) (b : List ℕ) where
         );
       }
 
--- an outcome, and how many pages were split: at a page with h levels under it that is split, one on each level up to it
-abbrev pub HeadsAfter : ℕ → ℕ → (ℕ → ℕ) → ℕ → List ℕ → Outcome → List ℕ → Type 0
-HeadsAfter k F path h b (kept n) b′ = (m : ℕ) × (n ≡ newOffset F m) × Heads k F path m b b′
-HeadsAfter k F path h b (split q) b′ = (q ≡ newOffset F h) × Heads k F path (suc h) b b′
-HeadsAfter k F path h b bad b′ = ⊥
+-- n pages were split: at a page with h levels under it that is split, one on each level up to it
+abbrev pub HeadsAfter : ℕ → Naming → (ℕ → ℕ) → ℕ → List ℕ → ℕ → Outcome → List ℕ → Type 0
+HeadsAfter k N path h b n (kept s) b′ = Heads k N path n b b′
+HeadsAfter k N path h b n (split q s) b′ = (n ≡ suc h) × Heads k N path (suc h) b b′
+HeadsAfter k N path h b n bad b′ = ⊥
 
 -- the page of the path on the level of a page, and on the levels below it
 path-own : (key : List ℕ) (h : ℕ) (a : List ℕ) (t : Tree (List ℕ) h) → pathPageUnder bytesOrder key h (suc h) (a, t) ≡ t .0
@@ -187,95 +188,100 @@ path-below k key b h j p a y ys es ne =
     ∙ ap (pathPageUnder bytesOrder key j (suc h)) (choose-read bytesOrder (entriesIn k b) (suc h) key (numbered y) (map numbered ys))
     ∙ ap (λ (e : List ℕ × ℕ). pathPageUnder bytesOrder key j (suc h) (readEntry (entriesIn k b) (suc h) e)) (choose-numbered key y ys))
 
-module _ (k F : ℕ) (path : ℕ → ℕ) (two : 1 < capacity k) (b : List ℕ) where
-  -- the theory has room for a page that is split
-  split-room : (h : ℕ) (a : List ℕ) (p : ℕ) (b′ : List ℕ) (es : List Item) (n : ℕ) (v : StoreReplacement (List ℕ))
-      → OutcomeIs F a p (takeIn k b′ p es n .outcome) v → n ≡ newOffset F h
-      → leb (length es) (capacity k) ≡ false → h < v .1
+module _ (k : ℕ) (N : Naming) (path : ℕ → ℕ) (two : 1 < capacity k) (b : List ℕ) (given : Supplied N b) where
+  -- a page that gets entries, with h levels under it, after h pages were split: w is what the theory gathers for it
+  take-in-heads : (h : ℕ) (b′ : List ℕ) (p : ℕ) (a : List ℕ) (w : StoreReplacement (List ℕ)) (es : List Item) (s : Supply) → p ≡ path h → s ≡ N .left h
+      → w .1 ≡ h → Usable b p → length b′ ≡ length b → All (Fit k) es → length es ≤ suc (capacity k) → ((j : ℕ) → p ≡ N .name j → ⊥) → Untaken N h b b′
+      → ((j : ℕ) → j < storeSplitIfOver (capacity k) (N .name) a p w .1 → Usable b (N .name j))
+      → OutcomeIs N a p (takeIn k b′ p es s .outcome) (storeSplitIfOver (capacity k) (N .name) a p w) → Heads k N path h b b′
+      → HeadsAfter k N path h b (storeSplitIfOver (capacity k) (N .name) a p w .1) (takeIn k b′ p es s .outcome) (takeIn k b′ p es s .after)
   unfolding takeIn
-  split-room h a p b′ es n v t e f = either (isPage (length b′) n)
-      (λ u. let g : OutcomeIs F a p (split n) v = rw (f, u) at t in omega (arith, g .0))
-      (λ u. absurd (rw (f, u) at t))
+  take-in-heads h b′ p a w es s ep en ew tp lb f few ne un room t v =
+      let W : StoreReplacement (List ℕ) = storeSplitIfOver (capacity k) (N .name) a p w in
+      let new : takePage b′ s ≡ nextOf N h = ap (takePage b′) en ∙ given .takes h b′ lb un in
+      either (leb (length es) (capacity k))
+      (λ e. let told : OutcomeIs N a p (kept s) W = rw e at t in
+      rw (e, kept-case (capacity k) (N .name) a p w (a, p) (told .1), ew)
+      (heads-entries k N path b h b′ (withEntries b′ p es) lb v (with-only k b′ p es (page-of p lb (tp .0)) f (leb-true (length es) (capacity k) e))))
+      (λ e. either (isPage (length b′) (N .name h))
+      (λ u. let told : OutcomeIs N a p (split (N .name h) (N .left (suc h))) W = rw (e, new, u) at t in
+      let many : W .1 ≡ suc h = split-case (capacity k) (N .name) a p w (lastKey a (W .2 p), p) (a, N .name h) (told .1) .1 ∙ ap suc ew in
+      rw (e, new, u) (many, rw ep (heads-split k N path b h b′ es (rw (← ep) tp) (room h (omega arith)) (rw (← ep) (ne h)) f two few lb v)))
+      (λ u. absurd (rw (e, new, u) at t)))
 
-  take-in-heads : (h : ℕ) (b′ : List ℕ) (p : ℕ) (es : List Item) (n : ℕ) → p ≡ path h → n ≡ newOffset F h → Usable b p → length b′ ≡ length b → All (Fit k) es
-      → length es ≤ suc (capacity k) → (p ≡ n → ⊥) → (leb (length es) (capacity k) ≡ false → Usable b n) → Heads k F path h b b′
-      → HeadsAfter k F path h b (takeIn k b′ p es n .outcome) (takeIn k b′ p es n .after)
-  unfolding takeIn
-  take-in-heads h b′ p es n ep en tp lb f few ne room v = either (leb (length es) (capacity k))
-      (λ e. rw e (
-        h,
-        en,
-        heads-entries k F path b h b′ (withEntries b′ p es) lb v
-            (with-only k b′ p es (page-of p lb (tp .0)) f (leb-true (length es) (capacity k) e)),
-      ))
-      (λ e. let tn : Usable b n = room e in
-      rw (e, page-of n lb (tn .0)) (en, rw (ep, en) (heads-split k F path b h b′ es (rw (← ep) tp) (rw (← en) tn) (rw (← ep, ← en) ne) f two few lb v)))
-
-module _ (k F : ℕ) (key : List ℕ) (r : ℕ) (b : List ℕ) (o : Offered k key r) (path : ℕ → ℕ) (plain : Plain b) where
-  after-child-heads : (h : ℕ) (b′ : List ℕ) (p : ℕ) (a : List ℕ) (c : ℕ) (out : Outcome) (v : StoreReplacement (List ℕ))
-      → HeadsAfter k F path h b out b′ → length b′ ≡ length b
-      → NonEmpty (itemsIn k b′ p) → p ≡ path (suc h) → Usable b p → (p ≡ newOffset F (suc h) → ⊥) → ((j : ℕ) → j < v .1 → Usable b (newOffset F j))
-      → OutcomeIs F a p (afterChild k b′ key p c out .outcome) v
-      → HeadsAfter k F path (suc h) b (afterChild k b′ key p c out .outcome) (afterChild k b′ key p c out .after)
-  after-child-heads h b′ p a c (kept n) v x lb some ep tp ne room t =
-      (x .0, x .1, heads-entries k F path b (x .0) b′ (raised k b′ key p) lb (x .2) (raised-only k b′ key p (page-of p lb (tp .0)) (o .long)))
-  after-child-heads h b′ p a c bad v x lb some ep tp ne room t = absurd x
-  after-child-heads h b′ p a c (split q) v x lb some ep tp ne room t =
+module _ (k : ℕ) (N : Naming) (key : List ℕ) (r : ℕ) (b : List ℕ) (o : Offered k N key r b) (path : ℕ → ℕ) (plain : Plain b) where
+  -- a page above, after the step at its child at c: v is the theory's replacement for the child, w what the theory gathers for the page
+  after-child-heads : (h : ℕ) (b′ : List ℕ) (p : ℕ) (a A : List ℕ) (c : ℕ) (out : Outcome) (v w : StoreReplacement (List ℕ))
+      → OutcomeIs N A c out v → HeadsAfter k N path h b (v .1) out b′ → w .1 ≡ v .1 → length b′ ≡ length b → Untaken N (v .1) b b′
+      → NonEmpty (itemsIn k b′ p) → p ≡ path (suc h) → Usable b p → ((j : ℕ) → p ≡ N .name j → ⊥)
+      → ((j : ℕ) → j < storeSplitIfOver (capacity k) (N .name) a p w .1 → Usable b (N .name j))
+      → OutcomeIs N a p (afterChild k b′ key p c out .outcome) (storeSplitIfOver (capacity k) (N .name) a p w)
+      → HeadsAfter k N path (suc h) b (storeSplitIfOver (capacity k) (N .name) a p w .1) (afterChild k b′ key p c out .outcome)
+      (afterChild k b′ key p c out .after)
+  after-child-heads h b′ p a A c (kept s) v w told x ew lb un some ep tp ne room t =
+      rw (kept-case (capacity k) (N .name) a p w (a, p) (t .1), ew)
+      (heads-entries k N path b (v .1) b′ (raised k b′ key p) lb x (raised-only k b′ key p (page-of p lb (tp .0)) (o .long)))
+  after-child-heads h b′ p a A c bad v w told x ew lb un some ep tp ne room t = absurd x
+  after-child-heads h b′ p a A c (split q s) v w told x ew lb un some ep tp ne room t =
       let es : List Item = replaced key (twoFor k b′ key c q) (itemsIn k b′ p) in
-      let en : q + pageSize ≡ newOffset F (suc h) = omega (arith, x .0) in
       let le : length es ≡ 1 + length (itemsIn k b′ p) = length-replaced key (twoFor k b′ key c q) 1 (λ e. refl) (itemsIn k b′ p) some in
-      take-in-heads k F path (o .two) b (suc h) b′ p es (q + pageSize) ep en tp lb
-      (two-fit k b′ key (o .long) c q (itemsIn k b′ p) (items-in-fit k b′ p)) (omega (arith, items-few k b′ p)) (λ u. ne (u ∙ en))
-      (λ e. rw en (room (suc h) (split-room k F path (o .two) b (suc h) a p b′ es (q + pageSize) v t en e))) (x .1)
+      take-in-heads k N path (o .two) b (o .supplied) (suc h) b′ p a w es s ep (told .0 ∙ ap (N .left) (x .0)) (ew ∙ x .0) tp lb
+      (two-fit k b′ key (o .long) c q (itemsIn k b′ p) (items-in-fit k b′ p)) (omega (arith, items-few k b′ p)) ne (rw (x .0) at un) room t (x .1)
 
   -- the heads after insertion's step at the page at p
-  abbrev Goes : ℕ → ℕ → ℕ → Type 0
-  Goes h left p = HeadsAfter k F path h b (insertUnder k left b key r p F .outcome) (insertUnder k left b key r p F .after)
+  abbrev Goes : ℕ → ℕ → List ℕ → ℕ → Type 0
+  Goes h left a p =
+      let d : Step = insertUnder k left b key r p (supplyOf b) in
+      HeadsAfter k N path h b (replacement k N key r b h a p .1) (d .outcome) (d .after)
 
   abbrev OnPath : ℕ → List ℕ → ℕ → Type 0
   OnPath h a p = (j : ℕ) → j ≤ h → path j ≡ pathPageUnder bytesOrder key j (suc h) (a, readTree (entriesIn k b) h p)
 
   -- Theorem: insertion's step splits the lowest pages of the path to the key, and changes no other head
-  pub insert-heads : (h left p : ℕ) (a : List ℕ) → h < left → Shaped k h b p → Free k F key r b h a p → OnPath h a p → Goes h left p
+  pub insert-heads : (h left p : ℕ) (a : List ℕ) → h < left → Shaped k h b p → Free k N key r b h a p → OnPath h a p → Goes h left a p
   unfolding insertUnder
   insert-heads zero zero p a l f u x = absurd (omega arith)
   insert-heads (suc h) zero p a l f u x = absurd (omega arith)
   insert-heads zero (suc left) p a l f u x =
       let es : List Item = insertPair bytesOrder key (toBe32 r) (itemsIn k b p) in
-      let v : StoreReplacement (List ℕ) = replacement k F key r b zero a p in
-      let t : OutcomeIs F a p (takeIn k b p es F .outcome) v = rw (f .0 .0, f .1) at (inserts k F key r b o zero (suc left) p a l f u .told) in
-      let ef : F ≡ newOffset F 0 = omega arith in
+      let w : StoreReplacement (List ℕ) = storeInsertAmong bytesOrder key r zero (under k N key r b zero) (entriesIn k b p) 0 (entriesIn k b) in
+      let t : OutcomeIs N a p (takeIn k b p es (supplyOf b) .outcome) (storeSplitIfOver (capacity k) (N .name) a p w) =
+      rw (f .0 .0, f .1) at (inserts k N key r b o zero (suc left) p a l f u .told) in
+      let none : w .1 ≡ 0 = ap (λ (y : StoreReplacement (List ℕ)). y .1) (among-leaf key r (entriesIn k b) (capacity k) (N .name) (entriesIn k b p)) in
       rw (f .0 .0, f .1)
-      (take-in-heads k F path (o .two) b zero b p es F (sym (path-own key zero a (readTree (entriesIn k b) zero p)) ∙ sym (x zero (omega arith))) ef (f .0) refl
+      (take-in-heads k N path (o .two) b (o .supplied) zero b p a w es (supplyOf b)
+      (sym (path-own key zero a (readTree (entriesIn k b) zero p)) ∙ sym (x zero (omega arith))) (o .supplied .starts) none (f .0) refl
       (pair-fit k b key (o .long) r p)
       (omega (arith, items-few k b p, length-insert key (toBe32 r) (itemsIn k b p)))
-      (λ e. occ-not-head (newOffset F 0) p (concatMap (pagesUnder zero) (map (readEntry (entriesIn k b) zero) (entriesIn k b p))) (u .1 0) (sym (e ∙ ef)))
-      (λ e. rw ef (u .2 0 (split-room k F path (o .two) b zero a p b es F v t ef e)))
-      (heads-none k F path b plain))
+      (own-page k N key r b zero a p u) (λ j i y. refl) (u .2) t
+      (heads-none k N path b plain))
   insert-heads (suc h) (suc left) p a l f u x = go (λ c y g w. insert-heads h left c y (omega arith) g w) (itemsIn k b p) refl
     where
       UpperGoes : List Item → Type 0
       UpperGoes es =
           let c : ℕ = childOf (chosen key es) in
-          let d : Step = insertUnder k left b key r c F in
-          HeadsAfter k F path (suc h) b (afterChild k (d .after) key p c (d .outcome) .outcome) (afterChild k (d .after) key p c (d .outcome) .after)
+          let d : Step = insertUnder k left b key r c (supplyOf b) in
+          HeadsAfter k N path (suc h) b (replacement k N key r b (suc h) a p .1) (afterChild k (d .after) key p c (d .outcome) .outcome)
+          (afterChild k (d .after) key p c (d .outcome) .after)
 
-      go : ((c : ℕ) (y : List ℕ) → Shaped k h b c → Free k F key r b h y c → OnPath h y c → Goes h left c) → (es : List Item) → itemsIn k b p ≡ es
-          → Goes (suc h) (suc left) p
+      go : ((c : ℕ) (y : List ℕ) → Shaped k h b c → Free k N key r b h y c → OnPath h y c → Goes h left y c) → (es : List Item) → itemsIn k b p ≡ es
+          → Goes (suc h) (suc left) a p
       go rec [] e = absurd (rw e at (f .2))
       go rec (y ∷ ys) e =
           let c : ℕ = childOf (choose bytesOrder key y ys) in
           let A : List ℕ = larger bytesOrder (choose bytesOrder key y ys .0) key in
-          let v : StoreReplacement (List ℕ) = replacement k F key r b (suc h) a p in
-          let free = child-free k F key r b o h p a y ys e u in
+          let v : StoreReplacement (List ℕ) = replacement k N key r b h A c in
+          let w : StoreReplacement (List ℕ) = storeInsertAmong bytesOrder key r (suc h) (under k N key r b (suc h)) (entriesIn k b p) 0 (entriesIn k b) in
+          let ew : w .1 ≡ v .1 = sym (ap (λ (y : StoreReplacement (List ℕ)). y .1) (child-among k N key r b o h p a y ys e u)) in
+          let free = child-free k N key r b o h p a y ys e u in
           let shaped : Shaped k h b c = child-shaped k h key b p y ys e (f .3) in
-          let w : Inserts k F key r b h left A c = inserts k F key r b o h left c A (omega arith) shaped free in
-          let d : Step = insertUnder k left b key r c F in
+          let below : Inserts k N key r b h left A c = inserts k N key r b o h left c A (omega arith) shaped free in
+          let d : Step = insertUnder k left b key r c (supplyOf b) in
           let on : OnPath h A c = λ j i. x j (omega arith) ∙ path-below k key b h j p a y ys e (λ q. omega arith) in
-          let t : OutcomeIs F a p (afterChild k (d .after) key p c (d .outcome) .outcome) v = page-is k F key r b o h p a y ys e u left (f .0 .0) w .told in
+          let t : OutcomeIs N a p (afterChild k (d .after) key p c (d .outcome) .outcome) (replacement k N key r b (suc h) a p) =
+          page-is k N key r b o h p a y ys e u left (f .0 .0) below .told in
           rw (f .0 .0, f .1) (subst UpperGoes (sym e)
-          (after-child-heads h (d .after) p a c (d .outcome) v (rec c A shaped free on) (w .as-long)
-          (items-some k (d .after) p (numbered y) (map numbered ys) (child-rest k F key r b o h p a y ys e u left w))
+          (after-child-heads h (d .after) p a A c (d .outcome) v w (below .told) (rec c A shaped free on) ew (below .as-long) (below .untaken)
+          (items-some k (d .after) p (numbered y) (map numbered ys) (child-rest k N key r b o h p a y ys e u left below))
           (sym (path-own key (suc h) a (readTree (entriesIn k b) (suc h) p)) ∙ sym (x (suc h) (omega arith))) (f .0)
-          (λ q. occ-not-head (newOffset F (suc h)) p (concatMap (pagesUnder (suc h)) (map (readEntry (entriesIn k b) (suc h)) (entriesIn k b p)))
-          (u .1 (suc h)) (sym q)) (u .2) t))
+          (own-page k N key r b (suc h) a p u) (u .2) t))

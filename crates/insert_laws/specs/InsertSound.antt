@@ -15,8 +15,8 @@ use Rattle.octets.specs.StoreLaws.{getD-window}
 use Rattle.octets.specs.NumberLaws.{le16-same, le32-same}
 use Rattle.tree.specs.Book.{insertion, verdict, isAccepted}
 use Rattle.tree.specs.Clauses.{least, AllLinked}
-use Rattle.tree.specs.Index.{newOffset, Index, held, Setting, outOfRoom, answer, inserted}
-use Rattle.tree.specs.IndexLaws.{next-sound, next-linked, pages-distinct, newPage-unused}
+use Rattle.tree.specs.Index.{Index, held, Setting, outOfRoom, answer, inserted}
+use Rattle.tree.specs.IndexLaws.{next-sound, next-linked, pages-distinct, taken-unused}
 use Rattle.tree.specs.InsertLevels.{InsertedAfter, insert-level, levelUnder-pages, levelUnder-disjoint}
 use Rattle.tree.specs.InsertNeeds.{insert-needs, root-splits}
 use Rattle.tree.specs.InsertPairs.{insert-pairs}
@@ -30,6 +30,8 @@ use Rattle.tree.specs.Pairs.{find, insertPair}
 use Rattle.tree.specs.Relinking.{pathPage}
 use Rattle.tree.specs.Room.{run, needs}
 use Rattle.tree.specs.Store.{readTree}
+use Rattle.tree.specs.Supply.{takenPage}
+use Rattle.tree.specs.SupplyLaws.{taken-injective}
 use Rattle.tree.specs.SoundIndex.{SoundIndex, LinkedIndex}
 use Rattle.tree.specs.Tree.{Tree, pagesUnder, pages, pairs, levelUnder, level}
 use Rattle.page.specs.Header.{maxBytes, noPage, isPage, rootOffset, fileSize, keyLength, features, headerGood}
@@ -44,9 +46,12 @@ use Rattle.sound.specs.MarkLaws.{occ-all}
 use Rattle.sound.specs.IndexLaws.{indexOf, settingOf, sound-index, sound-linked, all-occ, once-page, index-sound}
 use Rattle.insert.specs.Insertion.{insertedBuffer}
 use Rattle.insert.specs.Room.{noRoom}
-use Rattle.insert_laws.specs.InsertEntries.{Usable}
+use Rattle.layout.specs.declared.Supply.{Supply}
+use Rattle.layout.specs.Supply.{supplyOf}
+use Rattle.layout_laws.specs.SupplyLaws.{SameRest}
+use Rattle.insert_laws.specs.Naming.{namingOf, supplied, usable}
 use Rattle.insert_laws.specs.InsertHeads.{Plain, unrooted}
-use Rattle.insert_laws.specs.InsertBuffer.{treeIn, grownBy, Ready, SameRest, tree-after, root-after, size-after, length-after, header-after}
+use Rattle.insert_laws.specs.InsertBuffer.{treeIn, grownBy, Ready, tree-after, root-after, supply-after, length-after, header-after}
 use Rattle.insert_laws.specs.InsertBuffer.{HeadsIn, Rising, stays, rises, heads-in, linksAfter}
 use Rattle.insert_laws.specs.AttributeLaws.{leaf-old, leaf-new, root-none, root-new, root-split, unrooted-same, small-old, small-new}
 use Rattle.insert_laws.specs.SoundReading.{page-longer, read-shorter, sound-tree, sound-shaped}
@@ -90,7 +95,7 @@ module _ (b key : List ℕ) (r : ℕ) (accepts : Accepts b key r) where
   after = inserted kept-by key r before
 
   abbrev x : Grown (List ℕ)
-  x = grownBy (keyLength b) (accepts .sound .height) b key r
+  x = grownBy (keyLength b) (namingOf b) (accepts .sound .height) b key r
 
   abbrev b″ : List ℕ
   b″ = insertedBuffer (keyLength b) b key r
@@ -124,24 +129,20 @@ module _ (b key : List ℕ) (r : ℕ) (accepts : Accepts b key r) where
   new-page : (z : ℕ) → 0 < occ z (pages (x .0) (x .1)) → isPage (length b) z ≡ true
   new-page z o = page-longer z (omega (arith, sound-after .withinSize)) (once-page after (sound-after .pagesOnce) z o)
 
-  ready : Ready k h b key r
+  ready : Ready k (namingOf b) h b key r
   ready =
       let once = sound-before .pagesOnce in
-      let aligned = once .aligned in
-      let positive = once .positive in
-      let size = sound-after .withinSize in
-      let room : (j : ℕ) → j < x .2 → Usable b (newOffset (fileSize b) j) =
-      λ j l. (is-page-from (length b) (newOffset (fileSize b) j) (record { whole = omega arith; low = omega arith; high = omega arith }), omega arith) in
+      let new = usable b (x .2) (once .positive) (once .aligned) (sound-after .withinSize) in
       record {
-        offered = record { two = two; long = accepts .long; r32 = accepts .r32 };
+        offered = record { supplied = supplied b; two = two; long = accepts .long; r32 = accepts .r32 };
         levels = sound-before .withinLevels;
         plain = accepts .plain;
         shaped = sound-shaped b (accepts .sound);
         sized = sound-before .sized;
         once = pages-distinct before once;
-        unused = newPage-unused before once;
-        room = room;
-        size32 = omega arith;
+        unused = taken-unused before once;
+        room = new .0;
+        lasts = new .1;
       }
 
   -- the pages on the path, and how many of them are split
@@ -152,45 +153,45 @@ module _ (b key : List ℕ) (r : ℕ) (accepts : Accepts b key r) where
   splits = run bytesOrder (capacity k) key h t
 
   most : splits ≤ suc h
-  most = root-splits bytesOrder (capacity k) (newOffset F) key r h key t (omega (arith, two)) (sound-before .sized) .most
+  most = root-splits bytesOrder (capacity k) (takenPage F) key r h key t (omega (arith, two)) (sound-before .sized) .most
 
   need : x .2 ≡ needs bytesOrder (capacity k) key h t
-  need = insert-needs bytesOrder (capacity k) (newOffset F) key r h t (omega (arith, two)) (sound-before .sized) .0
+  need = insert-needs bytesOrder (capacity k) (takenPage F) key r h t (omega (arith, two)) (sound-before .sized) .0
 
   in-tree : (H j z : ℕ) (T : Tree (List ℕ) H) → 0 < occ z (level j H T) → 0 < occ z (pages H T)
   in-tree H j z T o = omega (arith, levelUnder-pages z j (suc H) (key, T))
 
   -- an old page is no new one
-  old-new : (z : ℕ) → 0 < occ z (pages h t) → (j : ℕ) → z ≡ newOffset F j → ⊥
+  old-new : (z : ℕ) → 0 < occ z (pages h t) → (j : ℕ) → z ≡ takenPage F j → ⊥
   old-new z o j e =
-      let n : occ (newOffset F j) (pages h t) ≡ 0 = sound-before .pagesOnce .beyond (newOffset F j) (omega arith) in
+      let n : occ (takenPage F j) (pages h t) ≡ 0 = taken-unused before (sound-before .pagesOnce) j in
       let f : occ z (pages h t) ≡ 0 = rw e n in
       omega arith
 
   abbrev Level : ℕ → Type 0
-  Level j = InsertedAfter (path j) (newOffset F (0 + j)) (level j h t) (level j (x .0) (x .1))
+  Level j = InsertedAfter (path j) (takenPage F (0 + j)) (level j h t) (level j (x .0) (x .1))
 
   -- a page of a level after the insertion is an old page of that level, or the new one after the page on the path
-  in-level : {X : Type 0} (j z : ℕ) → j ≤ h → 0 < occ z (level j (x .0) (x .1)) → (0 < occ z (level j h t) → X) → (j < splits → z ≡ newOffset F j → X) → X
+  in-level : {X : Type 0} (j z : ℕ) → j ≤ h → 0 < occ z (level j (x .0) (x .1)) → (0 < occ z (level j h t) → X) → (j < splits → z ≡ takenPage F j → X) → X
   in-level j z l o old new =
-      let q = insert-level bytesOrder (capacity k) (newOffset F) key r h t j (omega (arith, two)) (sound-before .sized) l in
+      let q = insert-level bytesOrder (capacity k) (takenPage F) key r h t j (omega (arith, two)) (sound-before .sized) l in
       either (ltb j splits)
       (λ e. let v : Level j = q .0 (ltb-true j splits e) in
-      either (eqb z (newOffset F (0 + j)))
-      (λ u. new (ltb-true j splits e) (eqb-true z (newOffset F (0 + j)) u ∙ omega arith))
+      either (eqb z (takenPage F (0 + j)))
+      (λ u. new (ltb-true j splits e) (eqb-true z (takenPage F (0 + j)) u ∙ omega arith))
       (λ u.
-      let p1 : occ z (level j (x .0) (x .1)) ≡ occ z (v .pre) + (countIf (eqb z (path j)) + (countIf (eqb z (newOffset F (0 + j))) + occ z (v .post))) =
-      ap (occ z) (v .now) ∙ occ-append z (v .pre) (path j ∷ newOffset F (0 + j) ∷ v .post) in
+      let p1 : occ z (level j (x .0) (x .1)) ≡ occ z (v .pre) + (countIf (eqb z (path j)) + (countIf (eqb z (takenPage F (0 + j))) + occ z (v .post))) =
+      ap (occ z) (v .now) ∙ occ-append z (v .pre) (path j ∷ takenPage F (0 + j) ∷ v .post) in
       let p2 : occ z (level j h t) ≡ occ z (v .pre) + (countIf (eqb z (path j)) + occ z (v .post)) =
       ap (occ z) (v .was) ∙ occ-append z (v .pre) (path j ∷ v .post) in
-      let p3 : countIf (eqb z (newOffset F (0 + j))) ≡ 0 = ap countIf u in
+      let p3 : countIf (eqb z (takenPage F (0 + j))) ≡ 0 = ap countIf u in
       old (omega arith)))
       (λ e. old (rw (← q .1 (ltb-false j splits e)) o))
 
   -- a page of the path that is split is a page of its level
   path-level : (j : ℕ) → j < splits → 0 < occ (path j) (level j h t)
   path-level j l =
-      let q = insert-level bytesOrder (capacity k) (newOffset F) key r h t j (omega (arith, two)) (sound-before .sized) (omega (arith, most)) in
+      let q = insert-level bytesOrder (capacity k) (takenPage F) key r h t j (omega (arith, two)) (sound-before .sized) (omega (arith, most)) in
       let v : Level j = q .0 l in
       let p : occ (path j) (level j h t) ≡ occ (path j) (v .pre) + (countIf (eqb (path j) (path j)) + occ (path j) (v .post)) =
       ap (occ (path j)) (v .was) ∙ occ-append (path j) (v .pre) (path j ∷ v .post) in
@@ -200,16 +201,16 @@ module _ (b key : List ℕ) (r : ℕ) (accepts : Accepts b key r) where
   path-old j l = in-tree h j (path j) t (path-level j l)
 
   -- a page of the tree after the insertion is an old page or a new one
-  in-new : {X : Type 0} (n z : ℕ) → 0 < occ z (newPages (newOffset F) n) → ((j : ℕ) → j < n → z ≡ newOffset F j → X) → X
+  in-new : {X : Type 0} (n z : ℕ) → 0 < occ z (newPages (takenPage F) n) → ((j : ℕ) → j < n → z ≡ takenPage F j → X) → X
   in-new zero z o f = absurd (omega arith)
-  in-new (suc n) z o f = either (eqb z (newOffset F n))
-      (λ e. f n (omega arith) (eqb-true z (newOffset F n) e))
+  in-new (suc n) z o f = either (eqb z (takenPage F n))
+      (λ e. f n (omega arith) (eqb-true z (takenPage F n) e))
       (λ e. in-new n z (omega (arith, ap countIf e)) (λ j l. f j (omega arith)))
 
-  in-pages : {X : Type 0} (z : ℕ) → 0 < occ z (pages (x .0) (x .1)) → (0 < occ z (pages h t) → X) → ((j : ℕ) → j < x .2 → z ≡ newOffset F j → X) → X
+  in-pages : {X : Type 0} (z : ℕ) → 0 < occ z (pages (x .0) (x .1)) → (0 < occ z (pages h t) → X) → ((j : ℕ) → j < x .2 → z ≡ takenPage F j → X) → X
   in-pages z o old new =
-      let p : occ z (pages (x .0) (x .1)) ≡ occ z (pages h t) + occ z (newPages (newOffset F) (x .2)) =
-      insert-pages bytesOrder (capacity k) (newOffset F) key r z h t in
+      let p : occ z (pages (x .0) (x .1)) ≡ occ z (pages h t) + occ z (newPages (takenPage F) (x .2)) =
+      insert-pages bytesOrder (capacity k) (takenPage F) key r z h t in
       either (ltb 0 (occ z (pages h t)))
       (λ e. old (ltb-true 0 (occ z (pages h t)) e))
       (λ e. let y = ltb-false 0 (occ z (pages h t)) e in in-new (x .2) z (omega arith) new)
@@ -235,11 +236,11 @@ module _ (b key : List ℕ) (r : ℕ) (accepts : Accepts b key r) where
       (subst (λ (T : Tree (List ℕ) h). 0 < occ z (pages h T)) (sound-tree b (accepts .sound)) o) .1
 
   -- the leaf bits of a level below a new root
-  leaf-bits : (j z : ℕ) → j ≤ h → 0 < occ z (level j (x .0) (x .1)) → leafBit (unrooted path (newOffset F) splits (attributeAt b) z) ≡ eqb j 0
+  leaf-bits : (j z : ℕ) → j ≤ h → 0 < occ z (level j (x .0) (x .1)) → leafBit (unrooted path (takenPage F) splits (attributeAt b) z) ≡ eqb j 0
   leaf-bits j z l o = in-level j z l o
-      (λ f. leaf-old path (newOffset F) (attributeAt b) splits z (λ i m. old-new z (in-tree h j z t f) i) ∙ old-leaf j z l f)
-      (λ m e. ap (λ (y : ℕ). leafBit (unrooted path (newOffset F) splits (attributeAt b) y)) e
-      ∙ leaf-new path (newOffset F) (attributeAt b) (λ i i′ u. omega arith) splits (λ i i′ q. old-new (path i) (path-old i q) i′) j m
+      (λ f. leaf-old path (takenPage F) (attributeAt b) splits z (λ i m. old-new z (in-tree h j z t f) i) ∙ old-leaf j z l f)
+      (λ m e. ap (λ (y : ℕ). leafBit (unrooted path (takenPage F) splits (attributeAt b) y)) e
+      ∙ leaf-new path (takenPage F) (attributeAt b) (taken-injective F) splits (λ i i′ q. old-new (path i) (path-old i q) i′) j m
       ∙ old-leaf j (path j) l (path-level j m))
 
   -- the root is on the top level alone
@@ -264,7 +265,7 @@ module _ (b key : List ℕ) (r : ℕ) (accepts : Accepts b key r) where
     small : (z : ℕ) → 0 < occ z (pages (x .0) (x .1)) → attributeAt b″ z ≤ 3
 
   bits-stay : x .0 ≡ h → x .1 .0 ≡ rootOffset b → splits ≤ h
-      → ((z : ℕ) → isPage (length b) z ≡ true → attributeAt b″ z ≡ unrooted path (newOffset F) splits (attributeAt b) z) → Bits
+      → ((z : ℕ) → isPage (length b) z ≡ true → attributeAt b″ z ≡ unrooted path (takenPage F) splits (attributeAt b) z) → Bits
   bits-stay e0 e1 short at =
       let n2 : x .2 ≡ splits = rw (ne-eqb splits (suc h) (λ q. omega arith)) at need in
       record {
@@ -272,28 +273,28 @@ module _ (b key : List ℕ) (r : ℕ) (accepts : Accepts b key r) where
         root = λ z o. rw (at z (new-page z o), e1) (in-pages z o
             (λ f. either (eqb z (rootOffset b))
             (λ q. let v : z ≡ rootOffset b = eqb-true z (rootOffset b) q in
-            rw (unrooted-same path (newOffset F) (attributeAt b) splits z (λ j l. (old-new z f j, (λ u. root-high j l (omega arith) (sym v ∙ u)))))
+            rw (unrooted-same path (takenPage F) (attributeAt b) splits z (λ j l. (old-new z f j, (λ u. root-high j l (omega arith) (sym v ∙ u)))))
             (old-root z f))
-            (λ q. rw q (root-none path (newOffset F) (attributeAt b) splits z (old-root z f ∙ q))))
-            (λ j l v. rw (v, ne-eqb (newOffset F j) (rootOffset b) (λ u. old-new (rootOffset b) root-old j (sym u)))
-            (root-new path (newOffset F) (attributeAt b) splits j (omega arith))));
+            (λ q. rw q (root-none path (takenPage F) (attributeAt b) splits z (old-root z f ∙ q))))
+            (λ j l v. rw (v, ne-eqb (takenPage F j) (rootOffset b) (λ u. old-new (rootOffset b) root-old j (sym u)))
+            (root-new path (takenPage F) (attributeAt b) splits j (omega arith))));
         small = λ z o. rw (at z (new-page z o)) (in-pages z o
-            (λ f. small-old path (newOffset F) (attributeAt b) splits path-small z (old-attribute z f))
-            (λ j l v. rw v (small-new path (newOffset F) (attributeAt b) splits path-small j (omega arith))));
+            (λ f. small-old path (takenPage F) (attributeAt b) splits path-small z (old-attribute z f))
+            (λ j l v. rw v (small-new path (takenPage F) (attributeAt b) splits path-small j (omega arith))));
       }
 
   -- the path's page on the top level is the root
   path-top : path h ≡ rootOffset b
   path-top = rw (eq-eqb h h refl)
 
-  bits-rise : x .0 ≡ suc h → x .1 .0 ≡ newOffset F (suc h) → splits ≡ suc h
+  bits-rise : x .0 ≡ suc h → x .1 .0 ≡ takenPage F (suc h) → splits ≡ suc h
       → ((z : ℕ) → isPage (length b) z ≡ true
-      → attributeAt b″ z ≡ cond (eqb z (newOffset F (suc h))) 1 (unrooted path (newOffset F) (suc h) (attributeAt b) z)) → Bits
+      → attributeAt b″ z ≡ cond (eqb z (takenPage F (suc h))) 1 (unrooted path (takenPage F) (suc h) (attributeAt b) z)) → Bits
   bits-rise e0 e1 er at-top =
-      let N : ℕ = newOffset F (suc h) in
+      let N : ℕ = takenPage F (suc h) in
       let n2 : x .2 ≡ suc splits = rw (eq-eqb splits (suc h) er) at need in
-      let at : (z : ℕ) → isPage (length b) z ≡ true → attributeAt b″ z ≡ cond (eqb z N) 1 (unrooted path (newOffset F) splits (attributeAt b) z) =
-      λ z p. at-top z p ∙ ap (λ (m : ℕ). cond (eqb z N) 1 (unrooted path (newOffset F) m (attributeAt b) z)) (sym er) in
+      let at : (z : ℕ) → isPage (length b) z ≡ true → attributeAt b″ z ≡ cond (eqb z N) 1 (unrooted path (takenPage F) splits (attributeAt b) z) =
+      λ z p. at-top z p ∙ ap (λ (m : ℕ). cond (eqb z N) 1 (unrooted path (takenPage F) m (attributeAt b) z)) (sym er) in
       record {
         leaf = λ j z l o. ap leafBit (at z (new-page z (in-tree (x .0) j z (x .1) o)))
             ∙ either (eqb j (suc h))
@@ -306,14 +307,14 @@ module _ (b key : List ℕ) (r : ℕ) (accepts : Accepts b key r) where
             (λ q. rw q (in-pages z o
             (λ f. either (eqb z (rootOffset b))
             (λ u. let v : z ≡ path h = eqb-true z (rootOffset b) u ∙ sym path-top in
-            rw v (root-split path (newOffset F) (attributeAt b) splits h (omega arith)))
-            (λ u. root-none path (newOffset F) (attributeAt b) splits z (old-root z f ∙ u)))
-            (λ j l v. rw v (root-new path (newOffset F) (attributeAt b) splits j (not-top j z q v (omega arith)))))));
+            rw v (root-split path (takenPage F) (attributeAt b) splits h (omega arith)))
+            (λ u. root-none path (takenPage F) (attributeAt b) splits z (old-root z f ∙ u)))
+            (λ j l v. rw v (root-new path (takenPage F) (attributeAt b) splits j (not-top j z q v (omega arith)))))));
         small = λ z o. rw (at z (new-page z o)) (either (eqb z N)
             (λ q. rw q (omega arith))
             (λ q. rw q (in-pages z o
-            (λ f. small-old path (newOffset F) (attributeAt b) splits path-small z (old-attribute z f))
-            (λ j l v. rw v (small-new path (newOffset F) (attributeAt b) splits path-small j (not-top j z q v (omega arith)))))));
+            (λ f. small-old path (takenPage F) (attributeAt b) splits path-small z (old-attribute z f))
+            (λ j l v. rw v (small-new path (takenPage F) (attributeAt b) splits path-small j (not-top j z q v (omega arith)))))));
       }
     where
       top-page : (j z : ℕ) → j ≡ x .0 → 0 < occ z (level j (x .0) (x .1)) → z ≡ x .1 .0
@@ -321,30 +322,30 @@ module _ (b key : List ℕ) (r : ℕ) (accepts : Accepts b key r) where
           let y : 0 < occ z (x .1 .0 ∷ []) = rw (eq-eqb j (x .0) e) at o in
           either (eqb z (x .1 .0)) (λ u. eqb-true z (x .1 .0) u) (λ u. absurd (omega (arith, ap countIf u)))
 
-      below-top : (j z : ℕ) → j ≤ h → 0 < occ z (level j (x .0) (x .1)) → z ≡ newOffset F (suc h) → ⊥
-      below-top j z l o e = in-level j z l o (λ f. old-new z (in-tree h j z t f) (suc h) e) (λ m u. let q : j ≡ suc h = omega (arith, sym u ∙ e) in omega arith)
+      below-top : (j z : ℕ) → j ≤ h → 0 < occ z (level j (x .0) (x .1)) → z ≡ takenPage F (suc h) → ⊥
+      below-top j z l o e = in-level j z l o (λ f. old-new z (in-tree h j z t f) (suc h) e) (λ m u. let q : j ≡ suc h = taken-injective F j (suc h) (sym u ∙ e) in omega arith)
 
-      not-top : (j z : ℕ) → eqb z (newOffset F (suc h)) ≡ false → z ≡ newOffset F j → j < suc splits → j < splits
+      not-top : (j z : ℕ) → eqb z (takenPage F (suc h)) ≡ false → z ≡ takenPage F j → j < suc splits → j < splits
       not-top j z q v l = either (eqb j splits)
-          (λ u. absurd (eqb-false z (newOffset F (suc h)) q (v ∙ ap (newOffset F) (eqb-true j splits u ∙ er))))
+          (λ u. absurd (eqb-false z (takenPage F (suc h)) q (v ∙ ap (takenPage F) (eqb-true j splits u ∙ er))))
           (λ u. omega (arith, eqb-false j splits u))
 
-  heads : HeadsIn k h b key r ready
-  heads = heads-in k h b key r ready
+  heads : HeadsIn k (namingOf b) h b key r ready
+  heads = heads-in k (namingOf b) h b key r ready
 
   bits : Bits
   bits = go (heads .rising)
     where
-      go : Rising k h b key r ready → Bits
+      go : Rising k (namingOf b) h b key r ready → Bits
       go (stays e0 e1 short at) = bits-stay e0 e1 short at
       go (rises e0 e1 er at) = bits-rise e0 e1 er at
 
   linked-after : AllLinked noPage (linksOf b″) (x .0) (x .1)
   linked-after j l =
       let linked : LinkedIndex (linksOf b) before = subst (LinkedIndex (linksOf b)) (sym before-is) (sound-linked b (accepts .sound)) in
-      let e : AllLinked noPage (linksAfter k h b key r ready) (x .0) (x .1) =
+      let e : AllLinked noPage (linksAfter k (namingOf b) h b key r ready) (x .0) (x .1) =
       rw taken-in at (next-linked kept-by two (insertion key r) before (linksOf b) sound-before linked) in
-      linked-same noPage (linksAfter k h b key r ready) (linksOf b″) noPage (level j (x .0) (x .1))
+      linked-same noPage (linksAfter k (namingOf b) h b key r ready) (linksOf b″) noPage (level j (x .0) (x .1))
       (λ z o. heads .links z (new-page z (in-tree (x .0) j z (x .1) o))) (e j l)
 
   counts-after : (z : ℕ) → 0 < occ z (pages (x .0) (x .1)) → countAt b″ z ≤ capacity k
@@ -354,7 +355,7 @@ module _ (b key : List ℕ) (r : ℕ) (accepts : Accepts b key r) where
 
   -- the header: root offset and file size are the new ones, all else is as it was
   rest : SameRest b b″
-  rest = header-after k h b key r ready
+  rest = header-after k (namingOf b) h b key r ready
 
   key-same : keyLength b″ ≡ k
   key-same = le16-same b″ b 12 (sym (window-window b″ 12 500 0 2 (omega arith)) ∙ ap (λ (w : List ℕ). window w 0 2) (rest .rest)
@@ -364,10 +365,11 @@ module _ (b key : List ℕ) (r : ℕ) (accepts : Accepts b key r) where
   features-same = sym (getD-window b″ 12 500 2 0 (omega arith)) ∙ ap (λ (w : List ℕ). getD w 2 0) (rest .rest) ∙ getD-window b 12 500 2 0 (omega arith)
 
   size-is : fileSize b″ ≡ after .size
-  size-is = size-after k h b key r ready
+  unfolding supplyOf
+  size-is = ap (λ (s : Supply). s .end .0) (supply-after k (namingOf b) h b key r ready)
 
   long : length b″ ≡ length b
-  long = length-after k h b key r ready
+  long = length-after k (namingOf b) h b key r ready
 
   header-good : headerGood b″ ≡ true
   header-good =
@@ -382,7 +384,7 @@ module _ (b key : List ℕ) (r : ℕ) (accepts : Accepts b key r) where
         least = rw size-is (omega arith);
         most = rw size-is (omega arith);
         within = rw (size-is, long) (omega arith);
-        root = rw (size-is, root-after k h b key r ready) root;
+        root = rw (size-is, root-after k (namingOf b) h b key r ready) root;
         key-low = rw key-same (good .key-low);
         key-high = rw key-same (good .key-high);
         free = le32-same b″ b 4 (rest .free) ∙ good .free;
@@ -392,7 +394,7 @@ module _ (b key : List ℕ) (r : ℕ) (accepts : Accepts b key r) where
   -- the new tree, read up to the file's size
   tree-is : indexTree b″ (x .0) ≡ x .1
   tree-is =
-      let read : treeIn k b″ (x .0) ≡ x .1 = tree-after k h b key r ready in
+      let read : treeIn k b″ (x .0) ≡ x .1 = tree-after k (namingOf b) h b key r ready in
       ap (λ (n : ℕ). readTree (entriesAt n (fileSize b″) b″) (x .0) (rootOffset b″)) key-same
       ∙ read-shorter k (fileSize b″) b″ (x .0) (rootOffset b″) (good-header b″ header-good .within)
       (λ z o. rw size-is (once-page after (sound-after .pagesOnce) z (subst (λ (T : Tree (List ℕ) (x .0)). 0 < occ z (pages (x .0) T)) read o)))
@@ -412,13 +414,13 @@ module _ (b key : List ℕ) (r : ℕ) (accepts : Accepts b key r) where
       (subst (SoundIndex kept-by) (sym index-is) sound-after))
       (subst (λ (T : Tree (List ℕ) (x .0)). AllLinked noPage (linksOf b″) (x .0) T) (sym tree-is) linked-after)
       (all-occ (λ p. attributeAt b″ p ≤ 3) ps (λ z o. bits .small z (there z o)))
-      (all-occ (λ p. rootBit (attributeAt b″ p) ≡ eqb p (rootOffset b″)) ps (λ z o. bits .root z (there z o) ∙ ap (eqb z) (sym (root-after k h b key r ready))))
+      (all-occ (λ p. rootBit (attributeAt b″ p) ≡ eqb p (rootOffset b″)) ps (λ z o. bits .root z (there z o) ∙ ap (eqb z) (sym (root-after k (namingOf b) h b key r ready))))
       (λ j l. all-occ (λ p. leafBit (attributeAt b″ p) ≡ eqb j 0) (level j (x .0) (indexTree b″ (x .0)))
       (λ z o. bits .leaf j z l (subst (λ (T : Tree (List ℕ) (x .0)). 0 < occ z (level j (x .0) T)) tree-is o)))
       (all-occ (λ p. countAt b″ p ≤ capacity (keyLength b″)) ps (λ z o. rw key-same (counts-after z (there z o))))
 
 -- what an insertion that is accepted leaves: a sound index, the theory's insertion into the old one; the new pair among the old ones; and a header that
--- differs in its root offset and file size alone
+-- differs in its root offset and supply alone
 pub record Inserts (b key : List ℕ) (r : ℕ) (s : Sound b) : Type 0 where
   pub sound : Sound (insertedBuffer (keyLength b) b key r)
   pub index : indexOf (insertedBuffer (keyLength b) b key r) (sound .height)
@@ -443,7 +445,7 @@ insert-keeps-sound b key r accepts =
       sound = now .0;
       index = same;
       leaves = ap held same
-          ∙ insert-pairs bytesOrder (capacity (keyLength b)) (newOffset (fileSize b)) key r (s .height) (indexTree b (s .height))
+          ∙ insert-pairs bytesOrder (capacity (keyLength b)) (takenPage (fileSize b)) key r (s .height) (indexTree b (s .height))
           (sized-rooted (capacity (keyLength b)) (s .height) (indexTree b (s .height)) (old .sized)) (old .ordered);
       header = rest b key r accepts;
       keyIs = key-same b key r accepts;

@@ -2,6 +2,8 @@
 
 -- Laws: a change of a list of stored entries is the same change of the list with their numbers
 pub mod ItemLists
+-- Laws: new pages by their names
+pub mod Naming
 -- Laws: the entries of all pages after insertion's steps
 pub mod InsertEntries
 -- Laws: the heads of all pages, and the file's header, after insertion's steps

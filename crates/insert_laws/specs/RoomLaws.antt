@@ -3,7 +3,7 @@
 use mathlib.Core.Path.{_≡_, refl, sym, ap, _∙_}
 use mathlib.Core.Bool.{Bool, true, false, cond, _||_, _&&_}
 use mathlib.Core.List.{List, [], _∷_, map}
-use Prim.Native.Nat.{ℕ, zero, suc, _+_, _*_, _<_, min}
+use Prim.Native.Nat.{ℕ, zero, suc, _+_, _<_, min}
 use native.Mathlib.Nat.{add-zero}
 use native.Mathlib.Numerals.{add-one}
 use native.Mathlib.Omega.{arith}
@@ -16,7 +16,8 @@ use Rattle.tree.specs.Pairs.{choose}
 use Rattle.tree.specs.Room.{atChosen, run}
 use Rattle.tree.specs.StoreLookupLaws.{run-read}
 use Rattle.tree.specs.StoreSteps.{storeRun}
-use Rattle.page.specs.Header.{maxBytes, maxLevels, pageSize, rootOffset, fileSize, keyLength}
+use Rattle.tree.specs.Supply.{sizeAfter}
+use Rattle.page.specs.Header.{maxBytes, maxLevels, rootOffset, fileSize, keyLength}
 use Rattle.page.specs.KeyOrder.{bytesOrder}
 use Rattle.page.specs.Page.{capacity}
 use Rattle.page.specs.Reading.{Item, numbered}
@@ -27,6 +28,7 @@ use Rattle.sound.specs.IndexLaws.{indexOf, settingOf}
 use Rattle.insert.specs.declared.Path.{Path}
 use Rattle.insert.specs.Room.{onTop, pathFrom, noRoom}
 use Rattle.layout_laws.specs.EntryLaws.{entriesIn}
+use Rattle.insert_laws.specs.Naming.{left-is, namingOf, supplied}
 use Rattle.insert_laws.specs.ItemLists.{choose-numbered}
 use Rattle.insert_laws.specs.InsertEntries.{Shaped, child-shaped}
 use Rattle.insert_laws.specs.SoundReading.{sound-tree, sound-shaped}
@@ -104,5 +106,7 @@ room-is b key s =
     let same : run bytesOrder (capacity k) key h (indexTree b h) ≡ d =
     ap (run bytesOrder (capacity k) key h) (sym (sound-tree b s)) ∙ run-read bytesOrder (entriesIn k b) (capacity k) key h (rootOffset b) in
     let all = eqb d (suc h) in
-    let size = fileSize b + pageSize * cond all (suc d) d in
-    rw (path, same, less-both (length b) maxBytes size, one-if all d, one-if all (suc h)) (or-assoc (ltb (length b) size) (ltb maxBytes size) _)
+    let needed : ℕ = cond all (suc d) d in
+    let size = sizeAfter (fileSize b) needed in
+    rw (path, same, less-both (length b) maxBytes size, one-if all d, one-if all (suc h), left-is (namingOf b) b (supplied b) needed)
+    (or-assoc (ltb (length b) size) (ltb maxBytes size) _)

@@ -23,7 +23,8 @@ use Rattle.sound.specs.Sound.{indexTree, Sound}
 use Rattle.sound.specs.MarkLaws.{occ-all}
 use Rattle.sound.specs.IndexLaws.{sound-sized}
 use Rattle.layout_laws.specs.EntryLaws.{entriesIn}
-use Rattle.insert_laws.specs.InsertEntries.{Usable, Shaped}
+use Rattle.insert_laws.specs.Naming.{Usable}
+use Rattle.insert_laws.specs.InsertEntries.{Shaped}
 use Rattle.insert_laws.specs.InsertBuffer.{treeIn}
 
 -- a page of a file is a page of every longer file, and has the same entries there

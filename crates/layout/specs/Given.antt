@@ -1,16 +1,15 @@
--- Steps: what the functions ask of the buffer b and of the byte string s that holds n entries with keys of k bytes for the page at p; and the number of the
--- chosen entry. Inner contracts, laws and proofs cite them: a reader need not believe them.
-use Prim.Native.Nat.{ℕ, suc, _+_, _*_, _≤_}
+-- Steps: what the functions ask of the buffer b and of the byte string s that holds n entries with keys of k bytes for the page at p. Inner contracts, laws and
+-- proofs cite them: a reader need not believe them.
+use Prim.Native.Nat.{ℕ, _+_, _*_, _≤_}
 use mathlib.Core.Path.{_≡_}
-use mathlib.Core.Bool.{true, cond}
-use mathlib.Core.List.{List, [], _∷_}
+use mathlib.Core.Bool.{true}
+use mathlib.Core.List.{List}
 use lib.ListN.{length}
-use Rattle.octets.specs.Order.{bytesLe}
-use Rattle.page.specs.Header.{maxKey, isPage}
+use Rattle.page.specs.Header.{maxKey, maxOffset, pageSize, isPage}
 use Rattle.page.specs.Page.{capacity, entryArea}
 use Rattle.page.specs.Within.{Within}
-use Rattle.page.specs.Reading.{Item}
 use Rattle.layout.specs.Layout.{itemsIn}
+use Rattle.layout.specs.declared.Supply.{Supply}
 
 -- the page has room for the n entries
 pub record Given (b : List ℕ) (k p n : ℕ) (s : List ℕ) : Type 0 where
@@ -30,12 +29,10 @@ pub record Listed (b : List ℕ) (k p n : ℕ) : Type 0 where
   pub page : isPage (length b) p ≡ true
   pub count : n ≡ length (itemsIn k b p)
 
+-- n pages more can be taken from a supply, and the file's end then still has 32 bits
+abbrev pub Lasts : ℕ → Supply → Type 0
+Lasts n supply = supply .end .0 + pageSize * n ≤ maxOffset
+
 -- the room in which entries are gathered: the entry area and one entry more
 abbrev pub roomSize : ℕ
 roomSize = entryArea + maxKey + 4
-
--- the number of the entry that `Entries.chosen` gives
-abbrev pub chosenAt : List ℕ → List Item → ℕ
-chosenAt key [] = 0
-chosenAt key (x ∷ []) = 0
-chosenAt key (x ∷ y ∷ ys) = cond (bytesLe key (x .0)) 0 (suc (chosenAt key (y ∷ ys)))

@@ -4,12 +4,16 @@
 pub mod Layout
 -- Rules: a page's entries after a pair goes in or a page below was split
 pub mod Entries
--- Steps: what the functions ask of their arguments, and the number of the chosen entry
+-- Rules: the supply of new pages
+pub mod Supply
+-- Steps: what the functions ask of their arguments
 pub mod Given
 -- Laws: entries as bytes and back
 pub mod ItemLaws
 -- Laws: the stores of the functions are the rule's
 pub mod WriteLaws
+-- Laws: the supply after pages were taken
+pub mod SupplyLaws
 -- Laws: a page's entries by number
 pub mod EntryLaws
 -- Laws: the bytes gathered for a page are those of the rule's entries

@@ -1,18 +1,19 @@
 -- Laws: the head of every page, its attribute, count and links, and the file's header, after each store that the rules of insertion make. Cited by the
 -- laws of insertion. Assumes nothing.
 use mathlib.Core.Path.{_≡_, refl, sym, ap, _∙_}
-use mathlib.Core.Bool.{true, cond, _&&_}
+use mathlib.Core.Bool.{true, cond, not, _&&_}
 use mathlib.Core.List.{List}
 use mathlib.Core.Logic.{_⊎_, inl, inr}
-use Prim.Native.Nat.{ℕ, suc, _+_, _-_, _^_, _≤_, _<_}
+use Prim.Native.Nat.{ℕ, suc, _+_, _^_, _≤_, _<_}
 use native.Mathlib.Omega.{arith}
-use lib.ListN.{length, take, drop, length-take, length-drop}
-use lib.Dec.{leb, eqb}
-use borrow.Author.Tests.{leb-true, eqb-true, eqb-false, ne-eqb}
+use lib.ListN.{length, take, drop, length-append, length-take, length-drop}
+use lib.Dec.{ltb, eqb}
+use borrow.Author.Tests.{ltb-true, eqb-true, eqb-false, ne-eqb}
 use Rattle.basis.specs.Lists.{All}
 use Rattle.basis.specs.Tests.{either, contra, both}
 use Rattle.octets.specs.Bytes.{le16, le32, toLe16, toLe32}
 use Rattle.octets.specs.Store.{put, window}
+use Rattle.octets.specs.Order.{bytesLe}
 use Rattle.octets.specs.StoreLaws.{length-put, window-before, window-after}
 use Rattle.octets.specs.NumberLaws.{length-toLe16, length-toLe32, le16-put, le32-put, le16-same, le32-same}
 use Rattle.tree.specs.Lists.{half}
@@ -23,7 +24,7 @@ use Rattle.page.specs.HeaderLaws.{is-page}
 use Rattle.page.specs.Reading.{Item}
 use Rattle.page.specs.ReadingLaws.{attribute-same, count-same, left-same, right-same}
 use Rattle.layout.specs.Layout.{itemsIn, area, withEntries, newPage, withoutRoot, linkBeyond, splitPage}
-use Rattle.layout.specs.Entries.{aboveAll, raised}
+use Rattle.layout.specs.Entries.{itemOf, raised}
 use Rattle.layout.specs.ItemLaws.{Fit}
 use Rattle.layout_laws.specs.EntryLaws.{page-of, window-other, length-area, new-stores, length-with, length-beyond, items-few, halves-fit}
 
@@ -66,6 +67,10 @@ module _ (b : List ℕ) (x : ℕ) (tx : isPage (length b) x ≡ true) (z : ℕ) 
       (λ u. let same : i ≡ at = omega (arith, eqb-true z x u) in
       rw (u, same) (le32-put b at v h (omega (arith, is-page (length b) x tx .high))))
       (λ u. rw u (le32-same (put b at (toLe32 v)) b i (kept at (toLe32 v) i 4 l (omega arith) (omega arith) (omega arith) (λ q. absurd (eqb-false z x u q)))))
+
+  -- a store into the page at x keeps the right neighbour of another page
+  right-other : (z ≡ x → ⊥) → (at : ℕ) (ys : List ℕ) → x ≤ at → at + length ys ≤ x + pageSize → rightAt (put b at ys) z ≡ rightAt b z
+  right-other ne at ys l m = le32-same (put b at ys) b (z + 8) (kept at ys (z + 8) 4 l m (omega arith) (omega arith) (λ e. absurd (ne e)))
 
   -- a store into the page's entries, its count, its attribute, its left link, its right link
   put-entries : (at : ℕ) (ys : List ℕ) → x + entriesStart ≤ at → at + length ys ≤ x + pageSize → SameHead b (put b at ys) z
@@ -168,25 +173,31 @@ module _ (k : ℕ) where
         let g = is-page (length b) p tp .low in
         put-outside (put b (p + 2) (toLe16 (length es))) (p + entriesStart) (area es) (omega arith) ∙ put-outside b (p + 2) (toLe16 (length es)) (omega arith)
 
-  -- a page whose last key is raised
-  module _ (b key : List ℕ) (p : ℕ) (tp : isPage (length b) p ≡ true) (lk : length key ≡ k) where
-    raised-as : (P : List ℕ → Type 0) → P b → ((at : ℕ) → p + entriesStart ≤ at → at + length key ≤ p + pageSize → P (put b at key)) → P (raised k b key p)
+  -- a page whose entry i has its key raised
+  module _ (b key : List ℕ) (p i : ℕ) (tp : isPage (length b) p ≡ true) (lk : length key ≡ k) where
+    raised-as : (P : List ℕ → Type 0) → P b → ((at : ℕ) → p + entriesStart ≤ at → at + length key ≤ p + pageSize → P (put b at key)) → P (raised k b key p i)
     unfolding raised
     raised-as P same stored =
         let es = itemsIn k b p in
-        let i = length es - 1 in
-        either (leb 1 (length es) && aboveAll key es)
-        (λ e. let some : 1 ≤ length es = leb-true 1 (length es) (both (leb 1 (length es)) (aboveAll key es) e .0) in
-        let last : i < capacity k = omega (arith, items-few k b p) in
-        rw e (stored (entryOffset k p i) (entry-low k p i) (omega (arith, entry-inside k p i last))))
+        let lower = not (bytesLe key (itemOf i es .0)) in
+        either (ltb i (length es) && lower)
+        (λ e. let inside : i < length es = ltb-true i (length es) (both (ltb i (length es)) lower e .0) in
+        rw e (stored (entryOffset k p i) (entry-low k p i) (omega (arith, entry-inside k p i (omega (arith, items-few k b p))))))
         (λ e. rw e same)
 
-    pub raised-head : (z : ℕ) → isPage (length b) z ≡ true → SameHead b (raised k b key p) z
+    pub raised-head : (z : ℕ) → isPage (length b) z ≡ true → SameHead b (raised k b key p i) z
     raised-head z tz = raised-as (λ c. SameHead b c z) (record { attributeIs = refl; countIs = refl; leftIs = refl; rightIs = refl })
         (λ at l m. put-entries b p tp z tz at key l m)
 
-    pub raised-header : SameHeader b (raised k b key p)
+    pub raised-header : SameHeader b (raised k b key p i)
     raised-header = let g = is-page (length b) p tp .low in raised-as (λ c. SameHeader b c) refl (λ at l m. put-outside b at key (omega arith))
+
+  -- a page that is written whole keeps the right neighbours of all others
+  right-new : (b : List ℕ) (q a l r : ℕ) (es : List Item) → isPage (length b) q ≡ true → All (Fit k) es → length es ≤ capacity k
+      → (z : ℕ) → isPage (length b) z ≡ true → (z ≡ q → ⊥) → rightAt (newPage b q a l r es) z ≡ rightAt b z
+  unfolding newPage
+  right-new b q a l r es tq f few z tz ne = right-other b q tq z tz ne q _ (omega arith)
+      (simp (length-append, length-toLe16, length-toLe32) (omega (arith, length-area k es f few)))
 
   -- a page that is written whole
   module _ (b : List ℕ) (q a l r : ℕ) (es : List Item) (tq : isPage (length b) q ≡ true) (ha : a < 2 ^ 16) (hl : l < 2 ^ 32) (hr : r < 2 ^ 32)
@@ -237,8 +248,7 @@ module _ (k : ℕ) where
 
   -- the page at p is split, with the new page at q: neither has the root bit, and q stands between p and the page beyond
   module _ (b : List ℕ) (p : ℕ) (es : List Item) (q : ℕ) (tp : isPage (length b) p ≡ true) (tq : isPage (length b) q ≡ true) (ne : p ≡ q → ⊥)
-      (f : All (Fit k) es) (two : 1 < capacity k) (few : length es ≤ suc (capacity k)) (p32 : p < 2 ^ 32) (q32 : q < 2 ^ 32)
-      (a16 : attributeAt b p < 2 ^ 16) (r32 : rightAt b p < 2 ^ 32) where
+      (f : All (Fit k) es) (two : 1 < capacity k) (few : length es ≤ suc (capacity k)) where
     abbrev m : ℕ
     m = half (length es)
 
@@ -272,35 +282,49 @@ module _ (k : ℕ) where
     upper-few : length (drop m es) ≤ capacity k
     upper-few = simp length-drop (omega arith)
 
-    pub split-head : (z : ℕ) → isPage (length b) z ≡ true → Head (splitPage b p es q) z
-        (cond (eqb z q) (withoutRoot (attributeAt b p)) (cond (eqb z p) (withoutRoot (attributeAt b p)) (attributeAt b z)))
-        (cond (eqb z q) (length (drop (half (length es)) es)) (cond (eqb z p) (length (take (half (length es)) es)) (countAt b z)))
-        (cond (eqb z q) p (cond (eqb z (rightAt b p)) q (leftAt b z)))
-        (cond (eqb z p) q (cond (eqb z q) (rightAt b p) (rightAt b z)))
+    -- all other pages keep their right neighbour
+    pub split-rights : q < 2 ^ 32 → (z : ℕ) → isPage (length b) z ≡ true → (z ≡ p → ⊥) → (z ≡ q → ⊥) → rightAt (splitPage b p es q) z ≡ rightAt b z
     unfolding splitPage
-    split-head z tz =
+    split-rights q32 z tz np nq =
         let a = withoutRoot (attributeAt b p) in
         let r = rightAt b p in
-        let gp = is-page (length b) p tp in
-        let e0 = with-head b p (take m es) tp (halves-fit k es m f .0) lower-few z tz in
-        let e1 = put-attribute s0 p (page-of p n0 tp) z (page-of z n0 tz) a (omega arith) in
-        let e2 = put-right s1 p (page-of p n1 tp) z (page-of z n1 tz) q q32 in
-        let e3 = beyond-head s2 r q q32 z (page-of z n2 tz) in
-        let e4 = new-head s3 q a p r (drop m es) (page-of q n3 tq) (omega arith) p32 r32 (halves-fit k es m f .1) upper-few z (page-of z n3 tz) in
-        record {
-          attributeIs = e4 .attributeIs ∙ ap (cond (eqb z q) a) (e3 .attributeIs ∙ e2 .attributeIs ∙ e1 .attributeIs ∙ ap (cond (eqb z p) a) (e0 .attributeIs));
-          countIs = e4 .countIs ∙ ap (cond (eqb z q) (length (drop m es))) (e3 .countIs ∙ e2 .countIs ∙ e1 .countIs ∙ e0 .countIs);
-          leftIs = e4 .leftIs ∙ ap (cond (eqb z q) p) (e3 .leftIs ∙ ap (cond (eqb z r) q) (e2 .leftIs ∙ e1 .leftIs ∙ e0 .leftIs));
-          rightIs = e4 .rightIs ∙ ap (cond (eqb z q) r) (e3 .rightIs ∙ e2 .rightIs ∙ ap (cond (eqb z p) q) (e1 .rightIs ∙ e0 .rightIs))
-              ∙ either (eqb z p) (λ u. rw (u, ne-eqb z q (λ v. ne (sym (eqb-true z p u) ∙ v)))) (λ u. rw u);
-        }
+        let e0 = with-head b p (take m es) tp (halves-fit k es m f .0) lower-few z tz .rightIs in
+        let e1 = right-other s0 p (page-of p n0 tp) z (page-of z n0 tz) np p (toLe16 a) (omega arith) (omega (arith, length-toLe16 a)) in
+        let e2 = right-other s1 p (page-of p n1 tp) z (page-of z n1 tz) np (p + 8) (toLe32 q) (omega arith) (omega (arith, length-toLe32 q)) in
+        let e3 = beyond-head s2 r q q32 z (page-of z n2 tz) .rightIs in
+        let e4 = right-new s3 q a p r (drop m es) (page-of q n3 tq) (halves-fit k es m f .1) upper-few z (page-of z n3 tz) nq in
+        e4 ∙ e3 ∙ e2 ∙ e1 ∙ e0
 
-    pub split-header : SameHeader b (splitPage b p es q)
-    unfolding splitPage
-    split-header =
-        let g = is-page (length b) p tp .low in
-        new-header s3 q (withoutRoot (attributeAt b p)) p (rightAt b p) (drop m es) (page-of q n3 tq) (omega arith) p32 r32 (halves-fit k es m f .1) upper-few
-        ∙ beyond-header s2 (rightAt b p) q q32
-        ∙ put-outside s1 (p + 8) (toLe32 q) (omega arith)
-        ∙ put-outside s0 p (toLe16 (withoutRoot (attributeAt b p))) g
-        ∙ with-header b p (take m es) tp (halves-fit k es m f .0) lower-few
+    module _ (p32 : p < 2 ^ 32) (q32 : q < 2 ^ 32) (a16 : attributeAt b p < 2 ^ 16) (r32 : rightAt b p < 2 ^ 32) where
+      pub split-head : (z : ℕ) → isPage (length b) z ≡ true → Head (splitPage b p es q) z
+          (cond (eqb z q) (withoutRoot (attributeAt b p)) (cond (eqb z p) (withoutRoot (attributeAt b p)) (attributeAt b z)))
+          (cond (eqb z q) (length (drop (half (length es)) es)) (cond (eqb z p) (length (take (half (length es)) es)) (countAt b z)))
+          (cond (eqb z q) p (cond (eqb z (rightAt b p)) q (leftAt b z)))
+          (cond (eqb z p) q (cond (eqb z q) (rightAt b p) (rightAt b z)))
+      unfolding splitPage
+      split-head z tz =
+          let a = withoutRoot (attributeAt b p) in
+          let r = rightAt b p in
+          let gp = is-page (length b) p tp in
+          let e0 = with-head b p (take m es) tp (halves-fit k es m f .0) lower-few z tz in
+          let e1 = put-attribute s0 p (page-of p n0 tp) z (page-of z n0 tz) a (omega arith) in
+          let e2 = put-right s1 p (page-of p n1 tp) z (page-of z n1 tz) q q32 in
+          let e3 = beyond-head s2 r q q32 z (page-of z n2 tz) in
+          let e4 = new-head s3 q a p r (drop m es) (page-of q n3 tq) (omega arith) p32 r32 (halves-fit k es m f .1) upper-few z (page-of z n3 tz) in
+          record {
+            attributeIs = e4 .attributeIs ∙ ap (cond (eqb z q) a) (e3 .attributeIs ∙ e2 .attributeIs ∙ e1 .attributeIs ∙ ap (cond (eqb z p) a) (e0 .attributeIs));
+            countIs = e4 .countIs ∙ ap (cond (eqb z q) (length (drop m es))) (e3 .countIs ∙ e2 .countIs ∙ e1 .countIs ∙ e0 .countIs);
+            leftIs = e4 .leftIs ∙ ap (cond (eqb z q) p) (e3 .leftIs ∙ ap (cond (eqb z r) q) (e2 .leftIs ∙ e1 .leftIs ∙ e0 .leftIs));
+            rightIs = e4 .rightIs ∙ ap (cond (eqb z q) r) (e3 .rightIs ∙ e2 .rightIs ∙ ap (cond (eqb z p) q) (e1 .rightIs ∙ e0 .rightIs))
+                ∙ either (eqb z p) (λ u. rw (u, ne-eqb z q (λ v. ne (sym (eqb-true z p u) ∙ v)))) (λ u. rw u);
+          }
+
+      pub split-header : SameHeader b (splitPage b p es q)
+      unfolding splitPage
+      split-header =
+          let g = is-page (length b) p tp .low in
+          new-header s3 q (withoutRoot (attributeAt b p)) p (rightAt b p) (drop m es) (page-of q n3 tq) (omega arith) p32 r32 (halves-fit k es m f .1) upper-few
+          ∙ beyond-header s2 (rightAt b p) q q32
+          ∙ put-outside s1 (p + 8) (toLe32 q) (omega arith)
+          ∙ put-outside s0 p (toLe16 (withoutRoot (attributeAt b p))) g
+          ∙ with-header b p (take m es) tp (halves-fit k es m f .0) lower-few

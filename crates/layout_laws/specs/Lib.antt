@@ -4,3 +4,5 @@
 pub mod EntryLaws
 -- Laws: the head of every page, and the file's header, after each store
 pub mod HeadLaws
+-- Laws: a supply that is stored in the header
+pub mod SupplyLaws

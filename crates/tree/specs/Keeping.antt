@@ -1,10 +1,10 @@
 -- Steps: what an index keeps its leaf pairs by: the orders of keys and of pairs, and the route of a new pair. Every definition and law of insertion takes it as
 -- a parameter.
-use mathlib.Core.Bool.{Bool, not}
+use mathlib.Core.Bool.{Bool}
 use Prim.Native.Nat.{ℕ}
 use Rattle.tree.specs.Order.{Order}
 use Rattle.tree.specs.Pairs.{byKey}
-use Rattle.tree.specs.Position.{Passes}
+use Rattle.tree.specs.Position.{Passes, passesLower}
 use Rattle.tree.specs.Tree.{Entry}
 
 -- a test on entries for each level: the route of an insertion down a tree
@@ -19,6 +19,6 @@ pub record Keeping (K : Type 0) : Type 0 where
   -- the route of a new pair
   pub route : K × ℕ → Route K
 
--- features 1, one record to a key: pairs go by their keys alone, and a new pair passes the entries that its key is above, whatever the next entry is
+-- features 1, one record to a key: pairs go by their keys alone, and a new pair passes the entries with lower keys
 abbrev pub distinctKeys : {K : Type 0} → Order K → Keeping K
-distinctKeys O = record { order = O; pairLe = byKey O; route = λ e h x y. not (O .le (e .0) (x .0)) }
+distinctKeys O = record { order = O; pairLe = byKey O; route = λ e h. passesLower O e }

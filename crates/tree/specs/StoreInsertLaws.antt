@@ -20,7 +20,7 @@ use Rattle.tree.specs.InsertPages.{insertEntries-pages}
 use Rattle.tree.specs.Store.{Store, readChild, readEntry, readTree}
 use Rattle.tree.specs.StoreSteps.{write, StoreReplacement, storeSplitIfOver, storeFirst, storePlace, storeInsertAmong}
 use Rattle.tree.specs.StoreSteps.{storeInsertUnder, storeInsertAtRoot, storeReroot, storeInsert, readGrown}
-use Rattle.tree.specs.StoreLaws.{AgreeOn, frame, frame-entries, write-here, write-other, map-read-zero, lastKey-read}
+use Rattle.tree.specs.StoreLaws.{AgreeOn, frame-entries, write-here, write-other, map-read-zero, lastKey-read}
 
 -- the pages under entries of a store
 abbrev pub pagesOf : {K : Type 0} → Store K → (h : ℕ) → List (K × ℕ) → List ℕ

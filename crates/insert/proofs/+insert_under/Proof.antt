@@ -95,7 +95,9 @@ insert-under-enum-told-2 t c = search needs
 insert-under-insert-in-leaf-requires : (t : ℕ) → insert-under-lts.Need-insert-in-leaf-requires (claims t) (insert-under-at t) insert-under.Post
 insert-under-insert-in-leaf-requires t c κs =
     let met = c .before in
-    (start t (leaf-visit t met) .pre .1 .0, leaf t met)
+    let visited = leaf-visit t met in
+    let pre = start t visited .pre in
+    (pre .1 .0, leaf t met, omega (arith, pre .1 .1, levels-left t visited))
 
 insert-under-enum-known-visit : (t : ℕ) → insert-under-lts.Need-enum-known-visit (claims t) (insert-under-at t) insert-under.Post
 insert-under-enum-known-visit t c = search needs
@@ -107,7 +109,7 @@ insert-under-insert-under-requires : (t : ℕ) → insert-under-lts.Need-insert-
 insert-under-insert-under-requires t c κs =
     let visited = child-visit t (c .before .before) in
     let pre = start t visited .pre in
-    (omega (arith, pre .0, levels-left t visited), (pre .1 .0, omega (arith, pre .1 .1)))
+    (omega (arith, pre .0, levels-left t visited), (pre .1 .0, omega (arith, pre .1 .1, levels-left t visited)))
 
 insert-under-after-child-requires : (t : ℕ) → insert-under-lts.Need-after-child-requires (claims t) (insert-under-at t) insert-under.Post
 insert-under-after-child-requires t c κs =
@@ -117,7 +119,7 @@ insert-under-after-child-requires t c κs =
     let pre = start t (child-visit t met) .pre in (
       pre .1 .0,
       rw (below .kept .0) (child t met),
-      next-fits _ _ _ _ _ _ _ _ (below .result) (below .ensures) (omega (arith, pre .1 .1)),
+      next-fits _ _ _ _ _ _ _ (below .result) (below .ensures) (omega (arith, pre .1 .1, levels-left t (child-visit t met))),
     )
 
 insert-under-same-length : (t : ℕ) → insert-under-lts.Need-same-length (claims t) (insert-under-at t) insert-under.Post

@@ -6,8 +6,8 @@ use Rattle.insert.proofs.at_root.Tie as tie
 enum-known-below : tie.Need-enum-known-below
 enum-known-below c = search needs
 
-set-file-end-requires : tie.Need-set-file-end-requires
-set-file-end-requires c κs = search needs
+set-supply-requires : tie.Need-set-supply-requires
+set-supply-requires c κs = search needs
 
 enum-known-below-2 : tie.Need-enum-known-below-2
 enum-known-below-2 c = search needs
@@ -28,7 +28,7 @@ returns : tie.Need-returns
 returns c =
     let stored = c .before .before in
     let kept = stored .before .before .before in
-    rw (kept .below .given .1) (stored .set-file-end .ensures)
+    rw (kept .below .given .1) (stored .set-supply .ensures)
 
 same-length-2 : tie.Need-same-length-2
 same-length-2 c = search needs
@@ -47,7 +47,7 @@ at-root-spec =
     tie.close
     (tie.spec
     enum-known-below
-    set-file-end-requires
+    set-supply-requires
     enum-known-below-2
     new-root-requires
     enum-told

@@ -61,7 +61,8 @@ slice-aggregate-take-in c =
 take-in-requires : tie.Need-take-in-requires
 take-in-requires c κs =
     let gathered = c .before .before .before in
-    one-more _ (counted (before-gathering gathered)) (omega (arith, gathered .gather-pair .kept .0))
+    let count = before-gathering gathered in
+    (one-more _ (counted count) (omega (arith, gathered .gather-pair .kept .0)), start count .pre .2)
 
 same-length : tie.Need-same-length
 same-length c = search needs

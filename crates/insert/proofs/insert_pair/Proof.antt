@@ -4,17 +4,18 @@ use native.Mathlib.Omega.{arith}
 use lib.ListN.{length}
 use Rattle.page.specs.Header.{maxKey}
 use Rattle.page.specs.HeaderLaws.{GoodHeader, good-header}
+use Rattle.layout.specs.SupplyLaws.{header-lasts}
 use Rattle.insert.specs.StepLaws.{next-fits, pair-inserted}
 use borrow.Author.Needs.{needs}
 use Rattle.insert.proofs.insert_pair.Statement.{statement}
 use Rattle.insert.proofs.insert_pair.Tie as tie
 
--- the places: the call's start, from where the file's end is known; that place, from where the pair is inserted under the root
-abbrev start : tie.After-file-end → tie.Start
+-- the places: the call's start, from where the supply is known; that place, from where the pair is inserted under the root
+abbrev start : tie.After-supply-of → tie.Start
 start c = c .before .before .before .before .before .before
 
-abbrev at-end : tie.After-insert-under → tie.After-file-end
-at-end c = c .before .before
+abbrev at-supply : tie.After-insert-under → tie.After-supply-of
+at-supply c = c .before .before
 
 -- the header is good, and the key is no longer than the longest key
 header : (s : tie.Start) → GoodHeader (s .args .index .now)
@@ -26,8 +27,8 @@ short s = let h = header s in omega (arith, s .pre .1)
 root-requires : tie.Need-root-requires
 root-requires c κs = header (c .before .before .before) .long
 
-file-end-requires : tie.Need-file-end-requires
-file-end-requires c κs =
+supply-of-requires : tie.Need-supply-of-requires
+supply-of-requires c κs =
     let at-start = c .before .before .before .before .before in
     header at-start .long
 
@@ -35,17 +36,17 @@ insert-under-requires : tie.Need-insert-under-requires
 insert-under-requires c κs =
     let at-start = start (c .before) in
     let h = header at-start in
-    (short at-start, omega (arith, c .before .file-end .ensures))
+    (short at-start, rw (c .before .supply-of .ensures) (omega (arith, header-lasts _ h)))
 
 at-root-requires : tie.Need-at-root-requires
 at-root-requires c κs =
     let below = c .before .before .before in
-    let end = at-end below in
-    let at-start = start end in
+    let supply = at-supply below in
+    let at-start = start supply in
     let h = header at-start in (
       short at-start,
       omega (arith, below .insert-under .kept .0),
-      next-fits _ _ _ _ _ _ _ _ (below .insert-under .result) (below .insert-under .ensures) (omega (arith, end .file-end .ensures)),
+      next-fits _ _ _ _ _ _ _ (below .insert-under .result) (below .insert-under .ensures) (rw (supply .supply-of .ensures) (header-lasts _ h)),
     )
 
 same-length : tie.Need-same-length
@@ -55,9 +56,9 @@ returns : tie.Need-returns
 returns c =
     let finished = c .before .before in
     let below = finished .before .before .before .before in
-    let end = at-end below in
-    let at-start = start end in
-    pair-inserted _ (at-start .args .key .now) _ (at-start .pre .1) (end .before .before .root .ensures) (end .file-end .ensures)
+    let supply = at-supply below in
+    let at-start = start supply in
+    pair-inserted _ (at-start .args .key .now) _ (at-start .pre .1) (supply .before .before .root .ensures) (supply .supply-of .ensures)
     (below .insert-under .ensures) (finished .at-root .ensures)
 
 pub insert-pair-spec : {M : Type 1} → statement M
@@ -65,7 +66,7 @@ insert-pair-spec =
     tie.close
     (tie.spec
     root-requires
-    file-end-requires
+    supply-of-requires
     insert-under-requires
     at-root-requires
     same-length

@@ -1,4 +1,4 @@
--- `insert::new_root` meets its contract: the root's page, then the header's two numbers; what is gathered reads as the rule's entries. Assumes nothing.
+-- `insert::new_root` meets its contract: the root's page, then the header's root offset and supply; what is gathered reads as the rule's entries. Assumes nothing.
 use mathlib.Core.Path.{_≡_}
 use mathlib.Core.Bool.{true}
 use native.Mathlib.Omega.{arith}
@@ -13,10 +13,13 @@ use borrow.Author.Needs.{needs}
 use Rattle.insert.proofs.new_root.Statement.{statement}
 use Rattle.insert.proofs.new_root.Tie as tie
 
--- the places: the call's start, from behind the test; behind the test, from where the entries are gathered; and the place after each step, from the place
--- after the next
+-- the places: where the page is taken, from behind the test, and the call's start, from there; behind the test, from where the entries are gathered; and the
+-- place after each step, from the place after the next
+abbrev taking : tie.Else1 → tie.After-take-page
+taking c = c .before .before .before
+
 abbrev start : tie.Else1 → tie.Start
-start c = c .before .before .before .before .before
+start c = taking c .before .before .before .before
 
 abbrev at-test : tie.After-gather-root → tie.Else1
 at-test c = c .before .before .before
@@ -28,23 +31,26 @@ abbrev at-page : tie.After-set-root → tie.After-new-page
 at-page c = c .before .before .before .before
 
 -- the new root is a page of the buffer
-tested : (c : tie.Else1) → isPage (length (start c .args .index .now)) (c .before .before .next-page .result .0) ≡ true
+tested : (c : tie.Else1) → isPage (length (start c .args .index .now)) (taking c .take-page .result .page .0) ≡ true
 tested c = passed (c .before .is-page .ensures) (c .if1 .left)
 
-page : (c : tie.Else1) → IsPage (length (start c .args .index .now)) (c .before .before .next-page .result .0)
+page : (c : tie.Else1) → IsPage (length (start c .args .index .now)) (taking c .take-page .result .page .0)
 page c = is-page _ _ (tested c)
 
-next-page-requires : tie.Need-next-page-requires
-next-page-requires c κs = search needs
+take-page-requires : tie.Need-take-page-requires
+take-page-requires c κs = c .before .before .before .pre .1
 
 is-page-requires : tie.Need-is-page-requires
 is-page-requires c κs = search needs
 
+same-length : tie.Need-same-length
+same-length c = search needs
+
 returns : tie.Need-returns
 returns c =
-    let at-start = c .before .before .before .before .before in
-    let args = at-start .args in
-    root-none (args .index .now) (args .key .now) (args .old .0) (args .new .0) (c .before .before .next-page .ensures)
+    let at-taking = c .before .before .before in
+    let args = at-taking .before .before .before .before .args in
+    root-none (args .index .now) (args .key .now) (args .old .0) (args .new .0) (args .supply) (at-taking .take-page .ensures)
     (failed (c .before .is-page .ensures) (c .if1 .taken))
 
 slice-aggregate-gather-root : tie.Need-slice-aggregate-gather-root
@@ -84,42 +90,36 @@ set-root-requires c κs =
     let g = page (at-test (at-gathering written)) in
     omega (arith, written .new-page .kept .0)
 
-next-page-requires-2 : tie.Need-next-page-requires-2
-next-page-requires-2 c κs =
+set-supply-requires : tie.Need-set-supply-requires
+set-supply-requires c κs =
     let stored = c .before .before .before in
-    let test = at-test (at-gathering (at-page stored)) in
-    omega (arith, test .before .before .next-page .ensures, start test .pre .1)
-
-set-file-end-requires : tie.Need-set-file-end-requires
-set-file-end-requires c κs =
-    let stored = c .before .before .before .before in
     let written = at-page stored in
     let g = page (at-test (at-gathering written)) in
     omega (arith, stored .set-root .kept .0, written .new-page .kept .0)
 
-same-length : tie.Need-same-length
-same-length c = search needs
+same-length-2 : tie.Need-same-length-2
+same-length-2 c = search needs
 
 returns-2 : tie.Need-returns-2
 returns-2 c =
     let finished = c .before .before in
-    let end = finished .before in
-    let stored = end .before .before .before .before in
+    let stored = finished .before .before .before .before in
     let written = at-page stored in
     let gathered = at-gathering written in
     let test = at-test gathered in
     let at-start = start test in
     let args = at-start .args in
-    root-new (args .index .now) (args .key .now) (args .old .0) (args .new .0) (test .before .before .next-page .ensures) (tested test)
+    root-new (args .index .now) (args .key .now) (args .old .0) (args .new .0) (args .supply) (taking test .take-page .ensures) (tested test)
     (root-read (args .index .now) (args .key .now) (args .old .0) (args .new .0) _ (at-start .pre .0) (omega arith) (gathered .gather-root .ensures))
-    (written .new-page .ensures) (stored .set-root .ensures) (end .next-page2 .ensures) (finished .set-file-end .ensures)
+    (written .new-page .ensures) (stored .set-root .ensures) (finished .set-supply .ensures)
 
 pub new-root-spec : {M : Type 1} → statement M
 new-root-spec =
     tie.close
     (tie.spec
-    next-page-requires
+    take-page-requires
     is-page-requires
+    same-length
     returns
     slice-aggregate-gather-root
     gather-root-requires
@@ -129,7 +129,6 @@ new-root-spec =
     slice-aggregate-new-page
     new-page-requires
     set-root-requires
-    next-page-requires-2
-    set-file-end-requires
-    same-length
+    set-supply-requires
+    same-length-2
     returns-2)

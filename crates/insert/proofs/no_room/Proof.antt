@@ -1,18 +1,19 @@
 -- `insert::no_room` meets its contract: the rule's three tests on the path's numbers. Assumes nothing.
-use Prim.Native.Nat.{_≤_}
+use Prim.Native.Nat.{_+_, _≤_}
 use native.Mathlib.Omega.{arith}
 use Rattle.page.specs.Header.{maxLevels}
 use Rattle.page.specs.HeaderLaws.{GoodHeader, good-header}
+use Rattle.layout.specs.SupplyLaws.{header-lasts}
 use Rattle.insert.specs.RoomLaws.{path-levels, path-run, root-once, room-told}
 use borrow.Author.Needs.{needs}
 use Rattle.insert.proofs.no_room.Statement.{statement}
 use Rattle.insert.proofs.no_room.Tie as tie
 
--- the places: the call's start, from where the root is known; that place, from where the file's size is known
+-- the places: the call's start, from where the root is known; where the path is known, from where the supply is known
 abbrev start : tie.After-root → tie.Start
 start c = c .before .before .before
 
-abbrev at-path : tie.After-file-size → tie.After-path-from
+abbrev at-path : tie.After-supply-of → tie.After-path-from
 at-path c = c .before .before
 
 -- the header is good
@@ -36,46 +37,42 @@ path-from-requires c κs = let h = header (start c) in (omega (arith, start c .p
 root-split-requires : tie.Need-root-split-requires
 root-split-requires c κs = search needs
 
-file-size-requires : tie.Need-file-size-requires
-file-size-requires c κs = header (start (c .before .before)) .long
+supply-of-requires : tie.Need-supply-of-requires
+supply-of-requires c κs = header (start (c .before .before)) .long
 
-add-size : tie.Need-add-size
-add-size c =
-    let path = at-path (c .before) in
-    let n = short path in
-    let l = few path in
-    omega (arith, root-once (path .path-from .result), c .before .before .root-split .ensures)
+-- no more pages are needed than one for each level and one for a new root
+needed : (c : tie.After-supply-of) → let path = at-path c .path-from .result in path .run + c .before .root-split .result ≤ maxLevels + 1
+needed c =
+    let path = at-path c in
+    omega (arith, few path, short path, root-once (path .path-from .result), c .before .root-split .ensures)
+
+add-supply-after : tie.Need-add-supply-after
+add-supply-after c = omega (arith, needed (c .before))
+
+supply-after-requires : tie.Need-supply-after-requires
+supply-after-requires c κs =
+    let supply = c .before in
+    let lasts = header-lasts _ (header (start (at-path supply .before))) in
+    rw (supply .supply-of .ensures) (omega (arith, needed supply, lasts))
 
 cast-size : tie.Need-cast-size
 cast-size c = search needs
 
-mul-size : tie.Need-mul-size
-mul-size c = search needs
-
-add-size-2 : tie.Need-add-size-2
-add-size-2 c =
-    let file = c .before in
-    let path = at-path file in
-    let h = header (start (path .before)) in
-    let n = short path in
-    let l = few path in
-    omega (arith, root-once (path .path-from .result), file .before .root-split .ensures, file .file-size .ensures)
-
 add-result : tie.Need-add-result
 add-result c =
-    let file = c .before .before in
-    let path = at-path file in
-    let l = few path in
-    omega (arith, root-once (path .path-from .result), file .before .root-split .ensures)
+    let supply = c .before .before .before .before in
+    let path = at-path supply in
+    omega (arith, few path, root-once (path .path-from .result), supply .before .root-split .ensures)
 
 returns : tie.Need-returns
 returns c =
-    let file = c .before .before in
-    let path = at-path file in
+    let after = c .before .before in
+    let supply = after .before .before in
+    let path = at-path supply in
     let root = path .before in
     let at-start = start root in
     room-told (at-start .args .index .now) (at-start .args .key .now) (at-start .pre .1) (root .root .ensures) (path .path-from .ensures)
-    (file .before .root-split .ensures) (file .file-size .ensures)
+    (supply .before .root-split .ensures) (supply .supply-of .ensures) (after .supply-after .ensures)
 
 pub no-room-spec : {M : Type 1} → statement M
 no-room-spec =
@@ -84,10 +81,9 @@ no-room-spec =
     root-requires
     path-from-requires
     root-split-requires
-    file-size-requires
-    add-size
+    supply-of-requires
+    add-supply-after
+    supply-after-requires
     cast-size
-    mul-size
-    add-size-2
     add-result
     returns)

@@ -16,6 +16,13 @@ use Rattle.insert.proofs.take_in.Tie as tie
 abbrev start : tie.After-capacity → tie.Start
 start c = c .before .before .before
 
+-- the place where a page is taken, from where it is tested; and where the entries are too many, from there
+abbrev taking : tie.After-is-page → tie.After-take-page
+taking c = c .before .before
+
+abbrev over : tie.After-take-page → tie.Else1
+over c = c .before .before
+
 -- the entries fit the page, and they do not
 fit : (c : tie.Then1) → let args = start (c .before) .args in length (items (args .k) (args .count) (args .entries .now)) ≤ capacity (args .k)
 fit c =
@@ -33,7 +40,7 @@ capacity-requires c κs = search needs
 with-entries-requires : tie.Need-with-entries-requires
 with-entries-requires c κs =
     let tested = c .before in
-    whole-given (start (tested .before) .pre) (omega (arith, tested .if1 .taken, tested .before .capacity .ensures))
+    whole-given (start (tested .before) .pre .0) (omega (arith, tested .if1 .taken, tested .before .capacity .ensures))
 
 same-length : tie.Need-same-length
 same-length c = search needs
@@ -43,34 +50,43 @@ returns c =
     let written = c .before .before in
     let tested = written .before .before in
     let args = start (tested .before) .args in
-    takes-kept (args .k) (args .index .now) (args .page .0) _ (args .end .0) (fit tested) (written .with-entries .ensures)
+    takes-kept (args .k) (args .index .now) (args .page .0) _ (args .supply) (fit tested) (written .with-entries .ensures)
+
+take-page-requires : tie.Need-take-page-requires
+take-page-requires c κs = start (c .before .before) .pre .1
 
 is-page-requires : tie.Need-is-page-requires
 is-page-requires c κs = search needs
 
+same-length-2 : tie.Need-same-length-2
+same-length-2 c = search needs
+
 returns-2 : tie.Need-returns-2
 returns-2 c =
-    let tested = c .before .before in
+    let at-taking = taking (c .before) in
+    let tested = over at-taking in
     let args = start (tested .before) .args in
-    takes-none (args .k) (args .index .now) (args .page .0) _ (args .end .0) (too-many tested) (failed (c .before .is-page .ensures) (c .if2 .taken))
+    takes-none (args .k) (args .index .now) (args .page .0) _ (args .supply) (at-taking .take-page .ensures) (too-many tested)
+    (failed (c .before .is-page .ensures) (c .if2 .taken))
 
 split-page-requires : tie.Need-split-page-requires
 split-page-requires c κs =
     let page = c .before in
-    let tested = page .before .before in
-    (start (tested .before) .pre, passed (page .before .is-page .ensures) (page .if2 .left))
+    let tested = over (taking (page .before)) in
+    (start (tested .before) .pre .0, passed (page .before .is-page .ensures) (page .if2 .left))
 
-same-length-2 : tie.Need-same-length-2
-same-length-2 c = search needs
+same-length-3 : tie.Need-same-length-3
+same-length-3 c = search needs
 
 returns-3 : tie.Need-returns-3
 returns-3 c =
-    let halved = c .before .before in
+    let halved = c .before .before .before in
     let page = halved .before .before in
-    let tested = page .before .before in
+    let at-taking = taking (page .before) in
+    let tested = over at-taking in
     let args = start (tested .before) .args in
-    takes-split (args .k) (args .index .now) (args .page .0) _ (args .end .0) (too-many tested) (passed (page .before .is-page .ensures) (page .if2 .left))
-    (halved .split-page .ensures)
+    takes-split (args .k) (args .index .now) (args .page .0) _ (args .supply) (at-taking .take-page .ensures) (too-many tested)
+    (passed (page .before .is-page .ensures) (page .if2 .left)) (halved .split-page .ensures)
 
 pub take-in-spec : {M : Type 1} → statement M
 take-in-spec =
@@ -80,8 +96,10 @@ take-in-spec =
     with-entries-requires
     same-length
     returns
+    take-page-requires
     is-page-requires
+    same-length-2
     returns-2
     split-page-requires
-    same-length-2
+    same-length-3
     returns-3)

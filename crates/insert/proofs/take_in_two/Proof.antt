@@ -12,7 +12,7 @@ use Rattle.insert.proofs.take_in_two.Tie as tie
 
 -- the places: the call's start, from where the entries are counted; where there are some, from where they are gathered
 abbrev start : tie.After-entry-count → tie.Start
-start c = c .before .before .before .before .before
+start c = c .before .before .before .before
 
 abbrev before-gathering : tie.After-gather-two → tie.Else1
 before-gathering c = c .before .before .before
@@ -27,9 +27,6 @@ products : (c : tie.After-entry-count) → let args = start c .args in
     Spread (args .index .now) (length (args .key .now)) (args .page .0) (c .entry-count .result) (c .entry-count .result)
 products c = spread _ (counted c) (omega arith)
 
-next-page-requires : tie.Need-next-page-requires
-next-page-requires c κs = search needs
-
 entry-count-requires : tie.Need-entry-count-requires
 entry-count-requires c κs = search needs
 
@@ -42,7 +39,7 @@ slice-aggregate-take-in c = search needs
 take-in-requires : tie.Need-take-in-requires
 take-in-requires c κs =
     let pre = start (c .before .before .before) .pre in
-    record { key = pre .0; page = pre .1; count = omega arith; size = omega arith }
+    (record { key = pre .0; page = pre .1; count = omega arith; size = omega arith }, pre .2)
 
 same-length : tie.Need-same-length
 same-length c = search needs
@@ -52,8 +49,7 @@ returns c =
     let taken-in = c .before .before in
     let empty = taken-in .before .before .before in
     let count = empty .before in
-    two-for-none _ _ _ _ _ _ _ (sym (count .entry-count .ensures) ∙ empty .if1 .taken) (count .before .before .next-page .ensures)
-    (taken-in .take-in .ensures)
+    two-for-none _ _ _ _ _ _ _ _ (sym (count .entry-count .ensures) ∙ empty .if1 .taken) (taken-in .take-in .ensures)
 
 slice-aggregate-gather-two : tie.Need-slice-aggregate-gather-two
 slice-aggregate-gather-two c = search needs
@@ -90,7 +86,8 @@ slice-aggregate-take-in-2 c =
 take-in-requires-2 : tie.Need-take-in-requires-2
 take-in-requires-2 c κs =
     let gathered = c .before .before .before in
-    one-more _ (counted (before-gathering gathered .before)) (omega (arith, gathered .gather-two .kept .0))
+    let count = before-gathering gathered .before in
+    (one-more _ (counted count) (omega (arith, gathered .gather-two .kept .0)), start count .pre .2)
 
 same-length-2 : tie.Need-same-length-2
 same-length-2 c = search needs
@@ -102,14 +99,13 @@ returns-2 c =
     let some = before-gathering gathered in
     let count = some .before in
     let key = start count .args .key .now in
-    two-for-some _ _ _ _ _ _ _ (two-read key _ _ _ (counted count) (some .if1 .left) (omega arith) (gathered .gather-two .ensures))
-    (count .before .before .next-page .ensures) (taken-in .take-in2 .ensures)
+    two-for-some _ _ _ _ _ _ _ _ (two-read key _ _ _ (counted count) (some .if1 .left) (omega arith) (gathered .gather-two .ensures))
+    (taken-in .take-in2 .ensures)
 
 pub take-in-two-spec : {M : Type 1} → statement M
 take-in-two-spec =
     tie.close
     (tie.spec
-    next-page-requires
     entry-count-requires
     array-share-prefix-room
     slice-aggregate-take-in
