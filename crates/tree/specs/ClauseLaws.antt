@@ -27,7 +27,7 @@ sized-level : {K C : Type 0} (S : K × C → Type 0) (under : K × C → List (K
 sized-level S under ok [] i s = absurd (omega arith)
 sized-level S under ok (x ∷ xs) i s = nonEmpty-left (under x) (concatMap under xs) (ok x (s .0))
 
-sized-nonEmpty : {K : Type 0} (cap h : ℕ) (x : Entry K h) → SizedUnder cap h x → NonEmpty (pairsUnder h x)
+pub sized-nonEmpty : {K : Type 0} (cap h : ℕ) (x : Entry K h) → SizedUnder cap h x → NonEmpty (pairsUnder h x)
 sized-nonEmpty cap zero x s = tt
 sized-nonEmpty cap (suc h) x s = sized-level (SizedUnder cap h) (pairsUnder h) (sized-nonEmpty cap h) (x .1 .1) (s .0) (s .2)
 

@@ -11,7 +11,7 @@ pub mod ListLaws
 pub mod Order
 -- Laws: a total order
 pub mod OrderLaws
--- Rules: lists of pairs: lookup, insertion, ascending keys
+-- Rules: lists of pairs: lookup, insertion, removal, ascending keys
 pub mod Pairs
 -- Laws: lists of pairs
 pub mod PairLaws
@@ -53,6 +53,20 @@ pub mod InsertSized
 pub mod InsertPages
 -- Laws: an insertion takes as many new pages and levels as the rule for refusal 30 says
 pub mod InsertNeeds
+-- Steps: new pages from the free list, then at the file's end; how emptied pages join the free list
+pub mod FreeList
+-- Laws: the pages taken and the pages left free
+pub mod FreeListLaws
+-- Steps: removal from a tree, and the pages emptied by it
+pub mod Removal
+-- Laws: the leaf pairs after a removal
+pub mod RemovalPairs
+-- Laws: a removal keeps the order
+pub mod RemovalOrdered
+-- Laws: a removal keeps counts within capacity
+pub mod RemovalSized
+-- Laws: the pages after a removal and the emptied ones are the old ones
+pub mod RemovalPages
 -- Steps: lookup, the run of full pages, and insertion on a store, page by page
 pub mod StoreSteps
 -- Laws: the tree that a store is read as depends on the pages reached alone
@@ -61,6 +75,10 @@ pub mod StoreLaws
 pub mod StoreLookupLaws
 -- Laws: insertion into a store is insertion into its tree
 pub mod StoreInsertLaws
+-- Steps: removal on a store, page by page
+pub mod StoreRemoval
+-- Laws: removal from a store is removal from its tree
+pub mod StoreRemovalLaws
 -- Steps: links after an insertion
 pub mod Relinking
 -- Laws: the pages of each level after an insertion
@@ -69,6 +87,20 @@ pub mod InsertLevels
 pub mod LinkLaws
 -- Laws: all levels are linked again after an insertion
 pub mod InsertLinks
+-- Steps: links after a removal
+pub mod Unlinking
+-- Laws: levels are linked again after pages are unlinked
+pub mod UnlinkLaws
+-- Laws: the pages of each level after a removal
+pub mod RemovalLevels
+-- Laws: all levels are linked again after a removal
+pub mod RemovalLinks
+-- Rules: the free list as it lies in a file
+pub mod FreeChain
+-- Laws: the free list after a page joins it, and how it is read
+pub mod FreeChainLaws
+-- Laws: how many pages a file and a tree have
+pub mod PageCount
 -- Steps: the supply of new pages
 pub mod Supply
 -- Laws: the pages that are taken from the supply

@@ -1,4 +1,4 @@
--- Laws: lookup and insertion in ascending lists of pairs, and their first and last keys. Cited by the laws of ordered trees. Assumes nothing.
+-- Laws: lookup, insertion and removal in ascending lists of pairs, and their first and last keys. Cited by the laws of ordered trees. Assumes nothing.
 use mathlib.Core.Path.{_≡_, refl, sym, ap, _∙_}
 use mathlib.Core.Bool.{Bool, true, false, _&&_}
 use mathlib.Core.List.{List, [], _∷_, _++_, map}
@@ -9,7 +9,7 @@ use Rattle.tree.specs.Lists.{NonEmpty, concatMap}
 use Rattle.tree.specs.Order.{Order, Le, Lt}
 use Rattle.tree.specs.OrderLaws.{le-refl, lt-le, lt-le-trans, le-lt-trans}
 use Rattle.tree.specs.Pairs.{follow, firstKey, lastKey, seek, ifEqual, find, get, byKey, Below, Above, Ascending}
-use Rattle.tree.specs.Pairs.{has, present, insertPair, AllAbove, AllBelow}
+use Rattle.tree.specs.Pairs.{has, present, insertPair, removePair, AllAbove, AllBelow}
 
 -- the last key
 pub lastKey-default : {K C : Type 0} (a b : K) (xs : List (K × C)) → NonEmpty xs → lastKey a xs ≡ lastKey b xs
@@ -167,6 +167,19 @@ module _ {A : Type 0} (le : A → A → Bool) where
   pub present-here : (e : A) (xs ys : List A) → AllAbove le e ys → present le e (xs ++ ys) ≡ present le e xs
   present-here e [] ys v = present-none e ys v
   present-here e (x ∷ xs) ys v = either (le e x) (λ l. rw l) (λ l. rw l (present-here e xs ys v))
+
+  -- removal of an entry passes over entries below it, and does not reach entries above it
+  pub removePair-past : (e : A) (xs ys : List A) → AllBelow le e xs → removePair le e (xs ++ ys) ≡ xs ++ removePair le e ys
+  removePair-past e [] ys b = refl
+  removePair-past e (x ∷ xs) ys b = rw (b .0) (ap (λ l. x ∷ l) (removePair-past e xs ys (b .1)))
+
+  removePair-none : (e : A) (ys : List A) → AllAbove le e ys → removePair le e ys ≡ ys
+  removePair-none e [] v = refl
+  removePair-none e (y ∷ ys) v = rw (v .0 .0, v .0 .1) (ap (λ l. y ∷ l) (removePair-none e ys (v .1)))
+
+  pub removePair-here : (e : A) (xs ys : List A) → AllAbove le e ys → removePair le e (xs ++ ys) ≡ removePair le e xs ++ ys
+  removePair-here e [] ys v = removePair-none e ys v
+  removePair-here e (x ∷ xs) ys v = either (le e x && le x e) (λ l. rw l) (λ l. rw l (ap (λ z. x ∷ z) (removePair-here e xs ys v)))
 
   -- an entry that is none of a list's
   abbrev pub Absent : A → List A → Type 0
