@@ -7,10 +7,9 @@ ghost use mathlib.Core.Bool.{Bool, true};
 ghost use mathlib.Core.List.{[]};
 ghost use Prim.Native.Nat.{ℕ, _+_, _-_, _*_, _≤_, _<_};
 ghost use lib.ListN.{length};
-ghost use Rattle.octets.specs.Bytes.{toBe32};
 ghost use Rattle.octets.specs.Store.{put, window};
 ghost use Rattle.tree.specs.Order.{larger};
-ghost use Rattle.tree.specs.Pairs.{lastKey, insertPair};
+ghost use Rattle.tree.specs.Pairs.{lastKey, byKey, present, insertPair};
 ghost use Rattle.page.specs.Header.{maxKey, pageSize, expressionPlace, isPage};
 ghost use Rattle.page.specs.Page.{entryOffset, keyAt};
 ghost use Rattle.page.specs.Within.{Within};
@@ -18,9 +17,10 @@ ghost use Rattle.page.specs.KeyOrder.{bytesOrder};
 ghost use Rattle.page.specs.Reading.{items};
 ghost use Rattle.layout.specs.Layout.{withAttribute, withCount, withLeft, withRight, withRoot, withFree, withSize, headerBytes};
 ghost use Rattle.layout.specs.Layout.{itemsIn, encode, withEntries, newPage, linkBeyond, splitPage, linkBefore, unlinked, freed};
-ghost use Rattle.layout.specs.Entries.{chosen, childOf, replaced, raised, twoFor, rootEntries, withoutEntry};
+ghost use Rattle.layout.specs.Entries.{stored, chosenAt, childOf, replaced, raised, twoFor, rootEntries, withoutEntry};
 ghost use Rattle.layout.specs.Supply.{supplyOf, takePage, supplyAfter, withSupply};
-ghost use Rattle.layout.specs.Given.{Given, Over, Listed, Lasts, roomSize, chosenAt};
+ghost use Rattle.layout.specs.Given.{Given, Over, Listed, Lasts, roomSize};
+ghost use Rattle.layout.specs.Visits.{visitOf};
 
 // The room in which the entries of a page are gathered: the entry area and one more entry with the longest key.
 pub const ROOM: usize = Page::ENTRY_AREA + page::MAX_KEY + 4;
@@ -34,6 +34,13 @@ pub struct Supply {
 pub struct Taken {
     pub page: PageOffset,
     pub rest: Supply,
+}
+
+// What the way of a key meets at an offset: no page, a leaf, or a page above it: the number of the entry that the key goes under, and its child.
+pub enum Visit {
+    Bad,
+    Leaf,
+    Child(usize, PageOffset),
 }
 
 // Gives a page the attribute `attribute`.
@@ -284,11 +291,16 @@ pub fn entry_count(index: &[u8], k: usize, page: PageOffset) -> usize
     page::entry_count(index, k, index.len(), page)
 }
 
-// The number of the entry that `key` goes under: the first at or above `key`, or the last.
-pub fn chosen_entry(index: &[u8], key: &[u8], page: PageOffset, count: usize) -> usize
-    requires { ⌜ Listed (now index) (length (now key)) (page .0) count × (1 ≤ count) ⌝ }
-    ensures { λ r. ⌜ (r ≡ chosenAt (now (key .entry)) (itemsIn (length (now (key .entry))) (now (index .entry)) (page .0))) × (r < count) ⌝ }
+// The number of the entry that `key` with its record number goes under: the first at or above `key`, else the last; 0 if the page has no entries. Keys are
+// distinct, so the record number is not looked at.
+pub fn chosen_entry(index: &[u8], key: &[u8], number: RecordNumber, page: PageOffset) -> usize
+    requires { ⌜ (length (now key) ≤ maxKey) × (isPage (length (now index)) (page .0) ≡ true) ⌝ }
+    ensures { λ r. ⌜ r ≡ chosenAt (stored (now (key .entry)) (number .0)) (itemsIn (length (now (key .entry))) (now (index .entry)) (page .0)) ⌝ }
 {
+    let count = entry_count(index, key.len(), page);
+    if count == 0 {
+        return 0;
+    }
     let i = page::first_at_or_above(index, page, count, key);
     if i == count {
         return count - 1;
@@ -296,34 +308,57 @@ pub fn chosen_entry(index: &[u8], key: &[u8], page: PageOffset, count: usize) ->
     i
 }
 
-// The child that `key` goes under; 0, which is no page's offset, if the page has no entries.
-pub fn chosen_child(index: &[u8], key: &[u8], page: PageOffset) -> PageOffset
-    requires { ⌜ (length (now key) ≤ maxKey) × (isPage (length (now index)) (page .0) ≡ true) ⌝ }
-    ensures { λ r. ⌜ r .0 ≡ childOf (chosen (now (key .entry)) (itemsIn (length (now (key .entry))) (now (index .entry)) (page .0))) ⌝ }
+// The child of entry `i`; 0, which is no page's offset, if the page has no such entry.
+pub fn child_of(index: &[u8], k: usize, page: PageOffset, i: usize) -> PageOffset
+    requires { ⌜ k ≤ maxKey ⌝ }
+    ensures { λ r. ⌜ r .0 ≡ childOf i (itemsIn k (now (index .entry)) (page .0)) ⌝ }
 {
-    let count = entry_count(index, key.len(), page);
-    if count == 0 {
+    if entry_count(index, k, page) <= i {
         return PageOffset(0);
     }
-    page::child(
-        index,
-        key.len(),
-        page,
-        chosen_entry(index, key, page, count),
-    )
+    page::child(index, k, page, i)
 }
 
-// Raises the last key of a page to `key` if `key` is above all keys of the page.
-pub fn raise_key(index: &mut [u8], key: &[u8], page: PageOffset)
+// What the way of `key` with its record number meets at an offset.
+pub fn visit_page(index: &[u8], key: &[u8], number: RecordNumber, page: PageOffset) -> Visit
+    requires { ⌜ length (now key) ≤ maxKey ⌝ }
+    ensures { λ r. ⌜ r ≡ visitOf (now (index .entry)) (stored (now (key .entry)) (number .0)) (page .0) ⌝ }
+{
+    if !page::is_page(index.len(), page) {
+        return Visit::Bad;
+    }
+    let head = Page::at(index, page);
+    if page::is_leaf(head.attribute) {
+        return Visit::Leaf;
+    }
+    let i = chosen_entry(index, key, number, page);
+    Visit::Child(i, child_of(index, key.len(), page, i))
+}
+
+// Whether a leaf has `key`: the first entry at or above it is an equal one. Keys are distinct, so the record number is not looked at.
+pub fn is_present(index: &[u8], key: &[u8], number: RecordNumber, page: PageOffset) -> bool
     requires { ⌜ (length (now key) ≤ maxKey) × (isPage (length (now index)) (page .0) ≡ true) ⌝ }
-    ensures { λ _. ⌜ now (index .exit) ≡ raised (length (now (key .entry))) (now (index .entry)) (now (key .entry)) (page .0) ⌝ }
+    ensures { λ r. ⌜ r ≡ present (byKey bytesOrder) (stored (now (key .entry)) (number .0))
+        (itemsIn (length (now (key .entry))) (now (index .entry)) (page .0)) ⌝ }
 {
     let count = entry_count(index, key.len(), page);
-    if count == 0 {
+    let i = page::first_at_or_above(index, page, count, key);
+    if i == count {
+        return false;
+    }
+    octets::is_equal(page::compare_entry(index, page, i, key))
+}
+
+// Raises the key of entry `i` to `key` if it is below `key`.
+pub fn raise_key(index: &mut [u8], key: &[u8], page: PageOffset, i: usize)
+    requires { ⌜ (length (now key) ≤ maxKey) × (isPage (length (now index)) (page .0) ≡ true) ⌝ }
+    ensures { λ _. ⌜ now (index .exit) ≡ raised (length (now (key .entry))) (now (index .entry)) (now (key .entry)) (page .0) i ⌝ }
+{
+    if entry_count(index, key.len(), page) <= i {
         return;
     }
-    if page::first_at_or_above(index, page, count, key) == count {
-        octets::copy_in(index, page::entry_offset(key.len(), page, count - 1), key);
+    if octets::is_below(page::compare_entry(index, page, i, key)) {
+        octets::copy_in(index, page::entry_offset(key.len(), page, i), key);
     }
 }
 
@@ -403,7 +438,7 @@ pub fn gather_pair(
 )
     requires { ⌜ Listed (now index) (length (now key)) (page .0) count × (roomSize ≤ length (now room)) ⌝ }
     ensures { λ _. ⌜ now (room .exit) ≡ put (now (room .entry)) 0
-        (encode (insertPair bytesOrder (now (key .entry)) (toBe32 (number .0)) (itemsIn (length (now (key .entry))) (now (index .entry)) (page .0)))) ⌝ }
+        (encode (insertPair (byKey bytesOrder) (stored (now (key .entry)) (number .0)) (itemsIn (length (now (key .entry))) (now (index .entry)) (page .0)))) ⌝ }
 {
     let k = key.len();
     let i = page::first_at_or_above(index, page, count, key);
@@ -414,23 +449,23 @@ pub fn gather_pair(
     copy_entries(room, at + k + 4, index, k, page, i, count);
 }
 
-// Gathers the entries of a page whose child at `child` was split: two, for `child` and for `new`, in the place of the one that `key` goes under.
+// Gathers the entries of a page whose child at `child` was split: two, for `child` and for `new`, in the place of entry `i`.
 pub fn gather_two(
     room: &mut [u8],
     index: &[u8],
     key: &[u8],
     page: PageOffset,
     count: usize,
+    i: usize,
     child: PageOffset,
     new: PageOffset,
 )
-    requires { ⌜ Listed (now index) (length (now key)) (page .0) count × (1 ≤ count) × (roomSize ≤ length (now room)) ⌝ }
+    requires { ⌜ Listed (now index) (length (now key)) (page .0) count × (i < count) × (roomSize ≤ length (now room)) ⌝ }
     ensures { λ _. ⌜ now (room .exit) ≡ put (now (room .entry)) 0
-        (encode (replaced (now (key .entry)) (twoFor (length (now (key .entry))) (now (index .entry)) (now (key .entry)) (child .0) (new .0))
+        (encode (replaced i (twoFor (length (now (key .entry))) (now (index .entry)) (now (key .entry)) (child .0) (new .0))
         (itemsIn (length (now (key .entry))) (now (index .entry)) (page .0)))) ⌝ }
 {
     let k = key.len();
-    let i = chosen_entry(index, key, page, count);
     let at = i * (k + 4);
     let next = at + k + 4;
     copy_entries(room, 0, index, k, page, 0, i);

@@ -1,48 +1,50 @@
 -- Laws: the route to a key on stored entries is the theory's, and an entry that goes or stays in a list is the same change of the list with numbers. Cited by
 -- the laws of removal on bytes. Assumes nothing.
-use mathlib.Core.Path.{_≡_, refl, sym, ap, _∙_}
+use mathlib.Core.Path.{_≡_, refl, ap, _∙_}
 use mathlib.Core.List.{List, [], _∷_, _++_, map}
 use mathlib.Core.Option.{Option, some}
 use Prim.Native.Nat.{ℕ, zero, suc, _+_, _≤_, _<_}
 use native.Mathlib.Omega.{arith}
-use lib.ListN.{length, getD}
+use lib.ListN.{length, getD, List·getD-map}
 use Rattle.basis.specs.Lists.{All}
-use Rattle.basis.specs.Tests.{either}
-use Rattle.octets.specs.Order.{bytesLe}
 use Rattle.tree.specs.Lists.{occ}
 use Rattle.tree.specs.ListLaws.{occ-append}
-use Rattle.tree.specs.Removal.{chosenAt as theoryAt, replaceAt}
+use Rattle.tree.specs.Keeping.{Route, distinctKeys}
+use Rattle.tree.specs.Position.{passesLower}
+use Rattle.tree.specs.Removal.{replaceBy}
+use Rattle.tree.specs.RouteLaws.{position-within, position-map}
 use Rattle.tree.specs.Store.{Store, readEntry}
 use Rattle.tree.specs.StoreInsertLaws.{pagesOf}
-use Rattle.tree.specs.StoreRemoval.{memberAt}
+use Rattle.tree.specs.StoreRemoval.{memberAt, storePosition}
+use Rattle.tree.specs.StoreRemovalLaws.{position-read}
 use Rattle.tree.specs.Tree.{pagesUnder}
 use Rattle.page.specs.KeyOrder.{bytesOrder}
 use Rattle.page.specs.Reading.{Item, numbered}
-use Rattle.layout.specs.Entries.{chosen, withoutEntry}
-use Rattle.layout.specs.Given.{chosenAt}
+use Rattle.layout.specs.Entries.{chosenAt, itemOf, withoutEntry}
 
--- entry i of a list, if there is one
+-- the route of a stored entry, in the theory's words
+abbrev pub routeOf : Item → Route (List ℕ)
+routeOf item = distinctKeys bytesOrder .route (numbered item)
+
+-- entry i of a list; without bytes if there is no such entry
 abbrev pub entryAt : ℕ → List (List ℕ × ℕ) → List ℕ × ℕ
-entryAt i es = getD es i ([], 0)
+entryAt i es = getD es i (numbered ([], []))
 
 -- the number of the entry gone through, and that entry
-pub route-is : (key : List ℕ) (S : Store (List ℕ)) (h : ℕ) (es : List Item) → theoryAt bytesOrder key (map (readEntry S h) (map numbered es)) ≡ chosenAt key es
-route-is key S h [] = refl
-route-is key S h (x ∷ []) = refl
-route-is key S h (x ∷ y ∷ ys) = either (bytesLe key (x .0)) (λ e. rw e) (λ e. rw e (ap suc (route-is key S h (y ∷ ys))))
+pub route-is : (item : Item) (S : Store (List ℕ)) (h : ℕ) (es : List Item) → storePosition (routeOf item) h S (map numbered es) ≡ chosenAt item es
+route-is item S h es =
+    position-read bytesOrder (numbered item) h S (map numbered es)
+    ∙ position-map numbered (passesLower bytesOrder item) (passesLower bytesOrder (numbered item)) (λ x y. refl) es
 
-pub route-inside : (key : List ℕ) (es : List Item) → 0 < length es → chosenAt key es < length es
-route-inside key [] h = h
-route-inside key (x ∷ []) h = omega arith
-route-inside key (x ∷ y ∷ ys) h = either (bytesLe key (x .0)) (λ e. rw e (omega arith)) (λ e. rw e (omega (arith, route-inside key (y ∷ ys) (omega arith))))
+pub route-inside : (item : Item) (es : List Item) → 0 < length es → chosenAt item es < length es
+route-inside item [] h = h
+route-inside item (x ∷ xs) h = position-within (passesLower bytesOrder item) x xs
 
-pub chosen-entry : (key : List ℕ) (es : List Item) → 0 < length es → entryAt (chosenAt key es) (map numbered es) ≡ numbered (chosen key es)
-chosen-entry key [] h = absurd (omega arith)
-chosen-entry key (x ∷ []) h = refl
-chosen-entry key (x ∷ y ∷ ys) h = either (bytesLe key (x .0)) (λ e. rw e) (λ e. rw e (chosen-entry key (y ∷ ys) (omega arith)))
+pub entry-numbered : (i : ℕ) (es : List Item) → entryAt i (map numbered es) ≡ numbered (itemOf i es)
+entry-numbered i es = List·getD-map numbered es i ([], [])
 
 -- an entry that goes
-pub without-numbered : (i : ℕ) (es : List Item) → map numbered (withoutEntry i es) ≡ replaceAt i (λ x. []) (map numbered es)
+pub without-numbered : (i : ℕ) (es : List Item) → map numbered (withoutEntry i es) ≡ replaceBy i (λ x. []) (map numbered es)
 without-numbered zero [] = refl
 without-numbered zero (x ∷ xs) = refl
 without-numbered (suc i) [] = refl
@@ -54,7 +56,7 @@ member-is i [] l = absurd (omega arith)
 member-is zero (x ∷ xs) l = refl
 member-is (suc i) (x ∷ xs) l = member-is i xs (omega arith)
 
-pub replace-same : (i : ℕ) (es : List (List ℕ × ℕ)) → i < length es → replaceAt i (λ x. entryAt i es ∷ []) es ≡ es
+pub replace-same : (i : ℕ) (es : List (List ℕ × ℕ)) → i < length es → replaceBy i (λ x. entryAt i es ∷ []) es ≡ es
 replace-same i [] l = absurd (omega arith)
 replace-same zero (x ∷ xs) l = refl
 replace-same (suc i) (x ∷ xs) l = ap (λ l. x ∷ l) (replace-same i xs (omega arith))

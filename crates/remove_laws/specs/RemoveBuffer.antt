@@ -15,7 +15,8 @@ use Rattle.tree.specs.InsertPages.{Distinct}
 use Rattle.tree.specs.LinkLaws.{linked-same}
 use Rattle.tree.specs.Lists.{NonEmpty, occ}
 use Rattle.tree.specs.ListLaws.{occ-here}
-use Rattle.tree.specs.Removal.{Route, Shrunk, shrunkPages, routeTo, remove, emptied}
+use Rattle.tree.specs.Keeping.{Route}
+use Rattle.tree.specs.Removal.{Shrunk, shrunkPages, remove, emptied}
 use Rattle.tree.specs.RemovalLinks.{remove-all-linked}
 use Rattle.tree.specs.RemovalPages.{remove-pages}
 use Rattle.tree.specs.Store.{Store, readTree}
@@ -26,14 +27,15 @@ use Rattle.tree.specs.StoreRemovalLaws.{remove-read, emptied-read}
 use Rattle.tree.specs.Tree.{Tree, level, pages}
 use Rattle.tree.specs.Unlinking.{unlinkAll}
 use Rattle.page.specs.Header.{maxLevels, noPage, rootOffset, isPage}
-use Rattle.page.specs.KeyOrder.{bytesOrder}
 use Rattle.page.specs.Page.{capacity}
 use Rattle.layout.specs.Layout.{newPage}
+use Rattle.layout.specs.Entries.{stored}
 use Rattle.sound.specs.Sound.{linksOf}
 use Rattle.remove.specs.Removal.{Outcome, kept, emptied as emptiedPage, bad, Step, removeUnder, atRoot, removedBuffer}
 use Rattle.layout_laws.specs.EntryLaws.{entriesIn, page-of, length-new}
 use Rattle.layout_laws.specs.HeadLaws.{Head, SameHeader, new-head, new-header}
 use Rattle.layout_laws.specs.FreeLaws.{SameButFree, same-header, same-free, new-bytes}
+use Rattle.remove_laws.specs.EntryLists.{routeOf}
 use Rattle.remove_laws.specs.RemoveEntries.{OutcomeIs, StepIs, emptiedFrom, storeAfter, Filled, filled-page, filled-pages, removes, root-is}
 use Rattle.remove_laws.specs.RemoveHeads.{Plain, Heads, emptied-apart, remove-heads}
 use Rattle.remove_laws.specs.RemoveFree.{Freed, freed-but, remove-free}
@@ -51,28 +53,28 @@ module _ (k : ℕ) (key b : List ℕ) (h : ℕ) (r : Ready k b h) where
   treeIn = readTree (entriesIn k b) h (rootOffset b)
 
   abbrev pub route : Route (List ℕ)
-  route = routeTo bytesOrder key
+  route = routeOf (stored key 0)
 
   abbrev pub gone : List ℕ
-  gone = emptiedFrom key (entriesIn k b) h (rootOffset b)
+  gone = emptiedFrom (stored key 0) (entriesIn k b) h (rootOffset b)
 
   abbrev left : Store (List ℕ)
-  left = storeAfter key (entriesIn k b) h (rootOffset b)
+  left = storeAfter (stored key 0) (entriesIn k b) h (rootOffset b)
 
   abbrev last : Step
-  last = removeUnder k maxLevels b key (rootOffset b)
+  last = removeUnder k maxLevels b (stored key 0) (rootOffset b)
 
   root-page : isPage (length b) (rootOffset b) ≡ true
   root-page = filled-page k h b (rootOffset b) (r .filled) .0
 
   last-is : StepIs k (length b) (rootOffset b) last left
-  last-is = removes k key b h maxLevels (rootOffset b) (r .low) (r .filled) (r .once)
+  last-is = removes k (stored key 0) b h maxLevels (rootOffset b) (r .low) (r .filled) (r .once)
 
   last-heads : Heads k gone b (last .after)
-  last-heads = remove-heads k key b (r .plain) h maxLevels (rootOffset b) (r .low) (r .filled) (r .once)
+  last-heads = remove-heads k (stored key 0) b (r .plain) h maxLevels (rootOffset b) (r .low) (r .filled) (r .once)
 
   last-free : Freed (pages h treeIn) gone b (last .after)
-  last-free = remove-free k key b (r .plain) (pages h treeIn) h maxLevels (rootOffset b) (r .low) (r .filled) (r .once) (λ z o. o)
+  last-free = remove-free k (stored key 0) b (r .plain) (pages h treeIn) h maxLevels (rootOffset b) (r .low) (r .filled) (r .once) (λ z o. o)
 
   -- the last step's buffer with an empty leaf for its root
   abbrev lone : List ℕ
@@ -90,7 +92,7 @@ module _ (k : ℕ) (key b : List ℕ) (h : ℕ) (r : Ready k b h) where
 
   pub entries-after : entriesIn k (removedBuffer k b key) ≡ left
   unfolding removedBuffer
-  entries-after = root-is k key b (rootOffset b) last left root-page last-is
+  entries-after = root-is k (stored key 0) b (rootOffset b) last left root-page last-is
 
   -- Theorem: the buffer is read as the tree after the removal
   pub tree-after : _≡_ {A = Shrunk (List ℕ)} (
@@ -123,7 +125,7 @@ module _ (k : ℕ) (key b : List ℕ) (h : ℕ) (r : Ready k b h) where
   pub free-after : Freed (pages h treeIn) gone b (removedBuffer k b key)
   free-after = by-root (λ c. Freed (pages h treeIn) gone b c) (λ s. last-free)
       (λ e. freed-but k (pages h treeIn) b gone (last .after) lone (rootOffset b) (last-is .as-long)
-      (occ-here (rootOffset b) (pagesOf (entriesIn k b) h (entriesIn k b (rootOffset b)))) (emptied-apart k key b (r .plain) h (rootOffset b) (r .once))
+      (occ-here (rootOffset b) (pagesOf (entriesIn k b) h (entriesIn k b (rootOffset b)))) (emptied-apart k (stored key 0) b (r .plain) h (rootOffset b) (r .once))
       (same-free (last .after) lone lone-header)
       (λ z t ne. new-bytes k (last .after) (rootOffset b) [] root-there tt (omega arith) z (page-of z (last-is .as-long) t) ne 3 noPage noPage) last-free)
 

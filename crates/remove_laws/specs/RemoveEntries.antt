@@ -7,34 +7,33 @@ use Prim.Native.Nat.{ℕ, zero, suc, _≤_, _<_}
 use native.Mathlib.Omega.{arith}
 use lib.ListN.{length, length-map}
 use lib.Dec.{eqb, ltb}
-use borrow.Author.Tests.{ltb-true, ltb-false, lt-ltb, le-leb, eqb-true, eqb-false}
+use borrow.Author.Tests.{ltb-true, ltb-false, lt-ltb, eqb-true, eqb-false}
 use Rattle.basis.specs.Lists.{All}
 use Rattle.basis.specs.Tests.{either}
 use Rattle.tree.specs.InsertPages.{Distinct}
 use Rattle.tree.specs.Lists.{NonEmpty, occ}
 use Rattle.tree.specs.ListLaws.{occ-append, occ-head, occ-behind, occ-not-head}
-use Rattle.tree.specs.Removal.{routeTo, replaceAt, ifEmptied}
+use Rattle.tree.specs.Removal.{replaceBy, ifEmptied}
 use Rattle.tree.specs.Store.{Store, readEntry, readTree}
 use Rattle.tree.specs.StoreInsertLaws.{pagesOf}
 use Rattle.tree.specs.StoreLaws.{write-here, write-other}
-use Rattle.tree.specs.StoreRemoval.{StoreRemoved, StoreShrunk, entryUnlessEmptied, storeRoute, storeRemoveAmong, storeRemoveUnder, storeRemove}
+use Rattle.tree.specs.StoreRemoval.{StoreRemoved, StoreShrunk, entryUnlessEmptied, storePosition, storeRemoveAmong, storeRemoveUnder, storeRemove}
 use Rattle.tree.specs.StoreRemovalLaws.{remove-others}
 use Rattle.tree.specs.StoreSteps.{write}
 use Rattle.tree.specs.Tree.{pages}
 use Rattle.page.specs.Header.{noPage, isPage}
-use Rattle.page.specs.KeyOrder.{bytesOrder}
 use Rattle.page.specs.Page.{attributeAt, leafBit, capacity}
 use Rattle.page.specs.Reading.{Item, numbered}
 use Rattle.layout.specs.Layout.{itemsIn, unlinked, freed}
-use Rattle.layout.specs.Entries.{chosen, childOf, withoutEntry}
-use Rattle.layout.specs.Given.{chosenAt}
+use Rattle.layout.specs.Entries.{chosenAt, childOf, withoutEntry}
 use Rattle.layout.specs.ItemLaws.{Fit}
 use Rattle.layout.specs.EntryLaws.{items-in-fit}
 use Rattle.layout.specs.FitLaws.{without-all, length-without}
 use Rattle.remove.specs.Removal.{Outcome, kept, emptied, bad, Step, leftWith, takeOut, afterChild, removeUnder, atRoot}
 use Rattle.layout_laws.specs.EntryLaws.{entriesIn, Usable, page-of, items-few, entries-with, length-with, entries-new, length-new}
 use Rattle.layout_laws.specs.FreeLaws.{length-unlinked, length-freed, entries-unlinked, entries-freed}
-use Rattle.remove_laws.specs.EntryLists.{entryAt, route-is, route-inside, chosen-entry, without-numbered, member-is, replace-same, entry-all, entry-pages}
+use Rattle.remove_laws.specs.EntryLists.{routeOf, entryAt, route-is, route-inside, entry-numbered, without-numbered, member-is, replace-same}
+use Rattle.remove_laws.specs.EntryLists.{entry-all, entry-pages}
 
 -- what an outcome says of the entries that a page is left with
 abbrev pub OutcomeIs : Outcome → List (List ℕ × ℕ) → Type 0
@@ -56,52 +55,52 @@ left-with : (es : List Item) → OutcomeIs (leftWith es) (map numbered es)
 left-with [] = refl
 left-with (x ∷ xs) = tt
 
--- the theory's removal by the route to the key, from the page at p with h levels under it: the pages emptied, and the store
-module _ (key : List ℕ) (S : Store (List ℕ)) where
+-- the theory's removal by the route of an entry, from the page at p with h levels under it: the pages emptied, and the store
+module _ (item : Item) (S : Store (List ℕ)) where
   abbrev pub emptiedFrom : (h p : ℕ) → List ℕ
-  emptiedFrom h p = storeRemove (routeTo bytesOrder key) h p S .2
+  emptiedFrom h p = storeRemove (routeOf item) h p S .2
 
   abbrev pub storeAfter : (h p : ℕ) → Store (List ℕ)
-  storeAfter h p = storeRemove (routeTo bytesOrder key) h p S .3
+  storeAfter h p = storeRemove (routeOf item) h p S .3
 
   -- among the entries of a page, of which entry i is gone through
-  among-is : (h i : ℕ) (es : List (List ℕ × ℕ)) (g : List ℕ × ℕ → StoreRemoved (List ℕ)) → storeRoute (routeTo bytesOrder key) h S es ≡ i → i < length es
-      → storeRemoveAmong (routeTo bytesOrder key) h g es S ≡ (replaceAt i (λ x. g (entryAt i es) .0) es, g (entryAt i es) .1, g (entryAt i es) .2)
+  among-is : (h i : ℕ) (es : List (List ℕ × ℕ)) (g : List ℕ × ℕ → StoreRemoved (List ℕ)) → storePosition (routeOf item) h S es ≡ i → i < length es
+      → storeRemoveAmong (routeOf item) h g es S ≡ (replaceBy i (λ x. g (entryAt i es) .0) es, g (entryAt i es) .1, g (entryAt i es) .2)
   among-is h i es g e l = rw (e, member-is i es l)
 
   -- from a leaf, and from a page above
   module _ (i p : ℕ) (l : i < length (S p)) where
-    leaf-after : storeRoute (routeTo bytesOrder key) zero S (S p) ≡ i → storeAfter zero p ≡ write S p (replaceAt i (λ x. []) (S p))
+    leaf-after : storePosition (routeOf item) zero S (S p) ≡ i → storeAfter zero p ≡ write S p (replaceBy i (λ x. []) (S p))
     leaf-after e = ap (λ (w : StoreRemoved (List ℕ)). write (w .2) p (w .0)) (among-is zero i (S p) (λ c. ([], [], S)) e l)
 
-    pub leaf-emptied : storeRoute (routeTo bytesOrder key) zero S (S p) ≡ i → emptiedFrom zero p ≡ []
+    pub leaf-emptied : storePosition (routeOf item) zero S (S p) ≡ i → emptiedFrom zero p ≡ []
     leaf-emptied e = ap (λ (w : StoreRemoved (List ℕ)). w .1) (among-is zero i (S p) (λ c. ([], [], S)) e l)
 
-    module _ (h : ℕ) (e : storeRoute (routeTo bytesOrder key) (suc h) S (S p) ≡ i) where
+    module _ (h : ℕ) (e : storePosition (routeOf item) (suc h) S (S p) ≡ i) where
       abbrev child : List ℕ × ℕ
       child = entryAt i (S p)
 
       abbrev childLeft : List (List ℕ × ℕ)
-      childLeft = storeRemoveAmong (routeTo bytesOrder key) h (λ c. storeRemoveUnder (routeTo bytesOrder key) h c S) (S (child .1)) S .0
+      childLeft = storeRemoveAmong (routeOf item) h (λ c. storeRemoveUnder (routeOf item) h c S) (S (child .1)) S .0
 
       child-left : storeAfter h (child .1) (child .1) ≡ childLeft
       child-left =
-          write-here (storeRemoveAmong (routeTo bytesOrder key) h (λ c. storeRemoveUnder (routeTo bytesOrder key) h c S) (S (child .1)) S .2) (child .1) childLeft
+          write-here (storeRemoveAmong (routeOf item) h (λ c. storeRemoveUnder (routeOf item) h c S) (S (child .1)) S .2) (child .1) childLeft
 
       upper-after : storeAfter (suc h) p ≡ write (storeAfter h (child .1)) p
-          (replaceAt i (λ x. entryUnlessEmptied (child .0) (child .1) (storeAfter h (child .1) (child .1))) (S p))
+          (replaceBy i (λ x. entryUnlessEmptied (child .0) (child .1) (storeAfter h (child .1) (child .1))) (S p))
       upper-after = rw child-left
           (ap (λ (w : StoreRemoved (List ℕ)). write (w .2) p (w .0))
-          (among-is (suc h) i (S p) (λ c. storeRemoveUnder (routeTo bytesOrder key) (suc h) c S) e l))
+          (among-is (suc h) i (S p) (λ c. storeRemoveUnder (routeOf item) (suc h) c S) e l))
 
       pub upper-emptied : emptiedFrom (suc h) p ≡ emptiedFrom h (child .1) ++ ifEmptied (child .1) (storeAfter h (child .1) (child .1))
       upper-emptied = rw child-left
-          (ap (λ (w : StoreRemoved (List ℕ)). w .1) (among-is (suc h) i (S p) (λ c. storeRemoveUnder (routeTo bytesOrder key) (suc h) c S) e l))
+          (ap (λ (w : StoreRemoved (List ℕ)). w .1) (among-is (suc h) i (S p) (λ c. storeRemoveUnder (routeOf item) (suc h) c S) e l))
 
 module _ (k : ℕ) where
   -- entry i goes from the page at p
   pub taken : (b : List ℕ) (p i : ℕ) → isPage (length b) p ≡ true → i < length (itemsIn k b p)
-      → StepIs k (length b) p (takeOut k b p i) (write (entriesIn k b) p (replaceAt i (λ x. []) (entriesIn k b p)))
+      → StepIs k (length b) p (takeOut k b p i) (write (entriesIn k b) p (replaceBy i (λ x. []) (entriesIn k b p)))
   unfolding takeOut
   taken b p i tp l =
       let es = itemsIn k b p in
@@ -124,16 +123,16 @@ module _ (k : ℕ) where
   module _ (b : List ℕ) (p i c : ℕ) (a : List ℕ) (T : Store (List ℕ)) (tp : isPage (length b) p ≡ true) (tc : isPage (length b) c ≡ true)
       (left : entriesIn k b ≡ T) (l : i < length (T p)) (e : entryAt i (T p) ≡ (a, c)) where
     abbrev pub storeAbove : Store (List ℕ)
-    storeAbove = write T p (replaceAt i (λ x. entryUnlessEmptied a c (T c)) (T p))
+    storeAbove = write T p (replaceBy i (λ x. entryUnlessEmptied a c (T c)) (T p))
 
     above-kept : NonEmpty (T c) → storeAbove ≡ T
     above-kept s = go (T c) refl s
       where
         go : (es : List (List ℕ × ℕ)) → T c ≡ es → NonEmpty es → storeAbove ≡ T
         go [] q s = absurd s
-        go (y ∷ ys) q s = rw (q, ← e) (write-same T p (replaceAt i (λ x. entryAt i (T p) ∷ []) (T p)) (sym (replace-same i (T p) l)))
+        go (y ∷ ys) q s = rw (q, ← e) (write-same T p (replaceBy i (λ x. entryAt i (T p) ∷ []) (T p)) (sym (replace-same i (T p) l)))
 
-    above-emptied : T c ≡ [] → storeAbove ≡ write T p (replaceAt i (λ x. []) (T p))
+    above-emptied : T c ≡ [] → storeAbove ≡ write T p (replaceBy i (λ x. []) (T p))
     above-emptied q = rw q
 
     -- what the buffer reads as once the emptied child is free
@@ -153,9 +152,9 @@ module _ (k : ℕ) where
         let inside : i < length (itemsIn k b′ p) = rw (← length-map (itemsIn k b′ p) numbered, own) l in
         let s = taken b′ p i (page-of p n tp) inside in
         rw (above-emptied q) (record {
-          entries = s .entries ∙ ap (λ (U : Store (List ℕ)). write U p (replaceAt i (λ x. []) (U p))) (child-free q);
+          entries = s .entries ∙ ap (λ (U : Store (List ℕ)). write U p (replaceBy i (λ x. []) (U p))) (child-free q);
           as-long = s .as-long ∙ n;
-          told = subst (λ (U : Store (List ℕ)). OutcomeIs (takeOut k b′ p i .outcome) (write U p (replaceAt i (λ x. []) (U p)) p)) (child-free q) (s .told);
+          told = subst (λ (U : Store (List ℕ)). OutcomeIs (takeOut k b′ p i .outcome) (write U p (replaceBy i (λ x. []) (U p)) p)) (child-free q) (s .told);
         })
     after-child-is bad f = absurd f
 
@@ -197,27 +196,27 @@ some-items : (es : List Item) → NonEmpty (map numbered es) → 0 < length es
 some-items [] s = absurd s
 some-items (x ∷ xs) s = omega arith
 
-module _ (k : ℕ) (key b : List ℕ) where
+module _ (k : ℕ) (item : Item) (b : List ℕ) where
   -- the entry that removal goes through at the page at p, and its number
   abbrev pub through : ℕ → ℕ
-  through p = chosenAt key (itemsIn k b p)
+  through p = chosenAt item (itemsIn k b p)
 
   abbrev pub below : ℕ → ℕ
   below p = entryAt (through p) (entriesIn k b p) .1
 
   -- removal's step at the page at p, with `left` levels left, is the theory's
   abbrev pub Removes : (h left p : ℕ) → Type 0
-  Removes h left p = StepIs k (length b) p (removeUnder k left b key p) (storeAfter key (entriesIn k b) h p)
+  Removes h left p = StepIs k (length b) p (removeUnder k left b item p) (storeAfter item (entriesIn k b) h p)
 
   module _ (p : ℕ) (s : NonEmpty (entriesIn k b p)) where
     pub some : 0 < length (itemsIn k b p)
     some = some-items (itemsIn k b p) s
 
     pub inside : through p < length (entriesIn k b p)
-    inside = rw (length-map (itemsIn k b p) numbered) (route-inside key (itemsIn k b p) some)
+    inside = rw (length-map (itemsIn k b p) numbered) (route-inside item (itemsIn k b p) some)
 
-    pub child-is : childOf (chosen key (itemsIn k b p)) ≡ below p
-    child-is = ap (λ (e : List ℕ × ℕ). e .1) (sym (chosen-entry key (itemsIn k b p) some))
+    pub child-is : childOf (through p) (itemsIn k b p) ≡ below p
+    child-is = ap (λ (e : List ℕ × ℕ). e .1) (sym (entry-numbered (through p) (itemsIn k b p)))
 
     -- the pages under the child are distinct, and the page at p is none of them, nor is it changed by the removal from the child
     module _ (h : ℕ) (d : Distinct (pages (suc h) (readTree (entriesIn k b) (suc h) p))) where
@@ -232,11 +231,11 @@ module _ (k : ℕ) (key b : List ℕ) where
       child-differs : p ≡ below p → ⊥
       child-differs e = occ-not-head p (below p) (pagesOf (entriesIn k b) h (entriesIn k b (below p))) child-apart e
 
-      own-kept : storeAfter key (entriesIn k b) h (below p) p ≡ entriesIn k b p
-      own-kept = remove-others (routeTo bytesOrder key) h (below p) (entriesIn k b) child-distinct p child-apart
+      own-kept : storeAfter item (entriesIn k b) h (below p) p ≡ entriesIn k b p
+      own-kept = remove-others (routeOf item) h (below p) (entriesIn k b) child-distinct p child-apart
 
       -- the page at p has entry i still, once the child's step was made and the child freed
-      pub still-inside : (s : Step) → StepIs k (length b) (below p) s (storeAfter key (entriesIn k b) h (below p)) → isPage (length b) (below p) ≡ true
+      pub still-inside : (s : Step) → StepIs k (length b) (below p) s (storeAfter item (entriesIn k b) h (below p)) → isPage (length b) (below p) ≡ true
           → through p < length (itemsIn k (freed (unlinked (s .after) (below p)) (below p)) p)
       still-inside s w tc =
           let c = below p in
@@ -257,32 +256,32 @@ module _ (k : ℕ) (key b : List ℕ) where
       let S = entriesIn k b in
       let es = itemsIn k b p in
       let more = some p (f .2) in
-      rw (le-leb 1 (length es) more, f .1, leaf-after key S (through p) p (inside p (f .2)) (route-is key S zero es))
-      (taken k b p (through p) (f .0 .0) (route-inside key es more))
+      rw (f .0 .0, f .1, leaf-after item S (through p) p (inside p (f .2)) (route-is item S zero es))
+      (taken k b p (through p) (f .0 .0) (route-inside item es more))
   removes (suc h) (suc left) p l f d =
-      rw (le-leb 1 (length (itemsIn k b p)) (some p (f .2)), f .1) (subst UpperIs (sym (child-is p (f .2))) (upper (λ c g o. removes h left c (omega arith) g o)))
+      rw (f .0 .0, f .1) (subst UpperIs (sym (child-is p (f .2))) (upper (λ c g o. removes h left c (omega arith) g o)))
     where
       UpperIs : ℕ → Type 0
       UpperIs c =
-          let s : Step = removeUnder k left b key c in
-          StepIs k (length b) p (afterChild k (s .after) p (through p) c (s .outcome)) (storeAfter key (entriesIn k b) (suc h) p)
+          let s : Step = removeUnder k left b item c in
+          StepIs k (length b) p (afterChild k (s .after) p (through p) c (s .outcome)) (storeAfter item (entriesIn k b) (suc h) p)
 
       upper : ((c : ℕ) → Filled k h b c → Distinct (pages h (readTree (entriesIn k b) h c)) → Removes h left c) → UpperIs (below p)
       upper rec =
           let S = entriesIn k b in
           let c = below p in
-          let s : Step = removeUnder k left b key c in
+          let s : Step = removeUnder k left b item c in
           let under : Filled k h b c = entry-all (λ e. Filled k h b (e .1)) (through p) (S p) (inside p (f .2)) (f .3) in
           let w : Removes h left c = rec c under (child-distinct p (f .2) h d) in
           let own = own-kept p (f .2) h d in
-          let there : through p < length (storeAfter key S h c p) = rw own (inside p (f .2)) in
-          let entry : entryAt (through p) (storeAfter key S h c p) ≡ (entryAt (through p) (S p) .0, c) = ap (entryAt (through p)) own in
-          let u = after-child-is k (s .after) p (through p) c (entryAt (through p) (S p) .0) (storeAfter key S h c)
+          let there : through p < length (storeAfter item S h c p) = rw own (inside p (f .2)) in
+          let entry : entryAt (through p) (storeAfter item S h c p) ≡ (entryAt (through p) (S p) .0, c) = ap (entryAt (through p)) own in
+          let u = after-child-is k (s .after) p (through p) c (entryAt (through p) (S p) .0) (storeAfter item S h c)
           (page-of p (w .as-long) (f .0 .0)) (page-of c (w .as-long) (filled-page k h b c under .0)) (w .entries) there entry (s .outcome) (w .told) in
-          let same : storeAfter key S (suc h) p
-          ≡ storeAbove k (s .after) p (through p) c (entryAt (through p) (S p) .0) (storeAfter key S h c)
+          let same : storeAfter item S (suc h) p
+          ≡ storeAbove k (s .after) p (through p) c (entryAt (through p) (S p) .0) (storeAfter item S h c)
           (page-of p (w .as-long) (f .0 .0)) (page-of c (w .as-long) (filled-page k h b c under .0)) (w .entries) there entry =
-          upper-after key S (through p) p (inside p (f .2)) h (route-is key S (suc h) (itemsIn k b p)) ∙ rw own in
+          upper-after item S (through p) p (inside p (f .2)) h (route-is item S (suc h) (itemsIn k b p)) ∙ rw own in
           rw same (record { entries = u .entries; as-long = u .as-long ∙ w .as-long; told = u .told })
 
   -- the root: it has what it is left with

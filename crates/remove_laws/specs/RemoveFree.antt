@@ -7,7 +7,7 @@ use Prim.Native.Nat.{ℕ, zero, suc, _+_, _^_, _≤_, _<_}
 use native.Mathlib.Omega.{arith}
 use lib.ListN.{length}
 use lib.Dec.{eqb}
-use borrow.Author.Tests.{lt-ltb, le-leb, eqb-true, eqb-false, eq-eqb, ne-eqb}
+use borrow.Author.Tests.{lt-ltb, eqb-true, eqb-false, eq-eqb, ne-eqb}
 use Rattle.basis.specs.Lists.{All}
 use Rattle.basis.specs.Tests.{either}
 use Rattle.octets.specs.Store.{window}
@@ -24,6 +24,7 @@ use Rattle.tree.specs.Tree.{pages as treePages}
 use Rattle.page.specs.Header.{pageSize, noPage, freePointer, isPage}
 use Rattle.tree.specs.Unlinking.{unlinkAll}
 use Rattle.page.specs.Page.{rightAt, capacity}
+use Rattle.page.specs.Reading.{Item}
 use Rattle.page.specs.ReadingLaws.{right-same}
 use Rattle.layout.specs.Layout.{itemsIn, unlinked, freed}
 use Rattle.layout.specs.Entries.{withoutEntry}
@@ -137,10 +138,10 @@ module _ (k : ℕ) (qs b : List ℕ) where
       before-last : (ps : List ℕ) (c z : ℕ) → (z ≡ c → ⊥) → 0 < occ z (ps ++ (c ∷ [])) → 0 < occ z ps
       before-last ps c z ne o = let none : occ z (c ∷ []) ≡ 0 = rw (ne-eqb z c ne) in omega (arith, occ-append z ps (c ∷ []))
 
-module _ (k : ℕ) (key b : List ℕ) (plain : Plain b) (qs : List ℕ) where
+module _ (k : ℕ) (item : Item) (b : List ℕ) (plain : Plain b) (qs : List ℕ) where
   -- the free pages after removal's step at the page at p, all of whose pages are in the list qs
   abbrev Goes : (h left p : ℕ) → Type 0
-  Goes h left p = Freed qs (emptiedFrom key (entriesIn k b) h p) b (removeUnder k left b key p .after)
+  Goes h left p = Freed qs (emptiedFrom item (entriesIn k b) h p) b (removeUnder k left b item p .after)
 
   abbrev Inside : (h p : ℕ) → Type 0
   Inside h p = (z : ℕ) → 0 < occ z (treePages h (readTree (entriesIn k b) h p)) → 0 < occ z qs
@@ -166,39 +167,39 @@ module _ (k : ℕ) (key b : List ℕ) (plain : Plain b) (qs : List ℕ) where
   remove-free zero (suc left) p l f d i =
       let S = entriesIn k b in
       let es = itemsIn k b p in
-      let more = some k key b p (f .2) in
-      rw (le-leb 1 (length es) more, f .1, leaf-emptied key S (through k key b p) p (inside k key b p (f .2)) (route-is key S zero es))
-      (freed-taken k qs b [] b p (through k key b p) refl (f .0 .0) (route-inside key es more) (i p (occ-here p (pagesOf S zero (S p)))) refl
+      let more = some k item b p (f .2) in
+      rw (f .0 .0, f .1, leaf-emptied item S (through k item b p) p (inside k item b p (f .2)) (route-is item S zero es))
+      (freed-taken k qs b [] b p (through k item b p) refl (f .0 .0) (route-inside item es more) (i p (occ-here p (pagesOf S zero (S p)))) refl
       (freed-none k qs b))
   remove-free (suc h) (suc left) p l f d i =
       rw (
-        le-leb 1 (length (itemsIn k b p)) (some k key b p (f .2)),
+        f .0 .0,
         f .1,
-        upper-emptied key (entriesIn k b) (through k key b p) p (inside k key b p (f .2)) h (route-is key (entriesIn k b) (suc h) (itemsIn k b p)),
-      ) (subst UpperGoes (sym (child-is k key b p (f .2))) (upper (λ q g o u. remove-free h left q (omega arith) g o u)))
+        upper-emptied item (entriesIn k b) (through k item b p) p (inside k item b p (f .2)) h (route-is item (entriesIn k b) (suc h) (itemsIn k b p)),
+      ) (subst UpperGoes (sym (child-is k item b p (f .2))) (upper (λ q g o u. remove-free h left q (omega arith) g o u)))
     where
       c : ℕ
-      c = below k key b p
+      c = below k item b p
 
       UpperGoes : ℕ → Type 0
       UpperGoes q =
-          let s : Step = removeUnder k left b key q in
-          let ps : List ℕ = emptiedFrom key (entriesIn k b) h c ++ ifEmptied c (storeAfter key (entriesIn k b) h c c) in
-          Freed qs ps b (afterChild k (s .after) p (through k key b p) q (s .outcome) .after)
+          let s : Step = removeUnder k left b item q in
+          let ps : List ℕ = emptiedFrom item (entriesIn k b) h c ++ ifEmptied c (storeAfter item (entriesIn k b) h c c) in
+          Freed qs ps b (afterChild k (s .after) p (through k item b p) q (s .outcome) .after)
 
       upper : ((q : ℕ) → Filled k h b q → Distinct (treePages h (readTree (entriesIn k b) h q)) → Inside h q → Goes h left q) → UpperGoes c
       upper rec =
           let S = entriesIn k b in
-          let s : Step = removeUnder k left b key c in
-          let at = inside k key b p (f .2) in
-          let under : Filled k h b c = entry-all (λ e. Filled k h b (e .1)) (through k key b p) (S p) at (f .3) in
-          let once = child-distinct k key b p (f .2) h d in
-          let w : Removes k key b h left c = removes k key b h left c (omega arith) under once in
-          let within : Inside h c = λ z o. i z (omega (arith, entry-pages S (suc h) z (through k key b p) (S p) at)) in
-          let apart = child-apart k key b p (f .2) h d in
-          let there = still-inside k key b p (f .2) h d s w (filled-page k h b c under .0) in
-          after-child-free (emptiedFrom key S h c) (s .after) p (through k key b p) c (s .outcome) (storeAfter key S h c c) (w .as-long) (f .0 .0)
+          let s : Step = removeUnder k left b item c in
+          let at = inside k item b p (f .2) in
+          let under : Filled k h b c = entry-all (λ e. Filled k h b (e .1)) (through k item b p) (S p) at (f .3) in
+          let once = child-distinct k item b p (f .2) h d in
+          let w : Removes k item b h left c = removes k item b h left c (omega arith) under once in
+          let within : Inside h c = λ z o. i z (omega (arith, entry-pages S (suc h) z (through k item b p) (S p) at)) in
+          let apart = child-apart k item b p (f .2) h d in
+          let there = still-inside k item b p (f .2) h d s w (filled-page k h b c under .0) in
+          after-child-free (emptiedFrom item S h c) (s .after) p (through k item b p) c (s .outcome) (storeAfter item S h c c) (w .as-long) (f .0 .0)
           (filled-page k h b c under) (i p (occ-here p (pagesOf S (suc h) (S p)))) (within c (occ-here c (pagesOf S h (S c))))
-          (omega (arith, apart, emptied-inside k key b plain h c p once)) (emptied-apart k key b plain h c once)
+          (omega (arith, apart, emptied-inside k item b plain h c p once)) (emptied-apart k item b plain h c once)
           (λ e. occ-not-head p c (pagesOf S h (S c)) apart e) there (w .told)
-          (remove-heads k key b plain h left c (omega arith) under once) (rec c under once within)
+          (remove-heads k item b plain h left c (omega arith) under once) (rec c under once within)

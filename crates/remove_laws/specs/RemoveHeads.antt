@@ -7,20 +7,20 @@ use Prim.Native.Nat.{ℕ, zero, suc, _+_, _^_, _≤_, _<_}
 use native.Mathlib.Omega.{arith}
 use lib.ListN.{length}
 use lib.Dec.{eqb}
-use borrow.Author.Tests.{lt-ltb, le-leb, ne-eqb}
+use borrow.Author.Tests.{lt-ltb, ne-eqb}
 use Rattle.basis.specs.Lists.{All}
 use Rattle.tree.specs.Clauses.{Links}
 use Rattle.tree.specs.InsertPages.{Distinct}
 use Rattle.tree.specs.Lists.{NonEmpty, occ, concatMap}
 use Rattle.tree.specs.ListLaws.{occ-append, occ-head, occ-here}
-use Rattle.tree.specs.Removal.{routeTo, ifEmptied, settle, shrunkPages, removeEntries}
+use Rattle.tree.specs.Removal.{ifEmptied, settle, shrunkPages, removeEntries}
 use Rattle.tree.specs.RemovalPages.{remove-pages}
 use Rattle.tree.specs.Store.{readTree}
 use Rattle.tree.specs.StoreRemovalLaws.{emptied-read}
 use Rattle.tree.specs.Tree.{Entry, pagesUnder, pages}
 use Rattle.tree.specs.Unlinking.{unlink, unlinkAll}
 use Rattle.page.specs.Header.{freePointer, isPage}
-use Rattle.page.specs.KeyOrder.{bytesOrder}
+use Rattle.page.specs.Reading.{Item}
 use Rattle.page.specs.Page.{attributeAt, countAt, leftAt, rightAt, capacity}
 use Rattle.layout.specs.Layout.{itemsIn, unlinked, freed}
 use Rattle.layout.specs.Entries.{withoutEntry}
@@ -33,7 +33,7 @@ use Rattle.layout_laws.specs.EntryLaws.{entriesIn, Usable, page-of, items-few, 
 use Rattle.layout_laws.specs.HeadLaws.{Head, with-head, with-header}
 use Rattle.layout_laws.specs.FreeLaws.{SameButFree, same-header, same-free, length-unlinked, unlinked-head, unlinked-header}
 use Rattle.layout_laws.specs.FreeLaws.{length-freed, freed-head, freed-header, freed-free}
-use Rattle.remove_laws.specs.EntryLists.{route-is, route-inside, entry-all}
+use Rattle.remove_laws.specs.EntryLists.{routeOf, route-is, route-inside, entry-all}
 use Rattle.remove_laws.specs.RemoveEntries.{OutcomeIs, emptiedFrom, storeAfter, leaf-emptied, upper-emptied, Filled, filled-page}
 use Rattle.remove_laws.specs.RemoveEntries.{through, below, Removes, some, inside, child-is, child-distinct, still-inside, removes}
 
@@ -145,19 +145,19 @@ module _ (k : ℕ) (b : List ℕ) where
           let both = occ-append z ps (c ∷ []) in
           (omega arith, ne-eqb z c (λ e. let one = occ-head z [] in absurd (omega (arith, ap (λ x. occ z (x ∷ [])) e))))
 
-module _ (k : ℕ) (key b : List ℕ) (plain : Plain b) where
+module _ (k : ℕ) (item : Item) (b : List ℕ) (plain : Plain b) where
   -- the emptied pages are pages of the tree, and the root is none of them
   pub emptied-inside : (h p z : ℕ) → Distinct (pages h (readTree (entriesIn k b) h p))
-      → occ z (emptiedFrom key (entriesIn k b) h p) ≤ occ z (pages h (readTree (entriesIn k b) h p))
+      → occ z (emptiedFrom item (entriesIn k b) h p) ≤ occ z (pages h (readTree (entriesIn k b) h p))
   emptied-inside h p z d =
-      rw (emptied-read (routeTo bytesOrder key) h p (entriesIn k b) d)
-      (omega (arith, remove-pages (routeTo bytesOrder key) z h (readTree (entriesIn k b) h p)))
+      rw (emptied-read (routeOf item) h p (entriesIn k b) d)
+      (omega (arith, remove-pages (routeOf item) z h (readTree (entriesIn k b) h p)))
 
-  pub emptied-apart : (h p : ℕ) → Distinct (pages h (readTree (entriesIn k b) h p)) → occ p (emptiedFrom key (entriesIn k b) h p) ≡ 0
+  pub emptied-apart : (h p : ℕ) → Distinct (pages h (readTree (entriesIn k b) h p)) → occ p (emptiedFrom item (entriesIn k b) h p) ≡ 0
   emptied-apart h p d =
       let t = readTree (entriesIn k b) h p in
-      let all = remove-pages (routeTo bytesOrder key) p h t in
-      rw (emptied-read (routeTo bytesOrder key) h p (entriesIn k b) d) (omega (arith, all, d p, root-stays p h (removeEntries (routeTo bytesOrder key) h (t .1))))
+      let all = remove-pages (routeOf item) p h t in
+      rw (emptied-read (routeOf item) h p (entriesIn k b) d) (omega (arith, all, d p, root-stays p h (removeEntries (routeOf item) h (t .1))))
     where
       root-stays : (p h : ℕ) (xs : List (Entry (List ℕ) h)) → 0 < occ p (shrunkPages (settle h p xs))
       root-stays p h [] = occ-here p []
@@ -165,7 +165,7 @@ module _ (k : ℕ) (key b : List ℕ) (plain : Plain b) where
 
   -- the heads after removal's step at the page at p
   abbrev Goes : (h left p : ℕ) → Type 0
-  Goes h left p = Heads k (emptiedFrom key (entriesIn k b) h p) b (removeUnder k left b key p .after)
+  Goes h left p = Heads k (emptiedFrom item (entriesIn k b) h p) b (removeUnder k left b item p .after)
 
   -- the page at p after the step at its child at c, which emptied the pages ps
   after-child-heads : (ps b′ : List ℕ) (p i c : ℕ) (o : Outcome) (es : List (List ℕ × ℕ)) → length b′ ≡ length b → isPage (length b) p ≡ true → Usable b c
@@ -186,33 +186,33 @@ module _ (k : ℕ) (key b : List ℕ) (plain : Plain b) where
   remove-heads zero (suc left) p l f d =
       let S = entriesIn k b in
       let es = itemsIn k b p in
-      let more = some k key b p (f .2) in
-      rw (le-leb 1 (length es) more, f .1, leaf-emptied key S (through k key b p) p (inside k key b p (f .2)) (route-is key S zero es))
-      (heads-taken k b [] b p (through k key b p) refl (f .0 .0) (route-inside key es more) (heads-none k b plain))
+      let more = some k item b p (f .2) in
+      rw (f .0 .0, f .1, leaf-emptied item S (through k item b p) p (inside k item b p (f .2)) (route-is item S zero es))
+      (heads-taken k b [] b p (through k item b p) refl (f .0 .0) (route-inside item es more) (heads-none k b plain))
   remove-heads (suc h) (suc left) p l f d =
       rw (
-        le-leb 1 (length (itemsIn k b p)) (some k key b p (f .2)),
+        f .0 .0,
         f .1,
-        upper-emptied key (entriesIn k b) (through k key b p) p (inside k key b p (f .2)) h (route-is key (entriesIn k b) (suc h) (itemsIn k b p)),
-      ) (subst UpperGoes (sym (child-is k key b p (f .2))) (upper (λ q g o. remove-heads h left q (omega arith) g o)))
+        upper-emptied item (entriesIn k b) (through k item b p) p (inside k item b p (f .2)) h (route-is item (entriesIn k b) (suc h) (itemsIn k b p)),
+      ) (subst UpperGoes (sym (child-is k item b p (f .2))) (upper (λ q g o. remove-heads h left q (omega arith) g o)))
     where
       c : ℕ
-      c = below k key b p
+      c = below k item b p
 
       UpperGoes : ℕ → Type 0
       UpperGoes q =
-          let s : Step = removeUnder k left b key q in
-          let ps : List ℕ = emptiedFrom key (entriesIn k b) h c ++ ifEmptied c (storeAfter key (entriesIn k b) h c c) in
-          Heads k ps b (afterChild k (s .after) p (through k key b p) q (s .outcome) .after)
+          let s : Step = removeUnder k left b item q in
+          let ps : List ℕ = emptiedFrom item (entriesIn k b) h c ++ ifEmptied c (storeAfter item (entriesIn k b) h c c) in
+          Heads k ps b (afterChild k (s .after) p (through k item b p) q (s .outcome) .after)
 
       upper : ((q : ℕ) → Filled k h b q → Distinct (pages h (readTree (entriesIn k b) h q)) → Goes h left q) → UpperGoes c
       upper rec =
           let S = entriesIn k b in
-          let s : Step = removeUnder k left b key c in
-          let under : Filled k h b c = entry-all (λ e. Filled k h b (e .1)) (through k key b p) (S p) (inside k key b p (f .2)) (f .3) in
-          let once = child-distinct k key b p (f .2) h d in
-          let w : Removes k key b h left c = removes k key b h left c (omega arith) under once in
+          let s : Step = removeUnder k left b item c in
+          let under : Filled k h b c = entry-all (λ e. Filled k h b (e .1)) (through k item b p) (S p) (inside k item b p (f .2)) (f .3) in
+          let once = child-distinct k item b p (f .2) h d in
+          let w : Removes k item b h left c = removes k item b h left c (omega arith) under once in
           let b′ = freed (unlinked (s .after) c) c in
-          let there : through k key b p < length (itemsIn k b′ p) = still-inside k key b p (f .2) h d s w (filled-page k h b c under .0) in
-          after-child-heads (emptiedFrom key S h c) (s .after) p (through k key b p) c (s .outcome) (storeAfter key S h c c) (w .as-long) (f .0 .0)
+          let there : through k item b p < length (itemsIn k b′ p) = still-inside k item b p (f .2) h d s w (filled-page k h b c under .0) in
+          after-child-heads (emptiedFrom item S h c) (s .after) p (through k item b p) c (s .outcome) (storeAfter item S h c c) (w .as-long) (f .0 .0)
           (filled-page k h b c under) (emptied-apart h c once) there (w .told) (rec c under once)

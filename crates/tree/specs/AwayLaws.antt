@@ -77,6 +77,7 @@ module _ (none h : ℕ) where
       let real : p ≡ none → ⊥ = λ e. occ-differ none p (row (w .0)) (r .proper (w .0)) (w .2) (sym e) in
       let off : (j : ℕ) → occ p (without p (row j)) ≡ 0 = λ j. either (ltb 0 (occ p (without p (row j))))
       (λ u. absurd (without-none p p (row j) refl (ltb-true 0 (occ p (without p (row j))) u)))
-      (λ u. omega (arith, ltb-false 0 (occ p (without p (row j))) u)) in
-      (away-rows p real ps (unlink p l) (λ j. without p (row j)) (λ x. omega (arith, d x)) (rest-on p ps row d on) less off,
-      clear-rows ps (unlink p l) (λ j. without p (row j)) (λ x. omega (arith, d x)) (rest-on p ps row d on) less)
+      (λ u. omega (arith, ltb-false 0 (occ p (without p (row j))) u)) in (
+        away-rows p real ps (unlink p l) (λ j. without p (row j)) (λ x. omega (arith, d x)) (rest-on p ps row d on) less off,
+        clear-rows ps (unlink p l) (λ j. without p (row j)) (λ x. omega (arith, d x)) (rest-on p ps row d on) less,
+      )

@@ -17,7 +17,7 @@ use Rattle.tree.specs.UnlinkLaws.{without-occ, without-none}
 use Rattle.tree.specs.FreeChain.{Chained, chainFrom}
 
 module _ (none : ℕ) (next : ℕ → ℕ) where
-  -- the head is the first page of the list, or none. A list without its head begins with what the head names: that is in `Chained` itself
+  -- the head is the first page of the list, or none
   pub chained-head : (head : ℕ) (ps : List ℕ) → Chained none next head ps → head ≡ headOr none ps
   chained-head head [] c = c
   chained-head head (p ∷ ps) c = c .0

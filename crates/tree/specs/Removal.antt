@@ -1,30 +1,16 @@
 -- Steps: removal of an entry from a tree, and the pages that become free by it. Cited by the laws that say what the bytes after a removal are read as. "The
 -- entry goes; keys above stay"; "an emptied page other than the root is unlinked from its neighbours and its parent's entry goes, upwards as needed".
-use mathlib.Core.Bool.{cond}
 use mathlib.Core.List.{List, [], _∷_, _++_}
 use Prim.Native.Nat.{ℕ, zero, suc}
-use Rattle.tree.specs.Order.{Order}
-use Rattle.tree.specs.Tree.{Page, Child, Entry, Tree, pairs, pages}
-
--- a route down a tree: of a page's entries, with h levels under them, the number of the entry gone through
-abbrev pub Route : Type 0 → Type 0
-Route K = (h : ℕ) → List (Entry K h) → ℕ
-
--- the number of the entry that a key leads to: the first at or above the key, else the last
-abbrev pub chosenAt : {K C : Type 0} → Order K → K → List (K × C) → ℕ
-chosenAt O k [] = 0
-chosenAt O k (x ∷ []) = 0
-chosenAt O k (x ∷ y ∷ ys) = cond (O .le k (x .0)) 0 (suc (chosenAt O k (y ∷ ys)))
-
--- the route to a key
-abbrev pub routeTo : {K : Type 0} → Order K → K → Route K
-routeTo O k h xs = chosenAt O k xs
+use Rattle.tree.specs.Position.{position}
+use Rattle.tree.specs.Keeping.{Route}
+use Rattle.tree.specs.Tree.{Page, Entry, Tree, pairs, pages}
 
 -- a list in which what g makes of member number i replaces that member
-abbrev pub replaceAt : {A : Type 0} → ℕ → (A → List A) → List A → List A
-replaceAt i g [] = []
-replaceAt zero g (x ∷ xs) = g x ++ xs
-replaceAt (suc i) g (x ∷ xs) = x ∷ replaceAt i g xs
+abbrev pub replaceBy : {A : Type 0} → ℕ → (A → List A) → List A → List A
+replaceBy i g [] = []
+replaceBy zero g (x ∷ xs) = g x ++ xs
+replaceBy (suc i) g (x ∷ xs) = x ∷ replaceBy i g xs
 
 -- the numbers that f gives for member number i, none if there is no such member
 abbrev pub numbersAt : {A : Type 0} → ℕ → (A → List ℕ) → List A → List ℕ
@@ -61,11 +47,11 @@ module _ {K : Type 0} (route : Route K) where
   -- what replaces an entry after the removal under it: "the entry goes" from the leaf; "keys above stay"
   abbrev pub removeUnder : (h : ℕ) → Entry K h → List (Entry K h)
   removeUnder zero x = []
-  removeUnder (suc h) x = unlessEmptied (x .0) (x .1 .0) (replaceAt (route h (x .1 .1)) (removeUnder h) (x .1 .1))
+  removeUnder (suc h) x = unlessEmptied (x .0) (x .1 .0) (replaceBy (position (route h) (x .1 .1)) (removeUnder h) (x .1 .1))
 
   -- removal among the entries of a page, and from a tree
   abbrev pub removeEntries : (h : ℕ) → List (Entry K h) → List (Entry K h)
-  removeEntries h xs = replaceAt (route h xs) (removeUnder h) xs
+  removeEntries h xs = replaceBy (position (route h) xs) (removeUnder h) xs
 
   abbrev pub remove : (h : ℕ) → Tree K h → Shrunk K
   remove h t = settle h (t .0) (removeEntries h (t .1))
@@ -74,10 +60,10 @@ module _ {K : Type 0} (route : Route K) where
   abbrev pub emptiedUnder : (h : ℕ) → Entry K h → List ℕ
   emptiedUnder zero x = []
   emptiedUnder (suc h) x =
-      numbersAt (route h (x .1 .1)) (emptiedUnder h) (x .1 .1) ++ ifEmptied (x .1 .0) (removeEntries h (x .1 .1))
+      numbersAt (position (route h) (x .1 .1)) (emptiedUnder h) (x .1 .1) ++ ifEmptied (x .1 .0) (removeEntries h (x .1 .1))
 
   abbrev pub emptiedAmong : (h : ℕ) → List (Entry K h) → List ℕ
-  emptiedAmong h xs = numbersAt (route h xs) (emptiedUnder h) xs
+  emptiedAmong h xs = numbersAt (position (route h) xs) (emptiedUnder h) xs
 
   abbrev pub emptied : (h : ℕ) → Tree K h → List ℕ
   emptied h t = emptiedAmong h (t .1)

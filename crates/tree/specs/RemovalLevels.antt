@@ -12,9 +12,11 @@ use Rattle.tree.specs.ListLaws.{concatMap-append, concatMap-none, occ-ap
 use Rattle.tree.specs.Tree.{Entry, Tree, pagesUnder, pages, levelUnder, level}
 use Rattle.tree.specs.InsertPages.{Distinct}
 use Rattle.tree.specs.InsertLevels.{levelUnder-pages}
-use Rattle.tree.specs.Removal.{Route, replaceAt, numbersAt, unlessEmptied, ifEmptied, settle}
+use Rattle.tree.specs.Position.{position}
+use Rattle.tree.specs.Keeping.{Route}
+use Rattle.tree.specs.Removal.{replaceBy, numbersAt, unlessEmptied, ifEmptied, settle}
 use Rattle.tree.specs.Removal.{removeUnder, removeEntries, remove, emptiedUnder, emptiedAmong, emptied}
-use Rattle.tree.specs.RemovalPages.{replaceAt-pages, removeUnder-pages, removeEntries-pages}
+use Rattle.tree.specs.RemovalPages.{replaceBy-pages, removeUnder-pages, removeEntries-pages}
 use Rattle.tree.specs.Unlinking.{withoutAll}
 use Rattle.tree.specs.UnlinkLaws.{withoutAll-absent, withoutAll-append, withoutAll-both}
 
@@ -62,27 +64,27 @@ unlessEmptied-level j h a p (x ∷ xs) out old o e = rw (append-nil out) (either
     (λ u. rw u (append-nil (concatMap (levelUnder j h) (x ∷ xs)) ∙ e)))
 
 -- one level of removal, abstract in what lies below: of an entry, `f` gives the pages of a level, `under` all pages, and `out` the emptied ones
-replaceAt-level : {A : Type 0} (f under out : A → List ℕ) (g : A → List A) →
+replaceBy-level : {A : Type 0} (f under out : A → List ℕ) (g : A → List A) →
     ((z : ℕ) (x : A) → occ z (f x) ≤ occ z (under x)) →
     ((z : ℕ) (x : A) → occ z (concatMap under (g x)) + occ z (out x) ≡ occ z (under x)) →
     ((x : A) → Distinct (under x) → concatMap f (g x) ≡ withoutAll (out x) (f x)) →
-    (i : ℕ) (xs : List A) → Distinct (concatMap under xs) → concatMap f (replaceAt i g xs) ≡ withoutAll (numbersAt i out xs) (concatMap f xs)
-replaceAt-level f under out g inf ino ok i [] d = refl
-replaceAt-level f under out g inf ino ok zero (x ∷ xs) d =
+    (i : ℕ) (xs : List A) → Distinct (concatMap under xs) → concatMap f (replaceBy i g xs) ≡ withoutAll (numbersAt i out xs) (concatMap f xs)
+replaceBy-level f under out g inf ino ok i [] d = refl
+replaceBy-level f under out g inf ino ok zero (x ∷ xs) d =
     let parts : (z : ℕ) → occ z (concatMap under (x ∷ xs)) ≡ occ z (under x) + occ z (concatMap under xs) =
     λ z. occ-append z (under x) (concatMap under xs) in
     rw (concatMap-append f (g x) xs, withoutAll-append (out x) (f x) (concatMap f xs))
     (ap₂ (λ (a b : List ℕ). a ++ b) (ok x (λ z. omega (arith, d z, parts z)))
     (sym (withoutAll-absent (out x) (concatMap f xs)
     (λ z i. omega (arith, d z, parts z, ino z x, occ-concatMap z f under (inf z) xs)))))
-replaceAt-level f under out g inf ino ok (suc i) (x ∷ xs) d =
+replaceBy-level f under out g inf ino ok (suc i) (x ∷ xs) d =
     let parts : (z : ℕ) → occ z (concatMap under (x ∷ xs)) ≡ occ z (under x) + occ z (concatMap under xs) =
     λ z. occ-append z (under x) (concatMap under xs) in
     rw (withoutAll-append (numbersAt i out xs) (f x) (concatMap f xs))
     (ap₂ (λ (a b : List ℕ). a ++ b)
     (sym (withoutAll-absent (numbersAt i out xs) (f x)
-    (λ z o. omega (arith, d z, parts z, inf z x, replaceAt-pages z under out g (ino z) i xs))))
-    (replaceAt-level f under out g inf ino ok i xs (λ z. omega (arith, d z, parts z))))
+    (λ z o. omega (arith, d z, parts z, inf z x, replaceBy-pages z under out g (ino z) i xs))))
+    (replaceBy-level f under out g inf ino ok i xs (λ z. omega (arith, d z, parts z))))
 
 -- the root p stays on its level, or becomes the only leaf; `old m` was level m below it
 settle-level : {K : Type 0} (j h p : ℕ) (xs : List (Entry K h)) (out : List ℕ) (old : ℕ → List ℕ) → occ p out ≡ 0 →
@@ -99,8 +101,8 @@ module _ {K : Type 0} (route : Route K) where
         (xs : List (Entry K h)) → Distinct (concatMap (pagesUnder h) xs) →
         concatMap (levelUnder j h) (removeEntries route h xs) ≡ withoutAll (emptiedAmong route h xs) (concatMap (levelUnder j h) xs)
     removeEntries-step h ok xs d =
-        replaceAt-level (levelUnder j h) (pagesUnder h) (emptiedUnder route h) (removeUnder route h) (λ z x. levelUnder-pages z j h x)
-        (λ z x. removeUnder-pages route z h x) ok (route h xs) xs d
+        replaceBy-level (levelUnder j h) (pagesUnder h) (emptiedUnder route h) (removeUnder route h) (λ z x. levelUnder-pages z j h x)
+        (λ z x. removeUnder-pages route z h x) ok (position (route h) xs) xs d
 
     removeUnder-level : (h : ℕ) (x : Entry K h) → Distinct (pagesUnder h x) →
         concatMap (levelUnder j h) (removeUnder route h x) ≡ withoutAll (emptiedUnder route h x) (levelUnder j h x)

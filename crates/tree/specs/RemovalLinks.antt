@@ -7,7 +7,8 @@ use Rattle.tree.specs.Tree.{Tree, pages, level, levelUnder}
 use Rattle.tree.specs.Clauses.{Links, AllLinked}
 use Rattle.tree.specs.InsertPages.{Distinct}
 use Rattle.tree.specs.InsertLevels.{levelUnder-pages, levelUnder-disjoint}
-use Rattle.tree.specs.Removal.{Route, remove, emptied}
+use Rattle.tree.specs.Keeping.{Route}
+use Rattle.tree.specs.Removal.{remove, emptied}
 use Rattle.tree.specs.RemovalPages.{remove-pages}
 use Rattle.tree.specs.RemovalLevels.{page-onLevel, remove-level}
 use Rattle.tree.specs.Unlinking.{unlinkAll, withoutAll}

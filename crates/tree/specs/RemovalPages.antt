@@ -9,7 +9,9 @@ use Rattle.tree.specs.Lists.{concatMap, countIf, occ}
 use Rattle.tree.specs.ListLaws.{concatMap-append, occ-append}
 use Rattle.tree.specs.Tree.{Entry, Tree, pagesUnder, pages}
 use Rattle.tree.specs.InsertPages.{pageAndUnder}
-use Rattle.tree.specs.Removal.{Route, replaceAt, numbersAt, unlessEmptied, ifEmptied, shrunkPages, settle}
+use Rattle.tree.specs.Position.{position}
+use Rattle.tree.specs.Keeping.{Route}
+use Rattle.tree.specs.Removal.{replaceBy, numbersAt, unlessEmptied, ifEmptied, shrunkPages, settle}
 use Rattle.tree.specs.Removal.{removeUnder, removeEntries, remove, emptiedUnder, emptiedAmong, emptied}
 
 -- a page stays or is emptied
@@ -24,16 +26,16 @@ settle-pages z h p [] = refl
 settle-pages z h p (x ∷ xs) = refl
 
 -- one level of removal, abstract in what lies below: `under` gives the pages under an entry, `out` the emptied ones
-pub replaceAt-pages : {A : Type 0} (z : ℕ) (under out : A → List ℕ) (g : A → List A) →
+pub replaceBy-pages : {A : Type 0} (z : ℕ) (under out : A → List ℕ) (g : A → List A) →
     ((x : A) → occ z (concatMap under (g x)) + occ z (out x) ≡ occ z (under x)) →
-    (i : ℕ) (xs : List A) → occ z (concatMap under (replaceAt i g xs)) + occ z (numbersAt i out xs) ≡ occ z (concatMap under xs)
-replaceAt-pages z under out g ok i [] = omega arith
-replaceAt-pages z under out g ok zero (x ∷ xs) = rw (concatMap-append under (g x) xs)
+    (i : ℕ) (xs : List A) → occ z (concatMap under (replaceBy i g xs)) + occ z (numbersAt i out xs) ≡ occ z (concatMap under xs)
+replaceBy-pages z under out g ok i [] = omega arith
+replaceBy-pages z under out g ok zero (x ∷ xs) = rw (concatMap-append under (g x) xs)
     (omega (arith, ok x, occ-append z (concatMap under (g x)) (concatMap under xs), occ-append z (under x) (concatMap under xs)))
-replaceAt-pages z under out g ok (suc i) (x ∷ xs) = omega (
+replaceBy-pages z under out g ok (suc i) (x ∷ xs) = omega (
   arith,
-  replaceAt-pages z under out g ok i xs,
-  occ-append z (under x) (concatMap under (replaceAt i g xs)),
+  replaceBy-pages z under out g ok i xs,
+  occ-append z (under x) (concatMap under (replaceBy i g xs)),
   occ-append z (under x) (concatMap under xs),
 )
 
@@ -46,14 +48,14 @@ module _ {K : Type 0} (route : Route K) (z : ℕ) where
       omega (
         arith,
         unlessEmptied-pages (pagesUnder h) z (x .0) (x .1 .0) left,
-        replaceAt-pages z (pagesUnder h) (emptiedUnder route h) (removeUnder route h) (removeUnder-pages h) (route h (x .1 .1)) (x .1 .1),
+        replaceBy-pages z (pagesUnder h) (emptiedUnder route h) (removeUnder route h) (removeUnder-pages h) (position (route h) (x .1 .1)) (x .1 .1),
         occ-append z (emptiedAmong route h (x .1 .1)) (ifEmptied (x .1 .0) left),
       )
 
   pub removeEntries-pages : (h : ℕ) (xs : List (Entry K h)) →
       occ z (concatMap (pagesUnder h) (removeEntries route h xs)) + occ z (emptiedAmong route h xs) ≡ occ z (concatMap (pagesUnder h) xs)
   removeEntries-pages h xs =
-      replaceAt-pages z (pagesUnder h) (emptiedUnder route h) (removeUnder route h) (removeUnder-pages h) (route h xs) xs
+      replaceBy-pages z (pagesUnder h) (emptiedUnder route h) (removeUnder route h) (removeUnder-pages h) (position (route h) xs) xs
 
   -- Theorem: the pages after a removal, with the emptied ones, are the old pages
   pub remove-pages : (h : ℕ) (t : Tree K h) → occ z (shrunkPages (remove route h t)) + occ z (emptied route h t) ≡ occ z (pages h t)

@@ -7,7 +7,9 @@ use Rattle.basis.specs.Lists.{All, all-append}
 use Rattle.tree.specs.Tree.{Entry, Tree}
 use Rattle.tree.specs.Clauses.{SizedUnder, Sized}
 use Rattle.tree.specs.InsertSized.{SizedPage, least-le}
-use Rattle.tree.specs.Removal.{Route, replaceAt, unlessEmptied, settle, removeUnder, removeEntries, remove}
+use Rattle.tree.specs.Position.{position}
+use Rattle.tree.specs.Keeping.{Route}
+use Rattle.tree.specs.Removal.{replaceBy, unlessEmptied, settle, removeUnder, removeEntries, remove}
 
 -- a list of at most n members, each of which has S
 abbrev UpTo : {A : Type 0} → (A → Type 0) → ℕ → List A → Type 0
@@ -19,14 +21,14 @@ unlessEmptied-sized cap S a p [] u = (tt, omega arith)
 unlessEmptied-sized cap S a p (x ∷ xs) u = (((omega arith, u .1, u .0), tt), omega arith)
 
 -- one level of removal, abstract in what lies below: no entry more
-replaceAt-sized : {A : Type 0} (S : A → Type 0) (g : A → List A) → ((x : A) → S x → UpTo S 1 (g x)) →
-    (i : ℕ) (xs : List A) → All S xs → UpTo S (length xs) (replaceAt i g xs)
-replaceAt-sized S g ok i [] d = (tt, omega arith)
-replaceAt-sized S g ok zero (x ∷ xs) d =
+replaceBy-sized : {A : Type 0} (S : A → Type 0) (g : A → List A) → ((x : A) → S x → UpTo S 1 (g x)) →
+    (i : ℕ) (xs : List A) → All S xs → UpTo S (length xs) (replaceBy i g xs)
+replaceBy-sized S g ok i [] d = (tt, omega arith)
+replaceBy-sized S g ok zero (x ∷ xs) d =
     let f : UpTo S 1 (g x) = ok x (d .0) in
     (all-append S (g x) xs (f .0) (d .1), omega (arith, length-append (g x) xs))
-replaceAt-sized S g ok (suc i) (x ∷ xs) d =
-    let f : UpTo S (length xs) (replaceAt i g xs) = replaceAt-sized S g ok i xs (d .1) in
+replaceBy-sized S g ok (suc i) (x ∷ xs) d =
+    let f : UpTo S (length xs) (replaceBy i g xs) = replaceBy-sized S g ok i xs (d .1) in
     ((d .0, f .0), omega arith)
 
 settle-sized : {K : Type 0} (cap h p : ℕ) (xs : List (Entry K h)) → UpTo (SizedUnder cap h) cap xs →
@@ -43,14 +45,14 @@ module _ {K : Type 0} (route : Route K) where
   removeUnder-sized cap zero x d = (tt, omega arith)
   removeUnder-sized cap (suc h) x d =
       let f : UpTo (SizedUnder cap h) (length (x .1 .1)) (removeEntries route h (x .1 .1)) =
-      replaceAt-sized (SizedUnder cap h) (removeUnder route h) (removeUnder-sized cap h) (route h (x .1 .1)) (x .1 .1) (d .2) in
+      replaceBy-sized (SizedUnder cap h) (removeUnder route h) (removeUnder-sized cap h) (position (route h) (x .1 .1)) (x .1 .1) (d .2) in
       unlessEmptied-sized cap (SizedUnder cap h) (x .0) (x .1 .0) (removeEntries route h (x .1 .1)) (f .0, omega arith)
 
   -- Theorem: a removal keeps counts within capacity
   pub remove-sized : (cap h : ℕ) (t : Tree K h) → Sized cap h t → Sized cap (remove route h t .0) (remove route h t .1)
   remove-sized cap h t d =
       let f : UpTo (SizedUnder cap h) (length (t .1)) (removeEntries route h (t .1)) =
-      replaceAt-sized (SizedUnder cap h) (removeUnder route h) (removeUnder-sized cap h) (route h (t .1)) (t .1) (d .2) in
+      replaceBy-sized (SizedUnder cap h) (removeUnder route h) (removeUnder-sized cap h) (position (route h) (t .1)) (t .1) (d .2) in
       settle-sized cap h (t .0) (removeEntries route h (t .1)) (f .0, omega arith)
 
   -- Theorem: a removal adds no level

@@ -2,7 +2,9 @@
 use mathlib.Core.List.{List, [], _∷_, _++_, map}
 use mathlib.Core.Option.{Option, none, some}
 use Prim.Native.Nat.{ℕ, zero, suc}
-use Rattle.tree.specs.Removal.{Route, replaceAt, ifEmptied, Shrunk}
+use Rattle.tree.specs.Position.{position}
+use Rattle.tree.specs.Keeping.{Route}
+use Rattle.tree.specs.Removal.{replaceBy, ifEmptied, Shrunk}
 use Rattle.tree.specs.Store.{Store, readEntry, readTree}
 use Rattle.tree.specs.StoreSteps.{write}
 
@@ -43,16 +45,16 @@ readShrunk g = (g .0, readTree (g .3) (g .0) (g .1))
 -- entry number i of the entries es is replaced by what the removal under it leaves; if there is no such entry, nothing changes
 abbrev pub storeReplaceAt : {K : Type 0} → ℕ → (K × ℕ → StoreRemoved K) → List (K × ℕ) → Store K → Option (K × ℕ) → StoreRemoved K
 storeReplaceAt i g es S none = (es, [], S)
-storeReplaceAt i g es S (some e) = (replaceAt i (λ y. g e .0) es, g e .1, g e .2)
+storeReplaceAt i g es S (some e) = (replaceBy i (λ y. g e .0) es, g e .1, g e .2)
 
 module _ {K : Type 0} (route : Route K) where
   -- the number of the entry gone through, by what the entries are read as in the store before the removal
-  abbrev pub storeRoute : (h : ℕ) → Store K → List (K × ℕ) → ℕ
-  storeRoute h S es = route h (map (readEntry S h) es)
+  abbrev pub storePosition : (h : ℕ) → Store K → List (K × ℕ) → ℕ
+  storePosition h S es = position (route h) (map (readEntry S h) es)
 
   -- removal among the entries of a page, whose children g takes care of
   abbrev pub storeRemoveAmong : (h : ℕ) → (K × ℕ → StoreRemoved K) → List (K × ℕ) → Store K → StoreRemoved K
-  storeRemoveAmong h g es S = let i : ℕ = storeRoute h S es in storeReplaceAt i g es S (memberAt i es)
+  storeRemoveAmong h g es S = let i : ℕ = storePosition h S es in storeReplaceAt i g es S (memberAt i es)
 
   -- removal under an entry, and from the whole store
   abbrev pub storeRemoveUnder : (h : ℕ) → K × ℕ → Store K → StoreRemoved K

@@ -12,15 +12,24 @@ use Rattle.tree.specs.Lists.{occ}
 use Rattle.tree.specs.ListLaws.{occ-append, occ-head, occ-differ, occ-not-head}
 use Rattle.tree.specs.Tree.{Child, Entry, Tree, pagesUnder, pages}
 use Rattle.tree.specs.InsertPages.{Distinct}
-use Rattle.tree.specs.Removal.{Route, replaceAt, numbersAt, unlessEmptied, ifEmptied, Shrunk, settle}
+use Rattle.tree.specs.Order.{Order}
+use Rattle.tree.specs.Position.{position, passesLower}
+use Rattle.tree.specs.Keeping.{Route, distinctKeys}
+use Rattle.tree.specs.RouteLaws.{position-map}
+use Rattle.tree.specs.Removal.{replaceBy, numbersAt, unlessEmptied, ifEmptied, Shrunk, settle}
 use Rattle.tree.specs.Removal.{removeUnder, removeEntries, remove, emptiedUnder, emptiedAmong, emptied}
 use Rattle.tree.specs.RemovalPages.{removeEntries-pages}
 use Rattle.tree.specs.Store.{Store, readEntry, readTree}
 use Rattle.tree.specs.StoreSteps.{write}
-use Rattle.tree.specs.StoreLaws.{frame, frame-entries, write-here, write-other, map-read-zero}
+use Rattle.tree.specs.StoreLaws.{frame, frame-entries, write-here, write-other}
 use Rattle.tree.specs.StoreInsertLaws.{pagesOf, page-read}
 use Rattle.tree.specs.StoreRemoval.{StoreRemoved, memberAt, entryUnlessEmptied, storeKeep, heightLeft, readShrunk}
-use Rattle.tree.specs.StoreRemoval.{storeReplaceAt, storeRoute, storeRemoveAmong, storeRemoveUnder, storeRemove}
+use Rattle.tree.specs.StoreRemoval.{storeReplaceAt, storePosition, storeRemoveAmong, storeRemoveUnder, storeRemove}
+
+-- Theorem: if keys are distinct, the entries of a page tell the entry gone through by their keys, whatever is under them
+pub position-read : {K : Type 0} (O : Order K) (e : K × ℕ) (h : ℕ) (S : Store K) (es : List (K × ℕ)) →
+    storePosition (distinctKeys O .route e) h S es ≡ position (passesLower O e) es
+position-read O e h S es = position-map (readEntry S h) (passesLower O e) (passesLower O e) (λ x y. refl) es
 
 -- a removal from a store that does what the removal from the tree does: the entries that replace the entry are read as the tree's, `left`; the pages emptied
 -- are `out`, and have no entry; and only pages of the list `was`, those under the entry, changed
@@ -61,20 +70,20 @@ ifEmptied-other z p [] n = rw (ne-eqb z p n)
 ifEmptied-other z p (x ∷ xs) n = refl
 
 -- the first entry stays if a later one is replaced
-replaceAt-later : {K : Type 0} (i : ℕ) (g : K × ℕ → StoreRemoved K) (x : K × ℕ) (xs : List (K × ℕ)) (S : Store K) (o : Option (K × ℕ)) →
+replaceBy-later : {K : Type 0} (i : ℕ) (g : K × ℕ → StoreRemoved K) (x : K × ℕ) (xs : List (K × ℕ)) (S : Store K) (o : Option (K × ℕ)) →
     let w : StoreRemoved K = storeReplaceAt i g xs S o in storeReplaceAt (suc i) g (x ∷ xs) S o ≡ (x ∷ w .0, w .1, w .2)
-replaceAt-later i g x xs S none = refl
-replaceAt-later i g x xs S (some y) = refl
+replaceBy-later i g x xs S none = refl
+replaceBy-later i g x xs S (some y) = refl
 
 module _ {K : Type 0} (route : Route K) where
   module _ (h : ℕ) (S : Store K) (g : K × ℕ → StoreRemoved K)
       (ok : (c : K × ℕ) → Distinct (pagesUnder h (readEntry S h c)) →
       Removes h S (pagesUnder h (readEntry S h c)) (g c) (removeUnder route h (readEntry S h c)) (emptiedUnder route h (readEntry S h c))) where
-    replaceAt-removes : (i : ℕ) (es : List (K × ℕ)) → Distinct (pagesOf S h es) →
-        Removes h S (pagesOf S h es) (storeReplaceAt i g es S (memberAt i es)) (replaceAt i (removeUnder route h) (map (readEntry S h) es))
+    replaceBy-removes : (i : ℕ) (es : List (K × ℕ)) → Distinct (pagesOf S h es) →
+        Removes h S (pagesOf S h es) (storeReplaceAt i g es S (memberAt i es)) (replaceBy i (removeUnder route h) (map (readEntry S h) es))
         (numbersAt i (emptiedUnder route h) (map (readEntry S h) es))
-    replaceAt-removes i [] d = record { entries = refl; gone = refl; empty = λ z o. absurd (omega arith); rest = λ z o. refl }
-    replaceAt-removes zero (x ∷ xs) d =
+    replaceBy-removes i [] d = record { entries = refl; gone = refl; empty = λ z o. absurd (omega arith); rest = λ z o. refl }
+    replaceBy-removes zero (x ∷ xs) d =
         let here : List ℕ = pagesUnder h (readEntry S h x) in
         let parts : (z : ℕ) → occ z (here ++ pagesOf S h xs) ≡ occ z here + occ z (pagesOf S h xs) = λ z. occ-append z here (pagesOf S h xs) in
         let c : Removes h S here (g x) (removeUnder route h (readEntry S h x)) (emptiedUnder route h (readEntry S h x)) =
@@ -87,13 +96,13 @@ module _ {K : Type 0} (route : Route K) where
           empty = c .empty;
           rest = λ z o. c .rest z (omega (arith, parts z));
         }
-    replaceAt-removes (suc i) (x ∷ xs) d =
+    replaceBy-removes (suc i) (x ∷ xs) d =
         let here : List ℕ = pagesUnder h (readEntry S h x) in
         let parts : (z : ℕ) → occ z (here ++ pagesOf S h xs) ≡ occ z here + occ z (pagesOf S h xs) = λ z. occ-append z here (pagesOf S h xs) in
         let w : StoreRemoved K = storeReplaceAt i g xs S (memberAt i xs) in
-        let c : Removes h S (pagesOf S h xs) w (replaceAt i (removeUnder route h) (map (readEntry S h) xs))
-        (numbersAt i (emptiedUnder route h) (map (readEntry S h) xs)) = replaceAt-removes i xs (λ z. omega (arith, d z, parts z)) in
-        rw (replaceAt-later i g x xs S (memberAt i xs)) (record {
+        let c : Removes h S (pagesOf S h xs) w (replaceBy i (removeUnder route h) (map (readEntry S h) xs))
+        (numbersAt i (emptiedUnder route h) (map (readEntry S h) xs)) = replaceBy-removes i xs (λ z. omega (arith, d z, parts z)) in
+        rw (replaceBy-later i g x xs S (memberAt i xs)) (record {
           entries = ap₂ (λ (a : Child K h) (b : List (Entry K h)). (x .0, a) ∷ b)
               (frame S (w .2) h x (λ z l. c .rest z (omega (arith, d z, parts z)))) (c .entries);
           gone = c .gone;
@@ -101,7 +110,7 @@ module _ {K : Type 0} (route : Route K) where
           rest = λ z o. c .rest z (omega (arith, parts z));
         })
 
-  -- the removal among the entries es of a page, h levels above the leaves' entries
+  -- a removal among the entries es of a page, with h levels under them, that does what the removal from the tree does
   abbrev RemovesAmong : (h : ℕ) → Store K → List (K × ℕ) → StoreRemoved K → Type 0
   RemovesAmong h S es w =
       Removes h S (pagesOf S h es) w (removeEntries route h (map (readEntry S h) es)) (emptiedAmong route h (map (readEntry S h) es))
@@ -148,14 +157,14 @@ module _ {K : Type 0} (route : Route K) where
   removeUnder-removes (suc h) S e d =
       let es : List (K × ℕ) = S (e .1) in
       keep-removes h (e .1) (e .0) S es (storeRemoveAmong route h (λ c. storeRemoveUnder route h c S) es S) d
-      (replaceAt-removes h S (λ c. storeRemoveUnder route h c S) (removeUnder-removes h S) (storeRoute route h S es) es (λ z. omega (arith, d z)))
+      (replaceBy-removes h S (λ c. storeRemoveUnder route h c S) (removeUnder-removes h S) (storePosition route h S es) es (λ z. omega (arith, d z)))
 
   module _ (h p : ℕ) (S : Store K) (once : Distinct (pages h (readTree S h p))) where
     abbrev left : StoreRemoved K
     left = storeRemoveAmong route h (λ c. storeRemoveUnder route h c S) (S p) S
 
     root-removes : RemovesAmong h S (S p) left
-    root-removes = replaceAt-removes h S (λ c. storeRemoveUnder route h c S) (removeUnder-removes h S) (storeRoute route h S (S p)) (S p)
+    root-removes = replaceBy-removes h S (λ c. storeRemoveUnder route h c S) (removeUnder-removes h S) (storePosition route h S (S p)) (S p)
         (λ z. omega (arith, once z))
 
     -- Theorem: the store after a removal is read as the tree after the removal

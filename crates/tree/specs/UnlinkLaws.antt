@@ -91,7 +91,7 @@ module _ (none : ℕ) (l : Links) (p : ℕ) where
             (c .2),
       )
 
-  -- the right link of page x before p's level goes on: p's right neighbour if p stands next, else as before
+  -- the right link of a page x that stands before p on the level: p's right neighbour if p is the next page, else as before
   right-again : (x : ℕ) (xs : List ℕ) → Distinct (x ∷ xs) → 0 < occ p xs → l .right x ≡ headOr none xs → Linked none l x xs →
       unlink p l .right x ≡ headOr none (without p xs)
   right-again x [] d i e c = absurd (omega arith)

@@ -5,12 +5,14 @@ use mathlib.Core.Bool.{true, false}
 use mathlib.Core.List.{List}
 use lib.ListN.{length}
 use Rattle.basis.specs.Tests.{passed, failed}
-use Rattle.page.specs.Header.{keyLength, headerGood}
+use Rattle.page.specs.Header.{maxLevels, keyLength, headerGood}
 use Rattle.page.specs.HeaderLaws.{good-header}
 use Rattle.sound.specs.Rule.{pagesGood, unmarked}
 use Rattle.sound.specs.Accepted.{audit-sound, audit-unsound}
-use Rattle.lookup.specs.Lookup.{lookupRule}
-use Rattle.insert.specs.Calls.{hasControl, isFound}
+use Rattle.insert.specs.declared.Path.{Path}
+use Rattle.insert.specs.Room.{pathTo, noRoom}
+use Rattle.insert.specs.RoomLaws.{path-levels, path-run}
+use Rattle.insert.specs.Calls.{hasControl}
 use Rattle.insert.specs.CallLaws.{refused-24, refused-27, refused-32, refused-28, refused-25, refused-29, refused-30, accepted-pair}
 use borrow.Author.Needs.{needs}
 use Rattle.insert.proofs.insert.Statement.{statement}
@@ -32,18 +34,21 @@ at-clean c = c .before .before
 abbrev at-number : tie.After-audit → tie.Else4
 at-number c = c .before .before
 
-abbrev at-sound : tie.After-is-found → tie.Else5
-at-sound c = c .before .before .before
+abbrev at-sound : tie.After-path-to → tie.Else5
+at-sound c = c .before .before
 
 abbrev at-absent : tie.After-no-room → tie.Else6
 at-absent c = c .before .before
 
--- the buffer and the key of the call, from behind the test of the key's bytes
+-- the buffer, the key and the record number of the call, from behind the test of the key's bytes
 abbrev index : tie.Else3 → List ℕ
 index c = start (at-header (at-length c)) .args .index .now
 
 abbrev key : tie.Else3 → List ℕ
 key c = start (at-header (at-length c)) .args .key .now
+
+abbrev record-number : tie.Else3 → ℕ
+record-number c = start (at-header (at-length c)) .args .number .0
 
 -- the tests that were passed: the header is good, the key has its length and no control byte, the index is sound
 header : (c : tie.Else1) → headerGood (start c .args .index .now) ≡ true
@@ -60,10 +65,14 @@ sound c =
     let audited = c .before in
     audit-sound _ (header (at-header (at-length (at-clean (at-number audited))))) (audited .audit .ensures) (c .if5 .left)
 
--- what the lookup said of the key
-looked-up : (c : tie.After-is-found)
-    → let free = at-clean (at-number (at-sound c .before)) in c .is-found .result ≡ isFound (lookupRule (index free) (key free))
-looked-up c = c .is-found .ensures ∙ ap isFound (c .before .lookup .ensures)
+-- the path is the rule's: so is what its leaf says of the key, and whether there is room
+present : (c : tie.After-path-to) → let free = at-clean (at-number (at-sound c .before)) in
+    c .path-to .result .present ≡ pathTo (keyLength (index free)) (index free) (key free) (record-number free) .present
+present c = ap (λ (path : Path). path .present) (c .path-to .ensures)
+
+full : (c : tie.After-no-room) → let free = at-clean (at-number (at-sound (at-absent c .before) .before)) in
+    c .no-room .result ≡ noRoom (index free) (pathTo (keyLength (index free)) (index free) (key free) (record-number free))
+full c = c .no-room .ensures ∙ ap (noRoom _) (at-absent c .before .path-to .ensures)
 
 header-good-requires : tie.Need-header-good-requires
 header-good-requires c κs = search needs
@@ -118,11 +127,10 @@ returns-5 c =
     let good = header (at-header measured) in
     refused-25 _ _ _ good (same measured) (clean free) (number .if4 .left) (audit-unsound _ good (c .before .audit .ensures) (c .if5 .taken))
 
-lookup-requires : tie.Need-lookup-requires
-lookup-requires c κs = search needs
-
-is-found-requires : tie.Need-is-found-requires
-is-found-requires c κs = search needs
+path-to-requires : tie.Need-path-to-requires
+path-to-requires c κs =
+    let measured = at-length (at-clean (at-number (c .before .before))) in
+    (header (at-header measured), same measured)
 
 same-length-6 : tie.Need-same-length-6
 same-length-6 c = search needs
@@ -133,13 +141,14 @@ returns-6 c =
     let number = at-number (audited .before) in
     let free = at-clean number in
     let measured = at-length free in
-    let found = sym (looked-up (c .before)) ∙ c .if6 .taken in
+    let found = sym (present (c .before)) ∙ c .if6 .taken in
     refused-29 _ _ _ (header (at-header measured)) (same measured) (clean free) (number .if4 .left) (sound audited) found
 
 no-room-requires : tie.Need-no-room-requires
 no-room-requires c κs =
-    let measured = at-length (at-clean (at-number (at-sound (c .before .before) .before))) in
-    (header (at-header measured), same measured)
+    let path = c .before .before in
+    let measured = at-length (at-clean (at-number (at-sound path .before))) in
+    (header (at-header measured), rw (path .path-to .ensures) (path-levels _ maxLevels _ _ _), rw (path .path-to .ensures) (path-run _ maxLevels _ _ _))
 
 same-length-7 : tie.Need-same-length-7
 same-length-7 c = search needs
@@ -151,9 +160,9 @@ returns-7 c =
     let number = at-number (audited .before) in
     let free = at-clean number in
     let measured = at-length free in
-    let not-found = sym (looked-up (absent .before)) ∙ absent .if6 .left in
-    let full = sym (c .before .no-room .ensures) ∙ c .if7 .taken in
-    refused-30 _ _ _ (header (at-header measured)) (same measured) (clean free) (number .if4 .left) (sound audited) not-found full
+    let not-found = sym (present (absent .before)) ∙ absent .if6 .left in
+    let no-room = sym (full (c .before)) ∙ c .if7 .taken in
+    refused-30 _ _ _ (header (at-header measured)) (same measured) (clean free) (number .if4 .left) (sound audited) not-found no-room
 
 insert-pair-requires : tie.Need-insert-pair-requires
 insert-pair-requires c κs =
@@ -173,8 +182,8 @@ returns-8 c =
     let number = at-number (audited .before) in
     let free = at-clean number in
     let measured = at-length free in
-    let not-found = sym (looked-up (absent .before)) ∙ absent .if6 .left in
-    let not-full = sym (room .before .no-room .ensures) ∙ room .if7 .left in
+    let not-found = sym (present (absent .before)) ∙ absent .if6 .left in
+    let not-full = sym (full (room .before)) ∙ room .if7 .left in
     accepted-pair _ _ _ (header (at-header measured)) (same measured) (clean free) (number .if4 .left) (sound audited) not-found not-full
     (inserted .insert-pair .ensures)
 
@@ -196,8 +205,7 @@ insert-spec =
     audit-requires
     same-length-5
     returns-5
-    lookup-requires
-    is-found-requires
+    path-to-requires
     same-length-6
     returns-6
     no-room-requires
