@@ -9,7 +9,12 @@ use lib.ListN.{length}
 use lib.Dec.{eqb}
 use borrow.Author.Tests.{eq-eqb}
 use Rattle.basis.specs.Tests.{either}
+use Rattle.octets.specs.Store.{window}
+use Rattle.tree.specs.AwayLaws.{Clear}
 use Rattle.tree.specs.Clauses.{AllLinked}
+use Rattle.tree.specs.FreeChain.{Chained}
+use Rattle.tree.specs.FreeChainLaws.{chained-same}
+use Rattle.tree.specs.FreeList.{joinFree}
 use Rattle.tree.specs.InsertLevels.{levelUnder-pages}
 use Rattle.tree.specs.InsertPages.{Distinct}
 use Rattle.tree.specs.LinkLaws.{linked-same}
@@ -17,7 +22,7 @@ use Rattle.tree.specs.Lists.{NonEmpty, occ}
 use Rattle.tree.specs.ListLaws.{occ-here}
 use Rattle.tree.specs.Keeping.{Route}
 use Rattle.tree.specs.Removal.{Shrunk, shrunkPages, remove, emptied}
-use Rattle.tree.specs.RemovalLinks.{remove-all-linked}
+use Rattle.tree.specs.RemovalLinks.{remove-all-linked, remove-away, remove-clear}
 use Rattle.tree.specs.RemovalPages.{remove-pages}
 use Rattle.tree.specs.Store.{Store, readTree}
 use Rattle.tree.specs.StoreInsertLaws.{pagesOf}
@@ -26,19 +31,20 @@ use Rattle.tree.specs.StoreRemoval.{StoreRemoved, heightLeft, storeRemoveAmong,
 use Rattle.tree.specs.StoreRemovalLaws.{remove-read, emptied-read}
 use Rattle.tree.specs.Tree.{Tree, level, pages}
 use Rattle.tree.specs.Unlinking.{unlinkAll}
-use Rattle.page.specs.Header.{maxLevels, noPage, rootOffset, isPage}
-use Rattle.page.specs.Page.{capacity}
+use Rattle.page.specs.Header.{maxLevels, noPage, pageSize, rootOffset, freePointer, isPage}
+use Rattle.page.specs.Page.{rightAt, capacity}
+use Rattle.page.specs.ReadingLaws.{right-same}
 use Rattle.layout.specs.Layout.{newPage}
 use Rattle.layout.specs.Entries.{stored}
 use Rattle.sound.specs.Sound.{linksOf}
 use Rattle.remove.specs.Removal.{Outcome, kept, emptied as emptiedPage, bad, Step, removeUnder, atRoot, removedBuffer}
 use Rattle.layout_laws.specs.EntryLaws.{entriesIn, page-of, length-new}
 use Rattle.layout_laws.specs.HeadLaws.{Head, SameHeader, new-head, new-header}
-use Rattle.layout_laws.specs.FreeLaws.{SameButFree, same-header, same-free, new-bytes}
+use Rattle.layout_laws.specs.FreeLaws.{SameButFree, freePage, same-header, same-free, new-bytes}
 use Rattle.remove_laws.specs.EntryLists.{routeOf}
 use Rattle.remove_laws.specs.RemoveEntries.{OutcomeIs, StepIs, emptiedFrom, storeAfter, Filled, filled-page, filled-pages, removes, root-is}
 use Rattle.remove_laws.specs.RemoveHeads.{Plain, Heads, emptied-apart, remove-heads}
-use Rattle.remove_laws.specs.RemoveFree.{Freed, freed-but, remove-free}
+use Rattle.remove_laws.specs.RemoveFree.{joined-chained, Freed, freed-but, remove-free}
 
 -- an index with h levels under its root before a removal: every page of it has entries, and none is reached twice
 pub record Ready (k : ℕ) (b : List ℕ) (h : ℕ) : Type 0 where
@@ -180,3 +186,31 @@ module _ (k : ℕ) (key b : List ℕ) (h : ℕ) (r : Ready k b h) where
           → AllLinked noPage (linksOf c) (remove route h treeIn .0) (remove route h treeIn .1)
       lone-links {c} e v = subst (λ (t : Shrunk (List ℕ)). AllLinked noPage (linksOf c) (t .0) (t .1)) (lone-tree e)
           (λ j l. either (eqb j 0) (λ u. rw u (v .leftIs, v .rightIs, tt)) (λ u. rw u tt))
+
+  -- a page of the buffer outside the tree; page numbers are multiples of 512, so none has the number that names no page
+  abbrev pub Outside : ℕ → Type 0
+  Outside z = (isPage (length b) z ≡ true) × (occ z (pages h treeIn) ≡ 0) × (z ≡ noPage → ⊥)
+
+  module _ (proper : occ noPage (pages h treeIn) ≡ 0) (linked : AllLinked noPage (linksOf b) h treeIn) where
+    emptied-is : emptied route h treeIn ≡ gone
+    emptied-is = sym (emptied-read route h (rootOffset b) (entriesIn k b) (r .once))
+
+    clear : Clear (linksOf b) gone
+    clear = rw (← emptied-is) (remove-clear route noPage [] h treeIn (r .once) proper (linksOf b) linked)
+
+    -- Theorem: a page outside the tree keeps its bytes
+    pub outside-after : (z : ℕ) → Outside z → window (removedBuffer k b key) z pageSize ≡ window b z pageSize
+    outside-after z o =
+        free-after .others z (o .0) (o .1) (rw (← emptied-is) (remove-away route noPage [] h treeIn (r .once) proper (linksOf b) linked z (o .2) (o .1)))
+
+    -- Theorem: an emptied page is "zero but for bytes 8-11"
+    pub forms-after : (z : ℕ) → 0 < occ z gone → window (removedBuffer k b key) z pageSize ≡ freePage (rightAt (removedBuffer k b key) z)
+    forms-after z o = free-after .forms clear z o
+
+    -- Theorem: the free list after the removal is the emptied pages, each at the head, before the old free list, whose pages are outside the tree
+    pub chain-after : (free : List ℕ) → ((z : ℕ) → 0 < occ z free → Outside z) → Chained noPage (rightAt b) (freePointer b) free
+        → Chained noPage (rightAt (removedBuffer k b key)) (freePointer (removedBuffer k b key)) (joinFree gone free)
+    chain-after free outside c =
+        let b′ = removedBuffer k b key in
+        joined-chained (rightAt b′) (freePointer b) gone free (freePointer b′) (free-after .joined clear)
+        (chained-same noPage (rightAt b) (rightAt b′) (freePointer b) free (λ z o. right-same b′ b z (outside-after z (outside z o))) c)
