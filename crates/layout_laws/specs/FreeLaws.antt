@@ -22,10 +22,11 @@ use Rattle.page.specs.Reading.{Item}
 use Rattle.page.specs.ReadingLaws.{window-in-page}
 use Rattle.layout.specs.Layout.{encode, area, withEntries, newPage, linkBeyond, linkBefore, unlinked, freed}
 use Rattle.layout.specs.ItemLaws.{Fit}
-use Rattle.layout_laws.specs.EntryLaws.{entriesIn, page-of, window-other, length-area, entries-links, entries-header, entries-new, entries-beyond, length-beyond, length-new}
+use Rattle.layout_laws.specs.EntryLaws.{entriesIn, page-of, window-other, length-area, entries-links, entries-header, entries-new}
+use Rattle.layout_laws.specs.EntryLaws.{entries-beyond, length-beyond, length-new}
 use Rattle.layout_laws.specs.HeadLaws.{Head, SameHeader, put-right, put-outside, put-header, new-head, beyond-head, beyond-header}
 
-pub length-before : (b : List ℕ) (l q : ℕ) → length (linkBefore b l q) ≡ length b
+length-before : (b : List ℕ) (l q : ℕ) → length (linkBefore b l q) ≡ length b
 unfolding linkBefore
 length-before b l q = either (isPage (length b) l) (λ e. rw e (length-put b (l + 8) (toLe32 q))) (λ e. rw e)
 

@@ -16,7 +16,8 @@ use Rattle.layout.specs.Entries.{stored, chosenAt, withoutEntry}
 use Rattle.layout.specs.Visits.{visitOf}
 use Rattle.layout.specs.VisitLaws.{visited-bad, visited-leaf, visited-child}
 use Rattle.layout.specs.FitLaws.{length-without}
-use Rattle.remove.specs.Removal.{Outcome as RuleOutcome, kept, emptied, bad, Step, step, leftWith, takeOut, afterChild, removeUnder, atRoot, removedBuffer}
+use Rattle.remove.specs.Removal.{Outcome as RuleOutcome, kept, emptied, bad, Step, step}
+use Rattle.remove.specs.Removal.{leftWith, takeOut, afterChild, removeUnder, atRoot, removedBuffer}
 use Rattle.remove.specs.Answers.{outcomeOf, EmptiedPage}
 use Rattle.remove.specs.declared.Outcome.{Outcome}
 use Rattle.remove.specs.declared.Outcome.the-variants.{Kept, Emptied, Bad}

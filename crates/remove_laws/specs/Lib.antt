@@ -10,3 +10,5 @@ pub mod RemoveHeads
 pub mod RemoveFree
 -- Laws: the whole buffer after a removal
 pub mod RemoveBuffer
+-- Laws: a removal from a sound index
+pub mod SoundRemoval

@@ -101,14 +101,11 @@ module _ (k : ℕ) (key b : List ℕ) (h : ℕ) (r : Ready k b h) where
   entries-after = root-is k (stored key 0) b (rootOffset b) last left root-page last-is
 
   -- Theorem: the buffer is read as the tree after the removal
-  pub tree-after : _≡_ {A = Shrunk (List ℕ)} (
-    storeRemove route h (rootOffset b) (entriesIn k b) .0,
-    readTree (entriesIn k (removedBuffer k b key)) (storeRemove route h (rootOffset b) (entriesIn k b) .0) (rootOffset b),
-  )
-      (remove route h treeIn)
+  pub tree-after : let height : ℕ = storeRemove route h (rootOffset b) (entriesIn k b) .0 in
+      _≡_ {A = Shrunk (List ℕ)} (height, readTree (entriesIn k (removedBuffer k b key)) height (rootOffset b)) (remove route h treeIn)
   tree-after =
-      ap (λ (T : Store (List ℕ)). (storeRemove route h (rootOffset b) (entriesIn k b) .0, readTree T (storeRemove route h (rootOffset b) (entriesIn k b) .0) (rootOffset b)))
-      entries-after
+      let height : ℕ = storeRemove route h (rootOffset b) (entriesIn k b) .0 in
+      ap (λ (T : Store (List ℕ)). (height, readTree T height (rootOffset b))) entries-after
       ∙ remove-read route h (rootOffset b) (entriesIn k b) (r .once)
 
   pub length-after : length (removedBuffer k b key) ≡ length b
@@ -131,7 +128,8 @@ module _ (k : ℕ) (key b : List ℕ) (h : ℕ) (r : Ready k b h) where
   pub free-after : Freed (pages h treeIn) gone b (removedBuffer k b key)
   free-after = by-root (λ c. Freed (pages h treeIn) gone b c) (λ s. last-free)
       (λ e. freed-but k (pages h treeIn) b gone (last .after) lone (rootOffset b) (last-is .as-long)
-      (occ-here (rootOffset b) (pagesOf (entriesIn k b) h (entriesIn k b (rootOffset b)))) (emptied-apart k (stored key 0) b (r .plain) h (rootOffset b) (r .once))
+      (occ-here (rootOffset b) (pagesOf (entriesIn k b) h (entriesIn k b (rootOffset b))))
+      (emptied-apart k (stored key 0) b (r .plain) h (rootOffset b) (r .once))
       (same-free (last .after) lone lone-header)
       (λ z t ne. new-bytes k (last .after) (rootOffset b) [] root-there tt (omega arith) z (page-of z (last-is .as-long) t) ne 3 noPage noPage) last-free)
 
@@ -142,8 +140,9 @@ module _ (k : ℕ) (key b : List ℕ) (h : ℕ) (r : Ready k b h) where
 
   pub root-after : left (rootOffset b) ≡ [] → Head (removedBuffer k b key) (rootOffset b) 3 0 noPage noPage
   root-after = by-root (λ c. left (rootOffset b) ≡ [] → Head c (rootOffset b) 3 0 noPage noPage) (λ s e. absurd (rw e at s))
-      (λ e t. rw (eq-eqb (rootOffset b) (rootOffset b) refl)
-      at (new-head k (last .after) (rootOffset b) 3 noPage noPage [] root-there (omega arith) (omega arith) (omega arith) tt (omega arith) (rootOffset b) root-there))
+      (λ e t. let p = rootOffset b in
+      rw (eq-eqb p p refl)
+      at (new-head k (last .after) p 3 noPage noPage [] root-there (omega arith) (omega arith) (omega arith) tt (omega arith) p root-there))
 
   -- the tree that is left if the root has no entry left: the root alone
   lone-tree : left (rootOffset b) ≡ [] → _≡_ {A = Shrunk (List ℕ)} (0, (rootOffset b, [])) (remove route h treeIn)
@@ -173,7 +172,9 @@ module _ (k : ℕ) (key b : List ℕ) (h : ℕ) (r : Ready k b h) where
       SameHeads c = (NonEmpty (left (rootOffset b)) → Heads k gone b c) × (left (rootOffset b) ≡ [] → Head c (rootOffset b) 3 0 noPage noPage)
 
       after : AllLinked noPage (unlinkAll gone (linksOf b)) (remove route h treeIn .0) (remove route h treeIn .1)
-      after = rw (emptied-read route h (rootOffset b) (entriesIn k b) (r .once)) (remove-all-linked route noPage [] h treeIn (r .once) proper (linksOf b) linked)
+      after =
+          rw (emptied-read route h (rootOffset b) (entriesIn k b) (r .once))
+          (remove-all-linked route noPage [] h treeIn (r .once) proper (linksOf b) linked)
 
       kept-links : {c : List ℕ} → NonEmpty (left (rootOffset b)) → Heads k gone b c
           → AllLinked noPage (linksOf c) (remove route h treeIn .0) (remove route h treeIn .1)

@@ -99,7 +99,7 @@ module _ (item : Item) (S : Store (List ℕ)) where
 
 module _ (k : ℕ) where
   -- entry i goes from the page at p
-  pub taken : (b : List ℕ) (p i : ℕ) → isPage (length b) p ≡ true → i < length (itemsIn k b p)
+  taken : (b : List ℕ) (p i : ℕ) → isPage (length b) p ≡ true → i < length (itemsIn k b p)
       → StepIs k (length b) p (takeOut k b p i) (write (entriesIn k b) p (replaceBy i (λ x. []) (entriesIn k b p)))
   unfolding takeOut
   taken b p i tp l =
@@ -122,7 +122,7 @@ module _ (k : ℕ) where
   -- the page at p after the step at its child at c, which is under entry i and the key a, and which left the store T
   module _ (b : List ℕ) (p i c : ℕ) (a : List ℕ) (T : Store (List ℕ)) (tp : isPage (length b) p ≡ true) (tc : isPage (length b) c ≡ true)
       (left : entriesIn k b ≡ T) (l : i < length (T p)) (e : entryAt i (T p) ≡ (a, c)) where
-    abbrev pub storeAbove : Store (List ℕ)
+    abbrev storeAbove : Store (List ℕ)
     storeAbove = write T p (replaceBy i (λ x. entryUnlessEmptied a c (T c)) (T p))
 
     above-kept : NonEmpty (T c) → storeAbove ≡ T
@@ -182,7 +182,9 @@ module _ (k : ℕ) (b : List ℕ) (z : ℕ) where
   pub filled-pages : (h p : ℕ) → Filled k h b p → 0 < occ z (pages h (readTree (entriesIn k b) h p)) → isPage (length b) z ≡ true
   filled-pages zero p f o = either (eqb z p)
       (λ e. rw (eqb-true z p e) (f .0 .0))
-      (λ e. absurd (omega (arith, no-pages (entriesIn k b) (entriesIn k b p), occ-behind z p (pagesOf (entriesIn k b) zero (entriesIn k b p)) (eqb-false z p e) o)))
+      (λ e. let S = entriesIn k b in
+      let rest : 0 < occ z (pagesOf S zero (S p)) = occ-behind z p (pagesOf S zero (S p)) (eqb-false z p e) o in
+      absurd (omega (arith, no-pages S (S p))))
     where
       no-pages : (S : Store (List ℕ)) (es : List (List ℕ × ℕ)) → occ z (pagesOf S zero es) ≡ 0
       no-pages S [] = refl

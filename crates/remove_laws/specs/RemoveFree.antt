@@ -61,7 +61,8 @@ joined-last next head (p ∷ ps) end c j e = (j .0, joined-last next p ps end c 
 pub joined-chained : (next : ℕ → ℕ) (head : ℕ) (ps free : List ℕ) (end : ℕ) → Joined next head ps end → Chained noPage next head free
     → Chained noPage next end (joinFree ps free)
 joined-chained next head [] free end j c = rw j c
-joined-chained next head (p ∷ ps) free end j c = joined-chained next p ps (p ∷ free) end (j .1) (chained-join noPage next next head p free (j .0) (λ z o. refl) c)
+joined-chained next head (p ∷ ps) free end j c =
+    joined-chained next p ps (p ∷ free) end (j .1) (chained-join noPage next next head p free (j .0) (λ z o. refl) c)
 
 -- b′ is b after the pages ps, which are pages of the list qs, were unlinked and freed, and entries of pages of qs changed
 pub record Freed (qs ps b b′ : List ℕ) : Type 0 where
