@@ -17,9 +17,7 @@ use Rattle.tree.specs.Pairs.{find, byKey, has, present}
 use Rattle.tree.specs.PairLaws.{present-has}
 use Rattle.page.specs.Header.{keyLength, headerGood}
 use Rattle.page.specs.KeyOrder.{bytesOrder}
-use Rattle.lookup.specs.Lookup.{lookupRule}
-use Rattle.lookup.specs.declared.Answer.{Answer as Looked}
-use Rattle.lookup.specs.declared.Answer.the-variants as looked
+use Rattle.lookup.specs.Lookup.{lookupRule, isFound}
 use Rattle.lookup_laws.specs.FoundLaws.{answerOf, lookup-list}
 use Rattle.sound.specs.Sound.{Sound}
 use Rattle.sound.specs.Rule.{pagesGood, unmarked}
@@ -123,12 +121,6 @@ leaf-exactly b key r s = (
   (λ e. has-key key r (leafPairs b s) (sym (present-is b key r s) ∙ e)),
   (λ h. present-is b key r s ∙ key-has key r (leafPairs b s) h),
 )
-
--- lookup found the key
-abbrev pub isFound : Looked → Bool
-isFound (looked.Found r pages) = true
-isFound (looked.Absent pages) = false
-isFound (looked.Refused n) = false
 
 found-present : (key : List ℕ) (n : ℕ) (es : Pairs) → isFound (answerOf (find bytesOrder key es) n) ≡ present (byKey bytesOrder) (key, 0) es
 found-present key n [] = refl

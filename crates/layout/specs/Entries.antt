@@ -54,4 +54,4 @@ rootEntries k b key p q = (lastKey key (itemsIn k b p), toBe32 p) ∷ (lastKey k
 
 -- "The entry goes: the later entries of the page move up": entries without entry i
 abbrev pub withoutEntry : ℕ → List Item → List Item
-withoutEntry i es = take i es ++ drop (suc i) es
+withoutEntry i es = replaceAt i [] es
