@@ -67,6 +67,7 @@ refusals! {
     30 NoRoom "no room"
     31 IndexAndTableDiffer "index and table differ"
     32 ControlByte "control byte in the key"
+    33 KeyAbsent "key absent"
 }
 
 impl Refusal {
