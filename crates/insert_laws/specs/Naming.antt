@@ -24,15 +24,13 @@ use Rattle.layout.specs.Supply.{supplyFrom, supplyOf, takePage, supplyAfter}
 use Rattle.layout_laws.specs.OtherPages.{SameButLeft, unchanged, right-kept}
 use Rattle.layout_laws.specs.SupplyLaws.{Storable}
 use Rattle.insert_laws.specs.TakenPages.{taken, leftOf, taken-all, left-head, takes-next}
+-- a page of the buffer whose offset has four bytes, for those who cite a law of it
+pub use Rattle.layout_laws.specs.EntryLaws.{Usable}
 
 -- the pages that a supply gives: `name n` is the page that is taken after n others, `left n` the supply after n pages
 pub record Naming : Type 0 where
   pub name : ℕ → ℕ
   pub left : ℕ → Supply
-
--- a page of the buffer whose offset has four bytes
-abbrev pub Usable : List ℕ → ℕ → Type 0
-Usable b p = (isPage (length b) p ≡ true) × (p < 2 ^ 32)
 
 -- after n pages were taken, the pages not taken yet have the bytes in b′ that they have in b, but for their left links
 abbrev pub Untaken : Naming → ℕ → List ℕ → List ℕ → Type 0

@@ -1,8 +1,8 @@
 -- Rules: a page's entries after a pair goes in, a page below was split or an entry goes. Cited by insertion, by removal and by the rule for refusal 30.
-use Prim.Native.Nat.{ℕ, suc}
+use Prim.Native.Nat.{ℕ}
 use mathlib.Core.Bool.{cond, not, _&&_}
-use mathlib.Core.List.{List, [], _∷_, _++_}
-use lib.ListN.{length, getD, take, drop}
+use mathlib.Core.List.{List, [], _∷_}
+use lib.ListN.{length, getD}
 use lib.Dec.{ltb}
 use Rattle.octets.specs.Bytes.{be32, toBe32}
 use Rattle.octets.specs.Store.{put}
@@ -54,4 +54,4 @@ rootEntries k b key p q = (lastKey key (itemsIn k b p), toBe32 p) ∷ (lastKey k
 
 -- "The entry goes: the later entries of the page move up": entries without entry i
 abbrev pub withoutEntry : ℕ → List Item → List Item
-withoutEntry i es = take i es ++ drop (suc i) es
+withoutEntry i es = replaceAt i [] es

@@ -20,6 +20,7 @@ ghost use Rattle.layout.specs.Layout.{itemsIn, encode, withEntries, newP
 ghost use Rattle.layout.specs.Entries.{stored, chosenAt, childOf, replaced, raised, twoFor, rootEntries, withoutEntry};
 ghost use Rattle.layout.specs.Supply.{supplyOf, takePage, supplyAfter, withSupply};
 ghost use Rattle.layout.specs.Given.{Given, Over, Listed, Lasts, roomSize};
+ghost use Rattle.layout.specs.Visits.{visitOf};
 
 // The room in which the entries of a page are gathered: the entry area and one more entry with the longest key.
 pub const ROOM: usize = Page::ENTRY_AREA + page::MAX_KEY + 4;
@@ -34,6 +35,13 @@ pub struct Supply {
 pub struct Taken {
     pub page: PageOffset,
     pub rest: Supply,
+}
+
+// What the way of a key meets at an offset: no page, a leaf, or a page above it: the number of the entry that the key goes under, and its child.
+pub enum Visit {
+    Bad,
+    Leaf,
+    Child(usize, PageOffset),
 }
 
 // Gives a page the attribute `attribute`.
@@ -326,6 +334,22 @@ pub fn child_of(index: &[u8], k: usize, page: PageOffset, i: usize) -> PageOffse
         return PageOffset(0);
     }
     page::child(index, k, page, i)
+}
+
+// What the way of `key` with its record number meets at an offset.
+pub fn visit_page(index: &[u8], key: &[u8], number: RecordNumber, page: PageOffset) -> Visit
+    requires { ⌜ length (now key) ≤ maxKey ⌝ }
+    ensures { λ r. ⌜ r ≡ visitOf (now (index .entry)) (stored (now (key .entry)) (number .0)) (page .0) ⌝ }
+{
+    if !page::is_page(index.len(), page) {
+        return Visit::Bad;
+    }
+    let head = Page::at(index, page);
+    if page::is_leaf(head.attribute) {
+        return Visit::Leaf;
+    }
+    let i = chosen_entry(index, key, number, page);
+    Visit::Child(i, child_of(index, key.len(), page, i))
 }
 
 // Whether a leaf has `key`: the first entry at or above it is an equal one. Keys are distinct, so the record number is not looked at.

@@ -117,7 +117,7 @@ module _ (b : List ℕ) (x : ℕ) (tx : isPage (length b) x ≡ true) (z : ℕ) 
         rightIs = le32-same c1 b (z + 8) (kept (x + 4) (toLe32 l) (z + 8) 4 (omega arith) (omega arith) (omega arith) (omega arith) (λ e. inr (omega arith)));
       }
 
-  put-right : (r : ℕ) → r < 2 ^ 32 → Head (put b (x + 8) (toLe32 r)) z (attributeAt b z) (countAt b z) (leftAt b z) (cond (eqb z x) r (rightAt b z))
+  pub put-right : (r : ℕ) → r < 2 ^ 32 → Head (put b (x + 8) (toLe32 r)) z (attributeAt b z) (countAt b z) (leftAt b z) (cond (eqb z x) r (rightAt b z))
   put-right r h =
       let n = length-toLe32 r in
       let c1 = put b (x + 8) (toLe32 r) in
@@ -134,7 +134,7 @@ module _ (b : List ℕ) (x : ℕ) (tx : isPage (length b) x ≡ true) (z : ℕ) 
 abbrev pub SameHeader : List ℕ → List ℕ → Type 0
 SameHeader b b′ = window b′ 0 pageSize ≡ window b 0 pageSize
 
-put-outside : (b : List ℕ) (at : ℕ) (ys : List ℕ) → pageSize ≤ at → SameHeader b (put b at ys)
+pub put-outside : (b : List ℕ) (at : ℕ) (ys : List ℕ) → pageSize ≤ at → SameHeader b (put b at ys)
 put-outside b at ys h = window-before b at ys 0 pageSize (omega arith)
 
 -- a store into the file's header keeps the head of every page
@@ -223,13 +223,13 @@ module _ (k : ℕ) where
 
   -- the page beyond, at r, gets q for its left neighbour
   module _ (b : List ℕ) (r q : ℕ) (q32 : q < 2 ^ 32) where
-    beyond-head : (z : ℕ) → isPage (length b) z ≡ true → Head (linkBeyond b r q) z (attributeAt b z) (countAt b z) (cond (eqb z r) q (leftAt b z)) (rightAt b z)
+    pub beyond-head : (z : ℕ) → isPage (length b) z ≡ true → Head (linkBeyond b r q) z (attributeAt b z) (countAt b z) (cond (eqb z r) q (leftAt b z)) (rightAt b z)
     unfolding linkBeyond
     beyond-head z tz = either (isPage (length b) r)
         (λ e. rw e (put-left b r e z tz q q32))
         (λ e. rw (e, ne-eqb z r (λ u. contra tz (ap (isPage (length b)) u ∙ e))) (record { attributeIs = refl; countIs = refl; leftIs = refl; rightIs = refl }))
 
-    beyond-header : SameHeader b (linkBeyond b r q)
+    pub beyond-header : SameHeader b (linkBeyond b r q)
     unfolding linkBeyond
     beyond-header = either (isPage (length b) r)
         (λ e. rw e (put-outside b (r + 4) (toLe32 q) (omega (arith, is-page (length b) r e .low))))

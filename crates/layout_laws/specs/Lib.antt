@@ -8,3 +8,5 @@ pub mod HeadLaws
 pub mod OtherPages
 -- Laws: a supply that is stored in the header
 pub mod SupplyLaws
+-- Laws: every page and the header after a page is unlinked from its neighbours, and after it joins the free list
+pub mod FreeLaws

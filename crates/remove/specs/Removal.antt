@@ -3,13 +3,12 @@ use Prim.Native.Nat.{ℕ, zero, suc}
 use mathlib.Core.Bool.{cond}
 use mathlib.Core.List.{List, [], _∷_}
 use lib.ListN.{length}
-use lib.Dec.{leb, ltb}
-use Rattle.page.specs.Header.{maxLevels, noPage, rootOffset}
+use lib.Dec.{ltb}
+use Rattle.page.specs.Header.{maxLevels, noPage, rootOffset, isPage}
 use Rattle.page.specs.Page.{attributeAt, leafBit}
 use Rattle.page.specs.Reading.{Item}
 use Rattle.layout.specs.Layout.{itemsIn, withEntries, newPage, unlinked, freed}
-use Rattle.layout.specs.Entries.{chosen, childOf, withoutEntry}
-use Rattle.layout.specs.Given.{chosenAt}
+use Rattle.layout.specs.Entries.{stored, chosenAt, childOf, withoutEntry}
 
 -- what a removal under a page leaves for the page above to do: nothing; or, the page being "emptied", to free it and to lose its entry. The third does not
 -- occur on a sound index with the key: it keeps the rule total
@@ -45,17 +44,17 @@ afterChild k b p i c kept = step b kept
 afterChild k b p i c emptied = takeOut k (freed (unlinked b c) c) p i
 afterChild k b p i c bad = step b bad
 
--- the key goes from under the page at p, with the levels left falling from 11: from the page if it is a leaf, else from under the child of the entry that
--- insertion goes through. A page has an entry, which does not fail on a sound index with the key
-unfoldable pub removeUnder : ℕ → ℕ → List ℕ → List ℕ → ℕ → Step
-removeUnder k zero b key p = step b bad
-removeUnder k (suc left) b key p =
+-- the entry e goes from under the page at p, with the levels left falling from 11: from the page if it is a leaf, else from under the child of the entry that
+-- an insertion of e goes through
+unfoldable pub removeUnder : ℕ → ℕ → List ℕ → Item → ℕ → Step
+removeUnder k zero b e p = step b bad
+removeUnder k (suc left) b e p =
     let es = itemsIn k b p in
-    let i = chosenAt key es in
-    let c = childOf (chosen key es) in
-    let below = removeUnder k left b key c in
+    let i = chosenAt e es in
+    let c = childOf i es in
+    let below = removeUnder k left b e c in
     let upper = afterChild k (below .after) p i c (below .outcome) in
-    cond (leb 1 (length es)) (cond (leafBit (attributeAt b p)) (takeOut k b p i) upper) (step b bad)
+    cond (isPage (length b) p) (cond (leafBit (attributeAt b p)) (takeOut k b p i) upper) (step b bad)
 
 -- the root at p after the removal under it: "If nothing is left, the root page itself becomes an empty leaf"
 abbrev pub atRoot : List ℕ → ℕ → Outcome → List ℕ
@@ -63,8 +62,8 @@ atRoot b p kept = b
 atRoot b p emptied = newPage b p 3 noPage noPage []
 atRoot b p bad = b
 
--- the buffer after a removal that is accepted
+-- the buffer after a removal that is accepted. Keys are distinct, so the record number that the route takes beside the key is not looked at: 0
 unfoldable pub removedBuffer : ℕ → List ℕ → List ℕ → List ℕ
 removedBuffer k b key =
-    let s = removeUnder k maxLevels b key (rootOffset b) in
+    let s = removeUnder k maxLevels b (stored key 0) (rootOffset b) in
     atRoot (s .after) (rootOffset b) (s .outcome)

@@ -1,13 +1,16 @@
 // Removal of a key.
-use page::Page;
+use layout::Visit;
 use page::PageOffset;
+use page::RecordNumber;
 ghost use mathlib.Core.Path.{_≡_};
 ghost use mathlib.Core.Bool.{Bool, true};
 ghost use Prim.Native.Nat.{ℕ, _≤_};
 ghost use lib.ListN.{length};
 ghost use Rattle.page.specs.Header.{maxKey, isPage, keyLength, headerGood};
+ghost use Rattle.layout.specs.Layout.{itemsIn};
+ghost use Rattle.layout.specs.Entries.{stored, chosenAt};
 ghost use Rattle.remove.specs.Removal.{step, takeOut, afterChild, removeUnder, atRoot, removedBuffer};
-ghost use Rattle.remove.specs.Answers.{outcomeOf, EmptiedPage, visitOf};
+ghost use Rattle.remove.specs.Answers.{outcomeOf, EmptiedPage};
 ghost use Rattle.remove.specs.Calls.{afterCall, removeRule};
 
 // What a removal answers.
@@ -21,13 +24,6 @@ pub enum Outcome {
     Kept,
     Emptied,
     Bad,
-}
-
-// What a removal meets at an offset: no page with entries; or a leaf, or a page above a child, with the number of the entry that the key leads to.
-pub enum Visit {
-    Bad,
-    Leaf(usize),
-    Child(usize, PageOffset),
 }
 
 // Takes entry `i` out of a page.
@@ -73,38 +69,38 @@ fn after_child(
     }
 }
 
-// What a removal meets at an offset.
-fn visit_page(index: &[u8], key: &[u8], page: PageOffset) -> Visit
-    requires { ⌜ length (now key) ≤ maxKey ⌝ }
-    ensures { λ r. ⌜ r ≡ visitOf (now (index .entry)) (now (key .entry)) (page .0) ⌝ }
+// Takes the entry that `key` leads to out of a leaf.
+fn remove_in_leaf(index: &mut [u8], key: &[u8], number: RecordNumber, page: PageOffset) -> Outcome
+    requires { ⌜ (length (now key) ≤ maxKey) × (isPage (length (now index)) (page .0) ≡ true) ⌝ }
+    ensures { λ r. ⌜ takeOut (length (now (key .entry))) (now (index .entry)) (page .0)
+        (chosenAt (stored (now (key .entry)) (number .0)) (itemsIn (length (now (key .entry))) (now (index .entry)) (page .0)))
+        ≡ step (now (index .exit)) (outcomeOf r) ⌝ }
 {
-    let count = layout::entry_count(index, key.len(), page);
-    if count == 0 {
-        return Visit::Bad;
-    }
-    let i = layout::chosen_entry(index, key, page, count);
-    let head = Page::at(index, page);
-    if page::is_leaf(head.attribute) {
-        return Visit::Leaf(i);
-    }
-    Visit::Child(i, page::child(index, key.len(), page, i))
+    let i = layout::chosen_entry(index, key, number, page);
+    take_out(index, key.len(), page, i)
 }
 
 // Removal under a page, with `levels` levels left.
-fn remove_under(index: &mut [u8], key: &[u8], page: PageOffset, levels: u32) -> Outcome
+fn remove_under(
+    index: &mut [u8],
+    key: &[u8],
+    number: RecordNumber,
+    page: PageOffset,
+    levels: u32,
+) -> Outcome
     requires { ⌜ length (now key) ≤ maxKey ⌝ }
-    ensures { λ r. ⌜ removeUnder (length (now (key .entry))) levels (now (index .entry)) (now (key .entry)) (page .0)
+    ensures { λ r. ⌜ removeUnder (length (now (key .entry))) levels (now (index .entry)) (stored (now (key .entry)) (number .0)) (page .0)
         ≡ step (now (index .exit)) (outcomeOf r) ⌝ }
 {
     if levels == 0 {
         return Outcome::Bad;
     }
-    let visit = visit_page(index, key, page);
+    let visit = layout::visit_page(index, key, number, page);
     match visit {
         Visit::Bad => Outcome::Bad,
-        Visit::Leaf(i) => take_out(index, key.len(), page, i),
+        Visit::Leaf => remove_in_leaf(index, key, number, page),
         Visit::Child(i, child) => {
-            let below = remove_under(index, key, child, levels - 1);
+            let below = remove_under(index, key, number, child, levels - 1);
             after_child(index, key.len(), page, i, child, below)
         }
     }
@@ -125,13 +121,13 @@ fn at_root(index: &mut [u8], root: PageOffset, below: Outcome)
     }
 }
 
-// Removes a key from an index that has it.
+// Removes a key from an index that has it. Keys are distinct, so the record number 0 is not looked at.
 fn remove_key(index: &mut [u8], key: &[u8])
     requires { ⌜ (headerGood (now index) ≡ true) × (length (now key) ≡ keyLength (now index)) ⌝ }
     ensures { λ _. ⌜ now (index .exit) ≡ removedBuffer (keyLength (now (index .entry))) (now (index .entry)) (now (key .entry)) ⌝ }
 {
     let root = page::root(index);
-    let below = remove_under(index, key, root, page::MAX_LEVELS);
+    let below = remove_under(index, key, RecordNumber(0), root, page::MAX_LEVELS);
     at_root(index, root, below);
 }
 

@@ -23,7 +23,7 @@ module _ (none : ℕ) (next : ℕ → ℕ) where
   chained-head head (p ∷ ps) c = c .0
 
   -- a list stays the free list if its pages name what they named
-  chained-same : (next′ : ℕ → ℕ) (head : ℕ) (ps : List ℕ) → ((z : ℕ) → 0 < occ z ps → next′ z ≡ next z) → Chained none next head ps →
+  pub chained-same : (next′ : ℕ → ℕ) (head : ℕ) (ps : List ℕ) → ((z : ℕ) → 0 < occ z ps → next′ z ≡ next z) → Chained none next head ps →
       Chained none next′ head ps
   chained-same next′ head [] s c = c
   chained-same next′ head (p ∷ ps) s c =

@@ -89,6 +89,8 @@ pub mod InsertLinks
 pub mod Unlinking
 -- Laws: levels are linked again after pages are unlinked
 pub mod UnlinkLaws
+-- Laws: which pages are left alone if pages are unlinked
+pub mod AwayLaws
 -- Laws: the pages of each level after a removal
 pub mod RemovalLevels
 -- Laws: all levels are linked again after a removal

@@ -12,6 +12,7 @@ use Rattle.tree.specs.Removal.{remove, emptied}
 use Rattle.tree.specs.RemovalPages.{remove-pages}
 use Rattle.tree.specs.RemovalLevels.{page-onLevel, remove-level}
 use Rattle.tree.specs.Unlinking.{unlinkAll, withoutAll}
+use Rattle.tree.specs.AwayLaws.{Away, Clear, away-rows, clear-rows}
 use Rattle.tree.specs.UnlinkLaws.{Rows, OnRow, rows-unlinkAll}
 
 -- `a` is any key, which stands above the root t to make it an entry
@@ -43,3 +44,13 @@ module _ {K : Type 0} (route : Route K) (none : ℕ) (a : K) (h : ℕ) (t : Tree
       let w : (m : ℕ) × (m ≤ h) × (level j (remove route h t .0) (remove route h t .1) ≡ withoutAll (emptied route h t) (level m h t)) =
       remove-level route h t once j lj in
       rw (w .2) (rows .linked (w .0) (w .1))
+
+  -- Theorem: a page outside the tree is no neighbour of an emptied page at the time that it is unlinked, nor is a page emptied before
+  pub remove-away : (l : Links) → AllLinked none l h t → (z : ℕ) → (z ≡ none → ⊥) → occ z (pages h t) ≡ 0 → Away z l (emptied route h t)
+  remove-away l c z n o =
+      away-rows none h z n (emptied route h t) l (λ j. level j h t) (λ x. omega (arith, once x, remove-pages route x h t)) emptied-onRow (level-rows l c)
+      (λ j. omega (arith, o, levelUnder-pages z j (suc h) (a, t)))
+
+  pub remove-clear : (l : Links) → AllLinked none l h t → Clear l (emptied route h t)
+  remove-clear l c =
+      clear-rows none h (emptied route h t) l (λ j. level j h t) (λ x. omega (arith, once x, remove-pages route x h t)) emptied-onRow (level-rows l c)

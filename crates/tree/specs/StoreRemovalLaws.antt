@@ -12,16 +12,24 @@ use Rattle.tree.specs.Lists.{occ}
 use Rattle.tree.specs.ListLaws.{occ-append, occ-head, occ-differ, occ-not-head}
 use Rattle.tree.specs.Tree.{Child, Entry, Tree, pagesUnder, pages}
 use Rattle.tree.specs.InsertPages.{Distinct}
-use Rattle.tree.specs.Keeping.{Route}
+use Rattle.tree.specs.Order.{Order}
+use Rattle.tree.specs.Position.{position, passesLower}
+use Rattle.tree.specs.Keeping.{Route, distinctKeys}
+use Rattle.tree.specs.RouteLaws.{position-map}
 use Rattle.tree.specs.Removal.{replaceBy, numbersAt, unlessEmptied, ifEmptied, Shrunk, settle}
 use Rattle.tree.specs.Removal.{removeUnder, removeEntries, remove, emptiedUnder, emptiedAmong, emptied}
 use Rattle.tree.specs.RemovalPages.{removeEntries-pages}
 use Rattle.tree.specs.Store.{Store, readEntry, readTree}
 use Rattle.tree.specs.StoreSteps.{write}
-use Rattle.tree.specs.StoreLaws.{frame, frame-entries, write-here, write-other, map-read-zero}
+use Rattle.tree.specs.StoreLaws.{frame, frame-entries, write-here, write-other}
 use Rattle.tree.specs.StoreInsertLaws.{pagesOf, page-read}
 use Rattle.tree.specs.StoreRemoval.{StoreRemoved, memberAt, entryUnlessEmptied, storeKeep, heightLeft, readShrunk}
 use Rattle.tree.specs.StoreRemoval.{storeReplaceAt, storePosition, storeRemoveAmong, storeRemoveUnder, storeRemove}
+
+-- Theorem: if keys are distinct, the entries of a page tell the entry gone through by their keys, whatever is under them
+pub position-read : {K : Type 0} (O : Order K) (e : K × ℕ) (h : ℕ) (S : Store K) (es : List (K × ℕ)) →
+    storePosition (distinctKeys O .route e) h S es ≡ position (passesLower O e) es
+position-read O e h S es = position-map (readEntry S h) (passesLower O e) (passesLower O e) (λ x y. refl) es
 
 -- a removal from a store that does what the removal from the tree does: the entries that replace the entry are read as the tree's, `left`; the pages emptied
 -- are `out`, and have no entry; and only pages of the list `was`, those under the entry, changed

@@ -60,13 +60,13 @@ withoutAll-both (p ∷ ps) qs l = withoutAll-both ps qs (without p l)
 
 module _ (none : ℕ) (l : Links) (p : ℕ) where
   -- a page that is not on p's level is not p's right neighbour, nor its left one
-  not-right : (z prev : ℕ) (ps : List ℕ) → (z ≡ none → ⊥) → occ z ps ≡ 0 → 0 < occ p ps → Linked none l prev ps → z ≡ l .right p → ⊥
+  pub not-right : (z prev : ℕ) (ps : List ℕ) → (z ≡ none → ⊥) → occ z ps ≡ 0 → 0 < occ p ps → Linked none l prev ps → z ≡ l .right p → ⊥
   not-right z prev [] n o i c e = omega arith
   not-right z prev (x ∷ xs) n o i c e = either (eqb p x)
       (λ u. headOr-differ none z xs (omega arith) n (e ∙ (ap (l .right) (eqb-true p x u) ∙ c .1)))
       (λ u. not-right z x xs n (omega arith) (occ-behind p x xs (eqb-false p x u) i) (c .2) e)
 
-  not-left : (z prev : ℕ) (ps : List ℕ) → (z ≡ prev → ⊥) → occ z ps ≡ 0 → 0 < occ p ps → Linked none l prev ps → z ≡ l .left p → ⊥
+  pub not-left : (z prev : ℕ) (ps : List ℕ) → (z ≡ prev → ⊥) → occ z ps ≡ 0 → 0 < occ p ps → Linked none l prev ps → z ≡ l .left p → ⊥
   not-left z prev [] n o i c e = omega arith
   not-left z prev (x ∷ xs) n o i c e = either (eqb p x)
       (λ u. n (e ∙ (ap (l .left) (eqb-true p x u) ∙ c .0)))
@@ -159,7 +159,7 @@ OnRow h row z = (m : ℕ) × (m ≤ h) × (0 < occ z (row m))
 
 module _ (none h : ℕ) where
   -- the rows without one page
-  rows-unlink : (l : Links) (row : ℕ → List ℕ) (p : ℕ) → OnRow h row p → Rows none h l row →
+  pub rows-unlink : (l : Links) (row : ℕ → List ℕ) (p : ℕ) → OnRow h row p → Rows none h l row →
       Rows none h (unlink p l) (λ j. without p (row j))
   rows-unlink l row p on r = record {
     linked = λ j lj. either (eqb j (on .0))

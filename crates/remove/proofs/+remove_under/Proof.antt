@@ -5,19 +5,20 @@ use native.Mathlib.Omega.{arith}
 use borrow.Author.Needs.{needs}
 use borrow.Fn.Kinds.{In}
 use borrow.Fn.PlainCycle.{Measures, is, falls, and}
+use Rattle.layout.specs.VisitLaws.{visited-leaf}
 use Rattle.remove.specs.Removal.{removeUnder}
 use Rattle.remove.specs.StepLaws.{under-bad, under-leaf, under-child, emptied-fits}
 use Rattle.remove.proofs.remove_under.Reads as remove-under
 use Rattle.remove.proofs.remove_under.Kinds as remove-under-kinds
 use Rattle.remove.proofs.+remove_under.Lts-remove_under as remove-under-lts
 use Rattle.remove.proofs.after_child.Reads as after-child-reads
-use Rattle.remove.proofs.take_out.Reads as take-out-reads
-use Rattle.remove.proofs.visit_page.Reads as visit-page-reads
+use Rattle.remove.proofs.remove_in_leaf.Reads as remove-in-leaf-reads
+use Rattle.layout.proofs.visit_page.Reads as visit-page-reads
 use Rattle.remove.proofs.+remove_under.{statement}
 use Rattle.remove.proofs.+remove_under.Tie.{close}
 
 abbrev μ-remove-under : Measures 2 remove-under-kinds.ps ℕ
-μ-remove-under κs a = a .1 .1 .1 .0
+μ-remove-under κs a = a .1 .1 .1 .1 .0
 
 abbrev remove-under-at : ℕ → In 2 remove-under-kinds.ps
 remove-under-at t = and 2 remove-under-kinds.ps (is 2 remove-under-kinds.ps μ-remove-under t) remove-under.Pre
@@ -30,8 +31,8 @@ abbrev claims : ℕ → remove-under-lts.Claims
 claims t = (
   visit-page-reads.Asked,
   visit-page-reads.Learnt,
-  take-out-reads.Asked,
-  take-out-reads.Learnt,
+  remove-in-leaf-reads.Asked,
+  remove-in-leaf-reads.Learnt,
   remove-under-below t,
   remove-under.Post,
   after-child-reads.Asked,
@@ -46,10 +47,10 @@ abbrev Visited : ℕ → Type 0
 Visited t = remove-under-lts.After-visit-page (claims t) (remove-under-at t) remove-under.Post
 
 abbrev MetLeaf : ℕ → Type 0
-MetLeaf t = remove-under-lts.After-visit (claims t) (remove-under-at t) remove-under.Post
+MetLeaf t = remove-under-lts.After-enum-told2 (claims t) (remove-under-at t) remove-under.Post
 
 abbrev MetChild : ℕ → Type 0
-MetChild t = remove-under-lts.After-visit2 (claims t) (remove-under-at t) remove-under.Post
+MetChild t = remove-under-lts.After-visit (claims t) (remove-under-at t) remove-under.Post
 
 -- from the visit back to the start, and from what it met back to it
 abbrev start : (t : ℕ) → Visited t → Start t
@@ -77,14 +78,17 @@ remove-under-visit-page-requires t c κs =
 remove-under-enum-told : (t : ℕ) → remove-under-lts.Need-enum-told (claims t) (remove-under-at t) remove-under.Post
 remove-under-enum-told t c = search needs
 
+remove-under-enum-told-2 : (t : ℕ) → remove-under-lts.Need-enum-told-2 (claims t) (remove-under-at t) remove-under.Post
+remove-under-enum-told-2 t c = search needs
+
+remove-under-remove-in-leaf-requires : (t : ℕ) → remove-under-lts.Need-remove-in-leaf-requires (claims t) (remove-under-at t) remove-under.Post
+remove-under-remove-in-leaf-requires t c κs =
+    let met = c .before in
+    let visited = leaf-visit t met in
+    (start t visited .pre .1, visited-leaf _ _ _ (sym (met .enum-told2 .given .1) ∙ visited .visit-page .ensures) .0)
+
 remove-under-enum-known-visit : (t : ℕ) → remove-under-lts.Need-enum-known-visit (claims t) (remove-under-at t) remove-under.Post
 remove-under-enum-known-visit t c = search needs
-
-remove-under-take-out-requires : (t : ℕ) → remove-under-lts.Need-take-out-requires (claims t) (remove-under-at t) remove-under.Post
-remove-under-take-out-requires t c κs = start t (leaf-visit t (c .before .before)) .pre .1
-
-remove-under-enum-known-visit-2 : (t : ℕ) → remove-under-lts.Need-enum-known-visit-2 (claims t) (remove-under-at t) remove-under.Post
-remove-under-enum-known-visit-2 t c = search needs
 
 remove-under-sub-remove-under : (t : ℕ) → remove-under-lts.Need-sub-remove-under (claims t) (remove-under-at t) remove-under.Post
 remove-under-sub-remove-under t c = search needs
@@ -111,14 +115,14 @@ remove-under-returns-2 t c =
     under-bad _ _ _ _ (levels-left t visited) (sym (c .enum-told .given .1) ∙ visited .visit-page .ensures)
 
 remove-under-same-length-2 : (t : ℕ) → remove-under-lts.Need-same-length-2 (claims t) (remove-under-at t) remove-under.Post
-remove-under-same-length-2 t c = c .before .before .take-out .kept .0
+remove-under-same-length-2 t c = c .before .before .remove-in-leaf .kept .0
 
 remove-under-returns-3 : (t : ℕ) → remove-under-lts.Need-returns-3 (claims t) (remove-under-at t) remove-under.Post
 remove-under-returns-3 t c =
-    let taken = c .before .before in
-    let met = taken .before .before .before in
+    let removed = c .before .before in
+    let met = removed .before .before in
     let visited = leaf-visit t met in
-    under-leaf _ _ _ _ _ (levels-left t visited) (sym (met .visit .given .1) ∙ visited .visit-page .ensures) ∙ taken .take-out .ensures
+    under-leaf _ _ _ _ (levels-left t visited) (sym (met .enum-told2 .given .1) ∙ visited .visit-page .ensures) ∙ removed .remove-in-leaf .ensures
 
 remove-under-same-length-3 : (t : ℕ) → remove-under-lts.Need-same-length-3 (claims t) (remove-under-at t) remove-under.Post
 remove-under-same-length-3 t c =
@@ -132,7 +136,7 @@ remove-under-returns-4 t c =
     let returned = finished .before .before .before .before in
     let met = returned .before .before .before in
     let visited = child-visit t met in
-    under-child _ _ _ _ _ _ (levels-left t visited) (sym (met .visit2 .given .1) ∙ visited .visit-page .ensures) (returned .remove-under .ensures)
+    under-child _ _ _ _ _ _ (levels-left t visited) (sym (met .visit .given .1) ∙ visited .visit-page .ensures) (returned .remove-under .ensures)
     ∙ finished .after-child .ensures
 
 pub +remove-under-spec : {M : Type 1} → statement M
@@ -142,9 +146,9 @@ pub +remove-under-spec : {M : Type 1} → statement M
     (remove-under-returns t)
     (remove-under-visit-page-requires t)
     (remove-under-enum-told t)
+    (remove-under-enum-told-2 t)
+    (remove-under-remove-in-leaf-requires t)
     (remove-under-enum-known-visit t)
-    (remove-under-take-out-requires t)
-    (remove-under-enum-known-visit-2 t)
     (remove-under-sub-remove-under t)
     (remove-under-remove-under-requires t)
     (remove-under-after-child-requires t)

@@ -56,7 +56,7 @@ slice-aggregate-gather-without c = search needs
 gather-without-requires : tie.Need-gather-without-requires
 gather-without-requires c κs =
     let tested = c .before .before in
-    (counted tested, inside tested, search needs)
+    (counted tested, omega (arith, inside tested), search needs)
 
 array-share-prefix-room : tie.Need-array-share-prefix-room
 array-share-prefix-room c =
