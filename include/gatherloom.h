@@ -137,7 +137,8 @@ uint32_t gl_table_lay_out(uint8_t *buffer, size_t buffer_len, const gl_field_ent
 /* Appends one record, given as its bytes: the deletion byte and each field's text. 10 if table_len is above buffer_len, 1 to 10, 9 if the record has another
    length than the table's, 15, then for each field's text in order 16 to 18 (N), 20 (D and L) or 21 (M: its form alone, the memo file is not looked at), with
    blanks accepted; 30 if the new end mark would lie past the buffer or past 16,777,216 bytes. 0 sets all four: the two stores, the record with the new end
-   mark, and the count. The table's length is then record_place + record_length. */
+   mark, and the count. The table's length is then record_place + record_length. Each text is kept as it is given, also .150, which releases before K4's
+   (docs/CHANGES.md) refuse by 17 when they read it. */
 uint32_t gl_table_append(uint8_t *buffer, size_t buffer_len, size_t table_len, const uint8_t *record, size_t record_len,
                          uint64_t *record_place, uint64_t *record_length, uint64_t *count_place, uint64_t *count_length);
 
@@ -168,10 +169,11 @@ uint32_t gl_text_part(const uint8_t *table, size_t table_len, const uint8_t *mem
 
 /* ---- Numeric text. The text's, or the buffer's, length is the field's width. */
 
-/* 6, 256, 16, 17, 18. */
+/* 6, 256, 16, 17, 18. The zero before the point may be missing, as in -.150, unless all digits are zeros. */
 uint32_t gl_number_read(const uint8_t *text, size_t width, uint32_t decimals, int64_t *value);
 
-/* Fills the whole buffer, blanks on the left. 6, 18, 19. */
+/* Fills the whole buffer, blanks on the left. 6, 18, 19. The zero before the point is always written, so a value that was read may not fit where it stood: -150
+   with 3 decimals is read from -.150, and 19 in those five bytes. */
 uint32_t gl_number_write(uint8_t *text, size_t width, uint32_t decimals, int64_t value);
 
 /* ---- The index. */

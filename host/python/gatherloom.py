@@ -517,7 +517,10 @@ def extent(source):
 
 
 def read_number(text, decimals):
-    """The Decimal that the text of an N field stands for, None if it is all blanks. The text's length is the field's. Refusals 6, 16, 17, 18."""
+    """The Decimal that the text of an N field stands for, None if it is all blanks. The text's length is the field's. Refusals 6, 16, 17, 18.
+
+    The zero before the point may be missing, as in b'-.150', unless all digits are zeros.
+    """
     units = ctypes.c_int64()
     decimals = _unsigned(decimals, 'decimal count')
     if _accepted(_library.gl_number_read(*_lent(_bytes(text, 'numeric text')), decimals, ctypes.byref(units))) == EMPTY:
@@ -545,8 +548,9 @@ def _units(value, decimals):
 
 
 def write_number(value, width, decimals):
-    """The one text of a Decimal or an int in an N field of `width` bytes. Refusals 6, 18, 19.
+    """The written text of a Decimal or an int in an N field of `width` bytes. Refusals 6, 18, 19.
 
+    The zero before the point is always written, so the value of b'-.150' does not fit in its five bytes.
     Nothing is rounded: a value with more decimals is a ValueError. A float is a TypeError, since it seldom is the number that it is written as.
     """
     decimals = _unsigned(decimals, 'decimal count')

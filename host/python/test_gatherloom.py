@@ -436,6 +436,15 @@ class NumericText(TestCase):
         self.assertRaises(TypeError, read_number, '2150', 0)
         self.assertRaises(TypeError, read_number, b'2150', 0.0)
 
+    def test_dropped_zero(self):
+        self.assertEqual(str(read_number(b'    .150', 3)), '0.150')
+        self.assertEqual(str(read_number(b'-.150', 3)), '-0.150')
+        self.assertEqual(write_number(Decimal('-.150'), 6, 3), b'-0.150')
+        self.refused(19, write_number, Decimal('-.150'), 5, 3)
+        for text, decimals in (b' .000', 3), (b'-.000', 3), (b'+.150', 3), (b'  .15', 3), (b'.', 0), (b'.150', 0):
+            self.refused(17, read_number, text, decimals)
+        self.refused(16, read_number, b' ,150', 3)
+
     def test_writing(self):
         for value, width, decimals, text in (
             (Decimal('2.150'), 8, 3, b'   2.150'),

@@ -169,7 +169,20 @@ static void test_number_read(void)
     READS("+12", 0, 17, 0);
     READS("- 1", 0, 17, 0);
     READS("  -", 0, 17, 0);
-    READS(" .5", 1, 17, 0);
+    READS(" .5", 1, 0, 5);
+    READS("   .150", 3, 0, 150);
+    READS("-.150", 3, 0, -150);
+    READS(" .000", 3, 17, 0);
+    READS("-.000", 3, 17, 0);
+    READS("    .", 3, 17, 0);
+    READS(".", 0, 17, 0);
+    READS(".5", 0, 17, 0);
+    READS("+.150", 3, 17, 0);
+    READS("..150", 3, 17, 0);
+    READS("- .150", 3, 17, 0);
+    READS(" .15", 3, 6, 0);
+    READS(" .15,", 3, 16, 0);
+    READS("  -.999999999999999", 15, 0, -999999999999999);
     READS("1e3", 0, 17, 0);
     READS("x,y", 0, 16, 0);
     READS("", 0, 6, 0);
@@ -227,7 +240,7 @@ static void writes(size_t width, uint32_t decimals, int64_t value)
 
 static void test_number_write(void)
 {
-    static const int64_t values[] = {0, 1, -1, 9, 10, 99, 2150, -2150, 1000000, 123456789, -9999999999, 999999999999999999,
+    static const int64_t values[] = {0, 1, -1, 9, 10, 99, -150, 2150, -2150, 1000000, 123456789, -9999999999, 999999999999999999,
                                      -999999999999999999, 1000000000000000000, -1000000000000000000, INT64_MAX, INT64_MIN};
     for (size_t v = 0; v < sizeof values / sizeof *values; v++)
         for (size_t width = 0; width <= 22; width++)

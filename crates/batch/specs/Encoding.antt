@@ -7,7 +7,7 @@ use lib.Dec.{eqb, leb}
 use lib.ListN.{length}
 use Rattle.octets.specs.Bytes.{byteAt, le16, le32, toLe16, toLe32}
 use Rattle.octets.specs.Store.{window}
-use Rattle.tree.specs.Book.{Call, insertion, lookupOf}
+use Rattle.tree.specs.Book.{Call, insertion, removalOf, lookupOf}
 use Rattle.book.specs.Book.{Calls}
 
 -- of the call at an offset: its key, the offset past the key, and the offset past the call, four bytes further for kind 1
@@ -44,12 +44,14 @@ framed kind key number = kind ∷ (toLe16 (length key) ++ (key ++ number))
 abbrev pub callBytes : Call (List ℕ) → List ℕ
 callBytes (lookupOf key) = framed 0 key []
 callBytes (insertion key r) = framed 1 key (toLe32 r)
+callBytes (removalOf key) = framed 2 key []
 
 abbrev pub listBytes : Calls → List ℕ
 listBytes [] = []
 listBytes (c ∷ calls) = callBytes c ++ listBytes calls
 
--- a call that can be given as bytes: its key is shorter than 65,536 bytes, and its record number fits four bytes
+-- a call that can be given as bytes: its key is shorter than 65,536 bytes, and its record number fits four bytes. A removal is not read
 abbrev pub Encodable : Call (List ℕ) → Type 0
 Encodable (lookupOf key) = length key < 2 ^ 16
 Encodable (insertion key r) = (length key < 2 ^ 16) × (r < 2 ^ 32)
+Encodable (removalOf key) = ⊥

@@ -13,7 +13,7 @@ use Rattle.basis.specs.Tests.{either}
 use Rattle.octets.specs.Bytes.{byteAt, le16, le32, toLe16, toLe32}
 use Rattle.octets.specs.Store.{window}
 use Rattle.octets.specs.NumberLaws.{length-toLe32, le32-window, le32-toLe32}
-use Rattle.tree.specs.Book.{Call, insertion, lookupOf}
+use Rattle.tree.specs.Book.{Call, insertion, removalOf, lookupOf}
 use Rattle.book.specs.Book.{Calls}
 use Rattle.batch.specs.Encoding.{keyIn, keyEnd, callEnd, isCall, callAt, callsFrom, callsIn, framed, callBytes, listBytes, Encodable}
 use Rattle.batch.specs.EncodingLaws.{whole, no-head, lookup-there, insertion-there, calls-more, calls-none}
@@ -115,6 +115,7 @@ module _ (pre key post : List ℕ) (short : length key < 2 ^ 16) where
 there : (pre : List ℕ) (c : Call (List ℕ)) (post : List ℕ) → Encodable c → There (pre ++ (callBytes c ++ post)) (length pre) c (length (callBytes c))
 there pre (lookupOf key) post short = lookup-back pre key post short
 there pre (insertion key r) post e = insertion-back pre key post (e .0) r (e .1)
+there pre (removalOf key) post e = absurd e
 
 -- a list of calls behind other bytes
 list-back : (calls : Calls) → All Encodable calls → (pre : List ℕ) (f : ℕ) → length calls ≤ f → callsFrom f (pre ++ listBytes calls) (length pre) ≡ calls
@@ -132,6 +133,7 @@ list-back (c ∷ calls) a pre (suc f) h =
 call-long : (c : Call (List ℕ)) → 1 ≤ length (callBytes c)
 call-long (lookupOf key) = omega arith
 call-long (insertion key r) = omega arith
+call-long (removalOf key) = omega arith
 
 list-long : (calls : Calls) → length calls ≤ length (listBytes calls)
 list-long [] = omega arith

@@ -7,7 +7,7 @@ use mathlib.Core.Bool.{Bool, false, cond}
 use mathlib.Core.List.{List, [], _∷_}
 use lib.Dec.{eqb}
 use lib.ListN.{length, take}
-use Rattle.tree.specs.Book.{Call, insertion, lookupOf, Answer, refused, accepted, found, absent, KeyTests, isAccepted, noRooms, resultsOf, finalOf}
+use Rattle.tree.specs.Book.{Call, insertion, removalOf, lookupOf, Answer, refused, accepted, found, absent, KeyTests, isAccepted, noRooms, resultsOf, finalOf}
 use Rattle.tree.specs.Book.{bookAnswers, bookFinal}
 use Rattle.page.specs.Header.{keyLength}
 use Rattle.page.specs.KeyOrder.{bytesOrder}
@@ -40,14 +40,17 @@ lookupAnswer (looked.Refused n) = refused n
 -- a call on the buffer b: what it answers, the buffer that it leaves, and the rule for 30 on the index in b
 abbrev pub answerTo : Call (List ℕ) → List ℕ → Answer
 answerTo (insertion key r) b = insertionAnswer (insertRule b key r .answer)
+answerTo (removalOf key) b = refused 33
 answerTo (lookupOf key) b = lookupAnswer (lookupRule b key)
 
 abbrev pub bufferAfter : Call (List ℕ) → List ℕ → List ℕ
 bufferAfter (insertion key r) b = insertRule b key r .after
+bufferAfter (removalOf key) b = b
 bufferAfter (lookupOf key) b = b
 
 abbrev pub noRoomFor : Call (List ℕ) → List ℕ → Bool
 noRoomFor (insertion key r) b = noRoom b (pathTo (keyLength b) b key r)
+noRoomFor (removalOf key) b = false
 noRoomFor (lookupOf key) b = false
 
 -- a key has k bytes; 27 is for "a key not of k bytes"
@@ -58,9 +61,10 @@ fits k key = eqb (length key) k
 abbrev pub barcodes : ℕ → KeyTests (List ℕ)
 barcodes k = record { fits = fits k; barred = hasControl }
 
--- the record number of a call fits four bytes; its key may have any length
+-- the record number of a call fits four bytes; its key may have any length. No removal is among the calls
 abbrev pub FourBytes : Call (List ℕ) → Type 0
 FourBytes (insertion key r) = r < 2 ^ 32
+FourBytes (removalOf key) = ⊥
 FourBytes (lookupOf key) = Unit {0}
 
 -- a list of calls made from the buffer b on: its answers, and the buffer after the first n calls
@@ -86,12 +90,14 @@ pub record IndexHolds (b : List ℕ) (book : Pairs) : Type 0 where
 -- a lookup that finds its key has visited as many pages as the index has levels, "the pages from the root to a leaf, both counted"
 abbrev pub VisitsLevels : Call (List ℕ) → List ℕ → Type 0
 VisitsLevels (insertion key r) b = Unit {0}
+VisitsLevels (removalOf key) b = Unit {0}
 VisitsLevels (lookupOf key) b = (s : Sound b) (r : RecordNumber) (pages : ℕ) → lookupRule b key ≡ looked.Found r pages → pages ≡ s .height + 1
 
 -- an accepted insertion leaves the buffer that document 01's steps make, and a refused one leaves the buffer as it was
 abbrev pub LeavesBuffer : Call (List ℕ) → List ℕ → Type 0
 LeavesBuffer (insertion key r) b =
     bufferAfter (insertion key r) b ≡ cond (isAccepted (answerTo (insertion key r) b)) (insertedBuffer (keyLength b) b key r) b
+LeavesBuffer (removalOf key) b = Unit {0}
 LeavesBuffer (lookupOf key) b = Unit {0}
 
 -- P holds of each call of a list and the buffer lent to it

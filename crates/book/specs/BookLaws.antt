@@ -51,12 +51,12 @@ module _ (k size : ℕ) (two : 1 < capacity k) where
   claim : (calls : Calls) → All FourBytes calls → (b : List ℕ) → Kept k size b
       → BookClaim bytesOrder (barcodes k) answerTo bufferAfter (λ b. held (readIndex b)) noRoomFor calls b (held (readIndex b))
   claim = book-claim (keeping k size) two (barcodes k) readIndex answerTo bufferAfter noRoomFor (Kept k size) FourBytes
-      (λ b i. kept-sound k size b i) (λ c b o i. keeps k size b i c o) (λ c b o i. same-answer k size b i c)
+      (λ b i. kept-sound k size b i) (λ c b o i. keeps k size b i c o) (λ c b o i. same-answer k size b i c o)
       (λ c b o i. same-next k size b i c o) (λ c b o i. same-rule k size b i c)
 
   keeps-all : (calls : Calls) → All FourBytes calls → (b : List ℕ) → Kept k size b → Kept k size (finalOf bufferAfter calls b)
   keeps-all = list-keeps (keeping k size) two (barcodes k) readIndex answerTo bufferAfter noRoomFor (Kept k size) FourBytes
-      (λ b i. kept-sound k size b i) (λ c b o i. keeps k size b i c o) (λ c b o i. same-answer k size b i c)
+      (λ b i. kept-sound k size b i) (λ c b o i. keeps k size b i c o) (λ c b o i. same-answer k size b i c o)
       (λ c b o i. same-next k size b i c o) (λ c b o i. same-rule k size b i c)
 
   -- a list of calls on a kept buffer: the book begins at the index's own pairs

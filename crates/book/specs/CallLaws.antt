@@ -1,7 +1,7 @@
 -- Laws: one call of insertion or lookup on a buffer that holds a sound index is the theory's call on that index, and keeps it sound. Cited by `BookLaws`.
 -- Assumes nothing.
-use Prim.Native.Nat.{ℕ, _-_, _^_, _<_, min}
-use mathlib.Core.Path.{_≡_, refl, sym, ap, _∙_, subst}
+use Prim.Native.Nat.{ℕ, _-_, _/_, _^_, _<_, min}
+use mathlib.Core.Path.{_≡_, refl, sym, ap, ap₂, _∙_, subst}
 use mathlib.Core.Bool.{Bool, true, false, cond, not}
 use mathlib.Core.List.{List, []}
 use mathlib.Core.Option.{Option, none, some}
@@ -10,15 +10,21 @@ use lib.Dec.{eqb}
 use lib.ListN.{length}
 use borrow.Author.Tests.{eqb-true}
 use Rattle.basis.specs.Tests.{either, impossible}
-use Rattle.tree.specs.Book.{Call, insertion, lookupOf, accepted, absent, refusedIf, foundOrAbsent, isAccepted}
+use Rattle.tree.specs.Book.{Call, insertion, removalOf, lookupOf, accepted, absent, refusedIf, foundOrAbsent, isAccepted}
 use Rattle.tree.specs.Index.{Index, held, Setting, outOfRoom, noRoomFor as noRoomTo, answer, inserted, next}
+use Rattle.tree.specs.FreeChain.{chainFrom}
+use Rattle.tree.specs.FreeChainLaws.{chained-read}
 use Rattle.tree.specs.IndexLaws.{accepted-acceptable}
+use Rattle.tree.specs.IndexPages.{free-distinct, noPage-unused}
+use Rattle.tree.specs.Lists.{occ}
+use Rattle.tree.specs.PageCount.{pages-at-most}
 use Rattle.tree.specs.Pairs.{byKey, has}
 use Rattle.tree.specs.SoundIndex.{SoundIndex}
 use Rattle.tree.specs.Tree.{lookup, visited}
-use Rattle.page.specs.Header.{maxBytes, keyLength, headerGood}
-use Rattle.page.specs.HeaderLaws.{good-header}
+use Rattle.page.specs.Header.{maxBytes, pageSize, noPage, freePointer, fileSize, keyLength, headerGood}
+use Rattle.page.specs.HeaderLaws.{IsPage, is-page, good-header}
 use Rattle.page.specs.KeyOrder.{bytesOrder}
+use Rattle.page.specs.Page.{rightAt}
 use Rattle.page.specs.declared.RecordNumber.{RecordNumber}
 use Rattle.lookup.specs.Lookup.{lookupRule, answerPages}
 use Rattle.lookup.specs.declared.Answer.{Answer as Looked}
@@ -27,7 +33,7 @@ use Rattle.lookup_laws.specs.FoundLaws.{answerOf, lookup-tree, lookup-list, fou
 use Rattle.sound.specs.Accepted.{accepted as audit-accepts}
 use Rattle.sound.specs.Sound.{indexTree, Sound}
 use Rattle.sound.specs.Rule.{pagesGood, unmarked}
-use Rattle.sound.specs.IndexLaws.{indexOf, settingOf, sound-index}
+use Rattle.sound.specs.IndexLaws.{indexOf, settingOf, sound-index, once-page}
 use Rattle.insert.specs.Calls.{AfterCall, afterCall, hasControl, insertRule}
 use Rattle.insert.specs.Insertion.{insertedBuffer}
 use Rattle.insert.specs.Room.{pathTo, noRoom}
@@ -52,12 +58,28 @@ height-is : (b : List ℕ) (s : Sound b) → heightIn b ≡ s .height
 unfolding heightIn
 height-is b s = omega (arith, sound-levels b [] 0 s)
 
+-- the free list, read from the bytes: at most as many pages of it as the file has
+unfoldable pub freeIn : List ℕ → List ℕ
+freeIn b = chainFrom noPage (rightAt b) (fileSize b / pageSize) (freePointer b)
+
+free-is : (b : List ℕ) (s : Sound b) → freeIn b ≡ s .free
+unfolding freeIn
+free-is b s =
+    let g = good-header b (s .header) in
+    let i : Index (List ℕ) = indexOf b (s .height) (s .free) in
+    let once = sound-index b s (fileSize b) (omega arith) .pagesOnce in
+    let inside : (z : ℕ) → 0 < occ z (s .free) → IsPage (fileSize b) z = λ z o. is-page (fileSize b) z (once-page i once z (omega arith)) in
+    chained-read noPage (rightAt b) (fileSize b / pageSize) (freePointer b) (s .free) (omega (arith, noPage-unused i once))
+    (pages-at-most (fileSize b / pageSize) (s .free) (free-distinct i once)
+    (λ z o. let p = inside z o in (omega (arith, p .high, g .whole), p .whole)))
+    (s .freeList)
+
 -- the index that a buffer reads as
 abbrev pub readIndex : List ℕ → Index (List ℕ)
-readIndex b = indexOf b (heightIn b)
+readIndex b = indexOf b (heightIn b) (freeIn b)
 
-pub read-is : (b : List ℕ) (s : Sound b) → readIndex b ≡ indexOf b (s .height)
-read-is b s = ap (indexOf b) (height-is b s)
+pub read-is : (b : List ℕ) (s : Sound b) → readIndex b ≡ indexOf b (s .height) (s .free)
+read-is b s = ap₂ (indexOf b) (height-is b s) (free-is b s)
 
 -- the setting in which the theory keeps an index of key length k in a buffer of `size` bytes
 abbrev pub keeping : ℕ → ℕ → Setting (List ℕ)
@@ -124,6 +146,7 @@ unfolding insertRule refusals
 leaves-buffer (insertion key r) b =
     refusals-after b (insertedBuffer (keyLength b) b key r) (headerGood b) (eqb (length key) (keyLength b)) (hasControl key) (eqb r 0)
     (pagesGood b unmarked) (pathTo (keyLength b) b key r .present) (noRoom b (pathTo (keyLength b) b key r))
+leaves-buffer (removalOf key) b = tt
 leaves-buffer (lookupOf key) b = tt
 
 -- lookup's answer, by the record that was found
@@ -147,7 +170,7 @@ module _ (k size : ℕ) (b : List ℕ) (kept : Kept k size b) where
   s = kept .sound
 
   -- the theory's index in this buffer, and that it is sound there
-  same-index : readIndex b ≡ indexOf b (s .height)
+  same-index : readIndex b ≡ indexOf b (s .height) (s .free)
   same-index = read-is b s
 
   pub kept-sound : SoundIndex (keeping k size) (readIndex b)
@@ -155,7 +178,7 @@ module _ (k size : ℕ) (b : List ℕ) (kept : Kept k size b) where
       let g = good-header b (s .header) in
       let i = sound-index b s (min size maxBytes) (omega (arith, g .within, g .most, kept .as-long)) in
       subst (SoundIndex (keeping k size)) (sym same-index)
-      (subst (λ (n : ℕ). SoundIndex (settingOf n (min size maxBytes)) (indexOf b (s .height))) (kept .keyIs) i)
+      (subst (λ (n : ℕ). SoundIndex (settingOf n (min size maxBytes)) (indexOf b (s .height) (s .free))) (kept .keyIs) i)
 
   same-fit : (key : List ℕ) → eqb (length key) (keyLength b) ≡ fits k key
   same-fit key = ap (eqb (length key)) (kept .keyIs)
@@ -179,6 +202,7 @@ module _ (k size : ℕ) (b : List ℕ) (kept : Kept k size b) where
   -- Theorem: a lookup that finds its key has visited as many pages as the index has levels
   pub visits-levels : (c : Call (List ℕ)) → VisitsLevels c b
   visits-levels (insertion key r) = tt
+  visits-levels (removalOf key) = tt
   visits-levels (lookupOf key) = λ s′ r pages e. either (fits k key)
       (λ f.
       let long = eqb-true (length key) (keyLength b) (same-fit key ∙ f) in
@@ -190,8 +214,8 @@ module _ (k size : ℕ) (b : List ℕ) (kept : Kept k size b) where
   same-room : (key : List ℕ) (r : ℕ) → noRoom b (pathTo (keyLength b) b key r) ≡ outOfRoom (keeping k size) (key, r) (readIndex b)
   same-room key r =
       room-is b key r s
-      ∙ ap (λ (n : ℕ). outOfRoom (settingOf n (min (length b) maxBytes)) (key, r) (indexOf b (s .height))) (kept .keyIs)
-      ∙ ap (λ (n : ℕ). outOfRoom (keeping k n) (key, r) (indexOf b (s .height))) (kept .as-long)
+      ∙ ap (λ (n : ℕ). outOfRoom (settingOf n (min (length b) maxBytes)) (key, r) (indexOf b (s .height) (s .free))) (kept .keyIs)
+      ∙ ap (λ (n : ℕ). outOfRoom (keeping k n) (key, r) (indexOf b (s .height) (s .free))) (kept .as-long)
       ∙ ap (outOfRoom (keeping k size) (key, r)) (sym same-index)
 
   same-present : (key : List ℕ) (r : ℕ) → pathTo (keyLength b) b key r .present ≡ has (byKey bytesOrder) (key, r) (held (readIndex b))
@@ -205,12 +229,14 @@ module _ (k size : ℕ) (b : List ℕ) (kept : Kept k size b) where
       ∙ rw (same-fit key, same-room key r, same-present key r))
 
   -- Theorem: each call answers as the theory's call does, and is 30 by the theory's rule
-  pub same-answer : (c : Call (List ℕ)) → answerTo c b ≡ answer (keeping k size) (barcodes k) c (readIndex b)
-  same-answer (insertion key r) = insert-answers key r
-  same-answer (lookupOf key) = lookup-answers key
+  pub same-answer : (c : Call (List ℕ)) → FourBytes c → answerTo c b ≡ answer (keeping k size) (barcodes k) c (readIndex b)
+  same-answer (insertion key r) o = insert-answers key r
+  same-answer (removalOf key) o = absurd o
+  same-answer (lookupOf key) o = lookup-answers key
 
   pub same-rule : (c : Call (List ℕ)) → noRoomFor c b ≡ noRoomTo (keeping k size) c (readIndex b)
   same-rule (insertion key r) = same-room key r
+  same-rule (removalOf key) = refl
   same-rule (lookupOf key) = refl
 
   -- a refused insertion
@@ -247,8 +273,8 @@ module _ (k size : ℕ) (b : List ℕ) (kept : Kept k size b) where
     next-inserted =
         let i = insert-keeps-sound b key r accepts in
         read-is (insertedBuffer (keyLength b) b key r) (i .sound) ∙ i .index
-        ∙ ap (λ (n : ℕ). inserted (settingOf n (min (length b) maxBytes)) (key, r) (indexOf b (s .height))) (kept .keyIs)
-        ∙ ap (λ (n : ℕ). inserted (keeping k n) (key, r) (indexOf b (s .height))) (kept .as-long)
+        ∙ ap (λ (n : ℕ). inserted (settingOf n (min (length b) maxBytes)) (key, r) (indexOf b (s .height) (s .free))) (kept .keyIs)
+        ∙ ap (λ (n : ℕ). inserted (keeping k n) (key, r) (indexOf b (s .height) (s .free))) (kept .as-long)
         ∙ ap (inserted (keeping k size) (key, r)) (sym same-index)
 
   -- Theorem: each call keeps what `Kept` says, and the index after it is the theory's
@@ -256,7 +282,8 @@ module _ (k size : ℕ) (b : List ℕ) (kept : Kept k size b) where
   keeps (insertion key r) r32 = either (isAccepted (answerTo (insertion key r) b))
       (λ e. rw (after key r r32 e) (kept-inserted key r r32 e))
       (λ e. rw (stays key r e) kept)
-  keeps (lookupOf key) r32 = kept
+  keeps (removalOf key) o = absurd o
+  keeps (lookupOf key) o = kept
 
   pub same-next : (c : Call (List ℕ)) → FourBytes c → readIndex (bufferAfter c b) ≡ next (keeping k size) (barcodes k) c (readIndex b)
   same-next (insertion key r) r32 =
@@ -265,4 +292,5 @@ module _ (k size : ℕ) (b : List ℕ) (kept : Kept k size b) where
       either (isAccepted (answerTo (insertion key r) b))
       (λ e. ap readIndex (after key r r32 e) ∙ next-inserted key r r32 e ∙ rw (sym q ∙ e))
       (λ e. ap readIndex (stays key r e) ∙ rw (sym q ∙ e))
-  same-next (lookupOf key) r32 = refl
+  same-next (removalOf key) o = absurd o
+  same-next (lookupOf key) o = refl

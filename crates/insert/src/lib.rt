@@ -326,13 +326,14 @@ pub fn insert(index: &mut [u8], key: &[u8], number: RecordNumber) -> Insertion
         return Insertion::Refused(refusal::INDEX_HEADER);
     }
     let control = has_control(key);
+    let zero = number.0 == 0;
     if key.len() != page::key_length(index) {
         return Insertion::Refused(refusal::KEY_LENGTH);
     }
     if control {
         return Insertion::Refused(refusal::CONTROL_BYTE);
     }
-    if number.0 == 0 {
+    if zero {
         return Insertion::Refused(refusal::RECORD_NUMBER_ZERO);
     }
     if audit::audit(index) != 0 {

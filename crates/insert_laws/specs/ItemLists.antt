@@ -1,5 +1,5 @@
--- Laws: what is done to a list of stored entries is done to the list with their numbers, which the theory has: an entry is chosen, replaced, put in or looked for
--- by its key. Cited by the laws of insertion on bytes. Assumes nothing.
+-- Laws: what is done to a list of stored entries is done to the list with their numbers, which the theory has: an entry is chosen, put in or looked for by its
+-- key. Cited by the laws of insertion on bytes. Assumes nothing.
 use mathlib.Core.Path.{_≡_, refl, ap, _∙_}
 use mathlib.Core.List.{List, [], _∷_, map, append-nil}
 use Prim.Native.Nat.{ℕ, zero, suc, _<_}

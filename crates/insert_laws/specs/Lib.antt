@@ -16,6 +16,8 @@ pub mod InsertBuffer
 pub mod AttributeLaws
 -- Laws: a sound index read up to the buffer's length is the one read up to the file's
 pub mod SoundReading
+-- Laws: a page that stays free keeps its form
+pub mod FreePages
 -- Laws: the path of a key, and by it refusals 29 and 30 on bytes, are the theory's
 pub mod RoomLaws
 -- Laws: an insertion keeps an index sound

@@ -1,5 +1,5 @@
--- Laws: the pages that are taken from a supply, by how many were taken before, and the free list that n of them leave. Cited by the laws of the supply of an index.
--- Assumes nothing.
+-- Laws: the pages that are taken from a supply, by how many were taken before, and the free list that n of them leave. Cited by the laws of the supply of an
+-- index. Assumes nothing.
 use mathlib.Core.Path.{_≡_, refl, ap₂, _∙_}
 use mathlib.Core.Bool.{true, false}
 use mathlib.Core.List.{List, [], _∷_}

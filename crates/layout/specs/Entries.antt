@@ -35,8 +35,8 @@ childOf i es = be32 (itemOf i es .1) 0
 abbrev pub replaced : ℕ → (Item → List Item) → List Item → List Item
 replaced i f es = replaceAt i (f (itemOf i es)) es
 
--- insertion "raises each key above that is lower than the new key" (K1): if no page below it splits, the page at p changes only the key of entry i, the one gone
--- through, and only if the new key is above that key. A page without such an entry stays
+-- insertion "raises each key above that is lower than the new key" (K1): if no page below it splits, the page at p changes only the key of entry i, the one
+-- gone through, and only if the new key is above that key. A page without such an entry stays
 unfoldable pub raised : ℕ → List ℕ → List ℕ → ℕ → ℕ → List ℕ
 raised k b key p i =
     let es = itemsIn k b p in

@@ -76,7 +76,7 @@ last-get key x (y ∷ ys) = last-get (x .0) y ys
 
 -- the entry with a number, the last and a child, in a page
 module _ {b : List ℕ} {k p n : ℕ} (l : Listed b k p n) where
-  pub get-listed : (i : ℕ) → i < n → itemOf i (itemsIn k b p) ≡ itemAt k b p i
+  get-listed : (i : ℕ) → i < n → itemOf i (itemsIn k b p) ≡ itemAt k b p i
   get-listed i h = rw (listed l) (get-from k b p n 0 i ([], []) h ∙ ap (itemAt k b p) (zero-add i))
 
   pub last-listed : (key : List ℕ) → 1 ≤ n → keyAt b k p (n - 1) ≡ lastKey key (itemsIn k b p)

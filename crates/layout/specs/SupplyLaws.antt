@@ -1,5 +1,5 @@
--- Laws: for how many pages more a supply lasts, the page that is taken, and the supply after pages were taken one by one. Cited by the proofs of the functions and by the laws of
--- insertion. Assumes nothing.
+-- Laws: for how many pages more a supply lasts, the page that is taken, and the supply after pages were taken one by one. Cited by the proofs of the functions
+-- and by the laws of insertion. Assumes nothing.
 use Prim.Native.Nat.{ℕ, suc, _+_, _-_, _≤_, _<_}
 use mathlib.Core.Path.{_≡_, _∙_}
 use mathlib.Core.Bool.{true, false}

@@ -111,7 +111,8 @@ pub fn supply_of(index: &[u8]) -> Supply
     }
 }
 
-// Takes a page from a supply, before the page is written: the head of the free list, or else a page at the file's end. A head that is no page is taken for none.
+// Takes a page from a supply, before the page is written: the head of the free list, or else a page at the file's end. A head that is no page is taken for
+// none.
 pub fn take_page(index: &[u8], supply: Supply) -> Taken
     requires { ⌜ Lasts 1 supply ⌝ }
     ensures { λ r. ⌜ r ≡ takePage (now (index .entry)) supply ⌝ }
@@ -455,7 +456,8 @@ pub fn gather_pair(
 )
     requires { ⌜ Listed (now index) (length (now key)) (page .0) count × (roomSize ≤ length (now room)) ⌝ }
     ensures { λ _. ⌜ now (room .exit) ≡ put (now (room .entry)) 0
-        (encode (insertPair (byKey bytesOrder) (stored (now (key .entry)) (number .0)) (itemsIn (length (now (key .entry))) (now (index .entry)) (page .0)))) ⌝ }
+        (encode (insertPair (byKey bytesOrder) (stored (now (key .entry)) (number .0))
+        (itemsIn (length (now (key .entry))) (now (index .entry)) (page .0)))) ⌝ }
 {
     let k = key.len();
     let i = page::first_at_or_above(index, page, count, key);

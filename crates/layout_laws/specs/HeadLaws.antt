@@ -171,7 +171,8 @@ module _ (k : ℕ) where
 
   -- a page whose entry i has its key raised
   module _ (b key : List ℕ) (p i : ℕ) (tp : isPage (length b) p ≡ true) (lk : length key ≡ k) where
-    pub raised-as : (P : List ℕ → Type 0) → P b → ((at : ℕ) → p + entriesStart ≤ at → at + length key ≤ p + pageSize → P (put b at key)) → P (raised k b key p i)
+    pub raised-as : (P : List ℕ → Type 0) → P b → ((at : ℕ) → p + entriesStart ≤ at → at + length key ≤ p + pageSize → P (put b at key))
+        → P (raised k b key p i)
     unfolding raised
     raised-as P same stored =
         let es = itemsIn k b p in

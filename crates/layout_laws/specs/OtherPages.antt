@@ -1,5 +1,5 @@
--- Laws: each store of an insertion keeps the bytes of the pages that it is not for, but for the left link of the page beyond. Cited by the laws of insertion: so
--- the pages that are still free keep their form. Assumes nothing.
+-- Laws: each store of an insertion keeps the bytes of the pages that it is not for, but for the left link of the page beyond. Cited by the laws of insertion:
+-- so the pages that are still free keep their form. Assumes nothing.
 use mathlib.Core.Path.{_≡_, refl, sym, ap, _∙_}
 use mathlib.Core.Bool.{true}
 use mathlib.Core.List.{List}
@@ -39,7 +39,7 @@ pub both-kept : {b b′ b″ : List ℕ} {z : ℕ} → SameButLeft b b′ z → 
 both-kept s t = record { front = t .front ∙ s .front; back = t .back ∙ s .back }
 
 -- a page with all its bytes
-pub whole-kept : (b b′ : List ℕ) (z : ℕ) → window b′ z pageSize ≡ window b z pageSize → SameButLeft b b′ z
+whole-kept : (b b′ : List ℕ) (z : ℕ) → window b′ z pageSize ≡ window b z pageSize → SameButLeft b b′ z
 whole-kept b b′ z e = record {
   front = rw add-zero at (window-in-page b′ b z e 0 leftPlace (omega arith));
   back = window-in-page b′ b z e rightPlace 504 (omega arith);
@@ -48,7 +48,8 @@ whole-kept b b′ z e = record {
 -- such a page has its right neighbour
 pub right-kept : {b b′ : List ℕ} {z : ℕ} → SameButLeft b b′ z → rightAt b′ z ≡ rightAt b z
 right-kept {b} {b′} {z} s = le32-same b′ b (z + 8)
-    (rw add-zero at (sym (window-window b′ (z + 8) 504 0 4 (omega arith)) ∙ ap (λ (w : List ℕ). window w 0 4) (s .back) ∙ window-window b (z + 8) 504 0 4 (omega arith)))
+    (rw add-zero at
+    (sym (window-window b′ (z + 8) 504 0 4 (omega arith)) ∙ ap (λ (w : List ℕ). window w 0 4) (s .back) ∙ window-window b (z + 8) 504 0 4 (omega arith)))
 
 -- a store into the file's header, and a store into the page at x
 pub header-other : (b : List ℕ) (at : ℕ) (ys : List ℕ) → at + length ys ≤ pageSize → (z : ℕ) → isPage (length b) z ≡ true → SameButLeft b (put b at ys) z

@@ -25,7 +25,7 @@ Entries = List (List ℕ × ℕ)
 abbrev pub maxPages : ℕ
 maxPages = maxBytes / pageSize
 
--- the first key of entries, and the last, o if there are none
+-- the first key of entries; and the last, o if there are none
 abbrev pub firstOf : Entries → Option (List ℕ)
 firstOf [] = none
 firstOf (e ∷ es) = some (e .0)
@@ -185,17 +185,18 @@ module _ (b : List ℕ) (k size : ℕ) where
   heightOf zero p = 0
   heightOf (suc l) p = elim (isLeaf b size p) [ true ↦ 0 | false ↦ suc (heightOf l (firstChild b k size p)) ]
 
-  -- the first and the last of the leaf keys under the page at p, which has h levels under it
+  -- the last child, or the link to no page if there is none
   abbrev pub lastChild : ℕ → ℕ
   lastChild p = lastNumber noPage (entriesOf p)
 
+  -- the first and the last of the leaf keys under the page at p, which has h levels under it: down by first entries, and by last entries
   abbrev pub firstLeafKey : ℕ → ℕ → Option (List ℕ)
   firstLeafKey h p = firstOf (entriesOf (down (firstChild b k size) h p))
 
   abbrev pub lastLeafKey : ℕ → ℕ → Option (List ℕ)
   lastLeafKey h p = lastOf none (entriesOf (down lastChild h p))
 
-  -- the key x is below the first leaf key under the next child, that of the first of the entries es, which has h levels under it
+  -- the key x is below the first leaf key under the next child: the child of the first of the entries es, with h levels under it, if there is one
   abbrev pub belowNext : ℕ → List ℕ → Entries → Bool
   belowNext h x [] = true
   belowNext h x (e ∷ es) = isUnder x (firstLeafKey h (e .1))

@@ -186,20 +186,6 @@ fn replay(name: &[u8], text: &[u8], file: &[u8], index: &mut [u8]) {
     print_same(name, index, file);
 }
 
-// Runs the calls of a list on an index, and prints the answers.
-pub fn run_on_index(text: &[u8], index: &mut [u8]) {
-    let mut list = io::large_buffer();
-    let mut answers = io::large_buffer();
-    let n = append_all(&mut list, text);
-    let made = batch::run_calls(index, &list[..n], &mut answers);
-    let o = Outcome {
-        fresh: 0,
-        made,
-        audit: audit::audit(index),
-    };
-    print_answers(text, &answers, o);
-}
-
 // Runs a list on a buffer of `size` zeros, at most 65,536.
 pub fn run_on_zeros(name: &[u8], text: &[u8], file: &[u8], size: usize) {
     let mut space = io::large_buffer();

@@ -1,7 +1,7 @@
 // Audits indexes that an independent implementation made, and looks keys up in them: each accepted insertion of a list of calls must be found in the index
 // file after the list, with its record. Then the program runs each list as bytes on a buffer of zeros, prints the answers, and compares the buffer with the
-// index file. One list runs on an index of an earlier release, whose keys have control bytes. The program audits indexes whose keys above pages are ceilings, or
-// break that rule, and runs lists on them. At last it audits damaged copies of one index. README.md beside src/ says where the files came from.
+// index file. Other lists run on an index of an earlier release, whose keys have control bytes, and on indexes whose keys above pages are ceilings or break that
+// rule. At last the program audits damaged copies of one index. README.md beside src/ says where the files came from.
 mod lists;
 
 // Whether a line is an insertion that was accepted, `i KEY RECORD 0`.
@@ -103,16 +103,6 @@ fn print_audit(name: &[u8], index: &[u8]) {
     lines::print(b"\n");
 }
 
-// Audits an index file, and runs a list of calls on it, in a buffer of 65,536 bytes.
-fn run_on_file(name: &[u8], index_path: &[u8], calls_path: &[u8]) {
-    let mut index = io::large_buffer();
-    let mut calls = io::large_buffer();
-    let _ = files::load(index_path, &mut index);
-    let m = files::load(calls_path, &mut calls).len;
-    print_audit(name, &index);
-    lists::run_on_index(&calls[..m], &mut index);
-}
-
 // Audits a copy of an index in which the byte at an offset has another value.
 fn damaged(name: &[u8], at: usize, value: u8) {
     let mut index = io::large_buffer();
@@ -160,65 +150,83 @@ fn long_keys() {
     );
 }
 
-// An index of an earlier release, with control bytes in its keys: its audit, and the calls of a list on it.
-fn earlier_release() {
+// Audits an index file, and makes the calls of a list on it. The index file after the list is another.
+fn run_on_file(name: &[u8], index_path: &[u8], calls_path: &[u8], after_path: &[u8]) {
     let mut index = io::large_buffer();
     let mut calls = io::large_buffer();
     let mut after = io::large_buffer();
-    files::load(b"earlier.idx", &mut index);
-    let m = files::load(b"earlier.calls", &mut calls).len;
-    let n = files::load(b"earlier_after.idx", &mut after).len;
-    print_audit(b"earlier", &index);
-    lists::run_on_index(b"earlier", &calls[..m], &after[..n], &mut index);
+    files::load(index_path, &mut index);
+    let m = files::load(calls_path, &mut calls).len;
+    let n = files::load(after_path, &mut after).len;
+    print_audit(name, &index);
+    lists::run_on_index(name, &calls[..m], &after[..n], &mut index);
+}
+
+// An index of an earlier release, with control bytes in its keys.
+fn earlier_release() {
+    run_on_file(
+        b"earlier",
+        b"earlier.idx",
+        b"earlier.calls",
+        b"earlier_after.idx",
+    );
+}
+
+// Indexes whose keys above pages are ceilings.
+fn ceilings() {
+    run_on_file(
+        b"ceilings_k10_struck",
+        b"ceilings_k10_struck.idx",
+        b"ceilings_k10_struck.calls",
+        b"ceilings_k10_struck_after.idx",
+    );
+    run_on_file(
+        b"ceilings_k100_struck",
+        b"ceilings_k100_struck.idx",
+        b"ceilings_k100_struck.calls",
+        b"ceilings_k100_struck_after.idx",
+    );
+    run_on_file(
+        b"ceilings_k100_inner_last_high",
+        b"ceilings_k100_inner_last_high.idx",
+        b"ceilings_k100_inner_last_high.calls",
+        b"ceilings_k100_inner_last_high_after.idx",
+    );
+}
+
+// Makes the calls of a list on an index that is not sound: no call changes it.
+fn run_on_broken(name: &[u8], index_path: &[u8], calls_path: &[u8]) {
+    run_on_file(name, index_path, calls_path, index_path);
+}
+
+// Indexes in which one key above a page breaks the rule by one.
+fn broken_ceilings() {
+    run_on_broken(
+        b"ceilings_k10_too_low",
+        b"ceilings_k10_too_low.idx",
+        b"ceilings_k10_too_low.calls",
+    );
+    run_on_broken(
+        b"ceilings_k10_meets_next",
+        b"ceilings_k10_meets_next.idx",
+        b"ceilings_k10_meets_next.calls",
+    );
+    run_on_broken(
+        b"ceilings_k100_too_low",
+        b"ceilings_k100_too_low.idx",
+        b"ceilings_k100_too_low.calls",
+    );
+    run_on_broken(
+        b"ceilings_k100_meets_next",
+        b"ceilings_k100_meets_next.idx",
+        b"ceilings_k100_meets_next.calls",
+    );
 }
 
 // Lists written from document 01.
 fn paper_lists() {
     run(b"paper_five", b"paper_five.idx", b"paper_five.calls", 2048);
     run(b"paper_full", b"paper_full.idx", b"paper_full.calls", 1024);
-}
-
-// Indexes whose keys above pages are ceilings, and copies that break the rule by one. Keys of 10 bytes, two levels.
-fn short_ceilings() {
-    run_on_file(
-        b"ceilings_k10_struck",
-        b"ceilings_k10_struck.idx",
-        b"ceilings_k10_struck.calls",
-    );
-    run_on_file(
-        b"ceilings_k10_too_low",
-        b"ceilings_k10_too_low.idx",
-        b"ceilings_k10_too_low.calls",
-    );
-    run_on_file(
-        b"ceilings_k10_meets_next",
-        b"ceilings_k10_meets_next.idx",
-        b"ceilings_k10_meets_next.calls",
-    );
-}
-
-// Keys of 100 bytes, four levels.
-fn long_ceilings() {
-    run_on_file(
-        b"ceilings_k100_struck",
-        b"ceilings_k100_struck.idx",
-        b"ceilings_k100_struck.calls",
-    );
-    run_on_file(
-        b"ceilings_k100_too_low",
-        b"ceilings_k100_too_low.idx",
-        b"ceilings_k100_too_low.calls",
-    );
-    run_on_file(
-        b"ceilings_k100_meets_next",
-        b"ceilings_k100_meets_next.idx",
-        b"ceilings_k100_meets_next.calls",
-    );
-    run_on_file(
-        b"ceilings_k100_inner_last_high",
-        b"ceilings_k100_inner_last_high.idx",
-        b"ceilings_k100_inner_last_high.calls",
-    );
 }
 
 fn damaged_headers() {
@@ -242,8 +250,8 @@ fn main() {
     long_keys();
     paper_lists();
     earlier_release();
-    short_ceilings();
-    long_ceilings();
+    ceilings();
+    broken_ceilings();
     damaged_headers();
     damaged_pages();
 }

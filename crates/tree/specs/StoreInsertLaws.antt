@@ -101,7 +101,11 @@ module _ {K : Type 0} (route : Route K) (passes : ℕ → Passes (K × ℕ)) (S 
       let kept : (l : List (K × ℕ)) → ((z : ℕ) → occ z (pagesOf S h l) + occ z (pagesUnder h (readEntry S h chosen)) ≤ occ z (pagesOf S h (x ∷ xs))) →
       map (readEntry S1 h) l ≡ map (readEntry S h) l =
       λ l m. frame-entries S S1 h l (λ z o. others z (omega (arith, m z)) (omega (arith, m z, d z))) in
-      rw (position-map (readEntry S h) (passes h) (route h) (same h) (x ∷ xs), map-append (readEntry S1 h) front (rs ++ back), map-append (readEntry S1 h) rs back)
+      rw (
+        position-map (readEntry S h) (passes h) (route h) (same h) (x ∷ xs),
+        map-append (readEntry S1 h) front (rs ++ back),
+        map-append (readEntry S1 h) rs back,
+      )
       (rw (e, kept front (λ z. omega (arith, parts-occ z)), kept back (λ z. omega (arith, parts-occ z)))
       (rw (take-map (readEntry S h) i (x ∷ xs), drop-map (readEntry S h) (suc i) (x ∷ xs))))
 

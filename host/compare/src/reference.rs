@@ -472,19 +472,22 @@ pub fn number_read(text: &[u8], decimals: u32) -> Result<Option<i64>, Refusal> {
     }))
 }
 
-/// The digits of a whole part, and of d decimals behind a point, as a number, and whether there are more than 18 of them.
+/// The digits of a whole part, and of d decimals behind a point, as a number, and whether there are more than 18 of them. The whole part may be missing if d
+/// is above 0 and a digit isn't zero.
 fn digits(t: &[u8], d: usize) -> Option<(u64, bool)> {
     let whole = if d == 0 {
         t
     } else {
-        if t.len() < d + 2 || t[t.len() - d - 1] != b'.' {
+        if t.len() <= d || t[t.len() - d - 1] != b'.' {
             return None;
         }
         &t[..t.len() - d - 1]
     };
     let fraction = &t[t.len() - d..];
-    if whole.is_empty() || (whole[0] == b'0' && whole.len() > 1) {
-        return None;
+    match whole {
+        [] if d == 0 || fraction.iter().all(|&c| c == b'0') => return None,
+        [b'0', _, ..] => return None,
+        _ => (),
     }
     let mut value: u64 = 0;
     let mut large = false;

@@ -113,7 +113,18 @@ fn make(calls: &Calls, index: &mut [u8], name: &str, after: &str) {
     assert_eq!(index[..left.len()], left[..], "{name}: the bytes left");
 }
 
-/// Every list on zeros, and one on an index of an earlier release, whose keys have control bytes.
+/// Indexes whose keys above pages are ceilings, each with what its list leaves: an index that breaks the rule stays as it is.
+const CEILINGS: [(&str, u32, &str); 7] = [
+    ("ceilings_k10_struck", 0, "_after"),
+    ("ceilings_k100_struck", 0, "_after"),
+    ("ceilings_k100_inner_last_high", 0, "_after"),
+    ("ceilings_k10_too_low", 25, ""),
+    ("ceilings_k10_meets_next", 25, ""),
+    ("ceilings_k100_too_low", 25, ""),
+    ("ceilings_k100_meets_next", 25, ""),
+];
+
+/// Every list on zeros, one on an index of an earlier release, whose keys have control bytes, and those on indexes with ceilings.
 fn replay(calls: &Calls) {
     for (name, length) in LISTS {
         make(calls, &mut vec![0; length], name, &format!("{name}.idx"));
@@ -122,6 +133,12 @@ fn replay(calls: &Calls) {
     assert_eq!((calls.audit)(&index), 0);
     index.resize(8192, 0);
     make(calls, &mut index, "earlier", "earlier_after.idx");
+    for (name, sound, after) in CEILINGS {
+        let mut index = fs::read(data(&format!("{name}.idx"))).unwrap();
+        assert_eq!((calls.audit)(&index), sound, "{name}");
+        index.resize(65536, 0);
+        make(calls, &mut index, name, &format!("{name}{after}.idx"));
+    }
 }
 
 #[test]

@@ -15,6 +15,7 @@ use Rattle.insert.specs.RoomLaws.{path-levels, path-run}
 use Rattle.insert.specs.Calls.{hasControl}
 use Rattle.insert.specs.CallLaws.{refused-24, refused-27, refused-32, refused-28, refused-25, refused-29, refused-30, accepted-pair}
 use borrow.Author.Needs.{needs}
+use borrow.Author.Tests.{eqb-true, eqb-false}
 use Rattle.insert.proofs.insert.Statement.{statement}
 use Rattle.insert.proofs.insert.Tie as tie
 
@@ -23,13 +24,13 @@ abbrev start : tie.Else1 → tie.Start
 start c = c .before .before .before .before .before
 
 abbrev at-header : tie.Else2 → tie.Else1
-at-header c = c .before .before .before .before
+at-header c = c .before .before .before .before .before
 
 abbrev at-length : tie.Else3 → tie.Else2
 at-length c = c .before
 
 abbrev at-clean : tie.Else4 → tie.Else3
-at-clean c = c .before .before
+at-clean c = c .before
 
 abbrev at-number : tie.After-audit → tie.Else4
 at-number c = c .before .before
@@ -58,7 +59,7 @@ same : (c : tie.Else2) → let args = start (at-header c) .args in length (args 
 same c = c .if2 .left ∙ c .before .key-length .ensures
 
 clean : (c : tie.Else3) → hasControl (key c) ≡ false
-clean c = sym (at-length c .before .before .before .has-control .ensures) ∙ c .if3 .left
+clean c = sym (at-length c .before .before .before .before .has-control .ensures) ∙ c .if3 .left
 
 sound : (c : tie.Else5) → pagesGood (index (at-clean (at-number (c .before)))) unmarked ≡ true
 sound c =
@@ -87,13 +88,13 @@ has-control-requires : tie.Need-has-control-requires
 has-control-requires c κs = search needs
 
 key-length-requires : tie.Need-key-length-requires
-key-length-requires c κs = good-header _ (header (c .before .before)) .long
+key-length-requires c κs = good-header _ (header (c .before .before .before)) .long
 
 same-length-2 : tie.Need-same-length-2
 same-length-2 c = search needs
 
 returns-2 : tie.Need-returns-2
-returns-2 c = refused-27 _ _ _ (header (c .before .before .before .before)) (λ e. c .if2 .taken (e ∙ sym (c .before .key-length .ensures)))
+returns-2 c = refused-27 _ _ _ (header (c .before .before .before .before .before)) (λ e. c .if2 .taken (e ∙ sym (c .before .key-length .ensures)))
 
 same-length-3 : tie.Need-same-length-3
 same-length-3 c = search needs
@@ -101,7 +102,7 @@ same-length-3 c = search needs
 returns-3 : tie.Need-returns-3
 returns-3 c =
     let measured = c .before in
-    let control = sym (measured .before .before .before .has-control .ensures) ∙ c .if3 .taken in
+    let control = sym (measured .before .before .before .before .has-control .ensures) ∙ c .if3 .taken in
     refused-32 _ _ _ (header (at-header measured)) (same measured) control
 
 same-length-4 : tie.Need-same-length-4
@@ -109,9 +110,9 @@ same-length-4 c = search needs
 
 returns-4 : tie.Need-returns-4
 returns-4 c =
-    let free = c .before .before in
+    let free = c .before in
     let measured = at-length free in
-    refused-28 _ _ _ (header (at-header measured)) (same measured) (clean free) (c .if4 .taken)
+    refused-28 _ _ _ (header (at-header measured)) (same measured) (clean free) (eqb-true _ _ (c .if4 .taken))
 
 audit-requires : tie.Need-audit-requires
 audit-requires c κs = search needs
@@ -125,7 +126,7 @@ returns-5 c =
     let free = at-clean number in
     let measured = at-length free in
     let good = header (at-header measured) in
-    refused-25 _ _ _ good (same measured) (clean free) (number .if4 .left) (audit-unsound _ good (c .before .audit .ensures) (c .if5 .taken))
+    refused-25 _ _ _ good (same measured) (clean free) (eqb-false _ _ (number .if4 .left)) (audit-unsound _ good (c .before .audit .ensures) (c .if5 .taken))
 
 path-to-requires : tie.Need-path-to-requires
 path-to-requires c κs =
@@ -142,7 +143,7 @@ returns-6 c =
     let free = at-clean number in
     let measured = at-length free in
     let found = sym (present (c .before)) ∙ c .if6 .taken in
-    refused-29 _ _ _ (header (at-header measured)) (same measured) (clean free) (number .if4 .left) (sound audited) found
+    refused-29 _ _ _ (header (at-header measured)) (same measured) (clean free) (eqb-false _ _ (number .if4 .left)) (sound audited) found
 
 no-room-requires : tie.Need-no-room-requires
 no-room-requires c κs =
@@ -162,7 +163,7 @@ returns-7 c =
     let measured = at-length free in
     let not-found = sym (present (absent .before)) ∙ absent .if6 .left in
     let no-room = sym (full (c .before)) ∙ c .if7 .taken in
-    refused-30 _ _ _ (header (at-header measured)) (same measured) (clean free) (number .if4 .left) (sound audited) not-found no-room
+    refused-30 _ _ _ (header (at-header measured)) (same measured) (clean free) (eqb-false _ _ (number .if4 .left)) (sound audited) not-found no-room
 
 insert-pair-requires : tie.Need-insert-pair-requires
 insert-pair-requires c κs =
@@ -184,7 +185,7 @@ returns-8 c =
     let measured = at-length free in
     let not-found = sym (present (absent .before)) ∙ absent .if6 .left in
     let not-full = sym (full (room .before)) ∙ room .if7 .left in
-    accepted-pair _ _ _ (header (at-header measured)) (same measured) (clean free) (number .if4 .left) (sound audited) not-found not-full
+    accepted-pair _ _ _ (header (at-header measured)) (same measured) (clean free) (eqb-false _ _ (number .if4 .left)) (sound audited) not-found not-full
     (inserted .insert-pair .ensures)
 
 pub insert-spec : {M : Type 1} → statement M

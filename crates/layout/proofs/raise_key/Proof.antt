@@ -11,7 +11,8 @@ use borrow.Author.Needs.{needs}
 use Rattle.layout.proofs.raise_key.Statement.{statement}
 use Rattle.layout.proofs.raise_key.Tie as tie
 
--- the places: the call's start, from where the entries are counted; where the page has entry i, from where the keys are compared, and from where a key is stored
+-- the places: the call's start, from where the entries are counted; where the page has entry i, from where the keys are compared; where they are compared, from
+-- where a key is stored
 abbrev start : tie.After-entry-count → tie.Start
 start c = c .before .before .before .before
 

@@ -72,11 +72,16 @@ fn format_named(width: usize, decimals: u32, digits: u32) -> String {
 fn number_reads(word: &str) -> usize {
     let mut r = Random::new(1);
     let mut over = 0;
-    for (width, decimals, digits) in FORMATS {
+    let mut lists = Vec::from(FORMATS.map(|(width, decimals, digits)| {
         let texts = inputs::texts(&mut r, width, decimals, digits);
+        (format_named(width, decimals, digits), decimals, texts)
+    }));
+    let name = "width 8, 3 decimals, zero dropped".to_string();
+    lists.push((name, 3, inputs::short_texts(&mut r, 8, 3)));
+    for (input, decimals, texts) in lists {
         let case = Case {
             call: "numeric read",
-            input: format_named(width, decimals, digits),
+            input,
             calls: texts.len(),
             limit: TEXT_AND_TABLE,
             prepare: Box::new(|| ()),
