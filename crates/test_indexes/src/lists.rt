@@ -2,9 +2,13 @@
 ghost use Prim.Native.Nat.{_≤_};
 ghost use lib.ListN.{length};
 
-// The kinds of calls of a list, as `batch` has them. An insertion has a record's number behind its key.
+// The kinds of calls of a list, as `batch` has them: a lookup;
 const LOOKUP: u8 = 0;
+
+// an insertion, whose record's number stands behind its key;
 const INSERTION: u8 = 1;
+
+// a removal.
 const REMOVAL: u8 = 2;
 
 // The kind of a line that is no call of the list.
