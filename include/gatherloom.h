@@ -195,8 +195,8 @@ uint32_t gl_index_insert(uint8_t *index, size_t index_len, const uint8_t *key, s
 
 /* Strikes a key off. 24, 27, 25, 33. The pages that are emptied are free for later insertions; the index's own size, bytes 8 to 11, never falls, so the host
    can't shorten its file. Nor do the levels fall, until the last key goes and there is one level again: a long list of ascending insertions and removals can
-   end in 30 with few keys left (seen: 34 keys in 11 levels, after 265,721 calls with keys of 100 bytes). The way out is a fresh index, into which the host
-   inserts the keys that are left. An earlier release refuses an index with free pages by 24. */
+   end in 30 with few keys left (seen with keys of 100 bytes: 34 keys in 11 levels, the 265,721st insertion refused). The way out is a fresh index, into which
+   the host inserts the keys that are left. An earlier release refuses an index with free pages by 24. */
 uint32_t gl_index_remove(uint8_t *index, size_t index_len, const uint8_t *key, size_t key_len);
 
 /* Matches an index against a field of a table: 0 if each record, deleted or not, has exactly one entry, its key that record's field, and there are
