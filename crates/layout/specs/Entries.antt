@@ -1,8 +1,8 @@
 -- Rules: a page's entries after a pair goes in, a page below was split or an entry goes. Cited by insertion, by removal and by the rule for refusal 30.
 use Prim.Native.Nat.{ℕ, suc}
 use mathlib.Core.Bool.{cond, not, _&&_}
-use mathlib.Core.List.{List, [], _∷_, _++_}
-use lib.ListN.{length, getD, take, drop}
+use mathlib.Core.List.{List, [], _∷_}
+use lib.ListN.{length, getD}
 use lib.Dec.{ltb}
 use Rattle.octets.specs.Bytes.{be32, toBe32}
 use Rattle.octets.specs.Store.{put}

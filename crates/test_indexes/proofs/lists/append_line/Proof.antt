@@ -13,6 +13,9 @@ returns c = search needs
 shared-slice-read-kind : tie.Need-shared-slice-read-kind
 shared-slice-read-kind c = search needs
 
+kind-of-requires : tie.Need-kind-of-requires
+kind-of-requires c κs = search needs
+
 returns-2 : tie.Need-returns-2
 returns-2 c = search needs
 
@@ -55,6 +58,7 @@ append-line-spec =
     (tie.spec
     returns
     shared-slice-read-kind
+    kind-of-requires
     returns-2
     after-word-requires
     after-word-requires-2
