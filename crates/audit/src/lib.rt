@@ -394,11 +394,11 @@ fn mark_free(index: &[u8], marks: &mut [u8], size: usize, page: PageOffset) -> b
     if !is_free_page(index, page) {
         return false;
     }
-    let mark = page.0 as usize / Page::SIZE;
-    if marks[mark] != 0 {
+    let place = page.0 as usize / Page::SIZE;
+    if marks[place] != 0 {
         return false;
     }
-    marks[mark] = 1;
+    marks[place] = 1;
     true
 }
 

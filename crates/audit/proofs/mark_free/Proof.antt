@@ -41,8 +41,8 @@ returns-2 c =
     mark-other (args .index .now) (args .size) (args .page .0) (args .marks .now) (inside page)
     (failed (c .before .is-free-page .ensures) (c .if2 .taken))
 
-cast-mark : tie.Need-cast-mark
-cast-mark c = search needs
+cast-place : tie.Need-cast-place
+cast-place c = search needs
 
 slice-read-if3 : tie.Need-slice-read-if3
 slice-read-if3 c =
@@ -85,7 +85,7 @@ mark-free-spec =
     returns
     is-free-page-requires
     returns-2
-    cast-mark
+    cast-place
     slice-read-if3
     returns-3
     slice-write-marks
