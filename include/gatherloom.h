@@ -26,7 +26,7 @@ extern "C" {
 
 /* ---- Versions. */
 
-#define GL_VERSION "0.4.0" /* raised with every change, see docs/CHANGES.md */
+#define GL_VERSION "0.8.0" /* raised with every change, see docs/CHANGES.md */
 #define GL_INTERFACE 1     /* raised with every change of the form of a call or a struct */
 
 /* The GL_INTERFACE of the archive. A host compares it with its own before the first call: if they differ, a call may write past what it is lent. */
@@ -77,7 +77,14 @@ enum gl_refusal {
     GL_REFUSED_KEY_PRESENT = 29,            /* key present: the index has the key already, and keeps its record */
     GL_REFUSED_NO_ROOM = 30,                /* no room: lend a longer buffer; past 16,777,216 bytes a table is full, past 1,048,576 or 11 levels an index */
     GL_REFUSED_INDEX_AND_TABLE_DIFFER = 31, /* index and table differ: make the index anew from the table */
-    GL_REFUSED_CONTROL_BYTE = 32            /* control byte in the key: a byte below 0x20 in a key to insert; was the barcode scanned well? */
+    GL_REFUSED_CONTROL_BYTE = 32,           /* control byte in the key: a byte below 0x20 in a key to insert; was the barcode scanned well? */
+    /* the dilution of a sample: for each of these nothing is to be pipetted */
+    GL_REFUSED_BARCODE_ABSENT = 35,             /* barcode absent or deleted: the table has no live record of this barcode */
+    GL_REFUSED_NO_CONCENTRATION = 36,           /* no concentration: the record's is empty, zero or negative */
+    GL_REFUSED_TARGET_OR_VOLUME = 37,           /* target or volume out of range: not 1 to GL_TARGET_MAX, or not 1 to GL_FINAL_MAX */
+    GL_REFUSED_TARGET_ABOVE_CONCENTRATION = 38, /* target above concentration: no dilution reaches it */
+    /* programs alone: no call answers it */
+    GL_REFUSED_ARGUMENTS_OR_FILES = 40 /* arguments or files: what a program was given, or a file that can't be read or is too long */
 };
 
 /* ---- Limits. */
@@ -96,6 +103,8 @@ enum gl_refusal {
 #define GL_INDEX_LEVELS_MAX 11
 #define GL_KEY_MAX 100            /* bytes of a key, at least 1 */
 #define GL_EXPRESSION_MAX 220     /* bytes of a key expression, at least 1, each 0x20 to 0x7E */
+#define GL_TARGET_MAX 1000000000  /* thousandths of nM of a target concentration, at least 1 */
+#define GL_FINAL_MAX 10000        /* tenths of a microlitre of a final volume, at least 1 */
 #define GL_STACK_MAX 13312        /* bytes of stack that are enough for any call */
 
 /* ---- The table. */
@@ -135,7 +144,8 @@ uint32_t gl_table_lay_out(uint8_t *buffer, size_t buffer_len, const gl_field_ent
 /* Appends one record, given as its bytes: the deletion byte and each field's text. 10 if table_len is above buffer_len, 1 to 10, 9 if the record has another
    length than the table's, 15, then for each field's text in order 16 to 18 (N), 20 (D and L) or 21 (M: its form alone, the memo file is not looked at), with
    blanks accepted; 30 if the new end mark would lie past the buffer or past 16,777,216 bytes. 0 sets all four: the two stores, the record with the new end
-   mark, and the count. The table's length is then record_place + record_length. */
+   mark, and the count. The table's length is then record_place + record_length. Each text is kept as it is given, also .150, which releases before K4's
+   (docs/CHANGES.md) refuse by 17 when they read it. */
 uint32_t gl_table_append(uint8_t *buffer, size_t buffer_len, size_t table_len, const uint8_t *record, size_t record_len,
                          uint64_t *record_place, uint64_t *record_length, uint64_t *count_place, uint64_t *count_length);
 
@@ -166,10 +176,11 @@ uint32_t gl_text_part(const uint8_t *table, size_t table_len, const uint8_t *mem
 
 /* ---- Numeric text. The text's, or the buffer's, length is the field's width. */
 
-/* 6, 256, 16, 17, 18. */
+/* 6, 256, 16, 17, 18. The zero before the point may be missing, as in -.150, unless all digits are zeros. */
 uint32_t gl_number_read(const uint8_t *text, size_t width, uint32_t decimals, int64_t *value);
 
-/* Fills the whole buffer, blanks on the left. 6, 18, 19. */
+/* Fills the whole buffer, blanks on the left. 6, 18, 19. The zero before the point is always written, so a value that was read may not fit where it stood: -150
+   with 3 decimals is read from -.150, and 19 in those five bytes. */
 uint32_t gl_number_write(uint8_t *text, size_t width, uint32_t decimals, int64_t value);
 
 /* ---- The index. */
@@ -192,6 +203,17 @@ uint32_t gl_index_insert(uint8_t *index, size_t index_len, const uint8_t *key, s
 /* Matches an index against a field of a table: 0 if each record, deleted or not, has exactly one entry, its key that record's field, and there are
    no other entries. 1 to 10, 24, 12, 13, 27, 25, 31. */
 uint32_t gl_match(const uint8_t *table, size_t table_len, const uint8_t *index, size_t index_len, uint32_t field);
+
+/* ---- The dilution of a sample. */
+
+/* How much of the sample with this barcode, and how much diluent, make the final volume with the target concentration. Volumes are in tenths of a microlitre,
+   the target in thousandths of nM, as the concentration's field with its three decimals. The sample is target * final_volume / concentration to the nearest
+   tenth, halves up; sample and diluent add to the final volume. As gl_match for the barcode's field, then 12, 13 unless the concentration's field is N with
+   three decimals, 27, 35 if no record has the barcode, 15, 35 if its record is deleted, 16 to 18 by the concentration's text, 36, 37, 38. 0 sets both. The match
+   is made anew by each call. */
+uint32_t gl_dilute(const uint8_t *table, size_t table_len, const uint8_t *index, size_t index_len, uint32_t barcode_field,
+                   uint32_t concentration_field, const uint8_t *barcode, size_t barcode_len, uint64_t target, uint64_t final_volume,
+                   uint32_t *sample, uint32_t *diluent);
 
 #ifdef __cplusplus
 }

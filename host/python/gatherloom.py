@@ -21,6 +21,10 @@ page is guessed), and None if the field is empty. Records and fields are counted
         os.pwrite(file, buffer[store.place : store.place + store.length], store.place)
         os.fsync(file)
 
+`Table.dilute` gives the volumes of sample and diluent for a barcode, or refuses; a refused barcode is not to be pipetted:
+
+    table.dilute(gatherloom.Index('run.idx'), b'PLT0000002', target=2000, final_volume=1000)     # 2.000 nM in 100.0 microlitres
+
 Where a source is asked for, it is a file's path (str or os.PathLike) or the file's content (bytes, bytearray or memoryview). A number that is negative or too
 large for the library is an OverflowError, an argument of another type a TypeError; neither reaches the library.
 
@@ -36,7 +40,7 @@ from decimal import Context, Decimal, Inexact, InvalidOperation
 from pathlib import Path
 from typing import NamedTuple, Optional
 
-__all__ = ['Field', 'Index', 'Lookup', 'MemoMissing', 'Record', 'Refusal', 'Store', 'Stores', 'Table', 'Walk', 'append', 'extent', 'lay_out', 'read_number',
+__all__ = ['Field', 'Index', 'Lookup', 'MemoMissing', 'Record', 'Refusal', 'Store', 'Stores', 'Table', 'Volumes', 'Walk', 'append', 'extent', 'lay_out', 'read_number',
            'set_date', 'write_number']
 
 # ---- Refusals.
@@ -73,6 +77,11 @@ WORDS = {
     30: 'no room',
     31: 'index and table differ',
     32: 'control byte in the key',
+    35: 'barcode absent or deleted',
+    36: 'no concentration',
+    37: 'target or volume out of range',
+    38: 'target above concentration',
+    40: 'arguments or files',
 }
 
 
@@ -154,6 +163,7 @@ _CALLS = {
     'gl_index_lookup': 2 * _BYTES + 2 * [_out(_NUMBER)],
     'gl_index_insert': 2 * _BYTES + [_NUMBER],
     'gl_match': 2 * _BYTES + [_NUMBER],
+    'gl_dilute': 2 * _BYTES + 2 * [_NUMBER] + _BYTES + 2 * [ctypes.c_uint64] + 2 * [_out(_NUMBER)],
 }
 
 
@@ -315,6 +325,23 @@ class Table:
         number = self.field_number(field) if isinstance(field, str) else _unsigned(field, 'field number')
         with index._lock:
             _accepted(_library.gl_match(*_lent(self._table), *_lent(index.buffer), number))
+
+    def dilute(self, index, barcode, target, final_volume, barcode_field='BARCODE', concentration_field='CONC'):
+        """The Volumes of sample and diluent for the record with the barcode. If the call refuses, nothing is to be pipetted.
+
+        The target is a whole number of thousandths of nM, the final volume one of tenths of a microlitre; a field is a number or a name. The match is made anew
+        by each call. Refusals: the match's; 12, 13, 27, 35, 15, 16 to 18, 36, 37, 38.
+        """
+        if not isinstance(index, Index):
+            raise TypeError(f'an Index is matched, not {type(index).__name__}')
+        fields = [self.field_number(f) if isinstance(f, str) else _unsigned(f, 'field number') for f in (barcode_field, concentration_field)]
+        barcode = _bytes(barcode, 'a barcode')
+        target, final_volume = _unsigned(target, 'target', 64), _unsigned(final_volume, 'final volume', 64)
+        sample, diluent = _NUMBER(), _NUMBER()
+        out = ctypes.byref(sample), ctypes.byref(diluent)
+        with index._lock:
+            _accepted(_library.gl_dilute(*_lent(self._table), *_lent(index.buffer), *fields, *_lent(barcode), target, final_volume, *out))
+        return Volumes(sample.value, diluent.value)
 
     def _number(self, record, field):
         units = ctypes.c_int64()
@@ -515,7 +542,10 @@ def extent(source):
 
 
 def read_number(text, decimals):
-    """The Decimal that the text of an N field stands for, None if it is all blanks. The text's length is the field's. Refusals 6, 16, 17, 18."""
+    """The Decimal that the text of an N field stands for, None if it is all blanks. The text's length is the field's. Refusals 6, 16, 17, 18.
+
+    The zero before the point may be missing, as in b'-.150', unless all digits are zeros.
+    """
     units = ctypes.c_int64()
     decimals = _unsigned(decimals, 'decimal count')
     if _accepted(_library.gl_number_read(*_lent(_bytes(text, 'numeric text')), decimals, ctypes.byref(units))) == EMPTY:
@@ -543,8 +573,9 @@ def _units(value, decimals):
 
 
 def write_number(value, width, decimals):
-    """The one text of a Decimal or an int in an N field of `width` bytes. Refusals 6, 18, 19.
+    """The written text of a Decimal or an int in an N field of `width` bytes. Refusals 6, 18, 19.
 
+    The zero before the point is always written, so the value of b'-.150' does not fit in its five bytes.
     Nothing is rounded: a value with more decimals is a ValueError. A float is a TypeError, since it seldom is the number that it is written as.
     """
     decimals = _unsigned(decimals, 'decimal count')
@@ -556,6 +587,13 @@ def write_number(value, width, decimals):
 
 
 # ---- The index.
+
+
+class Volumes(NamedTuple):
+    """What to pipette, in tenths of a microlitre. Both add to the final volume."""
+
+    sample: int
+    diluent: int
 
 
 class Lookup(NamedTuple):

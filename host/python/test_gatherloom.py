@@ -25,6 +25,7 @@ ROOT = Path(__file__).resolve().parents[2]
 SAMPLES = ROOT / 'crates' / 'test_samples' / 'data'
 INDEXES = ROOT / 'crates' / 'test_indexes' / 'data'
 WRITING = ROOT / 'crates' / 'test_writing' / 'data'
+DILUTION = ROOT / 'crates' / 'test_dilution'
 
 PLAIN = (Field('BARCODE', 'C', 10, 0), Field('CONC', 'N', 8, 3), Field('RUN_DATE', 'D', 8, 0), Field('OK', 'L', 1, 0))
 MEMO = PLAIN + (Field('NOTE', 'M', 10, 0),)
@@ -435,6 +436,15 @@ class NumericText(TestCase):
         self.assertRaises(TypeError, read_number, '2150', 0)
         self.assertRaises(TypeError, read_number, b'2150', 0.0)
 
+    def test_dropped_zero(self):
+        self.assertEqual(str(read_number(b'    .150', 3)), '0.150')
+        self.assertEqual(str(read_number(b'-.150', 3)), '-0.150')
+        self.assertEqual(write_number(Decimal('-.150'), 6, 3), b'-0.150')
+        self.refused(19, write_number, Decimal('-.150'), 5, 3)
+        for text, decimals in (b' .000', 3), (b'-.000', 3), (b'+.150', 3), (b'  .15', 3), (b'.', 0), (b'.150', 0):
+            self.refused(17, read_number, text, decimals)
+        self.refused(16, read_number, b' ,150', 3)
+
     def test_writing(self):
         for value, width, decimals, text in (
             (Decimal('2.150'), 8, 3, b'   2.150'),
@@ -626,6 +636,44 @@ class Indexes(TestCase):
         self.assertRaises(OverflowError, table.match, index, -1)
         self.assertRaises(OverflowError, table.match, index, 2**32 + 1)
         self.assertRaises(TypeError, table.match, index.buffer, 1)
+
+
+class Dilution(TestCase):
+    def setUp(self):
+        self.table, self.index = Table(DILUTION / 'data' / 'k11.dbf'), Index(DILUTION / 'data' / 'k11.idx')
+
+    def dilute(self, barcode, target=2000, final_volume=1000, *fields):
+        return self.table.dilute(self.index, barcode, target, final_volume, *fields)
+
+    def test_sheets(self):
+        """Each line of each sheet is what the call gives for its barcode."""
+        for sheet in (DILUTION / 'stdout').read_text().split('== ')[1:]:
+            name, *lines = sheet.splitlines()
+            if len(lines) < 2:
+                continue
+            fields = [int(line) for line in (DILUTION / 'data' / name).read_text().splitlines()]
+            for barcode, *answer in map(str.split, lines):
+                asked = barcode.encode(), fields[2], fields[3], fields[0], fields[1]
+                if len(answer) == 1:
+                    self.refused(int(answer[0]), self.dilute, *asked)
+                else:
+                    self.assertEqual(self.dilute(*asked), tuple(map(int, answer)))
+
+    def test_refusals(self):
+        self.assertEqual(self.dilute(b'PLT0000000'), (930, 70))
+        self.refused(16, self.dilute, b'PLT0000919')
+        # absent, deleted, the wrong length
+        self.refused(35, self.dilute, b'PLT0000001')
+        self.refused(35, self.dilute, b'PLT0000352')
+        self.refused(27, self.dilute, b'PLT')
+        self.refused(13, self.dilute, b'PLT0000000', 1, 1, 'BARCODE', 'VOL')
+        self.refused(12, self.dilute, b'PLT0000000', 1, 1, 'BARCODE', 5)
+        self.refused(37, self.dilute, b'PLT0000000', 2**64 - 1)
+        self.assertRaises(OverflowError, self.dilute, b'PLT0000000', 2**64)
+        self.assertRaises(OverflowError, self.dilute, b'PLT0000000', -1)
+        self.assertRaises(KeyError, self.dilute, b'PLT0000000', 1, 1, 'NONE')
+        self.assertRaises(TypeError, self.dilute, 'PLT0000000')
+        self.assertRaises(TypeError, self.table.dilute, self.index.buffer, b'PLT0000000', 1, 1)
 
 
 class Refusals(TestCase):

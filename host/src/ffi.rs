@@ -142,4 +142,18 @@ extern "C" {
         index_len: usize,
         field: u32,
     ) -> u32;
+    pub fn gl_dilute(
+        table: *const u8,
+        table_len: usize,
+        index: *const u8,
+        index_len: usize,
+        barcode_field: u32,
+        concentration_field: u32,
+        barcode: *const u8,
+        barcode_len: usize,
+        target: u64,
+        final_volume: u64,
+        sample: *mut u32,
+        diluent: *mut u32,
+    ) -> u32;
 }

@@ -34,7 +34,7 @@ impl<B: AsRef<[u8]>> Index<B> {
         Index { bytes }
     }
 
-    fn lent(&self) -> &[u8] {
+    pub(crate) fn lent(&self) -> &[u8] {
         self.bytes.as_ref()
     }
 

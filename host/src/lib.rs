@@ -11,8 +11,9 @@
 //! assert_eq!(Refusal::Comma.to_string(), "16 (comma in a number)");
 //! ```
 //!
-//! [`Table`] reads a table and its memo file, and lays out and extends a table; [`Index`] makes, audits, searches and extends an index. Both lie over bytes
-//! that the caller holds. [`ffi`] has the C interface itself.
+//! [`Table`] reads a table and its memo file, and lays out and extends a table; [`Index`] makes, audits, searches and extends an index, and gives the
+//! [`Volumes`] of a [`Dilution`]. Both lie over bytes that the caller holds. [`ffi`] has the C interface itself.
+mod dilution;
 pub mod ffi;
 mod index;
 mod number;
@@ -20,6 +21,7 @@ mod refusal;
 mod table;
 mod writing;
 
+pub use dilution::{Dilution, Volumes};
 pub use index::{Index, Lookup};
 pub use number::{read_number, write_number, Decimal};
 pub use refusal::{Answer, Refusal};

@@ -30,7 +30,7 @@ impl Decimal {
     }
 }
 
-/// The number with its point, as the library writes it, without blanks.
+/// The number with its point, as the library writes it, without blanks: `0.150` also if it was read from `.150`.
 impl fmt::Display for Decimal {
     fn fmt(&self, f: &mut fmt::Formatter) -> fmt::Result {
         let mut text = [0; MOST_WIDTH];
@@ -40,7 +40,8 @@ impl fmt::Display for Decimal {
     }
 }
 
-/// Reads a text as that of an N field of its length; `None` if it is all blanks.
+/// Reads a text as that of an N field of its length; `None` if it is all blanks. The zero before the point may be missing, as in `-.150`, unless all digits
+/// are zeros.
 #[inline]
 pub fn read_number(text: &[u8], decimals: u32) -> Answer<Option<Decimal>> {
     compare_interface();
@@ -49,7 +50,8 @@ pub fn read_number(text: &[u8], decimals: u32) -> Answer<Option<Decimal>> {
     present(answer, Decimal { units, decimals })
 }
 
-/// Writes a count of units, each 10 to the -decimals, as the text of an N field of the buffer's length.
+/// Writes a count of units, each 10 to the -decimals, as the text of an N field of the buffer's length. The zero before the point is always written, so a
+/// number that was read from `-.150` does not fit in its five bytes.
 #[inline]
 pub fn write_number(text: &mut [u8], decimals: u32, units: i64) -> Answer<()> {
     compare_interface();

@@ -67,6 +67,11 @@ refusals! {
     30 NoRoom "no room"
     31 IndexAndTableDiffer "index and table differ"
     32 ControlByte "control byte in the key"
+    35 BarcodeAbsent "barcode absent or deleted"
+    36 NoConcentration "no concentration"
+    37 TargetOrVolume "target or volume out of range"
+    38 TargetAboveConcentration "target above concentration"
+    40 ArgumentsOrFiles "arguments or files"
 }
 
 impl Refusal {

@@ -112,6 +112,7 @@ static void give_back(lent *l)
 
 static const char *repository = ".";
 static const char samples[] = "crates/test_samples", samples_data[] = "crates/test_samples/data", indexes_data[] = "crates/test_indexes/data";
+static const char dilution_data[] = "crates/test_dilution/data";
 
 static lent load(const char *folder, const char *name)
 {
@@ -169,7 +170,20 @@ static void test_number_read(void)
     READS("+12", 0, 17, 0);
     READS("- 1", 0, 17, 0);
     READS("  -", 0, 17, 0);
-    READS(" .5", 1, 17, 0);
+    READS(" .5", 1, 0, 5);
+    READS("   .150", 3, 0, 150);
+    READS("-.150", 3, 0, -150);
+    READS(" .000", 3, 17, 0);
+    READS("-.000", 3, 17, 0);
+    READS("    .", 3, 17, 0);
+    READS(".", 0, 17, 0);
+    READS(".5", 0, 17, 0);
+    READS("+.150", 3, 17, 0);
+    READS("..150", 3, 17, 0);
+    READS("- .150", 3, 17, 0);
+    READS(" .15", 3, 6, 0);
+    READS(" .15,", 3, 16, 0);
+    READS("  -.999999999999999", 15, 0, -999999999999999);
     READS("1e3", 0, 17, 0);
     READS("x,y", 0, 16, 0);
     READS("", 0, 6, 0);
@@ -227,7 +241,7 @@ static void writes(size_t width, uint32_t decimals, int64_t value)
 
 static void test_number_write(void)
 {
-    static const int64_t values[] = {0, 1, -1, 9, 10, 99, 2150, -2150, 1000000, 123456789, -9999999999, 999999999999999999,
+    static const int64_t values[] = {0, 1, -1, 9, 10, 99, -150, 2150, -2150, 1000000, 123456789, -9999999999, 999999999999999999,
                                      -999999999999999999, 1000000000000000000, -1000000000000000000, INT64_MAX, INT64_MIN};
     for (size_t v = 0; v < sizeof values / sizeof *values; v++)
         for (size_t width = 0; width <= 22; width++)
@@ -1319,6 +1333,68 @@ static void test_match(void)
     give_back(&index);
 }
 
+/* The answer for a barcode of field 1 with the concentration in field 2, and the two volumes; a refusal leaves both. */
+#define DILUTES(code, target, final, want, first, second)                                                                                             \
+    do {                                                                                                                                              \
+        uint32_t sample = 77, diluent = 88;                                                                                                           \
+        SAME(gl_dilute(t.bytes, t.len, index.bytes, index.len, 1, 2, (const uint8_t *)code, strlen(code), target, final, &sample, &diluent), want);   \
+        SAME(sample, (want) == 0 ? (first) : 77u);                                                                                                    \
+        SAME(diluent, (want) == 0 ? (second) : 88u);                                                                                                  \
+    } while (0)
+
+/* The samples of document 02's K11: what the program prints for k11_01 and others, by the call. */
+static void test_dilute(void)
+{
+    lent t = load(dilution_data, "k11.dbf"), index = load(dilution_data, "k11.idx");
+    DILUTES("PLT0000000", 2000, 1000, 0, 930, 70);
+    DILUTES("PLT0000109", 2000, 1000, 0, 500, 500);
+    DILUTES("PLT0000028", 2000, 1000, 0, 667, 333);
+    DILUTES("PLT0000947", 2000, 1000, 0, 286, 714);
+    DILUTES("PLT0000433", 2000, 1000, 0, 0, 1000);
+    DILUTES("PLT0000000", 2150, 333, 0, 333, 0);
+    DILUTES("PLT0000000", 1, 10000, 0, 5, 9995);
+    /* the comma is no number, whatever is asked */
+    DILUTES("PLT0000919", 2000, 1000, 16, 0, 0);
+    DILUTES("PLT0000919", 0, 0, 16, 0, 0);
+    /* empty, zero, negative; other texts */
+    DILUTES("PLT0000838", 0, 0, 36, 0, 0);
+    DILUTES("PLT0000757", 2000, 1000, 36, 0, 0);
+    DILUTES("PLT0000676", 2000, 1000, 36, 0, 0);
+    DILUTES("PLT0000595", 2000, 1000, 17, 0, 0);
+    /* deleted, a bad deletion byte, absent, the wrong length */
+    DILUTES("PLT0000352", 1000, 1000, 35, 0, 0);
+    DILUTES("PLT0000271", 1000, 1000, 15, 0, 0);
+    DILUTES("PLT0000001", 1000, 1000, 35, 0, 0);
+    DILUTES("PLT000000", 1000, 1000, 27, 0, 0);
+    DILUTES("PLT00000000", 1000, 1000, 27, 0, 0);
+    /* ranges before the concentration's limit */
+    DILUTES("PLT0000000", 0, 1000, 37, 0, 0);
+    DILUTES("PLT0000000", 1000000001, 1000, 37, 0, 0);
+    DILUTES("PLT0000000", 1000, 0, 37, 0, 0);
+    DILUTES("PLT0000000", 1000, 10001, 37, 0, 0);
+    DILUTES("PLT0000000", 2151, 1000, 38, 0, 0);
+    /* the fields' numbers, the match's refusals before them */
+    uint32_t sample = 7, diluent = 8;
+#define FIELDS(barcode, concentration, want)                                                                                                          \
+    SAME(gl_dilute(t.bytes, t.len, index.bytes, index.len, barcode, concentration, (const uint8_t *)"PLT0000000", 10, 1, 1, &sample, &diluent), want)
+    FIELDS(0, 0, 12);
+    FIELDS(2, 2, 13);
+    FIELDS(1, 0, 12);
+    FIELDS(1, 5, 12);
+    FIELDS(1, 1, 13);
+    FIELDS(1, 4, 13);
+    index.bytes[512] = 0, FIELDS(1, 0, 25);
+    index.bytes[14] = 0, FIELDS(1, 0, 24);
+    t.bytes[0] = 0x83, FIELDS(1, 0, 2);
+#undef FIELDS
+    SAME(sample, 7);
+    SAME(diluent, 8);
+    MARGINS(t);
+    MARGINS(index);
+    give_back(&t);
+    give_back(&index);
+}
+
 /* An insertion refuses what the audit refuses, and leaves it. */
 static void test_damaged_index(const char *name, const char *key)
 {
@@ -1381,6 +1457,7 @@ int main(int argc, char **argv)
     test_longest_table();
     test_set_date();
     test_match();
+    test_dilute();
     test_damaged_index("k1_bytes.idx", "\x80");
     test_damaged_index("k100_full_raised.idx", "0123456789012345678901234567890123456789012345678901234567890123456789012345678901234567890123456789");
     printf("%lu comparisons, %lu differences\n", checks, differences);

@@ -18,7 +18,7 @@ pub enum Field {
 }
 
 // A number too big for 32 bits becomes 2³² − 1, which no table has as a field either.
-fn at_most_32_bits(n: u64) -> u32
+pub fn at_most_32_bits(n: u64) -> u32
     ensures { λ r. ⌜ r ≡ min n maxNumber ⌝ }
 {
     if n < MAX_NUMBER {

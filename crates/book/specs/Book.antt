@@ -19,7 +19,7 @@ use Rattle.sound.specs.Sound.{Sound}
 pub use Rattle.sound.specs.Sound.{leafPairs}
 use Rattle.insert.specs.Calls.{hasControl, insertRule}
 use Rattle.insert.specs.Insertion.{insertedBuffer}
-use Rattle.insert.specs.Room.{noRoom}
+use Rattle.insert.specs.Room.{pathTo, noRoom}
 use Rattle.insert.specs.declared.Insertion.{Insertion}
 use Rattle.insert.specs.declared.Insertion.the-variants.{Accepted, Refused}
 
@@ -47,7 +47,7 @@ bufferAfter (insertion key r) b = insertRule b key r .after
 bufferAfter (lookupOf key) b = b
 
 abbrev pub noRoomFor : Call (List ℕ) → List ℕ → Bool
-noRoomFor (insertion key r) b = noRoom (keyLength b) b key
+noRoomFor (insertion key r) b = noRoom b (pathTo (keyLength b) b key r)
 noRoomFor (lookupOf key) b = false
 
 -- a key has k bytes; 27 is for "a key not of k bytes"

@@ -10,14 +10,13 @@ use lib.Dec.{eqb}
 use lib.ListN.{length}
 use borrow.Author.Tests.{eqb-true}
 use Rattle.basis.specs.Tests.{either, impossible}
-use Rattle.tree.specs.Book.{Call, insertion, lookupOf, accepted, absent, refusedIf, isPresent, foundOrAbsent, isAccepted}
+use Rattle.tree.specs.Book.{Call, insertion, lookupOf, accepted, absent, refusedIf, foundOrAbsent, isAccepted}
 use Rattle.tree.specs.Index.{Index, held, Setting, outOfRoom, noRoomFor as noRoomTo, answer, inserted, next}
 use Rattle.tree.specs.IndexLaws.{accepted-acceptable}
-use Rattle.tree.specs.Ordered.{lookup-find}
-use Rattle.tree.specs.Pairs.{find}
+use Rattle.tree.specs.Pairs.{byKey, has}
 use Rattle.tree.specs.SoundIndex.{SoundIndex}
 use Rattle.tree.specs.Tree.{lookup, visited}
-use Rattle.page.specs.Header.{maxBytes, maxLevels, rootOffset, keyLength, headerGood}
+use Rattle.page.specs.Header.{maxBytes, keyLength, headerGood}
 use Rattle.page.specs.HeaderLaws.{good-header}
 use Rattle.page.specs.KeyOrder.{bytesOrder}
 use Rattle.page.specs.declared.RecordNumber.{RecordNumber}
@@ -29,12 +28,12 @@ use Rattle.sound.specs.Accepted.{accepted as audit-accepts}
 use Rattle.sound.specs.Sound.{indexTree, Sound}
 use Rattle.sound.specs.Rule.{pagesGood, unmarked}
 use Rattle.sound.specs.IndexLaws.{indexOf, settingOf, sound-index}
-use Rattle.insert.specs.Calls.{AfterCall, afterCall, hasControl, isFound, insertRule}
+use Rattle.insert.specs.Calls.{AfterCall, afterCall, hasControl, insertRule}
 use Rattle.insert.specs.Insertion.{insertedBuffer}
-use Rattle.insert.specs.Room.{pathFrom, noRoom}
+use Rattle.insert.specs.Room.{pathTo, noRoom}
 use Rattle.insert.specs.declared.Insertion.the-variants.{Accepted, Refused}
 use Rattle.insert_laws.specs.InsertHeads.{Plain}
-use Rattle.insert_laws.specs.RoomLaws.{sound-levels, room-is}
+use Rattle.insert_laws.specs.RoomLaws.{sound-levels, present-is, room-is}
 use Rattle.insert_laws.specs.InsertSound.{Accepts, insert-keeps-sound}
 use Rattle.book.specs.Book.{insertionAnswer, lookupAnswer, answerTo, bufferAfter, noRoomFor, fits, barcodes, FourBytes, VisitsLevels, LeavesBuffer}
 
@@ -47,11 +46,11 @@ pub record Kept (k size : ℕ) (b : List ℕ) : Type 0 where
 
 -- the levels below the root, read from the bytes: those of the path to any key
 unfoldable pub heightIn : List ℕ → ℕ
-heightIn b = pathFrom (keyLength b) maxLevels b [] (rootOffset b) .levels - 1
+heightIn b = pathTo (keyLength b) b [] 0 .levels - 1
 
 height-is : (b : List ℕ) (s : Sound b) → heightIn b ≡ s .height
 unfolding heightIn
-height-is b s = omega (arith, sound-levels b [] s)
+height-is b s = omega (arith, sound-levels b [] 0 s)
 
 -- the index that a buffer reads as
 abbrev pub readIndex : List ℕ → Index (List ℕ)
@@ -115,7 +114,7 @@ refusals-after b b″ true true false false true false false = refl
 
 insert-refusals : (b key : List ℕ) (r : ℕ) → insertRule b key r
     ≡ refusals b (insertedBuffer (keyLength b) b key r) (headerGood b) (eqb (length key) (keyLength b)) (hasControl key) (eqb r 0) (pagesGood b unmarked)
-    (isFound (lookupRule b key)) (noRoom (keyLength b) b key)
+    (pathTo (keyLength b) b key r .present) (noRoom b (pathTo (keyLength b) b key r))
 unfolding insertRule refusals
 insert-refusals b key r = refl
 
@@ -124,17 +123,13 @@ pub leaves-buffer : (c : Call (List ℕ)) (b : List ℕ) → LeavesBuffer c b
 unfolding insertRule refusals
 leaves-buffer (insertion key r) b =
     refusals-after b (insertedBuffer (keyLength b) b key r) (headerGood b) (eqb (length key) (keyLength b)) (hasControl key) (eqb r 0)
-    (pagesGood b unmarked) (isFound (lookupRule b key)) (noRoom (keyLength b) b key)
+    (pagesGood b unmarked) (pathTo (keyLength b) b key r .present) (noRoom b (pathTo (keyLength b) b key r))
 leaves-buffer (lookupOf key) b = tt
 
 -- lookup's answer, by the record that was found
 answer-reply : (o : Option ℕ) (n : ℕ) → lookupAnswer (answerOf o n) ≡ foundOrAbsent o
 answer-reply none n = refl
 answer-reply (some r) n = refl
-
-pub answer-found : (o : Option ℕ) (n : ℕ) → isFound (answerOf o n) ≡ isPresent o
-answer-found none n = refl
-answer-found (some r) n = refl
 
 -- the record that was found, by lookup's answer
 foundRecord : Looked → Option ℕ
@@ -192,27 +187,22 @@ module _ (k size : ℕ) (b : List ℕ) (kept : Kept k size b) where
       (λ f. let other : looked.Refused 27 ≡ looked.Found r pages = sym (misfit key f) ∙ e in impossible (cc))
 
   -- insertion
-  same-room : (key : List ℕ) → noRoom (keyLength b) b key ≡ outOfRoom (keeping k size) key (readIndex b)
-  same-room key =
-      room-is b key s
-      ∙ ap (λ (n : ℕ). outOfRoom (settingOf n (min (length b) maxBytes)) key (indexOf b (s .height))) (kept .keyIs)
-      ∙ ap (λ (n : ℕ). outOfRoom (keeping k n) key (indexOf b (s .height))) (kept .as-long)
-      ∙ ap (outOfRoom (keeping k size) key) (sym same-index)
+  same-room : (key : List ℕ) (r : ℕ) → noRoom b (pathTo (keyLength b) b key r) ≡ outOfRoom (keeping k size) (key, r) (readIndex b)
+  same-room key r =
+      room-is b key r s
+      ∙ ap (λ (n : ℕ). outOfRoom (settingOf n (min (length b) maxBytes)) (key, r) (indexOf b (s .height))) (kept .keyIs)
+      ∙ ap (λ (n : ℕ). outOfRoom (keeping k n) (key, r) (indexOf b (s .height))) (kept .as-long)
+      ∙ ap (outOfRoom (keeping k size) (key, r)) (sym same-index)
 
-  same-found : (key : List ℕ) → fits k key ≡ true → isFound (lookupRule b key) ≡ isPresent (find bytesOrder key (held (readIndex b)))
-  same-found key f =
-      ap isFound (found-is key f) ∙ answer-found (lookup bytesOrder key (heightIn b) (indexTree b (heightIn b)))
-      (length (visited bytesOrder key (heightIn b) (indexTree b (heightIn b))))
-      ∙ ap isPresent (lookup-find bytesOrder key (heightIn b) (indexTree b (heightIn b)) (kept-sound .ordered))
+  same-present : (key : List ℕ) (r : ℕ) → pathTo (keyLength b) b key r .present ≡ has (byKey bytesOrder) (key, r) (held (readIndex b))
+  same-present key r = present-is b key r s ∙ ap (λ (i : Index (List ℕ)). has (byKey bytesOrder) (key, r) (held i)) (sym same-index)
 
   insert-answers : (key : List ℕ) (r : ℕ) → answerTo (insertion key r) b ≡ answer (keeping k size) (barcodes k) (insertion key r) (readIndex b)
   insert-answers key r =
       rw (insert-refusals b key r, s .header, audit-accepts b (s .header) .1 s)
       (refusals-answer b (insertedBuffer (keyLength b) b key r) (eqb (length key) (keyLength b)) (hasControl key) (eqb r 0)
-      (isFound (lookupRule b key)) (noRoom (keyLength b) b key)
-      ∙ either (fits k key)
-      (λ f. rw (same-fit key, f, same-found key f, same-room key))
-      (λ f. rw (same-fit key, f)))
+      (pathTo (keyLength b) b key r .present) (noRoom b (pathTo (keyLength b) b key r))
+      ∙ rw (same-fit key, same-room key r, same-present key r))
 
   -- Theorem: each call answers as the theory's call does, and is 30 by the theory's rule
   pub same-answer : (c : Call (List ℕ)) → answerTo c b ≡ answer (keeping k size) (barcodes k) c (readIndex b)
@@ -220,7 +210,7 @@ module _ (k size : ℕ) (b : List ℕ) (kept : Kept k size b) where
   same-answer (lookupOf key) = lookup-answers key
 
   pub same-rule : (c : Call (List ℕ)) → noRoomFor c b ≡ noRoomTo (keeping k size) c (readIndex b)
-  same-rule (insertion key r) = same-room key
+  same-rule (insertion key r) = same-room key r
   same-rule (lookupOf key) = refl
 
   -- a refused insertion
@@ -231,8 +221,8 @@ module _ (k size : ℕ) (b : List ℕ) (kept : Kept k size b) where
   module _ (key : List ℕ) (r : ℕ) (r32 : r < 2 ^ 32) (e : isAccepted (answerTo (insertion key r) b) ≡ true) where
     accepts : Accepts b key r
     accepts =
-        let a = accepted-acceptable (fits k key) (hasControl key) r (find bytesOrder key (held (readIndex b)))
-        (outOfRoom (keeping k size) key (readIndex b))
+        let a = accepted-acceptable (fits k key) (hasControl key) r (has (byKey bytesOrder) (key, r) (held (readIndex b)))
+        (outOfRoom (keeping k size) (key, r) (readIndex b))
         (ap isAccepted (sym (insert-answers key r)) ∙ e) in
         record {
           sound = s;
@@ -240,8 +230,8 @@ module _ (k size : ℕ) (b : List ℕ) (kept : Kept k size b) where
           long = eqb-true (length key) k (a .fitting) ∙ sym (kept .keyIs);
           positive = a .positive;
           r32 = r32;
-          absent = ap (λ (i : Index (List ℕ)). find bytesOrder key (held i)) (sym same-index) ∙ a .new;
-          room = same-room key ∙ a .room;
+          absent = ap (λ (i : Index (List ℕ)). has (byKey bytesOrder) (key, r) (held i)) (sym same-index) ∙ a .new;
+          room = same-room key r ∙ a .room;
         }
 
     after : bufferAfter (insertion key r) b ≡ insertedBuffer (keyLength b) b key r
@@ -252,14 +242,14 @@ module _ (k size : ℕ) (b : List ℕ) (kept : Kept k size b) where
         let i = insert-keeps-sound b key r accepts in
         record { sound = i .sound; keyIs = i .keyIs ∙ kept .keyIs; as-long = i .as-long ∙ kept .as-long; plain = i .plain }
 
-    next-inserted : readIndex (insertedBuffer (keyLength b) b key r) ≡ inserted (keeping k size) key r (readIndex b)
+    next-inserted : readIndex (insertedBuffer (keyLength b) b key r) ≡ inserted (keeping k size) (key, r) (readIndex b)
     unfolding accepts
     next-inserted =
         let i = insert-keeps-sound b key r accepts in
         read-is (insertedBuffer (keyLength b) b key r) (i .sound) ∙ i .index
-        ∙ ap (λ (n : ℕ). inserted (settingOf n (min (length b) maxBytes)) key r (indexOf b (s .height))) (kept .keyIs)
-        ∙ ap (λ (n : ℕ). inserted (keeping k n) key r (indexOf b (s .height))) (kept .as-long)
-        ∙ ap (inserted (keeping k size) key r) (sym same-index)
+        ∙ ap (λ (n : ℕ). inserted (settingOf n (min (length b) maxBytes)) (key, r) (indexOf b (s .height))) (kept .keyIs)
+        ∙ ap (λ (n : ℕ). inserted (keeping k n) (key, r) (indexOf b (s .height))) (kept .as-long)
+        ∙ ap (inserted (keeping k size) (key, r)) (sym same-index)
 
   -- Theorem: each call keeps what `Kept` says, and the index after it is the theory's
   pub keeps : (c : Call (List ℕ)) → FourBytes c → Kept k size (bufferAfter c b)

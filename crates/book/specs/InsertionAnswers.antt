@@ -1,5 +1,5 @@
 -- Laws: what each answer of insertion says, in the order "24, 27, 28, 25 by full audit, 29 if the key is in a leaf, 30", with 32 "after 27 and before 28". The
--- rule computes with the audit's test and with lookup's steps; here `Sound` and the leaves' pairs stand in their place. No proof of the code cites these laws:
+-- rule computes with the audit's test and with the key's path; here `Sound` and the leaves' pairs stand in their place. No proof of the code cites these laws:
 -- they are for readers of the rule. Assumes nothing.
 use Prim.Native.Nat.{ℕ, _<_}
 use mathlib.Core.Path.{_≡_, refl, sym, ap, _∙_, subst}
@@ -13,23 +13,24 @@ use borrow.Author.Tests.{eqb-true, eqb-false}
 use Rattle.basis.specs.Tests.{either, contra, both, join}
 use Rattle.octets.specs.Order.{bytesLe}
 use Rattle.octets.specs.OrderLaws.{le-refl, le-antisym}
-use Rattle.tree.specs.Book.{isPresent}
-use Rattle.tree.specs.Pairs.{find, get}
-use Rattle.tree.specs.PairLaws.{find-get}
+use Rattle.tree.specs.Pairs.{find, byKey, has, present}
+use Rattle.tree.specs.PairLaws.{present-has}
 use Rattle.page.specs.Header.{keyLength, headerGood}
 use Rattle.page.specs.KeyOrder.{bytesOrder}
 use Rattle.lookup.specs.Lookup.{lookupRule}
-use Rattle.lookup_laws.specs.FoundLaws.{lookup-list}
+use Rattle.lookup.specs.declared.Answer.{Answer as Looked}
+use Rattle.lookup.specs.declared.Answer.the-variants as looked
+use Rattle.lookup_laws.specs.FoundLaws.{answerOf, lookup-list}
 use Rattle.sound.specs.Sound.{Sound}
 use Rattle.sound.specs.Rule.{pagesGood, unmarked}
 use Rattle.sound.specs.Accepted.{accepted as audit-accepts}
-use Rattle.insert.specs.Calls.{AfterCall, insertionCode, hasControl, isFound, insertRule}
+use Rattle.insert.specs.Calls.{AfterCall, insertionCode, hasControl, insertRule}
 use Rattle.insert.specs.CallLaws as calls
-use Rattle.insert.specs.Room.{noRoom}
+use Rattle.insert.specs.Room.{pathTo, noRoom}
 use Rattle.insert.specs.declared.Insertion.{Insertion}
 use Rattle.insert.specs.declared.Insertion.the-variants.{Accepted, Refused}
+use Rattle.insert_laws.specs.RoomLaws.{present-is}
 use Rattle.book.specs.Book.{Pairs, leafPairs}
-use Rattle.book.specs.CallLaws.{answer-found}
 
 -- one of the pairs has the key
 abbrev pub HasKey : List ℕ → Pairs → Type 0
@@ -85,12 +86,12 @@ pub record New (b key : List ℕ) (r : ℕ) : Type 0 where
 -- 30: and there is no room for the new pages or levels
 pub record Full (b key : List ℕ) (r : ℕ) : Type 0 where
   pub new : New b key r
-  pub full : noRoom (keyLength b) b key ≡ true
+  pub full : noRoom b (pathTo (keyLength b) b key r) ≡ true
 
 -- accepted: and there is
 pub record Fitting (b key : List ℕ) (r : ℕ) : Type 0 where
   pub new : New b key r
-  pub room : noRoom (keyLength b) b key ≡ false
+  pub room : noRoom b (pathTo (keyLength b) b key r) ≡ false
 
 -- the answer a to an insertion of a key with the record number r: each of the eight answers is given exactly when
 pub record InsertionSays (b key : List ℕ) (r : ℕ) (a : Insertion) : Type 0 where
@@ -104,28 +105,47 @@ pub record InsertionSays (b key : List ℕ) (r : ℕ) (a : Insertion) : Type 0 w
   pub accepted : (a ≡ Accepted) ↔ Fitting b key r
 
 -- a list of pairs has something under a key exactly when one of its pairs has the key
-get-has : (key : List ℕ) (es : Pairs) → isPresent (get bytesOrder key es) ≡ true → HasKey key es
-get-has key [] e = contra e refl
-get-has key (x ∷ es) e = either (bytesLe key (x .0) && bytesLe (x .0) key)
+has-key : (key : List ℕ) (r : ℕ) (es : Pairs) → has (byKey bytesOrder) (key, r) es ≡ true → HasKey key es
+has-key key r [] e = contra e refl
+has-key key r (x ∷ es) e = either (bytesLe key (x .0) && bytesLe (x .0) key)
     (λ t. let u = both (bytesLe key (x .0)) (bytesLe (x .0) key) t in inl (le-antisym (x .0) key (u .1) (u .0)))
-    (λ t. inr (get-has key es (rw t at e)))
+    (λ t. inr (has-key key r es (rw t at e)))
 
-has-get : (key : List ℕ) (es : Pairs) → HasKey key es → isPresent (get bytesOrder key es) ≡ true
-has-get key [] h = absurd h
-has-get key (x ∷ es) h = either (bytesLe key (x .0) && bytesLe (x .0) key)
+key-has : (key : List ℕ) (r : ℕ) (es : Pairs) → HasKey key es → has (byKey bytesOrder) (key, r) es ≡ true
+key-has key r [] h = absurd h
+key-has key r (x ∷ es) h = either (bytesLe key (x .0) && bytesLe (x .0) key)
     (λ t. rw t)
-    (λ t. ⊎-elim (λ q. contra (rw q (join _ _ (le-refl key) (le-refl key))) t) (λ m. rw t (has-get key es m)) h)
+    (λ t. ⊎-elim (λ q. contra (rw q (join _ _ (le-refl key) (le-refl key))) t) (λ m. rw t (key-has key r es m)) h)
+
+-- Theorem: the leaf on the path of a key has the key in a sound index exactly when the key is among the leaves' pairs
+pub leaf-exactly : (b key : List ℕ) (r : ℕ) (s : Sound b) → (pathTo (keyLength b) b key r .present ≡ true) ↔ HasKey key (leafPairs b s)
+leaf-exactly b key r s = (
+  (λ e. has-key key r (leafPairs b s) (sym (present-is b key r s) ∙ e)),
+  (λ h. present-is b key r s ∙ key-has key r (leafPairs b s) h),
+)
+
+-- lookup found the key
+abbrev pub isFound : Looked → Bool
+isFound (looked.Found r pages) = true
+isFound (looked.Absent pages) = false
+isFound (looked.Refused n) = false
+
+found-present : (key : List ℕ) (n : ℕ) (es : Pairs) → isFound (answerOf (find bytesOrder key es) n) ≡ present (byKey bytesOrder) (key, 0) es
+found-present key n [] = refl
+found-present key n (x ∷ es) = either (bytesLe key (x .0))
+    (λ t. either (bytesLe (x .0) key) (λ u. rw (t, u)) (λ u. rw (t, u)))
+    (λ t. rw t (found-present key n es))
 
 -- Theorem: lookup finds a key of k bytes in a sound index exactly when the key is among the leaves' pairs
 module _ (b key : List ℕ) (s : Sound b) (fits : length key ≡ keyLength b) where
-  found-is : isFound (lookupRule b key) ≡ isPresent (get bytesOrder key (leafPairs b s))
+  found-is : isFound (lookupRule b key) ≡ has (byKey bytesOrder) (key, 0) (leafPairs b s)
   found-is =
       ap isFound (lookup-list b key s fits)
-      ∙ answer-found (find bytesOrder key (leafPairs b s)) _
-      ∙ ap isPresent (find-get bytesOrder key (leafPairs b s) (s .ascending))
+      ∙ found-present key _ (leafPairs b s)
+      ∙ present-has bytesOrder (key, 0) (leafPairs b s) (s .ascending)
 
   pub found-exactly : (isFound (lookupRule b key) ≡ true) ↔ HasKey key (leafPairs b s)
-  found-exactly = ((λ e. get-has key (leafPairs b s) (sym found-is ∙ e)), (λ h. found-is ∙ has-get key (leafPairs b s) h))
+  found-exactly = ((λ e. has-key key 0 (leafPairs b s) (sym found-is ∙ e)), (λ h. found-is ∙ key-has key 0 (leafPairs b s) h))
 
 -- A if the test holds, else B
 whether : Bool → Type 0 → Type 0 → Type 0
@@ -149,12 +169,12 @@ module _ (b key : List ℕ) (r : ℕ) where
       either (pagesGood b unmarked)
       (λ p.
       let s = audit-accepts b h .0 p in
-      let found = found-exactly b key s fits in
-      either (isFound (lookupRule b key))
-      (λ f. f29 (record { asked = asked; sound = s; there = found .0 f }))
+      let leaf = leaf-exactly b key r s in
+      either (pathTo (keyLength b) b key r .present)
+      (λ f. f29 (record { asked = asked; sound = s; there = leaf .0 f }))
       (λ f.
-      let new : New b key r = record { asked = asked; sound = s; absent = λ t. contra (found .1 t) f } in
-      either (noRoom (keyLength b) b key) (λ n. f30 (record { new = new; full = n })) (λ n. made (record { new = new; room = n }))))
+      let new : New b key r = record { asked = asked; sound = s; absent = λ t. contra (leaf .1 t) f } in
+      either (noRoom b (pathTo (keyLength b) b key r)) (λ n. f30 (record { new = new; full = n })) (λ n. made (record { new = new; room = n }))))
       (λ p. f25 (record { asked = asked; unsound = λ s. contra (audit-accepts b h .1 s) p })))))
       (λ l. f27 (record { header = h; other = eqb-false (length key) (keyLength b) l })))
       (λ h. f24 (record { header = h }))
@@ -171,8 +191,8 @@ module _ (b key : List ℕ) (r : ℕ) where
   pages-bad : headerGood b ≡ true → (Sound b → ⊥) → pagesGood b unmarked ≡ false
   pages-bad h n = either (pagesGood b unmarked) (λ p. absurd (n (audit-accepts b h .0 p))) (λ p. p)
 
-  not-found : New b key r → isFound (lookupRule b key) ≡ false
-  not-found w = either (isFound (lookupRule b key)) (λ f. absurd (w .absent (found-exactly b key (w .sound) (w .asked .fits) .0 f))) (λ f. f)
+  not-present : New b key r → pathTo (keyLength b) b key r .present ≡ false
+  not-present w = either (pathTo (keyLength b) b key r .present) (λ f. absurd (w .absent (leaf-exactly b key r (w .sound) .0 f))) (λ f. f)
 
   -- in each case the rule gives its answer
   is-24 : BadHeader b → answer ≡ Refused 24
@@ -197,19 +217,19 @@ module _ (b key : List ℕ) (r : ℕ) where
       let a = c .asked in
       ap (λ (i : AfterCall). i .answer)
       (calls.refused-29 b key r (a .header) (a .fits) (a .clean) (not-zero (a .number)) (pages-good (c .sound))
-      (found-exactly b key (c .sound) (a .fits) .1 (c .there)))
+      (leaf-exactly b key r (c .sound) .1 (c .there)))
 
   is-30 : Full b key r → answer ≡ Refused 30
   is-30 c =
       let a = c .new .asked in
       ap (λ (i : AfterCall). i .answer)
-      (calls.refused-30 b key r (a .header) (a .fits) (a .clean) (not-zero (a .number)) (pages-good (c .new .sound)) (not-found (c .new)) (c .full))
+      (calls.refused-30 b key r (a .header) (a .fits) (a .clean) (not-zero (a .number)) (pages-good (c .new .sound)) (not-present (c .new)) (c .full))
 
   is-accepted : Fitting b key r → answer ≡ Accepted
   is-accepted c =
       let a = c .new .asked in
       ap (λ (i : AfterCall). i .answer)
-      (calls.accepted-pair b key r (a .header) (a .fits) (a .clean) (not-zero (a .number)) (pages-good (c .new .sound)) (not-found (c .new)) (c .room) refl)
+      (calls.accepted-pair b key r (a .header) (a .fits) (a .clean) (not-zero (a .number)) (pages-good (c .new .sound)) (not-present (c .new)) (c .room) refl)
 
   -- the case by the answer's code; an accepted insertion has 0
   Case : ℕ → Type 0

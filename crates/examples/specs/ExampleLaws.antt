@@ -34,16 +34,16 @@ pub examples-hold : map (λ e. answer (e .0)) examples ≡ map (λ e. e .1) exam
 unfolding examples answer ascii reading.readNumber format.formatGood chars.every chars.unpadded reading.some reading.after reading.front reading.hasMinus
     reading.withoutMinus reading.wholeGood reading.fractionGood reading.wholePart reading.fraction reading.withoutPoint reading.digits chars.numberFrom
     chars.numberOf reading.textGood reading.signed reading.valueOf reading.digitCount date.dateOf date.dateOfNumbers date.isFieldDate calendar.isDate
-    calendar.daysInMonth calendar.rowOf calendar.isLeap calendar.monthLengths tree.tree000 tree.padded tree.page tree.entry bytes.le16 bytes.le32
-    bytes.be32 bytes.toLe16 bytes.toLe32 bytes.toBe32 store.window order.bytesLe order.ordering header.isPage header.sizeGood header.keyLengthGood
-    header.headerGood page.capacity page.entryOffset page.attributeGood page.countGood page.pageGood page.firstAtOrAbove pages.items pages.itemsAt
-    pages.entriesAt lookup.entrySays lookup.pageSays lookup.visitRule lookup.lookupFrom lookup.lookupRule audit.leafEntriesGood audit.upperEntriesGood
-    audit.chain children.isLeaf audit.markedFrom audit.entriesFit audit.pageFits audit.checkPage audit.checkPages audit.rootLevel audit.nextLevel
-    audit.levelsUnder audit.heightOf audit.down audit.upperPagesGood audit.upperLevelsGood audit.shapeGood audit.keysAboveGood audit.pagesGood
-    audit.unmarked shown tree100.key100 tree100.grown store.put layout.encode layout.area layout.withEntries layout.newPage layout.linkBeyond
-    layout.splitPage entries.raised insertion.takeIn insertion.insertUnder insertion.insertedBuffer fresh.freshHeader fresh.freshBuffer fresh.freshRule
-    fresh.printable fresh.expressionGood room.pathFrom room.noRoom calls.insertRule supply.supplyOf supply.takePage supply.supplyAfter supply.withSupply
-    calls.hasControl
+    calendar.daysInMonth calendar.rowOf calendar.isLeap calendar.monthLengths tree.tree000 tree.padded tree.page tree.entry bytes.le16 bytes.le32 bytes.be32
+    bytes.toLe16 bytes.toLe32 bytes.toBe32 store.window order.bytesLe order.ordering header.isPage header.sizeGood header.keyLengthGood header.headerGood
+    page.capacity page.entryOffset page.attributeGood page.countGood page.pageGood page.firstAtOrAbove pages.items pages.itemsAt pages.entriesAt
+    lookup.entrySays lookup.pageSays lookup.visitRule lookup.lookupFrom lookup.lookupRule audit.leafEntriesGood audit.upperEntriesGood audit.chain
+    children.isLeaf audit.markedFrom audit.entriesFit audit.pageFits audit.checkPage audit.checkPages audit.rootLevel audit.nextLevel audit.levelsUnder
+    audit.heightOf audit.upperPagesGood audit.upperLevelsGood audit.shapeGood audit.keysAboveGood audit.pagesGood audit.unmarked shown tree100.key100
+    tree100.grown store.put layout.encode layout.area layout.withEntries layout.newPage layout.linkBeyond layout.splitPage entries.raised insertion.takeIn
+    insertion.insertUnder insertion.insertedBuffer fresh.freshHeader fresh.freshBuffer fresh.freshRule fresh.printable fresh.expressionGood room.pathFrom
+    room.noRoom calls.insertRule supply.supplyOf supply.takePage supply.supplyAfter supply.withSupply calls.hasControl reading.wholeMissing
+    reading.zeroDropped audit.down
 examples-hold = refl
 
 -- the audit's tests of the tree in 000

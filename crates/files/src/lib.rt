@@ -1,8 +1,9 @@
-// Whole files. A file is read to the start of a buffer, or refused with a message on standard error that says why.
+// Whole files, and standard input. A file is read to the start of a buffer, or refused with a message on standard error that says why.
 ghost use mathlib.Core.Path.{_≡_};
 ghost use lib.ListN.{length};
 ghost use Rattle.io.specs.Counts.{Counts};
 use libc::STDERR_FILENO;
+use libc::STDIN_FILENO;
 
 // Room for a file of 1,048,576 bytes. The `ensures` gives only the length: it is all that lending the array as a slice needs.
 pub fn space() -> [u8; 1048576]
@@ -66,5 +67,14 @@ pub fn load(path: &[u8], buffer: &mut [u8]) -> Loaded
     let len = io::read_full(fd, buffer);
     let whole = is_at_end(fd, path, buffer.len());
     libc::close(fd);
+    Loaded { whole, len }
+}
+
+// Reads standard input of at most as many bytes as the buffer has.
+pub fn load_input(buffer: &mut [u8]) -> Loaded
+    ensures { λ r. ⌜ Counts (r .len) (now (buffer .exit)) ⌝ }
+{
+    let len = io::read_full(STDIN_FILENO, buffer);
+    let whole = is_at_end(STDIN_FILENO, b"standard input", buffer.len());
     Loaded { whole, len }
 }

@@ -14,3 +14,7 @@ pub mod ToldApart
 pub mod Writing
 -- Laws: what the proofs of these calls cite; out-parameters keep what they held
 pub mod WritingLaws
+-- Rules: what the dilution of a barcode hands to C
+pub mod Volumes
+-- Laws: 0 is answered exactly if there are volumes; out-parameters keep what they held
+pub mod VolumesLaws

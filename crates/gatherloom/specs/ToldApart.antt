@@ -45,9 +45,9 @@ use Rattle.lookup.specs.declared.Visit.the-variants as visit
 use Rattle.lookup.specs.declared.Answer.{Answer}
 use Rattle.lookup.specs.declared.Answer.the-variants as looked
 use Rattle.sound.specs.Rule.{pagesGood, unmarked}
-use Rattle.insert.specs.Room.{noRoom}
+use Rattle.insert.specs.Room.{pathTo, noRoom}
 use Rattle.insert.specs.Fresh.{expressionGood, freshRule}
-use Rattle.insert.specs.Calls.{insertionCode, hasControl, isFound, insertRule}
+use Rattle.insert.specs.Calls.{insertionCode, hasControl, insertRule}
 use Rattle.insert.specs.declared.Insertion.{Insertion}
 use Rattle.insert.specs.declared.Insertion.the-variants as insertion
 use Rattle.gatherloom.specs.Answers.{checkedCode, writingCode}
@@ -311,9 +311,9 @@ insert-refusal b key r n e =
     (λ clean. either (eqb r 0)
     (λ none. insertion-numbered 28 n (lit< tt, lit< tt) (rw (good, fits, clean, none, insertRule) at e))
     (λ some. either (pagesGood b unmarked)
-    (λ sound. either (isFound (lookupRule b key))
+    (λ sound. either (pathTo (keyLength b) b key r .present)
     (λ found. insertion-numbered 29 n (lit< tt, lit< tt) (rw (good, fits, clean, some, sound, found, insertRule) at e))
-    (λ absent. either (noRoom (keyLength b) b key)
+    (λ absent. either (noRoom b (pathTo (keyLength b) b key r))
     (λ full. insertion-numbered 30 n (lit< tt, lit< tt) (rw (good, fits, clean, some, sound, absent, full, insertRule) at e))
     (λ room. let q : insertion.Accepted ≡ insertion.Refused n = rw (good, fits, clean, some, sound, absent, room, insertRule) at e in impossible (cc))))
     (λ bad. insertion-numbered 25 n (lit< tt, lit< tt) (rw (good, fits, clean, some, bad, insertRule) at e)))))

@@ -6,6 +6,7 @@
 use calendar::DateAnswer;
 use cell::Logical;
 use cell::TextPlace;
+use dilution::Dilution;
 use field::FieldEntry;
 use insert::Insertion;
 use numeral::Number;
@@ -26,6 +27,7 @@ ghost use Rattle.sound.specs.Sound.{Audited};
 ghost use Rattle.insert.specs.Calls.{insertRule, insertionCode};
 ghost use Rattle.insert.specs.Fresh.{freshRule};
 ghost use Rattle.matching.specs.Match.{Matched};
+ghost use Rattle.dilution.specs.Dilution.{diluteRule};
 ghost use Rattle.append.specs.Append.{appendRule};
 ghost use Rattle.append.specs.UpdateDate.{setDateRule, dated};
 ghost use Rattle.append.specs.Extent.{extentRule};
@@ -34,6 +36,7 @@ ghost use Rattle.gatherloom.specs.Lent.{planOf, listing, walkedOf};
 ghost use Rattle.gatherloom.specs.Answers.{interfaceNumber, out, sizes, dayOf, part, found};
 ghost use Rattle.gatherloom.specs.Answers.{shapeOut, numberOut, dateOut, logicalOut, textOut, lookupOut, writingOut, insertionOut};
 ghost use Rattle.gatherloom.specs.Writing.{stores, written, appendOut, extentOut};
+ghost use Rattle.gatherloom.specs.Volumes.{volumes, volumesOut};
 
 // The number of this interface, GL_INTERFACE in the header.
 const INTERFACE: u32 = 1;
@@ -358,6 +361,48 @@ pub extern "C" fn gl_match(table: &[u8], index: &[u8], field: u32) -> u32
     ensures { λ r. ⌜ Matched (now (table .entry)) (now (index .entry)) field r ⌝ }
 {
     matching::match_index(table, index, field)
+}
+
+// The dilution of one barcode: the volumes of sample and diluent, in tenths of a microlitre.
+#[no_mangle]
+pub extern "C" fn gl_dilute(
+    table: &[u8],
+    index: &[u8],
+    barcode_field: u32,
+    concentration_field: u32,
+    barcode: &[u8],
+    target: u64,
+    final_volume: u64,
+    sample: &mut u32,
+    diluent: &mut u32,
+) -> u32
+    ensures { λ r. ⌜
+        volumesOut
+        (diluteRule (now (table .entry)) (now (index .entry)) «barcode_field» «concentration_field» (now (barcode .entry)) target «final_volume»)
+        (volumes (now (sample .entry)) (now (diluent .entry)))
+        ≡ out r (volumes (now (sample .exit)) (now (diluent .exit)))
+        ⌝ }
+{
+    let answer = dilution::dilute(
+        table,
+        index,
+        barcode_field,
+        concentration_field,
+        barcode,
+        target,
+        final_volume,
+    );
+    match answer {
+        Dilution::Volumes {
+            sample: drawn,
+            diluent: added,
+        } => {
+            *sample = drawn;
+            *diluent = added;
+            0
+        }
+        Dilution::Refused(refusal) => refusal,
+    }
 }
 
 // Appends a record to the table in the buffer's first `table_len` bytes. The two stores are set in the order in which the file must get them.

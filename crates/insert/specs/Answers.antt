@@ -6,10 +6,10 @@ use mathlib.Core.List.{List}
 use lib.ListN.{length}
 use Rattle.page.specs.Header.{isPage}
 use Rattle.page.specs.Page.{attributeAt, leafBit}
-use Rattle.lookup.specs.Lookup.{offsetOf}
+use Rattle.page.specs.Reading.{Item}
 use Rattle.layout.specs.Layout.{itemsIn}
 use Rattle.layout.specs.Given.{Lasts}
-use Rattle.layout.specs.Entries.{chosen, childOf}
+use Rattle.layout.specs.Entries.{chosenAt, childOf}
 use Rattle.insert.specs.Insertion.{Outcome as RuleOutcome, kept, split, bad}
 use Rattle.insert.specs.declared.Outcome.{Outcome}
 use Rattle.insert.specs.declared.Outcome.the-variants.{Kept, Split, Bad}
@@ -28,8 +28,10 @@ NextFits (Kept s) = Unit {0}
 NextFits (Split q s) = Lasts 1 s
 NextFits Bad = Unit {0}
 
--- what insertion meets at p: no page, a leaf, or a page above the chosen child
-unfoldable pub visitOf : List ℕ → List ℕ → ℕ → Visit
-visitOf b key p =
-    let child = visit.Child (offsetOf (childOf (chosen key (itemsIn (length key) b p)))) in
+-- what an insertion of the entry e meets at p: no page, a leaf, or a page with the entry that e goes under, by its number, and the child of that entry
+unfoldable pub visitOf : List ℕ → Item → ℕ → Visit
+visitOf b e p =
+    let es = itemsIn (length (e .0)) b p in
+    let i = chosenAt e es in
+    let child = visit.Child i (record { 0 = childOf i es }) in
     cond (isPage (length b) p) (cond (leafBit (attributeAt b p)) visit.Leaf child) visit.Bad

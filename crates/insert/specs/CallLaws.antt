@@ -15,11 +15,10 @@ use Rattle.page.specs.Reading.{items}
 use Rattle.sound.specs.Sound.{Audited}
 use Rattle.sound.specs.Rule.{pagesGood, unmarked}
 use Rattle.sound.specs.Accepted.{accepted}
-use Rattle.lookup.specs.Lookup.{lookupRule}
 use Rattle.layout.specs.Layout.{headerBytes, newPage}
 use Rattle.insert.specs.Insertion.{insertedBuffer}
-use Rattle.insert.specs.Room.{noRoom}
-use Rattle.insert.specs.Calls.{afterCall, hasControl, isFound, insertRule}
+use Rattle.insert.specs.Room.{pathTo, noRoom}
+use Rattle.insert.specs.Calls.{afterCall, hasControl, insertRule}
 use Rattle.insert.specs.Fresh.{printable, maxExpression, expressionGood, freshHeader, freshBuffer, freshRule}
 use Rattle.insert.specs.declared.Insertion.the-variants.{Accepted, Refused}
 
@@ -58,16 +57,16 @@ module _ (b key : List ℕ) (r : ℕ) where
           refused-25 e = rw (header, eq-eqb (length key) (keyLength b) same, clean, ne-eqb r 0 some, e, insertRule)
 
           module _ (sound : pagesGood b unmarked ≡ true) where
-            pub refused-29 : isFound (lookupRule b key) ≡ true → insertRule b key r ≡ afterCall b (Refused 29)
+            pub refused-29 : pathTo (keyLength b) b key r .present ≡ true → insertRule b key r ≡ afterCall b (Refused 29)
             unfolding insertRule
             refused-29 e = rw (header, eq-eqb (length key) (keyLength b) same, clean, ne-eqb r 0 some, sound, e, insertRule)
 
-            module _ (absent : isFound (lookupRule b key) ≡ false) where
-              pub refused-30 : noRoom (keyLength b) b key ≡ true → insertRule b key r ≡ afterCall b (Refused 30)
+            module _ (absent : pathTo (keyLength b) b key r .present ≡ false) where
+              pub refused-30 : noRoom b (pathTo (keyLength b) b key r) ≡ true → insertRule b key r ≡ afterCall b (Refused 30)
               unfolding insertRule
               refused-30 e = rw (header, eq-eqb (length key) (keyLength b) same, clean, ne-eqb r 0 some, sound, absent, e, insertRule)
 
-              pub accepted-pair : {out : List ℕ} → noRoom (keyLength b) b key ≡ false → out ≡ insertedBuffer (keyLength b) b key r
+              pub accepted-pair : {out : List ℕ} → noRoom b (pathTo (keyLength b) b key r) ≡ false → out ≡ insertedBuffer (keyLength b) b key r
                   → insertRule b key r ≡ afterCall out Accepted
               unfolding insertRule
               accepted-pair e q = rw (header, eq-eqb (length key) (keyLength b) same, clean, ne-eqb r 0 some, sound, absent, e, insertRule, q)

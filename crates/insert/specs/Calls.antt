@@ -6,11 +6,8 @@ use lib.ListN.{length}
 use lib.Dec.{eqb, ltb}
 use Rattle.page.specs.Header.{headerGood, keyLength}
 use Rattle.sound.specs.Rule.{pagesGood, unmarked}
-use Rattle.lookup.specs.Lookup.{lookupRule}
-use Rattle.lookup.specs.declared.Answer.{Answer}
-use Rattle.lookup.specs.declared.Answer.the-variants as looked
 use Rattle.insert.specs.Insertion.{insertedBuffer}
-use Rattle.insert.specs.Room.{noRoom}
+use Rattle.insert.specs.Room.{pathTo, noRoom}
 use Rattle.insert.specs.declared.Insertion.{Insertion}
 use Rattle.insert.specs.declared.Insertion.the-variants.{Accepted, Refused}
 
@@ -32,15 +29,10 @@ unfoldable pub hasControl : List ℕ → Bool
 hasControl [] = false
 hasControl (c ∷ s) = ltb c 0x20 || hasControl s
 
--- "29 if the key is in a leaf": lookup's steps lead to that leaf
-abbrev pub isFound : Answer → Bool
-isFound (looked.Found r pages) = true
-isFound (looked.Absent pages) = false
-isFound (looked.Refused n) = false
-
--- what insertion leaves and answers: a refusal leaves the buffer as it was
+-- what insertion leaves and answers: a refusal leaves the buffer as it was. "29 if the key is in a leaf": the path of the key leads to that leaf
 unfoldable pub insertRule : List ℕ → List ℕ → ℕ → AfterCall
 insertRule b key number =
+    let path = pathTo (keyLength b) b key number in
     elim (headerGood b) [
       | false ↦ afterCall b (Refused 24)
       | true ↦ elim (eqb (length key) (keyLength b)) [
@@ -51,9 +43,9 @@ insertRule b key number =
             | true ↦ afterCall b (Refused 28)
             | false ↦ elim (pagesGood b unmarked) [
               | false ↦ afterCall b (Refused 25)
-              | true ↦ elim (isFound (lookupRule b key)) [
+              | true ↦ elim (path .present) [
                 | true ↦ afterCall b (Refused 29)
-                | false ↦ elim (noRoom (keyLength b) b key) [
+                | false ↦ elim (noRoom b path) [
                   | true ↦ afterCall b (Refused 30)
                   | false ↦ afterCall (insertedBuffer (keyLength b) b key number) Accepted
                 ]

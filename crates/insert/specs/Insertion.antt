@@ -3,9 +3,8 @@ use Prim.Native.Nat.{ℕ, zero, suc}
 use mathlib.Core.Bool.{cond}
 use mathlib.Core.List.{List}
 use lib.ListN.{length}
-use lib.Dec.{leb}
-use Rattle.octets.specs.Bytes.{toBe32}
-use Rattle.tree.specs.Pairs.{insertPair}
+use lib.Dec.{leb, ltb}
+use Rattle.tree.specs.Pairs.{byKey, insertPair}
 use Rattle.page.specs.Header.{maxLevels, noPage, isPage, rootOffset}
 use Rattle.page.specs.Page.{attributeAt, leafBit, capacity}
 use Rattle.page.specs.KeyOrder.{bytesOrder}
@@ -13,7 +12,7 @@ use Rattle.page.specs.Reading.{Item}
 use Rattle.layout.specs.declared.Supply.{Supply}
 use Rattle.layout.specs.Supply.{supplyOf, takePage, withSupply}
 use Rattle.layout.specs.Layout.{itemsIn, withRoot, withEntries, newPage, splitPage}
-use Rattle.layout.specs.Entries.{chosen, childOf, replaced, raised, twoFor, rootEntries}
+use Rattle.layout.specs.Entries.{stored, chosenAt, childOf, replaced, raised, twoFor, rootEntries}
 
 -- what an insertion under a page leaves for the page above to do: nothing; or to take in the new page at q. Both have the supply that is left. The third does
 -- not occur on a sound index with room: it keeps the rule total
@@ -38,21 +37,25 @@ takeIn k b p es s =
     let halves = step (splitPage b p es (new .page .0)) (split (new .page .0) (new .rest)) in
     cond (leb (length es) (capacity k)) whole (cond (isPage (length b) (new .page .0)) halves (step b bad))
 
--- the page at p after an insertion under its child at c
-abbrev pub afterChild : ℕ → List ℕ → List ℕ → ℕ → ℕ → Outcome → Step
-afterChild k b key p c (kept s) = step (raised k b key p) (kept s)
-afterChild k b key p c (split q s) = takeIn k b p (replaced key (twoFor k b key c q) (itemsIn k b p)) s
-afterChild k b key p c bad = step b bad
+-- the page at p after an insertion under the child at c of its entry i. If the page has no entry i, which does not occur on a sound index, it stays
+abbrev pub afterChild : ℕ → List ℕ → List ℕ → ℕ → ℕ → ℕ → Outcome → Step
+afterChild k b key p i c (kept s) = step (raised k b key p i) (kept s)
+afterChild k b key p i c (split q s) =
+    let es = itemsIn k b p in
+    let two = takeIn k b p (replaced i (twoFor k b key c q) es) s in
+    cond (ltb i (length es)) two (step b bad)
+afterChild k b key p i c bad = step b bad
 
--- the pair goes in under the page at p, with the supply s of new pages and the levels left falling from 11: into the page if it is a leaf, else under the
--- chosen child
-unfoldable pub insertUnder : ℕ → ℕ → List ℕ → List ℕ → ℕ → ℕ → Supply → Step
-insertUnder k zero b key number p s = step b bad
-insertUnder k (suc left) b key number p s =
-    let leaf = takeIn k b p (insertPair bytesOrder key (toBe32 number) (itemsIn k b p)) s in
-    let c = childOf (chosen key (itemsIn k b p)) in
-    let below = insertUnder k left b key number c s in
-    let upper = afterChild k (below .after) key p c (below .outcome) in
+-- the entry e goes in under the page at p, with the supply s of new pages and the levels left falling from 11: into the page if it is a leaf, else under the
+-- child of entry i, which is chosen once
+unfoldable pub insertUnder : ℕ → ℕ → List ℕ → Item → ℕ → Supply → Step
+insertUnder k zero b e p s = step b bad
+insertUnder k (suc left) b e p s =
+    let es = itemsIn k b p in
+    let leaf = takeIn k b p (insertPair (byKey bytesOrder) e es) s in
+    let i = chosenAt e es in
+    let below = insertUnder k left b e (childOf i es) s in
+    let upper = afterChild k (below .after) (e .0) p i (childOf i es) (below .outcome) in
     cond (isPage (length b) p) (cond (leafBit (attributeAt b p)) leaf upper) (step b bad)
 
 -- the root at p after the insertion under it: if it was split, "the new root last", over the two halves with their own last keys; and the header's root
@@ -69,5 +72,5 @@ atRoot k b key p bad = b
 -- the buffer after an insertion that is accepted
 unfoldable pub insertedBuffer : ℕ → List ℕ → List ℕ → ℕ → List ℕ
 insertedBuffer k b key number =
-    let s = insertUnder k maxLevels b key number (rootOffset b) (supplyOf b) in
+    let s = insertUnder k maxLevels b (stored key number) (rootOffset b) (supplyOf b) in
     atRoot k (s .after) key (rootOffset b) (s .outcome)

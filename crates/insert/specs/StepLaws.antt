@@ -3,18 +3,17 @@
 use Prim.Native.Nat.{ℕ, zero, suc, _+_, _-_, _≤_, _<_}
 use mathlib.Core.Path.{_≡_, refl, sym, ap, _∙_}
 use mathlib.Core.Bool.{true, false}
-use mathlib.Core.List.{List, [], _∷_}
+use mathlib.Core.List.{List}
 use native.Mathlib.Omega.{arith}
 use lib.ListN.{length}
-use lib.Dec.{leb}
-use borrow.Author.Tests.{le-leb, lt-leb}
+use lib.Dec.{leb, ltb}
+use borrow.Author.Tests.{le-leb, lt-leb, lt-ltb, le-ltb}
 use Rattle.basis.specs.Tests.{either, impossible}
-use Rattle.octets.specs.Bytes.{toBe32}
-use Rattle.tree.specs.Pairs.{insertPair}
+use Rattle.tree.specs.Pairs.{byKey, insertPair}
 use Rattle.page.specs.Header.{maxLevels, noPage, isPage, rootOffset, keyLength}
 use Rattle.page.specs.Page.{attributeAt, leafBit, capacity}
 use Rattle.page.specs.KeyOrder.{bytesOrder}
-use Rattle.page.specs.Reading.{Item, items}
+use Rattle.page.specs.Reading.{Item}
 use Rattle.page.specs.declared.PageOffset.{PageOffset}
 use Rattle.layout.specs.declared.Supply.{Supply}
 use Rattle.layout.specs.declared.Taken.{Taken}
@@ -22,7 +21,7 @@ use Rattle.layout.specs.Given.{Lasts}
 use Rattle.layout.specs.Supply.{supplyOf, takePage, withSupply}
 use Rattle.layout.specs.SupplyLaws.{taken-lasts}
 use Rattle.layout.specs.Layout.{itemsIn, withRoot, withEntries, newPage, splitPage}
-use Rattle.layout.specs.Entries.{chosen, childOf, replaced, twoFor, rootEntries}
+use Rattle.layout.specs.Entries.{stored, chosenAt, childOf, replaced, twoFor, rootEntries}
 use Rattle.insert.specs.Insertion.{Outcome as RuleOutcome, kept, split, bad, Step, step, takeIn, afterChild, insertUnder, atRoot, insertedBuffer}
 use Rattle.insert.specs.Answers.{outcomeOf, NextFits, visitOf}
 use Rattle.insert.specs.declared.Outcome.{Outcome}
@@ -59,60 +58,60 @@ module _ (k : ℕ) (b : List ℕ) (p : ℕ) (es : List Item) (s : Supply) where
 bad-leaf : {X : Type 0} → visit.Bad ≡ visit.Leaf → X
 bad-leaf e = impossible cc
 
-bad-child : {X : Type 0} {c : PageOffset} → visit.Bad ≡ visit.Child c → X
+bad-child : {X : Type 0} {i : ℕ} {c : PageOffset} → visit.Bad ≡ visit.Child i c → X
 bad-child e = impossible cc
 
-leaf-child : {X : Type 0} {c : PageOffset} → visit.Leaf ≡ visit.Child c → X
+leaf-child : {X : Type 0} {i : ℕ} {c : PageOffset} → visit.Leaf ≡ visit.Child i c → X
 leaf-child e = impossible cc
 
-same-child : {c d : PageOffset} → visit.Child c ≡ visit.Child d → c ≡ d
-same-child e = cc
+same-child : {i j : ℕ} {c d : PageOffset} → visit.Child i c ≡ visit.Child j d → (i ≡ j) × (c ≡ d)
+same-child e = (cc, cc)
 
 -- what a visit says of the page
-module _ (b key : List ℕ) (p : ℕ) where
-  pub visited-bad : visit.Bad ≡ visitOf b key p → isPage (length b) p ≡ false
+module _ (b : List ℕ) (item : Item) (p : ℕ) where
+  pub visited-bad : visit.Bad ≡ visitOf b item p → isPage (length b) p ≡ false
   unfolding visitOf
   visited-bad e = either (isPage (length b) p)
       (λ t. either (leafBit (attributeAt b p)) (λ u. bad-leaf (rw (t, u) at e)) (λ u. bad-child (rw (t, u) at e)))
       (λ t. t)
 
-  pub visited-leaf : visit.Leaf ≡ visitOf b key p → (isPage (length b) p ≡ true) × (leafBit (attributeAt b p) ≡ true)
+  pub visited-leaf : visit.Leaf ≡ visitOf b item p → (isPage (length b) p ≡ true) × (leafBit (attributeAt b p) ≡ true)
   unfolding visitOf
   visited-leaf e = either (isPage (length b) p)
       (λ t. either (leafBit (attributeAt b p)) (λ u. (t, u)) (λ u. leaf-child (rw (t, u) at e)))
       (λ t. bad-leaf (sym (rw t at e)))
 
-  pub visited-child : (c : PageOffset) → visit.Child c ≡ visitOf b key p
-      → (isPage (length b) p ≡ true) × (leafBit (attributeAt b p) ≡ false) × (c .0 ≡ childOf (chosen key (itemsIn (length key) b p)))
+  pub visited-child : (i : ℕ) (c : PageOffset) → visit.Child i c ≡ visitOf b item p → let es = itemsIn (length (item .0)) b p in
+      (isPage (length b) p ≡ true) × (leafBit (attributeAt b p) ≡ false) × (i ≡ chosenAt item es) × (c .0 ≡ childOf (chosenAt item es) es)
   unfolding visitOf
-  visited-child c e = either (isPage (length b) p)
+  visited-child i c e = either (isPage (length b) p)
       (λ t. either (leafBit (attributeAt b p))
       (λ u. leaf-child (sym (rw (t, u) at e)))
-      (λ u. (t, u, ap (λ (q : PageOffset). q .0) (same-child (rw (t, u) at e)))))
+      (λ u. let same = same-child (rw (t, u) at e) in (t, u, same .0, ap (λ (q : PageOffset). q .0) (same .1))))
       (λ t. bad-child (sym (rw t at e)))
 
 -- insertion by cases of the visit
-module _ (b key : List ℕ) (r p : ℕ) (s : Supply) where
-  pub under-bad : (levels : ℕ) → (levels ≡ 0 → ⊥) → visit.Bad ≡ visitOf b key p → insertUnder (length key) levels b key r p s ≡ step b bad
+module _ (b : List ℕ) (item : Item) (p : ℕ) (s : Supply) where
+  pub under-bad : (levels : ℕ) → (levels ≡ 0 → ⊥) → visit.Bad ≡ visitOf b item p → insertUnder (length (item .0)) levels b item p s ≡ step b bad
   unfolding insertUnder
   under-bad zero some e = absurd (some refl)
-  under-bad (suc left) some e = rw (visited-bad b key p e)
+  under-bad (suc left) some e = rw (visited-bad b item p e)
 
-  pub under-leaf : (levels : ℕ) → (levels ≡ 0 → ⊥) → visit.Leaf ≡ visitOf b key p
-      → insertUnder (length key) levels b key r p s ≡ takeIn (length key) b p (insertPair bytesOrder key (toBe32 r) (itemsIn (length key) b p)) s
+  pub under-leaf : (levels : ℕ) → (levels ≡ 0 → ⊥) → visit.Leaf ≡ visitOf b item p
+      → insertUnder (length (item .0)) levels b item p s ≡ takeIn (length (item .0)) b p (insertPair (byKey bytesOrder) item (itemsIn (length (item .0)) b p)) s
   unfolding insertUnder
   under-leaf zero some e = absurd (some refl)
-  under-leaf (suc left) some e = let v = visited-leaf b key p e in rw (v .0, v .1)
+  under-leaf (suc left) some e = let v = visited-leaf b item p e in rw (v .0, v .1)
 
-  pub under-child : (levels : ℕ) (c : PageOffset) {b′ : List ℕ} {o : RuleOutcome} → (levels ≡ 0 → ⊥) → visit.Child c ≡ visitOf b key p
-      → insertUnder (length key) (levels - 1) b key r (c .0) s ≡ step b′ o
-      → insertUnder (length key) levels b key r p s ≡ afterChild (length key) b′ key p (c .0) o
+  pub under-child : (levels i : ℕ) (c : PageOffset) {b′ : List ℕ} {o : RuleOutcome} → (levels ≡ 0 → ⊥) → visit.Child i c ≡ visitOf b item p
+      → insertUnder (length (item .0)) (levels - 1) b item (c .0) s ≡ step b′ o
+      → insertUnder (length (item .0)) levels b item p s ≡ afterChild (length (item .0)) b′ (item .0) p i (c .0) o
   unfolding insertUnder
-  under-child zero c some e d = absurd (some refl)
-  under-child (suc left) c some e d =
-      let v = visited-child b key p c e in
+  under-child zero i c some e d = absurd (some refl)
+  under-child (suc left) i c some e d =
+      let v = visited-child b item p i c e in
       let f : suc left - 1 ≡ left = omega arith in
-      rw (v .0, v .1, ← v .2, rw f at d)
+      rw (v .0, v .1, ← v .3, rw f at d, v .2)
 
 -- a supply that lasts for a page on each level left and for m more lasts for m after a split
 split-here : (k : ℕ) (b : List ℕ) (p : ℕ) (es : List Item) (s : Supply) (q : ℕ) (t : Supply) → takeIn k b p es s .outcome ≡ split q t → t ≡ takePage b s .rest
@@ -125,61 +124,59 @@ take-in-lasts : (k : ℕ) (b : List ℕ) (p : ℕ) (es : List Item) (s : Supply)
     → takeIn k b p es s .outcome ≡ split q t → Lasts m t
 take-in-lasts k b p es s q t m h e = rw (split-here k b p es s q t e) (taken-lasts m b s h)
 
-after-lasts : (k : ℕ) (b key : List ℕ) (p c : ℕ) (o : RuleOutcome) (q : ℕ) (t : Supply) (m : ℕ)
-    → ((x : ℕ) (y : Supply) → o ≡ split x y → Lasts (m + 1) y) → afterChild k b key p c o .outcome ≡ split q t → Lasts m t
-after-lasts k b key p c (kept s) q t m h e = kept-split e
-after-lasts k b key p c (split x y) q t m h e = take-in-lasts k b p _ y q t m (h x y refl) e
-after-lasts k b key p c bad q t m h e = bad-split e
+after-lasts : (k : ℕ) (b key : List ℕ) (p i c : ℕ) (o : RuleOutcome) (q : ℕ) (t : Supply) (m : ℕ)
+    → ((x : ℕ) (y : Supply) → o ≡ split x y → Lasts (m + 1) y) → afterChild k b key p i c o .outcome ≡ split q t → Lasts m t
+after-lasts k b key p i c (kept s) q t m h e = kept-split e
+after-lasts k b key p i c (split x y) q t m h e = either (ltb i (length (itemsIn k b p)))
+    (λ u. take-in-lasts k b p _ y q t m (h x y refl) (rw u at e))
+    (λ u. bad-split (rw u at e))
+after-lasts k b key p i c bad q t m h e = bad-split e
 
-split-lasts : (k left : ℕ) (b key : List ℕ) (r p : ℕ) (s : Supply) (q : ℕ) (t : Supply) (m : ℕ) → Lasts (left + m) s
-    → insertUnder k left b key r p s .outcome ≡ split q t → Lasts m t
+split-lasts : (k left : ℕ) (b : List ℕ) (item : Item) (p : ℕ) (s : Supply) (q : ℕ) (t : Supply) (m : ℕ) → Lasts (left + m) s
+    → insertUnder k left b item p s .outcome ≡ split q t → Lasts m t
 unfolding insertUnder
-split-lasts k zero b key r p s q t m h e = bad-split e
-split-lasts k (suc left) b key r p s q t m h e =
+split-lasts k zero b item p s q t m h e = bad-split e
+split-lasts k (suc left) b item p s q t m h e =
     let es = itemsIn k b p in
-    let c = childOf (chosen key es) in
-    let below = insertUnder k left b key r c s in
+    let i = chosenAt item es in
+    let c = childOf i es in
+    let below = insertUnder k left b item c s in
     either (isPage (length b) p)
     (λ u. either (leafBit (attributeAt b p))
-    (λ v. take-in-lasts k b p (insertPair bytesOrder key (toBe32 r) es) s q t m (omega (arith, h)) (rw (u, v) at e))
-    (λ v. after-lasts k (below .after) key p c (below .outcome) q t m (λ x y f. split-lasts k left b key r c s x y (m + 1) (omega (arith, h)) f)
+    (λ v. take-in-lasts k b p (insertPair (byKey bytesOrder) item es) s q t m (omega (arith, h)) (rw (u, v) at e))
+    (λ v. after-lasts k (below .after) (item .0) p i c (below .outcome) q t m (λ x y f. split-lasts k left b item c s x y (m + 1) (omega (arith, h)) f)
     (rw (u, v) at e)))
     (λ u. bad-split (rw u at e))
 
-pub next-fits : (k left : ℕ) (b key : List ℕ) (r p : ℕ) (s : Supply) {out : List ℕ} (o : Outcome) → insertUnder k left b key r p s ≡ step out (outcomeOf o)
-    → Lasts (left + 1) s → NextFits o
-next-fits k left b key r p s (Kept t) e h = tt
-next-fits k left b key r p s (Split q t) e h = split-lasts k left b key r p s (q .0) t 1 h (ap (λ (x : Step). x .outcome) e)
-next-fits k left b key r p s Bad e h = tt
+pub next-fits : (k left : ℕ) (b : List ℕ) (item : Item) (p : ℕ) (s : Supply) {out : List ℕ} (o : Outcome)
+    → insertUnder k left b item p s ≡ step out (outcomeOf o) → Lasts (left + 1) s → NextFits o
+next-fits k left b item p s (Kept t) e h = tt
+next-fits k left b item p s (Split q t) e h = split-lasts k left b item p s (q .0) t 1 h (ap (λ (x : Step). x .outcome) e)
+next-fits k left b item p s Bad e h = tt
 
--- a page above one that was split gets the rule's entries; a page without entries has none to replace
-pub two-for-some : (k : ℕ) (b key : List ℕ) (p c q : ℕ) (s : Supply) (es : List Item) {out : Step} → es ≡ replaced key (twoFor k b key c q) (itemsIn k b p)
-    → takeIn k b p es s ≡ out → afterChild k b key p c (split q s) ≡ out
-two-for-some k b key p c q s es g e = rw (← g) e
+-- a page above one that was split gets the rule's entries; a page without entry i has none to replace
+module _ (k : ℕ) (b key : List ℕ) (p i c q : ℕ) (s : Supply) where
+  pub two-for-some : (es : List Item) {out : Step} → i < length (itemsIn k b p) → es ≡ replaced i (twoFor k b key c q) (itemsIn k b p)
+      → takeIn k b p es s ≡ out → afterChild k b key p i c (split q s) ≡ out
+  two-for-some es h g e = rw (lt-ltb i (length (itemsIn k b p)) h, ← g) e
 
-pub two-for-none : (k : ℕ) (b key : List ℕ) (p c q : ℕ) (s : Supply) (xs : List ℕ) {out : Step} → length (itemsIn k b p) ≡ 0
-    → takeIn k b p (items k 0 xs) s ≡ out → afterChild k b key p c (split q s) ≡ out
-unfolding items
-two-for-none k b key p c q s xs h e = rw (none (itemsIn k b p) h) e
-  where
-    none : (es : List Item) → length es ≡ 0 → es ≡ []
-    none [] h = refl
-    none (x ∷ xs) h = absurd (omega arith)
+  pub two-for-none : length (itemsIn k b p) ≤ i → afterChild k b key p i c (split q s) ≡ step b bad
+  two-for-none h = rw (le-ltb i (length (itemsIn k b p)) h)
 
 -- a visit by its tests
-module _ (b key : List ℕ) (p : ℕ) where
-  pub visit-bad : isPage (length b) p ≡ false → visit.Bad ≡ visitOf b key p
+module _ (b : List ℕ) (item : Item) (p : ℕ) where
+  pub visit-bad : isPage (length b) p ≡ false → visit.Bad ≡ visitOf b item p
   unfolding visitOf
   visit-bad t = rw t
 
-  pub visit-leaf : {a : ℕ} → isPage (length b) p ≡ true → a ≡ attributeAt b p → leafBit a ≡ true → visit.Leaf ≡ visitOf b key p
+  pub visit-leaf : {a : ℕ} → isPage (length b) p ≡ true → a ≡ attributeAt b p → leafBit a ≡ true → visit.Leaf ≡ visitOf b item p
   unfolding visitOf
   visit-leaf {a} t e h = rw (t, ← e, h)
 
-  pub visit-child : {a : ℕ} {c : PageOffset} → isPage (length b) p ≡ true → a ≡ attributeAt b p → leafBit a ≡ false
-      → c .0 ≡ childOf (chosen key (itemsIn (length key) b p)) → visit.Child c ≡ visitOf b key p
+  pub visit-child : {a i : ℕ} {c : PageOffset} → isPage (length b) p ≡ true → a ≡ attributeAt b p → leafBit a ≡ false
+      → i ≡ chosenAt item (itemsIn (length (item .0)) b p) → c .0 ≡ childOf i (itemsIn (length (item .0)) b p) → visit.Child i c ≡ visitOf b item p
   unfolding visitOf
-  visit-child {a} {c} t e h q = rw (t, ← e, h, ← q)
+  visit-child {a} {i} {c} t e h f q = rw (t, ← e, h, ← f, ← q)
 
 -- the new root is taken from the supply that the split of the old one left
 module _ (b key : List ℕ) (p q : ℕ) (s : Supply) {new : Taken} (taken : new ≡ takePage b s) where
@@ -193,7 +190,7 @@ module _ (b key : List ℕ) (p q : ℕ) (s : Supply) {new : Taken} (taken : new 
 
 -- the whole insertion
 pub pair-inserted : (b key : List ℕ) (r : ℕ) {root : ℕ} {supply : Supply} {b′ out : List ℕ} {o : RuleOutcome}
-    → length key ≡ keyLength b → root ≡ rootOffset b → supply ≡ supplyOf b → insertUnder (length key) maxLevels b key r root supply ≡ step b′ o
+    → length key ≡ keyLength b → root ≡ rootOffset b → supply ≡ supplyOf b → insertUnder (length key) maxLevels b (stored key r) root supply ≡ step b′ o
     → out ≡ atRoot (length key) b′ key root o → out ≡ insertedBuffer (keyLength b) b key r
 unfolding insertedBuffer
 pair-inserted b key r ek er es e q = q ∙ rw (← ek, ← er, ← es, e)

@@ -8,18 +8,18 @@ ghost use mathlib.Core.Bool.{Bool, true};
 ghost use Prim.Native.Nat.{ℕ, _≤_};
 ghost use lib.ListN.{length};
 ghost use lib.Dec.{leb};
-ghost use Rattle.octets.specs.Bytes.{toBe32};
-ghost use Rattle.tree.specs.Pairs.{insertPair};
+ghost use Rattle.tree.specs.Pairs.{byKey, insertPair};
 ghost use Rattle.page.specs.Header.{minBytes, maxLevels, maxKey, pageSize, isPage, keyLength, headerGood};
 ghost use Rattle.page.specs.Page.{capacity};
 ghost use Rattle.page.specs.KeyOrder.{bytesOrder};
 ghost use Rattle.page.specs.Reading.{items};
 ghost use Rattle.layout.specs.Layout.{itemsIn};
+ghost use Rattle.layout.specs.Entries.{stored};
 ghost use Rattle.layout.specs.Given.{Over, Lasts};
 ghost use Rattle.insert.specs.Insertion.{split, step, takeIn, afterChild, insertUnder, atRoot, insertedBuffer};
 ghost use Rattle.insert.specs.Answers.{outcomeOf, NextFits, visitOf};
-ghost use Rattle.insert.specs.Room.{onTop, pathFrom, rootSplit, noRoom};
-ghost use Rattle.insert.specs.Calls.{afterCall, hasControl, isFound, insertRule};
+ghost use Rattle.insert.specs.Room.{onTop, pathFrom, pathTo, rootSplit, noRoom};
+ghost use Rattle.insert.specs.Calls.{afterCall, hasControl, insertRule};
 ghost use Rattle.insert.specs.Fresh.{printable, maxExpression, expressionGood, freshBuffer, freshRule};
 
 // The longest key expression.
@@ -31,10 +31,12 @@ pub enum Insertion {
     Refused(u32),
 }
 
-// The path from a page down to the leaf that a key leads to: how many levels it has, and how many full pages in an unbroken run from the leaf up.
+// The path from a page down to the leaf that a key leads to: how many levels it has, how many full pages in an unbroken run from the leaf up, and whether the
+// leaf has the key.
 pub struct Path {
     pub levels: u32,
     pub run: u32,
+    pub present: bool,
 }
 
 // What an insertion under a page leaves for the page above to do: nothing; or to take in a new page, both with the supply that is left; or it met no page.
@@ -44,11 +46,11 @@ pub enum Outcome {
     Bad,
 }
 
-// What an insertion meets at an offset: no page, a leaf, or a page above a child.
+// What an insertion meets at an offset: no page, a leaf, or a page above it: the number of the entry that the key goes under, and its child.
 pub enum Visit {
     Bad,
     Leaf,
-    Child(PageOffset),
+    Child(usize, PageOffset),
 }
 
 // Gives a page `count` entries, held in the bytes `entries`, or splits it, with a new page from `supply`.
@@ -88,7 +90,7 @@ fn insert_in_leaf(
 ) -> Outcome
     requires { ⌜ (length (now key) ≤ maxKey) × (isPage (length (now index)) (page .0) ≡ true) × Lasts 1 supply ⌝ }
     ensures { λ r. ⌜ takeIn (length (now (key .entry))) (now (index .entry)) (page .0)
-        (insertPair bytesOrder (now (key .entry)) (toBe32 (number .0)) (itemsIn (length (now (key .entry))) (now (index .entry)) (page .0)))
+        (insertPair (byKey bytesOrder) (stored (now (key .entry)) (number .0)) (itemsIn (length (now (key .entry))) (now (index .entry)) (page .0)))
         supply ≡ step (now (index .exit)) (outcomeOf r) ⌝ }
 {
     let mut room = [0u8; layout::ROOM];
@@ -98,55 +100,57 @@ fn insert_in_leaf(
     take_in(index, key.len(), page, count + 1, &room[..size], supply)
 }
 
-// Puts two entries, for `child` and `new`, in the place of the one above `child`, which was split.
+// Puts two entries, for `child` and `new`, in the place of entry `i`, whose child, `child`, was split.
 fn take_in_two(
     index: &mut [u8],
     key: &[u8],
     page: PageOffset,
+    i: usize,
     child: PageOffset,
     new: PageOffset,
     supply: Supply,
 ) -> Outcome
     requires { ⌜ (length (now key) ≤ maxKey) × (isPage (length (now index)) (page .0) ≡ true) × Lasts 1 supply ⌝ }
-    ensures { λ r. ⌜ afterChild (length (now (key .entry))) (now (index .entry)) (now (key .entry)) (page .0) (child .0) (split (new .0) supply)
+    ensures { λ r. ⌜ afterChild (length (now (key .entry))) (now (index .entry)) (now (key .entry)) (page .0) i (child .0) (split (new .0) supply)
         ≡ step (now (index .exit)) (outcomeOf r) ⌝ }
 {
-    let mut room = [0u8; layout::ROOM];
     let count = layout::entry_count(index, key.len(), page);
-    if count == 0 {
-        return take_in(index, key.len(), page, 0, &room[..0], supply);
+    if count <= i {
+        return Outcome::Bad;
     }
-    layout::gather_two(&mut room, index, key, page, count, child, new);
+    let mut room = [0u8; layout::ROOM];
+    layout::gather_two(&mut room, index, key, page, count, i, child, new);
     let size = (count + 1) * (key.len() + 4);
     take_in(index, key.len(), page, count + 1, &room[..size], supply)
 }
 
-// What a page does after an insertion under its child left `below`.
+// What a page does after an insertion under `child`, the child of its entry `i`, left `below`.
 fn after_child(
     index: &mut [u8],
     key: &[u8],
     page: PageOffset,
+    i: usize,
     child: PageOffset,
     below: Outcome,
 ) -> Outcome
     requires { ⌜ (length (now key) ≤ maxKey) × (isPage (length (now index)) (page .0) ≡ true) × NextFits below ⌝ }
-    ensures { λ r. ⌜ afterChild (length (now (key .entry))) (now (index .entry)) (now (key .entry)) (page .0) (child .0) (outcomeOf below)
+    ensures { λ r. ⌜ afterChild (length (now (key .entry))) (now (index .entry)) (now (key .entry)) (page .0) i (child .0) (outcomeOf below)
         ≡ step (now (index .exit)) (outcomeOf r) ⌝ }
 {
     match below {
         Outcome::Kept(supply) => {
-            layout::raise_key(index, key, page);
+            layout::raise_key(index, key, page, i);
             Outcome::Kept(supply)
         }
-        Outcome::Split(new, supply) => take_in_two(index, key, page, child, new, supply),
+        Outcome::Split(new, supply) => take_in_two(index, key, page, i, child, new, supply),
         Outcome::Bad => Outcome::Bad,
     }
 }
 
 // What an insertion meets at an offset.
-fn visit_page(index: &[u8], key: &[u8], page: PageOffset) -> Visit
+fn visit_page(index: &[u8], key: &[u8], number: RecordNumber, page: PageOffset) -> Visit
     requires { ⌜ length (now key) ≤ maxKey ⌝ }
-    ensures { λ r. ⌜ r ≡ visitOf (now (index .entry)) (now (key .entry)) (page .0) ⌝ }
+    ensures { λ r. ⌜ r ≡ visitOf (now (index .entry)) (stored (now (key .entry)) (number .0)) (page .0) ⌝ }
 {
     if !page::is_page(index.len(), page) {
         return Visit::Bad;
@@ -155,7 +159,8 @@ fn visit_page(index: &[u8], key: &[u8], page: PageOffset) -> Visit
     if page::is_leaf(head.attribute) {
         return Visit::Leaf;
     }
-    Visit::Child(layout::chosen_child(index, key, page))
+    let i = layout::chosen_entry(index, key, number, page);
+    Visit::Child(i, layout::child_of(index, key.len(), page, i))
 }
 
 // Insertion under a page, with `levels` levels left and new pages from `supply`.
@@ -168,19 +173,19 @@ fn insert_under(
     supply: Supply,
 ) -> Outcome
     requires { ⌜ (length (now key) ≤ maxKey) × Lasts levels supply ⌝ }
-    ensures { λ r. ⌜ insertUnder (length (now (key .entry))) levels (now (index .entry)) (now (key .entry)) (number .0) (page .0) supply
+    ensures { λ r. ⌜ insertUnder (length (now (key .entry))) levels (now (index .entry)) (stored (now (key .entry)) (number .0)) (page .0) supply
         ≡ step (now (index .exit)) (outcomeOf r) ⌝ }
 {
     if levels == 0 {
         return Outcome::Bad;
     }
-    let visit = visit_page(index, key, page);
+    let visit = visit_page(index, key, number, page);
     match visit {
         Visit::Bad => Outcome::Bad,
         Visit::Leaf => insert_in_leaf(index, key, number, page, supply),
-        Visit::Child(child) => {
+        Visit::Child(i, child) => {
             let below = insert_under(index, key, number, child, levels - 1, supply);
-            after_child(index, key, page, child, below)
+            after_child(index, key, page, i, child, below)
         }
     }
 }
@@ -250,29 +255,53 @@ fn on_top(full: bool, path: Path) -> Path
         return Path {
             levels: path.levels + 1,
             run: path.run + 1,
+            present: path.present,
         };
     }
     Path {
         levels: path.levels + 1,
         run: path.run,
+        present: path.present,
     }
 }
 
-// The path to `key` from a page on, with `levels` levels left.
-fn path_from(index: &[u8], key: &[u8], page: PageOffset, levels: u32) -> Path
+// A path without pages, to a leaf that has the key or does not.
+fn empty_path(present: bool) -> Path
+    ensures { λ r. ⌜ r ≡ record { levels = 0; run = 0; present = present } ⌝ }
+{
+    Path {
+        levels: 0,
+        run: 0,
+        present: present,
+    }
+}
+
+// The path of `key` with its record number from a page on, with `levels` levels left.
+fn path_from(index: &[u8], key: &[u8], number: RecordNumber, page: PageOffset, levels: u32) -> Path
     requires { ⌜ (length (now key) ≤ maxKey) × (levels ≤ maxLevels) ⌝ }
-    ensures { λ r. ⌜ r ≡ pathFrom (length (now (key .entry))) levels (now (index .entry)) (now (key .entry)) (page .0) ⌝ }
+    ensures { λ r. ⌜ r ≡ pathFrom (length (now (key .entry))) levels (now (index .entry)) (stored (now (key .entry)) (number .0)) (page .0) ⌝ }
 {
     if levels == 0 {
-        return Path { levels: 0, run: 0 };
+        return empty_path(false);
     }
     let full = is_full(index, key.len(), page);
-    let visit = visit_page(index, key, page);
+    let visit = visit_page(index, key, number, page);
     match visit {
-        Visit::Bad => Path { levels: 0, run: 0 },
-        Visit::Leaf => on_top(full, Path { levels: 0, run: 0 }),
-        Visit::Child(child) => on_top(full, path_from(index, key, child, levels - 1)),
+        Visit::Bad => empty_path(false),
+        Visit::Leaf => on_top(
+            full,
+            empty_path(layout::is_present(index, key, number, page)),
+        ),
+        Visit::Child(i, child) => { on_top(full, path_from(index, key, number, child, levels - 1)) }
     }
+}
+
+// The path of `key` with its record number from the root on.
+fn path_to(index: &[u8], key: &[u8], number: RecordNumber) -> Path
+    requires { ⌜ (headerGood (now index) ≡ true) × (length (now key) ≡ keyLength (now index)) ⌝ }
+    ensures { λ r. ⌜ r ≡ pathTo (keyLength (now (index .entry))) (now (index .entry)) (now (key .entry)) (number .0) ⌝ }
+{
+    path_from(index, key, number, page::root(index), page::MAX_LEVELS)
 }
 
 // How many roots an insertion splits: 1 if the run of full pages has the root, else 0.
@@ -285,28 +314,16 @@ fn root_split(path: Path) -> u32
     0
 }
 
-// Whether there is no room for an insertion.
-fn no_room(index: &[u8], key: &[u8]) -> bool
-    requires { ⌜ (headerGood (now index) ≡ true) × (length (now key) ≡ keyLength (now index)) ⌝ }
-    ensures { λ r. ⌜ r ≡ noRoom (keyLength (now (index .entry))) (now (index .entry)) (now (key .entry)) ⌝ }
+// Whether there is no room for an insertion by a path.
+fn no_room(index: &[u8], path: Path) -> bool
+    requires { ⌜ (headerGood (now index) ≡ true) × (path .levels ≤ maxLevels) × (path .run ≤ path .levels) ⌝ }
+    ensures { λ r. ⌜ r ≡ noRoom (now (index .entry)) path ⌝ }
 {
-    let path = path_from(index, key, page::root(index), page::MAX_LEVELS);
     let more = root_split(path);
     let supply = layout::supply_of(index);
     let after = layout::supply_after(index, supply, path.run + more);
     let size = after.end.0 as usize;
     (index.len() < size) | ((page::MAX_BYTES < size) | (page::MAX_LEVELS < path.levels + more))
-}
-
-// Whether a lookup found its key.
-fn is_found(answer: lookup::Answer) -> bool
-    ensures { λ r. ⌜ r ≡ isFound answer ⌝ }
-{
-    match answer {
-        lookup::Answer::Found(number, pages) => true,
-        lookup::Answer::Absent(pages) => false,
-        lookup::Answer::Refused(reason) => false,
-    }
 }
 
 // Whether a key has a control byte.
@@ -331,22 +348,24 @@ pub fn insert(index: &mut [u8], key: &[u8], number: RecordNumber) -> Insertion
         return Insertion::Refused(refusal::INDEX_HEADER);
     }
     let control = has_control(key);
+    let zero = number.0 == 0;
     if key.len() != page::key_length(index) {
         return Insertion::Refused(refusal::KEY_LENGTH);
     }
     if control {
         return Insertion::Refused(refusal::CONTROL_BYTE);
     }
-    if number.0 == 0 {
+    if zero {
         return Insertion::Refused(refusal::RECORD_NUMBER_ZERO);
     }
     if audit::audit(index) != 0 {
         return Insertion::Refused(refusal::INDEX_NOT_SOUND);
     }
-    if is_found(lookup::lookup(index, key)) {
+    let path = path_to(index, key, number);
+    if path.present {
         return Insertion::Refused(refusal::KEY_PRESENT);
     }
-    if no_room(index, key) {
+    if no_room(index, path) {
         return Insertion::Refused(refusal::NO_ROOM);
     }
     insert_pair(index, key, number);

@@ -27,7 +27,6 @@ use Rattle.tree.specs.StoreSteps.{StoreReplacement, StoreGrown, storeReroot, st
 use Rattle.tree.specs.Tree.{Tree, pages}
 use Rattle.page.specs.Header.{maxLevels, noPage, pageSize, isPage, rootOffset}
 use Rattle.page.specs.HeaderLaws.{is-page}
-use Rattle.page.specs.KeyOrder.{bytesOrder}
 use Rattle.page.specs.Page.{attributeAt, countAt, leftAt, rightAt, capacity}
 use Rattle.page.specs.Reading.{Item}
 use Rattle.page.specs.ReadingLaws.{window-in-page}
@@ -37,6 +36,7 @@ use Rattle.layout.specs.Given.{Lasts}
 use Rattle.layout.specs.Supply.{supplyOf, takePage, withSupply}
 use Rattle.layout.specs.Layout.{itemsIn, newPage}
 use Rattle.layout.specs.ItemLaws.{Fit}
+use Rattle.layout.specs.Entries.{stored}
 use Rattle.layout.specs.EntryLaws.{items-in-fit}
 use Rattle.layout.specs.GatherLaws.{length-last}
 use Rattle.sound.specs.Sound.{linksOf}
@@ -45,6 +45,7 @@ use Rattle.layout_laws.specs.EntryLaws.{entriesIn, page-of, length-new}
 use Rattle.layout_laws.specs.HeadLaws.{Head, SameHead, SameHeader, put-header, new-head, new-header}
 use Rattle.layout_laws.specs.SupplyLaws.{SameRest, supply-stored}
 use Rattle.insert_laws.specs.Naming.{Naming, Usable, nextOf}
+use Rattle.insert_laws.specs.ItemLists.{keeping, passes}
 use Rattle.insert_laws.specs.InsertEntries.{OutcomeIs, StepIs, Shaped, shaped-page, Offered, replacement, Free, inserts, topKey, RootIs}
 use Rattle.insert_laws.specs.InsertEntries.{rootAfter, root-inserts}
 use Rattle.insert_laws.specs.InsertHeads.{Plain, unrooted, one-of, HeadsAfter, insert-heads}
@@ -55,7 +56,7 @@ treeIn k b h = readTree (entriesIn k b) h (rootOffset b)
 
 -- the theory's insertion into that tree, with new pages from N
 abbrev pub grownBy : ℕ → Naming → ℕ → List ℕ → List ℕ → ℕ → Grown (List ℕ)
-grownBy k N h b key r = insert bytesOrder (capacity k) (N .name) key r h (treeIn k b h)
+grownBy k N h b key r = insert keeping (capacity k) (N .name) (key, r) h (treeIn k b h)
 
 -- what a sound index of h + 1 levels gives for an insertion that has room
 pub record Ready (k : ℕ) (N : Naming) (h : ℕ) (b key : List ℕ) (r : ℕ) : Type 0 where
@@ -156,14 +157,16 @@ module _ (k : ℕ) (N : Naming) (h : ℕ) (b key : List ℕ) (r : ℕ) (ready : 
   W = replacement k N key r b h a (rootOffset b)
 
   abbrev g : StoreGrown (List ℕ)
-  g = storeInsert bytesOrder (capacity k) (N .name) key r h (rootOffset b) (entriesIn k b)
+  g = storeInsert keeping (passes (key, r)) (capacity k) (N .name) (key, r) h (rootOffset b) (entriesIn k b)
 
   abbrev s : Step
-  s = insertUnder k maxLevels b key r (rootOffset b) (supplyOf b)
+  s = insertUnder k maxLevels b (stored key r) (rootOffset b) (supplyOf b)
 
   -- the theory's insertion into the pages is its insertion into the tree
   seen : readGrown g ≡ grownBy k N h b key r
-  seen = insert-read bytesOrder (capacity k) (N .name) (ready .offered .supplied .distinct) key r h (rootOffset b) (entriesIn k b) (ready .once) (ready .unused)
+  seen =
+      insert-read keeping (passes (key, r)) (capacity k) (N .name) (ready .offered .supplied .distinct) (key, r) (entriesIn k b) (λ j x z. refl) h
+      (rootOffset b) (ready .once) (ready .unused)
 
   room-store : (j : ℕ) → j < g .2 → Usable b (N .name j)
   room-store j l = ready .room j (subst (λ (x : Grown (List ℕ)). j < x .2) seen l)
@@ -179,7 +182,7 @@ module _ (k : ℕ) (N : Naming) (h : ℕ) (b key : List ℕ) (r : ℕ) (ready : 
 
   -- the page of level j on the path to the key
   abbrev pub path : ℕ → ℕ
-  path j = pathPage bytesOrder key j h (treeIn k b h)
+  path j = pathPage (keeping .route (key, r)) j h (treeIn k b h)
 
   heads : HeadsAfter k N path h b (W .1) (s .outcome) (s .after)
   heads = insert-heads k N key r b (ready .offered) path (ready .plain) h maxLevels (rootOffset b) a (ready .levels) (ready .shaped) free (λ j i. refl)
@@ -248,11 +251,11 @@ module _ (k : ℕ) (N : Naming) (h : ℕ) (b key : List ℕ) (r : ℕ) (ready : 
 
   -- the run of full pages, as the theory has it
   abbrev pub fullRun : ℕ
-  fullRun = run bytesOrder (capacity k) key h (treeIn k b h)
+  fullRun = run (keeping .route (key, r)) (capacity k) h (treeIn k b h)
 
-  needed : (grownBy k N h b key r .2 ≡ needs bytesOrder (capacity k) key h (treeIn k b h))
-      × (suc (grownBy k N h b key r .0) ≡ levelsAfter bytesOrder (capacity k) key h (treeIn k b h))
-  needed = insert-needs bytesOrder (capacity k) (N .name) key r h (treeIn k b h) (omega (arith, ready .offered .two)) (ready .sized)
+  needed : (grownBy k N h b key r .2 ≡ needs (keeping .route (key, r)) (capacity k) h (treeIn k b h))
+      × (suc (grownBy k N h b key r .0) ≡ levelsAfter (keeping .route (key, r)) (capacity k) h (treeIn k b h))
+  needed = insert-needs keeping (capacity k) (N .name) (key, r) h (treeIn k b h) (omega (arith, ready .offered .two)) (ready .sized)
 
   -- the theory's numbers at each outcome: the pages that were split, the height and the root
   record Numbers (m height top : ℕ) : Type 0 where
@@ -284,15 +287,15 @@ module _ (k : ℕ) (N : Naming) (h : ℕ) (b key : List ℕ) (r : ℕ) (ready : 
 
   -- the theory's links after the insertion
   abbrev pub linksAfter : Links
-  linksAfter = relinked bytesOrder noPage (N .name) (capacity k) key h (treeIn k b h) (grownBy k N h b key r) (linksOf b)
+  linksAfter = relinked (keeping .route (key, r)) noPage (N .name) (capacity k) h (treeIn k b h) (grownBy k N h b key r) (linksOf b)
 
   relinked-kept : (x : Grown (List ℕ)) → x .0 ≡ h
-      → relinked bytesOrder noPage (N .name) (capacity k) key h (treeIn k b h) x (linksOf b)
+      → relinked (keeping .route (key, r)) noPage (N .name) (capacity k) h (treeIn k b h) x (linksOf b)
       ≡ relink path (N .name) fullRun (linksOf b)
   relinked-kept x e = rw (eq-eqb (x .0) h e)
 
   relinked-split : (x : Grown (List ℕ)) (p : ℕ) → x .0 ≡ suc h → x .1 .0 ≡ p
-      → relinked bytesOrder noPage (N .name) (capacity k) key h (treeIn k b h) x (linksOf b)
+      → relinked (keeping .route (key, r)) noPage (N .name) (capacity k) h (treeIn k b h) x (linksOf b)
       ≡ clearLinks noPage p (relink path (N .name) fullRun (linksOf b))
   relinked-split x p e f = rw (ne-eqb (x .0) h (λ q. omega arith))
       (ap (λ (y : ℕ). clearLinks noPage y (relink path (N .name) fullRun (linksOf b))) f)
@@ -322,7 +325,7 @@ module _ (k : ℕ) (N : Naming) (h : ℕ) (b key : List ℕ) (r : ℕ) (ready : 
       (λ q. omega (
         arith,
         eqb-false fullRun (suc h) q,
-        root-splits bytesOrder (capacity k) (N .name) key r h key (treeIn k b h) (omega (arith, ready .offered .two)) (ready .sized) .most,
+        root-splits keeping (capacity k) (N .name) (key, r) h key (treeIn k b h) (omega (arith, ready .offered .two)) (ready .sized) .most,
       ))
 
   -- Theorem: the heads of the pages are the theory's

@@ -5,22 +5,23 @@ use mathlib.Core.Bool.{true, false}
 use mathlib.Core.List.{List, [], _∷_, map}
 use Prim.Native.Nat.{ℕ, zero, suc, _+_, _^_, _≤_, _<_}
 use native.Mathlib.Omega.{arith}
-use lib.ListN.{length, take, drop, length-take, length-drop, length-map, take-append-drop}
+use lib.ListN.{length, getD, take, drop, length-take, length-drop, length-map, take-append-drop, List·getD-map}
 use lib.Dec.{leb}
-use borrow.Author.Tests.{leb-true, leb-false, le-leb, lt-leb, eq-eqb}
+use borrow.Author.Tests.{leb-true, leb-false, le-leb, lt-leb, lt-ltb, eq-eqb}
 use Rattle.basis.specs.Lists.{All}
 use Rattle.basis.specs.Tests.{either}
 use Rattle.octets.specs.Bytes.{be32, toLe32, toBe32}
 use Rattle.octets.specs.Store.{put}
 use Rattle.octets.specs.StoreLaws.{length-put}
 use Rattle.octets.specs.NumberLaws.{length-toLe32, length-toBe32, be32-toBe32}
-use Rattle.tree.specs.InsertNeeds.{choose-all}
 use Rattle.tree.specs.InsertPages.{newPages-apart}
 use Rattle.tree.specs.ListLaws.{nonEmpty-length, occ-here, take-map, drop-map, occ-not-head}
 use Rattle.tree.specs.Lists.{NonEmpty, concatMap, occ, countIf, half}
 use Rattle.tree.specs.Order.{larger}
 use Rattle.tree.specs.PairLaws.{lastKey-default, lastKey-append}
-use Rattle.tree.specs.Pairs.{insertPair, lastKey, choose}
+use Rattle.tree.specs.Pairs.{lastKey, byKey, insertPair}
+use Rattle.tree.specs.Position.{passesLower, replaceAt}
+use Rattle.tree.specs.RouteLaws.{choose-all, replaceAt-map}
 use Rattle.tree.specs.Store.{Store, readEntry, readTree}
 use Rattle.tree.specs.StoreInsertLaws.{storeInsertUnder-refines, choose-occ}
 use Rattle.tree.specs.StoreLaws.{write-here, write-other}
@@ -35,18 +36,19 @@ use Rattle.layout.specs.declared.Taken.{Taken}
 use Rattle.layout.specs.Given.{Lasts}
 use Rattle.layout.specs.Supply.{atEnd, supplyOf, takePage}
 use Rattle.layout.specs.Layout.{itemsIn, newPage}
-use Rattle.layout.specs.Entries.{chosen, childOf, replaced, twoFor}
+use Rattle.layout.specs.Entries.{stored, chosenAt, itemOf, childOf, replaced, raised, twoFor}
 use Rattle.layout.specs.ItemLaws.{Fit}
 use Rattle.layout.specs.EntryLaws.{items-in-fit}
 use Rattle.layout.specs.GatherLaws.{length-last}
 use Rattle.layout.specs.FitLaws.{length-insert, length-replaced, pair-fit, two-fit}
-use Rattle.insert.specs.Insertion.{Outcome, kept, split, bad, Step, takeIn, afterChild, insertUnder, atRoot}
+use Rattle.insert.specs.Insertion.{Outcome, kept, split, bad, Step, step, takeIn, afterChild, insertUnder, atRoot}
 use Rattle.layout_laws.specs.EntryLaws.{entriesIn, page-of, raise, items-few, entries-header, entries-with, length-with, entries-new, entries-split}
 use Rattle.layout_laws.specs.EntryLaws.{length-new, length-split, entries-raised, length-raised}
 use Rattle.layout_laws.specs.HeadLaws.{with-head, raised-head, split-rights}
 use Rattle.layout_laws.specs.SupplyLaws.{supply-stored}
 use Rattle.insert_laws.specs.Naming.{Naming, Usable, Untaken, nextOf, Supplied}
-use Rattle.insert_laws.specs.ItemLists.{insertPair-numbered, choose-numbered, lastKey-numbered, replaced-place, insertPair-place}
+use Rattle.insert_laws.specs.ItemLists.{keeping, passes, insertPair-numbered, lastKey-numbered, position-numbered, chosen-within, chosen-numbered}
+use Rattle.insert_laws.specs.ItemLists.{insertPair-place}
 
 -- what an outcome says of the theory's replacement for the page at p, with the key a above it
 abbrev pub OutcomeIs : Naming → List ℕ → ℕ → Outcome → StoreReplacement (List ℕ) → Type 0
@@ -61,21 +63,16 @@ pub record StepIs (k : ℕ) (N : Naming) (b a : List ℕ) (p : ℕ) (s : Step) (
   pub untaken : Untaken N (w .1) b (s .after)
   pub told : OutcomeIs N a p (s .outcome) w
 
-nonEmpty-numbered : (es : List Item) → NonEmpty (map numbered es) → NonEmpty es
-nonEmpty-numbered [] s = s
-nonEmpty-numbered (x ∷ xs) s = tt
-
--- a page that has entries
-pub items-some : (k : ℕ) (b : List ℕ) (p : ℕ) (y : List ℕ × ℕ) (ys : List (List ℕ × ℕ)) → entriesIn k b p ≡ y ∷ ys → NonEmpty (itemsIn k b p)
-items-some k b p y ys e = nonEmpty-numbered (itemsIn k b p) (rw e tt)
+-- a page that has the entries es, but for the bytes of their numbers, has as many
+pub items-longer : (k : ℕ) (b : List ℕ) (p : ℕ) (es : List Item) {i : ℕ} → entriesIn k b p ≡ map numbered es → i < length es → i < length (itemsIn k b p)
+items-longer k b p es e h = omega (arith, sym (length-map (itemsIn k b p) numbered) ∙ ap length e ∙ length-map es numbered)
 
 -- a leaf, in the theory's words
-pub among-leaf : (key : List ℕ) (r : ℕ) (S : Store (List ℕ)) (cap : ℕ) (name : ℕ → ℕ) (es : List (List ℕ × ℕ))
-    → storeInsertAmong bytesOrder key r zero (λ c. storeInsertUnder bytesOrder cap name key r zero c 0 S) es 0 S
-    ≡ (insertPair bytesOrder key r es, 0, S)
-among-leaf key r S cap name [] = refl
-among-leaf key r S cap name (x ∷ xs) =
-    ap (λ (l : List (List ℕ × ℕ)). (l, 0, S)) (insertPair-place key r (insertPair bytesOrder key r (choose bytesOrder key x xs ∷ [])) 0 0 x xs refl)
+pub among-leaf : (e : List ℕ × ℕ) (S : Store (List ℕ)) (cap : ℕ) (name : ℕ → ℕ) (es : List (List ℕ × ℕ))
+    → storeInsertAmong keeping (passes e) e zero (λ c. storeInsertUnder keeping (passes e) cap name e zero c 0 S) es 0 S
+    ≡ (insertPair (byKey bytesOrder) e es, 0, S)
+among-leaf e S cap name [] = refl
+among-leaf e S cap name (x ∷ xs) = ap (λ (l : List (List ℕ × ℕ)). (l, 0, S)) (insertPair-place e x x xs)
 
 -- the last key of a page that has entries
 lastKey-store : (k : ℕ) (key b : List ℕ) (c : ℕ) (a : List ℕ) → NonEmpty (entriesIn k b c) → lastKey key (itemsIn k b c) ≡ lastKey a (entriesIn k b c)
@@ -118,61 +115,72 @@ module _ (k : ℕ) (two : 1 < capacity k) (N : Naming) (b : List ℕ) (given : S
       }))
 
   module _ (key : List ℕ) (long : length key ≡ k) where
-    -- a page above with the entries es, after the step at the child that the key leads to: b is the buffer before that step, b′ after it
-    abbrev AfterChild : List ℕ → ℕ → List ℕ → StoreReplacement (List ℕ) → Outcome → List (List ℕ × ℕ) → Type 0
-    AfterChild b′ p a v o [] = Unit {0}
-    AfterChild b′ p a v o (z ∷ zs) =
-        OutcomeIs N (larger bytesOrder (choose bytesOrder key z zs .0) key) (choose bytesOrder key z zs .1) o v
-        → ((j : ℕ) → j < storeSplitIfOver (capacity k) (N .name) a p (storePlace bytesOrder key z zs v) .1 → Usable b (N .name j))
-        → StepIs k N b a p (afterChild k b′ key p (choose bytesOrder key z zs .1) o)
-        (storeSplitIfOver (capacity k) (N .name) a p (storePlace bytesOrder key z zs v))
+    -- what the theory gathers for a page with the entries es, if v replaces the child of entry i
+    abbrev pub gathered : ℕ → StoreReplacement (List ℕ) → List (List ℕ × ℕ) → StoreReplacement (List ℕ)
+    gathered i v es = (replaceAt i (v .0) es, v .1, v .2)
 
-    after-child-items : (b′ : List ℕ) (p : ℕ) (a : List ℕ) (y : Item) (ys : List Item) (v : StoreReplacement (List ℕ)) (o : Outcome) → length b′ ≡ length b
-        → isPage (length b) p ≡ true → entriesIn k b′ ≡ v .2 → itemsIn k b′ p ≡ y ∷ ys → ((j : ℕ) → p ≡ N .name j → ⊥) → Untaken N (v .1) b b′
-        → AfterChild b′ p a v o (map numbered (y ∷ ys))
-    after-child-items b′ p a y ys v bad lb tp sv sp ne un t room = absurd t
-    after-child-items b′ p a y ys v (kept s) lb tp sv sp ne un t room =
-        let es : List Item = replaced key (raise key) (y ∷ ys) in
-        let e : map numbered es ≡ storePlace bytesOrder key (numbered y) (map numbered ys) v .0 =
-        replaced-place key (raise key) (v .0) (v .1) 0 y ys (sym (t .1 ∙ rw (choose-numbered key y ys))) in
-        let l : length (map numbered es) ≡ length (y ∷ ys) = length-map es numbered ∙ length-replaced key (raise key) 0 (λ z. refl) (y ∷ ys) tt ∙ omega arith in
-        let u : leb (length (map numbered es)) (capacity k) ≡ true = le-leb (length (map numbered es)) (capacity k) (rw l (rw sp at (items-few k b′ p))) in
-        rw (← e, u) (record {
-          entries = entries-raised k b′ key p (page-of p lb tp) long ∙ rw (sv, sp);
-          as-long = length-raised k b′ key p ∙ lb;
-          untaken = λ j i x. raised-head k b′ key p (page-of p lb tp) long (N .name j) (page-of (N .name j) lb x) .rightIs ∙ un j i x;
+    -- a page above with the entries es, after the step at the child of its entry i: b is the buffer before that step, b′ after it
+    abbrev AfterChild : List ℕ → ℕ → List ℕ → ℕ → StoreReplacement (List ℕ) → Outcome → List (List ℕ × ℕ) → Type 0
+    AfterChild b′ p a i v o es =
+        let x : List ℕ × ℕ = getD es i (numbered ([], [])) in
+        i < length es → OutcomeIs N (larger bytesOrder (x .0) key) (x .1) o v
+        → ((j : ℕ) → j < storeSplitIfOver (capacity k) (N .name) a p (gathered i v es) .1 → Usable b (N .name j))
+        → StepIs k N b a p (afterChild k b′ key p i (x .1) o) (storeSplitIfOver (capacity k) (N .name) a p (gathered i v es))
+
+    after-child-items : (b′ : List ℕ) (p : ℕ) (a : List ℕ) (i : ℕ) (v : StoreReplacement (List ℕ)) (o : Outcome) → length b′ ≡ length b
+        → isPage (length b) p ≡ true → entriesIn k b′ ≡ v .2 → ((j : ℕ) → p ≡ N .name j → ⊥) → Untaken N (v .1) b b′
+        → AfterChild b′ p a i v o (entriesIn k b′ p)
+    after-child-items b′ p a i v bad lb tp sv ne un h t room = absurd t
+    after-child-items b′ p a i v (kept s) lb tp sv ne un h t room =
+        let is : List Item = itemsIn k b′ p in
+        let inside : i < length is = subst (λ (n : ℕ). i < n) (length-map is numbered) h in
+        let es : List Item = replaced i (raise key) is in
+        let same : getD (map numbered is) i (numbered ([], [])) ≡ numbered (itemOf i is) = List·getD-map numbered is i ([], []) in
+        let new : map numbered (raise key (itemOf i is)) ≡ v .0 =
+        ap (λ (x : List ℕ × ℕ). (larger bytesOrder (x .0) key, x .1) ∷ []) (sym same) ∙ sym (t .1) in
+        let ew : _≡_ {A = StoreReplacement (List ℕ)} (map numbered es, v .1, entriesIn k b′) (gathered i v (map numbered is)) =
+        λ j. ((replaceAt-map numbered i (raise key (itemOf i is)) is ∙ ap (λ (l : List (List ℕ × ℕ)). replaceAt i l (map numbered is)) new) j, v .1, sv j) in
+        let l : length (map numbered es) ≡ length is = length-map es numbered ∙ length-replaced i (raise key) 0 (λ z. refl) is inside ∙ omega arith in
+        let u : leb (length (map numbered es)) (capacity k) ≡ true = le-leb (length (map numbered es)) (capacity k) (rw l (items-few k b′ p)) in
+        subst (λ (w : StoreReplacement (List ℕ)). StepIs k N b a p (step (raised k b′ key p i) (kept s)) (storeSplitIfOver (capacity k) (N .name) a p w)) ew
+        (rw u (record {
+          entries = entries-raised k b′ key p i (page-of p lb tp) long inside;
+          as-long = length-raised k b′ key p i ∙ lb;
+          untaken = λ j m x. raised-head k b′ key p i (page-of p lb tp) long (N .name j) (page-of (N .name j) lb x) .rightIs ∙ un j m x;
           told = (t .0, refl);
-        })
-    after-child-items b′ p a y ys v (split q s) lb tp sv sp ne un t room =
-        let e : List ℕ × ℕ = choose bytesOrder key (numbered y) (map numbered ys) in
-        let c : ℕ = e .1 in
-        let A : List ℕ = larger bytesOrder (e .0) key in
-        let es : List Item = replaced key (twoFor k b′ key c q) (y ∷ ys) in
+        }))
+    after-child-items b′ p a i v (split q s) lb tp sv ne un h t room =
+        let is : List Item = itemsIn k b′ p in
+        let inside : i < length is = subst (λ (n : ℕ). i < n) (length-map is numbered) h in
+        let x : List ℕ × ℕ = getD (map numbered is) i (numbered ([], [])) in
+        let c : ℕ = x .1 in
+        let A : List ℕ = larger bytesOrder (x .0) key in
+        let es : List Item = replaced i (twoFor k b′ key c q) is in
+        let same : x ≡ numbered (itemOf i is) = List·getD-map numbered is i ([], []) in
         let svc : entriesIn k b′ c ≡ v .2 c = ap (λ (S : Store (List ℕ)). S c) sv in
         let low : lastKey key (itemsIn k b′ c) ≡ lastKey A (v .2 c) = lastKey-store k key b′ c A (rw svc (t .2)) ∙ ap (lastKey A) svc in
-        let em : map numbered es ≡ storePlace bytesOrder key (numbered y) (map numbered ys) v .0 =
-        replaced-place key (twoFor k b′ key c q) (v .0) (v .1) 0 y ys
-        (rw (low, be32-toBe32 q (t .3)) (ap (λ (x : List ℕ × ℕ). (lastKey A (v .2 c), x .1) ∷ (larger bytesOrder (x .0) key, q) ∷ [])
-        (sym (choose-numbered key y ys)) ∙ sym (t .1))) in
-        let ew : _≡_ {A = StoreReplacement (List ℕ)} (map numbered es, v .1, entriesIn k b′)
-        (storePlace bytesOrder key (numbered y) (map numbered ys) v) = λ i. (em i, v .1, sv i) in
-        let fit : All (Fit k) (y ∷ ys) = rw sp at (items-in-fit k b′ p) in
-        let few : length (y ∷ ys) ≤ capacity k = rw sp at (items-few k b′ p) in
-        let le : length es ≡ 1 + length (y ∷ ys) = length-replaced key (twoFor k b′ key c q) 1 (λ e. refl) (y ∷ ys) tt in
-        rw sp
+        let new : map numbered (twoFor k b′ key c q (itemOf i is)) ≡ v .0 =
+        rw (low, be32-toBe32 q (t .3)) (ap (λ (z : List ℕ × ℕ). (lastKey A (v .2 c), z .1) ∷ (larger bytesOrder (z .0) key, q) ∷ [])
+        (sym same) ∙ sym (t .1)) in
+        let ew : _≡_ {A = StoreReplacement (List ℕ)} (map numbered es, v .1, entriesIn k b′) (gathered i v (map numbered is)) =
+        λ j. (
+          (replaceAt-map numbered i (twoFor k b′ key c q (itemOf i is)) is
+              ∙ ap (λ (l : List (List ℕ × ℕ)). replaceAt i l (map numbered is)) new) j,
+          v .1,
+          sv j,
+        ) in
+        let few : length is ≤ capacity k = items-few k b′ p in
+        let le : length es ≡ 1 + length is = length-replaced i (twoFor k b′ key c q) 1 (λ e. refl) is inside in
+        rw (lt-ltb i (length is) inside)
         (subst (λ (w : StoreReplacement (List ℕ)). StepIs k N b a p (takeIn k b′ p es s) (storeSplitIfOver (capacity k) (N .name) a p w)) ew
-        (take-in-is b′ p a es (v .1) s lb tp (two-fit k b′ key long c q (y ∷ ys) fit) (omega arith) (t .0) ne un
-        (λ j h. room j (subst (λ (w : StoreReplacement (List ℕ)). j < storeSplitIfOver (capacity k) (N .name) a p w .1) ew h))))
+        (take-in-is b′ p a es (v .1) s lb tp (two-fit k b′ key long i c q is inside (items-in-fit k b′ p)) (omega arith) (t .0) ne un
+        (λ j m. room j (subst (λ (w : StoreReplacement (List ℕ)). j < storeSplitIfOver (capacity k) (N .name) a p w .1) ew m))))
 
     -- the child's step leaves the page's entries with their numbers
-    after-child-is : (b′ : List ℕ) (p : ℕ) (a : List ℕ) (es : List (List ℕ × ℕ)) (v : StoreReplacement (List ℕ)) (o : Outcome) → length b′ ≡ length b
+    after-child-is : (b′ : List ℕ) (p : ℕ) (a : List ℕ) (i : ℕ) (es : List (List ℕ × ℕ)) (v : StoreReplacement (List ℕ)) (o : Outcome) → length b′ ≡ length b
         → isPage (length b) p ≡ true → entriesIn k b′ ≡ v .2 → entriesIn k b′ p ≡ es → ((j : ℕ) → p ≡ N .name j → ⊥) → Untaken N (v .1) b b′
-        → AfterChild b′ p a v o es
-    after-child-is b′ p a es v o lb tp sv sp ne un = go (itemsIn k b′ p) refl
-      where
-        go : (is : List Item) → itemsIn k b′ p ≡ is → AfterChild b′ p a v o es
-        go [] e = subst (AfterChild b′ p a v o) (sym (ap (map numbered) e) ∙ sp) tt
-        go (y ∷ ys) e = subst (AfterChild b′ p a v o) (sym (ap (map numbered) e) ∙ sp) (after-child-items b′ p a y ys v o lb tp sv e ne un)
+        → AfterChild b′ p a i v o es
+    after-child-is b′ p a i es v o lb tp sv sp ne un = subst (AfterChild b′ p a i v o) sp (after-child-items b′ p a i v o lb tp sv ne un)
 
 -- the page at p, with h levels under it, and every page under it is a page of the buffer, has the leaf bit at the bottom only, and has entries above it
 abbrev pub Shaped : ℕ → (h : ℕ) → List ℕ → ℕ → Type 0
@@ -183,12 +191,12 @@ pub shaped-page : (k h : ℕ) (b : List ℕ) (p : ℕ) → Shaped k h b p → Us
 shaped-page k zero b p s = s .0
 shaped-page k (suc h) b p s = s .0
 
-pub child-shaped : (k h : ℕ) (key b : List ℕ) (p : ℕ) (y : Item) (ys : List Item) → itemsIn k b p ≡ y ∷ ys → All (λ e. Shaped k h b (e .1)) (entriesIn k b p)
-    → Shaped k h b (childOf (choose bytesOrder key y ys))
-child-shaped k h key b p y ys e f =
-    subst (λ (c : List ℕ × ℕ). Shaped k h b (c .1)) (choose-numbered key y ys)
-    (choose-all bytesOrder key (λ c. Shaped k h b (c .1)) (numbered y) (map numbered ys)
-    (subst (λ (l : List Item). All (λ c. Shaped k h b (c .1)) (map numbered l)) e f))
+pub child-shaped : (k h : ℕ) (key c b : List ℕ) (p : ℕ) (y : Item) (ys : List Item) → itemsIn k b p ≡ y ∷ ys → All (λ e. Shaped k h b (e .1)) (entriesIn k b p)
+    → Shaped k h b (childOf (chosenAt (key, c) (y ∷ ys)) (y ∷ ys))
+child-shaped k h key c b p y ys e f =
+    subst (λ (z : List ℕ × ℕ). Shaped k h b (z .1)) (chosen-numbered key c 0 y ys)
+    (choose-all (passesLower {D = ℕ} bytesOrder (key, 0)) (λ z. Shaped k h b (z .1)) (numbered y) (numbered y) (map numbered ys)
+    (subst (λ (l : List Item). All (λ z. Shaped k h b (z .1)) (map numbered l)) e f))
 
 -- a page that is split takes one new page
 split-more : (cap : ℕ) (name : ℕ → ℕ) (a : List ℕ) (p : ℕ) (w : StoreReplacement (List ℕ)) → w .1 ≤ storeSplitIfOver cap name a p w .1
@@ -204,14 +212,15 @@ pub record Offered (k : ℕ) (N : Naming) (key : List ℕ) (r : ℕ) (b : List �
 module _ (k : ℕ) (N : Naming) (key : List ℕ) (r : ℕ) (b : List ℕ) where
   -- the theory's insertion under an entry, and its replacement for the page at p, which has h levels under it and the key a above it
   abbrev pub under : (h : ℕ) → List ℕ × ℕ → StoreReplacement (List ℕ)
-  under h e = storeInsertUnder bytesOrder (capacity k) (N .name) key r h e 0 (entriesIn k b)
+  under h e = storeInsertUnder keeping (passes (key, r)) (capacity k) (N .name) (key, r) h e 0 (entriesIn k b)
 
   abbrev pub replacement : (h : ℕ) → List ℕ → ℕ → StoreReplacement (List ℕ)
-  replacement h a p = storeSplitIfOver (capacity k) (N .name) a p (storeInsertAmong bytesOrder key r h (under h) (entriesIn k b p) 0 (entriesIn k b))
+  replacement h a p =
+      storeSplitIfOver (capacity k) (N .name) a p (storeInsertAmong keeping (passes (key, r)) (key, r) h (under h) (entriesIn k b p) 0 (entriesIn k b))
 
   -- insertion's step at that page, with `left` levels left, is the theory's
   abbrev pub Inserts : ℕ → ℕ → List ℕ → ℕ → Type 0
-  Inserts h left a p = StepIs k N b a p (insertUnder k left b key r p (supplyOf b)) (replacement h a p)
+  Inserts h left a p = StepIs k N b a p (insertUnder k left b (stored key r) p (supplyOf b)) (replacement h a p)
 
   -- each page under the page at p is reached once, no new page is one of them, and the new pages that are taken are pages of the buffer
   abbrev pub Free : (h : ℕ) → List ℕ → ℕ → Type 0
@@ -222,9 +231,9 @@ module _ (k : ℕ) (N : Naming) (key : List ℕ) (r : ℕ) (b : List ℕ) where
   -- insertion's step at a page above with the entries es
   abbrev pub UpperIs : ℕ → (h : ℕ) → List ℕ → ℕ → List Item → Type 0
   UpperIs left h a p es =
-      let c : ℕ = childOf (chosen key es) in
-      let d : Step = insertUnder k left b key r c (supplyOf b) in
-      StepIs k N b a p (afterChild k (d .after) key p c (d .outcome)) (replacement (suc h) a p)
+      let i : ℕ = chosenAt (stored key r) es in
+      let d : Step = insertUnder k left b (stored key r) (childOf i es) (supplyOf b) in
+      StepIs k N b a p (afterChild k (d .after) key p i (childOf i es) (d .outcome)) (replacement (suc h) a p)
 
   -- the page at p is no new page
   pub own-page : (h : ℕ) (a : List ℕ) (p : ℕ) → Free h a p → (j : ℕ) → p ≡ N .name j → ⊥
@@ -233,24 +242,30 @@ module _ (k : ℕ) (N : Naming) (key : List ℕ) (r : ℕ) (b : List ℕ) where
   module _ (o : Offered k N key r b) where
     leaf-is : (p : ℕ) (a : List ℕ) → isPage (length b) p ≡ true → ((j : ℕ) → p ≡ N .name j → ⊥)
         → ((j : ℕ) → j < replacement zero a p .1 → Usable b (N .name j))
-        → StepIs k N b a p (takeIn k b p (insertPair bytesOrder key (toBe32 r) (itemsIn k b p)) (supplyOf b)) (replacement zero a p)
+        → StepIs k N b a p (takeIn k b p (insertPair (byKey bytesOrder) (stored key r) (itemsIn k b p)) (supplyOf b)) (replacement zero a p)
     leaf-is p a tp ne room =
-        let es : List Item = insertPair bytesOrder key (toBe32 r) (itemsIn k b p) in
-        let en : map numbered es ≡ insertPair bytesOrder key r (entriesIn k b p) =
-        insertPair-numbered key (toBe32 r) (itemsIn k b p) ∙ rw (be32-toBe32 r (o .r32)) in
+        let es : List Item = insertPair (byKey bytesOrder) (stored key r) (itemsIn k b p) in
+        let en : map numbered es ≡ insertPair (byKey bytesOrder) (key, r) (entriesIn k b p) =
+        insertPair-numbered (stored key r) (itemsIn k b p) ∙ rw (be32-toBe32 r (o .r32)) in
         let ew : _≡_ {A = StoreReplacement (List ℕ)} (map numbered es, 0, entriesIn k b)
-        (storeInsertAmong bytesOrder key r zero (under zero) (entriesIn k b p) 0 (entriesIn k b)) =
-        ap (λ (l : List (List ℕ × ℕ)). (l, 0, entriesIn k b)) en ∙ sym (among-leaf key r (entriesIn k b) (capacity k) (N .name) (entriesIn k b p)) in
+        (storeInsertAmong keeping (passes (key, r)) (key, r) zero (under zero) (entriesIn k b p) 0 (entriesIn k b)) =
+        ap (λ (l : List (List ℕ × ℕ)). (l, 0, entriesIn k b)) en ∙ sym (among-leaf (key, r) (entriesIn k b) (capacity k) (N .name) (entriesIn k b p)) in
         subst (λ (w : StoreReplacement (List ℕ)). StepIs k N b a p (takeIn k b p es (supplyOf b)) (storeSplitIfOver (capacity k) (N .name) a p w)) ew
         (take-in-is k (o .two) N b (o .supplied) b p a es 0 (supplyOf b) refl tp
         (pair-fit k b key (o .long) r p)
-        (omega (arith, items-few k b p, length-insert key (toBe32 r) (itemsIn k b p))) (o .supplied .starts) ne (λ j l t. refl)
+        (omega (arith, items-few k b p, length-insert (stored key r) (itemsIn k b p))) (o .supplied .starts) ne (λ j l t. refl)
         (λ j h. room j (subst (λ (w : StoreReplacement (List ℕ)). j < storeSplitIfOver (capacity k) (N .name) a p w .1) ew h)))
 
-    -- the child that the key leads to, under a page with the entries y ∷ ys
+    -- the entry gone through, of a page with the entries y ∷ ys, and its child
     module _ (h p : ℕ) (a : List ℕ) (y : Item) (ys : List Item) (ee : itemsIn k b p ≡ y ∷ ys) (u : Free (suc h) a p) where
+      abbrev pub number : ℕ
+      number = chosenAt (stored key r) (y ∷ ys)
+
       abbrev pub child : Item
-      child = choose bytesOrder key y ys
+      child = itemOf (chosenAt (stored key r) (y ∷ ys)) (y ∷ ys)
+
+      abbrev pub childPage : ℕ
+      childPage = childOf (chosenAt (stored key r) (y ∷ ys)) (y ∷ ys)
 
       es : entriesIn k b p ≡ map numbered (y ∷ ys)
       es = ap (map numbered) ee
@@ -258,52 +273,58 @@ module _ (k : ℕ) (N : Naming) (key : List ℕ) (r : ℕ) (b : List ℕ) where
       abbrev below : List ℕ
       below = concatMap (pagesUnder (suc h)) (map (readEntry (entriesIn k b) (suc h)) (entriesIn k b p))
 
-      pub child-among : storePlace bytesOrder key (numbered y) (map numbered ys) (under (suc h) (numbered child))
-          ≡ storeInsertAmong bytesOrder key r (suc h) (under (suc h)) (entriesIn k b p) 0 (entriesIn k b)
+      pub child-among : gathered k (o .two) N b (o .supplied) key (o .long) number (under (suc h) (numbered child)) (map numbered (y ∷ ys))
+          ≡ storeInsertAmong keeping (passes (key, r)) (key, r) (suc h) (under (suc h)) (entriesIn k b p) 0 (entriesIn k b)
       child-among =
-          ap (λ (e : List ℕ × ℕ). storePlace bytesOrder key (numbered y) (map numbered ys) (under (suc h) e)) (sym (choose-numbered key y ys))
-          ∙ ap (λ (l : List (List ℕ × ℕ)). storeInsertAmong bytesOrder key r (suc h) (under (suc h)) l 0 (entriesIn k b)) (sym es)
+          ap (λ (i : ℕ). gathered k (o .two) N b (o .supplied) key (o .long) i (under (suc h) (numbered child)) (map numbered (y ∷ ys)))
+          (sym (position-numbered key (toBe32 r) r (y ∷ ys)))
+          ∙ ap (λ (e : List ℕ × ℕ). storePlace (passes (key, r) (suc h)) (map numbered (y ∷ ys)) (under (suc h) e))
+          (sym (chosen-numbered key (toBe32 r) r y ys))
+          ∙ ap (λ (l : List (List ℕ × ℕ)). storeInsertAmong keeping (passes (key, r)) (key, r) (suc h) (under (suc h)) l 0 (entriesIn k b)) (sym es)
 
       child-occ : (z : ℕ) → occ z (pagesUnder (suc h) (readEntry (entriesIn k b) (suc h) (numbered child))) ≤ occ z below
       child-occ z =
           subst (λ (l : List (List ℕ × ℕ)). occ z (pagesUnder (suc h) (readEntry (entriesIn k b) (suc h) (numbered child))) ≤ occ z
           (concatMap (pagesUnder (suc h)) (map (readEntry (entriesIn k b) (suc h)) l))) (sym es)
           (subst (λ (e : List ℕ × ℕ). occ z (pagesUnder (suc h) (readEntry (entriesIn k b) (suc h) e)) ≤ occ z
-          (concatMap (pagesUnder (suc h)) (map (readEntry (entriesIn k b) (suc h)) (numbered y ∷ map numbered ys)))) (choose-numbered key y ys)
-          (choose-occ bytesOrder (entriesIn k b) (suc h) key z (numbered y) (map numbered ys)))
+          (concatMap (pagesUnder (suc h)) (map (readEntry (entriesIn k b) (suc h)) (numbered y ∷ map numbered ys)))) (chosen-numbered key (toBe32 r) r y ys)
+          (choose-occ (keeping .route (key, r)) (passes (key, r)) (entriesIn k b) (λ j x z. refl) (suc h) (numbered y) (map numbered ys) z))
 
       child-room : (j : ℕ) → j < storeSplitIfOver (capacity k) (N .name) a p
-          (storePlace bytesOrder key (numbered y) (map numbered ys) (under (suc h) (numbered child))) .1 → Usable b (N .name j)
+          (gathered k (o .two) N b (o .supplied) key (o .long) number (under (suc h) (numbered child)) (map numbered (y ∷ ys))) .1 → Usable b (N .name j)
       child-room j l = u .2 j (subst (λ (w : StoreReplacement (List ℕ)). j < storeSplitIfOver (capacity k) (N .name) a p w .1) child-among l)
 
-      pub child-free : Free h (larger bytesOrder (child .0) key) (childOf child)
+      pub child-free : Free h (larger bytesOrder (child .0) key) childPage
       child-free =
-          let more = split-more (capacity k) (N .name) a p (storePlace bytesOrder key (numbered y) (map numbered ys) (under (suc h) (numbered child))) in
+          let more = split-more (capacity k) (N .name) a p
+          (gathered k (o .two) N b (o .supplied) key (o .long) number (under (suc h) (numbered child)) (map numbered (y ∷ ys))) in
           ((λ z. omega (arith, u .0 z, child-occ z)), (λ i. omega (arith, u .1 i, child-occ (N .name i))), (λ j l. child-room j (omega arith)))
 
       -- the child's step keeps the entries of the page at p
-      pub child-rest : (left : ℕ) → Inserts h left (larger bytesOrder (child .0) key) (childOf child)
-          → entriesIn k (insertUnder k left b key r (childOf child) (supplyOf b) .after) p ≡ map numbered (y ∷ ys)
+      pub child-rest : (left : ℕ) → Inserts h left (larger bytesOrder (child .0) key) childPage
+          → entriesIn k (insertUnder k left b (stored key r) childPage (supplyOf b) .after) p ≡ map numbered (y ∷ ys)
       child-rest left w =
           let v : StoreReplacement (List ℕ) = under (suc h) (numbered child) in
           let rest : v .2 p ≡ entriesIn k b p =
-          storeInsertUnder-refines bytesOrder (capacity k) (N .name) (o .supplied .distinct) key r (suc h) 0 (entriesIn k b) (numbered child)
-          (child-free .0) (child-free .1) .rest p
+          storeInsertUnder-refines keeping (passes (key, r)) (capacity k) (N .name) (o .supplied .distinct) (key, r) (entriesIn k b) (λ j x z. refl) (suc h) 0
+          (numbered child) (child-free .0) (child-free .1) .rest p
           (omega (arith, u .0 p, child-occ p, ap countIf (eq-eqb p p refl))) (newPages-apart (N .name) (p ∷ below) (u .1) p (v .1) (occ-here p below)) in
           ap (λ (T : Store (List ℕ)). T p) (w .entries) ∙ (rest ∙ es)
 
       -- the page at p, given the child's step
-      pub page-is : (left : ℕ) → isPage (length b) p ≡ true → Inserts h left (larger bytesOrder (child .0) key) (childOf child)
-          → UpperIs left h a p (y ∷ ys)
+      pub page-is : (left : ℕ) → isPage (length b) p ≡ true → Inserts h left (larger bytesOrder (child .0) key) childPage → UpperIs left h a p (y ∷ ys)
       page-is left tp w =
           let v : StoreReplacement (List ℕ) = under (suc h) (numbered child) in
-          let d : Step = insertUnder k left b key r (childOf child) (supplyOf b) in
-          let same = choose-numbered key y ys in
-          let step-is = after-child-is k (o .two) N b (o .supplied) key (o .long) (d .after) p a (map numbered (y ∷ ys)) v (d .outcome) (w .as-long) tp
-          (w .entries) (child-rest left w) (own-page (suc h) a p u) (w .untaken) in
-          subst (λ (t : StoreReplacement (List ℕ)). StepIs k N b a p (afterChild k (d .after) key p (childOf child) (d .outcome))
+          let d : Step = insertUnder k left b (stored key r) childPage (supplyOf b) in
+          let same : getD (map numbered (y ∷ ys)) number (numbered ([], [])) ≡ numbered child = List·getD-map numbered (y ∷ ys) number ([], []) in
+          let inside : number < length (map numbered (y ∷ ys)) = rw (length-map (y ∷ ys) numbered) (chosen-within key (toBe32 r) r y ys) in
+          let step-is = after-child-is k (o .two) N b (o .supplied) key (o .long) (d .after) p a number (map numbered (y ∷ ys)) v (d .outcome) (w .as-long) tp
+          (w .entries) (child-rest left w) (own-page (suc h) a p u) (w .untaken) inside in
+          subst (λ (t : StoreReplacement (List ℕ)). StepIs k N b a p (afterChild k (d .after) key p number childPage (d .outcome))
           (storeSplitIfOver (capacity k) (N .name) a p t)) child-among
-          (rw same at (step-is (rw same (w .told)) child-room))
+          (subst (λ (x : List ℕ × ℕ). StepIs k N b a p (afterChild k (d .after) key p number (x .1) (d .outcome))
+          (storeSplitIfOver (capacity k) (N .name) a p (gathered k (o .two) N b (o .supplied) key (o .long) number v (map numbered (y ∷ ys))))) same
+          (step-is (subst (λ (x : List ℕ × ℕ). OutcomeIs N (larger bytesOrder (x .0) key) (x .1) (d .outcome) v) (sym same) (w .told)) child-room))
 
     -- Theorem: insertion's step at the page at p, with h levels under it, is the theory's
     pub inserts : (h left p : ℕ) (a : List ℕ) → h < left → Shaped k h b p → Free h a p → Inserts h left a p
@@ -317,8 +338,8 @@ module _ (k : ℕ) (N : Naming) (key : List ℕ) (r : ℕ) (b : List ℕ) where
         go : ((c : ℕ) (y : List ℕ) → Shaped k h b c → Free h y c → Inserts h left y c) → (es : List Item) → itemsIn k b p ≡ es → Inserts (suc h) (suc left) a p
         go rec [] e = absurd (rw e at (f .2))
         go rec (y ∷ ys) e =
-            let w = rec (childOf (choose bytesOrder key y ys)) (larger bytesOrder (choose bytesOrder key y ys .0) key)
-            (child-shaped k h key b p y ys e (f .3)) (child-free h p a y ys e u) in
+            let w = rec (childPage h p a y ys e u) (larger bytesOrder (child h p a y ys e u .0) key) (child-shaped k h key (toBe32 r) b p y ys e (f .3))
+            (child-free h p a y ys e u) in
             rw (f .0 .0, f .1) (subst (UpperIs left h a p) (sym e) (page-is h p a y ys e u left (f .0 .0) w))
 
 -- the page that is the root after an outcome at the root p, in the buffer b, and the supply that is left
@@ -353,7 +374,7 @@ module _ (cap : ℕ) (name : ℕ → ℕ) (a : List ℕ) (p : ℕ) (w : StoreRep
 module _ (k : ℕ) (N : Naming) (key : List ℕ) (r : ℕ) (b : List ℕ) (o : Offered k N key r b) where
   -- the root's own last key stands for the key above it
   abbrev pub topKey : (h p : ℕ) → List ℕ
-  topKey h p = lastKey key (storeInsertAmong bytesOrder key r h (under k N key r b h) (entriesIn k b p) 0 (entriesIn k b) .0)
+  topKey h p = lastKey key (storeInsertAmong keeping (passes (key, r)) (key, r) h (under k N key r b h) (entriesIn k b p) 0 (entriesIn k b) .0)
 
   -- the upper half of a root that was split ends as the whole did
   record UpperHalf (w : StoreReplacement (List ℕ)) (p q : ℕ) : Type 0 where
@@ -375,10 +396,10 @@ module _ (k : ℕ) (N : Naming) (key : List ℕ) (r : ℕ) (b : List ℕ) (o : O
 
   -- Theorem: the buffer with its root is the theory's
   pub root-inserts : (h p : ℕ) (s : Step) → Usable b p → pageSize ≤ length b → StepIs k N b (topKey h p) p s (replacement k N key r b h (topKey h p) p)
-      → ((j : ℕ) → j < storeInsert bytesOrder (capacity k) (N .name) key r h p (entriesIn k b) .2 → Usable b (N .name j))
-      → Lasts 0 (N .left (storeInsert bytesOrder (capacity k) (N .name) key r h p (entriesIn k b) .2))
+      → ((j : ℕ) → j < storeInsert keeping (passes (key, r)) (capacity k) (N .name) (key, r) h p (entriesIn k b) .2 → Usable b (N .name j))
+      → Lasts 0 (N .left (storeInsert keeping (passes (key, r)) (capacity k) (N .name) (key, r) h p (entriesIn k b) .2))
       → RootIs k N (atRoot k (s .after) key p (s .outcome)) (rootAfter (s .after) p (s .outcome))
-      (storeInsert bytesOrder (capacity k) (N .name) key r h p (entriesIn k b))
+      (storeInsert keeping (passes (key, r)) (capacity k) (N .name) (key, r) h p (entriesIn k b))
   root-inserts h p s tp low w room lasts = go (s .outcome) (w .told)
     where
       a : List ℕ
@@ -388,7 +409,7 @@ module _ (k : ℕ) (N : Naming) (key : List ℕ) (r : ℕ) (b : List ℕ) (o : O
       W = replacement k N key r b h (topKey h p) p
 
       go : (out : Outcome) → OutcomeIs N a p out W → RootIs k N (atRoot k (s .after) key p out) (rootAfter (s .after) p out)
-          (storeInsert bytesOrder (capacity k) (N .name) key r h p (entriesIn k b))
+          (storeInsert keeping (passes (key, r)) (capacity k) (N .name) (key, r) h p (entriesIn k b))
       go bad t = absurd t
       go (kept s′) t = rw (t .1) (record {
         entries = supply-stored (s .after) s′ (rw (w .as-long) low) (rw (t .0) (rw (t .1) at lasts)) .entries k ∙ w .entries;
@@ -399,7 +420,8 @@ module _ (k : ℕ) (N : Naming) (key : List ℕ) (r : ℕ) (b : List ℕ) (o : O
           let b′ : List ℕ = s .after in
           let top : ℕ = N .name (W .1) in
           let new : takePage b′ s′ ≡ nextOf N (W .1) = ap (takePage b′) (t .0) ∙ o .supplied .takes (W .1) b′ (w .as-long) (w .untaken) in
-          let v : StoreReplacement (List ℕ) = storeInsertAmong bytesOrder key r h (under k N key r b h) (entriesIn k b p) 0 (entriesIn k b) in
+          let v : StoreReplacement (List ℕ) = storeInsertAmong keeping (passes (key, r)) (key, r) h (under k N key r b h) (entriesIn k b p) 0
+          (entriesIn k b) in
           let c = split-case (capacity k) (N .name) a p v (lastKey a (W .2 p), p) (a, q) (t .1) in
           let half-is = upper-half v p q (c .0) (c .2) in
           let rooms : (j : ℕ) → j < suc (W .1) → Usable b (N .name j) = rw (t .1) at room in

@@ -6,19 +6,20 @@ use mathlib.Core.List.{List, [], _∷_, map}
 use Prim.Native.Nat.{ℕ, zero, suc, _+_, _^_, _≤_, _<_}
 use native.Mathlib.Omega.{arith}
 use lib.ListN.{length, take, drop, length-take, length-drop}
-use lib.Dec.{leb, eqb}
-use borrow.Author.Tests.{leb-true, eqb-true, eqb-false, eq-eqb, ne-eqb}
+use lib.Dec.{leb, ltb, eqb}
+use borrow.Author.Tests.{leb-true, lt-ltb, eqb-true, eqb-false, eq-eqb, ne-eqb}
 use Rattle.basis.specs.Lists.{All}
 use Rattle.basis.specs.Tests.{either}
 use Rattle.octets.specs.Bytes.{toBe32}
 use Rattle.octets.specs.NumberLaws.{le16-small, le32-small}
-use Rattle.tree.specs.Lists.{NonEmpty, half}
+use Rattle.tree.specs.Keeping.{Route}
+use Rattle.tree.specs.Lists.{half}
 use Rattle.tree.specs.Order.{larger}
-use Rattle.tree.specs.Pairs.{insertPair, lastKey, choose}
+use Rattle.tree.specs.Pairs.{lastKey, byKey, insertPair}
 use Rattle.tree.specs.Relinking.{pathPageUnder, relink}
 use Rattle.tree.specs.Room.{atChosen}
-use Rattle.tree.specs.Store.{readEntry, readTree}
-use Rattle.tree.specs.StoreLaws.{choose-read}
+use Rattle.tree.specs.RouteLaws.{choose-map}
+use Rattle.tree.specs.Store.{Store, readEntry, readTree}
 use Rattle.tree.specs.StoreSteps.{StoreReplacement, storeSplitIfOver, storeInsertAmong}
 use Rattle.tree.specs.Tree.{Tree}
 use Rattle.page.specs.Header.{isPage}
@@ -28,7 +29,7 @@ use Rattle.page.specs.Reading.{Item, numbered}
 use Rattle.layout.specs.declared.Supply.{Supply}
 use Rattle.layout.specs.Supply.{supplyOf, takePage}
 use Rattle.layout.specs.Layout.{itemsIn, withEntries, withoutRoot, splitPage}
-use Rattle.layout.specs.Entries.{chosen, childOf, replaced, raised, twoFor}
+use Rattle.layout.specs.Entries.{stored, chosenAt, itemOf, childOf, replaced, raised, twoFor}
 use Rattle.layout.specs.ItemLaws.{Fit}
 use Rattle.layout.specs.EntryLaws.{items-in-fit}
 use Rattle.layout.specs.FitLaws.{length-insert, length-replaced, pair-fit, two-fit}
@@ -36,10 +37,10 @@ use Rattle.sound.specs.Sound.{linksOf}
 use Rattle.insert.specs.Insertion.{Outcome, kept, split, bad, Step, takeIn, afterChild, insertUnder}
 use Rattle.layout_laws.specs.EntryLaws.{entriesIn, page-of, items-few}
 use Rattle.layout_laws.specs.HeadLaws.{Head, SameHead, SameHeader, with-head, with-header, raised-head, raised-header, split-head, split-header}
-use Rattle.insert_laws.specs.ItemLists.{choose-numbered}
+use Rattle.insert_laws.specs.ItemLists.{keeping, passes, chosen-within, chosen-numbered}
 use Rattle.insert_laws.specs.Naming.{Naming, Usable, Untaken, nextOf, Supplied}
-use Rattle.insert_laws.specs.InsertEntries.{OutcomeIs, Shaped, Offered, under, replacement, Inserts, Free, own-page, inserts, items-some, among-leaf}
-use Rattle.insert_laws.specs.InsertEntries.{kept-case, split-case, child-among, child-free, child-shaped, child-rest, page-is}
+use Rattle.insert_laws.specs.InsertEntries.{OutcomeIs, Shaped, Offered, under, replacement, Inserts, Free, own-page, inserts, items-longer, among-leaf}
+use Rattle.insert_laws.specs.InsertEntries.{kept-case, split-case, number, child, childPage, child-among, child-free, child-shaped, child-rest, page-is}
 
 -- attributes and right links that are numbers of two and four bytes
 abbrev pub Plain : List ℕ → Type 0
@@ -93,15 +94,15 @@ module _ (k : ℕ) where
         header = with-header k b p es tp f few;
       }
 
-  raised-only : (b key : List ℕ) (p : ℕ) → isPage (length b) p ≡ true → length key ≡ k → EntriesOnly k b (raised k b key p)
-  raised-only b key p tp long =
-      let h : (z : ℕ) → isPage (length b) z ≡ true → SameHead b (raised k b key p) z = raised-head k b key p tp long in
+  raised-only : (b key : List ℕ) (p i : ℕ) → isPage (length b) p ≡ true → length key ≡ k → EntriesOnly k b (raised k b key p i)
+  raised-only b key p i tp long =
+      let h : (z : ℕ) → isPage (length b) z ≡ true → SameHead b (raised k b key p i) z = raised-head k b key p i tp long in
       record {
         attribute = λ z t. h z t .attributeIs;
         left = λ z t. h z t .leftIs;
         right = λ z t. h z t .rightIs;
         counts = λ z t c. rw (h z t .countIs) c;
-        header = raised-header k b key p tp long;
+        header = raised-header k b key p i tp long;
       }
 
 module _ (k : ℕ) (N : Naming) (path : ℕ → ℕ) (b : List ℕ) where
@@ -175,18 +176,22 @@ HeadsAfter k N path h b n (split q s) b′ = (n ≡ suc h) × Heads k N path (su
 HeadsAfter k N path h b n bad b′ = ⊥
 
 -- the page of the path on the level of a page, and on the levels below it
-path-own : (key : List ℕ) (h : ℕ) (a : List ℕ) (t : Tree (List ℕ) h) → pathPageUnder bytesOrder key h (suc h) (a, t) ≡ t .0
-path-own key h a t = rw (eq-eqb h h refl)
+path-own : (e : List ℕ × ℕ) (h : ℕ) (a : List ℕ) (t : Tree (List ℕ) h) → pathPageUnder (keeping .route e) h (suc h) (a, t) ≡ t .0
+path-own e h a t = rw (eq-eqb h h refl)
 
-path-below : (k : ℕ) (key b : List ℕ) (h j p : ℕ) (a : List ℕ) (y : Item) (ys : List Item) → itemsIn k b p ≡ y ∷ ys → (j ≡ suc h → ⊥)
-    → pathPageUnder bytesOrder key j (suc (suc h)) (a, readTree (entriesIn k b) (suc h) p)
-    ≡ pathPageUnder bytesOrder key j (suc h)
-    (larger bytesOrder (choose bytesOrder key y ys .0) key, readTree (entriesIn k b) h (childOf (choose bytesOrder key y ys)))
-path-below k key b h j p a y ys es ne =
+path-below : (k : ℕ) (key b : List ℕ) (r h j p : ℕ) (a : List ℕ) (y : Item) (ys : List Item) → itemsIn k b p ≡ y ∷ ys → (j ≡ suc h → ⊥)
+    → let i = chosenAt (stored key r) (y ∷ ys) in
+    pathPageUnder (keeping .route (key, r)) j (suc (suc h)) (a, readTree (entriesIn k b) (suc h) p)
+    ≡ pathPageUnder (keeping .route (key, r)) j (suc h)
+    (larger bytesOrder (itemOf i (y ∷ ys) .0) key, readTree (entriesIn k b) h (childOf i (y ∷ ys)))
+path-below k key b r h j p a y ys es ne =
+    let route : Route (List ℕ) = keeping .route (key, r) in
+    let S : Store (List ℕ) = entriesIn k b in
     rw (ne-eqb j (suc h) ne)
-    (ap (λ (l : List Item). atChosen bytesOrder key (pathPageUnder bytesOrder key j (suc h)) (map (readEntry (entriesIn k b) (suc h)) (map numbered l))) es
-    ∙ ap (pathPageUnder bytesOrder key j (suc h)) (choose-read bytesOrder (entriesIn k b) (suc h) key (numbered y) (map numbered ys))
-    ∙ ap (λ (e : List ℕ × ℕ). pathPageUnder bytesOrder key j (suc h) (readEntry (entriesIn k b) (suc h) e)) (choose-numbered key y ys))
+    (ap (λ (l : List Item). atChosen (route (suc h)) 0 (pathPageUnder route j (suc h)) (map (readEntry S (suc h)) (map numbered l))) es
+    ∙ ap (pathPageUnder route j (suc h))
+    (choose-map (readEntry S (suc h)) (passes (key, r) (suc h)) (route (suc h)) (λ x z. refl) (numbered y) (map numbered (y ∷ ys)))
+    ∙ ap (λ (e : List ℕ × ℕ). pathPageUnder route j (suc h) (readEntry S (suc h) e)) (chosen-numbered key (toBe32 r) r y ys))
 
 module _ (k : ℕ) (N : Naming) (path : ℕ → ℕ) (two : 1 < capacity k) (b : List ℕ) (given : Supplied N b) where
   -- a page that gets entries, with h levels under it, after h pages were split: w is what the theory gathers for it
@@ -211,31 +216,33 @@ module _ (k : ℕ) (N : Naming) (path : ℕ → ℕ) (two : 1 < capacity k) (b :
 
 module _ (k : ℕ) (N : Naming) (key : List ℕ) (r : ℕ) (b : List ℕ) (o : Offered k N key r b) (path : ℕ → ℕ) (plain : Plain b) where
   -- a page above, after the step at its child at c: v is the theory's replacement for the child, w what the theory gathers for the page
-  after-child-heads : (h : ℕ) (b′ : List ℕ) (p : ℕ) (a A : List ℕ) (c : ℕ) (out : Outcome) (v w : StoreReplacement (List ℕ))
+  after-child-heads : (h : ℕ) (b′ : List ℕ) (p : ℕ) (a A : List ℕ) (i c : ℕ) (out : Outcome) (v w : StoreReplacement (List ℕ))
       → OutcomeIs N A c out v → HeadsAfter k N path h b (v .1) out b′ → w .1 ≡ v .1 → length b′ ≡ length b → Untaken N (v .1) b b′
-      → NonEmpty (itemsIn k b′ p) → p ≡ path (suc h) → Usable b p → ((j : ℕ) → p ≡ N .name j → ⊥)
+      → i < length (itemsIn k b′ p) → p ≡ path (suc h) → Usable b p → ((j : ℕ) → p ≡ N .name j → ⊥)
       → ((j : ℕ) → j < storeSplitIfOver (capacity k) (N .name) a p w .1 → Usable b (N .name j))
-      → OutcomeIs N a p (afterChild k b′ key p c out .outcome) (storeSplitIfOver (capacity k) (N .name) a p w)
-      → HeadsAfter k N path (suc h) b (storeSplitIfOver (capacity k) (N .name) a p w .1) (afterChild k b′ key p c out .outcome)
-      (afterChild k b′ key p c out .after)
-  after-child-heads h b′ p a A c (kept s) v w told x ew lb un some ep tp ne room t =
+      → OutcomeIs N a p (afterChild k b′ key p i c out .outcome) (storeSplitIfOver (capacity k) (N .name) a p w)
+      → HeadsAfter k N path (suc h) b (storeSplitIfOver (capacity k) (N .name) a p w .1) (afterChild k b′ key p i c out .outcome)
+      (afterChild k b′ key p i c out .after)
+  after-child-heads h b′ p a A i c (kept s) v w told x ew lb un inside ep tp ne room t =
       rw (kept-case (capacity k) (N .name) a p w (a, p) (t .1), ew)
-      (heads-entries k N path b (v .1) b′ (raised k b′ key p) lb x (raised-only k b′ key p (page-of p lb (tp .0)) (o .long)))
-  after-child-heads h b′ p a A c bad v w told x ew lb un some ep tp ne room t = absurd x
-  after-child-heads h b′ p a A c (split q s) v w told x ew lb un some ep tp ne room t =
-      let es : List Item = replaced key (twoFor k b′ key c q) (itemsIn k b′ p) in
-      let le : length es ≡ 1 + length (itemsIn k b′ p) = length-replaced key (twoFor k b′ key c q) 1 (λ e. refl) (itemsIn k b′ p) some in
-      take-in-heads k N path (o .two) b (o .supplied) (suc h) b′ p a w es s ep (told .0 ∙ ap (N .left) (x .0)) (ew ∙ x .0) tp lb
-      (two-fit k b′ key (o .long) c q (itemsIn k b′ p) (items-in-fit k b′ p)) (omega (arith, items-few k b′ p)) ne (rw (x .0) at un) room t (x .1)
+      (heads-entries k N path b (v .1) b′ (raised k b′ key p i) lb x (raised-only k b′ key p i (page-of p lb (tp .0)) (o .long)))
+  after-child-heads h b′ p a A i c bad v w told x ew lb un inside ep tp ne room t = absurd x
+  after-child-heads h b′ p a A i c (split q s) v w told x ew lb un inside ep tp ne room t =
+      let es : List Item = replaced i (twoFor k b′ key c q) (itemsIn k b′ p) in
+      let le : length es ≡ 1 + length (itemsIn k b′ p) = length-replaced i (twoFor k b′ key c q) 1 (λ e. refl) (itemsIn k b′ p) inside in
+      let test : ltb i (length (itemsIn k b′ p)) ≡ true = lt-ltb i (length (itemsIn k b′ p)) inside in
+      rw test (take-in-heads k N path (o .two) b (o .supplied) (suc h) b′ p a w es s ep (told .0 ∙ ap (N .left) (x .0)) (ew ∙ x .0) tp lb
+      (two-fit k b′ key (o .long) i c q (itemsIn k b′ p) inside (items-in-fit k b′ p)) (omega (arith, items-few k b′ p)) ne (rw (x .0) at un) room
+      (rw test at t) (x .1))
 
   -- the heads after insertion's step at the page at p
   abbrev Goes : ℕ → ℕ → List ℕ → ℕ → Type 0
   Goes h left a p =
-      let d : Step = insertUnder k left b key r p (supplyOf b) in
+      let d : Step = insertUnder k left b (stored key r) p (supplyOf b) in
       HeadsAfter k N path h b (replacement k N key r b h a p .1) (d .outcome) (d .after)
 
   abbrev OnPath : ℕ → List ℕ → ℕ → Type 0
-  OnPath h a p = (j : ℕ) → j ≤ h → path j ≡ pathPageUnder bytesOrder key j (suc h) (a, readTree (entriesIn k b) h p)
+  OnPath h a p = (j : ℕ) → j ≤ h → path j ≡ pathPageUnder (keeping .route (key, r)) j (suc h) (a, readTree (entriesIn k b) h p)
 
   -- Theorem: insertion's step splits the lowest pages of the path to the key, and changes no other head
   pub insert-heads : (h left p : ℕ) (a : List ℕ) → h < left → Shaped k h b p → Free k N key r b h a p → OnPath h a p → Goes h left a p
@@ -243,45 +250,49 @@ module _ (k : ℕ) (N : Naming) (key : List ℕ) (r : ℕ) (b : List ℕ) (o : O
   insert-heads zero zero p a l f u x = absurd (omega arith)
   insert-heads (suc h) zero p a l f u x = absurd (omega arith)
   insert-heads zero (suc left) p a l f u x =
-      let es : List Item = insertPair bytesOrder key (toBe32 r) (itemsIn k b p) in
-      let w : StoreReplacement (List ℕ) = storeInsertAmong bytesOrder key r zero (under k N key r b zero) (entriesIn k b p) 0 (entriesIn k b) in
+      let es : List Item = insertPair (byKey bytesOrder) (stored key r) (itemsIn k b p) in
+      let w : StoreReplacement (List ℕ) =
+      storeInsertAmong keeping (passes (key, r)) (key, r) zero (under k N key r b zero) (entriesIn k b p) 0 (entriesIn k b) in
       let t : OutcomeIs N a p (takeIn k b p es (supplyOf b) .outcome) (storeSplitIfOver (capacity k) (N .name) a p w) =
       rw (f .0 .0, f .1) at (inserts k N key r b o zero (suc left) p a l f u .told) in
-      let none : w .1 ≡ 0 = ap (λ (y : StoreReplacement (List ℕ)). y .1) (among-leaf key r (entriesIn k b) (capacity k) (N .name) (entriesIn k b p)) in
+      let none : w .1 ≡ 0 = ap (λ (y : StoreReplacement (List ℕ)). y .1) (among-leaf (key, r) (entriesIn k b) (capacity k) (N .name) (entriesIn k b p)) in
       rw (f .0 .0, f .1)
       (take-in-heads k N path (o .two) b (o .supplied) zero b p a w es (supplyOf b)
-      (sym (path-own key zero a (readTree (entriesIn k b) zero p)) ∙ sym (x zero (omega arith))) (o .supplied .starts) none (f .0) refl
+      (sym (path-own (key, r) zero a (readTree (entriesIn k b) zero p)) ∙ sym (x zero (omega arith))) (o .supplied .starts) none (f .0) refl
       (pair-fit k b key (o .long) r p)
-      (omega (arith, items-few k b p, length-insert key (toBe32 r) (itemsIn k b p)))
+      (omega (arith, items-few k b p, length-insert (stored key r) (itemsIn k b p)))
       (own-page k N key r b zero a p u) (λ j i y. refl) (u .2) t
       (heads-none k N path b plain))
   insert-heads (suc h) (suc left) p a l f u x = go (λ c y g w. insert-heads h left c y (omega arith) g w) (itemsIn k b p) refl
     where
       UpperGoes : List Item → Type 0
       UpperGoes es =
-          let c : ℕ = childOf (chosen key es) in
-          let d : Step = insertUnder k left b key r c (supplyOf b) in
-          HeadsAfter k N path (suc h) b (replacement k N key r b (suc h) a p .1) (afterChild k (d .after) key p c (d .outcome) .outcome)
-          (afterChild k (d .after) key p c (d .outcome) .after)
+          let i : ℕ = chosenAt (stored key r) es in
+          let d : Step = insertUnder k left b (stored key r) (childOf i es) (supplyOf b) in
+          HeadsAfter k N path (suc h) b (replacement k N key r b (suc h) a p .1) (afterChild k (d .after) key p i (childOf i es) (d .outcome) .outcome)
+          (afterChild k (d .after) key p i (childOf i es) (d .outcome) .after)
 
       go : ((c : ℕ) (y : List ℕ) → Shaped k h b c → Free k N key r b h y c → OnPath h y c → Goes h left y c) → (es : List Item) → itemsIn k b p ≡ es
           → Goes (suc h) (suc left) a p
       go rec [] e = absurd (rw e at (f .2))
       go rec (y ∷ ys) e =
-          let c : ℕ = childOf (choose bytesOrder key y ys) in
-          let A : List ℕ = larger bytesOrder (choose bytesOrder key y ys .0) key in
+          let i : ℕ = number k N key r b o h p a y ys e u in
+          let c : ℕ = childPage k N key r b o h p a y ys e u in
+          let A : List ℕ = larger bytesOrder (child k N key r b o h p a y ys e u .0) key in
           let v : StoreReplacement (List ℕ) = replacement k N key r b h A c in
-          let w : StoreReplacement (List ℕ) = storeInsertAmong bytesOrder key r (suc h) (under k N key r b (suc h)) (entriesIn k b p) 0 (entriesIn k b) in
+          let w : StoreReplacement (List ℕ) =
+          storeInsertAmong keeping (passes (key, r)) (key, r) (suc h) (under k N key r b (suc h)) (entriesIn k b p) 0 (entriesIn k b) in
           let ew : w .1 ≡ v .1 = sym (ap (λ (y : StoreReplacement (List ℕ)). y .1) (child-among k N key r b o h p a y ys e u)) in
           let free = child-free k N key r b o h p a y ys e u in
-          let shaped : Shaped k h b c = child-shaped k h key b p y ys e (f .3) in
+          let shaped : Shaped k h b c = child-shaped k h key (toBe32 r) b p y ys e (f .3) in
           let below : Inserts k N key r b h left A c = inserts k N key r b o h left c A (omega arith) shaped free in
-          let d : Step = insertUnder k left b key r c (supplyOf b) in
-          let on : OnPath h A c = λ j i. x j (omega arith) ∙ path-below k key b h j p a y ys e (λ q. omega arith) in
-          let t : OutcomeIs N a p (afterChild k (d .after) key p c (d .outcome) .outcome) (replacement k N key r b (suc h) a p) =
+          let d : Step = insertUnder k left b (stored key r) c (supplyOf b) in
+          let on : OnPath h A c = λ j i. x j (omega arith) ∙ path-below k key b r h j p a y ys e (λ q. omega arith) in
+          let there : entriesIn k (d .after) p ≡ map numbered (y ∷ ys) = child-rest k N key r b o h p a y ys e u left below in
+          let t : OutcomeIs N a p (afterChild k (d .after) key p i c (d .outcome) .outcome) (replacement k N key r b (suc h) a p) =
           page-is k N key r b o h p a y ys e u left (f .0 .0) below .told in
           rw (f .0 .0, f .1) (subst UpperGoes (sym e)
-          (after-child-heads h (d .after) p a A c (d .outcome) v w (below .told) (rec c A shaped free on) ew (below .as-long) (below .untaken)
-          (items-some k (d .after) p (numbered y) (map numbered ys) (child-rest k N key r b o h p a y ys e u left below))
-          (sym (path-own key (suc h) a (readTree (entriesIn k b) (suc h) p)) ∙ sym (x (suc h) (omega arith))) (f .0)
+          (after-child-heads h (d .after) p a A i c (d .outcome) v w (below .told) (rec c A shaped free on) ew (below .as-long) (below .untaken)
+          (items-longer k (d .after) p (y ∷ ys) there (chosen-within key (toBe32 r) r y ys))
+          (sym (path-own (key, r) (suc h) a (readTree (entriesIn k b) (suc h) p)) ∙ sym (x (suc h) (omega arith))) (f .0)
           (own-page k N key r b (suc h) a p u) (u .2) t))

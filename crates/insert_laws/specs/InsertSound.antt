@@ -3,7 +3,6 @@
 use mathlib.Core.Path.{_≡_, refl, sym, ap, _∙_, subst}
 use mathlib.Core.Bool.{true, false, cond}
 use mathlib.Core.List.{List, [], _∷_}
-use mathlib.Core.Option.{none}
 use Prim.Native.Nat.{ℕ, zero, suc, _+_, _^_, _≤_, _<_, min}
 use native.Mathlib.Omega.{arith}
 use lib.Dec.{eqb, ltb}
@@ -25,9 +24,10 @@ use Rattle.tree.specs.Insertion.{Grown}
 use Rattle.tree.specs.LinkLaws.{linked-same}
 use Rattle.tree.specs.ListLaws.{occ-append, occ-here}
 use Rattle.tree.specs.Lists.{concatMap, occ, countIf}
-use Rattle.tree.specs.Pairs.{find, insertPair}
+use Rattle.tree.specs.Pairs.{byKey, has, insertPair}
 use Rattle.tree.specs.Relinking.{pathPage}
 use Rattle.tree.specs.Room.{run, needs}
+use Rattle.tree.specs.RouteLaws.{distinct-leading}
 use Rattle.tree.specs.Store.{readTree}
 use Rattle.tree.specs.Supply.{takenPage}
 use Rattle.tree.specs.SupplyLaws.{taken-injective}
@@ -44,11 +44,12 @@ use Rattle.sound.specs.Sound.{indexTree, linksOf, Sound}
 use Rattle.sound.specs.MarkLaws.{occ-all}
 use Rattle.sound.specs.IndexLaws.{indexOf, settingOf, sound-index, sound-linked, all-occ, once-page, index-sound}
 use Rattle.insert.specs.Insertion.{insertedBuffer}
-use Rattle.insert.specs.Room.{noRoom}
+use Rattle.insert.specs.Room.{pathTo, noRoom}
 use Rattle.layout.specs.declared.Supply.{Supply}
 use Rattle.layout.specs.Supply.{supplyOf}
 use Rattle.layout_laws.specs.SupplyLaws.{SameRest}
 use Rattle.insert_laws.specs.Naming.{namingOf, supplied, usable}
+use Rattle.insert_laws.specs.ItemLists.{keeping}
 use Rattle.insert_laws.specs.InsertHeads.{Plain, unrooted}
 use Rattle.insert_laws.specs.InsertBuffer.{treeIn, grownBy, Ready, tree-after, root-after, supply-after, length-after, header-after}
 use Rattle.insert_laws.specs.InsertBuffer.{HeadsIn, Rising, stays, rises, heads-in, linksAfter}
@@ -63,8 +64,8 @@ pub record Accepts (b key : List ℕ) (r : ℕ) : Type 0 where
   pub long : length key ≡ keyLength b
   pub positive : 0 < r
   pub r32 : r < 2 ^ 32
-  pub absent : find bytesOrder key (pairs (sound .height) (indexTree b (sound .height))) ≡ none
-  pub room : noRoom (keyLength b) b key ≡ false
+  pub absent : has (byKey bytesOrder) (key, r) (pairs (sound .height) (indexTree b (sound .height))) ≡ false
+  pub room : noRoom b (pathTo (keyLength b) b key r) ≡ false
 
 module _ (b key : List ℕ) (r : ℕ) (accepts : Accepts b key r) where
   abbrev k : ℕ
@@ -87,7 +88,7 @@ module _ (b key : List ℕ) (r : ℕ) (accepts : Accepts b key r) where
   kept-by = settingOf (keyLength b) (min (length b) maxBytes)
 
   abbrev after : Index (List ℕ)
-  after = inserted kept-by key r before
+  after = inserted kept-by (key, r) before
 
   abbrev x : Grown (List ℕ)
   x = grownBy (keyLength b) (namingOf b) (accepts .sound .height) b key r
@@ -109,9 +110,9 @@ module _ (b key : List ℕ) (r : ℕ) (accepts : Accepts b key r) where
 
   sound-after : SoundIndex kept-by after
   sound-after =
-      inserted-sound kept-by two before key r (accepts .positive)
-      (ap (λ (i : Index (List ℕ)). find bytesOrder key (held i)) before-is ∙ accepts .absent)
-      (ap (outOfRoom kept-by key) before-is ∙ sym (room-is b key (accepts .sound)) ∙ accepts .room) sound-before
+      inserted-sound kept-by two before (key, r) (accepts .positive)
+      (ap (λ (i : Index (List ℕ)). has (byKey bytesOrder) (key, r) (held i)) before-is ∙ accepts .absent)
+      (ap (outOfRoom kept-by (key, r)) before-is ∙ sym (room-is b key r (accepts .sound)) ∙ accepts .room) sound-before
 
   -- the pages before the insertion and after it are pages of the buffer
   old-page : (z : ℕ) → 0 < occ z (pages h t) → isPage (length b) z ≡ true
@@ -138,16 +139,16 @@ module _ (b key : List ℕ) (r : ℕ) (accepts : Accepts b key r) where
 
   -- the pages on the path, and how many of them are split
   abbrev path : ℕ → ℕ
-  path j = pathPage bytesOrder key j h t
+  path j = pathPage (keeping .route (key, r)) j h t
 
   abbrev splits : ℕ
-  splits = run bytesOrder (capacity k) key h t
+  splits = run (keeping .route (key, r)) (capacity k) h t
 
   most : splits ≤ suc h
-  most = root-splits bytesOrder (capacity k) (takenPage F) key r h key t (omega (arith, two)) (sound-before .sized) .most
+  most = root-splits keeping (capacity k) (takenPage F) (key, r) h key t (omega (arith, two)) (sound-before .sized) .most
 
-  need : x .2 ≡ needs bytesOrder (capacity k) key h t
-  need = insert-needs bytesOrder (capacity k) (takenPage F) key r h t (omega (arith, two)) (sound-before .sized) .0
+  need : x .2 ≡ needs (keeping .route (key, r)) (capacity k) h t
+  need = insert-needs keeping (capacity k) (takenPage F) (key, r) h t (omega (arith, two)) (sound-before .sized) .0
 
   in-tree : (H j z : ℕ) (T : Tree (List ℕ) H) → 0 < occ z (level j H T) → 0 < occ z (pages H T)
   in-tree H j z T o = omega (arith, levelUnder-pages z j (suc H) (key, T))
@@ -165,7 +166,7 @@ module _ (b key : List ℕ) (r : ℕ) (accepts : Accepts b key r) where
   -- a page of a level after the insertion is an old page of that level, or the new one after the page on the path
   in-level : {X : Type 0} (j z : ℕ) → j ≤ h → 0 < occ z (level j (x .0) (x .1)) → (0 < occ z (level j h t) → X) → (j < splits → z ≡ takenPage F j → X) → X
   in-level j z l o old new =
-      let q = insert-level bytesOrder (capacity k) (takenPage F) key r h t j (omega (arith, two)) (sound-before .sized) l in
+      let q = insert-level keeping (capacity k) (takenPage F) (key, r) h t j (omega (arith, two)) (sound-before .sized) l in
       either (ltb j splits)
       (λ e. let v : Level j = q .0 (ltb-true j splits e) in
       either (eqb z (takenPage F (0 + j)))
@@ -182,7 +183,7 @@ module _ (b key : List ℕ) (r : ℕ) (accepts : Accepts b key r) where
   -- a page of the path that is split is a page of its level
   path-level : (j : ℕ) → j < splits → 0 < occ (path j) (level j h t)
   path-level j l =
-      let q = insert-level bytesOrder (capacity k) (takenPage F) key r h t j (omega (arith, two)) (sound-before .sized) (omega (arith, most)) in
+      let q = insert-level keeping (capacity k) (takenPage F) (key, r) h t j (omega (arith, two)) (sound-before .sized) (omega (arith, most)) in
       let v : Level j = q .0 l in
       let p : occ (path j) (level j h t) ≡ occ (path j) (v .pre) + (countIf (eqb (path j) (path j)) + occ (path j) (v .post)) =
       ap (occ (path j)) (v .was) ∙ occ-append (path j) (v .pre) (path j ∷ v .post) in
@@ -201,7 +202,7 @@ module _ (b key : List ℕ) (r : ℕ) (accepts : Accepts b key r) where
   in-pages : {X : Type 0} (z : ℕ) → 0 < occ z (pages (x .0) (x .1)) → (0 < occ z (pages h t) → X) → ((j : ℕ) → j < x .2 → z ≡ takenPage F j → X) → X
   in-pages z o old new =
       let p : occ z (pages (x .0) (x .1)) ≡ occ z (pages h t) + occ z (newPages (takenPage F) (x .2)) =
-      insert-pages bytesOrder (capacity k) (takenPage F) key r z h t in
+      insert-pages keeping (capacity k) (takenPage F) (key, r) z h t in
       either (ltb 0 (occ z (pages h t)))
       (λ e. old (ltb-true 0 (occ z (pages h t)) e))
       (λ e. let y = ltb-false 0 (occ z (pages h t)) e in in-new (x .2) z (omega arith) new)
@@ -337,7 +338,7 @@ module _ (b key : List ℕ) (r : ℕ) (accepts : Accepts b key r) where
   linked-after j l =
       let linked : LinkedIndex (linksOf b) before = subst (LinkedIndex (linksOf b)) (sym before-is) (sound-linked b (accepts .sound)) in
       let e : AllLinked noPage (linksAfter k (namingOf b) h b key r ready) (x .0) (x .1) =
-      inserted-linked kept-by two before key r (linksOf b) sound-before sound-after linked in
+      inserted-linked kept-by two before (key, r) (linksOf b) sound-before sound-after linked in
       linked-same noPage (linksAfter k (namingOf b) h b key r ready) (linksOf b″) noPage (level j (x .0) (x .1))
       (λ z o. heads .links z (new-page z (in-tree (x .0) j z (x .1) o))) (e j l)
 
@@ -418,9 +419,9 @@ module _ (b key : List ℕ) (r : ℕ) (accepts : Accepts b key r) where
 pub record Inserts (b key : List ℕ) (r : ℕ) (s : Sound b) : Type 0 where
   pub sound : Sound (insertedBuffer (keyLength b) b key r)
   pub index : indexOf (insertedBuffer (keyLength b) b key r) (sound .height)
-      ≡ inserted (settingOf (keyLength b) (min (length b) maxBytes)) key r (indexOf b (s .height))
+      ≡ inserted (settingOf (keyLength b) (min (length b) maxBytes)) (key, r) (indexOf b (s .height))
   pub leaves : pairs (sound .height) (indexTree (insertedBuffer (keyLength b) b key r) (sound .height))
-      ≡ insertPair bytesOrder key r (pairs (s .height) (indexTree b (s .height)))
+      ≡ insertPair (byKey bytesOrder) (key, r) (pairs (s .height) (indexTree b (s .height)))
   pub header : SameRest b (insertedBuffer (keyLength b) b key r)
   pub keyIs : keyLength (insertedBuffer (keyLength b) b key r) ≡ keyLength b
   pub as-long : length (insertedBuffer (keyLength b) b key r) ≡ length b
@@ -433,14 +434,14 @@ insert-keeps-sound b key r accepts =
     let b″ : List ℕ = insertedBuffer (keyLength b) b key r in
     let now = sound-now b key r accepts in
     let old = subst (SoundIndex (kept-by b key r accepts)) (before-is b key r accepts) (sound-before b key r accepts) in
-    let same : indexOf b″ (now .0 .height) ≡ inserted (kept-by b key r accepts) key r (indexOf b (s .height)) =
-    ap (indexOf b″) (now .1) ∙ index-is b key r accepts ∙ ap (inserted (kept-by b key r accepts) key r) (before-is b key r accepts) in
+    let same : indexOf b″ (now .0 .height) ≡ inserted (kept-by b key r accepts) (key, r) (indexOf b (s .height)) =
+    ap (indexOf b″) (now .1) ∙ index-is b key r accepts ∙ ap (inserted (kept-by b key r accepts) (key, r)) (before-is b key r accepts) in
     record {
       sound = now .0;
       index = same;
       leaves = ap held same
-          ∙ insert-pairs bytesOrder (capacity (keyLength b)) (takenPage (fileSize b)) key r (s .height) (indexTree b (s .height))
-          (sized-rooted (capacity (keyLength b)) (s .height) (indexTree b (s .height)) (old .sized)) (old .ordered);
+          ∙ insert-pairs keeping (capacity (keyLength b)) (takenPage (fileSize b)) (key, r) (distinct-leading bytesOrder (key, r)) (s .height)
+          (indexTree b (s .height)) (sized-rooted (capacity (keyLength b)) (s .height) (indexTree b (s .height)) (old .sized)) (old .ordered);
       header = rest b key r accepts;
       keyIs = key-same b key r accepts;
       as-long = long b key r accepts;

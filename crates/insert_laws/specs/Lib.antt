@@ -14,7 +14,7 @@ pub mod InsertBuffer
 pub mod AttributeLaws
 -- Laws: a sound index read up to the buffer's length is the one read up to the file's
 pub mod SoundReading
--- Laws: the rule for refusal 30 on bytes is the theory's
+-- Laws: the path of a key, and by it refusals 29 and 30 on bytes, are the theory's
 pub mod RoomLaws
 -- Laws: an insertion keeps an index sound
 pub mod InsertSound

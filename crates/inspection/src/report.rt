@@ -131,7 +131,7 @@ fn put_quoted(line: &mut Line, n: usize, text: &[u8]) -> usize {
     put(line, end, b"\"")
 }
 
-// A value with its point, by the library's own writer: 20 characters hold every value that the reader gives.
+// A value with its point, by the library's own writer, so with the zero before the point: 20 characters hold every value that the reader gives.
 fn put_value(line: &mut Line, n: usize, value: i64, decimals: u32) -> usize {
     let mut text = [b' '; 20];
     numeral::write_number(&mut text, decimals, value);

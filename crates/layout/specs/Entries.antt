@@ -1,46 +1,47 @@
 -- Rules: a page's entries after a pair goes in or a page below was split. Cited by insertion and by the rule for refusal 30.
-use Prim.Native.Nat.{ℕ, _-_}
-use mathlib.Core.Bool.{Bool, true, false, cond, _&&_}
-use mathlib.Core.List.{List, [], _∷_, _++_}
-use lib.ListN.{length}
-use lib.Dec.{leb}
+use Prim.Native.Nat.{ℕ}
+use mathlib.Core.Bool.{cond, not, _&&_}
+use mathlib.Core.List.{List, [], _∷_}
+use lib.ListN.{length, getD}
+use lib.Dec.{ltb}
 use Rattle.octets.specs.Bytes.{be32, toBe32}
 use Rattle.octets.specs.Store.{put}
 use Rattle.octets.specs.Order.{bytesLe}
 use Rattle.tree.specs.Order.{larger}
-use Rattle.tree.specs.Pairs.{lastKey, choose}
+use Rattle.tree.specs.Pairs.{lastKey}
+use Rattle.tree.specs.Position.{position, passesLower, replaceAt}
 use Rattle.page.specs.Page.{entryOffset}
 use Rattle.page.specs.KeyOrder.{bytesOrder}
 use Rattle.page.specs.Reading.{Item}
 use Rattle.layout.specs.Layout.{itemsIn}
 
--- the entry that an insertion goes by: "the first entry at or above the key, else the last" (K1)
-abbrev pub chosen : List ℕ → List Item → Item
-chosen key [] = ([], [])
-chosen key (x ∷ xs) = choose bytesOrder key x xs
+-- a key with its record number, as an entry stores them
+abbrev pub stored : List ℕ → ℕ → Item
+stored key number = (key, toBe32 number)
 
--- the number of an entry as a page's offset
-abbrev pub childOf : Item → ℕ
-childOf e = be32 (e .1) 0
+-- the number of the entry that the entry e goes under: "lookup's steps lead to" it, "the last if its key is above all"
+abbrev pub chosenAt : Item → List Item → ℕ
+chosenAt e es = position (passesLower bytesOrder e) es
 
--- entries with those of f in the place of the chosen one
-abbrev pub replaced : List ℕ → (Item → List Item) → List Item → List Item
-replaced key f [] = []
-replaced key f (x ∷ []) = f x
-replaced key f (x ∷ y ∷ ys) = cond (bytesLe key (x .0)) (f x ++ (y ∷ ys)) (x ∷ replaced key f (y ∷ ys))
+-- entry i; without bytes if there is no such entry
+abbrev pub itemOf : ℕ → List Item → Item
+itemOf i es = getD es i ([], [])
 
--- whether the key is above all keys of the entries
-abbrev pub aboveAll : List ℕ → List Item → Bool
-aboveAll key [] = true
-aboveAll key (x ∷ xs) = cond (bytesLe key (x .0)) false (aboveAll key xs)
+-- the number of entry i as a page's offset; 0, which is no page's, if there is no such entry
+abbrev pub childOf : ℕ → List Item → ℕ
+childOf i es = be32 (itemOf i es .1) 0
 
--- insertion "raises each key above that is lower than the new key" (K1): if no page below it splits, a page changes only the key of the entry gone through, and
--- only if the new key is above that key. The new key is then above all keys of the page, and the entry gone through is the last. A page without entries stays
-unfoldable pub raised : ℕ → List ℕ → List ℕ → ℕ → List ℕ
-raised k b key p =
+-- entries with those of f in the place of entry i
+abbrev pub replaced : ℕ → (Item → List Item) → List Item → List Item
+replaced i f es = replaceAt i (f (itemOf i es)) es
+
+-- insertion "raises each key above that is lower than the new key" (K1): if no page below it splits, the page at p changes only the key of entry i, the one
+-- gone through, and only if the new key is above that key. A page without such an entry stays
+unfoldable pub raised : ℕ → List ℕ → List ℕ → ℕ → ℕ → List ℕ
+raised k b key p i =
     let es = itemsIn k b p in
-    let higher = put b (entryOffset k p (length es - 1)) key in
-    cond (leb 1 (length es) && aboveAll key es) higher b
+    let higher = put b (entryOffset k p i) key in
+    cond (ltb i (length es) && not (bytesLe key (itemOf i es .0))) higher b
 
 -- two entries for the one above a page that was split: "the left half gets its own last key above it; the right half keeps the larger of the old key above and
 -- the new key" (K1). The left half is the old page, the right half the new page at q

@@ -1,9 +1,9 @@
--- Laws: a page's entries by number: how many there are, where the search ends, which entry is chosen, and the bytes of the entries before and after it.
+-- Laws: a page's entries by number: how many there are, where the search ends, which entry is chosen, and whether a leaf has a key.
 -- Assumes nothing.
 use Prim.Native.Nat.{ℕ, zero, suc, _+_, _-_, _*_, _≤_, _<_}
 use mathlib.Core.Path.{_≡_, refl, sym, ap, _∙_}
 use mathlib.Core.Bool.{true, false, cond}
-use mathlib.Core.List.{List, [], _∷_, _++_, append-nil}
+use mathlib.Core.List.{List, [], _∷_, _++_}
 use native.Mathlib.Nat.{zero-add, min-le-right, add-mul, add-zero}
 use native.Mathlib.Omega.{arith}
 use lib.ListN.{length, take, drop, length-drop}
@@ -13,7 +13,7 @@ use Rattle.basis.specs.Lists.{All}
 use Rattle.octets.specs.Order.{bytesLe}
 use Rattle.octets.specs.Store.{window}
 use Rattle.octets.specs.StoreLaws.{length-window}
-use Rattle.tree.specs.Pairs.{insertPair, choose}
+use Rattle.tree.specs.Pairs.{byKey, present, insertPair}
 use Rattle.page.specs.Header.{pageSize, isPage}
 use Rattle.page.specs.Page.{countAt, entriesStart, entryArea, capacity, entryOffset, keyAt, firstAtOrAbove}
 use Rattle.page.specs.Within.{Within}
@@ -23,8 +23,8 @@ use Rattle.page.specs.PageLaws.{entries-fit, entries-inside, entry-first, entry
 use Rattle.page.specs.Reading.{Item, items, itemsAt}
 use Rattle.page.specs.ReadingLaws.{readCount, items-take}
 use Rattle.layout.specs.Layout.{itemsIn, encode}
-use Rattle.layout.specs.Entries.{replaced, aboveAll}
-use Rattle.layout.specs.Given.{Listed, chosenAt}
+use Rattle.layout.specs.Entries.{chosenAt, itemOf}
+use Rattle.layout.specs.Given.{Listed}
 use Rattle.layout.specs.ItemLaws.{Fit, items-fit, length-items, encode-items, take-items, drop-items}
 
 -- n entries of the page at p, from entry i on
@@ -115,37 +115,40 @@ first-passed k b key p (suc n) i = either (bytesLe key (keyAt b k p i))
     (λ e. rw (from-cons k b p n i, e, firstAtOrAbove) (sym (add-zero i)))
     (λ e. rw (from-cons k b p n i, e, firstAtOrAbove) (first-passed k b key p n (i + 1) ∙ omega arith))
 
--- a key is above all exactly if the search passes all
-pub above-all : (key : List ℕ) (es : List Item) → passedCount key es ≡ length es → aboveAll key es ≡ true
-above-all key [] h = refl
-above-all key (x ∷ xs) h = either (bytesLe key (x .0))
-    (λ e. absurd (omega (arith, rw e at h)))
-    (λ e. rw e (above-all key xs (omega (arith, rw e at h))))
-
-pub not-above-all : (key : List ℕ) (es : List Item) → passedCount key es < length es → aboveAll key es ≡ false
-not-above-all key [] h = absurd (omega arith)
-not-above-all key (x ∷ xs) h = either (bytesLe key (x .0))
-    (λ e. rw e)
-    (λ e. rw e (not-above-all key xs (omega (arith, rw e at h))))
-
 -- a leaf's entries with one more
-pub insert-at : (key c : List ℕ) (es : List Item) → insertPair bytesOrder key c es ≡ take (passedCount key es) es ++ ((key, c) ∷ drop (passedCount key es) es)
+pub insert-at : (key c : List ℕ) (es : List Item)
+    → insertPair (byKey bytesOrder) (key, c) es ≡ take (passedCount key es) es ++ ((key, c) ∷ drop (passedCount key es) es)
 insert-at key c [] = refl
 insert-at key c (x ∷ xs) = either (bytesLe key (x .0)) (λ e. rw e) (λ e. rw e (ap (λ (l : List Item). x ∷ l) (insert-at key c xs)))
 
--- the chosen entry is the first that is not passed, or the last
-pub chosen-passed : (key : List ℕ) (x : Item) (xs : List Item) → passedCount key (x ∷ xs) < length (x ∷ xs) → chosenAt key (x ∷ xs) ≡ passedCount key (x ∷ xs)
-chosen-passed key x [] h = either (bytesLe key (x .0)) (λ e. rw e) (λ e. absurd (omega (arith, rw e at h)))
-chosen-passed key x (y ∷ ys) h = either (bytesLe key (x .0)) (λ e. rw e) (λ e. rw e (ap suc (chosen-passed key y ys (omega (arith, rw e at h)))))
+-- a leaf has an entry's key exactly if the first entry that is not passed has it
+pub present-at : (key c : List ℕ) (es : List Item) → passedCount key es < length es
+    → present (byKey bytesOrder) (key, c) es ≡ bytesLe (itemOf (passedCount key es) es .0) key
+present-at key c [] h = absurd (omega arith)
+present-at key c (x ∷ xs) h = either (bytesLe key (x .0)) (λ e. rw e) (λ e. rw e (present-at key c xs (omega (arith, rw e at h))))
 
-pub chosen-last : (key : List ℕ) (x : Item) (xs : List Item) → passedCount key (x ∷ xs) ≡ length (x ∷ xs) → chosenAt key (x ∷ xs) ≡ length xs
-chosen-last key x [] h = refl
-chosen-last key x (y ∷ ys) h = either (bytesLe key (x .0))
+pub present-none : (key c : List ℕ) (es : List Item) → passedCount key es ≡ length es → present (byKey bytesOrder) (key, c) es ≡ false
+present-none key c [] h = refl
+present-none key c (x ∷ xs) h = either (bytesLe key (x .0))
     (λ e. absurd (omega (arith, rw e at h)))
-    (λ e. rw e (ap suc (chosen-last key y ys (omega (arith, rw e at h)))))
+    (λ e. rw e (present-none key c xs (omega (arith, rw e at h))))
 
--- entries with others in the place of the chosen one
-pub replaced-at : (key : List ℕ) (f : Item → List Item) (x : Item) (xs : List Item)
-    → replaced key f (x ∷ xs) ≡ take (chosenAt key (x ∷ xs)) (x ∷ xs) ++ (f (choose bytesOrder key x xs) ++ drop (suc (chosenAt key (x ∷ xs))) (x ∷ xs))
-replaced-at key f x [] = sym (append-nil (f x))
-replaced-at key f x (y ∷ ys) = either (bytesLe key (x .0)) (λ e. rw e) (λ e. rw e (ap (λ (l : List Item). x ∷ l) (replaced-at key f y ys)))
+-- the first entry that is not passed is at or above the key
+pub passed-not : (key : List ℕ) (es : List Item) → passedCount key es < length es → bytesLe key (itemOf (passedCount key es) es .0) ≡ true
+passed-not key [] h = absurd (omega arith)
+passed-not key (x ∷ xs) h = either (bytesLe key (x .0)) (λ e. rw e e) (λ e. rw e (passed-not key xs (omega (arith, rw e at h))))
+
+-- the entry that an entry goes under is the first that is not passed, or the last
+pub chosen-passed : (key c : List ℕ) (es : List Item) → passedCount key es < length es → passedCount key es ≡ chosenAt (key, c) es
+chosen-passed key c [] h = absurd (omega arith)
+chosen-passed key c (x ∷ []) h = either (bytesLe key (x .0)) (λ e. rw e) (λ e. absurd (omega (arith, rw e at h)))
+chosen-passed key c (x ∷ y ∷ ys) h = either (bytesLe key (x .0))
+    (λ e. rw e)
+    (λ e. rw e (ap suc (chosen-passed key c (y ∷ ys) (omega (arith, rw e at h)))))
+
+pub chosen-last : (key c : List ℕ) (es : List Item) → passedCount key es ≡ length es → length es - 1 ≡ chosenAt (key, c) es
+chosen-last key c [] h = refl
+chosen-last key c (x ∷ []) h = refl
+chosen-last key c (x ∷ y ∷ ys) h = either (bytesLe key (x .0))
+    (λ e. absurd (omega (arith, rw e at h)))
+    (λ e. let below = chosen-last key c (y ∷ ys) (omega (arith, rw e at h)) in rw e (omega arith))

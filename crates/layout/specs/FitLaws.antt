@@ -1,65 +1,68 @@
 -- Laws: the entries that a page gets: their keys have k bytes and their numbers four, how many they are, and that the bytes gathered read back as them.
 -- Assumes nothing.
-use Prim.Native.Nat.{ℕ, suc, _+_, _*_, _≤_}
-use mathlib.Core.Path.{_≡_, refl, sym, ap, _∙_}
+use Prim.Native.Nat.{ℕ, suc, _+_, _*_, _≤_, _<_}
+use mathlib.Core.Path.{_≡_, refl, sym, ap, _∙_, subst}
 use mathlib.Core.List.{List, [], _∷_, _++_, append-assoc, append-nil}
 use native.Mathlib.Omega.{arith}
-use lib.ListN.{length, take, drop, length-append, length-take}
-use lib.Seq.{take-at}
+use lib.ListN.{length, take, drop, length-append, length-take, length-drop}
+use lib.Seq.{take-at, split-at}
 use Rattle.basis.specs.Tests.{either}
-use Rattle.basis.specs.Lists.{All, all-append}
+use Rattle.basis.specs.Lists.{All, all-append, all-left, all-right}
 use Rattle.octets.specs.Bytes.{toBe32}
 use Rattle.octets.specs.Store.{put}
 use Rattle.octets.specs.StoreLaws.{put-splice}
 use Rattle.octets.specs.NumberLaws.{length-toBe32}
 use Rattle.octets.specs.Order.{bytesLe}
-use Rattle.tree.specs.Lists.{NonEmpty}
-use Rattle.tree.specs.ListLaws.{nonEmpty-length}
-use Rattle.tree.specs.Pairs.{lastKey, insertPair}
+use Rattle.tree.specs.Pairs.{lastKey, byKey, insertPair}
 use Rattle.tree.specs.PairLaws.{insertPair-all}
 use Rattle.page.specs.Header.{maxKey}
 use Rattle.page.specs.KeyOrder.{bytesOrder}
 use Rattle.page.specs.Reading.{Item, items}
 use Rattle.layout.specs.Layout.{itemsIn, encode}
-use Rattle.layout.specs.Entries.{replaced, twoFor, rootEntries}
+use Rattle.layout.specs.Entries.{itemOf, replaced, twoFor, rootEntries}
 use Rattle.layout.specs.Given.{Over, Listed, roomSize}
 use Rattle.layout.specs.ItemLaws.{Fit, length-encode, items-encode}
 use Rattle.layout.specs.EntryLaws.{items-in-fit}
 use Rattle.layout.specs.GatherLaws.{length-last, length-larger, put-next, spread}
 
--- how many entries a leaf has with one more pair
-pub length-insert : (key c : List ℕ) (es : List Item) → length (insertPair bytesOrder key c es) ≡ length es + 1
-length-insert key c [] = refl
-length-insert key c (x ∷ xs) = either (bytesLe key (x .0)) (λ e. rw e (omega arith)) (λ e. rw e (ap suc (length-insert key c xs) ∙ omega arith))
+-- how many entries a leaf has with one more
+pub length-insert : (e : Item) (es : List Item) → length (insertPair (byKey bytesOrder) e es) ≡ length es + 1
+length-insert e [] = refl
+length-insert e (x ∷ xs) = either (bytesLe (e .0) (x .0)) (λ u. rw u (omega arith)) (λ u. rw u (ap suc (length-insert e xs) ∙ omega arith))
 
--- a property of entries and of those put in the place of one is one of all together
-replaced-all : (P : Item → Type 0) (key : List ℕ) (f : Item → List Item) → ((x : Item) → P x → All P (f x)) → (es : List Item) → All P es
-    → All P (replaced key f es)
-replaced-all P key f h [] a = tt
-replaced-all P key f h (x ∷ []) a = h x (a .0)
-replaced-all P key f h (x ∷ y ∷ ys) a = either (bytesLe key (x .0))
-    (λ e. rw e (all-append P (f x) (y ∷ ys) (h x (a .0)) (a .1)))
-    (λ e. rw e (a .0, replaced-all P key f h (y ∷ ys) (a .1)))
+-- a property of entries and of those put in the place of entry i is one of all together
+replaced-all : (P : Item → Type 0) (i : ℕ) (f : Item → List Item) → ((x : Item) → P x → All P (f x)) → (es : List Item) → i < length es → All P es
+    → All P (replaced i f es)
+replaced-all P i f h es inside a =
+    let x = itemOf i es in
+    let front = take i es in
+    let back = drop (suc i) es in
+    let parts : All P (front ++ (x ∷ back)) = subst (All P) (split-at es i ([], []) inside) a in
+    let rest : All P (x ∷ back) = all-right P front (x ∷ back) parts in
+    all-append P front (f x ++ back) (all-left P front (x ∷ back) parts) (all-append P (f x) back (h x (rest .0)) (rest .1))
 
--- how many entries there are with n + 1 in the place of one
-pub length-replaced : (key : List ℕ) (f : Item → List Item) (n : ℕ) → ((x : Item) → length (f x) ≡ suc n) → (es : List Item) → NonEmpty es
-    → length (replaced key f es) ≡ n + length es
-length-replaced key f n h [] s = absurd s
-length-replaced key f n h (x ∷ []) s = omega (arith, h x)
-length-replaced key f n h (x ∷ y ∷ ys) s = either (bytesLe key (x .0))
-    (λ e. rw e (omega (arith, length-append (f x) (y ∷ ys), h x)))
-    (λ e. rw e (omega (arith, length-replaced key f n h (y ∷ ys) tt)))
+-- how many entries there are with n + 1 in the place of entry i
+pub length-replaced : (i : ℕ) (f : Item → List Item) (n : ℕ) → ((x : Item) → length (f x) ≡ suc n) → (es : List Item) → i < length es
+    → length (replaced i f es) ≡ n + length es
+length-replaced i f n h es inside = omega (
+  arith,
+  h (itemOf i es),
+  length-append (take i es) (f (itemOf i es) ++ drop (suc i) es),
+  length-append (f (itemOf i es)) (drop (suc i) es),
+  length-take i es,
+  length-drop (suc i) es,
+)
 
 -- the entries of a leaf with one more pair, and of a page with two in the place of one
 module _ (k : ℕ) (b key : List ℕ) (long : length key ≡ k) where
-  pub pair-fit : (r p : ℕ) → All (Fit k) (insertPair bytesOrder key (toBe32 r) (itemsIn k b p))
-  pair-fit r p = insertPair-all bytesOrder (Fit k) key (toBe32 r) (itemsIn k b p) (long, length-toBe32 r) (items-in-fit k b p)
+  pub pair-fit : (r p : ℕ) → All (Fit k) (insertPair (byKey bytesOrder) (key, toBe32 r) (itemsIn k b p))
+  pair-fit r p = insertPair-all (byKey bytesOrder) (Fit k) (key, toBe32 r) (itemsIn k b p) (long, length-toBe32 r) (items-in-fit k b p)
 
-  pub two-fit : (c q : ℕ) (es : List Item) → All (Fit k) es → All (Fit k) (replaced key (twoFor k b key c q) es)
-  two-fit c q es f =
+  pub two-fit : (i c q : ℕ) (es : List Item) → i < length es → All (Fit k) es → All (Fit k) (replaced i (twoFor k b key c q) es)
+  two-fit i c q es inside f =
       let low = length-last k key long (itemsIn k b c) (items-in-fit k b c) in
-      replaced-all (Fit k) key (twoFor k b key c q)
-      (λ x g. ((low, g .1), ((length-larger (x .0) key (g .0 ∙ sym long) ∙ long, length-toBe32 q), tt))) es f
+      replaced-all (Fit k) i (twoFor k b key c q)
+      (λ x g. ((low, g .1), ((length-larger (x .0) key (g .0 ∙ sym long) ∙ long, length-toBe32 q), tt))) es inside f
 
 -- what is gathered is read back
 gathered : (k n : ℕ) (es : List Item) (zs : List ℕ) {room : List ℕ} → All (Fit k) es → length es ≡ n → n * (k + 4) ≤ length zs → room ≡ put zs 0 (encode es)
@@ -77,24 +80,24 @@ one-more {b} {k} {p} {n} room l h =
     record { key = l .key; page = l .page; count = omega arith; size = simp length-take (omega arith) }
 
 pub pair-read : (key : List ℕ) {b : List ℕ} {p n : ℕ} (r : ℕ) (zs : List ℕ) {room : List ℕ} → Listed b (length key) p n → roomSize ≤ length zs
-    → room ≡ put zs 0 (encode (insertPair bytesOrder key (toBe32 r) (itemsIn (length key) b p)))
-    → items (length key) (n + 1) (take ((n + 1) * (length key + 4)) room) ≡ insertPair bytesOrder key (toBe32 r) (itemsIn (length key) b p)
+    → room ≡ put zs 0 (encode (insertPair (byKey bytesOrder) (key, toBe32 r) (itemsIn (length key) b p)))
+    → items (length key) (n + 1) (take ((n + 1) * (length key + 4)) room) ≡ insertPair (byKey bytesOrder) (key, toBe32 r) (itemsIn (length key) b p)
 pair-read key {b} {p} {n} r zs l h e =
     let s = spread n l (omega arith) in
     let es = itemsIn (length key) b p in
-    let count : length (insertPair bytesOrder key (toBe32 r) es) ≡ n + 1 = length-insert key (toBe32 r) es ∙ rw (← l .count) in
-    gathered (length key) (n + 1) (insertPair bytesOrder key (toBe32 r) es) zs (pair-fit (length key) b key refl r p) count (omega arith) e
+    let count : length (insertPair (byKey bytesOrder) (key, toBe32 r) es) ≡ n + 1 = length-insert (key, toBe32 r) es ∙ rw (← l .count) in
+    gathered (length key) (n + 1) (insertPair (byKey bytesOrder) (key, toBe32 r) es) zs (pair-fit (length key) b key refl r p) count (omega arith) e
 
-pub two-read : (key : List ℕ) {b : List ℕ} {p n : ℕ} (c q : ℕ) (zs : List ℕ) {room : List ℕ} → Listed b (length key) p n → (n ≡ 0 → ⊥) → roomSize ≤ length zs
-    → room ≡ put zs 0 (encode (replaced key (twoFor (length key) b key c q) (itemsIn (length key) b p)))
-    → items (length key) (n + 1) (take ((n + 1) * (length key + 4)) room) ≡ replaced key (twoFor (length key) b key c q) (itemsIn (length key) b p)
-two-read key {b} {p} {n} c q zs l ne h e =
+pub two-read : (key : List ℕ) {b : List ℕ} {p n : ℕ} (i c q : ℕ) (zs : List ℕ) {room : List ℕ} → Listed b (length key) p n → i < n → roomSize ≤ length zs
+    → room ≡ put zs 0 (encode (replaced i (twoFor (length key) b key c q) (itemsIn (length key) b p)))
+    → items (length key) (n + 1) (take ((n + 1) * (length key + 4)) room) ≡ replaced i (twoFor (length key) b key c q) (itemsIn (length key) b p)
+two-read key {b} {p} {n} i c q zs l h room e =
     let s = spread n l (omega arith) in
     let es = itemsIn (length key) b p in
     let f = twoFor (length key) b key c q in
-    let some : NonEmpty es = nonEmpty-length es (omega (arith, l .count)) in
-    let count : length (replaced key f es) ≡ n + 1 = omega (arith, length-replaced key f 1 (λ x. refl) es some, l .count) in
-    gathered (length key) (n + 1) (replaced key f es) zs (two-fit (length key) b key refl c q es (items-in-fit (length key) b p)) count (omega arith) e
+    let inside : i < length es = omega (arith, l .count) in
+    let count : length (replaced i f es) ≡ n + 1 = omega (arith, length-replaced i f 1 (λ x. refl) es inside, l .count) in
+    gathered (length key) (n + 1) (replaced i f es) zs (two-fit (length key) b key refl i c q es inside (items-in-fit (length key) b p)) count (omega arith) e
 
 -- the entries of a new root
 module _ (b key : List ℕ) (p q : ℕ) where

@@ -1,37 +1,39 @@
 -- Laws: the bytes that are gathered for a page are those of the entries that the rule gives it. Assumes nothing.
 use Prim.Native.Nat.{ℕ, zero, suc, _+_, _-_, _*_, _≤_, _<_}
 use mathlib.Core.Path.{_≡_, refl, sym, ap, _∙_}
-use mathlib.Core.Bool.{true, false, and-false}
+use mathlib.Core.Bool.{true, false}
 use mathlib.Core.List.{List, [], _∷_, _++_, append-assoc}
 use native.Mathlib.Nat.{zero-add, add-zero, sub-zero, add-mul, mul-le-mul-right, one-mul}
 use native.Mathlib.Numerals.{add-one}
 use native.Mathlib.Omega.{arith}
-use lib.Dec.{leb}
-use borrow.Author.Tests.{le-leb, lt-leb}
-use lib.ListN.{length, take, drop, getD, length-append}
+use lib.Dec.{ltb}
+use borrow.Author.Tests.{lt-ltb, le-ltb}
+use lib.ListN.{length, take, drop, getD, length-append, List·getD-eq-default}
 use Rattle.basis.specs.Tests.{either}
 use Rattle.basis.specs.Lists.{All}
 use Rattle.octets.specs.Bytes.{be32, toBe32}
 use Rattle.octets.specs.Store.{put, window}
 use Rattle.octets.specs.StoreLaws.{put-append, length-window}
 use Rattle.octets.specs.NumberLaws.{length-toBe32, be32-window}
-use Rattle.octets.specs.Order.{bytesLe}
+use Rattle.octets.specs.declared.Ordering.{Ordering}
+use Rattle.octets.specs.Order.{bytesLe, ordering, isEqual}
 use Rattle.octets.specs.OrderLaws.{le-total, le-antisym}
 use Rattle.tree.specs.Order.{larger}
-use Rattle.tree.specs.Pairs.{lastKey, insertPair}
+use Rattle.tree.specs.Pairs.{lastKey, byKey, present, insertPair}
 use Rattle.page.specs.Header.{maxKey, pageSize, isPage}
 use Rattle.page.specs.Page.{entryArea, capacity, entryOffset, keyAt, numberAt, firstAtOrAbove}
 use Rattle.page.specs.Within.{Within}
 use Rattle.page.specs.KeyOrder.{bytesOrder}
+use Rattle.page.specs.KeyOrderLaws.{equal-le}
 use Rattle.page.specs.PageLaws.{capacity-small, entries-fit, entries-inside, within-entry, entry-within}
 use Rattle.page.specs.Reading.{Item}
 use Rattle.layout.specs.Layout.{itemsIn, encode}
-use Rattle.layout.specs.Entries.{chosen, childOf, replaced, raised, twoFor}
-use Rattle.layout.specs.Given.{Listed, chosenAt}
+use Rattle.layout.specs.Entries.{chosenAt, itemOf, childOf, replaced, raised, twoFor}
+use Rattle.layout.specs.Given.{Listed}
 use Rattle.layout.specs.ItemLaws.{Fit, encode-append}
 use Rattle.layout.specs.EntryLaws.{itemsFrom, itemAt, items-in-fit, from-cons, take-from, drop-from, encode-from, entry-far, items-none}
-use Rattle.layout.specs.EntryLaws.{listed, listed-within, passedCount, passed-le, first-passed, above-all, not-above-all}
-use Rattle.layout.specs.EntryLaws.{insert-at, chosen-passed, chosen-last, replaced-at}
+use Rattle.layout.specs.EntryLaws.{listed, listed-within, passedCount, passed-le, first-passed, insert-at, present-at, present-none}
+use Rattle.layout.specs.EntryLaws.{passed-not, chosen-passed, chosen-last}
 
 -- no page, no entries
 count-none : (k : ℕ) (b : List ℕ) (p : ℕ) → isPage (length b) p ≡ false → 0 ≡ length (itemsIn k b p)
@@ -45,24 +47,20 @@ module _ (key : List ℕ) {b : List ℕ} {p n i : ℕ} (l : Listed b (length key
   search-le : i ≤ n
   search-le = omega (arith, search-passed, passed-le key (itemsIn (length key) b p), l .count)
 
-chosen-first : (key : List ℕ) (es : List Item) → passedCount key es < length es → passedCount key es ≡ chosenAt key es
-chosen-first key [] h = absurd (omega arith)
-chosen-first key (x ∷ xs) h = sym (chosen-passed key x xs h)
-
-chosen-end : (key : List ℕ) (es : List Item) → 1 ≤ length es → passedCount key es ≡ length es → length es - 1 ≡ chosenAt key es
-chosen-end key [] h e = absurd (omega arith)
-chosen-end key (x ∷ xs) h e = sym (chosen-last key x xs e ∙ omega arith)
-
-module _ (key : List ℕ) {b : List ℕ} {p n i : ℕ} (l : Listed b (length key) p n) (e : i ≡ firstAtOrAbove (keyAt b (length key) p) key n 0) where
-  pub search-chosen : (i ≡ n → ⊥) → i ≡ chosenAt key (itemsIn (length key) b p)
+-- where the search ends: the entry that the key goes under, and whether a leaf has the key
+module _ (key c : List ℕ) {b : List ℕ} {p n i : ℕ} (l : Listed b (length key) p n) (e : i ≡ firstAtOrAbove (keyAt b (length key) p) key n 0) where
+  pub search-chosen : (i ≡ n → ⊥) → i ≡ chosenAt (key, c) (itemsIn (length key) b p)
   search-chosen h =
       let s = search-passed key l e in
-      s ∙ chosen-first key (itemsIn (length key) b p) (omega (arith, search-le key l e, l .count))
+      s ∙ chosen-passed key c (itemsIn (length key) b p) (omega (arith, search-le key l e, l .count))
 
-  pub search-last : 1 ≤ n → i ≡ n → n - 1 ≡ chosenAt key (itemsIn (length key) b p)
-  search-last h q =
+  pub search-last : i ≡ n → n - 1 ≡ chosenAt (key, c) (itemsIn (length key) b p)
+  search-last h =
       let s = search-passed key l e in
-      ap (λ (m : ℕ). m - 1) (l .count) ∙ chosen-end key (itemsIn (length key) b p) (omega (arith, l .count)) (omega (arith, l .count))
+      ap (λ (m : ℕ). m - 1) (l .count) ∙ chosen-last key c (itemsIn (length key) b p) (omega (arith, l .count))
+
+  pub search-absent : i ≡ n → false ≡ present (byKey bytesOrder) (key, c) (itemsIn (length key) b p)
+  search-absent h = let s = search-passed key l e in sym (present-none key c (itemsIn (length key) b p) (omega (arith, l .count)))
 
 -- an entry by its number: the chosen one and the last
 get-from : (k : ℕ) (b : List ℕ) (p n i j : ℕ) (d : Item) → j < n → getD (itemsFrom k b p n i) j d ≡ itemAt k b p (i + j)
@@ -72,41 +70,44 @@ get-from k b p (suc n) i (suc j) d h =
     let s : i + 1 + j ≡ i + suc j = omega arith in
     rw (from-cons k b p n i, ← s) (get-from k b p n (i + 1) j d (omega arith))
 
-abbrev noItem : Item
-noItem = ([], [])
-
-chosen-get : (key : List ℕ) (es : List Item) → chosen key es ≡ getD es (chosenAt key es) noItem
-chosen-get key [] = refl
-chosen-get key (x ∷ []) = refl
-chosen-get key (x ∷ y ∷ ys) = either (bytesLe key (x .0)) (λ e. rw e) (λ e. rw e (chosen-get key (y ∷ ys)))
-
-last-get : (key : List ℕ) (x : Item) (xs : List Item) → lastKey key (x ∷ xs) ≡ getD (x ∷ xs) (length xs) noItem .0
+last-get : (key : List ℕ) (x : Item) (xs : List Item) → lastKey key (x ∷ xs) ≡ getD (x ∷ xs) (length xs) ([], []) .0
 last-get key x [] = refl
 last-get key x (y ∷ ys) = last-get (x .0) y ys
 
--- the entry with a number, the chosen one and the last, in a page
+-- the entry with a number, the last and a child, in a page
 module _ {b : List ℕ} {k p n : ℕ} (l : Listed b k p n) where
-  get-listed : (i : ℕ) → i < n → getD (itemsIn k b p) i noItem ≡ itemAt k b p i
-  get-listed i h = rw (listed l) (get-from k b p n 0 i noItem h ∙ ap (itemAt k b p) (zero-add i))
-
-  chosen-listed : (key : List ℕ) (i : ℕ) → i ≡ chosenAt key (itemsIn k b p) → i < n → chosen key (itemsIn k b p) ≡ itemAt k b p i
-  chosen-listed key i e h = chosen-get key (itemsIn k b p) ∙ rw (← e) (get-listed i h)
+  get-listed : (i : ℕ) → i < n → itemOf i (itemsIn k b p) ≡ itemAt k b p i
+  get-listed i h = rw (listed l) (get-from k b p n 0 i ([], []) h ∙ ap (itemAt k b p) (zero-add i))
 
   pub last-listed : (key : List ℕ) → 1 ≤ n → keyAt b k p (n - 1) ≡ lastKey key (itemsIn k b p)
   last-listed key h = last-of (itemsIn k b p) (sym (l .count)) (get-listed (n - 1) (omega arith))
     where
-      last-of : (es : List Item) → length es ≡ n → getD es (n - 1) noItem ≡ itemAt k b p (n - 1) → keyAt b k p (n - 1) ≡ lastKey key es
+      last-of : (es : List Item) → length es ≡ n → getD es (n - 1) ([], []) ≡ itemAt k b p (n - 1) → keyAt b k p (n - 1) ≡ lastKey key es
       last-of [] e g = absurd (omega arith)
       last-of (x ∷ xs) e g = let m : length xs ≡ n - 1 = omega arith in sym (last-get key x xs ∙ rw m (ap (λ (y : Item). y .0) g))
 
-  pub child-listed : (key : List ℕ) (i : ℕ) → i ≡ chosenAt key (itemsIn k b p) → i < n → numberAt b k p i ≡ childOf (chosen key (itemsIn k b p))
-  child-listed key i e h = sym (ap childOf (chosen-listed key i e h) ∙ be32-window b (entryOffset k p i + k))
+  pub child-listed : (i : ℕ) → i < n → numberAt b k p i ≡ childOf i (itemsIn k b p)
+  child-listed i h = sym (ap (λ (x : Item). be32 (x .1) 0) (get-listed i h) ∙ be32-window b (entryOffset k p i + k))
 
--- a page without entries, and one that has some
-pub no-child : (key : List ℕ) (es : List Item) → length es ≡ 0 → 0 ≡ childOf (chosen key es)
+-- a leaf has the key if the entry where the search ends is equal to it
+pub search-equal : (key c : List ℕ) {b : List ℕ} {p n i : ℕ} {o : Ordering} → Listed b (length key) p n → i ≡ firstAtOrAbove (keyAt b (length key) p) key n 0
+    → (i ≡ n → ⊥) → o ≡ ordering (keyAt b (length key) p i) key → isEqual o ≡ present (byKey bytesOrder) (key, c) (itemsIn (length key) b p)
+search-equal key c {b} {p} {n} {i} l e h o =
+    let es = itemsIn (length key) b p in
+    let s = search-passed key l e in
+    let inside : passedCount key es < length es = omega (arith, search-le key l e, l .count) in
+    let entry : itemOf i es .0 ≡ keyAt b (length key) p i = ap (λ (x : Item). x .0) (get-listed l i (omega (arith, search-le key l e))) in
+    let below : bytesLe key (keyAt b (length key) p i) ≡ true = rw (← entry, s) (passed-not key es inside) in
+    ap isEqual o ∙ equal-le (keyAt b (length key) p i) key below ∙ rw (← entry, s) (sym (present-at key c es inside))
+
+-- a page without entries, without such an entry, and one that has some
+pub chosen-none : (e : Item) (es : List Item) → length es ≡ 0 → 0 ≡ chosenAt e es
+chosen-none e [] h = refl
+chosen-none e (x ∷ xs) h = absurd (omega arith)
+
+pub no-child : (i : ℕ) (es : List Item) → length es ≤ i → 0 ≡ childOf i es
 unfolding be32
-no-child key [] e = refl
-no-child key (x ∷ xs) e = absurd (omega arith)
+no-child i es h = rw (List·getD-eq-default es ([], []) h)
 
 pub no-last : (key : List ℕ) (es : List Item) → length es ≡ 0 → lastKey key es ≡ key
 no-last key [] e = refl
@@ -194,7 +195,7 @@ module _ {b : List ℕ} {k p n : ℕ} (l : Listed b k p n) where
 
 -- a leaf's entries with one pair more
 module _ (key : List ℕ) {b : List ℕ} {p n i : ℕ} (l : Listed b (length key) p n) (e : i ≡ firstAtOrAbove (keyAt b (length key) p) key n 0) where
-  pair-bytes : (c : List ℕ) → encode (insertPair bytesOrder key c (itemsIn (length key) b p))
+  pair-bytes : (c : List ℕ) → encode (insertPair (byKey bytesOrder) (key, c) (itemsIn (length key) b p))
       ≡ window b (entryOffset (length key) p 0) (i * (length key + 4)) ++ (key ++ (c ++ window b (entryOffset (length key) p i) ((n - i) * (length key + 4))))
   unfolding encode
   pair-bytes c =
@@ -206,7 +207,7 @@ module _ (key : List ℕ) {b : List ℕ} {p n i : ℕ} (l : Listed b (length key
       → l1 ≡ put zs 0 (window b (entryOffset (length key) p 0) ((i - 0) * (length key + 4))) → l2 ≡ put l1 (i * (length key + 4)) key
       → l3 ≡ put l2 (i * (length key + 4) + length key) (toBe32 r)
       → l4 ≡ put l3 (i * (length key + 4) + length key + 4) (window b (entryOffset (length key) p i) ((n - i) * (length key + 4)))
-      → l4 ≡ put zs 0 (encode (insertPair bytesOrder key (toBe32 r) (itemsIn (length key) b p)))
+      → l4 ≡ put zs 0 (encode (insertPair (byKey bytesOrder) (key, toBe32 r) (itemsIn (length key) b p)))
   pair-gathered r zs e1 e2 e3 e4 =
       let first = window b (entryOffset (length key) p 0) (i * (length key + 4)) in
       let rest = window b (entryOffset (length key) p i) ((n - i) * (length key + 4)) in
@@ -240,17 +241,9 @@ larger-key a key e = rw (le-total key a e)
 pub larger-entry : (a key : List ℕ) → bytesLe key a ≡ true → a ≡ larger bytesOrder a key
 larger-entry a key e = either (bytesLe a key) (λ t. rw t (le-antisym a key t e)) (λ t. rw t)
 
--- a page's entries with two for the chosen one, entry i
-module _ (key : List ℕ) {b : List ℕ} {p n i : ℕ} (l : Listed b (length key) p n) (e : i ≡ chosenAt key (itemsIn (length key) b p)) (h : i < n) where
-  replaced-listed : (f : Item → List Item) → replaced key f (itemsIn (length key) b p)
-      ≡ take i (itemsIn (length key) b p) ++ (f (itemAt (length key) b p i) ++ drop (i + 1) (itemsIn (length key) b p))
-  replaced-listed f = rw (← chosen-listed l key i e h, e, add-one) (replaced-some (itemsIn (length key) b p) (omega (arith, l .count)))
-    where
-      replaced-some : (es : List Item) → 1 ≤ length es → replaced key f es ≡ take (chosenAt key es) es ++ (f (chosen key es) ++ drop (suc (chosenAt key es)) es)
-      replaced-some [] q = absurd (omega arith)
-      replaced-some (x ∷ xs) q = replaced-at key f x xs
-
-  two-bytes : (c q : ℕ) → encode (replaced key (twoFor (length key) b key c q) (itemsIn (length key) b p))
+-- a page's entries with two for entry i
+module _ (key : List ℕ) {b : List ℕ} {p n i : ℕ} (l : Listed b (length key) p n) (h : i < n) where
+  two-bytes : (c q : ℕ) → encode (replaced i (twoFor (length key) b key c q) (itemsIn (length key) b p))
       ≡ window b (entryOffset (length key) p 0) (i * (length key + 4))
       ++ (lastKey key (itemsIn (length key) b c)
       ++ (window b (entryOffset (length key) p i + length key) 4
@@ -261,7 +254,8 @@ module _ (key : List ℕ) {b : List ℕ} {p n i : ℕ} (l : Listed b (length key
   two-bytes c q =
       let es = itemsIn (length key) b p in
       rw (
-        replaced-listed (twoFor (length key) b key c q),
+        get-listed l i h,
+        ← add-one i,
         encode-append (take i es) (twoFor (length key) b key c q (itemAt (length key) b p i) ++ drop (i + 1) es),
         before-bytes l i (omega arith),
         after-bytes l (i + 1) (omega arith),
@@ -274,7 +268,7 @@ module _ (key : List ℕ) {b : List ℕ} {p n i : ℕ} (l : Listed b (length key
       → l4 ≡ put l3 next (larger bytesOrder (keyAt b (length key) p i) key)
       → l5 ≡ put l4 (next + length key) (toBe32 q)
       → l6 ≡ put l5 (next + length key + 4) (window b (entryOffset (length key) p (i + 1)) ((n - (i + 1)) * (length key + 4)))
-      → l6 ≡ put zs 0 (encode (replaced key (twoFor (length key) b key c q) (itemsIn (length key) b p)))
+      → l6 ≡ put zs 0 (encode (replaced i (twoFor (length key) b key c q) (itemsIn (length key) b p)))
   two-gathered c q zs e1 e2 e3 e4 e5 e6 =
       let k = length key in
       let s = spread i l (omega arith) in
@@ -308,21 +302,21 @@ module _ (key : List ℕ) {b : List ℕ} {p n i : ℕ} (l : Listed b (length key
         two-bytes c q,
       ) (ap (put zs 0) (simp append-assoc))
 
--- the last key raised, or not
-module _ (key : List ℕ) {b : List ℕ} {p n : ℕ} (l : Listed b (length key) p n) where
-  pub raised-none : n ≡ 0 → b ≡ raised (length key) b key p
+-- the key of entry i raised, or not
+module _ (key : List ℕ) {b : List ℕ} {p n i : ℕ} (l : Listed b (length key) p n) where
+  pub raised-none : n ≤ i → b ≡ raised (length key) b key p i
   unfolding raised
-  raised-none z = rw (lt-leb 1 (length (itemsIn (length key) b p)) (omega (arith, l .count)))
+  raised-none h = rw (le-ltb i (length (itemsIn (length key) b p)) (omega (arith, l .count)))
 
-  pub raised-here : {i o : ℕ} {out : List ℕ} → (n ≡ 0 → ⊥) → i ≡ firstAtOrAbove (keyAt b (length key) p) key n 0 → i ≡ n
-      → o ≡ entryOffset (length key) p (n - 1) → out ≡ put b o key → out ≡ raised (length key) b key p
-  unfolding raised
-  raised-here s e q eo eb =
-      let es = itemsIn (length key) b p in
-      rw (le-leb 1 (length es) (omega (arith, l .count)), above-all key es (sym (search-passed key l e) ∙ q ∙ l .count), ← l .count) (eb ∙ rw eo)
+  module _ (inside : i < n) where
+    test : ltb i (length (itemsIn (length key) b p)) ≡ true
+    test = lt-ltb i (length (itemsIn (length key) b p)) (omega (arith, l .count))
 
-  pub raised-not : {i : ℕ} → i ≡ firstAtOrAbove (keyAt b (length key) p) key n 0 → (i ≡ n → ⊥) → b ≡ raised (length key) b key p
-  unfolding raised
-  raised-not e q =
-      let es = itemsIn (length key) b p in
-      rw (not-above-all key es (omega (arith, search-passed key l e, search-le key l e, l .count)), and-false (leb 1 (length es)))
+    pub raised-here : {o : ℕ} {out : List ℕ} → bytesLe key (keyAt b (length key) p i) ≡ false → o ≡ entryOffset (length key) p i → out ≡ put b o key
+        → out ≡ raised (length key) b key p i
+    unfolding raised
+    raised-here lower eo eb = rw (test, get-listed l i inside, lower) (eb ∙ rw eo)
+
+    pub raised-not : bytesLe key (keyAt b (length key) p i) ≡ true → b ≡ raised (length key) b key p i
+    unfolding raised
+    raised-not higher = rw (test, get-listed l i inside, higher)

@@ -1,15 +1,13 @@
--- Steps: what the functions ask of the buffer b and of the byte string s that holds n entries with keys of k bytes for the page at p; and the number of the
--- chosen entry. Inner contracts, laws and proofs cite them: a reader need not believe them.
-use Prim.Native.Nat.{ℕ, suc, _+_, _*_, _≤_}
+-- Steps: what the functions ask of the buffer b and of the byte string s that holds n entries with keys of k bytes for the page at p. Inner contracts, laws and
+-- proofs cite them: a reader need not believe them.
+use Prim.Native.Nat.{ℕ, _+_, _*_, _≤_}
 use mathlib.Core.Path.{_≡_}
-use mathlib.Core.Bool.{true, cond}
-use mathlib.Core.List.{List, [], _∷_}
+use mathlib.Core.Bool.{true}
+use mathlib.Core.List.{List}
 use lib.ListN.{length}
-use Rattle.octets.specs.Order.{bytesLe}
 use Rattle.page.specs.Header.{maxKey, maxOffset, pageSize, isPage}
 use Rattle.page.specs.Page.{capacity, entryArea}
 use Rattle.page.specs.Within.{Within}
-use Rattle.page.specs.Reading.{Item}
 use Rattle.layout.specs.Layout.{itemsIn}
 use Rattle.layout.specs.declared.Supply.{Supply}
 
@@ -38,9 +36,3 @@ Lasts n supply = supply .end .0 + pageSize * n ≤ maxOffset
 -- the room in which entries are gathered: the entry area and one entry more
 abbrev pub roomSize : ℕ
 roomSize = entryArea + maxKey + 4
-
--- the number of the entry that `Entries.chosen` gives
-abbrev pub chosenAt : List ℕ → List Item → ℕ
-chosenAt key [] = 0
-chosenAt key (x ∷ []) = 0
-chosenAt key (x ∷ y ∷ ys) = cond (bytesLe key (x .0)) 0 (suc (chosenAt key (y ∷ ys)))

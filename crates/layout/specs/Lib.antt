@@ -6,7 +6,7 @@ pub mod Layout
 pub mod Entries
 -- Rules: the supply of new pages
 pub mod Supply
--- Steps: what the functions ask of their arguments, and the number of the chosen entry
+-- Steps: what the functions ask of their arguments
 pub mod Given
 -- Laws: entries as bytes and back
 pub mod ItemLaws

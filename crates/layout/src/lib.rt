@@ -6,10 +6,9 @@ ghost use mathlib.Core.Path.{_≡_};
 ghost use mathlib.Core.Bool.{Bool, true};
 ghost use Prim.Native.Nat.{ℕ, _+_, _-_, _*_, _≤_, _<_};
 ghost use lib.ListN.{length};
-ghost use Rattle.octets.specs.Bytes.{toBe32};
 ghost use Rattle.octets.specs.Store.{put, window};
 ghost use Rattle.tree.specs.Order.{larger};
-ghost use Rattle.tree.specs.Pairs.{lastKey, insertPair};
+ghost use Rattle.tree.specs.Pairs.{lastKey, byKey, present, insertPair};
 ghost use Rattle.page.specs.Header.{maxKey, pageSize, expressionPlace, isPage};
 ghost use Rattle.page.specs.Page.{entryOffset, keyAt};
 ghost use Rattle.page.specs.Within.{Within};
@@ -17,9 +16,9 @@ ghost use Rattle.page.specs.KeyOrder.{bytesOrder};
 ghost use Rattle.page.specs.Reading.{items};
 ghost use Rattle.layout.specs.Layout.{withAttribute, withCount, withLeft, withRight, withRoot, withSize, headerBytes};
 ghost use Rattle.layout.specs.Layout.{itemsIn, encode, withEntries, newPage, linkBeyond, splitPage};
-ghost use Rattle.layout.specs.Entries.{chosen, childOf, replaced, raised, twoFor, rootEntries};
+ghost use Rattle.layout.specs.Entries.{stored, chosenAt, childOf, replaced, raised, twoFor, rootEntries};
 ghost use Rattle.layout.specs.Supply.{supplyOf, takePage, supplyAfter, withSupply};
-ghost use Rattle.layout.specs.Given.{Given, Over, Listed, Lasts, roomSize, chosenAt};
+ghost use Rattle.layout.specs.Given.{Given, Over, Listed, Lasts, roomSize};
 
 // The room in which the entries of a page are gathered: the entry area and one more entry with the longest key.
 pub const ROOM: usize = Page::ENTRY_AREA + page::MAX_KEY + 4;
@@ -223,11 +222,16 @@ pub fn entry_count(index: &[u8], k: usize, page: PageOffset) -> usize
     page::entry_count(index, k, index.len(), page)
 }
 
-// The number of the entry that `key` goes under: the first at or above `key`, or the last.
-fn chosen_entry(index: &[u8], key: &[u8], page: PageOffset, count: usize) -> usize
-    requires { ⌜ Listed (now index) (length (now key)) (page .0) count × (1 ≤ count) ⌝ }
-    ensures { λ r. ⌜ (r ≡ chosenAt (now (key .entry)) (itemsIn (length (now (key .entry))) (now (index .entry)) (page .0))) × (r < count) ⌝ }
+// The number of the entry that `key` with its record number goes under: the first at or above `key`, else the last; 0 if the page has no entries. Keys are
+// distinct, so the record number is not looked at.
+pub fn chosen_entry(index: &[u8], key: &[u8], number: RecordNumber, page: PageOffset) -> usize
+    requires { ⌜ (length (now key) ≤ maxKey) × (isPage (length (now index)) (page .0) ≡ true) ⌝ }
+    ensures { λ r. ⌜ r ≡ chosenAt (stored (now (key .entry)) (number .0)) (itemsIn (length (now (key .entry))) (now (index .entry)) (page .0)) ⌝ }
 {
+    let count = entry_count(index, key.len(), page);
+    if count == 0 {
+        return 0;
+    }
     let i = page::first_at_or_above(index, page, count, key);
     if i == count {
         return count - 1;
@@ -235,34 +239,41 @@ fn chosen_entry(index: &[u8], key: &[u8], page: PageOffset, count: usize) -> usi
     i
 }
 
-// The child that `key` goes under; 0, which is no page's offset, if the page has no entries.
-pub fn chosen_child(index: &[u8], key: &[u8], page: PageOffset) -> PageOffset
-    requires { ⌜ (length (now key) ≤ maxKey) × (isPage (length (now index)) (page .0) ≡ true) ⌝ }
-    ensures { λ r. ⌜ r .0 ≡ childOf (chosen (now (key .entry)) (itemsIn (length (now (key .entry))) (now (index .entry)) (page .0))) ⌝ }
+// The child of entry `i`; 0, which is no page's offset, if the page has no such entry.
+pub fn child_of(index: &[u8], k: usize, page: PageOffset, i: usize) -> PageOffset
+    requires { ⌜ k ≤ maxKey ⌝ }
+    ensures { λ r. ⌜ r .0 ≡ childOf i (itemsIn k (now (index .entry)) (page .0)) ⌝ }
 {
-    let count = entry_count(index, key.len(), page);
-    if count == 0 {
+    if entry_count(index, k, page) <= i {
         return PageOffset(0);
     }
-    page::child(
-        index,
-        key.len(),
-        page,
-        chosen_entry(index, key, page, count),
-    )
+    page::child(index, k, page, i)
 }
 
-// Raises the last key of a page to `key` if `key` is above all keys of the page.
-pub fn raise_key(index: &mut [u8], key: &[u8], page: PageOffset)
+// Whether a leaf has `key`: the first entry at or above it is an equal one. Keys are distinct, so the record number is not looked at.
+pub fn is_present(index: &[u8], key: &[u8], number: RecordNumber, page: PageOffset) -> bool
     requires { ⌜ (length (now key) ≤ maxKey) × (isPage (length (now index)) (page .0) ≡ true) ⌝ }
-    ensures { λ _. ⌜ now (index .exit) ≡ raised (length (now (key .entry))) (now (index .entry)) (now (key .entry)) (page .0) ⌝ }
+    ensures { λ r. ⌜ r ≡ present (byKey bytesOrder) (stored (now (key .entry)) (number .0))
+        (itemsIn (length (now (key .entry))) (now (index .entry)) (page .0)) ⌝ }
 {
     let count = entry_count(index, key.len(), page);
-    if count == 0 {
+    let i = page::first_at_or_above(index, page, count, key);
+    if i == count {
+        return false;
+    }
+    octets::is_equal(page::compare_entry(index, page, i, key))
+}
+
+// Raises the key of entry `i` to `key` if it is below `key`.
+pub fn raise_key(index: &mut [u8], key: &[u8], page: PageOffset, i: usize)
+    requires { ⌜ (length (now key) ≤ maxKey) × (isPage (length (now index)) (page .0) ≡ true) ⌝ }
+    ensures { λ _. ⌜ now (index .exit) ≡ raised (length (now (key .entry))) (now (index .entry)) (now (key .entry)) (page .0) i ⌝ }
+{
+    if entry_count(index, key.len(), page) <= i {
         return;
     }
-    if page::first_at_or_above(index, page, count, key) == count {
-        octets::copy_in(index, page::entry_offset(key.len(), page, count - 1), key);
+    if octets::is_below(page::compare_entry(index, page, i, key)) {
+        octets::copy_in(index, page::entry_offset(key.len(), page, i), key);
     }
 }
 
@@ -342,7 +353,8 @@ pub fn gather_pair(
 )
     requires { ⌜ Listed (now index) (length (now key)) (page .0) count × (roomSize ≤ length (now room)) ⌝ }
     ensures { λ _. ⌜ now (room .exit) ≡ put (now (room .entry)) 0
-        (encode (insertPair bytesOrder (now (key .entry)) (toBe32 (number .0)) (itemsIn (length (now (key .entry))) (now (index .entry)) (page .0)))) ⌝ }
+        (encode (insertPair (byKey bytesOrder) (stored (now (key .entry)) (number .0))
+        (itemsIn (length (now (key .entry))) (now (index .entry)) (page .0)))) ⌝ }
 {
     let k = key.len();
     let i = page::first_at_or_above(index, page, count, key);
@@ -353,23 +365,23 @@ pub fn gather_pair(
     copy_entries(room, at + k + 4, index, k, page, i, count);
 }
 
-// Gathers the entries of a page whose child at `child` was split: two, for `child` and for `new`, in the place of the one that `key` goes under.
+// Gathers the entries of a page whose child at `child` was split: two, for `child` and for `new`, in the place of entry `i`.
 pub fn gather_two(
     room: &mut [u8],
     index: &[u8],
     key: &[u8],
     page: PageOffset,
     count: usize,
+    i: usize,
     child: PageOffset,
     new: PageOffset,
 )
-    requires { ⌜ Listed (now index) (length (now key)) (page .0) count × (1 ≤ count) × (roomSize ≤ length (now room)) ⌝ }
+    requires { ⌜ Listed (now index) (length (now key)) (page .0) count × (i < count) × (roomSize ≤ length (now room)) ⌝ }
     ensures { λ _. ⌜ now (room .exit) ≡ put (now (room .entry)) 0
-        (encode (replaced (now (key .entry)) (twoFor (length (now (key .entry))) (now (index .entry)) (now (key .entry)) (child .0) (new .0))
+        (encode (replaced i (twoFor (length (now (key .entry))) (now (index .entry)) (now (key .entry)) (child .0) (new .0))
         (itemsIn (length (now (key .entry))) (now (index .entry)) (page .0)))) ⌝ }
 {
     let k = key.len();
-    let i = chosen_entry(index, key, page, count);
     let at = i * (k + 4);
     let next = at + k + 4;
     copy_entries(room, 0, index, k, page, 0, i);

@@ -1,16 +1,17 @@
 -- Laws: the entries of every page after each store that the rules of insertion make: the page that is written, and all others as they were, since
 -- distinct multiples of 512 do not overlap. Cited by the laws of insertion. Assumes nothing.
 use mathlib.Core.Path.{_≡_, refl, sym, ap, ap₂, _∙_, fun-ext}
-use mathlib.Core.Bool.{true, false, _&&_}
+use mathlib.Core.Bool.{true, false, not, _&&_}
 use mathlib.Core.List.{List, [], _∷_, _++_, map}
 use Prim.Native.Nat.{ℕ, zero, suc, _+_, _-_, _*_, _%_, _^_, _≤_, _<_, min}
 use native.Mathlib.Nat.{suc-mul, zero-mul}
 use native.Mathlib.Omega.{arith}
 use lib.ListN.{length, take, drop, replicate, length-append, length-take, length-drop, length-replicate, take-append-drop}
-use lib.Dec.{leb, ltb, eqb}
-use borrow.Author.Tests.{ltb-true, ltb-false, le-leb, leb-true, eqb-true, eqb-false}
+use lib.Seq.{split-at}
+use lib.Dec.{ltb, eqb}
+use borrow.Author.Tests.{ltb-true, ltb-false, lt-ltb, eqb-true, eqb-false}
 use Rattle.basis.specs.Lists.{All, all-left, all-right}
-use Rattle.basis.specs.Tests.{either, contra, both}
+use Rattle.basis.specs.Tests.{either}
 use Rattle.octets.specs.Bytes.{toLe16, toLe32}
 use Rattle.octets.specs.Store.{put, window}
 use Rattle.octets.specs.Order.{bytesLe}
@@ -28,9 +29,9 @@ use Rattle.page.specs.PageLaws.{entries-fit, entry-inside, entry-low, capacity-
 use Rattle.page.specs.HeaderLaws.{is-page}
 use Rattle.page.specs.KeyOrder.{bytesOrder}
 use Rattle.page.specs.Reading.{Item, items, itemsAt, numbered}
-use Rattle.page.specs.ReadingLaws.{readCount}
+use Rattle.page.specs.ReadingLaws.{readCount, items-take}
 use Rattle.layout.specs.Layout.{itemsIn, encode, area, withEntries, newPage, withoutRoot, linkBeyond, splitPage}
-use Rattle.layout.specs.Entries.{replaced, aboveAll, raised}
+use Rattle.layout.specs.Entries.{itemOf, replaced, raised}
 use Rattle.layout.specs.WriteLaws.{new-page-by}
 use Rattle.layout.specs.ItemLaws.{Fit, length-encode, length-items, items-encode}
 
@@ -208,104 +209,87 @@ module _ (k : ℕ) where
       entries-new k b3 q a p r (drop m es) (page-of q l3 tq) (halves-fit k es m f .1) (simp length-drop (omega arith))
       ∙ ap (λ (S : Store (List ℕ)). write S q (map numbered (drop m es))) lower
 
--- entries whose last key is raised
-abbrev lastTo : List ℕ → List Item → List Item
-lastTo key [] = []
-lastTo key (x ∷ []) = (key, x .1) ∷ []
-lastTo key (x ∷ y ∷ ys) = x ∷ lastTo key (y ∷ ys)
-
--- the larger of the key above and the new key, in the place of the entry gone through
+-- the larger of the key above and the new key, in the place of the entry gone through; and the new key in its place
 abbrev pub raise : List ℕ → Item → List Item
 raise key e = (larger bytesOrder (e .0) key, e .1) ∷ []
 
-raise-same : (key : List ℕ) (es : List Item) → aboveAll key es ≡ false → replaced key (raise key) es ≡ es
-raise-same key [] h = contra refl h
-raise-same key (x ∷ []) h = either (bytesLe key (x .0))
-    (λ e. rw (larger-same bytesOrder (x .0) key e))
-    (λ e. contra refl (rw e at h))
-raise-same key (x ∷ y ∷ ys) h = either (bytesLe key (x .0))
-    (λ e. rw (e, larger-same bytesOrder (x .0) key e))
-    (λ e. rw e (ap (λ l. x ∷ l) (raise-same key (y ∷ ys) (rw e at h))))
+abbrev withKey : List ℕ → Item → List Item
+withKey key e = (key, e .1) ∷ []
 
-raise-last : (key : List ℕ) (es : List Item) → aboveAll key es ≡ true → replaced key (raise key) es ≡ lastTo key es
-raise-last key [] h = refl
-raise-last key (x ∷ []) h = either (bytesLe key (x .0))
-    (λ e. contra (rw e at h) refl)
-    (λ e. rw (le-total key (x .0) e))
-raise-last key (x ∷ y ∷ ys) h = either (bytesLe key (x .0))
-    (λ e. contra (rw e at h) refl)
-    (λ e. rw e (ap (λ l. x ∷ l) (raise-last key (y ∷ ys) (rw e at h))))
-
-raise-none : (key : List ℕ) (es : List Item) → (leb 1 (length es) && aboveAll key es) ≡ false → replaced key (raise key) es ≡ es
-raise-none key [] h = refl
-raise-none key (x ∷ xs) h = raise-same key (x ∷ xs) (rw (le-leb 1 (length (x ∷ xs)) (omega arith)) at h)
+raise-same : (key : List ℕ) (i : ℕ) (es : List Item) → i < length es → bytesLe key (itemOf i es .0) ≡ true → replaced i (raise key) es ≡ es
+raise-same key i es h e = rw (larger-same bytesOrder (itemOf i es .0) key e) (sym (split-at es i ([], []) h))
 
 module _ (k : ℕ) where
-  items-last : (key : List ℕ) (n : ℕ) (xs : List ℕ) → length key ≡ k → suc n * (k + 4) ≤ length xs
-      → items k (suc n) (put xs (n * (k + 4)) key) ≡ lastTo key (items k (suc n) xs)
+  -- n entries after a key was stored at entry i
+  items-key : (key : List ℕ) (i n : ℕ) (xs : List ℕ) → length key ≡ k → i < n → n * (k + 4) ≤ length xs
+      → items k n (put xs (i * (k + 4)) key) ≡ replaced i (withKey key) (items k n xs)
   unfolding items window
-  items-last key zero xs e h =
-      let o : suc zero * (k + 4) ≡ k + 4 = omega arith in
+  items-key key i zero xs e l h = absurd (omega arith)
+  items-key key zero (suc n) xs e l h =
       let z : zero * (k + 4) ≡ 0 = zero-mul (k + 4) in
-      rw z (ap₂ (λ (u v : List ℕ). (u, v) ∷ []) (window-same xs 0 key k e (omega arith)) (window-after xs 0 key k 4 (omega arith)))
-  items-last key (suc n) xs e h =
-      let m : suc n * (k + 4) ≡ k + 4 + n * (k + 4) = suc-mul n (k + 4) ∙ omega arith in
-      let m2 : suc (suc n) * (k + 4) ≡ suc n * (k + 4) + (k + 4) = suc-mul (suc n) (k + 4) in
-      rw (m, drop-put xs (n * (k + 4)) key (k + 4), items-last key n (drop (k + 4) xs) e (simp length-drop (omega arith)))
-      (ap₂ (λ (u v : List ℕ). (u, v) ∷ lastTo key (items k (suc n) (drop (k + 4) xs)))
-      (window-before xs (k + 4 + n * (k + 4)) key 0 k (omega arith)) (window-before xs (k + 4 + n * (k + 4)) key k 4 (omega arith)))
+      let o : suc n * (k + 4) ≡ n * (k + 4) + (k + 4) = suc-mul n (k + 4) in
+      let first : (b : List ℕ) → items k n (take (n * (k + 4)) b) ≡ items k n b = λ b. items-take k n (n * (k + 4)) b (omega arith) in
+      let rest : items k n (drop (k + 4) (put xs 0 key)) ≡ items k n (drop (k + 4) xs) =
+      sym (first (drop (k + 4) (put xs 0 key))) ∙ ap (items k n) (window-after xs 0 key (k + 4) (n * (k + 4)) (omega arith)) ∙ first (drop (k + 4) xs) in
+      rw (z, rest)
+      (ap₂ (λ (u v : List ℕ). (u, v) ∷ items k n (drop (k + 4) xs)) (window-same xs 0 key k e (omega arith)) (window-after xs 0 key k 4 (omega arith)))
+  items-key key (suc i) (suc n) xs e l h =
+      let m : suc i * (k + 4) ≡ k + 4 + i * (k + 4) = suc-mul i (k + 4) ∙ omega arith in
+      let o : suc n * (k + 4) ≡ n * (k + 4) + (k + 4) = suc-mul n (k + 4) in
+      rw (m, drop-put xs (i * (k + 4)) key (k + 4), items-key key i n (drop (k + 4) xs) e (omega arith) (simp length-drop (omega arith)))
+      (ap₂ (λ (u v : List ℕ). (u, v) ∷ replaced i (withKey key) (items k n (drop (k + 4) xs)))
+      (window-before xs (k + 4 + i * (k + 4)) key 0 k (omega arith)) (window-before xs (k + 4 + i * (k + 4)) key k 4 (omega arith)))
 
   write-same : (S : Store (List ℕ)) (p : ℕ) → write S p (S p) ≡ S
   write-same S p = fun-ext (λ z. either (eqb z p) (λ e. rw e (ap S (sym (eqb-true z p e)))) (λ e. rw e))
 
-  pub length-raised : (b key : List ℕ) (p : ℕ) → length (raised k b key p) ≡ length b
+  pub length-raised : (b key : List ℕ) (p i : ℕ) → length (raised k b key p i) ≡ length b
   unfolding raised
-  length-raised b key p = either (leb 1 (length (itemsIn k b p)) && aboveAll key (itemsIn k b p))
-      (λ e. rw e (length-put b (entryOffset k p (length (itemsIn k b p) - 1)) key))
+  length-raised b key p i = either (ltb i (length (itemsIn k b p)) && not (bytesLe key (itemOf i (itemsIn k b p) .0)))
+      (λ e. rw e (length-put b (entryOffset k p i) key))
       (λ e. rw e)
 
   items-read : (b : List ℕ) (p : ℕ) → isPage (length b) p ≡ true → itemsIn k b p ≡ items k (readCount k b p) (window b (p + entriesStart) entryArea)
   unfolding itemsAt
   items-read b p t = rw t
 
-  -- the entries of a page after its last key was stored
-  items-raised : (b key : List ℕ) (p m : ℕ) → isPage (length b) p ≡ true → length key ≡ k → length (itemsIn k b p) ≡ suc m
-      → itemsIn k (put b (entryOffset k p m) key) p ≡ lastTo key (itemsIn k b p)
+  -- the entries of a page after the key of entry i was stored
+  items-stored : (b key : List ℕ) (p i : ℕ) → isPage (length b) p ≡ true → length key ≡ k → i < length (itemsIn k b p)
+      → itemsIn k (put b (entryOffset k p i) key) p ≡ replaced i (withKey key) (itemsIn k b p)
   unfolding entryOffset
-  items-raised b key p m t lk c =
-      let at : ℕ = p + entriesStart + m * (k + 4) in
+  items-stored b key p i t lk h =
+      let at : ℕ = p + entriesStart + i * (k + 4) in
+      let n : ℕ = readCount k b p in
       let w = window b (p + entriesStart) entryArea in
-      let n : readCount k b p ≡ suc m = sym (length-items k (readCount k b p) w) ∙ sym (ap length (items-read b p t)) ∙ c in
-      let fits : suc m * (k + 4) ≤ entryArea = entries-fit k (suc m) (omega (arith, items-few k b p)) in
-      let s : suc m * (k + 4) ≡ m * (k + 4) + (k + 4) = suc-mul m (k + 4) in
-      let count : readCount k (put b at key) p ≡ suc m =
-      ap (λ (j : ℕ). min j (capacity k)) (le16-same (put b at key) b (p + 2) (window-before b at key (p + 2) 2 (omega arith))) ∙ n in
+      let few = items-few k b p in
+      let all : length (itemsIn k b p) ≡ n = ap length (items-read b p t) ∙ length-items k n w in
+      let fits : n * (k + 4) ≤ entryArea = entries-fit k n (omega arith) in
+      let upto : suc i * (k + 4) ≤ entryArea = entries-fit k (suc i) (omega arith) in
+      let s : suc i * (k + 4) ≡ i * (k + 4) + (k + 4) = suc-mul i (k + 4) in
+      let count : readCount k (put b at key) p ≡ n =
+      ap (λ (j : ℕ). min j (capacity k)) (le16-same (put b at key) b (p + 2) (window-before b at key (p + 2) 2 (omega arith))) in
       rw (
         items-read (put b at key) p (page-of p (length-put b at key) t),
         items-read b p t,
         count,
-        n,
-        window-inside b (m * (k + 4)) key (p + entriesStart) entryArea (omega arith),
+        window-inside b (i * (k + 4)) key (p + entriesStart) entryArea (omega arith),
       )
-      (items-last key m w lk (rw (length-window b (p + entriesStart) entryArea (omega (arith, is-page (length b) p t .high))) fits))
+      (items-key key i n w lk (omega arith) (rw (length-window b (p + entriesStart) entryArea (omega (arith, is-page (length b) p t .high))) fits))
 
-  -- if no page splits below it, a page has the larger key in the place of the key gone through
-  pub entries-raised : (b key : List ℕ) (p : ℕ) → isPage (length b) p ≡ true → length key ≡ k
-      → entriesIn k (raised k b key p) ≡ write (entriesIn k b) p (map numbered (replaced key (raise key) (itemsIn k b p)))
+  -- if no page splits below it, a page has the larger key in the place of the key of entry i
+  pub entries-raised : (b key : List ℕ) (p i : ℕ) → isPage (length b) p ≡ true → length key ≡ k → i < length (itemsIn k b p)
+      → entriesIn k (raised k b key p i) ≡ write (entriesIn k b) p (map numbered (replaced i (raise key) (itemsIn k b p)))
   unfolding raised
-  entries-raised b key p t lk =
+  entries-raised b key p i t lk h =
       let es = itemsIn k b p in
       let g = is-page (length b) p t in
-      let at = entryOffset k p (length es - 1) in
-      either (leb 1 (length es) && aboveAll key es)
-      (λ e.
-      let c = both (leb 1 (length es)) (aboveAll key es) e in
-      let some : 1 ≤ length es = leb-true 1 (length es) (c .0) in
-      let last : length es - 1 < capacity k = omega (arith, items-few k b p) in
-      let inside = entry-inside k p (length es - 1) last in
-      let low = entry-low k p (length es - 1) in
-      rw (e, raise-last key es (c .1))
+      let at = entryOffset k p i in
+      let few = items-few k b p in
+      let inside = entry-inside k p i (omega arith) in
+      let low = entry-low k p i in
+      either (bytesLe key (itemOf i es .0))
+      (λ e. rw (lt-ltb i (length es) h, e, raise-same key i es h e) (sym (write-same (entriesIn k b) p)))
+      (λ e. rw (lt-ltb i (length es) h, e, le-total key (itemOf i es .0) e)
       (fun-ext (λ z. either (eqb z p)
-      (λ f. rw f (ap (map numbered) (ap (itemsIn k (put b at key)) (eqb-true z p f) ∙ items-raised b key p (length es - 1) t lk (omega arith))))
+      (λ f. rw f (ap (map numbered) (ap (itemsIn k (put b at key)) (eqb-true z p f) ∙ items-stored b key p i t lk h)))
       (λ f. rw f (ap (map numbered) (items-other k b p at key (g .whole) (omega arith) (omega arith) z (eqb-false z p f)))))))
-      (λ e. rw (e, raise-none key es e) (sym (write-same (entriesIn k b) p)))

@@ -1,18 +1,19 @@
 -- Laws: the head of every page, its attribute, count and links, and the file's header, after each store that the rules of insertion make. Cited by the
 -- laws of insertion. Assumes nothing.
 use mathlib.Core.Path.{_≡_, refl, sym, ap, _∙_}
-use mathlib.Core.Bool.{true, cond, _&&_}
+use mathlib.Core.Bool.{true, cond, not, _&&_}
 use mathlib.Core.List.{List}
 use mathlib.Core.Logic.{_⊎_, inl, inr}
-use Prim.Native.Nat.{ℕ, suc, _+_, _-_, _^_, _≤_, _<_}
+use Prim.Native.Nat.{ℕ, suc, _+_, _^_, _≤_, _<_}
 use native.Mathlib.Omega.{arith}
 use lib.ListN.{length, take, drop, length-append, length-take, length-drop}
-use lib.Dec.{leb, eqb}
-use borrow.Author.Tests.{leb-true, eqb-true, eqb-false, ne-eqb}
+use lib.Dec.{ltb, eqb}
+use borrow.Author.Tests.{ltb-true, eqb-true, eqb-false, ne-eqb}
 use Rattle.basis.specs.Lists.{All}
 use Rattle.basis.specs.Tests.{either, contra, both}
 use Rattle.octets.specs.Bytes.{le16, le32, toLe16, toLe32}
 use Rattle.octets.specs.Store.{put, window}
+use Rattle.octets.specs.Order.{bytesLe}
 use Rattle.octets.specs.StoreLaws.{length-put, window-before, window-after}
 use Rattle.octets.specs.NumberLaws.{length-toLe16, length-toLe32, le16-put, le32-put, le16-same, le32-same}
 use Rattle.tree.specs.Lists.{half}
@@ -23,7 +24,7 @@ use Rattle.page.specs.HeaderLaws.{is-page}
 use Rattle.page.specs.Reading.{Item}
 use Rattle.page.specs.ReadingLaws.{attribute-same, count-same, left-same, right-same}
 use Rattle.layout.specs.Layout.{itemsIn, area, withEntries, newPage, withoutRoot, linkBeyond, splitPage}
-use Rattle.layout.specs.Entries.{aboveAll, raised}
+use Rattle.layout.specs.Entries.{itemOf, raised}
 use Rattle.layout.specs.ItemLaws.{Fit}
 use Rattle.layout_laws.specs.EntryLaws.{page-of, window-other, length-area, new-stores, length-with, length-beyond, items-few, halves-fit}
 
@@ -172,24 +173,23 @@ module _ (k : ℕ) where
         let g = is-page (length b) p tp .low in
         put-outside (put b (p + 2) (toLe16 (length es))) (p + entriesStart) (area es) (omega arith) ∙ put-outside b (p + 2) (toLe16 (length es)) (omega arith)
 
-  -- a page whose last key is raised
-  module _ (b key : List ℕ) (p : ℕ) (tp : isPage (length b) p ≡ true) (lk : length key ≡ k) where
-    raised-as : (P : List ℕ → Type 0) → P b → ((at : ℕ) → p + entriesStart ≤ at → at + length key ≤ p + pageSize → P (put b at key)) → P (raised k b key p)
+  -- a page whose entry i has its key raised
+  module _ (b key : List ℕ) (p i : ℕ) (tp : isPage (length b) p ≡ true) (lk : length key ≡ k) where
+    raised-as : (P : List ℕ → Type 0) → P b → ((at : ℕ) → p + entriesStart ≤ at → at + length key ≤ p + pageSize → P (put b at key)) → P (raised k b key p i)
     unfolding raised
     raised-as P same stored =
         let es = itemsIn k b p in
-        let i = length es - 1 in
-        either (leb 1 (length es) && aboveAll key es)
-        (λ e. let some : 1 ≤ length es = leb-true 1 (length es) (both (leb 1 (length es)) (aboveAll key es) e .0) in
-        let last : i < capacity k = omega (arith, items-few k b p) in
-        rw e (stored (entryOffset k p i) (entry-low k p i) (omega (arith, entry-inside k p i last))))
+        let lower = not (bytesLe key (itemOf i es .0)) in
+        either (ltb i (length es) && lower)
+        (λ e. let inside : i < length es = ltb-true i (length es) (both (ltb i (length es)) lower e .0) in
+        rw e (stored (entryOffset k p i) (entry-low k p i) (omega (arith, entry-inside k p i (omega (arith, items-few k b p))))))
         (λ e. rw e same)
 
-    pub raised-head : (z : ℕ) → isPage (length b) z ≡ true → SameHead b (raised k b key p) z
+    pub raised-head : (z : ℕ) → isPage (length b) z ≡ true → SameHead b (raised k b key p i) z
     raised-head z tz = raised-as (λ c. SameHead b c z) (record { attributeIs = refl; countIs = refl; leftIs = refl; rightIs = refl })
         (λ at l m. put-entries b p tp z tz at key l m)
 
-    pub raised-header : SameHeader b (raised k b key p)
+    pub raised-header : SameHeader b (raised k b key p i)
     raised-header = let g = is-page (length b) p tp .low in raised-as (λ c. SameHeader b c) refl (λ at l m. put-outside b at key (omega arith))
 
   -- a page that is written whole keeps the right neighbours of all others

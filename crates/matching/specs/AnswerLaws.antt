@@ -1,8 +1,8 @@
--- Laws: the rule of match leaves no choice: 0, 25 and 31 are answered exactly if document 01 says so, and no two answers meet the rule. No proof of the code
--- cites them: they are for readers of the rule. Assumes nothing.
+-- Laws: the rule of match leaves no choice: 0, 25 and 31 are answered exactly if document 01 says so, and one answer meets the rule, the computed one. No
+-- proof of the match's own code cites them. Assumes nothing.
 use Prim.Native.Nat.{ℕ, _-_, _≤_, _<_}
-use mathlib.Core.Path.{_≡_, sym, _∙_}
-use mathlib.Core.Bool.{Bool}
+use mathlib.Core.Path.{_≡_, refl, sym, _∙_}
+use mathlib.Core.Bool.{Bool, true, false}
 use mathlib.Core.List.{List, [], _∷_, _++_}
 use mathlib.Core.Logic.{_↔_, ⊎-elim}
 use native.Mathlib.Omega.{arith}
@@ -17,11 +17,13 @@ use Rattle.cell.specs.AnswerLaws.{table-small}
 use Rattle.page.specs.Header.{keyLength, headerGood}
 use Rattle.sound.specs.Sound.{Sound, leafPairs}
 use Rattle.sound.specs.Rule.{pagesGood, unmarked}
-use Rattle.sound.specs.Accepted.{accepted}
+use Rattle.sound.specs.Accepted.{accepted, answer-sound}
+use Rattle.sound.specs.Accepted.{answer-unsound as audit-unsound}
 use Rattle.matching.specs.Match.{matchRefusal, Matches, Matched}
-use Rattle.matching.specs.Rule.{entriesMatch}
-use Rattle.matching.specs.TestLaws.{columnOf, test-exactly}
-use Rattle.matching.specs.CallLaws.{table-good, ready}
+use Rattle.matching.specs.Rule.{columnOf, entriesMatch, leafEntries}
+use Rattle.matching.specs.Computed.{matchAnswer}
+use Rattle.matching.specs.TestLaws.{test-exactly}
+use Rattle.matching.specs.CallLaws.{table-good, ready, answer-refused, answer-unsound, answer-matched, answer-other}
 
 -- a number that no check has is not the first refusal
 first-other : (n : ℕ) (checks : List (Bool × ℕ)) → 0 < n → All (λ check. check .1 ≡ n → ⊥) checks → firstRefusal checks ≡ n → ⊥
@@ -123,3 +125,42 @@ module _ (t b : List ℕ) (field : ℕ) where
       (λ z x. m .unsound z .1 x ∙ sym (n .unsound z .1 x))
       (λ z s x. m .accepted z s .1 x ∙ sym (n .accepted z s .1 x))
       (λ z s x. is-31 r m z s x ∙ sym (is-31 q n z s x))
+
+  -- the computed answer in its four cases
+  abbrev checks : List (Bool × ℕ)
+  checks = (pagesGood b unmarked, 25) ∷ (entriesMatch t (columnOf t field) 0 (leafEntries b), 31) ∷ []
+
+  computed-refused : eqb (matchRefusal t b field) 0 ≡ false → matchAnswer t b field ≡ matchRefusal t b field
+  unfolding matchAnswer
+  computed-refused z = first-fail (eqb (matchRefusal t b field) 0) (matchRefusal t b field) checks z
+
+  module _ (z : eqb (matchRefusal t b field) 0 ≡ true) where
+    computed-unsound : pagesGood b unmarked ≡ false → matchAnswer t b field ≡ 25
+    unfolding matchAnswer firstRefusal
+    computed-unsound p = rw (z, p)
+
+    computed-matched : pagesGood b unmarked ≡ true → entriesMatch t (columnOf t field) 0 (leafEntries b) ≡ true → matchAnswer t b field ≡ 0
+    unfolding matchAnswer firstRefusal
+    computed-matched p e = rw (z, p, e)
+
+    computed-other : pagesGood b unmarked ≡ true → entriesMatch t (columnOf t field) 0 (leafEntries b) ≡ false → matchAnswer t b field ≡ 31
+    unfolding matchAnswer firstRefusal
+    computed-other p e = rw (z, p, e)
+
+  computed-meets : Matched t b field (matchAnswer t b field)
+  computed-meets = either (eqb (matchRefusal t b field) 0)
+      (λ z.
+      let none = eqb-true (matchRefusal t b field) 0 z in
+      let header = ready t b field (table-good t b field none) none .header in
+      either (pagesGood b unmarked)
+      (λ p.
+      let audited = answer-sound b header p in
+      either (entriesMatch t (columnOf t field) 0 (leafEntries b))
+      (λ e. rw (computed-matched z p e) (answer-matched t b field none 0 audited refl _ refl e))
+      (λ e. rw (computed-other z p e) (answer-other t b field none 0 audited refl _ refl e)))
+      (λ p. rw (computed-unsound z p) (answer-unsound t b field none 25 (audit-unsound b header p) (λ q. omega (arith, q)))))
+      (λ z. answer-refused t b field _ (computed-refused z) (λ e. eqb-false (matchRefusal t b field) 0 z (sym (computed-refused z) ∙ e)))
+
+  -- Theorem: one answer meets the rule, the computed one
+  pub answer-computed : (r : ℕ) → Matched t b field r ↔ (r ≡ matchAnswer t b field)
+  answer-computed r = ((λ m. one-answer r _ m computed-meets), (λ e. rw e computed-meets))

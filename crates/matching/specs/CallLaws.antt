@@ -23,8 +23,8 @@ use Rattle.sound.specs.Sound.{Sound, leafPairs, Audited}
 use Rattle.sound.specs.Rule.{maxPages}
 use Rattle.matching.specs.declared.Column.{Column}
 use Rattle.matching.specs.Match.{matchRefusal, Matches, Matched}
-use Rattle.matching.specs.Rule.{entriesMatch, firstLeaf, entriesAlong, leafEntries, ColumnInside}
-use Rattle.matching.specs.TestLaws.{columnOf, test-exactly}
+use Rattle.matching.specs.Rule.{columnOf, entriesMatch, firstLeaf, entriesAlong, leafEntries, ColumnInside}
+use Rattle.matching.specs.TestLaws.{test-exactly}
 use Rattle.matching.specs.LeafLaws.{leaf-entries}
 
 -- ---- the refusals after the table's

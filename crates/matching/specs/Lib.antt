@@ -5,6 +5,8 @@
 pub mod Match
 -- Steps: the test of the entries, as it is computed
 pub mod Rule
+-- Rules: the answer as one number that computes
+pub mod Computed
 -- Laws: n numbers from 1 to n, none twice, are all of them
 pub mod CountLaws
 -- Laws: the test holds exactly if the entries match
@@ -15,7 +17,7 @@ pub mod StepLaws
 pub mod LeafLaws
 -- Laws: the refusals before the audit, one by one, and the answers of the calls
 pub mod CallLaws
--- Laws: 0, 25 and 31 are answered exactly if document 01 says so; no two answers meet the rule
+-- Laws: 0, 25 and 31 are answered exactly if document 01 says so; one answer meets the rule, the computed one
 pub mod AnswerLaws
 -- Laws: no deletion byte changes the answer
 pub mod DeletionLaws

@@ -8,7 +8,7 @@ use lib.ListN.{length}
 use lib.Dec.{eqb}
 use Rattle.octets.specs.Store.{window}
 use Rattle.octets.specs.Order.{ordering, isEqual}
-use Rattle.table.specs.Table.{minTable, recordStart}
+use Rattle.table.specs.Table.{minTable, recordCount, recordStart, fieldOffset, fieldLength}
 use Rattle.field.specs.Field.{numberGood}
 use Rattle.tree.specs.Lists.{concatMap}
 use Rattle.page.specs.Header.{maxLevels, rootOffset, fileSize, keyLength}
@@ -23,6 +23,10 @@ use Rattle.matching.specs.declared.Column.{Column}
 -- entry i of the page at p: its key and its number
 abbrev pub entryAt : List ℕ → ℕ → ℕ → ℕ → List ℕ × ℕ
 entryAt b k p i = (keyAt b k p i, numberAt b k p i)
+
+-- the field of the table's records
+abbrev pub columnOf : List ℕ → ℕ → Column
+columnOf t field = record { records = recordCount t; offset = fieldOffset t (field - 1); length = fieldLength t (field - 1) }
 
 -- the field's bytes in record i
 unfoldable pub columnBytes : List ℕ → Column → ℕ → List ℕ

@@ -12,7 +12,7 @@ use Rattle.basis.specs.Lists.{All, all-map}
 use Rattle.basis.specs.Tests.{either, contra, both, join}
 use Rattle.octets.specs.Order.{ordering, isEqual}
 use Rattle.octets.specs.OrderLaws.{le-refl}
-use Rattle.table.specs.Table.{fieldOffset, fieldLength, recordCount}
+use Rattle.table.specs.Table.{recordCount}
 use Rattle.field.specs.Field.{numberGood}
 use Rattle.field.specs.FieldLaws.{number-range}
 use Rattle.cell.specs.Cell.{fieldStart, fieldBytes}
@@ -24,11 +24,11 @@ use Rattle.sound.specs.Rule.{Entries}
 use Rattle.sound.specs.Levels.{numbers, all-to-map}
 use Rattle.matching.specs.declared.Column.{Column}
 use Rattle.matching.specs.Match.{Matches}
-use Rattle.matching.specs.Rule.{columnBytes, entryGood, entriesGood, entriesMatch}
+use Rattle.matching.specs.Rule.{columnOf, columnBytes, entryGood, entriesGood, entriesMatch}
 use Rattle.matching.specs.CountLaws.{each-once, as-many}
 
 -- a number in the range passes the test of numbers
-range-number : (i n : ℕ) → 1 ≤ i → i ≤ n → numberGood i n ≡ true
+pub range-number : (i n : ℕ) → 1 ≤ i → i ≤ n → numberGood i n ≡ true
 unfolding numberGood
 range-number i n l u = join _ _ (le-leb 1 i l) (le-leb i n u)
 
@@ -81,10 +81,6 @@ module _ (t : List ℕ) (c : Column) where
   unfolding entriesGood
   pass-good [] p = refl
   pass-good (e ∷ es) p = join _ _ (passes-entry e (p .0)) (pass-good es (p .1))
-
--- the field of the table's records
-abbrev pub columnOf : List ℕ → ℕ → Column
-columnOf t field = record { records = recordCount t; offset = fieldOffset t (field - 1); length = fieldLength t (field - 1) }
 
 column-field : (t : List ℕ) (field i : ℕ) → columnBytes t (columnOf t field) i ≡ fieldBytes t i field
 unfolding columnBytes fieldBytes fieldStart

@@ -4,7 +4,7 @@
 pub mod Format
 -- Rules: what a numeric text means
 pub mod Reading
--- Rules: the one text of a value
+-- Rules: the one written text of a value, and its accepted texts
 pub mod Writing
 -- Steps: the reader's states, character by character
 pub mod Scan
@@ -16,5 +16,7 @@ pub mod ScanLaws
 pub mod DigitLaws
 -- Laws: the writer's stores leave the written text, and its answers come in their order
 pub mod WritingLaws
--- Laws: demand 2, the grammar of numeric text
+-- Laws: the grammar of numeric text: a good text is a text of its value, and each text of a value is good
+pub mod GrammarLaws
+-- Laws: demand 2
 pub mod TextLaws

@@ -1,5 +1,5 @@
--- Rules: what a numeric text means. `readNumber` is what `read_number` answers, in document 01's order: 6, empty, 16, 17, 18, the value. Cited by
--- `read_number`.
+-- Rules: what a numeric text means, with K4's dropped zero. `readNumber` is what `read_number` answers, in document 01's order: 6, empty, 16, 17, 18, the
+-- value. Cited by `read_number`.
 use Prim.Native.Nat.{ℕ, zero, suc}
 use mathlib.Core.Bool.{Bool, true, false, _&&_, _||_, not}
 use mathlib.Core.List.{List, [], _∷_, _++_}
@@ -59,12 +59,24 @@ withoutPoint (c ∷ s) = s
 unfoldable pub digits : List ℕ → List ℕ
 digits s = wholePart s ++ withoutPoint (fraction s)
 
+-- K4, "a missing whole part": a text without its sign begins with no digit
+unfoldable pub wholeMissing : List ℕ → Bool
+wholeMissing t = eqb (length (wholePart t)) 0
+
+-- K4, "accepts a missing whole part where d > 0 and at least one digit isn't zero"
+unfoldable pub zeroDropped : ℕ → List ℕ → Bool
+zeroDropped d t = wholeMissing t && leb 1 d && not (every (eqb zeroDigit) (digits t))
+
+-- a whole part "without needless leading zero" or, by K4, a missing one
+abbrev pub wholeAccepted : ℕ → List ℕ → Bool
+wholeAccepted d t = wholeGood (wholePart t) || zeroDropped d t
+
 -- "blanks, an optional minus, a whole part without needless leading zero, and, where decimals d > 0, a point and exactly d digits; no blank after.
 -- Minus zero is 17"
 unfoldable pub textGood : List ℕ → ℕ → Bool
 textGood s d =
     let t = withoutMinus (unpadded s) in
-    wholeGood (wholePart t) && fractionGood d (fraction t)
+    wholeAccepted d t && fractionGood d (fraction t)
     && not (hasMinus (unpadded s) && eqb (numberOf (digits t)) 0)
 
 -- a number with its sign
@@ -72,11 +84,11 @@ unfoldable pub signed : Bool → ℕ → ℤ
 signed false n = pos n
 signed true n = negℤ (pos n)
 
--- "the value in units of 10 to the −d, signed"
+-- "the value in units of 10 to the −d, signed"; K4, "such a whole part is zero": without digits it adds nothing
 unfoldable pub valueOf : List ℕ → ℤ
 valueOf s = signed (hasMinus (unpadded s)) (numberOf (digits (withoutMinus (unpadded s))))
 
--- "the digits that 18 counts are those of the whole part and of the fraction together, a lone zero included"
+-- "the digits that 18 counts are those of the whole part and of the fraction together, a lone zero included"; a missing whole part has none
 unfoldable pub digitCount : List ℕ → ℕ
 digitCount s = length (digits (withoutMinus (unpadded s)))
 

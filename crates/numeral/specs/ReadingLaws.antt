@@ -1,21 +1,21 @@
 -- Laws: the parts of a numeric text, the count of its digits shows in their number, and when 6 and 16 are given. Assumes nothing.
 use Prim.Native.Nat.{ℕ, zero, suc, _+_, _*_, _-_, _^_, _≤_, _<_}
 use mathlib.Core.Path.{_≡_, refl, sym, _∙_}
-use mathlib.Core.Bool.{Bool, true, false, _&&_, _||_, not, and-true, and-false, and-assoc}
+use mathlib.Core.Bool.{Bool, true, false, _&&_, _||_, not, and-true, and-false, and-assoc, or-false}
 use mathlib.Core.List.{List, [], _∷_, _++_}
 use mathlib.Core.Logic.{_↔_}
 use native.Mathlib.Nat.{pow-le-pow-right, zero-add, le-trans}
 use native.Mathlib.Omega.{arith}
 use lib.Dec.{eqb, leb, ltb, lit<, eqb·suc-zero}
 use lib.ListN.{length, length-append}
-use borrow.Author.Tests.{leb-true, leb-false, eqb-true, eqb-false, le-leb, lt-ltb, le-ltb}
+use borrow.Author.Tests.{leb-true, leb-false, eqb-true, eqb-false, ne-eqb, le-leb, lt-ltb, le-ltb}
 use Rattle.basis.specs.Tests.{either, contra, both, join}
 use Rattle.octets.specs.Text.{every, blank, zeroDigit, isDigit, numberFrom, numberOf}
 use Rattle.octets.specs.TextLaws.{digit-range, every-append}
-use Rattle.octets.specs.DigitLaws.{number-least, number-bound}
+use Rattle.octets.specs.DigitLaws.{ten-pos, number-least, number-bound}
 use Rattle.numeral.specs.Format.{formatGood, maxWidth, maxDecimals, maxDigits, comma, point}
 use Rattle.numeral.specs.Reading.{some, after, front, wholeGood, fractionGood, wholePart, fraction, withoutPoint, digits, textGood, valueOf, digitCount}
-use Rattle.numeral.specs.Reading.{readNumber}
+use Rattle.numeral.specs.Reading.{wholeMissing, zeroDropped, wholeAccepted, readNumber}
 use Rattle.numeral.specs.declared.Number.the-variants.{Value, Empty, Refused}
 
 -- a good format has at most 15 decimals
@@ -119,25 +119,71 @@ module _ (c : ℕ) (w f : List ℕ) (whole : wholeGood (c ∷ w) ≡ true) where
       let least = rw (zero-add (length (w ++ f))) at (number-least (w ++ f) 0 (10 * 0 + (c - zeroDigit)) (omega arith)) in
       le-trans (pow-le-pow-right (lit< tt) {i = maxDigits} {j = length (w ++ f)} (omega arith)) least)
 
+-- digits are all zeros exactly if their number is zero
+pub zeros-number : (s : List ℕ) → every isDigit s ≡ true → every (eqb zeroDigit) s ≡ eqb (numberOf s) 0
+unfolding every numberOf numberFrom
+zeros-number [] e = refl
+zeros-number (c ∷ s) e =
+    let parts = both (isDigit c) (every isDigit s) e in
+    let range = digit-range c (parts .0) in
+    either (eqb zeroDigit c)
+    (λ f. let same : c ≡ zeroDigit = sym (eqb-true zeroDigit c f) in rw same (zeros-number s (parts .1)))
+    (λ f.
+    let first = eqb-false zeroDigit c f in
+    let least = number-least s 0 (10 * 0 + (c - zeroDigit)) (omega arith) in
+    rw f (sym (ne-eqb (numberOf (c ∷ s)) 0 (omega (arith, least, ten-pos (0 + length s))))))
+
 -- so a good text has at most 18 digits exactly if their number is below 10 to the 18
 count-shows : (count n : ℕ) → n < 10 ^ count → (maxDigits < count → 10 ^ maxDigits ≤ n) → leb count maxDigits ≡ ltb n (10 ^ maxDigits)
 count-shows count n most least = either (leb count maxDigits)
     (λ e. rw e (sym (lt-ltb n _ (le-trans most (pow-le-pow-right (lit< tt) (leb-true count maxDigits e))))))
     (λ e. rw e (sym (le-ltb n _ (least (leb-false count maxDigits e)))))
 
-pub count-number : (d : ℕ) (s : List ℕ) → d ≤ maxDecimals → wholeGood (wholePart s) && fractionGood d (fraction s) ≡ true
+-- a text that begins with a digit has dropped no zero
+pub digit-first : (d c : ℕ) (s : List ℕ) → isDigit c ≡ true → wholeAccepted d (c ∷ s) ≡ wholeGood (wholePart (c ∷ s))
+unfolding zeroDropped wholeMissing wholePart
+digit-first d c s h = rw (front-more isDigit c s h, eqb·suc-zero (length (front isDigit s))) (or-false (wholeGood (c ∷ front isDigit s)))
+
+-- a text that begins with no digit: all its digits stand behind its first character, which is a point if the text is good
+module _ (c : ℕ) (s : List ℕ) (h : isDigit c ≡ false) where
+  pub missing-digits : digits (c ∷ s) ≡ s
+  unfolding digits wholePart fraction withoutPoint
+  missing-digits = rw (front-ends isDigit c s h, after-ends isDigit c s h)
+
+  missing-fraction : fraction (c ∷ s) ≡ c ∷ s
+  unfolding fraction
+  missing-fraction = after-ends isDigit c s h
+
+  missing-whole : wholePart (c ∷ s) ≡ []
+  unfolding wholePart
+  missing-whole = front-ends isDigit c s h
+
+  pub missing-good : (d : ℕ) → wholeAccepted d (c ∷ s) && fractionGood d (fraction (c ∷ s))
+      ≡ eqb c point && leb 1 d && (not (every (eqb zeroDigit) s) && (every isDigit s && eqb (length s) d))
+  unfolding zeroDropped wholeMissing
+  missing-good d =
+      rw (missing-digits, missing-fraction, missing-whole, none-whole, fraction-point d c s)
+      (either (eqb c point && leb 1 d)
+      (λ e. rw (e, both (eqb c point) (leb 1 d) e .1))
+      (λ e. rw e (and-false (leb 1 d && not (every (eqb zeroDigit) s)))))
+
+pub count-number : (d : ℕ) (s : List ℕ) → d ≤ maxDecimals → wholeAccepted d s && fractionGood d (fraction s) ≡ true
     → leb (length (digits s)) maxDigits ≡ ltb (numberOf (digits s)) (10 ^ maxDigits)
-unfolding wholeGood wholePart fraction digits front
-count-number d [] h e = contra e refl
+unfolding wholePart fraction digits front after withoutPoint numberOf numberFrom
+count-number d [] h e = refl
 count-number d (c ∷ s) h e = either (isDigit c)
     (λ f.
     let go-on = front-more isDigit c s f in
     let skip = after-more isDigit c s f in
-    let parts = both (wholeGood (c ∷ front isDigit s)) (fractionGood d (after isDigit s)) (rw (go-on, skip) at e) in
+    let parts = both (wholeGood (c ∷ front isDigit s)) (fractionGood d (after isDigit s)) (rw (digit-first d c s f, go-on, skip) at e) in
+    let whole = parts .0 in
     let rest = fraction-digits d (after isDigit s) (parts .1) in
     rw (go-on, skip)
-    (count-shows _ _ (whole-most c (front isDigit s) _ (parts .0) (rest .0)) (whole-least c (front isDigit s) _ (parts .0) (omega arith))))
-    (λ f. contra e (rw (front-ends isDigit c s f)))
+    (count-shows _ _ (whole-most c (front isDigit s) _ whole (rest .0)) (whole-least c (front isDigit s) _ whole (omega arith))))
+    (λ f.
+    let parts = both (wholeAccepted d (c ∷ s)) (fractionGood d (c ∷ s)) (rw (missing-fraction c s f) at e) in
+    let rest = fraction-digits d (c ∷ s) (parts .1) in
+    rw (missing-digits c s f) (count-shows _ _ (number-bound s (rest .0)) (λ many. absurd (omega (arith, rest .1)))))
 
 -- 6 comes before all else
 pub refused-6 : (s : List ℕ) (d : ℕ) → formatGood (length s) d ≡ false → readNumber s d ≡ Refused 6

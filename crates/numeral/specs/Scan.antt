@@ -25,13 +25,25 @@ refusedAt c = cond (eqb comma c) phase.Comma phase.Bad
 abbrev pub firstDigit : ℕ → Phase
 firstDigit c = cond (eqb c zeroDigit) phase.Zero phase.Whole
 
+-- the character c is the point of a text with d decimals, which has one "where decimals d > 0"
+abbrev pub isPoint : ℕ → ℕ → Bool
+isPoint d c = eqb c point && leb 1 d
+
 -- the phase after the character c behind the whole part, in a field of d decimals
 abbrev pub wholeEnd : ℕ → ℕ → Phase
-wholeEnd d c = cond (eqb c point && leb 1 d) (phase.Fraction d) (refusedAt c)
+wholeEnd d c = cond (isPoint d c) (phase.Fraction d) (refusedAt c)
+
+-- the phase after the character c, no digit, at which the whole part should begin, in a field of d decimals
+abbrev pub wholeStart : ℕ → ℕ → Phase
+wholeStart d c = cond (isPoint d c) (phase.Dropped d) (refusedAt c)
 
 -- the phase after a digit behind the point, if `left` digits were to come
 abbrev pub nextPlace : ℕ → Phase
 nextPlace left = cond (leb 1 left) (phase.Fraction (left - 1)) phase.Bad
+
+-- the phase after a zero behind a point without a whole part, if `left` digits were to come
+abbrev pub nextZero : ℕ → Phase
+nextZero left = cond (leb 1 left) (phase.Dropped (left - 1)) phase.Bad
 
 -- the number n of the digits so far with the digit c behind them; a number of more than 18 digits stays, so that nothing overflows
 unfoldable pub nextValue : ℕ → ℕ → ℕ
@@ -51,7 +63,7 @@ byDigit r c p q = cond (isDigit c) (withDigit r p c) (inPhase r q)
 
 -- the state r after the character c, if the sign was taken before it, or there is none
 abbrev pub afterSign : Reader → ℕ → Reader
-afterSign r c = byDigit r c (firstDigit c) (refusedAt c)
+afterSign r c = byDigit r c (firstDigit c) (wholeStart (r .decimals) c)
 
 -- the state r after the character c, if only blanks were taken before it: a blank leaves it among the blanks
 abbrev pub afterBlanks : Reader → ℕ → Reader
@@ -68,6 +80,11 @@ afterWhole r c = byDigit r c phase.Whole (wholeEnd (r .decimals) c)
 abbrev pub afterPoint : Reader → ℕ → ℕ → Reader
 afterPoint r left c = byDigit r c (nextPlace left) (refusedAt c)
 
+-- the state r after the character c, if the whole part is missing, zeros alone were taken behind the point and `left` digits are to come: a digit that is
+-- no zero makes the text one with a fraction like any other
+abbrev pub afterDropped : Reader → ℕ → ℕ → Reader
+afterDropped r left c = cond (eqb zeroDigit c) (inPhase r (nextZero left)) (afterPoint r left c)
+
 -- the state r, which stands in the phase p, after the character c
 abbrev pub stepIn : Phase → Reader → ℕ → Reader
 stepIn phase.Blank r c = afterBlanks r c
@@ -75,6 +92,7 @@ stepIn phase.Minus r c = afterSign r c
 stepIn phase.Zero r c = inPhase r (wholeEnd (r .decimals) c)
 stepIn phase.Whole r c = afterWhole r c
 stepIn (phase.Fraction left) r c = afterPoint r left c
+stepIn (phase.Dropped left) r c = afterDropped r left c
 stepIn phase.Comma r c = inPhase r phase.Comma
 stepIn phase.Bad r c = inPhase r (refusedAt c)
 
@@ -99,6 +117,7 @@ ended phase.Minus r = number.Refused 17
 ended phase.Zero r = settled (eqb (r .decimals) 0) (r .negative) (r .value)
 ended phase.Whole r = settled (eqb (r .decimals) 0) (r .negative) (r .value)
 ended (phase.Fraction left) r = settled (eqb left 0) (r .negative) (r .value)
+ended (phase.Dropped left) r = number.Refused 17
 ended phase.Comma r = number.Refused 16
 ended phase.Bad r = number.Refused 17
 

@@ -15,10 +15,11 @@ use Rattle.octets.specs.Text.{every, blank, unpadded, zeroDigit, isDigit, numbe
 use Rattle.octets.specs.TextLaws.{digit-range}
 use Rattle.numeral.specs.Format.{formatGood, maxDigits, comma, minus, point}
 use Rattle.numeral.specs.Reading.{some, after, front, hasMinus, withoutMinus, wholeGood, fractionGood, wholePart, fraction, withoutPoint, digits}
-use Rattle.numeral.specs.Reading.{textGood, valueOf, digitCount, readNumber, signed}
-use Rattle.numeral.specs.ReadingLaws.{format-decimals, no-comma, front-more, front-ends, after-more, after-ends, every-front, none-whole, zero-whole}
-use Rattle.numeral.specs.ReadingLaws.{zero-needless, digits-whole, fraction-empty, fraction-point, count-number}
-use Rattle.numeral.specs.Scan.{initial, wholeEnd, nextPlace, nextValue, stepIn, step, scan, settled, meaning}
+use Rattle.numeral.specs.Reading.{wholeMissing, zeroDropped, wholeAccepted, textGood, valueOf, digitCount, readNumber, signed}
+use Rattle.numeral.specs.ReadingLaws.{format-decimals, no-comma, front-more, front-ends, after-more, after-ends, every-front, zero-whole}
+use Rattle.numeral.specs.ReadingLaws.{zero-needless, digits-whole, fraction-empty, fraction-point, digit-first, missing-digits, missing-good}
+use Rattle.numeral.specs.ReadingLaws.{count-number}
+use Rattle.numeral.specs.Scan.{initial, wholeEnd, nextPlace, nextZero, nextValue, stepIn, step, scan, settled, meaning}
 use Rattle.numeral.specs.declared.Number.{Number}
 use Rattle.numeral.specs.declared.Number.the-variants as number
 use Rattle.numeral.specs.declared.Reader.{Reader}
@@ -61,6 +62,7 @@ comma-taken phase.Minus r = refl
 comma-taken phase.Zero r = refl
 comma-taken phase.Whole r = refl
 comma-taken (phase.Fraction left) r = refl
+comma-taken (phase.Dropped left) r = refl
 comma-taken phase.Comma r = refl
 comma-taken phase.Bad r = refl
 
@@ -88,6 +90,11 @@ bad-means : (r : Reader) (c : ℕ) (s : List ℕ) (good n : Bool) (m : ℕ) → 
     → meaning (scan r (c ∷ s)) ≡ settled good n m
 unfolding scan settled
 bad-means r c s good n m e f g = rw g (bad-stays s (step r c) e f)
+
+-- an incomplete text is 17
+incomplete : (n : Bool) (m : ℕ) → number.Refused 17 ≡ settled false n m
+unfolding settled
+incomplete n m = refl
 
 -- a digit is no point
 no-point : (c : ℕ) → isDigit c ≡ true → eqb c point ≡ false
@@ -122,6 +129,34 @@ module _ (d : ℕ) where
       rw (scan-to here c s next, f, eqb·suc-suc (length s) left)
       (fraction-means s left n (nextValue v c) (10 * m + (c - zeroDigit)) (agree-next v m c a) (clear .1)))
       (λ f. bad-means here c s _ n _ (rw (f, clear .0)) (clear .1) (rw f))
+
+  -- behind a point without a whole part, with zeros alone so far and `left` digits to come
+  next-zero : (left : ℕ) → nextZero (suc left) ≡ phase.Dropped left
+  next-zero left =
+      let one : suc left - 1 ≡ left = omega arith in
+      rw (le-leb 1 (suc left) (omega arith), one)
+
+  dropped-means : (s : List ℕ) (left : ℕ) (n : Bool) → some (eqb comma) s ≡ false
+      → meaning (scan (state (phase.Dropped left) n 0) s)
+      ≡ settled (not (every (eqb zeroDigit) s) && (every isDigit s && eqb (length s) left)) n (numberOf s)
+  unfolding scan step meaning every numberOf numberFrom
+  dropped-means [] left n e = incomplete n 0
+  dropped-means (c ∷ s) zero n e =
+      let clear = no-comma c s e in
+      let here = state (phase.Dropped 0) n 0 in
+      let past : step here c .phase ≡ phase.Bad = either (eqb zeroDigit c) (λ f. rw f) (λ f. either (isDigit c) (λ g. rw (f, g)) (λ g. rw (f, g, clear .0))) in
+      bad-means here c s _ n _ past (clear .1)
+      (rw (eqb·suc-zero (length s), and-false (every isDigit (c ∷ s))) (and-false (not (every (eqb zeroDigit) (c ∷ s)))))
+  dropped-means (c ∷ s) (suc left) n e =
+      let here = state (phase.Dropped (suc left)) n 0 in
+      either (eqb zeroDigit c)
+      (λ f.
+      let same : c ≡ zeroDigit = sym (eqb-true zeroDigit c f) in
+      let next : step here zeroDigit ≡ state (phase.Dropped left) n 0 = rw (next-zero left) in
+      rw (same, scan-to here zeroDigit s next, eqb·suc-suc (length s) left) (dropped-means s left n (no-comma c s e .1)))
+      (λ f.
+      let next : step here c ≡ step (state (phase.Fraction (suc left)) n 0) c = rw f in
+      rw (scan-to here c s next, f) (fraction-means (c ∷ s) (suc left) n 0 0 refl e))
 
   -- behind the whole part
   end-means : (p : Phase) (n : Bool) (v m c : ℕ) (s : List ℕ) → Agree v m → some (eqb comma) (c ∷ s) ≡ false
@@ -160,11 +195,11 @@ module _ (d : ℕ) where
 
   -- what a text means that begins with its whole part
   abbrev meant : Bool → List ℕ → Number
-  meant n s = settled (wholeGood (wholePart s) && fractionGood d (fraction s)) n (numberOf (digits s))
+  meant n s = settled (wholeAccepted d s && fractionGood d (fraction s)) n (numberOf (digits s))
 
   nothing-means : (n : Bool) → number.Refused 17 ≡ meant n []
-  unfolding settled front wholePart wholeGood
-  nothing-means n = refl
+  unfolding front after wholePart fraction withoutPoint digits wholeGood zeroDropped every
+  nothing-means n = rw (and-false (wholeMissing [] && leb 1 d)) (incomplete n _)
 
   unsigned-means : (s : List ℕ) (n : Bool) → some (eqb comma) s ≡ false → meaning (scan (state phase.Minus n 0) s) ≡ meant n s
   unfolding scan step meaning nextValue fraction wholePart digits numberOf numberFrom
@@ -173,7 +208,7 @@ module _ (d : ℕ) where
       let clear = no-comma c s e in
       let here = state phase.Minus n 0 in
       either (isDigit c)
-      (λ f. rw (front-more isDigit c s f, after-more isDigit c s f) (either (eqb c zeroDigit)
+      (λ f. rw (digit-first d c s f, front-more isDigit c s f, after-more isDigit c s f) (either (eqb c zeroDigit)
       (λ g.
       let same : c ≡ zeroDigit = eqb-true c zeroDigit g in
       rw (same, scan-to here zeroDigit s refl) (zero-means s n (clear .1)))
@@ -181,7 +216,11 @@ module _ (d : ℕ) where
       let next : step here c ≡ state phase.Whole n (nextValue 0 c) = rw (f, g) in
       rw (scan-to here c s next, digits-whole c (front isDigit s) f g (every-front isDigit s))
       (whole-means s n (nextValue 0 c) (10 * 0 + (c - zeroDigit)) (agree-next 0 0 c refl) (clear .1)))))
-      (λ f. bad-means here c s _ n _ (rw (f, clear .0)) (clear .1) (rw (front-ends isDigit c s f, none-whole)))
+      (λ f. rw (missing-good c s f d, missing-digits c s f) (either (eqb c point && leb 1 d)
+      (λ g.
+      let next : step here c ≡ state (phase.Dropped d) n 0 = rw (f, g) in
+      rw (scan-to here c s next, g) (dropped-means s d n (clear .1)))
+      (λ g. bad-means here c s _ n _ (rw (f, g, clear .0)) (clear .1) (rw g))))
 
   -- an optional minus: the first character that is no blank
   sign-means : (c : ℕ) (s : List ℕ) → eqb blank c ≡ false → some (eqb comma) (c ∷ s) ≡ false

@@ -1,9 +1,10 @@
--- Rules: the one text of a value. `writeNumber` is what `write_number` answers and leaves in the buffer, in document 01's order: 6, 18, 19. Cited by
--- `write_number`.
+-- Rules: the one written text of a value, and its accepted texts. `writeNumber` is what `write_number` answers and leaves in the buffer, in document 01's
+-- order: 6, 18, 19. Cited by `write_number`; `TextOf` by demand 2's laws.
 use Prim.Native.Nat.{ℕ, zero, suc, _-_, _/_, _^_, _≤_, _<_}
 use mathlib.Core.Path.{_≡_}
 use mathlib.Core.Bool.{true, false}
 use mathlib.Core.List.{List, [], _∷_, _++_}
+use mathlib.Core.Logic.{_⊎_}
 use lib.Dec.{leb, ltb}
 use lib.ListN.{length, replicate}
 use lib.IntN.{ℤ, pos, negsuc, natAbs}
@@ -26,6 +27,10 @@ signText (negsuc n) = minus ∷ []
 unfoldable pub numberText : ℕ → ℤ → List ℕ
 numberText d v = signText v ++ (decimal (natAbs v / 10 ^ d) ++ fractionText d (natAbs v))
 
+-- K4: the characters of a value without the digits before the point. They are read if those digits are a zero and the value is not, and never written
+unfoldable pub shortText : ℕ → ℤ → List ℕ
+shortText d v = signText v ++ fractionText d (natAbs v)
+
 -- "that one text, blanks on the left"
 unfoldable pub written : ℕ → ℕ → ℤ → List ℕ
 written width d v = replicate (width - length (numberText d v)) blank ++ numberText d v
@@ -38,6 +43,17 @@ pub record Fits (width d : ℕ) (v : ℤ) : Type 0 where
   pub small : natAbs v < 10 ^ maxDigits
   -- not 19, "value's text longer than the field"
   pub room : length (numberText d v) ≤ width
+
+-- K4: the values that are read from their `shortText`
+pub record Short (d : ℕ) (v : ℤ) : Type 0 where
+  -- "such a whole part is zero"
+  pub whole : natAbs v / 10 ^ d ≡ 0
+  -- "at least one digit isn't zero"
+  pub some : 0 < natAbs v
+
+-- the accepted texts of a value, blanks aside: its written text and, if its whole part is zero and the value isn't, the same without the zero
+abbrev pub TextOf : ℕ → ℤ → List ℕ → Type 0
+TextOf d v t = (t ≡ numberText d v) ⊎ (Short d v × (t ≡ shortText d v))
 
 -- a buffer after a write, and the answer
 pub record AfterWrite : Type 0 where

@@ -56,11 +56,11 @@ rest-digit count n i h l =
 
 -- ---- the written text, stored part after part from the right
 
-pub length-number : (d : ℕ) (v : ℤ) → length (numberText d v) ≡ length (signText v) + length (decimal (natAbs v / 10 ^ d)) + length (fractionText d (natAbs v))
+length-number : (d : ℕ) (v : ℤ) → length (numberText d v) ≡ length (signText v) + length (decimal (natAbs v / 10 ^ d)) + length (fractionText d (natAbs v))
 unfolding numberText
 length-number d v = rw (length-append, length-append) (omega arith)
 
-pub length-written : (width d : ℕ) (v : ℤ) → length (written width d v) ≡ width - length (numberText d v) + length (numberText d v)
+length-written : (width d : ℕ) (v : ℤ) → length (written width d v) ≡ width - length (numberText d v) + length (numberText d v)
 unfolding written
 length-written width d v = rw (length-append, length-replicate)
 
@@ -114,7 +114,7 @@ module _ (s : List ℕ) (d : ℕ) (v : ℤ) where
   unfolding writeNumber
   refused-digits e l = rw (e, writeNumber, le-ltb (natAbs v) (10 ^ maxDigits) l)
 
-  refused-width : formatGood (length s) d ≡ true → natAbs v < 10 ^ maxDigits → length s < length (numberText d v)
+  pub refused-width : formatGood (length s) d ≡ true → natAbs v < 10 ^ maxDigits → length s < length (numberText d v)
       → writeNumber s d v ≡ afterWrite s (Refused 19)
   unfolding writeNumber
   refused-width e l m = rw (e, writeNumber, lt-ltb (natAbs v) (10 ^ maxDigits) l, lt-leb (length (numberText d v)) (length s) m)

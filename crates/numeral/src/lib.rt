@@ -1,4 +1,4 @@
-// Numeric text: what the characters of an N field mean, and the one text of a value.
+// Numeric text: what the characters of an N field mean, and the one written text of a value.
 use octets::is_digit;
 ghost use mathlib.Core.Path.{_≡_};
 ghost use mathlib.Core.Bool.{true};
@@ -9,8 +9,8 @@ ghost use Rattle.octets.specs.Store.{put};
 ghost use Rattle.octets.specs.Text.{isDigit, lastDigits, decimal};
 ghost use Rattle.numeral.specs.Format.{maxWidth, maxDecimals, maxDigits, formatGood};
 ghost use Rattle.numeral.specs.Reading.{readNumber, signed};
-ghost use Rattle.numeral.specs.Scan.{initial, refusedAt, firstDigit, wholeEnd, nextPlace, nextValue, inPhase, withDigit};
-ghost use Rattle.numeral.specs.Scan.{afterSign, afterBlanks, afterWhole, afterPoint, step, scan, settled, meaning};
+ghost use Rattle.numeral.specs.Scan.{initial, refusedAt, firstDigit, isPoint, wholeEnd, wholeStart, nextPlace, nextZero, nextValue, inPhase, withDigit};
+ghost use Rattle.numeral.specs.Scan.{afterSign, afterBlanks, afterWhole, afterPoint, afterDropped, step, scan, settled, meaning};
 ghost use Rattle.numeral.specs.Writing.{fractionText, signText, afterWrite, writeNumber};
 
 // The widest field, and the most decimals.
@@ -35,14 +35,16 @@ pub enum Writing {
 }
 
 // Where the reader stands in a text: among the blanks, after the minus, after a zero that begins the whole part, among a whole part that begins
-// with another digit, behind the point with the number of digits to come; or in a text that is refused, for a comma or otherwise. The digits to come
-// are a u64: the compiler packs a u32 into one word with the phase, which is slower.
+// with another digit, behind the point with the number of digits to come; behind a point without a whole part, with zeros alone so far and the number
+// of digits to come; or in a text that is refused, for a comma or otherwise. The digits to come are a u64: the compiler packs a u32 into one word with
+// the phase, which is slower.
 pub enum Phase {
     Blank,
     Minus,
     Zero,
     Whole,
     Fraction(u64),
+    Dropped(u64),
     Comma,
     Bad,
 }
@@ -82,12 +84,29 @@ fn first_digit(c: u8) -> Phase
     Phase::Whole
 }
 
+// Whether the character c is the point of a text with this many decimals: one without decimals has none.
+fn is_point(decimals: u32, c: u8) -> bool
+    ensures { λ r. ⌜ r ≡ isPoint decimals c ⌝ }
+{
+    (c == b'.') & (1 <= decimals)
+}
+
 // The phase after the character c behind the whole part.
 fn whole_end(decimals: u32, c: u8) -> Phase
     ensures { λ r. ⌜ r ≡ wholeEnd decimals c ⌝ }
 {
-    if (c == b'.') & (1 <= decimals) {
+    if is_point(decimals, c) {
         return Phase::Fraction(decimals as u64);
+    }
+    refused_at(c)
+}
+
+// The phase after the character c, no digit, at which the whole part should begin: the zero before a point may be dropped.
+fn whole_start(decimals: u32, c: u8) -> Phase
+    ensures { λ r. ⌜ r ≡ wholeStart decimals c ⌝ }
+{
+    if is_point(decimals, c) {
+        return Phase::Dropped(decimals as u64);
     }
     refused_at(c)
 }
@@ -98,6 +117,16 @@ fn next_place(left: u64) -> Phase
 {
     if 1 <= left {
         return Phase::Fraction(left - 1);
+    }
+    Phase::Bad
+}
+
+// The phase after a zero behind a point without a whole part, if `left` digits were to come.
+fn next_zero(left: u64) -> Phase
+    ensures { λ r. ⌜ r ≡ nextZero left ⌝ }
+{
+    if 1 <= left {
+        return Phase::Dropped(left - 1);
     }
     Phase::Bad
 }
@@ -158,7 +187,7 @@ impl Reader {
         if is_digit(c) {
             return self.with_digit(first_digit(c), c);
         }
-        self.in_phase(refused_at(c))
+        self.in_phase(whole_start(self.decimals, c))
     }
 
     // The state after the character c, if only blanks were taken before it.
@@ -199,6 +228,16 @@ impl Reader {
         self.in_phase(refused_at(c))
     }
 
+    // The state after the character c, if the whole part is missing, zeros alone were taken behind the point and `left` digits are to come.
+    fn after_dropped(self, left: u64, c: u8) -> Reader
+        ensures { λ r. ⌜ r ≡ afterDropped self left c ⌝ }
+    {
+        if c == b'0' {
+            return self.in_phase(next_zero(left));
+        }
+        self.after_point(left, c)
+    }
+
     // The state after the character c. Each phase tests first what is likely there.
     fn take(self, c: u8) -> Reader
         ensures { λ r. ⌜ r ≡ step self c ⌝ }
@@ -210,6 +249,7 @@ impl Reader {
             Phase::Zero => self.in_phase(whole_end(self.decimals, c)),
             Phase::Whole => self.after_whole(c),
             Phase::Fraction(left) => self.after_point(left, c),
+            Phase::Dropped(left) => self.after_dropped(left, c),
             Phase::Comma => self.in_phase(Phase::Comma),
             Phase::Bad => self.in_phase(refused_at(c)),
         }
@@ -239,6 +279,7 @@ impl Reader {
             Phase::Zero => settle(self.decimals == 0, self.negative, self.value),
             Phase::Whole => settle(self.decimals == 0, self.negative, self.value),
             Phase::Fraction(left) => settle(left == 0, self.negative, self.value),
+            Phase::Dropped(_) => Number::Refused(refusal::NOT_A_NUMBER),
             Phase::Comma => Number::Refused(refusal::COMMA),
             Phase::Bad => Number::Refused(refusal::NOT_A_NUMBER),
         }
@@ -349,7 +390,8 @@ fn put_fraction(text: &mut [u8], at: usize, places: usize, n: u64) -> u64
     whole
 }
 
-// Writes the one text of a value, blanks on the left. The buffer's length is the field's width. A refusal leaves the buffer as it was.
+// Writes the one written text of a value, blanks on the left: the zero before the point is never dropped. The buffer's length is the field's width. A
+// refusal leaves the buffer as it was.
 pub fn write_number(text: &mut [u8], decimals: u32, value: i64) -> Writing
     ensures { λ r. ⌜ writeNumber (now (text .entry)) decimals value ≡ afterWrite (now (text .exit)) r ⌝ }
 {

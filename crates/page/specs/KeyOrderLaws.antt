@@ -29,6 +29,11 @@ equal-same a b e = either (bytesLe a b)
     (λ p. either (bytesLe b a) (λ q. le-antisym a b p q) (λ q. contra e (rw (p, q))))
     (λ p. contra e (rw p))
 
+-- of strings a at or above b, those at or below b are equal to it
+pub equal-le : (a b : List ℕ) → bytesLe b a ≡ true → isEqual (ordering a b) ≡ bytesLe a b
+unfolding ordering
+equal-le a b h = either (bytesLe a b) (λ p. rw (p, h)) (λ p. rw p)
+
 pub equal-refl : (a : List ℕ) → isEqual (ordering a a) ≡ true
 unfolding ordering
 equal-refl a = rw (le-refl a)

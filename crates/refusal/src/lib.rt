@@ -102,6 +102,25 @@ pub const INDEX_AND_TABLE_DIFFER: u32 = 31;
 // The key that is offered to the index has a control byte, one below 0x20.
 pub const CONTROL_BYTE: u32 = 32;
 
+// ---- The dilution of a sample.
+
+// The barcode is absent from the index, or its record is deleted.
+pub const BARCODE_ABSENT: u32 = 35;
+
+// The concentration is empty, zero or negative.
+pub const NO_CONCENTRATION: u32 = 36;
+
+// The target or the final volume is out of its range.
+pub const TARGET_OR_VOLUME: u32 = 37;
+
+// The target is above the concentration.
+pub const TARGET_ABOVE_CONCENTRATION: u32 = 38;
+
+// ---- A program's arguments.
+
+// Other arguments or input, or a file that can't be read or is too long.
+pub const ARGUMENTS_OR_FILES: u32 = 40;
+
 // ---- Answers that are no refusals. 0 is an accepted call's.
 
 // The field or the numeric text holds blanks.

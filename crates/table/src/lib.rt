@@ -121,7 +121,7 @@ fn record_length(table: &[u8]) -> usize
     octets::load_le16(table, 10) as usize
 }
 
-fn record_count(table: &[u8]) -> u32
+pub fn record_count(table: &[u8]) -> u32
     requires { ⌜ minTable ≤ length (now table) ⌝ }
     ensures { λ r. ⌜ r ≡ recordCount (now (table .entry)) ⌝ }
 {

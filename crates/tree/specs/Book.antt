@@ -6,7 +6,7 @@ use mathlib.Core.Option.{Option, none, some}
 use Prim.Native.Nat.{ℕ}
 use lib.Dec.{eqb}
 use Rattle.tree.specs.Order.{Order}
-use Rattle.tree.specs.Pairs.{get, insertPair}
+use Rattle.tree.specs.Pairs.{get, byKey, has, insertPair}
 
 -- the arguments of a call, "the buffer left out"
 pub data Call (K : Type 0) : Type 0 where
@@ -25,11 +25,6 @@ abbrev pub refusedIf : Bool → ℕ → Answer → Answer
 refusedIf true n a = refused n
 refusedIf false n a = a
 
--- a key was found
-abbrev pub isPresent : Option ℕ → Bool
-isPresent none = false
-isPresent (some r) = true
-
 -- what is asked of a call's key: of every key, that it fits the index, "a key not of k bytes is 27"; of an insertion's key, that it is not barred, "a key
 -- with any byte below 0x20, number 32"
 pub record KeyTests (K : Type 0) : Type 0 where
@@ -37,9 +32,9 @@ pub record KeyTests (K : Type 0) : Type 0 where
   pub barred : K → Bool
 
 -- insertion: "a key not of k bytes is 27", 32 "after 27 and before 28", "else record number 0 is 28, else a key in the book 29"; then 30 or accepted
-abbrev pub verdict : Bool → Bool → ℕ → Option ℕ → Bool → Answer
+abbrev pub verdict : Bool → Bool → ℕ → Bool → Bool → Answer
 verdict fits barred r held full =
-    refusedIf (not fits) 27 (refusedIf barred 32 (refusedIf (eqb r 0) 28 (refusedIf (isPresent held) 29 (refusedIf full 30 accepted))))
+    refusedIf (not fits) 27 (refusedIf barred 32 (refusedIf (eqb r 0) 28 (refusedIf held 29 (refusedIf full 30 accepted))))
 
 -- what a lookup that is not refused answers
 abbrev pub foundOrAbsent : Option ℕ → Answer
@@ -80,12 +75,12 @@ finalOf next (c ∷ cs) b = finalOf next cs (next c b)
 module _ {K : Type 0} (O : Order K) (tests : KeyTests K) where
   -- the book's answer to a call, told whether the answer was 30
   abbrev pub bookAnswer : Call K → Bool → List (K × ℕ) → Answer
-  bookAnswer (insertion k r) full book = verdict (tests .fits k) (tests .barred k) r (get O k book) full
+  bookAnswer (insertion k r) full book = verdict (tests .fits k) (tests .barred k) r (has (byKey O) (k, r) book) full
   bookAnswer (lookupOf k) full book = finding (tests .fits k) (get O k book)
 
   -- the book after a call: "none of these changes the book, nor does 30. Otherwise it is accepted and its pair goes in"
   abbrev pub bookAfter : Call K → Bool → List (K × ℕ) → List (K × ℕ)
-  bookAfter (insertion k r) full book = cond (isAccepted (bookAnswer (insertion k r) full book)) (insertPair O k r book) book
+  bookAfter (insertion k r) full book = cond (isAccepted (bookAnswer (insertion k r) full book)) (insertPair (byKey O) (k, r) book) book
   bookAfter (lookupOf k) full book = book
 
   -- the book's answers to a list of calls, and the book after it

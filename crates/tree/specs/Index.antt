@@ -5,9 +5,10 @@ use Prim.Native.Nat.{ℕ, _*_}
 use lib.Dec.{ltb}
 use Rattle.tree.specs.Constants.{pageSize, noPage}
 use Rattle.tree.specs.Order.{Order}
-use Rattle.tree.specs.Pairs.{find}
+use Rattle.tree.specs.Pairs.{has}
 use Rattle.tree.specs.Tree.{Tree, pairs, lookup}
 use Rattle.tree.specs.Clauses.{Links}
+use Rattle.tree.specs.Keeping.{Keeping, distinctKeys}
 use Rattle.tree.specs.Insertion.{Grown, insert}
 use Rattle.tree.specs.Room.{needs, levelsAfter}
 use Rattle.tree.specs.Relinking.{relinked}
@@ -41,31 +42,35 @@ pub record Setting (K : Type 0) : Type 0 where
   pub maxLevels : ℕ
 
 module _ {K : Type 0} (s : Setting K) where
-  -- the rule for 30, of an insertion's key and of a call: "30 is given exactly when F would pass the buffer or 1,048,576, or levels would pass 11"
-  abbrev pub outOfRoom : K → Index K → Bool
-  outOfRoom k i =
-      ltb (s .maxSize) (sizeAfter (i .size) (needs (s .order) (s .capacity) k (i .height) (i .tree)))
-      || ltb (s .maxLevels) (levelsAfter (s .order) (s .capacity) k (i .height) (i .tree))
+  -- features 1: keys are distinct
+  abbrev pub keptBy : Keeping K
+  keptBy = distinctKeys (s .order)
+
+  -- the rule for 30, of an insertion's pair and of a call: "30 is given exactly when F would pass the buffer or 1,048,576, or levels would pass 11"
+  abbrev pub outOfRoom : K × ℕ → Index K → Bool
+  outOfRoom e i =
+      ltb (s .maxSize) (sizeAfter (i .size) (needs (keptBy .route e) (s .capacity) (i .height) (i .tree)))
+      || ltb (s .maxLevels) (levelsAfter (keptBy .route e) (s .capacity) (i .height) (i .tree))
 
   abbrev pub noRoomFor : Call K → Index K → Bool
-  noRoomFor (insertion k r) i = outOfRoom k i
+  noRoomFor (insertion k r) i = outOfRoom (k, r) i
   noRoomFor (lookupOf k) i = false
 
   -- the answer to a call
   abbrev pub answer : KeyTests K → Call K → Index K → Answer
-  answer tests (insertion k r) i = verdict (tests .fits k) (tests .barred k) r (find (s .order) k (held i)) (outOfRoom k i)
+  answer tests (insertion k r) i = verdict (tests .fits k) (tests .barred k) r (has (keptBy .pairLe) (k, r) (held i)) (outOfRoom (k, r) i)
   answer tests (lookupOf k) i = finding (tests .fits k) (lookup (s .order) k (i .height) (i .tree))
 
   -- the index after an accepted insertion, and after a call
-  abbrev pub inserted : K → ℕ → Index K → Index K
-  inserted k r i = grown (i .size) (insert (s .order) (s .capacity) (takenPage (i .size)) k r (i .height) (i .tree))
+  abbrev pub inserted : K × ℕ → Index K → Index K
+  inserted e i = grown (i .size) (insert keptBy (s .capacity) (takenPage (i .size)) e (i .height) (i .tree))
 
   abbrev pub next : KeyTests K → Call K → Index K → Index K
-  next tests (insertion k r) i = cond (isAccepted (answer tests (insertion k r) i)) (inserted k r i) i
+  next tests (insertion k r) i = cond (isAccepted (answer tests (insertion k r) i)) (inserted (k, r) i) i
   next tests (lookupOf k) i = i
 
   -- the links after an accepted insertion
-  abbrev pub insertedLinks : K → ℕ → Index K → Links → Links
-  insertedLinks k r i l =
-      relinked (s .order) noPage (takenPage (i .size)) (s .capacity) k (i .height) (i .tree)
-      (insert (s .order) (s .capacity) (takenPage (i .size)) k r (i .height) (i .tree)) l
+  abbrev pub insertedLinks : K × ℕ → Index K → Links → Links
+  insertedLinks e i l =
+      relinked (keptBy .route e) noPage (takenPage (i .size)) (s .capacity) (i .height) (i .tree)
+      (insert keptBy (s .capacity) (takenPage (i .size)) e (i .height) (i .tree)) l

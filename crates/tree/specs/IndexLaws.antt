@@ -2,7 +2,6 @@
 -- about lists of calls and by the laws of bytes. Assumes nothing.
 use mathlib.Core.Path.{_≡_, refl, sym}
 use mathlib.Core.Bool.{Bool, true, false, not, _||_}
-use mathlib.Core.Option.{Option, none, some}
 use Prim.Native.Nat.{ℕ, suc, _+_, _*_, _%_, _≤_, _<_}
 use native.Mathlib.Omega.{arith}
 use lib.Dec.{ltb, eqb}
@@ -10,13 +9,14 @@ use borrow.Author.Tests.{ltb-true, ltb-false, eqb-true, eqb-false, eq-eqb, ne-eq
 use Rattle.basis.specs.Tests.{either, contra}
 use Rattle.tree.specs.Constants.{pageSize, noPage}
 use Rattle.tree.specs.Lists.{occ}
-use Rattle.tree.specs.Pairs.{find}
+use Rattle.tree.specs.Pairs.{has}
 use Rattle.tree.specs.PairLaws.{find-get, insertPair-all}
 use Rattle.tree.specs.Tree.{pages}
 use Rattle.tree.specs.Clauses.{Links}
 use Rattle.tree.specs.Insertion.{Grown, grownPages, insert}
 use Rattle.tree.specs.Room.{needs, levelsAfter}
 use Rattle.tree.specs.Ordered.{Rooted, lookup-find, ordered-ascending}
+use Rattle.tree.specs.RouteLaws.{Leading, distinct-leading}
 use Rattle.tree.specs.InsertPairs.{insert-pairs}
 use Rattle.tree.specs.InsertOrdered.{insert-ordered}
 use Rattle.tree.specs.ClauseLaws.{sized-rooted}
@@ -26,15 +26,15 @@ use Rattle.tree.specs.SupplyLaws.{taken-injective, taken-some, taken-bel
 use Rattle.tree.specs.InsertPages.{newPages, Distinct, Unused, insert-pages}
 use Rattle.tree.specs.InsertNeeds.{insert-needs}
 use Rattle.tree.specs.InsertLinks.{insert-all-linked}
-use Rattle.tree.specs.Book.{Call, insertion, lookupOf, Answer, KeyTests, accepted, refusedIf, isPresent, verdict, isNoRoom, isAccepted}
+use Rattle.tree.specs.Book.{Call, insertion, lookupOf, Answer, KeyTests, accepted, refusedIf, verdict, isNoRoom, isAccepted}
 use Rattle.tree.specs.Book.{bookAnswer, bookAfter}
-use Rattle.tree.specs.Index.{Index, held, fresh, grown, Setting, outOfRoom, noRoomFor, answer, inserted, insertedLinks, next}
+use Rattle.tree.specs.Index.{Index, held, fresh, grown, Setting, keptBy, outOfRoom, noRoomFor, answer, inserted, insertedLinks, next}
 use Rattle.tree.specs.SoundIndex.{PagesOnce, SoundIndex, LinkedIndex}
 
 -- the verdict on an insertion does not change if it is told whether it was 30
-verdict-room : (fits barred : Bool) (r : ℕ) (held : Option ℕ) (full : Bool) →
+verdict-room : (fits barred : Bool) (r : ℕ) (held full : Bool) →
     verdict fits barred r held (isNoRoom (verdict fits barred r held full)) ≡ verdict fits barred r held full
-verdict-room fits barred r held full = go (not fits) barred (eqb r 0) (isPresent held) full
+verdict-room fits barred r held full = go (not fits) barred (eqb r 0) held full
   where
     five : Bool → Bool → Bool → Bool → Bool → Answer
     five a b c d e = refusedIf a 27 (refusedIf b 32 (refusedIf c 28 (refusedIf d 29 (refusedIf e 30 accepted))))
@@ -48,13 +48,13 @@ verdict-room fits barred r held full = go (not fits) barred (eqb r 0) (isPresent
     go false false false false false = refl
 
 -- the verdict is yes only if no refusal's test holds
-pub record Acceptable (fits : Bool) (r : ℕ) (held : Option ℕ) (full : Bool) : Type 0 where
+pub record Acceptable (fits : Bool) (r : ℕ) (held full : Bool) : Type 0 where
   pub fitting : fits ≡ true
   pub positive : 0 < r
-  pub new : held ≡ none
+  pub new : held ≡ false
   pub room : full ≡ false
 
-pub accepted-acceptable : (fits barred : Bool) (r : ℕ) (held : Option ℕ) (full : Bool) → isAccepted (verdict fits barred r held full) ≡ true →
+pub accepted-acceptable : (fits barred : Bool) (r : ℕ) (held full : Bool) → isAccepted (verdict fits barred r held full) ≡ true →
     Acceptable fits r held full
 accepted-acceptable false barred r held full e = contra e refl
 accepted-acceptable true true r held full e = contra e refl
@@ -62,11 +62,10 @@ accepted-acceptable true false r held full e = either (eqb r 0)
     (λ z. contra (rw z at e) refl)
     (λ z. go held full (omega (arith, eqb-false r 0 z)) (rw z at e))
   where
-    go : (o : Option ℕ) (b : Bool) → 0 < r → isAccepted (refusedIf (isPresent o) 29 (refusedIf b 30 accepted)) ≡ true →
-        Acceptable true r o b
-    go (some s) b p q = contra q refl
-    go none true p q = contra q refl
-    go none false p q = record { fitting = refl; positive = p; new = refl; room = refl }
+    go : (h f : Bool) → 0 < r → isAccepted (refusedIf h 29 (refusedIf f 30 accepted)) ≡ true → Acceptable true r h f
+    go true f p q = contra q refl
+    go false true p q = contra q refl
+    go false false p q = record { fitting = refl; positive = p; new = refl; room = refl }
 
 -- each page is reached at most once, and no new page is among them
 module _ {K : Type 0} (i : Index K) (p : PagesOnce i) where
@@ -123,40 +122,41 @@ fresh-sound s two room levels = record {
 }
 
 module _ {K : Type 0} (s : Setting K) (two : 1 < s .capacity) where
-  -- Theorem: an insertion of a key that is not there, with room for it, keeps an index sound
-  pub inserted-sound : (i : Index K) (k : K) (r : ℕ) → 0 < r → find (s .order) k (held i) ≡ none → outOfRoom s k i ≡ false → SoundIndex s i →
-      SoundIndex s (inserted s k r i)
-  inserted-sound i k r pos f room d =
+  -- Theorem: an insertion of a pair that is not there, with room for it, keeps an index sound
+  pub inserted-sound : (i : Index K) (e : K × ℕ) → 0 < e .1 → has (keptBy s .pairLe) e (held i) ≡ false → outOfRoom s e i ≡ false → SoundIndex s i →
+      SoundIndex s (inserted s e i)
+  inserted-sound i e pos f room d =
       let h : ℕ = i .height in
       let name : ℕ → ℕ = takenPage (i .size) in
-      let g : Grown K = insert (s .order) (s .capacity) name k r h (i .tree) in
+      let g : Grown K = insert (keptBy s) (s .capacity) name e h (i .tree) in
+      let leading : Leading (keptBy s) e = distinct-leading (s .order) e in
       let rooted : Rooted h (i .tree) = sized-rooted (s .capacity) h (i .tree) (d .sized) in
-      let needed : (g .2 ≡ needs (s .order) (s .capacity) k h (i .tree))
-      × (suc (g .0) ≡ levelsAfter (s .order) (s .capacity) k h (i .tree)) =
-      insert-needs (s .order) (s .capacity) name k r h (i .tree) (omega arith) (d .sized) in
-      let limit : ℕ = sizeAfter (i .size) (needs (s .order) (s .capacity) k h (i .tree)) in
-      let levels : ℕ = levelsAfter (s .order) (s .capacity) k h (i .tree) in
+      let needed : (g .2 ≡ needs (keptBy s .route e) (s .capacity) h (i .tree))
+      × (suc (g .0) ≡ levelsAfter (keptBy s .route e) (s .capacity) h (i .tree)) =
+      insert-needs (keptBy s) (s .capacity) name e h (i .tree) (omega arith) (d .sized) in
+      let limit : ℕ = sizeAfter (i .size) (needs (keptBy s .route e) (s .capacity) h (i .tree)) in
+      let levels : ℕ = levelsAfter (keptBy s .route e) (s .capacity) h (i .tree) in
       let rooms : (ltb (s .maxSize) limit ≡ false) × (ltb (s .maxLevels) levels ≡ false) =
       room-both (ltb (s .maxSize) limit) (ltb (s .maxLevels) levels) room in
       record {
-        ordered = insert-ordered (s .order) (s .capacity) (omega arith) name k r h (i .tree) rooted (d .ordered) f;
-        sized = insert-sized (s .order) (s .capacity) two name k r h (i .tree) (d .sized);
-        pagesOnce = grown-pages i (d .pagesOnce) g (λ z. insert-pages (s .order) (s .capacity) name k r z h (i .tree));
-        records = rw (insert-pairs (s .order) (s .capacity) name k r h (i .tree) rooted (d .ordered))
-            (insertPair-all (s .order) (λ e. 0 < e .1) k r (held i) pos (d .records));
+        ordered = insert-ordered (keptBy s) (s .capacity) (omega arith) name e leading h (i .tree) rooted (d .ordered) f;
+        sized = insert-sized (keptBy s) (s .capacity) two name e h (i .tree) (d .sized);
+        pagesOnce = grown-pages i (d .pagesOnce) g (λ z. insert-pages (keptBy s) (s .capacity) name e z h (i .tree));
+        records = rw (insert-pairs (keptBy s) (s .capacity) name e leading h (i .tree) rooted (d .ordered))
+            (insertPair-all (keptBy s .pairLe) (λ x. 0 < x .1) e (held i) pos (d .records));
         withinSize = omega (arith, needed .0, ltb-false (s .maxSize) limit (rooms .0));
         withinLevels = omega (arith, needed .1, ltb-false (s .maxLevels) levels (rooms .1));
       }
 
   -- Theorem: such an insertion keeps the levels linked
-  pub inserted-linked : (i : Index K) (k : K) (r : ℕ) (l : Links) → SoundIndex s i → SoundIndex s (inserted s k r i) → LinkedIndex l i →
-      LinkedIndex (insertedLinks s k r i l) (inserted s k r i)
-  inserted-linked i k r l d g c =
+  pub inserted-linked : (i : Index K) (e : K × ℕ) (l : Links) → SoundIndex s i → SoundIndex s (inserted s e i) → LinkedIndex l i →
+      LinkedIndex (insertedLinks s e i l) (inserted s e i)
+  inserted-linked i e l d g c =
       let p : PagesOnce i = d .pagesOnce in
-      insert-all-linked (s .order) (s .capacity) (omega arith) (takenPage (i .size)) (taken-injective (i .size))
-      noPage (taken-some (i .size) (p .aligned)) k r (i .height) (i .tree) (d .sized)
+      insert-all-linked (keptBy s) (s .capacity) (omega arith) (takenPage (i .size)) (taken-injective (i .size))
+      noPage (taken-some (i .size) (p .aligned)) e (i .height) (i .tree) (d .sized)
       (pages-distinct i p) (taken-unused i p) (p .unaligned noPage (λ u. omega arith)) l
-      (pages-distinct (inserted s k r i) (g .pagesOnce)) c
+      (pages-distinct (inserted s e i) (g .pagesOnce)) c
 
   -- Theorem: a call is answered as the book answers it, if the book is told whether the answer is 30, or what the rule for 30 says
   pub answer-book : (tests : KeyTests K) (c : Call K) (i : Index K) → SoundIndex s i →
@@ -168,14 +168,12 @@ module _ {K : Type 0} (s : Setting K) (two : 1 < s .capacity) where
             (ordered-ascending (s .order) (i .height) (i .tree) (d .ordered)),
       )
   answer-book tests (insertion k r) i d =
-      rw (← find-get (s .order) k (held i) (ordered-ascending (s .order) (i .height) (i .tree) (d .ordered)))
-      (verdict-room (tests .fits k) (tests .barred k) r (find (s .order) k (held i)) (outOfRoom s k i))
+      verdict-room (tests .fits k) (tests .barred k) r (has (keptBy s .pairLe) (k, r) (held i)) (outOfRoom s (k, r) i)
 
   pub answer-room : (tests : KeyTests K) (c : Call K) (i : Index K) → SoundIndex s i →
       bookAnswer (s .order) tests c (noRoomFor s c i) (held i) ≡ answer s tests c i
   answer-room tests (lookupOf k) i d = answer-book tests (lookupOf k) i d
-  answer-room tests (insertion k r) i d =
-      rw (← find-get (s .order) k (held i) (ordered-ascending (s .order) (i .height) (i .tree) (d .ordered)))
+  answer-room tests (insertion k r) i d = refl
 
   -- Theorem: the leaf pairs after a call are the book after it
   pub next-book : (tests : KeyTests K) (c : Call K) (i : Index K) → SoundIndex s i →
@@ -185,5 +183,6 @@ module _ {K : Type 0} (s : Setting K) (two : 1 < s .capacity) where
       rw (answer-book tests (insertion k r) i d)
       (either (isAccepted (answer s tests (insertion k r) i))
       (λ e. let rooted : Rooted (i .height) (i .tree) = sized-rooted (s .capacity) (i .height) (i .tree) (d .sized) in
-      rw e (sym (insert-pairs (s .order) (s .capacity) (takenPage (i .size)) k r (i .height) (i .tree) rooted (d .ordered))))
+      rw e (sym (insert-pairs (keptBy s) (s .capacity) (takenPage (i .size)) (k, r) (distinct-leading (s .order) (k, r)) (i .height)
+      (i .tree) rooted (d .ordered))))
       (λ e. rw e))

@@ -1,7 +1,7 @@
 -- Laws: the pages after an insertion are the old ones, each as often as before, and the new ones. Cited by the laws of sound indexes and of stores. Assumes
 -- nothing.
 use mathlib.Core.Path.{_≡_, refl, sym, ap, _∙_}
-use mathlib.Core.List.{List, [], _∷_, append-nil}
+use mathlib.Core.List.{List, [], _∷_, _++_, append-nil}
 use Prim.Native.Nat.{ℕ, zero, suc, _+_, _≤_, _<_}
 use native.Mathlib.Omega.{arith}
 use lib.ListN.{length, take, drop, take-append-drop}
@@ -10,11 +10,14 @@ use borrow.Author.Tests.{ne-eqb}
 use Rattle.basis.specs.Tests.{either}
 use Rattle.tree.specs.Lists.{NonEmpty, concatMap, countIf, occ, half}
 use Rattle.tree.specs.ListLaws.{concatMap-append, occ-append, occ-differ}
-use Rattle.tree.specs.Order.{Order, larger}
+use Rattle.tree.specs.Order.{larger}
 use Rattle.tree.specs.Pairs.{lastKey}
+use Rattle.tree.specs.Position.{Passes, choose}
 use Rattle.tree.specs.Tree.{Page, Child, Entry, Tree, pagesUnder, pages}
+use Rattle.tree.specs.Keeping.{Keeping}
 use Rattle.tree.specs.Insertion.{Replacement, splitIfOver, firstPair, place, grownPages, reroot, insertUnder, insertEntries}
 use Rattle.tree.specs.Insertion.{insert}
+use Rattle.tree.specs.RouteLaws.{before, after, chosen-among}
 use Rattle.tree.specs.SplitLaws.{splitIfOver-nonEmpty}
 
 -- the first n new pages
@@ -62,28 +65,31 @@ splitIfOver-pages cap name under z a p q = either (leb (length (q .0)) cap)
     rw (append-nil upper) (omega (arith, occ-append z lower (name (q .1) ∷ upper)))))
 
 -- one level of insertion, abstract in what lies below
-place-pages : {K C : Type 0} (O : Order K) (k : K) (g : K × C → ℕ → Replacement K C) (name : ℕ → ℕ) (under : K × C → List ℕ) (z : ℕ) →
+place-pages : {K C : Type 0} (passes : Passes (K × C)) (g : K × C → ℕ → Replacement K C) (name : ℕ → ℕ) (under : K × C → List ℕ) (z : ℕ) →
     ((x : K × C) (n : ℕ) → occ z (concatMap under (g x n .0)) + occ z (newPages name n)
     ≡ occ z (under x) + occ z (newPages name (g x n .1))) →
     (x : K × C) (xs : List (K × C)) (n : ℕ) →
-    occ z (concatMap under (place O k g x xs n .0)) + occ z (newPages name n)
-    ≡ occ z (concatMap under (x ∷ xs)) + occ z (newPages name (place O k g x xs n .1))
-place-pages O k g name under z ok x [] n = rw (append-nil (under x)) (ok x n)
-place-pages O k g name under z ok x (y ∷ ys) n =
-    let rest : List ℕ = concatMap under (y ∷ ys) in
-    either (O .le k (x .0))
-    (λ e. rw (e, concatMap-append under (g x n .0) (y ∷ ys))
-    (omega (arith, ok x n, occ-append z (concatMap under (g x n .0)) rest, occ-append z (under x) rest)))
-    (λ e. rw e (omega (
+    occ z (concatMap under (place passes g x (x ∷ xs) n .0)) + occ z (newPages name n)
+    ≡ occ z (concatMap under (x ∷ xs)) + occ z (newPages name (place passes g x (x ∷ xs) n .1))
+place-pages {K} {C} passes g name under z ok x xs n =
+    let front : List (K × C) = before passes (x ∷ xs) in
+    let back : List (K × C) = after passes (x ∷ xs) in
+    let y : K × C = choose passes x (x ∷ xs) in
+    let joined : (l : List (K × C)) (m : List (K × C)) → occ z (concatMap under (l ++ m)) ≡ occ z (concatMap under l) + occ z (concatMap under m) =
+    λ l m. ap (occ z) (concatMap-append under l m) ∙ occ-append z (concatMap under l) (concatMap under m) in
+    omega (
       arith,
-      place-pages O k g name under z ok y ys n,
-      occ-append z (under x) (concatMap under (place O k g y ys n .0)),
-      occ-append z (under x) rest,
-    )))
+      ok y n,
+      ap (λ l. occ z (concatMap under l)) (chosen-among passes x x xs),
+      joined front (y ∷ back),
+      occ-append z (under y) (concatMap under back),
+      joined front (g y n .0 ++ back),
+      joined (g y n .0) back,
+    )
 
-firstPair-pages : {K : Type 0} (k : K) (r z h : ℕ) → occ z (concatMap (pagesUnder h) (firstPair k r h)) ≡ 0
-firstPair-pages k r z zero = refl
-firstPair-pages k r z (suc h) = refl
+firstPair-pages : {K : Type 0} (e : K × ℕ) (z h : ℕ) → occ z (concatMap (pagesUnder h) (firstPair e h)) ≡ 0
+firstPair-pages e z zero = refl
+firstPair-pages e z (suc h) = refl
 
 reroot-pages : {K : Type 0} (name : ℕ → ℕ) (z h : ℕ) (t : Tree K h) (xs : List (Entry K (suc h))) (n : ℕ) → NonEmpty xs →
     occ z (grownPages (reroot name h t xs n)) + occ z (newPages name n)
@@ -92,42 +98,42 @@ reroot-pages name z h t [] n s = absurd s
 reroot-pages name z h t (x ∷ []) n s = rw (append-nil (concatMap (pagesUnder h) (x .1 .1)))
 reroot-pages name z h t (x ∷ y ∷ ys) n s = omega arith
 
-module _ {K : Type 0} (O : Order K) (cap : ℕ) (name : ℕ → ℕ) (k : K) (r z : ℕ) where
+module _ {K : Type 0} (Q : Keeping K) (cap : ℕ) (name : ℕ → ℕ) (e : K × ℕ) (z : ℕ) where
   insertAmong-pages : (h : ℕ) →
-      ((x : Entry K h) (n : ℕ) → occ z (concatMap (pagesUnder h) (insertUnder O cap name k r h x n .0)) + occ z (newPages name n)
-      ≡ occ z (pagesUnder h x) + occ z (newPages name (insertUnder O cap name k r h x n .1))) →
+      ((x : Entry K h) (n : ℕ) → occ z (concatMap (pagesUnder h) (insertUnder Q cap name e h x n .0)) + occ z (newPages name n)
+      ≡ occ z (pagesUnder h x) + occ z (newPages name (insertUnder Q cap name e h x n .1))) →
       (xs : List (Entry K h)) (n : ℕ) →
-      occ z (concatMap (pagesUnder h) (insertEntries O cap name k r h xs n .0)) + occ z (newPages name n)
-      ≡ occ z (concatMap (pagesUnder h) xs) + occ z (newPages name (insertEntries O cap name k r h xs n .1))
-  insertAmong-pages h ok [] n = omega (arith, firstPair-pages k r z h)
-  insertAmong-pages h ok (x ∷ xs) n = place-pages O k (insertUnder O cap name k r h) name (pagesUnder h) z ok x xs n
+      occ z (concatMap (pagesUnder h) (insertEntries Q cap name e h xs n .0)) + occ z (newPages name n)
+      ≡ occ z (concatMap (pagesUnder h) xs) + occ z (newPages name (insertEntries Q cap name e h xs n .1))
+  insertAmong-pages h ok [] n = omega (arith, firstPair-pages e z h)
+  insertAmong-pages h ok (x ∷ xs) n = place-pages (Q .route e h) (insertUnder Q cap name e h) name (pagesUnder h) z ok x xs n
 
   insertUnder-pages : (h : ℕ) (x : Entry K h) (n : ℕ) →
-      occ z (concatMap (pagesUnder h) (insertUnder O cap name k r h x n .0)) + occ z (newPages name n)
-      ≡ occ z (pagesUnder h x) + occ z (newPages name (insertUnder O cap name k r h x n .1))
-  insertUnder-pages zero x n = either (O .le k (x .0)) (λ e. rw e) (λ e. rw e)
+      occ z (concatMap (pagesUnder h) (insertUnder Q cap name e h x n .0)) + occ z (newPages name n)
+      ≡ occ z (pagesUnder h x) + occ z (newPages name (insertUnder Q cap name e h x n .1))
+  insertUnder-pages zero x n = either (Q .pairLe e x) (λ u. rw u) (λ u. rw u)
   insertUnder-pages (suc h) x n =
-      let q : Replacement K (Child K h) = insertEntries O cap name k r h (x .1 .1) n in
+      let q : Replacement K (Child K h) = insertEntries Q cap name e h (x .1 .1) n in
       omega (
         arith,
-        splitIfOver-pages cap name (pagesUnder h) z (larger O (x .0) k) (x .1 .0) q,
+        splitIfOver-pages cap name (pagesUnder h) z (larger (Q .order) (x .0) (e .0)) (x .1 .0) q,
         insertAmong-pages h (insertUnder-pages h) (x .1 .1) n,
       )
 
   pub insertEntries-pages : (h : ℕ) (xs : List (Entry K h)) (n : ℕ) →
-      occ z (concatMap (pagesUnder h) (insertEntries O cap name k r h xs n .0)) + occ z (newPages name n)
-      ≡ occ z (concatMap (pagesUnder h) xs) + occ z (newPages name (insertEntries O cap name k r h xs n .1))
+      occ z (concatMap (pagesUnder h) (insertEntries Q cap name e h xs n .0)) + occ z (newPages name n)
+      ≡ occ z (concatMap (pagesUnder h) xs) + occ z (newPages name (insertEntries Q cap name e h xs n .1))
   insertEntries-pages h xs n = insertAmong-pages h (insertUnder-pages h) xs n
 
   -- Theorem: the pages after an insertion
   pub insert-pages : (h : ℕ) (t : Tree K h) →
-      occ z (grownPages (insert O cap name k r h t)) ≡ occ z (pages h t) + occ z (newPages name (insert O cap name k r h t .2))
+      occ z (grownPages (insert Q cap name e h t)) ≡ occ z (pages h t) + occ z (newPages name (insert Q cap name e h t .2))
   insert-pages h t =
-      let q : Replacement K (Child K h) = insertEntries O cap name k r h (t .1) 0 in
-      let w : Replacement K (Child K (suc h)) = splitIfOver cap name (lastKey k (q .0)) (t .0) q in
+      let q : Replacement K (Child K h) = insertEntries Q cap name e h (t .1) 0 in
+      let w : Replacement K (Child K (suc h)) = splitIfOver cap name (lastKey (e .0) (q .0)) (t .0) q in
       omega (
         arith,
-        reroot-pages name z h t (w .0) (w .1) (splitIfOver-nonEmpty cap name (lastKey k (q .0)) (t .0) q),
-        splitIfOver-pages cap name (pagesUnder h) z (lastKey k (q .0)) (t .0) q,
+        reroot-pages name z h t (w .0) (w .1) (splitIfOver-nonEmpty cap name (lastKey (e .0) (q .0)) (t .0) q),
+        splitIfOver-pages cap name (pagesUnder h) z (lastKey (e .0) (q .0)) (t .0) q,
         insertEntries-pages h (t .1) 0,
       )

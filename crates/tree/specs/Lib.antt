@@ -11,10 +11,12 @@ pub mod ListLaws
 pub mod Order
 -- Laws: a total order
 pub mod OrderLaws
--- Rules: lists of pairs: lookup, insertion, the chosen entry, ascending keys
+-- Rules: lists of pairs: lookup, insertion, ascending keys
 pub mod Pairs
 -- Laws: lists of pairs
 pub mod PairLaws
+-- Rules: the entry of a page that an insertion goes through, by its number
+pub mod Position
 -- Rules: trees of pages by height; their leaf pairs, pages and levels; lookup and the pages it visits
 pub mod Tree
 -- Rules: document 01's clauses of a sound index on trees: counts, greatest keys, links
@@ -23,16 +25,22 @@ pub mod Clauses
 pub mod Store
 -- Rules: the book of demand 3, and the claim about a whole list of calls
 pub mod Book
+-- Steps: what an index keeps its leaf pairs by: their orders, and the route of a new pair
+pub mod Keeping
 -- Steps: insertion into a tree
 pub mod Insertion
--- Steps: the new pages and levels that an insertion means
+-- Steps: the leaf that an insertion goes to, and the new pages and levels that it means
 pub mod Room
 -- Laws: ordered trees; lookup in one is lookup in the ascending list of its pairs
 pub mod Ordered
+-- Laws: the entry gone through among those of its page, and what a route tells of a new pair
+pub mod RouteLaws
 -- Laws: a page that is split if it is over capacity
 pub mod SplitLaws
 -- Laws: the leaf pairs after an insertion
 pub mod InsertPairs
+-- Laws: the leaf that a route leads to tells whether a pair is present
+pub mod LeafLaws
 -- Laws: an insertion keeps the order
 pub mod InsertOrdered
 -- Laws: the clauses of a sound index for the order, and the theory's order, say the same

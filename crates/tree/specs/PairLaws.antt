@@ -1,13 +1,15 @@
 -- Laws: lookup and insertion in ascending lists of pairs, and their first and last keys. Cited by the laws of ordered trees. Assumes nothing.
-use mathlib.Core.Path.{_≡_, refl, sym, ap, subst}
-use mathlib.Core.List.{List, [], _∷_, _++_}
-use mathlib.Core.Option.{Option, none, some}
+use mathlib.Core.Path.{_≡_, refl, sym, ap, subst, _∙_}
+use mathlib.Core.Bool.{Bool, true, false, _&&_}
+use mathlib.Core.List.{List, [], _∷_, _++_, map}
+use mathlib.Core.Option.{none, some}
 use Rattle.basis.specs.Lists.{All, all-append, all-left, all-map}
 use Rattle.basis.specs.Tests.{either, contra}
 use Rattle.tree.specs.Lists.{NonEmpty}
 use Rattle.tree.specs.Order.{Order, Le, Lt}
 use Rattle.tree.specs.OrderLaws.{le-refl, lt-le, lt-le-trans, le-lt-trans}
-use Rattle.tree.specs.Pairs.{follow, firstKey, lastKey, seek, ifEqual, find, get, insertPair, Below, Above, Ascending}
+use Rattle.tree.specs.Pairs.{follow, firstKey, lastKey, seek, ifEqual, find, get, byKey, Below, Above, Ascending}
+use Rattle.tree.specs.Pairs.{has, present, insertPair, AllAbove, AllBelow}
 
 -- the last key
 pub lastKey-default : {K C : Type 0} (a b : K) (xs : List (K × C)) → NonEmpty xs → lastKey a xs ≡ lastKey b xs
@@ -62,36 +64,6 @@ module _ {K : Type 0} (O : Order K) where
       (λ e. either (O .le (x .0) k) (λ f. rw (e, f)) (λ f. rw (e, f) (sym (get-above k (x .0) xs e (a .0)))))
       (λ e. rw e (find-get k xs (a .1)))
 
-  -- insertion of a pair passes over and leaves alone the same lists
-  pub insertPair-past : {C : Type 0} (k : K) (r : C) (a : K) (xs ys : List (K × C)) → Lt O a k → Below O a xs →
-      insertPair O k r (xs ++ ys) ≡ xs ++ insertPair O k r ys
-  insertPair-past k r a [] ys h b = refl
-  insertPair-past k r a (x ∷ xs) ys h b =
-      let e : Lt O (x .0) k = le-lt-trans O (x .0) a k (b .0) h in
-      rw e (ap (λ l. x ∷ l) (insertPair-past k r a xs ys h (b .1)))
-
-  insertPair-first : {C : Type 0} (k : K) (r : C) (a : K) (ys : List (K × C)) → Le O k a → Above O a ys → insertPair O k r ys ≡ (k, r) ∷ ys
-  insertPair-first k r a [] h v = refl
-  insertPair-first k r a (y ∷ ys) h v =
-      let e : Le O k (y .0) = lt-le O k (y .0) (le-lt-trans O k a (y .0) h (v .0)) in
-      rw e
-
-  pub insertPair-here : {C : Type 0} (k : K) (r : C) (a : K) (xs ys : List (K × C)) → Le O k a → Above O a ys →
-      insertPair O k r (xs ++ ys) ≡ insertPair O k r xs ++ ys
-  insertPair-here k r a [] ys h v = insertPair-first k r a ys h v
-  insertPair-here k r a (x ∷ xs) ys h v =
-      either (O .le k (x .0)) (λ e. rw e) (λ e. rw e (ap (λ l. x ∷ l) (insertPair-here k r a xs ys h v)))
-
-  -- what holds of the new pair and of all the old ones holds of all
-  pub insertPair-all : {C : Type 0} (P : K × C → Type 0) (k : K) (r : C) (xs : List (K × C)) → P (k, r) → All P xs →
-      All P (insertPair O k r xs)
-  insertPair-all P k r [] n o = (n, tt)
-  insertPair-all P k r (x ∷ xs) n o = either (O .le k (x .0)) (λ e. rw e (n, o)) (λ e. rw e (o .0, insertPair-all P k r xs n (o .1)))
-
-  pub insertPair-nonEmpty : {C : Type 0} (k : K) (r : C) (xs : List (K × C)) → NonEmpty (insertPair O k r xs)
-  insertPair-nonEmpty k r [] = tt
-  insertPair-nonEmpty k r (x ∷ xs) = either (O .le k (x .0)) (λ e. rw e tt) (λ e. rw e tt)
-
   -- bounds: of other keys, and of one another
   pub below-up : {C : Type 0} (a b : K) → Le O a b → (xs : List (K × C)) → Below O a xs → Below O b xs
   below-up a b h xs u = all-map (λ x. Le O (x .0) a) (λ x. Le O (x .0) b) (λ x l. O .trans (x .0) a b l h) xs u
@@ -138,25 +110,68 @@ module _ {K : Type 0} (O : Order K) where
   ascending-first a b [] s c l = absurd s
   ascending-first a b (x ∷ xs) s c l = (l, above-down (x .0) a (lt-le O a (x .0) l) xs (c .0))
 
-  -- a key that no pair of a list has
-  abbrev pub Absent : {C : Type 0} → K → List (K × C) → Type 0
-  Absent k xs = All (λ e. Le O k (e .0) → Lt O k (e .0)) xs
+  -- in an ascending list the first pair at or above an entry decides whether the list has the entry
+  has-above : {C : Type 0} (e x : K × C) (ys : List (K × C)) → Le O (e .0) (x .0) → Above O (x .0) ys → has (byKey O) e ys ≡ false
+  has-above e x [] h v = refl
+  has-above e x (y ∷ ys) h v =
+      let f : Lt O (e .0) (y .0) = le-lt-trans O (e .0) (x .0) (y .0) h (v .0) in
+      rw (lt-le O (e .0) (y .0) f, f) (has-above e x ys h (v .1))
 
-  absent-above : {C : Type 0} (k a : K) → Le O k a → (xs : List (K × C)) → Above O a xs → Absent k xs
-  absent-above k a h xs v =
-      all-map (λ e. Lt O a (e .0)) (λ e. Le O k (e .0) → Lt O k (e .0)) (λ e l g. le-lt-trans O k a (e .0) h l) xs v
+  pub present-has : {C : Type 0} (e : K × C) (xs : List (K × C)) → Ascending O xs → present (byKey O) e xs ≡ has (byKey O) e xs
+  present-has e [] a = refl
+  present-has e (x ∷ xs) a = either (O .le (e .0) (x .0))
+      (λ l. either (O .le (x .0) (e .0)) (λ f. rw (l, f)) (λ f. rw (l, f) (sym (has-above e x xs l (a .0)))))
+      (λ l. rw l (present-has e xs (a .1)))
 
-  abbrev IsNone : {X : Type 0} → Option X → Type 0
-  IsNone none = Unit {0}
-  IsNone (some x) = ⊥
+-- lists of whole entries
+module _ {A : Type 0} (le : A → A → Bool) where
+  -- insertion of an entry passes over entries below it, and does not reach entries above it
+  pub insertPair-past : (e : A) (xs ys : List A) → AllBelow le e xs → insertPair le e (xs ++ ys) ≡ xs ++ insertPair le e ys
+  insertPair-past e [] ys b = refl
+  insertPair-past e (x ∷ xs) ys b = rw (b .0) (ap (λ l. x ∷ l) (insertPair-past e xs ys (b .1)))
 
-  absent-go : {C : Type 0} (k : K) (xs : List (K × C)) → Ascending O xs → IsNone (find O k xs) → Absent k xs
-  absent-go k [] a e = tt
-  absent-go k (x ∷ xs) a e = either (O .le k (x .0))
-      (λ u. either (O .le (x .0) k)
-      (λ w. absurd (rw (u, w) at e))
-      (λ w. ((λ g. w), absent-above k (x .0) u xs (a .0))))
-      (λ u. ((λ g. contra g u), absent-go k xs (a .1) (rw u at e)))
+  insertPair-first : (e : A) (ys : List A) → AllAbove le e ys → insertPair le e ys ≡ e ∷ ys
+  insertPair-first e [] v = refl
+  insertPair-first e (y ∷ ys) v = rw (v .0 .0)
 
-  pub find-absent : {C : Type 0} (k : K) (xs : List (K × C)) → Ascending O xs → find O k xs ≡ none → Absent k xs
-  find-absent k xs a e = absent-go k xs a (subst IsNone (sym e) tt)
+  pub insertPair-here : (e : A) (xs ys : List A) → AllAbove le e ys → insertPair le e (xs ++ ys) ≡ insertPair le e xs ++ ys
+  insertPair-here e [] ys v = insertPair-first e ys v
+  insertPair-here e (x ∷ xs) ys v = either (le e x) (λ l. rw l) (λ l. rw l (ap (λ z. x ∷ z) (insertPair-here e xs ys v)))
+
+  -- what holds of the new entry and of all the old ones holds of all
+  pub insertPair-all : (P : A → Type 0) (e : A) (xs : List A) → P e → All P xs → All P (insertPair le e xs)
+  insertPair-all P e [] n o = (n, tt)
+  insertPair-all P e (x ∷ xs) n o = either (le e x) (λ l. rw l (n, o)) (λ l. rw l (o .0, insertPair-all P e xs n (o .1)))
+
+  pub insertPair-nonEmpty : (e : A) (xs : List A) → NonEmpty (insertPair le e xs)
+  insertPair-nonEmpty e [] = tt
+  insertPair-nonEmpty e (x ∷ xs) = either (le e x) (λ l. rw l tt) (λ l. rw l tt)
+
+  -- whether an ascending list has an entry: entries below it are passed over, and entries above it are not reached
+  pub present-past : (e : A) (xs ys : List A) → AllBelow le e xs → present le e (xs ++ ys) ≡ present le e ys
+  present-past e [] ys b = refl
+  present-past e (x ∷ xs) ys b = rw (b .0) (present-past e xs ys (b .1))
+
+  present-none : (e : A) (ys : List A) → AllAbove le e ys → present le e ys ≡ false
+  present-none e [] v = refl
+  present-none e (y ∷ ys) v = rw (v .0 .0, v .0 .1)
+
+  pub present-here : (e : A) (xs ys : List A) → AllAbove le e ys → present le e (xs ++ ys) ≡ present le e xs
+  present-here e [] ys v = present-none e ys v
+  present-here e (x ∷ xs) ys v = either (le e x) (λ l. rw l) (λ l. rw l (present-here e xs ys v))
+
+  -- an entry that is none of a list's
+  abbrev pub Absent : A → List A → Type 0
+  Absent e xs = All (λ x. le e x ≡ true → le x e ≡ false) xs
+
+  pub has-absent : (e : A) (xs : List A) → has le e xs ≡ false → Absent e xs
+  has-absent e [] h = tt
+  has-absent e (x ∷ xs) h = either (le e x && le x e)
+      (λ s. contra refl (rw s at h))
+      (λ s. ((λ l. rw l at s), has-absent e xs (rw s at h)))
+
+-- entries in another form, on which the tests say the same, are inserted alike
+pub insertPair-map : {A B : Type 0} (f : A → B) (le : A → A → Bool) (le′ : B → B → Bool) → ((x y : A) → le′ (f x) (f y) ≡ le x y) →
+    (e : A) (xs : List A) → map f (insertPair le e xs) ≡ insertPair le′ (f e) (map f xs)
+insertPair-map f le le′ ok e [] = refl
+insertPair-map f le le′ ok e (x ∷ xs) = rw (ok e x) (either (le e x) (λ u. rw u) (λ u. rw u (ap (λ l. f x ∷ l) (insertPair-map f le le′ ok e xs))))

@@ -1,5 +1,6 @@
 -- Rules: lists of pairs, a key and what stands under it, by an order of keys. Cited by the rules of trees, of sound indexes, of insertion and of the book.
-use mathlib.Core.Bool.{cond, _&&_}
+use mathlib.Core.Path.{_≡_}
+use mathlib.Core.Bool.{Bool, true, false, cond, _&&_, _||_}
 use mathlib.Core.List.{List, [], _∷_}
 use mathlib.Core.Option.{Option, none, some}
 use Rattle.basis.specs.Lists.{All}
@@ -38,15 +39,9 @@ module _ {K : Type 0} (O : Order K) where
   get k [] = none
   get k (x ∷ xs) = cond (O .le k (x .0) && O .le (x .0) k) (some (x .1)) (get k xs)
 
-  -- an ascending list with one more pair, before the first at or above its key
-  abbrev pub insertPair : {C : Type 0} → K → C → List (K × C) → List (K × C)
-  insertPair k r [] = (k, r) ∷ []
-  insertPair k r (x ∷ xs) = cond (O .le k (x .0)) ((k, r) ∷ x ∷ xs) (x ∷ insertPair k r xs)
-
-  -- the entry that an insertion goes to: the first at or above the key, "the last if its key is above all"
-  abbrev pub choose : {C : Type 0} → K → K × C → List (K × C) → K × C
-  choose k x [] = x
-  choose k x (y ∷ ys) = cond (O .le k (x .0)) x (choose k y ys)
+  -- a pair is at or below another: by their keys
+  abbrev pub byKey : {C : Type 0} → K × C → K × C → Bool
+  byKey x y = O .le (x .0) (y .0)
 
   -- all keys are at or below a key; all are above it
   abbrev pub Below : {C : Type 0} → K → List (K × C) → Type 0
@@ -59,3 +54,27 @@ module _ {K : Type 0} (O : Order K) where
   abbrev pub Ascending : {C : Type 0} → List (K × C) → Type 0
   Ascending [] = Unit {0}
   Ascending (x ∷ xs) = Above (x .0) xs × Ascending xs
+
+-- lists of whole entries, by the test `le` that an entry is at or below another
+module _ {A : Type 0} (le : A → A → Bool) where
+  -- a list in any order has an entry: one that is at or above it and at or below it
+  abbrev pub has : A → List A → Bool
+  has e [] = false
+  has e (x ∷ xs) = (le e x && le x e) || has e xs
+
+  -- an ascending list has an entry: the first at or above it is at or below it too
+  abbrev pub present : A → List A → Bool
+  present e [] = false
+  present e (x ∷ xs) = cond (le e x) (le x e) (present e xs)
+
+  -- an ascending list with one entry more, before the first at or above it
+  abbrev pub insertPair : A → List A → List A
+  insertPair e [] = e ∷ []
+  insertPair e (x ∷ xs) = cond (le e x) (e ∷ x ∷ xs) (x ∷ insertPair e xs)
+
+  -- all entries are above an entry; all are below it
+  abbrev pub AllAbove : A → List A → Type 0
+  AllAbove e xs = All (λ x. (le e x ≡ true) × (le x e ≡ false)) xs
+
+  abbrev pub AllBelow : A → List A → Type 0
+  AllBelow e xs = All (λ x. le e x ≡ false) xs

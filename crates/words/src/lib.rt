@@ -54,17 +54,17 @@ fn put_index_words(line: &mut Line, n: usize, code: u32) -> usize {
     }
 }
 
-// 33 to 40: refusals of the page that no call of the library gives, so the crate `refusal` does not name them.
+// 33 to 40: document 02. The crate `refusal` does not name those that nothing gives yet.
 fn put_other_words(line: &mut Line, n: usize, code: u32) -> usize {
     match code {
         33 => put(line, n, b"key absent"),
         34 => put(line, n, b"no number to index"),
-        35 => put(line, n, b"barcode absent or deleted"),
-        36 => put(line, n, b"no concentration"),
-        37 => put(line, n, b"target or volume out of range"),
-        38 => put(line, n, b"target above concentration"),
+        refusal::BARCODE_ABSENT => put(line, n, b"barcode absent or deleted"),
+        refusal::NO_CONCENTRATION => put(line, n, b"no concentration"),
+        refusal::TARGET_OR_VOLUME => put(line, n, b"target or volume out of range"),
+        refusal::TARGET_ABOVE_CONCENTRATION => put(line, n, b"target above concentration"),
         39 => put(line, n, b"list too short"),
-        40 => put(line, n, b"arguments or files"),
+        refusal::ARGUMENTS_OR_FILES => put(line, n, b"arguments or files"),
         _ => n,
     }
 }

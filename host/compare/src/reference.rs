@@ -472,19 +472,22 @@ pub fn number_read(text: &[u8], decimals: u32) -> Result<Option<i64>, Refusal> {
     }))
 }
 
-/// The digits of a whole part, and of d decimals behind a point, as a number, and whether there are more than 18 of them.
+/// The digits of a whole part, and of d decimals behind a point, as a number, and whether there are more than 18 of them. The whole part may be missing if d
+/// is above 0 and a digit isn't zero.
 fn digits(t: &[u8], d: usize) -> Option<(u64, bool)> {
     let whole = if d == 0 {
         t
     } else {
-        if t.len() < d + 2 || t[t.len() - d - 1] != b'.' {
+        if t.len() <= d || t[t.len() - d - 1] != b'.' {
             return None;
         }
         &t[..t.len() - d - 1]
     };
     let fraction = &t[t.len() - d..];
-    if whole.is_empty() || (whole[0] == b'0' && whole.len() > 1) {
-        return None;
+    match whole {
+        [] if d == 0 || fraction.iter().all(|&c| c == b'0') => return None,
+        [b'0', _, ..] => return None,
+        _ => (),
     }
     let mut value: u64 = 0;
     let mut large = false;
@@ -995,4 +998,59 @@ fn entries_match<'a>(
         p = page.right();
     }
     seen.iter().all(|&s| s)
+}
+
+/// Sample and diluent for a barcode, in tenths of a microlitre: the match's refusals, 12, 13, 27, 35, 15, 35, 16 to 18, 36, 37, 38. The record is sought in the
+/// table, not in the index.
+pub fn dilute(
+    t: &[u8],
+    b: &[u8],
+    fields: (u32, u32),
+    barcode: &[u8],
+    target: u64,
+    volume: u64,
+) -> Result<(u32, u32), Refusal> {
+    match_index(t, b, fields.0)?;
+    let shape = check_table(t)?;
+    if fields.1 == 0 || fields.1 as usize > shape.fields {
+        return Err(12);
+    }
+    let concentration = field_at(t, fields.1 as usize - 1);
+    if (concentration.kind, concentration.decimals) != (b'N', 3) {
+        return Err(13);
+    }
+    let offset = |j: u32| {
+        1 + (1..j)
+            .map(|i| field_at(t, i as usize - 1).length as usize)
+            .sum::<usize>()
+    };
+    let key_length = field_at(t, fields.0 as usize - 1).length as usize;
+    if barcode.len() != key_length {
+        return Err(27);
+    }
+    let record = t[shape.header_length..]
+        .chunks_exact(shape.record_length)
+        .take(shape.records as usize)
+        .find(|record| &record[offset(fields.0)..][..key_length] == barcode)
+        .ok_or(35u32)?;
+    match record[0] {
+        b' ' => (),
+        b'*' => return Err(35),
+        _ => return Err(15),
+    }
+    let text = &record[offset(fields.1)..][..concentration.length as usize];
+    let c = match number_read(text, 3)? {
+        Some(c) if c > 0 => c as u128,
+        _ => return Err(36),
+    };
+    if !(1..=1_000_000_000).contains(&target) || !(1..=10_000).contains(&volume) {
+        return Err(37);
+    }
+    if target as u128 > c {
+        return Err(38);
+    }
+    let amount = target as u128 * volume as u128;
+    let half = 2 * (amount % c) >= c;
+    let sample = (amount / c) as u32 + half as u32;
+    Ok((sample, volume as u32 - sample))
 }

@@ -199,6 +199,29 @@ fn a_name_is_laid_out_whole_or_not_at_all() {
     assert_eq!(other, buffer);
 }
 
+/// A number without its zero before the point is appended, and its field keeps that text.
+#[test]
+fn a_dropped_zero_is_kept() {
+    let date = Date {
+        year: 2024,
+        month: 2,
+        day: 29,
+    };
+    let fields = [Field::new("CONC", b'N', 5, 3)];
+    for calls in [LIBRARY, PLAIN] {
+        let mut buffer = [0xEE; 66 + 6 + 6];
+        let end = Table::lay_out(&mut buffer, &fields, date).unwrap();
+        assert_eq!((calls.append)(&mut buffer, end, b" -.000"), Err(17));
+        assert_eq!(
+            (calls.append)(&mut buffer, end, b" -.150"),
+            Ok([65, 7, 4, 4])
+        );
+        assert_eq!(&buffer[65..72], b" -.150\x1A");
+        let value = Table::new(&buffer[..72]).unwrap().decimal(1, 1).unwrap();
+        assert_eq!(value.unwrap().units(), -150);
+    }
+}
+
 /// A file's bytes with a store, or some of it, made.
 fn made(file: &[u8], buffer: &[u8], store: Store, bytes: usize) -> Vec<u8> {
     let mut file = file.to_vec();

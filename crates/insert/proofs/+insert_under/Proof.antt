@@ -75,7 +75,7 @@ leaf : (t : ℕ) (c : MetLeaf t) → let args = start t (leaf-visit t c) .args i
 leaf t c = visited-leaf _ _ _ (sym (c .enum-told2 .given .1) ∙ leaf-visit t c .visit-page .ensures) .0
 
 child : (t : ℕ) (c : MetChild t) → let args = start t (child-visit t c) .args in isPage (length (args .index .now)) (args .page .0) ≡ true
-child t c = visited-child _ _ _ _ (sym (c .visit .given .1) ∙ child-visit t c .visit-page .ensures) .0
+child t c = visited-child _ _ _ _ _ (sym (c .visit .given .1) ∙ child-visit t c .visit-page .ensures) .0
 
 insert-under-returns : (t : ℕ) → insert-under-lts.Need-returns (claims t) (insert-under-at t) insert-under.Post
 unfolding insertUnder
@@ -119,7 +119,7 @@ insert-under-after-child-requires t c κs =
     let pre = start t (child-visit t met) .pre in (
       pre .1 .0,
       rw (below .kept .0) (child t met),
-      next-fits _ _ _ _ _ _ _ (below .result) (below .ensures) (omega (arith, pre .1 .1, levels-left t (child-visit t met))),
+      next-fits _ _ _ _ _ _ (below .result) (below .ensures) (omega (arith, pre .1 .1, levels-left t (child-visit t met))),
     )
 
 insert-under-same-length : (t : ℕ) → insert-under-lts.Need-same-length (claims t) (insert-under-at t) insert-under.Post
@@ -128,7 +128,7 @@ insert-under-same-length t c = search needs
 insert-under-returns-2 : (t : ℕ) → insert-under-lts.Need-returns-2 (claims t) (insert-under-at t) insert-under.Post
 insert-under-returns-2 t c =
     let visited = c .before .before in
-    under-bad _ _ _ _ _ _ (levels-left t visited) (sym (c .enum-told .given .1) ∙ visited .visit-page .ensures)
+    under-bad _ _ _ _ _ (levels-left t visited) (sym (c .enum-told .given .1) ∙ visited .visit-page .ensures)
 
 insert-under-same-length-2 : (t : ℕ) → insert-under-lts.Need-same-length-2 (claims t) (insert-under-at t) insert-under.Post
 insert-under-same-length-2 t c = c .before .before .insert-in-leaf .kept .0
@@ -138,7 +138,7 @@ insert-under-returns-3 t c =
     let inserted = c .before .before in
     let met = inserted .before .before in
     let visited = leaf-visit t met in
-    under-leaf _ _ _ _ _ _ (levels-left t visited) (sym (met .enum-told2 .given .1) ∙ visited .visit-page .ensures)
+    under-leaf _ _ _ _ _ (levels-left t visited) (sym (met .enum-told2 .given .1) ∙ visited .visit-page .ensures)
     ∙ inserted .insert-in-leaf .ensures
 
 insert-under-same-length-3 : (t : ℕ) → insert-under-lts.Need-same-length-3 (claims t) (insert-under-at t) insert-under.Post

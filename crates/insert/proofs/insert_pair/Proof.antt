@@ -46,7 +46,7 @@ at-root-requires c κs =
     let h = header at-start in (
       short at-start,
       omega (arith, below .insert-under .kept .0),
-      next-fits _ _ _ _ _ _ _ (below .insert-under .result) (below .insert-under .ensures) (rw (supply .supply-of .ensures) (header-lasts _ h)),
+      next-fits _ _ _ _ _ _ (below .insert-under .result) (below .insert-under .ensures) (rw (supply .supply-of .ensures) (omega (arith, header-lasts _ h))),
     )
 
 same-length : tie.Need-same-length

@@ -1,5 +1,4 @@
--- `insert::take_in_two` meets its contract: what is gathered reads as the rule's entries; a page without entries has none to replace. Assumes nothing.
-use mathlib.Core.Path.{sym, _∙_}
+-- `insert::take_in_two` meets its contract: what is gathered reads as the rule's entries; a page without entry i has none to replace. Assumes nothing.
 use native.Mathlib.Omega.{arith}
 use lib.ListN.{length, length-take}
 use Rattle.layout.specs.Given.{Listed}
@@ -30,26 +29,13 @@ products c = spread _ (counted c) (omega arith)
 entry-count-requires : tie.Need-entry-count-requires
 entry-count-requires c κs = search needs
 
-array-share-prefix-room : tie.Need-array-share-prefix-room
-array-share-prefix-room c = search needs
-
-slice-aggregate-take-in : tie.Need-slice-aggregate-take-in
-slice-aggregate-take-in c = search needs
-
-take-in-requires : tie.Need-take-in-requires
-take-in-requires c κs =
-    let pre = start (c .before .before .before) .pre in
-    (record { key = pre .0; page = pre .1; count = omega arith; size = omega arith }, pre .2)
-
 same-length : tie.Need-same-length
 same-length c = search needs
 
 returns : tie.Need-returns
 returns c =
-    let taken-in = c .before .before in
-    let empty = taken-in .before .before .before in
-    let count = empty .before in
-    two-for-none _ _ _ _ _ _ _ _ (sym (count .entry-count .ensures) ∙ empty .if1 .taken) (taken-in .take-in .ensures)
+    let count = c .before in
+    two-for-none _ _ _ _ _ _ _ _ (omega (arith, count .entry-count .ensures, c .if1 .taken))
 
 slice-aggregate-gather-two : tie.Need-slice-aggregate-gather-two
 slice-aggregate-gather-two c = search needs
@@ -57,7 +43,7 @@ slice-aggregate-gather-two c = search needs
 gather-two-requires : tie.Need-gather-two-requires
 gather-two-requires c κs =
     let some = c .before .before in
-    (counted (some .before), omega (arith, some .if1 .left), search needs)
+    (counted (some .before), some .if1 .left, search needs)
 
 add-size : tie.Need-add-size
 add-size c = let s = products (before-gathering (c .before) .before) in omega arith
@@ -71,20 +57,20 @@ mul-size c = let s = products (before-gathering (c .before) .before) in omega ar
 add-take-in : tie.Need-add-take-in
 add-take-in c = let s = products (before-gathering (c .before .before) .before) in omega arith
 
-array-share-prefix-room-2 : tie.Need-array-share-prefix-room-2
-array-share-prefix-room-2 c =
+array-share-prefix-room : tie.Need-array-share-prefix-room
+array-share-prefix-room c =
     let gathered = c .before .before in
     let s = products (before-gathering gathered .before) in
     omega (arith, gathered .gather-two .kept .0)
 
-slice-aggregate-take-in-2 : tie.Need-slice-aggregate-take-in-2
-slice-aggregate-take-in-2 c =
+slice-aggregate-take-in : tie.Need-slice-aggregate-take-in
+slice-aggregate-take-in c =
     let gathered = c .before .before .before in
     let s = products (before-gathering gathered .before) in
     simp length-take (omega (arith, gathered .gather-two .kept .0))
 
-take-in-requires-2 : tie.Need-take-in-requires-2
-take-in-requires-2 c κs =
+take-in-requires : tie.Need-take-in-requires
+take-in-requires c κs =
     let gathered = c .before .before .before in
     let count = before-gathering gathered .before in
     (one-more _ (counted count) (omega (arith, gathered .gather-two .kept .0)), start count .pre .2)
@@ -99,17 +85,15 @@ returns-2 c =
     let some = before-gathering gathered in
     let count = some .before in
     let key = start count .args .key .now in
-    two-for-some _ _ _ _ _ _ _ _ (two-read key _ _ _ (counted count) (some .if1 .left) (omega arith) (gathered .gather-two .ensures))
-    (taken-in .take-in2 .ensures)
+    two-for-some _ _ _ _ _ _ _ _ _ (omega (arith, count .entry-count .ensures, some .if1 .left))
+    (two-read key _ _ _ _ (counted count) (some .if1 .left) (omega arith) (gathered .gather-two .ensures))
+    (taken-in .take-in .ensures)
 
 pub take-in-two-spec : {M : Type 1} → statement M
 take-in-two-spec =
     tie.close
     (tie.spec
     entry-count-requires
-    array-share-prefix-room
-    slice-aggregate-take-in
-    take-in-requires
     same-length
     returns
     slice-aggregate-gather-two
@@ -118,8 +102,8 @@ take-in-two-spec =
     add-size-2
     mul-size
     add-take-in
-    array-share-prefix-room-2
-    slice-aggregate-take-in-2
-    take-in-requires-2
+    array-share-prefix-room
+    slice-aggregate-take-in
+    take-in-requires
     same-length-2
     returns-2)

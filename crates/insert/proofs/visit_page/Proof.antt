@@ -35,18 +35,23 @@ returns-2 c =
     let head = c .before .before in
     visit-leaf _ _ _ (page (head .before)) (head .at .ensures .0) (sym (c .before .is-leaf .ensures) ∙ c .if2 .taken)
 
-chosen-child-requires : tie.Need-chosen-child-requires
-chosen-child-requires c κs =
+chosen-entry-requires : tie.Need-chosen-entry-requires
+chosen-entry-requires c κs =
     let tested = c .before .before .before in
     (start tested .pre, page tested)
 
+child-of-requires : tie.Need-child-of-requires
+child-of-requires c κs = start (c .before .before .before .before) .pre
+
 returns-3 : tie.Need-returns-3
 returns-3 c =
-    let upper = c .before in
+    let chosen = c .before in
+    let upper = chosen .before in
     let head = upper .before .before in
-    visit-child _ _ _ (page (head .before)) (head .at .ensures .0) (sym (upper .before .is-leaf .ensures) ∙ upper .if2 .left) (c .chosen-child .ensures)
+    visit-child _ _ _ (page (head .before)) (head .at .ensures .0) (sym (upper .before .is-leaf .ensures) ∙ upper .if2 .left) (chosen .chosen-entry .ensures)
+    (c .child-of .ensures)
 
 pub visit-page-spec : {M : Type 1} → statement M
 visit-page-spec =
     tie.close
-    (tie.spec is-page-requires returns at-requires is-leaf-requires returns-2 chosen-child-requires returns-3)
+    (tie.spec is-page-requires returns at-requires is-leaf-requires returns-2 chosen-entry-requires child-of-requires returns-3)

@@ -4,8 +4,7 @@ use mathlib.Core.Path.{_≡_, sym, ap, _∙_}
 use native.Mathlib.Omega.{arith}
 use Rattle.matching.specs.declared.Column.{Column}
 use Rattle.matching.specs.Match.{matchRefusal}
-use Rattle.matching.specs.Rule.{entriesMatch, leafEntries}
-use Rattle.matching.specs.TestLaws.{columnOf}
+use Rattle.matching.specs.Rule.{columnOf, entriesMatch, leafEntries}
 use Rattle.matching.specs.CallLaws.{Ready, ready, column-is, column-ready, answer-refused, answer-unsound, answer-matched, answer-other}
 use borrow.Author.Needs.{needs}
 use Rattle.matching.proofs.match_checked.Statement.{statement}

@@ -71,6 +71,26 @@ fn written(v: i64, width: usize, decimals: u32) -> Vec<u8> {
     made
 }
 
+/// The text without its zero before the point, if that is its whole part. A blank on the left makes up for it if the text is then shorter than the width.
+fn without_zero(mut text: Vec<u8>, width: usize) -> Vec<u8> {
+    let Some(point) = text.iter().position(|&c| c == b'.') else {
+        return text;
+    };
+    if text[point - 1] != b'0' || (point > 1 && text[point - 2].is_ascii_digit()) {
+        return text;
+    }
+    text.remove(point - 1);
+    if text.len() < width {
+        text.insert(0, b' ');
+    }
+    text
+}
+
+/// A value whose whole part is zero, in units of 10 to the -decimals.
+fn below_one(r: &mut Random, decimals: u32) -> i64 {
+    value(r) % 10i64.pow(decimals.min(18))
+}
+
 /// Changes one character, moves the text on by one, or swaps two neighbours.
 fn spoil(r: &mut Random, text: &mut [u8]) {
     if text.is_empty() {
@@ -86,12 +106,17 @@ fn spoil(r: &mut Random, text: &mut [u8]) {
     }
 }
 
-/// A numeric text for a format: a value's text, that text spoilt, blanks, or characters that numbers are made of.
+/// A numeric text for a format: a value's text, with its zero before the point or without, that text spoilt, blanks, or characters that numbers are made of.
 pub fn number(r: &mut Random, width: usize, decimals: u32) -> Vec<u8> {
     let mut text = match r.below(10) {
         0 => vec![b' '; width],
         1 => (0..width).map(|_| r.pick(ODD)).collect(),
         2 => (0..width).map(|_| r.pick(b"  -..0019")).collect(),
+        3 | 4 => {
+            let v = below_one(r, decimals);
+            let made = without_zero(written(v, width, decimals), width);
+            made[made.len() - width..].to_vec()
+        }
         _ => {
             let v = value(r);
             let made = written(v, width, decimals);
@@ -107,9 +132,17 @@ pub fn number(r: &mut Random, width: usize, decimals: u32) -> Vec<u8> {
     text
 }
 
-/// A numeric text that is read: a value's text if it fits, else blanks.
+/// A numeric text that is read: a value's text, with its zero before the point or without, if it fits, else blanks.
 pub fn good_number(r: &mut Random, width: usize, decimals: u32) -> Vec<u8> {
-    let text = written(value(r) % 1_000_000_000_000_000_000, width, decimals);
+    let mut v = value(r) % 1_000_000_000_000_000_000;
+    let dropped = r.one_in(4);
+    if dropped {
+        v = below_one(r, decimals);
+    }
+    let mut text = written(v, width, decimals);
+    if dropped && v != 0 {
+        text = without_zero(text, width);
+    }
     if text.len() == width {
         text
     } else {

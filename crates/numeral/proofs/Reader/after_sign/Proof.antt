@@ -18,8 +18,8 @@ returns c =
     let tested = c .before .before in
     rw (← (tested .before .is-digit .ensures), tested .if1 .taken, ← (c .before .first-digit .ensures)) (c .with-digit .ensures)
 
-refused-at-requires : tie.Need-refused-at-requires
-refused-at-requires c κs = search needs
+whole-start-requires : tie.Need-whole-start-requires
+whole-start-requires c κs = search needs
 
 in-phase-requires : tie.Need-in-phase-requires
 in-phase-requires c κs = search needs
@@ -27,7 +27,7 @@ in-phase-requires c κs = search needs
 returns-2 : tie.Need-returns-2
 returns-2 c =
     let tested = c .before .before in
-    rw (← (tested .before .is-digit .ensures), tested .if1 .left, ← (c .before .refused-at .ensures)) (c .in-phase .ensures)
+    rw (← (tested .before .is-digit .ensures), tested .if1 .left, ← (c .before .whole-start .ensures)) (c .in-phase .ensures)
 
 pub after-sign-spec : {M : Type 1} → statement M
 after-sign-spec =
@@ -37,6 +37,6 @@ after-sign-spec =
     first-digit-requires
     with-digit-requires
     returns
-    refused-at-requires
+    whole-start-requires
     in-phase-requires
     returns-2)

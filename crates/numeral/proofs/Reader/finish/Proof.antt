@@ -34,6 +34,9 @@ enum-told-5 c = search needs
 enum-told-6 : tie.Need-enum-told-6
 enum-told-6 c = search needs
 
+enum-told-7 : tie.Need-enum-told-7
+enum-told-7 c = search needs
+
 returns : tie.Need-returns
 unfolding meaning
 returns c = rw (c .enum-told .given .1)
@@ -62,6 +65,10 @@ returns-7 : tie.Need-returns-7
 unfolding meaning
 returns-7 c = rw (c .enum-told6 .given .1)
 
+returns-8 : tie.Need-returns-8
+unfolding meaning
+returns-8 c = rw (c .enum-told7 .given .1)
+
 pub finish-spec : {M : Type 1} → statement M
 finish-spec =
     tie.close
@@ -76,10 +83,12 @@ finish-spec =
     settle-requires-3
     enum-told-5
     enum-told-6
+    enum-told-7
     returns
     returns-2
     returns-3
     returns-4
     returns-5
     returns-6
-    returns-7)
+    returns-7
+    returns-8)

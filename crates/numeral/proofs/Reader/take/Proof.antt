@@ -38,6 +38,12 @@ enum-known-p c = search needs
 after-point-requires : tie.Need-after-point-requires
 after-point-requires c κs = search needs
 
+enum-known-p-2 : tie.Need-enum-known-p-2
+enum-known-p-2 c = search needs
+
+after-dropped-requires : tie.Need-after-dropped-requires
+after-dropped-requires c κs = search needs
+
 enum-told-5 : tie.Need-enum-told-5
 enum-told-5 c = search needs
 
@@ -69,10 +75,13 @@ returns-5 : tie.Need-returns-5
 returns-5 c = c .after-point .ensures ∙ sym (step-in _ _ (c .before .before .p .given .1))
 
 returns-6 : tie.Need-returns-6
-returns-6 c = c .in-phase2 .ensures ∙ sym (step-in _ _ (c .before .enum-told5 .given .1))
+returns-6 c = c .after-dropped .ensures ∙ sym (step-in _ _ (c .before .before .p2 .given .1))
 
 returns-7 : tie.Need-returns-7
-returns-7 c = c .in-phase3 .ensures ∙ rw (c .before .refused-at .ensures) (sym (step-in _ _ (c .before .before .enum-told6 .given .1)))
+returns-7 c = c .in-phase2 .ensures ∙ sym (step-in _ _ (c .before .enum-told5 .given .1))
+
+returns-8 : tie.Need-returns-8
+returns-8 c = c .in-phase3 .ensures ∙ rw (c .before .refused-at .ensures) (sym (step-in _ _ (c .before .before .enum-told6 .given .1)))
 
 pub take-spec : {M : Type 1} → statement M
 take-spec =
@@ -89,6 +98,8 @@ take-spec =
     after-whole-requires
     enum-known-p
     after-point-requires
+    enum-known-p-2
+    after-dropped-requires
     enum-told-5
     in-phase-requires-2
     enum-told-6
@@ -100,4 +111,5 @@ take-spec =
     returns-4
     returns-5
     returns-6
-    returns-7)
+    returns-7
+    returns-8)

@@ -1,7 +1,7 @@
 //! The cases that have a limit.
 use crate::inputs;
 use crate::measure::Case;
-use gatherloom::{read_number, write_number, Decimal, Index, Lookup, Refusal, Table};
+use gatherloom::{read_number, write_number, Decimal, Dilution, Index, Lookup, Refusal, Table};
 use gatherloom_compare::generate::index::Entry;
 use gatherloom_compare::random::Random;
 use gatherloom_compare::reference;
@@ -24,6 +24,7 @@ pub fn run(word: &str) -> usize {
         audits,
         insertions,
         matches,
+        dilutions,
     ];
     for group in groups {
         over += group(word);
@@ -70,11 +71,16 @@ fn format_named(width: usize, decimals: u32, digits: u32) -> String {
 fn number_reads(word: &str) -> usize {
     let mut r = Random::new(1);
     let mut over = 0;
-    for (width, decimals, digits) in FORMATS {
+    let mut lists = Vec::from(FORMATS.map(|(width, decimals, digits)| {
         let texts = inputs::texts(&mut r, width, decimals, digits);
+        (format_named(width, decimals, digits), decimals, texts)
+    }));
+    let name = "width 8, 3 decimals, zero dropped".to_string();
+    lists.push((name, 3, inputs::short_texts(&mut r, 8, 3)));
+    for (input, decimals, texts) in lists {
         let case = Case {
             call: "numeric read",
-            input: format_named(width, decimals, digits),
+            input,
             calls: texts.len(),
             limit: TEXT_AND_TABLE,
             prepare: Box::new(|| ()),
@@ -372,6 +378,40 @@ fn matches(word: &str) -> usize {
         prepare: Box::new(|| ()),
         library: Box::new(|| Index::over(&index).matches(&good, 1).is_ok() as u64),
         plain: Box::new(|| reference::match_index(&table, &index, 1).is_ok() as u64),
+    };
+    show(word, case, false)
+}
+
+/// One barcode of a table that fills a file of the program `dilute`. The match takes nearly all the time: the record is found by the index.
+fn dilutions(word: &str) -> usize {
+    let mut r = Random::new(7);
+    let (mut table, index) = inputs::matching(&mut r, 2_000);
+    let (header, record) = (33 + 32 * 5, 32);
+    table[header + 999 * record] = b' ';
+    reference::number_write(&mut table[header + 999 * record + 11..][..8], 3, 2150)
+        .expect("there is room");
+    let barcode = table[header + 999 * record + 1..][..10].to_vec();
+    let good = Table::new(&table).unwrap();
+    let asked = Dilution {
+        barcode_field: 1,
+        concentration_field: 2,
+        target: 2000,
+        final_volume: 1000,
+    };
+    let case = Case {
+        call: "dilution",
+        input: "2,000 records, k = 10".to_string(),
+        calls: 1,
+        limit: WHOLE_INDEX,
+        prepare: Box::new(|| ()),
+        library: Box::new(|| {
+            let volumes = Index::over(&index).dilute(&good, &barcode, &asked);
+            volumes.map_or(0, |v| v.sample as u64)
+        }),
+        plain: Box::new(|| {
+            let volumes = reference::dilute(&table, &index, (1, 2), &barcode, 2000, 1000);
+            volumes.map_or(0, |v| v.0 as u64)
+        }),
     };
     show(word, case, false)
 }

@@ -18,6 +18,15 @@ pub fn texts(r: &mut Random, width: usize, decimals: u32, digits: u32) -> Vec<Ve
         .collect()
 }
 
+/// Values below one, as texts of one format without the zero before the point.
+pub fn short_texts(r: &mut Random, width: usize, decimals: u32) -> Vec<Vec<u8>> {
+    let digits = decimals as usize;
+    values(r, decimals)
+        .into_iter()
+        .map(|v| format!("{:>width$}", format!(".{:0digits$}", v.max(1))).into_bytes())
+        .collect()
+}
+
 pub fn values(r: &mut Random, digits: u32) -> Vec<i64> {
     let size = 10u64.pow(digits);
     (0..256).map(|_| (r.bits() % size) as i64).collect()

@@ -484,3 +484,60 @@ pub fn match_index(tally: &mut Tally, table: &Lent, index: &Lent, field: u32) {
         ],
     );
 }
+
+/// What is asked of a dilution beside its table, index and barcode.
+pub struct Dilution {
+    pub fields: (u32, u32),
+    pub target: u64,
+    pub volume: u64,
+}
+
+pub fn dilute(
+    tally: &mut Tally,
+    table: &Lent,
+    index: &Lent,
+    barcode: &Lent,
+    asked: &Dilution,
+    held: u32,
+) {
+    let (mut sample, mut diluent) = (Out::new(held), Out::new(held));
+    let got = unsafe {
+        ffi::gl_dilute(
+            table.place(),
+            table.length(),
+            index.place(),
+            index.length(),
+            asked.fields.0,
+            asked.fields.1,
+            barcode.place(),
+            barcode.length(),
+            asked.target,
+            asked.volume,
+            sample.place(),
+            diluent.place(),
+        )
+    };
+    let volumes = reference::dilute(
+        table.was(),
+        index.was(),
+        asked.fields,
+        barcode.was(),
+        asked.target,
+        asked.volume,
+    );
+    tally.hold(
+        Call::Dilute,
+        (got, (sample.value(), diluent.value())),
+        due(volumes.map(Some), (held, held)),
+        table.kept() && index.kept() && barcode.kept() && sample.intact() && diluent.intact(),
+        &[
+            Bytes("table", table.was()),
+            Bytes("index", index.was()),
+            Number("barcode field", asked.fields.0.into()),
+            Number("concentration field", asked.fields.1.into()),
+            Bytes("barcode", barcode.was()),
+            Number("target", asked.target as i64),
+            Number("final volume", asked.volume as i64),
+        ],
+    );
+}

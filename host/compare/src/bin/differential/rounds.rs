@@ -52,6 +52,7 @@ pub fn round(r: &mut Random, a: &mut Arenas, tally: &mut Tally) {
     made_index(r, a, tally);
     for _ in 0..4 {
         a_match(r, a, tally);
+        a_sheet(r, a, tally);
     }
     if r.one_in(20) {
         spine(r, a, tally);
@@ -670,4 +671,108 @@ fn spoil_entries(r: &mut Random, k: usize, keys: &mut Vec<Entry>) {
         }
         _ => (),
     }
+}
+
+// ---- the dilution
+
+/// A concentration's text, for the most part one that is read: small ones, so that targets of their size are drawn, and long ones.
+fn concentration(r: &mut Random, width: usize) -> Vec<u8> {
+    if r.one_in(4) {
+        return text::number(r, width, 3);
+    }
+    let most = 10u64.pow((width - 1).min(17) as u32);
+    let units = match r.below(4) {
+        0 => r.bits() % most,
+        1 => r.below(10) as u64,
+        _ => r.bits() % most.min(100_000),
+    };
+    format!(
+        "{:>width$}",
+        format!("{}.{:03}", units / 1000, units % 1000)
+    )
+    .into_bytes()
+}
+
+/// A table of barcodes and concentrations, with its index, each mostly good; barcodes are looked for that are there and that are not.
+fn a_sheet(r: &mut Random, a: &mut Arenas, tally: &mut Tally) {
+    let k = r.pick(&[1, 2, 8, 10, 10, 10, 46]);
+    let mut keys = {
+        let (draws, style) = (r.below(14), r.below(4));
+        index::entries(r, k, draws, style)
+    };
+    r.shuffle(&mut keys);
+    let width = r.between(5, 20);
+    let decimals = if r.one_in(16) { r.below(4) } else { 3 };
+    let (barcodes, concentrations) = (
+        table::Column {
+            kind: b'C',
+            length: k as u8,
+            decimals: 0,
+        },
+        table::Column {
+            kind: b'N',
+            length: width as u8,
+            decimals: decimals as u8,
+        },
+    );
+    let swapped = r.one_in(2);
+    let columns = if swapped {
+        [concentrations, barcodes]
+    } else {
+        [barcodes, concentrations]
+    };
+    let mut table = table::blank(&columns, 0x03, keys.len(), 0);
+    for (i, e) in keys.iter_mut().enumerate() {
+        let record = &mut table[97 + i * (1 + k + width)..][..1 + k + width];
+        record[0] = r.pick(b"       *?");
+        let (barcode, number) = if swapped { (1 + width, 1) } else { (1, 1 + k) };
+        record[barcode..barcode + k].copy_from_slice(&e.0);
+        record[number..number + width].copy_from_slice(&concentration(r, width));
+        e.1 = i as u32 + 1;
+    }
+    let barcode = match r.below(8) {
+        0 => {
+            let length = r.pick(&[0, k, k - 1, k + 1]);
+            r.bytes(length)
+        }
+        _ if keys.is_empty() => r.bytes(k),
+        _ => {
+            let i = r.below(keys.len());
+            keys[i].0.clone()
+        }
+    };
+    keys.sort();
+    if r.one_in(12) {
+        spoil_entries(r, k, &mut keys);
+    }
+    let mut index = index::tree(r, k, &keys, Fill::Any, 1);
+    match r.below(24) {
+        0 => table::damage(r, &mut table),
+        1 => index::damage(r, &mut index),
+        _ => (),
+    }
+    let fields = if swapped { (2, 1) } else { (1, 2) };
+    let near = |r: &mut Random, field: u32| {
+        if r.one_in(24) {
+            r.near(&[0, 1, 2, 3])
+        } else {
+            field
+        }
+    };
+    let asked = calls::Dilution {
+        fields: (near(r, fields.0), near(r, fields.1)),
+        target: match r.below(8) {
+            0 => r.pick(&[0, 1, 999_999_999, 1_000_000_000, 1_000_000_001, u64::MAX]),
+            1 => r.bits() % 1_000_000_001,
+            _ => 1 + r.bits() % 2000,
+        },
+        volume: match r.below(8) {
+            0 => r.pick(&[0, 1, 9_999, 10_000, 10_001, u64::MAX]),
+            _ => 1 + r.bits() % 10_000,
+        },
+    };
+    let table = a.table.lend(&table, r.one_in(2));
+    let index = a.index.lend(&index, r.one_in(2));
+    let barcode = a.key.lend(&barcode, r.one_in(2));
+    calls::dilute(tally, &table, &index, &barcode, &asked, r.word());
 }

@@ -22,10 +22,11 @@ pub enum Call {
     IndexLookup,
     IndexInsert,
     Match,
+    Dilute,
 }
 
 /// Each call's name and every answer that the documents let it give.
-const CALLS: [(&str, &[u32]); 19] = [
+const CALLS: [(&str, &[u32]); 20] = [
     ("gl_table_check", &[0, 1, 2, 3, 4, 5, 6, 7, 8, 9, 10]),
     ("gl_table_shape", &[0, 1, 2, 3, 4, 5, 6, 7, 8, 9, 10]),
     ("gl_fields", &[0, 1, 2, 3, 4, 5, 6, 7, 8, 9, 10, 14]),
@@ -66,6 +67,13 @@ const CALLS: [(&str, &[u32]); 19] = [
     (
         "gl_match",
         &[0, 1, 2, 3, 4, 5, 6, 7, 8, 9, 10, 12, 13, 24, 25, 27, 31],
+    ),
+    (
+        "gl_dilute",
+        &[
+            0, 1, 2, 3, 4, 5, 6, 7, 8, 9, 10, 12, 13, 15, 16, 17, 18, 24, 25, 27, 31, 35, 36, 37,
+            38,
+        ],
     ),
 ];
 

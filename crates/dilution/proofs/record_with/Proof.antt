@@ -1,0 +1,44 @@
+-- `dilution::record_with` meets its contract: the cases of lookup's answer. Assumes nothing.
+use mathlib.Core.Path.{sym, ap, _∙_}
+use Rattle.lookup.specs.Lookup.{answerRecord}
+use Rattle.lookup.specs.declared.Answer.{Answer}
+use Rattle.dilution.specs.Dilution.{recordWith}
+use borrow.Author.Needs.{needs}
+use Rattle.dilution.proofs.record_with.Statement.{statement}
+use Rattle.dilution.proofs.record_with.Tie as tie
+
+lookup-requires : tie.Need-lookup-requires
+lookup-requires c κs = search needs
+
+enum-known-number : tie.Need-enum-known-number
+enum-known-number c = search needs
+
+enum-told : tie.Need-enum-told
+enum-told c = search needs
+
+enum-told-2 : tie.Need-enum-told-2
+enum-told-2 c = search needs
+
+returns : tie.Need-returns
+unfolding recordWith
+returns c =
+    let number = c .before in
+    let looked = number .before .before in
+    sym (ap (λ (a : Answer). answerRecord a 0) (sym (looked .lookup .ensures) ∙ number .number .given .1))
+
+returns-2 : tie.Need-returns-2
+unfolding recordWith
+returns-2 c =
+    let looked = c .before .before in
+    sym (ap (λ (a : Answer). answerRecord a 0) (sym (looked .lookup .ensures) ∙ c .enum-told .given .1))
+
+returns-3 : tie.Need-returns-3
+unfolding recordWith
+returns-3 c =
+    let looked = c .before .before in
+    sym (ap (λ (a : Answer). answerRecord a 0) (sym (looked .lookup .ensures) ∙ c .enum-told2 .given .1))
+
+pub record-with-spec : {M : Type 1} → statement M
+record-with-spec =
+    tie.close
+    (tie.spec lookup-requires enum-known-number enum-told enum-told-2 returns returns-2 returns-3)

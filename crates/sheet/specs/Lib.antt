@@ -1,0 +1,16 @@
+-- The dilution sheet, in the order in which its parts rest on one another. Rules are what a reader must believe; laws are proved.
+
+-- Rules: a text that is written into a buffer, as far as there is room
+pub mod Output
+-- Rules: the four numbers of the input
+pub mod Input
+-- Rules: the sheet's lines
+pub mod Sheet
+-- Laws: texts that are written one after another
+pub mod OutputLaws
+-- Laws: how the code reads a line of the input
+pub mod InputLaws
+-- Laws: a number's decimal text; the lines of the records, one after another
+pub mod SheetLaws
+-- Laws: how long a sheet's text is at most
+pub mod LengthLaws
