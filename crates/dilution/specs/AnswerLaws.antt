@@ -94,5 +94,6 @@ module _ (t b : List ℕ) (barcodeField field : ℕ) (barcode : List ℕ) (targe
     where
       drawn-is : {x y : ℕ} → Volumes x y ≡ Volumes sample diluent → x ≡ sample
       drawn-is q = cc
+
       added-is : {x y : ℕ} → Volumes x y ≡ Volumes sample diluent → y ≡ diluent
       added-is q = cc
