@@ -36,9 +36,9 @@ keyFrom b k z = cond (eqb z 0) none (some (window b z k))
 abbrev pub leafEntry : List ℕ → ℕ → ℕ → ℕ → ℕ → Bool
 leafEntry b k p i z = not (eqb (numberAt b k p i) 0) && isAbove (keyFrom b k z) (keyAt b k p i)
 
--- the key of entry i of a page above the leaves, of n entries, is a ceiling; the children have h levels under them
-abbrev pub upperEntry : List ℕ → ℕ → ℕ → ℕ → ℕ → ℕ → ℕ → Bool
-upperEntry b k size h p n i = upperEntryGood b k size h (keyAt b k p i, numberAt b k p i) (entriesFrom b k p (n - (i + 1)) (i + 1))
+-- the key of entry i of a page above the leaves, of n entries, is a ceiling, or exact; the children have h levels under them
+abbrev pub upperEntry : List ℕ → ℕ → ℕ → Bool → ℕ → ℕ → ℕ → ℕ → Bool
+upperEntry b k size exact h p n i = upperEntryGood b k size exact h (keyAt b k p i, numberAt b k p i) (entriesFrom b k p (n - (i + 1)) (i + 1))
 
 -- the page at p of the free list: whether it fits, and the marks after it
 unfoldable pub markFree : List ℕ → ℕ → ℕ → List ℕ → Bool × List ℕ

@@ -6,7 +6,7 @@ use octets::Ordering;
 use page::Page;
 use page::PageOffset;
 ghost use mathlib.Core.Path.{_≡_};
-ghost use mathlib.Core.Bool.{Bool, true};
+ghost use mathlib.Core.Bool.{Bool, true, cond};
 ghost use mathlib.Core.Option.{none};
 ghost use Prim.Native.Nat.{ℕ, _+_, _-_, _≤_, _<_};
 ghost use lib.ListN.{length};
@@ -527,42 +527,62 @@ fn below_next(
     octets::is_below(key_order(index, k, key, first))
 }
 
+// How many levels a test goes down under a child that has `under` levels under it: none if the keys are to be exact.
+fn steps(exact: bool, under: u32) -> u32
+    ensures { λ r. ⌜ r ≡ cond exact 0 under ⌝ }
+{
+    if exact {
+        return 0;
+    }
+    under
+}
+
 // Whether the key of entry i, above a child that has `under` levels under it, is a ceiling: at or above the last leaf key under the child, and below the first
-// under the next child of the page, of `count` entries. Leaf keys ascend, so that a key equal to the last leaf key under the child is below the next.
+// under the next child of the page, of `count` entries. Leaf keys ascend, so that a key equal to the last leaf key under the child is below the next. If the
+// key is to be `exact`, whether it is the child's own last key.
 fn upper_entry(
     index: &[u8],
     k: usize,
     size: usize,
+    exact: bool,
     under: u32,
     page: PageOffset,
     count: usize,
     i: usize,
 ) -> bool
     requires { ⌜ InFile (now index) k size × EntriesWithin (now index) k (page .0) count × (i < count) ⌝ }
-    ensures { λ r. ⌜ r ≡ upperEntry (now (index .entry)) k size under (page .0) count i ⌝ }
+    ensures { λ r. ⌜ r ≡ upperEntry (now (index .entry)) k size exact under (page .0) count i ⌝ }
 {
     let child = page::child(index, k, page, i);
-    let last = last_key(index, k, size, last_under(index, k, size, under, child));
+    let down = steps(exact, under);
+    let last = last_key(index, k, size, last_under(index, k, size, down, child));
     if last == 0 {
         return false;
     }
     let key = page::entry_offset(k, page, i);
     match key_order(index, k, last, key) {
-        Ordering::Below => below_next(index, k, size, under, page, count, i + 1, key),
+        Ordering::Below => !exact & below_next(index, k, size, under, page, count, i + 1, key),
         Ordering::Equal => true,
         Ordering::Above => false,
     }
 }
 
 // Whether the entries of a page above the leaves are good. Its children have `under` levels under them.
-fn upper_entries(index: &[u8], k: usize, size: usize, under: u32, page: PageOffset) -> bool
+fn upper_entries(
+    index: &[u8],
+    k: usize,
+    size: usize,
+    exact: bool,
+    under: u32,
+    page: PageOffset,
+) -> bool
     requires { ⌜ InFile (now index) k size ⌝ }
-    ensures { λ r. ⌜ r ≡ upperEntriesGood (now (index .entry)) k size under (entriesAt k size (now (index .entry)) (page .0)) ⌝ }
+    ensures { λ r. ⌜ r ≡ upperEntriesGood (now (index .entry)) k size exact under (entriesAt k size (now (index .entry)) (page .0)) ⌝ }
 {
     let count = page::entry_count(index, k, size, page);
     let mut i = 0;
     while i < count {
-        if !upper_entry(index, k, size, under, page, count, i) {
+        if !upper_entry(index, k, size, exact, under, page, count, i) {
             return false;
         }
         i += 1;
@@ -572,9 +592,16 @@ fn upper_entries(index: &[u8], k: usize, size: usize, under: u32, page: PageOffs
 
 // Whether the entries of the pages of a level above the leaves are good, from its first page on along the right links. Their children have `under` levels under
 // them.
-fn upper_pages(index: &[u8], k: usize, size: usize, under: u32, first: PageOffset) -> bool
+fn upper_pages(
+    index: &[u8],
+    k: usize,
+    size: usize,
+    exact: bool,
+    under: u32,
+    first: PageOffset,
+) -> bool
     requires { ⌜ InFile (now index) k size ⌝ }
-    ensures { λ r. ⌜ r ≡ upperPagesGood (now (index .entry)) k size under (chain (now (index .entry)) size maxPages (first .0)) ⌝ }
+    ensures { λ r. ⌜ r ≡ upperPagesGood (now (index .entry)) k size exact under (chain (now (index .entry)) size maxPages (first .0)) ⌝ }
 {
     let mut page = first;
     let mut left = page::MAX_PAGES;
@@ -582,7 +609,7 @@ fn upper_pages(index: &[u8], k: usize, size: usize, under: u32, first: PageOffse
         if !page::is_page(size, page) {
             return true;
         }
-        if !upper_entries(index, k, size, under, page) {
+        if !upper_entries(index, k, size, exact, under, page) {
             return false;
         }
         let head = Page::at(index, page);
@@ -593,15 +620,22 @@ fn upper_pages(index: &[u8], k: usize, size: usize, under: u32, first: PageOffse
 }
 
 // Whether the keys above pages are good on the level whose first page is `first` and on the levels under it, of which there are `height`.
-fn upper_levels(index: &[u8], k: usize, size: usize, height: u32, first: PageOffset) -> bool
+fn upper_levels(
+    index: &[u8],
+    k: usize,
+    size: usize,
+    exact: bool,
+    height: u32,
+    first: PageOffset,
+) -> bool
     requires { ⌜ InFile (now index) k size ⌝ }
-    ensures { λ r. ⌜ r ≡ upperLevelsGood (now (index .entry)) k size height (first .0) ⌝ }
+    ensures { λ r. ⌜ r ≡ upperLevelsGood (now (index .entry)) k size exact height (first .0) ⌝ }
 {
     let mut left = height;
     let mut page = first;
     while 0 < left {
         left -= 1;
-        if !upper_pages(index, k, size, left, page) {
+        if !upper_pages(index, k, size, exact, left, page) {
             return false;
         }
         page = page::first_child(index, k, size, page);
@@ -626,7 +660,8 @@ fn height_of(index: &[u8], k: usize, size: usize, root: PageOffset) -> u32
     height
 }
 
-// Whether the keys above pages are good in an index with a good header.
+// Whether the keys above pages are good in an index with a good header. Most often each is its child's own last key; only if not, the tests go down to the
+// leaves.
 fn keys_above_good(index: &[u8]) -> bool
     requires { ⌜ headerGood (now index) ≡ true ⌝ }
     ensures { λ r. ⌜ r ≡ keysAboveGood (now (index .entry)) ⌝ }
@@ -634,7 +669,11 @@ fn keys_above_good(index: &[u8]) -> bool
     let k = page::key_length(index);
     let size = page::file_size(index);
     let root = page::root(index);
-    upper_levels(index, k, size, height_of(index, k, size, root), root)
+    let height = height_of(index, k, size, root);
+    if upper_levels(index, k, size, true, height, root) {
+        return true;
+    }
+    upper_levels(index, k, size, false, height, root)
 }
 
 // Whether an index with a good header is sound, with a mark lent for each page.

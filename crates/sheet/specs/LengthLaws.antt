@@ -16,14 +16,18 @@ use Rattle.octets.specs.Text.{decimal}
 use Rattle.octets.specs.DigitLaws.{decimal-fits}
 use Rattle.numeral.specs.declared.Number.{Number}
 use Rattle.numeral.specs.declared.Number.the-variants as text
-use Rattle.table.specs.Table.{recordCount, recordLength, recordsEnd, fieldLength, firstRefusal, tableChecks}
-use Rattle.table.specs.Table.{deletionByte, deletedMark}
+use Rattle.table.specs.Table.{typeC, recordCount, recordLength, recordsEnd, fieldCount, fieldType, fieldLength, deletionByte, deletedMark, firstRefusal}
+use Rattle.table.specs.Table.{tableChecks}
 use Rattle.table.specs.TableLaws.{layout}
 use Rattle.table.specs.RecordLaws.{field-inside, offset-positive}
 use Rattle.table.specs.FormLaws.{field-form, form-some}
 use Rattle.cell.specs.Cell.{fieldBytes}
 use Rattle.cell.specs.AnswerLaws.{first-small, table-below, number-numbered}
+use Rattle.field.specs.Field.{numberGood}
+use Rattle.page.specs.Header.{keyLength, headerGood}
+use Rattle.sound.specs.Rule.{pagesGood, unmarked}
 use Rattle.matching.specs.Match.{matchRefusal}
+use Rattle.matching.specs.Rule.{columnOf, entriesMatch, leafEntries}
 use Rattle.matching.specs.Computed.{matchAnswer}
 use Rattle.dilution.specs.Dilution.{volumesOf, concentrationDecimals, concentrationText, textRefusal, concentrationOf, fieldChecks, sheetChecks, recordWith}
 use Rattle.dilution.specs.Dilution.{barcodeChecks, textChecks, volumeChecks, unless, dilutionOf, recordDilution, diluteRule}
@@ -59,8 +63,18 @@ unless-small (x ∷ xs) d p h = either (x .0)
 match-low : (t b : List ℕ) (field : ℕ) → matchAnswer t b field < 256
 unfolding matchAnswer matchRefusal
 match-low t b field =
-    let before = first-small _ (all-append Low (tableChecks t) _ (table-below t) (lit< tt, (lit< tt, (lit< tt, (lit< tt, tt))))) in
-    first-small _ (before, (lit< tt, (lit< tt, tt)))
+    let checks : List (Bool × ℕ) = (headerGood b, 24)
+    ∷ (numberGood field (fieldCount t), 12)
+    ∷ (eqb (fieldType t (field - 1)) typeC, 13)
+    ∷ (eqb (fieldLength t (field - 1)) (keyLength b), 27)
+    ∷ [] in
+    let tests : List (Bool × ℕ) = (eqb (matchRefusal t b field) 0, matchRefusal t b field)
+    ∷ (pagesGood b unmarked, 25)
+    ∷ (entriesMatch t (columnOf t field) 0 (leafEntries b), 31)
+    ∷ [] in
+    let low : All Low checks = (lit< tt, (lit< tt, (lit< tt, (lit< tt, tt)))) in
+    let before = first-small (tableChecks t ++ checks) (all-append Low (tableChecks t) checks (table-below t) low) in
+    first-small tests (before, (lit< tt, (lit< tt, tt)))
 
 sheet-low : (t b : List ℕ) (barcodeField field : ℕ) → All Low (sheetChecks t b barcodeField field)
 unfolding sheetChecks fieldChecks
@@ -117,14 +131,13 @@ module _ (t b : List ℕ) (q : Request) where
 
   line-short : (i : ℕ) → length (recordLine t b q i) ≤ k + 13
   unfolding recordLine answerOn
-  line-short i = either (eqb (deletionByte t i) deletedMark)
+  line-short i =
+      let barcode = fieldBytes t i (q .«barcode_field») in
+      let answer = answerOn t b q i in
+      let small : Small answer = dilute-small t b (q .«barcode_field») (q .field) barcode (q .target) (q .«final_volume») in
+      either (eqb (deletionByte t i) deletedMark)
       (λ e. rw e (omega arith))
-      (λ e. rw e (omega (
-        arith,
-        length-append (fieldBytes t i (q .«barcode_field»)) (answerText (answerOn t b q i)),
-        bytes-short t i (q .«barcode_field»),
-        answer-short _ (dilute-small t b (q .«barcode_field») (q .field) (fieldBytes t i (q .«barcode_field»)) (q .target) (q .«final_volume»)),
-      )))
+      (λ e. rw e (omega (arith, length-append barcode (answerText answer), bytes-short t i (q .«barcode_field»), answer-short answer small)))
 
   lines-short : (left i : ℕ) → length (linesAfter t b q i left) ≤ left * (k + 13)
   unfolding linesAfter

@@ -4,7 +4,7 @@ use Prim.Native.Nat.{ℕ, zero, suc}
 use mathlib.Core.Path.{_≡_, refl, sym, ap, _∙_, subst}
 use mathlib.Core.List.{List, [], _∷_, _++_, append-nil}
 use mathlib.Core.Bool.{Bool, true, false, not}
-use mathlib.Core.Option.{none, some}
+use mathlib.Core.Option.{Option, none, some}
 use mathlib.Core.Logic.{_↔_}
 use lib.ListN.{length-map}
 use Rattle.basis.specs.Lists.{All, all-left}
@@ -26,7 +26,8 @@ use Rattle.page.specs.Header.{noPage}
 use Rattle.page.specs.KeyOrder.{bytesOrder}
 use Rattle.page.specs.KeyOrderLaws.{below, below-not-le, equal-same, equal-refl}
 use Rattle.page.specs.Reading.{entriesAt}
-use Rattle.sound.specs.Rule.{Entries, firstOf, lastNumber, down, isCeiling, firstLeafKey, lastLeafKey, belowNext, upperEntryGood, upperEntriesGood}
+use Rattle.sound.specs.Rule.{Entries, firstOf, lastOf, lastNumber, down, isCeiling, firstLeafKey, lastLeafKey, belowNext}
+use Rattle.sound.specs.Rule.{upperEntryGood, upperEntriesGood}
 use Rattle.sound.specs.Levels.{all-of-map, numbers, readAll}
 use Rattle.sound.specs.EntryLaws.{last-some}
 
@@ -66,6 +67,13 @@ module _ (x a : List ℕ) (u : Entries) (next : Bool) (N : Type 0) (some-u : Non
       (λ e. let apart : bytesLe x l ≡ false = either (bytesLe x l)
       (λ o. let same = le-antisym l x (last-le x a u some-u (c .0)) o in contra (subst (λ z. isEqual (ordering l z) ≡ true) same (equal-refl l)) e)
       (λ o. o) in rw e (join _ _ (lt-below l x apart) (tells (c .1))))
+
+-- a key that is the only ceiling over its child if nothing is said of the next one
+own-same : (o : Option (List ℕ)) (x : List ℕ) → isCeiling o x false ≡ true → o ≡ some x
+own-same none x g = contra g refl
+own-same (some a) x g = either (isEqual (ordering a x))
+    (λ e. ap some (equal-same a x e))
+    (λ e. contra (both (isBelow (ordering a x)) false (rw e at g) .1) refl)
 
 module _ (b : List ℕ) (k size : ℕ) where
   abbrev S : ℕ → Entries
@@ -154,7 +162,7 @@ module _ (b : List ℕ) (k size : ℕ) where
 
     -- one entry
     entry-ceiling : (h : ℕ) (e : List ℕ × ℕ) (es : Entries) → Full cap h e → All (Full cap h) es → Ascending bytesOrder (leafPairs h (e ∷ es))
-        → (upperEntryGood b k size h e es ≡ true) ↔ (Below bytesOrder (e .0) (pairs h (readTree S h (e .1))) × Next h (e .0) es)
+        → (upperEntryGood b k size false h e es ≡ true) ↔ (Below bytesOrder (e .0) (pairs h (readTree S h (e .1))) × Next h (e .0) es)
     entry-ceiling h e es d ds ascending =
         let x = e .0 in
         let u = pairs h (readTree S h (e .1)) in
@@ -168,7 +176,7 @@ module _ (b : List ℕ) (k size : ℕ) where
 
     -- Theorem: the test of a page's entries says that their keys are ceilings
     pub entries-ceilings : (h : ℕ) (xs : Entries) → All (Full cap h) xs → Ascending bytesOrder (concatMap (pairsUnder (suc h)) (readAll S (suc h) xs))
-        → (upperEntriesGood b k size h xs ≡ true) ↔ PageCeilings h xs
+        → (upperEntriesGood b k size false h xs ≡ true) ↔ PageCeilings h xs
     unfolding upperEntriesGood
     entries-ceilings h [] d ascending = ((λ g. (tt, tt)), (λ c. refl))
     entries-ceilings h (x ∷ []) d ascending =
@@ -180,9 +188,50 @@ module _ (b : List ℕ) (k size : ℕ) where
         let here = entry-ceiling h x (y ∷ ys) (d .0) (d .1) ascending in
         let rest = entries-ceilings h (y ∷ ys) (d .1) (ascending-right bytesOrder (pairs h (readTree S h (x .1))) (leafPairs h (y ∷ ys)) ascending) in (
           (λ g.
-              let t = both (upperEntryGood b k size h x (y ∷ ys)) _ g in
+              let t = both (upperEntryGood b k size false h x (y ∷ ys)) _ g in
               let v = here .0 (t .0) in
               let w = rest .0 (t .1) in
               ((v .0, w .0), (v .1, w .1))),
           (λ c. join _ _ (here .1 (c .0 .0, c .1 .0)) (rest .1 (c .0 .1, c .1 .1))),
         )
+
+  -- keys above that are their children's own last keys, if the last leaf key under each child is its own last key
+  abbrev pub OwnLast : ℕ → List ℕ × ℕ → Type 0
+  OwnLast h e = lastLeafKey b k size h (e .1) ≡ lastOf none (entriesAt k size b (e .1))
+
+  -- the key above is the last leaf key under the child
+  abbrev pub Exactly : ℕ → List ℕ × ℕ → Type 0
+  Exactly h e = lastLeafKey b k size h (e .1) ≡ some (e .0)
+
+  own-key : (h : ℕ) (e : List ℕ × ℕ) (es : Entries) → upperEntryGood b k size true h e es ≡ true → lastOf none (S (e .1)) ≡ some (e .0)
+  unfolding down
+  own-key h e es g = own-same (lastOf none (S (e .1))) (e .0) g
+
+  own-entry : (h : ℕ) (e : List ℕ × ℕ) (es : Entries) → upperEntryGood b k size true h e es ≡ true → OwnLast h e
+      → Exactly h e × (upperEntryGood b k size false h e es ≡ true)
+  own-entry h e es g o =
+      let same = o ∙ own-key h e es g in
+      (same, rw (same, equal-refl (e .0)))
+
+  -- Theorem: then they are good keys above, and each is the last leaf key under its child
+  pub own-entries : (h : ℕ) (xs : Entries) → upperEntriesGood b k size true h xs ≡ true → All (OwnLast h) xs
+      → (upperEntriesGood b k size false h xs ≡ true) × All (Exactly h) xs
+  unfolding upperEntriesGood
+  own-entries h [] g o = (refl, tt)
+  own-entries h (x ∷ xs) g o =
+      let t = both (upperEntryGood b k size true h x xs) _ g in
+      let here = own-entry h x xs (t .0) (o .0) in
+      let rest = own-entries h xs (t .1) (o .1) in
+      (join _ _ (here .1) (rest .0), (here .0, rest .1))
+
+  -- and the last leaf key under their page is its own last key
+  own-last : (h n : ℕ) (o : Option (List ℕ)) (xs : Entries) → NonEmpty xs → All (Exactly h) xs
+      → lastLeafKey b k size h (lastNumber n xs) ≡ lastOf o xs
+  own-last h n o [] s a = absurd s
+  own-last h n o (x ∷ []) s a = a .0
+  own-last h n o (x ∷ y ∷ ys) s a = own-last h (x .1) (some (x .0)) (y ∷ ys) tt (a .1)
+
+  pub own-page : (h : ℕ) (e : List ℕ × ℕ) → NonEmpty (entriesAt k size b (e .1))
+      → All (Exactly h) (entriesAt k size b (e .1)) → OwnLast (suc h) e
+  unfolding down
+  own-page h e s a = own-last h noPage none (S (e .1)) s a

@@ -9,8 +9,8 @@ use native.Mathlib.Omega.{arith}
 use lib.ListN.{length, length-append}
 use lib.Dec.{eqb}
 use borrow.Author.Tests.{ne-eqb}
-use Rattle.basis.specs.Lists.{All, all-append, all-map}
-use Rattle.basis.specs.Tests.{both, join}
+use Rattle.basis.specs.Lists.{All, all-append, all-left, all-right, all-map}
+use Rattle.basis.specs.Tests.{either, both, join}
 use Rattle.tree.specs.Lists.{NonEmpty}
 use Rattle.tree.specs.ListLaws.{all-unit, all-map2}
 use Rattle.tree.specs.Pairs.{Ascending}
@@ -23,11 +23,11 @@ use Rattle.page.specs.Page.{capacity}
 use Rattle.page.specs.KeyOrder.{bytesOrder}
 use Rattle.page.specs.Reading.{entriesAt}
 use Rattle.page.specs.Children.{isLeaf, firstChild}
-use Rattle.sound.specs.Rule.{Entries, maxPages, chain, unmarked, heightOf, upperEntriesGood, upperPagesGood, upperLevelsGood}
-use Rattle.sound.specs.AttributeLaws.{attributeAtLevel}
+use Rattle.sound.specs.Rule.{Entries, maxPages, chain, unmarked, heightOf, upperEntriesGood, upperPagesGood, upperLevelsGood, keysUnderGood, down}
+use Rattle.sound.specs.AttributeLaws.{attributeAtLevel, or-right}
 use Rattle.sound.specs.Levels.{all-of-map, all-to-map, all-of-concat, all-to-concat, numbers, readAll, below, generation, reached, generations-reached}
 use Rattle.sound.specs.RunLaws.{Fits, Fresh}
-use Rattle.sound.specs.CeilingLaws.{Full, full-some, full-children, PageCeilings, entries-ceilings}
+use Rattle.sound.specs.CeilingLaws.{Full, full-some, full-children, PageCeilings, entries-ceilings, OwnLast, Exactly, own-entries, own-page}
 use Rattle.sound.specs.MarkLaws.{fresh-left, fresh-few, unmarked-length, once-fresh}
 use Rattle.sound.specs.LevelLaws.{same-suc, chain-is, next-head, leaf-known, FullAbove}
 use Rattle.sound.specs.ShapeLaws.{rootEntry, levelPages, Shape, least-one, levels-inside, levels-counts, entries-filled, tree-sized}
@@ -61,6 +61,10 @@ module _ (b : List ℕ) (k size : ℕ) (most : size ≤ maxBytes) where
       rw (inner, heightOf) (ap suc (height-found l h (below S es) (firstChild b k size first) (omega arith) (next .1) (next .0)
       (λ i o. rw (same-suc i h) at (leaves (suc i) (omega arith))) (λ i o. full (suc i) (omega arith))))
 
+  -- the levels under the pages that the entries es name, h levels in all, are read back along their right links
+  abbrev Chained : ℕ → Entries → Type 0
+  Chained h es = (i : ℕ) → i < h → chain b size maxPages (headOr noPage (numbers (generation S i es))) ≡ numbers (generation S i es)
+
   module _ (cap : ℕ) where
     -- the tree under the page that an entry names, which has h levels under it
     abbrev under : (h : ℕ) → List ℕ × ℕ → Tree (List ℕ) h
@@ -71,19 +75,15 @@ module _ (b : List ℕ) (k size : ℕ) (most : size ≤ maxBytes) where
 
     -- the pages of one level
     pages-ceilings : (h : ℕ) (es : Entries) → All (Full b k size cap (suc h)) es → All (Ascends (suc h)) es
-        → (upperPagesGood b k size h (numbers es) ≡ true) ↔ All (λ e. PageCeilings b k size h (S (e .1))) es
+        → (upperPagesGood b k size false h (numbers es) ≡ true) ↔ All (λ e. PageCeilings b k size h (S (e .1))) es
     unfolding upperPagesGood
     pages-ceilings h [] d a = ((λ g. tt), (λ c. refl))
     pages-ceilings h (e ∷ es) d a =
         let here = entries-ceilings b k size cap h (S (e .1)) (full-children b k size cap h e (d .0)) (a .0) in
         let rest = pages-ceilings h es (d .1) (a .1) in (
-          (λ g. let t = both (upperEntriesGood b k size h (S (e .1))) _ g in (here .0 (t .0), rest .0 (t .1))),
+          (λ g. let t = both (upperEntriesGood b k size false h (S (e .1))) _ g in (here .0 (t .0), rest .0 (t .1))),
           (λ c. join _ _ (here .1 (c .0)) (rest .1 (c .1))),
         )
-
-    -- the levels under the pages that the entries es name, h levels in all, are read back along their right links
-    abbrev Chained : ℕ → Entries → Type 0
-    Chained h es = (i : ℕ) → i < h → chain b size maxPages (headOr noPage (numbers (generation S i es))) ≡ numbers (generation S i es)
 
     -- what holds of the pages that es name holds of their children
     full-below : (h : ℕ) (es : Entries) → All (Full b k size cap (suc h)) es → All (Full b k size cap h) (below S es)
@@ -110,7 +110,7 @@ module _ (b : List ℕ) (k size : ℕ) (most : size ≤ maxBytes) where
 
     levels-ceilings : (h : ℕ) (es : Entries) (first : ℕ) → NonEmpty es → first ≡ headOr noPage (numbers es) → Chained h es
         → (0 < h → All (Full b k size cap h) es) → All (Ascends h) es
-        → (upperLevelsGood b k size h first ≡ true) ↔ All (λ e. Ceilings bytesOrder h (under h e)) es
+        → (upperLevelsGood b k size false h first ≡ true) ↔ All (λ e. Ceilings bytesOrder h (under h e)) es
     unfolding upperLevelsGood
     levels-ceilings zero es first some e chained full ascends = ((λ g. all-unit es), (λ c. refl))
     levels-ceilings (suc h) es first some e chained full ascends =
@@ -122,16 +122,44 @@ module _ (b : List ℕ) (k size : ℕ) (most : size ≤ maxBytes) where
         (λ l. full-below h es d) (ascends-below h es ascends) in
         let along : chain b size maxPages first ≡ numbers es = ap (chain b size maxPages) e ∙ chained 0 (omega arith) in (
           (λ g.
-              let t = both (upperPagesGood b k size h (chain b size maxPages first)) _ g in
+              let t = both (upperPagesGood b k size false h (chain b size maxPages first)) _ g in
               all-map2 (λ e. PageCeilings b k size h (S (e .1))) (Lower h) (λ e. Ceilings bytesOrder (suc h) (under (suc h) e)) (ceilings-join h) es
               (here .0 (rw along at (t .0)))
               (all-of-concat (λ f. Ceilings bytesOrder h (under h f)) (λ e. S (e .1)) es (rest .0 (t .1)))),
           (λ c.
               let pages = all-map (λ e. Ceilings bytesOrder (suc h) (under (suc h) e)) (λ e. PageCeilings b k size h (S (e .1))) (λ e u. (u .0, u .1)) es c in
               let lower = all-map (λ e. Ceilings bytesOrder (suc h) (under (suc h) e)) (Lower h) (ceilings-lower h) es c in
-              join (upperPagesGood b k size h (chain b size maxPages first)) _ (rw along (here .1 pages))
+              join (upperPagesGood b k size false h (chain b size maxPages first)) _ (rw along (here .1 pages))
               (rest .1 (all-to-concat (λ f. Ceilings bytesOrder h (under h f)) (λ e. S (e .1)) es lower))),
         )
+
+  -- the pages of one level whose keys are their children's own last keys
+  own-pages : (h : ℕ) (es : Entries) → upperPagesGood b k size true h (numbers es) ≡ true → All (OwnLast b k size h) (below S es)
+      → (upperPagesGood b k size false h (numbers es) ≡ true) × All (λ e. All (Exactly b k size h) (S (e .1))) es
+  unfolding upperPagesGood
+  own-pages h [] g o = (refl, tt)
+  own-pages h (e ∷ es) g o =
+      let t = both (upperEntriesGood b k size true h (S (e .1))) _ g in
+      let here = own-entries b k size h (S (e .1)) (t .0) (all-left (OwnLast b k size h) (S (e .1)) (below S es) o) in
+      let rest = own-pages h es (t .1) (all-right (OwnLast b k size h) (S (e .1)) (below S es) o) in
+      (join _ _ (here .0) (rest .0), (here .1, rest .1))
+
+  -- keys above that are their children's own last keys are good
+  own-levels : (h : ℕ) (es : Entries) (first : ℕ) → NonEmpty es → first ≡ headOr noPage (numbers es) → Chained h es → FullAbove b k size most h es
+      → upperLevelsGood b k size true h first ≡ true → (upperLevelsGood b k size false h first ≡ true) × All (OwnLast b k size h) es
+  unfolding upperLevelsGood down
+  own-levels zero es first some e chained full g = (refl, all-map (λ e. Unit {0}) (OwnLast b k size zero) (λ e u. refl) es (all-unit es))
+  own-levels (suc h) es first some e chained full g =
+      let next = next-head b k size most es first some e (full 0 (omega arith)) in
+      let along : chain b size maxPages first ≡ numbers es = ap (chain b size maxPages) e ∙ chained 0 (omega arith) in
+      let t = both (upperPagesGood b k size true h (chain b size maxPages first)) _ g in
+      let lower = own-levels h (below S es) (firstChild b k size first) (next .1) (next .0) (λ i l. chained (suc i) (omega arith))
+      (λ i l. full (suc i) (omega arith)) (t .1) in
+      let here = own-pages h es (rw along at (t .0)) (lower .1) in (
+        join (upperPagesGood b k size false h (chain b size maxPages first)) _ (rw along (here .0)) (lower .0),
+        all-map2 (λ e. NonEmpty (S (e .1))) (λ e. All (Exactly b k size h) (S (e .1))) (OwnLast b k size (suc h))
+            (own-page b k size h) es (full 0 (omega arith)) (here .1),
+      )
 
   -- a level has at most as many pages as the tree
   level-few : (h i : ℕ) (es : Entries) → i < h → length (numbers (generation S i es)) ≤ length (reached S h es)
@@ -179,6 +207,9 @@ module _ (b : List ℕ) (k size root : ℕ) (whole : size % pageSize ≡ 0) (mos
       let here = level-few b k size most (suc h) i (rootEntry root) (omega arith) in
       chain-is b k size most maxPages noPage (levelPages b k size root i) (omega arith) (levels-inside b k size root h (s .levels) i l) (s .levels i l .linked)
 
+  chained : Chained b k size most h (rootEntry root)
+  chained i l = level-chain i (omega arith)
+
   full-root : 0 < h → Full b k size (capacity k) h ([], root)
   full-root positive =
       let z = tree-sized b k size root h (levels-inside b k size root h (s .levels)) (levels-counts b k size root h (s .levels)) in
@@ -188,8 +219,11 @@ module _ (b : List ℕ) (k size root : ℕ) (whole : size % pageSize ≡ 0) (mos
 
   -- Theorem: if the leaf keys ascend, the second pass accepts exactly the keys above pages that are ceilings
   pub keys-ceilings : Ascending bytesOrder (pairs (s .height) (readTree (entriesAt k size b) (s .height) root))
-      → (upperLevelsGood b k size (s .height) root ≡ true) ↔ Ceilings bytesOrder (s .height) (readTree (entriesAt k size b) (s .height) root)
+      → (keysUnderGood b k size (s .height) root ≡ true) ↔ Ceilings bytesOrder (s .height) (readTree (entriesAt k size b) (s .height) root)
   keys-ceilings ascending =
-      let levels = levels-ceilings b k size most (capacity k) h (rootEntry root) root tt refl (λ i l. level-chain i (omega arith))
-      (λ l. (full-root l, tt)) (ascending, tt) in
-      ((λ g. levels .0 g .0), (λ c. levels .1 (c, tt)))
+      let levels = levels-ceilings b k size most (capacity k) h (rootEntry root) root tt refl chained (λ l. (full-root l, tt)) (ascending, tt) in (
+        (λ g. either (upperLevelsGood b k size true h root)
+            (λ e. levels .0 (own-levels b k size most h (rootEntry root) root tt refl chained full e .0) .0)
+            (λ e. levels .0 (rw e at g) .0)),
+        (λ c. or-right (upperLevelsGood b k size true h root) _ (levels .1 (c, tt))),
+      )

@@ -201,24 +201,30 @@ module _ (b : List ℕ) (k size : ℕ) where
   belowNext h x [] = true
   belowNext h x (e ∷ es) = isUnder x (firstLeafKey h (e .1))
 
-  -- the key of the entry e, before the entries es of its page, is a ceiling; e's child has h levels under it
-  abbrev pub upperEntryGood : ℕ → List ℕ × ℕ → Entries → Bool
-  upperEntryGood h e es = isCeiling (lastLeafKey h (e .1)) (e .0) (belowNext h (e .0) es)
+  -- the key of the entry e, before the entries es of its page, is a ceiling; e's child has h levels under it. If `exact` is asked for, the key is the child's
+  -- own last key
+  abbrev pub upperEntryGood : Bool → ℕ → List ℕ × ℕ → Entries → Bool
+  upperEntryGood exact h e es = isCeiling (lastLeafKey (cond exact 0 h) (e .1)) (e .0) (not exact && belowNext h (e .0) es)
 
   -- the entries of a page above the leaves, whose children have h levels under them
-  unfoldable pub upperEntriesGood : ℕ → Entries → Bool
-  upperEntriesGood h [] = true
-  upperEntriesGood h (e ∷ es) = upperEntryGood h e es && upperEntriesGood h es
+  unfoldable pub upperEntriesGood : Bool → ℕ → Entries → Bool
+  upperEntriesGood exact h [] = true
+  upperEntriesGood exact h (e ∷ es) = upperEntryGood exact h e es && upperEntriesGood exact h es
 
   -- the entries of the pages of a level
-  unfoldable pub upperPagesGood : ℕ → List ℕ → Bool
-  upperPagesGood h [] = true
-  upperPagesGood h (p ∷ ps) = upperEntriesGood h (entriesOf p) && upperPagesGood h ps
+  unfoldable pub upperPagesGood : Bool → ℕ → List ℕ → Bool
+  upperPagesGood exact h [] = true
+  upperPagesGood exact h (p ∷ ps) = upperEntriesGood exact h (entriesOf p) && upperPagesGood exact h ps
 
   -- the keys above pages: of the level whose first page is `first`, which has h levels under it, and of those levels but the leaves
-  unfoldable pub upperLevelsGood : ℕ → ℕ → Bool
-  upperLevelsGood zero first = true
-  upperLevelsGood (suc h) first = upperPagesGood h (chain b size maxPages first) && upperLevelsGood h (firstChild b k size first)
+  unfoldable pub upperLevelsGood : Bool → ℕ → ℕ → Bool
+  upperLevelsGood exact zero first = true
+  upperLevelsGood exact (suc h) first = upperPagesGood exact h (chain b size maxPages first) && upperLevelsGood exact h (firstChild b k size first)
+
+  -- the keys above pages under the root, which has h levels under it. If each key above is its child's own last key, it is the last leaf key under the child,
+  -- and no test has to go down to the leaves
+  abbrev pub keysUnderGood : ℕ → ℕ → Bool
+  keysUnderGood h root = upperLevelsGood true h root || upperLevelsGood false h root
 
 -- all but the keys above pages, of an index whose header is good, from the marks m on
 unfoldable pub shapeGood : List ℕ → List ℕ → Bool
@@ -229,7 +235,7 @@ shapeGood b m =
 -- the keys above pages
 unfoldable pub keysAboveGood : List ℕ → Bool
 keysAboveGood b =
-    upperLevelsGood b (keyLength b) (fileSize b) (heightOf b (keyLength b) (fileSize b) (maxLevels - 1) (rootOffset b)) (rootOffset b)
+    keysUnderGood b (keyLength b) (fileSize b) (heightOf b (keyLength b) (fileSize b) (maxLevels - 1) (rootOffset b)) (rootOffset b)
 
 -- all pages
 unfoldable pub pagesGood : List ℕ → List ℕ → Bool

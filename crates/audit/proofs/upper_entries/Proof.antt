@@ -9,10 +9,10 @@ use Rattle.audit.proofs.upper_entries.Statement.{statement}
 use Rattle.audit.proofs.upper_entries.Tie as tie
 
 abbrev Inv-loop : tie.InvT-loop
-Inv-loop index k size under page count i₀ i = (i ≤ count) × UpperLeft index k size under (page .0) count i
+Inv-loop index k size exact under page count i₀ i = (i ≤ count) × UpperLeft index k size exact under (page .0) count i
 
 abbrev μ-loop : tie.MeasureT-loop
-μ-loop index k size under page count i₀ i = count - i
+μ-loop index k size exact under page count i₀ i = count - i
 
 -- where the function starts
 abbrev start : tie.At-loop Inv-loop μ-loop → tie.Start Inv-loop μ-loop
@@ -22,7 +22,7 @@ entry-count-requires : tie.Need-entry-count-requires Inv-loop μ-loop
 entry-count-requires c κs = search needs
 
 loop-holds : tie.Need-loop-holds Inv-loop μ-loop
-loop-holds c = (search needs, upper-start _ _ _ _ _ _ (c .entry-count .ensures))
+loop-holds c = (search needs, upper-start _ _ _ _ _ _ _ (c .entry-count .ensures))
 
 upper-entry-requires : tie.Need-upper-entry-requires Inv-loop μ-loop
 upper-entry-requires c κs =
@@ -33,7 +33,7 @@ upper-entry-requires c κs =
 returns : tie.Need-returns Inv-loop μ-loop
 returns c =
     let loop = c .before .before .before .loop in
-    upper-off _ _ _ _ _ _ (loop .i) (loop .inv .1) (search needs) _ (c .before .upper-entry .ensures) (not-true _ (c .if1 .taken))
+    upper-off _ _ _ _ _ _ _ (loop .i) (loop .inv .1) (search needs) _ (c .before .upper-entry .ensures) (not-true _ (c .if1 .taken))
 
 add-i : tie.Need-add-i Inv-loop μ-loop
 add-i c = search needs
@@ -44,10 +44,10 @@ loop-less c = search needs
 loop-again : tie.Need-loop-again Inv-loop μ-loop
 loop-again c =
     let loop = c .before .before .before .loop in
-    (search needs, upper-on _ _ _ _ _ _ (loop .i) (loop .inv .1) (search needs) _ (c .before .upper-entry .ensures) (not-false _ (c .if1 .left)))
+    (search needs, upper-on _ _ _ _ _ _ _ (loop .i) (loop .inv .1) (search needs) _ (c .before .upper-entry .ensures) (not-false _ (c .if1 .left)))
 
 returns-2 : tie.Need-returns-2 Inv-loop μ-loop
-returns-2 c = let loop = c .before .loop in upper-end _ _ _ _ _ _ (loop .i) (loop .inv .1) (search needs)
+returns-2 c = let loop = c .before .loop in upper-end _ _ _ _ _ _ _ (loop .i) (loop .inv .1) (search needs)
 
 pub upper-entries-spec : {M : Type 1} → statement M
 upper-entries-spec =

@@ -6,15 +6,21 @@ use Rattle.audit.specs.CeilingLaws.{upper-none, upper-below, upper-equal
 use Rattle.audit.proofs.upper_entry.Statement.{statement}
 use Rattle.audit.proofs.upper_entry.Tie as tie
 
--- the places: past the child, its last leaf key, the test of that, the comparison
+-- the places: past the child, where the function starts, past the test of the child's last leaf key
 abbrev past-child : tie.After-last-key → tie.After-child
-past-child c = c .before .before
+past-child c = c .before .before .before
+
+abbrev start : tie.After-last-key → tie.Start
+start c = past-child c .before .before
 
 abbrev tested : tie.After-key-order → tie.Else1
 tested c = c .before .before
 
 child-requires : tie.Need-child-requires
 child-requires c κs = let pre = c .before .pre in pre .1 .each _ (pre .2)
+
+steps-requires : tie.Need-steps-requires
+steps-requires c κs = search needs
 
 last-under-requires : tie.Need-last-under-requires
 last-under-requires c κs = search needs
@@ -25,18 +31,20 @@ last-key-requires c κs = search needs
 returns : tie.Need-returns
 returns c =
     let last = c .before in
-    upper-none _ _ _ _ _ _ _ _ _ _ (past-child last .child .ensures) (last .before .last-under .ensures) (last .last-key .ensures .0) (c .if1 .taken)
+    let a = start last .args in
+    upper-none (a .index .now) (a .k) (a .size) (a .exact) (a .under) (a .page .0) (a .count) (a .i) _ _ _ _ (past-child last .child .ensures)
+    (last .before .before .steps .ensures) (last .before .last-under .ensures) (last .last-key .ensures .0) (c .if1 .taken)
 
 entry-offset-requires : tie.Need-entry-offset-requires
 entry-offset-requires c κs =
-    let pre = past-child (c .before) .before .before .pre in
+    let pre = start (c .before) .pre in
     let w = entry-within (pre .1 .each _ (pre .2)) in
     search needs
 
 key-order-requires : tie.Need-key-order-requires
 key-order-requires c κs =
     let last = c .before .before in
-    let pre = past-child last .before .before .pre in
+    let pre = start last .pre in
     let w = entry-within (pre .1 .each _ (pre .2)) in
     let e = c .entry-offset .ensures in
     search needs
@@ -51,7 +59,7 @@ below-next-requires : tie.Need-below-next-requires
 below-next-requires c κs =
     let compared = c .before .before in
     let last = tested compared .before in
-    let pre = past-child last .before .before .pre in
+    let pre = start last .pre in
     let w = entry-within (pre .1 .each _ (pre .2)) in
     let e = compared .before .entry-offset .ensures in
     (pre .0, pre .1, search needs)
@@ -67,7 +75,9 @@ returns-2 c =
     let compared = c .before .before .before in
     let key = compared .before in
     let last = tested compared .before in
-    upper-below _ _ _ _ _ _ _ _ _ _ (past-child last .child .ensures) (last .before .last-under .ensures) (last .last-key .ensures .0)
+    let a = start last .args in
+    upper-below (a .index .now) (a .k) (a .size) (a .exact) (a .under) (a .page .0) (a .count) (a .i) _ _ _ _ (past-child last .child .ensures)
+    (last .before .before .steps .ensures) (last .before .last-under .ensures) (last .last-key .ensures .0)
     _ _ (tested compared .if1 .left) (key .entry-offset .ensures) (compared .key-order .ensures) _ (c .before .enum-told .given .1) (c .below-next .ensures)
 
 returns-3 : tie.Need-returns-3
@@ -75,7 +85,9 @@ returns-3 c =
     let compared = c .before .before in
     let key = compared .before in
     let last = tested compared .before in
-    upper-equal _ _ _ _ _ _ _ _ _ _ (past-child last .child .ensures) (last .before .last-under .ensures) (last .last-key .ensures .0)
+    let a = start last .args in
+    upper-equal (a .index .now) (a .k) (a .size) (a .exact) (a .under) (a .page .0) (a .count) (a .i) _ _ _ _ (past-child last .child .ensures)
+    (last .before .before .steps .ensures) (last .before .last-under .ensures) (last .last-key .ensures .0)
     _ _ (tested compared .if1 .left) (key .entry-offset .ensures) (compared .key-order .ensures) (c .enum-told2 .given .1)
 
 returns-4 : tie.Need-returns-4
@@ -83,7 +95,9 @@ returns-4 c =
     let compared = c .before .before in
     let key = compared .before in
     let last = tested compared .before in
-    upper-above _ _ _ _ _ _ _ _ _ _ (past-child last .child .ensures) (last .before .last-under .ensures) (last .last-key .ensures .0)
+    let a = start last .args in
+    upper-above (a .index .now) (a .k) (a .size) (a .exact) (a .under) (a .page .0) (a .count) (a .i) _ _ _ _ (past-child last .child .ensures)
+    (last .before .before .steps .ensures) (last .before .last-under .ensures) (last .last-key .ensures .0)
     _ _ (tested compared .if1 .left) (key .entry-offset .ensures) (compared .key-order .ensures) (c .enum-told3 .given .1)
 
 pub upper-entry-spec : {M : Type 1} → statement M
@@ -91,6 +105,7 @@ upper-entry-spec =
     tie.close
     (tie.spec
     child-requires
+    steps-requires
     last-under-requires
     last-key-requires
     returns

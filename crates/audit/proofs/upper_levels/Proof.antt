@@ -9,10 +9,10 @@ use Rattle.audit.proofs.upper_levels.Statement.{statement}
 use Rattle.audit.proofs.upper_levels.Tie as tie
 
 abbrev Inv-loop : tie.InvT-loop
-Inv-loop index k size height left₀ page₀ left page = (left ≤ height) × UpperLevelsLeft index k size height (page₀ .0) left (page .0)
+Inv-loop index k size exact height left₀ page₀ left page = (left ≤ height) × UpperLevelsLeft index k size exact height (page₀ .0) left (page .0)
 
 abbrev μ-loop : tie.MeasureT-loop
-μ-loop index k size height left₀ page₀ left page = left
+μ-loop index k size exact height left₀ page₀ left page = left
 
 loop-holds : tie.Need-loop-holds Inv-loop μ-loop
 loop-holds c = (search needs, refl)
@@ -27,7 +27,7 @@ returns : tie.Need-returns Inv-loop μ-loop
 returns c =
     let in-loop = c .before .before in
     let loop = in-loop .before .loop in
-    upper-levels-off _ _ _ _ _ (loop .left) (loop .page .0) (loop .inv .1) _ (in-loop .loop-test .taken) (c .before .upper-pages .ensures)
+    upper-levels-off _ _ _ _ _ _ (loop .left) (loop .page .0) (loop .inv .1) _ (in-loop .loop-test .taken) (c .before .upper-pages .ensures)
     (not-true _ (c .if1 .taken))
 
 first-child-requires : tie.Need-first-child-requires Inv-loop μ-loop
@@ -42,12 +42,12 @@ loop-again c =
     let in-loop = tested .before .before in
     let loop = in-loop .before .loop in (
       search needs,
-      upper-levels-on _ _ _ _ _ (loop .left) (loop .page .0) (loop .inv .1) _ (in-loop .loop-test .taken) (tested .before .upper-pages .ensures) _
+      upper-levels-on _ _ _ _ _ _ (loop .left) (loop .page .0) (loop .inv .1) _ (in-loop .loop-test .taken) (tested .before .upper-pages .ensures) _
           (c .first-child .ensures) (not-false _ (tested .if1 .left)),
     )
 
 returns-2 : tie.Need-returns-2 Inv-loop μ-loop
-returns-2 c = let loop = c .before .loop in upper-levels-end _ _ _ _ _ (loop .left) (loop .page .0) (loop .inv .1) (search needs)
+returns-2 c = let loop = c .before .loop in upper-levels-end _ _ _ _ _ _ (loop .left) (loop .page .0) (loop .inv .1) (search needs)
 
 pub upper-levels-spec : {M : Type 1} → statement M
 upper-levels-spec =

@@ -15,10 +15,10 @@ use Rattle.audit.proofs.upper_pages.Statement.{statement}
 use Rattle.audit.proofs.upper_pages.Tie as tie
 
 abbrev Inv-loop : tie.InvT-loop
-Inv-loop index k size under page₀ left₀ page left = (left ≤ maxPages) × UpperPagesLeft index k size under (page₀ .0) (page .0) left
+Inv-loop index k size exact under page₀ left₀ page left = (left ≤ maxPages) × UpperPagesLeft index k size exact under (page₀ .0) (page .0) left
 
 abbrev μ-loop : tie.MeasureT-loop
-μ-loop index k size under page₀ left₀ page left = left
+μ-loop index k size exact under page₀ left₀ page left = left
 
 -- the places: the loop's head, past the test of the page, past its entries
 abbrev at-loop : tie.Else1 Inv-loop μ-loop → tie.At-loop Inv-loop μ-loop
@@ -40,7 +40,7 @@ is-page-requires c κs = search needs
 returns : tie.Need-returns Inv-loop μ-loop
 returns c =
     let loop = c .before .before .before .loop in
-    upper-pages-none _ _ _ _ _ (loop .page .0) (loop .left) (loop .inv .1) (failed (c .before .is-page .ensures) (c .if1 .taken))
+    upper-pages-none _ _ _ _ _ _ (loop .page .0) (loop .left) (loop .inv .1) (failed (c .before .is-page .ensures) (c .if1 .taken))
 
 upper-entries-requires : tie.Need-upper-entries-requires Inv-loop μ-loop
 upper-entries-requires c κs = search needs
@@ -50,7 +50,7 @@ returns-2 c =
     let page = c .before .before in
     let loop = at-loop page .loop in
     let more = page .before .before .loop-test .taken in
-    upper-pages-off _ _ _ _ _ (loop .page .0) (loop .left) (loop .inv .1) 0 _ (λ z. omega (arith, more, z)) (inside page)
+    upper-pages-off _ _ _ _ _ _ (loop .page .0) (loop .left) (loop .inv .1) 0 _ (λ z. omega (arith, more, z)) (inside page)
     (c .before .upper-entries .ensures) (not-true _ (c .if2 .taken))
 
 at-requires : tie.Need-at-requires Inv-loop μ-loop
@@ -74,12 +74,12 @@ loop-again c =
     let loop = at-loop page .loop in
     let more = page .before .before .loop-test .taken in (
       search needs,
-      upper-pages-on _ _ _ _ _ (loop .page .0) (loop .left) (loop .inv .1) _ _ (λ z. omega (arith, more, z)) (inside page)
+      upper-pages-on _ _ _ _ _ _ (loop .page .0) (loop .left) (loop .inv .1) _ _ (λ z. omega (arith, more, z)) (inside page)
           (good .before .upper-entries .ensures) (read .at .ensures .1 .1 .1) (not-false _ (good .if2 .left)),
     )
 
 returns-3 : tie.Need-returns-3 Inv-loop μ-loop
-returns-3 c = let loop = c .before .loop in upper-pages-end _ _ _ _ _ (loop .page .0) (loop .left) (loop .inv .1) (search needs)
+returns-3 c = let loop = c .before .loop in upper-pages-end _ _ _ _ _ _ (loop .page .0) (loop .left) (loop .inv .1) (search needs)
 
 pub upper-pages-spec : {M : Type 1} → statement M
 upper-pages-spec =
