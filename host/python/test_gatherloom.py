@@ -717,7 +717,7 @@ class Refusals(TestCase):
         self.assertEqual(pickle.loads(pickle.dumps(refusal)), refusal)
         self.assertNotEqual(refusal, Refusal(17))
         self.assertNotEqual(refusal, 16)
-        self.assertEqual(sorted(gatherloom.WORDS), [n for n in range(1, 33) if n != 26] + [35, 36, 37, 38, 40])
+        self.assertEqual(sorted(gatherloom.WORDS), [n for n in range(1, 34) if n != 26] + [35, 36, 37, 38, 40])
 
 
 class Threads(TestCase):
