@@ -1,5 +1,5 @@
 -- Rules: demand 3, one claim about a whole list of calls, each lent the buffer as the last call left it. The calls are the rules that the contracts of
--- insertion and lookup cite; the book, its answers and its pairs are those of the crate `tree`. The book begins at `book`: without pairs for a fresh index,
+-- insertion, lookup and removal cite; the book, its answers and its pairs are those of the crate `tree`. The book begins at `book`: without pairs for a fresh index,
 -- and at the leaves' pairs for an index that a host brings.
 use Prim.Native.Nat.{ℕ, _+_, _^_, _<_}
 use mathlib.Core.Path.{_≡_}
@@ -22,15 +22,23 @@ use Rattle.insert.specs.Insertion.{insertedBuffer}
 use Rattle.insert.specs.Room.{pathTo, noRoom}
 use Rattle.insert.specs.declared.Insertion.{Insertion}
 use Rattle.insert.specs.declared.Insertion.the-variants.{Accepted, Refused}
+use Rattle.remove.specs.Calls.{removeRule}
+use Rattle.remove.specs.Removal.{removedBuffer}
+use Rattle.remove.specs.declared.Removal.{Removal}
+use Rattle.remove.specs.declared.Removal.the-variants as struck
 
 -- keys are byte strings
 abbrev pub Calls : Type 0
 Calls = List (Call (List ℕ))
 
--- the answers of both calls in the book's words
+-- the answers of the calls in the book's words
 abbrev pub insertionAnswer : Insertion → Answer
 insertionAnswer Accepted = accepted
 insertionAnswer (Refused n) = refused n
+
+abbrev pub removalAnswer : Removal → Answer
+removalAnswer struck.Accepted = accepted
+removalAnswer (struck.Refused n) = refused n
 
 abbrev pub lookupAnswer : Looked → Answer
 lookupAnswer (looked.Found r pages) = found (r .0)
@@ -40,12 +48,12 @@ lookupAnswer (looked.Refused n) = refused n
 -- a call on the buffer b: what it answers, the buffer that it leaves, and the rule for 30 on the index in b
 abbrev pub answerTo : Call (List ℕ) → List ℕ → Answer
 answerTo (insertion key r) b = insertionAnswer (insertRule b key r .answer)
-answerTo (removalOf key) b = refused 33
+answerTo (removalOf key) b = removalAnswer (removeRule b key .answer)
 answerTo (lookupOf key) b = lookupAnswer (lookupRule b key)
 
 abbrev pub bufferAfter : Call (List ℕ) → List ℕ → List ℕ
 bufferAfter (insertion key r) b = insertRule b key r .after
-bufferAfter (removalOf key) b = b
+bufferAfter (removalOf key) b = removeRule b key .after
 bufferAfter (lookupOf key) b = b
 
 abbrev pub noRoomFor : Call (List ℕ) → List ℕ → Bool
@@ -61,10 +69,10 @@ fits k key = eqb (length key) k
 abbrev pub barcodes : ℕ → KeyTests (List ℕ)
 barcodes k = record { fits = fits k; barred = hasControl }
 
--- the record number of a call fits four bytes; its key may have any length. No removal is among the calls
+-- the record number of a call fits four bytes; its key may have any length
 abbrev pub FourBytes : Call (List ℕ) → Type 0
 FourBytes (insertion key r) = r < 2 ^ 32
-FourBytes (removalOf key) = ⊥
+FourBytes (removalOf key) = Unit {0}
 FourBytes (lookupOf key) = Unit {0}
 
 -- a list of calls made from the buffer b on: its answers, and the buffer after the first n calls
@@ -93,11 +101,13 @@ VisitsLevels (insertion key r) b = Unit {0}
 VisitsLevels (removalOf key) b = Unit {0}
 VisitsLevels (lookupOf key) b = (s : Sound b) (r : RecordNumber) (pages : ℕ) → lookupRule b key ≡ looked.Found r pages → pages ≡ s .height + 1
 
--- an accepted insertion leaves the buffer that document 01's steps make, and a refused one leaves the buffer as it was
+-- an accepted insertion leaves the buffer that document 01's steps make, an accepted removal the one that K6's steps make, and a refused one leaves the buffer
+-- as it was
 abbrev pub LeavesBuffer : Call (List ℕ) → List ℕ → Type 0
 LeavesBuffer (insertion key r) b =
     bufferAfter (insertion key r) b ≡ cond (isAccepted (answerTo (insertion key r) b)) (insertedBuffer (keyLength b) b key r) b
-LeavesBuffer (removalOf key) b = Unit {0}
+LeavesBuffer (removalOf key) b =
+    bufferAfter (removalOf key) b ≡ cond (isAccepted (answerTo (removalOf key) b)) (removedBuffer (keyLength b) b key) b
 LeavesBuffer (lookupOf key) b = Unit {0}
 
 -- P holds of each call of a list and the buffer lent to it
