@@ -10,5 +10,9 @@ pub mod RemoveHeads
 pub mod RemoveFree
 -- Laws: the whole buffer after a removal
 pub mod RemoveBuffer
--- Laws: a removal from a sound index
+-- Laws: a sound index before a removal
 pub mod SoundRemoval
+-- Laws: the levels after a removal
+pub mod LevelLaws
+-- Laws: a removal keeps an index sound
+pub mod RemoveSound

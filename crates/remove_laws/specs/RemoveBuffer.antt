@@ -51,7 +51,7 @@ pub record Ready (k : ℕ) (b : List ℕ) (h : ℕ) : Type 0 where
   pub low : h < maxLevels
   pub filled : Filled k h b (rootOffset b)
   pub once : Distinct (pages h (readTree (entriesIn k b) h (rootOffset b)))
-  pub plain : Plain b
+  pub plain : Plain (pages h (readTree (entriesIn k b) h (rootOffset b))) b
 
 module _ (k : ℕ) (key b : List ℕ) (h : ℕ) (r : Ready k b h) where
   -- the tree before the removal, its route, and what the theory's removal leaves on the store: the pages emptied, and the entries of all pages
@@ -64,7 +64,7 @@ module _ (k : ℕ) (key b : List ℕ) (h : ℕ) (r : Ready k b h) where
   abbrev pub gone : List ℕ
   gone = emptiedFrom (stored key 0) (entriesIn k b) h (rootOffset b)
 
-  abbrev left : Store (List ℕ)
+  abbrev pub left : Store (List ℕ)
   left = storeAfter (stored key 0) (entriesIn k b) h (rootOffset b)
 
   abbrev last : Step
@@ -76,11 +76,14 @@ module _ (k : ℕ) (key b : List ℕ) (h : ℕ) (r : Ready k b h) where
   last-is : StepIs k (length b) (rootOffset b) last left
   last-is = removes k (stored key 0) b h maxLevels (rootOffset b) (r .low) (r .filled) (r .once)
 
-  last-heads : Heads k gone b (last .after)
-  last-heads = remove-heads k (stored key 0) b (r .plain) h maxLevels (rootOffset b) (r .low) (r .filled) (r .once)
+  inside : (z : ℕ) → 0 < occ z (pages h treeIn) → isPage (length b) z ≡ true
+  inside z o = filled-pages k b z h (rootOffset b) (r .filled) o
+
+  last-heads : Heads k (pages h treeIn) gone b (last .after)
+  last-heads = remove-heads k (stored key 0) b (pages h treeIn) inside (r .plain) h maxLevels (rootOffset b) (r .low) (r .filled) (r .once) (λ z o. o)
 
   last-free : Freed (pages h treeIn) gone b (last .after)
-  last-free = remove-free k (stored key 0) b (r .plain) (pages h treeIn) h maxLevels (rootOffset b) (r .low) (r .filled) (r .once) (λ z o. o)
+  last-free = remove-free k (stored key 0) b (pages h treeIn) inside (r .plain) h maxLevels (rootOffset b) (r .low) (r .filled) (r .once) (λ z o. o)
 
   -- the last step's buffer with an empty leaf for its root
   abbrev lone : List ℕ
@@ -129,14 +132,14 @@ module _ (k : ℕ) (key b : List ℕ) (h : ℕ) (r : Ready k b h) where
   free-after = by-root (λ c. Freed (pages h treeIn) gone b c) (λ s. last-free)
       (λ e. freed-but k (pages h treeIn) b gone (last .after) lone (rootOffset b) (last-is .as-long)
       (occ-here (rootOffset b) (pagesOf (entriesIn k b) h (entriesIn k b (rootOffset b))))
-      (emptied-apart k (stored key 0) b (r .plain) h (rootOffset b) (r .once))
+      (emptied-apart k (stored key 0) b h (rootOffset b) (r .once))
       (same-free (last .after) lone lone-header)
       (λ z t ne. new-bytes k (last .after) (rootOffset b) [] root-there tt (omega arith) z (page-of z (last-is .as-long) t) ne 3 noPage noPage) last-free)
 
   -- Theorem: if the root has entries left, the heads of the pages that stay are the old ones but for the links around emptied pages; if it has none, it is an
   -- empty leaf
-  pub heads-after : NonEmpty (left (rootOffset b)) → Heads k gone b (removedBuffer k b key)
-  heads-after = by-root (λ c. NonEmpty (left (rootOffset b)) → Heads k gone b c) (λ s t. last-heads) (λ e t. absurd (rw e at t))
+  pub heads-after : NonEmpty (left (rootOffset b)) → Heads k (pages h treeIn) gone b (removedBuffer k b key)
+  heads-after = by-root (λ c. NonEmpty (left (rootOffset b)) → Heads k (pages h treeIn) gone b c) (λ s t. last-heads) (λ e t. absurd (rw e at t))
 
   pub root-after : left (rootOffset b) ≡ [] → Head (removedBuffer k b key) (rootOffset b) 3 0 noPage noPage
   root-after = by-root (λ c. left (rootOffset b) ≡ [] → Head c (rootOffset b) 3 0 noPage noPage) (λ s e. absurd (rw e at s))
@@ -145,7 +148,7 @@ module _ (k : ℕ) (key b : List ℕ) (h : ℕ) (r : Ready k b h) where
       at (new-head k (last .after) p 3 noPage noPage [] root-there (omega arith) (omega arith) (omega arith) tt (omega arith) p root-there))
 
   -- the tree that is left if the root has no entry left: the root alone
-  lone-tree : left (rootOffset b) ≡ [] → _≡_ {A = Shrunk (List ℕ)} (0, (rootOffset b, [])) (remove route h treeIn)
+  pub lone-tree : left (rootOffset b) ≡ [] → _≡_ {A = Shrunk (List ℕ)} (0, (rootOffset b, [])) (remove route h treeIn)
   lone-tree e =
       let w : StoreRemoved (List ℕ) =
       storeRemoveAmong route h (λ c. storeRemoveUnder route h c (entriesIn k b)) (entriesIn k b (rootOffset b)) (entriesIn k b) in
@@ -156,11 +159,11 @@ module _ (k : ℕ) (key b : List ℕ) (h : ℕ) (r : Ready k b h) where
       lone-read es T e f = rw (e, f)
 
   -- a page that is left in the tree is a page of the buffer and was not emptied
-  stays : (z : ℕ) → 0 < occ z (shrunkPages (remove route h treeIn)) → (isPage (length b) z ≡ true) × (occ z gone ≡ 0)
+  pub stays : (z : ℕ) → 0 < occ z (shrunkPages (remove route h treeIn)) → (isPage (length b) z ≡ true) × (occ z gone ≡ 0)
   stays z o =
       let all = remove-pages route z h treeIn in
       let same : occ z gone ≡ occ z (emptied route h treeIn) = ap (occ z) (emptied-read route h (rootOffset b) (entriesIn k b) (r .once)) in
-      (filled-pages k b z h (rootOffset b) (r .filled) (omega arith), omega (arith, r .once z))
+      (inside z (omega arith), omega (arith, r .once z))
 
   -- Theorem: all levels of the tree that is left are linked
   pub links-after : occ noPage (pages h treeIn) ≡ 0 → AllLinked noPage (linksOf b) h treeIn
@@ -169,14 +172,14 @@ module _ (k : ℕ) (key b : List ℕ) (h : ℕ) (r : Ready k b h) where
       (λ s v. kept-links s (v .0 s)) (λ e v. lone-links e (v .1 e)) (heads-after, root-after)
     where
       SameHeads : List ℕ → Type 0
-      SameHeads c = (NonEmpty (left (rootOffset b)) → Heads k gone b c) × (left (rootOffset b) ≡ [] → Head c (rootOffset b) 3 0 noPage noPage)
+      SameHeads c = (NonEmpty (left (rootOffset b)) → Heads k (pages h treeIn) gone b c) × (left (rootOffset b) ≡ [] → Head c (rootOffset b) 3 0 noPage noPage)
 
       after : AllLinked noPage (unlinkAll gone (linksOf b)) (remove route h treeIn .0) (remove route h treeIn .1)
       after =
           rw (emptied-read route h (rootOffset b) (entriesIn k b) (r .once))
           (remove-all-linked route noPage [] h treeIn (r .once) proper (linksOf b) linked)
 
-      kept-links : {c : List ℕ} → NonEmpty (left (rootOffset b)) → Heads k gone b c
+      kept-links : {c : List ℕ} → NonEmpty (left (rootOffset b)) → Heads k (pages h treeIn) gone b c
           → AllLinked noPage (linksOf c) (remove route h treeIn .0) (remove route h treeIn .1)
       kept-links {c} s v j l =
           linked-same noPage (unlinkAll gone (linksOf b)) (linksOf c) noPage (level j (remove route h treeIn .0) (remove route h treeIn .1))

@@ -41,7 +41,7 @@ use Rattle.tree.specs.AwayLaws.{Away, Clear, Apart, away-first, away-last, clea
 use Rattle.remove_laws.specs.EntryLists.{route-is, route-inside, entry-all, entry-pages}
 use Rattle.remove_laws.specs.RemoveEntries.{OutcomeIs, emptiedFrom, storeAfter, leaf-emptied, upper-emptied, Filled, filled-page}
 use Rattle.remove_laws.specs.RemoveEntries.{through, below, Removes, some, inside, child-is, child-distinct, child-apart, still-inside, removes}
-use Rattle.remove_laws.specs.RemoveHeads.{Plain, Heads, emptied-inside, emptied-apart, remove-heads}
+use Rattle.remove_laws.specs.RemoveHeads.{Plain, Heads, emptied-inside, emptied-apart, Inside, remove-heads}
 
 -- the pages ps join a list one after another, "each at the head": each names the head before it, and the last is the head at the end
 abbrev pub Joined : (ℕ → ℕ) → ℕ → List ℕ → ℕ → Type 0
@@ -105,13 +105,13 @@ module _ (k : ℕ) (qs b : List ℕ) where
       (λ z t ne. with-bytes k b′ p fewer tp′ fit few z (page-of z n t) ne) v)
 
   -- one page more is unlinked and becomes free
-  freed-out : (ps b′ : List ℕ) (c : ℕ) → length b′ ≡ length b → Usable b c → 0 < occ c qs → occ c ps ≡ 0 → Heads k ps b b′ → Freed qs ps b b′
+  freed-out : (ps b′ : List ℕ) (c : ℕ) → length b′ ≡ length b → Usable b c → 0 < occ c qs → occ c ps ≡ 0 → Heads k qs ps b b′ → Freed qs ps b b′
       → Freed qs (ps ++ (c ∷ [])) b (freed (unlinked b′ c) c)
   freed-out ps b′ c n tc oc nc w v =
       let l = linksOf b in
       let b1 = unlinked b′ c in
       let n1 : length b1 ≡ length b = length-unlinked b′ c ∙ n in
-      let own = w .plain .links c (page-of c n (tc .0)) in
+      let own = w .plain .links c oc in
       let tc1 : isPage (length b1) c ≡ true = page-of c n1 (tc .0) in
       let free1 : freePointer b1 ≡ freePointer b′ = same-free b′ b1 (unlinked-header b′ c (own .0) (own .1)) in
       let small : freePointer b1 < 2 ^ 32 = rw free1 (w .plain .free) in
@@ -139,18 +139,16 @@ module _ (k : ℕ) (qs b : List ℕ) where
       before-last : (ps : List ℕ) (c z : ℕ) → (z ≡ c → ⊥) → 0 < occ z (ps ++ (c ∷ [])) → 0 < occ z ps
       before-last ps c z ne o = let none : occ z (c ∷ []) ≡ 0 = rw (ne-eqb z c ne) in omega (arith, occ-append z ps (c ∷ []))
 
-module _ (k : ℕ) (item : Item) (b : List ℕ) (plain : Plain b) (qs : List ℕ) where
+-- a list qs of pages of the buffer
+module _ (k : ℕ) (item : Item) (b qs : List ℕ) (inside-qs : (z : ℕ) → 0 < occ z qs → isPage (length b) z ≡ true) (plain : Plain qs b) where
   -- the free pages after removal's step at the page at p, all of whose pages are in the list qs
   abbrev Goes : (h left p : ℕ) → Type 0
   Goes h left p = Freed qs (emptiedFrom item (entriesIn k b) h p) b (removeUnder k left b item p .after)
 
-  abbrev Inside : (h p : ℕ) → Type 0
-  Inside h p = (z : ℕ) → 0 < occ z (treePages h (readTree (entriesIn k b) h p)) → 0 < occ z qs
-
   -- the page at p after the step at its child at c, which emptied the pages ps
   after-child-free : (ps b′ : List ℕ) (p i c : ℕ) (o : Outcome) (es : List (List ℕ × ℕ)) → length b′ ≡ length b → isPage (length b) p ≡ true → Usable b c
       → 0 < occ p qs → 0 < occ c qs → occ p ps ≡ 0 → occ c ps ≡ 0 → (p ≡ c → ⊥) → i < length (itemsIn k (freed (unlinked b′ c) c) p) → OutcomeIs o es
-      → Heads k ps b b′ → Freed qs ps b b′ → Freed qs (ps ++ ifEmptied c es) b (afterChild k b′ p i c o .after)
+      → Heads k qs ps b b′ → Freed qs ps b b′ → Freed qs (ps ++ ifEmptied c es) b (afterChild k b′ p i c o .after)
   after-child-free ps b′ p i c kept [] n tp tc op oc np nc ne l t w v = absurd t
   after-child-free ps b′ p i c kept (x ∷ xs) n tp tc op oc np nc ne l t w v = rw (append-nil ps) v
   after-child-free ps b′ p i c emptied es n tp tc op oc np nc ne l t w v =
@@ -161,7 +159,7 @@ module _ (k : ℕ) (item : Item) (b : List ℕ) (plain : Plain b) (qs : List ℕ
   after-child-free ps b′ p i c bad es n tp tc op oc np nc ne l t w v = absurd t
 
   -- Theorem: removal's step frees the emptied pages, leaf first, and keeps the bytes of pages outside the tree
-  pub remove-free : (h left p : ℕ) → h < left → Filled k h b p → Distinct (treePages h (readTree (entriesIn k b) h p)) → Inside h p → Goes h left p
+  pub remove-free : (h left p : ℕ) → h < left → Filled k h b p → Distinct (treePages h (readTree (entriesIn k b) h p)) → Inside k b qs h p → Goes h left p
   unfolding removeUnder
   remove-free zero zero p l f d i = absurd (omega arith)
   remove-free (suc h) zero p l f d i = absurd (omega arith)
@@ -188,7 +186,7 @@ module _ (k : ℕ) (item : Item) (b : List ℕ) (plain : Plain b) (qs : List ℕ
           let ps : List ℕ = emptiedFrom item (entriesIn k b) h c ++ ifEmptied c (storeAfter item (entriesIn k b) h c c) in
           Freed qs ps b (afterChild k (s .after) p (through k item b p) q (s .outcome) .after)
 
-      upper : ((q : ℕ) → Filled k h b q → Distinct (treePages h (readTree (entriesIn k b) h q)) → Inside h q → Goes h left q) → UpperGoes c
+      upper : ((q : ℕ) → Filled k h b q → Distinct (treePages h (readTree (entriesIn k b) h q)) → Inside k b qs h q → Goes h left q) → UpperGoes c
       upper rec =
           let S = entriesIn k b in
           let s : Step = removeUnder k left b item c in
@@ -196,11 +194,11 @@ module _ (k : ℕ) (item : Item) (b : List ℕ) (plain : Plain b) (qs : List ℕ
           let under : Filled k h b c = entry-all (λ e. Filled k h b (e .1)) (through k item b p) (S p) at (f .3) in
           let once = child-distinct k item b p (f .2) h d in
           let w : Removes k item b h left c = removes k item b h left c (omega arith) under once in
-          let within : Inside h c = λ z o. i z (omega (arith, entry-pages S (suc h) z (through k item b p) (S p) at)) in
+          let within : Inside k b qs h c = λ z o. i z (omega (arith, entry-pages S (suc h) z (through k item b p) (S p) at)) in
           let apart = child-apart k item b p (f .2) h d in
           let there = still-inside k item b p (f .2) h d s w (filled-page k h b c under .0) in
           after-child-free (emptiedFrom item S h c) (s .after) p (through k item b p) c (s .outcome) (storeAfter item S h c c) (w .as-long) (f .0 .0)
           (filled-page k h b c under) (i p (occ-here p (pagesOf S (suc h) (S p)))) (within c (occ-here c (pagesOf S h (S c))))
-          (omega (arith, apart, emptied-inside k item b plain h c p once)) (emptied-apart k item b plain h c once)
+          (omega (arith, apart, emptied-inside k item b h c p once)) (emptied-apart k item b h c once)
           (λ e. occ-not-head p c (pagesOf S h (S c)) apart e) there (w .told)
-          (remove-heads k item b plain h left c (omega arith) under once) (rec c under once within)
+          (remove-heads k item b qs inside-qs plain h left c (omega arith) under once within) (rec c under once within)

@@ -16,6 +16,7 @@ use Rattle.tree.specs.ListLaws.{occ-append, occ-head, occ-here}
 use Rattle.tree.specs.Removal.{ifEmptied, settle, shrunkPages, removeEntries}
 use Rattle.tree.specs.RemovalPages.{remove-pages}
 use Rattle.tree.specs.Store.{readTree}
+use Rattle.tree.specs.StoreInsertLaws.{pagesOf}
 use Rattle.tree.specs.StoreRemovalLaws.{emptied-read}
 use Rattle.tree.specs.Tree.{Entry, pagesUnder, pages}
 use Rattle.tree.specs.Unlinking.{unlink, unlinkAll}
@@ -33,24 +34,25 @@ use Rattle.layout_laws.specs.EntryLaws.{entriesIn, Usable, page-of, items-few, 
 use Rattle.layout_laws.specs.HeadLaws.{Head, with-head, with-header}
 use Rattle.layout_laws.specs.FreeLaws.{SameButFree, same-header, same-free, length-unlinked, unlinked-head, unlinked-header}
 use Rattle.layout_laws.specs.FreeLaws.{length-freed, freed-head, freed-header, freed-free}
-use Rattle.remove_laws.specs.EntryLists.{routeOf, route-is, route-inside, entry-all}
+use Rattle.remove_laws.specs.EntryLists.{routeOf, route-is, route-inside, entry-all, entry-pages}
 use Rattle.remove_laws.specs.RemoveEntries.{OutcomeIs, emptiedFrom, storeAfter, leaf-emptied, upper-emptied, Filled, filled-page}
 use Rattle.remove_laws.specs.RemoveEntries.{through, below, Removes, some, inside, child-is, child-distinct, still-inside, removes}
 
--- links and a free pointer that are numbers of four bytes
-pub record Plain (b : List ℕ) : Type 0 where
-  pub links : (z : ℕ) → isPage (length b) z ≡ true → (leftAt b z < 2 ^ 32) × (rightAt b z < 2 ^ 32)
+-- the links of the pages qs, and the free pointer, are numbers of four bytes
+pub record Plain (qs b : List ℕ) : Type 0 where
+  pub links : (z : ℕ) → 0 < occ z qs → (leftAt b z < 2 ^ 32) × (rightAt b z < 2 ^ 32)
   pub free : freePointer b < 2 ^ 32
 
--- b′ is b after the pages ps were unlinked, one after another, and became free, and no other change of heads: of a page that stays
-pub record Heads (k : ℕ) (ps : List ℕ) (b b′ : List ℕ) : Type 0 where
+-- b′ is b after the pages ps, which are pages of the list qs, were unlinked, one after another, and became free, and no other change of heads: of a page that
+-- stays
+pub record Heads (k : ℕ) (qs ps : List ℕ) (b b′ : List ℕ) : Type 0 where
   pub lefts : (z : ℕ) → isPage (length b) z ≡ true → occ z ps ≡ 0 → leftAt b′ z ≡ unlinkAll ps (linksOf b) .left z
   pub rights : (z : ℕ) → isPage (length b) z ≡ true → occ z ps ≡ 0 → rightAt b′ z ≡ unlinkAll ps (linksOf b) .right z
   pub attributes : (z : ℕ) → isPage (length b) z ≡ true → occ z ps ≡ 0 → attributeAt b′ z ≡ attributeAt b z
   -- counts that are within the capacity stay so
   pub counts : (z : ℕ) → isPage (length b) z ≡ true → countAt b z ≤ capacity k → countAt b′ z ≤ capacity k
   pub header : SameButFree b b′
-  pub plain : Plain b′
+  pub plain : Plain qs b′
 
 -- pages that are unlinked one after another, the last of them last
 unlinkAll-last : (ps : List ℕ) (c : ℕ) (l : Links) → unlinkAll (ps ++ (c ∷ [])) l ≡ unlink c (unlinkAll ps l)
@@ -61,8 +63,8 @@ one-of : (P : ℕ → Type 0) (s : Bool) (x y : ℕ) → P x → P y → P (cond
 one-of P true x y i j = i
 one-of P false x y i j = j
 
-module _ (k : ℕ) (b : List ℕ) where
-  heads-none : Plain b → Heads k [] b b
+module _ (k : ℕ) (qs b : List ℕ) (inside-qs : (z : ℕ) → 0 < occ z qs → isPage (length b) z ≡ true) where
+  heads-none : Plain qs b → Heads k qs [] b b
   heads-none plain = record {
     lefts = λ z t o. refl;
     rights = λ z t o. refl;
@@ -73,8 +75,8 @@ module _ (k : ℕ) (b : List ℕ) where
   }
 
   -- an entry goes from a page
-  heads-taken : (ps b′ : List ℕ) (p i : ℕ) → length b′ ≡ length b → isPage (length b′) p ≡ true → i < length (itemsIn k b′ p) → Heads k ps b b′
-      → Heads k ps b (takeOut k b′ p i .after)
+  heads-taken : (ps b′ : List ℕ) (p i : ℕ) → length b′ ≡ length b → isPage (length b′) p ≡ true → i < length (itemsIn k b′ p) → Heads k qs ps b b′
+      → Heads k qs ps b (takeOut k b′ p i .after)
   unfolding takeOut
   heads-taken ps b′ p i n tp l v =
       let es = itemsIn k b′ p in
@@ -92,19 +94,19 @@ module _ (k : ℕ) (b : List ℕ) where
         counts = λ z t c. rw (s z (here z t) .countIs) (one-of (λ m. m ≤ capacity k) (eqb z p) (length fewer) (countAt b′ z) few (v .counts z t c));
         header = record { before = out .before ∙ v .header .before; after = out .after ∙ v .header .after };
         plain = record {
-          links = λ z t. let u = page-of z (sym (length-with k b′ p fewer)) t in rw (s z u .leftIs, s z u .rightIs) (v .plain .links z u);
+          links = λ z o. let u = here z (inside-qs z o) in rw (s z u .leftIs, s z u .rightIs) (v .plain .links z o);
           free = rw (same-free b′ _ same) (v .plain .free);
         };
       })
 
   -- one page more is unlinked and becomes free
-  heads-out : (ps b′ : List ℕ) (c : ℕ) → length b′ ≡ length b → Usable b c → occ c ps ≡ 0 → Heads k ps b b′
-      → Heads k (ps ++ (c ∷ [])) b (freed (unlinked b′ c) c)
-  heads-out ps b′ c n tc oc v =
+  heads-out : (ps b′ : List ℕ) (c : ℕ) → length b′ ≡ length b → Usable b c → 0 < occ c qs → occ c ps ≡ 0 → Heads k qs ps b b′
+      → Heads k qs (ps ++ (c ∷ [])) b (freed (unlinked b′ c) c)
+  heads-out ps b′ c n tc qc oc v =
       let b1 = unlinked b′ c in
       let n1 : length b1 ≡ length b′ = length-unlinked b′ c in
       let here : (z : ℕ) → isPage (length b) z ≡ true → isPage (length b′) z ≡ true = λ z t. page-of z n t in
-      let own = v .plain .links c (here c (tc .0)) in
+      let own = v .plain .links c qc in
       let tc1 : isPage (length b1) c ≡ true = page-of c n1 (here c (tc .0)) in
       let same = unlinked-header b′ c (own .0) (own .1) in
       let free1 : freePointer b1 < 2 ^ 32 = rw (same-free b′ b1 same) (v .plain .free) in
@@ -127,10 +129,10 @@ module _ (k : ℕ) (b : List ℕ) where
             (one-of (λ j. j ≤ capacity k) (eqb z c) 0 (countAt b′ z) (omega arith) (v .counts z t m));
         header = record { before = last .before ∙ out .before ∙ v .header .before; after = last .after ∙ out .after ∙ v .header .after };
         plain = record {
-          links = λ z t.
-              let u1 = page-of z (sym (length-freed b1 c)) t in
-              let u = page-of z (sym n1) u1 in
-              let w = v .plain .links z u in (
+          links = λ z o.
+              let u = here z (inside-qs z o) in
+              let u1 = page-of z n1 u in
+              let w = v .plain .links z o in (
                 rw (s2 z u1 .leftIs, s1 z u .leftIs) (one-of (λ j. j < 2 ^ 32) (eqb z c) 0 _ (omega arith)
                     (one-of (λ j. j < 2 ^ 32) (eqb z (rightAt b′ c)) (leftAt b′ c) (leftAt b′ z) (own .0) (w .0))),
                 rw (s2 z u1 .rightIs, s1 z u .rightIs) (one-of (λ j. j < 2 ^ 32) (eqb z c) (freePointer b1) _ free1
@@ -145,7 +147,11 @@ module _ (k : ℕ) (b : List ℕ) where
           let both = occ-append z ps (c ∷ []) in
           (omega arith, ne-eqb z c (λ e. let one = occ-head z [] in absurd (omega (arith, ap (λ x. occ z (x ∷ [])) e))))
 
-module _ (k : ℕ) (item : Item) (b : List ℕ) (plain : Plain b) where
+-- the pages of the tree under the page at p, with h levels under it, are in the list qs
+abbrev pub Inside : (k : ℕ) (b qs : List ℕ) (h p : ℕ) → Type 0
+Inside k b qs h p = (z : ℕ) → 0 < occ z (pages h (readTree (entriesIn k b) h p)) → 0 < occ z qs
+
+module _ (k : ℕ) (item : Item) (b : List ℕ) where
   -- the emptied pages are pages of the tree, and the root is none of them
   pub emptied-inside : (h p z : ℕ) → Distinct (pages h (readTree (entriesIn k b) h p))
       → occ z (emptiedFrom item (entriesIn k b) h p) ≤ occ z (pages h (readTree (entriesIn k b) h p))
@@ -163,38 +169,41 @@ module _ (k : ℕ) (item : Item) (b : List ℕ) (plain : Plain b) where
       root-stays p h [] = occ-here p []
       root-stays p h (x ∷ xs) = occ-here p (concatMap (pagesUnder h) (x ∷ xs))
 
+-- a list qs of pages of the buffer
+module _ (k : ℕ) (item : Item) (b qs : List ℕ) (inside-qs : (z : ℕ) → 0 < occ z qs → isPage (length b) z ≡ true) (plain : Plain qs b) where
   -- the heads after removal's step at the page at p
   abbrev Goes : (h left p : ℕ) → Type 0
-  Goes h left p = Heads k (emptiedFrom item (entriesIn k b) h p) b (removeUnder k left b item p .after)
+  Goes h left p = Heads k qs (emptiedFrom item (entriesIn k b) h p) b (removeUnder k left b item p .after)
 
   -- the page at p after the step at its child at c, which emptied the pages ps
   after-child-heads : (ps b′ : List ℕ) (p i c : ℕ) (o : Outcome) (es : List (List ℕ × ℕ)) → length b′ ≡ length b → isPage (length b) p ≡ true → Usable b c
-      → occ c ps ≡ 0 → i < length (itemsIn k (freed (unlinked b′ c) c) p) → OutcomeIs o es → Heads k ps b b′
-      → Heads k (ps ++ ifEmptied c es) b (afterChild k b′ p i c o .after)
-  after-child-heads ps b′ p i c kept [] n tp tc oc l t v = absurd t
-  after-child-heads ps b′ p i c kept (x ∷ xs) n tp tc oc l t v = rw (append-nil ps) v
-  after-child-heads ps b′ p i c emptied es n tp tc oc l t v =
+      → 0 < occ c qs → occ c ps ≡ 0 → i < length (itemsIn k (freed (unlinked b′ c) c) p) → OutcomeIs o es → Heads k qs ps b b′
+      → Heads k qs (ps ++ ifEmptied c es) b (afterChild k b′ p i c o .after)
+  after-child-heads ps b′ p i c kept [] n tp tc qc oc l t v = absurd t
+  after-child-heads ps b′ p i c kept (x ∷ xs) n tp tc qc oc l t v = rw (append-nil ps) v
+  after-child-heads ps b′ p i c emptied es n tp tc qc oc l t v =
       let m : length (freed (unlinked b′ c) c) ≡ length b = length-freed (unlinked b′ c) c ∙ length-unlinked b′ c ∙ n in
-      rw t (heads-taken k b (ps ++ (c ∷ [])) (freed (unlinked b′ c) c) p i m (page-of p m tp) l (heads-out k b ps b′ c n tc oc v))
-  after-child-heads ps b′ p i c bad es n tp tc oc l t v = absurd t
+      rw t
+      (heads-taken k qs b inside-qs (ps ++ (c ∷ [])) (freed (unlinked b′ c) c) p i m (page-of p m tp) l (heads-out k qs b inside-qs ps b′ c n tc qc oc v))
+  after-child-heads ps b′ p i c bad es n tp tc qc oc l t v = absurd t
 
   -- Theorem: removal's step unlinks the emptied pages and frees them, and changes no other head
-  pub remove-heads : (h left p : ℕ) → h < left → Filled k h b p → Distinct (pages h (readTree (entriesIn k b) h p)) → Goes h left p
+  pub remove-heads : (h left p : ℕ) → h < left → Filled k h b p → Distinct (pages h (readTree (entriesIn k b) h p)) → Inside k b qs h p → Goes h left p
   unfolding removeUnder
-  remove-heads zero zero p l f d = absurd (omega arith)
-  remove-heads (suc h) zero p l f d = absurd (omega arith)
-  remove-heads zero (suc left) p l f d =
+  remove-heads zero zero p l f d i = absurd (omega arith)
+  remove-heads (suc h) zero p l f d i = absurd (omega arith)
+  remove-heads zero (suc left) p l f d i =
       let S = entriesIn k b in
       let es = itemsIn k b p in
       let more = some k item b p (f .2) in
       rw (f .0 .0, f .1, leaf-emptied item S (through k item b p) p (inside k item b p (f .2)) (route-is item S zero es))
-      (heads-taken k b [] b p (through k item b p) refl (f .0 .0) (route-inside item es more) (heads-none k b plain))
-  remove-heads (suc h) (suc left) p l f d =
+      (heads-taken k qs b inside-qs [] b p (through k item b p) refl (f .0 .0) (route-inside item es more) (heads-none k qs b inside-qs plain))
+  remove-heads (suc h) (suc left) p l f d i =
       rw (
         f .0 .0,
         f .1,
         upper-emptied item (entriesIn k b) (through k item b p) p (inside k item b p (f .2)) h (route-is item (entriesIn k b) (suc h) (itemsIn k b p)),
-      ) (subst UpperGoes (sym (child-is k item b p (f .2))) (upper (λ q g o. remove-heads h left q (omega arith) g o)))
+      ) (subst UpperGoes (sym (child-is k item b p (f .2))) (upper (λ q g o u. remove-heads h left q (omega arith) g o u)))
     where
       c : ℕ
       c = below k item b p
@@ -203,16 +212,18 @@ module _ (k : ℕ) (item : Item) (b : List ℕ) (plain : Plain b) where
       UpperGoes q =
           let s : Step = removeUnder k left b item q in
           let ps : List ℕ = emptiedFrom item (entriesIn k b) h c ++ ifEmptied c (storeAfter item (entriesIn k b) h c c) in
-          Heads k ps b (afterChild k (s .after) p (through k item b p) q (s .outcome) .after)
+          Heads k qs ps b (afterChild k (s .after) p (through k item b p) q (s .outcome) .after)
 
-      upper : ((q : ℕ) → Filled k h b q → Distinct (pages h (readTree (entriesIn k b) h q)) → Goes h left q) → UpperGoes c
+      upper : ((q : ℕ) → Filled k h b q → Distinct (pages h (readTree (entriesIn k b) h q)) → Inside k b qs h q → Goes h left q) → UpperGoes c
       upper rec =
           let S = entriesIn k b in
           let s : Step = removeUnder k left b item c in
-          let under : Filled k h b c = entry-all (λ e. Filled k h b (e .1)) (through k item b p) (S p) (inside k item b p (f .2)) (f .3) in
+          let at = inside k item b p (f .2) in
+          let under : Filled k h b c = entry-all (λ e. Filled k h b (e .1)) (through k item b p) (S p) at (f .3) in
           let once = child-distinct k item b p (f .2) h d in
           let w : Removes k item b h left c = removes k item b h left c (omega arith) under once in
+          let within : Inside k b qs h c = λ z o. i z (omega (arith, entry-pages S (suc h) z (through k item b p) (S p) at)) in
           let b′ = freed (unlinked (s .after) c) c in
           let there : through k item b p < length (itemsIn k b′ p) = still-inside k item b p (f .2) h d s w (filled-page k h b c under .0) in
           after-child-heads (emptiedFrom item S h c) (s .after) p (through k item b p) c (s .outcome) (storeAfter item S h c c) (w .as-long) (f .0 .0)
-          (filled-page k h b c under) (emptied-apart h c once) there (w .told) (rec c under once)
+          (filled-page k h b c under) (within c (occ-here c (pagesOf S h (S c)))) (emptied-apart k item b h c once) there (w .told) (rec c under once within)
