@@ -2,8 +2,8 @@
 -- the free pointer, and the emptied pages are free. Assumes nothing.
 use mathlib.Core.Path.{_≡_, refl, sym, ap, _∙_, subst}
 use mathlib.Core.Bool.{true}
-use mathlib.Core.List.{List, [], _∷_}
-use Prim.Native.Nat.{ℕ, suc, _+_, _≤_, _<_}
+use mathlib.Core.List.{List, []}
+use Prim.Native.Nat.{ℕ, suc, _<_}
 use native.Mathlib.Omega.{arith}
 use lib.ListN.{length}
 use lib.Dec.{eqb}
@@ -32,7 +32,7 @@ use Rattle.tree.specs.StoreRemovalLaws.{remove-read, emptied-read}
 use Rattle.tree.specs.Tree.{Tree, level, pages}
 use Rattle.tree.specs.Unlinking.{unlinkAll}
 use Rattle.page.specs.Header.{maxLevels, noPage, pageSize, rootOffset, freePointer, isPage}
-use Rattle.page.specs.Page.{rightAt, capacity}
+use Rattle.page.specs.Page.{rightAt}
 use Rattle.page.specs.ReadingLaws.{right-same}
 use Rattle.layout.specs.Layout.{newPage}
 use Rattle.layout.specs.Entries.{stored}
@@ -127,8 +127,8 @@ module _ (k : ℕ) (key b : List ℕ) (h : ℕ) (r : Ready k b h) where
       (λ e. let same = same-header (last .after) lone lone-header in
       record { before = same .before ∙ last-heads .header .before; after = same .after ∙ last-heads .header .after })
 
-  -- Theorem: the emptied pages are free, and pages outside the tree keep their bytes
-  pub free-after : Freed (pages h treeIn) gone b (removedBuffer k b key)
+  -- the emptied pages are free, and pages outside the tree keep their bytes
+  free-after : Freed (pages h treeIn) gone b (removedBuffer k b key)
   free-after = by-root (λ c. Freed (pages h treeIn) gone b c) (λ s. last-free)
       (λ e. freed-but k (pages h treeIn) b gone (last .after) lone (rootOffset b) (last-is .as-long)
       (occ-here (rootOffset b) (pagesOf (entriesIn k b) h (entriesIn k b (rootOffset b))))

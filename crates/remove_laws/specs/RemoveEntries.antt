@@ -14,10 +14,10 @@ use Rattle.tree.specs.InsertPages.{Distinct}
 use Rattle.tree.specs.Lists.{NonEmpty, occ}
 use Rattle.tree.specs.ListLaws.{occ-append, occ-head, occ-behind, occ-not-head}
 use Rattle.tree.specs.Removal.{replaceBy, ifEmptied}
-use Rattle.tree.specs.Store.{Store, readEntry, readTree}
+use Rattle.tree.specs.Store.{Store, readTree}
 use Rattle.tree.specs.StoreInsertLaws.{pagesOf}
 use Rattle.tree.specs.StoreLaws.{write-here, write-other}
-use Rattle.tree.specs.StoreRemoval.{StoreRemoved, StoreShrunk, entryUnlessEmptied, storePosition, storeRemoveAmong, storeRemoveUnder, storeRemove}
+use Rattle.tree.specs.StoreRemoval.{StoreRemoved, entryUnlessEmptied, storePosition, storeRemoveAmong, storeRemoveUnder, storeRemove}
 use Rattle.tree.specs.StoreRemovalLaws.{remove-others}
 use Rattle.tree.specs.StoreSteps.{write}
 use Rattle.tree.specs.Tree.{pages}
@@ -30,7 +30,7 @@ use Rattle.layout.specs.ItemLaws.{Fit}
 use Rattle.layout.specs.EntryLaws.{items-in-fit}
 use Rattle.layout.specs.FitLaws.{without-all, length-without}
 use Rattle.remove.specs.Removal.{Outcome, kept, emptied, bad, Step, leftWith, takeOut, afterChild, removeUnder, atRoot}
-use Rattle.layout_laws.specs.EntryLaws.{entriesIn, Usable, page-of, items-few, entries-with, length-with, entries-new, length-new}
+use Rattle.layout_laws.specs.EntryLaws.{entriesIn, Usable, page-of, items-few, entries-with, length-with, entries-new}
 use Rattle.layout_laws.specs.FreeLaws.{length-unlinked, length-freed, entries-unlinked, entries-freed}
 use Rattle.remove_laws.specs.EntryLists.{routeOf, entryAt, route-is, route-inside, entry-numbered, without-numbered, member-is, replace-same}
 use Rattle.remove_laws.specs.EntryLists.{entry-all, entry-pages}

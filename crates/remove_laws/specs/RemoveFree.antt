@@ -1,7 +1,7 @@
 -- Laws: the bytes of free pages, of pages outside the tree, and the free list after removal's steps on bytes: emptied pages have a free page's bytes and are
 -- chained, each naming the one before it, and pages outside the tree keep their bytes. Cited by the laws of the whole buffer. Assumes nothing.
 use mathlib.Core.Path.{_≡_, refl, sym, ap, _∙_, subst}
-use mathlib.Core.Bool.{true, false}
+use mathlib.Core.Bool.{true}
 use mathlib.Core.List.{List, [], _∷_, _++_, append-nil}
 use Prim.Native.Nat.{ℕ, zero, suc, _+_, _^_, _≤_, _<_}
 use native.Mathlib.Omega.{arith}

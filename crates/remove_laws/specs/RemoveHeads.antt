@@ -11,7 +11,7 @@ use borrow.Author.Tests.{lt-ltb, ne-eqb}
 use Rattle.basis.specs.Lists.{All}
 use Rattle.tree.specs.Clauses.{Links}
 use Rattle.tree.specs.InsertPages.{Distinct}
-use Rattle.tree.specs.Lists.{NonEmpty, occ, concatMap}
+use Rattle.tree.specs.Lists.{occ, concatMap}
 use Rattle.tree.specs.ListLaws.{occ-append, occ-head, occ-here}
 use Rattle.tree.specs.Removal.{ifEmptied, settle, shrunkPages, removeEntries}
 use Rattle.tree.specs.RemovalPages.{remove-pages}
@@ -30,8 +30,8 @@ use Rattle.layout.specs.EntryLaws.{items-in-fit}
 use Rattle.layout.specs.FitLaws.{without-all, length-without}
 use Rattle.sound.specs.Sound.{linksOf}
 use Rattle.remove.specs.Removal.{Outcome, kept, emptied, bad, Step, takeOut, afterChild, removeUnder}
-use Rattle.layout_laws.specs.EntryLaws.{entriesIn, Usable, page-of, items-few, length-with}
-use Rattle.layout_laws.specs.HeadLaws.{Head, with-head, with-header}
+use Rattle.layout_laws.specs.EntryLaws.{entriesIn, Usable, page-of, items-few}
+use Rattle.layout_laws.specs.HeadLaws.{with-head, with-header}
 use Rattle.layout_laws.specs.FreeLaws.{SameButFree, same-header, same-free, length-unlinked, unlinked-head, unlinked-header}
 use Rattle.layout_laws.specs.FreeLaws.{length-freed, freed-head, freed-header, freed-free}
 use Rattle.remove_laws.specs.EntryLists.{routeOf, route-is, route-inside, entry-all, entry-pages}

@@ -15,8 +15,7 @@ use Rattle.octets.specs.Bytes.{be32, toBe32, toLe32}
 use Rattle.octets.specs.Store.{window}
 use Rattle.octets.specs.StoreLaws.{getD-window}
 use Rattle.octets.specs.NumberLaws.{le16-same, le32-same}
-use Rattle.tree.specs.Clauses.{headOr, AllLinked}
-use Rattle.tree.specs.FreeChain.{Chained}
+use Rattle.tree.specs.Clauses.{AllLinked}
 use Rattle.tree.specs.FreeChainLaws.{chained-head}
 use Rattle.tree.specs.FreeList.{joinFree}
 use Rattle.tree.specs.FreeListLaws.{joinFree-pages}
@@ -25,8 +24,7 @@ use Rattle.tree.specs.IndexLaws.{removed-sound, removed-pairs}
 use Rattle.tree.specs.IndexPages.{noPage-unused}
 use Rattle.tree.specs.InsertLevels.{levelUnder-pages}
 use Rattle.tree.specs.Keeping.{Route}
-use Rattle.tree.specs.Lists.{NonEmpty, concatMap, countIf, occ}
-use Rattle.tree.specs.ListLaws.{occ-here}
+use Rattle.tree.specs.Lists.{NonEmpty, countIf, occ}
 use Rattle.tree.specs.Pairs.{byKey, has, removePair}
 use Rattle.tree.specs.Removal.{Shrunk, shrunkPages, settle, removeEntries, remove, emptied}
 use Rattle.tree.specs.RemovalPages.{remove-pages}
@@ -35,7 +33,7 @@ use Rattle.tree.specs.SoundIndex.{SoundIndex, LinkedIndex}
 use Rattle.tree.specs.Store.{Store, readEntry, readTree}
 use Rattle.tree.specs.StoreRemoval.{storeRemove}
 use Rattle.tree.specs.StoreRemovalLaws.{emptied-read}
-use Rattle.tree.specs.Tree.{Entry, Tree, pagesUnder, pages, pairs, level}
+use Rattle.tree.specs.Tree.{Entry, Tree, pages, pairs, level}
 use Rattle.page.specs.Header.{maxBytes, pageSize, noPage, isPage, rootOffset, freePointer, fileSize, keyLength, features, freeGood, headerGood}
 use Rattle.page.specs.HeaderLaws.{GoodHeader, is-page, good-header, good-header-from}
 use Rattle.page.specs.KeyOrder.{bytesOrder}
@@ -57,8 +55,8 @@ use Rattle.insert_laws.specs.SoundReading.{page-longer, read-shorter, sound-tre
 use Rattle.remove_laws.specs.EntryLists.{routeOf}
 use Rattle.remove_laws.specs.LevelLaws.{level-kept}
 use Rattle.remove_laws.specs.RemoveEntries.{emptiedFrom, storeAfter}
-use Rattle.remove_laws.specs.RemoveBuffer.{Ready, Outside, tree-after, entries-after, length-after, header-after, heads-after, root-after, lone-tree, stays}
-use Rattle.remove_laws.specs.RemoveBuffer.{links-after, outside-after, forms-after, chain-after}
+use Rattle.remove_laws.specs.RemoveBuffer.{Ready, Outside, tree-after, entries-after, length-after, header-after, heads-after, root-after}
+use Rattle.remove_laws.specs.RemoveBuffer.{lone-tree, stays, links-after, outside-after, forms-after, chain-after}
 use Rattle.remove_laws.specs.SoundRemoval.{head-all, sound-plain, sound-ready}
 
 -- the bytes of a free page at their places

@@ -3,11 +3,11 @@
 use mathlib.Core.Path.{_≡_, refl, sym, ap, _∙_, subst}
 use mathlib.Core.Bool.{true}
 use mathlib.Core.List.{List, [], _∷_, map}
-use Prim.Native.Nat.{ℕ, zero, suc, _+_, _^_, _≤_, _<_}
+use Prim.Native.Nat.{ℕ, zero, suc, _^_, _≤_, _<_}
 use native.Mathlib.Nat.{add-zero}
 use native.Mathlib.Omega.{arith}
 use lib.Dec.{eqb, ltb}
-use lib.ListN.{length, length-map}
+use lib.ListN.{length-map}
 use borrow.Author.Tests.{eqb-true, eqb-false, ltb-true, ltb-false}
 use Rattle.basis.specs.Lists.{All}
 use Rattle.basis.specs.Tests.{either}
@@ -36,7 +36,6 @@ use Rattle.layout_laws.specs.EntryLaws.{entriesIn}
 use Rattle.insert_laws.specs.InsertEntries.{Shaped}
 use Rattle.insert_laws.specs.SoundReading.{sound-tree, sound-shaped}
 use Rattle.remove_laws.specs.RemoveEntries.{Filled}
-use Rattle.remove_laws.specs.RemoveHeads.{Plain}
 use Rattle.remove_laws.specs.RemoveBuffer.{Ready}
 
 -- what all pages of a list and the number that names none have, the first of the list has
@@ -67,8 +66,9 @@ zero-bytes = refl
 -- a free page's attribute is 0
 free-attribute : (b : List ℕ) (z : ℕ) → FreePage b z → attributeAt b z ≡ 0
 free-attribute b z f =
-    sym (le16-window b z) ∙ ap (λ (w : List ℕ). le16 w 0) (rw add-zero at (sym (window-window b z 8 0 2 (omega arith))) ∙ ap (λ (w : List ℕ). window w 0 2) (f .0))
-    ∙ zero-bytes
+    let front : window b z 2 ≡ window (zeros 8) 0 2 =
+    rw add-zero at (sym (window-window b z 8 0 2 (omega arith))) ∙ ap (λ (w : List ℕ). window w 0 2) (f .0) in
+    sym (le16-window b z) ∙ ap (λ (w : List ℕ). le16 w 0) front ∙ zero-bytes
 
 module _ (b : List ℕ) (s : Sound b) where
   -- a page of the file has a number of four bytes
