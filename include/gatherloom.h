@@ -26,7 +26,7 @@ extern "C" {
 
 /* ---- Versions. */
 
-#define GL_VERSION "0.8.0" /* raised with every change, see docs/CHANGES.md */
+#define GL_VERSION "0.9.0" /* raised with every change, see docs/CHANGES.md */
 #define GL_INTERFACE 1     /* raised with every change of the form of a call or a struct */
 
 /* The GL_INTERFACE of the archive. A host compares it with its own before the first call: if they differ, a call may write past what it is lent. */
