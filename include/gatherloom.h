@@ -26,7 +26,7 @@ extern "C" {
 
 /* ---- Versions. */
 
-#define GL_VERSION "0.8.0" /* raised with every change, see docs/CHANGES.md */
+#define GL_VERSION "0.9.0" /* raised with every change, see docs/CHANGES.md */
 #define GL_INTERFACE 1     /* raised with every change of the form of a call or a struct */
 
 /* The GL_INTERFACE of the archive. A host compares it with its own before the first call: if they differ, a call may write past what it is lent. */
@@ -39,8 +39,8 @@ uint32_t gl_interface(void);
 #define GL_ABSENT 257 /* the key is not in the index */
 #define GL_DONE 258   /* the walk has no record left */
 
-/* The refusals, by the numbers of documents 01 and 02 (26 is unused). If several hold, a call answers the one that its comment names first. A table that is refused by
-   1 to 10 is not read at all: the lab has to send a good copy. */
+/* The refusals, by the numbers of documents 01 and 02 (26 is unused). If several hold, a call answers the one that its comment names first. A table that is
+   refused by 1 to 10 is not read at all: the lab has to send a good copy. */
 enum gl_refusal {
     /* the table as a whole */
     GL_REFUSED_TABLE_SIZE = 1,          /* size of the table: below 32 or above 16,777,216 bytes */
@@ -75,9 +75,11 @@ enum gl_refusal {
     GL_REFUSED_KEY_LENGTH = 27,             /* key length: not the index's; for a fresh index, not 1 to 100; for the match, not the field's length */
     GL_REFUSED_RECORD_NUMBER_ZERO = 28,     /* record number 0: records count from 1 */
     GL_REFUSED_KEY_PRESENT = 29,            /* key present: the index has the key already, and keeps its record */
-    GL_REFUSED_NO_ROOM = 30,                /* no room: lend a longer buffer; past 16,777,216 bytes a table is full, past 1,048,576 or 11 levels an index */
+    GL_REFUSED_NO_ROOM = 30,                /* no room: lend a longer buffer; past 16,777,216 bytes a table is full, past 1,048,576 or 11 levels an index; after
+                                               many removals a fresh index with the same keys may have room (gl_index_remove) */
     GL_REFUSED_INDEX_AND_TABLE_DIFFER = 31, /* index and table differ: make the index anew from the table */
     GL_REFUSED_CONTROL_BYTE = 32,           /* control byte in the key: a byte below 0x20 in a key to insert; was the barcode scanned well? */
+    GL_REFUSED_KEY_ABSENT = 33,             /* key absent: the key to strike off is not in the index */
     /* the dilution of a sample: for each of these nothing is to be pipetted */
     GL_REFUSED_BARCODE_ABSENT = 35,             /* barcode absent or deleted: the table has no live record of this barcode */
     GL_REFUSED_NO_CONCENTRATION = 36,           /* no concentration: the record's is empty, zero or negative */
@@ -197,8 +199,14 @@ uint32_t gl_index_lookup(const uint8_t *index, size_t index_len, const uint8_t *
                          uint32_t *record, uint32_t *pages);
 
 /* Inserts a key with its record's number. 24, 27, 32, 28, 25, 29, 30. An index that an earlier release made may hold keys with control bytes: the other
-   calls take them as any key. */
+   calls take them as any key. New pages are those that removals freed, and only then pages past the index's end. */
 uint32_t gl_index_insert(uint8_t *index, size_t index_len, const uint8_t *key, size_t key_len, uint32_t record);
+
+/* Strikes a key off. 24, 27, 25, 33. The pages that are emptied are free for later insertions; the index's own size, bytes 8 to 11, never falls, so the host
+   can't shorten its file. Nor do the levels fall, until the last key goes and there is one level again: a long list of ascending insertions and removals can
+   end in 30 with few keys left (seen with keys of 100 bytes: 34 keys in 11 levels, the 265,721st insertion refused). The way out is a fresh index, into which
+   the host inserts the keys that are left. An earlier release refuses an index with free pages by 24. */
+uint32_t gl_index_remove(uint8_t *index, size_t index_len, const uint8_t *key, size_t key_len);
 
 /* Matches an index against a field of a table: 0 if each record, deleted or not, has exactly one entry, its key that record's field, and there are
    no other entries. 1 to 10, 24, 12, 13, 27, 25, 31. */

@@ -77,6 +77,7 @@ WORDS = {
     30: 'no room',
     31: 'index and table differ',
     32: 'control byte in the key',
+    33: 'key absent',
     35: 'barcode absent or deleted',
     36: 'no concentration',
     37: 'target or volume out of range',
@@ -162,6 +163,7 @@ _CALLS = {
     'gl_index_audit': _BYTES,
     'gl_index_lookup': 2 * _BYTES + 2 * [_out(_NUMBER)],
     'gl_index_insert': 2 * _BYTES + [_NUMBER],
+    'gl_index_remove': 2 * _BYTES,
     'gl_match': 2 * _BYTES + [_NUMBER],
     'gl_dilute': 2 * _BYTES + 2 * [_NUMBER] + _BYTES + 2 * [ctypes.c_uint64] + 2 * [_out(_NUMBER)],
 }
@@ -606,7 +608,7 @@ class Lookup(NamedTuple):
 class Index:
     """An index in a bytearray, `buffer`.
 
-    A bytearray is used in place, so that insertions write into it. Of a path or other bytes a copy is made, with zeros after it up to `room` bytes: an
+    A bytearray is used in place, so that insertions and removals write into it. Of a path or other bytes a copy is made, with zeros after it up to `room` bytes: an
     insertion that splits a page needs 512 bytes or more after the index. The index itself is not checked here; `audit` does that.
     """
 
@@ -647,6 +649,16 @@ class Index:
         key, record = _bytes(key, 'a key'), _unsigned(record, 'record number')
         with self._lock:
             _accepted(_library.gl_index_insert(*_lent(self.buffer), *_lent(key), record))
+
+    def remove(self, key):
+        """Strikes a key off. A refusal leaves the buffer as it was. Refusals 24, 27, 25, 33.
+
+        Later insertions reuse the pages that are emptied. The index never gets shorter, and it loses levels only when its last key goes: after many calls
+        insertions may be refused by 30 with few keys left, and the way out is a fresh index.
+        """
+        key = _bytes(key, 'a key')
+        with self._lock:
+            _accepted(_library.gl_index_remove(*_lent(self.buffer), *_lent(key)))
 
     def file(self):
         """The bytes of the index file: the buffer as far as the index's own size. An index that is not sound is refused, by 24 or 25."""

@@ -86,7 +86,8 @@ S20 = [b'PLT%07d' % (7919 * i) for i in range(1, 21)]
 
 # the lengths of the buffers on which the lists of calls were worked out (crates/test_indexes/README.md)
 ROOM = {'k1_bytes': 8192, 'k10_ascending': 32768, 'k10_descending': 32768, 'k10_random': 32768, 'k46_mixed': 32768, 'k100_deep': 65536,
-        'k100_full': 4096, 'k100_deep_raised': 65536, 'k100_full_raised': 4096, 'k5_control': 16384, 'paper_five': 2048, 'paper_full': 1024}
+        'k100_full': 4096, 'k100_deep_raised': 65536, 'k100_full_raised': 4096, 'k5_control': 16384, 'paper_five': 2048, 'paper_full': 1024,
+        'k6_k10_mixed': 32768, 'k6_k10_to_nothing': 16384, 'k6_k1_bytes': 8192, 'k6_k100_deep': 65536, 'k6_k100_full': 4096}
 
 NONE = 0xFFFFFFFF
 
@@ -522,6 +523,36 @@ class Indexes(TestCase):
         self.assertEqual(index.lookup(b'PLT000000 '), Lookup(1, 1))
         self.assertEqual(str(Refusal(32)), '32 (control byte in the key)')
 
+    def test_removal(self):
+        """Five keys fill two leaves. The two keys of the second leaf go, it is free, and the next split takes it: the index is then the one before."""
+        keys = [99 * b'a' + bytes([c]) for c in b'12345']
+        index = Index.fresh(bytearray(2048), 100, b'KEY')
+        for record, key in enumerate(keys, 1):
+            index.insert(key, record)
+        before = bytes(index.buffer)
+        self.refused(33, index.remove, 100 * b'a')
+        self.refused(27, index.remove, b'')
+        self.assertEqual(bytes(index.buffer), before)
+        for key in keys[3:]:
+            index.remove(key)
+            self.refused(33, index.remove, key)
+        self.assertEqual(index.buffer[4:8], b'\0\4\0\0')
+        self.assertEqual(index.buffer[1024:1536], bytes(8) + 4 * b'\xff' + bytes(500))
+        self.assertEqual(index.lookup(keys[3]), Lookup(None, 1))
+        for record, key in enumerate(keys[3:], 4):
+            index.insert(key, record)
+        self.assertEqual(bytes(index.buffer), before)
+        for key in keys:
+            index.remove(key)
+        self.assertEqual(index.file(), bytes(index.buffer))
+        self.assertEqual(index.buffer[1536:], b'\3\0\0\0' + 8 * b'\xff' + bytes(500))
+        index.buffer[1024] = 1
+        self.refused(25, index.remove, keys[0])
+        index.buffer[4] = 1
+        self.refused(24, index.remove, keys[0])
+        self.assertRaises(TypeError, index.remove, 'a')
+        self.assertEqual(str(Refusal(33)), '33 (key absent)')
+
     def check_call(self, index, buffer, words):
         def key(word):
             return b'' if word == '-' else bytes.fromhex(word)
@@ -538,6 +569,8 @@ class Indexes(TestCase):
             return answer(int(words[3]), Index.fresh, buffer, int(words[1]), key(words[2]))
         if words[0] == 'i':
             answer(int(words[3]), index.insert, key(words[1]), int(words[2]))
+        elif words[0] == 'r':
+            answer(int(words[2]), index.remove, key(words[1]))
         elif words[0] == 'l':
             found = answer(int(words[2]), index.lookup, key(words[1]))
             if found is not None:
@@ -684,7 +717,7 @@ class Refusals(TestCase):
         self.assertEqual(pickle.loads(pickle.dumps(refusal)), refusal)
         self.assertNotEqual(refusal, Refusal(17))
         self.assertNotEqual(refusal, 16)
-        self.assertEqual(sorted(gatherloom.WORDS), [n for n in range(1, 33) if n != 26] + [35, 36, 37, 38, 40])
+        self.assertEqual(sorted(gatherloom.WORDS), [n for n in range(1, 34) if n != 26] + [35, 36, 37, 38, 40])
 
 
 class Threads(TestCase):

@@ -135,6 +135,8 @@ extern "C" {
         key_len: usize,
         record: u32,
     ) -> u32;
+    pub fn gl_index_remove(index: *mut u8, index_len: usize, key: *const u8, key_len: usize)
+        -> u32;
     pub fn gl_match(
         table: *const u8,
         table_len: usize,

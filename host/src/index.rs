@@ -3,7 +3,7 @@ use crate::ffi;
 use crate::refusal::{accepted, compare_interface, Answer};
 use crate::table::Table;
 
-/// An index over bytes that the caller holds: a slice, or a vector. To make one or to insert, the bytes must be writable.
+/// An index over bytes that the caller holds: a slice, or a vector. To make one, to insert or to remove, the bytes must be writable.
 ///
 /// ```
 /// use gatherloom::{Index, Lookup};
@@ -12,6 +12,8 @@ use crate::table::Table;
 /// let mut index = Index::fresh(&mut buffer[..], 10, b"BARCODE")?;
 /// index.insert(b"PLT0000001", 1)?;
 /// assert_eq!(index.lookup(b"PLT0000001")?, Lookup::Found { record: 1, pages: 1 });
+/// index.remove(b"PLT0000001")?;
+/// assert_eq!(index.lookup(b"PLT0000001")?, Lookup::Absent { pages: 1 });
 /// Index::over(&buffer).audit()?;
 /// # Ok::<(), gatherloom::Refusal>(())
 /// ```
@@ -114,6 +116,15 @@ impl<B: AsRef<[u8]> + AsMut<[u8]>> Index<B> {
                 key.len(),
                 record,
             )
+        };
+        accepted(answer, ())
+    }
+
+    /// Strikes a key off. Pages that are emptied are reused by later insertions; the index never gets shorter, and it loses levels only when its last key goes.
+    pub fn remove(&mut self, key: &[u8]) -> Answer<()> {
+        let index = self.bytes.as_mut();
+        let answer = unsafe {
+            ffi::gl_index_remove(index.as_mut_ptr(), index.len(), key.as_ptr(), key.len())
         };
         accepted(answer, ())
     }

@@ -67,6 +67,7 @@ refusals! {
     30 NoRoom "no room"
     31 IndexAndTableDiffer "index and table differ"
     32 ControlByte "control byte in the key"
+    33 KeyAbsent "key absent"
     35 BarcodeAbsent "barcode absent or deleted"
     36 NoConcentration "no concentration"
     37 TargetOrVolume "target or volume out of range"

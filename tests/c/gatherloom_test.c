@@ -909,6 +909,83 @@ static void test_five_keys(size_t len, uint32_t fifth)
     give_back(&index);
 }
 
+/* Keys of 100 bytes that differ in their last: five are put in, as above, and struck off. The page that the last two leave is free, and the next split takes
+   it, so the index is then byte for byte the one before and the buffer of 2,048 bytes is enough. At last all go, and the root page is an empty leaf. */
+static void test_removal(void)
+{
+    static const uint8_t none[4] = {0xFF, 0xFF, 0xFF, 0xFF}, zeros[512];
+    uint8_t key[100];
+    lent index = lend(NULL, 2048);
+    const uint8_t *b = index.bytes;
+    SAME(gl_index_fresh(index.bytes, index.len, 100, (const uint8_t *)"KEY", 3), 0);
+    memset(key, 'a', sizeof key);
+    for (key[99] = '1'; key[99] <= '5'; key[99]++)
+        SAME(gl_index_insert(index.bytes, index.len, key, 100, key[99] - '0'), 0);
+    keep(&index);
+    SAME(gl_index_remove(index.bytes, index.len, key, 100), GL_REFUSED_KEY_ABSENT);
+    SAME(gl_index_remove(index.bytes, index.len, key, 99), GL_REFUSED_KEY_LENGTH);
+    UNCHANGED(index);
+    for (key[99] = '4'; key[99] <= '5'; key[99]++)
+        SAME(gl_index_remove(index.bytes, index.len, key, 100), 0);
+    /* root 1,536, free page 1,024, F 2,048; the leaf at 512 has no neighbour; the root has one entry left, and zeros after it */
+    SAME_BYTES(b, "\0\6\0\0\0\4\0\0\0\10\0\0", 12);
+    SAME_BYTES(b + 512 + 4, none, 4);
+    SAME_BYTES(b + 512 + 8, none, 4);
+    SAME_BYTES(b + 1024, zeros, 8);
+    SAME_BYTES(b + 1024 + 8, none, 4);
+    SAME_BYTES(b + 1024 + 12, zeros, 500);
+    SAME(b[1536 + 2], 1);
+    SAME(b[1536 + 12 + 99], '3');
+    SAME_BYTES(b + 1536 + 12 + 104, zeros, 396);
+    SAME(gl_index_audit(index.bytes, index.len), 0);
+    key[99] = '4';
+    LOOKS_UP(&index, key, 100, GL_ABSENT, 0, 1);
+    for (; key[99] <= '5'; key[99]++)
+        SAME(gl_index_insert(index.bytes, index.len, key, 100, key[99] - '0'), 0);
+    UNCHANGED(index);
+    for (key[99] = '1'; key[99] <= '5'; key[99]++)
+        SAME(gl_index_remove(index.bytes, index.len, key, 100), 0);
+    /* the leaf at 512 was emptied before the one at 1,024: the list begins 1,024, 512 */
+    SAME_BYTES(b, "\0\6\0\0\0\4\0\0\0\10\0\0", 12);
+    SAME_BYTES(b + 1024, "\0\0\0\0\0\0\0\0\0\2\0", 12);
+    SAME_BYTES(b + 512 + 8, none, 4);
+    SAME_BYTES(b + 1536, "\3\0\0\0\xFF\xFF\xFF\xFF\xFF\xFF\xFF\xFF", 12);
+    SAME_BYTES(b + 1536 + 12, zeros, 500);
+    SAME(gl_index_audit(index.bytes, index.len), 0);
+    MARGINS(index);
+    give_back(&index);
+}
+
+/* Free lists that are not sound: a byte that is not zero, a circle, into the tree, out of the file, a page left out, the root at the head; and a head that is
+   no page, which is 24. */
+static void test_free_lists(void)
+{
+    static const struct { size_t at; uint8_t byte; uint32_t answer; } damages[] = {
+        {1024, 1, 25}, {1024 + 12, 1, 25}, {1024 + 511, 1, 25}, {1024 + 9, 4, 25}, {1024 + 9, 6, 25}, {1024 + 9, 8, 25}, {5, 2, 25}, {5, 6, 25},
+        {4, 1, 24}, {5, 8, 24}};
+    lent index = lend(NULL, 2048);
+    uint8_t key[100];
+    SAME(gl_index_fresh(index.bytes, index.len, 100, (const uint8_t *)"KEY", 3), 0);
+    memset(key, 'a', sizeof key);
+    for (key[99] = '1'; key[99] <= '5'; key[99]++)
+        SAME(gl_index_insert(index.bytes, index.len, key, 100, 1), 0);
+    for (key[99] = '1'; key[99] <= '5'; key[99]++)
+        SAME(gl_index_remove(index.bytes, index.len, key, 100), 0);
+    /* the list is 1,024, 512 and the tree is 1,536 alone */
+    for (size_t i = 0; i < sizeof damages / sizeof *damages; i++) {
+        uint8_t *byte = index.bytes + damages[i].at, was = *byte;
+        *byte = damages[i].byte, keep(&index);
+        SAME(gl_index_audit(index.bytes, index.len), damages[i].answer);
+        SAME(gl_index_insert(index.bytes, index.len, key, 100, 1), damages[i].answer);
+        SAME(gl_index_remove(index.bytes, index.len, key, 100), damages[i].answer);
+        UNCHANGED(index);
+        *byte = was;
+    }
+    SAME(gl_index_audit(index.bytes, index.len), 0);
+    MARGINS(index);
+    give_back(&index);
+}
+
 /* ---- Lists of calls with their answers, and the index file after the last. */
 
 static size_t hex(const char *word, uint8_t *to)
@@ -933,6 +1010,9 @@ static void call_line(lent *index, char *line)
         if (b != 0) UNCHANGED(*index);
     } else if (line[0] == 'i' && sscanf(line, "i %1023s %" SCNu32 " %" SCNu32, word, &a, &b) == 3) {
         SAME(gl_index_insert(index->bytes, index->len, bytes, hex(word, bytes), a), b);
+        if (b != 0) UNCHANGED(*index);
+    } else if (line[0] == 'r' && sscanf(line, "r %1023s %" SCNu32, word, &b) == 2) {
+        SAME(gl_index_remove(index->bytes, index->len, bytes, hex(word, bytes)), b);
         if (b != 0) UNCHANGED(*index);
     } else if (line[0] == 'l' && sscanf(line, "l %1023s %" SCNu32 " %" SCNu32 " %" SCNu32, word, &a, &b, &c) == 4) {
         size_t n = hex(word, bytes);
@@ -1440,6 +1520,8 @@ int main(int argc, char **argv)
     test_fresh();
     test_five_keys(2048, 0);
     test_five_keys(1024, 30);
+    test_removal();
+    test_free_lists();
     test_calls("k1_bytes", 8192);
     test_calls("k10_ascending", 32768);
     test_calls("k10_descending", 32768);
@@ -1450,6 +1532,11 @@ int main(int argc, char **argv)
     test_calls("k100_deep_raised", 65536);
     test_calls("k100_full_raised", 4096);
     test_calls("k5_control", 16384);
+    test_calls("k6_k10_mixed", 32768);
+    test_calls("k6_k10_to_nothing", 16384);
+    test_calls("k6_k1_bytes", 8192);
+    test_calls("k6_k100_deep", 65536);
+    test_calls("k6_k100_full", 4096);
     test_earlier_release();
     test_control_bytes();
     test_writing();

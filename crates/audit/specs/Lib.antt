@@ -12,5 +12,7 @@ pub mod PassLaws
 pub mod CeilingLaws
 -- Laws: the second pass's loops over pages and levels, and the answer
 pub mod KeyLaws
+-- Laws: the free list
+pub mod FreeLaws
 -- Laws: the loop over the marks
 pub mod MarkLaws

@@ -7,15 +7,15 @@ use native.Mathlib.Omega.{arith}
 use lib.ListN.{length, getD, length-set}
 use lib.Dec.{eqb}
 use Rattle.basis.specs.Tests.{either}
-use Rattle.page.specs.Header.{maxLevels, pageSize, isPage, rootOffset, fileSize, keyLength, headerGood}
+use Rattle.page.specs.Header.{maxLevels, pageSize, isPage, rootOffset, freePointer, fileSize, keyLength, headerGood}
 use Rattle.page.specs.HeaderLaws.{good-header}
 use Rattle.page.specs.Page.{rightAt, numberAt}
 use Rattle.page.specs.Reading.{entriesAt}
 use Rattle.page.specs.ReadingLaws.{entriesFrom, entries-are}
 use Rattle.page.specs.Children.{isLeaf, childrenOf, firstChild}
 use Rattle.page.specs.declared.PageOffset.{PageOffset}
-use Rattle.sound.specs.Rule.{Progress, Level, attributeOf, start, chain, pageFits, children, pagesUnder}
-use Rattle.sound.specs.Rule.{checkPage, checkPages, closed, checkLevel, rootLevel, nextLevel, levelsUnder, markedFrom, shapeGood}
+use Rattle.sound.specs.Rule.{maxPages, Progress, Level, attributeOf, start, chain, pageFits, children, pagesUnder}
+use Rattle.sound.specs.Rule.{checkPage, checkPages, closed, checkLevel, rootLevel, nextLevel, levelsUnder, markedFrom, checkFree, restFree, shapeGood}
 use Rattle.audit.specs.declared.Progress as declared-progress
 use Rattle.audit.specs.declared.Level as declared-level
 use Rattle.audit.specs.State.{InFile, progressOf, levelOf, startAt, closedAt}
@@ -175,10 +175,20 @@ module _ (b : List ℕ) (k size : ℕ) where
 -- the answer of the first pass
 pub shape-answer : (b : List ℕ) (k size root : ℕ) (v : declared-level.Level) (m m′ : List ℕ) (g : Bool)
     → k ≡ keyLength b → size ≡ fileSize b → root ≡ rootOffset b
-    → levelsUnder b k size (maxLevels - 1) (rootLevel b k size root m) ≡ (levelOf v, m′) → g ≡ markedFrom m′ (size / pageSize - 1) 1
+    → levelsUnder b k size (maxLevels - 1) (rootLevel b k size root m) ≡ (levelOf v, m′) → g ≡ restFree b size (freePointer b) m′
     → (v .good && (v .leaf && g)) ≡ shapeGood b m
 unfolding shapeGood
 shape-answer b k size root v m m′ g ek es er e eg = rw (← ek, ← es, ← er, e, eg)
+
+-- and of its end: the free list, then the marks
+module _ (b : List ℕ) (size p first : ℕ) (m m′ : List ℕ) (r : Bool) (ep : first ≡ p) (e : checkFree b size maxPages first m ≡ (r, m′)) where
+  pub rest-bad : r ≡ false → false ≡ restFree b size p m
+  unfolding restFree
+  rest-bad t = rw (← ep, e, t)
+
+  pub rest-marks : (g : Bool) → r ≡ true → g ≡ markedFrom m′ (size / pageSize - 1) 1 → g ≡ restFree b size p m
+  unfolding restFree
+  rest-marks g t eg = rw (← ep, e, t) eg
 
 -- what a good header says of the file
 pub in-file : (b : List ℕ) (k size : ℕ) → headerGood b ≡ true → k ≡ keyLength b → size ≡ fileSize b → InFile b k size

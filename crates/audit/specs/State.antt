@@ -1,10 +1,10 @@
 -- Steps: the audit's own values, as its test has them, and what its inner functions ask of the buffer. No public contract cites these: a reader need not
 -- believe them.
-use Prim.Native.Nat.{ℕ, _+_, _-_, _≤_, _<_}
+use Prim.Native.Nat.{ℕ, _+_, _-_, _/_, _≤_, _<_}
 use mathlib.Core.Bool.{Bool, true, false, cond, not, _&&_}
 use mathlib.Core.List.{List}
 use mathlib.Core.Option.{Option, none, some}
-use lib.ListN.{length}
+use lib.ListN.{length, set}
 use lib.Dec.{eqb}
 use Rattle.octets.specs.Store.{window}
 use Rattle.page.specs.Header.{maxBytes, maxKey, pageSize, noPage}
@@ -39,6 +39,10 @@ leafEntry b k p i z = not (eqb (numberAt b k p i) 0) && isAbove (keyFrom b k z) 
 -- the key of entry i of a page above the leaves, of n entries, is a ceiling, or exact; the children have h levels under them
 abbrev pub upperEntry : List ℕ → ℕ → ℕ → Bool → ℕ → ℕ → ℕ → ℕ → Bool
 upperEntry b k size exact h p n i = upperEntryGood b k size exact h (keyAt b k p i, numberAt b k p i) (entriesFrom b k p (n - (i + 1)) (i + 1))
+
+-- the page at p of the free list: whether it fits, and the marks after it
+unfoldable pub markFree : List ℕ → ℕ → ℕ → List ℕ → Bool × List ℕ
+markFree b size p m = cond (rule.freeFits b size p m) (true, set m (p / pageSize) 1) (false, m)
 
 -- the two structs, as the test has them
 abbrev pub progressOf : Progress → rule.Progress

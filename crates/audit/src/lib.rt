@@ -11,17 +11,18 @@ ghost use mathlib.Core.Option.{none};
 ghost use Prim.Native.Nat.{ℕ, _+_, _-_, _≤_, _<_};
 ghost use lib.ListN.{length};
 ghost use Rattle.octets.specs.Store.{window};
-ghost use Rattle.octets.specs.Order.{ordering};
-ghost use Rattle.page.specs.Header.{headerGood, maxLevels};
+ghost use Rattle.octets.specs.Order.{ordering, isEqual};
+ghost use Rattle.page.specs.Header.{minBytes, maxBytes, maxLevels, pageSize, freePointer, headerGood};
 ghost use Rattle.page.specs.Within.{Within};
 ghost use Rattle.page.specs.Reading.{entriesAt};
 ghost use Rattle.page.specs.ReadingLaws.{entriesFrom};
-ghost use Rattle.sound.specs.Sound.{Audited};
+ghost use Rattle.page.specs.Page.{entryArea};
+ghost use Rattle.sound.specs.Sound.{zeros, Audited};
 ghost use Rattle.page.specs.Children.{childrenOf, firstChild};
 ghost use Rattle.sound.specs.Rule.{maxPages, firstOf, lastOf, leafEntriesGood, entriesFit, pageFits, attributeOf, chain, pagesUnder};
-ghost use Rattle.sound.specs.Rule.{checkPage, checkPages, rootLevel, nextLevel, levelsUnder, markedFrom, shapeGood};
+ghost use Rattle.sound.specs.Rule.{checkPage, checkPages, rootLevel, nextLevel, levelsUnder, markedFrom, isFreePage, checkFree, restFree, shapeGood};
 ghost use Rattle.sound.specs.Rule.{heightOf, down, lastChild, belowNext, upperEntriesGood, upperPagesGood, upperLevelsGood, keysAboveGood, pagesGood};
-ghost use Rattle.audit.specs.State.{InFile, EntriesWithin, keyFrom, leafEntry, upperEntry, progressOf, levelOf, startAt, refusedAt, closedAt};
+ghost use Rattle.audit.specs.State.{InFile, EntriesWithin, keyFrom, leafEntry, upperEntry, markFree, progressOf, levelOf, startAt, refusedAt, closedAt};
 
 // What is known of the pages met on a level: whether all were good, the last page met, and the page that its right link names.
 struct Progress {
@@ -362,6 +363,77 @@ fn all_marked(marks: &[u8], pages: usize) -> bool
     true
 }
 
+// Whether `n` bytes of the index from `at` on are zero.
+fn is_zero(index: &[u8], at: usize, n: usize) -> bool
+    requires { ⌜ (at + n ≤ length (now index)) × (n ≤ entryArea) ⌝ }
+    ensures { λ r. ⌜ r ≡ isEqual (ordering (window (now (index .entry)) at n) (zeros n)) ⌝ }
+{
+    let blank = [0u8; Page::ENTRY_AREA];
+    let end = at + n;
+    octets::is_equal(octets::compare(&index[at..end], &blank[..n]))
+}
+
+// Whether a page is zero but for its right link.
+fn is_free_page(index: &[u8], page: PageOffset) -> bool
+    requires { ⌜ page .0 + pageSize ≤ length (now index) ⌝ }
+    ensures { λ r. ⌜ r ≡ isFreePage (now (index .entry)) (page .0) ⌝ }
+{
+    let at = page.0 as usize;
+    is_zero(index, at, Page::RIGHT_PLACE)
+        & is_zero(index, at + Page::ENTRIES_START, Page::ENTRY_AREA)
+}
+
+// Whether a page is a free page of the file that has no mark. Then it gets its mark.
+fn mark_free(index: &[u8], marks: &mut [u8], size: usize, page: PageOffset) -> bool
+    requires { ⌜ (size ≤ length (now index)) × (size ≤ maxBytes) × (length (now marks) ≡ maxPages) ⌝ }
+    ensures { λ r. ⌜ markFree (now (index .entry)) size (page .0) (now (marks .entry)) ≡ (r, now (marks .exit)) ⌝ }
+{
+    if !page::is_page(size, page) {
+        return false;
+    }
+    if !is_free_page(index, page) {
+        return false;
+    }
+    let place = page.0 as usize / Page::SIZE;
+    if marks[place] != 0 {
+        return false;
+    }
+    marks[place] = 1;
+    true
+}
+
+// Walks the free list from its first page on, and marks its pages, up to the first that is not good.
+fn free_list(index: &[u8], marks: &mut [u8], size: usize, first: PageOffset) -> bool
+    requires { ⌜ (size ≤ length (now index)) × (size ≤ maxBytes) × (length (now marks) ≡ maxPages) ⌝ }
+    ensures { λ r. ⌜ checkFree (now (index .entry)) size maxPages (first .0) (now (marks .entry)) ≡ (r, now (marks .exit)) ⌝ }
+{
+    let mut page = first;
+    let mut left = page::MAX_PAGES;
+    while 0 < left {
+        if page.0 == page::NO_PAGE {
+            return true;
+        }
+        if !mark_free(index, marks, size, page) {
+            return false;
+        }
+        let head = Page::at(index, page);
+        page = head.right;
+        left -= 1;
+    }
+    page.0 == page::NO_PAGE
+}
+
+// Whether the free list is good, and all pages but the first then have their marks.
+fn rest_free(index: &[u8], marks: &mut [u8], size: usize) -> bool
+    requires { ⌜ (size ≤ length (now index)) × (size ≤ maxBytes) × (minBytes ≤ size) × (length (now marks) ≡ maxPages) ⌝ }
+    ensures { λ r. ⌜ r ≡ restFree (now (index .entry)) size (freePointer (now (index .entry))) (now (marks .entry)) ⌝ }
+{
+    if !free_list(index, marks, size, page::free_pointer(index)) {
+        return false;
+    }
+    all_marked(marks, size / Page::SIZE)
+}
+
 // Whether all but the keys above pages is good in an index with a good header, with a mark lent for each page.
 fn shape_good(index: &[u8], marks: &mut [u8]) -> bool
     requires { ⌜ (headerGood (now index) ≡ true) × (length (now marks) ≡ maxPages) ⌝ }
@@ -370,7 +442,7 @@ fn shape_good(index: &[u8], marks: &mut [u8]) -> bool
     let k = page::key_length(index);
     let size = page::file_size(index);
     let level = levels(index, marks, k, size, page::root(index));
-    level.good & (level.leaf & all_marked(marks, size / Page::SIZE))
+    level.good & (level.leaf & rest_free(index, marks, size))
 }
 
 // Where the first key of a page begins, or 0 if the page has none.

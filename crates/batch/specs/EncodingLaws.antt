@@ -12,21 +12,21 @@ use Rattle.basis.specs.Tests.{either, both}
 use Rattle.octets.specs.Bytes.{byteAt, le16, le32}
 use Rattle.octets.specs.Store.{window}
 use Rattle.octets.specs.NumberLaws.{le32-small}
-use Rattle.tree.specs.Book.{insertion, lookupOf}
+use Rattle.tree.specs.Book.{insertion, removalOf, lookupOf}
 use Rattle.book.specs.Book.{FourBytes}
 use Rattle.batch.specs.Encoding.{keyIn, keyEnd, callEnd, isCall, callAt, callsFrom, callsIn}
 
 -- a whole call lies inside the list
 pub record Whole (s : List ℕ) (at : ℕ) : Type 0 where
   pub head : at + 3 ≤ length s
-  pub kind : byteAt s at ≤ 1
+  pub kind : byteAt s at ≤ 2
   pub end : callEnd s at ≤ length s
 
 pub whole : (s : List ℕ) (at : ℕ) → isCall s at ≡ true → Whole s at
 unfolding isCall
 whole s at e =
     let p = both (leb (at + 3) (length s)) _ e in
-    let q = both (leb (byteAt s at) 1) _ (p .1) in
+    let q = both (leb (byteAt s at) 2) _ (p .1) in
     record { head = leb-true _ _ (p .0); kind = leb-true _ _ (q .0); end = leb-true _ _ (q .1) }
 
 module _ (s : List ℕ) (at : ℕ) where
@@ -36,7 +36,7 @@ module _ (s : List ℕ) (at : ℕ) where
   no-head h = rw (lt-leb (at + 3) (length s) h)
 
   pub by-kind : {kind end : ℕ} → at + 3 ≤ length s → kind ≡ byteAt s at → end ≡ callEnd s at
-      → (leb kind 1 && leb end (length s)) ≡ isCall s at
+      → (leb kind 2 && leb end (length s)) ≡ isCall s at
   unfolding isCall
   by-kind h e f = rw (e, f, le-leb (at + 3) (length s) h)
 
@@ -45,9 +45,13 @@ module _ (s : List ℕ) (at : ℕ) where
   unfolding callAt
   lookup-there e = rw (e)
 
-  pub insertion-there : (byteAt s at ≡ 0 → ⊥) → callAt s at ≡ insertion (keyIn s at) (le32 s (keyEnd s at))
+  pub removal-there : byteAt s at ≡ 2 → callAt s at ≡ removalOf (keyIn s at)
   unfolding callAt
-  insertion-there e = rw (ne-eqb (byteAt s at) 0 e)
+  removal-there e = rw (e)
+
+  pub insertion-there : (byteAt s at ≡ 0 → ⊥) → (byteAt s at ≡ 2 → ⊥) → callAt s at ≡ insertion (keyIn s at) (le32 s (keyEnd s at))
+  unfolding callAt
+  insertion-there e f = rw (ne-eqb (byteAt s at) 0 e, ne-eqb (byteAt s at) 2 f)
 
   -- the key, as the code cuts it out of the list
   pub key-part : {n : ℕ} → n ≡ le16 s (at + 1) → take (at + 3 + n - (at + 3)) (drop (at + 3) s) ≡ keyIn s at
@@ -74,7 +78,9 @@ module _ (s : List ℕ) (a : All (λ x. x < 256) s) where
   four-bytes : (at : ℕ) → FourBytes (callAt s at)
   four-bytes at = either (eqb (byteAt s at) 0)
       (λ z. rw (lookup-there s at (eqb-true (byteAt s at) 0 z)) tt)
-      (λ z. rw (insertion-there s at (eqb-false (byteAt s at) 0 z)) (le32-small s a (keyEnd s at)))
+      (λ z. either (eqb (byteAt s at) 2)
+      (λ y. rw (removal-there s at (eqb-true (byteAt s at) 2 y)) tt)
+      (λ y. rw (insertion-there s at (eqb-false (byteAt s at) 0 z) (eqb-false (byteAt s at) 2 y)) (le32-small s a (keyEnd s at))))
 
   all-from : (f at : ℕ) → All FourBytes (callsFrom f s at)
   unfolding callsFrom

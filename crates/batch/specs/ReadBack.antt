@@ -13,10 +13,10 @@ use Rattle.basis.specs.Tests.{either}
 use Rattle.octets.specs.Bytes.{byteAt, le16, le32, toLe16, toLe32}
 use Rattle.octets.specs.Store.{window}
 use Rattle.octets.specs.NumberLaws.{length-toLe32, le32-window, le32-toLe32}
-use Rattle.tree.specs.Book.{Call, insertion, lookupOf}
+use Rattle.tree.specs.Book.{Call, insertion, removalOf, lookupOf}
 use Rattle.book.specs.Book.{Calls}
 use Rattle.batch.specs.Encoding.{keyIn, keyEnd, callEnd, isCall, callAt, callsFrom, callsIn, framed, callBytes, listBytes, Encodable}
-use Rattle.batch.specs.EncodingLaws.{whole, no-head, lookup-there, insertion-there, calls-more, calls-none}
+use Rattle.batch.specs.EncodingLaws.{whole, no-head, lookup-there, removal-there, insertion-there, calls-more, calls-none}
 use Rattle.batch.specs.Run.{answerSize, madeCalls}
 
 -- a bound of a third of the bytes is enough: a greater one gives the same calls
@@ -29,9 +29,9 @@ calls-enough (suc f) n s at h = either (isCall s at)
     rw (z, calls-more s at (f + n) e, calls-more s at f e) (ap (λ (l : Calls). callAt s at ∷ l) (calls-enough f n s (callEnd s at) (omega arith))))
     (λ e. calls-none s at (suc f + n) e ∙ sym (calls-none s at (suc f) e))
 
-is-whole : (s : List ℕ) (at : ℕ) → at + 3 ≤ length s → byteAt s at ≤ 1 → callEnd s at ≤ length s → isCall s at ≡ true
+is-whole : (s : List ℕ) (at : ℕ) → at + 3 ≤ length s → byteAt s at ≤ 2 → callEnd s at ≤ length s → isCall s at ≡ true
 unfolding isCall
-is-whole s at h k e = rw (le-leb (at + 3) (length s) h, le-leb (byteAt s at) 1 k, le-leb (callEnd s at) (length s) e)
+is-whole s at h k e = rw (le-leb (at + 3) (length s) h, le-leb (byteAt s at) 2 k, le-leb (callEnd s at) (length s) e)
 
 -- a call with `pre` before it and `post` behind it
 module _ (pre : List ℕ) (kind : ℕ) (key number post : List ℕ) (short : length key < 2 ^ 16) where
@@ -89,6 +89,19 @@ module _ (pre key post : List ℕ) (short : length key < 2 ^ 16) where
         next = omega arith;
       }
 
+  removal-back : There (pre ++ (framed 2 key [] ++ post)) (length pre) (removalOf key) (length (framed 2 key []))
+  removal-back =
+      let s = pre ++ (framed 2 key [] ++ post) in
+      let a = byte-there pre 2 key [] post short in
+      let b = size-there pre 2 key [] post short in
+      let l = long pre 2 key [] post short in
+      let n = framed-length 2 key [] in
+      record {
+        whole-call = is-whole s (length pre) (omega arith) (omega arith) (omega arith);
+        same-call = removal-there s (length pre) a ∙ ap removalOf (key-there pre 2 key [] post short);
+        next = omega arith;
+      }
+
   number-back : (r : ℕ) → r < 2 ^ 32 → le32 (pre ++ (framed 1 key (toLe32 r) ++ post)) (keyEnd (pre ++ (framed 1 key (toLe32 r) ++ post)) (length pre)) ≡ r
   unfolding window
   number-back r r32 =
@@ -108,13 +121,14 @@ module _ (pre key post : List ℕ) (short : length key < 2 ^ 16) where
       let f = length-toLe32 r in
       record {
         whole-call = is-whole s (length pre) (omega arith) (omega arith) (omega arith);
-        same-call = insertion-there s (length pre) (λ z. omega arith) ∙ rw (key-there pre 1 key (toLe32 r) post short, number-back r r32);
+        same-call = insertion-there s (length pre) (λ z. omega arith) (λ z. omega arith) ∙ rw (key-there pre 1 key (toLe32 r) post short, number-back r r32);
         next = omega arith;
       }
 
 there : (pre : List ℕ) (c : Call (List ℕ)) (post : List ℕ) → Encodable c → There (pre ++ (callBytes c ++ post)) (length pre) c (length (callBytes c))
 there pre (lookupOf key) post short = lookup-back pre key post short
 there pre (insertion key r) post e = insertion-back pre key post (e .0) r (e .1)
+there pre (removalOf key) post short = removal-back pre key post short
 
 -- a list of calls behind other bytes
 list-back : (calls : Calls) → All Encodable calls → (pre : List ℕ) (f : ℕ) → length calls ≤ f → callsFrom f (pre ++ listBytes calls) (length pre) ≡ calls
@@ -132,6 +146,7 @@ list-back (c ∷ calls) a pre (suc f) h =
 call-long : (c : Call (List ℕ)) → 1 ≤ length (callBytes c)
 call-long (lookupOf key) = omega arith
 call-long (insertion key r) = omega arith
+call-long (removalOf key) = omega arith
 
 list-long : (calls : Calls) → length calls ≤ length (listBytes calls)
 list-long [] = omega arith

@@ -5,7 +5,7 @@ use mathlib.Core.List.{List, [], _∷_, _++_}
 use lib.ListN.{length, take}
 use Rattle.octets.specs.Bytes.{toLe32}
 use Rattle.octets.specs.Store.{put}
-use Rattle.tree.specs.Book.{Call, insertion, lookupOf, Answer, refused, accepted, found, absent, resultsOf, finalOf}
+use Rattle.tree.specs.Book.{Call, insertion, removalOf, lookupOf, Answer, refused, accepted, found, absent, resultsOf, finalOf}
 use Rattle.book.specs.Book.{Calls, answerTo, bufferAfter, answersTo, Pairs, leafPairs, BookKept}
 use Rattle.page.specs.Header.{keyLength}
 use Rattle.lookup.specs.Lookup.{lookupRule, answerPages}
@@ -30,9 +30,10 @@ recordIn accepted = 0
 recordIn (found r) = r
 recordIn absent = 0
 
--- how many pages a lookup visited; 0 for an insertion and a refused lookup
+-- how many pages a lookup visited; 0 for another call and a refused lookup
 abbrev pub pagesTo : Call (List ℕ) → List ℕ → ℕ
 pagesTo (insertion key r) b = 0
+pagesTo (removalOf key) b = 0
 pagesTo (lookupOf key) b = answerPages (lookupRule b key) 0
 
 -- an answer as it is written: its code, its record and its pages, each in four bytes, least significant first

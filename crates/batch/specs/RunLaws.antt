@@ -17,7 +17,7 @@ use Rattle.octets.specs.Store.{put}
 use Rattle.octets.specs.StoreLaws.{put-append, put-none, length-put}
 use Rattle.octets.specs.NumberLaws.{length-toLe32}
 use Rattle.tree.specs.Book.{Call, finalOf}
-use Rattle.book.specs.Book.{Calls, FourBytes, insertionAnswer, lookupAnswer, bufferAfter, Pairs, leafPairs, BookKept}
+use Rattle.book.specs.Book.{Calls, FourBytes, insertionAnswer, removalAnswer, lookupAnswer, bufferAfter, Pairs, leafPairs, BookKept}
 use Rattle.book.specs.BookLaws.{demand-3, demand-3-sound}
 use Rattle.page.specs.Header.{minBytes, keyLength, keyLengthGood}
 use Rattle.lookup.specs.Lookup.{lookupRule, answerPages}
@@ -27,8 +27,11 @@ use Rattle.insert.specs.Fresh.{expressionGood, freshRule}
 use Rattle.insert.specs.CallLaws.{fresh-27, fresh-24, fresh-30, fresh-made}
 use Rattle.insert.specs.declared.Insertion.{Insertion}
 use Rattle.insert.specs.declared.Insertion.the-variants.{Accepted, Refused}
+use Rattle.remove.specs.Calls as strike
+use Rattle.remove.specs.Calls.{removeRule}
+use Rattle.remove.specs.declared.Removal.{Removal}
 use Rattle.batch.specs.Encoding.{keyIn, keyEnd, callEnd, isCall, callAt, callsFrom, callsIn}
-use Rattle.batch.specs.EncodingLaws.{whole, lookup-there, insertion-there, key-part, calls-more, calls-none, calls-small}
+use Rattle.batch.specs.EncodingLaws.{whole, lookup-there, removal-there, insertion-there, key-part, calls-more, calls-none, calls-small}
 use Rattle.batch.specs.Run.{replyOf, replyBytes, replyTo, repliesTo, answerSize, madeCalls, Ran, leaves, runRule, started, batchRule}
 use Rattle.batch.specs.Run.{RunKept, SoundRunKept, BatchKept}
 use Rattle.batch.specs.declared.Reply.{Reply}
@@ -40,12 +43,19 @@ module _ (b s : List ℕ) (at : ℕ) {n kind : ℕ} {r : Reply} (size : n ≡ le
       → (b ≡ bufferAfter (callAt s at) b) × (r ≡ replyTo (callAt s at) b)
   lookup-made z e q = rw (lookup-there s at (sym known ∙ z)) (refl, q ∙ rw (e, key-part s at size))
 
-  pub insertion-made : {a : Insertion} {after : List ℕ} {number : ℕ} → (kind ≡ 0 → ⊥) → number ≡ le32 s (at + 3 + n)
+  pub removal-made : {a : Removal} {after : List ℕ} → kind ≡ 2
+      → removeRule b (take (at + 3 + n - (at + 3)) (drop (at + 3) s)) ≡ strike.afterCall after a → r ≡ replyOf (removalAnswer a) 0
+      → (after ≡ bufferAfter (callAt s at) b) × (r ≡ replyTo (callAt s at) b)
+  removal-made {a} {after} z e q =
+      let g : removeRule b (keyIn s at) ≡ strike.afterCall after a = rw (key-part s at size) at e in
+      rw (removal-there s at (sym known ∙ z)) (sym (ap (λ (i : strike.AfterCall). i .after) g), q ∙ rw (g))
+
+  pub insertion-made : {a : Insertion} {after : List ℕ} {number : ℕ} → (kind ≡ 0 → ⊥) → (kind ≡ 2 → ⊥) → number ≡ le32 s (at + 3 + n)
       → insertRule b (take (at + 3 + n - (at + 3)) (drop (at + 3) s)) number ≡ afterCall after a → r ≡ replyOf (insertionAnswer a) 0
       → (after ≡ bufferAfter (callAt s at) b) × (r ≡ replyTo (callAt s at) b)
-  insertion-made {a} {after} {number} z f e q =
+  insertion-made {a} {after} {number} z y f e q =
       let g : insertRule b (keyIn s at) (le32 s (keyEnd s at)) ≡ afterCall after a = rw (f, key-part s at size, size) at e in
-      rw (insertion-there s at (λ y. z (known ∙ y))) (sym (ap (λ (i : AfterCall). i .after) g), q ∙ rw (g))
+      rw (insertion-there s at (λ x. z (known ∙ x)) (λ x. y (known ∙ x))) (sym (ap (λ (i : AfterCall). i .after) g), q ∙ rw (g))
 
 -- a turn is taken if there is a whole call, and room of n bytes for its answer
 pub turn-taken : (s : List ℕ) (at n : ℕ) {r : Bool} → r ≡ isCall s at && leb answerSize n → r ≡ true → (isCall s at ≡ true) × (answerSize ≤ n)

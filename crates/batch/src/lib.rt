@@ -1,13 +1,14 @@
-// A list of calls run by code: fresh, and then insertions and lookups, each lent the buffer as the last call left it.
+// A list of calls run by code: fresh, and then insertions, lookups and removals, each lent the buffer as the last call left it.
 use insert::Insertion;
 use page::RecordNumber;
+use remove::Removal;
 ghost use mathlib.Core.Path.{_≡_};
 ghost use mathlib.Core.Bool.{true, _&&_};
 ghost use Prim.Native.Nat.{_+_, _≤_};
 ghost use lib.ListN.{length};
 ghost use lib.Dec.{leb};
 ghost use Rattle.octets.specs.Store.{put};
-ghost use Rattle.book.specs.Book.{insertionAnswer, lookupAnswer, bufferAfter};
+ghost use Rattle.book.specs.Book.{insertionAnswer, removalAnswer, lookupAnswer, bufferAfter};
 ghost use Rattle.lookup.specs.Lookup.{answerPages};
 ghost use Rattle.batch.specs.Encoding.{isCall, callEnd, callAt};
 ghost use Rattle.batch.specs.Run.{answerSize, replyOf, replyBytes, replyTo, leaves, runRule, SoundRunKept, started, batchRule, BatchKept};
@@ -39,7 +40,7 @@ fn call_end(calls: &[u8], at: usize) -> usize
 {
     let key = octets::load_le16(calls, at + 1) as usize;
     let kind = octets::byte(calls, at) as usize;
-    at + 3 + key + 4 * kind
+    at + 3 + key + 4 * (kind % 2)
 }
 
 // Whether a whole call stands at an offset.
@@ -50,7 +51,7 @@ fn is_call(calls: &[u8], at: usize) -> bool
     if calls.len() - at < 3 {
         return false;
     }
-    (octets::byte(calls, at) <= 1) & (call_end(calls, at) <= calls.len())
+    (octets::byte(calls, at) <= 2) & (call_end(calls, at) <= calls.len())
 }
 
 // Whether a whole call stands at an offset, and there is room for its answer.
@@ -72,6 +73,24 @@ fn inserted(answer: Insertion) -> Reply
             pages: 0,
         },
         Insertion::Refused(refusal) => Reply {
+            code: refusal,
+            number: 0,
+            pages: 0,
+        },
+    }
+}
+
+// A removal's answer.
+fn struck(answer: Removal) -> Reply
+    ensures { λ r. ⌜ r ≡ replyOf (removalAnswer answer) 0 ⌝ }
+{
+    match answer {
+        Removal::Accepted => Reply {
+            code: 0,
+            number: 0,
+            pages: 0,
+        },
+        Removal::Refused(refusal) => Reply {
             code: refusal,
             number: 0,
             pages: 0,
@@ -112,8 +131,12 @@ fn make_call(index: &mut [u8], calls: &[u8], at: usize) -> Reply
 {
     let from = at + 3;
     let end = from + octets::load_le16(calls, at + 1) as usize;
-    if octets::byte(calls, at) == 0 {
+    let kind = octets::byte(calls, at);
+    if kind == 0 {
         return looked_up(lookup::lookup(index, &calls[from..end]));
+    }
+    if kind == 2 {
+        return struck(remove::remove(index, &calls[from..end]));
     }
     let number = RecordNumber(octets::load_le32(calls, end));
     inserted(insert::insert(index, &calls[from..end], number))

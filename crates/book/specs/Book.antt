@@ -1,5 +1,5 @@
 -- Rules: demand 3, one claim about a whole list of calls, each lent the buffer as the last call left it. The calls are the rules that the contracts of
--- insertion and lookup cite; the book, its answers and its pairs are those of the crate `tree`. The book begins at `book`: without pairs for a fresh index,
+-- insertion, lookup and removal cite; the book, its answers and its pairs are those of the crate `tree`. The book begins at `book`: without pairs for a fresh index,
 -- and at the leaves' pairs for an index that a host brings.
 use Prim.Native.Nat.{ℕ, _+_, _^_, _<_}
 use mathlib.Core.Path.{_≡_}
@@ -7,7 +7,7 @@ use mathlib.Core.Bool.{Bool, false, cond}
 use mathlib.Core.List.{List, [], _∷_}
 use lib.Dec.{eqb}
 use lib.ListN.{length, take}
-use Rattle.tree.specs.Book.{Call, insertion, lookupOf, Answer, refused, accepted, found, absent, KeyTests, isAccepted, noRooms, resultsOf, finalOf}
+use Rattle.tree.specs.Book.{Call, insertion, removalOf, lookupOf, Answer, refused, accepted, found, absent, KeyTests, isAccepted, noRooms, resultsOf, finalOf}
 use Rattle.tree.specs.Book.{bookAnswers, bookFinal}
 use Rattle.page.specs.Header.{keyLength}
 use Rattle.page.specs.KeyOrder.{bytesOrder}
@@ -22,15 +22,23 @@ use Rattle.insert.specs.Insertion.{insertedBuffer}
 use Rattle.insert.specs.Room.{pathTo, noRoom}
 use Rattle.insert.specs.declared.Insertion.{Insertion}
 use Rattle.insert.specs.declared.Insertion.the-variants.{Accepted, Refused}
+use Rattle.remove.specs.Calls.{removeRule}
+use Rattle.remove.specs.Removal.{removedBuffer}
+use Rattle.remove.specs.declared.Removal.{Removal}
+use Rattle.remove.specs.declared.Removal.the-variants as struck
 
 -- keys are byte strings
 abbrev pub Calls : Type 0
 Calls = List (Call (List ℕ))
 
--- the answers of both calls in the book's words
+-- the answers of the calls in the book's words
 abbrev pub insertionAnswer : Insertion → Answer
 insertionAnswer Accepted = accepted
 insertionAnswer (Refused n) = refused n
+
+abbrev pub removalAnswer : Removal → Answer
+removalAnswer struck.Accepted = accepted
+removalAnswer (struck.Refused n) = refused n
 
 abbrev pub lookupAnswer : Looked → Answer
 lookupAnswer (looked.Found r pages) = found (r .0)
@@ -40,14 +48,17 @@ lookupAnswer (looked.Refused n) = refused n
 -- a call on the buffer b: what it answers, the buffer that it leaves, and the rule for 30 on the index in b
 abbrev pub answerTo : Call (List ℕ) → List ℕ → Answer
 answerTo (insertion key r) b = insertionAnswer (insertRule b key r .answer)
+answerTo (removalOf key) b = removalAnswer (removeRule b key .answer)
 answerTo (lookupOf key) b = lookupAnswer (lookupRule b key)
 
 abbrev pub bufferAfter : Call (List ℕ) → List ℕ → List ℕ
 bufferAfter (insertion key r) b = insertRule b key r .after
+bufferAfter (removalOf key) b = removeRule b key .after
 bufferAfter (lookupOf key) b = b
 
 abbrev pub noRoomFor : Call (List ℕ) → List ℕ → Bool
 noRoomFor (insertion key r) b = noRoom b (pathTo (keyLength b) b key r)
+noRoomFor (removalOf key) b = false
 noRoomFor (lookupOf key) b = false
 
 -- a key has k bytes; 27 is for "a key not of k bytes"
@@ -61,6 +72,7 @@ barcodes k = record { fits = fits k; barred = hasControl }
 -- the record number of a call fits four bytes; its key may have any length
 abbrev pub FourBytes : Call (List ℕ) → Type 0
 FourBytes (insertion key r) = r < 2 ^ 32
+FourBytes (removalOf key) = Unit {0}
 FourBytes (lookupOf key) = Unit {0}
 
 -- a list of calls made from the buffer b on: its answers, and the buffer after the first n calls
@@ -86,12 +98,16 @@ pub record IndexHolds (b : List ℕ) (book : Pairs) : Type 0 where
 -- a lookup that finds its key has visited as many pages as the index has levels, "the pages from the root to a leaf, both counted"
 abbrev pub VisitsLevels : Call (List ℕ) → List ℕ → Type 0
 VisitsLevels (insertion key r) b = Unit {0}
+VisitsLevels (removalOf key) b = Unit {0}
 VisitsLevels (lookupOf key) b = (s : Sound b) (r : RecordNumber) (pages : ℕ) → lookupRule b key ≡ looked.Found r pages → pages ≡ s .height + 1
 
--- an accepted insertion leaves the buffer that document 01's steps make, and a refused one leaves the buffer as it was
+-- an accepted insertion leaves the buffer that document 01's steps make, an accepted removal the one that K6's steps make, and a refused one leaves the buffer
+-- as it was
 abbrev pub LeavesBuffer : Call (List ℕ) → List ℕ → Type 0
 LeavesBuffer (insertion key r) b =
     bufferAfter (insertion key r) b ≡ cond (isAccepted (answerTo (insertion key r) b)) (insertedBuffer (keyLength b) b key r) b
+LeavesBuffer (removalOf key) b =
+    bufferAfter (removalOf key) b ≡ cond (isAccepted (answerTo (removalOf key) b)) (removedBuffer (keyLength b) b key) b
 LeavesBuffer (lookupOf key) b = Unit {0}
 
 -- P holds of each call of a list and the buffer lent to it

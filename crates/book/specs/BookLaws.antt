@@ -37,7 +37,7 @@ book-take k (suc n) [] b book = refl
 book-take k (suc n) (c ∷ calls) b book = book-take k n calls (bufferAfter c b) _
 
 -- the pairs that the theory reads in a buffer are those of its sound index
-own-pairs : (b : List ℕ) (s : Sound b) → held (readIndex b) ≡ leafPairs b s
+pub own-pairs : (b : List ℕ) (s : Sound b) → held (readIndex b) ≡ leafPairs b s
 own-pairs b s = ap held (read-is b s)
 
 module _ (k size : ℕ) (two : 1 < capacity k) where
@@ -51,12 +51,12 @@ module _ (k size : ℕ) (two : 1 < capacity k) where
   claim : (calls : Calls) → All FourBytes calls → (b : List ℕ) → Kept k size b
       → BookClaim bytesOrder (barcodes k) answerTo bufferAfter (λ b. held (readIndex b)) noRoomFor calls b (held (readIndex b))
   claim = book-claim (keeping k size) two (barcodes k) readIndex answerTo bufferAfter noRoomFor (Kept k size) FourBytes
-      (λ b i. kept-sound k size b i) (λ c b o i. keeps k size b i c o) (λ c b o i. same-answer k size b i c)
+      (λ b i. kept-sound k size b i) (λ c b o i. keeps k size b i c o) (λ c b o i. same-answer k size b i c o)
       (λ c b o i. same-next k size b i c o) (λ c b o i. same-rule k size b i c)
 
   keeps-all : (calls : Calls) → All FourBytes calls → (b : List ℕ) → Kept k size b → Kept k size (finalOf bufferAfter calls b)
   keeps-all = list-keeps (keeping k size) two (barcodes k) readIndex answerTo bufferAfter noRoomFor (Kept k size) FourBytes
-      (λ b i. kept-sound k size b i) (λ c b o i. keeps k size b i c o) (λ c b o i. same-answer k size b i c)
+      (λ b i. kept-sound k size b i) (λ c b o i. keeps k size b i c o) (λ c b o i. same-answer k size b i c o)
       (λ c b o i. same-next k size b i c o) (λ c b o i. same-rule k size b i c)
 
   -- a list of calls on a kept buffer: the book begins at the index's own pairs
@@ -82,7 +82,7 @@ module _ (k size : ℕ) (two : 1 < capacity k) where
       }
 
 -- the key length in a good header is at most 100, so a page holds more than one entry
-header-two : (b : List ℕ) → headerGood b ≡ true → 1 < capacity (keyLength b)
+pub header-two : (b : List ℕ) → headerGood b ≡ true → 1 < capacity (keyLength b)
 header-two b e = omega (arith, capacity-least (keyLength b) (good-header b e .key-high))
 
 -- the book that begins at a sound index's own pairs keeps every list of calls on its buffer; `Plain` follows for a buffer of bytes
@@ -125,8 +125,11 @@ unfolding freshRule fresh-tests
 fresh-accepted k e b a = tests-accepted b (freshBuffer k e b) (keyLengthGood k) (expressionGood e) (leb minBytes (length b))
     (ap (λ (x : Insertion). isAccepted (insertionAnswer x)) a)
 
+pub fresh-leaves : (k : ℕ) (e b : List ℕ) → freshRule b k e .answer ≡ Accepted → freshRule b k e .after ≡ freshBuffer k e b
+fresh-leaves k e b a = fresh-accepted k e b a .leaves
+
 -- an accepted fresh leaves a sound index without pairs
-fresh-is : (b : List ℕ) (k : ℕ) (e : List ℕ) → All (λ x. x < 256) b → freshRule b k e .answer ≡ Accepted → FreshIs k e b
+pub fresh-is : (b : List ℕ) (k : ℕ) (e : List ℕ) → All (λ x. x < 256) b → freshRule b k e .answer ≡ Accepted → FreshIs k e b
 fresh-is b k e octets a =
     let f = fresh-accepted k e b a in
     fresh-is-sound k e b (record {

@@ -1,33 +1,41 @@
--- Laws: one call of insertion or lookup on a buffer that holds a sound index is the theory's call on that index, and keeps it sound. Cited by `BookLaws`.
+-- Laws: one call of insertion, lookup or removal on a buffer that holds a sound index is the theory's call on that index, and keeps it sound. Cited by `BookLaws`.
 -- Assumes nothing.
-use Prim.Native.Nat.{ℕ, _-_, _^_, _<_, min}
-use mathlib.Core.Path.{_≡_, refl, sym, ap, _∙_, subst}
+use Prim.Native.Nat.{ℕ, _-_, _/_, _^_, _<_, min}
+use mathlib.Core.Path.{_≡_, refl, sym, ap, ap₂, _∙_, subst}
 use mathlib.Core.Bool.{Bool, true, false, cond, not}
-use mathlib.Core.List.{List, []}
+use mathlib.Core.List.{List, [], _∷_}
 use mathlib.Core.Option.{Option, none, some}
 use native.Mathlib.Omega.{arith}
 use lib.Dec.{eqb}
 use lib.ListN.{length}
 use borrow.Author.Tests.{eqb-true}
-use Rattle.basis.specs.Tests.{either, impossible}
-use Rattle.tree.specs.Book.{Call, insertion, lookupOf, accepted, absent, refusedIf, foundOrAbsent, isAccepted}
-use Rattle.tree.specs.Index.{Index, held, Setting, outOfRoom, noRoomFor as noRoomTo, answer, inserted, next}
+use Rattle.basis.specs.Tests.{either, contra, impossible}
+use Rattle.tree.specs.Book.{Call, insertion, removalOf, lookupOf, accepted, absent, refusedIf, foundOrAbsent, isAccepted}
+use Rattle.tree.specs.Index.{Index, held, Setting, outOfRoom, noRoomFor as noRoomTo, answer, inserted, removed, next}
+use Rattle.tree.specs.FreeChain.{chainFrom}
+use Rattle.tree.specs.FreeChainLaws.{chained-read}
 use Rattle.tree.specs.IndexLaws.{accepted-acceptable}
-use Rattle.tree.specs.Pairs.{byKey, has}
+use Rattle.tree.specs.IndexPages.{free-distinct, noPage-unused}
+use Rattle.tree.specs.Lists.{occ}
+use Rattle.tree.specs.PageCount.{pages-at-most}
+use Rattle.tree.specs.Pairs.{find, byKey, has, present}
+use Rattle.tree.specs.PairLaws.{present-has}
 use Rattle.tree.specs.SoundIndex.{SoundIndex}
 use Rattle.tree.specs.Tree.{lookup, visited}
-use Rattle.page.specs.Header.{maxBytes, keyLength, headerGood}
-use Rattle.page.specs.HeaderLaws.{good-header}
+use Rattle.page.specs.Header.{maxBytes, pageSize, noPage, freePointer, fileSize, keyLength, headerGood}
+use Rattle.page.specs.HeaderLaws.{IsPage, is-page, good-header}
 use Rattle.page.specs.KeyOrder.{bytesOrder}
+use Rattle.page.specs.Page.{rightAt}
 use Rattle.page.specs.declared.RecordNumber.{RecordNumber}
-use Rattle.lookup.specs.Lookup.{lookupRule, answerPages}
+use Rattle.octets.specs.Order.{bytesLe}
+use Rattle.lookup.specs.Lookup.{lookupRule, answerPages, isFound}
 use Rattle.lookup.specs.declared.Answer.{Answer as Looked}
 use Rattle.lookup.specs.declared.Answer.the-variants as looked
 use Rattle.lookup_laws.specs.FoundLaws.{answerOf, lookup-tree, lookup-list, found-pages}
 use Rattle.sound.specs.Accepted.{accepted as audit-accepts}
-use Rattle.sound.specs.Sound.{indexTree, Sound}
+use Rattle.sound.specs.Sound.{indexTree, Sound, leafPairs}
 use Rattle.sound.specs.Rule.{pagesGood, unmarked}
-use Rattle.sound.specs.IndexLaws.{indexOf, settingOf, sound-index}
+use Rattle.sound.specs.IndexLaws.{indexOf, settingOf, sound-index, once-page}
 use Rattle.insert.specs.Calls.{AfterCall, afterCall, hasControl, insertRule}
 use Rattle.insert.specs.Insertion.{insertedBuffer}
 use Rattle.insert.specs.Room.{pathTo, noRoom}
@@ -35,7 +43,12 @@ use Rattle.insert.specs.declared.Insertion.the-variants.{Accepted, Refused}
 use Rattle.insert_laws.specs.InsertHeads.{Plain}
 use Rattle.insert_laws.specs.RoomLaws.{sound-levels, present-is, room-is}
 use Rattle.insert_laws.specs.InsertSound.{Accepts, insert-keeps-sound}
-use Rattle.book.specs.Book.{insertionAnswer, lookupAnswer, answerTo, bufferAfter, noRoomFor, fits, barcodes, FourBytes, VisitsLevels, LeavesBuffer}
+use Rattle.remove.specs.Calls as strike
+use Rattle.remove.specs.Calls.{removeRule}
+use Rattle.remove.specs.Removal.{removedBuffer}
+use Rattle.remove.specs.declared.Removal.the-variants as struck
+use Rattle.remove_laws.specs.RemoveSound.{Strikes, remove-keeps-sound}
+use Rattle.book.specs.Book.{insertionAnswer, removalAnswer, lookupAnswer, answerTo, bufferAfter, noRoomFor, fits, barcodes, FourBytes, VisitsLevels, LeavesBuffer}
 
 -- what each call keeps of a buffer of `size` bytes, for keys of k bytes
 pub record Kept (k size : ℕ) (b : List ℕ) : Type 0 where
@@ -52,12 +65,28 @@ height-is : (b : List ℕ) (s : Sound b) → heightIn b ≡ s .height
 unfolding heightIn
 height-is b s = omega (arith, sound-levels b [] 0 s)
 
+-- the free list, read from the bytes: at most as many pages of it as the file has
+unfoldable pub freeIn : List ℕ → List ℕ
+freeIn b = chainFrom noPage (rightAt b) (fileSize b / pageSize) (freePointer b)
+
+free-is : (b : List ℕ) (s : Sound b) → freeIn b ≡ s .free
+unfolding freeIn
+free-is b s =
+    let g = good-header b (s .header) in
+    let i : Index (List ℕ) = indexOf b (s .height) (s .free) in
+    let once = sound-index b s (fileSize b) (omega arith) .pagesOnce in
+    let inside : (z : ℕ) → 0 < occ z (s .free) → IsPage (fileSize b) z = λ z o. is-page (fileSize b) z (once-page i once z (omega arith)) in
+    chained-read noPage (rightAt b) (fileSize b / pageSize) (freePointer b) (s .free) (omega (arith, noPage-unused i once))
+    (pages-at-most (fileSize b / pageSize) (s .free) (free-distinct i once)
+    (λ z o. let p = inside z o in (omega (arith, p .high, g .whole), p .whole)))
+    (s .freeList)
+
 -- the index that a buffer reads as
 abbrev pub readIndex : List ℕ → Index (List ℕ)
-readIndex b = indexOf b (heightIn b)
+readIndex b = indexOf b (heightIn b) (freeIn b)
 
-pub read-is : (b : List ℕ) (s : Sound b) → readIndex b ≡ indexOf b (s .height)
-read-is b s = ap (indexOf b) (height-is b s)
+pub read-is : (b : List ℕ) (s : Sound b) → readIndex b ≡ indexOf b (s .height) (s .free)
+read-is b s = ap₂ (indexOf b) (height-is b s) (free-is b s)
 
 -- the setting in which the theory keeps an index of key length k in a buffer of `size` bytes
 abbrev pub keeping : ℕ → ℕ → Setting (List ℕ)
@@ -118,13 +147,59 @@ insert-refusals : (b key : List ℕ) (r : ℕ) → insertRule b key r
 unfolding insertRule refusals
 insert-refusals b key r = refl
 
--- Theorem: an insertion leaves the buffer that document 01's steps make, or leaves it as it was
+-- removal's refusals, "24, 27, 25 by full audit, then 33 if the key is absent", by their tests; b″ is the buffer after an accepted removal
+strikings : List ℕ → List ℕ → Bool → Bool → Bool → Bool → strike.AfterCall
+strikings b b″ good fit audit there =
+    elim good [
+      | false ↦ strike.afterCall b (struck.Refused 24)
+      | true ↦ elim fit [
+        | false ↦ strike.afterCall b (struck.Refused 27)
+        | true ↦ elim audit [
+          | false ↦ strike.afterCall b (struck.Refused 25)
+          | true ↦ elim there [ false ↦ strike.afterCall b (struck.Refused 33) | true ↦ strike.afterCall b″ struck.Accepted ]
+        ]
+      ]
+    ]
+
+-- on a sound index the refusals are the book's
+strikings-answer : (b b″ : List ℕ) (fit there : Bool)
+    → removalAnswer (strikings b b″ true fit true there .answer) ≡ refusedIf (not fit) 27 (refusedIf (not there) 33 accepted)
+unfolding strikings
+strikings-answer b b″ false there = refl
+strikings-answer b b″ true false = refl
+strikings-answer b b″ true true = refl
+
+-- a refusal leaves the buffer as it was
+strikings-after : (b b″ : List ℕ) (good fit audit there : Bool)
+    → strikings b b″ good fit audit there .after ≡ cond (isAccepted (removalAnswer (strikings b b″ good fit audit there .answer))) b″ b
+unfolding strikings
+strikings-after b b″ false fit audit there = refl
+strikings-after b b″ true false audit there = refl
+strikings-after b b″ true true false there = refl
+strikings-after b b″ true true true false = refl
+strikings-after b b″ true true true true = refl
+
+remove-strikings : (b key : List ℕ) → removeRule b key
+    ≡ strikings b (removedBuffer (keyLength b) b key) (headerGood b) (eqb (length key) (keyLength b)) (pagesGood b unmarked) (isFound (lookupRule b key))
+unfolding removeRule strikings
+remove-strikings b key = refl
+
+-- Theorem: an insertion or a removal leaves the buffer that the papers' steps make, or leaves it as it was
 pub leaves-buffer : (c : Call (List ℕ)) (b : List ℕ) → LeavesBuffer c b
-unfolding insertRule refusals
+unfolding insertRule refusals removeRule strikings
 leaves-buffer (insertion key r) b =
     refusals-after b (insertedBuffer (keyLength b) b key r) (headerGood b) (eqb (length key) (keyLength b)) (hasControl key) (eqb r 0)
     (pagesGood b unmarked) (pathTo (keyLength b) b key r .present) (noRoom b (pathTo (keyLength b) b key r))
+leaves-buffer (removalOf key) b =
+    strikings-after b (removedBuffer (keyLength b) b key) (headerGood b) (eqb (length key) (keyLength b)) (pagesGood b unmarked)
+    (isFound (lookupRule b key))
 leaves-buffer (lookupOf key) b = tt
+
+-- an accepted removal's key fits and is there
+accepted-striking : (fit there : Bool) → isAccepted (refusedIf (not fit) 27 (refusedIf (not there) 33 accepted)) ≡ true → (fit ≡ true) × (there ≡ true)
+accepted-striking false there e = contra e refl
+accepted-striking true false e = contra e refl
+accepted-striking true true e = (refl, refl)
 
 -- lookup's answer, by the record that was found
 answer-reply : (o : Option ℕ) (n : ℕ) → lookupAnswer (answerOf o n) ≡ foundOrAbsent o
@@ -142,12 +217,26 @@ unfolding foundRecord
 answer-record none n r m e = ap foundRecord e
 answer-record (some x) n r m e = ap foundRecord e
 
+-- a list's answer to a lookup says whether the list has the key
+found-present : (key : List ℕ) (n : ℕ) (es : List (List ℕ × ℕ)) → isFound (answerOf (find bytesOrder key es) n) ≡ present (byKey bytesOrder) (key, 0) es
+found-present key n [] = refl
+found-present key n (x ∷ es) = either (bytesLe key (x .0))
+    (λ t. either (bytesLe (x .0) key) (λ u. rw (t, u)) (λ u. rw (t, u)))
+    (λ t. rw t (found-present key n es))
+
+-- lookup finds a key of k bytes in a sound index if the leaves' pairs have it, and only then
+pub found-has : (b key : List ℕ) (s : Sound b) → length key ≡ keyLength b → isFound (lookupRule b key) ≡ has (byKey bytesOrder) (key, 0) (leafPairs b s)
+found-has b key s long =
+    ap isFound (lookup-list b key s long)
+    ∙ found-present key _ (leafPairs b s)
+    ∙ present-has bytesOrder (key, 0) (leafPairs b s) (s .ascending)
+
 module _ (k size : ℕ) (b : List ℕ) (kept : Kept k size b) where
   abbrev s : Sound b
   s = kept .sound
 
   -- the theory's index in this buffer, and that it is sound there
-  same-index : readIndex b ≡ indexOf b (s .height)
+  same-index : readIndex b ≡ indexOf b (s .height) (s .free)
   same-index = read-is b s
 
   pub kept-sound : SoundIndex (keeping k size) (readIndex b)
@@ -155,7 +244,7 @@ module _ (k size : ℕ) (b : List ℕ) (kept : Kept k size b) where
       let g = good-header b (s .header) in
       let i = sound-index b s (min size maxBytes) (omega (arith, g .within, g .most, kept .as-long)) in
       subst (SoundIndex (keeping k size)) (sym same-index)
-      (subst (λ (n : ℕ). SoundIndex (settingOf n (min size maxBytes)) (indexOf b (s .height))) (kept .keyIs) i)
+      (subst (λ (n : ℕ). SoundIndex (settingOf n (min size maxBytes)) (indexOf b (s .height) (s .free))) (kept .keyIs) i)
 
   same-fit : (key : List ℕ) → eqb (length key) (keyLength b) ≡ fits k key
   same-fit key = ap (eqb (length key)) (kept .keyIs)
@@ -179,6 +268,7 @@ module _ (k size : ℕ) (b : List ℕ) (kept : Kept k size b) where
   -- Theorem: a lookup that finds its key has visited as many pages as the index has levels
   pub visits-levels : (c : Call (List ℕ)) → VisitsLevels c b
   visits-levels (insertion key r) = tt
+  visits-levels (removalOf key) = tt
   visits-levels (lookupOf key) = λ s′ r pages e. either (fits k key)
       (λ f.
       let long = eqb-true (length key) (keyLength b) (same-fit key ∙ f) in
@@ -190,8 +280,8 @@ module _ (k size : ℕ) (b : List ℕ) (kept : Kept k size b) where
   same-room : (key : List ℕ) (r : ℕ) → noRoom b (pathTo (keyLength b) b key r) ≡ outOfRoom (keeping k size) (key, r) (readIndex b)
   same-room key r =
       room-is b key r s
-      ∙ ap (λ (n : ℕ). outOfRoom (settingOf n (min (length b) maxBytes)) (key, r) (indexOf b (s .height))) (kept .keyIs)
-      ∙ ap (λ (n : ℕ). outOfRoom (keeping k n) (key, r) (indexOf b (s .height))) (kept .as-long)
+      ∙ ap (λ (n : ℕ). outOfRoom (settingOf n (min (length b) maxBytes)) (key, r) (indexOf b (s .height) (s .free))) (kept .keyIs)
+      ∙ ap (λ (n : ℕ). outOfRoom (keeping k n) (key, r) (indexOf b (s .height) (s .free))) (kept .as-long)
       ∙ ap (outOfRoom (keeping k size) (key, r)) (sym same-index)
 
   same-present : (key : List ℕ) (r : ℕ) → pathTo (keyLength b) b key r .present ≡ has (byKey bytesOrder) (key, r) (held (readIndex b))
@@ -204,13 +294,27 @@ module _ (k size : ℕ) (b : List ℕ) (kept : Kept k size b) where
       (pathTo (keyLength b) b key r .present) (noRoom b (pathTo (keyLength b) b key r))
       ∙ rw (same-fit key, same-room key r, same-present key r))
 
+  -- removal
+  same-there : (key : List ℕ) → fits k key ≡ true → isFound (lookupRule b key) ≡ has (byKey bytesOrder) (key, 0) (held (readIndex b))
+  same-there key f =
+      found-has b key s (eqb-true (length key) (keyLength b) (same-fit key ∙ f))
+      ∙ ap (λ (i : Index (List ℕ)). has (byKey bytesOrder) (key, 0) (held i)) (sym same-index)
+
+  remove-answers : (key : List ℕ) → answerTo (removalOf key) b ≡ answer (keeping k size) (barcodes k) (removalOf key) (readIndex b)
+  remove-answers key =
+      rw (remove-strikings b key, s .header, audit-accepts b (s .header) .1 s)
+      (strikings-answer b (removedBuffer (keyLength b) b key) (eqb (length key) (keyLength b)) (isFound (lookupRule b key))
+      ∙ either (fits k key) (λ f. rw (same-fit key, f, same-there key f)) (λ f. rw (same-fit key, f)))
+
   -- Theorem: each call answers as the theory's call does, and is 30 by the theory's rule
-  pub same-answer : (c : Call (List ℕ)) → answerTo c b ≡ answer (keeping k size) (barcodes k) c (readIndex b)
-  same-answer (insertion key r) = insert-answers key r
-  same-answer (lookupOf key) = lookup-answers key
+  pub same-answer : (c : Call (List ℕ)) → FourBytes c → answerTo c b ≡ answer (keeping k size) (barcodes k) c (readIndex b)
+  same-answer (insertion key r) o = insert-answers key r
+  same-answer (removalOf key) o = remove-answers key
+  same-answer (lookupOf key) o = lookup-answers key
 
   pub same-rule : (c : Call (List ℕ)) → noRoomFor c b ≡ noRoomTo (keeping k size) c (readIndex b)
   same-rule (insertion key r) = same-room key r
+  same-rule (removalOf key) = refl
   same-rule (lookupOf key) = refl
 
   -- a refused insertion
@@ -247,16 +351,51 @@ module _ (k size : ℕ) (b : List ℕ) (kept : Kept k size b) where
     next-inserted =
         let i = insert-keeps-sound b key r accepts in
         read-is (insertedBuffer (keyLength b) b key r) (i .sound) ∙ i .index
-        ∙ ap (λ (n : ℕ). inserted (settingOf n (min (length b) maxBytes)) (key, r) (indexOf b (s .height))) (kept .keyIs)
-        ∙ ap (λ (n : ℕ). inserted (keeping k n) (key, r) (indexOf b (s .height))) (kept .as-long)
+        ∙ ap (λ (n : ℕ). inserted (settingOf n (min (length b) maxBytes)) (key, r) (indexOf b (s .height) (s .free))) (kept .keyIs)
+        ∙ ap (λ (n : ℕ). inserted (keeping k n) (key, r) (indexOf b (s .height) (s .free))) (kept .as-long)
         ∙ ap (inserted (keeping k size) (key, r)) (sym same-index)
+
+  -- a refused removal
+  stays-struck : (key : List ℕ) → isAccepted (answerTo (removalOf key) b) ≡ false → bufferAfter (removalOf key) b ≡ b
+  stays-struck key e = leaves-buffer (removalOf key) b ∙ rw e
+
+  -- an accepted removal
+  module _ (key : List ℕ) (e : isAccepted (answerTo (removalOf key) b) ≡ true) where
+    struck-tests : (fits k key ≡ true) × (has (byKey bytesOrder) (key, 0) (held (readIndex b)) ≡ true)
+    struck-tests = accepted-striking (fits k key) (has (byKey bytesOrder) (key, 0) (held (readIndex b))) (ap isAccepted (sym (remove-answers key)) ∙ e)
+
+    strikes : Strikes b key
+    strikes = record {
+      sound = s;
+      plain = kept .plain;
+      there = ap (λ (i : Index (List ℕ)). has (byKey bytesOrder) (key, 0) (held i)) (sym same-index) ∙ struck-tests .1;
+    }
+
+    after-struck : bufferAfter (removalOf key) b ≡ removedBuffer (keyLength b) b key
+    after-struck = leaves-buffer (removalOf key) b ∙ rw e
+
+    kept-removed : Kept k size (removedBuffer (keyLength b) b key)
+    kept-removed =
+        let i = remove-keeps-sound b key strikes in
+        record { sound = i .sound; keyIs = i .keyIs ∙ kept .keyIs; as-long = i .as-long ∙ kept .as-long; plain = i .plain }
+
+    next-removed : readIndex (removedBuffer (keyLength b) b key) ≡ removed (keeping k size) key (readIndex b)
+    unfolding strikes
+    next-removed =
+        let i = remove-keeps-sound b key strikes in
+        read-is (removedBuffer (keyLength b) b key) (i .sound) ∙ i .index (min size maxBytes)
+        ∙ ap (λ (n : ℕ). removed (settingOf n (min size maxBytes)) key (indexOf b (s .height) (s .free))) (kept .keyIs)
+        ∙ ap (removed (keeping k size) key) (sym same-index)
 
   -- Theorem: each call keeps what `Kept` says, and the index after it is the theory's
   pub keeps : (c : Call (List ℕ)) → FourBytes c → Kept k size (bufferAfter c b)
   keeps (insertion key r) r32 = either (isAccepted (answerTo (insertion key r) b))
       (λ e. rw (after key r r32 e) (kept-inserted key r r32 e))
       (λ e. rw (stays key r e) kept)
-  keeps (lookupOf key) r32 = kept
+  keeps (removalOf key) o = either (isAccepted (answerTo (removalOf key) b))
+      (λ e. rw (after-struck key e) (kept-removed key e))
+      (λ e. rw (stays-struck key e) kept)
+  keeps (lookupOf key) o = kept
 
   pub same-next : (c : Call (List ℕ)) → FourBytes c → readIndex (bufferAfter c b) ≡ next (keeping k size) (barcodes k) c (readIndex b)
   same-next (insertion key r) r32 =
@@ -265,4 +404,10 @@ module _ (k size : ℕ) (b : List ℕ) (kept : Kept k size b) where
       either (isAccepted (answerTo (insertion key r) b))
       (λ e. ap readIndex (after key r r32 e) ∙ next-inserted key r r32 e ∙ rw (sym q ∙ e))
       (λ e. ap readIndex (stays key r e) ∙ rw (sym q ∙ e))
-  same-next (lookupOf key) r32 = refl
+  same-next (removalOf key) o =
+      let q : isAccepted (answerTo (removalOf key) b) ≡ isAccepted (answer (keeping k size) (barcodes k) (removalOf key) (readIndex b)) =
+      ap isAccepted (remove-answers key) in
+      either (isAccepted (answerTo (removalOf key) b))
+      (λ e. ap readIndex (after-struck key e) ∙ next-removed key e ∙ rw (sym q ∙ e))
+      (λ e. ap readIndex (stays-struck key e) ∙ rw (sym q ∙ e))
+  same-next (lookupOf key) o = refl

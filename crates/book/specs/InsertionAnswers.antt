@@ -13,14 +13,10 @@ use borrow.Author.Tests.{eqb-true, eqb-false}
 use Rattle.basis.specs.Tests.{either, contra, both, join}
 use Rattle.octets.specs.Order.{bytesLe}
 use Rattle.octets.specs.OrderLaws.{le-refl, le-antisym}
-use Rattle.tree.specs.Pairs.{find, byKey, has, present}
-use Rattle.tree.specs.PairLaws.{present-has}
+use Rattle.tree.specs.Pairs.{byKey, has}
 use Rattle.page.specs.Header.{keyLength, headerGood}
 use Rattle.page.specs.KeyOrder.{bytesOrder}
-use Rattle.lookup.specs.Lookup.{lookupRule}
-use Rattle.lookup.specs.declared.Answer.{Answer as Looked}
-use Rattle.lookup.specs.declared.Answer.the-variants as looked
-use Rattle.lookup_laws.specs.FoundLaws.{answerOf, lookup-list}
+use Rattle.lookup.specs.Lookup.{lookupRule, isFound}
 use Rattle.sound.specs.Sound.{Sound}
 use Rattle.sound.specs.Rule.{pagesGood, unmarked}
 use Rattle.sound.specs.Accepted.{accepted as audit-accepts}
@@ -31,6 +27,7 @@ use Rattle.insert.specs.declared.Insertion.{Insertion}
 use Rattle.insert.specs.declared.Insertion.the-variants.{Accepted, Refused}
 use Rattle.insert_laws.specs.RoomLaws.{present-is}
 use Rattle.book.specs.Book.{Pairs, leafPairs}
+use Rattle.book.specs.CallLaws.{found-has}
 
 -- one of the pairs has the key
 abbrev pub HasKey : List ℕ → Pairs → Type 0
@@ -124,28 +121,10 @@ leaf-exactly b key r s = (
   (λ h. present-is b key r s ∙ key-has key r (leafPairs b s) h),
 )
 
--- lookup found the key
-abbrev pub isFound : Looked → Bool
-isFound (looked.Found r pages) = true
-isFound (looked.Absent pages) = false
-isFound (looked.Refused n) = false
-
-found-present : (key : List ℕ) (n : ℕ) (es : Pairs) → isFound (answerOf (find bytesOrder key es) n) ≡ present (byKey bytesOrder) (key, 0) es
-found-present key n [] = refl
-found-present key n (x ∷ es) = either (bytesLe key (x .0))
-    (λ t. either (bytesLe (x .0) key) (λ u. rw (t, u)) (λ u. rw (t, u)))
-    (λ t. rw t (found-present key n es))
-
 -- Theorem: lookup finds a key of k bytes in a sound index exactly when the key is among the leaves' pairs
 module _ (b key : List ℕ) (s : Sound b) (fits : length key ≡ keyLength b) where
-  found-is : isFound (lookupRule b key) ≡ has (byKey bytesOrder) (key, 0) (leafPairs b s)
-  found-is =
-      ap isFound (lookup-list b key s fits)
-      ∙ found-present key _ (leafPairs b s)
-      ∙ present-has bytesOrder (key, 0) (leafPairs b s) (s .ascending)
-
   pub found-exactly : (isFound (lookupRule b key) ≡ true) ↔ HasKey key (leafPairs b s)
-  found-exactly = ((λ e. has-key key 0 (leafPairs b s) (sym found-is ∙ e)), (λ h. found-is ∙ key-has key 0 (leafPairs b s) h))
+  found-exactly = ((λ e. has-key key 0 (leafPairs b s) (sym (found-has b key s fits) ∙ e)), (λ h. found-has b key s fits ∙ key-has key 0 (leafPairs b s) h))
 
 -- A if the test holds, else B
 whether : Bool → Type 0 → Type 0 → Type 0

@@ -24,5 +24,5 @@ unfolding tree.tree000 tree.padded tree.page tree.entry bytes.le16 bytes.le32 by
     order.ordering header.isPage page.capacity page.countGood pages.items pages.itemsAt pages.entriesAt audit.leafEntriesGood audit.upperEntriesGood
     audit.chain children.isLeaf audit.markedFrom audit.entriesFit audit.pageFits audit.checkPage audit.checkPages audit.rootLevel audit.nextLevel
     audit.levelsUnder audit.heightOf audit.down audit.upperPagesGood audit.upperLevelsGood audit.shapeGood audit.keysAboveGood audit.pagesGood
-    audit.unmarked
+    audit.unmarked audit.isFreePage audit.freeFits audit.checkFree audit.restFree
 damaged-refused = (refl, refl, refl, refl, refl)

@@ -43,7 +43,7 @@ unfolding examples answer ascii reading.readNumber format.formatGood chars.every
     tree100.grown store.put layout.encode layout.area layout.withEntries layout.newPage layout.linkBeyond layout.splitPage entries.raised insertion.takeIn
     insertion.insertUnder insertion.insertedBuffer fresh.freshHeader fresh.freshBuffer fresh.freshRule fresh.printable fresh.expressionGood room.pathFrom
     room.noRoom calls.insertRule supply.supplyOf supply.takePage supply.supplyAfter supply.withSupply calls.hasControl reading.wholeMissing
-    reading.zeroDropped audit.down
+    reading.zeroDropped audit.down header.freeGood audit.isFreePage audit.freeFits audit.checkFree audit.restFree
 examples-hold = refl
 
 -- the audit's tests of the tree in 000
@@ -52,7 +52,7 @@ unfolding order.ordering tree.tree000 tree.padded tree.page tree.entry bytes.le1
     order.bytesLe header.isPage header.sizeGood header.keyLengthGood header.headerGood page.capacity page.countGood pages.items pages.itemsAt
     pages.entriesAt audit.leafEntriesGood audit.upperEntriesGood audit.chain children.isLeaf audit.markedFrom audit.entriesFit audit.pageFits
     audit.checkPage audit.checkPages audit.rootLevel audit.nextLevel audit.levelsUnder audit.heightOf audit.down audit.upperPagesGood audit.upperLevelsGood
-    audit.shapeGood audit.keysAboveGood audit.pagesGood audit.unmarked
+    audit.shapeGood audit.keysAboveGood audit.pagesGood audit.unmarked header.freeGood audit.isFreePage audit.freeFits audit.checkFree audit.restFree
 tree000-tests = (refl, refl)
 
 -- Theorem: the tree in 000 is sound, "every page but the first is reached from the root exactly once" and all the rest, by the audit's theorem

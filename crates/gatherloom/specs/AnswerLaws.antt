@@ -24,8 +24,10 @@ use Rattle.cell.specs.declared.TextPlace.the-variants as text
 use Rattle.lookup.specs.Lookup.{absentCode}
 use Rattle.lookup.specs.declared.Answer.{Answer}
 use Rattle.lookup.specs.declared.Answer.the-variants as looked
+use Rattle.remove.specs.Calls.{AfterCall as AfterRemoval, afterCall}
+use Rattle.remove.specs.declared.Removal.{Removal}
 use Rattle.gatherloom.specs.Answers.{out, Sizes, Part, Found, shapeOut, numberOut, dateOut, logicalOut, textOut, lookupOut}
-use Rattle.gatherloom.specs.Answers.{writingCode, writingOut}
+use Rattle.gatherloom.specs.Answers.{writingCode, writingOut, removalCode, removalOut}
 
 -- a good table's numbers are numbers of 32 bits
 pub record Small (s : Shape) : Type 0 where
@@ -42,6 +44,11 @@ shape-small b s e =
 pub writing-told : (wrote : AfterWrite) (after : List ℕ) (r answer : Writing) → wrote ≡ afterWrite after r → r ≡ answer
     → writingOut wrote ≡ out (writingCode answer) after
 writing-told wrote after r answer e is = rw (e, is)
+
+-- the same of a removal
+pub removal-told : (left : AfterRemoval) (after : List ℕ) (r answer : Removal) → left ≡ afterCall after r → r ≡ answer
+    → removalOut left ≡ out (removalCode answer) after
+removal-told left after r answer e is = rw (e, is)
 
 -- ---- "an out-parameter keeps what it held whenever the answer is not 0"
 

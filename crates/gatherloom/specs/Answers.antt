@@ -22,6 +22,9 @@ use Rattle.cell.specs.declared.TextPlace.the-variants as text
 use Rattle.lookup.specs.Lookup.{lookupCode, answerRecord, answerPages}
 use Rattle.lookup.specs.declared.Answer.{Answer}
 use Rattle.insert.specs.Calls.{AfterCall, insertionCode}
+use Rattle.remove.specs.Calls.{AfterCall as AfterRemoval}
+use Rattle.remove.specs.declared.Removal.{Removal}
+use Rattle.remove.specs.declared.Removal.the-variants as removal
 
 -- the number that a host compares before its first call; every change of a call's form raises it
 abbrev pub interfaceNumber : ℕ
@@ -136,3 +139,12 @@ lookupOut answer old = out (lookupCode answer) (found (answerRecord answer (old 
 -- the buffer after fresh and after an insertion is the rule's
 abbrev pub insertionOut : AfterCall → Out (List ℕ)
 insertionOut left = out (insertionCode (left .answer)) (left .after)
+
+-- an answer's number: 0 if the key is struck off, or the refusal's
+abbrev pub removalCode : Removal → ℕ
+removalCode removal.Accepted = 0
+removalCode (removal.Refused n) = n
+
+-- the buffer after a removal is the rule's
+abbrev pub removalOut : AfterRemoval → Out (List ℕ)
+removalOut left = out (removalCode (left .answer)) (left .after)

@@ -39,7 +39,7 @@ use Rattle.cell.specs.declared.Logical.{Logical}
 use Rattle.cell.specs.declared.Logical.the-variants as logical
 use Rattle.cell.specs.declared.TextPlace.{TextPlace}
 use Rattle.cell.specs.declared.TextPlace.the-variants as text
-use Rattle.lookup.specs.Lookup.{visitRule, decided, lookupFrom, lookupRule, absentCode, lookupCode}
+use Rattle.lookup.specs.Lookup.{visitRule, decided, lookupFrom, lookupRule, isFound, absentCode, lookupCode}
 use Rattle.lookup.specs.declared.Visit.{Visit}
 use Rattle.lookup.specs.declared.Visit.the-variants as visit
 use Rattle.lookup.specs.declared.Answer.{Answer}
@@ -50,7 +50,10 @@ use Rattle.insert.specs.Fresh.{expressionGood, freshRule}
 use Rattle.insert.specs.Calls.{insertionCode, hasControl, insertRule}
 use Rattle.insert.specs.declared.Insertion.{Insertion}
 use Rattle.insert.specs.declared.Insertion.the-variants as insertion
-use Rattle.gatherloom.specs.Answers.{checkedCode, writingCode}
+use Rattle.remove.specs.Calls.{removeRule}
+use Rattle.remove.specs.declared.Removal.{Removal}
+use Rattle.remove.specs.declared.Removal.the-variants as removal
+use Rattle.gatherloom.specs.Answers.{checkedCode, writingCode, removalCode}
 use Rattle.gatherloom.specs.Lent.{doneCode, stepCode}
 
 -- ---- what a number tells, of any answer
@@ -322,3 +325,26 @@ insert-refusal b key r n e =
 
 pub insert-told : (b key : List ℕ) (r : ℕ) → let a = insertRule b key r .answer in Told (insertionCode a) emptyCode (a ≡ insertion.Accepted) ⊥
 insert-told b key r = insertion-told (insertRule b key r .answer) (insert-refusal b key r)
+
+removal-numbered : (m n : ℕ) → Numbered m → removal.Refused m ≡ removal.Refused n → Numbered n
+removal-numbered m n small e = let k : m ≡ n = cc in (omega arith, omega arith)
+
+remove-refusal : (b key : List ℕ) → RefusalsNumbered removal.Refused (removeRule b key .answer)
+unfolding removeRule
+remove-refusal b key n e =
+    either (headerGood b)
+    (λ good. either (eqb (length key) (keyLength b))
+    (λ fits. either (pagesGood b unmarked)
+    (λ sound. either (isFound (lookupRule b key))
+    (λ found. let q : removal.Accepted ≡ removal.Refused n = rw (good, fits, sound, found, removeRule) at e in impossible (cc))
+    (λ absent. removal-numbered 33 n (lit< tt, lit< tt) (rw (good, fits, sound, absent, removeRule) at e)))
+    (λ bad. removal-numbered 25 n (lit< tt, lit< tt) (rw (good, fits, bad, removeRule) at e)))
+    (λ misfit. removal-numbered 27 n (lit< tt, lit< tt) (rw (good, misfit, removeRule) at e)))
+    (λ bad. removal-numbered 24 n (lit< tt, lit< tt) (rw (bad, removeRule) at e))
+
+removal-case : (a : Removal) → RefusalsNumbered removal.Refused a → Case (removalCode a) emptyCode (a ≡ removal.Accepted) ⊥
+removal-case removal.Accepted small = accepted refl refl
+removal-case (removal.Refused n) small = refused (small n refl)
+
+pub remove-told : (b key : List ℕ) → let a = removeRule b key .answer in Told (removalCode a) emptyCode (a ≡ removal.Accepted) ⊥
+remove-told b key = told (omega arith) (removal-case (removeRule b key .answer) (remove-refusal b key)) (λ done. ap removalCode done) (λ none. absurd none)

@@ -15,6 +15,7 @@ use page::RecordNumber;
 use refusal::ABSENT;
 use refusal::DONE;
 use refusal::EMPTY;
+use remove::Removal;
 use table::Checked;
 use walk::Position;
 ghost use mathlib.Core.Path.{_≡_};
@@ -26,6 +27,7 @@ ghost use Rattle.lookup.specs.Lookup.{lookupRule};
 ghost use Rattle.sound.specs.Sound.{Audited};
 ghost use Rattle.insert.specs.Calls.{insertRule, insertionCode};
 ghost use Rattle.insert.specs.Fresh.{freshRule};
+ghost use Rattle.remove.specs.Calls.{removeRule};
 ghost use Rattle.matching.specs.Match.{Matched};
 ghost use Rattle.dilution.specs.Dilution.{diluteRule};
 ghost use Rattle.append.specs.Append.{appendRule};
@@ -34,7 +36,7 @@ ghost use Rattle.append.specs.Extent.{extentRule};
 ghost use Rattle.laying.specs.Laying.{layOutRule, laid};
 ghost use Rattle.gatherloom.specs.Lent.{planOf, listing, walkedOf};
 ghost use Rattle.gatherloom.specs.Answers.{interfaceNumber, out, sizes, dayOf, part, found};
-ghost use Rattle.gatherloom.specs.Answers.{shapeOut, numberOut, dateOut, logicalOut, textOut, lookupOut, writingOut, insertionOut};
+ghost use Rattle.gatherloom.specs.Answers.{shapeOut, numberOut, dateOut, logicalOut, textOut, lookupOut, writingOut, insertionOut, removalOut};
 ghost use Rattle.gatherloom.specs.Writing.{stores, written, appendOut, extentOut};
 ghost use Rattle.gatherloom.specs.Volumes.{volumes, volumesOut};
 
@@ -353,6 +355,18 @@ pub extern "C" fn gl_index_insert(index: &mut [u8], key: &[u8], number: u32) -> 
     ensures { λ r. ⌜ insertionOut (insertRule (now (index .entry)) (now (key .entry)) number) ≡ out r (now (index .exit)) ⌝ }
 {
     insertion_code(insert::insert(index, key, RecordNumber(number)))
+}
+
+// Strikes a key off.
+#[no_mangle]
+pub extern "C" fn gl_index_remove(index: &mut [u8], key: &[u8]) -> u32
+    ensures { λ r. ⌜ removalOut (removeRule (now (index .entry)) (now (key .entry))) ≡ out r (now (index .exit)) ⌝ }
+{
+    let answer = remove::remove(index, key);
+    match answer {
+        Removal::Accepted => 0,
+        Removal::Refused(refusal) => refusal,
+    }
 }
 
 // Matches an index against a field of a table: 0 if each record has exactly one entry, its key that record's field, and there are no others.

@@ -8,27 +8,17 @@ use lib.ListN.{length, drop, getD, drop-of-length-le}
 use lib.Seq.{drop-cons}
 use lib.Dec.{leb}
 use borrow.Author.Tests.{eq-eqb, ne-eqb, leb-true, le-leb, lt-leb, lt-ltb, le-ltb}
-use Rattle.basis.specs.Tests.{either, contra, both}
+use Rattle.basis.specs.Tests.{contra, both}
 use Rattle.octets.specs.Store.{put}
 use Rattle.page.specs.Header.{minBytes, pageSize, noPage, keyLength, keyLengthGood, headerGood}
 use Rattle.page.specs.Reading.{items}
-use Rattle.sound.specs.Sound.{Audited}
 use Rattle.sound.specs.Rule.{pagesGood, unmarked}
-use Rattle.sound.specs.Accepted.{accepted}
 use Rattle.layout.specs.Layout.{headerBytes, newPage}
 use Rattle.insert.specs.Insertion.{insertedBuffer}
 use Rattle.insert.specs.Room.{pathTo, noRoom}
 use Rattle.insert.specs.Calls.{afterCall, hasControl, insertRule}
 use Rattle.insert.specs.Fresh.{printable, maxExpression, expressionGood, freshHeader, freshBuffer, freshRule}
 use Rattle.insert.specs.declared.Insertion.the-variants.{Accepted, Refused}
-
--- the audit's answer decides the rule's test
-module _ (b : List ℕ) {r : ℕ} (h : headerGood b ≡ true) (a : Audited b r) where
-  pub audit-sound : r ≡ 0 → pagesGood b unmarked ≡ true
-  audit-sound e = accepted b h .1 (a .sound .0 e)
-
-  pub audit-unsound : (r ≡ 0 → ⊥) → pagesGood b unmarked ≡ false
-  audit-unsound s = either (pagesGood b unmarked) (λ t. absurd (s (a .sound .1 (accepted b h .0 t)))) (λ t. t)
 
 -- insertion, refusal by refusal in its order
 module _ (b key : List ℕ) (r : ℕ) where

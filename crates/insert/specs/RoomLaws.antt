@@ -18,10 +18,10 @@ use Rattle.layout.specs.declared.Supply.{Supply}
 use Rattle.layout.specs.Supply.{supplyOf, supplyAfter}
 use Rattle.layout.specs.Entries.{stored, chosenAt, childOf}
 use Rattle.insert.specs.Room.{nowhere, onTop, pathFrom, pathTo, rootSplit, noRoom}
-use Rattle.insert.specs.Answers.{visitOf}
-use Rattle.insert.specs.StepLaws.{visited-bad, visited-leaf, visited-child}
+use Rattle.layout.specs.Visits.{visitOf}
+use Rattle.layout.specs.VisitLaws.{visited-bad, visited-leaf, visited-child}
 use Rattle.insert.specs.declared.Path.{Path}
-use Rattle.insert.specs.declared.Visit.the-variants as visit
+use Rattle.layout.specs.declared.Visit.the-variants as visit
 
 -- with a page on top, the run has no more pages than the path has levels
 top-run : (full : Bool) (path : Path) → path .run ≤ path .levels → onTop full path .run ≤ onTop full path .levels

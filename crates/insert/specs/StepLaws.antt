@@ -22,11 +22,13 @@ use Rattle.layout.specs.Supply.{supplyOf, takePage, withSupply}
 use Rattle.layout.specs.SupplyLaws.{taken-lasts}
 use Rattle.layout.specs.Layout.{itemsIn, withRoot, withEntries, newPage, splitPage}
 use Rattle.layout.specs.Entries.{stored, chosenAt, childOf, replaced, twoFor, rootEntries}
+use Rattle.layout.specs.Visits.{visitOf}
+use Rattle.layout.specs.VisitLaws.{visited-bad, visited-leaf, visited-child}
+use Rattle.layout.specs.declared.Visit.the-variants as visit
 use Rattle.insert.specs.Insertion.{Outcome as RuleOutcome, kept, split, bad, Step, step, takeIn, afterChild, insertUnder, atRoot, insertedBuffer}
-use Rattle.insert.specs.Answers.{outcomeOf, NextFits, visitOf}
+use Rattle.insert.specs.Answers.{outcomeOf, NextFits}
 use Rattle.insert.specs.declared.Outcome.{Outcome}
 use Rattle.insert.specs.declared.Outcome.the-variants.{Kept, Split, Bad}
-use Rattle.insert.specs.declared.Visit.the-variants as visit
 
 -- the three outcomes differ
 kept-split : {X : Type 0} {s t : Supply} {q : ℕ} → kept s ≡ split q t → X
@@ -53,42 +55,6 @@ module _ (k : ℕ) (b : List ℕ) (p : ℕ) (es : List Item) (s : Supply) where
     pub takes-none : capacity k < length es → isPage (length b) (new .page .0) ≡ false → takeIn k b p es s ≡ step b bad
     unfolding takeIn
     takes-none h t = rw (lt-leb _ _ h, ← taken, t)
-
--- the three kinds of a visit differ
-bad-leaf : {X : Type 0} → visit.Bad ≡ visit.Leaf → X
-bad-leaf e = impossible cc
-
-bad-child : {X : Type 0} {i : ℕ} {c : PageOffset} → visit.Bad ≡ visit.Child i c → X
-bad-child e = impossible cc
-
-leaf-child : {X : Type 0} {i : ℕ} {c : PageOffset} → visit.Leaf ≡ visit.Child i c → X
-leaf-child e = impossible cc
-
-same-child : {i j : ℕ} {c d : PageOffset} → visit.Child i c ≡ visit.Child j d → (i ≡ j) × (c ≡ d)
-same-child e = (cc, cc)
-
--- what a visit says of the page
-module _ (b : List ℕ) (item : Item) (p : ℕ) where
-  pub visited-bad : visit.Bad ≡ visitOf b item p → isPage (length b) p ≡ false
-  unfolding visitOf
-  visited-bad e = either (isPage (length b) p)
-      (λ t. either (leafBit (attributeAt b p)) (λ u. bad-leaf (rw (t, u) at e)) (λ u. bad-child (rw (t, u) at e)))
-      (λ t. t)
-
-  pub visited-leaf : visit.Leaf ≡ visitOf b item p → (isPage (length b) p ≡ true) × (leafBit (attributeAt b p) ≡ true)
-  unfolding visitOf
-  visited-leaf e = either (isPage (length b) p)
-      (λ t. either (leafBit (attributeAt b p)) (λ u. (t, u)) (λ u. leaf-child (rw (t, u) at e)))
-      (λ t. bad-leaf (sym (rw t at e)))
-
-  pub visited-child : (i : ℕ) (c : PageOffset) → visit.Child i c ≡ visitOf b item p → let es = itemsIn (length (item .0)) b p in
-      (isPage (length b) p ≡ true) × (leafBit (attributeAt b p) ≡ false) × (i ≡ chosenAt item es) × (c .0 ≡ childOf (chosenAt item es) es)
-  unfolding visitOf
-  visited-child i c e = either (isPage (length b) p)
-      (λ t. either (leafBit (attributeAt b p))
-      (λ u. leaf-child (sym (rw (t, u) at e)))
-      (λ u. let same = same-child (rw (t, u) at e) in (t, u, same .0, ap (λ (q : PageOffset). q .0) (same .1))))
-      (λ t. bad-child (sym (rw t at e)))
 
 -- insertion by cases of the visit
 module _ (b : List ℕ) (item : Item) (p : ℕ) (s : Supply) where
@@ -162,21 +128,6 @@ module _ (k : ℕ) (b key : List ℕ) (p i c q : ℕ) (s : Supply) where
 
   pub two-for-none : length (itemsIn k b p) ≤ i → afterChild k b key p i c (split q s) ≡ step b bad
   two-for-none h = rw (le-ltb i (length (itemsIn k b p)) h)
-
--- a visit by its tests
-module _ (b : List ℕ) (item : Item) (p : ℕ) where
-  pub visit-bad : isPage (length b) p ≡ false → visit.Bad ≡ visitOf b item p
-  unfolding visitOf
-  visit-bad t = rw t
-
-  pub visit-leaf : {a : ℕ} → isPage (length b) p ≡ true → a ≡ attributeAt b p → leafBit a ≡ true → visit.Leaf ≡ visitOf b item p
-  unfolding visitOf
-  visit-leaf {a} t e h = rw (t, ← e, h)
-
-  pub visit-child : {a i : ℕ} {c : PageOffset} → isPage (length b) p ≡ true → a ≡ attributeAt b p → leafBit a ≡ false
-      → i ≡ chosenAt item (itemsIn (length (item .0)) b p) → c .0 ≡ childOf i (itemsIn (length (item .0)) b p) → visit.Child i c ≡ visitOf b item p
-  unfolding visitOf
-  visit-child {a} {i} {c} t e h f q = rw (t, ← e, h, ← f, ← q)
 
 -- the new root is taken from the supply that the split of the old one left
 module _ (b key : List ℕ) (p q : ℕ) (s : Supply) {new : Taken} (taken : new ≡ takePage b s) where

@@ -1,5 +1,6 @@
 // A fresh index, and insertion.
 use layout::Supply;
+use layout::Visit;
 use page::Page;
 use page::PageOffset;
 use page::RecordNumber;
@@ -17,7 +18,7 @@ ghost use Rattle.layout.specs.Layout.{itemsIn};
 ghost use Rattle.layout.specs.Entries.{stored};
 ghost use Rattle.layout.specs.Given.{Over, Lasts};
 ghost use Rattle.insert.specs.Insertion.{split, step, takeIn, afterChild, insertUnder, atRoot, insertedBuffer};
-ghost use Rattle.insert.specs.Answers.{outcomeOf, NextFits, visitOf};
+ghost use Rattle.insert.specs.Answers.{outcomeOf, NextFits};
 ghost use Rattle.insert.specs.Room.{onTop, pathFrom, pathTo, rootSplit, noRoom};
 ghost use Rattle.insert.specs.Calls.{afterCall, hasControl, insertRule};
 ghost use Rattle.insert.specs.Fresh.{printable, maxExpression, expressionGood, freshBuffer, freshRule};
@@ -44,13 +45,6 @@ pub enum Outcome {
     Kept(Supply),
     Split(PageOffset, Supply),
     Bad,
-}
-
-// What an insertion meets at an offset: no page, a leaf, or a page above it: the number of the entry that the key goes under, and its child.
-pub enum Visit {
-    Bad,
-    Leaf,
-    Child(usize, PageOffset),
 }
 
 // Gives a page `count` entries, held in the bytes `entries`, or splits it, with a new page from `supply`.
@@ -147,22 +141,6 @@ fn after_child(
     }
 }
 
-// What an insertion meets at an offset.
-fn visit_page(index: &[u8], key: &[u8], number: RecordNumber, page: PageOffset) -> Visit
-    requires { ⌜ length (now key) ≤ maxKey ⌝ }
-    ensures { λ r. ⌜ r ≡ visitOf (now (index .entry)) (stored (now (key .entry)) (number .0)) (page .0) ⌝ }
-{
-    if !page::is_page(index.len(), page) {
-        return Visit::Bad;
-    }
-    let head = Page::at(index, page);
-    if page::is_leaf(head.attribute) {
-        return Visit::Leaf;
-    }
-    let i = layout::chosen_entry(index, key, number, page);
-    Visit::Child(i, layout::child_of(index, key.len(), page, i))
-}
-
 // Insertion under a page, with `levels` levels left and new pages from `supply`.
 fn insert_under(
     index: &mut [u8],
@@ -179,7 +157,7 @@ fn insert_under(
     if levels == 0 {
         return Outcome::Bad;
     }
-    let visit = visit_page(index, key, number, page);
+    let visit = layout::visit_page(index, key, number, page);
     match visit {
         Visit::Bad => Outcome::Bad,
         Visit::Leaf => insert_in_leaf(index, key, number, page, supply),
@@ -285,7 +263,7 @@ fn path_from(index: &[u8], key: &[u8], number: RecordNumber, page: PageOffset, l
         return empty_path(false);
     }
     let full = is_full(index, key.len(), page);
-    let visit = visit_page(index, key, number, page);
+    let visit = layout::visit_page(index, key, number, page);
     match visit {
         Visit::Bad => empty_path(false),
         Visit::Leaf => on_top(

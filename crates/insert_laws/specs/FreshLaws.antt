@@ -1,5 +1,5 @@
 -- Laws: a fresh index is sound and empty. Cited by the claim about lists of calls. Assumes nothing.
-use mathlib.Core.Path.{_≡_, refl, sym, ap, _∙_, subst}
+use mathlib.Core.Path.{_≡_, refl, sym, ap, ap₂, _∙_, subst}
 use mathlib.Core.Bool.{true, cond}
 use mathlib.Core.List.{List, [], map}
 use Prim.Native.Nat.{ℕ, _+_, _^_, _≤_, _<_, min}
@@ -35,6 +35,7 @@ use Rattle.layout_laws.specs.EntryLaws.{entriesIn, page-of, entries-new, length
 use Rattle.layout_laws.specs.HeadLaws.{Head, SameHead, put-header, new-head, new-header}
 use Rattle.insert_laws.specs.InsertHeads.{Plain, one-of}
 use Rattle.insert_laws.specs.SoundReading.{entries-longer}
+use Rattle.insert_laws.specs.FreePages.{none-good}
 
 -- what fresh is given if it is accepted
 pub record FreshGiven (k : ℕ) (e b : List ℕ) : Type 0 where
@@ -124,8 +125,8 @@ module _ (k : ℕ) (e b : List ℕ) (given : FreshGiven k e b) where
       (is-page-from minBytes pageSize (record { whole = refl; low = omega arith; high = omega arith }))) ∙ entries-are in
       rw (key-is, size-is, root-is) (ap (λ (l : List (List ℕ × ℕ)). (pageSize, map (readEntry (entriesAt k minBytes b″) 0) l)) none)
 
-  index-is : indexOf b″ 0 ≡ fresh
-  index-is = λ i. record { height = 0; tree = tree-is i; size = size-is i }
+  index-is : indexOf b″ 0 [] ≡ fresh
+  index-is = λ i. record { height = 0; tree = tree-is i; free = []; size = size-is i }
 
   header-good : headerGood b″ ≡ true
   header-good = good-header-from b″ (record {
@@ -137,7 +138,7 @@ module _ (k : ℕ) (e b : List ℕ) (given : FreshGiven k e b) where
     root = rw (size-is, root-is) (is-page-from minBytes pageSize (record { whole = refl; low = omega arith; high = omega arith }));
     key-low = rw key-is (key-fits .0);
     key-high = rw key-is (key-fits .1);
-    free = free-is;
+    free = rw free-is (none-good (fileSize b″));
     plain = features-are;
   })
 
@@ -147,20 +148,21 @@ module _ (k : ℕ) (e b : List ℕ) (given : FreshGiven k e b) where
   at-first : Head b″ pageSize 3 0 noPage noPage
   at-first = heads pageSize first
 
-  sound-is : (s : Sound b″) × (s .height ≡ 0)
+  sound-is : (s : Sound b″) × (s .height ≡ 0) × (s .free ≡ [])
   sound-is =
       let most : ℕ = min (length b) maxBytes in
       let ps : List ℕ = pages 0 (indexTree b″ 0) in
-      let sound : SoundIndex (settingOf (keyLength b″) most) (indexOf b″ 0) =
+      let sound : SoundIndex (settingOf (keyLength b″) most) (indexOf b″ 0 []) =
       subst (SoundIndex (settingOf (keyLength b″) most)) (sym index-is)
       (fresh-sound (settingOf (keyLength b″) most) (rw key-is (omega (arith, capacity-least k (key-fits .1)))) (omega (arith, given .room)) (omega arith)) in
-      index-sound b″ 0 most header-good sound
+      index-sound b″ 0 [] most header-good sound
       (as-tree (λ t. AllLinked noPage (linksOf b″) 0 t) (λ j l. let j0 : j ≡ 0 = omega arith in rw j0 (at-first .leftIs, at-first .rightIs, tt)))
       (as-tree (λ t. All (λ p. attributeAt b″ p ≤ 3) (pages 0 t)) (rw (at-first .attributeIs) (omega arith), tt))
       (as-tree (λ t. All (λ p. rootBit (attributeAt b″ p) ≡ eqb p (rootOffset b″)) (pages 0 t)) (rw (at-first .attributeIs, root-is), tt))
       (λ j l. let j0 : j ≡ 0 = omega arith in as-tree (λ t. All (λ p. leafBit (attributeAt b″ p) ≡ eqb j 0) (level j 0 t))
       (rw j0 (rw (at-first .attributeIs), tt)))
       (as-tree (λ t. All (λ p. countAt b″ p ≤ capacity (keyLength b″)) (pages 0 t)) (rw (at-first .countIs) (omega arith), tt))
+      free-is tt
 
   plain-is : Plain b″
   plain-is z t =
@@ -171,10 +173,10 @@ module _ (k : ℕ) (e b : List ℕ) (given : FreshGiven k e b) where
         rw (h .rightIs) (one-of (λ n. n < 2 ^ 32) (eqb z pageSize) noPage (rightAt b0 z) (omega arith) (rw (g .rightIs) (given .plain z p .1))),
       )
 
--- what fresh leaves: a sound index without pairs
+-- what fresh leaves: a sound index without pairs and without free pages
 pub record FreshIs (k : ℕ) (e b : List ℕ) : Type 0 where
   pub sound : Sound (freshBuffer k e b)
-  pub index : indexOf (freshBuffer k e b) (sound .height) ≡ fresh
+  pub index : indexOf (freshBuffer k e b) (sound .height) (sound .free) ≡ fresh
   pub keyIs : keyLength (freshBuffer k e b) ≡ k
   pub as-long : length (freshBuffer k e b) ≡ length b
   pub plain : Plain (freshBuffer k e b)
@@ -185,7 +187,7 @@ fresh-is-sound k e b given =
     let s = sound-is k e b given in
     record {
       sound = s .0;
-      index = ap (indexOf (freshBuffer k e b)) (s .1) ∙ index-is k e b given;
+      index = ap₂ (indexOf (freshBuffer k e b)) (s .1) (s .2) ∙ index-is k e b given;
       keyIs = key-is k e b given;
       as-long = long k e b given;
       plain = plain-is k e b given;

@@ -32,7 +32,6 @@ use Rattle.page.specs.Reading.{Item}
 use Rattle.page.specs.ReadingLaws.{window-in-page}
 use Rattle.layout.specs.declared.Supply.{Supply}
 use Rattle.layout.specs.declared.Taken.{Taken}
-use Rattle.layout.specs.Given.{Lasts}
 use Rattle.layout.specs.Supply.{supplyOf, takePage, withSupply}
 use Rattle.layout.specs.Layout.{itemsIn, newPage}
 use Rattle.layout.specs.ItemLaws.{Fit}
@@ -43,10 +42,11 @@ use Rattle.sound.specs.Sound.{linksOf}
 use Rattle.insert.specs.Insertion.{Outcome, kept, split, bad, Step, insertUnder, atRoot, insertedBuffer}
 use Rattle.layout_laws.specs.EntryLaws.{entriesIn, page-of, length-new}
 use Rattle.layout_laws.specs.HeadLaws.{Head, SameHead, SameHeader, put-header, new-head, new-header}
-use Rattle.layout_laws.specs.SupplyLaws.{SameRest, supply-stored}
-use Rattle.insert_laws.specs.Naming.{Naming, Usable, nextOf}
+use Rattle.layout_laws.specs.OtherPages.{SameButLeft, both-kept, header-other, new-other}
+use Rattle.layout_laws.specs.SupplyLaws.{Storable, SameRest, supply-stored}
+use Rattle.insert_laws.specs.Naming.{Naming, Usable, Untaken, nextOf}
 use Rattle.insert_laws.specs.ItemLists.{keeping, passes}
-use Rattle.insert_laws.specs.InsertEntries.{OutcomeIs, StepIs, Shaped, shaped-page, Offered, replacement, Free, inserts, topKey, RootIs}
+use Rattle.insert_laws.specs.InsertEntries.{OutcomeIs, StepIs, Shaped, shaped-page, Offered, replacement, Free, own-page, inserts, topKey, RootIs}
 use Rattle.insert_laws.specs.InsertEntries.{rootAfter, root-inserts}
 use Rattle.insert_laws.specs.InsertHeads.{Plain, unrooted, one-of, HeadsAfter, insert-heads}
 
@@ -68,7 +68,7 @@ pub record Ready (k : ℕ) (N : Naming) (h : ℕ) (b key : List ℕ) (r : ℕ) :
   pub once : (z : ℕ) → occ z (pages h (treeIn k b h)) ≤ 1
   pub unused : (i : ℕ) → occ (N .name i) (pages h (treeIn k b h)) ≡ 0
   pub room : (j : ℕ) → j < grownBy k N h b key r .2 → Usable b (N .name j)
-  pub lasts : Lasts 0 (N .left (grownBy k N h b key r .2))
+  pub storable : Storable (N .left (grownBy k N h b key r .2))
 
 reroot-more : (name : ℕ → ℕ) (h p : ℕ) (xs : List (List ℕ × ℕ)) (n : ℕ) (S : Store (List ℕ)) → n ≤ storeReroot name h p xs n S .2
 reroot-more name h p [] n S = omega arith
@@ -91,6 +91,7 @@ record Rooted (root : Taken) (o : Outcome) (b′ b″ : List ℕ) : Type 0 where
   rootIs : rootOffset b″ ≡ root .page .0
   supplyIs : supplyOf b″ ≡ root .rest
   header : SameRest b′ b″
+  others : (z : ℕ) → isPage (length b′) z ≡ true → (z ≡ root .page .0 → ⊥) → SameButLeft b′ b″ z
 
 -- the root is a page of the buffer
 abbrev NewRoot : List ℕ → Outcome → Type 0
@@ -99,11 +100,11 @@ NewRoot b (split q s) = isPage (length b) (takePage b s .page .0) ≡ true
 NewRoot b bad = ⊥
 
 module _ (k p : ℕ) (key : List ℕ) (two : 1 < capacity k) (long : length key ≡ k) (b : List ℕ) where
-  at-root : (o : Outcome) → NewRoot b o → pageSize ≤ length b → rootOffset b ≡ p → rootAfter b p o .page .0 < 2 ^ 32 → Lasts 0 (rootAfter b p o .rest)
+  at-root : (o : Outcome) → NewRoot b o → pageSize ≤ length b → rootOffset b ≡ p → rootAfter b p o .page .0 < 2 ^ 32 → Storable (rootAfter b p o .rest)
       → Rooted (rootAfter b p o) o b (atRoot k b key p o)
-  at-root bad new l er r32 lasts = absurd new
-  at-root (kept s) new l er r32 lasts =
-      let c = supply-stored b s l lasts in
+  at-root bad new l er r32 small = absurd new
+  at-root (kept s) new l er r32 small =
+      let c = supply-stored b s l small in
       record {
         as-long = c .as-long;
         attributes = λ z t. c .heads z t .attributeIs;
@@ -113,8 +114,9 @@ module _ (k p : ℕ) (key : List ℕ) (two : 1 < capacity k) (long : length key 
         rootIs = c .root ∙ er;
         supplyIs = c .supply;
         header = c .header;
+        others = λ z t ne. c .pages z t;
       }
-  at-root (split q s) new l er r32 lasts =
+  at-root (split q s) new l er r32 small =
       let top = takePage b s .page .0 in
       let rest = takePage b s .rest in
       let es : List Item = (lastKey key (itemsIn k b p), toBe32 p) ∷ (lastKey key (itemsIn k b q), toBe32 q) ∷ [] in
@@ -125,7 +127,7 @@ module _ (k p : ℕ) (key : List ℕ) (two : 1 < capacity k) (long : length key 
       let n4 = length-toLe32 top in
       let l1 : length b1 ≡ length b = length-new b top 1 noPage noPage es in
       let l2 : length b2 ≡ length b = length-put b1 0 (toLe32 top) ∙ l1 in
-      let c = supply-stored b2 rest (rw l2 l) lasts in
+      let c = supply-stored b2 rest (rw l2 l) small in
       let h1 : (z : ℕ) → isPage (length b) z ≡ true → Head b1 z (cond (eqb z top) 1 (attributeAt b z)) (cond (eqb z top) 2 (countAt b z))
       (cond (eqb z top) noPage (leftAt b z)) (cond (eqb z top) noPage (rightAt b z)) =
       new-head k b top 1 noPage noPage es new (omega arith) (omega arith) (omega arith) fit (omega arith) in
@@ -140,10 +142,9 @@ module _ (k p : ℕ) (key : List ℕ) (two : 1 < capacity k) (long : length key 
         counts = λ z t. h3 z t .countIs ∙ h2 z t .countIs ∙ h1 z t .countIs;
         rootIs = c .root ∙ le32-put b1 0 top r32 (omega arith);
         supplyIs = c .supply;
-        header = record {
-          free = c .header .free ∙ window-after b1 0 (toLe32 top) 4 4 (omega arith) ∙ window-in-page b1 b 0 header 4 4 (omega arith);
-          rest = c .header .rest ∙ window-after b1 0 (toLe32 top) 12 500 (omega arith) ∙ window-in-page b1 b 0 header 12 500 (omega arith);
-        };
+        header = c .header ∙ window-after b1 0 (toLe32 top) 12 500 (omega arith) ∙ window-in-page b1 b 0 header 12 500 (omega arith);
+        others = λ z t ne. both-kept (both-kept (new-other k b top new z t ne 1 noPage noPage es fit (omega arith))
+            (header-other b1 0 (toLe32 top) (omega arith) z (page-of z l1 t))) (c .pages z (page-of z l2 t));
       })
 
 module _ (k : ℕ) (N : Naming) (h : ℕ) (b key : List ℕ) (r : ℕ) (ready : Ready k N h b key r) where
@@ -171,8 +172,8 @@ module _ (k : ℕ) (N : Naming) (h : ℕ) (b key : List ℕ) (r : ℕ) (ready : 
   room-store : (j : ℕ) → j < g .2 → Usable b (N .name j)
   room-store j l = ready .room j (subst (λ (x : Grown (List ℕ)). j < x .2) seen l)
 
-  lasts-store : Lasts 0 (N .left (g .2))
-  lasts-store = subst (λ (x : Grown (List ℕ)). Lasts 0 (N .left (x .2))) (sym seen) (ready .lasts)
+  storable : Storable (N .left (g .2))
+  storable = subst (λ (x : Grown (List ℕ)). Storable (N .left (x .2))) (sym seen) (ready .storable)
 
   free : Free k N key r b h a (rootOffset b)
   free = (ready .once, ready .unused, (λ j l. room-store j (omega (arith, reroot-more (N .name) h (rootOffset b) (W .0) (W .1) (W .2)))))
@@ -194,7 +195,7 @@ module _ (k : ℕ) (N : Naming) (h : ℕ) (b key : List ℕ) (r : ℕ) (ready : 
   low = let p = is-page (length b) (rootOffset b) (old-root .0) in omega arith
 
   root-is : RootIs k N (atRoot k (s .after) key (rootOffset b) (s .outcome)) (rootAfter (s .after) (rootOffset b) (s .outcome)) g
-  root-is = root-inserts k N key r b (ready .offered) h (rootOffset b) s old-root low step-is room-store lasts-store
+  root-is = root-inserts k N key r b (ready .offered) h (rootOffset b) s old-root low step-is room-store storable
 
   same-header : (o : Outcome) (b′ : List ℕ) → HeadsAfter k N path h b (W .1) o b′ → SameHeader b b′
   same-header (kept s′) b′ c = c .header
@@ -215,6 +216,15 @@ module _ (k : ℕ) (N : Naming) (h : ℕ) (b key : List ℕ) (r : ℕ) (ready : 
       let u = new-usable q s′ t in
       rw (new-taken q s′ t) (page-of (N .name (W .1)) (step-is .as-long) (u .0), u .1)
 
+  -- a page that is not taken is not the root
+  root-apart : (o : Outcome) → OutcomeIs N a (rootOffset b) o W → (j : ℕ) → g .2 ≤ j → N .name j ≡ rootAfter (s .after) (rootOffset b) o .page .0 → ⊥
+  root-apart (kept s′) t j l e = own-page k N key r b h a (rootOffset b) free j (sym e)
+  root-apart bad t j l e = absurd t
+  root-apart (split q s′) t j l e =
+      let few : suc (W .1) ≤ j = rw (t .1) at l in
+      let same : j ≡ W .1 = ready .offered .supplied .distinct j (W .1) (e ∙ ap (λ (y : Taken). y .page .0) (new-taken q s′ t)) in
+      omega arith
+
   rooted : Rooted (rootAfter (s .after) (rootOffset b) (s .outcome)) (s .outcome) (s .after) (insertedBuffer k b key r)
   unfolding insertedBuffer
   rooted =
@@ -222,7 +232,7 @@ module _ (k : ℕ) (N : Naming) (h : ℕ) (b key : List ℕ) (r : ℕ) (ready : 
       at-root k (rootOffset b) key (ready .offered .two) (ready .offered .long) (s .after) (s .outcome) (new .0)
       (rw (step-is .as-long) low)
       (le32-same (s .after) b 0 (window-in-page (s .after) b 0 (same-header (s .outcome) (s .after) heads) 0 4 (omega arith)))
-      (new .1) (rw (root-is .left-is) lasts-store)
+      (new .1) (rw (root-is .left-is) storable)
 
   -- Theorem: the buffer after the insertion reads as the theory's insertion into the tree that the buffer read as
   pub tree-after : treeIn k (insertedBuffer k b key r) (grownBy k N h b key r .0) ≡ grownBy k N h b key r .1
@@ -242,12 +252,15 @@ module _ (k : ℕ) (N : Naming) (h : ℕ) (b key : List ℕ) (r : ℕ) (ready : 
   length-after = rooted .as-long ∙ step-is .as-long
 
   pub header-after : SameRest b (insertedBuffer k b key r)
-  header-after =
-      let e = same-header (s .outcome) (s .after) heads in
-      record {
-        free = rooted .header .free ∙ window-in-page (s .after) b 0 e 4 4 (omega arith);
-        rest = rooted .header .rest ∙ window-in-page (s .after) b 0 e 12 500 (omega arith);
-      }
+  header-after = rooted .header ∙ window-in-page (s .after) b 0 (same-header (s .outcome) (s .after) heads) 12 500 (omega arith)
+
+  -- Theorem: the pages that are not taken keep their bytes, but for their left links
+  pub untaken-after : Untaken N (grownBy k N h b key r .2) b (insertedBuffer k b key r)
+  untaken-after j l t =
+      let more = reroot-more (N .name) h (rootOffset b) (W .0) (W .1) (W .2) in
+      let l′ : g .2 ≤ j = subst (λ (x : Grown (List ℕ)). x .2 ≤ j) (sym seen) l in
+      let not-root : N .name j ≡ rootAfter (s .after) (rootOffset b) (s .outcome) .page .0 → ⊥ = λ e. root-apart (s .outcome) (step-is .told) j l′ e in
+      both-kept (step-is .untaken j (omega arith) t) (rooted .others (N .name j) (page-of (N .name j) (step-is .as-long) t) not-root)
 
   -- the run of full pages, as the theory has it
   abbrev pub fullRun : ℕ

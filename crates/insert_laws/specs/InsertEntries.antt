@@ -33,8 +33,7 @@ use Rattle.page.specs.Page.{attributeAt, leafBit, capacity}
 use Rattle.page.specs.Reading.{Item, numbered}
 use Rattle.layout.specs.declared.Supply.{Supply}
 use Rattle.layout.specs.declared.Taken.{Taken}
-use Rattle.layout.specs.Given.{Lasts}
-use Rattle.layout.specs.Supply.{atEnd, supplyOf, takePage}
+use Rattle.layout.specs.Supply.{supplyOf, takePage}
 use Rattle.layout.specs.Layout.{itemsIn, newPage}
 use Rattle.layout.specs.Entries.{stored, chosenAt, itemOf, childOf, replaced, raised, twoFor}
 use Rattle.layout.specs.ItemLaws.{Fit}
@@ -44,8 +43,9 @@ use Rattle.layout.specs.FitLaws.{length-insert, length-replaced, pair-fit, two-
 use Rattle.insert.specs.Insertion.{Outcome, kept, split, bad, Step, step, takeIn, afterChild, insertUnder, atRoot}
 use Rattle.layout_laws.specs.EntryLaws.{entriesIn, page-of, raise, items-few, entries-header, entries-with, length-with, entries-new, entries-split}
 use Rattle.layout_laws.specs.EntryLaws.{length-new, length-split, entries-raised, length-raised}
-use Rattle.layout_laws.specs.HeadLaws.{with-head, raised-head, split-rights}
-use Rattle.layout_laws.specs.SupplyLaws.{supply-stored}
+use Rattle.layout_laws.specs.OtherPages.{unchanged, both-kept, with-other, raised-other, split-others}
+use Rattle.layout_laws.specs.SupplyLaws.{Storable, supply-stored}
+use Rattle.insert_laws.specs.TakenPages.{taken}
 use Rattle.insert_laws.specs.Naming.{Naming, Usable, Untaken, nextOf, Supplied}
 use Rattle.insert_laws.specs.ItemLists.{keeping, passes, insertPair-numbered, lastKey-numbered, position-numbered, chosen-within, chosen-numbered}
 use Rattle.insert_laws.specs.ItemLists.{insertPair-place}
@@ -89,7 +89,8 @@ module _ (k : ℕ) (two : 1 < capacity k) (N : Naming) (b : List ℕ) (given : S
       (λ e. let fits = leb-true (length es) (capacity k) e in rw (length-map es numbered, e) (record {
         entries = entries-with k b′ p es (page-of p lb tp) f fits;
         as-long = length-with k b′ p es ∙ lb;
-        untaken = λ j l t. with-head k b′ p es (page-of p lb tp) f fits (N .name j) (page-of (N .name j) lb t) .rightIs ∙ un j l t;
+        untaken = λ j l t.
+            both-kept (un j l t) (with-other k b′ p (page-of p lb tp) (N .name j) (page-of (N .name j) lb t) (λ q. ne j (sym q)) es f fits);
         told = (en, refl);
       }))
       (λ e.
@@ -109,8 +110,8 @@ module _ (k : ℕ) (two : 1 < capacity k) (N : Naming) (b : List ℕ) (given : S
       rw (en, given .takes m b′ lb un, length-map es numbered, e, tq′, take-map numbered h es, drop-map numbered h es) (record {
         entries = entries-split k b′ p es n tp′ tq′ f two few;
         as-long = length-split b′ p es n ∙ lb;
-        untaken = λ j l t. split-rights k b′ p es n tp′ tq′ (ne m) f two few (tq .1) (N .name j) (page-of (N .name j) lb t) (λ q. ne j (sym q)) (other j l)
-            ∙ un j (omega arith) t;
+        untaken = λ j l t. both-kept (un j (omega arith) t)
+            (split-others k b′ p es n tp′ tq′ f two few (N .name j) (page-of (N .name j) lb t) (λ q. ne j (sym q)) (other j l));
         told = (refl, rw stays, rw stays some, tq .1);
       }))
 
@@ -146,7 +147,8 @@ module _ (k : ℕ) (two : 1 < capacity k) (N : Naming) (b : List ℕ) (given : S
         (rw u (record {
           entries = entries-raised k b′ key p i (page-of p lb tp) long inside;
           as-long = length-raised k b′ key p i ∙ lb;
-          untaken = λ j m x. raised-head k b′ key p i (page-of p lb tp) long (N .name j) (page-of (N .name j) lb x) .rightIs ∙ un j m x;
+          untaken = λ j m x.
+              both-kept (un j m x) (raised-other k b′ p (page-of p lb tp) (N .name j) (page-of (N .name j) lb x) (λ q. ne j (sym q)) key i long);
           told = (t .0, refl);
         }))
     after-child-items b′ p a i v (split q s) lb tp sv ne un h t room =
@@ -253,7 +255,7 @@ module _ (k : ℕ) (N : Naming) (key : List ℕ) (r : ℕ) (b : List ℕ) where
         subst (λ (w : StoreReplacement (List ℕ)). StepIs k N b a p (takeIn k b p es (supplyOf b)) (storeSplitIfOver (capacity k) (N .name) a p w)) ew
         (take-in-is k (o .two) N b (o .supplied) b p a es 0 (supplyOf b) refl tp
         (pair-fit k b key (o .long) r p)
-        (omega (arith, items-few k b p, length-insert (stored key r) (itemsIn k b p))) (o .supplied .starts) ne (λ j l t. refl)
+        (omega (arith, items-few k b p, length-insert (stored key r) (itemsIn k b p))) (o .supplied .starts) ne (λ j l t. unchanged b (N .name j))
         (λ j h. room j (subst (λ (w : StoreReplacement (List ℕ)). j < storeSplitIfOver (capacity k) (N .name) a p w .1) ew h)))
 
     -- the entry gone through, of a page with the entries y ∷ ys, and its child
@@ -344,9 +346,9 @@ module _ (k : ℕ) (N : Naming) (key : List ℕ) (r : ℕ) (b : List ℕ) where
 
 -- the page that is the root after an outcome at the root p, in the buffer b, and the supply that is left
 abbrev pub rootAfter : List ℕ → ℕ → Outcome → Taken
-rootAfter b p (kept s) = record { page = record { 0 = p }; rest = s }
+rootAfter b p (kept s) = taken p s
 rootAfter b p (split q s) = takePage b s
-rootAfter b p bad = record { page = record { 0 = p }; rest = atEnd 0 }
+rootAfter b p bad = taken p (supplyOf b)
 
 -- the buffer has the entries of the theory's insertion, its root and its supply
 pub record RootIs (k : ℕ) (N : Naming) (b : List ℕ) (root : Taken) (g : StoreGrown (List ℕ)) : Type 0 where
@@ -397,10 +399,10 @@ module _ (k : ℕ) (N : Naming) (key : List ℕ) (r : ℕ) (b : List ℕ) (o : O
   -- Theorem: the buffer with its root is the theory's
   pub root-inserts : (h p : ℕ) (s : Step) → Usable b p → pageSize ≤ length b → StepIs k N b (topKey h p) p s (replacement k N key r b h (topKey h p) p)
       → ((j : ℕ) → j < storeInsert keeping (passes (key, r)) (capacity k) (N .name) (key, r) h p (entriesIn k b) .2 → Usable b (N .name j))
-      → Lasts 0 (N .left (storeInsert keeping (passes (key, r)) (capacity k) (N .name) (key, r) h p (entriesIn k b) .2))
+      → Storable (N .left (storeInsert keeping (passes (key, r)) (capacity k) (N .name) (key, r) h p (entriesIn k b) .2))
       → RootIs k N (atRoot k (s .after) key p (s .outcome)) (rootAfter (s .after) p (s .outcome))
       (storeInsert keeping (passes (key, r)) (capacity k) (N .name) (key, r) h p (entriesIn k b))
-  root-inserts h p s tp low w room lasts = go (s .outcome) (w .told)
+  root-inserts h p s tp low w room small = go (s .outcome) (w .told)
     where
       a : List ℕ
       a = topKey h p
@@ -412,7 +414,7 @@ module _ (k : ℕ) (N : Naming) (key : List ℕ) (r : ℕ) (b : List ℕ) (o : O
           (storeInsert keeping (passes (key, r)) (capacity k) (N .name) (key, r) h p (entriesIn k b))
       go bad t = absurd t
       go (kept s′) t = rw (t .1) (record {
-        entries = supply-stored (s .after) s′ (rw (w .as-long) low) (rw (t .0) (rw (t .1) at lasts)) .entries k ∙ w .entries;
+        entries = supply-stored (s .after) s′ (rw (w .as-long) low) (rw (t .0) (rw (t .1) at small)) .entries k ∙ w .entries;
         root-is = refl;
         left-is = t .0;
       })
@@ -444,6 +446,6 @@ module _ (k : ℕ) (N : Naming) (key : List ℕ) (r : ℕ) (b : List ℕ) (o : O
           let s2 : write (entriesIn k b′) top (map numbered es) ≡ write (W .2) (N .name (W .1)) ((lastKey a (W .2 p), p) ∷ (a, q) ∷ []) =
           λ i. write (w .entries i) top (em i) in
           let l2 : length b2 ≡ length b = length-put b1 0 (toLe32 top) ∙ length-new b′ top 1 noPage noPage es ∙ w .as-long in
-          let s3 = supply-stored b2 (N .left (suc (W .1))) (rw l2 low) (rw (t .1) at lasts) .entries k
+          let s3 = supply-stored b2 (N .left (suc (W .1))) (rw l2 low) (rw (t .1) at small) .entries k
           ∙ entries-header k b1 0 (toLe32 top) (omega (arith, length-toLe32 top)) in
           rw (t .1, new, tn) (record { entries = s3 ∙ s1 ∙ s2; root-is = refl; left-is = refl })

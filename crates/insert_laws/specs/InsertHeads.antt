@@ -38,6 +38,7 @@ use Rattle.insert.specs.Insertion.{Outcome, kept, split, bad, Step, takeIn, aft
 use Rattle.layout_laws.specs.EntryLaws.{entriesIn, page-of, items-few}
 use Rattle.layout_laws.specs.HeadLaws.{Head, SameHead, SameHeader, with-head, with-header, raised-head, raised-header, split-head, split-header}
 use Rattle.insert_laws.specs.ItemLists.{keeping, passes, chosen-within, chosen-numbered}
+use Rattle.layout_laws.specs.OtherPages.{unchanged}
 use Rattle.insert_laws.specs.Naming.{Naming, Usable, Untaken, nextOf, Supplied}
 use Rattle.insert_laws.specs.InsertEntries.{OutcomeIs, Shaped, Offered, under, replacement, Inserts, Free, own-page, inserts, items-longer, among-leaf}
 use Rattle.insert_laws.specs.InsertEntries.{kept-case, split-case, number, child, childPage, child-among, child-free, child-shaped, child-rest, page-is}
@@ -261,7 +262,7 @@ module _ (k : ℕ) (N : Naming) (key : List ℕ) (r : ℕ) (b : List ℕ) (o : O
       (sym (path-own (key, r) zero a (readTree (entriesIn k b) zero p)) ∙ sym (x zero (omega arith))) (o .supplied .starts) none (f .0) refl
       (pair-fit k b key (o .long) r p)
       (omega (arith, items-few k b p, length-insert (stored key r) (itemsIn k b p)))
-      (own-page k N key r b zero a p u) (λ j i y. refl) (u .2) t
+      (own-page k N key r b zero a p u) (λ j i y. unchanged b (N .name j)) (u .2) t
       (heads-none k N path b plain))
   insert-heads (suc h) (suc left) p a l f u x = go (λ c y g w. insert-heads h left c y (omega arith) g w) (itemsIn k b p) refl
     where

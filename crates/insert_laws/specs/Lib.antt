@@ -2,6 +2,8 @@
 
 -- Laws: a change of a list of stored entries is the same change of the list with their numbers
 pub mod ItemLists
+-- Laws: the pages taken from a free list and from the file's end
+pub mod TakenPages
 -- Laws: new pages by their names
 pub mod Naming
 -- Laws: the entries of all pages after insertion's steps
@@ -14,6 +16,8 @@ pub mod InsertBuffer
 pub mod AttributeLaws
 -- Laws: a sound index read up to the buffer's length is the one read up to the file's
 pub mod SoundReading
+-- Laws: a page that stays free keeps its form
+pub mod FreePages
 -- Laws: the path of a key, and by it refusals 29 and 30 on bytes, are the theory's
 pub mod RoomLaws
 -- Laws: an insertion keeps an index sound

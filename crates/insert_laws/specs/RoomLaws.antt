@@ -36,7 +36,7 @@ use Rattle.layout_laws.specs.EntryLaws.{entriesIn}
 use Rattle.insert_laws.specs.Naming.{left-is, namingOf, supplied}
 use Rattle.insert_laws.specs.ItemLists.{keeping, passes, present-numbered, chosen-numbered}
 use Rattle.insert_laws.specs.InsertEntries.{Shaped, child-shaped}
-use Rattle.insert_laws.specs.SoundReading.{sound-tree, sound-shaped}
+use Rattle.insert_laws.specs.SoundReading.{sound-free, sound-tree, sound-shaped}
 
 and-comm : (a b : Bool) → (a && b) ≡ (b && a)
 and-comm true true = refl
@@ -130,7 +130,7 @@ or-assoc false b c = refl
 
 -- Theorem: refusal 30 by the bytes and by the tree
 pub room-is : (b key : List ℕ) (r : ℕ) (s : Sound b)
-    → noRoom b (pathTo (keyLength b) b key r) ≡ outOfRoom (settingOf (keyLength b) (min (length b) maxBytes)) (key, r) (indexOf b (s .height))
+    → noRoom b (pathTo (keyLength b) b key r) ≡ outOfRoom (settingOf (keyLength b) (min (length b) maxBytes)) (key, r) (indexOf b (s .height) (s .free))
 unfolding noRoom
 room-is b key r s =
     let k = keyLength b in
@@ -142,6 +142,7 @@ room-is b key r s =
     ∙ run-read route (passes (key, r)) (entriesIn k b) (λ j x z. refl) (capacity k) h (rootOffset b) in
     let all = eqb d (suc h) in
     let needed : ℕ = cond all (suc d) d in
-    let size = sizeAfter (fileSize b) needed in
-    rw (sound-path b key r s, same, less-both (length b) maxBytes size, one-if all d, one-if all (suc h), left-is (namingOf b) b (supplied b) needed)
+    let size = sizeAfter (s .free) (fileSize b) needed in
+    let left = left-is (namingOf (s .free) (fileSize b)) b (supplied b (s .free) (sound-free b s)) needed in
+    rw (sound-path b key r s, same, less-both (length b) maxBytes size, one-if all d, one-if all (suc h), left)
     (or-assoc (ltb (length b) size) (ltb maxBytes size) _)

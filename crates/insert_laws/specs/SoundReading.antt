@@ -1,5 +1,5 @@
 -- Laws: insertion's rule reads a sound index up to the buffer's length, and reads the tree that is read up to the file's. Every page of that tree is one of
--- the buffer, has the leaf bit at the bottom only and entries above. Cited by the laws of room and of insertion. Assumes nothing.
+-- the buffer, has the leaf bit at the bottom only and entries above; its free list is a supply. Cited by the laws of room and of insertion. Assumes nothing.
 use mathlib.Core.Path.{_≡_, refl, sym, _∙_, subst}
 use mathlib.Core.Bool.{true}
 use mathlib.Core.List.{List, [], _∷_, map}
@@ -10,6 +10,7 @@ use lib.ListN.{length, length-map}
 use borrow.Author.Tests.{eq-eqb, ne-eqb}
 use Rattle.basis.specs.Lists.{All}
 use Rattle.tree.specs.Clauses.{least, SizedUnder, Sized}
+use Rattle.tree.specs.IndexPages.{free-distinct, free-beyond}
 use Rattle.tree.specs.ListLaws.{nonEmpty-length, occ-append, occ-here}
 use Rattle.tree.specs.Lists.{concatMap, occ}
 use Rattle.tree.specs.Store.{Store, readEntry, readTree}
@@ -21,9 +22,9 @@ use Rattle.page.specs.Page.{attributeAt, leafBit, capacity}
 use Rattle.page.specs.Reading.{itemsAt, entriesAt}
 use Rattle.sound.specs.Sound.{indexTree, Sound}
 use Rattle.sound.specs.MarkLaws.{occ-all}
-use Rattle.sound.specs.IndexLaws.{sound-sized}
+use Rattle.sound.specs.IndexLaws.{indexOf, sound-sized, sound-index}
 use Rattle.layout_laws.specs.EntryLaws.{entriesIn}
-use Rattle.insert_laws.specs.Naming.{Usable}
+use Rattle.insert_laws.specs.Naming.{Usable, FreeGiven}
 use Rattle.insert_laws.specs.InsertEntries.{Shaped}
 use Rattle.insert_laws.specs.InsertBuffer.{treeIn}
 
@@ -103,6 +104,19 @@ module _ (b : List ℕ) (s : Sound b) where
       let g = good-header b (s .header) in
       let p = is-page (fileSize b) z (sound-page z o) in
       (page-longer z (g .within) (sound-page z o), omega arith)
+
+  -- Theorem: the free list of a sound index is such a one as its supply needs
+  pub sound-free : FreeGiven b (s .free)
+  sound-free =
+      let g = good-header b (s .header) in
+      let once = sound-index b s (fileSize b) (omega arith) .pagesOnce in
+      record {
+        header = g;
+        chained = s .freeList;
+        inside = s .freeInside;
+        once = free-distinct (indexOf b (s .height) (s .free)) once;
+        before-end = free-beyond (indexOf b (s .height) (s .free)) once;
+      }
 
   -- Theorem: the two readings are one
   pub sound-tree : treeIn (keyLength b) b (s .height) ≡ indexTree b (s .height)

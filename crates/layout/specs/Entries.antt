@@ -1,5 +1,5 @@
--- Rules: a page's entries after a pair goes in or a page below was split. Cited by insertion and by the rule for refusal 30.
-use Prim.Native.Nat.{ℕ}
+-- Rules: a page's entries after a pair goes in, a page below was split or an entry goes. Cited by insertion, by removal and by the rule for refusal 30.
+use Prim.Native.Nat.{ℕ, suc}
 use mathlib.Core.Bool.{cond, not, _&&_}
 use mathlib.Core.List.{List, [], _∷_}
 use lib.ListN.{length, getD}
@@ -19,7 +19,7 @@ use Rattle.layout.specs.Layout.{itemsIn}
 abbrev pub stored : List ℕ → ℕ → Item
 stored key number = (key, toBe32 number)
 
--- the number of the entry that the entry e goes under: "lookup's steps lead to" it, "the last if its key is above all"
+-- the number of the entry that the entry e goes under: "the first entry at or above the key, else the last" (K1)
 abbrev pub chosenAt : Item → List Item → ℕ
 chosenAt e es = position (passesLower bytesOrder e) es
 
@@ -51,3 +51,7 @@ twoFor k b key c q e = (lastKey key (itemsIn k b c), e .1) ∷ (larger bytesOrde
 -- the entries of a new root, over the halves at p and q: each has "its own last key" above it (K1)
 abbrev pub rootEntries : ℕ → List ℕ → List ℕ → ℕ → ℕ → List Item
 rootEntries k b key p q = (lastKey key (itemsIn k b p), toBe32 p) ∷ (lastKey key (itemsIn k b q), toBe32 q) ∷ []
+
+-- "The entry goes: the later entries of the page move up": entries without entry i
+abbrev pub withoutEntry : ℕ → List Item → List Item
+withoutEntry i es = replaceAt i [] es

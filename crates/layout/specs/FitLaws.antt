@@ -1,6 +1,6 @@
 -- Laws: the entries that a page gets: their keys have k bytes and their numbers four, how many they are, and that the bytes gathered read back as them.
 -- Assumes nothing.
-use Prim.Native.Nat.{ℕ, suc, _+_, _*_, _≤_, _<_}
+use Prim.Native.Nat.{ℕ, zero, suc, _+_, _-_, _*_, _≤_, _<_}
 use mathlib.Core.Path.{_≡_, refl, sym, ap, _∙_, subst}
 use mathlib.Core.List.{List, [], _∷_, _++_, append-assoc, append-nil}
 use native.Mathlib.Omega.{arith}
@@ -19,10 +19,10 @@ use Rattle.page.specs.Header.{maxKey}
 use Rattle.page.specs.KeyOrder.{bytesOrder}
 use Rattle.page.specs.Reading.{Item, items}
 use Rattle.layout.specs.Layout.{itemsIn, encode}
-use Rattle.layout.specs.Entries.{itemOf, replaced, twoFor, rootEntries}
-use Rattle.layout.specs.Given.{Over, Listed, roomSize}
+use Rattle.layout.specs.Entries.{itemOf, replaced, twoFor, rootEntries, withoutEntry}
+use Rattle.layout.specs.Given.{Given, Over, Listed, roomSize}
 use Rattle.layout.specs.ItemLaws.{Fit, length-encode, items-encode}
-use Rattle.layout.specs.EntryLaws.{items-in-fit}
+use Rattle.layout.specs.EntryLaws.{items-in-fit, listed-within}
 use Rattle.layout.specs.GatherLaws.{length-last, length-larger, put-next, spread}
 
 -- how many entries a leaf has with one more
@@ -98,6 +98,34 @@ two-read key {b} {p} {n} i c q zs l h room e =
     let inside : i < length es = omega (arith, l .count) in
     let count : length (replaced i f es) ≡ n + 1 = omega (arith, length-replaced i f 1 (λ x. refl) es inside, l .count) in
     gathered (length key) (n + 1) (replaced i f es) zs (two-fit (length key) b key refl i c q es inside (items-in-fit (length key) b p)) count (omega arith) e
+
+-- a property of entries is one of those left without entry i
+pub without-all : (P : Item → Type 0) (i : ℕ) (es : List Item) → All P es → All P (withoutEntry i es)
+without-all P zero [] a = tt
+without-all P zero (x ∷ xs) a = a .1
+without-all P (suc i) [] a = tt
+without-all P (suc i) (x ∷ xs) a = (a .0, without-all P i xs (a .1))
+
+-- how many entries are left without entry i
+pub length-without : (i : ℕ) (es : List Item) → i < length es → length (withoutEntry i es) ≡ length es - 1
+length-without i [] h = absurd (omega arith)
+length-without zero (x ∷ xs) h = omega arith
+length-without (suc i) (x ∷ xs) h = omega (arith, length-without i xs (omega arith))
+
+-- what is gathered for a page with n entries without entry i is n - 1 entries
+pub one-less : {b : List ℕ} {k p n : ℕ} (room : List ℕ) → Listed b k p n → roomSize ≤ length room → Given b k p (n - 1) (take ((n - 1) * (k + 4)) room)
+one-less {b} {k} {p} {n} room l h =
+    let s = spread (n - 1) l (omega arith) in
+    let w = listed-within l in
+    record { within = record { key = w .key; count = omega arith; page = w .page }; size = simp length-take (omega arith) }
+
+pub without-read : {b : List ℕ} {k p n i : ℕ} (zs : List ℕ) {room : List ℕ} → Listed b k p n → i < n → roomSize ≤ length zs
+    → room ≡ put zs 0 (encode (withoutEntry i (itemsIn k b p))) → items k (n - 1) (take ((n - 1) * (k + 4)) room) ≡ withoutEntry i (itemsIn k b p)
+without-read {b} {k} {p} {n} {i} zs l h r e =
+    let s = spread (n - 1) l (omega arith) in
+    let es = itemsIn k b p in
+    let count : length (withoutEntry i es) ≡ n - 1 = length-without i es (omega (arith, l .count)) ∙ rw (← l .count) in
+    gathered k (n - 1) (withoutEntry i es) zs (without-all (Fit k) i es (items-in-fit k b p)) count (omega arith) e
 
 -- the entries of a new root
 module _ (b key : List ℕ) (p q : ℕ) where

@@ -28,7 +28,7 @@ use Rattle.page.specs.KeyOrderLaws.{equal-le}
 use Rattle.page.specs.PageLaws.{capacity-small, entries-fit, entries-inside, within-entry, entry-within}
 use Rattle.page.specs.Reading.{Item}
 use Rattle.layout.specs.Layout.{itemsIn, encode}
-use Rattle.layout.specs.Entries.{chosenAt, itemOf, childOf, replaced, raised, twoFor}
+use Rattle.layout.specs.Entries.{chosenAt, itemOf, childOf, replaced, raised, twoFor, withoutEntry}
 use Rattle.layout.specs.Given.{Listed}
 use Rattle.layout.specs.ItemLaws.{Fit, encode-append}
 use Rattle.layout.specs.EntryLaws.{itemsFrom, itemAt, items-in-fit, from-cons, take-from, drop-from, encode-from, entry-far, items-none}
@@ -301,6 +301,25 @@ module _ (key : List ℕ) {b : List ℕ} {p n i : ℕ} (l : Listed b (length key
         put-next zs ((((first ++ low) ++ number) ++ high) ++ toBe32 q) rest _ l5,
         two-bytes c q,
       ) (ap (put zs 0) (simp append-assoc))
+
+-- a page's entries without entry i
+module _ {b : List ℕ} {k p n i : ℕ} (l : Listed b k p n) (h : i < n) where
+  pub without-gathered : (zs : List ℕ) {l1 l2 : List ℕ} → l1 ≡ put zs 0 (window b (entryOffset k p 0) ((i - 0) * (k + 4)))
+      → l2 ≡ put l1 (i * (k + 4)) (window b (entryOffset k p (i + 1)) ((n - (i + 1)) * (k + 4)))
+      → l2 ≡ put zs 0 (encode (withoutEntry i (itemsIn k b p)))
+  without-gathered zs e1 e2 =
+      let es = itemsIn k b p in
+      let first = window b (entryOffset k p 0) (i * (k + 4)) in
+      let rest = window b (entryOffset k p (i + 1)) ((n - (i + 1)) * (k + 4)) in
+      e2 ∙ rw (
+        e1,
+        sub-zero,
+        put-next zs first rest (i * (k + 4)) (length-before l i (omega arith)),
+        ← add-one i,
+        encode-append (take i es) (drop (i + 1) es),
+        before-bytes l i (omega arith),
+        after-bytes l (i + 1) (omega arith),
+      )
 
 -- the key of entry i raised, or not
 module _ (key : List ℕ) {b : List ℕ} {p n i : ℕ} (l : Listed b (length key) p n) where

@@ -1,4 +1,4 @@
--- Rules: the header and pages as bytes. Cited by insertion and by fresh. A buffer b is read up to its own length here.
+-- Rules: the header and pages as bytes. Cited by insertion, by removal and by fresh. A buffer b is read up to its own length here.
 use Prim.Native.Nat.{ℕ, _+_, _-_, _%_}
 use mathlib.Core.Bool.{cond}
 use mathlib.Core.List.{List, [], _∷_, _++_}
@@ -6,8 +6,8 @@ use lib.ListN.{length, take, drop, replicate}
 use Rattle.octets.specs.Bytes.{toLe16, toLe32}
 use Rattle.octets.specs.Store.{put}
 use Rattle.tree.specs.Lists.{half}
-use Rattle.page.specs.Header.{pageSize, noPage, rootPlace, sizePlace, expressionPlace, goodFeatures, isPage}
-use Rattle.page.specs.Page.{attributeAt, rightAt, countPlace, leftPlace, rightPlace, entriesStart, entryArea}
+use Rattle.page.specs.Header.{pageSize, noPage, rootPlace, freePlace, sizePlace, expressionPlace, goodFeatures, freePointer, isPage}
+use Rattle.page.specs.Page.{attributeAt, leftAt, rightAt, countPlace, leftPlace, rightPlace, entriesStart, entryArea}
 use Rattle.page.specs.Reading.{Item, itemsAt}
 
 -- the entries of the page at p of the buffer
@@ -36,9 +36,12 @@ withLeft b p left = put b (p + leftPlace) (toLe32 left)
 abbrev pub withRight : List ℕ → ℕ → ℕ → List ℕ
 withRight b p right = put b (p + rightPlace) (toLe32 right)
 
--- the header with another root offset or file size
+-- the header with another root offset, free pointer or file size
 abbrev pub withRoot : List ℕ → ℕ → List ℕ
 withRoot b root = put b rootPlace (toLe32 root)
+
+abbrev pub withFree : List ℕ → ℕ → List ℕ
+withFree b free = put b freePlace (toLe32 free)
 
 abbrev pub withSize : List ℕ → ℕ → List ℕ
 withSize b size = put b sizePlace (toLe32 size)
@@ -75,3 +78,15 @@ splitPage b p es q =
     let r = rightAt b p in
     let lower = withRight (withAttribute (withEntries b p (take m es)) p a) p q in
     newPage (linkBeyond lower r q) q a p r (drop m es)
+
+-- the page before, at l, if there is one, gets q for its right neighbour
+unfoldable pub linkBefore : List ℕ → ℕ → ℕ → List ℕ
+linkBefore b l q = let linked = withRight b l q in cond (isPage (length b) l) linked b
+
+-- the page at p is "unlinked from its neighbours": the page on its right gets the left neighbour of p, and the page on its left the right neighbour of p
+unfoldable pub unlinked : List ℕ → ℕ → List ℕ
+unlinked b p = let l = leftAt b p in let r = rightAt b p in linkBefore (linkBeyond b r l) l r
+
+-- the page at p joins "the free list, .. at the head; a free page is zero but for bytes 8-11, which name the next or none": the right link's bytes
+unfoldable pub freed : List ℕ → ℕ → List ℕ
+freed b p = withFree (newPage b p 0 0 (freePointer b) []) p

@@ -2,7 +2,7 @@
 
 -- Rules: the header and pages as bytes
 pub mod Layout
--- Rules: a page's entries after a pair goes in or a page below was split
+-- Rules: a page's entries after a pair goes in, a page below was split or an entry goes
 pub mod Entries
 -- Rules: the supply of new pages
 pub mod Supply
@@ -20,3 +20,7 @@ pub mod EntryLaws
 pub mod GatherLaws
 -- Laws: the bytes gathered for a page are read back as the rule's entries
 pub mod FitLaws
+-- Steps: what the way of an entry meets at a page
+pub mod Visits
+-- Laws: what a visit says of the page, and a visit by its tests
+pub mod VisitLaws

@@ -4,6 +4,7 @@ use page::PageOffset;
 use page::RecordNumber;
 ghost use mathlib.Core.Path.{_≡_};
 ghost use mathlib.Core.Bool.{Bool, true};
+ghost use mathlib.Core.List.{[]};
 ghost use Prim.Native.Nat.{ℕ, _+_, _-_, _*_, _≤_, _<_};
 ghost use lib.ListN.{length};
 ghost use Rattle.octets.specs.Store.{put, window};
@@ -14,17 +15,19 @@ ghost use Rattle.page.specs.Page.{entryOffset, keyAt};
 ghost use Rattle.page.specs.Within.{Within};
 ghost use Rattle.page.specs.KeyOrder.{bytesOrder};
 ghost use Rattle.page.specs.Reading.{items};
-ghost use Rattle.layout.specs.Layout.{withAttribute, withCount, withLeft, withRight, withRoot, withSize, headerBytes};
-ghost use Rattle.layout.specs.Layout.{itemsIn, encode, withEntries, newPage, linkBeyond, splitPage};
-ghost use Rattle.layout.specs.Entries.{stored, chosenAt, childOf, replaced, raised, twoFor, rootEntries};
+ghost use Rattle.layout.specs.Layout.{withAttribute, withCount, withLeft, withRight, withRoot, withFree, withSize, headerBytes};
+ghost use Rattle.layout.specs.Layout.{itemsIn, encode, withEntries, newPage, linkBeyond, splitPage, linkBefore, unlinked, freed};
+ghost use Rattle.layout.specs.Entries.{stored, chosenAt, childOf, replaced, raised, twoFor, rootEntries, withoutEntry};
 ghost use Rattle.layout.specs.Supply.{supplyOf, takePage, supplyAfter, withSupply};
 ghost use Rattle.layout.specs.Given.{Given, Over, Listed, Lasts, roomSize};
+ghost use Rattle.layout.specs.Visits.{visitOf};
 
 // The room in which the entries of a page are gathered: the entry area and one more entry with the longest key.
 pub const ROOM: usize = Page::ENTRY_AREA + page::MAX_KEY + 4;
 
-// The supply of new pages: the file's end, at which the next one begins.
+// The supply of new pages: the head of the free list, and the file's end, at which the next page begins if none is free.
 pub struct Supply {
+    pub free: PageOffset,
     pub end: PageOffset,
 }
 
@@ -32,6 +35,13 @@ pub struct Supply {
 pub struct Taken {
     pub page: PageOffset,
     pub rest: Supply,
+}
+
+// What the way of a key meets at an offset: no page, a leaf, or a page above it: the number of the entry that the key goes under, and its child.
+pub enum Visit {
+    Bad,
+    Leaf,
+    Child(usize, PageOffset),
 }
 
 // Gives a page the attribute `attribute`.
@@ -74,6 +84,14 @@ pub fn set_root(index: &mut [u8], root: PageOffset)
     octets::store_le32(index, page::ROOT_PLACE, root.0);
 }
 
+// Gives the header the free pointer `free`.
+fn set_free(index: &mut [u8], free: PageOffset)
+    requires { ⌜ pageSize ≤ length (now index) ⌝ }
+    ensures { λ _. ⌜ now (index .exit) ≡ withFree (now (index .entry)) (free .0) ⌝ }
+{
+    octets::store_le32(index, page::FREE_PLACE, free.0);
+}
+
 // Gives the header the size of a file that ends at `end`.
 fn set_file_end(index: &mut [u8], end: PageOffset)
     requires { ⌜ pageSize ≤ length (now index) ⌝ }
@@ -88,20 +106,36 @@ pub fn supply_of(index: &[u8]) -> Supply
     ensures { λ r. ⌜ r ≡ supplyOf (now (index .entry)) ⌝ }
 {
     Supply {
+        free: page::free_pointer(index),
         end: page::file_end(index),
     }
 }
 
-// Takes a page from a supply, before the page is written. Pages at the file's end are taken without a look at the index.
+// Takes a page from a supply, before the page is written: the head of the free list, or else a page at the file's end. A head that is no page is taken for
+// none.
 pub fn take_page(index: &[u8], supply: Supply) -> Taken
     requires { ⌜ Lasts 1 supply ⌝ }
     ensures { λ r. ⌜ r ≡ takePage (now (index .entry)) supply ⌝ }
 {
+    let free = supply.free;
     let end = supply.end;
-    let next = page::next_page(end);
+    let beyond = page::next_page(end);
+    if page::is_page(index.len(), free) {
+        let next = Page::at(index, free).right;
+        return Taken {
+            page: free,
+            rest: Supply {
+                free: next,
+                end: end,
+            },
+        };
+    }
     Taken {
         page: end,
-        rest: Supply { end: next },
+        rest: Supply {
+            free: free,
+            end: beyond,
+        },
     }
 }
 
@@ -125,6 +159,7 @@ pub fn set_supply(index: &mut [u8], supply: Supply)
     requires { ⌜ pageSize ≤ length (now index) ⌝ }
     ensures { λ _. ⌜ now (index .exit) ≡ withSupply (now (index .entry)) supply ⌝ }
 {
+    set_free(index, supply.free);
     set_file_end(index, supply.end);
 }
 
@@ -175,6 +210,27 @@ pub fn new_page(index: &mut [u8], k: usize, page: PageOffset, head: Page, entrie
     with_entries(index, k, page, head.count as usize, entries);
 }
 
+// Writes a whole page without entries: the numbers of its head but the count, which is 0, and zeros.
+pub fn empty_page(
+    index: &mut [u8],
+    page: PageOffset,
+    attribute: u32,
+    left: PageOffset,
+    right: PageOffset,
+)
+    requires { ⌜ page .0 + pageSize ≤ length (now index) ⌝ }
+    ensures { λ _. ⌜ now (index .exit) ≡ newPage (now (index .entry)) (page .0) attribute (left .0) (right .0) [] ⌝ }
+{
+    let none = [0u8; 1];
+    let head = Page {
+        attribute: attribute,
+        count: 0,
+        left: left,
+        right: right,
+    };
+    new_page(index, 0, page, head, &none[..0]);
+}
+
 // The page at `beyond`, if it is a page, gets the left neighbour `new`.
 fn link_beyond(index: &mut [u8], beyond: PageOffset, new: PageOffset)
     ensures { λ _. ⌜ now (index .exit) ≡ linkBeyond (now (index .entry)) (beyond .0) (new .0) ⌝ }
@@ -182,6 +238,37 @@ fn link_beyond(index: &mut [u8], beyond: PageOffset, new: PageOffset)
     if page::is_page(index.len(), beyond) {
         link_left(index, beyond, new);
     }
+}
+
+// The page at `before`, if it is a page, gets the right neighbour `new`.
+fn link_before(index: &mut [u8], before: PageOffset, new: PageOffset)
+    ensures { λ _. ⌜ now (index .exit) ≡ linkBefore (now (index .entry)) (before .0) (new .0) ⌝ }
+{
+    if page::is_page(index.len(), before) {
+        link_right(index, before, new);
+    }
+}
+
+// Unlinks a page from its neighbours, which become neighbours of each other.
+pub fn unlink_page(index: &mut [u8], page: PageOffset)
+    requires { ⌜ page .0 + pageSize ≤ length (now index) ⌝ }
+    ensures { λ _. ⌜ now (index .exit) ≡ unlinked (now (index .entry)) (page .0) ⌝ }
+{
+    let head = Page::at(index, page);
+    let left = head.left;
+    let right = head.right;
+    link_beyond(index, right, left);
+    link_before(index, left, right);
+}
+
+// Puts a page at the head of the free list: it names the old head as the next, and the header names it.
+pub fn free_page(index: &mut [u8], page: PageOffset)
+    requires { ⌜ page .0 + pageSize ≤ length (now index) ⌝ }
+    ensures { λ _. ⌜ now (index .exit) ≡ freed (now (index .entry)) (page .0) ⌝ }
+{
+    let next = page::free_pointer(index);
+    empty_page(index, page, 0, PageOffset(0), next);
+    set_free(index, page);
 }
 
 // Splits a page that gets `count` entries, held in the bytes `entries`: it keeps the lower half, rounded up; the rest go to a new page at `new`.
@@ -248,6 +335,22 @@ pub fn child_of(index: &[u8], k: usize, page: PageOffset, i: usize) -> PageOffse
         return PageOffset(0);
     }
     page::child(index, k, page, i)
+}
+
+// What the way of `key` with its record number meets at an offset.
+pub fn visit_page(index: &[u8], key: &[u8], number: RecordNumber, page: PageOffset) -> Visit
+    requires { ⌜ length (now key) ≤ maxKey ⌝ }
+    ensures { λ r. ⌜ r ≡ visitOf (now (index .entry)) (stored (now (key .entry)) (number .0)) (page .0) ⌝ }
+{
+    if !page::is_page(index.len(), page) {
+        return Visit::Bad;
+    }
+    let head = Page::at(index, page);
+    if page::is_leaf(head.attribute) {
+        return Visit::Leaf;
+    }
+    let i = chosen_entry(index, key, number, page);
+    Visit::Child(i, child_of(index, key.len(), page, i))
 }
 
 // Whether a leaf has `key`: the first entry at or above it is an equal one. Keys are distinct, so the record number is not looked at.
@@ -403,4 +506,20 @@ pub fn gather_root(room: &mut [u8], index: &[u8], key: &[u8], old: PageOffset, n
     page::put_child(room, k, old);
     copy_last_key(room, k + 4, index, key, new);
     page::put_child(room, k + 4 + k, new);
+}
+
+// Gathers the entries of a page without entry `i`.
+pub fn gather_without(
+    room: &mut [u8],
+    index: &[u8],
+    k: usize,
+    page: PageOffset,
+    count: usize,
+    i: usize,
+)
+    requires { ⌜ Listed (now index) k (page .0) count × (i < count) × (roomSize ≤ length (now room)) ⌝ }
+    ensures { λ _. ⌜ now (room .exit) ≡ put (now (room .entry)) 0 (encode (withoutEntry i (itemsIn k (now (index .entry)) (page .0)))) ⌝ }
+{
+    copy_entries(room, 0, index, k, page, 0, i);
+    copy_entries(room, i * (k + 4), index, k, page, i + 1, count);
 }

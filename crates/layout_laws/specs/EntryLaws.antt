@@ -39,6 +39,10 @@ use Rattle.layout.specs.ItemLaws.{Fit, length-encode, length-items, items-encod
 abbrev pub entriesIn : ℕ → List ℕ → Store (List ℕ)
 entriesIn k b p = map numbered (itemsIn k b p)
 
+-- a page of the buffer whose offset has four bytes
+abbrev pub Usable : List ℕ → ℕ → Type 0
+Usable b p = (isPage (length b) p ≡ true) × (p < 2 ^ 32)
+
 -- a page of a buffer is a page of every buffer of its length
 pub page-of : {m n : ℕ} (p : ℕ) → m ≡ n → isPage n p ≡ true → isPage m p ≡ true
 page-of p e t = ap (λ (l : ℕ). isPage l p) e ∙ t
@@ -75,7 +79,7 @@ module _ (k : ℕ) where
       (λ t. window-after b x ys (x + 2) 2 (omega arith)) (λ t. window-after b x ys (x + entriesStart) entryArea (omega arith))))
       (λ e. items-other b x x ys hx (omega arith) (omega arith) z (eqb-false z x e))))
 
-  entries-links : (b : List ℕ) (x at : ℕ) (ys : List ℕ) → x % pageSize ≡ 0 → x + 4 ≤ at → at + length ys ≤ x + entriesStart
+  pub entries-links : (b : List ℕ) (x at : ℕ) (ys : List ℕ) → x % pageSize ≡ 0 → x + 4 ≤ at → at + length ys ≤ x + entriesStart
       → entriesIn k (put b at ys) ≡ entriesIn k b
   entries-links b x at ys hx low high = fun-ext (λ z. ap (map numbered) (either (eqb z x)
       (λ e. rw (eqb-true z x e) (items-cong b (put b at ys) x (length-put b at ys)
@@ -179,7 +183,7 @@ unfolding splitPage
 length-split b p es q = simp (length-new, length-beyond, length-put, length-with)
 
 module _ (k : ℕ) where
-  entries-beyond : (b : List ℕ) (r q : ℕ) → entriesIn k (linkBeyond b r q) ≡ entriesIn k b
+  pub entries-beyond : (b : List ℕ) (r q : ℕ) → entriesIn k (linkBeyond b r q) ≡ entriesIn k b
   unfolding linkBeyond
   entries-beyond b r q = either (isPage (length b) r)
       (λ e. rw e (entries-links k b r (r + 4) (toLe32 q) (is-page (length b) r e .whole) (omega arith) (omega (arith, length-toLe32 q))))

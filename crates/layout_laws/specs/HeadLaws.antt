@@ -6,7 +6,7 @@ use mathlib.Core.List.{List}
 use mathlib.Core.Logic.{_⊎_, inl, inr}
 use Prim.Native.Nat.{ℕ, suc, _+_, _^_, _≤_, _<_}
 use native.Mathlib.Omega.{arith}
-use lib.ListN.{length, take, drop, length-append, length-take, length-drop}
+use lib.ListN.{length, take, drop, length-take, length-drop}
 use lib.Dec.{ltb, eqb}
 use borrow.Author.Tests.{ltb-true, eqb-true, eqb-false, ne-eqb}
 use Rattle.basis.specs.Lists.{All}
@@ -41,7 +41,7 @@ SameHead b b′ z = Head b′ z (attributeAt b z) (countAt b z) (leftAt b z) (ri
 
 module _ (b : List ℕ) (x : ℕ) (tx : isPage (length b) x ≡ true) (z : ℕ) (tz : isPage (length b) z ≡ true) where
   -- a store into the page at x keeps bytes of the page at z, if z is another page or the bytes stand before or after the store
-  kept : (at : ℕ) (ys : List ℕ) (i m : ℕ) → x ≤ at → at + length ys ≤ x + pageSize → z ≤ i → i + m ≤ z + pageSize
+  pub kept : (at : ℕ) (ys : List ℕ) (i m : ℕ) → x ≤ at → at + length ys ≤ x + pageSize → z ≤ i → i + m ≤ z + pageSize
       → (z ≡ x → (i + m ≤ at) ⊎ (at + length ys ≤ i)) → window (put b at ys) i m ≡ window b i m
   kept at ys i m l1 l2 l3 l4 apart = either (eqb z x)
       (λ e. go (apart (eqb-true z x e)))
@@ -67,10 +67,6 @@ module _ (b : List ℕ) (x : ℕ) (tx : isPage (length b) x ≡ true) (z : ℕ) 
       (λ u. let same : i ≡ at = omega (arith, eqb-true z x u) in
       rw (u, same) (le32-put b at v h (omega (arith, is-page (length b) x tx .high))))
       (λ u. rw u (le32-same (put b at (toLe32 v)) b i (kept at (toLe32 v) i 4 l (omega arith) (omega arith) (omega arith) (λ q. absurd (eqb-false z x u q)))))
-
-  -- a store into the page at x keeps the right neighbour of another page
-  right-other : (z ≡ x → ⊥) → (at : ℕ) (ys : List ℕ) → x ≤ at → at + length ys ≤ x + pageSize → rightAt (put b at ys) z ≡ rightAt b z
-  right-other ne at ys l m = le32-same (put b at ys) b (z + 8) (kept at ys (z + 8) 4 l m (omega arith) (omega arith) (λ e. absurd (ne e)))
 
   -- a store into the page's entries, its count, its attribute, its left link, its right link
   put-entries : (at : ℕ) (ys : List ℕ) → x + entriesStart ≤ at → at + length ys ≤ x + pageSize → SameHead b (put b at ys) z
@@ -121,7 +117,7 @@ module _ (b : List ℕ) (x : ℕ) (tx : isPage (length b) x ≡ true) (z : ℕ) 
         rightIs = le32-same c1 b (z + 8) (kept (x + 4) (toLe32 l) (z + 8) 4 (omega arith) (omega arith) (omega arith) (omega arith) (λ e. inr (omega arith)));
       }
 
-  put-right : (r : ℕ) → r < 2 ^ 32 → Head (put b (x + 8) (toLe32 r)) z (attributeAt b z) (countAt b z) (leftAt b z) (cond (eqb z x) r (rightAt b z))
+  pub put-right : (r : ℕ) → r < 2 ^ 32 → Head (put b (x + 8) (toLe32 r)) z (attributeAt b z) (countAt b z) (leftAt b z) (cond (eqb z x) r (rightAt b z))
   put-right r h =
       let n = length-toLe32 r in
       let c1 = put b (x + 8) (toLe32 r) in
@@ -138,7 +134,7 @@ module _ (b : List ℕ) (x : ℕ) (tx : isPage (length b) x ≡ true) (z : ℕ) 
 abbrev pub SameHeader : List ℕ → List ℕ → Type 0
 SameHeader b b′ = window b′ 0 pageSize ≡ window b 0 pageSize
 
-put-outside : (b : List ℕ) (at : ℕ) (ys : List ℕ) → pageSize ≤ at → SameHeader b (put b at ys)
+pub put-outside : (b : List ℕ) (at : ℕ) (ys : List ℕ) → pageSize ≤ at → SameHeader b (put b at ys)
 put-outside b at ys h = window-before b at ys 0 pageSize (omega arith)
 
 -- a store into the file's header keeps the head of every page
@@ -175,7 +171,8 @@ module _ (k : ℕ) where
 
   -- a page whose entry i has its key raised
   module _ (b key : List ℕ) (p i : ℕ) (tp : isPage (length b) p ≡ true) (lk : length key ≡ k) where
-    raised-as : (P : List ℕ → Type 0) → P b → ((at : ℕ) → p + entriesStart ≤ at → at + length key ≤ p + pageSize → P (put b at key)) → P (raised k b key p i)
+    pub raised-as : (P : List ℕ → Type 0) → P b → ((at : ℕ) → p + entriesStart ≤ at → at + length key ≤ p + pageSize → P (put b at key))
+        → P (raised k b key p i)
     unfolding raised
     raised-as P same stored =
         let es = itemsIn k b p in
@@ -191,13 +188,6 @@ module _ (k : ℕ) where
 
     pub raised-header : SameHeader b (raised k b key p i)
     raised-header = let g = is-page (length b) p tp .low in raised-as (λ c. SameHeader b c) refl (λ at l m. put-outside b at key (omega arith))
-
-  -- a page that is written whole keeps the right neighbours of all others
-  right-new : (b : List ℕ) (q a l r : ℕ) (es : List Item) → isPage (length b) q ≡ true → All (Fit k) es → length es ≤ capacity k
-      → (z : ℕ) → isPage (length b) z ≡ true → (z ≡ q → ⊥) → rightAt (newPage b q a l r es) z ≡ rightAt b z
-  unfolding newPage
-  right-new b q a l r es tq f few z tz ne = right-other b q tq z tz ne q _ (omega arith)
-      (simp (length-append, length-toLe16, length-toLe32) (omega (arith, length-area k es f few)))
 
   -- a page that is written whole
   module _ (b : List ℕ) (q a l r : ℕ) (es : List Item) (tq : isPage (length b) q ≡ true) (ha : a < 2 ^ 16) (hl : l < 2 ^ 32) (hr : r < 2 ^ 32)
@@ -234,13 +224,13 @@ module _ (k : ℕ) where
 
   -- the page beyond, at r, gets q for its left neighbour
   module _ (b : List ℕ) (r q : ℕ) (q32 : q < 2 ^ 32) where
-    beyond-head : (z : ℕ) → isPage (length b) z ≡ true → Head (linkBeyond b r q) z (attributeAt b z) (countAt b z) (cond (eqb z r) q (leftAt b z)) (rightAt b z)
+    pub beyond-head : (z : ℕ) → isPage (length b) z ≡ true → Head (linkBeyond b r q) z (attributeAt b z) (countAt b z) (cond (eqb z r) q (leftAt b z)) (rightAt b z)
     unfolding linkBeyond
     beyond-head z tz = either (isPage (length b) r)
         (λ e. rw e (put-left b r e z tz q q32))
         (λ e. rw (e, ne-eqb z r (λ u. contra tz (ap (isPage (length b)) u ∙ e))) (record { attributeIs = refl; countIs = refl; leftIs = refl; rightIs = refl }))
 
-    beyond-header : SameHeader b (linkBeyond b r q)
+    pub beyond-header : SameHeader b (linkBeyond b r q)
     unfolding linkBeyond
     beyond-header = either (isPage (length b) r)
         (λ e. rw e (put-outside b (r + 4) (toLe32 q) (omega (arith, is-page (length b) r e .low))))
@@ -281,19 +271,6 @@ module _ (k : ℕ) where
 
     upper-few : length (drop m es) ≤ capacity k
     upper-few = simp length-drop (omega arith)
-
-    -- all other pages keep their right neighbour
-    pub split-rights : q < 2 ^ 32 → (z : ℕ) → isPage (length b) z ≡ true → (z ≡ p → ⊥) → (z ≡ q → ⊥) → rightAt (splitPage b p es q) z ≡ rightAt b z
-    unfolding splitPage
-    split-rights q32 z tz np nq =
-        let a = withoutRoot (attributeAt b p) in
-        let r = rightAt b p in
-        let e0 = with-head b p (take m es) tp (halves-fit k es m f .0) lower-few z tz .rightIs in
-        let e1 = right-other s0 p (page-of p n0 tp) z (page-of z n0 tz) np p (toLe16 a) (omega arith) (omega (arith, length-toLe16 a)) in
-        let e2 = right-other s1 p (page-of p n1 tp) z (page-of z n1 tz) np (p + 8) (toLe32 q) (omega arith) (omega (arith, length-toLe32 q)) in
-        let e3 = beyond-head s2 r q q32 z (page-of z n2 tz) .rightIs in
-        let e4 = right-new s3 q a p r (drop m es) (page-of q n3 tq) (halves-fit k es m f .1) upper-few z (page-of z n3 tz) nq in
-        e4 ∙ e3 ∙ e2 ∙ e1 ∙ e0
 
     module _ (p32 : p < 2 ^ 32) (q32 : q < 2 ^ 32) (a16 : attributeAt b p < 2 ^ 16) (r32 : rightAt b p < 2 ^ 32) where
       pub split-head : (z : ℕ) → isPage (length b) z ≡ true → Head (splitPage b p es q) z

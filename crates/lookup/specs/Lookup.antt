@@ -83,3 +83,9 @@ abbrev pub answerPages : Answer → ℕ → ℕ
 answerPages (answer.Found r pages) old = pages
 answerPages (answer.Absent pages) old = pages
 answerPages (answer.Refused n) old = old
+
+-- whether the key is found
+abbrev pub isFound : Answer → Bool
+isFound (answer.Found r pages) = true
+isFound (answer.Absent pages) = false
+isFound (answer.Refused n) = false

@@ -9,7 +9,7 @@ ghost use lib.ListN.{length};
 ghost use Rattle.page.specs.Header.{maxLevels, keyLength, headerGood};
 ghost use Rattle.page.specs.Page.{countAt};
 ghost use Rattle.page.specs.Within.{Within};
-ghost use Rattle.lookup.specs.Lookup.{pageSays, visitRule, lookupFrom, lookupRule};
+ghost use Rattle.lookup.specs.Lookup.{pageSays, visitRule, lookupFrom, lookupRule, isFound};
 
 // What a page says of a key: it fails its checks, the key is absent or found, or the lookup goes on to a child.
 pub enum Visit {
@@ -87,4 +87,15 @@ pub fn lookup(index: &[u8], key: &[u8]) -> Answer
         return Answer::Refused(refusal::KEY_LENGTH);
     }
     lookup_from(index, key, page::root(index), page::MAX_LEVELS)
+}
+
+// Whether a lookup found its key.
+pub fn is_found(answer: Answer) -> bool
+    ensures { λ r. ⌜ r ≡ isFound answer ⌝ }
+{
+    match answer {
+        Answer::Found(number, visited) => true,
+        Answer::Absent(visited) => false,
+        Answer::Refused(reason) => false,
+    }
 }

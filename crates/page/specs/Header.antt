@@ -1,6 +1,6 @@
 -- Rules: an index file's limits and its header. Cited by every call on an index.
 use Prim.Native.Nat.{ℕ, _+_, _%_}
-use mathlib.Core.Bool.{Bool, _&&_}
+use mathlib.Core.Bool.{Bool, _&&_, _||_}
 use mathlib.Core.List.{List}
 use lib.ListN.{length}
 use lib.Dec.{eqb, leb}
@@ -78,11 +78,15 @@ sizeGood buffer size = eqb (size % pageSize) 0 && (leb minBytes size && (leb siz
 unfoldable pub keyLengthGood : ℕ → Bool
 keyLengthGood k = leb 1 k && leb k maxKey
 
--- "It is good when the buffer has at least 512 bytes, F is .., the root offset is a page of F other than the first, k is 1 to 100, the free pointer
--- is 0xFFFFFFFF and features is 1; else 24"
+-- the free pointer is 0xFFFFFFFF, or "may now name a page, as the root offset does"
+unfoldable pub freeGood : ℕ → ℕ → Bool
+freeGood size p = eqb p noPage || isPage size p
+
+-- "It is good when the buffer has at least 512 bytes, F is .., the root offset is a page of F other than the first, k is 1 to 100, the free pointer" is good
+-- "and features is 1; else 24"
 unfoldable pub headerGood : List ℕ → Bool
 headerGood b =
     leb pageSize (length b)
     && (sizeGood (length b) (fileSize b)
     && (isPage (fileSize b) (rootOffset b)
-    && (keyLengthGood (keyLength b) && (eqb (freePointer b) noPage && eqb (features b) goodFeatures))))
+    && (keyLengthGood (keyLength b) && (freeGood (fileSize b) (freePointer b) && eqb (features b) goodFeatures))))

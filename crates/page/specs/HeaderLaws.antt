@@ -6,8 +6,8 @@ use mathlib.Core.List.{List}
 use lib.ListN.{length}
 use borrow.Author.Tests.{leb-true, eqb-true, le-leb, eq-eqb}
 use Rattle.basis.specs.Tests.{both, join}
-use Rattle.page.specs.Header.{minBytes, maxBytes, maxKey, pageSize, noPage, rootOffset, freePointer, fileSize, keyLength, features, goodFeatures}
-use Rattle.page.specs.Header.{isPage, sizeGood, keyLengthGood, headerGood}
+use Rattle.page.specs.Header.{minBytes, maxBytes, maxKey, pageSize, rootOffset, freePointer, fileSize, keyLength, features, goodFeatures}
+use Rattle.page.specs.Header.{isPage, sizeGood, keyLengthGood, freeGood, headerGood}
 
 -- the offset of a page other than the first
 pub record IsPage (size p : ℕ) : Type 0 where
@@ -41,7 +41,7 @@ pub record GoodHeader (b : List ℕ) : Type 0 where
   pub root : isPage (fileSize b) (rootOffset b) ≡ true
   pub key-low : 1 ≤ keyLength b
   pub key-high : keyLength b ≤ maxKey
-  pub free : freePointer b ≡ noPage
+  pub free : freeGood (fileSize b) (freePointer b) ≡ true
   pub plain : features b ≡ goodFeatures
 
 pub good-header : (b : List ℕ) → headerGood b ≡ true → GoodHeader b
@@ -65,7 +65,7 @@ good-header b e =
       root = t3 .0;
       key-low = k .0;
       key-high = k .1;
-      free = eqb-true _ _ (t5 .0);
+      free = t5 .0;
       plain = eqb-true _ _ (t5 .1);
     }
 
@@ -76,4 +76,4 @@ good-header-from b h =
     (join _ _ (join _ _ (eq-eqb _ _ (h .whole)) (join _ _ (le-leb _ _ (h .least)) (join _ _ (le-leb _ _ (h .most)) (le-leb _ _ (h .within)))))
     (join _ _ (h .root)
     (join _ _ (join _ _ (le-leb _ _ (h .key-low)) (le-leb _ _ (h .key-high)))
-    (join _ _ (eq-eqb _ _ (h .free)) (eq-eqb _ _ (h .plain))))))
+    (join _ _ (h .free) (eq-eqb _ _ (h .plain))))))

@@ -7,7 +7,8 @@ ghost use lib.ListN.{length};
 ghost use Rattle.octets.specs.Bytes.{toBe32};
 ghost use Rattle.octets.specs.Store.{put};
 ghost use Rattle.octets.specs.Order.{ordering};
-ghost use Rattle.page.specs.Header.{maxKey, maxOffset, pageSize, rootOffset, fileSize, keyLength, isPage, sizeGood, keyLengthGood, headerGood};
+ghost use Rattle.page.specs.Header.{maxKey, maxOffset, pageSize, rootOffset, freePointer, fileSize, keyLength};
+ghost use Rattle.page.specs.Header.{isPage, sizeGood, keyLengthGood, freeGood, headerGood};
 ghost use Rattle.page.specs.Page.{attributeAt, countAt, leftAt, rightAt, leafBit, capacity, entryOffset, keyAt, numberAt};
 ghost use Rattle.page.specs.Page.{attributeGood, countGood, pageGood, firstAtOrAbove};
 ghost use Rattle.page.specs.Reading.{entriesAt};
@@ -109,6 +110,14 @@ pub fn root(index: &[u8]) -> PageOffset
     PageOffset(octets::load_le32(index, ROOT_PLACE))
 }
 
+// The header's free pointer: the head of the free list, or none.
+pub fn free_pointer(index: &[u8]) -> PageOffset
+    requires { ⌜ pageSize ≤ length (now index) ⌝ }
+    ensures { λ r. ⌜ r .0 ≡ freePointer (now (index .entry)) ⌝ }
+{
+    PageOffset(octets::load_le32(index, FREE_PLACE))
+}
+
 // The header's file size, taken as an offset: the file's end, at which the next new page begins.
 pub fn file_end(index: &[u8]) -> PageOffset
     requires { ⌜ pageSize ≤ length (now index) ⌝ }
@@ -163,6 +172,13 @@ pub fn key_length_good(k: usize) -> bool
     (1 <= k) & (k <= MAX_KEY)
 }
 
+// Whether a free pointer is none or names a page.
+fn free_good(size: usize, free: PageOffset) -> bool
+    ensures { λ r. ⌜ r ≡ freeGood size (free .0) ⌝ }
+{
+    (free.0 == NO_PAGE) | is_page(size, free)
+}
+
 // Whether the header is good.
 pub fn header_good(index: &[u8]) -> bool
     ensures { λ r. ⌜ r ≡ headerGood (now (index .entry)) ⌝ }
@@ -174,7 +190,7 @@ pub fn header_good(index: &[u8]) -> bool
     size_good(index.len(), size)
         & (is_page(size, root(index))
             & (key_length_good(key_length(index))
-                & ((octets::load_le32(index, FREE_PLACE) == NO_PAGE)
+                & (free_good(size, free_pointer(index))
                     & (octets::byte(index, FEATURES_PLACE) == GOOD_FEATURES))))
 }
 

@@ -102,6 +102,9 @@ pub const INDEX_AND_TABLE_DIFFER: u32 = 31;
 // The key that is offered to the index has a control byte, one below 0x20.
 pub const CONTROL_BYTE: u32 = 32;
 
+// The key to strike off is absent.
+pub const KEY_ABSENT: u32 = 33;
+
 // ---- The dilution of a sample.
 
 // The barcode is absent from the index, or its record is deleted.

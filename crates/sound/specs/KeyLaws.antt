@@ -1,15 +1,15 @@
 -- Laws: on an index of good shape, the audit's second pass accepts exactly the keys above pages that are ceilings. Cited by the law of what the audit accepts,
 -- and by the laws of the match, which goes along the leaves. Assumes nothing.
 use Prim.Native.Nat.{ℕ, zero, suc, _-_, _%_, _≤_, _<_}
-use mathlib.Core.Path.{_≡_, refl, ap, _∙_}
-use mathlib.Core.List.{List, [], _∷_}
+use mathlib.Core.Path.{_≡_, refl, sym, ap, _∙_}
+use mathlib.Core.List.{List, [], _∷_, _++_}
 use mathlib.Core.Bool.{true, false}
 use mathlib.Core.Logic.{_↔_}
 use native.Mathlib.Omega.{arith}
 use lib.ListN.{length, length-append}
 use lib.Dec.{eqb}
 use borrow.Author.Tests.{ne-eqb}
-use Rattle.basis.specs.Lists.{All, all-left, all-right, all-map}
+use Rattle.basis.specs.Lists.{All, all-append, all-left, all-right, all-map}
 use Rattle.basis.specs.Tests.{either, both, join}
 use Rattle.tree.specs.Lists.{NonEmpty}
 use Rattle.tree.specs.ListLaws.{all-unit, all-map2}
@@ -28,7 +28,7 @@ use Rattle.sound.specs.AttributeLaws.{attributeAtLevel, or-right}
 use Rattle.sound.specs.Levels.{all-of-map, all-to-map, all-of-concat, all-to-concat, numbers, readAll, below, generation, reached, generations-reached}
 use Rattle.sound.specs.RunLaws.{Fits, Fresh}
 use Rattle.sound.specs.CeilingLaws.{Full, full-some, full-children, PageCeilings, entries-ceilings, OwnLast, Exactly, own-entries, own-page}
-use Rattle.sound.specs.MarkLaws.{fresh-few, unmarked-length, once-fresh}
+use Rattle.sound.specs.MarkLaws.{fresh-left, fresh-few, unmarked-length, once-fresh}
 use Rattle.sound.specs.LevelLaws.{same-suc, chain-is, next-head, leaf-known, FullAbove}
 use Rattle.sound.specs.ShapeLaws.{rootEntry, levelPages, Shape, least-one, levels-inside, levels-counts, entries-filled, tree-sized}
 
@@ -200,7 +200,9 @@ module _ (b : List ℕ) (k size root : ℕ) (whole : size % pageSize ≡ 0) (mos
       let all = reached C (suc h) (rootEntry root) in
       let in-all = generations-reached C (λ p. isPage size p ≡ true) (suc h) (rootEntry root)
       (λ i l. levels-inside b k size root h (s .levels) i (omega arith)) in
-      let fresh : Fresh unmarked (reached (entriesAt k size b) (suc (s .height)) (rootEntry root)) = once-fresh size all whole most in-all (s .once) in
+      let in-file = all-append (λ p. isPage size p ≡ true) all (s .free) in-all (s .freeInside) in
+      let fresh : Fresh unmarked (reached (entriesAt k size b) (suc (s .height)) (rootEntry root)) =
+      fresh-left unmarked all (s .free) (once-fresh size (all ++ s .free) whole most in-file (s .once)) in
       let few = fresh-few size unmarked all most unmarked-length in-all fresh in
       let here = level-few b k size most (suc h) i (rootEntry root) (omega arith) in
       chain-is b k size most maxPages noPage (levelPages b k size root i) (omega arith) (levels-inside b k size root h (s .levels) i l) (s .levels i l .linked)

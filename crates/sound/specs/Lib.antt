@@ -15,6 +15,8 @@ pub mod RunLaws
 pub mod EntryLaws
 -- Laws: the marks of the pages met, against how often each page is met
 pub mod MarkLaws
+-- Laws: the audit's walk along the free list
+pub mod FreeLaws
 -- Laws: the audit's passes from level to level
 pub mod LevelLaws
 -- Laws: good levels, against document 01's clauses on the tree, but for keys above pages

@@ -2,7 +2,7 @@
 use Prim.Native.Nat.{ℕ, _+_, _≤_, _<_}
 use mathlib.Core.Path.{_≡_, sym, ap, ap₂, _∙_, subst, fun-ext}
 use mathlib.Core.Bool.{true}
-use mathlib.Core.List.{List, [], _∷_}
+use mathlib.Core.List.{List, [], _∷_, _++_}
 use native.Mathlib.Nat.{zero-add}
 use native.Mathlib.Omega.{arith}
 use lib.ListN.{length, getD}
@@ -18,14 +18,15 @@ use Rattle.tree.specs.Pairs.{Ascending}
 use Rattle.tree.specs.Tree.{Tree, pairs, pages, level}
 use Rattle.tree.specs.Store.{Store, readTree}
 use Rattle.tree.specs.Clauses.{Ceilings, Linked}
+use Rattle.tree.specs.FreeChain.{Chained}
 use Rattle.page.specs.Header.{pageSize, noPage, rootOffset, freePointer, fileSize, keyLength, features, isPage, headerGood}
 use Rattle.page.specs.HeaderLaws.{is-page, good-header, good-header-from}
-use Rattle.page.specs.Page.{attributeAt, rootBit, leafBit}
+use Rattle.page.specs.Page.{attributeAt, rightAt, rightPlace, entriesStart, entryArea, rootBit, leafBit}
 use Rattle.page.specs.KeyOrder.{bytesOrder}
 use Rattle.page.specs.Reading.{entriesAt}
 use Rattle.page.specs.ReadingLaws.{window-window, entries-none, entries-same, attribute-same, count-same, left-same, right-same}
 use Rattle.sound.specs.Levels.{pages-generation, generation-level}
-use Rattle.sound.specs.Sound.{indexTree, indexPages, linksOf, CountGood, Sound}
+use Rattle.sound.specs.Sound.{indexTree, indexPages, linksOf, CountGood, FreePage, Sound}
 
 -- two buffers with the same first F bytes; the first is sound
 module _ (a b : List ℕ) (same : window a 0 (fileSize a) ≡ window b 0 (fileSize a)) (long : fileSize a ≤ length b) (s : Sound a) where
@@ -66,7 +67,7 @@ module _ (a b : List ℕ) (same : window a 0 (fileSize a) ≡ window b 0 (fileSi
         root = rw (size, root) at (g .root);
         key-low = rw key at (g .key-low);
         key-high = rw key at (g .key-high);
-        free = rw free at (g .free);
+        free = rw (size, free) at (g .free);
         plain = rw plain at (g .plain);
       })
 
@@ -107,13 +108,29 @@ module _ (a b : List ℕ) (same : window a 0 (fileSize a) ≡ window b 0 (fileSi
   attribute : (p : ℕ) → Inside p → attributeAt a p ≡ attributeAt b p
   attribute p i = attribute-same a b p (page p i)
 
+  -- the free list, whose pages name what they named, and a free page
+  chained-same : (p : ℕ) (ps : List ℕ) → All Inside ps → Chained noPage (rightAt a) p ps → Chained noPage (rightAt b) p ps
+  chained-same p [] i c = c
+  chained-same p (q ∷ ps) i c = (c .0, rw (right-same a b q (page q (i .0))) at (chained-same (rightAt a q) ps (i .1) (c .1)))
+
+  free-page : (p : ℕ) → Inside p → FreePage a p → FreePage b p
+  free-page p i f =
+      let u = is-page (fileSize a) p i in (
+        sym (part p rightPlace (omega arith)) ∙ f .0,
+        sym (part (p + entriesStart) entryArea (omega arith)) ∙ f .1,
+      )
+
   -- Theorem: the second is sound too
   pub sound-same : Sound b
   sound-same = record {
     header = header;
     height = h;
     inside = at-pages Inside (λ p. isPage (fileSize b) p ≡ true) (λ p i x. rw size at x) (s .inside);
-    once = λ p e. subst (λ (t : Tree (List ℕ) h). occ p (pages h t) ≡ 1) (tree h) (s .once p (rw size e));
+    free = s .free;
+    freeList = rw free at (chained-same (freePointer a) (s .free) (s .freeInside) (s .freeList));
+    freeInside = rw size at (s .freeInside);
+    freePages = all-map2 Inside (FreePage a) (FreePage b) free-page (s .free) (s .freeInside) (s .freePages);
+    once = λ p e. subst (λ (t : Tree (List ℕ) h). occ p (pages h t ++ s .free) ≡ 1) (tree h) (s .once p (rw size e));
     attributes = at-pages (λ p. attributeAt a p ≤ 3) (λ p. attributeAt b p ≤ 3) (λ p i x. rw (attribute p i) at x) (s .attributes);
     rootBits = at-pages (λ p. rootBit (attributeAt a p) ≡ eqb p (rootOffset a)) (λ p. rootBit (attributeAt b p) ≡ eqb p (rootOffset b))
         (λ p i x. rw (attribute p i, root) at x) (s .rootBits);

@@ -9,12 +9,14 @@ use mathlib.Core.Bool.{Bool, true, false, cond, not, _&&_, _||_}
 use mathlib.Core.Option.{Option, none, some}
 use lib.ListN.{getD, set, replicate}
 use lib.Dec.{eqb}
+use Rattle.octets.specs.Store.{window}
 use Rattle.octets.specs.Order.{ordering, isBelow, isEqual}
 use Rattle.tree.specs.Lists.{concatMap}
-use Rattle.page.specs.Header.{maxBytes, maxLevels, pageSize, noPage, rootOffset, fileSize, keyLength, isPage}
-use Rattle.page.specs.Page.{attributeAt, countAt, leftAt, rightAt, leafBit, countGood}
+use Rattle.page.specs.Header.{maxBytes, maxLevels, pageSize, noPage, rootOffset, freePointer, fileSize, keyLength, isPage}
+use Rattle.page.specs.Page.{attributeAt, countAt, leftAt, rightAt, leafBit, countGood, rightPlace, entriesStart, entryArea}
 use Rattle.page.specs.Reading.{entriesAt}
 use Rattle.page.specs.Children.{isLeaf, childrenOf, firstChild}
+use Rattle.sound.specs.Sound.{zeros}
 
 abbrev pub Entries : Type 0
 Entries = List (List ℕ × ℕ)
@@ -101,6 +103,29 @@ markedFrom m (suc l) j = eqb (getD m j 0) 1 && markedFrom m l (j + 1)
 abbrev pub closed : Bool → ℕ → Progress × List ℕ → Level × List ℕ
 closed leaf first t = (record { good = t .0 .good && eqb (t .0 .next) noPage; leaf = leaf; first = first }, t .1)
 
+-- the page at p is zero but for bytes 8-11
+unfoldable pub isFreePage : List ℕ → ℕ → Bool
+isFreePage b p =
+    isEqual (ordering (window b p rightPlace) (zeros rightPlace))
+    && isEqual (ordering (window b (p + entriesStart) entryArea) (zeros entryArea))
+
+-- the page at p is a free page of the file, and the marks m do not have it
+unfoldable pub freeFits : List ℕ → ℕ → ℕ → List ℕ → Bool
+freeFits b size p m = isPage size p && (isFreePage b p && eqb (getD m (p / pageSize) 0) 0)
+
+-- the free list from p on, n pages at most: each fits and gets its mark, and the last names none
+unfoldable pub checkFree : List ℕ → ℕ → ℕ → ℕ → List ℕ → Bool × List ℕ
+checkFree b size zero p m = (eqb p noPage, m)
+checkFree b size (suc n) p m =
+    elim (eqb p noPage) [
+      | true ↦ (true, m)
+      | false ↦ elim (freeFits b size p m) [ true ↦ checkFree b size n (rightAt b p) (set m (p / pageSize) 1) | false ↦ (false, m) ]
+    ]
+
+-- the free list, which begins at p, is good, and then every page but the first is marked
+unfoldable pub restFree : List ℕ → ℕ → ℕ → List ℕ → Bool
+restFree b size p m = let f = checkFree b size maxPages p m in f .0 && markedFrom (f .1) (size / pageSize - 1) 1
+
 module _ (b : List ℕ) (k size : ℕ) where
   abbrev pub entriesOf : ℕ → Entries
   entriesOf p = entriesAt k size b p
@@ -151,9 +176,9 @@ module _ (b : List ℕ) (k size : ℕ) where
   levelsUnder zero t = t
   levelsUnder (suc l) t = elim (t .0 .good && not (t .0 .leaf)) [ true ↦ levelsUnder l (nextLevel (t .0 .first) (t .1)) | false ↦ t ]
 
-  -- the last level is good, its pages are leaves, and every page but the first is marked
-  abbrev pub complete : Level × List ℕ → Bool
-  complete t = t .0 .good && (t .0 .leaf && markedFrom (t .1) (size / pageSize - 1) 1)
+  -- the last level is good, its pages are leaves, and every other page but the first is free
+  abbrev pub complete : ℕ → Level × List ℕ → Bool
+  complete free t = t .0 .good && (t .0 .leaf && restFree b size free (t .1))
 
   -- the number of levels under the page at p, l at most, which the first children show
   unfoldable pub heightOf : ℕ → ℕ → ℕ
@@ -204,7 +229,7 @@ module _ (b : List ℕ) (k size : ℕ) where
 -- all but the keys above pages, of an index whose header is good, from the marks m on
 unfoldable pub shapeGood : List ℕ → List ℕ → Bool
 shapeGood b m =
-    complete b (keyLength b) (fileSize b)
+    complete b (keyLength b) (fileSize b) (freePointer b)
     (levelsUnder b (keyLength b) (fileSize b) (maxLevels - 1) (rootLevel b (keyLength b) (fileSize b) (rootOffset b) m))
 
 -- the keys above pages

@@ -2,7 +2,7 @@
 -- tree. Cited by the laws of what the audit accepts and of keys above pages, and by the laws of lookup and match on a sound index. Assumes nothing.
 use Prim.Native.Nat.{ℕ, zero, suc, _-_, _≤_, _<_}
 use mathlib.Core.Path.{_≡_, refl, sym, ap, _∙_, subst}
-use mathlib.Core.List.{List, [], _∷_}
+use mathlib.Core.List.{List, [], _∷_, _++_}
 use mathlib.Core.Bool.{Bool, true, false}
 use mathlib.Core.Option.{none}
 use native.Mathlib.Nat.{min-eq-left}
@@ -13,7 +13,7 @@ use borrow.Author.Tests.{eq-eqb, ne-eqb, eqb-true, eqb-false}
 use Rattle.basis.specs.Lists.{All, all-map}
 use Rattle.basis.specs.Tests.{either}
 use Rattle.tree.specs.Lists.{NonEmpty, concatMap, occ}
-use Rattle.tree.specs.ListLaws.{all-map2, nonEmpty-length, occ-head, occ-not-head}
+use Rattle.tree.specs.ListLaws.{all-map2, nonEmpty-length, occ-append, occ-here, occ-head, occ-not-head}
 use Rattle.tree.specs.Pairs.{Ascending}
 use Rattle.tree.specs.Tree.{Tree, pairs}
 use Rattle.tree.specs.Clauses.{least, Sized, Ceilings, Linked}
@@ -24,7 +24,7 @@ use Rattle.page.specs.KeyOrder.{bytesOrder}
 use Rattle.page.specs.HeaderLaws.{good-header}
 use Rattle.page.specs.Reading.{entriesAt}
 use Rattle.page.specs.ReadingLaws.{length-entries, entries-none}
-use Rattle.sound.specs.Sound.{indexTree, linksOf, CountGood, Sound}
+use Rattle.sound.specs.Sound.{indexTree, indexPages, linksOf, CountGood, FreePage, FreeList, Sound}
 use Rattle.sound.specs.Rule.{Entries, lastOf}
 use Rattle.sound.specs.AttributeLaws.{attributeAtLevel, root-bit, leaf-bit, attribute-small, attribute-is, count-good, good-count}
 use Rattle.sound.specs.Levels.{all-of-map, all-to-map, numbers, below, generation, generation-below, reached, reached-generations, join-map}
@@ -60,16 +60,20 @@ module _ (b : List ℕ) (k size root : ℕ) where
   abbrev pub CountedLevels : ℕ → Type 0
   CountedLevels h = AtLevels h (λ i ps. All (CountGood b k h) ps)
 
-  -- each page of the file is reached once
-  abbrev pub ReachedOnce : ℕ → Type 0
-  ReachedOnce h = (p : ℕ) → isPage size p ≡ true → occ p (reached (entriesAt k size b) (suc h) (rootEntry root)) ≡ 1
+  -- each page of the file is once among those that are reached and the pages `free`
+  abbrev pub OnceAmong : ℕ → List ℕ → Type 0
+  OnceAmong h free = (p : ℕ) → isPage size p ≡ true → occ p (reached (entriesAt k size b) (suc h) (rootEntry root) ++ free) ≡ 1
 
--- all levels of an index are good, and every page of the file is reached once
+-- all levels of an index are good, and every page of the file is reached once or, in a free page's form, on the free list once
 pub record Shape (b : List ℕ) (k size root : ℕ) : Type 0 where
   pub height : ℕ
   pub few : height < maxLevels
   pub levels : GoodLevels b k size root height
-  pub once : ReachedOnce b k size root height
+  pub free : List ℕ
+  pub freeList : FreeList b free
+  pub freeInside : All (λ p. isPage size p ≡ true) free
+  pub freePages : All (FreePage b) free
+  pub once : OnceAmong b k size root height free
 
 pub least-one : (h : ℕ) → 0 < h → least h ≡ 1
 least-one zero l = absurd (omega arith)
@@ -239,6 +243,23 @@ module _ (b : List ℕ) where
   abbrev B : ℕ → Entries
   B = entriesAt (keyLength b) (fileSize b) b
 
+  -- pages that are reached are those of the tree, also among others
+  among-tree : (h : ℕ) (free : List ℕ) (p : ℕ)
+      → occ p (indexPages b h ++ free) ≡ occ p (reached (entriesAt (keyLength b) (fileSize b) b) (suc h) (rootEntry (rootOffset b)) ++ free)
+  among-tree h free p =
+      let t = tree-pages B [] R h p in
+      let u = occ-append p (indexPages b h) free in
+      let v = occ-append p (reached B (suc h) (rootEntry R)) free in
+      omega arith
+
+  -- the root is reached, and so not among others
+  root-once : (h : ℕ) (free : List ℕ)
+      → occ R (reached (entriesAt (keyLength b) (fileSize b) b) (suc h) (rootEntry (rootOffset b)) ++ free) ≡ 1
+      → occ R (reached (entriesAt (keyLength b) (fileSize b) b) (suc h) (rootEntry (rootOffset b))) ≡ 1
+  root-once h free e =
+      let rest = reached B h (below B (rootEntry R)) in
+      omega (arith, occ-append R (R ∷ rest) free, occ-here R rest)
+
   -- the leaf pairs of an index of that shape ascend, and their record numbers are above 0
   pub shape-pairs : headerGood b ≡ true → (s : Shape b (keyLength b) (fileSize b) (rootOffset b))
       → Ascending bytesOrder (pairs (s .height) (indexTree b (s .height))) × All (λ e. 0 < e .1) (pairs (s .height) (indexTree b (s .height)))
@@ -259,10 +280,14 @@ module _ (b : List ℕ) where
       record {
         header = e;
         height = h;
+        free = s .free;
+        freeList = s .freeList;
         inside = generation-pages B [] R h (λ p. isPage (fileSize b) p ≡ true) inside;
-        once = λ p o. tree-pages B [] R h p ∙ s .once p o;
+        freeInside = s .freeInside;
+        once = λ p o. among-tree h (s .free) p ∙ s .once p o;
+        freePages = s .freePages;
         attributes = generation-pages B [] R h (λ p. attributeAt b p ≤ 3) (levels-attributes b K F R h (s .levels));
-        rootBits = generation-pages B [] R h (λ p. rootBit (attributeAt b p) ≡ eqb p (rootOffset b)) (levels-root b K F R h (s .levels) (s .once R (g .root)));
+        rootBits = generation-pages B [] R h (λ p. rootBit (attributeAt b p) ≡ eqb p (rootOffset b)) (levels-root b K F R h (s .levels) (root-once h (s .free) (s .once R (g .root))));
         leafBits = generation-level B [] R h (λ j ps. All (λ p. leafBit (attributeAt b p) ≡ eqb j 0) ps) (levels-leaf b K F R h (s .levels));
         levels = omega arith;
         counts = generation-pages B [] R h (CountGood b (keyLength b) h) counts;
@@ -273,8 +298,8 @@ module _ (b : List ℕ) where
       }
 
   -- Theorem: a sound index has that shape
-  pub sound-once : (s : Sound b) → ReachedOnce b (keyLength b) (fileSize b) (rootOffset b) (s .height)
-  sound-once s p o = sym (tree-pages B [] R (s .height) p) ∙ s .once p o
+  pub sound-once : (s : Sound b) → OnceAmong b (keyLength b) (fileSize b) (rootOffset b) (s .height) (s .free)
+  sound-once s p o = sym (among-tree (s .height) (s .free) p) ∙ s .once p o
 
   pub sound-levels : (s : Sound b) → GoodLevels b (keyLength b) (fileSize b) (rootOffset b) (s .height)
   sound-levels s i l =
@@ -285,7 +310,7 @@ module _ (b : List ℕ) where
         fit = clauses-fit b K F R h i l (levelPages b K F R i) (inside i l)
             (pages-generation B [] R h (λ p. attributeAt b p ≤ 3) (s .attributes) i l)
             (pages-generation B [] R h (λ p. rootBit (attributeAt b p) ≡ eqb p (rootOffset b)) (s .rootBits) i l)
-            (level-root b K F R h (sound-once s R (good-header b (s .header) .root)) i l)
+            (level-root b K F R h (root-once h (s .free) (sound-once s R (good-header b (s .header) .root))) i l)
             (level-generation B [] R h (λ j ps. All (λ p. leafBit (attributeAt b p) ≡ eqb j 0) ps) (s .leafBits) i l) (counts i l);
         linked = level-generation B [] R h (λ j ps. Linked noPage (linksOf b) noPage ps) (s .links) i l;
         checked = clauses-checked b K F R h inside counts (good-header b (s .header) .most) (s .ascending) (s .records) i l;
@@ -294,4 +319,13 @@ module _ (b : List ℕ) where
   abbrev pub sound-shape : Sound b → Shape b (keyLength b) (fileSize b) (rootOffset b)
   sound-shape s =
       let few = s .levels in
-      record { height = s .height; few = omega arith; levels = sound-levels s; once = sound-once s }
+      record {
+        height = s .height;
+        few = omega arith;
+        levels = sound-levels s;
+        free = s .free;
+        freeList = s .freeList;
+        freeInside = s .freeInside;
+        freePages = s .freePages;
+        once = sound-once s;
+      }

@@ -3,17 +3,20 @@
 -- `Sound`. Insertion's rule computes with the test of Rule, and the laws of book/InsertionAnswers say its answers by `Sound`.
 use Prim.Native.Nat.{ℕ, _+_, _≤_, _<_}
 use mathlib.Core.Path.{_≡_}
-use mathlib.Core.List.{List}
+use mathlib.Core.List.{List, _++_}
 use mathlib.Core.Bool.{true, false}
 use mathlib.Core.Logic.{_↔_, _⊎_}
+use lib.ListN.{replicate}
 use lib.Dec.{eqb}
 use Rattle.basis.specs.Lists.{All}
+use Rattle.octets.specs.Store.{window}
 use Rattle.tree.specs.Lists.{occ}
 use Rattle.tree.specs.Pairs.{Ascending}
 use Rattle.tree.specs.Tree.{Tree, pairs, pages, level}
 use Rattle.tree.specs.Clauses.{least, Ceilings, Links, AllLinked}
-use Rattle.page.specs.Header.{maxLevels, noPage, rootOffset, fileSize, keyLength, isPage, headerGood}
-use Rattle.page.specs.Page.{attributeAt, countAt, leftAt, rightAt, rootBit, leafBit, capacity}
+use Rattle.tree.specs.FreeChain.{Chained}
+use Rattle.page.specs.Header.{maxLevels, noPage, rootOffset, freePointer, fileSize, keyLength, isPage, headerGood}
+use Rattle.page.specs.Page.{attributeAt, countAt, leftAt, rightAt, rootBit, leafBit, capacity, rightPlace, entriesStart, entryArea}
 use Rattle.page.specs.KeyOrder.{bytesOrder}
 use Rattle.page.specs.Reading.{treeOf}
 
@@ -33,15 +36,32 @@ linksOf b = record { left = leftAt b; right = rightAt b }
 abbrev pub CountGood : List ℕ → ℕ → ℕ → ℕ → Type 0
 CountGood b k h p = (least h ≤ countAt b p) × (countAt b p ≤ capacity k)
 
+-- n bytes of zero
+abbrev pub zeros : ℕ → List ℕ
+zeros n = replicate n 0
+
+-- "a free page is zero but for bytes 8-11": the page at p
+abbrev pub FreePage : List ℕ → ℕ → Type 0
+FreePage b p = (window b p rightPlace ≡ zeros rightPlace) × (window b (p + entriesStart) entryArea ≡ zeros entryArea)
+
+-- the list is the free list: "Header 4-7 may now name a page", its first, and bytes 8-11 of each "name the next or none"
+abbrev pub FreeList : List ℕ → List ℕ → Type 0
+FreeList b ps = Chained noPage (rightAt b) (freePointer b) ps
+
 -- "Sound": the clauses, each with the paper's words
 pub record Sound (b : List ℕ) : Type 0 where
   -- "good header"
   pub header : headerGood b ≡ true
   -- the number of levels under the root
   pub height : ℕ
-  -- "every page but the first is reached from the root exactly once": only pages other than the first are reached, and each of them once
+  -- the free list
+  pub free : List ℕ
+  pub freeList : FreeList b free
+  -- "each page but the first is in the tree once or, in that form, on the free list once": only pages other than the first are there, and each of them once
   pub inside : All (λ p. isPage (fileSize b) p ≡ true) (indexPages b height)
-  pub once : (p : ℕ) → isPage (fileSize b) p ≡ true → occ p (indexPages b height) ≡ 1
+  pub freeInside : All (λ p. isPage (fileSize b) p ≡ true) free
+  pub once : (p : ℕ) → isPage (fileSize b) p ≡ true → occ p (indexPages b height ++ free) ≡ 1
+  pub freePages : All (FreePage b) free
   -- "attributes 0 to 3"
   pub attributes : All (λ p. attributeAt b p ≤ 3) (indexPages b height)
   -- "root bit on the root only"

@@ -2,8 +2,30 @@
 ghost use Prim.Native.Nat.{_≤_};
 ghost use lib.ListN.{length};
 
+// The kinds of calls of a list, as `batch` has them: a lookup;
+const LOOKUP: u8 = 0;
+
+// an insertion, whose record's number stands behind its key;
+const INSERTION: u8 = 1;
+
+// a removal.
+const REMOVAL: u8 = 2;
+
+// The kind of a line that is no call of the list.
+const NO_CALL: u8 = 255;
+
+// The kind of a line, by its first letter.
+fn kind_of(letter: u8) -> u8 {
+    match letter {
+        b'l' => LOOKUP,
+        b'i' => INSERTION,
+        b'r' => REMOVAL,
+        _ => NO_CALL,
+    }
+}
+
 // Appends a call to the first `at` bytes of a list, and answers where the list ends then. A call that does not fit is left out.
-fn append_call(list: &mut [u8], at: usize, key: &[u8], is_insertion: bool, number: u32) -> usize
+fn append_call(list: &mut [u8], at: usize, key: &[u8], kind: u8, number: u32) -> usize
     requires { ⌜ (at ≤ length (now list)) × (length (now key) ≤ 256) ⌝ }
     ensures { λ r. ⌜ r ≤ length (now (list .exit)) ⌝ }
 {
@@ -13,16 +35,16 @@ fn append_call(list: &mut [u8], at: usize, key: &[u8], is_insertion: bool, numbe
     }
     octets::store_le16(list, at + 1, key.len() as u32);
     octets::copy_in(list, at + 3, key);
-    if is_insertion {
-        list[at] = 1;
+    if kind == INSERTION {
+        list[at] = kind;
         octets::store_le32(list, end, number);
         return end + 4;
     }
-    list[at] = 0;
+    list[at] = kind;
     end
 }
 
-// Appends the call of a line, `i KEY RECORD ..` or `l KEY ..`. Another line is no call of the list.
+// Appends the call of a line, `i KEY RECORD ..`, `l KEY ..` or `r KEY ..`. Another line is no call of the list.
 fn append_line(list: &mut [u8], at: usize, line: &[u8]) -> usize
     requires { ⌜ at ≤ length (now list) ⌝ }
     ensures { λ r. ⌜ r ≤ length (now (list .exit)) ⌝ }
@@ -30,15 +52,15 @@ fn append_line(list: &mut [u8], at: usize, line: &[u8]) -> usize
     if line.len() == 0 {
         return at;
     }
-    let kind = line[0];
-    if (kind != b'i') & (kind != b'l') {
+    let kind = kind_of(line[0]);
+    if kind == NO_CALL {
         return at;
     }
     let rest = test_lines::after_word(line);
     let number = test_lines::first_number(test_lines::after_word(rest));
     let mut key = [0u8; 256];
     let n = test_lines::hex_bytes(test_lines::word(rest), &mut key);
-    append_call(list, at, &key[..n], kind == b'i', number)
+    append_call(list, at, &key[..n], kind, number)
 }
 
 // Writes the calls of all lines as bytes, and answers how many bytes there are.
@@ -67,7 +89,7 @@ struct Outcome {
     audit: u32,
 }
 
-// Prints answer n, from 0, of a lookup or of an insertion.
+// Prints answer n, from 0, of a lookup, an insertion or a removal.
 fn print_reply(kind: u8, answers: &[u8], n: usize, made: usize) {
     if made <= n {
         lines::print(b" not made");

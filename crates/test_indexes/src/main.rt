@@ -1,7 +1,7 @@
 // Audits indexes that an independent implementation made, and looks keys up in them: each accepted insertion of a list of calls must be found in the index
-// file after the list, with its record. Then the program runs each list as bytes on a buffer of zeros, prints the answers, and compares the buffer with the
-// index file. Other lists run on an index of an earlier release, whose keys have control bytes, and on indexes whose keys above pages are ceilings or break that
-// rule. At last the program audits damaged copies of one index. README.md beside src/ says where the files came from.
+// file after the list, with its record, unless its key was struck off since. Then the program runs each list as bytes on a buffer of zeros, prints the answers,
+// and compares the buffer with the index file. Other lists run on an index of an earlier release, whose keys have control bytes, and on indexes whose keys above
+// pages are ceilings or break that rule. At last the program audits damaged copies of one index. README.md beside src/ says where the files came from.
 mod lists;
 
 // Whether a line is an insertion that was accepted, `i KEY RECORD 0`.
@@ -34,7 +34,7 @@ fn looks_up(index: &[u8], key: &[u8], wanted: u32) -> bool {
     }
 }
 
-// How many insertions of a list were accepted, and how many of their keys are found.
+// How many insertions of a list were accepted, and how many of their pairs are found.
 struct Tally {
     accepted: u32,
     found: u32,
@@ -89,7 +89,7 @@ fn print_index(name: &[u8], index: &[u8], calls: &[u8]) {
 // Reads an index file and its list of calls, and prints all lines of the two. The list runs on a buffer of `size` zeros.
 fn run(name: &[u8], index_path: &[u8], calls_path: &[u8], size: usize) {
     let mut index = io::large_buffer();
-    let mut calls = io::large_buffer();
+    let mut calls = files::space();
     let n = files::load(index_path, &mut index).len;
     let m = files::load(calls_path, &mut calls).len;
     print_index(name, &index[..n], &calls[..m]);
@@ -160,6 +160,40 @@ fn run_on_file(name: &[u8], index_path: &[u8], calls_path: &[u8], after_path: &[
     let n = files::load(after_path, &mut after).len;
     print_audit(name, &index);
     lists::run_on_index(name, &calls[..m], &after[..n], &mut index);
+}
+
+// Lists with removals. In k6_k10_to_nothing all keys go.
+fn removals() {
+    run(
+        b"k6_k10_mixed",
+        b"k6_k10_mixed.idx",
+        b"k6_k10_mixed.calls",
+        32768,
+    );
+    run(
+        b"k6_k10_to_nothing",
+        b"k6_k10_to_nothing.idx",
+        b"k6_k10_to_nothing.calls",
+        16384,
+    );
+    run(
+        b"k6_k1_bytes",
+        b"k6_k1_bytes.idx",
+        b"k6_k1_bytes.calls",
+        8192,
+    );
+    run(
+        b"k6_k100_deep",
+        b"k6_k100_deep.idx",
+        b"k6_k100_deep.calls",
+        65536,
+    );
+    run(
+        b"k6_k100_full",
+        b"k6_k100_full.idx",
+        b"k6_k100_full.calls",
+        4096,
+    );
 }
 
 // An index of an earlier release, with control bytes in its keys.
@@ -247,6 +281,7 @@ fn main() {
     run(b"k1_bytes", b"k1_bytes.idx", b"k1_bytes.calls", 8192);
     short_keys();
     run(b"k5_control", b"k5_control.idx", b"k5_control.calls", 16384);
+    removals();
     long_keys();
     paper_lists();
     earlier_release();

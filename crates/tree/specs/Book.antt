@@ -6,14 +6,15 @@ use mathlib.Core.Option.{Option, none, some}
 use Prim.Native.Nat.{ℕ}
 use lib.Dec.{eqb}
 use Rattle.tree.specs.Order.{Order}
-use Rattle.tree.specs.Pairs.{get, byKey, has, insertPair}
+use Rattle.tree.specs.Pairs.{get, byKey, has, insertPair, removePair}
 
 -- the arguments of a call, "the buffer left out"
 pub data Call (K : Type 0) : Type 0 where
   insertion : K → ℕ → Call K
+  removalOf : K → Call K
   lookupOf : K → Call K
 
--- a refusal with its number; an insertion's yes; a lookup's record, or absent
+-- a refusal with its number; an insertion's or a removal's yes; a lookup's record, or absent
 pub data Answer : Type 0 where
   refused : ℕ → Answer
   accepted : Answer
@@ -35,6 +36,10 @@ pub record KeyTests (K : Type 0) : Type 0 where
 abbrev pub verdict : Bool → Bool → ℕ → Bool → Bool → Answer
 verdict fits barred r held full =
     refusedIf (not fits) 27 (refusedIf barred 32 (refusedIf (eqb r 0) 28 (refusedIf held 29 (refusedIf full 30 accepted))))
+
+-- removal: "27 for a key not of k bytes, else 33 for a key not in it"; then accepted
+abbrev pub striking : Bool → Bool → Answer
+striking fits held = refusedIf (not fits) 27 (refusedIf (not held) 33 accepted)
 
 -- what a lookup that is not refused answers
 abbrev pub foundOrAbsent : Option ℕ → Answer
@@ -73,14 +78,17 @@ finalOf next [] b = b
 finalOf next (c ∷ cs) b = finalOf next cs (next c b)
 
 module _ {K : Type 0} (O : Order K) (tests : KeyTests K) where
-  -- the book's answer to a call, told whether the answer was 30
+  -- the book's answer to a call, told whether the answer was 30. A removal goes by the key: it names no record number, and 0 stands for it
   abbrev pub bookAnswer : Call K → Bool → List (K × ℕ) → Answer
   bookAnswer (insertion k r) full book = verdict (tests .fits k) (tests .barred k) r (has (byKey O) (k, r) book) full
+  bookAnswer (removalOf k) full book = striking (tests .fits k) (has (byKey O) (k, 0) book)
   bookAnswer (lookupOf k) full book = finding (tests .fits k) (get O k book)
 
-  -- the book after a call: "none of these changes the book, nor does 30. Otherwise it is accepted and its pair goes in"
+  -- the book after a call: "none of these changes the book, nor does 30. Otherwise it is accepted and its pair goes in"; of a removal that is not refused "the
+  -- pair goes"
   abbrev pub bookAfter : Call K → Bool → List (K × ℕ) → List (K × ℕ)
   bookAfter (insertion k r) full book = cond (isAccepted (bookAnswer (insertion k r) full book)) (insertPair (byKey O) (k, r) book) book
+  bookAfter (removalOf k) full book = cond (isAccepted (bookAnswer (removalOf k) full book)) (removePair (byKey O) (k, 0) book) book
   bookAfter (lookupOf k) full book = book
 
   -- the book's answers to a list of calls, and the book after it

@@ -3,19 +3,23 @@
 use mathlib.Core.Path.{_≡_, refl, sym, ap, _∙_}
 use mathlib.Core.Bool.{Bool}
 use mathlib.Core.List.{List, [], _∷_}
-use Prim.Native.Nat.{ℕ, _<_}
+use Prim.Native.Nat.{ℕ, _≤_, _<_}
+use native.Mathlib.Omega.{arith}
+use lib.ListN.{length}
 use Rattle.basis.specs.Lists.{All}
 use Rattle.tree.specs.Order.{Order}
-use Rattle.tree.specs.Book.{Call, insertion, lookupOf, Answer, KeyTests, isNoRoom, noRooms, resultsOf, finalOf, bookAnswer, bookAfter}
+use Rattle.tree.specs.Book.{Call, insertion, removalOf, lookupOf, Answer, KeyTests, isNoRoom, noRooms, resultsOf, finalOf, bookAnswer, bookAfter}
 use Rattle.tree.specs.Book.{bookAnswers, bookFinal, BookClaim}
 use Rattle.tree.specs.Index.{Index, held, Setting, noRoomFor, answer, next}
 use Rattle.tree.specs.SoundIndex.{SoundIndex}
 use Rattle.tree.specs.IndexLaws.{answer-book, answer-room, next-book}
+use Rattle.tree.specs.ReuseLaws.{sizeFor, next-bounded, next-grows}
 
 -- the book after a call depends on the answer alone
 bookAfter-same : {K : Type 0} (O : Order K) (tests : KeyTests K) (c : Call K) (f g : Bool) (book : List (K × ℕ)) →
     bookAnswer O tests c f book ≡ bookAnswer O tests c g book → bookAfter O tests c f book ≡ bookAfter O tests c g book
 bookAfter-same O tests (insertion k r) f g book e = rw e
+bookAfter-same O tests (removalOf k) f g book e = refl
 bookAfter-same O tests (lookupOf k) f g book e = refl
 
 -- B are the states, each read as an index; Inv is what every call keeps, and Ok what is asked of a call (a record number of four bytes); a call's answer, its
@@ -73,3 +77,33 @@ module _ {K B : Type 0} (s : Setting K) (two : 1 < s .capacity) (tests : KeyTest
   -- Theorem: the claim about the whole list
   pub book-claim : (cs : List (Call K)) → All Ok cs → (b : B) → Inv b → BookClaim (s .order) tests answerB nextB leaves noRoomB cs b (leaves b)
   book-claim cs o b i = record { answers = list-answers cs o b i; room = list-room cs o b i; pairs = list-pairs cs o b i }
+
+  -- at most m pairs are held at a time, from state b on
+  abbrev pub HoldsAtMost : ℕ → List (Call K) → B → Type 0
+  HoldsAtMost m [] b = length (leaves b) ≤ m
+  HoldsAtMost m (c ∷ cs) b = (length (leaves b) ≤ m) × HoldsAtMost m cs (nextB c b)
+
+  holds-now : (m : ℕ) (cs : List (Call K)) (b : B) → HoldsAtMost m cs b → length (leaves b) ≤ m
+  holds-now m [] b l = l
+  holds-now m (c ∷ cs) b l = l .0
+
+  -- Theorem: pages are reused: a list that holds at most m pairs at a time keeps the file within the size for m pairs, however long the list is
+  pub list-bounded : (cs : List (Call K)) → All Ok cs → (b : B) → Inv b → (m : ℕ) → 0 < m → HoldsAtMost m cs b → read b .size ≤ sizeFor s m →
+      read (finalOf nextB cs b) .size ≤ sizeFor s m
+  list-bounded [] o b i m pos l u = u
+  list-bounded (c ∷ cs) o b i m pos l u =
+      let after : Inv (nextB c b) = keep c b (o .0) i in
+      list-bounded cs (o .1) (nextB c b) after m pos (l .1)
+      (rw (same-next c b (o .0) i)
+      (next-bounded s tests c (read b) (rw (same-next c b (o .0) i) at (sound (nextB c b) after)) m pos
+      (rw (same-next c b (o .0) i) at (holds-now m cs (nextB c b) (l .1))) u))
+
+  -- Theorem: the file never shrinks
+  pub list-grows : (cs : List (Call K)) → All Ok cs → (b : B) → Inv b → read b .size ≤ read (finalOf nextB cs b) .size
+  list-grows [] o b i = omega arith
+  list-grows (c ∷ cs) o b i = omega (
+    arith,
+    ap (λ j. j .size) (same-next c b (o .0) i),
+    next-grows s tests c (read b),
+    list-grows cs (o .1) (nextB c b) (keep c b (o .0) i),
+  )

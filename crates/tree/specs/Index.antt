@@ -1,4 +1,5 @@
--- Steps: an index as a tree with its file size, the rule for refusal 30, and the calls on it. The laws of bytes read the index in a buffer as such an index.
+-- Steps: an index as a tree with its free list and its file size, the rule for refusal 30, and the calls on it. The laws of bytes read the index in a buffer as
+-- such an index.
 use mathlib.Core.Bool.{Bool, false, cond, _||_}
 use mathlib.Core.List.{List, []}
 use Prim.Native.Nat.{ℕ, _*_}
@@ -8,30 +9,34 @@ use Rattle.tree.specs.Order.{Order}
 use Rattle.tree.specs.Pairs.{has}
 use Rattle.tree.specs.Tree.{Tree, pairs, lookup}
 use Rattle.tree.specs.Clauses.{Links}
-use Rattle.tree.specs.Keeping.{Keeping, distinctKeys}
+use Rattle.tree.specs.Keeping.{Route, Keeping, distinctKeys}
 use Rattle.tree.specs.Insertion.{Grown, insert}
 use Rattle.tree.specs.Room.{needs, levelsAfter}
 use Rattle.tree.specs.Relinking.{relinked}
+use Rattle.tree.specs.Removal.{remove, emptied}
+use Rattle.tree.specs.Unlinking.{unlinkAll}
+use Rattle.tree.specs.FreeList.{freeAfter, joinFree}
 use Rattle.tree.specs.Supply.{takenPage, sizeAfter}
-use Rattle.tree.specs.Book.{Call, insertion, lookupOf, Answer, KeyTests, verdict, finding, isAccepted}
+use Rattle.tree.specs.Book.{Call, insertion, removalOf, lookupOf, Answer, KeyTests, verdict, striking, finding, isAccepted}
 
--- an index: the levels under the root, the tree, whose pages are named by their offsets, and the file size F
+-- an index: the levels under the root, the tree, whose pages are named by their offsets, the free list from its head on, and the file size F
 pub record Index (K : Type 0) : Type 0 where
   pub height : ℕ
   pub tree : Tree K height
+  pub free : List ℕ
   pub size : ℕ
 
 -- the leaf pairs of an index
 abbrev pub held : {K : Type 0} → Index K → List (K × ℕ)
 held i = pairs (i .height) (i .tree)
 
--- a fresh index: root 512, F 1,024, and "count 0" there
+-- a fresh index: root 512, F 1,024, and "count 0" there; no page is free
 abbrev pub fresh : {K : Type 0} → Index K
-fresh = record { height = 0; tree = (pageSize, []); size = 2 * pageSize }
+fresh = record { height = 0; tree = (pageSize, []); free = []; size = 2 * pageSize }
 
--- an index of file size `size` after its tree has become g
-abbrev pub grown : {K : Type 0} → ℕ → Grown K → Index K
-grown size g = record { height = g .0; tree = g .1; size = sizeAfter size (g .2) }
+-- an index of free list `free` and file size `size` after its tree has become g
+abbrev pub grown : {K : Type 0} → List ℕ → ℕ → Grown K → Index K
+grown free size g = record { height = g .0; tree = g .1; free = freeAfter (g .2) free; size = sizeAfter free size (g .2) }
 
 -- what an index is kept by: the order of its keys, the capacity of a page, and the most that F and the levels may be: the buffer's length or 1,048,576,
 -- whichever is less, and 11
@@ -46,31 +51,54 @@ module _ {K : Type 0} (s : Setting K) where
   abbrev pub keptBy : Keeping K
   keptBy = distinctKeys (s .order)
 
-  -- the rule for 30, of an insertion's pair and of a call: "30 is given exactly when F would pass the buffer or 1,048,576, or levels would pass 11"
+  -- the rule for 30, of an insertion's pair and of a call: "30 is given exactly when F would pass the buffer or 1,048,576, or levels would pass 11"; F grows by
+  -- the pages that the free list lacks
   abbrev pub outOfRoom : K × ℕ → Index K → Bool
   outOfRoom e i =
-      ltb (s .maxSize) (sizeAfter (i .size) (needs (keptBy .route e) (s .capacity) (i .height) (i .tree)))
+      ltb (s .maxSize) (sizeAfter (i .free) (i .size) (needs (keptBy .route e) (s .capacity) (i .height) (i .tree)))
       || ltb (s .maxLevels) (levelsAfter (keptBy .route e) (s .capacity) (i .height) (i .tree))
 
   abbrev pub noRoomFor : Call K → Index K → Bool
   noRoomFor (insertion k r) i = outOfRoom (k, r) i
+  noRoomFor (removalOf k) i = false
   noRoomFor (lookupOf k) i = false
 
   -- the answer to a call
   abbrev pub answer : KeyTests K → Call K → Index K → Answer
-  answer tests (insertion k r) i = verdict (tests .fits k) (tests .barred k) r (has (keptBy .pairLe) (k, r) (held i)) (outOfRoom (k, r) i)
+  answer tests (insertion k r) i =
+      verdict (tests .fits k) (tests .barred k) r (has (keptBy .pairLe) (k, r) (held i)) (outOfRoom (k, r) i)
+  answer tests (removalOf k) i = striking (tests .fits k) (has (keptBy .pairLe) (k, 0) (held i))
   answer tests (lookupOf k) i = finding (tests .fits k) (lookup (s .order) k (i .height) (i .tree))
 
-  -- the index after an accepted insertion, and after a call
+  -- the tree after an insertion, whose new pages come from the supply
+  abbrev pub insertedTree : K × ℕ → Index K → Grown K
+  insertedTree e i = insert keptBy (s .capacity) (takenPage (i .free) (i .size)) e (i .height) (i .tree)
+
+  -- the route of a removal
+  abbrev pub strikingRoute : K → Route K
+  strikingRoute k = keptBy .route (k, 0)
+
+  -- the index after an accepted insertion, after an accepted removal, and after a call
   abbrev pub inserted : K × ℕ → Index K → Index K
-  inserted e i = grown (i .size) (insert keptBy (s .capacity) (takenPage (i .size)) e (i .height) (i .tree))
+  inserted e i = grown (i .free) (i .size) (insertedTree e i)
+
+  abbrev pub removed : K → Index K → Index K
+  removed k i = record {
+    height = remove (strikingRoute k) (i .height) (i .tree) .0;
+    tree = remove (strikingRoute k) (i .height) (i .tree) .1;
+    free = joinFree (emptied (strikingRoute k) (i .height) (i .tree)) (i .free);
+    size = i .size;
+  }
 
   abbrev pub next : KeyTests K → Call K → Index K → Index K
   next tests (insertion k r) i = cond (isAccepted (answer tests (insertion k r) i)) (inserted (k, r) i) i
+  next tests (removalOf k) i = cond (isAccepted (answer tests (removalOf k) i)) (removed k i) i
   next tests (lookupOf k) i = i
 
-  -- the links after an accepted insertion
+  -- the links after an accepted insertion, and after an accepted removal
   abbrev pub insertedLinks : K × ℕ → Index K → Links → Links
   insertedLinks e i l =
-      relinked (keptBy .route e) noPage (takenPage (i .size)) (s .capacity) (i .height) (i .tree)
-      (insert keptBy (s .capacity) (takenPage (i .size)) e (i .height) (i .tree)) l
+      relinked (keptBy .route e) noPage (takenPage (i .free) (i .size)) (s .capacity) (i .height) (i .tree) (insertedTree e i) l
+
+  abbrev pub removedLinks : K → Index K → Links → Links
+  removedLinks k i l = unlinkAll (emptied (strikingRoute k) (i .height) (i .tree)) l

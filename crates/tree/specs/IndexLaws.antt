@@ -1,19 +1,18 @@
--- Laws: a fresh index is sound; an insertion keeps a sound index sound and linked; every call answers and changes it as the book does. Cited by the theorem
--- about lists of calls and by the laws of bytes. Assumes nothing.
-use mathlib.Core.Path.{_≡_, refl, sym}
+-- Laws: a fresh index is sound; every call keeps a sound index sound and linked, and answers and changes it as the book does. Cited by the theorem about
+-- lists of calls and by the laws of bytes. Assumes nothing.
+use mathlib.Core.Path.{_≡_, refl, sym, _∙_}
 use mathlib.Core.Bool.{Bool, true, false, not, _||_}
-use Prim.Native.Nat.{ℕ, suc, _+_, _*_, _%_, _≤_, _<_}
+use Prim.Native.Nat.{ℕ, suc, _*_, _≤_, _<_}
 use native.Mathlib.Omega.{arith}
 use lib.Dec.{ltb, eqb}
-use borrow.Author.Tests.{ltb-true, ltb-false, eqb-true, eqb-false, eq-eqb, ne-eqb}
+use borrow.Author.Tests.{ltb-false, eqb-false, eq-eqb, ne-eqb}
 use Rattle.basis.specs.Tests.{either, contra}
 use Rattle.tree.specs.Constants.{pageSize, noPage}
-use Rattle.tree.specs.Lists.{occ}
-use Rattle.tree.specs.Pairs.{has}
-use Rattle.tree.specs.PairLaws.{find-get, insertPair-all}
-use Rattle.tree.specs.Tree.{pages}
+use Rattle.tree.specs.Pairs.{has, removePair}
+use Rattle.tree.specs.PairLaws.{find-get, insertPair-all, present-has}
 use Rattle.tree.specs.Clauses.{Links}
-use Rattle.tree.specs.Insertion.{Grown, grownPages, insert}
+use Rattle.tree.specs.Keeping.{Route}
+use Rattle.tree.specs.Insertion.{Grown}
 use Rattle.tree.specs.Room.{needs, levelsAfter}
 use Rattle.tree.specs.Ordered.{Rooted, lookup-find, ordered-ascending}
 use Rattle.tree.specs.RouteLaws.{Leading, distinct-leading}
@@ -22,14 +21,20 @@ use Rattle.tree.specs.InsertOrdered.{insert-ordered}
 use Rattle.tree.specs.ClauseLaws.{sized-rooted}
 use Rattle.tree.specs.InsertSized.{insert-sized}
 use Rattle.tree.specs.Supply.{takenPage, sizeAfter}
-use Rattle.tree.specs.SupplyLaws.{taken-injective, taken-some, taken-below, taken-beyond, taken-unaligned, taken-once}
-use Rattle.tree.specs.InsertPages.{newPages, Distinct, Unused, insert-pages}
+use Rattle.tree.specs.SupplyLaws.{taken-injective, taken-some}
+use Rattle.tree.specs.InsertPages.{insert-pages}
 use Rattle.tree.specs.InsertNeeds.{insert-needs}
 use Rattle.tree.specs.InsertLinks.{insert-all-linked}
-use Rattle.tree.specs.Book.{Call, insertion, lookupOf, Answer, KeyTests, accepted, refusedIf, verdict, isNoRoom, isAccepted}
+use Rattle.tree.specs.RemovalPairs.{remove-all, remove-pairs}
+use Rattle.tree.specs.RemovalOrdered.{remove-ordered}
+use Rattle.tree.specs.RemovalSized.{remove-sized, remove-low}
+use Rattle.tree.specs.RemovalLinks.{remove-all-linked}
+use Rattle.tree.specs.Book.{Call, insertion, removalOf, lookupOf, Answer, KeyTests, accepted, refusedIf, verdict, striking, isNoRoom, isAccepted}
 use Rattle.tree.specs.Book.{bookAnswer, bookAfter}
-use Rattle.tree.specs.Index.{Index, held, fresh, grown, Setting, keptBy, outOfRoom, noRoomFor, answer, inserted, insertedLinks, next}
+use Rattle.tree.specs.Index.{Index, held, fresh, Setting, keptBy, outOfRoom, noRoomFor, answer, insertedTree, strikingRoute}
+use Rattle.tree.specs.Index.{inserted, insertedLinks, removed, removedLinks, next}
 use Rattle.tree.specs.SoundIndex.{PagesOnce, SoundIndex, LinkedIndex}
+use Rattle.tree.specs.IndexPages.{pages-distinct, free-distinct, free-beyond, noPage-unused, taken-unused, grown-pages, removed-pages}
 
 -- the verdict on an insertion does not change if it is told whether it was 30
 verdict-room : (fits barred : Bool) (r : ℕ) (held full : Bool) →
@@ -67,37 +72,15 @@ accepted-acceptable true false r held full e = either (eqb r 0)
     go false true p q = contra q refl
     go false false p q = record { fitting = refl; positive = p; new = refl; room = refl }
 
--- each page is reached at most once, and no new page is among them
-module _ {K : Type 0} (i : Index K) (p : PagesOnce i) where
-  pub pages-distinct : Distinct (pages (i .height) (i .tree))
-  pages-distinct z = either (ltb z (i .size))
-      (λ e. either (eqb z 0)
-      (λ f. rw (eqb-true z 0 f) (omega (arith, p .header)))
-      (λ f. either (eqb (z % pageSize) 0)
-      (λ m. omega (arith, p .once z (omega (arith, eqb-false z 0 f)) (ltb-true z (i .size) e) (eqb-true (z % pageSize) 0 m)))
-      (λ m. omega (arith, p .unaligned z (eqb-false (z % pageSize) 0 m)))))
-      (λ e. omega (arith, p .beyond z (ltb-false z (i .size) e)))
+-- a removal is accepted only if its key fits and is there
+pub record Strikable (fits held : Bool) : Type 0 where
+  pub fitting : fits ≡ true
+  pub there : held ≡ true
 
-  pub taken-unused : Unused (takenPage (i .size)) (pages (i .height) (i .tree))
-  taken-unused j = p .beyond (takenPage (i .size) j) (omega arith)
-
-  -- after an insertion each page is reached at most once again
-  grown-pages : (g : Grown K) →
-      ((z : ℕ) → occ z (grownPages g) ≡ occ z (pages (i .height) (i .tree)) + occ z (newPages (takenPage (i .size)) (g .2))) →
-      PagesOnce (grown (i .size) g)
-  grown-pages g counts =
-      let F : ℕ = i .size in
-      let n : ℕ = g .2 in
-      record {
-        positive = omega (arith, p .positive);
-        aligned = omega (arith, p .aligned);
-        header = omega (arith, counts 0, p .header, taken-below F n 0 (p .positive));
-        once = λ z a b m. either (ltb z F)
-            (λ e. let l : z < F = ltb-true z F e in omega (arith, counts z, p .once z a l m, taken-below F n z l))
-            (λ e. let l : F ≤ z = ltb-false z F e in omega (arith, counts z, p .beyond z l, taken-once F n z (p .aligned) m l b));
-        unaligned = λ z o. omega (arith, counts z, p .unaligned z o, taken-unaligned F n z (p .aligned) o);
-        beyond = λ z a. omega (arith, counts z, p .beyond z (omega arith), taken-beyond F n z a);
-      }
+pub accepted-strikable : (fits held : Bool) → isAccepted (striking fits held) ≡ true → Strikable fits held
+accepted-strikable false held e = contra e refl
+accepted-strikable true false e = contra e refl
+accepted-strikable true true e = record { fitting = refl; there = refl }
 
 -- neither limit is passed
 room-both : (a b : Bool) → (a || b) ≡ false → (a ≡ false) × (b ≡ false)
@@ -127,14 +110,14 @@ module _ {K : Type 0} (s : Setting K) (two : 1 < s .capacity) where
       SoundIndex s (inserted s e i)
   inserted-sound i e pos f room d =
       let h : ℕ = i .height in
-      let name : ℕ → ℕ = takenPage (i .size) in
-      let g : Grown K = insert (keptBy s) (s .capacity) name e h (i .tree) in
+      let name : ℕ → ℕ = takenPage (i .free) (i .size) in
+      let g : Grown K = insertedTree s e i in
       let leading : Leading (keptBy s) e = distinct-leading (s .order) e in
       let rooted : Rooted h (i .tree) = sized-rooted (s .capacity) h (i .tree) (d .sized) in
       let needed : (g .2 ≡ needs (keptBy s .route e) (s .capacity) h (i .tree))
       × (suc (g .0) ≡ levelsAfter (keptBy s .route e) (s .capacity) h (i .tree)) =
       insert-needs (keptBy s) (s .capacity) name e h (i .tree) (omega arith) (d .sized) in
-      let limit : ℕ = sizeAfter (i .size) (needs (keptBy s .route e) (s .capacity) h (i .tree)) in
+      let limit : ℕ = sizeAfter (i .free) (i .size) (needs (keptBy s .route e) (s .capacity) h (i .tree)) in
       let levels : ℕ = levelsAfter (keptBy s .route e) (s .capacity) h (i .tree) in
       let rooms : (ltb (s .maxSize) limit ≡ false) × (ltb (s .maxLevels) levels ≡ false) =
       room-both (ltb (s .maxSize) limit) (ltb (s .maxLevels) levels) room in
@@ -153,10 +136,37 @@ module _ {K : Type 0} (s : Setting K) (two : 1 < s .capacity) where
       LinkedIndex (insertedLinks s e i l) (inserted s e i)
   inserted-linked i e l d g c =
       let p : PagesOnce i = d .pagesOnce in
-      insert-all-linked (keptBy s) (s .capacity) (omega arith) (takenPage (i .size)) (taken-injective (i .size))
-      noPage (taken-some (i .size) (p .aligned)) e (i .height) (i .tree) (d .sized)
-      (pages-distinct i p) (taken-unused i p) (p .unaligned noPage (λ u. omega arith)) l
+      insert-all-linked (keptBy s) (s .capacity) (omega arith) (takenPage (i .free) (i .size))
+      (taken-injective (i .size) (i .free) (free-distinct i p) (free-beyond i p))
+      noPage (taken-some (i .size) (i .free) (free-distinct i p) (free-beyond i p) (p .aligned) (omega (arith, noPage-unused i p)))
+      e (i .height) (i .tree) (d .sized) (pages-distinct i p) (taken-unused i p) (omega (arith, noPage-unused i p)) l
       (pages-distinct (inserted s e i) (g .pagesOnce)) c
+
+  -- Theorem: a removal, of whatever key, keeps an index sound
+  pub removed-sound : (i : Index K) (k : K) → SoundIndex s i → SoundIndex s (removed s k i)
+  removed-sound i k d =
+      let route : Route K = strikingRoute s k in
+      record {
+        ordered = remove-ordered (s .order) route (i .height) (i .tree) (d .ordered);
+        sized = remove-sized route (s .capacity) (i .height) (i .tree) (d .sized);
+        pagesOnce = removed-pages i (d .pagesOnce) s k;
+        records = remove-all (λ e. 0 < e .1) route (i .height) (i .tree) (d .records);
+        withinSize = d .withinSize;
+        withinLevels = omega (arith, d .withinLevels, remove-low route (i .height) (i .tree));
+      }
+
+  -- Theorem: a removal keeps the levels linked
+  pub removed-linked : (i : Index K) (k : K) (l : Links) → SoundIndex s i → LinkedIndex l i → LinkedIndex (removedLinks s k i l) (removed s k i)
+  removed-linked i k l d c =
+      let p : PagesOnce i = d .pagesOnce in
+      remove-all-linked (strikingRoute s k) noPage k (i .height) (i .tree) (pages-distinct i p) (omega (arith, noPage-unused i p)) l c
+
+  -- Theorem: after a removal of a key that is there, the leaf pairs are the old ones without it
+  pub removed-pairs : (i : Index K) (k : K) → SoundIndex s i → has (keptBy s .pairLe) (k, 0) (held i) ≡ true →
+      held (removed s k i) ≡ removePair (keptBy s .pairLe) (k, 0) (held i)
+  removed-pairs i k d there =
+      remove-pairs (keptBy s) (k, 0) (distinct-leading (s .order) (k, 0)) (i .height) (i .tree) (d .ordered)
+      (present-has (s .order) (k, 0) (held i) (ordered-ascending (s .order) (i .height) (i .tree) (d .ordered)) ∙ there)
 
   -- Theorem: a call is answered as the book answers it, if the book is told whether the answer is 30, or what the rule for 30 says
   pub answer-book : (tests : KeyTests K) (c : Call K) (i : Index K) → SoundIndex s i →
@@ -167,22 +177,29 @@ module _ {K : Type 0} (s : Setting K) (two : 1 < s .capacity) where
         find-get (s .order) k (held i)
             (ordered-ascending (s .order) (i .height) (i .tree) (d .ordered)),
       )
+  answer-book tests (removalOf k) i d = refl
   answer-book tests (insertion k r) i d =
       verdict-room (tests .fits k) (tests .barred k) r (has (keptBy s .pairLe) (k, r) (held i)) (outOfRoom s (k, r) i)
 
   pub answer-room : (tests : KeyTests K) (c : Call K) (i : Index K) → SoundIndex s i →
       bookAnswer (s .order) tests c (noRoomFor s c i) (held i) ≡ answer s tests c i
   answer-room tests (lookupOf k) i d = answer-book tests (lookupOf k) i d
+  answer-room tests (removalOf k) i d = refl
   answer-room tests (insertion k r) i d = refl
 
   -- Theorem: the leaf pairs after a call are the book after it
   pub next-book : (tests : KeyTests K) (c : Call K) (i : Index K) → SoundIndex s i →
       bookAfter (s .order) tests c (isNoRoom (answer s tests c i)) (held i) ≡ held (next s tests c i)
   next-book tests (lookupOf k) i d = refl
+  next-book tests (removalOf k) i d = either (isAccepted (answer s tests (removalOf k) i))
+      (λ e. let a : Strikable (tests .fits k) (has (keptBy s .pairLe) (k, 0) (held i)) =
+      accepted-strikable (tests .fits k) (has (keptBy s .pairLe) (k, 0) (held i)) e in
+      rw e (sym (removed-pairs i k d (a .there))))
+      (λ e. rw e)
   next-book tests (insertion k r) i d =
       rw (answer-book tests (insertion k r) i d)
       (either (isAccepted (answer s tests (insertion k r) i))
       (λ e. let rooted : Rooted (i .height) (i .tree) = sized-rooted (s .capacity) (i .height) (i .tree) (d .sized) in
-      rw e (sym (insert-pairs (keptBy s) (s .capacity) (takenPage (i .size)) (k, r) (distinct-leading (s .order) (k, r)) (i .height)
-      (i .tree) rooted (d .ordered))))
+      rw e (sym (insert-pairs (keptBy s) (s .capacity) (takenPage (i .free) (i .size)) (k, r) (distinct-leading (s .order) (k, r)) (i .height) (i .tree) rooted
+      (d .ordered))))
       (λ e. rw e))

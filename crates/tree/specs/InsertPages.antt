@@ -47,7 +47,7 @@ newPages-fresh name inj m (suc n) l =
     rw (ne-eqb (name m) (name n) (λ e. let d : m ≡ n = inj m n e in omega arith)) (omega (arith, newPages-fresh name inj m n (omega arith)))
 
 -- the pages at and under a page, by those under its entries
-abbrev pageAndUnder : {K C : Type 0} → (K × C → List ℕ) → K × Page K C → List ℕ
+abbrev pub pageAndUnder : {K C : Type 0} → (K × C → List ℕ) → K × Page K C → List ℕ
 pageAndUnder under x = x .1 .0 ∷ concatMap under (x .1 .1)
 
 pub splitIfOver-pages : {K C : Type 0} (cap : ℕ) (name : ℕ → ℕ) (under : K × C → List ℕ) (z : ℕ) (a : K) (p : ℕ) (q : Replacement K C) →

@@ -23,7 +23,7 @@ abbrev OneTo : {A : Type 0} → (A → Type 0) → ℕ → List A → Type 0
 OneTo S n l = All S l × (length l ≤ n) × (0 < length l)
 
 module _ {K C : Type 0} (cap : ℕ) (S : K × C → Type 0) where
-  abbrev SizedPage : K × Page K C → Type 0
+  abbrev pub SizedPage : K × Page K C → Type 0
   SizedPage x = (0 < length (x .1 .1)) × (length (x .1 .1) ≤ cap) × All S (x .1 .1)
 
   splitIfOver-sized : 0 < cap → (name : ℕ → ℕ) (a : K) (p : ℕ) (q : Replacement K C) → OneTo S (suc cap) (q .0) →
@@ -59,7 +59,7 @@ place-sized {K} {C} passes g S ok x xs n d =
       omega arith,
     )
 
-least-le : (h : ℕ) → least h ≤ 1
+pub least-le : (h : ℕ) → least h ≤ 1
 least-le zero = omega arith
 least-le (suc h) = omega arith
 

@@ -11,7 +11,7 @@ pub mod ListLaws
 pub mod Order
 -- Laws: a total order
 pub mod OrderLaws
--- Rules: lists of pairs: lookup, insertion, ascending keys
+-- Rules: lists of pairs: lookup, insertion, removal, ascending keys
 pub mod Pairs
 -- Laws: lists of pairs
 pub mod PairLaws
@@ -51,6 +51,20 @@ pub mod InsertSized
 pub mod InsertPages
 -- Laws: an insertion takes as many new pages and levels as the rule for refusal 30 says
 pub mod InsertNeeds
+-- Steps: new pages from the free list, then at the file's end; how emptied pages join the free list
+pub mod FreeList
+-- Laws: the pages taken and the pages left free
+pub mod FreeListLaws
+-- Steps: removal from a tree, and the pages emptied by it
+pub mod Removal
+-- Laws: the leaf pairs after a removal
+pub mod RemovalPairs
+-- Laws: a removal keeps the order
+pub mod RemovalOrdered
+-- Laws: a removal keeps counts within capacity
+pub mod RemovalSized
+-- Laws: the pages after a removal and the emptied ones are the old ones
+pub mod RemovalPages
 -- Steps: lookup, the run of full pages, and insertion on a store, page by page
 pub mod StoreSteps
 -- Laws: the tree that a store is read as depends on the pages reached alone
@@ -59,6 +73,10 @@ pub mod StoreLaws
 pub mod StoreLookupLaws
 -- Laws: insertion into a store is insertion into its tree
 pub mod StoreInsertLaws
+-- Steps: removal on a store, page by page
+pub mod StoreRemoval
+-- Laws: removal from a store is removal from its tree
+pub mod StoreRemovalLaws
 -- Steps: links after an insertion
 pub mod Relinking
 -- Laws: the pages of each level after an insertion
@@ -67,16 +85,36 @@ pub mod InsertLevels
 pub mod LinkLaws
 -- Laws: all levels are linked again after an insertion
 pub mod InsertLinks
+-- Steps: links after a removal
+pub mod Unlinking
+-- Laws: levels are linked again after pages are unlinked
+pub mod UnlinkLaws
+-- Laws: which pages are left alone if pages are unlinked
+pub mod AwayLaws
+-- Laws: the pages of each level after a removal
+pub mod RemovalLevels
+-- Laws: all levels are linked again after a removal
+pub mod RemovalLinks
+-- Rules: the free list as it lies in a file
+pub mod FreeChain
+-- Laws: the free list after a page joins it, and how it is read
+pub mod FreeChainLaws
+-- Laws: how many pages a file and a tree have
+pub mod PageCount
 -- Steps: the supply of new pages
 pub mod Supply
 -- Laws: the pages that are taken from the supply
 pub mod SupplyLaws
--- Steps: an index as a tree with a file size, the rule for refusal 30, the calls
+-- Steps: an index as a tree with a free list and a file size, the rule for refusal 30, the calls
 pub mod Index
 -- Steps: what every call keeps of an index
 pub mod SoundIndex
+-- Laws: each page is in the tree once or on the free list once
+pub mod IndexPages
 -- Laws: a call keeps an index sound and linked, and answers as the book does
 pub mod IndexLaws
+-- Laws: F never shrinks, and is bounded by the pairs held; a key struck off and put in again is found
+pub mod ReuseLaws
 -- Laws: demand 3 for any state that is read as an index
 pub mod BookTheorem
 -- Laws: keys with one above all, for trees whose last children have no key

@@ -1,15 +1,15 @@
--- Laws: lookup and insertion in ascending lists of pairs, and their first and last keys. Cited by the laws of ordered trees. Assumes nothing.
+-- Laws: lookup, insertion and removal in ascending lists of pairs, and their first and last keys. Cited by the laws of ordered trees. Assumes nothing.
 use mathlib.Core.Path.{_≡_, refl, sym, ap, subst, _∙_}
 use mathlib.Core.Bool.{Bool, true, false, _&&_}
 use mathlib.Core.List.{List, [], _∷_, _++_, map}
 use mathlib.Core.Option.{none, some}
 use Rattle.basis.specs.Lists.{All, all-append, all-left, all-map}
-use Rattle.basis.specs.Tests.{either, contra}
-use Rattle.tree.specs.Lists.{NonEmpty}
+use Rattle.basis.specs.Tests.{either, contra, both}
+use Rattle.tree.specs.Lists.{NonEmpty, concatMap}
 use Rattle.tree.specs.Order.{Order, Le, Lt}
 use Rattle.tree.specs.OrderLaws.{le-refl, lt-le, lt-le-trans, le-lt-trans}
 use Rattle.tree.specs.Pairs.{follow, firstKey, lastKey, seek, ifEqual, find, get, byKey, Below, Above, Ascending}
-use Rattle.tree.specs.Pairs.{has, present, insertPair, AllAbove, AllBelow}
+use Rattle.tree.specs.Pairs.{has, present, insertPair, removePair, AllAbove, AllBelow}
 
 -- the last key
 pub lastKey-default : {K C : Type 0} (a b : K) (xs : List (K × C)) → NonEmpty xs → lastKey a xs ≡ lastKey b xs
@@ -123,6 +123,26 @@ module _ {K : Type 0} (O : Order K) where
       (λ l. either (O .le (x .0) (e .0)) (λ f. rw (l, f)) (λ f. rw (l, f) (sym (has-above e x xs l (a .0)))))
       (λ l. rw l (present-has e xs (a .1)))
 
+  -- a pair that is put in is found by its key
+  pub find-inserted : {C : Type 0} (k : K) (r : C) (xs : List (K × C)) → find O k (insertPair (byKey O) (k, r) xs) ≡ some r
+  find-inserted k r [] = rw (le-refl O k, le-refl O k)
+  find-inserted k r (x ∷ xs) = either (O .le k (x .0)) (λ e. rw (e, le-refl O k, le-refl O k)) (λ e. rw (e, e) (find-inserted k r xs))
+
+  -- a key that no pair of a list has, whatever record number stands beside it, is not found
+  pub has-get : {C : Type 0} (k : K) (r : C) (xs : List (K × C)) → has (byKey O) (k, r) xs ≡ false → get O k xs ≡ none
+  has-get k r [] h = refl
+  has-get k r (x ∷ xs) h = either (O .le k (x .0) && O .le (x .0) k)
+      (λ s. contra refl (rw s at h))
+      (λ s. rw s (has-get k r xs (rw s at h)))
+
+  -- a key that is struck off an ascending list is not there any more
+  pub has-removed : {C : Type 0} (k : K) (r q : C) (xs : List (K × C)) → Ascending O xs →
+      has (byKey O) (k, r) (removePair (byKey O) (k, q) xs) ≡ false
+  has-removed k r q [] a = refl
+  has-removed k r q (x ∷ xs) a = either (O .le k (x .0) && O .le (x .0) k)
+      (λ s. rw s (has-above (k, r) x xs (both (O .le k (x .0)) (O .le (x .0) k) s .0) (a .0)))
+      (λ s. rw (s, s) (has-removed k r q xs (a .1)))
+
 -- lists of whole entries
 module _ {A : Type 0} (le : A → A → Bool) where
   -- insertion of an entry passes over entries below it, and does not reach entries above it
@@ -159,6 +179,19 @@ module _ {A : Type 0} (le : A → A → Bool) where
   pub present-here : (e : A) (xs ys : List A) → AllAbove le e ys → present le e (xs ++ ys) ≡ present le e xs
   present-here e [] ys v = present-none e ys v
   present-here e (x ∷ xs) ys v = either (le e x) (λ l. rw l) (λ l. rw l (present-here e xs ys v))
+
+  -- removal of an entry passes over entries below it, and does not reach entries above it
+  pub removePair-past : (e : A) (xs ys : List A) → AllBelow le e xs → removePair le e (xs ++ ys) ≡ xs ++ removePair le e ys
+  removePair-past e [] ys b = refl
+  removePair-past e (x ∷ xs) ys b = rw (b .0) (ap (λ l. x ∷ l) (removePair-past e xs ys (b .1)))
+
+  removePair-none : (e : A) (ys : List A) → AllAbove le e ys → removePair le e ys ≡ ys
+  removePair-none e [] v = refl
+  removePair-none e (y ∷ ys) v = rw (v .0 .0, v .0 .1) (ap (λ l. y ∷ l) (removePair-none e ys (v .1)))
+
+  pub removePair-here : (e : A) (xs ys : List A) → AllAbove le e ys → removePair le e (xs ++ ys) ≡ removePair le e xs ++ ys
+  removePair-here e [] ys v = removePair-none e ys v
+  removePair-here e (x ∷ xs) ys v = either (le e x && le x e) (λ l. rw l) (λ l. rw l (ap (λ z. x ∷ z) (removePair-here e xs ys v)))
 
   -- an entry that is none of a list's
   abbrev pub Absent : A → List A → Type 0

@@ -72,6 +72,11 @@ module _ {A : Type 0} (le : A → A → Bool) where
   insertPair e [] = e ∷ []
   insertPair e (x ∷ xs) = cond (le e x) (e ∷ x ∷ xs) (x ∷ insertPair e xs)
 
+  -- a list in any order without the first entry that is at or above e and at or below it
+  abbrev pub removePair : A → List A → List A
+  removePair e [] = []
+  removePair e (x ∷ xs) = cond (le e x && le x e) xs (x ∷ removePair e xs)
+
   -- all entries are above an entry; all are below it
   abbrev pub AllAbove : A → List A → Type 0
   AllAbove e xs = All (λ x. (le e x ≡ true) × (le x e ≡ false)) xs

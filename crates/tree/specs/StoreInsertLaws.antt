@@ -34,7 +34,7 @@ pagesOf-append S h z xs ys =
     ∙ occ-append z (pagesOf S h xs) (pagesOf S h ys))
 
 -- a page that was written, if the pages under its entries were not
-page-read : {K : Type 0} (S S′ : Store K) (h p : ℕ) (es : List (K × ℕ)) → S′ p ≡ es → AgreeOn S S′ (pagesOf S h es) →
+pub page-read : {K : Type 0} (S S′ : Store K) (h p : ℕ) (es : List (K × ℕ)) → S′ p ≡ es → AgreeOn S S′ (pagesOf S h es) →
     readChild S′ (suc h) p ≡ (p, map (readEntry S h) es)
 page-read {K} S S′ h p es e s = ap (λ (l : List (Entry K h)). (p, l)) (ap (map (readEntry S′ h)) e ∙ frame-entries S S′ h es s)
 

@@ -36,7 +36,7 @@ fn put_field_words(line: &mut Line, n: usize, code: u32) -> usize {
     }
 }
 
-// 21 to 32: a memo file and an index. No refusal has the code 26.
+// 21 to 33: a memo file and an index. No refusal has the code 26.
 fn put_index_words(line: &mut Line, n: usize, code: u32) -> usize {
     match code {
         refusal::MEMO_NUMBER_OR_PLACE => put(line, n, b"memo number or place"),
@@ -50,14 +50,14 @@ fn put_index_words(line: &mut Line, n: usize, code: u32) -> usize {
         refusal::NO_ROOM => put(line, n, b"no room"),
         refusal::INDEX_AND_TABLE_DIFFER => put(line, n, b"index and table differ"),
         refusal::CONTROL_BYTE => put(line, n, b"control byte in the key"),
+        refusal::KEY_ABSENT => put(line, n, b"key absent"),
         _ => n,
     }
 }
 
-// 33 to 40: document 02. The crate `refusal` does not name those that nothing gives yet.
+// 34 to 40: document 02. The crate `refusal` does not name those that nothing gives yet.
 fn put_other_words(line: &mut Line, n: usize, code: u32) -> usize {
     match code {
-        33 => put(line, n, b"key absent"),
         34 => put(line, n, b"no number to index"),
         refusal::BARCODE_ABSENT => put(line, n, b"barcode absent or deleted"),
         refusal::NO_CONCENTRATION => put(line, n, b"no concentration"),
@@ -77,7 +77,7 @@ pub fn put_words(line: &mut Line, n: usize, code: u32) -> usize {
     if code <= 20 {
         return put_field_words(line, n, code);
     }
-    if code <= 32 {
+    if code <= 33 {
         return put_index_words(line, n, code);
     }
     put_other_words(line, n, code)

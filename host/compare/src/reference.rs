@@ -1,4 +1,4 @@
-//! Document 01 in plain Rust, written from the paper and sharing nothing with the proved library: what that is compared with.
+//! Documents 01 and 02 in plain Rust, written from the papers and sharing nothing with the proved library: what that is compared with.
 
 /// A refusal's number.
 pub type Refusal = u32;
@@ -546,6 +546,7 @@ const MAX_BYTES: u32 = 1_048_576;
 
 struct Head {
     root: u32,
+    free: u32,
     size: u32,
     k: usize,
 }
@@ -560,6 +561,7 @@ fn header(b: &[u8]) -> Option<Head> {
     }
     let head = Head {
         root: le32(b, 0),
+        free: le32(b, 4),
         size: le32(b, 8),
         k: le16(b, 12) as usize,
     };
@@ -567,8 +569,8 @@ fn header(b: &[u8]) -> Option<Head> {
         && (1024..=MAX_BYTES).contains(&head.size)
         && head.size as usize <= b.len()
         && is_page(head.size, head.root)
+        && (head.free == NONE || is_page(head.size, head.free))
         && (1..=100).contains(&head.k)
-        && le32(b, 4) == NONE
         && b[14] == 1;
     good.then_some(head)
 }
@@ -653,6 +655,7 @@ fn sound(b: &[u8], head: &Head) -> bool {
         };
         if leaf {
             return leaves_good(b, head.k, &level)
+                && free_list_good(b, head, &mut reached)
                 && reached[1..].iter().all(|&r| r)
                 && leaf_bounds(b, head.k, head.root).is_some();
         }
@@ -706,6 +709,23 @@ fn children(b: &[u8], head: &Head, level: &[u32]) -> Option<Vec<u32>> {
         }
     }
     Some(below)
+}
+
+/// Whether each page of the free list is reached for the first time and is zero but for bytes 8 to 11, which name the next or none.
+fn free_list_good(b: &[u8], head: &Head, reached: &mut [bool]) -> bool {
+    let mut p = head.free;
+    while p != NONE {
+        if !is_page(head.size, p) || reached[p as usize / 512] {
+            return false;
+        }
+        reached[p as usize / 512] = true;
+        let page = &b[p as usize..][..512];
+        if page[..8].iter().chain(&page[12..]).any(|&c| c != 0) {
+            return false;
+        }
+        p = le32(page, 8);
+    }
+    true
 }
 
 /// The first and the last leaf key under a page of a tree of good shape, if each key above a child is at or above the leaf keys under the child, and below those
@@ -826,32 +846,55 @@ pub fn insert(b: &mut [u8], key: &[u8], record: u32) -> Result<(), Refusal> {
         return Err(25);
     }
     let k = head.k;
-    let path = path_to_leaf(b, k, head.root, key).ok_or(29u32)?;
+    let (path, present) = path_to_leaf(b, k, head.root, key);
+    if present {
+        return Err(29);
+    }
     let full = |(p, _): &&(u32, usize)| Page::at(b, k, *p).count() == capacity(k);
     let splits = path.iter().rev().take_while(full).count();
     let new_root = splits == path.len();
-    let size = head.size as usize + 512 * (splits + new_root as usize);
+    let need = splits + new_root as usize;
+    let size = head.size as usize + 512 * need.saturating_sub(free_pages(b, &head));
     if size > b.len() || size > MAX_BYTES as usize || path.len() + new_root as usize > 11 {
         return Err(30);
     }
-    put_le32(b, 8, size as u32);
-    put_in(b, k, &path, key, record, head.size);
+    put_in(b, k, &path, key, record);
     Ok(())
 }
 
-/// The pages from the root to the leaf, each with the entry gone through, the leaf's being where the key belongs; none where the key is there.
-fn path_to_leaf(b: &[u8], k: usize, root: u32, key: &[u8]) -> Option<Vec<(u32, usize)>> {
+/// How many pages are on the free list of a sound index.
+fn free_pages(b: &[u8], head: &Head) -> usize {
+    let mut pages = 0;
+    let mut p = head.free;
+    while p != NONE {
+        pages += 1;
+        p = le32(b, p as usize + 8);
+    }
+    pages
+}
+
+/// A new page: the free list's first, else the one at the file's end. The header names what is left.
+fn new_page(b: &mut [u8]) -> u32 {
+    let (free, size) = (le32(b, 4), le32(b, 8));
+    if free == NONE {
+        put_le32(b, 8, size + 512);
+        return size;
+    }
+    let next = le32(b, free as usize + 8);
+    put_le32(b, 4, next);
+    free
+}
+
+/// The pages from the root to the leaf, each with the entry gone through, the leaf's being where the key belongs; and whether the key is there.
+fn path_to_leaf(b: &[u8], k: usize, root: u32, key: &[u8]) -> (Vec<(u32, usize)>, bool) {
     let mut path = Vec::new();
     let mut p = root;
     loop {
         let page = Page::at(b, k, p);
         let i = page.reach(key);
         if page.leaf() {
-            if i.is_some_and(|i| page.key(i) == key) {
-                return None;
-            }
             path.push((p, i.unwrap_or(page.count())));
-            return Some(path);
+            return (path, i.is_some_and(|i| page.key(i) == key));
         }
         let i = i.unwrap_or(page.count() - 1);
         path.push((p, i));
@@ -859,24 +902,24 @@ fn path_to_leaf(b: &[u8], k: usize, root: u32, key: &[u8]) -> Option<Vec<(u32, u
     }
 }
 
-/// The insertion itself, from the leaf up; new pages are taken from `next` on.
-fn put_in(b: &mut [u8], k: usize, path: &[(u32, usize)], key: &[u8], record: u32, mut next: u32) {
+/// The insertion itself, from the leaf up.
+fn put_in(b: &mut [u8], k: usize, path: &[(u32, usize)], key: &[u8], record: u32) {
     // what the page below left for the one above: nothing, or the new page beside the old one
     let (leaf, i) = path[path.len() - 1];
-    let mut carried = take_in(b, k, leaf, i, key, record, &mut next);
+    let mut carried = take_in(b, k, leaf, i, key, record);
     for depth in (0..path.len() - 1).rev() {
         let (p, i) = path[depth];
         if let Some(q) = carried {
             let high = Page::at(b, k, p).key(i).max(key).to_vec();
             let low = last_key(b, k, path[depth + 1].0);
             put_key(b, k, p, i, &low);
-            carried = take_in(b, k, p, i + 1, &high, q, &mut next);
+            carried = take_in(b, k, p, i + 1, &high, q);
         } else if Page::at(b, k, p).key(i) < key {
             put_key(b, k, p, i, key);
         }
     }
     if let Some(q) = carried {
-        let (old, top) = (path[0].0, next);
+        let (old, top) = (path[0].0, new_page(b));
         let mut entries = Vec::new();
         for p in [old, q] {
             entries.extend_from_slice(&last_key(b, k, p));
@@ -907,15 +950,7 @@ fn write_page(b: &mut [u8], p: u32, attribute: u32, count: usize, links: [u32; 2
 }
 
 /// Puts an entry into a page as its entry i; a page that then has too many is split, and its new neighbour is handed back.
-fn take_in(
-    b: &mut [u8],
-    k: usize,
-    p: u32,
-    i: usize,
-    key: &[u8],
-    number: u32,
-    next: &mut u32,
-) -> Option<u32> {
+fn take_in(b: &mut [u8], k: usize, p: u32, i: usize, key: &[u8], number: u32) -> Option<u32> {
     let page = Page::at(b, k, p);
     let (a, left, right, count) = (
         page.attribute(),
@@ -930,8 +965,7 @@ fn take_in(
         write_page(b, p, a, count, [left, right], &entries);
         return None;
     }
-    let q = *next;
-    *next += 512;
+    let q = new_page(b);
     let kept = count.div_ceil(2);
     let (lower, upper) = entries.split_at(kept * (k + 4));
     write_page(b, p, a & !1, kept, [left, q], lower);
@@ -940,6 +974,62 @@ fn take_in(
         put_le32(b, right as usize + 4, q);
     }
     Some(q)
+}
+
+/// Strikes a key off: 24, 27, 25, 33.
+pub fn remove(b: &mut [u8], key: &[u8]) -> Result<(), Refusal> {
+    let head = header(b).ok_or(24u32)?;
+    if key.len() != head.k {
+        return Err(27);
+    }
+    if !sound(b, &head) {
+        return Err(25);
+    }
+    let (path, present) = path_to_leaf(b, head.k, head.root, key);
+    if !present {
+        return Err(33);
+    }
+    strike_off(b, head.k, &path);
+    Ok(())
+}
+
+/// The removal itself, from the leaf up: a page that is emptied joins the free list and its parent's entry goes, but the root becomes an empty leaf.
+fn strike_off(b: &mut [u8], k: usize, path: &[(u32, usize)]) {
+    for (depth, &(p, i)) in path.iter().enumerate().rev() {
+        take_out(b, k, p, i);
+        if Page::at(b, k, p).count() > 0 {
+            return;
+        }
+        if depth == 0 {
+            write_page(b, p, 3, 0, [NONE, NONE], &[]);
+        } else {
+            unlink(b, k, p);
+            let next = le32(b, 4);
+            write_page(b, p, 0, 0, [0, next], &[]);
+            put_le32(b, 4, p);
+        }
+    }
+}
+
+/// Takes entry i out of a page.
+fn take_out(b: &mut [u8], k: usize, p: u32, i: usize) {
+    let page = Page::at(b, k, p);
+    let (a, links, count) = (page.attribute(), [page.left(), page.right()], page.count());
+    let mut entries = page.bytes[12..12 + count * (k + 4)].to_vec();
+    entries.drain(i * (k + 4)..(i + 1) * (k + 4));
+    write_page(b, p, a, count - 1, links, &entries);
+}
+
+/// Links the neighbours of a page to each other.
+fn unlink(b: &mut [u8], k: usize, p: u32) {
+    let page = Page::at(b, k, p);
+    let (left, right) = (page.left(), page.right());
+    if left != NONE {
+        put_le32(b, left as usize + 8, right);
+    }
+    if right != NONE {
+        put_le32(b, right as usize + 4, left);
+    }
 }
 
 /// An index against a table: 1 to 10, 24, 12, 13, 27, 25, 31.

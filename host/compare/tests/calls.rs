@@ -1,5 +1,5 @@
-//! The library and the plain Rust reading of document 01, both against another program's lists of calls: every answer, and the bytes of the index that
-//! they leave.
+//! The library and the plain Rust reading of documents 01 and 02, both against another program's lists of calls: every answer, and the bytes of the index
+//! that they leave.
 use gatherloom::{Answer, Index, Lookup};
 use gatherloom_compare::reference;
 use std::{
@@ -8,13 +8,18 @@ use std::{
 };
 
 /// Each list with the length of the buffer that it was made with.
-const LISTS: [(&str, usize); 12] = [
+const LISTS: [(&str, usize); 17] = [
     ("k10_ascending", 32768),
     ("k10_descending", 32768),
     ("k10_random", 32768),
     ("k1_bytes", 8192),
     ("k100_deep", 65536),
     ("k5_control", 16384),
+    ("k6_k10_mixed", 32768),
+    ("k6_k10_to_nothing", 16384),
+    ("k6_k1_bytes", 8192),
+    ("k6_k100_deep", 65536),
+    ("k6_k100_full", 4096),
     ("k100_full", 4096),
     ("k100_deep_raised", 65536),
     ("k100_full_raised", 4096),
@@ -27,6 +32,7 @@ const LISTS: [(&str, usize); 12] = [
 struct Calls {
     fresh: fn(&mut [u8], u32, &[u8]) -> u32,
     insert: fn(&mut [u8], &[u8], u32) -> u32,
+    remove: fn(&mut [u8], &[u8]) -> u32,
     audit: fn(&[u8]) -> u32,
     lookup: fn(&[u8], &[u8]) -> [u32; 3],
 }
@@ -34,6 +40,7 @@ struct Calls {
 const LIBRARY: Calls = Calls {
     fresh: |index, k, expression| by_number(Index::fresh(index, k, expression)),
     insert: |index, key, record| by_number(Index::over(index).insert(key, record)),
+    remove: |index, key| by_number(Index::over(index).remove(key)),
     audit: |index| by_number(Index::over(index).audit()),
     lookup: |index, key| match Index::over(index).lookup(key) {
         Ok(Lookup::Found { record, pages }) => [0, record, pages],
@@ -45,6 +52,7 @@ const LIBRARY: Calls = Calls {
 const PLAIN: Calls = Calls {
     fresh: |index, k, expression| reference::fresh(index, k, expression).err().unwrap_or(0),
     insert: |index, key, record| reference::insert(index, key, record).err().unwrap_or(0),
+    remove: |index, key| reference::remove(index, key).err().unwrap_or(0),
     audit: |index| reference::audit(index).err().unwrap_or(0),
     lookup: |index, key| match reference::lookup(index, key) {
         reference::Looked::Found(record, pages) => [0, record, pages],
@@ -79,6 +87,7 @@ fn call(calls: &Calls, index: &mut [u8], words: &[&str]) -> (Vec<u32>, Vec<u32>)
             3,
         ),
         "i" => (vec![(calls.insert)(index, &key(), number(words[2]))], 3),
+        "r" => (vec![(calls.remove)(index, &key())], 2),
         "a" => (vec![(calls.audit)(index)], 1),
         "l" => ((calls.lookup)(index, &key()).to_vec(), 2),
         other => panic!("no call: {other}"),

@@ -1,5 +1,6 @@
 -- `audit::shape_good` meets its contract: the header's numbers are good, so that the file lies within the index and has a mark for each page.
 -- Assumes nothing.
+use native.Mathlib.Omega.{arith}
 use Rattle.page.specs.HeaderLaws.{good-header}
 use Rattle.audit.specs.PassLaws.{in-file, shape-answer}
 use borrow.Author.Needs.{needs}
@@ -13,7 +14,7 @@ start c = c .before .before .before
 abbrev sized : tie.After-root → tie.After-file-size
 sized c = c .before .before
 
-abbrev walked : tie.After-all-marked-arg → tie.After-levels
+abbrev walked : tie.After-rest-free-arg → tie.After-levels
 walked c = c .before .before .before
 
 key-length-requires : tie.Need-key-length-requires
@@ -32,28 +33,29 @@ levels-requires c κs =
     let pre = start key .pre in
     (in-file _ _ _ (pre .0) (key .key-length .ensures) (size .file-size .ensures), pre .1)
 
-all-marked-requires : tie.Need-all-marked-requires
-all-marked-requires c κs =
-    let size = sized (walked c .before) in
+rest-free-requires : tie.Need-rest-free-requires
+rest-free-requires c κs =
+    let levels = walked c in
+    let size = sized (levels .before) in
     let pre = start (size .before) .pre in
     let g = good-header _ (pre .0) in
     let l = pre .1 in
     let e = size .file-size .ensures in
-    search needs
+    (omega arith, omega arith, omega arith, search needs)
 
 same-length : tie.Need-same-length
 same-length c = search needs
 
 returns : tie.Need-returns
 returns c =
-    let marked = c .before .before in
-    let levels = walked (marked .before) in
+    let rest = c .before .before .before .before in
+    let levels = walked (rest .before) in
     let root = levels .before in
     let size = sized root in
     let key = size .before in
     let args = start key .args in
     shape-answer (args .index .now) _ _ _ (levels .levels .result) (args .marks .now) _ _
-    (key .key-length .ensures) (size .file-size .ensures) (root .root .ensures) (levels .levels .ensures) (marked .all-marked .ensures)
+    (key .key-length .ensures) (size .file-size .ensures) (root .root .ensures) (levels .levels .ensures) (rest .rest-free .ensures)
 
 pub shape-good-spec : {M : Type 1} → statement M
 shape-good-spec =
@@ -63,6 +65,6 @@ shape-good-spec =
     file-size-requires
     root-requires
     levels-requires
-    all-marked-requires
+    rest-free-requires
     same-length
     returns)

@@ -1,20 +1,23 @@
 -- `batch::make_call` meets its contract: a whole call lies inside the list, and the call of its kind is the rule's. Assumes nothing.
 use native.Mathlib.Omega.{arith}
 use Rattle.batch.specs.EncodingLaws.{Whole, whole}
-use Rattle.batch.specs.RunLaws.{lookup-made, insertion-made}
+use Rattle.batch.specs.RunLaws.{lookup-made, removal-made, insertion-made}
 use borrow.Author.Needs.{needs}
 use Rattle.batch.proofs.make_call.Statement.{statement}
 use Rattle.batch.proofs.make_call.Tie as tie
 
--- the places: back from the key's length to the start, and from either side of the kind's test to the key's length
+-- the places: back from the key's length to the start, and from each side of the kind's tests to the key's length
 abbrev start : tie.After-load-le16 → tie.Start
 start c = c .before .before .before
 
 abbrev lookup-size : tie.Then1 → tie.After-load-le16
 lookup-size c = c .before .before
 
-abbrev insert-size : tie.Else1 → tie.After-load-le16
-insert-size c = c .before .before
+abbrev remove-size : tie.Then2 → tie.After-load-le16
+remove-size c = c .before .before .before
+
+abbrev insert-size : tie.Else2 → tie.After-load-le16
+insert-size c = c .before .before .before
 
 -- the call lies inside the list
 inside : (c : tie.Start) → Whole (c .args .calls .now) (c .args .at)
@@ -64,6 +67,32 @@ returns c =
     let kind = at-if .before .byte .ensures .0 in
     lookup-made _ _ _ size kind (at-if .if1 .taken) (at-lookup .lookup .ensures) (c .looked-up .ensures)
 
+sub-remove : tie.Need-sub-remove
+sub-remove c = search needs
+
+part-remove-start : tie.Need-part-remove-start
+part-remove-start c = search needs
+
+part-remove-end : tie.Need-part-remove-end
+part-remove-end c = let w = inside (start (remove-size (c .before))) in omega arith
+
+remove-requires : tie.Need-remove-requires
+remove-requires c κs = search needs
+
+struck-requires : tie.Need-struck-requires
+struck-requires c κs = search needs
+
+same-length-2 : tie.Need-same-length-2
+same-length-2 c = search needs
+
+returns-2 : tie.Need-returns-2
+returns-2 c =
+    let at-remove = c .before .before .before in
+    let at-if = at-remove .before .before .before in
+    let size = remove-size at-if .load-le16 .ensures .0 in
+    let kind = at-if .before .before .byte .ensures .0 in
+    removal-made _ _ _ size kind (at-if .if2 .taken) (at-remove .remove .ensures) (c .struck .ensures)
+
 load-le32-requires : tie.Need-load-le32-requires
 load-le32-requires c κs = let w = inside (start (insert-size c)) in omega arith
 
@@ -82,17 +111,17 @@ insert-requires c κs = search needs
 inserted-requires : tie.Need-inserted-requires
 inserted-requires c κs = search needs
 
-same-length-2 : tie.Need-same-length-2
-same-length-2 c = search needs
+same-length-3 : tie.Need-same-length-3
+same-length-3 c = search needs
 
-returns-2 : tie.Need-returns-2
-returns-2 c =
+returns-3 : tie.Need-returns-3
+returns-3 c =
     let at-insert = c .before .before .before in
     let at-number = at-insert .before .before .before in
     let at-if = at-number .before in
     let size = insert-size at-if .load-le16 .ensures .0 in
-    let kind = at-if .before .byte .ensures .0 in
-    insertion-made _ _ _ size kind (at-if .if1 .left) (at-number .load-le32 .ensures) (at-insert .insert .ensures) (c .inserted .ensures)
+    let kind = at-if .before .before .byte .ensures .0 in
+    insertion-made _ _ _ size kind (at-if .before .if1 .left) (at-if .if2 .left) (at-number .load-le32 .ensures) (at-insert .insert .ensures) (c .inserted .ensures)
 
 pub make-call-spec : {M : Type 1} → statement M
 make-call-spec =
@@ -111,11 +140,18 @@ make-call-spec =
     looked-up-requires
     same-length
     returns
+    sub-remove
+    part-remove-start
+    part-remove-end
+    remove-requires
+    struck-requires
+    same-length-2
+    returns-2
     load-le32-requires
     sub-insert
     part-insert-start
     part-insert-end
     insert-requires
     inserted-requires
-    same-length-2
-    returns-2)
+    same-length-3
+    returns-3)

@@ -9,13 +9,14 @@ use borrow.Fn.Kinds.{In}
 use borrow.Fn.PlainCycle.{Measures, is, falls, and}
 use Rattle.page.specs.Header.{isPage}
 use Rattle.insert.specs.Insertion.{insertUnder}
-use Rattle.insert.specs.StepLaws.{visited-leaf, visited-child, under-bad, under-leaf, under-child, next-fits}
+use Rattle.layout.specs.VisitLaws.{visited-leaf, visited-child}
+use Rattle.insert.specs.StepLaws.{under-bad, under-leaf, under-child, next-fits}
 use Rattle.insert.proofs.insert_under.Reads as insert-under
 use Rattle.insert.proofs.insert_under.Kinds as insert-under-kinds
 use Rattle.insert.proofs.+insert_under.Lts-insert_under as insert-under-lts
 use Rattle.insert.proofs.after_child.Reads as after-child-reads
 use Rattle.insert.proofs.insert_in_leaf.Reads as insert-in-leaf-reads
-use Rattle.insert.proofs.visit_page.Reads as visit-page-reads
+use Rattle.layout.proofs.visit_page.Reads as visit-page-reads
 use Rattle.insert.proofs.+insert_under.{statement}
 use Rattle.insert.proofs.+insert_under.Tie.{close}
 

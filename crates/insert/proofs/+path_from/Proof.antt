@@ -6,11 +6,11 @@ use lib.ListN.{length}
 use borrow.Author.Needs.{needs}
 use borrow.Fn.Kinds.{In}
 use borrow.Fn.PlainCycle.{Measures, is, falls, and}
-use Rattle.insert.specs.Answers.{visitOf}
+use Rattle.layout.specs.Visits.{visitOf}
 use Rattle.insert.specs.Room.{pathFrom}
-use Rattle.insert.specs.declared.Visit.the-variants as visit
+use Rattle.layout.specs.declared.Visit.the-variants as visit
 use Rattle.layout.specs.Entries.{stored}
-use Rattle.insert.specs.StepLaws.{visited-leaf}
+use Rattle.layout.specs.VisitLaws.{visited-leaf}
 use Rattle.insert.specs.RoomLaws.{path-levels, path-bad, path-leaf, path-child}
 use Rattle.insert.proofs.path_from.Reads as path-from
 use Rattle.insert.proofs.path_from.Kinds as path-from-kinds
@@ -18,7 +18,7 @@ use Rattle.insert.proofs.+path_from.Lts-path_from as path-from-lts
 use Rattle.insert.proofs.empty_path.Reads as empty-path-reads
 use Rattle.insert.proofs.is_full.Reads as is-full-reads
 use Rattle.insert.proofs.on_top.Reads as on-top-reads
-use Rattle.insert.proofs.visit_page.Reads as visit-page-reads
+use Rattle.layout.proofs.visit_page.Reads as visit-page-reads
 use Rattle.layout.proofs.is_present.Reads as is-present-reads
 use Rattle.insert.proofs.+path_from.{statement}
 use Rattle.insert.proofs.+path_from.Tie.{close}

@@ -8,11 +8,11 @@ use Rattle.basis.specs.Tests.{passed, failed}
 use Rattle.page.specs.Header.{maxLevels, keyLength, headerGood}
 use Rattle.page.specs.HeaderLaws.{good-header}
 use Rattle.sound.specs.Rule.{pagesGood, unmarked}
+use Rattle.sound.specs.Accepted.{audit-sound, audit-unsound}
 use Rattle.insert.specs.declared.Path.{Path}
 use Rattle.insert.specs.Room.{pathTo, noRoom}
 use Rattle.insert.specs.RoomLaws.{path-levels, path-run}
 use Rattle.insert.specs.Calls.{hasControl}
-use Rattle.insert.specs.CallLaws.{audit-sound, audit-unsound}
 use Rattle.insert.specs.CallLaws.{refused-24, refused-27, refused-32, refused-28, refused-25, refused-29, refused-30, accepted-pair}
 use borrow.Author.Needs.{needs}
 use borrow.Author.Tests.{eqb-true, eqb-false}

@@ -1,16 +1,18 @@
 -- `layout::supply_of` meets its contract. Assumes nothing.
-use mathlib.Core.Path.{ap}
 use borrow.Author.Needs.{needs}
-use Rattle.layout.specs.Supply.{supplyOf, atEnd}
+use Rattle.layout.specs.Supply.{supplyOf}
 use Rattle.layout.proofs.supply_of.Statement.{statement}
 use Rattle.layout.proofs.supply_of.Tie as tie
+
+free-pointer-requires : tie.Need-free-pointer-requires
+free-pointer-requires c κs = search needs
 
 file-end-requires : tie.Need-file-end-requires
 file-end-requires c κs = search needs
 
 returns : tie.Need-returns
 unfolding supplyOf
-returns c = ap atEnd (c .file-end .ensures)
+returns c = rw (c .before .free-pointer .ensures, c .file-end .ensures)
 
 pub supply-of-spec : {M : Type 1} → statement M
-supply-of-spec = tie.close (tie.spec file-end-requires returns)
+supply-of-spec = tie.close (tie.spec free-pointer-requires file-end-requires returns)

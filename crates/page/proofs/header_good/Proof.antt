@@ -8,7 +8,7 @@ use Rattle.page.proofs.header_good.Tie as tie
 
 -- the place past the test of the length
 abbrev long-enough : tie.After-byte → tie.Else1
-long-enough c = c .before .before .before .before .before .before .before .before
+long-enough c = c .before .before .before .before .before .before .before .before .before
 
 returns : tie.Need-returns
 unfolding headerGood
@@ -32,8 +32,11 @@ key-length-requires c κs = search needs
 key-length-good-requires : tie.Need-key-length-good-requires
 key-length-good-requires c κs = search needs
 
-load-le32-requires : tie.Need-load-le32-requires
-load-le32-requires c κs = search needs
+free-pointer-requires : tie.Need-free-pointer-requires
+free-pointer-requires c κs = search needs
+
+free-good-requires : tie.Need-free-good-requires
+free-good-requires c κs = search needs
 
 byte-requires : tie.Need-byte-requires
 byte-requires c κs = search needs
@@ -53,6 +56,7 @@ header-good-spec =
     is-page-requires
     key-length-requires
     key-length-good-requires
-    load-le32-requires
+    free-pointer-requires
+    free-good-requires
     byte-requires
     returns-2)

@@ -171,7 +171,7 @@ pub fn spine(r: &mut Random, k: usize, pages: usize) -> (Vec<u8>, Vec<u8>) {
         on = first;
         levels.push(level);
     }
-    (laid_out(r, k, &levels), key)
+    (laid_out(r, k, &levels, 0), key)
 }
 
 fn write_page(b: &mut [u8], k: usize, attribute: u16, links: [u32; 2], entries: &[Entry]) {
@@ -195,13 +195,25 @@ fn write_header(b: &mut [u8], k: usize, root: u32, size: u32) {
 
 /// An index of these entries, its pages anywhere in the file and of any fullness, with at least so many levels. What no rule reads is garbage.
 pub fn tree(r: &mut Random, k: usize, entries: &[Entry], fill: Fill, least: usize) -> Vec<u8> {
-    let levels = levels(r, k, entries, fill, least);
-    laid_out(r, k, &levels)
+    tree_and_free(r, k, entries, fill, least, 0)
 }
 
-/// The levels as bytes, each page anywhere in the file.
-fn laid_out(r: &mut Random, k: usize, levels: &[Vec<Vec<Entry>>]) -> Vec<u8> {
-    let pages: usize = levels.iter().map(Vec::len).sum();
+/// Such an index with `free` pages on its free list, which lie anywhere too.
+pub fn tree_and_free(
+    r: &mut Random,
+    k: usize,
+    entries: &[Entry],
+    fill: Fill,
+    least: usize,
+    free: usize,
+) -> Vec<u8> {
+    let levels = levels(r, k, entries, fill, least);
+    laid_out(r, k, &levels, free)
+}
+
+/// The levels and `free` free pages as bytes, each page anywhere in the file.
+fn laid_out(r: &mut Random, k: usize, levels: &[Vec<Vec<Entry>>], free: usize) -> Vec<u8> {
+    let pages = levels.iter().map(Vec::len).sum::<usize>() + free;
     let mut places: Vec<u32> = (1..=pages as u32).map(|p| p * 512).collect();
     r.shuffle(&mut places);
     let mut b = vec![0; 512 * (pages + 1)];
@@ -228,7 +240,17 @@ fn laid_out(r: &mut Random, k: usize, levels: &[Vec<Vec<Entry>>]) -> Vec<u8> {
     }
     let size = b.len() as u32;
     write_header(&mut b, k, below[0], size);
+    for &p in &places[first..] {
+        free_page(&mut b, p as usize);
+    }
     b
+}
+
+/// Puts a page at the head of the free list.
+fn free_page(b: &mut [u8], p: usize) {
+    b[p..p + 512].fill(0);
+    b.copy_within(4..8, p + 8);
+    b[4..8].copy_from_slice(&(p as u32).to_le_bytes());
 }
 
 /// An index of 11 levels: `leaves` one-entry leaves, over them levels of one-entry pages, and full pages at the top. k is at least 2.
@@ -247,11 +269,15 @@ pub fn chains(r: &mut Random, k: usize, leaves: usize) -> Vec<u8> {
     }
     let mut made = vec![group(r, k, entries, Fill::Exactly(1))];
     while made.len() < 11 {
-        let fill = if made.len() < 11 - full { Fill::Exactly(1) } else { Fill::Full };
+        let fill = if made.len() < 11 - full {
+            Fill::Exactly(1)
+        } else {
+            Fill::Full
+        };
         let above = over(made.last().unwrap());
         made.push(group(r, k, above, fill));
     }
-    laid_out(r, k, &made)
+    laid_out(r, k, &made, 0)
 }
 
 /// A key above a page: where it stands, the last leaf key under its child, and the first under the next child of its page, if there is one.
@@ -276,7 +302,9 @@ fn keys_above(b: &[u8], k: usize, p: usize, found: &mut Vec<Above>) -> (Vec<u8>,
         let at = entry(i) + k;
         u32::from_be_bytes(b[at..at + 4].try_into().unwrap()) as usize
     };
-    let bounds: Vec<_> = (0..count).map(|i| keys_above(b, k, child(i), found)).collect();
+    let bounds: Vec<_> = (0..count)
+        .map(|i| keys_above(b, k, child(i), found))
+        .collect();
     for i in 0..count {
         found.push(Above {
             at: entry(i),
@@ -339,10 +367,55 @@ pub fn misplace(r: &mut Random, b: &mut [u8]) {
         return;
     }
     let above = &found[r.below(found.len())];
-    let wrong = if r.one_in(2) { neighbour(&above.low, false) } else { above.high.clone() };
+    let wrong = if r.one_in(2) {
+        neighbour(&above.low, false)
+    } else {
+        above.high.clone()
+    };
     if let Some(key) = wrong {
         b[above.at..above.at + k].copy_from_slice(&key);
     }
+}
+
+/// The pages of a sound index's free list, from the head on.
+fn free_list(b: &[u8]) -> Vec<usize> {
+    let named = |at: usize| u32::from_le_bytes(b[at..at + 4].try_into().unwrap());
+    let mut found = Vec::new();
+    let mut p = named(4);
+    while p != NONE {
+        found.push(p as usize);
+        p = named(p as usize + 8);
+    }
+    found
+}
+
+/// Damages the free list of a sound index: it leads in a circle, into the tree, out of the file or nowhere, leaves a page out, or one of its pages has a byte
+/// that is not zero.
+pub fn damage_free_list(r: &mut Random, b: &mut [u8]) {
+    let pages = b.len() / 512;
+    let free = free_list(b);
+    let at = if free.is_empty() {
+        0
+    } else {
+        free[r.below(free.len())]
+    };
+    // where the list names a page: the header, or a page of it
+    let name = if at == 0 || r.one_in(3) { 4 } else { at + 8 };
+    let held = |at: usize| u32::from_le_bytes(b[at..at + 4].try_into().unwrap());
+    let wrong = match r.below(6) {
+        0 if at != 0 => free[r.below(free.len())] as u32,
+        1 => held(0),
+        2 => r.pick(&[NONE, 0, held(8), 0xFFFF_FE00]),
+        3 if at != 0 => held(at + 8),
+        4 if at != 0 => {
+            let any = r.below(512);
+            let byte = r.pick(&[0, 2, 4, 7, 12, 13, 511, any]);
+            b[at + byte] ^= 1 << r.below(8);
+            return;
+        }
+        _ => place(r, pages),
+    };
+    b[name..name + 4].copy_from_slice(&wrong.to_le_bytes());
 }
 
 /// A page of the file, or something that only looks like one.
@@ -357,7 +430,10 @@ fn place(r: &mut Random, pages: usize) -> u32 {
 fn damage_header(r: &mut Random, b: &mut [u8], pages: usize) {
     match r.below(6) {
         0 => b[..4].copy_from_slice(&place(r, pages).to_le_bytes()),
-        1 => b[r.between(4, 7)] = r.byte(),
+        1 => {
+            let free = if r.one_in(2) { NONE } else { place(r, pages) };
+            b[4..8].copy_from_slice(&free.to_le_bytes());
+        }
         2 => b[8..12].copy_from_slice(&place(r, pages).to_le_bytes()),
         3 => {
             let k = u16::from_le_bytes([b[12], b[13]]);

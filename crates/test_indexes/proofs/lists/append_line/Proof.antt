@@ -10,8 +10,11 @@ use Rattle.test_indexes.proofs.lists.append_line.Tie as tie
 returns : tie.Need-returns
 returns c = search needs
 
-shared-slice-read-kind : tie.Need-shared-slice-read-kind
-shared-slice-read-kind c = search needs
+shared-slice-read-kind-of : tie.Need-shared-slice-read-kind-of
+shared-slice-read-kind-of c = search needs
+
+kind-of-requires : tie.Need-kind-of-requires
+kind-of-requires c κs = search needs
 
 returns-2 : tie.Need-returns-2
 returns-2 c = search needs
@@ -54,7 +57,8 @@ append-line-spec =
     tie.close
     (tie.spec
     returns
-    shared-slice-read-kind
+    shared-slice-read-kind-of
+    kind-of-requires
     returns-2
     after-word-requires
     after-word-requires-2

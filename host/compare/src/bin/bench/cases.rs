@@ -11,6 +11,7 @@ const TEXT_AND_TABLE: f64 = 1.5;
 const LOOKUP: f64 = 2.0;
 const APPEND: f64 = 1.1;
 const WHOLE_INDEX: f64 = 3.0;
+const REMOVAL: f64 = 1.1;
 
 /// Runs the cases whose call has the word in it; says how many are over their limit.
 pub fn run(word: &str) -> usize {
@@ -23,6 +24,7 @@ pub fn run(word: &str) -> usize {
         lookups,
         audits,
         insertions,
+        removals,
         matches,
         dilutions,
     ];
@@ -360,6 +362,31 @@ fn insertions(word: &str) -> usize {
             prepare: Box::new(|| buffer.borrow_mut().copy_from_slice(&index)),
             library: Box::new(|| inserted(&|b, key| Index::over(b).insert(key, 7).is_ok())),
             plain: Box::new(|| inserted(&|b, key| reference::insert(b, key, 7).is_ok())),
+        };
+        over += show(word, case, true);
+    }
+    over
+}
+
+fn removals(word: &str) -> usize {
+    let mut r = Random::new(10);
+    let mut over = 0;
+    for (k, per_page, alike) in KEYS {
+        let (index, entries) = inputs::index(&mut r, k, per_page, 1023, alike);
+        let keys: Vec<Vec<u8>> = picked(&mut r, &entries).into_iter().take(8).collect();
+        let buffer = RefCell::new(index.clone());
+        let removed = |remove: &dyn Fn(&mut [u8], &[u8]) -> bool| {
+            let mut buffer = buffer.borrow_mut();
+            keys.iter().filter(|key| remove(&mut buffer, key)).count() as u64
+        };
+        let case = Case {
+            call: "removal",
+            input: named("0.5 MiB", k, alike),
+            calls: keys.len(),
+            limit: REMOVAL,
+            prepare: Box::new(|| buffer.borrow_mut().copy_from_slice(&index)),
+            library: Box::new(|| removed(&|b, key| Index::over(b).remove(key).is_ok())),
+            plain: Box::new(|| removed(&|b, key| reference::remove(b, key).is_ok())),
         };
         over += show(word, case, true);
     }

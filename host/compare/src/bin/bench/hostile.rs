@@ -16,6 +16,7 @@ pub fn run(word: &str) {
         index_calls(word, &name, &bytes);
     }
     insertion(word);
+    removal(word);
     matches(word);
 }
 
@@ -77,6 +78,40 @@ fn insertion(word: &str) {
         "insertion",
         "10 levels of full pages, all split",
         spine.len(),
+        times,
+        pass,
+    );
+}
+
+/// A removal that empties all pages from a leaf to the root, eleven levels.
+fn removal(word: &str) {
+    if !"removal".contains(word) {
+        return;
+    }
+    let mut r = Random::new(10);
+    let one = index::entries(&mut r, 10, 1, 0);
+    let chain = index::tree(&mut r, 10, &one, Fill::Full, 11);
+    let key = &one[0].0;
+    let buffer = std::cell::RefCell::new(chain.clone());
+    let mut case = Case {
+        call: "removal",
+        input: String::new(),
+        calls: 1,
+        limit: 0.0,
+        prepare: Box::new(|| buffer.borrow_mut().copy_from_slice(&chain)),
+        library: Box::new(|| {
+            Index::over(&mut buffer.borrow_mut()[..])
+                .remove(key)
+                .is_ok() as u64
+        }),
+        plain: Box::new(|| reference::remove(&mut buffer.borrow_mut(), key).is_ok() as u64),
+    };
+    let times = case.times(true);
+    let pass = one_pass(&[&chain]);
+    line(
+        "removal",
+        "11 levels of one-entry pages, all emptied",
+        chain.len(),
         times,
         pass,
     );
@@ -245,7 +280,36 @@ fn indexes() -> Vec<(String, Vec<u8>)> {
     }
     let (spine, _) = index::spine(&mut r, 100, 31);
     made.push(("11 levels, one path of full pages".to_string(), spine));
+    made.extend(free_lists(&mut r));
     made
+}
+
+/// Indexes of one key whose other pages are free: a sound one, one whose list leads in a circle, and one whose list leads into the tree at its end.
+fn free_lists(r: &mut Random) -> Vec<(String, Vec<u8>)> {
+    let one = index::entries(r, 10, 1, 0);
+    let sound = index::tree_and_free(r, 10, &one, Fill::Full, 1, 2046);
+    let number = |at: usize| u32::from_le_bytes(sound[at..at + 4].try_into().unwrap());
+    let (root, head) = (number(0), number(4));
+    let mut last = head as usize;
+    while number(last + 8) != index::NONE {
+        last = number(last + 8) as usize;
+    }
+    let ended = |next: u32| {
+        let mut b = sound.clone();
+        b[last + 8..last + 12].copy_from_slice(&next.to_le_bytes());
+        b
+    };
+    vec![
+        ("1 MiB, 2,046 free pages".to_string(), sound.clone()),
+        (
+            "1 MiB, 2,046 free pages in a circle".to_string(),
+            ended(head),
+        ),
+        (
+            "1 MiB, 2,046 free pages, the last leads to the root".to_string(),
+            ended(root),
+        ),
+    ]
 }
 
 /// A sound index with a count that is a lie, or a cycle.

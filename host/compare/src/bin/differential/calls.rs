@@ -461,6 +461,29 @@ pub fn insert(
     due
 }
 
+/// `own` holds what the lent buffer does, before and after; `before` is room for a copy.
+pub fn remove(
+    tally: &mut Tally,
+    index: &Lent,
+    own: &mut [u8],
+    before: &mut Vec<u8>,
+    key: &Lent,
+) -> u32 {
+    let got =
+        unsafe { ffi::gl_index_remove(index.place(), index.length(), key.place(), key.length()) };
+    before.clear();
+    before.extend_from_slice(own);
+    let due = number_of(reference::remove(own, key.was()));
+    tally.hold(
+        Call::IndexRemove,
+        (got, ()),
+        (due, ()),
+        index.holds(own) && key.kept(),
+        &[Bytes("index", before), Bytes("key", key.was())],
+    );
+    due
+}
+
 pub fn match_index(tally: &mut Tally, table: &Lent, index: &Lent, field: u32) {
     let got = unsafe {
         ffi::gl_match(

@@ -49,6 +49,7 @@ pub fn round(r: &mut Random, a: &mut Arenas, tally: &mut Tally) {
     }
     fresh_calls(r, a, tally);
     grown_index(r, a, tally);
+    mixed_list(r, a, tally);
     made_index(r, a, tally);
     for _ in 0..4 {
         a_match(r, a, tally);
@@ -430,6 +431,55 @@ fn grown_index(r: &mut Random, a: &mut Arenas, tally: &mut Tally) {
     calls::audit(tally, &lent, &own);
 }
 
+/// Insertions, removals and lookups mixed in one list, every one of them compared byte by byte. The index grows and shrinks by turns, down to nothing.
+fn mixed_list(r: &mut Random, a: &mut Arenas, tally: &mut Tally) {
+    let k = r.pick(&[1, 2, 10, 46, 62, 100, 100, 100]);
+    let length = 1024 + 512 * r.pick(&[1, 3, 8, 20, 60]) + r.pick(&[0, 0, 1, 511]);
+    let mut own = r.bytes(length);
+    let at_first = own.clone();
+    let lent = a.index.lend(&at_first, r.one_in(2));
+    let mut before = Vec::new();
+    {
+        let expression = a.key.lend(b"BARCODE", true);
+        calls::fresh(tally, &lent, &mut own, k as u32, &expression);
+    }
+    let style = r.between(4, 7);
+    let draws = r.pick(&[8, 40, 120, 300]);
+    let pairs = index::entries(r, k, draws, style);
+    let list = if r.one_in(40) {
+        r.between(2000, 5000)
+    } else {
+        r.between(20, 200)
+    };
+    let (mut growing, mut step, mut at) = (true, 1, 0);
+    for _ in 0..list {
+        if r.one_in(40) {
+            growing = !growing;
+            // in the keys' order, against it, or anyhow
+            let any = r.below(pairs.len());
+            step = r.pick(&[1, pairs.len() - 1, any]);
+        }
+        at = (at + step) % pairs.len();
+        let key = if r.one_in(12) {
+            probe(r, k, &pairs, style)
+        } else {
+            pairs[at].0.clone()
+        };
+        if r.one_in(8) {
+            looks(r, &mut a.key, tally, &lent, &own, &key);
+        }
+        let key = a.key.lend(&key, r.one_in(2));
+        if growing != r.one_in(6) {
+            calls::insert(tally, &lent, &mut own, &mut before, &key, pairs[at].1);
+        } else {
+            calls::remove(tally, &lent, &mut own, &mut before, &key);
+        }
+        if r.one_in(32) {
+            calls::audit(tally, &lent, &own);
+        }
+    }
+}
+
 /// Entries in ascending, descending or random order.
 fn ordered_entries(r: &mut Random, k: usize, style: usize) -> Vec<Entry> {
     let draws = r.between(1, 90);
@@ -442,7 +492,7 @@ fn ordered_entries(r: &mut Random, k: usize, style: usize) -> Vec<Entry> {
     keys
 }
 
-/// Lookups, an audit and insertions on an index as it is; the insertions change only a copy.
+/// Lookups, an audit, insertions and removals on an index; both ways have a copy of it to change.
 fn use_index(
     r: &mut Random,
     a: &mut Arenas,
@@ -469,9 +519,17 @@ fn use_index(
             break;
         }
     }
+    for _ in 0..r.pick(&[1, 1, 6, 30]) {
+        let key = probe(r, k, entries, style);
+        let key = a.key.lend(&key, r.one_in(2));
+        let answer = calls::remove(tally, &lent, &mut own, &mut before, &key);
+        if answer == 24 || answer == 25 {
+            break;
+        }
+    }
 }
 
-/// A sound tree of a random shape, its keys above pages exact or raised, then damaged copies of it.
+/// A sound tree of a random shape, its keys above pages exact or raised, with free pages or none, then damaged copies of it.
 fn made_index(r: &mut Random, a: &mut Arenas, tally: &mut Tally) {
     let k = key_length(r);
     let style = r.below(8);
@@ -486,7 +544,8 @@ fn made_index(r: &mut Random, a: &mut Arenas, tally: &mut Tally) {
         0 => r.between(1, 12),
         _ => 1,
     };
-    let mut sound = index::tree(r, k, &entries, fill, least);
+    let free = r.pick(&[0, 0, 1, 2, 5]);
+    let mut sound = index::tree_and_free(r, k, &entries, fill, least, free);
     if r.one_in(2) {
         let share = r.pick(&[1, 2, 8]);
         index::raise(r, &mut sound, share);
@@ -496,11 +555,13 @@ fn made_index(r: &mut Random, a: &mut Arenas, tally: &mut Tally) {
     use_index(r, a, tally, &sound, &entries, style);
     for _ in 0..8 {
         let mut bytes = sound.clone();
-        if r.one_in(4) {
-            index::misplace(r, &mut bytes);
-        } else {
-            for _ in 0..r.pick(&[1, 1, 1, 2, 4]) {
-                index::damage(r, &mut bytes);
+        match r.below(6) {
+            0 => index::misplace(r, &mut bytes),
+            1 => index::damage_free_list(r, &mut bytes),
+            _ => {
+                for _ in 0..r.pick(&[1, 1, 1, 2, 4]) {
+                    index::damage(r, &mut bytes);
+                }
             }
         }
         if r.one_in(16) {
@@ -541,15 +602,16 @@ fn spine(r: &mut Random, a: &mut Arenas, tally: &mut Tally) {
     calls::audit(tally, &lent, &own);
 }
 
-/// An index of up to 1 MiB, or of as many pages as may be or one or two less, and a damaged copy.
+/// An index of up to 1 MiB, or of as many pages as may be or one or two less, some of them free, and a damaged copy.
 fn large_index(r: &mut Random, a: &mut Arenas, tally: &mut Tally) {
     let k = r.pick(&[3, 8, 10, 46, 100, 100]);
     let per_leaf = (index::capacity(k) - 1).min(6);
     let pages = r.pick(&[2047, 2046, 2045, 2040, 700]);
-    let leaves = index::leaves_for(pages, per_leaf);
+    let free = r.pick(&[0, 0, 1, 3, 40]);
+    let leaves = index::leaves_for(pages - free, per_leaf);
     let style = r.pick(&[0, 4, 4, 4]);
     let entries = index::entries(r, k, leaves * per_leaf, style);
-    let mut bytes = index::tree(r, k, &entries, Fill::Exactly(per_leaf), 1);
+    let mut bytes = index::tree_and_free(r, k, &entries, Fill::Exactly(per_leaf), 1, free);
     if r.one_in(2) {
         index::raise(r, &mut bytes, 2);
     }
@@ -562,7 +624,7 @@ fn large_index(r: &mut Random, a: &mut Arenas, tally: &mut Tally) {
     use_index(r, a, tally, &bytes, &entries, style);
 }
 
-/// Insertions into one leaf, so that it splits again and again, as far as the file may grow.
+/// Insertions into one leaf, so that it splits again and again, as far as the file may grow; then removals of neighbouring keys.
 fn crowd(r: &mut Random, a: &mut Arenas, tally: &mut Tally, bytes: &[u8], entries: &[Entry]) {
     let lent = a.index.lend(bytes, r.one_in(2));
     let mut own = bytes.to_vec();
@@ -573,6 +635,11 @@ fn crowd(r: &mut Random, a: &mut Arenas, tally: &mut Tally, bytes: &[u8], entrie
         *key.last_mut().unwrap() = r.byte();
         let key = a.key.lend(&key, r.one_in(2));
         calls::insert(tally, &lent, &mut own, &mut before, &key, record);
+    }
+    // the keys of one page and more, so that pages are emptied
+    for (key, _) in entries.iter().skip(at).take(16) {
+        let key = a.key.lend(key, r.one_in(2));
+        calls::remove(tally, &lent, &mut own, &mut before, &key);
     }
 }
 
@@ -620,7 +687,8 @@ fn a_match(r: &mut Random, a: &mut Arenas, tally: &mut Tally) {
     }
     keys.sort();
     spoil_entries(r, k, &mut keys);
-    let mut index = index::tree(r, k, &keys, Fill::Any, 1);
+    let free = r.pick(&[0, 0, 0, 2]);
+    let mut index = index::tree_and_free(r, k, &keys, Fill::Any, 1, free);
     if r.one_in(4) {
         index::raise(r, &mut index, 2);
     }

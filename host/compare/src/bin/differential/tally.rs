@@ -21,6 +21,7 @@ pub enum Call {
     IndexAudit,
     IndexLookup,
     IndexInsert,
+    IndexRemove,
     Match,
     Dilute,
 }
@@ -64,6 +65,7 @@ const CALLS: [(&str, &[u32]); 20] = [
     ("gl_index_audit", &[0, 24, 25]),
     ("gl_index_lookup", &[0, 24, 25, 27, 257]),
     ("gl_index_insert", &[0, 24, 25, 27, 28, 29, 30, 32]),
+    ("gl_index_remove", &[0, 24, 25, 27, 33]),
     (
         "gl_match",
         &[0, 1, 2, 3, 4, 5, 6, 7, 8, 9, 10, 12, 13, 24, 25, 27, 31],

@@ -1,14 +1,14 @@
--- `insert::visit_page` meets its contract: the rule's two tests. Assumes nothing.
+-- `layout::visit_page` meets its contract: the rule's two tests. Assumes nothing.
 use mathlib.Core.Bool.{true}
 use lib.ListN.{length}
 use Rattle.page.specs.Header.{isPage}
 use mathlib.Core.Path.{_≡_, sym, _∙_}
 use Rattle.basis.specs.Tests.{passed, failed}
 use Rattle.page.specs.HeaderLaws.{is-page}
-use Rattle.insert.specs.StepLaws.{visit-bad, visit-leaf, visit-child}
+use Rattle.layout.specs.VisitLaws.{visit-bad, visit-leaf, visit-child}
 use borrow.Author.Needs.{needs}
-use Rattle.insert.proofs.visit_page.Statement.{statement}
-use Rattle.insert.proofs.visit_page.Tie as tie
+use Rattle.layout.proofs.visit_page.Statement.{statement}
+use Rattle.layout.proofs.visit_page.Tie as tie
 
 -- the call's start, from behind the first test
 abbrev start : tie.Else1 → tie.Start

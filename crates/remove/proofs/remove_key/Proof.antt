@@ -1,0 +1,55 @@
+-- `remove::remove_key` meets its contract: the recursion from the root, and what is left to do at the root. Assumes nothing.
+use Prim.Native.Nat.{_≤_}
+use native.Mathlib.Omega.{arith}
+use lib.ListN.{length}
+use Rattle.page.specs.Header.{maxKey}
+use Rattle.page.specs.HeaderLaws.{GoodHeader, good-header}
+use Rattle.remove.specs.StepLaws.{emptied-fits, key-removed}
+use borrow.Author.Needs.{needs}
+use Rattle.remove.proofs.remove_key.Statement.{statement}
+use Rattle.remove.proofs.remove_key.Tie as tie
+
+-- the places: the call's start, from where the root is known; that place, from where the key is removed under the root
+abbrev start : tie.After-root → tie.Start
+start c = c .before .before .before .before
+
+abbrev at-root-known : tie.After-remove-under → tie.After-root
+at-root-known c = c .before .before
+
+-- the header is good
+header : (s : tie.Start) → GoodHeader (s .args .index .now)
+header s = good-header _ (s .pre .0)
+
+root-requires : tie.Need-root-requires
+root-requires c κs = header (c .before .before .before) .long
+
+remove-under-requires : tie.Need-remove-under-requires
+remove-under-requires c κs =
+    let at-start = start (c .before) in
+    omega (arith, at-start .pre .1, header at-start .key-high)
+
+at-root-requires : tie.Need-at-root-requires
+at-root-requires c κs =
+    let below = c .before .before .before .remove-under in
+    rw (below .kept .0) (emptied-fits _ _ _ _ _ (below .result) (below .ensures))
+
+same-length : tie.Need-same-length
+same-length c = search needs
+
+returns : tie.Need-returns
+returns c =
+    let finished = c .before .before in
+    let below = finished .before .before .before .before in
+    let root = at-root-known below in
+    let at-start = start root in
+    key-removed _ (at-start .args .key .now) (at-start .pre .1) (root .root .ensures) (below .remove-under .ensures) (finished .at-root .ensures)
+
+pub remove-key-spec : {M : Type 1} → statement M
+remove-key-spec =
+    tie.close
+    (tie.spec
+    root-requires
+    remove-under-requires
+    at-root-requires
+    same-length
+    returns)

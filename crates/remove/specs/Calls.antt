@@ -1,0 +1,37 @@
+-- Rules: what removal answers and leaves, in the "order 24, 27, 25 by full audit, then 33 if the key is absent".
+use Prim.Native.Nat.{ℕ}
+use mathlib.Core.Bool.{true, false}
+use mathlib.Core.List.{List}
+use lib.ListN.{length}
+use lib.Dec.{eqb}
+use Rattle.page.specs.Header.{headerGood, keyLength}
+use Rattle.sound.specs.Rule.{pagesGood, unmarked}
+use Rattle.lookup.specs.Lookup.{lookupRule, isFound}
+use Rattle.remove.specs.Removal.{removedBuffer}
+use Rattle.remove.specs.declared.Removal.{Removal}
+use Rattle.remove.specs.declared.Removal.the-variants.{Accepted, Refused}
+
+-- a buffer after a call, and the answer
+pub record AfterCall : Type 0 where
+  pub after : List ℕ
+  pub answer : Removal
+
+abbrev pub afterCall : List ℕ → Removal → AfterCall
+afterCall b a = record { after = b; answer = a }
+
+-- what removal leaves and answers: a refusal leaves the buffer as it was
+unfoldable pub removeRule : List ℕ → List ℕ → AfterCall
+removeRule b key =
+    elim (headerGood b) [
+      | false ↦ afterCall b (Refused 24)
+      | true ↦ elim (eqb (length key) (keyLength b)) [
+        | false ↦ afterCall b (Refused 27)
+        | true ↦ elim (pagesGood b unmarked) [
+          | false ↦ afterCall b (Refused 25)
+          | true ↦ elim (isFound (lookupRule b key)) [
+            | false ↦ afterCall b (Refused 33)
+            | true ↦ afterCall (removedBuffer (keyLength b) b key) Accepted
+          ]
+        ]
+      ]
+    ]

@@ -1,0 +1,152 @@
+// Removal of a key.
+use layout::Visit;
+use page::PageOffset;
+use page::RecordNumber;
+ghost use mathlib.Core.Path.{_≡_};
+ghost use mathlib.Core.Bool.{Bool, true};
+ghost use Prim.Native.Nat.{ℕ, _≤_};
+ghost use lib.ListN.{length};
+ghost use Rattle.page.specs.Header.{maxKey, isPage, keyLength, headerGood};
+ghost use Rattle.layout.specs.Layout.{itemsIn};
+ghost use Rattle.layout.specs.Entries.{stored, chosenAt};
+ghost use Rattle.remove.specs.Removal.{step, takeOut, afterChild, removeUnder, atRoot, removedBuffer};
+ghost use Rattle.remove.specs.Answers.{outcomeOf, EmptiedPage};
+ghost use Rattle.remove.specs.Calls.{afterCall, removeRule};
+
+// What a removal answers.
+pub enum Removal {
+    Accepted,
+    Refused(u32),
+}
+
+// What a removal under a page leaves for the page above to do: nothing; or to free the page, which has no entry left; or it met no page.
+pub enum Outcome {
+    Kept,
+    Emptied,
+    Bad,
+}
+
+// Takes entry `i` out of a page.
+fn take_out(index: &mut [u8], k: usize, page: PageOffset, i: usize) -> Outcome
+    requires { ⌜ k ≤ maxKey ⌝ }
+    ensures { λ r. ⌜ takeOut k (now (index .entry)) (page .0) i ≡ step (now (index .exit)) (outcomeOf r) ⌝ }
+{
+    let mut room = [0u8; layout::ROOM];
+    let count = layout::entry_count(index, k, page);
+    if count <= i {
+        return Outcome::Bad;
+    }
+    let fewer = count - 1;
+    let size = fewer * (k + 4);
+    layout::gather_without(&mut room, index, k, page, count, i);
+    layout::with_entries(index, k, page, fewer, &room[..size]);
+    if fewer == 0 {
+        return Outcome::Emptied;
+    }
+    Outcome::Kept
+}
+
+// What a page does after a removal under its entry `i`, over `child`, left `below`.
+fn after_child(
+    index: &mut [u8],
+    k: usize,
+    page: PageOffset,
+    i: usize,
+    child: PageOffset,
+    below: Outcome,
+) -> Outcome
+    requires { ⌜ (k ≤ maxKey) × EmptiedPage (length (now index)) (child .0) below ⌝ }
+    ensures { λ r. ⌜ afterChild k (now (index .entry)) (page .0) i (child .0) (outcomeOf below) ≡ step (now (index .exit)) (outcomeOf r) ⌝ }
+{
+    match below {
+        Outcome::Kept => Outcome::Kept,
+        Outcome::Emptied => {
+            layout::unlink_page(index, child);
+            layout::free_page(index, child);
+            take_out(index, k, page, i)
+        }
+        Outcome::Bad => Outcome::Bad,
+    }
+}
+
+// Takes the entry that `key` leads to out of a leaf.
+fn remove_in_leaf(index: &mut [u8], key: &[u8], number: RecordNumber, page: PageOffset) -> Outcome
+    requires { ⌜ (length (now key) ≤ maxKey) × (isPage (length (now index)) (page .0) ≡ true) ⌝ }
+    ensures { λ r. ⌜ takeOut (length (now (key .entry))) (now (index .entry)) (page .0)
+        (chosenAt (stored (now (key .entry)) (number .0)) (itemsIn (length (now (key .entry))) (now (index .entry)) (page .0)))
+        ≡ step (now (index .exit)) (outcomeOf r) ⌝ }
+{
+    let i = layout::chosen_entry(index, key, number, page);
+    take_out(index, key.len(), page, i)
+}
+
+// Removal under a page, with `levels` levels left.
+fn remove_under(
+    index: &mut [u8],
+    key: &[u8],
+    number: RecordNumber,
+    page: PageOffset,
+    levels: u32,
+) -> Outcome
+    requires { ⌜ length (now key) ≤ maxKey ⌝ }
+    ensures { λ r. ⌜ removeUnder (length (now (key .entry))) levels (now (index .entry)) (stored (now (key .entry)) (number .0)) (page .0)
+        ≡ step (now (index .exit)) (outcomeOf r) ⌝ }
+{
+    if levels == 0 {
+        return Outcome::Bad;
+    }
+    let visit = layout::visit_page(index, key, number, page);
+    match visit {
+        Visit::Bad => Outcome::Bad,
+        Visit::Leaf => remove_in_leaf(index, key, number, page),
+        Visit::Child(i, child) => {
+            let below = remove_under(index, key, number, child, levels - 1);
+            after_child(index, key.len(), page, i, child, below)
+        }
+    }
+}
+
+// What is done at the root after a removal under it left `below`.
+fn at_root(index: &mut [u8], root: PageOffset, below: Outcome)
+    requires { ⌜ EmptiedPage (length (now index)) (root .0) below ⌝ }
+    ensures { λ _. ⌜ now (index .exit) ≡ atRoot (now (index .entry)) (root .0) (outcomeOf below) ⌝ }
+{
+    match below {
+        Outcome::Kept => {}
+        Outcome::Emptied => {
+            let none = PageOffset(page::NO_PAGE);
+            layout::empty_page(index, root, 3, none, none);
+        }
+        Outcome::Bad => {}
+    }
+}
+
+// Removes a key from an index that has it. Keys are distinct, so the record number 0 is not looked at.
+fn remove_key(index: &mut [u8], key: &[u8])
+    requires { ⌜ (headerGood (now index) ≡ true) × (length (now key) ≡ keyLength (now index)) ⌝ }
+    ensures { λ _. ⌜ now (index .exit) ≡ removedBuffer (keyLength (now (index .entry))) (now (index .entry)) (now (key .entry)) ⌝ }
+{
+    let root = page::root(index);
+    let below = remove_under(index, key, RecordNumber(0), root, page::MAX_LEVELS);
+    at_root(index, root, below);
+}
+
+// Removes `key`.
+pub fn remove(index: &mut [u8], key: &[u8]) -> Removal
+    ensures { λ r. ⌜ removeRule (now (index .entry)) (now (key .entry)) ≡ afterCall (now (index .exit)) r ⌝ }
+{
+    if !page::header_good(index) {
+        return Removal::Refused(refusal::INDEX_HEADER);
+    }
+    if key.len() != page::key_length(index) {
+        return Removal::Refused(refusal::KEY_LENGTH);
+    }
+    if audit::audit(index) != 0 {
+        return Removal::Refused(refusal::INDEX_NOT_SOUND);
+    }
+    if !lookup::is_found(lookup::lookup(index, key)) {
+        return Removal::Refused(refusal::KEY_ABSENT);
+    }
+    remove_key(index, key);
+    Removal::Accepted
+}

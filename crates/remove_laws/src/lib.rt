@@ -1,0 +1,1 @@
+// Laws of removal, in specs/: no code.
