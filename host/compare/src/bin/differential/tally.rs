@@ -27,7 +27,7 @@ pub enum Call {
 }
 
 /// Each call's name and every answer that the documents let it give.
-const CALLS: [(&str, &[u32]); 20] = [
+const CALLS: [(&str, &[u32]); 21] = [
     ("gl_table_check", &[0, 1, 2, 3, 4, 5, 6, 7, 8, 9, 10]),
     ("gl_table_shape", &[0, 1, 2, 3, 4, 5, 6, 7, 8, 9, 10]),
     ("gl_fields", &[0, 1, 2, 3, 4, 5, 6, 7, 8, 9, 10, 14]),
