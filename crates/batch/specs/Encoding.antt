@@ -1,5 +1,6 @@
 -- Rules: a list of calls as bytes, so that code can be lent one. A call is its kind, 0 for a lookup, 1 for an insertion and 2 for a removal, the length of its
--- key in two bytes, the key, and for an insertion its record number in four bytes. Numbers are least significant byte first. The list ends where no whole call stands.
+-- key in two bytes, the key, and for an insertion its record number in four bytes. Numbers are least significant byte first. The list ends where no
+-- whole call stands.
 use Prim.Native.Nat.{ℕ, zero, suc, _+_, _*_, _%_, _^_, _<_}
 use mathlib.Core.Bool.{Bool, true, false, cond, _&&_}
 use mathlib.Core.List.{List, [], _∷_, _++_}

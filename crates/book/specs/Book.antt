@@ -1,6 +1,6 @@
 -- Rules: demand 3, one claim about a whole list of calls, each lent the buffer as the last call left it. The calls are the rules that the contracts of
--- insertion, lookup and removal cite; the book, its answers and its pairs are those of the crate `tree`. The book begins at `book`: without pairs for a fresh index,
--- and at the leaves' pairs for an index that a host brings.
+-- insertion, lookup and removal cite; the book, its answers and its pairs are those of the crate `tree`. The book begins at `book`: without pairs for a
+-- fresh index, and at the leaves' pairs for an index that a host brings.
 use Prim.Native.Nat.{ℕ, _+_, _^_, _<_}
 use mathlib.Core.Path.{_≡_}
 use mathlib.Core.Bool.{Bool, false, cond}

@@ -1,5 +1,5 @@
--- Laws: one call of insertion, lookup or removal on a buffer that holds a sound index is the theory's call on that index, and keeps it sound. Cited by `BookLaws`.
--- Assumes nothing.
+-- Laws: one call of insertion, lookup or removal on a buffer that holds a sound index is the theory's call on that index, and keeps it sound. Cited by
+-- `BookLaws`. Assumes nothing.
 use Prim.Native.Nat.{ℕ, _-_, _/_, _^_, _<_, min}
 use mathlib.Core.Path.{_≡_, refl, sym, ap, ap₂, _∙_, subst}
 use mathlib.Core.Bool.{Bool, true, false, cond, not}
@@ -48,7 +48,8 @@ use Rattle.remove.specs.Calls.{removeRule}
 use Rattle.remove.specs.Removal.{removedBuffer}
 use Rattle.remove.specs.declared.Removal.the-variants as struck
 use Rattle.remove_laws.specs.RemoveSound.{Strikes, remove-keeps-sound}
-use Rattle.book.specs.Book.{insertionAnswer, removalAnswer, lookupAnswer, answerTo, bufferAfter, noRoomFor, fits, barcodes, FourBytes, VisitsLevels, LeavesBuffer}
+use Rattle.book.specs.Book.{insertionAnswer, removalAnswer, lookupAnswer, answerTo, bufferAfter, noRoomFor, fits, barcodes}
+use Rattle.book.specs.Book.{FourBytes, VisitsLevels, LeavesBuffer}
 
 -- what each call keeps of a buffer of `size` bytes, for keys of k bytes
 pub record Kept (k size : ℕ) (b : List ℕ) : Type 0 where

@@ -224,7 +224,8 @@ module _ (k : ℕ) where
 
   -- the page beyond, at r, gets q for its left neighbour
   module _ (b : List ℕ) (r q : ℕ) (q32 : q < 2 ^ 32) where
-    pub beyond-head : (z : ℕ) → isPage (length b) z ≡ true → Head (linkBeyond b r q) z (attributeAt b z) (countAt b z) (cond (eqb z r) q (leftAt b z)) (rightAt b z)
+    pub beyond-head : (z : ℕ) → isPage (length b) z ≡ true
+        → Head (linkBeyond b r q) z (attributeAt b z) (countAt b z) (cond (eqb z r) q (leftAt b z)) (rightAt b z)
     unfolding linkBeyond
     beyond-head z tz = either (isPage (length b) r)
         (λ e. rw e (put-left b r e z tz q q32))

@@ -287,7 +287,8 @@ module _ (b : List ℕ) where
         once = λ p o. among-tree h (s .free) p ∙ s .once p o;
         freePages = s .freePages;
         attributes = generation-pages B [] R h (λ p. attributeAt b p ≤ 3) (levels-attributes b K F R h (s .levels));
-        rootBits = generation-pages B [] R h (λ p. rootBit (attributeAt b p) ≡ eqb p (rootOffset b)) (levels-root b K F R h (s .levels) (root-once h (s .free) (s .once R (g .root))));
+        rootBits = generation-pages B [] R h (λ p. rootBit (attributeAt b p) ≡ eqb p (rootOffset b))
+            (levels-root b K F R h (s .levels) (root-once h (s .free) (s .once R (g .root))));
         leafBits = generation-level B [] R h (λ j ps. All (λ p. leafBit (attributeAt b p) ≡ eqb j 0) ps) (levels-leaf b K F R h (s .levels));
         levels = omega arith;
         counts = generation-pages B [] R h (CountGood b (keyLength b) h) counts;

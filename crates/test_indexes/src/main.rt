@@ -1,7 +1,7 @@
 // Audits indexes that an independent implementation made, and looks keys up in them: each accepted insertion of a list of calls must be found in the index
 // file after the list, with its record, unless its key was struck off since. Then the program runs each list as bytes on a buffer of zeros, prints the answers,
-// and compares the buffer with the index file. Other lists run on an index of an earlier release, whose keys have control bytes, and on indexes whose keys above
-// pages are ceilings or break that rule. At last the program audits damaged copies of one index. README.md beside src/ says where the files came from.
+// and compares the buffer with the index file. Other lists run on an index of an earlier release, whose keys have control bytes, and on indexes whose keys
+// above pages are ceilings or break that rule. At last the program audits damaged copies of one index. README.md beside src/ says where the files came from.
 mod lists;
 
 // Whether a line is an insertion that was accepted, `i KEY RECORD 0`.

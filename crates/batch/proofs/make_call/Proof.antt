@@ -121,7 +121,8 @@ returns-3 c =
     let at-if = at-number .before in
     let size = insert-size at-if .load-le16 .ensures .0 in
     let kind = at-if .before .before .byte .ensures .0 in
-    insertion-made _ _ _ size kind (at-if .before .if1 .left) (at-if .if2 .left) (at-number .load-le32 .ensures) (at-insert .insert .ensures) (c .inserted .ensures)
+    insertion-made _ _ _ size kind (at-if .before .if1 .left) (at-if .if2 .left) (at-number .load-le32 .ensures)
+    (at-insert .insert .ensures) (c .inserted .ensures)
 
 pub make-call-spec : {M : Type 1} → statement M
 make-call-spec =

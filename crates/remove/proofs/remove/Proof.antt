@@ -46,7 +46,8 @@ sound : (c : tie.Else3) → pagesGood (index (at-length (c .before))) unmarked �
 sound c = audit-sound _ (header (at-header (at-length (c .before)))) (c .before .audit .ensures) (c .if3 .left)
 
 -- what the lookup said of the key
-looked-up : (c : tie.After-is-found) → let measured = at-length (at-sound c .before) in c .is-found .result ≡ isFound (lookupRule (index measured) (key measured))
+looked-up : (c : tie.After-is-found)
+    → let measured = at-length (at-sound c .before) in c .is-found .result ≡ isFound (lookupRule (index measured) (key measured))
 looked-up c = c .is-found .ensures ∙ ap isFound (c .before .lookup .ensures)
 
 header-good-requires : tie.Need-header-good-requires
