@@ -134,18 +134,6 @@ module _ (none : ℕ) (l : Links) (p : ℕ) where
       (λ z o. let real : z ≡ none → ⊥ = λ e. occ-differ none z ps n o (sym e) in
       unlink-keeps z (not-right z none qs real (a z o) i q) (not-left z none qs real (a z o) i q)) c
 
--- links that agree at the pages of P, those to be unlinked among them, agree there afterwards: the links of other pages do not matter
-abbrev pub SameOn : (ℕ → Type 0) → Links → Links → Type 0
-SameOn P l l′ = (z : ℕ) → P z → SameLinks l l′ z
-
-unlink-same : (P : ℕ → Type 0) (p : ℕ) (l l′ : Links) → P p → SameOn P l l′ → SameOn P (unlink p l) (unlink p l′)
-unlink-same P p l l′ i s z j =
-    (rw (s p i .1, s p i .0, s z j .0), rw (s p i .0, s p i .1, s z j .1))
-
-pub unlinkAll-same : (P : ℕ → Type 0) (ps : List ℕ) (l l′ : Links) → All P ps → SameOn P l l′ → SameOn P (unlinkAll ps l) (unlinkAll ps l′)
-unlinkAll-same P [] l l′ i s = s
-unlinkAll-same P (p ∷ ps) l l′ i s = unlinkAll-same P ps (unlink p l) (unlink p l′) (i .1) (unlink-same P p l l′ (i .0) s)
-
 -- rows of pages, by number up to h, each of which is linked; no page stands in a row twice, or in two rows
 pub record Rows (none h : ℕ) (l : Links) (row : ℕ → List ℕ) : Type 0 where
   pub linked : (j : ℕ) → j ≤ h → Linked none l none (row j)
