@@ -11,8 +11,6 @@ use Rattle.calendar.specs.DateText.{dateOf}
 use Rattle.calendar.specs.declared.DateAnswer.{DateAnswer}
 use Rattle.calendar.specs.declared.DateAnswer.the-variants as date
 use Rattle.numeral.specs.Reading.{readNumber}
-use Rattle.numeral.specs.declared.Number.{Number}
-use Rattle.numeral.specs.declared.Number.the-variants as number
 use Rattle.memo.specs.Memo.{memoNumber}
 use Rattle.memo.specs.declared.MemoNumber.{MemoNumber}
 use Rattle.memo.specs.declared.MemoNumber.the-variants as memo
@@ -21,6 +19,7 @@ use Rattle.table.specs.Table.{recordLength, recordCount, recordsEnd, firstRefus
 use Rattle.table.specs.declared.Checked.{Checked}
 use Rattle.table.specs.declared.Checked.the-variants.{Refused}
 use Rattle.cell.specs.Cell.{markGood, logicalOf}
+use Rattle.cell.specs.Codes.{numberRefusal}
 use Rattle.cell.specs.declared.Logical.{Logical}
 use Rattle.cell.specs.declared.Logical.the-variants as logical
 use Rattle.append.specs.declared.Store.{Store}
@@ -38,12 +37,7 @@ checkHeld b n = cond (leb n (length b)) (checkTable (take n b)) (Refused 10)
 
 -- ---- "each field's text in order"
 
--- what each type's reader refuses; a value is no refusal, and blanks are none
-unfoldable pub numberRefusal : Number → ℕ
-numberRefusal (number.Value v) = 0
-numberRefusal number.Empty = 0
-numberRefusal (number.Refused n) = n
-
+-- what the readers of dates and logical values refuse; a value is no refusal, and blanks are none
 unfoldable pub dateRefusal : DateAnswer → ℕ
 dateRefusal (date.Value d) = 0
 dateRefusal date.Empty = 0

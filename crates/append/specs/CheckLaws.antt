@@ -18,6 +18,7 @@ use Rattle.calendar.specs.DateText.{dateOf}
 use Rattle.numeral.specs.Reading.{readNumber}
 use Rattle.memo.specs.Memo.{memoNumber}
 use Rattle.cell.specs.Cell.{markGood, logicalOf}
+use Rattle.cell.specs.Codes.{numberRefusal}
 use Rattle.table.specs.Table.{minTable, maxTable, fileEnd, typeN, typeD, typeL, typeM, fieldType, fieldLength, fieldDecimals, fieldOffset, fieldCount}
 use Rattle.table.specs.Table.{firstYear, storableDate}
 use Rattle.table.specs.Table.{headerLength, recordLength, recordCount, recordsEnd, sizeGood, firstRefusal, tableChecks, tableRefusal, checkTable}
@@ -27,7 +28,7 @@ use Rattle.table.specs.FormLaws.{field-form, form-some}
 use Rattle.table.specs.RecordLaws.{field-inside, record-positive, records-next}
 use Rattle.table.specs.declared.Shape.{Shape}
 use Rattle.table.specs.declared.Checked.the-variants.{Good, Refused}
-use Rattle.append.specs.Append.{heldChecks, checkHeld, numberRefusal, dateRefusal, logicalRefusal, memoRefusal, textRefusal, textIn, textsRefusal}
+use Rattle.append.specs.Append.{heldChecks, checkHeld, dateRefusal, logicalRefusal, memoRefusal, textRefusal, textIn, textsRefusal}
 use Rattle.append.specs.Append.{roomFor, newEnd, recordChecks, recordRefusal, appendRefusal, recordWrite, countWrite, stored, appendRule, done}
 use Rattle.append.specs.Append.{Appendable}
 use Rattle.append.specs.UpdateDate.{setDateRefusal, dateWrite, setDateRule, dated}

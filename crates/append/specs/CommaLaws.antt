@@ -16,13 +16,14 @@ use Rattle.numeral.specs.Reading.{some}
 use Rattle.numeral.specs.ReadingLaws.{refused-16}
 use Rattle.numeral.specs.declared.Number.the-variants as number
 use Rattle.cell.specs.Cell.{markGood}
+use Rattle.cell.specs.Codes.{numberRefusal}
 use Rattle.table.specs.Table.{typeN, fieldType, fieldLength, fieldDecimals, fieldOffset, fieldCount, recordLength}
 use Rattle.table.specs.TableLaws.{Layout, layout, good-check}
 use Rattle.table.specs.FormLaws.{field-form, form-numeric}
 use Rattle.table.specs.RecordLaws.{field-inside}
 use Rattle.table.specs.declared.Shape.{Shape}
 use Rattle.table.specs.declared.Checked.the-variants.{Good}
-use Rattle.append.specs.Append.{checkHeld, numberRefusal, textIn, textsRefusal, recordRefusal, appendRefusal, appendRule, done}
+use Rattle.append.specs.Append.{checkHeld, textIn, textsRefusal, recordRefusal, appendRefusal, appendRule, done}
 use Rattle.append.specs.CheckLaws.{held-good, held-then, text-number, fieldRefused, record-text, Accepted, append-refused}
 
 -- ---- the fields one after another

@@ -5,20 +5,18 @@
 use calendar::DateAnswer;
 use cell::Logical;
 use memo::MemoNumber;
-use numeral::Number;
 use table::Checked;
 use table::Shape;
 ghost use Prim.Native.Nat.{_+_, _≤_, _<_};
 ghost use mathlib.Core.Path.{_≡_};
 ghost use lib.ListN.{length};
 ghost use Rattle.calendar.specs.DateText.{dateOf};
-ghost use Rattle.numeral.specs.Reading.{readNumber};
 ghost use Rattle.memo.specs.Memo.{memoNumber};
 ghost use Rattle.cell.specs.Cell.{logicalOf};
 ghost use Rattle.octets.specs.Bytes.{byteAt};
 ghost use Rattle.table.specs.Table.{fieldCount, recordLength, tableRefusal, checkTable};
 ghost use Rattle.table.specs.declared.Checked.the-variants.{Good};
-ghost use Rattle.append.specs.Append.{checkHeld, numberRefusal, dateRefusal, logicalRefusal, memoRefusal, textRefusal, textsRefusal};
+ghost use Rattle.append.specs.Append.{checkHeld, dateRefusal, logicalRefusal, memoRefusal, textRefusal, textsRefusal};
 ghost use Rattle.append.specs.Append.{roomFor, recordRefusal, appendRefusal, Appendable, stored, appendRule, done};
 ghost use Rattle.append.specs.UpdateDate.{setDateRule, dated};
 ghost use Rattle.append.specs.Extent.{formRefusal, extentRule};
@@ -59,16 +57,6 @@ fn check_held(buffer: &[u8], table_len: usize) -> Checked
     table::check_table(&buffer[..table_len])
 }
 
-fn number_refusal(text: &[u8], decimals: u32) -> u32
-    ensures { λ r. ⌜ r ≡ numberRefusal (readNumber (now (text .entry)) decimals) ⌝ }
-{
-    match numeral::read_number(text, decimals) {
-        Number::Value(_) => 0,
-        Number::Empty => 0,
-        Number::Refused(number) => number,
-    }
-}
-
 fn date_refusal(text: &[u8]) -> u32
     ensures { λ r. ⌜ r ≡ dateRefusal (dateOf (now (text .entry))) ⌝ }
 {
@@ -106,7 +94,7 @@ fn text_refusal(kind: u32, decimals: u32, text: &[u8]) -> u32
     ensures { λ r. ⌜ r ≡ textRefusal kind decimals (now (text .entry)) ⌝ }
 {
     if kind == table::TYPE_N {
-        return number_refusal(text, decimals);
+        return cell::number_refusal(numeral::read_number(text, decimals));
     }
     if kind == table::TYPE_D {
         return date_refusal(text);

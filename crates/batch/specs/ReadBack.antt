@@ -65,10 +65,10 @@ module _ (pre : List ℕ) (kind : ℕ) (key number post : List ℕ) (short : len
   long = simp length-append (omega arith)
 
 -- the call c of `size` bytes stands at an offset
-pub record There (s : List ℕ) (at : ℕ) (c : Call (List ℕ)) (size : ℕ) : Type 0 where
-  pub whole-call : isCall s at ≡ true
-  pub same-call : callAt s at ≡ c
-  pub next : callEnd s at ≡ at + size
+record There (s : List ℕ) (at : ℕ) (c : Call (List ℕ)) (size : ℕ) : Type 0 where
+  whole-call : isCall s at ≡ true
+  same-call : callAt s at ≡ c
+  next : callEnd s at ≡ at + size
 
 framed-length : (kind : ℕ) (key number : List ℕ) → length (framed kind key number) ≡ 3 + length key + length number
 unfolding toLe16

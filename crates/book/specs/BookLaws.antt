@@ -105,11 +105,11 @@ fresh-tests b b″ key expression room =
     ]
 
 -- it is accepted only if all three hold
-pub record FreshAccepted (b b″ after : List ℕ) (key expression room : Bool) : Type 0 where
-  pub keyGood : key ≡ true
-  pub expressionGood : expression ≡ true
-  pub roomGood : room ≡ true
-  pub leaves : after ≡ b″
+record FreshAccepted (b b″ after : List ℕ) (key expression room : Bool) : Type 0 where
+  keyGood : key ≡ true
+  expressionGood : expression ≡ true
+  roomGood : room ≡ true
+  leaves : after ≡ b″
 
 tests-accepted : (b b″ : List ℕ) (key expression room : Bool) → isAccepted (insertionAnswer (fresh-tests b b″ key expression room .answer)) ≡ true
     → FreshAccepted b b″ (fresh-tests b b″ key expression room .after) key expression room

@@ -8,5 +8,9 @@ pub mod CallLaws
 pub mod BookLaws
 -- Laws: pages are reused, and a key struck off and put in again is found
 pub mod ReuseLaws
+-- Laws: what the answers of insertion and removal are said by
+pub mod CaseLaws
 -- Laws: each answer of insertion, exactly when
 pub mod InsertionAnswers
+-- Laws: each answer of removal, exactly when
+pub mod RemovalAnswers

@@ -1,4 +1,4 @@
--- Rules: the number of each answer about a field: 0 for a value, 256 for an empty field, or document 01's refusal number.
+-- Rules: the number of each answer about a field: 0 for a value, 256 for an empty field, or document 01's refusal number; and the refusal of a numeric text.
 use Prim.Native.Nat.{ℕ}
 use Rattle.calendar.specs.declared.DateAnswer.{DateAnswer}
 use Rattle.calendar.specs.declared.DateAnswer.the-variants as date
@@ -19,6 +19,12 @@ unfoldable pub numberCode : Number → ℕ
 numberCode (number.Value v) = acceptedCode
 numberCode number.Empty = emptyCode
 numberCode (number.Refused n) = n
+
+-- what a numeric text is refused by: a value is no refusal, and blanks are none
+unfoldable pub numberRefusal : Number → ℕ
+numberRefusal (number.Value v) = 0
+numberRefusal number.Empty = 0
+numberRefusal (number.Refused n) = n
 
 unfoldable pub dateCode : DateAnswer → ℕ
 dateCode (date.Value d) = acceptedCode

@@ -2,7 +2,7 @@
 
 -- Rules: the checks of a call, and what it answers for an N, D, L, C and M field
 pub mod Cell
--- Rules: the number of each answer
+-- Rules: the number of each answer, and the refusal of a numeric text
 pub mod Codes
 -- Laws: what a call reads once no check refuses; every part handed out lies in its file
 pub mod CellLaws

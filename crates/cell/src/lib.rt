@@ -23,6 +23,7 @@ ghost use Rattle.numeral.specs.Reading.{readNumber};
 ghost use Rattle.field.specs.Field.{PlaceInside};
 ghost use Rattle.cell.specs.Cell.{readsType, markGood, cellPlace, numberCell, dateCell, logicalOf, logicalCell};
 ghost use Rattle.cell.specs.Cell.{memoPart, textAt, textCell, TextWithin, textPart};
+ghost use Rattle.cell.specs.Codes.{numberRefusal};
 
 const LETTER_T: u32 = 0x54;
 
@@ -106,6 +107,17 @@ pub fn number_at(table: &[u8], place: Place) -> Number
 {
     let text = part(table, place.start, place.form.length);
     numeral::read_number(text, place.form.decimals)
+}
+
+// The refusal of a numeric text, 0 if it is not refused.
+pub fn number_refusal(text: Number) -> u32
+    ensures { λ r. ⌜ r ≡ numberRefusal text ⌝ }
+{
+    match text {
+        Number::Value(_) => 0,
+        Number::Empty => 0,
+        Number::Refused(number) => number,
+    }
 }
 
 // The value of an N field.

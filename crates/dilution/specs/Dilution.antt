@@ -13,6 +13,7 @@ use Rattle.numeral.specs.declared.Number.the-variants as number
 use Rattle.table.specs.Table.{typeN, deletedMark, fieldType, fieldDecimals, fieldCount, deletionByte}
 use Rattle.field.specs.Field.{numberGood, PlaceGood}
 use Rattle.cell.specs.Cell.{markGood, fieldBytes}
+use Rattle.cell.specs.Codes.{numberRefusal}
 use Rattle.page.specs.Header.{keyLength}
 use Rattle.lookup.specs.Lookup.{lookupRule, answerRecord}
 use Rattle.matching.specs.Computed.{matchAnswer}
@@ -48,12 +49,6 @@ concentrationDecimals = 3
 -- what the concentration's field of record i says
 unfoldable pub concentrationText : List ℕ → ℕ → ℕ → Number
 concentrationText t i field = readNumber (fieldBytes t i field) concentrationDecimals
-
--- "16 to 18 by its text": 0 for a text that is not refused
-unfoldable pub textRefusal : Number → ℕ
-textRefusal (number.Value v) = 0
-textRefusal number.Empty = 0
-textRefusal (number.Refused n) = n
 
 -- the concentration in thousandths of nM; "empty, zero or negative" is none, 0
 unfoldable pub amountOf : ℤ → ℕ
@@ -91,7 +86,7 @@ barcodeChecks b barcode = (eqb (length barcode) (keyLength b), 27) ∷ (ltb 0 (r
 -- "15; its record deleted 35; 16 to 18 by its text"
 unfoldable pub textChecks : List ℕ → ℕ → ℕ → List (Bool × ℕ)
 textChecks t i field =
-    let refusal = textRefusal (concentrationText t i field) in
+    let refusal = numberRefusal (concentrationText t i field) in
     (markGood (deletionByte t i), 15) ∷ (not (eqb (deletionByte t i) deletedMark), 35) ∷ (eqb refusal 0, refusal) ∷ []
 
 -- "concentration empty, zero or negative 36; target or final out of range 37; target above concentration 38"

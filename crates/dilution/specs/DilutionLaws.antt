@@ -15,10 +15,11 @@ use Rattle.table.specs.TableLaws.{first-pass, first-fail}
 use Rattle.field.specs.Field.{PlaceGood}
 use Rattle.field.specs.FieldLaws.{number-range}
 use Rattle.cell.specs.Cell.{fieldBytes}
+use Rattle.cell.specs.Codes.{numberRefusal}
 use Rattle.page.specs.Header.{keyLength}
 use Rattle.matching.specs.Computed.{matchAnswer}
 use Rattle.dilution.specs.Dilution.{isConcentration, fieldChecks, sheetChecks, recordWith, barcodeChecks, unless, recordDilution, diluteRule, Dilutable}
-use Rattle.dilution.specs.Dilution.{volumesOf, concentrationText, textRefusal, concentrationOf, textChecks, volumeChecks, dilutionOf}
+use Rattle.dilution.specs.Dilution.{volumesOf, concentrationText, concentrationOf, textChecks, volumeChecks, dilutionOf}
 use Rattle.dilution.specs.CheckLaws.{unless-pass, unless-fail, unless-append, unless-none, unless-first, unless-named, Named, first-passes}
 use Rattle.dilution.specs.BarcodeLaws.{good-table, known, own-length, record-own}
 use Rattle.dilution.specs.declared.Dilution.{Dilution}
@@ -134,7 +135,7 @@ module _ (t b : List ℕ) (barcodeField field : ℕ) where
   unfolding diluteRule recordDilution dilutionOf barcodeChecks textChecks volumeChecks volumesOf
   dilute-numbered barcode target final n e =
       let i = recordWith b barcode in
-      let text = textRefusal (concentrationText t i field) in
+      let text = numberRefusal (concentrationText t i field) in
       let c = concentrationOf (concentrationText t i field) in
       unless-named (checks ++ barcodeChecks b barcode) (recordDilution t i field target final) n
       (all-append Named checks (barcodeChecks b barcode) sheet-named ((λ bad q. omega (arith, q)), ((λ bad q. omega (arith, q)), tt)))

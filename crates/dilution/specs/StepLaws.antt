@@ -20,7 +20,8 @@ use Rattle.field.specs.declared.FieldEntry.{FieldEntry}
 use Rattle.field.specs.declared.FieldAnswer.{FieldAnswer}
 use Rattle.field.specs.declared.Place.{Place}
 use Rattle.cell.specs.Cell.{markGood, fieldStart, fieldBytes}
-use Rattle.dilution.specs.Dilution.{maxTarget, maxFinal, volumesOf, inRange, concentrationDecimals, concentrationText, textRefusal, amountOf}
+use Rattle.cell.specs.Codes.{numberRefusal}
+use Rattle.dilution.specs.Dilution.{maxTarget, maxFinal, volumesOf, inRange, concentrationDecimals, concentrationText, amountOf}
 use Rattle.dilution.specs.Dilution.{concentrationOf, isConcentration, fieldChecks, textChecks, volumeChecks, unless, dilutionOf, recordDilution}
 use Rattle.dilution.specs.declared.Dilution.the-variants.{Refused}
 
@@ -121,7 +122,7 @@ module _ (t : List ℕ) (i field target final : ℕ) where
 
     module _ (kept : deletionByte t i ≡ deletedMark → ⊥) where
       abbrev refusal : ℕ
-      refusal = textRefusal (concentrationText t i field)
+      refusal = numberRefusal (concentrationText t i field)
 
       pub refused-text : (refusal ≡ 0 → ⊥) → recordDilution t i field target final ≡ Refused refusal
       unfolding recordDilution textChecks unless

@@ -8,7 +8,7 @@ use numeral::Number;
 ghost use mathlib.Core.Path.{_≡_};
 ghost use Prim.Native.Nat.{_≤_, _<_};
 ghost use Rattle.table.specs.Table.{firstRefusal, tableRefusal};
-ghost use Rattle.dilution.specs.Dilution.{maxTarget, maxFinal, sampleOf, volumesOf, inRange, textRefusal, concentrationOf, amountOf};
+ghost use Rattle.dilution.specs.Dilution.{maxTarget, maxFinal, sampleOf, volumesOf, inRange, concentrationOf, amountOf};
 ghost use Rattle.dilution.specs.Dilution.{fieldChecks, sheetChecks, recordWith, dilutionOf, recordDilution, diluteRule, Dilutable};
 
 // The decimals of a concentration's field.
@@ -101,17 +101,6 @@ fn dilution_of(concentration: u64, target: u64, final_volume: u64) -> Dilution
     volumes_of(concentration, target, final_volume)
 }
 
-// The refusal of a concentration's text, 0 if it is not refused.
-fn text_refusal(text: Number) -> u32
-    ensures { λ r. ⌜ r ≡ textRefusal text ⌝ }
-{
-    match text {
-        Number::Value(_) => 0,
-        Number::Empty => 0,
-        Number::Refused(code) => code,
-    }
-}
-
 // A value as a concentration: a negative value is none, 0.
 fn amount_of(value: i64) -> u64
     ensures { λ r. ⌜ r ≡ amountOf value ⌝ }
@@ -149,9 +138,9 @@ pub fn record_dilution(
         return Dilution::Refused(refusal::BARCODE_ABSENT);
     }
     let text = cell::number_at(table, place);
-    let refused = text_refusal(text);
-    if refused != 0 {
-        return Dilution::Refused(refused);
+    let text_refused = cell::number_refusal(text);
+    if text_refused != 0 {
+        return Dilution::Refused(text_refused);
     }
     dilution_of(concentration_of(text), target, final_volume)
 }

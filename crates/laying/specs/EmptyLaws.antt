@@ -26,17 +26,17 @@ use Rattle.laying.specs.LayingLaws.{count-range, Holds, length-laid, lai
 
 -- ---- no refusal
 
-pub record Accepted (room : ℕ) (ds : List ℕ) (f year month day : ℕ) : Type 0 where
-  pub date : storableDate year month day ≡ true
-  pub some : 1 ≤ f
-  pub few : f ≤ maxFields
-  pub fields : fieldsGood (laidOut ds f year month day) ≡ true
-  pub names : namesDiffer (laidOut ds f year month day) ≡ true
-  pub small : recordSize ds f ≤ maxRecord
-  pub fits : headerSize f + 1 ≤ room
+record Accepted (room : ℕ) (ds : List ℕ) (f year month day : ℕ) : Type 0 where
+  date : storableDate year month day ≡ true
+  some : 1 ≤ f
+  few : f ≤ maxFields
+  fields : fieldsGood (laidOut ds f year month day) ≡ true
+  names : namesDiffer (laidOut ds f year month day) ≡ true
+  small : recordSize ds f ≤ maxRecord
+  fits : headerSize f + 1 ≤ room
 
 module _ (room : ℕ) (ds : List ℕ) (f year month day : ℕ) where
-  pub accepted : layRefusal room ds f year month day ≡ 0 → Accepted room ds f year month day
+  accepted : layRefusal room ds f year month day ≡ 0 → Accepted room ds f year month day
   unfolding layRefusal layChecks
   accepted e =
       let held = first-none (layChecks room ds f year month day) (lit< tt, (lit< tt, (lit< tt, (lit< tt, (lit< tt, (lit< tt, tt)))))) e in
@@ -53,7 +53,7 @@ module _ (room : ℕ) (ds : List ℕ) (f year month day : ℕ) where
       }
 
   -- the table passes its own checks
-  pub laid-good : length ds ≡ 32 * f → Accepted room ds f year month day → tableRefusal (laidOut ds f year month day) ≡ 0
+  laid-good : length ds ≡ 32 * f → Accepted room ds f year month day → tableRefusal (laidOut ds f year month day) ≡ 0
   unfolding tableRefusal firstRefusal
   laid-good size a =
       let checks = laid-checks ds f year month day size (a .some) (a .few) (storable year month day (a .date)) (omega (arith, a .small)) [] in
@@ -107,7 +107,7 @@ module _ (e : FieldEntry) (n : length (e .name) ≡ 11) where
   rest-byte k = rw n at (getD-append-add (e .name) rest k 0)
 
 -- a table that holds the descriptors lists the entries
-pub holds-entries : (t : List ℕ) (es : List FieldEntry) → Named es → Holds t (descriptorsOf es) (length es) → 32 + 32 * length es ≤ length t
+holds-entries : (t : List ℕ) (es : List FieldEntry) → Named es → Holds t (descriptorsOf es) (length es) → 32 + 32 * length es ≤ length t
     → (j : ℕ) → j < length es → entryOf t j ≡ getD es j noEntry
 unfolding entryOf fieldName
 holds-entries t es named held long j l =

@@ -56,7 +56,7 @@ pub record Holds (b ds : List ℕ) (f : ℕ) : Type 0 where
   pub size : length ds ≡ 32 * f
   pub byte : (k : ℕ) → k < 32 * f → byteAt b (32 + k) ≡ byteAt ds k
 
-pub placed-holds : (ds : List ℕ) (f : ℕ) → length ds ≡ 32 * f → Holds (placed ds) ds f
+placed-holds : (ds : List ℕ) (f : ℕ) → length ds ≡ 32 * f → Holds (placed ds) ds f
 unfolding placed
 placed-holds ds f e = record { size = e; byte = λ k l. getD-append-add (replicate minTable 0) ds k 0 }
 
@@ -66,11 +66,11 @@ module _ (b ds : List ℕ) (f : ℕ) (held : Holds b ds f) where
       let at : descriptor j + k ≡ 32 + (32 * j + k) = omega arith in
       rw at (held .byte (32 * j + k) (omega arith) ∙ sym (placed-holds ds f (held .size) .byte (32 * j + k) (omega arith)))
 
-  pub memo-held : anyBelow (isMemo b) f ≡ listsMemo ds f
+  memo-held : anyBelow (isMemo b) f ≡ listsMemo ds f
   unfolding listsMemo isMemo
   memo-held = any-same (isMemo b) (isMemo (placed ds)) f (λ j l. rw (inner j 11 l (omega arith)))
 
-  pub size-held : fieldOffset b f ≡ recordSize ds f
+  size-held : fieldOffset b f ≡ recordSize ds f
   unfolding recordSize fieldOffset
   size-held = rw (sum-same (fieldLength b) (fieldLength (placed ds)) f (λ j l. inner j 16 l (omega arith)))
 
@@ -79,7 +79,7 @@ pub count-held : (b : List ℕ) (f : ℕ) → headerLength b ≡ headerSize f �
 unfolding fieldCount
 count-held b f e = omega (arith, e)
 
-pub fits-held : (b : List ℕ) (f : ℕ) → headerLength b ≡ headerSize f → 1 ≤ f → f ≤ maxFields → headerSize f ≤ length b → HeaderFits b
+fits-held : (b : List ℕ) (f : ℕ) → headerLength b ≡ headerSize f → 1 ≤ f → f ≤ maxFields → headerSize f ≤ length b → HeaderFits b
 fits-held b f e some few inside =
     let count = count-held b f e in
     record {
@@ -104,7 +104,7 @@ kind-fits true = refl
 kind-fits false = refl
 
 module _ (ds : List ℕ) (f year month day : ℕ) where
-  pub length-header : length (headerOf ds f year month day) ≡ minTable
+  length-header : length (headerOf ds f year month day) ≡ minTable
   unfolding headerOf toLe32 toLe16
   length-header = refl
 
@@ -127,7 +127,7 @@ module _ (ds : List ℕ) (f year month day : ℕ) where
     pub laid-holds : Holds t ds f
     laid-holds = record { size = size; byte = λ k l. late k ∙ List·getD-append ds _ 0 k (omega arith) }
 
-    pub laid-kind : byteAt t 0 ≡ kindFor (listsMemo ds f)
+    laid-kind : byteAt t 0 ≡ kindFor (listsMemo ds f)
     unfolding headerOf
     laid-kind = early 0 (lit< tt)
 
@@ -143,7 +143,7 @@ module _ (ds : List ℕ) (f year month day : ℕ) where
     unfolding headerLength le16 headerOf toLe32 toLe16
     laid-header few = rw (early 8 (lit< tt), early 9 (lit< tt)) (omega arith)
 
-    pub laid-length : recordSize ds f < 2 ^ 16 → recordLength t ≡ recordSize ds f
+    laid-length : recordSize ds f < 2 ^ 16 → recordLength t ≡ recordSize ds f
     unfolding recordLength le16 headerOf toLe32 toLe16
     laid-length small = rw (early 10 (lit< tt), early 11 (lit< tt)) (omega arith)
 
@@ -224,7 +224,7 @@ module _ (b ds : List ℕ) (f year month day : ℕ) where
   lay-4 good bad = rw (good, bad)
 
   -- a good date and count: the table's own checks decide, and the room
-  pub lay-checked : storableDate year month day ≡ true → countGood f ≡ true → length ds ≡ 32 * f → recordSize ds f < 2 ^ 16
+  lay-checked : storableDate year month day ≡ true → countGood f ≡ true → length ds ≡ 32 * f → recordSize ds f < 2 ^ 16
       → layOut b ds f year month day ≡ layTable b (laidOut ds f year month day)
   unfolding layOut layRefusal layChecks layTable
   lay-checked date count size small =

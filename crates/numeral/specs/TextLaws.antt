@@ -92,7 +92,7 @@ accepted s d v = (
 )
 
 -- "the same without the zero"
-pub zero-written : (d : ℕ) (v : ℤ) → Short d v → numberText d v ≡ signText v ++ (zeroDigit ∷ fractionText d (natAbs v))
+zero-written : (d : ℕ) (v : ℤ) → Short d v → numberText d v ≡ signText v ++ (zeroDigit ∷ fractionText d (natAbs v))
 unfolding numberText decimal decimalFrom
 zero-written d v z = rw (z .whole)
 

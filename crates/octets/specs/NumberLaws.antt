@@ -29,7 +29,7 @@ unfolding toLe32 toLe16
 toLe32-halves x = refl
 
 -- the bytes of a number read as the number
-pub le16-toLe16 : (x : ℕ) → x < 2 ^ 16 → le16 (toLe16 x) 0 ≡ x
+le16-toLe16 : (x : ℕ) → x < 2 ^ 16 → le16 (toLe16 x) 0 ≡ x
 unfolding le16 toLe16
 le16-toLe16 x h = omega arith
 

@@ -63,7 +63,7 @@ abbrev pub readCount : ℕ → List ℕ → ℕ → ℕ
 readCount k b p = min (countAt b p) (capacity k)
 
 -- a page's entries are those with the numbers below its count, and never more than the capacity
-pub entries-by-index : (k size : ℕ) (b : List ℕ) (p : ℕ) → isPage size p ≡ true → entriesAt k size b p ≡ entriesFrom b k p (readCount k b p) 0
+entries-by-index : (k size : ℕ) (b : List ℕ) (p : ℕ) → isPage size p ≡ true → entriesAt k size b p ≡ entriesFrom b k p (readCount k b p) 0
 unfolding entriesAt itemsAt window
 entries-by-index k size b p e =
     rw (e, items-take k (readCount k b p) entryArea (drop (p + entriesStart) b) (entries-fit k (readCount k b p) (min-le-right _ _)), ← entry-first k p)

@@ -22,6 +22,7 @@ use Rattle.table.specs.TableLaws.{layout}
 use Rattle.table.specs.RecordLaws.{field-inside, offset-positive}
 use Rattle.table.specs.FormLaws.{field-form, form-some}
 use Rattle.cell.specs.Cell.{fieldBytes}
+use Rattle.cell.specs.Codes.{numberRefusal}
 use Rattle.cell.specs.AnswerLaws.{first-small, table-below, number-numbered}
 use Rattle.field.specs.Field.{numberGood}
 use Rattle.page.specs.Header.{keyLength, headerGood}
@@ -29,7 +30,7 @@ use Rattle.sound.specs.Rule.{pagesGood, unmarked}
 use Rattle.matching.specs.Match.{matchRefusal}
 use Rattle.matching.specs.Rule.{columnOf, entriesMatch, leafEntries}
 use Rattle.matching.specs.Computed.{matchAnswer}
-use Rattle.dilution.specs.Dilution.{volumesOf, concentrationDecimals, concentrationText, textRefusal, concentrationOf, fieldChecks, sheetChecks, recordWith}
+use Rattle.dilution.specs.Dilution.{volumesOf, concentrationDecimals, concentrationText, concentrationOf, fieldChecks, sheetChecks, recordWith}
 use Rattle.dilution.specs.Dilution.{barcodeChecks, textChecks, volumeChecks, unless, dilutionOf, recordDilution, diluteRule}
 use Rattle.dilution.specs.CheckLaws.{unless-pass, unless-fail}
 use Rattle.dilution.specs.StepLaws.{range-bounds}
@@ -80,8 +81,8 @@ sheet-low : (t b : List ℕ) (barcodeField field : ℕ) → All Low (sheetChecks
 unfolding sheetChecks fieldChecks
 sheet-low t b barcodeField field = (match-low t b barcodeField, (lit< tt, (lit< tt, tt)))
 
-text-low : (t : List ℕ) (i field : ℕ) (n : Number) → concentrationText t i field ≡ n → textRefusal n < 256
-unfolding textRefusal concentrationText
+text-low : (t : List ℕ) (i field : ℕ) (n : Number) → concentrationText t i field ≡ n → numberRefusal n < 256
+unfolding numberRefusal concentrationText
 text-low t i field (text.Value v) e = lit< tt
 text-low t i field text.Empty e = lit< tt
 text-low t i field (text.Refused n) e = number-numbered (fieldBytes t i field) concentrationDecimals n e .1

@@ -1,6 +1,6 @@
 -- Steps: the audit's test as it is computed, in two passes, each page by page and level by level from the root down. The inner functions of the audit and of
--- the match cite its parts; insertion's rule, which has to compute, tells 25 by `pagesGood`. A reader need not believe the test: Accepted proves that it
--- accepts exactly the sound indexes, and book/InsertionAnswers says what insertion's 25 means by `Sound`.
+-- the match cite its parts; the rules of insertion and removal, which have to compute, tell 25 by `pagesGood`. A reader need not believe the test: Accepted
+-- proves that it accepts exactly the sound indexes, and book/InsertionAnswers and RemovalAnswers say what 25 means by `Sound`.
 -- The first pass tests all but the keys above pages: the shape. Each of its checks is local to a page and its left neighbour; it carries the left neighbour
 -- along, and marks each page that it meets. The second pass tests the keys above pages: the links are good by then, and the height is known.
 use Prim.Native.Nat.{ℕ, zero, suc, _+_, _-_, _/_}

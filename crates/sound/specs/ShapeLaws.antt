@@ -51,7 +51,7 @@ module _ (b : List ℕ) (k size root : ℕ) where
   abbrev pub GoodLevels : ℕ → Type 0
   GoodLevels h = AtLevels h (λ i ps. LevelGood b k size (eqb i 0) (eqb i h) ps)
 
-  abbrev pub CheckedLevels : ℕ → Type 0
+  abbrev CheckedLevels : ℕ → Type 0
   CheckedLevels h = AtLevels h (λ i ps. Checked b k size (attributeAtLevel h i) noPage ps)
 
   abbrev pub InsideLevels : ℕ → Type 0

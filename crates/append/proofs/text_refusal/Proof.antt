@@ -5,11 +5,14 @@ use borrow.Author.Needs.{needs}
 use Rattle.append.proofs.text_refusal.Statement.{statement}
 use Rattle.append.proofs.text_refusal.Tie as tie
 
+read-number-requires : tie.Need-read-number-requires
+read-number-requires c κs = search needs
+
 number-refusal-requires : tie.Need-number-refusal-requires
 number-refusal-requires c κs = search needs
 
 returns : tie.Need-returns
-returns c = c .number-refusal .ensures ∙ sym (text-number _ _ _ (c .before .if1 .taken))
+returns c = c .number-refusal .ensures ∙ rw (c .before .read-number .ensures) (sym (text-number _ _ _ (c .before .before .if1 .taken)))
 
 date-refusal-requires : tie.Need-date-refusal-requires
 date-refusal-requires c κs = search needs
@@ -39,6 +42,7 @@ pub text-refusal-spec : {M : Type 1} → statement M
 text-refusal-spec =
     tie.close
     (tie.spec
+    read-number-requires
     number-refusal-requires
     returns
     date-refusal-requires

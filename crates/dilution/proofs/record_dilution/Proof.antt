@@ -4,7 +4,8 @@ use mathlib.Core.Bool.{true}
 use Rattle.basis.specs.Tests.{passed, failed}
 use Rattle.table.specs.Table.{deletionByte, deletedMark}
 use Rattle.cell.specs.Cell.{markGood}
-use Rattle.dilution.specs.Dilution.{concentrationText, textRefusal, concentrationOf, dilutionOf}
+use Rattle.cell.specs.Codes.{numberRefusal}
+use Rattle.dilution.specs.Dilution.{concentrationText, concentrationOf, dilutionOf}
 use Rattle.dilution.specs.StepLaws.{refused-15, refused-deleted, refused-text, text-read, placed-mark, placed-text}
 use borrow.Author.Needs.{needs}
 use Rattle.dilution.proofs.record_dilution.Statement.{statement}
@@ -48,13 +49,13 @@ returns-2 c = sym (refused-deleted _ _ _ _ _ (marked (c .before .before)) (byte 
 number-at-requires : tie.Need-number-at-requires
 number-at-requires c κs = search needs
 
-text-refusal-requires : tie.Need-text-refusal-requires
-text-refusal-requires c κs = search needs
+number-refusal-requires : tie.Need-number-refusal-requires
+number-refusal-requires c κs = search needs
 
 returns-3 : tie.Need-returns-3
 returns-3 c =
     let read = c .before .before in
-    let said = c .before .text-refusal .ensures ∙ ap textRefusal (text read) in
+    let said = c .before .number-refusal .ensures ∙ ap numberRefusal (text read) in
     rw said (sym (refused-text _ _ _ _ _ (marked (read .before .before .before)) (kept (read .before)) (λ e. c .if3 .taken (said ∙ e))))
 
 concentration-of-requires : tie.Need-concentration-of-requires
@@ -69,7 +70,7 @@ returns-4 c =
     let refused = amount .before .before in
     let read = refused .before in
     let args = read .before .before .before .before .before .before .before .args in
-    let none = sym (refused .text-refusal .ensures ∙ ap textRefusal (text read)) ∙ amount .before .if3 .left in
+    let none = sym (refused .number-refusal .ensures ∙ ap numberRefusal (text read)) ∙ amount .before .if3 .left in
     c .dilution-of .ensures
     ∙ ap (λ x. dilutionOf x (args .target) (args .final-volume)) (amount .concentration-of .ensures ∙ ap concentrationOf (text read))
     ∙ sym (text-read _ _ _ _ _ (marked (read .before .before .before)) (kept (read .before)) none)
@@ -83,7 +84,7 @@ record-dilution-spec =
     returns
     returns-2
     number-at-requires
-    text-refusal-requires
+    number-refusal-requires
     returns-3
     concentration-of-requires
     dilution-of-requires

@@ -1,8 +1,8 @@
--- `dilution::text_refusal` meets its contract: the cases of a text. Assumes nothing.
-use Rattle.dilution.specs.Dilution.{textRefusal}
+-- `cell::number_refusal` meets its contract: the cases of a text. Assumes nothing.
+use Rattle.cell.specs.Codes.{numberRefusal}
 use borrow.Author.Needs.{needs}
-use Rattle.dilution.proofs.text_refusal.Statement.{statement}
-use Rattle.dilution.proofs.text_refusal.Tie as tie
+use Rattle.cell.proofs.number_refusal.Statement.{statement}
+use Rattle.cell.proofs.number_refusal.Tie as tie
 
 enum-told : tie.Need-enum-told
 enum-told c = search needs
@@ -14,17 +14,17 @@ enum-known-text : tie.Need-enum-known-text
 enum-known-text c = search needs
 
 returns : tie.Need-returns
-unfolding textRefusal
+unfolding numberRefusal
 returns c = search needs
 
 returns-2 : tie.Need-returns-2
-unfolding textRefusal
+unfolding numberRefusal
 returns-2 c = search needs
 
 returns-3 : tie.Need-returns-3
-unfolding textRefusal
+unfolding numberRefusal
 returns-3 c = search needs
 
-pub text-refusal-spec : {M : Type 1} → statement M
-text-refusal-spec =
+pub number-refusal-spec : {M : Type 1} → statement M
+number-refusal-spec =
     tie.close (tie.spec enum-told enum-told-2 enum-known-text returns returns-2 returns-3)
