@@ -9,6 +9,11 @@
 #include <string.h>
 #include <time.h>
 
+/* Moves the code of both archives, which the linker puts behind this, by PLACEMENT bytes. */
+#define TEXT(x) #x
+#define SKIP(n) __asm__(".section .text.placement, \"ax\"\n.balign 64\n.skip " TEXT(n) "\n.text")
+SKIP(PLACEMENT);
+
 /* The other archive's calls, by the names that the script gives them; removal is missing before K6. */
 extern __typeof__(gl_interface) other_gl_interface;
 extern __typeof__(gl_index_audit) other_gl_index_audit;
