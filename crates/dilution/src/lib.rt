@@ -6,7 +6,10 @@
 use lookup::Answer;
 use numeral::Number;
 ghost use mathlib.Core.Path.{_≡_};
+ghost use mathlib.Core.Bool.{true};
 ghost use Prim.Native.Nat.{_≤_, _<_};
+ghost use lib.ListN.{length};
+ghost use Rattle.page.specs.Header.{keyLength, headerGood};
 ghost use Rattle.table.specs.Table.{firstRefusal, tableRefusal};
 ghost use Rattle.dilution.specs.Dilution.{maxTarget, maxFinal, sampleOf, volumesOf, inRange, concentrationOf, amountOf};
 ghost use Rattle.dilution.specs.Dilution.{fieldChecks, sheetChecks, recordWith, dilutionOf, recordDilution, diluteRule, Dilutable};
@@ -147,9 +150,10 @@ pub fn record_dilution(
 
 // The number of the record that has the barcode, 0 if there is none.
 fn record_with(index: &[u8], barcode: &[u8]) -> u32
+    requires { ⌜ (headerGood (now index) ≡ true) × (length (now barcode) ≡ keyLength (now index)) ⌝ }
     ensures { λ r. ⌜ r ≡ recordWith (now (index .entry)) (now (barcode .entry)) ⌝ }
 {
-    match lookup::lookup(index, barcode) {
+    match lookup::lookup_from_root(index, barcode) {
         Answer::Found(number, _) => number.0,
         Answer::Absent(_) => 0,
         Answer::Refused(_) => 0,

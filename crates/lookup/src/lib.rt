@@ -76,6 +76,15 @@ fn lookup_from(index: &[u8], key: &[u8], page: PageOffset, levels: u32) -> Answe
     }
 }
 
+// Lookup from the root on, for a caller that has tested the header and the key's length. `lookup` is left with one caller in the archive, so that the compiler
+// takes it in there.
+pub fn lookup_from_root(index: &[u8], key: &[u8]) -> Answer
+    requires { ⌜ (headerGood (now index) ≡ true) × (length (now key) ≡ keyLength (now index)) ⌝ }
+    ensures { λ r. ⌜ r ≡ lookupRule (now (index .entry)) (now (key .entry)) ⌝ }
+{
+    lookup_from(index, key, page::root(index), page::MAX_LEVELS)
+}
+
 // The record of a key, or absent, with the number of pages visited.
 pub fn lookup(index: &[u8], key: &[u8]) -> Answer
     ensures { λ r. ⌜ r ≡ lookupRule (now (index .entry)) (now (key .entry)) ⌝ }
@@ -86,7 +95,7 @@ pub fn lookup(index: &[u8], key: &[u8]) -> Answer
     if key.len() != page::key_length(index) {
         return Answer::Refused(refusal::KEY_LENGTH);
     }
-    lookup_from(index, key, page::root(index), page::MAX_LEVELS)
+    lookup_from_root(index, key)
 }
 
 // Whether a lookup found its key.

@@ -144,7 +144,7 @@ pub fn remove(index: &mut [u8], key: &[u8]) -> Removal
     if audit::audit(index) != 0 {
         return Removal::Refused(refusal::INDEX_NOT_SOUND);
     }
-    if !lookup::is_found(lookup::lookup(index, key)) {
+    if !lookup::is_found(lookup::lookup_from_root(index, key)) {
         return Removal::Refused(refusal::KEY_ABSENT);
     }
     remove_key(index, key);

@@ -1,9 +1,10 @@
 -- `dilution::dilute` meets its contract: the sheet's checks, the barcode's length, its record, and then by the record. Assumes nothing.
 use mathlib.Core.Path.{_≡_, sym, _∙_}
+use mathlib.Core.Bool.{true}
 use native.Mathlib.Omega.{arith}
 use lib.ListN.{length}
 use Rattle.table.specs.Table.{firstRefusal}
-use Rattle.page.specs.Header.{keyLength}
+use Rattle.page.specs.Header.{keyLength, headerGood}
 use Rattle.page.specs.HeaderLaws.{good-header}
 use Rattle.dilution.specs.Dilution.{sheetChecks}
 use Rattle.dilution.specs.BarcodeLaws.{known, record-named}
@@ -19,6 +20,10 @@ start c = c .before .before .before .before .before
 none : (c : tie.Else1) → let args = start c .args in firstRefusal (sheetChecks (args .table .now) (args .index .now) (args .barcode-field) (args .field)) ≡ 0
 none c = sym (c .before .sheet-refusal .ensures) ∙ c .if1 .left
 
+-- so the index has a good header
+header : (c : tie.Else1) → headerGood (start c .args .index .now) ≡ true
+header c = known _ _ _ (sheet-good _ _ _ _ (none c) .matched) .header
+
 -- past the second the barcode is as long as the keys
 long : (c : tie.Else2) → let args = start (c .before .before) .args in length (args .barcode .now) ≡ keyLength (args .index .now)
 long c = c .if2 .left ∙ c .before .key-length .ensures
@@ -32,7 +37,7 @@ returns c =
     rw said (sym (dilute-refused _ _ _ _ _ _ _ (λ e. c .if1 .taken (said ∙ e))))
 
 key-length-requires : tie.Need-key-length-requires
-key-length-requires c κs = good-header _ (known _ _ _ (sheet-good _ _ _ _ (none c) .matched) .header) .long
+key-length-requires c κs = good-header _ (header c) .long
 
 returns-2 : tie.Need-returns-2
 returns-2 c =
@@ -40,7 +45,7 @@ returns-2 c =
     sym (dilute-27 _ _ _ _ _ _ _ (none (keyed .before)) (λ e. c .if2 .taken (e ∙ sym (keyed .key-length .ensures))))
 
 record-with-requires : tie.Need-record-with-requires
-record-with-requires c κs = search needs
+record-with-requires c κs = (header (c .before .before), long c)
 
 returns-3 : tie.Need-returns-3
 returns-3 c =

@@ -3,7 +3,7 @@
 use mathlib.Core.Bool.{true}
 use mathlib.Core.Path.{_≡_, sym, _∙_}
 use lib.ListN.{length}
-use borrow.Author.Tests.{eq-eqb, ne-eqb}
+use borrow.Author.Tests.{ne-eqb}
 use borrow.Author.Needs.{needs}
 use Rattle.basis.specs.Tests.{passed, failed}
 use Rattle.page.specs.HeaderLaws.{good-header}
@@ -40,18 +40,11 @@ returns-2 : tie.Need-returns-2
 unfolding lookupRule
 returns-2 c = rw (good (c .before .before), ne-eqb _ _ (λ e. c .if2 .taken (e ∙ sym (c .before .key-length .ensures))), lookupRule)
 
-root-requires : tie.Need-root-requires
-root-requires c κs = good-header _ (good (headed c)) .long
-
-lookup-from-requires : tie.Need-lookup-from-requires
-lookup-from-requires c κs = (search needs, good (headed (c .before)), whole (c .before))
+lookup-from-root-requires : tie.Need-lookup-from-root-requires
+lookup-from-root-requires c κs = (good (headed c), whole c)
 
 returns-3 : tie.Need-returns-3
-unfolding lookupRule
-returns-3 c =
-    let tested = c .before .before in
-    rw (good (headed tested), eq-eqb _ _ (whole tested), lookupRule)
-    (c .lookup-from .ensures ∙ rw (c .before .root .ensures))
+returns-3 c = c .lookup-from-root .ensures
 
 pub lookup-spec : {M : Type 1} → statement M
 lookup-spec =
@@ -61,6 +54,5 @@ lookup-spec =
     returns
     key-length-requires
     returns-2
-    root-requires
-    lookup-from-requires
+    lookup-from-root-requires
     returns-3)

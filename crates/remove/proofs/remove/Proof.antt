@@ -48,7 +48,7 @@ sound c = audit-sound _ (header (at-header (at-length (c .before)))) (c .before 
 -- what the lookup said of the key
 looked-up : (c : tie.After-is-found)
     → let measured = at-length (at-sound c .before) in c .is-found .result ≡ isFound (lookupRule (index measured) (key measured))
-looked-up c = c .is-found .ensures ∙ ap isFound (c .before .lookup .ensures)
+looked-up c = c .is-found .ensures ∙ ap isFound (c .before .lookup-from-root .ensures)
 
 header-good-requires : tie.Need-header-good-requires
 header-good-requires c κs = search needs
@@ -80,8 +80,10 @@ returns-3 c =
     let good = header (at-header measured) in
     refused-25 _ _ good (same measured) (audit-unsound _ good (c .before .audit .ensures) (c .if3 .taken))
 
-lookup-requires : tie.Need-lookup-requires
-lookup-requires c κs = search needs
+lookup-from-root-requires : tie.Need-lookup-from-root-requires
+lookup-from-root-requires c κs =
+    let measured = at-length (c .before .before) in
+    (header (at-header measured), same measured)
 
 is-found-requires : tie.Need-is-found-requires
 is-found-requires c κs = search needs
@@ -125,7 +127,7 @@ remove-spec =
     audit-requires
     same-length-3
     returns-3
-    lookup-requires
+    lookup-from-root-requires
     is-found-requires
     same-length-4
     returns-4
