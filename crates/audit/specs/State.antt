@@ -13,9 +13,10 @@ use Rattle.page.specs.ReadingLaws.{entriesFrom}
 use Rattle.page.specs.Within.{Within}
 use Rattle.page.specs.declared.PageOffset.{PageOffset}
 use Rattle.sound.specs.Rule as rule
-use Rattle.sound.specs.Rule.{isAbove, upperEntryGood}
+use Rattle.sound.specs.Rule.{isAbove, upperEntry}
 use Rattle.audit.specs.declared.Progress.{Progress}
 use Rattle.audit.specs.declared.Level.{Level}
+use Rattle.audit.specs.declared.Keys.{Keys}
 
 -- a file of `size` bytes within the buffer, with keys of k bytes
 pub record InFile (b : List ℕ) (k size : ℕ) : Type 0 where
@@ -36,20 +37,23 @@ keyFrom b k z = cond (eqb z 0) none (some (window b z k))
 abbrev pub leafEntry : List ℕ → ℕ → ℕ → ℕ → ℕ → Bool
 leafEntry b k p i z = not (eqb (numberAt b k p i) 0) && isAbove (keyFrom b k z) (keyAt b k p i)
 
--- the key of entry i of a page above the leaves, of n entries, is a ceiling, or exact; the children have h levels under them
-abbrev pub upperEntry : List ℕ → ℕ → ℕ → Bool → ℕ → ℕ → ℕ → ℕ → Bool
-upperEntry b k size exact h p n i = upperEntryGood b k size exact h (keyAt b k p i, numberAt b k p i) (entriesFrom b k p (n - (i + 1)) (i + 1))
+-- the key of entry i of a page above the leaves, of n entries, whose children have h levels under them
+abbrev pub upperKey : List ℕ → ℕ → ℕ → ℕ → ℕ → ℕ → ℕ → ℕ → rule.Keys
+upperKey b k size d h p n i = upperEntry b k size d h (keyAt b k p i, numberAt b k p i) (entriesFrom b k p (n - (i + 1)) (i + 1))
 
 -- the page at p of the free list: whether it fits, and the marks after it
 unfoldable pub markFree : List ℕ → ℕ → ℕ → List ℕ → Bool × List ℕ
 markFree b size p m = cond (rule.freeFits b size p m) (true, set m (p / pageSize) 1) (false, m)
 
--- the two structs, as the test has them
+-- the structs, as the test has them
 abbrev pub progressOf : Progress → rule.Progress
 progressOf s = record { good = s .good; last = s .last .0; next = s .next .0 }
 
 abbrev pub levelOf : Level → rule.Level
 levelOf v = record { good = v .good; leaf = v .leaf; first = v .first .0 }
+
+abbrev pub keysOf : Keys → rule.Keys
+keysOf r = record { good = r .good; exact = r .exact }
 
 -- a struct after a page that was not good, at the start of a level, and of a level at its end
 abbrev pub refusedAt : Progress → Progress
@@ -60,3 +64,7 @@ startAt first = record { good = true; last = record { 0 = noPage }; next = first
 
 abbrev pub closedAt : Progress → Bool → PageOffset → Level
 closedAt s leaf first = record { good = s .good && eqb (s .next .0) noPage; leaf = leaf; first = first }
+
+-- keys that are not all ceilings
+abbrev pub badKeys : Keys
+badKeys = record { good = false; exact = false }

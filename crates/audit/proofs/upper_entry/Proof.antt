@@ -8,7 +8,7 @@ use Rattle.audit.proofs.upper_entry.Tie as tie
 
 -- the places: past the child, where the function starts, past the test of the child's last leaf key
 abbrev past-child : tie.After-last-key → tie.After-child
-past-child c = c .before .before .before
+past-child c = c .before .before
 
 abbrev start : tie.After-last-key → tie.Start
 start c = past-child c .before .before
@@ -19,21 +19,22 @@ tested c = c .before .before
 child-requires : tie.Need-child-requires
 child-requires c κs = let pre = c .before .pre in pre .1 .each _ (pre .2)
 
-steps-requires : tie.Need-steps-requires
-steps-requires c κs = search needs
-
 last-under-requires : tie.Need-last-under-requires
 last-under-requires c κs = search needs
 
 last-key-requires : tie.Need-last-key-requires
 last-key-requires c κs = search needs
 
+bad-keys-requires : tie.Need-bad-keys-requires
+bad-keys-requires c κs = search needs
+
 returns : tie.Need-returns
 returns c =
-    let last = c .before in
+    let none = c .before in
+    let last = none .before in
     let a = start last .args in
-    upper-none (a .index .now) (a .k) (a .size) (a .exact) (a .under) (a .page .0) (a .count) (a .i) _ _ _ _ (past-child last .child .ensures)
-    (last .before .before .steps .ensures) (last .before .last-under .ensures) (last .last-key .ensures .0) (c .if1 .taken)
+    upper-none (a .index .now) (a .k) (a .size) (a .down) (a .under) (a .page .0) (a .count) (a .i) _ _ _ (past-child last .child .ensures)
+    (last .before .last-under .ensures) (last .last-key .ensures .0) (c .bad-keys .result) (c .bad-keys .ensures) (none .if1 .taken)
 
 entry-offset-requires : tie.Need-entry-offset-requires
 entry-offset-requires c κs =
@@ -70,14 +71,17 @@ enum-told-2 c = search needs
 enum-told-3 : tie.Need-enum-told-3
 enum-told-3 c = search needs
 
+bad-keys-requires-2 : tie.Need-bad-keys-requires-2
+bad-keys-requires-2 c κs = search needs
+
 returns-2 : tie.Need-returns-2
 returns-2 c =
     let compared = c .before .before .before in
     let key = compared .before in
     let last = tested compared .before in
     let a = start last .args in
-    upper-below (a .index .now) (a .k) (a .size) (a .exact) (a .under) (a .page .0) (a .count) (a .i) _ _ _ _ (past-child last .child .ensures)
-    (last .before .before .steps .ensures) (last .before .last-under .ensures) (last .last-key .ensures .0)
+    upper-below (a .index .now) (a .k) (a .size) (a .down) (a .under) (a .page .0) (a .count) (a .i) _ _ _ (past-child last .child .ensures)
+    (last .before .last-under .ensures) (last .last-key .ensures .0)
     _ _ (tested compared .if1 .left) (key .entry-offset .ensures) (compared .key-order .ensures) _ (c .before .enum-told .given .1) (c .below-next .ensures)
 
 returns-3 : tie.Need-returns-3
@@ -86,28 +90,29 @@ returns-3 c =
     let key = compared .before in
     let last = tested compared .before in
     let a = start last .args in
-    upper-equal (a .index .now) (a .k) (a .size) (a .exact) (a .under) (a .page .0) (a .count) (a .i) _ _ _ _ (past-child last .child .ensures)
-    (last .before .before .steps .ensures) (last .before .last-under .ensures) (last .last-key .ensures .0)
+    upper-equal (a .index .now) (a .k) (a .size) (a .down) (a .under) (a .page .0) (a .count) (a .i) _ _ _ (past-child last .child .ensures)
+    (last .before .last-under .ensures) (last .last-key .ensures .0)
     _ _ (tested compared .if1 .left) (key .entry-offset .ensures) (compared .key-order .ensures) (c .enum-told2 .given .1)
 
 returns-4 : tie.Need-returns-4
 returns-4 c =
-    let compared = c .before .before in
+    let compared = c .before .before .before in
     let key = compared .before in
     let last = tested compared .before in
     let a = start last .args in
-    upper-above (a .index .now) (a .k) (a .size) (a .exact) (a .under) (a .page .0) (a .count) (a .i) _ _ _ _ (past-child last .child .ensures)
-    (last .before .before .steps .ensures) (last .before .last-under .ensures) (last .last-key .ensures .0)
-    _ _ (tested compared .if1 .left) (key .entry-offset .ensures) (compared .key-order .ensures) (c .enum-told3 .given .1)
+    upper-above (a .index .now) (a .k) (a .size) (a .down) (a .under) (a .page .0) (a .count) (a .i) _ _ _ (past-child last .child .ensures)
+    (last .before .last-under .ensures) (last .last-key .ensures .0)
+    _ _ (tested compared .if1 .left) (key .entry-offset .ensures) (compared .key-order .ensures) (c .bad-keys2 .result)
+    (c .bad-keys2 .ensures) (c .before .enum-told3 .given .1)
 
 pub upper-entry-spec : {M : Type 1} → statement M
 upper-entry-spec =
     tie.close
     (tie.spec
     child-requires
-    steps-requires
     last-under-requires
     last-key-requires
+    bad-keys-requires
     returns
     entry-offset-requires
     key-order-requires
@@ -116,6 +121,7 @@ upper-entry-spec =
     below-next-requires
     enum-told-2
     enum-told-3
+    bad-keys-requires-2
     returns-2
     returns-3
     returns-4)
