@@ -2,16 +2,17 @@
 -- on these keys. Assumes nothing.
 use Prim.Native.Nat.{ℕ, zero, suc, _+_, _-_, _≤_, _<_}
 use mathlib.Core.Path.{_≡_, refl, sym, ap, _∙_}
-use mathlib.Core.Bool.{Bool, true, false}
+use mathlib.Core.Bool.{Bool, true, false, or-false}
 use mathlib.Core.List.{List}
 use mathlib.Core.Option.{none}
 use native.Mathlib.Omega.{arith}
 use lib.ListN.{length}
 use borrow.Author.Tests.{eq-eqb, ne-eqb}
+use Rattle.basis.specs.Tests.{contra}
 use Rattle.octets.specs.Store.{window}
 use Rattle.octets.specs.declared.Ordering.{Ordering}
 use Rattle.octets.specs.declared.Ordering.the-variants.{Below, Equal, Above}
-use Rattle.octets.specs.Order.{ordering, isBelow}
+use Rattle.octets.specs.Order.{ordering, isBelow, isEqual}
 use Rattle.page.specs.Header.{noPage}
 use Rattle.page.specs.Page.{entryOffset, numberAt}
 use Rattle.page.specs.Reading.{entriesAt}
@@ -20,8 +21,7 @@ use Rattle.page.specs.Children.{firstChild}
 use Rattle.sound.specs.Rule as rule
 use Rattle.sound.specs.Rule.{firstOf, lastOf, lastNumber, down, lastChild, belowNext, onward, upperEntries}
 use Rattle.sound.specs.CeilingLaws.{onward-good, onward-bad}
-use Rattle.audit.specs.declared.Keys.{Keys}
-use Rattle.audit.specs.State.{keyFrom, upperKey, keysOf, badKeys}
+use Rattle.audit.specs.State.{keyFrom, upperKey}
 use Rattle.audit.specs.EntryLaws.{from-on, from-end, some-key}
 
 -- the first key of a page
@@ -78,26 +78,33 @@ module _ (b : List ℕ) (k size h p n i x : ℕ) where
     unfolding keyFrom
     next-below e eo er = er ∙ rw (from-on b k p n i more, ← ec, ← eq, ← ez, ne-eqb z 0 e) (ap isBelow eo)
 
+-- an order that is below is not equal
+below-unequal : (o : Ordering) → isBelow o ≡ true → isEqual o ≡ false
+below-unequal Below e = refl
+below-unequal Equal e = contra e refl
+below-unequal Above e = refl
+
 -- one entry of a page above the leaves, by its tests
 module _ (b : List ℕ) (k size d h p n i c q z : ℕ) (ec : c ≡ numberAt b k p i) (eq : q ≡ down (lastChild b k size) d c)
     (ez : keyFrom b k z ≡ lastOf none (entriesAt k size b q)) where
-  pub upper-none : (r : Keys) → r ≡ badKeys → z ≡ 0 → keysOf r ≡ upperKey b k size d h p n i
+  pub upper-none : z ≡ 0 → record { good = false; exact = false } ≡ upperKey b k size d h p n i
   unfolding keyFrom
-  upper-none r er e = rw (er, ← ec, ← eq, ← ez, eq-eqb z 0 e)
+  upper-none e = rw (← ec, ← eq, ← ez, eq-eqb z 0 e)
 
-  module _ (at : ℕ) (o : Ordering) (some : z ≡ 0 → ⊥) (ea : at ≡ entryOffset k p i) (eo : o ≡ ordering (window b z k) (window b at k)) where
-    pub upper-below : (x : Bool) → o ≡ Below → x ≡ belowNext b k size h (window b at k) (entriesFrom b k p (n - (i + 1)) (i + 1))
-        → record { good = x; exact = false } ≡ upperKey b k size d h p n i
+  module _ (at : ℕ) (o : Ordering) (x y : Bool) (some : z ≡ 0 → ⊥) (ea : at ≡ entryOffset k p i) (eo : o ≡ ordering (window b z k) (window b at k))
+      (ex : x ≡ isBelow o) where
+    pub upper-below : x ≡ true → y ≡ belowNext b k size h (window b at k) (entriesFrom b k p (n - (i + 1)) (i + 1))
+        → record { good = y; exact = false } ≡ upperKey b k size d h p n i
     unfolding keyFrom
-    upper-below x e ex = rw (← ec, ← eq, ← ez, ne-eqb z 0 some, ← ea, ← eo, e, ex)
+    upper-below t ey =
+        let is : isBelow o ≡ true = sym ex ∙ t in
+        rw (← ec, ← eq, ← ez, ne-eqb z 0 some, ← ea, ← eo, is, below-unequal o is, ey)
 
-    pub upper-equal : o ≡ Equal → record { good = true; exact = true } ≡ upperKey b k size d h p n i
+    pub upper-else : x ≡ false → y ≡ isEqual o → record { good = y; exact = y } ≡ upperKey b k size d h p n i
     unfolding keyFrom
-    upper-equal e = rw (← ec, ← eq, ← ez, ne-eqb z 0 some, ← ea, ← eo, e)
-
-    pub upper-above : (r : Keys) → r ≡ badKeys → o ≡ Above → keysOf r ≡ upperKey b k size d h p n i
-    unfolding keyFrom
-    upper-above r er e = rw (er, ← ec, ← eq, ← ez, ne-eqb z 0 some, ← ea, ← eo, e)
+    upper-else t ey =
+        let is : isBelow o ≡ false = sym ex ∙ t in
+        rw (← ec, ← eq, ← ez, ne-eqb z 0 some, ← ea, ← eo, is, ← ey, or-false y)
 
 -- the loop over the n entries of a page above the leaves: the entries from entry i on, after an entry that is exact if x is true, decide
 abbrev pub UpperLeft : List ℕ → ℕ → ℕ → ℕ → ℕ → ℕ → ℕ → Bool → ℕ → Type 0

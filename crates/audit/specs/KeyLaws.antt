@@ -14,8 +14,8 @@ use Rattle.sound.specs.CeilingLaws.{onward-good, onward-bad}
 use Rattle.audit.specs.PassLaws.{chain-none, chain-some}
 
 module _ (b : List ℕ) (k size : ℕ) where
-  -- the loop over the pages of a level, whose children have h levels under them: of all pages, the pages from p on, `left` at most, after pages that are exact if
-  -- x is true, decide
+  -- the loop over the pages of a level, whose children have h levels under them: of all pages, the pages from p on, `left` at most, after pages that are exact
+  -- if x is true, decide
   abbrev pub UpperPagesLeft : ℕ → ℕ → ℕ → Bool → ℕ → ℕ → Type 0
   UpperPagesLeft d h first x p left = upperPages b k size d h true (chain b size maxPages first) ≡ upperPages b k size d h x (chain b size left p)
 

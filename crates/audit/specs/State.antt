@@ -64,7 +64,3 @@ startAt first = record { good = true; last = record { 0 = noPage }; next = first
 
 abbrev pub closedAt : Progress → Bool → PageOffset → Level
 closedAt s leaf first = record { good = s .good && eqb (s .next .0) noPage; leaf = leaf; first = first }
-
--- keys that are not all ceilings
-abbrev pub badKeys : Keys
-badKeys = record { good = false; exact = false }

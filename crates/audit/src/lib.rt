@@ -24,7 +24,7 @@ ghost use Rattle.sound.specs.Rule.{maxPages, firstOf, lastOf, leafEntriesGood, 
 ghost use Rattle.sound.specs.Rule.{checkPage, checkPages, rootLevel, nextLevel, levelsUnder, markedFrom, isFreePage, checkFree, restFree, shapeGood};
 ghost use Rattle.sound.specs.Rule.{heightOf, down, lastChild, belowNext, upperEntries, upperPages, upperLevels, keysAboveGood, pagesGood};
 ghost use Rattle.audit.specs.State.{InFile, EntriesWithin, keyFrom, leafEntry, upperKey, markFree, progressOf, levelOf, keysOf};
-ghost use Rattle.audit.specs.State.{startAt, refusedAt, closedAt, badKeys};
+ghost use Rattle.audit.specs.State.{startAt, refusedAt, closedAt};
 
 // What is known of the pages met on a level: whether all were good, the last page met, and the page that its right link names.
 struct Progress {
@@ -40,7 +40,8 @@ struct Level {
     first: PageOffset,
 }
 
-// What is known of keys above pages: whether all are ceilings; and, if they are, whether each page met is exact: its own last key is the last leaf key under it.
+// What is known of keys above pages: whether all are ceilings; and, if they are, whether each page met is exact: its own last key is the last leaf key under
+// it.
 struct Keys {
     good: bool,
     exact: bool,
@@ -535,16 +536,6 @@ fn below_next(
     octets::is_below(key_order(index, k, key, first))
 }
 
-// Keys that are not all ceilings.
-fn bad_keys() -> Keys
-    ensures { λ r. ⌜ r ≡ badKeys ⌝ }
-{
-    Keys {
-        good: false,
-        exact: false,
-    }
-}
-
 // The key of entry i, above a child that has `under` levels under it: whether it is a ceiling, at or above the last leaf key under the child, and below the
 // first under the next child of the page, of `count` entries; and whether it is exact, the last leaf key itself, which is then below the next child, since leaf
 // keys ascend. The last leaf key is the last key of the page that last entries lead to in `down` steps from the child.
@@ -564,23 +555,25 @@ fn upper_entry(
     let child = page::child(index, k, page, i);
     let last = last_key(index, k, size, last_under(index, k, size, down, child));
     if last == 0 {
-        return bad_keys();
+        return Keys {
+            good: false,
+            exact: false,
+        };
     }
     let key = page::entry_offset(k, page, i);
-    match key_order(index, k, last, key) {
-        Ordering::Below => Keys {
+    let order = key_order(index, k, last, key);
+    if octets::is_below(order) {
+        return Keys {
             good: below_next(index, k, size, under, page, count, i + 1, key),
             exact: false,
-        },
-        Ordering::Equal => Keys {
-            good: true,
-            exact: true,
-        },
-        Ordering::Above => bad_keys(),
+        };
     }
+    let exact = octets::is_equal(order);
+    Keys { good: exact, exact }
 }
 
-// The entries of a page above the leaves, up to the first that is not good: the page is exact if its last entry is. Its children have `under` levels under them.
+// The entries of a page above the leaves, up to the first that is not good: the page is exact if its last entry is. Its children have `under` levels under
+// them.
 fn upper_entries(
     index: &[u8],
     k: usize,
@@ -661,13 +654,8 @@ fn upper_levels(index: &[u8], k: usize, size: usize, height: u32, first: PageOff
         };
     }
     let under = height - 1;
-    let below = upper_levels(
-        index,
-        k,
-        size,
-        under,
-        page::first_child(index, k, size, first),
-    );
+    let first_below = page::first_child(index, k, size, first);
+    let below = upper_levels(index, k, size, under, first_below);
     if !below.good {
         return below;
     }
