@@ -21,9 +21,9 @@ ghost use Rattle.page.specs.Page.{entryArea};
 ghost use Rattle.sound.specs.Sound.{zeros, Audited};
 ghost use Rattle.page.specs.Children.{childrenOf, firstChild};
 ghost use Rattle.sound.specs.Rule.{maxPages, firstOf, lastOf, leafEntriesGood, entriesFit, pageFits, attributeOf, chain, pagesUnder};
-ghost use Rattle.sound.specs.Rule.{checkPage, checkPages, rootLevel, nextLevel, levelsUnder, markedFrom, isFreePage, checkFree, restFree, shapeGood};
+ghost use Rattle.sound.specs.Rule.{checkPages, rootLevel, nextLevel, levelsUnder, markedFrom, isFreePage, checkFree, restFree, shapeGood};
 ghost use Rattle.sound.specs.Rule.{heightOf, down, lastChild, belowNext, upperEntries, upperPages, upperLevels, keysAboveGood, pagesGood};
-ghost use Rattle.audit.specs.State.{InFile, EntriesWithin, keyFrom, leafEntry, upperKey, markFree, progressOf, levelOf, keysOf};
+ghost use Rattle.audit.specs.State.{InFile, EntriesWithin, MarkedWithin, keyFrom, leafEntry, upperKey, takePage, markFree, progressOf, levelOf, keysOf};
 ghost use Rattle.audit.specs.State.{startAt, refusedAt, closedAt};
 
 // What is known of the pages met on a level: whether all were good, the last page met, and the page that its right link names.
@@ -160,22 +160,12 @@ fn refused(s: Progress) -> Progress
     }
 }
 
-// Checks one page more, and marks it.
-fn check_page(
-    index: &[u8],
-    marks: &mut [u8],
-    k: usize,
-    size: usize,
-    attribute: u32,
-    page: PageOffset,
-    s: Progress,
-) -> Progress
-    requires { ⌜ InFile (now index) k size × (length (now marks) ≡ maxPages) ⌝ }
-    ensures { λ r. ⌜ checkPage (now (index .entry)) k size attribute (page .0) (progressOf s) (now (marks .entry)) ≡ (progressOf r, now (marks .exit)) ⌝ }
+// Takes a page that was tested: if it fits and has no mark, it gets its mark and is the last page met.
+fn take_page(index: &[u8], marks: &mut [u8], page: PageOffset, fits: bool, s: Progress) -> Progress
+    requires { ⌜ MarkedWithin (now index) (now marks) (page .0) fits ⌝ }
+    ensures { λ r. ⌜ takePage (now (index .entry)) (page .0) fits (progressOf s) (now (marks .entry)) ≡ (progressOf r, now (marks .exit)) ⌝ }
 {
-    let last = s.last;
-    let next = s.next;
-    if !(s.good & page_fits(index, k, size, attribute, page, last, next)) {
+    if !fits {
         return refused(s);
     }
     let mark = page.0 as usize / Page::SIZE;
@@ -215,15 +205,11 @@ fn check_children(
         if !t.good {
             return t;
         }
-        t = check_page(
-            index,
-            marks,
-            k,
-            size,
-            attribute,
-            page::child(index, k, parent, i),
-            t,
-        );
+        let child = page::child(index, k, parent, i);
+        let last = t.last;
+        let next = t.next;
+        let fits = page_fits(index, k, size, attribute, child, last, next);
+        t = take_page(index, marks, child, fits, t);
         i += 1;
     }
     t
@@ -305,16 +291,11 @@ fn root_level(index: &[u8], marks: &mut [u8], k: usize, size: usize, root: PageO
     ensures { λ r. ⌜ rootLevel (now (index .entry)) k size (root .0) (now (marks .entry)) ≡ (levelOf r, now (marks .exit)) ⌝ }
 {
     let leaf = page::leaf_at(index, size, root);
-    let s = check_page(
-        index,
-        marks,
-        k,
-        size,
-        attribute_of(true, leaf),
-        root,
-        start(root),
-    );
-    closed(s, leaf, root)
+    let s = start(root);
+    let last = s.last;
+    let fits = page_fits(index, k, size, attribute_of(true, leaf), root, last, root);
+    let t = take_page(index, marks, root, fits, s);
+    closed(t, leaf, root)
 }
 
 // Checks the level under the level whose first page is `above`.
