@@ -2,23 +2,26 @@
 -- on these keys. Assumes nothing.
 use Prim.Native.Nat.{ℕ, zero, suc, _+_, _-_, _≤_, _<_}
 use mathlib.Core.Path.{_≡_, refl, sym, ap, _∙_}
-use mathlib.Core.Bool.{Bool, true, false, cond, not, _&&_}
+use mathlib.Core.Bool.{Bool, true, false, or-false}
 use mathlib.Core.List.{List}
 use mathlib.Core.Option.{none}
 use native.Mathlib.Omega.{arith}
 use lib.ListN.{length}
 use borrow.Author.Tests.{eq-eqb, ne-eqb}
+use Rattle.basis.specs.Tests.{contra}
 use Rattle.octets.specs.Store.{window}
 use Rattle.octets.specs.declared.Ordering.{Ordering}
 use Rattle.octets.specs.declared.Ordering.the-variants.{Below, Equal, Above}
-use Rattle.octets.specs.Order.{ordering, isBelow}
+use Rattle.octets.specs.Order.{ordering, isBelow, isEqual}
 use Rattle.page.specs.Header.{noPage}
 use Rattle.page.specs.Page.{entryOffset, numberAt}
 use Rattle.page.specs.Reading.{entriesAt}
 use Rattle.page.specs.ReadingLaws.{entriesFrom, entries-are}
 use Rattle.page.specs.Children.{firstChild}
-use Rattle.sound.specs.Rule.{firstOf, lastOf, lastNumber, down, lastChild, belowNext, upperEntriesGood}
-use Rattle.audit.specs.State.{keyFrom, upperEntry}
+use Rattle.sound.specs.Rule as rule
+use Rattle.sound.specs.Rule.{firstOf, lastOf, lastNumber, down, lastChild, belowNext, onward, upperEntries}
+use Rattle.sound.specs.CeilingLaws.{onward-good, onward-bad}
+use Rattle.audit.specs.State.{keyFrom, upperKey}
 use Rattle.audit.specs.EntryLaws.{from-on, from-end, some-key}
 
 -- the first key of a page
@@ -75,47 +78,55 @@ module _ (b : List ℕ) (k size h p n i x : ℕ) where
     unfolding keyFrom
     next-below e eo er = er ∙ rw (from-on b k p n i more, ← ec, ← eq, ← ez, ne-eqb z 0 e) (ap isBelow eo)
 
+-- an order that is below is not equal
+below-unequal : (o : Ordering) → isBelow o ≡ true → isEqual o ≡ false
+below-unequal Below e = refl
+below-unequal Equal e = contra e refl
+below-unequal Above e = refl
+
 -- one entry of a page above the leaves, by its tests
-module _ (b : List ℕ) (k size : ℕ) (exact : Bool) (h p n i c d q z : ℕ) (ec : c ≡ numberAt b k p i) (ed : d ≡ cond exact 0 h)
-    (eq : q ≡ down (lastChild b k size) d c) (ez : keyFrom b k z ≡ lastOf none (entriesAt k size b q)) where
-  pub upper-none : z ≡ 0 → false ≡ upperEntry b k size exact h p n i
+module _ (b : List ℕ) (k size d h p n i c q z : ℕ) (ec : c ≡ numberAt b k p i) (eq : q ≡ down (lastChild b k size) d c)
+    (ez : keyFrom b k z ≡ lastOf none (entriesAt k size b q)) where
+  pub upper-none : z ≡ 0 → record { good = false; exact = false } ≡ upperKey b k size d h p n i
   unfolding keyFrom
-  upper-none e = rw (← ec, ← ed, ← eq, ← ez, eq-eqb z 0 e)
+  upper-none e = rw (← ec, ← eq, ← ez, eq-eqb z 0 e)
 
-  module _ (at : ℕ) (o : Ordering) (some : z ≡ 0 → ⊥) (ea : at ≡ entryOffset k p i) (eo : o ≡ ordering (window b z k) (window b at k)) where
-    pub upper-below : (r : Bool) → o ≡ Below → r ≡ belowNext b k size h (window b at k) (entriesFrom b k p (n - (i + 1)) (i + 1))
-        → not exact && r ≡ upperEntry b k size exact h p n i
+  module _ (at : ℕ) (o : Ordering) (x y : Bool) (some : z ≡ 0 → ⊥) (ea : at ≡ entryOffset k p i) (eo : o ≡ ordering (window b z k) (window b at k))
+      (ex : x ≡ isBelow o) where
+    pub upper-below : x ≡ true → y ≡ belowNext b k size h (window b at k) (entriesFrom b k p (n - (i + 1)) (i + 1))
+        → record { good = y; exact = false } ≡ upperKey b k size d h p n i
     unfolding keyFrom
-    upper-below r e er = rw (← ec, ← ed, ← eq, ← ez, ne-eqb z 0 some, ← ea, ← eo, e, er)
+    upper-below t ey =
+        let is : isBelow o ≡ true = sym ex ∙ t in
+        rw (← ec, ← eq, ← ez, ne-eqb z 0 some, ← ea, ← eo, is, below-unequal o is, ey)
 
-    pub upper-equal : o ≡ Equal → true ≡ upperEntry b k size exact h p n i
+    pub upper-else : x ≡ false → y ≡ isEqual o → record { good = y; exact = y } ≡ upperKey b k size d h p n i
     unfolding keyFrom
-    upper-equal e = rw (← ec, ← ed, ← eq, ← ez, ne-eqb z 0 some, ← ea, ← eo, e)
+    upper-else t ey =
+        let is : isBelow o ≡ false = sym ex ∙ t in
+        rw (← ec, ← eq, ← ez, ne-eqb z 0 some, ← ea, ← eo, is, ← ey, or-false y)
 
-    pub upper-above : o ≡ Above → false ≡ upperEntry b k size exact h p n i
-    unfolding keyFrom
-    upper-above e = rw (← ec, ← ed, ← eq, ← ez, ne-eqb z 0 some, ← ea, ← eo, e)
+-- the loop over the n entries of a page above the leaves: the entries from entry i on, after an entry that is exact if x is true, decide
+abbrev pub UpperLeft : List ℕ → ℕ → ℕ → ℕ → ℕ → ℕ → ℕ → Bool → ℕ → Type 0
+UpperLeft b k size d h p n x i =
+    upperEntries b k size d h true (entriesAt k size b p) ≡ upperEntries b k size d h x (entriesFrom b k p (n - i) i)
 
--- the loop over the n entries of a page above the leaves: the entries from entry i on decide
-abbrev pub UpperLeft : List ℕ → ℕ → ℕ → Bool → ℕ → ℕ → ℕ → ℕ → Type 0
-UpperLeft b k size exact h p n i =
-    upperEntriesGood b k size exact h (entriesAt k size b p) ≡ upperEntriesGood b k size exact h (entriesFrom b k p (n - i) i)
+pub upper-start : (b : List ℕ) (k size d h p n : ℕ) → n ≡ length (entriesAt k size b p) → UpperLeft b k size d h p n true 0
+upper-start b k size d h p n en = let e : n - 0 ≡ n = omega arith in rw e (ap (upperEntries b k size d h true) (entries-are b k size p n en))
 
-pub upper-start : (b : List ℕ) (k size : ℕ) (exact : Bool) (h p n : ℕ) → n ≡ length (entriesAt k size b p) → UpperLeft b k size exact h p n 0
-upper-start b k size exact h p n en = let e : n - 0 ≡ n = omega arith in rw e (ap (upperEntriesGood b k size exact h) (entries-are b k size p n en))
-
-module _ (b : List ℕ) (k size : ℕ) (exact : Bool) (h p n i : ℕ) (inv : UpperLeft b k size exact h p n i) where
-  pub upper-end : n ≤ i → true ≡ upperEntriesGood b k size exact h (entriesAt k size b p)
-  unfolding upperEntriesGood
+module _ (b : List ℕ) (k size d h p n : ℕ) (x : Bool) (i : ℕ) (inv : UpperLeft b k size d h p n x i) where
+  pub upper-end : n ≤ i → record { good = true; exact = x } ≡ upperEntries b k size d h true (entriesAt k size b p)
+  unfolding upperEntries
   upper-end l = sym (inv ∙ rw (from-end b k p n i l))
 
-  module _ (more : i < n) (r : Bool) (er : r ≡ upperEntry b k size exact h p n i) where
-    upper-step : upperEntriesGood b k size exact h (entriesAt k size b p) ≡ (r && upperEntriesGood b k size exact h (entriesFrom b k p (n - (i + 1)) (i + 1)))
-    unfolding upperEntriesGood
+  module _ (more : i < n) (r : rule.Keys) (er : r ≡ upperKey b k size d h p n i) where
+    upper-step : upperEntries b k size d h true (entriesAt k size b p)
+        ≡ onward r (λ y. upperEntries b k size d h y (entriesFrom b k p (n - (i + 1)) (i + 1)))
+    unfolding upperEntries
     upper-step = inv ∙ rw (from-on b k p n i more, ← er)
 
-    pub upper-off : r ≡ false → false ≡ upperEntriesGood b k size exact h (entriesAt k size b p)
-    upper-off e = sym (upper-step ∙ rw e)
+    pub upper-off : r .good ≡ false → r ≡ upperEntries b k size d h true (entriesAt k size b p)
+    upper-off e = sym (upper-step ∙ onward-bad r _ e)
 
-    pub upper-on : r ≡ true → UpperLeft b k size exact h p n (i + 1)
-    upper-on e = upper-step ∙ rw e
+    pub upper-on : r .good ≡ true → UpperLeft b k size d h p n (r .exact) (i + 1)
+    upper-on e = upper-step ∙ onward-good r _ e

@@ -1,63 +1,64 @@
--- Laws: the loops of the audit's second pass, over the pages of a level, the levels and the first children, and its answer. Cited by the proofs of the
--- functions that have these loops. Assumes nothing.
+-- Laws: the audit's second pass: the loops over the pages of a level and over the first children, the way from level to level, and its answer. Cited by the
+-- proofs of the functions that do these. Assumes nothing.
 use Prim.Native.Nat.{ℕ, suc, _+_, _-_, _≤_, _<_}
 use mathlib.Core.Path.{_≡_, refl, sym, ap, _∙_}
-use mathlib.Core.Bool.{Bool, true, false, _&&_, _||_}
+use mathlib.Core.Bool.{Bool, true, false, cond, _&&_}
 use mathlib.Core.List.{List}
 use native.Mathlib.Omega.{arith}
 use Rattle.page.specs.Header.{maxLevels, isPage, rootOffset, fileSize, keyLength}
 use Rattle.page.specs.Page.{rightAt}
 use Rattle.page.specs.Reading.{entriesAt}
 use Rattle.page.specs.Children.{isLeaf, firstChild}
-use Rattle.sound.specs.Rule.{maxPages, chain, upperEntriesGood, heightOf, upperPagesGood, upperLevelsGood, shapeGood, keysAboveGood, pagesGood}
+use Rattle.sound.specs.Rule.{maxPages, Keys, chain, onward, heightOf, upperEntries, upperPages, upperLevels, shapeGood, keysAboveGood, pagesGood}
+use Rattle.sound.specs.CeilingLaws.{onward-good, onward-bad}
 use Rattle.audit.specs.PassLaws.{chain-none, chain-some}
 
-module _ (b : List ℕ) (k size : ℕ) (exact : Bool) where
-  -- the loop over the pages of a level, whose children have h levels under them: of all pages, the pages from p on decide, `left` at most
-  abbrev pub UpperPagesLeft : ℕ → ℕ → ℕ → ℕ → Type 0
-  UpperPagesLeft h first p left = upperPagesGood b k size exact h (chain b size maxPages first) ≡ upperPagesGood b k size exact h (chain b size left p)
+module _ (b : List ℕ) (k size : ℕ) where
+  -- the loop over the pages of a level, whose children have h levels under them: of all pages, the pages from p on, `left` at most, after pages that are exact
+  -- if x is true, decide
+  abbrev pub UpperPagesLeft : ℕ → ℕ → ℕ → Bool → ℕ → ℕ → Type 0
+  UpperPagesLeft d h first x p left = upperPages b k size d h true (chain b size maxPages first) ≡ upperPages b k size d h x (chain b size left p)
 
-  module _ (h first p left : ℕ) (inv : UpperPagesLeft h first p left) where
-    pub upper-pages-none : isPage size p ≡ false → true ≡ upperPagesGood b k size exact h (chain b size maxPages first)
-    unfolding upperPagesGood
+  module _ (d h first : ℕ) (x : Bool) (p left : ℕ) (inv : UpperPagesLeft d h first x p left) where
+    pub upper-pages-none : isPage size p ≡ false → record { good = true; exact = x } ≡ upperPages b k size d h true (chain b size maxPages first)
+    unfolding upperPages
     upper-pages-none e = sym (inv ∙ rw (chain-none b k size 0 p left e))
 
-    pub upper-pages-end : left ≡ 0 → true ≡ upperPagesGood b k size exact h (chain b size maxPages first)
-    unfolding chain upperPagesGood
+    pub upper-pages-end : left ≡ 0 → record { good = true; exact = x } ≡ upperPages b k size d h true (chain b size maxPages first)
+    unfolding chain upperPages
     upper-pages-end e = sym (inv ∙ rw e)
 
-    module _ (q : ℕ) (r : Bool) (more : left ≡ 0 → ⊥) (page : isPage size p ≡ true) (er : r ≡ upperEntriesGood b k size exact h (entriesAt k size b p))
-      where
-        upper-pages-step : (q : ℕ) → q ≡ rightAt b p
-            → upperPagesGood b k size exact h (chain b size maxPages first) ≡ (r && upperPagesGood b k size exact h (chain b size (left - 1) q))
-        unfolding upperPagesGood
-        upper-pages-step q eq = inv ∙ rw (chain-some b k size 0 p left q more page eq, ← er)
+    module _ (r : Keys) (more : left ≡ 0 → ⊥) (page : isPage size p ≡ true) (er : r ≡ upperEntries b k size d h true (entriesAt k size b p)) where
+      upper-pages-step : (q : ℕ) → q ≡ rightAt b p → upperPages b k size d h true (chain b size maxPages first)
+          ≡ onward r (λ y. upperPages b k size d h (x && y) (chain b size (left - 1) q))
+      unfolding upperPages
+      upper-pages-step q eq = inv ∙ rw (chain-some b k size 0 p left q more page eq, ← er)
 
-        pub upper-pages-off : r ≡ false → false ≡ upperPagesGood b k size exact h (chain b size maxPages first)
-        upper-pages-off e = sym (upper-pages-step (rightAt b p) refl ∙ rw e)
+      pub upper-pages-off : r .good ≡ false → r ≡ upperPages b k size d h true (chain b size maxPages first)
+      upper-pages-off e = sym (upper-pages-step (rightAt b p) refl ∙ onward-bad r _ e)
 
-        pub upper-pages-on : q ≡ rightAt b p → r ≡ true → UpperPagesLeft h first q (left - 1)
-        upper-pages-on eq e = upper-pages-step q eq ∙ rw e
+      pub upper-pages-on : (q : ℕ) → q ≡ rightAt b p → r .good ≡ true → UpperPagesLeft d h first (x && r .exact) q (left - 1)
+      upper-pages-on q eq e = upper-pages-step q eq ∙ onward-good r _ e
 
-  -- the loop over the levels: of `height` levels, the `left` levels from the page p on decide
-  abbrev pub UpperLevelsLeft : ℕ → ℕ → ℕ → ℕ → Type 0
-  UpperLevelsLeft height first left p = upperLevelsGood b k size exact height first ≡ upperLevelsGood b k size exact left p
+  -- the levels: the leaves, and a level above them after the level below, whose first page is c
+  pub upper-levels-end : (height first : ℕ) → height ≡ 0 → record { good = true; exact = true } ≡ upperLevels b k size height first
+  unfolding upperLevels
+  upper-levels-end height first e = rw e
 
-  module _ (height first left p : ℕ) (inv : UpperLevelsLeft height first left p) where
-    pub upper-levels-end : left ≡ 0 → true ≡ upperLevelsGood b k size exact height first
-    unfolding upperLevelsGood
-    upper-levels-end e = sym (inv ∙ rw e)
+  module _ (height first c : ℕ) (r : Keys) (more : height ≡ 0 → ⊥) (ec : c ≡ firstChild b k size first) (er : r ≡ upperLevels b k size (height - 1) c) where
+    upper-levels-step : upperLevels b k size height first
+        ≡ onward r (λ y. upperPages b k size (cond y 0 (height - 1)) (height - 1) true (chain b size maxPages first))
+    unfolding upperLevels
+    upper-levels-step =
+        let s : height ≡ suc (height - 1) = omega (arith, more) in
+        ap (λ (l : ℕ). upperLevels b k size l first) s ∙ rw (er, ec)
 
-    module _ (r : Bool) (more : 0 < left) (er : r ≡ upperPagesGood b k size exact (left - 1) (chain b size maxPages p)) where
-      upper-levels-step : upperLevelsGood b k size exact height first ≡ (r && upperLevelsGood b k size exact (left - 1) (firstChild b k size p))
-      unfolding upperLevelsGood
-      upper-levels-step = let s : left ≡ suc (left - 1) = omega arith in inv ∙ ap (λ (l : ℕ). upperLevelsGood b k size exact l p) s ∙ rw er
+    pub upper-levels-off : r .good ≡ false → r ≡ upperLevels b k size height first
+    upper-levels-off e = sym (upper-levels-step ∙ onward-bad r _ e)
 
-      pub upper-levels-off : r ≡ false → false ≡ upperLevelsGood b k size exact height first
-      upper-levels-off e = sym (upper-levels-step ∙ rw e)
-
-      pub upper-levels-on : (q : ℕ) → q ≡ firstChild b k size p → r ≡ true → UpperLevelsLeft height first (left - 1) q
-      upper-levels-on q eq e = upper-levels-step ∙ rw (e, eq)
+    pub upper-levels-on : (d : ℕ) (s : Keys) → r .good ≡ true → d ≡ cond (r .exact) 0 (height - 1)
+        → s ≡ upperPages b k size d (height - 1) true (chain b size maxPages first) → s ≡ upperLevels b k size height first
+    upper-levels-on d s e ed es = es ∙ rw ed (sym (upper-levels-step ∙ onward-good r _ e))
 
 module _ (b : List ℕ) (k size : ℕ) where
   -- the loop down the first children: `done` levels were gone down to the page p
@@ -83,17 +84,10 @@ module _ (b : List ℕ) (k size : ℕ) where
           inv ∙ rw (s, heightOf, e, eq) (omega arith)
 
 -- the answers
-module _ (b : List ℕ) (k size root h : ℕ) (ek : k ≡ keyLength b) (es : size ≡ fileSize b) (er : root ≡ rootOffset b)
-    (eh : h ≡ heightOf b k size (maxLevels - 1) root) (x : Bool) (ex : x ≡ upperLevelsGood b k size true h root) where
-  keys-are : keysAboveGood b ≡ (x || upperLevelsGood b k size false h root)
-  unfolding keysAboveGood
-  keys-are = rw (← ek, ← es, ← er, ← eh, ← ex)
-
-  pub keys-exact : x ≡ true → true ≡ keysAboveGood b
-  keys-exact e = sym (keys-are ∙ rw e)
-
-  pub keys-answer : (r : Bool) → x ≡ false → r ≡ upperLevelsGood b k size false h root → r ≡ keysAboveGood b
-  keys-answer r e eq = eq ∙ sym (keys-are ∙ rw e)
+pub keys-answer : (b : List ℕ) (k size root h : ℕ) (r : Keys) → k ≡ keyLength b → size ≡ fileSize b → root ≡ rootOffset b
+    → h ≡ heightOf b k size (maxLevels - 1) root → r ≡ upperLevels b k size h root → r .good ≡ keysAboveGood b
+unfolding keysAboveGood
+keys-answer b k size root h r ek es er eh e = ap (λ (s : Keys). s .good) e ∙ rw (← ek, ← es, ← er, ← eh)
 
 module _ (b m : List ℕ) (g : Bool) (eg : g ≡ shapeGood b m) where
   pub pages-bad : g ≡ false → false ≡ pagesGood b m

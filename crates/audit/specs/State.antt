@@ -1,21 +1,23 @@
 -- Steps: the audit's own values, as its test has them, and what its inner functions ask of the buffer. No public contract cites these: a reader need not
 -- believe them.
 use Prim.Native.Nat.{ℕ, _+_, _-_, _/_, _≤_, _<_}
+use mathlib.Core.Path.{_≡_}
 use mathlib.Core.Bool.{Bool, true, false, cond, not, _&&_}
 use mathlib.Core.List.{List}
 use mathlib.Core.Option.{Option, none, some}
-use lib.ListN.{length, set}
+use lib.ListN.{length, getD, set}
 use lib.Dec.{eqb}
 use Rattle.octets.specs.Store.{window}
 use Rattle.page.specs.Header.{maxBytes, maxKey, pageSize, noPage}
-use Rattle.page.specs.Page.{keyAt, numberAt}
+use Rattle.page.specs.Page.{keyAt, numberAt, rightAt}
 use Rattle.page.specs.ReadingLaws.{entriesFrom}
 use Rattle.page.specs.Within.{Within}
 use Rattle.page.specs.declared.PageOffset.{PageOffset}
 use Rattle.sound.specs.Rule as rule
-use Rattle.sound.specs.Rule.{isAbove, upperEntryGood}
+use Rattle.sound.specs.Rule.{isAbove, upperEntry}
 use Rattle.audit.specs.declared.Progress.{Progress}
 use Rattle.audit.specs.declared.Level.{Level}
+use Rattle.audit.specs.declared.Keys.{Keys}
 
 -- a file of `size` bytes within the buffer, with keys of k bytes
 pub record InFile (b : List ℕ) (k size : ℕ) : Type 0 where
@@ -28,6 +30,11 @@ pub record InFile (b : List ℕ) (k size : ℕ) : Type 0 where
 pub record EntriesWithin (b : List ℕ) (k p n : ℕ) : Type 0 where
   pub each : (i : ℕ) → i < n → Within b k p (i + 1)
 
+-- a page at p that fits lies within the buffer, and has a place among the marks m
+pub record MarkedWithin (b m : List ℕ) (p : ℕ) (fits : Bool) : Type 0 where
+  pub inside : fits ≡ true → p + pageSize ≤ length b
+  pub place : fits ≡ true → p / pageSize < length m
+
 -- the key that begins at z, or none if z is 0
 unfoldable pub keyFrom : List ℕ → ℕ → ℕ → Option (List ℕ)
 keyFrom b k z = cond (eqb z 0) none (some (window b z k))
@@ -36,20 +43,28 @@ keyFrom b k z = cond (eqb z 0) none (some (window b z k))
 abbrev pub leafEntry : List ℕ → ℕ → ℕ → ℕ → ℕ → Bool
 leafEntry b k p i z = not (eqb (numberAt b k p i) 0) && isAbove (keyFrom b k z) (keyAt b k p i)
 
--- the key of entry i of a page above the leaves, of n entries, is a ceiling, or exact; the children have h levels under them
-abbrev pub upperEntry : List ℕ → ℕ → ℕ → Bool → ℕ → ℕ → ℕ → ℕ → Bool
-upperEntry b k size exact h p n i = upperEntryGood b k size exact h (keyAt b k p i, numberAt b k p i) (entriesFrom b k p (n - (i + 1)) (i + 1))
+-- the key of entry i of a page above the leaves, of n entries, whose children have h levels under them
+abbrev pub upperKey : List ℕ → ℕ → ℕ → ℕ → ℕ → ℕ → ℕ → ℕ → rule.Keys
+upperKey b k size d h p n i = upperEntry b k size d h (keyAt b k p i, numberAt b k p i) (entriesFrom b k p (n - (i + 1)) (i + 1))
+
+-- one page more, and its mark, if the page fits
+unfoldable pub takePage : List ℕ → ℕ → Bool → rule.Progress → List ℕ → rule.Progress × List ℕ
+takePage b p fits s m =
+    cond (fits && eqb (getD m (p / pageSize) 0) 0) (record { good = true; last = p; next = rightAt b p }, set m (p / pageSize) 1) (rule.refused s, m)
 
 -- the page at p of the free list: whether it fits, and the marks after it
 unfoldable pub markFree : List ℕ → ℕ → ℕ → List ℕ → Bool × List ℕ
 markFree b size p m = cond (rule.freeFits b size p m) (true, set m (p / pageSize) 1) (false, m)
 
--- the two structs, as the test has them
+-- the structs, as the test has them
 abbrev pub progressOf : Progress → rule.Progress
 progressOf s = record { good = s .good; last = s .last .0; next = s .next .0 }
 
 abbrev pub levelOf : Level → rule.Level
 levelOf v = record { good = v .good; leaf = v .leaf; first = v .first .0 }
+
+abbrev pub keysOf : Keys → rule.Keys
+keysOf r = record { good = r .good; exact = r .exact }
 
 -- a struct after a page that was not good, at the start of a level, and of a level at its end
 abbrev pub refusedAt : Progress → Progress

@@ -4,6 +4,7 @@ use mathlib.Core.Path.{_≡_, refl, sym, ap, _∙_}
 use mathlib.Core.Bool.{Bool, true, false, _&&_}
 use mathlib.Core.List.{List}
 use mathlib.Core.Option.{none}
+use native.Mathlib.Omega.{arith}
 use lib.ListN.{length, getD, set}
 use lib.Dec.{eqb}
 use borrow.Author.Tests.{eq-eqb, ne-eqb}
@@ -13,9 +14,10 @@ use Rattle.page.specs.HeaderLaws.{IsPage, is-page}
 use Rattle.page.specs.Page.{attributeAt, countAt, leftAt, rightAt, leafBit, countGood}
 use Rattle.page.specs.Reading.{entriesAt}
 use Rattle.page.specs.ReadingLaws.{entriesFrom, entries-are}
-use Rattle.sound.specs.Rule.{lastOf, leafEntriesGood, entriesFit, pageFits, checkPage}
+use Rattle.sound.specs.Rule as rule
+use Rattle.sound.specs.Rule.{maxPages, lastOf, leafEntriesGood, entriesFit, pageFits, checkPage}
 use Rattle.audit.specs.declared.Progress.{Progress}
-use Rattle.audit.specs.State.{keyFrom, progressOf, refusedAt}
+use Rattle.audit.specs.State.{InFile, MarkedWithin, keyFrom, takePage, progressOf, refusedAt}
 
 -- the entries of a page
 module _ (b : List ℕ) (k size a last p : ℕ) where
@@ -58,22 +60,30 @@ module _ (b : List ℕ) (k size a p last next : ℕ) where
     unfolding pageFits
     fits-then t r er = er ∙ rw (e, ← ex, ← ey, ← ez, ← ec) (and-true (eqb x a) c (eqb z last) (eqb next p) (entriesFit b k size a last p) t)
 
--- one page more
-module _ (b : List ℕ) (k size a p : ℕ) (s : Progress) (m : List ℕ) (f : Bool) (ef : f ≡ pageFits b k size a p (s .last .0) (s .next .0)) where
-  pub fits-page : s .good && f ≡ true → IsPage size p
+-- one page more, whose test was f
+module _ (b : List ℕ) (k size a p : ℕ) (m : List ℕ) (f : Bool) where
+  pub fits-within : (last next : ℕ) → f ≡ pageFits b k size a p last next → InFile b k size → length m ≡ maxPages → MarkedWithin b m p f
   unfolding pageFits
-  fits-page h = is-page size p (both (isPage size p) _ (sym ef ∙ both (s .good) f h .1) .0)
+  fits-within last next ef file l =
+      let page : f ≡ true → IsPage size p = λ t. is-page size p (both (isPage size p) _ (sym ef ∙ t) .0) in
+      record { inside = λ t. omega (arith, page t); place = λ t. omega (arith, page t) }
 
-  pub check-refused : s .good && f ≡ false → checkPage b k size a p (progressOf s) m ≡ (progressOf (refusedAt s), m)
-  unfolding checkPage
-  check-refused h = rw (← ef, h)
+  pub taken-checked : (s : rule.Progress) (t : rule.Progress × List ℕ) → s .good ≡ true → f ≡ pageFits b k size a p (s .last) (s .next)
+      → takePage b p f s m ≡ t → checkPage b k size a p s m ≡ t
+  unfolding checkPage takePage
+  taken-checked s t g ef e = rw (g, ← ef) e
 
-  module _ (h : s .good && f ≡ true) where
-    pub check-marked : (getD m (p / pageSize) 0 ≡ 0 → ⊥) → checkPage b k size a p (progressOf s) m ≡ (progressOf (refusedAt s), m)
-    unfolding checkPage
-    check-marked z = rw (← ef, h, ne-eqb (getD m (p / pageSize) 0) 0 z)
+module _ (b : List ℕ) (p : ℕ) (s : Progress) (m : List ℕ) (f : Bool) where
+  pub take-refused : f ≡ false → takePage b p f (progressOf s) m ≡ (progressOf (refusedAt s), m)
+  unfolding takePage
+  take-refused h = rw h
 
-    pub check-good : getD m (p / pageSize) 0 ≡ 0 → (n : ℕ) → n ≡ rightAt b p
-        → checkPage b k size a p (progressOf s) m ≡ (record { good = true; last = p; next = n }, set m (p / pageSize) 1)
-    unfolding checkPage
-    check-good z n en = rw (← ef, h, eq-eqb (getD m (p / pageSize) 0) 0 z, en)
+  module _ (h : f ≡ true) where
+    pub take-marked : (getD m (p / pageSize) 0 ≡ 0 → ⊥) → takePage b p f (progressOf s) m ≡ (progressOf (refusedAt s), m)
+    unfolding takePage
+    take-marked z = rw (h, ne-eqb (getD m (p / pageSize) 0) 0 z)
+
+    pub take-good : getD m (p / pageSize) 0 ≡ 0 → (n : ℕ) → n ≡ rightAt b p
+        → takePage b p f (progressOf s) m ≡ (record { good = true; last = p; next = n }, set m (p / pageSize) 1)
+    unfolding takePage
+    take-good z n en = rw (h, eq-eqb (getD m (p / pageSize) 0) 0 z, en)

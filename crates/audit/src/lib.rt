@@ -1,7 +1,8 @@
-// The audit of an index, in two passes, each level by level from the root down. The first checks each page against its left neighbour, and marks it when it is
-// met. The pages of a level are the children of the level above, whose pages name one another by the right links that were checked there. The second checks the
-// keys above pages, once the links are known to be good and leaf keys to ascend: each against the last leaf key under its child and the first under the next
-// child, at most 10 steps down. So nothing is copied, each page is checked once in each pass, and the work is linear in the file's size on any bytes.
+// The audit of an index, in two passes, each level by level. The first, from the root down, checks each page against its left neighbour, and marks it when it
+// is met. The pages of a level are the children of the level above, whose pages name one another by the right links that were checked there. The second, from
+// the leaves up, checks the keys above pages, once the links are known to be good and leaf keys to ascend: each against the last leaf key under its child,
+// which is the child's own last key if the level below is exact, and, if it differs, against the first under the next child: at most 10 steps down. So nothing
+// is copied, each page is checked once in each pass, and the work is linear in the file's size on any bytes.
 use octets::Ordering;
 use page::Page;
 use page::PageOffset;
@@ -20,9 +21,10 @@ ghost use Rattle.page.specs.Page.{entryArea};
 ghost use Rattle.sound.specs.Sound.{zeros, Audited};
 ghost use Rattle.page.specs.Children.{childrenOf, firstChild};
 ghost use Rattle.sound.specs.Rule.{maxPages, firstOf, lastOf, leafEntriesGood, entriesFit, pageFits, attributeOf, chain, pagesUnder};
-ghost use Rattle.sound.specs.Rule.{checkPage, checkPages, rootLevel, nextLevel, levelsUnder, markedFrom, isFreePage, checkFree, restFree, shapeGood};
-ghost use Rattle.sound.specs.Rule.{heightOf, down, lastChild, belowNext, upperEntriesGood, upperPagesGood, upperLevelsGood, keysAboveGood, pagesGood};
-ghost use Rattle.audit.specs.State.{InFile, EntriesWithin, keyFrom, leafEntry, upperEntry, markFree, progressOf, levelOf, startAt, refusedAt, closedAt};
+ghost use Rattle.sound.specs.Rule.{checkPages, rootLevel, nextLevel, levelsUnder, markedFrom, isFreePage, checkFree, restFree, shapeGood};
+ghost use Rattle.sound.specs.Rule.{heightOf, down, lastChild, belowNext, upperEntries, upperPages, upperLevels, keysAboveGood, pagesGood};
+ghost use Rattle.audit.specs.State.{InFile, EntriesWithin, MarkedWithin, keyFrom, leafEntry, upperKey, takePage, markFree, progressOf, levelOf, keysOf};
+ghost use Rattle.audit.specs.State.{startAt, refusedAt, closedAt};
 
 // What is known of the pages met on a level: whether all were good, the last page met, and the page that its right link names.
 struct Progress {
@@ -36,6 +38,13 @@ struct Level {
     good: bool,
     leaf: bool,
     first: PageOffset,
+}
+
+// What is known of keys above pages: whether all are ceilings; and, if they are, whether each page met is exact: its own last key is the last leaf key under
+// it.
+struct Keys {
+    good: bool,
+    exact: bool,
 }
 
 // Where the last key of a page begins, or 0 if the page has none.
@@ -151,22 +160,12 @@ fn refused(s: Progress) -> Progress
     }
 }
 
-// Checks one page more, and marks it.
-fn check_page(
-    index: &[u8],
-    marks: &mut [u8],
-    k: usize,
-    size: usize,
-    attribute: u32,
-    page: PageOffset,
-    s: Progress,
-) -> Progress
-    requires { ⌜ InFile (now index) k size × (length (now marks) ≡ maxPages) ⌝ }
-    ensures { λ r. ⌜ checkPage (now (index .entry)) k size attribute (page .0) (progressOf s) (now (marks .entry)) ≡ (progressOf r, now (marks .exit)) ⌝ }
+// Takes a page that was tested: if it fits and has no mark, it gets its mark and is the last page met.
+fn take_page(index: &[u8], marks: &mut [u8], page: PageOffset, fits: bool, s: Progress) -> Progress
+    requires { ⌜ MarkedWithin (now index) (now marks) (page .0) fits ⌝ }
+    ensures { λ r. ⌜ takePage (now (index .entry)) (page .0) fits (progressOf s) (now (marks .entry)) ≡ (progressOf r, now (marks .exit)) ⌝ }
 {
-    let last = s.last;
-    let next = s.next;
-    if !(s.good & page_fits(index, k, size, attribute, page, last, next)) {
+    if !fits {
         return refused(s);
     }
     let mark = page.0 as usize / Page::SIZE;
@@ -206,15 +205,11 @@ fn check_children(
         if !t.good {
             return t;
         }
-        t = check_page(
-            index,
-            marks,
-            k,
-            size,
-            attribute,
-            page::child(index, k, parent, i),
-            t,
-        );
+        let child = page::child(index, k, parent, i);
+        let last = t.last;
+        let next = t.next;
+        let fits = page_fits(index, k, size, attribute, child, last, next);
+        t = take_page(index, marks, child, fits, t);
         i += 1;
     }
     t
@@ -296,16 +291,11 @@ fn root_level(index: &[u8], marks: &mut [u8], k: usize, size: usize, root: PageO
     ensures { λ r. ⌜ rootLevel (now (index .entry)) k size (root .0) (now (marks .entry)) ≡ (levelOf r, now (marks .exit)) ⌝ }
 {
     let leaf = page::leaf_at(index, size, root);
-    let s = check_page(
-        index,
-        marks,
-        k,
-        size,
-        attribute_of(true, leaf),
-        root,
-        start(root),
-    );
-    closed(s, leaf, root)
+    let s = start(root);
+    let last = s.last;
+    let fits = page_fits(index, k, size, attribute_of(true, leaf), root, last, root);
+    let t = take_page(index, marks, root, fits, s);
+    closed(t, leaf, root)
 }
 
 // Checks the level under the level whose first page is `above`.
@@ -527,7 +517,102 @@ fn below_next(
     octets::is_below(key_order(index, k, key, first))
 }
 
-// How many levels a test goes down under a child that has `under` levels under it: none if the keys are to be exact.
+// The key of entry i, above a child that has `under` levels under it: whether it is a ceiling, at or above the last leaf key under the child, and below the
+// first under the next child of the page, of `count` entries; and whether it is exact, the last leaf key itself, which is then below the next child, since leaf
+// keys ascend. The last leaf key is the last key of the page that last entries lead to in `down` steps from the child.
+fn upper_entry(
+    index: &[u8],
+    k: usize,
+    size: usize,
+    down: u32,
+    under: u32,
+    page: PageOffset,
+    count: usize,
+    i: usize,
+) -> Keys
+    requires { ⌜ InFile (now index) k size × EntriesWithin (now index) k (page .0) count × (i < count) ⌝ }
+    ensures { λ r. ⌜ keysOf r ≡ upperKey (now (index .entry)) k size down under (page .0) count i ⌝ }
+{
+    let child = page::child(index, k, page, i);
+    let last = last_key(index, k, size, last_under(index, k, size, down, child));
+    if last == 0 {
+        return Keys {
+            good: false,
+            exact: false,
+        };
+    }
+    let key = page::entry_offset(k, page, i);
+    let order = key_order(index, k, last, key);
+    if octets::is_below(order) {
+        return Keys {
+            good: below_next(index, k, size, under, page, count, i + 1, key),
+            exact: false,
+        };
+    }
+    let exact = octets::is_equal(order);
+    Keys { good: exact, exact }
+}
+
+// The entries of a page above the leaves, up to the first that is not good: the page is exact if its last entry is. Its children have `under` levels under
+// them.
+fn upper_entries(
+    index: &[u8],
+    k: usize,
+    size: usize,
+    down: u32,
+    under: u32,
+    page: PageOffset,
+) -> Keys
+    requires { ⌜ InFile (now index) k size ⌝ }
+    ensures { λ r. ⌜ keysOf r ≡ upperEntries (now (index .entry)) k size down under true (entriesAt k size (now (index .entry)) (page .0)) ⌝ }
+{
+    let count = page::entry_count(index, k, size, page);
+    let mut exact = true;
+    let mut i = 0;
+    while i < count {
+        let key = upper_entry(index, k, size, down, under, page, count, i);
+        if !key.good {
+            return key;
+        }
+        exact = key.exact;
+        i += 1;
+    }
+    Keys { good: true, exact }
+}
+
+// The pages of a level above the leaves, from its first page on along the right links, up to the first that is not good: the level is exact if all are. Their
+// children have `under` levels under them.
+fn upper_pages(
+    index: &[u8],
+    k: usize,
+    size: usize,
+    down: u32,
+    under: u32,
+    first: PageOffset,
+) -> Keys
+    requires { ⌜ InFile (now index) k size ⌝ }
+    ensures { λ r. ⌜ keysOf r ≡ upperPages (now (index .entry)) k size down under true (chain (now (index .entry)) size maxPages (first .0)) ⌝ }
+{
+    let mut exact = true;
+    let mut page = first;
+    let mut left = page::MAX_PAGES;
+    while 0 < left {
+        if !page::is_page(size, page) {
+            return Keys { good: true, exact };
+        }
+        let keys = upper_entries(index, k, size, down, under, page);
+        if !keys.good {
+            return keys;
+        }
+        exact = exact & keys.exact;
+        let head = Page::at(index, page);
+        page = head.right;
+        left -= 1;
+    }
+    Keys { good: true, exact }
+}
+
+// How many steps down the last leaf key under a child is looked for, which has `under` levels under it: none if its level is exact.
 fn steps(exact: bool, under: u32) -> u32
     ensures { λ r. ⌜ r ≡ cond exact 0 under ⌝ }
 {
@@ -537,110 +622,25 @@ fn steps(exact: bool, under: u32) -> u32
     under
 }
 
-// Whether the key of entry i, above a child that has `under` levels under it, is a ceiling: at or above the last leaf key under the child, and below the first
-// under the next child of the page, of `count` entries. Leaf keys ascend, so that a key equal to the last leaf key under the child is below the next. If the
-// key is to be `exact`, whether it is the child's own last key.
-fn upper_entry(
-    index: &[u8],
-    k: usize,
-    size: usize,
-    exact: bool,
-    under: u32,
-    page: PageOffset,
-    count: usize,
-    i: usize,
-) -> bool
-    requires { ⌜ InFile (now index) k size × EntriesWithin (now index) k (page .0) count × (i < count) ⌝ }
-    ensures { λ r. ⌜ r ≡ upperEntry (now (index .entry)) k size exact under (page .0) count i ⌝ }
-{
-    let child = page::child(index, k, page, i);
-    let down = steps(exact, under);
-    let last = last_key(index, k, size, last_under(index, k, size, down, child));
-    if last == 0 {
-        return false;
-    }
-    let key = page::entry_offset(k, page, i);
-    match key_order(index, k, last, key) {
-        Ordering::Below => !exact & below_next(index, k, size, under, page, count, i + 1, key),
-        Ordering::Equal => true,
-        Ordering::Above => false,
-    }
-}
-
-// Whether the entries of a page above the leaves are good. Its children have `under` levels under them.
-fn upper_entries(
-    index: &[u8],
-    k: usize,
-    size: usize,
-    exact: bool,
-    under: u32,
-    page: PageOffset,
-) -> bool
+// The keys above pages of the level whose first page is `first` and of the levels under it, of which there are `height`, from the leaves up, to the first level
+// that is not good.
+fn upper_levels(index: &[u8], k: usize, size: usize, height: u32, first: PageOffset) -> Keys
     requires { ⌜ InFile (now index) k size ⌝ }
-    ensures { λ r. ⌜ r ≡ upperEntriesGood (now (index .entry)) k size exact under (entriesAt k size (now (index .entry)) (page .0)) ⌝ }
+    ensures { λ r. ⌜ keysOf r ≡ upperLevels (now (index .entry)) k size height (first .0) ⌝ }
 {
-    let count = page::entry_count(index, k, size, page);
-    let mut i = 0;
-    while i < count {
-        if !upper_entry(index, k, size, exact, under, page, count, i) {
-            return false;
-        }
-        i += 1;
+    if height == 0 {
+        return Keys {
+            good: true,
+            exact: true,
+        };
     }
-    true
-}
-
-// Whether the entries of the pages of a level above the leaves are good, from its first page on along the right links. Their children have `under` levels under
-// them.
-fn upper_pages(
-    index: &[u8],
-    k: usize,
-    size: usize,
-    exact: bool,
-    under: u32,
-    first: PageOffset,
-) -> bool
-    requires { ⌜ InFile (now index) k size ⌝ }
-    ensures { λ r. ⌜ r ≡ upperPagesGood (now (index .entry)) k size exact under (chain (now (index .entry)) size maxPages (first .0)) ⌝ }
-{
-    let mut page = first;
-    let mut left = page::MAX_PAGES;
-    while 0 < left {
-        if !page::is_page(size, page) {
-            return true;
-        }
-        if !upper_entries(index, k, size, exact, under, page) {
-            return false;
-        }
-        let head = Page::at(index, page);
-        page = head.right;
-        left -= 1;
+    let under = height - 1;
+    let first_below = page::first_child(index, k, size, first);
+    let below = upper_levels(index, k, size, under, first_below);
+    if !below.good {
+        return below;
     }
-    true
-}
-
-// Whether the keys above pages are good on the level whose first page is `first` and on the levels under it, of which there are `height`.
-fn upper_levels(
-    index: &[u8],
-    k: usize,
-    size: usize,
-    exact: bool,
-    height: u32,
-    first: PageOffset,
-) -> bool
-    requires { ⌜ InFile (now index) k size ⌝ }
-    ensures { λ r. ⌜ r ≡ upperLevelsGood (now (index .entry)) k size exact height (first .0) ⌝ }
-{
-    let mut left = height;
-    let mut page = first;
-    while 0 < left {
-        left -= 1;
-        if !upper_pages(index, k, size, exact, left, page) {
-            return false;
-        }
-        page = page::first_child(index, k, size, page);
-    }
-    true
+    upper_pages(index, k, size, steps(below.exact, under), under, first)
 }
 
 // The number of levels under the root, 10 at most, which the first children show.
@@ -660,8 +660,7 @@ fn height_of(index: &[u8], k: usize, size: usize, root: PageOffset) -> u32
     height
 }
 
-// Whether the keys above pages are good in an index with a good header. Most often each is its child's own last key; only if not, the tests go down to the
-// leaves.
+// Whether the keys above pages are good in an index with a good header.
 fn keys_above_good(index: &[u8]) -> bool
     requires { ⌜ headerGood (now index) ≡ true ⌝ }
     ensures { λ r. ⌜ r ≡ keysAboveGood (now (index .entry)) ⌝ }
@@ -670,10 +669,8 @@ fn keys_above_good(index: &[u8]) -> bool
     let size = page::file_size(index);
     let root = page::root(index);
     let height = height_of(index, k, size, root);
-    if upper_levels(index, k, size, true, height, root) {
-        return true;
-    }
-    upper_levels(index, k, size, false, height, root)
+    let keys = upper_levels(index, k, size, height, root);
+    keys.good
 }
 
 // Whether an index with a good header is sound, with a mark lent for each page.

@@ -21,8 +21,8 @@ pub damaged-refused : (audit.pagesGood (set tree.tree000 1036 66) audit.unmarked
     × (audit.pagesGood (set tree.tree000 1039 0) audit.unmarked ≡ false)
     × (audit.pagesGood (set tree.tree000 1027 255) audit.unmarked ≡ false)
 unfolding tree.tree000 tree.padded tree.page tree.entry bytes.le16 bytes.le32 bytes.be32 bytes.toLe16 bytes.toLe32 bytes.toBe32 store.window order.bytesLe
-    order.ordering header.isPage page.capacity page.countGood pages.items pages.itemsAt pages.entriesAt audit.leafEntriesGood audit.upperEntriesGood
+    order.ordering header.isPage page.capacity page.countGood pages.items pages.itemsAt pages.entriesAt audit.leafEntriesGood audit.onward audit.upperEntries
     audit.chain children.isLeaf audit.markedFrom audit.entriesFit audit.pageFits audit.checkPage audit.checkPages audit.rootLevel audit.nextLevel
-    audit.levelsUnder audit.heightOf audit.down audit.upperPagesGood audit.upperLevelsGood audit.shapeGood audit.keysAboveGood audit.pagesGood
+    audit.levelsUnder audit.heightOf audit.down audit.upperPages audit.upperLevels audit.shapeGood audit.keysAboveGood audit.pagesGood
     audit.unmarked audit.isFreePage audit.freeFits audit.checkFree audit.restFree
 damaged-refused = (refl, refl, refl, refl, refl)

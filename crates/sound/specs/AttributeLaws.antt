@@ -46,7 +46,7 @@ not-both h i l = either (eqb i 0)
     (λ e. let d : eqb i h ≡ false = ne-eqb i h (omega (arith, eqb-true i 0 e)) in rw (e, d))
     (λ e. either (eqb i h) (λ f. rw (e, f)) (λ f. rw (e, f)))
 
-pub or-right : (x y : Bool) → y ≡ true → x || y ≡ true
+or-right : (x y : Bool) → y ≡ true → x || y ≡ true
 or-right true y e = refl
 or-right false y e = e
 

@@ -1,16 +1,17 @@
 -- Laws: the audit's test of the keys over the children of a page, which goes down to the last leaf key under a child and to the first under the next one, says
--- that these keys are ceilings. Cited by the laws of keys above pages. Assumes nothing.
+-- that these keys are ceilings, and that a page it calls exact is so; the test that takes one step under exact children says the same. Cited by the laws of
+-- keys above pages. Assumes nothing.
 use Prim.Native.Nat.{ℕ, zero, suc}
 use mathlib.Core.Path.{_≡_, refl, sym, ap, _∙_, subst}
 use mathlib.Core.List.{List, [], _∷_, _++_, append-nil}
-use mathlib.Core.Bool.{Bool, true, false, not}
+use mathlib.Core.Bool.{Bool, true, false, cond, not}
 use mathlib.Core.Option.{Option, none, some}
 use mathlib.Core.Logic.{_↔_}
 use lib.ListN.{length-map}
-use Rattle.basis.specs.Lists.{All, all-left}
+use Rattle.basis.specs.Lists.{All, all-left, all-map}
 use Rattle.basis.specs.Tests.{either, contra, both, join}
 use Rattle.tree.specs.Lists.{NonEmpty, concatMap}
-use Rattle.tree.specs.ListLaws.{concatMap-single, nonEmpty-length}
+use Rattle.tree.specs.ListLaws.{concatMap-single, nonEmpty-length, all-unit}
 use Rattle.tree.specs.Order.{Le, Lt}
 use Rattle.tree.specs.OrderLaws.{lt-le}
 use Rattle.tree.specs.Pairs.{firstKey, lastKey, Below, Ascending}
@@ -26,10 +27,29 @@ use Rattle.page.specs.Header.{noPage}
 use Rattle.page.specs.KeyOrder.{bytesOrder}
 use Rattle.page.specs.KeyOrderLaws.{below, below-not-le, equal-same, equal-refl}
 use Rattle.page.specs.Reading.{entriesAt}
-use Rattle.sound.specs.Rule.{Entries, firstOf, lastOf, lastNumber, down, isCeiling, firstLeafKey, lastLeafKey, belowNext}
-use Rattle.sound.specs.Rule.{upperEntryGood, upperEntriesGood}
+use Rattle.sound.specs.Rule.{Entries, Keys, firstOf, lastOf, lastNumber, down, isCeiling, isLast, firstLeafKey, lastLeafKey, belowNext}
+use Rattle.sound.specs.Rule.{onward, upperEntry, upperEntries}
 use Rattle.sound.specs.Levels.{all-of-map, numbers, readAll}
 use Rattle.sound.specs.EntryLaws.{last-some}
+
+-- keys that are good, and then what comes after them
+module _ (r : Keys) (after : Bool → Keys) where
+  pub onward-good : r .good ≡ true → onward r after ≡ after (r .exact)
+  unfolding onward
+  onward-good e = rw (e, onward)
+
+  pub onward-bad : r .good ≡ false → onward r after ≡ r
+  unfolding onward
+  onward-bad e = rw (e, onward) (ap (λ (g : Bool). record { good = g; exact = r .exact }) e)
+
+  pub went-on : onward r after .good ≡ true → (r .good ≡ true) × (onward r after ≡ after (r .exact))
+  went-on g = either (r .good)
+      (λ e. (e, onward-good e))
+      (λ e. contra g (ap (λ (s : Keys). s .good) (onward-bad e) ∙ e))
+
+  pub onward-same : (other : Bool → Keys) → ((x : Bool) → after x ≡ other x) → onward r after ≡ onward r other
+  unfolding onward
+  onward-same other same = either (r .good) (λ e. rw (e, onward) (same (r .exact))) (λ e. rw (e, onward))
 
 -- below, as a test and as the order has it
 below-lt : (a b : List ℕ) → isBelow (ordering a b) ≡ true → Lt bytesOrder a b
@@ -68,12 +88,10 @@ module _ (x a : List ℕ) (u : Entries) (next : Bool) (N : Type 0) (some-u : Non
       (λ o. let same = le-antisym l x (last-le x a u some-u (c .0)) o in contra (subst (λ z. isEqual (ordering l z) ≡ true) same (equal-refl l)) e)
       (λ o. o) in rw e (join _ _ (lt-below l x apart) (tells (c .1))))
 
--- a key that is the only ceiling over its child if nothing is said of the next one
-own-same : (o : Option (List ℕ)) (x : List ℕ) → isCeiling o x false ≡ true → o ≡ some x
-own-same none x g = contra g refl
-own-same (some a) x g = either (isEqual (ordering a x))
-    (λ e. ap some (equal-same a x e))
-    (λ e. contra (both (isBelow (ordering a x)) false (rw e at g) .1) refl)
+-- a key that passes the test is the last leaf key
+last-is : (o : Option (List ℕ)) (x : List ℕ) → isLast o x ≡ true → o ≡ some x
+last-is none x e = contra e refl
+last-is (some a) x e = ap some (equal-same a x e)
 
 module _ (b : List ℕ) (k size : ℕ) where
   abbrev S : ℕ → Entries
@@ -162,7 +180,7 @@ module _ (b : List ℕ) (k size : ℕ) where
 
     -- one entry
     entry-ceiling : (h : ℕ) (e : List ℕ × ℕ) (es : Entries) → Full cap h e → All (Full cap h) es → Ascending bytesOrder (leafPairs h (e ∷ es))
-        → (upperEntryGood b k size false h e es ≡ true) ↔ (Below bytesOrder (e .0) (pairs h (readTree S h (e .1))) × Next h (e .0) es)
+        → (upperEntry b k size h h e es .good ≡ true) ↔ (Below bytesOrder (e .0) (pairs h (readTree S h (e .1))) × Next h (e .0) es)
     entry-ceiling h e es d ds ascending =
         let x = e .0 in
         let u = pairs h (readTree S h (e .1)) in
@@ -175,63 +193,61 @@ module _ (b : List ℕ) (k size : ℕ) where
         )
 
     -- Theorem: the test of a page's entries says that their keys are ceilings
-    pub entries-ceilings : (h : ℕ) (xs : Entries) → All (Full cap h) xs → Ascending bytesOrder (concatMap (pairsUnder (suc h)) (readAll S (suc h) xs))
-        → (upperEntriesGood b k size false h xs ≡ true) ↔ PageCeilings h xs
-    unfolding upperEntriesGood
-    entries-ceilings h [] d ascending = ((λ g. (tt, tt)), (λ c. refl))
-    entries-ceilings h (x ∷ []) d ascending =
-        let here = entry-ceiling h x [] (d .0) tt ascending in (
-          (λ g. ((here .0 (both _ _ g .0) .0, tt), tt)),
-          (λ c. join _ _ (here .1 (c .0 .0, tt)) refl),
+    pub entries-ceilings : (h : ℕ) (x : Bool) (xs : Entries) → All (Full cap h) xs
+        → Ascending bytesOrder (concatMap (pairsUnder (suc h)) (readAll S (suc h) xs)) → (upperEntries b k size h h x xs .good ≡ true) ↔ PageCeilings h xs
+    unfolding upperEntries
+    entries-ceilings h x [] d ascending = ((λ g. (tt, tt)), (λ c. refl))
+    entries-ceilings h x (e ∷ []) d ascending =
+        let here = entry-ceiling h e [] (d .0) tt ascending in (
+          (λ g. ((here .0 (went-on _ _ g .0) .0, tt), tt)),
+          (λ c. rw (onward-good (upperEntry b k size h h e []) _ (here .1 (c .0 .0, tt)))),
         )
-    entries-ceilings h (x ∷ y ∷ ys) d ascending =
-        let here = entry-ceiling h x (y ∷ ys) (d .0) (d .1) ascending in
-        let rest = entries-ceilings h (y ∷ ys) (d .1) (ascending-right bytesOrder (pairs h (readTree S h (x .1))) (leafPairs h (y ∷ ys)) ascending) in (
+    entries-ceilings h x (e ∷ y ∷ ys) d ascending =
+        let key = upperEntry b k size h h e (y ∷ ys) in
+        let here = entry-ceiling h e (y ∷ ys) (d .0) (d .1) ascending in
+        let rest = entries-ceilings h (key .exact) (y ∷ ys) (d .1)
+        (ascending-right bytesOrder (pairs h (readTree S h (e .1))) (leafPairs h (y ∷ ys)) ascending) in (
           (λ g.
-              let t = both (upperEntryGood b k size false h x (y ∷ ys)) _ g in
+              let t = went-on key _ g in
               let v = here .0 (t .0) in
-              let w = rest .0 (t .1) in
+              let w = rest .0 (rw (t .1) at g) in
               ((v .0, w .0), (v .1, w .1))),
-          (λ c. join _ _ (here .1 (c .0 .0, c .1 .0)) (rest .1 (c .0 .1, c .1 .1))),
+          (λ c. rw (onward-good key _ (here .1 (c .0 .0, c .1 .0))) (rest .1 (c .0 .1, c .1 .1))),
         )
 
-  -- keys above that are their children's own last keys, if the last leaf key under each child is its own last key
+  -- the page that an entry names is exact: the last leaf key under it is its own last key
   abbrev pub OwnLast : ℕ → List ℕ × ℕ → Type 0
   OwnLast h e = lastLeafKey b k size h (e .1) ≡ lastOf none (entriesAt k size b (e .1))
 
-  -- the key above is the last leaf key under the child
-  abbrev pub Exactly : ℕ → List ℕ × ℕ → Type 0
-  Exactly h e = lastLeafKey b k size h (e .1) ≡ some (e .0)
+  -- a page whose last entry is exact is so
+  last-own : (h n : ℕ) (o : Option (List ℕ)) (x : Bool) (xs : Entries) → NonEmpty xs → upperEntries b k size h h x xs .good ≡ true
+      → upperEntries b k size h h x xs .exact ≡ true → lastLeafKey b k size h (lastNumber n xs) ≡ lastOf o xs
+  unfolding upperEntries
+  last-own h n o x [] s g u = absurd s
+  last-own h n o x (e ∷ []) s g u = last-is _ _ (rw (went-on (upperEntry b k size h h e []) _ g .1) at u)
+  last-own h n o x (e ∷ y ∷ ys) s g u =
+      let key = upperEntry b k size h h e (y ∷ ys) in
+      let t = went-on key _ g in
+      last-own h (e .1) (some (e .0)) (key .exact) (y ∷ ys) tt (rw (t .1) at g) (rw (t .1) at u)
 
-  own-key : (h : ℕ) (e : List ℕ × ℕ) (es : Entries) → upperEntryGood b k size true h e es ≡ true → lastOf none (S (e .1)) ≡ some (e .0)
+  pub own-page : (h : ℕ) (e : List ℕ × ℕ) (x : Bool) → NonEmpty (entriesAt k size b (e .1))
+      → upperEntries b k size h h x (entriesAt k size b (e .1)) .good ≡ true → upperEntries b k size h h x (entriesAt k size b (e .1)) .exact ≡ true
+      → OwnLast (suc h) e
   unfolding down
-  own-key h e es g = own-same (lastOf none (S (e .1))) (e .0) g
+  own-page h e x s g u = last-own h noPage none x (S (e .1)) s g u
 
-  own-entry : (h : ℕ) (e : List ℕ × ℕ) (es : Entries) → upperEntryGood b k size true h e es ≡ true → OwnLast h e
-      → Exactly h e × (upperEntryGood b k size false h e es ≡ true)
-  own-entry h e es g o =
-      let same = o ∙ own-key h e es g in
-      (same, rw (same, equal-refl (e .0)))
+  -- d steps under the page that an entry names are as good as h
+  abbrev pub SameLast : ℕ → ℕ → List ℕ × ℕ → Type 0
+  SameLast d h e = lastLeafKey b k size d (e .1) ≡ lastLeafKey b k size h (e .1)
 
-  -- Theorem: then they are good keys above, and each is the last leaf key under its child
-  pub own-entries : (h : ℕ) (xs : Entries) → upperEntriesGood b k size true h xs ≡ true → All (OwnLast h) xs
-      → (upperEntriesGood b k size false h xs ≡ true) × All (Exactly h) xs
-  unfolding upperEntriesGood
-  own-entries h [] g o = (refl, tt)
-  own-entries h (x ∷ xs) g o =
-      let t = both (upperEntryGood b k size true h x xs) _ g in
-      let here = own-entry h x xs (t .0) (o .0) in
-      let rest = own-entries h xs (t .1) (o .1) in
-      (join _ _ (here .1) (rest .0), (here .0, rest .1))
-
-  -- and the last leaf key under their page is its own last key
-  own-last : (h n : ℕ) (o : Option (List ℕ)) (xs : Entries) → NonEmpty xs → All (Exactly h) xs
-      → lastLeafKey b k size h (lastNumber n xs) ≡ lastOf o xs
-  own-last h n o [] s a = absurd s
-  own-last h n o (x ∷ []) s a = a .0
-  own-last h n o (x ∷ y ∷ ys) s a = own-last h (x .1) (some (x .0)) (y ∷ ys) tt (a .1)
-
-  pub own-page : (h : ℕ) (e : List ℕ × ℕ) → NonEmpty (entriesAt k size b (e .1))
-      → All (Exactly h) (entriesAt k size b (e .1)) → OwnLast (suc h) e
+  -- no step is needed under exact pages
+  pub same-last : (h : ℕ) (x : Bool) (xs : Entries) → (x ≡ true → All (OwnLast h) xs) → All (SameLast (cond x 0 h) h) xs
   unfolding down
-  own-page h e s a = own-last h noPage none (S (e .1)) s a
+  same-last h true xs o = all-map (OwnLast h) (SameLast 0 h) (λ e u. sym u) xs (o refl)
+  same-last h false xs o = all-map (λ e. Unit {0}) (SameLast h h) (λ e u. refl) xs (all-unit xs)
+
+  -- Theorem: then the test is the test that goes down
+  pub entries-same : (d h : ℕ) (x : Bool) (xs : Entries) → All (SameLast d h) xs → upperEntries b k size d h x xs ≡ upperEntries b k size h h x xs
+  unfolding upperEntries
+  entries-same d h x [] s = refl
+  entries-same d h x (e ∷ es) s = rw (s .0) (onward-same _ _ _ (λ y. entries-same d h y es (s .1)))

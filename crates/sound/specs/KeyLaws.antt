@@ -3,14 +3,14 @@
 use Prim.Native.Nat.{ℕ, zero, suc, _-_, _%_, _≤_, _<_}
 use mathlib.Core.Path.{_≡_, refl, sym, ap, _∙_}
 use mathlib.Core.List.{List, [], _∷_, _++_}
-use mathlib.Core.Bool.{true, false}
+use mathlib.Core.Bool.{Bool, true, false, cond, _&&_}
 use mathlib.Core.Logic.{_↔_}
 use native.Mathlib.Omega.{arith}
 use lib.ListN.{length, length-append}
 use lib.Dec.{eqb}
 use borrow.Author.Tests.{ne-eqb}
 use Rattle.basis.specs.Lists.{All, all-append, all-left, all-right, all-map}
-use Rattle.basis.specs.Tests.{either, both, join}
+use Rattle.basis.specs.Tests.{both}
 use Rattle.tree.specs.Lists.{NonEmpty}
 use Rattle.tree.specs.ListLaws.{all-unit, all-map2}
 use Rattle.tree.specs.Pairs.{Ascending}
@@ -23,11 +23,12 @@ use Rattle.page.specs.Page.{capacity}
 use Rattle.page.specs.KeyOrder.{bytesOrder}
 use Rattle.page.specs.Reading.{entriesAt}
 use Rattle.page.specs.Children.{isLeaf, firstChild}
-use Rattle.sound.specs.Rule.{Entries, maxPages, chain, unmarked, heightOf, upperEntriesGood, upperPagesGood, upperLevelsGood, keysUnderGood, down}
-use Rattle.sound.specs.AttributeLaws.{attributeAtLevel, or-right}
+use Rattle.sound.specs.Rule.{Entries, maxPages, chain, unmarked, heightOf, upperEntries, upperPages, upperLevels, keysUnderGood, down}
+use Rattle.sound.specs.AttributeLaws.{attributeAtLevel}
 use Rattle.sound.specs.Levels.{all-of-map, all-to-map, all-of-concat, all-to-concat, numbers, readAll, below, generation, reached, generations-reached}
 use Rattle.sound.specs.RunLaws.{Fits, Fresh}
-use Rattle.sound.specs.CeilingLaws.{Full, full-some, full-children, PageCeilings, entries-ceilings, OwnLast, Exactly, own-entries, own-page}
+use Rattle.sound.specs.CeilingLaws.{onward-good, went-on, onward-same, Full, full-some, full-children, PageCeilings, entries-ceilings}
+use Rattle.sound.specs.CeilingLaws.{OwnLast, own-page, SameLast, same-last, entries-same}
 use Rattle.sound.specs.MarkLaws.{fresh-left, fresh-few, unmarked-length, once-fresh}
 use Rattle.sound.specs.LevelLaws.{same-suc, chain-is, next-head, leaf-known, FullAbove}
 use Rattle.sound.specs.ShapeLaws.{rootEntry, levelPages, Shape, least-one, levels-inside, levels-counts, entries-filled, tree-sized}
@@ -74,16 +75,38 @@ module _ (b : List ℕ) (k size : ℕ) (most : size ≤ maxBytes) where
     Ascends h e = Ascending bytesOrder (pairs h (under h e))
 
     -- the pages of one level
-    pages-ceilings : (h : ℕ) (es : Entries) → All (Full b k size cap (suc h)) es → All (Ascends (suc h)) es
-        → (upperPagesGood b k size false h (numbers es) ≡ true) ↔ All (λ e. PageCeilings b k size h (S (e .1))) es
-    unfolding upperPagesGood
-    pages-ceilings h [] d a = ((λ g. tt), (λ c. refl))
-    pages-ceilings h (e ∷ es) d a =
-        let here = entries-ceilings b k size cap h (S (e .1)) (full-children b k size cap h e (d .0)) (a .0) in
-        let rest = pages-ceilings h es (d .1) (a .1) in (
-          (λ g. let t = both (upperEntriesGood b k size false h (S (e .1))) _ g in (here .0 (t .0), rest .0 (t .1))),
-          (λ c. join _ _ (here .1 (c .0)) (rest .1 (c .1))),
+    pages-ceilings : (h : ℕ) (x : Bool) (es : Entries) → All (Full b k size cap (suc h)) es → All (Ascends (suc h)) es
+        → (upperPages b k size h h x (numbers es) .good ≡ true) ↔ All (λ e. PageCeilings b k size h (S (e .1))) es
+    unfolding upperPages
+    pages-ceilings h x [] d a = ((λ g. tt), (λ c. refl))
+    pages-ceilings h x (e ∷ es) d a =
+        let page = upperEntries b k size h h true (S (e .1)) in
+        let here = entries-ceilings b k size cap h true (S (e .1)) (full-children b k size cap h e (d .0)) (a .0) in
+        let rest = pages-ceilings h (x && page .exact) es (d .1) (a .1) in (
+          (λ g. let t = went-on page _ g in (here .0 (t .0), rest .0 (rw (t .1) at g))),
+          (λ c. rw (onward-good page _ (here .1 (c .0))) (rest .1 (c .1))),
         )
+
+    -- those that are exact
+    pages-own : (h : ℕ) (x : Bool) (es : Entries) → All (λ e. NonEmpty (S (e .1))) es → upperPages b k size h h x (numbers es) .good ≡ true
+        → upperPages b k size h h x (numbers es) .exact ≡ true → (x ≡ true) × All (OwnLast b k size (suc h)) es
+    unfolding upperPages
+    pages-own h x [] s g u = (u, tt)
+    pages-own h x (e ∷ es) s g u =
+        let page = upperEntries b k size h h true (S (e .1)) in
+        let t = went-on page _ g in
+        let rest = pages-own h (x && page .exact) es (s .1) (rw (t .1) at g) (rw (t .1) at u) in
+        let all = both x (page .exact) (rest .0) in
+        (all .0, (own-page b k size h e true (s .0) (t .0) (all .1), rest .1))
+
+    -- the test that takes d steps, if these are as good as h
+    pages-same : (d h : ℕ) (x : Bool) (es : Entries) → All (SameLast b k size d h) (below S es)
+        → upperPages b k size d h x (numbers es) ≡ upperPages b k size h h x (numbers es)
+    unfolding upperPages
+    pages-same d h x [] s = refl
+    pages-same d h x (e ∷ es) s =
+        rw (entries-same b k size d h true (S (e .1)) (all-left (SameLast b k size d h) (S (e .1)) (below S es) s))
+        (onward-same _ _ _ (λ y. pages-same d h (x && y) es (all-right (SameLast b k size d h) (S (e .1)) (below S es) s)))
 
     -- what holds of the pages that es name holds of their children
     full-below : (h : ℕ) (es : Entries) → All (Full b k size cap (suc h)) es → All (Full b k size cap h) (below S es)
@@ -108,58 +131,39 @@ module _ (b : List ℕ) (k size : ℕ) (most : size ≤ maxBytes) where
     ceilings-lower : (h : ℕ) (e : List ℕ × ℕ) → Ceilings bytesOrder (suc h) (under (suc h) e) → Lower h e
     ceilings-lower h e c = all-of-map (λ x. Ceilings bytesOrder h (x .1)) (readEntry S (suc h)) (S (e .1)) (c .2)
 
+    -- the levels, of which the last may be exact
     levels-ceilings : (h : ℕ) (es : Entries) (first : ℕ) → NonEmpty es → first ≡ headOr noPage (numbers es) → Chained h es
         → (0 < h → All (Full b k size cap h) es) → All (Ascends h) es
-        → (upperLevelsGood b k size false h first ≡ true) ↔ All (λ e. Ceilings bytesOrder h (under h e)) es
-    unfolding upperLevelsGood
-    levels-ceilings zero es first some e chained full ascends = ((λ g. all-unit es), (λ c. refl))
+        → ((upperLevels b k size h first .good ≡ true) ↔ All (λ e. Ceilings bytesOrder h (under h e)) es)
+        × (upperLevels b k size h first .good ≡ true → upperLevels b k size h first .exact ≡ true → All (OwnLast b k size h) es)
+    unfolding upperLevels down
+    levels-ceilings zero es first some e chained full ascends =
+        (((λ g. all-unit es), (λ c. refl)), (λ g u. all-map (λ e. Unit {0}) (OwnLast b k size zero) (λ e u. refl) es (all-unit es)))
     levels-ceilings (suc h) es first some e chained full ascends =
         let d = full (omega arith) in
         let filled = all-map (Full b k size cap (suc h)) (λ e. NonEmpty (S (e .1))) (full-some b k size cap (suc h)) es d in
         let next = next-head b k size most es first some e filled in
-        let here = pages-ceilings h es d ascends in
+        let here = pages-ceilings h true es d ascends in
+        let lower = upperLevels b k size h (firstChild b k size first) in
         let rest = levels-ceilings h (below S es) (firstChild b k size first) (next .1) (next .0) (λ i l. chained (suc i) (omega arith))
         (λ l. full-below h es d) (ascends-below h es ascends) in
-        let along : chain b size maxPages first ≡ numbers es = ap (chain b size maxPages) e ∙ chained 0 (omega arith) in (
-          (λ g.
-              let t = both (upperPagesGood b k size false h (chain b size maxPages first)) _ g in
-              all-map2 (λ e. PageCeilings b k size h (S (e .1))) (Lower h) (λ e. Ceilings bytesOrder (suc h) (under (suc h) e)) (ceilings-join h) es
-              (here .0 (rw along at (t .0)))
-              (all-of-concat (λ f. Ceilings bytesOrder h (under h f)) (λ e. S (e .1)) es (rest .0 (t .1)))),
-          (λ c.
-              let pages = all-map (λ e. Ceilings bytesOrder (suc h) (under (suc h) e)) (λ e. PageCeilings b k size h (S (e .1))) (λ e u. (u .0, u .1)) es c in
-              let lower = all-map (λ e. Ceilings bytesOrder (suc h) (under (suc h) e)) (Lower h) (ceilings-lower h) es c in
-              join (upperPagesGood b k size false h (chain b size maxPages first)) _ (rw along (here .1 pages))
-              (rest .1 (all-to-concat (λ f. Ceilings bytesOrder h (under h f)) (λ e. S (e .1)) es lower))),
+        let along : chain b size maxPages first ≡ numbers es = ap (chain b size maxPages) e ∙ chained 0 (omega arith) in
+        let is : lower .good ≡ true → upperLevels b k size (suc h) first ≡ upperPages b k size h h true (numbers es) =
+        λ g. onward-good lower _ g
+        ∙ rw along (pages-same (cond (lower .exact) 0 h) h true es (same-last b k size h (lower .exact) (below S es) (rest .1 g))) in (
+          (
+            (λ g.
+                let t = went-on lower _ g .0 in
+                all-map2 (λ e. PageCeilings b k size h (S (e .1))) (Lower h) (λ e. Ceilings bytesOrder (suc h) (under (suc h) e)) (ceilings-join h) es
+                (here .0 (rw (is t) at g))
+                (all-of-concat (λ f. Ceilings bytesOrder h (under h f)) (λ e. S (e .1)) es (rest .0 .0 t))),
+            (λ c.
+                let pages = all-map (λ e. Ceilings bytesOrder (suc h) (under (suc h) e)) (λ e. PageCeilings b k size h (S (e .1))) (λ e u. (u .0, u .1)) es c in
+                let each = all-map (λ e. Ceilings bytesOrder (suc h) (under (suc h) e)) (Lower h) (ceilings-lower h) es c in
+                rw (is (rest .0 .1 (all-to-concat (λ f. Ceilings bytesOrder h (under h f)) (λ e. S (e .1)) es each))) (here .1 pages)),
+          ),
+          (λ g u. let t = is (went-on lower _ g .0) in pages-own h true es filled (rw t at g) (rw t at u) .1),
         )
-
-  -- the pages of one level whose keys are their children's own last keys
-  own-pages : (h : ℕ) (es : Entries) → upperPagesGood b k size true h (numbers es) ≡ true → All (OwnLast b k size h) (below S es)
-      → (upperPagesGood b k size false h (numbers es) ≡ true) × All (λ e. All (Exactly b k size h) (S (e .1))) es
-  unfolding upperPagesGood
-  own-pages h [] g o = (refl, tt)
-  own-pages h (e ∷ es) g o =
-      let t = both (upperEntriesGood b k size true h (S (e .1))) _ g in
-      let here = own-entries b k size h (S (e .1)) (t .0) (all-left (OwnLast b k size h) (S (e .1)) (below S es) o) in
-      let rest = own-pages h es (t .1) (all-right (OwnLast b k size h) (S (e .1)) (below S es) o) in
-      (join _ _ (here .0) (rest .0), (here .1, rest .1))
-
-  -- keys above that are their children's own last keys are good
-  own-levels : (h : ℕ) (es : Entries) (first : ℕ) → NonEmpty es → first ≡ headOr noPage (numbers es) → Chained h es → FullAbove b k size most h es
-      → upperLevelsGood b k size true h first ≡ true → (upperLevelsGood b k size false h first ≡ true) × All (OwnLast b k size h) es
-  unfolding upperLevelsGood down
-  own-levels zero es first some e chained full g = (refl, all-map (λ e. Unit {0}) (OwnLast b k size zero) (λ e u. refl) es (all-unit es))
-  own-levels (suc h) es first some e chained full g =
-      let next = next-head b k size most es first some e (full 0 (omega arith)) in
-      let along : chain b size maxPages first ≡ numbers es = ap (chain b size maxPages) e ∙ chained 0 (omega arith) in
-      let t = both (upperPagesGood b k size true h (chain b size maxPages first)) _ g in
-      let lower = own-levels h (below S es) (firstChild b k size first) (next .1) (next .0) (λ i l. chained (suc i) (omega arith))
-      (λ i l. full (suc i) (omega arith)) (t .1) in
-      let here = own-pages h es (rw along at (t .0)) (lower .1) in (
-        join (upperPagesGood b k size false h (chain b size maxPages first)) _ (rw along (here .0)) (lower .0),
-        all-map2 (λ e. NonEmpty (S (e .1))) (λ e. All (Exactly b k size h) (S (e .1))) (OwnLast b k size (suc h))
-            (own-page b k size h) es (full 0 (omega arith)) (here .1),
-      )
 
   -- a level has at most as many pages as the tree
   level-few : (h i : ℕ) (es : Entries) → i < h → length (numbers (generation S i es)) ≤ length (reached S h es)
@@ -221,9 +225,5 @@ module _ (b : List ℕ) (k size root : ℕ) (whole : size % pageSize ≡ 0) (mos
   pub keys-ceilings : Ascending bytesOrder (pairs (s .height) (readTree (entriesAt k size b) (s .height) root))
       → (keysUnderGood b k size (s .height) root ≡ true) ↔ Ceilings bytesOrder (s .height) (readTree (entriesAt k size b) (s .height) root)
   keys-ceilings ascending =
-      let levels = levels-ceilings b k size most (capacity k) h (rootEntry root) root tt refl chained (λ l. (full-root l, tt)) (ascending, tt) in (
-        (λ g. either (upperLevelsGood b k size true h root)
-            (λ e. levels .0 (own-levels b k size most h (rootEntry root) root tt refl chained full e .0) .0)
-            (λ e. levels .0 (rw e at g) .0)),
-        (λ c. or-right (upperLevelsGood b k size true h root) _ (levels .1 (c, tt))),
-      )
+      let levels = levels-ceilings b k size most (capacity k) h (rootEntry root) root tt refl chained (λ l. (full-root l, tt)) (ascending, tt) .0 in
+      ((λ g. levels .0 g .0), (λ c. levels .1 (c, tt)))

@@ -1,8 +1,9 @@
--- Steps: the audit's test as it is computed, in two passes, each page by page and level by level from the root down. The inner functions of the audit and of
--- the match cite its parts; the rules of insertion and removal, which have to compute, tell 25 by `pagesGood`. A reader need not believe the test: Accepted
--- proves that it accepts exactly the sound indexes, and book/InsertionAnswers and RemovalAnswers say what 25 means by `Sound`.
--- The first pass tests all but the keys above pages: the shape. Each of its checks is local to a page and its left neighbour; it carries the left neighbour
--- along, and marks each page that it meets. The second pass tests the keys above pages: the links are good by then, and the height is known.
+-- Steps: the audit's test as it is computed, in two passes, each page by page and level by level. The inner functions of the audit and of the match cite its
+-- parts; the rules of insertion and removal, which have to compute, tell 25 by `pagesGood`. A reader need not believe the test: Accepted proves that it accepts
+-- exactly the sound indexes, and book/InsertionAnswers and RemovalAnswers say what 25 means by `Sound`.
+-- The first pass, from the root down, tests all but the keys above pages: the shape. Each of its checks is local to a page and its left neighbour; it carries
+-- the left neighbour along, and marks each page that it meets. The second pass, from the leaves up, tests each key above a page once: the links are good by
+-- then, and the height is known. It carries along whether the level below is exact, which says where the last leaf key under a child stands.
 use Prim.Native.Nat.{ℕ, zero, suc, _+_, _-_, _/_}
 use mathlib.Core.List.{List, [], _∷_}
 use mathlib.Core.Bool.{Bool, true, false, cond, not, _&&_, _||_}
@@ -60,6 +61,11 @@ abbrev pub isCeiling : Option (List ℕ) → List ℕ → Bool → Bool
 isCeiling none x next = false
 isCeiling (some a) x next = isEqual (ordering a x) || (isBelow (ordering a x) && next)
 
+-- the key x over a child is the last leaf key under it
+abbrev pub isLast : Option (List ℕ) → List ℕ → Bool
+isLast none x = false
+isLast (some a) x = isEqual (ordering a x)
+
 -- the key x is below the other key, and there is one
 abbrev pub isUnder : List ℕ → Option (List ℕ) → Bool
 isUnder x none = false
@@ -80,6 +86,16 @@ pub record Level : Type 0 where
   pub good : Bool
   pub leaf : Bool
   pub first : ℕ
+
+-- what the audit knows of keys above pages: whether all are ceilings; and, if they are, whether each page met is exact: its own last key is the last leaf key
+-- under it
+pub record Keys : Type 0 where
+  pub good : Bool
+  pub exact : Bool
+
+-- good keys, then what comes after them; or keys that are not all good
+unfoldable pub onward : Keys → (Bool → Keys) → Keys
+onward r after = elim (r .good) [ true ↦ after (r .exact) | false ↦ r ]
 
 -- the start of a level, whose first page has to be `first`
 abbrev pub start : ℕ → Progress
@@ -201,30 +217,31 @@ module _ (b : List ℕ) (k size : ℕ) where
   belowNext h x [] = true
   belowNext h x (e ∷ es) = isUnder x (firstLeafKey h (e .1))
 
-  -- the key of the entry e, before the entries es of its page, is a ceiling; e's child has h levels under it. If `exact` is asked for, the key is the child's
-  -- own last key
-  abbrev pub upperEntryGood : Bool → ℕ → List ℕ × ℕ → Entries → Bool
-  upperEntryGood exact h e es = isCeiling (lastLeafKey (cond exact 0 h) (e .1)) (e .0) (not exact && belowNext h (e .0) es)
+  -- the key of the entry e, before the entries es of its page: e's child has h levels under it, and the last leaf key under it is looked for d steps down
+  abbrev pub upperEntry : ℕ → ℕ → List ℕ × ℕ → Entries → Keys
+  upperEntry d h e es =
+      record { good = isCeiling (lastLeafKey d (e .1)) (e .0) (belowNext h (e .0) es); exact = isLast (lastLeafKey d (e .1)) (e .0) }
 
-  -- the entries of a page above the leaves, whose children have h levels under them
-  unfoldable pub upperEntriesGood : Bool → ℕ → Entries → Bool
-  upperEntriesGood exact h [] = true
-  upperEntriesGood exact h (e ∷ es) = upperEntryGood exact h e es && upperEntriesGood exact h es
+  -- the entries of a page above the leaves, after an entry that is exact if x is true: the page is exact if its last entry is
+  unfoldable pub upperEntries : ℕ → ℕ → Bool → Entries → Keys
+  upperEntries d h x [] = record { good = true; exact = x }
+  upperEntries d h x (e ∷ es) = onward (upperEntry d h e es) (λ y. upperEntries d h y es)
 
-  -- the entries of the pages of a level
-  unfoldable pub upperPagesGood : Bool → ℕ → List ℕ → Bool
-  upperPagesGood exact h [] = true
-  upperPagesGood exact h (p ∷ ps) = upperEntriesGood exact h (entriesOf p) && upperPagesGood exact h ps
+  -- the pages of a level above the leaves, after pages that are exact if x is true
+  unfoldable pub upperPages : ℕ → ℕ → Bool → List ℕ → Keys
+  upperPages d h x [] = record { good = true; exact = x }
+  upperPages d h x (p ∷ ps) = onward (upperEntries d h true (entriesOf p)) (λ y. upperPages d h (x && y) ps)
 
-  -- the keys above pages: of the level whose first page is `first`, which has h levels under it, and of those levels but the leaves
-  unfoldable pub upperLevelsGood : Bool → ℕ → ℕ → Bool
-  upperLevelsGood exact zero first = true
-  upperLevelsGood exact (suc h) first = upperPagesGood exact h (chain b size maxPages first) && upperLevelsGood exact h (firstChild b k size first)
+  -- the level whose first page is `first`, which has h levels under it, after those levels: if the level below is exact, the last leaf key under a child is the
+  -- child's own last key, and no test has to go down for it
+  unfoldable pub upperLevels : ℕ → ℕ → Keys
+  upperLevels zero first = record { good = true; exact = true }
+  upperLevels (suc h) first =
+      onward (upperLevels h (firstChild b k size first)) (λ y. upperPages (cond y 0 h) h true (chain b size maxPages first))
 
-  -- the keys above pages under the root, which has h levels under it. If each key above is its child's own last key, it is the last leaf key under the child,
-  -- and no test has to go down to the leaves
+  -- the keys above pages under the root, which has h levels under it
   abbrev pub keysUnderGood : ℕ → ℕ → Bool
-  keysUnderGood h root = upperLevelsGood true h root || upperLevelsGood false h root
+  keysUnderGood h root = upperLevels h root .good
 
 -- all but the keys above pages, of an index whose header is good, from the marks m on
 unfoldable pub shapeGood : List ℕ → List ℕ → Bool

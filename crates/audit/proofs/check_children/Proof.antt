@@ -6,11 +6,12 @@ use mathlib.Core.Path.{_≡_}
 use native.Mathlib.Nat.{sub-zero}
 use native.Mathlib.Omega.{arith}
 use lib.ListN.{length}
-use borrow.Author.Tests.{not-true}
+use borrow.Author.Tests.{not-true, not-false}
 use borrow.Author.Needs.{needs}
 use Rattle.sound.specs.Rule.{maxPages}
 use Rattle.audit.specs.State.{progressOf}
 use Rattle.audit.specs.EntryLaws.{entries-within}
+use Rattle.audit.specs.StepLaws.{fits-within, taken-checked}
 use Rattle.audit.specs.PassLaws.{ChildrenLeft, children-stop, children-end, children-on, page-kept}
 use Rattle.audit.proofs.check_children.Statement.{statement}
 use Rattle.audit.proofs.check_children.Tie as tie
@@ -24,15 +25,15 @@ Inv-loop index marks₀ k size attribute parent count t₀ i₀ marks t i =
 abbrev μ-loop : tie.MeasureT-loop
 μ-loop index marks₀ k size attribute parent count t₀ i₀ marks t i = count - i
 
--- the places: where the function starts, the loop's head, inside the loop
+-- the places: where the function starts, inside the loop, past the child
 abbrev start : tie.At-loop Inv-loop μ-loop → tie.Start Inv-loop μ-loop
 start c = c .before .before .before .before
 
 abbrev in-loop : tie.Else1 Inv-loop μ-loop → tie.In-loop Inv-loop μ-loop
 in-loop c = c .before .before
 
-abbrev tested : tie.After-check-page Inv-loop μ-loop → tie.Else1 Inv-loop μ-loop
-tested c = c .before .before .before
+abbrev past-child : tie.After-page-fits Inv-loop μ-loop → tie.After-child Inv-loop μ-loop
+past-child c = c .before .before .before
 
 entry-count-requires : tie.Need-entry-count-requires Inv-loop μ-loop
 entry-count-requires c κs = search needs
@@ -52,13 +53,17 @@ returns c =
 
 child-requires : tie.Need-child-requires Inv-loop μ-loop
 child-requires c κs =
-    let head = in-loop (c .before) .before in
+    let head = in-loop c .before in
     entries-within _ _ _ _ _ (head .before .entry-count .ensures) (start head .pre .0) .each (head .loop .i) (search needs)
 
-check-page-requires : tie.Need-check-page-requires Inv-loop μ-loop
-check-page-requires c κs =
-    let head = in-loop (c .before .before) .before in
-    (start head .pre .0, head .loop .inv .1)
+page-fits-requires : tie.Need-page-fits-requires Inv-loop μ-loop
+page-fits-requires c κs = search needs
+
+take-page-requires : tie.Need-take-page-requires Inv-loop μ-loop
+take-page-requires c κs =
+    let fit = c .before in
+    let head = in-loop (past-child fit .before) .before in
+    fits-within _ _ _ _ _ (head .loop .marks) _ _ _ (fit .page-fits .ensures) (start head .pre .0) (head .loop .inv .1)
 
 add-i : tie.Need-add-i Inv-loop μ-loop
 add-i c = search needs
@@ -69,14 +74,18 @@ loop-less c = search needs
 loop-again : tie.Need-loop-again Inv-loop μ-loop
 loop-again c =
     let done = c .before .before in
-    let turn = in-loop (tested done) in
+    let fit = done .before .before in
+    let child = past-child fit in
+    let tested = child .before in
+    let turn = in-loop tested in
     let loop = turn .before .loop in
     let more = turn .loop-test .taken in
     let s = progressOf (loop .t) in
-    let t = progressOf (done .check-page .result) in (
+    let t = progressOf (done .take-page .result) in
+    let checked = taken-checked _ _ _ _ _ (loop .marks) _ s _ (not-false _ (tested .if1 .left)) (fit .page-fits .ensures) (done .take-page .ensures) in (
       omega (arith, more),
-      page-kept _ _ _ _ _ maxPages s t (loop .marks) _ (loop .inv .1) (done .check-page .ensures),
-      children-on _ _ _ _ _ _ (loop .i) _ s (loop .marks) (loop .inv .2) _ t _ more (done .before .child .ensures) (done .check-page .ensures),
+      page-kept _ _ _ _ _ maxPages s t (loop .marks) _ (loop .inv .1) checked,
+      children-on _ _ _ _ _ _ (loop .i) _ s (loop .marks) (loop .inv .2) _ t _ more (child .child .ensures) checked,
     )
 
 same-length-2 : tie.Need-same-length-2 Inv-loop μ-loop
@@ -99,7 +108,8 @@ check-children-spec =
     same-length
     returns
     child-requires
-    check-page-requires
+    page-fits-requires
+    take-page-requires
     add-i
     loop-less
     loop-again

@@ -2,8 +2,8 @@
 -- Assumes nothing.
 use Rattle.page.specs.HeaderLaws.{good-header}
 use Rattle.audit.specs.PassLaws.{in-file}
-use Rattle.audit.specs.KeyLaws.{keys-exact, keys-answer}
-use Rattle.audit.specs.State.{InFile}
+use Rattle.audit.specs.KeyLaws.{keys-answer}
+use Rattle.audit.specs.State.{InFile, keysOf}
 use borrow.Author.Needs.{needs}
 use Rattle.audit.proofs.keys_above_good.Statement.{statement}
 use Rattle.audit.proofs.keys_above_good.Tie as tie
@@ -33,27 +33,12 @@ upper-levels-requires c κs = file (c .before .before)
 
 returns : tie.Need-returns
 returns c =
-    let exact = c .before in
-    let height = exact .before in
+    let height = c .before in
     let root = height .before in
     let size = root .before in
     let key = size .before in
-    keys-exact (start key .args .index .now) _ _ _ _ (key .key-length .ensures) (size .file-size .ensures) (root .root .ensures)
-    (height .height-of .ensures) _ (exact .upper-levels .ensures) (c .if1 .taken)
-
-upper-levels-requires-2 : tie.Need-upper-levels-requires-2
-upper-levels-requires-2 c κs = file (c .before .before .before .before)
-
-returns-2 : tie.Need-returns-2
-returns-2 c =
-    let tested = c .before in
-    let exact = tested .before in
-    let height = exact .before in
-    let root = height .before in
-    let size = root .before in
-    let key = size .before in
-    keys-answer (start key .args .index .now) _ _ _ _ (key .key-length .ensures) (size .file-size .ensures) (root .root .ensures)
-    (height .height-of .ensures) _ (exact .upper-levels .ensures) _ (tested .if1 .left) (c .upper-levels2 .ensures)
+    keys-answer (start key .args .index .now) _ _ _ _ (keysOf (c .upper-levels .result)) (key .key-length .ensures) (size .file-size .ensures)
+    (root .root .ensures) (height .height-of .ensures) (c .upper-levels .ensures)
 
 pub keys-above-good-spec : {M : Type 1} → statement M
 keys-above-good-spec =
@@ -64,6 +49,4 @@ keys-above-good-spec =
     root-requires
     height-of-requires
     upper-levels-requires
-    returns
-    upper-levels-requires-2
-    returns-2)
+    returns)

@@ -1,4 +1,5 @@
--- `audit::upper_entries` meets its contract. The loop's invariant: the entries passed are good, so that those from entry `i` on decide.
+-- `audit::upper_entries` meets its contract. The loop's invariant: the entries passed are good, so that those from entry `i` on decide, after an entry that is
+-- exact if `exact` is true.
 -- Assumes nothing.
 use Prim.Native.Nat.{_-_, _≤_}
 use borrow.Author.Tests.{not-true, not-false}
@@ -9,10 +10,10 @@ use Rattle.audit.proofs.upper_entries.Statement.{statement}
 use Rattle.audit.proofs.upper_entries.Tie as tie
 
 abbrev Inv-loop : tie.InvT-loop
-Inv-loop index k size exact under page count i₀ i = (i ≤ count) × UpperLeft index k size exact under (page .0) count i
+Inv-loop index k size down under page count exact₀ i₀ exact i = (i ≤ count) × UpperLeft index k size down under (page .0) count exact i
 
 abbrev μ-loop : tie.MeasureT-loop
-μ-loop index k size exact under page count i₀ i = count - i
+μ-loop index k size down under page count exact₀ i₀ exact i = count - i
 
 -- where the function starts
 abbrev start : tie.At-loop Inv-loop μ-loop → tie.Start Inv-loop μ-loop
@@ -32,8 +33,9 @@ upper-entry-requires c κs =
 
 returns : tie.Need-returns Inv-loop μ-loop
 returns c =
-    let loop = c .before .before .before .loop in
-    upper-off _ _ _ _ _ _ _ (loop .i) (loop .inv .1) (search needs) _ (c .before .upper-entry .ensures) (not-true _ (c .if1 .taken))
+    let key = c .before .before in
+    let loop = key .before .before .loop in
+    upper-off _ _ _ _ _ _ _ (loop .exact) (loop .i) (loop .inv .1) (search needs) _ (key .upper-entry .ensures) (not-true _ (c .if1 .taken))
 
 add-i : tie.Need-add-i Inv-loop μ-loop
 add-i c = search needs
@@ -43,11 +45,14 @@ loop-less c = search needs
 
 loop-again : tie.Need-loop-again Inv-loop μ-loop
 loop-again c =
-    let loop = c .before .before .before .loop in
-    (search needs, upper-on _ _ _ _ _ _ _ (loop .i) (loop .inv .1) (search needs) _ (c .before .upper-entry .ensures) (not-false _ (c .if1 .left)))
+    let key = c .before .before in
+    let loop = key .before .before .loop in (
+      search needs,
+      upper-on _ _ _ _ _ _ _ (loop .exact) (loop .i) (loop .inv .1) (search needs) _ (key .upper-entry .ensures) (not-false _ (c .if1 .left)),
+    )
 
 returns-2 : tie.Need-returns-2 Inv-loop μ-loop
-returns-2 c = let loop = c .before .loop in upper-end _ _ _ _ _ _ _ (loop .i) (loop .inv .1) (search needs)
+returns-2 c = let loop = c .before .loop in upper-end _ _ _ _ _ _ _ (loop .exact) (loop .i) (loop .inv .1) (search needs)
 
 pub upper-entries-spec : {M : Type 1} → statement M
 upper-entries-spec =
