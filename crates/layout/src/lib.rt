@@ -190,12 +190,8 @@ pub fn with_entries(index: &mut [u8], k: usize, page: PageOffset, count: usize, 
     let at = page.0 as usize;
     set_count(index, page, count as u32);
     octets::copy_in(index, at + Page::ENTRIES_START, entries);
-    octets::fill(
-        index,
-        page::entry_offset(k, page, count),
-        at + Page::SIZE,
-        0,
-    );
+    let end = page::entry_offset(k, page, count);
+    octets::fill(index, end, at + Page::SIZE, 0);
 }
 
 // Writes a whole page: `head`, then its entries, held in the bytes `entries`.

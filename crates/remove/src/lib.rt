@@ -55,7 +55,7 @@ fn after_child(
     child: PageOffset,
     below: Outcome,
 ) -> Outcome
-    requires { ⌜ (k ≤ maxKey) × EmptiedPage (length (now index)) (child .0) below ⌝ }
+    requires { ⌜ (k ≤ maxKey) × (isPage (length (now index)) (page .0) ≡ true) × EmptiedPage (length (now index)) (child .0) below ⌝ }
     ensures { λ r. ⌜ afterChild k (now (index .entry)) (page .0) i (child .0) (outcomeOf below) ≡ step (now (index .exit)) (outcomeOf r) ⌝ }
 {
     match below {

@@ -1,5 +1,6 @@
 -- `layout::take_page` meets its contract: the head of the free list if it is a page, else the page at the file's end. Assumes nothing.
 use mathlib.Core.Path.{sym, _∙_}
+use native.Mathlib.Omega.{arith}
 use Rattle.page.specs.HeaderLaws.{is-page}
 use Rattle.layout.specs.SupplyLaws.{takes-free, takes-end}
 use borrow.Author.Needs.{needs}
@@ -13,7 +14,7 @@ is-page-requires : tie.Need-is-page-requires
 is-page-requires c κs = search needs
 
 at-requires : tie.Need-at-requires
-at-requires c κs = is-page _ _ (sym (c .before .is-page .ensures) ∙ c .if1 .taken) .high
+at-requires c κs = omega (arith, is-page _ _ (sym (c .before .is-page .ensures) ∙ c .if1 .taken) .high)
 
 returns : tie.Need-returns
 returns c =

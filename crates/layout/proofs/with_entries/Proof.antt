@@ -13,7 +13,7 @@ abbrev before-copy : tie.After-copy-in-arg → tie.After-set-count-arg
 before-copy c = c .before .before .before .before
 
 abbrev before-fill : tie.After-entry-offset → tie.After-copy-in-arg
-before-fill c = c .before .before .before .before .before
+before-fill c = c .before .before .before .before
 
 cast-at : tie.Need-cast-at
 cast-at c = search needs
@@ -38,8 +38,9 @@ add-fill c = search needs
 
 fill-requires : tie.Need-fill-requires
 fill-requires c κs =
-    let z = sizes (start (before-copy (before-fill c)) .pre) in
-    (omega (arith, c .entry-offset .ensures), omega arith)
+    let offset = c .before in
+    let z = sizes (start (before-copy (before-fill offset)) .pre) in
+    (omega (arith, offset .entry-offset .ensures), omega arith)
 
 same-length : tie.Need-same-length
 same-length c = search needs
@@ -47,8 +48,8 @@ same-length c = search needs
 returns : tie.Need-returns
 returns c =
     let filled = c .before .before in
-    let offset = filled .before in
-    let copied = offset .before .before .before .before in
+    let offset = filled .before .before in
+    let copied = offset .before .before .before in
     let counted = copied .before .before .before .before in
     with-entries-by (start (counted .before) .pre) (counted .set-count .ensures) (copied .copy-in .ensures)
     (offset .entry-offset .ensures) (filled .fill .ensures)

@@ -5,7 +5,7 @@ use native.Mathlib.Omega.{arith}
 use borrow.Author.Needs.{needs}
 use borrow.Fn.Kinds.{In}
 use borrow.Fn.PlainCycle.{Measures, is, falls, and}
-use Rattle.layout.specs.VisitLaws.{visited-leaf}
+use Rattle.layout.specs.VisitLaws.{visited-leaf, visited-child}
 use Rattle.remove.specs.Removal.{removeUnder}
 use Rattle.remove.specs.StepLaws.{under-bad, under-leaf, under-child, emptied-fits}
 use Rattle.remove.proofs.remove_under.Reads as remove-under
@@ -104,7 +104,9 @@ remove-under-after-child-requires t c κs =
     let returned = c .before .before .before in
     let below = returned .remove-under in
     let met = returned .before .before .before in
-    (start t (child-visit t met) .pre .1, rw (below .kept .0) (emptied-fits _ _ _ _ _ (below .result) (below .ensures)))
+    let visited = child-visit t met in
+    let page = visited-child _ _ _ _ _ (sym (met .visit .given .1) ∙ visited .visit-page .ensures) .0 in
+    (start t visited .pre .1, rw (below .kept .0) page, rw (below .kept .0) (emptied-fits _ _ _ _ _ (below .result) (below .ensures)))
 
 remove-under-same-length : (t : ℕ) → remove-under-lts.Need-same-length (claims t) (remove-under-at t) remove-under.Post
 remove-under-same-length t c = search needs

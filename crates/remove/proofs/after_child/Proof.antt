@@ -1,9 +1,8 @@
 -- `remove::after_child` meets its contract: the rule's three cases. Assumes nothing.
-use mathlib.Core.Bool.{true}
-use mathlib.Core.Path.{_≡_}
+use Prim.Native.Nat.{_+_, _≤_}
 use native.Mathlib.Omega.{arith}
 use lib.ListN.{length}
-use Rattle.page.specs.Header.{isPage}
+use Rattle.page.specs.Header.{pageSize}
 use Rattle.page.specs.HeaderLaws.{is-page}
 use Rattle.remove.specs.StepLaws.{after-emptied, emptied-is}
 use borrow.Author.Needs.{needs}
@@ -14,9 +13,12 @@ use Rattle.remove.proofs.after_child.Tie as tie
 abbrev start : tie.After-enum-told2 → tie.Start
 start c = c .before .before .before
 
--- the emptied child is a page
-child : (c : tie.After-enum-told2) → let args = start c .args in isPage (length (args .index .now)) (args .child .0) ≡ true
-child c = emptied-is _ _ _ (c .enum-told2 .given .1) (start c .pre .1)
+-- the page and its emptied child are inside the buffer
+inside : (c : tie.After-enum-told2) → let args = start c .args in let n = length (args .index .now) in
+    (args .page .0 + pageSize ≤ n) × (args .child .0 + pageSize ≤ n)
+inside c =
+    let pre = start c .pre in
+    (is-page _ _ (pre .1) .high, is-page _ _ (emptied-is _ _ _ (c .enum-told2 .given .1) (pre .2)) .high)
 
 enum-told : tie.Need-enum-told
 enum-told c = search needs
@@ -25,13 +27,13 @@ enum-told-2 : tie.Need-enum-told-2
 enum-told-2 c = search needs
 
 unlink-page-requires : tie.Need-unlink-page-requires
-unlink-page-requires c κs = is-page _ _ (child (c .before)) .high
+unlink-page-requires c κs = let pages = inside (c .before) in omega (arith, pages .0, pages .1)
 
 free-page-requires : tie.Need-free-page-requires
 free-page-requires c κs =
     let unlinked = c .before .before .before in
-    let inside = is-page _ _ (child (unlinked .before .before)) in
-    omega (arith, inside .high, unlinked .unlink-page .kept .0)
+    let pages = inside (unlinked .before .before) in
+    omega (arith, pages .0, pages .1, unlinked .unlink-page .kept .0)
 
 take-out-requires : tie.Need-take-out-requires
 take-out-requires c κs = search needs
