@@ -62,7 +62,7 @@ static void random_key(shape s, uint8_t *key)
 {
     memset(key, 'S', s.alike);
     for (size_t i = s.alike; i < s.length; i++)
-        key[i] = (uint8_t)(0x30 + random_bits() % 64);
+        key[i] = (uint8_t)(0x20 + random_bits() % 224);
 }
 
 static FILE *open_index(const char *folder, shape s, size_t size, const char *mode)
