@@ -5,14 +5,16 @@ use mathlib.Core.Path.{_≡_, refl, sym, ap, _∙_}
 use mathlib.Core.Bool.{Bool, true, false, _&&_}
 use mathlib.Core.List.{List, [], _∷_}
 use mathlib.Core.Option.{Option, none, some}
+use native.Mathlib.Nat.{sub-zero}
 use native.Mathlib.Omega.{arith}
 use lib.ListN.{length}
 use borrow.Author.Tests.{eq-eqb, ne-eqb}
+use Rattle.octets.specs.Bytes.{be32}
 use Rattle.octets.specs.Store.{window}
 use Rattle.octets.specs.declared.Ordering.{Ordering}
 use Rattle.octets.specs.Order.{ordering, isBelow}
-use Rattle.page.specs.Page.{entryOffset, keyAt, numberAt}
-use Rattle.page.specs.PageLaws.{entry-low}
+use Rattle.page.specs.Page.{entriesStart, entryOffset, keyAt, numberAt}
+use Rattle.page.specs.PageLaws.{entry-first, entry-next, entry-low, entry-within}
 use Rattle.page.specs.Reading.{entriesAt}
 use Rattle.page.specs.ReadingLaws.{entriesFrom, entries-are, each-within}
 use Rattle.sound.specs.Rule.{lastOf, leafEntriesGood}
@@ -56,38 +58,63 @@ unfolding keyFrom entriesFrom
 last-none b k size p n en z = rw (entries-are b k size p n en, z)
 
 -- one entry of a leaf, by its tests
-module _ (b : List ℕ) (k p i z n : ℕ) (en : n ≡ numberAt b k p i) where
-  pub leaf-zero : n ≡ 0 → false ≡ leafEntry b k p i z
+module _ (b : List ℕ) (k at z n : ℕ) (en : n ≡ be32 b (at + k)) where
+  pub leaf-zero : n ≡ 0 → false ≡ leafEntry b k at z
   leaf-zero h = rw (← en, eq-eqb n 0 h)
 
   module _ (positive : n ≡ 0 → ⊥) where
-    pub leaf-first : z ≡ 0 → true ≡ leafEntry b k p i z
+    pub leaf-first : z ≡ 0 → true ≡ leafEntry b k at z
     unfolding keyFrom
     leaf-first h = rw (← en, ne-eqb n 0 positive, eq-eqb z 0 h)
 
-    pub leaf-above : {at : ℕ} {o : Ordering} {r : Bool} → (z ≡ 0 → ⊥) → at ≡ entryOffset k p i → o ≡ ordering (window b z k) (window b at k) → r ≡ isBelow o
-        → r ≡ leafEntry b k p i z
+    pub leaf-above : {o : Ordering} {r : Bool} → (z ≡ 0 → ⊥) → o ≡ ordering (window b z k) (window b at k) → r ≡ isBelow o → r ≡ leafEntry b k at z
     unfolding keyFrom
-    leaf-above h ea eo er = er ∙ rw (← en, ne-eqb n 0 positive, ne-eqb z 0 h, ← ea) (ap isBelow eo)
+    leaf-above h eo er = er ∙ rw (← en, ne-eqb n 0 positive, ne-eqb z 0 h) (ap isBelow eo)
 
 -- the loop over the n entries of a leaf, after the key at z₀: the entries from entry i on, after the key at z, decide
-abbrev pub LeafLeft : List ℕ → ℕ → ℕ → ℕ → ℕ → ℕ → ℕ → Type 0
+abbrev LeafLeft : List ℕ → ℕ → ℕ → ℕ → ℕ → ℕ → ℕ → Type 0
 LeafLeft b k p n z₀ i z =
     leafEntriesGood (keyFrom b k z₀) (entriesFrom b k p n 0) ≡ leafEntriesGood (keyFrom b k z) (entriesFrom b k p (n - i) i)
 
-module _ (b : List ℕ) (k p n z₀ i z : ℕ) (inv : LeafLeft b k p n z₀ i z) where
-  pub leaf-end : n ≤ i → true ≡ leafEntriesGood (keyFrom b k z₀) (entriesFrom b k p n 0)
+-- the same with `left` entries left, of which the first begins at `at`
+abbrev pub LeafLoop : List ℕ → ℕ → ℕ → ℕ → ℕ → ℕ → ℕ → ℕ → Type 0
+LeafLoop b k p n z₀ at z left = (left ≤ n) × (at ≡ entryOffset k p (n - left)) × (z + k ≤ length b) × LeafLeft b k p n z₀ (n - left) z
+
+-- the page whose first entry begins at `at`
+pub page-of : (k p at : ℕ) → at ≡ entryOffset k p 0 → at - entriesStart ≡ p
+page-of k p at e = omega (arith, e, entry-first k p)
+
+pub leaf-start : (b : List ℕ) (k p n z at : ℕ) → at ≡ entryOffset k p 0 → z + k ≤ length b → LeafLoop b k p n z at z n
+leaf-start b k p n z at e h =
+    let none : n - n ≡ 0 = omega arith in
+    (omega arith, rw none e, h, rw (none, sub-zero))
+
+module _ (b : List ℕ) (k p n z₀ at z left : ℕ) (inv : LeafLoop b k p n z₀ at z left) where
+  pub leaf-end : left ≤ 0 → true ≡ leafEntriesGood (keyFrom b k z₀) (entriesFrom b k p n 0)
   unfolding leafEntriesGood
-  leaf-end h = sym (inv ∙ rw (from-end b k p n i h))
+  leaf-end h = sym (inv .3 ∙ rw (from-end b k p n (n - left) (omega arith)))
 
-  module _ (h : i < n) (r : Bool) (er : r ≡ leafEntry b k p i z) where
-    leaf-step : leafEntriesGood (keyFrom b k z₀) (entriesFrom b k p n 0)
-        ≡ (r && leafEntriesGood (some (keyAt b k p i)) (entriesFrom b k p (n - (i + 1)) (i + 1)))
-    unfolding leafEntriesGood
-    leaf-step = inv ∙ rw (from-on b k p n i h, ← er)
+  module _ (more : 0 < left) where
+    abbrev i : ℕ
+    i = n - left
 
-    pub leaf-off : r ≡ false → false ≡ leafEntriesGood (keyFrom b k z₀) (entriesFrom b k p n 0)
-    leaf-off e = sym (leaf-step ∙ rw e)
+    before : n - left < n
+    before = let most = inv .0 in omega arith
 
-    pub leaf-on : (at : ℕ) → r ≡ true → at ≡ entryOffset k p i → LeafLeft b k p n z₀ (i + 1) at
-    leaf-on at e ea = leaf-step ∙ rw (e, ea, some-key b k p i)
+    pub leaf-inside : EntriesWithin b k p n → at + (k + 4) ≤ length b
+    leaf-inside w = let here = entry-within (w .each i before) .inside in omega (arith, inv .1)
+
+    module _ (r : Bool) (er : r ≡ leafEntry b k at z) where
+      leaf-step : leafEntriesGood (keyFrom b k z₀) (entriesFrom b k p n 0)
+          ≡ (r && leafEntriesGood (some (keyAt b k p (n - left))) (entriesFrom b k p (n - (n - left + 1)) (n - left + 1)))
+      unfolding leafEntriesGood
+      leaf-step = inv .3 ∙ rw (from-on b k p n i before, ← inv .1, ← er)
+
+      pub leaf-off : r ≡ false → false ≡ leafEntriesGood (keyFrom b k z₀) (entriesFrom b k p n 0)
+      leaf-off e = sym (leaf-step ∙ rw e)
+
+      pub leaf-on : r ≡ true → at + k ≤ length b → LeafLoop b k p n z₀ (at + (k + 4)) at (left - 1)
+      leaf-on e h =
+          let most = inv .0 in
+          let next : n - (left - 1) ≡ n - left + 1 = omega arith in
+          (omega arith, rw next (ap (λ (x : ℕ). x + (k + 4)) (inv .1) ∙ sym (entry-next k p i)), h, rw next (leaf-step ∙ rw (e, inv .1, some-key b k p i)))

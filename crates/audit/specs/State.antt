@@ -7,6 +7,7 @@ use mathlib.Core.List.{List}
 use mathlib.Core.Option.{Option, none, some}
 use lib.ListN.{length, getD, set}
 use lib.Dec.{eqb}
+use Rattle.octets.specs.Bytes.{be32}
 use Rattle.octets.specs.Store.{window}
 use Rattle.page.specs.Header.{maxBytes, maxKey, pageSize, noPage}
 use Rattle.page.specs.Page.{keyAt, numberAt, rightAt}
@@ -39,9 +40,9 @@ pub record MarkedWithin (b m : List ℕ) (p : ℕ) (fits : Bool) : Type 0 where
 unfoldable pub keyFrom : List ℕ → ℕ → ℕ → Option (List ℕ)
 keyFrom b k z = cond (eqb z 0) none (some (window b z k))
 
--- entry i of a leaf has a record number above 0, and a key above the key that begins at z
-abbrev pub leafEntry : List ℕ → ℕ → ℕ → ℕ → ℕ → Bool
-leafEntry b k p i z = not (eqb (numberAt b k p i) 0) && isAbove (keyFrom b k z) (keyAt b k p i)
+-- the entry of a leaf that begins at `at` has a record number above 0, and a key above the key that begins at z
+abbrev pub leafEntry : List ℕ → ℕ → ℕ → ℕ → Bool
+leafEntry b k at z = not (eqb (be32 b (at + k)) 0) && isAbove (keyFrom b k z) (window b at k)
 
 -- the key of entry i of a page above the leaves, of n entries, whose children have h levels under them
 abbrev pub upperKey : List ℕ → ℕ → ℕ → ℕ → ℕ → ℕ → ℕ → ℕ → rule.Keys

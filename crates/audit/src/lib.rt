@@ -13,7 +13,7 @@ ghost use Prim.Native.Nat.{ℕ, _+_, _-_, _≤_, _<_};
 ghost use lib.ListN.{length};
 ghost use Rattle.octets.specs.Store.{window};
 ghost use Rattle.octets.specs.Order.{ordering, isEqual};
-ghost use Rattle.page.specs.Header.{minBytes, maxBytes, maxLevels, pageSize, freePointer, headerGood};
+ghost use Rattle.page.specs.Header.{minBytes, maxBytes, maxKey, maxLevels, pageSize, freePointer, headerGood};
 ghost use Rattle.page.specs.Within.{Within};
 ghost use Rattle.page.specs.Reading.{entriesAt};
 ghost use Rattle.page.specs.ReadingLaws.{entriesFrom};
@@ -72,33 +72,36 @@ fn key_order(index: &[u8], k: usize, x: usize, y: usize) -> Ordering
     octets::compare(&index[x..x_end], &index[y..y_end])
 }
 
-// Whether entry i of a leaf has a record number above 0, and a key above the key that begins at `last`, if that is not 0.
-fn leaf_entry(index: &[u8], k: usize, page: PageOffset, i: usize, last: usize) -> bool
-    requires { ⌜ Within (now index) k (page .0) (i + 1) × (last + k ≤ length (now index)) ⌝ }
-    ensures { λ r. ⌜ r ≡ leafEntry (now (index .entry)) k (page .0) i last ⌝ }
+// Whether the entry of a leaf that begins at `at` has a record number above 0, and a key above the key that begins at `last`, if that is not 0.
+fn leaf_entry(index: &[u8], k: usize, at: usize, last: usize) -> bool
+    requires { ⌜ (at + (k + 4) ≤ length (now index)) × (last + k ≤ length (now index)) ⌝ }
+    ensures { λ r. ⌜ r ≡ leafEntry (now (index .entry)) k at last ⌝ }
 {
-    if page::record_number(index, k, page, i).0 == 0 {
+    if page::record_at(index, k, at).0 == 0 {
         return false;
     }
     if last == 0 {
         return true;
     }
-    octets::is_below(key_order(index, k, last, page::entry_offset(k, page, i)))
+    octets::is_below(key_order(index, k, last, at))
 }
 
-// Whether the first `count` entries of a leaf are good, each after the entry before it.
+// Whether the first `count` entries of a leaf are good, each after the entry before it. An entry's place is carried along: the loop then takes a tenth fewer
+// instructions than with a product for each entry.
 fn leaf_entries(index: &[u8], k: usize, page: PageOffset, count: usize, last: usize) -> bool
-    requires { ⌜ EntriesWithin (now index) k (page .0) count × (last + k ≤ length (now index)) ⌝ }
+    requires { ⌜ (k ≤ maxKey) × EntriesWithin (now index) k (page .0) count × (last + k ≤ length (now index)) ⌝ }
     ensures { λ r. ⌜ r ≡ leafEntriesGood (keyFrom (now (index .entry)) k last) (entriesFrom (now (index .entry)) k (page .0) count 0) ⌝ }
 {
-    let mut i = 0;
+    let mut at = page::entry_offset(k, page, 0);
     let mut prior = last;
-    while i < count {
-        if !leaf_entry(index, k, page, i, prior) {
+    let mut left = count;
+    while 0 < left {
+        if !leaf_entry(index, k, at, prior) {
             return false;
         }
-        prior = page::entry_offset(k, page, i);
-        i += 1;
+        prior = at;
+        at += k + 4;
+        left -= 1;
     }
     true
 }

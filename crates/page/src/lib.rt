@@ -4,7 +4,7 @@ ghost use mathlib.Core.Path.{_≡_};
 ghost use mathlib.Core.Bool.{Bool};
 ghost use Prim.Native.Nat.{ℕ, _+_, _≤_};
 ghost use lib.ListN.{length};
-ghost use Rattle.octets.specs.Bytes.{toBe32};
+ghost use Rattle.octets.specs.Bytes.{be32, toBe32};
 ghost use Rattle.octets.specs.Store.{put};
 ghost use Rattle.octets.specs.Order.{ordering};
 ghost use Rattle.page.specs.Header.{maxKey, maxOffset, pageSize, rootOffset, freePointer, fileSize, keyLength};
@@ -282,6 +282,14 @@ pub fn record_number(index: &[u8], k: usize, page: PageOffset, i: usize) -> Reco
     ensures { λ r. ⌜ r .0 ≡ numberAt (now (index .entry)) k (page .0) i ⌝ }
 {
     RecordNumber(entry_number(index, k, page, i))
+}
+
+// The number of the entry that begins at `at`, taken as the number of a record.
+pub fn record_at(index: &[u8], k: usize, at: usize) -> RecordNumber
+    requires { ⌜ at + (k + 4) ≤ length (now index) ⌝ }
+    ensures { λ r. ⌜ r .0 ≡ be32 (now (index .entry)) (at + k) ⌝ }
+{
+    RecordNumber(octets::load_be32(index, at + k))
 }
 
 // Whether a leaf begins at an offset, in a file of `size` bytes.

@@ -23,7 +23,7 @@ leaf-entries-requires : tie.Need-leaf-entries-requires
 leaf-entries-requires c κs =
     let counted = c .before in
     let start = counted .before .before .before .before in
-    (entries-within _ _ _ _ _ (counted .entry-count .ensures) (start .pre), c .last-key .ensures .1)
+    (start .pre .key, entries-within _ _ _ _ _ (counted .entry-count .ensures) (start .pre), c .last-key .ensures .1)
 
 returns-2 : tie.Need-returns-2
 returns-2 c =

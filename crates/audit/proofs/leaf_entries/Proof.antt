@@ -1,45 +1,58 @@
--- `audit::leaf_entries` meets its contract. The loop's invariant: the entries passed are good, so that the entries from entry `i` on, after the key at
--- `prior`, decide.
+-- `audit::leaf_entries` meets its contract. The loop's invariant: the entries passed are good, so that the last `left` entries, of which the first begins at
+-- `at`, decide after the key at `prior`. The page is told by the place of its first entry, `at₀`.
 -- Assumes nothing.
-use Prim.Native.Nat.{_+_, _-_, _≤_}
-use native.Mathlib.Nat.{sub-zero}
+use Prim.Native.Nat.{_-_}
 use native.Mathlib.Omega.{arith}
-use lib.ListN.{length}
 use borrow.Author.Tests.{not-true, not-false}
-use Rattle.page.specs.PageLaws.{entry-within}
-use Rattle.audit.specs.EntryLaws.{LeafLeft, leaf-end, leaf-off, leaf-on}
+use Rattle.page.specs.Page.{entriesStart}
+use Rattle.audit.specs.EntryLaws.{LeafLoop, page-of, leaf-start, leaf-inside, leaf-end, leaf-off, leaf-on}
 use borrow.Author.Needs.{needs}
 use Rattle.audit.proofs.leaf_entries.Statement.{statement}
 use Rattle.audit.proofs.leaf_entries.Tie as tie
 
 abbrev Inv-loop : tie.InvT-loop
-Inv-loop index k page count last i₀ prior₀ i prior = (i ≤ count) × (prior + k ≤ length index) × LeafLeft index k (page .0) count last i prior
+Inv-loop index k count last at₀ prior₀ left₀ at prior left = LeafLoop index k (at₀ - entriesStart) count last at prior left
 
 abbrev μ-loop : tie.MeasureT-loop
-μ-loop index k page count last i₀ prior₀ i prior = count - i
+μ-loop index k count last at₀ prior₀ left₀ at prior left = left
+
+entry-offset-requires : tie.Need-entry-offset-requires Inv-loop μ-loop
+entry-offset-requires c κs = search needs
 
 loop-holds : tie.Need-loop-holds Inv-loop μ-loop
-loop-holds c = (search needs, search needs, rw sub-zero)
+loop-holds c =
+    let first = c .entry-offset .ensures in
+    rw (page-of _ _ _ first) (leaf-start _ _ _ _ _ _ first (c .before .before .pre .2))
 
 leaf-entry-requires : tie.Need-leaf-entry-requires Inv-loop μ-loop
 leaf-entry-requires c κs =
     let head = c .before in
-    (head .before .before .pre .0 .each (head .loop .i) (search needs), head .loop .inv .1)
+    let placed = head .before in
+    let inv = rw (page-of _ _ _ (placed .entry-offset .ensures)) at (head .loop .inv) in
+    (leaf-inside _ _ _ _ _ _ _ _ inv (c .loop-test .taken) (placed .before .before .pre .1), inv .2)
 
 returns : tie.Need-returns Inv-loop μ-loop
 returns c =
     let tested = c .before in
-    let loop = tested .before .before .loop in
-    leaf-off _ _ _ _ _ (loop .i) (loop .prior) (loop .inv .2) (search needs) _ (tested .leaf-entry .ensures) (not-true _ (c .if1 .taken))
+    let turn = tested .before in
+    let head = turn .before in
+    let inv = rw (page-of _ _ _ (head .before .entry-offset .ensures)) at (head .loop .inv) in
+    leaf-off _ _ _ _ _ _ _ _ inv (turn .loop-test .taken) _ (tested .leaf-entry .ensures) (not-true _ (c .if1 .taken))
 
-entry-offset-requires : tie.Need-entry-offset-requires Inv-loop μ-loop
-entry-offset-requires c κs =
-    let at-loop = c .before .before .before in
-    let w = entry-within (at-loop .before .before .pre .0 .each (at-loop .loop .i) (search needs)) in
+add-at : tie.Need-add-at Inv-loop μ-loop
+add-at c = search needs
+
+add-at-2 : tie.Need-add-at-2 Inv-loop μ-loop
+add-at-2 c =
+    let turn = c .before .before in
+    let head = turn .before in
+    let placed = head .before in
+    let inv = rw (page-of _ _ _ (placed .entry-offset .ensures)) at (head .loop .inv) in
+    let inside = leaf-inside _ _ _ _ _ _ _ _ inv (turn .loop-test .taken) (placed .before .before .pre .1) in
     search needs
 
-add-i : tie.Need-add-i Inv-loop μ-loop
-add-i c = search needs
+sub-left : tie.Need-sub-left Inv-loop μ-loop
+sub-left c = search needs
 
 loop-less : tie.Need-loop-less Inv-loop μ-loop
 loop-less c = search needs
@@ -47,19 +60,19 @@ loop-less c = search needs
 loop-again : tie.Need-loop-again Inv-loop μ-loop
 loop-again c =
     let tested = c .before in
-    let turn = tested .before .before in
+    let turn = tested .before in
     let head = turn .before in
-    let loop = head .loop in
+    let placed = head .before in
+    let same = page-of _ _ _ (placed .entry-offset .ensures) in
+    let inv = rw same at (head .loop .inv) in
     let more = turn .loop-test .taken in
-    let w = entry-within (head .before .before .pre .0 .each (loop .i) more) in
-    let at = c .entry-offset .ensures in (
-      search needs,
-      omega arith,
-      leaf-on _ _ _ _ _ (loop .i) (loop .prior) (loop .inv .2) more _ (tested .before .leaf-entry .ensures) _ (not-false _ (tested .if1 .left)) at,
-    )
+    let inside = leaf-inside _ _ _ _ _ _ _ _ inv more (placed .before .before .pre .1) in
+    rw same (leaf-on _ _ _ _ _ _ _ _ inv more _ (tested .leaf-entry .ensures) (not-false _ (c .if1 .left)) (omega arith))
 
 returns-2 : tie.Need-returns-2 Inv-loop μ-loop
-returns-2 c = let loop = c .before .loop in leaf-end _ _ _ _ _ (loop .i) (loop .prior) (loop .inv .2) (search needs)
+returns-2 c =
+    let head = c .before in
+    leaf-end _ _ _ _ _ _ _ _ (rw (page-of _ _ _ (head .before .entry-offset .ensures)) at (head .loop .inv)) (search needs)
 
 pub leaf-entries-spec : {M : Type 1} → statement M
 leaf-entries-spec =
@@ -67,11 +80,13 @@ leaf-entries-spec =
     (tie.spec
     Inv-loop
     μ-loop
+    entry-offset-requires
     loop-holds
     leaf-entry-requires
     returns
-    entry-offset-requires
-    add-i
+    add-at
+    add-at-2
+    sub-left
     loop-less
     loop-again
     returns-2)
