@@ -86,8 +86,8 @@ fn leaf_entry(index: &[u8], k: usize, at: usize, last: usize) -> bool
     octets::is_below(key_order(index, k, last, at))
 }
 
-// Whether the first `count` entries of a leaf are good, each after the entry before it. An entry's place is carried along: the loop then takes a tenth fewer
-// instructions than with a product for each entry.
+// Whether the first `count` entries of a leaf are good, each after the entry before it. An entry's place is carried along, since a product for each entry would
+// cost the audit of keys of 10 bytes a seventh more instructions.
 fn leaf_entries(index: &[u8], k: usize, page: PageOffset, count: usize, last: usize) -> bool
     requires { ⌜ (k ≤ maxKey) × EntriesWithin (now index) k (page .0) count × (last + k ≤ length (now index)) ⌝ }
     ensures { λ r. ⌜ r ≡ leafEntriesGood (keyFrom (now (index .entry)) k last) (entriesFrom (now (index .entry)) k (page .0) count 0) ⌝ }
