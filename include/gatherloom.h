@@ -10,7 +10,7 @@
    Stack: how many bytes a call takes at most, beside those of memcpy and memset, rounded up. tests/c/stack reads them from the archive and compares.
        gl_interface 16, gl_index_fresh 64, gl_number_write 96, gl_number_read 128, gl_table_check 256, gl_table_shape 256, gl_fields 256, gl_walk 256,
        gl_table_set_date 256, gl_table_extent 256, gl_table_append 320, gl_read_logical 384, gl_text_part 384, gl_read_number 416, gl_read_date 416,
-       gl_index_lookup 1792, gl_index_audit 3072, gl_match 3328, gl_dilute 3584, gl_index_remove 9216, gl_index_insert 10752, gl_table_lay_out 13056
+       gl_index_lookup 1792, gl_index_audit 4608, gl_match 4864, gl_dilute 4864, gl_index_remove 9216, gl_index_insert 10752, gl_table_lay_out 13056
 
    The archive is for x86-64 Linux and the System V calling convention. It needs memcpy and memset alone, allocates no memory, has no writable data and is
    position independent. It uses SSE registers and the red zone below the stack pointer, which Linux keeps for user programs: kernel code can't call it. */
@@ -191,7 +191,8 @@ uint32_t gl_number_write(uint8_t *text, size_t width, uint32_t decimals, int64_t
 uint32_t gl_index_fresh(uint8_t *index, size_t index_len, uint32_t key_length,
                         const uint8_t *expression, size_t expression_len);
 
-/* 0 exactly if the index is sound, 24 if its header is bad, else 25. */
+/* 0 exactly if the index is sound, 24 if its header is bad, else 25. A key above a page may be higher than every key under that page, as FoxPro leaves it when
+   the last of them is struck off, if it is below the first key under the next page; releases before 0.7.0 refuse such an index by 25. */
 uint32_t gl_index_audit(const uint8_t *index, size_t index_len);
 
 /* The record of a key, and how many pages were visited. 24, 27, 25. 0 sets both; 257 sets pages alone. */
