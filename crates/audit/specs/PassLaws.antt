@@ -18,9 +18,9 @@ use Rattle.sound.specs.Rule.{maxPages, Progress, Level, attributeOf, start, cha
 use Rattle.sound.specs.Rule.{checkPage, checkPages, closed, checkLevel, rootLevel, nextLevel, levelsUnder, markedFrom, checkFree, restFree, shapeGood}
 use Rattle.audit.specs.declared.Progress as declared-progress
 use Rattle.audit.specs.declared.Level as declared-level
-use Rattle.audit.specs.State.{InFile, takePage, progressOf, levelOf, startAt, closedAt}
+use Rattle.audit.specs.State.{InFile, markPage, progressOf, levelOf, startAt, closedAt}
 use Rattle.audit.specs.EntryLaws.{from-on, from-end}
-use Rattle.audit.specs.StepLaws.{taken-checked}
+use Rattle.audit.specs.StepLaws.{page-checked}
 
 module _ (b : List ℕ) (k size a : ℕ) where
   -- a pass that was refused stays as it is
@@ -119,12 +119,12 @@ module _ (b : List ℕ) (k size a : ℕ) (first : PageOffset) (leaf : Bool) (s�
       rw (← el) (ap (closed leaf (first .0)) d ∙ ap (λ (w : declared-level.Level). (levelOf w, m′)) (sym ev))
 
   pub root-closed : (f : Bool) → a ≡ attributeOf true leaf → f ≡ pageFits b k size a (first .0) (s₀ .last .0) (first .0)
-      → takePage b (first .0) f (progressOf s₀) m ≡ (progressOf s, m′) → rootLevel b k size (first .0) m ≡ (levelOf v, m′)
+      → markPage b (first .0) f (progressOf s₀) m ≡ (progressOf s, m′) → rootLevel b k size (first .0) m ≡ (levelOf v, m′)
   unfolding rootLevel checkPages
   root-closed f ea ef e =
       let next : s₀ .next .0 ≡ first .0 = ap (λ (u : declared-progress.Progress). u .next .0) e₀ in
       level-closed true (first .0 ∷ []) ea
-      (taken-checked b k size a (first .0) m f (progressOf s₀) _ (ap (λ (u : declared-progress.Progress). u .good) e₀) (rw next ef) e)
+      (page-checked b k size a (first .0) m f (progressOf s₀) _ (ap (λ (u : declared-progress.Progress). u .good) e₀) (rw next ef) e)
 
   pub next-closed : (above : ℕ) → first .0 ≡ firstChild b k size above → a ≡ attributeOf false leaf
       → checkPages b k size a (pagesUnder b k size above) (progressOf s₀, m) ≡ (progressOf s, m′) → nextLevel b k size above m ≡ (levelOf v, m′)

@@ -49,8 +49,8 @@ abbrev pub upperKey : List ℕ → ℕ → ℕ → ℕ → ℕ → ℕ → ℕ �
 upperKey b k size d h p n i = upperEntry b k size d h (keyAt b k p i, numberAt b k p i) (entriesFrom b k p (n - (i + 1)) (i + 1))
 
 -- one page more, and its mark, if the page fits
-unfoldable pub takePage : List ℕ → ℕ → Bool → rule.Progress → List ℕ → rule.Progress × List ℕ
-takePage b p fits s m =
+unfoldable pub markPage : List ℕ → ℕ → Bool → rule.Progress → List ℕ → rule.Progress × List ℕ
+markPage b p fits s m =
     cond (fits && eqb (getD m (p / pageSize) 0) 0) (record { good = true; last = p; next = rightAt b p }, set m (p / pageSize) 1) (rule.refused s, m)
 
 -- the page at p of the free list: whether it fits, and the marks after it

@@ -17,7 +17,7 @@ use Rattle.page.specs.ReadingLaws.{entriesFrom, entries-are}
 use Rattle.sound.specs.Rule as rule
 use Rattle.sound.specs.Rule.{maxPages, lastOf, leafEntriesGood, entriesFit, pageFits, checkPage}
 use Rattle.audit.specs.declared.Progress.{Progress}
-use Rattle.audit.specs.State.{InFile, MarkedWithin, keyFrom, takePage, progressOf, refusedAt}
+use Rattle.audit.specs.State.{InFile, MarkedWithin, keyFrom, markPage, progressOf, refusedAt}
 
 -- the entries of a page
 module _ (b : List ℕ) (k size a last p : ℕ) where
@@ -68,22 +68,22 @@ module _ (b : List ℕ) (k size a p : ℕ) (m : List ℕ) (f : Bool) where
       let page : f ≡ true → IsPage size p = λ t. is-page size p (both (isPage size p) _ (sym ef ∙ t) .0) in
       record { inside = λ t. omega (arith, page t); place = λ t. omega (arith, page t) }
 
-  pub taken-checked : (s : rule.Progress) (t : rule.Progress × List ℕ) → s .good ≡ true → f ≡ pageFits b k size a p (s .last) (s .next)
-      → takePage b p f s m ≡ t → checkPage b k size a p s m ≡ t
-  unfolding checkPage takePage
-  taken-checked s t g ef e = rw (g, ← ef) e
+  pub page-checked : (s : rule.Progress) (t : rule.Progress × List ℕ) → s .good ≡ true → f ≡ pageFits b k size a p (s .last) (s .next)
+      → markPage b p f s m ≡ t → checkPage b k size a p s m ≡ t
+  unfolding checkPage markPage
+  page-checked s t g ef e = rw (g, ← ef) e
 
 module _ (b : List ℕ) (p : ℕ) (s : Progress) (m : List ℕ) (f : Bool) where
-  pub take-refused : f ≡ false → takePage b p f (progressOf s) m ≡ (progressOf (refusedAt s), m)
-  unfolding takePage
-  take-refused h = rw h
+  pub page-refused : f ≡ false → markPage b p f (progressOf s) m ≡ (progressOf (refusedAt s), m)
+  unfolding markPage
+  page-refused h = rw h
 
   module _ (h : f ≡ true) where
-    pub take-marked : (getD m (p / pageSize) 0 ≡ 0 → ⊥) → takePage b p f (progressOf s) m ≡ (progressOf (refusedAt s), m)
-    unfolding takePage
-    take-marked z = rw (h, ne-eqb (getD m (p / pageSize) 0) 0 z)
+    pub page-met : (getD m (p / pageSize) 0 ≡ 0 → ⊥) → markPage b p f (progressOf s) m ≡ (progressOf (refusedAt s), m)
+    unfolding markPage
+    page-met z = rw (h, ne-eqb (getD m (p / pageSize) 0) 0 z)
 
-    pub take-good : getD m (p / pageSize) 0 ≡ 0 → (n : ℕ) → n ≡ rightAt b p
-        → takePage b p f (progressOf s) m ≡ (record { good = true; last = p; next = n }, set m (p / pageSize) 1)
-    unfolding takePage
-    take-good z n en = rw (h, eq-eqb (getD m (p / pageSize) 0) 0 z, en)
+    pub page-marked : getD m (p / pageSize) 0 ≡ 0 → (n : ℕ) → n ≡ rightAt b p
+        → markPage b p f (progressOf s) m ≡ (record { good = true; last = p; next = n }, set m (p / pageSize) 1)
+    unfolding markPage
+    page-marked z n en = rw (h, eq-eqb (getD m (p / pageSize) 0) 0 z, en)

@@ -23,7 +23,7 @@ ghost use Rattle.page.specs.Children.{childrenOf, firstChild};
 ghost use Rattle.sound.specs.Rule.{maxPages, firstOf, lastOf, leafEntriesGood, entriesFit, pageFits, attributeOf, chain, pagesUnder};
 ghost use Rattle.sound.specs.Rule.{checkPages, rootLevel, nextLevel, levelsUnder, markedFrom, isFreePage, checkFree, restFree, shapeGood};
 ghost use Rattle.sound.specs.Rule.{heightOf, down, lastChild, belowNext, upperEntries, upperPages, upperLevels, keysAboveGood, pagesGood};
-ghost use Rattle.audit.specs.State.{InFile, EntriesWithin, MarkedWithin, keyFrom, leafEntry, upperKey, takePage, markFree, progressOf, levelOf, keysOf};
+ghost use Rattle.audit.specs.State.{InFile, EntriesWithin, MarkedWithin, keyFrom, leafEntry, upperKey, markPage, markFree, progressOf, levelOf, keysOf};
 ghost use Rattle.audit.specs.State.{startAt, refusedAt, closedAt};
 
 // What is known of the pages met on a level: whether all were good, the last page met, and the page that its right link names.
@@ -163,10 +163,10 @@ fn refused(s: Progress) -> Progress
     }
 }
 
-// Takes a page that was tested: if it fits and has no mark, it gets its mark and is the last page met.
-fn take_page(index: &[u8], marks: &mut [u8], page: PageOffset, fits: bool, s: Progress) -> Progress
+// Marks a page that was tested, if it fits and has no mark yet: it is then the last page met.
+fn mark_page(index: &[u8], marks: &mut [u8], page: PageOffset, fits: bool, s: Progress) -> Progress
     requires { ⌜ MarkedWithin (now index) (now marks) (page .0) fits ⌝ }
-    ensures { λ r. ⌜ takePage (now (index .entry)) (page .0) fits (progressOf s) (now (marks .entry)) ≡ (progressOf r, now (marks .exit)) ⌝ }
+    ensures { λ r. ⌜ markPage (now (index .entry)) (page .0) fits (progressOf s) (now (marks .entry)) ≡ (progressOf r, now (marks .exit)) ⌝ }
 {
     if !fits {
         return refused(s);
@@ -212,7 +212,7 @@ fn check_children(
         let last = t.last;
         let next = t.next;
         let fits = page_fits(index, k, size, attribute, child, last, next);
-        t = take_page(index, marks, child, fits, t);
+        t = mark_page(index, marks, child, fits, t);
         i += 1;
     }
     t
@@ -297,7 +297,7 @@ fn root_level(index: &[u8], marks: &mut [u8], k: usize, size: usize, root: PageO
     let s = start(root);
     let last = s.last;
     let fits = page_fits(index, k, size, attribute_of(true, leaf), root, last, root);
-    let t = take_page(index, marks, root, fits, s);
+    let t = mark_page(index, marks, root, fits, s);
     closed(t, leaf, root)
 }
 

@@ -11,7 +11,7 @@ use borrow.Author.Needs.{needs}
 use Rattle.sound.specs.Rule.{maxPages}
 use Rattle.audit.specs.State.{progressOf}
 use Rattle.audit.specs.EntryLaws.{entries-within}
-use Rattle.audit.specs.StepLaws.{fits-within, taken-checked}
+use Rattle.audit.specs.StepLaws.{fits-within, page-checked}
 use Rattle.audit.specs.PassLaws.{ChildrenLeft, children-stop, children-end, children-on, page-kept}
 use Rattle.audit.proofs.check_children.Statement.{statement}
 use Rattle.audit.proofs.check_children.Tie as tie
@@ -59,8 +59,8 @@ child-requires c κs =
 page-fits-requires : tie.Need-page-fits-requires Inv-loop μ-loop
 page-fits-requires c κs = search needs
 
-take-page-requires : tie.Need-take-page-requires Inv-loop μ-loop
-take-page-requires c κs =
+mark-page-requires : tie.Need-mark-page-requires Inv-loop μ-loop
+mark-page-requires c κs =
     let fit = c .before in
     let head = in-loop (past-child fit .before) .before in
     fits-within _ _ _ _ _ (head .loop .marks) _ _ _ (fit .page-fits .ensures) (start head .pre .0) (head .loop .inv .1)
@@ -81,8 +81,8 @@ loop-again c =
     let loop = turn .before .loop in
     let more = turn .loop-test .taken in
     let s = progressOf (loop .t) in
-    let t = progressOf (done .take-page .result) in
-    let checked = taken-checked _ _ _ _ _ (loop .marks) _ s _ (not-false _ (tested .if1 .left)) (fit .page-fits .ensures) (done .take-page .ensures) in (
+    let t = progressOf (done .mark-page .result) in
+    let checked = page-checked _ _ _ _ _ (loop .marks) _ s _ (not-false _ (tested .if1 .left)) (fit .page-fits .ensures) (done .mark-page .ensures) in (
       omega (arith, more),
       page-kept _ _ _ _ _ maxPages s t (loop .marks) _ (loop .inv .1) checked,
       children-on _ _ _ _ _ _ (loop .i) _ s (loop .marks) (loop .inv .2) _ t _ more (child .child .ensures) checked,
@@ -109,7 +109,7 @@ check-children-spec =
     returns
     child-requires
     page-fits-requires
-    take-page-requires
+    mark-page-requires
     add-i
     loop-less
     loop-again

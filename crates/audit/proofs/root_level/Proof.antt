@@ -25,8 +25,8 @@ attribute-of-requires c κs = search needs
 page-fits-requires : tie.Need-page-fits-requires
 page-fits-requires c κs = search needs
 
-take-page-requires : tie.Need-take-page-requires
-take-page-requires c κs =
+mark-page-requires : tie.Need-mark-page-requires
+mark-page-requires c κs =
     let fit = c .before in
     let entry = start fit in
     fits-within _ _ _ _ _ (entry .args .marks .now) _ _ _ (fit .page-fits .ensures) (entry .pre .0) (entry .pre .1)
@@ -42,9 +42,9 @@ returns c =
     let done = c .before .before .before in
     let fit = done .before .before in
     let level = begun fit in
-    root-closed _ _ _ _ (start fit .args .root) _ (level .start .result) (done .take-page .result) (c .closed .result) (start fit .args .marks .now) _
+    root-closed _ _ _ _ (start fit .args .root) _ (level .start .result) (done .mark-page .result) (c .closed .result) (start fit .args .marks .now) _
     (level .before .leaf-at .ensures) (level .start .ensures) (c .closed .ensures) _ (fit .before .attribute-of .ensures) (fit .page-fits .ensures)
-    (done .take-page .ensures)
+    (done .mark-page .ensures)
 
 pub root-level-spec : {M : Type 1} → statement M
 root-level-spec =
@@ -54,7 +54,7 @@ root-level-spec =
     start-requires
     attribute-of-requires
     page-fits-requires
-    take-page-requires
+    mark-page-requires
     closed-requires
     same-length
     returns)

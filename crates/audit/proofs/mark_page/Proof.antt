@@ -1,13 +1,13 @@
--- `audit::take_page` meets its contract: a page that fits lies within the index and has a mark.
+-- `audit::mark_page` meets its contract: a page that fits lies within the index and has a mark.
 -- Assumes nothing.
 use mathlib.Core.Path.{sym, ap, _∙_}
 use borrow.Author.Tests.{not-true, not-false}
 use Rattle.audit.specs.declared.Progress.{Progress}
 use Rattle.audit.specs.State.{progressOf}
-use Rattle.audit.specs.StepLaws.{take-refused, take-marked, take-good}
+use Rattle.audit.specs.StepLaws.{page-refused, page-met, page-marked}
 use borrow.Author.Needs.{needs}
-use Rattle.audit.proofs.take_page.Statement.{statement}
-use Rattle.audit.proofs.take_page.Tie as tie
+use Rattle.audit.proofs.mark_page.Statement.{statement}
+use Rattle.audit.proofs.mark_page.Tie as tie
 
 -- where the function starts, from past the test
 abbrev start : tie.Else1 → tie.Start
@@ -20,7 +20,7 @@ returns : tie.Need-returns
 returns c =
     let unfit = c .before in
     let args = unfit .before .before .before .args in
-    take-refused _ (args .page .0) (args .s) (args .marks .now) _ (not-true _ (unfit .if1 .taken))
+    page-refused _ (args .page .0) (args .s) (args .marks .now) _ (not-true _ (unfit .if1 .taken))
     ∙ ap (λ (t : Progress). (progressOf t, args .marks .now)) (sym (c .refused .ensures))
 
 cast-mark : tie.Need-cast-mark
@@ -37,7 +37,7 @@ returns-2 c =
     let met = c .before in
     let fit = met .before .before .before in
     let args = start fit .args in
-    take-marked _ (args .page .0) (args .s) (args .marks .now) _ (not-false _ (fit .if1 .left)) (met .if2 .taken)
+    page-met _ (args .page .0) (args .s) (args .marks .now) _ (not-false _ (fit .if1 .left)) (met .if2 .taken)
     ∙ ap (λ (t : Progress). (progressOf t, args .marks .now)) (sym (c .refused2 .ensures))
 
 slice-write-marks : tie.Need-slice-write-marks
@@ -54,10 +54,10 @@ returns-3 c =
     let unmet = c .before .before in
     let fit = unmet .before .before .before in
     let args = start fit .args in
-    take-good _ (args .page .0) (args .s) (args .marks .now) _ (not-false _ (fit .if1 .left)) (unmet .if2 .left) _ (c .before .at .ensures .1 .1 .1)
+    page-marked _ (args .page .0) (args .s) (args .marks .now) _ (not-false _ (fit .if1 .left)) (unmet .if2 .left) _ (c .before .at .ensures .1 .1 .1)
 
-pub take-page-spec : {M : Type 1} → statement M
-take-page-spec =
+pub mark-page-spec : {M : Type 1} → statement M
+mark-page-spec =
     tie.close
     (tie.spec
     refused-requires
