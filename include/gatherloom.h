@@ -218,8 +218,8 @@ uint32_t gl_match(const uint8_t *table, size_t table_len, const uint8_t *index, 
 /* How much of the sample with this barcode, and how much diluent, make the final volume with the target concentration. Volumes are in tenths of a microlitre,
    the target in thousandths of nM, as the concentration's field with its three decimals. The sample is target * final_volume / concentration to the nearest
    tenth, halves up; sample and diluent add to the final volume. As gl_match for the barcode's field, then 12, 13 unless the concentration's field is N with
-   three decimals, 27, 35 if no record has the barcode, 15, 35 if its record is deleted, 16 to 18 by the concentration's text, 36, 37, 38. 0 sets both. The match
-   is made anew by each call. */
+   three decimals, 27, 35 if no record has the barcode, 15, 35 if its record is deleted, 16 to 18 by the concentration's text, 36, 37, 38. 0 sets both. The
+   match is made anew by each call. */
 uint32_t gl_dilute(const uint8_t *table, size_t table_len, const uint8_t *index, size_t index_len, uint32_t barcode_field,
                    uint32_t concentration_field, const uint8_t *barcode, size_t barcode_len, uint64_t target, uint64_t final_volume,
                    uint32_t *sample, uint32_t *diluent);
