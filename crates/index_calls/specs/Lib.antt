@@ -1,0 +1,4 @@
+-- See each file's first line.
+
+pub mod Answers
+pub mod AnswerLaws
