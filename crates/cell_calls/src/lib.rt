@@ -99,7 +99,7 @@ pub fn text_part(
 pub fn number_read(text: &[u8], decimals: u32, value: &mut i64) -> u32
     ensures { λ r. ⌜ numberOut (readNumber (now (text .entry)) decimals) (now (value .entry)) ≡ out r (now (value .exit)) ⌝ }
 {
-    let answer = numeral::read_number(text, decimals);
+    let answer = numeral_read::read_number(text, decimals);
     match answer {
         Number::Value(meant) => {
             *value = meant;
@@ -114,7 +114,7 @@ pub fn number_read(text: &[u8], decimals: u32, value: &mut i64) -> u32
 pub fn number_write(text: &mut [u8], decimals: u32, value: i64) -> u32
     ensures { λ r. ⌜ writingOut (writeNumber (now (text .entry)) decimals value) ≡ out r (now (text .exit)) ⌝ }
 {
-    let answer = numeral::write_number(text, decimals, value);
+    let answer = numeral_write::write_number(text, decimals, value);
     match answer {
         Writing::Written => 0,
         Writing::Refused(refusal) => refusal,

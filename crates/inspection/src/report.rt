@@ -134,7 +134,7 @@ fn put_quoted(line: &mut Line, n: usize, text: &[u8]) -> usize {
 // A value with its point, by the library's own writer, so with the zero before the point: 20 characters hold every value that the reader gives.
 fn put_value(line: &mut Line, n: usize, value: i64, decimals: u32) -> usize {
     let mut text = [b' '; 20];
-    numeral::write_number(&mut text, decimals, value);
+    numeral_write::write_number(&mut text, decimals, value);
     let from = octets::padding(&text);
     let end = put(line, n, b" 0 ");
     put(line, end, &text[from..])
@@ -367,7 +367,7 @@ fn shape_line(records: u32, fields: u32, record_length: usize) {
 pub fn table_report<'a>(table: &'a [u8], memo: &'a [u8], has_memo: bool) -> u64
     ensures { λ r. ⌜ r ≤ maxFields * 4294967295 ⌝ }
 {
-    match table::check_table(table) {
+    match table_check::check_table(table) {
         Checked::Refused(code) => answer_line(b"table", code),
         Checked::Good(shape) => {
             let fields = shape.fields as u32;

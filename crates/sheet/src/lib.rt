@@ -35,7 +35,7 @@ fn put_decimal(out: &mut [u8], at: usize, number: u32) -> usize
     ensures { λ r. ⌜ wrote (now (out .entry)) at (decimal number) ≡ output (now (out .exit)) r ⌝ }
 {
     let mut text = [b' '; 10];
-    numeral::write_number(&mut text, 0, number as i64);
+    numeral_write::write_number(&mut text, 0, number as i64);
     let from = octets::padding(&text);
     put(out, at, &text[from..])
 }

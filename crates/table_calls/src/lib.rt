@@ -15,7 +15,7 @@ ghost use Rattle.table_calls.specs.Writing.{stores, written, appendOut, 
 pub fn table_check(table: &[u8]) -> u32
     ensures { λ r. ⌜ r ≡ tableRefusal (now (table .entry)) ⌝ }
 {
-    match table::check_table(table) {
+    match table_check::check_table(table) {
         Checked::Good(_) => 0,
         Checked::Refused(code) => code,
     }
@@ -33,7 +33,7 @@ pub fn table_shape(
         ≡ out r (sizes (now (records .exit)) (now (fields .exit)) (now («record_length» .exit)))
         ⌝ }
 {
-    match table::check_table(table) {
+    match table_check::check_table(table) {
         Checked::Good(shape) => {
             *records = shape.records;
             *fields = shape.fields as u32;
@@ -54,7 +54,7 @@ pub struct Plan {
 pub fn listing_plan(table: &[u8], room: usize) -> Plan
     ensures { λ r. ⌜ r ≡ planOf (now (table .entry)) room ⌝ }
 {
-    match table::check_table(table) {
+    match table_check::check_table(table) {
         Checked::Refused(refusal) => Plan {
             answer: refusal,
             count: 0,
