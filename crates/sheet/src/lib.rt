@@ -1,6 +1,7 @@
 // The dilution sheet: what the program `dilute` prints of a table, its index and the four numbers of its standard input. Table and index are checked once, and
 // then each record is diluted by what was checked. A text that does not fit the lent buffer is cut off at the buffer's end.
 pub mod input;
+pub mod tally;
 
 ghost use Prim.Native.Nat.{_+_, _-_, _≤_};
 ghost use mathlib.Core.Path.{_≡_};
