@@ -240,7 +240,17 @@ pub extern "C" fn gl_dilute(
         ≡ out r (volumes (now (sample .exit)) (now (diluent .exit)))
         ⌝ }
 {
-    dilute_call::dilute(table, index, barcode_field, concentration_field, barcode, target, final_volume, sample, diluent)
+    dilute_call::dilute(
+        table,
+        index,
+        barcode_field,
+        concentration_field,
+        barcode,
+        target,
+        final_volume,
+        sample,
+        diluent,
+    )
 }
 
 // Appends a record to the table in the buffer's first `table_len` bytes. The two stores are set in the order in which the file must get them.
@@ -260,7 +270,15 @@ pub extern "C" fn gl_table_append(
         ≡ out r (written (now (buffer .exit))
         (stores (now («record_place» .exit)) (now («record_length» .exit)) (now («count_place» .exit)) (now («count_length» .exit)))) ⌝ }
 {
-    table_calls::table_append(buffer, table_len, bytes, record_place, record_length, count_place, count_length)
+    table_calls::table_append(
+        buffer,
+        table_len,
+        bytes,
+        record_place,
+        record_length,
+        count_place,
+        count_length,
+    )
 }
 
 // Sets the update date of the table in the buffer's first `table_len` bytes.

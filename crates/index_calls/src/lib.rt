@@ -29,12 +29,7 @@ pub fn index_fresh(index: &mut [u8], key_length: u32, expression: &[u8]) -> u32
 }
 
 // Looks a key up: the number of its record, and the pages visited, which are also written if the key is absent.
-pub fn index_lookup(
-    index: &[u8],
-    key: &[u8],
-    number: &mut u32,
-    pages: &mut u32,
-) -> u32
+pub fn index_lookup(index: &[u8], key: &[u8], number: &mut u32, pages: &mut u32) -> u32
     ensures { λ r. ⌜
         lookupOut (lookupRule (now (index .entry)) (now (key .entry))) (found (now (number .entry)) (now (pages .entry)))
         ≡ out r (found (now (number .exit)) (now (pages .exit)))

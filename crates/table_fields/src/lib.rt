@@ -136,7 +136,12 @@ pub fn has_memo(table: &[u8]) -> bool
     let fields = table::field_count(table);
     let mut j = 0;
     while j < fields {
-        if octets::byte(table, table::DESCRIPTORS + table::DESCRIPTOR_LENGTH * j + table::TYPE_AT) == table::TYPE_M {
+        if octets::byte(
+            table,
+            table::DESCRIPTORS + table::DESCRIPTOR_LENGTH * j + table::TYPE_AT,
+        )
+            == table::TYPE_M
+        {
             return true;
         }
         j += 1;
@@ -161,7 +166,10 @@ pub fn field_offset(table: &[u8], j: usize) -> usize
     let mut offset = 1;
     let mut i = 0;
     while i < j {
-        offset += octets::byte(table, table::DESCRIPTORS + table::DESCRIPTOR_LENGTH * i + table::LENGTH_AT) as usize;
+        offset += octets::byte(
+            table,
+            table::DESCRIPTORS + table::DESCRIPTOR_LENGTH * i + table::LENGTH_AT,
+        ) as usize;
         i += 1;
     }
     offset

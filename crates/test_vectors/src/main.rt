@@ -96,7 +96,8 @@ fn write_field(field: &mut [u8], decimals: u32, value: i64) {
 
 fn write_line(s: &[u8]) {
     let rest = test_lines::after_word(s);
-    let numeral::Number::Value(value) = numeral_read::read_number(test_lines::after_word(rest), 0) else {
+    let numeral::Number::Value(value) = numeral_read::read_number(test_lines::after_word(rest), 0)
+    else {
         lines::print(b"?\n");
         return;
     };
