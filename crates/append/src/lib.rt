@@ -54,7 +54,7 @@ fn check_held(buffer: &[u8], table_len: usize) -> Checked
     if buffer.len() < table_len {
         return Checked::Refused(refusal::TABLE_LENGTH);
     }
-    table::check_table(&buffer[..table_len])
+    table_check::check_table(&buffer[..table_len])
 }
 
 fn date_refusal(text: &[u8]) -> u32
@@ -94,7 +94,7 @@ fn text_refusal(kind: u32, decimals: u32, text: &[u8]) -> u32
     ensures { λ r. ⌜ r ≡ textRefusal kind decimals (now (text .entry)) ⌝ }
 {
     if kind == table::TYPE_N {
-        return cell::number_refusal(numeral::read_number(text, decimals));
+        return cell::number_refusal(numeral_read::read_number(text, decimals));
     }
     if kind == table::TYPE_D {
         return date_refusal(text);
@@ -152,7 +152,7 @@ fn record_refusal(table: &[u8], shape: Shape, room: usize, bytes: &[u8]) -> u32
     if refused != 0 {
         return refused;
     }
-    let end = table::records_end(table, shape.records + 1) + 1;
+    let end = table_check::records_end(table, shape.records + 1) + 1;
     if !room_for(end, room) {
         return refusal::NO_ROOM;
     }
@@ -175,7 +175,7 @@ fn store_record(buffer: &mut [u8], bytes: &[u8]) -> Appended
     ensures { λ r. ⌜ stored (now (buffer .entry)) (now (bytes .entry)) ≡ done (now (buffer .exit)) r ⌝ }
 {
     let records = octets::load_le32(buffer, COUNT_AT);
-    let place = table::records_end(buffer, records);
+    let place = table_check::records_end(buffer, records);
     octets::copy_in(buffer, place, bytes);
     buffer[place + bytes.len()] = table::FILE_END;
     octets::store_le32(buffer, COUNT_AT, records + 1);
@@ -235,7 +235,7 @@ pub fn set_date(buffer: &mut [u8], table_len: usize, year: u32, month: u32, day:
 fn form_refusal(table: &[u8]) -> u32
     ensures { λ r. ⌜ r ≡ formRefusal (now (table .entry)) ⌝ }
 {
-    match table::check_table(table) {
+    match table_check::check_table(table) {
         Checked::Good(_) => 0,
         Checked::Refused(number) => {
             if number == refusal::TABLE_LENGTH {
@@ -257,7 +257,7 @@ pub fn table_extent(table: &[u8]) -> Extent
             length: 0,
         };
     }
-    let end = table::records_end(table, octets::load_le32(table, COUNT_AT));
+    let end = table_check::records_end(table, octets::load_le32(table, COUNT_AT));
     if table.len() < end {
         return Extent {
             refusal: refusal::TABLE_LENGTH,

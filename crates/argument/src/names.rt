@@ -49,7 +49,7 @@ fn named_field(table: &[u8], name: &[u8], fields: usize) -> u32
 pub fn match_by_name<'a>(table: &'a [u8], index: &'a [u8], name: &'a [u8]) -> u32
     ensures { λ r. ⌜ NameMatched (now (table .entry)) (now (index .entry)) (now (name .entry)) r ⌝ }
 {
-    match table::check_table(table) {
+    match table_check::check_table(table) {
         Checked::Refused(code) => code,
         Checked::Good(shape) => {
             let field = named_field(table, name, shape.fields);

@@ -106,7 +106,7 @@ pub fn number_at(table: &[u8], place: Place) -> Number
     ensures { λ r. ⌜ r ≡ readNumber (window (now (table .entry)) (place .start) (place .form .length)) (place .form .decimals) ⌝ }
 {
     let text = part(table, place.start, place.form.length);
-    numeral::read_number(text, place.form.decimals)
+    numeral_read::read_number(text, place.form.decimals)
 }
 
 // The refusal of a numeric text, 0 if it is not refused.

@@ -89,7 +89,7 @@ pub fn number_good(number: usize, count: usize) -> bool
 fn field_refusal(table: &[u8], field: u32) -> u32
     ensures { λ r. ⌜ r ≡ fieldRefusal (now (table .entry)) field ⌝ }
 {
-    match table::check_table(table) {
+    match table_check::check_table(table) {
         table::Checked::Refused(refused) => refused,
         table::Checked::Good(shape) => {
             if number_good(field as usize, shape.fields) {
@@ -122,7 +122,7 @@ pub fn field_form(table: &[u8], j: usize) -> FieldForm
     let at = table::DESCRIPTORS + table::DESCRIPTOR_LENGTH * j;
     FieldForm {
         kind: octets::byte(table, at + table::TYPE_AT),
-        offset: table::field_offset(table, j),
+        offset: table_fields::field_offset(table, j),
         length: octets::byte(table, at + table::LENGTH_AT) as usize,
         decimals: octets::byte(table, at + table::DECIMALS_AT),
     }
@@ -131,7 +131,7 @@ pub fn field_form(table: &[u8], j: usize) -> FieldForm
 fn place_refusal(table: &[u8], number: u32, field: u32) -> u32
     ensures { λ r. ⌜ r ≡ placeRefusal (now (table .entry)) number field ⌝ }
 {
-    match table::check_table(table) {
+    match table_check::check_table(table) {
         table::Checked::Refused(refused) => refused,
         table::Checked::Good(shape) => {
             if !number_good(number as usize, shape.records as usize) {
@@ -150,7 +150,7 @@ pub fn place_at(table: &[u8], number: u32, field: u32) -> Place
     requires { ⌜ PlaceGood (now table) number field ⌝ }
     ensures { λ r. ⌜ (r ≡ placeAt (now (table .entry)) number field) × PlaceInside (now (table .entry)) r ⌝ }
 {
-    let start = table::records_end(table, number - 1);
+    let start = table_check::records_end(table, number - 1);
     let form = field_form(table, (field - 1) as usize);
     Place {
         mark: octets::byte(table, start),

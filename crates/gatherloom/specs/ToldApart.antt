@@ -53,8 +53,10 @@ use Rattle.insert.specs.declared.Insertion.the-variants as insertion
 use Rattle.remove.specs.Calls.{removeRule}
 use Rattle.remove.specs.declared.Removal.{Removal}
 use Rattle.remove.specs.declared.Removal.the-variants as removal
-use Rattle.gatherloom.specs.Answers.{checkedCode, writingCode, removalCode}
-use Rattle.gatherloom.specs.Lent.{doneCode, stepCode}
+use Rattle.table_calls.specs.Answers.{checkedCode}
+use Rattle.cell_calls.specs.Answers.{writingCode}
+use Rattle.index_calls.specs.Answers.{removalCode}
+use Rattle.table_calls.specs.Lent.{doneCode, stepCode}
 
 -- ---- what a number tells, of any answer
 

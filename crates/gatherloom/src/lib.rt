@@ -3,20 +3,7 @@
 //
 // How to read a contract: r is the number returned; `now (x .entry)` is what x held before the call, and `now (x .exit)` what it holds after it. So
 // `numberOut (rule) (now (value .entry)) ≡ out r (now (value .exit))` says: the rule's answer and the old value alone fix r and the new value.
-use calendar::DateAnswer;
-use cell::Logical;
-use cell::TextPlace;
-use dilution::Dilution;
 use field::FieldEntry;
-use insert::Insertion;
-use numeral::Number;
-use numeral::Writing;
-use page::RecordNumber;
-use refusal::ABSENT;
-use refusal::DONE;
-use refusal::EMPTY;
-use remove::Removal;
-use table::Checked;
 use walk::Position;
 ghost use mathlib.Core.Path.{_≡_};
 ghost use Rattle.numeral.specs.Reading.{readNumber};
@@ -25,7 +12,7 @@ ghost use Rattle.table.specs.Table.{tableRefusal, checkTable};
 ghost use Rattle.cell.specs.Cell.{numberCell, dateCell, logicalCell, textCell};
 ghost use Rattle.lookup.specs.Lookup.{lookupRule};
 ghost use Rattle.sound.specs.Sound.{Audited};
-ghost use Rattle.insert.specs.Calls.{insertRule, insertionCode};
+ghost use Rattle.insert.specs.Calls.{insertRule};
 ghost use Rattle.insert.specs.Fresh.{freshRule};
 ghost use Rattle.remove.specs.Calls.{removeRule};
 ghost use Rattle.matching.specs.Match.{Matched};
@@ -34,11 +21,14 @@ ghost use Rattle.append.specs.Append.{appendRule};
 ghost use Rattle.append.specs.UpdateDate.{setDateRule, dated};
 ghost use Rattle.append.specs.Extent.{extentRule};
 ghost use Rattle.laying.specs.Laying.{layOutRule, laid};
-ghost use Rattle.gatherloom.specs.Lent.{planOf, listing, walkedOf};
-ghost use Rattle.gatherloom.specs.Answers.{interfaceNumber, out, sizes, dayOf, part, found};
-ghost use Rattle.gatherloom.specs.Answers.{shapeOut, numberOut, dateOut, logicalOut, textOut, lookupOut, writingOut, insertionOut, removalOut};
-ghost use Rattle.gatherloom.specs.Writing.{stores, written, appendOut, extentOut};
-ghost use Rattle.gatherloom.specs.Volumes.{volumes, volumesOut};
+ghost use Rattle.handed.specs.Out.{out};
+ghost use Rattle.table_calls.specs.Answers.{sizes, shapeOut};
+ghost use Rattle.table_calls.specs.Lent.{listing, walkedOf};
+ghost use Rattle.table_calls.specs.Writing.{stores, written, appendOut, extentOut};
+ghost use Rattle.cell_calls.specs.Answers.{dayOf, part, numberOut, dateOut, logicalOut, textOut, writingOut};
+ghost use Rattle.index_calls.specs.Answers.{found, lookupOut, insertionOut, removalOut};
+ghost use Rattle.dilute_call.specs.Volumes.{volumes, volumesOut};
+ghost use Rattle.gatherloom.specs.Interface.{interfaceNumber};
 
 // The number of this interface, GL_INTERFACE in the header.
 const INTERFACE: u32 = 1;
@@ -56,10 +46,7 @@ pub extern "C" fn gl_interface() -> u32
 pub extern "C" fn gl_table_check(table: &[u8]) -> u32
     ensures { λ r. ⌜ r ≡ tableRefusal (now (table .entry)) ⌝ }
 {
-    match table::check_table(table) {
-        Checked::Good(_) => 0,
-        Checked::Refused(code) => code,
-    }
+    table_calls::table_check(table)
 }
 
 // How many records and fields a table has, and how long a record is.
@@ -75,45 +62,7 @@ pub extern "C" fn gl_table_shape(
         ≡ out r (sizes (now (records .exit)) (now (fields .exit)) (now («record_length» .exit)))
         ⌝ }
 {
-    match table::check_table(table) {
-        Checked::Good(shape) => {
-            *records = shape.records;
-            *fields = shape.fields as u32;
-            *record_length = shape.record_length as u32;
-            0
-        }
-        Checked::Refused(refusal) => refusal,
-    }
-}
-
-// What the field list answers, and how many entries it writes: none if it refuses.
-pub struct Plan {
-    pub answer: u32,
-    pub count: usize,
-}
-
-// The plan for a table and `room` lent entries.
-fn listing_plan(table: &[u8], room: usize) -> Plan
-    ensures { λ r. ⌜ r ≡ planOf (now (table .entry)) room ⌝ }
-{
-    match table::check_table(table) {
-        Checked::Refused(refusal) => Plan {
-            answer: refusal,
-            count: 0,
-        },
-        Checked::Good(shape) => {
-            if room < shape.fields {
-                return Plan {
-                    answer: refusal::FIELD_LIST_TOO_SHORT,
-                    count: 0,
-                };
-            }
-            Plan {
-                answer: 0,
-                count: shape.fields,
-            }
-        }
-    }
+    table_calls::table_shape(table, records, fields, record_length)
 }
 
 // Writes the field list into the entries that the host lends.
@@ -123,7 +72,7 @@ pub extern "C" fn gl_fields(table: &[u8], entries: &mut [FieldEntry]) -> u32
         listing (now (table .entry)) (now (entries .entry)) ≡ record { answer = r; entries = now (entries .exit) }
         ⌝ }
 {
-    let plan = listing_plan(table, entries.len());
+    let plan = table_calls::listing_plan(table, entries.len());
     let count = plan.count;
     let mut j: usize = 0;
     while j < count {
@@ -131,39 +80,6 @@ pub extern "C" fn gl_fields(table: &[u8], entries: &mut [FieldEntry]) -> u32
         j += 1;
     }
     plan.answer
-}
-
-// A step of the walk as it is handed to C: the answer, the position after the step, and the record's number, which stays as it was if the answer is not 0.
-pub struct LentStep {
-    pub answer: u32,
-    pub position: Position,
-    pub number: u32,
-}
-
-// The step by value, from a position, with `number` as the number that was there.
-fn lent_step(table: &[u8], position: Position, number: u32) -> LentStep
-    ensures { λ r. ⌜ r ≡ walkedOf (now (table .entry)) position number ⌝ }
-{
-    let walked = walk::walk_step(table, position);
-    let after = walked.position;
-    let answer = walked.answer;
-    match answer {
-        walk::Step::Record(found) => LentStep {
-            answer: 0,
-            position: after,
-            number: found,
-        },
-        walk::Step::Done => LentStep {
-            answer: DONE,
-            position: after,
-            number,
-        },
-        walk::Step::Refused(refusal) => LentStep {
-            answer: refusal,
-            position: after,
-            number,
-        },
-    }
 }
 
 // One step of the walk. The position belongs to the host, and each call moves it on the spot.
@@ -174,7 +90,7 @@ pub extern "C" fn gl_walk(table: &[u8], position: &mut Position, number: &mut u3
         ≡ record { answer = r; position = now (position .exit); number = now (number .exit) }
         ⌝ }
 {
-    let step = lent_step(table, *position, *number);
+    let step = table_calls::lent_step(table, *position, *number);
     *position = step.position;
     *number = step.number;
     step.answer
@@ -185,15 +101,7 @@ pub extern "C" fn gl_walk(table: &[u8], position: &mut Position, number: &mut u3
 pub extern "C" fn gl_read_number(table: &[u8], number: u32, field: u32, value: &mut i64) -> u32
     ensures { λ r. ⌜ numberOut (numberCell (now (table .entry)) number field) (now (value .entry)) ≡ out r (now (value .exit)) ⌝ }
 {
-    let answer = cell::read_number(table, number, field);
-    match answer {
-        Number::Value(read) => {
-            *value = read;
-            0
-        }
-        Number::Empty => EMPTY,
-        Number::Refused(refusal) => refusal,
-    }
+    cell_calls::read_number(table, number, field, value)
 }
 
 // The day of a D field.
@@ -211,17 +119,7 @@ pub extern "C" fn gl_read_date(
         ≡ out r (dayOf (now (year .exit)) (now (month .exit)) (now (day .exit)))
         ⌝ }
 {
-    let answer = cell::read_date(table, number, field);
-    match answer {
-        DateAnswer::Value(date) => {
-            *year = date.year;
-            *month = date.month;
-            *day = date.day;
-            0
-        }
-        DateAnswer::Empty => EMPTY,
-        DateAnswer::Refused(refusal) => refusal,
-    }
+    cell_calls::read_date(table, number, field, year, month, day)
 }
 
 // The value of an L field: 1 for true, 0 for false.
@@ -229,15 +127,7 @@ pub extern "C" fn gl_read_date(
 pub extern "C" fn gl_read_logical(table: &[u8], number: u32, field: u32, value: &mut u8) -> u32
     ensures { λ r. ⌜ logicalOut (logicalCell (now (table .entry)) number field) (now (value .entry)) ≡ out r (now (value .exit)) ⌝ }
 {
-    let answer = cell::read_logical(table, number, field);
-    match answer {
-        Logical::Value(read) => {
-            *value = read as u8;
-            0
-        }
-        Logical::Empty => EMPTY,
-        Logical::Refused(refusal) => refusal,
-    }
+    cell_calls::read_logical(table, number, field, value)
 }
 
 // Where a C field's text lies in the table, or an M field's in the memo file.
@@ -255,16 +145,7 @@ pub extern "C" fn gl_text_part(
         ≡ out r (part (now (start .exit)) (now (len .exit)))
         ⌝ }
 {
-    let answer = cell::text_place(table, memo, number, field);
-    match answer {
-        TextPlace::Table { start: at, len: n } | TextPlace::Memo { start: at, len: n } => {
-            *start = at as u64;
-            *len = n as u64;
-            0
-        }
-        TextPlace::Empty => EMPTY,
-        TextPlace::Refused(refusal) => refusal,
-    }
+    cell_calls::text_part(table, memo, number, field, start, len)
 }
 
 // The value of a numeric text.
@@ -272,15 +153,7 @@ pub extern "C" fn gl_text_part(
 pub extern "C" fn gl_number_read(text: &[u8], decimals: u32, value: &mut i64) -> u32
     ensures { λ r. ⌜ numberOut (readNumber (now (text .entry)) decimals) (now (value .entry)) ≡ out r (now (value .exit)) ⌝ }
 {
-    let answer = numeral::read_number(text, decimals);
-    match answer {
-        Number::Value(meant) => {
-            *value = meant;
-            0
-        }
-        Number::Empty => EMPTY,
-        Number::Refused(refusal) => refusal,
-    }
+    cell_calls::number_read(text, decimals, value)
 }
 
 // Writes a value as numeric text into the lent field.
@@ -288,21 +161,7 @@ pub extern "C" fn gl_number_read(text: &[u8], decimals: u32, value: &mut i64) ->
 pub extern "C" fn gl_number_write(text: &mut [u8], decimals: u32, value: i64) -> u32
     ensures { λ r. ⌜ writingOut (writeNumber (now (text .entry)) decimals value) ≡ out r (now (text .exit)) ⌝ }
 {
-    let answer = numeral::write_number(text, decimals, value);
-    match answer {
-        Writing::Written => 0,
-        Writing::Refused(refusal) => refusal,
-    }
-}
-
-// The number of the answer of a call that writes an index.
-fn insertion_code(answer: Insertion) -> u32
-    ensures { λ r. ⌜ r ≡ insertionCode answer ⌝ }
-{
-    match answer {
-        Insertion::Accepted => 0,
-        Insertion::Refused(refusal) => refusal,
-    }
+    cell_calls::number_write(text, decimals, value)
 }
 
 // Makes a fresh index.
@@ -310,7 +169,7 @@ fn insertion_code(answer: Insertion) -> u32
 pub extern "C" fn gl_index_fresh(index: &mut [u8], key_length: u32, expression: &[u8]) -> u32
     ensures { λ r. ⌜ insertionOut (freshRule (now (index .entry)) «key_length» (now (expression .entry))) ≡ out r (now (index .exit)) ⌝ }
 {
-    insertion_code(insert::fresh(index, key_length, expression))
+    index_calls::index_fresh(index, key_length, expression)
 }
 
 // Audits an index: 24, 25, or 0 if it is sound.
@@ -334,19 +193,7 @@ pub extern "C" fn gl_index_lookup(
         ≡ out r (found (now (number .exit)) (now (pages .exit)))
         ⌝ }
 {
-    let answer = lookup::lookup(index, key);
-    match answer {
-        lookup::Answer::Found(at, visited) => {
-            *number = at.0;
-            *pages = visited;
-            0
-        }
-        lookup::Answer::Absent(searched) => {
-            *pages = searched;
-            ABSENT
-        }
-        lookup::Answer::Refused(refusal) => refusal,
-    }
+    index_calls::index_lookup(index, key, number, pages)
 }
 
 // Inserts a key with its record's number.
@@ -354,7 +201,7 @@ pub extern "C" fn gl_index_lookup(
 pub extern "C" fn gl_index_insert(index: &mut [u8], key: &[u8], number: u32) -> u32
     ensures { λ r. ⌜ insertionOut (insertRule (now (index .entry)) (now (key .entry)) number) ≡ out r (now (index .exit)) ⌝ }
 {
-    insertion_code(insert::insert(index, key, RecordNumber(number)))
+    index_calls::index_insert(index, key, number)
 }
 
 // Strikes a key off.
@@ -362,11 +209,7 @@ pub extern "C" fn gl_index_insert(index: &mut [u8], key: &[u8], number: u32) -> 
 pub extern "C" fn gl_index_remove(index: &mut [u8], key: &[u8]) -> u32
     ensures { λ r. ⌜ removalOut (removeRule (now (index .entry)) (now (key .entry))) ≡ out r (now (index .exit)) ⌝ }
 {
-    let answer = remove::remove(index, key);
-    match answer {
-        Removal::Accepted => 0,
-        Removal::Refused(refusal) => refusal,
-    }
+    index_calls::index_remove(index, key)
 }
 
 // Matches an index against a field of a table: 0 if each record has exactly one entry, its key that record's field, and there are no others.
@@ -397,7 +240,7 @@ pub extern "C" fn gl_dilute(
         ≡ out r (volumes (now (sample .exit)) (now (diluent .exit)))
         ⌝ }
 {
-    let answer = dilution::dilute(
+    dilute_call::dilute(
         table,
         index,
         barcode_field,
@@ -405,18 +248,9 @@ pub extern "C" fn gl_dilute(
         barcode,
         target,
         final_volume,
-    );
-    match answer {
-        Dilution::Volumes {
-            sample: drawn,
-            diluent: added,
-        } => {
-            *sample = drawn;
-            *diluent = added;
-            0
-        }
-        Dilution::Refused(refusal) => refusal,
-    }
+        sample,
+        diluent,
+    )
 }
 
 // Appends a record to the table in the buffer's first `table_len` bytes. The two stores are set in the order in which the file must get them.
@@ -436,15 +270,15 @@ pub extern "C" fn gl_table_append(
         ≡ out r (written (now (buffer .exit))
         (stores (now («record_place» .exit)) (now («record_length» .exit)) (now («count_place» .exit)) (now («count_length» .exit)))) ⌝ }
 {
-    let appended = append::append(buffer, table_len, bytes);
-    if appended.refusal != 0 {
-        return appended.refusal;
-    }
-    *record_place = appended.first.place as u64;
-    *record_length = appended.first.length as u64;
-    *count_place = appended.second.place as u64;
-    *count_length = appended.second.length as u64;
-    0
+    table_calls::table_append(
+        buffer,
+        table_len,
+        bytes,
+        record_place,
+        record_length,
+        count_place,
+        count_length,
+    )
 }
 
 // Sets the update date of the table in the buffer's first `table_len` bytes.
@@ -466,12 +300,7 @@ pub extern "C" fn gl_table_set_date(
 pub extern "C" fn gl_table_extent(table: &[u8], length: &mut u64) -> u32
     ensures { λ r. ⌜ extentOut (extentRule (now (table .entry))) (now (length .entry)) ≡ out r (now (length .exit)) ⌝ }
 {
-    let extent = append::table_extent(table);
-    if extent.refusal != 0 {
-        return extent.refusal;
-    }
-    *length = extent.length as u64;
-    0
+    table_calls::table_extent(table, length)
 }
 
 // Lays out an empty table with the fields that the host lists: 0, or the number of the refusal, which changes nothing.

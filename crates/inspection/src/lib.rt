@@ -9,18 +9,23 @@ mod report;
 
 ghost use Prim.Native.Nat.{_≤_};
 use argument::Field;
-use libc::STDERR_FILENO;
+use lines::Line;
 
-fn refuse() {
-    lines::print(b"40\n");
+// Prints the line 40, and then says on standard error what was wrong.
+fn refuse(reason: &[u8]) {
+    if !lines::print_all(b"40\n") {
+        report::say(b"inspect: the output could not be written\n");
+        return;
+    }
+    report::say(b"inspect: 40: ");
+    report::say(reason);
 }
 
 fn refuse_use() {
-    io::write_all(
-        STDERR_FILENO,
+    report::say(
         b"use: inspect TABLE [MEMO|- [INDEX|- [FIELD]]], where FIELD is a field's number of 1 to 10 digits or its name\n",
     );
-    refuse();
+    refuse(b"these are other arguments\n");
 }
 
 fn wanted_field(arguments: usize, field: &[u8]) -> Field {
@@ -46,14 +51,21 @@ fn is_dash(word: &[u8]) -> bool {
 }
 
 // The line of the match, if a FIELD was given. Answers how many lines have a refusal.
-fn match_lines<'a>(table: &'a [u8], index: &'a [u8], wanted: Field, field: &'a [u8]) -> u64
+fn match_lines<'a>(
+    line: &mut Line,
+    table: &'a [u8],
+    index: &'a [u8],
+    wanted: Field,
+    field: &'a [u8],
+) -> u64
     ensures { λ r. ⌜ r ≤ 1 ⌝ }
 {
     match wanted {
         Field::Number(number) => {
-            report::answer_line(b"match", matching::match_index(table, index, number))
+            report::answer_line(line, b"match", matching::match_index(table, index, number))
         }
         Field::Name => report::answer_line(
+            line,
             b"match",
             argument::names::match_by_name(table, index, field),
         ),
@@ -70,21 +82,23 @@ fn with_index<'a>(
     wanted: Field,
     field: &'a [u8],
 ) {
+    let mut line = lines::empty_line();
     if is_dash(index_path) {
-        report::problems_line(report::table_report(table, memo, has_memo));
+        let problems = report::table_report(&mut line, table, memo, has_memo);
+        report::problems_line(&mut line, problems);
         return;
     }
     let mut index = files::space();
     let loaded = files::load(index_path, &mut index);
     if !loaded.whole {
-        refuse();
+        refuse(b"the index can't be read, or is too long\n");
         return;
     }
     let n = loaded.len;
-    let of_table = report::table_report(table, memo, has_memo);
-    let of_index = report::answer_line(b"index", audit::audit(&index[..n]));
-    let of_match = match_lines(table, &index[..n], wanted, field);
-    report::problems_line(of_table + of_index + of_match);
+    let of_table = report::table_report(&mut line, table, memo, has_memo);
+    let of_index = report::answer_line(&mut line, b"index", audit::audit(&index[..n]));
+    let of_match = match_lines(&mut line, table, &index[..n], wanted, field);
+    report::problems_line(&mut line, of_table + of_index + of_match);
 }
 
 // Reads the memo file, if one was given: M fields are read only then.
@@ -102,7 +116,7 @@ fn with_memo<'a>(
     let mut memo = files::space();
     let loaded = files::load(memo_path, &mut memo);
     if !loaded.whole {
-        refuse();
+        refuse(b"the memo file can't be read, or is too long\n");
         return;
     }
     let n = loaded.len;
@@ -119,7 +133,7 @@ fn with_table<'a>(
     let mut table = files::space();
     let loaded = files::load(table_path, &mut table);
     if !loaded.whole {
-        refuse();
+        refuse(b"the table can't be read, or is too long\n");
         return;
     }
     let n = loaded.len;

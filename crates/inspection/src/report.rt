@@ -1,7 +1,8 @@
 // What the program `inspect` prints of a table and its memo file: a line for the check, the shape, each field, each record and each value; and the line of
 // an index's answer. The library decides; this module only spells its answers out.
 //
-// It reads records by the calls for a table that was checked. A function that prints lines answers how many of them have a refusal.
+// It reads records by the calls for a table that was checked. A function that prints lines answers how many of them have a refusal; all print by one lent line,
+// which remembers whether a write failed.
 ghost use Prim.Native.Nat.{_*_, _≤_};
 ghost use mathlib.Core.Path.{_≡_};
 ghost use lib.ListN.{length};
@@ -13,6 +14,7 @@ use cell::Logical;
 use cell::TextPlace;
 use field::FieldEntry;
 use field::Place;
+use libc::STDERR_FILENO;
 use lines::Line;
 use lines::print_line;
 use lines::put;
@@ -69,13 +71,12 @@ fn put_answer(line: &mut Line, n: usize, answer: u32) -> Filled {
 }
 
 // A line of a word and an answer: 0, or a refusal's code.
-pub fn answer_line(word: &[u8], answer: u32) -> u64
+pub fn answer_line(line: &mut Line, word: &[u8], answer: u32) -> u64
     ensures { λ r. ⌜ r ≤ 1 ⌝ }
 {
-    let mut line = lines::empty_line();
-    let end = put(&mut line, 0, word);
-    let filled = put_answer(&mut line, end, answer);
-    print_line(&mut line, filled.end);
+    let end = put(line, 0, word);
+    let filled = put_answer(line, end, answer);
+    print_line(line, filled.end);
     count(filled.refused)
 }
 
@@ -134,7 +135,7 @@ fn put_quoted(line: &mut Line, n: usize, text: &[u8]) -> usize {
 // A value with its point, by the library's own writer, so with the zero before the point: 20 characters hold every value that the reader gives.
 fn put_value(line: &mut Line, n: usize, value: i64, decimals: u32) -> usize {
     let mut text = [b' '; 20];
-    numeral::write_number(&mut text, decimals, value);
+    numeral_write::write_number(&mut text, decimals, value);
     let from = octets::padding(&text);
     let end = put(line, n, b" 0 ");
     put(line, end, &text[from..])
@@ -236,22 +237,35 @@ fn put_cell<'a>(
 }
 
 // The line of field j of a record.
-fn value_line<'a>(table: &'a [u8], memo: &'a [u8], has_memo: bool, number: u32, j: u32) -> u64
+fn value_line<'a>(
+    line: &mut Line,
+    table: &'a [u8],
+    memo: &'a [u8],
+    has_memo: bool,
+    number: u32,
+    j: u32,
+) -> u64
     requires { ⌜ PlaceGood (now table) number j ⌝ }
     ensures { λ r. ⌜ r ≤ 1 ⌝ }
 {
-    let mut line = lines::empty_line();
-    let end = put(&mut line, 0, b"value");
-    let end = put_number(&mut line, end, number);
-    let end = put_number(&mut line, end, j);
+    let end = put(line, 0, b"value");
+    let end = put_number(line, end, number);
+    let end = put_number(line, end, j);
     let place = field::place_at(table, number, j);
-    let filled = put_cell(&mut line, end, table, memo, has_memo, place);
-    print_line(&mut line, filled.end);
+    let filled = put_cell(line, end, table, memo, has_memo, place);
+    print_line(line, filled.end);
     count(filled.refused)
 }
 
 // The lines of the fields of a record, from 1 to `last`.
-fn value_lines<'a>(table: &'a [u8], memo: &'a [u8], has_memo: bool, number: u32, last: u32) -> u64
+fn value_lines<'a>(
+    line: &mut Line,
+    table: &'a [u8],
+    memo: &'a [u8],
+    has_memo: bool,
+    number: u32,
+    last: u32,
+) -> u64
     requires { ⌜ PlaceGood (now table) number last ⌝ }
     ensures { λ r. ⌜ r ≤ last ⌝ }
 {
@@ -259,7 +273,7 @@ fn value_lines<'a>(table: &'a [u8], memo: &'a [u8], has_memo: bool, number: u32,
     let mut j = 0;
     while j < last {
         j += 1;
-        problems += value_line(table, memo, has_memo, number, j);
+        problems += value_line(line, table, memo, has_memo, number, j);
     }
     problems
 }
@@ -275,32 +289,39 @@ fn put_mark(line: &mut Line, n: usize, mark: u32) -> Filled {
 }
 
 // The line of a record, by its deletion byte.
-fn record_line(number: u32, mark: u32) -> u64
+fn record_line(line: &mut Line, number: u32, mark: u32) -> u64
     ensures { λ r. ⌜ r ≤ 1 ⌝ }
 {
-    let mut line = lines::empty_line();
-    let end = put(&mut line, 0, b"record");
-    let end = put_number(&mut line, end, number);
-    let filled = put_mark(&mut line, end, mark);
-    print_line(&mut line, filled.end);
+    let end = put(line, 0, b"record");
+    let end = put_number(line, end, number);
+    let filled = put_mark(line, end, mark);
+    print_line(line, filled.end);
     count(filled.refused)
 }
 
 // The line of a record and, if its deletion byte is good, the lines of its fields from 1 to `last`. The byte comes with the place of field 1, which every table
 // has.
-fn record_report<'a>(table: &'a [u8], memo: &'a [u8], has_memo: bool, number: u32, last: u32) -> u64
+fn record_report<'a>(
+    line: &mut Line,
+    table: &'a [u8],
+    memo: &'a [u8],
+    has_memo: bool,
+    number: u32,
+    last: u32,
+) -> u64
     requires { ⌜ PlaceGood (now table) number last ⌝ }
     ensures { λ r. ⌜ r ≤ last ⌝ }
 {
     let place = field::place_at(table, number, 1);
-    let problems = record_line(number, place.mark);
+    let problems = record_line(line, number, place.mark);
     if problems != 0 {
         return problems;
     }
-    value_lines(table, memo, has_memo, number, last)
+    value_lines(line, table, memo, has_memo, number, last)
 }
 
 fn record_lines<'a>(
+    line: &mut Line,
     table: &'a [u8],
     memo: &'a [u8],
     has_memo: bool,
@@ -314,7 +335,7 @@ fn record_lines<'a>(
     let mut number = 0;
     while number < records {
         number += 1;
-        problems += record_report(table, memo, has_memo, number, fields);
+        problems += record_report(line, table, memo, has_memo, number, fields);
     }
     problems
 }
@@ -336,53 +357,61 @@ fn put_entry(line: &mut Line, n: usize, entry: FieldEntry) -> usize {
 }
 
 // The line of field j, from 1.
-fn field_line(table: &[u8], j: u32) {
-    let mut line = lines::empty_line();
-    let end = put(&mut line, 0, b"field");
-    let end = put_number(&mut line, end, j);
+fn field_line(line: &mut Line, table: &[u8], j: u32) {
+    let end = put(line, 0, b"field");
+    let end = put_number(line, end, j);
     let answer = field::field_entry(table, j);
-    let end = put_entry(&mut line, end, answer.entry);
-    print_line(&mut line, end);
+    let end = put_entry(line, end, answer.entry);
+    print_line(line, end);
 }
 
-fn field_lines(table: &[u8], fields: u32) {
+fn field_lines(line: &mut Line, table: &[u8], fields: u32) {
     let mut j = 0;
     while j < fields {
         j += 1;
-        field_line(table, j);
+        field_line(line, table, j);
     }
 }
 
-fn shape_line(records: u32, fields: u32, record_length: usize) {
-    let mut line = lines::empty_line();
-    let end = put(&mut line, 0, b"shape");
-    let end = put_number(&mut line, end, records);
-    let end = put_number(&mut line, end, fields);
-    let end = put(&mut line, end, b" ");
-    let end = lines::put_number(&mut line, end, record_length as u64);
-    print_line(&mut line, end);
+fn shape_line(line: &mut Line, records: u32, fields: u32, record_length: usize) {
+    let end = put(line, 0, b"shape");
+    let end = put_number(line, end, records);
+    let end = put_number(line, end, fields);
+    let end = put(line, end, b" ");
+    let end = lines::put_number(line, end, record_length as u64);
+    print_line(line, end);
 }
 
 // All lines of a table and its memo file. A refused table has one line, its refusal.
-pub fn table_report<'a>(table: &'a [u8], memo: &'a [u8], has_memo: bool) -> u64
+pub fn table_report<'a>(line: &mut Line, table: &'a [u8], memo: &'a [u8], has_memo: bool) -> u64
     ensures { λ r. ⌜ r ≤ maxFields * 4294967295 ⌝ }
 {
-    match table::check_table(table) {
-        Checked::Refused(code) => answer_line(b"table", code),
+    match table_check::check_table(table) {
+        Checked::Refused(code) => answer_line(line, b"table", code),
         Checked::Good(shape) => {
             let fields = shape.fields as u32;
-            answer_line(b"table", 0);
-            shape_line(shape.records, fields, shape.record_length);
-            field_lines(table, fields);
-            record_lines(table, memo, has_memo, shape.records, fields)
+            answer_line(line, b"table", 0);
+            shape_line(line, shape.records, fields, shape.record_length);
+            field_lines(line, table, fields);
+            record_lines(line, table, memo, has_memo, shape.records, fields)
         }
     }
 }
 
-// The last line: how many of the lines before it have a refusal.
-pub fn problems_line(problems: u64) {
-    let mut line = lines::empty_line();
-    let end = put(&mut line, 0, b"problems ");
-    let end = lines::put_number(&mut line, end, problems);
-    print_line(&mut line, end);
+// The last line: how many of the lines before it have a refusal. Then the same as the verdict on standard error, if every line was written.
+pub fn problems_line(line: &mut Line, problems: u64) {
+    let end = put(line, 0, b"problems ");
+    let end = lines::put_number(line, end, problems);
+    print_line(line, end);
+    if !lines::is_written(line) {
+        say(b"inspect: the output could not be written\n");
+        return;
+    }
+    say(b"inspect: problems ");
+    io::print_decimal(STDERR_FILENO, problems);
+    say(b"\n");
+}
+
+pub fn say(text: &[u8]) {
+    io::write_all(STDERR_FILENO, text);
 }

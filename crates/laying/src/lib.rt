@@ -75,7 +75,7 @@ fn kind_of(table: &[u8]) -> u8
     requires { ⌜ HeaderFits (now table) ⌝ }
     ensures { λ r. ⌜ r ≡ kindFor (hasMemo (now (table .entry))) ⌝ }
 {
-    if table::has_memo(table) {
+    if table_fields::has_memo(table) {
         return table::MEMO_KIND as u8;
     }
     table::PLAIN_KIND as u8
@@ -90,7 +90,7 @@ fn write_table(room: &mut [u8], descriptors: &[u8], count: usize, year: u32, mon
     octets::store_le16(room, HEADER_LENGTH_AT, (end + 1) as u32);
     octets::copy_in(room, table::DESCRIPTORS, descriptors);
     let kind = kind_of(room);
-    let length = table::field_offset(room, count);
+    let length = table_fields::field_offset(room, count);
     octets::store_le16(room, RECORD_LENGTH_AT, length as u32);
     let first = [
         kind,
@@ -113,7 +113,7 @@ fn lay_table(buffer: &mut [u8], table: &[u8]) -> u32
     requires { ⌜ length (now table) ≡ headerLength (now table) + 1 ⌝ }
     ensures { λ r. ⌜ layTable (now (buffer .entry)) (now (table .entry)) ≡ laid (now (buffer .exit)) r ⌝ }
 {
-    match table::check_table(table) {
+    match table_check::check_table(table) {
         Checked::Refused(number) => number,
         Checked::Good(shape) => {
             if buffer.len() < shape.header_length + 1 {

@@ -35,7 +35,7 @@ fn entry_good(table: &[u8], index: &[u8], column: Column, page: PageOffset, i: u
     if !field::number_good(number as usize, column.records as usize) {
         return false;
     }
-    let start = table::records_end(table, number - 1) + column.offset;
+    let start = table_check::records_end(table, number - 1) + column.offset;
     let end = start + column.length;
     octets::is_equal(page::compare_entry(index, page, i, &table[start..end]))
 }
@@ -153,7 +153,7 @@ fn match_checked(table: &[u8], index: &[u8], shape: Shape, field: u32) -> u32
 pub fn match_index(table: &[u8], index: &[u8], field: u32) -> u32
     ensures { λ r. ⌜ Matched (now (table .entry)) (now (index .entry)) field r ⌝ }
 {
-    match table::check_table(table) {
+    match table_check::check_table(table) {
         Checked::Refused(refusal) => refusal,
         Checked::Good(shape) => match_checked(table, index, shape, field),
     }

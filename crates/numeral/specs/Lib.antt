@@ -1,4 +1,4 @@
--- Numeric text.
+-- The text of an N field: its format, and the answers of reading and writing it.
 
 -- Rules: the widths and decimal counts of numeric fields, and the characters of their texts
 pub mod Format
@@ -6,12 +6,8 @@ pub mod Format
 pub mod Reading
 -- Rules: the one written text of a value, and its accepted texts
 pub mod Writing
--- Steps: the reader's states, character by character
-pub mod Scan
 -- Laws: the parts of a numeric text; its digits and their number; when 6 and 16 are given
 pub mod ReadingLaws
--- Laws: the reader's states end in what the text means
-pub mod ScanLaws
 -- Laws: the whole part and the fraction of a number as it is written
 pub mod DigitLaws
 -- Laws: the writer's stores leave the written text, and its answers come in their order

@@ -3,6 +3,7 @@ ghost use Prim.Native.Nat.{_+_};
 ghost use mathlib.Core.Path.{_≡_};
 ghost use lib.ListN.{length};
 ghost use Rattle.sheet.specs.Input.{digitsAt, noLine, lineAt, nextLine, requestOf, inputOf};
+ghost use Rattle.sheet.specs.Fault.{wrongAt, wrongAfter, inputFault};
 use octets::Digits;
 
 const MAX_DIGITS: usize = 10;
@@ -25,6 +26,24 @@ pub struct Request {
 pub enum Input {
     Asked(Request),
     Other,
+}
+
+// What is wrong with a line of the input; `More` is what stands after the four lines.
+pub enum Wrong {
+    Nothing,
+    Missing,
+    TooLong,
+    Unended,
+    CarriageReturn,
+    OtherByte,
+    Empty,
+    More,
+}
+
+// The first line that is wrong, from 1; line 5 is what stands after the four.
+pub struct Fault {
+    pub line: u32,
+    pub wrong: Wrong,
 }
 
 // Where the digits that stand from `from` on end.
@@ -116,4 +135,63 @@ pub fn read_input(input: &[u8]) -> Input
         return Input::Asked(request_of(first, second, third, fourth));
     }
     Input::Other
+}
+
+// What is wrong with the line that stands from `from` on.
+fn wrong_at(input: &[u8], from: usize) -> Wrong
+    ensures { λ r. ⌜ r ≡ wrongAt (now (input .entry)) from ⌝ }
+{
+    let end = digits_end(input, from);
+    if input.len() <= from {
+        return Wrong::Missing;
+    }
+    if MAX_DIGITS < end - from {
+        return Wrong::TooLong;
+    }
+    if input.len() <= end {
+        return Wrong::Unended;
+    }
+    if input[end] == b'\r' {
+        return Wrong::CarriageReturn;
+    }
+    if input[end] != b'\n' {
+        return Wrong::OtherByte;
+    }
+    if end == from {
+        return Wrong::Empty;
+    }
+    Wrong::Nothing
+}
+
+// What is wrong with an input whose four lines end at `at`.
+fn wrong_after(input: &[u8], at: usize) -> Wrong
+    ensures { λ r. ⌜ r ≡ wrongAfter (now (input .entry)) at ⌝ }
+{
+    if at == input.len() {
+        return Wrong::Nothing;
+    }
+    Wrong::More
+}
+
+// What is wrong with an input that asks for nothing, for a message: the first line that is none of the four.
+pub fn input_fault(input: &[u8]) -> Fault
+    ensures { λ r. ⌜ r ≡ inputFault (now (input .entry)) ⌝ }
+{
+    let mut from = 0;
+    let mut line = 1;
+    while line < 5 {
+        let found = line_at(input, from);
+        if !found.good {
+            return Fault {
+                line,
+                wrong: wrong_at(input, from),
+            };
+        }
+        from = found.end;
+        line += 1;
+    }
+    Fault {
+        line,
+        wrong: wrong_after(input, from),
+    }
 }

@@ -1,6 +1,7 @@
 // The dilution sheet: what the program `dilute` prints of a table, its index and the four numbers of its standard input. Table and index are checked once, and
 // then each record is diluted by what was checked. A text that does not fit the lent buffer is cut off at the buffer's end.
 pub mod input;
+pub mod tally;
 
 ghost use Prim.Native.Nat.{_+_, _-_, _≤_};
 ghost use mathlib.Core.Path.{_≡_};
@@ -35,7 +36,7 @@ fn put_decimal(out: &mut [u8], at: usize, number: u32) -> usize
     ensures { λ r. ⌜ wrote (now (out .entry)) at (decimal number) ≡ output (now (out .exit)) r ⌝ }
 {
     let mut text = [b' '; 10];
-    numeral::write_number(&mut text, 0, number as i64);
+    numeral_write::write_number(&mut text, 0, number as i64);
     let from = octets::padding(&text);
     put(out, at, &text[from..])
 }

@@ -1,4 +1,4 @@
--- The table: its header, its fields, and where its records lie.
+-- A table's header: its numbers and its limits.
 
 -- Rules: a test of all numbers or some number below a bound, and a sum over them
 pub mod Range

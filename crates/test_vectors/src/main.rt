@@ -45,13 +45,13 @@ fn refused(code: u32) {
 // A value in decimal, by the library's own writer: 20 characters hold any value that it accepts.
 fn print_value(value: i64) {
     let mut text = [0u8; 20];
-    numeral::write_number(&mut text, 0, value);
+    numeral_write::write_number(&mut text, 0, value);
     let from = octets::padding(&text);
     lines::print(&text[from..]);
 }
 
 fn number_line(s: &[u8]) {
-    match numeral::read_number(test_lines::after_word(s), test_lines::first_number(s)) {
+    match numeral_read::read_number(test_lines::after_word(s), test_lines::first_number(s)) {
         numeral::Number::Value(v) => print_value(v),
         numeral::Number::Empty => lines::print(b"empty"),
         numeral::Number::Refused(code) => refused(code),
@@ -85,7 +85,7 @@ fn at_most_24(width: usize) -> usize
 
 // Writes a value into a field, and prints the answer and what the field holds then.
 fn write_field(field: &mut [u8], decimals: u32, value: i64) {
-    match numeral::write_number(field, decimals, value) {
+    match numeral_write::write_number(field, decimals, value) {
         numeral::Writing::Written => lines::print(b"written"),
         numeral::Writing::Refused(code) => refused(code),
     }
@@ -96,7 +96,8 @@ fn write_field(field: &mut [u8], decimals: u32, value: i64) {
 
 fn write_line(s: &[u8]) {
     let rest = test_lines::after_word(s);
-    let numeral::Number::Value(value) = numeral::read_number(test_lines::after_word(rest), 0) else {
+    let numeral::Number::Value(value) = numeral_read::read_number(test_lines::after_word(rest), 0)
+    else {
         lines::print(b"?\n");
         return;
     };

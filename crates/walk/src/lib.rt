@@ -41,7 +41,7 @@ fn step_from(table: &[u8], n: u32, position: u32) -> Walked
 {
     let mut passed = position;
     while passed < n {
-        let mark = octets::byte(table, table::records_end(table, passed));
+        let mark = octets::byte(table, table_check::records_end(table, passed));
         if mark == KEPT {
             return step_to(Step::Record(passed + 1), passed + 1);
         }
@@ -59,7 +59,7 @@ pub fn walk_step(table: &[u8], position: Position) -> Walked
     ensures { λ r. ⌜ r ≡ walkStep (now (table .entry)) position ⌝ }
 {
     let passed = position.passed;
-    match table::check_table(table) {
+    match table_check::check_table(table) {
         table::Checked::Good(shape) => step_from(table, shape.records, passed),
         table::Checked::Refused(refused) => step_to(Step::Refused(refused), passed),
     }

@@ -62,15 +62,15 @@ use Rattle.field.proofs.entry_at as entry-at
 use Rattle.field.proofs.entry_at.Symbol as entry-at-def
 use Rattle.field.proofs.entry_at.Symbol.{name as #field·entry-at}
 use Rattle.field.proofs.entry_at.Met as entry-at-thm
-use Rattle.gatherloom.specs.Lent.{planOf, listed}
-use Rattle.gatherloom.specs.LentLaws.{CountFits, plan-fits, listed-length, listed-none, listed-more, listing-is}
-use Rattle.gatherloom.specs.declared.Plan.{Plan}
-use Rattle.gatherloom.proofs.Plan as P
-use Rattle.gatherloom.proofs.Plan.Laws as P′
-use Rattle.gatherloom.proofs.listing_plan as plan
-use Rattle.gatherloom.proofs.listing_plan.Symbol as plan-def
-use Rattle.gatherloom.proofs.listing_plan.Symbol.{name as #gatherloom·listing-plan}
-use Rattle.gatherloom.proofs.listing_plan.Met as plan-thm
+use Rattle.table_calls.specs.Lent.{planOf, listed}
+use Rattle.table_calls.specs.LentLaws.{CountFits, plan-fits, listed-length, listed-none, listed-more, listing-is}
+use Rattle.table_calls.specs.declared.Plan.{Plan}
+use Rattle.table_calls.proofs.Plan as P
+use Rattle.table_calls.proofs.Plan.Laws as P′
+use Rattle.table_calls.proofs.listing_plan as plan
+use Rattle.table_calls.proofs.listing_plan.Symbol as plan-def
+use Rattle.table_calls.proofs.listing_plan.Symbol.{name as #table_calls·listing-plan}
+use Rattle.table_calls.proofs.listing_plan.Met as plan-thm
 use Rattle.gatherloom.proofs.gl_fields.Key.{name as #gatherloom·gl-fields}
 use Rattle.gatherloom.proofs.gl_fields as gl-fields
 use Rattle.gatherloom.proofs.gl_fields.Statement as stated
@@ -355,7 +355,7 @@ module _ {M : Type 1} (𝓤 : URA M) (H : Heap 𝓤) (A : Atoms 𝓤) (W : Given
   answer-fits : (r : Plan) (u : Val) → Is P.the-row r (u ∷ []) → r ≡ pl → pl .answer < 2 ^ 32
   answer-fits r u is e = subst (λ (d : Plan). d .answer < 2 ^ 32) e (LL.owed P.the-type P′.the-laws r _ is .0 .1)
 
-  walk : (𝓣 : Tables 𝓤 H) → Triple 𝓤 (𝓣 .C #gatherloom·listing-plan) Planning → Triple 𝓤 (𝓣 .C #field·entry-at) Entering
+  walk : (𝓣 : Tables 𝓤 H) → Triple 𝓤 (𝓣 .C #table_calls·listing-plan) Planning → Triple 𝓤 (𝓣 .C #field·entry-at) Entering
       → Is (ShrSlice (named 0) κ u8) s (v ∷ []) → Room R n
       → ent 𝓤 (onEntry 𝓤 H A gl-fields.signature (κ, (κ′, tt)) (q, (q′, tt)) x at) (WpFn 𝓤 H (𝓣 .C) (𝓣 .Λ) code.function (v ∷ sliceVal (b, o) n ∷ []) Post)
   walk 𝓣 known-plan known-entry p room =
@@ -389,7 +389,7 @@ module _ {M : Type 1} (𝓤 : URA M) (H : Heap 𝓤) (A : Atoms 𝓤) (W : Given
       (turns 𝓣 known-entry room (count-fits r u is e) (answer-fits r u is e) l₀ l₁ l₂ l₃ l₄ l₅ l₆ l₇ l₈ l₉ l₁₀) (0, zero-le))))))))))))))))
 
 module _ {M : Type 1} (𝓤 : URA M) (H : Heap 𝓤) (A : Atoms 𝓤) (W : Given 𝓤 H A) (at-mem : Memory → SProp 𝓤) (run : Routine → Fun 𝓤) (𝓣 : Tables 𝓤 H)
-    (known-plan : Triple 𝓤 (𝓣 .C #gatherloom·listing-plan) (PlanC 𝓤 H A at-mem run))
+    (known-plan : Triple 𝓤 (𝓣 .C #table_calls·listing-plan) (PlanC 𝓤 H A at-mem run))
     (known-entry : Triple 𝓤 (𝓣 .C #field·entry-at) (EntryC 𝓤 H A at-mem run)) where
   -- what the body does with machine values
   abbrev Runs : List Val → (Val → SProp 𝓤) → SProp 𝓤
@@ -417,7 +417,7 @@ gl-fields-spec 𝓤 H 𝓜 𝓖 𝓡 =
     entered 𝓤 H (tripleOf 𝓤 H (𝓖 .A) gl-fields.signature (gl-fields.spec 𝓤 H (𝓖 .A) (𝓜 .mem) (𝓡 .run)))
     (tables 𝓤 H 𝓜 𝓡 code.env .C) (tables 𝓤 H 𝓜 𝓡 code.env .Λ) #gatherloom·gl-fields code.function (code.unfolded 𝓤 H 𝓜 𝓡)
     (gl-fields-meets 𝓤 H (𝓖 .A) (givenOf 𝓤 H 𝓜 𝓖) (𝓜 .mem) (𝓡 .run) (tablesOf 𝓤 H 𝓜 (tables 𝓤 H 𝓜 𝓡 code.env))
-    (cited 𝓤 H (PlanC 𝓤 H (𝓖 .A) (𝓜 .mem) (𝓡 .run)) 𝓜 𝓡 code.env #gatherloom·listing-plan plan-def.routine
-    code.calls-gatherloom·listing-plan (plan-thm.met 𝓤 H 𝓜 𝓖 𝓡))
+    (cited 𝓤 H (PlanC 𝓤 H (𝓖 .A) (𝓜 .mem) (𝓡 .run)) 𝓜 𝓡 code.env #table_calls·listing-plan plan-def.routine
+    code.calls-table-calls·listing-plan (plan-thm.met 𝓤 H 𝓜 𝓖 𝓡))
     (cited 𝓤 H (EntryC 𝓤 H (𝓖 .A) (𝓜 .mem) (𝓡 .run)) 𝓜 𝓡 code.env #field·entry-at entry-at-def.routine
     code.calls-field·entry-at (entry-at-thm.met 𝓤 H 𝓜 𝓖 𝓡)))

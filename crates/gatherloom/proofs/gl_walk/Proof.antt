@@ -48,14 +48,14 @@ use denote.Exit.{yes}
 use Rattle.walk.specs.declared.Position.{Position}
 use Rattle.walk.proofs.Position as P
 use Rattle.walk.proofs.Position.Laws as P′
-use Rattle.gatherloom.specs.Lent.{walkedOf}
-use Rattle.gatherloom.specs.declared.LentStep.{LentStep}
-use Rattle.gatherloom.proofs.LentStep as D
-use Rattle.gatherloom.proofs.LentStep.Laws as D′
-use Rattle.gatherloom.proofs.lent_step as step
-use Rattle.gatherloom.proofs.lent_step.Symbol as step-def
-use Rattle.gatherloom.proofs.lent_step.Symbol.{name as #gatherloom·lent-step}
-use Rattle.gatherloom.proofs.lent_step.Met as step-thm
+use Rattle.table_calls.specs.Lent.{walkedOf}
+use Rattle.table_calls.specs.declared.LentStep.{LentStep}
+use Rattle.table_calls.proofs.LentStep as D
+use Rattle.table_calls.proofs.LentStep.Laws as D′
+use Rattle.table_calls.proofs.lent_step as step
+use Rattle.table_calls.proofs.lent_step.Symbol as step-def
+use Rattle.table_calls.proofs.lent_step.Symbol.{name as #table_calls·lent-step}
+use Rattle.table_calls.proofs.lent_step.Met as step-thm
 use Rattle.gatherloom.proofs.gl_walk.Key.{name as #gatherloom·gl-walk}
 use Rattle.gatherloom.proofs.gl_walk as gl-walk
 use Rattle.gatherloom.proofs.gl_walk.Statement as stated
@@ -162,7 +162,7 @@ module _ {M : Type 1} (𝓤 : URA M) (H : Heap 𝓤) (A : Atoms 𝓤) (W : Given
       feqI ! (List Val) (vptr b o ∷ []) (vptr b o ∷ []) refl $ fjoin3 ! $ fjoin ! $ move ! (1 ∷ 0 ∷ []) $ fjoin ! $ frame ! $
       owned ! u32 (Is u32) (uint-makes 𝓤 H A W w32) (r .answer) _ (refl, fits) $ done !
 
-  module _ (C : Calls 𝓤 H) (Λ : Loops 𝓤 H) (fm : FmC 𝓤 H (W .laws) C) (known : Triple 𝓤 (C #gatherloom·lent-step) Stepping) where
+  module _ (C : Calls 𝓤 H) (Λ : Loops 𝓤 H) (fm : FmC 𝓤 H (W .laws) C) (known : Triple 𝓤 (C #table_calls·lent-step) Stepping) where
     walk : Is (ShrSlice (named 0) κ u8) s (v ∷ [])
         → ent 𝓤 (onEntry 𝓤 H A gl-walk.signature (κ, (κ′, (κ″, tt))) (q, (q′, (q″, tt))) x at) (WpFn 𝓤 H C Λ code.function (v ∷ vptr b o ∷ vptr d p ∷ []) Post)
     walk is-table =
@@ -231,7 +231,7 @@ module _ {M : Type 1} (𝓤 : URA M) (H : Heap 𝓤) (A : Atoms 𝓤) (W : Given
         keep ! (0 ∷ 1 ∷ 2 ∷ 3 ∷ 4 ∷ 5 ∷ 7 ∷ 8 ∷ []) $ by ! (exits r e (answer-fits r u is)))))))))))))))))
 
 module _ {M : Type 1} (𝓤 : URA M) (H : Heap 𝓤) (A : Atoms 𝓤) (W : Given 𝓤 H A) (at-mem : Memory → SProp 𝓤) (run : Routine → Fun 𝓤) (𝓣 : Tables 𝓤 H)
-    (known : Triple 𝓤 (𝓣 .C #gatherloom·lent-step) (StepC 𝓤 H A at-mem run)) where
+    (known : Triple 𝓤 (𝓣 .C #table_calls·lent-step) (StepC 𝓤 H A at-mem run)) where
   -- what the body does with machine values
   abbrev Runs : List Val → (Val → SProp 𝓤) → SProp 𝓤
   Runs = WpFn 𝓤 H (𝓣 .C) (𝓣 .Λ) code.function
@@ -262,5 +262,5 @@ gl-walk-spec 𝓤 H 𝓜 𝓖 𝓡 =
     entered 𝓤 H (tripleOf 𝓤 H (𝓖 .A) gl-walk.signature (gl-walk.spec 𝓤 H (𝓖 .A) (𝓜 .mem) (𝓡 .run)))
     (tables 𝓤 H 𝓜 𝓡 code.env .C) (tables 𝓤 H 𝓜 𝓡 code.env .Λ) #gatherloom·gl-walk code.function (code.unfolded 𝓤 H 𝓜 𝓡)
     (gl-walk-meets 𝓤 H (𝓖 .A) (givenOf 𝓤 H 𝓜 𝓖) (𝓜 .mem) (𝓡 .run) (tablesOf 𝓤 H 𝓜 (tables 𝓤 H 𝓜 𝓡 code.env))
-    (cited 𝓤 H (StepC 𝓤 H (𝓖 .A) (𝓜 .mem) (𝓡 .run)) 𝓜 𝓡 code.env #gatherloom·lent-step step-def.routine
-    code.calls-gatherloom·lent-step (step-thm.met 𝓤 H 𝓜 𝓖 𝓡)))
+    (cited 𝓤 H (StepC 𝓤 H (𝓖 .A) (𝓜 .mem) (𝓡 .run)) 𝓜 𝓡 code.env #table_calls·lent-step step-def.routine
+    code.calls-table-calls·lent-step (step-thm.met 𝓤 H 𝓜 𝓖 𝓡)))

@@ -1,6 +1,9 @@
 -- `lookup::visit_page` meets its contract: the page is searched only if it is good, and then it lies within the buffer.
 -- Assumes nothing.
+use Prim.Native.Nat.{ℕ}
 use mathlib.Core.Path.{_≡_}
+use mathlib.Core.Bool.{Bool}
+use mathlib.Core.List.{List}
 use native.Mathlib.Omega.{arith}
 use lib.ListN.{length}
 use Rattle.basis.specs.Tests.{passed, failed}
@@ -16,10 +19,14 @@ use Rattle.lookup.proofs.visit_page.Tie as tie
 abbrev start : tie.After-page-good → tie.Start
 start c = c .before .before .before .before
 
+-- the test with the file's size put in, of any values
+sized : (b : List ℕ) (k size p : ℕ) (first last r : Bool) → r ≡ pageGood b k size p first last → size ≡ fileSize b → r ≡ pageGood b k (fileSize b) p first last
+sized b k size p first last r good e = rw e at good
+
 -- what the test of the page says
 tested : (c : tie.After-page-good) → let args = start c .args in
     c .page-good .result ≡ pageGood (args .index .now) (length (args .key .now)) (fileSize (args .index .now)) (args .page .0) (args .first) (args .last)
-tested c = cc (c .page-good .ensures, c .before .file-size .ensures)
+tested c = sized _ _ _ _ _ _ _ (c .page-good .ensures) (c .before .file-size .ensures)
 
 file-size-requires : tie.Need-file-size-requires
 file-size-requires c κs = good-header _ (c .before .before .pre .0) .long

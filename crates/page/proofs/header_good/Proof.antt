@@ -1,14 +1,27 @@
 -- `page::header_good` meets its contract: the length is tested before the header is read, and then test for test it is the rule.
 -- Assumes nothing.
+use Prim.Native.Nat.{ℕ}
+use mathlib.Core.Path.{_≡_}
+use mathlib.Core.Bool.{Bool, true, _&&_}
+use mathlib.Core.List.{List}
+use lib.ListN.{length}
+use lib.Dec.{leb, eqb}
 use borrow.Author.Tests.{le-leb, lt-leb}
 use borrow.Author.Needs.{needs}
-use Rattle.page.specs.Header.{headerGood}
+use Rattle.page.specs.Header.{pageSize, fileSize, rootOffset, keyLength, freePointer, features, sizeGood, isPage, keyLengthGood, freeGood, goodFeatures, headerGood}
 use Rattle.page.proofs.header_good.Statement.{statement}
 use Rattle.page.proofs.header_good.Tie as tie
 
 -- the place past the test of the length
 abbrev long-enough : tie.After-byte → tie.Else1
 long-enough c = c .before .before .before .before .before .before .before .before .before
+
+-- the tests' answers give the rule's, of any values
+header-tested : (b : List ℕ) (size root k free byte : ℕ) (a p l f : Bool) → leb pageSize (length b) ≡ true → size ≡ fileSize b → root ≡ rootOffset b
+    → k ≡ keyLength b → free ≡ freePointer b → byte ≡ features b → a ≡ sizeGood (length b) size → p ≡ isPage size root → l ≡ keyLengthGood k
+    → f ≡ freeGood size free → a && (p && (l && (f && eqb byte goodFeatures))) ≡ headerGood b
+unfolding headerGood
+header-tested b size root k free byte a p l f long s r n e g ta tp tl tf = rw (long, ta, tp, tl, tf, s, r, n, e, g)
 
 returns : tie.Need-returns
 unfolding headerGood
@@ -43,7 +56,14 @@ byte-requires c κs = search needs
 
 returns-2 : tie.Need-returns-2
 unfolding headerGood
-returns-2 c = rw (le-leb _ _ (long-enough c .if1 .left)) (cc)
+returns-2 c =
+    let free = c .before in
+    let key = free .before .before in
+    let root = key .before .before in
+    let size = root .before .before in
+    header-tested _ _ _ _ _ _ _ _ _ _ (le-leb _ _ (long-enough c .if1 .left)) (size .before .file-size .ensures) (root .before .root .ensures)
+    (key .before .key-length .ensures) (free .before .free-pointer .ensures) (c .byte .ensures .0)
+    (size .size-good .ensures) (root .is-page .ensures) (key .key-length-good .ensures) (free .free-good .ensures)
 
 pub header-good-spec : {M : Type 1} → statement M
 header-good-spec =

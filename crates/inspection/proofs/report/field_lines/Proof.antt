@@ -5,10 +5,10 @@ use Rattle.inspection.proofs.report.field_lines.Statement.{statement}
 use Rattle.inspection.proofs.report.field_lines.Tie as tie
 
 abbrev Inv-loop : tie.InvT-loop
-Inv-loop table fields j₀ j = Unit {0}
+Inv-loop line₀ table fields j₀ line j = Unit {0}
 
 abbrev μ-loop : tie.MeasureT-loop
-μ-loop table fields j₀ j = fields - j
+μ-loop line₀ table fields j₀ line j = fields - j
 
 loop-holds : tie.Need-loop-holds Inv-loop μ-loop
 loop-holds c = search needs

@@ -9,10 +9,10 @@ use Rattle.inspection.proofs.report.record_lines.Statement.{statement}
 use Rattle.inspection.proofs.report.record_lines.Tie as tie
 
 abbrev Inv-loop : tie.InvT-loop
-Inv-loop table memo has-memo records fields problems₀ number₀ problems number = (problems ≤ maxFields * number) × (number ≤ records)
+Inv-loop line₀ table memo has-memo records fields problems₀ number₀ line problems number = (problems ≤ maxFields * number) × (number ≤ records)
 
 abbrev μ-loop : tie.MeasureT-loop
-μ-loop table memo has-memo records fields problems₀ number₀ problems number = records - number
+μ-loop line₀ table memo has-memo records fields problems₀ number₀ line problems number = records - number
 
 -- the start of the function, from the start of a turn
 abbrev start : tie.In-loop Inv-loop μ-loop → tie.Start Inv-loop μ-loop
@@ -26,12 +26,12 @@ add-number c = search needs
 
 record-report-requires : tie.Need-record-report-requires Inv-loop μ-loop
 record-report-requires c κs =
-    let some = layout _ (start c .pre .0) .header .some in
+    let some = layout _ (start (c .before) .pre .0) .header .some in
     search needs
 
 add-problems : tie.Need-add-problems Inv-loop μ-loop
 add-problems c =
-    let few = layout _ (start (c .before) .pre .0) .header .few in
+    let few = layout _ (start (c .before .before) .pre .0) .header .few in
     omega (arith, c .record-report .ensures)
 
 loop-less : tie.Need-loop-less Inv-loop μ-loop
@@ -39,7 +39,7 @@ loop-less c = search needs
 
 loop-again : tie.Need-loop-again Inv-loop μ-loop
 loop-again c =
-    let few = layout _ (start (c .before) .pre .0) .header .few in
+    let few = layout _ (start (c .before .before) .pre .0) .header .few in
     (omega (arith, c .record-report .ensures), omega arith)
 
 returns : tie.Need-returns Inv-loop μ-loop

@@ -55,7 +55,10 @@ field-lines-requires : tie.Need-field-lines-requires
 field-lines-requires c κs = search needs
 
 record-lines-requires : tie.Need-record-lines-requires
-record-lines-requires c κs = let said = shaped (good-table (c .before .before .before .before)) in (said .table, said .records, said .fields)
+record-lines-requires c κs =
+    let known = c .before .before .before .before .before .before .before .before in
+    let said = shaped (good-table known) in
+    (said .table, said .records, said .fields)
 
 returns : tie.Need-returns
 returns c = search needs

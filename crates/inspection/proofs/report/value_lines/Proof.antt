@@ -6,10 +6,10 @@ use Rattle.inspection.proofs.report.value_lines.Statement.{statement}
 use Rattle.inspection.proofs.report.value_lines.Tie as tie
 
 abbrev Inv-loop : tie.InvT-loop
-Inv-loop table memo has-memo number last problems₀ j₀ problems j = (problems ≤ j) × (j ≤ last)
+Inv-loop line₀ table memo has-memo number last problems₀ j₀ line problems j = (problems ≤ j) × (j ≤ last)
 
 abbrev μ-loop : tie.MeasureT-loop
-μ-loop table memo has-memo number last problems₀ j₀ problems j = last - j
+μ-loop line₀ table memo has-memo number last problems₀ j₀ line problems j = last - j
 
 loop-holds : tie.Need-loop-holds Inv-loop μ-loop
 loop-holds c = search needs

@@ -1,0 +1,1 @@
+// What a call hands to C, as a record: see specs/Out.antt.

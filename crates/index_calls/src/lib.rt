@@ -1,0 +1,69 @@
+// What the calls on an index hand to C: the answer's number, and its values in out-parameters.
+use insert::Insertion;
+use page::RecordNumber;
+use refusal::ABSENT;
+use remove::Removal;
+ghost use mathlib.Core.Path.{_≡_};
+ghost use Rattle.lookup.specs.Lookup.{lookupRule};
+ghost use Rattle.insert.specs.Calls.{insertRule, insertionCode};
+ghost use Rattle.insert.specs.Fresh.{freshRule};
+ghost use Rattle.remove.specs.Calls.{removeRule};
+ghost use Rattle.handed.specs.Out.{out};
+ghost use Rattle.index_calls.specs.Answers.{found, lookupOut, insertionOut, removalOut};
+
+// The number of the answer of a call that writes an index.
+pub fn insertion_code(answer: Insertion) -> u32
+    ensures { λ r. ⌜ r ≡ insertionCode answer ⌝ }
+{
+    match answer {
+        Insertion::Accepted => 0,
+        Insertion::Refused(refusal) => refusal,
+    }
+}
+
+// Makes a fresh index.
+pub fn index_fresh(index: &mut [u8], key_length: u32, expression: &[u8]) -> u32
+    ensures { λ r. ⌜ insertionOut (freshRule (now (index .entry)) «key_length» (now (expression .entry))) ≡ out r (now (index .exit)) ⌝ }
+{
+    insertion_code(insert::fresh(index, key_length, expression))
+}
+
+// Looks a key up: the number of its record, and the pages visited, which are also written if the key is absent.
+pub fn index_lookup(index: &[u8], key: &[u8], number: &mut u32, pages: &mut u32) -> u32
+    ensures { λ r. ⌜
+        lookupOut (lookupRule (now (index .entry)) (now (key .entry))) (found (now (number .entry)) (now (pages .entry)))
+        ≡ out r (found (now (number .exit)) (now (pages .exit)))
+        ⌝ }
+{
+    let answer = lookup::lookup(index, key);
+    match answer {
+        lookup::Answer::Found(at, visited) => {
+            *number = at.0;
+            *pages = visited;
+            0
+        }
+        lookup::Answer::Absent(searched) => {
+            *pages = searched;
+            ABSENT
+        }
+        lookup::Answer::Refused(refusal) => refusal,
+    }
+}
+
+// Inserts a key with its record's number.
+pub fn index_insert(index: &mut [u8], key: &[u8], number: u32) -> u32
+    ensures { λ r. ⌜ insertionOut (insertRule (now (index .entry)) (now (key .entry)) number) ≡ out r (now (index .exit)) ⌝ }
+{
+    insertion_code(insert::insert(index, key, RecordNumber(number)))
+}
+
+// Strikes a key off.
+pub fn index_remove(index: &mut [u8], key: &[u8]) -> u32
+    ensures { λ r. ⌜ removalOut (removeRule (now (index .entry)) (now (key .entry))) ≡ out r (now (index .exit)) ⌝ }
+{
+    let answer = remove::remove(index, key);
+    match answer {
+        Removal::Accepted => 0,
+        Removal::Refused(refusal) => refusal,
+    }
+}
