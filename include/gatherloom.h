@@ -10,7 +10,7 @@
    Stack: how many bytes a call takes at most, beside those of memcpy and memset, rounded up. tests/c/stack reads them from the archive and compares.
        gl_interface 16, gl_index_fresh 64, gl_number_write 96, gl_number_read 128, gl_table_check 256, gl_table_shape 256, gl_fields 256, gl_walk 256,
        gl_table_set_date 256, gl_table_extent 256, gl_table_append 320, gl_read_logical 384, gl_text_part 384, gl_read_number 416, gl_read_date 416,
-       gl_index_lookup 1792, gl_index_audit 4608, gl_match 4864, gl_dilute 4864, gl_index_remove 9216, gl_index_insert 10752, gl_table_lay_out 13056
+       gl_index_lookup 1792, gl_index_audit 2560, gl_match 2816, gl_dilute 2816, gl_index_remove 9216, gl_index_insert 10752, gl_table_lay_out 13056
 
    The archive is for x86-64 Linux and the System V calling convention. It needs memcpy and memset alone, allocates no memory, has no writable data and is
    position independent. It uses SSE registers and the red zone below the stack pointer, which Linux keeps for user programs: kernel code can't call it. */

@@ -11,10 +11,13 @@ abbrev begun : tie.After-page-fits → tie.After-start
 begun c = c .before .before .before
 
 abbrev start : tie.After-page-fits → tie.Start
-start c = begun c .before .before .before .before
+start c = begun c .before .before .before
 
 leaf-at-requires : tie.Need-leaf-at-requires
 leaf-at-requires c κs = search needs
+
+sub-start : tie.Need-sub-start
+sub-start c = search needs
 
 start-requires : tie.Need-start-requires
 start-requires c κs = search needs
@@ -25,36 +28,30 @@ attribute-of-requires c κs = search needs
 page-fits-requires : tie.Need-page-fits-requires
 page-fits-requires c κs = search needs
 
-mark-page-requires : tie.Need-mark-page-requires
-mark-page-requires c κs =
-    let fit = c .before in
-    let entry = start fit in
-    fits-within _ _ _ _ _ (entry .args .marks .now) _ _ _ (fit .page-fits .ensures) (entry .pre .0) (entry .pre .1)
+meet-page-requires : tie.Need-meet-page-requires
+meet-page-requires c κs = fits-within _ _ _ _ _ _ _ _ (c .page-fits .ensures) (start c .pre .0)
 
 closed-requires : tie.Need-closed-requires
 closed-requires c κs = search needs
 
-same-length : tie.Need-same-length
-same-length c = search needs
-
 returns : tie.Need-returns
 returns c =
-    let done = c .before .before .before in
-    let fit = done .before .before in
+    let done = c .before in
+    let fit = done .before in
     let level = begun fit in
-    root-closed _ _ _ _ (start fit .args .root) _ (level .start .result) (done .mark-page .result) (c .closed .result) (start fit .args .marks .now) _
-    (level .before .leaf-at .ensures) (level .start .ensures) (c .closed .ensures) _ (fit .before .attribute-of .ensures) (fit .page-fits .ensures)
-    (done .mark-page .ensures)
+    root-closed _ _ _ _ (start fit .args .root) _ _ (level .start .result) (done .meet-page .result) (c .closed .result)
+    (level .before .leaf-at .ensures) (c .closed .ensures) _ (start fit .pre .1) (level .start .ensures) (fit .before .attribute-of .ensures)
+    (fit .page-fits .ensures) (done .meet-page .ensures)
 
 pub root-level-spec : {M : Type 1} → statement M
 root-level-spec =
     tie.close
     (tie.spec
     leaf-at-requires
+    sub-start
     start-requires
     attribute-of-requires
     page-fits-requires
-    mark-page-requires
+    meet-page-requires
     closed-requires
-    same-length
     returns)
