@@ -38,7 +38,7 @@ typedef struct { size_t length, alike; } shape;
 
 static const shape shapes[] = {{5, 0}, {10, 0}, {10, 6}, {15, 8}, {100, 0}, {100, 96}};
 
-enum { PAGE = 512, HALF = GL_INDEX_MAX / 2, LOOKUPS = 2000, WRITES = 4 };
+enum { PAGE = 512, WHOLE = 1048576, HALF = WHOLE / 2, LOOKUPS = 2000, WRITES = 4 };
 
 static void fail(const char *why)
 {
@@ -85,11 +85,11 @@ static void load_index(const char *folder, shape s, size_t size, uint8_t *index)
 
 static void make_indexes(const char *folder, shape s)
 {
-    static uint8_t index[GL_INDEX_MAX];
+    static uint8_t index[WHOLE];
     uint8_t key[GL_KEY_MAX];
     uint32_t record = 0;
     gl_index_fresh(index, sizeof index, (uint32_t)s.length, (const uint8_t *)"KEY", 3);
-    for (size_t size = HALF; size <= GL_INDEX_MAX; size *= 2) {
+    for (size_t size = HALF; size <= WHOLE; size *= 2) {
         uint32_t answer;
         do {
             random_key(s, key);
@@ -125,7 +125,7 @@ typedef struct {
 static uint64_t run_audit(const archive *a, shape s, uint8_t *index, const uint8_t *keys)
 {
     (void)s, (void)keys;
-    return a->audit(index, GL_INDEX_MAX);
+    return a->audit(index, WHOLE);
 }
 
 static uint64_t run_lookups(const archive *a, shape s, uint8_t *index, const uint8_t *keys)
@@ -133,7 +133,7 @@ static uint64_t run_lookups(const archive *a, shape s, uint8_t *index, const uin
     uint64_t sum = 0;
     for (size_t i = 0; i < LOOKUPS; i++) {
         uint32_t record = 0, pages = 0;
-        sum += a->lookup(index, GL_INDEX_MAX, keys + i * s.length, s.length, &record, &pages);
+        sum += a->lookup(index, WHOLE, keys + i * s.length, s.length, &record, &pages);
         sum += record + pages;
     }
     return sum;
@@ -143,7 +143,7 @@ static uint64_t run_insertions(const archive *a, shape s, uint8_t *index, const 
 {
     uint64_t sum = 0;
     for (size_t i = 0; i < WRITES; i++)
-        sum += a->insert(index, GL_INDEX_MAX, keys + i * s.length, s.length, 1);
+        sum += a->insert(index, WHOLE, keys + i * s.length, s.length, 1);
     return sum;
 }
 
@@ -151,7 +151,7 @@ static uint64_t run_removals(const archive *a, shape s, uint8_t *index, const ui
 {
     uint64_t sum = 0;
     for (size_t i = 0; i < WRITES; i++)
-        sum += a->remove(index, GL_INDEX_MAX, keys + i * s.length, s.length);
+        sum += a->remove(index, WHOLE, keys + i * s.length, s.length);
     return sum;
 }
 
@@ -174,8 +174,8 @@ static double now(void)
 
 static void time_call(const call *c, shape s, const uint8_t *made, int samples)
 {
-    static uint8_t index[GL_INDEX_MAX], keys[LOOKUPS * GL_KEY_MAX];
-    size_t size = c->writes ? HALF : GL_INDEX_MAX;
+    static uint8_t index[WHOLE], keys[LOOKUPS * GL_KEY_MAX];
+    size_t size = c->writes ? HALF : WHOLE;
     double best[2] = {1e18, 1e18};
     memcpy(index, made, size);
     if (c->present)
@@ -203,9 +203,9 @@ static void time_call(const call *c, shape s, const uint8_t *made, int samples)
 
 static void time_calls(const char *folder, shape s, int samples)
 {
-    static uint8_t half[HALF], whole[GL_INDEX_MAX];
+    static uint8_t half[HALF], whole[WHOLE];
     load_index(folder, s, HALF, half);
-    load_index(folder, s, GL_INDEX_MAX, whole);
+    load_index(folder, s, WHOLE, whole);
     for (size_t i = 0; i < sizeof calls / sizeof *calls; i++)
         if (calls[i].run != run_removals || archives[1].remove != NULL)
             time_call(&calls[i], s, calls[i].writes ? half : whole, samples);

@@ -3,7 +3,7 @@
 // the free list. The children of each page are counted before they are looked at: more pages than the file has are refused. No page can be met twice, so that
 // every page was met if as many were as the file has. The second pass, from the leaves up, checks the keys above pages, once the links are known to be good and
 // leaf keys to ascend: each against the last leaf key under its child, which is the child's own last key if the level below is exact, and, if it differs,
-// against the first under the next child: at most 10 steps down. So nothing is copied or kept, each page is checked once in each pass, and the work is linear
+// against the first under the next child: at most 14 steps down. So nothing is copied or kept, each page is checked once in each pass, and the work is linear
 // in the file's size on any bytes.
 use octets::Ordering;
 use page::Page;
@@ -646,7 +646,7 @@ fn upper_levels(index: &[u8], k: usize, size: usize, height: u32, first: PageOff
     upper_pages(index, k, size, steps(below.exact, under), under, first)
 }
 
-// The number of levels under the root, 10 at most, which the first children show.
+// The number of levels under the root, 14 at most, which the first children show.
 fn height_of(index: &[u8], k: usize, size: usize, root: PageOffset) -> u32
     requires { ⌜ InFile (now index) k size ⌝ }
     ensures { λ r. ⌜ r ≡ heightOf (now (index .entry)) k size (maxLevels - 1) (root .0) ⌝ }
