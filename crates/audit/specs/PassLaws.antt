@@ -1,12 +1,13 @@
 -- Laws: the audit's loops over pages, children and levels. Cited by the proofs of the functions that have these loops. Assumes nothing.
 use Prim.Native.Nat.{ℕ, zero, suc, _+_, _-_, _≤_, _<_}
 use mathlib.Core.Path.{_≡_, refl, sym, ap, _∙_}
-use mathlib.Core.Bool.{Bool, true, false, not, _&&_}
+use mathlib.Core.Bool.{Bool, true, false, cond, not, _&&_}
 use mathlib.Core.List.{List, [], _∷_, map}
 use native.Mathlib.Omega.{arith}
 use lib.ListN.{length, length-map}
+use lib.Dec.{leb}
 use borrow.Author.Tests.{le-leb}
-use Rattle.basis.specs.Tests.{contra}
+use Rattle.basis.specs.Tests.{either, contra}
 use Rattle.page.specs.Header.{maxLevels, isPage, rootOffset, freePointer, fileSize, keyLength, headerGood}
 use Rattle.page.specs.HeaderLaws.{good-header}
 use Rattle.page.specs.Page.{rightAt, numberAt}
@@ -14,37 +15,46 @@ use Rattle.page.specs.Reading.{entriesAt}
 use Rattle.page.specs.ReadingLaws.{entriesFrom, entries-are}
 use Rattle.page.specs.Children.{isLeaf, childrenOf, firstChild}
 use Rattle.page.specs.declared.PageOffset.{PageOffset}
-use Rattle.sound.specs.Rule.{laterPages, Progress, Level, attributeOf, start, chain, pageFits, counted, rowsUnder}
+use Rattle.sound.specs.Rule.{laterPages, Progress, Level, attributeOf, start, refused, chain, pageFits, counted, rowsUnder}
 use Rattle.sound.specs.Rule.{checkPage, checkPages, checkRows, closed, checkLevel, rootLevel, nextLevel, levelsUnder, checkFree, shapeGood}
 use Rattle.audit.specs.declared.Progress as declared-progress
 use Rattle.audit.specs.declared.Level as declared-level
-use Rattle.audit.specs.State.{InFile, meetPage, progressOf, levelOf, startAt, closedAt}
+use Rattle.audit.specs.State.{InFile, meetPage, progressOf, levelOf, startAt, refusedAt, closedAt}
 use Rattle.audit.specs.EntryLaws.{from-on, from-end}
-use Rattle.audit.specs.StepLaws.{page-checked}
+use Rattle.audit.specs.StepLaws.{page-met, page-refused}
+
+-- of a good progress and one that is refused, a test chose the one that is not good
+chosen-bad : (t : Bool) (x : Progress) → x .good ≡ true → cond t x refused .good ≡ false → cond t x refused ≡ refused
+chosen-bad true x g e = contra g e
+chosen-bad false x g e = refl
 
 module _ (b : List ℕ) (k size a : ℕ) where
-  -- a pass that was refused stays as it is
-  page-stopped : (p : ℕ) (s : Progress) → s .good ≡ false → checkPage b k size a p s ≡ s
-  unfolding checkPage
-  page-stopped p s e = rw e
+  -- a pass that was refused stays so
+  pages-stopped : (ps : List ℕ) → checkPages b k size a ps refused ≡ refused
+  unfolding checkPage checkPages
+  pages-stopped [] = refl
+  pages-stopped (p ∷ ps) = pages-stopped ps
 
-  pages-stopped : (ps : List ℕ) (s : Progress) → s .good ≡ false → checkPages b k size a ps s ≡ s
-  unfolding checkPages
-  pages-stopped [] s e = refl
-  pages-stopped (p ∷ ps) s e = ap (checkPages b k size a ps) (page-stopped p s e) ∙ pages-stopped ps s e
+  rows-stopped : (rs : List (List ℕ)) → checkRows b k size a rs refused ≡ refused
+  unfolding counted checkRows
+  rows-stopped [] = refl
+  rows-stopped (r ∷ rs) = ap (checkRows b k size a rs) (pages-stopped r) ∙ rows-stopped rs
 
-  -- so does one over rows
-  count-stopped : (n : ℕ) (s : Progress) → s .good ≡ false → counted n s ≡ s
+  -- a count and pages after which a pass is not good any more refused it
+  count-bad : (n : ℕ) (s : Progress) → counted n s .good ≡ false → counted n s ≡ refused
   unfolding counted
-  count-stopped n s e = rw e
+  count-bad n s e = chosen-bad (s .good && leb n (s .left)) _ refl e
 
-  rows-stopped : (rs : List (List ℕ)) (s : Progress) → s .good ≡ false → checkRows b k size a rs s ≡ s
-  unfolding checkRows
-  rows-stopped [] s e = refl
-  rows-stopped (r ∷ rs) s e =
-      ap (λ (t : Progress). checkRows b k size a rs (checkPages b k size a r t)) (count-stopped (length r) s e)
-      ∙ ap (checkRows b k size a rs) (pages-stopped r s e)
-      ∙ rows-stopped rs s e
+  page-bad : (p : ℕ) (s : Progress) → checkPage b k size a p s .good ≡ false → checkPage b k size a p s ≡ refused
+  unfolding checkPage
+  page-bad p s e = chosen-bad (s .good && pageFits b k size a p (s .last) (s .next)) _ refl e
+
+  pages-refused : (ps : List ℕ) (s : Progress) → s .good ≡ true → checkPages b k size a ps s .good ≡ false → checkPages b k size a ps s ≡ refused
+  unfolding checkPages
+  pages-refused [] s g e = contra g e
+  pages-refused (p ∷ ps) s g e =
+      let t = checkPage b k size a p s in
+      either (t .good) (λ h. pages-refused ps t h e) (λ h. ap (checkPages b k size a ps) (page-bad p s h) ∙ pages-stopped ps)
 
   -- the loop over a page's n entries: the children from entry i on, from the state s, come to what all children come to
   abbrev pub childrenFrom : ℕ → ℕ → ℕ → List ℕ
@@ -58,9 +68,6 @@ module _ (b : List ℕ) (k size a : ℕ) where
         → checkPages b k size a (childrenOf b k size p) s₀ ≡ checkPages b k size a (childrenFrom p (n - i) i) s
     children-all en = rw (entries-are b k size p n en) inv
 
-    pub children-stop : n ≡ length (entriesAt k size b p) → s .good ≡ false → checkPages b k size a (childrenOf b k size p) s₀ ≡ s
-    children-stop en e = children-all en ∙ pages-stopped (childrenFrom p (n - i) i) s e
-
     pub children-end : n ≡ length (entriesAt k size b p) → n ≤ i → checkPages b k size a (childrenOf b k size p) s₀ ≡ s
     unfolding checkPages
     children-end en h = children-all en ∙ rw (from-end b k p n i h)
@@ -68,6 +75,11 @@ module _ (b : List ℕ) (k size a : ℕ) where
     pub children-on : (c : ℕ) (u : Progress) → i < n → c ≡ numberAt b k p i → checkPage b k size a c s ≡ u → ChildrenLeft p n (i + 1) s₀ u
     unfolding checkPages
     children-on c u h ec e = inv ∙ rw (from-on b k p n i h, ← ec) (ap (checkPages b k size a (childrenFrom p (n - (i + 1)) (i + 1))) e)
+
+    -- a child that does not fit
+    pub children-stop : n ≡ length (entriesAt k size b p) → (c : ℕ) → i < n → c ≡ numberAt b k p i → checkPage b k size a c s ≡ refused
+        → checkPages b k size a (childrenOf b k size p) s₀ ≡ refused
+    children-stop en c h ec e = rw (entries-are b k size p n en) (children-on c refused h ec e ∙ pages-stopped (childrenFrom p (n - (i + 1)) (i + 1)))
 
   -- the loop over the pages of a level, with at most `left` pages left: the rows of the pages from p on, from the state s, come to what all rows come to
   abbrev rowsFrom : ℕ → ℕ → List (List ℕ)
@@ -107,12 +119,19 @@ module _ (b : List ℕ) (k size a : ℕ) where
       unfolding checkRows
       pages-on q u eq eu = inv ∙ rw (chain-some p left q more e eq) (ap (checkRows b k size a (rowsFrom (left - 1) q)) (row u eu))
 
-      pub pages-bad : (u : Progress) → checkPages b k size a (childrenOf b k size p) t ≡ u → u .good ≡ false
+      rows-refused : checkPages b k size a (childrenOf b k size p) t ≡ refused → checkRows b k size a (rowsUnder b k size first) s₀ ≡ refused
+      rows-refused e = pages-on (rightAt b p) refused refl e ∙ rows-stopped (rowsFrom (left - 1) (rightAt b p))
+
+      pub pages-bad : t .good ≡ true → (u : Progress) → checkPages b k size a (childrenOf b k size p) t ≡ u → u .good ≡ false
           → checkRows b k size a (rowsUnder b k size first) s₀ ≡ u
-      pages-bad u eu g = pages-on (rightAt b p) u refl eu ∙ rows-stopped (rowsFrom (left - 1) (rightAt b p)) u g
+      pages-bad g u eu f =
+          let e = pages-refused (childrenOf b k size p) t g (ap (λ (v : Progress). v .good) eu ∙ f) in
+          rows-refused e ∙ sym e ∙ eu
 
       pub pages-over : t .good ≡ false → checkRows b k size a (rowsUnder b k size first) s₀ ≡ t
-      pages-over g = pages-bad t (pages-stopped (childrenOf b k size p) t g) g
+      pages-over f =
+          let e : t ≡ refused = sym et ∙ count-bad n s (ap (λ (v : Progress). v .good) et ∙ f) in
+          rows-refused (ap (checkPages b k size a (childrenOf b k size p)) e ∙ pages-stopped (childrenOf b k size p)) ∙ sym e
 
 -- the level v that a pass over the rows of a level, from s₀ to s, comes to; the root is counted before s₀
 module _ (b : List ℕ) (k size a : ℕ) (first : PageOffset) (left : ℕ) (leaf : Bool) (s₀ s : declared-progress.Progress) (v : declared-level.Level)
@@ -125,27 +144,36 @@ module _ (b : List ℕ) (k size a : ℕ) (first : PageOffset) (left : ℕ) (leaf
   unfolding counted
   root-counted some = rw (le-leb 1 left some)
 
-  pub root-closed : (f : Bool) → 0 < left → s₀ ≡ startAt first (left - 1) → a ≡ attributeOf true leaf
-      → f ≡ pageFits b k size a (first .0) (s₀ .last .0) (first .0) → meetPage b (first .0) f (progressOf s₀) ≡ progressOf s
-      → rootLevel b k size (first .0) left ≡ levelOf v
-  unfolding rootLevel checkPages checkRows
-  root-closed f some e₀ ea ef e =
-      let next : s₀ .next .0 ≡ first .0 = ap (λ (u : declared-progress.Progress). u .next .0) e₀ in
-      let good : s₀ .good ≡ true = ap (λ (u : declared-progress.Progress). u .good) e₀ in
-      let met : checkPage b k size a (first .0) (progressOf s₀) ≡ progressOf s =
-      page-checked b k size a (first .0) f (progressOf s₀) (progressOf s) good (rw next ef) e in
-      level-closed true ((first .0 ∷ []) ∷ [])
-      (ap (checkPage b k size (attributeOf true leaf) (first .0)) (root-counted some ∙ ap progressOf (sym e₀)) ∙ (rw ea at met))
+  module _ (some : 0 < left) (e₀ : s₀ ≡ startAt first (left - 1)) (ea : a ≡ attributeOf true leaf) where
+    root-checked : checkPage b k size a (first .0) (progressOf s₀) ≡ progressOf s → rootLevel b k size (first .0) left ≡ levelOf v
+    unfolding rootLevel checkPages checkRows
+    root-checked e =
+        level-closed true ((first .0 ∷ []) ∷ [])
+        (ap (checkPage b k size (attributeOf true leaf) (first .0)) (root-counted some ∙ ap progressOf (sym e₀)) ∙ (rw ea at e))
+
+    -- the test of the root's page, with what its level starts with
+    root-test : (f : Bool) → pageFits b k size a (first .0) (s₀ .last .0) (first .0) ≡ f → pageFits b k size a (first .0) (s₀ .last .0) (s₀ .next .0) ≡ f
+    root-test f e = rw (ap (λ (u : declared-progress.Progress). u .next .0) e₀) e
+
+    good-start : s₀ .good ≡ true
+    good-start = ap (λ (u : declared-progress.Progress). u .good) e₀
+
+    pub root-met : pageFits b k size a (first .0) (s₀ .last .0) (first .0) ≡ true → progressOf s ≡ meetPage b (first .0) (progressOf s₀)
+        → rootLevel b k size (first .0) left ≡ levelOf v
+    root-met f e = root-checked (page-met b k size a (first .0) (progressOf s₀) good-start (root-test true f) ∙ sym e)
+
+    pub root-refused : pageFits b k size a (first .0) (s₀ .last .0) (first .0) ≡ false → s ≡ refusedAt → rootLevel b k size (first .0) left ≡ levelOf v
+    root-refused f e = root-checked (page-refused b k size a (first .0) (progressOf s₀) good-start (root-test false f) ∙ ap progressOf (sym e))
 
   pub next-closed : (above : ℕ) → s₀ ≡ startAt first left → first .0 ≡ firstChild b k size above → a ≡ attributeOf false leaf
       → checkRows b k size a (rowsUnder b k size above) (progressOf s₀) ≡ progressOf s → nextLevel b k size above left ≡ levelOf v
   unfolding nextLevel
   next-closed above e₀ ef ea e = rw (← ef) (level-closed false (rowsUnder b k size above) (rw (e₀, ea) at e))
 
--- the loop over the levels: the levels under v, `left` at most, come to what those under v₀ come to
+-- the loop over the levels: the levels under v, `left` at most, come to what those under v₀, n at most, come to
 module _ (b : List ℕ) (k size : ℕ) where
-  abbrev pub LevelsLeft : ℕ → Level → Level → Type 0
-  LevelsLeft left v₀ v = levelsUnder b k size (maxLevels - 1) v₀ ≡ levelsUnder b k size left v
+  abbrev pub LevelsLeft : ℕ → ℕ → Level → Level → Type 0
+  LevelsLeft n left v₀ v = levelsUnder b k size n v₀ ≡ levelsUnder b k size left v
 
   -- the audit goes on under a level that is good and whose pages are not leaves
   abbrev pub goesOn : Level → Bool
@@ -162,16 +190,26 @@ module _ (b : List ℕ) (k size : ℕ) where
   under-some zero v n e = absurd (n refl)
   under-some (suc l) v n e = let d : suc l - 1 ≡ l = omega arith in rw (e, levelsUnder, d)
 
-  module _ (left : ℕ) (v₀ v : Level) (inv : LevelsLeft left v₀ v) where
-    pub levels-stop : (r : Level) → r ≡ v₀ → goesOn v ≡ false → levelsUnder b k size (maxLevels - 1) r ≡ v
-    levels-stop r er e = rw er (inv ∙ under-none left v e)
+  -- the root's level r; the level u under it is checked ahead of the loop
+  module _ (r v : Level) (er : r ≡ v) where
+    pub top-alone : goesOn v ≡ false → levelsUnder b k size (maxLevels - 1) r ≡ v
+    top-alone e = rw er (under-none (maxLevels - 1) v e)
 
-    pub levels-end : (r : Level) → r ≡ v₀ → left ≡ 0 → levelsUnder b k size (maxLevels - 1) r ≡ v
+    pub top-on : goesOn v ≡ true → (u w : Level) → nextLevel b k size (v .first) (v .left) ≡ u → levelsUnder b k size (maxLevels - 2) u ≡ w
+        → levelsUnder b k size (maxLevels - 1) r ≡ w
+    top-on e u w eu ew =
+        rw er (under-some (maxLevels - 1) v (λ z. omega (arith, z)) e ∙ (ap (levelsUnder b k size (maxLevels - 2)) eu ∙ ew))
+
+  module _ (n left : ℕ) (v₀ v : Level) (inv : LevelsLeft n left v₀ v) where
+    pub levels-stop : goesOn v ≡ false → levelsUnder b k size n v₀ ≡ v
+    levels-stop e = inv ∙ under-none left v e
+
+    pub levels-end : left ≡ 0 → levelsUnder b k size n v₀ ≡ v
     unfolding levelsUnder
-    levels-end r er e = rw er (inv ∙ rw e)
+    levels-end e = inv ∙ rw e
 
-    pub levels-on : (u : Level) → (left ≡ 0 → ⊥) → goesOn v ≡ true → nextLevel b k size (v .first) (v .left) ≡ u → LevelsLeft (left - 1) v₀ u
-    levels-on u n e h = inv ∙ (under-some left v n e ∙ ap (levelsUnder b k size (left - 1)) h)
+    pub levels-on : (u : Level) → (left ≡ 0 → ⊥) → goesOn v ≡ true → nextLevel b k size (v .first) (v .left) ≡ u → LevelsLeft n (left - 1) v₀ u
+    levels-on u more e h = inv ∙ (under-some left v more e ∙ ap (levelsUnder b k size (left - 1)) h)
 
 -- the answer of the first pass: by its last level, and by the free list
 and-both : (x y z : Bool) → x && y ≡ false → false ≡ (x && (y && z))

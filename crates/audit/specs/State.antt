@@ -31,10 +31,6 @@ pub record InFile (b : List ℕ) (k size : ℕ) : Type 0 where
 pub record EntriesWithin (b : List ℕ) (k p n : ℕ) : Type 0 where
   pub each : (i : ℕ) → i < n → Within b k p (i + 1)
 
--- a page at p that fits lies within the buffer
-abbrev pub PageWithin : List ℕ → ℕ → Bool → Type 0
-PageWithin b p fits = fits ≡ true → p + pageSize ≤ length b
-
 -- the key that begins at z, or none if z is 0
 unfoldable pub keyFrom : List ℕ → ℕ → ℕ → Option (List ℕ)
 keyFrom b k z = cond (eqb z 0) none (some (window b z k))
@@ -47,9 +43,9 @@ leafEntry b k at z = not (eqb (be32 b (at + k)) 0) && isAbove (keyFrom b k z) (w
 abbrev pub upperKey : List ℕ → ℕ → ℕ → ℕ → ℕ → ℕ → ℕ → ℕ → rule.Keys
 upperKey b k size d h p n i = upperEntry b k size d h (keyAt b k p i, numberAt b k p i) (entriesFrom b k p (n - (i + 1)) (i + 1))
 
--- one page more, if the page fits
-unfoldable pub meetPage : List ℕ → ℕ → Bool → rule.Progress → rule.Progress
-meetPage b p fits s = cond fits (record { good = true; last = p; next = rightAt b p; left = s .left }) (rule.refused s)
+-- one page more, which fits
+abbrev pub meetPage : List ℕ → ℕ → rule.Progress → rule.Progress
+meetPage b p s = record { good = true; last = p; next = rightAt b p; left = s .left }
 
 -- the structs, as the test has them
 abbrev pub progressOf : Progress → rule.Progress
@@ -62,8 +58,8 @@ abbrev pub keysOf : Keys → rule.Keys
 keysOf r = record { good = r .good; exact = r .exact }
 
 -- a struct after a page that was not good, at the start of a level, and of a level at its end
-abbrev pub refusedAt : Progress → Progress
-refusedAt s = record { good = false; last = s .last; next = s .next; left = s .left }
+abbrev pub refusedAt : Progress
+refusedAt = record { good = false; last = record { 0 = noPage }; next = record { 0 = noPage }; left = 0 }
 
 abbrev pub startAt : PageOffset → ℕ → Progress
 startAt first left = record { good = true; last = record { 0 = noPage }; next = first; left = left }

@@ -1,5 +1,5 @@
 -- Laws: one page of the audit, by its tests. Cited by the proofs of the functions that check a page. Assumes nothing.
-use Prim.Native.Nat.{ℕ, _-_, _≤_, _<_}
+use Prim.Native.Nat.{ℕ, _+_, _-_, _≤_, _<_}
 use mathlib.Core.Path.{_≡_, refl, sym, _∙_}
 use mathlib.Core.Bool.{Bool, true, false, _&&_}
 use mathlib.Core.List.{List}
@@ -9,7 +9,7 @@ use lib.ListN.{length}
 use lib.Dec.{eqb}
 use borrow.Author.Tests.{le-leb, lt-leb}
 use Rattle.basis.specs.Tests.{contra, both}
-use Rattle.page.specs.Header.{isPage}
+use Rattle.page.specs.Header.{pageSize, isPage}
 use Rattle.page.specs.HeaderLaws.{IsPage, is-page}
 use Rattle.page.specs.Page.{attributeAt, countAt, leftAt, rightAt, leafBit, countGood}
 use Rattle.page.specs.Reading.{entriesAt}
@@ -17,7 +17,7 @@ use Rattle.page.specs.ReadingLaws.{entriesFrom, entries-are}
 use Rattle.sound.specs.Rule as rule
 use Rattle.sound.specs.Rule.{lastOf, leafEntriesGood, entriesFit, pageFits, counted, checkPage}
 use Rattle.audit.specs.declared.Progress.{Progress}
-use Rattle.audit.specs.State.{InFile, PageWithin, keyFrom, meetPage, progressOf, refusedAt}
+use Rattle.audit.specs.State.{InFile, keyFrom, meetPage, progressOf, refusedAt}
 
 -- the entries of a page
 module _ (b : List ℕ) (k size a last p : ℕ) where
@@ -60,31 +60,29 @@ module _ (b : List ℕ) (k size a p last next : ℕ) where
     unfolding pageFits
     fits-then t r er = er ∙ rw (e, ← ex, ← ey, ← ez, ← ec) (and-true (eqb x a) c (eqb z last) (eqb next p) (entriesFit b k size a last p) t)
 
--- one page more, whose test was f
-module _ (b : List ℕ) (k size a p : ℕ) (f : Bool) where
-  pub fits-within : (last next : ℕ) → f ≡ pageFits b k size a p last next → InFile b k size → PageWithin b p f
+-- one page more
+module _ (b : List ℕ) (p : ℕ) where
+  pub page-read : (s : Progress) (n : ℕ) → n ≡ rightAt b p → record { good = true; last = p; next = n; left = s .left } ≡ meetPage b p (progressOf s)
+  page-read s n en = rw en
+
+module _ (b : List ℕ) (k size a p : ℕ) where
+  pub fits-within : (last next : ℕ) → pageFits b k size a p last next ≡ true → InFile b k size → p + pageSize ≤ length b
   unfolding pageFits
-  fits-within last next ef file t =
-      let page : IsPage size p = is-page size p (both (isPage size p) _ (sym ef ∙ t) .0) in
+  fits-within last next t file =
+      let page : IsPage size p = is-page size p (both (isPage size p) _ t .0) in
       omega arith
 
-  pub page-checked : (s t : rule.Progress) → s .good ≡ true → f ≡ pageFits b k size a p (s .last) (s .next) → meetPage b p f s ≡ t
-      → checkPage b k size a p s ≡ t
-  unfolding checkPage meetPage
-  page-checked s t g ef e = rw (g, ← ef) e
+  pub page-met : (s : rule.Progress) → s .good ≡ true → pageFits b k size a p (s .last) (s .next) ≡ true → checkPage b k size a p s ≡ meetPage b p s
+  unfolding checkPage
+  page-met s g f = rw (g, f)
 
-module _ (b : List ℕ) (p : ℕ) (s : Progress) (f : Bool) where
-  pub page-refused : f ≡ false → meetPage b p f (progressOf s) ≡ progressOf (refusedAt s)
-  unfolding meetPage
-  page-refused h = rw h
-
-  pub page-met : f ≡ true → (n : ℕ) → n ≡ rightAt b p → meetPage b p f (progressOf s) ≡ record { good = true; last = p; next = n; left = s .left }
-  unfolding meetPage
-  page-met h n en = rw (h, en)
+  pub page-refused : (s : rule.Progress) → s .good ≡ true → pageFits b k size a p (s .last) (s .next) ≡ false → checkPage b k size a p s ≡ rule.refused
+  unfolding checkPage
+  page-refused s g f = rw (g, f)
 
 -- n pages more
 module _ (n : ℕ) (s : Progress) (g : s .good ≡ true) where
-  pub count-refused : s .left < n → counted n (progressOf s) ≡ progressOf (refusedAt s)
+  pub count-refused : s .left < n → counted n (progressOf s) ≡ progressOf refusedAt
   unfolding counted
   count-refused h = rw (g, lt-leb n (s .left) h)
 

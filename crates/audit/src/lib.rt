@@ -25,7 +25,7 @@ ghost use Rattle.page.specs.Children.{childrenOf, firstChild};
 ghost use Rattle.sound.specs.Rule.{maxPages, laterPages, firstOf, lastOf, leafEntriesGood, entriesFit, pageFits, attributeOf, chain};
 ghost use Rattle.sound.specs.Rule.{counted, checkPages, checkRows, rowsUnder, rootLevel, nextLevel, levelsUnder, isFreePage, freeFits, checkFree, shapeGood};
 ghost use Rattle.sound.specs.Rule.{heightOf, down, lastChild, belowNext, upperEntries, upperPages, upperLevels, keysAboveGood, pagesGood};
-ghost use Rattle.audit.specs.State.{InFile, EntriesWithin, PageWithin, keyFrom, leafEntry, upperKey, meetPage, progressOf, levelOf, keysOf};
+ghost use Rattle.audit.specs.State.{InFile, EntriesWithin, keyFrom, leafEntry, upperKey, meetPage, progressOf, levelOf, keysOf};
 ghost use Rattle.audit.specs.State.{startAt, refusedAt, closedAt};
 
 // What is known of the pages met on a level: whether all were good, the last page met, the page that its right link names, and how many pages of the file are
@@ -155,17 +155,15 @@ fn page_fits(
     entries_fit(index, k, size, attribute, last, page)
 }
 
-// A page was not good, or too few were left: all else stays.
-fn refused(s: Progress) -> Progress
-    ensures { λ r. ⌜ r ≡ refusedAt s ⌝ }
+// A page was not good, or too few were left. Nothing else is kept: what is kept has to be at hand in the loop over the entries of leaves, since it ends there.
+fn refused() -> Progress
+    ensures { λ r. ⌜ r ≡ refusedAt ⌝ }
 {
-    let last = s.last;
-    let next = s.next;
     Progress {
         good: false,
-        last,
-        next,
-        left: s.left,
+        last: PageOffset(page::NO_PAGE),
+        next: PageOffset(page::NO_PAGE),
+        left: 0,
     }
 }
 
@@ -177,7 +175,7 @@ fn count_pages(s: Progress, n: usize) -> Progress
 {
     let left = s.left;
     if left < n {
-        return refused(s);
+        return refused();
     }
     let last = s.last;
     let next = s.next;
@@ -189,14 +187,11 @@ fn count_pages(s: Progress, n: usize) -> Progress
     }
 }
 
-// A page that was tested is the last page met, if it fits.
-fn meet_page(index: &[u8], page: PageOffset, fits: bool, s: Progress) -> Progress
-    requires { ⌜ PageWithin (now index) (page .0) fits ⌝ }
-    ensures { λ r. ⌜ meetPage (now (index .entry)) (page .0) fits (progressOf s) ≡ progressOf r ⌝ }
+// A page that fits is the last page met.
+fn meet_page(index: &[u8], page: PageOffset, s: Progress) -> Progress
+    requires { ⌜ page .0 + pageSize ≤ length (now index) ⌝ }
+    ensures { λ r. ⌜ progressOf r ≡ meetPage (now (index .entry)) (page .0) (progressOf s) ⌝ }
 {
-    if !fits {
-        return refused(s);
-    }
     let head = Page::at(index, page);
     let right = head.right;
     Progress {
@@ -217,7 +212,7 @@ fn check_children(
     count: usize,
     s: Progress,
 ) -> Progress
-    requires { ⌜ InFile (now index) k size × (count ≡ length (entriesAt k size (now index) (parent .0))) ⌝ }
+    requires { ⌜ InFile (now index) k size × (count ≡ length (entriesAt k size (now index) (parent .0))) × (s .good ≡ true) ⌝ }
     ensures { λ r. ⌜
         checkPages (now (index .entry)) k size attribute (childrenOf (now (index .entry)) k size (parent .0)) (progressOf s) ≡ progressOf r
         ⌝ }
@@ -225,14 +220,13 @@ fn check_children(
     let mut t = s;
     let mut i = 0;
     while i < count {
-        if !t.good {
-            return t;
-        }
         let child = page::child(index, k, parent, i);
         let last = t.last;
         let next = t.next;
-        let fits = page_fits(index, k, size, attribute, child, last, next);
-        t = meet_page(index, child, fits, t);
+        if !page_fits(index, k, size, attribute, child, last, next) {
+            return refused();
+        }
+        t = meet_page(index, child, t);
         i += 1;
     }
     t
@@ -324,9 +318,10 @@ fn root_level(index: &[u8], k: usize, size: usize, root: PageOffset, left: usize
     let leaf = page::leaf_at(index, size, root);
     let s = start(root, left - 1);
     let last = s.last;
-    let fits = page_fits(index, k, size, attribute_of(true, leaf), root, last, root);
-    let t = meet_page(index, root, fits, s);
-    closed(t, leaf, root)
+    if !page_fits(index, k, size, attribute_of(true, leaf), root, last, root) {
+        return closed(refused(), leaf, root);
+    }
+    closed(meet_page(index, root, s), leaf, root)
 }
 
 // Checks the level under the level whose first page is `above`, with `left` pages left.
@@ -347,15 +342,21 @@ fn next_level(index: &[u8], k: usize, size: usize, above: PageOffset, left: usiz
     closed(s, leaf, first)
 }
 
-// Checks the levels from the root down to the leaves, to the first that is not good, or to the 11th, with `pages` pages left.
+// Checks the levels from the root down to the leaves, to the first that is not good, or to the 15th, with `pages` pages left. The level under the root is
+// checked ahead of the loop: `next_level` has two callers so, and is compiled as a function of its own, whose loop over the entries of leaves has its registers.
 fn levels(index: &[u8], k: usize, size: usize, root: PageOffset, pages: usize) -> Level
     requires { ⌜ InFile (now index) k size × (0 < pages) ⌝ }
     ensures { λ r. ⌜
         levelsUnder (now (index .entry)) k size (maxLevels - 1) (rootLevel (now (index .entry)) k size (root .0) pages) ≡ levelOf r
         ⌝ }
 {
-    let mut level = root_level(index, k, size, root, pages);
-    let mut left = page::MAX_LEVELS - 1;
+    let top = root_level(index, k, size, root, pages);
+    if !(top.good & !top.leaf) {
+        return top;
+    }
+    let above = top.first;
+    let mut level = next_level(index, k, size, above, top.left);
+    let mut left = page::MAX_LEVELS - 2;
     while 0 < left {
         if !(level.good & !level.leaf) {
             return level;

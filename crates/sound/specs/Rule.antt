@@ -105,13 +105,13 @@ onward r after = elim (r .good) [ true ↦ after (r .exact) | false ↦ r ]
 abbrev pub start : ℕ → ℕ → Progress
 start first left = record { good = true; last = noPage; next = first; left = left }
 
--- a page was not good, or too few were left
-abbrev pub refused : Progress → Progress
-refused s = record { good = false; last = s .last; next = s .next; left = s .left }
+-- a page was not good, or too few were left: nothing else is kept, so that the loops over pages and entries have nothing to carry for it
+abbrev pub refused : Progress
+refused = record { good = false; last = noPage; next = noPage; left = 0 }
 
 -- n pages more, if as many are left
 unfoldable pub counted : ℕ → Progress → Progress
-counted n s = cond (s .good && leb n (s .left)) (record { good = true; last = s .last; next = s .next; left = s .left - n }) (refused s)
+counted n s = cond (s .good && leb n (s .left)) (record { good = true; last = s .last; next = s .next; left = s .left - n }) refused
 
 -- the pages from p on, n at most, each named by the right link of the one before it
 unfoldable pub chain : List ℕ → ℕ → ℕ → ℕ → List ℕ
@@ -155,7 +155,7 @@ module _ (b : List ℕ) (k size : ℕ) where
   -- one page more
   unfoldable pub checkPage : ℕ → ℕ → Progress → Progress
   checkPage a p s =
-      cond (s .good && pageFits a p (s .last) (s .next)) (record { good = true; last = p; next = rightAt b p; left = s .left }) (refused s)
+      cond (s .good && pageFits a p (s .last) (s .next)) (record { good = true; last = p; next = rightAt b p; left = s .left }) refused
 
   -- one page after another
   unfoldable pub checkPages : ℕ → List ℕ → Progress → Progress

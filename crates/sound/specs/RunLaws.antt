@@ -37,7 +37,7 @@ counted-took n s g l = rw (g, le-leb n (s .left) l)
 counted-good : (n : ℕ) (s : Progress) → counted n s .good ≡ true → (s .good ≡ true) × (n ≤ s .left)
 unfolding counted
 counted-good n s g =
-    let t = both (s .good) _ (picked (s .good && leb n (s .left)) (took n s) (refused s) refl g) in
+    let t = both (s .good) _ (picked (s .good && leb n (s .left)) (took n s) refused refl g) in
     (t .0, leb-true n (s .left) (t .1))
 
 -- a good progress, by its numbers
@@ -109,7 +109,7 @@ module _ (b : List ℕ) (k size a : ℕ) where
 
   page-test : (p : ℕ) (s : Progress) → checkPage b k size a p s .good ≡ true → tested p s ≡ true
   unfolding checkPage
-  page-test p s h = picked (tested p s) (moved p s) (refused s) refl h
+  page-test p s h = picked (tested p s) (moved p s) refused refl h
 
   page-moves : (p : ℕ) (s : Progress) → tested p s ≡ true → checkPage b k size a p s ≡ moved p s
   unfolding checkPage

@@ -72,7 +72,7 @@ returns-2 c =
 check-children-requires : tie.Need-check-children-requires Inv-loop μ-loop
 check-children-requires c κs =
     let found = entries (c .before .before) in
-    (start (at-loop (found .before)) .pre .0, found .entry-count .ensures)
+    (start (at-loop (found .before)) .pre .0, found .entry-count .ensures, not-false _ (c .if2 .left))
 
 returns-3 : tie.Need-returns-3 Inv-loop μ-loop
 returns-3 c =
@@ -83,8 +83,8 @@ returns-3 c =
     let loop = at-loop page .loop in
     let more = page .before .before .loop-test .taken in
     pages-bad _ _ _ _ _ (loop .parent .0) (loop .left) _ (progressOf (loop .t)) (loop .inv .2) (λ z. omega (arith, more, z)) (inside page) _
-    (found .entry-count .ensures) (progressOf (count .count-pages .result)) (count .count-pages .ensures) _ (done .check-children .ensures)
-    (not-true _ (c .if3 .taken))
+    (found .entry-count .ensures) (progressOf (count .count-pages .result)) (count .count-pages .ensures) (not-false _ (done .before .if2 .left)) _
+    (done .check-children .ensures) (not-true _ (c .if3 .taken))
 
 at-requires : tie.Need-at-requires Inv-loop μ-loop
 at-requires c κs =
