@@ -218,16 +218,16 @@ fn check_children(
         ⌝ }
 {
     let mut t = s;
-    let mut i = 0;
-    while i < count {
-        let child = page::child(index, k, parent, i);
+    let mut entry = 0;
+    while entry < count {
+        let child = page::child(index, k, parent, entry);
         let last = t.last;
         let next = t.next;
         if !page_fits(index, k, size, attribute, child, last, next) {
             return refused();
         }
         t = meet_page(index, child, t);
-        i += 1;
+        entry += 1;
     }
     t
 }

@@ -1,4 +1,4 @@
--- `audit::check_children` meets its contract. The loop's invariant: no child was bad, and the children from entry `i` on, from the state reached, come to what
+-- `audit::check_children` meets its contract. The loop's invariant: no child was bad, and the children from `entry` on, from the state reached, come to what
 -- all children come to.
 -- Assumes nothing.
 use Prim.Native.Nat.{_-_, _≤_}
@@ -17,13 +17,13 @@ use Rattle.audit.proofs.check_children.Statement.{statement}
 use Rattle.audit.proofs.check_children.Tie as tie
 
 abbrev Inv-loop : tie.InvT-loop
-Inv-loop index k size attribute parent count t₀ i₀ t i =
-    (i ≤ count)
+Inv-loop index k size attribute parent count t₀ entry₀ t entry =
+    (entry ≤ count)
     × (t .good ≡ true)
-    × ChildrenLeft index k size attribute (parent .0) count i (progressOf t₀) (progressOf t)
+    × ChildrenLeft index k size attribute (parent .0) count entry (progressOf t₀) (progressOf t)
 
 abbrev μ-loop : tie.MeasureT-loop
-μ-loop index k size attribute parent count t₀ i₀ t i = count - i
+μ-loop index k size attribute parent count t₀ entry₀ t entry = count - entry
 
 -- the places: where the function starts, past the child, inside the loop
 abbrev start : tie.At-loop Inv-loop μ-loop → tie.Start Inv-loop μ-loop
@@ -41,7 +41,7 @@ loop-holds c = (search needs, c .before .pre .2, rw sub-zero)
 child-requires : tie.Need-child-requires Inv-loop μ-loop
 child-requires c κs =
     let head = c .before in
-    entries-within _ _ _ _ _ (start head .pre .1) (start head .pre .0) .each (head .loop .i) (search needs)
+    entries-within _ _ _ _ _ (start head .pre .1) (start head .pre .0) .each (head .loop .entry) (search needs)
 
 page-fits-requires : tie.Need-page-fits-requires Inv-loop μ-loop
 page-fits-requires c κs = search needs
@@ -58,7 +58,7 @@ returns c =
     let loop = head .loop in
     let s = progressOf (loop .t) in
     let bad = page-refused _ _ _ _ _ s (loop .inv .1) (failed (fit .page-fits .ensures) (unfit .if1 .taken)) in
-    children-stop _ _ _ _ _ _ (loop .i) _ s (loop .inv .2) (start head .pre .1) _ (turn .loop-test .taken) (past-child fit .child .ensures) bad
+    children-stop _ _ _ _ _ _ (loop .entry) _ s (loop .inv .2) (start head .pre .1) _ (turn .loop-test .taken) (past-child fit .child .ensures) bad
     ∙ ap progressOf (sym (c .refused .ensures))
 
 meet-page-requires : tie.Need-meet-page-requires Inv-loop μ-loop
@@ -66,8 +66,8 @@ meet-page-requires c κs =
     let fit = c .before in
     fits-within _ _ _ _ _ _ _ (passed (fit .page-fits .ensures) (c .if1 .left)) (start (in-loop fit .before) .pre .0)
 
-add-i : tie.Need-add-i Inv-loop μ-loop
-add-i c = search needs
+add-entry : tie.Need-add-entry Inv-loop μ-loop
+add-entry c = search needs
 
 loop-less : tie.Need-loop-less Inv-loop μ-loop
 loop-less c = search needs
@@ -84,14 +84,14 @@ loop-again c =
     let met = page-met _ _ _ _ _ s (loop .inv .1) (passed (fit .page-fits .ensures) (tested .if1 .left)) ∙ sym (c .meet-page .ensures) in (
       omega (arith, more),
       ap (λ (u : rule.Progress). u .good) (c .meet-page .ensures),
-      children-on _ _ _ _ _ _ (loop .i) _ s (loop .inv .2) _ t more (past-child fit .child .ensures) met,
+      children-on _ _ _ _ _ _ (loop .entry) _ s (loop .inv .2) _ t more (past-child fit .child .ensures) met,
     )
 
 returns-2 : tie.Need-returns-2 Inv-loop μ-loop
 returns-2 c =
     let head = c .before in
     let loop = head .loop in
-    children-end _ _ _ _ _ _ (loop .i) _ (progressOf (loop .t)) (loop .inv .2) (start head .pre .1) (search needs)
+    children-end _ _ _ _ _ _ (loop .entry) _ (progressOf (loop .t)) (loop .inv .2) (start head .pre .1) (search needs)
 
 pub check-children-spec : {M : Type 1} → statement M
 check-children-spec =
@@ -105,7 +105,7 @@ check-children-spec =
     refused-requires
     returns
     meet-page-requires
-    add-i
+    add-entry
     loop-less
     loop-again
     returns-2)
