@@ -1,7 +1,6 @@
 -- Steps: the audit's own values, as its test has them, and what its inner functions ask of the buffer. No public contract cites these: a reader need not
 -- believe them.
 use Prim.Native.Nat.{ℕ, _+_, _-_, _≤_, _<_}
-use mathlib.Core.Path.{_≡_}
 use mathlib.Core.Bool.{Bool, true, false, cond, not, _&&_}
 use mathlib.Core.List.{List}
 use mathlib.Core.Option.{Option, none, some}
