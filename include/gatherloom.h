@@ -10,7 +10,7 @@
    Stack: how many bytes a call takes at most, beside those of memcpy and memset, rounded up. tests/c/stack reads them from the archive and compares.
        gl_interface 16, gl_index_fresh 64, gl_number_write 96, gl_number_read 128, gl_table_check 256, gl_table_shape 256, gl_fields 256, gl_walk 256,
        gl_table_set_date 256, gl_table_extent 256, gl_table_append 320, gl_read_logical 384, gl_text_part 384, gl_read_number 416, gl_read_date 416,
-       gl_index_lookup 2304, gl_index_audit 3072, gl_match 3456, gl_dilute 3456, gl_index_remove 4096, gl_index_insert 5120, gl_table_lay_out 13056
+       gl_index_lookup 2304, gl_index_audit 3072, gl_match 3456, gl_dilute 3456, gl_index_remove 4096, gl_table_lay_out 4608, gl_index_insert 5120
 
    The archive is for x86-64 Linux and the System V calling convention. It needs memcpy and memset alone, allocates no memory, has no writable data and is
    position independent. It uses SSE registers and the red zone below the stack pointer, which Linux keeps for user programs: kernel code can't call it. */
@@ -107,7 +107,7 @@ enum gl_refusal {
 #define GL_EXPRESSION_MAX 220     /* bytes of a key expression, at least 1, each 0x20 to 0x7E */
 #define GL_TARGET_MAX 1000000000  /* thousandths of nM of a target concentration, at least 1 */
 #define GL_FINAL_MAX 10000        /* tenths of a microlitre of a final volume, at least 1 */
-#define GL_STACK_MAX 13312        /* bytes of stack that are enough for any call */
+#define GL_STACK_MAX 6144         /* bytes of stack that are enough for any call */
 
 /* ---- The table. */
 
