@@ -10,7 +10,7 @@
    Stack: how many bytes a call takes at most, beside those of memcpy and memset, rounded up. tests/c/stack reads them from the archive and compares.
        gl_interface 16, gl_index_fresh 64, gl_number_write 96, gl_number_read 128, gl_table_check 256, gl_table_shape 256, gl_fields 256, gl_walk 256,
        gl_table_set_date 256, gl_table_extent 256, gl_table_append 320, gl_read_logical 384, gl_text_part 384, gl_read_number 416, gl_read_date 416,
-       gl_index_lookup 1792, gl_index_audit 4608, gl_match 4864, gl_dilute 4864, gl_index_remove 9216, gl_index_insert 10752, gl_table_lay_out 13056
+       gl_index_lookup 2304, gl_index_audit 3072, gl_match 3456, gl_dilute 3456, gl_index_remove 4096, gl_table_lay_out 4608, gl_index_insert 5120
 
    The archive is for x86-64 Linux and the System V calling convention. It needs memcpy and memset alone, allocates no memory, has no writable data and is
    position independent. It uses SSE registers and the red zone below the stack pointer, which Linux keeps for user programs: kernel code can't call it. */
@@ -26,8 +26,8 @@ extern "C" {
 
 /* ---- Versions. */
 
-#define GL_VERSION "0.9.0" /* raised with every change, see docs/CHANGES.md */
-#define GL_INTERFACE 1     /* raised with every change of the form of a call or a struct */
+#define GL_VERSION "0.10.0" /* raised with every change, see docs/CHANGES.md */
+#define GL_INTERFACE 1      /* raised with every change of the form of a call or a struct */
 
 /* The GL_INTERFACE of the archive. A host compares it with its own before the first call: if they differ, a call may write past what it is lent. */
 uint32_t gl_interface(void);
@@ -75,8 +75,8 @@ enum gl_refusal {
     GL_REFUSED_KEY_LENGTH = 27,             /* key length: not the index's; for a fresh index, not 1 to 100; for the match, not the field's length */
     GL_REFUSED_RECORD_NUMBER_ZERO = 28,     /* record number 0: records count from 1 */
     GL_REFUSED_KEY_PRESENT = 29,            /* key present: the index has the key already, and keeps its record */
-    GL_REFUSED_NO_ROOM = 30,                /* no room: lend a longer buffer; past 16,777,216 bytes a table is full, past 1,048,576 or 11 levels an index; after
-                                               many removals a fresh index with the same keys may have room (gl_index_remove) */
+    GL_REFUSED_NO_ROOM = 30,                /* no room: lend a longer buffer; past 16,777,216 bytes a table or an index is full, past 15 levels an index too;
+                                               after many removals a fresh index with the same keys may have room (gl_index_remove) */
     GL_REFUSED_INDEX_AND_TABLE_DIFFER = 31, /* index and table differ: make the index anew from the table */
     GL_REFUSED_CONTROL_BYTE = 32,           /* control byte in the key: a byte below 0x20 in a key to insert; was the barcode scanned well? */
     GL_REFUSED_KEY_ABSENT = 33,             /* key absent: the key to strike off is not in the index */
@@ -100,14 +100,14 @@ enum gl_refusal {
 #define GL_NUMBER_WIDTH_MAX 20    /* bytes of a numeric text, at least 1 */
 #define GL_NUMBER_DECIMALS_MAX 15 /* and at most the width less 2 */
 #define GL_NUMBER_DIGITS_MAX 18   /* digits of a number, those behind the point among them */
-#define GL_INDEX_MIN 1024         /* bytes of an index; its buffer may be longer */
-#define GL_INDEX_MAX 1048576
-#define GL_INDEX_LEVELS_MAX 11
+#define GL_INDEX_MIN 1024         /* bytes of an index; its buffer may be longer; a release before 0.10.0 refuses one above 1,048,576 by 24 */
+#define GL_INDEX_MAX 16777216
+#define GL_INDEX_LEVELS_MAX 15
 #define GL_KEY_MAX 100            /* bytes of a key, at least 1 */
 #define GL_EXPRESSION_MAX 220     /* bytes of a key expression, at least 1, each 0x20 to 0x7E */
 #define GL_TARGET_MAX 1000000000  /* thousandths of nM of a target concentration, at least 1 */
 #define GL_FINAL_MAX 10000        /* tenths of a microlitre of a final volume, at least 1 */
-#define GL_STACK_MAX 13312        /* bytes of stack that are enough for any call */
+#define GL_STACK_MAX 6144         /* bytes of stack that are enough for any call */
 
 /* ---- The table. */
 
@@ -205,8 +205,8 @@ uint32_t gl_index_insert(uint8_t *index, size_t index_len, const uint8_t *key, s
 
 /* Strikes a key off. 24, 27, 25, 33. The pages that are emptied are free for later insertions; the index's own size, bytes 8 to 11, never falls, so the host
    can't shorten its file. Nor do the levels fall, until the last key goes and there is one level again: a long list of ascending insertions and removals can
-   end in 30 with few keys left (seen with keys of 100 bytes: 34 keys in 11 levels, the 265,721st insertion refused). The way out is a fresh index, into which
-   the host inserts the keys that are left. An earlier release refuses an index with free pages by 24. */
+   end in 30 with few keys left (seen with keys of 100 bytes: the 265,721st insertion made 12 levels of 35 keys, and each level more takes three times as many
+   insertions). The way out is a fresh index, into which the host inserts the keys that are left. An earlier release refuses an index with free pages by 24. */
 uint32_t gl_index_remove(uint8_t *index, size_t index_len, const uint8_t *key, size_t key_len);
 
 /* Matches an index against a field of a table: 0 if each record, deleted or not, has exactly one entry, its key that record's field, and there are

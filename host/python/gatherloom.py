@@ -249,7 +249,7 @@ def _lent(data):
 
 # the most bytes of a table or memo file, and of an index
 MAX_TABLE = 16777216
-MAX_INDEX = 1048576
+MAX_INDEX = 16777216
 
 
 class Field(NamedTuple):

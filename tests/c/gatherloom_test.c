@@ -829,6 +829,66 @@ static void test_tree_000(void)
     give_back(&index);
 }
 
+/* The largest index: 15 levels in 16,777,216 bytes, keys of 100 bytes, one in each leaf, and two children under each page above; page p, at 512p, has the
+   children 2p and 2p + 1. */
+static void test_largest_index(void)
+{
+    lent index = lend(NULL, GL_INDEX_MAX + 512);
+    uint8_t *b = index.bytes, key[101], *at;
+    uint32_t leaves = 1u << (GL_INDEX_LEVELS_MAX - 1);
+    put32(b, 512), put32(b + 4, UINT32_MAX), put32(b + 8, GL_INDEX_MAX);
+    b[12] = 100, b[14] = 1;
+    for (uint32_t level = 0; level < GL_INDEX_LEVELS_MAX; level++)
+        for (uint32_t i = 0; i < 1u << level; i++) {
+            uint32_t page = (1u << level) + i, under = leaves >> level, count = under == 1 ? 1 : 2;
+            at = b + 512 * page;
+            at[0] = (level == 0) + 2 * (under == 1);
+            at[2] = (uint8_t)count;
+            put32(at + 4, i == 0 ? UINT32_MAX : 512 * (page - 1));
+            put32(at + 8, i + 1 == 1u << level ? UINT32_MAX : 512 * (page + 1));
+            for (uint32_t j = 0; j < count; j++) {
+                uint32_t last = i * under + (j + 1) * under / count, number = under == 1 ? last : 512 * (2 * page + j);
+                snprintf((char *)key, sizeof key, "%0100u", 10 * last);
+                memcpy(at + 12 + 104 * j, key, 100);
+                at += 104 * j + 112;
+                at[0] = number >> 24, at[1] = number >> 16 & 255, at[2] = number >> 8 & 255, at[3] = number & 255;
+                at = b + 512 * page;
+            }
+        }
+    keep(&index);
+    SAME(gl_index_audit(index.bytes, index.len), 0);
+    SAME(gl_index_audit(index.bytes, GL_INDEX_MAX - 1), 24);
+    snprintf((char *)key, sizeof key, "%0100u", 10);
+    LOOKS_UP(&index, key, 100, 0, 1, GL_INDEX_LEVELS_MAX);
+    snprintf((char *)key, sizeof key, "%0100u", 10 * leaves);
+    LOOKS_UP(&index, key, 100, 0, leaves, GL_INDEX_LEVELS_MAX);
+    /* a leaf takes four keys; the fifth needs a page past the limit, and the buffer has room for one */
+    for (uint32_t i = 1; i <= 4; i++) {
+        snprintf((char *)key, sizeof key, "%0100u", 10 + i);
+        SAME(gl_index_insert(index.bytes, index.len, key, 100, i), i == 4 ? GL_REFUSED_NO_ROOM : 0);
+    }
+    LOOKS_UP(&index, key, 100, GL_ABSENT, 0, GL_INDEX_LEVELS_MAX);
+    for (uint32_t i = 3; i >= 1; i--) {
+        snprintf((char *)key, sizeof key, "%0100u", 10 + i);
+        SAME(gl_index_remove(index.bytes, index.len, key, 100), 0);
+    }
+    UNCHANGED(index);
+    /* the 15th page visited is a leaf */
+    at = b + 512 * leaves;
+    at[0] = 0;
+    snprintf((char *)key, sizeof key, "%0100u", 10);
+    SAME(gl_index_audit(index.bytes, index.len), 25);
+    LOOKS_UP(&index, key, 100, 25, 0, 0);
+    at[0] = 2;
+    /* one page more passes the limit */
+    put32(b + 8, GL_INDEX_MAX + 512);
+    SAME(gl_index_audit(index.bytes, index.len), 24);
+    put32(b + 8, GL_INDEX_MAX);
+    UNCHANGED(index);
+    MARGINS(index);
+    give_back(&index);
+}
+
 static void refused_fresh(size_t len, uint32_t k, const void *expression, size_t n, uint32_t answer)
 {
     lent index = lend(NULL, len);
@@ -1488,7 +1548,7 @@ static void test_damaged_index(const char *name, const char *key)
         uint32_t answer = gl_index_lookup(index.bytes, index.len, (const uint8_t *)key, n, &record, &pages);
         SAME(audit == 0 || audit == 24 || audit == 25, 1);
         SAME(answer == 24, audit == 24);
-        SAME(pages <= 11, 1);
+        SAME(pages <= GL_INDEX_LEVELS_MAX, 1);
         if (audit != 0) {
             uint32_t inserted = gl_index_insert(index.bytes, index.len, (const uint8_t *)key, n, 1);
             SAME(inserted == audit || (audit == 25 && inserted == 27), 1);
@@ -1517,6 +1577,7 @@ int main(int argc, char **argv)
     test_walk();
     test_samples();
     test_tree_000();
+    test_largest_index();
     test_fresh();
     test_five_keys(2048, 0);
     test_five_keys(1024, 30);

@@ -89,11 +89,11 @@ pub keys-answer : (b : List ℕ) (k size root h : ℕ) (r : Keys) → k ≡ keyL
 unfolding keysAboveGood
 keys-answer b k size root h r ek es er eh e = ap (λ (s : Keys). s .good) e ∙ rw (← ek, ← es, ← er, ← eh)
 
-module _ (b m : List ℕ) (g : Bool) (eg : g ≡ shapeGood b m) where
-  pub pages-bad : g ≡ false → false ≡ pagesGood b m
+module _ (b : List ℕ) (g : Bool) (eg : g ≡ shapeGood b) where
+  pub pages-bad : g ≡ false → false ≡ pagesGood b
   unfolding pagesGood
   pages-bad e = rw (← eg, e)
 
-  pub pages-answer : (r : Bool) → g ≡ true → r ≡ keysAboveGood b → r ≡ pagesGood b m
+  pub pages-answer : (r : Bool) → g ≡ true → r ≡ keysAboveGood b → r ≡ pagesGood b
   unfolding pagesGood
   pages-answer r e er = er ∙ rw (← eg, e)

@@ -14,5 +14,3 @@ pub mod CeilingLaws
 pub mod KeyLaws
 -- Laws: the free list
 pub mod FreeLaws
--- Laws: the loop over the marks
-pub mod MarkLaws

@@ -1,11 +1,10 @@
 -- Steps: the audit's own values, as its test has them, and what its inner functions ask of the buffer. No public contract cites these: a reader need not
 -- believe them.
-use Prim.Native.Nat.{ℕ, _+_, _-_, _/_, _≤_, _<_}
-use mathlib.Core.Path.{_≡_}
+use Prim.Native.Nat.{ℕ, _+_, _-_, _≤_, _<_}
 use mathlib.Core.Bool.{Bool, true, false, cond, not, _&&_}
 use mathlib.Core.List.{List}
 use mathlib.Core.Option.{Option, none, some}
-use lib.ListN.{length, getD, set}
+use lib.ListN.{length}
 use lib.Dec.{eqb}
 use Rattle.octets.specs.Bytes.{be32}
 use Rattle.octets.specs.Store.{window}
@@ -31,11 +30,6 @@ pub record InFile (b : List ℕ) (k size : ℕ) : Type 0 where
 pub record EntriesWithin (b : List ℕ) (k p n : ℕ) : Type 0 where
   pub each : (i : ℕ) → i < n → Within b k p (i + 1)
 
--- a page at p that fits lies within the buffer, and has a place among the marks m
-pub record MarkedWithin (b m : List ℕ) (p : ℕ) (fits : Bool) : Type 0 where
-  pub inside : fits ≡ true → p + pageSize ≤ length b
-  pub place : fits ≡ true → p / pageSize < length m
-
 -- the key that begins at z, or none if z is 0
 unfoldable pub keyFrom : List ℕ → ℕ → ℕ → Option (List ℕ)
 keyFrom b k z = cond (eqb z 0) none (some (window b z k))
@@ -48,31 +42,26 @@ leafEntry b k at z = not (eqb (be32 b (at + k)) 0) && isAbove (keyFrom b k z) (w
 abbrev pub upperKey : List ℕ → ℕ → ℕ → ℕ → ℕ → ℕ → ℕ → ℕ → rule.Keys
 upperKey b k size d h p n i = upperEntry b k size d h (keyAt b k p i, numberAt b k p i) (entriesFrom b k p (n - (i + 1)) (i + 1))
 
--- one page more, and its mark, if the page fits
-unfoldable pub markPage : List ℕ → ℕ → Bool → rule.Progress → List ℕ → rule.Progress × List ℕ
-markPage b p fits s m =
-    cond (fits && eqb (getD m (p / pageSize) 0) 0) (record { good = true; last = p; next = rightAt b p }, set m (p / pageSize) 1) (rule.refused s, m)
-
--- the page at p of the free list: whether it fits, and the marks after it
-unfoldable pub markFree : List ℕ → ℕ → ℕ → List ℕ → Bool × List ℕ
-markFree b size p m = cond (rule.freeFits b size p m) (true, set m (p / pageSize) 1) (false, m)
+-- one page more, which fits
+abbrev pub meetPage : List ℕ → ℕ → rule.Progress → rule.Progress
+meetPage b p s = record { good = true; last = p; next = rightAt b p; left = s .left }
 
 -- the structs, as the test has them
 abbrev pub progressOf : Progress → rule.Progress
-progressOf s = record { good = s .good; last = s .last .0; next = s .next .0 }
+progressOf s = record { good = s .good; last = s .last .0; next = s .next .0; left = s .left }
 
 abbrev pub levelOf : Level → rule.Level
-levelOf v = record { good = v .good; leaf = v .leaf; first = v .first .0 }
+levelOf v = record { good = v .good; leaf = v .leaf; first = v .first .0; left = v .left }
 
 abbrev pub keysOf : Keys → rule.Keys
 keysOf r = record { good = r .good; exact = r .exact }
 
 -- a struct after a page that was not good, at the start of a level, and of a level at its end
-abbrev pub refusedAt : Progress → Progress
-refusedAt s = record { good = false; last = s .last; next = s .next }
+abbrev pub refusedAt : Progress
+refusedAt = record { good = false; last = record { 0 = noPage }; next = record { 0 = noPage }; left = 0 }
 
-abbrev pub startAt : PageOffset → Progress
-startAt first = record { good = true; last = record { 0 = noPage }; next = first }
+abbrev pub startAt : PageOffset → ℕ → Progress
+startAt first left = record { good = true; last = record { 0 = noPage }; next = first; left = left }
 
 abbrev pub closedAt : Progress → Bool → PageOffset → Level
-closedAt s leaf first = record { good = s .good && eqb (s .next .0) noPage; leaf = leaf; first = first }
+closedAt s leaf first = record { good = s .good && eqb (s .next .0) noPage; leaf = leaf; first = first; left = s .left }

@@ -1,13 +1,13 @@
 -- Laws: one page of the audit, by its tests. Cited by the proofs of the functions that check a page. Assumes nothing.
-use Prim.Native.Nat.{ℕ, _/_}
-use mathlib.Core.Path.{_≡_, refl, sym, ap, _∙_}
+use Prim.Native.Nat.{ℕ, _+_, _-_, _≤_, _<_}
+use mathlib.Core.Path.{_≡_, refl, _∙_}
 use mathlib.Core.Bool.{Bool, true, false, _&&_}
 use mathlib.Core.List.{List}
 use mathlib.Core.Option.{none}
 use native.Mathlib.Omega.{arith}
-use lib.ListN.{length, getD, set}
+use lib.ListN.{length}
 use lib.Dec.{eqb}
-use borrow.Author.Tests.{eq-eqb, ne-eqb}
+use borrow.Author.Tests.{le-leb, lt-leb}
 use Rattle.basis.specs.Tests.{contra, both}
 use Rattle.page.specs.Header.{pageSize, isPage}
 use Rattle.page.specs.HeaderLaws.{IsPage, is-page}
@@ -15,9 +15,9 @@ use Rattle.page.specs.Page.{attributeAt, countAt, leftAt, rightAt, leafBit, cou
 use Rattle.page.specs.Reading.{entriesAt}
 use Rattle.page.specs.ReadingLaws.{entriesFrom, entries-are}
 use Rattle.sound.specs.Rule as rule
-use Rattle.sound.specs.Rule.{maxPages, lastOf, leafEntriesGood, entriesFit, pageFits, checkPage}
+use Rattle.sound.specs.Rule.{lastOf, leafEntriesGood, entriesFit, pageFits, counted, checkPage}
 use Rattle.audit.specs.declared.Progress.{Progress}
-use Rattle.audit.specs.State.{InFile, MarkedWithin, keyFrom, markPage, progressOf, refusedAt}
+use Rattle.audit.specs.State.{InFile, keyFrom, meetPage, progressOf, refusedAt}
 
 -- the entries of a page
 module _ (b : List ℕ) (k size a last p : ℕ) where
@@ -60,30 +60,32 @@ module _ (b : List ℕ) (k size a p last next : ℕ) where
     unfolding pageFits
     fits-then t r er = er ∙ rw (e, ← ex, ← ey, ← ez, ← ec) (and-true (eqb x a) c (eqb z last) (eqb next p) (entriesFit b k size a last p) t)
 
--- one page more, whose test was f
-module _ (b : List ℕ) (k size a p : ℕ) (m : List ℕ) (f : Bool) where
-  pub fits-within : (last next : ℕ) → f ≡ pageFits b k size a p last next → InFile b k size → length m ≡ maxPages → MarkedWithin b m p f
+-- one page more
+module _ (b : List ℕ) (p : ℕ) where
+  pub page-read : (s : Progress) (n : ℕ) → n ≡ rightAt b p → record { good = true; last = p; next = n; left = s .left } ≡ meetPage b p (progressOf s)
+  page-read s n en = rw en
+
+module _ (b : List ℕ) (k size a p : ℕ) where
+  pub fits-within : (last next : ℕ) → pageFits b k size a p last next ≡ true → InFile b k size → p + pageSize ≤ length b
   unfolding pageFits
-  fits-within last next ef file l =
-      let page : f ≡ true → IsPage size p = λ t. is-page size p (both (isPage size p) _ (sym ef ∙ t) .0) in
-      record { inside = λ t. omega (arith, page t); place = λ t. omega (arith, page t) }
+  fits-within last next t file =
+      let page : IsPage size p = is-page size p (both (isPage size p) _ t .0) in
+      omega arith
 
-  pub page-checked : (s : rule.Progress) (t : rule.Progress × List ℕ) → s .good ≡ true → f ≡ pageFits b k size a p (s .last) (s .next)
-      → markPage b p f s m ≡ t → checkPage b k size a p s m ≡ t
-  unfolding checkPage markPage
-  page-checked s t g ef e = rw (g, ← ef) e
+  pub page-met : (s : rule.Progress) → s .good ≡ true → pageFits b k size a p (s .last) (s .next) ≡ true → checkPage b k size a p s ≡ meetPage b p s
+  unfolding checkPage
+  page-met s g f = rw (g, f)
 
-module _ (b : List ℕ) (p : ℕ) (s : Progress) (m : List ℕ) (f : Bool) where
-  pub page-refused : f ≡ false → markPage b p f (progressOf s) m ≡ (progressOf (refusedAt s), m)
-  unfolding markPage
-  page-refused h = rw h
+  pub page-refused : (s : rule.Progress) → s .good ≡ true → pageFits b k size a p (s .last) (s .next) ≡ false → checkPage b k size a p s ≡ rule.refused
+  unfolding checkPage
+  page-refused s g f = rw (g, f)
 
-  module _ (h : f ≡ true) where
-    pub page-met : (getD m (p / pageSize) 0 ≡ 0 → ⊥) → markPage b p f (progressOf s) m ≡ (progressOf (refusedAt s), m)
-    unfolding markPage
-    page-met z = rw (h, ne-eqb (getD m (p / pageSize) 0) 0 z)
+-- n pages more
+module _ (n : ℕ) (s : Progress) (g : s .good ≡ true) where
+  pub count-refused : s .left < n → counted n (progressOf s) ≡ progressOf refusedAt
+  unfolding counted
+  count-refused h = rw (g, lt-leb n (s .left) h)
 
-    pub page-marked : getD m (p / pageSize) 0 ≡ 0 → (n : ℕ) → n ≡ rightAt b p
-        → markPage b p f (progressOf s) m ≡ (record { good = true; last = p; next = n }, set m (p / pageSize) 1)
-    unfolding markPage
-    page-marked z n en = rw (h, eq-eqb (getD m (p / pageSize) 0) 0 z, en)
+  pub count-taken : n ≤ s .left → counted n (progressOf s) ≡ record { good = true; last = s .last .0; next = s .next .0; left = s .left - n }
+  unfolding counted
+  count-taken h = rw (g, le-leb n (s .left) h)

@@ -1,8 +1,10 @@
-// The audit of an index, in two passes, each level by level. The first, from the root down, checks each page against its left neighbour, and marks it when it
-// is met. The pages of a level are the children of the level above, whose pages name one another by the right links that were checked there. The second, from
-// the leaves up, checks the keys above pages, once the links are known to be good and leaf keys to ascend: each against the last leaf key under its child,
-// which is the child's own last key if the level below is exact, and, if it differs, against the first under the next child: at most 10 steps down. So nothing
-// is copied, each page is checked once in each pass, and the work is linear in the file's size on any bytes.
+// The audit of an index, in two passes, each level by level. The first, from the root down, checks each page against its left neighbour. The pages of a level
+// are the children of the level above, whose pages name one another by the right links that were checked there; the pages that are left after the leaves are
+// the free list. The children of each page are counted before they are looked at: more pages than the file has are refused. No page can be met twice, so that
+// every page was met if as many were as the file has. The second pass, from the leaves up, checks the keys above pages, once the links are known to be good and
+// leaf keys to ascend: each against the last leaf key under its child, which is the child's own last key if the level below is exact, and, if it differs,
+// against the first under the next child: at most 14 steps down. So nothing is copied or kept, each page is checked once in each pass, and the work is linear
+// in the file's size on any bytes.
 use octets::Ordering;
 use page::Page;
 use page::PageOffset;
@@ -13,31 +15,34 @@ ghost use Prim.Native.Nat.{ℕ, _+_, _-_, _≤_, _<_};
 ghost use lib.ListN.{length};
 ghost use Rattle.octets.specs.Store.{window};
 ghost use Rattle.octets.specs.Order.{ordering, isEqual};
-ghost use Rattle.page.specs.Header.{minBytes, maxBytes, maxKey, maxLevels, pageSize, freePointer, headerGood};
+ghost use Rattle.page.specs.Header.{minBytes, maxBytes, maxKey, maxLevels, pageSize, headerGood};
 ghost use Rattle.page.specs.Within.{Within};
 ghost use Rattle.page.specs.Reading.{entriesAt};
 ghost use Rattle.page.specs.ReadingLaws.{entriesFrom};
 ghost use Rattle.page.specs.Page.{entryArea};
 ghost use Rattle.sound.specs.Sound.{zeros, Audited};
 ghost use Rattle.page.specs.Children.{childrenOf, firstChild};
-ghost use Rattle.sound.specs.Rule.{maxPages, firstOf, lastOf, leafEntriesGood, entriesFit, pageFits, attributeOf, chain, pagesUnder};
-ghost use Rattle.sound.specs.Rule.{checkPages, rootLevel, nextLevel, levelsUnder, markedFrom, isFreePage, checkFree, restFree, shapeGood};
+ghost use Rattle.sound.specs.Rule.{maxPages, laterPages, firstOf, lastOf, leafEntriesGood, entriesFit, pageFits, attributeOf, chain};
+ghost use Rattle.sound.specs.Rule.{counted, checkPages, checkRows, rowsUnder, rootLevel, nextLevel, levelsUnder, isFreePage, freeFits, checkFree, shapeGood};
 ghost use Rattle.sound.specs.Rule.{heightOf, down, lastChild, belowNext, upperEntries, upperPages, upperLevels, keysAboveGood, pagesGood};
-ghost use Rattle.audit.specs.State.{InFile, EntriesWithin, MarkedWithin, keyFrom, leafEntry, upperKey, markPage, markFree, progressOf, levelOf, keysOf};
+ghost use Rattle.audit.specs.State.{InFile, EntriesWithin, keyFrom, leafEntry, upperKey, meetPage, progressOf, levelOf, keysOf};
 ghost use Rattle.audit.specs.State.{startAt, refusedAt, closedAt};
 
-// What is known of the pages met on a level: whether all were good, the last page met, and the page that its right link names.
+// What is known of the pages met on a level: whether all were good, the last page met, the page that its right link names, and how many pages of the file are
+// left that were not met.
 struct Progress {
     good: bool,
     last: PageOffset,
     next: PageOffset,
+    left: usize,
 }
 
-// What is known of a level: whether it is good, whether its pages are leaves, and its first page.
+// What is known of a level: whether it is good, whether its pages are leaves, its first page, and how many pages of the file are left after it.
 struct Level {
     good: bool,
     leaf: bool,
     first: PageOffset,
+    left: usize,
 }
 
 // What is known of keys above pages: whether all are ceilings; and, if they are, whether each page met is exact: its own last key is the last leaf key under
@@ -150,88 +155,95 @@ fn page_fits(
     entries_fit(index, k, size, attribute, last, page)
 }
 
-// A page was not good: the last page and the next stay.
-fn refused(s: Progress) -> Progress
-    ensures { λ r. ⌜ r ≡ refusedAt s ⌝ }
+// A page was not good, or too few were left. Nothing else is kept: what is kept has to be at hand in the loop over the entries of leaves, since it ends there.
+fn refused() -> Progress
+    ensures { λ r. ⌜ r ≡ refusedAt ⌝ }
 {
-    let last = s.last;
-    let next = s.next;
     Progress {
         good: false,
-        last,
-        next,
+        last: PageOffset(page::NO_PAGE),
+        next: PageOffset(page::NO_PAGE),
+        left: 0,
     }
 }
 
-// Marks a page that was tested, if it fits and has no mark yet: it is then the last page met.
-fn mark_page(index: &[u8], marks: &mut [u8], page: PageOffset, fits: bool, s: Progress) -> Progress
-    requires { ⌜ MarkedWithin (now index) (now marks) (page .0) fits ⌝ }
-    ensures { λ r. ⌜ markPage (now (index .entry)) (page .0) fits (progressOf s) (now (marks .entry)) ≡ (progressOf r, now (marks .exit)) ⌝ }
+// Counts n pages more, if as many are left. A page is not counted when it is met but with its neighbours: the loop over the entries of leaves has no register
+// to spare for the count.
+fn count_pages(s: Progress, n: usize) -> Progress
+    requires { ⌜ s .good ≡ true ⌝ }
+    ensures { λ r. ⌜ counted n (progressOf s) ≡ progressOf r ⌝ }
 {
-    if !fits {
-        return refused(s);
+    let left = s.left;
+    if left < n {
+        return refused();
     }
-    let mark = page.0 as usize / Page::SIZE;
-    if marks[mark] != 0 {
-        return refused(s);
+    let last = s.last;
+    let next = s.next;
+    Progress {
+        good: true,
+        last,
+        next,
+        left: left - n,
     }
-    marks[mark] = 1;
+}
+
+// A page that fits is the last page met.
+fn meet_page(index: &[u8], page: PageOffset, s: Progress) -> Progress
+    requires { ⌜ page .0 + pageSize ≤ length (now index) ⌝ }
+    ensures { λ r. ⌜ progressOf r ≡ meetPage (now (index .entry)) (page .0) (progressOf s) ⌝ }
+{
     let head = Page::at(index, page);
     let right = head.right;
     Progress {
         good: true,
         last: page,
         next: right,
+        left: s.left,
     }
 }
 
-// Checks the children of a page, one after another, up to the first that is not good.
+// Checks the children of a page, of which there are `count`, one after another, up to the first that is not good.
 fn check_children(
     index: &[u8],
-    marks: &mut [u8],
     k: usize,
     size: usize,
     attribute: u32,
     parent: PageOffset,
+    count: usize,
     s: Progress,
 ) -> Progress
-    requires { ⌜ InFile (now index) k size × (length (now marks) ≡ maxPages) ⌝ }
+    requires { ⌜ InFile (now index) k size × (count ≡ length (entriesAt k size (now index) (parent .0))) × (s .good ≡ true) ⌝ }
     ensures { λ r. ⌜
-        checkPages (now (index .entry)) k size attribute (childrenOf (now (index .entry)) k size (parent .0)) (progressOf s, now (marks .entry))
-        ≡ (progressOf r, now (marks .exit))
+        checkPages (now (index .entry)) k size attribute (childrenOf (now (index .entry)) k size (parent .0)) (progressOf s) ≡ progressOf r
         ⌝ }
 {
-    let count = page::entry_count(index, k, size, parent);
     let mut t = s;
-    let mut i = 0;
-    while i < count {
-        if !t.good {
-            return t;
-        }
-        let child = page::child(index, k, parent, i);
+    let mut entry = 0;
+    while entry < count {
+        let child = page::child(index, k, parent, entry);
         let last = t.last;
         let next = t.next;
-        let fits = page_fits(index, k, size, attribute, child, last, next);
-        t = mark_page(index, marks, child, fits, t);
-        i += 1;
+        if !page_fits(index, k, size, attribute, child, last, next) {
+            return refused();
+        }
+        t = meet_page(index, child, t);
+        entry += 1;
     }
     t
 }
 
-// Checks the children of the pages of a level, from its first page on along the right links.
+// Checks the children of the pages of a level, from its first page on along the right links, up to the first that is not good.
 fn check_level(
     index: &[u8],
-    marks: &mut [u8],
     k: usize,
     size: usize,
     attribute: u32,
     first: PageOffset,
     s: Progress,
 ) -> Progress
-    requires { ⌜ InFile (now index) k size × (length (now marks) ≡ maxPages) ⌝ }
+    requires { ⌜ InFile (now index) k size × (s .good ≡ true) ⌝ }
     ensures { λ r. ⌜
-        checkPages (now (index .entry)) k size attribute (pagesUnder (now (index .entry)) k size (first .0)) (progressOf s, now (marks .entry))
-        ≡ (progressOf r, now (marks .exit))
+        checkRows (now (index .entry)) k size attribute (rowsUnder (now (index .entry)) k size (first .0)) (progressOf s) ≡ progressOf r
         ⌝ }
 {
     let mut t = s;
@@ -241,7 +253,15 @@ fn check_level(
         if !page::is_page(size, parent) {
             return t;
         }
-        t = check_children(index, marks, k, size, attribute, parent, t);
+        let count = page::entry_count(index, k, size, parent);
+        t = count_pages(t, count);
+        if !t.good {
+            return t;
+        }
+        t = check_children(index, k, size, attribute, parent, count, t);
+        if !t.good {
+            return t;
+        }
         let head = Page::at(index, parent);
         parent = head.right;
         left -= 1;
@@ -265,14 +285,15 @@ fn attribute_of(root: bool, leaf: bool) -> u32
     0
 }
 
-// The start of a level, whose first page has to be `first`.
-fn start(first: PageOffset) -> Progress
-    ensures { λ r. ⌜ r ≡ startAt first ⌝ }
+// The start of a level, whose first page has to be `first`, with `left` pages left.
+fn start(first: PageOffset, left: usize) -> Progress
+    ensures { λ r. ⌜ r ≡ startAt first left ⌝ }
 {
     Progress {
         good: true,
         last: PageOffset(page::NO_PAGE),
         next: first,
+        left,
     }
 }
 
@@ -285,75 +306,66 @@ fn closed(s: Progress, leaf: bool, first: PageOffset) -> Level
         good: s.good & (next.0 == page::NO_PAGE),
         leaf,
         first,
+        left: s.left,
     }
 }
 
-// Checks the level of the root.
-fn root_level(index: &[u8], marks: &mut [u8], k: usize, size: usize, root: PageOffset) -> Level
-    requires { ⌜ InFile (now index) k size × (length (now marks) ≡ maxPages) ⌝ }
-    ensures { λ r. ⌜ rootLevel (now (index .entry)) k size (root .0) (now (marks .entry)) ≡ (levelOf r, now (marks .exit)) ⌝ }
+// Checks the level of the root, with `left` pages left.
+fn root_level(index: &[u8], k: usize, size: usize, root: PageOffset, left: usize) -> Level
+    requires { ⌜ InFile (now index) k size × (0 < left) ⌝ }
+    ensures { λ r. ⌜ rootLevel (now (index .entry)) k size (root .0) left ≡ levelOf r ⌝ }
 {
     let leaf = page::leaf_at(index, size, root);
-    let s = start(root);
+    let s = start(root, left - 1);
     let last = s.last;
-    let fits = page_fits(index, k, size, attribute_of(true, leaf), root, last, root);
-    let t = mark_page(index, marks, root, fits, s);
-    closed(t, leaf, root)
+    if !page_fits(index, k, size, attribute_of(true, leaf), root, last, root) {
+        return closed(refused(), leaf, root);
+    }
+    closed(meet_page(index, root, s), leaf, root)
 }
 
-// Checks the level under the level whose first page is `above`.
-fn next_level(index: &[u8], marks: &mut [u8], k: usize, size: usize, above: PageOffset) -> Level
-    requires { ⌜ InFile (now index) k size × (length (now marks) ≡ maxPages) ⌝ }
-    ensures { λ r. ⌜ nextLevel (now (index .entry)) k size (above .0) (now (marks .entry)) ≡ (levelOf r, now (marks .exit)) ⌝ }
+// Checks the level under the level whose first page is `above`, with `left` pages left.
+fn next_level(index: &[u8], k: usize, size: usize, above: PageOffset, left: usize) -> Level
+    requires { ⌜ InFile (now index) k size ⌝ }
+    ensures { λ r. ⌜ nextLevel (now (index .entry)) k size (above .0) left ≡ levelOf r ⌝ }
 {
     let first = page::first_child(index, k, size, above);
     let leaf = page::leaf_at(index, size, first);
     let s = check_level(
         index,
-        marks,
         k,
         size,
         attribute_of(false, leaf),
         above,
-        start(first),
+        start(first, left),
     );
     closed(s, leaf, first)
 }
 
-// Checks the levels from the root down to the leaves, to the first that is not good, or to the 11th.
-fn levels(index: &[u8], marks: &mut [u8], k: usize, size: usize, root: PageOffset) -> Level
-    requires { ⌜ InFile (now index) k size × (length (now marks) ≡ maxPages) ⌝ }
+// Checks the levels from the root down to the leaves, to the first that is not good, or to the 15th, with `pages` pages left. The level under the root is
+// checked ahead of the loop: `next_level` has two callers so, and is compiled as a function of its own, whose loop over the entries of leaves has its registers.
+fn levels(index: &[u8], k: usize, size: usize, root: PageOffset, pages: usize) -> Level
+    requires { ⌜ InFile (now index) k size × (0 < pages) ⌝ }
     ensures { λ r. ⌜
-        levelsUnder (now (index .entry)) k size (maxLevels - 1) (rootLevel (now (index .entry)) k size (root .0) (now (marks .entry)))
-        ≡ (levelOf r, now (marks .exit))
+        levelsUnder (now (index .entry)) k size (maxLevels - 1) (rootLevel (now (index .entry)) k size (root .0) pages) ≡ levelOf r
         ⌝ }
 {
-    let mut level = root_level(index, marks, k, size, root);
-    let mut left = page::MAX_LEVELS - 1;
+    let top = root_level(index, k, size, root, pages);
+    if !(top.good & !top.leaf) {
+        return top;
+    }
+    let above = top.first;
+    let mut level = next_level(index, k, size, above, top.left);
+    let mut left = page::MAX_LEVELS - 2;
     while 0 < left {
         if !(level.good & !level.leaf) {
             return level;
         }
         let above = level.first;
-        level = next_level(index, marks, k, size, above);
+        level = next_level(index, k, size, above, level.left);
         left -= 1;
     }
     level
-}
-
-// Whether the marks of all `pages` pages but the first are set.
-fn all_marked(marks: &[u8], pages: usize) -> bool
-    requires { ⌜ (1 ≤ pages) × (pages ≤ length (now marks)) ⌝ }
-    ensures { λ r. ⌜ r ≡ markedFrom (now (marks .entry)) (pages - 1) 1 ⌝ }
-{
-    let mut j = 1;
-    while j < pages {
-        if marks[j] != 1 {
-            return false;
-        }
-        j += 1;
-    }
-    true
 }
 
 // Whether `n` bytes of the index from `at` on are zero.
@@ -376,37 +388,26 @@ fn is_free_page(index: &[u8], page: PageOffset) -> bool
         & is_zero(index, at + Page::ENTRIES_START, Page::ENTRY_AREA)
 }
 
-// Whether a page is a free page of the file that has no mark. Then it gets its mark.
-fn mark_free(index: &[u8], marks: &mut [u8], size: usize, page: PageOffset) -> bool
-    requires { ⌜ (size ≤ length (now index)) × (size ≤ maxBytes) × (length (now marks) ≡ maxPages) ⌝ }
-    ensures { λ r. ⌜ markFree (now (index .entry)) size (page .0) (now (marks .entry)) ≡ (r, now (marks .exit)) ⌝ }
+// Whether a page is a free page of the file.
+fn free_fits(index: &[u8], size: usize, page: PageOffset) -> bool
+    requires { ⌜ size ≤ length (now index) ⌝ }
+    ensures { λ r. ⌜ r ≡ freeFits (now (index .entry)) size (page .0) ⌝ }
 {
     if !page::is_page(size, page) {
         return false;
     }
-    if !is_free_page(index, page) {
-        return false;
-    }
-    let place = page.0 as usize / Page::SIZE;
-    if marks[place] != 0 {
-        return false;
-    }
-    marks[place] = 1;
-    true
+    is_free_page(index, page)
 }
 
-// Walks the free list from its first page on, and marks its pages, up to the first that is not good.
-fn free_list(index: &[u8], marks: &mut [u8], size: usize, first: PageOffset) -> bool
-    requires { ⌜ (size ≤ length (now index)) × (size ≤ maxBytes) × (length (now marks) ≡ maxPages) ⌝ }
-    ensures { λ r. ⌜ checkFree (now (index .entry)) size maxPages (first .0) (now (marks .entry)) ≡ (r, now (marks .exit)) ⌝ }
+// Whether the free list has `count` pages from its first page on, and all are good.
+fn free_list(index: &[u8], size: usize, count: usize, first: PageOffset) -> bool
+    requires { ⌜ size ≤ length (now index) ⌝ }
+    ensures { λ r. ⌜ r ≡ checkFree (now (index .entry)) size count (first .0) ⌝ }
 {
     let mut page = first;
-    let mut left = page::MAX_PAGES;
+    let mut left = count;
     while 0 < left {
-        if page.0 == page::NO_PAGE {
-            return true;
-        }
-        if !mark_free(index, marks, size, page) {
+        if !free_fits(index, size, page) {
             return false;
         }
         let head = Page::at(index, page);
@@ -416,26 +417,26 @@ fn free_list(index: &[u8], marks: &mut [u8], size: usize, first: PageOffset) -> 
     page.0 == page::NO_PAGE
 }
 
-// Whether the free list is good, and all pages but the first then have their marks.
-fn rest_free(index: &[u8], marks: &mut [u8], size: usize) -> bool
-    requires { ⌜ (size ≤ length (now index)) × (size ≤ maxBytes) × (minBytes ≤ size) × (length (now marks) ≡ maxPages) ⌝ }
-    ensures { λ r. ⌜ r ≡ restFree (now (index .entry)) size (freePointer (now (index .entry))) (now (marks .entry)) ⌝ }
+// How many pages a file has but for the first.
+fn later_pages(size: usize) -> usize
+    requires { ⌜ minBytes ≤ size ⌝ }
+    ensures { λ r. ⌜ r ≡ laterPages size ⌝ }
 {
-    if !free_list(index, marks, size, page::free_pointer(index)) {
-        return false;
-    }
-    all_marked(marks, size / Page::SIZE)
+    size / Page::SIZE - 1
 }
 
-// Whether all but the keys above pages is good in an index with a good header, with a mark lent for each page.
-fn shape_good(index: &[u8], marks: &mut [u8]) -> bool
-    requires { ⌜ (headerGood (now index) ≡ true) × (length (now marks) ≡ maxPages) ⌝ }
-    ensures { λ r. ⌜ r ≡ shapeGood (now (index .entry)) (now (marks .entry)) ⌝ }
+// Whether all but the keys above pages is good in an index with a good header.
+fn shape_good(index: &[u8]) -> bool
+    requires { ⌜ headerGood (now index) ≡ true ⌝ }
+    ensures { λ r. ⌜ r ≡ shapeGood (now (index .entry)) ⌝ }
 {
     let k = page::key_length(index);
     let size = page::file_size(index);
-    let level = levels(index, marks, k, size, page::root(index));
-    level.good & (level.leaf & rest_free(index, marks, size))
+    let level = levels(index, k, size, page::root(index), later_pages(size));
+    if !(level.good & level.leaf) {
+        return false;
+    }
+    free_list(index, size, level.left, page::free_pointer(index))
 }
 
 // Where the first key of a page begins, or 0 if the page has none.
@@ -646,7 +647,7 @@ fn upper_levels(index: &[u8], k: usize, size: usize, height: u32, first: PageOff
     upper_pages(index, k, size, steps(below.exact, under), under, first)
 }
 
-// The number of levels under the root, 10 at most, which the first children show.
+// The number of levels under the root, 14 at most, which the first children show.
 fn height_of(index: &[u8], k: usize, size: usize, root: PageOffset) -> u32
     requires { ⌜ InFile (now index) k size ⌝ }
     ensures { λ r. ⌜ r ≡ heightOf (now (index .entry)) k size (maxLevels - 1) (root .0) ⌝ }
@@ -676,12 +677,12 @@ fn keys_above_good(index: &[u8]) -> bool
     keys.good
 }
 
-// Whether an index with a good header is sound, with a mark lent for each page.
-fn pages_good(index: &[u8], marks: &mut [u8]) -> bool
-    requires { ⌜ (headerGood (now index) ≡ true) × (length (now marks) ≡ maxPages) ⌝ }
-    ensures { λ r. ⌜ r ≡ pagesGood (now (index .entry)) (now (marks .entry)) ⌝ }
+// Whether an index with a good header is sound.
+fn pages_good(index: &[u8]) -> bool
+    requires { ⌜ headerGood (now index) ≡ true ⌝ }
+    ensures { λ r. ⌜ r ≡ pagesGood (now (index .entry)) ⌝ }
 {
-    if !shape_good(index, marks) {
+    if !shape_good(index) {
         return false;
     }
     keys_above_good(index)
@@ -694,8 +695,7 @@ pub fn audit(index: &[u8]) -> u32
     if !page::header_good(index) {
         return refusal::INDEX_HEADER;
     }
-    let mut marks = [0u8; page::MAX_PAGES];
-    if pages_good(index, &mut marks) {
+    if pages_good(index) {
         0
     } else {
         refusal::INDEX_NOT_SOUND

@@ -90,7 +90,7 @@ Pairs = List (List ℕ × ℕ)
 abbrev pub bookAt : ℕ → Pairs → ℕ → Calls → List ℕ → Pairs
 bookAt k book n calls b = bookFinal bytesOrder (barcodes k) (take n calls) (noRooms (answersTo calls b)) book
 
--- the index in a buffer is sound, so it has at most 11 levels, and "the leaves' entries, left to right, are the book's pairs"
+-- the index in a buffer is sound, so it has at most 15 levels, and "the leaves' entries, left to right, are the book's pairs"
 pub record IndexHolds (b : List ℕ) (book : Pairs) : Type 0 where
   pub sound : Sound b
   pub leaves : leafPairs b sound ≡ book

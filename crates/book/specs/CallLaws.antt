@@ -34,7 +34,7 @@ use Rattle.lookup.specs.declared.Answer.the-variants as looked
 use Rattle.lookup_laws.specs.FoundLaws.{answerOf, lookup-tree, lookup-list, found-pages}
 use Rattle.sound.specs.Accepted.{accepted as audit-accepts}
 use Rattle.sound.specs.Sound.{indexTree, Sound, leafPairs}
-use Rattle.sound.specs.Rule.{pagesGood, unmarked}
+use Rattle.sound.specs.Rule.{pagesGood}
 use Rattle.sound.specs.IndexLaws.{indexOf, settingOf, sound-index, once-page}
 use Rattle.insert.specs.Calls.{AfterCall, afterCall, hasControl, insertRule}
 use Rattle.insert.specs.Insertion.{insertedBuffer}
@@ -143,7 +143,7 @@ refusals-after b b″ true true false false true false true = refl
 refusals-after b b″ true true false false true false false = refl
 
 insert-refusals : (b key : List ℕ) (r : ℕ) → insertRule b key r
-    ≡ refusals b (insertedBuffer (keyLength b) b key r) (headerGood b) (eqb (length key) (keyLength b)) (hasControl key) (eqb r 0) (pagesGood b unmarked)
+    ≡ refusals b (insertedBuffer (keyLength b) b key r) (headerGood b) (eqb (length key) (keyLength b)) (hasControl key) (eqb r 0) (pagesGood b)
     (pathTo (keyLength b) b key r .present) (noRoom b (pathTo (keyLength b) b key r))
 unfolding insertRule refusals
 insert-refusals b key r = refl
@@ -181,7 +181,7 @@ strikings-after b b″ true true true false = refl
 strikings-after b b″ true true true true = refl
 
 remove-strikings : (b key : List ℕ) → removeRule b key
-    ≡ strikings b (removedBuffer (keyLength b) b key) (headerGood b) (eqb (length key) (keyLength b)) (pagesGood b unmarked) (isFound (lookupRule b key))
+    ≡ strikings b (removedBuffer (keyLength b) b key) (headerGood b) (eqb (length key) (keyLength b)) (pagesGood b) (isFound (lookupRule b key))
 unfolding removeRule strikings
 remove-strikings b key = refl
 
@@ -190,9 +190,9 @@ pub leaves-buffer : (c : Call (List ℕ)) (b : List ℕ) → LeavesBuffer c b
 unfolding insertRule refusals removeRule strikings
 leaves-buffer (insertion key r) b =
     refusals-after b (insertedBuffer (keyLength b) b key r) (headerGood b) (eqb (length key) (keyLength b)) (hasControl key) (eqb r 0)
-    (pagesGood b unmarked) (pathTo (keyLength b) b key r .present) (noRoom b (pathTo (keyLength b) b key r))
+    (pagesGood b) (pathTo (keyLength b) b key r .present) (noRoom b (pathTo (keyLength b) b key r))
 leaves-buffer (removalOf key) b =
-    strikings-after b (removedBuffer (keyLength b) b key) (headerGood b) (eqb (length key) (keyLength b)) (pagesGood b unmarked)
+    strikings-after b (removedBuffer (keyLength b) b key) (headerGood b) (eqb (length key) (keyLength b)) (pagesGood b)
     (isFound (lookupRule b key))
 leaves-buffer (lookupOf key) b = tt
 

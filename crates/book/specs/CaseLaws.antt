@@ -16,7 +16,7 @@ use Rattle.page.specs.Header.{keyLength, headerGood}
 use Rattle.page.specs.KeyOrder.{bytesOrder}
 use Rattle.lookup.specs.Lookup.{lookupRule, isFound}
 use Rattle.sound.specs.Sound.{Sound}
-use Rattle.sound.specs.Rule.{pagesGood, unmarked}
+use Rattle.sound.specs.Rule.{pagesGood}
 use Rattle.sound.specs.Accepted.{accepted as audit-accepts}
 use Rattle.insert.specs.Room.{pathTo}
 use Rattle.insert_laws.specs.RoomLaws.{present-is}
@@ -93,11 +93,11 @@ by-length b key f24 f27 go = either (headerGood b)
 
 -- every index with a good header is sound or not
 pub by-audit : {X : Type 0} (b : List ℕ) → headerGood b ≡ true → ((Sound b → ⊥) → X) → (Sound b → X) → X
-by-audit b h f25 go = either (pagesGood b unmarked) (λ p. go (audit-accepts b h .0 p)) (λ p. f25 (λ s. contra (audit-accepts b h .1 s) p))
+by-audit b h f25 go = either (pagesGood b) (λ p. go (audit-accepts b h .0 p)) (λ p. f25 (λ s. contra (audit-accepts b h .1 s) p))
 
 -- what the audit's test says of a sound index, and of one that is not
-pub pages-good : (b : List ℕ) → Sound b → pagesGood b unmarked ≡ true
+pub pages-good : (b : List ℕ) → Sound b → pagesGood b ≡ true
 pages-good b s = audit-accepts b (s .header) .1 s
 
-pub pages-bad : (b : List ℕ) → headerGood b ≡ true → (Sound b → ⊥) → pagesGood b unmarked ≡ false
-pages-bad b h n = fails (pagesGood b unmarked) (λ p. n (audit-accepts b h .0 p))
+pub pages-bad : (b : List ℕ) → headerGood b ≡ true → (Sound b → ⊥) → pagesGood b ≡ false
+pages-bad b h n = fails (pagesGood b) (λ p. n (audit-accepts b h .0 p))

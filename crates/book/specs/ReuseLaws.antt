@@ -54,7 +54,7 @@ pub never-shrinks : (b : List ℕ) → All (λ x. x < 256) b → Sound b → (ca
 never-shrinks b octets s calls o =
     grows (keyLength b) (length b) (header-two b (s .header)) calls o b (record { sound = s; keyIs = refl; as-long = refl; plain = octets-plain b octets })
 
--- Theorem: pages are reused. If the book never has more than m pairs, F is at most 512 · (1 + 11 · m), however long the list of calls is
+-- Theorem: pages are reused. If the book never has more than m pairs, F is at most 512 · (1 + 15 · m), however long the list of calls is
 pub pages-reused : (b : List ℕ) (k : ℕ) (e : List ℕ) → All (λ x. x < 256) b → freshRule b k e .answer ≡ Accepted → (calls : Calls) → All FourBytes calls
     → (m : ℕ) → 0 < m → ((n : ℕ) → length (bookAt k [] n calls (freshRule b k e .after)) ≤ m)
     → fileSize (finalOf bufferAfter calls (freshRule b k e .after)) ≤ pageSize * suc (maxLevels * m)

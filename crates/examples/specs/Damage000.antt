@@ -15,14 +15,14 @@ use Rattle.examples.specs.Tree000 as tree
 
 -- byte 1,036: B and not C above leaf 2,048; byte 3,078: a wrong left link in leaf 3,072; byte 2,064: record number 0;
 -- byte 1,039: a child at offset 0; byte 1,027: a count above the capacity
-pub damaged-refused : (audit.pagesGood (set tree.tree000 1036 66) audit.unmarked ≡ false)
-    × (audit.pagesGood (set tree.tree000 3078 255) audit.unmarked ≡ false)
-    × (audit.pagesGood (set tree.tree000 2064 0) audit.unmarked ≡ false)
-    × (audit.pagesGood (set tree.tree000 1039 0) audit.unmarked ≡ false)
-    × (audit.pagesGood (set tree.tree000 1027 255) audit.unmarked ≡ false)
+pub damaged-refused : (audit.pagesGood (set tree.tree000 1036 66) ≡ false)
+    × (audit.pagesGood (set tree.tree000 3078 255) ≡ false)
+    × (audit.pagesGood (set tree.tree000 2064 0) ≡ false)
+    × (audit.pagesGood (set tree.tree000 1039 0) ≡ false)
+    × (audit.pagesGood (set tree.tree000 1027 255) ≡ false)
 unfolding tree.tree000 tree.padded tree.page tree.entry bytes.le16 bytes.le32 bytes.be32 bytes.toLe16 bytes.toLe32 bytes.toBe32 store.window order.bytesLe
     order.ordering header.isPage page.capacity page.countGood pages.items pages.itemsAt pages.entriesAt audit.leafEntriesGood audit.onward audit.upperEntries
-    audit.chain children.isLeaf audit.markedFrom audit.entriesFit audit.pageFits audit.checkPage audit.checkPages audit.rootLevel audit.nextLevel
+    audit.chain children.isLeaf audit.entriesFit audit.pageFits audit.checkPage audit.checkPages audit.counted audit.checkRows audit.rootLevel audit.nextLevel
     audit.levelsUnder audit.heightOf audit.down audit.upperPages audit.upperLevels audit.shapeGood audit.keysAboveGood audit.pagesGood
-    audit.unmarked audit.isFreePage audit.freeFits audit.checkFree audit.restFree
+    audit.isFreePage audit.freeFits audit.checkFree
 damaged-refused = (refl, refl, refl, refl, refl)

@@ -38,21 +38,21 @@ unfolding examples answer ascii reading.readNumber format.formatGood chars.every
     bytes.toLe16 bytes.toLe32 bytes.toBe32 store.window order.bytesLe order.ordering header.isPage header.sizeGood header.keyLengthGood header.headerGood
     page.capacity page.entryOffset page.attributeGood page.countGood page.pageGood page.firstAtOrAbove pages.items pages.itemsAt pages.entriesAt
     lookup.entrySays lookup.pageSays lookup.visitRule lookup.lookupFrom lookup.lookupRule audit.leafEntriesGood audit.onward audit.upperEntries audit.chain
-    children.isLeaf audit.markedFrom audit.entriesFit audit.pageFits audit.checkPage audit.checkPages audit.rootLevel audit.nextLevel audit.levelsUnder
-    audit.heightOf audit.upperPages audit.upperLevels audit.shapeGood audit.keysAboveGood audit.pagesGood audit.unmarked shown tree100.key100
+    children.isLeaf audit.entriesFit audit.pageFits audit.checkPage audit.checkPages audit.counted audit.checkRows audit.rootLevel audit.nextLevel
+    audit.levelsUnder audit.heightOf audit.upperPages audit.upperLevels audit.shapeGood audit.keysAboveGood audit.pagesGood shown tree100.key100
     tree100.grown store.put layout.encode layout.area layout.withEntries layout.newPage layout.linkBeyond layout.splitPage entries.raised insertion.takeIn
     insertion.insertUnder insertion.insertedBuffer fresh.freshHeader fresh.freshBuffer fresh.freshRule fresh.printable fresh.expressionGood room.pathFrom
     room.noRoom calls.insertRule supply.supplyOf supply.takePage supply.supplyAfter supply.withSupply calls.hasControl reading.wholeMissing
-    reading.zeroDropped audit.down header.freeGood audit.isFreePage audit.freeFits audit.checkFree audit.restFree
+    reading.zeroDropped audit.down header.freeGood audit.isFreePage audit.freeFits audit.checkFree
 examples-hold = refl
 
 -- the audit's tests of the tree in 000
-tree000-tests : (header.headerGood tree.tree000 ≡ true) × (audit.pagesGood tree.tree000 audit.unmarked ≡ true)
+tree000-tests : (header.headerGood tree.tree000 ≡ true) × (audit.pagesGood tree.tree000 ≡ true)
 unfolding order.ordering tree.tree000 tree.padded tree.page tree.entry bytes.le16 bytes.le32 bytes.be32 bytes.toLe16 bytes.toLe32 bytes.toBe32 store.window
     order.bytesLe header.isPage header.sizeGood header.keyLengthGood header.headerGood page.capacity page.countGood pages.items pages.itemsAt
-    pages.entriesAt audit.leafEntriesGood audit.onward audit.upperEntries audit.chain children.isLeaf audit.markedFrom audit.entriesFit audit.pageFits
-    audit.checkPage audit.checkPages audit.rootLevel audit.nextLevel audit.levelsUnder audit.heightOf audit.down audit.upperPages audit.upperLevels
-    audit.shapeGood audit.keysAboveGood audit.pagesGood audit.unmarked header.freeGood audit.isFreePage audit.freeFits audit.checkFree audit.restFree
+    pages.entriesAt audit.leafEntriesGood audit.onward audit.upperEntries audit.chain children.isLeaf audit.entriesFit audit.pageFits
+    audit.checkPage audit.checkPages audit.counted audit.checkRows audit.rootLevel audit.nextLevel audit.levelsUnder audit.heightOf audit.down
+    audit.upperPages audit.upperLevels audit.shapeGood audit.keysAboveGood audit.pagesGood header.freeGood audit.isFreePage audit.freeFits audit.checkFree
 tree000-tests = (refl, refl)
 
 -- Theorem: the tree in 000 is sound, "every page but the first is reached from the root exactly once" and all the rest, by the audit's theorem

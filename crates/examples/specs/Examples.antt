@@ -56,7 +56,7 @@ unfoldable pub answer : Call → Answer
 answer (numeric s d) = ofNumber (reading.readNumber (ascii s) d)
 answer (dated s) = ofDate (date.dateOf (ascii s))
 answer (key000 s) = ofLookup (lookup.lookupRule tree.tree000 (ascii s))
-answer audit000 = ofAudit (header.headerGood tree.tree000) (audit.pagesGood tree.tree000 audit.unmarked)
+answer audit000 = ofAudit (header.headerGood tree.tree000) (audit.pagesGood tree.tree000)
 answer five100 = shown (tree100.grown 2048 5)
 answer (insert1024 x) = ofInsertion (calls.insertRule (tree100.grown 1024 4) (tree100.key100 x) 5 .answer)
 

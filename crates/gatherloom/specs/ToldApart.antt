@@ -44,7 +44,7 @@ use Rattle.lookup.specs.declared.Visit.{Visit}
 use Rattle.lookup.specs.declared.Visit.the-variants as visit
 use Rattle.lookup.specs.declared.Answer.{Answer}
 use Rattle.lookup.specs.declared.Answer.the-variants as looked
-use Rattle.sound.specs.Rule.{pagesGood, unmarked}
+use Rattle.sound.specs.Rule.{pagesGood}
 use Rattle.insert.specs.Room.{pathTo, noRoom}
 use Rattle.insert.specs.Fresh.{expressionGood, freshRule}
 use Rattle.insert.specs.Calls.{insertionCode, hasControl, insertRule}
@@ -315,7 +315,7 @@ insert-refusal b key r n e =
     (λ control. insertion-numbered 32 n (lit< tt, lit< tt) (rw (good, fits, control, insertRule) at e))
     (λ clean. either (eqb r 0)
     (λ none. insertion-numbered 28 n (lit< tt, lit< tt) (rw (good, fits, clean, none, insertRule) at e))
-    (λ some. either (pagesGood b unmarked)
+    (λ some. either (pagesGood b)
     (λ sound. either (pathTo (keyLength b) b key r .present)
     (λ found. insertion-numbered 29 n (lit< tt, lit< tt) (rw (good, fits, clean, some, sound, found, insertRule) at e))
     (λ absent. either (noRoom b (pathTo (keyLength b) b key r))
@@ -336,7 +336,7 @@ unfolding removeRule
 remove-refusal b key n e =
     either (headerGood b)
     (λ good. either (eqb (length key) (keyLength b))
-    (λ fits. either (pagesGood b unmarked)
+    (λ fits. either (pagesGood b)
     (λ sound. either (isFound (lookupRule b key))
     (λ found. let q : removal.Accepted ≡ removal.Refused n = rw (good, fits, sound, found, removeRule) at e in impossible (cc))
     (λ absent. removal-numbered 33 n (lit< tt, lit< tt) (rw (good, fits, sound, absent, removeRule) at e)))

@@ -316,11 +316,11 @@ pub extern "C" fn gl_table_lay_out(
 {
     let given = entries.len();
     let count = laying::listed_count(given);
-    let mut list = laying::no_fields();
+    let mut room = laying::no_fields();
     let mut j: usize = 0;
     while j < count {
-        list = laying::with_field(list, j, entries[j]);
+        laying::write_field(&mut room, j, entries[j]);
         j += 1;
     }
-    laying::lay_out(buffer, list, given, year, month, day)
+    laying::lay_out(buffer, &mut room, given, year, month, day)
 }

@@ -12,7 +12,7 @@ use Rattle.basis.specs.Tests.{contra, both}
 use Rattle.octets.specs.Store.{put}
 use Rattle.page.specs.Header.{minBytes, pageSize, noPage, keyLength, keyLengthGood, headerGood}
 use Rattle.page.specs.Reading.{items}
-use Rattle.sound.specs.Rule.{pagesGood, unmarked}
+use Rattle.sound.specs.Rule.{pagesGood}
 use Rattle.layout.specs.Layout.{headerBytes, newPage}
 use Rattle.insert.specs.Insertion.{insertedBuffer}
 use Rattle.insert.specs.Room.{pathTo, noRoom}
@@ -42,11 +42,11 @@ module _ (b key : List ℕ) (r : ℕ) where
         refused-28 z = rw (header, eq-eqb (length key) (keyLength b) same, clean, eq-eqb r 0 z, insertRule)
 
         module _ (some : r ≡ 0 → ⊥) where
-          pub refused-25 : pagesGood b unmarked ≡ false → insertRule b key r ≡ afterCall b (Refused 25)
+          pub refused-25 : pagesGood b ≡ false → insertRule b key r ≡ afterCall b (Refused 25)
           unfolding insertRule
           refused-25 e = rw (header, eq-eqb (length key) (keyLength b) same, clean, ne-eqb r 0 some, e, insertRule)
 
-          module _ (sound : pagesGood b unmarked ≡ true) where
+          module _ (sound : pagesGood b ≡ true) where
             pub refused-29 : pathTo (keyLength b) b key r .present ≡ true → insertRule b key r ≡ afterCall b (Refused 29)
             unfolding insertRule
             refused-29 e = rw (header, eq-eqb (length key) (keyLength b) same, clean, ne-eqb r 0 some, sound, e, insertRule)

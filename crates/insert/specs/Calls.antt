@@ -5,7 +5,7 @@ use mathlib.Core.List.{List, [], _∷_}
 use lib.ListN.{length}
 use lib.Dec.{eqb, ltb}
 use Rattle.page.specs.Header.{headerGood, keyLength}
-use Rattle.sound.specs.Rule.{pagesGood, unmarked}
+use Rattle.sound.specs.Rule.{pagesGood}
 use Rattle.insert.specs.Insertion.{insertedBuffer}
 use Rattle.insert.specs.Room.{pathTo, noRoom}
 use Rattle.insert.specs.declared.Insertion.{Insertion}
@@ -41,7 +41,7 @@ insertRule b key number =
           | true ↦ afterCall b (Refused 32)
           | false ↦ elim (eqb number 0) [
             | true ↦ afterCall b (Refused 28)
-            | false ↦ elim (pagesGood b unmarked) [
+            | false ↦ elim (pagesGood b) [
               | false ↦ afterCall b (Refused 25)
               | true ↦ elim (path .present) [
                 | true ↦ afterCall b (Refused 29)

@@ -46,7 +46,7 @@ afterChild k b key p i c (split q s) =
     cond (ltb i (length es)) two (step b bad)
 afterChild k b key p i c bad = step b bad
 
--- the entry e goes in under the page at p, with the supply s of new pages and the levels left falling from 11: into the page if it is a leaf, else under the
+-- the entry e goes in under the page at p, with the supply s of new pages and the levels left falling from 15: into the page if it is a leaf, else under the
 -- child of entry i, which is chosen once
 unfoldable pub insertUnder : ℕ → ℕ → List ℕ → Item → ℕ → Supply → Step
 insertUnder k zero b e p s = step b bad

@@ -27,7 +27,7 @@ onTop full path = record {
   present = path .present;
 }
 
--- the path of the entry e from the page at p on, with the levels left falling from 11; `nowhere` if p is no page, which does not occur in a sound index
+-- the path of the entry e from the page at p on, with the levels left falling from 15; `nowhere` if p is no page, which does not occur in a sound index
 unfoldable pub pathFrom : ℕ → ℕ → List ℕ → Item → ℕ → Path
 pathFrom k zero b e p = nowhere
 pathFrom k (suc left) b e p =
@@ -46,7 +46,7 @@ abbrev pub rootSplit : Path → ℕ
 rootSplit path = cond (eqb (path .run) (path .levels)) 1 0
 
 -- new pages: "One is needed for each full page in an unbroken run from the leaf up, and one more if the run has the root. 30 is given exactly when F would
--- pass the buffer or 1,048,576, or levels would pass 11": F is the file's end after these pages were taken from the supply
+-- pass the buffer or 16,777,216, or levels would pass 15": F is the file's end after these pages were taken from the supply
 unfoldable pub noRoom : List ℕ → Path → Bool
 noRoom b path =
     let size = supplyAfter (path .run + rootSplit path) b (supplyOf b) .end .0 in

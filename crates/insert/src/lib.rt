@@ -16,7 +16,7 @@ ghost use Rattle.page.specs.KeyOrder.{bytesOrder};
 ghost use Rattle.page.specs.Reading.{items};
 ghost use Rattle.layout.specs.Layout.{itemsIn};
 ghost use Rattle.layout.specs.Entries.{stored};
-ghost use Rattle.layout.specs.Given.{Over, Lasts};
+ghost use Rattle.layout.specs.Given.{Over, Lasts, roomSize};
 ghost use Rattle.insert.specs.Insertion.{split, step, takeIn, afterChild, insertUnder, atRoot, insertedBuffer};
 ghost use Rattle.insert.specs.Answers.{outcomeOf, NextFits};
 ghost use Rattle.insert.specs.Room.{onTop, pathFrom, pathTo, rootSplit, noRoom};
@@ -81,15 +81,15 @@ fn insert_in_leaf(
     number: RecordNumber,
     page: PageOffset,
     supply: Supply,
+    room: &mut [u8],
 ) -> Outcome
-    requires { ⌜ (length (now key) ≤ maxKey) × (isPage (length (now index)) (page .0) ≡ true) × Lasts 1 supply ⌝ }
+    requires { ⌜ (length (now key) ≤ maxKey) × (isPage (length (now index)) (page .0) ≡ true) × Lasts 1 supply × (roomSize ≤ length (now room)) ⌝ }
     ensures { λ r. ⌜ takeIn (length (now (key .entry))) (now (index .entry)) (page .0)
         (insertPair (byKey bytesOrder) (stored (now (key .entry)) (number .0)) (itemsIn (length (now (key .entry))) (now (index .entry)) (page .0)))
         supply ≡ step (now (index .exit)) (outcomeOf r) ⌝ }
 {
-    let mut room = [0u8; layout::ROOM];
     let count = layout::entry_count(index, key.len(), page);
-    layout::gather_pair(&mut room, index, key, number, page, count);
+    layout::gather_pair(room, index, key, number, page, count);
     let size = (count + 1) * (key.len() + 4);
     take_in(index, key.len(), page, count + 1, &room[..size], supply)
 }
@@ -103,8 +103,9 @@ fn take_in_two(
     child: PageOffset,
     new: PageOffset,
     supply: Supply,
+    room: &mut [u8],
 ) -> Outcome
-    requires { ⌜ (length (now key) ≤ maxKey) × (isPage (length (now index)) (page .0) ≡ true) × Lasts 1 supply ⌝ }
+    requires { ⌜ (length (now key) ≤ maxKey) × (isPage (length (now index)) (page .0) ≡ true) × Lasts 1 supply × (roomSize ≤ length (now room)) ⌝ }
     ensures { λ r. ⌜ afterChild (length (now (key .entry))) (now (index .entry)) (now (key .entry)) (page .0) i (child .0) (split (new .0) supply)
         ≡ step (now (index .exit)) (outcomeOf r) ⌝ }
 {
@@ -112,8 +113,7 @@ fn take_in_two(
     if count <= i {
         return Outcome::Bad;
     }
-    let mut room = [0u8; layout::ROOM];
-    layout::gather_two(&mut room, index, key, page, count, i, child, new);
+    layout::gather_two(room, index, key, page, count, i, child, new);
     let size = (count + 1) * (key.len() + 4);
     take_in(index, key.len(), page, count + 1, &room[..size], supply)
 }
@@ -126,8 +126,9 @@ fn after_child(
     i: usize,
     child: PageOffset,
     below: Outcome,
+    room: &mut [u8],
 ) -> Outcome
-    requires { ⌜ (length (now key) ≤ maxKey) × (isPage (length (now index)) (page .0) ≡ true) × NextFits below ⌝ }
+    requires { ⌜ (length (now key) ≤ maxKey) × (isPage (length (now index)) (page .0) ≡ true) × NextFits below × (roomSize ≤ length (now room)) ⌝ }
     ensures { λ r. ⌜ afterChild (length (now (key .entry))) (now (index .entry)) (now (key .entry)) (page .0) i (child .0) (outcomeOf below)
         ≡ step (now (index .exit)) (outcomeOf r) ⌝ }
 {
@@ -136,12 +137,13 @@ fn after_child(
             layout::raise_key(index, key, page, i);
             Outcome::Kept(supply)
         }
-        Outcome::Split(new, supply) => take_in_two(index, key, page, i, child, new, supply),
+        Outcome::Split(new, supply) => take_in_two(index, key, page, i, child, new, supply, room),
         Outcome::Bad => Outcome::Bad,
     }
 }
 
-// Insertion under a page, with `levels` levels left and new pages from `supply`.
+// Insertion under a page, with `levels` levels left and new pages from `supply`. One room serves all levels: each is done with it before the next one up
+// gathers.
 fn insert_under(
     index: &mut [u8],
     key: &[u8],
@@ -149,8 +151,9 @@ fn insert_under(
     page: PageOffset,
     levels: u32,
     supply: Supply,
+    room: &mut [u8],
 ) -> Outcome
-    requires { ⌜ (length (now key) ≤ maxKey) × Lasts levels supply ⌝ }
+    requires { ⌜ (length (now key) ≤ maxKey) × Lasts levels supply × (roomSize ≤ length (now room)) ⌝ }
     ensures { λ r. ⌜ insertUnder (length (now (key .entry))) levels (now (index .entry)) (stored (now (key .entry)) (number .0)) (page .0) supply
         ≡ step (now (index .exit)) (outcomeOf r) ⌝ }
 {
@@ -160,17 +163,24 @@ fn insert_under(
     let visit = layout::visit_page(index, key, number, page);
     match visit {
         Visit::Bad => Outcome::Bad,
-        Visit::Leaf => insert_in_leaf(index, key, number, page, supply),
+        Visit::Leaf => insert_in_leaf(index, key, number, page, supply, room),
         Visit::Child(i, child) => {
-            let below = insert_under(index, key, number, child, levels - 1, supply);
-            after_child(index, key, page, i, child, below)
+            let below = insert_under(index, key, number, child, levels - 1, supply, room);
+            after_child(index, key, page, i, child, below, room)
         }
     }
 }
 
 // Writes a new root over `old`, which was split, and `new`, on a page from `supply`; and the header's root offset and supply.
-fn new_root(index: &mut [u8], key: &[u8], old: PageOffset, new: PageOffset, supply: Supply)
-    requires { ⌜ (length (now key) ≤ maxKey) × Lasts 1 supply ⌝ }
+fn new_root(
+    index: &mut [u8],
+    key: &[u8],
+    old: PageOffset,
+    new: PageOffset,
+    supply: Supply,
+    room: &mut [u8],
+)
+    requires { ⌜ (length (now key) ≤ maxKey) × Lasts 1 supply × (roomSize ≤ length (now room)) ⌝ }
     ensures { λ _. ⌜ now (index .exit) ≡ atRoot (length (now (key .entry))) (now (index .entry)) (now (key .entry)) (old .0) (split (new .0) supply) ⌝ }
 {
     let taken = layout::take_page(index, supply);
@@ -178,8 +188,7 @@ fn new_root(index: &mut [u8], key: &[u8], old: PageOffset, new: PageOffset, supp
     if !page::is_page(index.len(), root) {
         return;
     }
-    let mut room = [0u8; layout::ROOM];
-    layout::gather_root(&mut room, index, key, old, new);
+    layout::gather_root(room, index, key, old, new);
     let size = 2 * (key.len() + 4);
     let none = PageOffset(page::NO_PAGE);
     let head = Page {
@@ -194,13 +203,13 @@ fn new_root(index: &mut [u8], key: &[u8], old: PageOffset, new: PageOffset, supp
 }
 
 // What is done at the root after an insertion under it left `below`.
-fn at_root(index: &mut [u8], key: &[u8], root: PageOffset, below: Outcome)
-    requires { ⌜ (length (now key) ≤ maxKey) × (pageSize ≤ length (now index)) × NextFits below ⌝ }
+fn at_root(index: &mut [u8], key: &[u8], root: PageOffset, below: Outcome, room: &mut [u8])
+    requires { ⌜ (length (now key) ≤ maxKey) × (pageSize ≤ length (now index)) × NextFits below × (roomSize ≤ length (now room)) ⌝ }
     ensures { λ _. ⌜ now (index .exit) ≡ atRoot (length (now (key .entry))) (now (index .entry)) (now (key .entry)) (root .0) (outcomeOf below) ⌝ }
 {
     match below {
         Outcome::Kept(supply) => layout::set_supply(index, supply),
-        Outcome::Split(new, supply) => new_root(index, key, root, new, supply),
+        Outcome::Split(new, supply) => new_root(index, key, root, new, supply, room),
         Outcome::Bad => {}
     }
 }
@@ -212,8 +221,17 @@ fn insert_pair(index: &mut [u8], key: &[u8], number: RecordNumber)
 {
     let root = page::root(index);
     let supply = layout::supply_of(index);
-    let below = insert_under(index, key, number, root, page::MAX_LEVELS, supply);
-    at_root(index, key, root, below);
+    let mut room = [0u8; layout::ROOM];
+    let below = insert_under(
+        index,
+        key,
+        number,
+        root,
+        page::MAX_LEVELS,
+        supply,
+        &mut room,
+    );
+    at_root(index, key, root, below, &mut room);
 }
 
 // Whether a page has as many entries as it holds.

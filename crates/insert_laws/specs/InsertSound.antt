@@ -24,7 +24,7 @@ use Rattle.tree.specs.ClauseLaws.{sized-rooted}
 use Rattle.tree.specs.InsertPages.{Injective, newPages, insert-pages}
 use Rattle.tree.specs.Insertion.{Grown}
 use Rattle.tree.specs.LinkLaws.{linked-same, headOr-differ, linked-right}
-use Rattle.tree.specs.ListLaws.{occ-append, occ-here}
+use Rattle.tree.specs.ListLaws.{occ-append, occ-here, occ-all}
 use Rattle.tree.specs.Lists.{concatMap, occ, countIf}
 use Rattle.tree.specs.Pairs.{byKey, has, insertPair}
 use Rattle.tree.specs.Relinking.{pathPage}
@@ -42,7 +42,6 @@ use Rattle.page.specs.Reading.{entriesAt}
 use Rattle.page.specs.ReadingLaws.{window-window}
 use Rattle.layout.specs.WriteLaws.{capacity-least}
 use Rattle.sound.specs.Sound.{indexTree, linksOf, FreePage, FreeList, Sound}
-use Rattle.sound.specs.MarkLaws.{occ-all}
 use Rattle.sound.specs.IndexLaws.{indexOf, settingOf, sound-index, sound-linked, all-occ, once-page, index-sound}
 use Rattle.insert.specs.Insertion.{insertedBuffer}
 use Rattle.insert.specs.Room.{pathTo, noRoom}

@@ -111,7 +111,7 @@ module _ (b key : List ℕ) (r : ℕ) (s : Sound b) where
       (sym (leaf-read route (passes (key, r)) (entriesIn (keyLength b) b) (λ j x z. refl) h (rootOffset b)) ∙ ap (routeLeaf route h) (sound-tree b s))
       ∙ leaf-has bytesOrder (key, r) h (indexTree b h) (sized-rooted (capacity (keyLength b)) h (indexTree b h) (i .sized)) (i .ordered)
 
--- F would pass the buffer or 1,048,576 exactly if it would pass the lesser
+-- F would pass the buffer or 16,777,216 exactly if it would pass the lesser
 less-both : (a b c : ℕ) → ltb (min a b) c ≡ (ltb a c || ltb b c)
 less-both a b c = either (ltb a c)
     (λ e. rw e (lt-ltb (min a b) c (omega (arith, ltb-true a c e))))

@@ -11,7 +11,7 @@ use borrow.Author.Tests.{eq-eqb, ne-eqb}
 use Rattle.basis.specs.Lists.{All}
 use Rattle.tree.specs.Clauses.{least, SizedUnder, Sized}
 use Rattle.tree.specs.IndexPages.{free-distinct, free-beyond}
-use Rattle.tree.specs.ListLaws.{nonEmpty-length, occ-append, occ-here}
+use Rattle.tree.specs.ListLaws.{nonEmpty-length, occ-append, occ-here, occ-all}
 use Rattle.tree.specs.Lists.{concatMap, occ}
 use Rattle.tree.specs.Store.{Store, readEntry, readTree}
 use Rattle.tree.specs.StoreLaws.{frame}
@@ -21,7 +21,6 @@ use Rattle.page.specs.HeaderLaws.{is-page, is-page-from, good-header}
 use Rattle.page.specs.Page.{attributeAt, leafBit, capacity}
 use Rattle.page.specs.Reading.{itemsAt, entriesAt}
 use Rattle.sound.specs.Sound.{indexTree, Sound}
-use Rattle.sound.specs.MarkLaws.{occ-all}
 use Rattle.sound.specs.IndexLaws.{indexOf, sound-sized, sound-index}
 use Rattle.layout_laws.specs.EntryLaws.{entriesIn}
 use Rattle.insert_laws.specs.Naming.{Usable, FreeGiven}

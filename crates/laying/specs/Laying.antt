@@ -11,7 +11,6 @@ use Rattle.table.specs.Range.{anyBelow}
 use Rattle.table.specs.Table.{minTable, maxFields, maxRecord, plainKind, memoKind, endMark, fileEnd, headerLength, isMemo, fieldOffset, fieldsGood}
 use Rattle.table.specs.Table.{namesDiffer, firstRefusal, tableChecks, firstYear, storableDate}
 use Rattle.field.specs.declared.FieldEntry.{FieldEntry}
-use Rattle.laying.specs.declared.FieldList.{FieldList}
 
 -- ---- the lent field list as descriptors
 
@@ -24,12 +23,16 @@ unfoldable pub descriptorsOf : List FieldEntry → List ℕ
 descriptorsOf [] = []
 descriptorsOf (e ∷ es) = descriptorOf e ++ descriptorsOf es
 
--- a list of no fields, and a list with another field j, from 0
-unfoldable pub noFields : FieldList
-noFields = record { bytes = replicate 4096 0 }
+-- the bytes of a table of 128 fields, H + 1
+abbrev pub roomLength : ℕ
+roomLength = 4130
 
-unfoldable pub withField : FieldList → ℕ → FieldEntry → FieldList
-withField list j e = record { bytes = put (list .bytes) (32 * j) (descriptorOf e) }
+-- a room with no fields, and a room with another field j, from 0, at the place of its descriptor
+unfoldable pub noFields : List ℕ
+noFields = replicate roomLength 0
+
+unfoldable pub withField : List ℕ → ℕ → FieldEntry → List ℕ
+withField room j e = put room (32 + 32 * j) (descriptorOf e)
 
 -- how many fields of a list are taken: a longer list is refused by 4
 unfoldable pub listedCount : ℕ → ℕ

@@ -13,8 +13,8 @@ use borrow.Author.Tests.{leb-true, le-leb, lt-leb, eq-eqb, ne-eqb}
 use Rattle.basis.specs.Tests.{both, join}
 use Rattle.octets.specs.Bytes.{byteAt, le16, le32, toLe16, toLe32}
 use Rattle.octets.specs.Store.{put, window}
-use Rattle.octets.specs.StoreLaws.{length-put, put-append, put-comm, stored2, getD-window, window-same, window-before}
-use Rattle.octets.specs.NumberLaws.{length-toLe16, le16-put, le16-same}
+use Rattle.octets.specs.StoreLaws.{length-put, put-append, put-comm, stored2, length-window, getD-window, window-same, window-after}
+use Rattle.octets.specs.NumberLaws.{length-toLe16, le16-put}
 use Rattle.calendar.specs.Calendar.{isDate}
 use Rattle.table.specs.Range.{anyBelow}
 use Rattle.table.specs.RangeLaws.{any-same, sum-same}
@@ -27,7 +27,6 @@ use Rattle.table.specs.TableLaws.{HeaderFits, first-pass, good-then, refused-th
 use Rattle.table.specs.declared.Shape.{Shape}
 use Rattle.table.specs.declared.Checked.the-variants.{Good, Refused}
 use Rattle.field.specs.declared.FieldEntry.{FieldEntry}
-use Rattle.laying.specs.declared.FieldList.{FieldList}
 use Rattle.laying.specs.Laying.{descriptorOf, withField, placed, kindFor, listsMemo, headerSize, recordSize, headerOf, laidOut}
 use Rattle.laying.specs.Laying.{countGood, layChecks, layRefusal, layOut, layTable, laid}
 
@@ -37,18 +36,21 @@ pub count-range : (f : ℕ) → countGood f ≡ true → (1 ≤ f) × (f ≤ max
 unfolding countGood
 count-range f e = let parts = both (leb 1 f) (leb f maxFields) e in (leb-true 1 f (parts .0), leb-true f maxFields (parts .1))
 
--- what the stores rest on: a date and a count that pass, the descriptors of so many fields, and room for the table
-pub record Layable (space given f year month day : ℕ) : Type 0 where
+-- what the stores rest on: a date and a count that pass, and room for the table
+pub record Layable (space f year month day : ℕ) : Type 0 where
   pub date : StorableDate year month day
   pub some : 1 ≤ f
   pub few : f ≤ maxFields
-  pub size : given ≡ 32 * f
   pub room : headerSize f + 1 ≤ space
 
--- and what they leave: the table at the front of the room, with a record's length that two bytes hold
-pub record Written (room after ds : List ℕ) (f year month day : ℕ) : Type 0 where
-  pub bytes : after ≡ put room 0 (laidOut ds f year month day)
-  pub small : recordSize ds f < 2 ^ 16
+-- the descriptors of f fields in a room
+abbrev pub listed : List ℕ → ℕ → List ℕ
+listed room f = window room 32 (32 * f)
+
+-- and what they leave: the table of these at the front of the room, with a record's length that two bytes hold
+pub record Written (room after : List ℕ) (f year month day : ℕ) : Type 0 where
+  pub bytes : after ≡ put room 0 (laidOut (listed room f) f year month day)
+  pub small : recordSize (listed room f) f < 2 ^ 16
 
 -- ---- a list of bytes that holds the descriptors ds of f fields at their places
 
@@ -274,52 +276,66 @@ pieces b first size ds record-size rest e₁ e₂ e₃ e₄ =
       put-comm (put (put b 8 size) 32 ds) 0 first 10 record-size (omega arith),
     )
 
--- the room with its header's length and the descriptors
-module _ (b b₁ b₂ ds : List ℕ) (f year month day : ℕ) (given : Layable (length b) (length ds) f year month day)
-    (e₁ : b₁ ≡ put b 8 (toLe16 (32 + 32 * f + 1))) (e₂ : b₂ ≡ put b₁ 32 ds) where
-  length-begun : length b₂ ≡ length b
-  length-begun = rw (e₂, length-put, e₁, length-put)
+-- a part that is stored at its own place changes nothing
+put-own : (xs : List ℕ) (at n : ℕ) → put xs at (window xs at n) ≡ xs
+unfolding put window
+put-own [] at n = refl
+put-own (x ∷ xs) zero zero = refl
+put-own (x ∷ xs) zero (suc n) = ap (λ (l : List ℕ). x ∷ l) (put-own xs zero n)
+put-own (x ∷ xs) (suc at) n = ap (λ (l : List ℕ). x ∷ l) (put-own xs at n)
 
-  begun-holds : Holds b₂ ds f
-  begun-holds =
-      let same : length b₁ ≡ length b = rw (e₁, length-put) in
-      record {
-        size = given .size;
-        byte = λ k l.
-            sym (getD-window b₂ 32 (length ds) k 0 (omega (arith, given .size)))
-            ∙ rw e₂ (ap (λ (s : List ℕ). byteAt s k) (window-same b₁ 32 ds (length ds) refl (omega (arith, given .size, given .room))));
-      }
+-- the room with its header's length; its descriptors are as they were
+module _ (b b₁ : List ℕ) (f year month day : ℕ) (given : Layable (length b) f year month day) (e₁ : b₁ ≡ put b 8 (toLe16 (32 + 32 * f + 1))) where
+  abbrev ds : List ℕ
+  ds = listed b f
 
-  begun-header : headerLength b₂ ≡ headerSize f
+  listed-size : length ds ≡ 32 * f
+  listed-size = length-window b 32 (32 * f) (omega (arith, given .room))
+
+  length-begun : length b₁ ≡ length b
+  length-begun = rw (e₁, length-put)
+
+  begun-kept : window b₁ 32 (32 * f) ≡ ds
+  begun-kept = rw e₁ (window-after b 8 (toLe16 (32 + 32 * f + 1)) 32 (32 * f) (omega (arith, length-toLe16 (32 + 32 * f + 1))))
+
+  begun-put : b₁ ≡ put (put b 8 (toLe16 (32 + 32 * f + 1))) 32 ds
+  begun-put = sym (put-own b₁ 32 (32 * f)) ∙ rw (begun-kept, e₁)
+
+  begun-holds : Holds b₁ ds f
+  begun-holds = record {
+    size = listed-size;
+    byte = λ k l. sym (getD-window b₁ 32 (32 * f) k 0 l) ∙ ap (λ (s : List ℕ). byteAt s k) begun-kept;
+  }
+
+  begun-header : headerLength b₁ ≡ headerSize f
   unfolding headerLength
   begun-header =
-      let kept : le16 b₂ 8 ≡ le16 b₁ 8 = rw e₂ (le16-same (put b₁ 32 ds) b₁ 8 (window-before b₁ 32 ds 8 2 (omega arith))) in
       let stored : le16 b₁ 8 ≡ 32 + 32 * f + 1 = rw e₁ (le16-put b 8 (32 + 32 * f + 1) (omega (arith, given .few)) (omega (arith, given .room))) in
       omega arith
 
-  pub begun-fits : HeaderFits b₂
-  begun-fits = fits-held b₂ f begun-header (given .some) (given .few) (rw length-begun (omega (arith, given .room)))
+  pub begun-fits : HeaderFits b₁
+  begun-fits = fits-held b₁ f begun-header (given .some) (given .few) (rw length-begun (omega (arith, given .room)))
 
-  begun-memo : hasMemo b₂ ≡ listsMemo ds f
+  begun-memo : hasMemo b₁ ≡ listsMemo ds f
   unfolding hasMemo
-  begun-memo = rw (count-held b₂ f begun-header) (memo-held b₂ ds f begun-holds)
+  begun-memo = rw (count-held b₁ f begun-header) (memo-held b₁ ds f begun-holds)
 
-  pub begun-size : fieldOffset b₂ f ≡ recordSize ds f
-  begun-size = size-held b₂ ds f begun-holds
+  pub begun-size : fieldOffset b₁ f ≡ recordSize ds f
+  begun-size = size-held b₁ ds f begun-holds
 
-  module _ (kind size : ℕ) (b₃ b₄ b₅ : List ℕ) (k : kind ≡ kindFor (hasMemo b₂)) (r : size ≡ fieldOffset b₂ f) (e₃ : b₃ ≡ put b₂ 10 (toLe16 size))
-      (e₄ : b₄ ≡ put b₃ 0 (kind ∷ (year - firstYear) ∷ month ∷ day ∷ 0 ∷ 0 ∷ 0 ∷ 0 ∷ [])) (e₅ : b₅ ≡ put b₄ 12 (replicate 20 0)) where
+  module _ (kind size : ℕ) (b₂ b₃ b₄ : List ℕ) (k : kind ≡ kindFor (hasMemo b₁)) (r : size ≡ fieldOffset b₁ f) (e₂ : b₂ ≡ put b₁ 10 (toLe16 size))
+      (e₃ : b₃ ≡ put b₂ 0 (kind ∷ (year - firstYear) ∷ month ∷ day ∷ 0 ∷ 0 ∷ 0 ∷ 0 ∷ [])) (e₄ : b₄ ≡ put b₃ 12 (replicate 20 0)) where
     -- the rest of the header
-    header-written : b₅ ≡ put (put b 0 (headerOf ds f year month day)) 32 ds
+    header-written : b₄ ≡ put (put b 0 (headerOf ds f year month day)) 32 ds
     unfolding headerOf toLe32
     header-written =
         let first : List ℕ = kindFor (listsMemo ds f) ∷ (year - firstYear) ∷ month ∷ day ∷ 0 ∷ 0 ∷ 0 ∷ 0 ∷ [] in
         let length-is : 32 + 32 * f + 1 ≡ headerSize f = omega arith in
-        e₅ ∙ rw (e₄, e₃, k, begun-memo, r, begun-size, e₂, e₁, length-is)
+        e₄ ∙ rw (e₃, e₂, k, begun-memo, r, begun-size, begun-put, length-is)
         (pieces b first (toLe16 (headerSize f)) ds (toLe16 (recordSize ds f)) (replicate 20 0) refl (length-toLe16 _) (length-toLe16 _) refl)
 
     -- and the marks
-    pub written : set (set b₅ (32 + 32 * f) endMark) (32 + 32 * f + 1) fileEnd ≡ put b 0 (laidOut ds f year month day)
+    pub written : set (set b₄ (32 + 32 * f) endMark) (32 + 32 * f + 1) fileEnd ≡ put b 0 (laidOut ds f year month day)
     unfolding laidOut
     written =
         let header = headerOf ds f year month day in
@@ -328,28 +344,33 @@ module _ (b b₁ b₂ ds : List ℕ) (f year month day : ℕ) (given : Layable (
           put-append b 0 header (ds ++ marks),
           length-header ds f year month day,
           put-append (put b 0 header) 32 ds marks,
-          given .size,
+          listed-size,
           header-written,
         )
         (stored2 (put (put b 0 header) 32 ds) (32 + 32 * f) endMark fileEnd)
 
 -- what was made at the front of a room
-module _ (room made ds : List ℕ) (f year month day : ℕ) (given : Layable (length room) (length ds) f year month day)
-    (e : made ≡ put room 0 (laidOut ds f year month day)) where
-  made-front : take (32 + 32 * f + 2) made ≡ laidOut ds f year month day
+module _ (room made : List ℕ) (f year month day : ℕ) (given : Layable (length room) f year month day)
+    (e : made ≡ put room 0 (laidOut (listed room f) f year month day)) where
+  made-size : length (listed room f) ≡ 32 * f
+  made-size = length-window room 32 (32 * f) (omega (arith, given .room))
+
+  made-front : take (32 + 32 * f + 2) made ≡ laidOut (listed room f) f year month day
   unfolding window
   made-front =
-      let t = laidOut ds f year month day in
-      let long : length t ≡ 32 + 32 * f + 2 = length-laid ds f year month day (given .size) ∙ omega arith in
+      let t = laidOut (listed room f) f year month day in
+      let long : length t ≡ 32 + 32 * f + 2 = length-laid (listed room f) f year month day made-size ∙ omega arith in
       rw e (window-same room 0 t (32 + 32 * f + 2) long (omega (arith, given .room)))
 
   pub made-length : length (take (32 + 32 * f + 2) made) ≡ headerLength (take (32 + 32 * f + 2) made) + 1
-  made-length = rw made-front (length-laid ds f year month day (given .size) ∙ rw (laid-header ds f year month day (given .size) (given .few)))
+  made-length =
+      let ds = listed room f in
+      rw made-front (length-laid ds f year month day made-size ∙ rw (laid-header ds f year month day made-size (given .few)))
 
   -- is what the call lays out
-  pub lay-made : (b : List ℕ) → storableDate year month day ≡ true → countGood f ≡ true → recordSize ds f < 2 ^ 16
-      → layOut b ds f year month day ≡ layTable b (take (32 + 32 * f + 2) made)
-  lay-made b date count small = rw made-front (lay-checked b ds f year month day date count (given .size) small)
+  pub lay-made : (b : List ℕ) → storableDate year month day ≡ true → countGood f ≡ true → recordSize (listed room f) f < 2 ^ 16
+      → layOut b (listed room f) f year month day ≡ layTable b (take (32 + 32 * f + 2) made)
+  lay-made b date count small = rw made-front (lay-checked b (listed room f) f year month day date count made-size small)
 
 -- ---- the descriptors
 
@@ -372,21 +393,22 @@ set-three b p k l d =
     rw (first, second, set-inside b p (k ∷ 0 ∷ 0 ∷ 0 ∷ 0 ∷ l ∷ replicate 15 0) 6 d (omega arith))
 
 -- the name, zeros behind it, and the type, the length and the decimals among these
-pub field-put : (list : FieldList) (j : ℕ) (e : FieldEntry) (b₁ b₂ : List ℕ) → length (e .name) ≡ 11 → b₁ ≡ put (list .bytes) (32 * j) (e .name)
-    → b₂ ≡ put b₁ (32 * j + 11) (replicate (32 * j + 32 - (32 * j + 11)) 0)
-    → record { bytes = set (set (set b₂ (32 * j + 11) (e .kind)) (32 * j + 16) (e .length)) (32 * j + 17) (e .decimals) } ≡ withField list j e
+pub field-put : (room : List ℕ) (j : ℕ) (e : FieldEntry) (b₁ b₂ : List ℕ) → length (e .name) ≡ 11 → b₁ ≡ put room (32 + 32 * j) (e .name)
+    → b₂ ≡ put b₁ (32 + 32 * j + 11) (replicate (32 + 32 * j + 32 - (32 + 32 * j + 11)) 0)
+    → set (set (set b₂ (32 + 32 * j + 11) (e .kind)) (32 + 32 * j + 16) (e .length)) (32 + 32 * j + 17) (e .decimals) ≡ withField room j e
 unfolding withField descriptorOf
-field-put list j e b₁ b₂ n e₁ e₂ =
-    let zeros : 32 * j + 32 - (32 * j + 11) ≡ 21 = omega arith in
-    let length-at : 32 * j + 16 ≡ 32 * j + 11 + 5 = omega arith in
-    let decimals-at : 32 * j + 17 ≡ 32 * j + 11 + 6 = omega arith in
-    let stored : b₂ ≡ put b₁ (32 * j + 11) (replicate 21 0) = rw zeros at e₂ in
+field-put room j e b₁ b₂ n e₁ e₂ =
+    let p = 32 + 32 * j in
+    let zeros : p + 32 - (p + 11) ≡ 21 = omega arith in
+    let length-at : p + 16 ≡ p + 11 + 5 = omega arith in
+    let decimals-at : p + 17 ≡ p + 11 + 6 = omega arith in
+    let stored : b₂ ≡ put b₁ (p + 11) (replicate 21 0) = rw zeros at e₂ in
     rw (
       length-at,
       decimals-at,
       stored,
-      set-three b₁ (32 * j + 11) (e .kind) (e .length) (e .decimals),
+      set-three b₁ (p + 11) (e .kind) (e .length) (e .decimals),
       e₁,
-      put-append (list .bytes) (32 * j) (e .name) _,
+      put-append room p (e .name) _,
       n,
     )

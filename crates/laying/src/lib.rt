@@ -3,10 +3,11 @@ use field::FieldEntry;
 use table::Checked;
 ghost use Prim.Native.Nat.{_+_, _*_, _<_};
 ghost use mathlib.Core.Path.{_≡_};
-ghost use lib.ListN.{length, take};
+ghost use lib.ListN.{length};
+ghost use Rattle.octets.specs.Store.{window};
 ghost use Rattle.table.specs.Table.{maxFields, headerLength, hasMemo};
 ghost use Rattle.table.specs.TableLaws.{HeaderFits};
-ghost use Rattle.laying.specs.Laying.{noFields, withField, listedCount, countGood, kindFor, layOut, layTable, laid};
+ghost use Rattle.laying.specs.Laying.{roomLength, noFields, withField, listedCount, countGood, kindFor, layOut, layTable, laid};
 ghost use Rattle.laying.specs.LayingLaws.{Layable, Written};
 
 // Where the header holds its own length and the record's, and where it says no more.
@@ -18,39 +19,29 @@ const UNREAD_AT: usize = 12;
 
 const NAME_LENGTH: usize = 11;
 
-// The descriptors of 128 fields, and the longest table that is laid out: its header and its end mark.
-const LIST_LENGTH: usize = 4096;
-
+// The longest table that is laid out: its header of 128 fields and its end mark.
 const ROOM: usize = 4130;
 
-// The descriptors of up to 128 fields, one after another.
-pub struct FieldList {
-    pub bytes: [u8; 4096],
-}
-
-pub fn no_fields() -> FieldList
+// A room for the longest table, with no field in it. The table is made in this one room, from its fields to its end mark: the stack has no other copy of it.
+pub fn no_fields() -> [u8; 4130]
     ensures { λ r. ⌜ r ≡ noFields ⌝ }
 {
-    FieldList {
-        bytes: [0; LIST_LENGTH],
-    }
+    [0; ROOM]
 }
 
-// A list with another field j, from 0. The bytes of a descriptor that nothing reads are zero.
-pub fn with_field(list: FieldList, j: usize, entry: FieldEntry) -> FieldList
-    requires { ⌜ j < maxFields ⌝ }
-    ensures { λ r. ⌜ r ≡ withField list j entry ⌝ }
+// Writes field j, from 0, at its place in the room. The bytes of a descriptor that nothing reads are zero.
+pub fn write_field(room: &mut [u8], j: usize, entry: FieldEntry)
+    requires { ⌜ (j < maxFields) × (length (now room) ≡ roomLength) ⌝ }
+    ensures { λ _. ⌜ now (room .exit) ≡ withField (now (room .entry)) j entry ⌝ }
 {
-    let mut bytes = list.bytes;
-    let at = table::DESCRIPTOR_LENGTH * j;
+    let at = table::DESCRIPTORS + table::DESCRIPTOR_LENGTH * j;
     let name = entry.name;
-    octets::copy_in(&mut bytes, at, &name);
+    octets::copy_in(room, at, &name);
     let end = at + table::DESCRIPTOR_LENGTH;
-    octets::fill(&mut bytes, at + NAME_LENGTH, end, 0);
-    bytes[at + table::TYPE_AT] = entry.kind;
-    bytes[at + table::LENGTH_AT] = entry.length;
-    bytes[at + table::DECIMALS_AT] = entry.decimals;
-    FieldList { bytes }
+    octets::fill(room, at + NAME_LENGTH, end, 0);
+    room[at + table::TYPE_AT] = entry.kind;
+    room[at + table::LENGTH_AT] = entry.length;
+    room[at + table::DECIMALS_AT] = entry.decimals;
 }
 
 // How many fields of a list of `given` are taken: no table has more than 128.
@@ -81,14 +72,13 @@ fn kind_of(table: &[u8]) -> u8
     table::PLAIN_KIND as u8
 }
 
-// Writes a table's bytes to the front of a room: the header with its descriptors, and the end mark.
-fn write_table(room: &mut [u8], descriptors: &[u8], count: usize, year: u32, month: u32, day: u32)
-    requires { ⌜ Layable (length (now room)) (length (now descriptors)) count year month day ⌝ }
-    ensures { λ _. ⌜ Written (now (room .entry)) (now (room .exit)) (now (descriptors .entry)) count year month day ⌝ }
+// Writes the rest of a table around the descriptors of `count` fields in a room: the header before them, and the end marks behind them.
+fn write_table(room: &mut [u8], count: usize, year: u32, month: u32, day: u32)
+    requires { ⌜ Layable (length (now room)) count year month day ⌝ }
+    ensures { λ _. ⌜ Written (now (room .entry)) (now (room .exit)) count year month day ⌝ }
 {
     let end = table::DESCRIPTORS + table::DESCRIPTOR_LENGTH * count;
     octets::store_le16(room, HEADER_LENGTH_AT, (end + 1) as u32);
-    octets::copy_in(room, table::DESCRIPTORS, descriptors);
     let kind = kind_of(room);
     let length = table_fields::field_offset(room, count);
     octets::store_le16(room, RECORD_LENGTH_AT, length as u32);
@@ -125,16 +115,17 @@ fn lay_table(buffer: &mut [u8], table: &[u8]) -> u32
     }
 }
 
-// Lays out an empty table with the first `count` fields of a list: 0, or the number of the refusal, which changes nothing.
+// Lays out an empty table with the first `count` fields of a room: 0, or the number of the refusal, which changes no byte of the buffer.
 pub fn lay_out(
     buffer: &mut [u8],
-    list: FieldList,
+    room: &mut [u8],
     count: usize,
     year: u32,
     month: u32,
     day: u32,
 ) -> u32
-    ensures { λ r. ⌜ layOut (now (buffer .entry)) (take (32 * count) (list .bytes)) count year month day ≡ laid (now (buffer .exit)) r ⌝ }
+    requires { ⌜ length (now room) ≡ roomLength ⌝ }
+    ensures { λ r. ⌜ layOut (now (buffer .entry)) (window (now (room .entry)) 32 (32 * count)) count year month day ≡ laid (now (buffer .exit)) r ⌝ }
 {
     if !table::storable_date(year, month, day) {
         return refusal::UPDATE_DATE;
@@ -142,9 +133,9 @@ pub fn lay_out(
     if !count_good(count) {
         return refusal::HEADER_LENGTH;
     }
-    let mut room = [0u8; ROOM];
-    let descriptors = list.bytes;
-    let end = table::DESCRIPTOR_LENGTH * count;
-    write_table(&mut room, &descriptors[..end], count, year, month, day);
-    lay_table(buffer, &room[..table::DESCRIPTORS + end + 2])
+    write_table(room, count, year, month, day);
+    lay_table(
+        buffer,
+        &room[..table::DESCRIPTORS + table::DESCRIPTOR_LENGTH * count + 2],
+    )
 }

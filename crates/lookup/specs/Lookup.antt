@@ -49,14 +49,14 @@ decided go pages visit.Absent = answer.Absent pages
 decided go pages (visit.Found r) = answer.Found r pages
 decided go pages (visit.Child c) = go (c .0)
 
--- lookup "goes down level by level": from the page at p on, with a number of levels left, "falling from 11"; the page that is visited with all levels left is
+-- lookup "goes down level by level": from the page at p on, with a number of levels left, "falling from 15"; the page that is visited with all levels left is
 -- the first, and the page with none left under it is the 11th
 unfoldable pub lookupFrom : ℕ → List ℕ → List ℕ → ℕ → Answer
 lookupFrom zero b key p = answer.Refused 25
 lookupFrom (suc left) b key p =
     decided (lookupFrom left b key) (maxLevels - left) (visitRule b key p (eqb (maxLevels - left) 1) (eqb left 0))
 
--- the answer: "24, 27", then the steps from the root with 11 levels left
+-- the answer: "24, 27", then the steps from the root with 15 levels left
 unfoldable pub lookupRule : List ℕ → List ℕ → Answer
 lookupRule b key =
     elim (headerGood b) [

@@ -16,7 +16,7 @@ use Rattle.field.specs.Field.{numberGood}
 use Rattle.cell.specs.AnswerLaws.{table-small}
 use Rattle.page.specs.Header.{keyLength, headerGood}
 use Rattle.sound.specs.Sound.{Sound, leafPairs}
-use Rattle.sound.specs.Rule.{pagesGood, unmarked}
+use Rattle.sound.specs.Rule.{pagesGood}
 use Rattle.sound.specs.Accepted.{accepted, answer-sound}
 use Rattle.sound.specs.Accepted.{answer-unsound as audit-unsound}
 use Rattle.matching.specs.Match.{matchRefusal, Matches, Matched}
@@ -56,7 +56,7 @@ module _ (t b : List ℕ) (field : ℕ) where
       (λ z.
       let none = eqb-true (matchRefusal t b field) 0 z in
       let header = ready t b field (table-good t b field none) none .header in
-      either (pagesGood b unmarked)
+      either (pagesGood b)
       (λ p.
       let s = accepted b header .0 p in
       let test = test-exactly t field (leafPairs b s) (s .ascending) in
@@ -128,22 +128,22 @@ module _ (t b : List ℕ) (field : ℕ) where
 
   -- the computed answer in its four cases
   abbrev checks : List (Bool × ℕ)
-  checks = (pagesGood b unmarked, 25) ∷ (entriesMatch t (columnOf t field) 0 (leafEntries b), 31) ∷ []
+  checks = (pagesGood b, 25) ∷ (entriesMatch t (columnOf t field) 0 (leafEntries b), 31) ∷ []
 
   computed-refused : eqb (matchRefusal t b field) 0 ≡ false → matchAnswer t b field ≡ matchRefusal t b field
   unfolding matchAnswer
   computed-refused z = first-fail (eqb (matchRefusal t b field) 0) (matchRefusal t b field) checks z
 
   module _ (z : eqb (matchRefusal t b field) 0 ≡ true) where
-    computed-unsound : pagesGood b unmarked ≡ false → matchAnswer t b field ≡ 25
+    computed-unsound : pagesGood b ≡ false → matchAnswer t b field ≡ 25
     unfolding matchAnswer firstRefusal
     computed-unsound p = rw (z, p)
 
-    computed-matched : pagesGood b unmarked ≡ true → entriesMatch t (columnOf t field) 0 (leafEntries b) ≡ true → matchAnswer t b field ≡ 0
+    computed-matched : pagesGood b ≡ true → entriesMatch t (columnOf t field) 0 (leafEntries b) ≡ true → matchAnswer t b field ≡ 0
     unfolding matchAnswer firstRefusal
     computed-matched p e = rw (z, p, e)
 
-    computed-other : pagesGood b unmarked ≡ true → entriesMatch t (columnOf t field) 0 (leafEntries b) ≡ false → matchAnswer t b field ≡ 31
+    computed-other : pagesGood b ≡ true → entriesMatch t (columnOf t field) 0 (leafEntries b) ≡ false → matchAnswer t b field ≡ 31
     unfolding matchAnswer firstRefusal
     computed-other p e = rw (z, p, e)
 
@@ -152,7 +152,7 @@ module _ (t b : List ℕ) (field : ℕ) where
       (λ z.
       let none = eqb-true (matchRefusal t b field) 0 z in
       let header = ready t b field (table-good t b field none) none .header in
-      either (pagesGood b unmarked)
+      either (pagesGood b)
       (λ p.
       let audited = answer-sound b header p in
       either (entriesMatch t (columnOf t field) 0 (leafEntries b))

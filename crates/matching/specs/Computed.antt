@@ -4,7 +4,7 @@ use Prim.Native.Nat.{ℕ}
 use mathlib.Core.List.{List, [], _∷_}
 use lib.Dec.{eqb}
 use Rattle.table.specs.Table.{firstRefusal}
-use Rattle.sound.specs.Rule.{pagesGood, unmarked}
+use Rattle.sound.specs.Rule.{pagesGood}
 use Rattle.matching.specs.Match.{matchRefusal}
 use Rattle.matching.specs.Rule.{columnOf, entriesMatch, leafEntries}
 
@@ -13,6 +13,6 @@ unfoldable pub matchAnswer : List ℕ → List ℕ → ℕ → ℕ
 matchAnswer t b field =
     let refusal = matchRefusal t b field in
     firstRefusal ((eqb refusal 0, refusal)
-    ∷ (pagesGood b unmarked, 25)
+    ∷ (pagesGood b, 25)
     ∷ (entriesMatch t (columnOf t field) 0 (leafEntries b), 31)
     ∷ [])

@@ -21,7 +21,8 @@ use Rattle.sound.specs.Levels.{numbers, below, generation, join-map, generation
 use Rattle.sound.specs.Levels.{tree-pairs, level-generation, pages-generation}
 use Rattle.sound.specs.LevelLaws.{next-head}
 use Rattle.sound.specs.ShapeLaws.{rootEntry, levelPages, entries-filled, sound-shape}
-use Rattle.sound.specs.KeyLaws.{head-all, level-chain}
+use Rattle.sound.specs.DistinctLaws.{head-all}
+use Rattle.sound.specs.KeyLaws.{level-chain}
 use Rattle.matching.specs.Rule.{firstLeaf, leafEntries}
 use Rattle.matching.specs.StepLaws.{first-here, first-lower}
 

@@ -12,12 +12,12 @@ pub use Rattle.tree.specs.Constants.{pageSize, noPage}
 abbrev pub minBytes : ℕ
 minBytes = 1024
 
--- the largest index, "1,048,576", and the most levels, "at most 11"
+-- the largest index, "16,777,216", and the most levels, "at most 15"
 abbrev pub maxBytes : ℕ
-maxBytes = 1048576
+maxBytes = 16777216
 
 abbrev pub maxLevels : ℕ
-maxLevels = 11
+maxLevels = 15
 
 -- "k is 1 to 100"
 abbrev pub maxKey : ℕ
@@ -70,7 +70,7 @@ goodFeatures = 1
 unfoldable pub isPage : ℕ → ℕ → Bool
 isPage size p = eqb (p % pageSize) 0 && (leb pageSize p && leb (p + pageSize) size)
 
--- "F is a multiple of 512 from 1,024 to 1,048,576 and within the buffer"
+-- "F is a multiple of 512 from 1,024 to 16,777,216 and within the buffer"
 unfoldable pub sizeGood : ℕ → ℕ → Bool
 sizeGood buffer size = eqb (size % pageSize) 0 && (leb minBytes size && (leb size maxBytes && leb size buffer))
 

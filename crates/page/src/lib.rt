@@ -35,12 +35,12 @@ pub const GOOD_FEATURES: u32 = 1;
 pub const MIN_BYTES: usize = 1024;
 
 // The largest index, in bytes and in pages.
-pub const MAX_BYTES: usize = 1048576;
+pub const MAX_BYTES: usize = 16777216;
 
 pub const MAX_PAGES: usize = MAX_BYTES / Page::SIZE;
 
 // The most levels from the root to a leaf, both counted.
-pub const MAX_LEVELS: u32 = 11;
+pub const MAX_LEVELS: u32 = 15;
 
 // The longest key.
 pub const MAX_KEY: usize = 100;

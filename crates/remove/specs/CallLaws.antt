@@ -6,7 +6,7 @@ use mathlib.Core.List.{List}
 use lib.ListN.{length}
 use borrow.Author.Tests.{eq-eqb, ne-eqb}
 use Rattle.page.specs.Header.{keyLength, headerGood}
-use Rattle.sound.specs.Rule.{pagesGood, unmarked}
+use Rattle.sound.specs.Rule.{pagesGood}
 use Rattle.lookup.specs.Lookup.{lookupRule, isFound}
 use Rattle.remove.specs.Removal.{removedBuffer}
 use Rattle.remove.specs.Calls.{afterCall, removeRule}
@@ -24,11 +24,11 @@ module _ (b key : List ℕ) where
     refused-27 s = rw (header, ne-eqb (length key) (keyLength b) s, removeRule)
 
     module _ (same : length key ≡ keyLength b) where
-      pub refused-25 : pagesGood b unmarked ≡ false → removeRule b key ≡ afterCall b (Refused 25)
+      pub refused-25 : pagesGood b ≡ false → removeRule b key ≡ afterCall b (Refused 25)
       unfolding removeRule
       refused-25 e = rw (header, eq-eqb (length key) (keyLength b) same, e, removeRule)
 
-      module _ (sound : pagesGood b unmarked ≡ true) where
+      module _ (sound : pagesGood b ≡ true) where
         pub refused-33 : isFound (lookupRule b key) ≡ false → removeRule b key ≡ afterCall b (Refused 33)
         unfolding removeRule
         refused-33 e = rw (header, eq-eqb (length key) (keyLength b) same, sound, e, removeRule)

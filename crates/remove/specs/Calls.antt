@@ -5,7 +5,7 @@ use mathlib.Core.List.{List}
 use lib.ListN.{length}
 use lib.Dec.{eqb}
 use Rattle.page.specs.Header.{headerGood, keyLength}
-use Rattle.sound.specs.Rule.{pagesGood, unmarked}
+use Rattle.sound.specs.Rule.{pagesGood}
 use Rattle.lookup.specs.Lookup.{lookupRule, isFound}
 use Rattle.remove.specs.Removal.{removedBuffer}
 use Rattle.remove.specs.declared.Removal.{Removal}
@@ -26,7 +26,7 @@ removeRule b key =
       | false ↦ afterCall b (Refused 24)
       | true ↦ elim (eqb (length key) (keyLength b)) [
         | false ↦ afterCall b (Refused 27)
-        | true ↦ elim (pagesGood b unmarked) [
+        | true ↦ elim (pagesGood b) [
           | false ↦ afterCall b (Refused 25)
           | true ↦ elim (isFound (lookupRule b key)) [
             | false ↦ afterCall b (Refused 33)

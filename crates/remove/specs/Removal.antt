@@ -44,7 +44,7 @@ afterChild k b p i c kept = step b kept
 afterChild k b p i c emptied = takeOut k (freed (unlinked b c) c) p i
 afterChild k b p i c bad = step b bad
 
--- the entry e goes from under the page at p, with the levels left falling from 11: from the page if it is a leaf, else from under the child of the entry that
+-- the entry e goes from under the page at p, with the levels left falling from 15: from the page if it is a leaf, else from under the child of the entry that
 -- an insertion of e goes through
 unfoldable pub removeUnder : ℕ → ℕ → List ℕ → Item → ℕ → Step
 removeUnder k zero b e p = step b bad

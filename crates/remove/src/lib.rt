@@ -9,6 +9,7 @@ ghost use lib.ListN.{length};
 ghost use Rattle.page.specs.Header.{maxKey, isPage, keyLength, headerGood};
 ghost use Rattle.layout.specs.Layout.{itemsIn};
 ghost use Rattle.layout.specs.Entries.{stored, chosenAt};
+ghost use Rattle.layout.specs.Given.{roomSize};
 ghost use Rattle.remove.specs.Removal.{step, takeOut, afterChild, removeUnder, atRoot, removedBuffer};
 ghost use Rattle.remove.specs.Answers.{outcomeOf, EmptiedPage};
 ghost use Rattle.remove.specs.Calls.{afterCall, removeRule};
@@ -27,18 +28,17 @@ pub enum Outcome {
 }
 
 // Takes entry `i` out of a page.
-fn take_out(index: &mut [u8], k: usize, page: PageOffset, i: usize) -> Outcome
-    requires { ⌜ k ≤ maxKey ⌝ }
+fn take_out(index: &mut [u8], k: usize, page: PageOffset, i: usize, room: &mut [u8]) -> Outcome
+    requires { ⌜ (k ≤ maxKey) × (roomSize ≤ length (now room)) ⌝ }
     ensures { λ r. ⌜ takeOut k (now (index .entry)) (page .0) i ≡ step (now (index .exit)) (outcomeOf r) ⌝ }
 {
-    let mut room = [0u8; layout::ROOM];
     let count = layout::entry_count(index, k, page);
     if count <= i {
         return Outcome::Bad;
     }
     let fewer = count - 1;
     let size = fewer * (k + 4);
-    layout::gather_without(&mut room, index, k, page, count, i);
+    layout::gather_without(room, index, k, page, count, i);
     layout::with_entries(index, k, page, fewer, &room[..size]);
     if fewer == 0 {
         return Outcome::Emptied;
@@ -54,8 +54,10 @@ fn after_child(
     i: usize,
     child: PageOffset,
     below: Outcome,
+    room: &mut [u8],
 ) -> Outcome
-    requires { ⌜ (k ≤ maxKey) × (isPage (length (now index)) (page .0) ≡ true) × EmptiedPage (length (now index)) (child .0) below ⌝ }
+    requires { ⌜ (k ≤ maxKey) × (isPage (length (now index)) (page .0) ≡ true) × EmptiedPage (length (now index)) (child .0) below
+        × (roomSize ≤ length (now room)) ⌝ }
     ensures { λ r. ⌜ afterChild k (now (index .entry)) (page .0) i (child .0) (outcomeOf below) ≡ step (now (index .exit)) (outcomeOf r) ⌝ }
 {
     match below {
@@ -63,32 +65,39 @@ fn after_child(
         Outcome::Emptied => {
             layout::unlink_page(index, child);
             layout::free_page(index, child);
-            take_out(index, k, page, i)
+            take_out(index, k, page, i, room)
         }
         Outcome::Bad => Outcome::Bad,
     }
 }
 
 // Takes the entry that `key` leads to out of a leaf.
-fn remove_in_leaf(index: &mut [u8], key: &[u8], number: RecordNumber, page: PageOffset) -> Outcome
-    requires { ⌜ (length (now key) ≤ maxKey) × (isPage (length (now index)) (page .0) ≡ true) ⌝ }
+fn remove_in_leaf(
+    index: &mut [u8],
+    key: &[u8],
+    number: RecordNumber,
+    page: PageOffset,
+    room: &mut [u8],
+) -> Outcome
+    requires { ⌜ (length (now key) ≤ maxKey) × (isPage (length (now index)) (page .0) ≡ true) × (roomSize ≤ length (now room)) ⌝ }
     ensures { λ r. ⌜ takeOut (length (now (key .entry))) (now (index .entry)) (page .0)
         (chosenAt (stored (now (key .entry)) (number .0)) (itemsIn (length (now (key .entry))) (now (index .entry)) (page .0)))
         ≡ step (now (index .exit)) (outcomeOf r) ⌝ }
 {
     let i = layout::chosen_entry(index, key, number, page);
-    take_out(index, key.len(), page, i)
+    take_out(index, key.len(), page, i, room)
 }
 
-// Removal under a page, with `levels` levels left.
+// Removal under a page, with `levels` levels left. One room serves all levels: each is done with it before the next one up gathers.
 fn remove_under(
     index: &mut [u8],
     key: &[u8],
     number: RecordNumber,
     page: PageOffset,
     levels: u32,
+    room: &mut [u8],
 ) -> Outcome
-    requires { ⌜ length (now key) ≤ maxKey ⌝ }
+    requires { ⌜ (length (now key) ≤ maxKey) × (roomSize ≤ length (now room)) ⌝ }
     ensures { λ r. ⌜ removeUnder (length (now (key .entry))) levels (now (index .entry)) (stored (now (key .entry)) (number .0)) (page .0)
         ≡ step (now (index .exit)) (outcomeOf r) ⌝ }
 {
@@ -98,10 +107,10 @@ fn remove_under(
     let visit = layout::visit_page(index, key, number, page);
     match visit {
         Visit::Bad => Outcome::Bad,
-        Visit::Leaf => remove_in_leaf(index, key, number, page),
+        Visit::Leaf => remove_in_leaf(index, key, number, page, room),
         Visit::Child(i, child) => {
-            let below = remove_under(index, key, number, child, levels - 1);
-            after_child(index, key.len(), page, i, child, below)
+            let below = remove_under(index, key, number, child, levels - 1, room);
+            after_child(index, key.len(), page, i, child, below, room)
         }
     }
 }
@@ -127,7 +136,15 @@ fn remove_key(index: &mut [u8], key: &[u8])
     ensures { λ _. ⌜ now (index .exit) ≡ removedBuffer (keyLength (now (index .entry))) (now (index .entry)) (now (key .entry)) ⌝ }
 {
     let root = page::root(index);
-    let below = remove_under(index, key, RecordNumber(0), root, page::MAX_LEVELS);
+    let mut room = [0u8; layout::ROOM];
+    let below = remove_under(
+        index,
+        key,
+        RecordNumber(0),
+        root,
+        page::MAX_LEVELS,
+        &mut room,
+    );
     at_root(index, root, below);
 }
 

@@ -25,6 +25,7 @@ use Rattle.tree.specs.IndexPages.{noPage-unused}
 use Rattle.tree.specs.InsertLevels.{levelUnder-pages}
 use Rattle.tree.specs.Keeping.{Route}
 use Rattle.tree.specs.Lists.{NonEmpty, countIf, occ}
+use Rattle.tree.specs.ListLaws.{occ-all}
 use Rattle.tree.specs.Pairs.{byKey, has, removePair}
 use Rattle.tree.specs.Removal.{Shrunk, shrunkPages, settle, removeEntries, remove, emptied}
 use Rattle.tree.specs.RemovalPages.{remove-pages}
@@ -43,7 +44,6 @@ use Rattle.page.specs.ReadingLaws.{window-window, window-in-page, attribute-sam
 use Rattle.layout.specs.Entries.{stored}
 use Rattle.layout.specs.WriteLaws.{capacity-least}
 use Rattle.sound.specs.Sound.{indexTree, indexPages, linksOf, zeros, FreePage, FreeList, CountGood, Sound}
-use Rattle.sound.specs.MarkLaws.{occ-all}
 use Rattle.sound.specs.IndexLaws.{indexOf, settingOf, sound-index, sound-linked, all-occ, once-page, index-sound}
 use Rattle.remove.specs.Removal.{removedBuffer}
 use Rattle.layout_laws.specs.EntryLaws.{entriesIn, page-of}

@@ -1,19 +1,15 @@
 -- Laws: the heads of a sound index's pages are numbers of two and of four bytes, and a sound index with pairs is ready for a removal. Cited by the law that a
 -- removal keeps an index sound. Assumes nothing.
-use mathlib.Core.Path.{_≡_, refl, sym, ap, _∙_, subst}
+use mathlib.Core.Path.{_≡_, sym, subst}
 use mathlib.Core.Bool.{true}
 use mathlib.Core.List.{List, [], _∷_, map}
 use Prim.Native.Nat.{ℕ, zero, suc, _^_, _≤_, _<_}
-use native.Mathlib.Nat.{add-zero}
 use native.Mathlib.Omega.{arith}
 use lib.Dec.{eqb, ltb}
 use lib.ListN.{length-map}
 use borrow.Author.Tests.{eqb-true, eqb-false, ltb-true, ltb-false}
 use Rattle.basis.specs.Lists.{All}
 use Rattle.basis.specs.Tests.{either}
-use Rattle.octets.specs.Bytes.{le16}
-use Rattle.octets.specs.NumberLaws.{le16-window}
-use Rattle.octets.specs.Store.{window}
 use Rattle.tree.specs.Clauses.{SizedUnder, Sized, Links, headOr, Linked}
 use Rattle.tree.specs.FreeChain.{Chained}
 use Rattle.tree.specs.FreeChainLaws.{chained-head}
@@ -21,16 +17,15 @@ use Rattle.tree.specs.IndexPages.{pages-distinct}
 use Rattle.tree.specs.InsertLevels.{levelUnder-pages}
 use Rattle.tree.specs.InsertPages.{Distinct}
 use Rattle.tree.specs.Lists.{NonEmpty, occ}
-use Rattle.tree.specs.ListLaws.{nonEmpty-length, concatMap-nonEmpty, occ-append, occ-behind, occ-here}
+use Rattle.tree.specs.ListLaws.{nonEmpty-length, concatMap-nonEmpty, occ-append, occ-behind, occ-here, occ-all}
 use Rattle.tree.specs.RemovalLevels.{page-onLevel}
 use Rattle.tree.specs.Store.{Store, readEntry, readTree}
 use Rattle.tree.specs.Tree.{Tree, pairsUnder, pairs, pages, levelUnder, level}
 use Rattle.page.specs.Header.{maxBytes, noPage, isPage, rootOffset, freePointer, fileSize, keyLength}
 use Rattle.page.specs.HeaderLaws.{is-page, good-header}
 use Rattle.page.specs.Page.{attributeAt, leftAt, rightAt, capacity}
-use Rattle.page.specs.ReadingLaws.{window-window}
-use Rattle.sound.specs.Sound.{indexTree, indexPages, linksOf, zeros, FreePage, Sound, leafPairs}
-use Rattle.sound.specs.MarkLaws.{occ-all}
+use Rattle.sound.specs.Sound.{indexTree, indexPages, linksOf, FreePage, Sound, leafPairs}
+use Rattle.sound.specs.FreeLaws.{free-attribute}
 use Rattle.sound.specs.IndexLaws.{indexOf, sound-sized, sound-index}
 use Rattle.layout_laws.specs.EntryLaws.{entriesIn}
 use Rattle.insert_laws.specs.InsertEntries.{Shaped}
@@ -57,18 +52,6 @@ module _ (n none : ℕ) (some : none < n) where
   chained-below next z head (p ∷ ps) f c o = either (eqb z p)
       (λ e. rw (eqb-true z p e, chained-head none next (next p) ps (c .1)) (head-all (λ y. y < n) none ps some (λ y u. f y (omega arith))))
       (λ e. chained-below next z (next p) ps (λ y u. f y (omega arith)) (c .1) (occ-behind z p ps (eqb-false z p e) o))
-
--- two bytes of zero
-zero-bytes : le16 (window (zeros 8) 0 2) 0 ≡ 0
-unfolding le16 window
-zero-bytes = refl
-
--- a free page's attribute is 0
-free-attribute : (b : List ℕ) (z : ℕ) → FreePage b z → attributeAt b z ≡ 0
-free-attribute b z f =
-    let front : window b z 2 ≡ window (zeros 8) 0 2 =
-    rw add-zero at (sym (window-window b z 8 0 2 (omega arith))) ∙ ap (λ (w : List ℕ). window w 0 2) (f .0) in
-    sym (le16-window b z) ∙ ap (λ (w : List ℕ). le16 w 0) front ∙ zero-bytes
 
 module _ (b : List ℕ) (s : Sound b) where
   -- a page of the file has a number of four bytes

@@ -26,7 +26,7 @@ use Rattle.cell.specs.Codes.{numberRefusal}
 use Rattle.cell.specs.AnswerLaws.{first-small, table-below, number-numbered}
 use Rattle.field.specs.Field.{numberGood}
 use Rattle.page.specs.Header.{keyLength, headerGood}
-use Rattle.sound.specs.Rule.{pagesGood, unmarked}
+use Rattle.sound.specs.Rule.{pagesGood}
 use Rattle.matching.specs.Match.{matchRefusal}
 use Rattle.matching.specs.Rule.{columnOf, entriesMatch, leafEntries}
 use Rattle.matching.specs.Computed.{matchAnswer}
@@ -70,7 +70,7 @@ match-low t b field =
     ∷ (eqb (fieldLength t (field - 1)) (keyLength b), 27)
     ∷ [] in
     let tests : List (Bool × ℕ) = (eqb (matchRefusal t b field) 0, matchRefusal t b field)
-    ∷ (pagesGood b unmarked, 25)
+    ∷ (pagesGood b, 25)
     ∷ (entriesMatch t (columnOf t field) 0 (leafEntries b), 31)
     ∷ [] in
     let low : All Low checks = (lit< tt, (lit< tt, (lit< tt, (lit< tt, tt)))) in

@@ -7,7 +7,7 @@ use mathlib.Core.Logic.{⊎-elim}
 use Rattle.basis.specs.Tests.{either}
 use Rattle.page.specs.Header.{headerGood}
 use Rattle.sound.specs.Sound.{Audited}
-use Rattle.sound.specs.Rule.{pagesGood, unmarked}
+use Rattle.sound.specs.Rule.{pagesGood}
 use Rattle.sound.specs.Accepted.{answer-bad, answer-sound, answer-unsound}
 
 -- an answer r of the audit is 24, 0 or 25, and another answer s is 24 or 0 exactly if r is
@@ -34,5 +34,5 @@ one-answer b r s a c = ⊎-elim
 -- Theorem: every buffer has an answer that meets `Audited`
 pub some-answer : (b : List ℕ) → (r : ℕ) × Audited b r
 some-answer b = either (headerGood b)
-    (λ h. either (pagesGood b unmarked) (λ p. (0, answer-sound b h p)) (λ p. (25, answer-unsound b h p)))
+    (λ h. either (pagesGood b) (λ p. (0, answer-sound b h p)) (λ p. (25, answer-unsound b h p)))
     (λ h. (24, answer-bad b h))

@@ -12,7 +12,7 @@ use borrow.Author.Tests.{eqb-true, eqb-false, ltb-true, ltb-false}
 use Rattle.basis.specs.Lists.{All}
 use Rattle.basis.specs.Tests.{either}
 use Rattle.tree.specs.Lists.{occ}
-use Rattle.tree.specs.ListLaws.{all-map2, occ-here, occ-append}
+use Rattle.tree.specs.ListLaws.{all-map2, occ-here, occ-append, occ-all}
 use Rattle.tree.specs.Tree.{level}
 use Rattle.tree.specs.Clauses.{least, Sized}
 use Rattle.tree.specs.Ordered.{ordered-ascending}
@@ -27,7 +27,6 @@ use Rattle.page.specs.Reading.{entriesAt}
 use Rattle.page.specs.ReadingLaws.{length-entries}
 use Rattle.sound.specs.Sound.{indexTree, indexPages, linksOf, CountGood, FreePage, FreeList, Sound}
 use Rattle.sound.specs.Levels.{pages-generation, sized-pages}
-use Rattle.sound.specs.MarkLaws.{occ-all}
 use Rattle.sound.specs.ShapeLaws.{tree-sized}
 
 -- the index as the theory has it, with h levels under its root and the free list `free`, and its setting: F may be `most` at most

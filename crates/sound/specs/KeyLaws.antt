@@ -1,14 +1,12 @@
 -- Laws: on an index of good shape, the audit's second pass accepts exactly the keys above pages that are ceilings. Cited by the law of what the audit accepts,
 -- and by the laws of the match, which goes along the leaves. Assumes nothing.
 use Prim.Native.Nat.{ℕ, zero, suc, _-_, _%_, _≤_, _<_}
-use mathlib.Core.Path.{_≡_, refl, sym, ap, _∙_}
+use mathlib.Core.Path.{_≡_, refl, ap, _∙_}
 use mathlib.Core.List.{List, [], _∷_, _++_}
-use mathlib.Core.Bool.{Bool, true, false, cond, _&&_}
+use mathlib.Core.Bool.{Bool, true, cond, _&&_}
 use mathlib.Core.Logic.{_↔_}
 use native.Mathlib.Omega.{arith}
 use lib.ListN.{length, length-append}
-use lib.Dec.{eqb}
-use borrow.Author.Tests.{ne-eqb}
 use Rattle.basis.specs.Lists.{All, all-append, all-left, all-right, all-map}
 use Rattle.basis.specs.Tests.{both}
 use Rattle.tree.specs.Lists.{NonEmpty}
@@ -22,45 +20,18 @@ use Rattle.page.specs.Header.{maxBytes, maxLevels, pageSize, noPage, isPage}
 use Rattle.page.specs.Page.{capacity}
 use Rattle.page.specs.KeyOrder.{bytesOrder}
 use Rattle.page.specs.Reading.{entriesAt}
-use Rattle.page.specs.Children.{isLeaf, firstChild}
-use Rattle.sound.specs.Rule.{Entries, maxPages, chain, unmarked, heightOf, upperEntries, upperPages, upperLevels, keysUnderGood, down}
-use Rattle.sound.specs.AttributeLaws.{attributeAtLevel}
+use Rattle.page.specs.Children.{firstChild}
+use Rattle.sound.specs.Rule.{Entries, maxPages, chain, heightOf, upperEntries, upperPages, upperLevels, keysUnderGood, down}
 use Rattle.sound.specs.Levels.{all-of-map, all-to-map, all-of-concat, all-to-concat, numbers, readAll, below, generation, reached, generations-reached}
-use Rattle.sound.specs.RunLaws.{Fits, Fresh}
 use Rattle.sound.specs.CeilingLaws.{onward-good, went-on, onward-same, Full, full-some, full-children, PageCeilings, entries-ceilings}
 use Rattle.sound.specs.CeilingLaws.{OwnLast, own-page, SameLast, same-last, entries-same}
-use Rattle.sound.specs.MarkLaws.{fresh-left, fresh-few, unmarked-length, once-fresh}
-use Rattle.sound.specs.LevelLaws.{same-suc, chain-is, next-head, leaf-known, FullAbove}
+use Rattle.sound.specs.LevelLaws.{chain-is, next-head}
 use Rattle.sound.specs.ShapeLaws.{rootEntry, levelPages, Shape, least-one, levels-inside, levels-counts, entries-filled, tree-sized}
-
--- what holds of the pages that entries name holds of the first of them
-pub head-all : (Q : ℕ → Type 0) (es : Entries) → NonEmpty es → All (λ e. Q (e .1)) es → Q (headOr noPage (numbers es))
-head-all Q [] s a = absurd s
-head-all Q (e ∷ es) s a = a .0
+use Rattle.sound.specs.DistinctLaws.{heights, level-leaves, once-few}
 
 module _ (b : List ℕ) (k size : ℕ) (most : size ≤ maxBytes) where
   abbrev S : ℕ → Entries
   S = entriesAt k size b
-
-  -- the pages of the h levels from the entries es on are no leaves, and those of the next level are
-  abbrev LeavesUnder : ℕ → Entries → Type 0
-  LeavesUnder h es = (i : ℕ) → i ≤ h → All (λ e. isLeaf b size (e .1) ≡ eqb i h) (generation S i es)
-
-  -- the height is found by the first children
-  height-found : (l h : ℕ) (es : Entries) (first : ℕ) → h ≤ l → NonEmpty es → first ≡ headOr noPage (numbers es) → LeavesUnder h es
-      → FullAbove b k size most h es → heightOf b k size l first ≡ h
-  unfolding heightOf
-  height-found zero zero es first n some e leaves full = refl
-  height-found zero (suc h) es first n some e leaves full = absurd (omega arith)
-  height-found (suc l) zero es first n some e leaves full =
-      let leaf : isLeaf b size first ≡ true = rw e (head-all (λ p. isLeaf b size p ≡ true) es some (leaves 0 (omega arith))) in
-      rw (leaf, heightOf)
-  height-found (suc l) (suc h) es first n some e leaves full =
-      let inner : isLeaf b size first ≡ false =
-      rw e (head-all (λ p. isLeaf b size p ≡ eqb 0 (suc h)) es some (leaves 0 (omega arith)) ∙ ne-eqb 0 (suc h) (omega arith)) in
-      let next = next-head b k size most es first some e (full 0 (omega arith)) in
-      rw (inner, heightOf) (ap suc (height-found l h (below S es) (firstChild b k size first) (omega arith) (next .1) (next .0)
-      (λ i o. rw (same-suc i h) at (leaves (suc i) (omega arith))) (λ i o. full (suc i) (omega arith))))
 
   -- the levels under the pages that the entries es name, h levels in all, are read back along their right links
   abbrev Chained : ℕ → Entries → Type 0
@@ -186,17 +157,11 @@ module _ (b : List ℕ) (k size root : ℕ) (whole : size % pageSize ≡ 0) (mos
   filled : (i : ℕ) → i ≤ h → 0 < h → All (λ e. NonEmpty (C (e .1))) (E i)
   filled = entries-filled b k size root h (levels-inside b k size root h (s .levels)) (levels-counts b k size root h (s .levels))
 
-  full : FullAbove b k size most h (rootEntry root)
-  full i l = filled i (omega arith) (omega arith)
-
-  leaves : (i : ℕ) → i ≤ h → All (λ e. isLeaf b size (e .1) ≡ eqb i h) (E i)
-  leaves i l =
-      all-map (λ e. Fits b k size (attributeAtLevel h i) (e .1)) (λ e. isLeaf b size (e .1) ≡ eqb i h)
-      (λ e f. leaf-known b k size most (eqb i 0) (eqb i h) (e .1) f) (E i)
-      (all-of-map (Fits b k size (attributeAtLevel h i)) (λ e. e .1) (E i) (s .levels i l .fit))
-
   pub height-is : heightOf b k size (maxLevels - 1) root ≡ s .height
-  height-is = let few = s .few in height-found b k size most (maxLevels - 1) h (rootEntry root) root (omega arith) tt refl leaves full
+  height-is =
+      let few = s .few in
+      heights b k size (maxLevels - 1) h (rootEntry root) (omega arith) (level-leaves b k size root most h (s .levels))
+      (λ i l. filled i (omega arith) (omega arith)) .0
 
   -- each level is read back along its right links
   pub level-chain : (i : ℕ) → i ≤ s .height → chain b size maxPages (headOr noPage (levelPages b k size root i)) ≡ levelPages b k size root i
@@ -205,9 +170,8 @@ module _ (b : List ℕ) (k size root : ℕ) (whole : size % pageSize ≡ 0) (mos
       let in-all = generations-reached C (λ p. isPage size p ≡ true) (suc h) (rootEntry root)
       (λ i l. levels-inside b k size root h (s .levels) i (omega arith)) in
       let in-file = all-append (λ p. isPage size p ≡ true) all (s .free) in-all (s .freeInside) in
-      let fresh : Fresh unmarked (reached (entriesAt k size b) (suc (s .height)) (rootEntry root)) =
-      fresh-left unmarked all (s .free) (once-fresh size (all ++ s .free) whole most in-file (s .once)) in
-      let few = fresh-few size unmarked all most unmarked-length in-all fresh in
+      let few = once-few size (all ++ s .free) whole in-file (s .once) in
+      let sum = length-append all (s .free) in
       let here = level-few b k size most (suc h) i (rootEntry root) (omega arith) in
       chain-is b k size most maxPages noPage (levelPages b k size root i) (omega arith) (levels-inside b k size root h (s .levels) i l) (s .levels i l .linked)
 

@@ -1,11 +1,11 @@
--- Laws: the audit accepts the levels from the root down exactly if each is good, the pages of the last are leaves, and no page is met twice. Cited by the law
--- of what the audit accepts. Assumes nothing.
-use Prim.Native.Nat.{ℕ, zero, suc, _≤_, _<_}
+-- Laws: the audit accepts the levels from the root down exactly if each is good, the pages of the last are leaves, and their pages are no more than the file
+-- has. Cited by the law of what the audit accepts. Assumes nothing.
+use Prim.Native.Nat.{ℕ, zero, suc, _+_, _≤_, _<_}
 use mathlib.Core.Path.{_≡_, refl, sym, ap, _∙_}
-use mathlib.Core.List.{List, [], _∷_, _++_}
+use mathlib.Core.List.{List, [], _∷_, _++_, map}
 use mathlib.Core.Bool.{Bool, true, false, not, _&&_}
 use native.Mathlib.Omega.{arith}
-use lib.ListN.{length}
+use lib.ListN.{length, length-append}
 use lib.Dec.{eqb}
 use borrow.Author.Tests.{eq-eqb, ne-eqb, eqb-true, eqb-false, not-true}
 use Rattle.basis.specs.Lists.{All, all-map}
@@ -17,12 +17,11 @@ use Rattle.page.specs.Header.{maxBytes, noPage, isPage}
 use Rattle.page.specs.HeaderLaws.{is-page}
 use Rattle.page.specs.Reading.{entriesAt}
 use Rattle.sound.specs.Sound.{linksOf}
-use Rattle.page.specs.Children.{isLeaf, firstChild}
-use Rattle.sound.specs.Rule.{Entries, maxPages, Level, start, chain, attributeOf, checkLevel, children, pagesUnder, nextLevel, levelsUnder}
+use Rattle.page.specs.Children.{isLeaf, childrenOf, firstChild}
+use Rattle.sound.specs.Rule.{Entries, maxPages, Level, start, chain, attributeOf, checkLevel, rowsUnder, nextLevel, levelsUnder}
 use Rattle.sound.specs.AttributeLaws.{leaf-bit}
 use Rattle.sound.specs.Levels.{numbers, below, generation, reached, map-append}
-use Rattle.sound.specs.MarkLaws.{fresh-append, fresh-left, fresh-right, mark-append, mark-length, fresh-few}
-use Rattle.sound.specs.RunLaws.{markAll, Fresh, Fits, Checked, Passed, check-passed, passed-check}
+use Rattle.sound.specs.RunLaws.{joined, Fits, Checked, Passed, check-passed, passed-check}
 
 -- tests on the number of a level
 pub same-suc : (i n : ℕ) → eqb (suc i) (suc n) ≡ eqb i n
@@ -37,18 +36,17 @@ module _ (b : List ℕ) (k size : ℕ) where
     pub linked : Linked noPage (linksOf b) noPage ps
     pub checked : Checked b k size (attributeOf root leaf) noPage ps
 
-  -- the audit stands at a level whose pages the entries es name: the pages are read back from its first page on
-  pub record StandsAt (es : Entries) (t : Level × List ℕ) : Type 0 where
-    pub pages : chain b size maxPages (t .0 .first) ≡ numbers es
-    pub head : t .0 .first ≡ headOr noPage (numbers es)
-    pub marks : length (t .1) ≡ maxPages
+  -- the audit stands at a level whose pages the entries es name: the pages are read back from its first page on, and no more are left than a file can have
+  pub record StandsAt (es : Entries) (v : Level) : Type 0 where
+    pub pages : chain b size maxPages (v .first) ≡ numbers es
+    pub head : v .first ≡ headOr noPage (numbers es)
+    pub few : v .left ≤ maxPages
 
-  -- what is known of a good level, after the marks m
-  pub record Known (root : Bool) (m : List ℕ) (es : Entries) (t : Level × List ℕ) : Type 0 where
-    pub level : LevelGood root (t .0 .leaf) (numbers es)
-    pub fresh : Fresh m (numbers es)
-    pub marks : t .1 ≡ markAll m (numbers es)
-    pub stands : StandsAt es t
+  -- what is known of a good level, before which `left` pages were left
+  pub record Known (root : Bool) (left : ℕ) (es : Entries) (v : Level) : Type 0 where
+    pub level : LevelGood root (v .leaf) (numbers es)
+    pub count : v .left + length (numbers es) ≡ left
+    pub stands : StandsAt es v
 
   -- the levels under the level whose pages es name, with h levels under it
   abbrev pub GoodUnder : ℕ → Entries → Type 0
@@ -58,14 +56,13 @@ module _ (b : List ℕ) (k size : ℕ) where
   abbrev pub lowerPages : ℕ → Entries → List ℕ
   lowerPages h es = reached (entriesAt k size b) h (below (entriesAt k size b) es)
 
-  -- the levels under a level, l at most, as they are found from the marks m to the marks m′
-  pub record Found (l : ℕ) (leaf : Bool) (es : Entries) (m m′ : List ℕ) : Type 0 where
+  -- the levels under a level, l at most, as they are found: `left` pages were left before them, and `rest` after them
+  pub record Found (l : ℕ) (leaf : Bool) (es : Entries) (left rest : ℕ) : Type 0 where
     pub height : ℕ
     pub few : height ≤ l
     pub bottom : leaf ≡ eqb 0 height
     pub levels : GoodUnder height es
-    pub fresh : Fresh m (lowerPages height es)
-    pub marks : m′ ≡ markAll m (lowerPages height es)
+    pub count : rest + length (lowerPages height es) ≡ left
 
 module _ (b : List ℕ) (k size : ℕ) (most : size ≤ maxBytes) where
   abbrev S : ℕ → Entries
@@ -83,105 +80,102 @@ module _ (b : List ℕ) (k size : ℕ) (most : size ≤ maxBytes) where
   chain-is zero last (p ∷ ps) h a l = absurd (omega arith)
   chain-is (suc n) last (p ∷ ps) h a l = rw (a .0, l .1, chain) (ap (λ (r : List ℕ). p ∷ r) (chain-is n p ps (omega arith) (a .1) (l .2)))
 
-  passed-known : (root leaf : Bool) (first : ℕ) (m : List ℕ) (es : Entries) (t : Level × List ℕ) → length m ≡ maxPages → t .0 .leaf ≡ leaf → t .0 .first ≡ first
-      → t .1 ≡ markAll m (numbers es) → Passed b k size (attributeOf root leaf) noPage first m (numbers es) → Known b k size root m es t
-  passed-known root leaf first m es t n el ef em p =
+  passed-known : (root leaf : Bool) (first left : ℕ) (es : Entries) (v : Level) → left ≤ maxPages → v .leaf ≡ leaf → v .first ≡ first
+      → v .left + length (numbers es) ≡ left → Passed b k size (attributeOf root leaf) noPage first left (numbers es) → Known b k size root left es v
+  passed-known root leaf first left es v n el ef ec p =
       let ps = numbers es in
       let inside = all-map (Fits b k size (attributeOf root leaf)) (λ p. isPage size p ≡ true) (λ p f. f .page) ps (p .fit) in
+      let few = p .few in
       record {
         level = rw el (record { fit = p .fit; linked = p .linked; checked = p .checked });
-        fresh = p .fresh;
-        marks = em;
+        count = ec;
         stands = record {
-          pages = rw (ef, p .head) (chain-is maxPages noPage ps (fresh-few size m ps most n inside (p .fresh)) inside (p .linked));
+          pages = rw (ef, p .head) (chain-is maxPages noPage ps (omega arith) inside (p .linked));
           head = ef ∙ p .head;
-          marks = ap length em ∙ mark-length m ps ∙ n;
+          few = omega arith;
         };
       }
 
-  pub level-known : (root : Bool) (first : ℕ) (es : Entries) (m : List ℕ) → length m ≡ maxPages
-      → checkLevel b k size root first (numbers es) m .0 .good ≡ true → Known b k size root m es (checkLevel b k size root first (numbers es) m)
-  level-known root first es m n g =
+  pub level-known : (root : Bool) (first : ℕ) (rs : List (List ℕ)) (es : Entries) (left : ℕ) → joined rs ≡ numbers es → left ≤ maxPages
+      → checkLevel b k size root first rs left .good ≡ true → Known b k size root left es (checkLevel b k size root first rs left)
+  level-known root first rs es left e n g =
       let u = both _ _ g in
-      let c = check-passed b k size (attributeOf root (isLeaf b size first)) (start first) m (numbers es) (u .0) (eqb-true _ _ (u .1)) in
-      passed-known root (isLeaf b size first) first m es (checkLevel b k size root first (numbers es) m) n refl refl (c .1) (c .0)
+      let c = check-passed b k size (attributeOf root (isLeaf b size first)) (start first left) rs (u .0) (eqb-true _ _ (u .1)) in
+      passed-known root (isLeaf b size first) first left es (checkLevel b k size root first rs left) n refl refl (rw e at (c .1)) (rw e at (c .0))
 
   -- and back
   pub leaf-known : (root leaf : Bool) (p : ℕ) → Fits b k size (attributeOf root leaf) p → isLeaf b size p ≡ leaf
   unfolding isLeaf
   leaf-known root leaf p f = rw (f .page, f .attribute) (leaf-bit root leaf)
 
-  pub level-good : (root leaf : Bool) (first : ℕ) (ps m : List ℕ) → NonEmpty ps → first ≡ headOr noPage ps → LevelGood b k size root leaf ps → Fresh m ps
-      → (checkLevel b k size root first ps m .0 .good ≡ true) × (isLeaf b size first ≡ leaf)
-  level-good root leaf first [] m s e l f = absurd s
-  level-good root leaf first (p ∷ ps) m s e l f =
+  pub level-good : (root leaf : Bool) (first : ℕ) (rs : List (List ℕ)) (ps : List ℕ) (left : ℕ) → joined rs ≡ ps → NonEmpty ps → first ≡ headOr noPage ps
+      → LevelGood b k size root leaf ps → length ps ≤ left → (checkLevel b k size root first rs left .good ≡ true) × (isLeaf b size first ≡ leaf)
+  level-good root leaf first rs [] left j s e l f = absurd s
+  level-good root leaf first rs (p ∷ ps) left j s e l f =
       let is : isLeaf b size first ≡ leaf = rw e (leaf-known root leaf p (l .fit .0)) in
-      let passed : Passed b k size (attributeOf root leaf) noPage first m (p ∷ ps) =
-      record { fit = l .fit; head = e; linked = l .linked; checked = l .checked; fresh = f } in
-      let c = passed-check b k size (attributeOf root leaf) (start first) m (p ∷ ps) refl passed in
+      let passed : Passed b k size (attributeOf root leaf) noPage first left (p ∷ ps) =
+      record { fit = l .fit; head = e; linked = l .linked; checked = l .checked; few = f } in
+      let c = passed-check b k size (attributeOf root leaf) (start first left) rs refl (rw j passed) in
       (rw is (join _ _ (c .0) (eq-eqb _ _ (c .1))), is)
 
   -- the pages under the pages that the entries es name
-  numbers-below : (es : Entries) → children b k size (numbers es) ≡ numbers (below S es)
+  numbers-below : (es : Entries) → joined (map (childrenOf b k size) (numbers es)) ≡ numbers (below S es)
   numbers-below [] = refl
   numbers-below (e ∷ es) =
       ap (λ (l : List ℕ). numbers (S (e .1)) ++ l) (numbers-below es) ∙ sym (map-append (λ x. x .1) (S (e .1)) (below S es))
 
-  children-are : (es : Entries) (t : Level × List ℕ) → StandsAt b k size es t → pagesUnder b k size (t .0 .first) ≡ numbers (below S es)
-  children-are es t s = ap (children b k size) (s .pages) ∙ numbers-below es
+  children-are : (es : Entries) (v : Level) → StandsAt b k size es v → joined (rowsUnder b k size (v .first)) ≡ numbers (below S es)
+  children-are es v s = ap (λ (ps : List ℕ). joined (map (childrenOf b k size) ps)) (s .pages) ∙ numbers-below es
 
-  abbrev next : Level × List ℕ → Level × List ℕ
-  next t = nextLevel b k size (t .0 .first) (t .1)
+  abbrev next : Level → Level
+  next v = nextLevel b k size (v .first) (v .left)
 
-  next-known : (es : Entries) (t : Level × List ℕ) → StandsAt b k size es t → next t .0 .good ≡ true → Known b k size false (t .1) (below S es) (next t)
+  next-known : (es : Entries) (v : Level) → StandsAt b k size es v → next v .good ≡ true → Known b k size false (v .left) (below S es) (next v)
   unfolding nextLevel
-  next-known es t s g =
-      let e = children-are es t s in
-      rw e (level-known false (firstChild b k size (t .0 .first)) (below S es) (t .1) (s .marks) (rw e at g))
+  next-known es v s g =
+      level-known false (firstChild b k size (v .first)) (rowsUnder b k size (v .first)) (below S es) (v .left) (children-are es v s) (s .few) g
 
   -- a level from which the audit goes on is good
-  pub levels-good : (l : ℕ) (t : Level × List ℕ) → levelsUnder b k size l t .0 .good ≡ true → t .0 .good ≡ true
+  pub levels-good : (l : ℕ) (v : Level) → levelsUnder b k size l v .good ≡ true → v .good ≡ true
   unfolding levelsUnder
-  levels-good zero t g = g
-  levels-good (suc l) t g = either (t .0 .good && not (t .0 .leaf)) (λ e. both _ _ e .0) (λ e. rw (e, levelsUnder) at g)
+  levels-good zero v g = g
+  levels-good (suc l) v g = either (v .good && not (v .leaf)) (λ e. both _ _ e .0) (λ e. rw (e, levelsUnder) at g)
 
   -- what is found from a level on: its pages are leaves, or there is a good level under it
-  found-bottom : (l : ℕ) (leaf : Bool) (es : Entries) (m : List ℕ) → leaf ≡ true → Found b k size l leaf es m m
-  found-bottom l leaf es m e =
-      record { height = 0; few = omega arith; bottom = e; levels = λ i h. absurd (omega arith); fresh = tt; marks = refl }
+  found-bottom : (l : ℕ) (leaf : Bool) (es : Entries) (left : ℕ) → leaf ≡ true → Found b k size l leaf es left left
+  found-bottom l leaf es left e = record { height = 0; few = omega arith; bottom = e; levels = λ i h. absurd (omega arith); count = omega arith }
 
   good-above : (h : ℕ) (leaf : Bool) (es : Entries) → leaf ≡ eqb 0 h → LevelGood b k size false leaf (numbers (below S es)) → GoodUnder b k size h (below S es)
       → GoodUnder b k size (suc h) es
   good-above h leaf es e v r zero l = rw (same-suc 0 h, ← e) v
   good-above h leaf es e v r (suc i) l = rw (same-suc (suc i) h) (r i (omega arith))
 
-  found-above : (l : ℕ) (leaf : Bool) (es : Entries) (m m′ : List ℕ) (t : Level × List ℕ) → leaf ≡ false → Known b k size false m (below S es) t
-      → Found b k size l (t .0 .leaf) (below S es) (t .1) m′ → Found b k size (suc l) leaf es m m′
-  found-above l leaf es m m′ t e v r =
+  found-above : (l : ℕ) (leaf : Bool) (es : Entries) (left rest : ℕ) (v : Level) → leaf ≡ false → Known b k size false left (below S es) v
+      → Found b k size l (v .leaf) (below S es) (v .left) rest → Found b k size (suc l) leaf es left rest
+  found-above l leaf es left rest v e n r =
       let few = r .few in
-      let ps = numbers (below S es) in
-      let rest = lowerPages b k size (r .height) (below S es) in
+      let here = n .count in
+      let under = r .count in
       record {
         height = suc (r .height);
         few = omega arith;
         bottom = e ∙ sym (ne-eqb 0 (suc (r .height)) (omega arith));
-        levels = good-above (r .height) (t .0 .leaf) es (r .bottom) (v .level) (r .levels);
-        fresh = fresh-append m ps rest (v .fresh) (rw (v .marks) at (r .fresh));
-        marks = r .marks ∙ ap (λ (x : List ℕ). markAll x rest) (v .marks) ∙ sym (mark-append m ps rest);
+        levels = good-above (r .height) (v .leaf) es (r .bottom) (n .level) (r .levels);
+        count = omega (arith, length-append (numbers (below S es)) (lowerPages b k size (r .height) (below S es)));
       }
 
   -- Theorem: levels that are accepted are good
-  pub levels-found : (l : ℕ) (es : Entries) (t : Level × List ℕ) → StandsAt b k size es t → levelsUnder b k size l t .0 .good ≡ true
-      → levelsUnder b k size l t .0 .leaf ≡ true → Found b k size l (t .0 .leaf) es (t .1) (levelsUnder b k size l t .1)
+  pub levels-found : (l : ℕ) (es : Entries) (v : Level) → StandsAt b k size es v → levelsUnder b k size l v .good ≡ true
+      → levelsUnder b k size l v .leaf ≡ true → Found b k size l (v .leaf) es (v .left) (levelsUnder b k size l v .left)
   unfolding levelsUnder
-  levels-found zero es t s g h = found-bottom zero (t .0 .leaf) es (t .1) h
-  levels-found (suc l) es t s g h = either (t .0 .good && not (t .0 .leaf))
-      (λ e. let g′ : levelsUnder b k size l (next t) .0 .good ≡ true = rw (e, levelsUnder) at g in
-      let v = next-known es t s (levels-good l (next t) g′) in
-      let inner = not-true (t .0 .leaf) (both (t .0 .good) (not (t .0 .leaf)) e .1) in
-      rw (e, levelsUnder) (found-above l (t .0 .leaf) es (t .1) (levelsUnder b k size l (next t) .1) (next t) inner v
-      (levels-found l (below S es) (next t) (v .stands) g′ (rw (e, levelsUnder) at h))))
-      (λ e. rw (e, levelsUnder) (found-bottom (suc l) (t .0 .leaf) es (t .1) (rw (e, levelsUnder) at h)))
+  levels-found zero es v s g h = found-bottom zero (v .leaf) es (v .left) h
+  levels-found (suc l) es v s g h = either (v .good && not (v .leaf))
+      (λ e. let g′ : levelsUnder b k size l (next v) .good ≡ true = rw (e, levelsUnder) at g in
+      let n = next-known es v s (levels-good l (next v) g′) in
+      let inner = not-true (v .leaf) (both (v .good) (not (v .leaf)) e .1) in
+      rw (e, levelsUnder) (found-above l (v .leaf) es (v .left) (levelsUnder b k size l (next v) .left) (next v) inner n
+      (levels-found l (below S es) (next v) (n .stands) g′ (rw (e, levelsUnder) at h))))
+      (λ e. rw (e, levelsUnder) (found-bottom (suc l) (v .leaf) es (v .left) (rw (e, levelsUnder) at h)))
 
   -- and back, from a level whose pages have entries
   numbers-nonEmpty : (es : Entries) → NonEmpty es → NonEmpty (numbers es)
@@ -200,43 +194,43 @@ module _ (b : List ℕ) (k size : ℕ) (most : size ≤ maxBytes) where
     nonEmpty-left (S (x .1)) (below S es) (f .0),
   )
 
-  next-good : (leaf : Bool) (es : Entries) (t : Level × List ℕ) → StandsAt b k size es t → NonEmpty es → All (λ e. NonEmpty (S (e .1))) es
-      → LevelGood b k size false leaf (numbers (below S es)) → Fresh (t .1) (numbers (below S es)) → (next t .0 .good ≡ true) × (next t .0 .leaf ≡ leaf)
+  next-good : (leaf : Bool) (es : Entries) (v : Level) → StandsAt b k size es v → NonEmpty es → All (λ e. NonEmpty (S (e .1))) es
+      → LevelGood b k size false leaf (numbers (below S es)) → length (numbers (below S es)) ≤ v .left → (next v .good ≡ true) × (next v .leaf ≡ leaf)
   unfolding nextLevel
-  next-good leaf es t s some full v m =
-      let h = next-head es (t .0 .first) some (s .head) full in
-      rw (children-are es t s)
-      (level-good false leaf (firstChild b k size (t .0 .first)) (numbers (below S es)) (t .1) (numbers-nonEmpty (below S es) (h .1)) (h .0) v m)
+  next-good leaf es v s some full g m =
+      let h = next-head es (v .first) some (s .head) full in
+      level-good false leaf (firstChild b k size (v .first)) (rowsUnder b k size (v .first)) (numbers (below S es)) (v .left) (children-are es v s)
+      (numbers-nonEmpty (below S es) (h .1)) (h .0) g m
 
-  -- the level u that is reached from t, past the pages ps
-  pub record Reached (t u : Level × List ℕ) (ps : List ℕ) : Type 0 where
-    pub good : u .0 .good ≡ true
-    pub leaf : u .0 .leaf ≡ true
-    pub marks : u .1 ≡ markAll (t .1) ps
+  -- the level u that is reached from v, past n pages
+  pub record Reached (v u : Level) (n : ℕ) : Type 0 where
+    pub good : u .good ≡ true
+    pub leaf : u .leaf ≡ true
+    pub count : u .left + n ≡ v .left
 
   -- every page down to the level above the leaves has an entry
   abbrev pub FullAbove : ℕ → Entries → Type 0
   FullAbove h es = (i : ℕ) → i < h → All (λ e. NonEmpty (entriesAt k size b (e .1))) (generation (entriesAt k size b) i es)
 
-  -- Theorem: good levels are accepted
-  pub levels-reached : (l h : ℕ) (es : Entries) (t : Level × List ℕ) → h ≤ l → NonEmpty es → t .0 .good ≡ true → t .0 .leaf ≡ eqb 0 h
-      → StandsAt b k size es t → FullAbove h es → GoodUnder b k size h es → Fresh (t .1) (lowerPages b k size h es)
-      → Reached t (levelsUnder b k size l t) (lowerPages b k size h es)
+  -- Theorem: good levels are accepted, if enough pages are left
+  pub levels-reached : (l h : ℕ) (es : Entries) (v : Level) → h ≤ l → NonEmpty es → v .good ≡ true → v .leaf ≡ eqb 0 h
+      → StandsAt b k size es v → FullAbove h es → GoodUnder b k size h es → length (lowerPages b k size h es) ≤ v .left
+      → Reached v (levelsUnder b k size l v) (length (lowerPages b k size h es))
   unfolding levelsUnder
-  levels-reached zero zero es t lt some g e s f v m = record { good = g; leaf = e; marks = refl }
-  levels-reached (suc l) zero es t lt some g e s f v m =
-      let z : t .0 .good && not (t .0 .leaf) ≡ false = rw (g, e) in
-      rw (z, levelsUnder) (record { good = g; leaf = e; marks = refl })
-  levels-reached zero (suc h) es t lt some g e s f v m = absurd (omega arith)
-  levels-reached (suc l) (suc h) es t lt some g e s f v m =
-      let z : t .0 .good && not (t .0 .leaf) ≡ true = rw (g, e, ne-eqb 0 (suc h) (omega arith)) in
-      let ps = numbers (below S es) in
-      let rest = lowerPages b k size h (below S es) in
+  levels-reached zero zero es v lt some g e s f w m = record { good = g; leaf = e; count = omega arith }
+  levels-reached (suc l) zero es v lt some g e s f w m =
+      let z : v .good && not (v .leaf) ≡ false = rw (g, e) in
+      rw (z, levelsUnder) (record { good = g; leaf = e; count = omega arith })
+  levels-reached zero (suc h) es v lt some g e s f w m = absurd (omega arith)
+  levels-reached (suc l) (suc h) es v lt some g e s f w m =
+      let z : v .good && not (v .leaf) ≡ true = rw (g, e, ne-eqb 0 (suc h) (omega arith)) in
+      let sum = length-append (numbers (below S es)) (lowerPages b k size h (below S es)) in
       let full = f zero (omega arith) in
-      let n = next-good (eqb 1 (suc h)) es t s some full (v zero (omega arith)) (fresh-left (t .1) ps rest m) in
-      let w = next-known es t s (n .0) in
-      let head = next-head es (t .0 .first) some (s .head) full in
-      let r = levels-reached l h (below S es) (next t) (omega arith) (head .1) (n .0) (n .1 ∙ same-suc 0 h) (w .stands)
-      (λ i o. f (suc i) (omega arith)) (λ i o. rw (same-suc (suc i) h) at (v (suc i) (omega arith))) (rw (w .marks) (fresh-right (t .1) ps rest m)) in
-      let marks = r .marks ∙ ap (λ (x : List ℕ). markAll x rest) (w .marks) ∙ sym (mark-append (t .1) ps rest) in
-      rw (z, levelsUnder) (record { good = r .good; leaf = r .leaf; marks = marks })
+      let n = next-good (eqb 1 (suc h)) es v s some full (w zero (omega arith)) (omega arith) in
+      let known = next-known es v s (n .0) in
+      let count = known .count in
+      let head = next-head es (v .first) some (s .head) full in
+      let r = levels-reached l h (below S es) (next v) (omega arith) (head .1) (n .0) (n .1 ∙ same-suc 0 h) (known .stands)
+      (λ i o. f (suc i) (omega arith)) (λ i o. rw (same-suc (suc i) h) at (w (suc i) (omega arith))) (omega arith) in
+      let under = r .count in
+      rw (z, levelsUnder) (record { good = r .good; leaf = r .leaf; count = omega arith })

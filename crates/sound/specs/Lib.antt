@@ -13,14 +13,14 @@ pub mod Levels
 pub mod RunLaws
 -- Laws: the audit's tests of leaf entries, against ascending keys
 pub mod EntryLaws
--- Laws: the marks of the pages met, against how often each page is met
-pub mod MarkLaws
 -- Laws: the audit's walk along the free list
 pub mod FreeLaws
 -- Laws: the audit's passes from level to level
 pub mod LevelLaws
 -- Laws: good levels, against document 01's clauses on the tree, but for keys above pages
 pub mod ShapeLaws
+-- Laws: no page is met twice, and each page once exactly if as many are met as there are
+pub mod DistinctLaws
 -- Laws: the audit's test of the keys over a page's children, against K1's clause
 pub mod CeilingLaws
 -- Laws: the audit's pass over the keys above pages, against K1's clause

@@ -2,17 +2,18 @@
 -- parts; the rules of insertion and removal, which have to compute, tell 25 by `pagesGood`. A reader need not believe the test: Accepted proves that it accepts
 -- exactly the sound indexes, and book/InsertionAnswers and RemovalAnswers say what 25 means by `Sound`.
 -- The first pass, from the root down, tests all but the keys above pages: the shape. Each of its checks is local to a page and its left neighbour; it carries
--- the left neighbour along, and marks each page that it meets. The second pass, from the leaves up, tests each key above a page once: the links are good by
--- then, and the height is known. It carries along whether the level below is exact, which says where the last leaf key under a child stands.
+-- the left neighbour along, and how many pages of the file are left, which it counts a row at a time: the children of one page. No page can be met twice, as
+-- DistinctLaws proves: so every page but the first was met once if as many were met as the file has. The second pass, from the leaves up, tests each key above
+-- a page once: the links are good by then, and the height is known. It carries along whether the level below is exact, which says where the last leaf key under
+-- a child stands.
 use Prim.Native.Nat.{ℕ, zero, suc, _+_, _-_, _/_}
-use mathlib.Core.List.{List, [], _∷_}
+use mathlib.Core.List.{List, [], _∷_, map}
 use mathlib.Core.Bool.{Bool, true, false, cond, not, _&&_, _||_}
 use mathlib.Core.Option.{Option, none, some}
-use lib.ListN.{getD, set, replicate}
-use lib.Dec.{eqb}
+use lib.ListN.{length}
+use lib.Dec.{eqb, leb}
 use Rattle.octets.specs.Store.{window}
 use Rattle.octets.specs.Order.{ordering, isBelow, isEqual}
-use Rattle.tree.specs.Lists.{concatMap}
 use Rattle.page.specs.Header.{maxBytes, maxLevels, pageSize, noPage, rootOffset, freePointer, fileSize, keyLength, isPage}
 use Rattle.page.specs.Page.{attributeAt, countAt, leftAt, rightAt, leafBit, countGood, rightPlace, entriesStart, entryArea}
 use Rattle.page.specs.Reading.{entriesAt}
@@ -75,17 +76,20 @@ isUnder x (some a) = isBelow (ordering x a)
 abbrev pub attributeOf : Bool → Bool → ℕ
 attributeOf root leaf = cond root 1 0 + cond leaf 2 0
 
--- what the audit knows of the pages met on a level: whether all were good, the last page met, and the page that its right link names
+-- what the audit knows of the pages met on a level: whether all were good, the last page met, the page that its right link names, and how many pages of the
+-- file are left that were not met
 pub record Progress : Type 0 where
   pub good : Bool
   pub last : ℕ
   pub next : ℕ
+  pub left : ℕ
 
--- what the audit knows of a level: whether it is good, whether its pages are leaves, and its first page
+-- what the audit knows of a level: whether it is good, whether its pages are leaves, its first page, and how many pages of the file are left after it
 pub record Level : Type 0 where
   pub good : Bool
   pub leaf : Bool
   pub first : ℕ
+  pub left : ℕ
 
 -- what the audit knows of keys above pages: whether all are ceilings; and, if they are, whether each page met is exact: its own last key is the last leaf key
 -- under it
@@ -97,27 +101,26 @@ pub record Keys : Type 0 where
 unfoldable pub onward : Keys → (Bool → Keys) → Keys
 onward r after = elim (r .good) [ true ↦ after (r .exact) | false ↦ r ]
 
--- the start of a level, whose first page has to be `first`
-abbrev pub start : ℕ → Progress
-start first = record { good = true; last = noPage; next = first }
+-- the start of a level, whose first page has to be `first`, with `left` pages left
+abbrev pub start : ℕ → ℕ → Progress
+start first left = record { good = true; last = noPage; next = first; left = left }
 
--- a page was not good
-abbrev pub refused : Progress → Progress
-refused s = record { good = false; last = s .last; next = s .next }
+-- a page was not good, or too few were left: nothing else is kept, so that the loops over pages and entries have nothing to carry for it
+abbrev pub refused : Progress
+refused = record { good = false; last = noPage; next = noPage; left = 0 }
+
+-- n pages more, if as many are left
+unfoldable pub counted : ℕ → Progress → Progress
+counted n s = cond (s .good && leb n (s .left)) (record { good = true; last = s .last; next = s .next; left = s .left - n }) refused
 
 -- the pages from p on, n at most, each named by the right link of the one before it
 unfoldable pub chain : List ℕ → ℕ → ℕ → ℕ → List ℕ
 chain b size zero p = []
 chain b size (suc n) p = elim (isPage size p) [ true ↦ p ∷ chain b size n (rightAt b p) | false ↦ [] ]
 
--- the l marks from j on are set
-unfoldable pub markedFrom : List ℕ → ℕ → ℕ → Bool
-markedFrom m zero j = true
-markedFrom m (suc l) j = eqb (getD m j 0) 1 && markedFrom m l (j + 1)
-
 -- a level at its end: it is good if no page is on the right of its last page
-abbrev pub closed : Bool → ℕ → Progress × List ℕ → Level × List ℕ
-closed leaf first t = (record { good = t .0 .good && eqb (t .0 .next) noPage; leaf = leaf; first = first }, t .1)
+abbrev pub closed : Bool → ℕ → Progress → Level
+closed leaf first s = record { good = s .good && eqb (s .next) noPage; leaf = leaf; first = first; left = s .left }
 
 -- the page at p is zero but for bytes 8-11
 unfoldable pub isFreePage : List ℕ → ℕ → Bool
@@ -125,22 +128,14 @@ isFreePage b p =
     isEqual (ordering (window b p rightPlace) (zeros rightPlace))
     && isEqual (ordering (window b (p + entriesStart) entryArea) (zeros entryArea))
 
--- the page at p is a free page of the file, and the marks m do not have it
-unfoldable pub freeFits : List ℕ → ℕ → ℕ → List ℕ → Bool
-freeFits b size p m = isPage size p && (isFreePage b p && eqb (getD m (p / pageSize) 0) 0)
+-- the page at p is a free page of the file
+unfoldable pub freeFits : List ℕ → ℕ → ℕ → Bool
+freeFits b size p = isPage size p && isFreePage b p
 
--- the free list from p on, n pages at most: each fits and gets its mark, and the last names none
-unfoldable pub checkFree : List ℕ → ℕ → ℕ → ℕ → List ℕ → Bool × List ℕ
-checkFree b size zero p m = (eqb p noPage, m)
-checkFree b size (suc n) p m =
-    elim (eqb p noPage) [
-      | true ↦ (true, m)
-      | false ↦ elim (freeFits b size p m) [ true ↦ checkFree b size n (rightAt b p) (set m (p / pageSize) 1) | false ↦ (false, m) ]
-    ]
-
--- the free list, which begins at p, is good, and then every page but the first is marked
-unfoldable pub restFree : List ℕ → ℕ → ℕ → List ℕ → Bool
-restFree b size p m = let f = checkFree b size maxPages p m in f .0 && markedFrom (f .1) (size / pageSize - 1) 1
+-- the free list from p on has n pages: each fits, and the last names none
+unfoldable pub checkFree : List ℕ → ℕ → ℕ → ℕ → Bool
+checkFree b size zero p = eqb p noPage
+checkFree b size (suc n) p = elim (freeFits b size p) [ true ↦ checkFree b size n (rightAt b p) | false ↦ false ]
 
 module _ (b : List ℕ) (k size : ℕ) where
   abbrev pub entriesOf : ℕ → Entries
@@ -157,44 +152,44 @@ module _ (b : List ℕ) (k size : ℕ) where
       && (eqb (attributeAt b p) a
       && (countGood k a (countAt b p) && (eqb (leftAt b p) last && (eqb next p && entriesFit a last p))))
 
-  -- one page more, and its mark
-  unfoldable pub checkPage : ℕ → ℕ → Progress → List ℕ → Progress × List ℕ
-  checkPage a p s m =
-      cond ((s .good && pageFits a p (s .last) (s .next)) && eqb (getD m (p / pageSize) 0) 0)
-      (record { good = true; last = p; next = rightAt b p }, set m (p / pageSize) 1)
-      (refused s, m)
+  -- one page more
+  unfoldable pub checkPage : ℕ → ℕ → Progress → Progress
+  checkPage a p s =
+      cond (s .good && pageFits a p (s .last) (s .next)) (record { good = true; last = p; next = rightAt b p; left = s .left }) refused
 
   -- one page after another
-  unfoldable pub checkPages : ℕ → List ℕ → Progress × List ℕ → Progress × List ℕ
-  checkPages a [] t = t
-  checkPages a (p ∷ ps) t = checkPages a ps (checkPage a p (t .0) (t .1))
+  unfoldable pub checkPages : ℕ → List ℕ → Progress → Progress
+  checkPages a [] s = s
+  checkPages a (p ∷ ps) s = checkPages a ps (checkPage a p s)
 
-  -- a level whose pages are ps, of which `first` has to be the first
-  abbrev pub checkLevel : Bool → ℕ → List ℕ → List ℕ → Level × List ℕ
-  checkLevel root first ps m = closed (isLeaf b size first) first (checkPages (attributeOf root (isLeaf b size first)) ps (start first, m))
+  -- one row of pages after another, each counted before it is looked at
+  unfoldable pub checkRows : ℕ → List (List ℕ) → Progress → Progress
+  checkRows a [] s = s
+  checkRows a (r ∷ rs) s = checkRows a rs (checkPages a r (counted (length r) s))
+
+  -- a level of these rows, of which `first` has to be the first page, with `left` pages left before it
+  abbrev pub checkLevel : Bool → ℕ → List (List ℕ) → ℕ → Level
+  checkLevel root first rows left = closed (isLeaf b size first) first (checkRows (attributeOf root (isLeaf b size first)) rows (start first left))
 
   -- the root's level
-  unfoldable pub rootLevel : ℕ → List ℕ → Level × List ℕ
-  rootLevel root m = checkLevel true root (root ∷ []) m
+  unfoldable pub rootLevel : ℕ → ℕ → Level
+  rootLevel root left = checkLevel true root ((root ∷ []) ∷ []) left
 
-  -- the level under a good one whose first page is `first`: the children of its pages
-  abbrev pub children : List ℕ → List ℕ
-  children ps = concatMap (childrenOf b k size) ps
+  -- the level under a good one whose first page is `first`: a row for the children of each of its pages
+  abbrev pub rowsUnder : ℕ → List (List ℕ)
+  rowsUnder first = map (childrenOf b k size) (chain b size maxPages first)
 
-  abbrev pub pagesUnder : ℕ → List ℕ
-  pagesUnder first = children (chain b size maxPages first)
-
-  unfoldable pub nextLevel : ℕ → List ℕ → Level × List ℕ
-  nextLevel first m = checkLevel false (firstChild b k size first) (pagesUnder first) m
+  unfoldable pub nextLevel : ℕ → ℕ → Level
+  nextLevel first left = checkLevel false (firstChild b k size first) (rowsUnder first) left
 
   -- the levels under a level, l at most, down to the leaves or the first fault
-  unfoldable pub levelsUnder : ℕ → Level × List ℕ → Level × List ℕ
-  levelsUnder zero t = t
-  levelsUnder (suc l) t = elim (t .0 .good && not (t .0 .leaf)) [ true ↦ levelsUnder l (nextLevel (t .0 .first) (t .1)) | false ↦ t ]
+  unfoldable pub levelsUnder : ℕ → Level → Level
+  levelsUnder zero v = v
+  levelsUnder (suc l) v = elim (v .good && not (v .leaf)) [ true ↦ levelsUnder l (nextLevel (v .first) (v .left)) | false ↦ v ]
 
-  -- the last level is good, its pages are leaves, and every other page but the first is free
-  abbrev pub complete : ℕ → Level × List ℕ → Bool
-  complete free t = t .0 .good && (t .0 .leaf && restFree b size free (t .1))
+  -- the last level is good, its pages are leaves, and the pages that are left are the free list
+  abbrev pub complete : ℕ → Level → Bool
+  complete free v = v .good && (v .leaf && checkFree b size (v .left) free)
 
   -- the number of levels under the page at p, l at most, which the first children show
   unfoldable pub heightOf : ℕ → ℕ → ℕ
@@ -243,11 +238,15 @@ module _ (b : List ℕ) (k size : ℕ) where
   abbrev pub keysUnderGood : ℕ → ℕ → Bool
   keysUnderGood h root = upperLevels h root .good
 
--- all but the keys above pages, of an index whose header is good, from the marks m on
-unfoldable pub shapeGood : List ℕ → List ℕ → Bool
-shapeGood b m =
+-- the pages of a file but the first
+abbrev pub laterPages : ℕ → ℕ
+laterPages size = size / pageSize - 1
+
+-- all but the keys above pages, of an index whose header is good
+unfoldable pub shapeGood : List ℕ → Bool
+shapeGood b =
     complete b (keyLength b) (fileSize b) (freePointer b)
-    (levelsUnder b (keyLength b) (fileSize b) (maxLevels - 1) (rootLevel b (keyLength b) (fileSize b) (rootOffset b) m))
+    (levelsUnder b (keyLength b) (fileSize b) (maxLevels - 1) (rootLevel b (keyLength b) (fileSize b) (rootOffset b) (laterPages (fileSize b))))
 
 -- the keys above pages
 unfoldable pub keysAboveGood : List ℕ → Bool
@@ -255,9 +254,5 @@ keysAboveGood b =
     keysUnderGood b (keyLength b) (fileSize b) (heightOf b (keyLength b) (fileSize b) (maxLevels - 1) (rootOffset b)) (rootOffset b)
 
 -- all pages
-unfoldable pub pagesGood : List ℕ → List ℕ → Bool
-pagesGood b m = shapeGood b m && keysAboveGood b
-
--- no page is marked
-unfoldable pub unmarked : List ℕ
-unmarked = replicate maxPages 0
+unfoldable pub pagesGood : List ℕ → Bool
+pagesGood b = shapeGood b && keysAboveGood b

@@ -1,33 +1,51 @@
--- Laws: the audit passes over the pages of a level to its end exactly if they fit, name one another as neighbours, have good entries, and are unmarked when
--- they are met. Cited by the laws of levels. Assumes nothing.
-use Prim.Native.Nat.{ℕ, _/_}
-use mathlib.Core.Path.{_≡_, refl, sym, ap, _∙_}
-use mathlib.Core.List.{List, [], _∷_}
+-- Laws: the audit passes over the rows of pages of a level to its end exactly if the pages fit, name one another as neighbours, have good entries, and are no
+-- more than the file has left. Cited by the laws of levels. Assumes nothing.
+use Prim.Native.Nat.{ℕ, _+_, _-_, _≤_}
+use mathlib.Core.Path.{_≡_, refl, sym, ap, _∙_, subst}
+use mathlib.Core.List.{List, [], _∷_, _++_}
 use mathlib.Core.Bool.{Bool, true, false, cond, _&&_}
-use lib.ListN.{getD, set}
-use lib.Dec.{eqb}
-use borrow.Author.Tests.{eq-eqb, eqb-true}
+use native.Mathlib.Omega.{arith}
+use lib.ListN.{length, length-append}
+use lib.Dec.{leb}
+use borrow.Author.Tests.{eq-eqb, eqb-true, le-leb, leb-true}
 use Rattle.basis.specs.Lists.{All}
 use Rattle.basis.specs.Tests.{contra, both, join}
 use Rattle.tree.specs.Clauses.{headOr, Linked}
-use Rattle.page.specs.Header.{pageSize, noPage, isPage}
+use Rattle.page.specs.Header.{noPage, isPage}
 use Rattle.page.specs.Page.{attributeAt, countAt, leftAt, rightAt, countGood}
 use Rattle.sound.specs.Sound.{linksOf}
-use Rattle.sound.specs.Rule.{Progress, refused, entriesFit, pageFits, checkPage, checkPages}
-
--- the marks after the pages ps; none of ps is marked when it is met
-abbrev pub markAll : List ℕ → List ℕ → List ℕ
-markAll m [] = m
-markAll m (p ∷ ps) = markAll (set m (p / pageSize) 1) ps
-
-abbrev pub Fresh : List ℕ → List ℕ → Type 0
-Fresh m [] = Unit {0}
-Fresh m (p ∷ ps) = (getD m (p / pageSize) 0 ≡ 0) × Fresh (set m (p / pageSize) 1) ps
+use Rattle.sound.specs.Rule.{Progress, refused, counted, entriesFit, pageFits, checkPage, checkPages, checkRows}
 
 -- a test that picks a good value held
-picked : (t : Bool) (x y : Progress × List ℕ) → y .0 .good ≡ false → cond t x y .0 .good ≡ true → t ≡ true
+picked : (t : Bool) (x y : Progress) → y .good ≡ false → cond t x y .good ≡ true → t ≡ true
 picked true x y e h = refl
 picked false x y e h = contra h e
+
+-- the pages of all rows
+abbrev pub joined : List (List ℕ) → List ℕ
+joined [] = []
+joined (r ∷ rs) = r ++ joined rs
+
+-- a row that was counted
+abbrev took : ℕ → Progress → Progress
+took n s = record { good = true; last = s .last; next = s .next; left = s .left - n }
+
+counted-took : (n : ℕ) (s : Progress) → s .good ≡ true → n ≤ s .left → counted n s ≡ took n s
+unfolding counted
+counted-took n s g l = rw (g, le-leb n (s .left) l)
+
+counted-good : (n : ℕ) (s : Progress) → counted n s .good ≡ true → (s .good ≡ true) × (n ≤ s .left)
+unfolding counted
+counted-good n s g =
+    let t = both (s .good) _ (picked (s .good && leb n (s .left)) (took n s) refused refl g) in
+    (t .0, leb-true n (s .left) (t .1))
+
+-- a good progress, by its numbers
+abbrev goodAt : ℕ → ℕ → ℕ → Progress
+goodAt last next left = record { good = true; last = last; next = next; left = left }
+
+same-end : {l l′ n n′ m m′ : ℕ} → l ≡ l′ → n ≡ n′ → m ≡ m′ → goodAt l n m ≡ goodAt l′ n′ m′
+same-end p q r = rw (p, q, r)
 
 module _ (b : List ℕ) (k size a : ℕ) where
   -- a page of the file, with the attribute a and a good count
@@ -41,13 +59,13 @@ module _ (b : List ℕ) (k size a : ℕ) where
   Checked last [] = Unit {0}
   Checked last (p ∷ ps) = (entriesFit b k size a last p ≡ true) × Checked p ps
 
-  -- the pages of a level to its end: on the left of the first is `last`, and the first is `next`
-  pub record Passed (last next : ℕ) (m ps : List ℕ) : Type 0 where
+  -- the pages of a level to its end: on the left of the first is `last`, the first is `next`, and `left` pages are left
+  pub record Passed (last next left : ℕ) (ps : List ℕ) : Type 0 where
     pub fit : All Fits ps
     pub head : next ≡ headOr noPage ps
     pub linked : Linked noPage (linksOf b) last ps
     pub checked : Checked last ps
-    pub fresh : Fresh m ps
+    pub few : length ps ≤ left
 
   -- the last page, and what its right link names
   abbrev lastPage : ℕ → List ℕ → ℕ
@@ -59,46 +77,98 @@ module _ (b : List ℕ) (k size a : ℕ) where
   lastNext next (p ∷ ps) = lastNext (rightAt b p) ps
 
   -- one page after another passes its test
-  abbrev Run : ℕ → ℕ → List ℕ → List ℕ → Type 0
-  Run last next m [] = Unit {0}
-  Run last next m (p ∷ ps) =
-      (pageFits b k size a p last next ≡ true) × (getD m (p / pageSize) 0 ≡ 0) × Run p (rightAt b p) (set m (p / pageSize) 1) ps
+  abbrev Run : ℕ → ℕ → List ℕ → Type 0
+  Run last next [] = Unit {0}
+  Run last next (p ∷ ps) = (pageFits b k size a p last next ≡ true) × Run p (rightAt b p) ps
 
-  abbrev tested : ℕ → Progress → List ℕ → Bool
-  tested p s m = (s .good && pageFits b k size a p (s .last) (s .next)) && eqb (getD m (p / pageSize) 0) 0
+  run-join : (last next : ℕ) (xs ys : List ℕ) → Run last next xs → Run (lastPage last xs) (lastNext next xs) ys → Run last next (xs ++ ys)
+  run-join last next [] ys r t = t
+  run-join last next (x ∷ xs) ys r t = (r .0, run-join x (rightAt b x) xs ys (r .1) t)
 
-  abbrev moved : ℕ → Progress → List ℕ → Progress × List ℕ
-  moved p s m = (record { good = true; last = p; next = rightAt b p }, set m (p / pageSize) 1)
+  run-left : (last next : ℕ) (xs ys : List ℕ) → Run last next (xs ++ ys) → Run last next xs
+  run-left last next [] ys r = tt
+  run-left last next (x ∷ xs) ys r = (r .0, run-left x (rightAt b x) xs ys (r .1))
 
-  page-test : (p : ℕ) (s : Progress) (m : List ℕ) → checkPage b k size a p s m .0 .good ≡ true → tested p s m ≡ true
+  run-right : (last next : ℕ) (xs ys : List ℕ) → Run last next (xs ++ ys) → Run (lastPage last xs) (lastNext next xs) ys
+  run-right last next [] ys r = r
+  run-right last next (x ∷ xs) ys r = run-right x (rightAt b x) xs ys (r .1)
+
+  last-join : (last : ℕ) (xs ys : List ℕ) → lastPage (lastPage last xs) ys ≡ lastPage last (xs ++ ys)
+  last-join last [] ys = refl
+  last-join last (x ∷ xs) ys = last-join x xs ys
+
+  next-join : (next : ℕ) (xs ys : List ℕ) → lastNext (lastNext next xs) ys ≡ lastNext next (xs ++ ys)
+  next-join next [] ys = refl
+  next-join next (x ∷ xs) ys = next-join (rightAt b x) xs ys
+
+  abbrev tested : ℕ → Progress → Bool
+  tested p s = s .good && pageFits b k size a p (s .last) (s .next)
+
+  abbrev moved : ℕ → Progress → Progress
+  moved p s = record { good = true; last = p; next = rightAt b p; left = s .left }
+
+  page-test : (p : ℕ) (s : Progress) → checkPage b k size a p s .good ≡ true → tested p s ≡ true
   unfolding checkPage
-  page-test p s m h = picked (tested p s m) (moved p s m) (refused s, m) refl h
+  page-test p s h = picked (tested p s) (moved p s) refused refl h
 
-  page-moves : (p : ℕ) (s : Progress) (m : List ℕ) → tested p s m ≡ true → checkPage b k size a p s m ≡ moved p s m
+  page-moves : (p : ℕ) (s : Progress) → tested p s ≡ true → checkPage b k size a p s ≡ moved p s
   unfolding checkPage
-  page-moves p s m t = rw t
+  page-moves p s t = rw t
 
-  good-run : (ps : List ℕ) (s : Progress) (m : List ℕ) → checkPages b k size a ps (s, m) .0 .good ≡ true → (s .good ≡ true) × Run (s .last) (s .next) m ps
+  good-run : (ps : List ℕ) (s : Progress) → checkPages b k size a ps s .good ≡ true → (s .good ≡ true) × Run (s .last) (s .next) ps
   unfolding checkPages
-  good-run [] s m h = (h, tt)
-  good-run (p ∷ ps) s m h =
-      let r = checkPage b k size a p s m in
-      let ih = good-run ps (r .0) (r .1) h in
-      let t = page-test p s m (ih .0) in
-      let u = both (s .good && pageFits b k size a p (s .last) (s .next)) _ t in
-      let v = both (s .good) _ (u .0) in
-      (v .0, (v .1, eqb-true _ _ (u .1), rw (page-moves p s m t) at (ih .1)))
+  good-run [] s h = (h, tt)
+  good-run (p ∷ ps) s h =
+      let ih = good-run ps (checkPage b k size a p s) h in
+      let t = page-test p s (ih .0) in
+      let u = both (s .good) _ t in
+      (u .0, (u .1, rw (page-moves p s t) at (ih .1)))
 
-  -- what is left of a good run
-  abbrev ended : List ℕ → Progress → List ℕ → Progress × List ℕ
-  ended ps s m = (record { good = true; last = lastPage (s .last) ps; next = lastNext (s .next) ps }, markAll m ps)
+  -- what is left of a good run, after n pages were counted
+  abbrev ended : ℕ → List ℕ → Progress → Progress
+  ended n ps s = record { good = true; last = lastPage (s .last) ps; next = lastNext (s .next) ps; left = s .left - n }
 
-  run-ends : (ps : List ℕ) (s : Progress) (m : List ℕ) → s .good ≡ true → Run (s .last) (s .next) m ps → checkPages b k size a ps (s, m) ≡ ended ps s m
+  run-ends : (n : ℕ) (ps : List ℕ) (s : Progress) → Run (s .last) (s .next) ps → checkPages b k size a ps (took n s) ≡ ended n ps s
   unfolding checkPages
-  run-ends [] s m g r = ap (λ (x : Bool). (record { good = x; last = s .last; next = s .next }, m)) g
-  run-ends (p ∷ ps) s m g r =
-      let t : tested p s m ≡ true = rw (g, r .0, eq-eqb (getD m (p / pageSize) 0) 0 (r .1)) in
-      ap (checkPages b k size a ps) (page-moves p s m t) ∙ run-ends ps (moved p s m .0) (set m (p / pageSize) 1) refl (r .2)
+  run-ends n [] s r = refl
+  run-ends n (p ∷ ps) s r =
+      let t : tested p (took n s) ≡ true = r .0 in
+      ap (checkPages b k size a ps) (page-moves p (took n s) t) ∙ run-ends n ps (moved p s) (r .1)
+
+  -- the rows of a good pass
+  good-rows : (rs : List (List ℕ)) (s : Progress) → checkRows b k size a rs s .good ≡ true →
+      (s .good ≡ true) × Run (s .last) (s .next) (joined rs) × (length (joined rs) ≤ s .left)
+  unfolding checkRows
+  good-rows [] s h = (h, tt, omega arith)
+  good-rows (r ∷ rs) s h =
+      let n = length r in
+      let c = counted n s in
+      let ih = good-rows rs (checkPages b k size a r c) h in
+      let run = good-run r c (ih .0) in
+      let taken = counted-good n s (run .0) in
+      let few = taken .1 in
+      let e = counted-took n s (taken .0) few in
+      let here : Run (s .last) (s .next) r = subst (λ (t : Progress). Run (t .last) (t .next) r) e (run .1) in
+      let past : checkPages b k size a r c ≡ ended n r s = ap (checkPages b k size a r) e ∙ run-ends n r s here in
+      let rest = subst (λ (t : Progress). Run (t .last) (t .next) (joined rs) × (length (joined rs) ≤ t .left)) past (ih .1, ih .2) in
+      let room = rest .1 in
+      (taken .0, run-join (s .last) (s .next) r (joined rs) here (rest .0), omega (arith, length-append r (joined rs)))
+
+  rows-end : (rs : List (List ℕ)) (s : Progress) → s .good ≡ true → Run (s .last) (s .next) (joined rs) → length (joined rs) ≤ s .left →
+      checkRows b k size a rs s ≡ ended (length (joined rs)) (joined rs) s
+  unfolding checkRows checkPages
+  rows-end [] s g run few =
+      ap (λ (x : Bool). record { good = x; last = s .last; next = s .next; left = s .left }) g ∙ same-end refl refl (omega arith)
+  rows-end (r ∷ rs) s g run few =
+      let n = length r in
+      let m = length (joined rs) in
+      let sum = length-append r (joined rs) in
+      let here = run-left (s .last) (s .next) r (joined rs) run in
+      let past : checkPages b k size a r (counted n s) ≡ ended n r s =
+      ap (checkPages b k size a r) (counted-took n s g (omega arith)) ∙ run-ends n r s here in
+      ap (checkRows b k size a rs) past
+      ∙ rows-end rs (ended n r s) refl (run-right (s .last) (s .next) r (joined rs) run) (omega arith)
+      ∙ same-end (last-join (s .last) r (joined rs)) (next-join (s .next) r (joined rs)) (omega arith)
 
   -- one page that fits, with its parts named
   record PageFit (last next p : ℕ) : Type 0 where
@@ -130,51 +200,50 @@ module _ (b : List ℕ) (k size a : ℕ) where
       (join _ _ (f .here .count)
       (join _ _ (eq-eqb _ _ (f .left)) (join _ _ (eq-eqb _ _ (f .named)) (f .entries)))))
 
-  run-passed : (last next : ℕ) (m ps : List ℕ) → Run last next m ps → lastNext next ps ≡ noPage → Passed last next m ps
-  run-passed last next m [] r e = record { fit = tt; head = e; linked = tt; checked = tt; fresh = tt }
-  run-passed last next m (p ∷ ps) r e =
+  run-passed : (last next left : ℕ) (ps : List ℕ) → Run last next ps → lastNext next ps ≡ noPage → length ps ≤ left → Passed last next left ps
+  run-passed last next left [] r e few = record { fit = tt; head = e; linked = tt; checked = tt; few = few }
+  run-passed last next left (p ∷ ps) r e few =
       let f = page-fit last next p (r .0) in
-      let ih = run-passed p (rightAt b p) (set m (p / pageSize) 1) ps (r .2) e in
+      let ih = run-passed p (rightAt b p) left ps (r .1) e (omega arith) in
       record {
         fit = (f .here, ih .fit);
         head = f .named;
         linked = (f .left, ih .head, ih .linked);
         checked = (f .entries, ih .checked);
-        fresh = (r .1, ih .fresh);
+        few = few;
       }
 
-  passed-run : (last next : ℕ) (m ps : List ℕ) → Passed last next m ps → Run last next m ps
-  passed-run last next m [] r = tt
-  passed-run last next m (p ∷ ps) r = (
-    fit-page last next p (record { here = r .fit .0; left = r .linked .0; named = r .head; entries = r .checked .0 }),
-    r .fresh .0,
-    passed-run p (rightAt b p) (set m (p / pageSize) 1) ps
-        (record { fit = r .fit .1; head = r .linked .1; linked = r .linked .2; checked = r .checked .1; fresh = r .fresh .1 }),
-  )
+  passed-run : (last next left : ℕ) (ps : List ℕ) → Passed last next left ps → Run last next ps
+  passed-run last next left [] r = tt
+  passed-run last next left (p ∷ ps) r =
+      let few = r .few in (
+        fit-page last next p (record { here = r .fit .0; left = r .linked .0; named = r .head; entries = r .checked .0 }),
+        passed-run p (rightAt b p) left ps
+            (record { fit = r .fit .1; head = r .linked .1; linked = r .linked .2; checked = r .checked .1; few = omega arith }),
+      )
 
   passed-end : (last next : ℕ) (ps : List ℕ) → next ≡ headOr noPage ps → Linked noPage (linksOf b) last ps → lastNext next ps ≡ noPage
   passed-end last next [] e l = e
   passed-end last next (p ∷ ps) e l = passed-end p (rightAt b p) ps (l .1) (l .2)
 
-  -- Theorem: pages that are passed over to the end of their level
-  pub check-passed : (s : Progress) (m ps : List ℕ) → checkPages b k size a ps (s, m) .0 .good ≡ true → checkPages b k size a ps (s, m) .0 .next ≡ noPage →
-      Passed (s .last) (s .next) m ps
-      × (checkPages b k size a ps (s, m) .1 ≡ markAll m ps)
-  check-passed s m ps g n =
-      let r = good-run ps s m g in
-      let e = run-ends ps s m (r .0) (r .1) in (
-        run-passed (s .last) (s .next) m ps (r .1) (sym (ap (λ (t : Progress × List ℕ). t .0 .next) e) ∙ n),
-        ap (λ (t : Progress × List ℕ). t .1) e,
+  -- Theorem: rows that are passed over to the end of their level, and how many pages are left then
+  pub check-passed : (s : Progress) (rs : List (List ℕ)) → checkRows b k size a rs s .good ≡ true → checkRows b k size a rs s .next ≡ noPage →
+      Passed (s .last) (s .next) (s .left) (joined rs)
+      × (checkRows b k size a rs s .left + length (joined rs) ≡ s .left)
+  check-passed s rs g n =
+      let r = good-rows rs s g in
+      let few = r .2 in
+      let e = rows-end rs s (r .0) (r .1) few in (
+        run-passed (s .last) (s .next) (s .left) (joined rs) (r .1) (sym (ap (λ (t : Progress). t .next) e) ∙ n) few,
+        omega (arith, ap (λ (t : Progress). t .left) e),
       )
 
   -- and back
-  pub passed-check : (s : Progress) (m ps : List ℕ) → s .good ≡ true → Passed (s .last) (s .next) m ps →
-      (checkPages b k size a ps (s, m) .0 .good ≡ true)
-      × (checkPages b k size a ps (s, m) .0 .next ≡ noPage)
-      × (checkPages b k size a ps (s, m) .1 ≡ markAll m ps)
-  passed-check s m ps g r =
-      let e = run-ends ps s m g (passed-run (s .last) (s .next) m ps r) in (
-        ap (λ (t : Progress × List ℕ). t .0 .good) e,
-        ap (λ (t : Progress × List ℕ). t .0 .next) e ∙ passed-end (s .last) (s .next) ps (r .head) (r .linked),
-        ap (λ (t : Progress × List ℕ). t .1) e,
+  pub passed-check : (s : Progress) (rs : List (List ℕ)) → s .good ≡ true → Passed (s .last) (s .next) (s .left) (joined rs) →
+      (checkRows b k size a rs s .good ≡ true)
+      × (checkRows b k size a rs s .next ≡ noPage)
+  passed-check s rs g r =
+      let e = rows-end rs s g (passed-run (s .last) (s .next) (s .left) (joined rs) r) (r .few) in (
+        ap (λ (t : Progress). t .good) e,
+        ap (λ (t : Progress). t .next) e ∙ passed-end (s .last) (s .next) (joined rs) (r .head) (r .linked),
       )

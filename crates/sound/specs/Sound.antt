@@ -70,7 +70,7 @@ pub record Sound (b : List ℕ) : Type 0 where
   -- "leaf bit on the bottom level only", which is level 0
   pub leafBits : (j : ℕ) → j ≤ height → All (λ p. leafBit (attributeAt b p) ≡ eqb j 0) (level j height (indexTree b height))
   -- "all leaves on one level": in the type of the tree, whose leaves all have `height` levels above them
-  -- "at most 11 levels": the root's and those under it
+  -- "at most 15 levels": the root's and those under it
   pub levels : height + 1 ≤ maxLevels
   -- "counts 1 to capacity, save that a lone root leaf may have 0"
   pub counts : All (CountGood b (keyLength b) height) (indexPages b height)

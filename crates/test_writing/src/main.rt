@@ -1,11 +1,12 @@
 // The list of calls that write tables, made by an independent implementation: each line's call is made and its answer printed, and the tables are compared
 // with the files that the list ends with. README.md beside src/ says what the lines are.
 ghost use Prim.Native.Nat.{_≤_};
+ghost use mathlib.Core.Path.{_≡_};
 ghost use lib.ListN.{length};
+ghost use Rattle.laying.specs.Laying.{roomLength};
 use append::Appended;
 use append::Store;
 use field::FieldEntry;
-use laying::FieldList;
 use libc::STDOUT_FILENO;
 
 // The greatest buffer of the list.
@@ -103,9 +104,9 @@ fn write_line(buffer: &mut [u8], line: &[u8]) {
     append_line(buffer, std::num::wrapping_add_usize(buffer.len(), 1), rest);
 }
 
-// The fields of a `lay_out` line. The list takes the first 128 of them; `count` counts all.
+// The fields of a `lay_out` line. The room takes the first 128 of them; `count` counts all.
 struct Fields {
-    list: FieldList,
+    room: [u8; 4130],
     count: usize,
 }
 
@@ -138,29 +139,30 @@ fn entry_of(text: &[u8]) -> FieldEntry {
     }
 }
 
-// A list with another field j, if it is one of the first 128.
-fn listed(list: FieldList, j: usize, text: &[u8]) -> FieldList {
+// Writes field j into the room, if it is one of the first 128.
+fn list_field(room: &mut [u8], j: usize, text: &[u8])
+    requires { ⌜ length (now room) ≡ roomLength ⌝ }
+{
     if j < table::MAX_FIELDS {
-        return laying::with_field(list, j, entry_of(text));
+        laying::write_field(room, j, entry_of(text));
     }
-    list
 }
 
 // `FIELD,FIELD,.. ANSWER`, or `- ANSWER` for no field.
 fn fields_of(text: &[u8]) -> Fields {
-    let mut list = laying::no_fields();
+    let mut room = laying::no_fields();
     let mut count = 0;
     if first_byte(text) == b'-' {
-        return Fields { list, count };
+        return Fields { room, count };
     }
     let mut from = 0;
     while from < text.len() {
         let end = test_lines::find(text, from, b',');
-        list = listed(list, count, &text[from..end]);
+        list_field(&mut room, count, &text[from..end]);
         count += 1;
         from = end + 1;
     }
-    Fields { list, count }
+    Fields { room, count }
 }
 
 // `YEAR MONTH DAY ROOM FIELDS ..`, on a buffer of ROOM bytes.
@@ -168,9 +170,10 @@ fn lay_out(buffer: &mut [u8], line: &[u8]) -> u32 {
     let month = test_lines::after_word(line);
     let day = test_lines::after_word(month);
     let fields = fields_of(test_lines::after_word(test_lines::after_word(day)));
+    let mut room = fields.room;
     laying::lay_out(
         buffer,
-        fields.list,
+        &mut room,
         fields.count,
         test_lines::first_number(line),
         test_lines::first_number(month),

@@ -38,8 +38,8 @@ fresh = record { height = 0; tree = (pageSize, []); free = []; size = 2 * pageSi
 abbrev pub grown : {K : Type 0} → List ℕ → ℕ → Grown K → Index K
 grown free size g = record { height = g .0; tree = g .1; free = freeAfter (g .2) free; size = sizeAfter free size (g .2) }
 
--- what an index is kept by: the order of its keys, the capacity of a page, and the most that F and the levels may be: the buffer's length or 1,048,576,
--- whichever is less, and 11
+-- what an index is kept by: the order of its keys, the capacity of a page, and the most that F and the levels may be: the buffer's length or 16,777,216,
+-- whichever is less, and 15
 pub record Setting (K : Type 0) : Type 0 where
   pub order : Order K
   pub capacity : ℕ
@@ -51,7 +51,7 @@ module _ {K : Type 0} (s : Setting K) where
   abbrev pub keptBy : Keeping K
   keptBy = distinctKeys (s .order)
 
-  -- the rule for 30, of an insertion's pair and of a call: "30 is given exactly when F would pass the buffer or 1,048,576, or levels would pass 11"; F grows by
+  -- the rule for 30, of an insertion's pair and of a call: "30 is given exactly when F would pass the buffer or 16,777,216, or levels would pass 15"; F grows by
   -- the pages that the free list lacks
   abbrev pub outOfRoom : K × ℕ → Index K → Bool
   outOfRoom e i =

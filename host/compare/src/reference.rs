@@ -542,7 +542,8 @@ pub fn number_write(text: &mut [u8], decimals: u32, value: i64) -> Result<(), Re
 
 pub const NONE: u32 = 0xFFFF_FFFF;
 
-const MAX_BYTES: u32 = 1_048_576;
+const MAX_BYTES: u32 = 16_777_216;
+const MAX_LEVELS: usize = 15;
 
 struct Head {
     root: u32,
@@ -649,7 +650,7 @@ pub fn audit(b: &[u8]) -> Result<(), Refusal> {
 fn sound(b: &[u8], head: &Head) -> bool {
     let mut reached = vec![false; head.size as usize / 512];
     let mut level = vec![head.root];
-    for depth in 1..=11 {
+    for depth in 1..=MAX_LEVELS {
         let Some(leaf) = level_good(b, head, &level, depth == 1, &mut reached) else {
             return false;
         };
@@ -778,7 +779,7 @@ pub fn lookup(b: &[u8], key: &[u8]) -> Looked {
         return Looked::Refused(27);
     }
     let mut p = head.root;
-    for pages in 1..=11 {
+    for pages in 1..=MAX_LEVELS as u32 {
         if !is_page(head.size, p) {
             return Looked::Refused(25);
         }
@@ -787,7 +788,7 @@ pub fn lookup(b: &[u8], key: &[u8]) -> Looked {
         if a > 3
             || (a & 1 == 1) != (pages == 1)
             || !page.count_good()
-            || (pages == 11 && !page.leaf())
+            || (pages == MAX_LEVELS as u32 && !page.leaf())
         {
             return Looked::Refused(25);
         }
@@ -855,7 +856,8 @@ pub fn insert(b: &mut [u8], key: &[u8], record: u32) -> Result<(), Refusal> {
     let new_root = splits == path.len();
     let need = splits + new_root as usize;
     let size = head.size as usize + 512 * need.saturating_sub(free_pages(b, &head));
-    if size > b.len() || size > MAX_BYTES as usize || path.len() + new_root as usize > 11 {
+    let levels = path.len() + new_root as usize;
+    if size > b.len() || size > MAX_BYTES as usize || levels > MAX_LEVELS {
         return Err(30);
     }
     put_in(b, k, &path, key, record);

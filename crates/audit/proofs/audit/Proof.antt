@@ -1,19 +1,15 @@
 -- `audit::audit` meets its contract: by what the rule accepts, which is exactly the sound indexes.
 -- Assumes nothing.
-use mathlib.Core.Path.{_≡_, refl, sym, _∙_}
+use mathlib.Core.Path.{_≡_, sym, _∙_}
 use mathlib.Core.Bool.{true}
 use Rattle.page.specs.Header.{headerGood}
-use Rattle.sound.specs.Rule.{unmarked}
 use Rattle.sound.specs.Accepted.{answer-bad, answer-sound, answer-unsound}
 use borrow.Author.Needs.{needs}
 use Rattle.basis.specs.Tests.{passed, failed}
 use Rattle.audit.proofs.audit.Statement.{statement}
 use Rattle.audit.proofs.audit.Tie as tie
 
--- the place past the header's test, and what it says
-abbrev tested : tie.After-marks2 → tie.Else1
-tested c = c .before .before .before
-
+-- what the header's test says
 good : (c : tie.Else1) → headerGood (c .before .before .before .args .index .now) ≡ true
 good c = passed (c .before .header-good .ensures) (c .if1 .left)
 
@@ -23,31 +19,18 @@ header-good-requires c κs = search needs
 returns : tie.Need-returns
 returns c = answer-bad _ (failed (c .before .header-good .ensures) (c .if1 .taken))
 
-slice-aggregate-pages-good : tie.Need-slice-aggregate-pages-good
-slice-aggregate-pages-good c = search needs
-
 pages-good-requires : tie.Need-pages-good-requires
-pages-good-requires c κs = (good (c .before), refl)
+pages-good-requires c κs = good c
 
 returns-2 : tie.Need-returns-2
-unfolding unmarked
 returns-2 c =
     let called = c .before in
-    answer-sound _ (good (tested called)) (sym (called .before .pages-good .ensures) ∙ c .if2 .taken)
+    answer-sound _ (good (called .before)) (sym (called .pages-good .ensures) ∙ c .if2 .taken)
 
 returns-3 : tie.Need-returns-3
-unfolding unmarked
 returns-3 c =
     let called = c .before in
-    answer-unsound _ (good (tested called)) (sym (called .before .pages-good .ensures) ∙ c .if2 .left)
+    answer-unsound _ (good (called .before)) (sym (called .pages-good .ensures) ∙ c .if2 .left)
 
 pub audit-spec : {M : Type 1} → statement M
-audit-spec =
-    tie.close
-    (tie.spec
-    header-good-requires
-    returns
-    slice-aggregate-pages-good
-    pages-good-requires
-    returns-2
-    returns-3)
+audit-spec = tie.close (tie.spec header-good-requires returns pages-good-requires returns-2 returns-3)

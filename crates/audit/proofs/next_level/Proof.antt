@@ -1,5 +1,7 @@
 -- `audit::next_level` meets its contract: the children of the level above, from its start to its end.
 -- Assumes nothing.
+use mathlib.Core.Path.{ap}
+use Rattle.audit.specs.declared.Progress.{Progress}
 use Rattle.audit.specs.PassLaws.{next-closed}
 use borrow.Author.Needs.{needs}
 use Rattle.audit.proofs.next_level.Statement.{statement}
@@ -18,23 +20,22 @@ start-requires : tie.Need-start-requires
 start-requires c κs = search needs
 
 check-level-requires : tie.Need-check-level-requires
-check-level-requires c κs = search needs
+check-level-requires c κs =
+    let entry = c .before .before .before .before .before in
+    (entry .pre, ap (λ (s : Progress). s .good) (c .start .ensures))
 
 closed-requires : tie.Need-closed-requires
 closed-requires c κs = search needs
 
-same-length : tie.Need-same-length
-same-length c = search needs
-
 returns : tie.Need-returns
 returns c =
-    let done = c .before .before .before in
+    let done = c .before in
     let begun = done .before in
     let attribute = begun .before in
-    let leaf = attribute .before .before in
+    let leaf = attribute .before in
     let first = leaf .before .first-child in
-    next-closed _ _ _ _ (first .result) _ (begun .start .result) (done .check-level .result) (c .closed .result) _ _
-    (leaf .leaf-at .ensures) (begun .start .ensures) (c .closed .ensures) _ (first .ensures) (attribute .attribute-of .ensures) (done .check-level .ensures)
+    next-closed _ _ _ _ (first .result) _ _ (begun .start .result) (done .check-level .result) (c .closed .result)
+    (leaf .leaf-at .ensures) (c .closed .ensures) _ (begun .start .ensures) (first .ensures) (attribute .attribute-of .ensures) (done .check-level .ensures)
 
 pub next-level-spec : {M : Type 1} → statement M
 next-level-spec =
@@ -46,5 +47,4 @@ next-level-spec =
     start-requires
     check-level-requires
     closed-requires
-    same-length
     returns)

@@ -1,7 +1,8 @@
 -- `audit::root_level` meets its contract: the root's page, from the level's start to its end.
 -- Assumes nothing.
+use Rattle.basis.specs.Tests.{passed, failed}
 use Rattle.audit.specs.StepLaws.{fits-within}
-use Rattle.audit.specs.PassLaws.{root-closed}
+use Rattle.audit.specs.PassLaws.{root-met, root-refused}
 use borrow.Author.Needs.{needs}
 use Rattle.audit.proofs.root_level.Statement.{statement}
 use Rattle.audit.proofs.root_level.Tie as tie
@@ -11,10 +12,13 @@ abbrev begun : tie.After-page-fits → tie.After-start
 begun c = c .before .before .before
 
 abbrev start : tie.After-page-fits → tie.Start
-start c = begun c .before .before .before .before
+start c = begun c .before .before .before
 
 leaf-at-requires : tie.Need-leaf-at-requires
 leaf-at-requires c κs = search needs
+
+sub-start : tie.Need-sub-start
+sub-start c = search needs
 
 start-requires : tie.Need-start-requires
 start-requires c κs = search needs
@@ -25,36 +29,50 @@ attribute-of-requires c κs = search needs
 page-fits-requires : tie.Need-page-fits-requires
 page-fits-requires c κs = search needs
 
-mark-page-requires : tie.Need-mark-page-requires
-mark-page-requires c κs =
-    let fit = c .before in
-    let entry = start fit in
-    fits-within _ _ _ _ _ (entry .args .marks .now) _ _ _ (fit .page-fits .ensures) (entry .pre .0) (entry .pre .1)
+refused-requires : tie.Need-refused-requires
+refused-requires c κs = search needs
 
 closed-requires : tie.Need-closed-requires
 closed-requires c κs = search needs
 
-same-length : tie.Need-same-length
-same-length c = search needs
-
 returns : tie.Need-returns
 returns c =
-    let done = c .before .before .before in
-    let fit = done .before .before in
+    let unfit = c .before .before in
+    let fit = unfit .before in
     let level = begun fit in
-    root-closed _ _ _ _ (start fit .args .root) _ (level .start .result) (done .mark-page .result) (c .closed .result) (start fit .args .marks .now) _
-    (level .before .leaf-at .ensures) (level .start .ensures) (c .closed .ensures) _ (fit .before .attribute-of .ensures) (fit .page-fits .ensures)
-    (done .mark-page .ensures)
+    root-refused _ _ _ _ (start fit .args .root) _ _ (level .start .result) (c .before .refused .result) (c .closed .result)
+    (level .before .leaf-at .ensures) (c .closed .ensures) (start fit .pre .1) (level .start .ensures) (fit .before .attribute-of .ensures)
+    (failed (fit .page-fits .ensures) (unfit .if1 .taken)) (c .before .refused .ensures)
+
+meet-page-requires : tie.Need-meet-page-requires
+meet-page-requires c κs =
+    let fit = c .before in
+    fits-within _ _ _ _ _ _ _ (passed (fit .page-fits .ensures) (c .if1 .left)) (start fit .pre .0)
+
+closed-requires-2 : tie.Need-closed-requires-2
+closed-requires-2 c κs = search needs
+
+returns-2 : tie.Need-returns-2
+returns-2 c =
+    let met = c .before in
+    let fit = met .before .before in
+    let level = begun fit in
+    root-met _ _ _ _ (start fit .args .root) _ _ (level .start .result) (met .meet-page .result) (c .closed2 .result)
+    (level .before .leaf-at .ensures) (c .closed2 .ensures) (start fit .pre .1) (level .start .ensures) (fit .before .attribute-of .ensures)
+    (passed (fit .page-fits .ensures) (met .before .if1 .left)) (met .meet-page .ensures)
 
 pub root-level-spec : {M : Type 1} → statement M
 root-level-spec =
     tie.close
     (tie.spec
     leaf-at-requires
+    sub-start
     start-requires
     attribute-of-requires
     page-fits-requires
-    mark-page-requires
+    refused-requires
     closed-requires
-    same-length
-    returns)
+    returns
+    meet-page-requires
+    closed-requires-2
+    returns-2)

@@ -20,16 +20,16 @@ use Rattle.layout.proofs.visit_page.Reads as visit-page-reads
 use Rattle.insert.proofs.+insert_under.{statement}
 use Rattle.insert.proofs.+insert_under.Tie.{close}
 
-abbrev μ-insert-under : Measures 2 insert-under-kinds.ps ℕ
+abbrev μ-insert-under : Measures 3 insert-under-kinds.ps ℕ
 μ-insert-under κs a = a .1 .1 .1 .1 .0
 
-abbrev insert-under-at : ℕ → In 2 insert-under-kinds.ps
+abbrev insert-under-at : ℕ → In 3 insert-under-kinds.ps
 insert-under-at t =
-    and 2 insert-under-kinds.ps (is 2 insert-under-kinds.ps μ-insert-under t) insert-under.Pre
+    and 3 insert-under-kinds.ps (is 3 insert-under-kinds.ps μ-insert-under t) insert-under.Pre
 
-abbrev insert-under-below : ℕ → In 2 insert-under-kinds.ps
+abbrev insert-under-below : ℕ → In 3 insert-under-kinds.ps
 insert-under-below t =
-    and 2 insert-under-kinds.ps (falls 2 insert-under-kinds.ps _<_ μ-insert-under t) insert-under.Pre
+    and 3 insert-under-kinds.ps (falls 3 insert-under-kinds.ps _<_ μ-insert-under t) insert-under.Pre
 
 -- what the calls ask and ensure: of them, `insert_under` itself with fewer levels left
 abbrev claims : ℕ → insert-under-lts.Claims
@@ -59,7 +59,7 @@ MetChild t = insert-under-lts.After-visit (claims t) (insert-under-at t) insert-
 
 -- from the visit back to the start, and from what it met back to it
 abbrev start : (t : ℕ) → Visited t → Start t
-start t c = c .before .before .before .before .before
+start t c = c .before .before .before .before .before .before
 
 abbrev leaf-visit : (t : ℕ) → MetLeaf t → Visited t
 leaf-visit t c = c .before .before
@@ -84,7 +84,7 @@ insert-under-returns t c = rw (c .if1 .taken)
 
 insert-under-visit-page-requires : (t : ℕ) → insert-under-lts.Need-visit-page-requires (claims t) (insert-under-at t) insert-under.Post
 insert-under-visit-page-requires t c κs =
-    let at-start = c .before .before .before .before in
+    let at-start = c .before .before .before .before .before in
     at-start .pre .1 .0
 
 insert-under-enum-told : (t : ℕ) → insert-under-lts.Need-enum-told (claims t) (insert-under-at t) insert-under.Post
@@ -95,10 +95,10 @@ insert-under-enum-told-2 t c = search needs
 
 insert-under-insert-in-leaf-requires : (t : ℕ) → insert-under-lts.Need-insert-in-leaf-requires (claims t) (insert-under-at t) insert-under.Post
 insert-under-insert-in-leaf-requires t c κs =
-    let met = c .before in
+    let met = c .before .before in
     let visited = leaf-visit t met in
     let pre = start t visited .pre in
-    (pre .1 .0, leaf t met, omega (arith, pre .1 .1, levels-left t visited))
+    (pre .1 .0, leaf t met, omega (arith, pre .1 .1, levels-left t visited), pre .1 .2)
 
 insert-under-enum-known-visit : (t : ℕ) → insert-under-lts.Need-enum-known-visit (claims t) (insert-under-at t) insert-under.Post
 insert-under-enum-known-visit t c = search needs
@@ -108,19 +108,20 @@ insert-under-sub-insert-under t c = search needs
 
 insert-under-insert-under-requires : (t : ℕ) → insert-under-lts.Need-insert-under-requires (claims t) (insert-under-at t) insert-under.Post
 insert-under-insert-under-requires t c κs =
-    let visited = child-visit t (c .before .before) in
+    let visited = child-visit t (c .before .before .before) in
     let pre = start t visited .pre in
-    (omega (arith, pre .0, levels-left t visited), (pre .1 .0, omega (arith, pre .1 .1, levels-left t visited)))
+    (omega (arith, pre .0, levels-left t visited), (pre .1 .0, omega (arith, pre .1 .1, levels-left t visited), pre .1 .2))
 
 insert-under-after-child-requires : (t : ℕ) → insert-under-lts.Need-after-child-requires (claims t) (insert-under-at t) insert-under.Post
 insert-under-after-child-requires t c κs =
-    let returned = c .before .before .before in
+    let returned = c .before .before .before .before .before .before in
     let below = returned .insert-under in
-    let met = returned .before .before .before in
+    let met = returned .before .before .before .before in
     let pre = start t (child-visit t met) .pre in (
       pre .1 .0,
       rw (below .kept .0) (child t met),
       next-fits _ _ _ _ _ _ (below .result) (below .ensures) (omega (arith, pre .1 .1, levels-left t (child-visit t met))),
+      omega (arith, below .kept .1, pre .1 .2),
     )
 
 insert-under-same-length : (t : ℕ) → insert-under-lts.Need-same-length (claims t) (insert-under-at t) insert-under.Post
@@ -132,27 +133,36 @@ insert-under-returns-2 t c =
     under-bad _ _ _ _ _ (levels-left t visited) (sym (c .enum-told .given .1) ∙ visited .visit-page .ensures)
 
 insert-under-same-length-2 : (t : ℕ) → insert-under-lts.Need-same-length-2 (claims t) (insert-under-at t) insert-under.Post
-insert-under-same-length-2 t c = c .before .before .insert-in-leaf .kept .0
+insert-under-same-length-2 t c = c .before .before .before .before .insert-in-leaf .kept .0
+
+insert-under-same-length-3 : (t : ℕ) → insert-under-lts.Need-same-length-3 (claims t) (insert-under-at t) insert-under.Post
+insert-under-same-length-3 t c = omega (arith, c .before .before .before .before .insert-in-leaf .kept .1)
 
 insert-under-returns-3 : (t : ℕ) → insert-under-lts.Need-returns-3 (claims t) (insert-under-at t) insert-under.Post
 insert-under-returns-3 t c =
-    let inserted = c .before .before in
-    let met = inserted .before .before in
+    let inserted = c .before .before .before .before in
+    let met = inserted .before .before .before in
     let visited = leaf-visit t met in
     under-leaf _ _ _ _ _ (levels-left t visited) (sym (met .enum-told2 .given .1) ∙ visited .visit-page .ensures)
     ∙ inserted .insert-in-leaf .ensures
 
-insert-under-same-length-3 : (t : ℕ) → insert-under-lts.Need-same-length-3 (claims t) (insert-under-at t) insert-under.Post
-insert-under-same-length-3 t c =
-    let finished = c .before .before in
-    let returned = finished .before .before .before .before in
+insert-under-same-length-4 : (t : ℕ) → insert-under-lts.Need-same-length-4 (claims t) (insert-under-at t) insert-under.Post
+insert-under-same-length-4 t c =
+    let finished = c .before .before .before .before in
+    let returned = finished .before .before .before .before .before .before .before in
     finished .after-child .kept .0 ∙ returned .insert-under .kept .0
+
+insert-under-same-length-5 : (t : ℕ) → insert-under-lts.Need-same-length-5 (claims t) (insert-under-at t) insert-under.Post
+insert-under-same-length-5 t c =
+    let finished = c .before .before .before .before in
+    let returned = finished .before .before .before .before .before .before .before in
+    omega (arith, finished .after-child .kept .1, returned .insert-under .kept .1)
 
 insert-under-returns-4 : (t : ℕ) → insert-under-lts.Need-returns-4 (claims t) (insert-under-at t) insert-under.Post
 insert-under-returns-4 t c =
-    let finished = c .before .before in
-    let returned = finished .before .before .before .before in
-    let met = returned .before .before .before in
+    let finished = c .before .before .before .before in
+    let returned = finished .before .before .before .before .before .before .before in
+    let met = returned .before .before .before .before in
     let visited = child-visit t met in
     under-child _ _ _ _ _ _ _ (levels-left t visited) (sym (met .visit .given .1) ∙ visited .visit-page .ensures) (returned .insert-under .ensures)
     ∙ finished .after-child .ensures
@@ -173,6 +183,8 @@ pub +insert-under-spec : {M : Type 1} → statement M
     (insert-under-same-length t)
     (insert-under-returns-2 t)
     (insert-under-same-length-2 t)
-    (insert-under-returns-3 t)
     (insert-under-same-length-3 t)
+    (insert-under-returns-3 t)
+    (insert-under-same-length-4 t)
+    (insert-under-same-length-5 t)
     (insert-under-returns-4 t)

@@ -14,9 +14,9 @@ enum-known-below-2 c = search needs
 
 take-in-two-requires : tie.Need-take-in-two-requires
 take-in-two-requires c κs =
-    let split = c .before .before in
-    let start = split .before .before .before .before in
-    (start .pre .0, start .pre .1, rw (split .below2 .given .1) at (start .pre .2))
+    let split = c .before .before .before in
+    let start = split .before .before .before .before .before in
+    (start .pre .0, start .pre .1, rw (split .below2 .given .1) at (start .pre .2), start .pre .3)
 
 enum-told : tie.Need-enum-told
 enum-told c = search needs
@@ -33,10 +33,13 @@ returns c =
 same-length-2 : tie.Need-same-length-2
 same-length-2 c = search needs
 
+same-length-3 : tie.Need-same-length-3
+same-length-3 c = search needs
+
 returns-2 : tie.Need-returns-2
 returns-2 c =
-    let taken-in = c .before .before in
-    let split = taken-in .before .before .before in
+    let taken-in = c .before .before .before .before in
+    let split = taken-in .before .before .before .before in
     rw (split .below2 .given .1) (taken-in .take-in-two .ensures)
 
 returns-3 : tie.Need-returns-3
@@ -54,5 +57,6 @@ after-child-spec =
     same-length
     returns
     same-length-2
+    same-length-3
     returns-2
     returns-3)

@@ -14,9 +14,9 @@ enum-known-below-2 c = search needs
 
 new-root-requires : tie.Need-new-root-requires
 new-root-requires c κs =
-    let split = c .before .before in
-    let start = split .before .before .before .before in
-    (start .pre .0, rw (split .below2 .given .1) at (start .pre .2))
+    let split = c .before .before .before in
+    let start = split .before .before .before .before .before in
+    (start .pre .0, rw (split .below2 .given .1) at (start .pre .2), start .pre .3)
 
 enum-told : tie.Need-enum-told
 enum-told c = search needs
@@ -33,10 +33,13 @@ returns c =
 same-length-2 : tie.Need-same-length-2
 same-length-2 c = search needs
 
+same-length-3 : tie.Need-same-length-3
+same-length-3 c = search needs
+
 returns-2 : tie.Need-returns-2
 returns-2 c =
-    let rooted = c .before .before in
-    let split = rooted .before .before .before in
+    let rooted = c .before .before .before .before in
+    let split = rooted .before .before .before .before in
     rw (split .below2 .given .1) (rooted .new-root .ensures)
 
 returns-3 : tie.Need-returns-3
@@ -54,5 +57,6 @@ at-root-spec =
     same-length
     returns
     same-length-2
+    same-length-3
     returns-2
     returns-3)

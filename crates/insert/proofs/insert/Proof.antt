@@ -7,7 +7,7 @@ use lib.ListN.{length}
 use Rattle.basis.specs.Tests.{passed, failed}
 use Rattle.page.specs.Header.{maxLevels, keyLength, headerGood}
 use Rattle.page.specs.HeaderLaws.{good-header}
-use Rattle.sound.specs.Rule.{pagesGood, unmarked}
+use Rattle.sound.specs.Rule.{pagesGood}
 use Rattle.sound.specs.Accepted.{audit-sound, audit-unsound}
 use Rattle.insert.specs.declared.Path.{Path}
 use Rattle.insert.specs.Room.{pathTo, noRoom}
@@ -61,7 +61,7 @@ same c = c .if2 .left ∙ c .before .key-length .ensures
 clean : (c : tie.Else3) → hasControl (key c) ≡ false
 clean c = sym (at-length c .before .before .before .before .has-control .ensures) ∙ c .if3 .left
 
-sound : (c : tie.Else5) → pagesGood (index (at-clean (at-number (c .before)))) unmarked ≡ true
+sound : (c : tie.Else5) → pagesGood (index (at-clean (at-number (c .before)))) ≡ true
 sound c =
     let audited = c .before in
     audit-sound _ (header (at-header (at-length (at-clean (at-number audited))))) (audited .audit .ensures) (c .if5 .left)

@@ -10,7 +10,7 @@ use Rattle.insert.proofs.insert_in_leaf.Tie as tie
 
 -- the places: the call's start, from where the entries are counted; that place, from where they are gathered
 abbrev start : tie.After-entry-count → tie.Start
-start c = c .before .before .before .before
+start c = c .before .before .before .before .before
 
 abbrev before-gathering : tie.After-gather-pair → tie.After-entry-count
 before-gathering c = c .before .before .before
@@ -28,52 +28,54 @@ products c = spread _ (counted c) (omega arith)
 entry-count-requires : tie.Need-entry-count-requires
 entry-count-requires c κs = search needs
 
-slice-aggregate-gather-pair : tie.Need-slice-aggregate-gather-pair
-slice-aggregate-gather-pair c = search needs
-
 gather-pair-requires : tie.Need-gather-pair-requires
-gather-pair-requires c κs = (counted (c .before .before), search needs)
+gather-pair-requires c κs = let count = c .before .before in (counted count, start count .pre .3)
 
 add-size : tie.Need-add-size
-add-size c = let s = products (before-gathering (c .before)) in omega arith
+add-size c = let s = products (before-gathering (c .before .before)) in omega arith
 
 add-size-2 : tie.Need-add-size-2
 add-size-2 c = search needs
 
 mul-size : tie.Need-mul-size
-mul-size c = let s = products (before-gathering (c .before)) in omega arith
+mul-size c = let s = products (before-gathering (c .before .before)) in omega arith
 
 add-take-in : tie.Need-add-take-in
-add-take-in c = let s = products (before-gathering (c .before .before)) in omega arith
+add-take-in c = let s = products (before-gathering (c .before .before .before)) in omega arith
 
-array-share-prefix-room : tie.Need-array-share-prefix-room
-array-share-prefix-room c =
-    let gathered = c .before .before in
-    let s = products (before-gathering gathered) in
-    omega (arith, gathered .gather-pair .kept .0)
+slice-reshare-prefix-take-in : tie.Need-slice-reshare-prefix-take-in
+slice-reshare-prefix-take-in c =
+    let gathered = c .before .before .before in
+    let count = before-gathering gathered in
+    let s = products count in
+    omega (arith, gathered .gather-pair .kept .0, start count .pre .3)
 
 slice-aggregate-take-in : tie.Need-slice-aggregate-take-in
 slice-aggregate-take-in c =
-    let gathered = c .before .before .before in
-    let s = products (before-gathering gathered) in
-    simp length-take (omega (arith, gathered .gather-pair .kept .0))
+    let gathered = c .before .before .before .before in
+    let count = before-gathering gathered in
+    let s = products count in
+    simp length-take (omega (arith, gathered .gather-pair .kept .0, start count .pre .3))
 
 take-in-requires : tie.Need-take-in-requires
 take-in-requires c κs =
-    let gathered = c .before .before .before in
+    let gathered = c .before .before .before .before in
     let count = before-gathering gathered in
-    (one-more _ (counted count) (omega (arith, gathered .gather-pair .kept .0)), start count .pre .2)
+    (one-more _ (counted count) (omega (arith, gathered .gather-pair .kept .0, start count .pre .3)), start count .pre .2)
 
 same-length : tie.Need-same-length
 same-length c = search needs
 
+same-length-2 : tie.Need-same-length-2
+same-length-2 c = search needs
+
 returns : tie.Need-returns
 returns c =
     let taken-in = c .before .before in
-    let gathered = taken-in .before .before .before .before in
+    let gathered = taken-in .before .before .before .before .before in
     let count = before-gathering gathered in
     let args = start count .args in
-    rw (pair-read (args .key .now) (args .number .0) _ (counted count) (omega arith) (gathered .gather-pair .ensures))
+    rw (pair-read (args .key .now) (args .number .0) _ (counted count) (start count .pre .3) (gathered .gather-pair .ensures))
     at (taken-in .take-in .ensures)
 
 pub insert-in-leaf-spec : {M : Type 1} → statement M
@@ -81,14 +83,14 @@ insert-in-leaf-spec =
     tie.close
     (tie.spec
     entry-count-requires
-    slice-aggregate-gather-pair
     gather-pair-requires
     add-size
     add-size-2
     mul-size
     add-take-in
-    array-share-prefix-room
+    slice-reshare-prefix-take-in
     slice-aggregate-take-in
     take-in-requires
     same-length
+    same-length-2
     returns)

@@ -15,7 +15,7 @@ abbrev start : tie.After-supply-of → tie.Start
 start c = c .before .before .before .before .before .before
 
 abbrev at-supply : tie.After-insert-under → tie.After-supply-of
-at-supply c = c .before .before
+at-supply c = c .before .before .before
 
 -- the header is good, and the key is no longer than the longest key
 header : (s : tie.Start) → GoodHeader (s .args .index .now)
@@ -32,21 +32,29 @@ supply-of-requires c κs =
     let at-start = c .before .before .before .before .before in
     header at-start .long
 
+slice-aggregate-insert-under : tie.Need-slice-aggregate-insert-under
+slice-aggregate-insert-under c = search needs
+
 insert-under-requires : tie.Need-insert-under-requires
 insert-under-requires c κs =
-    let at-start = start (c .before) in
+    let supply = c .before .before in
+    let at-start = start supply in
     let h = header at-start in
-    (short at-start, rw (c .before .supply-of .ensures) (omega (arith, header-lasts _ h)))
+    (short at-start, rw (supply .supply-of .ensures) (omega (arith, header-lasts _ h)), search needs)
+
+slice-aggregate-at-root : tie.Need-slice-aggregate-at-root
+slice-aggregate-at-root c = search needs
 
 at-root-requires : tie.Need-at-root-requires
 at-root-requires c κs =
-    let below = c .before .before .before in
+    let below = c .before .before .before .before .before in
     let supply = at-supply below in
     let at-start = start supply in
     let h = header at-start in (
       short at-start,
       omega (arith, below .insert-under .kept .0),
       next-fits _ _ _ _ _ _ (below .insert-under .result) (below .insert-under .ensures) (rw (supply .supply-of .ensures) (omega (arith, header-lasts _ h))),
+      omega (arith, below .insert-under .kept .1),
     )
 
 same-length : tie.Need-same-length
@@ -54,8 +62,8 @@ same-length c = search needs
 
 returns : tie.Need-returns
 returns c =
-    let finished = c .before .before in
-    let below = finished .before .before .before .before in
+    let finished = c .before .before .before in
+    let below = finished .before .before .before .before .before .before in
     let supply = at-supply below in
     let at-start = start supply in
     pair-inserted _ (at-start .args .key .now) _ (at-start .pre .1) (supply .before .before .root .ensures) (supply .supply-of .ensures)
@@ -67,7 +75,9 @@ insert-pair-spec =
     (tie.spec
     root-requires
     supply-of-requires
+    slice-aggregate-insert-under
     insert-under-requires
+    slice-aggregate-at-root
     at-root-requires
     same-length
     returns)

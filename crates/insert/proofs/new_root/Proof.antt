@@ -20,13 +20,13 @@ abbrev taking : tie.Else1 → tie.After-take-page
 taking c = c .before .before .before
 
 abbrev start : tie.Else1 → tie.Start
-start c = taking c .before .before .before .before
+start c = taking c .before .before .before .before .before
 
 abbrev at-test : tie.After-gather-root → tie.Else1
 at-test c = c .before .before .before
 
 abbrev at-gathering : tie.After-new-page → tie.After-gather-root
-at-gathering c = c .before .before .before .before
+at-gathering c = c .before .before .before .before .before
 
 abbrev at-page : tie.After-set-root → tie.After-new-page
 at-page c = c .before .before .before .before
@@ -39,7 +39,7 @@ page : (c : tie.Else1) → IsPage (length (start c .args .index .now)) (taking c
 page c = is-page _ _ (tested c)
 
 take-page-requires : tie.Need-take-page-requires
-take-page-requires c κs = c .before .before .before .pre .1
+take-page-requires c κs = c .before .before .before .before .pre .1
 
 is-page-requires : tie.Need-is-page-requires
 is-page-requires c κs = search needs
@@ -50,15 +50,12 @@ same-length c = search needs
 returns : tie.Need-returns
 returns c =
     let at-taking = c .before .before .before in
-    let args = at-taking .before .before .before .before .args in
+    let args = at-taking .before .before .before .before .before .args in
     root-none (args .index .now) (args .key .now) (args .old .0) (args .new .0) (args .supply) (at-taking .take-page .ensures)
     (failed (c .before .is-page .ensures) (c .if1 .taken))
 
-slice-aggregate-gather-root : tie.Need-slice-aggregate-gather-root
-slice-aggregate-gather-root c = search needs
-
 gather-root-requires : tie.Need-gather-root-requires
-gather-root-requires c κs = search needs
+gather-root-requires c κs = let at-start = start (c .before .before) in (at-start .pre .0, at-start .pre .2)
 
 add-size : tie.Need-add-size
 add-size c = search needs
@@ -66,23 +63,27 @@ add-size c = search needs
 mul-size : tie.Need-mul-size
 mul-size c = search needs
 
-array-share-prefix-room : tie.Need-array-share-prefix-room
-array-share-prefix-room c = search needs
+slice-reshare-prefix-new-page : tie.Need-slice-reshare-prefix-new-page
+slice-reshare-prefix-new-page c =
+    let gathered = c .before .before .before in
+    let at-start = start (at-test gathered) in
+    omega (arith, gathered .gather-root .kept .0, at-start .pre .0, at-start .pre .2)
 
 slice-aggregate-new-page : tie.Need-slice-aggregate-new-page
 slice-aggregate-new-page c =
-    let gathered = c .before .before .before in
-    simp length-take (omega (arith, gathered .gather-root .kept .0, start (at-test gathered) .pre .0))
+    let gathered = c .before .before .before .before in
+    let at-start = start (at-test gathered) in
+    simp length-take (omega (arith, gathered .gather-root .kept .0, at-start .pre .0, at-start .pre .2))
 
 new-page-requires : tie.Need-new-page-requires
 new-page-requires c κs =
-    let gathered = c .before .before .before in
+    let gathered = c .before .before .before .before in
     let g = page (at-test gathered) in
     let at-start = start (at-test gathered) in
     let m = capacity-least (length (at-start .args .key .now)) (at-start .pre .0) in
     record {
       within = record { key = at-start .pre .0; count = omega arith; page = g .high };
-      size = simp length-take (omega (arith, gathered .gather-root .kept .0, at-start .pre .0));
+      size = simp length-take (omega (arith, gathered .gather-root .kept .0, at-start .pre .0, at-start .pre .2));
     }
 
 set-root-requires : tie.Need-set-root-requires
@@ -101,6 +102,9 @@ set-supply-requires c κs =
 same-length-2 : tie.Need-same-length-2
 same-length-2 c = search needs
 
+same-length-3 : tie.Need-same-length-3
+same-length-3 c = search needs
+
 returns-2 : tie.Need-returns-2
 returns-2 c =
     let finished = c .before .before in
@@ -111,7 +115,7 @@ returns-2 c =
     let at-start = start test in
     let args = at-start .args in
     root-new (args .index .now) (args .key .now) (args .old .0) (args .new .0) (args .supply) (taking test .take-page .ensures) (tested test)
-    (root-read (args .index .now) (args .key .now) (args .old .0) (args .new .0) _ (at-start .pre .0) (omega arith) (gathered .gather-root .ensures))
+    (root-read (args .index .now) (args .key .now) (args .old .0) (args .new .0) _ (at-start .pre .0) (at-start .pre .2) (gathered .gather-root .ensures))
     (written .new-page .ensures) (stored .set-root .ensures) (finished .set-supply .ensures)
 
 pub new-root-spec : {M : Type 1} → statement M
@@ -122,14 +126,14 @@ new-root-spec =
     is-page-requires
     same-length
     returns
-    slice-aggregate-gather-root
     gather-root-requires
     add-size
     mul-size
-    array-share-prefix-room
+    slice-reshare-prefix-new-page
     slice-aggregate-new-page
     new-page-requires
     set-root-requires
     set-supply-requires
     same-length-2
+    same-length-3
     returns-2)

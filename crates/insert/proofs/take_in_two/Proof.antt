@@ -11,7 +11,7 @@ use Rattle.insert.proofs.take_in_two.Tie as tie
 
 -- the places: the call's start, from where the entries are counted; where there are some, from where they are gathered
 abbrev start : tie.After-entry-count → tie.Start
-start c = c .before .before .before .before
+start c = c .before .before .before .before .before
 
 abbrev before-gathering : tie.After-gather-two → tie.Else1
 before-gathering c = c .before .before .before
@@ -37,56 +37,58 @@ returns c =
     let count = c .before in
     two-for-none _ _ _ _ _ _ _ _ (omega (arith, count .entry-count .ensures, c .if1 .taken))
 
-slice-aggregate-gather-two : tie.Need-slice-aggregate-gather-two
-slice-aggregate-gather-two c = search needs
-
 gather-two-requires : tie.Need-gather-two-requires
 gather-two-requires c κs =
     let some = c .before .before in
-    (counted (some .before), some .if1 .left, search needs)
+    (counted (some .before), some .if1 .left, start (some .before) .pre .3)
 
 add-size : tie.Need-add-size
-add-size c = let s = products (before-gathering (c .before) .before) in omega arith
+add-size c = let s = products (before-gathering (c .before .before) .before) in omega arith
 
 add-size-2 : tie.Need-add-size-2
 add-size-2 c = search needs
 
 mul-size : tie.Need-mul-size
-mul-size c = let s = products (before-gathering (c .before) .before) in omega arith
+mul-size c = let s = products (before-gathering (c .before .before) .before) in omega arith
 
 add-take-in : tie.Need-add-take-in
-add-take-in c = let s = products (before-gathering (c .before .before) .before) in omega arith
+add-take-in c = let s = products (before-gathering (c .before .before .before) .before) in omega arith
 
-array-share-prefix-room : tie.Need-array-share-prefix-room
-array-share-prefix-room c =
-    let gathered = c .before .before in
-    let s = products (before-gathering gathered .before) in
-    omega (arith, gathered .gather-two .kept .0)
+slice-reshare-prefix-take-in : tie.Need-slice-reshare-prefix-take-in
+slice-reshare-prefix-take-in c =
+    let gathered = c .before .before .before in
+    let count = before-gathering gathered .before in
+    let s = products count in
+    omega (arith, gathered .gather-two .kept .0, start count .pre .3)
 
 slice-aggregate-take-in : tie.Need-slice-aggregate-take-in
 slice-aggregate-take-in c =
-    let gathered = c .before .before .before in
-    let s = products (before-gathering gathered .before) in
-    simp length-take (omega (arith, gathered .gather-two .kept .0))
+    let gathered = c .before .before .before .before in
+    let count = before-gathering gathered .before in
+    let s = products count in
+    simp length-take (omega (arith, gathered .gather-two .kept .0, start count .pre .3))
 
 take-in-requires : tie.Need-take-in-requires
 take-in-requires c κs =
-    let gathered = c .before .before .before in
+    let gathered = c .before .before .before .before in
     let count = before-gathering gathered .before in
-    (one-more _ (counted count) (omega (arith, gathered .gather-two .kept .0)), start count .pre .2)
+    (one-more _ (counted count) (omega (arith, gathered .gather-two .kept .0, start count .pre .3)), start count .pre .2)
 
 same-length-2 : tie.Need-same-length-2
 same-length-2 c = search needs
 
+same-length-3 : tie.Need-same-length-3
+same-length-3 c = search needs
+
 returns-2 : tie.Need-returns-2
 returns-2 c =
     let taken-in = c .before .before in
-    let gathered = taken-in .before .before .before .before in
+    let gathered = taken-in .before .before .before .before .before in
     let some = before-gathering gathered in
     let count = some .before in
     let key = start count .args .key .now in
     two-for-some _ _ _ _ _ _ _ _ _ (omega (arith, count .entry-count .ensures, some .if1 .left))
-    (two-read key _ _ _ _ (counted count) (some .if1 .left) (omega arith) (gathered .gather-two .ensures))
+    (two-read key _ _ _ _ (counted count) (some .if1 .left) (start count .pre .3) (gathered .gather-two .ensures))
     (taken-in .take-in .ensures)
 
 pub take-in-two-spec : {M : Type 1} → statement M
@@ -96,14 +98,14 @@ take-in-two-spec =
     entry-count-requires
     same-length
     returns
-    slice-aggregate-gather-two
     gather-two-requires
     add-size
     add-size-2
     mul-size
     add-take-in
-    array-share-prefix-room
+    slice-reshare-prefix-take-in
     slice-aggregate-take-in
     take-in-requires
     same-length-2
+    same-length-3
     returns-2)

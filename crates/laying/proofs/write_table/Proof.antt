@@ -21,14 +21,10 @@ cast-store-le16 c = search needs
 store-le16-requires : tie.Need-store-le16-requires
 store-le16-requires c κs = search needs
 
-copy-in-requires : tie.Need-copy-in-requires
-copy-in-requires c κs = search needs
-
 kind-of-requires : tie.Need-kind-of-requires
 kind-of-requires c κs =
-    let copied = c .before .before .before in
-    let stored = copied .before .before .before .before in
-    begun-fits _ _ _ _ _ _ _ _ (stored .before .before .before .before .pre) (stored .store-le16 .ensures) (copied .copy-in .ensures)
+    let stored = c .before .before .before in
+    begun-fits _ _ _ _ _ _ (stored .before .before .before .pre) (stored .store-le16 .ensures)
 
 field-offset-requires : tie.Need-field-offset-requires
 field-offset-requires c κs = search needs
@@ -39,23 +35,23 @@ cast-store-le16-2 c = search needs
 store-le16-requires-2 : tie.Need-store-le16-requires-2
 store-le16-requires-2 c κs = search needs
 
-sub-t15 : tie.Need-sub-t15
-sub-t15 c = search needs
+sub-t14 : tie.Need-sub-t14
+sub-t14 c = search needs
 
-cast-t24 : tie.Need-cast-t24
-cast-t24 c = search needs
+cast-t21 : tie.Need-cast-t21
+cast-t21 c = search needs
 
-cast-t25 : tie.Need-cast-t25
-cast-t25 c = search needs
+cast-t22 : tie.Need-cast-t22
+cast-t22 c = search needs
 
-cast-t26 : tie.Need-cast-t26
-cast-t26 c = search needs
+cast-t23 : tie.Need-cast-t23
+cast-t23 c = search needs
 
 slice-aggregate-copy-in : tie.Need-slice-aggregate-copy-in
 slice-aggregate-copy-in c = search needs
 
-copy-in-requires-2 : tie.Need-copy-in-requires-2
-copy-in-requires-2 c κs = search needs
+copy-in-requires : tie.Need-copy-in-requires
+copy-in-requires c κs = search needs
 
 fill-requires : tie.Need-fill-requires
 fill-requires c κs = search needs
@@ -79,17 +75,15 @@ returns c =
     let sized = dated .before .before .before .before .before in
     let offset = sized .before .before in
     let kind = offset .before .before in
-    let copied = kind .before .before .before .before in
-    let stored = copied .before .before .before .before in
-    let pre = stored .before .before .before .before .pre in
+    let stored = kind .before .before .before .before in
+    let pre = stored .before .before .before .pre in
     let e₁ = stored .store-le16 .ensures in
-    let e₂ = copied .copy-in .ensures in
     let size = offset .field-offset .ensures in
-    let e₃ = sized .store-le162 .ensures in
-    let e₄ = dated .copy-in2 .ensures in
+    let e₂ = sized .store-le162 .ensures in
+    let e₃ = dated .copy-in .ensures in
     record {
-      bytes = written _ _ _ _ _ _ _ _ pre e₁ e₂ _ _ _ _ _ (kind .kind-of .ensures) (size .0) e₃ e₄ (filled .fill .ensures);
-      small = omega (arith, size .0, size .1, begun-size _ _ _ _ _ _ _ _ pre e₁ e₂, pre .few);
+      bytes = written _ _ _ _ _ _ pre e₁ _ _ _ _ _ (kind .kind-of .ensures) (size .0) e₂ e₃ (filled .fill .ensures);
+      small = omega (arith, size .0, size .1, begun-size _ _ _ _ _ _ pre e₁, pre .few);
     }
 
 pub write-table-spec : {M : Type 1} → statement M
@@ -101,17 +95,16 @@ write-table-spec =
     add-store-le16
     cast-store-le16
     store-le16-requires
-    copy-in-requires
     kind-of-requires
     field-offset-requires
     cast-store-le16-2
     store-le16-requires-2
-    sub-t15
-    cast-t24
-    cast-t25
-    cast-t26
+    sub-t14
+    cast-t21
+    cast-t22
+    cast-t23
     slice-aggregate-copy-in
-    copy-in-requires-2
+    copy-in-requires
     fill-requires
     slice-write-room
     add-room

@@ -11,7 +11,7 @@ use Rattle.remove.proofs.after_child.Tie as tie
 
 -- the call's start, from where the child is known to be emptied
 abbrev start : tie.After-enum-told2 → tie.Start
-start c = c .before .before .before
+start c = c .before .before .before .before
 
 -- the page and its emptied child are inside the buffer
 inside : (c : tie.After-enum-told2) → let args = start c .args in let n = length (args .index .now) in
@@ -47,10 +47,13 @@ returns c = rw (c .enum-told .given .1)
 same-length : tie.Need-same-length
 same-length c = search needs
 
+same-length-2 : tie.Need-same-length-2
+same-length-2 c = search needs
+
 returns-2 : tie.Need-returns-2
 returns-2 c =
-    let taken = c .before .before in
-    let freed = taken .before .before .before .before in
+    let taken = c .before .before .before .before in
+    let freed = taken .before .before .before .before .before in
     let unlinked = freed .before .before .before .before in
     let told = unlinked .before .before in
     rw (told .enum-told2 .given .1)
@@ -71,5 +74,6 @@ after-child-spec =
     enum-told-3
     returns
     same-length
+    same-length-2
     returns-2
     returns-3)

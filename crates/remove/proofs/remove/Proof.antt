@@ -7,7 +7,7 @@ use lib.ListN.{length}
 use Rattle.basis.specs.Tests.{passed, failed}
 use Rattle.page.specs.Header.{keyLength, headerGood}
 use Rattle.page.specs.HeaderLaws.{good-header}
-use Rattle.sound.specs.Rule.{pagesGood, unmarked}
+use Rattle.sound.specs.Rule.{pagesGood}
 use Rattle.sound.specs.Accepted.{audit-sound, audit-unsound}
 use Rattle.lookup.specs.Lookup.{lookupRule, isFound}
 use Rattle.remove.specs.CallLaws.{refused-24, refused-27, refused-25, refused-33, accepted-key}
@@ -42,7 +42,7 @@ header c = passed (c .before .header-good .ensures) (c .if1 .left)
 same : (c : tie.Else2) → length (key c) ≡ keyLength (index c)
 same c = c .if2 .left ∙ c .before .key-length .ensures
 
-sound : (c : tie.Else3) → pagesGood (index (at-length (c .before))) unmarked ≡ true
+sound : (c : tie.Else3) → pagesGood (index (at-length (c .before))) ≡ true
 sound c = audit-sound _ (header (at-header (at-length (c .before)))) (c .before .audit .ensures) (c .if3 .left)
 
 -- what the lookup said of the key

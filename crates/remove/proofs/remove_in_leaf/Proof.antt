@@ -12,11 +12,14 @@ take-out-requires c κs = search needs
 same-length : tie.Need-same-length
 same-length c = search needs
 
+same-length-2 : tie.Need-same-length-2
+same-length-2 c = search needs
+
 returns : tie.Need-returns
 returns c =
-    let taken = c .before .before in
-    let chosen = taken .before .before in
+    let taken = c .before .before .before .before in
+    let chosen = taken .before .before .before in
     rw (← chosen .chosen-entry .ensures) (taken .take-out .ensures)
 
 pub remove-in-leaf-spec : {M : Type 1} → statement M
-remove-in-leaf-spec = tie.close (tie.spec chosen-entry-requires take-out-requires same-length returns)
+remove-in-leaf-spec = tie.close (tie.spec chosen-entry-requires take-out-requires same-length same-length-2 returns)

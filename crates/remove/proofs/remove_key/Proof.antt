@@ -14,7 +14,7 @@ abbrev start : tie.After-root → tie.Start
 start c = c .before .before .before .before
 
 abbrev at-root-known : tie.After-remove-under → tie.After-root
-at-root-known c = c .before .before
+at-root-known c = c .before .before .before
 
 -- the header is good
 header : (s : tie.Start) → GoodHeader (s .args .index .now)
@@ -23,14 +23,17 @@ header s = good-header _ (s .pre .0)
 root-requires : tie.Need-root-requires
 root-requires c κs = header (c .before .before .before) .long
 
+slice-aggregate-remove-under : tie.Need-slice-aggregate-remove-under
+slice-aggregate-remove-under c = search needs
+
 remove-under-requires : tie.Need-remove-under-requires
 remove-under-requires c κs =
-    let at-start = start (c .before) in
-    omega (arith, at-start .pre .1, header at-start .key-high)
+    let at-start = start (c .before .before) in
+    (omega (arith, at-start .pre .1, header at-start .key-high), search needs)
 
 at-root-requires : tie.Need-at-root-requires
 at-root-requires c κs =
-    let below = c .before .before .before .remove-under in
+    let below = c .before .before .before .before .remove-under in
     rw (below .kept .0) (emptied-fits _ _ _ _ _ (below .result) (below .ensures))
 
 same-length : tie.Need-same-length
@@ -39,7 +42,7 @@ same-length c = search needs
 returns : tie.Need-returns
 returns c =
     let finished = c .before .before in
-    let below = finished .before .before .before .before in
+    let below = finished .before .before .before .before .before in
     let root = at-root-known below in
     let at-start = start root in
     key-removed _ (at-start .args .key .now) (at-start .pre .1) (root .root .ensures) (below .remove-under .ensures) (finished .at-root .ensures)
@@ -49,6 +52,7 @@ remove-key-spec =
     tie.close
     (tie.spec
     root-requires
+    slice-aggregate-remove-under
     remove-under-requires
     at-root-requires
     same-length

@@ -12,17 +12,17 @@ use Rattle.remove.proofs.take_out.Tie as tie
 
 -- the places: the call's start, from behind the test; that place, from where the entries are gathered; that one, from where they are written
 abbrev start : tie.Else1 → tie.Start
-start c = c .before .before .before .before
+start c = c .before .before .before .before .before
 
 abbrev before-gathering : tie.After-gather-without → tie.Else1
 before-gathering c = c .before .before .before
 
 abbrev before-writing : tie.After-with-entries → tie.After-gather-without
-before-writing c = c .before .before .before .before
+before-writing c = c .before .before .before .before .before
 
 -- the page's entries are counted, and entry i is one of them
 counted : (c : tie.Else1) → let args = start c .args in Listed (args .index .now) (args .k) (args .page .0) (c .before .entry-count .result)
-counted c = counted-some (start c .pre) (c .before .entry-count .ensures) (λ z. omega (arith, c .if1 .left, z))
+counted c = counted-some (start c .pre .0) (c .before .entry-count .ensures) (λ z. omega (arith, c .if1 .left, z))
 
 inside : (c : tie.Else1) → start c .args .i < c .before .entry-count .result
 inside c = omega (arith, c .if1 .left)
@@ -50,51 +50,57 @@ add-size c = search needs
 mul-size : tie.Need-mul-size
 mul-size c = let s = products c in omega arith
 
-slice-aggregate-gather-without : tie.Need-slice-aggregate-gather-without
-slice-aggregate-gather-without c = search needs
-
 gather-without-requires : tie.Need-gather-without-requires
 gather-without-requires c κs =
     let tested = c .before .before in
-    (counted tested, omega (arith, inside tested), search needs)
+    (counted tested, omega (arith, inside tested), start tested .pre .1)
 
-array-share-prefix-room : tie.Need-array-share-prefix-room
-array-share-prefix-room c =
-    let gathered = c .before .before in
-    let s = products (before-gathering gathered) in
-    omega (arith, gathered .gather-without .kept .0)
+slice-reshare-prefix-with-entries : tie.Need-slice-reshare-prefix-with-entries
+slice-reshare-prefix-with-entries c =
+    let gathered = c .before .before .before in
+    let tested = before-gathering gathered in
+    let s = products tested in
+    omega (arith, gathered .gather-without .kept .0, start tested .pre .1)
 
 slice-aggregate-with-entries : tie.Need-slice-aggregate-with-entries
 slice-aggregate-with-entries c =
-    let gathered = c .before .before .before in
-    let s = products (before-gathering gathered) in
-    simp length-take (omega (arith, gathered .gather-without .kept .0))
+    let gathered = c .before .before .before .before in
+    let tested = before-gathering gathered in
+    let s = products tested in
+    simp length-take (omega (arith, gathered .gather-without .kept .0, start tested .pre .1))
 
 with-entries-requires : tie.Need-with-entries-requires
 with-entries-requires c κs =
-    let gathered = c .before .before .before in
-    one-less _ (counted (before-gathering gathered)) (omega (arith, gathered .gather-without .kept .0))
+    let gathered = c .before .before .before .before in
+    let tested = before-gathering gathered in
+    one-less _ (counted tested) (omega (arith, gathered .gather-without .kept .0, start tested .pre .1))
 
 same-length-2 : tie.Need-same-length-2
 same-length-2 c = search needs
+
+same-length-3 : tie.Need-same-length-3
+same-length-3 c = search needs
 
 returns-2 : tie.Need-returns-2
 returns-2 c =
     let written = c .before .before .before in
     let gathered = before-writing written in
     let tested = before-gathering gathered in
-    let fewer = without-read _ (counted tested) (inside tested) (omega arith) (gathered .gather-without .ensures) in
+    let fewer = without-read _ (counted tested) (inside tested) (start tested .pre .1) (gathered .gather-without .ensures) in
     takes-last _ _ _ _ (tested .before .entry-count .ensures) (inside tested) fewer (written .with-entries .ensures) (c .if2 .taken)
 
-same-length-3 : tie.Need-same-length-3
-same-length-3 c = search needs
+same-length-4 : tie.Need-same-length-4
+same-length-4 c = search needs
+
+same-length-5 : tie.Need-same-length-5
+same-length-5 c = search needs
 
 returns-3 : tie.Need-returns-3
 returns-3 c =
     let written = c .before .before .before in
     let gathered = before-writing written in
     let tested = before-gathering gathered in
-    let fewer = without-read _ (counted tested) (inside tested) (omega arith) (gathered .gather-without .ensures) in
+    let fewer = without-read _ (counted tested) (inside tested) (start tested .pre .1) (gathered .gather-without .ensures) in
     takes-one _ _ _ _ (tested .before .entry-count .ensures) (inside tested) fewer (written .with-entries .ensures) (c .if2 .left)
 
 pub take-out-spec : {M : Type 1} → statement M
@@ -107,12 +113,13 @@ take-out-spec =
     sub-fewer
     add-size
     mul-size
-    slice-aggregate-gather-without
     gather-without-requires
-    array-share-prefix-room
+    slice-reshare-prefix-with-entries
     slice-aggregate-with-entries
     with-entries-requires
     same-length-2
-    returns-2
     same-length-3
+    returns-2
+    same-length-4
+    same-length-5
     returns-3)

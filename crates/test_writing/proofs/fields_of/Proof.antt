@@ -1,15 +1,17 @@
 -- `test_writing::fields_of` ends, and counts in range: each field takes a byte of the text or more. Assumes nothing.
 use Prim.Native.Nat.{_≤_, _-_}
+use mathlib.Core.Path.{_≡_}
 use lib.ListN.{length}
+use Rattle.laying.specs.Laying.{roomLength}
 use borrow.Author.Needs.{needs}
 use Rattle.test_writing.proofs.fields_of.Statement.{statement}
 use Rattle.test_writing.proofs.fields_of.Tie as tie
 
 abbrev Inv-loop : tie.InvT-loop
-Inv-loop text list₀ count₀ from₀ list count from = count ≤ from
+Inv-loop text room₀ count₀ from₀ room count from = (count ≤ from) × (length room ≡ roomLength)
 
 abbrev μ-loop : tie.MeasureT-loop
-μ-loop text list₀ count₀ from₀ list count from = length text - from
+μ-loop text room₀ count₀ from₀ room count from = length text - from
 
 no-fields-requires : tie.Need-no-fields-requires Inv-loop μ-loop
 no-fields-requires c κs = search needs
@@ -26,17 +28,20 @@ loop-holds c = search needs
 find-requires : tie.Need-find-requires Inv-loop μ-loop
 find-requires c κs = search needs
 
-sub-listed : tie.Need-sub-listed Inv-loop μ-loop
-sub-listed c = search needs
+slice-aggregate-list-field : tie.Need-slice-aggregate-list-field Inv-loop μ-loop
+slice-aggregate-list-field c = search needs
 
-part-listed-start : tie.Need-part-listed-start Inv-loop μ-loop
-part-listed-start c = search needs
+sub-list-field : tie.Need-sub-list-field Inv-loop μ-loop
+sub-list-field c = search needs
 
-part-listed-end : tie.Need-part-listed-end Inv-loop μ-loop
-part-listed-end c = search needs
+part-list-field-start : tie.Need-part-list-field-start Inv-loop μ-loop
+part-list-field-start c = search needs
 
-listed-requires : tie.Need-listed-requires Inv-loop μ-loop
-listed-requires c κs = search needs
+part-list-field-end : tie.Need-part-list-field-end Inv-loop μ-loop
+part-list-field-end c = search needs
+
+list-field-requires : tie.Need-list-field-requires Inv-loop μ-loop
+list-field-requires c κs = search needs
 
 add-count : tie.Need-add-count Inv-loop μ-loop
 add-count c = search needs
@@ -64,10 +69,11 @@ fields-of-spec =
     returns
     loop-holds
     find-requires
-    sub-listed
-    part-listed-start
-    part-listed-end
-    listed-requires
+    slice-aggregate-list-field
+    sub-list-field
+    part-list-field-start
+    part-list-field-end
+    list-field-requires
     add-count
     add-from
     loop-less

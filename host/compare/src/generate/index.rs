@@ -253,7 +253,10 @@ fn free_page(b: &mut [u8], p: usize) {
     b[4..8].copy_from_slice(&(p as u32).to_le_bytes());
 }
 
-/// An index of 11 levels: `leaves` one-entry leaves, over them levels of one-entry pages, and full pages at the top. k is at least 2.
+/// The most levels of an index.
+pub const LEVELS: usize = 15;
+
+/// An index of as many levels as may be: `leaves` one-entry leaves, over them levels of one-entry pages, and full pages at the top. k is at least 2.
 pub fn chains(r: &mut Random, k: usize, leaves: usize) -> Vec<u8> {
     let numbered = |n: u16| {
         let mut key = vec![b'S'; k];
@@ -268,8 +271,8 @@ pub fn chains(r: &mut Random, k: usize, leaves: usize) -> Vec<u8> {
         full += 1;
     }
     let mut made = vec![group(r, k, entries, Fill::Exactly(1))];
-    while made.len() < 11 {
-        let fill = if made.len() < 11 - full {
+    while made.len() < LEVELS {
+        let fill = if made.len() < LEVELS - full {
             Fill::Exactly(1)
         } else {
             Fill::Full

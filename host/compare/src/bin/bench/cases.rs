@@ -12,6 +12,9 @@ const LOOKUP: f64 = 2.0;
 const APPEND: f64 = 1.1;
 const WHOLE_INDEX: f64 = 3.0;
 const REMOVAL: f64 = 1.1;
+const LARGEST: f64 = 1.1;
+
+const AUDIT: &str = "audit";
 
 /// Runs the cases whose call has the word in it; says how many are over their limit.
 pub fn run(word: &str) -> usize {
@@ -23,6 +26,7 @@ pub fn run(word: &str) -> usize {
         appends,
         lookups,
         audits,
+        largest_audits,
         insertions,
         removals,
         matches,
@@ -34,8 +38,12 @@ pub fn run(word: &str) -> usize {
     over
 }
 
+fn is_asked(word: &str, call: &str, input: &str) -> bool {
+    format!("{call}, {input}").contains(word)
+}
+
 fn show(word: &str, mut case: Case, once: bool) -> usize {
-    if !format!("{}, {}", case.call, case.input).contains(word) {
+    if !is_asked(word, case.call, &case.input) {
         return 0;
     }
     let times = case.times(once);
@@ -317,21 +325,38 @@ fn lookups(word: &str) -> usize {
     over
 }
 
+fn audit(word: &str, index: &[u8], input: String, limit: f64) -> usize {
+    let case = Case {
+        call: AUDIT,
+        input,
+        calls: 1,
+        limit,
+        prepare: Box::new(|| ()),
+        library: Box::new(|| Index::over(index).audit().is_ok() as u64),
+        plain: Box::new(|| reference::audit(index).is_ok() as u64),
+    };
+    show(word, case, false)
+}
+
 fn audits(word: &str) -> usize {
     let mut r = Random::new(4);
     let mut over = 0;
     for (k, per_page, alike) in KEYS {
         let (index, _) = inputs::index(&mut r, k, per_page, 2047, alike);
-        let case = Case {
-            call: "audit",
-            input: named("1 MiB", k, alike),
-            calls: 1,
-            limit: WHOLE_INDEX,
-            prepare: Box::new(|| ()),
-            library: Box::new(|| Index::over(&index).audit().is_ok() as u64),
-            plain: Box::new(|| reference::audit(&index).is_ok() as u64),
-        };
-        over += show(word, case, false);
+        over += audit(word, &index, named("1 MiB", k, alike), WHOLE_INDEX);
+    }
+    over
+}
+
+/// Indexes of the largest size, which are made only if they are asked for.
+fn largest_audits(word: &str) -> usize {
+    let mut over = 0;
+    for (k, per_page, alike) in KEYS {
+        let input = named("16 MiB", k, alike);
+        if is_asked(word, AUDIT, &input) {
+            let (index, _) = inputs::index(&mut Random::new(11), k, per_page, 32767, alike);
+            over += audit(word, &index, input, LARGEST);
+        }
     }
     over
 }

@@ -42,14 +42,14 @@ fn texts(word: &str) {
     );
 }
 
-/// An insertion that splits all pages from a leaf to the root, ten levels, and makes a new root.
+/// An insertion that splits all pages from a leaf to the root, one level less than may be, and makes a new root.
 fn insertion(word: &str) {
     if !"insertion".contains(word) {
         return;
     }
     let splits_all = |seed| {
-        let (mut spine, key) = index::spine(&mut Random::new(seed), 100, 28);
-        spine.resize(spine.len() + 11 * 512, 0);
+        let (mut spine, key) = index::spine(&mut Random::new(seed), 100, 40);
+        spine.resize(spine.len() + index::LEVELS * 512, 0);
         let mut after = spine.clone();
         reference::insert(&mut after, &key, 1).ok()?;
         let size = u32::from_le_bytes(after[8..12].try_into().unwrap());
@@ -76,21 +76,21 @@ fn insertion(word: &str) {
     let pass = one_pass(&[&spine]);
     line(
         "insertion",
-        "10 levels of full pages, all split",
+        "14 levels of full pages, all split",
         spine.len(),
         times,
         pass,
     );
 }
 
-/// A removal that empties all pages from a leaf to the root, eleven levels.
+/// A removal that empties all pages from a leaf to the root, as many levels as may be.
 fn removal(word: &str) {
     if !"removal".contains(word) {
         return;
     }
     let mut r = Random::new(10);
     let one = index::entries(&mut r, 10, 1, 0);
-    let chain = index::tree(&mut r, 10, &one, Fill::Full, 11);
+    let chain = index::tree(&mut r, 10, &one, Fill::Full, index::LEVELS);
     let key = &one[0].0;
     let buffer = std::cell::RefCell::new(chain.clone());
     let mut case = Case {
@@ -110,7 +110,7 @@ fn removal(word: &str) {
     let pass = one_pass(&[&chain]);
     line(
         "removal",
-        "11 levels of one-entry pages, all emptied",
+        "15 levels of one-entry pages, all emptied",
         chain.len(),
         times,
         pass,
@@ -255,19 +255,19 @@ fn indexes() -> Vec<(String, Vec<u8>)> {
     let mut made = damaged(&sound);
     for k in [1, 10] {
         made.push((
-            format!("11 levels, every entry of a level leads to one page, k = {k}"),
+            format!("15 levels, every entry of a level leads to one page, k = {k}"),
             shared(k),
         ));
     }
     let one = index::entries(&mut r, 10, 1, 0);
     made.push((
-        "11 levels of one-entry pages".to_string(),
-        index::tree(&mut r, 10, &one, Fill::Full, 11),
+        "15 levels of one-entry pages".to_string(),
+        index::tree(&mut r, 10, &one, Fill::Full, index::LEVELS),
     ));
     for k in [2, 10] {
-        let mut bytes = index::chains(&mut r, k, 226);
+        let mut bytes = index::chains(&mut r, k, 157);
         index::raise(&mut r, &mut bytes, 1);
-        let name = format!("11 levels, full pages over one-entry pages, keys raised, k = {k}");
+        let name = format!("15 levels, full pages over one-entry pages, keys raised, k = {k}");
         made.push((name, bytes));
     }
     for k in [10, 100] {
@@ -278,8 +278,8 @@ fn indexes() -> Vec<(String, Vec<u8>)> {
         let name = format!("1 MiB, full pages over one-entry leaves, keys raised, k = {k}");
         made.push((name, bytes));
     }
-    let (spine, _) = index::spine(&mut r, 100, 31);
-    made.push(("11 levels, one path of full pages".to_string(), spine));
+    let (spine, _) = index::spine(&mut r, 100, 43);
+    made.push(("15 levels, one path of full pages".to_string(), spine));
     made.extend(free_lists(&mut r));
     made
 }
@@ -348,7 +348,7 @@ fn damaged(sound: &[u8]) -> Vec<(String, Vec<u8>)> {
     made
 }
 
-/// Eleven pages, each full of entries that lead to the next one, in a file of 1 MiB.
+/// As many pages as there may be levels, each full of entries that lead to the next one, in a file of 1 MiB.
 fn shared(k: usize) -> Vec<u8> {
     let mut b = vec![0; 1_048_576];
     b[..4].copy_from_slice(&512u32.to_le_bytes());
@@ -356,9 +356,9 @@ fn shared(k: usize) -> Vec<u8> {
     b[8..12].copy_from_slice(&1_048_576u32.to_le_bytes());
     b[12] = k as u8;
     b[14] = 1;
-    for level in 1..=11 {
+    for level in 1..=index::LEVELS {
         let page = &mut b[512 * level..512 * level + 512];
-        page[0] = (level == 1) as u8 + 2 * (level == 11) as u8;
+        page[0] = (level == 1) as u8 + 2 * (level == index::LEVELS) as u8;
         page[2] = index::capacity(k) as u8;
         page[4..12].fill(0xFF);
         for entry in page[12..].chunks_exact_mut(k + 4) {

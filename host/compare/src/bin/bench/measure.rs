@@ -45,6 +45,13 @@ pub struct Times {
 const SAMPLE_NS: f64 = 500_000.0;
 const SAMPLES: usize = 300;
 
+/// A case of long calls has fewer samples: so many nanoseconds in all, but 40 samples at least.
+const CASE_NS: f64 = 500_000_000.0;
+
+fn samples(first: f64) -> usize {
+    ((CASE_NS / first) as usize).clamp(40, SAMPLES)
+}
+
 fn sample(prepare: &mut dyn FnMut(), runs: usize, run: &mut dyn FnMut() -> u64) -> (f64, u64) {
     prepare();
     let start = now();
@@ -65,7 +72,7 @@ impl Case<'_> {
             ((SAMPLE_NS / first) as usize).max(1)
         };
         let mut best = [f64::MAX; 2];
-        for _ in 0..SAMPLES {
+        for _ in 0..samples(first) {
             let (library, a) = sample(&mut self.prepare, runs, &mut self.library);
             let (plain, b) = sample(&mut self.prepare, runs, &mut self.plain);
             assert_eq!(a, b, "{}, {}: the answers differ", self.call, self.input);
@@ -91,7 +98,7 @@ pub fn one_pass(lent: &[&[u8]]) -> f64 {
     };
     let (first, _) = sample(&mut || (), 1, &mut pass);
     let runs = ((SAMPLE_NS / first) as usize).max(1);
-    let best = (0..SAMPLES)
+    let best = (0..samples(first))
         .map(|_| sample(&mut || (), runs, &mut pass).0)
         .fold(f64::MAX, f64::min);
     best / runs as f64

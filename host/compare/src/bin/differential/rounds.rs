@@ -27,7 +27,7 @@ impl Arenas {
         Arenas {
             table: Arena::new(MOST + 4096),
             memo: Arena::new(MOST + 1),
-            index: Arena::new(1_048_576 + 4096),
+            index: Arena::new(MOST + 4096),
             key: Arena::new(512),
             text: Arena::new(64),
             list: Arena::new(14 * 256),
@@ -541,7 +541,7 @@ fn made_index(r: &mut Random, a: &mut Arenas, tally: &mut Tally) {
         _ => Fill::Exactly(r.between(1, index::capacity(k))),
     };
     let least = match r.below(4) {
-        0 => r.between(1, 12),
+        0 => r.between(1, 16),
         _ => 1,
     };
     let free = r.pick(&[0, 0, 1, 2, 5]);
@@ -577,14 +577,14 @@ fn spine(r: &mut Random, a: &mut Arenas, tally: &mut Tally) {
     let step = index::capacity(k) - 1;
     // as many leaves as make so many levels with the path full, or any
     let leaves = match r.below(4) {
-        0 => r.between(1, 12 * step),
-        _ => 1 + step * (r.pick(&[1, 2, 5, 9, 10, 11, 11, 12]) - 1),
+        0 => r.between(1, 16 * step),
+        _ => 1 + step * (r.pick(&[1, 2, 5, 9, 14, 15, 15, 16]) - 1),
     };
     let (mut bytes, key) = index::spine(r, k, leaves);
     if r.one_in(4) {
         index::raise(r, &mut bytes, 2);
     }
-    let slack = 512 * r.below(15);
+    let slack = 512 * r.below(19);
     bytes.extend(r.bytes(slack));
     let lent = a.index.lend(&bytes, r.one_in(2));
     let mut own = bytes.clone();
@@ -602,11 +602,15 @@ fn spine(r: &mut Random, a: &mut Arenas, tally: &mut Tally) {
     calls::audit(tally, &lent, &own);
 }
 
-/// An index of up to 1 MiB, or of as many pages as may be or one or two less, some of them free, and a damaged copy.
+/// An index of up to 1 MiB, or of up to 16 MiB: of as many pages as may be or one or two less, some of them free, and a damaged copy.
 fn large_index(r: &mut Random, a: &mut Arenas, tally: &mut Tally) {
     let k = r.pick(&[3, 8, 10, 46, 100, 100]);
     let per_leaf = (index::capacity(k) - 1).min(6);
-    let pages = r.pick(&[2047, 2046, 2045, 2040, 700]);
+    let pages = if r.one_in(8) {
+        r.pick(&[32767, 32766, 32765, 32760])
+    } else {
+        r.pick(&[2047, 2040, 700])
+    };
     let free = r.pick(&[0, 0, 1, 3, 40]);
     let leaves = index::leaves_for(pages - free, per_leaf);
     let style = r.pick(&[0, 4, 4, 4]);
@@ -616,7 +620,8 @@ fn large_index(r: &mut Random, a: &mut Arenas, tally: &mut Tally) {
         index::raise(r, &mut bytes, 2);
     }
     if r.one_in(2) {
-        bytes.resize(1_048_576 + r.pick(&[0, 1, 512, 2048]), 0x55);
+        let most = if pages > 2047 { MOST } else { 1_048_576 };
+        bytes.resize(most + r.pick(&[0, 1, 512, 2048]), 0x55);
     }
     crowd(r, a, tally, &bytes, &entries);
     use_index(r, a, tally, &bytes, &entries, style);
