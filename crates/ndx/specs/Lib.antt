@@ -14,3 +14,5 @@ pub mod HeaderLaws
 pub mod PageLaws
 -- Laws: what a page says in each case, and a step of lookup
 pub mod LookupLaws
+-- Laws: a found key is an equal one in a leaf, on any bytes
+pub mod FoundLaws
