@@ -695,6 +695,44 @@ class NdxIndexes(TestCase):
         self.assertEqual(index.lookup(b'CCCC'), (None, 2))
         self.refused(27, index.lookup, b'BBB')
 
+    def test_files_of_another_program(self):
+        """The lines of crates/test_ndx/stdout, another implementation's answers."""
+        files, held = ROOT / 'crates' / 'test_ndx', 0
+        for line in (files / 'stdout').read_text().splitlines():
+            name, *calls = line.split(' ')
+            content = bytearray((files / 'data' / name).read_bytes())
+            if calls[0] == 'set':
+                content[int(calls[1])] = int(calls[2])
+                calls = calls[3:]
+            index = NdxIndex(bytes(content))
+            while calls:
+                if calls[0] == 'a':
+                    self.assertEqual(self.answer(index.audit), int(calls[1]), line)
+                    calls = calls[2:]
+                else:
+                    key, *due = calls[1:5]
+                    self.assertEqual(self.looked(index, bytes.fromhex(key)), [int(n) for n in due], line)
+                    calls = calls[5:]
+                held += 1
+        self.assertEqual(held, 3 + 43 + 2 * 90)
+
+    @staticmethod
+    def answer(call, *words):
+        try:
+            call(*words)
+        except Refusal as refusal:
+            return refusal.number
+        return 0
+
+    @staticmethod
+    def looked(index, key):
+        """Answer, record and pages, 0 for what an answer does not have."""
+        try:
+            found = index.lookup(key)
+        except Refusal as refusal:
+            return [refusal.number, 0, 0]
+        return [0 if found.record is not None else 257, found.record or 0, found.pages]
+
     def test_refusals(self):
         bad = bytearray(self.index())
         bad[512 + 16 + 8] = ord('A')

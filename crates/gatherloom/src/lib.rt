@@ -332,7 +332,7 @@ pub extern "C" fn gl_table_lay_out(
 pub extern "C" fn gl_ndx_audit(index: &[u8]) -> u32
     ensures { λ r. ⌜ ndx.Audited (now (index .entry)) r ⌝ }
 {
-    ndx_audit::audit(index)
+    index_calls::audit_ndx(index)
 }
 
 // Looks a key up in an NDX index: the number of its record, and the pages visited, which are also written if the key is absent.

@@ -7,6 +7,7 @@ use remove::Removal;
 ghost use mathlib.Core.Path.{_≡_};
 ghost use Rattle.lookup.specs.Lookup.{lookupRule};
 ghost use Rattle.ndx.specs.Lookup as ndx-lookup;
+ghost use Rattle.ndx_sound.specs.Sound as ndx-sound;
 ghost use Rattle.insert.specs.Calls.{insertRule, insertionCode};
 ghost use Rattle.insert.specs.Fresh.{freshRule};
 ghost use Rattle.remove.specs.Calls.{removeRule};
@@ -58,6 +59,13 @@ pub fn index_lookup(index: &[u8], key: &[u8], number: &mut u32, pages: &mut u32)
         ⌝ }
 {
     tell(lookup::lookup(index, key), number, pages)
+}
+
+// Audits an NDX index.
+pub fn audit_ndx(index: &[u8]) -> u32
+    ensures { λ r. ⌜ ndx-sound.Audited (now (index .entry)) r ⌝ }
+{
+    ndx_audit::audit(index)
 }
 
 // Looks a key up in an NDX index, with the same values.

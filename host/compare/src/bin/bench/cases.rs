@@ -452,12 +452,15 @@ fn matches(word: &str) -> usize {
 
 /// NDX indexes by their size, key length and keys per page: small ones, the largest, and one of 15 levels.
 fn ndx_indexes(r: &mut Random) -> Vec<(String, Vec<u8>, Vec<Entry>)> {
-    let sizes = [("3 pages", 2), ("40 pages", 39), ("16 MiB", 32_767)];
     let mut made = Vec::new();
-    for (size, pages) in sizes {
+    for pages in [1, 40, 32_767] {
         for k in [4, 10, 100] {
             let (index, entries) = inputs::ndx(r, k, pages);
-            made.push((named(size, k, 0), index, entries));
+            let size = match index.len() / 512 {
+                n @ ..=100 => format!("{n} pages"),
+                _ => "16 MiB".to_string(),
+            };
+            made.push((named(&size, k, 0), index, entries));
         }
     }
     let (index, entries) = inputs::deepest_ndx(r);

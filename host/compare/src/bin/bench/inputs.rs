@@ -88,7 +88,7 @@ pub fn index(
 /// An NDX index of about so many full pages besides the header, its keys random and without control bytes. A full page of n keys stands over n + 1 others.
 pub fn ndx(r: &mut Random, k: usize, pages: usize) -> (Vec<u8>, Vec<Entry>) {
     let form = Form::full(k);
-    let leaves = (pages * form.most).div_ceil(form.most + 1).min(pages - 1);
+    let leaves = (pages * form.most).div_ceil(form.most + 1);
     filled(r, form, leaves * form.most * 127 / 128)
 }
 
