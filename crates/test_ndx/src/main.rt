@@ -35,14 +35,23 @@ fn audit(index: &[u8]) {
     print_part(ndx_audit::audit(index));
 }
 
+// Sets a byte, if the file has so many.
+fn set_byte(index: &mut [u8], at: usize, value: u8) {
+    if index.len() <= at {
+        return;
+    }
+    index[at] = value;
+}
+
 // `set AT BYTE l KEY`: an audit and a lookup after one byte was set.
-fn set_byte(index: &mut [u8], call: &[u8]) {
+fn run_damaged(index: &mut [u8], call: &[u8]) {
     let place = after_word(call);
     let value = after_word(place);
-    let at = test_lines::first_number(place) as usize;
-    if at < index.len() {
-        index[at] = (test_lines::first_number(value) % 256) as u8;
-    }
+    set_byte(
+        index,
+        test_lines::first_number(place) as usize,
+        (test_lines::first_number(value) % 256) as u8,
+    );
     lines::print(b" set ");
     lines::print(word(place));
     lines::print(b" ");
@@ -63,7 +72,7 @@ fn run_line(line: &[u8]) {
     match call[0] {
         b'a' => audit(&index[..n]),
         b'l' => look_up(&index[..n], word(after_word(call))),
-        _ => set_byte(&mut index[..n], call),
+        _ => run_damaged(&mut index[..n], call),
     }
     lines::print(b"\n");
 }
