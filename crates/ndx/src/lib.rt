@@ -6,9 +6,9 @@ use page::Page;
 use page::RecordNumber;
 ghost use mathlib.Core.Path.{_≡_};
 ghost use mathlib.Core.Bool.{Bool, true};
-ghost use Prim.Native.Nat.{ℕ, _+_, _*_, _≤_};
+ghost use Prim.Native.Nat.{ℕ, _+_, _*_, _≤_, _<_};
 ghost use lib.ListN.{length};
-ghost use Rattle.octets.specs.Order.{ordering};
+ghost use Rattle.octets.specs.Order.{ordering, isEqual};
 ghost use Rattle.page.specs.Page.{firstAtOrAbove};
 ghost use Rattle.ndx.specs.Header.{pageSize, maxKey, maxLevels, entryArea};
 ghost use Rattle.ndx.specs.Header.{rootPage, pageCount, keyLength, keysPerPage, keyType, entrySize};
@@ -239,19 +239,36 @@ fn compare_entry(index: &[u8], page: PageNumber, i: usize, key: &[u8]) -> Orderi
     octets::compare(&index[start..end], key)
 }
 
-// The first of `count` entries whose key is at or above a key, or `count` if there is none.
-fn first_at_or_above(index: &[u8], page: PageNumber, count: usize, key: &[u8]) -> usize
+// Where a search in a page ends: at an entry, and whether its key is the one that is looked for.
+struct Reach {
+    entry: usize,
+    equal: bool,
+}
+
+// The first of `count` entries whose key is at or above a key, or `count` if there is none. A long key is compared once: the answer says whether it is equal.
+fn first_at_or_above(index: &[u8], page: PageNumber, count: usize, key: &[u8]) -> Reach
     requires { ⌜ Within (now index) (page .0) count × (length (now key) ≡ keyLength (now index)) ⌝ }
-    ensures { λ r. ⌜ (r ≡ firstAtOrAbove (keyAt (now (index .entry)) (page .0)) (now (key .entry)) count 0) × (r ≤ count) ⌝ }
+    ensures { λ r. ⌜
+        (r .entry ≡ firstAtOrAbove (keyAt (now (index .entry)) (page .0)) (now (key .entry)) count 0)
+        × (r .entry ≤ count)
+        × (r .entry < count → r .equal ≡ isEqual (ordering (keyAt (now (index .entry)) (page .0) (r .entry)) (now (key .entry))))
+        ⌝ }
 {
     let mut i = 0;
     while i < count {
-        if !octets::is_below(compare_entry(index, page, i, key)) {
-            return i;
+        let order = compare_entry(index, page, i, key);
+        if !octets::is_below(order) {
+            return Reach {
+                entry: i,
+                equal: octets::is_equal(order),
+            };
         }
         i += 1;
     }
-    i
+    Reach {
+        entry: i,
+        equal: false,
+    }
 }
 
 // What the entries of a page say of a key.
@@ -260,15 +277,15 @@ fn search_page(index: &[u8], key: &[u8], page: PageNumber) -> Visit
     ensures { λ r. ⌜ r ≡ pageSays (now (index .entry)) (now (key .entry)) (page .0) ⌝ }
 {
     let count = key_count(index, page);
-    let i = first_at_or_above(index, page, count, key);
+    let reach = first_at_or_above(index, page, count, key);
     if !is_leaf(index, page) {
-        return Visit::Child(lower(index, page, i));
+        return Visit::Child(lower(index, page, reach.entry));
     }
-    if i == count {
+    if reach.entry == count {
         return Visit::Absent;
     }
-    if octets::is_equal(compare_entry(index, page, i, key)) {
-        return Visit::Found(record_number(index, page, i));
+    if reach.equal {
+        return Visit::Found(record_number(index, page, reach.entry));
     }
     Visit::Absent
 }

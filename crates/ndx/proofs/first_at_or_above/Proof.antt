@@ -3,7 +3,7 @@
 use Prim.Native.Nat.{ℕ, _≤_, _-_}
 use mathlib.Core.Path.{_≡_, sym, _∙_}
 use mathlib.Core.List.{List}
-use native.Mathlib.Nat.{sub-zero}
+use native.Mathlib.Nat.{lt-irrefl, sub-zero}
 use native.Mathlib.Omega.{arith}
 use Rattle.basis.specs.Tests.{passed, failed}
 use Rattle.page.specs.KeyOrderLaws.{below, at-or-above}
@@ -42,12 +42,16 @@ compare-entry-requires c κs = (within-fewer _ (start (c .before) .pre .0) (omeg
 is-below-requires : tie.Need-is-below-requires Inv-loop μ-loop
 is-below-requires c κs = search needs
 
+is-equal-requires : tie.Need-is-equal-requires Inv-loop μ-loop
+is-equal-requires c κs = search needs
+
 returns : tie.Need-returns Inv-loop μ-loop
 returns c =
-    let compared = c .before in
+    let compared = c .before .before in
     let loop = at-loop compared .loop in
-    let found = at-or-above _ _ (compared .before .compare-entry .ensures) (failed (compared .is-below .ensures) (c .if1 .taken)) in
-    (sym (loop .inv .1 ∙ loop-here (keys (at-loop compared)) _ _ (loop .i) (search needs) found), search needs)
+    let order = compared .before .compare-entry .ensures in
+    let found = at-or-above _ _ order (failed (compared .is-below .ensures) (c .before .if1 .taken)) in
+    (sym (loop .inv .1 ∙ loop-here (keys (at-loop compared)) _ _ (loop .i) (search needs) found), search needs, λ _. rw order at (c .is-equal .ensures))
 
 add-i : tie.Need-add-i Inv-loop μ-loop
 add-i c = search needs
@@ -65,7 +69,7 @@ loop-again c =
 returns-2 : tie.Need-returns-2 Inv-loop μ-loop
 returns-2 c =
     let loop = c .before .loop in
-    (sym (loop .inv .1 ∙ loop-end (keys (c .before)) _ _ (loop .i) (search needs)), search needs)
+    (sym (loop .inv .1 ∙ loop-end (keys (c .before)) _ _ (loop .i) (search needs)), search needs, λ more. absurd (lt-irrefl (loop .i) (omega (arith, more))))
 
 pub first-at-or-above-spec : {M : Type 1} → statement M
 first-at-or-above-spec =
@@ -76,6 +80,7 @@ first-at-or-above-spec =
     loop-holds
     compare-entry-requires
     is-below-requires
+    is-equal-requires
     returns
     add-i
     loop-less

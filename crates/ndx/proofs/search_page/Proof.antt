@@ -1,10 +1,11 @@
 -- `ndx::search_page` meets its contract: each answer is the rule's by the tests that lead to it. Assumes nothing.
 use Prim.Native.Nat.{ℕ, _≤_, _<_}
-use mathlib.Core.Path.{_≡_, sym, _∙_}
+use mathlib.Core.Path.{_≡_, refl, sym, _∙_}
 use mathlib.Core.Bool.{true}
 use native.Mathlib.Omega.{arith}
 use Rattle.basis.specs.Tests.{passed, failed}
-use Rattle.ndx.specs.Page.{isLeaf}
+use Rattle.octets.specs.Order.{ordering, isEqual}
+use Rattle.ndx.specs.Page.{keyAt, isLeaf}
 use Rattle.ndx.specs.LookupLaws.{Searched, says-none, says-child, says-found, says-other}
 use Rattle.ndx.specs.PageLaws.{within-fewer}
 use Rattle.ndx.specs.Within.{Within}
@@ -18,16 +19,20 @@ start c = c .before .before .before .before
 
 -- what is known once the page is searched
 searched : (c : tie.After-first-at-or-above) → let args = start c .args in
-    Searched (args .index .now) (args .key .now) (args .page .0) (c .before .key-count .result) (c .first-at-or-above .result)
+    Searched (args .index .now) (args .key .now) (args .page .0) (c .before .key-count .result) (c .first-at-or-above .result .entry)
 searched c = record { count = c .before .key-count .ensures; first = c .first-at-or-above .ensures .0 }
 
 -- entries up to the page's count lie within it
 inside : (c : tie.After-first-at-or-above) (i : ℕ) → i ≤ c .before .key-count .result → Within (start c .args .index .now) (start c .args .page .0) i
 inside c i l = within-fewer i (start c .pre .0) (omega (arith, l, c .before .key-count .ensures))
 
+-- the search, from past the test that an entry was found
+abbrev found : tie.Else2 → tie.After-first-at-or-above
+found c = c .before .before .before .before
+
 -- an entry was found
-room : (c : tie.Else2) → let searched = c .before .before .before in searched .first-at-or-above .result < searched .before .key-count .result
-room c = let bound = c .before .before .before .first-at-or-above .ensures .1 in omega (arith, bound, c .if2 .left)
+room : (c : tie.Else2) → found c .first-at-or-above .result .entry < found c .before .key-count .result
+room c = let bound = found c .first-at-or-above .ensures .1 in omega (arith, bound, c .if2 .left)
 
 leaf : (c : tie.Else1) → let args = start (c .before .before) .args in isLeaf (args .index .now) (args .page .0) ≡ true
 leaf c = passed (c .before .is-leaf .ensures) (c .if1 .left)
@@ -50,32 +55,26 @@ returns c =
     says-child (searched (at-leaf .before)) (c .lower .result .0) (failed (at-leaf .is-leaf .ensures) (c .before .if1 .taken)) (c .lower .ensures)
 
 returns-2 : tie.Need-returns-2
-returns-2 c = says-none (searched (c .before .before .before)) (leaf (c .before)) (c .if2 .taken)
+returns-2 c = says-none (searched (c .before .before .before .before)) (leaf (c .before .before)) (c .if2 .taken)
 
-compare-entry-requires : tie.Need-compare-entry-requires
-compare-entry-requires c κs = (inside (c .before .before .before) _ (omega (arith, room c)), start (c .before .before .before) .pre .1)
-
-is-equal-requires : tie.Need-is-equal-requires
-is-equal-requires c κs = search needs
+-- whether the entry's key is equal
+equal : (c : tie.Else2) → let args = start (found c) .args in let reach = found c .first-at-or-above .result in
+    reach .equal ≡ isEqual (ordering (keyAt (args .index .now) (args .page .0) (reach .entry)) (args .key .now))
+equal c = found c .first-at-or-above .ensures .2 (room c)
 
 record-number-requires : tie.Need-record-number-requires
-record-number-requires c κs = let at-if2 = c .before .before .before in inside (at-if2 .before .before .before) _ (omega (arith, room at-if2))
+record-number-requires c κs = inside (found (c .before)) _ (omega (arith, room (c .before)))
 
 returns-3 : tie.Need-returns-3
 returns-3 c =
-    let at-equal = c .before .before in
-    let at-if2 = at-equal .before .before in
-    let at-if1 = at-if2 .before in
-    says-found (searched (at-if1 .before .before)) (leaf at-if1) (at-if2 .if2 .left) (at-equal .before .compare-entry .ensures)
-    (c .record-number .result .0) (sym (at-equal .is-equal .ensures) ∙ c .before .if3 .taken) (c .record-number .ensures)
+    let at-if2 = c .before .before in
+    says-found (searched (found at-if2)) (leaf (at-if2 .before .before)) (at-if2 .if2 .left) refl
+    (c .record-number .result .0) (sym (equal at-if2) ∙ c .before .if3 .taken) (c .record-number .ensures)
 
 returns-4 : tie.Need-returns-4
 returns-4 c =
-    let at-equal = c .before in
-    let at-if2 = at-equal .before .before in
-    let at-if1 = at-if2 .before in
-    says-other (searched (at-if1 .before .before)) (leaf at-if1) (at-if2 .if2 .left) (at-equal .before .compare-entry .ensures)
-    (sym (at-equal .is-equal .ensures) ∙ c .if3 .left)
+    let at-if2 = c .before in
+    says-other (searched (found at-if2)) (leaf (at-if2 .before .before)) (at-if2 .if2 .left) refl (sym (equal at-if2) ∙ c .if3 .left)
 
 pub search-page-spec : {M : Type 1} → statement M
 search-page-spec =
@@ -87,8 +86,6 @@ search-page-spec =
     lower-requires
     returns
     returns-2
-    compare-entry-requires
-    is-equal-requires
     record-number-requires
     returns-3
     returns-4)
