@@ -1,4 +1,4 @@
-/* Gatherloom: dBASE/FoxPro tables, memo files and IDX indexes. Link with the archive that `rt staticlib gatherloom` builds.
+/* Gatherloom: dBASE/FoxPro tables, memo files, IDX and NDX indexes. Link with the archive that `rt staticlib gatherloom` builds.
 
    Whatever bytes, numbers and lengths come in, a call ends, touches nothing outside what it was lent, and checks for itself. The caller sees to it that no
    pointer is NULL, not even with a length of 0, that as much stands behind each as is lent, and that what a call may write overlaps nothing else that the same
@@ -10,7 +10,8 @@
    Stack: how many bytes a call takes at most, beside those of memcpy and memset, rounded up. tests/c/stack reads them from the archive and compares.
        gl_interface 16, gl_index_fresh 64, gl_number_write 96, gl_number_read 128, gl_table_check 256, gl_table_shape 256, gl_fields 256, gl_walk 256,
        gl_table_set_date 256, gl_table_extent 256, gl_table_append 320, gl_read_logical 384, gl_text_part 384, gl_read_number 416, gl_read_date 416,
-       gl_index_lookup 2304, gl_index_audit 3072, gl_match 3456, gl_dilute 3456, gl_index_remove 4096, gl_table_lay_out 4608, gl_index_insert 5120
+       gl_index_lookup 2304, gl_ndx_lookup 2560, gl_index_audit 3072, gl_ndx_audit 3072, gl_match 3456, gl_dilute 3456, gl_index_remove 4096,
+       gl_table_lay_out 4608, gl_index_insert 5120
 
    The archive is for x86-64 Linux and the System V calling convention. It needs memcpy and memset alone, allocates no memory, has no writable data and is
    position independent. It uses SSE registers and the red zone below the stack pointer, which Linux keeps for user programs: kernel code can't call it. */
@@ -26,7 +27,7 @@ extern "C" {
 
 /* ---- Versions. */
 
-#define GL_VERSION "0.10.0" /* raised with every change, see docs/CHANGES.md */
+#define GL_VERSION "0.11.0" /* raised with every change, see docs/CHANGES.md */
 #define GL_INTERFACE 1      /* raised with every change of the form of a call or a struct */
 
 /* The GL_INTERFACE of the archive. A host compares it with its own before the first call: if they differ, a call may write past what it is lent. */
@@ -101,7 +102,7 @@ enum gl_refusal {
 #define GL_NUMBER_DECIMALS_MAX 15 /* and at most the width less 2 */
 #define GL_NUMBER_DIGITS_MAX 18   /* digits of a number, those behind the point among them */
 #define GL_INDEX_MIN 1024         /* bytes of an index; its buffer may be longer; a release before 0.10.0 refuses one above 1,048,576 by 24 */
-#define GL_INDEX_MAX 16777216
+#define GL_INDEX_MAX 16777216     /* of an NDX index too, and its levels */
 #define GL_INDEX_LEVELS_MAX 15
 #define GL_KEY_MAX 100            /* bytes of a key, at least 1 */
 #define GL_EXPRESSION_MAX 220     /* bytes of a key expression, at least 1, each 0x20 to 0x7E */
@@ -212,6 +213,14 @@ uint32_t gl_index_remove(uint8_t *index, size_t index_len, const uint8_t *key, s
 /* Matches an index against a field of a table: 0 if each record, deleted or not, has exactly one entry, its key that record's field, and there are
    no other entries. 1 to 10, 24, 12, 13, 27, 25, 31. */
 uint32_t gl_match(const uint8_t *table, size_t table_len, const uint8_t *index, size_t index_len, uint32_t field);
+
+/* ---- NDX indexes of dBASE III, read only: character keys, each with one record. */
+
+/* 0 exactly if the index is sound, 24 if its header is bad, else 25. */
+uint32_t gl_ndx_audit(const uint8_t *index, size_t index_len);
+
+/* The record of a key, and how many pages were visited. 24, 27, 25. 0 sets both; 257 sets pages alone. */
+uint32_t gl_ndx_lookup(const uint8_t *index, size_t index_len, const uint8_t *key, size_t key_len, uint32_t *record, uint32_t *pages);
 
 /* ---- The dilution of a sample. */
 

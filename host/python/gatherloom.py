@@ -1,4 +1,4 @@
-"""dBASE/FoxPro tables, FPT memo files and IDX indexes, read and written by the proved library Gatherloom.
+"""dBASE/FoxPro tables, FPT memo files and IDX indexes, read and written by the proved library Gatherloom, and NDX indexes, read alone.
 
     import gatherloom
 
@@ -40,8 +40,8 @@ from decimal import Context, Decimal, Inexact, InvalidOperation
 from pathlib import Path
 from typing import NamedTuple, Optional
 
-__all__ = ['Field', 'Index', 'Lookup', 'MemoMissing', 'Record', 'Refusal', 'Store', 'Stores', 'Table', 'Volumes', 'Walk', 'append', 'extent', 'lay_out', 'read_number',
-           'set_date', 'write_number']
+__all__ = ['Field', 'Index', 'Lookup', 'MemoMissing', 'NdxIndex', 'Record', 'Refusal', 'Store', 'Stores', 'Table', 'Volumes', 'Walk', 'append', 'extent',
+           'lay_out', 'read_number', 'set_date', 'write_number']
 
 # ---- Refusals.
 
@@ -165,6 +165,8 @@ _CALLS = {
     'gl_index_insert': 2 * _BYTES + [_NUMBER],
     'gl_index_remove': 2 * _BYTES,
     'gl_match': 2 * _BYTES + [_NUMBER],
+    'gl_ndx_audit': _BYTES,
+    'gl_ndx_lookup': 2 * _BYTES + 2 * [_out(_NUMBER)],
     'gl_dilute': 2 * _BYTES + 2 * [_NUMBER] + _BYTES + 2 * [ctypes.c_uint64] + 2 * [_out(_NUMBER)],
 }
 
@@ -665,3 +667,21 @@ class Index:
         with self._lock:
             _accepted(_library.gl_index_audit(*_lent(self.buffer)))
             return bytes(self.buffer[: int.from_bytes(self.buffer[8:12], 'little')])
+
+
+class NdxIndex:
+    """An index of dBASE III, of a path or of bytes, read only. The index itself is not checked here; `audit` does that."""
+
+    def __init__(self, source):
+        self._bytes = _content(source, MAX_INDEX)
+
+    def audit(self):
+        """Returns if the index is sound. Refusal 24 for its header, else 25."""
+        _accepted(_library.gl_ndx_audit(*_lent(self._bytes)))
+
+    def lookup(self, key):
+        """The Lookup of a key. Refusals 24, 27, 25."""
+        key = _bytes(key, 'a key')
+        record, pages = _NUMBER(), _NUMBER()
+        answer = _library.gl_ndx_lookup(*_lent(self._bytes), *_lent(key), ctypes.byref(record), ctypes.byref(pages))
+        return Lookup(None if _accepted(answer) == ABSENT else record.value, pages.value)

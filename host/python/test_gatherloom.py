@@ -19,7 +19,7 @@ from pathlib import Path
 
 sys.path.insert(0, str(Path(__file__).resolve().parent))
 import gatherloom
-from gatherloom import Field, Index, Lookup, MemoMissing, Refusal, Store, Stores, Table, append, extent, lay_out, read_number, set_date, write_number
+from gatherloom import Field, Index, Lookup, MemoMissing, NdxIndex, Refusal, Store, Stores, Table, append, extent, lay_out, read_number, set_date, write_number
 
 ROOT = Path(__file__).resolve().parents[2]
 SAMPLES = ROOT / 'crates' / 'test_samples' / 'data'
@@ -669,6 +669,77 @@ class Indexes(TestCase):
         self.assertRaises(OverflowError, table.match, index, -1)
         self.assertRaises(OverflowError, table.match, index, 2**32 + 1)
         self.assertRaises(TypeError, table.match, index.buffer, 1)
+
+
+class NdxIndexes(TestCase):
+    def index(self):
+        """Keys of 4 bytes, 2 per page: a branch with one key over two leaves."""
+
+        def page(*entries, extra=0):
+            entries = b''.join(lower.to_bytes(4, 'little') + record.to_bytes(4, 'little') + key for lower, record, key in entries), len(entries)
+            return (entries[1].to_bytes(4, 'little') + entries[0] + extra.to_bytes(4, 'little')).ljust(512, b'\0')
+
+        head = bytes([3, 0, 0, 0, 4]).ljust(12, b'\0') + bytes([4, 0, 2, 0, 0, 0, 12])
+        return (
+            head.ljust(512, b'\0')
+            + page((0, 1, b'AAAA'), (0, 2, b'BBBB'))
+            + page((0, 3, b'DDDD'))
+            + page((1, 0, b'CCCC'), extra=2)
+        )
+
+    def test_lookups(self):
+        index = NdxIndex(self.index())
+        index.audit()
+        self.assertEqual(index.lookup(b'BBBB'), (2, 2))
+        self.assertEqual(index.lookup(b'DDDD'), (3, 2))
+        self.assertEqual(index.lookup(b'CCCC'), (None, 2))
+        self.refused(27, index.lookup, b'BBB')
+
+    def test_files_of_another_program(self):
+        """The lines of crates/test_ndx/stdout, another implementation's answers."""
+        files, held = ROOT / 'crates' / 'test_ndx', 0
+        for line in (files / 'stdout').read_text().splitlines():
+            name, *calls = line.split(' ')
+            content = bytearray((files / 'data' / name).read_bytes())
+            if calls[0] == 'set':
+                content[int(calls[1])] = int(calls[2])
+                calls = calls[3:]
+            index = NdxIndex(bytes(content))
+            while calls:
+                if calls[0] == 'a':
+                    self.assertEqual(self.answer(index.audit), int(calls[1]), line)
+                    calls = calls[2:]
+                else:
+                    key, *due = calls[1:5]
+                    self.assertEqual(self.looked(index, bytes.fromhex(key)), [int(n) for n in due], line)
+                    calls = calls[5:]
+                held += 1
+        self.assertEqual(held, 3 + 43 + 2 * 90)
+
+    @staticmethod
+    def answer(call, *words):
+        try:
+            call(*words)
+        except Refusal as refusal:
+            return refusal.number
+        return 0
+
+    @staticmethod
+    def looked(index, key):
+        """Answer, record and pages, 0 for what an answer does not have."""
+        try:
+            found = index.lookup(key)
+        except Refusal as refusal:
+            return [refusal.number, 0, 0]
+        return [0 if found.record is not None else 257, found.record or 0, found.pages]
+
+    def test_refusals(self):
+        bad = bytearray(self.index())
+        bad[512 + 16 + 8] = ord('A')
+        bad[512 + 16 + 9 : 512 + 16 + 12] = b'AAA'
+        self.refused(25, NdxIndex(bytes(bad)).audit)
+        self.refused(24, NdxIndex(self.index()[:-1]).audit)
+        self.refused(24, NdxIndex(self.index()[:-1]).lookup, b'BBBB')
 
 
 class Dilution(TestCase):

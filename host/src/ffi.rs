@@ -144,6 +144,15 @@ extern "C" {
         index_len: usize,
         field: u32,
     ) -> u32;
+    pub fn gl_ndx_audit(index: *const u8, index_len: usize) -> u32;
+    pub fn gl_ndx_lookup(
+        index: *const u8,
+        index_len: usize,
+        key: *const u8,
+        key_len: usize,
+        record: *mut u32,
+        pages: *mut u32,
+    ) -> u32;
     pub fn gl_dilute(
         table: *const u8,
         table_len: usize,

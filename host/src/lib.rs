@@ -1,5 +1,5 @@
-//! dBASE/FoxPro tables, their FPT memo files and IDX indexes, read and written by a proved library: a call answers exactly what the rules say, or refuses by
-//! number and changes nothing.
+//! dBASE/FoxPro tables, their FPT memo files and IDX indexes, read and written by a proved library, and NDX indexes, read alone: a call answers exactly what
+//! the rules say, or refuses by number and changes nothing.
 //!
 //! ```
 //! use gatherloom::{read_number, Refusal};
@@ -12,10 +12,12 @@
 //! ```
 //!
 //! [`Table`] reads a table and its memo file, and lays out and extends a table; [`Index`] makes, audits, searches and extends an index, and gives the
-//! [`Volumes`] of a [`Dilution`]. Both lie over bytes that the caller holds. [`ffi`] has the C interface itself.
+//! [`Volumes`] of a [`Dilution`]; [`NdxIndex`] audits and searches an index of dBASE III. All lie over bytes that the caller holds. [`ffi`] has the C interface
+//! itself.
 mod dilution;
 pub mod ffi;
 mod index;
+mod ndx;
 mod number;
 mod refusal;
 mod table;
@@ -23,6 +25,7 @@ mod writing;
 
 pub use dilution::{Dilution, Volumes};
 pub use index::{Index, Lookup};
+pub use ndx::NdxIndex;
 pub use number::{read_number, write_number, Decimal};
 pub use refusal::{Answer, Refusal};
 pub use table::{Date, Field, Record, Records, Shape, Table, Value};

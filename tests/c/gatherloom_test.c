@@ -1560,6 +1560,117 @@ static void test_damaged_index(const char *name, const char *key)
     give_back(&index);
 }
 
+/* ---- NDX indexes. */
+
+static void ndx_looks_up(int line, const lent *index, const void *key, size_t n, uint32_t answer, uint32_t number, uint32_t visited)
+{
+    OUT(uint32_t, record);
+    OUT(uint32_t, pages);
+    same(line, "NDX lookup", gl_ndx_lookup(index->bytes, index->len, key, n, &record[1], &pages[1]), answer);
+    HELD(record, answer == 0 ? number : OLD);
+    HELD(pages, answer == 0 || answer == GL_ABSENT ? visited : OLD);
+}
+
+#define NDX_LOOKS_UP(index, key, n, answer, number, visited) ndx_looks_up(__LINE__, index, key, n, answer, number, visited)
+
+/* A header for keys of k bytes, and an entry of a page with such keys. */
+static void put_ndx_header(uint8_t *b, uint32_t root, uint32_t pages, uint8_t k, uint8_t keys_per_page)
+{
+    put32(b, root), put32(b + 4, pages);
+    b[12] = k, b[14] = keys_per_page, b[18] = (uint8_t)((k + 8 + 3) / 4 * 4);
+}
+
+static void put_ndx_entry(uint8_t *b, uint32_t page, uint32_t i, uint32_t lower, uint32_t record, const void *key, uint8_t k)
+{
+    uint8_t *entry = b + 512 * page + 4 + (k + 8u + 3) / 4 * 4 * i;
+    put32(entry, lower);
+    if (key != NULL) {
+        put32(entry + 4, record);
+        memcpy(entry + 8, key, k);
+        put32(b + 512 * page, i + 1);
+    }
+}
+
+/* Three levels, two keys of one byte per page: root 1 (D), 2 (B), 3 (F), leaves 4 (A B), 5 (C), 6 (E F), 7 (G H), records 1 to 8 without D's. Bytes of it are
+   then changed, one at a time: ceilings, lower pages, counts, records, keys, the header. */
+static void test_ndx(void)
+{
+    static const struct { uint32_t at; uint8_t byte; uint32_t answer; } changed[] = {
+        {524, 'C', 0}, {524, 'E', 25}, {524, 'B', 25}, {528, 1, 25}, {528, 0, 25}, {528, 8, 25}, {528, 2, 25}, {2064, 1, 25}, {2056, 0, 25}, {512, 3, 25},
+        {512, 0, 25}, {2560, 0, 25}, {2060, 'B', 25}, {0, 0, 24}, {0, 8, 24}, {4, 9, 24}, {4, 7, 25}, {12, 0, 24}, {12, 5, 24}, {14, 0, 24}, {14, 43, 24},
+        {14, 42, 0}, {16, 1, 24}, {17, 1, 24}, {18, 16, 24}, {8, 77, 0}, {520, 99, 0},
+    };
+    lent index = lend(NULL, 4096 + 100);
+    uint8_t *b = index.bytes;
+    put_ndx_header(b, 1, 8, 1, 2);
+    put_ndx_entry(b, 1, 0, 2, 0, "D", 1), put_ndx_entry(b, 1, 1, 3, 0, NULL, 1);
+    put_ndx_entry(b, 2, 0, 4, 0, "B", 1), put_ndx_entry(b, 2, 1, 5, 0, NULL, 1);
+    put_ndx_entry(b, 3, 0, 6, 0, "F", 1), put_ndx_entry(b, 3, 1, 7, 0, NULL, 1);
+    put_ndx_entry(b, 4, 0, 0, 1, "A", 1), put_ndx_entry(b, 4, 1, 0, 2, "B", 1);
+    put_ndx_entry(b, 5, 0, 0, 3, "C", 1);
+    put_ndx_entry(b, 6, 0, 0, 5, "E", 1), put_ndx_entry(b, 6, 1, 0, 6, "F", 1);
+    put_ndx_entry(b, 7, 0, 0, 7, "G", 1), put_ndx_entry(b, 7, 1, 0, 8, "H", 1);
+    keep(&index);
+    SAME(gl_ndx_audit(index.bytes, index.len), 0);
+    SAME(gl_ndx_audit(index.bytes, 4096), 0);
+    SAME(gl_ndx_audit(index.bytes, 4095), 24);
+    SAME(gl_ndx_audit(index.bytes, 511), 24);
+    SAME(gl_ndx_audit(index.bytes, 0), 24);
+    for (char c = 'A'; c <= 'I'; c++)
+        NDX_LOOKS_UP(&index, &c, 1, c == 'D' || c == 'I' ? GL_ABSENT : 0, (uint32_t)(c - 'A' + 1), 3);
+    NDX_LOOKS_UP(&index, "FF", 2, 27, 0, 0);
+    NDX_LOOKS_UP(&index, "", 0, 27, 0, 0);
+    for (size_t i = 0; i < sizeof changed / sizeof *changed; i++) {
+        b[changed[i].at] = changed[i].byte;
+        same(__LINE__ * 1000 + (int)i, "NDX audit", gl_ndx_audit(index.bytes, index.len), changed[i].answer);
+        if (changed[i].answer == 24)
+            NDX_LOOKS_UP(&index, "FF", 2, 24, 0, 0);
+        memcpy(b, index.copy, index.len);
+    }
+    b[528] = 1;
+    NDX_LOOKS_UP(&index, "I", 1, 25, 0, 0);
+    NDX_LOOKS_UP(&index, "A", 1, 0, 1, 3);
+    b[528] = 3;
+    UNCHANGED(index);
+    MARGINS(index);
+    give_back(&index);
+}
+
+/* The largest index: 15 levels of one key per page, each branch with two children, in 16,777,216 bytes; page p has the children 2p and 2p + 1. */
+static void test_largest_ndx(void)
+{
+    lent index = lend(NULL, GL_INDEX_MAX + 512);
+    uint8_t *b = index.bytes, key[4];
+    put_ndx_header(b, 1, GL_INDEX_MAX / 512, 4, 1);
+    for (uint32_t level = 0; level < GL_INDEX_LEVELS_MAX; level++)
+        for (uint32_t i = 0; i < 1u << level; i++) {
+            uint32_t page = (1u << level) + i, under = 1u << (GL_INDEX_LEVELS_MAX - 1 - level);
+            uint32_t number = level == GL_INDEX_LEVELS_MAX - 1 ? i + 1 : i * under + under / 2;
+            key[0] = number >> 24, key[1] = number >> 16 & 255, key[2] = number >> 8 & 255, key[3] = number & 255;
+            put_ndx_entry(b, page, 0, level == GL_INDEX_LEVELS_MAX - 1 ? 0 : 2 * page, number, key, 4);
+            if (level < GL_INDEX_LEVELS_MAX - 1)
+                put_ndx_entry(b, page, 1, 2 * page + 1, 0, NULL, 4);
+        }
+    keep(&index);
+    SAME(gl_ndx_audit(index.bytes, index.len), 0);
+    NDX_LOOKS_UP(&index, "\0\0\0\1", 4, 0, 1, 15);
+    NDX_LOOKS_UP(&index, "\0\0\x40\0", 4, 0, 16384, 15);
+    NDX_LOOKS_UP(&index, "\0\0\x40\1", 4, GL_ABSENT, 0, 15);
+    /* a leaf that names a page is the 15th page visited, and no leaf */
+    put32(b + 512 * 16384 + 4, 1);
+    SAME(gl_ndx_audit(index.bytes, index.len), 25);
+    NDX_LOOKS_UP(&index, "\0\0\0\1", 4, 25, 0, 0);
+    NDX_LOOKS_UP(&index, "\0\0\0\3", 4, 0, 3, 15);
+    put32(b + 512 * 16384 + 4, 0);
+    /* one page more passes the limit */
+    put32(b + 4, GL_INDEX_MAX / 512 + 1);
+    SAME(gl_ndx_audit(index.bytes, index.len), 24);
+    put32(b + 4, GL_INDEX_MAX / 512);
+    UNCHANGED(index);
+    MARGINS(index);
+    give_back(&index);
+}
+
 int main(int argc, char **argv)
 {
     if (argc > 1)
@@ -1578,6 +1689,8 @@ int main(int argc, char **argv)
     test_samples();
     test_tree_000();
     test_largest_index();
+    test_ndx();
+    test_largest_ndx();
     test_fresh();
     test_five_keys(2048, 0);
     test_five_keys(1024, 30);

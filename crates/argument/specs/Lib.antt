@@ -1,6 +1,6 @@
--- What `inspect` makes of its argument FIELD.
+-- What `inspect` makes of its arguments FIELD and INDEX.
 
--- Rules: what FIELD says, a number or a name
+-- Rules: what FIELD says, a number or a name, and whether INDEX names an NDX index
 pub mod Arguments
 -- Laws: FIELD by its length, its first byte and its digits
 pub mod ArgumentLaws

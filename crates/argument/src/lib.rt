@@ -1,9 +1,11 @@
-// What the argument FIELD of `inspect` says: a field's number or its name; and the match of an index against the field that has a name.
+// What the arguments of `inspect` say: FIELD, a field's number or its name, and whether INDEX names an NDX index; and the match of an index against the field
+// that has a name.
 pub mod names;
 
-ghost use Prim.Native.Nat.{min};
+ghost use Prim.Native.Nat.{_+_, _≤_, min};
 ghost use mathlib.Core.Path.{_≡_};
-ghost use Rattle.argument.specs.Arguments.{maxNumber, fieldArgument};
+ghost use lib.ListN.{length};
+ghost use Rattle.argument.specs.Arguments.{maxNumber, fieldArgument, isLetter, ndxAt, isNdx};
 use octets::Digits;
 
 // The greatest number of 32 bits, which no field of a table has.
@@ -45,4 +47,31 @@ pub fn field_argument(text: &[u8]) -> Field
         Digits::Number(number) => Field::Number(at_most_32_bits(number)),
         Digits::Other => Field::Other,
     }
+}
+
+// Whether a byte is a letter, in either of its forms.
+fn is_letter(small: u8, capital: u8, c: u8) -> bool
+    ensures { λ r. ⌜ r ≡ isLetter small capital c ⌝ }
+{
+    (c == small) | (c == capital)
+}
+
+// Whether `.ndx` stands at an offset of a name, in any letters.
+fn ndx_at(name: &[u8], at: usize) -> bool
+    requires { ⌜ at + 4 ≤ length (now name) ⌝ }
+    ensures { λ r. ⌜ r ≡ ndxAt (now (name .entry)) at ⌝ }
+{
+    (name[at] == b'.')
+        & (is_letter(b'n', b'N', name[at + 1])
+            & (is_letter(b'd', b'D', name[at + 2]) & is_letter(b'x', b'X', name[at + 3])))
+}
+
+// Whether the argument INDEX names an NDX index.
+pub fn is_ndx(name: &[u8]) -> bool
+    ensures { λ r. ⌜ r ≡ isNdx (now (name .entry)) ⌝ }
+{
+    if name.len() < 4 {
+        return false;
+    }
+    ndx_at(name, name.len() - 4)
 }

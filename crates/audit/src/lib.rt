@@ -68,7 +68,7 @@ fn last_key(index: &[u8], k: usize, size: usize, page: PageOffset) -> usize
 }
 
 // The order of the key that begins at x to the key that begins at y.
-fn key_order(index: &[u8], k: usize, x: usize, y: usize) -> Ordering
+pub fn key_order(index: &[u8], k: usize, x: usize, y: usize) -> Ordering
     requires { ⌜ (x + k ≤ length (now index)) × (y + k ≤ length (now index)) ⌝ }
     ensures { λ r. ⌜ r ≡ ordering (window (now (index .entry)) x k) (window (now (index .entry)) y k) ⌝ }
 {

@@ -17,6 +17,8 @@ ghost use Rattle.insert.specs.Fresh.{freshRule};
 ghost use Rattle.remove.specs.Calls.{removeRule};
 ghost use Rattle.matching.specs.Match.{Matched};
 ghost use Rattle.dilution.specs.Dilution.{diluteRule};
+ghost use Rattle.ndx.specs.Lookup as ndx-lookup;
+ghost use Rattle.ndx_sound.specs.Sound as ndx;
 ghost use Rattle.append.specs.Append.{appendRule};
 ghost use Rattle.append.specs.UpdateDate.{setDateRule, dated};
 ghost use Rattle.append.specs.Extent.{extentRule};
@@ -323,4 +325,23 @@ pub extern "C" fn gl_table_lay_out(
         j += 1;
     }
     laying::lay_out(buffer, &mut room, given, year, month, day)
+}
+
+// Audits an NDX index: 24, 25, or 0 if it is sound.
+#[no_mangle]
+pub extern "C" fn gl_ndx_audit(index: &[u8]) -> u32
+    ensures { λ r. ⌜ ndx.Audited (now (index .entry)) r ⌝ }
+{
+    index_calls::audit_ndx(index)
+}
+
+// Looks a key up in an NDX index: the number of its record, and the pages visited, which are also written if the key is absent.
+#[no_mangle]
+pub extern "C" fn gl_ndx_lookup(index: &[u8], key: &[u8], number: &mut u32, pages: &mut u32) -> u32
+    ensures { λ r. ⌜
+        lookupOut (ndx-lookup.lookupRule (now (index .entry)) (now (key .entry))) (found (now (number .entry)) (now (pages .entry)))
+        ≡ out r (found (now (number .exit)) (now (pages .exit)))
+        ⌝ }
+{
+    index_calls::ndx_lookup(index, key, number, pages)
 }

@@ -1,10 +1,13 @@
 // What the calls on an index hand to C: the answer's number, and its values in out-parameters.
 use insert::Insertion;
+use lookup::Answer;
 use page::RecordNumber;
 use refusal::ABSENT;
 use remove::Removal;
 ghost use mathlib.Core.Path.{_≡_};
 ghost use Rattle.lookup.specs.Lookup.{lookupRule};
+ghost use Rattle.ndx.specs.Lookup as ndx-lookup;
+ghost use Rattle.ndx_sound.specs.Sound as ndx-sound;
 ghost use Rattle.insert.specs.Calls.{insertRule, insertionCode};
 ghost use Rattle.insert.specs.Fresh.{freshRule};
 ghost use Rattle.remove.specs.Calls.{removeRule};
@@ -28,6 +31,26 @@ pub fn index_fresh(index: &mut [u8], key_length: u32, expression: &[u8]) -> u32
     insertion_code(insert::fresh(index, key_length, expression))
 }
 
+// Writes what a lookup in an index of either format answers, and returns its number.
+pub fn tell(answer: Answer, number: &mut u32, pages: &mut u32) -> u32
+    ensures { λ r. ⌜
+        lookupOut answer (found (now (number .entry)) (now (pages .entry))) ≡ out r (found (now (number .exit)) (now (pages .exit)))
+        ⌝ }
+{
+    match answer {
+        Answer::Found(at, visited) => {
+            *number = at.0;
+            *pages = visited;
+            0
+        }
+        Answer::Absent(searched) => {
+            *pages = searched;
+            ABSENT
+        }
+        Answer::Refused(refusal) => refusal,
+    }
+}
+
 // Looks a key up: the number of its record, and the pages visited, which are also written if the key is absent.
 pub fn index_lookup(index: &[u8], key: &[u8], number: &mut u32, pages: &mut u32) -> u32
     ensures { λ r. ⌜
@@ -35,19 +58,24 @@ pub fn index_lookup(index: &[u8], key: &[u8], number: &mut u32, pages: &mut u32)
         ≡ out r (found (now (number .exit)) (now (pages .exit)))
         ⌝ }
 {
-    let answer = lookup::lookup(index, key);
-    match answer {
-        lookup::Answer::Found(at, visited) => {
-            *number = at.0;
-            *pages = visited;
-            0
-        }
-        lookup::Answer::Absent(searched) => {
-            *pages = searched;
-            ABSENT
-        }
-        lookup::Answer::Refused(refusal) => refusal,
-    }
+    tell(lookup::lookup(index, key), number, pages)
+}
+
+// Audits an NDX index.
+pub fn audit_ndx(index: &[u8]) -> u32
+    ensures { λ r. ⌜ ndx-sound.Audited (now (index .entry)) r ⌝ }
+{
+    ndx_audit::audit(index)
+}
+
+// Looks a key up in an NDX index, with the same values.
+pub fn ndx_lookup(index: &[u8], key: &[u8], number: &mut u32, pages: &mut u32) -> u32
+    ensures { λ r. ⌜
+        lookupOut (ndx-lookup.lookupRule (now (index .entry)) (now (key .entry))) (found (now (number .entry)) (now (pages .entry)))
+        ≡ out r (found (now (number .exit)) (now (pages .exit)))
+        ⌝ }
+{
+    tell(ndx::lookup(index, key), number, pages)
 }
 
 // Inserts a key with its record's number.

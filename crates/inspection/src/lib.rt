@@ -3,8 +3,9 @@
 //
 //     inspect TABLE [MEMO|- [INDEX|- [FIELD]]]
 //
-// For other arguments, and for a file that can't be read or has more than 1,048,576 bytes, it prints the one line `40`, and says on standard error what
-// was wrong. It reads all files before it prints the first line, so that `40` stands alone. Without an index it does not use a FIELD.
+// An INDEX whose name ends in `.ndx`, in any letters, is audited as an NDX index. For other arguments, for a FIELD beside such an INDEX, which has no match,
+// and for a file that can't be read or has more than 1,048,576 bytes, it prints the one line `40`, and says on standard error what was wrong. It reads all
+// files before it prints the first line, so that `40` stands alone. Without an index it does not use a FIELD.
 mod report;
 
 ghost use Prim.Native.Nat.{_≤_};
@@ -26,6 +27,10 @@ fn refuse_use() {
         b"use: inspect TABLE [MEMO|- [INDEX|- [FIELD]]], where FIELD is a field's number of 1 to 10 digits or its name\n",
     );
     refuse(b"these are other arguments\n");
+}
+
+fn refuse_ndx_match() {
+    refuse(b"an NDX index has no match: leave the FIELD out\n");
 }
 
 fn wanted_field(arguments: usize, field: &[u8]) -> Field {
@@ -73,6 +78,14 @@ fn match_lines<'a>(
     }
 }
 
+// The audit's answer, of an NDX index if the name of its file says so.
+fn audit_answer(path: &[u8], index: &[u8]) -> u32 {
+    if argument::is_ndx(path) {
+        return ndx_audit::audit(index);
+    }
+    audit::audit(index)
+}
+
 // Reads the index, if one was given, and prints all lines.
 fn with_index<'a>(
     table: &'a [u8],
@@ -96,7 +109,7 @@ fn with_index<'a>(
     }
     let n = loaded.len;
     let of_table = report::table_report(&mut line, table, memo, has_memo);
-    let of_index = report::answer_line(&mut line, b"index", audit::audit(&index[..n]));
+    let of_index = report::answer_line(&mut line, b"index", audit_answer(index_path, &index[..n]));
     let of_match = match_lines(&mut line, table, &index[..n], wanted, field);
     report::problems_line(&mut line, of_table + of_index + of_match);
 }
@@ -158,6 +171,10 @@ pub fn inspect<'a>(
         Field::Unnamed | Field::Number(_) | Field::Name => {
             let memo_path = given(arguments, 2, memo, b"-");
             let index_path = given(arguments, 3, index, b"-");
+            if (3 < arguments) & argument::is_ndx(index_path) {
+                refuse_ndx_match();
+                return;
+            }
             with_table(table, memo_path, index_path, wanted, field)
         }
     }

@@ -50,7 +50,7 @@ decided go pages (visit.Found r) = answer.Found r pages
 decided go pages (visit.Child c) = go (c .0)
 
 -- lookup "goes down level by level": from the page at p on, with a number of levels left, "falling from 15"; the page that is visited with all levels left is
--- the first, and the page with none left under it is the 11th
+-- the first, and the page with none left under it is the 15th
 unfoldable pub lookupFrom : ℕ → List ℕ → List ℕ → ℕ → Answer
 lookupFrom zero b key p = answer.Refused 25
 lookupFrom (suc left) b key p =

@@ -18,6 +18,7 @@ use Rattle.tree.specs.Tree.{Tree, pairs, lookup, onward, visited}
 use Rattle.tree.specs.Ordered.{lookup-find, visited-found}
 use Rattle.tree.specs.StoreSteps.{storeLookup, storeVisited}
 use Rattle.tree.specs.StoreLookupLaws.{lookup-read, visited-read}
+use Rattle.tree.specs.Levels.{below, generation, all-of-map, all-of-concat}
 use Rattle.page.specs.Header.{maxLevels, isPage, rootOffset, fileSize, keyLength}
 use Rattle.page.specs.Page.{attributeAt, countAt, leafBit, capacity, keyAt, numberAt, attributeGood, countGood, pageGood}
 use Rattle.page.specs.PageLaws.{first-bound}
@@ -31,7 +32,6 @@ use Rattle.lookup.specs.declared.Answer.{Answer}
 use Rattle.lookup.specs.declared.Answer.the-variants as answer
 use Rattle.sound.specs.Sound.{Sound, indexTree}
 use Rattle.sound.specs.Rule.{Entries, attributeOf}
-use Rattle.sound.specs.Levels.{below, generation, all-of-map, all-of-concat}
 use Rattle.sound.specs.RunLaws.{Fits}
 use Rattle.sound.specs.LevelLaws.{LevelGood}
 use Rattle.sound.specs.AttributeLaws.{leaf-bit}

@@ -10,6 +10,8 @@ use Rattle.basis.specs.Lists.{All, all-map}
 use Rattle.tree.specs.Lists.{NonEmpty, concatMap}
 use Rattle.tree.specs.ListLaws.{all-map2}
 use Rattle.tree.specs.Clauses.{headOr}
+use Rattle.tree.specs.Levels.{numbers, below, generation, join-map, generation-below, all-of-map}
+use Rattle.tree.specs.Levels.{tree-pairs, level-generation, pages-generation}
 use Rattle.page.specs.Header.{maxBytes, maxLevels, noPage, rootOffset, fileSize, keyLength, isPage}
 use Rattle.page.specs.HeaderLaws.{good-header}
 use Rattle.page.specs.Page.{attributeAt, leafBit}
@@ -17,8 +19,6 @@ use Rattle.page.specs.Reading.{entriesAt}
 use Rattle.page.specs.Children.{isLeaf, firstChild}
 use Rattle.sound.specs.Sound.{Sound, CountGood, leafPairs}
 use Rattle.sound.specs.Rule.{Entries, maxPages, chain}
-use Rattle.sound.specs.Levels.{numbers, below, generation, join-map, generation-below, all-of-map}
-use Rattle.sound.specs.Levels.{tree-pairs, level-generation, pages-generation}
 use Rattle.sound.specs.LevelLaws.{next-head}
 use Rattle.sound.specs.ShapeLaws.{rootEntry, levelPages, entries-filled, sound-shape}
 use Rattle.sound.specs.DistinctLaws.{head-all}

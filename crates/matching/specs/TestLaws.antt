@@ -18,10 +18,10 @@ use Rattle.field.specs.FieldLaws.{number-range}
 use Rattle.cell.specs.Cell.{fieldStart, fieldBytes}
 use Rattle.tree.specs.Lists.{occ}
 use Rattle.tree.specs.Pairs.{Above, Ascending}
+use Rattle.tree.specs.Levels.{numbers, all-to-map}
 use Rattle.page.specs.KeyOrder.{bytesOrder}
 use Rattle.page.specs.KeyOrderLaws.{equal-same, equal-refl}
 use Rattle.sound.specs.Rule.{Entries}
-use Rattle.sound.specs.Levels.{numbers, all-to-map}
 use Rattle.matching.specs.declared.Column.{Column}
 use Rattle.matching.specs.Match.{Matches}
 use Rattle.matching.specs.Rule.{columnOf, columnBytes, entryGood, entriesGood, entriesMatch}

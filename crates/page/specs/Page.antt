@@ -58,7 +58,7 @@ keyAt b k p i = window b (entryOffset k p i) k
 abbrev pub numberAt : List ℕ → ℕ → ℕ → ℕ → ℕ
 numberAt b k p i = be32 b (entryOffset k p i + k)
 
--- "attribute in 0-3, root bit on the first alone, .. a leaf if it is the 11th"
+-- "attribute in 0-3, root bit on the first alone, .. a leaf if it is the 15th"
 unfoldable pub attributeGood : ℕ → Bool → Bool → Bool
 attributeGood a first last = leb a 3 && (Bool·beq (rootBit a) first && (leafBit a || not last))
 
@@ -66,7 +66,7 @@ attributeGood a first last = leb a 3 && (Bool·beq (rootBit a) first && (leafBit
 unfoldable pub countGood : ℕ → ℕ → ℕ → Bool
 countGood k a n = leb n (capacity k) && (leb 1 n || eqb a 3)
 
--- "It checks the pages it visits only: offset, attribute in 0-3, root bit on the first alone, count as above, a leaf if it is the 11th": the page at p, in a
+-- "It checks the pages it visits only: offset, attribute in 0-3, root bit on the first alone, count as above, a leaf if it is the 15th": the page at p, in a
 -- file of `size` bytes with keys of k bytes
 unfoldable pub pageGood : List ℕ → ℕ → ℕ → ℕ → Bool → Bool → Bool
 pageGood b k size p first last =

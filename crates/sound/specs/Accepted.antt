@@ -14,13 +14,13 @@ use Rattle.basis.specs.Tests.{either, contra, both, join}
 use Rattle.tree.specs.Pairs.{Ascending}
 use Rattle.tree.specs.Tree.{pairs}
 use Rattle.tree.specs.Clauses.{Ceilings}
+use Rattle.tree.specs.Levels.{reached, generations-reached}
 use Rattle.page.specs.Header.{maxBytes, maxLevels, pageSize, rootOffset, freePointer, fileSize, keyLength, isPage, headerGood}
 use Rattle.page.specs.HeaderLaws.{is-page, good-header}
 use Rattle.page.specs.KeyOrder.{bytesOrder}
 use Rattle.page.specs.Reading.{entriesAt}
 use Rattle.sound.specs.Sound.{indexTree, Sound, Audited}
 use Rattle.sound.specs.Rule.{Entries, Level, laterPages, rootLevel, levelsUnder, checkFree, complete, shapeGood, keysAboveGood, pagesGood}
-use Rattle.sound.specs.Levels.{reached, generations-reached}
 use Rattle.sound.specs.FreeLaws.{Free, free-found, free-passed}
 use Rattle.sound.specs.LevelLaws.{LevelGood, Known, GoodUnder, lowerPages, Found, level-known, level-good, levels-good, levels-found, levels-reached}
 use Rattle.sound.specs.ShapeLaws.{rootEntry, GoodLevels, Shape, levels-inside, levels-counts, entries-filled, shape-pairs, shape-sound, sound-shape}

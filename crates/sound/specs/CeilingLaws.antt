@@ -21,6 +21,7 @@ use Rattle.tree.specs.Clauses.{SizedUnder, AtOrAbove, BelowNext, headOr}
 use Rattle.tree.specs.ClauseLaws.{sized-nonEmpty, firstKey-above}
 use Rattle.tree.specs.Store.{readEntry, readTree}
 use Rattle.tree.specs.StoreLaws.{map-read-zero}
+use Rattle.tree.specs.Levels.{all-of-map, numbers, readAll}
 use Rattle.octets.specs.Order.{bytesLe, ordering, isBelow, isEqual}
 use Rattle.octets.specs.OrderLaws.{le-antisym}
 use Rattle.page.specs.Header.{noPage}
@@ -29,7 +30,6 @@ use Rattle.page.specs.KeyOrderLaws.{below, below-not-le, equal-same, equal-refl
 use Rattle.page.specs.Reading.{entriesAt}
 use Rattle.sound.specs.Rule.{Entries, Keys, firstOf, lastOf, lastNumber, down, isCeiling, isLast, firstLeafKey, lastLeafKey, belowNext}
 use Rattle.sound.specs.Rule.{onward, upperEntry, upperEntries}
-use Rattle.sound.specs.Levels.{all-of-map, numbers, readAll}
 use Rattle.sound.specs.EntryLaws.{last-some}
 
 -- keys that are good, and then what comes after them

@@ -2,7 +2,7 @@
 -- children lead to a leaf in as many steps as there are levels under it; no page of the tree is free, since a free page has attribute 0 and count 0; and a free
 -- list that ends has no page twice. So each page but the first was met once exactly if as many pages were met as there are. Cited by the laws of what the audit
 -- accepts. Assumes nothing.
-use Prim.Native.Nat.{ℕ, zero, suc, _/_, _%_, _≤_, _<_}
+use Prim.Native.Nat.{ℕ, zero, suc, _-_, _/_, _%_, _≤_, _<_}
 use mathlib.Core.Path.{_≡_, refl, sym, ap, _∙_}
 use mathlib.Core.List.{List, [], _∷_, _++_}
 use mathlib.Core.Bool.{true, _||_}
@@ -10,23 +10,24 @@ use native.Mathlib.Omega.{arith}
 use lib.ListN.{length}
 use lib.Dec.{eqb, ltb, leb}
 use borrow.Author.Tests.{ltb-true, ltb-false, ne-eqb}
-use Rattle.basis.specs.Lists.{All, all-append, all-map}
+use Rattle.basis.specs.Lists.{All, all-map}
 use Rattle.basis.specs.Tests.{either, contra, both}
 use Rattle.tree.specs.Lists.{NonEmpty, occ}
 use Rattle.tree.specs.ListLaws.{all-map2, occ-append, occ-all}
 use Rattle.tree.specs.Clauses.{headOr}
 use Rattle.tree.specs.InsertPages.{Distinct}
 use Rattle.tree.specs.FreeChainLaws.{chained-distinct, linked-distinct}
-use Rattle.tree.specs.PageCount.{LaterPage, pages-at-most, pages-at-least, later-at-most, later-all}
+use Rattle.tree.specs.DistinctLaws.{Filled, Heights, levels-distinct}
+use Rattle.tree.specs.PageCount.{PageOf, offset, offset-apart, offset-page, pages-at-most, later-all, later-distinct, later-count}
+use Rattle.tree.specs.Levels.{all-of-concat, all-of-map, numbers, below, generation, reached, generations-reached}
 use Rattle.page.specs.Header.{maxBytes, pageSize, noPage, freePointer, isPage}
-use Rattle.page.specs.HeaderLaws.{is-page, is-page-from}
+use Rattle.page.specs.HeaderLaws.{IsPage, is-page, is-page-from}
 use Rattle.page.specs.Page.{attributeAt, countAt, rightAt, capacity, countGood}
 use Rattle.page.specs.Reading.{entriesAt}
 use Rattle.page.specs.Children.{isLeaf, firstChild}
 use Rattle.sound.specs.Sound.{linksOf, FreePage, FreeList}
 use Rattle.sound.specs.Rule.{Entries, laterPages, heightOf}
 use Rattle.sound.specs.AttributeLaws.{attributeAtLevel}
-use Rattle.sound.specs.Levels.{all-of-concat, all-of-map, all-to-map, numbers, below, generation, reached, generations-reached}
 use Rattle.sound.specs.FreeLaws.{free-attribute, free-count}
 use Rattle.sound.specs.RunLaws.{Fits}
 use Rattle.sound.specs.LevelLaws.{same-suc, leaf-known, not-page}
@@ -45,17 +46,13 @@ module _ (b : List ℕ) (k size : ℕ) where
   abbrev pub LeavesUnder : ℕ → Entries → Type 0
   LeavesUnder h es = (i : ℕ) → i ≤ h → All (λ e. isLeaf b size (e .1) ≡ eqb i h) (generation (entriesAt k size b) i es)
 
-  -- every page of the levels from the entries es on, h levels in all, has an entry
-  abbrev pub FilledTo : ℕ → Entries → Type 0
-  FilledTo h es = (i : ℕ) → i < h → All (λ e. NonEmpty (entriesAt k size b (e .1))) (generation (entriesAt k size b) i es)
-
   higher : (l h : ℕ) (e : List ℕ × ℕ) → isLeaf b size (e .1) ≡ eqb 0 (suc h) → heightOf b k size l (firstChild b k size (e .1)) ≡ h
       → heightOf b k size (suc l) (e .1) ≡ suc h
   unfolding heightOf
   higher l h e q r = rw (q, ne-eqb 0 (suc h) (omega arith), heightOf) (ap suc r)
 
   -- the first children lead from each page to a leaf in as many steps as there are levels under it
-  pub heights : (l h : ℕ) (es : Entries) → h ≤ l → LeavesUnder h es → FilledTo h es → All (λ e. heightOf b k size l (e .1) ≡ h) es
+  pub heights : (l h : ℕ) (es : Entries) → h ≤ l → LeavesUnder h es → Filled S h es → All (λ e. heightOf b k size l (e .1) ≡ h) es
   unfolding heightOf
   heights zero zero es n leaves full = all-map (λ e. isLeaf b size (e .1) ≡ true) (λ e. heightOf b k size zero (e .1) ≡ zero) (λ e q. refl) es (leaves 0 n)
   heights zero (suc h) es n leaves full = absurd (omega arith)
@@ -70,43 +67,14 @@ module _ (b : List ℕ) (k size : ℕ) where
       all-map2 (λ e. isLeaf b size (e .1) ≡ eqb 0 (suc h)) (λ e. heightOf b k size l (firstChild b k size (e .1)) ≡ h)
       (λ e. heightOf b k size (suc l) (e .1) ≡ suc h) (higher l h) es (leaves 0 (omega arith)) first
 
-  -- so no page is on a level and on one under it
-  pages-high : (l h : ℕ) (es : Entries) → h ≤ l → LeavesUnder h es → FilledTo h es → All (λ p. heightOf b k size l p ≡ h) (numbers es)
-  pages-high l h es n leaves full = all-to-map (λ p. heightOf b k size l p ≡ h) (λ e. e .1) es (heights l h es n leaves full)
-
-  pages-lower : (l h : ℕ) (es : Entries) → h ≤ l → LeavesUnder h es → FilledTo h es → All (λ p. heightOf b k size l p ≤ h) (reached S (suc h) es)
-  pages-lower l zero es n leaves full =
-      all-append (λ p. heightOf b k size l p ≤ zero) (numbers es) []
-      (all-map (λ p. heightOf b k size l p ≡ zero) (λ p. heightOf b k size l p ≤ zero) (λ p e. omega arith) (numbers es) (pages-high l zero es n leaves full))
-      tt
-  pages-lower l (suc h) es n leaves full =
-      let lower = pages-lower l h (below S es) (omega arith) (λ i o. rw (same-suc i h) at (leaves (suc i) (omega arith)))
-      (λ i o. full (suc i) (omega arith)) in
-      all-append (λ p. heightOf b k size l p ≤ suc h) (numbers es) (reached S (suc h) (below S es))
-      (all-map (λ p. heightOf b k size l p ≡ suc h) (λ p. heightOf b k size l p ≤ suc h) (λ p e. omega arith) (numbers es)
-      (pages-high l (suc h) es n leaves full))
-      (all-map (λ p. heightOf b k size l p ≤ h) (λ p. heightOf b k size l p ≤ suc h) (λ p e. omega arith) (reached S (suc h) (below S es)) lower)
-
-  -- Theorem: the pages of the levels from the entries es on differ, if those of each level do, every page above the leaves has an entry, and leaves are on the
-  -- last level alone
-  pub levels-distinct : (l h : ℕ) (es : Entries) → h ≤ l → LeavesUnder h es → FilledTo h es
-      → ((i : ℕ) → i ≤ h → Distinct (numbers (generation (entriesAt k size b) i es))) → Distinct (reached (entriesAt k size b) (suc h) es)
-  levels-distinct l zero es n leaves full d z = omega (arith, occ-append z (numbers es) [], d 0 (omega arith) z)
-  levels-distinct l (suc h) es n leaves full d z =
-      let rest = reached S (suc h) (below S es) in
-      let inner : LeavesUnder h (below S es) = λ i o. rw (same-suc i h) at (leaves (suc i) (omega arith)) in
-      let filled : FilledTo h (below S es) = λ i o. full (suc i) (omega arith) in
-      let lower = levels-distinct l h (below S es) (omega arith) inner filled (λ i o. d (suc i) (omega arith)) z in
-      let here = d 0 (omega arith) z in
-      let sum = occ-append z (numbers es) rest in
-      either (ltb 0 (occ z (numbers es)))
-      (λ t. either (ltb 0 (occ z rest))
-      (λ u.
-      let high = occ-all (λ p. heightOf b k size l p ≡ suc h) z (numbers es) (pages-high l (suc h) es n leaves full) (ltb-true 0 (occ z (numbers es)) t) in
-      let low = occ-all (λ p. heightOf b k size l p ≤ h) z rest (pages-lower l h (below S es) (omega arith) inner filled) (ltb-true 0 (occ z rest) u) in
-      absurd (omega arith))
-      (λ u. omega (arith, ltb-false 0 (occ z rest) u)))
-      (λ t. omega (arith, ltb-false 0 (occ z (numbers es)) t))
+  all-heights : (l h : ℕ) (es : Entries) → h ≤ l → LeavesUnder h es → Filled (entriesAt k size b) h es
+      → Heights (entriesAt k size b) (heightOf b k size l) h es
+  all-heights l h es n leaves full zero o = let d : h - 0 ≡ h = omega arith in rw d (heights l h es n leaves full)
+  all-heights l zero es n leaves full (suc i) o = absurd (omega arith)
+  all-heights l (suc h) es n leaves full (suc i) o =
+      let d : suc h - suc i ≡ h - i = omega arith in
+      rw d (all-heights l h (below S es) (omega arith) (λ j m. rw (same-suc j h) at (leaves (suc j) (omega arith))) (λ j m. full (suc j) (omega arith)) i
+      (omega arith))
 
 -- a page with a good count has an attribute or a count
 has-either : (k a n : ℕ) → countGood k a n ≡ true → a ≡ 0 → n ≡ 0 → ⊥
@@ -137,8 +105,9 @@ module _ (b : List ℕ) (k size root : ℕ) (most : size ≤ maxBytes) where
   pages-distinct h levels =
       let inside = levels-inside b k size root h levels in
       let counts = levels-counts b k size root h levels in
-      levels-distinct b k size h h (rootEntry root) (omega arith) (level-leaves h levels)
-      (λ i l. entries-filled b k size root h inside counts i (omega arith) (omega arith))
+      levels-distinct (entriesAt k size b) (heightOf b k size h) h (rootEntry root)
+      (all-heights b k size h h (rootEntry root) (omega arith) (level-leaves h levels)
+      (λ i l. entries-filled b k size root h inside counts i (omega arith) (omega arith)))
       (λ i l.
       let ps = levelPages b k size root i in
       linked-distinct noPage (linksOf b) noPage ps (none-inside ps (inside i l)) (levels i l .linked))
@@ -174,29 +143,30 @@ module _ (b : List ℕ) (k size root : ℕ) (most : size ≤ maxBytes) where
 
 -- the pages ps of a file
 module _ (size : ℕ) (ps : List ℕ) (whole : size % pageSize ≡ 0) (inside : All (λ p. isPage size p ≡ true) ps) where
-  later : (z : ℕ) → 0 < occ z ps → LaterPage (size / pageSize) z
-  later z i = let p = is-page size z (occ-all (λ p. isPage size p ≡ true) z ps inside i) in let w = p .whole in (omega arith, omega arith, w)
+  in-file : (z : ℕ) → 0 < occ z ps → IsPage size z
+  in-file z i = is-page size z (occ-all (λ p. isPage size p ≡ true) z ps inside i)
+
+  later : (z : ℕ) → 0 < occ z ps → PageOf offset 1 (size / pageSize) z
+  later z i = let p = in-file z i in let w = p .whole in offset-page 1 (size / pageSize) z (omega arith) (omega arith) w
 
   -- Theorem: if they differ, and are as many as the file has but for the first, each page is there once
   pub count-once : Distinct ps → length ps ≡ laterPages size → (p : ℕ) → isPage size p ≡ true → occ p ps ≡ 1
   count-once d n p e =
       let i = is-page size p e in
       let w = i .whole in
-      later-all (size / pageSize) ps (omega arith) d later (omega arith) p (omega arith, omega arith, w)
+      let at : p ≡ offset (p / pageSize) = omega arith in
+      ap (λ x. occ x ps) at
+      ∙ later-all offset offset-apart (size / pageSize) ps later (omega arith) d (omega arith) (p / pageSize) (omega arith) (omega arith)
 
   -- and back
   module _ (once : (p : ℕ) → isPage size p ≡ true → occ p ps ≡ 1) where
-    once-distinct : Distinct ps
-    once-distinct z = either (ltb 0 (occ z ps))
-        (λ t. omega (arith, once z (occ-all (λ p. isPage size p ≡ true) z ps inside (ltb-true 0 (occ z ps) t))))
-        (λ t. omega (arith, ltb-false 0 (occ z ps) t))
+    once-there : (i : ℕ) → 0 < i → i < size / pageSize → occ (offset i) ps ≡ 1
+    once-there i u v = once (offset i) (is-page-from size (offset i) (record { whole = omega arith; low = omega arith; high = omega arith }))
 
     pub once-few : length ps ≤ size / pageSize
-    once-few = pages-at-most (size / pageSize) ps once-distinct (λ z i. (later z i .1, later z i .2))
+    once-few =
+        pages-at-most (size / pageSize) ps (later-distinct offset offset-apart (size / pageSize) ps later once-there)
+        (λ z i. let p = in-file z i in let w = p .whole in (omega arith, w))
 
     pub once-count : pageSize ≤ size → length ps ≡ laterPages size
-    once-count some =
-        let most = later-at-most (size / pageSize) ps (omega arith) once-distinct later in
-        let least = pages-at-least (size / pageSize) ps
-        (λ z i l w. omega (arith, once z (is-page-from size z (record { whole = w; low = omega arith; high = omega arith })))) in
-        omega arith
+    once-count some = let n = later-count offset offset-apart (size / pageSize) ps later once-there (omega arith) in omega arith

@@ -19,6 +19,7 @@ use Rattle.tree.specs.Ordered.{ordered-ascending}
 use Rattle.tree.specs.ClauseLaws.{ceilings-ordered, ordered-ceilings}
 use Rattle.tree.specs.Index.{Index, Setting}
 use Rattle.tree.specs.SoundIndex.{used, PagesOnce, SoundIndex, LinkedIndex}
+use Rattle.tree.specs.Levels.{pages-generation, sized-pages}
 use Rattle.page.specs.Header.{maxLevels, pageSize, rootOffset, fileSize, keyLength, isPage, headerGood}
 use Rattle.page.specs.Page.{attributeAt, countAt, rootBit, leafBit, capacity}
 use Rattle.page.specs.KeyOrder.{bytesOrder}
@@ -26,7 +27,6 @@ use Rattle.page.specs.HeaderLaws.{IsPage, is-page, is-page-from, good-header}
 use Rattle.page.specs.Reading.{entriesAt}
 use Rattle.page.specs.ReadingLaws.{length-entries}
 use Rattle.sound.specs.Sound.{indexTree, indexPages, linksOf, CountGood, FreePage, FreeList, Sound}
-use Rattle.sound.specs.Levels.{pages-generation, sized-pages}
 use Rattle.sound.specs.ShapeLaws.{tree-sized}
 
 -- the index as the theory has it, with h levels under its root and the free list `free`, and its setting: F may be `most` at most

@@ -16,13 +16,13 @@ use Rattle.tree.specs.Tree.{Tree, pairsUnder, pairs}
 use Rattle.tree.specs.Clauses.{Ceilings, headOr}
 use Rattle.tree.specs.ClauseLaws.{ascending-parts}
 use Rattle.tree.specs.Store.{readEntry, readTree}
+use Rattle.tree.specs.Levels.{all-of-map, all-to-map, all-of-concat, all-to-concat, numbers, readAll, below, generation, reached, generations-reached}
 use Rattle.page.specs.Header.{maxBytes, maxLevels, pageSize, noPage, isPage}
 use Rattle.page.specs.Page.{capacity}
 use Rattle.page.specs.KeyOrder.{bytesOrder}
 use Rattle.page.specs.Reading.{entriesAt}
 use Rattle.page.specs.Children.{firstChild}
 use Rattle.sound.specs.Rule.{Entries, maxPages, chain, heightOf, upperEntries, upperPages, upperLevels, keysUnderGood, down}
-use Rattle.sound.specs.Levels.{all-of-map, all-to-map, all-of-concat, all-to-concat, numbers, readAll, below, generation, reached, generations-reached}
 use Rattle.sound.specs.CeilingLaws.{onward-good, went-on, onward-same, Full, full-some, full-children, PageCeilings, entries-ceilings}
 use Rattle.sound.specs.CeilingLaws.{OwnLast, own-page, SameLast, same-last, entries-same}
 use Rattle.sound.specs.LevelLaws.{chain-is, next-head}

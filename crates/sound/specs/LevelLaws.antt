@@ -13,6 +13,7 @@ use Rattle.basis.specs.Tests.{either, both, join}
 use Rattle.tree.specs.Lists.{NonEmpty}
 use Rattle.tree.specs.ListLaws.{nonEmpty-left}
 use Rattle.tree.specs.Clauses.{headOr, Linked}
+use Rattle.tree.specs.Levels.{numbers, below, generation, reached, map-append}
 use Rattle.page.specs.Header.{maxBytes, noPage, isPage}
 use Rattle.page.specs.HeaderLaws.{is-page}
 use Rattle.page.specs.Reading.{entriesAt}
@@ -20,7 +21,6 @@ use Rattle.sound.specs.Sound.{linksOf}
 use Rattle.page.specs.Children.{isLeaf, childrenOf, firstChild}
 use Rattle.sound.specs.Rule.{Entries, maxPages, Level, start, chain, attributeOf, checkLevel, rowsUnder, nextLevel, levelsUnder}
 use Rattle.sound.specs.AttributeLaws.{leaf-bit}
-use Rattle.sound.specs.Levels.{numbers, below, generation, reached, map-append}
 use Rattle.sound.specs.RunLaws.{joined, Fits, Checked, Passed, check-passed, passed-check}
 
 -- tests on the number of a level

@@ -7,8 +7,6 @@ pub mod Sound
 pub mod Rule
 -- Laws: the attributes and counts of the pages of a level, against document 01's words
 pub mod AttributeLaws
--- Laws: the entries of a store level by level, and the trees that are read there
-pub mod Levels
 -- Laws: the audit's pass over the pages of one level
 pub mod RunLaws
 -- Laws: the audit's tests of leaf entries, against ascending keys

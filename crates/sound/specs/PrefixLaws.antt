@@ -19,13 +19,13 @@ use Rattle.tree.specs.Tree.{Tree, pairs, pages, level}
 use Rattle.tree.specs.Store.{Store, readTree}
 use Rattle.tree.specs.Clauses.{Ceilings, Linked}
 use Rattle.tree.specs.FreeChain.{Chained}
+use Rattle.tree.specs.Levels.{pages-generation, generation-level}
 use Rattle.page.specs.Header.{pageSize, noPage, rootOffset, freePointer, fileSize, keyLength, features, isPage, headerGood}
 use Rattle.page.specs.HeaderLaws.{is-page, good-header, good-header-from}
 use Rattle.page.specs.Page.{attributeAt, rightAt, rightPlace, entriesStart, entryArea, rootBit, leafBit}
 use Rattle.page.specs.KeyOrder.{bytesOrder}
 use Rattle.page.specs.Reading.{entriesAt}
 use Rattle.page.specs.ReadingLaws.{window-window, entries-none, entries-same, attribute-same, count-same, left-same, right-same}
-use Rattle.sound.specs.Levels.{pages-generation, generation-level}
 use Rattle.sound.specs.Sound.{indexTree, indexPages, linksOf, CountGood, FreePage, Sound}
 
 -- two buffers with the same first F bytes; the first is sound

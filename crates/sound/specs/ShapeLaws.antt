@@ -18,6 +18,9 @@ use Rattle.tree.specs.Pairs.{Ascending}
 use Rattle.tree.specs.Tree.{Tree, pairs}
 use Rattle.tree.specs.Clauses.{least, Sized, Ceilings, Linked}
 use Rattle.tree.specs.Store.{readTree}
+use Rattle.tree.specs.Levels.{all-of-map, all-to-map, numbers, below, generation, generation-below, reached, reached-generations, join-map}
+use Rattle.tree.specs.Levels.{Counted, tree-pairs, tree-pages, level-generation, generation-level, pages-generation, generation-pages}
+use Rattle.tree.specs.Levels.{generation-sized}
 use Rattle.page.specs.Header.{maxBytes, maxLevels, noPage, rootOffset, fileSize, keyLength, isPage, headerGood}
 use Rattle.page.specs.Page.{attributeAt, countAt, rootBit, leafBit, capacity}
 use Rattle.page.specs.KeyOrder.{bytesOrder}
@@ -27,9 +30,6 @@ use Rattle.page.specs.ReadingLaws.{length-entries, entries-none}
 use Rattle.sound.specs.Sound.{indexTree, indexPages, linksOf, CountGood, FreePage, FreeList, Sound}
 use Rattle.sound.specs.Rule.{Entries, lastOf}
 use Rattle.sound.specs.AttributeLaws.{attributeAtLevel, root-bit, leaf-bit, attribute-small, attribute-is, count-good, good-count}
-use Rattle.sound.specs.Levels.{all-of-map, all-to-map, numbers, below, generation, generation-below, reached, reached-generations, join-map}
-use Rattle.sound.specs.Levels.{Counted, tree-pairs, tree-pages, level-generation, generation-level, pages-generation, generation-pages}
-use Rattle.sound.specs.Levels.{generation-sized}
 use Rattle.sound.specs.RunLaws.{Fits, Checked}
 use Rattle.sound.specs.EntryLaws.{Climbs, climbs-ascend, ascend-climbs, upper-checked}
 use Rattle.sound.specs.EntryLaws.{checked-climbs, climbs-checked, lone-climbs, climbs-lone}

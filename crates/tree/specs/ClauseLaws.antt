@@ -90,7 +90,7 @@ module _ {K : Type 0} (O : Order K) where
     separated-next G under (y ∷ ys) (c .1),
   )
 
-  separated-all : {C : Type 0} (G : K × C → Type 0) (under : K × C → List (K × ℕ)) (xs : List (K × C)) → Separated O G under xs → All G xs
+  pub separated-all : {C : Type 0} (G : K × C → Type 0) (under : K × C → List (K × ℕ)) (xs : List (K × C)) → Separated O G under xs → All G xs
   separated-all G under [] c = tt
   separated-all G under (x ∷ xs) c = (c .0 .good, separated-all G under xs (c .1))
 

@@ -69,6 +69,10 @@ pub mod RemovalPages
 pub mod StoreSteps
 -- Laws: the tree that a store is read as depends on the pages reached alone
 pub mod StoreLaws
+-- Laws: the entries of a store level by level, and the trees read there
+pub mod Levels
+-- Laws: no page is met twice
+pub mod DistinctLaws
 -- Laws: lookup, visited pages and the run on a store are those on its tree
 pub mod StoreLookupLaws
 -- Laws: insertion into a store is insertion into its tree

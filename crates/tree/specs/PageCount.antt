@@ -2,7 +2,7 @@
 -- times its leaf pairs, or one, since every page but a lone root leaf has an entry. Cited by the laws of sound indexes. Assumes nothing.
 use mathlib.Core.Path.{_≡_, refl, sym, ap, _∙_, subst}
 use mathlib.Core.List.{List, [], _∷_}
-use Prim.Native.Nat.{ℕ, zero, suc, _+_, _*_, _%_, _≤_, _<_}
+use Prim.Native.Nat.{ℕ, zero, suc, _+_, _*_, _/_, _%_, _≤_, _<_}
 use native.Mathlib.Nat.{mul-add, suc-mul, mul-le-mul-left}
 use native.Mathlib.Omega.{arith}
 use lib.Dec.{eqb, ltb}
@@ -27,29 +27,6 @@ without-length p (x ∷ xs) = either (eqb x p)
     (λ e. rw (e, eq-eqb p x (sym (eqb-true x p e))) (omega (arith, without-length p xs)))
     (λ e. rw (e, ne-eqb p x (λ q. eqb-false x p e (sym q))) (omega (arith, without-length p xs)))
 
--- Theorem: a list of different pages of a file has at most as many pages as the file, n
-pub pages-at-most : (n : ℕ) (l : List ℕ) → Distinct l → ((z : ℕ) → 0 < occ z l → (z < pageSize * n) × (z % pageSize ≡ 0)) → length l ≤ n
-pages-at-most zero [] d low = omega arith
-pages-at-most zero (x ∷ xs) d low = let l : x < 0 = omega (arith, low x (occ-here x xs) .0) in absurd (omega arith)
-pages-at-most (suc n) l d low =
-    let p : ℕ = pageSize * n in
-    let few : length (without p l) ≤ n = pages-at-most n (without p l) (λ z. omega (arith, d z, without-occ z p l))
-    (λ z i. let at : (z < pageSize * suc n) × (z % pageSize ≡ 0) = low z (omega (arith, without-occ z p l)) in
-    let ne : z ≡ p → ⊥ = λ e. without-none z p l e i in
-    (omega arith, at .1)) in
-    omega (arith, d p, without-length p l)
-
--- Theorem: a list that has every page but the first of a file of n pages has at least n - 1 pages
-pub pages-at-least : (n : ℕ) (l : List ℕ) → ((z : ℕ) → 0 < z → z < pageSize * n → z % pageSize ≡ 0 → 0 < occ z l) → n ≤ suc (length l)
-pages-at-least zero l all = omega arith
-pages-at-least (suc zero) l all = omega arith
-pages-at-least (suc (suc n)) l all =
-    let p : ℕ = pageSize * suc n in
-    let there : 0 < occ p l = all p (omega arith) (omega arith) (omega arith) in
-    let many : suc n ≤ suc (length (without p l)) = pages-at-least (suc n) (without p l)
-    (λ z i j m. rw (without-other z p l (λ e. omega arith)) (all z i (omega arith) m)) in
-    omega (arith, without-length p l)
-
 -- one page more, which was not on the list
 distinct-onto : (x : ℕ) (l : List ℕ) → Distinct l → occ x l ≡ 0 → Distinct (x ∷ l)
 distinct-onto x l d o z = either (eqb z x)
@@ -61,36 +38,103 @@ onto-all P x l p f z i = either (eqb z x)
     (λ e. subst P (sym (eqb-true z x e)) p)
     (λ e. f z (let j : 0 < 0 + occ z l = rw e at i in omega arith))
 
--- a page of a file of n pages, and one that is not the first
-abbrev InFile : ℕ → ℕ → Type 0
-InFile n z = (z < pageSize * n) × (z % pageSize ≡ 0)
+-- z is one of the pages of a file that are numbered from `first` on below n; `place` says where each lies: at its number, or at its offset
+pub record PageOf (place : ℕ → ℕ) (first n z : ℕ) : Type 0 where
+  pub number : ℕ
+  pub late : first ≤ number
+  pub early : number < n
+  pub there : z ≡ place number
 
-abbrev pub LaterPage : ℕ → ℕ → Type 0
-LaterPage n z = (0 < z) × (z < pageSize * n) × (z % pageSize ≡ 0)
+module _ (place : ℕ → ℕ) where
+  -- different pages of a file are at most as many as the file has, n
+  at-most : (n : ℕ) (l : List ℕ) → Distinct l → ((z : ℕ) → 0 < occ z l → PageOf place 0 n z) → length l ≤ n
+  at-most zero [] d low = omega arith
+  at-most zero (x ∷ xs) d low = let u = low x (occ-here x xs) .early in absurd (omega arith)
+  at-most (suc n) l d low =
+      let few : length (without (place n) l) ≤ n = at-most n (without (place n) l) (λ z. omega (arith, d z, without-occ z (place n) l))
+      (λ z i.
+      let u = low z (omega (arith, without-occ z (place n) l)) in
+      let early = u .early in
+      let ne : u .number ≡ n → ⊥ = λ e. without-none z (place n) l (u .there ∙ ap place e) i in
+      record { number = u .number; late = omega arith; early = omega arith; there = u .there }) in
+      omega (arith, d (place n), without-length (place n) l)
 
--- a list of different pages of a file of n pages, none of them the first
-module _ (n : ℕ) (l : List ℕ) (some : 0 < n) (d : Distinct l) (inside : (z : ℕ) → 0 < occ z l → LaterPage n z) where
-  no-first : occ 0 l ≡ 0
-  no-first = either (ltb 0 (occ 0 l)) (λ e. absurd (omega (arith, inside 0 (ltb-true 0 (occ 0 l) e) .0))) (λ e. omega (arith, ltb-false 0 (occ 0 l) e))
+  -- no two pages lie at one place
+  module _ (apart : (i j : ℕ) → place i ≡ place j → i ≡ j) where
+    -- a list that has every page but the first of a file of n pages has at least n - 1 pages
+    at-least : (n : ℕ) (l : List ℕ) → ((i : ℕ) → 0 < i → i < n → 0 < occ (place i) l) → n ≤ suc (length l)
+    at-least zero l all = omega arith
+    at-least (suc zero) l all = omega arith
+    at-least (suc (suc n)) l all =
+        let p : ℕ = place (suc n) in
+        let there : 0 < occ p l = all (suc n) (omega arith) (omega arith) in
+        let many : suc n ≤ suc (length (without p l)) = at-least (suc n) (without p l)
+        (λ i u v. rw (without-other (place i) p l (λ e. let q = apart i (suc n) e in omega arith)) (all i u (omega arith))) in
+        omega (arith, without-length p l)
 
-  with-first : (z : ℕ) → 0 < occ z (0 ∷ l) → InFile n z
-  with-first = onto-all (InFile n) 0 l (omega arith, omega arith) (λ z i. (inside z i .1, inside z i .2))
+    -- a list of pages of a file of n pages, none of them the first
+    module _ (n : ℕ) (l : List ℕ) (inside : (z : ℕ) → 0 < occ z l → PageOf place 1 n z) where
+      no-first : occ (place 0) l ≡ 0
+      no-first = either (ltb 0 (occ (place 0) l))
+          (λ e.
+          let u = inside (place 0) (ltb-true 0 (occ (place 0) l) e) in
+          let late = u .late in
+          absurd (omega (arith, apart 0 (u .number) (u .there))))
+          (λ e. omega (arith, ltb-false 0 (occ (place 0) l) e))
 
-  -- it has at most n - 1 pages
-  pub later-at-most : suc (length l) ≤ n
-  later-at-most = pages-at-most n (0 ∷ l) (distinct-onto 0 l d no-first) with-first
+      with-first : 0 < n → (z : ℕ) → 0 < occ z (place 0 ∷ l) → PageOf place 0 n z
+      with-first some = onto-all (PageOf place 0 n) (place 0) l (record { number = 0; late = omega arith; early = some; there = refl })
+          (λ z i. let u = inside z i in record { number = u .number; late = omega arith; early = u .early; there = u .there })
 
-  -- Theorem: if it has n - 1 pages, it has each page but the first once
-  pub later-all : n ≤ suc (length l) → (z : ℕ) → LaterPage n z → occ z l ≡ 1
-  later-all many z page = either (ltb 0 (occ z l))
-      (λ e. omega (arith, d z, ltb-true 0 (occ z l) e))
-      (λ e.
-      let none : occ z l ≡ 0 = omega (arith, ltb-false 0 (occ z l) e) in
-      let apart : z ≡ 0 → ⊥ = λ q. omega (arith, page .0) in
-      let new : occ z (0 ∷ l) ≡ 0 = rw (ne-eqb z 0 apart) (omega arith) in
-      let few = pages-at-most n (z ∷ 0 ∷ l) (distinct-onto z (0 ∷ l) (distinct-onto 0 l d no-first) new)
-      (onto-all (InFile n) z (0 ∷ l) (page .1, page .2) with-first) in
-      absurd (omega arith))
+      -- if they differ, they are at most n - 1
+      later-at-most : 0 < n → Distinct l → suc (length l) ≤ n
+      later-at-most some d = at-most n (place 0 ∷ l) (distinct-onto (place 0) l d no-first) (with-first some)
+
+      -- Theorem: if they differ, and are n - 1, each page but the first is there once
+      pub later-all : 0 < n → Distinct l → n ≤ suc (length l) → (i : ℕ) → 0 < i → i < n → occ (place i) l ≡ 1
+      later-all some d many i late early = either (ltb 0 (occ (place i) l))
+          (λ e. omega (arith, d (place i), ltb-true 0 (occ (place i) l) e))
+          (λ e.
+          let none : occ (place i) l ≡ 0 = omega (arith, ltb-false 0 (occ (place i) l) e) in
+          let other : place i ≡ place 0 → ⊥ = λ q. let r = apart i 0 q in omega arith in
+          let new : occ (place i) (place 0 ∷ l) ≡ 0 = rw (ne-eqb (place i) (place 0) other) (omega arith) in
+          let few = at-most n (place i ∷ place 0 ∷ l) (distinct-onto (place i) (place 0 ∷ l) (distinct-onto (place 0) l d no-first) new)
+          (onto-all (PageOf place 0 n) (place i) (place 0 ∷ l) (record { number = i; late = omega arith; early = early; there = refl }) (with-first some)) in
+          absurd (omega arith))
+
+      -- and back
+      module _ (once : (i : ℕ) → 0 < i → i < n → occ (place i) l ≡ 1) where
+        pub later-distinct : Distinct l
+        later-distinct z = either (ltb 0 (occ z l))
+            (λ e.
+            let u = inside z (ltb-true 0 (occ z l) e) in
+            let same = ap (λ x. occ x l) (u .there) in
+            omega (arith, once (u .number) (u .late) (u .early)))
+            (λ e. omega (arith, ltb-false 0 (occ z l) e))
+
+        pub later-count : 0 < n → suc (length l) ≡ n
+        later-count some =
+            let most = later-at-most some later-distinct in
+            let least = at-least n l (λ i u v. omega (arith, once i u v)) in
+            omega arith
+
+-- the pages of a file by their offsets
+abbrev pub offset : ℕ → ℕ
+offset i = pageSize * i
+
+pub offset-apart : (i j : ℕ) → offset i ≡ offset j → i ≡ j
+offset-apart i j e = omega arith
+
+pub offset-page : (first n z : ℕ) → pageSize * first ≤ z → z < pageSize * n → z % pageSize ≡ 0 → PageOf offset first n z
+offset-page first n z l h w = record { number = z / pageSize; late = omega arith; early = omega arith; there = omega arith }
+
+-- Theorem: a list of different pages of a file has at most as many pages as the file, n
+pub pages-at-most : (n : ℕ) (l : List ℕ) → Distinct l → ((z : ℕ) → 0 < occ z l → (z < pageSize * n) × (z % pageSize ≡ 0)) → length l ≤ n
+pages-at-most n l d low = at-most offset n l d (λ z i. let u = low z i in offset-page 0 n z (omega arith) (u .0) (u .1))
+
+-- Theorem: a list that has every page but the first of a file of n pages has at least n - 1 pages
+pub pages-at-least : (n : ℕ) (l : List ℕ) → ((z : ℕ) → 0 < z → z < pageSize * n → z % pageSize ≡ 0 → 0 < occ z l) → n ≤ suc (length l)
+pages-at-least n l all = at-least offset offset-apart n l (λ i u v. all (offset i) (omega arith) (omega arith) (omega arith))
 
 -- if each entry has at most c pages for each of its leaf pairs, so have all entries together
 entries-count : {A B : Type 0} (c : ℕ) (S : A → Type 0) (f : A → List ℕ) (g : A → List B) →

@@ -1,4 +1,5 @@
 //! Documents 01 and 02 in plain Rust, written from the papers and sharing nothing with the proved library: what that is compared with.
+pub mod ndx;
 
 /// A refusal's number.
 pub type Refusal = u32;
@@ -804,7 +805,7 @@ pub fn lookup(b: &[u8], key: &[u8]) -> Looked {
         }
         p = page.number(i);
     }
-    unreachable!("the 11th page is a leaf")
+    unreachable!("the last page is a leaf")
 }
 
 pub fn fresh(b: &mut [u8], k: u32, expression: &[u8]) -> Result<(), Refusal> {

@@ -327,7 +327,7 @@ fn all_keys_above(b: &[u8]) -> (usize, Vec<Above>) {
 }
 
 /// The key one above, or one below, as numbers of k bytes; none past the ends.
-fn neighbour(key: &[u8], up: bool) -> Option<Vec<u8>> {
+pub fn neighbour(key: &[u8], up: bool) -> Option<Vec<u8>> {
     let (end, start) = if up { (0xFF, 0) } else { (0, 0xFF) };
     let mut key = key.to_vec();
     let i = key.iter().rposition(|&c| c != end)?;
@@ -337,7 +337,7 @@ fn neighbour(key: &[u8], up: bool) -> Option<Vec<u8>> {
 }
 
 /// A key at or above `low` and below `high`, if there is one, at either end or between.
-fn within(r: &mut Random, low: &[u8], high: Option<&[u8]>) -> Vec<u8> {
+pub fn within(r: &mut Random, low: &[u8], high: Option<&[u8]>) -> Vec<u8> {
     let key = match r.below(4) {
         0 => neighbour(low, true),
         1 => {

@@ -1,7 +1,9 @@
 //! The cases that have a limit.
 use crate::inputs;
 use crate::measure::Case;
-use gatherloom::{read_number, write_number, Decimal, Dilution, Index, Lookup, Refusal, Table};
+use gatherloom::{
+    read_number, write_number, Answer, Decimal, Dilution, Index, Lookup, NdxIndex, Refusal, Table,
+};
 use gatherloom_compare::generate::index::Entry;
 use gatherloom_compare::random::Random;
 use gatherloom_compare::reference;
@@ -13,6 +15,7 @@ const APPEND: f64 = 1.1;
 const WHOLE_INDEX: f64 = 3.0;
 const REMOVAL: f64 = 1.1;
 const LARGEST: f64 = 1.1;
+const NDX: f64 = 1.1;
 
 const AUDIT: &str = "audit";
 
@@ -30,6 +33,8 @@ pub fn run(word: &str) -> usize {
         insertions,
         removals,
         matches,
+        ndx_lookups,
+        ndx_audits,
         dilutions,
     ];
     for group in groups {
@@ -286,6 +291,23 @@ fn picked(r: &mut Random, entries: &[Entry]) -> Vec<Vec<u8>> {
         .collect()
 }
 
+/// What a lookup adds to a sum, both ways.
+fn looked(answer: Answer<Lookup>) -> u64 {
+    match answer {
+        Ok(Lookup::Found { record, pages }) => record as u64 + pages as u64,
+        Ok(Lookup::Absent { pages }) => pages as u64,
+        Err(_) => 1000,
+    }
+}
+
+fn looked_plainly(answer: reference::Looked) -> u64 {
+    match answer {
+        reference::Looked::Found(record, pages) => record as u64 + pages as u64,
+        reference::Looked::Absent(pages) => pages as u64,
+        reference::Looked::Refused(_) => 1000,
+    }
+}
+
 fn lookups(word: &str) -> usize {
     let mut r = Random::new(3);
     let mut over = 0;
@@ -303,20 +325,14 @@ fn lookups(word: &str) -> usize {
                 library: Box::new(|| {
                     let looks = keys
                         .iter()
-                        .map(|key| match Index::over(&index).lookup(key) {
-                            Ok(Lookup::Found { record, pages }) => record as u64 + pages as u64,
-                            Ok(Lookup::Absent { pages }) => pages as u64,
-                            Err(_) => 1000,
-                        });
+                        .map(|key| looked(Index::over(&index).lookup(key)));
                     looks.sum()
                 }),
                 plain: Box::new(|| {
-                    let looks = keys.iter().map(|key| match reference::lookup(&index, key) {
-                        reference::Looked::Found(record, pages) => record as u64 + pages as u64,
-                        reference::Looked::Absent(pages) => pages as u64,
-                        reference::Looked::Refused(_) => 1000,
-                    });
-                    looks.sum()
+                    let looks = keys.iter();
+                    looks
+                        .map(|key| looked_plainly(reference::lookup(&index, key)))
+                        .sum()
                 }),
             };
             over += show(word, case, false);
@@ -432,6 +448,78 @@ fn matches(word: &str) -> usize {
         plain: Box::new(|| reference::match_index(&table, &index, 1).is_ok() as u64),
     };
     show(word, case, false)
+}
+
+/// NDX indexes by their size, key length and keys per page: small ones, the largest, and one of 15 levels.
+fn ndx_indexes(r: &mut Random) -> Vec<(String, Vec<u8>, Vec<Entry>)> {
+    let mut made = Vec::new();
+    for pages in [1, 40, 32_767] {
+        for k in [4, 10, 100] {
+            let (index, entries) = inputs::ndx(r, k, pages);
+            let size = match index.len() / 512 {
+                n @ ..=100 => format!("{n} pages"),
+                _ => "16 MiB".to_string(),
+            };
+            made.push((named(&size, k, 0), index, entries));
+        }
+    }
+    let (index, entries) = inputs::deepest_ndx(r);
+    made.push((
+        "16 MiB index of 15 levels, k = 5".to_string(),
+        index,
+        entries,
+    ));
+    made
+}
+
+fn ndx_lookups(word: &str) -> usize {
+    let mut r = Random::new(11);
+    let mut over = 0;
+    for (name, index, entries) in ndx_indexes(&mut r) {
+        let hits = picked(&mut r, &entries);
+        let misses = inputs::absent(&hits, &entries);
+        for (what, keys) in [("hit", &hits), ("miss", &misses)] {
+            let case = Case {
+                call: "NDX lookup",
+                input: format!("{what}, {name}"),
+                calls: keys.len(),
+                limit: NDX,
+                prepare: Box::new(|| ()),
+                library: Box::new(|| {
+                    let looks = keys.iter();
+                    looks
+                        .map(|key| looked(NdxIndex::over(&index).lookup(key)))
+                        .sum()
+                }),
+                plain: Box::new(|| {
+                    let looks = keys.iter();
+                    looks
+                        .map(|key| looked_plainly(reference::ndx::lookup(&index, key)))
+                        .sum()
+                }),
+            };
+            over += show(word, case, false);
+        }
+    }
+    over
+}
+
+fn ndx_audits(word: &str) -> usize {
+    let mut r = Random::new(12);
+    let mut over = 0;
+    for (name, index, _) in ndx_indexes(&mut r) {
+        let case = Case {
+            call: "NDX audit",
+            input: name,
+            calls: 1,
+            limit: NDX,
+            prepare: Box::new(|| ()),
+            library: Box::new(|| NdxIndex::over(&index).audit().is_ok() as u64),
+            plain: Box::new(|| reference::ndx::audit(&index).is_ok() as u64),
+        };
+        over += show(word, case, false);
+    }
+    over
 }
 
 /// One barcode of a table that fills a file of the program `dilute`. The match takes nearly all the time: the record is found by the index.

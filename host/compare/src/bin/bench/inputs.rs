@@ -1,6 +1,7 @@
 //! The benchmark's inputs.
 use gatherloom_compare::generate::{
     index::{self, Entry, Fill},
+    ndx::{self, Form, Shape},
     table::{self, Column},
 };
 use gatherloom_compare::random::Random;
@@ -81,6 +82,31 @@ pub fn index(
         e.0.splice(0..0, std::iter::repeat_n(b'S', alike));
     }
     let bytes = index::tree(r, k, &entries, Fill::Exactly(per_page), 1);
+    (bytes, entries)
+}
+
+/// An NDX index of about so many full pages besides the header, its keys random and without control bytes. A full page of n keys stands over n + 1 others.
+pub fn ndx(r: &mut Random, k: usize, pages: usize) -> (Vec<u8>, Vec<Entry>) {
+    let form = Form::full(k);
+    let leaves = (pages * form.most).div_ceil(form.most + 1);
+    filled(r, form, leaves * form.most * 127 / 128)
+}
+
+/// An NDX index of 15 levels of one key a page, which fill 16 MiB.
+pub fn deepest_ndx(r: &mut Random) -> (Vec<u8>, Vec<Entry>) {
+    filled(r, Form { k: 5, most: 1 }, 16_500)
+}
+
+fn filled(r: &mut Random, form: Form, draws: usize) -> (Vec<u8>, Vec<Entry>) {
+    let entries = index::entries(r, form.k, draws, 4);
+    let shape = Shape {
+        full: true,
+        raised: false,
+        scattered: true,
+    };
+    let (bytes, entries) = ndx::tree(r, form, &entries, shape);
+    let (bytes, entries) = (bytes, entries.to_vec());
+    assert_eq!(reference::ndx::audit(&bytes), Ok(()));
     (bytes, entries)
 }
 

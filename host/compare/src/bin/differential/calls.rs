@@ -385,13 +385,42 @@ pub fn fresh(tally: &mut Tally, index: &Lent, own: &mut [u8], k: u32, expression
     );
 }
 
+/// The calls that both formats of an index have, both ways.
+pub struct Format {
+    audit: Call,
+    lookup: Call,
+    library_audit: unsafe extern "C" fn(*const u8, usize) -> u32,
+    library_lookup:
+        unsafe extern "C" fn(*const u8, usize, *const u8, usize, *mut u32, *mut u32) -> u32,
+    plain_audit: fn(&[u8]) -> Result<(), Refusal>,
+    plain_lookup: fn(&[u8], &[u8]) -> Looked,
+}
+
+pub const IDX: Format = Format {
+    audit: Call::IndexAudit,
+    lookup: Call::IndexLookup,
+    library_audit: ffi::gl_index_audit,
+    library_lookup: ffi::gl_index_lookup,
+    plain_audit: reference::audit,
+    plain_lookup: reference::lookup,
+};
+
+pub const NDX: Format = Format {
+    audit: Call::NdxAudit,
+    lookup: Call::NdxLookup,
+    library_audit: ffi::gl_ndx_audit,
+    library_lookup: ffi::gl_ndx_lookup,
+    plain_audit: reference::ndx::audit,
+    plain_lookup: reference::ndx::lookup,
+};
+
 /// `own` holds what the lent buffer does.
-pub fn audit(tally: &mut Tally, index: &Lent, own: &[u8]) -> u32 {
-    let got = unsafe { ffi::gl_index_audit(index.place(), index.length()) };
-    let due = number_of(reference::audit(own));
+pub fn audit(tally: &mut Tally, format: &Format, index: &Lent, own: &[u8]) -> u32 {
+    let got = unsafe { (format.library_audit)(index.place(), index.length()) };
+    let due = number_of((format.plain_audit)(own));
     let inputs = [Bytes("index", own)];
     tally.hold(
-        Call::IndexAudit,
+        format.audit,
         (got, ()),
         (due, ()),
         index.holds(own),
@@ -400,10 +429,10 @@ pub fn audit(tally: &mut Tally, index: &Lent, own: &[u8]) -> u32 {
     due
 }
 
-pub fn lookup(tally: &mut Tally, index: &Lent, own: &[u8], key: &Lent, held: u32) {
+pub fn lookup(tally: &mut Tally, format: &Format, index: &Lent, own: &[u8], key: &Lent, held: u32) {
     let (mut record, mut pages) = (Out::new(held), Out::new(held));
     let got = unsafe {
-        ffi::gl_index_lookup(
+        (format.library_lookup)(
             index.place(),
             index.length(),
             key.place(),
@@ -412,13 +441,13 @@ pub fn lookup(tally: &mut Tally, index: &Lent, own: &[u8], key: &Lent, held: u32
             pages.place(),
         )
     };
-    let due = match reference::lookup(own, key.was()) {
+    let due = match (format.plain_lookup)(own, key.was()) {
         Looked::Found(record, pages) => (0, (record, pages)),
         Looked::Absent(pages) => (ABSENT, (held, pages)),
         Looked::Refused(number) => (number, (held, held)),
     };
     tally.hold(
-        Call::IndexLookup,
+        format.lookup,
         (got, (record.value(), pages.value())),
         due,
         index.holds(own) && key.kept() && record.intact() && pages.intact(),

@@ -2,6 +2,7 @@
 //!
 //!     cargo run --release --bin differential -- [--seconds N] [--seed S] [--round R]
 mod calls;
+mod ndx;
 mod rounds;
 mod tally;
 

@@ -1,5 +1,6 @@
 //! The inputs of a round, and the calls made on them.
 use crate::calls;
+use crate::ndx;
 use crate::tally::Tally;
 use gatherloom_compare::generate::{
     index::{self, Entry, Fill},
@@ -9,14 +10,14 @@ use gatherloom_compare::lent::{Arena, Lent};
 use gatherloom_compare::random::Random;
 use gatherloom_compare::reference;
 
-const MOST: usize = 16_777_216;
+pub const MOST: usize = 16_777_216;
 
 /// Room for what a call is lent, each part watched for itself.
 pub struct Arenas {
     table: Arena,
     memo: Arena,
-    index: Arena,
-    key: Arena,
+    pub index: Arena,
+    pub key: Arena,
     text: Arena,
     list: Arena,
     record: Arena,
@@ -51,6 +52,7 @@ pub fn round(r: &mut Random, a: &mut Arenas, tally: &mut Tally) {
     grown_index(r, a, tally);
     mixed_list(r, a, tally);
     made_index(r, a, tally);
+    ndx::round(r, a, tally);
     for _ in 0..4 {
         a_match(r, a, tally);
         a_sheet(r, a, tally);
@@ -319,7 +321,7 @@ fn longest_append(r: &mut Random, a: &mut Arenas, tally: &mut Tally) {
 
 // ---- the index
 
-fn key_length(r: &mut Random) -> usize {
+pub fn key_length(r: &mut Random) -> usize {
     match r.below(8) {
         0 => r.between(1, 100),
         _ => r.pick(&[1, 2, 8, 10, 46, 100]),
@@ -352,7 +354,7 @@ fn fresh_calls(r: &mut Random, a: &mut Arenas, tally: &mut Tally) {
 }
 
 /// A key that is in the index, or near one that is, or any; now and then of a wrong length.
-fn probe(r: &mut Random, k: usize, entries: &[Entry], style: usize) -> Vec<u8> {
+pub fn probe(r: &mut Random, k: usize, entries: &[Entry], style: usize) -> Vec<u8> {
     let mut key = if entries.is_empty() || r.one_in(4) {
         index::key(r, k, style)
     } else {
@@ -386,7 +388,7 @@ fn offered(r: &mut Random, mut key: Vec<u8>) -> Vec<u8> {
 
 fn looks(r: &mut Random, key: &mut Arena, tally: &mut Tally, index: &Lent, own: &[u8], k: &[u8]) {
     let lent = key.lend(k, r.one_in(2));
-    calls::lookup(tally, index, own, &lent, r.word());
+    calls::lookup(tally, &calls::IDX, index, own, &lent, r.word());
 }
 
 /// An index grown from fresh by insertions, every one of them compared byte by byte.
@@ -428,7 +430,7 @@ fn grown_index(r: &mut Random, a: &mut Arenas, tally: &mut Tally) {
             looks(r, &mut a.key, tally, &lent, &own, &key);
         }
     }
-    calls::audit(tally, &lent, &own);
+    calls::audit(tally, &calls::IDX, &lent, &own);
 }
 
 /// Insertions, removals and lookups mixed in one list, every one of them compared byte by byte. The index grows and shrinks by turns, down to nothing.
@@ -475,7 +477,7 @@ fn mixed_list(r: &mut Random, a: &mut Arenas, tally: &mut Tally) {
             calls::remove(tally, &lent, &mut own, &mut before, &key);
         }
         if r.one_in(32) {
-            calls::audit(tally, &lent, &own);
+            calls::audit(tally, &calls::IDX, &lent, &own);
         }
     }
 }
@@ -503,7 +505,7 @@ fn use_index(
 ) {
     let k = entries.first().map_or(1, |e| e.0.len());
     let lent = a.index.lend(bytes, r.one_in(2));
-    calls::audit(tally, &lent, bytes);
+    calls::audit(tally, &calls::IDX, &lent, bytes);
     for _ in 0..6 {
         let key = probe(r, k, entries, style);
         looks(r, &mut a.key, tally, &lent, bytes, &key);
@@ -589,7 +591,7 @@ fn spine(r: &mut Random, a: &mut Arenas, tally: &mut Tally) {
     let lent = a.index.lend(&bytes, r.one_in(2));
     let mut own = bytes.clone();
     let mut before = Vec::new();
-    calls::audit(tally, &lent, &bytes);
+    calls::audit(tally, &calls::IDX, &lent, &bytes);
     for record in 1..4 {
         let mut key = key.clone();
         if record > 1 {
@@ -599,7 +601,7 @@ fn spine(r: &mut Random, a: &mut Arenas, tally: &mut Tally) {
         let key = a.key.lend(&key, r.one_in(2));
         calls::insert(tally, &lent, &mut own, &mut before, &key, record);
     }
-    calls::audit(tally, &lent, &own);
+    calls::audit(tally, &calls::IDX, &lent, &own);
 }
 
 /// An index of up to 1 MiB, or of up to 16 MiB: of as many pages as may be or one or two less, some of them free, and a damaged copy.

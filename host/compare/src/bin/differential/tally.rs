@@ -23,11 +23,13 @@ pub enum Call {
     IndexInsert,
     IndexRemove,
     Match,
+    NdxAudit,
+    NdxLookup,
     Dilute,
 }
 
 /// Each call's name and every answer that the documents let it give.
-const CALLS: [(&str, &[u32]); 21] = [
+const CALLS: [(&str, &[u32]); 23] = [
     ("gl_table_check", &[0, 1, 2, 3, 4, 5, 6, 7, 8, 9, 10]),
     ("gl_table_shape", &[0, 1, 2, 3, 4, 5, 6, 7, 8, 9, 10]),
     ("gl_fields", &[0, 1, 2, 3, 4, 5, 6, 7, 8, 9, 10, 14]),
@@ -70,6 +72,8 @@ const CALLS: [(&str, &[u32]); 21] = [
         "gl_match",
         &[0, 1, 2, 3, 4, 5, 6, 7, 8, 9, 10, 12, 13, 24, 25, 27, 31],
     ),
+    ("gl_ndx_audit", &[0, 24, 25]),
+    ("gl_ndx_lookup", &[0, 24, 25, 27, 257]),
     (
         "gl_dilute",
         &[
