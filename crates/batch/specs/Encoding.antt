@@ -1,6 +1,7 @@
 -- Rules: a list of calls as bytes, so that code can be lent one. A call is its kind, 0 for a lookup, 1 for an insertion and 2 for a removal, the length of its
 -- key in two bytes, the key, and for an insertion its record number in four bytes. Numbers are least significant byte first. The list ends where no
 -- whole call stands.
+use mathlib.Core.Path.{_≡_}
 use Prim.Native.Nat.{ℕ, zero, suc, _+_, _*_, _%_, _^_, _<_}
 use mathlib.Core.Bool.{Bool, true, false, cond, _&&_}
 use mathlib.Core.List.{List, [], _∷_, _++_}
@@ -29,7 +30,7 @@ isCall s at = leb (at + 3) (length s) && (leb (byteAt s at) 2 && leb (callEnd s 
 unfoldable pub callAt : List ℕ → ℕ → Call (List ℕ)
 callAt s at =
     let key = keyIn s at in
-    cond (eqb (byteAt s at) 0) (lookupOf key) (cond (eqb (byteAt s at) 2) (removalOf key) (insertion key (le32 s (keyEnd s at))))
+    cond (eqb (byteAt s at) 0) (lookupOf key) (cond (eqb (byteAt s at) 2) (removalOf key 0) (insertion key (le32 s (keyEnd s at))))
 
 -- the calls from an offset on, at most as many as the first argument says
 unfoldable pub callsFrom : ℕ → List ℕ → ℕ → Calls
@@ -47,14 +48,14 @@ framed kind key number = kind ∷ (toLe16 (length key) ++ (key ++ number))
 abbrev pub callBytes : Call (List ℕ) → List ℕ
 callBytes (lookupOf key) = framed 0 key []
 callBytes (insertion key r) = framed 1 key (toLe32 r)
-callBytes (removalOf key) = framed 2 key []
+callBytes (removalOf key r) = framed 2 key []
 
 abbrev pub listBytes : Calls → List ℕ
 listBytes [] = []
 listBytes (c ∷ calls) = callBytes c ++ listBytes calls
 
--- a call that can be given as bytes: its key is shorter than 65,536 bytes, and its record number fits four bytes
+-- a call that can be given as bytes: its key is shorter than 65,536 bytes, and its record number fits four bytes; a removal names record number 0
 abbrev pub Encodable : Call (List ℕ) → Type 0
 Encodable (lookupOf key) = length key < 2 ^ 16
 Encodable (insertion key r) = (length key < 2 ^ 16) × (r < 2 ^ 32)
-Encodable (removalOf key) = length key < 2 ^ 16
+Encodable (removalOf key r) = (length key < 2 ^ 16) × (r ≡ 0)

@@ -45,7 +45,7 @@ module _ (s : List ℕ) (at : ℕ) where
   unfolding callAt
   lookup-there e = rw (e)
 
-  pub removal-there : byteAt s at ≡ 2 → callAt s at ≡ removalOf (keyIn s at)
+  pub removal-there : byteAt s at ≡ 2 → callAt s at ≡ removalOf (keyIn s at) 0
   unfolding callAt
   removal-there e = rw (e)
 

@@ -1,7 +1,7 @@
 -- Laws: a list of calls is read back from its bytes, so every list with keys shorter than 65,536 bytes can be run; and the bound in `callsIn` never cuts a
 -- list short. Assumes nothing.
 use Prim.Native.Nat.{ℕ, zero, suc, _+_, _*_, _/_, _%_, _^_, _≤_, _<_}
-use mathlib.Core.Path.{_≡_, refl, sym, ap, _∙_}
+use mathlib.Core.Path.{_≡_, refl, sym, ap, subst, _∙_}
 use mathlib.Core.Bool.{true}
 use mathlib.Core.List.{List, [], _∷_, _++_, append-assoc}
 use native.Mathlib.Omega.{arith}
@@ -89,7 +89,7 @@ module _ (pre key post : List ℕ) (short : length key < 2 ^ 16) where
         next = omega arith;
       }
 
-  removal-back : There (pre ++ (framed 2 key [] ++ post)) (length pre) (removalOf key) (length (framed 2 key []))
+  removal-back : There (pre ++ (framed 2 key [] ++ post)) (length pre) (removalOf key 0) (length (framed 2 key []))
   removal-back =
       let s = pre ++ (framed 2 key [] ++ post) in
       let a = byte-there pre 2 key [] post short in
@@ -98,7 +98,7 @@ module _ (pre key post : List ℕ) (short : length key < 2 ^ 16) where
       let n = framed-length 2 key [] in
       record {
         whole-call = is-whole s (length pre) (omega arith) (omega arith) (omega arith);
-        same-call = removal-there s (length pre) a ∙ ap removalOf (key-there pre 2 key [] post short);
+        same-call = removal-there s (length pre) a ∙ ap (λ (l : List ℕ). removalOf l 0) (key-there pre 2 key [] post short);
         next = omega arith;
       }
 
@@ -128,7 +128,8 @@ module _ (pre key post : List ℕ) (short : length key < 2 ^ 16) where
 there : (pre : List ℕ) (c : Call (List ℕ)) (post : List ℕ) → Encodable c → There (pre ++ (callBytes c ++ post)) (length pre) c (length (callBytes c))
 there pre (lookupOf key) post short = lookup-back pre key post short
 there pre (insertion key r) post e = insertion-back pre key post (e .0) r (e .1)
-there pre (removalOf key) post short = removal-back pre key post short
+there pre (removalOf key r) post e = subst (λ q. There (pre ++ (framed 2 key [] ++ post)) (length pre) (removalOf key q) (length (framed 2 key []))) (sym (e .1))
+    (removal-back pre key post (e .0))
 
 -- a list of calls behind other bytes
 list-back : (calls : Calls) → All Encodable calls → (pre : List ℕ) (f : ℕ) → length calls ≤ f → callsFrom f (pre ++ listBytes calls) (length pre) ≡ calls
@@ -146,7 +147,7 @@ list-back (c ∷ calls) a pre (suc f) h =
 call-long : (c : Call (List ℕ)) → 1 ≤ length (callBytes c)
 call-long (lookupOf key) = omega arith
 call-long (insertion key r) = omega arith
-call-long (removalOf key) = omega arith
+call-long (removalOf key r) = omega arith
 
 list-long : (calls : Calls) → length calls ≤ length (listBytes calls)
 list-long [] = omega arith

@@ -33,7 +33,7 @@ recordIn absent = 0
 -- how many pages a lookup visited; 0 for another call and a refused lookup
 abbrev pub pagesTo : Call (List ℕ) → List ℕ → ℕ
 pagesTo (insertion key r) b = 0
-pagesTo (removalOf key) b = 0
+pagesTo (removalOf key r) b = 0
 pagesTo (lookupOf key) b = answerPages (lookupRule b key) 0
 
 -- an answer as it is written: its code, its record and its pages, each in four bytes, least significant first

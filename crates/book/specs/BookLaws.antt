@@ -12,6 +12,7 @@ use Rattle.basis.specs.Tests.{contra}
 use Rattle.tree.specs.Book.{Call, isAccepted, noRooms, finalOf, bookFinal, BookClaim}
 use Rattle.tree.specs.BookTheorem.{list-keeps, book-claim}
 use Rattle.tree.specs.Index.{held}
+use Rattle.tree.specs.Keeping.{distinctKeys}
 use Rattle.page.specs.Header.{minBytes, keyLength, keyLengthGood, headerGood}
 use Rattle.page.specs.HeaderLaws.{good-header}
 use Rattle.page.specs.KeyOrder.{bytesOrder}
@@ -30,8 +31,8 @@ use Rattle.book.specs.CallLaws.{Kept, readIndex, read-is, keeping, kept-
 
 -- the book after the first n calls needs the answers to these calls alone
 book-take : (k n : ℕ) (calls : Calls) (b : List ℕ) (book : Pairs)
-    → bookFinal bytesOrder (barcodes k) (take n calls) (noRooms (answersTo (take n calls) b)) book
-    ≡ bookFinal bytesOrder (barcodes k) (take n calls) (noRooms (answersTo calls b)) book
+    → bookFinal (distinctKeys bytesOrder) (barcodes k) (take n calls) (noRooms (answersTo (take n calls) b)) book
+    ≡ bookFinal (distinctKeys bytesOrder) (barcodes k) (take n calls) (noRooms (answersTo calls b)) book
 book-take k zero calls b book = refl
 book-take k (suc n) [] b book = refl
 book-take k (suc n) (c ∷ calls) b book = book-take k n calls (bufferAfter c b) _
@@ -49,7 +50,7 @@ module _ (k size : ℕ) (two : 1 < capacity k) where
 
   -- the theory's theorem, with buffers for states
   claim : (calls : Calls) → All FourBytes calls → (b : List ℕ) → Kept k size b
-      → BookClaim bytesOrder (barcodes k) answerTo bufferAfter (λ b. held (readIndex b)) noRoomFor calls b (held (readIndex b))
+      → BookClaim (distinctKeys bytesOrder) (barcodes k) answerTo bufferAfter (λ b. held (readIndex b)) noRoomFor calls b (held (readIndex b))
   claim = book-claim (keeping k size) two (barcodes k) readIndex answerTo bufferAfter noRoomFor (Kept k size) FourBytes
       (λ b i. kept-sound k size b i) (λ c b o i. keeps k size b i c o) (λ c b o i. same-answer k size b i c o)
       (λ c b o i. same-next k size b i c o) (λ c b o i. same-rule k size b i c)
@@ -71,7 +72,7 @@ module _ (k size : ℕ) (two : 1 < capacity k) where
             let o′ = all-take FourBytes n calls o in
             let after : Kept k size (bufferAt n calls b) = keeps-all first o′ b kept in
             let book : Pairs = leafPairs b (kept .sound) in
-            let c : held (readIndex (bufferAt n calls b)) ≡ bookFinal bytesOrder (barcodes k) (take n calls) (noRooms (answersTo (take n calls) b)) book =
+            let c : held (readIndex (bufferAt n calls b)) ≡ bookFinal (distinctKeys bytesOrder) (barcodes k) (take n calls) (noRooms (answersTo (take n calls) b)) book =
             rw own at (claim first o′ b kept .pairs) in
             record {
               sound = after .sound;

@@ -19,7 +19,8 @@ use Rattle.tree.specs.IndexPages.{free-distinct, noPage-unused}
 use Rattle.tree.specs.Lists.{occ}
 use Rattle.tree.specs.PageCount.{pages-at-most}
 use Rattle.tree.specs.Pairs.{find, byKey, has, present}
-use Rattle.tree.specs.PairLaws.{present-has}
+use Rattle.tree.specs.Keeping.{distinctKeys}
+use Rattle.tree.specs.KeepingLaws.{present-has}
 use Rattle.tree.specs.SoundIndex.{SoundIndex}
 use Rattle.tree.specs.Tree.{lookup, visited}
 use Rattle.page.specs.Header.{maxBytes, pageSize, noPage, freePointer, fileSize, keyLength, headerGood}
@@ -191,7 +192,7 @@ unfolding insertRule refusals removeRule strikings
 leaves-buffer (insertion key r) b =
     refusals-after b (insertedBuffer (keyLength b) b key r) (headerGood b) (eqb (length key) (keyLength b)) (hasControl key) (eqb r 0)
     (pagesGood b) (pathTo (keyLength b) b key r .present) (noRoom b (pathTo (keyLength b) b key r))
-leaves-buffer (removalOf key) b =
+leaves-buffer (removalOf key r) b =
     strikings-after b (removedBuffer (keyLength b) b key) (headerGood b) (eqb (length key) (keyLength b)) (pagesGood b)
     (isFound (lookupRule b key))
 leaves-buffer (lookupOf key) b = tt
@@ -225,12 +226,17 @@ found-present key n (x ∷ es) = either (bytesLe key (x .0))
     (λ t. either (bytesLe (x .0) key) (λ u. rw (t, u)) (λ u. rw (t, u)))
     (λ t. rw t (found-present key n es))
 
+-- for features 1 a list has a pair if it has its key, whatever record number is named
+has-any : (key : List ℕ) (q r : ℕ) (es : List (List ℕ × ℕ)) → has (byKey bytesOrder) (key, q) es ≡ has (byKey bytesOrder) (key, r) es
+has-any key q r [] = refl
+has-any key q r (x ∷ es) = rw (has-any key q r es)
+
 -- lookup finds a key of k bytes in a sound index if the leaves' pairs have it, and only then
 pub found-has : (b key : List ℕ) (s : Sound b) → length key ≡ keyLength b → isFound (lookupRule b key) ≡ has (byKey bytesOrder) (key, 0) (leafPairs b s)
 found-has b key s long =
     ap isFound (lookup-list b key s long)
     ∙ found-present key _ (leafPairs b s)
-    ∙ present-has bytesOrder (key, 0) (leafPairs b s) (s .ascending)
+    ∙ present-has (distinctKeys bytesOrder) (key, 0) (leafPairs b s) (s .ascending)
 
 module _ (k size : ℕ) (b : List ℕ) (kept : Kept k size b) where
   abbrev s : Sound b
@@ -269,7 +275,7 @@ module _ (k size : ℕ) (b : List ℕ) (kept : Kept k size b) where
   -- Theorem: a lookup that finds its key has visited as many pages as the index has levels
   pub visits-levels : (c : Call (List ℕ)) → VisitsLevels c b
   visits-levels (insertion key r) = tt
-  visits-levels (removalOf key) = tt
+  visits-levels (removalOf key r) = tt
   visits-levels (lookupOf key) = λ s′ r pages e. either (fits k key)
       (λ f.
       let long = eqb-true (length key) (keyLength b) (same-fit key ∙ f) in
@@ -296,26 +302,27 @@ module _ (k size : ℕ) (b : List ℕ) (kept : Kept k size b) where
       ∙ rw (same-fit key, same-room key r, same-present key r))
 
   -- removal
-  same-there : (key : List ℕ) → fits k key ≡ true → isFound (lookupRule b key) ≡ has (byKey bytesOrder) (key, 0) (held (readIndex b))
-  same-there key f =
+  same-there : (key : List ℕ) (r : ℕ) → fits k key ≡ true → isFound (lookupRule b key) ≡ has (byKey bytesOrder) (key, r) (held (readIndex b))
+  same-there key r f =
       found-has b key s (eqb-true (length key) (keyLength b) (same-fit key ∙ f))
       ∙ ap (λ (i : Index (List ℕ)). has (byKey bytesOrder) (key, 0) (held i)) (sym same-index)
+      ∙ has-any key 0 r (held (readIndex b))
 
-  remove-answers : (key : List ℕ) → answerTo (removalOf key) b ≡ answer (keeping k size) (barcodes k) (removalOf key) (readIndex b)
-  remove-answers key =
+  remove-answers : (key : List ℕ) (r : ℕ) → answerTo (removalOf key r) b ≡ answer (keeping k size) (barcodes k) (removalOf key r) (readIndex b)
+  remove-answers key r =
       rw (remove-strikings b key, s .header, audit-accepts b (s .header) .1 s)
       (strikings-answer b (removedBuffer (keyLength b) b key) (eqb (length key) (keyLength b)) (isFound (lookupRule b key))
-      ∙ either (fits k key) (λ f. rw (same-fit key, f, same-there key f)) (λ f. rw (same-fit key, f)))
+      ∙ either (fits k key) (λ f. rw (same-fit key, f, same-there key r f)) (λ f. rw (same-fit key, f)))
 
   -- Theorem: each call answers as the theory's call does, and is 30 by the theory's rule
   pub same-answer : (c : Call (List ℕ)) → FourBytes c → answerTo c b ≡ answer (keeping k size) (barcodes k) c (readIndex b)
   same-answer (insertion key r) o = insert-answers key r
-  same-answer (removalOf key) o = remove-answers key
+  same-answer (removalOf key r) o = remove-answers key r
   same-answer (lookupOf key) o = lookup-answers key
 
   pub same-rule : (c : Call (List ℕ)) → noRoomFor c b ≡ noRoomTo (keeping k size) c (readIndex b)
   same-rule (insertion key r) = same-room key r
-  same-rule (removalOf key) = refl
+  same-rule (removalOf key r) = refl
   same-rule (lookupOf key) = refl
 
   -- a refused insertion
@@ -357,45 +364,45 @@ module _ (k size : ℕ) (b : List ℕ) (kept : Kept k size b) where
         ∙ ap (inserted (keeping k size) (key, r)) (sym same-index)
 
   -- a refused removal
-  stays-struck : (key : List ℕ) → isAccepted (answerTo (removalOf key) b) ≡ false → bufferAfter (removalOf key) b ≡ b
-  stays-struck key e = leaves-buffer (removalOf key) b ∙ rw e
+  stays-struck : (key : List ℕ) (r : ℕ) → isAccepted (answerTo (removalOf key r) b) ≡ false → bufferAfter (removalOf key r) b ≡ b
+  stays-struck key r e = leaves-buffer (removalOf key r) b ∙ rw e
 
   -- an accepted removal
-  module _ (key : List ℕ) (e : isAccepted (answerTo (removalOf key) b) ≡ true) where
-    struck-tests : (fits k key ≡ true) × (has (byKey bytesOrder) (key, 0) (held (readIndex b)) ≡ true)
-    struck-tests = accepted-striking (fits k key) (has (byKey bytesOrder) (key, 0) (held (readIndex b))) (ap isAccepted (sym (remove-answers key)) ∙ e)
+  module _ (key : List ℕ) (r : ℕ) (e : isAccepted (answerTo (removalOf key r) b) ≡ true) where
+    struck-tests : (fits k key ≡ true) × (has (byKey bytesOrder) (key, r) (held (readIndex b)) ≡ true)
+    struck-tests = accepted-striking (fits k key) (has (byKey bytesOrder) (key, r) (held (readIndex b))) (ap isAccepted (sym (remove-answers key r)) ∙ e)
 
     strikes : Strikes b key
     strikes = record {
       sound = s;
       plain = kept .plain;
-      there = ap (λ (i : Index (List ℕ)). has (byKey bytesOrder) (key, 0) (held i)) (sym same-index) ∙ struck-tests .1;
+      there = ap (λ (i : Index (List ℕ)). has (byKey bytesOrder) (key, 0) (held i)) (sym same-index) ∙ has-any key 0 r (held (readIndex b)) ∙ struck-tests .1;
     }
 
-    after-struck : bufferAfter (removalOf key) b ≡ removedBuffer (keyLength b) b key
-    after-struck = leaves-buffer (removalOf key) b ∙ rw e
+    after-struck : bufferAfter (removalOf key r) b ≡ removedBuffer (keyLength b) b key
+    after-struck = leaves-buffer (removalOf key r) b ∙ rw e
 
     kept-removed : Kept k size (removedBuffer (keyLength b) b key)
     kept-removed =
         let i = remove-keeps-sound b key strikes in
         record { sound = i .sound; keyIs = i .keyIs ∙ kept .keyIs; as-long = i .as-long ∙ kept .as-long; plain = i .plain }
 
-    next-removed : readIndex (removedBuffer (keyLength b) b key) ≡ removed (keeping k size) key (readIndex b)
+    next-removed : readIndex (removedBuffer (keyLength b) b key) ≡ removed (keeping k size) (key, r) (readIndex b)
     unfolding strikes
     next-removed =
         let i = remove-keeps-sound b key strikes in
         read-is (removedBuffer (keyLength b) b key) (i .sound) ∙ i .index (min size maxBytes)
-        ∙ ap (λ (n : ℕ). removed (settingOf n (min size maxBytes)) key (indexOf b (s .height) (s .free))) (kept .keyIs)
-        ∙ ap (removed (keeping k size) key) (sym same-index)
+        ∙ ap (λ (n : ℕ). removed (settingOf n (min size maxBytes)) (key, r) (indexOf b (s .height) (s .free))) (kept .keyIs)
+        ∙ ap (removed (keeping k size) (key, r)) (sym same-index)
 
   -- Theorem: each call keeps what `Kept` says, and the index after it is the theory's
   pub keeps : (c : Call (List ℕ)) → FourBytes c → Kept k size (bufferAfter c b)
   keeps (insertion key r) r32 = either (isAccepted (answerTo (insertion key r) b))
       (λ e. rw (after key r r32 e) (kept-inserted key r r32 e))
       (λ e. rw (stays key r e) kept)
-  keeps (removalOf key) o = either (isAccepted (answerTo (removalOf key) b))
-      (λ e. rw (after-struck key e) (kept-removed key e))
-      (λ e. rw (stays-struck key e) kept)
+  keeps (removalOf key r) o = either (isAccepted (answerTo (removalOf key r) b))
+      (λ e. rw (after-struck key r e) (kept-removed key r e))
+      (λ e. rw (stays-struck key r e) kept)
   keeps (lookupOf key) o = kept
 
   pub same-next : (c : Call (List ℕ)) → FourBytes c → readIndex (bufferAfter c b) ≡ next (keeping k size) (barcodes k) c (readIndex b)
@@ -405,10 +412,10 @@ module _ (k size : ℕ) (b : List ℕ) (kept : Kept k size b) where
       either (isAccepted (answerTo (insertion key r) b))
       (λ e. ap readIndex (after key r r32 e) ∙ next-inserted key r r32 e ∙ rw (sym q ∙ e))
       (λ e. ap readIndex (stays key r e) ∙ rw (sym q ∙ e))
-  same-next (removalOf key) o =
-      let q : isAccepted (answerTo (removalOf key) b) ≡ isAccepted (answer (keeping k size) (barcodes k) (removalOf key) (readIndex b)) =
-      ap isAccepted (remove-answers key) in
-      either (isAccepted (answerTo (removalOf key) b))
-      (λ e. ap readIndex (after-struck key e) ∙ next-removed key e ∙ rw (sym q ∙ e))
-      (λ e. ap readIndex (stays-struck key e) ∙ rw (sym q ∙ e))
+  same-next (removalOf key r) o =
+      let q : isAccepted (answerTo (removalOf key r) b) ≡ isAccepted (answer (keeping k size) (barcodes k) (removalOf key r) (readIndex b)) =
+      ap isAccepted (remove-answers key r) in
+      either (isAccepted (answerTo (removalOf key r) b))
+      (λ e. ap readIndex (after-struck key r e) ∙ next-removed key r e ∙ rw (sym q ∙ e))
+      (λ e. ap readIndex (stays-struck key r e) ∙ rw (sym q ∙ e))
   same-next (lookupOf key) o = refl

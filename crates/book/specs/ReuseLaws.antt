@@ -10,6 +10,9 @@ use Rattle.basis.specs.Lists.{All}
 use Rattle.tree.specs.Book.{Call, insertion, removalOf, lookupOf, accepted, found, finalOf}
 use Rattle.tree.specs.BookTheorem.{HoldsAtMost, list-bounded, list-grows}
 use Rattle.tree.specs.Index.{held, fresh, outOfRoom, answer, next}
+use Rattle.page.specs.KeyOrder.{bytesOrder}
+use Rattle.tree.specs.Keeping.{distinctKeys}
+use Rattle.tree.specs.KeepingLaws.{same-key}
 use Rattle.tree.specs.ReuseLaws.{fresh-bounded, again-found}
 use Rattle.page.specs.Header.{maxLevels, pageSize, fileSize, keyLength}
 use Rattle.page.specs.Page.{capacity}
@@ -73,21 +76,21 @@ pages-reused b k e octets a calls o m pos few =
     (rw size (fresh-bounded (keeping k (length b₀)) m pos (omega arith))))
 
 -- Theorem: a key that is struck off and put in again, if it has no control byte and there is room, is found with its new record number
-pub again : (b : List ℕ) → All (λ x. x < 256) b → (s : Sound b) (key : List ℕ) (r : ℕ) → answerTo (removalOf key) b ≡ accepted → hasControl key ≡ false
-    → 0 < r → r < 2 ^ 32 → noRoomFor (insertion key r) (bufferAfter (removalOf key) b) ≡ false
-    → answerTo (lookupOf key) (bufferAfter (insertion key r) (bufferAfter (removalOf key) b)) ≡ found r
-again b octets s key r struck allowed pos r32 room =
+pub again : (b : List ℕ) → All (λ x. x < 256) b → (s : Sound b) (key : List ℕ) (q r : ℕ) → answerTo (removalOf key q) b ≡ accepted → hasControl key ≡ false
+    → 0 < r → r < 2 ^ 32 → noRoomFor (insertion key r) (bufferAfter (removalOf key q) b) ≡ false
+    → answerTo (lookupOf key) (bufferAfter (insertion key r) (bufferAfter (removalOf key q) b)) ≡ found r
+again b octets s key q r struck allowed pos r32 room =
     let k = keyLength b in
     let size = length b in
-    let b₁ = bufferAfter (removalOf key) b in
+    let b₁ = bufferAfter (removalOf key q) b in
     let b₂ = bufferAfter (insertion key r) b₁ in
     let kept : Kept k size b = record { sound = s; keyIs = refl; as-long = refl; plain = octets-plain b octets } in
-    let kept₁ : Kept k size b₁ = keeps k size b kept (removalOf key) tt in
+    let kept₁ : Kept k size b₁ = keeps k size b kept (removalOf key q) tt in
     let kept₂ : Kept k size b₂ = keeps k size b₁ kept₁ (insertion key r) r32 in
-    let one = same-next k size b kept (removalOf key) tt in
+    let one = same-next k size b kept (removalOf key q) tt in
     let two = same-next k size b₁ kept₁ (insertion key r) r32 in
     same-answer k size b₂ kept₂ (lookupOf key) tt
     ∙ ap (answer (keeping k size) (barcodes k) (lookupOf key)) (two ∙ ap (next (keeping k size) (barcodes k) (insertion key r)) one)
-    ∙ again-found (keeping k size) (barcodes k) (header-two b (s .header)) (readIndex b) (kept-sound k size b kept) key
-    (sym (same-answer k size b kept (removalOf key) tt) ∙ struck) allowed r pos
-    (ap (λ i. outOfRoom (keeping k size) (key, r) i) (sym one) ∙ sym (same-rule k size b₁ kept₁ (insertion key r)) ∙ room)
+    ∙ again-found (keeping k size) (barcodes k) (header-two b (s .header)) (readIndex b) (kept-sound k size b kept) key q
+    (sym (same-answer k size b kept (removalOf key q) tt) ∙ struck) allowed r (same-key (distinctKeys bytesOrder) (λ x y. refl) key q r) pos
+    (ap (λ i. outOfRoom (keeping k size) (key, r) i) (sym one) ∙ sym (same-rule k size b₁ kept₁ (insertion key r)) ∙ room) (λ x y. refl)

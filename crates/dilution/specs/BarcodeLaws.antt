@@ -15,8 +15,9 @@ use Rattle.octets.specs.OrderLaws.{le-refl, le-antisym}
 use Rattle.octets.specs.StoreLaws.{length-window}
 use Rattle.table.specs.Table.{recordCount, fieldLength, tableRefusal}
 use Rattle.cell.specs.Cell.{fieldStart, fieldBytes}
-use Rattle.tree.specs.Pairs.{get, find, Above, Ascending}
-use Rattle.tree.specs.PairLaws.{find-get}
+use Rattle.tree.specs.Pairs.{get, find, byKey, Above, Ascending}
+use Rattle.tree.specs.Keeping.{distinctKeys}
+use Rattle.tree.specs.KeepingLaws.{find-get}
 use Rattle.tree.specs.Tree.{visited}
 use Rattle.page.specs.Header.{keyLength}
 use Rattle.page.specs.KeyOrder.{bytesOrder}
@@ -46,7 +47,7 @@ module _ (f : ℕ → List ℕ) where
       (λ q. rw q (omega (arith, not-above i a es (k .1) (v .1) h)))
 
   -- the record's own entry is the one found under its field
-  get-own : (i : ℕ) (es : List (List ℕ × ℕ)) → Keyed es → Ascending bytesOrder es → 0 < entriesFor i es → get bytesOrder (f i) es ≡ some i
+  get-own : (i : ℕ) (es : List (List ℕ × ℕ)) → Keyed es → Ascending (byKey bytesOrder) es → 0 < entriesFor i es → get bytesOrder (f i) es ≡ some i
   get-own i [] k a m = absurd (omega arith)
   get-own i (e ∷ es) k a m = either (eqb i (e .1))
       (λ q.
@@ -111,7 +112,7 @@ module _ (t b : List ℕ) (field : ℕ) (matched : matchAnswer t b field ≡ 0) 
         let s = met .sound in
         ap (λ a. answerRecord a 0) (lookup-list b key s len)
         ∙ answered (find bytesOrder key (leafPairs b s)) (length (visited bytesOrder key (s .height) (indexTree b (s .height))))
-        ∙ ap recordOr (find-get bytesOrder key (leafPairs b s) (s .ascending))
+        ∙ ap recordOr (find-get (distinctKeys bytesOrder) key (leafPairs b s) (s .ascending))
 
     -- Theorem: the record that is found has the barcode in its field
     pub record-named : 0 < recordWith b key → (1 ≤ recordWith b key) × (recordWith b key ≤ recordCount t) × (fieldBytes t (recordWith b key) field ≡ key)

@@ -29,7 +29,6 @@ use Rattle.tree.specs.Lists.{concatMap, occ, countIf}
 use Rattle.tree.specs.Pairs.{byKey, has, insertPair}
 use Rattle.tree.specs.Relinking.{pathPage}
 use Rattle.tree.specs.Room.{run, needs}
-use Rattle.tree.specs.RouteLaws.{distinct-leading}
 use Rattle.tree.specs.Store.{readTree}
 use Rattle.tree.specs.Supply.{takenPage}
 use Rattle.tree.specs.SoundIndex.{SoundIndex, LinkedIndex}
@@ -525,8 +524,7 @@ insert-keeps-sound b key r accepts =
       sound = now .0;
       index = same;
       leaves = ap held same
-          ∙ insert-pairs keeping (capacity (keyLength b)) (takenPage (s .free) (fileSize b)) (key, r) (distinct-leading bytesOrder (key, r))
-          (s .height) (indexTree b (s .height)) (sized-rooted (capacity (keyLength b)) (s .height) (indexTree b (s .height)) (old .sized)) (old .ordered);
+          ∙ insert-pairs keeping (capacity (keyLength b)) (takenPage (s .free) (fileSize b)) (key, r) (s .height) (indexTree b (s .height)) (sized-rooted (capacity (keyLength b)) (s .height) (indexTree b (s .height)) (old .sized)) (old .ordered);
       header = rest b key r accepts;
       keyIs = key-same b key r accepts;
       as-long = long b key r accepts;

@@ -109,7 +109,7 @@ module _ (b key : List ℕ) (r : ℕ) (s : Sound b) where
       ap (λ (path : Path). path .present) sound-path
       ∙ ap (present (byKey bytesOrder) (key, r))
       (sym (leaf-read route (passes (key, r)) (entriesIn (keyLength b) b) (λ j x z. refl) h (rootOffset b)) ∙ ap (routeLeaf route h) (sound-tree b s))
-      ∙ leaf-has bytesOrder (key, r) h (indexTree b h) (sized-rooted (capacity (keyLength b)) h (indexTree b h) (i .sized)) (i .ordered)
+      ∙ leaf-has keeping (key, r) h (indexTree b h) (sized-rooted (capacity (keyLength b)) h (indexTree b h) (i .sized)) (i .ordered)
 
 -- F would pass the buffer or 16,777,216 exactly if it would pass the lesser
 less-both : (a b c : ℕ) → ltb (min a b) c ≡ (ltb a c || ltb b c)

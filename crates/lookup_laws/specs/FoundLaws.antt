@@ -15,6 +15,7 @@ use Rattle.octets.specs.Order.{bytesLe, ordering, isEqual}
 use Rattle.tree.specs.ListLaws.{all-unit, all-map2}
 use Rattle.tree.specs.Pairs.{follow, seek, find}
 use Rattle.tree.specs.Tree.{Tree, pairs, lookup, onward, visited}
+use Rattle.tree.specs.Keeping.{distinctKeys}
 use Rattle.tree.specs.Ordered.{lookup-find, visited-found}
 use Rattle.tree.specs.StoreSteps.{storeLookup, storeVisited}
 use Rattle.tree.specs.StoreLookupLaws.{lookup-read, visited-read}
@@ -241,7 +242,7 @@ module _ (b key : List ℕ) (s : Sound b) (e : length key ≡ keyLength b) where
 
   -- Theorem: lookup gives what the sorted list of the leaves' pairs has under the key, absent exactly if it has none
   listed : lookup bytesOrder key h T ≡ find bytesOrder key (pairs h T)
-  listed = lookup-find bytesOrder key h T (sound-index b s (fileSize b) (omega arith) .ordered)
+  listed = lookup-find (distinctKeys bytesOrder) refl key h T (sound-index b s (fileSize b) (omega arith) .ordered)
 
   pub lookup-list : lookupRule b key ≡ answerOf (find bytesOrder key (pairs h T)) (length (visited bytesOrder key h T))
   lookup-list = rw (← listed) lookup-tree

@@ -17,7 +17,7 @@ use Rattle.field.specs.Field.{numberGood}
 use Rattle.field.specs.FieldLaws.{number-range}
 use Rattle.cell.specs.Cell.{fieldStart, fieldBytes}
 use Rattle.tree.specs.Lists.{occ}
-use Rattle.tree.specs.Pairs.{Above, Ascending}
+use Rattle.tree.specs.Pairs.{Above, byKey, Ascending}
 use Rattle.tree.specs.Levels.{numbers, all-to-map}
 use Rattle.page.specs.KeyOrder.{bytesOrder}
 use Rattle.page.specs.KeyOrderLaws.{equal-same, equal-refl}
@@ -50,7 +50,7 @@ module _ (f : ℕ → List ℕ) where
   none-later e [] o os v = refl
   none-later e (x ∷ es) o os v = rw (ne-eqb (e .1) (x .1) (own-differ e x o (os .0) (v .0))) (omega (arith, none-later e es o (os .1) (v .1)))
 
-  at-most-once : (es : Entries) → All (λ e. e .0 ≡ f (e .1)) es → Ascending bytesOrder es → (i : ℕ) → occ i (numbers es) ≤ 1
+  at-most-once : (es : Entries) → All (λ e. e .0 ≡ f (e .1)) es → Ascending (byKey bytesOrder) es → (i : ℕ) → occ i (numbers es) ≤ 1
   at-most-once [] os a i = omega arith
   at-most-once (e ∷ es) os a i = either (eqb i (e .1))
       (λ q. let z : occ i (numbers es) ≡ 0 = rw (eqb-true i (e .1) q) (none-later e es (os .0) (os .1) (a .0)) in rw q (omega arith))
@@ -87,7 +87,7 @@ unfolding columnBytes fieldBytes fieldStart
 column-field t field i = refl
 
 -- Theorem: if the keys ascend, the test holds exactly if the entries match
-module _ (t : List ℕ) (field : ℕ) (es : Entries) (ascending : Ascending bytesOrder es) where
+module _ (t : List ℕ) (field : ℕ) (es : Entries) (ascending : Ascending (byKey bytesOrder) es) where
   abbrev C : Column
   C = columnOf t field
 

@@ -155,12 +155,12 @@ module _ (b key : List ℕ) (strikes : Strikes b key) where
   before-is : before ≡ indexOf b h (s .free)
   before-is = λ i. record { height = h; tree = sound-tree b s i; free = s .free; size = fileSize b }
 
-  route-same : route ≡ strikingRoute kept-by key
+  route-same : route ≡ strikingRoute kept-by (key, 0)
   unfolding be32 toBe32
   route-same = refl
 
   -- it is the theory's removal
-  after-is : after ≡ removed kept-by key before
+  after-is : after ≡ removed kept-by (key, 0) before
   after-is = ap (leftBy route) (emptied-read route h (rootOffset b) (entriesIn k b) (ready .once))
       ∙ ap (λ (r : Route (List ℕ)). leftBy r (emptied r h t)) route-same
 
@@ -171,7 +171,7 @@ module _ (b key : List ℕ) (strikes : Strikes b key) where
   two = omega (arith, capacity-least k (good .key-high))
 
   sound-after : SoundIndex kept-by after
-  sound-after = subst (SoundIndex kept-by) (sym after-is) (removed-sound kept-by two before key sound-before)
+  sound-after = subst (SoundIndex kept-by) (sym after-is) (removed-sound kept-by two before (key, 0) sound-before)
 
   -- the tree's pages are linked, and none has the number that names none
   proper : occ noPage (pages h t) ≡ 0
@@ -353,7 +353,7 @@ module _ (b key : List ℕ) (strikes : Strikes b key) where
 pub record Removes (b key : List ℕ) (s : Sound b) : Type 0 where
   pub sound : Sound (removedBuffer (keyLength b) b key)
   pub index : (most : ℕ) → indexOf (removedBuffer (keyLength b) b key) (sound .height) (sound .free)
-      ≡ removed (settingOf (keyLength b) most) key (indexOf b (s .height) (s .free))
+      ≡ removed (settingOf (keyLength b) most) (key, 0) (indexOf b (s .height) (s .free))
   pub leaves : pairs (sound .height) (indexTree (removedBuffer (keyLength b) b key) (sound .height))
       ≡ removePair (byKey bytesOrder) (key, 0) (pairs (s .height) (indexTree b (s .height)))
   pub size : fileSize (removedBuffer (keyLength b) b key) ≡ fileSize b
@@ -369,12 +369,12 @@ remove-keeps-sound b key strikes =
     let set = kept-by b key strikes in
     let now = sound-now b key strikes in
     let old-index = subst (SoundIndex set) (before-is b key strikes) (sound-before b key strikes) in
-    let same : indexOf (b′ b key strikes) (now .0 .height) (now .0 .free) ≡ removed set key (indexOf b (s .height) (s .free)) =
-    ap₂ (indexOf (b′ b key strikes)) (now .1) (now .2) ∙ index-is b key strikes ∙ after-is b key strikes ∙ ap (removed set key) (before-is b key strikes) in
+    let same : indexOf (b′ b key strikes) (now .0 .height) (now .0 .free) ≡ removed set (key, 0) (indexOf b (s .height) (s .free)) =
+    ap₂ (indexOf (b′ b key strikes)) (now .1) (now .2) ∙ index-is b key strikes ∙ after-is b key strikes ∙ ap (removed set (key, 0)) (before-is b key strikes) in
     record {
       sound = now .0;
       index = λ most. same;
-      leaves = ap held same ∙ removed-pairs set (two b key strikes) (indexOf b (s .height) (s .free)) key old-index (strikes .there);
+      leaves = ap held same ∙ removed-pairs set (two b key strikes) (indexOf b (s .height) (s .free)) (key, 0) old-index (strikes .there);
       size = size-same b key strikes;
       header = rest b key strikes;
       keyIs = key-same b key strikes;

@@ -11,10 +11,11 @@ use lib.Dec.{eqb}
 use borrow.Author.Tests.{ne-eqb}
 use Rattle.basis.specs.Lists.{All, all-append}
 use Rattle.basis.specs.Tests.{either, contra, both, join}
-use Rattle.tree.specs.Pairs.{Ascending}
+use Rattle.tree.specs.Pairs.{byKey, Ascending}
 use Rattle.tree.specs.Tree.{pairs}
 use Rattle.tree.specs.Clauses.{Ceilings}
 use Rattle.tree.specs.Levels.{reached, generations-reached}
+use Rattle.tree.specs.Keeping.{distinctKeys}
 use Rattle.page.specs.Header.{maxBytes, maxLevels, pageSize, rootOffset, freePointer, fileSize, keyLength, isPage, headerGood}
 use Rattle.page.specs.HeaderLaws.{is-page, good-header}
 use Rattle.page.specs.KeyOrder.{bytesOrder}
@@ -122,7 +123,7 @@ shape-accepted b e =
 
 -- and then the second pass accepts exactly the keys above pages that are ceilings
 pub keys-accepted : (b : List ℕ) → headerGood b ≡ true → (s : Shape b (keyLength b) (fileSize b) (rootOffset b))
-    → Ascending bytesOrder (pairs (s .height) (indexTree b (s .height))) → (keysAboveGood b ≡ true) ↔ Ceilings bytesOrder (s .height) (indexTree b (s .height))
+    → Ascending (byKey bytesOrder) (pairs (s .height) (indexTree b (s .height))) → (keysAboveGood b ≡ true) ↔ Ceilings (distinctKeys bytesOrder) (s .height) (indexTree b (s .height))
 unfolding keysAboveGood
 keys-accepted b e s ascending =
     let g = good-header b e in

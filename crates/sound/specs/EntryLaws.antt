@@ -13,7 +13,7 @@ use Rattle.basis.specs.Tests.{both, join}
 use Rattle.tree.specs.Lists.{NonEmpty, concatMap}
 use Rattle.tree.specs.Order.{Lt}
 use Rattle.tree.specs.OrderLaws.{lt-le}
-use Rattle.tree.specs.Pairs.{lastKey, Above, Ascending}
+use Rattle.tree.specs.Pairs.{lastKey, Above, byKey, Ascending}
 use Rattle.tree.specs.PairLaws.{above-down}
 use Rattle.page.specs.Page.{leafBit}
 use Rattle.page.specs.KeyOrder.{bytesOrder}
@@ -49,13 +49,13 @@ climbs-above a [] c = tt
 climbs-above a (x ∷ xs) c = (c .0, above-down bytesOrder (x .0) a (lt-le bytesOrder a (x .0) (c .0)) xs (climbs-above (x .0) xs (c .2)))
 
 -- the two clauses on leaf entries
-pub climbs-ascend : (o : Option (List ℕ)) (xs : Entries) → Climbs o xs → Ascending bytesOrder xs × All (λ e. 0 < e .1) xs
+pub climbs-ascend : (o : Option (List ℕ)) (xs : Entries) → Climbs o xs → Ascending (byKey bytesOrder) xs × All (λ e. 0 < e .1) xs
 climbs-ascend o [] c = (tt, tt)
 climbs-ascend o (x ∷ xs) c =
     let ih = climbs-ascend (some (x .0)) xs (c .2) in
     ((climbs-above (x .0) xs (c .2), ih .0), (c .1, ih .1))
 
-ascend-after : (o : Option (List ℕ)) (xs : Entries) → All (λ e. After o (e .0)) xs → Ascending bytesOrder xs → All (λ e. 0 < e .1) xs → Climbs o xs
+ascend-after : (o : Option (List ℕ)) (xs : Entries) → All (λ e. After o (e .0)) xs → Ascending (byKey bytesOrder) xs → All (λ e. 0 < e .1) xs → Climbs o xs
 ascend-after o [] f a r = tt
 ascend-after o (x ∷ xs) f a r = (f .0, r .0, ascend-after (some (x .0)) xs (a .0) (a .1) (r .1))
 
@@ -63,7 +63,7 @@ after-none : (xs : Entries) → All (λ e. After none (e .0)) xs
 after-none [] = tt
 after-none (x ∷ xs) = (tt, after-none xs)
 
-pub ascend-climbs : (xs : Entries) → Ascending bytesOrder xs → All (λ e. 0 < e .1) xs → Climbs none xs
+pub ascend-climbs : (xs : Entries) → Ascending (byKey bytesOrder) xs → All (λ e. 0 < e .1) xs → Climbs none xs
 ascend-climbs xs a r = ascend-after none xs (after-none xs) a r
 
 -- the test of a leaf's entries

@@ -16,6 +16,7 @@ use Rattle.tree.specs.ListLaws.{all-map2, occ-here, occ-append, occ-all}
 use Rattle.tree.specs.Tree.{level}
 use Rattle.tree.specs.Clauses.{least, Sized}
 use Rattle.tree.specs.Ordered.{ordered-ascending}
+use Rattle.tree.specs.Keeping.{distinctKeys}
 use Rattle.tree.specs.ClauseLaws.{ceilings-ordered, ordered-ceilings}
 use Rattle.tree.specs.Index.{Index, Setting}
 use Rattle.tree.specs.SoundIndex.{used, PagesOnce, SoundIndex, LinkedIndex}
@@ -34,7 +35,7 @@ abbrev pub indexOf : List ℕ → ℕ → List ℕ → Index (List ℕ)
 indexOf b h free = record { height = h; tree = indexTree b h; free = free; size = fileSize b }
 
 abbrev pub settingOf : ℕ → ℕ → Setting (List ℕ)
-settingOf k most = record { order = bytesOrder; capacity = capacity k; maxSize = most; maxLevels = maxLevels }
+settingOf k most = record { keeping = distinctKeys bytesOrder; capacity = capacity k; maxSize = most; maxLevels = maxLevels }
 
 module _ (b : List ℕ) where
   -- every page of a sound index is one of the file, and has as many entries as its count says
@@ -76,7 +77,7 @@ module _ (b : List ℕ) where
       let few = s .levels in
       let z = sound-sized s in
       record {
-        ordered = ceilings-ordered bytesOrder (capacity (keyLength b)) h (indexTree b h) (z .2) (s .ascending) (s .ceilings);
+        ordered = ceilings-ordered (distinctKeys bytesOrder) (capacity (keyLength b)) h (indexTree b h) (z .2) (s .ascending) (s .ceilings);
         sized = z;
         pagesOnce = sound-once s;
         records = s .records;
@@ -153,9 +154,9 @@ module _ (b : List ℕ) (h : ℕ) (free : List ℕ) where
           leafBits = leafBits;
           levels = omega arith;
           counts = all-map2 Enough NotOver (CountGood b (keyLength b) h) (λ p u c. (u, c)) ps low counts;
-          ascending = ordered-ascending bytesOrder h (indexTree b h) (i .ordered);
+          ascending = ordered-ascending (distinctKeys bytesOrder) h (indexTree b h) (i .ordered);
           records = i .records;
-          ceilings = ordered-ceilings bytesOrder h (indexTree b h) (i .ordered);
+          ceilings = ordered-ceilings (distinctKeys bytesOrder) h (indexTree b h) (i .ordered);
           links = l;
         },
         refl,

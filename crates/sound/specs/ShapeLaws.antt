@@ -14,9 +14,10 @@ use Rattle.basis.specs.Lists.{All, all-map}
 use Rattle.basis.specs.Tests.{either}
 use Rattle.tree.specs.Lists.{NonEmpty, concatMap, occ}
 use Rattle.tree.specs.ListLaws.{all-map2, nonEmpty-length, occ-append, occ-here, occ-head, occ-not-head}
-use Rattle.tree.specs.Pairs.{Ascending}
+use Rattle.tree.specs.Pairs.{byKey, Ascending}
 use Rattle.tree.specs.Tree.{Tree, pairs}
 use Rattle.tree.specs.Clauses.{least, Sized, Ceilings, Linked}
+use Rattle.tree.specs.Keeping.{distinctKeys}
 use Rattle.tree.specs.Store.{readTree}
 use Rattle.tree.specs.Levels.{all-of-map, all-to-map, numbers, below, generation, generation-below, reached, reached-generations, join-map}
 use Rattle.tree.specs.Levels.{Counted, tree-pairs, tree-pages, level-generation, generation-level, pages-generation, generation-pages}
@@ -149,7 +150,7 @@ module _ (b : List ℕ) (k size root h : ℕ) (inside : InsideLevels b k size ro
     level-leaf i t e = leaf-bit (eqb i 0) (eqb i h) ∙ e
 
     -- the entries of every level, from the clauses on leaf keys and records
-    clauses-checked : Ascending bytesOrder (pairs h (readTree (entriesAt k size b) h root))
+    clauses-checked : Ascending (byKey bytesOrder) (pairs h (readTree (entriesAt k size b) h root))
         → All (λ e. 0 < e .1) (pairs h (readTree (entriesAt k size b) h root)) → CheckedLevels b k size root h
     clauses-checked ascending records i l = either (eqb i h)
         (λ e. let d : i ≡ h = eqb-true i h e in
@@ -159,7 +160,7 @@ module _ (b : List ℕ) (k size root h : ℕ) (inside : InsideLevels b k size ro
         (λ e. upper-checked b k size (attributeAtLevel h i) (level-leaf i false e) noPage (levelPages b k size root i))
 
     -- and back
-    checked-pairs : CheckedLevels b k size root h → Ascending bytesOrder (pairs h (readTree (entriesAt k size b) h root))
+    checked-pairs : CheckedLevels b k size root h → Ascending (byKey bytesOrder) (pairs h (readTree (entriesAt k size b) h root))
         × All (λ e. 0 < e .1) (pairs h (readTree (entriesAt k size b) h root))
     checked-pairs checked =
         let leaf = level-leaf h true (eq-eqb h h refl) in
@@ -262,14 +263,14 @@ module _ (b : List ℕ) where
 
   -- the leaf pairs of an index of that shape ascend, and their record numbers are above 0
   pub shape-pairs : headerGood b ≡ true → (s : Shape b (keyLength b) (fileSize b) (rootOffset b))
-      → Ascending bytesOrder (pairs (s .height) (indexTree b (s .height))) × All (λ e. 0 < e .1) (pairs (s .height) (indexTree b (s .height)))
+      → Ascending (byKey bytesOrder) (pairs (s .height) (indexTree b (s .height))) × All (λ e. 0 < e .1) (pairs (s .height) (indexTree b (s .height)))
   shape-pairs e s =
       checked-pairs b K F R (s .height) (levels-inside b K F R (s .height) (s .levels)) (levels-counts b K F R (s .height) (s .levels))
       (good-header b e .most) (λ i l. s .levels i l .checked)
 
   -- Theorem: an index of that shape is sound if its keys above pages are
   pub shape-sound : headerGood b ≡ true → (s : Shape b (keyLength b) (fileSize b) (rootOffset b))
-      → Ceilings bytesOrder (s .height) (indexTree b (s .height)) → Sound b
+      → Ceilings (distinctKeys bytesOrder) (s .height) (indexTree b (s .height)) → Sound b
   shape-sound e s ceilings =
       let h = s .height in
       let few = s .few in

@@ -12,9 +12,10 @@ use lib.Dec.{eqb}
 use Rattle.basis.specs.Lists.{All}
 use Rattle.octets.specs.Store.{window}
 use Rattle.tree.specs.Lists.{occ}
-use Rattle.tree.specs.Pairs.{Ascending}
+use Rattle.tree.specs.Pairs.{byKey, Ascending}
 use Rattle.tree.specs.Tree.{Tree, pairs, pages, level}
 use Rattle.tree.specs.Clauses.{least, Ceilings, Links, AllLinked}
+use Rattle.tree.specs.Keeping.{distinctKeys}
 use Rattle.tree.specs.FreeChain.{Chained}
 use Rattle.page.specs.Header.{maxLevels, noPage, rootOffset, freePointer, fileSize, keyLength, isPage, headerGood}
 use Rattle.page.specs.Page.{attributeAt, countAt, leftAt, rightAt, rootBit, leafBit, capacity, rightPlace, entriesStart, entryArea}
@@ -75,11 +76,11 @@ pub record Sound (b : List ℕ) : Type 0 where
   -- "counts 1 to capacity, save that a lone root leaf may have 0"
   pub counts : All (CountGood b (keyLength b) height) (indexPages b height)
   -- "leaf keys strictly ascending left to right as unsigned bytes"
-  pub ascending : Ascending bytesOrder (pairs height (indexTree b height))
+  pub ascending : Ascending (byKey bytesOrder) (pairs height (indexTree b height))
   -- "record numbers above 0"
   pub records : All (λ e. 0 < e .1) (pairs height (indexTree b height))
   -- "the key above a child is at or above every leaf key under it, and below the first leaf key under the next child of the same page"
-  pub ceilings : Ceilings bytesOrder height (indexTree b height)
+  pub ceilings : Ceilings (distinctKeys bytesOrder) height (indexTree b height)
   -- "left and right name the neighbours on the level"
   pub links : AllLinked noPage (linksOf b) height (indexTree b height)
 
