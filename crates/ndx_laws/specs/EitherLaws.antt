@@ -5,7 +5,8 @@ use mathlib.Core.Path.{_≡_, ap, _∙_}
 use mathlib.Core.List.{List}
 use lib.ListN.{length}
 use Rattle.tree.specs.Pairs.{get}
-use Rattle.tree.specs.PairLaws.{find-get}
+use Rattle.tree.specs.KeepingLaws.{find-get}
+use Rattle.tree.specs.Keeping.{distinctKeys}
 use Rattle.tree.specs.Tree.{visited}
 use Rattle.page.specs.KeyOrder.{bytesOrder}
 use Rattle.page.specs.Header as idx-header
@@ -33,7 +34,7 @@ idx-by-list b key s e = record {
   pages = length (visited bytesOrder key (s .height) (idx.indexTree b (s .height)));
   first = idx-found.lookup-list b key s e
       ∙ ap (λ o. answerOf o (length (visited bytesOrder key (s .height) (idx.indexTree b (s .height)))))
-      (find-get bytesOrder key (idx.leafPairs b s) (s .ascending));
+      (find-get (distinctKeys bytesOrder) key (idx.leafPairs b s) (s .ascending));
 }
 
 -- Theorem: lookup in a sound NDX index, which visits as many pages as there are levels
@@ -42,5 +43,5 @@ pub ndx-by-list : (b key : List ℕ) (s : ndx.Sound b) → length key ≡ ndx-he
 ndx-by-list b key s e = record {
   pages = s .height + 1;
   first = ndx-found.lookup-list b key s e
-      ∙ ap (λ o. answerOf o (s .height + 1)) (find-get bytesOrder key (ndx-reading.leafPairs b (s .height)) (s .ascending));
+      ∙ ap (λ o. answerOf o (s .height + 1)) (find-get (distinctKeys bytesOrder) key (ndx-reading.leafPairs b (s .height)) (s .ascending));
 }

@@ -2,7 +2,7 @@
 -- has. Cited by every law of insertion. Assumes nothing.
 use mathlib.Core.Path.{_≡_, refl, sym, ap, _∙_, subst}
 use mathlib.Core.Bool.{false}
-use mathlib.Core.List.{List, [], _∷_}
+use mathlib.Core.List.{List, [], _∷_, _++_}
 use mathlib.Core.Option.{Option, none, some, IsSome}
 use Prim.Native.Nat.{ℕ, zero, suc}
 use lib.ListN.{length}
@@ -10,10 +10,10 @@ use Rattle.basis.specs.Lists.{All, all-map}
 use Rattle.basis.specs.Tests.{either}
 use Rattle.tree.specs.Lists.{NonEmpty, concatMap}
 use Rattle.tree.specs.Order.{Order, Le, Lt}
-use Rattle.tree.specs.Pairs.{follow, seek, find, Below, Above, Ascending}
-use Rattle.tree.specs.PairLaws.{find-here, find-past}
+use Rattle.tree.specs.Pairs.{follow, seek, find, byKey, Below, Above, Ascending}
+use Rattle.tree.specs.PairLaws.{above-down, find-here, find-past, ascending-join}
 use Rattle.tree.specs.Tree.{Entry, Tree, pairsUnder, pairs, onward, lookupUnder, lookup, visitedUnder, visited}
-use Rattle.tree.specs.Keeping.{Keeping, Clear, ClearOf}
+use Rattle.tree.specs.Keeping.{Keeping, Clear, ClearOf, distinctKeys}
 
 -- an entry x before the entries xs of its page, with the leaf pairs that `under` gives for each: G holds of x, x has a leaf pair, and its key is at or above
 -- its own leaf keys and may stand before the leaf keys of xs
@@ -55,6 +55,30 @@ module _ {K : Type 0} (Q : Keeping K) where
   pub separated-all : {C : Type 0} (G : K × C → Type 0) (under : K × C → List (K × ℕ)) (xs : List (K × C)) → Separated G under xs → All G xs
   separated-all G under [] c = tt
   separated-all G under (x ∷ xs) c = (c .0 .good, separated-all G under xs (c .1))
+
+-- with distinct keys, keys above that separate the leaf pairs say that these ascend
+module _ {K : Type 0} (O : Order K) where
+  ascending-append : (a : K) (xs ys : List (K × ℕ)) → Ascending (byKey O) xs → Ascending (byKey O) ys → Below O a xs → Above O a ys →
+      Ascending (byKey O) (xs ++ ys)
+  ascending-append a xs ys p q b v = ascending-join (byKey O) xs ys p q
+      (all-map (λ x. Le O (x .0) a) (λ x. Above O (x .0) ys) (λ x l. above-down O a (x .0) l ys v) xs b)
+
+  ascending-level : {C : Type 0} (G : K × C → Type 0) (under : K × C → List (K × ℕ)) → ((x : K × C) → G x → Ascending (byKey O) (under x)) →
+      (xs : List (K × C)) → Separated (distinctKeys O) G under xs → Ascending (byKey O) (concatMap under xs)
+  ascending-level G under ok [] c = tt
+  ascending-level G under ok (x ∷ xs) c =
+      ascending-append (x .0) (under x) (concatMap under xs) (ok x (c .0 .good)) (ascending-level G under ok xs (c .1)) (c .0 .ceiling) (c .0 .apart)
+
+  ascending-under : (h : ℕ) (x : Entry K h) → OrderedUnder (distinctKeys O) h x → Ascending (byKey O) (pairsUnder h x)
+  ascending-under zero x g = (tt, tt)
+  ascending-under (suc h) x g = ascending-level (OrderedUnder (distinctKeys O) h) (pairsUnder h) (ascending-under h) (x .1 .1) (g .1)
+
+  -- Theorem: so a tree of distinct keys is in order if its entries separate its leaf pairs
+  pub separated-ordered : (h : ℕ) (t : Tree K h) → SeparatedTree (distinctKeys O) h t → Ordered (distinctKeys O) h t
+  separated-ordered h t c = record {
+    ascending = ascending-level (OrderedUnder (distinctKeys O) h) (pairsUnder h) (ascending-under h) (t .1) c;
+    separated = c;
+  }
 
 -- lookup that does not go on: one level, abstract in what lies below
 module _ {K : Type 0} (Q : Keeping K) (strict : Q .goesOn ≡ false) where
