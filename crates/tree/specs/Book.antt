@@ -32,8 +32,8 @@ pub record KeyTests (K : Type 0) : Type 0 where
   pub fits : K → Bool
   pub barred : K → Bool
 
--- insertion: "a key not of k bytes is 27", 32 "after 27 and before 28", "else record number 0 is 28, else a key in the book 29", or "the very pair" for features
--- 0; then 30 or accepted
+-- insertion: "a key not of k bytes is 27", 32 "after 27 and before 28", "else record number 0 is 28, else a key in the book 29", or "the very pair" for
+-- features 0; then 30 or accepted
 abbrev pub verdict : Bool → Bool → ℕ → Bool → Bool → Answer
 verdict fits barred r held full =
     refusedIf (not fits) 27 (refusedIf barred 32 (refusedIf (eqb r 0) 28 (refusedIf held 29 (refusedIf full 30 accepted))))

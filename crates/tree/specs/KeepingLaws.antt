@@ -1,5 +1,5 @@
--- Laws: ascending leaf pairs by their keeping: which keys may stand before them, whether they have a pair, and what lookup finds among them. Cited by the laws of
--- ordered trees and of sound indexes. Assumes nothing.
+-- Laws: ascending leaf pairs by their keeping: which keys may stand before them, whether they have a pair, and what lookup finds among them. Cited by the laws
+-- of ordered trees and of sound indexes. Assumes nothing.
 use mathlib.Core.Path.{_≡_, refl, sym, ap, _∙_}
 use mathlib.Core.Bool.{true, false, _&&_}
 use mathlib.Core.List.{List, [], _∷_, _++_}

@@ -1,5 +1,5 @@
--- Rules: lookup of a key's first record in a tree whose keys may repeat (features 0), and the pages that it visits; and lookup by the keeping of an index. Cited
--- by the calls of an index.
+-- Rules: lookup of a key's first record in a tree whose keys may repeat (features 0), and the pages that it visits; and lookup by the keeping of an index.
+-- Cited by the calls of an index.
 use mathlib.Core.Bool.{cond}
 use mathlib.Core.List.{List, [], _∷_}
 use mathlib.Core.Option.{Option, none, some}

@@ -1,5 +1,5 @@
--- Laws: the leaf that the route of a pair leads to, among all leaf pairs: those before it are below the pair, those after it above; and for features 0 it is "the
--- leaf with the greatest pair below it, or the first leaf". No other law cites it: it says that the rule's route is the paper's. Assumes nothing.
+-- Laws: the leaf that the route of a pair leads to, among all leaf pairs: those before it are below the pair, those after it above; and for features 0 it is
+-- "the leaf with the greatest pair below it, or the first leaf". No other law cites it: it says that the rule's route is the paper's. Assumes nothing.
 use mathlib.Core.Path.{_≡_, refl, sym, ap, _∙_}
 use mathlib.Core.Bool.{Bool, true, false}
 use mathlib.Core.List.{List, [], _∷_, _++_, append-nil, append-assoc}
@@ -18,7 +18,8 @@ use Rattle.tree.specs.Room.{atChosen, routeLeaf}
 use Rattle.tree.specs.Ordered.{Rooted, Separated, OrderedUnder, Ordered, separated-all}
 use Rattle.tree.specs.RouteLaws.{choose-all, Leads, StartsWith, first-pairs, route-leads}
 
--- all leaf pairs, with a leaf's among them: those before it are below e, those after it above; and if anything is before the leaf, its first pair is at or below e
+-- all leaf pairs, with a leaf's among them: those before it are below e, those after it above; and if anything is before the leaf, its first pair is at or
+-- below e
 pub record Around {K : Type 0} (Q : Keeping K) (e : K × ℕ) (leaf all : List (K × ℕ)) : Type 0 where
   pub before : List (K × ℕ)
   pub after : List (K × ℕ)
@@ -121,8 +122,8 @@ module _ {K : Type 0} (Q : Keeping K) (e : K × ℕ)
       rooted zero u n = tt
       rooted (suc m) u n = n
 
--- Theorem: for features 0 it is "the leaf with the greatest pair below it, or the first leaf": the pairs after it are above the new pair, and if there are pairs
--- before it, its own first pair is at or below the new one
+-- Theorem: for features 0 it is "the leaf with the greatest pair below it, or the first leaf": the pairs after it are above the new pair, and if there are
+-- pairs before it, its own first pair is at or below the new one
 pub nearest-leaf : {K : Type 0} (O : Order K) (e : K × ℕ) (h : ℕ) (t : Tree K h) → Rooted h t → Ordered (repeatedKeys O) h t →
     Around (repeatedKeys O) e (routeLeaf (repeatedKeys O .route e) h t) (pairs h t)
 nearest-leaf O e h t s o = leaf-around (repeatedKeys O) e (λ m x y u. u) h t s o

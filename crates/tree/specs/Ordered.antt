@@ -1,5 +1,5 @@
--- Laws: ordered trees, whose leaf pairs ascend and in which each key above is a ceiling; if lookup does not go on, it gives what the ascending list of the pairs
--- has. Cited by every law of insertion. Assumes nothing.
+-- Laws: ordered trees, whose leaf pairs ascend and in which each key above is a ceiling; if lookup does not go on, it gives what the ascending list of the
+-- pairs has. Cited by every law of insertion. Assumes nothing.
 use mathlib.Core.Path.{_≡_, refl, sym, ap, _∙_, subst}
 use mathlib.Core.Bool.{false}
 use mathlib.Core.List.{List, [], _∷_, _++_}

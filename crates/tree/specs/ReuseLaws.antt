@@ -1,5 +1,5 @@
--- Laws: pages are reused: the file never shrinks, and its size is bounded by the most pairs held at a time; a pair that is struck off is gone, and is there if it
--- is put in again: for features 1 its key is absent, and found. Cited by the theorem about lists of calls. Assumes nothing.
+-- Laws: pages are reused: the file never shrinks, and its size is bounded by the most pairs held at a time; a pair that is struck off is gone, and is there if
+-- it is put in again: for features 1 its key is absent, and found. Cited by the theorem about lists of calls. Assumes nothing.
 use mathlib.Core.Path.{_≡_, refl, sym, ap, _∙_}
 use mathlib.Core.Bool.{Bool, true, false}
 use mathlib.Core.List.{List, [], _∷_}

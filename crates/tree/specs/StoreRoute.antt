@@ -1,5 +1,5 @@
--- Steps: the route of a pair on a store, by the keeping of either features: the first leaf pair under an entry is found by going down first entries. The laws of
--- bytes compare the entry that the rules on bytes go through with it.
+-- Steps: the route of a pair on a store, by the keeping of either features: the first leaf pair under an entry is found by going down first entries. The laws
+-- of bytes compare the entry that the rules on bytes go through with it.
 use mathlib.Core.Bool.{Bool, not}
 use Prim.Native.Nat.{ℕ, zero, suc}
 use Rattle.tree.specs.Order.{Order}
