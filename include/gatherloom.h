@@ -10,8 +10,8 @@
    Stack: how many bytes a call takes at most, beside those of memcpy and memset, rounded up. tests/c/stack reads them from the archive and compares.
        gl_interface 16, gl_index_fresh 64, gl_number_write 96, gl_number_read 128, gl_table_check 256, gl_table_shape 256, gl_fields 256, gl_walk 256,
        gl_table_set_date 256, gl_table_extent 256, gl_table_append 320, gl_read_logical 384, gl_text_part 384, gl_read_number 416, gl_read_date 416,
-       gl_index_lookup 2304, gl_ndx_lookup 2560, gl_index_audit 3072, gl_ndx_audit 3072, gl_match 3456, gl_dilute 3456, gl_index_remove 4096,
-       gl_table_lay_out 4608, gl_index_insert 5120
+       gl_ndx_lookup 2560, gl_ndx_audit 3072, gl_index_lookup 3328, gl_index_audit 3456, gl_index_records 3456, gl_match 3712, gl_dilute 3840,
+       gl_table_lay_out 4608, gl_index_remove 4992, gl_index_insert 5632
 
    The archive is for x86-64 Linux and the System V calling convention. It needs memcpy and memset alone, allocates no memory, has no writable data and is
    position independent. It uses SSE registers and the red zone below the stack pointer, which Linux keeps for user programs: kernel code can't call it. */
@@ -27,8 +27,8 @@ extern "C" {
 
 /* ---- Versions. */
 
-#define GL_VERSION "0.11.0" /* raised with every change, see docs/CHANGES.md */
-#define GL_INTERFACE 1      /* raised with every change of the form of a call or a struct */
+#define GL_VERSION "0.12.0" /* raised with every change, see docs/CHANGES.md */
+#define GL_INTERFACE 2      /* raised with every change of the form of a call or a struct */
 
 /* The GL_INTERFACE of the archive. A host compares it with its own before the first call: if they differ, a call may write past what it is lent. */
 uint32_t gl_interface(void);
@@ -71,21 +71,24 @@ enum gl_refusal {
     GL_REFUSED_MEMO_HEADER = 22,          /* memo header: no memo file, or one with a bad size or block size; was the right file lent? */
     GL_REFUSED_MEMO_NOT_TEXT = 23,        /* memo is not text: the block is of another type */
     /* the index */
-    GL_REFUSED_INDEX_HEADER = 24,           /* index header: not that of a plain index of distinct keys; for a fresh index, a bad key expression */
+    GL_REFUSED_INDEX_HEADER = 24,           /* index header: not that of a plain index, or, for a dilution, of one with several records to a key; for a
+                                               fresh index, a bad key expression or features other than 0 and 1 */
     GL_REFUSED_INDEX_NOT_SOUND = 25,        /* index not sound: make it anew from the table by fresh and insertion */
     GL_REFUSED_KEY_LENGTH = 27,             /* key length: not the index's; for a fresh index, not 1 to 100; for the match, not the field's length */
     GL_REFUSED_RECORD_NUMBER_ZERO = 28,     /* record number 0: records count from 1 */
-    GL_REFUSED_KEY_PRESENT = 29,            /* key present: the index has the key already, and keeps its record */
+    GL_REFUSED_KEY_PRESENT = 29,            /* key present: the index has the key already, and keeps its record; with features 0, it has this very pair */
     GL_REFUSED_NO_ROOM = 30,                /* no room: lend a longer buffer; past 16,777,216 bytes a table or an index is full, past 15 levels an index too;
                                                after many removals a fresh index with the same keys may have room (gl_index_remove) */
     GL_REFUSED_INDEX_AND_TABLE_DIFFER = 31, /* index and table differ: make the index anew from the table */
     GL_REFUSED_CONTROL_BYTE = 32,           /* control byte in the key: a byte below 0x20 in a key to insert; was the barcode scanned well? */
-    GL_REFUSED_KEY_ABSENT = 33,             /* key absent: the key to strike off is not in the index */
+    GL_REFUSED_KEY_ABSENT = 33,             /* key absent: the key to strike off is not in the index; with features 0, not with this record */
     /* the dilution of a sample: for each of these nothing is to be pipetted */
     GL_REFUSED_BARCODE_ABSENT = 35,             /* barcode absent or deleted: the table has no live record of this barcode */
     GL_REFUSED_NO_CONCENTRATION = 36,           /* no concentration: the record's is empty, zero or negative */
     GL_REFUSED_TARGET_OR_VOLUME = 37,           /* target or volume out of range: not 1 to GL_TARGET_MAX, or not 1 to GL_FINAL_MAX */
     GL_REFUSED_TARGET_ABOVE_CONCENTRATION = 38, /* target above concentration: no dilution reaches it */
+    /* all records of a key */
+    GL_REFUSED_RECORD_LIST_TOO_SHORT = 39, /* record list too short: the key has more records than the lent list has entries */
     /* programs alone: no call answers it */
     GL_REFUSED_ARGUMENTS_OR_FILES = 40 /* arguments or files: what a program was given, or a file that can't be read or is too long */
 };
@@ -188,15 +191,16 @@ uint32_t gl_number_write(uint8_t *text, size_t width, uint32_t decimals, int64_t
 
 /* ---- The index. */
 
-/* Makes an index of no keys in the first 1,024 bytes. 27, 24, 30. */
-uint32_t gl_index_fresh(uint8_t *index, size_t index_len, uint32_t key_length,
+/* Makes an index of no keys in the first 1,024 bytes. 27, 24, 30. With features 1 a key has one record, with features 0 it may have several, in the order of
+   their numbers. */
+uint32_t gl_index_fresh(uint8_t *index, size_t index_len, uint32_t key_length, uint32_t features,
                         const uint8_t *expression, size_t expression_len);
 
 /* 0 exactly if the index is sound, 24 if its header is bad, else 25. A key above a page may be higher than every key under that page, as FoxPro leaves it when
    the last of them is struck off, if it is below the first key under the next page; releases before 0.7.0 refuse such an index by 25. */
 uint32_t gl_index_audit(const uint8_t *index, size_t index_len);
 
-/* The record of a key, and how many pages were visited. 24, 27, 25. 0 sets both; 257 sets pages alone. */
+/* The record of a key, the first if it has several, and how many pages were visited. 24, 27, 25. 0 sets both; 257 sets pages alone. */
 uint32_t gl_index_lookup(const uint8_t *index, size_t index_len, const uint8_t *key, size_t key_len,
                          uint32_t *record, uint32_t *pages);
 
@@ -204,11 +208,15 @@ uint32_t gl_index_lookup(const uint8_t *index, size_t index_len, const uint8_t *
    calls take them as any key. New pages are those that removals freed, and only then pages past the index's end. */
 uint32_t gl_index_insert(uint8_t *index, size_t index_len, const uint8_t *key, size_t key_len, uint32_t record);
 
-/* Strikes a key off. 24, 27, 25, 33. The pages that are emptied are free for later insertions; the index's own size, bytes 8 to 11, never falls, so the host
+/* Strikes the pair of a key and a record's number off; with features 1 the number isn't looked at. 24, 27, 25, 33. The pages that are emptied are free for later insertions; the index's own size, bytes 8 to 11, never falls, so the host
    can't shorten its file. Nor do the levels fall, until the last key goes and there is one level again: a long list of ascending insertions and removals can
    end in 30 with few keys left (seen with keys of 100 bytes: the 265,721st insertion made 12 levels of 35 keys, and each level more takes three times as many
    insertions). The way out is a fresh index, into which the host inserts the keys that are left. An earlier release refuses an index with free pages by 24. */
-uint32_t gl_index_remove(uint8_t *index, size_t index_len, const uint8_t *key, size_t key_len);
+uint32_t gl_index_remove(uint8_t *index, size_t index_len, const uint8_t *key, size_t key_len, uint32_t record);
+
+/* All records of a key, in order, into a list of room entries, and how many they are, 0 for none. Entries past them are kept. 24, 27, 25, 39. */
+uint32_t gl_index_records(const uint8_t *index, size_t index_len, const uint8_t *key, size_t key_len,
+                          uint32_t *records, size_t room, uint32_t *count);
 
 /* Matches an index against a field of a table: 0 if each record, deleted or not, has exactly one entry, its key that record's field, and there are
    no other entries. 1 to 10, 24, 12, 13, 27, 25, 31. */

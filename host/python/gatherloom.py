@@ -82,6 +82,7 @@ WORDS = {
     36: 'no concentration',
     37: 'target or volume out of range',
     38: 'target above concentration',
+    39: 'record list too short',
     40: 'arguments or files',
 }
 
@@ -123,7 +124,7 @@ class MemoMissing(Exception):
 # ---- The library. Its calls are those of include/gatherloom.h.
 
 # the number that gl_interface() gives for the calls as they are declared here
-INTERFACE = 1
+INTERFACE = 2
 
 ACCEPTED, EMPTY, ABSENT, DONE = 0, 256, 257, 258
 
@@ -159,11 +160,12 @@ _CALLS = {
     'gl_text_part': 2 * _BYTES + [_NUMBER, _NUMBER] + 2 * [_out(ctypes.c_uint64)],
     'gl_number_read': _BYTES + [_NUMBER, _out(ctypes.c_int64)],
     'gl_number_write': _BYTES + [_NUMBER, ctypes.c_int64],
-    'gl_index_fresh': _BYTES + [_NUMBER] + _BYTES,
+    'gl_index_fresh': _BYTES + 2 * [_NUMBER] + _BYTES,
     'gl_index_audit': _BYTES,
     'gl_index_lookup': 2 * _BYTES + 2 * [_out(_NUMBER)],
     'gl_index_insert': 2 * _BYTES + [_NUMBER],
-    'gl_index_remove': 2 * _BYTES,
+    'gl_index_remove': 2 * _BYTES + [_NUMBER],
+    'gl_index_records': 2 * _BYTES + [_out(_NUMBER), ctypes.c_size_t, _out(_NUMBER)],
     'gl_match': 2 * _BYTES + [_NUMBER],
     'gl_ndx_audit': _BYTES,
     'gl_ndx_lookup': 2 * _BYTES + 2 * [_out(_NUMBER)],
@@ -626,11 +628,15 @@ class Index:
         self._lock = threading.Lock()
 
     @classmethod
-    def fresh(cls, buffer, key_length, expression):
-        """An index of no keys, made in the first 1,024 bytes of a bytearray; the others are room for insertions. Refusals 27, 24, 30."""
+    def fresh(cls, buffer, key_length, expression, features=1):
+        """An index of no keys, made in the first 1,024 bytes of a bytearray; the others are room for insertions. Refusals 27, 24, 30.
+
+        With features 1 a key has one record, with features 0 it may have several.
+        """
         _buffer(buffer, 'a fresh index is made')
         key_length, expression = _unsigned(key_length, 'key length'), _bytes(expression, 'an expression')
-        _accepted(_library.gl_index_fresh(*_lent(buffer), key_length, *_lent(expression)))
+        features = _unsigned(features, 'features')
+        _accepted(_library.gl_index_fresh(*_lent(buffer), key_length, features, *_lent(expression)))
         return cls(buffer)
 
     def audit(self):
@@ -639,12 +645,20 @@ class Index:
             _accepted(_library.gl_index_audit(*_lent(self.buffer)))
 
     def lookup(self, key):
-        """The Lookup of a key. Refusals 24, 27, 25."""
+        """The Lookup of a key, with its first record if it has several. Refusals 24, 27, 25."""
         key = _bytes(key, 'a key')
         record, pages = _NUMBER(), _NUMBER()
         with self._lock:
             answer = _library.gl_index_lookup(*_lent(self.buffer), *_lent(key), ctypes.byref(record), ctypes.byref(pages))
         return Lookup(None if _accepted(answer) == ABSENT else record.value, pages.value)
+
+    def records(self, key, room):
+        """All records of a key, in order, as a list; room is how many there may be. Refusals 24, 27, 25, 39."""
+        key, room = _bytes(key, 'a key'), _unsigned(room, 'room')
+        numbers, count = (_NUMBER * max(room, 1))(), _NUMBER()
+        with self._lock:
+            _accepted(_library.gl_index_records(*_lent(self.buffer), *_lent(key), numbers, room, ctypes.byref(count)))
+        return list(numbers[: count.value])
 
     def insert(self, key, record):
         """Inserts a key with its record's number. A refusal leaves the buffer as it was. Refusals 24, 27, 32, 28, 25, 29, 30."""
@@ -652,15 +666,17 @@ class Index:
         with self._lock:
             _accepted(_library.gl_index_insert(*_lent(self.buffer), *_lent(key), record))
 
-    def remove(self, key):
-        """Strikes a key off. A refusal leaves the buffer as it was. Refusals 24, 27, 25, 33.
+    def remove(self, key, record=0):
+        """Strikes a key off; with features 0 the pair of the key and the record. With features 1 the record is not looked at.
+
+        A refusal leaves the buffer as it was. Refusals 24, 27, 25, 33.
 
         Later insertions reuse the pages that are emptied. The index never gets shorter, and it loses levels only when its last key goes: after many calls
         insertions may be refused by 30 with few keys left, and the way out is a fresh index.
         """
-        key = _bytes(key, 'a key')
+        key, record = _bytes(key, 'a key'), _unsigned(record, 'record number')
         with self._lock:
-            _accepted(_library.gl_index_remove(*_lent(self.buffer), *_lent(key)))
+            _accepted(_library.gl_index_remove(*_lent(self.buffer), *_lent(key), record))
 
     def file(self):
         """The bytes of the index file: the buffer as far as the index's own size. An index that is not sound is refused, by 24 or 25."""

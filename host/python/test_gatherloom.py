@@ -24,6 +24,7 @@ from gatherloom import Field, Index, Lookup, MemoMissing, NdxIndex, Refusal, Sto
 ROOT = Path(__file__).resolve().parents[2]
 SAMPLES = ROOT / 'crates' / 'test_samples' / 'data'
 INDEXES = ROOT / 'crates' / 'test_indexes' / 'data'
+EQUAL_KEYS = ROOT / 'crates' / 'test_equal_keys' / 'data'
 WRITING = ROOT / 'crates' / 'test_writing' / 'data'
 DILUTION = ROOT / 'crates' / 'test_dilution'
 
@@ -87,7 +88,8 @@ S20 = [b'PLT%07d' % (7919 * i) for i in range(1, 21)]
 # the lengths of the buffers on which the lists of calls were worked out (crates/test_indexes/README.md)
 ROOM = {'k1_bytes': 8192, 'k10_ascending': 32768, 'k10_descending': 32768, 'k10_random': 32768, 'k46_mixed': 32768, 'k100_deep': 65536,
         'k100_full': 4096, 'k100_deep_raised': 65536, 'k100_full_raised': 4096, 'k5_control': 16384, 'paper_five': 2048, 'paper_full': 1024,
-        'k6_k10_mixed': 32768, 'k6_k10_to_nothing': 16384, 'k6_k1_bytes': 8192, 'k6_k100_deep': 65536, 'k6_k100_full': 4096}
+        'k6_k10_mixed': 32768, 'k6_k10_to_nothing': 16384, 'k6_k1_bytes': 8192, 'k6_k100_deep': 65536, 'k6_k100_full': 4096,
+        'k12_dates': 32768, 'k12_few': 16384, 'k12_one_key': 16384, 'k12_unique': 16384, 'k12_deep': 65536, 'k12_deep_falling': 65536}
 
 NONE = 0xFFFFFFFF
 
@@ -493,9 +495,10 @@ class Indexes(TestCase):
             with self.subTest(name):
                 buffer = bytearray(room)
                 index = None
-                for line in (INDEXES / f'{name}.calls').read_text().splitlines():
+                folder = EQUAL_KEYS if name.startswith('k12_') else INDEXES
+                for line in (folder / f'{name}.calls').read_text().splitlines():
                     index = self.check_call(index, buffer, line.split())
-                file = (INDEXES / f'{name}.idx').read_bytes()
+                file = (folder / f'{name}.idx').read_bytes()
                 self.assertEqual(index.file(), file)
                 self.assertEqual(bytes(buffer), file.ljust(room, b'\0'))
 
@@ -565,12 +568,17 @@ class Indexes(TestCase):
                 return None
             return call(*arguments)
 
+        # a list for features 1 names neither them nor the record of a removal
         if words[0] == 'f':
-            return answer(int(words[3]), Index.fresh, buffer, int(words[1]), key(words[2]))
+            return answer(int(words[-1]), Index.fresh, buffer, int(words[1]), key(words[2]), *map(int, words[3:-1]))
         if words[0] == 'i':
             answer(int(words[3]), index.insert, key(words[1]), int(words[2]))
         elif words[0] == 'r':
-            answer(int(words[2]), index.remove, key(words[1]))
+            answer(int(words[-1]), index.remove, key(words[1]), *map(int, words[2:-1]))
+        elif words[0] == 's':
+            found = answer(int(words[3]), index.records, key(words[1]), int(words[2]))
+            if found is not None:
+                self.assertEqual(found, [] if words[4] == '-' else list(map(int, words[4].split(','))))
         elif words[0] == 'l':
             found = answer(int(words[2]), index.lookup, key(words[1]))
             if found is not None:
@@ -580,6 +588,58 @@ class Indexes(TestCase):
             self.assertEqual(words[0], 'a')
             answer(int(words[1]), index.audit)
         return index
+
+    def test_features(self):
+        """Fresh indexes of another program's list, each in a buffer of its own."""
+        for line in (EQUAL_KEYS / 'k12_fresh.calls').read_text().splitlines():
+            buffer, words = bytearray(2048), line.split()
+            index = self.check_call(None, buffer, words)
+            if words[4] == '0':
+                index.audit()
+                self.assertEqual(buffer[14], int(words[3]))
+        for features in -1, 2**32:
+            self.assertRaises(OverflowError, Index.fresh, bytearray(2048), 8, b'X', features)
+
+    def test_damaged_index_with_equal_keys(self):
+        """One byte of an index is changed at a time: its audit, and a lookup, which may step to a damaged neighbour."""
+        good = (EQUAL_KEYS / 'k12_dates.idx').read_bytes()
+        for line in (EQUAL_KEYS / 'k12_damaged.expected').read_text().splitlines():
+            with self.subTest(line):
+                words = line.split()
+                content = bytearray(good)
+                content[int(words[0])] = int(words[1])
+                index = Index(content)
+                self.check_call(index, index.buffer, words[2:4])
+                self.check_call(index, index.buffer, words[4:])
+
+    def test_records(self):
+        index = Index.fresh(bytearray(4096), 8, b'RUN_DATE', features=0)
+        self.assertEqual(index.records(b'20240301', 0), [])
+        for record in 7, 3, 2**32 - 1:
+            index.insert(b'20240301', record)
+        self.refused(29, index.insert, b'20240301', 7)
+        index.insert(b'20240302', 7)
+        self.assertEqual(index.records(b'20240301', 3), [3, 7, 2**32 - 1])
+        self.assertEqual(index.lookup(b'20240301'), Lookup(3, 1))
+        for room in 0, 2:
+            self.refused(39, index.records, b'20240301', room)
+        self.assertEqual(str(Refusal(39)), '39 (record list too short)')
+        self.refused(27, index.records, b'2024', 3)
+        self.refused(33, index.remove, b'20240301')
+        self.refused(33, index.remove, b'20240302', 3)
+        index.remove(b'20240301', 3)
+        self.assertEqual(index.records(b'20240301', 9), [7, 2**32 - 1])
+        for room in -1, 2**32:
+            self.assertRaises(OverflowError, index.records, b'20240301', room)
+        self.assertRaises(TypeError, index.records, '20240301', 3)
+        index.buffer[512] = 0
+        self.refused(25, index.records, b'20240301', 9)
+        one = Index.fresh(bytearray(1024), 8, b'RUN_DATE')
+        one.insert(b'20240301', 7)
+        self.refused(29, one.insert, b'20240301', 3)
+        self.assertEqual(one.records(b'20240301', 1), [7])
+        one.remove(b'20240301', 3)
+        self.assertEqual(one.records(b'20240301', 0), [])
 
     def test_fresh(self):
         for key_length, expression, room, number in (
@@ -638,7 +698,9 @@ class Indexes(TestCase):
         self.assertEqual(Index(path).file(), path.read_bytes())
 
     def test_unsound(self):
-        for index in Index(b''), Index(SAMPLES / 'xbase_s20.idx'):
+        features = bytearray((SAMPLES / 'xbase_s20.idx').read_bytes())
+        features[14] = 2
+        for index in Index(b''), Index(features):
             self.refused(24, index.audit)
             self.refused(24, index.file)
             self.refused(24, index.lookup, b'PLT0007919')
@@ -659,7 +721,9 @@ class Indexes(TestCase):
         self.assertEqual([index.lookup(barcode).record for barcode in S20], list(range(1, 21)))
         table.match(index, 'BARCODE')
         table.match(index, 1)
-        self.refused(24, table.match, Index(SAMPLES / 'xbase_s20.idx'), 0)
+        # the same index with features 0
+        table.match(Index(SAMPLES / 'xbase_s20.idx'), 1)
+        self.refused(24, table.match, Index(bytes(1024)), 0)
         self.refused(12, table.match, index, 0)
         self.refused(12, table.match, index, 5)
         self.refused(13, table.match, index, 'CONC')
@@ -788,7 +852,7 @@ class Refusals(TestCase):
         self.assertEqual(pickle.loads(pickle.dumps(refusal)), refusal)
         self.assertNotEqual(refusal, Refusal(17))
         self.assertNotEqual(refusal, 16)
-        self.assertEqual(sorted(gatherloom.WORDS), [n for n in range(1, 34) if n != 26] + [35, 36, 37, 38, 40])
+        self.assertEqual(sorted(gatherloom.WORDS), [n for n in range(1, 41) if n not in (26, 34)])
 
 
 class Threads(TestCase):
@@ -849,9 +913,9 @@ class Loading(TestCase):
         with tempfile.TemporaryDirectory() as folder:
             library = Path(folder) / 'other.so'
             for source, says in (
-                ('int other(void) { return 1; }', 'undefined symbol: gl_interface'),
-                ('unsigned gl_interface(void) { return 1; }', 'undefined symbol: gl_table_shape'),
-                ('unsigned gl_interface(void) { return 2; }', 'has interface 2, and gatherloom.py is for interface 1'),
+                ('int other(void) { return 2; }', 'undefined symbol: gl_interface'),
+                ('unsigned gl_interface(void) { return 2; }', 'undefined symbol: gl_table_shape'),
+                ('unsigned gl_interface(void) { return 1; }', 'has interface 1, and gatherloom.py is for interface 2'),
             ):
                 subprocess.run(['cc', '-shared', '-fPIC', '-x', 'c', '-', '-o', library], input=source.encode(), check=True)
                 message = self.message(library)

@@ -19,7 +19,7 @@ pub struct Position {
 }
 
 /// `GL_INTERFACE`: the interface that is declared here.
-pub const INTERFACE: u32 = 1;
+pub const INTERFACE: u32 = 2;
 
 /// The answers beside 0 and the refusal numbers.
 pub const EMPTY: u32 = 256;
@@ -116,6 +116,7 @@ extern "C" {
         index: *mut u8,
         index_len: usize,
         key_length: u32,
+        features: u32,
         expression: *const u8,
         expression_len: usize,
     ) -> u32;
@@ -135,8 +136,22 @@ extern "C" {
         key_len: usize,
         record: u32,
     ) -> u32;
-    pub fn gl_index_remove(index: *mut u8, index_len: usize, key: *const u8, key_len: usize)
-        -> u32;
+    pub fn gl_index_remove(
+        index: *mut u8,
+        index_len: usize,
+        key: *const u8,
+        key_len: usize,
+        record: u32,
+    ) -> u32;
+    pub fn gl_index_records(
+        index: *const u8,
+        index_len: usize,
+        key: *const u8,
+        key_len: usize,
+        records: *mut u32,
+        room: usize,
+        count: *mut u32,
+    ) -> u32;
     pub fn gl_match(
         table: *const u8,
         table_len: usize,

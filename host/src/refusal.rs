@@ -72,6 +72,7 @@ refusals! {
     36 NoConcentration "no concentration"
     37 TargetOrVolume "target or volume out of range"
     38 TargetAboveConcentration "target above concentration"
+    39 RecordListTooShort "record list too short"
     40 ArgumentsOrFiles "arguments or files"
 }
 

@@ -112,6 +112,7 @@ static void give_back(lent *l)
 
 static const char *repository = ".";
 static const char samples[] = "crates/test_samples", samples_data[] = "crates/test_samples/data", indexes_data[] = "crates/test_indexes/data";
+static const char equal_keys_data[] = "crates/test_equal_keys/data";
 static const char dilution_data[] = "crates/test_dilution/data";
 
 static lent load(const char *folder, const char *name)
@@ -822,7 +823,7 @@ static void test_tree_000(void)
     b[1024 + 3] = 255;
     SAME(gl_index_audit(index.bytes, index.len), 25);
     LOOKS_UP(&index, "A", 1, 25, 0, 0);
-    b[14] = 0;
+    b[14] = 2;
     SAME(gl_index_audit(index.bytes, index.len), 24);
     LOOKS_UP(&index, "A", 1, 24, 0, 0);
     MARGINS(index);
@@ -870,7 +871,7 @@ static void test_largest_index(void)
     LOOKS_UP(&index, key, 100, GL_ABSENT, 0, GL_INDEX_LEVELS_MAX);
     for (uint32_t i = 3; i >= 1; i--) {
         snprintf((char *)key, sizeof key, "%0100u", 10 + i);
-        SAME(gl_index_remove(index.bytes, index.len, key, 100), 0);
+        SAME(gl_index_remove(index.bytes, index.len, key, 100, 0), 0);
     }
     UNCHANGED(index);
     /* the 15th page visited is a leaf */
@@ -894,7 +895,7 @@ static void refused_fresh(size_t len, uint32_t k, const void *expression, size_t
     lent index = lend(NULL, len);
     memset(index.bytes, 0x5C, len);
     keep(&index);
-    SAME(gl_index_fresh(index.bytes, index.len, k, expression, n), answer);
+    SAME(gl_index_fresh(index.bytes, index.len, k, 1, expression, n), answer);
     UNCHANGED(index);
     MARGINS(index);
     give_back(&index);
@@ -916,7 +917,7 @@ static void test_fresh(void)
     lent index = lend(NULL, 1100);
     memset(index.bytes, 0x5C, index.len);
     keep(&index);
-    SAME(gl_index_fresh(index.bytes, index.len, 10, long_text, 220), 0);
+    SAME(gl_index_fresh(index.bytes, index.len, 10, 1, long_text, 220), 0);
     SAME_BYTES(index.bytes, "\0\2\0\0\xFF\xFF\xFF\xFF\0\4\0\0\12\0\1\0xxxx", 20);
     SAME(index.bytes[235], 'x');
     SAME(index.bytes[236], 0);
@@ -933,7 +934,7 @@ static void test_five_keys(size_t len, uint32_t fifth)
 {
     uint8_t key[100];
     lent index = lend(NULL, len);
-    SAME(gl_index_fresh(index.bytes, len, 100, (const uint8_t *)"KEY", 3), 0);
+    SAME(gl_index_fresh(index.bytes, len, 100, 1, (const uint8_t *)"KEY", 3), 0);
     memset(key, 'a', sizeof key);
     for (uint32_t i = 1; i <= 5; i++) {
         key[99] = (uint8_t)('0' + i);
@@ -969,6 +970,52 @@ static void test_five_keys(size_t len, uint32_t fifth)
     give_back(&index);
 }
 
+/* Several records to a key, features 0: they are listed in order, and pairs are told by both. */
+static void test_records(void)
+{
+    static const uint32_t given[] = {7, 3, 9, 4294967295u, 1};
+    uint32_t list[6] = {11, 12, 13, 14, 15, 16}, count = 99, record, pages;
+    lent index = lend(NULL, 4096);
+    SAME(gl_index_fresh(index.bytes, index.len, 8, 2, (const uint8_t *)"RUN_DATE", 8), GL_REFUSED_INDEX_HEADER);
+    SAME(gl_index_fresh(index.bytes, index.len, 8, 0, (const uint8_t *)"RUN_DATE", 8), 0);
+    SAME(gl_index_records(index.bytes, index.len, (const uint8_t *)"20240301", 8, list, 6, &count), 0);
+    SAME(count, 0);
+    for (int i = 0; i < 5; i++)
+        SAME(gl_index_insert(index.bytes, index.len, (const uint8_t *)"20240301", 8, given[i]), 0);
+    SAME(gl_index_insert(index.bytes, index.len, (const uint8_t *)"20240301", 8, 9), GL_REFUSED_KEY_PRESENT);
+    SAME(gl_index_insert(index.bytes, index.len, (const uint8_t *)"20240302", 8, 9), 0);
+    keep(&index);
+    SAME(gl_index_remove(index.bytes, index.len, (const uint8_t *)"20240301", 8, 0), GL_REFUSED_KEY_ABSENT);
+    SAME(gl_index_remove(index.bytes, index.len, (const uint8_t *)"20240302", 8, 7), GL_REFUSED_KEY_ABSENT);
+    SAME(gl_index_lookup(index.bytes, index.len, (const uint8_t *)"20240301", 8, &record, &pages), 0);
+    SAME(record, 1);
+    count = 99;
+    SAME(gl_index_records(index.bytes, index.len, (const uint8_t *)"20240301", 8, list, 4, &count), GL_REFUSED_RECORD_LIST_TOO_SHORT);
+    SAME(gl_index_records(index.bytes, index.len, (const uint8_t *)"20240301", 7, list, 6, &count), GL_REFUSED_KEY_LENGTH);
+    SAME(count, 99);
+    SAME(list[0], 11);
+    SAME(gl_index_records(index.bytes, index.len, (const uint8_t *)"20240301", 8, list, 6, &count), 0);
+    SAME(count, 5);
+    SAME(list[0], 1);
+    SAME(list[1], 3);
+    SAME(list[2], 7);
+    SAME(list[3], 9);
+    SAME(list[4], 4294967295u);
+    SAME(list[5], 16);
+    UNCHANGED(index);
+    SAME(gl_index_remove(index.bytes, index.len, (const uint8_t *)"20240301", 8, 1), 0);
+    SAME(gl_index_records(index.bytes, index.len, (const uint8_t *)"20240301", 8, list, 4, &count), 0);
+    SAME(count, 4);
+    SAME(list[0], 3);
+    index.bytes[512] = 0;
+    SAME(gl_index_records(index.bytes, index.len, (const uint8_t *)"20240301", 8, list, 6, &count), GL_REFUSED_INDEX_NOT_SOUND);
+    index.bytes[14] = 2;
+    SAME(gl_index_records(index.bytes, index.len, (const uint8_t *)"20240301", 8, list, 6, &count), GL_REFUSED_INDEX_HEADER);
+    SAME(count, 4);
+    MARGINS(index);
+    give_back(&index);
+}
+
 /* Keys of 100 bytes that differ in their last: five are put in, as above, and struck off. The page that the last two leave is free, and the next split takes
    it, so the index is then byte for byte the one before and the buffer of 2,048 bytes is enough. At last all go, and the root page is an empty leaf. */
 static void test_removal(void)
@@ -977,16 +1024,16 @@ static void test_removal(void)
     uint8_t key[100];
     lent index = lend(NULL, 2048);
     const uint8_t *b = index.bytes;
-    SAME(gl_index_fresh(index.bytes, index.len, 100, (const uint8_t *)"KEY", 3), 0);
+    SAME(gl_index_fresh(index.bytes, index.len, 100, 1, (const uint8_t *)"KEY", 3), 0);
     memset(key, 'a', sizeof key);
     for (key[99] = '1'; key[99] <= '5'; key[99]++)
         SAME(gl_index_insert(index.bytes, index.len, key, 100, key[99] - '0'), 0);
     keep(&index);
-    SAME(gl_index_remove(index.bytes, index.len, key, 100), GL_REFUSED_KEY_ABSENT);
-    SAME(gl_index_remove(index.bytes, index.len, key, 99), GL_REFUSED_KEY_LENGTH);
+    SAME(gl_index_remove(index.bytes, index.len, key, 100, 0), GL_REFUSED_KEY_ABSENT);
+    SAME(gl_index_remove(index.bytes, index.len, key, 99, 0), GL_REFUSED_KEY_LENGTH);
     UNCHANGED(index);
     for (key[99] = '4'; key[99] <= '5'; key[99]++)
-        SAME(gl_index_remove(index.bytes, index.len, key, 100), 0);
+        SAME(gl_index_remove(index.bytes, index.len, key, 100, 0), 0);
     /* root 1,536, free page 1,024, F 2,048; the leaf at 512 has no neighbour; the root has one entry left, and zeros after it */
     SAME_BYTES(b, "\0\6\0\0\0\4\0\0\0\10\0\0", 12);
     SAME_BYTES(b + 512 + 4, none, 4);
@@ -1004,7 +1051,7 @@ static void test_removal(void)
         SAME(gl_index_insert(index.bytes, index.len, key, 100, key[99] - '0'), 0);
     UNCHANGED(index);
     for (key[99] = '1'; key[99] <= '5'; key[99]++)
-        SAME(gl_index_remove(index.bytes, index.len, key, 100), 0);
+        SAME(gl_index_remove(index.bytes, index.len, key, 100, 0), 0);
     /* the leaf at 512 was emptied before the one at 1,024: the list begins 1,024, 512 */
     SAME_BYTES(b, "\0\6\0\0\0\4\0\0\0\10\0\0", 12);
     SAME_BYTES(b + 1024, "\0\0\0\0\0\0\0\0\0\2\0", 12);
@@ -1025,19 +1072,19 @@ static void test_free_lists(void)
         {4, 1, 24}, {5, 8, 24}};
     lent index = lend(NULL, 2048);
     uint8_t key[100];
-    SAME(gl_index_fresh(index.bytes, index.len, 100, (const uint8_t *)"KEY", 3), 0);
+    SAME(gl_index_fresh(index.bytes, index.len, 100, 1, (const uint8_t *)"KEY", 3), 0);
     memset(key, 'a', sizeof key);
     for (key[99] = '1'; key[99] <= '5'; key[99]++)
         SAME(gl_index_insert(index.bytes, index.len, key, 100, 1), 0);
     for (key[99] = '1'; key[99] <= '5'; key[99]++)
-        SAME(gl_index_remove(index.bytes, index.len, key, 100), 0);
+        SAME(gl_index_remove(index.bytes, index.len, key, 100, 0), 0);
     /* the list is 1,024, 512 and the tree is 1,536 alone */
     for (size_t i = 0; i < sizeof damages / sizeof *damages; i++) {
         uint8_t *byte = index.bytes + damages[i].at, was = *byte;
         *byte = damages[i].byte, keep(&index);
         SAME(gl_index_audit(index.bytes, index.len), damages[i].answer);
         SAME(gl_index_insert(index.bytes, index.len, key, 100, 1), damages[i].answer);
-        SAME(gl_index_remove(index.bytes, index.len, key, 100), damages[i].answer);
+        SAME(gl_index_remove(index.bytes, index.len, key, 100, 0), damages[i].answer);
         UNCHANGED(index);
         *byte = was;
     }
@@ -1059,20 +1106,49 @@ static size_t hex(const char *word, uint8_t *to)
     return n;
 }
 
+/* All records of a key, `s KEY ROOM ANSWER RECORDS`: they are in the list, and what it has past them is kept, as is a list that is too short. */
+static void records_line(const lent *index, const char *line)
+{
+    static char word[1024], records[8192];
+    static uint8_t bytes[512];
+    static uint32_t want[1024], list[1024];
+    uint32_t room = 0, answer = 0, n = 0;
+    OUT(uint32_t, count);
+    SAME(sscanf(line, "s %1023s %" SCNu32 " %" SCNu32 " %8191s", word, &room, &answer, records), 4);
+    SAME(room < 1024, 1);
+    for (size_t i = 0; i < 1024; i++)
+        want[i] = list[i] = OLD;
+    for (char *at = records; *at != 0 && *at != '-'; at += *at == ',')
+        want[n++] = (uint32_t)strtoul(at, &at, 10);
+    SAME(gl_index_records(index->bytes, index->len, bytes, hex(word, bytes), list, room, &count[1]), answer);
+    HELD(count, answer == 0 ? n : OLD);
+    SAME_BYTES((const uint8_t *)list, (const uint8_t *)want, sizeof list);
+    UNCHANGED(*index);
+}
+
+/* A list for features 1 names neither them nor the record of a removal. */
 static void call_line(lent *index, char *line)
 {
     static char word[1024];
     static uint8_t bytes[512];
     uint32_t a = 0, b = 0, c = 0;
     keep(index);
-    if (line[0] == 'f' && sscanf(line, "f %" SCNu32 " %1023s %" SCNu32, &a, word, &b) == 3) {
-        SAME(gl_index_fresh(index->bytes, index->len, a, bytes, hex(word, bytes)), b);
+    if (line[0] == 'f' && sscanf(line, "f %" SCNu32 " %1023s %" SCNu32 " %" SCNu32, &a, word, &b, &c) == 4) {
+        SAME(gl_index_fresh(index->bytes, index->len, a, b, bytes, hex(word, bytes)), c);
+        if (c != 0) UNCHANGED(*index);
+    } else if (line[0] == 'f' && sscanf(line, "f %" SCNu32 " %1023s %" SCNu32, &a, word, &b) == 3) {
+        SAME(gl_index_fresh(index->bytes, index->len, a, 1, bytes, hex(word, bytes)), b);
+        if (b != 0) UNCHANGED(*index);
+    } else if (line[0] == 's') {
+        records_line(index, line);
+    } else if (line[0] == 'r' && sscanf(line, "r %1023s %" SCNu32 " %" SCNu32, word, &a, &b) == 3) {
+        SAME(gl_index_remove(index->bytes, index->len, bytes, hex(word, bytes), a), b);
         if (b != 0) UNCHANGED(*index);
     } else if (line[0] == 'i' && sscanf(line, "i %1023s %" SCNu32 " %" SCNu32, word, &a, &b) == 3) {
         SAME(gl_index_insert(index->bytes, index->len, bytes, hex(word, bytes), a), b);
         if (b != 0) UNCHANGED(*index);
     } else if (line[0] == 'r' && sscanf(line, "r %1023s %" SCNu32, word, &b) == 2) {
-        SAME(gl_index_remove(index->bytes, index->len, bytes, hex(word, bytes)), b);
+        SAME(gl_index_remove(index->bytes, index->len, bytes, hex(word, bytes), 0), b);
         if (b != 0) UNCHANGED(*index);
     } else if (line[0] == 'l' && sscanf(line, "l %1023s %" SCNu32 " %" SCNu32 " %" SCNu32, word, &a, &b, &c) == 4) {
         size_t n = hex(word, bytes);
@@ -1089,7 +1165,8 @@ static void call_line(lent *index, char *line)
 static void make_calls(lent *index, const char *calls, const char *after)
 {
     char *line;
-    lent text = load(indexes_data, calls), want = load(indexes_data, after);
+    const char *folder = strncmp(calls, "k12_", 4) == 0 ? equal_keys_data : indexes_data;
+    lent text = load(folder, calls), want = load(folder, after);
     text.bytes[text.len] = 0; /* its first canary */
     for (line = strtok((char *)text.bytes, "\n"); line != NULL; line = strtok(NULL, "\n"))
         call_line(index, line);
@@ -1110,6 +1187,45 @@ static void test_calls(const char *name, size_t len)
     give_back(&index);
 }
 
+/* Fresh indexes with features that there are and that there are not, each in a buffer of its own. */
+static void test_features(void)
+{
+    lent text = load(equal_keys_data, "k12_fresh.calls");
+    int lines = 0;
+    text.bytes[text.len] = 0; /* its first canary */
+    for (char *line = strtok((char *)text.bytes, "\n"); line != NULL; line = strtok(NULL, "\n"), lines++) {
+        lent index = lend(NULL, 2048);
+        call_line(&index, line);
+        MARGINS(index);
+        give_back(&index);
+    }
+    SAME(lines, 4);
+    give_back(&text);
+}
+
+/* An index with several records to a key, one byte of it changed at a time, `AT BYTE a ANSWER l KEY ANSWER RECORD PAGES`: its audit, and a lookup, which may
+   step to a damaged neighbour. */
+static void test_damaged_equal_keys(void)
+{
+    lent text = load(equal_keys_data, "k12_damaged.expected"), index = load(equal_keys_data, "k12_dates.idx");
+    int lines = 0;
+    text.bytes[text.len] = 0; /* its first canary */
+    for (char *line = strtok((char *)text.bytes, "\n"); line != NULL; line = strtok(NULL, "\n"), lines++) {
+        unsigned at = 0, byte = 0;
+        SAME(sscanf(line, "%u %u", &at, &byte) == 2 && at < index.len, 1);
+        uint8_t was = index.bytes[at];
+        index.bytes[at] = (uint8_t)byte;
+        char *lookup = strstr(line, " l ");
+        call_line(&index, strstr(line, "a "));
+        call_line(&index, lookup + 1);
+        index.bytes[at] = was;
+    }
+    SAME(lines, 24);
+    MARGINS(index);
+    give_back(&text);
+    give_back(&index);
+}
+
 /* An index of an earlier release has keys with control bytes: it is sound and they are found, but none can be inserted. */
 static void test_earlier_release(void)
 {
@@ -1126,7 +1242,7 @@ static void test_control_bytes(void)
 {
     uint8_t key[10];
     lent index = lend(NULL, 1024);
-    SAME(gl_index_fresh(index.bytes, index.len, 10, (const uint8_t *)"BARCODE", 7), 0);
+    SAME(gl_index_fresh(index.bytes, index.len, 10, 1, (const uint8_t *)"BARCODE", 7), 0);
     keep(&index);
     for (size_t at = 0; at < 10; at++) {
         memcpy(key, "PLT0000001", 10);
@@ -1422,7 +1538,7 @@ static void test_set_date(void)
 static void index_records(lent *index, const lent *t, uint32_t k, uint32_t last)
 {
     const uint8_t none = 0;
-    SAME(gl_index_fresh(index->bytes, index->len, k, (const uint8_t *)"BARCODE", 7), 0);
+    SAME(gl_index_fresh(index->bytes, index->len, k, 1, (const uint8_t *)"BARCODE", 7), 0);
     for (uint32_t i = 1; i <= last; i++) {
         uint64_t start = 0, length = 0;
         SAME(gl_text_part(t->bytes, t->len, &none, 0, i, 1, &start, &length), 0);
@@ -1459,13 +1575,13 @@ static void test_match(void)
         MATCHES(1, 31);
     }
     /* 27, 25, 24 and 1 to 10, each before the ones tested above it */
-    SAME(gl_index_fresh(index.bytes, index.len, 9, (const uint8_t *)"BARCODE", 7), 0);
+    SAME(gl_index_fresh(index.bytes, index.len, 9, 1, (const uint8_t *)"BARCODE", 7), 0);
     MATCHES(1, 27);
     index.bytes[512] = 0, MATCHES(1, 27);
     index_records(&index, &t, 10, 5);
     index.bytes[512] = 0, MATCHES(1, 25);
     MATCHES(2, 13);
-    index.bytes[14] = 0, MATCHES(9, 24);
+    index.bytes[14] = 2, MATCHES(9, 24);
     t.bytes[0] = 0x83, MATCHES(9, 2);
     MARGINS(t);
     MARGINS(index);
@@ -1694,6 +1810,7 @@ int main(int argc, char **argv)
     test_fresh();
     test_five_keys(2048, 0);
     test_five_keys(1024, 30);
+    test_records();
     test_removal();
     test_free_lists();
     test_calls("k1_bytes", 8192);
@@ -1711,6 +1828,14 @@ int main(int argc, char **argv)
     test_calls("k6_k1_bytes", 8192);
     test_calls("k6_k100_deep", 65536);
     test_calls("k6_k100_full", 4096);
+    test_calls("k12_dates", 32768);
+    test_calls("k12_few", 16384);
+    test_calls("k12_one_key", 16384);
+    test_calls("k12_unique", 16384);
+    test_calls("k12_deep", 65536);
+    test_calls("k12_deep_falling", 65536);
+    test_features();
+    test_damaged_equal_keys();
     test_earlier_release();
     test_control_bytes();
     test_writing();

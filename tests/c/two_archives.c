@@ -14,7 +14,8 @@
 #define SKIP(n) __asm__(".section .text.placement, \"ax\"\n.balign 64\n.skip " TEXT(n) "\n.text")
 SKIP(PLACEMENT);
 
-/* The other archive's calls, by the names that the script gives them; removal is missing before K6. */
+/* The other archive's calls, by the names that the script gives them; removal is missing before K6. In an archive of interface 1, before K12, removal has no
+   record: there the last argument is one more than it takes, which x86-64 passes in a register that the call does not read. */
 extern __typeof__(gl_interface) other_gl_interface;
 extern __typeof__(gl_index_audit) other_gl_index_audit;
 extern __typeof__(gl_index_lookup) other_gl_index_lookup;
@@ -93,7 +94,7 @@ static void make_indexes(const char *folder, shape s)
     static uint8_t index[WHOLE];
     uint8_t key[GL_KEY_MAX];
     uint32_t record = 0;
-    gl_index_fresh(index, sizeof index, (uint32_t)s.length, (const uint8_t *)"KEY", 3);
+    gl_index_fresh(index, sizeof index, (uint32_t)s.length, 1, (const uint8_t *)"KEY", 3);
     for (size_t i = 0; i < sizeof sizes / sizeof *sizes; i++) {
         uint32_t answer;
         do {
@@ -196,7 +197,7 @@ static uint64_t run_removals(const archive *a, shape s, size_t calls, const inpu
 {
     uint64_t sum = 0;
     for (size_t i = 0; i < calls; i++)
-        sum += a->remove(in->index, WHOLE, in->keys + i * s.length, s.length);
+        sum += a->remove(in->index, WHOLE, in->keys + i * s.length, s.length, 0);
     return sum;
 }
 
@@ -266,8 +267,8 @@ static void time_calls(const char *folder, shape s, int samples)
 
 int main(int argc, char **argv)
 {
-    if (other_gl_interface() != gl_interface())
-        fail("the archives have different interfaces");
+    if (gl_interface() != GL_INTERFACE || other_gl_interface() < 1 || other_gl_interface() > GL_INTERFACE)
+        fail("an archive has another interface");
     int make = argc == 3 && strcmp(argv[1], "make") == 0;
     if (!make && argc != 4)
         fail("make FOLDER, or time FOLDER SAMPLES");

@@ -2,18 +2,23 @@
 -- on these keys. Assumes nothing.
 use Prim.Native.Nat.{ℕ, zero, suc, _+_, _-_, _≤_, _<_}
 use mathlib.Core.Path.{_≡_, refl, sym, ap, _∙_}
-use mathlib.Core.Bool.{Bool, true, false, or-false}
+use mathlib.Core.Bool.{Bool, true, false, not, _&&_, or-false}
 use mathlib.Core.List.{List}
 use mathlib.Core.Option.{none}
 use native.Mathlib.Omega.{arith}
 use lib.ListN.{length}
+use lib.Dec.{eqb}
 use borrow.Author.Tests.{eq-eqb, ne-eqb}
-use Rattle.basis.specs.Tests.{contra}
+use Rattle.basis.specs.Tests.{either, contra}
 use Rattle.octets.specs.Store.{window}
 use Rattle.octets.specs.declared.Ordering.{Ordering}
 use Rattle.octets.specs.declared.Ordering.the-variants.{Below, Equal, Above}
-use Rattle.octets.specs.Order.{ordering, isBelow, isEqual}
-use Rattle.page.specs.Header.{noPage}
+use Rattle.octets.specs.Order.{bytesLe, ordering, isBelow, isEqual}
+use Rattle.octets.specs.OrderLaws.{le-total}
+use Rattle.tree.specs.Keeping.{coversFor}
+use Rattle.page.specs.Header.{noPage, features}
+use Rattle.page.specs.KeyOrder.{bytesOrder}
+use Rattle.page.specs.KeyOrderLaws.{below, at-or-above, equal-le}
 use Rattle.page.specs.Page.{entryOffset, numberAt}
 use Rattle.page.specs.Reading.{entriesAt}
 use Rattle.page.specs.ReadingLaws.{entriesFrom, entries-are}
@@ -62,6 +67,22 @@ module _ (f : ℕ → ℕ) (h q left p : ℕ) (inv : down f h q ≡ down f left 
   unfolding down
   down-on c more ec = let s : left ≡ suc (left - 1) = omega arith in inv ∙ ap (λ (l : ℕ). down f l p) s ∙ rw ec
 
+-- a key x before a key a, by their order and a header's features f
+module _ (f : ℕ) (x a : List ℕ) where
+  clear-below : isBelow (ordering x a) ≡ true → not (coversFor bytesOrder f x a) ≡ true
+  clear-below e = go f (below x a refl e)
+    where
+      go : (g : ℕ) → bytesLe a x ≡ false → not (coversFor bytesOrder g x a) ≡ true
+      go zero l = rw (le-total a x l)
+      go (suc n) l = rw l
+
+  clear-else : isBelow (ordering x a) ≡ false → not (coversFor bytesOrder f x a) ≡ (eqb f 0 && isEqual (ordering x a))
+  clear-else e = go f (at-or-above x a refl e)
+    where
+      go : (g : ℕ) → bytesLe a x ≡ true → not (coversFor bytesOrder g x a) ≡ (eqb g 0 && isEqual (ordering x a))
+      go zero l = rw (equal-le x a l) (either (bytesLe x a) (λ u. rw u) (λ u. rw u))
+      go (suc n) l = rw (l, ne-eqb (suc n) 0 (omega arith))
+
 -- the next child, that of entry i, if there is one
 module _ (b : List ℕ) (k size h p n i x : ℕ) where
   pub next-end : n ≤ i → true ≡ belowNext b k size h (window b x k) (entriesFrom b k p (n - i) i)
@@ -73,10 +94,20 @@ module _ (b : List ℕ) (k size h p n i x : ℕ) where
     unfolding keyFrom
     next-none e = rw (from-on b k p n i more, ← ec, ← eq, ← ez, eq-eqb z 0 e)
 
-    pub next-below : {o : Ordering} {r : Bool} → (z ≡ 0 → ⊥) → o ≡ ordering (window b x k) (window b z k) → r ≡ isBelow o
-        → r ≡ belowNext b k size h (window b x k) (entriesFrom b k p (n - i) i)
-    unfolding keyFrom
-    next-below e eo er = er ∙ rw (from-on b k p n i more, ← ec, ← eq, ← ez, ne-eqb z 0 e) (ap isBelow eo)
+    -- o is the order of the key to the first leaf key under the next child
+    module _ (o : Ordering) (r : Bool) (some-z : z ≡ 0 → ⊥) (eo : o ≡ ordering (window b x k) (window b z k)) (er : r ≡ isBelow o) where
+      next-is : belowNext b k size h (window b x k) (entriesFrom b k p (n - i) i) ≡ not (coversFor bytesOrder (features b) (window b x k) (window b z k))
+      unfolding keyFrom
+      next-is = rw (from-on b k p n i more, ← ec, ← eq, ← ez, ne-eqb z 0 some-z)
+
+      pub next-below : r ≡ true → true ≡ belowNext b k size h (window b x k) (entriesFrom b k p (n - i) i)
+      next-below t = sym (next-is ∙ clear-below (features b) (window b x k) (window b z k) (ap isBelow (sym eo) ∙ sym er ∙ t))
+
+      pub next-equal : {several same : Bool} → r ≡ false → several ≡ eqb (features b) 0 → same ≡ isEqual o
+          → (several && same) ≡ belowNext b k size h (window b x k) (entriesFrom b k p (n - i) i)
+      next-equal t es eq = sym (next-is
+          ∙ clear-else (features b) (window b x k) (window b z k) (ap isBelow (sym eo) ∙ sym er ∙ t)
+          ∙ rw (← eo, ← eq, ← es))
 
 -- an order that is below is not equal
 below-unequal : (o : Ordering) → isBelow o ≡ true → isEqual o ≡ false

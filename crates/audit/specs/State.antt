@@ -8,7 +8,7 @@ use lib.ListN.{length}
 use lib.Dec.{eqb}
 use Rattle.octets.specs.Bytes.{be32}
 use Rattle.octets.specs.Store.{window}
-use Rattle.page.specs.Header.{maxBytes, maxKey, pageSize, noPage}
+use Rattle.page.specs.Header.{maxBytes, maxKey, pageSize, noPage, features}
 use Rattle.page.specs.Page.{keyAt, numberAt, rightAt}
 use Rattle.page.specs.ReadingLaws.{entriesFrom}
 use Rattle.page.specs.Within.{Within}
@@ -34,9 +34,13 @@ pub record EntriesWithin (b : List ℕ) (k p n : ℕ) : Type 0 where
 unfoldable pub keyFrom : List ℕ → ℕ → ℕ → Option (List ℕ)
 keyFrom b k z = cond (eqb z 0) none (some (window b z k))
 
--- the entry of a leaf that begins at `at` has a record number above 0, and a key above the key that begins at z
+-- the pair of the entry that begins at z, or none if z is 0
+unfoldable pub pairFrom : List ℕ → ℕ → ℕ → Option (List ℕ × ℕ)
+pairFrom b k z = cond (eqb z 0) none (some (window b z k, be32 b (z + k)))
+
+-- the entry of a leaf that begins at `at` has a record number above 0, and a pair above that of the entry that begins at z
 abbrev pub leafEntry : List ℕ → ℕ → ℕ → ℕ → Bool
-leafEntry b k at z = not (eqb (be32 b (at + k)) 0) && isAbove (keyFrom b k z) (window b at k)
+leafEntry b k at z = not (eqb (be32 b (at + k)) 0) && isAbove (features b) (pairFrom b k z) (window b at k, be32 b (at + k))
 
 -- the key of entry i of a page above the leaves, of n entries, whose children have h levels under them
 abbrev pub upperKey : List ℕ → ℕ → ℕ → ℕ → ℕ → ℕ → ℕ → ℕ → rule.Keys

@@ -9,20 +9,20 @@ use lib.ListN.{length}
 use lib.Dec.{eqb}
 use borrow.Author.Tests.{le-leb, lt-leb}
 use Rattle.basis.specs.Tests.{contra, both}
-use Rattle.page.specs.Header.{pageSize, isPage}
+use Rattle.page.specs.Header.{pageSize, features, isPage}
 use Rattle.page.specs.HeaderLaws.{IsPage, is-page}
 use Rattle.page.specs.Page.{attributeAt, countAt, leftAt, rightAt, leafBit, countGood}
 use Rattle.page.specs.Reading.{entriesAt}
 use Rattle.page.specs.ReadingLaws.{entriesFrom, entries-are}
 use Rattle.sound.specs.Rule as rule
-use Rattle.sound.specs.Rule.{lastOf, leafEntriesGood, entriesFit, pageFits, counted, checkPage}
+use Rattle.sound.specs.Rule.{lastPair, leafEntriesGood, entriesFit, pageFits, counted, checkPage}
 use Rattle.audit.specs.declared.Progress.{Progress}
-use Rattle.audit.specs.State.{InFile, keyFrom, meetPage, progressOf, refusedAt}
+use Rattle.audit.specs.State.{InFile, pairFrom, meetPage, progressOf, refusedAt}
 
 -- the entries of a page
 module _ (b : List ℕ) (k size a last p : ℕ) where
-  pub entries-leaf : (n z : ℕ) (r : Bool) → n ≡ length (entriesAt k size b p) → leafBit a ≡ true → keyFrom b k z ≡ lastOf none (entriesAt k size b last)
-      → r ≡ leafEntriesGood (keyFrom b k z) (entriesFrom b k p n 0) → r ≡ entriesFit b k size a last p
+  pub entries-leaf : (n z : ℕ) (r : Bool) → n ≡ length (entriesAt k size b p) → leafBit a ≡ true → pairFrom b k z ≡ lastPair none (entriesAt k size b last)
+      → r ≡ leafEntriesGood (features b) (pairFrom b k z) (entriesFrom b k p n 0) → r ≡ entriesFit b k size a last p
   unfolding entriesFit
   entries-leaf n z r en l ez er = er ∙ rw (l, ← ez, entries-are b k size p n en)
 

@@ -13,19 +13,20 @@ ghost use mathlib.Core.Bool.{Bool, true, cond};
 ghost use mathlib.Core.Option.{none};
 ghost use Prim.Native.Nat.{ℕ, _+_, _-_, _≤_, _<_};
 ghost use lib.ListN.{length};
+ghost use lib.Dec.{eqb};
 ghost use Rattle.octets.specs.Store.{window};
 ghost use Rattle.octets.specs.Order.{ordering, isEqual};
-ghost use Rattle.page.specs.Header.{minBytes, maxBytes, maxKey, maxLevels, pageSize, headerGood};
+ghost use Rattle.page.specs.Header.{minBytes, maxBytes, maxKey, maxLevels, pageSize, features, headerGood};
 ghost use Rattle.page.specs.Within.{Within};
 ghost use Rattle.page.specs.Reading.{entriesAt};
 ghost use Rattle.page.specs.ReadingLaws.{entriesFrom};
 ghost use Rattle.page.specs.Page.{entryArea};
 ghost use Rattle.sound.specs.Sound.{zeros, Audited};
 ghost use Rattle.page.specs.Children.{childrenOf, firstChild};
-ghost use Rattle.sound.specs.Rule.{maxPages, laterPages, firstOf, lastOf, leafEntriesGood, entriesFit, pageFits, attributeOf, chain};
+ghost use Rattle.sound.specs.Rule.{maxPages, laterPages, firstOf, lastOf, lastPair, leafEntriesGood, entriesFit, pageFits, attributeOf, chain};
 ghost use Rattle.sound.specs.Rule.{counted, checkPages, checkRows, rowsUnder, rootLevel, nextLevel, levelsUnder, isFreePage, freeFits, checkFree, shapeGood};
 ghost use Rattle.sound.specs.Rule.{heightOf, down, lastChild, belowNext, upperEntries, upperPages, upperLevels, keysAboveGood, pagesGood};
-ghost use Rattle.audit.specs.State.{InFile, EntriesWithin, keyFrom, leafEntry, upperKey, meetPage, progressOf, levelOf, keysOf};
+ghost use Rattle.audit.specs.State.{InFile, EntriesWithin, keyFrom, pairFrom, leafEntry, upperKey, meetPage, progressOf, levelOf, keysOf};
 ghost use Rattle.audit.specs.State.{startAt, refusedAt, closedAt};
 
 // What is known of the pages met on a level: whether all were good, the last page met, the page that its right link names, and how many pages of the file are
@@ -57,7 +58,8 @@ fn last_key(index: &[u8], k: usize, size: usize, page: PageOffset) -> usize
     requires { ⌜ InFile (now index) k size ⌝ }
     ensures { λ r. ⌜
         (keyFrom (now (index .entry)) k r ≡ lastOf none (entriesAt k size (now (index .entry)) (page .0)))
-        × (r + k ≤ length (now (index .entry)))
+        × (r + (k + 4) ≤ length (now (index .entry)))
+        × (pairFrom (now (index .entry)) k r ≡ lastPair none (entriesAt k size (now (index .entry)) (page .0)))
         ⌝ }
 {
     let count = page::entry_count(index, k, size, page);
@@ -77,31 +79,53 @@ pub fn key_order(index: &[u8], k: usize, x: usize, y: usize) -> Ordering
     octets::compare(&index[x..x_end], &index[y..y_end])
 }
 
-// Whether the entry of a leaf that begins at `at` has a record number above 0, and a key above the key that begins at `last`, if that is not 0.
-fn leaf_entry(index: &[u8], k: usize, at: usize, last: usize) -> bool
-    requires { ⌜ (at + (k + 4) ≤ length (now index)) × (last + k ≤ length (now index)) ⌝ }
+// Whether the entry of a leaf that begins at `at` has a record number above 0, and comes after the entry that begins at `last`, if that is not 0: its key is
+// above, or equal with a higher record number if a key may have several records.
+fn leaf_entry(index: &[u8], k: usize, several: bool, at: usize, last: usize) -> bool
+    requires { ⌜
+        (at + (k + 4) ≤ length (now index)) × (last + (k + 4) ≤ length (now index)) × (several ≡ eqb (features (now index)) 0)
+        ⌝ }
     ensures { λ r. ⌜ r ≡ leafEntry (now (index .entry)) k at last ⌝ }
 {
-    if page::record_at(index, k, at).0 == 0 {
+    let number = page::record_at(index, k, at).0;
+    if number == 0 {
         return false;
     }
     if last == 0 {
         return true;
     }
-    octets::is_below(key_order(index, k, last, at))
+    let order = key_order(index, k, last, at);
+    if octets::is_below(order) {
+        return true;
+    }
+    if !several {
+        return false;
+    }
+    octets::is_equal(order) & (page::record_at(index, k, last).0 < number)
 }
 
 // Whether the first `count` entries of a leaf are good, each after the entry before it. An entry's place is carried along, since a product for each entry would
 // cost the audit of keys of 10 bytes a seventh more instructions.
-fn leaf_entries(index: &[u8], k: usize, page: PageOffset, count: usize, last: usize) -> bool
-    requires { ⌜ (k ≤ maxKey) × EntriesWithin (now index) k (page .0) count × (last + k ≤ length (now index)) ⌝ }
-    ensures { λ r. ⌜ r ≡ leafEntriesGood (keyFrom (now (index .entry)) k last) (entriesFrom (now (index .entry)) k (page .0) count 0) ⌝ }
+fn leaf_entries(
+    index: &[u8],
+    k: usize,
+    several: bool,
+    page: PageOffset,
+    count: usize,
+    last: usize,
+) -> bool
+    requires { ⌜
+        (k ≤ maxKey) × EntriesWithin (now index) k (page .0) count × (last + (k + 4) ≤ length (now index)) × (several ≡ eqb (features (now index)) 0)
+        ⌝ }
+    ensures { λ r. ⌜
+        r ≡ leafEntriesGood (features (now (index .entry))) (pairFrom (now (index .entry)) k last) (entriesFrom (now (index .entry)) k (page .0) count 0)
+        ⌝ }
 {
     let mut at = page::entry_offset(k, page, 0);
     let mut prior = last;
     let mut left = count;
     while 0 < left {
-        if !leaf_entry(index, k, at, prior) {
+        if !leaf_entry(index, k, several, at, prior) {
             return false;
         }
         prior = at;
@@ -127,7 +151,8 @@ fn entries_fit(
         return true;
     }
     let count = page::entry_count(index, k, size, page);
-    leaf_entries(index, k, page, count, last_key(index, k, size, last))
+    let prior = last_key(index, k, size, last);
+    leaf_entries(index, k, page::several(index), page, count, prior)
 }
 
 // Whether a page has the attribute, a good count, links that agree with those of `last` on its left, and good entries.
@@ -493,8 +518,8 @@ fn last_under(index: &[u8], k: usize, size: usize, under: u32, page: PageOffset)
     lower
 }
 
-// Whether the key that begins at `key` is below the first leaf key under the child of entry i, which has `under` levels under it. If the page, of `count`
-// entries, has no entry i, there is no such bound.
+// Whether the key that begins at `key` is below the first leaf key under the child of entry i, which has `under` levels under it, or equal to it if a key may
+// have several records. If the page, of `count` entries, has no entry i, there is no such bound.
 fn below_next(
     index: &[u8],
     k: usize,
@@ -518,7 +543,11 @@ fn below_next(
     if first == 0 {
         return false;
     }
-    octets::is_below(key_order(index, k, key, first))
+    let order = key_order(index, k, key, first);
+    if octets::is_below(order) {
+        return true;
+    }
+    page::several(index) & octets::is_equal(order)
 }
 
 // The key of entry i, above a child that has `under` levels under it: whether it is a ceiling, at or above the last leaf key under the child, and below the

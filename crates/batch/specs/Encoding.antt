@@ -1,7 +1,7 @@
 -- Rules: a list of calls as bytes, so that code can be lent one. A call is its kind, 0 for a lookup, 1 for an insertion and 2 for a removal, the length of its
--- key in two bytes, the key, and for an insertion its record number in four bytes. Numbers are least significant byte first. The list ends where no
--- whole call stands.
-use Prim.Native.Nat.{ℕ, zero, suc, _+_, _*_, _%_, _^_, _<_}
+-- key in two bytes, the key, and for an insertion or a removal its record number in four bytes. Numbers are least significant byte first. The list ends where
+-- no whole call stands.
+use Prim.Native.Nat.{ℕ, zero, suc, _+_, _*_, _/_, _^_, _<_}
 use mathlib.Core.Bool.{Bool, true, false, cond, _&&_}
 use mathlib.Core.List.{List, [], _∷_, _++_}
 use lib.Dec.{eqb, leb}
@@ -11,7 +11,7 @@ use Rattle.octets.specs.Store.{window}
 use Rattle.tree.specs.Book.{Call, insertion, removalOf, lookupOf}
 use Rattle.book.specs.Book.{Calls}
 
--- of the call at an offset: its key, the offset past the key, and the offset past the call, four bytes further for kind 1, the odd one
+-- of the call at an offset: its key, the offset past the key, and the offset past the call, four bytes further for the kinds 1 and 2
 abbrev pub keyIn : List ℕ → ℕ → List ℕ
 keyIn s at = window s (at + 3) (le16 s (at + 1))
 
@@ -19,7 +19,7 @@ abbrev pub keyEnd : List ℕ → ℕ → ℕ
 keyEnd s at = at + 3 + le16 s (at + 1)
 
 abbrev pub callEnd : List ℕ → ℕ → ℕ
-callEnd s at = keyEnd s at + 4 * (byteAt s at % 2)
+callEnd s at = keyEnd s at + 4 * ((byteAt s at + 1) / 2)
 
 -- a whole call of one of the three kinds stands at an offset
 unfoldable pub isCall : List ℕ → ℕ → Bool
@@ -29,7 +29,8 @@ isCall s at = leb (at + 3) (length s) && (leb (byteAt s at) 2 && leb (callEnd s 
 unfoldable pub callAt : List ℕ → ℕ → Call (List ℕ)
 callAt s at =
     let key = keyIn s at in
-    cond (eqb (byteAt s at) 0) (lookupOf key) (cond (eqb (byteAt s at) 2) (removalOf key) (insertion key (le32 s (keyEnd s at))))
+    let number = le32 s (keyEnd s at) in
+    cond (eqb (byteAt s at) 0) (lookupOf key) (cond (eqb (byteAt s at) 2) (removalOf key number) (insertion key number))
 
 -- the calls from an offset on, at most as many as the first argument says
 unfoldable pub callsFrom : ℕ → List ℕ → ℕ → Calls
@@ -47,7 +48,7 @@ framed kind key number = kind ∷ (toLe16 (length key) ++ (key ++ number))
 abbrev pub callBytes : Call (List ℕ) → List ℕ
 callBytes (lookupOf key) = framed 0 key []
 callBytes (insertion key r) = framed 1 key (toLe32 r)
-callBytes (removalOf key) = framed 2 key []
+callBytes (removalOf key r) = framed 2 key (toLe32 r)
 
 abbrev pub listBytes : Calls → List ℕ
 listBytes [] = []
@@ -57,4 +58,4 @@ listBytes (c ∷ calls) = callBytes c ++ listBytes calls
 abbrev pub Encodable : Call (List ℕ) → Type 0
 Encodable (lookupOf key) = length key < 2 ^ 16
 Encodable (insertion key r) = (length key < 2 ^ 16) × (r < 2 ^ 32)
-Encodable (removalOf key) = length key < 2 ^ 16
+Encodable (removalOf key r) = (length key < 2 ^ 16) × (r < 2 ^ 32)

@@ -45,7 +45,7 @@ module _ (s : List ℕ) (at : ℕ) where
   unfolding callAt
   lookup-there e = rw (e)
 
-  pub removal-there : byteAt s at ≡ 2 → callAt s at ≡ removalOf (keyIn s at)
+  pub removal-there : byteAt s at ≡ 2 → callAt s at ≡ removalOf (keyIn s at) (le32 s (keyEnd s at))
   unfolding callAt
   removal-there e = rw (e)
 
@@ -79,7 +79,7 @@ module _ (s : List ℕ) (a : All (λ x. x < 256) s) where
   four-bytes at = either (eqb (byteAt s at) 0)
       (λ z. rw (lookup-there s at (eqb-true (byteAt s at) 0 z)) tt)
       (λ z. either (eqb (byteAt s at) 2)
-      (λ y. rw (removal-there s at (eqb-true (byteAt s at) 2 y)) tt)
+      (λ y. rw (removal-there s at (eqb-true (byteAt s at) 2 y)) (le32-small s a (keyEnd s at)))
       (λ y. rw (insertion-there s at (eqb-false (byteAt s at) 0 z) (eqb-false (byteAt s at) 2 y)) (le32-small s a (keyEnd s at))))
 
   all-from : (f at : ℕ) → All FourBytes (callsFrom f s at)

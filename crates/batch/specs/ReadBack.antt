@@ -1,7 +1,7 @@
 -- Laws: a list of calls is read back from its bytes, so every list with keys shorter than 65,536 bytes can be run; and the bound in `callsIn` never cuts a
 -- list short. Assumes nothing.
 use Prim.Native.Nat.{ℕ, zero, suc, _+_, _*_, _/_, _%_, _^_, _≤_, _<_}
-use mathlib.Core.Path.{_≡_, refl, sym, ap, _∙_}
+use mathlib.Core.Path.{_≡_, refl, sym, ap, subst, _∙_}
 use mathlib.Core.Bool.{true}
 use mathlib.Core.List.{List, [], _∷_, _++_, append-assoc}
 use native.Mathlib.Omega.{arith}
@@ -89,27 +89,29 @@ module _ (pre key post : List ℕ) (short : length key < 2 ^ 16) where
         next = omega arith;
       }
 
-  removal-back : There (pre ++ (framed 2 key [] ++ post)) (length pre) (removalOf key) (length (framed 2 key []))
-  removal-back =
-      let s = pre ++ (framed 2 key [] ++ post) in
-      let a = byte-there pre 2 key [] post short in
-      let b = size-there pre 2 key [] post short in
-      let l = long pre 2 key [] post short in
-      let n = framed-length 2 key [] in
+  number-back : (kind r : ℕ) → r < 2 ^ 32
+      → le32 (pre ++ (framed kind key (toLe32 r) ++ post)) (keyEnd (pre ++ (framed kind key (toLe32 r) ++ post)) (length pre)) ≡ r
+  unfolding window
+  number-back kind r r32 =
+      let s = pre ++ (framed kind key (toLe32 r) ++ post) in
+      rw (size-there pre kind key (toLe32 r) post short)
+      (sym (le32-window s (length pre + 3 + length key))
+      ∙ ap (λ (l : List ℕ). le32 l 0) (ap (λ (l : List ℕ). take 4 l) (behind pre kind key (toLe32 r) post short) ∙ take-at (toLe32 r) post 4 (length-toLe32 r))
+      ∙ le32-toLe32 r r32)
+
+  removal-back : (r : ℕ) → r < 2 ^ 32 → There (pre ++ (framed 2 key (toLe32 r) ++ post)) (length pre) (removalOf key r) (length (framed 2 key (toLe32 r)))
+  removal-back r r32 =
+      let s = pre ++ (framed 2 key (toLe32 r) ++ post) in
+      let a = byte-there pre 2 key (toLe32 r) post short in
+      let b = size-there pre 2 key (toLe32 r) post short in
+      let l = long pre 2 key (toLe32 r) post short in
+      let n = framed-length 2 key (toLe32 r) in
+      let f = length-toLe32 r in
       record {
         whole-call = is-whole s (length pre) (omega arith) (omega arith) (omega arith);
-        same-call = removal-there s (length pre) a ∙ ap removalOf (key-there pre 2 key [] post short);
+        same-call = removal-there s (length pre) a ∙ rw (key-there pre 2 key (toLe32 r) post short, number-back 2 r r32);
         next = omega arith;
       }
-
-  number-back : (r : ℕ) → r < 2 ^ 32 → le32 (pre ++ (framed 1 key (toLe32 r) ++ post)) (keyEnd (pre ++ (framed 1 key (toLe32 r) ++ post)) (length pre)) ≡ r
-  unfolding window
-  number-back r r32 =
-      let s = pre ++ (framed 1 key (toLe32 r) ++ post) in
-      rw (size-there pre 1 key (toLe32 r) post short)
-      (sym (le32-window s (length pre + 3 + length key))
-      ∙ ap (λ (l : List ℕ). le32 l 0) (ap (λ (l : List ℕ). take 4 l) (behind pre 1 key (toLe32 r) post short) ∙ take-at (toLe32 r) post 4 (length-toLe32 r))
-      ∙ le32-toLe32 r r32)
 
   insertion-back : (r : ℕ) → r < 2 ^ 32 → There (pre ++ (framed 1 key (toLe32 r) ++ post)) (length pre) (insertion key r) (length (framed 1 key (toLe32 r)))
   insertion-back r r32 =
@@ -121,14 +123,14 @@ module _ (pre key post : List ℕ) (short : length key < 2 ^ 16) where
       let f = length-toLe32 r in
       record {
         whole-call = is-whole s (length pre) (omega arith) (omega arith) (omega arith);
-        same-call = insertion-there s (length pre) (λ z. omega arith) (λ z. omega arith) ∙ rw (key-there pre 1 key (toLe32 r) post short, number-back r r32);
+        same-call = insertion-there s (length pre) (λ z. omega arith) (λ z. omega arith) ∙ rw (key-there pre 1 key (toLe32 r) post short, number-back 1 r r32);
         next = omega arith;
       }
 
 there : (pre : List ℕ) (c : Call (List ℕ)) (post : List ℕ) → Encodable c → There (pre ++ (callBytes c ++ post)) (length pre) c (length (callBytes c))
 there pre (lookupOf key) post short = lookup-back pre key post short
 there pre (insertion key r) post e = insertion-back pre key post (e .0) r (e .1)
-there pre (removalOf key) post short = removal-back pre key post short
+there pre (removalOf key r) post e = removal-back pre key post (e .0) r (e .1)
 
 -- a list of calls behind other bytes
 list-back : (calls : Calls) → All Encodable calls → (pre : List ℕ) (f : ℕ) → length calls ≤ f → callsFrom f (pre ++ listBytes calls) (length pre) ≡ calls
@@ -146,7 +148,7 @@ list-back (c ∷ calls) a pre (suc f) h =
 call-long : (c : Call (List ℕ)) → 1 ≤ length (callBytes c)
 call-long (lookupOf key) = omega arith
 call-long (insertion key r) = omega arith
-call-long (removalOf key) = omega arith
+call-long (removalOf key r) = omega arith
 
 list-long : (calls : Calls) → length calls ≤ length (listBytes calls)
 list-long [] = omega arith

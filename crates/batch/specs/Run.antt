@@ -7,7 +7,7 @@ use Rattle.octets.specs.Bytes.{toLe32}
 use Rattle.octets.specs.Store.{put}
 use Rattle.tree.specs.Book.{Call, insertion, removalOf, lookupOf, Answer, refused, accepted, found, absent, resultsOf, finalOf}
 use Rattle.book.specs.Book.{Calls, answerTo, bufferAfter, answersTo, Pairs, leafPairs, BookKept}
-use Rattle.page.specs.Header.{keyLength}
+use Rattle.page.specs.Header.{keyLength, features}
 use Rattle.lookup.specs.Lookup.{lookupRule, answerPages}
 use Rattle.sound.specs.Sound.{Sound}
 use Rattle.insert.specs.Calls.{AfterCall}
@@ -33,7 +33,7 @@ recordIn absent = 0
 -- how many pages a lookup visited; 0 for another call and a refused lookup
 abbrev pub pagesTo : Call (List ℕ) → List ℕ → ℕ
 pagesTo (insertion key r) b = 0
-pagesTo (removalOf key) b = 0
+pagesTo (removalOf key r) b = 0
 pagesTo (lookupOf key) b = answerPages (lookupRule b key) 0
 
 -- an answer as it is written: its code, its record and its pages, each in four bytes, least significant first
@@ -95,22 +95,22 @@ afterFresh f s out =
       | Refused n ↦ started (f .after) out (record { fresh = n; made = 0 })
     ]
 
-unfoldable pub batchRule : List ℕ → ℕ → List ℕ → List ℕ → List ℕ → Started
-batchRule b k e s out = afterFresh (freshRule b k e) s out
+unfoldable pub batchRule : List ℕ → ℕ → ℕ → List ℕ → List ℕ → List ℕ → Started
+batchRule b k f e s out = afterFresh (freshRule b k f e) s out
 
--- demand 3 of running code, for keys of k bytes, from the book and the buffer b on: how many calls were made, the buffer after them, their answers as they were
--- written, and that the book keeps them
-pub record RunKept (k : ℕ) (book : Pairs) (b s out after answers : List ℕ) (made : ℕ) : Type 0 where
+-- demand 3 of running code, for keys of k bytes and the features f, from the book and the buffer b on: how many calls were made, the buffer after them, their
+-- answers as they were written, and that the book keeps them
+pub record RunKept (k f : ℕ) (book : Pairs) (b s out after answers : List ℕ) (made : ℕ) : Type 0 where
   pub count : made ≡ length (madeCalls s out)
   pub buffer : after ≡ finalOf bufferAfter (madeCalls s out) b
   pub written : answers ≡ put out 0 (repliesTo (madeCalls s out) b)
-  pub kept : BookKept k book (madeCalls s out) b
+  pub kept : BookKept k f book (madeCalls s out) b
 
 -- a run on a buffer that holds a sound index: the book begins at that index's own pairs
 abbrev pub SoundRunKept : (b s out after answers : List ℕ) (made : ℕ) → Type 0
-SoundRunKept b s out after answers made = (sound : Sound b) → RunKept (keyLength b) (leafPairs b sound) b s out after answers made
+SoundRunKept b s out after answers made = (sound : Sound b) → RunKept (keyLength b) (features b) (leafPairs b sound) b s out after answers made
 
 -- a batch: fresh was accepted, and the book begins without pairs
-pub record BatchKept (b : List ℕ) (k : ℕ) (e s out after answers : List ℕ) (made : ℕ) : Type 0 where
-  pub fresh : freshRule b k e .answer ≡ Accepted
-  pub run : RunKept k [] (freshRule b k e .after) s out after answers made
+pub record BatchKept (b : List ℕ) (k f : ℕ) (e s out after answers : List ℕ) (made : ℕ) : Type 0 where
+  pub fresh : freshRule b k f e .answer ≡ Accepted
+  pub run : RunKept k f [] (freshRule b k f e .after) s out after answers made

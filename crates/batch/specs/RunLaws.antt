@@ -19,11 +19,11 @@ use Rattle.octets.specs.NumberLaws.{length-toLe32}
 use Rattle.tree.specs.Book.{Call, finalOf}
 use Rattle.book.specs.Book.{Calls, FourBytes, insertionAnswer, removalAnswer, lookupAnswer, bufferAfter, Pairs, leafPairs, BookKept}
 use Rattle.book.specs.BookLaws.{demand-3, demand-3-sound}
-use Rattle.page.specs.Header.{minBytes, keyLength, keyLengthGood}
+use Rattle.page.specs.Header.{minBytes, keyLength, features, keyLengthGood}
 use Rattle.lookup.specs.Lookup.{lookupRule, answerPages}
 use Rattle.lookup.specs.declared.Answer.{Answer as Looked}
 use Rattle.insert.specs.Calls.{AfterCall, afterCall, insertionCode, insertRule}
-use Rattle.insert.specs.Fresh.{expressionGood, freshRule}
+use Rattle.insert.specs.Fresh.{expressionGood, featuresGood, freshRule}
 use Rattle.insert.specs.CallLaws.{fresh-27, fresh-24, fresh-30, fresh-made}
 use Rattle.insert.specs.declared.Insertion.{Insertion}
 use Rattle.insert.specs.declared.Insertion.the-variants.{Accepted, Refused}
@@ -43,11 +43,11 @@ module _ (b s : List ℕ) (at : ℕ) {n kind : ℕ} {r : Reply} (size : n ≡ le
       → (b ≡ bufferAfter (callAt s at) b) × (r ≡ replyTo (callAt s at) b)
   lookup-made z e q = rw (lookup-there s at (sym known ∙ z)) (refl, q ∙ rw (e, key-part s at size))
 
-  pub removal-made : {a : Removal} {after : List ℕ} → kind ≡ 2
-      → removeRule b (take (at + 3 + n - (at + 3)) (drop (at + 3) s)) ≡ strike.afterCall after a → r ≡ replyOf (removalAnswer a) 0
+  pub removal-made : {a : Removal} {after : List ℕ} {number : ℕ} → kind ≡ 2 → number ≡ le32 s (at + 3 + n)
+      → removeRule b (take (at + 3 + n - (at + 3)) (drop (at + 3) s)) number ≡ strike.afterCall after a → r ≡ replyOf (removalAnswer a) 0
       → (after ≡ bufferAfter (callAt s at) b) × (r ≡ replyTo (callAt s at) b)
-  removal-made {a} {after} z e q =
-      let g : removeRule b (keyIn s at) ≡ strike.afterCall after a = rw (key-part s at size) at e in
+  removal-made {a} {after} {number} z f e q =
+      let g : removeRule b (keyIn s at) (le32 s (keyEnd s at)) ≡ strike.afterCall after a = rw (f, key-part s at size, size) at e in
       rw (removal-there s at (sym known ∙ z)) (sym (ap (λ (i : strike.AfterCall). i .after) g), q ∙ rw (g))
 
   pub insertion-made : {a : Insertion} {after : List ℕ} {number : ℕ} → (kind ≡ 0 → ⊥) → (kind ≡ 2 → ⊥) → number ≡ le32 s (at + 3 + n)
@@ -136,31 +136,31 @@ module _ (b₀ s out₀ b out : List ℕ) (at m : ℕ) (g : Going b₀ s out₀ 
       (λ y. rw (calls-none s at (length s - m) y, take-nil) (made-none b out m))
 
 -- a batch by fresh's answer
-module _ (b : List ℕ) (k : ℕ) (e s out : List ℕ) {b′ : List ℕ} where
-  pub batch-made : {b″ out′ : List ℕ} {n : ℕ} → freshRule b k e ≡ afterCall b′ Accepted → runRule b′ s out ≡ leaves b″ out′ n
-      → batchRule b k e s out ≡ started b″ out′ (record { fresh = 0; made = n })
+module _ (b : List ℕ) (k f : ℕ) (e s out : List ℕ) {b′ : List ℕ} where
+  pub batch-made : {b″ out′ : List ℕ} {n : ℕ} → freshRule b k f e ≡ afterCall b′ Accepted → runRule b′ s out ≡ leaves b″ out′ n
+      → batchRule b k f e s out ≡ started b″ out′ (record { fresh = 0; made = n })
   unfolding batchRule
-  batch-made f r = rw (f, r)
+  batch-made made r = rw (made, r)
 
-  pub batch-refused : {n : ℕ} → freshRule b k e ≡ afterCall b′ (Refused n) → batchRule b k e s out ≡ started b′ out (record { fresh = n; made = 0 })
+  pub batch-refused : {n : ℕ} → freshRule b k f e ≡ afterCall b′ (Refused n) → batchRule b k f e s out ≡ started b′ out (record { fresh = n; made = 0 })
   unfolding batchRule
-  batch-refused f = rw (f)
+  batch-refused refused = rw (refused)
 
 -- a refusal of fresh does not have the number 0
-pub refused-number : (b : List ℕ) (k : ℕ) (e : List ℕ) {b′ : List ℕ} {n : ℕ} → freshRule b k e ≡ afterCall b′ (Refused n) → n ≡ 0 → ⊥
-refused-number b k e {b′} {n} f z =
-    let zero : (x : ℕ) → freshRule b k e ≡ afterCall b (Refused x) → x ≡ 0 = λ x g.
-    ap (λ (i : AfterCall). insertionCode (i .answer)) (sym g ∙ f) ∙ z in
+pub refused-number : (b : List ℕ) (k f : ℕ) (e : List ℕ) {b′ : List ℕ} {n : ℕ} → freshRule b k f e ≡ afterCall b′ (Refused n) → n ≡ 0 → ⊥
+refused-number b k f e {b′} {n} q z =
+    let zero : (x : ℕ) → freshRule b k f e ≡ afterCall b (Refused x) → x ≡ 0 = λ x g.
+    ap (λ (i : AfterCall). insertionCode (i .answer)) (sym g ∙ q) ∙ z in
     either (keyLengthGood k)
-    (λ key. either (expressionGood e)
+    (λ key. either (expressionGood e && featuresGood f)
     (λ good. either (leb minBytes (length b))
     (λ room.
-    let made = fresh-made b k e key good (leb-true minBytes (length b) room) refl in
-    let same : _≡_ {A = Insertion} Accepted (Refused n) = ap (λ (i : AfterCall). i .answer) (sym made ∙ f) in
+    let made = fresh-made b k f e key good (leb-true minBytes (length b) room) refl in
+    let same : _≡_ {A = Insertion} Accepted (Refused n) = ap (λ (i : AfterCall). i .answer) (sym made ∙ q) in
     impossible (cc))
-    (λ room. omega (arith, zero 30 (fresh-30 b k e key good (leb-false minBytes (length b) room)))))
-    (λ bad. omega (arith, zero 24 (fresh-24 b k e key bad))))
-    (λ bad. omega (arith, zero 27 (fresh-27 b k e bad)))
+    (λ room. omega (arith, zero 30 (fresh-30 b k f e key good (leb-false minBytes (length b) room)))))
+    (λ bad. omega (arith, zero 24 (fresh-24 b k f e key bad))))
+    (λ bad. omega (arith, zero 27 (fresh-27 b k f e bad)))
 
 -- bytes below 256, one by one, are so all together
 all-octets : (s : List ℕ) → ((i : ℕ) → getD s i 0 < 256) → All (λ x. x < 256) s
@@ -172,11 +172,11 @@ made-small : (s out : List ℕ) → ((i : ℕ) → getD s i 0 < 256) → All Fou
 made-small s out os = all-take FourBytes (length out / answerSize) (callsIn s) (calls-small s (all-octets s os))
 
 -- what the rule leaves, and the book that keeps it, are demand 3 of the run
-run-kept : (k : ℕ) (book : Pairs) (b s out : List ℕ) {b′ out′ : List ℕ} {n : ℕ} → runRule b s out ≡ leaves b′ out′ n
-    → BookKept k book (madeCalls s out) b
-    → RunKept k book b s out b′ out′ n
+run-kept : (k f : ℕ) (book : Pairs) (b s out : List ℕ) {b′ out′ : List ℕ} {n : ℕ} → runRule b s out ≡ leaves b′ out′ n
+    → BookKept k f book (madeCalls s out) b
+    → RunKept k f book b s out b′ out′ n
 unfolding runRule
-run-kept k book b s out r kept = record {
+run-kept k f book b s out r kept = record {
   count = sym (ap (λ (x : Ran). x .made) r);
   buffer = sym (ap (λ (x : Ran). x .after) r);
   written = sym (ap (λ (x : Ran). x .answers) r);
@@ -187,16 +187,17 @@ run-kept k book b s out r kept = record {
 pub sound-run-kept : (b s out : List ℕ) {b′ out′ : List ℕ} {n : ℕ} → ((i : ℕ) → getD b i 0 < 256) → ((i : ℕ) → getD s i 0 < 256)
     → runRule b s out ≡ leaves b′ out′ n → SoundRunKept b s out b′ out′ n
 sound-run-kept b s out ob os r sound =
-    run-kept (keyLength b) (leafPairs b sound) b s out r (demand-3-sound b (all-octets b ob) sound (madeCalls s out) (made-small s out os))
+    run-kept (keyLength b) (features b) (leafPairs b sound) b s out r (demand-3-sound b (all-octets b ob) sound (madeCalls s out) (made-small s out os))
 
 -- Theorem: demand 3 of a batch
-pub batch-kept : (b : List ℕ) (k : ℕ) (e s out : List ℕ) {b′ b″ out′ : List ℕ} {n : ℕ} → ((i : ℕ) → getD b i 0 < 256)
+pub batch-kept : (b : List ℕ) (k f : ℕ) (e s out : List ℕ) {b′ b″ out′ : List ℕ} {n : ℕ} → ((i : ℕ) → getD b i 0 < 256)
     → ((i : ℕ) → getD s i 0 < 256)
-    → freshRule b k e ≡ afterCall b′ Accepted → runRule b′ s out ≡ leaves b″ out′ n → BatchKept b k e s out b″ out′ n
-batch-kept b k e s out {b′} ob os f r =
-    let a : freshRule b k e .answer ≡ Accepted = ap (λ (i : AfterCall). i .answer) f in
-    let q : freshRule b k e .after ≡ b′ = ap (λ (i : AfterCall). i .after) f in
+    → freshRule b k f e ≡ afterCall b′ Accepted → runRule b′ s out ≡ leaves b″ out′ n → BatchKept b k f e s out b″ out′ n
+batch-kept b k f e s out {b′} ob os made r =
+    let a : freshRule b k f e .answer ≡ Accepted = ap (λ (i : AfterCall). i .answer) made in
+    let q : freshRule b k f e .after ≡ b′ = ap (λ (i : AfterCall). i .after) made in
     record {
       fresh = a;
-      run = run-kept k [] (freshRule b k e .after) s out (rw (← q) at r) (demand-3 b k e (all-octets b ob) a (madeCalls s out) (made-small s out os));
+      run = run-kept k f [] (freshRule b k f e .after) s out (rw (← q) at r)
+          (demand-3 b k f e (all-octets b ob) a (madeCalls s out) (made-small s out os));
     }

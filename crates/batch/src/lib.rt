@@ -40,7 +40,7 @@ fn call_end(calls: &[u8], at: usize) -> usize
 {
     let key = octets::load_le16(calls, at + 1) as usize;
     let kind = octets::byte(calls, at) as usize;
-    at + 3 + key + 4 * (kind % 2)
+    at + 3 + key + 4 * ((kind + 1) / 2)
 }
 
 // Whether a whole call stands at an offset.
@@ -135,10 +135,10 @@ fn make_call(index: &mut [u8], calls: &[u8], at: usize) -> Reply
     if kind == 0 {
         return looked_up(lookup::lookup(index, &calls[from..end]));
     }
-    if kind == 2 {
-        return struck(remove::remove(index, &calls[from..end]));
-    }
     let number = RecordNumber(octets::load_le32(calls, end));
+    if kind == 2 {
+        return struck(remove::remove(index, &calls[from..end], number));
+    }
     inserted(insert::insert(index, &calls[from..end], number))
 }
 
@@ -168,25 +168,26 @@ pub fn run_calls(index: &mut [u8], calls: &[u8], answers: &mut [u8]) -> usize
     made
 }
 
-// Makes a fresh index, and then the calls of a list if fresh is accepted.
+// Makes a fresh index of the features told, and then the calls of a list if fresh is accepted.
 pub fn run_batch(
     index: &mut [u8],
     k: u32,
+    features: u32,
     expression: &[u8],
     calls: &[u8],
     answers: &mut [u8],
 ) -> Batch
     ensures { λ r. ⌜
-        batchRule (now (index .entry)) k (now (expression .entry)) (now (calls .entry)) (now (answers .entry))
+        batchRule (now (index .entry)) k features (now (expression .entry)) (now (calls .entry)) (now (answers .entry))
         ≡ started (now (index .exit)) (now (answers .exit)) r
         ⌝ }
     ensures { λ r. ⌜
         (r .fresh ≡ 0
-        → BatchKept (now (index .entry)) k (now (expression .entry)) (now (calls .entry)) (now (answers .entry))
+        → BatchKept (now (index .entry)) k features (now (expression .entry)) (now (calls .entry)) (now (answers .entry))
         (now (index .exit)) (now (answers .exit)) (r .made))
         ⌝ }
 {
-    match insert::fresh(index, k, expression) {
+    match insert::fresh(index, k, features, expression) {
         Insertion::Accepted => Batch {
             fresh: 0,
             made: run_calls(index, calls, answers),

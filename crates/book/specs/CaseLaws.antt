@@ -1,7 +1,7 @@
--- Laws: what the answers of insertion and removal are said by: a key among the leaves' pairs, the cases of 24 and 27, and `Sound` in place of the audit's test.
--- Cited by `InsertionAnswers` and `RemovalAnswers`. Assumes nothing.
-use Prim.Native.Nat.{ℕ}
-use mathlib.Core.Path.{_≡_, refl, sym, _∙_}
+-- Laws: what the answers of insertion and removal are said by: a pair among the leaves' pairs, the cases of 24 and 27, and `Sound` in place of the audit's
+-- test. Cited by `InsertionAnswers` and `RemovalAnswers`. Assumes nothing.
+use Prim.Native.Nat.{ℕ, zero, suc, _^_, _<_}
+use mathlib.Core.Path.{_≡_, refl, sym, _∙_, subst}
 use mathlib.Core.Bool.{Bool, true, false, _&&_}
 use mathlib.Core.List.{List, [], _∷_}
 use mathlib.Core.Logic.{_↔_, _⊎_, inl, inr, ⊎-elim}
@@ -11,17 +11,20 @@ use borrow.Author.Tests.{eqb-true, eqb-false}
 use Rattle.basis.specs.Tests.{either, contra, both, join}
 use Rattle.octets.specs.Order.{bytesLe}
 use Rattle.octets.specs.OrderLaws.{le-refl, le-antisym}
-use Rattle.tree.specs.Pairs.{byKey, has}
-use Rattle.page.specs.Header.{keyLength, headerGood}
+use Rattle.tree.specs.Keeping.{pairOrder, repeatedKeys}
+use Rattle.tree.specs.KeepingLaws.{pair-refl}
+use Rattle.tree.specs.Pairs.{byKey, byRecord, has}
+use Rattle.tree.specs.RecordOrder.{byRecord-same}
+use Rattle.page.specs.Header.{keyLength, features, headerGood}
 use Rattle.page.specs.KeyOrder.{bytesOrder}
-use Rattle.lookup.specs.Lookup.{lookupRule, isFound}
 use Rattle.sound.specs.Sound.{Sound}
 use Rattle.sound.specs.Rule.{pagesGood}
 use Rattle.sound.specs.Accepted.{accepted as audit-accepts}
 use Rattle.insert.specs.Room.{pathTo}
 use Rattle.insert_laws.specs.RoomLaws.{present-is}
 use Rattle.book.specs.Book.{Pairs, leafPairs}
-use Rattle.book.specs.CallLaws.{found-has}
+use Rattle.remove.specs.Removal.{isThere}
+use Rattle.remove_laws.specs.ThereLaws.{there-is}
 
 -- ---- tests
 
@@ -35,12 +38,22 @@ pub fails : (t : Bool) → (t ≡ true → ⊥) → t ≡ false
 fails true n = absurd (n refl)
 fails false n = refl
 
--- ---- a key among pairs
+-- ---- a pair among pairs
 
 -- one of the pairs has the key
 abbrev pub HasKey : List ℕ → Pairs → Type 0
 HasKey key [] = ⊥
 HasKey key (e ∷ es) = (e .0 ≡ key) ⊎ HasKey key es
+
+-- one of the pairs is the very pair
+abbrev pub HasVery : List ℕ → ℕ → Pairs → Type 0
+HasVery key r [] = ⊥
+HasVery key r (e ∷ es) = (e ≡ (key, r)) ⊎ HasVery key r es
+
+-- a pair is among pairs, by a header's features: for 0 "the very pair", for 1 "it goes by the key"
+abbrev pub HasPair : ℕ → List ℕ → ℕ → Pairs → Type 0
+HasPair zero key r es = HasVery key r es
+HasPair (suc n) key r es = HasKey key es
 
 -- a list of pairs has something under a key exactly when one of its pairs has the key
 has-key : (key : List ℕ) (r : ℕ) (es : Pairs) → has (byKey bytesOrder) (key, r) es ≡ true → HasKey key es
@@ -55,21 +68,43 @@ key-has key r (x ∷ es) h = either (bytesLe key (x .0) && bytesLe (x .0) key)
     (λ t. rw t)
     (λ t. ⊎-elim (λ q. contra (rw q (join _ _ (le-refl key) (le-refl key))) t) (λ m. rw t (key-has key r es m)) h)
 
--- a test that is the list's own holds exactly when one of the pairs has the key
-exactly : {t : Bool} (key : List ℕ) (r : ℕ) (es : Pairs) → t ≡ has (byKey bytesOrder) (key, r) es → (t ≡ true) ↔ HasKey key es
-exactly key r es same = ((λ e. has-key key r es (sym same ∙ e)), (λ h. same ∙ key-has key r es h))
+-- and it has a pair exactly when one of its pairs is that pair
+has-very : (key : List ℕ) (r : ℕ) (es : Pairs) → has (byRecord bytesOrder) (key, r) es ≡ true → HasVery key r es
+has-very key r [] e = contra e refl
+has-very key r (x ∷ es) e = either (byRecord bytesOrder (key, r) x && byRecord bytesOrder x (key, r))
+    (λ t.
+    let u = both (byRecord bytesOrder (key, r) x) (byRecord bytesOrder x (key, r)) t in
+    inl (byRecord-same bytesOrder x (key, r) (u .1) (u .0)))
+    (λ t. inr (has-very key r es (rw t at e)))
 
--- Theorem: the leaf on the path of a key has the key in a sound index exactly when the key is among the leaves' pairs
-pub leaf-exactly : (b key : List ℕ) (r : ℕ) (s : Sound b) → (pathTo (keyLength b) b key r .present ≡ true) ↔ HasKey key (leafPairs b s)
-leaf-exactly b key r s = exactly key r (leafPairs b s) (present-is b key r s)
+very-has : (key : List ℕ) (r : ℕ) (es : Pairs) → HasVery key r es → has (byRecord bytesOrder) (key, r) es ≡ true
+very-has key r [] h = absurd h
+very-has key r (x ∷ es) h =
+    let same : byRecord bytesOrder (key, r) (key, r) ≡ true = pair-refl (repeatedKeys bytesOrder) (key, r) in
+    either (byRecord bytesOrder (key, r) x && byRecord bytesOrder x (key, r))
+    (λ t. rw t)
+    (λ t. ⊎-elim
+    (λ q. contra (subst (λ (y : List ℕ × ℕ). (byRecord bytesOrder (key, r) y && byRecord bytesOrder y (key, r)) ≡ true) (sym q) (join _ _ same same)) t)
+    (λ m. rw t (very-has key r es m)) h)
 
--- Theorem: lookup finds a key of k bytes in a sound index exactly when the key is among the leaves' pairs
-pub found-exactly : (b key : List ℕ) (s : Sound b) → length key ≡ keyLength b → (isFound (lookupRule b key) ≡ true) ↔ HasKey key (leafPairs b s)
-found-exactly b key s fits = exactly key 0 (leafPairs b s) (found-has b key s fits)
+-- a test that is the list's own holds exactly when the pair is among the pairs
+exactly : (f : ℕ) {t : Bool} (key : List ℕ) (r : ℕ) (es : Pairs) → t ≡ has (pairOrder bytesOrder f) (key, r) es → (t ≡ true) ↔ HasPair f key r es
+exactly zero key r es same = ((λ e. has-very key r es (sym same ∙ e)), (λ h. same ∙ very-has key r es h))
+exactly (suc n) key r es same = ((λ e. has-key key r es (sym same ∙ e)), (λ h. same ∙ key-has key r es h))
 
--- the leaves' keys are the same, however the index is known to be sound
-pub same-keys : (b key : List ℕ) (s s′ : Sound b) → HasKey key (leafPairs b s) → HasKey key (leafPairs b s′)
-same-keys b key s s′ h = leaf-exactly b key 0 s′ .0 (leaf-exactly b key 0 s .1 h)
+-- a key of k bytes with a record number of four
+module _ (b key : List ℕ) (r : ℕ) (fits : length key ≡ keyLength b) (r32 : r < 2 ^ 32) where
+  -- Theorem: the leaf on the path of a pair has it in a sound index exactly when it is among the leaves' pairs
+  pub leaf-exactly : (s : Sound b) → (pathTo (keyLength b) b key r .present ≡ true) ↔ HasPair (features b) key r (leafPairs b s)
+  leaf-exactly s = exactly (features b) key r (leafPairs b s) (present-is b key r s fits r32)
+
+  -- Theorem: and so does removal's walk
+  pub there-exactly : (s : Sound b) → (isThere (keyLength b) b key r ≡ true) ↔ HasPair (features b) key r (leafPairs b s)
+  there-exactly s = exactly (features b) key r (leafPairs b s) (there-is b key r s fits r32)
+
+  -- the leaves' pairs are the same, however the index is known to be sound
+  pub same-pairs : (s s′ : Sound b) → HasPair (features b) key r (leafPairs b s) → HasPair (features b) key r (leafPairs b s′)
+  same-pairs s s′ h = leaf-exactly s′ .0 (leaf-exactly s .1 h)
 
 -- ---- 24, 27 and 25
 

@@ -1,7 +1,7 @@
--- Laws: what each answer of insertion says, in the order "24, 27, 28, 25 by full audit, 29 if the key is in a leaf, 30", with 32 "after 27 and before 28". The
--- rule computes with the audit's test and with the key's path; here `Sound` and the leaves' pairs stand in their place. No proof of the code cites these laws:
--- they are for readers of the rule. Assumes nothing.
-use Prim.Native.Nat.{ℕ, _<_}
+-- Laws: what each answer of insertion says, in the order "24, 27, 28, 25 by full audit, 29 if the key is in a leaf, 30", with 32 "after 27 and before 28"; for
+-- features 0 "29 means the very pair is present". The rule computes with the audit's test and with the pair's path; here `Sound` and the leaves' pairs stand in
+-- their place. No proof of the code cites these laws: they are for readers of the rule. Assumes nothing.
+use Prim.Native.Nat.{ℕ, _^_, _<_}
 use mathlib.Core.Path.{_≡_, refl, sym, ap, _∙_, subst}
 use mathlib.Core.Bool.{true, false}
 use mathlib.Core.List.{List}
@@ -11,7 +11,7 @@ use lib.Dec.{eqb}
 use lib.ListN.{length}
 use borrow.Author.Tests.{eqb-true, eqb-false}
 use Rattle.basis.specs.Tests.{either, contra}
-use Rattle.page.specs.Header.{keyLength, headerGood}
+use Rattle.page.specs.Header.{keyLength, features, headerGood}
 use Rattle.sound.specs.Sound.{Sound}
 use Rattle.insert.specs.Calls.{AfterCall, insertionCode, hasControl, insertRule}
 use Rattle.insert.specs.CallLaws as calls
@@ -19,7 +19,7 @@ use Rattle.insert.specs.Room.{pathTo, noRoom}
 use Rattle.insert.specs.declared.Insertion.{Insertion}
 use Rattle.insert.specs.declared.Insertion.the-variants.{Accepted, Refused}
 use Rattle.book.specs.Book.{leafPairs}
-use Rattle.book.specs.CaseLaws.{whether, fails, HasKey, leaf-exactly, same-keys, BadHeader, WrongLength, by-length, by-audit, pages-good, pages-bad}
+use Rattle.book.specs.CaseLaws.{whether, fails, HasPair, leaf-exactly, same-pairs, BadHeader, WrongLength, by-length, by-audit, pages-good, pages-bad}
 
 -- 32: the key has k bytes, and one of them is below 0x20
 pub record ControlByte (b key : List ℕ) : Type 0 where
@@ -46,17 +46,17 @@ pub record Unsound (b key : List ℕ) (r : ℕ) : Type 0 where
   pub asked : Asked b key r
   pub unsound : Sound b → ⊥
 
--- 29: the index is sound, and the key is among its leaves' pairs
+-- 29: the index is sound, and the pair, for features 1 the key, is among its leaves' pairs
 pub record Present (b key : List ℕ) (r : ℕ) : Type 0 where
   pub asked : Asked b key r
   pub sound : Sound b
-  pub there : HasKey key (leafPairs b sound)
+  pub there : HasPair (features b) key r (leafPairs b sound)
 
--- neither: the index is sound, and the key is not among its leaves' pairs
+-- neither: the index is sound, and the pair, for features 1 the key, is not among its leaves' pairs
 pub record New (b key : List ℕ) (r : ℕ) : Type 0 where
   pub asked : Asked b key r
   pub sound : Sound b
-  pub absent : HasKey key (leafPairs b sound) → ⊥
+  pub absent : HasPair (features b) key r (leafPairs b sound) → ⊥
 
 -- 30: and there is no room for the new pages or levels
 pub record Full (b key : List ℕ) (r : ℕ) : Type 0 where
@@ -79,7 +79,7 @@ pub record InsertionSays (b key : List ℕ) (r : ℕ) (a : Insertion) : Type 0 w
   pub refused-30 : (a ≡ Refused 30) ↔ Full b key r
   pub accepted : (a ≡ Accepted) ↔ Fitting b key r
 
-module _ (b key : List ℕ) (r : ℕ) where
+module _ (b key : List ℕ) (r : ℕ) (r32 : r < 2 ^ 32) where
   -- every insertion is one of the eight cases
   cases : {X : Type 0} → (BadHeader b → X) → (WrongLength b key → X) → (ControlByte b key → X) → (NoNumber b key r → X) → (Unsound b key r → X)
       → (Present b key r → X) → (Full b key r → X) → (Fitting b key r → X) → X
@@ -91,7 +91,7 @@ module _ (b key : List ℕ) (r : ℕ) where
       (λ z.
       let asked : Asked b key r = record { header = h; fits = fits; clean = c; number = omega (arith, eqb-false r 0 z) } in
       by-audit b h (λ u. f25 (record { asked = asked; unsound = u })) (λ s.
-      let leaf = leaf-exactly b key r s in
+      let leaf = leaf-exactly b key r fits r32 s in
       either (pathTo (keyLength b) b key r .present)
       (λ f. f29 (record { asked = asked; sound = s; there = leaf .0 f }))
       (λ f.
@@ -105,7 +105,7 @@ module _ (b key : List ℕ) (r : ℕ) where
   not-zero l z = omega arith
 
   not-present : New b key r → pathTo (keyLength b) b key r .present ≡ false
-  not-present w = fails (pathTo (keyLength b) b key r .present) (λ f. w .absent (leaf-exactly b key r (w .sound) .0 f))
+  not-present w = fails (pathTo (keyLength b) b key r .present) (λ f. w .absent (leaf-exactly b key r (w .asked .fits) r32 (w .sound) .0 f))
 
   -- in each case the rule gives its answer
   is-24 : BadHeader b → answer ≡ Refused 24
@@ -131,7 +131,7 @@ module _ (b key : List ℕ) (r : ℕ) where
       let a = c .asked in
       ap (λ (i : AfterCall). i .answer)
       (calls.refused-29 b key r (a .header) (a .fits) (a .clean) (not-zero (a .number)) (pages-good b (c .sound))
-      (leaf-exactly b key r (c .sound) .1 (c .there)))
+      (leaf-exactly b key r (a .fits) r32 (c .sound) .1 (c .there)))
 
   is-30 : Full b key r → answer ≡ Refused 30
   is-30 c =
@@ -196,13 +196,13 @@ module _ (b key : List ℕ) (r : ℕ) where
       (λ c. s .refused-30 .1 c ∙ sym (t .refused-30 .1 c))
       (λ c. s .accepted .1 c ∙ sym (t .accepted .1 c))
 
-  -- Theorem: on a sound index insertion refuses with 29 exactly when the key has k bytes, none below 0x20, the record number is above 0 and the key is among
-  -- the leaves' pairs
+  -- Theorem: on a sound index insertion refuses with 29 exactly when the key has k bytes, none below 0x20, the record number is above 0 and the pair, for
+  -- features 1 the key, is among the leaves' pairs
   pub present-exactly : (s : Sound b) → (insertRule b key r .answer ≡ Refused 29)
-      ↔ ((length key ≡ keyLength b) × (hasControl key ≡ false) × (0 < r) × HasKey key (leafPairs b s))
+      ↔ ((length key ≡ keyLength b) × (hasControl key ≡ false) × (0 < r) × HasPair (features b) key r (leafPairs b s))
   present-exactly s = (
     λ e.
         let c = insertion-says .refused-29 .0 e in
-        (c .asked .fits, c .asked .clean, c .asked .number, same-keys b key (c .sound) s (c .there)),
+        (c .asked .fits, c .asked .clean, c .asked .number, same-pairs b key r (c .asked .fits) r32 (c .sound) s (c .there)),
     λ p. is-29 (record { asked = record { header = s .header; fits = p .0; clean = p .1; number = p .2 }; sound = s; there = p .3 }),
   )

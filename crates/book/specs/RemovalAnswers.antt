@@ -1,7 +1,7 @@
--- Laws: what each answer of removal says, in the "order 24, 27, 25 by full audit, then 33 if the key is absent". The rule computes with the audit's test and
--- with lookup; here `Sound` and the leaves' pairs stand in their place. No proof of the code cites these laws: they are for readers of the rule. Assumes
+-- Laws: what each answer of removal says, in the "order 24, 27, 25 by full audit, then 33". The rule computes with the audit's test and with the leaf on the
+-- pair's route; here `Sound` and the leaves' pairs stand in their place. No proof of the code cites these laws: they are for readers of the rule. Assumes
 -- nothing.
-use Prim.Native.Nat.{ℕ}
+use Prim.Native.Nat.{ℕ, _^_, _<_}
 use mathlib.Core.Path.{_≡_, refl, sym, ap, _∙_, subst}
 use mathlib.Core.Bool.{true}
 use mathlib.Core.List.{List}
@@ -9,15 +9,15 @@ use mathlib.Core.Logic.{_↔_}
 use lib.Dec.{eqb}
 use lib.ListN.{length}
 use Rattle.basis.specs.Tests.{either, contra}
-use Rattle.page.specs.Header.{keyLength, headerGood}
-use Rattle.lookup.specs.Lookup.{lookupRule, isFound}
+use Rattle.page.specs.Header.{keyLength, features, headerGood}
 use Rattle.sound.specs.Sound.{Sound}
 use Rattle.remove.specs.Calls.{AfterCall, removeRule}
 use Rattle.remove.specs.CallLaws as calls
+use Rattle.remove.specs.Removal.{isThere}
 use Rattle.remove.specs.declared.Removal.{Removal}
 use Rattle.remove.specs.declared.Removal.the-variants.{Accepted, Refused}
 use Rattle.book.specs.Book.{leafPairs}
-use Rattle.book.specs.CaseLaws.{whether, fails, HasKey, found-exactly, same-keys, BadHeader, WrongLength, by-length, by-audit, pages-good, pages-bad}
+use Rattle.book.specs.CaseLaws.{whether, fails, HasPair, there-exactly, same-pairs, BadHeader, WrongLength, by-length, by-audit, pages-good, pages-bad}
 
 -- 25: the header is good, the key has k bytes, and the index is not sound
 pub record Unsound (b key : List ℕ) : Type 0 where
@@ -25,67 +25,67 @@ pub record Unsound (b key : List ℕ) : Type 0 where
   pub fits : length key ≡ keyLength b
   pub unsound : Sound b → ⊥
 
--- 33: the index is sound, the key has k bytes, and it is not among the leaves' pairs
-pub record Absent (b key : List ℕ) : Type 0 where
+-- 33: the index is sound, the key has k bytes, and the pair, for features 1 the key, is not among the leaves' pairs
+pub record Absent (b key : List ℕ) (r : ℕ) : Type 0 where
   pub sound : Sound b
   pub fits : length key ≡ keyLength b
-  pub absent : HasKey key (leafPairs b sound) → ⊥
+  pub absent : HasPair (features b) key r (leafPairs b sound) → ⊥
 
--- accepted: the index is sound, the key has k bytes, and it is among the leaves' pairs
-pub record Held (b key : List ℕ) : Type 0 where
+-- accepted: the index is sound, the key has k bytes, and the pair, for features 1 the key, is among the leaves' pairs
+pub record Held (b key : List ℕ) (r : ℕ) : Type 0 where
   pub sound : Sound b
   pub fits : length key ≡ keyLength b
-  pub there : HasKey key (leafPairs b sound)
+  pub there : HasPair (features b) key r (leafPairs b sound)
 
 -- the answer a to a removal of a key: each of the five answers is given exactly when
-pub record RemovalSays (b key : List ℕ) (a : Removal) : Type 0 where
+pub record RemovalSays (b key : List ℕ) (r : ℕ) (a : Removal) : Type 0 where
   pub refused-24 : (a ≡ Refused 24) ↔ BadHeader b
   pub refused-27 : (a ≡ Refused 27) ↔ WrongLength b key
   pub refused-25 : (a ≡ Refused 25) ↔ Unsound b key
-  pub refused-33 : (a ≡ Refused 33) ↔ Absent b key
-  pub accepted : (a ≡ Accepted) ↔ Held b key
+  pub refused-33 : (a ≡ Refused 33) ↔ Absent b key r
+  pub accepted : (a ≡ Accepted) ↔ Held b key r
 
-module _ (b key : List ℕ) where
+module _ (b key : List ℕ) (r : ℕ) (r32 : r < 2 ^ 32) where
   -- every removal is one of the five cases
-  cases : {X : Type 0} → (BadHeader b → X) → (WrongLength b key → X) → (Unsound b key → X) → (Absent b key → X) → (Held b key → X) → X
+  cases : {X : Type 0} → (BadHeader b → X) → (WrongLength b key → X) → (Unsound b key → X) → (Absent b key r → X) → (Held b key r → X) → X
   cases f24 f27 f25 f33 gone = by-length b key f24 f27 (λ h fits.
       by-audit b h (λ u. f25 (record { header = h; fits = fits; unsound = u })) (λ s.
-      let found = found-exactly b key s fits in
-      either (isFound (lookupRule b key))
+      let found = there-exactly b key r fits r32 s in
+      either (isThere (keyLength b) b key r)
       (λ f. gone (record { sound = s; fits = fits; there = found .0 f }))
       (λ f. f33 (record { sound = s; fits = fits; absent = λ t. contra (found .1 t) f }))))
 
   abbrev answer : Removal
-  answer = removeRule b key .answer
+  answer = removeRule b key r .answer
 
   -- in each case the rule gives its answer
   is-24 : BadHeader b → answer ≡ Refused 24
-  is-24 c = ap (λ (i : AfterCall). i .answer) (calls.refused-24 b key (c .header))
+  is-24 c = ap (λ (i : AfterCall). i .answer) (calls.refused-24 b key r (c .header))
 
   is-27 : WrongLength b key → answer ≡ Refused 27
-  is-27 c = ap (λ (i : AfterCall). i .answer) (calls.refused-27 b key (c .header) (c .other))
+  is-27 c = ap (λ (i : AfterCall). i .answer) (calls.refused-27 b key r (c .header) (c .other))
 
   is-25 : Unsound b key → answer ≡ Refused 25
-  is-25 c = ap (λ (i : AfterCall). i .answer) (calls.refused-25 b key (c .header) (c .fits) (pages-bad b (c .header) (c .unsound)))
+  is-25 c = ap (λ (i : AfterCall). i .answer) (calls.refused-25 b key r (c .header) (c .fits) (pages-bad b (c .header) (c .unsound)))
 
-  is-33 : Absent b key → answer ≡ Refused 33
+  is-33 : Absent b key r → answer ≡ Refused 33
   is-33 c =
       let s = c .sound in
-      let lost = fails (isFound (lookupRule b key)) (λ f. c .absent (found-exactly b key s (c .fits) .0 f)) in
-      ap (λ (i : AfterCall). i .answer) (calls.refused-33 b key (s .header) (c .fits) (pages-good b s) lost)
+      let lost = fails (isThere (keyLength b) b key r) (λ f. c .absent (there-exactly b key r (c .fits) r32 s .0 f)) in
+      ap (λ (i : AfterCall). i .answer) (calls.refused-33 b key r (s .header) (c .fits) (pages-good b s) lost)
 
-  is-accepted : Held b key → answer ≡ Accepted
+  is-accepted : Held b key r → answer ≡ Accepted
   is-accepted c =
       let s = c .sound in
-      let found = found-exactly b key s (c .fits) .1 (c .there) in
-      ap (λ (i : AfterCall). i .answer) (calls.accepted-key b key (s .header) (c .fits) (pages-good b s) found refl)
+      let found = there-exactly b key r (c .fits) r32 s .1 (c .there) in
+      ap (λ (i : AfterCall). i .answer) (calls.accepted-pair b key r (s .header) (c .fits) (pages-good b s) found refl)
 
   -- the case by the answer; no other number is given
   Case : Removal → Type 0
-  Case Accepted = Held b key
+  Case Accepted = Held b key r
   Case (Refused n) =
       whether (eqb n 24) (BadHeader b)
-      (whether (eqb n 27) (WrongLength b key) (whether (eqb n 25) (Unsound b key) (whether (eqb n 33) (Absent b key) ⊥)))
+      (whether (eqb n 27) (WrongLength b key) (whether (eqb n 25) (Unsound b key) (whether (eqb n 33) (Absent b key r) ⊥)))
 
   answer-case : Case answer
   unfolding Case whether
@@ -100,7 +100,7 @@ module _ (b key : List ℕ) where
   from a e = subst Case e answer-case
 
   -- Theorem: removal gives each of its answers exactly in that answer's case
-  pub removal-says : RemovalSays b key (removeRule b key .answer)
+  pub removal-says : RemovalSays b key r (removeRule b key r .answer)
   unfolding Case whether
   removal-says = record {
     refused-24 = (from (Refused 24), is-24);
@@ -111,7 +111,7 @@ module _ (b key : List ℕ) where
   }
 
   -- Theorem: no two answers meet `RemovalSays`
-  pub one-answer : (a a′ : Removal) → RemovalSays b key a → RemovalSays b key a′ → a ≡ a′
+  pub one-answer : (a a′ : Removal) → RemovalSays b key r a → RemovalSays b key r a′ → a ≡ a′
   one-answer a a′ s t = cases
       (λ c. s .refused-24 .1 c ∙ sym (t .refused-24 .1 c))
       (λ c. s .refused-27 .1 c ∙ sym (t .refused-27 .1 c))
@@ -119,9 +119,11 @@ module _ (b key : List ℕ) where
       (λ c. s .refused-33 .1 c ∙ sym (t .refused-33 .1 c))
       (λ c. s .accepted .1 c ∙ sym (t .accepted .1 c))
 
-  -- Theorem: on a sound index removal refuses with 33 exactly when the key has k bytes and is not among the leaves' pairs
-  pub absent-exactly : (s : Sound b) → (removeRule b key .answer ≡ Refused 33) ↔ ((length key ≡ keyLength b) × (HasKey key (leafPairs b s) → ⊥))
+  -- Theorem: on a sound index removal refuses with 33 exactly when the key has k bytes and the pair, for features 1 the key, is not among the
+  -- leaves' pairs
+  pub absent-exactly : (s : Sound b) → (removeRule b key r .answer ≡ Refused 33)
+      ↔ ((length key ≡ keyLength b) × (HasPair (features b) key r (leafPairs b s) → ⊥))
   absent-exactly s = (
-    λ e. let c = removal-says .refused-33 .0 e in (c .fits, λ t. c .absent (same-keys b key s (c .sound) t)),
+    λ e. let c = removal-says .refused-33 .0 e in (c .fits, λ t. c .absent (same-pairs b key r (c .fits) r32 s (c .sound) t)),
     λ p. is-33 (record { sound = s; fits = p .0; absent = p .1 }),
   )

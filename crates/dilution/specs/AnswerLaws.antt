@@ -8,7 +8,7 @@ use lib.ListN.{length}
 use lib.Dec.{eqb}
 use lib.IntN.{pos, negsuc}
 use borrow.Author.Tests.{eqb-true, leb-true, ltb-true, not-true}
-use Rattle.basis.specs.Tests.{either, or-left, impossible}
+use Rattle.basis.specs.Tests.{either, both, or-left, impossible}
 use Rattle.basis.specs.Lists.{All, all-left, all-right}
 use Rattle.numeral.specs.declared.Number.{Number}
 use Rattle.numeral.specs.declared.Number.the-variants as text
@@ -17,7 +17,8 @@ use Rattle.cell.specs.Cell.{fieldBytes}
 use Rattle.matching.specs.Match.{Matched}
 use Rattle.matching.specs.Computed.{matchAnswer}
 use Rattle.matching.specs.AnswerLaws.{answer-computed}
-use Rattle.dilution.specs.Dilution.{sampleOf, volumesOf, concentrationText, amountOf, concentrationOf, sheetChecks}
+use Rattle.page.specs.Header.{features, goodFeatures, headerGood}
+use Rattle.dilution.specs.Dilution.{sampleOf, volumesOf, concentrationText, amountOf, concentrationOf, distinctIndex, headerChecks, sheetChecks}
 use Rattle.dilution.specs.Dilution.{recordWith, barcodeChecks, textChecks, volumeChecks, unless, dilutionOf, recordDilution, diluteRule}
 use Rattle.dilution.specs.CheckLaws.{unless-pass, unless-fail}
 use Rattle.dilution.specs.VolumeLaws.{NearestTenth, sample-nearest, sample-most}
@@ -61,7 +62,7 @@ module _ (t b : List ℕ) (barcodeField field : ℕ) (barcode : List ℕ) (targe
   -- Theorem: volumes are given for the live record of that barcode alone, by its own concentration
   pub volumes-say : diluteRule t b barcodeField field barcode target final ≡ Volumes sample diluent
       → Diluted t b barcodeField field barcode target final sample diluent
-  unfolding diluteRule recordDilution dilutionOf sheetChecks barcodeChecks textChecks volumeChecks volumesOf
+  unfolding diluteRule recordDilution dilutionOf sheetChecks headerChecks distinctIndex barcodeChecks textChecks volumeChecks volumesOf
   volumes-say e =
       let i = recordWith b barcode in
       let said = concentrationText t i field in
@@ -71,8 +72,9 @@ module _ (t b : List ℕ) (barcodeField field : ℕ) (barcode : List ℕ) (targe
       let code = all-right (λ x. x .0 ≡ true) (sheetChecks t b barcodeField field) (barcodeChecks b barcode) (first .0) in
       let second = passed-all (textChecks t i field) (dilutionOf c target final) sample diluent (first .1) in
       let third = passed-all (volumeChecks c target final) (volumesOf c target final) sample diluent (second .1) in
-      let match = eqb-true (matchAnswer t b barcodeField) 0 (sheet .0) in
-      let found = record-named t b barcodeField match barcode (eqb-true (length barcode) _ (code .0)) (ltb-true 0 i (code .1 .0)) in
+      let match = eqb-true (matchAnswer t b barcodeField) 0 (sheet .1 .1 .0) in
+      let one = eqb-true (features b) goodFeatures (both (headerGood b) (eqb (features b) goodFeatures) (sheet .1 .0) .1) in
+      let found = record-named t b barcodeField match one barcode (eqb-true (length barcode) _ (code .0)) (ltb-true 0 i (code .1 .0)) in
       let live = or-left (eqb (deletionByte t i) keptMark) (eqb (deletionByte t i) deletedMark) (second .0 .0) (not-true _ (second .0 .1 .0)) in
       let some = ltb-true 0 c (third .0 .0) in
       let enough = leb-true target c (third .0 .1 .1 .0) in

@@ -1,6 +1,6 @@
 -- Laws: once table and index match, the record that has a barcode is the one whose field it is. Assumes nothing.
 use Prim.Native.Nat.{ℕ, _+_, _-_, _≤_, _<_}
-use mathlib.Core.Path.{_≡_, refl, sym, ap, _∙_}
+use mathlib.Core.Path.{_≡_, refl, sym, ap, _∙_, subst}
 use mathlib.Core.Bool.{_&&_}
 use mathlib.Core.List.{List, [], _∷_}
 use mathlib.Core.Option.{Option, none, some}
@@ -15,12 +15,13 @@ use Rattle.octets.specs.OrderLaws.{le-refl, le-antisym}
 use Rattle.octets.specs.StoreLaws.{length-window}
 use Rattle.table.specs.Table.{recordCount, fieldLength, tableRefusal}
 use Rattle.cell.specs.Cell.{fieldStart, fieldBytes}
-use Rattle.tree.specs.Pairs.{get, find, Above, Ascending}
-use Rattle.tree.specs.PairLaws.{find-get}
+use Rattle.tree.specs.Pairs.{get, find, byKey, Above, Ascending}
+use Rattle.tree.specs.Keeping.{pairOrder}
+use Rattle.tree.specs.KeepingLaws.{find-get}
 use Rattle.tree.specs.Tree.{visited}
-use Rattle.page.specs.Header.{keyLength}
+use Rattle.page.specs.Header.{keyLength, features, goodFeatures}
 use Rattle.page.specs.KeyOrder.{bytesOrder}
-use Rattle.sound.specs.Sound.{leafPairs, indexTree}
+use Rattle.sound.specs.Sound.{leafPairs, indexTree, keptBy}
 use Rattle.lookup.specs.Lookup.{answerRecord}
 use Rattle.lookup_laws.specs.FoundLaws.{answerOf, lookup-list}
 use Rattle.matching.specs.Match.{entriesFor}
@@ -46,7 +47,7 @@ module _ (f : ℕ → List ℕ) where
       (λ q. rw q (omega (arith, not-above i a es (k .1) (v .1) h)))
 
   -- the record's own entry is the one found under its field
-  get-own : (i : ℕ) (es : List (List ℕ × ℕ)) → Keyed es → Ascending bytesOrder es → 0 < entriesFor i es → get bytesOrder (f i) es ≡ some i
+  get-own : (i : ℕ) (es : List (List ℕ × ℕ)) → Keyed es → Ascending (byKey bytesOrder) es → 0 < entriesFor i es → get bytesOrder (f i) es ≡ some i
   get-own i [] k a m = absurd (omega arith)
   get-own i (e ∷ es) k a m = either (eqb i (e .1))
       (λ q.
@@ -103,33 +104,37 @@ module _ (t b : List ℕ) (field : ℕ) (matched : matchAnswer t b field ≡ 0) 
   own-length i from to =
       length-window t (fieldStart t i field) (fieldLength t (field - 1)) (known .column .inside i (range-number i (recordCount t) from to)) ∙ known .width
 
-  -- by the pairs of the leaves
-  module _ (key : List ℕ) (len : length key ≡ keyLength b) where
-    with-pairs : recordWith b key ≡ recordOr (get bytesOrder key (leafPairs b (met .sound)))
-    unfolding recordWith
-    with-pairs =
-        let s = met .sound in
-        ap (λ a. answerRecord a 0) (lookup-list b key s len)
-        ∙ answered (find bytesOrder key (leafPairs b s)) (length (visited bytesOrder key (s .height) (indexTree b (s .height))))
-        ∙ ap recordOr (find-get bytesOrder key (leafPairs b s) (s .ascending))
+  -- by the pairs of the leaves, if the index has one record to a key
+  module _ (one : features b ≡ goodFeatures) where
+    ascends : Ascending (byKey bytesOrder) (leafPairs b (met .sound))
+    ascends = subst (λ (f : ℕ). Ascending (pairOrder bytesOrder f) (leafPairs b (met .sound))) one (met .sound .ascending)
 
-    -- Theorem: the record that is found has the barcode in its field
-    pub record-named : 0 < recordWith b key → (1 ≤ recordWith b key) × (recordWith b key ≤ recordCount t) × (fieldBytes t (recordWith b key) field ≡ key)
-    record-named h = named (get bytesOrder key (leafPairs b (met .sound))) refl
-      where
-        named : (o : Option ℕ) → get bytesOrder key (leafPairs b (met .sound)) ≡ o
-            → (1 ≤ recordWith b key) × (recordWith b key ≤ recordCount t) × (fieldBytes t (recordWith b key) field ≡ key)
-        named none e = absurd (omega (arith, h, with-pairs, ap recordOr e))
-        named (some i) e =
-            let m = met .matching in
-            let is : recordWith b key ≡ i = with-pairs ∙ ap recordOr e in
-            let said = get-keyed (λ j. fieldBytes t j field) Ranged key i (leafPairs b (met .sound)) (m .keys) (m .others) e in
-            rw is (said .0 .0, said .0 .1, said .1)
+    module _ (key : List ℕ) (len : length key ≡ keyLength b) where
+      with-pairs : recordWith b key ≡ recordOr (get bytesOrder key (leafPairs b (met .sound)))
+      unfolding recordWith
+      with-pairs =
+          let s = met .sound in
+          ap (λ a. answerRecord a 0) (lookup-list b key s len one)
+          ∙ answered (find bytesOrder key (leafPairs b s)) (length (visited bytesOrder key (s .height) (indexTree b (s .height))))
+          ∙ ap recordOr (find-get (keptBy b) key (leafPairs b s) (s .ascending))
 
-  -- Theorem: each record is the one that is found under its own barcode
-  pub record-own : (i : ℕ) → 1 ≤ i → i ≤ recordCount t → recordWith b (fieldBytes t i field) ≡ i
-  record-own i from to =
-      let m = met .matching in
-      let once = m .once i from to in
-      with-pairs (fieldBytes t i field) (own-length i from to)
-      ∙ ap recordOr (get-own (λ j. fieldBytes t j field) i (leafPairs b (met .sound)) (m .keys) (met .sound .ascending) (omega arith))
+      -- Theorem: the record that is found has the barcode in its field
+      pub record-named : 0 < recordWith b key → (1 ≤ recordWith b key) × (recordWith b key ≤ recordCount t) × (fieldBytes t (recordWith b key) field ≡ key)
+      record-named h = named (get bytesOrder key (leafPairs b (met .sound))) refl
+        where
+          named : (o : Option ℕ) → get bytesOrder key (leafPairs b (met .sound)) ≡ o
+              → (1 ≤ recordWith b key) × (recordWith b key ≤ recordCount t) × (fieldBytes t (recordWith b key) field ≡ key)
+          named none e = absurd (omega (arith, h, with-pairs, ap recordOr e))
+          named (some i) e =
+              let m = met .matching in
+              let is : recordWith b key ≡ i = with-pairs ∙ ap recordOr e in
+              let said = get-keyed (λ j. fieldBytes t j field) Ranged key i (leafPairs b (met .sound)) (m .keys) (m .others) e in
+              rw is (said .0 .0, said .0 .1, said .1)
+
+    -- Theorem: each record is the one that is found under its own barcode
+    pub record-own : (i : ℕ) → 1 ≤ i → i ≤ recordCount t → recordWith b (fieldBytes t i field) ≡ i
+    record-own i from to =
+        let m = met .matching in
+        let once = m .once i from to in
+        with-pairs (fieldBytes t i field) (own-length i from to)
+        ∙ ap recordOr (get-own (λ j. fieldBytes t j field) i (leafPairs b (met .sound)) (m .keys) ascends (omega arith))

@@ -10,11 +10,11 @@ use lib.IntN.{ℤ, pos, negsuc}
 use Rattle.numeral.specs.Reading.{readNumber}
 use Rattle.numeral.specs.declared.Number.{Number}
 use Rattle.numeral.specs.declared.Number.the-variants as number
-use Rattle.table.specs.Table.{typeN, deletedMark, fieldType, fieldDecimals, fieldCount, deletionByte}
+use Rattle.table.specs.Table.{typeN, deletedMark, fieldType, fieldDecimals, fieldCount, deletionByte, tableRefusal}
 use Rattle.field.specs.Field.{numberGood, PlaceGood}
 use Rattle.cell.specs.Cell.{markGood, fieldBytes}
 use Rattle.cell.specs.Codes.{numberRefusal}
-use Rattle.page.specs.Header.{keyLength}
+use Rattle.page.specs.Header.{keyLength, features, goodFeatures, headerGood}
 use Rattle.lookup.specs.Lookup.{lookupRule, answerRecord}
 use Rattle.matching.specs.Computed.{matchAnswer}
 use Rattle.dilution.specs.declared.Dilution.{Dilution}
@@ -69,11 +69,19 @@ isConcentration t field = eqb (fieldType t (field - 1)) typeN && eqb (fieldDecim
 unfoldable pub fieldChecks : List ℕ → ℕ → List (Bool × ℕ)
 fieldChecks t field = (numberGood field (fieldCount t), 12) ∷ (isConcentration t field, 13) ∷ []
 
+-- "Refusal 24 admits 0 and 1, in K11 only 1": one record to a barcode
+unfoldable pub distinctIndex : List ℕ → Bool
+distinctIndex b = headerGood b && eqb (features b) goodFeatures
+
+-- the match's first checks, "table checks, index header", with that
+unfoldable pub headerChecks : List ℕ → List ℕ → List (Bool × ℕ)
+headerChecks t b = (eqb (tableRefusal t) 0, tableRefusal t) ∷ (distinctIndex b, 24) ∷ []
+
 -- "table and index match; 12, and 13 ..": the checks of a whole sheet
 unfoldable pub sheetChecks : List ℕ → List ℕ → ℕ → ℕ → List (Bool × ℕ)
 sheetChecks t b barcodeField field =
     let answer = matchAnswer t b barcodeField in
-    (eqb answer 0, answer) ∷ fieldChecks t field
+    headerChecks t b ++ ((eqb answer 0, answer) ∷ fieldChecks t field)
 
 -- the record that has the barcode, by lookup's steps; 0 if there is none
 unfoldable pub recordWith : List ℕ → List ℕ → ℕ

@@ -6,18 +6,19 @@ use mathlib.Core.Bool.{Bool, true}
 use mathlib.Core.List.{List, [], _∷_, _++_}
 use native.Mathlib.Omega.{arith}
 use lib.ListN.{length}
-use lib.Dec.{ltb}
+use lib.Dec.{eqb, ltb}
 use borrow.Author.Tests.{eqb-true, eqb-false, eq-eqb, ne-eqb, lt-ltb}
-use Rattle.basis.specs.Tests.{impossible}
+use Rattle.basis.specs.Tests.{impossible, both}
 use Rattle.basis.specs.Lists.{All, all-append}
-use Rattle.table.specs.Table.{fieldCount, recordCount, firstRefusal}
-use Rattle.table.specs.TableLaws.{first-pass, first-fail}
+use Rattle.table.specs.Table.{fieldCount, recordCount, firstRefusal, tableRefusal}
+use Rattle.table.specs.TableLaws.{first-pass, first-fail, first-before}
 use Rattle.field.specs.Field.{PlaceGood}
 use Rattle.field.specs.FieldLaws.{number-range}
 use Rattle.cell.specs.Cell.{fieldBytes}
 use Rattle.cell.specs.Codes.{numberRefusal}
-use Rattle.page.specs.Header.{keyLength}
+use Rattle.page.specs.Header.{keyLength, features, goodFeatures, headerGood}
 use Rattle.matching.specs.Computed.{matchAnswer}
+use Rattle.dilution.specs.Dilution.{distinctIndex, headerChecks}
 use Rattle.dilution.specs.Dilution.{isConcentration, fieldChecks, sheetChecks, recordWith, barcodeChecks, unless, recordDilution, diluteRule, Dilutable}
 use Rattle.dilution.specs.Dilution.{volumesOf, concentrationText, concentrationOf, textChecks, volumeChecks, dilutionOf}
 use Rattle.dilution.specs.CheckLaws.{unless-pass, unless-fail, unless-append, unless-none, unless-first, unless-named, Named, first-passes}
@@ -31,21 +32,45 @@ module _ (t b : List ℕ) (barcodeField field : ℕ) where
   abbrev checks : List (Bool × ℕ)
   checks = sheetChecks t b barcodeField field
 
+  header-named : All Named (headerChecks t b)
+  unfolding headerChecks
+  header-named = ((λ bad e. eqb-false (tableRefusal t) 0 bad e), ((λ bad e. omega (arith, e)), tt))
+
+  -- the match and the field
+  abbrev later : List (Bool × ℕ)
+  later = (eqb (matchAnswer t b barcodeField) 0, matchAnswer t b barcodeField) ∷ fieldChecks t field
+
+  later-named : All Named later
+  unfolding fieldChecks
+  later-named = ((λ bad e. eqb-false (matchAnswer t b barcodeField) 0 bad e), ((λ bad e. omega (arith, e)), ((λ bad e. omega (arith, e)), tt)))
+
   sheet-named : All Named checks
-  unfolding sheetChecks fieldChecks
-  sheet-named = ((λ bad e. eqb-false (matchAnswer t b barcodeField) 0 bad e), ((λ bad e. omega (arith, e)), ((λ bad e. omega (arith, e)), tt)))
-
-  -- the match's answer, if it refuses; else the field's
-  pub sheet-unmatched : (matchAnswer t b barcodeField ≡ 0 → ⊥) → firstRefusal checks ≡ matchAnswer t b barcodeField
   unfolding sheetChecks
-  sheet-unmatched some = first-fail _ _ _ (ne-eqb (matchAnswer t b barcodeField) 0 some)
+  sheet-named = all-append Named (headerChecks t b) later header-named later-named
 
-  pub sheet-matched : matchAnswer t b barcodeField ≡ 0 → firstRefusal checks ≡ firstRefusal (fieldChecks t field)
+  -- the refusal of table and header, if there is one
+  pub sheet-unread : (firstRefusal (headerChecks t b) ≡ 0 → ⊥) → firstRefusal checks ≡ firstRefusal (headerChecks t b)
   unfolding sheetChecks
-  sheet-matched none = first-pass _ _ _ (eq-eqb (matchAnswer t b barcodeField) 0 none)
+  sheet-unread some = first-before (headerChecks t b) later some
 
-  -- what holds if none refuses: table and index match, and the concentration's field is one of the table's, N with three decimals
+  -- else the match's answer, if it refuses; else the field's
+  module _ (read : firstRefusal (headerChecks t b) ≡ 0) where
+    past-header : firstRefusal checks ≡ firstRefusal later
+    unfolding sheetChecks headerChecks
+    past-header =
+        let p = first-passes (headerChecks t b) header-named read in
+        first-pass _ _ _ (p .0) ∙ first-pass _ _ _ (p .1 .0)
+
+    pub sheet-unmatched : (matchAnswer t b barcodeField ≡ 0 → ⊥) → firstRefusal checks ≡ matchAnswer t b barcodeField
+    sheet-unmatched some = past-header ∙ first-fail _ _ _ (ne-eqb (matchAnswer t b barcodeField) 0 some)
+
+    pub sheet-matched : matchAnswer t b barcodeField ≡ 0 → firstRefusal checks ≡ firstRefusal (fieldChecks t field)
+    sheet-matched none = past-header ∙ first-pass _ _ _ (eq-eqb (matchAnswer t b barcodeField) 0 none)
+
+  -- what holds if none refuses: the index has one record to a key, table and index match, and the concentration's field is one of the table's, N with three
+  -- decimals
   pub record SheetGood : Type 0 where
+    pub distinct : features b ≡ goodFeatures
     pub matched : matchAnswer t b barcodeField ≡ 0
     pub number : (1 ≤ field) × (field ≤ fieldCount t)
     pub concentration : isConcentration t field ≡ true
@@ -55,12 +80,15 @@ module _ (t b : List ℕ) (barcodeField field : ℕ) where
     passes = first-passes checks sheet-named none
 
     pub sheet-good : SheetGood
-    unfolding sheetChecks fieldChecks
-    sheet-good = record {
-      matched = eqb-true (matchAnswer t b barcodeField) 0 (passes .0);
-      number = number-range field (fieldCount t) (passes .1 .0);
-      concentration = passes .1 .1 .0;
-    }
+    unfolding sheetChecks headerChecks distinctIndex fieldChecks
+    sheet-good =
+        let late = passes .1 .1 in
+        record {
+          distinct = eqb-true (features b) goodFeatures (both (headerGood b) (eqb (features b) goodFeatures) (passes .1 .0) .1);
+          matched = eqb-true (matchAnswer t b barcodeField) 0 (late .0);
+          number = number-range field (fieldCount t) (late .1 .0);
+          concentration = late .1 .1 .0;
+        }
 
     -- each record of the table then has a barcode, and may be diluted
     pub sheet-barcode : (i : ℕ) → 1 ≤ i → i ≤ recordCount t → PlaceGood t i barcodeField
@@ -126,7 +154,7 @@ module _ (t b : List ℕ) (barcodeField field : ℕ) where
       → recordDilution t i field target final ≡ diluteRule t b barcodeField field (fieldBytes t i barcodeField) target final
   record-line none i target final from to =
       let m = sheet-good none .matched in
-      let own = record-own t b barcodeField m i from to in
+      let own = record-own t b barcodeField m (sheet-good none .distinct) i from to in
       let len = own-length t b barcodeField m i from to in
       sym (dilute-record (fieldBytes t i barcodeField) target final none len i (sym own) (λ e. omega (arith, from, e)))
 

@@ -1,29 +1,66 @@
 -- Laws: how the tests that the code makes meet the checks of the rule. The proofs of this crate's functions cite them. Assumes nothing.
-use Prim.Native.Nat.{ℕ, _-_, _≤_, _<_}
+use Prim.Native.Nat.{ℕ, zero, suc, _-_, _≤_, _<_}
 use mathlib.Core.Path.{_≡_, refl, sym, ap, _∙_}
-use mathlib.Core.Bool.{Bool, true, false, cond, _&&_}
+use mathlib.Core.Bool.{Bool, true, false, cond, not, _&&_}
 use mathlib.Core.List.{List, [], _∷_}
 use native.Mathlib.Omega.{arith}
 use lib.Dec.{eqb, leb, ltb, lit<}
 use lib.IntN.{ℤ, pos, negsuc, natAbs}
 use lib.Signed.{ltZ}
-use borrow.Author.Tests.{eqb-true, ne-eqb, leb-true, lt-ltb, le-leb, lt-leb, ltb-true}
+use borrow.Author.Tests.{eqb-true, eq-eqb, ne-eqb, leb-true, lt-ltb, le-leb, lt-leb, ltb-true}
 use Rattle.basis.specs.Tests.{both, contra}
 use Rattle.octets.specs.Store.{window}
 use Rattle.numeral.specs.Reading.{readNumber}
 use Rattle.numeral.specs.declared.Number.{Number}
 use Rattle.numeral.specs.declared.Number.the-variants.{Value}
-use Rattle.table.specs.Table.{typeN, deletedMark, fieldType, fieldDecimals, fieldCount, deletionByte, firstRefusal, tableChecks, tableRefusal}
-use Rattle.table.specs.TableLaws.{table-numbered, first-after, first-before}
+use Rattle.table.specs.Table.{typeN, deletedMark, fieldType, fieldDecimals, fieldCount, deletionByte, firstRefusal, tableChecks, tableRefusal, checkTable}
+use Rattle.table.specs.TableLaws.{table-numbered, first-pass, first-fail, first-after, first-before, refused-check, good-shape}
+use Rattle.table.specs.declared.Shape.{Shape}
+use Rattle.table.specs.declared.Checked.the-variants as checked
 use Rattle.field.specs.Field.{numberGood, entryOf, formOf, placeAt, fieldRefusal, fieldAnswer}
 use Rattle.field.specs.declared.FieldEntry.{FieldEntry}
 use Rattle.field.specs.declared.FieldAnswer.{FieldAnswer}
 use Rattle.field.specs.declared.Place.{Place}
 use Rattle.cell.specs.Cell.{markGood, fieldStart, fieldBytes}
 use Rattle.cell.specs.Codes.{numberRefusal}
+use Rattle.page.specs.Header.{features, goodFeatures, headerGood}
+use Rattle.page.specs.HeaderLaws.{good-header}
+use Rattle.dilution.specs.Dilution.{distinctIndex, headerChecks}
 use Rattle.dilution.specs.Dilution.{maxTarget, maxFinal, volumesOf, inRange, concentrationDecimals, concentrationText, amountOf}
 use Rattle.dilution.specs.Dilution.{concentrationOf, isConcentration, fieldChecks, textChecks, volumeChecks, unless, dilutionOf, recordDilution}
 use Rattle.dilution.specs.declared.Dilution.the-variants.{Refused}
+
+-- ---- table and header
+
+one-record : (f : ℕ) → f ≤ 1 → not (eqb f 0) ≡ eqb f goodFeatures
+one-record zero h = refl
+one-record (suc zero) h = refl
+one-record (suc (suc f)) h = absurd (omega arith)
+
+pub distinct-bad : (b : List ℕ) → headerGood b ≡ false → false ≡ distinctIndex b
+unfolding distinctIndex
+distinct-bad b h = rw h
+
+pub distinct-tested : (b : List ℕ) (several : Bool) → headerGood b ≡ true → several ≡ eqb (features b) 0 → not several ≡ distinctIndex b
+unfolding distinctIndex
+distinct-tested b several h e = rw (h, e) (one-record (features b) (good-header b h .plain))
+
+pub header-table : (t b : List ℕ) (n : ℕ) → checkTable t ≡ checked.Refused n → n ≡ firstRefusal (headerChecks t b)
+unfolding headerChecks
+header-table t b n e =
+    let said = refused-check t n e in
+    said .0 ∙ sym (first-fail _ _ _ (ne-eqb (tableRefusal t) 0 (λ z. said .1 (said .0 ∙ z))))
+
+module _ (t b : List ℕ) (s : Shape) (e : checkTable t ≡ checked.Good s) where
+  past-table : firstRefusal (headerChecks t b) ≡ cond (distinctIndex b) 0 24
+  unfolding headerChecks firstRefusal
+  past-table = first-pass (eqb (tableRefusal t) 0) (tableRefusal t) ((distinctIndex b, 24) ∷ []) (eq-eqb (tableRefusal t) 0 (good-shape t s e .table))
+
+  pub header-one : distinctIndex b ≡ true → 0 ≡ firstRefusal (headerChecks t b)
+  header-one d = sym (past-table ∙ rw d)
+
+  pub header-24 : distinctIndex b ≡ false → 24 ≡ firstRefusal (headerChecks t b)
+  header-24 d = sym (past-table ∙ rw d)
 
 -- ---- the concentration's field
 

@@ -5,6 +5,7 @@
 // `record_dilution`, which gives the very answer of `dilute` for the record's barcode.
 use lookup::Answer;
 use numeral::Number;
+use table::Checked;
 ghost use mathlib.Core.Path.{_≡_};
 ghost use mathlib.Core.Bool.{true};
 ghost use Prim.Native.Nat.{_≤_, _<_};
@@ -12,7 +13,7 @@ ghost use lib.ListN.{length};
 ghost use Rattle.page.specs.Header.{keyLength, headerGood};
 ghost use Rattle.table.specs.Table.{firstRefusal, tableRefusal};
 ghost use Rattle.dilution.specs.Dilution.{maxTarget, maxFinal, sampleOf, volumesOf, inRange, concentrationOf, amountOf};
-ghost use Rattle.dilution.specs.Dilution.{fieldChecks, sheetChecks, recordWith, dilutionOf, recordDilution, diluteRule, Dilutable};
+ghost use Rattle.dilution.specs.Dilution.{distinctIndex, headerChecks, fieldChecks, sheetChecks, recordWith, dilutionOf, recordDilution, diluteRule, Dilutable};
 
 // The decimals of a concentration's field.
 const DECIMALS: u32 = 3;
@@ -43,10 +44,35 @@ fn field_refusal(table: &[u8], field: u32) -> u32
     refusal::FIELD_TYPE
 }
 
-// The refusal of a whole sheet: the match's, 12, 13, or 0.
+// Whether an index has a good header that says one record to a key.
+fn is_distinct(index: &[u8]) -> bool
+    ensures { λ r. ⌜ r ≡ distinctIndex (now (index .entry)) ⌝ }
+{
+    if !page::header_good(index) {
+        return false;
+    }
+    !page::several(index)
+}
+
+// The refusal of a table and of an index's header: 1 to 10, 24, or 0.
+fn header_refusal(table: &[u8], index: &[u8]) -> u32
+    ensures { λ r. ⌜ r ≡ firstRefusal (headerChecks (now (table .entry)) (now (index .entry))) ⌝ }
+{
+    let distinct = is_distinct(index);
+    match table_check::check_table(table) {
+        Checked::Refused(refusal) => refusal,
+        Checked::Good(_) => if distinct { 0 } else { refusal::INDEX_HEADER },
+    }
+}
+
+// The refusal of a whole sheet: the match's, 24 for several records to a key, 12, 13, or 0.
 pub fn sheet_refusal(table: &[u8], index: &[u8], barcode_field: u32, field: u32) -> u32
     ensures { λ r. ⌜ r ≡ firstRefusal (sheetChecks (now (table .entry)) (now (index .entry)) «barcode_field» field) ⌝ }
 {
+    let unread = header_refusal(table, index);
+    if unread != 0 {
+        return unread;
+    }
     let refused = matching::match_index(table, index, barcode_field);
     if refused != 0 {
         return refused;

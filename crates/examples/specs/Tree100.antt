@@ -11,5 +11,5 @@ key100 x = replicate 99 32 ++ ((48 + x) ∷ [])
 
 -- a buffer of `size` bytes after fresh, with the expression `NAME`, and insertions of the keys 1 to n, key x with the record number x
 unfoldable pub grown : ℕ → ℕ → List ℕ
-grown size zero = freshRule (replicate size 7) 100 (78 ∷ 65 ∷ 77 ∷ 69 ∷ []) .after
+grown size zero = freshRule (replicate size 7) 100 1 (78 ∷ 65 ∷ 77 ∷ 69 ∷ []) .after
 grown size (suc n) = insertRule (grown size n) (key100 (suc n)) (suc n) .after

@@ -2,7 +2,7 @@
 -- exactly at the end of a walk, since no refusal has any of these numbers. Assumes nothing.
 use Prim.Native.Nat.{ℕ, zero, suc, _+_, _-_, _^_, _≤_}
 use mathlib.Core.Path.{_≡_, refl, sym, ap, _∙_}
-use mathlib.Core.Bool.{Bool, false}
+use mathlib.Core.Bool.{Bool, true, false, _&&_, cond}
 use mathlib.Core.List.{List}
 use mathlib.Core.Logic.{_↔_, _⊎_, inl, inr}
 use native.Mathlib.Omega.{arith}
@@ -30,7 +30,8 @@ use Rattle.walk.specs.Walk.{walkFrom, walkStep}
 use Rattle.walk.specs.declared.Position.{Position}
 use Rattle.walk.specs.declared.Step.{Step}
 use Rattle.walk.specs.declared.Step.the-variants as step
-use Rattle.page.specs.Header.{maxLevels, rootOffset, keyLength, keyLengthGood, headerGood}
+use Rattle.page.specs.Header.{maxLevels, noPage, rootOffset, fileSize, keyLength, features, keyLengthGood, headerGood}
+use Rattle.page.specs.Page.{attributeAt, countAt, rightAt, leafBit, keyAt, numberAt, pageGood, firstAtOrAbove}
 use Rattle.page.specs.declared.RecordNumber.{RecordNumber}
 use Rattle.cell.specs.Cell.{numberCell, dateCell, logicalCell, textCell}
 use Rattle.cell.specs.Codes.{emptyCode, numberCode, dateCode, logicalCode, textCode}
@@ -39,17 +40,20 @@ use Rattle.cell.specs.declared.Logical.{Logical}
 use Rattle.cell.specs.declared.Logical.the-variants as logical
 use Rattle.cell.specs.declared.TextPlace.{TextPlace}
 use Rattle.cell.specs.declared.TextPlace.the-variants as text
-use Rattle.lookup.specs.Lookup.{visitRule, decided, lookupFrom, lookupRule, isFound, absentCode, lookupCode}
+use Rattle.octets.specs.Order.{ordering, isEqual}
+use Rattle.lookup.specs.FirstRecord.{recordOf, entryDecides, neighbourDecides, firstFrom}
+use Rattle.lookup.specs.Lookup.{visitRule, decided, lookupFrom, lookupSteps, lookupRule, absentCode, lookupCode}
 use Rattle.lookup.specs.declared.Visit.{Visit}
 use Rattle.lookup.specs.declared.Visit.the-variants as visit
 use Rattle.lookup.specs.declared.Answer.{Answer}
 use Rattle.lookup.specs.declared.Answer.the-variants as looked
 use Rattle.sound.specs.Rule.{pagesGood}
 use Rattle.insert.specs.Room.{pathTo, noRoom}
-use Rattle.insert.specs.Fresh.{expressionGood, freshRule}
+use Rattle.insert.specs.Fresh.{expressionGood, featuresGood, freshRule}
 use Rattle.insert.specs.Calls.{insertionCode, hasControl, insertRule}
 use Rattle.insert.specs.declared.Insertion.{Insertion}
 use Rattle.insert.specs.declared.Insertion.the-variants as insertion
+use Rattle.remove.specs.Removal.{isThere}
 use Rattle.remove.specs.Calls.{removeRule}
 use Rattle.remove.specs.declared.Removal.{Removal}
 use Rattle.remove.specs.declared.Removal.the-variants as removal
@@ -220,6 +224,9 @@ module _ (b : List ℕ) (i field : ℕ) where
 
 -- ---- lookup: 0 with a record's number, 257 for an absent key
 
+looked-numbered : (m n : ℕ) → Numbered m → looked.Refused m ≡ looked.Refused n → Numbered n
+looked-numbered m n small e = let k : m ≡ n = cc in (omega arith, omega arith)
+
 decided-refusal : (go : ℕ → Answer) → ((p : ℕ) → RefusalsNumbered looked.Refused (go p))
     → (pages : ℕ) (v : Visit) → RefusalsNumbered looked.Refused (decided go pages v)
 decided-refusal go small pages visit.Refused n e = let k : 25 ≡ n = cc in (omega arith, omega arith)
@@ -234,12 +241,52 @@ from-refusal (suc left) b key p n e =
     decided-refusal (lookupFrom left b key) (from-refusal left b key)
     (maxLevels - left) (visitRule b key p (eqb (maxLevels - left) 1) (eqb left 0)) n e
 
+-- with several records to a key: an entry decides without a refusal
+found-or-absent : (t : Bool) (r : RecordNumber) (pages : ℕ) → RefusalsNumbered looked.Refused (cond t (looked.Found r pages) (looked.Absent pages))
+found-or-absent true r pages n e = impossible (cc)
+found-or-absent false r pages n e = impossible (cc)
+
+entry-refusal : (b key : List ℕ) (pages p i : ℕ) → RefusalsNumbered looked.Refused (entryDecides b key pages p i)
+unfolding entryDecides
+entry-refusal b key pages p i n e =
+    found-or-absent (isEqual (ordering (keyAt b (length key) p i) key)) (recordOf (numberAt b (length key) p i)) pages n e
+
+neighbour-refusal : (b key : List ℕ) (pages q : ℕ) → RefusalsNumbered looked.Refused (neighbourDecides b key pages q)
+unfolding neighbourDecides
+neighbour-refusal b key pages q n e =
+    either (eqb q noPage)
+    (λ none. let q : looked.Absent pages ≡ looked.Refused n = rw (none, neighbourDecides) at e in impossible (cc))
+    (λ some. either (pageGood b (length key) (fileSize b) q false true)
+    (λ good. entry-refusal b key (pages + 1) q 0 n (rw (some, good, neighbourDecides) at e))
+    (λ bad. looked-numbered 25 n (lit< tt, lit< tt) (rw (some, bad, neighbourDecides) at e)))
+
+first-refusal : (left : ℕ) (b key : List ℕ) (p : ℕ) → RefusalsNumbered looked.Refused (firstFrom left b key p)
+unfolding firstFrom
+first-refusal zero b key p n e = looked-numbered 25 n (lit< tt, lit< tt) e
+first-refusal (suc left) b key p n e =
+    let i = firstAtOrAbove (keyAt b (length key) p) key (countAt b p) 0 in
+    either (pageGood b (length key) (fileSize b) p (eqb (maxLevels - left) 1) (eqb left 0))
+    (λ good. either (eqb i (countAt b p))
+    (λ past. either (eqb (maxLevels - left) 1)
+    (λ root. let q : looked.Absent (maxLevels - left) ≡ looked.Refused n = rw (good, past, root, firstFrom) at e in impossible (cc))
+    (λ lower. either (leafBit (attributeAt b p))
+    (λ leaf. neighbour-refusal b key (maxLevels - left) (rightAt b p) n (rw (good, past, lower, leaf, firstFrom) at e))
+    (λ above. first-refusal left b key (numberAt b (length key) p (countAt b p - 1)) n (rw (good, past, lower, above, firstFrom) at e))))
+    (λ here. either (leafBit (attributeAt b p))
+    (λ leaf. entry-refusal b key (maxLevels - left) p i n (rw (good, here, leaf, firstFrom) at e))
+    (λ above. first-refusal left b key (numberAt b (length key) p i) n (rw (good, here, above, firstFrom) at e))))
+    (λ bad. looked-numbered 25 n (lit< tt, lit< tt) (rw (bad, firstFrom) at e))
+
+steps-refusal : (f : ℕ) (b key : List ℕ) → RefusalsNumbered looked.Refused (lookupSteps f b key)
+steps-refusal zero b key = first-refusal maxLevels b key (rootOffset b)
+steps-refusal (suc f) b key = from-refusal maxLevels b key (rootOffset b)
+
 lookup-refusal : (b key : List ℕ) → RefusalsNumbered looked.Refused (lookupRule b key)
 unfolding lookupRule
 lookup-refusal b key n e =
     either (headerGood b)
     (λ good. either (eqb (length key) (keyLength b))
-    (λ fits. from-refusal maxLevels b key (rootOffset b) n (rw (good, fits, lookupRule) at e))
+    (λ fits. steps-refusal (features b) b key n (rw (good, fits, lookupRule) at e))
     (λ misfit. let q : looked.Refused 27 ≡ looked.Refused n = rw (good, misfit, lookupRule) at e in let k : 27 ≡ n = cc in (omega arith, omega arith)))
     (λ bad. let q : looked.Refused 24 ≡ looked.Refused n = rw (bad, lookupRule) at e in let k : 24 ≡ n = cc in (omega arith, omega arith))
 
@@ -285,11 +332,11 @@ write-told s d v =
 insertion-numbered : (m n : ℕ) → Numbered m → insertion.Refused m ≡ insertion.Refused n → Numbered n
 insertion-numbered m n small e = let k : m ≡ n = cc in (omega arith, omega arith)
 
-fresh-refusal : (b : List ℕ) (k : ℕ) (x : List ℕ) → RefusalsNumbered insertion.Refused (freshRule b k x .answer)
+fresh-refusal : (b : List ℕ) (k f : ℕ) (x : List ℕ) → RefusalsNumbered insertion.Refused (freshRule b k f x .answer)
 unfolding freshRule
-fresh-refusal b k x n e =
+fresh-refusal b k f x n e =
     either (keyLengthGood k)
-    (λ key. either (expressionGood x)
+    (λ key. either (expressionGood x && featuresGood f)
     (λ printed. either (leb 1024 (length b))
     (λ room. let q : insertion.Accepted ≡ insertion.Refused n = rw (key, printed, room, freshRule) at e in impossible (cc))
     (λ full. insertion-numbered 30 n (lit< tt, lit< tt) (rw (key, printed, full, freshRule) at e)))
@@ -303,8 +350,8 @@ insertion-case (insertion.Refused n) small = refused (small n refl)
 insertion-told : (a : Insertion) → RefusalsNumbered insertion.Refused a → Told (insertionCode a) emptyCode (a ≡ insertion.Accepted) ⊥
 insertion-told a small = told (omega arith) (insertion-case a small) (λ done. ap insertionCode done) (λ none. absurd none)
 
-pub fresh-told : (b : List ℕ) (k : ℕ) (x : List ℕ) → let a = freshRule b k x .answer in Told (insertionCode a) emptyCode (a ≡ insertion.Accepted) ⊥
-fresh-told b k x = insertion-told (freshRule b k x .answer) (fresh-refusal b k x)
+pub fresh-told : (b : List ℕ) (k f : ℕ) (x : List ℕ) → let a = freshRule b k f x .answer in Told (insertionCode a) emptyCode (a ≡ insertion.Accepted) ⊥
+fresh-told b k f x = insertion-told (freshRule b k f x .answer) (fresh-refusal b k f x)
 
 insert-refusal : (b key : List ℕ) (r : ℕ) → RefusalsNumbered insertion.Refused (insertRule b key r .answer)
 unfolding insertRule
@@ -331,13 +378,13 @@ insert-told b key r = insertion-told (insertRule b key r .answer) (insert-refusa
 removal-numbered : (m n : ℕ) → Numbered m → removal.Refused m ≡ removal.Refused n → Numbered n
 removal-numbered m n small e = let k : m ≡ n = cc in (omega arith, omega arith)
 
-remove-refusal : (b key : List ℕ) → RefusalsNumbered removal.Refused (removeRule b key .answer)
+remove-refusal : (b key : List ℕ) (r : ℕ) → RefusalsNumbered removal.Refused (removeRule b key r .answer)
 unfolding removeRule
-remove-refusal b key n e =
+remove-refusal b key r n e =
     either (headerGood b)
     (λ good. either (eqb (length key) (keyLength b))
     (λ fits. either (pagesGood b)
-    (λ sound. either (isFound (lookupRule b key))
+    (λ sound. either (isThere (keyLength b) b key r)
     (λ found. let q : removal.Accepted ≡ removal.Refused n = rw (good, fits, sound, found, removeRule) at e in impossible (cc))
     (λ absent. removal-numbered 33 n (lit< tt, lit< tt) (rw (good, fits, sound, absent, removeRule) at e)))
     (λ bad. removal-numbered 25 n (lit< tt, lit< tt) (rw (good, fits, bad, removeRule) at e)))
@@ -348,5 +395,6 @@ removal-case : (a : Removal) → RefusalsNumbered removal.Refused a → Case (re
 removal-case removal.Accepted small = accepted refl refl
 removal-case (removal.Refused n) small = refused (small n refl)
 
-pub remove-told : (b key : List ℕ) → let a = removeRule b key .answer in Told (removalCode a) emptyCode (a ≡ removal.Accepted) ⊥
-remove-told b key = told (omega arith) (removal-case (removeRule b key .answer) (remove-refusal b key)) (λ done. ap removalCode done) (λ none. absurd none)
+pub remove-told : (b key : List ℕ) (r : ℕ) → let a = removeRule b key r .answer in Told (removalCode a) emptyCode (a ≡ removal.Accepted) ⊥
+remove-told b key r =
+    told (omega arith) (removal-case (removeRule b key r .answer) (remove-refusal b key r)) (λ done. ap removalCode done) (λ none. absurd none)

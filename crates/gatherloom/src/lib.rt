@@ -16,6 +16,7 @@ ghost use Rattle.insert.specs.Calls.{insertRule};
 ghost use Rattle.insert.specs.Fresh.{freshRule};
 ghost use Rattle.remove.specs.Calls.{removeRule};
 ghost use Rattle.matching.specs.Match.{Matched};
+ghost use Rattle.records.specs.Records.{told, recordsRule};
 ghost use Rattle.dilution.specs.Dilution.{diluteRule};
 ghost use Rattle.ndx.specs.Lookup as ndx-lookup;
 ghost use Rattle.ndx_sound.specs.Sound as ndx;
@@ -33,7 +34,7 @@ ghost use Rattle.dilute_call.specs.Volumes.{volumes, volumesOut};
 ghost use Rattle.gatherloom.specs.Interface.{interfaceNumber};
 
 // The number of this interface, GL_INTERFACE in the header.
-const INTERFACE: u32 = 1;
+const INTERFACE: u32 = 2;
 
 // The interface of this archive: a host compares it with GL_INTERFACE before its first call.
 #[no_mangle]
@@ -166,12 +167,17 @@ pub extern "C" fn gl_number_write(text: &mut [u8], decimals: u32, value: i64) ->
     cell_calls::number_write(text, decimals, value)
 }
 
-// Makes a fresh index.
+// Makes a fresh index, with one record to a key (features 1) or several (features 0).
 #[no_mangle]
-pub extern "C" fn gl_index_fresh(index: &mut [u8], key_length: u32, expression: &[u8]) -> u32
-    ensures { λ r. ⌜ insertionOut (freshRule (now (index .entry)) «key_length» (now (expression .entry))) ≡ out r (now (index .exit)) ⌝ }
+pub extern "C" fn gl_index_fresh(
+    index: &mut [u8],
+    key_length: u32,
+    features: u32,
+    expression: &[u8],
+) -> u32
+    ensures { λ r. ⌜ insertionOut (freshRule (now (index .entry)) «key_length» features (now (expression .entry))) ≡ out r (now (index .exit)) ⌝ }
 {
-    index_calls::index_fresh(index, key_length, expression)
+    index_calls::index_fresh(index, key_length, features, expression)
 }
 
 // Audits an index: 24, 25, or 0 if it is sound.
@@ -206,12 +212,27 @@ pub extern "C" fn gl_index_insert(index: &mut [u8], key: &[u8], number: u32) -> 
     index_calls::index_insert(index, key, number)
 }
 
-// Strikes a key off.
+// Strikes a pair off; with one record to a key the number is not looked at.
 #[no_mangle]
-pub extern "C" fn gl_index_remove(index: &mut [u8], key: &[u8]) -> u32
-    ensures { λ r. ⌜ removalOut (removeRule (now (index .entry)) (now (key .entry))) ≡ out r (now (index .exit)) ⌝ }
+pub extern "C" fn gl_index_remove(index: &mut [u8], key: &[u8], number: u32) -> u32
+    ensures { λ r. ⌜ removalOut (removeRule (now (index .entry)) (now (key .entry)) number) ≡ out r (now (index .exit)) ⌝ }
 {
-    index_calls::index_remove(index, key)
+    index_calls::index_remove(index, key, number)
+}
+
+// All records of a key, in order, into a list, and how many they are; entries of the list past them stay.
+#[no_mangle]
+pub extern "C" fn gl_index_records(
+    index: &[u8],
+    key: &[u8],
+    list: &mut [u32],
+    count: &mut u32,
+) -> u32
+    ensures { λ r. ⌜
+        recordsRule (now (index .entry)) (now (key .entry)) (now (list .entry)) (now (count .entry)) ≡ told r (now (list .exit)) (now (count .exit))
+        ⌝ }
+{
+    records::records(index, key, list, count)
 }
 
 // Matches an index against a field of a table: 0 if each record has exactly one entry, its key that record's field, and there are no others.

@@ -24,11 +24,11 @@ pub fn insertion_code(answer: Insertion) -> u32
     }
 }
 
-// Makes a fresh index.
-pub fn index_fresh(index: &mut [u8], key_length: u32, expression: &[u8]) -> u32
-    ensures { λ r. ⌜ insertionOut (freshRule (now (index .entry)) «key_length» (now (expression .entry))) ≡ out r (now (index .exit)) ⌝ }
+// Makes a fresh index, with one record to a key (features 1) or several (features 0).
+pub fn index_fresh(index: &mut [u8], key_length: u32, features: u32, expression: &[u8]) -> u32
+    ensures { λ r. ⌜ insertionOut (freshRule (now (index .entry)) «key_length» features (now (expression .entry))) ≡ out r (now (index .exit)) ⌝ }
 {
-    insertion_code(insert::fresh(index, key_length, expression))
+    insertion_code(insert::fresh(index, key_length, features, expression))
 }
 
 // Writes what a lookup in an index of either format answers, and returns its number.
@@ -85,11 +85,11 @@ pub fn index_insert(index: &mut [u8], key: &[u8], number: u32) -> u32
     insertion_code(insert::insert(index, key, RecordNumber(number)))
 }
 
-// Strikes a key off.
-pub fn index_remove(index: &mut [u8], key: &[u8]) -> u32
-    ensures { λ r. ⌜ removalOut (removeRule (now (index .entry)) (now (key .entry))) ≡ out r (now (index .exit)) ⌝ }
+// Strikes a pair off; with one record to a key the number is not looked at.
+pub fn index_remove(index: &mut [u8], key: &[u8], number: u32) -> u32
+    ensures { λ r. ⌜ removalOut (removeRule (now (index .entry)) (now (key .entry)) number) ≡ out r (now (index .exit)) ⌝ }
 {
-    let answer = remove::remove(index, key);
+    let answer = remove::remove(index, key, RecordNumber(number));
     match answer {
         Removal::Accepted => 0,
         Removal::Refused(refusal) => refusal,

@@ -10,14 +10,14 @@ use lib.Dec.{leb}
 use borrow.Author.Tests.{eq-eqb, ne-eqb, leb-true, le-leb, lt-leb, lt-ltb, le-ltb}
 use Rattle.basis.specs.Tests.{contra, both}
 use Rattle.octets.specs.Store.{put}
-use Rattle.page.specs.Header.{minBytes, pageSize, noPage, keyLength, keyLengthGood, headerGood}
+use Rattle.page.specs.Header.{maxFeatures, minBytes, pageSize, noPage, keyLength, keyLengthGood, headerGood}
 use Rattle.page.specs.Reading.{items}
 use Rattle.sound.specs.Rule.{pagesGood}
 use Rattle.layout.specs.Layout.{headerBytes, newPage}
 use Rattle.insert.specs.Insertion.{insertedBuffer}
 use Rattle.insert.specs.Room.{pathTo, noRoom}
 use Rattle.insert.specs.Calls.{afterCall, hasControl, insertRule}
-use Rattle.insert.specs.Fresh.{printable, maxExpression, expressionGood, freshHeader, freshBuffer, freshRule}
+use Rattle.insert.specs.Fresh.{printable, maxExpression, expressionGood, featuresGood, freshHeader, freshBuffer, freshRule}
 use Rattle.insert.specs.declared.Insertion.the-variants.{Accepted, Refused}
 
 -- insertion, refusal by refusal in its order
@@ -101,28 +101,28 @@ unfolding printable
 printable-end s i h = rw (drop-of-length-le s h)
 
 -- the stores of a fresh index
-pub fresh-stored : (b e xs : List ℕ) (k : ℕ) {end : ℕ} {l1 l2 : List ℕ} → end ≡ minBytes → l1 ≡ put b 0 (headerBytes pageSize end k e)
-    → l2 ≡ newPage l1 pageSize 3 noPage noPage (items k 0 xs) → l2 ≡ freshBuffer k e b
+pub fresh-stored : (b e xs : List ℕ) (k f : ℕ) {end : ℕ} {l1 l2 : List ℕ} → end ≡ minBytes → l1 ≡ put b 0 (headerBytes pageSize end k f e)
+    → l2 ≡ newPage l1 pageSize 3 noPage noPage (items k 0 xs) → l2 ≡ freshBuffer k f e b
 unfolding freshBuffer freshHeader items
-fresh-stored b e xs k z e1 e2 = e2 ∙ rw (e1, z)
+fresh-stored b e xs k f z e1 e2 = e2 ∙ rw (e1, z)
 
 -- fresh, refusal by refusal in its order
-module _ (b : List ℕ) (k : ℕ) (e : List ℕ) where
-  pub fresh-27 : keyLengthGood k ≡ false → freshRule b k e ≡ afterCall b (Refused 27)
+module _ (b : List ℕ) (k f : ℕ) (e : List ℕ) where
+  pub fresh-27 : keyLengthGood k ≡ false → freshRule b k f e ≡ afterCall b (Refused 27)
   unfolding freshRule
   fresh-27 t = rw (t, freshRule)
 
   module _ (key : keyLengthGood k ≡ true) where
-    pub fresh-24 : expressionGood e ≡ false → freshRule b k e ≡ afterCall b (Refused 24)
+    pub fresh-24 : (expressionGood e && featuresGood f) ≡ false → freshRule b k f e ≡ afterCall b (Refused 24)
     unfolding freshRule
     fresh-24 t = rw (key, t, freshRule)
 
-    module _ (good : expressionGood e ≡ true) where
-      pub fresh-30 : length b < minBytes → freshRule b k e ≡ afterCall b (Refused 30)
+    module _ (good : (expressionGood e && featuresGood f) ≡ true) where
+      pub fresh-30 : length b < minBytes → freshRule b k f e ≡ afterCall b (Refused 30)
       unfolding freshRule
       fresh-30 h = rw (key, good, lt-leb minBytes (length b) h, freshRule)
 
-      pub fresh-made : {out : List ℕ} → minBytes ≤ length b → out ≡ freshBuffer k e b → freshRule b k e ≡ afterCall out Accepted
+      pub fresh-made : {out : List ℕ} → minBytes ≤ length b → out ≡ freshBuffer k f e b → freshRule b k f e ≡ afterCall out Accepted
       unfolding freshRule
       fresh-made h q = rw (key, good, le-leb minBytes (length b) h, freshRule, q)
 
@@ -138,3 +138,7 @@ expression-short e l = rw (le-leb (length e) maxExpression l, and-true (leb 1 (l
 pub expression-most : (e : List ℕ) → expressionGood e ≡ true → length e ≤ maxExpression
 unfolding expressionGood
 expression-most e t = leb-true (length e) maxExpression (both (leb 1 (length e)) (leb (length e) maxExpression) (both _ (printable e) t .0) .1)
+
+-- features that are good are 0 or 1
+pub features-most : (f : ℕ) → featuresGood f ≡ true → f ≤ maxFeatures
+features-most f t = leb-true f maxFeatures t

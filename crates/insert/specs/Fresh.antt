@@ -5,7 +5,7 @@ use mathlib.Core.List.{List, [], _∷_}
 use lib.ListN.{length}
 use lib.Dec.{leb}
 use Rattle.octets.specs.Store.{put}
-use Rattle.page.specs.Header.{minBytes, pageSize, noPage, keyLengthGood}
+use Rattle.page.specs.Header.{minBytes, maxFeatures, pageSize, noPage, keyLengthGood}
 use Rattle.layout.specs.Layout.{headerBytes, newPage}
 use Rattle.insert.specs.Calls.{AfterCall, afterCall}
 use Rattle.insert.specs.declared.Insertion.the-variants.{Accepted, Refused}
@@ -23,24 +23,28 @@ maxExpression = 220
 unfoldable pub expressionGood : List ℕ → Bool
 expressionGood e = leb 1 (length e) && leb (length e) maxExpression && printable e
 
--- "Root 512, free pointer 0xFFFFFFFF, F 1,024, key length k, features 1, the expression; .. all else in the 1,024 zero"
-unfoldable pub freshHeader : ℕ → List ℕ → List ℕ
-freshHeader k e = headerBytes pageSize minBytes k e
+-- "Refusal 24 admits 0 and 1, .. a fresh index is told which, else 24"
+abbrev pub featuresGood : ℕ → Bool
+featuresGood f = leb f maxFeatures
+
+-- "Root 512, free pointer 0xFFFFFFFF, F 1,024, key length k, features" f, "the expression; .. all else in the 1,024 zero"
+unfoldable pub freshHeader : ℕ → ℕ → List ℕ → List ℕ
+freshHeader k f e = headerBytes pageSize minBytes k f e
 
 -- "the page at 512 has attribute 3, count 0, links none; .. later bytes kept"
-unfoldable pub freshBuffer : ℕ → List ℕ → List ℕ → List ℕ
-freshBuffer k e b = newPage (put b 0 (freshHeader k e)) pageSize 3 noPage noPage []
+unfoldable pub freshBuffer : ℕ → ℕ → List ℕ → List ℕ → List ℕ
+freshBuffer k f e b = newPage (put b 0 (freshHeader k f e)) pageSize 3 noPage noPage []
 
--- what fresh leaves and answers: "27, 24, 30", 27 for "k not 1 to 100", 30 for a buffer below 1,024
-unfoldable pub freshRule : List ℕ → ℕ → List ℕ → AfterCall
-freshRule b k e =
+-- what fresh leaves and answers: "27, 24, 30", 27 for "k not 1 to 100", 24 for the expression or the features, 30 for a buffer below 1,024
+unfoldable pub freshRule : List ℕ → ℕ → ℕ → List ℕ → AfterCall
+freshRule b k f e =
     elim (keyLengthGood k) [
       | false ↦ afterCall b (Refused 27)
-      | true ↦ elim (expressionGood e) [
+      | true ↦ elim (expressionGood e && featuresGood f) [
         | false ↦ afterCall b (Refused 24)
         | true ↦ elim (leb minBytes (length b)) [
           | false ↦ afterCall b (Refused 30)
-          | true ↦ afterCall (freshBuffer k e b) Accepted
+          | true ↦ afterCall (freshBuffer k f e b) Accepted
         ]
       ]
     ]

@@ -4,11 +4,11 @@ use mathlib.Core.Bool.{cond}
 use mathlib.Core.List.{List}
 use lib.ListN.{length}
 use lib.Dec.{leb, ltb}
-use Rattle.tree.specs.Pairs.{byKey, insertPair}
-use Rattle.page.specs.Header.{maxLevels, noPage, isPage, rootOffset}
+use Rattle.tree.specs.Pairs.{insertPair}
+use Rattle.page.specs.Header.{maxLevels, noPage, isPage, rootOffset, features}
 use Rattle.page.specs.Page.{attributeAt, leafBit, capacity}
-use Rattle.page.specs.KeyOrder.{bytesOrder}
 use Rattle.page.specs.Reading.{Item}
+use Rattle.page.specs.EntryOrder.{itemOrder}
 use Rattle.layout.specs.declared.Supply.{Supply}
 use Rattle.layout.specs.Supply.{supplyOf, takePage, withSupply}
 use Rattle.layout.specs.Layout.{itemsIn, withRoot, withEntries, newPage, splitPage}
@@ -52,8 +52,8 @@ unfoldable pub insertUnder : ℕ → ℕ → List ℕ → Item → ℕ → Suppl
 insertUnder k zero b e p s = step b bad
 insertUnder k (suc left) b e p s =
     let es = itemsIn k b p in
-    let leaf = takeIn k b p (insertPair (byKey bytesOrder) e es) s in
-    let i = chosenAt e es in
+    let leaf = takeIn k b p (insertPair (itemOrder (features b)) e es) s in
+    let i = chosenAt b e es in
     let below = insertUnder k left b e (childOf i es) s in
     let upper = afterChild k (below .after) (e .0) p i (childOf i es) (below .outcome) in
     cond (isPage (length b) p) (cond (leafBit (attributeAt b p)) leaf upper) (step b bad)

@@ -4,11 +4,11 @@ use mathlib.Core.Bool.{Bool, false, cond, _||_, _&&_}
 use mathlib.Core.List.{List}
 use lib.ListN.{length}
 use lib.Dec.{eqb, leb, ltb}
-use Rattle.tree.specs.Pairs.{byKey, present}
-use Rattle.page.specs.Header.{maxBytes, maxLevels, isPage, rootOffset}
+use Rattle.tree.specs.Pairs.{present}
+use Rattle.page.specs.Header.{maxBytes, maxLevels, isPage, rootOffset, features}
 use Rattle.page.specs.Page.{attributeAt, leafBit, capacity}
-use Rattle.page.specs.KeyOrder.{bytesOrder}
 use Rattle.page.specs.Reading.{Item}
+use Rattle.page.specs.EntryOrder.{itemOrder}
 use Rattle.layout.specs.Layout.{itemsIn}
 use Rattle.layout.specs.Supply.{supplyOf, supplyAfter}
 use Rattle.layout.specs.Entries.{stored, chosenAt, childOf}
@@ -33,8 +33,8 @@ pathFrom k zero b e p = nowhere
 pathFrom k (suc left) b e p =
     let es = itemsIn k b p in
     let full = leb (capacity k) (length es) in
-    let leaf = onTop full (record { levels = 0; run = 0; present = present (byKey bytesOrder) e es }) in
-    let upper = onTop full (pathFrom k left b e (childOf (chosenAt e es) es)) in
+    let leaf = onTop full (record { levels = 0; run = 0; present = present (itemOrder (features b)) e es }) in
+    let upper = onTop full (pathFrom k left b e (childOf (chosenAt b e es) es)) in
     cond (isPage (length b) p) (cond (leafBit (attributeAt b p)) leaf upper) nowhere
 
 -- the path of a key with its record number, from the root on

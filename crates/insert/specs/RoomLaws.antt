@@ -7,11 +7,11 @@ use native.Mathlib.Omega.{arith}
 use lib.ListN.{length}
 use lib.Dec.{eqb, leb, ltb}
 use Rattle.basis.specs.Tests.{either}
-use Rattle.tree.specs.Pairs.{byKey, present}
-use Rattle.page.specs.Header.{maxBytes, maxLevels, isPage, rootOffset, keyLength}
+use Rattle.tree.specs.Pairs.{present}
+use Rattle.page.specs.Header.{maxBytes, maxLevels, isPage, rootOffset, keyLength, features}
 use Rattle.page.specs.Page.{attributeAt, leafBit, capacity}
-use Rattle.page.specs.KeyOrder.{bytesOrder}
 use Rattle.page.specs.Reading.{Item}
+use Rattle.page.specs.EntryOrder.{itemOrder}
 use Rattle.page.specs.declared.PageOffset.{PageOffset}
 use Rattle.layout.specs.Layout.{itemsIn}
 use Rattle.layout.specs.declared.Supply.{Supply}
@@ -34,7 +34,7 @@ path-levels k zero b item p = omega arith
 path-levels k (suc left) b item p = either (isPage (length b) p)
     (λ t. either (leafBit (attributeAt b p))
     (λ u. rw (t, u) (omega arith))
-    (λ u. rw (t, u) (omega (arith, path-levels k left b item (childOf (chosenAt item (itemsIn k b p)) (itemsIn k b p))))))
+    (λ u. rw (t, u) (omega (arith, path-levels k left b item (childOf (chosenAt b item (itemsIn k b p)) (itemsIn k b p))))))
     (λ t. rw t (omega arith))
 
 -- the path, by cases of the visit
@@ -46,7 +46,7 @@ module _ (b : List ℕ) (item : Item) (p : ℕ) where
 
   module _ {full : Bool} (f : full ≡ leb (capacity (length (item .0))) (length (itemsIn (length (item .0)) b p))) where
     pub path-leaf : (levels : ℕ) {there : Bool} → (levels ≡ 0 → ⊥) → visit.Leaf ≡ visitOf b item p
-        → there ≡ present (byKey bytesOrder) item (itemsIn (length (item .0)) b p)
+        → there ≡ present (itemOrder (features b)) item (itemsIn (length (item .0)) b p)
         → onTop full (record { levels = 0; run = 0; present = there }) ≡ pathFrom (length (item .0)) levels b item p
     unfolding pathFrom
     path-leaf zero s e t = absurd (s refl)
@@ -67,8 +67,8 @@ unfolding pathFrom
 path-run k zero b item p = omega arith
 path-run k (suc left) b item p =
     let full = leb (capacity k) (length (itemsIn k b p)) in
-    let c = childOf (chosenAt item (itemsIn k b p)) (itemsIn k b p) in
-    let leaf : Path = record { levels = 0; run = 0; present = present (byKey bytesOrder) item (itemsIn k b p) } in
+    let c = childOf (chosenAt b item (itemsIn k b p)) (itemsIn k b p) in
+    let leaf : Path = record { levels = 0; run = 0; present = present (itemOrder (features b)) item (itemsIn k b p) } in
     either (isPage (length b) p)
     (λ t. either (leafBit (attributeAt b p))
     (λ u. rw (t, u) (top-run full leaf (omega arith)))

@@ -9,11 +9,11 @@ use lib.ListN.{length}
 use lib.Dec.{leb, ltb}
 use borrow.Author.Tests.{le-leb, lt-leb, lt-ltb, le-ltb}
 use Rattle.basis.specs.Tests.{either, impossible}
-use Rattle.tree.specs.Pairs.{byKey, insertPair}
-use Rattle.page.specs.Header.{maxLevels, noPage, isPage, rootOffset, keyLength}
+use Rattle.tree.specs.Pairs.{insertPair}
+use Rattle.page.specs.Header.{maxLevels, noPage, isPage, rootOffset, keyLength, features}
 use Rattle.page.specs.Page.{attributeAt, leafBit, capacity}
-use Rattle.page.specs.KeyOrder.{bytesOrder}
 use Rattle.page.specs.Reading.{Item}
+use Rattle.page.specs.EntryOrder.{itemOrder}
 use Rattle.page.specs.declared.PageOffset.{PageOffset}
 use Rattle.layout.specs.declared.Supply.{Supply}
 use Rattle.layout.specs.declared.Taken.{Taken}
@@ -64,7 +64,8 @@ module _ (b : List ℕ) (item : Item) (p : ℕ) (s : Supply) where
   under-bad (suc left) some e = rw (visited-bad b item p e)
 
   pub under-leaf : (levels : ℕ) → (levels ≡ 0 → ⊥) → visit.Leaf ≡ visitOf b item p
-      → insertUnder (length (item .0)) levels b item p s ≡ takeIn (length (item .0)) b p (insertPair (byKey bytesOrder) item (itemsIn (length (item .0)) b p)) s
+      → insertUnder (length (item .0)) levels b item p s
+      ≡ takeIn (length (item .0)) b p (insertPair (itemOrder (features b)) item (itemsIn (length (item .0)) b p)) s
   unfolding insertUnder
   under-leaf zero some e = absurd (some refl)
   under-leaf (suc left) some e = let v = visited-leaf b item p e in rw (v .0, v .1)
@@ -104,12 +105,12 @@ unfolding insertUnder
 split-lasts k zero b item p s q t m h e = bad-split e
 split-lasts k (suc left) b item p s q t m h e =
     let es = itemsIn k b p in
-    let i = chosenAt item es in
+    let i = chosenAt b item es in
     let c = childOf i es in
     let below = insertUnder k left b item c s in
     either (isPage (length b) p)
     (λ u. either (leafBit (attributeAt b p))
-    (λ v. take-in-lasts k b p (insertPair (byKey bytesOrder) item es) s q t m (omega (arith, h)) (rw (u, v) at e))
+    (λ v. take-in-lasts k b p (insertPair (itemOrder (features b)) item es) s q t m (omega (arith, h)) (rw (u, v) at e))
     (λ v. after-lasts k (below .after) (item .0) p i c (below .outcome) q t m (λ x y f. split-lasts k left b item c s x y (m + 1) (omega (arith, h)) f)
     (rw (u, v) at e)))
     (λ u. bad-split (rw u at e))

@@ -5,15 +5,15 @@ use page::Page;
 use page::PageOffset;
 use page::RecordNumber;
 ghost use mathlib.Core.Path.{_≡_};
-ghost use mathlib.Core.Bool.{Bool, true};
+ghost use mathlib.Core.Bool.{Bool, true, _&&_};
 ghost use Prim.Native.Nat.{ℕ, _≤_};
 ghost use lib.ListN.{length};
 ghost use lib.Dec.{leb};
-ghost use Rattle.tree.specs.Pairs.{byKey, insertPair};
-ghost use Rattle.page.specs.Header.{minBytes, maxLevels, maxKey, pageSize, isPage, keyLength, headerGood};
+ghost use Rattle.tree.specs.Pairs.{insertPair};
+ghost use Rattle.page.specs.Header.{minBytes, maxLevels, maxKey, maxFeatures, pageSize, isPage, keyLength, features, headerGood};
 ghost use Rattle.page.specs.Page.{capacity};
-ghost use Rattle.page.specs.KeyOrder.{bytesOrder};
 ghost use Rattle.page.specs.Reading.{items};
+ghost use Rattle.page.specs.EntryOrder.{itemOrder};
 ghost use Rattle.layout.specs.Layout.{itemsIn};
 ghost use Rattle.layout.specs.Entries.{stored};
 ghost use Rattle.layout.specs.Given.{Over, Lasts, roomSize};
@@ -21,7 +21,7 @@ ghost use Rattle.insert.specs.Insertion.{split, step, takeIn, afterChild
 ghost use Rattle.insert.specs.Answers.{outcomeOf, NextFits};
 ghost use Rattle.insert.specs.Room.{onTop, pathFrom, pathTo, rootSplit, noRoom};
 ghost use Rattle.insert.specs.Calls.{afterCall, hasControl, insertRule};
-ghost use Rattle.insert.specs.Fresh.{printable, maxExpression, expressionGood, freshBuffer, freshRule};
+ghost use Rattle.insert.specs.Fresh.{printable, maxExpression, expressionGood, featuresGood, freshBuffer, freshRule};
 
 // The longest key expression.
 const MAX_EXPRESSION: usize = 220;
@@ -85,7 +85,8 @@ fn insert_in_leaf(
 ) -> Outcome
     requires { ⌜ (length (now key) ≤ maxKey) × (isPage (length (now index)) (page .0) ≡ true) × Lasts 1 supply × (roomSize ≤ length (now room)) ⌝ }
     ensures { λ r. ⌜ takeIn (length (now (key .entry))) (now (index .entry)) (page .0)
-        (insertPair (byKey bytesOrder) (stored (now (key .entry)) (number .0)) (itemsIn (length (now (key .entry))) (now (index .entry)) (page .0)))
+        (insertPair (itemOrder (features (now (index .entry)))) (stored (now (key .entry)) (number .0))
+        (itemsIn (length (now (key .entry))) (now (index .entry)) (page .0)))
         supply ≡ step (now (index .exit)) (outcomeOf r) ⌝ }
 {
     let count = layout::entry_count(index, key.len(), page);
@@ -393,13 +394,20 @@ fn expression_good(expression: &[u8]) -> bool
     (1 <= expression.len()) & all_printable(expression)
 }
 
+// Whether a key expression and the features of a fresh index are good.
+fn header_told_good(features: u32, expression: &[u8]) -> bool
+    ensures { λ r. ⌜ r ≡ (expressionGood (now (expression .entry)) && featuresGood features) ⌝ }
+{
+    expression_good(expression) & (features <= page::MAX_FEATURES)
+}
+
 // Writes the header and the root of a fresh index.
-fn write_fresh(index: &mut [u8], k: u32, expression: &[u8])
-    requires { ⌜ (minBytes ≤ length (now index)) × (k ≤ maxKey) × (length (now expression) ≤ maxExpression) ⌝ }
-    ensures { λ _. ⌜ now (index .exit) ≡ freshBuffer k (now (expression .entry)) (now (index .entry)) ⌝ }
+fn write_fresh(index: &mut [u8], k: u32, features: u32, expression: &[u8])
+    requires { ⌜ (minBytes ≤ length (now index)) × (k ≤ maxKey) × (features ≤ maxFeatures) × (length (now expression) ≤ maxExpression) ⌝ }
+    ensures { λ _. ⌜ now (index .exit) ≡ freshBuffer k features (now (expression .entry)) (now (index .entry)) ⌝ }
 {
     let root = PageOffset(Page::SIZE as u32);
-    layout::new_header(index, root, page::next_page(root), k, expression);
+    layout::new_header(index, root, page::next_page(root), k, features, expression);
     let none = PageOffset(page::NO_PAGE);
     let head = Page {
         attribute: 3,
@@ -410,21 +418,21 @@ fn write_fresh(index: &mut [u8], k: u32, expression: &[u8])
     layout::new_page(index, k as usize, root, head, &expression[..0]);
 }
 
-// Writes a fresh index with keys of `k` bytes.
-pub fn fresh(index: &mut [u8], k: u32, expression: &[u8]) -> Insertion
-    ensures { λ r. ⌜ freshRule (now (index .entry)) k (now (expression .entry)) ≡ afterCall (now (index .exit)) r ⌝ }
+// Writes a fresh index with keys of `k` bytes: with features 1 a key has one record, with features 0 it may have several.
+pub fn fresh(index: &mut [u8], k: u32, features: u32, expression: &[u8]) -> Insertion
+    ensures { λ r. ⌜ freshRule (now (index .entry)) k features (now (expression .entry)) ≡ afterCall (now (index .exit)) r ⌝ }
 {
     let good_key = page::key_length_good(k as usize);
-    let good_expression = expression_good(expression);
+    let good_header = header_told_good(features, expression);
     if !good_key {
         return Insertion::Refused(refusal::KEY_LENGTH);
     }
-    if !good_expression {
+    if !good_header {
         return Insertion::Refused(refusal::INDEX_HEADER);
     }
     if index.len() < page::MIN_BYTES {
         return Insertion::Refused(refusal::NO_ROOM);
     }
-    write_fresh(index, k, expression);
+    write_fresh(index, k, features, expression);
     Insertion::Accepted
 }

@@ -29,8 +29,8 @@ use Rattle.page.specs.ReadingLaws.{window-window}
 use Rattle.layout.specs.WriteLaws.{capacity-least}
 use Rattle.sound.specs.Sound.{indexTree, linksOf, Sound}
 use Rattle.sound.specs.IndexLaws.{indexOf, settingOf, index-sound}
-use Rattle.insert.specs.CallLaws.{expression-most}
-use Rattle.insert.specs.Fresh.{maxExpression, expressionGood, freshHeader, freshBuffer}
+use Rattle.insert.specs.CallLaws.{expression-most, features-most}
+use Rattle.insert.specs.Fresh.{maxExpression, expressionGood, featuresGood, freshHeader, freshBuffer}
 use Rattle.layout_laws.specs.EntryLaws.{entriesIn, page-of, entries-new, length-new}
 use Rattle.layout_laws.specs.HeadLaws.{Head, SameHead, put-header, new-head, new-header}
 use Rattle.insert_laws.specs.InsertHeads.{Plain, one-of}
@@ -38,18 +38,19 @@ use Rattle.insert_laws.specs.SoundReading.{entries-longer}
 use Rattle.insert_laws.specs.FreePages.{none-good}
 
 -- what fresh is given if it is accepted
-pub record FreshGiven (k : ℕ) (e b : List ℕ) : Type 0 where
+pub record FreshGiven (k f : ℕ) (e b : List ℕ) : Type 0 where
   pub key : keyLengthGood k ≡ true
   pub expression : expressionGood e ≡ true
+  pub told : featuresGood f ≡ true
   pub room : minBytes ≤ length b
   pub plain : Plain b
 
-module _ (k : ℕ) (e b : List ℕ) (given : FreshGiven k e b) where
+module _ (k f : ℕ) (e b : List ℕ) (given : FreshGiven k f e b) where
   abbrev b0 : List ℕ
-  b0 = put b 0 (freshHeader k e)
+  b0 = put b 0 (freshHeader k f e)
 
   abbrev b″ : List ℕ
-  b″ = freshBuffer k e b
+  b″ = freshBuffer k f e b
 
   short : length e ≤ maxExpression
   short = expression-most e (given .expression)
@@ -58,12 +59,12 @@ module _ (k : ℕ) (e b : List ℕ) (given : FreshGiven k e b) where
   unfolding keyLengthGood
   key-fits = let t = both _ _ (given .key) in (leb-true _ _ (t .0), leb-true _ _ (t .1))
 
-  length-header : length (freshHeader k e) ≡ pageSize
+  length-header : length (freshHeader k f e) ≡ pageSize
   unfolding freshHeader
   length-header = simp (length-append, length-toLe32, length-toLe16, length-replicate) (omega (arith, short))
 
   l0 : length b0 ≡ length b
-  l0 = length-put b 0 (freshHeader k e)
+  l0 = length-put b 0 (freshHeader k f e)
 
   first : isPage (length b) pageSize ≡ true
   first = is-page-from (length b) pageSize (record { whole = refl; low = omega arith; high = omega (arith, given .room) })
@@ -76,32 +77,32 @@ module _ (k : ℕ) (e b : List ℕ) (given : FreshGiven k e b) where
   long = length-new b0 pageSize 3 noPage noPage [] ∙ l0
 
   -- the bytes of the header
-  header : window b″ 0 pageSize ≡ freshHeader k e
+  header : window b″ 0 pageSize ≡ freshHeader k f e
   unfolding freshBuffer
   header =
       new-header k b0 pageSize 3 noPage noPage [] (page-of pageSize l0 first) (omega arith) (omega arith) (omega arith) tt few
-      ∙ window-same b 0 (freshHeader k e) pageSize length-header (omega (arith, given .room))
+      ∙ window-same b 0 (freshHeader k f e) pageSize length-header (omega (arith, given .room))
 
-  part : (i n : ℕ) → i + n ≤ pageSize → window b″ (0 + i) n ≡ window (freshHeader k e) i n
+  part : (i n : ℕ) → i + n ≤ pageSize → window b″ (0 + i) n ≡ window (freshHeader k f e) i n
   part i n l = sym (window-window b″ 0 pageSize i n l) ∙ ap (λ (w : List ℕ). window w i n) header
 
   root-is : rootOffset b″ ≡ pageSize
   unfolding le32 freshHeader toLe32
-  root-is = le32-same b″ (freshHeader k e) 0 (part 0 4 (omega arith))
+  root-is = le32-same b″ (freshHeader k f e) 0 (part 0 4 (omega arith))
 
   size-is : fileSize b″ ≡ minBytes
   unfolding le32 freshHeader toLe32
-  size-is = le32-same b″ (freshHeader k e) 8 (part 8 4 (omega arith))
+  size-is = le32-same b″ (freshHeader k f e) 8 (part 8 4 (omega arith))
 
   free-is : freePointer b″ ≡ noPage
   unfolding le32 freshHeader toLe32
-  free-is = le32-same b″ (freshHeader k e) 4 (part 4 4 (omega arith))
+  free-is = le32-same b″ (freshHeader k f e) 4 (part 4 4 (omega arith))
 
   key-is : keyLength b″ ≡ k
   unfolding le16 freshHeader toLe32 toLe16
-  key-is = le16-same b″ (freshHeader k e) 12 (part 12 2 (omega arith)) ∙ omega (arith, key-fits .1)
+  key-is = le16-same b″ (freshHeader k f e) 12 (part 12 2 (omega arith)) ∙ omega (arith, key-fits .1)
 
-  features-are : features b″ ≡ 1
+  features-are : features b″ ≡ f
   unfolding freshHeader toLe32 toLe16
   features-are = sym (getD-window b″ 0 pageSize 14 0 (omega arith)) ∙ ap (λ (w : List ℕ). getD w 14 0) header
 
@@ -139,7 +140,7 @@ module _ (k : ℕ) (e b : List ℕ) (given : FreshGiven k e b) where
     key-low = rw key-is (key-fits .0);
     key-high = rw key-is (key-fits .1);
     free = rw free-is (none-good (fileSize b″));
-    plain = features-are;
+    plain = rw features-are (features-most f (given .told));
   })
 
   as-tree : (P : Tree (List ℕ) 0 → Type 0) → P (pageSize, []) → P (indexTree b″ 0)
@@ -152,9 +153,10 @@ module _ (k : ℕ) (e b : List ℕ) (given : FreshGiven k e b) where
   sound-is =
       let most : ℕ = min (length b) maxBytes in
       let ps : List ℕ = pages 0 (indexTree b″ 0) in
-      let sound : SoundIndex (settingOf (keyLength b″) most) (indexOf b″ 0 []) =
-      subst (SoundIndex (settingOf (keyLength b″) most)) (sym index-is)
-      (fresh-sound (settingOf (keyLength b″) most) (rw key-is (omega (arith, capacity-least k (key-fits .1)))) (omega (arith, given .room)) (omega arith)) in
+      let sound : SoundIndex (settingOf (features b″) (keyLength b″) most) (indexOf b″ 0 []) =
+      subst (SoundIndex (settingOf (features b″) (keyLength b″) most)) (sym index-is)
+      (fresh-sound (settingOf (features b″) (keyLength b″) most) (rw key-is (omega (arith, capacity-least k (key-fits .1)))) (omega (arith, given .room))
+      (omega arith)) in
       index-sound b″ 0 [] most header-good sound
       (as-tree (λ t. AllLinked noPage (linksOf b″) 0 t) (λ j l. let j0 : j ≡ 0 = omega arith in rw j0 (at-first .leftIs, at-first .rightIs, tt)))
       (as-tree (λ t. All (λ p. attributeAt b″ p ≤ 3) (pages 0 t)) (rw (at-first .attributeIs) (omega arith), tt))
@@ -168,27 +170,29 @@ module _ (k : ℕ) (e b : List ℕ) (given : FreshGiven k e b) where
   plain-is z t =
       let p : isPage (length b) z ≡ true = page-of z (sym long) t in
       let h = heads z p in
-      let g : SameHead b b0 z = put-header b 0 (freshHeader k e) (omega (arith, length-header)) z p in (
+      let g : SameHead b b0 z = put-header b 0 (freshHeader k f e) (omega (arith, length-header)) z p in (
         rw (h .attributeIs) (one-of (λ n. n < 2 ^ 16) (eqb z pageSize) 3 (attributeAt b0 z) (omega arith) (rw (g .attributeIs) (given .plain z p .0))),
         rw (h .rightIs) (one-of (λ n. n < 2 ^ 32) (eqb z pageSize) noPage (rightAt b0 z) (omega arith) (rw (g .rightIs) (given .plain z p .1))),
       )
 
 -- what fresh leaves: a sound index without pairs and without free pages
-pub record FreshIs (k : ℕ) (e b : List ℕ) : Type 0 where
-  pub sound : Sound (freshBuffer k e b)
-  pub index : indexOf (freshBuffer k e b) (sound .height) (sound .free) ≡ fresh
-  pub keyIs : keyLength (freshBuffer k e b) ≡ k
-  pub as-long : length (freshBuffer k e b) ≡ length b
-  pub plain : Plain (freshBuffer k e b)
+pub record FreshIs (k f : ℕ) (e b : List ℕ) : Type 0 where
+  pub sound : Sound (freshBuffer k f e b)
+  pub index : indexOf (freshBuffer k f e b) (sound .height) (sound .free) ≡ fresh
+  pub keyIs : keyLength (freshBuffer k f e b) ≡ k
+  pub featuresAre : features (freshBuffer k f e b) ≡ f
+  pub as-long : length (freshBuffer k f e b) ≡ length b
+  pub plain : Plain (freshBuffer k f e b)
 
 -- Theorem: a fresh index is sound and empty
-pub fresh-is-sound : (k : ℕ) (e b : List ℕ) → FreshGiven k e b → FreshIs k e b
-fresh-is-sound k e b given =
-    let s = sound-is k e b given in
+pub fresh-is-sound : (k f : ℕ) (e b : List ℕ) → FreshGiven k f e b → FreshIs k f e b
+fresh-is-sound k f e b given =
+    let s = sound-is k f e b given in
     record {
       sound = s .0;
-      index = ap₂ (indexOf (freshBuffer k e b)) (s .1) (s .2) ∙ index-is k e b given;
-      keyIs = key-is k e b given;
-      as-long = long k e b given;
-      plain = plain-is k e b given;
+      index = ap₂ (indexOf (freshBuffer k f e b)) (s .1) (s .2) ∙ index-is k f e b given;
+      keyIs = key-is k f e b given;
+      featuresAre = features-are k f e b given;
+      as-long = long k f e b given;
+      plain = plain-is k f e b given;
     }

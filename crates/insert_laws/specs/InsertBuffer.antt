@@ -23,10 +23,12 @@ use Rattle.tree.specs.Relinking.{pathPage, relink, clearLinks, relinked}
 use Rattle.tree.specs.Room.{run, needs, levelsAfter}
 use Rattle.tree.specs.Store.{Store, readTree}
 use Rattle.tree.specs.StoreInsertLaws.{insert-read}
+use Rattle.tree.specs.StoreRouteLaws.{route-read}
 use Rattle.tree.specs.StoreSteps.{StoreReplacement, StoreGrown, storeReroot, storeInsert, readGrown}
 use Rattle.tree.specs.Tree.{Tree, pages}
-use Rattle.page.specs.Header.{maxLevels, noPage, pageSize, isPage, rootOffset}
+use Rattle.page.specs.Header.{maxLevels, noPage, pageSize, features, isPage, rootOffset}
 use Rattle.page.specs.HeaderLaws.{is-page}
+use Rattle.page.specs.KeyOrder.{bytesOrder}
 use Rattle.page.specs.Page.{attributeAt, countAt, leftAt, rightAt, capacity}
 use Rattle.page.specs.Reading.{Item}
 use Rattle.page.specs.ReadingLaws.{window-in-page}
@@ -38,15 +40,15 @@ use Rattle.layout.specs.ItemLaws.{Fit}
 use Rattle.layout.specs.Entries.{stored}
 use Rattle.layout.specs.EntryLaws.{items-in-fit}
 use Rattle.layout.specs.GatherLaws.{length-last}
-use Rattle.sound.specs.Sound.{linksOf}
+use Rattle.sound.specs.Sound.{linksOf, keptBy}
 use Rattle.insert.specs.Insertion.{Outcome, kept, split, bad, Step, insertUnder, atRoot, insertedBuffer}
 use Rattle.layout_laws.specs.EntryLaws.{entriesIn, page-of, length-new}
 use Rattle.layout_laws.specs.HeadLaws.{Head, SameHead, SameHeader, put-header, new-head, new-header}
 use Rattle.layout_laws.specs.OtherPages.{SameButLeft, both-kept, header-other, new-other}
 use Rattle.layout_laws.specs.SupplyLaws.{Storable, SameRest, supply-stored}
 use Rattle.insert_laws.specs.Naming.{Naming, Usable, Untaken, nextOf}
-use Rattle.insert_laws.specs.ItemLists.{keeping, passes}
-use Rattle.insert_laws.specs.InsertEntries.{OutcomeIs, StepIs, Shaped, shaped-page, Offered, replacement, Free, own-page, inserts, topKey, RootIs}
+use Rattle.insert_laws.specs.ItemLists.{passes, Shaped, shaped-page}
+use Rattle.insert_laws.specs.InsertEntries.{OutcomeIs, StepIs, Offered, replacement, Free, own-page, inserts, topKey, RootIs}
 use Rattle.insert_laws.specs.InsertEntries.{rootAfter, root-inserts}
 use Rattle.insert_laws.specs.InsertHeads.{Plain, unrooted, one-of, HeadsAfter, insert-heads}
 
@@ -56,7 +58,7 @@ treeIn k b h = readTree (entriesIn k b) h (rootOffset b)
 
 -- the theory's insertion into that tree, with new pages from N
 abbrev pub grownBy : ℕ → Naming → ℕ → List ℕ → List ℕ → ℕ → Grown (List ℕ)
-grownBy k N h b key r = insert keeping (capacity k) (N .name) (key, r) h (treeIn k b h)
+grownBy k N h b key r = insert (keptBy b) (capacity k) (N .name) (key, r) h (treeIn k b h)
 
 -- what a sound index of h + 1 levels gives for an insertion that has room
 pub record Ready (k : ℕ) (N : Naming) (h : ℕ) (b key : List ℕ) (r : ℕ) : Type 0 where
@@ -158,7 +160,7 @@ module _ (k : ℕ) (N : Naming) (h : ℕ) (b key : List ℕ) (r : ℕ) (ready : 
   W = replacement k N key r b h a (rootOffset b)
 
   abbrev g : StoreGrown (List ℕ)
-  g = storeInsert keeping (passes (key, r)) (capacity k) (N .name) (key, r) h (rootOffset b) (entriesIn k b)
+  g = storeInsert (keptBy b) (passes k b (key, r)) (capacity k) (N .name) (key, r) h (rootOffset b) (entriesIn k b)
 
   abbrev s : Step
   s = insertUnder k maxLevels b (stored key r) (rootOffset b) (supplyOf b)
@@ -166,7 +168,8 @@ module _ (k : ℕ) (N : Naming) (h : ℕ) (b key : List ℕ) (r : ℕ) (ready : 
   -- the theory's insertion into the pages is its insertion into the tree
   seen : readGrown g ≡ grownBy k N h b key r
   seen =
-      insert-read keeping (passes (key, r)) (capacity k) (N .name) (ready .offered .supplied .distinct) (key, r) (entriesIn k b) (λ j x z. refl) h
+      insert-read (keptBy b) (passes k b (key, r)) (capacity k) (N .name) (ready .offered .supplied .distinct) (key, r) (entriesIn k b)
+      (route-read bytesOrder (key, r) (entriesIn k b) (features b)) h
       (rootOffset b) (ready .once) (ready .unused)
 
   room-store : (j : ℕ) → j < g .2 → Usable b (N .name j)
@@ -183,7 +186,7 @@ module _ (k : ℕ) (N : Naming) (h : ℕ) (b key : List ℕ) (r : ℕ) (ready : 
 
   -- the page of level j on the path to the key
   abbrev pub path : ℕ → ℕ
-  path j = pathPage (keeping .route (key, r)) j h (treeIn k b h)
+  path j = pathPage (keptBy b .route (key, r)) j h (treeIn k b h)
 
   heads : HeadsAfter k N path h b (W .1) (s .outcome) (s .after)
   heads = insert-heads k N key r b (ready .offered) path (ready .plain) h maxLevels (rootOffset b) a (ready .levels) (ready .shaped) free (λ j i. refl)
@@ -264,11 +267,11 @@ module _ (k : ℕ) (N : Naming) (h : ℕ) (b key : List ℕ) (r : ℕ) (ready : 
 
   -- the run of full pages, as the theory has it
   abbrev pub fullRun : ℕ
-  fullRun = run (keeping .route (key, r)) (capacity k) h (treeIn k b h)
+  fullRun = run (keptBy b .route (key, r)) (capacity k) h (treeIn k b h)
 
-  needed : (grownBy k N h b key r .2 ≡ needs (keeping .route (key, r)) (capacity k) h (treeIn k b h))
-      × (suc (grownBy k N h b key r .0) ≡ levelsAfter (keeping .route (key, r)) (capacity k) h (treeIn k b h))
-  needed = insert-needs keeping (capacity k) (N .name) (key, r) h (treeIn k b h) (omega (arith, ready .offered .two)) (ready .sized)
+  needed : (grownBy k N h b key r .2 ≡ needs (keptBy b .route (key, r)) (capacity k) h (treeIn k b h))
+      × (suc (grownBy k N h b key r .0) ≡ levelsAfter (keptBy b .route (key, r)) (capacity k) h (treeIn k b h))
+  needed = insert-needs (keptBy b) (capacity k) (N .name) (key, r) h (treeIn k b h) (omega (arith, ready .offered .two)) (ready .sized)
 
   -- the theory's numbers at each outcome: the pages that were split, the height and the root
   record Numbers (m height top : ℕ) : Type 0 where
@@ -300,15 +303,15 @@ module _ (k : ℕ) (N : Naming) (h : ℕ) (b key : List ℕ) (r : ℕ) (ready : 
 
   -- the theory's links after the insertion
   abbrev pub linksAfter : Links
-  linksAfter = relinked (keeping .route (key, r)) noPage (N .name) (capacity k) h (treeIn k b h) (grownBy k N h b key r) (linksOf b)
+  linksAfter = relinked (keptBy b .route (key, r)) noPage (N .name) (capacity k) h (treeIn k b h) (grownBy k N h b key r) (linksOf b)
 
   relinked-kept : (x : Grown (List ℕ)) → x .0 ≡ h
-      → relinked (keeping .route (key, r)) noPage (N .name) (capacity k) h (treeIn k b h) x (linksOf b)
+      → relinked (keptBy b .route (key, r)) noPage (N .name) (capacity k) h (treeIn k b h) x (linksOf b)
       ≡ relink path (N .name) fullRun (linksOf b)
   relinked-kept x e = rw (eq-eqb (x .0) h e)
 
   relinked-split : (x : Grown (List ℕ)) (p : ℕ) → x .0 ≡ suc h → x .1 .0 ≡ p
-      → relinked (keeping .route (key, r)) noPage (N .name) (capacity k) h (treeIn k b h) x (linksOf b)
+      → relinked (keptBy b .route (key, r)) noPage (N .name) (capacity k) h (treeIn k b h) x (linksOf b)
       ≡ clearLinks noPage p (relink path (N .name) fullRun (linksOf b))
   relinked-split x p e f = rw (ne-eqb (x .0) h (λ q. omega arith))
       (ap (λ (y : ℕ). clearLinks noPage y (relink path (N .name) fullRun (linksOf b))) f)
@@ -338,7 +341,7 @@ module _ (k : ℕ) (N : Naming) (h : ℕ) (b key : List ℕ) (r : ℕ) (ready : 
       (λ q. omega (
         arith,
         eqb-false fullRun (suc h) q,
-        root-splits keeping (capacity k) (N .name) (key, r) h key (treeIn k b h) (omega (arith, ready .offered .two)) (ready .sized) .most,
+        root-splits (keptBy b) (capacity k) (N .name) (key, r) h key (treeIn k b h) (omega (arith, ready .offered .two)) (ready .sized) .most,
       ))
 
   -- Theorem: the heads of the pages are the theory's

@@ -19,18 +19,22 @@ use Rattle.tree.specs.ListLaws.{nonEmpty-length, occ-here, take-map, drop-map, 
 use Rattle.tree.specs.Lists.{NonEmpty, concatMap, occ, countIf, half}
 use Rattle.tree.specs.Order.{larger}
 use Rattle.tree.specs.PairLaws.{lastKey-default, lastKey-append}
-use Rattle.tree.specs.Pairs.{lastKey, byKey, insertPair}
-use Rattle.tree.specs.Position.{passesLower, replaceAt}
-use Rattle.tree.specs.RouteLaws.{choose-all, replaceAt-map}
+use Rattle.tree.specs.Pairs.{lastKey, insertPair}
+use Rattle.tree.specs.Position.{choose, replaceAt}
+use Rattle.tree.specs.RouteLaws.{replaceAt-map}
 use Rattle.tree.specs.Store.{Store, readEntry, readTree}
 use Rattle.tree.specs.StoreInsertLaws.{storeInsertUnder-refines, choose-occ}
 use Rattle.tree.specs.StoreLaws.{write-here, write-other}
+use Rattle.tree.specs.StoreRouteLaws.{route-read}
 use Rattle.tree.specs.StoreSteps.{write, StoreReplacement, storeSplitIfOver, storePlace, storeInsertAmong, storeInsertUnder, StoreGrown, storeInsert}
 use Rattle.tree.specs.Tree.{pagesUnder, pages}
-use Rattle.page.specs.Header.{noPage, pageSize, isPage}
+use Rattle.page.specs.Header.{noPage, pageSize, features, isPage}
 use Rattle.page.specs.KeyOrder.{bytesOrder}
-use Rattle.page.specs.Page.{attributeAt, leafBit, capacity}
+use Rattle.page.specs.Page.{capacity}
 use Rattle.page.specs.Reading.{Item, numbered}
+use Rattle.page.specs.EntryOrder.{itemOrder}
+use Rattle.page.specs.ItemLaws.{insertPair-numbered}
+use Rattle.sound.specs.Sound.{keptBy}
 use Rattle.layout.specs.declared.Supply.{Supply}
 use Rattle.layout.specs.declared.Taken.{Taken}
 use Rattle.layout.specs.Supply.{supplyOf, takePage}
@@ -47,8 +51,8 @@ use Rattle.layout_laws.specs.OtherPages.{unchanged, both-kept, with-other, rais
 use Rattle.layout_laws.specs.SupplyLaws.{Storable, supply-stored}
 use Rattle.insert_laws.specs.TakenPages.{taken}
 use Rattle.insert_laws.specs.Naming.{Naming, Usable, Untaken, nextOf, Supplied}
-use Rattle.insert_laws.specs.ItemLists.{keeping, passes, insertPair-numbered, lastKey-numbered, position-numbered, chosen-within, chosen-numbered}
-use Rattle.insert_laws.specs.ItemLists.{insertPair-place}
+use Rattle.insert_laws.specs.ItemLists.{passes, lastKey-numbered, Shaped, shaped-page, position-numbered, chosen-within, chosen-numbered}
+use Rattle.insert_laws.specs.ItemLists.{child-shaped, insertPair-place}
 
 -- what an outcome says of the theory's replacement for the page at p, with the key a above it
 abbrev pub OutcomeIs : Naming → List ℕ → ℕ → Outcome → StoreReplacement (List ℕ) → Type 0
@@ -68,11 +72,11 @@ pub items-longer : (k : ℕ) (b : List ℕ) (p : ℕ) (es : List Item) {i : ℕ}
 items-longer k b p es e h = omega (arith, sym (length-map (itemsIn k b p) numbered) ∙ ap length e ∙ length-map es numbered)
 
 -- a leaf, in the theory's words
-pub among-leaf : (e : List ℕ × ℕ) (S : Store (List ℕ)) (cap : ℕ) (name : ℕ → ℕ) (es : List (List ℕ × ℕ))
-    → storeInsertAmong keeping (passes e) e zero (λ c. storeInsertUnder keeping (passes e) cap name e zero c 0 S) es 0 S
-    ≡ (insertPair (byKey bytesOrder) e es, 0, S)
-among-leaf e S cap name [] = refl
-among-leaf e S cap name (x ∷ xs) = ap (λ (l : List (List ℕ × ℕ)). (l, 0, S)) (insertPair-place e x x xs)
+pub among-leaf : (k : ℕ) (b : List ℕ) (e : List ℕ × ℕ) (S : Store (List ℕ)) (cap : ℕ) (name : ℕ → ℕ) (es : List (List ℕ × ℕ))
+    → storeInsertAmong (keptBy b) (passes k b e) e zero (λ c. storeInsertUnder (keptBy b) (passes k b e) cap name e zero c 0 S) es 0 S
+    ≡ (insertPair (keptBy b .pairLe) e es, 0, S)
+among-leaf k b e S cap name [] = refl
+among-leaf k b e S cap name (x ∷ xs) = ap (λ (l : List (List ℕ × ℕ)). (l, 0, S)) (insertPair-place k b e x x xs)
 
 -- the last key of a page that has entries
 lastKey-store : (k : ℕ) (key b : List ℕ) (c : ℕ) (a : List ℕ) → NonEmpty (entriesIn k b c) → lastKey key (itemsIn k b c) ≡ lastKey a (entriesIn k b c)
@@ -184,22 +188,6 @@ module _ (k : ℕ) (two : 1 < capacity k) (N : Naming) (b : List ℕ) (given : S
         → AfterChild b′ p a i v o es
     after-child-is b′ p a i es v o lb tp sv sp ne un = subst (AfterChild b′ p a i v o) sp (after-child-items b′ p a i v o lb tp sv ne un)
 
--- the page at p, with h levels under it, and every page under it is a page of the buffer, has the leaf bit at the bottom only, and has entries above it
-abbrev pub Shaped : ℕ → (h : ℕ) → List ℕ → ℕ → Type 0
-Shaped k zero b p = Usable b p × (leafBit (attributeAt b p) ≡ true)
-Shaped k (suc h) b p = Usable b p × (leafBit (attributeAt b p) ≡ false) × NonEmpty (entriesIn k b p) × All (λ e. Shaped k h b (e .1)) (entriesIn k b p)
-
-pub shaped-page : (k h : ℕ) (b : List ℕ) (p : ℕ) → Shaped k h b p → Usable b p
-shaped-page k zero b p s = s .0
-shaped-page k (suc h) b p s = s .0
-
-pub child-shaped : (k h : ℕ) (key c b : List ℕ) (p : ℕ) (y : Item) (ys : List Item) → itemsIn k b p ≡ y ∷ ys → All (λ e. Shaped k h b (e .1)) (entriesIn k b p)
-    → Shaped k h b (childOf (chosenAt (key, c) (y ∷ ys)) (y ∷ ys))
-child-shaped k h key c b p y ys e f =
-    subst (λ (z : List ℕ × ℕ). Shaped k h b (z .1)) (chosen-numbered key c 0 y ys)
-    (choose-all (passesLower {D = ℕ} bytesOrder (key, 0)) (λ z. Shaped k h b (z .1)) (numbered y) (numbered y) (map numbered ys)
-    (subst (λ (l : List Item). All (λ z. Shaped k h b (z .1)) (map numbered l)) e f))
-
 -- a page that is split takes one new page
 split-more : (cap : ℕ) (name : ℕ → ℕ) (a : List ℕ) (p : ℕ) (w : StoreReplacement (List ℕ)) → w .1 ≤ storeSplitIfOver cap name a p w .1
 split-more cap name a p w = either (leb (length (w .0)) cap) (λ e. rw e (omega arith)) (λ e. rw e (omega arith))
@@ -214,11 +202,11 @@ pub record Offered (k : ℕ) (N : Naming) (key : List ℕ) (r : ℕ) (b : List �
 module _ (k : ℕ) (N : Naming) (key : List ℕ) (r : ℕ) (b : List ℕ) where
   -- the theory's insertion under an entry, and its replacement for the page at p, which has h levels under it and the key a above it
   abbrev pub under : (h : ℕ) → List ℕ × ℕ → StoreReplacement (List ℕ)
-  under h e = storeInsertUnder keeping (passes (key, r)) (capacity k) (N .name) (key, r) h e 0 (entriesIn k b)
+  under h e = storeInsertUnder (keptBy b) (passes k b (key, r)) (capacity k) (N .name) (key, r) h e 0 (entriesIn k b)
 
   abbrev pub replacement : (h : ℕ) → List ℕ → ℕ → StoreReplacement (List ℕ)
   replacement h a p =
-      storeSplitIfOver (capacity k) (N .name) a p (storeInsertAmong keeping (passes (key, r)) (key, r) h (under h) (entriesIn k b p) 0 (entriesIn k b))
+      storeSplitIfOver (capacity k) (N .name) a p (storeInsertAmong (keptBy b) (passes k b (key, r)) (key, r) h (under h) (entriesIn k b p) 0 (entriesIn k b))
 
   -- insertion's step at that page, with `left` levels left, is the theory's
   abbrev pub Inserts : ℕ → ℕ → List ℕ → ℕ → Type 0
@@ -233,7 +221,7 @@ module _ (k : ℕ) (N : Naming) (key : List ℕ) (r : ℕ) (b : List ℕ) where
   -- insertion's step at a page above with the entries es
   abbrev pub UpperIs : ℕ → (h : ℕ) → List ℕ → ℕ → List Item → Type 0
   UpperIs left h a p es =
-      let i : ℕ = chosenAt (stored key r) es in
+      let i : ℕ = chosenAt b (stored key r) es in
       let d : Step = insertUnder k left b (stored key r) (childOf i es) (supplyOf b) in
       StepIs k N b a p (afterChild k (d .after) key p i (childOf i es) (d .outcome)) (replacement (suc h) a p)
 
@@ -244,53 +232,68 @@ module _ (k : ℕ) (N : Naming) (key : List ℕ) (r : ℕ) (b : List ℕ) where
   module _ (o : Offered k N key r b) where
     leaf-is : (p : ℕ) (a : List ℕ) → isPage (length b) p ≡ true → ((j : ℕ) → p ≡ N .name j → ⊥)
         → ((j : ℕ) → j < replacement zero a p .1 → Usable b (N .name j))
-        → StepIs k N b a p (takeIn k b p (insertPair (byKey bytesOrder) (stored key r) (itemsIn k b p)) (supplyOf b)) (replacement zero a p)
+        → StepIs k N b a p (takeIn k b p (insertPair (itemOrder (features b)) (stored key r) (itemsIn k b p)) (supplyOf b)) (replacement zero a p)
     leaf-is p a tp ne room =
-        let es : List Item = insertPair (byKey bytesOrder) (stored key r) (itemsIn k b p) in
-        let en : map numbered es ≡ insertPair (byKey bytesOrder) (key, r) (entriesIn k b p) =
-        insertPair-numbered (stored key r) (itemsIn k b p) ∙ rw (be32-toBe32 r (o .r32)) in
+        let es : List Item = insertPair (itemOrder (features b)) (stored key r) (itemsIn k b p) in
+        let en : map numbered es ≡ insertPair (keptBy b .pairLe) (key, r) (entriesIn k b p) =
+        insertPair-numbered (features b) (stored key r) (itemsIn k b p) ∙ rw (be32-toBe32 r (o .r32)) in
         let ew : _≡_ {A = StoreReplacement (List ℕ)} (map numbered es, 0, entriesIn k b)
-        (storeInsertAmong keeping (passes (key, r)) (key, r) zero (under zero) (entriesIn k b p) 0 (entriesIn k b)) =
-        ap (λ (l : List (List ℕ × ℕ)). (l, 0, entriesIn k b)) en ∙ sym (among-leaf (key, r) (entriesIn k b) (capacity k) (N .name) (entriesIn k b p)) in
+        (storeInsertAmong (keptBy b) (passes k b (key, r)) (key, r) zero (under zero) (entriesIn k b p) 0 (entriesIn k b)) =
+        ap (λ (l : List (List ℕ × ℕ)). (l, 0, entriesIn k b)) en ∙ sym (among-leaf k b (key, r) (entriesIn k b) (capacity k) (N .name) (entriesIn k b p)) in
         subst (λ (w : StoreReplacement (List ℕ)). StepIs k N b a p (takeIn k b p es (supplyOf b)) (storeSplitIfOver (capacity k) (N .name) a p w)) ew
         (take-in-is k (o .two) N b (o .supplied) b p a es 0 (supplyOf b) refl tp
-        (pair-fit k b key (o .long) r p)
-        (omega (arith, items-few k b p, length-insert (stored key r) (itemsIn k b p))) (o .supplied .starts) ne (λ j l t. unchanged b (N .name j))
+        (pair-fit k b key (o .long) (itemOrder (features b)) r p)
+        (omega (arith, items-few k b p, length-insert (itemOrder (features b)) (stored key r) (itemsIn k b p)))
+        (o .supplied .starts) ne (λ j l t. unchanged b (N .name j))
         (λ j h. room j (subst (λ (w : StoreReplacement (List ℕ)). j < storeSplitIfOver (capacity k) (N .name) a p w .1) ew h)))
 
     -- the entry gone through, of a page with the entries y ∷ ys, and its child
-    module _ (h p : ℕ) (a : List ℕ) (y : Item) (ys : List Item) (ee : itemsIn k b p ≡ y ∷ ys) (u : Free (suc h) a p) where
+    module _ (h p : ℕ) (a : List ℕ) (y : Item) (ys : List Item) (ee : itemsIn k b p ≡ y ∷ ys) (u : Free (suc h) a p) (shaped : Shaped k (suc h) b p) where
       abbrev pub number : ℕ
-      number = chosenAt (stored key r) (y ∷ ys)
+      number = chosenAt b (stored key r) (y ∷ ys)
 
       abbrev pub child : Item
-      child = itemOf (chosenAt (stored key r) (y ∷ ys)) (y ∷ ys)
+      child = itemOf (chosenAt b (stored key r) (y ∷ ys)) (y ∷ ys)
 
       abbrev pub childPage : ℕ
-      childPage = childOf (chosenAt (stored key r) (y ∷ ys)) (y ∷ ys)
+      childPage = childOf (chosenAt b (stored key r) (y ∷ ys)) (y ∷ ys)
 
       es : entriesIn k b p ≡ map numbered (y ∷ ys)
       es = ap (map numbered) ee
+
+      shapes : All (λ e. Shaped k h b (e .1)) (map numbered (y ∷ ys))
+      shapes = subst (λ (l : List Item). All (λ e. Shaped k h b (e .1)) (map numbered l)) ee (shaped .3)
+
+      -- the entry gone through is the theory's, and its child has a shape
+      pub child-numbered : choose (passes k b (key, r) (suc h)) (numbered y) (map numbered (y ∷ ys)) ≡ numbered child
+      child-numbered = chosen-numbered k b key (toBe32 r) r (o .long) (be32-toBe32 r (o .r32)) h y ys (shaped .4) shapes
+
+      pub child-page-shaped : Shaped k h b childPage
+      child-page-shaped = child-shaped k b key (toBe32 r) r (o .long) (be32-toBe32 r (o .r32)) h y ys (shaped .4) shapes
+
+      pub child-within : number < length (y ∷ ys)
+      child-within = chosen-within k b key (toBe32 r) r (o .long) (be32-toBe32 r (o .r32)) y ys
 
       abbrev below : List ℕ
       below = concatMap (pagesUnder (suc h)) (map (readEntry (entriesIn k b) (suc h)) (entriesIn k b p))
 
       pub child-among : gathered k (o .two) N b (o .supplied) key (o .long) number (under (suc h) (numbered child)) (map numbered (y ∷ ys))
-          ≡ storeInsertAmong keeping (passes (key, r)) (key, r) (suc h) (under (suc h)) (entriesIn k b p) 0 (entriesIn k b)
+          ≡ storeInsertAmong (keptBy b) (passes k b (key, r)) (key, r) (suc h) (under (suc h)) (entriesIn k b p) 0 (entriesIn k b)
       child-among =
           ap (λ (i : ℕ). gathered k (o .two) N b (o .supplied) key (o .long) i (under (suc h) (numbered child)) (map numbered (y ∷ ys)))
-          (sym (position-numbered key (toBe32 r) r (y ∷ ys)))
-          ∙ ap (λ (e : List ℕ × ℕ). storePlace (passes (key, r) (suc h)) (map numbered (y ∷ ys)) (under (suc h) e))
-          (sym (chosen-numbered key (toBe32 r) r y ys))
-          ∙ ap (λ (l : List (List ℕ × ℕ)). storeInsertAmong keeping (passes (key, r)) (key, r) (suc h) (under (suc h)) l 0 (entriesIn k b)) (sym es)
+          (sym (position-numbered k b key (toBe32 r) r (o .long) (be32-toBe32 r (o .r32)) h (y ∷ ys) (shaped .4) shapes))
+          ∙ ap (λ (e : List ℕ × ℕ). storePlace (passes k b (key, r) (suc h)) (map numbered (y ∷ ys)) (under (suc h) e))
+          (sym child-numbered)
+          ∙ ap (λ (l : List (List ℕ × ℕ)). storeInsertAmong (keptBy b) (passes k b (key, r)) (key, r) (suc h) (under (suc h)) l 0 (entriesIn k b)) (sym es)
 
       child-occ : (z : ℕ) → occ z (pagesUnder (suc h) (readEntry (entriesIn k b) (suc h) (numbered child))) ≤ occ z below
       child-occ z =
           subst (λ (l : List (List ℕ × ℕ)). occ z (pagesUnder (suc h) (readEntry (entriesIn k b) (suc h) (numbered child))) ≤ occ z
           (concatMap (pagesUnder (suc h)) (map (readEntry (entriesIn k b) (suc h)) l))) (sym es)
           (subst (λ (e : List ℕ × ℕ). occ z (pagesUnder (suc h) (readEntry (entriesIn k b) (suc h) e)) ≤ occ z
-          (concatMap (pagesUnder (suc h)) (map (readEntry (entriesIn k b) (suc h)) (numbered y ∷ map numbered ys)))) (chosen-numbered key (toBe32 r) r y ys)
-          (choose-occ (keeping .route (key, r)) (passes (key, r)) (entriesIn k b) (λ j x z. refl) (suc h) (numbered y) (map numbered ys) z))
+          (concatMap (pagesUnder (suc h)) (map (readEntry (entriesIn k b) (suc h)) (numbered y ∷ map numbered ys)))) child-numbered
+          (choose-occ (keptBy b .route (key, r)) (passes k b (key, r)) (entriesIn k b) (route-read bytesOrder (key, r) (entriesIn k b) (features b))
+          (suc h) (numbered y) (map numbered ys) z))
 
       child-room : (j : ℕ) → j < storeSplitIfOver (capacity k) (N .name) a p
           (gathered k (o .two) N b (o .supplied) key (o .long) number (under (suc h) (numbered child)) (map numbered (y ∷ ys))) .1 → Usable b (N .name j)
@@ -308,8 +311,8 @@ module _ (k : ℕ) (N : Naming) (key : List ℕ) (r : ℕ) (b : List ℕ) where
       child-rest left w =
           let v : StoreReplacement (List ℕ) = under (suc h) (numbered child) in
           let rest : v .2 p ≡ entriesIn k b p =
-          storeInsertUnder-refines keeping (passes (key, r)) (capacity k) (N .name) (o .supplied .distinct) (key, r) (entriesIn k b) (λ j x z. refl) (suc h) 0
-          (numbered child) (child-free .0) (child-free .1) .rest p
+          storeInsertUnder-refines (keptBy b) (passes k b (key, r)) (capacity k) (N .name) (o .supplied .distinct) (key, r) (entriesIn k b)
+          (route-read bytesOrder (key, r) (entriesIn k b) (features b)) (suc h) 0 (numbered child) (child-free .0) (child-free .1) .rest p
           (omega (arith, u .0 p, child-occ p, ap countIf (eq-eqb p p refl))) (newPages-apart (N .name) (p ∷ below) (u .1) p (v .1) (occ-here p below)) in
           ap (λ (T : Store (List ℕ)). T p) (w .entries) ∙ (rest ∙ es)
 
@@ -319,7 +322,7 @@ module _ (k : ℕ) (N : Naming) (key : List ℕ) (r : ℕ) (b : List ℕ) where
           let v : StoreReplacement (List ℕ) = under (suc h) (numbered child) in
           let d : Step = insertUnder k left b (stored key r) childPage (supplyOf b) in
           let same : getD (map numbered (y ∷ ys)) number (numbered ([], [])) ≡ numbered child = List·getD-map numbered (y ∷ ys) number ([], []) in
-          let inside : number < length (map numbered (y ∷ ys)) = rw (length-map (y ∷ ys) numbered) (chosen-within key (toBe32 r) r y ys) in
+          let inside : number < length (map numbered (y ∷ ys)) = rw (length-map (y ∷ ys) numbered) child-within in
           let step-is = after-child-is k (o .two) N b (o .supplied) key (o .long) (d .after) p a number (map numbered (y ∷ ys)) v (d .outcome) (w .as-long) tp
           (w .entries) (child-rest left w) (own-page (suc h) a p u) (w .untaken) inside in
           subst (λ (t : StoreReplacement (List ℕ)). StepIs k N b a p (afterChild k (d .after) key p number childPage (d .outcome))
@@ -340,9 +343,9 @@ module _ (k : ℕ) (N : Naming) (key : List ℕ) (r : ℕ) (b : List ℕ) where
         go : ((c : ℕ) (y : List ℕ) → Shaped k h b c → Free h y c → Inserts h left y c) → (es : List Item) → itemsIn k b p ≡ es → Inserts (suc h) (suc left) a p
         go rec [] e = absurd (rw e at (f .2))
         go rec (y ∷ ys) e =
-            let w = rec (childPage h p a y ys e u) (larger bytesOrder (child h p a y ys e u .0) key) (child-shaped k h key (toBe32 r) b p y ys e (f .3))
-            (child-free h p a y ys e u) in
-            rw (f .0 .0, f .1) (subst (UpperIs left h a p) (sym e) (page-is h p a y ys e u left (f .0 .0) w))
+            let w = rec (childPage h p a y ys e u f) (larger bytesOrder (child h p a y ys e u f .0) key) (child-page-shaped h p a y ys e u f)
+            (child-free h p a y ys e u f) in
+            rw (f .0 .0, f .1) (subst (UpperIs left h a p) (sym e) (page-is h p a y ys e u f left (f .0 .0) w))
 
 -- the page that is the root after an outcome at the root p, in the buffer b, and the supply that is left
 abbrev pub rootAfter : List ℕ → ℕ → Outcome → Taken
@@ -376,7 +379,7 @@ module _ (cap : ℕ) (name : ℕ → ℕ) (a : List ℕ) (p : ℕ) (w : StoreRep
 module _ (k : ℕ) (N : Naming) (key : List ℕ) (r : ℕ) (b : List ℕ) (o : Offered k N key r b) where
   -- the root's own last key stands for the key above it
   abbrev pub topKey : (h p : ℕ) → List ℕ
-  topKey h p = lastKey key (storeInsertAmong keeping (passes (key, r)) (key, r) h (under k N key r b h) (entriesIn k b p) 0 (entriesIn k b) .0)
+  topKey h p = lastKey key (storeInsertAmong (keptBy b) (passes k b (key, r)) (key, r) h (under k N key r b h) (entriesIn k b p) 0 (entriesIn k b) .0)
 
   -- the upper half of a root that was split ends as the whole did
   record UpperHalf (w : StoreReplacement (List ℕ)) (p q : ℕ) : Type 0 where
@@ -398,10 +401,10 @@ module _ (k : ℕ) (N : Naming) (key : List ℕ) (r : ℕ) (b : List ℕ) (o : O
 
   -- Theorem: the buffer with its root is the theory's
   pub root-inserts : (h p : ℕ) (s : Step) → Usable b p → pageSize ≤ length b → StepIs k N b (topKey h p) p s (replacement k N key r b h (topKey h p) p)
-      → ((j : ℕ) → j < storeInsert keeping (passes (key, r)) (capacity k) (N .name) (key, r) h p (entriesIn k b) .2 → Usable b (N .name j))
-      → Storable (N .left (storeInsert keeping (passes (key, r)) (capacity k) (N .name) (key, r) h p (entriesIn k b) .2))
+      → ((j : ℕ) → j < storeInsert (keptBy b) (passes k b (key, r)) (capacity k) (N .name) (key, r) h p (entriesIn k b) .2 → Usable b (N .name j))
+      → Storable (N .left (storeInsert (keptBy b) (passes k b (key, r)) (capacity k) (N .name) (key, r) h p (entriesIn k b) .2))
       → RootIs k N (atRoot k (s .after) key p (s .outcome)) (rootAfter (s .after) p (s .outcome))
-      (storeInsert keeping (passes (key, r)) (capacity k) (N .name) (key, r) h p (entriesIn k b))
+      (storeInsert (keptBy b) (passes k b (key, r)) (capacity k) (N .name) (key, r) h p (entriesIn k b))
   root-inserts h p s tp low w room small = go (s .outcome) (w .told)
     where
       a : List ℕ
@@ -411,7 +414,7 @@ module _ (k : ℕ) (N : Naming) (key : List ℕ) (r : ℕ) (b : List ℕ) (o : O
       W = replacement k N key r b h (topKey h p) p
 
       go : (out : Outcome) → OutcomeIs N a p out W → RootIs k N (atRoot k (s .after) key p out) (rootAfter (s .after) p out)
-          (storeInsert keeping (passes (key, r)) (capacity k) (N .name) (key, r) h p (entriesIn k b))
+          (storeInsert (keptBy b) (passes k b (key, r)) (capacity k) (N .name) (key, r) h p (entriesIn k b))
       go bad t = absurd t
       go (kept s′) t = rw (t .1) (record {
         entries = supply-stored (s .after) s′ (rw (w .as-long) low) (rw (t .0) (rw (t .1) at small)) .entries k ∙ w .entries;
@@ -422,7 +425,7 @@ module _ (k : ℕ) (N : Naming) (key : List ℕ) (r : ℕ) (b : List ℕ) (o : O
           let b′ : List ℕ = s .after in
           let top : ℕ = N .name (W .1) in
           let new : takePage b′ s′ ≡ nextOf N (W .1) = ap (takePage b′) (t .0) ∙ o .supplied .takes (W .1) b′ (w .as-long) (w .untaken) in
-          let v : StoreReplacement (List ℕ) = storeInsertAmong keeping (passes (key, r)) (key, r) h (under k N key r b h) (entriesIn k b p) 0
+          let v : StoreReplacement (List ℕ) = storeInsertAmong (keptBy b) (passes k b (key, r)) (key, r) h (under k N key r b h) (entriesIn k b p) 0
           (entriesIn k b) in
           let c = split-case (capacity k) (N .name) a p v (lastKey a (W .2 p), p) (a, q) (t .1) in
           let half-is = upper-half v p q (c .0) (c .2) in

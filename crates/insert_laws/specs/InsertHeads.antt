@@ -15,17 +15,20 @@ use Rattle.octets.specs.NumberLaws.{le16-small, le32-small}
 use Rattle.tree.specs.Keeping.{Route}
 use Rattle.tree.specs.Lists.{half}
 use Rattle.tree.specs.Order.{larger}
-use Rattle.tree.specs.Pairs.{lastKey, byKey, insertPair}
+use Rattle.tree.specs.Pairs.{lastKey, insertPair}
+use Rattle.tree.specs.Position.{choose}
 use Rattle.tree.specs.Relinking.{pathPageUnder, relink}
 use Rattle.tree.specs.Room.{atChosen}
 use Rattle.tree.specs.RouteLaws.{choose-map}
 use Rattle.tree.specs.Store.{Store, readEntry, readTree}
+use Rattle.tree.specs.StoreRouteLaws.{route-read}
 use Rattle.tree.specs.StoreSteps.{StoreReplacement, storeSplitIfOver, storeInsertAmong}
 use Rattle.tree.specs.Tree.{Tree}
-use Rattle.page.specs.Header.{isPage}
+use Rattle.page.specs.Header.{features, isPage}
 use Rattle.page.specs.KeyOrder.{bytesOrder}
 use Rattle.page.specs.Page.{attributeAt, countAt, leftAt, rightAt, capacity}
 use Rattle.page.specs.Reading.{Item, numbered}
+use Rattle.page.specs.EntryOrder.{itemOrder}
 use Rattle.layout.specs.declared.Supply.{Supply}
 use Rattle.layout.specs.Supply.{supplyOf, takePage}
 use Rattle.layout.specs.Layout.{itemsIn, withEntries, withoutRoot, splitPage}
@@ -33,15 +36,17 @@ use Rattle.layout.specs.Entries.{stored, chosenAt, itemOf, childOf, replaced, r
 use Rattle.layout.specs.ItemLaws.{Fit}
 use Rattle.layout.specs.EntryLaws.{items-in-fit}
 use Rattle.layout.specs.FitLaws.{length-insert, length-replaced, pair-fit, two-fit}
-use Rattle.sound.specs.Sound.{linksOf}
+use Rattle.sound.specs.Sound.{linksOf, keptBy}
 use Rattle.insert.specs.Insertion.{Outcome, kept, split, bad, Step, takeIn, afterChild, insertUnder}
 use Rattle.layout_laws.specs.EntryLaws.{entriesIn, page-of, items-few}
 use Rattle.layout_laws.specs.HeadLaws.{Head, SameHead, SameHeader, with-head, with-header, raised-head, raised-header, split-head, split-header}
-use Rattle.insert_laws.specs.ItemLists.{keeping, passes, chosen-within, chosen-numbered}
+use Rattle.insert_laws.specs.ItemLists.{passes, Shaped}
 use Rattle.layout_laws.specs.OtherPages.{unchanged}
 use Rattle.insert_laws.specs.Naming.{Naming, Usable, Untaken, nextOf, Supplied}
-use Rattle.insert_laws.specs.InsertEntries.{OutcomeIs, Shaped, Offered, under, replacement, Inserts, Free, own-page, inserts, items-longer, among-leaf}
-use Rattle.insert_laws.specs.InsertEntries.{kept-case, split-case, number, child, childPage, child-among, child-free, child-shaped, child-rest, page-is}
+use Rattle.insert_laws.specs.InsertEntries.{OutcomeIs, Offered}
+use Rattle.insert_laws.specs.InsertEntries.{under, replacement, Inserts, Free, own-page, inserts, items-longer, among-leaf}
+use Rattle.insert_laws.specs.InsertEntries.{kept-case, split-case, number, child, childPage, child-among, child-free, child-page-shaped}
+use Rattle.insert_laws.specs.InsertEntries.{child-rest, page-is, child-numbered, child-within}
 
 -- attributes and right links that are numbers of two and four bytes
 abbrev pub Plain : List ℕ → Type 0
@@ -177,22 +182,24 @@ HeadsAfter k N path h b n (split q s) b′ = (n ≡ suc h) × Heads k N path (su
 HeadsAfter k N path h b n bad b′ = ⊥
 
 -- the page of the path on the level of a page, and on the levels below it
-path-own : (e : List ℕ × ℕ) (h : ℕ) (a : List ℕ) (t : Tree (List ℕ) h) → pathPageUnder (keeping .route e) h (suc h) (a, t) ≡ t .0
-path-own e h a t = rw (eq-eqb h h refl)
+path-own : (route : Route (List ℕ)) (h : ℕ) (a : List ℕ) (t : Tree (List ℕ) h) → pathPageUnder route h (suc h) (a, t) ≡ t .0
+path-own route h a t = rw (eq-eqb h h refl)
 
 path-below : (k : ℕ) (key b : List ℕ) (r h j p : ℕ) (a : List ℕ) (y : Item) (ys : List Item) → itemsIn k b p ≡ y ∷ ys → (j ≡ suc h → ⊥)
-    → let i = chosenAt (stored key r) (y ∷ ys) in
-    pathPageUnder (keeping .route (key, r)) j (suc (suc h)) (a, readTree (entriesIn k b) (suc h) p)
-    ≡ pathPageUnder (keeping .route (key, r)) j (suc h)
+    → let i = chosenAt b (stored key r) (y ∷ ys) in
+    choose (passes k b (key, r) (suc h)) (numbered y) (map numbered (y ∷ ys)) ≡ numbered (itemOf i (y ∷ ys))
+    → pathPageUnder (keptBy b .route (key, r)) j (suc (suc h)) (a, readTree (entriesIn k b) (suc h) p)
+    ≡ pathPageUnder (keptBy b .route (key, r)) j (suc h)
     (larger bytesOrder (itemOf i (y ∷ ys) .0) key, readTree (entriesIn k b) h (childOf i (y ∷ ys)))
-path-below k key b r h j p a y ys es ne =
-    let route : Route (List ℕ) = keeping .route (key, r) in
+path-below k key b r h j p a y ys es ne chosen =
+    let route : Route (List ℕ) = keptBy b .route (key, r) in
     let S : Store (List ℕ) = entriesIn k b in
     rw (ne-eqb j (suc h) ne)
     (ap (λ (l : List Item). atChosen (route (suc h)) 0 (pathPageUnder route j (suc h)) (map (readEntry S (suc h)) (map numbered l))) es
     ∙ ap (pathPageUnder route j (suc h))
-    (choose-map (readEntry S (suc h)) (passes (key, r) (suc h)) (route (suc h)) (λ x z. refl) (numbered y) (map numbered (y ∷ ys)))
-    ∙ ap (λ (e : List ℕ × ℕ). pathPageUnder route j (suc h) (readEntry S (suc h) e)) (chosen-numbered key (toBe32 r) r y ys))
+    (choose-map (readEntry S (suc h)) (passes k b (key, r) (suc h)) (route (suc h)) (route-read bytesOrder (key, r) S (features b) (suc h))
+    (numbered y) (map numbered (y ∷ ys)))
+    ∙ ap (λ (e : List ℕ × ℕ). pathPageUnder route j (suc h) (readEntry S (suc h) e)) chosen)
 
 module _ (k : ℕ) (N : Naming) (path : ℕ → ℕ) (two : 1 < capacity k) (b : List ℕ) (given : Supplied N b) where
   -- a page that gets entries, with h levels under it, after h pages were split: w is what the theory gathers for it
@@ -243,7 +250,7 @@ module _ (k : ℕ) (N : Naming) (key : List ℕ) (r : ℕ) (b : List ℕ) (o : O
       HeadsAfter k N path h b (replacement k N key r b h a p .1) (d .outcome) (d .after)
 
   abbrev OnPath : ℕ → List ℕ → ℕ → Type 0
-  OnPath h a p = (j : ℕ) → j ≤ h → path j ≡ pathPageUnder (keeping .route (key, r)) j (suc h) (a, readTree (entriesIn k b) h p)
+  OnPath h a p = (j : ℕ) → j ≤ h → path j ≡ pathPageUnder (keptBy b .route (key, r)) j (suc h) (a, readTree (entriesIn k b) h p)
 
   -- Theorem: insertion's step splits the lowest pages of the path to the key, and changes no other head
   pub insert-heads : (h left p : ℕ) (a : List ℕ) → h < left → Shaped k h b p → Free k N key r b h a p → OnPath h a p → Goes h left a p
@@ -251,24 +258,24 @@ module _ (k : ℕ) (N : Naming) (key : List ℕ) (r : ℕ) (b : List ℕ) (o : O
   insert-heads zero zero p a l f u x = absurd (omega arith)
   insert-heads (suc h) zero p a l f u x = absurd (omega arith)
   insert-heads zero (suc left) p a l f u x =
-      let es : List Item = insertPair (byKey bytesOrder) (stored key r) (itemsIn k b p) in
+      let es : List Item = insertPair (itemOrder (features b)) (stored key r) (itemsIn k b p) in
       let w : StoreReplacement (List ℕ) =
-      storeInsertAmong keeping (passes (key, r)) (key, r) zero (under k N key r b zero) (entriesIn k b p) 0 (entriesIn k b) in
+      storeInsertAmong (keptBy b) (passes k b (key, r)) (key, r) zero (under k N key r b zero) (entriesIn k b p) 0 (entriesIn k b) in
       let t : OutcomeIs N a p (takeIn k b p es (supplyOf b) .outcome) (storeSplitIfOver (capacity k) (N .name) a p w) =
       rw (f .0 .0, f .1) at (inserts k N key r b o zero (suc left) p a l f u .told) in
-      let none : w .1 ≡ 0 = ap (λ (y : StoreReplacement (List ℕ)). y .1) (among-leaf (key, r) (entriesIn k b) (capacity k) (N .name) (entriesIn k b p)) in
+      let none : w .1 ≡ 0 = ap (λ (y : StoreReplacement (List ℕ)). y .1) (among-leaf k b (key, r) (entriesIn k b) (capacity k) (N .name) (entriesIn k b p)) in
       rw (f .0 .0, f .1)
       (take-in-heads k N path (o .two) b (o .supplied) zero b p a w es (supplyOf b)
-      (sym (path-own (key, r) zero a (readTree (entriesIn k b) zero p)) ∙ sym (x zero (omega arith))) (o .supplied .starts) none (f .0) refl
-      (pair-fit k b key (o .long) r p)
-      (omega (arith, items-few k b p, length-insert (stored key r) (itemsIn k b p)))
+      (sym (path-own (keptBy b .route (key, r)) zero a (readTree (entriesIn k b) zero p)) ∙ sym (x zero (omega arith))) (o .supplied .starts) none (f .0) refl
+      (pair-fit k b key (o .long) (itemOrder (features b)) r p)
+      (omega (arith, items-few k b p, length-insert (itemOrder (features b)) (stored key r) (itemsIn k b p)))
       (own-page k N key r b zero a p u) (λ j i y. unchanged b (N .name j)) (u .2) t
       (heads-none k N path b plain))
   insert-heads (suc h) (suc left) p a l f u x = go (λ c y g w. insert-heads h left c y (omega arith) g w) (itemsIn k b p) refl
     where
       UpperGoes : List Item → Type 0
       UpperGoes es =
-          let i : ℕ = chosenAt (stored key r) es in
+          let i : ℕ = chosenAt b (stored key r) es in
           let d : Step = insertUnder k left b (stored key r) (childOf i es) (supplyOf b) in
           HeadsAfter k N path (suc h) b (replacement k N key r b (suc h) a p .1) (afterChild k (d .after) key p i (childOf i es) (d .outcome) .outcome)
           (afterChild k (d .after) key p i (childOf i es) (d .outcome) .after)
@@ -277,23 +284,24 @@ module _ (k : ℕ) (N : Naming) (key : List ℕ) (r : ℕ) (b : List ℕ) (o : O
           → Goes (suc h) (suc left) a p
       go rec [] e = absurd (rw e at (f .2))
       go rec (y ∷ ys) e =
-          let i : ℕ = number k N key r b o h p a y ys e u in
-          let c : ℕ = childPage k N key r b o h p a y ys e u in
-          let A : List ℕ = larger bytesOrder (child k N key r b o h p a y ys e u .0) key in
+          let i : ℕ = number k N key r b o h p a y ys e u f in
+          let c : ℕ = childPage k N key r b o h p a y ys e u f in
+          let A : List ℕ = larger bytesOrder (child k N key r b o h p a y ys e u f .0) key in
           let v : StoreReplacement (List ℕ) = replacement k N key r b h A c in
           let w : StoreReplacement (List ℕ) =
-          storeInsertAmong keeping (passes (key, r)) (key, r) (suc h) (under k N key r b (suc h)) (entriesIn k b p) 0 (entriesIn k b) in
-          let ew : w .1 ≡ v .1 = sym (ap (λ (y : StoreReplacement (List ℕ)). y .1) (child-among k N key r b o h p a y ys e u)) in
-          let free = child-free k N key r b o h p a y ys e u in
-          let shaped : Shaped k h b c = child-shaped k h key (toBe32 r) b p y ys e (f .3) in
+          storeInsertAmong (keptBy b) (passes k b (key, r)) (key, r) (suc h) (under k N key r b (suc h)) (entriesIn k b p) 0 (entriesIn k b) in
+          let ew : w .1 ≡ v .1 = sym (ap (λ (y : StoreReplacement (List ℕ)). y .1) (child-among k N key r b o h p a y ys e u f)) in
+          let free = child-free k N key r b o h p a y ys e u f in
+          let shaped : Shaped k h b c = child-page-shaped k N key r b o h p a y ys e u f in
           let below : Inserts k N key r b h left A c = inserts k N key r b o h left c A (omega arith) shaped free in
           let d : Step = insertUnder k left b (stored key r) c (supplyOf b) in
-          let on : OnPath h A c = λ j i. x j (omega arith) ∙ path-below k key b r h j p a y ys e (λ q. omega arith) in
-          let there : entriesIn k (d .after) p ≡ map numbered (y ∷ ys) = child-rest k N key r b o h p a y ys e u left below in
+          let on : OnPath h A c = λ j i. x j (omega arith) ∙ path-below k key b r h j p a y ys e (λ q. omega arith)
+          (child-numbered k N key r b o h p a y ys e u f) in
+          let there : entriesIn k (d .after) p ≡ map numbered (y ∷ ys) = child-rest k N key r b o h p a y ys e u f left below in
           let t : OutcomeIs N a p (afterChild k (d .after) key p i c (d .outcome) .outcome) (replacement k N key r b (suc h) a p) =
-          page-is k N key r b o h p a y ys e u left (f .0 .0) below .told in
+          page-is k N key r b o h p a y ys e u f left (f .0 .0) below .told in
           rw (f .0 .0, f .1) (subst UpperGoes (sym e)
           (after-child-heads h (d .after) p a A i c (d .outcome) v w (below .told) (rec c A shaped free on) ew (below .as-long) (below .untaken)
-          (items-longer k (d .after) p (y ∷ ys) there (chosen-within key (toBe32 r) r y ys))
-          (sym (path-own (key, r) (suc h) a (readTree (entriesIn k b) (suc h) p)) ∙ sym (x (suc h) (omega arith))) (f .0)
+          (items-longer k (d .after) p (y ∷ ys) there (child-within k N key r b o h p a y ys e u f))
+          (sym (path-own (keptBy b .route (key, r)) (suc h) a (readTree (entriesIn k b) (suc h) p)) ∙ sym (x (suc h) (omega arith))) (f .0)
           (own-page k N key r b (suc h) a p u) (u .2) t))

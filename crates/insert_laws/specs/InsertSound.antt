@@ -26,10 +26,9 @@ use Rattle.tree.specs.Insertion.{Grown}
 use Rattle.tree.specs.LinkLaws.{linked-same, headOr-differ, linked-right}
 use Rattle.tree.specs.ListLaws.{occ-append, occ-here, occ-all}
 use Rattle.tree.specs.Lists.{concatMap, occ, countIf}
-use Rattle.tree.specs.Pairs.{byKey, has, insertPair}
+use Rattle.tree.specs.Pairs.{has, insertPair}
 use Rattle.tree.specs.Relinking.{pathPage}
 use Rattle.tree.specs.Room.{run, needs}
-use Rattle.tree.specs.RouteLaws.{distinct-leading}
 use Rattle.tree.specs.Store.{readTree}
 use Rattle.tree.specs.Supply.{takenPage}
 use Rattle.tree.specs.SoundIndex.{SoundIndex, LinkedIndex}
@@ -41,7 +40,7 @@ use Rattle.page.specs.Page.{attributeAt, countAt, leftAt, rightAt, rootBit, lea
 use Rattle.page.specs.Reading.{entriesAt}
 use Rattle.page.specs.ReadingLaws.{window-window}
 use Rattle.layout.specs.WriteLaws.{capacity-least}
-use Rattle.sound.specs.Sound.{indexTree, linksOf, FreePage, FreeList, Sound}
+use Rattle.sound.specs.Sound.{indexTree, keptBy, linksOf, FreePage, FreeList, Sound}
 use Rattle.sound.specs.IndexLaws.{indexOf, settingOf, sound-index, sound-linked, all-occ, once-page, index-sound}
 use Rattle.insert.specs.Insertion.{insertedBuffer}
 use Rattle.insert.specs.Room.{pathTo, noRoom}
@@ -51,7 +50,6 @@ use Rattle.layout_laws.specs.OtherPages.{SameButLeft, right-kept}
 use Rattle.layout_laws.specs.SupplyLaws.{SameRest}
 use Rattle.insert_laws.specs.TakenPages.{taken-all, left-all, left-head, left-chained}
 use Rattle.insert_laws.specs.Naming.{Naming, namingOf, FreeGiven, supplied, usable}
-use Rattle.insert_laws.specs.ItemLists.{keeping}
 use Rattle.insert_laws.specs.InsertHeads.{Plain, unrooted}
 use Rattle.insert_laws.specs.InsertBuffer.{treeIn, grownBy, Ready, tree-after, root-after, supply-after, length-after, header-after}
 use Rattle.insert_laws.specs.InsertBuffer.{untaken-after}
@@ -68,7 +66,7 @@ pub record Accepts (b key : List ℕ) (r : ℕ) : Type 0 where
   pub long : length key ≡ keyLength b
   pub positive : 0 < r
   pub r32 : r < 2 ^ 32
-  pub absent : has (byKey bytesOrder) (key, r) (pairs (sound .height) (indexTree b (sound .height))) ≡ false
+  pub absent : has (keptBy b .pairLe) (key, r) (pairs (sound .height) (indexTree b (sound .height))) ≡ false
   pub room : noRoom b (pathTo (keyLength b) b key r) ≡ false
 
 module _ (b key : List ℕ) (r : ℕ) (accepts : Accepts b key r) where
@@ -98,7 +96,7 @@ module _ (b key : List ℕ) (r : ℕ) (accepts : Accepts b key r) where
   }
 
   abbrev kept-by : Setting (List ℕ)
-  kept-by = settingOf (keyLength b) (min (length b) maxBytes)
+  kept-by = settingOf (features b) (keyLength b) (min (length b) maxBytes)
 
   abbrev after : Index (List ℕ)
   after = inserted kept-by (key, r) before
@@ -124,8 +122,8 @@ module _ (b key : List ℕ) (r : ℕ) (accepts : Accepts b key r) where
   sound-after : SoundIndex kept-by after
   sound-after =
       inserted-sound kept-by two before (key, r) (accepts .positive)
-      (ap (λ (i : Index (List ℕ)). has (byKey bytesOrder) (key, r) (held i)) before-is ∙ accepts .absent)
-      (ap (outOfRoom kept-by (key, r)) before-is ∙ sym (room-is b key r (accepts .sound)) ∙ accepts .room) sound-before
+      (ap (λ (i : Index (List ℕ)). has (keptBy b .pairLe) (key, r) (held i)) before-is ∙ accepts .absent)
+      (ap (outOfRoom kept-by (key, r)) before-is ∙ sym (room-is b key r (accepts .sound) (accepts .long) (accepts .r32)) ∙ accepts .room) sound-before
 
   -- the pages before the insertion and after it are pages of the buffer
   old-page : (z : ℕ) → 0 < occ z (pages h t) → isPage (length b) z ≡ true
@@ -158,16 +156,16 @@ module _ (b key : List ℕ) (r : ℕ) (accepts : Accepts b key r) where
 
   -- the pages on the path, and how many of them are split
   abbrev path : ℕ → ℕ
-  path j = pathPage (keeping .route (key, r)) j h t
+  path j = pathPage (keptBy b .route (key, r)) j h t
 
   abbrev splits : ℕ
-  splits = run (keeping .route (key, r)) (capacity k) h t
+  splits = run (keptBy b .route (key, r)) (capacity k) h t
 
   most : splits ≤ suc h
-  most = root-splits keeping (capacity k) name (key, r) h key t (omega (arith, two)) (sound-before .sized) .most
+  most = root-splits (keptBy b) (capacity k) name (key, r) h key t (omega (arith, two)) (sound-before .sized) .most
 
-  need : x .2 ≡ needs (keeping .route (key, r)) (capacity k) h t
-  need = insert-needs keeping (capacity k) name (key, r) h t (omega (arith, two)) (sound-before .sized) .0
+  need : x .2 ≡ needs (keptBy b .route (key, r)) (capacity k) h t
+  need = insert-needs (keptBy b) (capacity k) name (key, r) h t (omega (arith, two)) (sound-before .sized) .0
 
   in-tree : (H j z : ℕ) (T : Tree (List ℕ) H) → 0 < occ z (level j H T) → 0 < occ z (pages H T)
   in-tree H j z T o = omega (arith, levelUnder-pages z j (suc H) (key, T))
@@ -185,7 +183,7 @@ module _ (b key : List ℕ) (r : ℕ) (accepts : Accepts b key r) where
   -- a page of a level after the insertion is an old page of that level, or the new one after the page on the path
   in-level : {X : Type 0} (j z : ℕ) → j ≤ h → 0 < occ z (level j (x .0) (x .1)) → (0 < occ z (level j h t) → X) → (j < splits → z ≡ name j → X) → X
   in-level j z l o old new =
-      let q = insert-level keeping (capacity k) name (key, r) h t j (omega (arith, two)) (sound-before .sized) l in
+      let q = insert-level (keptBy b) (capacity k) name (key, r) h t j (omega (arith, two)) (sound-before .sized) l in
       either (ltb j splits)
       (λ e. let v : Level j = q .0 (ltb-true j splits e) in
       either (eqb z (name (0 + j)))
@@ -202,7 +200,7 @@ module _ (b key : List ℕ) (r : ℕ) (accepts : Accepts b key r) where
   -- a page of the path that is split is a page of its level
   path-level : (j : ℕ) → j < splits → 0 < occ (path j) (level j h t)
   path-level j l =
-      let q = insert-level keeping (capacity k) name (key, r) h t j (omega (arith, two)) (sound-before .sized) (omega (arith, most)) in
+      let q = insert-level (keptBy b) (capacity k) name (key, r) h t j (omega (arith, two)) (sound-before .sized) (omega (arith, most)) in
       let v : Level j = q .0 l in
       let p : occ (path j) (level j h t) ≡ occ (path j) (v .pre) + (countIf (eqb (path j) (path j)) + occ (path j) (v .post)) =
       ap (occ (path j)) (v .was) ∙ occ-append (path j) (v .pre) (path j ∷ v .post) in
@@ -221,7 +219,7 @@ module _ (b key : List ℕ) (r : ℕ) (accepts : Accepts b key r) where
   in-pages : {X : Type 0} (z : ℕ) → 0 < occ z (pages (x .0) (x .1)) → (0 < occ z (pages h t) → X) → ((j : ℕ) → j < x .2 → z ≡ name j → X) → X
   in-pages z o old new =
       let p : occ z (pages (x .0) (x .1)) ≡ occ z (pages h t) + occ z (newPages name (x .2)) =
-      insert-pages keeping (capacity k) name (key, r) z h t in
+      insert-pages (keptBy b) (capacity k) name (key, r) z h t in
       either (ltb 0 (occ z (pages h t)))
       (λ e. old (ltb-true 0 (occ z (pages h t)) e))
       (λ e. let y = ltb-false 0 (occ z (pages h t)) e in in-new (x .2) z (omega arith) new)
@@ -411,7 +409,7 @@ module _ (b key : List ℕ) (r : ℕ) (accepts : Accepts b key r) where
         key-low = rw key-same (good .key-low);
         key-high = rw key-same (good .key-high);
         free = rw (size-is, free-is) (left-head (λ p. freeGood (after .size) p ≡ true) noPage (accepts .sound .free) (x .2) (none-good (after .size)) pointers);
-        plain = features-same ∙ good .plain;
+        plain = rw features-same (good .plain);
       })
 
   -- the new tree, read up to the file's size
@@ -451,7 +449,7 @@ module _ (b key : List ℕ) (r : ℕ) (accepts : Accepts b key r) where
     -- it is not the right neighbour of a page of the path
     not-beyond : (i : ℕ) → i < splits → name j ≡ rightAt b (path i) → ⊥
     not-beyond i l e =
-        let v : Level i = insert-level keeping (capacity k) name (key, r) h t i (omega (arith, two)) (sound-before .sized) (omega (arith, most)) .0 l in
+        let v : Level i = insert-level (keptBy b) (capacity k) name (key, r) h t i (omega (arith, two)) (sound-before .sized) (omega (arith, most)) .0 l in
         let right : rightAt b (path i) ≡ headOr noPage (v .post) =
         linked-right noPage (linksOf b) (path i) noPage (v .pre) (v .post)
         (subst (Linked noPage (linksOf b) noPage) (v .was) (linked-before i (omega (arith, most)))) in
@@ -469,7 +467,7 @@ module _ (b key : List ℕ) (r : ℕ) (accepts : Accepts b key r) where
     its-left : leftAt b″ (name j) ≡ leftAt b (name j)
     its-left =
         heads .links (name j) its-page .0
-        ∙ relinked-left (keeping .route (key, r)) noPage name (capacity k) h t x (linksOf b) (name j) (λ i l. not-taken i (omega (arith, few))) not-beyond
+        ∙ relinked-left (keptBy b .route (key, r)) noPage name (capacity k) h t x (linksOf b) (name j) (λ i l. not-taken i (omega (arith, few))) not-beyond
         not-root
 
     its-form : FreePage b″ (name j)
@@ -488,8 +486,9 @@ module _ (b key : List ℕ) (r : ℕ) (accepts : Accepts b key r) where
   sound-now =
       let ps : List ℕ = pages (x .0) (indexTree b″ (x .0)) in
       index-sound b″ (x .0) (after .free) (min (length b) maxBytes) header-good
-      (subst (λ (n : ℕ). SoundIndex (settingOf n (min (length b) maxBytes)) (indexOf b″ (x .0) (after .free))) (sym key-same)
-      (subst (SoundIndex kept-by) (sym index-is) sound-after))
+      (subst (λ (n : ℕ). SoundIndex (settingOf n (keyLength b″) (min (length b) maxBytes)) (indexOf b″ (x .0) (after .free))) (sym features-same)
+      (subst (λ (n : ℕ). SoundIndex (settingOf (features b) n (min (length b) maxBytes)) (indexOf b″ (x .0) (after .free))) (sym key-same)
+      (subst (SoundIndex kept-by) (sym index-is) sound-after)))
       (subst (λ (T : Tree (List ℕ) (x .0)). AllLinked noPage (linksOf b″) (x .0) T) (sym tree-is) linked-after)
       (all-occ (λ p. attributeAt b″ p ≤ 3) ps (λ z o. bits .small z (there z o)))
       (all-occ (λ p. rootBit (attributeAt b″ p) ≡ eqb p (rootOffset b″)) ps
@@ -504,11 +503,12 @@ module _ (b key : List ℕ) (r : ℕ) (accepts : Accepts b key r) where
 pub record Inserts (b key : List ℕ) (r : ℕ) (s : Sound b) : Type 0 where
   pub sound : Sound (insertedBuffer (keyLength b) b key r)
   pub index : indexOf (insertedBuffer (keyLength b) b key r) (sound .height) (sound .free)
-      ≡ inserted (settingOf (keyLength b) (min (length b) maxBytes)) (key, r) (indexOf b (s .height) (s .free))
+      ≡ inserted (settingOf (features b) (keyLength b) (min (length b) maxBytes)) (key, r) (indexOf b (s .height) (s .free))
   pub leaves : pairs (sound .height) (indexTree (insertedBuffer (keyLength b) b key r) (sound .height))
-      ≡ insertPair (byKey bytesOrder) (key, r) (pairs (s .height) (indexTree b (s .height)))
+      ≡ insertPair (keptBy b .pairLe) (key, r) (pairs (s .height) (indexTree b (s .height)))
   pub header : SameRest b (insertedBuffer (keyLength b) b key r)
   pub keyIs : keyLength (insertedBuffer (keyLength b) b key r) ≡ keyLength b
+  pub featuresAre : features (insertedBuffer (keyLength b) b key r) ≡ features b
   pub as-long : length (insertedBuffer (keyLength b) b key r) ≡ length b
   pub plain : Plain (insertedBuffer (keyLength b) b key r)
 
@@ -525,10 +525,11 @@ insert-keeps-sound b key r accepts =
       sound = now .0;
       index = same;
       leaves = ap held same
-          ∙ insert-pairs keeping (capacity (keyLength b)) (takenPage (s .free) (fileSize b)) (key, r) (distinct-leading bytesOrder (key, r))
-          (s .height) (indexTree b (s .height)) (sized-rooted (capacity (keyLength b)) (s .height) (indexTree b (s .height)) (old .sized)) (old .ordered);
+          ∙ insert-pairs (keptBy b) (capacity (keyLength b)) (takenPage (s .free) (fileSize b)) (key, r) (s .height) (indexTree b (s .height))
+          (sized-rooted (capacity (keyLength b)) (s .height) (indexTree b (s .height)) (old .sized)) (old .ordered);
       header = rest b key r accepts;
       keyIs = key-same b key r accepts;
+      featuresAre = features-same b key r accepts;
       as-long = long b key r accepts;
       plain = heads b key r accepts .plain;
     }

@@ -16,7 +16,7 @@ use Rattle.tree.specs.Lists.{concatMap, occ}
 use Rattle.tree.specs.Store.{Store, readEntry, readTree}
 use Rattle.tree.specs.StoreLaws.{frame}
 use Rattle.tree.specs.Tree.{Tree, pagesUnder, pages, levelUnder, level}
-use Rattle.page.specs.Header.{isPage, rootOffset, fileSize, keyLength}
+use Rattle.page.specs.Header.{maxLevels, isPage, rootOffset, fileSize, keyLength}
 use Rattle.page.specs.HeaderLaws.{is-page, is-page-from, good-header}
 use Rattle.page.specs.Page.{attributeAt, leafBit, capacity}
 use Rattle.page.specs.Reading.{itemsAt, entriesAt}
@@ -24,7 +24,7 @@ use Rattle.sound.specs.Sound.{indexTree, Sound}
 use Rattle.sound.specs.IndexLaws.{indexOf, sound-sized, sound-index}
 use Rattle.layout_laws.specs.EntryLaws.{entriesIn}
 use Rattle.insert_laws.specs.Naming.{Usable, FreeGiven}
-use Rattle.insert_laws.specs.InsertEntries.{Shaped}
+use Rattle.insert_laws.specs.ItemLists.{Shaped}
 use Rattle.insert_laws.specs.InsertBuffer.{treeIn}
 
 -- a page of a file is a page of every longer file, and has the same entries there
@@ -80,17 +80,18 @@ module _ (k : ℕ) (b : List ℕ) where
             (λ j z l o. leaves j z l (omega (arith, occ-append z (here-at j) (rest-at j)))) (sized .1),
       )
 
-  shaped-from : (h p : ℕ) (a : List ℕ) → ((z : ℕ) → 0 < occ z (pages h (readTree S h p)) → Usable b z)
+  shaped-from : (h p : ℕ) (a : List ℕ) → h ≤ maxLevels → ((z : ℕ) → 0 < occ z (pages h (readTree S h p)) → Usable b z)
       → ((j z : ℕ) → j ≤ h → 0 < occ z (levelUnder j (suc h) (a, readTree S h p)) → leafBit (attributeAt b z) ≡ eqb j 0)
       → Sized (capacity k) h (readTree S h p) → Shaped k h b p
-  shaped-from zero p a usable leaves sized =
+  shaped-from zero p a few usable leaves sized =
       (usable p (occ-here p (concatMap (pagesUnder zero) (map (readEntry S zero) (S p)))), leaves zero p (omega arith) (occ-here p []))
-  shaped-from (suc h) p a usable leaves sized = (
+  shaped-from (suc h) p a few usable leaves sized = (
     usable p (occ-here p (concatMap (pagesUnder (suc h)) (map (readEntry S (suc h)) (S p)))),
     leaves (suc h) p (omega arith) (rw (eq-eqb (suc h) (suc h) refl) (occ-here p [])) ∙ ne-eqb (suc h) 0 (λ q. omega arith),
     nonEmpty-length (S p) (rw (length-map (S p) (readEntry S (suc h))) at (sized .0)),
-    shaped-level h (λ e. shaped-from h (e .1) (e .0)) (S p) (λ z o. usable z (omega arith))
+    shaped-level h (λ e. shaped-from h (e .1) (e .0) (omega arith)) (S p) (λ z o. usable z (omega arith))
         (λ j z l o. leaves j z (omega arith) (rw (ne-eqb j (suc h) (λ q. omega arith)) o)) (sized .2),
+    omega arith,
   )
 
 module _ (b : List ℕ) (s : Sound b) where
@@ -125,7 +126,7 @@ module _ (b : List ℕ) (s : Sound b) where
   pub sound-shaped : Shaped (keyLength b) (s .height) b (rootOffset b)
   sound-shaped =
       let h = s .height in
-      shaped-from (keyLength b) b h (rootOffset b) []
+      shaped-from (keyLength b) b h (rootOffset b) [] (omega (arith, s .levels))
       (λ z o. sound-usable z (subst (λ (t : Tree (List ℕ) h). 0 < occ z (pages h t)) sound-tree o))
       (λ j z l o. occ-all (λ p. leafBit (attributeAt b p) ≡ eqb j 0) z (level j h (indexTree b h)) (s .leafBits j l)
       (subst (λ (t : Tree (List ℕ) h). 0 < occ z (level j h t)) sound-tree o))

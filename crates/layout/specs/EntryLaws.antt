@@ -1,20 +1,23 @@
--- Laws: a page's entries by number: how many there are, where the search ends, which entry is chosen, and whether a leaf has a key.
--- Assumes nothing.
+-- Laws: a page's entries by number: how many there are, where a search ends, which entry it leads to, and whether a leaf has an entry; and the order of
+-- entries by the header's features. Assumes nothing.
 use Prim.Native.Nat.{ℕ, zero, suc, _+_, _-_, _*_, _≤_, _<_}
 use mathlib.Core.Path.{_≡_, refl, sym, ap, _∙_}
-use mathlib.Core.Bool.{true, false, cond}
+use mathlib.Core.Bool.{Bool, true, false, not, cond}
 use mathlib.Core.List.{List, [], _∷_, _++_}
 use native.Mathlib.Nat.{zero-add, min-le-right, add-mul, add-zero}
 use native.Mathlib.Omega.{arith}
+use lib.Dec.{eqb}
 use lib.ListN.{length, take, drop, length-drop}
 use lib.Seq.{drop-drop}
-use Rattle.basis.specs.Tests.{either}
+use borrow.Author.Tests.{eq-eqb, ne-eqb}
+use Rattle.basis.specs.Tests.{either, contra}
 use Rattle.basis.specs.Lists.{All}
 use Rattle.octets.specs.Order.{bytesLe}
 use Rattle.octets.specs.Store.{window}
 use Rattle.octets.specs.StoreLaws.{length-window}
 use Rattle.tree.specs.Pairs.{byKey, present, insertPair}
-use Rattle.page.specs.Header.{pageSize, isPage}
+use Rattle.tree.specs.Position.{position, passesLower}
+use Rattle.page.specs.Header.{maxLevels, pageSize, isPage}
 use Rattle.page.specs.Page.{countAt, entriesStart, entryArea, capacity, entryOffset, keyAt, firstAtOrAbove}
 use Rattle.page.specs.Within.{Within}
 use Rattle.page.specs.KeyOrder.{bytesOrder}
@@ -23,7 +26,8 @@ use Rattle.page.specs.PageLaws.{entries-fit, entries-inside, entry-first, entry
 use Rattle.page.specs.Reading.{Item, items, itemsAt}
 use Rattle.page.specs.ReadingLaws.{readCount, items-take}
 use Rattle.layout.specs.Layout.{itemsIn, encode}
-use Rattle.layout.specs.Entries.{chosenAt, itemOf}
+use Rattle.page.specs.EntryOrder.{itemOrder}
+use Rattle.layout.specs.Entries.{firstUpTo, passesAbove, itemOf}
 use Rattle.layout.specs.Given.{Listed}
 use Rattle.layout.specs.ItemLaws.{Fit, items-fit, length-items, encode-items, take-items, drop-items}
 
@@ -39,7 +43,7 @@ length-from : (k : ℕ) (b : List ℕ) (p n i : ℕ) → length (itemsFrom k b p
 unfolding itemsFrom
 length-from k b p n i = length-items k n (drop (entryOffset k p i) b)
 
-from-none : (k : ℕ) (b : List ℕ) (p i : ℕ) → itemsFrom k b p 0 i ≡ []
+pub from-none : (k : ℕ) (b : List ℕ) (p i : ℕ) → itemsFrom k b p 0 i ≡ []
 unfolding itemsFrom items
 from-none k b p i = refl
 
@@ -98,57 +102,75 @@ listed-within {b} {k} {p} {n} l =
     let m : n ≡ readCount k b p = l .count ∙ ap length (items-in k b p (l .page)) ∙ length-from k b p (readCount k b p) 0 in
     record { key = l .key; count = omega (arith, min-le-right (countAt b p) (capacity k)); page = is-page (length b) p (l .page) .high }
 
--- how many entries a search passes: those before the first at or above the key
-abbrev pub passedCount : List ℕ → List Item → ℕ
-passedCount key [] = 0
-passedCount key (x ∷ xs) = cond (bytesLe key (x .0)) 0 (suc (passedCount key xs))
+-- how many entries a search passes, by an order of entries: those before the first at or above the entry e
+abbrev pub passedCount : (Item → Item → Bool) → Item → List Item → ℕ
+passedCount le e [] = 0
+passedCount le e (x ∷ xs) = cond (le e x) 0 (suc (passedCount le e xs))
 
-pub passed-le : (key : List ℕ) (es : List Item) → passedCount key es ≤ length es
-passed-le key [] = omega arith
-passed-le key (x ∷ xs) = either (bytesLe key (x .0)) (λ e. rw e (omega arith)) (λ e. rw e (omega (arith, passed-le key xs)))
-
--- the search in the page ends after the entries passed
-pub first-passed : (k : ℕ) (b key : List ℕ) (p n i : ℕ) → firstAtOrAbove (keyAt b k p) key n i ≡ i + passedCount key (itemsFrom k b p n i)
+-- the search for a key in the page ends after the entries passed
+pub first-passed : (k : ℕ) (b key c : List ℕ) (p n i : ℕ)
+    → firstAtOrAbove (keyAt b k p) key n i ≡ i + passedCount (byKey bytesOrder) (key, c) (itemsFrom k b p n i)
 unfolding firstAtOrAbove
-first-passed k b key p zero i = rw (from-none k b p i) (sym (add-zero i))
-first-passed k b key p (suc n) i = either (bytesLe key (keyAt b k p i))
+first-passed k b key c p zero i = rw (from-none k b p i) (sym (add-zero i))
+first-passed k b key c p (suc n) i = either (bytesLe key (keyAt b k p i))
     (λ e. rw (from-cons k b p n i, e, firstAtOrAbove) (sym (add-zero i)))
-    (λ e. rw (from-cons k b p n i, e, firstAtOrAbove) (first-passed k b key p n (i + 1) ∙ omega arith))
+    (λ e. rw (from-cons k b p n i, e, firstAtOrAbove) (first-passed k b key c p n (i + 1) ∙ omega arith))
 
--- a leaf's entries with one more
-pub insert-at : (key c : List ℕ) (es : List Item)
-    → insertPair (byKey bytesOrder) (key, c) es ≡ take (passedCount key es) es ++ ((key, c) ∷ drop (passedCount key es) es)
-insert-at key c [] = refl
-insert-at key c (x ∷ xs) = either (bytesLe key (x .0)) (λ e. rw e) (λ e. rw e (ap (λ (l : List Item). x ∷ l) (insert-at key c xs)))
+module _ (le : Item → Item → Bool) (e : Item) where
+  pub passed-le : (es : List Item) → passedCount le e es ≤ length es
+  passed-le [] = omega arith
+  passed-le (x ∷ xs) = either (le e x) (λ t. rw t (omega arith)) (λ t. rw t (omega (arith, passed-le xs)))
 
--- a leaf has an entry's key exactly if the first entry that is not passed has it
-pub present-at : (key c : List ℕ) (es : List Item) → passedCount key es < length es
-    → present (byKey bytesOrder) (key, c) es ≡ bytesLe (itemOf (passedCount key es) es .0) key
-present-at key c [] h = absurd (omega arith)
-present-at key c (x ∷ xs) h = either (bytesLe key (x .0)) (λ e. rw e) (λ e. rw e (present-at key c xs (omega (arith, rw e at h))))
+  -- a leaf's entries with one more
+  pub insert-at : (es : List Item) → insertPair le e es ≡ take (passedCount le e es) es ++ (e ∷ drop (passedCount le e es) es)
+  insert-at [] = refl
+  insert-at (x ∷ xs) = either (le e x) (λ t. rw t) (λ t. rw t (ap (λ (l : List Item). x ∷ l) (insert-at xs)))
 
-pub present-none : (key c : List ℕ) (es : List Item) → passedCount key es ≡ length es → present (byKey bytesOrder) (key, c) es ≡ false
-present-none key c [] h = refl
-present-none key c (x ∷ xs) h = either (bytesLe key (x .0))
-    (λ e. absurd (omega (arith, rw e at h)))
-    (λ e. rw e (present-none key c xs (omega (arith, rw e at h))))
+  -- a leaf has an entry exactly if the first entry that is not passed is at or below it
+  pub present-at : (es : List Item) → passedCount le e es < length es → present le e es ≡ le (itemOf (passedCount le e es) es) e
+  present-at [] h = absurd (omega arith)
+  present-at (x ∷ xs) h = either (le e x) (λ t. rw t) (λ t. rw t (present-at xs (omega (arith, rw t at h))))
 
--- the first entry that is not passed is at or above the key
-pub passed-not : (key : List ℕ) (es : List Item) → passedCount key es < length es → bytesLe key (itemOf (passedCount key es) es .0) ≡ true
-passed-not key [] h = absurd (omega arith)
-passed-not key (x ∷ xs) h = either (bytesLe key (x .0)) (λ e. rw e e) (λ e. rw e (passed-not key xs (omega (arith, rw e at h))))
+  pub present-none : (es : List Item) → passedCount le e es ≡ length es → present le e es ≡ false
+  present-none [] h = refl
+  present-none (x ∷ xs) h = either (le e x)
+      (λ t. absurd (omega (arith, rw t at h)))
+      (λ t. rw t (present-none xs (omega (arith, rw t at h))))
 
--- the entry that an entry goes under is the first that is not passed, or the last
-pub chosen-passed : (key c : List ℕ) (es : List Item) → passedCount key es < length es → passedCount key es ≡ chosenAt (key, c) es
-chosen-passed key c [] h = absurd (omega arith)
-chosen-passed key c (x ∷ []) h = either (bytesLe key (x .0)) (λ e. rw e) (λ e. absurd (omega (arith, rw e at h)))
-chosen-passed key c (x ∷ y ∷ ys) h = either (bytesLe key (x .0))
-    (λ e. rw e)
-    (λ e. rw e (ap suc (chosen-passed key c (y ∷ ys) (omega (arith, rw e at h)))))
+  -- the first entry that is not passed is at or above it
+  pub passed-not : (es : List Item) → passedCount le e es < length es → le e (itemOf (passedCount le e es) es) ≡ true
+  passed-not [] h = absurd (omega arith)
+  passed-not (x ∷ xs) h = either (le e x) (λ t. rw t t) (λ t. rw t (passed-not xs (omega (arith, rw t at h))))
 
-pub chosen-last : (key c : List ℕ) (es : List Item) → passedCount key es ≡ length es → length es - 1 ≡ chosenAt (key, c) es
-chosen-last key c [] h = refl
-chosen-last key c (x ∷ []) h = refl
-chosen-last key c (x ∷ y ∷ ys) h = either (bytesLe key (x .0))
-    (λ e. absurd (omega (arith, rw e at h)))
-    (λ e. let below = chosen-last key c (y ∷ ys) (omega (arith, rw e at h)) in rw e (omega arith))
+  -- the entry that an entry leads to is the first that is not passed, or the last
+  pub place-passed : (es : List Item) → passedCount le e es < length es → passedCount le e es ≡ position (λ x y. not (le e x)) es
+  place-passed [] h = absurd (omega arith)
+  place-passed (x ∷ []) h = either (le e x) (λ t. rw t) (λ t. absurd (omega (arith, rw t at h)))
+  place-passed (x ∷ y ∷ ys) h = either (le e x)
+      (λ t. rw t)
+      (λ t. rw t (ap suc (place-passed (y ∷ ys) (omega (arith, rw t at h)))))
+
+  pub place-last : (es : List Item) → passedCount le e es ≡ length es → length es - 1 ≡ position (λ x y. not (le e x)) es
+  place-last [] h = refl
+  place-last (x ∷ []) h = refl
+  place-last (x ∷ y ∷ ys) h = either (le e x)
+      (λ t. absurd (omega (arith, rw t at h)))
+      (λ t. let below = place-last (y ∷ ys) (omega (arith, rw t at h)) in rw t (omega arith))
+
+-- the order of entries and the route above the leaves, by whether a key may have several records
+pub order-record : (f : ℕ) → eqb f 0 ≡ true → itemOrder f ≡ itemOrder 0
+order-record zero t = refl
+order-record (suc n) t = contra t (ne-eqb (suc n) 0 (λ q. omega arith))
+
+pub order-key : (f : ℕ) → eqb f 0 ≡ false → itemOrder f ≡ byKey bytesOrder
+order-key zero t = contra (eq-eqb 0 0 refl) t
+order-key (suc n) t = refl
+
+module _ (b : List ℕ) (e : Item) where
+  pub route-record : (f : ℕ) → eqb f 0 ≡ true → passesAbove f b e ≡ (λ x y. firstUpTo maxLevels b e y)
+  route-record zero t = refl
+  route-record (suc n) t = contra t (ne-eqb (suc n) 0 (λ q. omega arith))
+
+  pub route-key : (f : ℕ) → eqb f 0 ≡ false → passesAbove f b e ≡ passesLower bytesOrder e
+  route-key zero t = contra (eq-eqb 0 0 refl) t
+  route-key (suc n) t = refl

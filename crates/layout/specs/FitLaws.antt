@@ -2,6 +2,7 @@
 -- Assumes nothing.
 use Prim.Native.Nat.{ℕ, zero, suc, _+_, _-_, _*_, _≤_, _<_}
 use mathlib.Core.Path.{_≡_, refl, sym, ap, _∙_, subst}
+use mathlib.Core.Bool.{Bool}
 use mathlib.Core.List.{List, [], _∷_, _++_, append-assoc, append-nil}
 use native.Mathlib.Omega.{arith}
 use lib.ListN.{length, take, drop, length-append, length-take, length-drop}
@@ -12,11 +13,9 @@ use Rattle.octets.specs.Bytes.{toBe32}
 use Rattle.octets.specs.Store.{put}
 use Rattle.octets.specs.StoreLaws.{put-splice}
 use Rattle.octets.specs.NumberLaws.{length-toBe32}
-use Rattle.octets.specs.Order.{bytesLe}
-use Rattle.tree.specs.Pairs.{lastKey, byKey, insertPair}
+use Rattle.tree.specs.Pairs.{lastKey, insertPair}
 use Rattle.tree.specs.PairLaws.{insertPair-all}
 use Rattle.page.specs.Header.{maxKey}
-use Rattle.page.specs.KeyOrder.{bytesOrder}
 use Rattle.page.specs.Reading.{Item, items}
 use Rattle.layout.specs.Layout.{itemsIn, encode}
 use Rattle.layout.specs.Entries.{itemOf, replaced, twoFor, rootEntries, withoutEntry}
@@ -26,9 +25,9 @@ use Rattle.layout.specs.EntryLaws.{items-in-fit, listed-within}
 use Rattle.layout.specs.GatherLaws.{length-last, length-larger, put-next, spread}
 
 -- how many entries a leaf has with one more
-pub length-insert : (e : Item) (es : List Item) → length (insertPair (byKey bytesOrder) e es) ≡ length es + 1
-length-insert e [] = refl
-length-insert e (x ∷ xs) = either (bytesLe (e .0) (x .0)) (λ u. rw u (omega arith)) (λ u. rw u (ap suc (length-insert e xs) ∙ omega arith))
+pub length-insert : (le : Item → Item → Bool) (e : Item) (es : List Item) → length (insertPair le e es) ≡ length es + 1
+length-insert le e [] = refl
+length-insert le e (x ∷ xs) = either (le e x) (λ u. rw u (omega arith)) (λ u. rw u (ap suc (length-insert le e xs) ∙ omega arith))
 
 -- a property of entries and of those put in the place of entry i is one of all together
 replaced-all : (P : Item → Type 0) (i : ℕ) (f : Item → List Item) → ((x : Item) → P x → All P (f x)) → (es : List Item) → i < length es → All P es
@@ -55,8 +54,8 @@ length-replaced i f n h es inside = omega (
 
 -- the entries of a leaf with one more pair, and of a page with two in the place of one
 module _ (k : ℕ) (b key : List ℕ) (long : length key ≡ k) where
-  pub pair-fit : (r p : ℕ) → All (Fit k) (insertPair (byKey bytesOrder) (key, toBe32 r) (itemsIn k b p))
-  pair-fit r p = insertPair-all (byKey bytesOrder) (Fit k) (key, toBe32 r) (itemsIn k b p) (long, length-toBe32 r) (items-in-fit k b p)
+  pub pair-fit : (le : Item → Item → Bool) (r p : ℕ) → All (Fit k) (insertPair le (key, toBe32 r) (itemsIn k b p))
+  pair-fit le r p = insertPair-all le (Fit k) (key, toBe32 r) (itemsIn k b p) (long, length-toBe32 r) (items-in-fit k b p)
 
   pub two-fit : (i c q : ℕ) (es : List Item) → i < length es → All (Fit k) es → All (Fit k) (replaced i (twoFor k b key c q) es)
   two-fit i c q es inside f =
@@ -79,14 +78,14 @@ one-more {b} {k} {p} {n} room l h =
     let s = spread n l (omega arith) in
     record { key = l .key; page = l .page; count = omega arith; size = simp length-take (omega arith) }
 
-pub pair-read : (key : List ℕ) {b : List ℕ} {p n : ℕ} (r : ℕ) (zs : List ℕ) {room : List ℕ} → Listed b (length key) p n → roomSize ≤ length zs
-    → room ≡ put zs 0 (encode (insertPair (byKey bytesOrder) (key, toBe32 r) (itemsIn (length key) b p)))
-    → items (length key) (n + 1) (take ((n + 1) * (length key + 4)) room) ≡ insertPair (byKey bytesOrder) (key, toBe32 r) (itemsIn (length key) b p)
-pair-read key {b} {p} {n} r zs l h e =
+pub pair-read : (le : Item → Item → Bool) (key : List ℕ) {b : List ℕ} {p n : ℕ} (r : ℕ) (zs : List ℕ) {room : List ℕ} → Listed b (length key) p n
+    → roomSize ≤ length zs → room ≡ put zs 0 (encode (insertPair le (key, toBe32 r) (itemsIn (length key) b p)))
+    → items (length key) (n + 1) (take ((n + 1) * (length key + 4)) room) ≡ insertPair le (key, toBe32 r) (itemsIn (length key) b p)
+pair-read le key {b} {p} {n} r zs l h e =
     let s = spread n l (omega arith) in
     let es = itemsIn (length key) b p in
-    let count : length (insertPair (byKey bytesOrder) (key, toBe32 r) es) ≡ n + 1 = length-insert (key, toBe32 r) es ∙ rw (← l .count) in
-    gathered (length key) (n + 1) (insertPair (byKey bytesOrder) (key, toBe32 r) es) zs (pair-fit (length key) b key refl r p) count (omega arith) e
+    let count : length (insertPair le (key, toBe32 r) es) ≡ n + 1 = length-insert le (key, toBe32 r) es ∙ rw (← l .count) in
+    gathered (length key) (n + 1) (insertPair le (key, toBe32 r) es) zs (pair-fit (length key) b key refl le r p) count (omega arith) e
 
 pub two-read : (key : List ℕ) {b : List ℕ} {p n : ℕ} (i c q : ℕ) (zs : List ℕ) {room : List ℕ} → Listed b (length key) p n → i < n → roomSize ≤ length zs
     → room ≡ put zs 0 (encode (replaced i (twoFor (length key) b key c q) (itemsIn (length key) b p)))

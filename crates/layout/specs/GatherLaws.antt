@@ -1,7 +1,7 @@
 -- Laws: the bytes that are gathered for a page are those of the entries that the rule gives it. Assumes nothing.
 use Prim.Native.Nat.{ℕ, zero, suc, _+_, _-_, _*_, _≤_, _<_}
 use mathlib.Core.Path.{_≡_, refl, sym, ap, _∙_}
-use mathlib.Core.Bool.{true, false}
+use mathlib.Core.Bool.{Bool, true, false, not}
 use mathlib.Core.List.{List, [], _∷_, _++_, append-assoc}
 use native.Mathlib.Nat.{zero-add, add-zero, sub-zero, add-mul, mul-le-mul-right, one-mul}
 use native.Mathlib.Numerals.{add-one}
@@ -20,6 +20,7 @@ use Rattle.octets.specs.Order.{bytesLe, ordering, isEqual}
 use Rattle.octets.specs.OrderLaws.{le-total, le-antisym}
 use Rattle.tree.specs.Order.{larger}
 use Rattle.tree.specs.Pairs.{lastKey, byKey, present, insertPair}
+use Rattle.tree.specs.Position.{Passes, position}
 use Rattle.page.specs.Header.{maxKey, pageSize, isPage}
 use Rattle.page.specs.Page.{entryArea, capacity, entryOffset, keyAt, numberAt, firstAtOrAbove}
 use Rattle.page.specs.Within.{Within}
@@ -28,39 +29,36 @@ use Rattle.page.specs.KeyOrderLaws.{equal-le}
 use Rattle.page.specs.PageLaws.{capacity-small, entries-fit, entries-inside, within-entry, entry-within}
 use Rattle.page.specs.Reading.{Item}
 use Rattle.layout.specs.Layout.{itemsIn, encode}
-use Rattle.layout.specs.Entries.{chosenAt, itemOf, childOf, replaced, raised, twoFor, withoutEntry}
+use Rattle.layout.specs.Entries.{itemOf, childOf, replaced, raised, twoFor, withoutEntry}
 use Rattle.layout.specs.Given.{Listed}
 use Rattle.layout.specs.ItemLaws.{Fit, encode-append}
 use Rattle.layout.specs.EntryLaws.{itemsFrom, itemAt, items-in-fit, from-cons, take-from, drop-from, encode-from, entry-far, items-none}
 use Rattle.layout.specs.EntryLaws.{listed, listed-within, passedCount, passed-le, first-passed, insert-at, present-at, present-none}
-use Rattle.layout.specs.EntryLaws.{passed-not, chosen-passed, chosen-last}
+use Rattle.layout.specs.EntryLaws.{passed-not, place-passed, place-last}
 
 -- no page, no entries
 count-none : (k : ℕ) (b : List ℕ) (p : ℕ) → isPage (length b) p ≡ false → 0 ≡ length (itemsIn k b p)
 count-none k b p e = sym (ap length (items-none k b p e))
 
--- the search in a page that has entries, and the entry that is chosen
-module _ (key : List ℕ) {b : List ℕ} {p n i : ℕ} (l : Listed b (length key) p n) (e : i ≡ firstAtOrAbove (keyAt b (length key) p) key n 0) where
-  search-passed : i ≡ passedCount key (itemsIn (length key) b p)
-  search-passed = e ∙ first-passed (length key) b key p n 0 ∙ zero-add _ ∙ ap (passedCount key) (sym (listed l))
+-- where a search by an order of entries ends, in a page that has entries: the entry that it leads to, and whether a leaf has the entry looked for
+module _ (le : Item → Item → Bool) (item : Item) {b : List ℕ} {k p n i : ℕ} (l : Listed b k p n) (e : i ≡ passedCount le item (itemsIn k b p)) where
+  pub search-le : i ≤ n
+  search-le = omega (arith, e, passed-le le item (itemsIn k b p), l .count)
 
-  search-le : i ≤ n
-  search-le = omega (arith, search-passed, passed-le key (itemsIn (length key) b p), l .count)
+  pub search-place : (i ≡ n → ⊥) → i ≡ position (λ x y. not (le item x)) (itemsIn k b p)
+  search-place h = e ∙ place-passed le item (itemsIn k b p) (omega (arith, search-le, l .count))
 
--- where the search ends: the entry that the key goes under, and whether a leaf has the key
-module _ (key c : List ℕ) {b : List ℕ} {p n i : ℕ} (l : Listed b (length key) p n) (e : i ≡ firstAtOrAbove (keyAt b (length key) p) key n 0) where
-  pub search-chosen : (i ≡ n → ⊥) → i ≡ chosenAt (key, c) (itemsIn (length key) b p)
-  search-chosen h =
-      let s = search-passed key l e in
-      s ∙ chosen-passed key c (itemsIn (length key) b p) (omega (arith, search-le key l e, l .count))
+  pub search-last : i ≡ n → n - 1 ≡ position (λ x y. not (le item x)) (itemsIn k b p)
+  search-last h = ap (λ (m : ℕ). m - 1) (l .count) ∙ place-last le item (itemsIn k b p) (omega (arith, l .count))
 
-  pub search-last : i ≡ n → n - 1 ≡ chosenAt (key, c) (itemsIn (length key) b p)
-  search-last h =
-      let s = search-passed key l e in
-      ap (λ (m : ℕ). m - 1) (l .count) ∙ chosen-last key c (itemsIn (length key) b p) (omega (arith, l .count))
+  pub search-absent : i ≡ n → false ≡ present le item (itemsIn k b p)
+  search-absent h = sym (present-none le item (itemsIn k b p) (omega (arith, l .count)))
 
-  pub search-absent : i ≡ n → false ≡ present (byKey bytesOrder) (key, c) (itemsIn (length key) b p)
-  search-absent h = let s = search-passed key l e in sym (present-none key c (itemsIn (length key) b p) (omega (arith, l .count)))
+-- the search for a key
+pub key-passed : (key c : List ℕ) {b : List ℕ} {p n i : ℕ} → Listed b (length key) p n → i ≡ firstAtOrAbove (keyAt b (length key) p) key n 0
+    → i ≡ passedCount (byKey bytesOrder) (key, c) (itemsIn (length key) b p)
+key-passed key c {b} {p} {n} {i} l e =
+    e ∙ first-passed (length key) b key c p n 0 ∙ zero-add _ ∙ ap (passedCount (byKey bytesOrder) (key, c)) (sym (listed l))
 
 -- an entry by its number: the chosen one and the last
 get-from : (k : ℕ) (b : List ℕ) (p n i j : ℕ) (d : Item) → j < n → getD (itemsFrom k b p n i) j d ≡ itemAt k b p (i + j)
@@ -89,21 +87,30 @@ module _ {b : List ℕ} {k p n : ℕ} (l : Listed b k p n) where
   pub child-listed : (i : ℕ) → i < n → numberAt b k p i ≡ childOf i (itemsIn k b p)
   child-listed i h = sym (ap (λ (x : Item). be32 (x .1) 0) (get-listed i h) ∙ be32-window b (entryOffset k p i + k))
 
+-- a leaf has the entry looked for if the entry where the search ends is at or below it
+pub search-there : (le : Item → Item → Bool) (item : Item) {b : List ℕ} {k p n i : ℕ} → Listed b k p n → i ≡ passedCount le item (itemsIn k b p)
+    → (i ≡ n → ⊥) → le (itemAt k b p i) item ≡ present le item (itemsIn k b p)
+search-there le item {b} {k} {p} {n} {i} l e h =
+    let es = itemsIn k b p in
+    let inside : passedCount le item es < length es = omega (arith, search-le le item l e, l .count) in
+    rw (← get-listed l i (omega (arith, search-le le item l e)), e) (sym (present-at le item es inside))
+
 -- a leaf has the key if the entry where the search ends is equal to it
-pub search-equal : (key c : List ℕ) {b : List ℕ} {p n i : ℕ} {o : Ordering} → Listed b (length key) p n → i ≡ firstAtOrAbove (keyAt b (length key) p) key n 0
+pub search-equal : (key c : List ℕ) {b : List ℕ} {p n i : ℕ} {o : Ordering} → Listed b (length key) p n
+    → i ≡ passedCount (byKey bytesOrder) (key, c) (itemsIn (length key) b p)
     → (i ≡ n → ⊥) → o ≡ ordering (keyAt b (length key) p i) key → isEqual o ≡ present (byKey bytesOrder) (key, c) (itemsIn (length key) b p)
 search-equal key c {b} {p} {n} {i} l e h o =
     let es = itemsIn (length key) b p in
-    let s = search-passed key l e in
-    let inside : passedCount key es < length es = omega (arith, search-le key l e, l .count) in
-    let entry : itemOf i es .0 ≡ keyAt b (length key) p i = ap (λ (x : Item). x .0) (get-listed l i (omega (arith, search-le key l e))) in
-    let below : bytesLe key (keyAt b (length key) p i) ≡ true = rw (← entry, s) (passed-not key es inside) in
-    ap isEqual o ∙ equal-le (keyAt b (length key) p i) key below ∙ rw (← entry, s) (sym (present-at key c es inside))
+    let inside : passedCount (byKey bytesOrder) (key, c) es < length es = omega (arith, search-le (byKey bytesOrder) (key, c) l e, l .count) in
+    let entry : itemOf i es .0 ≡ keyAt b (length key) p i =
+    ap (λ (x : Item). x .0) (get-listed l i (omega (arith, search-le (byKey bytesOrder) (key, c) l e))) in
+    let below : bytesLe key (keyAt b (length key) p i) ≡ true = rw (← entry, e) (passed-not (byKey bytesOrder) (key, c) es inside) in
+    ap isEqual o ∙ equal-le (keyAt b (length key) p i) key below ∙ search-there (byKey bytesOrder) (key, c) l e h
 
 -- a page without entries, without such an entry, and one that has some
-pub chosen-none : (e : Item) (es : List Item) → length es ≡ 0 → 0 ≡ chosenAt e es
-chosen-none e [] h = refl
-chosen-none e (x ∷ xs) h = absurd (omega arith)
+pub position-none : (passes : Passes Item) (es : List Item) → length es ≡ 0 → 0 ≡ position passes es
+position-none passes [] h = refl
+position-none passes (x ∷ xs) h = absurd (omega arith)
 
 pub no-child : (i : ℕ) (es : List Item) → length es ≤ i → 0 ≡ childOf i es
 unfolding be32
@@ -194,36 +201,37 @@ module _ {b : List ℕ} {k p n : ℕ} (l : Listed b k p n) where
   length-before i h = let s = spread i l h in length-window b (entryOffset k p 0) (i * (k + 4)) (omega arith)
 
 -- a leaf's entries with one pair more
-module _ (key : List ℕ) {b : List ℕ} {p n i : ℕ} (l : Listed b (length key) p n) (e : i ≡ firstAtOrAbove (keyAt b (length key) p) key n 0) where
-  pair-bytes : (c : List ℕ) → encode (insertPair (byKey bytesOrder) (key, c) (itemsIn (length key) b p))
+module _ (le : Item → Item → Bool) (key c : List ℕ) {b : List ℕ} {p n i : ℕ} (l : Listed b (length key) p n)
+    (e : i ≡ passedCount le (key, c) (itemsIn (length key) b p)) where
+  pair-bytes : encode (insertPair le (key, c) (itemsIn (length key) b p))
       ≡ window b (entryOffset (length key) p 0) (i * (length key + 4)) ++ (key ++ (c ++ window b (entryOffset (length key) p i) ((n - i) * (length key + 4))))
   unfolding encode
-  pair-bytes c =
+  pair-bytes =
       let es = itemsIn (length key) b p in
-      let h = search-le key l e in
-      rw (insert-at key c es, ← search-passed key l e, encode-append (take i es) ((key, c) ∷ drop i es), before-bytes l i h, after-bytes l i h)
+      let h = search-le le (key, c) l e in
+      rw (insert-at le (key, c) es, ← e, encode-append (take i es) ((key, c) ∷ drop i es), before-bytes l i h, after-bytes l i h)
 
-  pub pair-gathered : (r : ℕ) (zs : List ℕ) {l1 l2 l3 l4 : List ℕ}
+  pub pair-gathered : length c ≡ 4 → (zs : List ℕ) {l1 l2 l3 l4 : List ℕ}
       → l1 ≡ put zs 0 (window b (entryOffset (length key) p 0) ((i - 0) * (length key + 4))) → l2 ≡ put l1 (i * (length key + 4)) key
-      → l3 ≡ put l2 (i * (length key + 4) + length key) (toBe32 r)
+      → l3 ≡ put l2 (i * (length key + 4) + length key) c
       → l4 ≡ put l3 (i * (length key + 4) + length key + 4) (window b (entryOffset (length key) p i) ((n - i) * (length key + 4)))
-      → l4 ≡ put zs 0 (encode (insertPair (byKey bytesOrder) (key, toBe32 r) (itemsIn (length key) b p)))
-  pair-gathered r zs e1 e2 e3 e4 =
+      → l4 ≡ put zs 0 (encode (insertPair le (key, c) (itemsIn (length key) b p)))
+  pair-gathered four zs e1 e2 e3 e4 =
       let first = window b (entryOffset (length key) p 0) (i * (length key + 4)) in
       let rest = window b (entryOffset (length key) p i) ((n - i) * (length key + 4)) in
-      let la = length-before l i (search-le key l e) in
+      let la = length-before l i (search-le le (key, c) l e) in
       let lb : length (first ++ key) ≡ i * (length key + 4) + length key = length-append first key ∙ rw la in
-      let lc : length ((first ++ key) ++ toBe32 r) ≡ i * (length key + 4) + length key + 4 =
-      length-append (first ++ key) (toBe32 r) ∙ rw (lb, length-toBe32 r) in
+      let lc : length ((first ++ key) ++ c) ≡ i * (length key + 4) + length key + 4 =
+      length-append (first ++ key) c ∙ rw (lb, four) in
       e4 ∙ rw (
         e3,
         e2,
         e1,
         sub-zero,
         put-next zs first key (i * (length key + 4)) la,
-        put-next zs (first ++ key) (toBe32 r) _ lb,
-        put-next zs ((first ++ key) ++ toBe32 r) rest _ lc,
-        pair-bytes (toBe32 r),
+        put-next zs (first ++ key) c _ lb,
+        put-next zs ((first ++ key) ++ c) rest _ lc,
+        pair-bytes,
       ) (ap (put zs 0) (simp append-assoc))
 
 -- the lengths of a last key and of the larger of two keys

@@ -6,7 +6,7 @@ use lib.ListN.{length, take, drop, replicate}
 use Rattle.octets.specs.Bytes.{toLe16, toLe32}
 use Rattle.octets.specs.Store.{put}
 use Rattle.tree.specs.Lists.{half}
-use Rattle.page.specs.Header.{pageSize, noPage, rootPlace, freePlace, sizePlace, expressionPlace, goodFeatures, freePointer, isPage}
+use Rattle.page.specs.Header.{pageSize, noPage, rootPlace, freePlace, sizePlace, expressionPlace, freePointer, isPage}
 use Rattle.page.specs.Page.{attributeAt, leftAt, rightAt, countPlace, leftPlace, rightPlace, entriesStart, entryArea}
 use Rattle.page.specs.Reading.{Item, itemsAt}
 
@@ -47,10 +47,9 @@ abbrev pub withSize : List ℕ → ℕ → List ℕ
 withSize b size = put b sizePlace (toLe32 size)
 
 -- a header written whole: "0-3 root offset, 4-7 free pointer, 8-11 file size F, 12-13 key length k, 14 features, 16-235 expression", all else zero
-abbrev pub headerBytes : ℕ → ℕ → ℕ → List ℕ → List ℕ
-headerBytes root size k e =
-    toLe32 root
-    ++ (toLe32 noPage ++ (toLe32 size ++ (toLe16 k ++ (goodFeatures ∷ 0 ∷ (e ++ replicate (pageSize - expressionPlace - length e) 0)))))
+abbrev pub headerBytes : ℕ → ℕ → ℕ → ℕ → List ℕ → List ℕ
+headerBytes root size k f e =
+    toLe32 root ++ (toLe32 noPage ++ (toLe32 size ++ (toLe16 k ++ (f ∷ 0 ∷ (e ++ replicate (pageSize - expressionPlace - length e) 0)))))
 
 -- the page at p with other entries: its count and its entry area
 unfoldable pub withEntries : List ℕ → ℕ → List Item → List ℕ

@@ -2,7 +2,7 @@
 
 -- Rules: the header and pages as bytes
 pub mod Layout
--- Rules: a page's entries after a pair goes in, a page below was split or an entry goes
+-- Rules: which entry a new entry goes under, and a page's entries after a pair goes in, a page below was split or an entry goes
 pub mod Entries
 -- Rules: the supply of new pages
 pub mod Supply
@@ -18,6 +18,8 @@ pub mod SupplyLaws
 pub mod EntryLaws
 -- Laws: the bytes gathered for a page are those of the rule's entries
 pub mod GatherLaws
+-- Laws: for features 0, the comparison of an entry with a pair, and the first leaf pair under an entry
+pub mod PairLaws
 -- Laws: the bytes gathered for a page are read back as the rule's entries
 pub mod FitLaws
 -- Steps: what the way of an entry meets at a page

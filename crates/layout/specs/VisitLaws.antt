@@ -42,7 +42,7 @@ module _ (b : List ℕ) (item : Item) (p : ℕ) where
       (λ t. bad-leaf (sym (rw t at e)))
 
   pub visited-child : (i : ℕ) (c : PageOffset) → visit.Child i c ≡ visitOf b item p → let es = itemsIn (length (item .0)) b p in
-      (isPage (length b) p ≡ true) × (leafBit (attributeAt b p) ≡ false) × (i ≡ chosenAt item es) × (c .0 ≡ childOf (chosenAt item es) es)
+      (isPage (length b) p ≡ true) × (leafBit (attributeAt b p) ≡ false) × (i ≡ chosenAt b item es) × (c .0 ≡ childOf (chosenAt b item es) es)
   unfolding visitOf
   visited-child i c e = either (isPage (length b) p)
       (λ t. either (leafBit (attributeAt b p))
@@ -61,6 +61,6 @@ module _ (b : List ℕ) (item : Item) (p : ℕ) where
   visit-leaf {a} t e h = rw (t, ← e, h)
 
   pub visit-child : {a i : ℕ} {c : PageOffset} → isPage (length b) p ≡ true → a ≡ attributeAt b p → leafBit a ≡ false
-      → i ≡ chosenAt item (itemsIn (length (item .0)) b p) → c .0 ≡ childOf i (itemsIn (length (item .0)) b p) → visit.Child i c ≡ visitOf b item p
+      → i ≡ chosenAt b item (itemsIn (length (item .0)) b p) → c .0 ≡ childOf i (itemsIn (length (item .0)) b p) → visit.Child i c ≡ visitOf b item p
   unfolding visitOf
   visit-child {a} {i} {c} t e h f q = rw (t, ← e, h, ← f, ← q)

@@ -15,6 +15,6 @@ use Rattle.layout.specs.declared.Visit.the-variants as visit
 unfoldable pub visitOf : List ℕ → Item → ℕ → Visit
 visitOf b e p =
     let es = itemsIn (length (e .0)) b p in
-    let i = chosenAt e es in
+    let i = chosenAt b e es in
     let child = visit.Child i (record { 0 = childOf i es }) in
     cond (isPage (length b) p) (cond (leafBit (attributeAt b p)) visit.Leaf child) visit.Bad

@@ -1,5 +1,5 @@
 -- Laws: the stores that write a header, a page's entries, a new page, a page that is split or one that becomes free are the rule's. Assumes nothing.
-use Prim.Native.Nat.{ℕ, _+_, _-_, _*_, _/_, _≤_}
+use Prim.Native.Nat.{ℕ, zero, suc, _+_, _-_, _*_, _/_, _≤_}
 use mathlib.Core.Path.{_≡_, refl, sym, ap, _∙_}
 use mathlib.Core.Bool.{true}
 use mathlib.Core.List.{List, [], _++_}
@@ -11,7 +11,7 @@ use Rattle.octets.specs.Bytes.{toLe16, toLe32}
 use Rattle.octets.specs.Store.{put}
 use Rattle.octets.specs.StoreLaws.{put-append, put-comm}
 use Rattle.octets.specs.NumberLaws.{length-toLe16, length-toLe32}
-use Rattle.page.specs.Header.{maxKey, pageSize, noPage, freePlace, keyLengthPlace, featuresPlace, expressionPlace, goodFeatures, freePointer, isPage}
+use Rattle.page.specs.Header.{maxKey, pageSize, noPage, freePlace, keyLengthPlace, featuresPlace, expressionPlace, maxFeatures, freePointer, isPage}
 use Rattle.page.specs.Page.{attributeAt, leftAt, rightAt, entriesStart, entryArea, capacity, entryOffset}
 use Rattle.page.specs.Reading.{Item, items}
 use Rattle.page.specs.PageLaws.{entries-fit, capacity-small}
@@ -23,17 +23,19 @@ use Rattle.layout.specs.Given.{Given, Over, roomSize}
 use Rattle.layout.specs.ItemLaws.{length-items, encode-items, take-items, drop-items}
 
 -- a header written whole, as the stores of its parts: the features are one byte, stored with the zero after it
-header-parts : (root size k : ℕ) (e : List ℕ)
-    → headerBytes root size k e
-    ≡ toLe32 root
-    ++ (toLe32 noPage ++ (toLe32 size ++ (toLe16 k ++ (toLe16 goodFeatures ++ (e ++ replicate (pageSize - expressionPlace - length e) 0)))))
+header-parts : (root size k f : ℕ) (e : List ℕ) → f ≤ maxFeatures
+    → headerBytes root size k f e
+    ≡ toLe32 root ++ (toLe32 noPage ++ (toLe32 size ++ (toLe16 k ++ (toLe16 f ++ (e ++ replicate (pageSize - expressionPlace - length e) 0)))))
 unfolding toLe16
-header-parts root size k e = refl
+header-parts root size k zero e h = refl
+header-parts root size k (suc zero) e h = refl
+header-parts root size k (suc (suc f)) e h = absurd (omega arith)
 
-pub header-by : (b e : List ℕ) (root size k : ℕ) {l1 l2 l3 l4 l5 l6 l7 : List ℕ} → l1 ≡ withRoot b root → l2 ≡ put l1 freePlace (toLe32 noPage)
-    → l3 ≡ withSize l2 size → l4 ≡ put l3 keyLengthPlace (toLe16 k) → l5 ≡ put l4 featuresPlace (toLe16 goodFeatures) → l6 ≡ put l5 expressionPlace e
-    → l7 ≡ put l6 (expressionPlace + length e) (replicate (pageSize - (expressionPlace + length e)) 0) → l7 ≡ put b 0 (headerBytes root size k e)
-header-by b e root size k e1 e2 e3 e4 e5 e6 e7 =
+pub header-by : (b e : List ℕ) (root size k f : ℕ) → f ≤ maxFeatures → {l1 l2 l3 l4 l5 l6 l7 : List ℕ} → l1 ≡ withRoot b root
+    → l2 ≡ put l1 freePlace (toLe32 noPage)
+    → l3 ≡ withSize l2 size → l4 ≡ put l3 keyLengthPlace (toLe16 k) → l5 ≡ put l4 featuresPlace (toLe16 f) → l6 ≡ put l5 expressionPlace e
+    → l7 ≡ put l6 (expressionPlace + length e) (replicate (pageSize - (expressionPlace + length e)) 0) → l7 ≡ put b 0 (headerBytes root size k f e)
+header-by b e root size k f few e1 e2 e3 e4 e5 e6 e7 =
     let z : pageSize - (expressionPlace + length e) ≡ pageSize - expressionPlace - length e = omega arith in
     e7
     ∙ rw (
@@ -44,7 +46,7 @@ header-by b e root size k e1 e2 e3 e4 e5 e6 e7 =
       e2,
       e1,
       z,
-      header-parts root size k e,
+      header-parts root size k f e few,
       put-append b 0 (toLe32 root),
       length-toLe32 root,
       put-append _ 4 (toLe32 noPage),
@@ -53,8 +55,8 @@ header-by b e root size k e1 e2 e3 e4 e5 e6 e7 =
       length-toLe32 size,
       put-append _ 12 (toLe16 k),
       length-toLe16 k,
-      put-append _ 14 (toLe16 goodFeatures),
-      length-toLe16 goodFeatures,
+      put-append _ 14 (toLe16 f),
+      length-toLe16 f,
       put-append _ 16 e,
     )
 

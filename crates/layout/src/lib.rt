@@ -8,18 +8,22 @@ ghost use mathlib.Core.List.{[]};
 ghost use Prim.Native.Nat.{ℕ, _+_, _-_, _*_, _≤_, _<_};
 ghost use lib.ListN.{length};
 ghost use Rattle.octets.specs.Store.{put, window};
+ghost use Rattle.octets.specs.Order.{bytesLe};
 ghost use Rattle.tree.specs.Order.{larger};
-ghost use Rattle.tree.specs.Pairs.{lastKey, byKey, present, insertPair};
-ghost use Rattle.page.specs.Header.{maxKey, pageSize, expressionPlace, isPage};
+ghost use Rattle.tree.specs.Pairs.{lastKey, present, insertPair};
+ghost use Rattle.tree.specs.Position.{position};
+ghost use Rattle.page.specs.Header.{maxKey, maxLevels, maxFeatures, pageSize, expressionPlace, features, isPage};
 ghost use Rattle.page.specs.Page.{entryOffset, keyAt};
 ghost use Rattle.page.specs.Within.{Within};
 ghost use Rattle.page.specs.KeyOrder.{bytesOrder};
 ghost use Rattle.page.specs.Reading.{items};
+ghost use Rattle.page.specs.EntryOrder.{itemOrder};
 ghost use Rattle.layout.specs.Layout.{withAttribute, withCount, withLeft, withRight, withRoot, withFree, withSize, headerBytes};
 ghost use Rattle.layout.specs.Layout.{itemsIn, encode, withEntries, newPage, linkBeyond, splitPage, linkBefore, unlinked, freed};
-ghost use Rattle.layout.specs.Entries.{stored, chosenAt, childOf, replaced, raised, twoFor, rootEntries, withoutEntry};
+ghost use Rattle.layout.specs.Entries.{stored, firstUpTo, chosenAt, placeIn, childOf, replaced, raised, twoFor, rootEntries, withoutEntry};
 ghost use Rattle.layout.specs.Supply.{supplyOf, takePage, supplyAfter, withSupply};
 ghost use Rattle.layout.specs.Given.{Given, Over, Listed, Lasts, roomSize};
+ghost use Rattle.layout.specs.EntryLaws.{itemAt, passedCount};
 ghost use Rattle.layout.specs.Visits.{visitOf};
 
 // The room in which the entries of a page are gathered: the entry area and one more entry with the longest key.
@@ -164,15 +168,22 @@ pub fn set_supply(index: &mut [u8], supply: Supply)
 }
 
 // Writes the whole header, with zeros after the key expression.
-pub fn new_header(index: &mut [u8], root: PageOffset, end: PageOffset, k: u32, expression: &[u8])
-    requires { ⌜ (pageSize ≤ length (now index)) × (expressionPlace + length (now expression) ≤ pageSize) ⌝ }
-    ensures { λ _. ⌜ now (index .exit) ≡ put (now (index .entry)) 0 (headerBytes (root .0) (end .0) k (now (expression .entry))) ⌝ }
+pub fn new_header(
+    index: &mut [u8],
+    root: PageOffset,
+    end: PageOffset,
+    k: u32,
+    features: u32,
+    expression: &[u8],
+)
+    requires { ⌜ (pageSize ≤ length (now index)) × (features ≤ maxFeatures) × (expressionPlace + length (now expression) ≤ pageSize) ⌝ }
+    ensures { λ _. ⌜ now (index .exit) ≡ put (now (index .entry)) 0 (headerBytes (root .0) (end .0) k features (now (expression .entry))) ⌝ }
 {
     set_root(index, root);
     octets::store_le32(index, page::FREE_PLACE, page::NO_PAGE);
     set_file_end(index, end);
     octets::store_le16(index, page::KEY_LENGTH_PLACE, k);
-    octets::store_le16(index, page::FEATURES_PLACE, page::GOOD_FEATURES);
+    octets::store_le16(index, page::FEATURES_PLACE, features);
     octets::copy_in(index, page::EXPRESSION_PLACE, expression);
     octets::fill(
         index,
@@ -305,17 +316,158 @@ pub fn entry_count(index: &[u8], k: usize, page: PageOffset) -> usize
     page::entry_count(index, k, index.len(), page)
 }
 
-// The number of the entry that `key` with its record number goes under: the first at or above `key`, else the last; 0 if the page has no entries. Keys are
-// distinct, so the record number is not looked at.
+// Whether entry `i` is at or above `key` with its record number: by key, then record number.
+fn pair_above(index: &[u8], key: &[u8], number: RecordNumber, page: PageOffset, i: usize) -> bool
+    requires { ⌜ Within (now index) (length (now key)) (page .0) (i + 1) ⌝ }
+    ensures { λ r. ⌜ r ≡ itemOrder 0 (stored (now (key .entry)) (number .0)) (itemAt (length (now (key .entry))) (now (index .entry)) (page .0) i) ⌝ }
+{
+    let order = page::compare_entry(index, page, i, key);
+    let other = page::record_number(index, key.len(), page, i);
+    if octets::is_equal(order) {
+        return number.0 <= other.0;
+    }
+    !octets::is_below(order)
+}
+
+// Whether entry `i` is at or below `key` with its record number: by key, then record number.
+fn pair_up_to(index: &[u8], key: &[u8], number: RecordNumber, page: PageOffset, i: usize) -> bool
+    requires { ⌜ Within (now index) (length (now key)) (page .0) (i + 1) ⌝ }
+    ensures { λ r. ⌜ r ≡ itemOrder 0 (itemAt (length (now (key .entry))) (now (index .entry)) (page .0) i) (stored (now (key .entry)) (number .0)) ⌝ }
+{
+    let order = page::compare_entry(index, page, i, key);
+    let other = page::record_number(index, key.len(), page, i);
+    if octets::is_equal(order) {
+        return other.0 <= number.0;
+    }
+    octets::is_below(order)
+}
+
+// Whether the key of entry `i` is at or below `key`.
+fn key_up_to(index: &[u8], key: &[u8], page: PageOffset, i: usize) -> bool
+    requires { ⌜ Within (now index) (length (now key)) (page .0) (i + 1) ⌝ }
+    ensures { λ r. ⌜ r ≡ bytesLe (keyAt (now (index .entry)) (length (now (key .entry))) (page .0) i) (now (key .entry)) ⌝ }
+{
+    let order = page::compare_entry(index, page, i, key);
+    if octets::is_equal(order) {
+        return true;
+    }
+    octets::is_below(order)
+}
+
+// Whether the first leaf pair under entry `i` is at or below `key` with its record number: down by first entries.
+fn first_up_to(index: &[u8], key: &[u8], number: RecordNumber, page: PageOffset, i: usize) -> bool
+    requires { ⌜ Within (now index) (length (now key)) (page .0) (i + 1) ⌝ }
+    ensures { λ r. ⌜ r ≡ firstUpTo maxLevels (now (index .entry)) (stored (now (key .entry)) (number .0))
+        (itemAt (length (now (key .entry))) (now (index .entry)) (page .0) i) ⌝ }
+{
+    let mut above = page;
+    let mut at = i;
+    let mut left = page::MAX_LEVELS;
+    while 0 < left {
+        let child = page::child(index, key.len(), above, at);
+        if entry_count(index, key.len(), child) == 0 {
+            return key_up_to(index, key, above, at);
+        }
+        let head = Page::at(index, child);
+        if page::is_leaf(head.attribute) {
+            return pair_up_to(index, key, number, child, 0);
+        }
+        above = child;
+        at = 0;
+        left -= 1;
+    }
+    key_up_to(index, key, above, at)
+}
+
+// The number of the entry of a page above the leaves that a pair goes under if a key may have several records: it goes on to the next entry as long as the
+// first leaf pair under that one is at or below it.
+fn chosen_record(
+    index: &[u8],
+    key: &[u8],
+    number: RecordNumber,
+    page: PageOffset,
+    count: usize,
+) -> usize
+    requires { ⌜ Listed (now index) (length (now key)) (page .0) count × (0 < count) ⌝ }
+    ensures { λ r. ⌜ r ≡ position (λ x y. firstUpTo maxLevels (now (index .entry)) (stored (now (key .entry)) (number .0)) y)
+        (itemsIn (length (now (key .entry))) (now (index .entry)) (page .0)) ⌝ }
+{
+    let mut i = 0;
+    while i + 1 < count {
+        if !first_up_to(index, key, number, page, i + 1) {
+            return i;
+        }
+        i += 1;
+    }
+    i
+}
+
+// The number of the entry of a page above the leaves that `key` with its record number goes under; 0 if the page has no entries. If keys are distinct, the
+// first at or above `key`, else the last.
 pub fn chosen_entry(index: &[u8], key: &[u8], number: RecordNumber, page: PageOffset) -> usize
     requires { ⌜ (length (now key) ≤ maxKey) × (isPage (length (now index)) (page .0) ≡ true) ⌝ }
-    ensures { λ r. ⌜ r ≡ chosenAt (stored (now (key .entry)) (number .0)) (itemsIn (length (now (key .entry))) (now (index .entry)) (page .0)) ⌝ }
+    ensures { λ r. ⌜ r ≡ chosenAt (now (index .entry)) (stored (now (key .entry)) (number .0))
+        (itemsIn (length (now (key .entry))) (now (index .entry)) (page .0)) ⌝ }
 {
     let count = entry_count(index, key.len(), page);
     if count == 0 {
         return 0;
     }
+    if page::several(index) {
+        return chosen_record(index, key, number, page, count);
+    }
     let i = page::first_at_or_above(index, page, count, key);
+    if i == count {
+        return count - 1;
+    }
+    i
+}
+
+// How many entries of a leaf are below `key` with its record number, if a key may have several records.
+fn pairs_below(
+    index: &[u8],
+    key: &[u8],
+    number: RecordNumber,
+    page: PageOffset,
+    count: usize,
+) -> usize
+    requires { ⌜ Listed (now index) (length (now key)) (page .0) count ⌝ }
+    ensures { λ r. ⌜ r ≡ passedCount (itemOrder 0) (stored (now (key .entry)) (number .0))
+        (itemsIn (length (now (key .entry))) (now (index .entry)) (page .0)) ⌝ }
+{
+    let mut i = 0;
+    while i < count {
+        if pair_above(index, key, number, page, i) {
+            return i;
+        }
+        i += 1;
+    }
+    i
+}
+
+// How many entries of a leaf are below `key` with its record number, before the first at or above it. If keys are distinct, by the keys alone.
+fn place(index: &[u8], key: &[u8], number: RecordNumber, page: PageOffset, count: usize) -> usize
+    requires { ⌜ Listed (now index) (length (now key)) (page .0) count ⌝ }
+    ensures { λ r. ⌜ r ≡ passedCount (itemOrder (features (now (index .entry)))) (stored (now (key .entry)) (number .0))
+        (itemsIn (length (now (key .entry))) (now (index .entry)) (page .0)) ⌝ }
+{
+    if page::several(index) {
+        return pairs_below(index, key, number, page, count);
+    }
+    page::first_at_or_above(index, page, count, key)
+}
+
+// The number of the entry of a leaf that `key` with its record number leads to: the first at or above it, else the last; 0 if the leaf has no entries.
+pub fn leaf_entry(index: &[u8], key: &[u8], number: RecordNumber, page: PageOffset) -> usize
+    requires { ⌜ (length (now key) ≤ maxKey) × (isPage (length (now index)) (page .0) ≡ true) ⌝ }
+    ensures { λ r. ⌜ r ≡ placeIn (now (index .entry)) (stored (now (key .entry)) (number .0))
+        (itemsIn (length (now (key .entry))) (now (index .entry)) (page .0)) ⌝ }
+{
+    let count = entry_count(index, key.len(), page);
+    if count == 0 {
+        return 0;
+    }
+    let i = place(index, key, number, page, count);
     if i == count {
         return count - 1;
     }
@@ -349,13 +501,35 @@ pub fn visit_page(index: &[u8], key: &[u8], number: RecordNumber, page: PageOffs
     Visit::Child(i, child_of(index, key.len(), page, i))
 }
 
-// Whether a leaf has `key`: the first entry at or above it is an equal one. Keys are distinct, so the record number is not looked at.
+// Whether a leaf has `key` with its record number, if a key may have several records: the first entry at or above them is at or below them.
+fn pair_present(
+    index: &[u8],
+    key: &[u8],
+    number: RecordNumber,
+    page: PageOffset,
+    count: usize,
+) -> bool
+    requires { ⌜ Listed (now index) (length (now key)) (page .0) count ⌝ }
+    ensures { λ r. ⌜ r ≡ present (itemOrder 0) (stored (now (key .entry)) (number .0))
+        (itemsIn (length (now (key .entry))) (now (index .entry)) (page .0)) ⌝ }
+{
+    let i = pairs_below(index, key, number, page, count);
+    if i == count {
+        return false;
+    }
+    pair_up_to(index, key, number, page, i)
+}
+
+// Whether a leaf has `key`, or, if a key may have several records, `key` with its record number: the first entry at or above it is an equal one.
 pub fn is_present(index: &[u8], key: &[u8], number: RecordNumber, page: PageOffset) -> bool
     requires { ⌜ (length (now key) ≤ maxKey) × (isPage (length (now index)) (page .0) ≡ true) ⌝ }
-    ensures { λ r. ⌜ r ≡ present (byKey bytesOrder) (stored (now (key .entry)) (number .0))
+    ensures { λ r. ⌜ r ≡ present (itemOrder (features (now (index .entry)))) (stored (now (key .entry)) (number .0))
         (itemsIn (length (now (key .entry))) (now (index .entry)) (page .0)) ⌝ }
 {
     let count = entry_count(index, key.len(), page);
+    if page::several(index) {
+        return pair_present(index, key, number, page, count);
+    }
     let i = page::first_at_or_above(index, page, count, key);
     if i == count {
         return false;
@@ -452,11 +626,11 @@ pub fn gather_pair(
 )
     requires { ⌜ Listed (now index) (length (now key)) (page .0) count × (roomSize ≤ length (now room)) ⌝ }
     ensures { λ _. ⌜ now (room .exit) ≡ put (now (room .entry)) 0
-        (encode (insertPair (byKey bytesOrder) (stored (now (key .entry)) (number .0))
+        (encode (insertPair (itemOrder (features (now (index .entry)))) (stored (now (key .entry)) (number .0))
         (itemsIn (length (now (key .entry))) (now (index .entry)) (page .0)))) ⌝ }
 {
     let k = key.len();
-    let i = page::first_at_or_above(index, page, count, key);
+    let i = place(index, key, number, page, count);
     let at = i * (k + 4);
     copy_entries(room, 0, index, k, page, 0, i);
     octets::copy_in(room, at, key);

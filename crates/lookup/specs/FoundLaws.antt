@@ -10,13 +10,14 @@ use lib.Dec.{eqb}
 use borrow.Author.Tests.{eq-eqb, ne-eqb, eqb-true, eqb-false}
 use Rattle.basis.specs.Tests.{either, impossible}
 use Rattle.octets.specs.Order.{ordering, isEqual}
-use Rattle.page.specs.Header.{maxLevels, rootOffset, fileSize, keyLength, headerGood}
+use Rattle.page.specs.Header.{maxLevels, rootOffset, fileSize, keyLength, features, headerGood}
 use Rattle.page.specs.Page.{attributeAt, countAt, leafBit, keyAt, numberAt, pageGood, firstAtOrAbove}
 use Rattle.page.specs.PageLaws.{first-bound}
 use Rattle.page.specs.KeyOrderLaws.{equal-same}
 use Rattle.page.specs.declared.PageOffset.{PageOffset}
 use Rattle.page.specs.declared.RecordNumber.{RecordNumber}
 use Rattle.lookup.specs.Lookup.{recordOf, entrySays, pageSays, visitRule, decided, lookupFrom, lookupRule}
+use Rattle.lookup.specs.LookupLaws.{steps-key}
 use Rattle.lookup.specs.declared.Visit.{Visit}
 use Rattle.lookup.specs.declared.Visit.the-variants as visit
 use Rattle.lookup.specs.declared.Answer.{Answer}
@@ -137,9 +138,10 @@ found-checked true true e = e
 found-checked true false e = impossible (cc)
 found-checked false fits e = impossible (cc)
 
--- Theorem: a key that lookup finds after n pages is the key of an entry in the n-th page visited, a leaf that passes lookup's checks, and the record is the
--- entry's
-pub found-is-equal : (b key : List ℕ) (r : RecordNumber) (n : ℕ) → lookupRule b key ≡ answer.Found r n → FoundAt b key r n
+-- Theorem: for features 1 a key that lookup finds after n pages is the key of an entry in the n-th page visited, a leaf that passes lookup's checks, and the
+-- record is the entry's
+pub found-is-equal : (b key : List ℕ) (r : RecordNumber) (n : ℕ) → eqb (features b) 0 ≡ false → lookupRule b key ≡ answer.Found r n → FoundAt b key r n
 unfolding lookupRule
-found-is-equal b key r n e =
-    from-found maxLevels b key (rootOffset b) r n (omega arith) (found-checked (headerGood b) (eqb (length key) (keyLength b)) e)
+found-is-equal b key r n one e =
+    from-found maxLevels b key (rootOffset b) r n (omega arith)
+    (sym (steps-key b key (features b) one) ∙ found-checked (headerGood b) (eqb (length key) (keyLength b)) e)

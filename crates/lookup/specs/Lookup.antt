@@ -6,21 +6,15 @@ use mathlib.Core.List.{List}
 use lib.ListN.{length}
 use lib.Dec.{eqb}
 use Rattle.octets.specs.Order.{ordering, isEqual}
-use Rattle.page.specs.Header.{maxLevels, rootOffset, fileSize, keyLength, headerGood}
+use Rattle.page.specs.Header.{maxLevels, rootOffset, fileSize, keyLength, features, headerGood}
 use Rattle.page.specs.Page.{attributeAt, countAt, leafBit, keyAt, numberAt, pageGood, firstAtOrAbove}
-use Rattle.page.specs.declared.PageOffset.{PageOffset}
-use Rattle.page.specs.declared.RecordNumber.{RecordNumber}
+use Rattle.lookup.specs.FirstRecord.{firstFrom}
+-- an entry's number, taken as the offset of a child or as the number of a record
+pub use Rattle.lookup.specs.FirstRecord.{offsetOf, recordOf}
 use Rattle.lookup.specs.declared.Visit.{Visit}
 use Rattle.lookup.specs.declared.Visit.the-variants as visit
 use Rattle.lookup.specs.declared.Answer.{Answer}
 use Rattle.lookup.specs.declared.Answer.the-variants as answer
-
--- an entry's number, taken as the offset of a child or as the number of a record
-abbrev pub offsetOf : ℕ → PageOffset
-offsetOf n = record { 0 = n }
-
-abbrev pub recordOf : ℕ → RecordNumber
-recordOf n = record { 0 = n }
 
 -- the code of the answer for an absent key
 abbrev pub absentCode : ℕ
@@ -56,12 +50,17 @@ lookupFrom zero b key p = answer.Refused 25
 lookupFrom (suc left) b key p =
     decided (lookupFrom left b key) (maxLevels - left) (visitRule b key p (eqb (maxLevels - left) 1) (eqb left 0))
 
--- the answer: "24, 27", then the steps from the root with 15 levels left
+-- the steps from the root with 15 levels left, by the header's features: "Lookup for 0 gives the key's first record"
+abbrev pub lookupSteps : ℕ → List ℕ → List ℕ → Answer
+lookupSteps zero b key = firstFrom maxLevels b key (rootOffset b)
+lookupSteps (suc n) b key = lookupFrom maxLevels b key (rootOffset b)
+
+-- the answer: "24, 27", then the steps
 unfoldable pub lookupRule : List ℕ → List ℕ → Answer
 lookupRule b key =
     elim (headerGood b) [
       | true ↦ elim (eqb (length key) (keyLength b)) [
-        | true ↦ lookupFrom maxLevels b key (rootOffset b)
+        | true ↦ lookupSteps (features b) b key
         | false ↦ answer.Refused 27
       ]
       | false ↦ answer.Refused 24

@@ -7,11 +7,13 @@ use native.Mathlib.Omega.{arith}
 use lib.ListN.{length}
 use lib.Dec.{eqb}
 use borrow.Author.Tests.{eq-eqb, ne-eqb}
+use Rattle.basis.specs.Tests.{contra}
 use Rattle.octets.specs.declared.Ordering.{Ordering}
 use Rattle.octets.specs.Order.{ordering, isEqual}
-use Rattle.page.specs.Header.{maxLevels}
+use Rattle.page.specs.Header.{maxLevels, rootOffset}
 use Rattle.page.specs.Page.{attributeAt, countAt, leafBit, keyAt, numberAt, firstAtOrAbove}
-use Rattle.lookup.specs.Lookup.{offsetOf, recordOf, entrySays, pageSays, visitRule, decided, lookupFrom}
+use Rattle.lookup.specs.Lookup.{offsetOf, recordOf, entrySays, pageSays, visitRule, decided, lookupFrom, lookupSteps}
+use Rattle.lookup.specs.FirstRecord.{firstFrom}
 use Rattle.lookup.specs.declared.Visit.{Visit}
 use Rattle.lookup.specs.declared.Visit.the-variants as visit
 
@@ -56,3 +58,13 @@ lookup-step zero b key p v w h e q = absurd (h refl)
 lookup-step (suc left) b key p v w h e q =
     let one-less : suc left - 1 ≡ left = omega arith in
     rw (← q, e, one-less)
+
+-- the steps by the header's features
+module _ (b key : List ℕ) where
+  pub steps-record : (f : ℕ) → eqb f 0 ≡ true → lookupSteps f b key ≡ firstFrom maxLevels b key (rootOffset b)
+  steps-record zero t = refl
+  steps-record (suc n) t = contra t (ne-eqb (suc n) 0 (λ q. omega arith))
+
+  pub steps-key : (f : ℕ) → eqb f 0 ≡ false → lookupSteps f b key ≡ lookupFrom maxLevels b key (rootOffset b)
+  steps-key zero t = contra (eq-eqb 0 0 refl) t
+  steps-key (suc n) t = refl

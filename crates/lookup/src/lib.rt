@@ -3,12 +3,14 @@ use page::Page;
 use page::PageOffset;
 use page::RecordNumber;
 ghost use mathlib.Core.Path.{_≡_};
-ghost use mathlib.Core.Bool.{Bool, true};
-ghost use Prim.Native.Nat.{ℕ, _≤_};
+ghost use mathlib.Core.Bool.{Bool, true, false};
+ghost use Prim.Native.Nat.{ℕ, _+_, _≤_};
 ghost use lib.ListN.{length};
 ghost use Rattle.page.specs.Header.{maxLevels, keyLength, headerGood};
 ghost use Rattle.page.specs.Page.{countAt};
 ghost use Rattle.page.specs.Within.{Within};
+ghost use Rattle.lookup.specs.FirstRecord.{entryDecides, neighbourDecides, firstFrom};
+ghost use Rattle.lookup.specs.Ways.{searchWay, wayFrom};
 ghost use Rattle.lookup.specs.Lookup.{pageSays, visitRule, lookupFrom, lookupRule, isFound};
 
 // What a page says of a key: it fails its checks, the key is absent or found, or the lookup goes on to a child.
@@ -16,6 +18,16 @@ pub enum Visit {
     Refused,
     Absent,
     Found(RecordNumber),
+    Child(PageOffset),
+}
+
+// The way from a page of an index in which a key may have several records: it fails its checks, the key is absent, an entry of the leaf or the right neighbour
+// decides, or the lookup goes on to a child.
+pub enum Way {
+    Refused,
+    Absent,
+    Entry(usize),
+    Neighbour(PageOffset),
     Child(PageOffset),
 }
 
@@ -76,16 +88,100 @@ fn lookup_from(index: &[u8], key: &[u8], page: PageOffset, levels: u32) -> Answe
     }
 }
 
+// The way past the search in a page, `first` if it is the first page visited.
+fn search_way(index: &[u8], key: &[u8], page: PageOffset, first: bool) -> Way
+    requires { ⌜ Within (now index) (length (now key)) (page .0) (countAt (now index) (page .0)) × (first ≡ false → 1 ≤ countAt (now index) (page .0)) ⌝ }
+    ensures { λ r. ⌜ r ≡ searchWay (now (index .entry)) (now (key .entry)) (page .0) first ⌝ }
+{
+    let head = Page::at(index, page);
+    let count = head.count as usize;
+    let i = page::first_at_or_above(index, page, count, key);
+    let leaf = page::is_leaf(head.attribute);
+    let right = head.right;
+    if i != count {
+        if leaf {
+            return Way::Entry(i);
+        }
+        return Way::Child(page::child(index, key.len(), page, i));
+    }
+    if first {
+        return Way::Absent;
+    }
+    if leaf {
+        return Way::Neighbour(right);
+    }
+    Way::Child(page::child(index, key.len(), page, count - 1))
+}
+
+// The way from a page: its checks come before its entries.
+fn way_from(index: &[u8], key: &[u8], page: PageOffset, first: bool, last: bool) -> Way
+    requires { ⌜ (headerGood (now index) ≡ true) × (length (now key) ≡ keyLength (now index)) ⌝ }
+    ensures { λ r. ⌜ r ≡ wayFrom (now (index .entry)) (now (key .entry)) (page .0) first last ⌝ }
+{
+    if !page::page_good(index, key.len(), page::file_size(index), page, first, last) {
+        return Way::Refused;
+    }
+    search_way(index, key, page, first)
+}
+
+// Entry `i` of a leaf decides, after `pages` pages.
+fn entry_decides(index: &[u8], key: &[u8], page: PageOffset, i: usize, pages: u32) -> Answer
+    requires { ⌜ Within (now index) (length (now key)) (page .0) (i + 1) ⌝ }
+    ensures { λ r. ⌜ r ≡ entryDecides (now (index .entry)) (now (key .entry)) pages (page .0) i ⌝ }
+{
+    if octets::is_equal(page::compare_entry(index, page, i, key)) {
+        return Answer::Found(page::record_number(index, key.len(), page, i), pages);
+    }
+    Answer::Absent(pages)
+}
+
+// The right neighbour of a leaf decides, after `pages` pages.
+fn neighbour_decides(index: &[u8], key: &[u8], right: PageOffset, pages: u32) -> Answer
+    requires { ⌜ (pages ≤ maxLevels) × (headerGood (now index) ≡ true) × (length (now key) ≡ keyLength (now index)) ⌝ }
+    ensures { λ r. ⌜ r ≡ neighbourDecides (now (index .entry)) (now (key .entry)) pages (right .0) ⌝ }
+{
+    if right.0 == page::NO_PAGE {
+        return Answer::Absent(pages);
+    }
+    if !page::page_good(index, key.len(), page::file_size(index), right, false, true) {
+        return Answer::Refused(refusal::INDEX_NOT_SOUND);
+    }
+    entry_decides(index, key, right, 0, pages + 1)
+}
+
+// Lookup of a key's first record from a page on, with `levels` levels left, in an index in which a key may have several.
+fn first_from(index: &[u8], key: &[u8], page: PageOffset, levels: u32) -> Answer
+    requires { ⌜ (levels ≤ maxLevels) × (headerGood (now index) ≡ true) × (length (now key) ≡ keyLength (now index)) ⌝ }
+    ensures { λ r. ⌜ r ≡ firstFrom levels (now (index .entry)) (now (key .entry)) (page .0) ⌝ }
+{
+    if levels == 0 {
+        return Answer::Refused(refusal::INDEX_NOT_SOUND);
+    }
+    let left = levels - 1;
+    let pages = page::MAX_LEVELS - left;
+    let way = way_from(index, key, page, pages == 1, left == 0);
+    match way {
+        Way::Refused => Answer::Refused(refusal::INDEX_NOT_SOUND),
+        Way::Absent => Answer::Absent(pages),
+        Way::Entry(i) => entry_decides(index, key, page, i, pages),
+        Way::Neighbour(right) => neighbour_decides(index, key, right, pages),
+        Way::Child(child) => first_from(index, key, child, left),
+    }
+}
+
 // Lookup from the root on, for a caller that has tested the header and the key's length. `lookup` is left with one caller in the archive, so that the compiler
 // takes it in there.
 pub fn lookup_from_root(index: &[u8], key: &[u8]) -> Answer
     requires { ⌜ (headerGood (now index) ≡ true) × (length (now key) ≡ keyLength (now index)) ⌝ }
     ensures { λ r. ⌜ r ≡ lookupRule (now (index .entry)) (now (key .entry)) ⌝ }
 {
+    if page::several(index) {
+        return first_from(index, key, page::root(index), page::MAX_LEVELS);
+    }
     lookup_from(index, key, page::root(index), page::MAX_LEVELS)
 }
 
-// The record of a key, or absent, with the number of pages visited.
+// The record of a key, the first if it has several, or absent, with the number of pages visited.
 pub fn lookup(index: &[u8], key: &[u8]) -> Answer
     ensures { λ r. ⌜ r ≡ lookupRule (now (index .entry)) (now (key .entry)) ⌝ }
 {

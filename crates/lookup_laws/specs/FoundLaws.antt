@@ -15,22 +15,24 @@ use Rattle.octets.specs.Order.{bytesLe, ordering, isEqual}
 use Rattle.tree.specs.ListLaws.{all-unit, all-map2}
 use Rattle.tree.specs.Pairs.{follow, seek, find}
 use Rattle.tree.specs.Tree.{Tree, pairs, lookup, onward, visited}
+use Rattle.tree.specs.Keeping.{goesOnFor}
 use Rattle.tree.specs.Ordered.{lookup-find, visited-found}
 use Rattle.tree.specs.StoreSteps.{storeLookup, storeVisited}
 use Rattle.tree.specs.StoreLookupLaws.{lookup-read, visited-read}
 use Rattle.tree.specs.Levels.{below, generation, all-of-map, all-of-concat}
-use Rattle.page.specs.Header.{maxLevels, isPage, rootOffset, fileSize, keyLength}
+use Rattle.page.specs.Header.{maxLevels, isPage, rootOffset, fileSize, keyLength, features, goodFeatures}
 use Rattle.page.specs.Page.{attributeAt, countAt, leafBit, capacity, keyAt, numberAt, attributeGood, countGood, pageGood}
 use Rattle.page.specs.PageLaws.{first-bound}
 use Rattle.page.specs.KeyOrder.{bytesOrder}
 use Rattle.page.specs.Reading.{entriesAt}
 use Rattle.page.specs.ReadingLaws.{entries-by-count}
 use Rattle.page.specs.SearchLaws.{firstEntry, seek-some, seek-none}
+use Rattle.lookup.specs.LookupLaws.{steps-key}
 use Rattle.lookup.specs.Lookup.{offsetOf, recordOf, entrySays, pageSays, visitRule, decided, lookupFrom, lookupRule}
 use Rattle.lookup.specs.declared.Visit.the-variants as visit
 use Rattle.lookup.specs.declared.Answer.{Answer}
 use Rattle.lookup.specs.declared.Answer.the-variants as answer
-use Rattle.sound.specs.Sound.{Sound, indexTree}
+use Rattle.sound.specs.Sound.{Sound, indexTree, keptBy}
 use Rattle.sound.specs.Rule.{Entries, attributeOf}
 use Rattle.sound.specs.RunLaws.{Fits}
 use Rattle.sound.specs.LevelLaws.{LevelGood}
@@ -44,13 +46,13 @@ answerOf none n = answer.Absent n
 answerOf (some r) n = answer.Found (recordOf r) n
 
 -- the entry that a search gives is at or above the key, and has the property that all entries have
-seek-le : (key : List ℕ) (es : Entries) (e : List ℕ × ℕ) → seek bytesOrder key es ≡ some e → bytesLe key (e .0) ≡ true
+pub seek-le : (key : List ℕ) (es : Entries) (e : List ℕ × ℕ) → seek bytesOrder key es ≡ some e → bytesLe key (e .0) ≡ true
 seek-le key [] e h = impossible (cc)
 seek-le key (x ∷ xs) e h = either (bytesLe key (x .0))
     (λ u. let d : some x ≡ some e = rw u at h in let q : x ≡ e = cc in subst (λ (y : List ℕ × ℕ). bytesLe key (y .0) ≡ true) q u)
     (λ u. seek-le key xs e (rw u at h))
 
-seek-all : (P : List ℕ × ℕ → Type 0) (key : List ℕ) (es : Entries) (e : List ℕ × ℕ) → All P es → seek bytesOrder key es ≡ some e → P e
+pub seek-all : (P : List ℕ × ℕ → Type 0) (key : List ℕ) (es : Entries) (e : List ℕ × ℕ) → All P es → seek bytesOrder key es ≡ some e → P e
 seek-all P key [] e a h = impossible (cc)
 seek-all P key (x ∷ xs) e a h = either (bytesLe key (x .0))
     (λ u. let d : some x ≡ some e = rw u at h in let q : x ≡ e = cc in subst P q (a .0))
@@ -63,24 +65,24 @@ equal-le a key h = either (bytesLe a key) (λ e. rw (e, h)) (λ e. rw e)
 
 -- the search of a page that is good, by the list of its entries
 module _ (b key : List ℕ) (size p : ℕ) (page : isPage size p ≡ true) (full : countAt b p ≤ capacity (length key)) where
-  abbrev k : ℕ
+  abbrev pub k : ℕ
   k = length key
 
   abbrev S : ℕ → Entries
   S = entriesAt (length key) size b
 
   -- what the search gives: the number of an entry, and in the list
-  abbrev i : ℕ
+  abbrev pub i : ℕ
   i = firstEntry b key (length key) p (countAt b p) 0
 
-  abbrev sought : Option (List ℕ × ℕ)
+  abbrev pub sought : Option (List ℕ × ℕ)
   sought = seek bytesOrder key (entriesAt (length key) size b p)
 
-  abbrev entry : List ℕ × ℕ
+  abbrev pub entry : List ℕ × ℕ
   entry = (keyAt b k p i, numberAt b k p i)
 
   -- no entry is at or above the key, or entry i is the first that is
-  searched : {X : Type 0} → (i ≡ countAt b p → sought ≡ none → X) → ((i ≡ countAt b p → ⊥) → sought ≡ some entry → X) → X
+  pub searched : {X : Type 0} → (i ≡ countAt b p → sought ≡ none → X) → ((i ≡ countAt b p → ⊥) → sought ≡ some entry → X) → X
   searched f g =
       let es = entries-by-count k size b p page full in
       let bound = first-bound (keyAt b k p) key (countAt b p) 0 in
@@ -122,14 +124,14 @@ module _ (b key : List ℕ) (size p : ℕ) (page : isPage size p ≡ true) (full
       (λ e s. rw (says-child l e, s) (ok entry s))
 
 -- an attribute that is good on its level passes lookup's checks, on the first page, on the last that may be, or on another
-attribute-passes : (root leaf last : Bool) → (leaf ≡ false → last ≡ false) → attributeGood (attributeOf root leaf) root last ≡ true
+pub attribute-passes : (root leaf last : Bool) → (leaf ≡ false → last ≡ false) → attributeGood (attributeOf root leaf) root last ≡ true
 unfolding attributeGood
 attribute-passes true true last h = refl
 attribute-passes false true last h = refl
 attribute-passes true false last h = rw (h refl)
 attribute-passes false false last h = rw (h refl)
 
-first-is : (n : ℕ) → eqb (n + 1) 1 ≡ eqb n 0
+pub first-is : (n : ℕ) → eqb (n + 1) 1 ≡ eqb n 0
 first-is n = either (eqb n 0)
     (λ e. eq-eqb (n + 1) 1 (omega (arith, eqb-true n 0 e)) ∙ sym e)
     (λ e. ne-eqb (n + 1) 1 (omega (arith, eqb-false n 0 e)) ∙ sym e)
@@ -228,31 +230,34 @@ module _ (b key : List ℕ) (s : Sound b) (e : length key ≡ keyLength b) where
       lookupFrom maxLevels b key r ≡ answerOf (storeLookup bytesOrder key h r S) (0 + length (storeVisited bytesOrder key h r S))
   steps = descends b key h few h 0 (maxLevels - 1) r [] (omega arith) (omega arith) (levels-along b key h few (suc h) 0 (rootEntry r) fine-levels .0)
 
-  -- Theorem: lookup's steps on a sound index, for a key of its length, are the theory's lookup in its tree
-  pub lookup-tree : lookupRule b key ≡ answerOf (lookup bytesOrder key h T) (length (visited bytesOrder key h T))
+  -- Theorem: for features 1 lookup's steps on a sound index, for a key of its length, are the theory's lookup in its tree
+  pub lookup-tree : eqb (features b) 0 ≡ false → lookupRule b key ≡ answerOf (lookup bytesOrder key h T) (length (visited bytesOrder key h T))
   unfolding lookupRule
-  lookup-tree =
+  lookup-tree one =
       let S = stored (keyLength b) in
       let v = storeVisited bytesOrder key h r (stored (keyLength b)) in
       let z : 0 + length v ≡ length v = omega arith in
       let d : lookupFrom maxLevels b key r ≡ answerOf (storeLookup bytesOrder key h r S) (length v) = rw (e, z) at steps in
       rw (s .header, eq-eqb (length key) (keyLength b) e, lookupRule)
-      (d ∙ ap₂ (λ (o : Option ℕ) (l : List ℕ). answerOf o (length l)) (sym (lookup-read bytesOrder S key h r)) (sym (visited-read bytesOrder S key h r)))
+      (steps-key b key (features b) one ∙ d ∙ ap₂ (λ (o : Option ℕ) (l : List ℕ). answerOf o (length l)) (sym (lookup-read bytesOrder S key h r))
+      (sym (visited-read bytesOrder S key h r)))
 
-  -- Theorem: lookup gives what the sorted list of the leaves' pairs has under the key, absent exactly if it has none
-  listed : lookup bytesOrder key h T ≡ find bytesOrder key (pairs h T)
-  listed = lookup-find bytesOrder key h T (sound-index b s (fileSize b) (omega arith) .ordered)
+  -- for features 1, whose lookup does not go on
+  module _ (one : features b ≡ goodFeatures) where
+    -- Theorem: lookup gives what the sorted list of the leaves' pairs has under the key, absent exactly if it has none
+    listed : lookup bytesOrder key h T ≡ find bytesOrder key (pairs h T)
+    listed = lookup-find (keptBy b) (ap (goesOnFor bytesOrder) one) key h T (sound-index b s (fileSize b) (omega arith) .ordered)
 
-  pub lookup-list : lookupRule b key ≡ answerOf (find bytesOrder key (pairs h T)) (length (visited bytesOrder key h T))
-  lookup-list = rw (← listed) lookup-tree
+    pub lookup-list : lookupRule b key ≡ answerOf (find bytesOrder key (pairs h T)) (length (visited bytesOrder key h T))
+    lookup-list = rw (← listed) (lookup-tree (ap (λ (n : ℕ). eqb n 0) one))
 
-  -- Theorem: a key that is there is found after as many pages as there are levels
-  pub found-pages : (n : ℕ) → find bytesOrder key (pairs h T) ≡ some n → lookupRule b key ≡ answer.Found (recordOf n) (h + 1)
-  found-pages n f =
-      let v = visited-found bytesOrder key h T n (listed ∙ f) in
-      let z : suc h ≡ h + 1 = omega arith in
-      lookup-list ∙ rw (f, v, z)
+    -- Theorem: a key that is there is found after as many pages as there are levels
+    pub found-pages : (n : ℕ) → find bytesOrder key (pairs h T) ≡ some n → lookupRule b key ≡ answer.Found (recordOf n) (h + 1)
+    found-pages n f =
+        let v = visited-found bytesOrder key h T n (listed ∙ f) in
+        let z : suc h ≡ h + 1 = omega arith in
+        lookup-list ∙ rw (f, v, z)
 
-  -- Theorem: a key that is not there is absent
-  pub absent-list : find bytesOrder key (pairs h T) ≡ none → lookupRule b key ≡ answer.Absent (length (visited bytesOrder key h T))
-  absent-list f = lookup-list ∙ rw f
+    -- Theorem: a key that is not there is absent
+    pub absent-list : find bytesOrder key (pairs h T) ≡ none → lookupRule b key ≡ answer.Absent (length (visited bytesOrder key h T))
+    absent-list f = lookup-list ∙ rw f

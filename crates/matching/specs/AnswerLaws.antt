@@ -14,7 +14,7 @@ use Rattle.table.specs.Table.{typeC, fieldCount, fieldType, fieldLength, firstR
 use Rattle.table.specs.TableLaws.{first-pass, first-fail}
 use Rattle.field.specs.Field.{numberGood}
 use Rattle.cell.specs.AnswerLaws.{table-small}
-use Rattle.page.specs.Header.{keyLength, headerGood}
+use Rattle.page.specs.Header.{keyLength, headerGood, features}
 use Rattle.sound.specs.Sound.{Sound, leafPairs}
 use Rattle.sound.specs.Rule.{pagesGood}
 use Rattle.sound.specs.Accepted.{accepted, answer-sound}
@@ -59,7 +59,7 @@ module _ (t b : List ℕ) (field : ℕ) where
       either (pagesGood b)
       (λ p.
       let s = accepted b header .0 p in
-      let test = test-exactly t field (leafPairs b s) (s .ascending) in
+      let test = test-exactly t field (leafPairs b s) (features b) (s .ascending) in
       either (entriesMatch t (columnOf t field) 0 (leafPairs b s))
       (λ e. matching none s (test .0 e))
       (λ e. other none s (λ m. contra (test .1 m) e)))

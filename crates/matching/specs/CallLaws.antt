@@ -18,7 +18,7 @@ use Rattle.table.specs.declared.Checked.the-variants.{Refused}
 use Rattle.field.specs.Field.{numberGood, formOf}
 use Rattle.field.specs.declared.FieldForm.{FieldForm}
 use Rattle.field.specs.FieldLaws.{number-range}
-use Rattle.page.specs.Header.{maxLevels, rootOffset, fileSize, keyLength, headerGood}
+use Rattle.page.specs.Header.{maxLevels, rootOffset, fileSize, keyLength, headerGood, features}
 use Rattle.sound.specs.Sound.{Sound, leafPairs, Audited}
 use Rattle.sound.specs.Rule.{maxPages}
 use Rattle.matching.specs.declared.Column.{Column}
@@ -156,7 +156,7 @@ module _ (t b : List ℕ) (field : ℕ) where
 
     -- a sound index, by the test of its entries
     test-of : (s : Sound b) → (entriesMatch t (columnOf t field) 0 (leafEntries b) ≡ true) ↔ Matches t field (leafPairs b s)
-    test-of s = rw (leaf-entries b s) (test-exactly t field (leafPairs b s) (s .ascending))
+    test-of s = rw (leaf-entries b s) (test-exactly t field (leafPairs b s) (features b) (s .ascending))
 
     module _ (sound : a ≡ 0) (r : Bool) (er : r ≡ entriesMatch t (columnOf t field) 0 (leafEntries b)) where
       pub answer-matched : r ≡ true → Matched t b field 0

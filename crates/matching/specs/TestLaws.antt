@@ -1,4 +1,5 @@
--- Laws: if the keys of entries ascend, the test that is computed holds exactly if the entries match. The proof of the match cites it. Assumes nothing.
+-- Laws: if entries ascend, by the order of either features, the test that is computed holds exactly if the entries match. The proof of the match cites it.
+-- Assumes nothing.
 use Prim.Native.Nat.{ℕ, _+_, _-_, _≤_}
 use mathlib.Core.Path.{_≡_, refl, sym, ap, _∙_}
 use mathlib.Core.Bool.{true, false}
@@ -11,13 +12,14 @@ use borrow.Author.Tests.{eqb-true, eq-eqb, ne-eqb, le-leb}
 use Rattle.basis.specs.Lists.{All, all-map}
 use Rattle.basis.specs.Tests.{either, contra, both, join}
 use Rattle.octets.specs.Order.{ordering, isEqual}
-use Rattle.octets.specs.OrderLaws.{le-refl}
 use Rattle.table.specs.Table.{recordCount}
 use Rattle.field.specs.Field.{numberGood}
 use Rattle.field.specs.FieldLaws.{number-range}
 use Rattle.cell.specs.Cell.{fieldStart, fieldBytes}
 use Rattle.tree.specs.Lists.{occ}
-use Rattle.tree.specs.Pairs.{Above, Ascending}
+use Rattle.tree.specs.Pairs.{Ascending}
+use Rattle.tree.specs.Keeping.{pairOrder, keepingOf}
+use Rattle.tree.specs.KeepingLaws.{pair-refl}
 use Rattle.tree.specs.Levels.{numbers, all-to-map}
 use Rattle.page.specs.KeyOrder.{bytesOrder}
 use Rattle.page.specs.KeyOrderLaws.{equal-same, equal-refl}
@@ -36,21 +38,23 @@ range-number i n l u = join _ _ (le-leb 1 i l) (le-leb i n u)
 same-equal : (a b : List ℕ) → a ≡ b → isEqual (ordering a b) ≡ true
 same-equal a b e = rw e (equal-refl b)
 
--- no record has two entries if the key of each entry is the field of its record: the two entries would have one key
-module _ (f : ℕ → List ℕ) where
+-- no record has two entries if the key of each entry is the field of its record: the two entries would be one pair. g are the header's features
+module _ (f : ℕ → List ℕ) (g : ℕ) where
   abbrev Own : List ℕ × ℕ → Type 0
   Own e = e .0 ≡ f (e .1)
 
-  own-differ : (e x : List ℕ × ℕ) → Own e → Own x → bytesOrder .le (x .0) (e .0) ≡ false → e .1 ≡ x .1 → ⊥
+  own-differ : (e x : List ℕ × ℕ) → Own e → Own x → pairOrder bytesOrder g x e ≡ false → e .1 ≡ x .1 → ⊥
   own-differ e x o p lt q =
-      let same : x .0 ≡ e .0 = p ∙ ap f (sym q) ∙ sym o in
-      contra (le-refl (e .0)) (rw same at lt)
+      let key : x .0 ≡ e .0 = p ∙ ap f (sym q) ∙ sym o in
+      let number : x .1 ≡ e .1 = sym q in
+      let same : x ≡ e = λ i. (key i, number i) in
+      contra (pair-refl (keepingOf bytesOrder g) e) (sym (ap (λ (z : List ℕ × ℕ). pairOrder bytesOrder g z e) same) ∙ lt)
 
-  none-later : (e : List ℕ × ℕ) (es : Entries) → Own e → All Own es → Above bytesOrder (e .0) es → occ (e .1) (numbers es) ≡ 0
+  none-later : (e : List ℕ × ℕ) (es : Entries) → Own e → All Own es → All (λ x. pairOrder bytesOrder g x e ≡ false) es → occ (e .1) (numbers es) ≡ 0
   none-later e [] o os v = refl
   none-later e (x ∷ es) o os v = rw (ne-eqb (e .1) (x .1) (own-differ e x o (os .0) (v .0))) (omega (arith, none-later e es o (os .1) (v .1)))
 
-  at-most-once : (es : Entries) → All (λ e. e .0 ≡ f (e .1)) es → Ascending bytesOrder es → (i : ℕ) → occ i (numbers es) ≤ 1
+  at-most-once : (es : Entries) → All (λ e. e .0 ≡ f (e .1)) es → Ascending (pairOrder bytesOrder g) es → (i : ℕ) → occ i (numbers es) ≤ 1
   at-most-once [] os a i = omega arith
   at-most-once (e ∷ es) os a i = either (eqb i (e .1))
       (λ q. let z : occ i (numbers es) ≡ 0 = rw (eqb-true i (e .1) q) (none-later e es (os .0) (os .1) (a .0)) in rw q (omega arith))
@@ -86,8 +90,8 @@ column-field : (t : List ℕ) (field i : ℕ) → columnBytes t (columnOf t fiel
 unfolding columnBytes fieldBytes fieldStart
 column-field t field i = refl
 
--- Theorem: if the keys ascend, the test holds exactly if the entries match
-module _ (t : List ℕ) (field : ℕ) (es : Entries) (ascending : Ascending bytesOrder es) where
+-- Theorem: if the entries ascend, the test holds exactly if they match
+module _ (t : List ℕ) (field : ℕ) (es : Entries) (g : ℕ) (ascending : Ascending (pairOrder bytesOrder g) es) where
   abbrev C : Column
   C = columnOf t field
 
@@ -104,7 +108,7 @@ module _ (t : List ℕ) (field : ℕ) (es : Entries) (ascending : Ascending byte
       let many : length (numbers es) ≡ recordCount t = omega (arith, length-map es (λ e. e .1), eqb-true (0 + length es) (recordCount t) (u .1)) in
       record {
         once = each-once (recordCount t) (numbers es) (all-to-map Ranged (λ e. e .1) es ranged)
-            (at-most-once (columnBytes t (columnOf t field)) es own ascending) many;
+            (at-most-once (columnBytes t (columnOf t field)) g es own ascending) many;
         keys = all-map (λ e. e .0 ≡ columnBytes t (columnOf t field) (e .1)) (λ e. e .0 ≡ fieldBytes t (e .1) field)
             (λ e q. q ∙ column-field t field (e .1)) es own;
         others = ranged;

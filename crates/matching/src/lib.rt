@@ -1,7 +1,7 @@
 // The match of an index against a field of a table. Document 01: "Match: table checks, index header, field number, field type C, field length k (27), audit,
 // then 31 unless each record 1 to n, whatever its deletion byte, has exactly one entry, its key that record's field, and there are no other entries."
 //
-// The leaf keys of a sound index ascend, so no two are equal. One pass along the leaves is therefore enough: if the key of each entry is the field of its
+// The leaf pairs of a sound index ascend, so no two are equal. One pass along the leaves is therefore enough: if the key of each entry is the field of its
 // record, no record has two entries; if there are as many entries as records, each record has one.
 use page::Page;
 use page::PageOffset;
@@ -77,7 +77,7 @@ fn leaves_good(table: &[u8], index: &[u8], column: Column, size: usize, first: P
 }
 
 // The first leaf of an index: down from the root by the first children.
-fn first_leaf(index: &[u8], k: usize, size: usize) -> PageOffset
+pub fn first_leaf(index: &[u8], k: usize, size: usize) -> PageOffset
     requires { ⌜ InFile (now index) k size ⌝ }
     ensures { λ r. ⌜ r .0 ≡ firstLeaf (now (index .entry)) k size (maxLevels - 1) (rootOffset (now (index .entry))) ⌝ }
 {

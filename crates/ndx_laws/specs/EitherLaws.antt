@@ -3,17 +3,21 @@
 use Prim.Native.Nat.{ℕ, _+_}
 use mathlib.Core.Path.{_≡_, ap, _∙_}
 use mathlib.Core.List.{List}
+use native.Mathlib.Omega.{arith}
 use lib.ListN.{length}
 use Rattle.tree.specs.Pairs.{get}
-use Rattle.tree.specs.PairLaws.{find-get}
-use Rattle.tree.specs.Tree.{visited}
+use Rattle.tree.specs.KeepingLaws.{find-get}
+use Rattle.tree.specs.Keeping.{distinctKeys}
+use Rattle.tree.specs.LookupFirst.{visitedBy}
+use Rattle.tree.specs.LookupLaws.{lookupBy-find}
 use Rattle.page.specs.KeyOrder.{bytesOrder}
 use Rattle.page.specs.Header as idx-header
 use Rattle.lookup.specs.Lookup as idx-lookup
 use Rattle.lookup.specs.declared.Answer.{Answer}
 use Rattle.lookup_laws.specs.FoundLaws.{answerOf}
-use Rattle.lookup_laws.specs.FoundLaws as idx-found
+use Rattle.lookup_laws.specs.HeldLaws.{lookup-by}
 use Rattle.sound.specs.Sound as idx
+use Rattle.sound.specs.IndexLaws.{sound-index}
 use Rattle.ndx.specs.Header as ndx-header
 use Rattle.ndx.specs.Lookup as ndx-lookup
 use Rattle.ndx_sound.specs.Reading as ndx-reading
@@ -27,14 +31,18 @@ pub record ByList (key : List ℕ) (pairs : List (List ℕ × ℕ)) (a : Answer)
   -- `get` takes the list as it stands, in any order: the first pair whose key is equal
   pub first : a ≡ answerOf (get bytesOrder key pairs) pages
 
--- Theorem: lookup in a sound IDX index
+-- Theorem: lookup in a sound IDX index of either features
 pub idx-by-list : (b key : List ℕ) (s : idx.Sound b) → length key ≡ idx-header.keyLength b → ByList key (idx.leafPairs b s) (idx-lookup.lookupRule b key)
-idx-by-list b key s e = record {
-  pages = length (visited bytesOrder key (s .height) (idx.indexTree b (s .height)));
-  first = idx-found.lookup-list b key s e
-      ∙ ap (λ o. answerOf o (length (visited bytesOrder key (s .height) (idx.indexTree b (s .height)))))
-      (find-get bytesOrder key (idx.leafPairs b s) (s .ascending));
-}
+idx-by-list b key s e =
+    let T = idx.indexTree b (s .height) in
+    let n = length (visitedBy (idx.keptBy b) key (s .height) T) in
+    record {
+      pages = n;
+      first = lookup-by b key s e
+          ∙ ap (λ o. answerOf o n)
+          (lookupBy-find (idx.keptBy b) key (s .height) T (sound-index b s (idx-header.fileSize b) (omega arith) .ordered)
+          ∙ find-get (idx.keptBy b) key (idx.leafPairs b s) (s .ascending));
+    }
 
 -- Theorem: lookup in a sound NDX index, which visits as many pages as there are levels
 pub ndx-by-list : (b key : List ℕ) (s : ndx.Sound b) → length key ≡ ndx-header.keyLength b
@@ -42,5 +50,5 @@ pub ndx-by-list : (b key : List ℕ) (s : ndx.Sound b) → length key ≡ ndx-he
 ndx-by-list b key s e = record {
   pages = s .height + 1;
   first = ndx-found.lookup-list b key s e
-      ∙ ap (λ o. answerOf o (s .height + 1)) (find-get bytesOrder key (ndx-reading.leafPairs b (s .height)) (s .ascending));
+      ∙ ap (λ o. answerOf o (s .height + 1)) (find-get (distinctKeys bytesOrder) key (ndx-reading.leafPairs b (s .height)) (s .ascending));
 }

@@ -9,8 +9,8 @@ use Rattle.basis.specs.Lists.{All, all-map}
 use Rattle.tree.specs.ListLaws.{all-map2}
 use Rattle.tree.specs.Order.{Order}
 use Rattle.tree.specs.Tree.{pairsUnder}
-use Rattle.tree.specs.Ordered.{Separated, OrderedUnder, Ordered}
-use Rattle.tree.specs.ClauseLaws.{separated-all}
+use Rattle.tree.specs.Keeping.{distinctKeys}
+use Rattle.tree.specs.Ordered.{Separated, OrderedUnder, SeparatedTree, separated-all}
 use Rattle.tree.specs.Store.{Store, readEntry, readTree}
 use Rattle.tree.specs.Levels.{join-map, below, generation, all-to-concat, all-of-concat}
 use Rattle.ndx_sound.specs.WalkLaws.{Good, Accept}
@@ -25,13 +25,13 @@ module _ {K : Type 0} (O : Order K) (most : ℕ) (S : Store K) (fits : Bool → 
   good-fitting zero e g = g
   good-fitting (suc h) e g = (
     g .0,
-    all-map (Good O most S fits h) (Fitting h) (good-fitting h) (S (e .1)) (separated-all O (Good O most S fits h) (λ d. pairsUnder h
+    all-map (Good O most S fits h) (Fitting h) (good-fitting h) (S (e .1)) (separated-all (distinctKeys O) (Good O most S fits h) (λ d. pairsUnder h
         (readEntry S h d)) (S (e .1)) (g .1)),
   )
 
-  separated-unread : (h : ℕ) → ((e : K × ℕ) → Fitting h e → OrderedUnder O h (readEntry S h e) → Good O most S fits h e) → (es : List (K × ℕ))
+  separated-unread : (h : ℕ) → ((e : K × ℕ) → Fitting h e → OrderedUnder (distinctKeys O) h (readEntry S h e) → Good O most S fits h e) → (es : List (K × ℕ))
       → All (Fitting h) es
-      → Separated O (OrderedUnder O h) (pairsUnder h) (map (readEntry S h) es) → Separated O (Good O most S fits h) (λ d. pairsUnder h (readEntry S h d)) es
+      → Separated (distinctKeys O) (OrderedUnder (distinctKeys O) h) (pairsUnder h) (map (readEntry S h) es) → Separated (distinctKeys O) (Good O most S fits h) (λ d. pairsUnder h (readEntry S h d)) es
   separated-unread h ok [] a c = tt
   separated-unread h ok (e ∷ es) a c = (
     record {
@@ -43,17 +43,17 @@ module _ {K : Type 0} (O : Order K) (most : ℕ) (S : Store K) (fits : Bool → 
     separated-unread h ok es (a .1) (c .1),
   )
 
-  fitting-good : (h : ℕ) (e : K × ℕ) → Fitting h e → OrderedUnder O h (readEntry S h e) → Good O most S fits h e
+  fitting-good : (h : ℕ) (e : K × ℕ) → Fitting h e → OrderedUnder (distinctKeys O) h (readEntry S h e) → Good O most S fits h e
   fitting-good zero e f o = f
   fitting-good (suc h) e f o = (f .0, separated-unread h (fitting-good h) (S (e .1)) (f .1) (o .1))
 
   -- Theorem: what the walk asks, both ways
   pub accept-fitting : (lone : Bool) (h p : ℕ) → Accept O most S fits lone h p → All (Fitting h) (S p)
   accept-fitting lone h p a =
-      all-map (Good O most S fits h) (Fitting h) (good-fitting h) (S p) (separated-all O (Good O most S fits h) (λ d. pairsUnder h (readEntry S h d)) (S p)
+      all-map (Good O most S fits h) (Fitting h) (good-fitting h) (S p) (separated-all (distinctKeys O) (Good O most S fits h) (λ d. pairsUnder h (readEntry S h d)) (S p)
       (a .1))
 
-  pub fitting-accept : (lone : Bool) (h p : ℕ) → fits lone h p ≡ true → All (Fitting h) (S p) → Ordered O h (readTree S h p) → Accept O most S fits lone h p
+  pub fitting-accept : (lone : Bool) (h p : ℕ) → fits lone h p ≡ true → All (Fitting h) (S p) → SeparatedTree (distinctKeys O) h (readTree S h p) → Accept O most S fits lone h p
   fitting-accept lone h p e f o = (e, separated-unread h (fitting-good h) (S p) f o)
 
   -- level by level

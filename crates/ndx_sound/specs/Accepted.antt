@@ -17,8 +17,8 @@ use Rattle.tree.specs.ListLaws.{all-unit, all-map2, nonEmpty-length, occ-all}
 use Rattle.tree.specs.InsertPages.{Distinct}
 use Rattle.tree.specs.Tree.{Entry, pairs, pairsUnder, pagesUnder, pages, level}
 use Rattle.tree.specs.Clauses.{least}
-use Rattle.tree.specs.ClauseLaws.{separated-all, ordered-ceilings}
-use Rattle.tree.specs.Ordered.{Separated, Ordered, ordered-ascending}
+use Rattle.tree.specs.ClauseLaws.{ordered-ceilings}
+use Rattle.tree.specs.Ordered.{Separated, SeparatedTree, Ordered, ordered-ascending, separated-all, separated-ordered}
 use Rattle.tree.specs.Store.{readEntry}
 use Rattle.tree.specs.Top.{top}
 use Rattle.page.specs.KeyOrder.{bytesOrder}
@@ -32,7 +32,7 @@ use Rattle.ndx.specs.Page.{countAt, lowerAt, keyAt, isLeaf, countGood}
 use Rattle.ndx_sound.specs.Reading.{Key, Entries, entriesFrom, branchEntries, readCount, entriesAt, indexTree, bare}
 use Rattle.ndx_sound.specs.ReadingLaws.{branch-entries}
 use Rattle.ndx_sound.specs.Sound.{indexPages, CountGood, NoLower, Sound, Audited}
-use Rattle.ndx_sound.specs.TreeLaws.{byTop, Fine, LeafPage, page-length, bare-ascending, fine, ordered}
+use Rattle.ndx_sound.specs.TreeLaws.{byTop, keptByTop, Fine, LeafPage, page-length, bare-ascending, fine, ordered}
 use Rattle.ndx_sound.specs.Walk.{Status, walk}
 use Rattle.ndx_sound.specs.Rule.{zeros, pageFits, heightFrom, indexHeight, start, complete, treeGood}
 use Rattle.ndx_sound.specs.CountLaws.{countAll, count-length, room-length}
@@ -121,7 +121,7 @@ height-few b (suc l) p = either (isPage (pageCount b) p && not (isLeaf b p))
     (λ e. let ih = height-few b l (lowerAt b p 0) in rw (e, heightFrom) (omega arith))
     (λ e. rw (e, heightFrom) (omega arith))
 
-first-child : (b : List ℕ) (p n : ℕ) (G : Key × ℕ → Type 0) (under : Key × ℕ → Entries) → Separated byTop G under (branchEntries b p n)
+first-child : (b : List ℕ) (p n : ℕ) (G : Key × ℕ → Type 0) (under : Key × ℕ → Entries) → Separated keptByTop G under (branchEntries b p n)
     → (o : Key) × G (o, lowerAt b p 0)
 unfolding entriesFrom
 first-child b p zero G under c = (none, c .0 .good)
@@ -152,7 +152,7 @@ good-heights b (suc h) es m a (suc i) l =
     let d : suc h - suc (suc i) ≡ h - suc i = omega arith in
     let G = Good byTop (pageCount b) (entriesAt b) (pageFits b) in
     let under = all-map (G (suc h)) (λ e. All (G h) (entriesAt b (e .1)))
-    (λ e g. separated-all byTop (G h) (λ x. pairsUnder h (readEntry (entriesAt b) h x)) (entriesAt b (e .1)) (g .1)) es a in
+    (λ e g. separated-all keptByTop (G h) (λ x. pairsUnder h (readEntry (entriesAt b) h x)) (entriesAt b (e .1)) (g .1)) es a in
     rw d (good-heights b h (below (entriesAt b) es) (omega arith) (all-to-concat (G h) (λ e. entriesAt b (e .1)) es under) i (omega arith))
 
 -- a leaf names no pages
@@ -198,7 +198,7 @@ module _ (b : List ℕ) (e : headerGood b ≡ true) where
 
     levels-accept : ((i : ℕ) → i ≤ h → All (λ x. FitAt h i (x .1)) (generation (entriesAt b) i ((none, rootPage b) ∷ [])))
         → All (λ x. 0 < x .1) (pairs h (indexTree b h))
-        → Ordered byTop h (indexTree b h) → Accept byTop (pageCount b) (entriesAt b) (pageFits b) true h (rootPage b)
+        → SeparatedTree keptByTop h (indexTree b h) → Accept byTop (pageCount b) (entriesAt b) (pageFits b) true h (rootPage b)
     levels-accept f n o =
         let z : h - 0 ≡ h = omega arith in
         let lower = levels-fitting byTop (pageCount b) S fits h (S r)
@@ -231,8 +231,8 @@ module _ (b : List ℕ) (e : headerGood b ≡ true) where
             (λ u. let n = ne-eqb (suc g - i) 0 (omega (arith, eqb-true i 0 u)) in rw (u, l ∙ n))
             (λ u. rw u)))
 
-    o : Ordered byTop h (indexTree b h)
-    o = separated-read byTop (pageCount b) S fits h (good-ordered byTop (pageCount b) S fits (fit-filled b) h) (S r) (a .1)
+    o : Ordered keptByTop h (indexTree b h)
+    o = separated-ordered byTop h (indexTree b h) (separated-read byTop (pageCount b) S fits h (good-ordered byTop (pageCount b) S fits (fit-filled b) h) (S r) (a .1))
 
     leaf-pages : All (λ (x : Key × ℕ). LeafPage b (x .1)) (generation (entriesAt b) h ((none, rootPage b) ∷ []))
     leaf-pages =
@@ -246,7 +246,7 @@ module _ (b : List ℕ) (e : headerGood b ≡ true) where
     heights (suc i) l =
         rw (below-root b i)
         (good-heights b h (S r) (omega arith)
-        (separated-all byTop (Good byTop (pageCount b) (entriesAt b) (pageFits b) h) (λ d. pairsUnder h (readEntry (entriesAt b) h d)) (S r) (a .1)) i
+        (separated-all keptByTop (Good byTop (pageCount b) (entriesAt b) (pageFits b) h) (λ d. pairsUnder h (readEntry (entriesAt b) h d)) (S r) (a .1)) i
         (omega arith))
 
     filled : (eqb h 0 ≡ false) → Filled (entriesAt b) (suc h) ((none, rootPage b) ∷ [])
@@ -265,7 +265,7 @@ module _ (b : List ℕ) (e : headerGood b ≡ true) where
         (λ q.
         let t = tree-pages S none r h z in
         let d = levels-distinct S (heightFrom b (maxLevels - 1)) h ((none, rootPage b) ∷ []) heights
-        (ascending-distinct S byTop h ((none, rootPage b) ∷ []) (filled q) (rw (tree-pairs S none r h) at (ordered-ascending byTop h (indexTree b h) o))) z in
+        (ascending-distinct S byTop h ((none, rootPage b) ∷ []) (filled q) (rw (tree-pairs S none r h) at (ordered-ascending keptByTop h (indexTree b h) o))) z in
         omega arith)
       where
         lone : (g : ℕ) → g ≡ 0 → (z : ℕ) → occ z (pages g (indexTree b g)) ≤ 1
@@ -288,11 +288,11 @@ module _ (b : List ℕ) (e : headerGood b ≡ true) where
           (at-numbers (λ i p. eqb (h - i) 0 ≡ true → NoLower b p) (λ i p l f u. f .lower (f .leaf ∙ u))) 0 (omega arith));
       levels = few;
       counts = generation-pages S none r h (CountGood b h) (at-numbers (λ i p. CountGood b h p) count-good);
-      ascending = bare-ascending b h leaf-pages (ordered-ascending byTop h (indexTree b h) o);
+      ascending = bare-ascending b h leaf-pages (ordered-ascending keptByTop h (indexTree b h) o);
       records = all-to-map (λ x. 0 < x .1) bare (pairs h (indexTree b h))
           (rw (tree-pairs S none r h, below-root b h) (fitting-pairs byTop (pageCount b) S fits h (S r) (accept-fitting byTop
           (pageCount b) S fits true h r a)));
-      ceilings = ordered-ceilings byTop h (indexTree b h) o;
+      ceilings = ordered-ceilings keptByTop h (indexTree b h) o;
     }
 
   -- a sound index is accepted
@@ -318,7 +318,7 @@ module _ (b : List ℕ) (e : headerGood b ≡ true) where
         (all-of-map (λ p. eqb (H - i) 0 ≡ true → NoLower b p) (λ x. x .1) (generation S i rootEntry) (no-lower i l))
 
     sound-accept : Accept byTop (pageCount b) (entriesAt b) (pageFits b) true (s .height) (rootPage b)
-    sound-accept = levels-accept H sound-fits (all-of-map (λ x. 0 < x .1) bare (pairs H (indexTree b H)) (s .records)) (ordered b s)
+    sound-accept = levels-accept H sound-fits (all-of-map (λ x. 0 < x .1) bare (pairs H (indexTree b H)) (s .records)) (ordered b s .separated)
 
     sound-count : suc (length (indexPages b (s .height))) ≡ pageCount b
     sound-count =

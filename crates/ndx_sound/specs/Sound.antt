@@ -7,8 +7,9 @@ use mathlib.Core.Logic.{_↔_, _⊎_}
 use lib.Dec.{eqb}
 use Rattle.basis.specs.Lists.{All}
 use Rattle.tree.specs.Lists.{occ}
-use Rattle.tree.specs.Pairs.{Ascending}
+use Rattle.tree.specs.Pairs.{byKey, Ascending}
 use Rattle.tree.specs.Tree.{pages, level}
+use Rattle.tree.specs.Keeping.{distinctKeys}
 use Rattle.tree.specs.Clauses.{least, Ceilings}
 use Rattle.tree.specs.Top.{top}
 use Rattle.page.specs.KeyOrder.{bytesOrder}
@@ -45,12 +46,12 @@ pub record Sound (b : List ℕ) : Type 0 where
   -- "Counts run from 1 to keys per page, 0 for a lone root leaf"
   pub counts : All (CountGood b height) (indexPages b height)
   -- "leaf keys ascend strictly"
-  pub ascending : Ascending bytesOrder (leafPairs b height)
+  pub ascending : Ascending (byKey bytesOrder) (leafPairs b height)
   -- "records above 0"
   pub records : All (λ e. 0 < e .1) (leafPairs b height)
   -- "A key above is a ceiling as in K1, the extra child having none": at or above every leaf key under its child, and below the first leaf key
   -- under the next child of the same page; the extra child's, which is none, is above all
-  pub ceilings : Ceilings (top bytesOrder) height (indexTree b height)
+  pub ceilings : Ceilings (distinctKeys (top bytesOrder)) height (indexTree b height)
 
 -- the audit's answer: 24 exactly where the header is not good, 0 exactly where the index is sound, 25 in every other case
 pub record Audited (b : List ℕ) (r : ℕ) : Type 0 where

@@ -12,8 +12,9 @@ use borrow.Author.Tests.{eq-eqb, ne-eqb, eqb-true, eqb-false, leb-true, le-leb}
 use Rattle.basis.specs.Lists.{All, all-map}
 use Rattle.basis.specs.Tests.{either, contra}
 use Rattle.tree.specs.Order.{Order}
+use Rattle.tree.specs.Keeping.{Keeping, distinctKeys}
 use Rattle.tree.specs.ListLaws.{all-map2}
-use Rattle.tree.specs.Pairs.{Above, Ascending}
+use Rattle.tree.specs.Pairs.{Above, byKey, Ascending}
 use Rattle.tree.specs.Tree.{Tree, pairs}
 use Rattle.tree.specs.Clauses.{least, Sized}
 use Rattle.tree.specs.ClauseLaws.{ceilings-ordered}
@@ -30,6 +31,10 @@ use Rattle.ndx_sound.specs.Sound.{CountGood, Sound}
 
 abbrev pub byTop : Order Key
 byTop = top bytesOrder
+
+-- leaf keys are distinct
+abbrev pub keptByTop : Keeping Key
+keptByTop = distinctKeys byTop
 
 -- what page p, j levels under the root of a sound index with so many levels under it, is
 pub record Fine (b : List ℕ) (height j p : ℕ) : Type 0 where
@@ -60,7 +65,7 @@ lower-filled b height j p f =
     (omega arith, l .1)
 
 -- keys with one more above all
-ascending-keyed : (xs : List (List ℕ × ℕ)) → Ascending bytesOrder xs → Ascending byTop (map (keyed bytesOrder) xs)
+ascending-keyed : (xs : List (List ℕ × ℕ)) → Ascending (byKey bytesOrder) xs → Ascending (byKey byTop) (map (keyed bytesOrder) xs)
 ascending-keyed [] a = tt
 ascending-keyed (x ∷ xs) a = (above-keyed (x .0) xs (a .0), ascending-keyed xs (a .1))
   where
@@ -72,7 +77,7 @@ all-keyed : (es : Entries) → All (λ e. keyed bytesOrder (bare e) ≡ e) es �
 all-keyed [] a = refl
 all-keyed (e ∷ es) a = let h = a .0 in let t = all-keyed es (a .1) in rw h (ap (λ l. e ∷ l) t)
 
-keyed-ascending : (xs : List (List ℕ × ℕ)) → Ascending byTop (map (keyed bytesOrder) xs) → Ascending bytesOrder xs
+keyed-ascending : (xs : List (List ℕ × ℕ)) → Ascending (byKey byTop) (map (keyed bytesOrder) xs) → Ascending (byKey bytesOrder) xs
 keyed-ascending [] a = tt
 keyed-ascending (x ∷ xs) a = (keyed-above (x .0) xs (a .0), keyed-ascending xs (a .1))
   where
@@ -100,7 +105,7 @@ module _ (b : List ℕ) (h : ℕ) (leaves : All (λ (e : Key × ℕ). LeafPage b
   keyed-pairs = all-keyed (pairs h (indexTree b h)) pairs-keyed
 
   -- the order of the pairs is that of the bare ones
-  pub bare-ascending : Ascending byTop (pairs h (indexTree b h)) → Ascending bytesOrder (leafPairs b h)
+  pub bare-ascending : Ascending (byKey byTop) (pairs h (indexTree b h)) → Ascending (byKey bytesOrder) (leafPairs b h)
   bare-ascending a = keyed-ascending (leafPairs b h) (rw keyed-pairs at a)
 
 -- from the root of a sound index down
@@ -171,5 +176,5 @@ module _ (b : List ℕ) (s : Sound b) where
       least-one zero n l = omega arith
       least-one (suc g) n l = l
 
-  pub ordered : Ordered byTop h T
-  ordered = ceilings-ordered byTop (keysPerPage b + 1) h T (sized .2) (rw listed (ascending-keyed (leafPairs b h) (s .ascending))) (s .ceilings)
+  pub ordered : Ordered keptByTop h T
+  ordered = ceilings-ordered keptByTop (keysPerPage b + 1) h T (sized .2) (rw listed (ascending-keyed (leafPairs b h) (s .ascending))) (s .ceilings)

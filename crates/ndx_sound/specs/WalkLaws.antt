@@ -14,10 +14,12 @@ use Rattle.tree.specs.Lists.{NonEmpty, concatMap}
 use Rattle.tree.specs.ListLaws.{nonEmpty-left}
 use Rattle.tree.specs.Order.{Order, Lt}
 use Rattle.tree.specs.OrderLaws.{le-refl, lt-le, lt-le-trans}
-use Rattle.tree.specs.Pairs.{lastKey, Below, Above, Ascending}
-use Rattle.tree.specs.PairLaws.{ascending-last, below-up, above-down}
+use Rattle.tree.specs.Pairs.{lastKey, byKey, Below, Above, Ascending}
+use Rattle.tree.specs.PairLaws.{below-up, above-down}
+use Rattle.tree.specs.Keeping.{distinctKeys}
+use Rattle.tree.specs.KeepingLaws.{ascending-last}
 use Rattle.tree.specs.Tree.{pairsUnder, pairs, pagesUnder, pages}
-use Rattle.tree.specs.Ordered.{Separated, OrderedUnder, ordered-ascending}
+use Rattle.tree.specs.Ordered.{Separated, OrderedUnder, separated-ordered}
 use Rattle.tree.specs.InsertOrdered.{separated-nonEmpty}
 use Rattle.tree.specs.Store.{Store, readEntry, readTree}
 use Rattle.tree.specs.Levels.{join-map}
@@ -99,9 +101,9 @@ module _ {K : Type 0} (O : Order K) (most : ℕ) where
   after-is none a e = refl
   after-is (some l) a e = rw e
 
-  last-below : (o : Option K) (a : K) (xs : List (K × ℕ)) → NonEmpty xs → Ascending O xs → atMost O (lastOf o xs) a ≡ true → Below O a xs
+  last-below : (o : Option K) (a : K) (xs : List (K × ℕ)) → NonEmpty xs → Ascending (byKey O) xs → atMost O (lastOf o xs) a ≡ true → Below O a xs
   last-below o a xs n c e =
-      below-up O (lastKey a xs) a (rw (lastOf-key o a xs n) at e) xs (ascending-last O a xs c)
+      below-up O (lastKey a xs) a (rw (lastOf-key o a xs n) at e) xs (ascending-last (distinctKeys O) a xs c)
 
   below-last : (o : Option K) (a : K) (xs : List (K × ℕ)) → NonEmpty xs → Below O a xs → atMost O (lastOf o xs) a ≡ true
   below-last o a [] n b = absurd n
@@ -148,12 +150,12 @@ module _ {K : Type 0} (O : Order K) (most : ℕ) where
   -- the children of a page, of which each walk f e is over the pairs `below e` and the pages qs e
   module _ (G : K × ℕ → Type 0) (below : K × ℕ → List (K × ℕ)) (qs : K × ℕ → List ℕ) (f : K × ℕ → Status K → Status K)
       (each : (e : K × ℕ) → Walks (G e) (below e) (qs e) (f e)) (has : (e : K × ℕ) → G e → NonEmpty (below e))
-      (ascends : (e : K × ℕ) → G e → Ascending O (below e)) where
+      (ascends : (e : K × ℕ) → G e → Ascending (byKey O) (below e)) where
     abbrev children : List (K × ℕ) → Status K → Status K
     children es s = over (under O) (passed O) f es s
 
     abbrev Sep : List (K × ℕ) → Type 0
-    Sep es = Separated O G below es
+    Sep es = Separated (distinctKeys O) G below es
 
     -- after a child and the key above it
     abbrev next : K × ℕ → Status K → Status K
@@ -271,10 +273,10 @@ module _ {K : Type 0} (O : Order K) (most : ℕ) where
     -- what the walk asks: of an entry, and of a page with h levels under it
     abbrev pub Good : (h : ℕ) → K × ℕ → Type 0
     Good zero e = 0 < e .1
-    Good (suc h) e = (fits false h (e .1) ≡ true) × Separated O (Good h) (λ d. pairsUnder h (readEntry S h d)) (S (e .1))
+    Good (suc h) e = (fits false h (e .1) ≡ true) × Separated (distinctKeys O) (Good h) (λ d. pairsUnder h (readEntry S h d)) (S (e .1))
 
     abbrev pub Accept : Bool → ℕ → ℕ → Type 0
-    Accept lone h p = (fits lone h p ≡ true) × Separated O (Good h) (λ d. pairsUnder h (readEntry S h d)) (S p)
+    Accept lone h p = (fits lone h p ≡ true) × Separated (distinctKeys O) (Good h) (λ d. pairsUnder h (readEntry S h d)) (S p)
 
     -- entering a page
     enter-walks : (lone : Bool) (h p : ℕ) (C : Type 0) (ps : List (K × ℕ)) (qs : List ℕ) (g : Status K → Status K) → Walks C ps qs g
@@ -295,8 +297,8 @@ module _ {K : Type 0} (O : Order K) (most : ℕ) where
     }
 
     -- entries read as the tree's
-    pub separated-read : (h : ℕ) → ((e : K × ℕ) → Good h e → OrderedUnder O h (readEntry S h e)) → (es : List (K × ℕ))
-        → Separated O (Good h) (λ d. pairsUnder h (readEntry S h d)) es → Separated O (OrderedUnder O h) (pairsUnder h) (map (readEntry S h) es)
+    pub separated-read : (h : ℕ) → ((e : K × ℕ) → Good h e → OrderedUnder (distinctKeys O) h (readEntry S h e)) → (es : List (K × ℕ))
+        → Separated (distinctKeys O) (Good h) (λ d. pairsUnder h (readEntry S h d)) es → Separated (distinctKeys O) (OrderedUnder (distinctKeys O) h) (pairsUnder h) (map (readEntry S h) es)
     separated-read h ok [] c = tt
     separated-read h ok (e ∷ es) c = (
       record {
@@ -313,7 +315,7 @@ module _ {K : Type 0} (O : Order K) (most : ℕ) where
     map-nonEmpty v (x ∷ xs) n = tt
 
     module _ (filled : (h p : ℕ) → fits false h p ≡ true → NonEmpty (S p)) where
-      pub good-ordered : (h : ℕ) (e : K × ℕ) → Good h e → OrderedUnder O h (readEntry S h e)
+      pub good-ordered : (h : ℕ) (e : K × ℕ) → Good h e → OrderedUnder (distinctKeys O) h (readEntry S h e)
       good-ordered zero e g = tt
       good-ordered (suc h) e g =
           (map-nonEmpty (readEntry S h) (S (e .1)) (filled h (e .1) (g .0)), separated-read h (good-ordered h) (S (e .1)) (g .1))
@@ -322,11 +324,11 @@ module _ {K : Type 0} (O : Order K) (most : ℕ) where
       good-has zero e g = tt
       good-has (suc h) e g =
           rw (join-map S (pairsUnder h) (readEntry S h) (S (e .1)))
-          (separated-nonEmpty O (Good h) (λ d. pairsUnder h (readEntry S h d)) (S (e .1)) (filled h (e .1) (g .0)) (g .1))
+          (separated-nonEmpty (distinctKeys O) (Good h) (λ d. pairsUnder h (readEntry S h d)) (S (e .1)) (filled h (e .1) (g .0)) (g .1))
 
-      good-ascends : (h : ℕ) (e : K × ℕ) → Good h e → Ascending O (below h e)
+      good-ascends : (h : ℕ) (e : K × ℕ) → Good h e → Ascending (byKey O) (below h e)
       good-ascends zero e g = (tt, tt)
-      good-ascends (suc h) e g = ordered-ascending O h (readTree S h (e .1)) (good-ordered (suc h) e g .1)
+      good-ascends (suc h) e g = separated-ordered O h (readTree S h (e .1)) (good-ordered (suc h) e g .1) .ascending
 
       -- the entries of a page with h levels under it, and all of them
       abbrev inner : ℕ → ℕ → Status K → Status K
@@ -339,7 +341,7 @@ module _ {K : Type 0} (O : Order K) (most : ℕ) where
       walk-is lone (suc h) p s = refl
 
       abbrev EntriesWalk : ℕ → ℕ → Type 0
-      EntriesWalk h p = Walks (Separated O (Good h) (λ d. pairsUnder h (readEntry S h d)) (S p))
+      EntriesWalk h p = Walks (Separated (distinctKeys O) (Good h) (λ d. pairsUnder h (readEntry S h d)) (S p))
           (concatMap (λ d. pairsUnder h (readEntry S h d)) (S p)) (concatMap (λ d. pagesUnder h (readEntry S h d)) (S p)) (inner h p)
 
       page-from : (lone : Bool) (h p : ℕ) → EntriesWalk h p → Walks (Accept lone h p) (pairs h (readTree S h p)) (pages h (readTree S h p))
@@ -347,7 +349,7 @@ module _ {K : Type 0} (O : Order K) (most : ℕ) where
       page-from lone h p w =
           rw (join-map S (pairsUnder h) (readEntry S h) (S p), join-map S (pagesUnder h) (readEntry S h) (S p))
           (same-walks (λ s. ifGood (inner h p) (enter O most S fits lone h p s)) (walk O most S fits lone h p) (walk-is lone h p)
-          (enter-walks lone h p (Separated O (Good h) (λ d. pairsUnder h (readEntry S h d)) (S p))
+          (enter-walks lone h p (Separated (distinctKeys O) (Good h) (λ d. pairsUnder h (readEntry S h d)) (S p))
           (concatMap (λ d. pairsUnder h (readEntry S h d)) (S p)) (concatMap (λ d. pagesUnder h (readEntry S h d)) (S p)) (inner h p) w))
 
       -- Theorem: a walk of page p with h levels under it is good exactly where all of it is accepted

@@ -62,9 +62,12 @@ keyLength b = le16 b keyLengthPlace
 abbrev pub features : List ℕ → ℕ
 features b = byteAt b featuresPlace
 
--- "features is 1"
+-- the features of an index with one record to a key; "Refusal 24 admits 0 and 1" (K12)
 abbrev pub goodFeatures : ℕ
 goodFeatures = 1
+
+abbrev pub maxFeatures : ℕ
+maxFeatures = 1
 
 -- p is the offset of "a page of F other than the first", in a file of `size` bytes
 unfoldable pub isPage : ℕ → ℕ → Bool
@@ -83,10 +86,10 @@ unfoldable pub freeGood : ℕ → ℕ → Bool
 freeGood size p = eqb p noPage || isPage size p
 
 -- "It is good when the buffer has at least 512 bytes, F is .., the root offset is a page of F other than the first, k is 1 to 100, the free pointer" is good
--- "and features is 1; else 24"
+-- and features is 0 or 1; "else 24"
 unfoldable pub headerGood : List ℕ → Bool
 headerGood b =
     leb pageSize (length b)
     && (sizeGood (length b) (fileSize b)
     && (isPage (fileSize b) (rootOffset b)
-    && (keyLengthGood (keyLength b) && (freeGood (fileSize b) (freePointer b) && eqb (features b) goodFeatures))))
+    && (keyLengthGood (keyLength b) && (freeGood (fileSize b) (freePointer b) && leb (features b) maxFeatures))))

@@ -6,7 +6,7 @@ use mathlib.Core.List.{List}
 use lib.ListN.{length}
 use borrow.Author.Tests.{leb-true, eqb-true, le-leb, eq-eqb}
 use Rattle.basis.specs.Tests.{both, join}
-use Rattle.page.specs.Header.{minBytes, maxBytes, maxKey, pageSize, rootOffset, freePointer, fileSize, keyLength, features, goodFeatures}
+use Rattle.page.specs.Header.{minBytes, maxBytes, maxKey, pageSize, rootOffset, freePointer, fileSize, keyLength, features, maxFeatures}
 use Rattle.page.specs.Header.{isPage, sizeGood, keyLengthGood, freeGood, headerGood}
 
 -- the offset of a page other than the first
@@ -42,7 +42,7 @@ pub record GoodHeader (b : List ℕ) : Type 0 where
   pub key-low : 1 ≤ keyLength b
   pub key-high : keyLength b ≤ maxKey
   pub free : freeGood (fileSize b) (freePointer b) ≡ true
-  pub plain : features b ≡ goodFeatures
+  pub plain : features b ≤ maxFeatures
 
 pub good-header : (b : List ℕ) → headerGood b ≡ true → GoodHeader b
 unfolding headerGood sizeGood
@@ -66,7 +66,7 @@ good-header b e =
       key-low = k .0;
       key-high = k .1;
       free = t5 .0;
-      plain = eqb-true _ _ (t5 .1);
+      plain = leb-true _ _ (t5 .1);
     }
 
 pub good-header-from : (b : List ℕ) → GoodHeader b → headerGood b ≡ true
@@ -76,4 +76,4 @@ good-header-from b h =
     (join _ _ (join _ _ (eq-eqb _ _ (h .whole)) (join _ _ (le-leb _ _ (h .least)) (join _ _ (le-leb _ _ (h .most)) (le-leb _ _ (h .within)))))
     (join _ _ (h .root)
     (join _ _ (join _ _ (le-leb _ _ (h .key-low)) (le-leb _ _ (h .key-high)))
-    (join _ _ (h .free) (eq-eqb _ _ (h .plain))))))
+    (join _ _ (h .free) (le-leb _ _ (h .plain))))))

@@ -78,7 +78,7 @@ pub entries-none : (k size : ℕ) (b : List ℕ) (p : ℕ) → isPage size p ≡
 unfolding entriesAt itemsAt
 entries-none k size b p e = rw e
 
-length-entries-from : (b : List ℕ) (k p n i : ℕ) → length (entriesFrom b k p n i) ≡ n
+pub length-entries-from : (b : List ℕ) (k p n i : ℕ) → length (entriesFrom b k p n i) ≡ n
 unfolding entriesFrom
 length-entries-from b k p zero i = refl
 length-entries-from b k p (suc n) i = ap suc (length-entries-from b k p n (i + 1))

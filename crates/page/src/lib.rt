@@ -4,10 +4,11 @@ ghost use mathlib.Core.Path.{_≡_};
 ghost use mathlib.Core.Bool.{Bool};
 ghost use Prim.Native.Nat.{ℕ, _+_, _≤_};
 ghost use lib.ListN.{length};
+ghost use lib.Dec.{eqb};
 ghost use Rattle.octets.specs.Bytes.{be32, toBe32};
 ghost use Rattle.octets.specs.Store.{put};
 ghost use Rattle.octets.specs.Order.{ordering};
-ghost use Rattle.page.specs.Header.{maxKey, maxOffset, pageSize, rootOffset, freePointer, fileSize, keyLength};
+ghost use Rattle.page.specs.Header.{maxKey, maxOffset, pageSize, rootOffset, freePointer, fileSize, keyLength, features};
 ghost use Rattle.page.specs.Header.{isPage, sizeGood, keyLengthGood, freeGood, headerGood};
 ghost use Rattle.page.specs.Page.{attributeAt, countAt, leftAt, rightAt, leafBit, capacity, entryOffset, keyAt, numberAt};
 ghost use Rattle.page.specs.Page.{attributeGood, countGood, pageGood, firstAtOrAbove};
@@ -28,8 +29,10 @@ pub const FEATURES_PLACE: usize = 14;
 
 pub const EXPRESSION_PLACE: usize = 16;
 
-// The features of every index that is handled.
+// The features of an index with one record to a key, and the highest that is handled: 0 is for several records to a key.
 pub const GOOD_FEATURES: u32 = 1;
+
+pub const MAX_FEATURES: u32 = 1;
 
 // The smallest index, in bytes: a header and one page.
 pub const MIN_BYTES: usize = 1024;
@@ -142,6 +145,14 @@ pub fn key_length(index: &[u8]) -> usize
     octets::load_le16(index, KEY_LENGTH_PLACE) as usize
 }
 
+// Whether a key of the index may have several records: features 0.
+pub fn several(index: &[u8]) -> bool
+    requires { ⌜ pageSize ≤ length (now index) ⌝ }
+    ensures { λ r. ⌜ r ≡ eqb (features (now (index .entry))) 0 ⌝ }
+{
+    octets::byte(index, FEATURES_PLACE) == 0
+}
+
 // Whether a page other than the first begins at an offset, in a file of `size` bytes.
 pub fn is_page(size: usize, page: PageOffset) -> bool
     ensures { λ r. ⌜ r ≡ isPage size (page .0) ⌝ }
@@ -191,7 +202,7 @@ pub fn header_good(index: &[u8]) -> bool
         & (is_page(size, root(index))
             & (key_length_good(key_length(index))
                 & (free_good(size, free_pointer(index))
-                    & (octets::byte(index, FEATURES_PLACE) == GOOD_FEATURES))))
+                    & (octets::byte(index, FEATURES_PLACE) <= MAX_FEATURES))))
 }
 
 // Whether an attribute that is 0 to 3 has the leaf bit.

@@ -1,4 +1,4 @@
--- Rules: what removal answers and leaves, in the "order 24, 27, 25 by full audit, then 33 if the key is absent".
+-- Rules: what removal answers and leaves, in the "order 24, 27, 25 by full audit, then 33" if that pair is absent, for features 1 the key.
 use Prim.Native.Nat.{ℕ}
 use mathlib.Core.Bool.{true, false}
 use mathlib.Core.List.{List}
@@ -6,8 +6,7 @@ use lib.ListN.{length}
 use lib.Dec.{eqb}
 use Rattle.page.specs.Header.{headerGood, keyLength}
 use Rattle.sound.specs.Rule.{pagesGood}
-use Rattle.lookup.specs.Lookup.{lookupRule, isFound}
-use Rattle.remove.specs.Removal.{removedBuffer}
+use Rattle.remove.specs.Removal.{isThere, removedBuffer}
 use Rattle.remove.specs.declared.Removal.{Removal}
 use Rattle.remove.specs.declared.Removal.the-variants.{Accepted, Refused}
 
@@ -20,17 +19,17 @@ abbrev pub afterCall : List ℕ → Removal → AfterCall
 afterCall b a = record { after = b; answer = a }
 
 -- what removal leaves and answers: a refusal leaves the buffer as it was
-unfoldable pub removeRule : List ℕ → List ℕ → AfterCall
-removeRule b key =
+unfoldable pub removeRule : List ℕ → List ℕ → ℕ → AfterCall
+removeRule b key number =
     elim (headerGood b) [
       | false ↦ afterCall b (Refused 24)
       | true ↦ elim (eqb (length key) (keyLength b)) [
         | false ↦ afterCall b (Refused 27)
         | true ↦ elim (pagesGood b) [
           | false ↦ afterCall b (Refused 25)
-          | true ↦ elim (isFound (lookupRule b key)) [
+          | true ↦ elim (isThere (keyLength b) b key number) [
             | false ↦ afterCall b (Refused 33)
-            | true ↦ afterCall (removedBuffer (keyLength b) b key) Accepted
+            | true ↦ afterCall (removedBuffer (keyLength b) b key number) Accepted
           ]
         ]
       ]

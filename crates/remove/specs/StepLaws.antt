@@ -2,22 +2,24 @@
 -- Assumes nothing.
 use Prim.Native.Nat.{ℕ, zero, suc, _-_, _≤_, _<_}
 use mathlib.Core.Path.{_≡_, refl, sym, ap, _∙_}
-use mathlib.Core.Bool.{true}
+use mathlib.Core.Bool.{true, false}
 use mathlib.Core.List.{List, [], _∷_}
 use native.Mathlib.Omega.{arith}
 use lib.ListN.{length}
 use borrow.Author.Tests.{lt-ltb, le-ltb}
 use Rattle.basis.specs.Tests.{either, impossible}
-use Rattle.page.specs.Header.{maxLevels, isPage, rootOffset, keyLength}
+use Rattle.tree.specs.Pairs.{present}
+use Rattle.page.specs.Header.{maxLevels, isPage, rootOffset, keyLength, features}
 use Rattle.page.specs.Reading.{Item}
+use Rattle.page.specs.EntryOrder.{itemOrder}
 use Rattle.page.specs.declared.PageOffset.{PageOffset}
 use Rattle.layout.specs.Layout.{itemsIn, withEntries, unlinked, freed}
-use Rattle.layout.specs.Entries.{stored, chosenAt, withoutEntry}
+use Rattle.layout.specs.Entries.{stored, placeIn, withoutEntry}
 use Rattle.layout.specs.Visits.{visitOf}
 use Rattle.layout.specs.VisitLaws.{visited-bad, visited-leaf, visited-child}
 use Rattle.layout.specs.FitLaws.{length-without}
 use Rattle.remove.specs.Removal.{Outcome as RuleOutcome, kept, emptied, bad, Step, step}
-use Rattle.remove.specs.Removal.{leftWith, takeOut, afterChild, removeUnder, atRoot, removedBuffer}
+use Rattle.remove.specs.Removal.{leftWith, takeOut, afterChild, thereFrom, isThere, removeUnder, atRoot, removedBuffer}
 use Rattle.remove.specs.Answers.{outcomeOf, EmptiedPage}
 use Rattle.remove.specs.declared.Outcome.{Outcome}
 use Rattle.remove.specs.declared.Outcome.the-variants.{Kept, Emptied, Bad}
@@ -63,7 +65,7 @@ module _ (b : List ℕ) (item : Item) (p : ℕ) where
   under-bad (suc left) some e = rw (visited-bad b item p e)
 
   pub under-leaf : (levels : ℕ) → (levels ≡ 0 → ⊥) → visit.Leaf ≡ visitOf b item p
-      → removeUnder (length (item .0)) levels b item p ≡ takeOut (length (item .0)) b p (chosenAt item (itemsIn (length (item .0)) b p))
+      → removeUnder (length (item .0)) levels b item p ≡ takeOut (length (item .0)) b p (placeIn b item (itemsIn (length (item .0)) b p))
   unfolding removeUnder
   under-leaf zero some e = absurd (some refl)
   under-leaf (suc left) some e = let v = visited-leaf b item p e in rw (v .0, v .1)
@@ -97,7 +99,33 @@ pub emptied-is : (n p : ℕ) (o : Outcome) → o ≡ Emptied → EmptiedPage n p
 emptied-is n p o e h = rw e at h
 
 -- the whole removal
-pub key-removed : (b key : List ℕ) {root : ℕ} {b′ out : List ℕ} {o : RuleOutcome} → length key ≡ keyLength b → root ≡ rootOffset b
-    → removeUnder (length key) maxLevels b (stored key 0) root ≡ step b′ o → out ≡ atRoot b′ root o → out ≡ removedBuffer (keyLength b) b key
+pub pair-removed : (b key : List ℕ) (r : ℕ) {root : ℕ} {b′ out : List ℕ} {o : RuleOutcome} → length key ≡ keyLength b → root ≡ rootOffset b
+    → removeUnder (length key) maxLevels b (stored key r) root ≡ step b′ o → out ≡ atRoot b′ root o → out ≡ removedBuffer (keyLength b) b key r
 unfolding removedBuffer
-key-removed b key ek er e q = q ∙ rw (← ek, ← er, e)
+pair-removed b key r ek er e q = q ∙ rw (← ek, ← er, e)
+
+-- whether the pair is there, by cases of the visit
+module _ (b : List ℕ) (item : Item) (p : ℕ) where
+  pub there-bad : (levels : ℕ) → (levels ≡ 0 → ⊥) → visit.Bad ≡ visitOf b item p → false ≡ thereFrom (length (item .0)) levels b item p
+  unfolding thereFrom
+  there-bad zero some e = absurd (some refl)
+  there-bad (suc left) some e = rw (visited-bad b item p e)
+
+  pub there-leaf : (levels : ℕ) → (levels ≡ 0 → ⊥) → visit.Leaf ≡ visitOf b item p
+      → present (itemOrder (features b)) item (itemsIn (length (item .0)) b p) ≡ thereFrom (length (item .0)) levels b item p
+  unfolding thereFrom
+  there-leaf zero some e = absurd (some refl)
+  there-leaf (suc left) some e = let v = visited-leaf b item p e in rw (v .0, v .1)
+
+  pub there-child : (levels i : ℕ) (c : PageOffset) → (levels ≡ 0 → ⊥) → visit.Child i c ≡ visitOf b item p
+      → thereFrom (length (item .0)) (levels - 1) b item (c .0) ≡ thereFrom (length (item .0)) levels b item p
+  unfolding thereFrom
+  there-child zero i c some e = absurd (some refl)
+  there-child (suc left) i c some e =
+      let v = visited-child b item p i c e in
+      let f : suc left - 1 ≡ left = omega arith in
+      rw (v .0, v .1, v .3, f)
+
+pub there-told : (b key : List ℕ) (r : ℕ) {root : ℕ} → length key ≡ keyLength b → root ≡ rootOffset b
+    → thereFrom (length key) maxLevels b (stored key r) root ≡ isThere (keyLength b) b key r
+there-told b key r ek er = rw (ek, er)

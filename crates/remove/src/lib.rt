@@ -1,4 +1,4 @@
-// Removal of a key.
+// Removal of a pair, or of a key.
 use layout::Visit;
 use page::PageOffset;
 use page::RecordNumber;
@@ -8,9 +8,9 @@ ghost use Prim.Native.Nat.{ℕ, _≤_};
 ghost use lib.ListN.{length};
 ghost use Rattle.page.specs.Header.{maxKey, isPage, keyLength, headerGood};
 ghost use Rattle.layout.specs.Layout.{itemsIn};
-ghost use Rattle.layout.specs.Entries.{stored, chosenAt};
+ghost use Rattle.layout.specs.Entries.{stored, placeIn};
 ghost use Rattle.layout.specs.Given.{roomSize};
-ghost use Rattle.remove.specs.Removal.{step, takeOut, afterChild, removeUnder, atRoot, removedBuffer};
+ghost use Rattle.remove.specs.Removal.{step, takeOut, afterChild, thereFrom, isThere, removeUnder, atRoot, removedBuffer};
 ghost use Rattle.remove.specs.Answers.{outcomeOf, EmptiedPage};
 ghost use Rattle.remove.specs.Calls.{afterCall, removeRule};
 
@@ -71,7 +71,7 @@ fn after_child(
     }
 }
 
-// Takes the entry that `key` leads to out of a leaf.
+// Takes the entry that `key` with its record number leads to out of a leaf.
 fn remove_in_leaf(
     index: &mut [u8],
     key: &[u8],
@@ -81,10 +81,10 @@ fn remove_in_leaf(
 ) -> Outcome
     requires { ⌜ (length (now key) ≤ maxKey) × (isPage (length (now index)) (page .0) ≡ true) × (roomSize ≤ length (now room)) ⌝ }
     ensures { λ r. ⌜ takeOut (length (now (key .entry))) (now (index .entry)) (page .0)
-        (chosenAt (stored (now (key .entry)) (number .0)) (itemsIn (length (now (key .entry))) (now (index .entry)) (page .0)))
+        (placeIn (now (index .entry)) (stored (now (key .entry)) (number .0)) (itemsIn (length (now (key .entry))) (now (index .entry)) (page .0)))
         ≡ step (now (index .exit)) (outcomeOf r) ⌝ }
 {
-    let i = layout::chosen_entry(index, key, number, page);
+    let i = layout::leaf_entry(index, key, number, page);
     take_out(index, key.len(), page, i, room)
 }
 
@@ -130,27 +130,44 @@ fn at_root(index: &mut [u8], root: PageOffset, below: Outcome)
     }
 }
 
-// Removes a key from an index that has it. Keys are distinct, so the record number 0 is not looked at.
-fn remove_key(index: &mut [u8], key: &[u8])
+// Removes `key` with its record number from an index that has it.
+fn remove_pair(index: &mut [u8], key: &[u8], number: RecordNumber)
     requires { ⌜ (headerGood (now index) ≡ true) × (length (now key) ≡ keyLength (now index)) ⌝ }
-    ensures { λ _. ⌜ now (index .exit) ≡ removedBuffer (keyLength (now (index .entry))) (now (index .entry)) (now (key .entry)) ⌝ }
+    ensures { λ _. ⌜ now (index .exit) ≡ removedBuffer (keyLength (now (index .entry))) (now (index .entry)) (now (key .entry)) (number .0) ⌝ }
 {
     let root = page::root(index);
     let mut room = [0u8; layout::ROOM];
-    let below = remove_under(
-        index,
-        key,
-        RecordNumber(0),
-        root,
-        page::MAX_LEVELS,
-        &mut room,
-    );
+    let below = remove_under(index, key, number, root, page::MAX_LEVELS, &mut room);
     at_root(index, root, below);
 }
 
-// Removes `key`.
-pub fn remove(index: &mut [u8], key: &[u8]) -> Removal
-    ensures { λ r. ⌜ removeRule (now (index .entry)) (now (key .entry)) ≡ afterCall (now (index .exit)) r ⌝ }
+// Whether the leaf that `key` with its record number leads to from a page, with `levels` levels left, has it.
+fn there_from(index: &[u8], key: &[u8], number: RecordNumber, page: PageOffset, levels: u32) -> bool
+    requires { ⌜ length (now key) ≤ maxKey ⌝ }
+    ensures { λ r. ⌜ r ≡ thereFrom (length (now (key .entry))) levels (now (index .entry)) (stored (now (key .entry)) (number .0)) (page .0) ⌝ }
+{
+    if levels == 0 {
+        return false;
+    }
+    let visit = layout::visit_page(index, key, number, page);
+    match visit {
+        Visit::Bad => false,
+        Visit::Leaf => layout::is_present(index, key, number, page),
+        Visit::Child(i, child) => there_from(index, key, number, child, levels - 1),
+    }
+}
+
+// Whether an index has `key` with its record number, or, if keys are distinct, `key`.
+fn is_there(index: &[u8], key: &[u8], number: RecordNumber) -> bool
+    requires { ⌜ (headerGood (now index) ≡ true) × (length (now key) ≡ keyLength (now index)) ⌝ }
+    ensures { λ r. ⌜ r ≡ isThere (keyLength (now (index .entry))) (now (index .entry)) (now (key .entry)) (number .0) ⌝ }
+{
+    there_from(index, key, number, page::root(index), page::MAX_LEVELS)
+}
+
+// Removes `key` with its record number, `number`; if keys are distinct, the number is not looked at.
+pub fn remove(index: &mut [u8], key: &[u8], number: RecordNumber) -> Removal
+    ensures { λ r. ⌜ removeRule (now (index .entry)) (now (key .entry)) (number .0) ≡ afterCall (now (index .exit)) r ⌝ }
 {
     if !page::header_good(index) {
         return Removal::Refused(refusal::INDEX_HEADER);
@@ -161,9 +178,9 @@ pub fn remove(index: &mut [u8], key: &[u8]) -> Removal
     if audit::audit(index) != 0 {
         return Removal::Refused(refusal::INDEX_NOT_SOUND);
     }
-    if !lookup::is_found(lookup::lookup_from_root(index, key)) {
+    if !is_there(index, key, number) {
         return Removal::Refused(refusal::KEY_ABSENT);
     }
-    remove_key(index, key);
+    remove_pair(index, key, number);
     Removal::Accepted
 }

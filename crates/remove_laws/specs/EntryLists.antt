@@ -1,44 +1,66 @@
 -- Laws: the route to a key on stored entries is the theory's, and an entry that goes or stays in a list is the same change of the list with numbers. Cited by
 -- the laws of removal on bytes. Assumes nothing.
-use mathlib.Core.Path.{_≡_, refl, ap, _∙_}
+use mathlib.Core.Path.{_≡_, refl, sym, ap, _∙_}
+use mathlib.Core.Bool.{not}
 use mathlib.Core.List.{List, [], _∷_, map}
 use mathlib.Core.Option.{some}
 use Prim.Native.Nat.{ℕ, zero, suc, _≤_, _<_}
 use native.Mathlib.Omega.{arith}
 use lib.ListN.{length, getD, List·getD-map}
 use Rattle.basis.specs.Lists.{All}
+use Rattle.octets.specs.Bytes.{be32}
 use Rattle.tree.specs.Lists.{occ}
 use Rattle.tree.specs.ListLaws.{occ-append}
-use Rattle.tree.specs.Keeping.{Route, distinctKeys}
-use Rattle.tree.specs.Position.{passesLower}
+use Rattle.tree.specs.Keeping.{Route}
+use Rattle.tree.specs.Position.{Passes, position}
 use Rattle.tree.specs.Removal.{replaceBy}
-use Rattle.tree.specs.RouteLaws.{position-within, position-map}
+use Rattle.tree.specs.RouteLaws.{position-within}
 use Rattle.tree.specs.Store.{Store, readEntry}
 use Rattle.tree.specs.StoreInsertLaws.{pagesOf}
 use Rattle.tree.specs.StoreRemoval.{memberAt, storePosition}
-use Rattle.tree.specs.StoreRemovalLaws.{position-read}
+use Rattle.tree.specs.StoreRouteLaws.{position-read}
 use Rattle.tree.specs.Tree.{pagesUnder}
+use Rattle.page.specs.Header.{maxLevels, features}
 use Rattle.page.specs.KeyOrder.{bytesOrder}
 use Rattle.page.specs.Reading.{Item, numbered}
-use Rattle.layout.specs.Entries.{chosenAt, itemOf, withoutEntry}
+use Rattle.page.specs.EntryOrder.{itemOrder, itemRoute}
+use Rattle.page.specs.ItemLaws.{route-numbered}
+use Rattle.layout.specs.Entries.{passesAbove, chosenAt, placeIn, itemOf, withoutEntry}
+use Rattle.sound.specs.Sound.{keptBy}
+use Rattle.layout_laws.specs.EntryLaws.{entriesIn}
+use Rattle.insert_laws.specs.ItemLists.{Shaped, position-numbered}
 
 -- the route of a stored entry, in the theory's words
-abbrev pub routeOf : Item → Route (List ℕ)
-routeOf item = distinctKeys bytesOrder .route (numbered item)
+abbrev pub routeOf : List ℕ → Item → Route (List ℕ)
+routeOf b item = keptBy b .route (numbered item)
 
 -- entry i of a list; without bytes if there is no such entry
 abbrev pub entryAt : ℕ → List (List ℕ × ℕ) → List ℕ × ℕ
 entryAt i es = getD es i (numbered ([], []))
 
--- the number of the entry gone through, and that entry
-pub route-is : (item : Item) (S : Store (List ℕ)) (h : ℕ) (es : List Item) → storePosition (routeOf item) h S (map numbered es) ≡ chosenAt item es
-route-is item S h es =
-    position-read bytesOrder (numbered item) h S (map numbered es)
-    ∙ position-map numbered (passesLower bytesOrder item) (passesLower bytesOrder (numbered item)) (λ x y. refl) es
+-- the number of the entry gone through, in a leaf
+leaf-passes : (f : ℕ) (item : Item) (S : Store (List ℕ)) → itemRoute f item S zero ≡ (λ x y. not (itemOrder f item x))
+leaf-passes zero item S = refl
+leaf-passes (suc n) item S = refl
 
-pub route-inside : (item : Item) (es : List Item) → 0 < length es → chosenAt item es < length es
-route-inside item [] h = h
-route-inside item (x ∷ xs) h = position-within (passesLower bytesOrder item) x xs
+pub leaf-is : (b : List ℕ) (item : Item) (S : Store (List ℕ)) (es : List Item) → storePosition (routeOf b item) zero S (map numbered es) ≡ placeIn b item es
+leaf-is b item S es =
+    sym (route-numbered (features b) item S zero es) ∙ ap (λ (P : Passes Item). position P es) (leaf-passes (features b) item S)
+
+pub leaf-inside : (b : List ℕ) (item : Item) (es : List Item) → 0 < length es → placeIn b item es < length es
+leaf-inside b item [] h = h
+leaf-inside b item (x ∷ xs) h = position-within (λ x y. not (itemOrder (features b) item x)) x xs
+
+-- above the leaves, over pages that have their shape
+pub route-is : (k : ℕ) (b : List ℕ) (item : Item) (h : ℕ) (es : List Item) → length (item .0) ≡ k → h < maxLevels
+    → All (λ e. Shaped k h b (e .1)) (map numbered es) → storePosition (routeOf b item) (suc h) (entriesIn k b) (map numbered es) ≡ chosenAt b item es
+route-is k b item h es long few shapes =
+    position-read bytesOrder (numbered item) (entriesIn k b) (features b) (suc h) (map numbered es)
+    ∙ position-numbered k b (item .0) (item .1) (be32 (item .1) 0) long refl h es few shapes
+
+pub route-inside : (b : List ℕ) (item : Item) (es : List Item) → 0 < length es → chosenAt b item es < length es
+route-inside b item [] h = h
+route-inside b item (x ∷ xs) h = position-within (passesAbove (features b) b item) x xs
 
 pub entry-numbered : (i : ℕ) (es : List Item) → entryAt i (map numbered es) ≡ numbered (itemOf i es)
 entry-numbered i es = List·getD-map numbered es i ([], [])

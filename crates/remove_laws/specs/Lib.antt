@@ -16,3 +16,5 @@ pub mod SoundRemoval
 pub mod LevelLaws
 -- Laws: a removal keeps an index sound
 pub mod RemoveSound
+-- Laws: whether the pair is there
+pub mod ThereLaws

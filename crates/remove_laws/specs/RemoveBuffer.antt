@@ -53,44 +53,44 @@ pub record Ready (k : ℕ) (b : List ℕ) (h : ℕ) : Type 0 where
   pub once : Distinct (pages h (readTree (entriesIn k b) h (rootOffset b)))
   pub plain : Plain (pages h (readTree (entriesIn k b) h (rootOffset b))) b
 
-module _ (k : ℕ) (key b : List ℕ) (h : ℕ) (r : Ready k b h) where
+module _ (k : ℕ) (key : List ℕ) (number : ℕ) (b : List ℕ) (h : ℕ) (r : Ready k b h) (long : length key ≡ k) where
   -- the tree before the removal, its route, and what the theory's removal leaves on the store: the pages emptied, and the entries of all pages
   abbrev pub treeIn : Tree (List ℕ) h
   treeIn = readTree (entriesIn k b) h (rootOffset b)
 
   abbrev pub route : Route (List ℕ)
-  route = routeOf (stored key 0)
+  route = routeOf b (stored key number)
 
   abbrev pub gone : List ℕ
-  gone = emptiedFrom (stored key 0) (entriesIn k b) h (rootOffset b)
+  gone = emptiedFrom b (stored key number) (entriesIn k b) h (rootOffset b)
 
   abbrev pub left : Store (List ℕ)
-  left = storeAfter (stored key 0) (entriesIn k b) h (rootOffset b)
+  left = storeAfter b (stored key number) (entriesIn k b) h (rootOffset b)
 
   abbrev last : Step
-  last = removeUnder k maxLevels b (stored key 0) (rootOffset b)
+  last = removeUnder k maxLevels b (stored key number) (rootOffset b)
 
   root-page : isPage (length b) (rootOffset b) ≡ true
   root-page = filled-page k h b (rootOffset b) (r .filled) .0
 
   last-is : StepIs k (length b) (rootOffset b) last left
-  last-is = removes k (stored key 0) b h maxLevels (rootOffset b) (r .low) (r .filled) (r .once)
+  last-is = removes k (stored key number) b long h maxLevels (rootOffset b) (r .low) (r .filled) (r .once)
 
   inside : (z : ℕ) → 0 < occ z (pages h treeIn) → isPage (length b) z ≡ true
   inside z o = filled-pages k b z h (rootOffset b) (r .filled) o
 
   last-heads : Heads k (pages h treeIn) gone b (last .after)
-  last-heads = remove-heads k (stored key 0) b (pages h treeIn) inside (r .plain) h maxLevels (rootOffset b) (r .low) (r .filled) (r .once) (λ z o. o)
+  last-heads = remove-heads k (stored key number) b (pages h treeIn) inside (r .plain) long h maxLevels (rootOffset b) (r .low) (r .filled) (r .once) (λ z o. o)
 
   last-free : Freed (pages h treeIn) gone b (last .after)
-  last-free = remove-free k (stored key 0) b (pages h treeIn) inside (r .plain) h maxLevels (rootOffset b) (r .low) (r .filled) (r .once) (λ z o. o)
+  last-free = remove-free k (stored key number) b (pages h treeIn) inside (r .plain) long h maxLevels (rootOffset b) (r .low) (r .filled) (r .once) (λ z o. o)
 
   -- the last step's buffer with an empty leaf for its root
   abbrev lone : List ℕ
   lone = newPage (last .after) (rootOffset b) 3 noPage noPage []
 
   -- a property of the buffer after the removal: if the root has entries left, of the last step's, and if it has none, of that with an empty root leaf
-  by-root : (P : List ℕ → Type 0) → (NonEmpty (left (rootOffset b)) → P (last .after)) → (left (rootOffset b) ≡ [] → P lone) → P (removedBuffer k b key)
+  by-root : (P : List ℕ → Type 0) → (NonEmpty (left (rootOffset b)) → P (last .after)) → (left (rootOffset b) ≡ [] → P lone) → P (removedBuffer k b key number)
   unfolding removedBuffer
   by-root P some none = go (last .outcome) (last-is .told)
     where
@@ -99,19 +99,19 @@ module _ (k : ℕ) (key b : List ℕ) (h : ℕ) (r : Ready k b h) where
       go emptiedPage t = none t
       go bad t = absurd t
 
-  pub entries-after : entriesIn k (removedBuffer k b key) ≡ left
+  pub entries-after : entriesIn k (removedBuffer k b key number) ≡ left
   unfolding removedBuffer
-  entries-after = root-is k (stored key 0) b (rootOffset b) last left root-page last-is
+  entries-after = root-is k (stored key number) b (rootOffset b) last left root-page last-is
 
   -- Theorem: the buffer is read as the tree after the removal
   pub tree-after : let height : ℕ = storeRemove route h (rootOffset b) (entriesIn k b) .0 in
-      _≡_ {A = Shrunk (List ℕ)} (height, readTree (entriesIn k (removedBuffer k b key)) height (rootOffset b)) (remove route h treeIn)
+      _≡_ {A = Shrunk (List ℕ)} (height, readTree (entriesIn k (removedBuffer k b key number)) height (rootOffset b)) (remove route h treeIn)
   tree-after =
       let height : ℕ = storeRemove route h (rootOffset b) (entriesIn k b) .0 in
       ap (λ (T : Store (List ℕ)). (height, readTree T height (rootOffset b))) entries-after
       ∙ remove-read route h (rootOffset b) (entriesIn k b) (r .once)
 
-  pub length-after : length (removedBuffer k b key) ≡ length b
+  pub length-after : length (removedBuffer k b key number) ≡ length b
   length-after = by-root (λ c. length c ≡ length b) (λ s. last-is .as-long)
       (λ e. length-new (last .after) (rootOffset b) 3 noPage noPage [] ∙ last-is .as-long)
 
@@ -122,26 +122,26 @@ module _ (k : ℕ) (key b : List ℕ) (h : ℕ) (r : Ready k b h) where
   lone-header : SameHeader (last .after) lone
   lone-header = new-header k (last .after) (rootOffset b) 3 noPage noPage [] root-there (omega arith) (omega arith) (omega arith) tt (omega arith)
 
-  pub header-after : SameButFree b (removedBuffer k b key)
+  pub header-after : SameButFree b (removedBuffer k b key number)
   header-after = by-root (λ c. SameButFree b c) (λ s. last-heads .header)
       (λ e. let same = same-header (last .after) lone lone-header in
       record { before = same .before ∙ last-heads .header .before; after = same .after ∙ last-heads .header .after })
 
   -- the emptied pages are free, and pages outside the tree keep their bytes
-  free-after : Freed (pages h treeIn) gone b (removedBuffer k b key)
+  free-after : Freed (pages h treeIn) gone b (removedBuffer k b key number)
   free-after = by-root (λ c. Freed (pages h treeIn) gone b c) (λ s. last-free)
       (λ e. freed-but k (pages h treeIn) b gone (last .after) lone (rootOffset b) (last-is .as-long)
       (occ-here (rootOffset b) (pagesOf (entriesIn k b) h (entriesIn k b (rootOffset b))))
-      (emptied-apart k (stored key 0) b h (rootOffset b) (r .once))
+      (emptied-apart k (stored key number) b h (rootOffset b) (r .once))
       (same-free (last .after) lone lone-header)
       (λ z t ne. new-bytes k (last .after) (rootOffset b) [] root-there tt (omega arith) z (page-of z (last-is .as-long) t) ne 3 noPage noPage) last-free)
 
   -- Theorem: if the root has entries left, the heads of the pages that stay are the old ones but for the links around emptied pages; if it has none, it is an
   -- empty leaf
-  pub heads-after : NonEmpty (left (rootOffset b)) → Heads k (pages h treeIn) gone b (removedBuffer k b key)
+  pub heads-after : NonEmpty (left (rootOffset b)) → Heads k (pages h treeIn) gone b (removedBuffer k b key number)
   heads-after = by-root (λ c. NonEmpty (left (rootOffset b)) → Heads k (pages h treeIn) gone b c) (λ s t. last-heads) (λ e t. absurd (rw e at t))
 
-  pub root-after : left (rootOffset b) ≡ [] → Head (removedBuffer k b key) (rootOffset b) 3 0 noPage noPage
+  pub root-after : left (rootOffset b) ≡ [] → Head (removedBuffer k b key number) (rootOffset b) 3 0 noPage noPage
   root-after = by-root (λ c. left (rootOffset b) ≡ [] → Head c (rootOffset b) 3 0 noPage noPage) (λ s e. absurd (rw e at s))
       (λ e t. let p = rootOffset b in
       rw (eq-eqb p p refl)
@@ -167,7 +167,7 @@ module _ (k : ℕ) (key b : List ℕ) (h : ℕ) (r : Ready k b h) where
 
   -- Theorem: all levels of the tree that is left are linked
   pub links-after : occ noPage (pages h treeIn) ≡ 0 → AllLinked noPage (linksOf b) h treeIn
-      → AllLinked noPage (linksOf (removedBuffer k b key)) (remove route h treeIn .0) (remove route h treeIn .1)
+      → AllLinked noPage (linksOf (removedBuffer k b key number)) (remove route h treeIn .0) (remove route h treeIn .1)
   links-after proper linked = by-root (λ c. SameHeads c → AllLinked noPage (linksOf c) (remove route h treeIn .0) (remove route h treeIn .1))
       (λ s v. kept-links s (v .0 s)) (λ e v. lone-links e (v .1 e)) (heads-after, root-after)
     where
@@ -203,18 +203,18 @@ module _ (k : ℕ) (key b : List ℕ) (h : ℕ) (r : Ready k b h) where
     clear = rw (← emptied-is) (remove-clear route noPage [] h treeIn (r .once) proper (linksOf b) linked)
 
     -- Theorem: a page outside the tree keeps its bytes
-    pub outside-after : (z : ℕ) → Outside z → window (removedBuffer k b key) z pageSize ≡ window b z pageSize
+    pub outside-after : (z : ℕ) → Outside z → window (removedBuffer k b key number) z pageSize ≡ window b z pageSize
     outside-after z o =
         free-after .others z (o .0) (o .1) (rw (← emptied-is) (remove-away route noPage [] h treeIn (r .once) proper (linksOf b) linked z (o .2) (o .1)))
 
     -- Theorem: an emptied page is "zero but for bytes 8-11"
-    pub forms-after : (z : ℕ) → 0 < occ z gone → window (removedBuffer k b key) z pageSize ≡ freePage (rightAt (removedBuffer k b key) z)
+    pub forms-after : (z : ℕ) → 0 < occ z gone → window (removedBuffer k b key number) z pageSize ≡ freePage (rightAt (removedBuffer k b key number) z)
     forms-after z o = free-after .forms clear z o
 
     -- Theorem: the free list after the removal is the emptied pages, each at the head, before the old free list, whose pages are outside the tree
     pub chain-after : (free : List ℕ) → ((z : ℕ) → 0 < occ z free → Outside z) → Chained noPage (rightAt b) (freePointer b) free
-        → Chained noPage (rightAt (removedBuffer k b key)) (freePointer (removedBuffer k b key)) (joinFree gone free)
+        → Chained noPage (rightAt (removedBuffer k b key number)) (freePointer (removedBuffer k b key number)) (joinFree gone free)
     chain-after free outside c =
-        let b′ = removedBuffer k b key in
+        let b′ = removedBuffer k b key number in
         joined-chained (rightAt b′) (freePointer b) gone free (freePointer b′) (free-after .joined clear)
         (chained-same noPage (rightAt b) (rightAt b′) (freePointer b) free (λ z o. right-same b′ b z (outside-after z (outside z o))) c)

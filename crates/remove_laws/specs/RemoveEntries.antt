@@ -8,7 +8,7 @@ use native.Mathlib.Omega.{arith}
 use lib.ListN.{length, length-map}
 use lib.Dec.{eqb, ltb}
 use borrow.Author.Tests.{ltb-true, ltb-false, lt-ltb, eqb-true, eqb-false}
-use Rattle.basis.specs.Lists.{All}
+use Rattle.basis.specs.Lists.{All, all-map}
 use Rattle.basis.specs.Tests.{either}
 use Rattle.tree.specs.InsertPages.{Distinct}
 use Rattle.tree.specs.Lists.{NonEmpty, occ}
@@ -21,18 +21,20 @@ use Rattle.tree.specs.StoreRemoval.{StoreRemoved, entryUnlessEmptied, storePosi
 use Rattle.tree.specs.StoreRemovalLaws.{remove-others}
 use Rattle.tree.specs.StoreSteps.{write}
 use Rattle.tree.specs.Tree.{pages}
-use Rattle.page.specs.Header.{noPage, isPage}
+use Rattle.page.specs.Header.{maxLevels, noPage, isPage}
 use Rattle.page.specs.Page.{attributeAt, leafBit, capacity}
 use Rattle.page.specs.Reading.{Item, numbered}
 use Rattle.layout.specs.Layout.{itemsIn, unlinked, freed}
-use Rattle.layout.specs.Entries.{chosenAt, childOf, withoutEntry}
+use Rattle.layout.specs.Entries.{chosenAt, placeIn, childOf, withoutEntry}
 use Rattle.layout.specs.ItemLaws.{Fit}
 use Rattle.layout.specs.EntryLaws.{items-in-fit}
 use Rattle.layout.specs.FitLaws.{without-all, length-without}
 use Rattle.remove.specs.Removal.{Outcome, kept, emptied, bad, Step, leftWith, takeOut, afterChild, removeUnder, atRoot}
 use Rattle.layout_laws.specs.EntryLaws.{entriesIn, Usable, page-of, items-few, entries-with, length-with, entries-new}
 use Rattle.layout_laws.specs.FreeLaws.{length-unlinked, length-freed, entries-unlinked, entries-freed}
-use Rattle.remove_laws.specs.EntryLists.{routeOf, entryAt, route-is, route-inside, entry-numbered, without-numbered, member-is, replace-same}
+use Rattle.insert_laws.specs.ItemLists.{Shaped}
+use Rattle.remove_laws.specs.EntryLists.{routeOf, entryAt, leaf-is, leaf-inside, route-is, route-inside}
+use Rattle.remove_laws.specs.EntryLists.{entry-numbered, without-numbered, member-is, replace-same}
 use Rattle.remove_laws.specs.EntryLists.{entry-all, entry-pages}
 
 -- what an outcome says of the entries that a page is left with
@@ -56,46 +58,46 @@ left-with [] = refl
 left-with (x ∷ xs) = tt
 
 -- the theory's removal by the route of an entry, from the page at p with h levels under it: the pages emptied, and the store
-module _ (item : Item) (S : Store (List ℕ)) where
+module _ (b : List ℕ) (item : Item) (S : Store (List ℕ)) where
   abbrev pub emptiedFrom : (h p : ℕ) → List ℕ
-  emptiedFrom h p = storeRemove (routeOf item) h p S .2
+  emptiedFrom h p = storeRemove (routeOf b item) h p S .2
 
   abbrev pub storeAfter : (h p : ℕ) → Store (List ℕ)
-  storeAfter h p = storeRemove (routeOf item) h p S .3
+  storeAfter h p = storeRemove (routeOf b item) h p S .3
 
   -- among the entries of a page, of which entry i is gone through
-  among-is : (h i : ℕ) (es : List (List ℕ × ℕ)) (g : List ℕ × ℕ → StoreRemoved (List ℕ)) → storePosition (routeOf item) h S es ≡ i → i < length es
-      → storeRemoveAmong (routeOf item) h g es S ≡ (replaceBy i (λ x. g (entryAt i es) .0) es, g (entryAt i es) .1, g (entryAt i es) .2)
+  among-is : (h i : ℕ) (es : List (List ℕ × ℕ)) (g : List ℕ × ℕ → StoreRemoved (List ℕ)) → storePosition (routeOf b item) h S es ≡ i → i < length es
+      → storeRemoveAmong (routeOf b item) h g es S ≡ (replaceBy i (λ x. g (entryAt i es) .0) es, g (entryAt i es) .1, g (entryAt i es) .2)
   among-is h i es g e l = rw (e, member-is i es l)
 
   -- from a leaf, and from a page above
   module _ (i p : ℕ) (l : i < length (S p)) where
-    leaf-after : storePosition (routeOf item) zero S (S p) ≡ i → storeAfter zero p ≡ write S p (replaceBy i (λ x. []) (S p))
+    leaf-after : storePosition (routeOf b item) zero S (S p) ≡ i → storeAfter zero p ≡ write S p (replaceBy i (λ x. []) (S p))
     leaf-after e = ap (λ (w : StoreRemoved (List ℕ)). write (w .2) p (w .0)) (among-is zero i (S p) (λ c. ([], [], S)) e l)
 
-    pub leaf-emptied : storePosition (routeOf item) zero S (S p) ≡ i → emptiedFrom zero p ≡ []
+    pub leaf-emptied : storePosition (routeOf b item) zero S (S p) ≡ i → emptiedFrom zero p ≡ []
     leaf-emptied e = ap (λ (w : StoreRemoved (List ℕ)). w .1) (among-is zero i (S p) (λ c. ([], [], S)) e l)
 
-    module _ (h : ℕ) (e : storePosition (routeOf item) (suc h) S (S p) ≡ i) where
+    module _ (h : ℕ) (e : storePosition (routeOf b item) (suc h) S (S p) ≡ i) where
       abbrev child : List ℕ × ℕ
       child = entryAt i (S p)
 
       abbrev childLeft : List (List ℕ × ℕ)
-      childLeft = storeRemoveAmong (routeOf item) h (λ c. storeRemoveUnder (routeOf item) h c S) (S (child .1)) S .0
+      childLeft = storeRemoveAmong (routeOf b item) h (λ c. storeRemoveUnder (routeOf b item) h c S) (S (child .1)) S .0
 
       child-left : storeAfter h (child .1) (child .1) ≡ childLeft
       child-left =
-          write-here (storeRemoveAmong (routeOf item) h (λ c. storeRemoveUnder (routeOf item) h c S) (S (child .1)) S .2) (child .1) childLeft
+          write-here (storeRemoveAmong (routeOf b item) h (λ c. storeRemoveUnder (routeOf b item) h c S) (S (child .1)) S .2) (child .1) childLeft
 
       upper-after : storeAfter (suc h) p ≡ write (storeAfter h (child .1)) p
           (replaceBy i (λ x. entryUnlessEmptied (child .0) (child .1) (storeAfter h (child .1) (child .1))) (S p))
       upper-after = rw child-left
           (ap (λ (w : StoreRemoved (List ℕ)). write (w .2) p (w .0))
-          (among-is (suc h) i (S p) (λ c. storeRemoveUnder (routeOf item) (suc h) c S) e l))
+          (among-is (suc h) i (S p) (λ c. storeRemoveUnder (routeOf b item) (suc h) c S) e l))
 
       pub upper-emptied : emptiedFrom (suc h) p ≡ emptiedFrom h (child .1) ++ ifEmptied (child .1) (storeAfter h (child .1) (child .1))
       upper-emptied = rw child-left
-          (ap (λ (w : StoreRemoved (List ℕ)). w .1) (among-is (suc h) i (S p) (λ c. storeRemoveUnder (routeOf item) (suc h) c S) e l))
+          (ap (λ (w : StoreRemoved (List ℕ)). w .1) (among-is (suc h) i (S p) (λ c. storeRemoveUnder (routeOf b item) (suc h) c S) e l))
 
 module _ (k : ℕ) where
   -- entry i goes from the page at p
@@ -158,14 +160,28 @@ module _ (k : ℕ) where
         })
     after-child-is bad f = absurd f
 
--- the page at p, with h levels under it, and every page under it is a page of the buffer, has the leaf bit at the bottom only, and has entries
+-- the page at p, with h levels under it, and every page under it is a page of the buffer, has the leaf bit at the bottom only, has entries, and no more levels
+-- under it than an index may have
 abbrev pub Filled : ℕ → (h : ℕ) → List ℕ → ℕ → Type 0
 Filled k zero b p = Usable b p × (leafBit (attributeAt b p) ≡ true) × NonEmpty (entriesIn k b p)
-Filled k (suc h) b p = Usable b p × (leafBit (attributeAt b p) ≡ false) × NonEmpty (entriesIn k b p) × All (λ e. Filled k h b (e .1)) (entriesIn k b p)
+Filled k (suc h) b p =
+    Usable b p × (leafBit (attributeAt b p) ≡ false) × NonEmpty (entriesIn k b p) × All (λ e. Filled k h b (e .1)) (entriesIn k b p) × (h < maxLevels)
 
 pub filled-page : (k h : ℕ) (b : List ℕ) (p : ℕ) → Filled k h b p → Usable b p
 filled-page k zero b p f = f .0
 filled-page k (suc h) b p f = f .0
+
+-- so it has the shape that the route asks for
+pub filled-shaped : (k h : ℕ) (b : List ℕ) (p : ℕ) → Filled k h b p → Shaped k h b p
+filled-shaped k zero b p f = (f .0, f .1)
+filled-shaped k (suc h) b p f =
+    let shapes = all-map (λ e. Filled k h b (e .1)) (λ e. Shaped k h b (e .1)) (λ e g. filled-shaped k h b (e .1) g) (entriesIn k b p) (f .3) in
+    (f .0, f .1, f .2, shapes, f .4)
+
+-- the entry that the route goes through, above the leaves
+pub filled-route : (k : ℕ) (b : List ℕ) (item : Item) (h p : ℕ) → length (item .0) ≡ k → Filled k (suc h) b p
+    → storePosition (routeOf b item) (suc h) (entriesIn k b) (entriesIn k b p) ≡ chosenAt b item (itemsIn k b p)
+filled-route k b item h p long f = route-is k b item h (itemsIn k b p) long (f .4) (filled-shaped k (suc h) b p f .3)
 
 -- the pages of such a tree are pages of the buffer
 module _ (k : ℕ) (b : List ℕ) (z : ℕ) where
@@ -199,23 +215,29 @@ some-items [] s = absurd s
 some-items (x ∷ xs) s = omega arith
 
 module _ (k : ℕ) (item : Item) (b : List ℕ) where
-  -- the entry that removal goes through at the page at p, and its number
+  -- the entry that removal takes out of a leaf at p, and the one that it goes through at a page above, by their numbers
+  abbrev pub place : ℕ → ℕ
+  place p = placeIn b item (itemsIn k b p)
+
   abbrev pub through : ℕ → ℕ
-  through p = chosenAt item (itemsIn k b p)
+  through p = chosenAt b item (itemsIn k b p)
 
   abbrev pub below : ℕ → ℕ
   below p = entryAt (through p) (entriesIn k b p) .1
 
   -- removal's step at the page at p, with `left` levels left, is the theory's
   abbrev pub Removes : (h left p : ℕ) → Type 0
-  Removes h left p = StepIs k (length b) p (removeUnder k left b item p) (storeAfter item (entriesIn k b) h p)
+  Removes h left p = StepIs k (length b) p (removeUnder k left b item p) (storeAfter b item (entriesIn k b) h p)
 
   module _ (p : ℕ) (s : NonEmpty (entriesIn k b p)) where
     pub some : 0 < length (itemsIn k b p)
     some = some-items (itemsIn k b p) s
 
+    pub place-inside : place p < length (entriesIn k b p)
+    place-inside = rw (length-map (itemsIn k b p) numbered) (leaf-inside b item (itemsIn k b p) some)
+
     pub inside : through p < length (entriesIn k b p)
-    inside = rw (length-map (itemsIn k b p) numbered) (route-inside item (itemsIn k b p) some)
+    inside = rw (length-map (itemsIn k b p) numbered) (route-inside b item (itemsIn k b p) some)
 
     pub child-is : childOf (through p) (itemsIn k b p) ≡ below p
     child-is = ap (λ (e : List ℕ × ℕ). e .1) (sym (entry-numbered (through p) (itemsIn k b p)))
@@ -233,11 +255,11 @@ module _ (k : ℕ) (item : Item) (b : List ℕ) where
       child-differs : p ≡ below p → ⊥
       child-differs e = occ-not-head p (below p) (pagesOf (entriesIn k b) h (entriesIn k b (below p))) child-apart e
 
-      own-kept : storeAfter item (entriesIn k b) h (below p) p ≡ entriesIn k b p
-      own-kept = remove-others (routeOf item) h (below p) (entriesIn k b) child-distinct p child-apart
+      own-kept : storeAfter b item (entriesIn k b) h (below p) p ≡ entriesIn k b p
+      own-kept = remove-others (routeOf b item) h (below p) (entriesIn k b) child-distinct p child-apart
 
       -- the page at p has entry i still, once the child's step was made and the child freed
-      pub still-inside : (s : Step) → StepIs k (length b) (below p) s (storeAfter item (entriesIn k b) h (below p)) → isPage (length b) (below p) ≡ true
+      pub still-inside : (s : Step) → StepIs k (length b) (below p) s (storeAfter b item (entriesIn k b) h (below p)) → isPage (length b) (below p) ≡ true
           → through p < length (itemsIn k (freed (unlinked (s .after) (below p)) (below p)) p)
       still-inside s w tc =
           let c = below p in
@@ -250,23 +272,23 @@ module _ (k : ℕ) (item : Item) (b : List ℕ) where
           rw (← length-map (itemsIn k b′ p) numbered, own) inside
 
   -- Theorem: removal's step at the page at p, with h levels under it, is the theory's
-  pub removes : (h left p : ℕ) → h < left → Filled k h b p → Distinct (pages h (readTree (entriesIn k b) h p)) → Removes h left p
+  pub removes : length (item .0) ≡ k → (h left p : ℕ) → h < left → Filled k h b p → Distinct (pages h (readTree (entriesIn k b) h p)) → Removes h left p
   unfolding removeUnder
-  removes zero zero p l f d = absurd (omega arith)
-  removes (suc h) zero p l f d = absurd (omega arith)
-  removes zero (suc left) p l f d =
+  removes long zero zero p l f d = absurd (omega arith)
+  removes long (suc h) zero p l f d = absurd (omega arith)
+  removes long zero (suc left) p l f d =
       let S = entriesIn k b in
       let es = itemsIn k b p in
       let more = some p (f .2) in
-      rw (f .0 .0, f .1, leaf-after item S (through p) p (inside p (f .2)) (route-is item S zero es))
-      (taken k b p (through p) (f .0 .0) (route-inside item es more))
-  removes (suc h) (suc left) p l f d =
-      rw (f .0 .0, f .1) (subst UpperIs (sym (child-is p (f .2))) (upper (λ c g o. removes h left c (omega arith) g o)))
+      rw (f .0 .0, f .1, leaf-after b item S (place p) p (place-inside p (f .2)) (leaf-is b item S es))
+      (taken k b p (place p) (f .0 .0) (leaf-inside b item es more))
+  removes long (suc h) (suc left) p l f d =
+      rw (f .0 .0, f .1) (subst UpperIs (sym (child-is p (f .2))) (upper (λ c g o. removes long h left c (omega arith) g o)))
     where
       UpperIs : ℕ → Type 0
       UpperIs c =
           let s : Step = removeUnder k left b item c in
-          StepIs k (length b) p (afterChild k (s .after) p (through p) c (s .outcome)) (storeAfter item (entriesIn k b) (suc h) p)
+          StepIs k (length b) p (afterChild k (s .after) p (through p) c (s .outcome)) (storeAfter b item (entriesIn k b) (suc h) p)
 
       upper : ((c : ℕ) → Filled k h b c → Distinct (pages h (readTree (entriesIn k b) h c)) → Removes h left c) → UpperIs (below p)
       upper rec =
@@ -276,14 +298,14 @@ module _ (k : ℕ) (item : Item) (b : List ℕ) where
           let under : Filled k h b c = entry-all (λ e. Filled k h b (e .1)) (through p) (S p) (inside p (f .2)) (f .3) in
           let w : Removes h left c = rec c under (child-distinct p (f .2) h d) in
           let own = own-kept p (f .2) h d in
-          let there : through p < length (storeAfter item S h c p) = rw own (inside p (f .2)) in
-          let entry : entryAt (through p) (storeAfter item S h c p) ≡ (entryAt (through p) (S p) .0, c) = ap (entryAt (through p)) own in
-          let u = after-child-is k (s .after) p (through p) c (entryAt (through p) (S p) .0) (storeAfter item S h c)
+          let there : through p < length (storeAfter b item S h c p) = rw own (inside p (f .2)) in
+          let entry : entryAt (through p) (storeAfter b item S h c p) ≡ (entryAt (through p) (S p) .0, c) = ap (entryAt (through p)) own in
+          let u = after-child-is k (s .after) p (through p) c (entryAt (through p) (S p) .0) (storeAfter b item S h c)
           (page-of p (w .as-long) (f .0 .0)) (page-of c (w .as-long) (filled-page k h b c under .0)) (w .entries) there entry (s .outcome) (w .told) in
-          let same : storeAfter item S (suc h) p
-          ≡ storeAbove k (s .after) p (through p) c (entryAt (through p) (S p) .0) (storeAfter item S h c)
+          let same : storeAfter b item S (suc h) p
+          ≡ storeAbove k (s .after) p (through p) c (entryAt (through p) (S p) .0) (storeAfter b item S h c)
           (page-of p (w .as-long) (f .0 .0)) (page-of c (w .as-long) (filled-page k h b c under .0)) (w .entries) there entry =
-          upper-after item S (through p) p (inside p (f .2)) h (route-is item S (suc h) (itemsIn k b p)) ∙ rw own in
+          upper-after b item S (through p) p (inside p (f .2)) h (filled-route k b item h p long f) ∙ rw own in
           rw same (record { entries = u .entries; as-long = u .as-long ∙ w .as-long; told = u .told })
 
   -- the root: it has what it is left with

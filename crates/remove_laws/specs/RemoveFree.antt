@@ -38,9 +38,10 @@ use Rattle.layout_laws.specs.HeadLaws.{with-header}
 use Rattle.layout_laws.specs.FreeLaws.{freePage, same-free, length-unlinked, unlinked-header, unlinked-bytes, length-freed}
 use Rattle.layout_laws.specs.FreeLaws.{freed-head, freed-free, freed-bytes, freed-own, with-bytes}
 use Rattle.tree.specs.AwayLaws.{Away, Clear, Apart, away-first, away-last, clear-first, clear-last}
-use Rattle.remove_laws.specs.EntryLists.{route-is, route-inside, entry-all, entry-pages}
+use Rattle.remove_laws.specs.EntryLists.{leaf-is, leaf-inside, entry-all, entry-pages}
 use Rattle.remove_laws.specs.RemoveEntries.{OutcomeIs, emptiedFrom, storeAfter, leaf-emptied, upper-emptied, Filled, filled-page}
-use Rattle.remove_laws.specs.RemoveEntries.{through, below, Removes, some, inside, child-is, child-distinct, child-apart, still-inside, removes}
+use Rattle.remove_laws.specs.RemoveEntries.{place, place-inside, through, filled-route}
+use Rattle.remove_laws.specs.RemoveEntries.{below, Removes, some, inside, child-is, child-distinct, child-apart, still-inside, removes}
 use Rattle.remove_laws.specs.RemoveHeads.{Plain, Heads, emptied-inside, emptied-apart, Inside, remove-heads}
 
 -- the pages ps join a list one after another, "each at the head": each names the head before it, and the last is the head at the end
@@ -143,7 +144,7 @@ module _ (k : ℕ) (qs b : List ℕ) where
 module _ (k : ℕ) (item : Item) (b qs : List ℕ) (inside-qs : (z : ℕ) → 0 < occ z qs → isPage (length b) z ≡ true) (plain : Plain qs b) where
   -- the free pages after removal's step at the page at p, all of whose pages are in the list qs
   abbrev Goes : (h left p : ℕ) → Type 0
-  Goes h left p = Freed qs (emptiedFrom item (entriesIn k b) h p) b (removeUnder k left b item p .after)
+  Goes h left p = Freed qs (emptiedFrom b item (entriesIn k b) h p) b (removeUnder k left b item p .after)
 
   -- the page at p after the step at its child at c, which emptied the pages ps
   after-child-free : (ps b′ : List ℕ) (p i c : ℕ) (o : Outcome) (es : List (List ℕ × ℕ)) → length b′ ≡ length b → isPage (length b) p ≡ true → Usable b c
@@ -159,23 +160,24 @@ module _ (k : ℕ) (item : Item) (b qs : List ℕ) (inside-qs : (z : ℕ) → 0 
   after-child-free ps b′ p i c bad es n tp tc op oc np nc ne l t w v = absurd t
 
   -- Theorem: removal's step frees the emptied pages, leaf first, and keeps the bytes of pages outside the tree
-  pub remove-free : (h left p : ℕ) → h < left → Filled k h b p → Distinct (treePages h (readTree (entriesIn k b) h p)) → Inside k b qs h p → Goes h left p
+  pub remove-free : length (item .0) ≡ k → (h left p : ℕ) → h < left → Filled k h b p → Distinct (treePages h (readTree (entriesIn k b) h p))
+      → Inside k b qs h p → Goes h left p
   unfolding removeUnder
-  remove-free zero zero p l f d i = absurd (omega arith)
-  remove-free (suc h) zero p l f d i = absurd (omega arith)
-  remove-free zero (suc left) p l f d i =
+  remove-free long zero zero p l f d i = absurd (omega arith)
+  remove-free long (suc h) zero p l f d i = absurd (omega arith)
+  remove-free long zero (suc left) p l f d i =
       let S = entriesIn k b in
       let es = itemsIn k b p in
       let more = some k item b p (f .2) in
-      rw (f .0 .0, f .1, leaf-emptied item S (through k item b p) p (inside k item b p (f .2)) (route-is item S zero es))
-      (freed-taken k qs b [] b p (through k item b p) refl (f .0 .0) (route-inside item es more) (i p (occ-here p (pagesOf S zero (S p)))) refl
+      rw (f .0 .0, f .1, leaf-emptied b item S (place k item b p) p (place-inside k item b p (f .2)) (leaf-is b item S es))
+      (freed-taken k qs b [] b p (place k item b p) refl (f .0 .0) (leaf-inside b item es more) (i p (occ-here p (pagesOf S zero (S p)))) refl
       (freed-none k qs b))
-  remove-free (suc h) (suc left) p l f d i =
+  remove-free long (suc h) (suc left) p l f d i =
       rw (
         f .0 .0,
         f .1,
-        upper-emptied item (entriesIn k b) (through k item b p) p (inside k item b p (f .2)) h (route-is item (entriesIn k b) (suc h) (itemsIn k b p)),
-      ) (subst UpperGoes (sym (child-is k item b p (f .2))) (upper (λ q g o u. remove-free h left q (omega arith) g o u)))
+        upper-emptied b item (entriesIn k b) (through k item b p) p (inside k item b p (f .2)) h (filled-route k b item h p long f),
+      ) (subst UpperGoes (sym (child-is k item b p (f .2))) (upper (λ q g o u. remove-free long h left q (omega arith) g o u)))
     where
       c : ℕ
       c = below k item b p
@@ -183,7 +185,7 @@ module _ (k : ℕ) (item : Item) (b qs : List ℕ) (inside-qs : (z : ℕ) → 0 
       UpperGoes : ℕ → Type 0
       UpperGoes q =
           let s : Step = removeUnder k left b item q in
-          let ps : List ℕ = emptiedFrom item (entriesIn k b) h c ++ ifEmptied c (storeAfter item (entriesIn k b) h c c) in
+          let ps : List ℕ = emptiedFrom b item (entriesIn k b) h c ++ ifEmptied c (storeAfter b item (entriesIn k b) h c c) in
           Freed qs ps b (afterChild k (s .after) p (through k item b p) q (s .outcome) .after)
 
       upper : ((q : ℕ) → Filled k h b q → Distinct (treePages h (readTree (entriesIn k b) h q)) → Inside k b qs h q → Goes h left q) → UpperGoes c
@@ -193,12 +195,12 @@ module _ (k : ℕ) (item : Item) (b qs : List ℕ) (inside-qs : (z : ℕ) → 0 
           let at = inside k item b p (f .2) in
           let under : Filled k h b c = entry-all (λ e. Filled k h b (e .1)) (through k item b p) (S p) at (f .3) in
           let once = child-distinct k item b p (f .2) h d in
-          let w : Removes k item b h left c = removes k item b h left c (omega arith) under once in
+          let w : Removes k item b h left c = removes k item b long h left c (omega arith) under once in
           let within : Inside k b qs h c = λ z o. i z (omega (arith, entry-pages S (suc h) z (through k item b p) (S p) at)) in
           let apart = child-apart k item b p (f .2) h d in
           let there = still-inside k item b p (f .2) h d s w (filled-page k h b c under .0) in
-          after-child-free (emptiedFrom item S h c) (s .after) p (through k item b p) c (s .outcome) (storeAfter item S h c c) (w .as-long) (f .0 .0)
+          after-child-free (emptiedFrom b item S h c) (s .after) p (through k item b p) c (s .outcome) (storeAfter b item S h c c) (w .as-long) (f .0 .0)
           (filled-page k h b c under) (i p (occ-here p (pagesOf S (suc h) (S p)))) (within c (occ-here c (pagesOf S h (S c))))
           (omega (arith, apart, emptied-inside k item b h c p once)) (emptied-apart k item b h c once)
           (λ e. occ-not-head p c (pagesOf S h (S c)) apart e) there (w .told)
-          (remove-heads k item b qs inside-qs plain h left c (omega arith) under once within) (rec c under once within)
+          (remove-heads k item b qs inside-qs plain long h left c (omega arith) under once within) (rec c under once within)

@@ -34,9 +34,10 @@ use Rattle.layout_laws.specs.EntryLaws.{entriesIn, Usable, page-of, items-few}
 use Rattle.layout_laws.specs.HeadLaws.{with-head, with-header}
 use Rattle.layout_laws.specs.FreeLaws.{SameButFree, same-header, same-free, length-unlinked, unlinked-head, unlinked-header}
 use Rattle.layout_laws.specs.FreeLaws.{length-freed, freed-head, freed-header, freed-free}
-use Rattle.remove_laws.specs.EntryLists.{routeOf, route-is, route-inside, entry-all, entry-pages}
+use Rattle.remove_laws.specs.EntryLists.{routeOf, leaf-is, leaf-inside, entry-all, entry-pages}
 use Rattle.remove_laws.specs.RemoveEntries.{OutcomeIs, emptiedFrom, storeAfter, leaf-emptied, upper-emptied, Filled, filled-page}
-use Rattle.remove_laws.specs.RemoveEntries.{through, below, Removes, some, inside, child-is, child-distinct, still-inside, removes}
+use Rattle.remove_laws.specs.RemoveEntries.{place, place-inside, through, filled-route}
+use Rattle.remove_laws.specs.RemoveEntries.{below, Removes, some, inside, child-is, child-distinct, still-inside, removes}
 
 -- the links of the pages qs, and the free pointer, are numbers of four bytes
 pub record Plain (qs b : List ℕ) : Type 0 where
@@ -154,16 +155,16 @@ Inside k b qs h p = (z : ℕ) → 0 < occ z (pages h (readTree (entriesIn k b) h
 module _ (k : ℕ) (item : Item) (b : List ℕ) where
   -- the emptied pages are pages of the tree, and the root is none of them
   pub emptied-inside : (h p z : ℕ) → Distinct (pages h (readTree (entriesIn k b) h p))
-      → occ z (emptiedFrom item (entriesIn k b) h p) ≤ occ z (pages h (readTree (entriesIn k b) h p))
+      → occ z (emptiedFrom b item (entriesIn k b) h p) ≤ occ z (pages h (readTree (entriesIn k b) h p))
   emptied-inside h p z d =
-      rw (emptied-read (routeOf item) h p (entriesIn k b) d)
-      (omega (arith, remove-pages (routeOf item) z h (readTree (entriesIn k b) h p)))
+      rw (emptied-read (routeOf b item) h p (entriesIn k b) d)
+      (omega (arith, remove-pages (routeOf b item) z h (readTree (entriesIn k b) h p)))
 
-  pub emptied-apart : (h p : ℕ) → Distinct (pages h (readTree (entriesIn k b) h p)) → occ p (emptiedFrom item (entriesIn k b) h p) ≡ 0
+  pub emptied-apart : (h p : ℕ) → Distinct (pages h (readTree (entriesIn k b) h p)) → occ p (emptiedFrom b item (entriesIn k b) h p) ≡ 0
   emptied-apart h p d =
       let t = readTree (entriesIn k b) h p in
-      let all = remove-pages (routeOf item) p h t in
-      rw (emptied-read (routeOf item) h p (entriesIn k b) d) (omega (arith, all, d p, root-stays p h (removeEntries (routeOf item) h (t .1))))
+      let all = remove-pages (routeOf b item) p h t in
+      rw (emptied-read (routeOf b item) h p (entriesIn k b) d) (omega (arith, all, d p, root-stays p h (removeEntries (routeOf b item) h (t .1))))
     where
       root-stays : (p h : ℕ) (xs : List (Entry (List ℕ) h)) → 0 < occ p (shrunkPages (settle h p xs))
       root-stays p h [] = occ-here p []
@@ -173,7 +174,7 @@ module _ (k : ℕ) (item : Item) (b : List ℕ) where
 module _ (k : ℕ) (item : Item) (b qs : List ℕ) (inside-qs : (z : ℕ) → 0 < occ z qs → isPage (length b) z ≡ true) (plain : Plain qs b) where
   -- the heads after removal's step at the page at p
   abbrev Goes : (h left p : ℕ) → Type 0
-  Goes h left p = Heads k qs (emptiedFrom item (entriesIn k b) h p) b (removeUnder k left b item p .after)
+  Goes h left p = Heads k qs (emptiedFrom b item (entriesIn k b) h p) b (removeUnder k left b item p .after)
 
   -- the page at p after the step at its child at c, which emptied the pages ps
   after-child-heads : (ps b′ : List ℕ) (p i c : ℕ) (o : Outcome) (es : List (List ℕ × ℕ)) → length b′ ≡ length b → isPage (length b) p ≡ true → Usable b c
@@ -188,22 +189,23 @@ module _ (k : ℕ) (item : Item) (b qs : List ℕ) (inside-qs : (z : ℕ) → 0 
   after-child-heads ps b′ p i c bad es n tp tc qc oc l t v = absurd t
 
   -- Theorem: removal's step unlinks the emptied pages and frees them, and changes no other head
-  pub remove-heads : (h left p : ℕ) → h < left → Filled k h b p → Distinct (pages h (readTree (entriesIn k b) h p)) → Inside k b qs h p → Goes h left p
+  pub remove-heads : length (item .0) ≡ k → (h left p : ℕ) → h < left → Filled k h b p → Distinct (pages h (readTree (entriesIn k b) h p))
+      → Inside k b qs h p → Goes h left p
   unfolding removeUnder
-  remove-heads zero zero p l f d i = absurd (omega arith)
-  remove-heads (suc h) zero p l f d i = absurd (omega arith)
-  remove-heads zero (suc left) p l f d i =
+  remove-heads long zero zero p l f d i = absurd (omega arith)
+  remove-heads long (suc h) zero p l f d i = absurd (omega arith)
+  remove-heads long zero (suc left) p l f d i =
       let S = entriesIn k b in
       let es = itemsIn k b p in
       let more = some k item b p (f .2) in
-      rw (f .0 .0, f .1, leaf-emptied item S (through k item b p) p (inside k item b p (f .2)) (route-is item S zero es))
-      (heads-taken k qs b inside-qs [] b p (through k item b p) refl (f .0 .0) (route-inside item es more) (heads-none k qs b inside-qs plain))
-  remove-heads (suc h) (suc left) p l f d i =
+      rw (f .0 .0, f .1, leaf-emptied b item S (place k item b p) p (place-inside k item b p (f .2)) (leaf-is b item S es))
+      (heads-taken k qs b inside-qs [] b p (place k item b p) refl (f .0 .0) (leaf-inside b item es more) (heads-none k qs b inside-qs plain))
+  remove-heads long (suc h) (suc left) p l f d i =
       rw (
         f .0 .0,
         f .1,
-        upper-emptied item (entriesIn k b) (through k item b p) p (inside k item b p (f .2)) h (route-is item (entriesIn k b) (suc h) (itemsIn k b p)),
-      ) (subst UpperGoes (sym (child-is k item b p (f .2))) (upper (λ q g o u. remove-heads h left q (omega arith) g o u)))
+        upper-emptied b item (entriesIn k b) (through k item b p) p (inside k item b p (f .2)) h (filled-route k b item h p long f),
+      ) (subst UpperGoes (sym (child-is k item b p (f .2))) (upper (λ q g o u. remove-heads long h left q (omega arith) g o u)))
     where
       c : ℕ
       c = below k item b p
@@ -211,7 +213,7 @@ module _ (k : ℕ) (item : Item) (b qs : List ℕ) (inside-qs : (z : ℕ) → 0 
       UpperGoes : ℕ → Type 0
       UpperGoes q =
           let s : Step = removeUnder k left b item q in
-          let ps : List ℕ = emptiedFrom item (entriesIn k b) h c ++ ifEmptied c (storeAfter item (entriesIn k b) h c c) in
+          let ps : List ℕ = emptiedFrom b item (entriesIn k b) h c ++ ifEmptied c (storeAfter b item (entriesIn k b) h c c) in
           Heads k qs ps b (afterChild k (s .after) p (through k item b p) q (s .outcome) .after)
 
       upper : ((q : ℕ) → Filled k h b q → Distinct (pages h (readTree (entriesIn k b) h q)) → Inside k b qs h q → Goes h left q) → UpperGoes c
@@ -221,9 +223,9 @@ module _ (k : ℕ) (item : Item) (b qs : List ℕ) (inside-qs : (z : ℕ) → 0 
           let at = inside k item b p (f .2) in
           let under : Filled k h b c = entry-all (λ e. Filled k h b (e .1)) (through k item b p) (S p) at (f .3) in
           let once = child-distinct k item b p (f .2) h d in
-          let w : Removes k item b h left c = removes k item b h left c (omega arith) under once in
+          let w : Removes k item b h left c = removes k item b long h left c (omega arith) under once in
           let within : Inside k b qs h c = λ z o. i z (omega (arith, entry-pages S (suc h) z (through k item b p) (S p) at)) in
           let b′ = freed (unlinked (s .after) c) c in
           let there : through k item b p < length (itemsIn k b′ p) = still-inside k item b p (f .2) h d s w (filled-page k h b c under .0) in
-          after-child-heads (emptiedFrom item S h c) (s .after) p (through k item b p) c (s .outcome) (storeAfter item S h c c) (w .as-long) (f .0 .0)
+          after-child-heads (emptiedFrom b item S h c) (s .after) p (through k item b p) c (s .outcome) (storeAfter b item S h c c) (w .as-long) (f .0 .0)
           (filled-page k h b c under) (within c (occ-here c (pagesOf S h (S c)))) (emptied-apart k item b h c once) there (w .told) (rec c under once within)

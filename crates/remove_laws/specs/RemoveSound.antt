@@ -1,9 +1,9 @@
 -- Laws: a removal that is accepted keeps an index sound, and its leaf pairs are the old ones without the key. Cited by the claim about lists of calls.
 -- Assumes nothing.
 use mathlib.Core.Path.{_≡_, refl, sym, ap, ap₂, _∙_, subst}
-use mathlib.Core.Bool.{true}
+use mathlib.Core.Bool.{Bool, true}
 use mathlib.Core.List.{List, [], _∷_, map}
-use Prim.Native.Nat.{ℕ, suc, _+_, _≤_, _<_, min}
+use Prim.Native.Nat.{ℕ, suc, _+_, _^_, _≤_, _<_, min}
 use native.Mathlib.Nat.{add-zero}
 use native.Mathlib.Omega.{arith}
 use lib.Dec.{eqb, ltb, lit≤}
@@ -11,10 +11,10 @@ use lib.ListN.{length, getD}
 use borrow.Author.Tests.{ltb-true, ltb-false, eqb-true, eq-eqb}
 use Rattle.basis.specs.Lists.{All}
 use Rattle.basis.specs.Tests.{either, contra}
-use Rattle.octets.specs.Bytes.{be32, toBe32, toLe32}
+use Rattle.octets.specs.Bytes.{toLe32}
 use Rattle.octets.specs.Store.{window}
 use Rattle.octets.specs.StoreLaws.{getD-window}
-use Rattle.octets.specs.NumberLaws.{le16-same, le32-same}
+use Rattle.octets.specs.NumberLaws.{be32-toBe32, le16-same, le32-same}
 use Rattle.tree.specs.Clauses.{AllLinked}
 use Rattle.tree.specs.FreeChainLaws.{chained-head}
 use Rattle.tree.specs.FreeList.{joinFree}
@@ -26,7 +26,7 @@ use Rattle.tree.specs.InsertLevels.{levelUnder-pages}
 use Rattle.tree.specs.Keeping.{Route}
 use Rattle.tree.specs.Lists.{NonEmpty, countIf, occ}
 use Rattle.tree.specs.ListLaws.{occ-all}
-use Rattle.tree.specs.Pairs.{byKey, has, removePair}
+use Rattle.tree.specs.Pairs.{has, removePair}
 use Rattle.tree.specs.Removal.{Shrunk, shrunkPages, settle, removeEntries, remove, emptied}
 use Rattle.tree.specs.RemovalPages.{remove-pages}
 use Rattle.tree.specs.RemovalSized.{remove-low}
@@ -37,13 +37,12 @@ use Rattle.tree.specs.StoreRemovalLaws.{emptied-read}
 use Rattle.tree.specs.Tree.{Entry, Tree, pages, pairs, level}
 use Rattle.page.specs.Header.{maxBytes, pageSize, noPage, isPage, rootOffset, freePointer, fileSize, keyLength, features, freeGood, headerGood}
 use Rattle.page.specs.HeaderLaws.{GoodHeader, is-page, good-header, good-header-from}
-use Rattle.page.specs.KeyOrder.{bytesOrder}
 use Rattle.page.specs.Page.{attributeAt, countAt, rightAt, rootBit, leafBit, capacity}
 use Rattle.page.specs.Reading.{entriesAt}
 use Rattle.page.specs.ReadingLaws.{window-window, window-in-page, attribute-same, right-same}
 use Rattle.layout.specs.Entries.{stored}
 use Rattle.layout.specs.WriteLaws.{capacity-least}
-use Rattle.sound.specs.Sound.{indexTree, indexPages, linksOf, zeros, FreePage, FreeList, CountGood, Sound}
+use Rattle.sound.specs.Sound.{indexTree, indexPages, keptBy, linksOf, zeros, FreePage, FreeList, CountGood, Sound}
 use Rattle.sound.specs.IndexLaws.{indexOf, settingOf, sound-index, sound-linked, all-occ, once-page, index-sound}
 use Rattle.remove.specs.Removal.{removedBuffer}
 use Rattle.layout_laws.specs.EntryLaws.{entriesIn, page-of}
@@ -92,17 +91,19 @@ settled-some : {K : Type 0} (h p : ℕ) (xs : List (Entry K h)) → NonEmpty (se
 settled-some h p [] s = s
 settled-some h p (x ∷ xs) s = tt
 
-some-has : (e : List ℕ × ℕ) (xs : List (List ℕ × ℕ)) → has (byKey bytesOrder) e xs ≡ true → NonEmpty xs
-some-has e [] t = contra t refl
-some-has e (x ∷ xs) t = tt
+some-has : (le : List ℕ × ℕ → List ℕ × ℕ → Bool) (e : List ℕ × ℕ) (xs : List (List ℕ × ℕ)) → has le e xs ≡ true → NonEmpty xs
+some-has le e [] t = contra t refl
+some-has le e (x ∷ xs) t = tt
 
 -- a removal that is accepted, from a buffer that holds a sound index
-pub record Strikes (b key : List ℕ) : Type 0 where
+pub record Strikes (b key : List ℕ) (number : ℕ) : Type 0 where
   pub sound : Sound b
   pub plain : Plain b
-  pub there : has (byKey bytesOrder) (key, 0) (pairs (sound .height) (indexTree b (sound .height))) ≡ true
+  pub long : length key ≡ keyLength b
+  pub r32 : number < 2 ^ 32
+  pub there : has (keptBy b .pairLe) (key, number) (pairs (sound .height) (indexTree b (sound .height))) ≡ true
 
-module _ (b key : List ℕ) (strikes : Strikes b key) where
+module _ (b key : List ℕ) (number : ℕ) (strikes : Strikes b key number) where
   abbrev k : ℕ
   k = keyLength b
 
@@ -113,7 +114,7 @@ module _ (b key : List ℕ) (strikes : Strikes b key) where
   h = strikes .sound .height
 
   abbrev b′ : List ℕ
-  b′ = removedBuffer (keyLength b) b key
+  b′ = removedBuffer (keyLength b) b key number
 
   -- the index read up to the buffer's length, before the removal
   abbrev t : Tree (List ℕ) (strikes .sound .height)
@@ -128,39 +129,38 @@ module _ (b key : List ℕ) (strikes : Strikes b key) where
   }
 
   abbrev kept-by : Setting (List ℕ)
-  kept-by = settingOf (keyLength b) (min (length b) maxBytes)
+  kept-by = settingOf (features b) (keyLength b) (min (length b) maxBytes)
 
   -- and after it, by the route that the rule takes
   abbrev route : Route (List ℕ)
-  route = routeOf (stored key 0)
+  route = routeOf b (stored key number)
 
   abbrev x : Shrunk (List ℕ)
-  x = remove (routeOf (stored key 0)) (strikes .sound .height) t
+  x = remove (routeOf b (stored key number)) (strikes .sound .height) t
 
   abbrev gone : List ℕ
-  gone = emptiedFrom (stored key 0) (entriesIn (keyLength b) b) (strikes .sound .height) (rootOffset b)
+  gone = emptiedFrom b (stored key number) (entriesIn (keyLength b) b) (strikes .sound .height) (rootOffset b)
 
   abbrev leftBy : Route (List ℕ) → List ℕ → Index (List ℕ)
   leftBy r out = record { height = remove r h t .0; tree = remove r h t .1; free = joinFree out (strikes .sound .free); size = fileSize b }
 
   abbrev after : Index (List ℕ)
-  after = leftBy (routeOf (stored key 0)) gone
+  after = leftBy (routeOf b (stored key number)) gone
 
   good : GoodHeader b
   good = good-header b (s .header)
 
   ready : Ready k b h
-  ready = sound-ready b s (some-has (key, 0) (pairs h (indexTree b h)) (strikes .there))
+  ready = sound-ready b s (some-has (keptBy b .pairLe) (key, number) (pairs h (indexTree b h)) (strikes .there))
 
   before-is : before ≡ indexOf b h (s .free)
   before-is = λ i. record { height = h; tree = sound-tree b s i; free = s .free; size = fileSize b }
 
-  route-same : route ≡ strikingRoute kept-by key
-  unfolding be32 toBe32
-  route-same = refl
+  route-same : route ≡ strikingRoute kept-by (key, number)
+  route-same = ap (λ (n : ℕ). keptBy b .route (key, n)) (be32-toBe32 number (strikes .r32))
 
   -- it is the theory's removal
-  after-is : after ≡ removed kept-by key before
+  after-is : after ≡ removed kept-by (key, number) before
   after-is = ap (leftBy route) (emptied-read route h (rootOffset b) (entriesIn k b) (ready .once))
       ∙ ap (λ (r : Route (List ℕ)). leftBy r (emptied r h t)) route-same
 
@@ -171,7 +171,7 @@ module _ (b key : List ℕ) (strikes : Strikes b key) where
   two = omega (arith, capacity-least k (good .key-high))
 
   sound-after : SoundIndex kept-by after
-  sound-after = subst (SoundIndex kept-by) (sym after-is) (removed-sound kept-by two before key sound-before)
+  sound-after = subst (SoundIndex kept-by) (sym after-is) (removed-sound kept-by two before (key, number) sound-before)
 
   -- the tree's pages are linked, and none has the number that names none
   proper : occ noPage (pages h t) ≡ 0
@@ -181,10 +181,10 @@ module _ (b key : List ℕ) (strikes : Strikes b key) where
   linked = subst (LinkedIndex (linksOf b)) (sym before-is) (sound-linked b s)
 
   -- a page of the buffer that is not in the tree
-  not-inside : (z : ℕ) → isPage (length b) z ≡ true → occ z (pages h t) ≡ 0 → Outside k key b h ready z
+  not-inside : (z : ℕ) → isPage (length b) z ≡ true → occ z (pages h t) ≡ 0 → Outside k key number b h ready (strikes .long) z
   not-inside z p o = (p, o, λ e. omega (arith, is-page (length b) z p .whole))
 
-  free-outside : (z : ℕ) → 0 < occ z (s .free) → Outside k key b h ready z
+  free-outside : (z : ℕ) → 0 < occ z (s .free) → Outside k key number b h ready (strikes .long) z
   free-outside z o =
       let p = once-page before (sound-before .pagesOnce) z (omega arith) in
       let g = is-page (fileSize b) z p in
@@ -192,7 +192,7 @@ module _ (b key : List ℕ) (strikes : Strikes b key) where
 
   -- the header is as it was, but for the free pointer
   rest : SameButFree b b′
-  rest = header-after k key b h ready
+  rest = header-after k key number b h ready (strikes .long)
 
   rest-window : (i n : ℕ) → i + n ≤ 504 → window b′ (8 + i) n ≡ window b (8 + i) n
   rest-window i n l = sym (window-window b′ 8 504 i n l) ∙ ap (λ (w : List ℕ). window w i n) (rest .after) ∙ window-window b 8 504 i n l
@@ -210,17 +210,18 @@ module _ (b key : List ℕ) (strikes : Strikes b key) where
   features-same = sym (getD-window b′ 8 504 6 0 (lit≤ tt)) ∙ ap (λ (w : List ℕ). getD w 6 0) (rest .after) ∙ getD-window b 8 504 6 0 (lit≤ tt)
 
   long : length b′ ≡ length b
-  long = length-after k key b h ready
+  long = length-after k key number b h ready (strikes .long)
 
   -- the free list: the emptied pages, before the old one
   free-list : FreeList b′ (after .free)
-  free-list = chain-after k key b h ready proper linked (s .free) free-outside (s .freeList)
+  free-list = chain-after k key number b h ready (strikes .long) proper linked (s .free) free-outside (s .freeList)
 
   free-page : (z : ℕ) → 0 < occ z (after .free) → FreePage b′ z
   free-page z o = either (ltb 0 (occ z gone))
-      (λ e. free-form b′ z (rightAt b′ z) (forms-after k key b h ready proper linked z (ltb-true 0 (occ z gone) e)))
+      (λ e. free-form b′ z (rightAt b′ z) (forms-after k key number b h ready (strikes .long) proper linked z (ltb-true 0 (occ z gone) e)))
       (λ e. let f : 0 < occ z (s .free) = omega (arith, joinFree-pages z gone (s .free), ltb-false 0 (occ z gone) e) in
-      free-same b b′ z (outside-after k key b h ready proper linked z (free-outside z f)) (occ-all (FreePage b) z (s .free) (s .freePages) f))
+      free-same b b′ z (outside-after k key number b h ready (strikes .long) proper linked z (free-outside z f))
+      (occ-all (FreePage b) z (s .free) (s .freePages) f))
 
   header-good : headerGood b′ ≡ true
   header-good =
@@ -236,14 +237,14 @@ module _ (b key : List ℕ) (strikes : Strikes b key) where
         free = rw (size-same, chained-head noPage (rightAt b′) (freePointer b′) (after .free) free-list)
             (head-all (λ p. freeGood (fileSize b) p ≡ true) noPage (after .free) (none-good (fileSize b))
             (λ z o. page-good (fileSize b) z (once-page after (sound-after .pagesOnce) z (omega arith))));
-        plain = features-same ∙ good .plain;
+        plain = rw features-same (good .plain);
       })
 
   -- the tree that is left, read up to the buffer's length and up to the file's size
   read : readTree (entriesIn k b′) (x .0) (rootOffset b′) ≡ x .1
   read =
       ap (λ (p : ℕ). readTree (entriesIn k b′) (x .0) p) root-same
-      ∙ subst (λ (y : Shrunk (List ℕ)). readTree (entriesIn k b′) (y .0) (rootOffset b) ≡ y .1) (tree-after k key b h ready) refl
+      ∙ subst (λ (y : Shrunk (List ℕ)). readTree (entriesIn k b′) (y .0) (rootOffset b) ≡ y .1) (tree-after k key number b h ready (strikes .long)) refl
 
   tree-is : indexTree b′ (x .0) ≡ x .1
   tree-is =
@@ -272,21 +273,21 @@ module _ (b key : List ℕ) (strikes : Strikes b key) where
 
   -- the entries that the root is left with
   abbrev rootLeft : List (List ℕ × ℕ)
-  rootLeft = storeAfter (stored key 0) (entriesIn (keyLength b) b) (strikes .sound .height) (rootOffset b) (rootOffset b)
+  rootLeft = storeAfter b (stored key number) (entriesIn (keyLength b) b) (strikes .sound .height) (rootOffset b) (rootOffset b)
 
   root-some : NonEmpty rootLeft → NonEmpty (removeEntries route h (t .1))
   root-some some =
       let root-entries : NonEmpty (entriesIn k b′ (rootOffset b)) =
-      subst (λ (S : Store (List ℕ)). NonEmpty (S (rootOffset b))) (sym (entries-after k key b h ready)) some in
+      subst (λ (S : Store (List ℕ)). NonEmpty (S (rootOffset b))) (sym (entries-after k key number b h ready (strikes .long))) some in
       settled-some h (rootOffset b) (removeEntries route h (t .1))
-      (subst (λ (y : Shrunk (List ℕ)). NonEmpty (y .1 .1)) (tree-after k key b h ready)
+      (subst (λ (y : Shrunk (List ℕ)). NonEmpty (y .1 .1)) (tree-after k key number b h ready (strikes .long))
       (map-some (readEntry (entriesIn k b′) (storeRemove route h (rootOffset b) (entriesIn k b) .0)) (entriesIn k b′ (rootOffset b)) root-entries))
 
   bits-kept : NonEmpty rootLeft → Bits x
   bits-kept some =
-      let v = heads-after k key b h ready some in
+      let v = heads-after k key number b h ready (strikes .long) some in
       let same : (z : ℕ) → 0 < occ z (shrunkPages x) → attributeAt b′ z ≡ attributeAt b z =
-      λ z o. let w = stays k key b h ready z o in v .attributes z (w .0) (w .1) in
+      λ z o. let w = stays k key number b h ready (strikes .long) z o in v .attributes z (w .0) (w .1) in
       record {
         leaf = λ j z l o.
             ap leafBit (same z (omega (arith, levelUnder-pages z j (suc (x .0)) (key, x .1))))
@@ -294,11 +295,11 @@ module _ (b key : List ℕ) (strikes : Strikes b key) where
             (subst (λ (T : Tree (List ℕ) h). 0 < occ z (level j h T)) (sound-tree b s) (omega (arith, level-kept route j z h t (root-some some))));
         root = λ z o. ap rootBit (same z o) ∙ old (λ p. rootBit (attributeAt b p) ≡ eqb p (rootOffset b)) (s .rootBits) z (was z o);
         small = λ z o. rw (same z o) (old (λ p. attributeAt b p ≤ 3) (s .attributes) z (was z o));
-        count = λ z o. v .counts z (stays k key b h ready z o .0) (old (CountGood b k h) (s .counts) z (was z o) .1);
+        count = λ z o. v .counts z (stays k key number b h ready (strikes .long) z o .0) (old (CountGood b k h) (s .counts) z (was z o) .1);
       }
 
   bits-lone : rootLeft ≡ [] → Bits x
-  bits-lone none = subst Bits (lone-tree k key b h ready none) (lone (root-after k key b h ready none))
+  bits-lone none = subst Bits (lone-tree k key number b h ready (strikes .long) none) (lone (root-after k key number b h ready (strikes .long) none))
     where
       is-root : (z : ℕ) → 0 < occ z (rootOffset b ∷ []) → z ≡ rootOffset b
       is-root z o = either (eqb z (rootOffset b)) (λ e. eqb-true z (rootOffset b) e) (λ e. absurd (omega (arith, ap countIf e)))
@@ -324,9 +325,11 @@ module _ (b key : List ℕ) (strikes : Strikes b key) where
   sound-now =
       let ps : List ℕ = pages (x .0) (indexTree b′ (x .0)) in
       index-sound b′ (x .0) (after .free) (min (length b) maxBytes) header-good
-      (subst (λ (n : ℕ). SoundIndex (settingOf n (min (length b) maxBytes)) (indexOf b′ (x .0) (after .free))) (sym key-same)
-      (subst (SoundIndex kept-by) (sym index-is) sound-after))
-      (subst (λ (T : Tree (List ℕ) (x .0)). AllLinked noPage (linksOf b′) (x .0) T) (sym tree-is) (links-after k key b h ready proper linked))
+      (subst (λ (n : ℕ). SoundIndex (settingOf n (keyLength b′) (min (length b) maxBytes)) (indexOf b′ (x .0) (after .free))) (sym features-same)
+      (subst (λ (n : ℕ). SoundIndex (settingOf (features b) n (min (length b) maxBytes)) (indexOf b′ (x .0) (after .free))) (sym key-same)
+      (subst (SoundIndex kept-by) (sym index-is) sound-after)))
+      (subst (λ (T : Tree (List ℕ) (x .0)). AllLinked noPage (linksOf b′) (x .0) T) (sym tree-is)
+      (links-after k key number b h ready (strikes .long) proper linked))
       (all-occ (λ p. attributeAt b′ p ≤ 3) ps (λ z o. bits .small z (there-in z o)))
       (all-occ (λ p. rootBit (attributeAt b′ p) ≡ eqb p (rootOffset b′)) ps (λ z o. bits .root z (there-in z o) ∙ ap (eqb z) (sym root-same)))
       (λ j l. all-occ (λ p. leafBit (attributeAt b′ p) ≡ eqb j 0) (level j (x .0) (indexTree b′ (x .0)))
@@ -345,39 +348,42 @@ module _ (b key : List ℕ) (strikes : Strikes b key) where
       either (ltb 0 (occ z (pages h t)))
       (λ u. contra (once-page before (sound-before .pagesOnce) z (omega (arith, ltb-true 0 (occ z (pages h t)) u))) e)
       (λ u. omega (arith, ltb-false 0 (occ z (pages h t)) u)) in
-      let same = outside-after k key b h ready proper linked z (not-inside z page unused) in
+      let same = outside-after k key number b h ready (strikes .long) proper linked z (not-inside z page unused) in
       rw (attribute-same b′ b z same, right-same b′ b z same) (strikes .plain z page))
 
--- what a removal that is accepted leaves: a sound index, the theory's removal from the old one; the old pairs without the key; and a header that differs in
--- its free pointer alone. The removal is one for whatever size the index may grow to
-pub record Removes (b key : List ℕ) (s : Sound b) : Type 0 where
-  pub sound : Sound (removedBuffer (keyLength b) b key)
-  pub index : (most : ℕ) → indexOf (removedBuffer (keyLength b) b key) (sound .height) (sound .free)
-      ≡ removed (settingOf (keyLength b) most) key (indexOf b (s .height) (s .free))
-  pub leaves : pairs (sound .height) (indexTree (removedBuffer (keyLength b) b key) (sound .height))
-      ≡ removePair (byKey bytesOrder) (key, 0) (pairs (s .height) (indexTree b (s .height)))
-  pub size : fileSize (removedBuffer (keyLength b) b key) ≡ fileSize b
-  pub header : SameButFree b (removedBuffer (keyLength b) b key)
-  pub keyIs : keyLength (removedBuffer (keyLength b) b key) ≡ keyLength b
-  pub as-long : length (removedBuffer (keyLength b) b key) ≡ length b
-  pub plain : Plain (removedBuffer (keyLength b) b key)
+-- what a removal that is accepted leaves: a sound index, the theory's removal from the old one; the old pairs without that one, for features 1 without the key;
+-- and a header that differs in its free pointer alone. The removal is one for whatever size the index may grow to
+pub record Removes (b key : List ℕ) (number : ℕ) (s : Sound b) : Type 0 where
+  pub sound : Sound (removedBuffer (keyLength b) b key number)
+  pub index : (most : ℕ) → indexOf (removedBuffer (keyLength b) b key number) (sound .height) (sound .free)
+      ≡ removed (settingOf (features b) (keyLength b) most) (key, number) (indexOf b (s .height) (s .free))
+  pub leaves : pairs (sound .height) (indexTree (removedBuffer (keyLength b) b key number) (sound .height))
+      ≡ removePair (keptBy b .pairLe) (key, number) (pairs (s .height) (indexTree b (s .height)))
+  pub size : fileSize (removedBuffer (keyLength b) b key number) ≡ fileSize b
+  pub header : SameButFree b (removedBuffer (keyLength b) b key number)
+  pub keyIs : keyLength (removedBuffer (keyLength b) b key number) ≡ keyLength b
+  pub featuresAre : features (removedBuffer (keyLength b) b key number) ≡ features b
+  pub as-long : length (removedBuffer (keyLength b) b key number) ≡ length b
+  pub plain : Plain (removedBuffer (keyLength b) b key number)
 
 -- Theorem: a removal that is accepted keeps the index sound
-pub remove-keeps-sound : (b key : List ℕ) (strikes : Strikes b key) → Removes b key (strikes .sound)
-remove-keeps-sound b key strikes =
+pub remove-keeps-sound : (b key : List ℕ) (number : ℕ) (strikes : Strikes b key number) → Removes b key number (strikes .sound)
+remove-keeps-sound b key number strikes =
     let s = strikes .sound in
-    let set = kept-by b key strikes in
-    let now = sound-now b key strikes in
-    let old-index = subst (SoundIndex set) (before-is b key strikes) (sound-before b key strikes) in
-    let same : indexOf (b′ b key strikes) (now .0 .height) (now .0 .free) ≡ removed set key (indexOf b (s .height) (s .free)) =
-    ap₂ (indexOf (b′ b key strikes)) (now .1) (now .2) ∙ index-is b key strikes ∙ after-is b key strikes ∙ ap (removed set key) (before-is b key strikes) in
+    let set = kept-by b key number strikes in
+    let now = sound-now b key number strikes in
+    let old-index = subst (SoundIndex set) (before-is b key number strikes) (sound-before b key number strikes) in
+    let same : indexOf (b′ b key number strikes) (now .0 .height) (now .0 .free) ≡ removed set (key, number) (indexOf b (s .height) (s .free)) =
+    ap₂ (indexOf (b′ b key number strikes)) (now .1) (now .2) ∙ index-is b key number strikes ∙ after-is b key number strikes
+    ∙ ap (removed set (key, number)) (before-is b key number strikes) in
     record {
       sound = now .0;
       index = λ most. same;
-      leaves = ap held same ∙ removed-pairs set (two b key strikes) (indexOf b (s .height) (s .free)) key old-index (strikes .there);
-      size = size-same b key strikes;
-      header = rest b key strikes;
-      keyIs = key-same b key strikes;
-      as-long = long b key strikes;
-      plain = plain-after b key strikes;
+      leaves = ap held same ∙ removed-pairs set (two b key number strikes) (indexOf b (s .height) (s .free)) (key, number) old-index (strikes .there);
+      size = size-same b key number strikes;
+      header = rest b key number strikes;
+      keyIs = key-same b key number strikes;
+      featuresAre = features-same b key number strikes;
+      as-long = long b key number strikes;
+      plain = plain-after b key number strikes;
     }

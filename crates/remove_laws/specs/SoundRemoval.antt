@@ -28,7 +28,7 @@ use Rattle.sound.specs.Sound.{indexTree, indexPages, linksOf, FreePage, Sound, 
 use Rattle.sound.specs.FreeLaws.{free-attribute}
 use Rattle.sound.specs.IndexLaws.{indexOf, sound-sized, sound-index}
 use Rattle.layout_laws.specs.EntryLaws.{entriesIn}
-use Rattle.insert_laws.specs.InsertEntries.{Shaped}
+use Rattle.insert_laws.specs.ItemLists.{Shaped}
 use Rattle.insert_laws.specs.SoundReading.{sound-tree, sound-shaped}
 use Rattle.remove_laws.specs.RemoveEntries.{Filled}
 use Rattle.remove_laws.specs.RemoveBuffer.{Ready}
@@ -100,7 +100,7 @@ module _ (k : ℕ) (b : List ℕ) where
 
   filled-under : (h : ℕ) (e : List ℕ × ℕ) → Shaped k h b (e .1) → SizedUnder (capacity k) (suc h) (readEntry S (suc h) e) → Filled k h b (e .1)
   filled-under zero e f z = (f .0, f .1, nonEmpty-length (S (e .1)) (rw (length-map (S (e .1)) (readEntry S zero)) at (z .0)))
-  filled-under (suc h) e f z = (f .0, f .1, f .2, filled-level h (λ c g y. filled-under h c g y) (S (e .1)) (f .3) (z .2))
+  filled-under (suc h) e f z = (f .0, f .1, f .2, filled-level h (λ c g y. filled-under h c g y) (S (e .1)) (f .3) (z .2), f .4)
 
   filled-root : (h p : ℕ) → Shaped k h b p → Sized (capacity k) h (readTree S h p) → NonEmpty (pairs h (readTree S h p)) → Filled k h b p
   filled-root zero p f z some = (f .0, f .1, unread (S p) (concatMap-nonEmpty (pairsUnder zero) (map (readEntry S zero) (S p)) some))
@@ -108,7 +108,7 @@ module _ (k : ℕ) (b : List ℕ) where
       unread : (es : List (List ℕ × ℕ)) → NonEmpty (map (readEntry S zero) es) → NonEmpty es
       unread [] n = n
       unread (e ∷ es) n = tt
-  filled-root (suc h) p f z some = (f .0, f .1, f .2, filled-level h (λ c g y. filled-under h c g y) (S p) (f .3) (z .2))
+  filled-root (suc h) p f z some = (f .0, f .1, f .2, filled-level h (λ c g y. filled-under h c g y) (S p) (f .3) (z .2), f .4)
 
 -- Theorem: a sound index that has pairs is ready for a removal
 pub sound-ready : (b : List ℕ) (s : Sound b) → NonEmpty (leafPairs b s) → Ready (keyLength b) b (s .height)

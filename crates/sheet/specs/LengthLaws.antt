@@ -17,7 +17,7 @@ use Rattle.octets.specs.DigitLaws.{decimal-fits}
 use Rattle.numeral.specs.declared.Number.{Number}
 use Rattle.numeral.specs.declared.Number.the-variants as text
 use Rattle.table.specs.Table.{typeC, recordCount, recordLength, recordsEnd, fieldCount, fieldType, fieldLength, deletionByte, deletedMark, firstRefusal}
-use Rattle.table.specs.Table.{tableChecks}
+use Rattle.table.specs.Table.{tableChecks, tableRefusal}
 use Rattle.table.specs.TableLaws.{layout}
 use Rattle.table.specs.RecordLaws.{field-inside, offset-positive}
 use Rattle.table.specs.FormLaws.{field-form, form-some}
@@ -30,7 +30,7 @@ use Rattle.sound.specs.Rule.{pagesGood}
 use Rattle.matching.specs.Match.{matchRefusal}
 use Rattle.matching.specs.Rule.{columnOf, entriesMatch, leafEntries}
 use Rattle.matching.specs.Computed.{matchAnswer}
-use Rattle.dilution.specs.Dilution.{volumesOf, concentrationDecimals, concentrationText, concentrationOf, fieldChecks, sheetChecks, recordWith}
+use Rattle.dilution.specs.Dilution.{volumesOf, concentrationDecimals, concentrationText, concentrationOf, headerChecks, fieldChecks, sheetChecks, recordWith}
 use Rattle.dilution.specs.Dilution.{barcodeChecks, textChecks, volumeChecks, unless, dilutionOf, recordDilution, diluteRule}
 use Rattle.dilution.specs.CheckLaws.{unless-pass, unless-fail}
 use Rattle.dilution.specs.StepLaws.{range-bounds}
@@ -78,8 +78,8 @@ match-low t b field =
     first-small tests (before, (lit< tt, (lit< tt, tt)))
 
 sheet-low : (t b : List ℕ) (barcodeField field : ℕ) → All Low (sheetChecks t b barcodeField field)
-unfolding sheetChecks fieldChecks
-sheet-low t b barcodeField field = (match-low t b barcodeField, (lit< tt, (lit< tt, tt)))
+unfolding sheetChecks headerChecks fieldChecks tableRefusal
+sheet-low t b barcodeField field = (first-small (tableChecks t) (table-below t), (lit< tt, (match-low t b barcodeField, (lit< tt, (lit< tt, tt)))))
 
 text-low : (t : List ℕ) (i field : ℕ) (n : Number) → concentrationText t i field ≡ n → numberRefusal n < 256
 unfolding numberRefusal concentrationText

@@ -15,11 +15,12 @@ use Rattle.tree.specs.Pairs.{Ascending}
 use Rattle.tree.specs.Tree.{pairs}
 use Rattle.tree.specs.Clauses.{Ceilings}
 use Rattle.tree.specs.Levels.{reached, generations-reached}
-use Rattle.page.specs.Header.{maxBytes, maxLevels, pageSize, rootOffset, freePointer, fileSize, keyLength, isPage, headerGood}
+use Rattle.tree.specs.Keeping.{pairOrder}
+use Rattle.page.specs.Header.{maxBytes, maxLevels, pageSize, rootOffset, freePointer, fileSize, keyLength, isPage, headerGood, features}
 use Rattle.page.specs.HeaderLaws.{is-page, good-header}
 use Rattle.page.specs.KeyOrder.{bytesOrder}
 use Rattle.page.specs.Reading.{entriesAt}
-use Rattle.sound.specs.Sound.{indexTree, Sound, Audited}
+use Rattle.sound.specs.Sound.{indexTree, Sound, Audited, keptBy}
 use Rattle.sound.specs.Rule.{Entries, Level, laterPages, rootLevel, levelsUnder, checkFree, complete, shapeGood, keysAboveGood, pagesGood}
 use Rattle.sound.specs.FreeLaws.{Free, free-found, free-passed}
 use Rattle.sound.specs.LevelLaws.{LevelGood, Known, GoodUnder, lowerPages, Found, level-known, level-good, levels-good, levels-found, levels-reached}
@@ -122,7 +123,8 @@ shape-accepted b e =
 
 -- and then the second pass accepts exactly the keys above pages that are ceilings
 pub keys-accepted : (b : List ℕ) → headerGood b ≡ true → (s : Shape b (keyLength b) (fileSize b) (rootOffset b))
-    → Ascending bytesOrder (pairs (s .height) (indexTree b (s .height))) → (keysAboveGood b ≡ true) ↔ Ceilings bytesOrder (s .height) (indexTree b (s .height))
+    → Ascending (pairOrder bytesOrder (features b)) (pairs (s .height) (indexTree b (s .height)))
+    → (keysAboveGood b ≡ true) ↔ Ceilings (keptBy b) (s .height) (indexTree b (s .height))
 unfolding keysAboveGood
 keys-accepted b e s ascending =
     let g = good-header b e in

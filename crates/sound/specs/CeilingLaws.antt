@@ -8,6 +8,7 @@ use mathlib.Core.Bool.{Bool, true, false, cond, not}
 use mathlib.Core.Option.{Option, none, some}
 use mathlib.Core.Logic.{_↔_}
 use lib.ListN.{length-map}
+use borrow.Author.Tests.{not-true}
 use Rattle.basis.specs.Lists.{All, all-left, all-map}
 use Rattle.basis.specs.Tests.{either, contra, both, join}
 use Rattle.tree.specs.Lists.{NonEmpty, concatMap}
@@ -15,21 +16,24 @@ use Rattle.tree.specs.ListLaws.{concatMap-single, nonEmpty-length, all-unit}
 use Rattle.tree.specs.Order.{Le, Lt}
 use Rattle.tree.specs.OrderLaws.{lt-le}
 use Rattle.tree.specs.Pairs.{firstKey, lastKey, Below, Ascending}
-use Rattle.tree.specs.PairLaws.{lastKey-all, lastKey-append, firstKey-append, below-up, ascending-left, ascending-right, ascending-across, ascending-last}
+use Rattle.tree.specs.PairLaws.{lastKey-all, lastKey-append, firstKey-append, below-up, ascending-left, ascending-right}
+use Rattle.tree.specs.KeepingLaws.{ascending-across, ascending-last}
 use Rattle.tree.specs.Tree.{pairsUnder, pairs}
 use Rattle.tree.specs.Clauses.{SizedUnder, AtOrAbove, BelowNext, headOr}
-use Rattle.tree.specs.ClauseLaws.{sized-nonEmpty, firstKey-above}
+use Rattle.tree.specs.Keeping.{Clear, pairOrder, keepingOf}
+use Rattle.tree.specs.ClauseLaws.{sized-nonEmpty, firstKey-clear}
 use Rattle.tree.specs.Store.{readEntry, readTree}
 use Rattle.tree.specs.StoreLaws.{map-read-zero}
 use Rattle.tree.specs.Levels.{all-of-map, numbers, readAll}
 use Rattle.octets.specs.Order.{bytesLe, ordering, isBelow, isEqual}
 use Rattle.octets.specs.OrderLaws.{le-antisym}
-use Rattle.page.specs.Header.{noPage}
+use Rattle.page.specs.Header.{noPage, features}
 use Rattle.page.specs.KeyOrder.{bytesOrder}
 use Rattle.page.specs.KeyOrderLaws.{below, below-not-le, equal-same, equal-refl}
 use Rattle.page.specs.Reading.{entriesAt}
 use Rattle.sound.specs.Rule.{Entries, Keys, firstOf, lastOf, lastNumber, down, isCeiling, isLast, firstLeafKey, lastLeafKey, belowNext}
 use Rattle.sound.specs.Rule.{onward, upperEntry, upperEntries}
+use Rattle.sound.specs.Sound.{keptBy}
 use Rattle.sound.specs.EntryLaws.{last-some}
 
 -- keys that are good, and then what comes after them
@@ -67,13 +71,13 @@ last-le x a [] s c = absurd s
 last-le x a (y ∷ ys) s c = lastKey-all (λ z. Le bytesOrder z x) (y .0) ys (c .0) (c .1)
 
 -- the test of a key x over a child with the leaf pairs u, whose last key is l: N is what `next` says, and follows if x is l
-module _ (x a : List ℕ) (u : Entries) (next : Bool) (N : Type 0) (some-u : NonEmpty u) (ascending : Ascending bytesOrder u)
+module _ (f : ℕ) (x a : List ℕ) (u : Entries) (next : Bool) (N : Type 0) (some-u : NonEmpty u) (ascending : Ascending (pairOrder bytesOrder f) u)
     (holds : next ≡ true → N) (tells : N → next ≡ true) (follows : lastKey a u ≡ x → N) where
   abbrev l : List ℕ
   l = lastKey a u
 
   covered : Below bytesOrder l u
-  covered = ascending-last bytesOrder a u ascending
+  covered = ascending-last (keepingOf bytesOrder f) a u ascending
 
   test-ceiling : isCeiling (some (lastKey a u)) x next ≡ true → Below bytesOrder x u × N
   test-ceiling g = either (isEqual (ordering l x))
@@ -114,8 +118,8 @@ module _ (b : List ℕ) (k size : ℕ) where
   -- the keys of the entries xs of a page are ceilings, over pages that have h levels under them
   abbrev pub PageCeilings : ℕ → Entries → Type 0
   PageCeilings h xs =
-      AtOrAbove bytesOrder (pairsUnder (suc h)) (readAll (entriesAt k size b) (suc h) xs)
-      × BelowNext bytesOrder (pairsUnder (suc h)) (readAll (entriesAt k size b) (suc h) xs)
+      AtOrAbove (keptBy b) (pairsUnder (suc h)) (readAll (entriesAt k size b) (suc h) xs)
+      × BelowNext (keptBy b) (pairsUnder (suc h)) (readAll (entriesAt k size b) (suc h) xs)
 
   -- a leaf's pairs are its entries
   leaf-entries : (p : ℕ) → pairs zero (readTree S zero p) ≡ S p
@@ -155,46 +159,49 @@ module _ (b : List ℕ) (k size : ℕ) where
     last-leaf zero a e d = rw (leaf-entries (e .1)) (last-some none a (S (e .1)) (full-some cap zero e d))
     last-leaf (suc h) a e d = last-of-children h (last-leaf h) a noPage (S (e .1)) (full-some cap (suc h) e d) (full-children cap h e d)
 
-    -- the key x is below the first leaf key under the first of the entries xs, if there is one
+    -- the key x may stand before the first leaf key under the first of the entries xs, if there is one
     abbrev Next : ℕ → List ℕ → Entries → Type 0
     Next h x [] = Unit {0}
-    Next h x (y ∷ ys) = Lt bytesOrder x (firstKey x (pairs h (readTree S h (y .1))))
+    Next h x (y ∷ ys) = Clear (keptBy b) x (firstKey x (pairs h (readTree S h (y .1))))
 
     next-holds : (h : ℕ) (x : List ℕ) (ys : Entries) → All (Full cap h) ys → belowNext b k size h x ys ≡ true → Next h x ys
     next-holds h x [] d e = tt
-    next-holds h x (y ∷ ys) d e = below-lt x _ (rw (first-leaf h x y (d .0)) at e)
+    next-holds h x (y ∷ ys) d e = not-true _ (rw (first-leaf h x y (d .0)) at e)
 
     next-tells : (h : ℕ) (x : List ℕ) (ys : Entries) → All (Full cap h) ys → Next h x ys → belowNext b k size h x ys ≡ true
     next-tells h x [] d n = refl
-    next-tells h x (y ∷ ys) d n = rw (first-leaf h x y (d .0)) (lt-below x _ n)
+    next-tells h x (y ∷ ys) d n = rw (first-leaf h x y (d .0)) (ap not n)
 
-    -- the last leaf key under an entry is below the leaf keys under the next
-    next-follows : (h : ℕ) (x : List ℕ) (u ys : Entries) → NonEmpty u → All (Full cap h) ys → Ascending bytesOrder (u ++ leafPairs h ys)
+    -- the last leaf key under an entry may stand before the leaf keys under the next
+    next-follows : (h : ℕ) (x : List ℕ) (u ys : Entries) → NonEmpty u → All (Full cap h) ys
+        → Ascending (pairOrder bytesOrder (features b)) (u ++ leafPairs h ys)
         → lastKey x u ≡ x → Next h x ys
     next-follows h x u [] s d ascending e = tt
     next-follows h x u (y ∷ ys) s d ascending e =
         let v = pairs h (readTree S h (y .1)) in
-        firstKey-above bytesOrder x v (sized-nonEmpty cap (suc h) (readEntry S (suc h) y) (d .0))
-        (all-left (λ e. Lt bytesOrder x (e .0)) v (leafPairs h ys)
-        (rw e at (ascending-across bytesOrder x u (v ++ leafPairs h ys) s ascending)))
+        firstKey-clear (keptBy b) x v (sized-nonEmpty cap (suc h) (readEntry S (suc h) y) (d .0))
+        (all-left (λ e. Clear (keptBy b) x (e .0)) v (leafPairs h ys)
+        (rw e at (ascending-across (keptBy b) x u (v ++ leafPairs h ys) s ascending)))
 
     -- one entry
-    entry-ceiling : (h : ℕ) (e : List ℕ × ℕ) (es : Entries) → Full cap h e → All (Full cap h) es → Ascending bytesOrder (leafPairs h (e ∷ es))
+    entry-ceiling : (h : ℕ) (e : List ℕ × ℕ) (es : Entries) → Full cap h e → All (Full cap h) es
+        → Ascending (pairOrder bytesOrder (features b)) (leafPairs h (e ∷ es))
         → (upperEntry b k size h h e es .good ≡ true) ↔ (Below bytesOrder (e .0) (pairs h (readTree S h (e .1))) × Next h (e .0) es)
     entry-ceiling h e es d ds ascending =
         let x = e .0 in
         let u = pairs h (readTree S h (e .1)) in
         let some-u = sized-nonEmpty cap (suc h) (readEntry S (suc h) e) d in
-        let own = ascending-left bytesOrder u (leafPairs h es) ascending in
+        let own = ascending-left (pairOrder bytesOrder (features b)) u (leafPairs h es) ascending in
         let follows = next-follows h x u es some-u ds ascending in
         rw (last-leaf h x e d) (
-          test-ceiling x x u (belowNext b k size h x es) (Next h x es) some-u own (next-holds h x es ds) (next-tells h x es ds) follows,
-          ceiling-test x x u (belowNext b k size h x es) (Next h x es) some-u own (next-holds h x es ds) (next-tells h x es ds) follows,
+          test-ceiling (features b) x x u (belowNext b k size h x es) (Next h x es) some-u own (next-holds h x es ds) (next-tells h x es ds) follows,
+          ceiling-test (features b) x x u (belowNext b k size h x es) (Next h x es) some-u own (next-holds h x es ds) (next-tells h x es ds) follows,
         )
 
     -- Theorem: the test of a page's entries says that their keys are ceilings
     pub entries-ceilings : (h : ℕ) (x : Bool) (xs : Entries) → All (Full cap h) xs
-        → Ascending bytesOrder (concatMap (pairsUnder (suc h)) (readAll S (suc h) xs)) → (upperEntries b k size h h x xs .good ≡ true) ↔ PageCeilings h xs
+        → Ascending (pairOrder bytesOrder (features b)) (concatMap (pairsUnder (suc h)) (readAll S (suc h) xs))
+        → (upperEntries b k size h h x xs .good ≡ true) ↔ PageCeilings h xs
     unfolding upperEntries
     entries-ceilings h x [] d ascending = ((λ g. (tt, tt)), (λ c. refl))
     entries-ceilings h x (e ∷ []) d ascending =
@@ -206,7 +213,7 @@ module _ (b : List ℕ) (k size : ℕ) where
         let key = upperEntry b k size h h e (y ∷ ys) in
         let here = entry-ceiling h e (y ∷ ys) (d .0) (d .1) ascending in
         let rest = entries-ceilings h (key .exact) (y ∷ ys) (d .1)
-        (ascending-right bytesOrder (pairs h (readTree S h (e .1))) (leafPairs h (y ∷ ys)) ascending) in (
+        (ascending-right (pairOrder bytesOrder (features b)) (pairs h (readTree S h (e .1))) (leafPairs h (y ∷ ys)) ascending) in (
           (λ g.
               let t = went-on key _ g in
               let v = here .0 (t .0) in

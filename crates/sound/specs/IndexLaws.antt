@@ -16,25 +16,26 @@ use Rattle.tree.specs.ListLaws.{all-map2, occ-here, occ-append, occ-all}
 use Rattle.tree.specs.Tree.{level}
 use Rattle.tree.specs.Clauses.{least, Sized}
 use Rattle.tree.specs.Ordered.{ordered-ascending}
+use Rattle.tree.specs.Keeping.{keepingOf}
 use Rattle.tree.specs.ClauseLaws.{ceilings-ordered, ordered-ceilings}
 use Rattle.tree.specs.Index.{Index, Setting}
 use Rattle.tree.specs.SoundIndex.{used, PagesOnce, SoundIndex, LinkedIndex}
 use Rattle.tree.specs.Levels.{pages-generation, sized-pages}
-use Rattle.page.specs.Header.{maxLevels, pageSize, rootOffset, fileSize, keyLength, isPage, headerGood}
+use Rattle.page.specs.Header.{maxLevels, pageSize, rootOffset, fileSize, keyLength, isPage, headerGood, features}
 use Rattle.page.specs.Page.{attributeAt, countAt, rootBit, leafBit, capacity}
 use Rattle.page.specs.KeyOrder.{bytesOrder}
 use Rattle.page.specs.HeaderLaws.{IsPage, is-page, is-page-from, good-header}
 use Rattle.page.specs.Reading.{entriesAt}
 use Rattle.page.specs.ReadingLaws.{length-entries}
-use Rattle.sound.specs.Sound.{indexTree, indexPages, linksOf, CountGood, FreePage, FreeList, Sound}
+use Rattle.sound.specs.Sound.{indexTree, indexPages, linksOf, CountGood, FreePage, FreeList, Sound, keptBy}
 use Rattle.sound.specs.ShapeLaws.{tree-sized}
 
--- the index as the theory has it, with h levels under its root and the free list `free`, and its setting: F may be `most` at most
+-- the index as the theory has it, with h levels under its root and the free list `free`, and its setting, by its features: F may be `most` at most
 abbrev pub indexOf : List ℕ → ℕ → List ℕ → Index (List ℕ)
 indexOf b h free = record { height = h; tree = indexTree b h; free = free; size = fileSize b }
 
-abbrev pub settingOf : ℕ → ℕ → Setting (List ℕ)
-settingOf k most = record { order = bytesOrder; capacity = capacity k; maxSize = most; maxLevels = maxLevels }
+abbrev pub settingOf : ℕ → ℕ → ℕ → Setting (List ℕ)
+settingOf f k most = record { keeping = keepingOf bytesOrder f; capacity = capacity k; maxSize = most; maxLevels = maxLevels }
 
 module _ (b : List ℕ) where
   -- every page of a sound index is one of the file, and has as many entries as its count says
@@ -70,13 +71,13 @@ module _ (b : List ℕ) where
       }
 
   -- Theorem: a sound index is sound in the theory
-  pub sound-index : (s : Sound b) (most : ℕ) → fileSize b ≤ most → SoundIndex (settingOf (keyLength b) most) (indexOf b (s .height) (s .free))
+  pub sound-index : (s : Sound b) (most : ℕ) → fileSize b ≤ most → SoundIndex (settingOf (features b) (keyLength b) most) (indexOf b (s .height) (s .free))
   sound-index s most small =
       let h = s .height in
       let few = s .levels in
       let z = sound-sized s in
       record {
-        ordered = ceilings-ordered bytesOrder (capacity (keyLength b)) h (indexTree b h) (z .2) (s .ascending) (s .ceilings);
+        ordered = ceilings-ordered (keptBy b) (capacity (keyLength b)) h (indexTree b h) (z .2) (s .ascending) (s .ceilings);
         sized = z;
         pagesOnce = sound-once s;
         records = s .records;
@@ -127,7 +128,8 @@ module _ (b : List ℕ) (h : ℕ) (free : List ℕ) where
 
   -- Theorem: an index is sound if its header is good, the theory calls it sound, its pages have good attributes, links and counts, and its free list is in the
   -- file
-  pub index-sound : (most : ℕ) → headerGood b ≡ true → SoundIndex (settingOf (keyLength b) most) (indexOf b h free) → LinkedIndex (linksOf b) (indexOf b h free)
+  pub index-sound : (most : ℕ) → headerGood b ≡ true → SoundIndex (settingOf (features b) (keyLength b) most) (indexOf b h free)
+      → LinkedIndex (linksOf b) (indexOf b h free)
       → All (λ p. attributeAt b p ≤ 3) (indexPages b h) → All (λ p. rootBit (attributeAt b p) ≡ eqb p (rootOffset b)) (indexPages b h)
       → ((j : ℕ) → j ≤ h → All (λ p. leafBit (attributeAt b p) ≡ eqb j 0) (level j h (indexTree b h)))
       → All (λ p. countAt b p ≤ capacity (keyLength b)) (indexPages b h) → FreeList b free → All (FreePage b) free
@@ -153,9 +155,9 @@ module _ (b : List ℕ) (h : ℕ) (free : List ℕ) where
           leafBits = leafBits;
           levels = omega arith;
           counts = all-map2 Enough NotOver (CountGood b (keyLength b) h) (λ p u c. (u, c)) ps low counts;
-          ascending = ordered-ascending bytesOrder h (indexTree b h) (i .ordered);
+          ascending = ordered-ascending (keptBy b) h (indexTree b h) (i .ordered);
           records = i .records;
-          ceilings = ordered-ceilings bytesOrder h (indexTree b h) (i .ordered);
+          ceilings = ordered-ceilings (keptBy b) h (indexTree b h) (i .ordered);
           links = l;
         },
         refl,

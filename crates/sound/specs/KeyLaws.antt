@@ -14,14 +14,16 @@ use Rattle.tree.specs.ListLaws.{all-unit, all-map2}
 use Rattle.tree.specs.Pairs.{Ascending}
 use Rattle.tree.specs.Tree.{Tree, pairsUnder, pairs}
 use Rattle.tree.specs.Clauses.{Ceilings, headOr}
-use Rattle.tree.specs.ClauseLaws.{ascending-parts}
+use Rattle.tree.specs.Keeping.{pairOrder}
+use Rattle.tree.specs.PairLaws.{ascending-parts}
 use Rattle.tree.specs.Store.{readEntry, readTree}
 use Rattle.tree.specs.Levels.{all-of-map, all-to-map, all-of-concat, all-to-concat, numbers, readAll, below, generation, reached, generations-reached}
-use Rattle.page.specs.Header.{maxBytes, maxLevels, pageSize, noPage, isPage}
+use Rattle.page.specs.Header.{maxBytes, maxLevels, pageSize, noPage, isPage, features}
 use Rattle.page.specs.Page.{capacity}
 use Rattle.page.specs.KeyOrder.{bytesOrder}
 use Rattle.page.specs.Reading.{entriesAt}
 use Rattle.page.specs.Children.{firstChild}
+use Rattle.sound.specs.Sound.{keptBy}
 use Rattle.sound.specs.Rule.{Entries, maxPages, chain, heightOf, upperEntries, upperPages, upperLevels, keysUnderGood, down}
 use Rattle.sound.specs.CeilingLaws.{onward-good, went-on, onward-same, Full, full-some, full-children, PageCeilings, entries-ceilings}
 use Rattle.sound.specs.CeilingLaws.{OwnLast, own-page, SameLast, same-last, entries-same}
@@ -43,7 +45,7 @@ module _ (b : List ℕ) (k size : ℕ) (most : size ≤ maxBytes) where
     under h e = readTree S h (e .1)
 
     abbrev Ascends : ℕ → List ℕ × ℕ → Type 0
-    Ascends h e = Ascending bytesOrder (pairs h (under h e))
+    Ascends h e = Ascending (pairOrder bytesOrder (features b)) (pairs h (under h e))
 
     -- the pages of one level
     pages-ceilings : (h : ℕ) (x : Bool) (es : Entries) → All (Full b k size cap (suc h)) es → All (Ascends (suc h)) es
@@ -89,23 +91,23 @@ module _ (b : List ℕ) (k size : ℕ) (most : size ≤ maxBytes) where
     ascends-below h es a =
         all-to-concat (Ascends h) (λ e. S (e .1)) es
         (all-map (Ascends (suc h)) (λ e. All (Ascends h) (S (e .1)))
-        (λ e u. all-of-map (λ x. Ascending bytesOrder (pairsUnder (suc h) x)) (readEntry S (suc h)) (S (e .1))
-        (ascending-parts bytesOrder (pairsUnder (suc h)) (readAll S (suc h) (S (e .1))) u)) es a)
+        (λ e u. all-of-map (λ x. Ascending (pairOrder bytesOrder (features b)) (pairsUnder (suc h) x)) (readEntry S (suc h)) (S (e .1))
+        (ascending-parts (pairOrder bytesOrder (features b)) (pairsUnder (suc h)) (readAll S (suc h) (S (e .1))) u)) es a)
 
     -- the clause on a tree: its root's entries, and the trees under them
     abbrev Lower : ℕ → List ℕ × ℕ → Type 0
-    Lower h e = All (λ f. Ceilings bytesOrder h (under h f)) (S (e .1))
+    Lower h e = All (λ f. Ceilings (keptBy b) h (under h f)) (S (e .1))
 
-    ceilings-join : (h : ℕ) (e : List ℕ × ℕ) → PageCeilings b k size h (S (e .1)) → Lower h e → Ceilings bytesOrder (suc h) (under (suc h) e)
-    ceilings-join h e c d = (c .0, c .1, all-to-map (λ x. Ceilings bytesOrder h (x .1)) (readEntry S (suc h)) (S (e .1)) d)
+    ceilings-join : (h : ℕ) (e : List ℕ × ℕ) → PageCeilings b k size h (S (e .1)) → Lower h e → Ceilings (keptBy b) (suc h) (under (suc h) e)
+    ceilings-join h e c d = (c .0, c .1, all-to-map (λ x. Ceilings (keptBy b) h (x .1)) (readEntry S (suc h)) (S (e .1)) d)
 
-    ceilings-lower : (h : ℕ) (e : List ℕ × ℕ) → Ceilings bytesOrder (suc h) (under (suc h) e) → Lower h e
-    ceilings-lower h e c = all-of-map (λ x. Ceilings bytesOrder h (x .1)) (readEntry S (suc h)) (S (e .1)) (c .2)
+    ceilings-lower : (h : ℕ) (e : List ℕ × ℕ) → Ceilings (keptBy b) (suc h) (under (suc h) e) → Lower h e
+    ceilings-lower h e c = all-of-map (λ x. Ceilings (keptBy b) h (x .1)) (readEntry S (suc h)) (S (e .1)) (c .2)
 
     -- the levels, of which the last may be exact
     levels-ceilings : (h : ℕ) (es : Entries) (first : ℕ) → NonEmpty es → first ≡ headOr noPage (numbers es) → Chained h es
         → (0 < h → All (Full b k size cap h) es) → All (Ascends h) es
-        → ((upperLevels b k size h first .good ≡ true) ↔ All (λ e. Ceilings bytesOrder h (under h e)) es)
+        → ((upperLevels b k size h first .good ≡ true) ↔ All (λ e. Ceilings (keptBy b) h (under h e)) es)
         × (upperLevels b k size h first .good ≡ true → upperLevels b k size h first .exact ≡ true → All (OwnLast b k size h) es)
     unfolding upperLevels down
     levels-ceilings zero es first some e chained full ascends =
@@ -125,13 +127,13 @@ module _ (b : List ℕ) (k size : ℕ) (most : size ≤ maxBytes) where
           (
             (λ g.
                 let t = went-on lower _ g .0 in
-                all-map2 (λ e. PageCeilings b k size h (S (e .1))) (Lower h) (λ e. Ceilings bytesOrder (suc h) (under (suc h) e)) (ceilings-join h) es
+                all-map2 (λ e. PageCeilings b k size h (S (e .1))) (Lower h) (λ e. Ceilings (keptBy b) (suc h) (under (suc h) e)) (ceilings-join h) es
                 (here .0 (rw (is t) at g))
-                (all-of-concat (λ f. Ceilings bytesOrder h (under h f)) (λ e. S (e .1)) es (rest .0 .0 t))),
+                (all-of-concat (λ f. Ceilings (keptBy b) h (under h f)) (λ e. S (e .1)) es (rest .0 .0 t))),
             (λ c.
-                let pages = all-map (λ e. Ceilings bytesOrder (suc h) (under (suc h) e)) (λ e. PageCeilings b k size h (S (e .1))) (λ e u. (u .0, u .1)) es c in
-                let each = all-map (λ e. Ceilings bytesOrder (suc h) (under (suc h) e)) (Lower h) (ceilings-lower h) es c in
-                rw (is (rest .0 .1 (all-to-concat (λ f. Ceilings bytesOrder h (under h f)) (λ e. S (e .1)) es each))) (here .1 pages)),
+                let pages = all-map (λ e. Ceilings (keptBy b) (suc h) (under (suc h) e)) (λ e. PageCeilings b k size h (S (e .1))) (λ e u. (u .0, u .1)) es c in
+                let each = all-map (λ e. Ceilings (keptBy b) (suc h) (under (suc h) e)) (Lower h) (ceilings-lower h) es c in
+                rw (is (rest .0 .1 (all-to-concat (λ f. Ceilings (keptBy b) h (under h f)) (λ e. S (e .1)) es each))) (here .1 pages)),
           ),
           (λ g u. let t = is (went-on lower _ g .0) in pages-own h true es filled (rw t at g) (rw t at u) .1),
         )
@@ -186,8 +188,8 @@ module _ (b : List ℕ) (k size root : ℕ) (whole : size % pageSize ≡ 0) (mos
       (omega arith, z .1, z .2)
 
   -- Theorem: if the leaf keys ascend, the second pass accepts exactly the keys above pages that are ceilings
-  pub keys-ceilings : Ascending bytesOrder (pairs (s .height) (readTree (entriesAt k size b) (s .height) root))
-      → (keysUnderGood b k size (s .height) root ≡ true) ↔ Ceilings bytesOrder (s .height) (readTree (entriesAt k size b) (s .height) root)
+  pub keys-ceilings : Ascending (pairOrder bytesOrder (features b)) (pairs (s .height) (readTree (entriesAt k size b) (s .height) root))
+      → (keysUnderGood b k size (s .height) root ≡ true) ↔ Ceilings (keptBy b) (s .height) (readTree (entriesAt k size b) (s .height) root)
   keys-ceilings ascending =
       let levels = levels-ceilings b k size most (capacity k) h (rootEntry root) root tt refl chained (λ l. (full-root l, tt)) (ascending, tt) .0 in
       ((λ g. levels .0 g .0), (λ c. levels .1 (c, tt)))

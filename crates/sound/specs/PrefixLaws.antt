@@ -18,6 +18,7 @@ use Rattle.tree.specs.Pairs.{Ascending}
 use Rattle.tree.specs.Tree.{Tree, pairs, pages, level}
 use Rattle.tree.specs.Store.{Store, readTree}
 use Rattle.tree.specs.Clauses.{Ceilings, Linked}
+use Rattle.tree.specs.Keeping.{pairOrder, keepingOf}
 use Rattle.tree.specs.FreeChain.{Chained}
 use Rattle.tree.specs.Levels.{pages-generation, generation-level}
 use Rattle.page.specs.Header.{pageSize, noPage, rootOffset, freePointer, fileSize, keyLength, features, isPage, headerGood}
@@ -26,7 +27,7 @@ use Rattle.page.specs.Page.{attributeAt, rightAt, rightPlace, entriesStart, ent
 use Rattle.page.specs.KeyOrder.{bytesOrder}
 use Rattle.page.specs.Reading.{entriesAt}
 use Rattle.page.specs.ReadingLaws.{window-window, entries-none, entries-same, attribute-same, count-same, left-same, right-same}
-use Rattle.sound.specs.Sound.{indexTree, indexPages, linksOf, CountGood, FreePage, Sound}
+use Rattle.sound.specs.Sound.{indexTree, indexPages, linksOf, CountGood, FreePage, Sound, keptBy}
 
 -- two buffers with the same first F bytes; the first is sound
 module _ (a b : List ℕ) (same : window a 0 (fileSize a) ≡ window b 0 (fileSize a)) (long : fileSize a ≤ length b) (s : Sound a) where
@@ -139,9 +140,10 @@ module _ (a b : List ℕ) (same : window a 0 (fileSize a) ≡ window b 0 (fileSi
         (level j h (indexTree a h)) (levels-inside j l) (s .leafBits j l));
     levels = s .levels;
     counts = at-pages (CountGood a (keyLength a) h) (CountGood b (keyLength b) h) (λ p i x. rw (count-same a b p (page p i), key) at x) (s .counts);
-    ascending = subst (λ (t : Tree (List ℕ) h). Ascending bytesOrder (pairs h t)) (tree h) (s .ascending);
+    ascending = subst (λ (t : Tree (List ℕ) h). Ascending (pairOrder bytesOrder (features b)) (pairs h t)) (tree h) (rw plain at (s .ascending));
     records = subst (λ (t : Tree (List ℕ) h). All (λ e. 0 < e .1) (pairs h t)) (tree h) (s .records);
-    ceilings = subst (λ (t : Tree (List ℕ) h). Ceilings bytesOrder h t) (tree h) (s .ceilings);
+    ceilings = subst (λ (t : Tree (List ℕ) h). Ceilings (keptBy b) h t) (tree h)
+        (subst (λ (f : ℕ). Ceilings (keepingOf bytesOrder f) h (indexTree a h)) plain (s .ceilings));
     links = λ j l. subst (λ (t : Tree (List ℕ) h). Linked noPage (linksOf b) noPage (level j h t)) (tree h)
         (links-same noPage (level j h (indexTree a h)) (levels-inside j l) (s .links j l));
   }

@@ -14,8 +14,10 @@ use lib.ListN.{length}
 use lib.Dec.{eqb, leb}
 use Rattle.octets.specs.Store.{window}
 use Rattle.octets.specs.Order.{ordering, isBelow, isEqual}
-use Rattle.page.specs.Header.{maxBytes, maxLevels, pageSize, noPage, rootOffset, freePointer, fileSize, keyLength, isPage}
+use Rattle.tree.specs.Keeping.{pairOrder, coversFor}
+use Rattle.page.specs.Header.{maxBytes, maxLevels, pageSize, noPage, rootOffset, freePointer, fileSize, keyLength, features, isPage}
 use Rattle.page.specs.Page.{attributeAt, countAt, leftAt, rightAt, leafBit, countGood, rightPlace, entriesStart, entryArea}
+use Rattle.page.specs.KeyOrder.{bytesOrder}
 use Rattle.page.specs.Reading.{entriesAt}
 use Rattle.page.specs.Children.{isLeaf, childrenOf, firstChild}
 use Rattle.sound.specs.Sound.{zeros}
@@ -36,15 +38,20 @@ abbrev pub lastOf : Option (List ℕ) → Entries → Option (List ℕ)
 lastOf o [] = o
 lastOf o (e ∷ es) = lastOf (some (e .0)) es
 
--- the key x is above the other key, if there is one
-abbrev pub isAbove : Option (List ℕ) → List ℕ → Bool
-isAbove none x = true
-isAbove (some a) x = isBelow (ordering a x)
+-- the last of entries, o if there are none
+abbrev pub lastPair : Option (List ℕ × ℕ) → Entries → Option (List ℕ × ℕ)
+lastPair o [] = o
+lastPair o (e ∷ es) = lastPair (some e) es
 
--- the entries of a leaf, after the key o: each key is above the key before it, each record number above 0
-unfoldable pub leafEntriesGood : Option (List ℕ) → Entries → Bool
-leafEntriesGood o [] = true
-leafEntriesGood o (e ∷ es) = (not (eqb (e .1) 0) && isAbove o (e .0)) && leafEntriesGood (some (e .0)) es
+-- by a header's features f, the pair x is above the other pair, if there is one
+abbrev pub isAbove : ℕ → Option (List ℕ × ℕ) → List ℕ × ℕ → Bool
+isAbove f none x = true
+isAbove f (some a) x = not (pairOrder bytesOrder f x a)
+
+-- the entries of a leaf, after the pair o: each pair is above the pair before it, each record number above 0
+unfoldable pub leafEntriesGood : ℕ → Option (List ℕ × ℕ) → Entries → Bool
+leafEntriesGood f o [] = true
+leafEntriesGood f o (e ∷ es) = (not (eqb (e .1) 0) && isAbove f o e) && leafEntriesGood f (some e) es
 
 -- the number of the last entry, n if there is none
 abbrev pub lastNumber : ℕ → Entries → ℕ
@@ -56,8 +63,8 @@ unfoldable pub down : (ℕ → ℕ) → ℕ → ℕ → ℕ
 down f zero p = p
 down f (suc h) p = down f h (f p)
 
--- the key x over a child is a ceiling, if `next` says whether x is below the first leaf key under the next child: x is the last leaf key under the child,
--- and then below the next anyway, since leaf keys ascend; or x is above the last leaf key, and below the next
+-- the key x over a child is a ceiling, if `next` says whether x may stand before the first leaf key under the next child: x is the last leaf key under the
+-- child, and then may stand before the next anyway, since leaf pairs ascend; or x is above the last leaf key, and may stand before the next
 abbrev pub isCeiling : Option (List ℕ) → List ℕ → Bool → Bool
 isCeiling none x next = false
 isCeiling (some a) x next = isEqual (ordering a x) || (isBelow (ordering a x) && next)
@@ -67,10 +74,10 @@ abbrev pub isLast : Option (List ℕ) → List ℕ → Bool
 isLast none x = false
 isLast (some a) x = isEqual (ordering a x)
 
--- the key x is below the other key, and there is one
-abbrev pub isUnder : List ℕ → Option (List ℕ) → Bool
-isUnder x none = false
-isUnder x (some a) = isBelow (ordering x a)
+-- by a header's features f, the key x may stand before the other key, and there is one: it is below it, or for features 0 at or below it
+abbrev pub isUnder : ℕ → List ℕ → Option (List ℕ) → Bool
+isUnder f x none = false
+isUnder f x (some a) = not (coversFor bytesOrder f x a)
 
 -- the attribute of the pages of a level: 1 root, 2 leaf, summed
 abbrev pub attributeOf : Bool → Bool → ℕ
@@ -143,7 +150,7 @@ module _ (b : List ℕ) (k size : ℕ) where
 
   -- the entries of the page at p are good if it is a leaf, with the page `last` on its left
   unfoldable pub entriesFit : ℕ → ℕ → ℕ → Bool
-  entriesFit a last p = cond (leafBit a) (leafEntriesGood (lastOf none (entriesOf last)) (entriesOf p)) true
+  entriesFit a last p = cond (leafBit a) (leafEntriesGood (features b) (lastPair none (entriesOf last)) (entriesOf p)) true
 
   -- the page at p has the attribute a, a good count, links that agree with the page `last` on its left, and good entries
   unfoldable pub pageFits : ℕ → ℕ → ℕ → ℕ → Bool
@@ -207,10 +214,10 @@ module _ (b : List ℕ) (k size : ℕ) where
   abbrev pub lastLeafKey : ℕ → ℕ → Option (List ℕ)
   lastLeafKey h p = lastOf none (entriesOf (down lastChild h p))
 
-  -- the key x is below the first leaf key under the next child: the child of the first of the entries es, with h levels under it, if there is one
+  -- the key x may stand before the first leaf key under the next child: the child of the first of the entries es, with h levels under it, if there is one
   abbrev pub belowNext : ℕ → List ℕ → Entries → Bool
   belowNext h x [] = true
-  belowNext h x (e ∷ es) = isUnder x (firstLeafKey h (e .1))
+  belowNext h x (e ∷ es) = isUnder (features b) x (firstLeafKey h (e .1))
 
   -- the key of the entry e, before the entries es of its page: e's child has h levels under it, and the last leaf key under it is looked for d steps down
   abbrev pub upperEntry : ℕ → ℕ → List ℕ × ℕ → Entries → Keys

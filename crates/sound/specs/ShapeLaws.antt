@@ -17,18 +17,19 @@ use Rattle.tree.specs.ListLaws.{all-map2, nonEmpty-length, occ-append, occ-here
 use Rattle.tree.specs.Pairs.{Ascending}
 use Rattle.tree.specs.Tree.{Tree, pairs}
 use Rattle.tree.specs.Clauses.{least, Sized, Ceilings, Linked}
+use Rattle.tree.specs.Keeping.{pairOrder}
 use Rattle.tree.specs.Store.{readTree}
 use Rattle.tree.specs.Levels.{all-of-map, all-to-map, numbers, below, generation, generation-below, reached, reached-generations, join-map}
 use Rattle.tree.specs.Levels.{Counted, tree-pairs, tree-pages, level-generation, generation-level, pages-generation, generation-pages}
 use Rattle.tree.specs.Levels.{generation-sized}
-use Rattle.page.specs.Header.{maxBytes, maxLevels, noPage, rootOffset, fileSize, keyLength, isPage, headerGood}
+use Rattle.page.specs.Header.{maxBytes, maxLevels, noPage, rootOffset, fileSize, keyLength, isPage, headerGood, features}
 use Rattle.page.specs.Page.{attributeAt, countAt, rootBit, leafBit, capacity}
 use Rattle.page.specs.KeyOrder.{bytesOrder}
 use Rattle.page.specs.HeaderLaws.{good-header}
 use Rattle.page.specs.Reading.{entriesAt}
 use Rattle.page.specs.ReadingLaws.{length-entries, entries-none}
-use Rattle.sound.specs.Sound.{indexTree, indexPages, linksOf, CountGood, FreePage, FreeList, Sound}
-use Rattle.sound.specs.Rule.{Entries, lastOf}
+use Rattle.sound.specs.Sound.{indexTree, indexPages, linksOf, CountGood, FreePage, FreeList, Sound, keptBy}
+use Rattle.sound.specs.Rule.{Entries, lastPair}
 use Rattle.sound.specs.AttributeLaws.{attributeAtLevel, root-bit, leaf-bit, attribute-small, attribute-is, count-good, good-count}
 use Rattle.sound.specs.RunLaws.{Fits, Checked}
 use Rattle.sound.specs.EntryLaws.{Climbs, climbs-ascend, ascend-climbs, upper-checked}
@@ -126,21 +127,21 @@ module _ (b : List ℕ) (k size root h : ℕ) (inside : InsideLevels b k size ro
 
   module _ (most : size ≤ maxBytes) where
     -- there is no key before the first page
-    first-none : lastOf none (S noPage) ≡ none
-    first-none = ap (lastOf none) (entries-none k size b noPage (not-page b k size most))
+    first-none : lastPair none (S noPage) ≡ none
+    first-none = ap (lastPair none) (entries-none k size b noPage (not-page b k size most))
 
     -- the leaves' entries; a lone root leaf may have none
-    leaves-climb : (a : ℕ) → leafBit a ≡ true → Checked b k size a noPage (levelPages b k size root h) → Climbs none (E (suc h))
+    leaves-climb : (a : ℕ) → leafBit a ≡ true → Checked b k size a noPage (levelPages b k size root h) → Climbs (features b) none (E (suc h))
     leaves-climb a leaf c = rw (first-none, entries-next h) at (go h refl)
       where
-        go : (n : ℕ) → h ≡ n → Climbs (lastOf none (S noPage)) (concatMap S (levelPages b k size root h))
+        go : (n : ℕ) → h ≡ n → Climbs (features b) (lastPair none (S noPage)) (concatMap S (levelPages b k size root h))
         go zero e = rw e (lone-climbs b k size a leaf noPage root (rw e at c))
         go (suc n) e = checked-climbs b k size a leaf noPage (levelPages b k size root h) (pages-filled h (omega arith) (omega arith)) c
 
-    climb-leaves : (a : ℕ) → leafBit a ≡ true → Climbs none (E (suc h)) → Checked b k size a noPage (levelPages b k size root h)
+    climb-leaves : (a : ℕ) → leafBit a ≡ true → Climbs (features b) none (E (suc h)) → Checked b k size a noPage (levelPages b k size root h)
     climb-leaves a leaf c = go h refl (rw (first-none, entries-next h) c)
       where
-        go : (n : ℕ) → h ≡ n → Climbs (lastOf none (S noPage)) (concatMap S (levelPages b k size root h))
+        go : (n : ℕ) → h ≡ n → Climbs (features b) (lastPair none (S noPage)) (concatMap S (levelPages b k size root h))
             → Checked b k size a noPage (levelPages b k size root h)
         go zero e d = rw e (climbs-lone b k size a leaf noPage root (rw e at d))
         go (suc n) e d = climbs-checked b k size a leaf noPage (levelPages b k size root h) (pages-filled h (omega arith) (omega arith)) d
@@ -149,21 +150,21 @@ module _ (b : List ℕ) (k size root h : ℕ) (inside : InsideLevels b k size ro
     level-leaf i t e = leaf-bit (eqb i 0) (eqb i h) ∙ e
 
     -- the entries of every level, from the clauses on leaf keys and records
-    clauses-checked : Ascending bytesOrder (pairs h (readTree (entriesAt k size b) h root))
+    clauses-checked : Ascending (pairOrder bytesOrder (features b)) (pairs h (readTree (entriesAt k size b) h root))
         → All (λ e. 0 < e .1) (pairs h (readTree (entriesAt k size b) h root)) → CheckedLevels b k size root h
     clauses-checked ascending records i l = either (eqb i h)
         (λ e. let d : i ≡ h = eqb-true i h e in
         subst (λ (j : ℕ). Checked b k size (attributeAtLevel h i) noPage (levelPages b k size root j)) (sym d)
         (climb-leaves (attributeAtLevel h i) (level-leaf i true e)
-        (rw (tree-pairs S [] root h) at (ascend-climbs (pairs h T) ascending records))))
+        (rw (tree-pairs S [] root h) at (ascend-climbs (features b) (pairs h T) ascending records))))
         (λ e. upper-checked b k size (attributeAtLevel h i) (level-leaf i false e) noPage (levelPages b k size root i))
 
     -- and back
-    checked-pairs : CheckedLevels b k size root h → Ascending bytesOrder (pairs h (readTree (entriesAt k size b) h root))
+    checked-pairs : CheckedLevels b k size root h → Ascending (pairOrder bytesOrder (features b)) (pairs h (readTree (entriesAt k size b) h root))
         × All (λ e. 0 < e .1) (pairs h (readTree (entriesAt k size b) h root))
     checked-pairs checked =
         let leaf = level-leaf h true (eq-eqb h h refl) in
-        climbs-ascend none (pairs h T) (rw (tree-pairs S [] root h) (leaves-climb (attributeAtLevel h h) leaf (checked h (omega arith))))
+        climbs-ascend (features b) none (pairs h T) (rw (tree-pairs S [] root h) (leaves-climb (attributeAtLevel h h) leaf (checked h (omega arith))))
 
 -- the root stands on its own level alone
 occ-none : (z : ℕ) (ps : List ℕ) → occ z ps ≡ 0 → All (λ p. eqb p z ≡ false) ps
@@ -262,14 +263,15 @@ module _ (b : List ℕ) where
 
   -- the leaf pairs of an index of that shape ascend, and their record numbers are above 0
   pub shape-pairs : headerGood b ≡ true → (s : Shape b (keyLength b) (fileSize b) (rootOffset b))
-      → Ascending bytesOrder (pairs (s .height) (indexTree b (s .height))) × All (λ e. 0 < e .1) (pairs (s .height) (indexTree b (s .height)))
+      → Ascending (pairOrder bytesOrder (features b)) (pairs (s .height) (indexTree b (s .height)))
+      × All (λ e. 0 < e .1) (pairs (s .height) (indexTree b (s .height)))
   shape-pairs e s =
       checked-pairs b K F R (s .height) (levels-inside b K F R (s .height) (s .levels)) (levels-counts b K F R (s .height) (s .levels))
       (good-header b e .most) (λ i l. s .levels i l .checked)
 
   -- Theorem: an index of that shape is sound if its keys above pages are
   pub shape-sound : headerGood b ≡ true → (s : Shape b (keyLength b) (fileSize b) (rootOffset b))
-      → Ceilings bytesOrder (s .height) (indexTree b (s .height)) → Sound b
+      → Ceilings (keptBy b) (s .height) (indexTree b (s .height)) → Sound b
   shape-sound e s ceilings =
       let h = s .height in
       let few = s .few in

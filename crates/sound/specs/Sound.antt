@@ -1,7 +1,7 @@
--- Rules: what a sound index is, in document 01's clauses, order and words ("Sound: good header; every page ..", The index), and for keys above pages in change
--- request K1's, on the tree that the bytes are read as. The audit's contract cites `Audited`; the match's contract and the claim about lists of calls cite
--- `Sound`. The rules of insertion and removal compute with the test of Rule, and the laws of book/InsertionAnswers and RemovalAnswers say their answers by
--- `Sound`.
+-- Rules: what a sound index is, in document 01's clauses, order and words ("Sound: good header; every page ..", The index), and for keys above pages and equal
+-- keys in change requests K1's and K12's, on the tree that the bytes are read as. The audit's contract cites `Audited`; the match's contract and the claim
+-- about lists of calls cite `Sound`. The rules of insertion and removal compute with the test of Rule, and the laws of book/InsertionAnswers and RemovalAnswers
+-- say their answers by `Sound`.
 use Prim.Native.Nat.{ℕ, _+_, _≤_, _<_}
 use mathlib.Core.Path.{_≡_}
 use mathlib.Core.List.{List, _++_}
@@ -15,8 +15,9 @@ use Rattle.tree.specs.Lists.{occ}
 use Rattle.tree.specs.Pairs.{Ascending}
 use Rattle.tree.specs.Tree.{Tree, pairs, pages, level}
 use Rattle.tree.specs.Clauses.{least, Ceilings, Links, AllLinked}
+use Rattle.tree.specs.Keeping.{Keeping, keepingOf}
 use Rattle.tree.specs.FreeChain.{Chained}
-use Rattle.page.specs.Header.{maxLevels, noPage, rootOffset, freePointer, fileSize, keyLength, isPage, headerGood}
+use Rattle.page.specs.Header.{maxLevels, noPage, rootOffset, freePointer, fileSize, keyLength, features, isPage, headerGood}
 use Rattle.page.specs.Page.{attributeAt, countAt, leftAt, rightAt, rootBit, leafBit, capacity, rightPlace, entriesStart, entryArea}
 use Rattle.page.specs.KeyOrder.{bytesOrder}
 use Rattle.page.specs.Reading.{treeOf}
@@ -36,6 +37,10 @@ linksOf b = record { left = leftAt b; right = rightAt b }
 -- the count in the bytes of the page at p, in an index with h levels under the root: "1 to capacity, save that a lone root leaf may have 0"
 abbrev pub CountGood : List ℕ → ℕ → ℕ → ℕ → Type 0
 CountGood b k h p = (least h ≤ countAt b p) × (countAt b p ≤ capacity k)
+
+-- how the index keeps its leaf pairs, by the header's features
+abbrev pub keptBy : List ℕ → Keeping (List ℕ)
+keptBy b = keepingOf bytesOrder (features b)
 
 -- n bytes of zero
 abbrev pub zeros : ℕ → List ℕ
@@ -74,12 +79,13 @@ pub record Sound (b : List ℕ) : Type 0 where
   pub levels : height + 1 ≤ maxLevels
   -- "counts 1 to capacity, save that a lone root leaf may have 0"
   pub counts : All (CountGood b (keyLength b) height) (indexPages b height)
-  -- "leaf keys strictly ascending left to right as unsigned bytes"
-  pub ascending : Ascending bytesOrder (pairs height (indexTree b height))
+  -- "leaf keys strictly ascending left to right as unsigned bytes"; for features 0 "leaf pairs, not leaf keys, ascend strictly, by key, then record number"
+  pub ascending : Ascending (keptBy b .pairLe) (pairs height (indexTree b height))
   -- "record numbers above 0"
   pub records : All (λ e. 0 < e .1) (pairs height (indexTree b height))
-  -- "the key above a child is at or above every leaf key under it, and below the first leaf key under the next child of the same page"
-  pub ceilings : Ceilings bytesOrder height (indexTree b height)
+  -- "the key above a child is at or above every leaf key under it, and below the first leaf key under the next child of the same page"; "For 0, the next
+  -- child's keys may equal the key above"
+  pub ceilings : Ceilings (keptBy b) height (indexTree b height)
   -- "left and right name the neighbours on the level"
   pub links : AllLinked noPage (linksOf b) height (indexTree b height)
 

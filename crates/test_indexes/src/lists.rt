@@ -8,7 +8,7 @@ const LOOKUP: u8 = 0;
 // an insertion, whose record's number stands behind its key;
 const INSERTION: u8 = 1;
 
-// a removal.
+// a removal, which has a record's number there too.
 const REMOVAL: u8 = 2;
 
 // The kind of a line that is no call of the list.
@@ -35,7 +35,7 @@ fn append_call(list: &mut [u8], at: usize, key: &[u8], kind: u8, number: u32) ->
     }
     octets::store_le16(list, at + 1, key.len() as u32);
     octets::copy_in(list, at + 3, key);
-    if kind == INSERTION {
+    if kind != LOOKUP {
         list[at] = kind;
         octets::store_le32(list, end, number);
         return end + 4;
@@ -44,7 +44,8 @@ fn append_call(list: &mut [u8], at: usize, key: &[u8], kind: u8, number: u32) ->
     end
 }
 
-// Appends the call of a line, `i KEY RECORD ..`, `l KEY ..` or `r KEY ..`. Another line is no call of the list.
+// Appends the call of a line, `i KEY RECORD ..`, `l KEY ..` or `r KEY ..`. Another line is no call of the list. The number behind a removal's key is the line's
+// answer: with one record to a key it isn't looked at.
 fn append_line(list: &mut [u8], at: usize, line: &[u8]) -> usize
     requires { ⌜ at ≤ length (now list) ⌝ }
     ensures { λ r. ⌜ r ≤ length (now (list .exit)) ⌝ }
@@ -172,7 +173,7 @@ fn run_list(text: &[u8], index: &mut [u8], answers: &mut [u8]) -> Outcome {
     let mut list = io::large_buffer();
     let n = append_all(&mut list, text);
     let k = test_lines::first_number(head);
-    let batch = batch::run_batch(index, k, &expression[..e], &list[..n], answers);
+    let batch = batch::run_batch(index, k, 1, &expression[..e], &list[..n], answers);
     Outcome {
         fresh: batch.fresh,
         made: batch.made,

@@ -265,6 +265,7 @@ fn paper_lists() {
 
 fn damaged_headers() {
     damaged(b"features 0", 14, 0);
+    damaged(b"features 2", 14, 2);
     damaged(b"key length 101", 12, 101);
     damaged(b"a file size that is no multiple of 512", 8, 1);
 }

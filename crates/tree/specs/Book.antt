@@ -5,13 +5,13 @@ use mathlib.Core.List.{List, [], _∷_}
 use mathlib.Core.Option.{Option, none, some}
 use Prim.Native.Nat.{ℕ}
 use lib.Dec.{eqb}
-use Rattle.tree.specs.Order.{Order}
-use Rattle.tree.specs.Pairs.{get, byKey, has, insertPair, removePair}
+use Rattle.tree.specs.Pairs.{get, has, insertPair, removePair}
+use Rattle.tree.specs.Keeping.{Keeping}
 
--- the arguments of a call, "the buffer left out"
+-- the arguments of a call, "the buffer left out"; a removal names a pair
 pub data Call (K : Type 0) : Type 0 where
   insertion : K → ℕ → Call K
-  removalOf : K → Call K
+  removalOf : K → ℕ → Call K
   lookupOf : K → Call K
 
 -- a refusal with its number; an insertion's or a removal's yes; a lookup's record, or absent
@@ -32,12 +32,13 @@ pub record KeyTests (K : Type 0) : Type 0 where
   pub fits : K → Bool
   pub barred : K → Bool
 
--- insertion: "a key not of k bytes is 27", 32 "after 27 and before 28", "else record number 0 is 28, else a key in the book 29"; then 30 or accepted
+-- insertion: "a key not of k bytes is 27", 32 "after 27 and before 28", "else record number 0 is 28, else a key in the book 29", or "the very pair" for
+-- features 0; then 30 or accepted
 abbrev pub verdict : Bool → Bool → ℕ → Bool → Bool → Answer
 verdict fits barred r held full =
     refusedIf (not fits) 27 (refusedIf barred 32 (refusedIf (eqb r 0) 28 (refusedIf held 29 (refusedIf full 30 accepted))))
 
--- removal: "27 for a key not of k bytes, else 33 for a key not in it"; then accepted
+-- removal: "27 for a key not of k bytes, else 33 for a key not in it", or "33 if that pair is absent" for features 0; then accepted
 abbrev pub striking : Bool → Bool → Answer
 striking fits held = refusedIf (not fits) 27 (refusedIf (not held) 33 accepted)
 
@@ -46,7 +47,7 @@ abbrev pub foundOrAbsent : Option ℕ → Answer
 foundOrAbsent none = absent
 foundOrAbsent (some r) = found r
 
--- lookup: "a key not of k bytes is 27, one in the book gives its record, any other is absent"
+-- lookup: "a key not of k bytes is 27, one in the book gives its record", for features 0 "the key's first record", "any other is absent"
 abbrev pub finding : Bool → Option ℕ → Answer
 finding fits held = refusedIf (not fits) 27 (foundOrAbsent held)
 
@@ -77,18 +78,18 @@ abbrev pub finalOf : {K B : Type 0} → (Call K → B → B) → List (Call K) �
 finalOf next [] b = b
 finalOf next (c ∷ cs) b = finalOf next cs (next c b)
 
-module _ {K : Type 0} (O : Order K) (tests : KeyTests K) where
-  -- the book's answer to a call, told whether the answer was 30. A removal goes by the key: it names no record number, and 0 stands for it
+module _ {K : Type 0} (Q : Keeping K) (tests : KeyTests K) where
+  -- the book's answer to a call, told whether the answer was 30. For features 1 a pair is in the book if its key is: "a record named isn't looked at"
   abbrev pub bookAnswer : Call K → Bool → List (K × ℕ) → Answer
-  bookAnswer (insertion k r) full book = verdict (tests .fits k) (tests .barred k) r (has (byKey O) (k, r) book) full
-  bookAnswer (removalOf k) full book = striking (tests .fits k) (has (byKey O) (k, 0) book)
-  bookAnswer (lookupOf k) full book = finding (tests .fits k) (get O k book)
+  bookAnswer (insertion k r) full book = verdict (tests .fits k) (tests .barred k) r (has (Q .pairLe) (k, r) book) full
+  bookAnswer (removalOf k r) full book = striking (tests .fits k) (has (Q .pairLe) (k, r) book)
+  bookAnswer (lookupOf k) full book = finding (tests .fits k) (get (Q .order) k book)
 
-  -- the book after a call: "none of these changes the book, nor does 30. Otherwise it is accepted and its pair goes in"; of a removal that is not refused "the
-  -- pair goes"
+  -- the book after a call: "none of these changes the book, nor does 30. Otherwise it is accepted and its pair goes in", for features 0 "in order of key, then
+  -- record number"; of a removal that is not refused "the pair goes"
   abbrev pub bookAfter : Call K → Bool → List (K × ℕ) → List (K × ℕ)
-  bookAfter (insertion k r) full book = cond (isAccepted (bookAnswer (insertion k r) full book)) (insertPair (byKey O) (k, r) book) book
-  bookAfter (removalOf k) full book = cond (isAccepted (bookAnswer (removalOf k) full book)) (removePair (byKey O) (k, 0) book) book
+  bookAfter (insertion k r) full book = cond (isAccepted (bookAnswer (insertion k r) full book)) (insertPair (Q .pairLe) (k, r) book) book
+  bookAfter (removalOf k r) full book = cond (isAccepted (bookAnswer (removalOf k r) full book)) (removePair (Q .pairLe) (k, r) book) book
   bookAfter (lookupOf k) full book = book
 
   -- the book's answers to a list of calls, and the book after it

@@ -7,7 +7,7 @@ use Prim.Native.Nat.{ℕ, _≤_, _<_}
 use native.Mathlib.Omega.{arith}
 use lib.ListN.{length}
 use Rattle.basis.specs.Lists.{All}
-use Rattle.tree.specs.Order.{Order}
+use Rattle.tree.specs.Keeping.{Keeping}
 use Rattle.tree.specs.Book.{Call, insertion, removalOf, lookupOf, Answer, KeyTests, isNoRoom, noRooms, resultsOf, finalOf, bookAnswer, bookAfter}
 use Rattle.tree.specs.Book.{bookAnswers, bookFinal, BookClaim}
 use Rattle.tree.specs.Index.{Index, held, Setting, noRoomFor, answer, next}
@@ -16,11 +16,11 @@ use Rattle.tree.specs.IndexLaws.{answer-book, answer-room, next-book}
 use Rattle.tree.specs.ReuseLaws.{sizeFor, next-bounded, next-grows}
 
 -- the book after a call depends on the answer alone
-bookAfter-same : {K : Type 0} (O : Order K) (tests : KeyTests K) (c : Call K) (f g : Bool) (book : List (K × ℕ)) →
-    bookAnswer O tests c f book ≡ bookAnswer O tests c g book → bookAfter O tests c f book ≡ bookAfter O tests c g book
-bookAfter-same O tests (insertion k r) f g book e = rw e
-bookAfter-same O tests (removalOf k) f g book e = refl
-bookAfter-same O tests (lookupOf k) f g book e = refl
+bookAfter-same : {K : Type 0} (Q : Keeping K) (tests : KeyTests K) (c : Call K) (f g : Bool) (book : List (K × ℕ)) →
+    bookAnswer Q tests c f book ≡ bookAnswer Q tests c g book → bookAfter Q tests c f book ≡ bookAfter Q tests c g book
+bookAfter-same Q tests (insertion k r) f g book e = rw e
+bookAfter-same Q tests (removalOf k r) f g book e = refl
+bookAfter-same Q tests (lookupOf k) f g book e = refl
 
 -- B are the states, each read as an index; Inv is what every call keeps, and Ok what is asked of a call (a record number of four bytes); a call's answer, its
 -- next state and its rule for 30 are those of the index that `read` gives for the state
@@ -35,37 +35,37 @@ module _ {K B : Type 0} (s : Setting K) (two : 1 < s .capacity) (tests : KeyTest
   leaves b = held (read b)
 
   -- one call
-  one-answer : (c : Call K) (b : B) → Ok c → Inv b → bookAnswer (s .order) tests c (isNoRoom (answerB c b)) (leaves b) ≡ answerB c b
+  one-answer : (c : Call K) (b : B) → Ok c → Inv b → bookAnswer (s .keeping) tests c (isNoRoom (answerB c b)) (leaves b) ≡ answerB c b
   one-answer c b o i = rw (same-answer c b o i) (answer-book s two tests c (read b) (sound b i))
 
-  one-room : (c : Call K) (b : B) → Ok c → Inv b → bookAnswer (s .order) tests c (noRoomB c b) (leaves b) ≡ answerB c b
+  one-room : (c : Call K) (b : B) → Ok c → Inv b → bookAnswer (s .keeping) tests c (noRoomB c b) (leaves b) ≡ answerB c b
   one-room c b o i = rw (same-answer c b o i, same-room c b o i) (answer-room s two tests c (read b) (sound b i))
 
-  one-next : (c : Call K) (b : B) → Ok c → Inv b → bookAfter (s .order) tests c (isNoRoom (answerB c b)) (leaves b) ≡ leaves (nextB c b)
+  one-next : (c : Call K) (b : B) → Ok c → Inv b → bookAfter (s .keeping) tests c (isNoRoom (answerB c b)) (leaves b) ≡ leaves (nextB c b)
   one-next c b o i = rw (same-answer c b o i, same-next c b o i) (next-book s two tests c (read b) (sound b i))
 
-  one-next-room : (c : Call K) (b : B) → Ok c → Inv b → bookAfter (s .order) tests c (noRoomB c b) (leaves b) ≡ leaves (nextB c b)
+  one-next-room : (c : Call K) (b : B) → Ok c → Inv b → bookAfter (s .keeping) tests c (noRoomB c b) (leaves b) ≡ leaves (nextB c b)
   one-next-room c b o i =
-      bookAfter-same (s .order) tests c (noRoomB c b) (isNoRoom (answerB c b)) (leaves b) (one-room c b o i ∙ sym (one-answer c b o i))
+      bookAfter-same (s .keeping) tests c (noRoomB c b) (isNoRoom (answerB c b)) (leaves b) (one-room c b o i ∙ sym (one-answer c b o i))
       ∙ one-next c b o i
 
   -- every list
   list-answers : (cs : List (Call K)) → All Ok cs → (b : B) → Inv b →
-      resultsOf answerB nextB cs b ≡ bookAnswers (s .order) tests cs (noRooms (resultsOf answerB nextB cs b)) (leaves b)
+      resultsOf answerB nextB cs b ≡ bookAnswers (s .keeping) tests cs (noRooms (resultsOf answerB nextB cs b)) (leaves b)
   list-answers [] o b i = refl
   list-answers (c ∷ cs) o b i =
       rw (one-answer c b (o .0) i, one-next c b (o .0) i)
       (ap (λ l. answerB c b ∷ l) (list-answers cs (o .1) (nextB c b) (keep c b (o .0) i)))
 
   list-room : (cs : List (Call K)) → All Ok cs → (b : B) → Inv b →
-      resultsOf answerB nextB cs b ≡ bookAnswers (s .order) tests cs (resultsOf noRoomB nextB cs b) (leaves b)
+      resultsOf answerB nextB cs b ≡ bookAnswers (s .keeping) tests cs (resultsOf noRoomB nextB cs b) (leaves b)
   list-room [] o b i = refl
   list-room (c ∷ cs) o b i =
       rw (one-room c b (o .0) i, one-next-room c b (o .0) i)
       (ap (λ l. answerB c b ∷ l) (list-room cs (o .1) (nextB c b) (keep c b (o .0) i)))
 
   list-pairs : (cs : List (Call K)) → All Ok cs → (b : B) → Inv b →
-      leaves (finalOf nextB cs b) ≡ bookFinal (s .order) tests cs (noRooms (resultsOf answerB nextB cs b)) (leaves b)
+      leaves (finalOf nextB cs b) ≡ bookFinal (s .keeping) tests cs (noRooms (resultsOf answerB nextB cs b)) (leaves b)
   list-pairs [] o b i = refl
   list-pairs (c ∷ cs) o b i = rw (one-next c b (o .0) i) (list-pairs cs (o .1) (nextB c b) (keep c b (o .0) i))
 
@@ -75,7 +75,7 @@ module _ {K B : Type 0} (s : Setting K) (two : 1 < s .capacity) (tests : KeyTest
   list-keeps (c ∷ cs) o b i = list-keeps cs (o .1) (nextB c b) (keep c b (o .0) i)
 
   -- Theorem: the claim about the whole list
-  pub book-claim : (cs : List (Call K)) → All Ok cs → (b : B) → Inv b → BookClaim (s .order) tests answerB nextB leaves noRoomB cs b (leaves b)
+  pub book-claim : (cs : List (Call K)) → All Ok cs → (b : B) → Inv b → BookClaim (s .keeping) tests answerB nextB leaves noRoomB cs b (leaves b)
   book-claim cs o b i = record { answers = list-answers cs o b i; room = list-room cs o b i; pairs = list-pairs cs o b i }
 
   -- at most m pairs are held at a time, from state b on

@@ -14,7 +14,7 @@ use Rattle.tree.specs.Lists.{NonEmpty, occ}
 use Rattle.tree.specs.ListLaws.{occ-append, occ-here, occ-all}
 use Rattle.tree.specs.Order.{Order}
 use Rattle.tree.specs.OrderLaws.{le-refl}
-use Rattle.tree.specs.Pairs.{Ascending}
+use Rattle.tree.specs.Pairs.{byKey, Ascending}
 use Rattle.tree.specs.PairLaws.{ascending-right}
 use Rattle.tree.specs.InsertPages.{Distinct}
 use Rattle.tree.specs.Store.{Store}
@@ -82,17 +82,17 @@ module _ {K : Type 0} (S : Store K) where
 
   module _ (O : Order K) where
     -- keys that ascend do not stand twice among them
-    not-twice : (xs ys : List (K × ℕ)) → NonEmpty xs → Ascending O (xs ++ ys) → ((P : K × ℕ → Type 0) → All P ys → All P xs) → ⊥
+    not-twice : (xs ys : List (K × ℕ)) → NonEmpty xs → Ascending (byKey O) (xs ++ ys) → ((P : K × ℕ → Type 0) → All P ys → All P xs) → ⊥
     not-twice [] ys s a f = s
     not-twice (x ∷ xs) ys s a f =
         let above = f (λ y. O .le (y .0) (x .0) ≡ false) (all-right (λ y. O .le (y .0) (x .0) ≡ false) xs ys (a .0)) in
         contra (le-refl O (x .0)) (above .0)
 
     -- leaves, each with an entry, differ if their keys ascend
-    leaves-distinct : (es : List (K × ℕ)) → All (λ e. NonEmpty (S (e .1))) es → Ascending O (below S es) → Distinct (numbers es)
+    leaves-distinct : (es : List (K × ℕ)) → All (λ e. NonEmpty (S (e .1))) es → Ascending (byKey O) (below S es) → Distinct (numbers es)
     leaves-distinct [] s a z = omega arith
     leaves-distinct (e ∷ es) s a z =
-        let later = leaves-distinct es (s .1) (ascending-right O (S (e .1)) (below S es) a) z in
+        let later = leaves-distinct es (s .1) (ascending-right (byKey O) (S (e .1)) (below S es) a) z in
         either (eqb z (e .1))
         (λ q. either (ltb 0 (occ z (numbers es)))
         (λ t.
@@ -103,7 +103,7 @@ module _ {K : Type 0} (S : Store K) where
         (λ q. rw q (omega arith))
 
     -- Theorem: the pages of each level from the entries es on differ, if every page has an entry and leaf keys ascend
-    pub ascending-distinct : (h : ℕ) (es : List (K × ℕ)) → Filled (suc h) es → Ascending O (generation S (suc h) es)
+    pub ascending-distinct : (h : ℕ) (es : List (K × ℕ)) → Filled (suc h) es → Ascending (byKey O) (generation S (suc h) es)
         → (i : ℕ) → i ≤ h → Distinct (numbers (generation S i es))
     ascending-distinct zero es full a zero l z = leaves-distinct es (full 0 (omega arith)) a z
     ascending-distinct zero es full a (suc i) l z = absurd (omega arith)

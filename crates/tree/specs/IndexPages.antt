@@ -74,11 +74,11 @@ module _ {K : Type 0} (i : Index K) (p : PagesOnce i) where
       }
 
   -- Theorem: so is each page after a removal
-  pub removed-pages : (s : Setting K) (k : K) → PagesOnce (removed s k i)
-  removed-pages s k =
-      let out : List ℕ = emptied (strikingRoute s k) (i .height) (i .tree) in
-      let same : (z : ℕ) → used z (removed s k i) ≡ used z i =
-      λ z. omega (arith, remove-pages (strikingRoute s k) z (i .height) (i .tree), joinFree-pages z out (i .free)) in
+  pub removed-pages : (s : Setting K) (e : K × ℕ) → PagesOnce (removed s e i)
+  removed-pages s e =
+      let out : List ℕ = emptied (strikingRoute s e) (i .height) (i .tree) in
+      let same : (z : ℕ) → used z (removed s e i) ≡ used z i =
+      λ z. omega (arith, remove-pages (strikingRoute s e) z (i .height) (i .tree), joinFree-pages z out (i .free)) in
       record {
         positive = p .positive;
         aligned = p .aligned;

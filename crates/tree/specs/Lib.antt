@@ -13,26 +13,36 @@ pub mod Order
 pub mod OrderLaws
 -- Rules: lists of pairs: lookup, insertion, removal, ascending keys
 pub mod Pairs
+-- Laws: the order of pairs by key, then record number
+pub mod RecordOrder
 -- Laws: lists of pairs
 pub mod PairLaws
 -- Rules: the entry of a page that an insertion goes through, by its number
 pub mod Position
 -- Rules: trees of pages by height; their leaf pairs, pages and levels; lookup and the pages it visits
 pub mod Tree
+-- Rules: what an index keeps its leaf pairs by: their orders, and the route of a new pair; what features 0 and 1 mean
+pub mod Keeping
+-- Laws: ascending leaf pairs by their keeping
+pub mod KeepingLaws
 -- Rules: document 01's clauses of a sound index on trees: counts, greatest keys, links
 pub mod Clauses
 -- Rules: stores of pages, read as trees
 pub mod Store
 -- Rules: the book of demand 3, and the claim about a whole list of calls
 pub mod Book
--- Steps: what an index keeps its leaf pairs by: their orders, and the route of a new pair
-pub mod Keeping
 -- Steps: insertion into a tree
 pub mod Insertion
 -- Steps: the leaf that an insertion goes to, and the new pages and levels that it means
 pub mod Room
 -- Laws: ordered trees; lookup in one is lookup in the ascending list of its pairs
 pub mod Ordered
+-- Rules: lookup of a key's first record if keys repeat, and lookup by the keeping
+pub mod LookupFirst
+-- Laws: it gives what the ascending list of the leaf pairs has; the pages it visits
+pub mod LookupLaws
+-- Laws: all records of a key, each once and none other
+pub mod RecordLaws
 -- Laws: the entry gone through among those of its page, and what a route tells of a new pair
 pub mod RouteLaws
 -- Laws: a page that is split if it is over capacity
@@ -41,6 +51,8 @@ pub mod SplitLaws
 pub mod InsertPairs
 -- Laws: the leaf that a route leads to tells whether a pair is present
 pub mod LeafLaws
+-- Laws: for features 0 that is the leaf with the greatest pair below it, or the first leaf
+pub mod NearestLaws
 -- Laws: an insertion keeps the order
 pub mod InsertOrdered
 -- Laws: the clauses of a sound index for the order, and the theory's order, say the same
@@ -75,12 +87,22 @@ pub mod Levels
 pub mod DistinctLaws
 -- Laws: lookup, visited pages and the run on a store are those on its tree
 pub mod StoreLookupLaws
+-- Steps: lookup of a key's first record on a store, page by page, with the right links
+pub mod StoreFirst
+-- Laws: it is that in the tree, if the leaves are linked
+pub mod StoreFirstLaws
+-- Laws: the leaf pairs are the entries of the leaves, left to right
+pub mod StoreLeaves
 -- Laws: insertion into a store is insertion into its tree
 pub mod StoreInsertLaws
 -- Steps: removal on a store, page by page
 pub mod StoreRemoval
 -- Laws: removal from a store is removal from its tree
 pub mod StoreRemovalLaws
+-- Steps: the route of a pair on a store, by the keeping of either features
+pub mod StoreRoute
+-- Laws: it is that in the tree
+pub mod StoreRouteLaws
 -- Steps: links after an insertion
 pub mod Relinking
 -- Laws: the pages of each level after an insertion
@@ -121,5 +143,7 @@ pub mod IndexLaws
 pub mod ReuseLaws
 -- Laws: demand 3 for any state that is read as an index
 pub mod BookTheorem
+-- Laws: demand 3 computed on a small list of calls, for features 0 and 1
+pub mod Examples
 -- Laws: keys with one above all, for trees whose last children have no key
 pub mod Top

@@ -1,15 +1,15 @@
 -- Laws: lookup, insertion and removal in ascending lists of pairs, and their first and last keys. Cited by the laws of ordered trees. Assumes nothing.
-use mathlib.Core.Path.{_≡_, refl, sym, ap, subst, _∙_}
+use mathlib.Core.Path.{_≡_, refl, ap}
 use mathlib.Core.Bool.{Bool, true, false, _&&_}
 use mathlib.Core.List.{List, [], _∷_, _++_, map}
-use mathlib.Core.Option.{none, some}
-use Rattle.basis.specs.Lists.{All, all-append, all-left, all-map}
-use Rattle.basis.specs.Tests.{either, contra, both}
+use mathlib.Core.Option.{none}
+use Rattle.basis.specs.Lists.{All, all-append, all-left, all-right, all-map}
+use Rattle.basis.specs.Tests.{either, contra}
 use Rattle.tree.specs.Lists.{NonEmpty, concatMap}
 use Rattle.tree.specs.Order.{Order, Le, Lt}
-use Rattle.tree.specs.OrderLaws.{le-refl, lt-le, lt-le-trans, le-lt-trans}
-use Rattle.tree.specs.Pairs.{follow, firstKey, lastKey, seek, ifEqual, find, get, byKey, Below, Above, Ascending}
-use Rattle.tree.specs.Pairs.{has, present, insertPair, removePair, AllAbove, AllBelow}
+use Rattle.tree.specs.OrderLaws.{lt-le, le-lt-trans}
+use Rattle.tree.specs.Pairs.{follow, firstKey, lastKey, seek, ifEqual, find, get, Below, Above}
+use Rattle.tree.specs.Pairs.{has, present, insertPair, removePair, Ascending, AllAbove, AllBelow}
 
 -- the last key
 pub lastKey-default : {K C : Type 0} (a b : K) (xs : List (K × C)) → NonEmpty xs → lastKey a xs ≡ lastKey b xs
@@ -50,19 +50,10 @@ module _ {K : Type 0} (O : Order K) where
   find-here k a [] ys h v = find-none k a ys h v
   find-here k a (x ∷ xs) ys h v = either (O .le k (x .0)) (λ e. rw e) (λ e. rw e (find-here k a xs ys h v))
 
-  -- in an ascending list the first pair at or above the key decides
-  get-above : {C : Type 0} (k a : K) (ys : List (K × C)) → Le O k a → Above O a ys → get O k ys ≡ none
-  get-above k a [] h v = refl
-  get-above k a (y ∷ ys) h v =
-      let f : Lt O k (y .0) = le-lt-trans O k a (y .0) h (v .0) in
-      let e : Le O k (y .0) = lt-le O k (y .0) f in
-      rw (e, f) (get-above k a ys h (v .1))
-
-  pub find-get : {C : Type 0} (k : K) (xs : List (K × C)) → Ascending O xs → find O k xs ≡ get O k xs
-  find-get k [] a = refl
-  find-get k (x ∷ xs) a = either (O .le k (x .0))
-      (λ e. either (O .le (x .0) k) (λ f. rw (e, f)) (λ f. rw (e, f) (sym (get-above k (x .0) xs e (a .0)))))
-      (λ e. rw e (find-get k xs (a .1)))
+  -- a list of keys above a key does not have it
+  pub get-above : {C : Type 0} (k : K) (ys : List (K × C)) → Above O k ys → get O k ys ≡ none
+  get-above k [] v = refl
+  get-above k (y ∷ ys) v = rw (lt-le O k (y .0) (v .0), v .0) (get-above k ys (v .1))
 
   -- bounds: of other keys, and of one another
   pub below-up : {C : Type 0} (a b : K) → Le O a b → (xs : List (K × C)) → Below O a xs → Below O b xs
@@ -70,78 +61,6 @@ module _ {K : Type 0} (O : Order K) where
 
   pub above-down : {C : Type 0} (a b : K) → Le O b a → (xs : List (K × C)) → Above O a xs → Above O b xs
   above-down a b h xs v = all-map (λ x. Lt O a (x .0)) (λ x. Lt O b (x .0)) (λ x l. le-lt-trans O b a (x .0) h l) xs v
-
-  pub between : {C : Type 0} (a b : K) (xs : List (K × C)) → NonEmpty xs → Above O a xs → Below O b xs → Lt O a b
-  between a b [] s v u = absurd s
-  between a b (x ∷ xs) s v u = lt-le-trans O a (x .0) b (v .0) (u .0)
-
-  -- ascending lists, joined and taken apart
-  pub ascending-append : {C : Type 0} (a : K) (xs ys : List (K × C)) → Ascending O xs → Ascending O ys → Below O a xs → Above O a ys →
-      Ascending O (xs ++ ys)
-  ascending-append a [] ys p q b v = q
-  ascending-append a (x ∷ xs) ys p q b v = (
-    all-append (λ y. Lt O (x .0) (y .0)) xs ys (p .0) (above-down a (x .0) (b .0) ys v),
-    ascending-append a xs ys (p .1) q (b .1) v,
-  )
-
-  pub ascending-left : {C : Type 0} (xs ys : List (K × C)) → Ascending O (xs ++ ys) → Ascending O xs
-  ascending-left [] ys a = tt
-  ascending-left (x ∷ xs) ys a = (all-left (λ y. Lt O (x .0) (y .0)) xs ys (a .0), ascending-left xs ys (a .1))
-
-  pub ascending-right : {C : Type 0} (xs ys : List (K × C)) → Ascending O (xs ++ ys) → Ascending O ys
-  ascending-right [] ys a = a
-  ascending-right (x ∷ xs) ys a = ascending-right xs ys (a .1)
-
-  -- the last key of the first part is below all of the second
-  pub ascending-across : {C : Type 0} (b : K) (xs ys : List (K × C)) → NonEmpty xs → Ascending O (xs ++ ys) → Above O (lastKey b xs) ys
-  ascending-across b [] ys s a = absurd s
-  ascending-across b (x ∷ []) ys s a = a .0
-  ascending-across b (x ∷ y ∷ xs) ys s a = ascending-across (x .0) (y ∷ xs) ys tt (a .1)
-
-  -- the last key is at or above all, and what is below the first key is below all
-  pub ascending-last : {C : Type 0} (b : K) (xs : List (K × C)) → Ascending O xs → Below O (lastKey b xs) xs
-  ascending-last b [] a = tt
-  ascending-last b (x ∷ []) a = (le-refl O (x .0), tt)
-  ascending-last b (x ∷ y ∷ ys) a =
-      let u : Below O (lastKey (y .0) ys) (y ∷ ys) = ascending-last (x .0) (y ∷ ys) (a .1) in
-      (O .trans (x .0) (y .0) (lastKey (y .0) ys) (lt-le O (x .0) (y .0) (a .0 .0)) (u .0), u)
-
-  pub ascending-first : {C : Type 0} (a b : K) (xs : List (K × C)) → NonEmpty xs → Ascending O xs → Lt O a (firstKey b xs) → Above O a xs
-  ascending-first a b [] s c l = absurd s
-  ascending-first a b (x ∷ xs) s c l = (l, above-down (x .0) a (lt-le O a (x .0) l) xs (c .0))
-
-  -- in an ascending list the first pair at or above an entry decides whether the list has the entry
-  has-above : {C : Type 0} (e x : K × C) (ys : List (K × C)) → Le O (e .0) (x .0) → Above O (x .0) ys → has (byKey O) e ys ≡ false
-  has-above e x [] h v = refl
-  has-above e x (y ∷ ys) h v =
-      let f : Lt O (e .0) (y .0) = le-lt-trans O (e .0) (x .0) (y .0) h (v .0) in
-      rw (lt-le O (e .0) (y .0) f, f) (has-above e x ys h (v .1))
-
-  pub present-has : {C : Type 0} (e : K × C) (xs : List (K × C)) → Ascending O xs → present (byKey O) e xs ≡ has (byKey O) e xs
-  present-has e [] a = refl
-  present-has e (x ∷ xs) a = either (O .le (e .0) (x .0))
-      (λ l. either (O .le (x .0) (e .0)) (λ f. rw (l, f)) (λ f. rw (l, f) (sym (has-above e x xs l (a .0)))))
-      (λ l. rw l (present-has e xs (a .1)))
-
-  -- a pair that is put in is found by its key
-  pub find-inserted : {C : Type 0} (k : K) (r : C) (xs : List (K × C)) → find O k (insertPair (byKey O) (k, r) xs) ≡ some r
-  find-inserted k r [] = rw (le-refl O k, le-refl O k)
-  find-inserted k r (x ∷ xs) = either (O .le k (x .0)) (λ e. rw (e, le-refl O k, le-refl O k)) (λ e. rw (e, e) (find-inserted k r xs))
-
-  -- a key that no pair of a list has, whatever record number stands beside it, is not found
-  pub has-get : {C : Type 0} (k : K) (r : C) (xs : List (K × C)) → has (byKey O) (k, r) xs ≡ false → get O k xs ≡ none
-  has-get k r [] h = refl
-  has-get k r (x ∷ xs) h = either (O .le k (x .0) && O .le (x .0) k)
-      (λ s. contra refl (rw s at h))
-      (λ s. rw s (has-get k r xs (rw s at h)))
-
-  -- a key that is struck off an ascending list is not there any more
-  pub has-removed : {C : Type 0} (k : K) (r q : C) (xs : List (K × C)) → Ascending O xs →
-      has (byKey O) (k, r) (removePair (byKey O) (k, q) xs) ≡ false
-  has-removed k r q [] a = refl
-  has-removed k r q (x ∷ xs) a = either (O .le k (x .0) && O .le (x .0) k)
-      (λ s. rw s (has-above (k, r) x xs (both (O .le k (x .0)) (O .le (x .0) k) s .0) (a .0)))
-      (λ s. rw (s, s) (has-removed k r q xs (a .1)))
 
 -- lists of whole entries
 module _ {A : Type 0} (le : A → A → Bool) where
@@ -192,6 +111,39 @@ module _ {A : Type 0} (le : A → A → Bool) where
   pub removePair-here : (e : A) (xs ys : List A) → AllAbove le e ys → removePair le e (xs ++ ys) ≡ removePair le e xs ++ ys
   removePair-here e [] ys v = removePair-none e ys v
   removePair-here e (x ∷ xs) ys v = either (le e x && le x e) (λ l. rw l) (λ l. rw l (ap (λ z. x ∷ z) (removePair-here e xs ys v)))
+
+  -- what holds of all entries holds of those that a removal leaves
+  pub removePair-all : (P : A → Type 0) (e : A) (xs : List A) → All P xs → All P (removePair le e xs)
+  removePair-all P e [] p = tt
+  removePair-all P e (x ∷ xs) p = either (le e x && le x e) (λ u. rw u (p .1)) (λ u. rw u (p .0, removePair-all P e xs (p .1)))
+
+  -- ascending lists, joined and taken apart
+  pub ascending-join : (xs ys : List A) → Ascending le xs → Ascending le ys → All (λ x. All (λ y. le y x ≡ false) ys) xs → Ascending le (xs ++ ys)
+  ascending-join [] ys p q c = q
+  ascending-join (x ∷ xs) ys p q c = (all-append (λ y. le y x ≡ false) xs ys (p .0) (c .0), ascending-join xs ys (p .1) q (c .1))
+
+  pub ascending-left : (xs ys : List A) → Ascending le (xs ++ ys) → Ascending le xs
+  ascending-left [] ys a = tt
+  ascending-left (x ∷ xs) ys a = (all-left (λ y. le y x ≡ false) xs ys (a .0), ascending-left xs ys (a .1))
+
+  pub ascending-right : (xs ys : List A) → Ascending le (xs ++ ys) → Ascending le ys
+  ascending-right [] ys a = a
+  ascending-right (x ∷ xs) ys a = ascending-right xs ys (a .1)
+
+  pub ascending-cross : (xs ys : List A) → Ascending le (xs ++ ys) → All (λ x. All (λ y. le y x ≡ false) ys) xs
+  ascending-cross [] ys a = tt
+  ascending-cross (x ∷ xs) ys a = (all-right (λ y. le y x ≡ false) xs ys (a .0), ascending-cross xs ys (a .1))
+
+  -- all of the first part are below the first of the second
+  pub ascending-below : (xs : List A) (y : A) (ys : List A) → Ascending le (xs ++ y ∷ ys) → AllBelow le y xs
+  ascending-below [] y ys a = tt
+  ascending-below (x ∷ xs) y ys a = (all-right (λ z. le z x ≡ false) xs (y ∷ ys) (a .0) .0, ascending-below xs y ys (a .1))
+
+  -- the lists under each of the entries of a list that ascends
+  pub ascending-parts : {C : Type 0} (under : C → List A) (xs : List C) → Ascending le (concatMap under xs) → All (λ x. Ascending le (under x)) xs
+  ascending-parts under [] a = tt
+  ascending-parts under (x ∷ xs) a =
+      (ascending-left (under x) (concatMap under xs) a, ascending-parts under xs (ascending-right (under x) (concatMap under xs) a))
 
   -- an entry that is none of a list's
   abbrev pub Absent : A → List A → Type 0

@@ -3,6 +3,8 @@ use mathlib.Core.Path.{_≡_}
 use mathlib.Core.Bool.{Bool, true, false, cond, _&&_, _||_}
 use mathlib.Core.List.{List, [], _∷_}
 use mathlib.Core.Option.{Option, none, some}
+use Prim.Native.Nat.{ℕ}
+use lib.Dec.{leb}
 use Rattle.basis.specs.Lists.{All}
 use Rattle.tree.specs.Order.{Order, Le, Lt}
 
@@ -39,9 +41,18 @@ module _ {K : Type 0} (O : Order K) where
   get k [] = none
   get k (x ∷ xs) = cond (O .le k (x .0) && O .le (x .0) k) (some (x .1)) (get k xs)
 
+  -- what a list has under a key, all of it, in order
+  abbrev pub recordsOf : {C : Type 0} → K → List (K × C) → List C
+  recordsOf k [] = []
+  recordsOf k (x ∷ xs) = cond (O .le k (x .0) && O .le (x .0) k) (x .1 ∷ recordsOf k xs) (recordsOf k xs)
+
   -- a pair is at or below another: by their keys
   abbrev pub byKey : {C : Type 0} → K × C → K × C → Bool
   byKey x y = O .le (x .0) (y .0)
+
+  -- "by key, then record number"
+  abbrev pub byRecord : K × ℕ → K × ℕ → Bool
+  byRecord x y = cond (O .le (x .0) (y .0)) (cond (O .le (y .0) (x .0)) (leb (x .1) (y .1)) true) false
 
   -- all keys are at or below a key; all are above it
   abbrev pub Below : {C : Type 0} → K → List (K × C) → Type 0
@@ -49,11 +60,6 @@ module _ {K : Type 0} (O : Order K) where
 
   abbrev pub Above : {C : Type 0} → K → List (K × C) → Type 0
   Above a xs = All (λ x. Lt O a (x .0)) xs
-
-  -- keys "strictly ascending left to right"
-  abbrev pub Ascending : {C : Type 0} → List (K × C) → Type 0
-  Ascending [] = Unit {0}
-  Ascending (x ∷ xs) = Above (x .0) xs × Ascending xs
 
 -- lists of whole entries, by the test `le` that an entry is at or below another
 module _ {A : Type 0} (le : A → A → Bool) where
@@ -76,6 +82,11 @@ module _ {A : Type 0} (le : A → A → Bool) where
   abbrev pub removePair : A → List A → List A
   removePair e [] = []
   removePair e (x ∷ xs) = cond (le e x && le x e) xs (x ∷ removePair e xs)
+
+  -- "strictly ascending left to right": no later entry is at or below an earlier one
+  abbrev pub Ascending : List A → Type 0
+  Ascending [] = Unit {0}
+  Ascending (x ∷ xs) = All (λ y. le y x ≡ false) xs × Ascending xs
 
   -- all entries are above an entry; all are below it
   abbrev pub AllAbove : A → List A → Type 0

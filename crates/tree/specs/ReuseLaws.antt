@@ -1,7 +1,7 @@
--- Laws: pages are reused: the file never shrinks, and its size is bounded by the most pairs held at a time; a key that is struck off is absent, and found if it
--- is put in again. Cited by the theorem about lists of calls. Assumes nothing.
-use mathlib.Core.Path.{_≡_, refl, ap, _∙_}
-use mathlib.Core.Bool.{false}
+-- Laws: pages are reused: the file never shrinks, and its size is bounded by the most pairs held at a time; a pair that is struck off is gone, and is there if
+-- it is put in again: for features 1 its key is absent, and found. Cited by the theorem about lists of calls. Assumes nothing.
+use mathlib.Core.Path.{_≡_, refl, sym, ap, _∙_}
+use mathlib.Core.Bool.{Bool, true, false}
 use mathlib.Core.List.{List, [], _∷_}
 use Prim.Native.Nat.{ℕ, zero, suc, _*_, _/_, _≤_, _<_}
 use native.Mathlib.Nat.{mul-le-mul, mul-le-mul-right}
@@ -11,21 +11,22 @@ use lib.ListN.{length}
 use borrow.Author.Tests.{eqb-true, eqb-false, ne-eqb}
 use Rattle.basis.specs.Tests.{either}
 use Rattle.tree.specs.Constants.{pageSize}
-use Rattle.tree.specs.Lists.{occ}
-use Rattle.tree.specs.Pairs.{find, get, has, insertPair}
-use Rattle.tree.specs.PairLaws.{find-get, find-inserted, has-get, has-removed}
-use Rattle.tree.specs.Tree.{pages, lookup}
-use Rattle.tree.specs.Ordered.{lookup-find, ordered-ascending}
-use Rattle.tree.specs.RouteLaws.{distinct-leading}
+use Rattle.tree.specs.Lists.{countIf, occ}
+use Rattle.tree.specs.Order.{Order}
+use Rattle.tree.specs.Pairs.{find, recordsOf, has, insertPair}
+use Rattle.tree.specs.Tree.{pages}
+use Rattle.tree.specs.KeepingLaws.{pair-refl, Same, has-inserted, has-removed, KeyAlone, same-key, find-inserted, has-get}
+use Rattle.tree.specs.LookupLaws.{lookupBy-find}
+use Rattle.tree.specs.RecordLaws.{VeryPair, ascending-records, has-very, records-once}
 use Rattle.tree.specs.ClauseLaws.{sized-rooted}
 use Rattle.tree.specs.InsertPairs.{insert-pairs}
 use Rattle.tree.specs.PageCount.{pages-at-least, tree-count}
 use Rattle.tree.specs.FreeList.{freeAfter, lacking}
 use Rattle.tree.specs.Supply.{takenPage}
-use Rattle.tree.specs.Book.{Call, insertion, removalOf, lookupOf, KeyTests, accepted, found, absent, isAccepted, foundOrAbsent}
-use Rattle.tree.specs.Index.{Index, held, fresh, Setting, keptBy, outOfRoom, answer, insertedTree, inserted, removed, next}
+use Rattle.tree.specs.Book.{Call, insertion, removalOf, lookupOf, KeyTests, refused, accepted, found, absent, verdict, isAccepted, foundOrAbsent}
+use Rattle.tree.specs.Index.{Index, held, fresh, Setting, outOfRoom, answer, insertedTree, inserted, removed, next}
 use Rattle.tree.specs.SoundIndex.{SoundIndex}
-use Rattle.tree.specs.IndexLaws.{Strikable, accepted-strikable, inserted-sound, removed-sound, removed-pairs}
+use Rattle.tree.specs.IndexLaws.{Strikable, accepted-strikable, inserted-sound, removed-sound, removed-pairs, lookup-held}
 
 -- a file size for m pairs: the header's page, and as many pages as the most levels times m
 abbrev pub sizeFor : {K : Type 0} → Setting K → ℕ → ℕ
@@ -37,6 +38,11 @@ freeAfter-none zero [] l = refl
 freeAfter-none zero (f ∷ fs) l = absurd (omega arith)
 freeAfter-none (suc n) [] l = refl
 freeAfter-none (suc n) (f ∷ fs) l = freeAfter-none n fs (omega arith)
+
+-- the verdict on a pair that is there
+verdict-there : (fits barred : Bool) (r : ℕ) (there full : Bool) → fits ≡ true → barred ≡ false → 0 < r → there ≡ true →
+    verdict fits barred r there full ≡ refused 29
+verdict-there fits barred r there full p q pos h = rw (p, q, ne-eqb r 0 (omega arith), h)
 
 module _ {K : Type 0} (s : Setting K) where
   pub fresh-bounded : (m : ℕ) → 0 < m → 0 < s .maxLevels → fresh {K = K} .size ≤ sizeFor s m
@@ -70,7 +76,7 @@ module _ {K : Type 0} (s : Setting K) where
     pub next-bounded : (c : Call K) (i : Index K) → SoundIndex s (next s tests c i) → (m : ℕ) → 0 < m → length (held (next s tests c i)) ≤ m →
         i .size ≤ sizeFor s m → next s tests c i .size ≤ sizeFor s m
     next-bounded (lookupOf k) i d m pos l b = b
-    next-bounded (removalOf k) i d m pos l b = either (isAccepted (answer s tests (removalOf k) i)) (λ e. rw e b) (λ e. rw e b)
+    next-bounded (removalOf k r) i d m pos l b = either (isAccepted (answer s tests (removalOf k r) i)) (λ e. rw e b) (λ e. rw e b)
     next-bounded (insertion k r) i d m pos l b = either (isAccepted (answer s tests (insertion k r) i))
         (λ e. rw e (inserted-bounded i (k, r) (rw e at d) m pos (rw e at l) b))
         (λ e. rw e b)
@@ -78,46 +84,78 @@ module _ {K : Type 0} (s : Setting K) where
     -- Theorem: a call does not shrink the file
     pub next-grows : (c : Call K) (i : Index K) → i .size ≤ next s tests c i .size
     next-grows (lookupOf k) i = omega arith
-    next-grows (removalOf k) i = either (isAccepted (answer s tests (removalOf k) i)) (λ e. rw e (omega arith)) (λ e. rw e (omega arith))
+    next-grows (removalOf k r) i = either (isAccepted (answer s tests (removalOf k r) i)) (λ e. rw e (omega arith)) (λ e. rw e (omega arith))
     next-grows (insertion k r) i = either (isAccepted (answer s tests (insertion k r) i)) (λ e. rw e (omega arith)) (λ e. rw e (omega arith))
 
-    -- a removal that is accepted
-    module _ (two : 1 < s .capacity) (i : Index K) (d : SoundIndex s i) (k : K) (yes : answer s tests (removalOf k) i ≡ accepted) where
-      can : Strikable (tests .fits k) (has (keptBy s .pairLe) (k, 0) (held i))
-      can = accepted-strikable (tests .fits k) (has (keptBy s .pairLe) (k, 0) (held i)) (ap isAccepted yes)
+    -- a removal that is accepted: of the pair (k, q), or for features 1 of its key
+    module _ (two : 1 < s .capacity) (i : Index K) (d : SoundIndex s i) (k : K) (q : ℕ) (yes : answer s tests (removalOf k q) i ≡ accepted) where
+      abbrev O : Order K
+      O = s .keeping .order
 
-      struck : SoundIndex s (removed s k i)
-      struck = removed-sound s two i k d
+      abbrev le : K × ℕ → K × ℕ → Bool
+      le = s .keeping .pairLe
 
-      not-there : (r : ℕ) → has (keptBy s .pairLe) (k, r) (held (removed s k i)) ≡ false
-      not-there r =
-          ap (has (keptBy s .pairLe) (k, r)) (removed-pairs s two i k d (can .there))
-          ∙ has-removed (s .order) k r 0 (held i) (ordered-ascending (s .order) (i .height) (i .tree) (d .ordered))
+      can : Strikable (tests .fits k) (has le (k, q) (held i))
+      can = accepted-strikable (tests .fits k) (has le (k, q) (held i)) (ap isAccepted yes)
 
-      found-in : (j : Index K) → SoundIndex s j → lookup (s .order) k (j .height) (j .tree) ≡ get (s .order) k (held j)
-      found-in j g =
-          lookup-find (s .order) k (j .height) (j .tree) (g .ordered)
-          ∙ find-get (s .order) k (held j) (ordered-ascending (s .order) (j .height) (j .tree) (g .ordered))
+      struck : SoundIndex s (removed s (k, q) i)
+      struck = removed-sound s two i (k, q) d
 
-      -- Theorem: the key is absent then
-      pub struck-absent : answer s tests (lookupOf k) (next s tests (removalOf k) i) ≡ absent
-      struck-absent = rw (yes, can .fitting)
-          (ap foundOrAbsent (found-in (removed s k i) struck ∙ has-get (s .order) k 0 (held (removed s k i)) (not-there 0)))
+      not-there : (r : ℕ) → Same (s .keeping) (k, q) (k, r) → has le (k, r) (held (removed s (k, q) i)) ≡ false
+      not-there r same =
+          ap (has le (k, r)) (removed-pairs s two i (k, q) d (can .there))
+          ∙ has-removed (s .keeping) (k, q) (k, r) (held i) same (d .ordered .ascending)
 
-      -- the key is put in again with record number r, and there is room
-      module _ (allowed : tests .barred k ≡ false) (r : ℕ) (pos : 0 < r) (room : outOfRoom s (k, r) (next s tests (removalOf k) i) ≡ false) where
+      -- Theorem: the pair is not there then: if it is struck off once more, that is 33
+      pub struck-gone : answer s tests (removalOf k q) (next s tests (removalOf k q) i) ≡ refused 33
+      struck-gone = rw (yes, can .fitting, not-there q (pair-refl (s .keeping) (k, q), pair-refl (s .keeping) (k, q)))
+
+      -- Theorem: for features 1 the key is absent then
+      pub struck-absent : KeyAlone (s .keeping) → answer s tests (lookupOf k) (next s tests (removalOf k q) i) ≡ absent
+      struck-absent alone = rw (yes, can .fitting)
+          (ap foundOrAbsent (lookup-held s two (removed s (k, q) i) k struck
+          ∙ has-get (s .keeping) alone k q (held (removed s (k, q) i)) (not-there q (same-key (s .keeping) alone k q q))))
+
+      -- a pair that is taken for the one struck off, so the very pair or for features 1 one with its key, is put in again, and there is room
+      module _ (allowed : tests .barred k ≡ false) (r : ℕ) (same : Same (s .keeping) (k, q) (k, r)) (pos : 0 < r)
+          (room : outOfRoom s (k, r) (next s tests (removalOf k q) i) ≡ false) where
         -- Theorem: it is accepted
-        pub again-accepted : answer s tests (insertion k r) (next s tests (removalOf k) i) ≡ accepted
-        again-accepted = rw (yes, can .fitting, allowed, ne-eqb r 0 (omega arith), not-there r, (rw yes at room))
+        pub again-accepted : answer s tests (insertion k r) (next s tests (removalOf k q) i) ≡ accepted
+        again-accepted = rw (yes, can .fitting, allowed, ne-eqb r 0 (omega arith), not-there r same, (rw yes at room))
 
-        -- Theorem: it is found then
-        pub again-found : answer s tests (lookupOf k) (next s tests (insertion k r) (next s tests (removalOf k) i)) ≡ found r
-        again-found =
-            let j : Index K = removed s k i in
-            let back : SoundIndex s (inserted s (k, r) j) = inserted-sound s two j (k, r) pos (not-there r) (rw yes at room) struck in
-            let put : held (inserted s (k, r) j) ≡ insertPair (keptBy s .pairLe) (k, r) (held j) =
-            insert-pairs (keptBy s) (s .capacity) (takenPage (j .free) (j .size)) (k, r) (distinct-leading (s .order) (k, r)) (j .height) (j .tree)
-            (sized-rooted (s .capacity) (j .height) (j .tree) (struck .sized)) (struck .ordered) in
-            rw (again-accepted, yes, can .fitting) (ap foundOrAbsent
-            (lookup-find (s .order) k (inserted s (k, r) j .height) (inserted s (k, r) j .tree) (back .ordered)
-            ∙ (ap (find (s .order) k) put ∙ find-inserted (s .order) k r (held j))))
+        abbrev again : Index K
+        again = inserted s (k, r) (removed s (k, q) i)
+
+        again-next : next s tests (insertion k r) (next s tests (removalOf k q) i) ≡ again
+        again-next = rw (again-accepted, yes)
+
+        again-sound : SoundIndex s again
+        again-sound = inserted-sound s two (removed s (k, q) i) (k, r) pos (not-there r same) (rw yes at room) struck
+
+        again-pairs : held again ≡ insertPair le (k, r) (held (removed s (k, q) i))
+        again-pairs =
+            let j : Index K = removed s (k, q) i in
+            insert-pairs (s .keeping) (s .capacity) (takenPage (j .free) (j .size)) (k, r) (j .height) (j .tree)
+            (sized-rooted (s .capacity) (j .height) (j .tree) (struck .sized)) (struck .ordered)
+
+        again-has : has le (k, r) (held again) ≡ true
+        again-has = ap (has le (k, r)) again-pairs ∙ has-inserted (s .keeping) (k, r) (held (removed s (k, q) i))
+
+        -- Theorem: it is there then: if it is put in once more, that is 29
+        pub again-there : answer s tests (insertion k r) (next s tests (insertion k r) (next s tests (removalOf k q) i)) ≡ refused 29
+        again-there =
+            ap (answer s tests (insertion k r)) again-next
+            ∙ verdict-there (tests .fits k) (tests .barred k) r (has le (k, r) (held again)) (outOfRoom s (k, r) again) (can .fitting) allowed pos again-has
+
+        -- Theorem: for features 1 it is found then
+        pub again-found : KeyAlone (s .keeping) → answer s tests (lookupOf k) (next s tests (insertion k r) (next s tests (removalOf k q) i)) ≡ found r
+        again-found alone = rw (again-accepted, yes, can .fitting) (ap foundOrAbsent
+            (lookupBy-find (s .keeping) k (again .height) (again .tree) (again-sound .ordered)
+            ∙ (ap (find O k) again-pairs ∙ find-inserted (s .keeping) alone k r (held (removed s (k, q) i)))))
+
+        -- Theorem: for features 0 its record is listed once then among the records of its key
+        pub again-listed : VeryPair (s .keeping) →
+            occ r (recordsOf O k (held (next s tests (insertion k r) (next s tests (removalOf k q) i)))) ≡ 1
+        again-listed very = rw (again-accepted, yes)
+            (records-once O k r (held again) (ascending-records (s .keeping) very (held again) (again-sound .ordered .ascending))
+            ∙ ap countIf (sym (has-very (s .keeping) very (k, r) (held again)) ∙ again-has))

@@ -24,7 +24,7 @@ pub record PagesOnce {K : Type 0} (i : Index K) : Type 0 where
 
 -- what every call keeps
 pub record SoundIndex {K : Type 0} (s : Setting K) (i : Index K) : Type 0 where
-  pub ordered : Ordered (s .order) (i .height) (i .tree)
+  pub ordered : Ordered (s .keeping) (i .height) (i .tree)
   pub sized : Sized (s .capacity) (i .height) (i .tree)
   pub pagesOnce : PagesOnce i
   pub records : All (λ e. 0 < e .1) (held i)

@@ -551,6 +551,8 @@ struct Head {
     free: u32,
     size: u32,
     k: usize,
+    /// Features 0: a key may have several records.
+    several: bool,
 }
 
 fn is_page(size: u32, p: u32) -> bool {
@@ -566,6 +568,7 @@ fn header(b: &[u8]) -> Option<Head> {
         free: le32(b, 4),
         size: le32(b, 8),
         k: le16(b, 12) as usize,
+        several: b[14] == 0,
     };
     let good = head.size.is_multiple_of(512)
         && (1024..=MAX_BYTES).contains(&head.size)
@@ -573,13 +576,16 @@ fn header(b: &[u8]) -> Option<Head> {
         && is_page(head.size, head.root)
         && (head.free == NONE || is_page(head.size, head.free))
         && (1..=100).contains(&head.k)
-        && b[14] == 1;
+        && b[14] <= 1;
     good.then_some(head)
 }
 
 fn capacity(k: usize) -> usize {
     500 / (k + 4)
 }
+
+/// A key with its record: pairs are ordered by key, then record number.
+type Pair<'a> = (&'a [u8], u32);
 
 struct Page<'a> {
     bytes: &'a [u8],
@@ -632,6 +638,10 @@ impl<'a> Page<'a> {
         be32(self.bytes, 12 + i * (self.k + 4) + self.k)
     }
 
+    fn pair(&self, i: usize) -> Pair<'a> {
+        (self.key(i), self.number(i))
+    }
+
     fn count_good(&self) -> bool {
         let n = self.count();
         n <= capacity(self.k) && (n >= 1 || self.attribute() == 3)
@@ -656,10 +666,10 @@ fn sound(b: &[u8], head: &Head) -> bool {
             return false;
         };
         if leaf {
-            return leaves_good(b, head.k, &level)
+            return leaves_good(b, head, &level)
                 && free_list_good(b, head, &mut reached)
                 && reached[1..].iter().all(|&r| r)
-                && leaf_bounds(b, head.k, head.root).is_some();
+                && leaf_bounds(b, head, head.root).is_some();
         }
         let Some(below) = children(b, head, &level) else {
             return false;
@@ -730,19 +740,20 @@ fn free_list_good(b: &[u8], head: &Head, reached: &mut [bool]) -> bool {
     true
 }
 
-/// The first and the last leaf key under a page of a tree of good shape, if each key above a child is at or above the leaf keys under the child, and below those
-/// under the next child of its page.
-fn leaf_bounds(b: &[u8], k: usize, p: u32) -> Option<(&[u8], &[u8])> {
-    let page = Page::at(b, k, p);
+/// The first and the last leaf key under a page of a tree of good shape, if each key above a child is at or above the leaf keys under the child, and below
+/// those under the next child of its page; with several records to a key, it may equal them.
+fn leaf_bounds<'a>(b: &'a [u8], head: &Head, p: u32) -> Option<(&'a [u8], &'a [u8])> {
+    let page = Page::at(b, head.k, p);
     if page.leaf() {
-        let mut keys = page.entries().map(|e| &e[..k]);
+        let mut keys = page.entries().map(|e| &e[..head.k]);
         let first = keys.next().unwrap_or(&[]);
         return Some((first, keys.last().unwrap_or(first)));
     }
-    let (first, mut last) = leaf_bounds(b, k, page.number(0))?;
+    let (first, mut last) = leaf_bounds(b, head, page.number(0))?;
     for i in 1..page.count() {
-        let (low, high) = leaf_bounds(b, k, page.number(i))?;
-        if page.key(i - 1) < last || page.key(i - 1) >= low {
+        let (low, high) = leaf_bounds(b, head, page.number(i))?;
+        let above = page.key(i - 1);
+        if above < last || above > low || (above == low && !head.several) {
             return None;
         }
         last = high;
@@ -750,16 +761,22 @@ fn leaf_bounds(b: &[u8], k: usize, p: u32) -> Option<(&[u8], &[u8])> {
     (page.key(page.count() - 1) >= last).then_some((first, last))
 }
 
-fn leaves_good(b: &[u8], k: usize, leaves: &[u32]) -> bool {
-    let mut last: Option<&[u8]> = None;
+/// Whether the leaves' keys ascend, or their pairs if a key may have several records, and no record is 0.
+fn leaves_good(b: &[u8], head: &Head, leaves: &[u32]) -> bool {
+    let mut last: Option<Pair> = None;
     for &p in leaves {
-        let page = Page::at(b, k, p);
+        let page = Page::at(b, head.k, p);
         for entry in page.entries() {
-            let key = &entry[..k];
-            if last.is_some_and(|l| l >= key) || be32(entry, k) == 0 {
+            let pair = (&entry[..head.k], be32(entry, head.k));
+            let ascends = match last {
+                None => true,
+                Some(last) if head.several => last < pair,
+                Some(last) => last.0 < pair.0,
+            };
+            if !ascends || pair.1 == 0 {
                 return false;
             }
-            last = Some(key);
+            last = Some(pair);
         }
     }
     true
@@ -772,6 +789,16 @@ pub enum Looked {
     Refused(Refusal),
 }
 
+/// Page p as the lookup reads it, if its number, attribute and count are good; only the first is the root.
+fn visited<'a>(b: &'a [u8], head: &Head, p: u32, first: bool) -> Option<Page<'a>> {
+    if !is_page(head.size, p) {
+        return None;
+    }
+    let page = Page::at(b, head.k, p);
+    let a = page.attribute();
+    (a <= 3 && (a & 1 == 1) == first && page.count_good()).then_some(page)
+}
+
 pub fn lookup(b: &[u8], key: &[u8]) -> Looked {
     let Some(head) = header(b) else {
         return Looked::Refused(24);
@@ -781,39 +808,53 @@ pub fn lookup(b: &[u8], key: &[u8]) -> Looked {
     }
     let mut p = head.root;
     for pages in 1..=MAX_LEVELS as u32 {
-        if !is_page(head.size, p) {
+        let Some(page) = visited(b, &head, p, pages == 1) else {
+            return Looked::Refused(25);
+        };
+        if pages == MAX_LEVELS as u32 && !page.leaf() {
             return Looked::Refused(25);
         }
-        let page = Page::at(b, head.k, p);
-        let a = page.attribute();
-        if a > 3
-            || (a & 1 == 1) != (pages == 1)
-            || !page.count_good()
-            || (pages == MAX_LEVELS as u32 && !page.leaf())
-        {
-            return Looked::Refused(25);
-        }
-        let Some(i) = page.reach(key) else {
-            return Looked::Absent(pages);
+        let i = match page.reach(key) {
+            Some(i) => i,
+            None if pages == 1 || !head.several => return Looked::Absent(pages),
+            None if page.leaf() => return lookup_beside(b, &head, page.right(), key, pages),
+            None => page.count() - 1,
         };
         if page.leaf() {
-            return if page.key(i) == key {
-                Looked::Found(page.number(i), pages)
-            } else {
-                Looked::Absent(pages)
-            };
+            return decided(&page, i, key, pages);
         }
         p = page.number(i);
     }
     unreachable!("the last page is a leaf")
 }
 
-pub fn fresh(b: &mut [u8], k: u32, expression: &[u8]) -> Result<(), Refusal> {
+/// What an entry of a leaf says of a key that all entries before it are below.
+fn decided(leaf: &Page, i: usize, key: &[u8], pages: u32) -> Looked {
+    if leaf.key(i) == key {
+        Looked::Found(leaf.number(i), pages)
+    } else {
+        Looked::Absent(pages)
+    }
+}
+
+/// The lookup's step from a leaf whose entries are all below the key to its right neighbour p, whose first entry decides.
+fn lookup_beside(b: &[u8], head: &Head, p: u32, key: &[u8], pages: u32) -> Looked {
+    if p == NONE {
+        return Looked::Absent(pages);
+    }
+    match visited(b, head, p, false) {
+        Some(page) if page.leaf() => decided(&page, 0, key, pages + 1),
+        _ => Looked::Refused(25),
+    }
+}
+
+pub fn fresh(b: &mut [u8], k: u32, features: u32, expression: &[u8]) -> Result<(), Refusal> {
     if !(1..=100).contains(&k) {
         return Err(27);
     }
     if !(1..=220).contains(&expression.len())
         || !expression.iter().all(|c| (0x20..=0x7E).contains(c))
+        || features > 1
     {
         return Err(24);
     }
@@ -825,7 +866,7 @@ pub fn fresh(b: &mut [u8], k: u32, expression: &[u8]) -> Result<(), Refusal> {
     put_le32(b, 4, NONE);
     put_le32(b, 8, 1024);
     put_le16(b, 12, k);
-    b[14] = 1;
+    b[14] = features as u8;
     b[16..16 + expression.len()].copy_from_slice(expression);
     put_le16(b, 512, 3);
     put_le32(b, 516, NONE);
@@ -848,10 +889,15 @@ pub fn insert(b: &mut [u8], key: &[u8], record: u32) -> Result<(), Refusal> {
         return Err(25);
     }
     let k = head.k;
-    let (path, present) = path_to_leaf(b, k, head.root, key);
+    let (path, present) = path_to_leaf(b, &head, key, record);
     if present {
         return Err(29);
     }
+    let path = if head.several {
+        path_to_pair(b, k, head.root, |pair| pair < (key, record))
+    } else {
+        path
+    };
     let full = |(p, _): &&(u32, usize)| Page::at(b, k, *p).count() == capacity(k);
     let splits = path.iter().rev().take_while(full).count();
     let new_root = splits == path.len();
@@ -888,12 +934,21 @@ fn new_page(b: &mut [u8]) -> u32 {
     free
 }
 
-/// The pages from the root to the leaf, each with the entry gone through, the leaf's being where the key belongs; and whether the key is there.
-fn path_to_leaf(b: &[u8], k: usize, root: u32, key: &[u8]) -> (Vec<(u32, usize)>, bool) {
+/// The pages from the root to a leaf, each with the entry gone through.
+type Path = Vec<(u32, usize)>;
+
+/// The path to the leaf's place where the key belongs, and whether the key is there; with several records to a key, the pair's.
+fn path_to_leaf(b: &[u8], head: &Head, key: &[u8], record: u32) -> (Path, bool) {
+    if head.several {
+        let path = path_to_pair(b, head.k, head.root, |pair| pair <= (key, record));
+        let (p, next) = path[path.len() - 1];
+        let present = next > 0 && Page::at(b, head.k, p).pair(next - 1) == (key, record);
+        return (path, present);
+    }
     let mut path = Vec::new();
-    let mut p = root;
+    let mut p = head.root;
     loop {
-        let page = Page::at(b, k, p);
+        let page = Page::at(b, head.k, p);
         let i = page.reach(key);
         if page.leaf() {
             path.push((p, i.unwrap_or(page.count())));
@@ -902,6 +957,37 @@ fn path_to_leaf(b: &[u8], k: usize, root: u32, key: &[u8]) -> (Vec<(u32, usize)>
         let i = i.unwrap_or(page.count() - 1);
         path.push((p, i));
         p = page.number(i);
+    }
+}
+
+/// The path to the leaf with the greatest pair that is low, or the first leaf, and behind that pair: down the last child whose first pair is low. The pairs
+/// before a low one are low too.
+fn path_to_pair(b: &[u8], k: usize, root: u32, low: impl Fn(Pair) -> bool) -> Path {
+    let mut path = Vec::new();
+    let mut p = root;
+    loop {
+        let page = Page::at(b, k, p);
+        if page.leaf() {
+            let next = (0..page.count()).take_while(|&i| low(page.pair(i))).count();
+            path.push((p, next));
+            return path;
+        }
+        let later = 1..page.count();
+        let i = later
+            .take_while(|&i| low(first_pair(b, k, page.number(i))))
+            .count();
+        path.push((p, i));
+        p = page.number(i);
+    }
+}
+
+/// The first leaf pair under a page.
+fn first_pair(b: &[u8], k: usize, p: u32) -> Pair<'_> {
+    let page = Page::at(b, k, p);
+    if page.leaf() {
+        page.pair(0)
+    } else {
+        first_pair(b, k, page.number(0))
     }
 }
 
@@ -979,8 +1065,8 @@ fn take_in(b: &mut [u8], k: usize, p: u32, i: usize, key: &[u8], number: u32) ->
     Some(q)
 }
 
-/// Strikes a key off: 24, 27, 25, 33.
-pub fn remove(b: &mut [u8], key: &[u8]) -> Result<(), Refusal> {
+/// Strikes a key off, or, with several records to a key, a pair: 24, 27, 25, 33.
+pub fn remove(b: &mut [u8], key: &[u8], record: u32) -> Result<(), Refusal> {
     let head = header(b).ok_or(24u32)?;
     if key.len() != head.k {
         return Err(27);
@@ -988,12 +1074,47 @@ pub fn remove(b: &mut [u8], key: &[u8]) -> Result<(), Refusal> {
     if !sound(b, &head) {
         return Err(25);
     }
-    let (path, present) = path_to_leaf(b, head.k, head.root, key);
+    let (mut path, present) = path_to_leaf(b, &head, key, record);
     if !present {
         return Err(33);
     }
+    if head.several {
+        // the path leads behind the pair
+        path.last_mut().unwrap().1 -= 1;
+    }
     strike_off(b, head.k, &path);
     Ok(())
+}
+
+/// All records of a key, in order, into the beginning of a list, and how many they are: 24, 27, 25, 39.
+pub fn records(b: &[u8], key: &[u8], list: &mut [u32]) -> Result<u32, Refusal> {
+    let head = header(b).ok_or(24u32)?;
+    if key.len() != head.k {
+        return Err(27);
+    }
+    if !sound(b, &head) {
+        return Err(25);
+    }
+    // all children before the first with a key at or above it have lower keys
+    let mut page = Page::at(b, head.k, head.root);
+    while !page.leaf() {
+        let i = page.reach(key).unwrap_or(page.count() - 1);
+        page = Page::at(b, head.k, page.number(i));
+    }
+    let mut found = Vec::new();
+    loop {
+        let same = (0..page.count()).filter(|&i| page.key(i) == key);
+        found.extend(same.map(|i| page.number(i)));
+        let past = page.count() > 0 && page.key(page.count() - 1) > key;
+        if past || page.right() == NONE {
+            break;
+        }
+        page = Page::at(b, head.k, page.right());
+    }
+    list.get_mut(..found.len())
+        .ok_or(39u32)?
+        .copy_from_slice(&found);
+    Ok(found.len() as u32)
 }
 
 /// The removal itself, from the leaf up: a page that is emptied joins the free list and its parent's entry goes, but the root becomes an empty leaf.
@@ -1093,8 +1214,8 @@ fn entries_match<'a>(
     seen.iter().all(|&s| s)
 }
 
-/// Sample and diluent for a barcode, in tenths of a microlitre: the match's refusals, 12, 13, 27, 35, 15, 35, 16 to 18, 36, 37, 38. The record is sought in the
-/// table, not in the index.
+/// Sample and diluent for a barcode, in tenths of a microlitre: the match's refusals, but 24 for several records to a key too, then 12, 13, 27, 35, 15, 35, 16
+/// to 18, 36, 37, 38. The record is sought in the table, not in the index.
 pub fn dilute(
     t: &[u8],
     b: &[u8],
@@ -1103,8 +1224,11 @@ pub fn dilute(
     target: u64,
     volume: u64,
 ) -> Result<(u32, u32), Refusal> {
-    match_index(t, b, fields.0)?;
     let shape = check_table(t)?;
+    if header(b).is_none_or(|head| head.several) {
+        return Err(24);
+    }
+    match_index(t, b, fields.0)?;
     if fields.1 == 0 || fields.1 as usize > shape.fields {
         return Err(12);
     }

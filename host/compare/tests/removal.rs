@@ -55,7 +55,7 @@ fn number(i: usize) -> Vec<u8> {
 /// Inserts ascending keys and strikes off those that can be spared, until there are 12 levels. Each level more takes three times as many insertions.
 fn fill(insert: Insert, remove: Remove) {
     let mut b = vec![0; 1_048_576];
-    reference::fresh(&mut b, K as u32, b"KEY").unwrap();
+    reference::fresh(&mut b, K as u32, 1, b"KEY").unwrap();
     let mut made = 0;
     while spare(&b).1 < 12 {
         for key in spare(&b).0 {
@@ -67,7 +67,7 @@ fn fill(insert: Insert, remove: Remove) {
     let left = keys(&b, root(&b));
     assert_eq!((made, left.len()), (265_721, 35));
     // the way out
-    reference::fresh(&mut b, K as u32, b"KEY").unwrap();
+    reference::fresh(&mut b, K as u32, 1, b"KEY").unwrap();
     for key in left {
         assert_eq!(insert(&mut b, &key), 0);
     }
@@ -86,7 +86,7 @@ fn few_keys_in_twelve_levels_by_the_library() {
         },
         |b, key| {
             Index::over(b)
-                .remove(key)
+                .remove(key, 0)
                 .err()
                 .map_or(0, |refusal| refusal.code())
         },
@@ -97,6 +97,6 @@ fn few_keys_in_twelve_levels_by_the_library() {
 fn few_keys_in_twelve_levels_in_plain_rust() {
     fill(
         |b, key| reference::insert(b, key, 1).err().unwrap_or(0),
-        |b, key| reference::remove(b, key).err().unwrap_or(0),
+        |b, key| reference::remove(b, key, 0).err().unwrap_or(0),
     );
 }

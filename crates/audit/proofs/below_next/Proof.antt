@@ -1,7 +1,7 @@
 -- `audit::below_next` meets its contract: test for test.
 -- Assumes nothing.
 use borrow.Author.Needs.{needs}
-use Rattle.audit.specs.CeilingLaws.{next-end, next-none, next-below}
+use Rattle.audit.specs.CeilingLaws.{next-end, next-none, next-below, next-equal}
 use Rattle.audit.proofs.below_next.Statement.{statement}
 use Rattle.audit.proofs.below_next.Tie as tie
 
@@ -33,12 +33,30 @@ is-below-requires c κs = search needs
 returns-3 : tie.Need-returns-3
 returns-3 c =
     let compared = c .before in
-    let tested = compared .before in
+    let tested = compared .before .before in
     let first = tested .before in
     let down = first .before in
     let child = down .before in
-    next-below _ _ _ _ _ _ _ _ _ _ _ (search needs) (child .child .ensures) (down .first-under .ensures) (first .first-key .ensures .0) (tested .if2 .left)
-    (compared .key-order .ensures) (c .is-below .ensures)
+    next-below _ _ _ _ _ _ _ _ _ _ _ (search needs) (child .child .ensures) (down .first-under .ensures) (first .first-key .ensures .0) _ _ (tested .if2 .left)
+    (compared .before .key-order .ensures) (compared .is-below .ensures) (c .if3 .taken)
+
+several-requires : tie.Need-several-requires
+several-requires c κs = search needs
+
+is-equal-requires : tie.Need-is-equal-requires
+is-equal-requires c κs = search needs
+
+returns-4 : tie.Need-returns-4
+returns-4 c =
+    let read = c .before in
+    let above = read .before in
+    let compared = above .before in
+    let tested = compared .before .before in
+    let first = tested .before in
+    let down = first .before in
+    let child = down .before in
+    next-equal _ _ _ _ _ _ _ _ _ _ _ (search needs) (child .child .ensures) (down .first-under .ensures) (first .first-key .ensures .0) _ _ (tested .if2 .left)
+    (compared .before .key-order .ensures) (compared .is-below .ensures) (above .if3 .left) (read .several .ensures) (c .is-equal .ensures)
 
 pub below-next-spec : {M : Type 1} → statement M
 below-next-spec =
@@ -51,4 +69,7 @@ below-next-spec =
     returns-2
     key-order-requires
     is-below-requires
-    returns-3)
+    returns-3
+    several-requires
+    is-equal-requires
+    returns-4)

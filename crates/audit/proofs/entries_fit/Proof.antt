@@ -19,18 +19,23 @@ entry-count-requires c κs = search needs
 last-key-requires : tie.Need-last-key-requires
 last-key-requires c κs = search needs
 
+several-requires : tie.Need-several-requires
+several-requires c κs = search needs
+
 leaf-entries-requires : tie.Need-leaf-entries-requires
 leaf-entries-requires c κs =
-    let counted = c .before in
+    let last = c .before in
+    let counted = last .before in
     let start = counted .before .before .before .before in
-    (start .pre .key, entries-within _ _ _ _ _ (counted .entry-count .ensures) (start .pre), c .last-key .ensures .1)
+    (start .pre .key, entries-within _ _ _ _ _ (counted .entry-count .ensures) (start .pre), last .last-key .ensures .1, c .several .ensures)
 
 returns-2 : tie.Need-returns-2
 returns-2 c =
-    let counted = c .before .before in
+    let last = c .before .before in
+    let counted = last .before in
     let tested = counted .before in
     entries-leaf _ _ _ _ _ _ _ _ _ (counted .entry-count .ensures) (passed (tested .before .is-leaf .ensures) (tested .if1 .left))
-    (c .before .last-key .ensures .0) (c .leaf-entries .ensures)
+    (last .last-key .ensures .2) (c .leaf-entries .ensures)
 
 pub entries-fit-spec : {M : Type 1} → statement M
 entries-fit-spec =
@@ -40,5 +45,6 @@ entries-fit-spec =
     returns
     entry-count-requires
     last-key-requires
+    several-requires
     leaf-entries-requires
     returns-2)

@@ -3,7 +3,7 @@
 use native.Mathlib.Omega.{arith}
 use Prim.Native.Nat.{_-_}
 use Rattle.page.specs.PageLaws.{entry-within}
-use Rattle.audit.specs.EntryLaws.{entries-within, last-none, last-some}
+use Rattle.audit.specs.EntryLaws.{entries-within, last-none, last-some, last-pair-none, last-pair-some}
 use borrow.Author.Needs.{needs}
 use Rattle.audit.proofs.last_key.Statement.{statement}
 use Rattle.audit.proofs.last_key.Tie as tie
@@ -14,7 +14,9 @@ entry-count-requires c κs = search needs
 returns : tie.Need-returns
 returns c =
     let pre = c .before .before .before .pre in
-    (last-none _ _ _ _ _ (c .before .entry-count .ensures) (c .if1 .taken), omega arith)
+    let n = c .before .entry-count .ensures in
+    let empty = c .if1 .taken in
+    (last-none _ _ _ _ _ n empty, omega arith, last-pair-none _ _ _ _ _ n empty)
 
 sub-entry-offset : tie.Need-sub-entry-offset
 sub-entry-offset c = search needs
@@ -34,7 +36,7 @@ returns-2 c =
     let some = tested .if1 .left in
     let w = entry-within (entries-within _ _ _ _ _ (n .ensures) (counted .before .before .pre) .each (n .result - 1) (omega arith)) in
     let at = c .entry-offset .ensures in
-    (last-some _ _ _ _ _ _ (n .ensures) some at, omega arith)
+    (last-some _ _ _ _ _ _ (n .ensures) some at, omega arith, last-pair-some _ _ _ _ _ _ (n .ensures) some at)
 
 pub last-key-spec : {M : Type 1} → statement M
 last-key-spec =

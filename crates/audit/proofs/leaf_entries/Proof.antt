@@ -1,5 +1,5 @@
 -- `audit::leaf_entries` meets its contract. The loop's invariant: the entries passed are good, so that the last `left` entries, of which the first begins at
--- `at`, decide after the key at `prior`. The page is told by the place of its first entry, `at₀`.
+-- `at`, decide after the entry at `prior`. The page is told by the place of its first entry, `at₀`.
 -- Assumes nothing.
 use Prim.Native.Nat.{_-_}
 use native.Mathlib.Omega.{arith}
@@ -11,10 +11,10 @@ use Rattle.audit.proofs.leaf_entries.Statement.{statement}
 use Rattle.audit.proofs.leaf_entries.Tie as tie
 
 abbrev Inv-loop : tie.InvT-loop
-Inv-loop index k count last at₀ prior₀ left₀ at prior left = LeafLoop index k (at₀ - entriesStart) count last at prior left
+Inv-loop index k several count last at₀ prior₀ left₀ at prior left = LeafLoop index k (at₀ - entriesStart) count last at prior left
 
 abbrev μ-loop : tie.MeasureT-loop
-μ-loop index k count last at₀ prior₀ left₀ at prior left = left
+μ-loop index k several count last at₀ prior₀ left₀ at prior left = left
 
 entry-offset-requires : tie.Need-entry-offset-requires Inv-loop μ-loop
 entry-offset-requires c κs = search needs
@@ -22,14 +22,16 @@ entry-offset-requires c κs = search needs
 loop-holds : tie.Need-loop-holds Inv-loop μ-loop
 loop-holds c =
     let first = c .entry-offset .ensures in
-    rw (page-of _ _ _ first) (leaf-start _ _ _ _ _ _ first (c .before .before .pre .2))
+    let start = c .before .before in
+    let a = start .args in
+    rw (page-of _ _ _ first) (leaf-start (a .index .now) (a .k) (a .page .0) (a .count) (a .last) _ first (start .pre .2))
 
 leaf-entry-requires : tie.Need-leaf-entry-requires Inv-loop μ-loop
 leaf-entry-requires c κs =
     let head = c .before in
     let placed = head .before in
     let inv = rw (page-of _ _ _ (placed .entry-offset .ensures)) at (head .loop .inv) in
-    (leaf-inside _ _ _ _ _ _ _ _ inv (c .loop-test .taken) (placed .before .before .pre .1), inv .2)
+    (leaf-inside _ _ _ _ _ _ _ _ inv (c .loop-test .taken) (placed .before .before .pre .1), inv .2, placed .before .before .pre .3)
 
 returns : tie.Need-returns Inv-loop μ-loop
 returns c =
@@ -72,7 +74,10 @@ loop-again c =
 returns-2 : tie.Need-returns-2 Inv-loop μ-loop
 returns-2 c =
     let head = c .before in
-    leaf-end _ _ _ _ _ _ _ _ (rw (page-of _ _ _ (head .before .entry-offset .ensures)) at (head .loop .inv)) (search needs)
+    let placed = head .before in
+    let a = placed .before .before .args in
+    leaf-end (a .index .now) (a .k) (a .page .0) (a .count) (a .last) _ _ _ (rw (page-of _ _ _ (placed .entry-offset .ensures)) at (head .loop .inv))
+    (search needs)
 
 pub leaf-entries-spec : {M : Type 1} → statement M
 leaf-entries-spec =

@@ -13,11 +13,8 @@ start c = c .before .before .before
 abbrev lookup-size : tie.Then1 → tie.After-load-le16
 lookup-size c = c .before .before
 
-abbrev remove-size : tie.Then2 → tie.After-load-le16
-remove-size c = c .before .before .before
-
-abbrev insert-size : tie.Else2 → tie.After-load-le16
-insert-size c = c .before .before .before
+abbrev number-size : tie.Else1 → tie.After-load-le16
+number-size c = c .before .before
 
 -- the call lies inside the list
 inside : (c : tie.Start) → Whole (c .args .calls .now) (c .args .at)
@@ -67,6 +64,11 @@ returns c =
     let kind = at-if .before .byte .ensures .0 in
     lookup-made _ _ _ size kind (at-if .if1 .taken) (at-lookup .lookup .ensures) (c .looked-up .ensures)
 
+load-le32-requires : tie.Need-load-le32-requires
+load-le32-requires c κs =
+    let w = inside (start (number-size c)) in
+    omega (arith, c .before .byte .ensures .0, c .if1 .left)
+
 sub-remove : tie.Need-sub-remove
 sub-remove c = search needs
 
@@ -74,7 +76,7 @@ part-remove-start : tie.Need-part-remove-start
 part-remove-start c = search needs
 
 part-remove-end : tie.Need-part-remove-end
-part-remove-end c = let w = inside (start (remove-size (c .before))) in omega arith
+part-remove-end c = let w = inside (start (number-size (c .before .before .before))) in omega arith
 
 remove-requires : tie.Need-remove-requires
 remove-requires c κs = search needs
@@ -89,12 +91,11 @@ returns-2 : tie.Need-returns-2
 returns-2 c =
     let at-remove = c .before .before .before in
     let at-if = at-remove .before .before .before in
-    let size = remove-size at-if .load-le16 .ensures .0 in
-    let kind = at-if .before .before .byte .ensures .0 in
-    removal-made _ _ _ size kind (at-if .if2 .taken) (at-remove .remove .ensures) (c .struck .ensures)
-
-load-le32-requires : tie.Need-load-le32-requires
-load-le32-requires c κs = let w = inside (start (insert-size c)) in omega arith
+    let at-number = at-if .before in
+    let more = at-number .before in
+    let size = number-size more .load-le16 .ensures .0 in
+    let kind = more .before .byte .ensures .0 in
+    removal-made _ _ _ size kind (at-if .if2 .taken) (at-number .load-le32 .ensures) (at-remove .remove .ensures) (c .struck .ensures)
 
 sub-insert : tie.Need-sub-insert
 sub-insert c = search needs
@@ -103,7 +104,7 @@ part-insert-start : tie.Need-part-insert-start
 part-insert-start c = search needs
 
 part-insert-end : tie.Need-part-insert-end
-part-insert-end c = let w = inside (start (insert-size (c .before .before))) in omega arith
+part-insert-end c = let w = inside (start (number-size (c .before .before .before))) in omega arith
 
 insert-requires : tie.Need-insert-requires
 insert-requires c κs = search needs
@@ -117,12 +118,12 @@ same-length-3 c = search needs
 returns-3 : tie.Need-returns-3
 returns-3 c =
     let at-insert = c .before .before .before in
-    let at-number = at-insert .before .before .before in
-    let at-if = at-number .before in
-    let size = insert-size at-if .load-le16 .ensures .0 in
-    let kind = at-if .before .before .byte .ensures .0 in
-    insertion-made _ _ _ size kind (at-if .before .if1 .left) (at-if .if2 .left) (at-number .load-le32 .ensures)
-    (at-insert .insert .ensures) (c .inserted .ensures)
+    let at-if = at-insert .before .before .before in
+    let at-number = at-if .before in
+    let more = at-number .before in
+    let size = number-size more .load-le16 .ensures .0 in
+    let kind = more .before .byte .ensures .0 in
+    insertion-made _ _ _ size kind (more .if1 .left) (at-if .if2 .left) (at-number .load-le32 .ensures) (at-insert .insert .ensures) (c .inserted .ensures)
 
 pub make-call-spec : {M : Type 1} → statement M
 make-call-spec =
@@ -141,6 +142,7 @@ make-call-spec =
     looked-up-requires
     same-length
     returns
+    load-le32-requires
     sub-remove
     part-remove-start
     part-remove-end
@@ -148,7 +150,6 @@ make-call-spec =
     struck-requires
     same-length-2
     returns-2
-    load-le32-requires
     sub-insert
     part-insert-start
     part-insert-end

@@ -34,8 +34,8 @@ returns c =
     let at-index = at-calls .before .before in
     let made = at-fresh .fresh .ensures ∙ ap (afterCall (at-fresh .fresh .last .0)) (at-told .enum-told .given .1) in
     let ran = at-run .run-calls .ensures .0 in (
-      batch-made _ _ _ _ _ made ran,
-      λ z. batch-kept _ _ _ _ _ (λ i. at-index .slice-known .given i .fits) (λ i. at-calls .shared-slice-known2 .given i .fits) made ran,
+      batch-made _ _ _ _ _ _ made ran,
+      λ z. batch-kept _ _ _ _ _ _ (λ i. at-index .slice-known .given i .fits) (λ i. at-calls .shared-slice-known2 .given i .fits) made ran,
     )
 
 same-length-3 : tie.Need-same-length-3
@@ -46,7 +46,7 @@ returns-2 c =
     let at-refusal = c .before in
     let at-fresh = at-refusal .before .before .before .before in
     let refused = at-fresh .fresh .ensures ∙ ap (afterCall (at-fresh .fresh .last .0)) (at-refusal .refusal .given .1) in
-    (batch-refused _ _ _ _ _ refused, λ z. absurd (refused-number _ _ _ refused z))
+    (batch-refused _ _ _ _ _ _ refused, λ z. absurd (refused-number _ _ _ _ refused z))
 
 pub run-batch-spec : {M : Type 1} → statement M
 run-batch-spec =

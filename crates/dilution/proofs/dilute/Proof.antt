@@ -58,7 +58,8 @@ record-dilution-requires c κs =
     let sheet = none (sought .before .before .before) in
     let args = start (sought .before .before .before) .args in
     let number = sought .record-with .ensures in
-    let named = record-named (args .table .now) (args .index .now) (args .barcode-field) (sheet-good _ _ _ _ sheet .matched) (args .barcode .now)
+    let good = sheet-good _ _ _ _ sheet in
+    let named = record-named (args .table .now) (args .index .now) (args .barcode-field) (good .matched) (good .distinct) (args .barcode .now)
     (long (sought .before)) (omega (arith, c .if3 .left, number)) in
     sheet-dilutable _ _ _ _ sheet (sought .record-with .result) (omega (arith, named .0, number)) (omega (arith, named .1, number))
 

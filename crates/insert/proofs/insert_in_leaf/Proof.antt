@@ -1,6 +1,8 @@
 -- `insert::insert_in_leaf` meets its contract: what is gathered reads as the rule's entries. Assumes nothing.
 use native.Mathlib.Omega.{arith}
 use lib.ListN.{length, length-take}
+use Rattle.page.specs.Header.{features}
+use Rattle.page.specs.EntryOrder.{itemOrder}
 use Rattle.layout.specs.Given.{Listed}
 use Rattle.layout.specs.GatherLaws.{Spread, spread}
 use Rattle.layout.specs.FitLaws.{one-more, pair-read}
@@ -75,7 +77,7 @@ returns c =
     let gathered = taken-in .before .before .before .before .before in
     let count = before-gathering gathered in
     let args = start count .args in
-    rw (pair-read (args .key .now) (args .number .0) _ (counted count) (start count .pre .3) (gathered .gather-pair .ensures))
+    rw (pair-read (itemOrder (features (args .index .now))) (args .key .now) (args .number .0) _ (counted count) (start count .pre .3) (gathered .gather-pair .ensures))
     at (taken-in .take-in .ensures)
 
 pub insert-in-leaf-spec : {M : Type 1} → statement M

@@ -4,8 +4,8 @@ use borrow.Author.Needs.{needs}
 use Rattle.insert.proofs.write_fresh.Statement.{statement}
 use Rattle.insert.proofs.write_fresh.Tie as tie
 
-cast-t7 : tie.Need-cast-t7
-cast-t7 c = search needs
+cast-t8 : tie.Need-cast-t8
+cast-t8 c = search needs
 
 next-page-requires : tie.Need-next-page-requires
 next-page-requires c κs = search needs
@@ -26,13 +26,13 @@ returns : tie.Need-returns
 returns c =
     let root = c .before .before in
     let header = root .before .before .before .before .before in
-    fresh-stored _ _ _ _ (header .before .next-page .ensures) (header .new-header .ensures) (root .new-page .ensures)
+    fresh-stored _ _ _ _ _ (header .before .next-page .ensures) (header .new-header .ensures) (root .new-page .ensures)
 
 pub write-fresh-spec : {M : Type 1} → statement M
 write-fresh-spec =
     tie.close
     (tie.spec
-    cast-t7
+    cast-t8
     next-page-requires
     new-header-requires
     slice-aggregate-new-page

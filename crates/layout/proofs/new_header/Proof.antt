@@ -40,7 +40,8 @@ returns c =
     let size = key .before .before .before .before in
     let free = size .before .before .before .before in
     let root = free .before .before .before .before in
-    header-by _ _ _ _ _ (root .set-root .ensures) (free .store-le32 .ensures) (size .set-file-end .ensures) (key .store-le16 .ensures)
+    let start = root .before .before .before .before in
+    header-by _ _ _ _ _ _ (start .pre .1) (root .set-root .ensures) (free .store-le32 .ensures) (size .set-file-end .ensures) (key .store-le16 .ensures)
     (features .store-le162 .ensures) (copied .copy-in .ensures) (filled .fill .ensures)
 
 pub new-header-spec : {M : Type 1} → statement M

@@ -5,10 +5,10 @@ use mathlib.Core.Path.{_≡_}
 use mathlib.Core.Bool.{Bool, true, _&&_}
 use mathlib.Core.List.{List}
 use lib.ListN.{length}
-use lib.Dec.{leb, eqb}
+use lib.Dec.{leb}
 use borrow.Author.Tests.{le-leb, lt-leb}
 use borrow.Author.Needs.{needs}
-use Rattle.page.specs.Header.{pageSize, fileSize, rootOffset, keyLength, freePointer, features, sizeGood, isPage, keyLengthGood, freeGood, goodFeatures, headerGood}
+use Rattle.page.specs.Header.{pageSize, fileSize, rootOffset, keyLength, freePointer, features, sizeGood, isPage, keyLengthGood, freeGood, maxFeatures, headerGood}
 use Rattle.page.proofs.header_good.Statement.{statement}
 use Rattle.page.proofs.header_good.Tie as tie
 
@@ -19,7 +19,7 @@ long-enough c = c .before .before .before .before .before .before .before .befor
 -- the tests' answers give the rule's, of any values
 header-tested : (b : List ℕ) (size root k free byte : ℕ) (a p l f : Bool) → leb pageSize (length b) ≡ true → size ≡ fileSize b → root ≡ rootOffset b
     → k ≡ keyLength b → free ≡ freePointer b → byte ≡ features b → a ≡ sizeGood (length b) size → p ≡ isPage size root → l ≡ keyLengthGood k
-    → f ≡ freeGood size free → a && (p && (l && (f && eqb byte goodFeatures))) ≡ headerGood b
+    → f ≡ freeGood size free → a && (p && (l && (f && leb byte maxFeatures))) ≡ headerGood b
 unfolding headerGood
 header-tested b size root k free byte a p l f long s r n e g ta tp tl tf = rw (long, ta, tp, tl, tf, s, r, n, e, g)
 

@@ -9,8 +9,7 @@ use Rattle.page.specs.Header.{keyLength, headerGood}
 use Rattle.page.specs.HeaderLaws.{good-header}
 use Rattle.sound.specs.Rule.{pagesGood}
 use Rattle.sound.specs.Accepted.{audit-sound, audit-unsound}
-use Rattle.lookup.specs.Lookup.{lookupRule, isFound}
-use Rattle.remove.specs.CallLaws.{refused-24, refused-27, refused-25, refused-33, accepted-key}
+use Rattle.remove.specs.CallLaws.{refused-24, refused-27, refused-25, refused-33, accepted-pair}
 use borrow.Author.Needs.{needs}
 use Rattle.remove.proofs.remove.Statement.{statement}
 use Rattle.remove.proofs.remove.Tie as tie
@@ -25,8 +24,8 @@ at-header c = c .before .before .before
 abbrev at-length : tie.After-audit → tie.Else2
 at-length c = c .before .before
 
-abbrev at-sound : tie.After-is-found → tie.Else3
-at-sound c = c .before .before .before
+abbrev at-sound : tie.After-is-there → tie.Else3
+at-sound c = c .before .before
 
 -- the buffer and the key of the call, from behind the second test
 abbrev index : tie.Else2 → List ℕ
@@ -45,11 +44,6 @@ same c = c .if2 .left ∙ c .before .key-length .ensures
 sound : (c : tie.Else3) → pagesGood (index (at-length (c .before))) ≡ true
 sound c = audit-sound _ (header (at-header (at-length (c .before)))) (c .before .audit .ensures) (c .if3 .left)
 
--- what the lookup said of the key
-looked-up : (c : tie.After-is-found)
-    → let measured = at-length (at-sound c .before) in c .is-found .result ≡ isFound (lookupRule (index measured) (key measured))
-looked-up c = c .is-found .ensures ∙ ap isFound (c .before .lookup-from-root .ensures)
-
 header-good-requires : tie.Need-header-good-requires
 header-good-requires c κs = search needs
 
@@ -57,7 +51,7 @@ same-length : tie.Need-same-length
 same-length c = search needs
 
 returns : tie.Need-returns
-returns c = refused-24 _ _ (failed (c .before .header-good .ensures) (c .if1 .taken))
+returns c = refused-24 _ _ _ (failed (c .before .header-good .ensures) (c .if1 .taken))
 
 key-length-requires : tie.Need-key-length-requires
 key-length-requires c κs = good-header _ (header (c .before)) .long
@@ -66,7 +60,7 @@ same-length-2 : tie.Need-same-length-2
 same-length-2 c = search needs
 
 returns-2 : tie.Need-returns-2
-returns-2 c = refused-27 _ _ (header (c .before .before .before)) (λ e. c .if2 .taken (e ∙ sym (c .before .key-length .ensures)))
+returns-2 c = refused-27 _ _ _ (header (c .before .before .before)) (λ e. c .if2 .taken (e ∙ sym (c .before .key-length .ensures)))
 
 audit-requires : tie.Need-audit-requires
 audit-requires c κs = search needs
@@ -78,15 +72,12 @@ returns-3 : tie.Need-returns-3
 returns-3 c =
     let measured = at-length (c .before) in
     let good = header (at-header measured) in
-    refused-25 _ _ good (same measured) (audit-unsound _ good (c .before .audit .ensures) (c .if3 .taken))
+    refused-25 _ _ _ good (same measured) (audit-unsound _ good (c .before .audit .ensures) (c .if3 .taken))
 
-lookup-from-root-requires : tie.Need-lookup-from-root-requires
-lookup-from-root-requires c κs =
+is-there-requires : tie.Need-is-there-requires
+is-there-requires c κs =
     let measured = at-length (c .before .before) in
     (header (at-header measured), same measured)
-
-is-found-requires : tie.Need-is-found-requires
-is-found-requires c κs = search needs
 
 same-length-4 : tie.Need-same-length-4
 same-length-4 c = search needs
@@ -95,10 +86,10 @@ returns-4 : tie.Need-returns-4
 returns-4 c =
     let audited = at-sound (c .before) in
     let measured = at-length (audited .before) in
-    refused-33 _ _ (header (at-header measured)) (same measured) (sound audited) (failed (looked-up (c .before)) (c .if4 .taken))
+    refused-33 _ _ _ (header (at-header measured)) (same measured) (sound audited) (failed (c .before .is-there .ensures) (c .if4 .taken))
 
-remove-key-requires : tie.Need-remove-key-requires
-remove-key-requires c κs =
+remove-pair-requires : tie.Need-remove-pair-requires
+remove-pair-requires c κs =
     let measured = at-length (at-sound (c .before .before) .before) in
     (header (at-header measured), same measured)
 
@@ -111,8 +102,8 @@ returns-5 c =
     let found = removed .before .before in
     let audited = at-sound (found .before) in
     let measured = at-length (audited .before) in
-    accepted-key _ _ (header (at-header measured)) (same measured) (sound audited) (passed (looked-up (found .before)) (found .if4 .left))
-    (removed .remove-key .ensures)
+    accepted-pair _ _ _ (header (at-header measured)) (same measured) (sound audited) (passed (found .before .is-there .ensures) (found .if4 .left))
+    (removed .remove-pair .ensures)
 
 pub remove-spec : {M : Type 1} → statement M
 remove-spec =
@@ -127,10 +118,9 @@ remove-spec =
     audit-requires
     same-length-3
     returns-3
-    lookup-from-root-requires
-    is-found-requires
+    is-there-requires
     same-length-4
     returns-4
-    remove-key-requires
+    remove-pair-requires
     same-length-5
     returns-5)

@@ -1,10 +1,10 @@
--- `remove::remove_in_leaf` meets its contract: the entry that the key leads to goes. Assumes nothing.
+-- `remove::remove_in_leaf` meets its contract: the entry that the pair leads to goes. Assumes nothing.
 use borrow.Author.Needs.{needs}
 use Rattle.remove.proofs.remove_in_leaf.Statement.{statement}
 use Rattle.remove.proofs.remove_in_leaf.Tie as tie
 
-chosen-entry-requires : tie.Need-chosen-entry-requires
-chosen-entry-requires c κs = search needs
+leaf-entry-requires : tie.Need-leaf-entry-requires
+leaf-entry-requires c κs = search needs
 
 take-out-requires : tie.Need-take-out-requires
 take-out-requires c κs = search needs
@@ -19,7 +19,7 @@ returns : tie.Need-returns
 returns c =
     let taken = c .before .before .before .before in
     let chosen = taken .before .before .before in
-    rw (← chosen .chosen-entry .ensures) (taken .take-out .ensures)
+    rw (← chosen .leaf-entry .ensures) (taken .take-out .ensures)
 
 pub remove-in-leaf-spec : {M : Type 1} → statement M
-remove-in-leaf-spec = tie.close (tie.spec chosen-entry-requires take-out-requires same-length same-length-2 returns)
+remove-in-leaf-spec = tie.close (tie.spec leaf-entry-requires take-out-requires same-length same-length-2 returns)

@@ -69,6 +69,41 @@ pub fn entries(r: &mut Random, k: usize, draws: usize, style: usize) -> Vec<Entr
     made
 }
 
+/// Distinct pairs in the order of key, then record, as many as come of so many draws: of few keys with many records each, or of more.
+fn repeated(r: &mut Random, k: usize, draws: usize, style: usize) -> Vec<Entry> {
+    let few = r.pick(&[1, 2, 3, 8, 1 + draws / 3]);
+    let keys: Vec<Vec<u8>> = (0..few).map(|_| key(r, k, style)).collect();
+    let small = r.one_in(2);
+    let mut made: Vec<Entry> = Vec::with_capacity(draws);
+    for _ in 0..draws {
+        let record = if small {
+            r.between(1, 2 * draws) as u32
+        } else {
+            r.word().max(1)
+        };
+        let at = r.below(few);
+        made.push((keys[at].clone(), record));
+    }
+    made.sort();
+    made.dedup();
+    made
+}
+
+/// Entries for an index with these features: with 0 a key has several records for the most part.
+pub fn entries_for(
+    r: &mut Random,
+    features: u8,
+    k: usize,
+    draws: usize,
+    style: usize,
+) -> Vec<Entry> {
+    if features == 0 && !r.one_in(6) {
+        repeated(r, k, draws, style)
+    } else {
+        entries(r, k, draws, style)
+    }
+}
+
 /// Groups of neighbouring entries, a group for each page of a level.
 fn group(r: &mut Random, k: usize, entries: Vec<Entry>, fill: Fill) -> Vec<Vec<Entry>> {
     let mut pages = Vec::new();
@@ -283,7 +318,8 @@ pub fn chains(r: &mut Random, k: usize, leaves: usize) -> Vec<u8> {
     laid_out(r, k, &made, 0)
 }
 
-/// A key above a page: where it stands, the last leaf key under its child, and the first under the next child of its page, if there is one.
+/// A key above a page: where it stands, the last leaf key under its child, and the least key that is too high, if there is one: the first under the next child
+/// of its page, or with features 0 the key after that.
 struct Above {
     at: usize,
     low: Vec<u8>,
@@ -309,10 +345,15 @@ fn keys_above(b: &[u8], k: usize, p: usize, found: &mut Vec<Above>) -> (Vec<u8>,
         .map(|i| keys_above(b, k, child(i), found))
         .collect();
     for i in 0..count {
+        let next = bounds.get(i + 1).map(|next| next.0.clone());
         found.push(Above {
             at: entry(i),
             low: bounds[i].1.clone(),
-            high: bounds.get(i + 1).map(|next| next.0.clone()),
+            high: if b[14] == 0 {
+                next.and_then(|key| neighbour(&key, true))
+            } else {
+                next
+            },
         });
     }
     (bounds[0].0.clone(), bounds[count - 1].1.clone())
@@ -363,7 +404,7 @@ pub fn raise(r: &mut Random, b: &mut [u8], one_in: usize) {
     }
 }
 
-/// Puts a key above a page of a sound index just outside its bounds: one below the last leaf key under its child, or the first under the next one.
+/// Puts a key above a page of a sound index just outside its bounds: one below the last leaf key under its child, or the least that is too high.
 pub fn misplace(r: &mut Random, b: &mut [u8]) {
     let (k, found) = all_keys_above(b);
     if found.is_empty() {
@@ -378,6 +419,41 @@ pub fn misplace(r: &mut Random, b: &mut [u8]) {
     if let Some(key) = wrong {
         b[above.at..above.at + k].copy_from_slice(&key);
     }
+}
+
+/// The leaves of a sound index, in order.
+fn leaves(b: &[u8]) -> Vec<usize> {
+    let k = b[12] as usize;
+    let link = |at: usize| u32::from_le_bytes(b[at..at + 4].try_into().unwrap());
+    let mut p = link(0);
+    while b[p as usize] & 2 == 0 {
+        let child = p as usize + 12 + k;
+        p = u32::from_be_bytes(b[child..child + 4].try_into().unwrap());
+    }
+    let mut found = Vec::new();
+    while p != NONE {
+        found.push(p as usize);
+        p = link(p as usize + 8);
+    }
+    found
+}
+
+/// Puts the last pair of a leaf of a sound index at the beginning of the next leaf, with its record or one beside it.
+pub fn meet(r: &mut Random, b: &mut [u8]) {
+    let leaves = leaves(b);
+    if leaves.len() < 2 {
+        return;
+    }
+    let width = b[12] as usize + 4;
+    let i = r.below(leaves.len() - 1);
+    let count = u16::from_le_bytes([b[leaves[i] + 2], b[leaves[i] + 3]]) as usize;
+    let last = leaves[i] + 12 + (count - 1) * width;
+    let first = leaves[i + 1] + 12;
+    b.copy_within(last..last + width, first);
+    let record = &mut b[first + width - 4..first + width];
+    let beside =
+        u32::from_be_bytes(record.try_into().unwrap()).wrapping_add(r.pick(&[0, 0, 1, u32::MAX]));
+    record.copy_from_slice(&beside.to_be_bytes());
 }
 
 /// The pages of a sound index's free list, from the head on.

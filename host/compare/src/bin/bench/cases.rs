@@ -16,6 +16,7 @@ const WHOLE_INDEX: f64 = 3.0;
 const REMOVAL: f64 = 1.1;
 const LARGEST: f64 = 1.1;
 const NDX: f64 = 1.1;
+const SEVERAL: f64 = 1.1;
 
 const AUDIT: &str = "audit";
 
@@ -28,10 +29,14 @@ pub fn run(word: &str) -> usize {
         tables,
         appends,
         lookups,
+        lookups_of_several,
         audits,
+        audits_of_several,
         largest_audits,
         insertions,
+        insertions_of_several,
         removals,
+        removals_of_several,
         matches,
         ndx_lookups,
         ndx_audits,
@@ -285,10 +290,50 @@ fn named(size: &str, k: usize, alike: usize) -> String {
     }
 }
 
-fn picked(r: &mut Random, entries: &[Entry]) -> Vec<Vec<u8>> {
-    (0..1000)
-        .map(|_| entries[r.below(entries.len())].0.clone())
+fn picked_pairs(r: &mut Random, entries: &[Entry], count: usize) -> Vec<Entry> {
+    (0..count)
+        .map(|_| entries[r.below(entries.len())].clone())
         .collect()
+}
+
+fn picked(r: &mut Random, entries: &[Entry]) -> Vec<Vec<u8>> {
+    let pairs = picked_pairs(r, entries, 1000);
+    pairs.into_iter().map(|pair| pair.0).collect()
+}
+
+/// How many records a key has in the indexes with features 0.
+const RUN: usize = 8;
+
+/// The indexes of a group of cases: their features, the number that their random keys start from, and the limit.
+#[derive(Clone, Copy)]
+struct Group {
+    several: bool,
+    seed: u64,
+    limit: f64,
+}
+
+impl Group {
+    fn index(
+        &self,
+        r: &mut Random,
+        (k, per_page, alike): (usize, usize, usize),
+        pages: usize,
+    ) -> (Vec<u8>, Vec<Entry>) {
+        if self.several {
+            inputs::several(r, k, per_page, pages, alike, RUN)
+        } else {
+            inputs::index(r, k, per_page, pages, alike)
+        }
+    }
+
+    fn named(&self, size: &str, (k, _, alike): (usize, usize, usize)) -> String {
+        let name = named(size, k, alike);
+        if self.several {
+            format!("{name}, {RUN} records to a key")
+        } else {
+            name
+        }
+    }
 }
 
 /// What a lookup adds to a sum, both ways.
@@ -309,18 +354,41 @@ fn looked_plainly(answer: reference::Looked) -> u64 {
 }
 
 fn lookups(word: &str) -> usize {
-    let mut r = Random::new(3);
+    all_lookups(
+        word,
+        Group {
+            several: false,
+            seed: 3,
+            limit: LOOKUP,
+        },
+    )
+}
+
+fn lookups_of_several(word: &str) -> usize {
+    all_lookups(
+        word,
+        Group {
+            several: true,
+            seed: 13,
+            limit: SEVERAL,
+        },
+    )
+}
+
+fn all_lookups(word: &str, group: Group) -> usize {
+    let mut r = Random::new(group.seed);
     let mut over = 0;
-    for (k, per_page, alike) in KEYS {
-        let (index, entries) = inputs::index(&mut r, k, per_page, 2047, alike);
+    for keys in KEYS {
+        let (index, entries) = group.index(&mut r, keys, 2047);
+        let name = group.named("1 MiB", keys);
         let hits = picked(&mut r, &entries);
         let misses = inputs::absent(&hits, &entries);
         for (what, keys) in [("hit", &hits), ("miss", &misses)] {
             let case = Case {
                 call: "lookup",
-                input: format!("{what}, {}", named("1 MiB", k, alike)),
+                input: format!("{what}, {name}"),
                 calls: keys.len(),
-                limit: LOOKUP,
+                limit: group.limit,
                 prepare: Box::new(|| ()),
                 library: Box::new(|| {
                     let looks = keys
@@ -355,11 +423,33 @@ fn audit(word: &str, index: &[u8], input: String, limit: f64) -> usize {
 }
 
 fn audits(word: &str) -> usize {
-    let mut r = Random::new(4);
+    all_audits(
+        word,
+        Group {
+            several: false,
+            seed: 4,
+            limit: WHOLE_INDEX,
+        },
+    )
+}
+
+fn audits_of_several(word: &str) -> usize {
+    all_audits(
+        word,
+        Group {
+            several: true,
+            seed: 14,
+            limit: SEVERAL,
+        },
+    )
+}
+
+fn all_audits(word: &str, group: Group) -> usize {
+    let mut r = Random::new(group.seed);
     let mut over = 0;
-    for (k, per_page, alike) in KEYS {
-        let (index, _) = inputs::index(&mut r, k, per_page, 2047, alike);
-        over += audit(word, &index, named("1 MiB", k, alike), WHOLE_INDEX);
+    for keys in KEYS {
+        let (index, _) = group.index(&mut r, keys, 2047);
+        over += audit(word, &index, group.named("1 MiB", keys), group.limit);
     }
     over
 }
@@ -378,16 +468,39 @@ fn largest_audits(word: &str) -> usize {
 }
 
 fn insertions(word: &str) -> usize {
-    let mut r = Random::new(5);
+    all_insertions(
+        word,
+        Group {
+            several: false,
+            seed: 5,
+            limit: WHOLE_INDEX,
+        },
+    )
+}
+
+fn insertions_of_several(word: &str) -> usize {
+    all_insertions(
+        word,
+        Group {
+            several: true,
+            seed: 15,
+            limit: SEVERAL,
+        },
+    )
+}
+
+fn all_insertions(word: &str, group: Group) -> usize {
+    let mut r = Random::new(group.seed);
     let mut over = 0;
-    for (k, per_page, alike) in KEYS {
-        let (mut index, entries) = inputs::index(&mut r, k, per_page, 1023, alike);
+    for keys in KEYS {
+        let (mut index, entries) = group.index(&mut r, keys, 1023);
+        let name = group.named("0.5 MiB", keys);
         index.resize(index.len() + 32 * 512, 0);
-        let keys = picked(&mut r, &entries);
-        let keys: Vec<Vec<u8>> = inputs::absent(&keys, &entries)
-            .into_iter()
-            .take(8)
-            .collect();
+        let mut keys = picked(&mut r, &entries);
+        if !group.several {
+            keys = inputs::absent(&keys, &entries);
+        }
+        keys.truncate(8);
         let buffer = RefCell::new(index.clone());
         let inserted = |insert: &dyn Fn(&mut [u8], &[u8]) -> bool| {
             let mut buffer = buffer.borrow_mut();
@@ -397,9 +510,9 @@ fn insertions(word: &str) -> usize {
         };
         let case = Case {
             call: "insertion",
-            input: named("0.5 MiB", k, alike),
+            input: name,
             calls: keys.len(),
-            limit: WHOLE_INDEX,
+            limit: group.limit,
             prepare: Box::new(|| buffer.borrow_mut().copy_from_slice(&index)),
             library: Box::new(|| inserted(&|b, key| Index::over(b).insert(key, 7).is_ok())),
             plain: Box::new(|| inserted(&|b, key| reference::insert(b, key, 7).is_ok())),
@@ -410,24 +523,47 @@ fn insertions(word: &str) -> usize {
 }
 
 fn removals(word: &str) -> usize {
-    let mut r = Random::new(10);
+    all_removals(
+        word,
+        Group {
+            several: false,
+            seed: 10,
+            limit: REMOVAL,
+        },
+    )
+}
+
+fn removals_of_several(word: &str) -> usize {
+    all_removals(
+        word,
+        Group {
+            several: true,
+            seed: 16,
+            limit: SEVERAL,
+        },
+    )
+}
+
+fn all_removals(word: &str, group: Group) -> usize {
+    let mut r = Random::new(group.seed);
     let mut over = 0;
-    for (k, per_page, alike) in KEYS {
-        let (index, entries) = inputs::index(&mut r, k, per_page, 1023, alike);
-        let keys: Vec<Vec<u8>> = picked(&mut r, &entries).into_iter().take(8).collect();
+    for keys in KEYS {
+        let (index, entries) = group.index(&mut r, keys, 1023);
+        let pairs = picked_pairs(&mut r, &entries, 8);
         let buffer = RefCell::new(index.clone());
-        let removed = |remove: &dyn Fn(&mut [u8], &[u8]) -> bool| {
+        let removed = |remove: &dyn Fn(&mut [u8], &Entry) -> bool| {
             let mut buffer = buffer.borrow_mut();
-            keys.iter().filter(|key| remove(&mut buffer, key)).count() as u64
+            let good = pairs.iter().filter(|pair| remove(&mut buffer, pair));
+            good.count() as u64
         };
         let case = Case {
             call: "removal",
-            input: named("0.5 MiB", k, alike),
-            calls: keys.len(),
-            limit: REMOVAL,
+            input: group.named("0.5 MiB", keys),
+            calls: pairs.len(),
+            limit: group.limit,
             prepare: Box::new(|| buffer.borrow_mut().copy_from_slice(&index)),
-            library: Box::new(|| removed(&|b, key| Index::over(b).remove(key).is_ok())),
-            plain: Box::new(|| removed(&|b, key| reference::remove(b, key).is_ok())),
+            library: Box::new(|| removed(&|b, e| Index::over(b).remove(&e.0, e.1).is_ok())),
+            plain: Box::new(|| removed(&|b, e| reference::remove(b, &e.0, e.1).is_ok())),
         };
         over += show(word, case, true);
     }

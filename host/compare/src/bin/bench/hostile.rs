@@ -37,8 +37,8 @@ fn texts(word: &str) {
         "fresh",
         "an expression of 1 MiB",
         &[&blanks],
-        Box::new(|| Index::fresh(&mut index.borrow_mut()[..], 10, &blanks).is_ok() as u64),
-        Box::new(|| reference::fresh(&mut index.borrow_mut(), 10, &blanks).is_ok() as u64),
+        Box::new(|| Index::fresh(&mut index.borrow_mut()[..], 10, 1, &blanks).is_ok() as u64),
+        Box::new(|| reference::fresh(&mut index.borrow_mut(), 10, 1, &blanks).is_ok() as u64),
     );
 }
 
@@ -101,10 +101,10 @@ fn removal(word: &str) {
         prepare: Box::new(|| buffer.borrow_mut().copy_from_slice(&chain)),
         library: Box::new(|| {
             Index::over(&mut buffer.borrow_mut()[..])
-                .remove(key)
+                .remove(key, 0)
                 .is_ok() as u64
         }),
-        plain: Box::new(|| reference::remove(&mut buffer.borrow_mut(), key).is_ok() as u64),
+        plain: Box::new(|| reference::remove(&mut buffer.borrow_mut(), key, 0).is_ok() as u64),
     };
     let times = case.times(true);
     let pass = one_pass(&[&chain]);

@@ -85,6 +85,28 @@ pub fn index(
     (bytes, entries)
 }
 
+/// Such an index with features 0, whose keys have `run` records each, the even numbers from 2 on.
+pub fn several(
+    r: &mut Random,
+    k: usize,
+    per_page: usize,
+    pages: usize,
+    alike: usize,
+    run: usize,
+) -> (Vec<u8>, Vec<Entry>) {
+    let leaves = index::leaves_for(pages, per_page);
+    let keys = index::entries(r, k - alike, leaves * per_page / run, 4);
+    let mut entries = Vec::with_capacity(keys.len() * run);
+    for (end, _) in keys {
+        let key = [vec![b'S'; alike], end].concat();
+        entries.extend((1..=run as u32).map(|i| (key.clone(), 2 * i)));
+    }
+    let mut bytes = index::tree(r, k, &entries, Fill::Exactly(per_page), 1);
+    bytes[14] = 0;
+    assert_eq!(reference::audit(&bytes), Ok(()));
+    (bytes, entries)
+}
+
 /// An NDX index of about so many full pages besides the header, its keys random and without control bytes. A full page of n keys stands over n + 1 others.
 pub fn ndx(r: &mut Random, k: usize, pages: usize) -> (Vec<u8>, Vec<Entry>) {
     let form = Form::full(k);

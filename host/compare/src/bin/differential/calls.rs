@@ -361,17 +361,25 @@ pub fn number_write(tally: &mut Tally, text: &Lent, decimals: u32, value: i64) {
 }
 
 /// `own` holds what the lent buffer does, before and after.
-pub fn fresh(tally: &mut Tally, index: &Lent, own: &mut [u8], k: u32, expression: &Lent) {
+pub fn fresh(
+    tally: &mut Tally,
+    index: &Lent,
+    own: &mut [u8],
+    k: u32,
+    features: u32,
+    expression: &Lent,
+) {
     let got = unsafe {
         ffi::gl_index_fresh(
             index.place(),
             index.length(),
             k,
+            features,
             expression.place(),
             expression.length(),
         )
     };
-    let due = number_of(reference::fresh(own, k, expression.was()));
+    let due = number_of(reference::fresh(own, k, features, expression.was()));
     tally.hold(
         Call::IndexFresh,
         (got, ()),
@@ -380,6 +388,7 @@ pub fn fresh(tally: &mut Tally, index: &Lent, own: &mut [u8], k: u32, expression
         &[
             Bytes("index", index.was()),
             Number("key length", k.into()),
+            Number("features", features.into()),
             Bytes("expression", expression.was()),
         ],
     );
@@ -497,20 +506,74 @@ pub fn remove(
     own: &mut [u8],
     before: &mut Vec<u8>,
     key: &Lent,
+    record: u32,
 ) -> u32 {
-    let got =
-        unsafe { ffi::gl_index_remove(index.place(), index.length(), key.place(), key.length()) };
+    let got = unsafe {
+        ffi::gl_index_remove(
+            index.place(),
+            index.length(),
+            key.place(),
+            key.length(),
+            record,
+        )
+    };
     before.clear();
     before.extend_from_slice(own);
-    let due = number_of(reference::remove(own, key.was()));
+    let due = number_of(reference::remove(own, key.was(), record));
     tally.hold(
         Call::IndexRemove,
         (got, ()),
         (due, ()),
         index.holds(own) && key.kept(),
-        &[Bytes("index", before), Bytes("key", key.was())],
+        &[
+            Bytes("index", before),
+            Bytes("key", key.was()),
+            Number("record", record.into()),
+        ],
     );
     due
+}
+
+/// All records of a key. `own` holds what the lent buffer does; the list is lent as its bytes.
+pub fn records(
+    tally: &mut Tally,
+    index: &Lent,
+    own: &[u8],
+    key: &Lent,
+    list: &Lent,
+    held: u32,
+) -> u32 {
+    let mut count = Out::new(held);
+    let got = unsafe {
+        ffi::gl_index_records(
+            index.place(),
+            index.length(),
+            key.place(),
+            key.length(),
+            list.place().cast(),
+            list.length() / 4,
+            count.place(),
+        )
+    };
+    let number = |bytes: &[u8]| u32::from_ne_bytes(bytes.try_into().unwrap());
+    let mut numbers: Vec<u32> = list.was().chunks_exact(4).map(number).collect();
+    let due = due(
+        reference::records(own, key.was(), &mut numbers).map(Some),
+        held,
+    );
+    let bytes: Vec<u8> = numbers.iter().flat_map(|n| n.to_ne_bytes()).collect();
+    tally.hold(
+        Call::IndexRecords,
+        (got, count.value()),
+        due,
+        index.holds(own) && key.kept() && list.holds(&bytes) && count.intact(),
+        &[
+            Bytes("index", own),
+            Bytes("key", key.was()),
+            Bytes("list", list.was()),
+        ],
+    );
+    due.1
 }
 
 pub fn match_index(tally: &mut Tally, table: &Lent, index: &Lent, field: u32) {

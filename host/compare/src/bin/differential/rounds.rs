@@ -12,6 +12,9 @@ use gatherloom_compare::reference;
 
 pub const MOST: usize = 16_777_216;
 
+/// The longest list that is lent for the records of a key.
+const LIST_MOST: usize = 4096;
+
 /// Room for what a call is lent, each part watched for itself.
 pub struct Arenas {
     table: Arena,
@@ -20,6 +23,7 @@ pub struct Arenas {
     pub key: Arena,
     text: Arena,
     list: Arena,
+    numbers: Arena,
     record: Arena,
 }
 
@@ -32,6 +36,7 @@ impl Arenas {
             key: Arena::new(512),
             text: Arena::new(64),
             list: Arena::new(14 * 256),
+            numbers: Arena::new(4 * LIST_MOST),
             record: Arena::new(4096),
         }
     }
@@ -347,9 +352,10 @@ fn fresh_calls(r: &mut Random, a: &mut Arenas, tally: &mut Tally) {
         let before = own.clone();
         let expression = expression(r);
         let k = r.near(&[1, 50, 100]);
+        let features = r.pick(&[0, 0, 1, 1, 1, 2, 255, 256, u32::MAX]);
         let index = a.index.lend(&before, r.one_in(2));
         let expression = a.key.lend(&expression, r.one_in(2));
-        calls::fresh(tally, &index, &mut own, k, &expression);
+        calls::fresh(tally, &index, &mut own, k, features, &expression);
     }
 }
 
@@ -391,6 +397,44 @@ fn looks(r: &mut Random, key: &mut Arena, tally: &mut Tally, index: &Lent, own: 
     calls::lookup(tally, &calls::IDX, index, own, &lent, r.word());
 }
 
+/// A pair that is in the index, or one whose key is near one that is, or whose record is another's or next to its own.
+fn probe_pair(r: &mut Random, k: usize, entries: &[Entry], style: usize) -> Entry {
+    if entries.is_empty() {
+        return (probe(r, k, entries, style), r.word());
+    }
+    let (at, other) = (r.below(entries.len()), r.below(entries.len()));
+    let (key, record) = entries[at].clone();
+    match r.below(8) {
+        0 => (probe(r, k, entries, style), record),
+        1 => (key, entries[other].1),
+        2 => (key, record.wrapping_add(r.pick(&[1, u32::MAX]))),
+        3 => (key, r.pick(&[0, 1, u32::MAX])),
+        _ => (key, record),
+    }
+}
+
+/// All records of a key: into a list that is long, then into one with about as much room as they take.
+fn lists(
+    r: &mut Random,
+    a: (&mut Arena, &mut Arena),
+    tally: &mut Tally,
+    index: &Lent,
+    own: &[u8],
+    key: &[u8],
+) {
+    let key = a.0.lend(key, r.one_in(2));
+    let mut room = r.pick(&[0, 3, 40, 300]);
+    for _ in 0..2 {
+        let before = r.bytes(4 * room);
+        let list = a.1.lend(&before, r.one_in(2));
+        let count = calls::records(tally, index, own, &key, &list, 7) as usize;
+        let few = r.pick(&[1, 2, 8, 30]);
+        room = r
+            .pick(&[count.saturating_sub(1), count, count + 1, few])
+            .min(LIST_MOST);
+    }
+}
+
 /// An index grown from fresh by insertions, every one of them compared byte by byte.
 fn grown_index(r: &mut Random, a: &mut Arenas, tally: &mut Tally) {
     let k = key_length(r);
@@ -403,22 +447,29 @@ fn grown_index(r: &mut Random, a: &mut Arenas, tally: &mut Tally) {
     let at_first = own.clone();
     let lent = a.index.lend(&at_first, r.one_in(2));
     let mut before = Vec::new();
+    let features = r.below(2) as u8;
     {
         let expression = a.key.lend(b"BARCODE", true);
-        calls::fresh(tally, &lent, &mut own, k as u32, &expression);
+        calls::fresh(
+            tally,
+            &lent,
+            &mut own,
+            k as u32,
+            features.into(),
+            &expression,
+        );
     }
     let least = r.pick(&[0, 4, 4, 4]);
     let style = r.between(least, 7);
-    let keys = ordered_entries(r, k, style);
+    let keys = ordered_entries(r, features, k, style);
     let mut refused = 0;
     for i in 0..keys.len() {
-        let key = if r.one_in(10) {
-            let near = probe(r, k, &keys, style);
-            offered(r, near)
+        let (key, record) = if r.one_in(10) {
+            let (near, record) = probe_pair(r, k, &keys[..=i], style);
+            (offered(r, near), record)
         } else {
-            keys[i].0.clone()
+            keys[i].clone()
         };
-        let record = if r.one_in(40) { 0 } else { keys[i].1 };
         let key = a.key.lend(&key, r.one_in(2));
         let answer = calls::insert(tally, &lent, &mut own, &mut before, &key, record);
         refused += (answer == 30) as usize;
@@ -428,6 +479,10 @@ fn grown_index(r: &mut Random, a: &mut Arenas, tally: &mut Tally) {
         if r.one_in(3) {
             let key = probe(r, k, &keys, style);
             looks(r, &mut a.key, tally, &lent, &own, &key);
+        }
+        if r.one_in(8) {
+            let key = probe(r, k, &keys, style);
+            lists(r, (&mut a.key, &mut a.numbers), tally, &lent, &own, &key);
         }
     }
     calls::audit(tally, &calls::IDX, &lent, &own);
@@ -441,13 +496,21 @@ fn mixed_list(r: &mut Random, a: &mut Arenas, tally: &mut Tally) {
     let at_first = own.clone();
     let lent = a.index.lend(&at_first, r.one_in(2));
     let mut before = Vec::new();
+    let features = r.below(2) as u8;
     {
         let expression = a.key.lend(b"BARCODE", true);
-        calls::fresh(tally, &lent, &mut own, k as u32, &expression);
+        calls::fresh(
+            tally,
+            &lent,
+            &mut own,
+            k as u32,
+            features.into(),
+            &expression,
+        );
     }
     let style = r.between(4, 7);
     let draws = r.pick(&[8, 40, 120, 300]);
-    let pairs = index::entries(r, k, draws, style);
+    let pairs = index::entries_for(r, features, k, draws, style);
     let list = if r.one_in(40) {
         r.between(2000, 5000)
     } else {
@@ -462,19 +525,22 @@ fn mixed_list(r: &mut Random, a: &mut Arenas, tally: &mut Tally) {
             step = r.pick(&[1, pairs.len() - 1, any]);
         }
         at = (at + step) % pairs.len();
-        let key = if r.one_in(12) {
-            probe(r, k, &pairs, style)
+        let (key, record) = if r.one_in(12) {
+            probe_pair(r, k, &pairs, style)
         } else {
-            pairs[at].0.clone()
+            pairs[at].clone()
         };
         if r.one_in(8) {
             looks(r, &mut a.key, tally, &lent, &own, &key);
         }
+        if r.one_in(12) {
+            lists(r, (&mut a.key, &mut a.numbers), tally, &lent, &own, &key);
+        }
         let key = a.key.lend(&key, r.one_in(2));
         if growing != r.one_in(6) {
-            calls::insert(tally, &lent, &mut own, &mut before, &key, pairs[at].1);
+            calls::insert(tally, &lent, &mut own, &mut before, &key, record);
         } else {
-            calls::remove(tally, &lent, &mut own, &mut before, &key);
+            calls::remove(tally, &lent, &mut own, &mut before, &key, record);
         }
         if r.one_in(32) {
             calls::audit(tally, &calls::IDX, &lent, &own);
@@ -483,9 +549,9 @@ fn mixed_list(r: &mut Random, a: &mut Arenas, tally: &mut Tally) {
 }
 
 /// Entries in ascending, descending or random order.
-fn ordered_entries(r: &mut Random, k: usize, style: usize) -> Vec<Entry> {
+fn ordered_entries(r: &mut Random, features: u8, k: usize, style: usize) -> Vec<Entry> {
     let draws = r.between(1, 90);
-    let mut keys = index::entries(r, k, draws, style);
+    let mut keys = index::entries_for(r, features, k, draws, style);
     match r.below(3) {
         0 => keys.reverse(),
         1 => r.shuffle(&mut keys),
@@ -510,21 +576,22 @@ fn use_index(
         let key = probe(r, k, entries, style);
         looks(r, &mut a.key, tally, &lent, bytes, &key);
     }
+    let key = probe(r, k, entries, style);
+    lists(r, (&mut a.key, &mut a.numbers), tally, &lent, bytes, &key);
     let mut own = bytes.to_vec();
     let mut before = Vec::new();
     for _ in 0..r.pick(&[1, 1, 1, 6]) {
-        let key = probe(r, k, entries, style);
+        let (key, record) = probe_pair(r, k, entries, style);
         let key = offered(r, key);
         let key = a.key.lend(&key, r.one_in(2));
-        let record = if r.one_in(16) { 0 } else { r.word().max(1) };
         if calls::insert(tally, &lent, &mut own, &mut before, &key, record) == 25 {
             break;
         }
     }
     for _ in 0..r.pick(&[1, 1, 6, 30]) {
-        let key = probe(r, k, entries, style);
+        let (key, record) = probe_pair(r, k, entries, style);
         let key = a.key.lend(&key, r.one_in(2));
-        let answer = calls::remove(tally, &lent, &mut own, &mut before, &key);
+        let answer = calls::remove(tally, &lent, &mut own, &mut before, &key, record);
         if answer == 24 || answer == 25 {
             break;
         }
@@ -536,7 +603,8 @@ fn made_index(r: &mut Random, a: &mut Arenas, tally: &mut Tally) {
     let k = key_length(r);
     let style = r.below(8);
     let draws = r.pick(&[0, 1, 3, 10, 40, 120]);
-    let entries = index::entries(r, k, draws, style);
+    let features = r.below(2) as u8;
+    let entries = index::entries_for(r, features, k, draws, style);
     let fill = match r.below(3) {
         0 => Fill::Full,
         1 => Fill::Any,
@@ -548,6 +616,7 @@ fn made_index(r: &mut Random, a: &mut Arenas, tally: &mut Tally) {
     };
     let free = r.pick(&[0, 0, 1, 2, 5]);
     let mut sound = index::tree_and_free(r, k, &entries, fill, least, free);
+    sound[14] = features;
     if r.one_in(2) {
         let share = r.pick(&[1, 2, 8]);
         index::raise(r, &mut sound, share);
@@ -557,9 +626,10 @@ fn made_index(r: &mut Random, a: &mut Arenas, tally: &mut Tally) {
     use_index(r, a, tally, &sound, &entries, style);
     for _ in 0..8 {
         let mut bytes = sound.clone();
-        match r.below(6) {
+        match r.below(7) {
             0 => index::misplace(r, &mut bytes),
             1 => index::damage_free_list(r, &mut bytes),
+            2 => index::meet(r, &mut bytes),
             _ => {
                 for _ in 0..r.pick(&[1, 1, 1, 2, 4]) {
                     index::damage(r, &mut bytes);
@@ -583,6 +653,7 @@ fn spine(r: &mut Random, a: &mut Arenas, tally: &mut Tally) {
         _ => 1 + step * (r.pick(&[1, 2, 5, 9, 14, 15, 15, 16]) - 1),
     };
     let (mut bytes, key) = index::spine(r, k, leaves);
+    bytes[14] = r.below(2) as u8;
     if r.one_in(4) {
         index::raise(r, &mut bytes, 2);
     }
@@ -616,8 +687,10 @@ fn large_index(r: &mut Random, a: &mut Arenas, tally: &mut Tally) {
     let free = r.pick(&[0, 0, 1, 3, 40]);
     let leaves = index::leaves_for(pages - free, per_leaf);
     let style = r.pick(&[0, 4, 4, 4]);
-    let entries = index::entries(r, k, leaves * per_leaf, style);
+    let features = r.below(2) as u8;
+    let entries = index::entries_for(r, features, k, leaves * per_leaf, style);
     let mut bytes = index::tree_and_free(r, k, &entries, Fill::Exactly(per_leaf), 1, free);
+    bytes[14] = features;
     if r.one_in(2) {
         index::raise(r, &mut bytes, 2);
     }
@@ -639,14 +712,16 @@ fn crowd(r: &mut Random, a: &mut Arenas, tally: &mut Tally, bytes: &[u8], entrie
     let at = r.below(entries.len());
     for record in 1..=8 {
         let mut key = entries[at].0.clone();
-        *key.last_mut().unwrap() = r.byte();
+        if bytes[14] != 0 || r.one_in(2) {
+            *key.last_mut().unwrap() = r.byte();
+        }
         let key = a.key.lend(&key, r.one_in(2));
         calls::insert(tally, &lent, &mut own, &mut before, &key, record);
     }
-    // the keys of one page and more, so that pages are emptied
-    for (key, _) in entries.iter().skip(at).take(16) {
+    // the pairs of one page and more, so that pages are emptied
+    for (key, record) in entries.iter().skip(at).take(16) {
         let key = a.key.lend(key, r.one_in(2));
-        calls::remove(tally, &lent, &mut own, &mut before, &key);
+        calls::remove(tally, &lent, &mut own, &mut before, &key, *record);
     }
 }
 
@@ -686,7 +761,8 @@ fn a_match(r: &mut Random, a: &mut Arenas, tally: &mut Tally) {
         _ => r.below(14),
     };
     let style = r.below(4);
-    let mut keys = index::entries(r, k, draws, style);
+    let features = r.below(2) as u8;
+    let mut keys = index::entries_for(r, features, k, draws, style);
     r.shuffle(&mut keys);
     let (mut table, field) = keyed_table(r, k, &keys);
     for (i, e) in keys.iter_mut().enumerate() {
@@ -694,8 +770,10 @@ fn a_match(r: &mut Random, a: &mut Arenas, tally: &mut Tally) {
     }
     keys.sort();
     spoil_entries(r, k, &mut keys);
+    keys.sort();
     let free = r.pick(&[0, 0, 0, 2]);
     let mut index = index::tree_and_free(r, k, &keys, Fill::Any, 1, free);
+    index[14] = features;
     if r.one_in(4) {
         index::raise(r, &mut index, 2);
     }
@@ -824,6 +902,7 @@ fn a_sheet(r: &mut Random, a: &mut Arenas, tally: &mut Tally) {
     match r.below(24) {
         0 => table::damage(r, &mut table),
         1 => index::damage(r, &mut index),
+        2 => index[14] = 0,
         _ => (),
     }
     let fields = if swapped { (2, 1) } else { (1, 2) };

@@ -22,6 +22,7 @@ pub enum Call {
     IndexLookup,
     IndexInsert,
     IndexRemove,
+    IndexRecords,
     Match,
     NdxAudit,
     NdxLookup,
@@ -29,7 +30,7 @@ pub enum Call {
 }
 
 /// Each call's name and every answer that the documents let it give.
-const CALLS: [(&str, &[u32]); 23] = [
+const CALLS: [(&str, &[u32]); 24] = [
     ("gl_table_check", &[0, 1, 2, 3, 4, 5, 6, 7, 8, 9, 10]),
     ("gl_table_shape", &[0, 1, 2, 3, 4, 5, 6, 7, 8, 9, 10]),
     ("gl_fields", &[0, 1, 2, 3, 4, 5, 6, 7, 8, 9, 10, 14]),
@@ -68,6 +69,7 @@ const CALLS: [(&str, &[u32]); 23] = [
     ("gl_index_lookup", &[0, 24, 25, 27, 257]),
     ("gl_index_insert", &[0, 24, 25, 27, 28, 29, 30, 32]),
     ("gl_index_remove", &[0, 24, 25, 27, 33]),
+    ("gl_index_records", &[0, 24, 25, 27, 39]),
     (
         "gl_match",
         &[0, 1, 2, 3, 4, 5, 6, 7, 8, 9, 10, 12, 13, 24, 25, 27, 31],

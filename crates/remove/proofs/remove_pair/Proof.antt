@@ -1,15 +1,15 @@
--- `remove::remove_key` meets its contract: the recursion from the root, and what is left to do at the root. Assumes nothing.
+-- `remove::remove_pair` meets its contract: the recursion from the root, and what is left to do at the root. Assumes nothing.
 use Prim.Native.Nat.{_≤_}
 use native.Mathlib.Omega.{arith}
 use lib.ListN.{length}
 use Rattle.page.specs.Header.{maxKey}
 use Rattle.page.specs.HeaderLaws.{GoodHeader, good-header}
-use Rattle.remove.specs.StepLaws.{emptied-fits, key-removed}
+use Rattle.remove.specs.StepLaws.{emptied-fits, pair-removed}
 use borrow.Author.Needs.{needs}
-use Rattle.remove.proofs.remove_key.Statement.{statement}
-use Rattle.remove.proofs.remove_key.Tie as tie
+use Rattle.remove.proofs.remove_pair.Statement.{statement}
+use Rattle.remove.proofs.remove_pair.Tie as tie
 
--- the places: the call's start, from where the root is known; that place, from where the key is removed under the root
+-- the places: the call's start, from where the root is known; that place, from where the pair is removed under the root
 abbrev start : tie.After-root → tie.Start
 start c = c .before .before .before .before
 
@@ -45,10 +45,11 @@ returns c =
     let below = finished .before .before .before .before .before in
     let root = at-root-known below in
     let at-start = start root in
-    key-removed _ (at-start .args .key .now) (at-start .pre .1) (root .root .ensures) (below .remove-under .ensures) (finished .at-root .ensures)
+    pair-removed _ (at-start .args .key .now) (at-start .args .number .0) (at-start .pre .1) (root .root .ensures)
+    (below .remove-under .ensures) (finished .at-root .ensures)
 
-pub remove-key-spec : {M : Type 1} → statement M
-remove-key-spec =
+pub remove-pair-spec : {M : Type 1} → statement M
+remove-pair-spec =
     tie.close
     (tie.spec
     root-requires
