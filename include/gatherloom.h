@@ -204,14 +204,16 @@ uint32_t gl_index_audit(const uint8_t *index, size_t index_len);
 uint32_t gl_index_lookup(const uint8_t *index, size_t index_len, const uint8_t *key, size_t key_len,
                          uint32_t *record, uint32_t *pages);
 
-/* Inserts a key with its record's number. 24, 27, 32, 28, 25, 29, 30. An index that an earlier release made may hold keys with control bytes: the other
-   calls take them as any key. New pages are those that removals freed, and only then pages past the index's end. */
+/* Inserts a key with its record's number. 24, 27, 32, 28, 25, 29, 30. With features 0, 29 is for the very pair of key and number. An index that an earlier
+   release made may hold keys with control bytes: the other calls take them as any key. New pages are those that removals freed, and only then pages past the
+   index's end. */
 uint32_t gl_index_insert(uint8_t *index, size_t index_len, const uint8_t *key, size_t key_len, uint32_t record);
 
-/* Strikes the pair of a key and a record's number off; with features 1 the number isn't looked at. 24, 27, 25, 33. The pages that are emptied are free for later insertions; the index's own size, bytes 8 to 11, never falls, so the host
-   can't shorten its file. Nor do the levels fall, until the last key goes and there is one level again: a long list of ascending insertions and removals can
-   end in 30 with few keys left (seen with keys of 100 bytes: the 265,721st insertion made 12 levels of 35 keys, and each level more takes three times as many
-   insertions). The way out is a fresh index, into which the host inserts the keys that are left. An earlier release refuses an index with free pages by 24. */
+/* Strikes the pair of a key and a record's number off; with features 1 the number isn't looked at. 24, 27, 25, 33. The pages that are emptied are free for
+   later insertions; the index's own size, bytes 8 to 11, never falls, so the host can't shorten its file. Nor do the levels fall, until the last key goes and
+   there is one level again: a long list of ascending insertions and removals can end in 30 with few keys left (seen with keys of 100 bytes: the 265,721st
+   insertion made 12 levels of 35 keys, and each level more takes three times as many insertions). The way out is a fresh index, into which the host inserts
+   the keys that are left. An earlier release refuses an index with free pages by 24. */
 uint32_t gl_index_remove(uint8_t *index, size_t index_len, const uint8_t *key, size_t key_len, uint32_t record);
 
 /* All records of a key, in order, into a list of room entries, and how many they are, 0 for none. Entries past them are kept. 24, 27, 25, 39. */
@@ -235,8 +237,8 @@ uint32_t gl_ndx_lookup(const uint8_t *index, size_t index_len, const uint8_t *ke
 /* How much of the sample with this barcode, and how much diluent, make the final volume with the target concentration. Volumes are in tenths of a microlitre,
    the target in thousandths of nM, as the concentration's field with its three decimals. The sample is target * final_volume / concentration to the nearest
    tenth, halves up; sample and diluent add to the final volume. As gl_match for the barcode's field, then 12, 13 unless the concentration's field is N with
-   three decimals, 27, 35 if no record has the barcode, 15, 35 if its record is deleted, 16 to 18 by the concentration's text, 36, 37, 38. 0 sets both. The
-   match is made anew by each call. */
+   three decimals, 27, 35 if no record has the barcode, 15, 35 if its record is deleted, 16 to 18 by the concentration's text, 36, 37, 38. 0 sets both. An
+   index with features 0 is 24. The match is made anew by each call. */
 uint32_t gl_dilute(const uint8_t *table, size_t table_len, const uint8_t *index, size_t index_len, uint32_t barcode_field,
                    uint32_t concentration_field, const uint8_t *barcode, size_t barcode_len, uint64_t target, uint64_t final_volume,
                    uint32_t *sample, uint32_t *diluent);
