@@ -12,12 +12,12 @@ use Rattle.basis.specs.Tests.{either, both, or-left, impossible}
 use Rattle.basis.specs.Lists.{All, all-left, all-right}
 use Rattle.numeral.specs.declared.Number.{Number}
 use Rattle.numeral.specs.declared.Number.the-variants as text
-use Rattle.table.specs.Table.{keptMark, deletedMark, recordCount, deletionByte}
-use Rattle.cell.specs.Cell.{fieldBytes}
-use Rattle.matching.specs.Match.{Matched}
-use Rattle.matching.specs.Computed.{matchAnswer}
-use Rattle.matching.specs.AnswerLaws.{answer-computed}
-use Rattle.page.specs.Header.{features, goodFeatures, headerGood}
+use Rattle.dbf_table.specs.Table.{keptMark, deletedMark, recordCount, deletionByte}
+use Rattle.dbf_cell.specs.Cell.{fieldBytes}
+use Rattle.idx_match.specs.Match.{Matched}
+use Rattle.idx_match.specs.Computed.{matchAnswer}
+use Rattle.idx_match.specs.AnswerLaws.{answer-computed}
+use Rattle.idx_page.specs.Header.{features, goodFeatures, headerGood}
 use Rattle.dilution.specs.Dilution.{sampleOf, volumesOf, concentrationText, amountOf, concentrationOf, distinctIndex, headerChecks, sheetChecks}
 use Rattle.dilution.specs.Dilution.{recordWith, barcodeChecks, textChecks, volumeChecks, unless, dilutionOf, recordDilution, diluteRule}
 use Rattle.dilution.specs.CheckLaws.{unless-pass, unless-fail}

@@ -5,8 +5,8 @@ use mathlib.Core.Bool.{Bool, true, false}
 use mathlib.Core.List.{List, [], _∷_, _++_}
 use Rattle.basis.specs.Tests.{either}
 use Rattle.basis.specs.Lists.{All}
-use Rattle.table.specs.Table.{firstRefusal}
-use Rattle.table.specs.TableLaws.{first-pass, first-fail}
+use Rattle.dbf_table.specs.Table.{firstRefusal}
+use Rattle.dbf_table.specs.TableLaws.{first-pass, first-fail}
 use Rattle.dilution.specs.Dilution.{unless}
 use Rattle.dilution.specs.declared.Dilution.{Dilution}
 use Rattle.dilution.specs.declared.Dilution.the-variants.{Refused}

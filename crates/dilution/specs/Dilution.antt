@@ -10,13 +10,13 @@ use lib.IntN.{ℤ, pos, negsuc}
 use Rattle.numeral.specs.Reading.{readNumber}
 use Rattle.numeral.specs.declared.Number.{Number}
 use Rattle.numeral.specs.declared.Number.the-variants as number
-use Rattle.table.specs.Table.{typeN, deletedMark, fieldType, fieldDecimals, fieldCount, deletionByte, tableRefusal}
-use Rattle.field.specs.Field.{numberGood, PlaceGood}
-use Rattle.cell.specs.Cell.{markGood, fieldBytes}
-use Rattle.cell.specs.Codes.{numberRefusal}
-use Rattle.page.specs.Header.{keyLength, features, goodFeatures, headerGood}
-use Rattle.lookup.specs.Lookup.{lookupRule, answerRecord}
-use Rattle.matching.specs.Computed.{matchAnswer}
+use Rattle.dbf_table.specs.Table.{typeN, deletedMark, fieldType, fieldDecimals, fieldCount, deletionByte, tableRefusal}
+use Rattle.dbf_field.specs.Field.{numberGood, PlaceGood}
+use Rattle.dbf_cell.specs.Cell.{markGood, fieldBytes}
+use Rattle.dbf_cell.specs.Codes.{numberRefusal}
+use Rattle.idx_page.specs.Header.{keyLength, features, goodFeatures, headerGood}
+use Rattle.idx_lookup.specs.Lookup.{lookupRule, answerRecord}
+use Rattle.idx_match.specs.Computed.{matchAnswer}
 use Rattle.dilution.specs.declared.Dilution.{Dilution}
 use Rattle.dilution.specs.declared.Dilution.the-variants.{Volumes, Refused}
 

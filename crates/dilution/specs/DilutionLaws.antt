@@ -10,14 +10,14 @@ use lib.Dec.{eqb, ltb}
 use borrow.Author.Tests.{eqb-true, eqb-false, eq-eqb, ne-eqb, lt-ltb}
 use Rattle.basis.specs.Tests.{impossible, both}
 use Rattle.basis.specs.Lists.{All, all-append}
-use Rattle.table.specs.Table.{fieldCount, recordCount, firstRefusal, tableRefusal}
-use Rattle.table.specs.TableLaws.{first-pass, first-fail, first-before}
-use Rattle.field.specs.Field.{PlaceGood}
-use Rattle.field.specs.FieldLaws.{number-range}
-use Rattle.cell.specs.Cell.{fieldBytes}
-use Rattle.cell.specs.Codes.{numberRefusal}
-use Rattle.page.specs.Header.{keyLength, features, goodFeatures, headerGood}
-use Rattle.matching.specs.Computed.{matchAnswer}
+use Rattle.dbf_table.specs.Table.{fieldCount, recordCount, firstRefusal, tableRefusal}
+use Rattle.dbf_table.specs.TableLaws.{first-pass, first-fail, first-before}
+use Rattle.dbf_field.specs.Field.{PlaceGood}
+use Rattle.dbf_field.specs.FieldLaws.{number-range}
+use Rattle.dbf_cell.specs.Cell.{fieldBytes}
+use Rattle.dbf_cell.specs.Codes.{numberRefusal}
+use Rattle.idx_page.specs.Header.{keyLength, features, goodFeatures, headerGood}
+use Rattle.idx_match.specs.Computed.{matchAnswer}
 use Rattle.dilution.specs.Dilution.{distinctIndex, headerChecks}
 use Rattle.dilution.specs.Dilution.{isConcentration, fieldChecks, sheetChecks, recordWith, barcodeChecks, unless, recordDilution, diluteRule, Dilutable}
 use Rattle.dilution.specs.Dilution.{volumesOf, concentrationText, concentrationOf, textChecks, volumeChecks, dilutionOf}

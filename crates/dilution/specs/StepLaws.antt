@@ -13,18 +13,18 @@ use Rattle.octets.specs.Store.{window}
 use Rattle.numeral.specs.Reading.{readNumber}
 use Rattle.numeral.specs.declared.Number.{Number}
 use Rattle.numeral.specs.declared.Number.the-variants.{Value}
-use Rattle.table.specs.Table.{typeN, deletedMark, fieldType, fieldDecimals, fieldCount, deletionByte, firstRefusal, tableChecks, tableRefusal, checkTable}
-use Rattle.table.specs.TableLaws.{table-numbered, first-pass, first-fail, first-after, first-before, refused-check, good-shape}
-use Rattle.table.specs.declared.Shape.{Shape}
-use Rattle.table.specs.declared.Checked.the-variants as checked
-use Rattle.field.specs.Field.{numberGood, entryOf, formOf, placeAt, fieldRefusal, fieldAnswer}
-use Rattle.field.specs.declared.FieldEntry.{FieldEntry}
-use Rattle.field.specs.declared.FieldAnswer.{FieldAnswer}
-use Rattle.field.specs.declared.Place.{Place}
-use Rattle.cell.specs.Cell.{markGood, fieldStart, fieldBytes}
-use Rattle.cell.specs.Codes.{numberRefusal}
-use Rattle.page.specs.Header.{features, goodFeatures, headerGood}
-use Rattle.page.specs.HeaderLaws.{good-header}
+use Rattle.dbf_table.specs.Table.{typeN, deletedMark, fieldType, fieldDecimals, fieldCount, deletionByte, firstRefusal, tableChecks, tableRefusal, checkTable}
+use Rattle.dbf_table.specs.TableLaws.{table-numbered, first-pass, first-fail, first-after, first-before, refused-check, good-shape}
+use Rattle.dbf_table.specs.declared.Shape.{Shape}
+use Rattle.dbf_table.specs.declared.Checked.the-variants as checked
+use Rattle.dbf_field.specs.Field.{numberGood, entryOf, formOf, placeAt, fieldRefusal, fieldAnswer}
+use Rattle.dbf_field.specs.declared.FieldEntry.{FieldEntry}
+use Rattle.dbf_field.specs.declared.FieldAnswer.{FieldAnswer}
+use Rattle.dbf_field.specs.declared.Place.{Place}
+use Rattle.dbf_cell.specs.Cell.{markGood, fieldStart, fieldBytes}
+use Rattle.dbf_cell.specs.Codes.{numberRefusal}
+use Rattle.idx_page.specs.Header.{features, goodFeatures, headerGood}
+use Rattle.idx_page.specs.HeaderLaws.{good-header}
 use Rattle.dilution.specs.Dilution.{distinctIndex, headerChecks}
 use Rattle.dilution.specs.Dilution.{maxTarget, maxFinal, volumesOf, inRange, concentrationDecimals, concentrationText, amountOf}
 use Rattle.dilution.specs.Dilution.{concentrationOf, isConcentration, fieldChecks, textChecks, volumeChecks, unless, dilutionOf, recordDilution}

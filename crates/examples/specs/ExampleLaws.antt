@@ -10,21 +10,21 @@ use Rattle.octets.specs.Order as order
 use Rattle.octets.specs.Text as chars
 use Rattle.numeral.specs.Format as format
 use Rattle.numeral.specs.Reading as reading
-use Rattle.page.specs.Children as children
-use Rattle.page.specs.Header as header
-use Rattle.page.specs.Page as page
-use Rattle.page.specs.Reading as pages
-use Rattle.lookup.specs.Lookup as lookup
-use Rattle.sound.specs.Sound.{Sound}
-use Rattle.sound.specs.Rule as audit
-use Rattle.sound.specs.Accepted.{accepted}
-use Rattle.layout.specs.Layout as layout
-use Rattle.layout.specs.Entries as entries
-use Rattle.layout.specs.Supply as supply
-use Rattle.insert.specs.Insertion as insertion
-use Rattle.insert.specs.Fresh as fresh
-use Rattle.insert.specs.Room as room
-use Rattle.insert.specs.Calls as calls
+use Rattle.idx_page.specs.Children as children
+use Rattle.idx_page.specs.Header as header
+use Rattle.idx_page.specs.Page as page
+use Rattle.idx_page.specs.Reading as pages
+use Rattle.idx_lookup.specs.Lookup as lookup
+use Rattle.idx_sound.specs.Sound.{Sound}
+use Rattle.idx_sound.specs.Rule as audit
+use Rattle.idx_sound.specs.Accepted.{accepted}
+use Rattle.idx_layout.specs.Layout as layout
+use Rattle.idx_layout.specs.Entries as entries
+use Rattle.idx_layout.specs.Supply as supply
+use Rattle.idx_insert.specs.Insertion as insertion
+use Rattle.idx_insert.specs.Fresh as fresh
+use Rattle.idx_insert.specs.Room as room
+use Rattle.idx_insert.specs.Calls as calls
 use Rattle.examples.specs.Tree000 as tree
 use Rattle.examples.specs.Tree100 as tree100
 use Rattle.examples.specs.Examples.{ascii, shown, answer, examples}

@@ -12,15 +12,15 @@ use Rattle.calendar.specs.declared.DateAnswer.the-variants as day
 use Rattle.numeral.specs.Reading as reading
 use Rattle.numeral.specs.declared.Number.{Number}
 use Rattle.numeral.specs.declared.Number.the-variants as number
-use Rattle.page.specs.Header as header
-use Rattle.page.specs.Reading as pages
-use Rattle.lookup.specs.Lookup as lookup
-use Rattle.lookup.specs.declared.Answer.{Answer as Looked}
-use Rattle.lookup.specs.declared.Answer.the-variants as looked
-use Rattle.sound.specs.Rule as audit
-use Rattle.insert.specs.Calls as calls
-use Rattle.insert.specs.declared.Insertion.{Insertion}
-use Rattle.insert.specs.declared.Insertion.the-variants as inserted
+use Rattle.idx_page.specs.Header as header
+use Rattle.idx_page.specs.Reading as pages
+use Rattle.idx_lookup.specs.Lookup as lookup
+use Rattle.idx_lookup.specs.declared.Answer.{Answer as Looked}
+use Rattle.idx_lookup.specs.declared.Answer.the-variants as looked
+use Rattle.idx_sound.specs.Rule as audit
+use Rattle.idx_insert.specs.Calls as calls
+use Rattle.idx_insert.specs.declared.Insertion.{Insertion}
+use Rattle.idx_insert.specs.declared.Insertion.the-variants as inserted
 use Rattle.examples.specs.Tree000 as tree
 use Rattle.examples.specs.Tree100 as tree100
 

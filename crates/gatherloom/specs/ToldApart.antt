@@ -21,46 +21,46 @@ use Rattle.numeral.specs.declared.Number.{Number}
 use Rattle.numeral.specs.declared.Number.the-variants as number
 use Rattle.numeral.specs.declared.Writing.{Writing}
 use Rattle.numeral.specs.declared.Writing.the-variants as writing
-use Rattle.table.specs.Table.{recordCount, deletionByte, keptMark, deletedMark, tableChecks, tableRefusal, checkTable}
-use Rattle.table.specs.TableLaws.{refused-check}
-use Rattle.table.specs.declared.Shape.{Shape}
-use Rattle.table.specs.declared.Checked.{Checked}
-use Rattle.table.specs.declared.Checked.the-variants as table
-use Rattle.walk.specs.Walk.{walkFrom, walkStep}
-use Rattle.walk.specs.declared.Position.{Position}
-use Rattle.walk.specs.declared.Step.{Step}
-use Rattle.walk.specs.declared.Step.the-variants as step
-use Rattle.page.specs.Header.{maxLevels, noPage, rootOffset, fileSize, keyLength, features, keyLengthGood, headerGood}
-use Rattle.page.specs.Page.{attributeAt, countAt, rightAt, leafBit, keyAt, numberAt, pageGood, firstAtOrAbove}
-use Rattle.page.specs.declared.RecordNumber.{RecordNumber}
-use Rattle.cell.specs.Cell.{numberCell, dateCell, logicalCell, textCell}
-use Rattle.cell.specs.Codes.{emptyCode, numberCode, dateCode, logicalCode, textCode}
-use Rattle.cell.specs.AnswerLaws.{Numbered, first-small, table-below, number-numbered, number-refusal, day-refusal, logical-refusal, place-refusal}
-use Rattle.cell.specs.declared.Logical.{Logical}
-use Rattle.cell.specs.declared.Logical.the-variants as logical
-use Rattle.cell.specs.declared.TextPlace.{TextPlace}
-use Rattle.cell.specs.declared.TextPlace.the-variants as text
+use Rattle.dbf_table.specs.Table.{recordCount, deletionByte, keptMark, deletedMark, tableChecks, tableRefusal, checkTable}
+use Rattle.dbf_table.specs.TableLaws.{refused-check}
+use Rattle.dbf_table.specs.declared.Shape.{Shape}
+use Rattle.dbf_table.specs.declared.Checked.{Checked}
+use Rattle.dbf_table.specs.declared.Checked.the-variants as table
+use Rattle.dbf_walk.specs.Walk.{walkFrom, walkStep}
+use Rattle.dbf_walk.specs.declared.Position.{Position}
+use Rattle.dbf_walk.specs.declared.Step.{Step}
+use Rattle.dbf_walk.specs.declared.Step.the-variants as step
+use Rattle.idx_page.specs.Header.{maxLevels, noPage, rootOffset, fileSize, keyLength, features, keyLengthGood, headerGood}
+use Rattle.idx_page.specs.Page.{attributeAt, countAt, rightAt, leafBit, keyAt, numberAt, pageGood, firstAtOrAbove}
+use Rattle.idx_page.specs.declared.RecordNumber.{RecordNumber}
+use Rattle.dbf_cell.specs.Cell.{numberCell, dateCell, logicalCell, textCell}
+use Rattle.dbf_cell.specs.Codes.{emptyCode, numberCode, dateCode, logicalCode, textCode}
+use Rattle.dbf_cell.specs.AnswerLaws.{Numbered, first-small, table-below, number-numbered, number-refusal, day-refusal, logical-refusal, place-refusal}
+use Rattle.dbf_cell.specs.declared.Logical.{Logical}
+use Rattle.dbf_cell.specs.declared.Logical.the-variants as logical
+use Rattle.dbf_cell.specs.declared.TextPlace.{TextPlace}
+use Rattle.dbf_cell.specs.declared.TextPlace.the-variants as text
 use Rattle.octets.specs.Order.{ordering, isEqual}
-use Rattle.lookup.specs.FirstRecord.{recordOf, entryDecides, neighbourDecides, firstFrom}
-use Rattle.lookup.specs.Lookup.{visitRule, decided, lookupFrom, lookupSteps, lookupRule, absentCode, lookupCode}
-use Rattle.lookup.specs.declared.Visit.{Visit}
-use Rattle.lookup.specs.declared.Visit.the-variants as visit
-use Rattle.lookup.specs.declared.Answer.{Answer}
-use Rattle.lookup.specs.declared.Answer.the-variants as looked
-use Rattle.sound.specs.Rule.{pagesGood}
-use Rattle.insert.specs.Room.{pathTo, noRoom}
-use Rattle.insert.specs.Fresh.{expressionGood, featuresGood, freshRule}
-use Rattle.insert.specs.Calls.{insertionCode, hasControl, insertRule}
-use Rattle.insert.specs.declared.Insertion.{Insertion}
-use Rattle.insert.specs.declared.Insertion.the-variants as insertion
-use Rattle.remove.specs.Removal.{isThere}
-use Rattle.remove.specs.Calls.{removeRule}
-use Rattle.remove.specs.declared.Removal.{Removal}
-use Rattle.remove.specs.declared.Removal.the-variants as removal
-use Rattle.table_calls.specs.Answers.{checkedCode}
-use Rattle.cell_calls.specs.Answers.{writingCode}
+use Rattle.idx_lookup.specs.FirstRecord.{recordOf, entryDecides, neighbourDecides, firstFrom}
+use Rattle.idx_lookup.specs.Lookup.{visitRule, decided, lookupFrom, lookupSteps, lookupRule, absentCode, lookupCode}
+use Rattle.idx_lookup.specs.declared.Visit.{Visit}
+use Rattle.idx_lookup.specs.declared.Visit.the-variants as visit
+use Rattle.idx_lookup.specs.declared.Answer.{Answer}
+use Rattle.idx_lookup.specs.declared.Answer.the-variants as looked
+use Rattle.idx_sound.specs.Rule.{pagesGood}
+use Rattle.idx_insert.specs.Room.{pathTo, noRoom}
+use Rattle.idx_insert.specs.Fresh.{expressionGood, featuresGood, freshRule}
+use Rattle.idx_insert.specs.Calls.{insertionCode, hasControl, insertRule}
+use Rattle.idx_insert.specs.declared.Insertion.{Insertion}
+use Rattle.idx_insert.specs.declared.Insertion.the-variants as insertion
+use Rattle.idx_remove.specs.Removal.{isThere}
+use Rattle.idx_remove.specs.Calls.{removeRule}
+use Rattle.idx_remove.specs.declared.Removal.{Removal}
+use Rattle.idx_remove.specs.declared.Removal.the-variants as removal
+use Rattle.dbf_calls.specs.Answers.{checkedCode}
+use Rattle.dbf_cell_calls.specs.Answers.{writingCode}
 use Rattle.index_calls.specs.Answers.{removalCode}
-use Rattle.table_calls.specs.Lent.{doneCode, stepCode}
+use Rattle.dbf_calls.specs.Lent.{doneCode, stepCode}
 
 -- ---- what a number tells, of any answer
 

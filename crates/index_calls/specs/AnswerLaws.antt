@@ -2,11 +2,11 @@
 use Prim.Native.Nat.{ℕ}
 use mathlib.Core.Path.{_≡_, refl}
 use mathlib.Core.List.{List}
-use Rattle.lookup.specs.Lookup.{absentCode}
-use Rattle.lookup.specs.declared.Answer.{Answer}
-use Rattle.lookup.specs.declared.Answer.the-variants as looked
-use Rattle.remove.specs.Calls.{AfterCall as AfterRemoval, afterCall}
-use Rattle.remove.specs.declared.Removal.{Removal}
+use Rattle.idx_lookup.specs.Lookup.{absentCode}
+use Rattle.idx_lookup.specs.declared.Answer.{Answer}
+use Rattle.idx_lookup.specs.declared.Answer.the-variants as looked
+use Rattle.idx_remove.specs.Calls.{AfterCall as AfterRemoval, afterCall}
+use Rattle.idx_remove.specs.declared.Removal.{Removal}
 use Rattle.index_calls.specs.Answers.{Found, lookupOut}
 use Rattle.index_calls.specs.Answers.{removalCode, removalOut}
 use Rattle.handed.specs.Out.{out}

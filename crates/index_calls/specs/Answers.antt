@@ -1,12 +1,12 @@
 -- Rules: what the calls on an index hand to C.
 use Prim.Native.Nat.{ℕ}
 use mathlib.Core.List.{List}
-use Rattle.lookup.specs.Lookup.{lookupCode, answerRecord, answerPages}
-use Rattle.lookup.specs.declared.Answer.{Answer}
-use Rattle.insert.specs.Calls.{AfterCall, insertionCode}
-use Rattle.remove.specs.Calls.{AfterCall as AfterRemoval}
-use Rattle.remove.specs.declared.Removal.{Removal}
-use Rattle.remove.specs.declared.Removal.the-variants as removal
+use Rattle.idx_lookup.specs.Lookup.{lookupCode, answerRecord, answerPages}
+use Rattle.idx_lookup.specs.declared.Answer.{Answer}
+use Rattle.idx_insert.specs.Calls.{AfterCall, insertionCode}
+use Rattle.idx_remove.specs.Calls.{AfterCall as AfterRemoval}
+use Rattle.idx_remove.specs.declared.Removal.{Removal}
+use Rattle.idx_remove.specs.declared.Removal.the-variants as removal
 use Rattle.handed.specs.Out.{Out, out}
 
 -- ---- the index

@@ -6,8 +6,8 @@ use mathlib.Core.List.{List}
 use mathlib.Core.Option.{some}
 use native.Mathlib.Omega.{arith}
 use borrow.Author.Tests.{eq-eqb, ne-eqb}
-use Rattle.ndx.specs.Header.{maxLevels, pageCount, isPage}
-use Rattle.ndx.specs.Page.{lowerAt, isLeaf}
+use Rattle.ndx_page.specs.Header.{maxLevels, pageCount, isPage}
+use Rattle.ndx_page.specs.Page.{lowerAt, isLeaf}
 use Rattle.ndx_sound.specs.Reading.{Key}
 use Rattle.ndx_sound.specs.Walk.{Status, ifGood, item, passed}
 use Rattle.ndx_sound.specs.WalkLaws.{if-is, if-not}

@@ -7,14 +7,14 @@ use lib.ListN.{length, replicate, set}
 use Rattle.octets.specs.Bytes.{le16, le32, toLe16, toLe32}
 use Rattle.octets.specs.Store.{window}
 use Rattle.octets.specs.Order.{bytesLe, ordering}
-use Rattle.page.specs.Header.{keyLengthGood}
-use Rattle.page.specs.Page.{firstAtOrAbove}
-use Rattle.lookup.specs.Lookup.{recordOf}
-use Rattle.lookup.specs.declared.Answer.the-variants as answer
-use Rattle.ndx.specs.Header.{pageSize, isPage, pagesGood, entrySizeOf, keysGood, headerGood}
-use Rattle.ndx.specs.Page.{entryOffset, keyOffset, lowerAt, recordAt, keyAt, isLeaf, countGood, pageGood}
+use Rattle.idx_page.specs.Header.{keyLengthGood}
+use Rattle.idx_page.specs.Page.{firstAtOrAbove}
+use Rattle.idx_lookup.specs.Lookup.{recordOf}
+use Rattle.idx_lookup.specs.declared.Answer.the-variants as answer
+use Rattle.ndx_page.specs.Header.{pageSize, isPage, pagesGood, entrySizeOf, keysGood, headerGood}
+use Rattle.ndx_page.specs.Page.{entryOffset, keyOffset, lowerAt, recordAt, keyAt, isLeaf, countGood, pageGood}
 use Rattle.ndx_sound.specs.Reading.{entriesFrom, entriesAt}
-use Rattle.ndx.specs.Lookup.{leafSays, entrySays, pageSays, visitRule, lookupFrom, lookupRule}
+use Rattle.ndx_page.specs.Lookup.{leafSays, entrySays, pageSays, visitRule, lookupFrom, lookupRule}
 use Rattle.ndx_sound.specs.Sound.{Sound}
 use Rattle.ndx_sound.specs.Walk.{ifGood, over, items, walk}
 use Rattle.ndx_sound.specs.Rule.{zeros, pageFits, heightFrom, treeGood}

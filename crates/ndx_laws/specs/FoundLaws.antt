@@ -19,18 +19,18 @@ use Rattle.tree.specs.StoreSteps.{storeLookup, storeVisited}
 use Rattle.tree.specs.StoreLookupLaws.{lookup-read, visited-read}
 use Rattle.tree.specs.Top.{top-lookup}
 use Rattle.tree.specs.Levels.{below, generation, all-of-concat}
-use Rattle.page.specs.Page.{firstAtOrAbove}
-use Rattle.page.specs.PageLaws.{first-bound}
-use Rattle.page.specs.KeyOrder.{bytesOrder}
-use Rattle.page.specs.KeyOrderLaws.{equal-le}
-use Rattle.lookup.specs.Lookup.{recordOf}
-use Rattle.lookup.specs.declared.Answer.{Answer}
-use Rattle.lookup.specs.declared.Answer.the-variants as answer
-use Rattle.lookup_laws.specs.FoundLaws.{answerOf}
-use Rattle.ndx.specs.Header.{maxLevels, rootPage, pageCount, keyLength, keysPerPage, isPage}
-use Rattle.ndx.specs.Page.{countAt, lowerAt, recordAt, keyAt, isLeaf, countGood, pageGood}
-use Rattle.ndx.specs.Lookup.{pageOf, leafSays, entrySays, pageSays, visitRule, decided, lookupFrom, lookupRule}
-use Rattle.ndx.specs.declared.Visit.the-variants as visit
+use Rattle.idx_page.specs.Page.{firstAtOrAbove}
+use Rattle.idx_page.specs.PageLaws.{first-bound}
+use Rattle.idx_page.specs.KeyOrder.{bytesOrder}
+use Rattle.idx_page.specs.KeyOrderLaws.{equal-le}
+use Rattle.idx_lookup.specs.Lookup.{recordOf}
+use Rattle.idx_lookup.specs.declared.Answer.{Answer}
+use Rattle.idx_lookup.specs.declared.Answer.the-variants as answer
+use Rattle.idx_lookup_laws.specs.FoundLaws.{answerOf}
+use Rattle.ndx_page.specs.Header.{maxLevels, rootPage, pageCount, keyLength, keysPerPage, isPage}
+use Rattle.ndx_page.specs.Page.{countAt, lowerAt, recordAt, keyAt, isLeaf, countGood, pageGood}
+use Rattle.ndx_page.specs.Lookup.{pageOf, leafSays, entrySays, pageSays, visitRule, decided, lookupFrom, lookupRule}
+use Rattle.ndx_page.specs.declared.Visit.the-variants as visit
 use Rattle.ndx_sound.specs.Reading.{Key, Entries, leafEntries, entriesAt, indexTree, leafPairs}
 use Rattle.ndx_sound.specs.ReadingLaws.{first-le, seek-among, seek-past, leaf-entries, branch-entries}
 use Rattle.ndx_sound.specs.Sound.{Sound}

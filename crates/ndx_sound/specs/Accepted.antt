@@ -21,14 +21,14 @@ use Rattle.tree.specs.ClauseLaws.{ordered-ceilings}
 use Rattle.tree.specs.Ordered.{Separated, SeparatedTree, Ordered, ordered-ascending, separated-all, separated-ordered}
 use Rattle.tree.specs.Store.{readEntry}
 use Rattle.tree.specs.Top.{top}
-use Rattle.page.specs.KeyOrder.{bytesOrder}
+use Rattle.idx_page.specs.KeyOrder.{bytesOrder}
 use Rattle.tree.specs.DistinctLaws.{Filled, Heights, levels-distinct, ascending-distinct}
 use Rattle.tree.specs.PageCount.{PageOf, later-all, later-count}
 use Rattle.tree.specs.Levels.{generation, numbers, all-to-map, all-of-map, generation-pages}
 use Rattle.tree.specs.Levels.{generation-level, level-generation, tree-pairs, tree-pages, below, all-to-concat}
-use Rattle.ndx.specs.Header.{maxLevels, rootPage, pageCount, keysPerPage, isPage, headerGood}
-use Rattle.ndx.specs.HeaderLaws.{good-header, is-page, is-page-from}
-use Rattle.ndx.specs.Page.{countAt, lowerAt, keyAt, isLeaf, countGood}
+use Rattle.ndx_page.specs.Header.{maxLevels, rootPage, pageCount, keysPerPage, isPage, headerGood}
+use Rattle.ndx_page.specs.HeaderLaws.{good-header, is-page, is-page-from}
+use Rattle.ndx_page.specs.Page.{countAt, lowerAt, keyAt, isLeaf, countGood}
 use Rattle.ndx_sound.specs.Reading.{Key, Entries, entriesFrom, branchEntries, readCount, entriesAt, indexTree, bare}
 use Rattle.ndx_sound.specs.ReadingLaws.{branch-entries}
 use Rattle.ndx_sound.specs.Sound.{indexPages, CountGood, NoLower, Sound, Audited}

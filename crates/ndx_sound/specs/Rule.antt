@@ -6,9 +6,9 @@ use mathlib.Core.List.{List}
 use mathlib.Core.Option.{none}
 use lib.Dec.{eqb}
 use Rattle.tree.specs.Top.{top}
-use Rattle.page.specs.KeyOrder.{bytesOrder}
-use Rattle.ndx.specs.Header.{maxLevels, rootPage, pageCount, keysPerPage, isPage}
-use Rattle.ndx.specs.Page.{countAt, lowerAt, isLeaf, countGood}
+use Rattle.idx_page.specs.KeyOrder.{bytesOrder}
+use Rattle.ndx_page.specs.Header.{maxLevels, rootPage, pageCount, keysPerPage, isPage}
+use Rattle.ndx_page.specs.Page.{countAt, lowerAt, isLeaf, countGood}
 use Rattle.ndx_sound.specs.Reading.{Key, readCount, entriesAt}
 use Rattle.ndx_sound.specs.Walk.{Status, walk}
 

@@ -1,4 +1,4 @@
--- Laws: demand 3. What holds of one call on a sound index holds of every list of calls, on any state that is read as an index. Cited by the crate `book`,
+-- Laws: demand 3. What holds of one call on a sound index holds of every list of calls, on any state that is read as an index. Cited by the crate `idx_book`,
 -- whose states are buffers. Assumes nothing.
 use mathlib.Core.Path.{_≡_, refl, sym, ap, _∙_}
 use mathlib.Core.Bool.{Bool}

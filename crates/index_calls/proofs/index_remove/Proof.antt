@@ -1,5 +1,5 @@
 -- `index_calls::index_remove` meets its contract, by the case of the library's answer: the buffer is the one that the library left. Assumes nothing.
-use Rattle.remove.specs.declared.Removal.the-variants.{Accepted, Refused}
+use Rattle.idx_remove.specs.declared.Removal.the-variants.{Accepted, Refused}
 use Rattle.index_calls.specs.AnswerLaws.{removal-told}
 use borrow.Author.Needs.{needs}
 use Rattle.index_calls.proofs.index_remove.Statement.{statement}
