@@ -26,9 +26,9 @@ use Rattle.dbf_cell.specs.Codes.{numberRefusal}
 use Rattle.dbf_cell.specs.AnswerLaws.{first-small, table-below, number-numbered}
 use Rattle.dbf_field.specs.Field.{numberGood}
 use Rattle.idx_page.specs.Header.{keyLength, headerGood}
-use Rattle.idx_sound.specs.Rule.{pagesGood}
+use Rattle.idx_sound.specs.AuditTest.{pagesGood}
 use Rattle.idx_match.specs.Match.{matchRefusal}
-use Rattle.idx_match.specs.Rule.{columnOf, entriesMatch, leafEntries}
+use Rattle.idx_match.specs.MatchTest.{columnOf, entriesMatch, leafEntries}
 use Rattle.idx_match.specs.Computed.{matchAnswer}
 use Rattle.dilution.specs.Dilution.{volumesOf, concentrationDecimals, concentrationText, concentrationOf, headerChecks, fieldChecks, sheetChecks, recordWith}
 use Rattle.dilution.specs.Dilution.{barcodeChecks, textChecks, volumeChecks, unless, dilutionOf, recordDilution, diluteRule}

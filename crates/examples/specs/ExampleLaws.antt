@@ -16,7 +16,7 @@ use Rattle.idx_page.specs.Page as page
 use Rattle.idx_page.specs.Reading as pages
 use Rattle.idx_lookup.specs.Lookup as lookup
 use Rattle.idx_sound.specs.Sound.{Sound}
-use Rattle.idx_sound.specs.Rule as audit
+use Rattle.idx_sound.specs.AuditTest as audit
 use Rattle.idx_sound.specs.Accepted.{accepted}
 use Rattle.idx_layout.specs.Layout as layout
 use Rattle.idx_layout.specs.Entries as entries

@@ -17,7 +17,7 @@ use Rattle.idx_page.specs.Reading as pages
 use Rattle.idx_lookup.specs.Lookup as lookup
 use Rattle.idx_lookup.specs.declared.Answer.{Answer as Looked}
 use Rattle.idx_lookup.specs.declared.Answer.the-variants as looked
-use Rattle.idx_sound.specs.Rule as audit
+use Rattle.idx_sound.specs.AuditTest as audit
 use Rattle.idx_insert.specs.Calls as calls
 use Rattle.idx_insert.specs.declared.Insertion.{Insertion}
 use Rattle.idx_insert.specs.declared.Insertion.the-variants as inserted

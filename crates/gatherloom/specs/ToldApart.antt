@@ -47,7 +47,7 @@ use Rattle.idx_lookup.specs.declared.Visit.{Visit}
 use Rattle.idx_lookup.specs.declared.Visit.the-variants as visit
 use Rattle.idx_lookup.specs.declared.Answer.{Answer}
 use Rattle.idx_lookup.specs.declared.Answer.the-variants as looked
-use Rattle.idx_sound.specs.Rule.{pagesGood}
+use Rattle.idx_sound.specs.AuditTest.{pagesGood}
 use Rattle.idx_insert.specs.Room.{pathTo, noRoom}
 use Rattle.idx_insert.specs.Fresh.{expressionGood, featuresGood, freshRule}
 use Rattle.idx_insert.specs.Calls.{insertionCode, hasControl, insertRule}

@@ -23,8 +23,8 @@ use Rattle.idx_page.specs.Page.{entryOffset, numberAt}
 use Rattle.idx_page.specs.Reading.{entriesAt}
 use Rattle.idx_page.specs.ReadingLaws.{entriesFrom, entries-are}
 use Rattle.idx_page.specs.Children.{firstChild}
-use Rattle.idx_sound.specs.Rule as rule
-use Rattle.idx_sound.specs.Rule.{firstOf, lastOf, lastNumber, down, lastChild, belowNext, onward, upperEntries}
+use Rattle.idx_sound.specs.AuditTest as rule
+use Rattle.idx_sound.specs.AuditTest.{firstOf, lastOf, lastNumber, down, lastChild, belowNext, onward, upperEntries}
 use Rattle.idx_sound.specs.CeilingLaws.{onward-good, onward-bad}
 use Rattle.idx_audit.specs.State.{keyFrom, upperKey}
 use Rattle.idx_audit.specs.EntryLaws.{from-on, from-end, some-key}

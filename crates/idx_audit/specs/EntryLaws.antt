@@ -23,7 +23,7 @@ use Rattle.idx_page.specs.Page.{entriesStart, entryOffset, keyAt, numberAt}
 use Rattle.idx_page.specs.PageLaws.{entry-first, entry-next, entry-low, entry-within}
 use Rattle.idx_page.specs.Reading.{entriesAt}
 use Rattle.idx_page.specs.ReadingLaws.{entriesFrom, entries-are, each-within}
-use Rattle.idx_sound.specs.Rule.{lastOf, lastPair, leafEntriesGood}
+use Rattle.idx_sound.specs.AuditTest.{lastOf, lastPair, leafEntriesGood}
 use Rattle.idx_audit.specs.State.{InFile, EntriesWithin, keyFrom, pairFrom, leafEntry}
 
 -- the n entries that are read of a page lie within it

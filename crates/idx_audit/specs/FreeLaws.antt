@@ -10,7 +10,7 @@ use Rattle.basis.specs.Tests.{both}
 use Rattle.idx_page.specs.Header.{noPage, isPage}
 use Rattle.idx_page.specs.Page.{rightAt}
 use Rattle.idx_sound.specs.Sound.{zeros}
-use Rattle.idx_sound.specs.Rule.{isFreePage, freeFits, checkFree}
+use Rattle.idx_sound.specs.AuditTest.{isFreePage, freeFits, checkFree}
 use Rattle.idx_sound.specs.FreeLaws.{free-stop, free-on}
 
 -- the first n of some more zeros

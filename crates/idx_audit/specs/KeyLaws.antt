@@ -9,7 +9,7 @@ use Rattle.idx_page.specs.Header.{maxLevels, isPage, rootOffset, fileSize, keyL
 use Rattle.idx_page.specs.Page.{rightAt}
 use Rattle.idx_page.specs.Reading.{entriesAt}
 use Rattle.idx_page.specs.Children.{isLeaf, firstChild}
-use Rattle.idx_sound.specs.Rule.{maxPages, Keys, chain, onward, heightOf, upperEntries, upperPages, upperLevels, shapeGood, keysAboveGood, pagesGood}
+use Rattle.idx_sound.specs.AuditTest.{maxPages, Keys, chain, onward, heightOf, upperEntries, upperPages, upperLevels, shapeGood, keysAboveGood, pagesGood}
 use Rattle.idx_sound.specs.CeilingLaws.{onward-good, onward-bad}
 use Rattle.idx_audit.specs.PassLaws.{chain-none, chain-some}
 

@@ -15,8 +15,8 @@ use Rattle.idx_page.specs.Reading.{entriesAt}
 use Rattle.idx_page.specs.ReadingLaws.{entriesFrom, entries-are}
 use Rattle.idx_page.specs.Children.{isLeaf, childrenOf, firstChild}
 use Rattle.idx_page.specs.declared.PageOffset.{PageOffset}
-use Rattle.idx_sound.specs.Rule.{laterPages, Progress, Level, attributeOf, start, refused, chain, pageFits, counted, rowsUnder}
-use Rattle.idx_sound.specs.Rule.{checkPage, checkPages, checkRows, closed, checkLevel, rootLevel, nextLevel, levelsUnder, checkFree, shapeGood}
+use Rattle.idx_sound.specs.AuditTest.{laterPages, Progress, Level, attributeOf, start, refused, chain, pageFits, counted, rowsUnder}
+use Rattle.idx_sound.specs.AuditTest.{checkPage, checkPages, checkRows, closed, checkLevel, rootLevel, nextLevel, levelsUnder, checkFree, shapeGood}
 use Rattle.idx_audit.specs.declared.Progress as declared-progress
 use Rattle.idx_audit.specs.declared.Level as declared-level
 use Rattle.idx_audit.specs.State.{InFile, meetPage, progressOf, levelOf, startAt, refusedAt, closedAt}

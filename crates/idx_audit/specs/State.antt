@@ -13,8 +13,8 @@ use Rattle.idx_page.specs.Page.{keyAt, numberAt, rightAt}
 use Rattle.idx_page.specs.ReadingLaws.{entriesFrom}
 use Rattle.idx_page.specs.Within.{Within}
 use Rattle.idx_page.specs.declared.PageOffset.{PageOffset}
-use Rattle.idx_sound.specs.Rule as rule
-use Rattle.idx_sound.specs.Rule.{isAbove, upperEntry}
+use Rattle.idx_sound.specs.AuditTest as rule
+use Rattle.idx_sound.specs.AuditTest.{isAbove, upperEntry}
 use Rattle.idx_audit.specs.declared.Progress.{Progress}
 use Rattle.idx_audit.specs.declared.Level.{Level}
 use Rattle.idx_audit.specs.declared.Keys.{Keys}

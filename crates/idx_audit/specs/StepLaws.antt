@@ -14,8 +14,8 @@ use Rattle.idx_page.specs.HeaderLaws.{IsPage, is-page}
 use Rattle.idx_page.specs.Page.{attributeAt, countAt, leftAt, rightAt, leafBit, countGood}
 use Rattle.idx_page.specs.Reading.{entriesAt}
 use Rattle.idx_page.specs.ReadingLaws.{entriesFrom, entries-are}
-use Rattle.idx_sound.specs.Rule as rule
-use Rattle.idx_sound.specs.Rule.{lastPair, leafEntriesGood, entriesFit, pageFits, counted, checkPage}
+use Rattle.idx_sound.specs.AuditTest as rule
+use Rattle.idx_sound.specs.AuditTest.{lastPair, leafEntriesGood, entriesFit, pageFits, counted, checkPage}
 use Rattle.idx_audit.specs.declared.Progress.{Progress}
 use Rattle.idx_audit.specs.State.{InFile, pairFrom, meetPage, progressOf, refusedAt}
 

@@ -23,9 +23,9 @@ ghost use Rattle.idx_page.specs.ReadingLaws.{entriesFrom};
 ghost use Rattle.idx_page.specs.Page.{entryArea};
 ghost use Rattle.idx_sound.specs.Sound.{zeros, Audited};
 ghost use Rattle.idx_page.specs.Children.{childrenOf, firstChild};
-ghost use Rattle.idx_sound.specs.Rule.{maxPages, laterPages, firstOf, lastOf, lastPair, leafEntriesGood, entriesFit, pageFits, attributeOf, chain};
-ghost use Rattle.idx_sound.specs.Rule.{counted, checkPages, checkRows, rowsUnder, rootLevel, nextLevel, levelsUnder, isFreePage, freeFits, checkFree, shapeGood};
-ghost use Rattle.idx_sound.specs.Rule.{heightOf, down, lastChild, belowNext, upperEntries, upperPages, upperLevels, keysAboveGood, pagesGood};
+ghost use Rattle.idx_sound.specs.AuditTest.{maxPages, laterPages, firstOf, lastOf, lastPair, leafEntriesGood, entriesFit, pageFits, attributeOf, chain};
+ghost use Rattle.idx_sound.specs.AuditTest.{counted, checkPages, checkRows, rowsUnder, rootLevel, nextLevel, levelsUnder, isFreePage, freeFits, checkFree, shapeGood};
+ghost use Rattle.idx_sound.specs.AuditTest.{heightOf, down, lastChild, belowNext, upperEntries, upperPages, upperLevels, keysAboveGood, pagesGood};
 ghost use Rattle.idx_audit.specs.State.{InFile, EntriesWithin, keyFrom, pairFrom, leafEntry, upperKey, meetPage, progressOf, levelOf, keysOf};
 ghost use Rattle.idx_audit.specs.State.{startAt, refusedAt, closedAt};
 

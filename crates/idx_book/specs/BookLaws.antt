@@ -25,7 +25,7 @@ use Rattle.idx_insert.specs.Calls.{AfterCall, afterCall}
 use Rattle.idx_insert.specs.Fresh.{expressionGood, featuresGood, freshBuffer, freshRule}
 use Rattle.idx_insert.specs.declared.Insertion.{Insertion}
 use Rattle.idx_insert.specs.declared.Insertion.the-variants.{Accepted, Refused}
-use Rattle.idx_insert_laws.specs.InsertHeads.{Plain, octets-plain}
+use Rattle.idx_insert_laws.specs.InsertionHeads.{Plain, octets-plain}
 use Rattle.idx_insert_laws.specs.FreshLaws.{FreshIs, fresh-is-sound}
 use Rattle.idx_book.specs.Book.{Calls, insertionAnswer, answerTo, bufferAfter, noRoomFor, barcodes, FourBytes, answersTo, bufferAt, Pairs, leafPairs}
 use Rattle.idx_book.specs.Book.{VisitsLevels, LeavesBuffer, Each, BookKept}

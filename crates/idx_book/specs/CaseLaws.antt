@@ -18,7 +18,7 @@ use Rattle.tree.specs.RecordOrder.{byRecord-same}
 use Rattle.idx_page.specs.Header.{keyLength, features, headerGood}
 use Rattle.idx_page.specs.KeyOrder.{bytesOrder}
 use Rattle.idx_sound.specs.Sound.{Sound}
-use Rattle.idx_sound.specs.Rule.{pagesGood}
+use Rattle.idx_sound.specs.AuditTest.{pagesGood}
 use Rattle.idx_sound.specs.Accepted.{accepted as audit-accepts}
 use Rattle.idx_insert.specs.Room.{pathTo}
 use Rattle.idx_insert_laws.specs.RoomLaws.{present-is}

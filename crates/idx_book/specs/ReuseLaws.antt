@@ -22,7 +22,7 @@ use Rattle.idx_sound.specs.Sound.{Sound}
 use Rattle.idx_insert.specs.Calls.{AfterCall, hasControl}
 use Rattle.idx_insert.specs.Fresh.{freshBuffer, freshRule}
 use Rattle.idx_insert.specs.declared.Insertion.the-variants.{Accepted}
-use Rattle.idx_insert_laws.specs.InsertHeads.{octets-plain}
+use Rattle.idx_insert_laws.specs.InsertionHeads.{octets-plain}
 use Rattle.idx_insert_laws.specs.FreshLaws.{FreshIs}
 use Rattle.idx_book.specs.Book.{Calls, answerTo, bufferAfter, noRoomFor, fits, barcodes, FourBytes, bufferAt, bookAt}
 use Rattle.idx_book.specs.CallLaws.{Kept, readIndex, read-is, keeping, kept-sound, same-answer, fit-rule, keeps, same-next}

@@ -12,7 +12,7 @@ use Rattle.basis.specs.Tests.{contra, both}
 use Rattle.octets.specs.Store.{put}
 use Rattle.idx_page.specs.Header.{maxFeatures, minBytes, pageSize, noPage, keyLength, keyLengthGood, headerGood}
 use Rattle.idx_page.specs.Reading.{items}
-use Rattle.idx_sound.specs.Rule.{pagesGood}
+use Rattle.idx_sound.specs.AuditTest.{pagesGood}
 use Rattle.idx_layout.specs.Layout.{headerBytes, newPage}
 use Rattle.idx_insert.specs.Insertion.{insertedBuffer}
 use Rattle.idx_insert.specs.Room.{pathTo, noRoom}

@@ -5,7 +5,7 @@ use mathlib.Core.List.{List, [], _∷_}
 use lib.ListN.{length}
 use lib.Dec.{eqb, ltb}
 use Rattle.idx_page.specs.Header.{headerGood, keyLength}
-use Rattle.idx_sound.specs.Rule.{pagesGood}
+use Rattle.idx_sound.specs.AuditTest.{pagesGood}
 use Rattle.idx_insert.specs.Insertion.{insertedBuffer}
 use Rattle.idx_insert.specs.Room.{pathTo, noRoom}
 use Rattle.idx_insert.specs.declared.Insertion.{Insertion}

@@ -8,7 +8,7 @@ use borrow.Author.Tests.{leb-true, leb-false, le-leb, lt-leb, eqb-true, eqb-fals
 use Rattle.basis.specs.Tests.{either}
 use Rattle.idx_page.specs.Page.{rootBit, leafBit}
 use Rattle.idx_layout.specs.Layout.{withoutRoot}
-use Rattle.idx_insert_laws.specs.InsertHeads.{unrooted}
+use Rattle.idx_insert_laws.specs.InsertionHeads.{unrooted}
 
 less : (j m : ℕ) → j < suc m → (j ≡ m → ⊥) → j < m
 less j m l n = omega (arith, n)

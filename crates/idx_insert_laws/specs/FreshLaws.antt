@@ -33,7 +33,7 @@ use Rattle.idx_insert.specs.CallLaws.{expression-most, features-most}
 use Rattle.idx_insert.specs.Fresh.{maxExpression, expressionGood, featuresGood, freshHeader, freshBuffer}
 use Rattle.idx_layout_laws.specs.EntryLaws.{entriesIn, page-of, entries-new, length-new}
 use Rattle.idx_layout_laws.specs.HeadLaws.{Head, SameHead, put-header, new-head, new-header}
-use Rattle.idx_insert_laws.specs.InsertHeads.{Plain, one-of}
+use Rattle.idx_insert_laws.specs.InsertionHeads.{Plain, one-of}
 use Rattle.idx_insert_laws.specs.SoundReading.{entries-longer}
 use Rattle.idx_insert_laws.specs.FreePages.{none-good}
 

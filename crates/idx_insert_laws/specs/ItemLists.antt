@@ -13,7 +13,7 @@ use Rattle.basis.specs.Lists.{All}
 use Rattle.basis.specs.Tests.{either}
 use Rattle.octets.specs.Bytes.{be32}
 use Rattle.octets.specs.Order.{bytesLe}
-use Rattle.tree.specs.InsertPairs.{leaf-place}
+use Rattle.tree.specs.InsertionPairs.{leaf-place}
 use Rattle.tree.specs.Keeping.{keepingOf}
 use Rattle.tree.specs.Lists.{NonEmpty}
 use Rattle.tree.specs.Pairs.{lastKey, byRecord, insertPair}

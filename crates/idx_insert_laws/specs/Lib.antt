@@ -7,11 +7,11 @@ pub mod TakenPages
 -- Laws: new pages by their names
 pub mod Naming
 -- Laws: the entries of all pages after insertion's steps
-pub mod InsertEntries
+pub mod InsertionEntries
 -- Laws: the heads of all pages, and the file's header, after insertion's steps
-pub mod InsertHeads
+pub mod InsertionHeads
 -- Laws: the whole buffer after an insertion
-pub mod InsertBuffer
+pub mod InsertionBuffer
 -- Laws: the bits of the attributes after an insertion
 pub mod AttributeLaws
 -- Laws: a sound index read up to the buffer's length is the one read up to the file's
@@ -21,6 +21,6 @@ pub mod FreePages
 -- Laws: the path of a key, and by it refusals 29 and 30 on bytes, are the theory's
 pub mod RoomLaws
 -- Laws: an insertion keeps an index sound
-pub mod InsertSound
+pub mod InsertionSound
 -- Laws: a fresh index is sound and empty
 pub mod FreshLaws

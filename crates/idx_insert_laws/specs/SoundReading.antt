@@ -25,7 +25,7 @@ use Rattle.idx_sound.specs.IndexLaws.{indexOf, sound-sized, sound-index}
 use Rattle.idx_layout_laws.specs.EntryLaws.{entriesIn}
 use Rattle.idx_insert_laws.specs.Naming.{Usable, FreeGiven}
 use Rattle.idx_insert_laws.specs.ItemLists.{Shaped}
-use Rattle.idx_insert_laws.specs.InsertBuffer.{treeIn}
+use Rattle.idx_insert_laws.specs.InsertionBuffer.{treeIn}
 
 -- a page of a file is a page of every longer file, and has the same entries there
 pub page-longer : {m n : ℕ} (p : ℕ) → m ≤ n → isPage m p ≡ true → isPage n p ≡ true

@@ -22,7 +22,7 @@ use Rattle.tree.specs.LookupFirst.{Trip, neighbour, firstRecord}
 use Rattle.tree.specs.LookupLaws.{firstRecord-find, firstRecord-found}
 use Rattle.tree.specs.StoreFirst.{linkedPage, seekOrLast, tripAmong, tripTo, storeRecordUnder, storeRecord}
 use Rattle.tree.specs.StoreFirstLaws.{record-read}
-use Rattle.tree.specs.InsertLevels.{levelUnder-pages}
+use Rattle.tree.specs.InsertionLevels.{levelUnder-pages}
 use Rattle.tree.specs.IndexPages.{noPage-unused}
 use Rattle.idx_page.specs.Header.{maxLevels, noPage, pageSize, isPage, rootOffset, fileSize, keyLength, features}
 use Rattle.idx_page.specs.HeaderLaws.{is-page, good-header}
@@ -39,7 +39,7 @@ use Rattle.idx_lookup.specs.LookupLaws.{steps-record}
 use Rattle.idx_lookup.specs.declared.Answer.{Answer}
 use Rattle.idx_lookup.specs.declared.Answer.the-variants as answer
 use Rattle.idx_sound.specs.Sound.{Sound, indexTree, linksOf, keptBy}
-use Rattle.idx_sound.specs.Rule.{Entries, attributeOf, lastNumber}
+use Rattle.idx_sound.specs.AuditTest.{Entries, attributeOf, lastNumber}
 use Rattle.tree.specs.Levels.{below, generation, all-of-map, all-of-concat}
 use Rattle.idx_sound.specs.RunLaws.{Fits}
 use Rattle.idx_sound.specs.LevelLaws.{LevelGood}

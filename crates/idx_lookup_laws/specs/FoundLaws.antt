@@ -33,7 +33,7 @@ use Rattle.idx_lookup.specs.declared.Visit.the-variants as visit
 use Rattle.idx_lookup.specs.declared.Answer.{Answer}
 use Rattle.idx_lookup.specs.declared.Answer.the-variants as answer
 use Rattle.idx_sound.specs.Sound.{Sound, indexTree, keptBy}
-use Rattle.idx_sound.specs.Rule.{Entries, attributeOf}
+use Rattle.idx_sound.specs.AuditTest.{Entries, attributeOf}
 use Rattle.idx_sound.specs.RunLaws.{Fits}
 use Rattle.idx_sound.specs.LevelLaws.{LevelGood}
 use Rattle.idx_sound.specs.AttributeLaws.{leaf-bit}

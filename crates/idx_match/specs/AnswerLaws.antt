@@ -16,11 +16,11 @@ use Rattle.dbf_field.specs.Field.{numberGood}
 use Rattle.dbf_cell.specs.AnswerLaws.{table-small}
 use Rattle.idx_page.specs.Header.{keyLength, headerGood, features}
 use Rattle.idx_sound.specs.Sound.{Sound, leafPairs}
-use Rattle.idx_sound.specs.Rule.{pagesGood}
+use Rattle.idx_sound.specs.AuditTest.{pagesGood}
 use Rattle.idx_sound.specs.Accepted.{accepted, answer-sound}
 use Rattle.idx_sound.specs.Accepted.{answer-unsound as audit-unsound}
 use Rattle.idx_match.specs.Match.{matchRefusal, Matches, Matched}
-use Rattle.idx_match.specs.Rule.{columnOf, entriesMatch, leafEntries}
+use Rattle.idx_match.specs.MatchTest.{columnOf, entriesMatch, leafEntries}
 use Rattle.idx_match.specs.Computed.{matchAnswer}
 use Rattle.idx_match.specs.TestLaws.{test-exactly}
 use Rattle.idx_match.specs.CallLaws.{table-good, ready, answer-refused, answer-unsound, answer-matched, answer-other}

@@ -20,10 +20,10 @@ use Rattle.dbf_field.specs.declared.FieldForm.{FieldForm}
 use Rattle.dbf_field.specs.FieldLaws.{number-range}
 use Rattle.idx_page.specs.Header.{maxLevels, rootOffset, fileSize, keyLength, headerGood, features}
 use Rattle.idx_sound.specs.Sound.{Sound, leafPairs, Audited}
-use Rattle.idx_sound.specs.Rule.{maxPages}
+use Rattle.idx_sound.specs.AuditTest.{maxPages}
 use Rattle.idx_match.specs.declared.Column.{Column}
 use Rattle.idx_match.specs.Match.{matchRefusal, Matches, Matched}
-use Rattle.idx_match.specs.Rule.{columnOf, entriesMatch, firstLeaf, entriesAlong, leafEntries, ColumnInside}
+use Rattle.idx_match.specs.MatchTest.{columnOf, entriesMatch, firstLeaf, entriesAlong, leafEntries, ColumnInside}
 use Rattle.idx_match.specs.TestLaws.{test-exactly}
 use Rattle.idx_match.specs.LeafLaws.{leaf-entries}
 

@@ -4,9 +4,9 @@ use Prim.Native.Nat.{ℕ}
 use mathlib.Core.List.{List, [], _∷_}
 use lib.Dec.{eqb}
 use Rattle.dbf_table.specs.Table.{firstRefusal}
-use Rattle.idx_sound.specs.Rule.{pagesGood}
+use Rattle.idx_sound.specs.AuditTest.{pagesGood}
 use Rattle.idx_match.specs.Match.{matchRefusal}
-use Rattle.idx_match.specs.Rule.{columnOf, entriesMatch, leafEntries}
+use Rattle.idx_match.specs.MatchTest.{columnOf, entriesMatch, leafEntries}
 
 -- "table checks, index header, field number, field type C, field length k (27), audit, then 31 unless ..": 0 if they match
 unfoldable pub matchAnswer : List ℕ → List ℕ → ℕ → ℕ

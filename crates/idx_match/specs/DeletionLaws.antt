@@ -20,7 +20,7 @@ use Rattle.dbf_table.specs.HeaderLaws.{SameHeader, checks-same, count-same, fie
 use Rattle.dbf_cell.specs.MarkLaws.{withMark, first-same, same-header}
 use Rattle.idx_page.specs.Header.{headerGood}
 use Rattle.idx_sound.specs.Sound.{leafPairs}
-use Rattle.idx_sound.specs.Rule.{Entries}
+use Rattle.idx_sound.specs.AuditTest.{Entries}
 use Rattle.idx_match.specs.Match.{matchRefusal, Matches, Matched}
 use Rattle.idx_match.specs.CallLaws.{table-good, ready}
 

@@ -18,12 +18,12 @@ use Rattle.idx_page.specs.Page.{attributeAt, leafBit}
 use Rattle.idx_page.specs.Reading.{entriesAt}
 use Rattle.idx_page.specs.Children.{isLeaf, firstChild}
 use Rattle.idx_sound.specs.Sound.{Sound, CountGood, leafPairs}
-use Rattle.idx_sound.specs.Rule.{Entries, maxPages, chain}
+use Rattle.idx_sound.specs.AuditTest.{Entries, maxPages, chain}
 use Rattle.idx_sound.specs.LevelLaws.{next-head}
 use Rattle.idx_sound.specs.ShapeLaws.{rootEntry, levelPages, entries-filled, sound-shape}
 use Rattle.idx_sound.specs.DistinctLaws.{head-all}
 use Rattle.idx_sound.specs.KeyLaws.{level-chain}
-use Rattle.idx_match.specs.Rule.{firstLeaf, leafEntries}
+use Rattle.idx_match.specs.MatchTest.{firstLeaf, leafEntries}
 use Rattle.idx_match.specs.StepLaws.{first-here, first-lower}
 
 module _ (b : List ℕ) (k size : ℕ) (most : size ≤ maxBytes) where

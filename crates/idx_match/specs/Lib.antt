@@ -4,7 +4,7 @@
 -- Rules: the refusals before the audit, entries that match a field, the answer
 pub mod Match
 -- Steps: the test of the entries, as it is computed
-pub mod Rule
+pub mod MatchTest
 -- Rules: the answer as one number that computes
 pub mod Computed
 -- Laws: n numbers from 1 to n, none twice, are all of them

@@ -23,10 +23,10 @@ use Rattle.tree.specs.KeepingLaws.{pair-refl}
 use Rattle.tree.specs.Levels.{numbers, all-to-map}
 use Rattle.idx_page.specs.KeyOrder.{bytesOrder}
 use Rattle.idx_page.specs.KeyOrderLaws.{equal-same, equal-refl}
-use Rattle.idx_sound.specs.Rule.{Entries}
+use Rattle.idx_sound.specs.AuditTest.{Entries}
 use Rattle.idx_match.specs.declared.Column.{Column}
 use Rattle.idx_match.specs.Match.{Matches}
-use Rattle.idx_match.specs.Rule.{columnOf, columnBytes, entryGood, entriesGood, entriesMatch}
+use Rattle.idx_match.specs.MatchTest.{columnOf, columnBytes, entryGood, entriesGood, entriesMatch}
 use Rattle.idx_match.specs.CountLaws.{each-once, as-many}
 
 -- a number in the range passes the test of numbers

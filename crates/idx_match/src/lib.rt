@@ -14,10 +14,10 @@ ghost use Rattle.dbf_table.specs.TableLaws.{Shaped};
 ghost use Rattle.idx_page.specs.Header.{maxLevels, rootOffset, keyLength, headerGood};
 ghost use Rattle.idx_page.specs.Within.{Within};
 ghost use Rattle.idx_page.specs.ReadingLaws.{entriesFrom};
-ghost use Rattle.idx_sound.specs.Rule.{maxPages};
+ghost use Rattle.idx_sound.specs.AuditTest.{maxPages};
 ghost use Rattle.idx_audit.specs.State.{InFile, EntriesWithin};
 ghost use Rattle.idx_match.specs.Match.{matchRefusal, Matched};
-ghost use Rattle.idx_match.specs.Rule.{entryAt, entryGood, entriesGood, entriesMatch, firstLeaf, entriesAlong, leafEntries, ColumnInside};
+ghost use Rattle.idx_match.specs.MatchTest.{entryAt, entryGood, entriesGood, entriesMatch, firstLeaf, entriesAlong, leafEntries, ColumnInside};
 
 // One field of every record of a table: how many records there are, where the field starts in a record, and its length.
 struct Column {

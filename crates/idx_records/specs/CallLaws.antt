@@ -10,8 +10,8 @@ use Rattle.octets.specs.Store.{put}
 use Rattle.tree.specs.Pairs.{recordsOf}
 use Rattle.idx_page.specs.Header.{maxLevels, rootOffset, fileSize, keyLength, headerGood}
 use Rattle.idx_page.specs.KeyOrder.{bytesOrder}
-use Rattle.idx_sound.specs.Rule.{maxPages, pagesGood}
-use Rattle.idx_match.specs.Rule.{firstLeaf, entriesAlong, leafEntries}
+use Rattle.idx_sound.specs.AuditTest.{maxPages, pagesGood}
+use Rattle.idx_match.specs.MatchTest.{firstLeaf, entriesAlong, leafEntries}
 use Rattle.idx_records.specs.Records.{keyRecords, told, recordsRule}
 use Rattle.idx_records.specs.Gather.{Gathered, gather, stored, gathered}
 use Rattle.idx_records.specs.GatherLaws.{gathered-records, stored-none, stored-all}

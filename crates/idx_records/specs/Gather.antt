@@ -5,7 +5,7 @@ use mathlib.Core.List.{List, [], _∷_}
 use lib.ListN.{set}
 use lib.Dec.{ltb}
 use Rattle.octets.specs.Order.{ordering, isEqual}
-use Rattle.idx_sound.specs.Rule.{Entries}
+use Rattle.idx_sound.specs.AuditTest.{Entries}
 
 -- the place of the next record, and the list
 pub record Gathered : Type 0 where

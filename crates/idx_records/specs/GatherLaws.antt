@@ -19,10 +19,10 @@ use Rattle.idx_page.specs.Page.{rightAt}
 use Rattle.idx_page.specs.KeyOrder.{bytesOrder}
 use Rattle.idx_page.specs.Reading.{entriesAt}
 use Rattle.idx_page.specs.ReadingLaws.{entriesFrom, entries-are, length-entries-from}
-use Rattle.idx_sound.specs.Rule.{Entries, maxPages, chain}
+use Rattle.idx_sound.specs.AuditTest.{Entries, maxPages, chain}
 use Rattle.idx_audit.specs.EntryLaws.{from-on, from-end}
 use Rattle.idx_audit.specs.PassLaws.{chain-none, chain-some}
-use Rattle.idx_match.specs.Rule.{entryAt, entriesAlong}
+use Rattle.idx_match.specs.MatchTest.{entryAt, entriesAlong}
 use Rattle.idx_records.specs.Gather.{Gathered, gather, kept, stored, taken, gathered}
 
 -- ---- one number, one entry

@@ -9,8 +9,8 @@ use Rattle.octets.specs.Store.{put}
 use Rattle.tree.specs.Pairs.{recordsOf}
 use Rattle.idx_page.specs.Header.{keyLength, headerGood}
 use Rattle.idx_page.specs.KeyOrder.{bytesOrder}
-use Rattle.idx_sound.specs.Rule.{pagesGood}
-use Rattle.idx_match.specs.Rule.{leafEntries}
+use Rattle.idx_sound.specs.AuditTest.{pagesGood}
+use Rattle.idx_match.specs.MatchTest.{leafEntries}
 
 -- the records of a key among the entries of the leaves, left to right
 unfoldable pub keyRecords : List ℕ → List ℕ → List ℕ

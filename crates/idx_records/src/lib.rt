@@ -12,9 +12,9 @@ ghost use Rattle.idx_page.specs.Header.{keyLength, headerGood};
 ghost use Rattle.idx_page.specs.Page.{entryArea};
 ghost use Rattle.idx_page.specs.Within.{Within};
 ghost use Rattle.idx_page.specs.ReadingLaws.{entriesFrom};
-ghost use Rattle.idx_sound.specs.Rule.{maxPages};
+ghost use Rattle.idx_sound.specs.AuditTest.{maxPages};
 ghost use Rattle.idx_audit.specs.State.{InFile, EntriesWithin};
-ghost use Rattle.idx_match.specs.Rule.{entryAt, entriesAlong, leafEntries};
+ghost use Rattle.idx_match.specs.MatchTest.{entryAt, entriesAlong, leafEntries};
 ghost use Rattle.idx_records.specs.Records.{told, recordsRule};
 ghost use Rattle.idx_records.specs.Gather.{gather, kept, taken, gathered};
 

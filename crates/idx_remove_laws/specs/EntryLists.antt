@@ -16,7 +16,7 @@ use Rattle.tree.specs.Position.{Passes, position}
 use Rattle.tree.specs.Removal.{replaceBy}
 use Rattle.tree.specs.RouteLaws.{position-within}
 use Rattle.tree.specs.Store.{Store, readEntry}
-use Rattle.tree.specs.StoreInsertLaws.{pagesOf}
+use Rattle.tree.specs.StoreInsertionLaws.{pagesOf}
 use Rattle.tree.specs.StoreRemoval.{memberAt, storePosition}
 use Rattle.tree.specs.StoreRouteLaws.{position-read}
 use Rattle.tree.specs.Tree.{pagesUnder}

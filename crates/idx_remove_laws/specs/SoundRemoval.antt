@@ -14,8 +14,8 @@ use Rattle.tree.specs.Clauses.{SizedUnder, Sized, Links, headOr, Linked}
 use Rattle.tree.specs.FreeChain.{Chained}
 use Rattle.tree.specs.FreeChainLaws.{chained-head}
 use Rattle.tree.specs.IndexPages.{pages-distinct}
-use Rattle.tree.specs.InsertLevels.{levelUnder-pages}
-use Rattle.tree.specs.InsertPages.{Distinct}
+use Rattle.tree.specs.InsertionLevels.{levelUnder-pages}
+use Rattle.tree.specs.InsertionPages.{Distinct}
 use Rattle.tree.specs.Lists.{NonEmpty, occ}
 use Rattle.tree.specs.ListLaws.{nonEmpty-length, concatMap-nonEmpty, occ-append, occ-behind, occ-here, occ-all}
 use Rattle.tree.specs.RemovalLevels.{page-onLevel}
@@ -30,8 +30,8 @@ use Rattle.idx_sound.specs.IndexLaws.{indexOf, sound-sized, sound-index}
 use Rattle.idx_layout_laws.specs.EntryLaws.{entriesIn}
 use Rattle.idx_insert_laws.specs.ItemLists.{Shaped}
 use Rattle.idx_insert_laws.specs.SoundReading.{sound-tree, sound-shaped}
-use Rattle.idx_remove_laws.specs.RemoveEntries.{Filled}
-use Rattle.idx_remove_laws.specs.RemoveBuffer.{Ready}
+use Rattle.idx_remove_laws.specs.RemovalEntries.{Filled}
+use Rattle.idx_remove_laws.specs.RemovalBuffer.{Ready}
 
 -- what all pages of a list and the number that names none have, the first of the list has
 pub head-all : (P : ℕ → Type 0) (none : ℕ) (ps : List ℕ) → P none → ((z : ℕ) → 0 < occ z ps → P z) → P (headOr none ps)

@@ -21,7 +21,7 @@ use Rattle.idx_page.specs.HeaderLaws.{is-page, good-header}
 use Rattle.idx_page.specs.KeyOrder.{bytesOrder}
 use Rattle.idx_page.specs.Reading.{entriesAt}
 use Rattle.idx_sound.specs.Sound.{indexTree, Sound, Audited, keptBy}
-use Rattle.idx_sound.specs.Rule.{Entries, Level, laterPages, rootLevel, levelsUnder, checkFree, complete, shapeGood, keysAboveGood, pagesGood}
+use Rattle.idx_sound.specs.AuditTest.{Entries, Level, laterPages, rootLevel, levelsUnder, checkFree, complete, shapeGood, keysAboveGood, pagesGood}
 use Rattle.idx_sound.specs.FreeLaws.{Free, free-found, free-passed}
 use Rattle.idx_sound.specs.LevelLaws.{LevelGood, Known, GoodUnder, lowerPages, Found, level-known, level-good, levels-good, levels-found, levels-reached}
 use Rattle.idx_sound.specs.ShapeLaws.{rootEntry, GoodLevels, Shape, levels-inside, levels-counts, entries-filled, shape-pairs, shape-sound, sound-shape}

@@ -9,7 +9,7 @@ use borrow.Author.Tests.{ne-eqb, eqb-true, eqb-false, le-leb, leb-true, leb-fals
 use Rattle.basis.specs.Tests.{either, contra, both, join, or-left}
 use Rattle.tree.specs.Clauses.{least}
 use Rattle.idx_page.specs.Page.{rootBit, leafBit, capacity, countGood}
-use Rattle.idx_sound.specs.Rule.{attributeOf}
+use Rattle.idx_sound.specs.AuditTest.{attributeOf}
 
 -- the two bits of an attribute, and the attribute that they make
 pub root-bit : (root leaf : Bool) → rootBit (attributeOf root leaf) ≡ root

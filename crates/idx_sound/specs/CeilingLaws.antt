@@ -31,8 +31,8 @@ use Rattle.idx_page.specs.Header.{noPage, features}
 use Rattle.idx_page.specs.KeyOrder.{bytesOrder}
 use Rattle.idx_page.specs.KeyOrderLaws.{below, below-not-le, equal-same, equal-refl}
 use Rattle.idx_page.specs.Reading.{entriesAt}
-use Rattle.idx_sound.specs.Rule.{Entries, Keys, firstOf, lastOf, lastNumber, down, isCeiling, isLast, firstLeafKey, lastLeafKey, belowNext}
-use Rattle.idx_sound.specs.Rule.{onward, upperEntry, upperEntries}
+use Rattle.idx_sound.specs.AuditTest.{Entries, Keys, firstOf, lastOf, lastNumber, down, isCeiling, isLast, firstLeafKey, lastLeafKey, belowNext}
+use Rattle.idx_sound.specs.AuditTest.{onward, upperEntry, upperEntries}
 use Rattle.idx_sound.specs.Sound.{keptBy}
 use Rattle.idx_sound.specs.EntryLaws.{last-some}
 

@@ -15,7 +15,7 @@ use Rattle.basis.specs.Tests.{either, contra, both}
 use Rattle.tree.specs.Lists.{NonEmpty, occ}
 use Rattle.tree.specs.ListLaws.{all-map2, occ-append, occ-all}
 use Rattle.tree.specs.Clauses.{headOr}
-use Rattle.tree.specs.InsertPages.{Distinct}
+use Rattle.tree.specs.InsertionPages.{Distinct}
 use Rattle.tree.specs.FreeChainLaws.{chained-distinct, linked-distinct}
 use Rattle.tree.specs.DistinctLaws.{Filled, Heights, levels-distinct}
 use Rattle.tree.specs.PageCount.{PageOf, offset, offset-apart, offset-page, pages-at-most, later-all, later-distinct, later-count}
@@ -26,7 +26,7 @@ use Rattle.idx_page.specs.Page.{attributeAt, countAt, rightAt, capacity, countG
 use Rattle.idx_page.specs.Reading.{entriesAt}
 use Rattle.idx_page.specs.Children.{isLeaf, firstChild}
 use Rattle.idx_sound.specs.Sound.{linksOf, FreePage, FreeList}
-use Rattle.idx_sound.specs.Rule.{Entries, laterPages, heightOf}
+use Rattle.idx_sound.specs.AuditTest.{Entries, laterPages, heightOf}
 use Rattle.idx_sound.specs.AttributeLaws.{attributeAtLevel}
 use Rattle.idx_sound.specs.FreeLaws.{free-attribute, free-count}
 use Rattle.idx_sound.specs.RunLaws.{Fits}

@@ -18,7 +18,7 @@ use Rattle.idx_page.specs.Header.{features}
 use Rattle.idx_page.specs.Page.{leafBit}
 use Rattle.idx_page.specs.KeyOrder.{bytesOrder}
 use Rattle.idx_page.specs.Reading.{entriesAt}
-use Rattle.idx_sound.specs.Rule.{Entries, lastOf, lastPair, isAbove, leafEntriesGood, entriesFit}
+use Rattle.idx_sound.specs.AuditTest.{Entries, lastOf, lastPair, isAbove, leafEntriesGood, entriesFit}
 use Rattle.idx_sound.specs.RunLaws.{Checked}
 
 -- leaf entries in the order of a header's features f

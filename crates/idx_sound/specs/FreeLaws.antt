@@ -20,7 +20,7 @@ use Rattle.idx_page.specs.Header.{noPage, isPage}
 use Rattle.idx_page.specs.Page.{attributeAt, countAt, countPlace, rightAt, rightPlace, entriesStart, entryArea}
 use Rattle.idx_page.specs.ReadingLaws.{window-window}
 use Rattle.idx_sound.specs.Sound.{zeros, FreePage}
-use Rattle.idx_sound.specs.Rule.{isFreePage, freeFits, checkFree}
+use Rattle.idx_sound.specs.AuditTest.{isFreePage, freeFits, checkFree}
 
 -- byte strings that compare as equal are equal
 same-bytes : (a b : List ℕ) → isEqual (ordering a b) ≡ true → a ≡ b

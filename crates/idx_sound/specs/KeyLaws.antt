@@ -24,7 +24,7 @@ use Rattle.idx_page.specs.KeyOrder.{bytesOrder}
 use Rattle.idx_page.specs.Reading.{entriesAt}
 use Rattle.idx_page.specs.Children.{firstChild}
 use Rattle.idx_sound.specs.Sound.{keptBy}
-use Rattle.idx_sound.specs.Rule.{Entries, maxPages, chain, heightOf, upperEntries, upperPages, upperLevels, keysUnderGood, down}
+use Rattle.idx_sound.specs.AuditTest.{Entries, maxPages, chain, heightOf, upperEntries, upperPages, upperLevels, keysUnderGood, down}
 use Rattle.idx_sound.specs.CeilingLaws.{onward-good, went-on, onward-same, Full, full-some, full-children, PageCeilings, entries-ceilings}
 use Rattle.idx_sound.specs.CeilingLaws.{OwnLast, own-page, SameLast, same-last, entries-same}
 use Rattle.idx_sound.specs.LevelLaws.{chain-is, next-head}

@@ -19,7 +19,7 @@ use Rattle.idx_page.specs.HeaderLaws.{is-page}
 use Rattle.idx_page.specs.Reading.{entriesAt}
 use Rattle.idx_sound.specs.Sound.{linksOf}
 use Rattle.idx_page.specs.Children.{isLeaf, childrenOf, firstChild}
-use Rattle.idx_sound.specs.Rule.{Entries, maxPages, Level, start, chain, attributeOf, checkLevel, rowsUnder, nextLevel, levelsUnder}
+use Rattle.idx_sound.specs.AuditTest.{Entries, maxPages, Level, start, chain, attributeOf, checkLevel, rowsUnder, nextLevel, levelsUnder}
 use Rattle.idx_sound.specs.AttributeLaws.{leaf-bit}
 use Rattle.idx_sound.specs.RunLaws.{joined, Fits, Checked, Passed, check-passed, passed-check}
 

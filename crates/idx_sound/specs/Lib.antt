@@ -4,7 +4,7 @@
 -- Rules: what a sound index is, and what the audit answers
 pub mod Sound
 -- Steps: the audit's test, page by page and level by level
-pub mod Rule
+pub mod AuditTest
 -- Laws: the attributes and counts of the pages of a level, against document 01's words
 pub mod AttributeLaws
 -- Laws: the audit's pass over the pages of one level

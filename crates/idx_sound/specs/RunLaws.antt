@@ -14,7 +14,7 @@ use Rattle.tree.specs.Clauses.{headOr, Linked}
 use Rattle.idx_page.specs.Header.{noPage, isPage}
 use Rattle.idx_page.specs.Page.{attributeAt, countAt, leftAt, rightAt, countGood}
 use Rattle.idx_sound.specs.Sound.{linksOf}
-use Rattle.idx_sound.specs.Rule.{Progress, refused, counted, entriesFit, pageFits, checkPage, checkPages, checkRows}
+use Rattle.idx_sound.specs.AuditTest.{Progress, refused, counted, entriesFit, pageFits, checkPage, checkPages, checkRows}
 
 -- a test that picks a good value held
 picked : (t : Bool) (x y : Progress) → y .good ≡ false → cond t x y .good ≡ true → t ≡ true

@@ -29,7 +29,7 @@ use Rattle.idx_page.specs.HeaderLaws.{good-header}
 use Rattle.idx_page.specs.Reading.{entriesAt}
 use Rattle.idx_page.specs.ReadingLaws.{length-entries, entries-none}
 use Rattle.idx_sound.specs.Sound.{indexTree, indexPages, linksOf, CountGood, FreePage, FreeList, Sound, keptBy}
-use Rattle.idx_sound.specs.Rule.{Entries, lastPair}
+use Rattle.idx_sound.specs.AuditTest.{Entries, lastPair}
 use Rattle.idx_sound.specs.AttributeLaws.{attributeAtLevel, root-bit, leaf-bit, attribute-small, attribute-is, count-good, good-count}
 use Rattle.idx_sound.specs.RunLaws.{Fits, Checked}
 use Rattle.idx_sound.specs.EntryLaws.{Climbs, climbs-ascend, ascend-climbs, upper-checked}

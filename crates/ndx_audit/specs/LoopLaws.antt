@@ -11,7 +11,7 @@ use Rattle.ndx_page.specs.Page.{lowerAt, isLeaf}
 use Rattle.ndx_sound.specs.Reading.{Key}
 use Rattle.ndx_sound.specs.Walk.{Status, ifGood, item, passed}
 use Rattle.ndx_sound.specs.WalkLaws.{if-is, if-not}
-use Rattle.ndx_sound.specs.Rule.{zeros, heightFrom}
+use Rattle.ndx_sound.specs.AuditTest.{zeros, heightFrom}
 use Rattle.ndx_sound.specs.TreeLaws.{byTop}
 use Rattle.ndx_audit.specs.State.{statusOf, goodAt}
 use Rattle.ndx_audit.specs.Steps.{Walker, itemsFrom, childrenFrom}

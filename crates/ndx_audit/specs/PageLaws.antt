@@ -16,7 +16,7 @@ use Rattle.ndx_sound.specs.Reading.{Key, entriesAt}
 use Rattle.ndx_sound.specs.ReadingLaws.{leaf-entries, branch-entries}
 use Rattle.ndx_sound.specs.Walk.{Status, ifGood, over, items, passed, under, enter, walk}
 use Rattle.ndx_sound.specs.WalkLaws.{if-is, if-not}
-use Rattle.ndx_sound.specs.Rule.{zeros, pageFits, heightFrom, complete, treeGood}
+use Rattle.ndx_sound.specs.AuditTest.{zeros, pageFits, heightFrom, complete, treeGood}
 use Rattle.ndx_sound.specs.TreeLaws.{byTop}
 use Rattle.ndx_sound.specs.Accepted.{Fit, fit}
 use Rattle.ndx_audit.specs.State.{keyFrom, statusOf, goodAt, entering, walkFrom}

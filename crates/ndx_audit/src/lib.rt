@@ -14,7 +14,7 @@ ghost use Rattle.ndx_page.specs.Page.{countAt, lowerAt, recordAt, keyAt, isLeaf
 ghost use Rattle.ndx_page.specs.Within.{Within};
 ghost use Rattle.ndx_sound.specs.Sound.{Audited};
 ghost use Rattle.ndx_sound.specs.Walk.{isAfter, atMost, item, passed};
-ghost use Rattle.ndx_sound.specs.Rule.{zeros, pageFits, heightFrom, treeGood};
+ghost use Rattle.ndx_sound.specs.AuditTest.{zeros, pageFits, heightFrom, treeGood};
 ghost use Rattle.ndx_sound.specs.TreeLaws.{byTop};
 ghost use Rattle.ndx_audit.specs.State.{KeyWithin, keyFrom, statusOf, goodAt, entering, walkFrom};
 ghost use Rattle.ndx_audit.specs.Steps.{itemsFrom};

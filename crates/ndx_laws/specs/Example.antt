@@ -17,7 +17,7 @@ use Rattle.ndx_sound.specs.Reading.{entriesFrom, entriesAt}
 use Rattle.ndx_page.specs.Lookup.{leafSays, entrySays, pageSays, visitRule, lookupFrom, lookupRule}
 use Rattle.ndx_sound.specs.Sound.{Sound}
 use Rattle.ndx_sound.specs.Walk.{ifGood, over, items, walk}
-use Rattle.ndx_sound.specs.Rule.{zeros, pageFits, heightFrom, treeGood}
+use Rattle.ndx_sound.specs.AuditTest.{zeros, pageFits, heightFrom, treeGood}
 use Rattle.ndx_sound.specs.Accepted.{accepted}
 
 padded : List ℕ → List ℕ

@@ -14,7 +14,7 @@ use Rattle.basis.specs.Lists.{All, all-map}
 use Rattle.basis.specs.Tests.{either, both, join, contra}
 use Rattle.tree.specs.Lists.{NonEmpty, occ, concatMap}
 use Rattle.tree.specs.ListLaws.{all-unit, all-map2, nonEmpty-length, occ-all}
-use Rattle.tree.specs.InsertPages.{Distinct}
+use Rattle.tree.specs.InsertionPages.{Distinct}
 use Rattle.tree.specs.Tree.{Entry, pairs, pairsUnder, pagesUnder, pages, level}
 use Rattle.tree.specs.Clauses.{least}
 use Rattle.tree.specs.ClauseLaws.{ordered-ceilings}
@@ -34,7 +34,7 @@ use Rattle.ndx_sound.specs.ReadingLaws.{branch-entries}
 use Rattle.ndx_sound.specs.Sound.{indexPages, CountGood, NoLower, Sound, Audited}
 use Rattle.ndx_sound.specs.TreeLaws.{byTop, keptByTop, Fine, LeafPage, page-length, bare-ascending, fine, ordered}
 use Rattle.ndx_sound.specs.Walk.{Status, walk}
-use Rattle.ndx_sound.specs.Rule.{zeros, pageFits, heightFrom, indexHeight, start, complete, treeGood}
+use Rattle.ndx_sound.specs.AuditTest.{zeros, pageFits, heightFrom, indexHeight, start, complete, treeGood}
 use Rattle.ndx_sound.specs.CountLaws.{countAll, count-length, room-length}
 use Rattle.ndx_sound.specs.WalkLaws.{Walks, Good, Accept, good-ordered, separated-read, page-walks}
 use Rattle.ndx_sound.specs.AcceptLaws.{accept-fitting, fitting-accept, fitting-levels, fitting-pairs, levels-fitting}

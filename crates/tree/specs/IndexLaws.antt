@@ -21,15 +21,15 @@ use Rattle.tree.specs.LookupLaws.{lookupBy-find, visitedBy-found}
 use Rattle.tree.specs.Insertion.{Grown}
 use Rattle.tree.specs.Room.{needs, levelsAfter}
 use Rattle.tree.specs.Ordered.{Rooted}
-use Rattle.tree.specs.InsertPairs.{insert-pairs}
-use Rattle.tree.specs.InsertOrdered.{insert-ordered}
+use Rattle.tree.specs.InsertionPairs.{insert-pairs}
+use Rattle.tree.specs.InsertionOrdered.{insert-ordered}
 use Rattle.tree.specs.ClauseLaws.{sized-rooted}
-use Rattle.tree.specs.InsertSized.{insert-sized}
+use Rattle.tree.specs.InsertionSized.{insert-sized}
 use Rattle.tree.specs.Supply.{takenPage, sizeAfter}
 use Rattle.tree.specs.SupplyLaws.{taken-injective, taken-some}
-use Rattle.tree.specs.InsertPages.{insert-pages}
-use Rattle.tree.specs.InsertNeeds.{insert-needs}
-use Rattle.tree.specs.InsertLinks.{insert-all-linked}
+use Rattle.tree.specs.InsertionPages.{insert-pages}
+use Rattle.tree.specs.InsertionNeeds.{insert-needs}
+use Rattle.tree.specs.InsertionLinks.{insert-all-linked}
 use Rattle.tree.specs.RemovalPairs.{remove-all, remove-pairs}
 use Rattle.tree.specs.RemovalOrdered.{remove-ordered}
 use Rattle.tree.specs.RemovalSized.{remove-sized, remove-low}

@@ -11,7 +11,7 @@ use Rattle.tree.specs.Constants.{pageSize, noPage}
 use Rattle.tree.specs.Lists.{occ}
 use Rattle.tree.specs.Tree.{pages}
 use Rattle.tree.specs.Insertion.{Grown, grownPages}
-use Rattle.tree.specs.InsertPages.{newPages, Distinct, Unused}
+use Rattle.tree.specs.InsertionPages.{newPages, Distinct, Unused}
 use Rattle.tree.specs.Removal.{emptied}
 use Rattle.tree.specs.RemovalPages.{remove-pages}
 use Rattle.tree.specs.FreeList.{lacking}

@@ -48,21 +48,21 @@ pub mod RouteLaws
 -- Laws: a page that is split if it is over capacity
 pub mod SplitLaws
 -- Laws: the leaf pairs after an insertion
-pub mod InsertPairs
+pub mod InsertionPairs
 -- Laws: the leaf that a route leads to tells whether a pair is present
 pub mod LeafLaws
 -- Laws: for features 0 that is the leaf with the greatest pair below it, or the first leaf
 pub mod NearestLaws
 -- Laws: an insertion keeps the order
-pub mod InsertOrdered
+pub mod InsertionOrdered
 -- Laws: the clauses of a sound index for the order, and the theory's order, say the same
 pub mod ClauseLaws
 -- Laws: an insertion keeps counts within capacity
-pub mod InsertSized
+pub mod InsertionSized
 -- Laws: the pages after an insertion are the old ones and the new ones
-pub mod InsertPages
+pub mod InsertionPages
 -- Laws: an insertion takes as many new pages and levels as the rule for refusal 30 says
-pub mod InsertNeeds
+pub mod InsertionNeeds
 -- Steps: new pages from the free list, then at the file's end; how emptied pages join the free list
 pub mod FreeList
 -- Laws: the pages taken and the pages left free
@@ -94,7 +94,7 @@ pub mod StoreFirstLaws
 -- Laws: the leaf pairs are the entries of the leaves, left to right
 pub mod StoreLeaves
 -- Laws: insertion into a store is insertion into its tree
-pub mod StoreInsertLaws
+pub mod StoreInsertionLaws
 -- Steps: removal on a store, page by page
 pub mod StoreRemoval
 -- Laws: removal from a store is removal from its tree
@@ -106,11 +106,11 @@ pub mod StoreRouteLaws
 -- Steps: links after an insertion
 pub mod Relinking
 -- Laws: the pages of each level after an insertion
-pub mod InsertLevels
+pub mod InsertionLevels
 -- Laws: a level is linked again after a new page
 pub mod LinkLaws
 -- Laws: all levels are linked again after an insertion
-pub mod InsertLinks
+pub mod InsertionLinks
 -- Steps: links after a removal
 pub mod Unlinking
 -- Laws: levels are linked again after pages are unlinked

@@ -10,8 +10,8 @@ use Rattle.basis.specs.Tests.{either}
 use Rattle.tree.specs.Lists.{concatMap, occ}
 use Rattle.tree.specs.ListLaws.{concatMap-append, concatMap-none, occ-append, occ-head, occ-behind, occ-differ, occ-concatMap}
 use Rattle.tree.specs.Tree.{Entry, Tree, pagesUnder, pages, levelUnder, level}
-use Rattle.tree.specs.InsertPages.{Distinct}
-use Rattle.tree.specs.InsertLevels.{levelUnder-pages}
+use Rattle.tree.specs.InsertionPages.{Distinct}
+use Rattle.tree.specs.InsertionLevels.{levelUnder-pages}
 use Rattle.tree.specs.Position.{position}
 use Rattle.tree.specs.Keeping.{Route}
 use Rattle.tree.specs.Removal.{replaceBy, numbersAt, unlessEmptied, ifEmptied, settle}

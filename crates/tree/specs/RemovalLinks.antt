@@ -5,8 +5,8 @@ use native.Mathlib.Omega.{arith}
 use Rattle.tree.specs.Lists.{occ}
 use Rattle.tree.specs.Tree.{Tree, pages, level, levelUnder}
 use Rattle.tree.specs.Clauses.{Links, AllLinked}
-use Rattle.tree.specs.InsertPages.{Distinct}
-use Rattle.tree.specs.InsertLevels.{levelUnder-pages, levelUnder-disjoint}
+use Rattle.tree.specs.InsertionPages.{Distinct}
+use Rattle.tree.specs.InsertionLevels.{levelUnder-pages, levelUnder-disjoint}
 use Rattle.tree.specs.Keeping.{Route}
 use Rattle.tree.specs.Removal.{remove, emptied}
 use Rattle.tree.specs.RemovalPages.{remove-pages}

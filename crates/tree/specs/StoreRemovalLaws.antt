@@ -11,7 +11,7 @@ use Rattle.basis.specs.Tests.{either}
 use Rattle.tree.specs.Lists.{occ}
 use Rattle.tree.specs.ListLaws.{occ-append, occ-head, occ-differ, occ-not-head}
 use Rattle.tree.specs.Tree.{Child, Entry, Tree, pagesUnder, pages}
-use Rattle.tree.specs.InsertPages.{Distinct}
+use Rattle.tree.specs.InsertionPages.{Distinct}
 use Rattle.tree.specs.Order.{Order}
 use Rattle.tree.specs.Position.{position, passesLower}
 use Rattle.tree.specs.Keeping.{Route, distinctKeys}
@@ -22,7 +22,7 @@ use Rattle.tree.specs.RemovalPages.{removeEntries-pages}
 use Rattle.tree.specs.Store.{Store, readEntry, readTree}
 use Rattle.tree.specs.StoreSteps.{write}
 use Rattle.tree.specs.StoreLaws.{frame, frame-entries, write-here, write-other}
-use Rattle.tree.specs.StoreInsertLaws.{pagesOf, page-read}
+use Rattle.tree.specs.StoreInsertionLaws.{pagesOf, page-read}
 use Rattle.tree.specs.StoreRemoval.{StoreRemoved, memberAt, entryUnlessEmptied, storeKeep, heightLeft, readShrunk}
 use Rattle.tree.specs.StoreRemoval.{storeReplaceAt, storePosition, storeRemoveAmong, storeRemoveUnder, storeRemove}
 

@@ -8,7 +8,7 @@ use native.Mathlib.Nat.{sub-zero}
 use native.Mathlib.Omega.{arith}
 use borrow.Author.Needs.{needs}
 use Rattle.basis.specs.Tests.{passed, failed}
-use Rattle.idx_sound.specs.Rule as rule
+use Rattle.idx_sound.specs.AuditTest as rule
 use Rattle.idx_audit.specs.State.{progressOf}
 use Rattle.idx_audit.specs.EntryLaws.{entries-within}
 use Rattle.idx_audit.specs.StepLaws.{fits-within, page-met, page-refused}

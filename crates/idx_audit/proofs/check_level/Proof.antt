@@ -10,7 +10,7 @@ use borrow.Author.Tests.{not-true, not-false}
 use Rattle.basis.specs.Tests.{passed, failed}
 use Rattle.idx_page.specs.Header.{isPage}
 use Rattle.idx_page.specs.HeaderLaws.{is-page}
-use Rattle.idx_sound.specs.Rule.{maxPages}
+use Rattle.idx_sound.specs.AuditTest.{maxPages}
 use Rattle.idx_audit.specs.State.{progressOf}
 use Rattle.idx_audit.specs.PassLaws.{PagesLeft, pages-off, pages-end, pages-on, pages-bad, pages-over}
 use Rattle.idx_audit.proofs.check_level.Statement.{statement}

@@ -4,7 +4,7 @@ use Prim.Native.Nat.{_≤_}
 use mathlib.Core.Path.{_≡_, refl}
 use borrow.Author.Needs.{needs}
 use Rattle.idx_page.specs.Children.{firstChild}
-use Rattle.idx_sound.specs.Rule.{down}
+use Rattle.idx_sound.specs.AuditTest.{down}
 use Rattle.idx_audit.specs.CeilingLaws.{down-end, down-on}
 use Rattle.idx_audit.proofs.first_under.Statement.{statement}
 use Rattle.idx_audit.proofs.first_under.Tie as tie

@@ -1,7 +1,7 @@
 -- `idx_audit::is_free_page` meets its contract: test for test, it is the rule.
 -- Assumes nothing.
 use borrow.Author.Needs.{needs}
-use Rattle.idx_sound.specs.Rule.{isFreePage}
+use Rattle.idx_sound.specs.AuditTest.{isFreePage}
 use Rattle.idx_audit.proofs.is_free_page.Statement.{statement}
 use Rattle.idx_audit.proofs.is_free_page.Tie as tie
 

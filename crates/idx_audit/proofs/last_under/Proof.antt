@@ -3,7 +3,7 @@
 use Prim.Native.Nat.{_≤_}
 use mathlib.Core.Path.{_≡_, refl}
 use borrow.Author.Needs.{needs}
-use Rattle.idx_sound.specs.Rule.{down, lastChild}
+use Rattle.idx_sound.specs.AuditTest.{down, lastChild}
 use Rattle.idx_audit.specs.CeilingLaws.{down-end, down-on}
 use Rattle.idx_audit.proofs.last_under.Statement.{statement}
 use Rattle.idx_audit.proofs.last_under.Tie as tie

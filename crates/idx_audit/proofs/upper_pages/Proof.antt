@@ -10,7 +10,7 @@ use borrow.Author.Tests.{not-true, not-false}
 use Rattle.basis.specs.Tests.{passed, failed}
 use Rattle.idx_page.specs.Header.{isPage}
 use Rattle.idx_page.specs.HeaderLaws.{is-page}
-use Rattle.idx_sound.specs.Rule.{maxPages}
+use Rattle.idx_sound.specs.AuditTest.{maxPages}
 use Rattle.idx_audit.specs.KeyLaws.{UpperPagesLeft, upper-pages-none, upper-pages-end, upper-pages-off, upper-pages-on}
 use Rattle.idx_audit.proofs.upper_pages.Statement.{statement}
 use Rattle.idx_audit.proofs.upper_pages.Tie as tie

@@ -7,7 +7,7 @@ use lib.ListN.{length}
 use Rattle.basis.specs.Tests.{passed, failed}
 use Rattle.idx_page.specs.Header.{maxLevels, keyLength, headerGood}
 use Rattle.idx_page.specs.HeaderLaws.{good-header}
-use Rattle.idx_sound.specs.Rule.{pagesGood}
+use Rattle.idx_sound.specs.AuditTest.{pagesGood}
 use Rattle.idx_sound.specs.Accepted.{audit-sound, audit-unsound}
 use Rattle.idx_insert.specs.declared.Path.{Path}
 use Rattle.idx_insert.specs.Room.{pathTo, noRoom}

@@ -4,7 +4,7 @@ use mathlib.Core.Path.{_≡_, sym, ap, _∙_}
 use native.Mathlib.Omega.{arith}
 use Rattle.idx_match.specs.declared.Column.{Column}
 use Rattle.idx_match.specs.Match.{matchRefusal}
-use Rattle.idx_match.specs.Rule.{columnOf, entriesMatch, leafEntries}
+use Rattle.idx_match.specs.MatchTest.{columnOf, entriesMatch, leafEntries}
 use Rattle.idx_match.specs.CallLaws.{Ready, ready, column-is, column-ready, answer-refused, answer-unsound, answer-matched, answer-other}
 use borrow.Author.Needs.{needs}
 use Rattle.idx_match.proofs.match_checked.Statement.{statement}

@@ -8,7 +8,7 @@ use lib.ListN.{length}
 use Rattle.basis.specs.Tests.{passed, failed}
 use Rattle.idx_page.specs.Header.{keyLength, headerGood}
 use Rattle.idx_page.specs.HeaderLaws.{good-header}
-use Rattle.idx_sound.specs.Rule.{pagesGood}
+use Rattle.idx_sound.specs.AuditTest.{pagesGood}
 use Rattle.idx_sound.specs.Accepted.{audit-sound, audit-unsound}
 use Rattle.idx_records.specs.CallLaws.{refused-24, refused-27, refused-25, refused-39, accepted-all}
 use borrow.Author.Needs.{needs}

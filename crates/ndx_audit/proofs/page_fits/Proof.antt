@@ -9,7 +9,7 @@ use Rattle.ndx_page.specs.Header.{pageCount, isPage}
 use Rattle.ndx_page.specs.HeaderLaws.{good-header}
 use Rattle.ndx_page.specs.PageLaws.{within-page}
 use Rattle.ndx_page.specs.Within.{Within}
-use Rattle.ndx_sound.specs.Rule.{pageFits}
+use Rattle.ndx_sound.specs.AuditTest.{pageFits}
 use Rattle.ndx_audit.specs.PageLaws.{Tested, fits-off, count-full, fits-branch, fits-leaf}
 use borrow.Author.Needs.{needs}
 use Rattle.ndx_audit.proofs.page_fits.Statement.{statement}

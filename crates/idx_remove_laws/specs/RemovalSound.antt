@@ -22,7 +22,7 @@ use Rattle.tree.specs.FreeListLaws.{joinFree-pages}
 use Rattle.tree.specs.Index.{Index, held, Setting, strikingRoute, removed}
 use Rattle.tree.specs.IndexLaws.{removed-sound, removed-pairs}
 use Rattle.tree.specs.IndexPages.{noPage-unused}
-use Rattle.tree.specs.InsertLevels.{levelUnder-pages}
+use Rattle.tree.specs.InsertionLevels.{levelUnder-pages}
 use Rattle.tree.specs.Keeping.{Route}
 use Rattle.tree.specs.Lists.{NonEmpty, countIf, occ}
 use Rattle.tree.specs.ListLaws.{occ-all}
@@ -48,14 +48,14 @@ use Rattle.idx_remove.specs.Removal.{removedBuffer}
 use Rattle.idx_layout_laws.specs.EntryLaws.{entriesIn, page-of}
 use Rattle.idx_layout_laws.specs.FreeLaws.{SameButFree, freePage}
 use Rattle.idx_layout_laws.specs.HeadLaws.{Head}
-use Rattle.idx_insert_laws.specs.InsertHeads.{Plain}
+use Rattle.idx_insert_laws.specs.InsertionHeads.{Plain}
 use Rattle.idx_insert_laws.specs.FreePages.{none-good, page-good}
 use Rattle.idx_insert_laws.specs.SoundReading.{page-longer, read-shorter, sound-tree}
 use Rattle.idx_remove_laws.specs.EntryLists.{routeOf}
 use Rattle.idx_remove_laws.specs.LevelLaws.{level-kept}
-use Rattle.idx_remove_laws.specs.RemoveEntries.{emptiedFrom, storeAfter}
-use Rattle.idx_remove_laws.specs.RemoveBuffer.{Ready, Outside, tree-after, entries-after, length-after, header-after, heads-after, root-after}
-use Rattle.idx_remove_laws.specs.RemoveBuffer.{lone-tree, stays, links-after, outside-after, forms-after, chain-after}
+use Rattle.idx_remove_laws.specs.RemovalEntries.{emptiedFrom, storeAfter}
+use Rattle.idx_remove_laws.specs.RemovalBuffer.{Ready, Outside, tree-after, entries-after, length-after, header-after, heads-after, root-after}
+use Rattle.idx_remove_laws.specs.RemovalBuffer.{lone-tree, stays, links-after, outside-after, forms-after, chain-after}
 use Rattle.idx_remove_laws.specs.SoundRemoval.{head-all, sound-plain, sound-ready}
 
 -- the bytes of a free page at their places

@@ -17,11 +17,11 @@ use Rattle.tree.specs.Clauses.{least, headOr, Linked, AllLinked}
 use Rattle.tree.specs.Index.{Index, held, Setting, outOfRoom, inserted}
 use Rattle.tree.specs.IndexLaws.{inserted-sound, inserted-linked}
 use Rattle.tree.specs.IndexPages.{pages-distinct, taken-unused}
-use Rattle.tree.specs.InsertLevels.{InsertedAfter, insert-level, levelUnder-pages, levelUnder-disjoint}
-use Rattle.tree.specs.InsertNeeds.{insert-needs, root-splits}
-use Rattle.tree.specs.InsertPairs.{insert-pairs}
+use Rattle.tree.specs.InsertionLevels.{InsertedAfter, insert-level, levelUnder-pages, levelUnder-disjoint}
+use Rattle.tree.specs.InsertionNeeds.{insert-needs, root-splits}
+use Rattle.tree.specs.InsertionPairs.{insert-pairs}
 use Rattle.tree.specs.ClauseLaws.{sized-rooted}
-use Rattle.tree.specs.InsertPages.{Injective, newPages, insert-pages}
+use Rattle.tree.specs.InsertionPages.{Injective, newPages, insert-pages}
 use Rattle.tree.specs.Insertion.{Grown}
 use Rattle.tree.specs.LinkLaws.{linked-same, headOr-differ, linked-right}
 use Rattle.tree.specs.ListLaws.{occ-append, occ-here, occ-all}
@@ -50,10 +50,10 @@ use Rattle.idx_layout_laws.specs.OtherPages.{SameButLeft, right-kept}
 use Rattle.idx_layout_laws.specs.SupplyLaws.{SameRest}
 use Rattle.idx_insert_laws.specs.TakenPages.{taken-all, left-all, left-head, left-chained}
 use Rattle.idx_insert_laws.specs.Naming.{Naming, namingOf, FreeGiven, supplied, usable}
-use Rattle.idx_insert_laws.specs.InsertHeads.{Plain, unrooted}
-use Rattle.idx_insert_laws.specs.InsertBuffer.{treeIn, grownBy, Ready, tree-after, root-after, supply-after, length-after, header-after}
-use Rattle.idx_insert_laws.specs.InsertBuffer.{untaken-after}
-use Rattle.idx_insert_laws.specs.InsertBuffer.{HeadsIn, Rising, stays, rises, heads-in, linksAfter}
+use Rattle.idx_insert_laws.specs.InsertionHeads.{Plain, unrooted}
+use Rattle.idx_insert_laws.specs.InsertionBuffer.{treeIn, grownBy, Ready, tree-after, root-after, supply-after, length-after, header-after}
+use Rattle.idx_insert_laws.specs.InsertionBuffer.{untaken-after}
+use Rattle.idx_insert_laws.specs.InsertionBuffer.{HeadsIn, Rising, stays, rises, heads-in, linksAfter}
 use Rattle.idx_insert_laws.specs.AttributeLaws.{leaf-old, leaf-new, root-none, root-new, root-split, unrooted-same, small-old, small-new}
 use Rattle.idx_insert_laws.specs.SoundReading.{page-longer, read-shorter, sound-free, sound-tree, sound-shaped}
 use Rattle.idx_insert_laws.specs.FreePages.{relinked-left, free-kept, none-good, page-good}

@@ -15,8 +15,8 @@ use Rattle.tree.specs.Tree.{Child, Entry, Tree, pagesUnder, pages}
 use Rattle.tree.specs.Keeping.{Route, Keeping}
 use Rattle.tree.specs.Insertion.{Replacement, splitIfOver, firstPair, reroot, insertUnder, insertEntries, insertAtRoot, insert}
 use Rattle.tree.specs.RouteLaws.{before, after, chosen-among, position-map, choose-map}
-use Rattle.tree.specs.InsertPages.{newPages, Distinct, Unused, Injective, newPages-apart, newPages-fresh, splitIfOver-pages}
-use Rattle.tree.specs.InsertPages.{insertEntries-pages}
+use Rattle.tree.specs.InsertionPages.{newPages, Distinct, Unused, Injective, newPages-apart, newPages-fresh, splitIfOver-pages}
+use Rattle.tree.specs.InsertionPages.{insertEntries-pages}
 use Rattle.tree.specs.Store.{Store, readChild, readEntry, readTree}
 use Rattle.tree.specs.StoreSteps.{write, StoreReplacement, storeSplitIfOver, storeFirst, storePlace, storeInsertAmong}
 use Rattle.tree.specs.StoreSteps.{storeInsertUnder, storeInsertAtRoot, storeReroot, storeInsert, readGrown}

@@ -43,10 +43,10 @@ use Rattle.idx_layout_laws.specs.HeadLaws.{Head, SameHead, SameHeader, with-hea
 use Rattle.idx_insert_laws.specs.ItemLists.{passes, Shaped}
 use Rattle.idx_layout_laws.specs.OtherPages.{unchanged}
 use Rattle.idx_insert_laws.specs.Naming.{Naming, Usable, Untaken, nextOf, Supplied}
-use Rattle.idx_insert_laws.specs.InsertEntries.{OutcomeIs, Offered}
-use Rattle.idx_insert_laws.specs.InsertEntries.{under, replacement, Inserts, Free, own-page, inserts, items-longer, among-leaf}
-use Rattle.idx_insert_laws.specs.InsertEntries.{kept-case, split-case, number, child, childPage, child-among, child-free, child-page-shaped}
-use Rattle.idx_insert_laws.specs.InsertEntries.{child-rest, page-is, child-numbered, child-within}
+use Rattle.idx_insert_laws.specs.InsertionEntries.{OutcomeIs, Offered}
+use Rattle.idx_insert_laws.specs.InsertionEntries.{under, replacement, Inserts, Free, own-page, inserts, items-longer, among-leaf}
+use Rattle.idx_insert_laws.specs.InsertionEntries.{kept-case, split-case, number, child, childPage, child-among, child-free, child-page-shaped}
+use Rattle.idx_insert_laws.specs.InsertionEntries.{child-rest, page-is, child-numbered, child-within}
 
 -- attributes and right links that are numbers of two and four bytes
 abbrev pub Plain : List ℕ → Type 0

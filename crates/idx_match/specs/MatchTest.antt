@@ -15,7 +15,7 @@ use Rattle.idx_page.specs.Header.{maxLevels, rootOffset, fileSize, keyLength}
 use Rattle.idx_page.specs.Page.{keyAt, numberAt}
 use Rattle.idx_page.specs.Reading.{entriesAt}
 use Rattle.idx_page.specs.Children.{isLeaf, firstChild}
-use Rattle.idx_sound.specs.Rule.{Entries, maxPages, chain}
+use Rattle.idx_sound.specs.AuditTest.{Entries, maxPages, chain}
 use Rattle.idx_match.specs.declared.Column.{Column}
 
 -- ---- entries

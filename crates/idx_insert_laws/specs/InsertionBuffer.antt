@@ -15,14 +15,14 @@ use Rattle.octets.specs.Store.{put}
 use Rattle.octets.specs.StoreLaws.{length-put, window-after}
 use Rattle.octets.specs.NumberLaws.{length-toLe32, length-toBe32, le32-put, le32-same}
 use Rattle.tree.specs.Clauses.{Sized, Links}
-use Rattle.tree.specs.InsertNeeds.{insert-needs, root-splits}
+use Rattle.tree.specs.InsertionNeeds.{insert-needs, root-splits}
 use Rattle.tree.specs.Insertion.{Grown, insert}
 use Rattle.tree.specs.Lists.{occ}
 use Rattle.tree.specs.Pairs.{lastKey}
 use Rattle.tree.specs.Relinking.{pathPage, relink, clearLinks, relinked}
 use Rattle.tree.specs.Room.{run, needs, levelsAfter}
 use Rattle.tree.specs.Store.{Store, readTree}
-use Rattle.tree.specs.StoreInsertLaws.{insert-read}
+use Rattle.tree.specs.StoreInsertionLaws.{insert-read}
 use Rattle.tree.specs.StoreRouteLaws.{route-read}
 use Rattle.tree.specs.StoreSteps.{StoreReplacement, StoreGrown, storeReroot, storeInsert, readGrown}
 use Rattle.tree.specs.Tree.{Tree, pages}
@@ -48,9 +48,9 @@ use Rattle.idx_layout_laws.specs.OtherPages.{SameButLeft, both-kept, header-oth
 use Rattle.idx_layout_laws.specs.SupplyLaws.{Storable, SameRest, supply-stored}
 use Rattle.idx_insert_laws.specs.Naming.{Naming, Usable, Untaken, nextOf}
 use Rattle.idx_insert_laws.specs.ItemLists.{passes, Shaped, shaped-page}
-use Rattle.idx_insert_laws.specs.InsertEntries.{OutcomeIs, StepIs, Offered, replacement, Free, own-page, inserts, topKey, RootIs}
-use Rattle.idx_insert_laws.specs.InsertEntries.{rootAfter, root-inserts}
-use Rattle.idx_insert_laws.specs.InsertHeads.{Plain, unrooted, one-of, HeadsAfter, insert-heads}
+use Rattle.idx_insert_laws.specs.InsertionEntries.{OutcomeIs, StepIs, Offered, replacement, Free, own-page, inserts, topKey, RootIs}
+use Rattle.idx_insert_laws.specs.InsertionEntries.{rootAfter, root-inserts}
+use Rattle.idx_insert_laws.specs.InsertionHeads.{Plain, unrooted, one-of, HeadsAfter, insert-heads}
 
 -- the tree that is read up to the buffer's length, as insertion's rule reads it
 abbrev pub treeIn : ℕ → List ℕ → (h : ℕ) → Tree (List ℕ) h

@@ -11,7 +11,7 @@ use borrow.Author.Tests.{lt-ltb, eqb-true, eqb-false, eq-eqb, ne-eqb}
 use Rattle.basis.specs.Lists.{All}
 use Rattle.basis.specs.Tests.{either}
 use Rattle.octets.specs.Store.{window}
-use Rattle.tree.specs.InsertPages.{Distinct}
+use Rattle.tree.specs.InsertionPages.{Distinct}
 use Rattle.tree.specs.Lists.{occ}
 use Rattle.tree.specs.ListLaws.{occ-append, occ-differ, occ-here, occ-not-head}
 use Rattle.tree.specs.FreeChain.{Chained}
@@ -19,7 +19,7 @@ use Rattle.tree.specs.FreeChainLaws.{chained-join}
 use Rattle.tree.specs.FreeList.{joinFree}
 use Rattle.tree.specs.Removal.{ifEmptied}
 use Rattle.tree.specs.Store.{readTree}
-use Rattle.tree.specs.StoreInsertLaws.{pagesOf}
+use Rattle.tree.specs.StoreInsertionLaws.{pagesOf}
 use Rattle.tree.specs.Tree.{pages as treePages}
 use Rattle.idx_page.specs.Header.{pageSize, noPage, freePointer, isPage}
 use Rattle.tree.specs.Unlinking.{unlinkAll}
@@ -39,10 +39,10 @@ use Rattle.idx_layout_laws.specs.FreeLaws.{freePage, same-free, length-unlinked
 use Rattle.idx_layout_laws.specs.FreeLaws.{freed-head, freed-free, freed-bytes, freed-own, with-bytes}
 use Rattle.tree.specs.AwayLaws.{Away, Clear, Apart, away-first, away-last, clear-first, clear-last}
 use Rattle.idx_remove_laws.specs.EntryLists.{leaf-is, leaf-inside, entry-all, entry-pages}
-use Rattle.idx_remove_laws.specs.RemoveEntries.{OutcomeIs, emptiedFrom, storeAfter, leaf-emptied, upper-emptied, Filled, filled-page}
-use Rattle.idx_remove_laws.specs.RemoveEntries.{place, place-inside, through, filled-route}
-use Rattle.idx_remove_laws.specs.RemoveEntries.{below, Removes, some, inside, child-is, child-distinct, child-apart, still-inside, removes}
-use Rattle.idx_remove_laws.specs.RemoveHeads.{Plain, Heads, emptied-inside, emptied-apart, Inside, remove-heads}
+use Rattle.idx_remove_laws.specs.RemovalEntries.{OutcomeIs, emptiedFrom, storeAfter, leaf-emptied, upper-emptied, Filled, filled-page}
+use Rattle.idx_remove_laws.specs.RemovalEntries.{place, place-inside, through, filled-route}
+use Rattle.idx_remove_laws.specs.RemovalEntries.{below, Removes, some, inside, child-is, child-distinct, child-apart, still-inside, removes}
+use Rattle.idx_remove_laws.specs.RemovalHeads.{Plain, Heads, emptied-inside, emptied-apart, Inside, remove-heads}
 
 -- the pages ps join a list one after another, "each at the head": each names the head before it, and the last is the head at the end
 abbrev pub Joined : (ℕ → ℕ) → ℕ → List ℕ → ℕ → Type 0

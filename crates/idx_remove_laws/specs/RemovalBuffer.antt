@@ -15,8 +15,8 @@ use Rattle.tree.specs.Clauses.{AllLinked}
 use Rattle.tree.specs.FreeChain.{Chained}
 use Rattle.tree.specs.FreeChainLaws.{chained-same}
 use Rattle.tree.specs.FreeList.{joinFree}
-use Rattle.tree.specs.InsertLevels.{levelUnder-pages}
-use Rattle.tree.specs.InsertPages.{Distinct}
+use Rattle.tree.specs.InsertionLevels.{levelUnder-pages}
+use Rattle.tree.specs.InsertionPages.{Distinct}
 use Rattle.tree.specs.LinkLaws.{linked-same}
 use Rattle.tree.specs.Lists.{NonEmpty, occ}
 use Rattle.tree.specs.ListLaws.{occ-here}
@@ -25,7 +25,7 @@ use Rattle.tree.specs.Removal.{Shrunk, shrunkPages, remove, emptied}
 use Rattle.tree.specs.RemovalLinks.{remove-all-linked, remove-away, remove-clear}
 use Rattle.tree.specs.RemovalPages.{remove-pages}
 use Rattle.tree.specs.Store.{Store, readTree}
-use Rattle.tree.specs.StoreInsertLaws.{pagesOf}
+use Rattle.tree.specs.StoreInsertionLaws.{pagesOf}
 use Rattle.tree.specs.StoreLaws.{write-here}
 use Rattle.tree.specs.StoreRemoval.{StoreRemoved, heightLeft, storeRemoveAmong, storeRemoveUnder, storeRemove}
 use Rattle.tree.specs.StoreRemovalLaws.{remove-read, emptied-read}
@@ -42,9 +42,9 @@ use Rattle.idx_layout_laws.specs.EntryLaws.{entriesIn, page-of, length-new}
 use Rattle.idx_layout_laws.specs.HeadLaws.{Head, SameHeader, new-head, new-header}
 use Rattle.idx_layout_laws.specs.FreeLaws.{SameButFree, freePage, same-header, same-free, new-bytes}
 use Rattle.idx_remove_laws.specs.EntryLists.{routeOf}
-use Rattle.idx_remove_laws.specs.RemoveEntries.{OutcomeIs, StepIs, emptiedFrom, storeAfter, Filled, filled-page, filled-pages, removes, root-is}
-use Rattle.idx_remove_laws.specs.RemoveHeads.{Plain, Heads, emptied-apart, remove-heads}
-use Rattle.idx_remove_laws.specs.RemoveFree.{joined-chained, Freed, freed-but, remove-free}
+use Rattle.idx_remove_laws.specs.RemovalEntries.{OutcomeIs, StepIs, emptiedFrom, storeAfter, Filled, filled-page, filled-pages, removes, root-is}
+use Rattle.idx_remove_laws.specs.RemovalHeads.{Plain, Heads, emptied-apart, remove-heads}
+use Rattle.idx_remove_laws.specs.RemovalFree.{joined-chained, Freed, freed-but, remove-free}
 
 -- an index with h levels under its root before a removal: every page of it has entries, and none is reached twice
 pub record Ready (k : ℕ) (b : List ℕ) (h : ℕ) : Type 0 where

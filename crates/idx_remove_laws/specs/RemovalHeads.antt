@@ -10,13 +10,13 @@ use lib.Dec.{eqb}
 use borrow.Author.Tests.{lt-ltb, ne-eqb}
 use Rattle.basis.specs.Lists.{All}
 use Rattle.tree.specs.Clauses.{Links}
-use Rattle.tree.specs.InsertPages.{Distinct}
+use Rattle.tree.specs.InsertionPages.{Distinct}
 use Rattle.tree.specs.Lists.{occ, concatMap}
 use Rattle.tree.specs.ListLaws.{occ-append, occ-head, occ-here}
 use Rattle.tree.specs.Removal.{ifEmptied, settle, shrunkPages, removeEntries}
 use Rattle.tree.specs.RemovalPages.{remove-pages}
 use Rattle.tree.specs.Store.{readTree}
-use Rattle.tree.specs.StoreInsertLaws.{pagesOf}
+use Rattle.tree.specs.StoreInsertionLaws.{pagesOf}
 use Rattle.tree.specs.StoreRemovalLaws.{emptied-read}
 use Rattle.tree.specs.Tree.{Entry, pagesUnder, pages}
 use Rattle.tree.specs.Unlinking.{unlink, unlinkAll}
@@ -35,9 +35,9 @@ use Rattle.idx_layout_laws.specs.HeadLaws.{with-head, with-header}
 use Rattle.idx_layout_laws.specs.FreeLaws.{SameButFree, same-header, same-free, length-unlinked, unlinked-head, unlinked-header}
 use Rattle.idx_layout_laws.specs.FreeLaws.{length-freed, freed-head, freed-header, freed-free}
 use Rattle.idx_remove_laws.specs.EntryLists.{routeOf, leaf-is, leaf-inside, entry-all, entry-pages}
-use Rattle.idx_remove_laws.specs.RemoveEntries.{OutcomeIs, emptiedFrom, storeAfter, leaf-emptied, upper-emptied, Filled, filled-page}
-use Rattle.idx_remove_laws.specs.RemoveEntries.{place, place-inside, through, filled-route}
-use Rattle.idx_remove_laws.specs.RemoveEntries.{below, Removes, some, inside, child-is, child-distinct, still-inside, removes}
+use Rattle.idx_remove_laws.specs.RemovalEntries.{OutcomeIs, emptiedFrom, storeAfter, leaf-emptied, upper-emptied, Filled, filled-page}
+use Rattle.idx_remove_laws.specs.RemovalEntries.{place, place-inside, through, filled-route}
+use Rattle.idx_remove_laws.specs.RemovalEntries.{below, Removes, some, inside, child-is, child-distinct, still-inside, removes}
 
 -- the links of the pages qs, and the free pointer, are numbers of four bytes
 pub record Plain (qs b : List ℕ) : Type 0 where

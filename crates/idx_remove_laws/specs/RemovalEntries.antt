@@ -10,12 +10,12 @@ use lib.Dec.{eqb, ltb}
 use borrow.Author.Tests.{ltb-true, ltb-false, lt-ltb, eqb-true, eqb-false}
 use Rattle.basis.specs.Lists.{All, all-map}
 use Rattle.basis.specs.Tests.{either}
-use Rattle.tree.specs.InsertPages.{Distinct}
+use Rattle.tree.specs.InsertionPages.{Distinct}
 use Rattle.tree.specs.Lists.{NonEmpty, occ}
 use Rattle.tree.specs.ListLaws.{occ-append, occ-head, occ-behind, occ-not-head}
 use Rattle.tree.specs.Removal.{replaceBy, ifEmptied}
 use Rattle.tree.specs.Store.{Store, readTree}
-use Rattle.tree.specs.StoreInsertLaws.{pagesOf}
+use Rattle.tree.specs.StoreInsertionLaws.{pagesOf}
 use Rattle.tree.specs.StoreLaws.{write-here, write-other}
 use Rattle.tree.specs.StoreRemoval.{StoreRemoved, entryUnlessEmptied, storePosition, storeRemoveAmong, storeRemoveUnder, storeRemove}
 use Rattle.tree.specs.StoreRemovalLaws.{remove-others}
