@@ -5,6 +5,7 @@ use mathlib.Core.List.{List, [], _∷_, _++_}
 use mathlib.Core.Bool.{Bool, cond, _&&_}
 use lib.ListN.{length, take}
 use lib.Dec.{eqb, leb}
+use Rattle.refusal.specs.Checks.{firstRefusal}
 use Rattle.octets.specs.Bytes.{byteAt, toLe32}
 use Rattle.octets.specs.Store.{put, window}
 use Rattle.calendar.specs.DateText.{dateOf}
@@ -15,7 +16,7 @@ use Rattle.fpt_memo.specs.Memo.{memoNumber}
 use Rattle.fpt_memo.specs.declared.MemoNumber.{MemoNumber}
 use Rattle.fpt_memo.specs.declared.MemoNumber.the-variants as memo
 use Rattle.dbf_table.specs.Table.{minTable, maxTable, fileEnd, typeN, typeD, typeL, typeM, fieldType, fieldLength, fieldDecimals, fieldOffset, fieldCount}
-use Rattle.dbf_table.specs.Table.{recordLength, recordCount, recordsEnd, firstRefusal, tableChecks, checkTable}
+use Rattle.dbf_table.specs.Table.{recordLength, recordCount, recordsEnd, tableChecks, checkTable}
 use Rattle.dbf_table.specs.declared.Checked.{Checked}
 use Rattle.dbf_table.specs.declared.Checked.the-variants.{Refused}
 use Rattle.dbf_cell.specs.Cell.{markGood, logicalOf}

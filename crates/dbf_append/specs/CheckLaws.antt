@@ -10,6 +10,8 @@ use lib.Seq.{getD-take, length-take-le}
 use lib.Dec.{eqb, leb, lit<}
 use borrow.Author.Tests.{leb-true, eqb-true, eqb-false, le-leb, lt-leb, eq-eqb, ne-eqb}
 use Rattle.basis.specs.Tests.{either, both, impossible}
+use Rattle.refusal.specs.CheckLaws.{first-pass, first-fail, first-none, first-both}
+use Rattle.refusal.specs.Checks.{firstRefusal}
 use Rattle.octets.specs.Bytes.{byteAt, le16, le32, toLe32}
 use Rattle.octets.specs.Store.{put, window}
 use Rattle.octets.specs.StoreLaws.{put-snoc, stored2, length-window}
@@ -21,8 +23,8 @@ use Rattle.dbf_cell.specs.Cell.{markGood, logicalOf}
 use Rattle.dbf_cell.specs.Codes.{numberRefusal}
 use Rattle.dbf_table.specs.Table.{minTable, maxTable, fileEnd, typeN, typeD, typeL, typeM, fieldType, fieldLength, fieldDecimals, fieldOffset, fieldCount}
 use Rattle.dbf_table.specs.Table.{firstYear, storableDate}
-use Rattle.dbf_table.specs.Table.{headerLength, recordLength, recordCount, recordsEnd, sizeGood, firstRefusal, tableChecks, tableRefusal, checkTable}
-use Rattle.dbf_table.specs.TableLaws.{Layout, layout, table-numbered, first-pass, first-fail, first-none, first-both, good-check, good-then, refused-check}
+use Rattle.dbf_table.specs.Table.{headerLength, recordLength, recordCount, recordsEnd, sizeGood, tableChecks, tableRefusal, checkTable}
+use Rattle.dbf_table.specs.TableLaws.{Layout, layout, table-numbered, good-check, good-then, refused-check}
 use Rattle.dbf_table.specs.TableLaws.{refused-then}
 use Rattle.dbf_table.specs.FormLaws.{field-form, form-some}
 use Rattle.dbf_table.specs.RecordLaws.{field-inside, record-positive, records-next}

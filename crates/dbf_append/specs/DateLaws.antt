@@ -8,13 +8,14 @@ use native.Mathlib.Omega.{arith}
 use lib.ListN.{length, take}
 use lib.Seq.{length-take-le}
 use lib.Dec.{lit<}
+use Rattle.refusal.specs.CheckLaws.{first-none}
 use Rattle.octets.specs.Bytes.{byteAt, le32}
 use Rattle.octets.specs.Store.{put, window}
 use Rattle.octets.specs.StoreLaws.{length-put, getD-put-low, getD-put-high, getD-window, window-same, window-inside}
 use Rattle.dbf_table.specs.Table.{firstYear, storableDate}
 use Rattle.dbf_table.specs.DateLaws.{storable}
 use Rattle.dbf_table.specs.Table.{recordCount, recordsEnd, sizeGood, dateGood, lengthGood, tableRefusal}
-use Rattle.dbf_table.specs.TableLaws.{layout, first-none}
+use Rattle.dbf_table.specs.TableLaws.{layout}
 use Rattle.dbf_append.specs.Append.{write}
 use Rattle.dbf_append.specs.UpdateDate.{setDateRefusal, dateWrite, setDateRule}
 use Rattle.dbf_append.specs.ExtentLaws.{form-good, length-good}

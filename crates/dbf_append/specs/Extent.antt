@@ -5,7 +5,8 @@ use mathlib.Core.List.{List, [], _∷_, _++_}
 use mathlib.Core.Bool.{Bool, cond}
 use lib.ListN.{length, take}
 use lib.Dec.{eqb, leb}
-use Rattle.dbf_table.specs.Table.{recordCount, recordsEnd, firstRefusal, tableChecks}
+use Rattle.refusal.specs.Checks.{firstRefusal}
+use Rattle.dbf_table.specs.Table.{recordCount, recordsEnd, tableChecks}
 use Rattle.dbf_append.specs.declared.Extent.{Extent}
 
 -- 1 to 9: what a table's checks ask of its form, whatever its length

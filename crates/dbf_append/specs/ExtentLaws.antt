@@ -9,18 +9,11 @@ use lib.Dec.{eqb, leb, lit<}
 use borrow.Author.Tests.{eqb-true, eqb-false, le-leb, lt-leb, ne-eqb}
 use Rattle.basis.specs.Tests.{either}
 use Rattle.basis.specs.Lists.{All}
-use Rattle.dbf_table.specs.Table.{minTable, lengthGood, firstRefusal, tableChecks, tableRefusal}
-use Rattle.dbf_table.specs.TableLaws.{first-none, first-after, first-before, size-long, table-numbered}
+use Rattle.refusal.specs.CheckLaws.{first-none, first-after, first-before, first-below}
+use Rattle.refusal.specs.Checks.{firstRefusal}
+use Rattle.dbf_table.specs.Table.{minTable, lengthGood, tableChecks, tableRefusal}
+use Rattle.dbf_table.specs.TableLaws.{size-long, table-numbered}
 use Rattle.dbf_append.specs.Extent.{formChecks, formRefusal, ownEnd, extentRefusal, extentRule}
-
--- a refusal is below what all numbers of the checks are below
-first-below : (bound : ℕ) (checks : List (Bool × ℕ)) → 0 < bound → All (λ (check : Bool × ℕ). check .1 < bound) checks → firstRefusal checks < bound
-unfolding firstRefusal
-first-below bound [] some p = some
-first-below bound (check ∷ checks) some p =
-    either (check .0)
-    (λ good. rw good (first-below bound checks some (p .1)))
-    (λ bad. rw bad (p .0))
 
 module _ (b : List ℕ) where
   -- the length's check comes last

@@ -6,17 +6,13 @@ use mathlib.Core.Bool.{Bool, true}
 use mathlib.Core.List.{List, [], _∷_}
 use lib.ListN.{length}
 use Rattle.basis.specs.Lists.{All}
-use Rattle.dbf_table.specs.Table.{headerLength, sizeGood, dateGood, lengthGood, firstRefusal, tableChecks, tableRefusal}
-use Rattle.dbf_table.specs.TableLaws.{HeaderFits, header-fits, first-pass, first-none}
+use Rattle.refusal.specs.CheckLaws.{first-pass, first-none, first-all}
+use Rattle.refusal.specs.Checks.{firstRefusal}
+use Rattle.dbf_table.specs.Table.{headerLength, sizeGood, dateGood, lengthGood, tableChecks, tableRefusal}
+use Rattle.dbf_table.specs.TableLaws.{HeaderFits, header-fits}
 use Rattle.dbf_table.specs.SameForm.{SameForm, kind-same, mark-same, descriptors-same, names-same, memo-same, filled-same, form-inside}
 use Rattle.dbf_append.specs.Extent.{formChecks, formRefusal}
 use Rattle.dbf_append.specs.ExtentLaws.{form-numbered, form-passed}
-
--- checks that all hold refuse nothing
-first-all : (checks : List (Bool × ℕ)) → All (λ check. check .0 ≡ true) checks → firstRefusal checks ≡ 0
-unfolding firstRefusal
-first-all [] p = refl
-first-all (check ∷ checks) p = first-pass (check .0) (check .1) checks (p .0) ∙ first-all checks (p .1)
 
 -- what a good form gives
 module _ (b : List ℕ) (good : formRefusal b ≡ 0) where

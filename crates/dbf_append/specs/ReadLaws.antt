@@ -11,13 +11,15 @@ use lib.Seq.{ext-getD}
 use lib.Dec.{eqb}
 use borrow.Author.Tests.{eqb-true, le-leb}
 use Rattle.basis.specs.Tests.{either}
+use Rattle.refusal.specs.CheckLaws.{first-after}
+use Rattle.refusal.specs.Checks.{firstRefusal}
 use Rattle.octets.specs.Bytes.{byteAt}
 use Rattle.octets.specs.Store.{window}
 use Rattle.octets.specs.StoreLaws.{getD-window, length-window}
 use Rattle.dbf_table.specs.Table.{typeC, typeN, typeD, typeL, typeM, fieldType, fieldLength, fieldDecimals, fieldOffset, fieldCount, headerLength}
-use Rattle.dbf_table.specs.Table.{recordLength, recordCount, recordsEnd, recordStart, deletionByte, firstRefusal, tableChecks, tableRefusal}
+use Rattle.dbf_table.specs.Table.{recordLength, recordCount, recordsEnd, recordStart, deletionByte, tableChecks, tableRefusal}
 use Rattle.dbf_table.specs.FormLaws.{field-form, form-some}
-use Rattle.dbf_table.specs.TableLaws.{HeaderFits, layout, table-numbered, first-after}
+use Rattle.dbf_table.specs.TableLaws.{HeaderFits, layout, table-numbered}
 use Rattle.dbf_table.specs.RecordLaws.{record-positive, field-inside}
 use Rattle.dbf_field.specs.Field.{numberGood}
 use Rattle.dbf_field.specs.FieldLaws.{place-good, number-range}

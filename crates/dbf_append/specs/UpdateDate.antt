@@ -3,7 +3,8 @@ use Prim.Native.Nat.{ℕ, _-_}
 use mathlib.Core.List.{List, [], _∷_}
 use mathlib.Core.Bool.{cond}
 use lib.Dec.{eqb}
-use Rattle.dbf_table.specs.Table.{firstRefusal, firstYear, storableDate}
+use Rattle.refusal.specs.Checks.{firstRefusal}
+use Rattle.dbf_table.specs.Table.{firstYear, storableDate}
 use Rattle.dbf_append.specs.Append.{heldChecks, Write, write}
 
 -- "append's table checks, then 3"

@@ -5,7 +5,8 @@ use mathlib.Core.List.{List, [], _∷_, _++_}
 use mathlib.Core.Bool.{cond}
 use lib.ListN.{length, set}
 use lib.Dec.{eqb, leb}
-use Rattle.dbf_table.specs.Table.{fieldCount, firstRefusal, tableChecks}
+use Rattle.refusal.specs.Checks.{firstRefusal}
+use Rattle.dbf_table.specs.Table.{fieldCount, tableChecks}
 use Rattle.dbf_field.specs.Field.{entryOf}
 use Rattle.dbf_field.specs.declared.FieldEntry.{FieldEntry}
 use Rattle.dbf_walk.specs.Walk.{walkStep}

@@ -12,8 +12,10 @@ use lib.ListN.{length, getD, set, length-set}
 use lib.Dec.{eqb, leb, lit<}
 use borrow.Author.Tests.{le-leb, lt-leb, leb-true, eqb-true, ne-eqb}
 use Rattle.basis.specs.Tests.{either}
-use Rattle.dbf_table.specs.Table.{descriptor, maxFields, fieldCount, firstRefusal, tableChecks, tableRefusal, checkTable}
-use Rattle.dbf_table.specs.TableLaws.{layout, table-numbered, first-after, first-both, first-none, good-shape, good-then, refused-then, refused-check}
+use Rattle.refusal.specs.CheckLaws.{first-after, first-both, first-none}
+use Rattle.refusal.specs.Checks.{firstRefusal}
+use Rattle.dbf_table.specs.Table.{descriptor, maxFields, fieldCount, tableChecks, tableRefusal, checkTable}
+use Rattle.dbf_table.specs.TableLaws.{layout, table-numbered, good-shape, good-then, refused-then, refused-check}
 use Rattle.dbf_table.specs.RecordLaws.{descriptor-inside}
 use Rattle.dbf_table.specs.declared.Shape.{Shape}
 use Rattle.dbf_table.specs.declared.Checked.the-variants.{Good, Refused as TableRefused}

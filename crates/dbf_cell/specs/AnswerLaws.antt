@@ -10,6 +10,7 @@ use lib.Dec.{eqb, leb, lit≤, lit<}
 use borrow.Author.Tests.{eqb-false, lt-leb}
 use Rattle.basis.specs.Tests.{either, impossible}
 use Rattle.basis.specs.Lists.{All, all-append, all-map}
+use Rattle.refusal.specs.Checks.{firstRefusal}
 use Rattle.octets.specs.Bytes.{byteAt}
 use Rattle.calendar.specs.DateLaws.{date-refusal}
 use Rattle.calendar.specs.declared.DateAnswer.the-variants as date
@@ -24,7 +25,7 @@ use Rattle.fpt_memo.specs.MemoLaws.{text-refusal}
 use Rattle.fpt_memo.specs.declared.MemoPlace.{MemoPlace}
 use Rattle.fpt_memo.specs.declared.MemoPlace.the-variants as memo
 use Rattle.dbf_field.specs.Field.{numberGood}
-use Rattle.dbf_table.specs.Table.{typeC, typeM, fieldType, fieldLength, fieldDecimals, fieldCount, recordCount, deletionByte, firstRefusal, tableChecks}
+use Rattle.dbf_table.specs.Table.{typeC, typeM, fieldType, fieldLength, fieldDecimals, fieldCount, recordCount, deletionByte, tableChecks}
 use Rattle.dbf_cell.specs.Cell.{readsType, markGood, cellRefusal, fieldStart, fieldBytes}
 use Rattle.dbf_cell.specs.Cell.{numberCell, dateCell, letterT, letterF, logicalOf, logicalCell, memoPart, textAt, textCell}
 use Rattle.dbf_cell.specs.Codes.{emptyCode}

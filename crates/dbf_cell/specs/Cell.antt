@@ -4,6 +4,7 @@ use mathlib.Core.List.{List, [], _∷_, _++_}
 use mathlib.Core.Bool.{Bool, true, false, cond, _||_}
 use lib.ListN.{length}
 use lib.Dec.{eqb}
+use Rattle.refusal.specs.Checks.{firstRefusal}
 use Rattle.octets.specs.Bytes.{byteAt}
 use Rattle.octets.specs.Store.{window}
 use Rattle.calendar.specs.DateText.{dateOf}
@@ -18,7 +19,7 @@ use Rattle.fpt_memo.specs.declared.MemoPlace.{MemoPlace}
 use Rattle.fpt_memo.specs.declared.MemoPlace.the-variants as memo
 use Rattle.dbf_table.specs.Table.{typeC, typeN, typeD, typeL, typeM, keptMark, deletedMark}
 use Rattle.dbf_table.specs.Table.{fieldType, fieldLength, fieldDecimals, fieldOffset, fieldCount, recordCount, recordStart, deletionByte}
-use Rattle.dbf_table.specs.Table.{firstRefusal, tableChecks}
+use Rattle.dbf_table.specs.Table.{tableChecks}
 use Rattle.dbf_field.specs.Field.{placeAt, numberGood}
 use Rattle.dbf_field.specs.declared.Placed.{Placed}
 use Rattle.dbf_field.specs.declared.Placed.the-variants as placed

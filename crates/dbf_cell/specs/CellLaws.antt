@@ -9,10 +9,12 @@ use lib.Dec.{eqb, lit<}
 use borrow.Author.Tests.{eqb-true, eqb-false, ne-eqb}
 use Rattle.basis.specs.Tests.{either, impossible}
 use Rattle.basis.specs.Lists.{All, all-append}
+use Rattle.refusal.specs.CheckLaws.{first-after, first-before, first-both, first-none}
+use Rattle.refusal.specs.Checks.{firstRefusal}
 use Rattle.octets.specs.Bytes.{byteAt}
 use Rattle.octets.specs.Store.{window}
-use Rattle.dbf_table.specs.Table.{typeC, fieldType, fieldLength, fieldDecimals, fieldCount, recordCount, deletionByte, firstRefusal, tableChecks}
-use Rattle.dbf_table.specs.TableLaws.{table-numbered, first-after, first-before, first-both, first-none}
+use Rattle.dbf_table.specs.Table.{typeC, fieldType, fieldLength, fieldDecimals, fieldCount, recordCount, deletionByte, tableChecks}
+use Rattle.dbf_table.specs.TableLaws.{table-numbered}
 use Rattle.dbf_field.specs.Field.{placeAt, placeOf, placeRefusal, PlaceInside, formOf, numberGood}
 use Rattle.dbf_field.specs.FieldLaws.{placed-at, placed-refused, place-good, place-within}
 use Rattle.dbf_field.specs.declared.Place.{Place}

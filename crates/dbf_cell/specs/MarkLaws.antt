@@ -10,11 +10,13 @@ use lib.Seq.{getD-set-same}
 use lib.Dec.{eqb}
 use borrow.Author.Tests.{eqb-true}
 use Rattle.basis.specs.Tests.{either}
+use Rattle.refusal.specs.CheckLaws.{first-same}
+use Rattle.refusal.specs.Checks.{firstRefusal}
 use Rattle.octets.specs.Store.{put}
 use Rattle.octets.specs.StoreLaws.{length-put, put-one, getD-put-low, getD-put-high, window-after}
 use Rattle.dbf_field.specs.Field.{numberGood}
 use Rattle.dbf_table.specs.Table.{typeC, fieldType, fieldLength, fieldCount, headerLength, recordLength, recordCount, recordsEnd, recordStart, deletionByte}
-use Rattle.dbf_table.specs.Table.{firstRefusal, tableChecks, tableRefusal}
+use Rattle.dbf_table.specs.Table.{tableChecks, tableRefusal}
 use Rattle.dbf_table.specs.TableLaws.{layout}
 use Rattle.dbf_table.specs.RecordLaws.{offset-positive, record-positive}
 use Rattle.dbf_field.specs.FieldLaws.{place-good, number-range}
@@ -30,11 +32,6 @@ use Rattle.dbf_cell.specs.declared.Reads.the-variants.{Numbers, Dates, L
 -- the table with `mark` as the deletion byte of record i
 unfoldable pub withMark : List ℕ → ℕ → ℕ → List ℕ
 withMark b i mark = put b (recordStart b i) (mark ∷ [])
-
-pub first-same : (checks more less : List (Bool × ℕ)) → firstRefusal more ≡ firstRefusal less → firstRefusal (checks ++ more) ≡ firstRefusal (checks ++ less)
-unfolding firstRefusal
-first-same [] more less e = e
-first-same (check ∷ checks) more less e = rw (first-same checks more less e)
 
 -- the part of a memo does not depend on the table
 memo-alone : (b c m : List ℕ) (q : MemoPlace) → textPart b m (memoPart q) ≡ textPart c m (memoPart q)

@@ -11,13 +11,14 @@ use lib.Seq.{getD-append-add, drop-at, ext-getD}
 use lib.Dec.{lit<}
 use borrow.Author.Tests.{leb-true, le-leb}
 use Rattle.basis.specs.Lists.{All}
+use Rattle.refusal.specs.CheckLaws.{first-none}
+use Rattle.refusal.specs.Checks.{firstRefusal}
 use Rattle.octets.specs.Bytes.{byteAt}
 use Rattle.octets.specs.Store.{put, window}
 use Rattle.octets.specs.StoreLaws.{length-put, length-window, getD-window, window-same, put-splice}
 use Rattle.dbf_table.specs.Table.{maxFields, maxRecord, descriptor, fieldCount, recordCount, fieldsGood, namesDiffer}
-use Rattle.dbf_table.specs.Table.{firstRefusal, tableRefusal, storableDate}
+use Rattle.dbf_table.specs.Table.{tableRefusal, storableDate}
 use Rattle.dbf_table.specs.DateLaws.{storable}
-use Rattle.dbf_table.specs.TableLaws.{first-none}
 use Rattle.dbf_field.specs.Field.{fieldName, entryOf, noEntry}
 use Rattle.dbf_field.specs.declared.FieldEntry.{FieldEntry}
 use Rattle.dbf_create.specs.Laying.{descriptorOf, descriptorsOf, headerSize, recordSize, laidOut, layChecks, layRefusal, layOut}

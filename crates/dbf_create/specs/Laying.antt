@@ -5,11 +5,12 @@ use mathlib.Core.List.{List, [], _∷_, _++_}
 use mathlib.Core.Bool.{Bool, cond, _&&_}
 use lib.ListN.{length, replicate}
 use lib.Dec.{eqb, leb, ltb}
+use Rattle.refusal.specs.Checks.{firstRefusal}
 use Rattle.octets.specs.Bytes.{toLe16, toLe32}
 use Rattle.octets.specs.Store.{put}
 use Rattle.dbf_table.specs.Range.{anyBelow}
 use Rattle.dbf_table.specs.Table.{minTable, maxFields, maxRecord, plainKind, memoKind, endMark, fileEnd, headerLength, isMemo, fieldOffset, fieldsGood}
-use Rattle.dbf_table.specs.Table.{namesDiffer, firstRefusal, tableChecks, firstYear, storableDate}
+use Rattle.dbf_table.specs.Table.{namesDiffer, tableChecks, firstYear, storableDate}
 use Rattle.dbf_field.specs.declared.FieldEntry.{FieldEntry}
 
 -- ---- the lent field list as descriptors

@@ -11,6 +11,8 @@ use lib.Seq.{getD-append-add}
 use lib.Dec.{eqb, leb, lit<}
 use borrow.Author.Tests.{leb-true, le-leb, lt-leb, eq-eqb, ne-eqb}
 use Rattle.basis.specs.Tests.{both, join}
+use Rattle.refusal.specs.CheckLaws.{first-pass}
+use Rattle.refusal.specs.Checks.{firstRefusal}
 use Rattle.octets.specs.Bytes.{byteAt, le16, le32, toLe16, toLe32}
 use Rattle.octets.specs.Store.{put, window}
 use Rattle.octets.specs.StoreLaws.{length-put, put-append, put-comm, stored2, length-window, getD-window, window-same, window-after}
@@ -20,10 +22,10 @@ use Rattle.dbf_table.specs.Range.{anyBelow}
 use Rattle.dbf_table.specs.RangeLaws.{any-same, sum-same}
 use Rattle.dbf_table.specs.Table.{minTable, maxTable, maxFields, maxRecord, plainKind, memoKind, endMark, fileEnd, descriptor, fieldLength}
 use Rattle.dbf_table.specs.Table.{fieldOffset, fieldCount, headerLength, recordLength, recordCount, recordsEnd, sizeGood, kindGood, dateGood, headerGood}
-use Rattle.dbf_table.specs.Table.{endMarkGood, fieldsGood, namesDiffer, isMemo, hasMemo, memoKindGood, recordLengthGood, lengthGood, firstRefusal, tableChecks}
+use Rattle.dbf_table.specs.Table.{endMarkGood, fieldsGood, namesDiffer, isMemo, hasMemo, memoKindGood, recordLengthGood, lengthGood, tableChecks}
 use Rattle.dbf_table.specs.Table.{checkTable, firstYear, storableDate}
 use Rattle.dbf_table.specs.DateLaws.{StorableDate, storable}
-use Rattle.dbf_table.specs.TableLaws.{HeaderFits, first-pass, good-then, refused-then, refused-check, good-shape}
+use Rattle.dbf_table.specs.TableLaws.{HeaderFits, good-then, refused-then, refused-check, good-shape}
 use Rattle.dbf_table.specs.declared.Shape.{Shape}
 use Rattle.dbf_table.specs.declared.Checked.the-variants.{Good, Refused}
 use Rattle.dbf_field.specs.declared.FieldEntry.{FieldEntry}

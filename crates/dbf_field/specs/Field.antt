@@ -6,9 +6,10 @@ use mathlib.Core.List.{List, [], _∷_, _++_}
 use mathlib.Core.Bool.{Bool, cond, _&&_}
 use lib.ListN.{length, replicate}
 use lib.Dec.{eqb, leb}
+use Rattle.refusal.specs.Checks.{firstRefusal}
 use Rattle.octets.specs.Store.{window}
 use Rattle.dbf_table.specs.Table.{descriptor, fieldType, fieldLength, fieldDecimals, fieldOffset, fieldCount, recordCount, recordStart, deletionByte}
-use Rattle.dbf_table.specs.Table.{firstRefusal, tableChecks, tableRefusal}
+use Rattle.dbf_table.specs.Table.{tableChecks, tableRefusal}
 use Rattle.dbf_field.specs.declared.FieldEntry.{FieldEntry}
 use Rattle.dbf_field.specs.declared.FieldAnswer.{FieldAnswer}
 use Rattle.dbf_field.specs.declared.FieldForm.{FieldForm}

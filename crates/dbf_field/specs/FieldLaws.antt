@@ -8,11 +8,13 @@ use lib.ListN.{length}
 use lib.Dec.{eqb, leb, lit<}
 use borrow.Author.Tests.{leb-true, eqb-true, eqb-false}
 use Rattle.basis.specs.Tests.{either, both, impossible}
+use Rattle.refusal.specs.CheckLaws.{first-none, first-both}
+use Rattle.refusal.specs.Checks.{firstRefusal}
 use Rattle.octets.specs.Bytes.{byteAt}
 use Rattle.octets.specs.Store.{window}
 use Rattle.octets.specs.StoreLaws.{window-cons}
-use Rattle.dbf_table.specs.Table.{fieldCount, recordCount, recordStart, firstRefusal, tableChecks, tableRefusal, shapeOf, checkTable}
-use Rattle.dbf_table.specs.TableLaws.{layout, table-numbered, first-none, first-both, good-check, good-then}
+use Rattle.dbf_table.specs.Table.{fieldCount, recordCount, recordStart, tableChecks, tableRefusal, shapeOf, checkTable}
+use Rattle.dbf_table.specs.TableLaws.{layout, table-numbered, good-check, good-then}
 use Rattle.dbf_table.specs.FormLaws.{field-form, form-some}
 use Rattle.dbf_table.specs.RecordLaws.{field-inside, record-inside, record-positive}
 use Rattle.dbf_table.specs.declared.Shape.{Shape}

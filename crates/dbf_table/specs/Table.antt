@@ -5,6 +5,7 @@ use mathlib.Core.List.{List, [], _∷_}
 use mathlib.Core.Bool.{Bool, cond, not, _&&_, _||_}
 use lib.ListN.{length}
 use lib.Dec.{eqb, leb}
+use Rattle.refusal.specs.Checks.{firstRefusal}
 use Rattle.octets.specs.Bytes.{byteAt, le16, le32}
 use Rattle.octets.specs.Text.{isDigit}
 use Rattle.calendar.specs.Calendar.{isDate}
@@ -232,11 +233,6 @@ abbrev pub deletedMark : ℕ
 deletedMark = 0x2A
 
 -- ---- the answer
-
--- the number beside the first check that fails, 0 if none does
-unfoldable pub firstRefusal : List (Bool × ℕ) → ℕ
-firstRefusal [] = 0
-firstRefusal (check ∷ checks) = let rest = firstRefusal checks in cond (check .0) rest (check .1)
 
 -- "Order: 1 to 10"
 unfoldable pub tableChecks : List ℕ → List (Bool × ℕ)

@@ -9,61 +9,14 @@ use lib.Dec.{eqb, leb, lit<}
 use borrow.Author.Tests.{leb-true, eqb-true, eqb-false, eq-eqb, ne-eqb}
 use Rattle.basis.specs.Tests.{either, both, impossible}
 use Rattle.basis.specs.Lists.{All}
+use Rattle.refusal.specs.Checks.{firstRefusal}
 use Rattle.octets.specs.Bytes.{byteAt}
 use Rattle.dbf_table.specs.RangeLaws.{all-at}
 use Rattle.dbf_table.specs.Table.{minTable, maxTable, maxFields, maxRecord, fileEnd, tableKind, headerLength, recordLength, recordCount, recordsEnd}
 use Rattle.dbf_table.specs.Table.{fieldCount, fieldOffset, sizeGood, kindGood, headerGood, descriptorGood, fieldsGood, recordLengthGood, lengthGood}
-use Rattle.dbf_table.specs.Table.{firstRefusal, tableChecks, tableRefusal, shapeOf, checkTable}
+use Rattle.dbf_table.specs.Table.{tableChecks, tableRefusal, shapeOf, checkTable}
 use Rattle.dbf_table.specs.declared.Shape.{Shape}
 use Rattle.dbf_table.specs.declared.Checked.the-variants.{Good, Refused}
-
--- ---- the first of several checks
-
--- if the first check holds the others decide, and if it fails its number is the answer
-pub first-pass : (good : Bool) (number : ℕ) (checks : List (Bool × ℕ)) → good ≡ true → firstRefusal ((good, number) ∷ checks) ≡ firstRefusal checks
-unfolding firstRefusal
-first-pass good number checks e = rw e
-
-pub first-fail : (good : Bool) (number : ℕ) (checks : List (Bool × ℕ)) → good ≡ false → firstRefusal ((good, number) ∷ checks) ≡ number
-unfolding firstRefusal
-first-fail good number checks e = rw e
-
--- a check's number is not 0
-abbrev pub Numbered : Bool × ℕ → Type 0
-Numbered check = 0 < check .1
-
--- no refusal: every check holds
-pub first-none : (checks : List (Bool × ℕ)) → All Numbered checks → firstRefusal checks ≡ 0 → All (λ check. check .0 ≡ true) checks
-first-none [] p e = tt
-first-none (check ∷ checks) p e =
-    either (check .0)
-    (λ good. (good, first-none checks (p .1) (sym (first-pass (check .0) (check .1) checks good) ∙ e)))
-    (λ bad. absurd (omega (arith, p .0, sym (first-fail (check .0) (check .1) checks bad) ∙ e)))
-
--- checks after others decide if the first ones hold; else the first ones do
-pub first-after : (checks more : List (Bool × ℕ)) → All Numbered checks → firstRefusal checks ≡ 0 → firstRefusal (checks ++ more) ≡ firstRefusal more
-first-after [] more p e = refl
-first-after (check ∷ checks) more p e =
-    let held = first-none (check ∷ checks) p e in
-    first-pass (check .0) (check .1) (checks ++ more) (held .0)
-    ∙ first-after checks more (p .1) (sym (first-pass (check .0) (check .1) checks (held .0)) ∙ e)
-
-pub first-before : (checks more : List (Bool × ℕ)) → (firstRefusal checks ≡ 0 → ⊥) → firstRefusal (checks ++ more) ≡ firstRefusal checks
-unfolding firstRefusal
-first-before [] more e = absurd (e refl)
-first-before (check ∷ checks) more e =
-    either (check .0)
-    (λ good. first-pass (check .0) (check .1) (checks ++ more) good
-    ∙ first-before checks more (λ z. e (first-pass (check .0) (check .1) checks good ∙ z))
-    ∙ sym (first-pass (check .0) (check .1) checks good))
-    (λ bad. first-fail (check .0) (check .1) (checks ++ more) bad ∙ sym (first-fail (check .0) (check .1) checks bad))
-
-pub first-both : (checks more : List (Bool × ℕ)) → All Numbered checks → firstRefusal (checks ++ more) ≡ 0
-    → (firstRefusal checks ≡ 0) × (firstRefusal more ≡ 0)
-first-both checks more p e =
-    either (eqb (firstRefusal checks) 0)
-    (λ z. let none = eqb-true (firstRefusal checks) 0 z in (none, sym (first-after checks more p none) ∙ e))
-    (λ z. let some = eqb-false (firstRefusal checks) 0 z in absurd (some (sym (first-before checks more some) ∙ e)))
 
 -- ---- single checks
 

@@ -11,12 +11,13 @@ use lib.Dec.{eqb, lit<}
 use borrow.Author.Tests.{eqb-true, ltb-true, leb-true}
 use Rattle.basis.specs.Tests.{either}
 use Rattle.basis.specs.Lists.{All, all-append}
+use Rattle.refusal.specs.Checks.{firstRefusal}
 use Rattle.octets.specs.Store.{window}
 use Rattle.octets.specs.Text.{decimal}
 use Rattle.octets.specs.DigitLaws.{decimal-fits}
 use Rattle.numeral.specs.declared.Number.{Number}
 use Rattle.numeral.specs.declared.Number.the-variants as text
-use Rattle.dbf_table.specs.Table.{typeC, recordCount, recordLength, recordsEnd, fieldCount, fieldType, fieldLength, deletionByte, deletedMark, firstRefusal}
+use Rattle.dbf_table.specs.Table.{typeC, recordCount, recordLength, recordsEnd, fieldCount, fieldType, fieldLength, deletionByte, deletedMark}
 use Rattle.dbf_table.specs.Table.{tableChecks, tableRefusal}
 use Rattle.dbf_table.specs.TableLaws.{layout}
 use Rattle.dbf_table.specs.RecordLaws.{field-inside, offset-positive}

@@ -4,8 +4,9 @@ use Prim.Native.Nat.{ℕ, zero, suc, _+_}
 use mathlib.Core.Bool.{cond}
 use mathlib.Core.List.{List, [], _∷_, _++_}
 use lib.Dec.{eqb}
+use Rattle.refusal.specs.Checks.{firstRefusal}
 use Rattle.octets.specs.Text.{blank, decimal}
-use Rattle.dbf_table.specs.Table.{deletedMark, recordCount, deletionByte, firstRefusal}
+use Rattle.dbf_table.specs.Table.{deletedMark, recordCount, deletionByte}
 use Rattle.dbf_cell.specs.Cell.{fieldBytes}
 use Rattle.dilution.specs.Dilution.{sheetChecks, diluteRule}
 use Rattle.dilution.specs.declared.Dilution.{Dilution}

@@ -11,6 +11,7 @@ use lib.Seq.{take-all}
 use lib.IntN.{ℤ, pos}
 use borrow.Author.Tests.{ne-eqb}
 use Rattle.basis.specs.Tests.{both}
+use Rattle.refusal.specs.Checks.{firstRefusal}
 use Rattle.octets.specs.Text.{every, isDigit, unpadded, decimal}
 use Rattle.octets.specs.TextLaws.{unpadded-digit, unpadded-blanks}
 use Rattle.octets.specs.DigitLaws.{decimal-digits, decimal-fits}
@@ -18,7 +19,7 @@ use Rattle.numeral.specs.Format.{formatGood}
 use Rattle.numeral.specs.Writing.{numberText, signText, fractionText, written, Fits, AfterWrite, afterWrite, writeNumber}
 use Rattle.numeral.specs.WritingLaws.{written-exactly, fits-length}
 use Rattle.numeral.specs.declared.Writing.{Writing}
-use Rattle.dbf_table.specs.Table.{deletedMark, recordCount, deletionByte, firstRefusal}
+use Rattle.dbf_table.specs.Table.{deletedMark, recordCount, deletionByte}
 use Rattle.dbf_field.specs.Field.{formOf, placeAt}
 use Rattle.dbf_field.specs.declared.Place.{Place}
 use Rattle.dbf_cell.specs.Cell.{fieldStart, fieldBytes}

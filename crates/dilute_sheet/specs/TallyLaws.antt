@@ -6,7 +6,8 @@ use native.Mathlib.Omega.{arith}
 use borrow.Author.Tests.{ne-eqb}
 use Rattle.basis.specs.Tests.{either}
 use lib.Dec.{eqb}
-use Rattle.dbf_table.specs.Table.{deletedMark, recordCount, deletionByte, firstRefusal}
+use Rattle.refusal.specs.Checks.{firstRefusal}
+use Rattle.dbf_table.specs.Table.{deletedMark, recordCount, deletionByte}
 use Rattle.dilution.specs.Dilution.{sheetChecks, recordDilution}
 use Rattle.dilution.specs.DilutionLaws.{record-line}
 use Rattle.dilution.specs.declared.Dilution.{Dilution}

@@ -1,7 +1,8 @@
 // The verdict on a sheet: how many lines it has and how many of them are refusals, or the number that refuses the whole sheet.
 ghost use Prim.Native.Nat.{_≤_};
 ghost use mathlib.Core.Path.{_≡_};
-ghost use Rattle.dbf_table.specs.Table.{recordCount, firstRefusal};
+ghost use Rattle.refusal.specs.Checks.{firstRefusal};
+ghost use Rattle.dbf_table.specs.Table.{recordCount};
 ghost use Rattle.dilution.specs.Dilution.{sheetChecks};
 ghost use Rattle.dilute_sheet.specs.Tally.{refusals, tally, linesAt, refusedAt, tallyOf, requestVerdict, verdictOf};
 use crate::input::Input;

@@ -5,8 +5,8 @@ use mathlib.Core.Bool.{Bool, true, false}
 use mathlib.Core.List.{List, [], _∷_, _++_}
 use Rattle.basis.specs.Tests.{either}
 use Rattle.basis.specs.Lists.{All}
-use Rattle.dbf_table.specs.Table.{firstRefusal}
-use Rattle.dbf_table.specs.TableLaws.{first-pass, first-fail}
+use Rattle.refusal.specs.CheckLaws.{first-pass, Named}
+use Rattle.refusal.specs.Checks.{firstRefusal}
 use Rattle.dilution.specs.Dilution.{unless}
 use Rattle.dilution.specs.declared.Dilution.{Dilution}
 use Rattle.dilution.specs.declared.Dilution.the-variants.{Refused}
@@ -25,17 +25,7 @@ unfolding unless
 unless-append [] ys d = refl
 unless-append (x ∷ xs) ys d = rw (unless-append xs ys d)
 
--- a check that fails has a number
-abbrev pub Named : Bool × ℕ → Type 0
-Named check = check .0 ≡ false → check .1 ≡ 0 → ⊥
-
 -- by the first refusal: all checks pass if it is 0, and what they leave is the answer; else they leave the refusal
-pub first-passes : (xs : List (Bool × ℕ)) → All Named xs → firstRefusal xs ≡ 0 → All (λ x. x .0 ≡ true) xs
-first-passes [] p e = tt
-first-passes (x ∷ xs) p e = either (x .0)
-    (λ good. (good, first-passes xs (p .1) (sym (first-pass (x .0) (x .1) xs good) ∙ e)))
-    (λ bad. absurd (p .0 bad (sym (first-fail (x .0) (x .1) xs bad) ∙ e)))
-
 pub unless-none : (xs : List (Bool × ℕ)) (d : Dilution) → All (λ x. x .0 ≡ true) xs → unless xs d ≡ d
 unfolding unless
 unless-none [] d p = refl

@@ -10,8 +10,9 @@ use lib.Dec.{eqb, ltb}
 use borrow.Author.Tests.{eqb-true, eqb-false, eq-eqb, ne-eqb, lt-ltb}
 use Rattle.basis.specs.Tests.{impossible, both}
 use Rattle.basis.specs.Lists.{All, all-append}
-use Rattle.dbf_table.specs.Table.{fieldCount, recordCount, firstRefusal, tableRefusal}
-use Rattle.dbf_table.specs.TableLaws.{first-pass, first-fail, first-before}
+use Rattle.refusal.specs.CheckLaws.{first-pass, first-fail, first-before, Named, first-passes}
+use Rattle.refusal.specs.Checks.{firstRefusal}
+use Rattle.dbf_table.specs.Table.{fieldCount, recordCount, tableRefusal}
 use Rattle.dbf_field.specs.Field.{PlaceGood}
 use Rattle.dbf_field.specs.FieldLaws.{number-range}
 use Rattle.dbf_cell.specs.Cell.{fieldBytes}
@@ -21,7 +22,7 @@ use Rattle.idx_match.specs.Computed.{matchAnswer}
 use Rattle.dilution.specs.Dilution.{distinctIndex, headerChecks}
 use Rattle.dilution.specs.Dilution.{isConcentration, fieldChecks, sheetChecks, recordWith, barcodeChecks, unless, recordDilution, diluteRule, Dilutable}
 use Rattle.dilution.specs.Dilution.{volumesOf, concentrationText, concentrationOf, textChecks, volumeChecks, dilutionOf}
-use Rattle.dilution.specs.CheckLaws.{unless-pass, unless-fail, unless-append, unless-none, unless-first, unless-named, Named, first-passes}
+use Rattle.dilution.specs.CheckLaws.{unless-pass, unless-fail, unless-append, unless-none, unless-first, unless-named}
 use Rattle.dilution.specs.BarcodeLaws.{good-table, known, own-length, record-own}
 use Rattle.dilution.specs.declared.Dilution.{Dilution}
 use Rattle.dilution.specs.declared.Dilution.the-variants.{Refused}

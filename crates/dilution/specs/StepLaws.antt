@@ -9,12 +9,14 @@ use lib.IntN.{ℤ, pos, negsuc, natAbs}
 use lib.Signed.{ltZ}
 use borrow.Author.Tests.{eqb-true, eq-eqb, ne-eqb, leb-true, lt-ltb, le-leb, lt-leb, ltb-true}
 use Rattle.basis.specs.Tests.{both, contra}
+use Rattle.refusal.specs.CheckLaws.{first-pass, first-fail, first-after, first-before}
+use Rattle.refusal.specs.Checks.{firstRefusal}
 use Rattle.octets.specs.Store.{window}
 use Rattle.numeral.specs.Reading.{readNumber}
 use Rattle.numeral.specs.declared.Number.{Number}
 use Rattle.numeral.specs.declared.Number.the-variants.{Value}
-use Rattle.dbf_table.specs.Table.{typeN, deletedMark, fieldType, fieldDecimals, fieldCount, deletionByte, firstRefusal, tableChecks, tableRefusal, checkTable}
-use Rattle.dbf_table.specs.TableLaws.{table-numbered, first-pass, first-fail, first-after, first-before, refused-check, good-shape}
+use Rattle.dbf_table.specs.Table.{typeN, deletedMark, fieldType, fieldDecimals, fieldCount, deletionByte, tableChecks, tableRefusal, checkTable}
+use Rattle.dbf_table.specs.TableLaws.{table-numbered, refused-check, good-shape}
 use Rattle.dbf_table.specs.declared.Shape.{Shape}
 use Rattle.dbf_table.specs.declared.Checked.the-variants as checked
 use Rattle.dbf_field.specs.Field.{numberGood, entryOf, formOf, placeAt, fieldRefusal, fieldAnswer}

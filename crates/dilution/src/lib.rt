@@ -10,8 +10,9 @@ ghost use mathlib.Core.Path.{_≡_};
 ghost use mathlib.Core.Bool.{true};
 ghost use Prim.Native.Nat.{_≤_, _<_};
 ghost use lib.ListN.{length};
+ghost use Rattle.refusal.specs.Checks.{firstRefusal};
 ghost use Rattle.idx_page.specs.Header.{keyLength, headerGood};
-ghost use Rattle.dbf_table.specs.Table.{firstRefusal, tableRefusal};
+ghost use Rattle.dbf_table.specs.Table.{tableRefusal};
 ghost use Rattle.dilution.specs.Dilution.{maxTarget, maxFinal, sampleOf, volumesOf, inRange, concentrationOf, amountOf};
 ghost use Rattle.dilution.specs.Dilution.{distinctIndex, headerChecks, fieldChecks, sheetChecks, recordWith, dilutionOf, recordDilution, diluteRule, Dilutable};
 

@@ -10,8 +10,9 @@ use lib.Dec.{eqb}
 use borrow.Author.Tests.{eqb-true, eqb-false}
 use Rattle.basis.specs.Lists.{All, all-append, all-map}
 use Rattle.basis.specs.Tests.{either, contra}
-use Rattle.dbf_table.specs.Table.{typeC, fieldCount, fieldType, fieldLength, firstRefusal, tableChecks}
-use Rattle.dbf_table.specs.TableLaws.{first-pass, first-fail}
+use Rattle.refusal.specs.CheckLaws.{first-pass, first-fail, first-other}
+use Rattle.refusal.specs.Checks.{firstRefusal}
+use Rattle.dbf_table.specs.Table.{typeC, fieldCount, fieldType, fieldLength, tableChecks}
 use Rattle.dbf_field.specs.Field.{numberGood}
 use Rattle.dbf_cell.specs.AnswerLaws.{table-small}
 use Rattle.idx_page.specs.Header.{keyLength, headerGood, features}
@@ -24,15 +25,6 @@ use Rattle.idx_match.specs.MatchTest.{columnOf, entriesMatch, leafEntrie
 use Rattle.idx_match.specs.Computed.{matchAnswer}
 use Rattle.idx_match.specs.TestLaws.{test-exactly}
 use Rattle.idx_match.specs.CallLaws.{table-good, ready, answer-refused, answer-unsound, answer-matched, answer-other}
-
--- a number that no check has is not the first refusal
-first-other : (n : ℕ) (checks : List (Bool × ℕ)) → 0 < n → All (λ check. check .1 ≡ n → ⊥) checks → firstRefusal checks ≡ n → ⊥
-unfolding firstRefusal
-first-other n [] some a e = omega arith
-first-other n (check ∷ checks) some a e =
-    either (check .0)
-    (λ good. first-other n checks some (a .1) (sym (first-pass (check .0) (check .1) checks good) ∙ e))
-    (λ bad. a .0 (sym (first-fail (check .0) (check .1) checks bad) ∙ e))
 
 module _ (t b : List ℕ) (field : ℕ) where
   -- the checks before the audit give 1 to 10, 24, 12, 13 and 27 alone

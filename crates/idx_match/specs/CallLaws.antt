@@ -10,8 +10,10 @@ use lib.ListN.{length}
 use lib.Dec.{eqb, lit<}
 use borrow.Author.Tests.{eqb-true, eq-eqb, ne-eqb}
 use Rattle.basis.specs.Tests.{contra}
-use Rattle.dbf_table.specs.Table.{typeC, recordCount, recordStart, fieldCount, fieldType, fieldLength, firstRefusal, tableChecks, tableRefusal, checkTable}
-use Rattle.dbf_table.specs.TableLaws.{layout, table-numbered, first-after, first-both, first-none, refused-check, refused-then, Shaped}
+use Rattle.refusal.specs.CheckLaws.{first-after, first-both, first-none}
+use Rattle.refusal.specs.Checks.{firstRefusal}
+use Rattle.dbf_table.specs.Table.{typeC, recordCount, recordStart, fieldCount, fieldType, fieldLength, tableChecks, tableRefusal, checkTable}
+use Rattle.dbf_table.specs.TableLaws.{layout, table-numbered, refused-check, refused-then, Shaped}
 use Rattle.dbf_table.specs.RecordLaws.{field-inside, record-inside}
 use Rattle.dbf_table.specs.declared.Shape.{Shape}
 use Rattle.dbf_table.specs.declared.Checked.the-variants.{Refused}

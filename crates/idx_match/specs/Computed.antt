@@ -3,7 +3,7 @@
 use Prim.Native.Nat.{ℕ}
 use mathlib.Core.List.{List, [], _∷_}
 use lib.Dec.{eqb}
-use Rattle.dbf_table.specs.Table.{firstRefusal}
+use Rattle.refusal.specs.Checks.{firstRefusal}
 use Rattle.idx_sound.specs.AuditTest.{pagesGood}
 use Rattle.idx_match.specs.Match.{matchRefusal}
 use Rattle.idx_match.specs.MatchTest.{columnOf, entriesMatch, leafEntries}

@@ -8,16 +8,18 @@ use native.Mathlib.Omega.{arith}
 use lib.Dec.{ltb}
 use borrow.Author.Tests.{ltb-true, ltb-false}
 use Rattle.basis.specs.Tests.{either}
+use Rattle.refusal.specs.CheckLaws.{first-same}
+use Rattle.refusal.specs.Checks.{firstRefusal}
 use Rattle.tree.specs.ListLaws.{all-map2}
 use Rattle.octets.specs.StoreLaws.{window-before, window-after}
-use Rattle.dbf_table.specs.Table.{fieldLength, fieldCount, recordCount, recordLength, recordsEnd, recordStart, firstRefusal, tableChecks, tableRefusal}
+use Rattle.dbf_table.specs.Table.{fieldLength, fieldCount, recordCount, recordLength, recordsEnd, recordStart, tableChecks, tableRefusal}
 use Rattle.dbf_table.specs.TableLaws.{HeaderFits, layout}
 use Rattle.dbf_table.specs.RecordLaws.{field-inside, records-next, offset-positive}
 use Rattle.dbf_field.specs.Field.{numberGood}
 use Rattle.dbf_field.specs.FieldLaws.{number-range}
 use Rattle.dbf_cell.specs.Cell.{fieldStart, fieldBytes}
 use Rattle.dbf_table.specs.HeaderLaws.{SameHeader, checks-same, count-same, fields-same, end-same, type-same, width-same, offset-same}
-use Rattle.dbf_cell.specs.MarkLaws.{withMark, first-same, same-header}
+use Rattle.dbf_cell.specs.MarkLaws.{withMark, same-header}
 use Rattle.idx_page.specs.Header.{headerGood}
 use Rattle.idx_sound.specs.Sound.{leafPairs}
 use Rattle.idx_sound.specs.AuditTest.{Entries}

@@ -6,7 +6,8 @@ use mathlib.Core.List.{List, [], _∷_, _++_, map}
 use mathlib.Core.Logic.{_↔_, _⊎_}
 use lib.Dec.{eqb}
 use Rattle.basis.specs.Lists.{All}
-use Rattle.dbf_table.specs.Table.{typeC, recordCount, fieldCount, fieldType, fieldLength, firstRefusal, tableChecks}
+use Rattle.refusal.specs.Checks.{firstRefusal}
+use Rattle.dbf_table.specs.Table.{typeC, recordCount, fieldCount, fieldType, fieldLength, tableChecks}
 use Rattle.dbf_field.specs.Field.{numberGood}
 use Rattle.dbf_cell.specs.Cell.{fieldBytes}
 use Rattle.tree.specs.Lists.{occ}

@@ -105,6 +105,9 @@ pub const CONTROL_BYTE: u32 = 32;
 // The key to strike off is absent.
 pub const KEY_ABSENT: u32 = 33;
 
+// An empty numeric field, which has no key.
+pub const NO_KEY: u32 = 34;
+
 // ---- The dilution of a sample.
 
 // The barcode is absent from the index, or its record is deleted.
@@ -118,6 +121,11 @@ pub const TARGET_OR_VOLUME: u32 = 37;
 
 // The target is above the concentration.
 pub const TARGET_ABOVE_CONCENTRATION: u32 = 38;
+
+// ---- All records of a key.
+
+// The lent list is shorter than the records of the key.
+pub const LIST_TOO_SHORT: u32 = 39;
 
 // ---- A program's arguments.
 
@@ -134,3 +142,11 @@ pub const ABSENT: u32 = 257;
 
 // The walk has no record left.
 pub const DONE: u32 = 258;
+
+// ---- A call that writes.
+
+// Its answer: the change is made, or refused by a number, and nothing is changed.
+pub enum Change {
+    Made,
+    Refused(u32),
+}

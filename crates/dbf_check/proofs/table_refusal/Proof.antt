@@ -6,8 +6,10 @@ use mathlib.Core.List.{List}
 use lib.ListN.{length, drop}
 use borrow.Author.Needs.{needs}
 use Rattle.basis.specs.Tests.{passed, failed}
-use Rattle.dbf_table.specs.Table.{minTable, sizeGood, tableChecks, tableRefusal, firstRefusal}
-use Rattle.dbf_table.specs.TableLaws.{HeaderFits, size-long, header-fits, first-pass, first-fail}
+use Rattle.refusal.specs.CheckLaws.{first-pass, first-fail}
+use Rattle.refusal.specs.Checks.{firstRefusal}
+use Rattle.dbf_table.specs.Table.{minTable, sizeGood, tableChecks, tableRefusal}
+use Rattle.dbf_table.specs.TableLaws.{HeaderFits, size-long, header-fits}
 use Rattle.dbf_check.proofs.table_refusal.Statement.{statement}
 use Rattle.dbf_check.proofs.table_refusal.Tie as tie
 

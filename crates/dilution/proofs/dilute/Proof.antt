@@ -3,7 +3,7 @@ use mathlib.Core.Path.{_≡_, sym, _∙_}
 use mathlib.Core.Bool.{true}
 use native.Mathlib.Omega.{arith}
 use lib.ListN.{length}
-use Rattle.dbf_table.specs.Table.{firstRefusal}
+use Rattle.refusal.specs.Checks.{firstRefusal}
 use Rattle.idx_page.specs.Header.{keyLength, headerGood}
 use Rattle.idx_page.specs.HeaderLaws.{good-header}
 use Rattle.dilution.specs.Dilution.{sheetChecks}

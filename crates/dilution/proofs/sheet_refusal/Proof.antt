@@ -1,6 +1,6 @@
 -- `dilution::sheet_refusal` meets its contract: table and header, the match's answer, and then the field's. Assumes nothing.
 use mathlib.Core.Path.{_≡_, sym, _∙_}
-use Rattle.dbf_table.specs.Table.{firstRefusal}
+use Rattle.refusal.specs.Checks.{firstRefusal}
 use Rattle.idx_match.specs.Computed.{matchAnswer}
 use Rattle.idx_match.specs.AnswerLaws.{answer-computed}
 use Rattle.dilution.specs.Dilution.{headerChecks}
