@@ -10,6 +10,7 @@ use borrow.Author.Tests.{leb-true, eqb-true, eqb-false, eq-eqb, ne-eqb}
 use Rattle.basis.specs.Tests.{either, both, impossible}
 use Rattle.basis.specs.Lists.{All}
 use Rattle.refusal.specs.Checks.{firstRefusal}
+use Rattle.refusal.specs.CheckLaws.{Numbered, first-none, first-after, first-before}
 use Rattle.octets.specs.Bytes.{byteAt}
 use Rattle.dbf_table.specs.RangeLaws.{all-at}
 use Rattle.dbf_table.specs.Table.{minTable, maxTable, maxFields, maxRecord, fileEnd, tableKind, headerLength, recordLength, recordCount, recordsEnd}
