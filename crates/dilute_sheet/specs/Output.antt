@@ -1,4 +1,5 @@
--- Rules: a text that is written into a lent buffer from an offset on, as far as there is room. `dilute_sheet` says by it what the buffer holds and what it answers.
+-- Rules: a text that is written into a lent buffer from an offset on, as far as there is room. The contract of `sheet` says by it what the
+-- buffer holds and what the call answers.
 use Prim.Native.Nat.{ℕ, _+_, _≤_, min}
 use mathlib.Core.Path.{_≡_}
 use mathlib.Core.List.{List}

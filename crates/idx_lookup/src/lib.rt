@@ -190,7 +190,7 @@ fn first_from(index: &[u8], key: &[u8], page: PageOffset, levels: u32) -> Answer
     }
 }
 
-// Lookup from the root on, for a caller that has tested the header and the key's length. `idx_lookup` is left with one caller in the archive, so that the compiler
+// Lookup from the root on, for a caller that has tested the header and the key's length. `lookup` is left with one caller in the archive, so that the compiler
 // takes it in there.
 pub fn lookup_from_root(index: &[u8], key: &[u8]) -> Answer
     requires { ⌜ (headerGood (now index) ≡ true) × (length (now key) ≡ keyLength (now index)) ⌝ }

@@ -1,7 +1,7 @@
 -- Rules: what a sound index is, in document 01's clauses, order and words ("Sound: good header; every page ..", The index), and for keys above pages and equal
 -- keys in change requests K1's and K12's, on the tree that the bytes are read as. The audit's contract cites `Audited`; the match's contract and the claim
--- about lists of calls cite `Sound`. The rules of insertion and removal compute with the test of Rule, and the laws of idx_book/InsertionAnswers and RemovalAnswers
--- say their answers by `Sound`.
+-- about lists of calls cite `Sound`. The rules of insertion and removal compute with the test of AuditTest, and the laws of idx_book/InsertionAnswers and
+-- RemovalAnswers say their answers by `Sound`.
 use Prim.Native.Nat.{ℕ, _+_, _≤_, _<_}
 use mathlib.Core.Path.{_≡_}
 use mathlib.Core.List.{List, _++_}

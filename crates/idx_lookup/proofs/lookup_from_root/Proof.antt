@@ -1,4 +1,5 @@
--- `idx_lookup::lookup_from_root` meets its contract: the rule's two tests are passed, and its steps, by the header's features, begin at the root. Assumes nothing.
+-- `idx_lookup::lookup_from_root` meets its contract: the rule's two tests are passed, and its steps, by the header's features, begin at the root.
+-- Assumes nothing.
 use mathlib.Core.Path.{_≡_, sym, _∙_}
 use lib.ListN.{length}
 use borrow.Author.Tests.{eq-eqb}

@@ -1,5 +1,5 @@
--- `dilute_sheet::input::input_fault` meets its contract. The loop's invariant: the first fault from line `line` on, which begins at `from`, is the input's first.
--- Assumes nothing.
+-- `dilute_sheet::input::input_fault` meets its contract. The loop's invariant: the first fault from line `line` on, which begins at `from`, is the input's
+-- first. Assumes nothing.
 use Prim.Native.Nat.{_-_, _≤_}
 use mathlib.Core.Path.{_≡_, refl, sym, ap, _∙_}
 use native.Mathlib.Omega.{arith}

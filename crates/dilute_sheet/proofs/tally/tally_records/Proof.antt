@@ -1,5 +1,5 @@
--- `dilute_sheet::tally::tally_records` meets its contract. The loop's invariant: both counts so far, and those of the records that are left, make the whole sheet's.
--- Assumes nothing.
+-- `dilute_sheet::tally::tally_records` meets its contract. The loop's invariant: both counts so far, and those of the records that are left, make the
+-- whole sheet's. Assumes nothing.
 use Prim.Native.Nat.{_+_, _-_, _≤_}
 use mathlib.Core.Path.{_≡_, refl, ap, _∙_}
 use native.Mathlib.Omega.{arith}

@@ -1,5 +1,5 @@
--- `inspect_report::report::record_lines` meets its contract. The loop's invariant: there are at most as many lines with a refusal as fields of the records so far.
--- A good table has 1 to 128 fields. Assumes nothing.
+-- `inspect_report::report::record_lines` meets its contract. The loop's invariant: there are at most as many lines with a refusal as fields of the
+-- records so far. A good table has 1 to 128 fields. Assumes nothing.
 use Prim.Native.Nat.{_≤_, _-_, _*_}
 use native.Mathlib.Omega.{arith}
 use borrow.Author.Needs.{needs}
