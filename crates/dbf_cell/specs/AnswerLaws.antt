@@ -19,8 +19,8 @@ use Rattle.numeral.specs.Format.{formatGood, maxDigits, comma}
 use Rattle.numeral.specs.Reading.{readNumber, some, textGood, digitCount, valueOf}
 use Rattle.numeral.specs.ReadingLaws.{refused-6}
 use Rattle.numeral.specs.declared.Number.the-variants as number
-use Rattle.fpt_memo.specs.Memo.{memoHeaderBytes, memoHeaderGood, numberedText, readText, memoText}
-use Rattle.fpt_memo.specs.NumberText.{memoNumberText, number-exactly}
+use Rattle.fpt_memo.specs.Memo.{memoHeaderBytes, memoHeaderGood, numberedText, readText, memoText, memoNumberText}
+use Rattle.fpt_memo.specs.NumberText.{number-exactly}
 use Rattle.fpt_memo.specs.MemoLaws.{text-refusal}
 use Rattle.fpt_memo.specs.declared.MemoPlace.{MemoPlace}
 use Rattle.fpt_memo.specs.declared.MemoPlace.the-variants as memo

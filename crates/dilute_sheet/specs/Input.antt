@@ -2,7 +2,8 @@
 -- concentration field, target, final."
 use Prim.Native.Nat.{ℕ, _+_, min}
 use mathlib.Core.Bool.{Bool, true, false, cond, _&&_}
-use mathlib.Core.List.{List}
+use mathlib.Core.Path.{_≡_}
+use mathlib.Core.List.{List, [], _∷_}
 use lib.ListN.{length, drop}
 use lib.Dec.{eqb, leb}
 use Rattle.octets.specs.Bytes.{byteAt}
@@ -57,3 +58,36 @@ inputOf s =
     let third = nextLine s second in
     let fourth = nextLine s third in
     cond (fourth .good && eqb (fourth .end) (length s)) (Asked (requestOf first second third fourth)) Other
+
+-- ---- the answer as document 02 counts it
+
+-- an input's number: 0 for four numbers, "40 alone for other input"
+abbrev pub inputCode : Input → ℕ
+inputCode (Asked request) = 0
+inputCode Other = 40
+
+-- its values, in the paper's order: "barcode field, concentration field, target, final"
+abbrev pub requestValues : Request → List ℕ
+requestValues request = request .«barcode_field» ∷ request .field ∷ request .target ∷ request .«final_volume» ∷ []
+
+abbrev pub inputValues : Input → List ℕ
+inputValues (Asked request) = requestValues request
+inputValues Other = []
+
+-- whether the last of four lines ends the input, and the numbers of the four
+unfoldable pub fourLines : List ℕ → Bool
+fourLines s = let fourth = nextLine s (nextLine s (nextLine s (lineAt s 0))) in fourth .good && eqb (fourth .end) (length s)
+
+unfoldable pub fourNumbers : List ℕ → List ℕ
+fourNumbers s =
+    let first = lineAt s 0 in
+    let second = nextLine s first in
+    let third = nextLine s second in
+    let fourth = nextLine s third in
+    min (first .number) maxNumber ∷ min (second .number) maxNumber ∷ third .number ∷ fourth .number ∷ []
+
+-- what `read_input` answers: the case; 0 with the four numbers, or 40 with none
+pub record InputAnswer (s : List ℕ) (r : Input) : Type 0 where
+  pub case : r ≡ inputOf s
+  pub number : inputCode r ≡ cond (fourLines s) 0 40
+  pub values : inputValues r ≡ cond (fourLines s) (fourNumbers s) []

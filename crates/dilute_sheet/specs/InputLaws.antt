@@ -17,8 +17,9 @@ use Rattle.octets.specs.declared.Digits.the-variants.{Number}
 use Rattle.numeral.specs.Reading.{front}
 use Rattle.numeral.specs.ReadingLaws.{front-more, front-ends, every-front}
 use Rattle.dilute_sheet.specs.declared.input.NumberLine.{NumberLine}
+use Rattle.dilute_sheet.specs.declared.input.Input.{Input}
 use Rattle.dilute_sheet.specs.declared.input.Input.the-variants.{Asked, Other}
-use Rattle.dilute_sheet.specs.Input.{lineFeed, digitsAt, lineGood, noLine, lineAt, nextLine, requestOf, inputOf}
+use Rattle.dilute_sheet.specs.Input.{lineFeed, digitsAt, lineGood, noLine, lineAt, nextLine, requestOf, inputOf, fourLines, fourNumbers, InputAnswer}
 
 -- ---- the digits, one after another
 
@@ -117,3 +118,12 @@ module _ (s : List ℕ) (first second third fourth : NumberLine) (a : first ≡ 
   pub input-other : fourth .good && eqb (fourth .end) (length s) ≡ false → inputOf s ≡ Other
   unfolding inputOf
   input-other e = rw (← a, ← b, ← c, ← d, e)
+
+-- the answer's number and values, by its case
+pub input-answer : (s : List ℕ) (r : Input) → r ≡ inputOf s → InputAnswer s r
+unfolding inputOf fourLines fourNumbers requestOf
+input-answer s r e = record {
+  case = e;
+  number = rw e (either (fourLines s) (λ good. rw good) (λ bad. rw bad));
+  values = rw e (either (fourLines s) (λ good. rw good) (λ bad. rw bad));
+}

@@ -2,7 +2,7 @@
 ghost use Prim.Native.Nat.{_+_};
 ghost use mathlib.Core.Path.{_≡_};
 ghost use lib.ListN.{length};
-ghost use Rattle.dilute_sheet.specs.Input.{digitsAt, noLine, lineAt, nextLine, requestOf, inputOf};
+ghost use Rattle.dilute_sheet.specs.Input.{digitsAt, noLine, lineAt, nextLine, requestOf, InputAnswer};
 ghost use Rattle.dilute_sheet.specs.Fault.{wrongAt, wrongAfter, inputFault};
 use octets::Digits;
 
@@ -125,7 +125,7 @@ fn request_of(
 
 // What the input asks for: four lines, and nothing after.
 pub fn read_input(input: &[u8]) -> Input
-    ensures { λ r. ⌜ r ≡ inputOf (now (input .entry)) ⌝ }
+    ensures { λ r. ⌜ InputAnswer (now (input .entry)) r ⌝ }
 {
     let first = line_at(input, 0);
     let second = next_line(input, first);

@@ -1,13 +1,13 @@
 -- Rules: the FPT memo file, document 01, "Field text", paragraph M, with refusals 21 to 23 in the paper's order. Cited by `memo_place`.
-use Prim.Native.Nat.{ℕ, _+_, _*_, _%_, _≤_}
+use Prim.Native.Nat.{ℕ, _+_, _*_, _-_, _%_, _^_, _≤_, _<_}
 use mathlib.Core.Path.{_≡_}
 use mathlib.Core.Logic.{_↔_}
 use mathlib.Core.Bool.{Bool, cond, _&&_}
-use mathlib.Core.List.{List, [], _∷_}
-use lib.ListN.{length}
+use mathlib.Core.List.{List, [], _∷_, _++_}
+use lib.ListN.{length, replicate}
 use lib.Dec.{leb, ltb, eqb}
 use Rattle.octets.specs.Bytes.{be16, be32}
-use Rattle.octets.specs.Text.{every, unpadded, zeroDigit, isDigit, numberOf}
+use Rattle.octets.specs.Text.{every, blank, unpadded, zeroDigit, isDigit, numberOf, decimal}
 use Rattle.fpt_memo.specs.declared.MemoNumber.{MemoNumber}
 use Rattle.fpt_memo.specs.declared.MemoNumber.the-variants.{Blank, Bad, Number}
 use Rattle.fpt_memo.specs.declared.MemoPlace.{MemoPlace}
@@ -28,6 +28,10 @@ digitsNumber (c ∷ s) = cond (ltb zeroDigit c && every isDigit (c ∷ s)) (Numb
 -- "ten blanks is empty; else digits right-justified"; a text of another length is bad
 unfoldable pub memoNumber : List ℕ → MemoNumber
 memoNumber text = cond (eqb (length text) 10) (digitsNumber (unpadded text)) Bad
+
+-- the text of n in k characters: "digits right-justified"
+unfoldable pub memoNumberText : ℕ → ℕ → List ℕ
+memoNumberText k n = replicate (k - length (decimal n)) blank ++ decimal n
 
 -- "bytes 0-3 next free block", "FPT numbers are most significant byte first"
 abbrev pub nextFree : List ℕ → ℕ
@@ -86,7 +90,25 @@ readText file (Number number) = numberedText file number
 unfoldable pub memoText : List ℕ → List ℕ → MemoPlace
 memoText text file = readText file (memoNumber text)
 
--- ---- the answer as document 01 counts it
+-- ---- the answers as document 01 counts them
+
+-- the number of what an M field's text says: 0 for a memo's number, 256 for an empty field, 21 for another text
+abbrev pub memoNumberCode : MemoNumber → ℕ
+memoNumberCode (Number n) = 0
+memoNumberCode Blank = 256
+memoNumberCode Bad = 21
+
+-- its values: the memo's number
+abbrev pub memoNumberValues : MemoNumber → List ℕ
+memoNumberValues (Number n) = n ∷ []
+memoNumberValues Blank = []
+memoNumberValues Bad = []
+
+-- what `read_number` answers: the case; 0 and n exactly for the one text of n, "at least 1"; 256 exactly for ten blanks; so 21 for every other text
+pub record NumberAnswer (text : List ℕ) (r : MemoNumber) : Type 0 where
+  pub case : r ≡ memoNumber text
+  pub accepted : (n : ℕ) → ((memoNumberCode r ≡ 0) × (memoNumberValues r ≡ n ∷ [])) ↔ ((1 ≤ n) × (n < 10 ^ 10) × (text ≡ memoNumberText 10 n))
+  pub empty : (memoNumberCode r ≡ 256) ↔ (text ≡ replicate 10 blank)
 
 -- an answer's number: 0 for a text's place, 256 for an empty field, or the refusal's
 abbrev pub memoPlaceCode : MemoPlace → ℕ

@@ -1,5 +1,5 @@
 -- Laws: each memo number has one text, and that text gives the number back; only ten blanks are empty. Assumes nothing.
-use mathlib.Core.Path.{_≡_, refl}
+use mathlib.Core.Path.{_≡_, refl, sym, ap, _∙_}
 use mathlib.Core.Bool.{true, _&&_}
 use mathlib.Core.List.{List, [], _∷_, _++_}
 use mathlib.Core.Logic.{_↔_}
@@ -12,13 +12,10 @@ use Rattle.basis.specs.Tests.{either, contra, both, impossible}
 use Rattle.octets.specs.Text.{every, blank, unpadded, zeroDigit, isDigit, numberOf, decimal}
 use Rattle.octets.specs.TextLaws.{digit-range, unpadded-digit, unpadded-blanks, unpadded-front}
 use Rattle.octets.specs.DigitLaws.{decimal-fits, decimal-digits, leads, decimal-leads, number-decimal}
+use Rattle.fpt_memo.specs.declared.MemoNumber.{MemoNumber}
 use Rattle.fpt_memo.specs.declared.MemoNumber.the-variants.{Blank, Bad, Number}
-use Rattle.fpt_memo.specs.Memo.{digitsNumber, memoNumber}
+use Rattle.fpt_memo.specs.Memo.{digitsNumber, memoNumber, memoNumberText, memoNumberCode, memoNumberValues, NumberAnswer}
 use Rattle.fpt_memo.specs.NumberLaws.{digits-said, number-read, number-between, bad-number}
-
--- the text of n in k characters: blanks on the left, then its decimal digits
-unfoldable pub memoNumberText : ℕ → ℕ → List ℕ
-memoNumberText k n = replicate (k - length (decimal n)) blank ++ decimal n
 
 -- ten characters are blanks, and behind them what is left without the blanks
 text-is : (text s : List ℕ) → length text ≡ 10 → unpadded text ≡ s → text ≡ replicate (10 - length s) blank ++ s
@@ -72,3 +69,37 @@ blank-exactly text = (
   λ e. let read = number-read text Blank bad-blank e in text-is text [] (read .0) (nothing-said (unpadded text) (read .1)),
   λ h. rw h,
 )
+
+-- ---- the answer's number and values
+
+one-value : (n m : ℕ) → n ∷ [] ≡ m ∷ [] → n ≡ m
+one-value n m e = cc
+
+no-value : (n : ℕ) → [] ≡ n ∷ [] → ⊥
+no-value n e = impossible (cc)
+
+number-blank : (n : ℕ) → Number n ≡ Blank → ⊥
+number-blank n e = impossible (cc)
+
+same-number : (n m : ℕ) → Number n ≡ Number m → n ≡ m
+same-number n m e = cc
+
+pub number-answer : (text : List ℕ) (r : MemoNumber) → r ≡ memoNumber text → NumberAnswer text r
+number-answer text (Number m) e = record {
+  case = e;
+  accepted = λ n. (
+    λ h. number-exactly text n .0 (sym e ∙ ap Number (one-value m n (h .1))),
+    λ h. (refl, ap (λ (k : ℕ). k ∷ []) (same-number m n (e ∙ number-exactly text n .1 h))),
+  );
+  empty = (λ z. absurd (omega (arith, z)), λ h. absurd (number-blank m (e ∙ blank-exactly text .1 h)));
+}
+number-answer text Blank e = record {
+  case = e;
+  accepted = λ n. (λ h. absurd (no-value n (h .1)), λ h. absurd (number-blank n (sym (number-exactly text n .1 h) ∙ sym e)));
+  empty = (λ z. blank-exactly text .0 (sym e), λ h. refl);
+}
+number-answer text Bad e = record {
+  case = e;
+  accepted = λ n. (λ h. absurd (no-value n (h .1)), λ h. absurd (bad-number n (e ∙ number-exactly text n .1 h)));
+  empty = (λ z. absurd (omega (arith, z)), λ h. absurd (bad-blank (e ∙ blank-exactly text .1 h)));
+}

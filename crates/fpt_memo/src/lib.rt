@@ -5,7 +5,7 @@ use octets::load_be32;
 ghost use mathlib.Core.Path.{_≡_};
 ghost use Prim.Native.Nat.{_+_, _^_, _≤_, _<_};
 ghost use lib.ListN.{length};
-ghost use Rattle.fpt_memo.specs.Memo.{memoHeaderBytes, memoNumber, blockSize, memoHeaderGood, headFits, endFits};
+ghost use Rattle.fpt_memo.specs.Memo.{memoHeaderBytes, NumberAnswer, blockSize, memoHeaderGood, headFits, endFits};
 ghost use Rattle.fpt_memo.specs.Memo.{blockText, numberedText, MemoAnswer};
 
 // The header's length: the least length of a memo file, and the first place where a block can start.
@@ -30,7 +30,7 @@ pub enum MemoPlace {
 
 // Reads an M field's text: blanks, then digits without a leading zero.
 pub fn read_number(text: &[u8]) -> MemoNumber
-    ensures { λ r. ⌜ r ≡ memoNumber (now (text .entry)) ⌝ }
+    ensures { λ r. ⌜ NumberAnswer (now (text .entry)) r ⌝ }
 {
     if text.len() != 10 {
         return MemoNumber::Bad;

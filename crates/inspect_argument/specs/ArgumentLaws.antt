@@ -12,7 +12,7 @@ use Rattle.octets.specs.Text.{every, isDigit, digitsOf}
 use Rattle.octets.specs.TextLaws.{digits-read, digits-unread}
 use Rattle.octets.specs.declared.Digits.{Digits}
 use Rattle.octets.specs.declared.Digits.the-variants as digits
-use Rattle.inspect_argument.specs.Arguments.{isNumber, isName, maxNumber, fieldArgument}
+use Rattle.inspect_argument.specs.Arguments.{isNumber, isName, maxNumber, fieldArgument, fieldArgumentCode, fieldArgumentValues, FieldArgument}
 use Rattle.inspect_argument.specs.declared.Field.{Field}
 use Rattle.inspect_argument.specs.declared.Field.the-variants.{Number, Name, Other}
 
@@ -42,3 +42,12 @@ module _ (text : List ℕ) (some : 1 ≤ length text) (few : length text ≤ 10)
   by-digits first =
       rw (le-leb 1 (length text) some, le-leb (length text) 10 few, first)
       (either (every isDigit text) (λ all. rw (all, digits-read text all)) (λ other. rw (other, digits-unread text other)))
+
+-- the answer's number and values, by its case
+pub field-answer : (text : List ℕ) (r : Field) → r ≡ fieldArgument text → FieldArgument text r
+unfolding fieldArgument
+field-answer text r e = record {
+  case = e;
+  number = rw e (either (isName text) (λ name. rw name) (λ none. either (isNumber text) (λ number. rw (none, number)) (λ other. rw (none, other))));
+  values = rw e (either (isName text) (λ name. rw name) (λ none. either (isNumber text) (λ number. rw (none, number)) (λ other. rw (none, other))));
+}

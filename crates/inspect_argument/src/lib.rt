@@ -5,7 +5,7 @@ pub mod names;
 ghost use Prim.Native.Nat.{_+_, _≤_, min};
 ghost use mathlib.Core.Path.{_≡_};
 ghost use lib.ListN.{length};
-ghost use Rattle.inspect_argument.specs.Arguments.{maxNumber, fieldArgument, isLetter, ndxAt, isNdx};
+ghost use Rattle.inspect_argument.specs.Arguments.{maxNumber, FieldArgument, isLetter, ndxAt, isNdx};
 use octets::Digits;
 
 // The greatest number of 32 bits, which no field of a table has.
@@ -32,7 +32,7 @@ pub fn at_most_32_bits(n: u64) -> u32
 
 // What the argument FIELD says.
 pub fn field_argument(text: &[u8]) -> Field
-    ensures { λ r. ⌜ r ≡ fieldArgument (now (text .entry)) ⌝ }
+    ensures { λ r. ⌜ FieldArgument (now (text .entry)) r ⌝ }
 {
     if text.len() < 1 {
         return Field::Other;

@@ -19,15 +19,15 @@ enum-told-3 c = search needs
 
 returns : tie.Need-returns
 unfolding memoRefusal
-returns c = rw (sym (c .before .before .read-number .ensures) ∙ c .enum-told .given .1)
+returns c = rw (sym (c .before .before .read-number .ensures .case) ∙ c .enum-told .given .1)
 
 returns-2 : tie.Need-returns-2
 unfolding memoRefusal
-returns-2 c = rw (sym (c .before .before .read-number .ensures) ∙ c .enum-told2 .given .1)
+returns-2 c = rw (sym (c .before .before .read-number .ensures .case) ∙ c .enum-told2 .given .1)
 
 returns-3 : tie.Need-returns-3
 unfolding memoRefusal
-returns-3 c = rw (sym (c .before .before .read-number .ensures) ∙ c .enum-told3 .given .1)
+returns-3 c = rw (sym (c .before .before .read-number .ensures .case) ∙ c .enum-told3 .given .1)
 
 pub memo-refusal-spec : {M : Type 1} → statement M
 memo-refusal-spec =

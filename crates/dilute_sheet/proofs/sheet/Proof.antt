@@ -30,7 +30,7 @@ returns c =
     let ended = c .before .before in
     let told = ended .before .before .before in
     let text = ended .put-request .ensures in
-    (rw (sym (told .before .before .read-input .ensures) ∙ told .asked .given .1) text, wrote-counts _ _ _ _ _ text)
+    (rw (sym (told .before .before .read-input .ensures .case) ∙ told .asked .given .1) text, wrote-counts _ _ _ _ _ text)
 
 same-length-2 : tie.Need-same-length-2
 same-length-2 c = search needs
@@ -41,7 +41,7 @@ returns-2 c =
     let ended = c .before .before in
     let told = ended .before .before in
     let text = ended .put-alone .ensures in
-    (rw (sym (told .before .before .read-input .ensures) ∙ told .enum-told .given .1) text, wrote-counts _ _ _ _ _ text)
+    (rw (sym (told .before .before .read-input .ensures .case) ∙ told .enum-told .given .1) text, wrote-counts _ _ _ _ _ text)
 
 pub sheet-spec : {M : Type 1} → statement M
 sheet-spec =

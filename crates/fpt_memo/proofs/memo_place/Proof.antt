@@ -22,21 +22,21 @@ enum-known-read c = search needs
 numbered-text-requires : tie.Need-numbered-text-requires
 numbered-text-requires c κs =
     let told = c .before in
-    number-between _ _ (sym (told .before .before .read-number .ensures) ∙ told .read .given .1) .1
+    number-between _ _ (sym (told .before .before .read-number .ensures .case) ∙ told .read .given .1) .1
 
 returns : tie.Need-returns
 unfolding memoText readText
-returns c = memo-answer _ _ _ (rw (sym (c .before .before .read-number .ensures) ∙ c .enum-told .given .1))
+returns c = memo-answer _ _ _ (rw (sym (c .before .before .read-number .ensures .case) ∙ c .enum-told .given .1))
 
 returns-2 : tie.Need-returns-2
 unfolding memoText readText
-returns-2 c = memo-answer _ _ _ (rw (sym (c .before .before .read-number .ensures) ∙ c .enum-told2 .given .1))
+returns-2 c = memo-answer _ _ _ (rw (sym (c .before .before .read-number .ensures .case) ∙ c .enum-told2 .given .1))
 
 returns-3 : tie.Need-returns-3
 unfolding memoText readText
 returns-3 c =
     let told = c .before .before in
-    memo-answer _ _ _ (rw (sym (told .before .before .read-number .ensures) ∙ told .read .given .1) (c .numbered-text .ensures))
+    memo-answer _ _ _ (rw (sym (told .before .before .read-number .ensures .case) ∙ told .read .given .1) (c .numbered-text .ensures))
 
 pub memo-place-spec : {M : Type 1} → statement M
 memo-place-spec =

@@ -9,6 +9,7 @@ use borrow.Author.Tests.{ne-eqb}
 use Rattle.octets.specs.Text.{digitsOf}
 use Rattle.fpt_memo.specs.Memo.{digitsNumber, memoNumber}
 use Rattle.fpt_memo.specs.NumberLaws.{number-said, number-blank, ofDigits, number-zero, number-digits}
+use Rattle.fpt_memo.specs.NumberText.{number-answer}
 use Rattle.fpt_memo.proofs.read_number.Statement.{statement}
 use Rattle.fpt_memo.proofs.read_number.Tie as tie
 
@@ -36,13 +37,13 @@ by-digits c = by-behind (counted c) ∙ number-digits (text-at (counted c)) (fro
 
 returns : tie.Need-returns
 unfolding memoNumber
-returns c = rw (ne-eqb _ 10 (c .if1 .taken))
+returns c = number-answer _ _ (rw (ne-eqb _ 10 (c .if1 .taken)))
 
 padding-requires : tie.Need-padding-requires
 padding-requires c κs = search needs
 
 returns-2 : tie.Need-returns-2
-returns-2 c = sym (by-behind (c .before) ∙ number-blank (text-at (c .before)) (from (c .before)) (omega arith))
+returns-2 c = number-answer _ _ (sym (by-behind (c .before) ∙ number-blank (text-at (c .before)) (from (c .before)) (omega arith)))
 
 shared-slice-read-if3 : tie.Need-shared-slice-read-if3
 shared-slice-read-if3 c = search needs
@@ -50,7 +51,7 @@ shared-slice-read-if3 c = search needs
 returns-3 : tie.Need-returns-3
 returns-3 c =
     let place = c .before .before .before in
-    sym (by-behind place ∙ number-zero (text-at place) (from place) (omega arith) (c .if3 .taken))
+    number-answer _ _ (sym (by-behind place ∙ number-zero (text-at place) (from place) (omega arith) (c .if3 .taken)))
 
 sub-read-digits : tie.Need-sub-read-digits
 sub-read-digits c = search needs
@@ -73,12 +74,12 @@ enum-told c = search needs
 returns-4 : tie.Need-returns-4
 returns-4 c =
     let read = c .before .before .before in
-    sym (by-digits (read .before .before) ∙ ap ofDigits (sym (read .read-digits .ensures) ∙ c .before .n .given .1))
+    number-answer _ _ (sym (by-digits (read .before .before) ∙ ap ofDigits (sym (read .read-digits .ensures) ∙ c .before .n .given .1)))
 
 returns-5 : tie.Need-returns-5
 returns-5 c =
     let read = c .before .before in
-    sym (by-digits (read .before .before) ∙ ap ofDigits (sym (read .read-digits .ensures) ∙ c .enum-told .given .1))
+    number-answer _ _ (sym (by-digits (read .before .before) ∙ ap ofDigits (sym (read .read-digits .ensures) ∙ c .enum-told .given .1)))
 
 pub read-number-spec : {M : Type 1} → statement M
 read-number-spec =

@@ -3,15 +3,15 @@ use native.Mathlib.Omega.{arith}
 use mathlib.Core.Path.{sym, ap, _∙_}
 use borrow.Author.Needs.{needs}
 use Rattle.basis.specs.Tests.{passed, failed}
-use Rattle.inspect_argument.specs.ArgumentLaws.{too-short, too-long, by-name, ofDigits, by-digits}
+use Rattle.inspect_argument.specs.ArgumentLaws.{too-short, too-long, by-name, ofDigits, by-digits, field-answer}
 use Rattle.inspect_argument.proofs.field_argument.Statement.{statement}
 use Rattle.inspect_argument.proofs.field_argument.Tie as tie
 
 returns : tie.Need-returns
-returns c = sym (too-short _ (search needs))
+returns c = field-answer _ _ (sym (too-short _ (search needs)))
 
 returns-2 : tie.Need-returns-2
-returns-2 c = sym (too-long _ (search needs))
+returns-2 c = field-answer _ _ (sym (too-long _ (search needs)))
 
 shared-slice-read-is-digit : tie.Need-shared-slice-read-is-digit
 shared-slice-read-is-digit c = search needs
@@ -21,7 +21,7 @@ is-digit-requires c κs = search needs
 
 returns-3 : tie.Need-returns-3
 returns-3 c =
-    sym (by-name _ (omega arith) (omega arith) (failed (c .before .is-digit .ensures) (c .if3 .taken)))
+    field-answer _ _ (sym (by-name _ (omega arith) (omega arith) (failed (c .before .is-digit .ensures) (c .if3 .taken))))
 
 read-digits-requires : tie.Need-read-digits-requires
 read-digits-requires c κs = search needs
@@ -41,14 +41,14 @@ returns-4 c =
     let asked = told .before .before in
     let first = passed (asked .before .before .is-digit .ensures) (asked .before .if3 .left) in
     let said = sym (asked .read-digits .ensures) ∙ told .number .given .1 in
-    rw (c .at-most-32-bits .ensures) (sym (by-digits _ (omega arith) (omega arith) first ∙ ap ofDigits said))
+    field-answer _ _ (rw (c .at-most-32-bits .ensures) (sym (by-digits _ (omega arith) (omega arith) first ∙ ap ofDigits said)))
 
 returns-5 : tie.Need-returns-5
 returns-5 c =
     let asked = c .before .before in
     let first = passed (asked .before .before .is-digit .ensures) (asked .before .if3 .left) in
     let said = sym (asked .read-digits .ensures) ∙ c .enum-told .given .1 in
-    sym (by-digits _ (omega arith) (omega arith) first ∙ ap ofDigits said)
+    field-answer _ _ (sym (by-digits _ (omega arith) (omega arith) first ∙ ap ofDigits said))
 
 pub field-argument-spec : {M : Type 1} → statement M
 field-argument-spec =

@@ -3,7 +3,7 @@ use mathlib.Core.Path.{sym, ap, _∙_}
 use borrow.Author.Needs.{needs}
 use Rattle.dilute_sheet.specs.declared.input.Request.{Request}
 use Rattle.dilute_sheet.specs.declared.input.Input.the-variants.{Asked}
-use Rattle.dilute_sheet.specs.InputLaws.{input-asked, input-other}
+use Rattle.dilute_sheet.specs.InputLaws.{input-asked, input-other, input-answer}
 use Rattle.dilute_sheet.proofs.input.read_input.Statement.{statement}
 use Rattle.dilute_sheet.proofs.input.read_input.Tie as tie
 
@@ -29,9 +29,9 @@ returns c =
     let third = fourth .before in
     let second = third .before in
     let first = second .before in
-    ap (λ (q : Request). Asked q) (c .request-of .ensures)
+    input-answer _ _ (ap (λ (q : Request). Asked q) (c .request-of .ensures)
     ∙ sym (input-asked _ _ _ _ _ (first .line-at .ensures) (second .next-line .ensures) (third .next-line2 .ensures) (fourth .next-line3 .ensures)
-    (tested .if1 .taken))
+    (tested .if1 .taken)))
 
 returns-2 : tie.Need-returns-2
 returns-2 c =
@@ -39,8 +39,8 @@ returns-2 c =
     let third = fourth .before in
     let second = third .before in
     let first = second .before in
-    sym (input-other _ _ _ _ _ (first .line-at .ensures) (second .next-line .ensures) (third .next-line2 .ensures) (fourth .next-line3 .ensures)
-    (c .if1 .left))
+    input-answer _ _ (sym (input-other _ _ _ _ _ (first .line-at .ensures) (second .next-line .ensures) (third .next-line2 .ensures) (fourth .next-line3 .ensures)
+    (c .if1 .left)))
 
 pub read-input-spec : {M : Type 1} → statement M
 read-input-spec =

@@ -21,11 +21,11 @@ returns : tie.Need-returns
 unfolding verdictOf inputVerdict
 returns c =
     let told = c .before .before in
-    rw (sym (told .before .before .read-input .ensures) ∙ told .asked .given .1) (c .request-verdict .ensures)
+    rw (sym (told .before .before .read-input .ensures .case) ∙ told .asked .given .1) (c .request-verdict .ensures)
 
 returns-2 : tie.Need-returns-2
 unfolding verdictOf inputVerdict
-returns-2 c = rw (sym (c .before .before .read-input .ensures) ∙ c .enum-told .given .1)
+returns-2 c = rw (sym (c .before .before .read-input .ensures .case) ∙ c .enum-told .given .1)
 
 pub sheet-verdict-spec : {M : Type 1} → statement M
 sheet-verdict-spec =
