@@ -1,5 +1,5 @@
 -- Rules: the lines that the program prints, document 02, K11: "For each record not marked deleted, in order, it prints a line: barcode, sample and diluent as
--- whole tenths, or barcode and refusal number, one space between." The call `dilute_sheet` cites `sheetText`.
+-- whole tenths, or barcode and refusal number, one space between." The call `sheet` cites `sheetText`.
 use Prim.Native.Nat.{ℕ, zero, suc, _+_}
 use mathlib.Core.Bool.{cond}
 use mathlib.Core.List.{List, [], _∷_, _++_}

@@ -87,7 +87,7 @@ fn request_verdict(table: &[u8], index: &[u8], request: Request) -> Verdict
     Verdict::Lines(tally_records(table, index, request))
 }
 
-// The verdict on the sheet that `dilute_sheet` writes of the same table, index and input.
+// The verdict on the sheet that `sheet` writes of the same table, index and input.
 pub fn sheet_verdict(table: &[u8], index: &[u8], input: &[u8]) -> Verdict
     ensures { λ r. ⌜ r ≡ verdictOf (now (table .entry)) (now (index .entry)) (now (input .entry)) ⌝ }
 {
