@@ -16,7 +16,7 @@ use Rattle.fpt_memo.specs.Memo.{memoNumber}
 use Rattle.fpt_memo.specs.declared.MemoNumber.{MemoNumber}
 use Rattle.fpt_memo.specs.declared.MemoNumber.the-variants as memo
 use Rattle.dbf_table.specs.Table.{minTable, maxTable, fileEnd, typeN, typeD, typeL, typeM, fieldType, fieldLength, fieldDecimals, fieldOffset, fieldCount}
-use Rattle.dbf_table.specs.Table.{recordLength, recordCount, recordsEnd, tableChecks, checkTable}
+use Rattle.dbf_table.specs.Table.{countPlace, recordLength, recordCount, recordsEnd, tableChecks, checkTable}
 use Rattle.dbf_table.specs.declared.Checked.{Checked}
 use Rattle.dbf_table.specs.declared.Checked.the-variants.{Refused}
 use Rattle.dbf_cell.specs.Cell.{markGood, logicalOf}
@@ -122,7 +122,7 @@ unfoldable pub recordWrite : List ℕ → List ℕ → Write
 recordWrite t r = record { place = recordsEnd t (recordCount t); bytes = r ++ (fileEnd ∷ []) }
 
 unfoldable pub countWrite : List ℕ → Write
-countWrite t = record { place = 4; bytes = toLe32 (recordCount t + 1) }
+countWrite t = record { place = countPlace; bytes = toLe32 (recordCount t + 1) }
 
 -- ---- the answer
 

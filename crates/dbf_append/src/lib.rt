@@ -4,7 +4,9 @@
 // file: the record with the end mark first, the four count bytes last.
 use calendar::DateAnswer;
 use dbf_cell::Logical;
+use dbf_table::COUNT_AT;
 use dbf_table::Checked;
+use dbf_table::DATE_AT;
 use dbf_table::Shape;
 use fpt_memo::MemoNumber;
 ghost use Prim.Native.Nat.{_+_, _≤_, _<_};
@@ -20,11 +22,6 @@ ghost use Rattle.dbf_append.specs.Append.{checkHeld, dateRefusal, logica
 ghost use Rattle.dbf_append.specs.Append.{roomFor, recordRefusal, appendRefusal, Appendable, stored, appendRule, done};
 ghost use Rattle.dbf_append.specs.UpdateDate.{setDateRule, dated};
 ghost use Rattle.dbf_append.specs.Extent.{formRefusal, extentRule};
-
-// Where the header holds the update date and the record count.
-const DATE_AT: usize = 1;
-
-const COUNT_AT: usize = 4;
 
 const COUNT_LENGTH: usize = 4;
 

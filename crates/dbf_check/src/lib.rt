@@ -82,7 +82,7 @@ fn shape_of(table: &[u8]) -> Shape
     ensures { λ r. ⌜ r ≡ shapeOf (now (table .entry)) ⌝ }
 {
     Shape {
-        kind: octets::byte(table, 0),
+        kind: octets::byte(table, dbf_table::KIND_AT),
         records: dbf_table::record_count(table),
         header_length: dbf_table::header_length(table),
         record_length: dbf_table::record_length(table),

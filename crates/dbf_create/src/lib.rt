@@ -10,11 +10,7 @@ ghost use Rattle.dbf_table.specs.TableLaws.{HeaderFits};
 ghost use Rattle.dbf_create.specs.Laying.{roomLength, noFields, withField, listedCount, countGood, kindFor, layOut, layTable, laid};
 ghost use Rattle.dbf_create.specs.LayingLaws.{Layable, Written};
 
-// Where the header holds its own length and the record's, and where it says no more.
-const HEADER_LENGTH_AT: usize = 8;
-
-const RECORD_LENGTH_AT: usize = 10;
-
+// Where the header says no more.
 const UNREAD_AT: usize = 12;
 
 const NAME_LENGTH: usize = 11;
@@ -78,10 +74,10 @@ fn write_table(room: &mut [u8], count: usize, year: u32, month: u32, day: u32)
     ensures { λ _. ⌜ Written (now (room .entry)) (now (room .exit)) count year month day ⌝ }
 {
     let end = dbf_table::DESCRIPTORS + dbf_table::DESCRIPTOR_LENGTH * count;
-    octets::store_le16(room, HEADER_LENGTH_AT, (end + 1) as u32);
+    octets::store_le16(room, dbf_table::HEADER_LENGTH_AT, (end + 1) as u32);
     let kind = kind_of(room);
     let length = dbf_fields::field_offset(room, count);
-    octets::store_le16(room, RECORD_LENGTH_AT, length as u32);
+    octets::store_le16(room, dbf_table::RECORD_LENGTH_AT, length as u32);
     let first = [
         kind,
         (year - dbf_table::FIRST_YEAR) as u8,

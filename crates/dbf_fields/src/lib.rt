@@ -153,7 +153,7 @@ pub fn memo_kind_good(table: &[u8]) -> bool
     requires { ⌜ HeaderFits (now table) ⌝ }
     ensures { λ r. ⌜ r ≡ memoKindGood (now (table .entry)) ⌝ }
 {
-    let kind = octets::byte(table, 0);
+    let kind = octets::byte(table, dbf_table::KIND_AT);
     let memo = has_memo(table);
     !(((kind == dbf_table::PLAIN_KIND) & memo) | ((kind == dbf_table::MEMO_KIND) & !memo))
 }

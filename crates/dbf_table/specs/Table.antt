@@ -75,14 +75,23 @@ abbrev pub tableKind : List ℕ → ℕ
 tableKind b = byteAt b 0
 
 -- "Bytes 4-7: record count n. 8-9: header length H. 10-11: record length R."
+abbrev pub countPlace : ℕ
+countPlace = 4
+
+abbrev pub headerLengthPlace : ℕ
+headerLengthPlace = 8
+
+abbrev pub recordLengthPlace : ℕ
+recordLengthPlace = 10
+
 unfoldable pub recordCount : List ℕ → ℕ
-recordCount b = le32 b 4
+recordCount b = le32 b countPlace
 
 unfoldable pub headerLength : List ℕ → ℕ
-headerLength b = le16 b 8
+headerLength b = le16 b headerLengthPlace
 
 unfoldable pub recordLength : List ℕ → ℕ
-recordLength b = le16 b 10
+recordLength b = le16 b recordLengthPlace
 
 -- the f of "33 + 32f"
 unfoldable pub fieldCount : List ℕ → ℕ

@@ -9,6 +9,21 @@ ghost use Rattle.dbf_table.specs.TableLaws.{HeaderFits};
 
 const MIN_TABLE: usize = 32;
 
+// Where the header has the kind, the update date's year, month and day, the record count, its own length and the record length.
+pub const KIND_AT: usize = 0;
+
+pub const DATE_AT: usize = 1;
+
+const MONTH_AT: usize = 2;
+
+const DAY_AT: usize = 3;
+
+pub const COUNT_AT: usize = 4;
+
+pub const HEADER_LENGTH_AT: usize = 8;
+
+pub const RECORD_LENGTH_AT: usize = 10;
+
 pub const MAX_TABLE: usize = 16777216;
 
 // The year of the update date whose byte is 0, and the last year that a byte holds.
@@ -86,7 +101,7 @@ pub fn kind_good(table: &[u8]) -> bool
     requires { ⌜ minTable ≤ length (now table) ⌝ }
     ensures { λ r. ⌜ r ≡ kindGood (now (table .entry)) ⌝ }
 {
-    let kind = octets::byte(table, 0);
+    let kind = octets::byte(table, KIND_AT);
     (kind == PLAIN_KIND) | (kind == MEMO_KIND)
 }
 
@@ -94,8 +109,12 @@ pub fn date_good(table: &[u8]) -> bool
     requires { ⌜ minTable ≤ length (now table) ⌝ }
     ensures { λ r. ⌜ r ≡ dateGood (now (table .entry)) ⌝ }
 {
-    let year = FIRST_YEAR + octets::byte(table, 1);
-    calendar::is_date(year, octets::byte(table, 2), octets::byte(table, 3))
+    let year = FIRST_YEAR + octets::byte(table, DATE_AT);
+    calendar::is_date(
+        year,
+        octets::byte(table, MONTH_AT),
+        octets::byte(table, DAY_AT),
+    )
 }
 
 // Whether the header can hold a date: a calendar date whose year less 1900 is a byte.
@@ -110,21 +129,21 @@ pub fn header_length(table: &[u8]) -> usize
     requires { ⌜ minTable ≤ length (now table) ⌝ }
     ensures { λ r. ⌜ (r ≡ headerLength (now (table .entry))) × (r < 65536) ⌝ }
 {
-    octets::load_le16(table, 8) as usize
+    octets::load_le16(table, HEADER_LENGTH_AT) as usize
 }
 
 pub fn record_length(table: &[u8]) -> usize
     requires { ⌜ minTable ≤ length (now table) ⌝ }
     ensures { λ r. ⌜ (r ≡ recordLength (now (table .entry))) × (r < 65536) ⌝ }
 {
-    octets::load_le16(table, 10) as usize
+    octets::load_le16(table, RECORD_LENGTH_AT) as usize
 }
 
 pub fn record_count(table: &[u8]) -> u32
     requires { ⌜ minTable ≤ length (now table) ⌝ }
     ensures { λ r. ⌜ r ≡ recordCount (now (table .entry)) ⌝ }
 {
-    octets::load_le32(table, 4)
+    octets::load_le32(table, COUNT_AT)
 }
 
 pub fn field_count(table: &[u8]) -> usize
