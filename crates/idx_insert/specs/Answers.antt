@@ -1,6 +1,6 @@
 -- Steps: what the inner functions of insertion answer, in the rules' terms, and what the supply is good for after a split. Inner contracts, laws and proofs
 -- cite them: a reader need not believe them.
-use Rattle.idx_layout.specs.Given.{Lasts}
+use Rattle.idx_supply.specs.Given.{Lasts}
 use Rattle.idx_insert.specs.Insertion.{Outcome as RuleOutcome, kept, split, bad}
 use Rattle.idx_insert.specs.declared.Outcome.{Outcome}
 use Rattle.idx_insert.specs.declared.Outcome.the-variants.{Kept, Split, Bad}

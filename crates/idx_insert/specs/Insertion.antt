@@ -9,10 +9,11 @@ use Rattle.idx_page.specs.Header.{maxLevels, noPage, isPage, rootOffset, featur
 use Rattle.idx_page.specs.Page.{attributeAt, leafBit, capacity}
 use Rattle.idx_page.specs.Reading.{Item}
 use Rattle.idx_page.specs.EntryOrder.{itemOrder}
-use Rattle.idx_layout.specs.declared.Supply.{Supply}
-use Rattle.idx_layout.specs.Supply.{supplyOf, takePage, withSupply}
-use Rattle.idx_layout.specs.Layout.{itemsIn, withRoot, withEntries, newPage, splitPage}
-use Rattle.idx_layout.specs.Entries.{stored, chosenAt, childOf, replaced, raised, twoFor, rootEntries}
+use Rattle.idx_supply.specs.declared.Supply.{Supply}
+use Rattle.idx_supply.specs.Supply.{supplyOf, takePage, withSupply}
+use Rattle.idx_route.specs.Route.{itemsIn, stored, chosenAt, childOf}
+use Rattle.idx_layout.specs.Layout.{withRoot, withEntries, newPage, splitPage}
+use Rattle.idx_entries.specs.Entries.{replaced, raised, twoFor, rootEntries}
 
 -- what an insertion under a page leaves for the page above to do: nothing; or to take in the new page at q. Both have the supply that is left. The third does
 -- not occur on a sound index with room: it keeps the rule total

@@ -9,9 +9,8 @@ use Rattle.idx_page.specs.Header.{maxBytes, maxLevels, isPage, rootOffset, feat
 use Rattle.idx_page.specs.Page.{attributeAt, leafBit, capacity}
 use Rattle.idx_page.specs.Reading.{Item}
 use Rattle.idx_page.specs.EntryOrder.{itemOrder}
-use Rattle.idx_layout.specs.Layout.{itemsIn}
-use Rattle.idx_layout.specs.Supply.{supplyOf, supplyAfter}
-use Rattle.idx_layout.specs.Entries.{stored, chosenAt, childOf}
+use Rattle.idx_route.specs.Route.{itemsIn, stored, chosenAt, childOf}
+use Rattle.idx_supply.specs.Supply.{supplyOf, supplyAfter}
 use Rattle.idx_insert.specs.declared.Path.{Path}
 
 -- a path goes from a page down to a leaf: `levels` pages, of which `run` are full "in an unbroken run from the leaf up"; `present` says whether the leaf has

@@ -13,15 +13,14 @@ use Rattle.idx_page.specs.Page.{attributeAt, leafBit, capacity}
 use Rattle.idx_page.specs.Reading.{Item}
 use Rattle.idx_page.specs.EntryOrder.{itemOrder}
 use Rattle.idx_page.specs.declared.PageOffset.{PageOffset}
-use Rattle.idx_layout.specs.Layout.{itemsIn}
-use Rattle.idx_layout.specs.declared.Supply.{Supply}
-use Rattle.idx_layout.specs.Supply.{supplyOf, supplyAfter}
-use Rattle.idx_layout.specs.Entries.{stored, chosenAt, childOf}
+use Rattle.idx_route.specs.Route.{itemsIn, stored, chosenAt, childOf}
+use Rattle.idx_supply.specs.declared.Supply.{Supply}
+use Rattle.idx_supply.specs.Supply.{supplyOf, supplyAfter}
 use Rattle.idx_insert.specs.Room.{nowhere, onTop, pathFrom, pathTo, rootSplit, noRoom}
-use Rattle.idx_layout.specs.Visits.{visitOf}
-use Rattle.idx_layout.specs.VisitLaws.{visited-bad, visited-leaf, visited-child}
+use Rattle.idx_route.specs.Visits.{visitOf}
+use Rattle.idx_route.specs.VisitLaws.{visited-bad, visited-leaf, visited-child}
 use Rattle.idx_insert.specs.declared.Path.{Path}
-use Rattle.idx_layout.specs.declared.Visit.the-variants as visit
+use Rattle.idx_route.specs.declared.Visit.the-variants as visit
 
 -- with a page on top, the run has no more pages than the path has levels
 top-run : (full : Bool) (path : Path) → path .run ≤ path .levels → onTop full path .run ≤ onTop full path .levels

@@ -15,16 +15,17 @@ use Rattle.idx_page.specs.Page.{attributeAt, leafBit, capacity}
 use Rattle.idx_page.specs.Reading.{Item}
 use Rattle.idx_page.specs.EntryOrder.{itemOrder}
 use Rattle.idx_page.specs.declared.PageOffset.{PageOffset}
-use Rattle.idx_layout.specs.declared.Supply.{Supply}
-use Rattle.idx_layout.specs.declared.Taken.{Taken}
-use Rattle.idx_layout.specs.Given.{Lasts}
-use Rattle.idx_layout.specs.Supply.{supplyOf, takePage, withSupply}
-use Rattle.idx_layout.specs.SupplyLaws.{taken-lasts}
-use Rattle.idx_layout.specs.Layout.{itemsIn, withRoot, withEntries, newPage, splitPage}
-use Rattle.idx_layout.specs.Entries.{stored, chosenAt, childOf, replaced, twoFor, rootEntries}
-use Rattle.idx_layout.specs.Visits.{visitOf}
-use Rattle.idx_layout.specs.VisitLaws.{visited-bad, visited-leaf, visited-child}
-use Rattle.idx_layout.specs.declared.Visit.the-variants as visit
+use Rattle.idx_supply.specs.declared.Supply.{Supply}
+use Rattle.idx_supply.specs.declared.Taken.{Taken}
+use Rattle.idx_supply.specs.Given.{Lasts}
+use Rattle.idx_supply.specs.Supply.{supplyOf, takePage, withSupply}
+use Rattle.idx_supply.specs.SupplyLaws.{taken-lasts}
+use Rattle.idx_route.specs.Route.{itemsIn, stored, chosenAt, childOf}
+use Rattle.idx_layout.specs.Layout.{withRoot, withEntries, newPage, splitPage}
+use Rattle.idx_entries.specs.Entries.{replaced, twoFor, rootEntries}
+use Rattle.idx_route.specs.Visits.{visitOf}
+use Rattle.idx_route.specs.VisitLaws.{visited-bad, visited-leaf, visited-child}
+use Rattle.idx_route.specs.declared.Visit.the-variants as visit
 use Rattle.idx_insert.specs.Insertion.{Outcome as RuleOutcome, kept, split, bad, Step, step, takeIn, afterChild, insertUnder, atRoot, insertedBuffer}
 use Rattle.idx_insert.specs.Answers.{outcomeOf, NextFits}
 use Rattle.idx_insert.specs.declared.Outcome.{Outcome}

@@ -1,6 +1,6 @@
 // A fresh index, and insertion.
-use idx_layout::Supply;
-use idx_layout::Visit;
+use idx_supply::Supply;
+use idx_route::Visit;
 use idx_page::Page;
 use idx_page::PageOffset;
 use idx_page::RecordNumber;
@@ -14,9 +14,9 @@ ghost use Rattle.idx_page.specs.Header.{minBytes, maxLevels, maxKey, maxFeature
 ghost use Rattle.idx_page.specs.Page.{capacity};
 ghost use Rattle.idx_page.specs.Reading.{items};
 ghost use Rattle.idx_page.specs.EntryOrder.{itemOrder};
-ghost use Rattle.idx_layout.specs.Layout.{itemsIn};
-ghost use Rattle.idx_layout.specs.Entries.{stored};
-ghost use Rattle.idx_layout.specs.Given.{Over, Lasts, roomSize};
+ghost use Rattle.idx_route.specs.Route.{itemsIn, stored};
+ghost use Rattle.idx_layout.specs.Given.{Over, roomSize};
+ghost use Rattle.idx_supply.specs.Given.{Lasts};
 ghost use Rattle.idx_insert.specs.Insertion.{split, step, takeIn, afterChild, insertUnder, atRoot, insertedBuffer};
 ghost use Rattle.idx_insert.specs.Answers.{outcomeOf, NextFits};
 ghost use Rattle.idx_insert.specs.Room.{onTop, pathFrom, pathTo, rootSplit, noRoom};
@@ -64,7 +64,7 @@ fn take_in(
         idx_layout::with_entries(index, k, page, count, entries);
         return Outcome::Kept(supply);
     }
-    let taken = idx_layout::take_page(index, supply);
+    let taken = idx_supply::take_page(index, supply);
     let new = taken.page;
     if !idx_page::is_page(index.len(), new) {
         return Outcome::Bad;
@@ -89,8 +89,8 @@ fn insert_in_leaf(
         (itemsIn (length (now (key .entry))) (now (index .entry)) (page .0)))
         supply ≡ step (now (index .exit)) (outcomeOf r) ⌝ }
 {
-    let count = idx_layout::entry_count(index, key.len(), page);
-    idx_layout::gather_pair(room, index, key, number, page, count);
+    let count = idx_route::entry_count(index, key.len(), page);
+    idx_entries::gather_pair(room, index, key, number, page, count);
     let size = (count + 1) * (key.len() + 4);
     take_in(index, key.len(), page, count + 1, &room[..size], supply)
 }
@@ -110,11 +110,11 @@ fn take_in_two(
     ensures { λ r. ⌜ afterChild (length (now (key .entry))) (now (index .entry)) (now (key .entry)) (page .0) i (child .0) (split (new .0) supply)
         ≡ step (now (index .exit)) (outcomeOf r) ⌝ }
 {
-    let count = idx_layout::entry_count(index, key.len(), page);
+    let count = idx_route::entry_count(index, key.len(), page);
     if count <= i {
         return Outcome::Bad;
     }
-    idx_layout::gather_two(room, index, key, page, count, i, child, new);
+    idx_entries::gather_two(room, index, key, page, count, i, child, new);
     let size = (count + 1) * (key.len() + 4);
     take_in(index, key.len(), page, count + 1, &room[..size], supply)
 }
@@ -135,7 +135,7 @@ fn after_child(
 {
     match below {
         Outcome::Kept(supply) => {
-            idx_layout::raise_key(index, key, page, i);
+            idx_entries::raise_key(index, key, page, i);
             Outcome::Kept(supply)
         }
         Outcome::Split(new, supply) => take_in_two(index, key, page, i, child, new, supply, room),
@@ -161,7 +161,7 @@ fn insert_under(
     if levels == 0 {
         return Outcome::Bad;
     }
-    let visit = idx_layout::visit_page(index, key, number, page);
+    let visit = idx_route::visit_page(index, key, number, page);
     match visit {
         Visit::Bad => Outcome::Bad,
         Visit::Leaf => insert_in_leaf(index, key, number, page, supply, room),
@@ -184,12 +184,12 @@ fn new_root(
     requires { ⌜ (length (now key) ≤ maxKey) × Lasts 1 supply × (roomSize ≤ length (now room)) ⌝ }
     ensures { λ _. ⌜ now (index .exit) ≡ atRoot (length (now (key .entry))) (now (index .entry)) (now (key .entry)) (old .0) (split (new .0) supply) ⌝ }
 {
-    let taken = idx_layout::take_page(index, supply);
+    let taken = idx_supply::take_page(index, supply);
     let root = taken.page;
     if !idx_page::is_page(index.len(), root) {
         return;
     }
-    idx_layout::gather_root(room, index, key, old, new);
+    idx_entries::gather_root(room, index, key, old, new);
     let size = 2 * (key.len() + 4);
     let none = PageOffset(idx_page::NO_PAGE);
     let head = Page {
@@ -200,7 +200,7 @@ fn new_root(
     };
     idx_layout::new_page(index, key.len(), root, head, &room[..size]);
     idx_layout::set_root(index, root);
-    idx_layout::set_supply(index, taken.rest);
+    idx_supply::set_supply(index, taken.rest);
 }
 
 // What is done at the root after an insertion under it left `below`.
@@ -209,7 +209,7 @@ fn at_root(index: &mut [u8], key: &[u8], root: PageOffset, below: Outcome, room:
     ensures { λ _. ⌜ now (index .exit) ≡ atRoot (length (now (key .entry))) (now (index .entry)) (now (key .entry)) (root .0) (outcomeOf below) ⌝ }
 {
     match below {
-        Outcome::Kept(supply) => idx_layout::set_supply(index, supply),
+        Outcome::Kept(supply) => idx_supply::set_supply(index, supply),
         Outcome::Split(new, supply) => new_root(index, key, root, new, supply, room),
         Outcome::Bad => {}
     }
@@ -221,8 +221,8 @@ fn insert_pair(index: &mut [u8], key: &[u8], number: RecordNumber)
     ensures { λ _. ⌜ now (index .exit) ≡ insertedBuffer (keyLength (now (index .entry))) (now (index .entry)) (now (key .entry)) (number .0) ⌝ }
 {
     let root = idx_page::root(index);
-    let supply = idx_layout::supply_of(index);
-    let mut room = [0u8; idx_layout::ROOM];
+    let supply = idx_supply::supply_of(index);
+    let mut room = [0u8; idx_entries::ROOM];
     let below = insert_under(
         index,
         key,
@@ -240,7 +240,7 @@ fn is_full(index: &[u8], k: usize, page: PageOffset) -> bool
     requires { ⌜ k ≤ maxKey ⌝ }
     ensures { λ r. ⌜ r ≡ leb (capacity k) (length (itemsIn k (now (index .entry)) (page .0))) ⌝ }
 {
-    Page::capacity(k) <= idx_layout::entry_count(index, k, page)
+    Page::capacity(k) <= idx_route::entry_count(index, k, page)
 }
 
 // A path with one page more on top, which is full or not.
@@ -282,12 +282,12 @@ fn path_from(index: &[u8], key: &[u8], number: RecordNumber, page: PageOffset, l
         return empty_path(false);
     }
     let full = is_full(index, key.len(), page);
-    let visit = idx_layout::visit_page(index, key, number, page);
+    let visit = idx_route::visit_page(index, key, number, page);
     match visit {
         Visit::Bad => empty_path(false),
         Visit::Leaf => on_top(
             full,
-            empty_path(idx_layout::is_present(index, key, number, page)),
+            empty_path(idx_route::is_present(index, key, number, page)),
         ),
         Visit::Child(i, child) => { on_top(full, path_from(index, key, number, child, levels - 1)) }
     }
@@ -323,8 +323,8 @@ fn no_room(index: &[u8], path: Path) -> bool
     ensures { λ r. ⌜ r ≡ noRoom (now (index .entry)) path ⌝ }
 {
     let more = root_split(path);
-    let supply = idx_layout::supply_of(index);
-    let after = idx_layout::supply_after(index, supply, path.run + more);
+    let supply = idx_supply::supply_of(index);
+    let after = idx_supply::supply_after(index, supply, path.run + more);
     let size = after.end.0 as usize;
     (index.len() < size)
         | ((idx_page::MAX_BYTES < size) | (idx_page::MAX_LEVELS < path.levels + more))

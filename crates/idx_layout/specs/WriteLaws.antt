@@ -20,7 +20,8 @@ use Rattle.idx_page.specs.ReadingLaws.{items-take}
 use Rattle.idx_layout.specs.Layout.{withAttribute, withCount, withLeft, withRight, withRoot, withFree, withSize, headerBytes}
 use Rattle.idx_layout.specs.Layout.{encode, area, withEntries, newPage, withoutRoot, linkBeyond, splitPage, linkBefore, unlinked, freed}
 use Rattle.idx_layout.specs.Given.{Given, Over, roomSize}
-use Rattle.idx_layout.specs.ItemLaws.{length-items, encode-items, take-items, drop-items}
+use Rattle.idx_route.specs.ItemLaws.{length-items, take-items, drop-items}
+use Rattle.idx_layout.specs.EncodeLaws.{encode-items}
 
 -- a header written whole, as the stores of its parts: the features are one byte, stored with the zero after it
 header-parts : (root size k f : ℕ) (e : List ℕ) → f ≤ maxFeatures

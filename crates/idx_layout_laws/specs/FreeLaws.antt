@@ -21,7 +21,7 @@ use Rattle.idx_page.specs.Page.{attributeAt, countAt, leftAt, rightAt, entriesS
 use Rattle.idx_page.specs.Reading.{Item}
 use Rattle.idx_page.specs.ReadingLaws.{window-in-page}
 use Rattle.idx_layout.specs.Layout.{encode, area, withEntries, newPage, linkBeyond, linkBefore, unlinked, freed}
-use Rattle.idx_layout.specs.ItemLaws.{Fit}
+use Rattle.idx_route.specs.ItemLaws.{Fit}
 use Rattle.idx_layout_laws.specs.EntryLaws.{entriesIn, page-of, window-other, length-area, entries-links, entries-header, entries-new}
 use Rattle.idx_layout_laws.specs.EntryLaws.{entries-beyond, length-beyond, length-new}
 use Rattle.idx_layout_laws.specs.HeadLaws.{Head, SameHeader, put-right, put-outside, put-header, new-head, beyond-head, beyond-header}

@@ -21,8 +21,8 @@ use Rattle.idx_page.specs.Page.{attributeAt, rightAt, leftPlace, rightPlace, en
 use Rattle.idx_page.specs.Reading.{Item}
 use Rattle.idx_page.specs.ReadingLaws.{window-window, window-in-page}
 use Rattle.idx_layout.specs.Layout.{area, withEntries, newPage, withoutRoot, linkBeyond, splitPage}
-use Rattle.idx_layout.specs.Entries.{raised}
-use Rattle.idx_layout.specs.ItemLaws.{Fit}
+use Rattle.idx_entries.specs.Entries.{raised}
+use Rattle.idx_route.specs.ItemLaws.{Fit}
 use Rattle.idx_layout_laws.specs.EntryLaws.{page-of, window-other, length-area, length-with, length-beyond, halves-fit}
 use Rattle.idx_layout_laws.specs.HeadLaws.{kept, raised-as}
 

@@ -10,8 +10,9 @@ use Rattle.idx_page.specs.Header.{maxLevels, noPage, rootOffset, features, isPa
 use Rattle.idx_page.specs.Page.{attributeAt, leafBit}
 use Rattle.idx_page.specs.Reading.{Item}
 use Rattle.idx_page.specs.EntryOrder.{itemOrder}
-use Rattle.idx_layout.specs.Layout.{itemsIn, withEntries, newPage, unlinked, freed}
-use Rattle.idx_layout.specs.Entries.{stored, chosenAt, placeIn, childOf, withoutEntry}
+use Rattle.idx_route.specs.Route.{itemsIn, stored, chosenAt, placeIn, childOf}
+use Rattle.idx_layout.specs.Layout.{withEntries, newPage, unlinked, freed}
+use Rattle.idx_entries.specs.Entries.{withoutEntry}
 
 -- what a removal under a page leaves for the page above to do: nothing; or, the page being "emptied", to free it and to lose its entry. The third does not
 -- occur on a sound index with the key: it keeps the rule total

@@ -13,17 +13,18 @@ use Rattle.idx_page.specs.Header.{maxLevels, isPage, rootOffset, keyLength, fea
 use Rattle.idx_page.specs.Reading.{Item}
 use Rattle.idx_page.specs.EntryOrder.{itemOrder}
 use Rattle.idx_page.specs.declared.PageOffset.{PageOffset}
-use Rattle.idx_layout.specs.Layout.{itemsIn, withEntries, unlinked, freed}
-use Rattle.idx_layout.specs.Entries.{stored, placeIn, withoutEntry}
-use Rattle.idx_layout.specs.Visits.{visitOf}
-use Rattle.idx_layout.specs.VisitLaws.{visited-bad, visited-leaf, visited-child}
-use Rattle.idx_layout.specs.FitLaws.{length-without}
+use Rattle.idx_route.specs.Route.{itemsIn, stored, placeIn}
+use Rattle.idx_layout.specs.Layout.{withEntries, unlinked, freed}
+use Rattle.idx_entries.specs.Entries.{withoutEntry}
+use Rattle.idx_route.specs.Visits.{visitOf}
+use Rattle.idx_route.specs.VisitLaws.{visited-bad, visited-leaf, visited-child}
+use Rattle.idx_entries.specs.FitLaws.{length-without}
 use Rattle.idx_remove.specs.Removal.{Outcome as RuleOutcome, kept, emptied, bad, Step, step}
 use Rattle.idx_remove.specs.Removal.{leftWith, takeOut, afterChild, thereFrom, isThere, removeUnder, atRoot, removedBuffer}
 use Rattle.idx_remove.specs.Answers.{outcomeOf, EmptiedPage}
 use Rattle.idx_remove.specs.declared.Outcome.{Outcome}
 use Rattle.idx_remove.specs.declared.Outcome.the-variants.{Kept, Emptied, Bad}
-use Rattle.idx_layout.specs.declared.Visit.the-variants as visit
+use Rattle.idx_route.specs.declared.Visit.the-variants as visit
 
 -- a page by the entries that it is left with
 left-none : (es : List Item) → length es ≡ 0 → leftWith es ≡ emptied

@@ -1,5 +1,5 @@
 // Removal of a pair, or of a key.
-use idx_layout::Visit;
+use idx_route::Visit;
 use idx_page::PageOffset;
 use idx_page::RecordNumber;
 ghost use mathlib.Core.Path.{_≡_};
@@ -7,8 +7,7 @@ ghost use mathlib.Core.Bool.{Bool, true};
 ghost use Prim.Native.Nat.{ℕ, _≤_};
 ghost use lib.ListN.{length};
 ghost use Rattle.idx_page.specs.Header.{maxKey, isPage, keyLength, headerGood};
-ghost use Rattle.idx_layout.specs.Layout.{itemsIn};
-ghost use Rattle.idx_layout.specs.Entries.{stored, placeIn};
+ghost use Rattle.idx_route.specs.Route.{itemsIn, stored, placeIn};
 ghost use Rattle.idx_layout.specs.Given.{roomSize};
 ghost use Rattle.idx_remove.specs.Removal.{step, takeOut, afterChild, thereFrom, isThere, removeUnder, atRoot, removedBuffer};
 ghost use Rattle.idx_remove.specs.Answers.{outcomeOf, EmptiedPage};
@@ -32,13 +31,13 @@ fn take_out(index: &mut [u8], k: usize, page: PageOffset, i: usize, room: &mut [
     requires { ⌜ (k ≤ maxKey) × (roomSize ≤ length (now room)) ⌝ }
     ensures { λ r. ⌜ takeOut k (now (index .entry)) (page .0) i ≡ step (now (index .exit)) (outcomeOf r) ⌝ }
 {
-    let count = idx_layout::entry_count(index, k, page);
+    let count = idx_route::entry_count(index, k, page);
     if count <= i {
         return Outcome::Bad;
     }
     let fewer = count - 1;
     let size = fewer * (k + 4);
-    idx_layout::gather_without(room, index, k, page, count, i);
+    idx_entries::gather_without(room, index, k, page, count, i);
     idx_layout::with_entries(index, k, page, fewer, &room[..size]);
     if fewer == 0 {
         return Outcome::Emptied;
@@ -84,7 +83,7 @@ fn remove_in_leaf(
         (placeIn (now (index .entry)) (stored (now (key .entry)) (number .0)) (itemsIn (length (now (key .entry))) (now (index .entry)) (page .0)))
         ≡ step (now (index .exit)) (outcomeOf r) ⌝ }
 {
-    let i = idx_layout::leaf_entry(index, key, number, page);
+    let i = idx_route::leaf_entry(index, key, number, page);
     take_out(index, key.len(), page, i, room)
 }
 
@@ -104,7 +103,7 @@ fn remove_under(
     if levels == 0 {
         return Outcome::Bad;
     }
-    let visit = idx_layout::visit_page(index, key, number, page);
+    let visit = idx_route::visit_page(index, key, number, page);
     match visit {
         Visit::Bad => Outcome::Bad,
         Visit::Leaf => remove_in_leaf(index, key, number, page, room),
@@ -136,7 +135,7 @@ fn remove_pair(index: &mut [u8], key: &[u8], number: RecordNumber)
     ensures { λ _. ⌜ now (index .exit) ≡ removedBuffer (keyLength (now (index .entry))) (now (index .entry)) (now (key .entry)) (number .0) ⌝ }
 {
     let root = idx_page::root(index);
-    let mut room = [0u8; idx_layout::ROOM];
+    let mut room = [0u8; idx_entries::ROOM];
     let below = remove_under(index, key, number, root, idx_page::MAX_LEVELS, &mut room);
     at_root(index, root, below);
 }
@@ -149,10 +148,10 @@ fn there_from(index: &[u8], key: &[u8], number: RecordNumber, page: PageOffset, 
     if levels == 0 {
         return false;
     }
-    let visit = idx_layout::visit_page(index, key, number, page);
+    let visit = idx_route::visit_page(index, key, number, page);
     match visit {
         Visit::Bad => false,
-        Visit::Leaf => idx_layout::is_present(index, key, number, page),
+        Visit::Leaf => idx_route::is_present(index, key, number, page),
         Visit::Child(i, child) => there_from(index, key, number, child, levels - 1),
     }
 }

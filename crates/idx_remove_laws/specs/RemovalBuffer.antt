@@ -35,7 +35,7 @@ use Rattle.idx_page.specs.Header.{maxLevels, noPage, pageSize, rootOffset, free
 use Rattle.idx_page.specs.Page.{rightAt}
 use Rattle.idx_page.specs.ReadingLaws.{right-same}
 use Rattle.idx_layout.specs.Layout.{newPage}
-use Rattle.idx_layout.specs.Entries.{stored}
+use Rattle.idx_route.specs.Route.{stored}
 use Rattle.idx_sound.specs.Sound.{linksOf}
 use Rattle.idx_remove.specs.Removal.{Outcome, kept, emptied as emptiedPage, bad, Step, removeUnder, atRoot, removedBuffer}
 use Rattle.idx_layout_laws.specs.EntryLaws.{entriesIn, page-of, length-new}

@@ -26,11 +26,12 @@ use Rattle.tree.specs.Unlinking.{unlinkAll}
 use Rattle.idx_page.specs.Page.{rightAt, capacity}
 use Rattle.idx_page.specs.Reading.{Item}
 use Rattle.idx_page.specs.ReadingLaws.{right-same}
-use Rattle.idx_layout.specs.Layout.{itemsIn, unlinked, freed}
-use Rattle.idx_layout.specs.Entries.{withoutEntry}
-use Rattle.idx_layout.specs.ItemLaws.{Fit}
-use Rattle.idx_layout.specs.EntryLaws.{items-in-fit}
-use Rattle.idx_layout.specs.FitLaws.{without-all, length-without}
+use Rattle.idx_route.specs.Route.{itemsIn}
+use Rattle.idx_layout.specs.Layout.{unlinked, freed}
+use Rattle.idx_entries.specs.Entries.{withoutEntry}
+use Rattle.idx_route.specs.ItemLaws.{Fit}
+use Rattle.idx_route.specs.EntryLaws.{items-in-fit}
+use Rattle.idx_entries.specs.FitLaws.{without-all, length-without}
 use Rattle.idx_sound.specs.Sound.{linksOf}
 use Rattle.idx_remove.specs.Removal.{Outcome, kept, emptied, bad, Step, takeOut, afterChild, removeUnder}
 use Rattle.idx_layout_laws.specs.EntryLaws.{entriesIn, Usable, page-of, items-few}

@@ -23,11 +23,12 @@ use Rattle.tree.specs.Unlinking.{unlink, unlinkAll}
 use Rattle.idx_page.specs.Header.{freePointer, isPage}
 use Rattle.idx_page.specs.Reading.{Item}
 use Rattle.idx_page.specs.Page.{attributeAt, countAt, leftAt, rightAt, capacity}
-use Rattle.idx_layout.specs.Layout.{itemsIn, unlinked, freed}
-use Rattle.idx_layout.specs.Entries.{withoutEntry}
-use Rattle.idx_layout.specs.ItemLaws.{Fit}
-use Rattle.idx_layout.specs.EntryLaws.{items-in-fit}
-use Rattle.idx_layout.specs.FitLaws.{without-all, length-without}
+use Rattle.idx_route.specs.Route.{itemsIn}
+use Rattle.idx_layout.specs.Layout.{unlinked, freed}
+use Rattle.idx_entries.specs.Entries.{withoutEntry}
+use Rattle.idx_route.specs.ItemLaws.{Fit}
+use Rattle.idx_route.specs.EntryLaws.{items-in-fit}
+use Rattle.idx_entries.specs.FitLaws.{without-all, length-without}
 use Rattle.idx_sound.specs.Sound.{linksOf}
 use Rattle.idx_remove.specs.Removal.{Outcome, kept, emptied, bad, Step, takeOut, afterChild, removeUnder}
 use Rattle.idx_layout_laws.specs.EntryLaws.{entriesIn, Usable, page-of, items-few}

@@ -9,14 +9,14 @@ use borrow.Fn.Kinds.{In}
 use borrow.Fn.PlainCycle.{Measures, is, falls, and}
 use Rattle.idx_page.specs.Header.{isPage}
 use Rattle.idx_insert.specs.Insertion.{insertUnder}
-use Rattle.idx_layout.specs.VisitLaws.{visited-leaf, visited-child}
+use Rattle.idx_route.specs.VisitLaws.{visited-leaf, visited-child}
 use Rattle.idx_insert.specs.StepLaws.{under-bad, under-leaf, under-child, next-fits}
 use Rattle.idx_insert.proofs.insert_under.Reads as insert-under
 use Rattle.idx_insert.proofs.insert_under.Kinds as insert-under-kinds
 use Rattle.idx_insert.proofs.+insert_under.Lts-insert_under as insert-under-lts
 use Rattle.idx_insert.proofs.after_child.Reads as after-child-reads
 use Rattle.idx_insert.proofs.insert_in_leaf.Reads as insert-in-leaf-reads
-use Rattle.idx_layout.proofs.visit_page.Reads as visit-page-reads
+use Rattle.idx_route.proofs.visit_page.Reads as visit-page-reads
 use Rattle.idx_insert.proofs.+insert_under.{statement}
 use Rattle.idx_insert.proofs.+insert_under.Tie.{close}
 

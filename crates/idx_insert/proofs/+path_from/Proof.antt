@@ -6,11 +6,11 @@ use lib.ListN.{length}
 use borrow.Author.Needs.{needs}
 use borrow.Fn.Kinds.{In}
 use borrow.Fn.PlainCycle.{Measures, is, falls, and}
-use Rattle.idx_layout.specs.Visits.{visitOf}
+use Rattle.idx_route.specs.Visits.{visitOf}
 use Rattle.idx_insert.specs.Room.{pathFrom}
-use Rattle.idx_layout.specs.declared.Visit.the-variants as visit
-use Rattle.idx_layout.specs.Entries.{stored}
-use Rattle.idx_layout.specs.VisitLaws.{visited-leaf}
+use Rattle.idx_route.specs.declared.Visit.the-variants as visit
+use Rattle.idx_route.specs.Route.{stored}
+use Rattle.idx_route.specs.VisitLaws.{visited-leaf}
 use Rattle.idx_insert.specs.RoomLaws.{path-levels, path-bad, path-leaf, path-child}
 use Rattle.idx_insert.proofs.path_from.Reads as path-from
 use Rattle.idx_insert.proofs.path_from.Kinds as path-from-kinds
@@ -18,8 +18,8 @@ use Rattle.idx_insert.proofs.+path_from.Lts-path_from as path-from-lts
 use Rattle.idx_insert.proofs.empty_path.Reads as empty-path-reads
 use Rattle.idx_insert.proofs.is_full.Reads as is-full-reads
 use Rattle.idx_insert.proofs.on_top.Reads as on-top-reads
-use Rattle.idx_layout.proofs.visit_page.Reads as visit-page-reads
-use Rattle.idx_layout.proofs.is_present.Reads as is-present-reads
+use Rattle.idx_route.proofs.visit_page.Reads as visit-page-reads
+use Rattle.idx_route.proofs.is_present.Reads as is-present-reads
 use Rattle.idx_insert.proofs.+path_from.{statement}
 use Rattle.idx_insert.proofs.+path_from.Tie.{close}
 

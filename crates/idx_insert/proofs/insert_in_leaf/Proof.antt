@@ -3,9 +3,9 @@ use native.Mathlib.Omega.{arith}
 use lib.ListN.{length, length-take}
 use Rattle.idx_page.specs.Header.{features}
 use Rattle.idx_page.specs.EntryOrder.{itemOrder}
-use Rattle.idx_layout.specs.Given.{Listed}
-use Rattle.idx_layout.specs.GatherLaws.{Spread, spread}
-use Rattle.idx_layout.specs.FitLaws.{one-more, pair-read}
+use Rattle.idx_route.specs.Given.{Listed}
+use Rattle.idx_entries.specs.GatherLaws.{Spread, spread}
+use Rattle.idx_entries.specs.FitLaws.{one-more, pair-read}
 use borrow.Author.Needs.{needs}
 use Rattle.idx_insert.proofs.insert_in_leaf.Statement.{statement}
 use Rattle.idx_insert.proofs.insert_in_leaf.Tie as tie

@@ -4,7 +4,7 @@ use native.Mathlib.Omega.{arith}
 use lib.ListN.{length}
 use Rattle.idx_page.specs.Header.{maxKey}
 use Rattle.idx_page.specs.HeaderLaws.{GoodHeader, good-header}
-use Rattle.idx_layout.specs.SupplyLaws.{header-lasts}
+use Rattle.idx_supply.specs.SupplyLaws.{header-lasts}
 use Rattle.idx_insert.specs.StepLaws.{next-fits, pair-inserted}
 use borrow.Author.Needs.{needs}
 use Rattle.idx_insert.proofs.insert_pair.Statement.{statement}

@@ -8,7 +8,7 @@ use Rattle.basis.specs.Tests.{passed, failed}
 use Rattle.idx_page.specs.Header.{isPage}
 use Rattle.idx_page.specs.HeaderLaws.{IsPage, is-page}
 use Rattle.idx_layout.specs.WriteLaws.{capacity-least}
-use Rattle.idx_layout.specs.FitLaws.{root-read}
+use Rattle.idx_entries.specs.FitLaws.{root-read}
 use Rattle.idx_insert.specs.StepLaws.{root-none, root-new}
 use borrow.Author.Needs.{needs}
 use Rattle.idx_insert.proofs.new_root.Statement.{statement}

@@ -3,7 +3,7 @@ use Prim.Native.Nat.{_+_, _≤_}
 use native.Mathlib.Omega.{arith}
 use Rattle.idx_page.specs.Header.{maxLevels}
 use Rattle.idx_page.specs.HeaderLaws.{GoodHeader, good-header}
-use Rattle.idx_layout.specs.SupplyLaws.{header-lasts}
+use Rattle.idx_supply.specs.SupplyLaws.{header-lasts}
 use Rattle.idx_insert.specs.RoomLaws.{root-once, room-told}
 use borrow.Author.Needs.{needs}
 use Rattle.idx_insert.proofs.no_room.Statement.{statement}

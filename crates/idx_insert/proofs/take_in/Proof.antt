@@ -5,7 +5,7 @@ use lib.ListN.{length}
 use Rattle.basis.specs.Tests.{passed, failed}
 use Rattle.idx_page.specs.Page.{capacity}
 use Rattle.idx_page.specs.Reading.{items}
-use Rattle.idx_layout.specs.ItemLaws.{length-items}
+use Rattle.idx_route.specs.ItemLaws.{length-items}
 use Rattle.idx_layout.specs.WriteLaws.{whole-given}
 use Rattle.idx_insert.specs.StepLaws.{takes-kept, takes-split, takes-none}
 use borrow.Author.Needs.{needs}

@@ -1,9 +1,9 @@
 -- `idx_insert::take_in_two` meets its contract: what is gathered reads as the rule's entries; a page without entry i has none to replace. Assumes nothing.
 use native.Mathlib.Omega.{arith}
 use lib.ListN.{length, length-take}
-use Rattle.idx_layout.specs.Given.{Listed}
-use Rattle.idx_layout.specs.GatherLaws.{Spread, spread}
-use Rattle.idx_layout.specs.FitLaws.{one-more, two-read}
+use Rattle.idx_route.specs.Given.{Listed}
+use Rattle.idx_entries.specs.GatherLaws.{Spread, spread}
+use Rattle.idx_entries.specs.FitLaws.{one-more, two-read}
 use Rattle.idx_insert.specs.StepLaws.{two-for-some, two-for-none}
 use borrow.Author.Needs.{needs}
 use Rattle.idx_insert.proofs.take_in_two.Statement.{statement}

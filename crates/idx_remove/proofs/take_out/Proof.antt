@@ -2,9 +2,10 @@
 use Prim.Native.Nat.{_-_, _<_}
 use native.Mathlib.Omega.{arith}
 use lib.ListN.{length, length-take}
-use Rattle.idx_layout.specs.Given.{Listed}
-use Rattle.idx_layout.specs.GatherLaws.{Spread, spread, counted-some}
-use Rattle.idx_layout.specs.FitLaws.{one-less, without-read}
+use Rattle.idx_route.specs.Given.{Listed}
+use Rattle.idx_entries.specs.GatherLaws.{Spread, spread}
+use Rattle.idx_route.specs.SearchLaws.{counted-some}
+use Rattle.idx_entries.specs.FitLaws.{one-less, without-read}
 use Rattle.idx_remove.specs.StepLaws.{takes-none, takes-last, takes-one}
 use borrow.Author.Needs.{needs}
 use Rattle.idx_remove.proofs.take_out.Statement.{statement}
