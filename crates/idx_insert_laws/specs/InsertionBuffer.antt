@@ -41,7 +41,7 @@ use Rattle.idx_route.specs.ItemLaws.{Fit}
 use Rattle.idx_route.specs.EntryLaws.{items-in-fit}
 use Rattle.idx_entries.specs.GatherLaws.{length-last}
 use Rattle.idx_sound.specs.Sound.{linksOf, keptBy}
-use Rattle.idx_insert.specs.Insertion.{Outcome, kept, split, bad, Step, insertUnder, atRoot, insertedBuffer}
+use Rattle.idx_insert_pair.specs.Insertion.{Outcome, kept, split, bad, Step, insertUnder, atRoot, insertedBuffer}
 use Rattle.idx_layout_laws.specs.EntryLaws.{entriesIn, page-of, length-new}
 use Rattle.idx_layout_laws.specs.HeadLaws.{Head, SameHead, SameHeader, put-header, new-head, new-header}
 use Rattle.idx_layout_laws.specs.OtherPages.{SameButLeft, both-kept, header-other, new-other}

@@ -45,7 +45,7 @@ use Rattle.idx_route.specs.ItemLaws.{Fit}
 use Rattle.idx_route.specs.EntryLaws.{items-in-fit}
 use Rattle.idx_entries.specs.GatherLaws.{length-last}
 use Rattle.idx_entries.specs.FitLaws.{length-insert, length-replaced, pair-fit, two-fit}
-use Rattle.idx_insert.specs.Insertion.{Outcome, kept, split, bad, Step, step, takeIn, afterChild, insertUnder, atRoot}
+use Rattle.idx_insert_pair.specs.Insertion.{Outcome, kept, split, bad, Step, step, takeIn, afterChild, insertUnder, atRoot}
 use Rattle.idx_layout_laws.specs.EntryLaws.{entriesIn, page-of, raise, items-few, entries-header, entries-with, length-with, entries-new, entries-split}
 use Rattle.idx_layout_laws.specs.EntryLaws.{length-new, length-split, entries-raised, length-raised}
 use Rattle.idx_layout_laws.specs.OtherPages.{unchanged, both-kept, with-other, raised-other, split-others}

@@ -38,7 +38,7 @@ use Rattle.idx_route.specs.ItemLaws.{Fit}
 use Rattle.idx_route.specs.EntryLaws.{items-in-fit}
 use Rattle.idx_entries.specs.FitLaws.{length-insert, length-replaced, pair-fit, two-fit}
 use Rattle.idx_sound.specs.Sound.{linksOf, keptBy}
-use Rattle.idx_insert.specs.Insertion.{Outcome, kept, split, bad, Step, takeIn, afterChild, insertUnder}
+use Rattle.idx_insert_pair.specs.Insertion.{Outcome, kept, split, bad, Step, takeIn, afterChild, insertUnder}
 use Rattle.idx_layout_laws.specs.EntryLaws.{entriesIn, page-of, items-few}
 use Rattle.idx_layout_laws.specs.HeadLaws.{Head, SameHead, SameHeader, with-head, with-header, raised-head, raised-header, split-head, split-header}
 use Rattle.idx_insert_laws.specs.ItemLists.{passes, Shaped}

@@ -37,7 +37,7 @@ use Rattle.idx_page.specs.ReadingLaws.{right-same}
 use Rattle.idx_layout.specs.Layout.{newPage}
 use Rattle.idx_route.specs.Route.{stored}
 use Rattle.idx_sound.specs.Sound.{linksOf}
-use Rattle.idx_remove.specs.Removal.{Outcome, kept, emptied as emptiedPage, bad, Step, removeUnder, atRoot, removedBuffer}
+use Rattle.idx_remove_pair.specs.Removal.{Outcome, kept, emptied as emptiedPage, bad, Step, removeUnder, atRoot, removedBuffer}
 use Rattle.idx_layout_laws.specs.EntryLaws.{entriesIn, page-of, length-new}
 use Rattle.idx_layout_laws.specs.HeadLaws.{Head, SameHeader, new-head, new-header}
 use Rattle.idx_layout_laws.specs.FreeLaws.{SameButFree, freePage, same-header, same-free, new-bytes}

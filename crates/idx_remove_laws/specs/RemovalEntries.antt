@@ -30,7 +30,7 @@ use Rattle.idx_entries.specs.Entries.{withoutEntry}
 use Rattle.idx_route.specs.ItemLaws.{Fit}
 use Rattle.idx_route.specs.EntryLaws.{items-in-fit}
 use Rattle.idx_entries.specs.FitLaws.{without-all, length-without}
-use Rattle.idx_remove.specs.Removal.{Outcome, kept, emptied, bad, Step, leftWith, takeOut, afterChild, removeUnder, atRoot}
+use Rattle.idx_remove_pair.specs.Removal.{Outcome, kept, emptied, bad, Step, leftWith, takeOut, afterChild, removeUnder, atRoot}
 use Rattle.idx_layout_laws.specs.EntryLaws.{entriesIn, Usable, page-of, items-few, entries-with, length-with, entries-new}
 use Rattle.idx_layout_laws.specs.FreeLaws.{length-unlinked, length-freed, entries-unlinked, entries-freed}
 use Rattle.idx_insert_laws.specs.ItemLists.{Shaped}

@@ -30,7 +30,7 @@ use Rattle.idx_route.specs.ItemLaws.{Fit}
 use Rattle.idx_route.specs.EntryLaws.{items-in-fit}
 use Rattle.idx_entries.specs.FitLaws.{without-all, length-without}
 use Rattle.idx_sound.specs.Sound.{linksOf}
-use Rattle.idx_remove.specs.Removal.{Outcome, kept, emptied, bad, Step, takeOut, afterChild, removeUnder}
+use Rattle.idx_remove_pair.specs.Removal.{Outcome, kept, emptied, bad, Step, takeOut, afterChild, removeUnder}
 use Rattle.idx_layout_laws.specs.EntryLaws.{entriesIn, Usable, page-of, items-few}
 use Rattle.idx_layout_laws.specs.HeadLaws.{with-head, with-header}
 use Rattle.idx_layout_laws.specs.FreeLaws.{SameButFree, same-header, same-free, length-unlinked, unlinked-head, unlinked-header}

@@ -163,7 +163,13 @@ fn pairs_below(
 }
 
 // How many entries of a leaf are below `key` with its record number, before the first at or above it. If keys are distinct, by the keys alone.
-pub fn place(index: &[u8], key: &[u8], number: RecordNumber, page: PageOffset, count: usize) -> usize
+pub fn place(
+    index: &[u8],
+    key: &[u8],
+    number: RecordNumber,
+    page: PageOffset,
+    count: usize,
+) -> usize
     requires { ⌜ Listed (now index) (length (now key)) (page .0) count ⌝ }
     ensures { λ r. ⌜ r ≡ passedCount (itemOrder (features (now (index .entry)))) (stored (now (key .entry)) (number .0))
         (itemsIn (length (now (key .entry))) (now (index .entry)) (page .0)) ⌝ }
