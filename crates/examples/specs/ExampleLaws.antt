@@ -21,7 +21,7 @@ use Rattle.idx_sound.specs.Accepted.{accepted}
 use Rattle.idx_layout.specs.Layout as layout
 use Rattle.idx_entries.specs.Entries as entries
 use Rattle.idx_supply.specs.Supply as supply
-use Rattle.idx_insert_pair.specs.Insertion as insertion
+use Rattle.idx_insert_page.specs.Insertion as insertion
 use Rattle.idx_insert.specs.Fresh as fresh
 use Rattle.idx_path.specs.Room as room
 use Rattle.idx_insert.specs.Calls as calls

@@ -13,7 +13,7 @@ use Rattle.tree.specs.Position.{replaceAt}
 use Rattle.idx_page.specs.Page.{entryOffset}
 use Rattle.idx_page.specs.KeyOrder.{bytesOrder}
 use Rattle.idx_page.specs.Reading.{Item}
-use Rattle.idx_route.specs.Route.{itemsIn, itemOf}
+use Rattle.idx_leaf.specs.Leaf.{itemsIn, itemOf}
 
 -- entries with those of f in the place of entry i
 abbrev pub replaced : ℕ → (Item → List Item) → List Item → List Item

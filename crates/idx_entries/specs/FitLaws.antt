@@ -17,14 +17,14 @@ use Rattle.tree.specs.Pairs.{lastKey, insertPair}
 use Rattle.tree.specs.PairLaws.{insertPair-all}
 use Rattle.idx_page.specs.Header.{maxKey}
 use Rattle.idx_page.specs.Reading.{Item, items}
-use Rattle.idx_route.specs.Route.{itemsIn, itemOf}
+use Rattle.idx_leaf.specs.Leaf.{itemsIn, itemOf}
 use Rattle.idx_layout.specs.Layout.{encode}
 use Rattle.idx_entries.specs.Entries.{replaced, twoFor, rootEntries, withoutEntry}
 use Rattle.idx_layout.specs.Given.{Given, Over, roomSize}
-use Rattle.idx_route.specs.Given.{Listed}
-use Rattle.idx_route.specs.ItemLaws.{Fit}
+use Rattle.idx_leaf.specs.Given.{Listed}
+use Rattle.idx_leaf.specs.ItemLaws.{Fit}
 use Rattle.idx_layout.specs.EncodeLaws.{length-encode, items-encode}
-use Rattle.idx_route.specs.EntryLaws.{items-in-fit, listed-within}
+use Rattle.idx_leaf.specs.EntryLaws.{items-in-fit, listed-within}
 use Rattle.idx_entries.specs.GatherLaws.{length-last, length-larger, put-next, spread}
 
 -- how many entries a leaf has with one more

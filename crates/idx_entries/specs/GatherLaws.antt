@@ -25,14 +25,14 @@ use Rattle.idx_page.specs.Within.{Within}
 use Rattle.idx_page.specs.KeyOrder.{bytesOrder}
 use Rattle.idx_page.specs.PageLaws.{capacity-small, entries-fit, entries-inside, within-entry, entry-within}
 use Rattle.idx_page.specs.Reading.{Item}
-use Rattle.idx_route.specs.Route.{itemsIn}
+use Rattle.idx_leaf.specs.Leaf.{itemsIn}
 use Rattle.idx_layout.specs.Layout.{encode}
 use Rattle.idx_entries.specs.Entries.{replaced, raised, twoFor, withoutEntry}
-use Rattle.idx_route.specs.Given.{Listed}
-use Rattle.idx_route.specs.ItemLaws.{Fit}
+use Rattle.idx_leaf.specs.Given.{Listed}
+use Rattle.idx_leaf.specs.ItemLaws.{Fit}
 use Rattle.idx_layout.specs.EncodeLaws.{encode-append, encode-items}
-use Rattle.idx_route.specs.EntryLaws.{itemsFrom, itemAt, items-in-fit, take-from, drop-from, entry-far, listed, listed-within, passedCount}
-use Rattle.idx_route.specs.SearchLaws.{get-listed, search-le}
+use Rattle.idx_leaf.specs.EntryLaws.{itemsFrom, itemAt, items-in-fit, take-from, drop-from, entry-far, listed, listed-within, passedCount}
+use Rattle.idx_leaf.specs.SearchLaws.{get-listed, search-le}
 
 -- the bytes of n entries from entry i on
 pub encode-from : (k : ℕ) (b : List ℕ) (p n i : ℕ) → i + n ≤ capacity k → p + pageSize ≤ length b

@@ -14,11 +14,11 @@ ghost use Rattle.idx_page.specs.Page.{entryOffset, keyAt};
 ghost use Rattle.idx_page.specs.Within.{Within};
 ghost use Rattle.idx_page.specs.KeyOrder.{bytesOrder};
 ghost use Rattle.idx_page.specs.EntryOrder.{itemOrder};
-ghost use Rattle.idx_route.specs.Route.{itemsIn, stored};
+ghost use Rattle.idx_leaf.specs.Leaf.{itemsIn, stored};
 ghost use Rattle.idx_layout.specs.Layout.{encode};
 ghost use Rattle.idx_entries.specs.Entries.{replaced, raised, twoFor, rootEntries, withoutEntry};
 ghost use Rattle.idx_layout.specs.Given.{roomSize};
-ghost use Rattle.idx_route.specs.Given.{Listed};
+ghost use Rattle.idx_leaf.specs.Given.{Listed};
 
 // The room in which the entries of a page are gathered: the entry area and one more entry with the longest key.
 pub const ROOM: usize = Page::ENTRY_AREA + idx_page::MAX_KEY + 4;
@@ -28,7 +28,7 @@ pub fn raise_key(index: &mut [u8], key: &[u8], page: PageOffset, i: usize)
     requires { ⌜ (length (now key) ≤ maxKey) × (isPage (length (now index)) (page .0) ≡ true) ⌝ }
     ensures { λ _. ⌜ now (index .exit) ≡ raised (length (now (key .entry))) (now (index .entry)) (now (key .entry)) (page .0) i ⌝ }
 {
-    if idx_route::entry_count(index, key.len(), page) <= i {
+    if idx_leaf::entry_count(index, key.len(), page) <= i {
         return;
     }
     if octets::is_below(idx_page::compare_entry(index, page, i, key)) {
@@ -80,7 +80,7 @@ pub fn copy_last_key(to: &mut [u8], at: usize, index: &[u8], key: &[u8], page: P
     ensures { λ _. ⌜ now (to .exit) ≡ put (now (to .entry)) at
         (lastKey (now (key .entry)) (itemsIn (length (now (key .entry))) (now (index .entry)) (page .0))) ⌝ }
 {
-    let count = idx_route::entry_count(index, key.len(), page);
+    let count = idx_leaf::entry_count(index, key.len(), page);
     if count == 0 {
         octets::copy_in(to, at, key);
         return;
@@ -116,7 +116,7 @@ pub fn gather_pair(
         (itemsIn (length (now (key .entry))) (now (index .entry)) (page .0)))) ⌝ }
 {
     let k = key.len();
-    let i = idx_route::place(index, key, number, page, count);
+    let i = idx_leaf::place(index, key, number, page, count);
     let at = i * (k + 4);
     copy_entries(room, 0, index, k, page, 0, i);
     octets::copy_in(room, at, key);

@@ -42,7 +42,7 @@ use Rattle.idx_page.specs.ReadingLaws.{window-window}
 use Rattle.idx_layout.specs.WriteLaws.{capacity-least}
 use Rattle.idx_sound.specs.Sound.{indexTree, keptBy, linksOf, FreePage, FreeList, Sound}
 use Rattle.idx_sound.specs.IndexLaws.{indexOf, settingOf, sound-index, sound-linked, all-occ, once-page, index-sound}
-use Rattle.idx_insert_pair.specs.Insertion.{insertedBuffer}
+use Rattle.idx_insert_page.specs.Insertion.{insertedBuffer}
 use Rattle.idx_path.specs.Room.{pathTo, noRoom}
 use Rattle.idx_supply.specs.declared.Supply.{Supply}
 use Rattle.idx_supply.specs.Supply.{supplyOf}

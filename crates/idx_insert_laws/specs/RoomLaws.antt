@@ -32,7 +32,8 @@ use Rattle.idx_page.specs.Page.{capacity}
 use Rattle.idx_page.specs.Reading.{Item, numbered}
 use Rattle.idx_page.specs.EntryOrder.{itemOrder}
 use Rattle.idx_page.specs.ItemLaws.{present-numbered}
-use Rattle.idx_route.specs.Route.{itemsIn, stored, chosenAt, itemOf, childOf}
+use Rattle.idx_leaf.specs.Leaf.{itemsIn, stored, itemOf}
+use Rattle.idx_route.specs.Route.{chosenAt, childOf}
 use Rattle.idx_sound.specs.Sound.{indexTree, keptBy, Sound, leafPairs}
 use Rattle.idx_sound.specs.IndexLaws.{indexOf, settingOf, sound-index}
 use Rattle.idx_path.specs.declared.Path.{Path}

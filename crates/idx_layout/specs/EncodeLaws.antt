@@ -9,7 +9,7 @@ use lib.Seq.{take-at, drop-at, drop-drop, take-add}
 use Rattle.basis.specs.Lists.{All}
 use Rattle.idx_page.specs.Reading.{Item, items}
 use Rattle.idx_layout.specs.Layout.{encode}
-use Rattle.idx_route.specs.ItemLaws.{Fit}
+use Rattle.idx_leaf.specs.ItemLaws.{Fit}
 
 pub encode-append : (xs ys : List Item) → encode (xs ++ ys) ≡ encode xs ++ encode ys
 unfolding encode

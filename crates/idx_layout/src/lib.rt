@@ -1,16 +1,15 @@
-// Writes the header and pages: their numbers, a page's entries, a new page, one that is split, unlinked or freed.
+// Writes the header and pages: their numbers, a page's entries, a new page, and a page that is split.
 use idx_page::Page;
 use idx_page::PageOffset;
 ghost use mathlib.Core.Path.{_≡_};
 ghost use mathlib.Core.Bool.{true};
-ghost use mathlib.Core.List.{[]};
 ghost use Prim.Native.Nat.{_+_, _≤_};
 ghost use lib.ListN.{length};
 ghost use Rattle.octets.specs.Store.{put};
 ghost use Rattle.idx_page.specs.Header.{maxFeatures, pageSize, expressionPlace, features, isPage};
 ghost use Rattle.idx_page.specs.Reading.{items};
 ghost use Rattle.idx_layout.specs.Layout.{withAttribute, withCount, withLeft, withRight, withRoot, withFree, withSize, headerBytes};
-ghost use Rattle.idx_layout.specs.Layout.{withEntries, newPage, linkBeyond, splitPage, linkBefore, unlinked, freed};
+ghost use Rattle.idx_layout.specs.Layout.{withEntries, newPage, linkBeyond, splitPage};
 ghost use Rattle.idx_layout.specs.Given.{Given, Over};
 
 // Gives a page the attribute `attribute`.
@@ -38,7 +37,7 @@ fn link_left(index: &mut [u8], page: PageOffset, left: PageOffset)
 }
 
 // Gives a page the right neighbour `right`.
-fn link_right(index: &mut [u8], page: PageOffset, right: PageOffset)
+pub fn link_right(index: &mut [u8], page: PageOffset, right: PageOffset)
     requires { ⌜ page .0 + pageSize ≤ length (now index) ⌝ }
     ensures { λ _. ⌜ now (index .exit) ≡ withRight (now (index .entry)) (page .0) (right .0) ⌝ }
 {
@@ -119,65 +118,13 @@ pub fn new_page(index: &mut [u8], k: usize, page: PageOffset, head: Page, entrie
     with_entries(index, k, page, head.count as usize, entries);
 }
 
-// Writes a whole page without entries: the numbers of its head but the count, which is 0, and zeros.
-pub fn empty_page(
-    index: &mut [u8],
-    page: PageOffset,
-    attribute: u32,
-    left: PageOffset,
-    right: PageOffset,
-)
-    requires { ⌜ page .0 + pageSize ≤ length (now index) ⌝ }
-    ensures { λ _. ⌜ now (index .exit) ≡ newPage (now (index .entry)) (page .0) attribute (left .0) (right .0) [] ⌝ }
-{
-    let none = [0u8; 1];
-    let head = Page {
-        attribute: attribute,
-        count: 0,
-        left: left,
-        right: right,
-    };
-    new_page(index, 0, page, head, &none[..0]);
-}
-
 // The page at `beyond`, if it is a page, gets the left neighbour `new`.
-fn link_beyond(index: &mut [u8], beyond: PageOffset, new: PageOffset)
+pub fn link_beyond(index: &mut [u8], beyond: PageOffset, new: PageOffset)
     ensures { λ _. ⌜ now (index .exit) ≡ linkBeyond (now (index .entry)) (beyond .0) (new .0) ⌝ }
 {
     if idx_page::is_page(index.len(), beyond) {
         link_left(index, beyond, new);
     }
-}
-
-// The page at `before`, if it is a page, gets the right neighbour `new`.
-fn link_before(index: &mut [u8], before: PageOffset, new: PageOffset)
-    ensures { λ _. ⌜ now (index .exit) ≡ linkBefore (now (index .entry)) (before .0) (new .0) ⌝ }
-{
-    if idx_page::is_page(index.len(), before) {
-        link_right(index, before, new);
-    }
-}
-
-// Unlinks a page from its neighbours, which become neighbours of each other.
-pub fn unlink_page(index: &mut [u8], page: PageOffset)
-    requires { ⌜ page .0 + pageSize ≤ length (now index) ⌝ }
-    ensures { λ _. ⌜ now (index .exit) ≡ unlinked (now (index .entry)) (page .0) ⌝ }
-{
-    let head = Page::at(index, page);
-    let left = head.left;
-    let right = head.right;
-    link_beyond(index, right, left);
-    link_before(index, left, right);
-}
-
-// Puts a page at the head of the free list: it names the old head as the next, and the header names it.
-pub fn free_page(index: &mut [u8], page: PageOffset)
-    requires { ⌜ page .0 + pageSize ≤ length (now index) ⌝ }
-    ensures { λ _. ⌜ now (index .exit) ≡ freed (now (index .entry)) (page .0) ⌝ }
-{
-    let next = idx_page::free_pointer(index);
-    empty_page(index, page, 0, PageOffset(0), next);
-    set_free(index, page);
 }
 
 // Splits a page that gets `count` entries, held in the bytes `entries`: it keeps the lower half, rounded up; the rest go to a new page at `new`.

@@ -8,7 +8,8 @@ use Rattle.idx_page.specs.Header.{maxLevels, rootOffset, features, isPage}
 use Rattle.idx_page.specs.Page.{attributeAt, leafBit}
 use Rattle.idx_page.specs.Reading.{Item}
 use Rattle.idx_page.specs.EntryOrder.{itemOrder}
-use Rattle.idx_route.specs.Route.{itemsIn, stored, chosenAt, childOf}
+use Rattle.idx_leaf.specs.Leaf.{itemsIn, stored}
+use Rattle.idx_route.specs.Route.{chosenAt, childOf}
 
 -- the leaf that the route of the entry e leads to from the page at p has e, with the levels left falling from 15: by the order of the header's features, so for
 -- features 1 "it goes by the key, and a record named isn't looked at"

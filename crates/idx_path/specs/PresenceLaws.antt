@@ -10,7 +10,7 @@ use Rattle.idx_page.specs.Header.{maxLevels, rootOffset, keyLength, features}
 use Rattle.idx_page.specs.Reading.{Item}
 use Rattle.idx_page.specs.EntryOrder.{itemOrder}
 use Rattle.idx_page.specs.declared.PageOffset.{PageOffset}
-use Rattle.idx_route.specs.Route.{itemsIn, stored}
+use Rattle.idx_leaf.specs.Leaf.{itemsIn, stored}
 use Rattle.idx_route.specs.Visits.{visitOf}
 use Rattle.idx_route.specs.VisitLaws.{visited-bad, visited-leaf, visited-child}
 use Rattle.idx_path.specs.Presence.{thereFrom, isThere}

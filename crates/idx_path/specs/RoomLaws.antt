@@ -13,7 +13,8 @@ use Rattle.idx_page.specs.Page.{attributeAt, leafBit, capacity}
 use Rattle.idx_page.specs.Reading.{Item}
 use Rattle.idx_page.specs.EntryOrder.{itemOrder}
 use Rattle.idx_page.specs.declared.PageOffset.{PageOffset}
-use Rattle.idx_route.specs.Route.{itemsIn, stored, chosenAt, childOf}
+use Rattle.idx_leaf.specs.Leaf.{itemsIn, stored}
+use Rattle.idx_route.specs.Route.{chosenAt, childOf}
 use Rattle.idx_supply.specs.declared.Supply.{Supply}
 use Rattle.idx_supply.specs.Supply.{supplyOf, supplyAfter}
 use Rattle.idx_path.specs.Room.{nowhere, onTop, pathFrom, pathTo, rootSplit, noRoom}

@@ -10,7 +10,7 @@ ghost use lib.ListN.{length};
 ghost use lib.Dec.{leb};
 ghost use Rattle.idx_page.specs.Header.{maxLevels, maxKey, keyLength, headerGood};
 ghost use Rattle.idx_page.specs.Page.{capacity};
-ghost use Rattle.idx_route.specs.Route.{itemsIn, stored};
+ghost use Rattle.idx_leaf.specs.Leaf.{itemsIn, stored};
 ghost use Rattle.idx_path.specs.Room.{onTop, pathFrom, pathTo, rootSplit, noRoom};
 ghost use Rattle.idx_path.specs.Presence.{thereFrom, isThere};
 
@@ -27,7 +27,7 @@ fn is_full(index: &[u8], k: usize, page: PageOffset) -> bool
     requires { ⌜ k ≤ maxKey ⌝ }
     ensures { λ r. ⌜ r ≡ leb (capacity k) (length (itemsIn k (now (index .entry)) (page .0))) ⌝ }
 {
-    Page::capacity(k) <= idx_route::entry_count(index, k, page)
+    Page::capacity(k) <= idx_leaf::entry_count(index, k, page)
 }
 
 // A path with one page more on top, which is full or not.
@@ -74,7 +74,7 @@ fn path_from(index: &[u8], key: &[u8], number: RecordNumber, page: PageOffset, l
         Visit::Bad => empty_path(false),
         Visit::Leaf => on_top(
             full,
-            empty_path(idx_route::is_present(index, key, number, page)),
+            empty_path(idx_leaf::is_present(index, key, number, page)),
         ),
         Visit::Child(i, child) => { on_top(full, path_from(index, key, number, child, levels - 1)) }
     }
@@ -128,7 +128,7 @@ fn there_from(index: &[u8], key: &[u8], number: RecordNumber, page: PageOffset, 
     let visit = idx_route::visit_page(index, key, number, page);
     match visit {
         Visit::Bad => false,
-        Visit::Leaf => idx_route::is_present(index, key, number, page),
+        Visit::Leaf => idx_leaf::is_present(index, key, number, page),
         Visit::Child(i, child) => there_from(index, key, number, child, levels - 1),
     }
 }

@@ -9,7 +9,8 @@ use Rattle.tree.specs.Pairs.{has}
 use Rattle.idx_page.specs.Header.{maxLevels, isPage, rootOffset, keyLength}
 use Rattle.idx_page.specs.Page.{attributeAt, leafBit}
 use Rattle.idx_page.specs.Reading.{Item}
-use Rattle.idx_route.specs.Route.{itemsIn, stored, chosenAt, childOf}
+use Rattle.idx_leaf.specs.Leaf.{itemsIn, stored}
+use Rattle.idx_route.specs.Route.{chosenAt, childOf}
 use Rattle.idx_sound.specs.Sound.{keptBy, Sound, leafPairs}
 use Rattle.idx_path.specs.Room.{pathFrom}
 use Rattle.idx_insert_laws.specs.RoomLaws.{present-is}

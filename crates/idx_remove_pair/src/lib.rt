@@ -1,84 +1,17 @@
-// Removal of a pair from an index that has it: page by page from the leaf up, then the root.
+// Removal of a pair from an index that has it: down to the leaf and page by page up again, then the root.
 use idx_page::PageOffset;
 use idx_page::RecordNumber;
+use idx_remove_page::Outcome;
 use idx_route::Visit;
 ghost use mathlib.Core.Path.{_≡_};
 ghost use mathlib.Core.Bool.{true};
 ghost use Prim.Native.Nat.{_≤_};
 ghost use lib.ListN.{length};
-ghost use Rattle.idx_page.specs.Header.{maxKey, isPage, keyLength, headerGood};
-ghost use Rattle.idx_route.specs.Route.{itemsIn, stored, placeIn};
+ghost use Rattle.idx_page.specs.Header.{maxKey, keyLength, headerGood};
+ghost use Rattle.idx_leaf.specs.Leaf.{stored};
 ghost use Rattle.idx_layout.specs.Given.{roomSize};
-ghost use Rattle.idx_remove_pair.specs.Removal.{step, takeOut, afterChild, removeUnder, atRoot, removedBuffer};
-ghost use Rattle.idx_remove_pair.specs.Answers.{outcomeOf, EmptiedPage};
-
-// What a removal under a page leaves for the page above to do: nothing; or to free the page, which has no entry left; or it met no page.
-pub enum Outcome {
-    Kept,
-    Emptied,
-    Bad,
-}
-
-// Takes entry `i` out of a page.
-fn take_out(index: &mut [u8], k: usize, page: PageOffset, i: usize, room: &mut [u8]) -> Outcome
-    requires { ⌜ (k ≤ maxKey) × (roomSize ≤ length (now room)) ⌝ }
-    ensures { λ r. ⌜ takeOut k (now (index .entry)) (page .0) i ≡ step (now (index .exit)) (outcomeOf r) ⌝ }
-{
-    let count = idx_route::entry_count(index, k, page);
-    if count <= i {
-        return Outcome::Bad;
-    }
-    let fewer = count - 1;
-    let size = fewer * (k + 4);
-    idx_entries::gather_without(room, index, k, page, count, i);
-    idx_layout::with_entries(index, k, page, fewer, &room[..size]);
-    if fewer == 0 {
-        return Outcome::Emptied;
-    }
-    Outcome::Kept
-}
-
-// What a page does after a removal under its entry `i`, over `child`, left `below`.
-fn after_child(
-    index: &mut [u8],
-    k: usize,
-    page: PageOffset,
-    i: usize,
-    child: PageOffset,
-    below: Outcome,
-    room: &mut [u8],
-) -> Outcome
-    requires { ⌜ (k ≤ maxKey) × (isPage (length (now index)) (page .0) ≡ true) × EmptiedPage (length (now index)) (child .0) below
-        × (roomSize ≤ length (now room)) ⌝ }
-    ensures { λ r. ⌜ afterChild k (now (index .entry)) (page .0) i (child .0) (outcomeOf below) ≡ step (now (index .exit)) (outcomeOf r) ⌝ }
-{
-    match below {
-        Outcome::Kept => Outcome::Kept,
-        Outcome::Emptied => {
-            idx_layout::unlink_page(index, child);
-            idx_layout::free_page(index, child);
-            take_out(index, k, page, i, room)
-        }
-        Outcome::Bad => Outcome::Bad,
-    }
-}
-
-// Takes the entry that `key` with its record number leads to out of a leaf.
-fn remove_in_leaf(
-    index: &mut [u8],
-    key: &[u8],
-    number: RecordNumber,
-    page: PageOffset,
-    room: &mut [u8],
-) -> Outcome
-    requires { ⌜ (length (now key) ≤ maxKey) × (isPage (length (now index)) (page .0) ≡ true) × (roomSize ≤ length (now room)) ⌝ }
-    ensures { λ r. ⌜ takeOut (length (now (key .entry))) (now (index .entry)) (page .0)
-        (placeIn (now (index .entry)) (stored (now (key .entry)) (number .0)) (itemsIn (length (now (key .entry))) (now (index .entry)) (page .0)))
-        ≡ step (now (index .exit)) (outcomeOf r) ⌝ }
-{
-    let i = idx_route::leaf_entry(index, key, number, page);
-    take_out(index, key.len(), page, i, room)
-}
+ghost use Rattle.idx_remove_page.specs.Removal.{step, removeUnder, atRoot, removedBuffer};
+ghost use Rattle.idx_remove_page.specs.Answers.{outcomeOf, EmptiedPage};
 
 // Removal under a page, with `levels` levels left. One room serves all levels: each is done with it before the next one up gathers.
 fn remove_under(
@@ -99,10 +32,10 @@ fn remove_under(
     let visit = idx_route::visit_page(index, key, number, page);
     match visit {
         Visit::Bad => Outcome::Bad,
-        Visit::Leaf => remove_in_leaf(index, key, number, page, room),
+        Visit::Leaf => idx_remove_page::remove_in_leaf(index, key, number, page, room),
         Visit::Child(i, child) => {
             let below = remove_under(index, key, number, child, levels - 1, room);
-            after_child(index, key.len(), page, i, child, below, room)
+            idx_remove_page::after_child(index, key.len(), page, i, child, below, room)
         }
     }
 }
@@ -116,7 +49,7 @@ fn at_root(index: &mut [u8], root: PageOffset, below: Outcome)
         Outcome::Kept => {}
         Outcome::Emptied => {
             let none = PageOffset(idx_page::NO_PAGE);
-            idx_layout::empty_page(index, root, 3, none, none);
+            idx_free::empty_page(index, root, 3, none, none);
         }
         Outcome::Bad => {}
     }

@@ -1,26 +1,19 @@
--- Rules: the entries of a page, which of them an entry goes under, by the header's features, and the child of an entry. Cited by insertion, by removal and by
--- the rules for refusals 29, 30 and 33.
+-- Rules: which entry of a page above the leaves an entry goes under, by the header's features, and its child. Cited by insertion, by removal and by refusals
+-- 29, 30 and 33.
 use Prim.Native.Nat.{ℕ, zero, suc}
-use mathlib.Core.Bool.{Bool, cond, not}
-use mathlib.Core.List.{List, []}
-use lib.ListN.{length, getD}
-use Rattle.octets.specs.Bytes.{be32, toBe32}
+use mathlib.Core.Bool.{Bool, cond}
+use mathlib.Core.List.{List}
+use lib.ListN.{length}
+use Rattle.octets.specs.Bytes.{be32}
 use Rattle.octets.specs.Order.{bytesLe}
 use Rattle.tree.specs.Position.{Passes, position, passesLower}
 use Rattle.tree.specs.Tree.{firstAmong}
 use Rattle.idx_page.specs.Header.{maxLevels, features}
 use Rattle.idx_page.specs.Page.{attributeAt, leafBit}
 use Rattle.idx_page.specs.KeyOrder.{bytesOrder}
-use Rattle.idx_page.specs.Reading.{Item, itemsAt}
+use Rattle.idx_page.specs.Reading.{Item}
 use Rattle.idx_page.specs.EntryOrder.{itemOrder}
-
--- the entries of the page at p of the buffer
-abbrev pub itemsIn : ℕ → List ℕ → ℕ → List Item
-itemsIn k b p = itemsAt k (length b) b p
-
--- a key with its record number, as an entry stores them
-abbrev pub stored : List ℕ → ℕ → Item
-stored key number = (key, toBe32 number)
+use Rattle.idx_leaf.specs.Leaf.{itemOf, itemsIn}
 
 -- the first leaf pair under the entry x of a page above the leaves is at or below the entry e: down by first entries, with the levels left falling from 15. If
 -- a page on the way has no entry, which does not occur in a sound index, the key above it decides
@@ -40,14 +33,6 @@ passesAbove (suc n) b e x y = passesLower bytesOrder e x y
 -- the number of the entry of a page above the leaves that the entry e goes under: for features 1 "the first entry at or above the key, else the last" (K1)
 abbrev pub chosenAt : List ℕ → Item → List Item → ℕ
 chosenAt b e es = position (passesAbove (features b) b e) es
-
--- the number of the entry of a leaf that the entry e leads to: the first at or above it, by the order of the header's features, else the last
-abbrev pub placeIn : List ℕ → Item → List Item → ℕ
-placeIn b e es = position (λ x y. not (itemOrder (features b) e x)) es
-
--- entry i; without bytes if there is no such entry
-abbrev pub itemOf : ℕ → List Item → Item
-itemOf i es = getD es i ([], [])
 
 -- the number of entry i as a page's offset; 0, which is no page's, if there is no such entry
 abbrev pub childOf : ℕ → List Item → ℕ

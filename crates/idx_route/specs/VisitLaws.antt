@@ -9,7 +9,8 @@ use Rattle.idx_page.specs.Header.{isPage}
 use Rattle.idx_page.specs.Page.{attributeAt, leafBit}
 use Rattle.idx_page.specs.Reading.{Item}
 use Rattle.idx_page.specs.declared.PageOffset.{PageOffset}
-use Rattle.idx_route.specs.Route.{itemsIn, chosenAt, childOf}
+use Rattle.idx_leaf.specs.Leaf.{itemsIn}
+use Rattle.idx_route.specs.Route.{chosenAt, childOf}
 use Rattle.idx_route.specs.Visits.{visitOf}
 use Rattle.idx_route.specs.declared.Visit.the-variants as visit
 

@@ -1,4 +1,4 @@
-// The way of a key through an index: what it meets at a page, the entry that it goes under, that entry's child, and whether a leaf has it.
+// The way of a key through the pages above the leaves: what it meets at a page, the entry that it goes under, and that entry's child.
 use idx_page::Page;
 use idx_page::PageOffset;
 use idx_page::RecordNumber;
@@ -7,15 +7,14 @@ ghost use mathlib.Core.Bool.{true};
 ghost use Prim.Native.Nat.{_+_, _≤_, _<_};
 ghost use lib.ListN.{length};
 ghost use Rattle.octets.specs.Order.{bytesLe};
-ghost use Rattle.tree.specs.Pairs.{present};
 ghost use Rattle.tree.specs.Position.{position};
-ghost use Rattle.idx_page.specs.Header.{maxKey, maxLevels, features, isPage};
+ghost use Rattle.idx_page.specs.Header.{maxKey, maxLevels, isPage};
 ghost use Rattle.idx_page.specs.Page.{keyAt};
 ghost use Rattle.idx_page.specs.Within.{Within};
-ghost use Rattle.idx_page.specs.EntryOrder.{itemOrder};
-ghost use Rattle.idx_route.specs.Route.{itemsIn, stored, firstUpTo, chosenAt, placeIn, childOf};
-ghost use Rattle.idx_route.specs.Given.{Listed};
-ghost use Rattle.idx_route.specs.EntryLaws.{itemAt, passedCount};
+ghost use Rattle.idx_leaf.specs.Leaf.{itemsIn, stored};
+ghost use Rattle.idx_route.specs.Route.{firstUpTo, chosenAt, childOf};
+ghost use Rattle.idx_leaf.specs.Given.{Listed};
+ghost use Rattle.idx_leaf.specs.EntryLaws.{itemAt};
 ghost use Rattle.idx_route.specs.Visits.{visitOf};
 
 // What the way of a key meets at an offset: no page, a leaf, or a page above it: the number of the entry that the key goes under, and its child.
@@ -23,40 +22,6 @@ pub enum Visit {
     Bad,
     Leaf,
     Child(usize, PageOffset),
-}
-
-// How many entries a page has, in a file as long as the buffer.
-pub fn entry_count(index: &[u8], k: usize, page: PageOffset) -> usize
-    requires { ⌜ k ≤ maxKey ⌝ }
-    ensures { λ r. ⌜ r ≡ length (itemsIn k (now (index .entry)) (page .0)) ⌝ }
-{
-    idx_page::entry_count(index, k, index.len(), page)
-}
-
-// Whether entry `i` is at or above `key` with its record number: by key, then record number.
-fn pair_above(index: &[u8], key: &[u8], number: RecordNumber, page: PageOffset, i: usize) -> bool
-    requires { ⌜ Within (now index) (length (now key)) (page .0) (i + 1) ⌝ }
-    ensures { λ r. ⌜ r ≡ itemOrder 0 (stored (now (key .entry)) (number .0)) (itemAt (length (now (key .entry))) (now (index .entry)) (page .0) i) ⌝ }
-{
-    let order = idx_page::compare_entry(index, page, i, key);
-    let other = idx_page::record_number(index, key.len(), page, i);
-    if octets::is_equal(order) {
-        return number.0 <= other.0;
-    }
-    !octets::is_below(order)
-}
-
-// Whether entry `i` is at or below `key` with its record number: by key, then record number.
-fn pair_up_to(index: &[u8], key: &[u8], number: RecordNumber, page: PageOffset, i: usize) -> bool
-    requires { ⌜ Within (now index) (length (now key)) (page .0) (i + 1) ⌝ }
-    ensures { λ r. ⌜ r ≡ itemOrder 0 (itemAt (length (now (key .entry))) (now (index .entry)) (page .0) i) (stored (now (key .entry)) (number .0)) ⌝ }
-{
-    let order = idx_page::compare_entry(index, page, i, key);
-    let other = idx_page::record_number(index, key.len(), page, i);
-    if octets::is_equal(order) {
-        return other.0 <= number.0;
-    }
-    octets::is_below(order)
 }
 
 // Whether the key of entry `i` is at or below `key`.
@@ -82,12 +47,12 @@ fn first_up_to(index: &[u8], key: &[u8], number: RecordNumber, page: PageOffset,
     let mut left = idx_page::MAX_LEVELS;
     while 0 < left {
         let child = idx_page::child(index, key.len(), above, at);
-        if entry_count(index, key.len(), child) == 0 {
+        if idx_leaf::entry_count(index, key.len(), child) == 0 {
             return key_up_to(index, key, above, at);
         }
         let head = Page::at(index, child);
         if idx_page::is_leaf(head.attribute) {
-            return pair_up_to(index, key, number, child, 0);
+            return idx_leaf::pair_up_to(index, key, number, child, 0);
         }
         above = child;
         at = 0;
@@ -126,7 +91,7 @@ pub fn chosen_entry(index: &[u8], key: &[u8], number: RecordNumber, page: PageOf
     ensures { λ r. ⌜ r ≡ chosenAt (now (index .entry)) (stored (now (key .entry)) (number .0))
         (itemsIn (length (now (key .entry))) (now (index .entry)) (page .0)) ⌝ }
 {
-    let count = entry_count(index, key.len(), page);
+    let count = idx_leaf::entry_count(index, key.len(), page);
     if count == 0 {
         return 0;
     }
@@ -140,69 +105,12 @@ pub fn chosen_entry(index: &[u8], key: &[u8], number: RecordNumber, page: PageOf
     i
 }
 
-// How many entries of a leaf are below `key` with its record number, if a key may have several records.
-fn pairs_below(
-    index: &[u8],
-    key: &[u8],
-    number: RecordNumber,
-    page: PageOffset,
-    count: usize,
-) -> usize
-    requires { ⌜ Listed (now index) (length (now key)) (page .0) count ⌝ }
-    ensures { λ r. ⌜ r ≡ passedCount (itemOrder 0) (stored (now (key .entry)) (number .0))
-        (itemsIn (length (now (key .entry))) (now (index .entry)) (page .0)) ⌝ }
-{
-    let mut i = 0;
-    while i < count {
-        if pair_above(index, key, number, page, i) {
-            return i;
-        }
-        i += 1;
-    }
-    i
-}
-
-// How many entries of a leaf are below `key` with its record number, before the first at or above it. If keys are distinct, by the keys alone.
-pub fn place(
-    index: &[u8],
-    key: &[u8],
-    number: RecordNumber,
-    page: PageOffset,
-    count: usize,
-) -> usize
-    requires { ⌜ Listed (now index) (length (now key)) (page .0) count ⌝ }
-    ensures { λ r. ⌜ r ≡ passedCount (itemOrder (features (now (index .entry)))) (stored (now (key .entry)) (number .0))
-        (itemsIn (length (now (key .entry))) (now (index .entry)) (page .0)) ⌝ }
-{
-    if idx_page::several(index) {
-        return pairs_below(index, key, number, page, count);
-    }
-    idx_page::first_at_or_above(index, page, count, key)
-}
-
-// The number of the entry of a leaf that `key` with its record number leads to: the first at or above it, else the last; 0 if the leaf has no entries.
-pub fn leaf_entry(index: &[u8], key: &[u8], number: RecordNumber, page: PageOffset) -> usize
-    requires { ⌜ (length (now key) ≤ maxKey) × (isPage (length (now index)) (page .0) ≡ true) ⌝ }
-    ensures { λ r. ⌜ r ≡ placeIn (now (index .entry)) (stored (now (key .entry)) (number .0))
-        (itemsIn (length (now (key .entry))) (now (index .entry)) (page .0)) ⌝ }
-{
-    let count = entry_count(index, key.len(), page);
-    if count == 0 {
-        return 0;
-    }
-    let i = place(index, key, number, page, count);
-    if i == count {
-        return count - 1;
-    }
-    i
-}
-
 // The child of entry `i`; 0, which is no page's offset, if the page has no such entry.
 pub fn child_of(index: &[u8], k: usize, page: PageOffset, i: usize) -> PageOffset
     requires { ⌜ k ≤ maxKey ⌝ }
     ensures { λ r. ⌜ r .0 ≡ childOf i (itemsIn k (now (index .entry)) (page .0)) ⌝ }
 {
-    if entry_count(index, k, page) <= i {
+    if idx_leaf::entry_count(index, k, page) <= i {
         return PageOffset(0);
     }
     idx_page::child(index, k, page, i)
@@ -222,40 +130,4 @@ pub fn visit_page(index: &[u8], key: &[u8], number: RecordNumber, page: PageOffs
     }
     let i = chosen_entry(index, key, number, page);
     Visit::Child(i, child_of(index, key.len(), page, i))
-}
-
-// Whether a leaf has `key` with its record number, if a key may have several records: the first entry at or above them is at or below them.
-fn pair_present(
-    index: &[u8],
-    key: &[u8],
-    number: RecordNumber,
-    page: PageOffset,
-    count: usize,
-) -> bool
-    requires { ⌜ Listed (now index) (length (now key)) (page .0) count ⌝ }
-    ensures { λ r. ⌜ r ≡ present (itemOrder 0) (stored (now (key .entry)) (number .0))
-        (itemsIn (length (now (key .entry))) (now (index .entry)) (page .0)) ⌝ }
-{
-    let i = pairs_below(index, key, number, page, count);
-    if i == count {
-        return false;
-    }
-    pair_up_to(index, key, number, page, i)
-}
-
-// Whether a leaf has `key`, or, if a key may have several records, `key` with its record number: the first entry at or above it is an equal one.
-pub fn is_present(index: &[u8], key: &[u8], number: RecordNumber, page: PageOffset) -> bool
-    requires { ⌜ (length (now key) ≤ maxKey) × (isPage (length (now index)) (page .0) ≡ true) ⌝ }
-    ensures { λ r. ⌜ r ≡ present (itemOrder (features (now (index .entry)))) (stored (now (key .entry)) (number .0))
-        (itemsIn (length (now (key .entry))) (now (index .entry)) (page .0)) ⌝ }
-{
-    let count = entry_count(index, key.len(), page);
-    if idx_page::several(index) {
-        return pair_present(index, key, number, page, count);
-    }
-    let i = idx_page::first_at_or_above(index, page, count, key);
-    if i == count {
-        return false;
-    }
-    octets::is_equal(idx_page::compare_entry(index, page, i, key))
 }

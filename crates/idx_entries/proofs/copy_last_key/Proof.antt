@@ -2,10 +2,10 @@
 use mathlib.Core.Path.{sym, _∙_}
 use native.Mathlib.Omega.{arith}
 use lib.ListN.{length}
-use Rattle.idx_route.specs.Given.{Listed}
-use Rattle.idx_route.specs.EntryLaws.{listed-within}
+use Rattle.idx_leaf.specs.Given.{Listed}
+use Rattle.idx_leaf.specs.EntryLaws.{listed-within}
 use Rattle.idx_entries.specs.GatherLaws.{within-last, no-last, last-listed}
-use Rattle.idx_route.specs.SearchLaws.{counted-some}
+use Rattle.idx_leaf.specs.SearchLaws.{counted-some}
 use borrow.Author.Needs.{needs}
 use Rattle.idx_entries.proofs.copy_last_key.Statement.{statement}
 use Rattle.idx_entries.proofs.copy_last_key.Tie as tie

@@ -3,14 +3,14 @@ use Prim.Native.Nat.{_≤_}
 use native.Mathlib.Omega.{arith}
 use native.Mathlib.Nat.{sub-zero}
 use lib.ListN.{length}
-use Rattle.idx_route.specs.EntryLaws.{listed-within}
+use Rattle.idx_leaf.specs.EntryLaws.{listed-within}
 use Rattle.octets.specs.Bytes.{toBe32}
 use Rattle.octets.specs.NumberLaws.{length-toBe32}
 use Rattle.idx_page.specs.Header.{features}
 use Rattle.idx_page.specs.EntryOrder.{itemOrder}
-use Rattle.idx_route.specs.Route.{stored}
+use Rattle.idx_leaf.specs.Leaf.{stored}
 use Rattle.idx_entries.specs.GatherLaws.{spread, Spread, pair-gathered}
-use Rattle.idx_route.specs.SearchLaws.{search-le}
+use Rattle.idx_leaf.specs.SearchLaws.{search-le}
 use borrow.Author.Needs.{needs}
 use Rattle.idx_entries.proofs.gather_pair.Statement.{statement}
 use Rattle.idx_entries.proofs.gather_pair.Tie as tie

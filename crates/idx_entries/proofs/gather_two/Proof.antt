@@ -6,7 +6,7 @@ use lib.ListN.{length}
 use Rattle.idx_page.specs.PageLaws.{within-entry}
 use Rattle.idx_page.specs.Within.{Within}
 use Rattle.idx_layout.specs.Given.{roomSize}
-use Rattle.idx_route.specs.EntryLaws.{listed-within}
+use Rattle.idx_leaf.specs.EntryLaws.{listed-within}
 use Rattle.idx_entries.specs.GatherLaws.{spread, Spread, two-gathered}
 use borrow.Author.Needs.{needs}
 use Rattle.idx_entries.proofs.gather_two.Statement.{statement}

@@ -2,7 +2,7 @@
 use Prim.Native.Nat.{_+_}
 use native.Mathlib.Omega.{arith}
 use native.Mathlib.Nat.{sub-zero}
-use Rattle.idx_route.specs.EntryLaws.{listed-within}
+use Rattle.idx_leaf.specs.EntryLaws.{listed-within}
 use Rattle.idx_entries.specs.GatherLaws.{spread, Spread, without-gathered}
 use borrow.Author.Needs.{needs}
 use Rattle.idx_entries.proofs.gather_without.Statement.{statement}

@@ -4,8 +4,8 @@ use native.Mathlib.Omega.{arith}
 use lib.ListN.{length}
 use Rattle.idx_page.specs.PageLaws.{within-entry, entry-within}
 use Rattle.idx_page.specs.KeyOrderLaws.{below, at-or-above}
-use Rattle.idx_route.specs.Given.{Listed}
-use Rattle.idx_route.specs.EntryLaws.{listed-within}
+use Rattle.idx_leaf.specs.Given.{Listed}
+use Rattle.idx_leaf.specs.EntryLaws.{listed-within}
 use Rattle.idx_entries.specs.GatherLaws.{raised-none, raised-here, raised-not}
 use borrow.Author.Needs.{needs}
 use Rattle.idx_entries.proofs.raise_key.Statement.{statement}

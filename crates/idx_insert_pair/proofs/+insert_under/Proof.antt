@@ -8,14 +8,14 @@ use borrow.Author.Needs.{needs}
 use borrow.Fn.Kinds.{In}
 use borrow.Fn.PlainCycle.{Measures, is, falls, and}
 use Rattle.idx_page.specs.Header.{isPage}
-use Rattle.idx_insert_pair.specs.Insertion.{insertUnder}
+use Rattle.idx_insert_page.specs.Insertion.{insertUnder}
 use Rattle.idx_route.specs.VisitLaws.{visited-leaf, visited-child}
-use Rattle.idx_insert_pair.specs.StepLaws.{under-bad, under-leaf, under-child, next-fits}
+use Rattle.idx_insert_page.specs.StepLaws.{under-bad, under-leaf, under-child, next-fits}
 use Rattle.idx_insert_pair.proofs.insert_under.Reads as insert-under
 use Rattle.idx_insert_pair.proofs.insert_under.Kinds as insert-under-kinds
 use Rattle.idx_insert_pair.proofs.+insert_under.Lts-insert_under as insert-under-lts
-use Rattle.idx_insert_pair.proofs.after_child.Reads as after-child-reads
-use Rattle.idx_insert_pair.proofs.insert_in_leaf.Reads as insert-in-leaf-reads
+use Rattle.idx_insert_page.proofs.after_child.Reads as after-child-reads
+use Rattle.idx_insert_page.proofs.insert_in_leaf.Reads as insert-in-leaf-reads
 use Rattle.idx_route.proofs.visit_page.Reads as visit-page-reads
 use Rattle.idx_insert_pair.proofs.+insert_under.{statement}
 use Rattle.idx_insert_pair.proofs.+insert_under.Tie.{close}

@@ -5,7 +5,7 @@ use lib.ListN.{length}
 use Rattle.idx_page.specs.Header.{maxKey}
 use Rattle.idx_page.specs.HeaderLaws.{GoodHeader, good-header}
 use Rattle.idx_supply.specs.SupplyLaws.{header-lasts}
-use Rattle.idx_insert_pair.specs.StepLaws.{next-fits, pair-inserted}
+use Rattle.idx_insert_page.specs.StepLaws.{next-fits, pair-inserted}
 use borrow.Author.Needs.{needs}
 use Rattle.idx_insert_pair.proofs.insert_pair.Statement.{statement}
 use Rattle.idx_insert_pair.proofs.insert_pair.Tie as tie

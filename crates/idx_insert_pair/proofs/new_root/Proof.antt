@@ -1,5 +1,5 @@
--- `idx_insert_pair::new_root` meets its contract: the root's page, then the header's root offset and supply; what is gathered reads as the rule's entries. Assumes
--- nothing.
+-- `idx_insert_pair::new_root` meets its contract: the root's page, then the header's root offset and supply; what is gathered reads as the rule's entries.
+-- Assumes nothing.
 use mathlib.Core.Path.{_≡_}
 use mathlib.Core.Bool.{true}
 use native.Mathlib.Omega.{arith}
@@ -9,7 +9,7 @@ use Rattle.idx_page.specs.Header.{isPage}
 use Rattle.idx_page.specs.HeaderLaws.{IsPage, is-page}
 use Rattle.idx_layout.specs.WriteLaws.{capacity-least}
 use Rattle.idx_entries.specs.FitLaws.{root-read}
-use Rattle.idx_insert_pair.specs.StepLaws.{root-none, root-new}
+use Rattle.idx_insert_page.specs.StepLaws.{root-none, root-new}
 use borrow.Author.Needs.{needs}
 use Rattle.idx_insert_pair.proofs.new_root.Statement.{statement}
 use Rattle.idx_insert_pair.proofs.new_root.Tie as tie

@@ -9,7 +9,7 @@ use borrow.Fn.PlainCycle.{Measures, is, falls, and}
 use Rattle.idx_route.specs.Visits.{visitOf}
 use Rattle.idx_path.specs.Room.{pathFrom}
 use Rattle.idx_route.specs.declared.Visit.the-variants as visit
-use Rattle.idx_route.specs.Route.{stored}
+use Rattle.idx_leaf.specs.Leaf.{stored}
 use Rattle.idx_route.specs.VisitLaws.{visited-leaf}
 use Rattle.idx_path.specs.RoomLaws.{path-levels, path-bad, path-leaf, path-child}
 use Rattle.idx_path.proofs.path_from.Reads as path-from
@@ -19,7 +19,7 @@ use Rattle.idx_path.proofs.empty_path.Reads as empty-path-reads
 use Rattle.idx_path.proofs.is_full.Reads as is-full-reads
 use Rattle.idx_path.proofs.on_top.Reads as on-top-reads
 use Rattle.idx_route.proofs.visit_page.Reads as visit-page-reads
-use Rattle.idx_route.proofs.is_present.Reads as is-present-reads
+use Rattle.idx_leaf.proofs.is_present.Reads as is-present-reads
 use Rattle.idx_path.proofs.+path_from.{statement}
 use Rattle.idx_path.proofs.+path_from.Tie.{close}
 

@@ -5,7 +5,7 @@ use native.Mathlib.Omega.{arith}
 use borrow.Author.Needs.{needs}
 use borrow.Fn.Kinds.{In}
 use borrow.Fn.PlainCycle.{Measures, is, falls, and}
-use Rattle.idx_route.specs.Route.{stored}
+use Rattle.idx_leaf.specs.Leaf.{stored}
 use Rattle.idx_route.specs.Visits.{visitOf}
 use Rattle.idx_route.specs.VisitLaws.{visited-leaf}
 use Rattle.idx_route.specs.declared.Visit.the-variants as visit
@@ -14,7 +14,7 @@ use Rattle.idx_path.specs.PresenceLaws.{there-bad, there-leaf, there-chi
 use Rattle.idx_path.proofs.there_from.Reads as there-from
 use Rattle.idx_path.proofs.there_from.Kinds as there-from-kinds
 use Rattle.idx_path.proofs.+there_from.Lts-there_from as there-from-lts
-use Rattle.idx_route.proofs.is_present.Reads as is-present-reads
+use Rattle.idx_leaf.proofs.is_present.Reads as is-present-reads
 use Rattle.idx_route.proofs.visit_page.Reads as visit-page-reads
 use Rattle.idx_path.proofs.+there_from.{statement}
 use Rattle.idx_path.proofs.+there_from.Tie.{close}

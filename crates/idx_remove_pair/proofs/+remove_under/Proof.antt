@@ -6,13 +6,13 @@ use borrow.Author.Needs.{needs}
 use borrow.Fn.Kinds.{In}
 use borrow.Fn.PlainCycle.{Measures, is, falls, and}
 use Rattle.idx_route.specs.VisitLaws.{visited-leaf, visited-child}
-use Rattle.idx_remove_pair.specs.Removal.{removeUnder}
-use Rattle.idx_remove_pair.specs.StepLaws.{under-bad, under-leaf, under-child, emptied-fits}
+use Rattle.idx_remove_page.specs.Removal.{removeUnder}
+use Rattle.idx_remove_page.specs.StepLaws.{under-bad, under-leaf, under-child, emptied-fits}
 use Rattle.idx_remove_pair.proofs.remove_under.Reads as remove-under
 use Rattle.idx_remove_pair.proofs.remove_under.Kinds as remove-under-kinds
 use Rattle.idx_remove_pair.proofs.+remove_under.Lts-remove_under as remove-under-lts
-use Rattle.idx_remove_pair.proofs.after_child.Reads as after-child-reads
-use Rattle.idx_remove_pair.proofs.remove_in_leaf.Reads as remove-in-leaf-reads
+use Rattle.idx_remove_page.proofs.after_child.Reads as after-child-reads
+use Rattle.idx_remove_page.proofs.remove_in_leaf.Reads as remove-in-leaf-reads
 use Rattle.idx_route.proofs.visit_page.Reads as visit-page-reads
 use Rattle.idx_remove_pair.proofs.+remove_under.{statement}
 use Rattle.idx_remove_pair.proofs.+remove_under.Tie.{close}

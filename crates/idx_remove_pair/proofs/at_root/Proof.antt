@@ -1,6 +1,6 @@
 -- `idx_remove_pair::at_root` meets its contract: the rule's three cases. Assumes nothing.
 use Rattle.idx_page.specs.HeaderLaws.{is-page}
-use Rattle.idx_remove_pair.specs.StepLaws.{emptied-is}
+use Rattle.idx_remove_page.specs.StepLaws.{emptied-is}
 use borrow.Author.Needs.{needs}
 use Rattle.idx_remove_pair.proofs.at_root.Statement.{statement}
 use Rattle.idx_remove_pair.proofs.at_root.Tie as tie

@@ -1,7 +1,7 @@
 -- `idx_remove_pair::remove_pair` meets its contract: the recursion from the root, and what is left to do at the root. Assumes nothing.
 use native.Mathlib.Omega.{arith}
 use Rattle.idx_page.specs.HeaderLaws.{GoodHeader, good-header}
-use Rattle.idx_remove_pair.specs.StepLaws.{emptied-fits, pair-removed}
+use Rattle.idx_remove_page.specs.StepLaws.{emptied-fits, pair-removed}
 use borrow.Author.Needs.{needs}
 use Rattle.idx_remove_pair.proofs.remove_pair.Statement.{statement}
 use Rattle.idx_remove_pair.proofs.remove_pair.Tie as tie

@@ -2,10 +2,11 @@
 use mathlib.Core.Path.{_∙_}
 use native.Mathlib.Omega.{arith}
 use Rattle.idx_page.specs.PageLaws.{within-entry}
-use Rattle.idx_route.specs.Route.{itemsIn}
-use Rattle.idx_route.specs.Given.{Listed}
-use Rattle.idx_route.specs.EntryLaws.{listed-within}
-use Rattle.idx_route.specs.SearchLaws.{counted-some, no-child, child-listed}
+use Rattle.idx_leaf.specs.Leaf.{itemsIn}
+use Rattle.idx_leaf.specs.Given.{Listed}
+use Rattle.idx_leaf.specs.EntryLaws.{listed-within}
+use Rattle.idx_leaf.specs.SearchLaws.{counted-some}
+use Rattle.idx_route.specs.RouteLaws.{no-child, child-listed}
 use borrow.Author.Needs.{needs}
 use Rattle.idx_route.proofs.child_of.Statement.{statement}
 use Rattle.idx_route.proofs.child_of.Tie as tie

@@ -1,5 +1,5 @@
--- `idx_route::chosen_entry` meets its contract: by the header's features, the pair's route; or the entry where the search for the key ends, the last if it passes
--- all. Assumes nothing.
+-- `idx_route::chosen_entry` meets its contract: by the header's features, the pair's route; or the entry where the search for the key ends, the last if it
+-- passes all. Assumes nothing.
 use mathlib.Core.Path.{_≡_, sym, ap, _∙_}
 use mathlib.Core.Bool.{false}
 use native.Mathlib.Omega.{arith}
@@ -14,10 +14,12 @@ use Rattle.idx_page.specs.Header.{features}
 use Rattle.idx_page.specs.HeaderLaws.{is-page}
 use Rattle.idx_page.specs.KeyOrder.{bytesOrder}
 use Rattle.idx_page.specs.Reading.{Item}
-use Rattle.idx_route.specs.Route.{itemsIn, stored, passesAbove}
-use Rattle.idx_route.specs.Given.{Listed}
-use Rattle.idx_route.specs.EntryLaws.{listed-within, route-record, route-key}
-use Rattle.idx_route.specs.SearchLaws.{position-none, key-passed, search-place, search-last}
+use Rattle.idx_leaf.specs.Leaf.{itemsIn, stored}
+use Rattle.idx_route.specs.Route.{passesAbove}
+use Rattle.idx_leaf.specs.Given.{Listed}
+use Rattle.idx_leaf.specs.EntryLaws.{listed-within}
+use Rattle.idx_route.specs.RouteLaws.{route-record, route-key}
+use Rattle.idx_leaf.specs.SearchLaws.{position-none, key-passed, search-place, search-last}
 use Rattle.idx_route.proofs.chosen_entry.Statement.{statement}
 use Rattle.idx_route.proofs.chosen_entry.Tie as tie
 

@@ -9,9 +9,10 @@ use Rattle.tree.specs.Position.{Passes, position}
 use Rattle.idx_page.specs.Header.{maxLevels}
 use Rattle.idx_page.specs.Reading.{Item}
 use Rattle.idx_page.specs.PageLaws.{within-entry}
-use Rattle.idx_route.specs.Route.{stored, firstUpTo}
-use Rattle.idx_route.specs.EntryLaws.{itemsFrom, listed, listed-within}
-use Rattle.idx_route.specs.PairLaws.{position-end, position-stop, position-on}
+use Rattle.idx_leaf.specs.Leaf.{stored}
+use Rattle.idx_route.specs.Route.{firstUpTo}
+use Rattle.idx_leaf.specs.EntryLaws.{itemsFrom, listed, listed-within}
+use Rattle.idx_route.specs.RouteLaws.{position-end, position-stop, position-on}
 use Rattle.idx_route.proofs.chosen_record.Statement.{statement}
 use Rattle.idx_route.proofs.chosen_record.Tie as tie
 

@@ -10,11 +10,12 @@ use Rattle.idx_page.specs.HeaderLaws.{is-page}
 use Rattle.idx_page.specs.PageLaws.{within-entry}
 use Rattle.idx_page.specs.Within.{Within}
 use Rattle.idx_page.specs.Reading.{Item}
-use Rattle.idx_route.specs.Route.{stored, firstUpTo}
-use Rattle.idx_route.specs.Given.{Listed}
-use Rattle.idx_route.specs.EntryLaws.{itemAt, listed-within}
-use Rattle.idx_route.specs.SearchLaws.{counted-some}
-use Rattle.idx_route.specs.PairLaws.{first-end, first-none, first-leaf, first-upper}
+use Rattle.idx_leaf.specs.Leaf.{stored}
+use Rattle.idx_route.specs.Route.{firstUpTo}
+use Rattle.idx_leaf.specs.Given.{Listed}
+use Rattle.idx_leaf.specs.EntryLaws.{itemAt, listed-within}
+use Rattle.idx_leaf.specs.SearchLaws.{counted-some}
+use Rattle.idx_route.specs.RouteLaws.{first-end, first-none, first-leaf, first-upper}
 use Rattle.idx_route.proofs.first_up_to.Statement.{statement}
 use Rattle.idx_route.proofs.first_up_to.Tie as tie
 
@@ -107,8 +108,8 @@ loop-again c =
       within-entry _ (listed-within (counted inside)) (some inside),
       search needs,
       loop .loop .inv .2
-          ∙ sym (first-upper (start loop .args .index .now) (pair loop) _ _ _ (count .before .child .ensures) (counted inside) (inside .if1 .left) _ (left-some count)
-          (rw (head .at .ensures .0) at (sym (c .before .is-leaf .ensures) ∙ c .if2 .left))),
+          ∙ sym (first-upper (start loop .args .index .now) (pair loop) _ _ _ (count .before .child .ensures) (counted inside) (inside .if1 .left) _
+          (left-some count) (rw (head .at .ensures .0) at (sym (c .before .is-leaf .ensures) ∙ c .if2 .left))),
     )
 
 key-up-to-requires-2 : tie.Need-key-up-to-requires-2 Inv-loop μ-loop

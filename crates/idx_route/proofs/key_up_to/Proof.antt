@@ -3,7 +3,7 @@ use mathlib.Core.Path.{sym, _∙_}
 use borrow.Author.Needs.{needs}
 use lib.ListN.{length}
 use Rattle.idx_page.specs.Page.{keyAt}
-use Rattle.idx_route.specs.PairLaws.{key-up-to, key-differs}
+use Rattle.idx_route.specs.RouteLaws.{key-up-to, key-differs}
 use Rattle.idx_route.proofs.key_up_to.Statement.{statement}
 use Rattle.idx_route.proofs.key_up_to.Tie as tie
 
