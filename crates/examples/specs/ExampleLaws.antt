@@ -19,11 +19,11 @@ use Rattle.idx_sound.specs.Sound.{Sound}
 use Rattle.idx_sound.specs.AuditTest as audit
 use Rattle.idx_sound.specs.Accepted.{accepted}
 use Rattle.idx_layout.specs.Layout as layout
-use Rattle.idx_layout.specs.Entries as entries
-use Rattle.idx_layout.specs.Supply as supply
-use Rattle.idx_insert.specs.Insertion as insertion
+use Rattle.idx_entries.specs.Entries as entries
+use Rattle.idx_supply.specs.Supply as supply
+use Rattle.idx_insert_page.specs.Insertion as insertion
 use Rattle.idx_insert.specs.Fresh as fresh
-use Rattle.idx_insert.specs.Room as room
+use Rattle.idx_path.specs.Room as room
 use Rattle.idx_insert.specs.Calls as calls
 use Rattle.examples.specs.Tree000 as tree
 use Rattle.examples.specs.Tree100 as tree100

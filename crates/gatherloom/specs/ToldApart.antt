@@ -48,12 +48,12 @@ use Rattle.idx_lookup.specs.declared.Visit.the-variants as visit
 use Rattle.idx_lookup.specs.declared.Answer.{Answer}
 use Rattle.idx_lookup.specs.declared.Answer.the-variants as looked
 use Rattle.idx_sound.specs.AuditTest.{pagesGood}
-use Rattle.idx_insert.specs.Room.{pathTo, noRoom}
+use Rattle.idx_path.specs.Room.{pathTo, noRoom}
 use Rattle.idx_insert.specs.Fresh.{expressionGood, featuresGood, freshRule}
 use Rattle.idx_insert.specs.Calls.{insertionCode, hasControl, insertRule}
 use Rattle.idx_insert.specs.declared.Insertion.{Insertion}
 use Rattle.idx_insert.specs.declared.Insertion.the-variants as insertion
-use Rattle.idx_remove.specs.Removal.{isThere}
+use Rattle.idx_path.specs.Presence.{isThere}
 use Rattle.idx_remove.specs.Calls.{removeRule}
 use Rattle.idx_remove.specs.declared.Removal.{Removal}
 use Rattle.idx_remove.specs.declared.Removal.the-variants as removal

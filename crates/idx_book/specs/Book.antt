@@ -19,12 +19,12 @@ use Rattle.idx_lookup.specs.declared.Answer.the-variants as looked
 use Rattle.idx_sound.specs.Sound.{Sound}
 pub use Rattle.idx_sound.specs.Sound.{leafPairs}
 use Rattle.idx_insert.specs.Calls.{hasControl, insertRule}
-use Rattle.idx_insert.specs.Insertion.{insertedBuffer}
-use Rattle.idx_insert.specs.Room.{pathTo, noRoom}
+use Rattle.idx_insert_page.specs.Insertion.{insertedBuffer}
+use Rattle.idx_path.specs.Room.{pathTo, noRoom}
 use Rattle.idx_insert.specs.declared.Insertion.{Insertion}
 use Rattle.idx_insert.specs.declared.Insertion.the-variants.{Accepted, Refused}
 use Rattle.idx_remove.specs.Calls.{removeRule}
-use Rattle.idx_remove.specs.Removal.{removedBuffer}
+use Rattle.idx_remove_page.specs.Removal.{removedBuffer}
 use Rattle.idx_remove.specs.declared.Removal.{Removal}
 use Rattle.idx_remove.specs.declared.Removal.the-variants as struck
 

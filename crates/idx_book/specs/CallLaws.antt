@@ -38,15 +38,16 @@ use Rattle.idx_sound.specs.Sound.{indexTree, keptBy, Sound, leafPairs}
 use Rattle.idx_sound.specs.AuditTest.{pagesGood}
 use Rattle.idx_sound.specs.IndexLaws.{indexOf, settingOf, sound-index, once-page}
 use Rattle.idx_insert.specs.Calls.{AfterCall, afterCall, hasControl, insertRule}
-use Rattle.idx_insert.specs.Insertion.{insertedBuffer}
-use Rattle.idx_insert.specs.Room.{pathTo, noRoom}
+use Rattle.idx_insert_page.specs.Insertion.{insertedBuffer}
+use Rattle.idx_path.specs.Room.{pathTo, noRoom}
 use Rattle.idx_insert.specs.declared.Insertion.the-variants.{Accepted, Refused}
 use Rattle.idx_insert_laws.specs.InsertionHeads.{Plain}
 use Rattle.idx_insert_laws.specs.RoomLaws.{sound-levels, present-is, room-is}
 use Rattle.idx_insert_laws.specs.InsertionSound.{Accepts, insert-keeps-sound}
 use Rattle.idx_remove.specs.Calls as strike
 use Rattle.idx_remove.specs.Calls.{removeRule}
-use Rattle.idx_remove.specs.Removal.{isThere, removedBuffer}
+use Rattle.idx_path.specs.Presence.{isThere}
+use Rattle.idx_remove_page.specs.Removal.{removedBuffer}
 use Rattle.idx_remove.specs.declared.Removal.the-variants as struck
 use Rattle.idx_remove_laws.specs.RemovalSound.{Strikes, remove-keeps-sound}
 use Rattle.idx_remove_laws.specs.ThereLaws.{there-is}

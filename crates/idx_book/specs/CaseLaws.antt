@@ -20,10 +20,10 @@ use Rattle.idx_page.specs.KeyOrder.{bytesOrder}
 use Rattle.idx_sound.specs.Sound.{Sound}
 use Rattle.idx_sound.specs.AuditTest.{pagesGood}
 use Rattle.idx_sound.specs.Accepted.{accepted as audit-accepts}
-use Rattle.idx_insert.specs.Room.{pathTo}
+use Rattle.idx_path.specs.Room.{pathTo}
 use Rattle.idx_insert_laws.specs.RoomLaws.{present-is}
 use Rattle.idx_book.specs.Book.{Pairs, leafPairs}
-use Rattle.idx_remove.specs.Removal.{isThere}
+use Rattle.idx_path.specs.Presence.{isThere}
 use Rattle.idx_remove_laws.specs.ThereLaws.{there-is}
 
 -- ---- tests

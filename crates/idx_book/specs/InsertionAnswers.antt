@@ -15,7 +15,7 @@ use Rattle.idx_page.specs.Header.{keyLength, features, headerGood}
 use Rattle.idx_sound.specs.Sound.{Sound}
 use Rattle.idx_insert.specs.Calls.{AfterCall, insertionCode, hasControl, insertRule}
 use Rattle.idx_insert.specs.CallLaws as calls
-use Rattle.idx_insert.specs.Room.{pathTo, noRoom}
+use Rattle.idx_path.specs.Room.{pathTo, noRoom}
 use Rattle.idx_insert.specs.declared.Insertion.{Insertion}
 use Rattle.idx_insert.specs.declared.Insertion.the-variants.{Accepted, Refused}
 use Rattle.idx_book.specs.Book.{leafPairs}

@@ -13,7 +13,7 @@ use Rattle.idx_page.specs.Header.{keyLength, features, headerGood}
 use Rattle.idx_sound.specs.Sound.{Sound}
 use Rattle.idx_remove.specs.Calls.{AfterCall, removeRule}
 use Rattle.idx_remove.specs.CallLaws as calls
-use Rattle.idx_remove.specs.Removal.{isThere}
+use Rattle.idx_path.specs.Presence.{isThere}
 use Rattle.idx_remove.specs.declared.Removal.{Removal}
 use Rattle.idx_remove.specs.declared.Removal.the-variants.{Accepted, Refused}
 use Rattle.idx_book.specs.Book.{leafPairs}

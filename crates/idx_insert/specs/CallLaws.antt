@@ -14,8 +14,8 @@ use Rattle.idx_page.specs.Header.{maxFeatures, minBytes, pageSize, noPage, keyL
 use Rattle.idx_page.specs.Reading.{items}
 use Rattle.idx_sound.specs.AuditTest.{pagesGood}
 use Rattle.idx_layout.specs.Layout.{headerBytes, newPage}
-use Rattle.idx_insert.specs.Insertion.{insertedBuffer}
-use Rattle.idx_insert.specs.Room.{pathTo, noRoom}
+use Rattle.idx_insert_page.specs.Insertion.{insertedBuffer}
+use Rattle.idx_path.specs.Room.{pathTo, noRoom}
 use Rattle.idx_insert.specs.Calls.{afterCall, hasControl, insertRule}
 use Rattle.idx_insert.specs.Fresh.{printable, maxExpression, expressionGood, featuresGood, freshHeader, freshBuffer, freshRule}
 use Rattle.idx_insert.specs.declared.Insertion.the-variants.{Accepted, Refused}

@@ -6,8 +6,8 @@ use lib.ListN.{length}
 use lib.Dec.{eqb, ltb}
 use Rattle.idx_page.specs.Header.{headerGood, keyLength}
 use Rattle.idx_sound.specs.AuditTest.{pagesGood}
-use Rattle.idx_insert.specs.Insertion.{insertedBuffer}
-use Rattle.idx_insert.specs.Room.{pathTo, noRoom}
+use Rattle.idx_insert_page.specs.Insertion.{insertedBuffer}
+use Rattle.idx_path.specs.Room.{pathTo, noRoom}
 use Rattle.idx_insert.specs.declared.Insertion.{Insertion}
 use Rattle.idx_insert.specs.declared.Insertion.the-variants.{Accepted, Refused}
 

@@ -32,16 +32,16 @@ use Rattle.idx_page.specs.KeyOrder.{bytesOrder}
 use Rattle.idx_page.specs.Page.{attributeAt, countAt, leftAt, rightAt, capacity}
 use Rattle.idx_page.specs.Reading.{Item}
 use Rattle.idx_page.specs.ReadingLaws.{window-in-page}
-use Rattle.idx_layout.specs.declared.Supply.{Supply}
-use Rattle.idx_layout.specs.declared.Taken.{Taken}
-use Rattle.idx_layout.specs.Supply.{supplyOf, takePage, withSupply}
-use Rattle.idx_layout.specs.Layout.{itemsIn, newPage}
-use Rattle.idx_layout.specs.ItemLaws.{Fit}
-use Rattle.idx_layout.specs.Entries.{stored}
-use Rattle.idx_layout.specs.EntryLaws.{items-in-fit}
-use Rattle.idx_layout.specs.GatherLaws.{length-last}
+use Rattle.idx_supply.specs.declared.Supply.{Supply}
+use Rattle.idx_supply.specs.declared.Taken.{Taken}
+use Rattle.idx_supply.specs.Supply.{supplyOf, takePage, withSupply}
+use Rattle.idx_leaf.specs.Leaf.{itemsIn, stored}
+use Rattle.idx_layout.specs.Layout.{newPage}
+use Rattle.idx_leaf.specs.ItemLaws.{Fit}
+use Rattle.idx_leaf.specs.EntryLaws.{items-in-fit}
+use Rattle.idx_entries.specs.GatherLaws.{length-last}
 use Rattle.idx_sound.specs.Sound.{linksOf, keptBy}
-use Rattle.idx_insert.specs.Insertion.{Outcome, kept, split, bad, Step, insertUnder, atRoot, insertedBuffer}
+use Rattle.idx_insert_page.specs.Insertion.{Outcome, kept, split, bad, Step, insertUnder, atRoot, insertedBuffer}
 use Rattle.idx_layout_laws.specs.EntryLaws.{entriesIn, page-of, length-new}
 use Rattle.idx_layout_laws.specs.HeadLaws.{Head, SameHead, SameHeader, put-header, new-head, new-header}
 use Rattle.idx_layout_laws.specs.OtherPages.{SameButLeft, both-kept, header-other, new-other}

@@ -35,16 +35,18 @@ use Rattle.idx_page.specs.Reading.{Item, numbered}
 use Rattle.idx_page.specs.EntryOrder.{itemOrder}
 use Rattle.idx_page.specs.ItemLaws.{insertPair-numbered}
 use Rattle.idx_sound.specs.Sound.{keptBy}
-use Rattle.idx_layout.specs.declared.Supply.{Supply}
-use Rattle.idx_layout.specs.declared.Taken.{Taken}
-use Rattle.idx_layout.specs.Supply.{supplyOf, takePage}
-use Rattle.idx_layout.specs.Layout.{itemsIn, newPage}
-use Rattle.idx_layout.specs.Entries.{stored, chosenAt, itemOf, childOf, replaced, raised, twoFor}
-use Rattle.idx_layout.specs.ItemLaws.{Fit}
-use Rattle.idx_layout.specs.EntryLaws.{items-in-fit}
-use Rattle.idx_layout.specs.GatherLaws.{length-last}
-use Rattle.idx_layout.specs.FitLaws.{length-insert, length-replaced, pair-fit, two-fit}
-use Rattle.idx_insert.specs.Insertion.{Outcome, kept, split, bad, Step, step, takeIn, afterChild, insertUnder, atRoot}
+use Rattle.idx_supply.specs.declared.Supply.{Supply}
+use Rattle.idx_supply.specs.declared.Taken.{Taken}
+use Rattle.idx_supply.specs.Supply.{supplyOf, takePage}
+use Rattle.idx_leaf.specs.Leaf.{itemsIn, stored, itemOf}
+use Rattle.idx_route.specs.Route.{chosenAt, childOf}
+use Rattle.idx_layout.specs.Layout.{newPage}
+use Rattle.idx_entries.specs.Entries.{replaced, raised, twoFor}
+use Rattle.idx_leaf.specs.ItemLaws.{Fit}
+use Rattle.idx_leaf.specs.EntryLaws.{items-in-fit}
+use Rattle.idx_entries.specs.GatherLaws.{length-last}
+use Rattle.idx_entries.specs.FitLaws.{length-insert, length-replaced, pair-fit, two-fit}
+use Rattle.idx_insert_page.specs.Insertion.{Outcome, kept, split, bad, Step, step, takeIn, afterChild, insertUnder, atRoot}
 use Rattle.idx_layout_laws.specs.EntryLaws.{entriesIn, page-of, raise, items-few, entries-header, entries-with, length-with, entries-new, entries-split}
 use Rattle.idx_layout_laws.specs.EntryLaws.{length-new, length-split, entries-raised, length-raised}
 use Rattle.idx_layout_laws.specs.OtherPages.{unchanged, both-kept, with-other, raised-other, split-others}

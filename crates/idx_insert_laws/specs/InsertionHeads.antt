@@ -29,22 +29,23 @@ use Rattle.idx_page.specs.KeyOrder.{bytesOrder}
 use Rattle.idx_page.specs.Page.{attributeAt, countAt, leftAt, rightAt, capacity}
 use Rattle.idx_page.specs.Reading.{Item, numbered}
 use Rattle.idx_page.specs.EntryOrder.{itemOrder}
-use Rattle.idx_layout.specs.declared.Supply.{Supply}
-use Rattle.idx_layout.specs.Supply.{supplyOf, takePage}
-use Rattle.idx_layout.specs.Layout.{itemsIn, withEntries, withoutRoot, splitPage}
-use Rattle.idx_layout.specs.Entries.{stored, chosenAt, itemOf, childOf, replaced, raised, twoFor}
-use Rattle.idx_layout.specs.ItemLaws.{Fit}
-use Rattle.idx_layout.specs.EntryLaws.{items-in-fit}
-use Rattle.idx_layout.specs.FitLaws.{length-insert, length-replaced, pair-fit, two-fit}
+use Rattle.idx_supply.specs.declared.Supply.{Supply}
+use Rattle.idx_supply.specs.Supply.{supplyOf, takePage}
+use Rattle.idx_leaf.specs.Leaf.{itemsIn, stored, itemOf}
+use Rattle.idx_route.specs.Route.{chosenAt, childOf}
+use Rattle.idx_layout.specs.Layout.{withEntries, withoutRoot, splitPage}
+use Rattle.idx_entries.specs.Entries.{replaced, raised, twoFor}
+use Rattle.idx_leaf.specs.ItemLaws.{Fit}
+use Rattle.idx_leaf.specs.EntryLaws.{items-in-fit}
+use Rattle.idx_entries.specs.FitLaws.{length-insert, length-replaced, pair-fit, two-fit}
 use Rattle.idx_sound.specs.Sound.{linksOf, keptBy}
-use Rattle.idx_insert.specs.Insertion.{Outcome, kept, split, bad, Step, takeIn, afterChild, insertUnder}
+use Rattle.idx_insert_page.specs.Insertion.{Outcome, kept, split, bad, Step, takeIn, afterChild, insertUnder}
 use Rattle.idx_layout_laws.specs.EntryLaws.{entriesIn, page-of, items-few}
 use Rattle.idx_layout_laws.specs.HeadLaws.{Head, SameHead, SameHeader, with-head, with-header, raised-head, raised-header, split-head, split-header}
 use Rattle.idx_insert_laws.specs.ItemLists.{passes, Shaped}
 use Rattle.idx_layout_laws.specs.OtherPages.{unchanged}
 use Rattle.idx_insert_laws.specs.Naming.{Naming, Usable, Untaken, nextOf, Supplied}
-use Rattle.idx_insert_laws.specs.InsertionEntries.{OutcomeIs, Offered}
-use Rattle.idx_insert_laws.specs.InsertionEntries.{under, replacement, Inserts, Free, own-page, inserts, items-longer, among-leaf}
+use Rattle.idx_insert_laws.specs.InsertionEntries.{OutcomeIs, Offered, under, replacement, Inserts, Free, own-page, inserts, items-longer, among-leaf}
 use Rattle.idx_insert_laws.specs.InsertionEntries.{kept-case, split-case, number, child, childPage, child-among, child-free, child-page-shaped}
 use Rattle.idx_insert_laws.specs.InsertionEntries.{child-rest, page-is, child-numbered, child-within}
 

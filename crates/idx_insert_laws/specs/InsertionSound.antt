@@ -42,17 +42,16 @@ use Rattle.idx_page.specs.ReadingLaws.{window-window}
 use Rattle.idx_layout.specs.WriteLaws.{capacity-least}
 use Rattle.idx_sound.specs.Sound.{indexTree, keptBy, linksOf, FreePage, FreeList, Sound}
 use Rattle.idx_sound.specs.IndexLaws.{indexOf, settingOf, sound-index, sound-linked, all-occ, once-page, index-sound}
-use Rattle.idx_insert.specs.Insertion.{insertedBuffer}
-use Rattle.idx_insert.specs.Room.{pathTo, noRoom}
-use Rattle.idx_layout.specs.declared.Supply.{Supply}
-use Rattle.idx_layout.specs.Supply.{supplyOf}
+use Rattle.idx_insert_page.specs.Insertion.{insertedBuffer}
+use Rattle.idx_path.specs.Room.{pathTo, noRoom}
+use Rattle.idx_supply.specs.declared.Supply.{Supply}
+use Rattle.idx_supply.specs.Supply.{supplyOf}
 use Rattle.idx_layout_laws.specs.OtherPages.{SameButLeft, right-kept}
 use Rattle.idx_layout_laws.specs.SupplyLaws.{SameRest}
 use Rattle.idx_insert_laws.specs.TakenPages.{taken-all, left-all, left-head, left-chained}
 use Rattle.idx_insert_laws.specs.Naming.{Naming, namingOf, FreeGiven, supplied, usable}
 use Rattle.idx_insert_laws.specs.InsertionHeads.{Plain, unrooted}
-use Rattle.idx_insert_laws.specs.InsertionBuffer.{treeIn, grownBy, Ready, tree-after, root-after, supply-after, length-after, header-after}
-use Rattle.idx_insert_laws.specs.InsertionBuffer.{untaken-after}
+use Rattle.idx_insert_laws.specs.InsertionBuffer.{treeIn, grownBy, Ready, tree-after, root-after, supply-after, length-after, header-after, untaken-after}
 use Rattle.idx_insert_laws.specs.InsertionBuffer.{HeadsIn, Rising, stays, rises, heads-in, linksAfter}
 use Rattle.idx_insert_laws.specs.AttributeLaws.{leaf-old, leaf-new, root-none, root-new, root-split, unrooted-same, small-old, small-new}
 use Rattle.idx_insert_laws.specs.SoundReading.{page-longer, read-shorter, sound-free, sound-tree, sound-shaped}

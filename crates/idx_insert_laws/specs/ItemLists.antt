@@ -27,8 +27,8 @@ use Rattle.idx_page.specs.KeyOrder.{bytesOrder}
 use Rattle.idx_page.specs.Page.{attributeAt, leafBit}
 use Rattle.idx_page.specs.Reading.{Item, numbered}
 use Rattle.idx_page.specs.EntryOrder.{itemOrder}
-use Rattle.idx_layout.specs.Layout.{itemsIn}
-use Rattle.idx_layout.specs.Entries.{firstUpTo, passesAbove, chosenAt, itemOf, childOf}
+use Rattle.idx_leaf.specs.Leaf.{itemsIn, itemOf}
+use Rattle.idx_route.specs.Route.{firstUpTo, passesAbove, chosenAt, childOf}
 use Rattle.idx_sound.specs.Sound.{keptBy}
 use Rattle.idx_layout_laws.specs.EntryLaws.{entriesIn, Usable}
 

@@ -18,9 +18,9 @@ use Rattle.tree.specs.SupplyLaws.{taken-injective}
 use Rattle.idx_page.specs.Header.{maxBytes, noPage, isPage, freePointer, fileSize}
 use Rattle.idx_page.specs.HeaderLaws.{GoodHeader, is-page, is-page-from}
 use Rattle.idx_page.specs.Page.{rightAt}
-use Rattle.idx_layout.specs.declared.Supply.{Supply}
-use Rattle.idx_layout.specs.declared.Taken.{Taken}
-use Rattle.idx_layout.specs.Supply.{supplyFrom, supplyOf, takePage, supplyAfter}
+use Rattle.idx_supply.specs.declared.Supply.{Supply}
+use Rattle.idx_supply.specs.declared.Taken.{Taken}
+use Rattle.idx_supply.specs.Supply.{supplyFrom, supplyOf, takePage, supplyAfter}
 use Rattle.idx_layout_laws.specs.OtherPages.{SameButLeft, unchanged, right-kept}
 use Rattle.idx_layout_laws.specs.SupplyLaws.{Storable}
 use Rattle.idx_insert_laws.specs.TakenPages.{taken, leftOf, taken-all, left-head, takes-next}

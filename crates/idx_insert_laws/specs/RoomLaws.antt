@@ -32,12 +32,12 @@ use Rattle.idx_page.specs.Page.{capacity}
 use Rattle.idx_page.specs.Reading.{Item, numbered}
 use Rattle.idx_page.specs.EntryOrder.{itemOrder}
 use Rattle.idx_page.specs.ItemLaws.{present-numbered}
-use Rattle.idx_layout.specs.Layout.{itemsIn}
-use Rattle.idx_layout.specs.Entries.{stored, chosenAt, itemOf, childOf}
+use Rattle.idx_leaf.specs.Leaf.{itemsIn, stored, itemOf}
+use Rattle.idx_route.specs.Route.{chosenAt, childOf}
 use Rattle.idx_sound.specs.Sound.{indexTree, keptBy, Sound, leafPairs}
 use Rattle.idx_sound.specs.IndexLaws.{indexOf, settingOf, sound-index}
-use Rattle.idx_insert.specs.declared.Path.{Path}
-use Rattle.idx_insert.specs.Room.{onTop, pathFrom, pathTo, noRoom}
+use Rattle.idx_path.specs.declared.Path.{Path}
+use Rattle.idx_path.specs.Room.{onTop, pathFrom, pathTo, noRoom}
 use Rattle.idx_layout_laws.specs.EntryLaws.{entriesIn}
 use Rattle.idx_insert_laws.specs.Naming.{left-is, namingOf, supplied}
 use Rattle.idx_insert_laws.specs.ItemLists.{passes, Shaped, child-shaped, chosen-numbered}

@@ -17,9 +17,9 @@ use Rattle.tree.specs.Supply.{pageAtEnd, takenPage, sizeAfter}
 use Rattle.idx_page.specs.Header.{noPage, isPage}
 use Rattle.idx_page.specs.HeaderLaws.{is-page}
 use Rattle.idx_page.specs.Page.{rightAt}
-use Rattle.idx_layout.specs.declared.Supply.{Supply}
-use Rattle.idx_layout.specs.declared.Taken.{Taken}
-use Rattle.idx_layout.specs.Supply.{supplyFrom, takePage}
+use Rattle.idx_supply.specs.declared.Supply.{Supply}
+use Rattle.idx_supply.specs.declared.Taken.{Taken}
+use Rattle.idx_supply.specs.Supply.{supplyFrom, takePage}
 use Rattle.idx_layout_laws.specs.EntryLaws.{page-of}
 
 -- a property of the free pages and of the pages at the file's end that the free list lacks is one of the first n pages taken

@@ -5,11 +5,9 @@ use mathlib.Core.Path.{_≡_}
 use mathlib.Core.Bool.{true}
 use mathlib.Core.List.{List}
 use lib.ListN.{length}
-use Rattle.idx_page.specs.Header.{maxKey, maxOffset, pageSize, isPage}
+use Rattle.idx_page.specs.Header.{maxKey, isPage}
 use Rattle.idx_page.specs.Page.{capacity, entryArea}
 use Rattle.idx_page.specs.Within.{Within}
-use Rattle.idx_layout.specs.Layout.{itemsIn}
-use Rattle.idx_layout.specs.declared.Supply.{Supply}
 
 -- the page has room for the n entries
 pub record Given (b : List ℕ) (k p n : ℕ) (s : List ℕ) : Type 0 where
@@ -22,16 +20,6 @@ pub record Over (b : List ℕ) (k p n : ℕ) (s : List ℕ) : Type 0 where
   pub page : isPage (length b) p ≡ true
   pub count : n ≤ capacity k + 1
   pub size : length s ≡ n * (k + 4)
-
--- the page at p of the buffer has n entries
-pub record Listed (b : List ℕ) (k p n : ℕ) : Type 0 where
-  pub key : k ≤ maxKey
-  pub page : isPage (length b) p ≡ true
-  pub count : n ≡ length (itemsIn k b p)
-
--- n pages more can be taken from a supply, and the file's end then still has 32 bits
-abbrev pub Lasts : ℕ → Supply → Type 0
-Lasts n supply = supply .end .0 + pageSize * n ≤ maxOffset
 
 -- the room in which entries are gathered: the entry area and one entry more
 abbrev pub roomSize : ℕ

@@ -8,11 +8,7 @@ use Rattle.octets.specs.Store.{put}
 use Rattle.tree.specs.Lists.{half}
 use Rattle.idx_page.specs.Header.{pageSize, noPage, rootPlace, freePlace, sizePlace, expressionPlace, freePointer, isPage}
 use Rattle.idx_page.specs.Page.{attributeAt, leftAt, rightAt, countPlace, leftPlace, rightPlace, entriesStart, entryArea}
-use Rattle.idx_page.specs.Reading.{Item, itemsAt}
-
--- the entries of the page at p of the buffer
-abbrev pub itemsIn : ℕ → List ℕ → ℕ → List Item
-itemsIn k b p = itemsAt k (length b) b p
+use Rattle.idx_page.specs.Reading.{Item}
 
 -- entries as bytes: each the key, then the number
 unfoldable pub encode : List Item → List ℕ

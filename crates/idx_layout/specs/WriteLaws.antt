@@ -1,8 +1,8 @@
--- Laws: the stores that write a header, a page's entries, a new page, a page that is split or one that becomes free are the rule's. Assumes nothing.
+-- Laws: the stores that write a header, a page's entries, a new page or a page that is split are the rule's. Assumes nothing.
 use Prim.Native.Nat.{ℕ, zero, suc, _+_, _-_, _*_, _/_, _≤_}
 use mathlib.Core.Path.{_≡_, refl, sym, ap, _∙_}
 use mathlib.Core.Bool.{true}
-use mathlib.Core.List.{List, [], _++_}
+use mathlib.Core.List.{List, _++_}
 use native.Mathlib.Nat.{le-div-iff-mul-le, mul-le-mul-right, add-mul}
 use native.Mathlib.Omega.{arith}
 use lib.ListN.{length, take, drop, replicate, length-take, length-drop}
@@ -11,16 +11,17 @@ use Rattle.octets.specs.Bytes.{toLe16, toLe32}
 use Rattle.octets.specs.Store.{put}
 use Rattle.octets.specs.StoreLaws.{put-append, put-comm}
 use Rattle.octets.specs.NumberLaws.{length-toLe16, length-toLe32}
-use Rattle.idx_page.specs.Header.{maxKey, pageSize, noPage, freePlace, keyLengthPlace, featuresPlace, expressionPlace, maxFeatures, freePointer, isPage}
-use Rattle.idx_page.specs.Page.{attributeAt, leftAt, rightAt, entriesStart, entryArea, capacity, entryOffset}
+use Rattle.idx_page.specs.Header.{maxKey, pageSize, noPage, freePlace, keyLengthPlace, featuresPlace, expressionPlace, maxFeatures, isPage}
+use Rattle.idx_page.specs.Page.{attributeAt, rightAt, entriesStart, entryArea, capacity, entryOffset}
 use Rattle.idx_page.specs.Reading.{Item, items}
 use Rattle.idx_page.specs.PageLaws.{entries-fit, capacity-small}
 use Rattle.idx_page.specs.HeaderLaws.{is-page}
 use Rattle.idx_page.specs.ReadingLaws.{items-take}
-use Rattle.idx_layout.specs.Layout.{withAttribute, withCount, withLeft, withRight, withRoot, withFree, withSize, headerBytes}
-use Rattle.idx_layout.specs.Layout.{encode, area, withEntries, newPage, withoutRoot, linkBeyond, splitPage, linkBefore, unlinked, freed}
+use Rattle.idx_layout.specs.Layout.{withAttribute, withCount, withLeft, withRight, withRoot, withSize, headerBytes}
+use Rattle.idx_layout.specs.Layout.{encode, area, withEntries, newPage, withoutRoot, linkBeyond, splitPage}
 use Rattle.idx_layout.specs.Given.{Given, Over, roomSize}
-use Rattle.idx_layout.specs.ItemLaws.{length-items, encode-items, take-items, drop-items}
+use Rattle.idx_leaf.specs.ItemLaws.{length-items, take-items, drop-items}
+use Rattle.idx_layout.specs.EncodeLaws.{encode-items}
 
 -- a header written whole, as the stores of its parts: the features are one byte, stored with the zero after it
 header-parts : (root size k f : ℕ) (e : List ℕ) → f ≤ maxFeatures
@@ -188,13 +189,3 @@ module _ {b s : List ℕ} {k p n : ℕ} (g : Over b k p n s) where
       let upper : items k (n - m) (take (length s - m * (k + 4)) (drop (m * (k + 4)) s)) ≡ drop m (items k n s) =
       items-take k (n - m) (length s - m * (k + 4)) (drop (m * (k + 4)) s) (omega arith) ∙ sym (drop-items k m n s (h .low)) in
       e5 ∙ rw (upper, e4, e3, e2, e1, lower, ea, er, length-items k n s)
-
--- the stores that unlink a page, and that put it at the head of the free list
-module _ (b : List ℕ) (p : ℕ) where
-  pub unlinked-by : {l r : ℕ} {l1 l2 : List ℕ} → l ≡ leftAt b p → r ≡ rightAt b p → l1 ≡ linkBeyond b r l → l2 ≡ linkBefore l1 l r → l2 ≡ unlinked b p
-  unfolding unlinked
-  unlinked-by el er e1 e2 = e2 ∙ rw (e1, el, er)
-
-  pub freed-by : {next : ℕ} {l1 l2 : List ℕ} → next ≡ freePointer b → l1 ≡ newPage b p 0 0 next [] → l2 ≡ withFree l1 p → l2 ≡ freed b p
-  unfolding freed
-  freed-by e e1 e2 = e2 ∙ rw (e1, e)

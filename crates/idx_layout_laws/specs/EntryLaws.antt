@@ -30,10 +30,12 @@ use Rattle.idx_page.specs.HeaderLaws.{is-page}
 use Rattle.idx_page.specs.KeyOrder.{bytesOrder}
 use Rattle.idx_page.specs.Reading.{Item, items, itemsAt, numbered}
 use Rattle.idx_page.specs.ReadingLaws.{readCount, items-take}
-use Rattle.idx_layout.specs.Layout.{itemsIn, encode, area, withEntries, newPage, withoutRoot, linkBeyond, splitPage}
-use Rattle.idx_layout.specs.Entries.{itemOf, replaced, raised}
+use Rattle.idx_leaf.specs.Leaf.{itemsIn, itemOf}
+use Rattle.idx_layout.specs.Layout.{encode, area, withEntries, newPage, withoutRoot, linkBeyond, splitPage}
+use Rattle.idx_entries.specs.Entries.{replaced, raised}
 use Rattle.idx_layout.specs.WriteLaws.{new-page-by}
-use Rattle.idx_layout.specs.ItemLaws.{Fit, length-encode, length-items, items-encode}
+use Rattle.idx_leaf.specs.ItemLaws.{Fit, length-items}
+use Rattle.idx_layout.specs.EncodeLaws.{length-encode, items-encode}
 
 -- the entries of every page of a buffer, with their numbers: the store that insertion works on
 abbrev pub entriesIn : ℕ → List ℕ → Store (List ℕ)

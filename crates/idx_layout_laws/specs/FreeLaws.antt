@@ -8,22 +8,20 @@ use native.Mathlib.Omega.{arith}
 use lib.ListN.{length, replicate, length-append, length-replicate}
 use lib.Dec.{eqb, lit≤}
 use borrow.Author.Tests.{ne-eqb}
-use Rattle.basis.specs.Lists.{All}
 use Rattle.basis.specs.Tests.{either, contra}
 use Rattle.octets.specs.Bytes.{toLe16, toLe32}
 use Rattle.octets.specs.Store.{put, window}
 use Rattle.octets.specs.StoreLaws.{length-put, window-before, window-after, window-same}
-use Rattle.octets.specs.NumberLaws.{length-toLe16, length-toLe32, le32-put, le32-same}
+use Rattle.octets.specs.NumberLaws.{length-toLe32, le32-put, le32-same}
 use Rattle.tree.specs.StoreSteps.{write}
 use Rattle.idx_page.specs.Header.{pageSize, freePlace, sizePlace, freePointer, isPage}
 use Rattle.idx_page.specs.HeaderLaws.{is-page}
-use Rattle.idx_page.specs.Page.{attributeAt, countAt, leftAt, rightAt, entriesStart, capacity}
-use Rattle.idx_page.specs.Reading.{Item}
+use Rattle.idx_page.specs.Page.{attributeAt, countAt, leftAt, rightAt}
 use Rattle.idx_page.specs.ReadingLaws.{window-in-page}
-use Rattle.idx_layout.specs.Layout.{encode, area, withEntries, newPage, linkBeyond, linkBefore, unlinked, freed}
-use Rattle.idx_layout.specs.ItemLaws.{Fit}
-use Rattle.idx_layout_laws.specs.EntryLaws.{entriesIn, page-of, window-other, length-area, entries-links, entries-header, entries-new}
+use Rattle.idx_layout.specs.Layout.{encode, area, newPage, linkBeyond, linkBefore, unlinked, freed}
+use Rattle.idx_layout_laws.specs.EntryLaws.{entriesIn, page-of, entries-links, entries-header, entries-new}
 use Rattle.idx_layout_laws.specs.EntryLaws.{entries-beyond, length-beyond, length-new}
+use Rattle.idx_layout_laws.specs.OtherPages.{put-bytes}
 use Rattle.idx_layout_laws.specs.HeadLaws.{Head, SameHeader, put-right, put-outside, put-header, new-head, beyond-head, beyond-header}
 
 length-before : (b : List ℕ) (l q : ℕ) → length (linkBefore b l q) ≡ length b
@@ -156,21 +154,16 @@ length-free next = simp (length-append, length-replicate) (omega (arith, length-
 
 -- bytes: a page that is neither unlinked nor freed nor a neighbour keeps all of them, and a page that joins the free list gets those of a free page
 module _ (b : List ℕ) (z : ℕ) (tz : isPage (length b) z ≡ true) where
-  outside : (x at : ℕ) (ys : List ℕ) → isPage (length b) x ≡ true → (z ≡ x → ⊥) → x ≤ at → at + length ys ≤ x + pageSize
-      → window (put b at ys) z pageSize ≡ window b z pageSize
-  outside x at ys tx ne l m =
-      window-other b x at ys (is-page (length b) x tx .whole) l m z (is-page (length b) z tz .whole) ne z pageSize (omega arith) (omega arith)
-
   beyond-bytes : (r q : ℕ) → (z ≡ r → ⊥) → window (linkBeyond b r q) z pageSize ≡ window b z pageSize
   unfolding linkBeyond
   beyond-bytes r q ne = either (isPage (length b) r)
-      (λ e. rw e (outside r (r + 4) (toLe32 q) e ne (omega arith) (omega (arith, length-toLe32 q))))
+      (λ e. rw e (put-bytes b r e z tz ne (r + 4) (toLe32 q) (omega arith) (omega (arith, length-toLe32 q))))
       (λ e. rw e)
 
   before-bytes : (l q : ℕ) → (z ≡ l → ⊥) → window (linkBefore b l q) z pageSize ≡ window b z pageSize
   unfolding linkBefore
   before-bytes l q ne = either (isPage (length b) l)
-      (λ e. rw e (outside l (l + 8) (toLe32 q) e ne (omega arith) (omega (arith, length-toLe32 q))))
+      (λ e. rw e (put-bytes b l e z tz ne (l + 8) (toLe32 q) (omega arith) (omega (arith, length-toLe32 q))))
       (λ e. rw e)
 
   pub freed-bytes : (p : ℕ) → isPage (length b) p ≡ true → (z ≡ p → ⊥) → window (freed b p) z pageSize ≡ window b z pageSize
@@ -180,7 +173,7 @@ module _ (b : List ℕ) (z : ℕ) (tz : isPage (length b) z ≡ true) where
       let g = is-page (length b) z tz .low in
       rw (free-page-is b p next)
       (window-after (put b p (freePage next)) freePlace (toLe32 p) z pageSize (omega (arith, length-toLe32 p))
-      ∙ outside p p (freePage next) tp ne (omega arith) (omega (arith, length-free next)))
+      ∙ put-bytes b p tp z tz ne p (freePage next) (omega arith) (omega (arith, length-free next)))
 
   pub freed-own : window (freed b z) z pageSize ≡ freePage (freePointer b)
   unfolding freed
@@ -198,22 +191,3 @@ unlinked-bytes b p z tz nl nr =
     let b1 = linkBeyond b (rightAt b p) (leftAt b p) in
     before-bytes b1 z (page-of z (length-beyond b (rightAt b p) (leftAt b p)) tz) (leftAt b p) (rightAt b p) nl
     ∙ beyond-bytes b z tz (rightAt b p) (leftAt b p) nr
-
--- a page that gets other entries, or is written whole, changes no other page
-module _ (k : ℕ) (b : List ℕ) (p : ℕ) (es : List Item) (tp : isPage (length b) p ≡ true) (f : All (Fit k) es) (few : length es ≤ capacity k) (z : ℕ)
-    (tz : isPage (length b) z ≡ true) (ne : z ≡ p → ⊥) where
-  pub with-bytes : window (withEntries b p es) z pageSize ≡ window b z pageSize
-  unfolding withEntries
-  with-bytes =
-      let b1 = put b (p + 2) (toLe16 (length es)) in
-      let n : length b1 ≡ length b = length-put b (p + 2) (toLe16 (length es)) in
-      outside b1 z (page-of z n tz) p (p + entriesStart) (area es) (page-of p n tp) ne (omega arith) (omega (arith, length-area k es f few))
-      ∙ outside b z tz p (p + 2) (toLe16 (length es)) tp ne (omega arith) (omega (arith, length-toLe16 (length es)))
-
-  pub new-bytes : (a l r : ℕ) → window (newPage b p a l r es) z pageSize ≡ window b z pageSize
-  unfolding newPage
-  new-bytes a l r =
-      let ys = toLe16 a ++ (toLe16 (length es) ++ (toLe32 l ++ (toLe32 r ++ area es))) in
-      let n : length ys ≡ pageSize =
-      simp length-append (omega (arith, length-toLe16 a, length-toLe16 (length es), length-toLe32 l, length-toLe32 r, length-area k es f few)) in
-      outside b z tz p p ys tp ne (omega arith) (omega arith)

@@ -23,9 +23,10 @@ use Rattle.idx_page.specs.PageLaws.{entry-inside, entry-low, capacity-small}
 use Rattle.idx_page.specs.HeaderLaws.{is-page}
 use Rattle.idx_page.specs.Reading.{Item}
 use Rattle.idx_page.specs.ReadingLaws.{attribute-same, count-same, left-same, right-same}
-use Rattle.idx_layout.specs.Layout.{itemsIn, area, withEntries, newPage, withoutRoot, linkBeyond, splitPage}
-use Rattle.idx_layout.specs.Entries.{itemOf, raised}
-use Rattle.idx_layout.specs.ItemLaws.{Fit}
+use Rattle.idx_leaf.specs.Leaf.{itemsIn, itemOf}
+use Rattle.idx_layout.specs.Layout.{area, withEntries, newPage, withoutRoot, linkBeyond, splitPage}
+use Rattle.idx_entries.specs.Entries.{raised}
+use Rattle.idx_leaf.specs.ItemLaws.{Fit}
 use Rattle.idx_layout_laws.specs.EntryLaws.{page-of, window-other, length-area, new-stores, length-with, length-beyond, items-few, halves-fit}
 
 -- the head of the page at z

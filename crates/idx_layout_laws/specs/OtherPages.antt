@@ -1,5 +1,5 @@
--- Laws: each store of an insertion keeps the bytes of the pages that it is not for, but for the left link of the page beyond. Cited by the laws of insertion:
--- so the pages that are still free keep their form. Assumes nothing.
+-- Laws: each store keeps the bytes of the pages that it is not for, in an insertion but for the left link of the page beyond. Cited by the laws of insertion
+-- and of removal: so the pages that are still free keep their form. Assumes nothing.
 use mathlib.Core.Path.{_≡_, refl, sym, ap, _∙_}
 use mathlib.Core.Bool.{true}
 use mathlib.Core.List.{List}
@@ -21,8 +21,8 @@ use Rattle.idx_page.specs.Page.{attributeAt, rightAt, leftPlace, rightPlace, en
 use Rattle.idx_page.specs.Reading.{Item}
 use Rattle.idx_page.specs.ReadingLaws.{window-window, window-in-page}
 use Rattle.idx_layout.specs.Layout.{area, withEntries, newPage, withoutRoot, linkBeyond, splitPage}
-use Rattle.idx_layout.specs.Entries.{raised}
-use Rattle.idx_layout.specs.ItemLaws.{Fit}
+use Rattle.idx_entries.specs.Entries.{raised}
+use Rattle.idx_leaf.specs.ItemLaws.{Fit}
 use Rattle.idx_layout_laws.specs.EntryLaws.{page-of, window-other, length-area, length-with, length-beyond, halves-fit}
 use Rattle.idx_layout_laws.specs.HeadLaws.{kept, raised-as}
 
@@ -58,10 +58,12 @@ header-other b at ys h z t =
     whole-kept b (put b at ys) z (window-after b at ys z pageSize (omega arith))
 
 module _ (b : List ℕ) (x : ℕ) (tx : isPage (length b) x ≡ true) (z : ℕ) (tz : isPage (length b) z ≡ true) (ne : z ≡ x → ⊥) where
+  pub put-bytes : (at : ℕ) (ys : List ℕ) → x ≤ at → at + length ys ≤ x + pageSize → window (put b at ys) z pageSize ≡ window b z pageSize
+  put-bytes at ys l m =
+      window-other b x at ys (is-page (length b) x tx .whole) l m z (is-page (length b) z tz .whole) ne z pageSize (omega arith) (omega arith)
+
   put-other : (at : ℕ) (ys : List ℕ) → x ≤ at → at + length ys ≤ x + pageSize → SameButLeft b (put b at ys) z
-  put-other at ys l m =
-      whole-kept b (put b at ys) z
-      (window-other b x at ys (is-page (length b) x tx .whole) l m z (is-page (length b) z tz .whole) ne z pageSize (omega arith) (omega arith))
+  put-other at ys l m = whole-kept b (put b at ys) z (put-bytes at ys l m)
 
 -- the page beyond, at r, gets q for its left neighbour
 beyond-other : (b : List ℕ) (r q z : ℕ) → isPage (length b) z ≡ true → SameButLeft b (linkBeyond b r q) z
@@ -78,19 +80,25 @@ beyond-other b r q z tz = either (isPage (length b) r)
 module _ (k : ℕ) where
   -- the page at p gets other entries, a page is written whole, and the key of an entry is raised
   module _ (b : List ℕ) (p : ℕ) (tp : isPage (length b) p ≡ true) (z : ℕ) (tz : isPage (length b) z ≡ true) (ne : z ≡ p → ⊥) where
-    pub with-other : (es : List Item) → All (Fit k) es → length es ≤ capacity k → SameButLeft b (withEntries b p es) z
+    pub with-bytes : (es : List Item) → All (Fit k) es → length es ≤ capacity k → window (withEntries b p es) z pageSize ≡ window b z pageSize
     unfolding withEntries
-    with-other es f few =
+    with-bytes es f few =
         let count = toLe16 (length es) in
         let b1 = put b (p + 2) count in
         let l1 : length b1 ≡ length b = length-put b (p + 2) count in
-        both-kept (put-other b p tp z tz ne (p + 2) count (omega arith) (omega (arith, length-toLe16 (length es))))
-        (put-other b1 p (page-of p l1 tp) z (page-of z l1 tz) ne (p + entriesStart) (area es) (omega arith) (omega (arith, length-area k es f few)))
+        put-bytes b1 p (page-of p l1 tp) z (page-of z l1 tz) ne (p + entriesStart) (area es) (omega arith) (omega (arith, length-area k es f few))
+        ∙ put-bytes b p tp z tz ne (p + 2) count (omega arith) (omega (arith, length-toLe16 (length es)))
+
+    pub with-other : (es : List Item) → All (Fit k) es → length es ≤ capacity k → SameButLeft b (withEntries b p es) z
+    with-other es f few = whole-kept b (withEntries b p es) z (with-bytes es f few)
+
+    pub new-bytes : (a l r : ℕ) (es : List Item) → All (Fit k) es → length es ≤ capacity k → window (newPage b p a l r es) z pageSize ≡ window b z pageSize
+    unfolding newPage
+    new-bytes a l r es f few = put-bytes b p tp z tz ne p _ (omega arith)
+        (simp (length-append, length-toLe16, length-toLe32) (omega (arith, length-area k es f few)))
 
     pub new-other : (a l r : ℕ) (es : List Item) → All (Fit k) es → length es ≤ capacity k → SameButLeft b (newPage b p a l r es) z
-    unfolding newPage
-    new-other a l r es f few = put-other b p tp z tz ne p _ (omega arith)
-        (simp (length-append, length-toLe16, length-toLe32) (omega (arith, length-area k es f few)))
+    new-other a l r es f few = whole-kept b (newPage b p a l r es) z (new-bytes a l r es f few)
 
     pub raised-other : (key : List ℕ) (i : ℕ) → length key ≡ k → SameButLeft b (raised k b key p i) z
     raised-other key i long =

@@ -11,8 +11,8 @@ use Rattle.octets.specs.Store.{put, window}
 use Rattle.octets.specs.StoreLaws.{length-put, put-append, window-before, window-after}
 use Rattle.octets.specs.NumberLaws.{length-toLe32, le32-put, le32-same}
 use Rattle.idx_page.specs.Header.{pageSize, isPage, rootOffset}
-use Rattle.idx_layout.specs.declared.Supply.{Supply}
-use Rattle.idx_layout.specs.Supply.{supplyFrom, supplyOf, withSupply}
+use Rattle.idx_supply.specs.declared.Supply.{Supply}
+use Rattle.idx_supply.specs.Supply.{supplyFrom, supplyOf, withSupply}
 use Rattle.idx_layout_laws.specs.EntryLaws.{entriesIn, entries-header}
 use Rattle.idx_layout_laws.specs.HeadLaws.{SameHead, put-header}
 use Rattle.idx_layout_laws.specs.OtherPages.{SameButLeft, header-other}

@@ -7,7 +7,8 @@ use lib.ListN.{length}
 use borrow.Author.Tests.{eq-eqb, ne-eqb}
 use Rattle.idx_page.specs.Header.{keyLength, headerGood}
 use Rattle.idx_sound.specs.AuditTest.{pagesGood}
-use Rattle.idx_remove.specs.Removal.{isThere, removedBuffer}
+use Rattle.idx_path.specs.Presence.{isThere}
+use Rattle.idx_remove_page.specs.Removal.{removedBuffer}
 use Rattle.idx_remove.specs.Calls.{afterCall, removeRule}
 use Rattle.idx_remove.specs.declared.Removal.the-variants.{Accepted, Refused}
 

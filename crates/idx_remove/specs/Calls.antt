@@ -6,7 +6,8 @@ use lib.ListN.{length}
 use lib.Dec.{eqb}
 use Rattle.idx_page.specs.Header.{headerGood, keyLength}
 use Rattle.idx_sound.specs.AuditTest.{pagesGood}
-use Rattle.idx_remove.specs.Removal.{isThere, removedBuffer}
+use Rattle.idx_path.specs.Presence.{isThere}
+use Rattle.idx_remove_page.specs.Removal.{removedBuffer}
 use Rattle.idx_remove.specs.declared.Removal.{Removal}
 use Rattle.idx_remove.specs.declared.Removal.the-variants.{Accepted, Refused}
 

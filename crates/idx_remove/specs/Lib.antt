@@ -1,12 +1,6 @@
 -- Removal, in the order in which the parts rest on one another.
 
--- Rules: removal, page by page
-pub mod Removal
--- Steps: what the inner functions answer
-pub mod Answers
 -- Rules: what removal answers and leaves
 pub mod Calls
--- Laws: the cases of removal's steps
-pub mod StepLaws
 -- Laws: the cases of removal
 pub mod CallLaws

@@ -25,7 +25,9 @@ use Rattle.idx_page.specs.KeyOrder.{bytesOrder}
 use Rattle.idx_page.specs.Reading.{Item, numbered}
 use Rattle.idx_page.specs.EntryOrder.{itemOrder, itemRoute}
 use Rattle.idx_page.specs.ItemLaws.{route-numbered}
-use Rattle.idx_layout.specs.Entries.{passesAbove, chosenAt, placeIn, itemOf, withoutEntry}
+use Rattle.idx_route.specs.Route.{passesAbove, chosenAt}
+use Rattle.idx_leaf.specs.Leaf.{placeIn, itemOf}
+use Rattle.idx_entries.specs.Entries.{withoutEntry}
 use Rattle.idx_sound.specs.Sound.{keptBy}
 use Rattle.idx_layout_laws.specs.EntryLaws.{entriesIn}
 use Rattle.idx_insert_laws.specs.ItemLists.{Shaped, position-numbered}

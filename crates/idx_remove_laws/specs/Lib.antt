@@ -4,6 +4,8 @@
 pub mod EntryLists
 -- Laws: the entries of all pages after removal's steps
 pub mod RemovalEntries
+-- Laws: what removal's two steps keep, by one induction
+pub mod RemovalInduction
 -- Laws: attributes, links and counts of all pages, and the header, after removal's steps
 pub mod RemovalHeads
 -- Laws: the bytes of free pages, of pages outside the tree, and the free list after removal's steps

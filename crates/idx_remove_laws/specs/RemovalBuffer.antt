@@ -35,15 +35,17 @@ use Rattle.idx_page.specs.Header.{maxLevels, noPage, pageSize, rootOffset, free
 use Rattle.idx_page.specs.Page.{rightAt}
 use Rattle.idx_page.specs.ReadingLaws.{right-same}
 use Rattle.idx_layout.specs.Layout.{newPage}
-use Rattle.idx_layout.specs.Entries.{stored}
+use Rattle.idx_leaf.specs.Leaf.{stored}
 use Rattle.idx_sound.specs.Sound.{linksOf}
-use Rattle.idx_remove.specs.Removal.{Outcome, kept, emptied as emptiedPage, bad, Step, removeUnder, atRoot, removedBuffer}
+use Rattle.idx_remove_page.specs.Removal.{Outcome, kept, emptied as emptiedPage, bad, Step, removeUnder, atRoot, removedBuffer}
 use Rattle.idx_layout_laws.specs.EntryLaws.{entriesIn, page-of, length-new}
 use Rattle.idx_layout_laws.specs.HeadLaws.{Head, SameHeader, new-head, new-header}
-use Rattle.idx_layout_laws.specs.FreeLaws.{SameButFree, freePage, same-header, same-free, new-bytes}
+use Rattle.idx_layout_laws.specs.FreeLaws.{SameButFree, freePage, same-header, same-free}
+use Rattle.idx_layout_laws.specs.OtherPages.{new-bytes}
 use Rattle.idx_remove_laws.specs.EntryLists.{routeOf}
 use Rattle.idx_remove_laws.specs.RemovalEntries.{OutcomeIs, StepIs, emptiedFrom, storeAfter, Filled, filled-page, filled-pages, removes, root-is}
-use Rattle.idx_remove_laws.specs.RemovalHeads.{Plain, Heads, emptied-apart, remove-heads}
+use Rattle.idx_remove_laws.specs.RemovalHeads.{Plain, Heads, remove-heads}
+use Rattle.idx_remove_laws.specs.RemovalInduction.{emptied-apart}
 use Rattle.idx_remove_laws.specs.RemovalFree.{joined-chained, Freed, freed-but, remove-free}
 
 -- an index with h levels under its root before a removal: every page of it has entries, and none is reached twice
@@ -80,10 +82,10 @@ module _ (k : ℕ) (key : List ℕ) (number : ℕ) (b : List ℕ) (h : ℕ) (r :
   inside z o = filled-pages k b z h (rootOffset b) (r .filled) o
 
   last-heads : Heads k (pages h treeIn) gone b (last .after)
-  last-heads = remove-heads k (stored key number) b (pages h treeIn) inside (r .plain) long h maxLevels (rootOffset b) (r .low) (r .filled) (r .once) (λ z o. o)
+  last-heads = remove-heads k b (pages h treeIn) inside (r .plain) (stored key number) long h maxLevels (rootOffset b) (r .low) (r .filled) (r .once) (λ z o. o)
 
   last-free : Freed (pages h treeIn) gone b (last .after)
-  last-free = remove-free k (stored key number) b (pages h treeIn) inside (r .plain) long h maxLevels (rootOffset b) (r .low) (r .filled) (r .once) (λ z o. o)
+  last-free = remove-free k b (pages h treeIn) inside (r .plain) (stored key number) long h maxLevels (rootOffset b) (r .low) (r .filled) (r .once) (λ z o. o)
 
   -- the last step's buffer with an empty leaf for its root
   abbrev lone : List ℕ
@@ -134,7 +136,7 @@ module _ (k : ℕ) (key : List ℕ) (number : ℕ) (b : List ℕ) (h : ℕ) (r :
       (occ-here (rootOffset b) (pagesOf (entriesIn k b) h (entriesIn k b (rootOffset b))))
       (emptied-apart k (stored key number) b h (rootOffset b) (r .once))
       (same-free (last .after) lone lone-header)
-      (λ z t ne. new-bytes k (last .after) (rootOffset b) [] root-there tt (omega arith) z (page-of z (last-is .as-long) t) ne 3 noPage noPage) last-free)
+      (λ z t ne. new-bytes k (last .after) (rootOffset b) root-there z (page-of z (last-is .as-long) t) ne 3 noPage noPage [] tt (omega arith)) last-free)
 
   -- Theorem: if the root has entries left, the heads of the pages that stay are the old ones but for the links around emptied pages; if it has none, it is an
   -- empty leaf

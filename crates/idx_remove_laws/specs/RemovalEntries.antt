@@ -24,18 +24,19 @@ use Rattle.tree.specs.Tree.{pages}
 use Rattle.idx_page.specs.Header.{maxLevels, noPage, isPage}
 use Rattle.idx_page.specs.Page.{attributeAt, leafBit, capacity}
 use Rattle.idx_page.specs.Reading.{Item, numbered}
-use Rattle.idx_layout.specs.Layout.{itemsIn, unlinked, freed}
-use Rattle.idx_layout.specs.Entries.{chosenAt, placeIn, childOf, withoutEntry}
-use Rattle.idx_layout.specs.ItemLaws.{Fit}
-use Rattle.idx_layout.specs.EntryLaws.{items-in-fit}
-use Rattle.idx_layout.specs.FitLaws.{without-all, length-without}
-use Rattle.idx_remove.specs.Removal.{Outcome, kept, emptied, bad, Step, leftWith, takeOut, afterChild, removeUnder, atRoot}
+use Rattle.idx_leaf.specs.Leaf.{itemsIn, placeIn}
+use Rattle.idx_route.specs.Route.{chosenAt, childOf}
+use Rattle.idx_layout.specs.Layout.{unlinked, freed}
+use Rattle.idx_entries.specs.Entries.{withoutEntry}
+use Rattle.idx_leaf.specs.ItemLaws.{Fit}
+use Rattle.idx_leaf.specs.EntryLaws.{items-in-fit}
+use Rattle.idx_entries.specs.FitLaws.{without-all, length-without}
+use Rattle.idx_remove_page.specs.Removal.{Outcome, kept, emptied, bad, Step, leftWith, takeOut, afterChild, removeUnder, atRoot}
 use Rattle.idx_layout_laws.specs.EntryLaws.{entriesIn, Usable, page-of, items-few, entries-with, length-with, entries-new}
 use Rattle.idx_layout_laws.specs.FreeLaws.{length-unlinked, length-freed, entries-unlinked, entries-freed}
 use Rattle.idx_insert_laws.specs.ItemLists.{Shaped}
 use Rattle.idx_remove_laws.specs.EntryLists.{routeOf, entryAt, leaf-is, leaf-inside, route-is, route-inside}
-use Rattle.idx_remove_laws.specs.EntryLists.{entry-numbered, without-numbered, member-is, replace-same}
-use Rattle.idx_remove_laws.specs.EntryLists.{entry-all, entry-pages}
+use Rattle.idx_remove_laws.specs.EntryLists.{entry-numbered, without-numbered, member-is, replace-same, entry-all, entry-pages}
 
 -- what an outcome says of the entries that a page is left with
 abbrev pub OutcomeIs : Outcome → List (List ℕ × ℕ) → Type 0

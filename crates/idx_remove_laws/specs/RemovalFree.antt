@@ -1,9 +1,9 @@
 -- Laws: the bytes of free pages, of pages outside the tree, and the free list after removal's steps on bytes: emptied pages have a free page's bytes and are
 -- chained, each naming the one before it, and pages outside the tree keep their bytes. Cited by the laws of the whole buffer. Assumes nothing.
-use mathlib.Core.Path.{_≡_, refl, sym, ap, _∙_, subst}
+use mathlib.Core.Path.{_≡_, refl, sym, ap, _∙_}
 use mathlib.Core.Bool.{true}
-use mathlib.Core.List.{List, [], _∷_, _++_, append-nil}
-use Prim.Native.Nat.{ℕ, zero, suc, _+_, _^_, _≤_, _<_}
+use mathlib.Core.List.{List, [], _∷_, _++_}
+use Prim.Native.Nat.{ℕ, _+_, _^_, _≤_, _<_}
 use native.Mathlib.Omega.{arith}
 use lib.ListN.{length}
 use lib.Dec.{eqb}
@@ -13,36 +13,34 @@ use Rattle.basis.specs.Tests.{either}
 use Rattle.octets.specs.Store.{window}
 use Rattle.tree.specs.InsertionPages.{Distinct}
 use Rattle.tree.specs.Lists.{occ}
-use Rattle.tree.specs.ListLaws.{occ-append, occ-differ, occ-here, occ-not-head}
+use Rattle.tree.specs.ListLaws.{occ-append, occ-differ, occ-here}
 use Rattle.tree.specs.FreeChain.{Chained}
 use Rattle.tree.specs.FreeChainLaws.{chained-join}
 use Rattle.tree.specs.FreeList.{joinFree}
-use Rattle.tree.specs.Removal.{ifEmptied}
 use Rattle.tree.specs.Store.{readTree}
-use Rattle.tree.specs.StoreInsertionLaws.{pagesOf}
 use Rattle.tree.specs.Tree.{pages as treePages}
 use Rattle.idx_page.specs.Header.{pageSize, noPage, freePointer, isPage}
 use Rattle.tree.specs.Unlinking.{unlinkAll}
 use Rattle.idx_page.specs.Page.{rightAt, capacity}
 use Rattle.idx_page.specs.Reading.{Item}
 use Rattle.idx_page.specs.ReadingLaws.{right-same}
-use Rattle.idx_layout.specs.Layout.{itemsIn, unlinked, freed}
-use Rattle.idx_layout.specs.Entries.{withoutEntry}
-use Rattle.idx_layout.specs.ItemLaws.{Fit}
-use Rattle.idx_layout.specs.EntryLaws.{items-in-fit}
-use Rattle.idx_layout.specs.FitLaws.{without-all, length-without}
+use Rattle.idx_leaf.specs.Leaf.{itemsIn}
+use Rattle.idx_layout.specs.Layout.{unlinked, freed}
+use Rattle.idx_entries.specs.Entries.{withoutEntry}
+use Rattle.idx_leaf.specs.ItemLaws.{Fit}
+use Rattle.idx_leaf.specs.EntryLaws.{items-in-fit}
+use Rattle.idx_entries.specs.FitLaws.{without-all, length-without}
 use Rattle.idx_sound.specs.Sound.{linksOf}
-use Rattle.idx_remove.specs.Removal.{Outcome, kept, emptied, bad, Step, takeOut, afterChild, removeUnder}
+use Rattle.idx_remove_page.specs.Removal.{takeOut, removeUnder}
 use Rattle.idx_layout_laws.specs.EntryLaws.{entriesIn, Usable, page-of, items-few}
 use Rattle.idx_layout_laws.specs.HeadLaws.{with-header}
-use Rattle.idx_layout_laws.specs.FreeLaws.{freePage, same-free, length-unlinked, unlinked-header, unlinked-bytes, length-freed}
-use Rattle.idx_layout_laws.specs.FreeLaws.{freed-head, freed-free, freed-bytes, freed-own, with-bytes}
+use Rattle.idx_layout_laws.specs.FreeLaws.{freePage, same-free, length-unlinked, unlinked-header, unlinked-bytes}
+use Rattle.idx_layout_laws.specs.FreeLaws.{freed-head, freed-free, freed-bytes, freed-own}
+use Rattle.idx_layout_laws.specs.OtherPages.{with-bytes}
 use Rattle.tree.specs.AwayLaws.{Away, Clear, Apart, away-first, away-last, clear-first, clear-last}
-use Rattle.idx_remove_laws.specs.EntryLists.{leaf-is, leaf-inside, entry-all, entry-pages}
-use Rattle.idx_remove_laws.specs.RemovalEntries.{OutcomeIs, emptiedFrom, storeAfter, leaf-emptied, upper-emptied, Filled, filled-page}
-use Rattle.idx_remove_laws.specs.RemovalEntries.{place, place-inside, through, filled-route}
-use Rattle.idx_remove_laws.specs.RemovalEntries.{below, Removes, some, inside, child-is, child-distinct, child-apart, still-inside, removes}
-use Rattle.idx_remove_laws.specs.RemovalHeads.{Plain, Heads, emptied-inside, emptied-apart, Inside, remove-heads}
+use Rattle.idx_remove_laws.specs.RemovalEntries.{emptiedFrom, Filled}
+use Rattle.idx_remove_laws.specs.RemovalHeads.{Plain, Heads, heads-keep}
+use Rattle.idx_remove_laws.specs.RemovalInduction.{Inside, StepsKeep, remove-keeps}
 
 -- the pages ps join a list one after another, "each at the head": each names the head before it, and the last is the head at the end
 abbrev pub Joined : (ℕ → ℕ) → ℕ → List ℕ → ℕ → Type 0
@@ -103,7 +101,7 @@ module _ (k : ℕ) (qs b : List ℕ) where
       let tp′ : isPage (length b′) p ≡ true = page-of p n tp in
       rw (lt-ltb i (length es) l)
       (freed-but ps b′ _ p n op np (same-free b′ _ (with-header k b′ p fewer tp′ fit few))
-      (λ z t ne. with-bytes k b′ p fewer tp′ fit few z (page-of z n t) ne) v)
+      (λ z t ne. with-bytes k b′ p tp′ z (page-of z n t) ne fewer fit few) v)
 
   -- one page more is unlinked and becomes free
   freed-out : (ps b′ : List ℕ) (c : ℕ) → length b′ ≡ length b → Usable b c → 0 < occ c qs → occ c ps ≡ 0 → Heads k qs ps b b′ → Freed qs ps b b′
@@ -141,66 +139,20 @@ module _ (k : ℕ) (qs b : List ℕ) where
       before-last ps c z ne o = let none : occ z (c ∷ []) ≡ 0 = rw (ne-eqb z c ne) in omega (arith, occ-append z ps (c ∷ []))
 
 -- a list qs of pages of the buffer
-module _ (k : ℕ) (item : Item) (b qs : List ℕ) (inside-qs : (z : ℕ) → 0 < occ z qs → isPage (length b) z ≡ true) (plain : Plain qs b) where
-  -- the free pages after removal's step at the page at p, all of whose pages are in the list qs
-  abbrev Goes : (h left p : ℕ) → Type 0
-  Goes h left p = Freed qs (emptiedFrom b item (entriesIn k b) h p) b (removeUnder k left b item p .after)
-
-  -- the page at p after the step at its child at c, which emptied the pages ps
-  after-child-free : (ps b′ : List ℕ) (p i c : ℕ) (o : Outcome) (es : List (List ℕ × ℕ)) → length b′ ≡ length b → isPage (length b) p ≡ true → Usable b c
-      → 0 < occ p qs → 0 < occ c qs → occ p ps ≡ 0 → occ c ps ≡ 0 → (p ≡ c → ⊥) → i < length (itemsIn k (freed (unlinked b′ c) c) p) → OutcomeIs o es
-      → Heads k qs ps b b′ → Freed qs ps b b′ → Freed qs (ps ++ ifEmptied c es) b (afterChild k b′ p i c o .after)
-  after-child-free ps b′ p i c kept [] n tp tc op oc np nc ne l t w v = absurd t
-  after-child-free ps b′ p i c kept (x ∷ xs) n tp tc op oc np nc ne l t w v = rw (append-nil ps) v
-  after-child-free ps b′ p i c emptied es n tp tc op oc np nc ne l t w v =
-      let m : length (freed (unlinked b′ c) c) ≡ length b = length-freed (unlinked b′ c) c ∙ length-unlinked b′ c ∙ n in
-      let none : occ p (ps ++ (c ∷ [])) ≡ 0 =
-      let other : occ p (c ∷ []) ≡ 0 = rw (ne-eqb p c ne) in omega (arith, occ-append p ps (c ∷ [])) in
-      rw t (freed-taken k qs b (ps ++ (c ∷ [])) (freed (unlinked b′ c) c) p i m tp l op none (freed-out k qs b ps b′ c n tc oc nc w v))
-  after-child-free ps b′ p i c bad es n tp tc op oc np nc ne l t w v = absurd t
+module _ (k : ℕ) (b qs : List ℕ) (inside-qs : (z : ℕ) → 0 < occ z qs → isPage (length b) z ≡ true) (plain : Plain qs b) where
+  -- both steps of a removal keep what is said of free pages, beside what is said of heads
+  free-keep : StepsKeep k qs b (λ ps b′. Heads k qs ps b b′ × Freed qs ps b b′)
+  free-keep =
+      let heads = heads-keep k b qs inside-qs plain in
+      record {
+        none = (heads .none, freed-none k qs b);
+        taken = λ ps b′ p i n t l o np v. (heads .taken ps b′ p i n t l o np (v .0), freed-taken k qs b ps b′ p i n t l o np (v .1));
+        out = λ ps b′ c n t o nc v. (heads .out ps b′ c n t o nc (v .0), freed-out k qs b ps b′ c n t o nc (v .0) (v .1));
+      }
 
   -- Theorem: removal's step frees the emptied pages, leaf first, and keeps the bytes of pages outside the tree
-  pub remove-free : length (item .0) ≡ k → (h left p : ℕ) → h < left → Filled k h b p → Distinct (treePages h (readTree (entriesIn k b) h p))
-      → Inside k b qs h p → Goes h left p
-  unfolding removeUnder
-  remove-free long zero zero p l f d i = absurd (omega arith)
-  remove-free long (suc h) zero p l f d i = absurd (omega arith)
-  remove-free long zero (suc left) p l f d i =
-      let S = entriesIn k b in
-      let es = itemsIn k b p in
-      let more = some k item b p (f .2) in
-      rw (f .0 .0, f .1, leaf-emptied b item S (place k item b p) p (place-inside k item b p (f .2)) (leaf-is b item S es))
-      (freed-taken k qs b [] b p (place k item b p) refl (f .0 .0) (leaf-inside b item es more) (i p (occ-here p (pagesOf S zero (S p)))) refl
-      (freed-none k qs b))
-  remove-free long (suc h) (suc left) p l f d i =
-      rw (
-        f .0 .0,
-        f .1,
-        upper-emptied b item (entriesIn k b) (through k item b p) p (inside k item b p (f .2)) h (filled-route k b item h p long f),
-      ) (subst UpperGoes (sym (child-is k item b p (f .2))) (upper (λ q g o u. remove-free long h left q (omega arith) g o u)))
-    where
-      c : ℕ
-      c = below k item b p
-
-      UpperGoes : ℕ → Type 0
-      UpperGoes q =
-          let s : Step = removeUnder k left b item q in
-          let ps : List ℕ = emptiedFrom b item (entriesIn k b) h c ++ ifEmptied c (storeAfter b item (entriesIn k b) h c c) in
-          Freed qs ps b (afterChild k (s .after) p (through k item b p) q (s .outcome) .after)
-
-      upper : ((q : ℕ) → Filled k h b q → Distinct (treePages h (readTree (entriesIn k b) h q)) → Inside k b qs h q → Goes h left q) → UpperGoes c
-      upper rec =
-          let S = entriesIn k b in
-          let s : Step = removeUnder k left b item c in
-          let at = inside k item b p (f .2) in
-          let under : Filled k h b c = entry-all (λ e. Filled k h b (e .1)) (through k item b p) (S p) at (f .3) in
-          let once = child-distinct k item b p (f .2) h d in
-          let w : Removes k item b h left c = removes k item b long h left c (omega arith) under once in
-          let within : Inside k b qs h c = λ z o. i z (omega (arith, entry-pages S (suc h) z (through k item b p) (S p) at)) in
-          let apart = child-apart k item b p (f .2) h d in
-          let there = still-inside k item b p (f .2) h d s w (filled-page k h b c under .0) in
-          after-child-free (emptiedFrom b item S h c) (s .after) p (through k item b p) c (s .outcome) (storeAfter b item S h c c) (w .as-long) (f .0 .0)
-          (filled-page k h b c under) (i p (occ-here p (pagesOf S (suc h) (S p)))) (within c (occ-here c (pagesOf S h (S c))))
-          (omega (arith, apart, emptied-inside k item b h c p once)) (emptied-apart k item b h c once)
-          (λ e. occ-not-head p c (pagesOf S h (S c)) apart e) there (w .told)
-          (remove-heads k item b qs inside-qs plain long h left c (omega arith) under once within) (rec c under once within)
+  pub remove-free : (item : Item) → length (item .0) ≡ k → (h left p : ℕ) → h < left → Filled k h b p
+      → Distinct (treePages h (readTree (entriesIn k b) h p)) → Inside k b qs h p
+      → Freed qs (emptiedFrom b item (entriesIn k b) h p) b (removeUnder k left b item p .after)
+  remove-free item long h left p l f d i =
+      remove-keeps k item b qs (λ ps b′. Heads k qs ps b b′ × Freed qs ps b b′) free-keep long h left p l f d i .1

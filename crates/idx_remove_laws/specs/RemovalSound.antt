@@ -40,11 +40,11 @@ use Rattle.idx_page.specs.HeaderLaws.{GoodHeader, is-page, good-header, good-he
 use Rattle.idx_page.specs.Page.{attributeAt, countAt, rightAt, rootBit, leafBit, capacity}
 use Rattle.idx_page.specs.Reading.{entriesAt}
 use Rattle.idx_page.specs.ReadingLaws.{window-window, window-in-page, attribute-same, right-same}
-use Rattle.idx_layout.specs.Entries.{stored}
+use Rattle.idx_leaf.specs.Leaf.{stored}
 use Rattle.idx_layout.specs.WriteLaws.{capacity-least}
 use Rattle.idx_sound.specs.Sound.{indexTree, indexPages, keptBy, linksOf, zeros, FreePage, FreeList, CountGood, Sound}
 use Rattle.idx_sound.specs.IndexLaws.{indexOf, settingOf, sound-index, sound-linked, all-occ, once-page, index-sound}
-use Rattle.idx_remove.specs.Removal.{removedBuffer}
+use Rattle.idx_remove_page.specs.Removal.{removedBuffer}
 use Rattle.idx_layout_laws.specs.EntryLaws.{entriesIn, page-of}
 use Rattle.idx_layout_laws.specs.FreeLaws.{SameButFree, freePage}
 use Rattle.idx_layout_laws.specs.HeadLaws.{Head}

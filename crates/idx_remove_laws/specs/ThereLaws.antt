@@ -9,12 +9,12 @@ use Rattle.tree.specs.Pairs.{has}
 use Rattle.idx_page.specs.Header.{maxLevels, isPage, rootOffset, keyLength}
 use Rattle.idx_page.specs.Page.{attributeAt, leafBit}
 use Rattle.idx_page.specs.Reading.{Item}
-use Rattle.idx_layout.specs.Layout.{itemsIn}
-use Rattle.idx_layout.specs.Entries.{stored, chosenAt, childOf}
+use Rattle.idx_leaf.specs.Leaf.{itemsIn, stored}
+use Rattle.idx_route.specs.Route.{chosenAt, childOf}
 use Rattle.idx_sound.specs.Sound.{keptBy, Sound, leafPairs}
-use Rattle.idx_insert.specs.Room.{pathFrom}
+use Rattle.idx_path.specs.Room.{pathFrom}
 use Rattle.idx_insert_laws.specs.RoomLaws.{present-is}
-use Rattle.idx_remove.specs.Removal.{thereFrom, isThere}
+use Rattle.idx_path.specs.Presence.{thereFrom, isThere}
 
 -- removal's walk goes the path of an insertion
 there-path : (k left : ℕ) (b : List ℕ) (item : Item) (p : ℕ) → thereFrom k left b item p ≡ pathFrom k left b item p .present

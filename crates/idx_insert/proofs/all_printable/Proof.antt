@@ -1,4 +1,5 @@
--- `idx_insert::all_printable` meets its contract. The loop's invariant: the bytes passed are printable, so that the rule goes on from byte `i`. Assumes nothing.
+-- `idx_insert::all_printable` meets its contract. The loop's invariant: the bytes passed are printable, so that the rule goes on from byte `i`. Assumes
+-- nothing.
 use Prim.Native.Nat.{_≤_, _-_}
 use mathlib.Core.Path.{_≡_, refl, sym, _∙_}
 use borrow.Author.Needs.{needs}

@@ -9,9 +9,9 @@ use Rattle.idx_page.specs.Header.{maxLevels, keyLength, headerGood}
 use Rattle.idx_page.specs.HeaderLaws.{good-header}
 use Rattle.idx_sound.specs.AuditTest.{pagesGood}
 use Rattle.idx_sound.specs.Accepted.{audit-sound, audit-unsound}
-use Rattle.idx_insert.specs.declared.Path.{Path}
-use Rattle.idx_insert.specs.Room.{pathTo, noRoom}
-use Rattle.idx_insert.specs.RoomLaws.{path-levels, path-run}
+use Rattle.idx_path.specs.declared.Path.{Path}
+use Rattle.idx_path.specs.Room.{pathTo, noRoom}
+use Rattle.idx_path.specs.RoomLaws.{path-levels, path-run}
 use Rattle.idx_insert.specs.Calls.{hasControl}
 use Rattle.idx_insert.specs.CallLaws.{refused-24, refused-27, refused-32, refused-28, refused-25, refused-29, refused-30, accepted-pair}
 use borrow.Author.Needs.{needs}
