@@ -24,10 +24,11 @@ ghost use Rattle.idx_page.specs.Page.{entryArea};
 ghost use Rattle.idx_sound.specs.Sound.{zeros, Audited};
 ghost use Rattle.idx_page.specs.Children.{childrenOf, firstChild};
 ghost use Rattle.idx_sound.specs.AuditTest.{maxPages, laterPages, firstOf, lastOf, lastPair, leafEntriesGood, entriesFit, pageFits, attributeOf, chain};
-ghost use Rattle.idx_sound.specs.AuditTest.{counted, checkPages, checkRows, rowsUnder, rootLevel, nextLevel, levelsUnder, isFreePage, freeFits, checkFree, shapeGood};
+ghost use Rattle.idx_sound.specs.AuditTest.{counted, checkPages, checkRows, rowsUnder, rootLevel, nextLevel, levelsUnder};
+ghost use Rattle.idx_sound.specs.AuditTest.{isFreePage, freeFits, checkFree, shapeGood};
 ghost use Rattle.idx_sound.specs.AuditTest.{heightOf, down, lastChild, belowNext, upperEntries, upperPages, upperLevels, keysAboveGood, pagesGood};
-ghost use Rattle.idx_audit.specs.State.{InFile, EntriesWithin, keyFrom, pairFrom, comparedBytes, leafEntry, upperKey, meetPage, progressOf, levelOf, keysOf};
-ghost use Rattle.idx_audit.specs.State.{startAt, refusedAt, closedAt};
+ghost use Rattle.idx_audit.specs.State.{InFile, EntriesWithin, keyFrom, pairFrom, comparedBytes, leafEntry, upperKey, meetPage};
+ghost use Rattle.idx_audit.specs.State.{progressOf, levelOf, keysOf, startAt, refusedAt, closedAt};
 
 // What is known of the pages met on a level: whether all were good, the last page met, the page that its right link names, and how many pages of the file are
 // left that were not met.
@@ -382,7 +383,8 @@ fn next_level(index: &[u8], k: usize, size: usize, above: PageOffset, left: usiz
 }
 
 // Checks the levels from the root down to the leaves, to the first that is not good, or to the 15th, with `pages` pages left. The level under the root is
-// checked ahead of the loop: `next_level` has two callers so, and is compiled as a function of its own, whose loop over the entries of leaves has its registers.
+// checked ahead of the loop: `next_level` has two callers so, and is compiled as a function of its own, whose loop over the entries of leaves has its
+// registers.
 fn levels(index: &[u8], k: usize, size: usize, root: PageOffset, pages: usize) -> Level
     requires { ⌜ InFile (now index) k size × (0 < pages) ⌝ }
     ensures { λ r. ⌜

@@ -1,5 +1,5 @@
--- `idx_audit::leaf_entries` meets its contract. The loop's invariant: the entries passed are good, so that the last `left` entries, of which the first begins at
--- `at`, decide after the entry at `prior`. The page is told by the place `at₀` where the loop begins, at the first entry or at the second.
+-- `idx_audit::leaf_entries` meets its contract. The loop's invariant: the entries passed are good, so that the last `left` entries, of which the first begins
+-- at `at`, decide after the entry at `prior`. The page is told by the place `at₀` where the loop begins, at the first entry or at the second.
 -- Assumes nothing.
 use Prim.Native.Nat.{_-_, _<_}
 use mathlib.Core.Path.{refl}
@@ -39,7 +39,8 @@ begins c =
     let a = start .args in
     let pre = start .pre in
     ⊎-elim
-    (λ w. begins-second (a .index .now) (a .k) (a .page .0) (a .count) (a .last) _ _ _ _ placed (pre .2) _ (pre .1) (w .0 .taken) (w .1 .left) (w .2 .ensures) (w .4 .left) (w .5) (w .6) (w .7))
+    (λ w. begins-second (a .index .now) (a .k) (a .page .0) (a .count) (a .last)
+    _ _ _ _ placed (pre .2) _ (pre .1) (w .0 .taken) (w .1 .left) (w .2 .ensures) (w .4 .left) (w .5) (w .6) (w .7))
     (λ w. begins-first (a .index .now) (a .k) (a .page .0) (a .count) (a .last) _ _ _ _ placed (pre .2) (w .0 .left) (w .1) (w .2) (w .3))
     (c .if1 .came)
 
@@ -72,7 +73,8 @@ returns-2 c =
     let some = read .before in
     let placed = some .before .before in
     let a = placed .before .before .args in
-    leaf-off (a .index .now) (a .k) (a .page .0) (a .count) (a .last) _ _ _ (first placed) (omega (arith, some .if2 .left)) _ (leaf-zero _ _ _ _ _ (read .record-at .ensures) (c .if3 .taken)) refl
+    leaf-off (a .index .now) (a .k) (a .page .0) (a .count) (a .last)
+    _ _ _ (first placed) (omega (arith, some .if2 .left)) _ (leaf-zero _ _ _ _ _ (read .record-at .ensures) (c .if3 .taken)) refl
 
 add-at : tie.Need-add-at Inv-loop μ-loop
 add-at c = search needs
@@ -100,8 +102,13 @@ leaf-entry-requires c κs =
     let head = c .before in
     let inv = here head in
     let start = head .before .before .before .before .before in
-    let a = start .args in
-    (leaf-inside (a .index .now) (a .k) (a .page .0) (a .count) (a .last) _ _ _ inv (c .loop-test .taken) (start .pre .1), inv .2, head .loop .inv .1, head .before .compared .ensures)
+    let a = start .args in (
+      leaf-inside (a .index .now) (a .k) (a .page .0) (a .count) (a .last)
+          _ _ _ inv (c .loop-test .taken) (start .pre .1),
+      inv .2,
+      head .loop .inv .1,
+      head .before .compared .ensures,
+    )
 
 returns-3 : tie.Need-returns-3 Inv-loop μ-loop
 returns-3 c =
@@ -109,7 +116,8 @@ returns-3 c =
     let turn = tested .before in
     let head = turn .before in
     let a = head .before .before .before .before .before .args in
-    leaf-off (a .index .now) (a .k) (a .page .0) (a .count) (a .last) _ _ _ (here head) (turn .loop-test .taken) _ (tested .leaf-entry .ensures) (not-true _ (c .if4 .taken))
+    leaf-off (a .index .now) (a .k) (a .page .0) (a .count) (a .last)
+    _ _ _ (here head) (turn .loop-test .taken) _ (tested .leaf-entry .ensures) (not-true _ (c .if4 .taken))
 
 add-at-3 : tie.Need-add-at-3 Inv-loop μ-loop
 add-at-3 c = search needs
@@ -141,7 +149,8 @@ loop-again c =
     let start = head .before .before .before .before .before in
     let a = start .args in
     let inside = leaf-inside (a .index .now) (a .k) (a .page .0) (a .count) (a .last) _ _ _ inv more (start .pre .1) in (
-      rw same (leaf-on (a .index .now) (a .k) (a .page .0) (a .count) (a .last) _ _ _ inv more _ (tested .leaf-entry .ensures) (not-false _ (past .if4 .left)) (omega arith)),
+      rw same (leaf-on (a .index .now) (a .k) (a .page .0) (a .count) (a .last)
+          _ _ _ inv more _ (tested .leaf-entry .ensures) (not-false _ (past .if4 .left)) (omega arith)),
       entry-begins _ _ _ _ (inv .1),
     )
 

@@ -32,8 +32,8 @@ returns-2 c =
     let read = tested .before .before in
     let known = read .before in
     let pre = known .before .pre in
-    leaf-later _ _ _ _ _ (read .record-at .ensures) (tested .if1 .left) _ _ _ (λ j. known .shared-slice-known .given j .fits) (pre .1) (pre .0) (pre .2) (pre .3)
-    (ordered .key-order .ensures) (c .is-below .ensures)
+    leaf-later _ _ _ _ _ (read .record-at .ensures) (tested .if1 .left) _ _ _ (λ j. known .shared-slice-known .given j .fits)
+    (pre .1) (pre .0) (pre .2) (pre .3) (ordered .key-order .ensures) (c .is-below .ensures)
 
 pub leaf-entry-spec : {M : Type 1} → statement M
 leaf-entry-spec = tie.close (tie.spec record-at-requires returns key-order-requires is-below-requires returns-2)
