@@ -2,7 +2,7 @@
 -- on these keys. Assumes nothing.
 use Prim.Native.Nat.{ℕ, zero, suc, _+_, _-_, _≤_, _<_}
 use mathlib.Core.Path.{_≡_, refl, sym, ap, _∙_}
-use mathlib.Core.Bool.{Bool, true, false, not, _&&_, or-false}
+use mathlib.Core.Bool.{Bool, true, false, not, _&&_, _||_, or-false}
 use mathlib.Core.List.{List}
 use mathlib.Core.Option.{none}
 use native.Mathlib.Omega.{arith}
@@ -100,14 +100,23 @@ module _ (b : List ℕ) (k size h p n i x : ℕ) where
       unfolding keyFrom
       next-is = rw (from-on b k p n i more, ← ec, ← eq, ← ez, ne-eqb z 0 some-z)
 
-      pub next-below : r ≡ true → true ≡ belowNext b k size h (window b x k) (entriesFrom b k p (n - i) i)
+      next-below : r ≡ true → true ≡ belowNext b k size h (window b x k) (entriesFrom b k p (n - i) i)
       next-below t = sym (next-is ∙ clear-below (features b) (window b x k) (window b z k) (ap isBelow (sym eo) ∙ sym er ∙ t))
 
-      pub next-equal : {several same : Bool} → r ≡ false → several ≡ eqb (features b) 0 → same ≡ isEqual o
+      next-equal : {several same : Bool} → r ≡ false → several ≡ eqb (features b) 0 → same ≡ isEqual o
           → (several && same) ≡ belowNext b k size h (window b x k) (entriesFrom b k p (n - i) i)
       next-equal t es eq = sym (next-is
           ∙ clear-else (features b) (window b x k) (window b z k) (ap isBelow (sym eo) ∙ sym er ∙ t)
           ∙ rw (← eo, ← eq, ← es))
+
+      -- by the features: with several records to a key the key may equal the first leaf key, else not
+      pub next-several : {several same : Bool} → several ≡ eqb (features b) 0 → several ≡ true → same ≡ isEqual o
+          → (r || same) ≡ belowNext b k size h (window b x k) (entriesFrom b k p (n - i) i)
+      next-several es t eq = either r (λ u. rw u (next-below u)) (λ u. rw u (rw t at (next-equal u es eq)))
+
+      pub next-one : {several : Bool} → several ≡ eqb (features b) 0 → several ≡ false
+          → r ≡ belowNext b k size h (window b x k) (entriesFrom b k p (n - i) i)
+      next-one es t = either r (λ u. rw u (next-below u)) (λ u. rw u (rw t at (next-equal u es refl)))
 
 -- an order that is below is not equal
 below-unequal : (o : Ordering) → isBelow o ≡ true → isEqual o ≡ false

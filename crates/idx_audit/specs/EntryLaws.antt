@@ -1,6 +1,6 @@
 -- Laws: the entries of a page by number, the tests of one leaf entry, and the loop over leaf entries. Cited by the proofs of the functions on entries. Assumes
 -- nothing.
-use Prim.Native.Nat.{ℕ, zero, suc, _+_, _-_, _≤_, _<_}
+use Prim.Native.Nat.{ℕ, zero, suc, _+_, _-_, _*_, _≤_, _<_}
 use mathlib.Core.Path.{_≡_, refl, sym, ap, _∙_}
 use mathlib.Core.Bool.{Bool, true, false, not, _&&_}
 use mathlib.Core.List.{List, [], _∷_}
@@ -8,23 +8,20 @@ use mathlib.Core.Option.{Option, none, some}
 use native.Mathlib.Nat.{sub-zero}
 use native.Mathlib.Omega.{arith}
 use lib.ListN.{length}
-use lib.Dec.{eqb, ltb, leb}
-use borrow.Author.Tests.{eqb-true, eq-eqb, ne-eqb, ltb-true, ltb-false, le-leb, lt-leb}
-use Rattle.basis.specs.Tests.{either, contra}
-use Rattle.octets.specs.Bytes.{be32}
+use lib.Dec.{eqb}
+use borrow.Author.Tests.{eq-eqb, ne-eqb}
+use Rattle.octets.specs.Bytes.{byteAt, be32}
 use Rattle.octets.specs.Store.{window}
 use Rattle.octets.specs.declared.Ordering.{Ordering}
-use Rattle.octets.specs.Order.{bytesLe, ordering, isBelow, isEqual}
-use Rattle.tree.specs.Keeping.{pairOrder}
+use Rattle.octets.specs.Order.{ordering, isBelow}
 use Rattle.idx_page.specs.Header.{features}
-use Rattle.idx_page.specs.KeyOrder.{bytesOrder}
-use Rattle.idx_page.specs.KeyOrderLaws.{below, at-or-above, equal-le}
 use Rattle.idx_page.specs.Page.{entriesStart, entryOffset, keyAt, numberAt}
-use Rattle.idx_page.specs.PageLaws.{entry-first, entry-next, entry-low, entry-within}
+use Rattle.idx_page.specs.PageLaws.{entry-next, entry-low, entry-within}
 use Rattle.idx_page.specs.Reading.{entriesAt}
 use Rattle.idx_page.specs.ReadingLaws.{entriesFrom, entries-are, each-within}
 use Rattle.idx_sound.specs.AuditTest.{lastOf, lastPair, leafEntriesGood}
-use Rattle.idx_audit.specs.State.{InFile, EntriesWithin, keyFrom, pairFrom, leafEntry}
+use Rattle.idx_audit.specs.State.{InFile, EntriesWithin, keyFrom, pairFrom, comparedBytes, leafEntry}
+use Rattle.idx_audit.specs.ComparedLaws.{pairs-compared}
 
 -- the n entries that are read of a page lie within it
 pub entries-within : (b : List ℕ) (k size p n : ℕ) → n ≡ length (entriesAt k size b p) → InFile b k size → EntriesWithin b k p n
@@ -87,36 +84,6 @@ pub last-pair-none : (b : List ℕ) (k size p n : ℕ) → n ≡ length (entries
 unfolding pairFrom entriesFrom
 last-pair-none b k size p n en z = rw (entries-are b k size p n en, z)
 
--- a pair x after a pair a, by the order of their keys and a header's features f
-module _ (f : ℕ) (a x : List ℕ × ℕ) where
-  after-below : isBelow (ordering (a .0) (x .0)) ≡ true → not (pairOrder bytesOrder f x a) ≡ true
-  after-below e = go f (below (a .0) (x .0) refl e)
-    where
-      go : (g : ℕ) → bytesLe (x .0) (a .0) ≡ false → not (pairOrder bytesOrder g x a) ≡ true
-      go zero l = rw l
-      go (suc n) l = rw l
-
-  after-one : isBelow (ordering (a .0) (x .0)) ≡ false → eqb f 0 ≡ false → not (pairOrder bytesOrder f x a) ≡ false
-  after-one e = go f (at-or-above (a .0) (x .0) refl e)
-    where
-      go : (g : ℕ) → bytesLe (x .0) (a .0) ≡ true → eqb g 0 ≡ false → not (pairOrder bytesOrder g x a) ≡ false
-      go zero l z = contra refl z
-      go (suc n) l z = rw l
-
-  after-several : isBelow (ordering (a .0) (x .0)) ≡ false → eqb f 0 ≡ true →
-      not (pairOrder bytesOrder f x a) ≡ (isEqual (ordering (a .0) (x .0)) && ltb (a .1) (x .1))
-  after-several e = go f (at-or-above (a .0) (x .0) refl e)
-    where
-      later : not (leb (x .1) (a .1)) ≡ ltb (a .1) (x .1)
-      later = either (ltb (a .1) (x .1))
-          (λ u. rw (u, lt-leb (x .1) (a .1) (ltb-true (a .1) (x .1) u)))
-          (λ u. rw (u, le-leb (x .1) (a .1) (ltb-false (a .1) (x .1) u)))
-
-      go : (g : ℕ) → bytesLe (x .0) (a .0) ≡ true → eqb g 0 ≡ true →
-          not (pairOrder bytesOrder g x a) ≡ (isEqual (ordering (a .0) (x .0)) && ltb (a .1) (x .1))
-      go zero l z = rw (equal-le (a .0) (x .0) l, l) (either (bytesLe (a .0) (x .0)) (λ u. rw u later) (λ u. rw u))
-      go (suc n) l z = absurd (omega (arith, eqb-true (suc n) 0 z))
-
 -- one entry of a leaf, by its tests
 module _ (b : List ℕ) (k at z n : ℕ) (en : n ≡ be32 b (at + k)) where
   pub leaf-zero : n ≡ 0 → false ≡ leafEntry b k at z
@@ -127,25 +94,13 @@ module _ (b : List ℕ) (k at z n : ℕ) (en : n ≡ be32 b (at + k)) where
     unfolding pairFrom
     leaf-first h = rw (← en, ne-eqb n 0 positive, eq-eqb z 0 h)
 
-    -- after the entry at z; o is the order of their keys
-    module _ (o : Ordering) (later : z ≡ 0 → ⊥) (eo : o ≡ ordering (window b z k) (window b at k)) where
-      here : leafEntry b k at z ≡ not (pairOrder bytesOrder (features b) (window b at k, be32 b (at + k)) (window b z k, be32 b (z + k)))
-      unfolding pairFrom
-      here = rw (← en, ne-eqb n 0 positive, ne-eqb z 0 later)
-
-      pub leaf-below : {r : Bool} → r ≡ isBelow o → r ≡ true → true ≡ leafEntry b k at z
-      leaf-below er t = sym (here
-          ∙ after-below (features b) (window b z k, be32 b (z + k)) (window b at k, be32 b (at + k)) (ap isBelow (sym eo) ∙ sym er ∙ t))
-
-      pub leaf-one : {r several : Bool} → r ≡ isBelow o → r ≡ false → several ≡ eqb (features b) 0 → several ≡ false → false ≡ leafEntry b k at z
-      leaf-one er t es u = sym (here
-          ∙ after-one (features b) (window b z k, be32 b (z + k)) (window b at k, be32 b (at + k)) (ap isBelow (sym eo) ∙ sym er ∙ t) (sym es ∙ u))
-
-      pub leaf-several : {r same several : Bool} (m : ℕ) → r ≡ isBelow o → r ≡ false → several ≡ eqb (features b) 0 → several ≡ true →
-          same ≡ isEqual o → m ≡ be32 b (z + k) → (same && ltb m n) ≡ leafEntry b k at z
-      leaf-several m er t es u eq em = sym (here
-          ∙ after-several (features b) (window b z k, be32 b (z + k)) (window b at k, be32 b (at + k)) (ap isBelow (sym eo) ∙ sym er ∙ t) (sym es ∙ u)
-          ∙ rw (← eo, ← eq, ← em, ← en))
+    -- after the entry at z; o is the order of the m bytes that are compared
+    pub leaf-later : (m : ℕ) (o : Ordering) (r : Bool) → ((j : ℕ) → byteAt b j < 256) → z + (k + 4) ≤ length b → at + (k + 4) ≤ length b → 0 < z
+        → m ≡ comparedBytes (features b) k → o ≡ ordering (window b z m) (window b at m) → r ≡ isBelow o → r ≡ leafEntry b k at z
+    unfolding pairFrom
+    leaf-later m o r small hz ha later em eo er =
+        er ∙ ap isBelow eo ∙ pairs-compared b small k z at hz ha (features b) m em
+        ∙ rw (← en, ne-eqb n 0 positive, ne-eqb z 0 (omega arith))
 
 -- the loop over the n entries of a leaf, after the entry at z₀: the entries from entry i on, after the entry at z, decide
 abbrev LeafLeft : List ℕ → ℕ → ℕ → ℕ → ℕ → ℕ → ℕ → Type 0
@@ -156,9 +111,16 @@ LeafLeft b k p n z₀ i z =
 abbrev pub LeafLoop : List ℕ → ℕ → ℕ → ℕ → ℕ → ℕ → ℕ → ℕ → Type 0
 LeafLoop b k p n z₀ at z left = (left ≤ n) × (at ≡ entryOffset k p (n - left)) × (z + (k + 4) ≤ length b) × LeafLeft b k p n z₀ (n - left) z
 
--- the page whose first entry begins at `at`
-pub page-of : (k p at : ℕ) → at ≡ entryOffset k p 0 → at - entriesStart ≡ p
-page-of k p at e = omega (arith, e, entry-first k p)
+-- the page of which entry i begins at `at`
+abbrev pub pageOf : ℕ → ℕ → ℕ → ℕ
+pageOf k at i = at - (entriesStart + i * (k + 4))
+
+pub page-of : (k p at i : ℕ) → at ≡ entryOffset k p i → pageOf k at i ≡ p
+unfolding entryOffset
+page-of k p at i e = rw e (apart (i * (k + 4)))
+  where
+    apart : (m : ℕ) → p + entriesStart + m - (entriesStart + m) ≡ p
+    apart m = omega arith
 
 pub leaf-start : (b : List ℕ) (k p n z at : ℕ) → at ≡ entryOffset k p 0 → z + (k + 4) ≤ length b → LeafLoop b k p n z at z n
 leaf-start b k p n z at e h =
@@ -195,3 +157,23 @@ module _ (b : List ℕ) (k p n z₀ at z left : ℕ) (inv : LeafLoop b k p n z�
           let most = inv .0 in
           let next : n - (left - 1) ≡ n - left + 1 = omega arith in
           (omega arith, rw next (ap (λ (x : ℕ). x + (k + 4)) (inv .1) ∙ sym (entry-next k p i)), h, rw next (leaf-step ∙ rw (e, inv .1, some-pair b k p i)))
+
+-- the loop begins at the first entry, if there is an entry before it; else at the second, after a first one that has a record number
+module _ (b : List ℕ) (k p n z₀ first at z left : ℕ) (placed : first ≡ entryOffset k p 0) (h : z₀ + (k + 4) ≤ length b) where
+  pub begins-first : (z₀ ≡ 0 → ⊥) → at ≡ first → z ≡ z₀ → left ≡ n → LeafLoop b k p n z₀ at z left × (0 < z)
+  begins-first later ea ez el = rw (ea, ez, el) (leaf-start b k p n z₀ first placed h, omega (arith, later))
+
+  pub begins-second : (m : ℕ) → EntriesWithin b k p n → z₀ ≡ 0 → (n ≡ 0 → ⊥) → m ≡ be32 b (first + k) → (m ≡ 0 → ⊥)
+      → at ≡ first + (k + 4) → z ≡ first → left ≡ n - 1 → LeafLoop b k p n z₀ at z left × (0 < z)
+  begins-second m w alone filled em positive ea ez el =
+      let inv = leaf-start b k p n z₀ first placed h in
+      let more : 0 < n = omega (arith, filled) in
+      let inside = leaf-inside b k p n z₀ first z₀ n inv more w in
+      rw (ea, ez, el) (
+        leaf-on b k p n z₀ first z₀ n inv more true (leaf-first b k first z₀ m em positive alone) refl inside,
+        omega (arith, placed, entry-low k p 0),
+      )
+
+-- an entry begins after the start of its file
+pub entry-begins : (k p at i : ℕ) → at ≡ entryOffset k p i → 0 < at
+entry-begins k p at i e = omega (arith, e, entry-low k p i)

@@ -2,6 +2,8 @@
 
 -- Steps: the audit's values as its test has them, and what its inner functions ask of the buffer
 pub mod State
+-- Laws: the bytes of leaf entries that are compared
+pub mod ComparedLaws
 -- Laws: the tests of leaf entries, and the loop over them
 pub mod EntryLaws
 -- Laws: the tests of one page

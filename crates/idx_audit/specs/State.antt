@@ -38,6 +38,10 @@ keyFrom b k z = cond (eqb z 0) none (some (window b z k))
 unfoldable pub pairFrom : List ℕ → ℕ → ℕ → Option (List ℕ × ℕ)
 pairFrom b k z = cond (eqb z 0) none (some (window b z k, be32 b (z + k)))
 
+-- how many bytes of two leaf entries tell which is above the other, by a header's features f: those of the keys, or for features 0 of the whole entries
+abbrev pub comparedBytes : ℕ → ℕ → ℕ
+comparedBytes f k = k + cond (eqb f 0) 4 0
+
 -- the entry of a leaf that begins at `at` has a record number above 0, and a pair above that of the entry that begins at z
 abbrev pub leafEntry : List ℕ → ℕ → ℕ → ℕ → Bool
 leafEntry b k at z = not (eqb (be32 b (at + k)) 0) && isAbove (features b) (pairFrom b k z) (window b at k, be32 b (at + k))

@@ -1,19 +1,19 @@
 -- Laws: one page of the audit, by its tests. Cited by the proofs of the functions that check a page. Assumes nothing.
 use Prim.Native.Nat.{ℕ, _+_, _-_, _≤_, _<_}
-use mathlib.Core.Path.{_≡_, refl, _∙_}
+use mathlib.Core.Path.{_≡_, refl, sym, _∙_}
 use mathlib.Core.Bool.{Bool, true, false, _&&_}
 use mathlib.Core.List.{List}
 use mathlib.Core.Option.{none}
 use native.Mathlib.Omega.{arith}
 use lib.ListN.{length}
-use lib.Dec.{eqb}
-use borrow.Author.Tests.{le-leb, lt-leb}
+use lib.Dec.{eqb, leb}
+use borrow.Author.Tests.{leb-true, le-leb, lt-leb}
 use Rattle.basis.specs.Tests.{contra, both}
 use Rattle.idx_page.specs.Header.{pageSize, features, isPage}
 use Rattle.idx_page.specs.HeaderLaws.{IsPage, is-page}
-use Rattle.idx_page.specs.Page.{attributeAt, countAt, leftAt, rightAt, leafBit, countGood}
+use Rattle.idx_page.specs.Page.{attributeAt, countAt, leftAt, rightAt, leafBit, capacity, countGood}
 use Rattle.idx_page.specs.Reading.{entriesAt}
-use Rattle.idx_page.specs.ReadingLaws.{entriesFrom, entries-are}
+use Rattle.idx_page.specs.ReadingLaws.{entriesFrom, entries-are, count-read}
 use Rattle.idx_sound.specs.AuditTest as rule
 use Rattle.idx_sound.specs.AuditTest.{lastPair, leafEntriesGood, entriesFit, pageFits, counted, checkPage}
 use Rattle.idx_audit.specs.declared.Progress.{Progress}
@@ -55,6 +55,13 @@ module _ (b : List ℕ) (k size a p last next : ℕ) where
     pub fits-not : (eqb x a && (c && (eqb z last && eqb next p))) ≡ false → false ≡ pageFits b k size a p last next
     unfolding pageFits
     fits-not t = rw (e, ← ex, ← ey, ← ez, ← ec) (and-false (eqb x a) c (eqb z last) (eqb next p) (entriesFit b k size a last p) t)
+
+    -- the count of a page that passes is that of the entries that are read of it
+    pub fits-count : (eqb x a && (c && (eqb z last && eqb next p))) ≡ true → y ≡ length (entriesAt k size b p)
+    unfolding countGood
+    fits-count t =
+        let good : countGood k a y ≡ true = sym ec ∙ both c _ (both (eqb x a) _ t .1) .0 in
+        count-read b k size p e y ey (leb-true y (capacity k) (both (leb y (capacity k)) _ good .0))
 
     pub fits-then : (eqb x a && (c && (eqb z last && eqb next p))) ≡ true → (r : Bool) → r ≡ entriesFit b k size a last p → r ≡ pageFits b k size a p last next
     unfolding pageFits

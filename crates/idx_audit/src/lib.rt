@@ -24,10 +24,11 @@ ghost use Rattle.idx_page.specs.Page.{entryArea};
 ghost use Rattle.idx_sound.specs.Sound.{zeros, Audited};
 ghost use Rattle.idx_page.specs.Children.{childrenOf, firstChild};
 ghost use Rattle.idx_sound.specs.AuditTest.{maxPages, laterPages, firstOf, lastOf, lastPair, leafEntriesGood, entriesFit, pageFits, attributeOf, chain};
-ghost use Rattle.idx_sound.specs.AuditTest.{counted, checkPages, checkRows, rowsUnder, rootLevel, nextLevel, levelsUnder, isFreePage, freeFits, checkFree, shapeGood};
+ghost use Rattle.idx_sound.specs.AuditTest.{counted, checkPages, checkRows, rowsUnder, rootLevel, nextLevel, levelsUnder};
+ghost use Rattle.idx_sound.specs.AuditTest.{isFreePage, freeFits, checkFree, shapeGood};
 ghost use Rattle.idx_sound.specs.AuditTest.{heightOf, down, lastChild, belowNext, upperEntries, upperPages, upperLevels, keysAboveGood, pagesGood};
-ghost use Rattle.idx_audit.specs.State.{InFile, EntriesWithin, keyFrom, pairFrom, leafEntry, upperKey, meetPage, progressOf, levelOf, keysOf};
-ghost use Rattle.idx_audit.specs.State.{startAt, refusedAt, closedAt};
+ghost use Rattle.idx_audit.specs.State.{InFile, EntriesWithin, keyFrom, pairFrom, comparedBytes, leafEntry, upperKey, meetPage};
+ghost use Rattle.idx_audit.specs.State.{progressOf, levelOf, keysOf, startAt, refusedAt, closedAt};
 
 // What is known of the pages met on a level: whether all were good, the last page met, the page that its right link names, and how many pages of the file are
 // left that were not met.
@@ -79,43 +80,45 @@ pub fn key_order(index: &[u8], k: usize, x: usize, y: usize) -> Ordering
     octets::compare(&index[x..x_end], &index[y..y_end])
 }
 
-// Whether the entry of a leaf that begins at `at` has a record number above 0, and comes after the entry that begins at `last`, if that is not 0: its key is
-// above, or equal with a higher record number if a key may have several records.
-fn leaf_entry(index: &[u8], k: usize, several: bool, at: usize, last: usize) -> bool
+// By how many bytes more than the keys entries are compared: none, or the four of their record numbers if a key may have several records.
+fn more_compared(index: &[u8]) -> usize
+    requires { ⌜ pageSize ≤ length (now index) ⌝ }
+    ensures { λ r. ⌜ r ≡ cond (eqb (features (now (index .entry))) 0) 4 0 ⌝ }
+{
+    if idx_page::several(index) {
+        return 4;
+    }
+    0
+}
+
+// How many bytes of two entries tell which is above the other: those of the keys, or of the whole entries if a key may have several records, since the first
+// byte of a record number is its highest.
+fn compared(index: &[u8], k: usize) -> usize
+    requires { ⌜ (k ≤ maxKey) × (pageSize ≤ length (now index)) ⌝ }
+    ensures { λ r. ⌜ r ≡ comparedBytes (features (now (index .entry))) k ⌝ }
+{
+    k + more_compared(index)
+}
+
+// Whether the entry of a leaf that begins at `at` has a record number above 0, and comes after the entry that begins at `last`; n bytes tell it.
+fn leaf_entry(index: &[u8], k: usize, n: usize, at: usize, last: usize) -> bool
     requires { ⌜
-        (at + (k + 4) ≤ length (now index)) × (last + (k + 4) ≤ length (now index)) × (several ≡ eqb (features (now index)) 0)
+        (at + (k + 4) ≤ length (now index)) × (last + (k + 4) ≤ length (now index)) × (0 < last) × (n ≡ comparedBytes (features (now index)) k)
         ⌝ }
     ensures { λ r. ⌜ r ≡ leafEntry (now (index .entry)) k at last ⌝ }
 {
-    let number = idx_page::record_at(index, k, at).0;
-    if number == 0 {
+    if idx_page::record_at(index, k, at).0 == 0 {
         return false;
     }
-    if last == 0 {
-        return true;
-    }
-    let order = key_order(index, k, last, at);
-    if octets::is_below(order) {
-        return true;
-    }
-    if !several {
-        return false;
-    }
-    octets::is_equal(order) & (idx_page::record_at(index, k, last).0 < number)
+    octets::is_below(key_order(index, n, last, at))
 }
 
-// Whether the first `count` entries of a leaf are good, each after the entry before it. An entry's place is carried along, since a product for each entry would
-// cost the audit of keys of 10 bytes a seventh more instructions.
-fn leaf_entries(
-    index: &[u8],
-    k: usize,
-    several: bool,
-    page: PageOffset,
-    count: usize,
-    last: usize,
-) -> bool
+// Whether the first `count` entries of a leaf are good, each after the entry before it; the first has none before it if `last` is 0. An entry's place is
+// carried along, since a product for each entry would cost the audit of keys of 10 bytes a seventh more instructions; and the first entry of all is asked for
+// ahead of the loop, since a test for each entry would cost a tenth.
+fn leaf_entries(index: &[u8], k: usize, page: PageOffset, count: usize, last: usize) -> bool
     requires { ⌜
-        (k ≤ maxKey) × EntriesWithin (now index) k (page .0) count × (last + (k + 4) ≤ length (now index)) × (several ≡ eqb (features (now index)) 0)
+        (k ≤ maxKey) × EntriesWithin (now index) k (page .0) count × (last + (k + 4) ≤ length (now index)) × (pageSize ≤ length (now index))
         ⌝ }
     ensures { λ r. ⌜
         r ≡ leafEntriesGood (features (now (index .entry))) (pairFrom (now (index .entry)) k last) (entriesFrom (now (index .entry)) k (page .0) count 0)
@@ -124,8 +127,20 @@ fn leaf_entries(
     let mut at = idx_page::entry_offset(k, page, 0);
     let mut prior = last;
     let mut left = count;
+    if last == 0 {
+        if count == 0 {
+            return true;
+        }
+        if idx_page::record_at(index, k, at).0 == 0 {
+            return false;
+        }
+        prior = at;
+        at += k + 4;
+        left -= 1;
+    }
+    let n = compared(index, k);
     while 0 < left {
-        if !leaf_entry(index, k, several, at, prior) {
+        if !leaf_entry(index, k, n, at, prior) {
             return false;
         }
         prior = at;
@@ -135,7 +150,7 @@ fn leaf_entries(
     true
 }
 
-// Whether the entries of a page are good if it is a leaf, which the attribute tells, with `last` on its left.
+// Whether the entries of a page, of which there are `count`, are good if it is a leaf, which the attribute tells, with `last` on its left.
 fn entries_fit(
     index: &[u8],
     k: usize,
@@ -143,16 +158,16 @@ fn entries_fit(
     attribute: u32,
     last: PageOffset,
     page: PageOffset,
+    count: usize,
 ) -> bool
-    requires { ⌜ InFile (now index) k size ⌝ }
+    requires { ⌜ InFile (now index) k size × (count ≡ length (entriesAt k size (now index) (page .0))) ⌝ }
     ensures { λ r. ⌜ r ≡ entriesFit (now (index .entry)) k size attribute (last .0) (page .0) ⌝ }
 {
     if !idx_page::is_leaf(attribute) {
         return true;
     }
-    let count = idx_page::entry_count(index, k, size, page);
     let prior = last_key(index, k, size, last);
-    leaf_entries(index, k, idx_page::several(index), page, count, prior)
+    leaf_entries(index, k, page, count, prior)
 }
 
 // Whether a page has the attribute, a good count, links that agree with those of `last` on its left, and good entries.
@@ -177,7 +192,7 @@ fn page_fits(
             & ((head.left.0 == last.0) & (next.0 == page.0)))) {
         return false;
     }
-    entries_fit(index, k, size, attribute, last, page)
+    entries_fit(index, k, size, attribute, last, page, head.count as usize)
 }
 
 // A page was not good, or too few were left. Nothing else is kept: what is kept has to be at hand in the loop over the entries of leaves, since it ends there.
@@ -368,7 +383,8 @@ fn next_level(index: &[u8], k: usize, size: usize, above: PageOffset, left: usiz
 }
 
 // Checks the levels from the root down to the leaves, to the first that is not good, or to the 15th, with `pages` pages left. The level under the root is
-// checked ahead of the loop: `next_level` has two callers so, and is compiled as a function of its own, whose loop over the entries of leaves has its registers.
+// checked ahead of the loop: `next_level` has two callers so, and is compiled as a function of its own, whose loop over the entries of leaves has its
+// registers.
 fn levels(index: &[u8], k: usize, size: usize, root: PageOffset, pages: usize) -> Level
     requires { ⌜ InFile (now index) k size × (0 < pages) ⌝ }
     ensures { λ r. ⌜
@@ -544,10 +560,10 @@ fn below_next(
         return false;
     }
     let order = key_order(index, k, key, first);
-    if octets::is_below(order) {
-        return true;
+    if idx_page::several(index) {
+        return octets::is_below(order) | octets::is_equal(order);
     }
-    idx_page::several(index) & octets::is_equal(order)
+    octets::is_below(order)
 }
 
 // The key of entry i, above a child that has `under` levels under it: whether it is a ceiling, at or above the last leaf key under the child, and below the

@@ -1,7 +1,7 @@
 -- `idx_audit::below_next` meets its contract: test for test.
 -- Assumes nothing.
 use borrow.Author.Needs.{needs}
-use Rattle.idx_audit.specs.CeilingLaws.{next-end, next-none, next-below, next-equal}
+use Rattle.idx_audit.specs.CeilingLaws.{next-end, next-none, next-several, next-one}
 use Rattle.idx_audit.proofs.below_next.Statement.{statement}
 use Rattle.idx_audit.proofs.below_next.Tie as tie
 
@@ -27,36 +27,42 @@ returns-2 c =
 key-order-requires : tie.Need-key-order-requires
 key-order-requires c κs = search needs
 
-is-below-requires : tie.Need-is-below-requires
-is-below-requires c κs = search needs
-
-returns-3 : tie.Need-returns-3
-returns-3 c =
-    let compared = c .before in
-    let tested = compared .before .before in
-    let first = tested .before in
-    let down = first .before in
-    let child = down .before in
-    next-below _ _ _ _ _ _ _ _ _ _ _ (search needs) (child .child .ensures) (down .first-under .ensures) (first .first-key .ensures .0) _ _ (tested .if2 .left)
-    (compared .before .key-order .ensures) (compared .is-below .ensures) (c .if3 .taken)
-
 several-requires : tie.Need-several-requires
 several-requires c κs = search needs
+
+is-below-requires : tie.Need-is-below-requires
+is-below-requires c κs = search needs
 
 is-equal-requires : tie.Need-is-equal-requires
 is-equal-requires c κs = search needs
 
-returns-4 : tie.Need-returns-4
-returns-4 c =
-    let read = c .before in
-    let above = read .before in
-    let compared = above .before in
-    let tested = compared .before .before in
+returns-3 : tie.Need-returns-3
+returns-3 c =
+    let lower = c .before in
+    let chosen = lower .before in
+    let asked = chosen .before in
+    let compared = asked .before in
+    let tested = compared .before in
     let first = tested .before in
     let down = first .before in
     let child = down .before in
-    next-equal _ _ _ _ _ _ _ _ _ _ _ (search needs) (child .child .ensures) (down .first-under .ensures) (first .first-key .ensures .0) _ _ (tested .if2 .left)
-    (compared .before .key-order .ensures) (compared .is-below .ensures) (above .if3 .left) (read .several .ensures) (c .is-equal .ensures)
+    next-several _ _ _ _ _ _ _ _ _ _ _ (search needs) (child .child .ensures) (down .first-under .ensures) (first .first-key .ensures .0) _ _
+    (tested .if2 .left) (compared .key-order .ensures) (lower .is-below .ensures) (asked .several .ensures) (chosen .if3 .taken) (c .is-equal .ensures)
+
+is-below-requires-2 : tie.Need-is-below-requires-2
+is-below-requires-2 c κs = search needs
+
+returns-4 : tie.Need-returns-4
+returns-4 c =
+    let chosen = c .before in
+    let asked = chosen .before in
+    let compared = asked .before in
+    let tested = compared .before in
+    let first = tested .before in
+    let down = first .before in
+    let child = down .before in
+    next-one _ _ _ _ _ _ _ _ _ _ _ (search needs) (child .child .ensures) (down .first-under .ensures) (first .first-key .ensures .0) _ _
+    (tested .if2 .left) (compared .key-order .ensures) (c .is-below2 .ensures) (asked .several .ensures) (chosen .if3 .left)
 
 pub below-next-spec : {M : Type 1} → statement M
 below-next-spec =
@@ -68,8 +74,9 @@ below-next-spec =
     first-key-requires
     returns-2
     key-order-requires
-    is-below-requires
-    returns-3
     several-requires
+    is-below-requires
     is-equal-requires
+    returns-3
+    is-below-requires-2
     returns-4)

@@ -6,7 +6,7 @@ use native.Mathlib.Omega.{arith}
 use borrow.Author.Tests.{not-true, not-false}
 use Rattle.idx_page.specs.Header.{isPage}
 use Rattle.idx_page.specs.HeaderLaws.{is-page}
-use Rattle.idx_audit.specs.StepLaws.{fits-no-page, fits-not, fits-then}
+use Rattle.idx_audit.specs.StepLaws.{fits-no-page, fits-not, fits-count, fits-then}
 use borrow.Author.Needs.{needs}
 use Rattle.basis.specs.Tests.{passed, failed}
 use Rattle.idx_audit.proofs.page_fits.Statement.{statement}
@@ -42,12 +42,22 @@ returns-2 c =
     fits-not _ _ _ _ _ _ _ (inside (head read .before)) _ _ _ _ (is .0) (is .1 .0) (is .1 .1 .0) (counted read .count-good .ensures)
     (not-true _ (c .if2 .taken))
 
+cast-entries-fit : tie.Need-cast-entries-fit
+cast-entries-fit c = search needs
+
 entries-fit-requires : tie.Need-entries-fit-requires
-entries-fit-requires c κs = search needs
+entries-fit-requires c κs =
+    let tested = c .before in
+    let read = tested .before in
+    let is = head read .at .ensures in (
+      head read .before .before .before .before .pre,
+      fits-count _ _ _ _ _ _ _ (inside (head read .before)) _ _ _ _ (is .0) (is .1 .0) (is .1 .1 .0) (counted read .count-good .ensures)
+          (not-false _ (tested .if2 .left)),
+    )
 
 returns-3 : tie.Need-returns-3
 returns-3 c =
-    let tested = c .before in
+    let tested = c .before .before in
     let read = tested .before in
     let is = head read .at .ensures in
     fits-then _ _ _ _ _ _ _ (inside (head read .before)) _ _ _ _ (is .0) (is .1 .0) (is .1 .1 .0) (counted read .count-good .ensures)
@@ -62,5 +72,6 @@ page-fits-spec =
     at-requires
     count-good-requires
     returns-2
+    cast-entries-fit
     entries-fit-requires
     returns-3)
