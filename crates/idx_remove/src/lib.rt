@@ -2,23 +2,19 @@
 use idx_layout::Visit;
 use idx_page::PageOffset;
 use idx_page::RecordNumber;
+use refusal::Change;
 ghost use mathlib.Core.Path.{_≡_};
 ghost use mathlib.Core.Bool.{Bool, true};
 ghost use Prim.Native.Nat.{ℕ, _≤_};
 ghost use lib.ListN.{length};
+ghost use Rattle.refusal.specs.After.{left};
 ghost use Rattle.idx_page.specs.Header.{maxKey, isPage, keyLength, headerGood};
 ghost use Rattle.idx_layout.specs.Layout.{itemsIn};
 ghost use Rattle.idx_layout.specs.Entries.{stored, placeIn};
 ghost use Rattle.idx_layout.specs.Given.{roomSize};
 ghost use Rattle.idx_remove.specs.Removal.{step, takeOut, afterChild, thereFrom, isThere, removeUnder, atRoot, removedBuffer};
 ghost use Rattle.idx_remove.specs.Answers.{outcomeOf, EmptiedPage};
-ghost use Rattle.idx_remove.specs.Calls.{afterCall, removeRule};
-
-// What a removal answers.
-pub enum Removal {
-    Accepted,
-    Refused(u32),
-}
+ghost use Rattle.idx_remove.specs.Calls.{removeRule};
 
 // What a removal under a page leaves for the page above to do: nothing; or to free the page, which has no entry left; or it met no page.
 pub enum Outcome {
@@ -172,21 +168,21 @@ fn is_there(index: &[u8], key: &[u8], number: RecordNumber) -> bool
 }
 
 // Removes `key` with its record number, `number`; if keys are distinct, the number is not looked at.
-pub fn remove(index: &mut [u8], key: &[u8], number: RecordNumber) -> Removal
-    ensures { λ r. ⌜ removeRule (now (index .entry)) (now (key .entry)) (number .0) ≡ afterCall (now (index .exit)) r ⌝ }
+pub fn remove(index: &mut [u8], key: &[u8], number: RecordNumber) -> Change
+    ensures { λ r. ⌜ removeRule (now (index .entry)) (now (key .entry)) (number .0) ≡ left (now (index .exit)) r ⌝ }
 {
     if !idx_page::header_good(index) {
-        return Removal::Refused(refusal::INDEX_HEADER);
+        return Change::Refused(refusal::INDEX_HEADER);
     }
     if key.len() != idx_page::key_length(index) {
-        return Removal::Refused(refusal::KEY_LENGTH);
+        return Change::Refused(refusal::KEY_LENGTH);
     }
     if idx_audit::audit(index) != 0 {
-        return Removal::Refused(refusal::INDEX_NOT_SOUND);
+        return Change::Refused(refusal::INDEX_NOT_SOUND);
     }
     if !is_there(index, key, number) {
-        return Removal::Refused(refusal::KEY_ABSENT);
+        return Change::Refused(refusal::KEY_ABSENT);
     }
     remove_pair(index, key, number);
-    Removal::Accepted
+    Change::Made
 }
