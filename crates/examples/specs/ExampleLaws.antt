@@ -45,8 +45,8 @@ unfolding examples answer ascii reading.readNumber format.formatGood chars.every
     tree100.grown store.put layout.encode layout.area layout.withEntries layout.newPage layout.linkBeyond layout.splitPage entries.raised insertion.takeIn
     insertion.insertUnder insertion.insertedBuffer fresh.freshHeader fresh.freshBuffer fresh.freshChecks fresh.freshRule fresh.printable
     fresh.expressionGood room.pathFrom room.noRoom calls.insertChecks calls.insertRule checks.unless after.madeUnless supply.supplyOf supply.takePage
-    supply.supplyAfter supply.withSupply calls.hasControl reading.wholeMissing
-    reading.zeroDropped audit.down header.freeGood audit.isFreePage audit.freeFits audit.checkFree
+    supply.supplyAfter supply.withSupply calls.hasControl reading.wholeMissing reading.zeroDropped reading.numberChecks audit.down header.freeGood
+    audit.isFreePage audit.freeFits audit.checkFree
 examples-hold = refl
 
 -- the audit's tests of the tree in 000
