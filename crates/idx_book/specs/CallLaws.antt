@@ -195,8 +195,8 @@ module _ (k f size : ℕ) (b : List ℕ) (kept : Kept k f size b) where
       (lookup-by b key s (long-key key t))
 
   misfit : (key : List ℕ) → fits k key ≡ false → lookupRule b key ≡ looked.Refused 27
-  unfolding lookupRule
-  misfit key t = rw (s .header, same-fit key ∙ t, lookupRule)
+  unfolding lookupRule unless
+  misfit key t = rw (s .header, same-fit key ∙ t)
 
   lookup-answers : (key : List ℕ) → answerTo (lookupOf key) b ≡ answer own (barcodes k) (lookupOf key) (readIndex b)
   lookup-answers key = either (fits k key)
