@@ -5,7 +5,8 @@ use mathlib.Core.List.{List, [], _∷_, _++_}
 use mathlib.Core.Bool.{Bool, cond, _&&_}
 use lib.ListN.{length, take}
 use lib.Dec.{eqb, leb}
-use Rattle.refusal.specs.Checks.{firstRefusal}
+use Rattle.refusal.specs.After.{After, left}
+use Rattle.refusal.specs.Checks.{firstRefusal, unless}
 use Rattle.octets.specs.Bytes.{byteAt, toLe32}
 use Rattle.octets.specs.Store.{put, window}
 use Rattle.calendar.specs.DateText.{dateOf}
@@ -99,8 +100,11 @@ recordChecks t room r =
 unfoldable pub recordRefusal : List ℕ → ℕ → List ℕ → ℕ
 recordRefusal t room r = firstRefusal (recordChecks t room r)
 
+abbrev pub appendChecks : List ℕ → ℕ → List ℕ → List (Bool × ℕ)
+appendChecks b n r = heldChecks b n (recordChecks (take n b) (length b) r)
+
 unfoldable pub appendRefusal : List ℕ → ℕ → List ℕ → ℕ
-appendRefusal b n r = firstRefusal (heldChecks b n (recordChecks (take n b) (length b) r))
+appendRefusal b n r = firstRefusal (appendChecks b n r)
 
 -- ---- the stores
 
@@ -126,25 +130,18 @@ countWrite t = record { place = countPlace; bytes = toLe32 (recordCount t + 1) }
 
 -- ---- the answer
 
--- a buffer after a call, and the answer
-pub record Done : Type 0 where
-  pub after : List ℕ
-  pub answer : Appended
-
-abbrev pub done : List ℕ → Appended → Done
-done b a = record { after = b; answer = a }
-
 -- both stores made in a buffer that begins with the table; "Append changes only two stores' bytes and answers both, place and length each"
-unfoldable pub stored : List ℕ → List ℕ → Done
+unfoldable pub stored : List ℕ → List ℕ → After Appended
 stored b r =
-    done (write (countWrite b) (write (recordWrite b r) b)) (record { refusal = 0; first = told (recordWrite b r); second = told (countWrite b) })
+    left (write (countWrite b) (write (recordWrite b r) b)) (record { refusal = 0; first = told (recordWrite b r); second = told (countWrite b) })
+
+-- a refusal by a number: no store is made
+abbrev pub unstored : ℕ → Appended
+unstored n = let nothing : Store = record { place = 0; length = 0 } in record { refusal = n; first = nothing; second = nothing }
 
 -- what append leaves and answers; a refusal leaves the buffer as it was
-unfoldable pub appendRule : List ℕ → ℕ → List ℕ → Done
-appendRule b n r =
-    let refusal = appendRefusal b n r in
-    let nothing : Store = record { place = 0; length = 0 } in
-    cond (eqb refusal 0) (stored b r) (done b (record { refusal = refusal; first = nothing; second = nothing }))
+unfoldable pub appendRule : List ℕ → ℕ → List ℕ → After Appended
+appendRule b n r = unless (appendChecks b n r) (λ refusal. left b (unstored refusal)) (stored b r)
 
 -- what the stores rest on: the header's numbers are there, the record has R bytes, and the new end lies in the buffer
 pub record Appendable (b r : List ℕ) : Type 0 where

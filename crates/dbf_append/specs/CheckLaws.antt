@@ -10,7 +10,9 @@ use lib.Seq.{getD-take, length-take-le}
 use lib.Dec.{eqb, leb, lit<}
 use borrow.Author.Tests.{leb-true, eqb-true, eqb-false, le-leb, lt-leb, eq-eqb, ne-eqb}
 use Rattle.basis.specs.Tests.{either, both, impossible}
-use Rattle.refusal.specs.CheckLaws.{first-pass, first-fail, first-none, first-both}
+use Rattle.basis.specs.Lists.{All, all-append, all-map}
+use Rattle.refusal.specs.After.{After, left}
+use Rattle.refusal.specs.CheckLaws.{first-pass, first-fail, first-none, first-both, Named, Numbered, unless-first, unless-zero}
 use Rattle.refusal.specs.Checks.{firstRefusal}
 use Rattle.octets.specs.Bytes.{byteAt, le16, le32, toLe32}
 use Rattle.octets.specs.Store.{put, window}
@@ -31,9 +33,9 @@ use Rattle.dbf_table.specs.RecordLaws.{field-inside, record-positive, records-n
 use Rattle.dbf_table.specs.declared.Shape.{Shape}
 use Rattle.dbf_table.specs.declared.Checked.the-variants.{Good, Refused}
 use Rattle.dbf_append.specs.Append.{heldChecks, checkHeld, dateRefusal, logicalRefusal, memoRefusal, textRefusal, textIn, textsRefusal}
-use Rattle.dbf_append.specs.Append.{roomFor, newEnd, recordChecks, recordRefusal, appendRefusal, recordWrite, countWrite, stored, appendRule, done}
-use Rattle.dbf_append.specs.Append.{Appendable}
-use Rattle.dbf_append.specs.UpdateDate.{setDateRefusal, dateWrite, setDateRule, dated}
+use Rattle.dbf_append.specs.Append.{roomFor, newEnd, recordChecks, recordRefusal, appendChecks, appendRefusal, recordWrite, countWrite}
+use Rattle.dbf_append.specs.Append.{write, stored, unstored, appendRule, Appendable}
+use Rattle.dbf_append.specs.UpdateDate.{setDateChecks, setDateRefusal, dateWrite, setDateRule}
 
 -- ---- the table in the buffer
 
@@ -89,6 +91,15 @@ module _ (b : List ℕ) (n : ℕ) where
       let parts = first-both front more (lit< tt, table-numbered (take n b)) e in
       let held = first-none front (lit< tt, table-numbered (take n b)) (parts .0) in
       (leb-true n (length b) (held .0), sym (first-pass (leb n (length b)) 10 (tableChecks (take n b)) (held .0)) ∙ parts .0, parts .1)
+
+  -- each check that fails has a number
+  pub held-named : (more : List (Bool × ℕ)) → All Named more → All Named (heldChecks b n more)
+  unfolding heldChecks
+  held-named more named = (
+    (λ bad none. omega arith),
+    all-append Named (tableChecks (take n b)) more
+        (all-map Numbered Named (λ check some bad none. omega (arith, some, none)) (tableChecks (take n b)) (table-numbered (take n b))) named,
+  )
 
 -- ---- a field's text
 
@@ -277,15 +288,21 @@ module _ (b : List ℕ) (n : ℕ) (r : List ℕ) where
         count = few-enough (take n b) (layout (take n b) (a .table)) (a .taken) (count-front b n long);
       }
 
+  append-named : All Named (appendChecks b n r)
+  unfolding recordChecks
+  append-named = held-named b n (recordChecks (take n b) (length b) r)
+      ((λ bad none. omega arith), ((λ bad none. omega arith), ((λ bad none. eqb-false _ 0 bad none), ((λ bad none. omega arith), tt))))
+
   -- the rule by the refusal
   pub append-stored : appendRefusal b n r ≡ 0 → appendRule b n r ≡ stored b r
-  unfolding appendRule
-  append-stored e = rw e
+  unfolding appendRule appendRefusal
+  append-stored e = unless-zero (λ refusal. left b (unstored refusal)) (stored b r) (appendChecks b n r) append-named e
 
-  pub append-refused : (k : ℕ) → k ≡ appendRefusal b n r → (k ≡ 0 → ⊥)
-      → appendRule b n r ≡ done b (record { refusal = k; first = record { place = 0; length = 0 }; second = record { place = 0; length = 0 } })
-  unfolding appendRule
-  append-refused k e some = rw (← e, ne-eqb k 0 some)
+  pub append-refused : (k : ℕ) → k ≡ appendRefusal b n r → (k ≡ 0 → ⊥) → appendRule b n r ≡ left b (unstored k)
+  unfolding appendRule appendRefusal
+  append-refused k e some =
+      unless-first (λ refusal. left b (unstored refusal)) (stored b r) (appendChecks b n r) (λ z. some (e ∙ z))
+      ∙ ap (λ (refusal : ℕ). left b (unstored refusal)) (sym e)
 
 -- ---- the stores
 
@@ -299,7 +316,7 @@ place-fits b r place count given n p =
 -- the record and then the end mark are one store; a host is told of R + 1 bytes and of four
 pub stored-as : (b r b₁ b₂ b₃ : List ℕ) (place count : ℕ) → count ≡ le32 b 4 → place ≡ recordsEnd b count
     → b₁ ≡ put b place r → b₂ ≡ set b₁ (place + length r) fileEnd → b₃ ≡ put b₂ 4 (toLe32 (count + 1))
-    → stored b r ≡ done b₃ (record { refusal = 0; first = record { place = place; length = length r + 1 }; second = record { place = 4; length = 4 } })
+    → stored b r ≡ left b₃ (record { refusal = 0; first = record { place = place; length = length r + 1 }; second = record { place = 4; length = 4 } })
 unfolding stored recordWrite countWrite recordCount toLe32
 stored-as b r b₁ b₂ b₃ place count n p e₁ e₂ e₃ =
     let two : put b place (r ++ (fileEnd ∷ [])) ≡ b₂ = put-snoc b place r fileEnd ∙ rw (← e₁) (sym e₂) in
@@ -309,18 +326,31 @@ stored-as b r b₁ b₂ b₃ place count n p e₁ e₂ e₃ =
 
 -- a new date by the answer about the table
 module _ (b : List ℕ) (n year month day : ℕ) where
-  pub date-refused : (k : ℕ) → checkHeld b n ≡ Refused k → setDateRule b n year month day ≡ dated b k
+  abbrev new : After ℕ
+  new = left (write (dateWrite year month day) b) 0
+
+  -- by its first refusal
+  date-first : (k : ℕ) → setDateRefusal b n year month day ≡ k → (k ≡ 0 → ⊥) → setDateRule b n year month day ≡ left b k
   unfolding setDateRule setDateRefusal
-  date-refused k e = let said = held-refused b n k ((storableDate year month day, 3) ∷ []) e in rw (said .0, ne-eqb k 0 (said .1))
+  date-first k e some = unless-first (left b) new (setDateChecks b n year month day) (λ z. some (sym e ∙ z)) ∙ ap (left b) e
+
+  pub date-made : setDateRefusal b n year month day ≡ 0 → setDateRule b n year month day ≡ new
+  unfolding setDateRule setDateRefusal
+  date-made e = unless-zero (left b) new (setDateChecks b n year month day) (held-named b n _ ((λ bad none. omega arith), tt)) e
+
+  pub date-refused : (k : ℕ) → checkHeld b n ≡ Refused k → setDateRule b n year month day ≡ left b k
+  unfolding setDateRefusal
+  date-refused k e = let said = held-refused b n k ((storableDate year month day, 3) ∷ []) e in date-first k (said .0) (said .1)
 
   module _ (s : Shape) (e : checkHeld b n ≡ Good s) where
-    pub date-3 : storableDate year month day ≡ false → setDateRule b n year month day ≡ dated b 3
-    unfolding setDateRule setDateRefusal firstRefusal
-    date-3 bad = rw (held-then b n s ((storableDate year month day, 3) ∷ []) e, bad)
+    pub date-3 : storableDate year month day ≡ false → setDateRule b n year month day ≡ left b 3
+    unfolding setDateRefusal
+    date-3 bad = date-first 3 (held-then b n s ((storableDate year month day, 3) ∷ []) e ∙ first-fail _ 3 [] bad) (λ z. omega arith)
 
     -- three bytes set one after another
-    pub date-set : storableDate year month day ≡ true → setDateRule b n year month day ≡ dated (set (set (set b 1 (year - firstYear)) 2 month) 3 day) 0
-    unfolding setDateRule setDateRefusal firstRefusal dateWrite
+    pub date-set : storableDate year month day ≡ true → setDateRule b n year month day ≡ left (set (set (set b 1 (year - firstYear)) 2 month) 3 day) 0
+    unfolding setDateRefusal dateWrite firstRefusal
     date-set good =
         let years = year - firstYear in
-        rw (held-then b n s ((storableDate year month day, 3) ∷ []) e, good, put-snoc b 1 (years ∷ month ∷ []) day, ← stored2 b 1 years month)
+        date-made (held-then b n s ((storableDate year month day, 3) ∷ []) e ∙ first-pass _ 3 [] good)
+        ∙ rw (put-snoc b 1 (years ∷ month ∷ []) day, ← stored2 b 1 years month)

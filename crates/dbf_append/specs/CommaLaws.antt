@@ -23,7 +23,8 @@ use Rattle.dbf_table.specs.FormLaws.{field-form, form-numeric}
 use Rattle.dbf_table.specs.RecordLaws.{field-inside}
 use Rattle.dbf_table.specs.declared.Shape.{Shape}
 use Rattle.dbf_table.specs.declared.Checked.the-variants.{Good}
-use Rattle.dbf_append.specs.Append.{checkHeld, textIn, textsRefusal, recordRefusal, appendRefusal, appendRule, done}
+use Rattle.refusal.specs.After.{left}
+use Rattle.dbf_append.specs.Append.{checkHeld, textIn, textsRefusal, recordRefusal, appendRefusal, unstored, appendRule}
 use Rattle.dbf_append.specs.CheckLaws.{held-good, held-then, text-number, fieldRefused, record-text, Accepted, append-refused}
 
 -- ---- the fields one after another
@@ -93,7 +94,7 @@ module _ (b : List ℕ) (n : ℕ) (r : List ℕ) (s : Shape) (e : checkHeld b n 
 
   pub comma-16 : length r ≡ recordLength t → markGood (byteAt r 0) ≡ true → (j : ℕ) → j < fieldCount t → fieldType t j ≡ typeN
       → ((h : ℕ) → h < j → fieldRefused t r h ≡ 0) → some (eqb comma) (textIn t r j) ≡ true
-      → appendRule b n r ≡ done b (record { refusal = 16; first = record { place = 0; length = 0 }; second = record { place = 0; length = 0 } })
+      → appendRule b n r ≡ left b (unstored 16)
   unfolding appendRefusal recordRefusal
   comma-16 long mark j l type before has =
       let good = layout t (good-check t s (held-good b n s e .1) .0) in

@@ -19,7 +19,7 @@ use Rattle.dbf_table.specs.TableLaws.{layout}
 use Rattle.dbf_append.specs.Append.{write}
 use Rattle.dbf_append.specs.UpdateDate.{setDateRefusal, dateWrite, setDateRule}
 use Rattle.dbf_append.specs.ExtentLaws.{form-good, length-good}
-use Rattle.dbf_append.specs.CheckLaws.{held-none}
+use Rattle.dbf_append.specs.CheckLaws.{held-none, date-made}
 use Rattle.dbf_table.specs.SameForm.{SameForm, end-same}
 use Rattle.dbf_append.specs.FormLaws.{size-good, table-kept}
 use Rattle.dbf_append.specs.ReadLaws.{Extends}
@@ -93,11 +93,11 @@ dated-front b n year month day h = window-inside b 1 ((year - firstYear) ∷ mon
 
 pub date-leaves : (b : List ℕ) (n year month day : ℕ) → setDateRefusal b n year month day ≡ 0
     → Extends (take n b) (take n (setDateRule b n year month day .after))
-unfolding setDateRule setDateRefusal dateWrite
+unfolding setDateRefusal dateWrite
 date-leaves b n year month day e =
     let checks : List (Bool × ℕ) = (storableDate year month day, 3) ∷ [] in
     let parts = held-none b n checks e in
     let date = first-none checks (lit< tt, tt) (parts .2) .0 in
     let header = layout (take n b) (parts .1) .header in
     let long : 4 ≤ n = omega (arith, header .long, length-take-le n b (parts .0)) in
-    rw (e, dated-front b n year month day long) (dated-extends (take n b) year month day (parts .1) date)
+    rw (date-made b n year month day e, dated-front b n year month day long) (dated-extends (take n b) year month day (parts .1) date)

@@ -15,12 +15,13 @@ ghost use lib.ListN.{length};
 ghost use Rattle.calendar.specs.DateText.{dateOf};
 ghost use Rattle.fpt_memo.specs.Memo.{memoNumber};
 ghost use Rattle.dbf_cell.specs.Cell.{logicalOf};
+ghost use Rattle.refusal.specs.After.{left};
 ghost use Rattle.octets.specs.Bytes.{byteAt};
 ghost use Rattle.dbf_table.specs.Table.{fieldCount, recordLength, tableRefusal, checkTable};
 ghost use Rattle.dbf_table.specs.declared.Checked.the-variants.{Good};
 ghost use Rattle.dbf_append.specs.Append.{checkHeld, dateRefusal, logicalRefusal, memoRefusal, textRefusal, textsRefusal};
-ghost use Rattle.dbf_append.specs.Append.{roomFor, recordRefusal, appendRefusal, Appendable, stored, appendRule, done};
-ghost use Rattle.dbf_append.specs.UpdateDate.{setDateRule, dated};
+ghost use Rattle.dbf_append.specs.Append.{roomFor, recordRefusal, appendRefusal, Appendable, stored, appendRule};
+ghost use Rattle.dbf_append.specs.UpdateDate.{setDateRule};
 ghost use Rattle.dbf_append.specs.Extent.{formRefusal, extentRule};
 
 const COUNT_LENGTH: usize = 4;
@@ -169,7 +170,7 @@ fn append_refusal(buffer: &[u8], table_len: usize, bytes: &[u8]) -> u32
 // Makes the two stores.
 fn store_record(buffer: &mut [u8], bytes: &[u8]) -> Appended
     requires { ⌜ Appendable (now buffer) (now bytes) ⌝ }
-    ensures { λ r. ⌜ stored (now (buffer .entry)) (now (bytes .entry)) ≡ done (now (buffer .exit)) r ⌝ }
+    ensures { λ r. ⌜ stored (now (buffer .entry)) (now (bytes .entry)) ≡ left (now (buffer .exit)) r ⌝ }
 {
     let records = octets::load_le32(buffer, COUNT_AT);
     let place = dbf_check::records_end(buffer, records);
@@ -191,7 +192,7 @@ fn store_record(buffer: &mut [u8], bytes: &[u8]) -> Appended
 
 // Appends a record, given as its bytes, to the table in the buffer's first `table_len` bytes.
 pub fn append(buffer: &mut [u8], table_len: usize, bytes: &[u8]) -> Appended
-    ensures { λ r. ⌜ appendRule (now (buffer .entry)) «table_len» (now (bytes .entry)) ≡ done (now (buffer .exit)) r ⌝ }
+    ensures { λ r. ⌜ appendRule (now (buffer .entry)) «table_len» (now (bytes .entry)) ≡ left (now (buffer .exit)) r ⌝ }
 {
     let refused = append_refusal(buffer, table_len, bytes);
     if refused != 0 {
@@ -212,7 +213,7 @@ pub fn append(buffer: &mut [u8], table_len: usize, bytes: &[u8]) -> Appended
 
 // Sets the update date of the table in the buffer's first `table_len` bytes: 0, or the number of the refusal.
 pub fn set_date(buffer: &mut [u8], table_len: usize, year: u32, month: u32, day: u32) -> u32
-    ensures { λ r. ⌜ setDateRule (now (buffer .entry)) «table_len» year month day ≡ dated (now (buffer .exit)) r ⌝ }
+    ensures { λ r. ⌜ setDateRule (now (buffer .entry)) «table_len» year month day ≡ left (now (buffer .exit)) r ⌝ }
 {
     match check_held(buffer, table_len) {
         Checked::Refused(number) => number,

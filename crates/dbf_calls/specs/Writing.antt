@@ -4,8 +4,9 @@ use Prim.Native.Nat.{ℕ}
 use mathlib.Core.Bool.{cond}
 use mathlib.Core.List.{List}
 use lib.Dec.{eqb}
-use Rattle.dbf_append.specs.Append.{Done}
+use Rattle.refusal.specs.After.{After}
 use Rattle.dbf_append.specs.declared.Store.{Store}
+use Rattle.dbf_append.specs.declared.Appended.{Appended}
 use Rattle.dbf_append.specs.declared.Extent.{Extent}
 use Rattle.handed.specs.Out.{Out, out}
 
@@ -29,10 +30,10 @@ abbrev pub written : List ℕ → Stores → Written
 written after told = record { after = after; told = told }
 
 -- "0 sets all four"
-unfoldable pub appendOut : Done → Stores → Out Written
-appendOut done old =
-    let answer = done .answer in
-    out (answer .refusal) (written (done .after) (cond (eqb (answer .refusal) 0) (record { first = answer .first; second = answer .second }) old))
+unfoldable pub appendOut : After Appended → Stores → Out Written
+appendOut call old =
+    let answer = call .answer in
+    out (answer .refusal) (written (call .after) (cond (eqb (answer .refusal) 0) (record { first = answer .first; second = answer .second }) old))
 
 -- "0 sets that length"
 unfoldable pub extentOut : Extent → ℕ → Out ℕ

@@ -4,14 +4,14 @@ use Prim.Native.Nat.{ℕ}
 use mathlib.Core.Path.{_≡_}
 use mathlib.Core.List.{List}
 use borrow.Author.Tests.{ne-eqb}
-use Rattle.dbf_append.specs.Append.{Done, done}
+use Rattle.refusal.specs.After.{After, left}
 use Rattle.dbf_append.specs.declared.Appended.{Appended}
 use Rattle.dbf_append.specs.declared.Extent.{Extent}
 use Rattle.handed.specs.Out.{out}
 use Rattle.dbf_calls.specs.Writing.{Stores, written, appendOut, extentOut}
 
-module _ (d : Done) (old : Stores) where
-  module _ (after : List ℕ) (answer : Appended) (e : d ≡ done after answer) where
+module _ (d : After Appended) (old : Stores) where
+  module _ (after : List ℕ) (answer : Appended) (e : d ≡ left after answer) where
     pub append-refused : (answer .refusal ≡ 0 → ⊥) → appendOut d old ≡ out (answer .refusal) (written after old)
     unfolding appendOut
     append-refused some = rw (e, ne-eqb (answer .refusal) 0 some)

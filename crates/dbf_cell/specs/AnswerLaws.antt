@@ -1,32 +1,31 @@
 -- Laws: a C field's answer is the table's alone; a memo number is 22 if the memo file has no header; no refusal has the number of a value or of an empty
 -- field. Assumes nothing.
 use Prim.Native.Nat.{ℕ, _-_, _^_, _≤_, _<_}
-use mathlib.Core.Path.{_≡_}
-use mathlib.Core.Bool.{Bool, true, false}
-use mathlib.Core.List.{List, [], _∷_, _++_}
+use mathlib.Core.Path.{_≡_, sym, _∙_}
+use mathlib.Core.Bool.{Bool, true, false, cond}
+use mathlib.Core.List.{List, [], _∷_}
 use native.Mathlib.Omega.{arith}
 use lib.ListN.{length}
-use lib.Dec.{eqb, leb, lit≤, lit<}
+use lib.Dec.{eqb, lit≤, lit<}
 use borrow.Author.Tests.{eqb-false, lt-leb}
 use Rattle.basis.specs.Tests.{either, impossible}
 use Rattle.basis.specs.Lists.{All, all-append, all-map}
-use Rattle.refusal.specs.Checks.{firstRefusal}
+use Rattle.refusal.specs.CheckLaws.{first-below, unless-cases}
+use Rattle.refusal.specs.Checks.{unless}
 use Rattle.octets.specs.Bytes.{byteAt}
 use Rattle.calendar.specs.DateLaws.{date-refusal}
 use Rattle.calendar.specs.declared.DateAnswer.the-variants as date
 use Rattle.octets.specs.Text.{every, blank}
-use Rattle.numeral.specs.Format.{formatGood, maxDigits, comma}
-use Rattle.numeral.specs.Reading.{readNumber, some, textGood, digitCount, valueOf}
-use Rattle.numeral.specs.ReadingLaws.{refused-6}
+use Rattle.numeral.specs.Format.{formatGood}
+use Rattle.numeral.specs.Reading.{numberChecks, readNumber, valueOf}
 use Rattle.numeral.specs.declared.Number.the-variants as number
 use Rattle.fpt_memo.specs.Memo.{memoHeaderBytes, memoHeaderGood, numberedText, readText, memoText, memoNumberText}
 use Rattle.fpt_memo.specs.NumberText.{number-exactly}
 use Rattle.fpt_memo.specs.MemoLaws.{text-refusal}
 use Rattle.fpt_memo.specs.declared.MemoPlace.{MemoPlace}
 use Rattle.fpt_memo.specs.declared.MemoPlace.the-variants as memo
-use Rattle.dbf_field.specs.Field.{numberGood}
-use Rattle.dbf_table.specs.Table.{typeC, typeM, fieldType, fieldLength, fieldDecimals, fieldCount, recordCount, deletionByte, tableChecks}
-use Rattle.dbf_cell.specs.Cell.{readsType, markGood, cellRefusal, fieldStart, fieldBytes}
+use Rattle.dbf_table.specs.Table.{typeC, typeM, fieldType, fieldLength, fieldDecimals, tableChecks}
+use Rattle.dbf_cell.specs.Cell.{cellChecks, cellRefusal, fieldStart, fieldBytes}
 use Rattle.dbf_cell.specs.Cell.{numberCell, dateCell, letterT, letterF, logicalOf, logicalCell, memoPart, textAt, textCell}
 use Rattle.dbf_cell.specs.Codes.{emptyCode}
 use Rattle.dbf_cell.specs.declared.Reads.{Reads}
@@ -44,7 +43,7 @@ text-alone b m n i field c = rw c
 -- a memo number is 22 if the memo file is too short for a header, as an empty file is
 pub text-no-header : (b m : List ℕ) (i field k : ℕ) → cellRefusal Texts b i field ≡ 0 → fieldType b (field - 1) ≡ typeM
     → 1 ≤ k → k < 10 ^ 10 → fieldBytes b i field ≡ memoNumberText 10 k → length m < memoHeaderBytes → textCell b m i field ≡ text.Refused 22
-unfolding textCell textAt fieldBytes memoText readText numberedText memoHeaderGood memoPart
+unfolding textCell textAt fieldBytes memoText readText numberedText unless memoHeaderGood memoPart
 text-no-header b m i field k none type from to number short =
     let said = number-exactly (fieldBytes b i field) k .1 (from, to, number) in
     rw (none, type, said, lt-leb memoHeaderBytes (length m) short)
@@ -54,14 +53,6 @@ text-no-header b m i field k none type from to number short =
 -- the number of a refusal is neither 0, the number of a value, nor 256 or above
 abbrev pub Numbered : ℕ → Type 0
 Numbered n = (0 < n) × (n < emptyCode)
-
-pub first-small : (checks : List (Bool × ℕ)) → All (λ (check : Bool × ℕ). check .1 < emptyCode) checks → firstRefusal checks < emptyCode
-unfolding firstRefusal
-first-small [] p = lit< tt
-first-small (check ∷ checks) p =
-    either (check .0)
-    (λ good. rw good (first-small checks (p .1)))
-    (λ bad. rw bad (p .0))
 
 -- the table's checks give 1 to 10
 pub table-small : (b : List ℕ) → All (λ (check : Bool × ℕ). check .1 ≤ 10) (tableChecks b)
@@ -77,32 +68,28 @@ table-below b =
 check-numbered : (reads : Reads) (b : List ℕ) (i field n : ℕ) → eqb (cellRefusal reads b i field) 0 ≡ false → cellRefusal reads b i field ≡ n → Numbered n
 unfolding cellRefusal
 check-numbered reads b i field n refused e =
-    let checks : List (Bool × ℕ) =
-    (numberGood i (recordCount b), 11)
-    ∷ (numberGood field (fieldCount b), 12)
-    ∷ (readsType reads (fieldType b (field - 1)), 13)
-    ∷ (markGood (deletionByte b i), 15)
-    ∷ [] in
-    let below = all-append (λ (check : Bool × ℕ). check .1 < emptyCode) (tableChecks b) checks (table-below b)
-    (lit< tt, (lit< tt, (lit< tt, (lit< tt, tt)))) in
-    let small = first-small (tableChecks b ++ checks) below in
+    let below : All (λ (check : Bool × ℕ). check .1 < emptyCode) (cellChecks reads b i field) =
+    all-append _ (tableChecks b) _ (table-below b) (lit< tt, (lit< tt, (lit< tt, (lit< tt, tt)))) in
+    let small = first-below emptyCode (cellChecks reads b i field) (lit< tt) below in
     let none = eqb-false (cellRefusal reads b i field) 0 refused in
     (omega (arith, e), omega (arith, e))
 
+number-same : (m n : ℕ) → Numbered m → number.Refused m ≡ number.Refused n → Numbered n
+number-same m n small e = let k : m ≡ n = cc in (omega arith, omega arith)
+
 pub number-numbered : (s : List ℕ) (d n : ℕ) → readNumber s d ≡ number.Refused n → Numbered n
-unfolding readNumber
+unfolding readNumber numberChecks
 number-numbered s d n e =
-    either (formatGood (length s) d)
-    (λ format. either (every (eqb blank) s)
-    (λ blanks. let r : readNumber s d ≡ number.Empty = rw (format, blanks, readNumber) in impossible (cc))
-    (λ shown. either (some (eqb comma) s)
-    (λ taken. let r : readNumber s d ≡ number.Refused 16 = rw (format, shown, taken, readNumber) in let k : n ≡ 16 = cc in omega arith)
-    (λ other. either (textGood s d)
-    (λ good. either (leb (digitCount s) maxDigits)
-    (λ few. let r : readNumber s d ≡ number.Value (valueOf s) = rw (format, shown, other, good, few, readNumber) in impossible (cc))
-    (λ many. let r : readNumber s d ≡ number.Refused 18 = rw (format, shown, other, good, many, readNumber) in let k : n ≡ 18 = cc in omega arith))
-    (λ bad. let r : readNumber s d ≡ number.Refused 17 = rw (format, shown, other, bad, readNumber) in let k : n ≡ 17 = cc in omega arith))))
-    (λ bad. let r = refused-6 s d bad in let k : n ≡ 6 = cc in omega arith)
+    let read = unless (numberChecks s d) number.Refused (number.Value (valueOf s)) in
+    unless-cases number.Refused (cond (every (eqb blank) s) number.Empty read) Numbered ((formatGood (length s) d, 6) ∷ []) ((λ bad. (lit< tt, lit< tt)), tt)
+    (λ format made. either (every (eqb blank) s)
+    (λ blanks. let q : number.Empty ≡ number.Refused n = rw blanks at (sym made ∙ e) in impossible (cc))
+    (λ shown. let q : read ≡ number.Refused n = rw shown at (sym made ∙ e) in
+    unless-cases number.Refused (number.Value (valueOf s)) Numbered (numberChecks s d)
+    ((λ bad. (lit< tt, lit< tt)), ((λ bad. (lit< tt, lit< tt)), ((λ bad. (lit< tt, lit< tt)), tt)))
+    (λ held good. let v : number.Value (valueOf s) ≡ number.Refused n = sym good ∙ q in impossible (cc))
+    (λ r small refused. number-same r n small (sym refused ∙ q))))
+    (λ r small refused. number-same r n small (sym refused ∙ e))
 
 logical-numbered : (c n : ℕ) → logicalOf c ≡ logical.Refused n → Numbered n
 unfolding logicalOf

@@ -44,14 +44,17 @@ abbrev pub markGood : ℕ → Bool
 markGood mark = eqb mark keptMark || eqb mark deletedMark
 
 -- "Order: 1 to 10 ... then 11, 12, 13, 14, 15, then what concerns the text or memo"; 14 is the listing's alone
-unfoldable pub cellRefusal : Reads → List ℕ → ℕ → ℕ → ℕ
-cellRefusal reads b i field =
-    firstRefusal (tableChecks b
+abbrev pub cellChecks : Reads → List ℕ → ℕ → ℕ → List (Bool × ℕ)
+cellChecks reads b i field =
+    tableChecks b
     ++ ((numberGood i (recordCount b), 11)
     ∷ (numberGood field (fieldCount b), 12)
     ∷ (readsType reads (fieldType b (field - 1)), 13)
     ∷ (markGood (deletionByte b i), 15)
-    ∷ []))
+    ∷ [])
+
+unfoldable pub cellRefusal : Reads → List ℕ → ℕ → ℕ → ℕ
+cellRefusal reads b i field = firstRefusal (cellChecks reads b i field)
 
 -- "fields follow in order": where the field of record i starts in the table, and its bytes
 unfoldable pub fieldStart : List ℕ → ℕ → ℕ → ℕ

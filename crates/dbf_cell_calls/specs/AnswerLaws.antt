@@ -1,28 +1,18 @@
 -- Laws: what the calls' proofs cite of the answers; an out-parameter keeps what it held if the answer is not 0. Assumes nothing.
 use Prim.Native.Nat.{ℕ}
 use mathlib.Core.Path.{_≡_, refl}
-use mathlib.Core.List.{List}
 use lib.IntN.{ℤ}
 use Rattle.calendar.specs.declared.Date.{Date}
 use Rattle.calendar.specs.declared.DateAnswer.{DateAnswer}
 use Rattle.calendar.specs.declared.DateAnswer.the-variants as date
-use Rattle.numeral.specs.Writing.{AfterWrite, afterWrite}
 use Rattle.numeral.specs.declared.Number.{Number}
 use Rattle.numeral.specs.declared.Number.the-variants as number
-use Rattle.numeral.specs.declared.Writing.{Writing}
 use Rattle.dbf_cell.specs.Codes.{numberCode, dateCode, logicalCode, textCode}
 use Rattle.dbf_cell.specs.declared.Logical.{Logical}
 use Rattle.dbf_cell.specs.declared.Logical.the-variants as logical
 use Rattle.dbf_cell.specs.declared.TextPlace.{TextPlace}
 use Rattle.dbf_cell.specs.declared.TextPlace.the-variants as text
 use Rattle.dbf_cell_calls.specs.Answers.{Part, numberOut, dateOut, logicalOut, textOut}
-use Rattle.dbf_cell_calls.specs.Answers.{writingCode, writingOut}
-use Rattle.handed.specs.Out.{out}
-
--- the buffer and the answer of a write, by the case of the answer
-pub writing-told : (wrote : AfterWrite) (after : List ℕ) (r answer : Writing) → wrote ≡ afterWrite after r → r ≡ answer
-    → writingOut wrote ≡ out (writingCode answer) after
-writing-told wrote after r answer e is = rw (e, is)
 
 pub number-kept : (answer : Number) (old : ℤ) → (numberOut answer old .answer ≡ 0 → ⊥) → numberOut answer old .held ≡ old
 unfolding numberOut numberCode

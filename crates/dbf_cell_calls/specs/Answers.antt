@@ -1,16 +1,12 @@
--- Rules: what the calls that read a field, and those on numeric text hand to C.
+-- Rules: what the calls that read a field or a numeric text hand to C. The write of a number hands its rule's buffer and number (`refusal/After.coded`).
 use Prim.Native.Nat.{ℕ}
 use mathlib.Core.Bool.{Bool, true, false}
-use mathlib.Core.List.{List}
 use lib.IntN.{ℤ}
 use Rattle.calendar.specs.declared.Date.{Date}
 use Rattle.calendar.specs.declared.DateAnswer.{DateAnswer}
 use Rattle.calendar.specs.declared.DateAnswer.the-variants as date
-use Rattle.numeral.specs.Writing.{AfterWrite}
 use Rattle.numeral.specs.declared.Number.{Number}
 use Rattle.numeral.specs.declared.Number.the-variants as number
-use Rattle.numeral.specs.declared.Writing.{Writing}
-use Rattle.numeral.specs.declared.Writing.the-variants as writing
 use Rattle.dbf_cell.specs.Codes.{numberCode, dateCode, logicalCode, textCode}
 use Rattle.dbf_cell.specs.declared.Logical.{Logical}
 use Rattle.dbf_cell.specs.declared.Logical.the-variants as logical
@@ -69,12 +65,3 @@ textHeld (text.Refused n) old = old
 
 unfoldable pub textOut : TextPlace → Part → Out Part
 textOut answer old = out (textCode answer) (textHeld answer old)
-
--- ---- numeric text: the buffer after a write is the rule's
-
-abbrev pub writingCode : Writing → ℕ
-writingCode writing.Written = 0
-writingCode (writing.Refused n) = n
-
-abbrev pub writingOut : AfterWrite → Out (List ℕ)
-writingOut left = out (writingCode (left .answer)) (left .after)

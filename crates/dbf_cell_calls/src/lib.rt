@@ -3,14 +3,15 @@ use calendar::DateAnswer;
 use dbf_cell::Logical;
 use dbf_cell::TextPlace;
 use numeral::Number;
-use numeral::Writing;
 use refusal::EMPTY;
+use refusal::change_code;
 ghost use mathlib.Core.Path.{_≡_};
+ghost use Rattle.refusal.specs.After.{left, coded};
 ghost use Rattle.numeral.specs.Reading.{readNumber};
 ghost use Rattle.numeral.specs.Writing.{writeNumber};
 ghost use Rattle.dbf_cell.specs.Cell.{numberCell, dateCell, logicalCell, textCell};
 ghost use Rattle.handed.specs.Out.{out};
-ghost use Rattle.dbf_cell_calls.specs.Answers.{dayOf, part, numberOut, dateOut, logicalOut, textOut, writingOut};
+ghost use Rattle.dbf_cell_calls.specs.Answers.{dayOf, part, numberOut, dateOut, logicalOut, textOut};
 
 // The value of an N field.
 pub fn read_number(table: &[u8], number: u32, field: u32, value: &mut i64) -> u32
@@ -112,11 +113,7 @@ pub fn number_read(text: &[u8], decimals: u32, value: &mut i64) -> u32
 
 // Writes a value as numeric text into the lent field.
 pub fn number_write(text: &mut [u8], decimals: u32, value: i64) -> u32
-    ensures { λ r. ⌜ writingOut (writeNumber (now (text .entry)) decimals value) ≡ out r (now (text .exit)) ⌝ }
+    ensures { λ r. ⌜ coded (writeNumber (now (text .entry)) decimals value) ≡ left (now (text .exit)) r ⌝ }
 {
-    let answer = numeral_write::write_number(text, decimals, value);
-    match answer {
-        Writing::Written => 0,
-        Writing::Refused(refusal) => refusal,
-    }
+    change_code(numeral_write::write_number(text, decimals, value))
 }

@@ -11,19 +11,19 @@ use lib.Seq.{getD-append-add, drop-at, ext-getD}
 use lib.Dec.{lit<}
 use borrow.Author.Tests.{leb-true, le-leb}
 use Rattle.basis.specs.Lists.{All}
-use Rattle.refusal.specs.CheckLaws.{first-none}
-use Rattle.refusal.specs.Checks.{firstRefusal}
+use Rattle.refusal.specs.After.{After, left}
+use Rattle.refusal.specs.CheckLaws.{first-none, unless-none, unless-code}
 use Rattle.octets.specs.Bytes.{byteAt}
 use Rattle.octets.specs.Store.{put, window}
 use Rattle.octets.specs.StoreLaws.{length-put, length-window, getD-window, window-same, put-splice}
 use Rattle.dbf_table.specs.Table.{maxFields, maxRecord, descriptor, fieldCount, recordCount, fieldsGood, namesDiffer}
-use Rattle.dbf_table.specs.Table.{tableRefusal, storableDate}
+use Rattle.dbf_table.specs.Table.{tableChecks, tableRefusal, storableDate}
 use Rattle.dbf_table.specs.DateLaws.{storable}
 use Rattle.dbf_field.specs.Field.{fieldName, entryOf, noEntry}
 use Rattle.dbf_field.specs.declared.FieldEntry.{FieldEntry}
-use Rattle.dbf_create.specs.Laying.{descriptorOf, descriptorsOf, headerSize, recordSize, laidOut, layChecks, layRefusal, layOut}
-use Rattle.dbf_create.specs.Laying.{layOutRule, Laid, laid}
+use Rattle.dbf_create.specs.Laying.{descriptorOf, descriptorsOf, headerSize, recordSize, laidOut, layChecks, layRefusal, layOutRule}
 use Rattle.dbf_create.specs.LayingLaws.{count-range, Holds, length-laid, laid-holds, laid-records, laid-header, count-held, laid-checks}
+use Rattle.dbf_create.specs.LayingLaws.{lay-zero, lay-code}
 
 -- ---- no refusal
 
@@ -55,10 +55,12 @@ module _ (room : ℕ) (ds : List ℕ) (f year month day : ℕ) where
 
   -- the table passes its own checks
   laid-good : length ds ≡ 32 * f → Accepted room ds f year month day → tableRefusal (laidOut ds f year month day) ≡ 0
-  unfolding tableRefusal firstRefusal
+  unfolding tableRefusal
   laid-good size a =
-      let checks = laid-checks ds f year month day size (a .some) (a .few) (storable year month day (a .date)) (omega (arith, a .small)) [] in
-      rw append-nil at checks ∙ rw (a .fields, a .names, le-leb (recordSize ds f) maxRecord (a .small))
+      let t = laidOut ds f year month day in
+      let checks = laid-checks ds f year month day size (a .some) (a .few) (storable year month day (a .date)) (omega (arith, a .small)) (λ n. n) 0 [] in
+      sym (unless-code (λ (n : ℕ). n) 0 (λ n. n) refl (λ n. refl) (tableChecks t)) ∙ rw append-nil at checks
+      ∙ unless-none (λ (n : ℕ). n) 0 _ (a .fields, (a .names, (le-leb (recordSize ds f) maxRecord (a .small), tt)))
 
 -- ---- the entries
 
@@ -142,17 +144,18 @@ pub record EmptyTable (b after : List ℕ) (es : List FieldEntry) (year month da
   pub later : drop (headerSize (length es) + 1) after ≡ drop (headerSize (length es) + 1) b
   pub long : length after ≡ length b
 
-pub empty-table : (b after : List ℕ) (es : List FieldEntry) (year month day : ℕ) → Named es → layOutRule b es year month day ≡ laid after 0
+pub empty-table : (b after : List ℕ) (es : List FieldEntry) (year month day : ℕ) → Named es → layOutRule b es year month day ≡ left after 0
     → EmptyTable b after es year month day
-unfolding layOutRule layOut window
+unfolding layOutRule window
 empty-table b after es year month day named e =
     let f = length es in
     let ds = descriptorsOf es in
     let t = laidOut ds f year month day in
     let size = length-descriptors es named in
-    let none : layRefusal (length b) ds f year month day ≡ 0 = ap (λ (x : Laid). x .answer) e in
+    let none : layRefusal (length b) ds f year month day ≡ 0 =
+    sym (lay-code b ds f year month day) ∙ ap (λ (call : After ℕ). call .answer) e in
     let a = accepted (length b) ds f year month day none in
-    let put-is : put b 0 t ≡ after = rw none at (ap (λ (x : Laid). x .after) e) in
+    let put-is : put b 0 t ≡ after = ap (λ (call : After ℕ). call .after) (sym (lay-zero b ds f year month day none) ∙ e) in
     let long : length t ≡ headerSize f + 1 = length-laid ds f year month day size in
     let bytes : take (headerSize f + 1) after ≡ t = rw (← put-is) (window-same b 0 t (headerSize f + 1) long (omega (arith, a .fits))) in
     let ends : 0 + length t ≡ headerSize f + 1 = omega arith in

@@ -4,8 +4,9 @@ use Prim.Native.Nat.{ℕ, _+_, _*_, _-_}
 use mathlib.Core.List.{List, [], _∷_, _++_}
 use mathlib.Core.Bool.{Bool, cond, _&&_}
 use lib.ListN.{length, replicate}
-use lib.Dec.{eqb, leb, ltb}
-use Rattle.refusal.specs.Checks.{firstRefusal}
+use lib.Dec.{leb, ltb}
+use Rattle.refusal.specs.After.{After, left}
+use Rattle.refusal.specs.Checks.{firstRefusal, unless}
 use Rattle.octets.specs.Bytes.{toLe16, toLe32}
 use Rattle.octets.specs.Store.{put}
 use Rattle.dbf_table.specs.Range.{anyBelow}
@@ -91,26 +92,18 @@ layRefusal room ds f year month day = firstRefusal (layChecks room ds f year mon
 
 -- ---- the answer
 
--- a buffer after the call, and the answer
-pub record Laid : Type 0 where
-  pub after : List ℕ
-  pub answer : ℕ
-
-abbrev pub laid : List ℕ → ℕ → Laid
-laid b n = record { after = b; answer = n }
-
--- a table is written to the front of a buffer, unless there is a refusal, which changes nothing
-abbrev pub unlessRefused : ℕ → List ℕ → List ℕ → Laid
-unlessRefused refusal table b = laid (cond (eqb refusal 0) (put b 0 table) b) refusal
+-- a table is written to the front of a buffer, unless a check fails, whose number is the answer and which changes nothing
+abbrev pub laidUnless : List (Bool × ℕ) → List ℕ → List ℕ → After ℕ
+laidUnless checks table b = unless checks (left b) (left (put b 0 table) 0)
 
 -- what the call leaves and answers for the descriptors ds of f fields
-unfoldable pub layOut : List ℕ → List ℕ → ℕ → ℕ → ℕ → ℕ → Laid
-layOut b ds f year month day = unlessRefused (layRefusal (length b) ds f year month day) (laidOut ds f year month day) b
+unfoldable pub layOut : List ℕ → List ℕ → ℕ → ℕ → ℕ → ℕ → After ℕ
+layOut b ds f year month day = laidUnless (layChecks (length b) ds f year month day) (laidOut ds f year month day) b
 
 -- and for the lent field list
-unfoldable pub layOutRule : List ℕ → List FieldEntry → ℕ → ℕ → ℕ → Laid
+unfoldable pub layOutRule : List ℕ → List FieldEntry → ℕ → ℕ → ℕ → After ℕ
 layOutRule b es year month day = layOut b (descriptorsOf es) (length es) year month day
 
 -- a step of it: a table that passes its own checks is written, if the buffer has H + 1 bytes
-unfoldable pub layTable : List ℕ → List ℕ → Laid
-layTable b t = unlessRefused (firstRefusal (tableChecks t ++ ((leb (headerLength t + 1) (length b), 30) ∷ []))) t b
+unfoldable pub layTable : List ℕ → List ℕ → After ℕ
+layTable b t = laidUnless (tableChecks t ++ ((leb (headerLength t + 1) (length b), 30) ∷ [])) t b

@@ -9,10 +9,12 @@ use native.Mathlib.Omega.{arith}
 use lib.ListN.{length, take, set, replicate, length-append, List·getD-append}
 use lib.Seq.{getD-append-add}
 use lib.Dec.{eqb, leb, lit<}
-use borrow.Author.Tests.{leb-true, le-leb, lt-leb, eq-eqb, ne-eqb}
+use borrow.Author.Tests.{leb-true, le-leb, lt-leb, eq-eqb}
 use Rattle.basis.specs.Tests.{both, join}
-use Rattle.refusal.specs.CheckLaws.{first-pass}
-use Rattle.refusal.specs.Checks.{firstRefusal}
+use Rattle.basis.specs.Lists.{all-append}
+use Rattle.refusal.specs.After.{After, left}
+use Rattle.refusal.specs.CheckLaws.{first-fail, first-none, unless-pass, unless-none, unless-first, unless-at, unless-zero, unless-code}
+use Rattle.refusal.specs.Checks.{firstRefusal, unless}
 use Rattle.octets.specs.Bytes.{byteAt, le16, le32, toLe16, toLe32}
 use Rattle.octets.specs.Store.{put, window}
 use Rattle.octets.specs.StoreLaws.{length-put, put-append, put-comm, stored2, length-window, getD-window, window-same, window-after}
@@ -23,14 +25,14 @@ use Rattle.dbf_table.specs.RangeLaws.{any-same, sum-same}
 use Rattle.dbf_table.specs.Table.{minTable, maxTable, maxFields, maxRecord, plainKind, memoKind, endMark, fileEnd, descriptor, fieldLength}
 use Rattle.dbf_table.specs.Table.{fieldOffset, fieldCount, headerLength, recordLength, recordCount, recordsEnd, sizeGood, kindGood, dateGood, headerGood}
 use Rattle.dbf_table.specs.Table.{endMarkGood, fieldsGood, namesDiffer, isMemo, hasMemo, memoKindGood, recordLengthGood, lengthGood, tableChecks}
-use Rattle.dbf_table.specs.Table.{checkTable, firstYear, storableDate}
+use Rattle.dbf_table.specs.Table.{tableRefusal, checkTable, firstYear, storableDate}
 use Rattle.dbf_table.specs.DateLaws.{StorableDate, storable}
-use Rattle.dbf_table.specs.TableLaws.{HeaderFits, good-then, refused-then, refused-check, good-shape}
+use Rattle.dbf_table.specs.TableLaws.{HeaderFits, table-numbered, good-check, good-then, refused-then, refused-check, good-shape}
 use Rattle.dbf_table.specs.declared.Shape.{Shape}
 use Rattle.dbf_table.specs.declared.Checked.the-variants.{Good, Refused}
 use Rattle.dbf_field.specs.declared.FieldEntry.{FieldEntry}
 use Rattle.dbf_create.specs.Laying.{descriptorOf, withField, placed, kindFor, listsMemo, headerSize, recordSize, headerOf, laidOut}
-use Rattle.dbf_create.specs.Laying.{countGood, layChecks, layRefusal, layOut, layTable, laid}
+use Rattle.dbf_create.specs.Laying.{countGood, layChecks, layRefusal, layOut, layTable}
 
 -- ---- the date and the count
 
@@ -208,10 +210,11 @@ module _ (ds : List ℕ) (f year month day : ℕ) where
           rw (laid-length small, laid-count, size-held t ds f laid-holds, eq-eqb (recordSize ds f) (recordSize ds f) refl)
 
       -- the table's checks, and others after them, refuse by its fields, its names and its record's length alone
-      pub laid-checks : StorableDate year month day → recordSize ds f < 2 ^ 16 → (more : List (Bool × ℕ))
-          → firstRefusal (tableChecks t ++ more) ≡ firstRefusal ((fieldsGood t, 6) ∷ (namesDiffer t, 7) ∷ (leb (recordSize ds f) maxRecord, 9) ∷ more)
-      unfolding tableChecks firstRefusal
-      laid-checks real small more =
+      pub laid-checks : StorableDate year month day → recordSize ds f < 2 ^ 16 → {A : Type 0} (refused : ℕ → A) (made : A) (more : List (Bool × ℕ))
+          → unless (tableChecks t ++ more) refused made
+          ≡ unless ((fieldsGood t, 6) ∷ (namesDiffer t, 7) ∷ (leb (recordSize ds f) maxRecord, 9) ∷ more) refused made
+      unfolding tableChecks unless
+      laid-checks real small refused made more =
           let year-back : 1900 + (year - firstYear) ≡ year = omega (arith, real .year-from) in
           let date : dateGood t ≡ true = laid-date ∙ rw year-back (real .date) in
           rw (laid-size, laid-kinds, date, laid-form, laid-mark, laid-memo, laid-filled small, laid-ended)
@@ -219,47 +222,82 @@ module _ (ds : List ℕ) (f year month day : ℕ) where
 -- ---- the rule by its refusals
 
 module _ (b ds : List ℕ) (f year month day : ℕ) where
-  pub lay-3 : storableDate year month day ≡ false → layOut b ds f year month day ≡ laid b 3
-  unfolding layOut layRefusal layChecks firstRefusal
-  lay-3 bad = rw bad
+  abbrev new : After ℕ
+  new = left (put b 0 (laidOut ds f year month day)) 0
 
-  pub lay-4 : storableDate year month day ≡ true → countGood f ≡ false → layOut b ds f year month day ≡ laid b 4
-  unfolding layOut layRefusal layChecks firstRefusal
-  lay-4 good bad = rw (good, bad)
+  pub lay-3 : storableDate year month day ≡ false → layOut b ds f year month day ≡ left b 3
+  unfolding layOut layChecks
+  lay-3 bad = unless-at (left b) new 0 (layChecks (length b) ds f year month day) tt bad
+
+  pub lay-4 : storableDate year month day ≡ true → countGood f ≡ false → layOut b ds f year month day ≡ left b 4
+  unfolding layOut layChecks
+  lay-4 good bad = unless-at (left b) new 1 (layChecks (length b) ds f year month day) (good, tt) bad
+
+  -- each check that fails has a number: the table is laid out exactly if none does
+  pub lay-zero : layRefusal (length b) ds f year month day ≡ 0 → layOut b ds f year month day ≡ new
+  unfolding layOut layRefusal layChecks
+  lay-zero e =
+      unless-zero (left b) new (layChecks (length b) ds f year month day) (
+        (λ bad none. omega arith),
+        (
+          (λ bad none. omega arith),
+          (
+            (λ bad none. omega arith),
+            ((λ bad none. omega arith), ((λ bad none. omega arith), ((λ bad none. omega arith), tt))),
+          ),
+        ),
+      )
+      e
+
+  -- the number of the answer is the first refusal
+  pub lay-code : layOut b ds f year month day .answer ≡ layRefusal (length b) ds f year month day
+  unfolding layOut layRefusal
+  lay-code = unless-code (left b) new (λ (call : After ℕ). call .answer) refl (λ n. refl) (layChecks (length b) ds f year month day)
 
   -- a good date and count: the table's own checks decide, and the room
   lay-checked : storableDate year month day ≡ true → countGood f ≡ true → length ds ≡ 32 * f → recordSize ds f < 2 ^ 16
       → layOut b ds f year month day ≡ layTable b (laidOut ds f year month day)
-  unfolding layOut layRefusal layChecks layTable
+  unfolding layOut layChecks layTable
   lay-checked date count size small =
       let t = laidOut ds f year month day in
       let range = count-range f count in
       let room : List (Bool × ℕ) = (leb (headerSize f + 1) (length b), 30) ∷ [] in
       let fields : List (Bool × ℕ) = (fieldsGood t, 6) ∷ (namesDiffer t, 7) ∷ (leb (recordSize ds f) maxRecord, 9) ∷ room in
-      rw (
-        laid-header ds f year month day size (range .1),
-        laid-checks ds f year month day size (range .0) (range .1) (storable year month day date) small room,
-        first-pass (storableDate year month day) 3 ((countGood f, 4) ∷ fields) date,
-        first-pass (countGood f) 4 fields count,
-      )
+      unless-pass (left b) new (storableDate year month day) 3 ((countGood f, 4) ∷ fields) date
+      ∙ unless-pass (left b) new (countGood f) 4 fields count
+      ∙ rw (laid-header ds f year month day size (range .1))
+      (sym (laid-checks ds f year month day size (range .0) (range .1) (storable year month day date) small (left b) new room))
 
 -- ---- a table in a buffer
 
 module _ (b t : List ℕ) where
-  pub table-refused : (k : ℕ) → checkTable t ≡ Refused k → layTable b t ≡ laid b k
+  abbrev front : After ℕ
+  front = left (put b 0 t) 0
+
+  -- the table's checks, and then the room
+  abbrev checks : List (Bool × ℕ)
+  checks = tableChecks t ++ ((leb (headerLength t + 1) (length b), 30) ∷ [])
+
+  -- by the first refusal
+  table-first : (k : ℕ) → firstRefusal checks ≡ k → (k ≡ 0 → ⊥) → layTable b t ≡ left b k
   unfolding layTable
-  table-refused k e = rw (refused-then t k ((leb (headerLength t + 1) (length b), 30) ∷ []) e, ne-eqb k 0 (refused-check t k e .1))
+  table-first k e some = unless-first (left b) front checks (λ z. some (sym e ∙ z)) ∙ ap (left b) e
+
+  pub table-refused : (k : ℕ) → checkTable t ≡ Refused k → layTable b t ≡ left b k
+  table-refused k e = table-first k (refused-then t k _ e) (refused-check t k e .1)
 
   module _ (s : Shape) (e : checkTable t ≡ Good s) where
-    pub table-30 : length b < s .«header_length» + 1 → layTable b t ≡ laid b 30
-    unfolding layTable firstRefusal
+    pub table-30 : length b < s .«header_length» + 1 → layTable b t ≡ left b 30
     table-30 h =
-        rw (good-then t s ((leb (headerLength t + 1) (length b), 30) ∷ []) e, lt-leb (headerLength t + 1) (length b) (rw (← good-shape t s e .header) h))
+        let short = lt-leb (headerLength t + 1) (length b) (rw (← good-shape t s e .header) h) in
+        table-first 30 (good-then t s _ e ∙ first-fail _ 30 [] short) (λ z. omega arith)
 
-    pub table-laid : s .«header_length» + 1 ≤ length b → layTable b t ≡ laid (put b 0 t) 0
-    unfolding layTable firstRefusal
+    pub table-laid : s .«header_length» + 1 ≤ length b → layTable b t ≡ left (put b 0 t) 0
+    unfolding layTable tableRefusal
     table-laid h =
-        rw (good-then t s ((leb (headerLength t + 1) (length b), 30) ∷ []) e, le-leb (headerLength t + 1) (length b) (rw (← good-shape t s e .header) h))
+        let long = le-leb (headerLength t + 1) (length b) (rw (← good-shape t s e .header) h) in
+        unless-none (left b) front checks
+        (all-append (λ (check : Bool × ℕ). check .0 ≡ true) (tableChecks t) _ (first-none (tableChecks t) (table-numbered t) (good-check t s e .0)) (long, tt))
 
 -- ---- the stores
 

@@ -4,10 +4,11 @@ use dbf_table::Checked;
 ghost use Prim.Native.Nat.{_+_, _*_, _<_};
 ghost use mathlib.Core.Path.{_≡_};
 ghost use lib.ListN.{length};
+ghost use Rattle.refusal.specs.After.{left};
 ghost use Rattle.octets.specs.Store.{window};
 ghost use Rattle.dbf_table.specs.Table.{maxFields, headerLength, hasMemo};
 ghost use Rattle.dbf_table.specs.TableLaws.{HeaderFits};
-ghost use Rattle.dbf_create.specs.Laying.{roomLength, noFields, withField, listedCount, countGood, kindFor, layOut, layTable, laid};
+ghost use Rattle.dbf_create.specs.Laying.{roomLength, noFields, withField, listedCount, countGood, kindFor, layOut, layTable};
 ghost use Rattle.dbf_create.specs.LayingLaws.{Layable, Written};
 
 // Where the header says no more.
@@ -97,7 +98,7 @@ fn write_table(room: &mut [u8], count: usize, year: u32, month: u32, day: u32)
 // Writes a table to the front of the buffer, if it passes its own checks and fits.
 fn lay_table(buffer: &mut [u8], table: &[u8]) -> u32
     requires { ⌜ length (now table) ≡ headerLength (now table) + 1 ⌝ }
-    ensures { λ r. ⌜ layTable (now (buffer .entry)) (now (table .entry)) ≡ laid (now (buffer .exit)) r ⌝ }
+    ensures { λ r. ⌜ layTable (now (buffer .entry)) (now (table .entry)) ≡ left (now (buffer .exit)) r ⌝ }
 {
     match dbf_check::check_table(table) {
         Checked::Refused(number) => number,
@@ -121,7 +122,7 @@ pub fn lay_out(
     day: u32,
 ) -> u32
     requires { ⌜ length (now room) ≡ roomLength ⌝ }
-    ensures { λ r. ⌜ layOut (now (buffer .entry)) (window (now (room .entry)) 32 (32 * count)) count year month day ≡ laid (now (buffer .exit)) r ⌝ }
+    ensures { λ r. ⌜ layOut (now (buffer .entry)) (window (now (room .entry)) 32 (32 * count)) count year month day ≡ left (now (buffer .exit)) r ⌝ }
 {
     if !dbf_table::storable_date(year, month, day) {
         return refusal::UPDATE_DATE;

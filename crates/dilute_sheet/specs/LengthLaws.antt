@@ -10,30 +10,28 @@ use lib.ListN.{length, length-append, length-take}
 use lib.Dec.{eqb, lit<}
 use borrow.Author.Tests.{eqb-true, ltb-true, leb-true}
 use Rattle.basis.specs.Tests.{either}
-use Rattle.basis.specs.Lists.{All, all-append}
-use Rattle.refusal.specs.Checks.{firstRefusal}
+use Rattle.basis.specs.Lists.{All, all-append, all-map}
+use Rattle.refusal.specs.CheckLaws.{first-below, Refuses, unless-cases}
+use Rattle.refusal.specs.Checks.{firstRefusal, unless}
 use Rattle.octets.specs.Store.{window}
 use Rattle.octets.specs.Text.{decimal}
 use Rattle.octets.specs.DigitLaws.{decimal-fits}
 use Rattle.numeral.specs.declared.Number.{Number}
 use Rattle.numeral.specs.declared.Number.the-variants as text
-use Rattle.dbf_table.specs.Table.{typeC, recordCount, recordLength, recordsEnd, fieldCount, fieldType, fieldLength, deletionByte, deletedMark}
+use Rattle.dbf_table.specs.Table.{recordCount, recordLength, recordsEnd, fieldLength, deletionByte, deletedMark}
 use Rattle.dbf_table.specs.Table.{tableChecks, tableRefusal}
 use Rattle.dbf_table.specs.TableLaws.{layout}
 use Rattle.dbf_table.specs.RecordLaws.{field-inside, offset-positive}
 use Rattle.dbf_table.specs.FormLaws.{field-form, form-some}
 use Rattle.dbf_cell.specs.Cell.{fieldBytes}
 use Rattle.dbf_cell.specs.Codes.{numberRefusal}
-use Rattle.dbf_cell.specs.AnswerLaws.{first-small, table-below, number-numbered}
-use Rattle.dbf_field.specs.Field.{numberGood}
-use Rattle.idx_page.specs.Header.{keyLength, headerGood}
+use Rattle.dbf_cell.specs.AnswerLaws.{table-below, number-numbered}
 use Rattle.idx_sound.specs.AuditTest.{pagesGood}
-use Rattle.idx_match.specs.Match.{matchRefusal}
+use Rattle.idx_match.specs.Match.{matchChecks, matchRefusal}
 use Rattle.idx_match.specs.MatchTest.{columnOf, entriesMatch, leafEntries}
 use Rattle.idx_match.specs.Computed.{matchAnswer}
 use Rattle.dilution.specs.Dilution.{volumesOf, concentrationDecimals, concentrationText, concentrationOf, headerChecks, fieldChecks, sheetChecks, recordWith}
-use Rattle.dilution.specs.Dilution.{barcodeChecks, textChecks, volumeChecks, unless, dilutionOf, recordDilution, diluteRule}
-use Rattle.dilution.specs.CheckLaws.{unless-pass, unless-fail}
+use Rattle.dilution.specs.Dilution.{barcodeChecks, textChecks, volumeChecks, dilutionOf, recordDilution, diluteRule}
 use Rattle.dilution.specs.StepLaws.{range-bounds}
 use Rattle.dilution.specs.VolumeLaws.{sample-most}
 use Rattle.dilution.specs.BarcodeLaws.{good-table, known}
@@ -55,32 +53,28 @@ abbrev Small : Dilution → Type 0
 Small (Volumes sample diluent) = (sample ≤ 10000) × (diluent ≤ 10000)
 Small (Refused n) = n < 256
 
-unless-small : (xs : List (Bool × ℕ)) (d : Dilution) → All Low xs → (All (λ x. x .0 ≡ true) xs → Small d) → Small (unless xs d)
-unfolding unless
-unless-small [] d p h = h tt
-unless-small (x ∷ xs) d p h = either (x .0)
-    (λ good. rw (unless-pass (x .0) (x .1) xs d good) (unless-small xs d (p .1) (λ rest. h (good, rest))))
-    (λ bad. rw (unless-fail (x .0) (x .1) xs d bad) (p .0))
+unless-small : (checks : List (Bool × ℕ)) (d : Dilution) → All Low checks → (All (λ check. check .0 ≡ true) checks → Small d)
+    → Small (unless checks Refused d)
+unless-small checks d low after =
+    unless-cases Refused d (λ n. n < 256) checks (all-map Low (Refuses (λ n. n < 256)) (λ check l bad. l) checks low)
+    (λ held made. rw made (after held))
+    (λ n l refused. rw refused l)
 
 match-low : (t b : List ℕ) (field : ℕ) → matchAnswer t b field < 256
 unfolding matchAnswer matchRefusal
 match-low t b field =
-    let checks : List (Bool × ℕ) = (headerGood b, 24)
-    ∷ (numberGood field (fieldCount t), 12)
-    ∷ (eqb (fieldType t (field - 1)) typeC, 13)
-    ∷ (eqb (fieldLength t (field - 1)) (keyLength b), 27)
-    ∷ [] in
     let tests : List (Bool × ℕ) = (eqb (matchRefusal t b field) 0, matchRefusal t b field)
     ∷ (pagesGood b, 25)
     ∷ (entriesMatch t (columnOf t field) 0 (leafEntries b), 31)
     ∷ [] in
-    let low : All Low checks = (lit< tt, (lit< tt, (lit< tt, (lit< tt, tt)))) in
-    let before = first-small (tableChecks t ++ checks) (all-append Low (tableChecks t) checks (table-below t) low) in
-    first-small tests (before, (lit< tt, (lit< tt, tt)))
+    let low : All Low (matchChecks t b field) = all-append Low (tableChecks t) _ (table-below t) (lit< tt, (lit< tt, (lit< tt, (lit< tt, tt)))) in
+    let before = first-below 256 (matchChecks t b field) (lit< tt) low in
+    first-below 256 tests (lit< tt) (before, (lit< tt, (lit< tt, tt)))
 
 sheet-low : (t b : List ℕ) (barcodeField field : ℕ) → All Low (sheetChecks t b barcodeField field)
 unfolding sheetChecks headerChecks fieldChecks tableRefusal
-sheet-low t b barcodeField field = (first-small (tableChecks t) (table-below t), (lit< tt, (match-low t b barcodeField, (lit< tt, (lit< tt, tt)))))
+sheet-low t b barcodeField field =
+    (first-below 256 (tableChecks t) (lit< tt) (table-below t), (lit< tt, (match-low t b barcodeField, (lit< tt, (lit< tt, tt)))))
 
 text-low : (t : List ℕ) (i field : ℕ) (n : Number) → concentrationText t i field ≡ n → numberRefusal n < 256
 unfolding numberRefusal concentrationText
@@ -170,7 +164,7 @@ module _ (t b : List ℕ) (q : Request) where
   unfolding requestText
   request-short =
       let refusal = firstRefusal (sheetChecks t b (q .«barcode_field») (q .field)) in
-      let low = first-small (sheetChecks t b (q .«barcode_field») (q .field)) (sheet-low t b (q .«barcode_field») (q .field)) in
+      let low = first-below 256 (sheetChecks t b (q .«barcode_field») (q .field)) (lit< tt) (sheet-low t b (q .«barcode_field») (q .field)) in
       either (eqb refusal 0)
       (λ e. rw e (omega (arith, lines-short (recordCount t) 0, records-short (eqb-true refusal 0 e))))
       (λ e. rw e (omega (arith, alone-short refusal low)))

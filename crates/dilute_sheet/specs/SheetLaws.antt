@@ -11,14 +11,15 @@ use lib.Seq.{take-all}
 use lib.IntN.{ℤ, pos}
 use borrow.Author.Tests.{ne-eqb}
 use Rattle.basis.specs.Tests.{both}
+use Rattle.refusal.specs.After.{After, left}
 use Rattle.refusal.specs.Checks.{firstRefusal}
+use Rattle.refusal.specs.declared.Change.{Change}
 use Rattle.octets.specs.Text.{every, isDigit, unpadded, decimal}
 use Rattle.octets.specs.TextLaws.{unpadded-digit, unpadded-blanks}
 use Rattle.octets.specs.DigitLaws.{decimal-digits, decimal-fits}
 use Rattle.numeral.specs.Format.{formatGood}
-use Rattle.numeral.specs.Writing.{numberText, signText, fractionText, written, Fits, AfterWrite, afterWrite, writeNumber}
+use Rattle.numeral.specs.Writing.{numberText, signText, fractionText, written, Fits, writeNumber}
 use Rattle.numeral.specs.WritingLaws.{written-exactly, fits-length}
-use Rattle.numeral.specs.declared.Writing.{Writing}
 use Rattle.dbf_table.specs.Table.{deletedMark, recordCount, deletionByte}
 use Rattle.dbf_field.specs.Field.{formOf, placeAt}
 use Rattle.dbf_field.specs.declared.Place.{Place}
@@ -54,12 +55,12 @@ unpadded-written width n =
     unpadded-blanks (width - length (numberText 0 (pos n))) (numberText 0 (pos n)) ∙ rw (whole-text n) (digits-unpadded (decimal n) (decimal-digits n))
 
 -- what the writer leaves in ten bytes is the number's digits behind blanks
-pub decimal-written : (text after : List ℕ) (a : Writing) (n : ℕ) (v : ℤ) → length text ≡ 10 → n < 2 ^ 32 → v ≡ pos n
-    → writeNumber text 0 v ≡ afterWrite after a → (length after ≡ 10) × (unpadded after ≡ decimal n)
+pub decimal-written : (text after : List ℕ) (a : Change) (n : ℕ) (v : ℤ) → length text ≡ 10 → n < 2 ^ 32 → v ≡ pos n
+    → writeNumber text 0 v ≡ left after a → (length after ≡ 10) × (unpadded after ≡ decimal n)
 decimal-written text after a n v len small is e =
     let fits = number-fits (length text) n len small in
     let said = written-exactly text (written (length text) 0 (pos n)) 0 (pos n) .1 (fits, refl) in
-    let same : after ≡ written (length text) 0 (pos n) = ap (λ (o : AfterWrite). o .after) (sym (rw is at e) ∙ said) in
+    let same : after ≡ written (length text) 0 (pos n) = ap (λ (o : After Change). o .after) (sym (rw is at e) ∙ said) in
     rw same (fits-length (length text) 0 (pos n) fits ∙ len, unpadded-written (length text) n)
 
 -- the part behind the blanks

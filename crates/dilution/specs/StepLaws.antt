@@ -10,7 +10,7 @@ use lib.Signed.{ltZ}
 use borrow.Author.Tests.{eqb-true, eq-eqb, ne-eqb, leb-true, lt-ltb, le-leb, lt-leb, ltb-true}
 use Rattle.basis.specs.Tests.{both, contra}
 use Rattle.refusal.specs.CheckLaws.{first-pass, first-fail, first-after, first-before}
-use Rattle.refusal.specs.Checks.{firstRefusal}
+use Rattle.refusal.specs.Checks.{firstRefusal, unless}
 use Rattle.octets.specs.Store.{window}
 use Rattle.numeral.specs.Reading.{readNumber}
 use Rattle.numeral.specs.declared.Number.{Number}
@@ -29,7 +29,7 @@ use Rattle.idx_page.specs.Header.{features, goodFeatures, headerGood}
 use Rattle.idx_page.specs.HeaderLaws.{good-header}
 use Rattle.dilution.specs.Dilution.{distinctIndex, headerChecks}
 use Rattle.dilution.specs.Dilution.{maxTarget, maxFinal, volumesOf, inRange, concentrationDecimals, concentrationText, amountOf}
-use Rattle.dilution.specs.Dilution.{concentrationOf, isConcentration, fieldChecks, textChecks, volumeChecks, unless, dilutionOf, recordDilution}
+use Rattle.dilution.specs.Dilution.{concentrationOf, isConcentration, fieldChecks, textChecks, volumeChecks, dilutionOf, recordDilution}
 use Rattle.dilution.specs.declared.Dilution.the-variants.{Refused}
 
 -- ---- table and header

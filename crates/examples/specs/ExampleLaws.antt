@@ -2,6 +2,8 @@
 use mathlib.Core.Path.{_≡_, refl}
 use mathlib.Core.Bool.{true}
 use mathlib.Core.List.{map}
+use Rattle.refusal.specs.Checks as checks
+use Rattle.refusal.specs.After as after
 use Rattle.calendar.specs.Calendar as calendar
 use Rattle.calendar.specs.DateText as date
 use Rattle.octets.specs.Bytes as bytes
@@ -41,9 +43,10 @@ unfolding examples answer ascii reading.readNumber format.formatGood chars.every
     children.isLeaf audit.entriesFit audit.pageFits audit.checkPage audit.checkPages audit.counted audit.checkRows audit.rootLevel audit.nextLevel
     audit.levelsUnder audit.heightOf audit.upperPages audit.upperLevels audit.shapeGood audit.keysAboveGood audit.pagesGood shown tree100.key100
     tree100.grown store.put layout.encode layout.area layout.withEntries layout.newPage layout.linkBeyond layout.splitPage entries.raised insertion.takeIn
-    insertion.insertUnder insertion.insertedBuffer fresh.freshHeader fresh.freshBuffer fresh.freshRule fresh.printable fresh.expressionGood room.pathFrom
-    room.noRoom calls.insertRule supply.supplyOf supply.takePage supply.supplyAfter supply.withSupply calls.hasControl reading.wholeMissing
-    reading.zeroDropped audit.down header.freeGood audit.isFreePage audit.freeFits audit.checkFree
+    insertion.insertUnder insertion.insertedBuffer fresh.freshHeader fresh.freshBuffer fresh.freshChecks fresh.freshRule fresh.printable
+    fresh.expressionGood room.pathFrom room.noRoom calls.insertChecks calls.insertRule checks.unless after.madeUnless supply.supplyOf supply.takePage
+    supply.supplyAfter supply.withSupply calls.hasControl reading.wholeMissing reading.zeroDropped reading.numberChecks audit.down header.freeGood
+    audit.isFreePage audit.freeFits audit.checkFree
 examples-hold = refl
 
 -- the audit's tests of the tree in 000

@@ -6,6 +6,7 @@ use mathlib.Core.Bool.{Bool, cond, _&&_}
 use mathlib.Core.List.{List, [], _∷_, _++_}
 use lib.ListN.{length, replicate}
 use lib.Dec.{leb, ltb, eqb}
+use Rattle.refusal.specs.Checks.{unless}
 use Rattle.octets.specs.Bytes.{be16, be32}
 use Rattle.octets.specs.Text.{every, blank, unpadded, zeroDigit, isDigit, numberOf, decimal}
 use Rattle.fpt_memo.specs.declared.MemoNumber.{MemoNumber}
@@ -72,13 +73,15 @@ unfoldable pub placeGood : List ℕ → ℕ → Bool
 placeGood file start = headFits file start && endFits file (start + 8 + textLength file start)
 
 -- the block at `start`: 21 for its place, then 23 for its type; else where its text starts, and its length
+unfoldable pub blockChecks : List ℕ → ℕ → List (Bool × ℕ)
+blockChecks file start = (placeGood file start, 21) ∷ (isText file start, 23) ∷ []
+
 unfoldable pub blockText : List ℕ → ℕ → MemoPlace
-blockText file start =
-    cond (placeGood file start) (cond (isText file start) (Text (start + 8) (textLength file start)) (Refused 23)) (Refused 21)
+blockText file start = unless (blockChecks file start) Refused (Text (start + 8) (textLength file start))
 
 -- the memo with this number: 22 for the header, then its block
 unfoldable pub numberedText : List ℕ → ℕ → MemoPlace
-numberedText file number = cond (memoHeaderGood file) (blockText file (blockStart file number)) (Refused 22)
+numberedText file number = unless ((memoHeaderGood file, 22) ∷ []) Refused (blockText file (blockStart file number))
 
 -- the answer by what the M field's text says; an empty field does not look at the file
 unfoldable pub readText : List ℕ → MemoNumber → MemoPlace

@@ -14,7 +14,8 @@ use Rattle.fpt_memo.specs.declared.MemoNumber.the-variants.{Blank, Bad, 
 use Rattle.fpt_memo.specs.declared.MemoPlace.{MemoPlace}
 use Rattle.fpt_memo.specs.declared.MemoPlace.the-variants.{Text, Empty, Refused}
 use Rattle.fpt_memo.specs.Memo.{memoHeaderBytes, memoNumber, memoHeaderGood, headFits, endFits, placeGood, isText, textLength}
-use Rattle.fpt_memo.specs.Memo.{blockText, blockStart, numberedText, readText, memoText, MemoAnswer}
+use Rattle.fpt_memo.specs.Memo.{blockChecks, blockText, blockStart, numberedText, readText, memoText, MemoAnswer}
+use Rattle.refusal.specs.Checks.{unless}
 
 -- a number of ten digits or four bytes, times a block size of two bytes, leaves room for 8 more in 64 bits
 pub bytes-fit : (n size : ℕ) → n < 2 ^ 34 → size < 2 ^ 16 → n * size + 8 < 2 ^ 64
@@ -37,20 +38,20 @@ module _ (file : List ℕ) (start : ℕ) where
 
   -- a block's four answers, by the tests in their order
   pub text-no-head : headFits file start ≡ false → blockText file start ≡ Refused 21
-  unfolding blockText placeGood
+  unfolding blockText blockChecks unless placeGood
   text-no-head e = rw e
 
   module _ (len : ℕ) (e : len ≡ textLength file start) (f : headFits file start ≡ true) where
     pub text-no-end : endFits file (start + 8 + len) ≡ false → blockText file start ≡ Refused 21
-    unfolding blockText placeGood
+    unfolding blockText blockChecks unless placeGood
     text-no-end g = rw (f, ← e, g)
 
     pub text-other : endFits file (start + 8 + len) ≡ true → (be32 file start ≡ 1 → ⊥) → blockText file start ≡ Refused 23
-    unfolding blockText placeGood
+    unfolding blockText blockChecks unless placeGood
     text-other g h = rw (f, ← e, g, ne-eqb (be32 file start) 1 h)
 
     pub text-found : endFits file (start + 8 + len) ≡ true → be32 file start ≡ 1 → blockText file start ≡ Text (start + 8) len
-    unfolding blockText placeGood
+    unfolding blockText blockChecks unless placeGood
     text-found g h = rw (f, ← e, g, h)
 
 -- the three cases of an answer differ
@@ -63,7 +64,7 @@ refused-text k a l e = impossible (cc)
 -- every text handed out lies in the file, after the header and the 8 bytes before it
 module _ (file : List ℕ) (a l : ℕ) where
   block-inside : (start : ℕ) → blockText file start ≡ Text a l → (memoHeaderBytes + 8 ≤ a) × (a + l ≤ length file)
-  unfolding blockText placeGood
+  unfolding blockText blockChecks unless placeGood
   block-inside start e =
       let place = first-arm (placeGood file start) (refused-text 21 a l) e in
       let text = first-arm (isText file start) (refused-text 23 a l) (place .1) in
@@ -73,7 +74,7 @@ module _ (file : List ℕ) (a l : ℕ) where
       omega (arith, head-inside file start (fits .0), end-inside file (start + 8 + textLength file start) (fits .1))
 
   read-inside : (read : MemoNumber) → readText file read ≡ Text a l → (memoHeaderBytes + 8 ≤ a) × (a + l ≤ length file)
-  unfolding readText numberedText
+  unfolding readText numberedText unless
   read-inside Bad e = absurd (refused-text 21 a l e)
   read-inside Blank e = absurd (empty-text a l e)
   read-inside (Number n) e = block-inside (blockStart file n) (first-arm (memoHeaderGood file) (refused-text 22 a l) e .1)
@@ -85,7 +86,7 @@ module _ (file : List ℕ) (a l : ℕ) where
 -- a refusal is 21, 22 or 23
 module _ (file : List ℕ) (n : ℕ) where
   block-refusal : (start : ℕ) → blockText file start ≡ Refused n → (21 ≤ n) × (n ≤ 23)
-  unfolding blockText
+  unfolding blockText blockChecks unless
   block-refusal start e =
       either (placeGood file start)
       (λ place. either (isText file start)
@@ -94,7 +95,7 @@ module _ (file : List ℕ) (n : ℕ) where
       (λ bad. let q : Refused 21 ≡ Refused n = rw bad at e in let k : 21 ≡ n = cc in omega arith)
 
   read-refusal : (read : MemoNumber) → readText file read ≡ Refused n → (21 ≤ n) × (n ≤ 23)
-  unfolding readText numberedText
+  unfolding readText numberedText unless
   read-refusal Bad e = let k : 21 ≡ n = cc in omega arith
   read-refusal Blank e = impossible (cc)
   read-refusal (Number k) e =
@@ -113,7 +114,7 @@ refused-empty n e = impossible (cc)
 
 -- only a blank number's text is answered empty
 read-empty : (file : List ℕ) (read : MemoNumber) → readText file read ≡ Empty → read ≡ Blank
-unfolding readText numberedText blockText
+unfolding readText numberedText blockText blockChecks unless
 read-empty file Bad e = absurd (refused-empty 21 e)
 read-empty file Blank e = refl
 read-empty file (Number n) e =

@@ -3,6 +3,9 @@ use Prim.Native.Nat.{ℕ, _/_}
 use mathlib.Core.Path.{_≡_}
 use mathlib.Core.List.{List, [], _∷_, _++_}
 use lib.ListN.{length, take}
+use Rattle.refusal.specs.After.{After}
+use Rattle.refusal.specs.declared.Change.{Change}
+use Rattle.refusal.specs.declared.Change.the-variants.{Made, Refused}
 use Rattle.octets.specs.Bytes.{toLe32}
 use Rattle.octets.specs.Store.{put}
 use Rattle.tree.specs.Book.{Call, insertion, removalOf, lookupOf, Answer, refused, accepted, found, absent, resultsOf, finalOf}
@@ -10,9 +13,7 @@ use Rattle.idx_book.specs.Book.{Calls, answerTo, bufferAfter, answersTo, Pairs,
 use Rattle.idx_page.specs.Header.{keyLength, features}
 use Rattle.idx_lookup.specs.Lookup.{lookupRule, answerPages}
 use Rattle.idx_sound.specs.Sound.{Sound}
-use Rattle.idx_insert.specs.Calls.{AfterCall}
 use Rattle.idx_insert.specs.Fresh.{freshRule}
-use Rattle.idx_insert.specs.declared.Insertion.the-variants.{Accepted, Refused}
 use Rattle.idx_batch.specs.Encoding.{callsIn}
 use Rattle.idx_batch.specs.declared.Reply.{Reply}
 use Rattle.idx_batch.specs.declared.Batch.{Batch}
@@ -88,10 +89,10 @@ abbrev pub started : List ℕ → List ℕ → Batch → Started
 started b out r = record { after = b; answers = out; batch = r }
 
 -- fresh, and then the calls if fresh is accepted; else nothing is touched
-abbrev pub afterFresh : AfterCall → List ℕ → List ℕ → Started
+abbrev pub afterFresh : After Change → List ℕ → List ℕ → Started
 afterFresh f s out =
     elim (f .answer) [
-      | Accepted ↦ let r = runRule (f .after) s out in started (r .after) (r .answers) (record { fresh = 0; made = r .made })
+      | Made ↦ let r = runRule (f .after) s out in started (r .after) (r .answers) (record { fresh = 0; made = r .made })
       | Refused n ↦ started (f .after) out (record { fresh = n; made = 0 })
     ]
 
@@ -112,5 +113,5 @@ SoundRunKept b s out after answers made = (sound : Sound b) → RunKept (keyLeng
 
 -- a batch: fresh was accepted, and the book begins without pairs
 pub record BatchKept (b : List ℕ) (k f : ℕ) (e s out after answers : List ℕ) (made : ℕ) : Type 0 where
-  pub fresh : freshRule b k f e .answer ≡ Accepted
+  pub fresh : freshRule b k f e .answer ≡ Made
   pub run : RunKept k f [] (freshRule b k f e .after) s out after answers made

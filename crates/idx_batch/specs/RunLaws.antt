@@ -11,25 +11,24 @@ use lib.ListN.{length, take, drop, getD}
 use lib.Seq.{take-nil}
 use borrow.Author.Tests.{leb-true, leb-false}
 use Rattle.basis.specs.Lists.{All, all-take}
-use Rattle.basis.specs.Tests.{either, both, impossible}
+use Rattle.basis.specs.Tests.{either, both}
+use Rattle.refusal.specs.After.{After, left}
+use Rattle.refusal.specs.AfterLaws.{made-number}
+use Rattle.refusal.specs.declared.Change.{Change}
+use Rattle.refusal.specs.declared.Change.the-variants.{Made, Refused}
 use Rattle.octets.specs.Bytes.{byteAt, le16, le32, toLe32}
 use Rattle.octets.specs.Store.{put}
 use Rattle.octets.specs.StoreLaws.{put-append, put-none, length-put}
 use Rattle.octets.specs.NumberLaws.{length-toLe32}
 use Rattle.tree.specs.Book.{Call, finalOf}
-use Rattle.idx_book.specs.Book.{Calls, FourBytes, insertionAnswer, removalAnswer, lookupAnswer, bufferAfter, Pairs, leafPairs, BookKept}
+use Rattle.idx_book.specs.Book.{Calls, FourBytes, changeAnswer, lookupAnswer, bufferAfter, Pairs, leafPairs, BookKept}
 use Rattle.idx_book.specs.BookLaws.{demand-3, demand-3-sound}
-use Rattle.idx_page.specs.Header.{minBytes, keyLength, features, keyLengthGood}
+use Rattle.idx_page.specs.Header.{keyLength, features}
 use Rattle.idx_lookup.specs.Lookup.{lookupRule, answerPages}
 use Rattle.idx_lookup.specs.declared.Answer.{Answer as Looked}
-use Rattle.idx_insert.specs.Calls.{AfterCall, afterCall, insertionCode, insertRule}
-use Rattle.idx_insert.specs.Fresh.{expressionGood, featuresGood, freshRule}
-use Rattle.idx_insert.specs.CallLaws.{fresh-27, fresh-24, fresh-30, fresh-made}
-use Rattle.idx_insert.specs.declared.Insertion.{Insertion}
-use Rattle.idx_insert.specs.declared.Insertion.the-variants.{Accepted, Refused}
-use Rattle.idx_remove.specs.Calls as strike
+use Rattle.idx_insert.specs.Calls.{insertRule}
+use Rattle.idx_insert.specs.Fresh.{freshBuffer, freshChecks, freshRule}
 use Rattle.idx_remove.specs.Calls.{removeRule}
-use Rattle.idx_remove.specs.declared.Removal.{Removal}
 use Rattle.idx_batch.specs.Encoding.{keyIn, keyEnd, callEnd, isCall, callAt, callsFrom, callsIn}
 use Rattle.idx_batch.specs.EncodingLaws.{whole, lookup-there, removal-there, insertion-there, key-part, calls-more, calls-none, calls-small}
 use Rattle.idx_batch.specs.Run.{replyOf, replyBytes, replyTo, repliesTo, answerSize, madeCalls, Ran, leaves, runRule, started, batchRule}
@@ -43,19 +42,19 @@ module _ (b s : List ℕ) (at : ℕ) {n kind : ℕ} {r : Reply} (size : n ≡ le
       → (b ≡ bufferAfter (callAt s at) b) × (r ≡ replyTo (callAt s at) b)
   lookup-made z e q = rw (lookup-there s at (sym known ∙ z)) (refl, q ∙ rw (e, key-part s at size))
 
-  pub removal-made : {a : Removal} {after : List ℕ} {number : ℕ} → kind ≡ 2 → number ≡ le32 s (at + 3 + n)
-      → removeRule b (take (at + 3 + n - (at + 3)) (drop (at + 3) s)) number ≡ strike.afterCall after a → r ≡ replyOf (removalAnswer a) 0
+  pub removal-made : {a : Change} {after : List ℕ} {number : ℕ} → kind ≡ 2 → number ≡ le32 s (at + 3 + n)
+      → removeRule b (take (at + 3 + n - (at + 3)) (drop (at + 3) s)) number ≡ left after a → r ≡ replyOf (changeAnswer a) 0
       → (after ≡ bufferAfter (callAt s at) b) × (r ≡ replyTo (callAt s at) b)
   removal-made {a} {after} {number} z f e q =
-      let g : removeRule b (keyIn s at) (le32 s (keyEnd s at)) ≡ strike.afterCall after a = rw (f, key-part s at size, size) at e in
-      rw (removal-there s at (sym known ∙ z)) (sym (ap (λ (i : strike.AfterCall). i .after) g), q ∙ rw (g))
+      let g : removeRule b (keyIn s at) (le32 s (keyEnd s at)) ≡ left after a = rw (f, key-part s at size, size) at e in
+      rw (removal-there s at (sym known ∙ z)) (sym (ap (λ (i : After Change). i .after) g), q ∙ rw (g))
 
-  pub insertion-made : {a : Insertion} {after : List ℕ} {number : ℕ} → (kind ≡ 0 → ⊥) → (kind ≡ 2 → ⊥) → number ≡ le32 s (at + 3 + n)
-      → insertRule b (take (at + 3 + n - (at + 3)) (drop (at + 3) s)) number ≡ afterCall after a → r ≡ replyOf (insertionAnswer a) 0
+  pub insertion-made : {a : Change} {after : List ℕ} {number : ℕ} → (kind ≡ 0 → ⊥) → (kind ≡ 2 → ⊥) → number ≡ le32 s (at + 3 + n)
+      → insertRule b (take (at + 3 + n - (at + 3)) (drop (at + 3) s)) number ≡ left after a → r ≡ replyOf (changeAnswer a) 0
       → (after ≡ bufferAfter (callAt s at) b) × (r ≡ replyTo (callAt s at) b)
   insertion-made {a} {after} {number} z y f e q =
-      let g : insertRule b (keyIn s at) (le32 s (keyEnd s at)) ≡ afterCall after a = rw (f, key-part s at size, size) at e in
-      rw (insertion-there s at (λ x. z (known ∙ x)) (λ x. y (known ∙ x))) (sym (ap (λ (i : AfterCall). i .after) g), q ∙ rw (g))
+      let g : insertRule b (keyIn s at) (le32 s (keyEnd s at)) ≡ left after a = rw (f, key-part s at size, size) at e in
+      rw (insertion-there s at (λ x. z (known ∙ x)) (λ x. y (known ∙ x))) (sym (ap (λ (i : After Change). i .after) g), q ∙ rw (g))
 
 -- a turn is taken if there is a whole call, and room of n bytes for its answer
 pub turn-taken : (s : List ℕ) (at n : ℕ) {r : Bool} → r ≡ isCall s at && leb answerSize n → r ≡ true → (isCall s at ≡ true) × (answerSize ≤ n)
@@ -137,30 +136,21 @@ module _ (b₀ s out₀ b out : List ℕ) (at m : ℕ) (g : Going b₀ s out₀ 
 
 -- a batch by fresh's answer
 module _ (b : List ℕ) (k f : ℕ) (e s out : List ℕ) {b′ : List ℕ} where
-  pub batch-made : {b″ out′ : List ℕ} {n : ℕ} → freshRule b k f e ≡ afterCall b′ Accepted → runRule b′ s out ≡ leaves b″ out′ n
+  pub batch-made : {b″ out′ : List ℕ} {n : ℕ} → freshRule b k f e ≡ left b′ Made → runRule b′ s out ≡ leaves b″ out′ n
       → batchRule b k f e s out ≡ started b″ out′ (record { fresh = 0; made = n })
   unfolding batchRule
   batch-made made r = rw (made, r)
 
-  pub batch-refused : {n : ℕ} → freshRule b k f e ≡ afterCall b′ (Refused n) → batchRule b k f e s out ≡ started b′ out (record { fresh = n; made = 0 })
+  pub batch-refused : {n : ℕ} → freshRule b k f e ≡ left b′ (Refused n) → batchRule b k f e s out ≡ started b′ out (record { fresh = n; made = 0 })
   unfolding batchRule
   batch-refused refused = rw (refused)
 
 -- a refusal of fresh does not have the number 0
-pub refused-number : (b : List ℕ) (k f : ℕ) (e : List ℕ) {b′ : List ℕ} {n : ℕ} → freshRule b k f e ≡ afterCall b′ (Refused n) → n ≡ 0 → ⊥
+pub refused-number : (b : List ℕ) (k f : ℕ) (e : List ℕ) {b′ : List ℕ} {n : ℕ} → freshRule b k f e ≡ left b′ (Refused n) → n ≡ 0 → ⊥
+unfolding freshRule freshChecks
 refused-number b k f e {b′} {n} q z =
-    let zero : (x : ℕ) → freshRule b k f e ≡ afterCall b (Refused x) → x ≡ 0 = λ x g.
-    ap (λ (i : AfterCall). insertionCode (i .answer)) (sym g ∙ q) ∙ z in
-    either (keyLengthGood k)
-    (λ key. either (expressionGood e && featuresGood f)
-    (λ good. either (leb minBytes (length b))
-    (λ room.
-    let made = fresh-made b k f e key good (leb-true minBytes (length b) room) refl in
-    let same : _≡_ {A = Insertion} Accepted (Refused n) = ap (λ (i : AfterCall). i .answer) (sym made ∙ q) in
-    impossible (cc))
-    (λ room. omega (arith, zero 30 (fresh-30 b k f e key good (leb-false minBytes (length b) room)))))
-    (λ bad. omega (arith, zero 24 (fresh-24 b k f e key bad))))
-    (λ bad. omega (arith, zero 27 (fresh-27 b k f e bad)))
+    made-number (freshBuffer k f e b) b (λ (m : ℕ). m ≡ 0 → ⊥) (freshChecks b k f e)
+    ((λ bad none. omega arith), ((λ bad none. omega arith), ((λ bad none. omega arith), tt))) n (ap (λ (i : After Change). i .answer) q) z
 
 -- bytes below 256, one by one, are so all together
 all-octets : (s : List ℕ) → ((i : ℕ) → getD s i 0 < 256) → All (λ x. x < 256) s
@@ -192,10 +182,10 @@ sound-run-kept b s out ob os r sound =
 -- Theorem: demand 3 of a batch
 pub batch-kept : (b : List ℕ) (k f : ℕ) (e s out : List ℕ) {b′ b″ out′ : List ℕ} {n : ℕ} → ((i : ℕ) → getD b i 0 < 256)
     → ((i : ℕ) → getD s i 0 < 256)
-    → freshRule b k f e ≡ afterCall b′ Accepted → runRule b′ s out ≡ leaves b″ out′ n → BatchKept b k f e s out b″ out′ n
+    → freshRule b k f e ≡ left b′ Made → runRule b′ s out ≡ leaves b″ out′ n → BatchKept b k f e s out b″ out′ n
 batch-kept b k f e s out {b′} ob os made r =
-    let a : freshRule b k f e .answer ≡ Accepted = ap (λ (i : AfterCall). i .answer) made in
-    let q : freshRule b k f e .after ≡ b′ = ap (λ (i : AfterCall). i .after) made in
+    let a : freshRule b k f e .answer ≡ Made = ap (λ (i : After Change). i .answer) made in
+    let q : freshRule b k f e .after ≡ b′ = ap (λ (i : After Change). i .after) made in
     record {
       fresh = a;
       run = run-kept k f [] (freshRule b k f e .after) s out (rw (← q) at r)

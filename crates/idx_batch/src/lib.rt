@@ -1,14 +1,13 @@
 // A list of calls run by code: fresh, and then insertions, lookups and removals, each lent the buffer as the last call left it.
-use idx_insert::Insertion;
 use idx_page::RecordNumber;
-use idx_remove::Removal;
+use refusal::Change;
 ghost use mathlib.Core.Path.{_≡_};
 ghost use mathlib.Core.Bool.{true, _&&_};
 ghost use Prim.Native.Nat.{_+_, _≤_};
 ghost use lib.ListN.{length};
 ghost use lib.Dec.{leb};
 ghost use Rattle.octets.specs.Store.{put};
-ghost use Rattle.idx_book.specs.Book.{insertionAnswer, removalAnswer, lookupAnswer, bufferAfter};
+ghost use Rattle.idx_book.specs.Book.{changeAnswer, lookupAnswer, bufferAfter};
 ghost use Rattle.idx_lookup.specs.Lookup.{answerPages};
 ghost use Rattle.idx_batch.specs.Encoding.{isCall, callEnd, callAt};
 ghost use Rattle.idx_batch.specs.Run.{answerSize, replyOf, replyBytes, replyTo, leaves, runRule, SoundRunKept, started, batchRule, BatchKept};
@@ -62,35 +61,17 @@ fn goes_on(calls: &[u8], at: usize, room: usize) -> bool
     is_call(calls, at) & (ANSWER_SIZE <= room)
 }
 
-// An insertion's answer.
-fn inserted(answer: Insertion) -> Reply
-    ensures { λ r. ⌜ r ≡ replyOf (insertionAnswer answer) 0 ⌝ }
+// The answer of an insertion or a removal.
+fn changed(answer: Change) -> Reply
+    ensures { λ r. ⌜ r ≡ replyOf (changeAnswer answer) 0 ⌝ }
 {
     match answer {
-        Insertion::Accepted => Reply {
+        Change::Made => Reply {
             code: 0,
             number: 0,
             pages: 0,
         },
-        Insertion::Refused(refusal) => Reply {
-            code: refusal,
-            number: 0,
-            pages: 0,
-        },
-    }
-}
-
-// A removal's answer.
-fn struck(answer: Removal) -> Reply
-    ensures { λ r. ⌜ r ≡ replyOf (removalAnswer answer) 0 ⌝ }
-{
-    match answer {
-        Removal::Accepted => Reply {
-            code: 0,
-            number: 0,
-            pages: 0,
-        },
-        Removal::Refused(refusal) => Reply {
+        Change::Refused(refusal) => Reply {
             code: refusal,
             number: 0,
             pages: 0,
@@ -137,9 +118,9 @@ fn make_call(index: &mut [u8], calls: &[u8], at: usize) -> Reply
     }
     let number = RecordNumber(octets::load_le32(calls, end));
     if kind == 2 {
-        return struck(idx_remove::remove(index, &calls[from..end], number));
+        return changed(idx_remove::remove(index, &calls[from..end], number));
     }
-    inserted(idx_insert::insert(index, &calls[from..end], number))
+    changed(idx_insert::insert(index, &calls[from..end], number))
 }
 
 // Writes an answer at an offset.
@@ -188,11 +169,11 @@ pub fn run_batch(
         ⌝ }
 {
     match idx_insert::fresh(index, k, features, expression) {
-        Insertion::Accepted => Batch {
+        Change::Made => Batch {
             fresh: 0,
             made: run_calls(index, calls, answers),
         },
-        Insertion::Refused(refusal) => Batch {
+        Change::Refused(refusal) => Batch {
             fresh: refusal,
             made: 0,
         },

@@ -1,5 +1,5 @@
 -- Rules: demand 3, one claim about a whole list of calls, each lent the buffer as the last call left it. The calls are the rules that the contracts of
--- insertion, lookup and removal cite; the book, its answers and its pairs are those of the crate `tree`. The book begins at `idx_book`: without pairs for a
+-- insertion, lookup and removal cite; the book, its answers and its pairs are those of the crate `tree`. The book begins at `book`: without pairs for a
 -- fresh index, and at the leaves' pairs for an index that a host brings.
 use Prim.Native.Nat.{ℕ, _+_, _^_, _≤_, _<_}
 use mathlib.Core.Path.{_≡_}
@@ -7,6 +7,8 @@ use mathlib.Core.Bool.{Bool, false, cond}
 use mathlib.Core.List.{List, [], _∷_}
 use lib.Dec.{eqb}
 use lib.ListN.{length, take}
+use Rattle.refusal.specs.declared.Change.{Change}
+use Rattle.refusal.specs.declared.Change.the-variants.{Made, Refused}
 use Rattle.tree.specs.Book.{Call, insertion, removalOf, lookupOf, Answer, refused, accepted, found, absent, KeyTests, isAccepted, noRooms, resultsOf, finalOf}
 use Rattle.tree.specs.Book.{bookAnswers, bookFinal}
 use Rattle.tree.specs.Keeping.{keepingOf}
@@ -21,25 +23,17 @@ pub use Rattle.idx_sound.specs.Sound.{leafPairs}
 use Rattle.idx_insert.specs.Calls.{hasControl, insertRule}
 use Rattle.idx_insert_page.specs.Insertion.{insertedBuffer}
 use Rattle.idx_path.specs.Room.{pathTo, noRoom}
-use Rattle.idx_insert.specs.declared.Insertion.{Insertion}
-use Rattle.idx_insert.specs.declared.Insertion.the-variants.{Accepted, Refused}
 use Rattle.idx_remove.specs.Calls.{removeRule}
 use Rattle.idx_remove_page.specs.Removal.{removedBuffer}
-use Rattle.idx_remove.specs.declared.Removal.{Removal}
-use Rattle.idx_remove.specs.declared.Removal.the-variants as struck
 
 -- keys are byte strings
 abbrev pub Calls : Type 0
 Calls = List (Call (List ℕ))
 
 -- the answers of the calls in the book's words
-abbrev pub insertionAnswer : Insertion → Answer
-insertionAnswer Accepted = accepted
-insertionAnswer (Refused n) = refused n
-
-abbrev pub removalAnswer : Removal → Answer
-removalAnswer struck.Accepted = accepted
-removalAnswer (struck.Refused n) = refused n
+abbrev pub changeAnswer : Change → Answer
+changeAnswer Made = accepted
+changeAnswer (Refused n) = refused n
 
 abbrev pub lookupAnswer : Looked → Answer
 lookupAnswer (looked.Found r pages) = found (r .0)
@@ -48,8 +42,8 @@ lookupAnswer (looked.Refused n) = refused n
 
 -- a call on the buffer b: what it answers, the buffer that it leaves, and the rule for 30 on the index in b
 abbrev pub answerTo : Call (List ℕ) → List ℕ → Answer
-answerTo (insertion key r) b = insertionAnswer (insertRule b key r .answer)
-answerTo (removalOf key r) b = removalAnswer (removeRule b key r .answer)
+answerTo (insertion key r) b = changeAnswer (insertRule b key r .answer)
+answerTo (removalOf key r) b = changeAnswer (removeRule b key r .answer)
 answerTo (lookupOf key) b = lookupAnswer (lookupRule b key)
 
 abbrev pub bufferAfter : Call (List ℕ) → List ℕ → List ℕ
@@ -118,7 +112,7 @@ abbrev pub Each : (Call (List ℕ) → List ℕ → Type 0) → Calls → List �
 Each P [] b = Unit {0}
 Each P (c ∷ calls) b = P c b × Each P calls (bufferAfter c b)
 
--- the claim, for keys of k bytes and either features f: the book that begins at `idx_book` keeps the list of calls, made from the buffer b on. By the keeping of f
+-- the claim, for keys of k bytes and either features f: the book that begins at `book` keeps the list of calls, made from the buffer b on. By the keeping of f
 -- 29 and 33 are for the pair, or for features 1 for the key; the pairs are in order of key, then record number; and a lookup gives the key's first record
 pub record BookKept (k f : ℕ) (book : Pairs) (calls : Calls) (b : List ℕ) : Type 0 where
   -- "Every call answers so, never 24 or 25"

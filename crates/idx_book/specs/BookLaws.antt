@@ -1,33 +1,31 @@
 -- Laws: demand 3. After an accepted fresh, and from any sound index on, the book keeps every list of calls. Assumes nothing.
 use Prim.Native.Nat.{ℕ, zero, suc, _<_}
 use mathlib.Core.Path.{_≡_, refl, sym, ap, _∙_}
-use mathlib.Core.Bool.{Bool, true, false, _&&_}
+use mathlib.Core.Bool.{Bool, true}
 use mathlib.Core.List.{List, [], _∷_}
 use native.Mathlib.Omega.{arith}
-use lib.Dec.{leb}
 use lib.ListN.{length, take}
 use borrow.Author.Tests.{leb-true}
 use Rattle.basis.specs.Lists.{All, all-take}
-use Rattle.basis.specs.Tests.{contra, both}
-use Rattle.tree.specs.Book.{Call, insertion, removalOf, lookupOf, KeyTests, isNoRoom, isAccepted, noRooms, resultsOf, finalOf}
+use Rattle.basis.specs.Tests.{both}
+use Rattle.refusal.specs.AfterLaws.{Accepted, made-accepted}
+use Rattle.refusal.specs.declared.Change.the-variants.{Made}
+use Rattle.tree.specs.Book.{Call, insertion, removalOf, lookupOf, KeyTests, isNoRoom, noRooms, resultsOf, finalOf}
 use Rattle.tree.specs.Book.{bookAnswer, bookAfter, bookAnswers, bookFinal, BookClaim}
 use Rattle.tree.specs.BookTheorem.{list-keeps, book-claim}
 use Rattle.tree.specs.Index.{held, answer, noRoomFor as noRoomTo}
 use Rattle.tree.specs.IndexLaws.{answer-book, answer-room, next-book}
 use Rattle.tree.specs.Keeping.{Keeping, keepingOf}
-use Rattle.idx_page.specs.Header.{minBytes, keyLength, features, keyLengthGood, headerGood}
+use Rattle.idx_page.specs.Header.{minBytes, keyLength, features, headerGood}
 use Rattle.idx_page.specs.HeaderLaws.{good-header}
 use Rattle.idx_page.specs.KeyOrder.{bytesOrder}
 use Rattle.idx_page.specs.Page.{capacity}
 use Rattle.idx_layout.specs.WriteLaws.{capacity-least}
 use Rattle.idx_sound.specs.Sound.{Sound}
-use Rattle.idx_insert.specs.Calls.{AfterCall, afterCall}
-use Rattle.idx_insert.specs.Fresh.{expressionGood, featuresGood, freshBuffer, freshRule}
-use Rattle.idx_insert.specs.declared.Insertion.{Insertion}
-use Rattle.idx_insert.specs.declared.Insertion.the-variants.{Accepted, Refused}
+use Rattle.idx_insert.specs.Fresh.{expressionGood, featuresGood, freshBuffer, freshChecks, freshRule}
 use Rattle.idx_insert_laws.specs.InsertionHeads.{Plain, octets-plain}
 use Rattle.idx_insert_laws.specs.FreshLaws.{FreshIs, fresh-is-sound}
-use Rattle.idx_book.specs.Book.{Calls, insertionAnswer, answerTo, bufferAfter, noRoomFor, barcodes, FourBytes, answersTo, bufferAt, Pairs, leafPairs}
+use Rattle.idx_book.specs.Book.{Calls, answerTo, bufferAfter, noRoomFor, barcodes, FourBytes, answersTo, bufferAt, Pairs, leafPairs}
 use Rattle.idx_book.specs.Book.{VisitsLevels, LeavesBuffer, Each, BookKept}
 use Rattle.idx_book.specs.CallLaws.{Kept, readIndex, read-is, keeping, kept-sound, visits-levels, leaves-buffer, same-answer, same-rule, keeps, same-next}
 
@@ -135,54 +133,32 @@ pub demand-3-sound : (b : List ℕ) → All (λ x. x < 256) b → (s : Sound b) 
     → BookKept (keyLength b) (features b) (leafPairs b s) calls b
 demand-3-sound b octets s calls o = sound-kept b (octets-plain b octets) s calls o
 
--- what fresh leaves and answers, by its three tests
-fresh-tests : List ℕ → List ℕ → Bool → Bool → Bool → AfterCall
-fresh-tests b b″ key expression room =
-    elim key [
-      | false ↦ afterCall b (Refused 27)
-      | true ↦ elim expression [ false ↦ afterCall b (Refused 24) | true ↦ elim room [ false ↦ afterCall b (Refused 30) | true ↦ afterCall b″ Accepted ] ]
-    ]
+-- fresh is accepted only if its three checks hold
+fresh-accepted : (k f : ℕ) (e b : List ℕ) → freshRule b k f e .answer ≡ Made → Accepted (freshBuffer k f e b) b (freshChecks b k f e)
+unfolding freshRule
+fresh-accepted k f e b a = made-accepted (freshBuffer k f e b) b (freshChecks b k f e) a
 
--- it is accepted only if all three hold
-record FreshAccepted (b b″ after : List ℕ) (key expression room : Bool) : Type 0 where
-  keyGood : key ≡ true
-  expressionGood : expression ≡ true
-  roomGood : room ≡ true
-  leaves : after ≡ b″
-
-tests-accepted : (b b″ : List ℕ) (key expression room : Bool) → isAccepted (insertionAnswer (fresh-tests b b″ key expression room .answer)) ≡ true
-    → FreshAccepted b b″ (fresh-tests b b″ key expression room .after) key expression room
-unfolding fresh-tests
-tests-accepted b b″ false expression room e = contra e refl
-tests-accepted b b″ true false room e = contra e refl
-tests-accepted b b″ true true false e = contra e refl
-tests-accepted b b″ true true true e = record { keyGood = refl; expressionGood = refl; roomGood = refl; leaves = refl }
-
-fresh-accepted : (k f : ℕ) (e b : List ℕ) → freshRule b k f e .answer ≡ Accepted
-    → FreshAccepted b (freshBuffer k f e b) (freshRule b k f e .after) (keyLengthGood k) (expressionGood e && featuresGood f) (leb minBytes (length b))
-unfolding freshRule fresh-tests
-fresh-accepted k f e b a = tests-accepted b (freshBuffer k f e b) (keyLengthGood k) (expressionGood e && featuresGood f) (leb minBytes (length b))
-    (ap (λ (x : Insertion). isAccepted (insertionAnswer x)) a)
-
-pub fresh-leaves : (k f : ℕ) (e b : List ℕ) → freshRule b k f e .answer ≡ Accepted → freshRule b k f e .after ≡ freshBuffer k f e b
+pub fresh-leaves : (k f : ℕ) (e b : List ℕ) → freshRule b k f e .answer ≡ Made → freshRule b k f e .after ≡ freshBuffer k f e b
+unfolding freshRule
 fresh-leaves k f e b a = fresh-accepted k f e b a .leaves
 
 -- an accepted fresh leaves a sound index without pairs
-pub fresh-is : (b : List ℕ) (k f : ℕ) (e : List ℕ) → All (λ x. x < 256) b → freshRule b k f e .answer ≡ Accepted → FreshIs k f e b
+pub fresh-is : (b : List ℕ) (k f : ℕ) (e : List ℕ) → All (λ x. x < 256) b → freshRule b k f e .answer ≡ Made → FreshIs k f e b
+unfolding freshChecks
 fresh-is b k f e octets a =
-    let t = fresh-accepted k f e b a in
-    let told = both (expressionGood e) (featuresGood f) (t .expressionGood) in
+    let held = fresh-accepted k f e b a .held in
+    let told = both (expressionGood e) (featuresGood f) (held .1 .0) in
     fresh-is-sound k f e b (record {
-      key = t .keyGood;
+      key = held .0;
       expression = told .0;
       told = told .1;
-      room = leb-true minBytes (length b) (t .roomGood);
+      room = leb-true minBytes (length b) (held .1 .1 .0);
       plain = octets-plain b octets;
     })
 
 -- Theorem: demand 3, over both features. After an accepted fresh, which is told the features, the book begins without pairs, since a fresh index is sound and
 -- has none
-pub demand-3 : (b : List ℕ) (k f : ℕ) (e : List ℕ) → All (λ x. x < 256) b → freshRule b k f e .answer ≡ Accepted → (calls : Calls)
+pub demand-3 : (b : List ℕ) (k f : ℕ) (e : List ℕ) → All (λ x. x < 256) b → freshRule b k f e .answer ≡ Made → (calls : Calls)
     → All FourBytes calls
     → BookKept k f [] calls (freshRule b k f e .after)
 demand-3 b k f e octets a calls o =
@@ -190,4 +166,4 @@ demand-3 b k f e octets a calls o =
     let empty : leafPairs (freshBuffer k f e b) (i .sound) ≡ [] = ap held (i .index) in
     let kept : BookKept (keyLength (freshBuffer k f e b)) (features (freshBuffer k f e b)) (leafPairs (freshBuffer k f e b) (i .sound)) calls
     (freshBuffer k f e b) = sound-kept (freshBuffer k f e b) (i .plain) (i .sound) calls o in
-    rw (fresh-accepted k f e b a .leaves) (rw (empty, i .keyIs, i .featuresAre) at kept)
+    rw (fresh-leaves k f e b a) (rw (empty, i .keyIs, i .featuresAre) at kept)

@@ -10,6 +10,9 @@ use lib.Dec.{eqb}
 use lib.ListN.{length, replicate, length-replicate}
 use borrow.Author.Tests.{eqb-true}
 use Rattle.basis.specs.Tests.{either, contra, impossible}
+use Rattle.refusal.specs.Checks.{unless}
+use Rattle.refusal.specs.After.{madeUnless}
+use Rattle.refusal.specs.AfterLaws.{made-either}
 use Rattle.tree.specs.Book.{Call, insertion, removalOf, lookupOf, accepted, absent, refusedIf, foundOrAbsent, isAccepted, bookAnswer}
 use Rattle.tree.specs.Index.{Index, held, Setting, outOfRoom, noRoomFor as noRoomTo, answer, inserted, removed, next}
 use Rattle.tree.specs.FreeChain.{chainFrom}
@@ -37,21 +40,18 @@ use Rattle.idx_sound.specs.Accepted.{accepted as audit-accepts}
 use Rattle.idx_sound.specs.Sound.{indexTree, keptBy, Sound, leafPairs}
 use Rattle.idx_sound.specs.AuditTest.{pagesGood}
 use Rattle.idx_sound.specs.IndexLaws.{indexOf, settingOf, sound-index, once-page}
-use Rattle.idx_insert.specs.Calls.{AfterCall, afterCall, hasControl, insertRule}
+use Rattle.idx_insert.specs.Calls.{hasControl, insertChecks, insertRule}
 use Rattle.idx_insert_page.specs.Insertion.{insertedBuffer}
 use Rattle.idx_path.specs.Room.{pathTo, noRoom}
-use Rattle.idx_insert.specs.declared.Insertion.the-variants.{Accepted, Refused}
 use Rattle.idx_insert_laws.specs.InsertionHeads.{Plain}
 use Rattle.idx_insert_laws.specs.RoomLaws.{sound-levels, present-is, room-is}
 use Rattle.idx_insert_laws.specs.InsertionSound.{Accepts, insert-keeps-sound}
-use Rattle.idx_remove.specs.Calls as strike
-use Rattle.idx_remove.specs.Calls.{removeRule}
+use Rattle.idx_remove.specs.Calls.{removeChecks, removeRule}
 use Rattle.idx_path.specs.Presence.{isThere}
 use Rattle.idx_remove_page.specs.Removal.{removedBuffer}
-use Rattle.idx_remove.specs.declared.Removal.the-variants as struck
 use Rattle.idx_remove_laws.specs.RemovalSound.{Strikes, remove-keeps-sound}
 use Rattle.idx_remove_laws.specs.ThereLaws.{there-is}
-use Rattle.idx_book.specs.Book.{insertionAnswer, removalAnswer, lookupAnswer, answerTo, bufferAfter, noRoomFor, fits, barcodes}
+use Rattle.idx_book.specs.Book.{changeAnswer, lookupAnswer, answerTo, bufferAfter, noRoomFor, fits, barcodes}
 use Rattle.idx_book.specs.Book.{FourBytes, VisitsLevels, LeavesBuffer}
 
 -- what each call keeps of a buffer of `size` bytes, for keys of k bytes and the features f
@@ -97,107 +97,38 @@ read-is b s = ap₂ (indexOf b) (height-is b s) (free-is b s)
 abbrev pub keeping : ℕ → ℕ → ℕ → Setting (List ℕ)
 keeping f k size = settingOf f k (min size maxBytes)
 
--- insertion's refusals, "24, 27, 28, 25 .., 29 .., 30", and 32 "after 27 and before 28", by their tests; b″ is the buffer after an accepted insertion
-refusals : List ℕ → List ℕ → Bool → Bool → Bool → Bool → Bool → Bool → Bool → AfterCall
-refusals b b″ good fit control zero audit there full =
-    elim good [
-      | false ↦ afterCall b (Refused 24)
-      | true ↦ elim fit [
-        | false ↦ afterCall b (Refused 27)
-        | true ↦ elim control [
-          | true ↦ afterCall b (Refused 32)
-          | false ↦ elim zero [
-            | true ↦ afterCall b (Refused 28)
-            | false ↦ elim audit [
-              | false ↦ afterCall b (Refused 25)
-              | true ↦ elim there [
-                | true ↦ afterCall b (Refused 29)
-                | false ↦ elim full [ true ↦ afterCall b (Refused 30) | false ↦ afterCall b″ Accepted ]
-              ]
-            ]
-          ]
-        ]
-      ]
-    ]
-
--- on a sound index the refusals are the book's
-refusals-answer : (b b″ : List ℕ) (fit control zero there full : Bool)
-    → insertionAnswer (refusals b b″ true fit control zero true there full .answer)
+-- on a sound index insertion's checks are the book's; b″ is the buffer after an accepted insertion
+insert-book : (b b″ : List ℕ) (fit control zero there full : Bool)
+    → changeAnswer (madeUnless
+    ((true, 24) ∷ (fit, 27) ∷ (not control, 32) ∷ (not zero, 28) ∷ (true, 25) ∷ (not there, 29) ∷ (not full, 30) ∷ []) b″ b .answer)
     ≡ refusedIf (not fit) 27 (refusedIf control 32 (refusedIf zero 28 (refusedIf there 29 (refusedIf full 30 accepted))))
-unfolding refusals
-refusals-answer b b″ false control zero there full = refl
-refusals-answer b b″ true true zero there full = refl
-refusals-answer b b″ true false true there full = refl
-refusals-answer b b″ true false false true full = refl
-refusals-answer b b″ true false false false true = refl
-refusals-answer b b″ true false false false false = refl
+unfolding madeUnless unless
+insert-book b b″ false control zero there full = refl
+insert-book b b″ true true zero there full = refl
+insert-book b b″ true false true there full = refl
+insert-book b b″ true false false true full = refl
+insert-book b b″ true false false false true = refl
+insert-book b b″ true false false false false = refl
+
+-- and so are removal's
+remove-book : (b b″ : List ℕ) (fit there : Bool)
+    → changeAnswer (madeUnless ((true, 24) ∷ (fit, 27) ∷ (true, 25) ∷ (there, 33) ∷ []) b″ b .answer)
+    ≡ refusedIf (not fit) 27 (refusedIf (not there) 33 accepted)
+unfolding madeUnless unless
+remove-book b b″ false there = refl
+remove-book b b″ true false = refl
+remove-book b b″ true true = refl
 
 -- a refusal leaves the buffer as it was
-refusals-after : (b b″ : List ℕ) (good fit control zero audit there full : Bool)
-    → refusals b b″ good fit control zero audit there full .after
-    ≡ cond (isAccepted (insertionAnswer (refusals b b″ good fit control zero audit there full .answer))) b″ b
-unfolding refusals
-refusals-after b b″ false fit control zero audit there full = refl
-refusals-after b b″ true false control zero audit there full = refl
-refusals-after b b″ true true true zero audit there full = refl
-refusals-after b b″ true true false true audit there full = refl
-refusals-after b b″ true true false false false there full = refl
-refusals-after b b″ true true false false true true full = refl
-refusals-after b b″ true true false false true false true = refl
-refusals-after b b″ true true false false true false false = refl
-
-insert-refusals : (b key : List ℕ) (r : ℕ) → insertRule b key r
-    ≡ refusals b (insertedBuffer (keyLength b) b key r) (headerGood b) (eqb (length key) (keyLength b)) (hasControl key) (eqb r 0) (pagesGood b)
-    (pathTo (keyLength b) b key r .present) (noRoom b (pathTo (keyLength b) b key r))
-unfolding insertRule refusals
-insert-refusals b key r = refl
-
--- removal's refusals, "24, 27, 25 by full audit, then 33", by their tests; b″ is the buffer after an accepted removal
-strikings : List ℕ → List ℕ → Bool → Bool → Bool → Bool → strike.AfterCall
-strikings b b″ good fit audit there =
-    elim good [
-      | false ↦ strike.afterCall b (struck.Refused 24)
-      | true ↦ elim fit [
-        | false ↦ strike.afterCall b (struck.Refused 27)
-        | true ↦ elim audit [
-          | false ↦ strike.afterCall b (struck.Refused 25)
-          | true ↦ elim there [ false ↦ strike.afterCall b (struck.Refused 33) | true ↦ strike.afterCall b″ struck.Accepted ]
-        ]
-      ]
-    ]
-
--- on a sound index the refusals are the book's
-strikings-answer : (b b″ : List ℕ) (fit there : Bool)
-    → removalAnswer (strikings b b″ true fit true there .answer) ≡ refusedIf (not fit) 27 (refusedIf (not there) 33 accepted)
-unfolding strikings
-strikings-answer b b″ false there = refl
-strikings-answer b b″ true false = refl
-strikings-answer b b″ true true = refl
-
--- a refusal leaves the buffer as it was
-strikings-after : (b b″ : List ℕ) (good fit audit there : Bool)
-    → strikings b b″ good fit audit there .after ≡ cond (isAccepted (removalAnswer (strikings b b″ good fit audit there .answer))) b″ b
-unfolding strikings
-strikings-after b b″ false fit audit there = refl
-strikings-after b b″ true false audit there = refl
-strikings-after b b″ true true false there = refl
-strikings-after b b″ true true true false = refl
-strikings-after b b″ true true true true = refl
-
-remove-strikings : (b key : List ℕ) (r : ℕ) → removeRule b key r
-    ≡ strikings b (removedBuffer (keyLength b) b key r) (headerGood b) (eqb (length key) (keyLength b)) (pagesGood b) (isThere (keyLength b) b key r)
-unfolding removeRule strikings
-remove-strikings b key r = refl
+left-by-checks : (made b : List ℕ) (checks : List (Bool × ℕ))
+    → madeUnless checks made b .after ≡ cond (isAccepted (changeAnswer (madeUnless checks made b .answer))) made b
+left-by-checks made b checks = made-either made b checks (λ e. rw e) (λ n e. rw e)
 
 -- Theorem: an insertion or a removal leaves the buffer that the papers' steps make, or leaves it as it was
 pub leaves-buffer : (c : Call (List ℕ)) (b : List ℕ) → LeavesBuffer c b
-unfolding insertRule refusals removeRule strikings
-leaves-buffer (insertion key r) b =
-    refusals-after b (insertedBuffer (keyLength b) b key r) (headerGood b) (eqb (length key) (keyLength b)) (hasControl key) (eqb r 0)
-    (pagesGood b) (pathTo (keyLength b) b key r .present) (noRoom b (pathTo (keyLength b) b key r))
-leaves-buffer (removalOf key r) b =
-    strikings-after b (removedBuffer (keyLength b) b key r) (headerGood b) (eqb (length key) (keyLength b)) (pagesGood b)
-    (isThere (keyLength b) b key r)
+unfolding insertRule removeRule
+leaves-buffer (insertion key r) b = left-by-checks (insertedBuffer (keyLength b) b key r) b (insertChecks b key r)
+leaves-buffer (removalOf key r) b = left-by-checks (removedBuffer (keyLength b) b key r) b (removeChecks b key r)
 leaves-buffer (lookupOf key) b = tt
 
 -- an accepted removal's key fits and is there
@@ -265,8 +196,8 @@ module _ (k f size : ℕ) (b : List ℕ) (kept : Kept k f size b) where
       (lookup-by b key s (long-key key t))
 
   misfit : (key : List ℕ) → fits k key ≡ false → lookupRule b key ≡ looked.Refused 27
-  unfolding lookupRule
-  misfit key t = rw (s .header, same-fit key ∙ t, lookupRule)
+  unfolding lookupRule unless
+  misfit key t = rw (s .header, same-fit key ∙ t)
 
   lookup-answers : (key : List ℕ) → answerTo (lookupOf key) b ≡ answer own (barcodes k) (lookupOf key) (readIndex b)
   lookup-answers key = either (fits k key)
@@ -308,9 +239,10 @@ module _ (k f size : ℕ) (b : List ℕ) (kept : Kept k f size b) where
         there-is b key r s (long-key key t) r32 ∙ ap (λ (i : Index (List ℕ)). has (keptBy b .pairLe) (key, r) (held i)) (sym same-index)
 
   insert-answers : (key : List ℕ) (r : ℕ) → r < 2 ^ 32 → answerTo (insertion key r) b ≡ answer own (barcodes k) (insertion key r) (readIndex b)
+  unfolding insertRule insertChecks
   insert-answers key r r32 =
-      rw (insert-refusals b key r, s .header, audit-accepts b (s .header) .1 s)
-      (refusals-answer b (insertedBuffer (keyLength b) b key r) (eqb (length key) (keyLength b)) (hasControl key) (eqb r 0)
+      rw (s .header, audit-accepts b (s .header) .1 s)
+      (insert-book b (insertedBuffer (keyLength b) b key r) (eqb (length key) (keyLength b)) (hasControl key) (eqb r 0)
       (pathTo (keyLength b) b key r .present) (noRoom b (pathTo (keyLength b) b key r))
       ∙ either (fits k key)
       (λ t. rw (same-fit key, t, same-room key r r32 t, same-present key r r32 t))
@@ -318,9 +250,10 @@ module _ (k f size : ℕ) (b : List ℕ) (kept : Kept k f size b) where
 
   -- removal
   remove-answers : (key : List ℕ) (r : ℕ) → r < 2 ^ 32 → answerTo (removalOf key r) b ≡ answer own (barcodes k) (removalOf key r) (readIndex b)
+  unfolding removeRule removeChecks
   remove-answers key r r32 =
-      rw (remove-strikings b key r, s .header, audit-accepts b (s .header) .1 s)
-      (strikings-answer b (removedBuffer (keyLength b) b key r) (eqb (length key) (keyLength b)) (isThere (keyLength b) b key r)
+      rw (s .header, audit-accepts b (s .header) .1 s)
+      (remove-book b (removedBuffer (keyLength b) b key r) (eqb (length key) (keyLength b)) (isThere (keyLength b) b key r)
       ∙ either (fits k key) (λ t. rw (same-fit key, t, same-there key r r32 t)) (λ t. rw (same-fit key, t)))
 
   own-answer : (c : Call (List ℕ)) → FourBytes c → answerTo c b ≡ answer own (barcodes k) c (readIndex b)

@@ -11,13 +11,14 @@ use lib.Dec.{eqb}
 use lib.ListN.{length}
 use borrow.Author.Tests.{eqb-true, eqb-false}
 use Rattle.basis.specs.Tests.{either, contra}
+use Rattle.refusal.specs.After.{After, changeCode}
+use Rattle.refusal.specs.declared.Change.{Change}
+use Rattle.refusal.specs.declared.Change.the-variants.{Made, Refused}
 use Rattle.idx_page.specs.Header.{keyLength, features, headerGood}
 use Rattle.idx_sound.specs.Sound.{Sound}
-use Rattle.idx_insert.specs.Calls.{AfterCall, insertionCode, hasControl, insertRule}
+use Rattle.idx_insert.specs.Calls.{hasControl, insertRule}
 use Rattle.idx_insert.specs.CallLaws as calls
 use Rattle.idx_path.specs.Room.{pathTo, noRoom}
-use Rattle.idx_insert.specs.declared.Insertion.{Insertion}
-use Rattle.idx_insert.specs.declared.Insertion.the-variants.{Accepted, Refused}
 use Rattle.idx_book.specs.Book.{leafPairs}
 use Rattle.idx_book.specs.CaseLaws.{whether, fails, HasPair, leaf-exactly, same-pairs, BadHeader, WrongLength, by-length, by-audit, pages-good, pages-bad}
 
@@ -69,7 +70,7 @@ pub record Fitting (b key : List ℕ) (r : ℕ) : Type 0 where
   pub room : noRoom b (pathTo (keyLength b) b key r) ≡ false
 
 -- the answer a to an insertion of a key with the record number r: each of the eight answers is given exactly when
-pub record InsertionSays (b key : List ℕ) (r : ℕ) (a : Insertion) : Type 0 where
+pub record InsertionSays (b key : List ℕ) (r : ℕ) (a : Change) : Type 0 where
   pub refused-24 : (a ≡ Refused 24) ↔ BadHeader b
   pub refused-27 : (a ≡ Refused 27) ↔ WrongLength b key
   pub refused-32 : (a ≡ Refused 32) ↔ ControlByte b key
@@ -77,7 +78,7 @@ pub record InsertionSays (b key : List ℕ) (r : ℕ) (a : Insertion) : Type 0 w
   pub refused-25 : (a ≡ Refused 25) ↔ Unsound b key r
   pub refused-29 : (a ≡ Refused 29) ↔ Present b key r
   pub refused-30 : (a ≡ Refused 30) ↔ Full b key r
-  pub accepted : (a ≡ Accepted) ↔ Fitting b key r
+  pub accepted : (a ≡ Made) ↔ Fitting b key r
 
 module _ (b key : List ℕ) (r : ℕ) (r32 : r < 2 ^ 32) where
   -- every insertion is one of the eight cases
@@ -98,7 +99,7 @@ module _ (b key : List ℕ) (r : ℕ) (r32 : r < 2 ^ 32) where
       let new : New b key r = record { asked = asked; sound = s; absent = λ t. contra (leaf .1 t) f } in
       either (noRoom b (pathTo (keyLength b) b key r)) (λ n. f30 (record { new = new; full = n })) (λ n. made (record { new = new; room = n })))))))
 
-  abbrev answer : Insertion
+  abbrev answer : Change
   answer = insertRule b key r .answer
 
   not-zero : 0 < r → r ≡ 0 → ⊥
@@ -109,40 +110,40 @@ module _ (b key : List ℕ) (r : ℕ) (r32 : r < 2 ^ 32) where
 
   -- in each case the rule gives its answer
   is-24 : BadHeader b → answer ≡ Refused 24
-  is-24 c = ap (λ (i : AfterCall). i .answer) (calls.refused-24 b key r (c .header))
+  is-24 c = ap (λ (i : After Change). i .answer) (calls.refused-24 b key r (c .header))
 
   is-27 : WrongLength b key → answer ≡ Refused 27
-  is-27 c = ap (λ (i : AfterCall). i .answer) (calls.refused-27 b key r (c .header) (c .other))
+  is-27 c = ap (λ (i : After Change). i .answer) (calls.refused-27 b key r (c .header) (c .other))
 
   is-32 : ControlByte b key → answer ≡ Refused 32
-  is-32 c = ap (λ (i : AfterCall). i .answer) (calls.refused-32 b key r (c .header) (c .fits) (c .control))
+  is-32 c = ap (λ (i : After Change). i .answer) (calls.refused-32 b key r (c .header) (c .fits) (c .control))
 
   is-28 : NoNumber b key r → answer ≡ Refused 28
-  is-28 c = ap (λ (i : AfterCall). i .answer) (calls.refused-28 b key r (c .header) (c .fits) (c .clean) (c .zero))
+  is-28 c = ap (λ (i : After Change). i .answer) (calls.refused-28 b key r (c .header) (c .fits) (c .clean) (c .zero))
 
   is-25 : Unsound b key r → answer ≡ Refused 25
   is-25 c =
       let a = c .asked in
-      ap (λ (i : AfterCall). i .answer)
+      ap (λ (i : After Change). i .answer)
       (calls.refused-25 b key r (a .header) (a .fits) (a .clean) (not-zero (a .number)) (pages-bad b (a .header) (c .unsound)))
 
   is-29 : Present b key r → answer ≡ Refused 29
   is-29 c =
       let a = c .asked in
-      ap (λ (i : AfterCall). i .answer)
+      ap (λ (i : After Change). i .answer)
       (calls.refused-29 b key r (a .header) (a .fits) (a .clean) (not-zero (a .number)) (pages-good b (c .sound))
       (leaf-exactly b key r (a .fits) r32 (c .sound) .1 (c .there)))
 
   is-30 : Full b key r → answer ≡ Refused 30
   is-30 c =
       let a = c .new .asked in
-      ap (λ (i : AfterCall). i .answer)
+      ap (λ (i : After Change). i .answer)
       (calls.refused-30 b key r (a .header) (a .fits) (a .clean) (not-zero (a .number)) (pages-good b (c .new .sound)) (not-present (c .new)) (c .full))
 
-  is-accepted : Fitting b key r → answer ≡ Accepted
+  is-accepted : Fitting b key r → answer ≡ Made
   is-accepted c =
       let a = c .new .asked in
-      ap (λ (i : AfterCall). i .answer)
+      ap (λ (i : After Change). i .answer)
       (calls.accepted-pair b key r (a .header) (a .fits) (a .clean) (not-zero (a .number)) (pages-good b (c .new .sound)) (not-present (c .new)) (c .room) refl)
 
   -- the case by the answer's code; an accepted insertion has 0
@@ -155,7 +156,7 @@ module _ (b key : List ℕ) (r : ℕ) (r32 : r < 2 ^ 32) where
       (whether (eqb n 25) (Unsound b key r)
       (whether (eqb n 29) (Present b key r) (whether (eqb n 30) (Full b key r) (Fitting b key r)))))))
 
-  answer-case : Case (insertionCode answer)
+  answer-case : Case (changeCode answer)
   unfolding Case whether
   answer-case = cases
       (λ c. rw (is-24 c) c)
@@ -167,8 +168,8 @@ module _ (b key : List ℕ) (r : ℕ) (r32 : r < 2 ^ 32) where
       (λ c. rw (is-30 c) c)
       (λ c. rw (is-accepted c) c)
 
-  from : (a : Insertion) → answer ≡ a → Case (insertionCode a)
-  from a e = subst (λ (x : Insertion). Case (insertionCode x)) e answer-case
+  from : (a : Change) → answer ≡ a → Case (changeCode a)
+  from a e = subst (λ (x : Change). Case (changeCode x)) e answer-case
 
   -- Theorem: insertion gives each of its answers exactly in that answer's case
   pub insertion-says : InsertionSays b key r (insertRule b key r .answer)
@@ -181,11 +182,11 @@ module _ (b key : List ℕ) (r : ℕ) (r32 : r < 2 ^ 32) where
     refused-25 = (from (Refused 25), is-25);
     refused-29 = (from (Refused 29), is-29);
     refused-30 = (from (Refused 30), is-30);
-    accepted = (from Accepted, is-accepted);
+    accepted = (from Made, is-accepted);
   }
 
   -- Theorem: no two answers meet `InsertionSays`
-  pub one-answer : (a a′ : Insertion) → InsertionSays b key r a → InsertionSays b key r a′ → a ≡ a′
+  pub one-answer : (a a′ : Change) → InsertionSays b key r a → InsertionSays b key r a′ → a ≡ a′
   one-answer a a′ s t = cases
       (λ c. s .refused-24 .1 c ∙ sym (t .refused-24 .1 c))
       (λ c. s .refused-27 .1 c ∙ sym (t .refused-27 .1 c))

@@ -10,6 +10,7 @@ use Rattle.basis.specs.Lists.{All}
 use Rattle.tree.specs.Book.{Call, insertion, removalOf, lookupOf, accepted, found, isAccepted, finalOf}
 use Rattle.tree.specs.BookTheorem.{HoldsAtMost, list-bounded, list-grows}
 use Rattle.tree.specs.Index.{held, fresh, outOfRoom, answer, next}
+use Rattle.refusal.specs.declared.Change.the-variants.{Made}
 use Rattle.idx_page.specs.KeyOrder.{bytesOrder}
 use Rattle.tree.specs.IndexLaws.{accepted-strikable}
 use Rattle.tree.specs.Keeping.{keepingOf, distinctKeys}
@@ -19,9 +20,8 @@ use Rattle.tree.specs.ReuseLaws.{fresh-bounded, again-found}
 use Rattle.idx_page.specs.Header.{maxLevels, pageSize, fileSize, keyLength, features, goodFeatures}
 use Rattle.idx_page.specs.Page.{capacity}
 use Rattle.idx_sound.specs.Sound.{Sound}
-use Rattle.idx_insert.specs.Calls.{AfterCall, hasControl}
+use Rattle.idx_insert.specs.Calls.{hasControl}
 use Rattle.idx_insert.specs.Fresh.{freshBuffer, freshRule}
-use Rattle.idx_insert.specs.declared.Insertion.the-variants.{Accepted}
 use Rattle.idx_insert_laws.specs.InsertionHeads.{octets-plain}
 use Rattle.idx_insert_laws.specs.FreshLaws.{FreshIs}
 use Rattle.idx_book.specs.Book.{Calls, answerTo, bufferAfter, noRoomFor, fits, barcodes, FourBytes, bufferAt, bookAt}
@@ -61,7 +61,7 @@ never-shrinks b octets s calls o =
     (record { sound = s; keyIs = refl; featuresAre = refl; as-long = refl; plain = octets-plain b octets })
 
 -- Theorem: pages are reused. If the book never has more than m pairs, F is at most 512 · (1 + 15 · m), however long the list of calls is
-pub pages-reused : (b : List ℕ) (k f : ℕ) (e : List ℕ) → All (λ x. x < 256) b → freshRule b k f e .answer ≡ Accepted → (calls : Calls)
+pub pages-reused : (b : List ℕ) (k f : ℕ) (e : List ℕ) → All (λ x. x < 256) b → freshRule b k f e .answer ≡ Made → (calls : Calls)
     → All FourBytes calls → (m : ℕ) → 0 < m → ((n : ℕ) → length (bookAt k f [] n calls (freshRule b k f e .after)) ≤ m)
     → fileSize (finalOf bufferAfter calls (freshRule b k f e .after)) ≤ pageSize * suc (maxLevels * m)
 pages-reused b k f e octets a calls o m pos few =

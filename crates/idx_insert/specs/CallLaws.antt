@@ -1,14 +1,17 @@
 -- Laws: the cases of insertion and of fresh, each from the tests that lead to it. Cited by the proofs of the two calls. Assumes nothing.
 use Prim.Native.Nat.{ℕ, suc, _+_, _≤_, _<_}
-use mathlib.Core.Path.{_≡_, refl, _∙_}
-use mathlib.Core.Bool.{Bool, true, false, _&&_, and-true, and-false}
+use mathlib.Core.Path.{_≡_, refl, sym, ap, _∙_}
+use mathlib.Core.Bool.{Bool, true, false, not, _&&_, and-true, and-false}
 use mathlib.Core.List.{List}
 use native.Mathlib.Numerals.{add-one}
 use lib.ListN.{length, drop, getD, drop-of-length-le}
 use lib.Seq.{drop-cons}
-use lib.Dec.{leb}
+use lib.Dec.{eqb, leb}
 use borrow.Author.Tests.{eq-eqb, ne-eqb, leb-true, le-leb, lt-leb, lt-ltb, le-ltb}
 use Rattle.basis.specs.Tests.{contra, both}
+use Rattle.refusal.specs.After.{left}
+use Rattle.refusal.specs.AfterLaws.{made-none, made-at}
+use Rattle.refusal.specs.declared.Change.the-variants.{Made, Refused}
 use Rattle.octets.specs.Store.{put}
 use Rattle.idx_page.specs.Header.{maxFeatures, minBytes, pageSize, noPage, keyLength, keyLengthGood, headerGood}
 use Rattle.idx_page.specs.Reading.{items}
@@ -16,50 +19,60 @@ use Rattle.idx_sound.specs.AuditTest.{pagesGood}
 use Rattle.idx_layout.specs.Layout.{headerBytes, newPage}
 use Rattle.idx_insert_page.specs.Insertion.{insertedBuffer}
 use Rattle.idx_path.specs.Room.{pathTo, noRoom}
-use Rattle.idx_insert.specs.Calls.{afterCall, hasControl, insertRule}
-use Rattle.idx_insert.specs.Fresh.{printable, maxExpression, expressionGood, featuresGood, freshHeader, freshBuffer, freshRule}
-use Rattle.idx_insert.specs.declared.Insertion.the-variants.{Accepted, Refused}
+use Rattle.idx_insert.specs.Calls.{hasControl, insertChecks, insertRule}
+use Rattle.idx_insert.specs.Fresh.{printable, maxExpression, expressionGood, featuresGood, freshHeader, freshBuffer, freshChecks, freshRule}
 
--- insertion, refusal by refusal in its order
+-- insertion, refusal by refusal in its order: the checks before it hold, and its own fails
 module _ (b key : List ℕ) (r : ℕ) where
-  pub refused-24 : headerGood b ≡ false → insertRule b key r ≡ afterCall b (Refused 24)
-  unfolding insertRule
-  refused-24 e = rw (e, insertRule)
+  abbrev made : List ℕ
+  made = insertedBuffer (keyLength b) b key r
+
+  pub refused-24 : headerGood b ≡ false → insertRule b key r ≡ left b (Refused 24)
+  unfolding insertRule insertChecks
+  refused-24 e = made-at made b 0 (insertChecks b key r) tt e
 
   module _ (header : headerGood b ≡ true) where
-    pub refused-27 : (length key ≡ keyLength b → ⊥) → insertRule b key r ≡ afterCall b (Refused 27)
-    unfolding insertRule
-    refused-27 s = rw (header, ne-eqb (length key) (keyLength b) s, insertRule)
+    pub refused-27 : (length key ≡ keyLength b → ⊥) → insertRule b key r ≡ left b (Refused 27)
+    unfolding insertRule insertChecks
+    refused-27 other = made-at made b 1 (insertChecks b key r) (header, tt) (ne-eqb (length key) (keyLength b) other)
 
     module _ (same : length key ≡ keyLength b) where
-      pub refused-32 : hasControl key ≡ true → insertRule b key r ≡ afterCall b (Refused 32)
-      unfolding insertRule
-      refused-32 c = rw (header, eq-eqb (length key) (keyLength b) same, c, insertRule)
+      fits : eqb (length key) (keyLength b) ≡ true
+      fits = eq-eqb (length key) (keyLength b) same
+
+      pub refused-32 : hasControl key ≡ true → insertRule b key r ≡ left b (Refused 32)
+      unfolding insertRule insertChecks
+      refused-32 c = made-at made b 2 (insertChecks b key r) (header, (fits, tt)) (ap not c)
 
       module _ (clean : hasControl key ≡ false) where
-        pub refused-28 : r ≡ 0 → insertRule b key r ≡ afterCall b (Refused 28)
-        unfolding insertRule
-        refused-28 z = rw (header, eq-eqb (length key) (keyLength b) same, clean, eq-eqb r 0 z, insertRule)
+        pub refused-28 : r ≡ 0 → insertRule b key r ≡ left b (Refused 28)
+        unfolding insertRule insertChecks
+        refused-28 z = made-at made b 3 (insertChecks b key r) (header, (fits, (ap not clean, tt))) (ap not (eq-eqb r 0 z))
 
         module _ (some : r ≡ 0 → ⊥) where
-          pub refused-25 : pagesGood b ≡ false → insertRule b key r ≡ afterCall b (Refused 25)
-          unfolding insertRule
-          refused-25 e = rw (header, eq-eqb (length key) (keyLength b) same, clean, ne-eqb r 0 some, e, insertRule)
+          number : not (eqb r 0) ≡ true
+          number = ap not (ne-eqb r 0 some)
+
+          pub refused-25 : pagesGood b ≡ false → insertRule b key r ≡ left b (Refused 25)
+          unfolding insertRule insertChecks
+          refused-25 e = made-at made b 4 (insertChecks b key r) (header, (fits, (ap not clean, (number, tt)))) e
 
           module _ (sound : pagesGood b ≡ true) where
-            pub refused-29 : pathTo (keyLength b) b key r .present ≡ true → insertRule b key r ≡ afterCall b (Refused 29)
-            unfolding insertRule
-            refused-29 e = rw (header, eq-eqb (length key) (keyLength b) same, clean, ne-eqb r 0 some, sound, e, insertRule)
+            pub refused-29 : pathTo (keyLength b) b key r .present ≡ true → insertRule b key r ≡ left b (Refused 29)
+            unfolding insertRule insertChecks
+            refused-29 e = made-at made b 5 (insertChecks b key r) (header, (fits, (ap not clean, (number, (sound, tt))))) (ap not e)
 
             module _ (absent : pathTo (keyLength b) b key r .present ≡ false) where
-              pub refused-30 : noRoom b (pathTo (keyLength b) b key r) ≡ true → insertRule b key r ≡ afterCall b (Refused 30)
-              unfolding insertRule
-              refused-30 e = rw (header, eq-eqb (length key) (keyLength b) same, clean, ne-eqb r 0 some, sound, absent, e, insertRule)
+              pub refused-30 : noRoom b (pathTo (keyLength b) b key r) ≡ true → insertRule b key r ≡ left b (Refused 30)
+              unfolding insertRule insertChecks
+              refused-30 e = made-at made b 6 (insertChecks b key r) (header, (fits, (ap not clean, (number, (sound, (ap not absent, tt)))))) (ap not e)
 
               pub accepted-pair : {out : List ℕ} → noRoom b (pathTo (keyLength b) b key r) ≡ false → out ≡ insertedBuffer (keyLength b) b key r
-                  → insertRule b key r ≡ afterCall out Accepted
-              unfolding insertRule
-              accepted-pair e q = rw (header, eq-eqb (length key) (keyLength b) same, clean, ne-eqb r 0 some, sound, absent, e, insertRule, q)
+                  → insertRule b key r ≡ left out Made
+              unfolding insertRule insertChecks
+              accepted-pair e q =
+                  made-none made b (insertChecks b key r) (header, (fits, (ap not clean, (number, (sound, (ap not absent, (ap not e, tt)))))))
+                  ∙ ap (λ (l : List ℕ). left l Made) (sym q)
 
 -- the bytes of a key, one after another: a control byte decides, any other leaves the rest to decide
 module _ (s : List ℕ) (i : ℕ) {c : ℕ} (h : i < length s) (e : c ≡ getD s i 0) where
@@ -108,23 +121,25 @@ fresh-stored b e xs k f z e1 e2 = e2 ∙ rw (e1, z)
 
 -- fresh, refusal by refusal in its order
 module _ (b : List ℕ) (k f : ℕ) (e : List ℕ) where
-  pub fresh-27 : keyLengthGood k ≡ false → freshRule b k f e ≡ afterCall b (Refused 27)
-  unfolding freshRule
-  fresh-27 t = rw (t, freshRule)
+  pub fresh-27 : keyLengthGood k ≡ false → freshRule b k f e ≡ left b (Refused 27)
+  unfolding freshRule freshChecks
+  fresh-27 t = made-at (freshBuffer k f e b) b 0 (freshChecks b k f e) tt t
 
   module _ (key : keyLengthGood k ≡ true) where
-    pub fresh-24 : (expressionGood e && featuresGood f) ≡ false → freshRule b k f e ≡ afterCall b (Refused 24)
-    unfolding freshRule
-    fresh-24 t = rw (key, t, freshRule)
+    pub fresh-24 : (expressionGood e && featuresGood f) ≡ false → freshRule b k f e ≡ left b (Refused 24)
+    unfolding freshRule freshChecks
+    fresh-24 t = made-at (freshBuffer k f e b) b 1 (freshChecks b k f e) (key, tt) t
 
     module _ (good : (expressionGood e && featuresGood f) ≡ true) where
-      pub fresh-30 : length b < minBytes → freshRule b k f e ≡ afterCall b (Refused 30)
-      unfolding freshRule
-      fresh-30 h = rw (key, good, lt-leb minBytes (length b) h, freshRule)
+      pub fresh-30 : length b < minBytes → freshRule b k f e ≡ left b (Refused 30)
+      unfolding freshRule freshChecks
+      fresh-30 h = made-at (freshBuffer k f e b) b 2 (freshChecks b k f e) (key, (good, tt)) (lt-leb minBytes (length b) h)
 
-      pub fresh-made : {out : List ℕ} → minBytes ≤ length b → out ≡ freshBuffer k f e b → freshRule b k f e ≡ afterCall out Accepted
-      unfolding freshRule
-      fresh-made h q = rw (key, good, le-leb minBytes (length b) h, freshRule, q)
+      pub fresh-made : {out : List ℕ} → minBytes ≤ length b → out ≡ freshBuffer k f e b → freshRule b k f e ≡ left out Made
+      unfolding freshRule freshChecks
+      fresh-made h q =
+          made-none (freshBuffer k f e b) b (freshChecks b k f e) (key, (good, (le-leb minBytes (length b) h, tt)))
+          ∙ ap (λ (l : List ℕ). left l Made) (sym q)
 
 -- an expression that is too long is bad, whatever its bytes are
 pub expression-long : (e : List ℕ) → maxExpression < length e → expressionGood e ≡ false

@@ -1,14 +1,14 @@
 -- Rules: what fresh answers and leaves, "(27, 24, 30)", as the whole buffer.
 use Prim.Native.Nat.{ℕ}
-use mathlib.Core.Bool.{Bool, true, false, _&&_}
+use mathlib.Core.Bool.{Bool, true, _&&_}
 use mathlib.Core.List.{List, [], _∷_}
 use lib.ListN.{length}
 use lib.Dec.{leb}
+use Rattle.refusal.specs.After.{After, madeUnless}
+use Rattle.refusal.specs.declared.Change.{Change}
 use Rattle.octets.specs.Store.{put}
 use Rattle.idx_page.specs.Header.{minBytes, maxFeatures, pageSize, noPage, keyLengthGood}
 use Rattle.idx_layout.specs.Layout.{headerBytes, newPage}
-use Rattle.idx_insert.specs.Calls.{AfterCall, afterCall}
-use Rattle.idx_insert.specs.declared.Insertion.the-variants.{Accepted, Refused}
 
 -- "bytes 0x20-0x7E"
 unfoldable pub printable : List ℕ → Bool
@@ -35,16 +35,10 @@ freshHeader k f e = headerBytes pageSize minBytes k f e
 unfoldable pub freshBuffer : ℕ → ℕ → List ℕ → List ℕ → List ℕ
 freshBuffer k f e b = newPage (put b 0 (freshHeader k f e)) pageSize 3 noPage noPage []
 
--- what fresh leaves and answers: "27, 24, 30", 27 for "k not 1 to 100", 24 for the expression or the features, 30 for a buffer below 1,024
-unfoldable pub freshRule : List ℕ → ℕ → ℕ → List ℕ → AfterCall
-freshRule b k f e =
-    elim (keyLengthGood k) [
-      | false ↦ afterCall b (Refused 27)
-      | true ↦ elim (expressionGood e && featuresGood f) [
-        | false ↦ afterCall b (Refused 24)
-        | true ↦ elim (leb minBytes (length b)) [
-          | false ↦ afterCall b (Refused 30)
-          | true ↦ afterCall (freshBuffer k f e b) Accepted
-        ]
-      ]
-    ]
+-- the checks in their order, "27, 24, 30": 27 for "k not 1 to 100", 24 for the expression or the features, 30 for a buffer below 1,024
+unfoldable pub freshChecks : List ℕ → ℕ → ℕ → List ℕ → List (Bool × ℕ)
+freshChecks b k f e = (keyLengthGood k, 27) ∷ (expressionGood e && featuresGood f, 24) ∷ (leb minBytes (length b), 30) ∷ []
+
+-- what fresh leaves and answers: a refusal leaves the buffer as it was
+unfoldable pub freshRule : List ℕ → ℕ → ℕ → List ℕ → After Change
+freshRule b k f e = madeUnless (freshChecks b k f e) (freshBuffer k f e b) b

@@ -5,22 +5,18 @@ use idx_page::PageOffset;
 use idx_page::RecordNumber;
 use idx_path::no_room;
 use idx_path::path_to;
+use refusal::Change;
 ghost use mathlib.Core.Path.{_≡_};
 ghost use mathlib.Core.Bool.{_&&_};
 ghost use Prim.Native.Nat.{_≤_};
 ghost use lib.ListN.{length};
+ghost use Rattle.refusal.specs.After.{left};
 ghost use Rattle.idx_page.specs.Header.{minBytes, maxKey, maxFeatures, features};
-ghost use Rattle.idx_insert.specs.Calls.{afterCall, hasControl, insertRule};
+ghost use Rattle.idx_insert.specs.Calls.{hasControl, insertRule};
 ghost use Rattle.idx_insert.specs.Fresh.{printable, maxExpression, expressionGood, featuresGood, freshBuffer, freshRule};
 
 // The longest key expression.
 const MAX_EXPRESSION: usize = 220;
-
-// What a call that writes an index answers.
-pub enum Insertion {
-    Accepted,
-    Refused(u32),
-}
 
 // Whether a key has a control byte.
 fn has_control(key: &[u8]) -> bool
@@ -37,35 +33,35 @@ fn has_control(key: &[u8]) -> bool
 }
 
 // Inserts `key` with its record number, `number`.
-pub fn insert(index: &mut [u8], key: &[u8], number: RecordNumber) -> Insertion
-    ensures { λ r. ⌜ insertRule (now (index .entry)) (now (key .entry)) (number .0) ≡ afterCall (now (index .exit)) r ⌝ }
+pub fn insert(index: &mut [u8], key: &[u8], number: RecordNumber) -> Change
+    ensures { λ r. ⌜ insertRule (now (index .entry)) (now (key .entry)) (number .0) ≡ left (now (index .exit)) r ⌝ }
 {
     if !idx_page::header_good(index) {
-        return Insertion::Refused(refusal::INDEX_HEADER);
+        return Change::Refused(refusal::INDEX_HEADER);
     }
     let control = has_control(key);
     let zero = number.0 == 0;
     if key.len() != idx_page::key_length(index) {
-        return Insertion::Refused(refusal::KEY_LENGTH);
+        return Change::Refused(refusal::KEY_LENGTH);
     }
     if control {
-        return Insertion::Refused(refusal::CONTROL_BYTE);
+        return Change::Refused(refusal::CONTROL_BYTE);
     }
     if zero {
-        return Insertion::Refused(refusal::RECORD_NUMBER_ZERO);
+        return Change::Refused(refusal::RECORD_NUMBER_ZERO);
     }
     if idx_audit::audit(index) != 0 {
-        return Insertion::Refused(refusal::INDEX_NOT_SOUND);
+        return Change::Refused(refusal::INDEX_NOT_SOUND);
     }
     let path = path_to(index, key, number);
     if path.present {
-        return Insertion::Refused(refusal::KEY_PRESENT);
+        return Change::Refused(refusal::KEY_PRESENT);
     }
     if no_room(index, path) {
-        return Insertion::Refused(refusal::NO_ROOM);
+        return Change::Refused(refusal::NO_ROOM);
     }
     insert_pair(index, key, number);
-    Insertion::Accepted
+    Change::Made
 }
 
 // Whether all bytes are printable.
@@ -125,20 +121,20 @@ fn write_fresh(index: &mut [u8], k: u32, features: u32, expression: &[u8])
 }
 
 // Writes a fresh index with keys of `k` bytes: with features 1 a key has one record, with features 0 it may have several.
-pub fn fresh(index: &mut [u8], k: u32, features: u32, expression: &[u8]) -> Insertion
-    ensures { λ r. ⌜ freshRule (now (index .entry)) k features (now (expression .entry)) ≡ afterCall (now (index .exit)) r ⌝ }
+pub fn fresh(index: &mut [u8], k: u32, features: u32, expression: &[u8]) -> Change
+    ensures { λ r. ⌜ freshRule (now (index .entry)) k features (now (expression .entry)) ≡ left (now (index .exit)) r ⌝ }
 {
     let good_key = idx_page::key_length_good(k as usize);
     let good_header = header_told_good(features, expression);
     if !good_key {
-        return Insertion::Refused(refusal::KEY_LENGTH);
+        return Change::Refused(refusal::KEY_LENGTH);
     }
     if !good_header {
-        return Insertion::Refused(refusal::INDEX_HEADER);
+        return Change::Refused(refusal::INDEX_HEADER);
     }
     if index.len() < idx_page::MIN_BYTES {
-        return Insertion::Refused(refusal::NO_ROOM);
+        return Change::Refused(refusal::NO_ROOM);
     }
     write_fresh(index, k, features, expression);
-    Insertion::Accepted
+    Change::Made
 }

@@ -8,6 +8,7 @@ use native.Mathlib.Omega.{arith}
 use lib.ListN.{length}
 use lib.Dec.{eqb, leb}
 use borrow.Author.Tests.{eqb-false, ne-eqb}
+use Rattle.refusal.specs.Checks.{unless}
 use Rattle.basis.specs.Tests.{either, both, contra, impossible}
 use Rattle.octets.specs.Order.{ordering, isEqual}
 use Rattle.idx_page.specs.Header.{maxLevels, noPage, rootOffset, fileSize, keyLength, features, isPage, headerGood}
@@ -108,9 +109,9 @@ module _ (b key : List ℕ) (r : RecordNumber) (n : ℕ) where
   -- Theorem: for features 0 a key that lookup finds after n pages is the key of an entry in the n-th page visited, a leaf that passes lookup's checks, and the
   -- record is the entry's
   pub first-is-equal : eqb (features b) 0 ≡ true → lookupRule b key ≡ answer.Found r n → FirstAt b key r n
-  unfolding lookupRule
+  unfolding lookupRule unless
   first-is-equal several e = either (headerGood b)
       (λ h. either (eqb (length key) (keyLength b))
-      (λ l. from-first maxLevels (rootOffset b) (omega arith) (sym (steps-record b key (features b) several) ∙ rw (h, l, lookupRule) at e))
-      (λ l. let f : answer.Refused 27 ≡ answer.Found r n = rw (h, l, lookupRule) at e in impossible (cc)))
-      (λ h. let f : answer.Refused 24 ≡ answer.Found r n = rw (h, lookupRule) at e in impossible (cc))
+      (λ l. from-first maxLevels (rootOffset b) (omega arith) (sym (steps-record b key (features b) several) ∙ rw (h, l) at e))
+      (λ l. let f : answer.Refused 27 ≡ answer.Found r n = rw (h, l) at e in impossible (cc)))
+      (λ h. let f : answer.Refused 24 ≡ answer.Found r n = rw (h) at e in impossible (cc))

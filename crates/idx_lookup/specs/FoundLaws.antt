@@ -3,11 +3,12 @@
 use Prim.Native.Nat.{ℕ, zero, suc, _-_, _≤_, _<_}
 use mathlib.Core.Path.{_≡_, sym, ap, _∙_}
 use mathlib.Core.Bool.{Bool, true, false}
-use mathlib.Core.List.{List}
+use mathlib.Core.List.{List, [], _∷_}
 use native.Mathlib.Omega.{arith}
 use lib.ListN.{length}
 use lib.Dec.{eqb}
 use borrow.Author.Tests.{eq-eqb, ne-eqb, eqb-true, eqb-false}
+use Rattle.refusal.specs.Checks.{unless}
 use Rattle.basis.specs.Tests.{either, impossible}
 use Rattle.octets.specs.Order.{ordering, isEqual}
 use Rattle.idx_page.specs.Header.{maxLevels, rootOffset, fileSize, keyLength, features, headerGood}
@@ -133,7 +134,8 @@ from-found (suc left) b key p r n l e =
 
 -- a lookup that finds its key was not refused by 24 or 27
 pub found-checked : (header fits : Bool) {a : Answer} {r : RecordNumber} {n : ℕ}
-    → elim header [ true ↦ elim fits [ true ↦ a | false ↦ answer.Refused 27 ] | false ↦ answer.Refused 24 ] ≡ answer.Found r n → a ≡ answer.Found r n
+    → unless ((header, 24) ∷ (fits, 27) ∷ []) answer.Refused a ≡ answer.Found r n → a ≡ answer.Found r n
+unfolding unless
 found-checked true true e = e
 found-checked true false e = impossible (cc)
 found-checked false fits e = impossible (cc)
@@ -141,7 +143,7 @@ found-checked false fits e = impossible (cc)
 -- Theorem: for features 1 a key that lookup finds after n pages is the key of an entry in the n-th page visited, a leaf that passes lookup's checks, and the
 -- record is the entry's
 pub found-is-equal : (b key : List ℕ) (r : RecordNumber) (n : ℕ) → eqb (features b) 0 ≡ false → lookupRule b key ≡ answer.Found r n → FoundAt b key r n
-unfolding lookupRule
+unfolding lookupRule unless
 found-is-equal b key r n one e =
     from-found maxLevels b key (rootOffset b) r n (omega arith)
     (sym (steps-key b key (features b) one) ∙ found-checked (headerGood b) (eqb (length key) (keyLength b)) e)

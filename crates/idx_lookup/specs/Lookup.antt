@@ -2,9 +2,10 @@
 -- about lists of calls.
 use Prim.Native.Nat.{ℕ, zero, suc, _-_}
 use mathlib.Core.Bool.{Bool, true, false, cond}
-use mathlib.Core.List.{List}
+use mathlib.Core.List.{List, [], _∷_}
 use lib.ListN.{length}
 use lib.Dec.{eqb}
+use Rattle.refusal.specs.Checks.{unless}
 use Rattle.octets.specs.Order.{ordering, isEqual}
 use Rattle.idx_page.specs.Header.{maxLevels, rootOffset, fileSize, keyLength, features, headerGood}
 use Rattle.idx_page.specs.Page.{attributeAt, countAt, leafBit, keyAt, numberAt, pageGood, firstAtOrAbove}
@@ -58,13 +59,7 @@ lookupSteps (suc n) b key = lookupFrom maxLevels b key (rootOffset b)
 -- the answer: "24, 27", then the steps
 unfoldable pub lookupRule : List ℕ → List ℕ → Answer
 lookupRule b key =
-    elim (headerGood b) [
-      | true ↦ elim (eqb (length key) (keyLength b)) [
-        | true ↦ lookupSteps (features b) b key
-        | false ↦ answer.Refused 27
-      ]
-      | false ↦ answer.Refused 24
-    ]
+    unless ((headerGood b, 24) ∷ (eqb (length key) (keyLength b), 27) ∷ []) answer.Refused (lookupSteps (features b) b key)
 
 -- the code of an answer: 0 if the key is found, 257 if it is absent, or the refusal's number
 abbrev pub lookupCode : Answer → ℕ

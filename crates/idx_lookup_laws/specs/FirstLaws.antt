@@ -9,6 +9,7 @@ use native.Mathlib.Omega.{arith}
 use lib.ListN.{length}
 use lib.Dec.{eqb, leb}
 use borrow.Author.Tests.{eq-eqb, ne-eqb, eqb-true, eqb-false, leb-true}
+use Rattle.refusal.specs.Checks.{unless}
 use Rattle.basis.specs.Lists.{All}
 use Rattle.basis.specs.Tests.{either, both, or-left, contra, impossible}
 use Rattle.octets.specs.Order.{bytesLe, ordering, isEqual}
@@ -382,11 +383,11 @@ module _ (b key : List ℕ) (s : Sound b) (e : length key ≡ keyLength b) where
 
   -- Theorem: for features 0 the steps on a sound index, for a key of its length, are the theory's lookup of the first record in its tree
   pub first-tree : eqb (features b) 0 ≡ true → lookupRule b key ≡ tripAnswer (firstRecord bytesOrder key h T) 0
-  unfolding lookupRule
+  unfolding lookupRule unless
   first-tree several =
       let S = stored (keyLength b) in
       let d : firstFrom maxLevels b key r ≡ tripAnswer (storeRecord bytesOrder noPage (rightAt b) S key h r) 0 = rw e at steps in
-      rw (s .header, eq-eqb (length key) (keyLength b) e, lookupRule)
+      rw (s .header, eq-eqb (length key) (keyLength b) e)
       (steps-record b key (features b) several ∙ d ∙ ap (λ (t : Trip). tripAnswer t 0)
       (sym (record-read bytesOrder noPage (linksOf b) S key (capacity (keyLength b)) h r (sound-sized b s) (s .links) none-there)))
 

@@ -9,6 +9,7 @@ use native.Mathlib.Omega.{arith}
 use lib.ListN.{length}
 use lib.Dec.{eqb}
 use borrow.Author.Tests.{eq-eqb, ne-eqb, eqb-true, eqb-false, leb-true}
+use Rattle.refusal.specs.Checks.{unless}
 use Rattle.basis.specs.Lists.{All}
 use Rattle.basis.specs.Tests.{either, both, impossible}
 use Rattle.octets.specs.Order.{bytesLe, ordering, isEqual}
@@ -232,13 +233,13 @@ module _ (b key : List ℕ) (s : Sound b) (e : length key ≡ keyLength b) where
 
   -- Theorem: for features 1 lookup's steps on a sound index, for a key of its length, are the theory's lookup in its tree
   pub lookup-tree : eqb (features b) 0 ≡ false → lookupRule b key ≡ answerOf (lookup bytesOrder key h T) (length (visited bytesOrder key h T))
-  unfolding lookupRule
+  unfolding lookupRule unless
   lookup-tree one =
       let S = stored (keyLength b) in
       let v = storeVisited bytesOrder key h r (stored (keyLength b)) in
       let z : 0 + length v ≡ length v = omega arith in
       let d : lookupFrom maxLevels b key r ≡ answerOf (storeLookup bytesOrder key h r S) (length v) = rw (e, z) at steps in
-      rw (s .header, eq-eqb (length key) (keyLength b) e, lookupRule)
+      rw (s .header, eq-eqb (length key) (keyLength b) e)
       (steps-key b key (features b) one ∙ d ∙ ap₂ (λ (o : Option ℕ) (l : List ℕ). answerOf o (length l)) (sym (lookup-read bytesOrder S key h r))
       (sym (visited-read bytesOrder S key h r)))
 

@@ -2,6 +2,7 @@
 -- its deletion byte, has exactly one entry, its key that record's field, and there are no other entries." The call `match_index` cites `Matched`.
 use Prim.Native.Nat.{ℕ, _-_, _≤_}
 use mathlib.Core.Path.{_≡_}
+use mathlib.Core.Bool.{Bool}
 use mathlib.Core.List.{List, [], _∷_, _++_, map}
 use mathlib.Core.Logic.{_↔_, _⊎_}
 use lib.Dec.{eqb}
@@ -15,14 +16,17 @@ use Rattle.idx_page.specs.Header.{keyLength, headerGood}
 use Rattle.idx_sound.specs.Sound.{Sound, leafPairs}
 
 -- "table checks, index header, field number, field type C, field length k (27)": 1 to 10, 24, 12, 13, 27, or 0
-unfoldable pub matchRefusal : List ℕ → List ℕ → ℕ → ℕ
-matchRefusal t b field =
-    firstRefusal (tableChecks t
+abbrev pub matchChecks : List ℕ → List ℕ → ℕ → List (Bool × ℕ)
+matchChecks t b field =
+    tableChecks t
     ++ ((headerGood b, 24)
     ∷ (numberGood field (fieldCount t), 12)
     ∷ (eqb (fieldType t (field - 1)) typeC, 13)
     ∷ (eqb (fieldLength t (field - 1)) (keyLength b), 27)
-    ∷ []))
+    ∷ [])
+
+unfoldable pub matchRefusal : List ℕ → List ℕ → ℕ → ℕ
+matchRefusal t b field = firstRefusal (matchChecks t b field)
 
 -- how many of the entries name record i
 abbrev pub entriesFor : ℕ → List (List ℕ × ℕ) → ℕ

@@ -5,14 +5,16 @@ use mathlib.Core.Bool.{true, false}
 use mathlib.Core.List.{List}
 use native.Mathlib.Omega.{arith}
 use lib.ListN.{length}
+use lib.Dec.{eqb}
 use borrow.Author.Tests.{eq-eqb, ne-eqb, le-leb, lt-leb}
+use Rattle.refusal.specs.CheckLaws.{unless-none, unless-at}
 use Rattle.octets.specs.Store.{put}
 use Rattle.tree.specs.Pairs.{recordsOf}
 use Rattle.idx_page.specs.Header.{maxLevels, rootOffset, fileSize, keyLength, headerGood}
 use Rattle.idx_page.specs.KeyOrder.{bytesOrder}
 use Rattle.idx_sound.specs.AuditTest.{maxPages, pagesGood}
 use Rattle.idx_match.specs.MatchTest.{firstLeaf, entriesAlong, leafEntries}
-use Rattle.idx_records.specs.Records.{keyRecords, told, recordsRule}
+use Rattle.idx_records.specs.Records.{keyRecords, Told, told, recordsChecks, recordsRule}
 use Rattle.idx_records.specs.Gather.{Gathered, gather, stored, gathered}
 use Rattle.idx_records.specs.GatherLaws.{gathered-records, stored-none, stored-all}
 
@@ -27,19 +29,28 @@ leaves-from b key room size first list g ek es ef eg =
     rw e at eg
 
 module _ (b key list : List ℕ) (count : ℕ) where
+  abbrev refused : ℕ → Told
+  refused n = told n list count
+
+  abbrev made : Told
+  made = told 0 (put list 0 (keyRecords b key)) (length (keyRecords b key))
+
   pub refused-24 : headerGood b ≡ false → recordsRule b key list count ≡ told 24 list count
-  unfolding recordsRule
-  refused-24 e = rw (e, recordsRule)
+  unfolding recordsRule recordsChecks
+  refused-24 e = unless-at refused made 0 (recordsChecks b key list) tt e
 
   module _ (header : headerGood b ≡ true) where
     pub refused-27 : (length key ≡ keyLength b → ⊥) → recordsRule b key list count ≡ told 27 list count
-    unfolding recordsRule
-    refused-27 s = rw (header, ne-eqb (length key) (keyLength b) s, recordsRule)
+    unfolding recordsRule recordsChecks
+    refused-27 other = unless-at refused made 1 (recordsChecks b key list) (header, tt) (ne-eqb (length key) (keyLength b) other)
 
     module _ (same : length key ≡ keyLength b) where
+      fits : eqb (length key) (keyLength b) ≡ true
+      fits = eq-eqb (length key) (keyLength b) same
+
       pub refused-25 : pagesGood b ≡ false → recordsRule b key list count ≡ told 25 list count
-      unfolding recordsRule
-      refused-25 e = rw (header, eq-eqb (length key) (keyLength b) same, e, recordsRule)
+      unfolding recordsRule recordsChecks
+      refused-25 e = unless-at refused made 2 (recordsChecks b key list) (header, (fits, tt)) e
 
       -- the first pass: n records are counted, and the list stays
       module _ (sound : pagesGood b ≡ true) (n : ℕ) (after : List ℕ) (counted : gathered key 0 (leafEntries b) (gather 0 list) ≡ gather n after) where
@@ -57,18 +68,19 @@ module _ (b key list : List ℕ) (count : ℕ) where
             ∙ stored-none 0 (recordsOf bytesOrder key (leafEntries b)) list
 
         pub refused-39 : length after < n → recordsRule b key list count ≡ told 39 after count
-        unfolding recordsRule
+        unfolding recordsRule recordsChecks
         refused-39 h =
             let short = lt-leb (length (keyRecords b key)) (length list) (omega (arith, h, number-is, ap length list-stays)) in
-            rw (header, eq-eqb (length key) (keyLength b) same, sound, short, recordsRule, list-stays)
+            unless-at refused made 3 (recordsChecks b key list) (header, (fits, (sound, tt))) short
+            ∙ ap (λ (l : List ℕ). told 39 l count) (sym list-stays)
 
         -- the second: all are stored
         pub accepted-all : n ≤ length after → (m : ℕ) (out : List ℕ) → gathered key n (leafEntries b) (gather 0 after) ≡ gather m out
             → recordsRule b key list count ≡ told 0 out n
-        unfolding recordsRule keyRecords
+        unfolding recordsRule recordsChecks keyRecords
         accepted-all h m out q =
             let rs = recordsOf bytesOrder key (leafEntries b) in
-            let fits = le-leb (length rs) (length list) (omega (arith, h, number-is, ap length list-stays)) in
+            let room = le-leb (length rs) (length list) (omega (arith, h, number-is, ap length list-stays)) in
             let all : out ≡ put after 0 rs = sym (ap (λ (g : Gathered). g .list) (sym (gathered-records key n (leafEntries b) 0 after) ∙ q))
             ∙ stored-all n 0 rs after (omega (arith, number-is)) in
-            rw (header, eq-eqb (length key) (keyLength b) same, sound, fits, recordsRule, all, list-stays, number-is)
+            unless-none refused made (recordsChecks b key list) (header, (fits, (sound, (room, tt)))) ∙ rw (all, list-stays, number-is)

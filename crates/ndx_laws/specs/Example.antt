@@ -4,6 +4,7 @@ use mathlib.Core.Path.{_≡_, refl}
 use mathlib.Core.Bool.{true, false}
 use mathlib.Core.List.{List, [], _∷_, _++_}
 use lib.ListN.{length, replicate, set}
+use Rattle.refusal.specs.Checks.{unless}
 use Rattle.octets.specs.Bytes.{le16, le32, toLe16, toLe32}
 use Rattle.octets.specs.Store.{window}
 use Rattle.octets.specs.Order.{bytesLe, ordering}
@@ -88,5 +89,5 @@ looked : (lookupRule levels3 (65 ∷ []) ≡ answer.Found (recordOf 1) 3)
     × (lookupRule fullBranch (66 ∷ []) ≡ answer.Found (recordOf 2) 2)
 unfolding levels3 fullBranch copies header page entry padded le16 le32 toLe16 toLe32 window bytesLe ordering isPage pagesGood keyLengthGood entrySizeOf
     keysGood headerGood entryOffset keyOffset lowerAt recordAt keyAt isLeaf countGood pageGood firstAtOrAbove leafSays entrySays pageSays visitRule lookupFrom
-    lookupRule
+    lookupRule unless
 looked = (refl, refl, refl, refl, refl, refl, refl, refl, refl, refl, refl)

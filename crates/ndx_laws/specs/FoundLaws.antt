@@ -9,6 +9,7 @@ use native.Mathlib.Omega.{arith}
 use lib.ListN.{length}
 use lib.Dec.{eqb}
 use borrow.Author.Tests.{eq-eqb, ne-eqb, eqb-true, eqb-false, le-leb}
+use Rattle.refusal.specs.Checks.{unless}
 use Rattle.basis.specs.Lists.{All}
 use Rattle.basis.specs.Tests.{either, impossible}
 use Rattle.octets.specs.Order.{bytesLe}
@@ -215,13 +216,13 @@ module _ (b key : List ℕ) (s : Sound b) (e : length key ≡ keyLength b) where
 
   -- Theorem: lookup's steps on a sound index, for a key of its length, are the theory's lookup in its tree
   pub lookup-tree : lookupRule b key ≡ answerOf (lookup byTop (some key) h T) (length (visited byTop (some key) h T))
-  unfolding lookupRule
+  unfolding lookupRule unless
   lookup-tree =
       let v = pagesFrom b key h h r in
       let z : 0 + length v ≡ length v = omega arith in
       let steps = descends b key h few h 0 (maxLevels - 1) r none (omega arith) (omega arith) along in
       let d : lookupFrom maxLevels b key r ≡ answerOf (recordFrom b key h h r) (length v) = rw z at steps in
-      rw (s .header, eq-eqb (length key) (keyLength b) e, lookupRule)
+      rw (s .header, eq-eqb (length key) (keyLength b) e)
       (d ∙ ap₂ (λ (o : Option ℕ) (l : List ℕ). answerOf o (length l)) (sym (lookup-read byTop (entriesAt b) (some key) h r))
       (sym (visited-read byTop (entriesAt b) (some key) h r)))
 

@@ -7,6 +7,7 @@ use mathlib.Core.List.{List}
 use native.Mathlib.Omega.{arith}
 use lib.ListN.{length}
 use lib.Dec.{eqb}
+use Rattle.refusal.specs.Checks.{unless}
 use Rattle.basis.specs.Tests.{either, impossible}
 use Rattle.octets.specs.Order.{ordering, isEqual}
 use Rattle.idx_page.specs.Page.{firstAtOrAbove}
@@ -82,6 +83,6 @@ from-found (suc left) b key p r n l e =
 -- Theorem: a key that lookup finds after n pages is the key of an entry in the n-th page visited, a leaf that passes lookup's checks, and the record is the
 -- entry's
 pub found-is-equal : (b key : List ℕ) (r : RecordNumber) (n : ℕ) → lookupRule b key ≡ answer.Found r n → FoundAt b key r n
-unfolding lookupRule
+unfolding lookupRule unless
 found-is-equal b key r n e =
     from-found maxLevels b key (rootPage b) r n (omega arith) (found-checked (headerGood b) (eqb (length key) (keyLength b)) e)

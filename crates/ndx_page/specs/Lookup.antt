@@ -1,9 +1,10 @@
 -- Rules: lookup in an NDX index: "Answers as for IDX, refusals 24, 27 and 25 in its order". Cited by the contract of lookup and by the laws of sound indexes.
 use Prim.Native.Nat.{ℕ, zero, suc, _-_}
 use mathlib.Core.Bool.{Bool, true, false, cond}
-use mathlib.Core.List.{List}
+use mathlib.Core.List.{List, [], _∷_}
 use lib.ListN.{length}
 use lib.Dec.{eqb}
+use Rattle.refusal.specs.Checks.{unless}
 use Rattle.octets.specs.Order.{ordering, isEqual}
 use Rattle.idx_page.specs.Page.{firstAtOrAbove}
 use Rattle.idx_lookup.specs.Lookup.{recordOf}
@@ -54,10 +55,4 @@ lookupFrom (suc left) b key p =
 -- the answer: "24, 27", then the steps from the root with 15 levels left
 unfoldable pub lookupRule : List ℕ → List ℕ → Answer
 lookupRule b key =
-    elim (headerGood b) [
-      | true ↦ elim (eqb (length key) (keyLength b)) [
-        | true ↦ lookupFrom maxLevels b key (rootPage b)
-        | false ↦ answer.Refused 27
-      ]
-      | false ↦ answer.Refused 24
-    ]
+    unless ((headerGood b, 24) ∷ (eqb (length key) (keyLength b), 27) ∷ []) answer.Refused (lookupFrom maxLevels b key (rootPage b))

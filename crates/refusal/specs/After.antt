@@ -19,6 +19,10 @@ abbrev pub changeCode : Change → ℕ
 changeCode Made = 0
 changeCode (Refused n) = n
 
+-- a call as C gets it: the buffer after it, and the answer's number
+abbrev pub coded : After Change → After ℕ
+coded call = left (call .after) (changeCode (call .answer))
+
 -- the buffer `made` if every check holds, else the number beside the first that fails, and the buffer b as it was
 unfoldable pub madeUnless : List (Bool × ℕ) → List ℕ → List ℕ → After Change
 madeUnless checks made b = unless checks (λ n. left b (Refused n)) (left made Made)

@@ -1,12 +1,13 @@
 -- Laws: the first of several checks that fails, and what a call gives by it. Assumes nothing.
-use Prim.Native.Nat.{ℕ, _<_}
+use Prim.Native.Nat.{ℕ, zero, suc, _<_}
 use mathlib.Core.Path.{_≡_, refl, sym, _∙_}
 use mathlib.Core.Bool.{Bool, true, false}
 use mathlib.Core.List.{List, [], _∷_, _++_}
 use native.Mathlib.Omega.{arith}
 use lib.Dec.{eqb}
+use lib.ListN.{take, getD}
 use borrow.Author.Tests.{eqb-true, eqb-false}
-use Rattle.basis.specs.Tests.{either}
+use Rattle.basis.specs.Tests.{either, contra}
 use Rattle.basis.specs.Lists.{All}
 use Rattle.refusal.specs.Checks.{firstRefusal, unless}
 
@@ -27,9 +28,17 @@ unfolding firstRefusal
 first-all [] p = refl
 first-all (check ∷ checks) p = first-pass (check .0) (check .1) checks (p .0) ∙ first-all checks (p .1)
 
+-- the number of a check that fails has the property P
+abbrev pub Refuses : (ℕ → Type 0) → Bool × ℕ → Type 0
+Refuses P check = check .0 ≡ false → P (check .1)
+
+pub refuses-any : (checks : List (Bool × ℕ)) → All (Refuses (λ n. Unit {0})) checks
+refuses-any [] = tt
+refuses-any (check ∷ checks) = ((λ e. tt), refuses-any checks)
+
 -- a check that fails has a number
 abbrev pub Named : Bool × ℕ → Type 0
-Named check = check .0 ≡ false → check .1 ≡ 0 → ⊥
+Named = Refuses (λ n. n ≡ 0 → ⊥)
 
 -- no refusal: every check holds
 pub first-passes : (checks : List (Bool × ℕ)) → All Named checks → firstRefusal checks ≡ 0 → All (λ check. check .0 ≡ true) checks
@@ -124,6 +133,41 @@ module _ {A : Type 0} (refused : ℕ → A) (made : A) where
       either (check .0)
       (λ good. rw good (unless-first checks (λ e. some (first-pass (check .0) (check .1) checks good ∙ e))))
       (λ bad. rw bad)
+
+  -- the checks before place i hold, and the one there fails: its number is the refusal
+  pub unless-at : (i : ℕ) (checks : List (Bool × ℕ)) → All (λ check. check .0 ≡ true) (take i checks) → getD checks i (true, 0) .0 ≡ false
+      → unless checks refused made ≡ refused (getD checks i (true, 0) .1)
+  unless-at zero [] p e = contra refl e
+  unless-at (suc i) [] p e = contra refl e
+  unless-at zero (check ∷ checks) p e = unless-fail (check .0) (check .1) checks e
+  unless-at (suc i) (check ∷ checks) p e = unless-pass (check .0) (check .1) checks (p .0) ∙ unless-at i checks (p .1) e
+
+  -- every check holds and the call is made, or it is refused by the number of a check that fails
+  pub unless-cases : {X : Type 0} (P : ℕ → Type 0) (checks : List (Bool × ℕ)) → All (Refuses P) checks
+      → (All (λ check. check .0 ≡ true) checks → unless checks refused made ≡ made → X)
+      → ((n : ℕ) → P n → unless checks refused made ≡ refused n → X) → X
+  unfolding unless
+  unless-cases P [] p f g = f tt refl
+  unless-cases P (check ∷ checks) p f g =
+      either (check .0)
+      (λ good.
+      let on = unless-pass (check .0) (check .1) checks good in
+      unless-cases P checks (p .1) (λ held e. f (good, held) (on ∙ e)) (λ n q e. g n q (on ∙ e)))
+      (λ bad. g (check .1) (p .0 bad) (unless-fail (check .0) (check .1) checks bad))
+
+  -- no refusal: the call is made
+  pub unless-zero : (checks : List (Bool × ℕ)) → All Named checks → firstRefusal checks ≡ 0 → unless checks refused made ≡ made
+  unless-zero checks p e = unless-none checks (first-passes checks p e)
+
+  -- an answer's number, 0 for a call that is made, is the first refusal
+  pub unless-code : (code : A → ℕ) → code made ≡ 0 → ((n : ℕ) → code (refused n) ≡ n) → (checks : List (Bool × ℕ))
+      → code (unless checks refused made) ≡ firstRefusal checks
+  unfolding unless firstRefusal
+  unless-code code none some [] = none
+  unless-code code none some (check ∷ checks) =
+      either (check .0)
+      (λ good. rw good (unless-code code none some checks))
+      (λ bad. rw bad (some (check .1)))
 
 -- checks after others are made on what the others leave
 pub unless-append : {A : Type 0} (refused : ℕ → A) (made : A) (checks more : List (Bool × ℕ))

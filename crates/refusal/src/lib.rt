@@ -1,5 +1,7 @@
 // The numbers that calls answer, each named once: the refusals of documents 01 and 02, and the C interface's answers that are no refusals. Code gives the
 // names; the rules in `specs/` give the numbers, to be held beside the papers.
+ghost use mathlib.Core.Path.{_≡_};
+ghost use Rattle.refusal.specs.After.{changeCode};
 
 // ---- The table.
 
@@ -149,4 +151,14 @@ pub const DONE: u32 = 258;
 pub enum Change {
     Made,
     Refused(u32),
+}
+
+// The number of such an answer: 0, or the refusal's.
+pub fn change_code(answer: Change) -> u32
+    ensures { λ r. ⌜ r ≡ changeCode answer ⌝ }
+{
+    match answer {
+        Change::Made => 0,
+        Change::Refused(refusal) => refusal,
+    }
 }

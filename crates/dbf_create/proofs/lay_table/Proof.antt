@@ -7,7 +7,7 @@ use lib.ListN.{length}
 use Rattle.dbf_table.specs.Table.{checkTable}
 use Rattle.dbf_table.specs.TableLaws.{good-shape}
 use Rattle.dbf_table.specs.declared.Checked.the-variants.{Good}
-use Rattle.dbf_create.specs.Laying.{laid}
+use Rattle.refusal.specs.After.{left}
 use Rattle.dbf_create.specs.LayingLaws.{table-refused, table-30, table-laid}
 use borrow.Author.Needs.{needs}
 use Rattle.dbf_create.proofs.lay_table.Statement.{statement}
@@ -47,7 +47,7 @@ same-length c = search needs
 returns-3 : tie.Need-returns-3
 returns-3 c =
     let copied = c .before .before in
-    table-laid _ _ _ (said (copied .before .before .before .before .before)) (omega arith) ∙ ap (λ (b : List ℕ). laid b 0) (sym (copied .copy-in .ensures))
+    table-laid _ _ _ (said (copied .before .before .before .before .before)) (omega arith) ∙ ap (λ (b : List ℕ). left b 0) (sym (copied .copy-in .ensures))
 
 pub lay-table-spec : {M : Type 1} → statement M
 lay-table-spec =

@@ -4,6 +4,7 @@ use mathlib.Core.Bool.{true}
 use native.Mathlib.Omega.{arith}
 use borrow.Author.Needs.{needs}
 use Rattle.basis.specs.Tests.{passed, failed}
+use Rattle.refusal.specs.Checks.{unless}
 use Rattle.fpt_memo.specs.Memo.{memoHeaderGood, numberedText}
 use Rattle.fpt_memo.specs.MemoLaws.{header-long, bytes-fit}
 use Rattle.fpt_memo.proofs.numbered_text.Statement.{statement}
@@ -20,7 +21,7 @@ header-good-requires : tie.Need-header-good-requires
 header-good-requires c κs = search needs
 
 returns : tie.Need-returns
-unfolding numberedText
+unfolding numberedText unless
 returns c = rw (failed (c .before .header-good .ensures) (c .if1 .taken))
 
 block-size-requires : tie.Need-block-size-requires
@@ -37,7 +38,7 @@ block-text-requires c κs = (
 )
 
 returns-2 : tie.Need-returns-2
-unfolding numberedText
+unfolding numberedText unless
 returns-2 c = rw (good (c .before .before)) (c .block-text .ensures ∙ rw (c .before .block-size .ensures .0))
 
 pub numbered-text-spec : {M : Type 1} → statement M

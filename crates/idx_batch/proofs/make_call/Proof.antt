@@ -81,8 +81,8 @@ part-remove-end c = let w = inside (start (number-size (c .before .before .befor
 remove-requires : tie.Need-remove-requires
 remove-requires c κs = search needs
 
-struck-requires : tie.Need-struck-requires
-struck-requires c κs = search needs
+changed-requires : tie.Need-changed-requires
+changed-requires c κs = search needs
 
 same-length-2 : tie.Need-same-length-2
 same-length-2 c = search needs
@@ -95,7 +95,7 @@ returns-2 c =
     let more = at-number .before in
     let size = number-size more .load-le16 .ensures .0 in
     let kind = more .before .byte .ensures .0 in
-    removal-made _ _ _ size kind (at-if .if2 .taken) (at-number .load-le32 .ensures) (at-remove .remove .ensures) (c .struck .ensures)
+    removal-made _ _ _ size kind (at-if .if2 .taken) (at-number .load-le32 .ensures) (at-remove .remove .ensures) (c .changed .ensures)
 
 sub-insert : tie.Need-sub-insert
 sub-insert c = search needs
@@ -109,8 +109,8 @@ part-insert-end c = let w = inside (start (number-size (c .before .before .befor
 insert-requires : tie.Need-insert-requires
 insert-requires c κs = search needs
 
-inserted-requires : tie.Need-inserted-requires
-inserted-requires c κs = search needs
+changed-requires-2 : tie.Need-changed-requires-2
+changed-requires-2 c κs = search needs
 
 same-length-3 : tie.Need-same-length-3
 same-length-3 c = search needs
@@ -123,7 +123,7 @@ returns-3 c =
     let more = at-number .before in
     let size = number-size more .load-le16 .ensures .0 in
     let kind = more .before .byte .ensures .0 in
-    insertion-made _ _ _ size kind (more .if1 .left) (at-if .if2 .left) (at-number .load-le32 .ensures) (at-insert .insert .ensures) (c .inserted .ensures)
+    insertion-made _ _ _ size kind (more .if1 .left) (at-if .if2 .left) (at-number .load-le32 .ensures) (at-insert .insert .ensures) (c .changed2 .ensures)
 
 pub make-call-spec : {M : Type 1} → statement M
 make-call-spec =
@@ -147,13 +147,13 @@ make-call-spec =
     part-remove-start
     part-remove-end
     remove-requires
-    struck-requires
+    changed-requires
     same-length-2
     returns-2
     sub-insert
     part-insert-start
     part-insert-end
     insert-requires
-    inserted-requires
+    changed-requires-2
     same-length-3
     returns-3)

@@ -1,7 +1,7 @@
 -- `idx_batch::run_batch` meets its contract: fresh by its answer, and demand 3 of the calls that follow, since the elements of lent slices are bytes.
 -- Assumes nothing.
 use mathlib.Core.Path.{ap, _∙_}
-use Rattle.idx_insert.specs.Calls.{afterCall}
+use Rattle.refusal.specs.After.{left}
 use Rattle.idx_batch.specs.RunLaws.{batch-made, batch-refused, refused-number, batch-kept}
 use borrow.Author.Needs.{needs}
 use Rattle.idx_batch.proofs.run_batch.Statement.{statement}
@@ -32,7 +32,7 @@ returns c =
     let at-fresh = at-told .before .before .before .before in
     let at-calls = at-fresh .before .before .before in
     let at-index = at-calls .before .before in
-    let made = at-fresh .fresh .ensures ∙ ap (afterCall (at-fresh .fresh .last .0)) (at-told .enum-told .given .1) in
+    let made = at-fresh .fresh .ensures ∙ ap (left (at-fresh .fresh .last .0)) (at-told .enum-told .given .1) in
     let ran = at-run .run-calls .ensures .0 in (
       batch-made _ _ _ _ _ _ made ran,
       λ z. batch-kept _ _ _ _ _ _ (λ i. at-index .slice-known .given i .fits) (λ i. at-calls .shared-slice-known2 .given i .fits) made ran,
@@ -45,7 +45,7 @@ returns-2 : tie.Need-returns-2
 returns-2 c =
     let at-refusal = c .before in
     let at-fresh = at-refusal .before .before .before .before in
-    let refused = at-fresh .fresh .ensures ∙ ap (afterCall (at-fresh .fresh .last .0)) (at-refusal .refusal .given .1) in
+    let refused = at-fresh .fresh .ensures ∙ ap (left (at-fresh .fresh .last .0)) (at-refusal .refusal .given .1) in
     (batch-refused _ _ _ _ _ _ refused, λ z. absurd (refused-number _ _ _ _ refused z))
 
 pub run-batch-spec : {M : Type 1} → statement M

@@ -5,6 +5,7 @@ use mathlib.Core.Path.{_≡_, sym, _∙_}
 use lib.ListN.{length}
 use borrow.Author.Tests.{ne-eqb}
 use borrow.Author.Needs.{needs}
+use Rattle.refusal.specs.Checks.{unless}
 use Rattle.basis.specs.Tests.{passed, failed}
 use Rattle.idx_page.specs.HeaderLaws.{good-header}
 use Rattle.idx_page.specs.Header.{keyLength, headerGood}
@@ -30,15 +31,15 @@ header-good-requires : tie.Need-header-good-requires
 header-good-requires c κs = search needs
 
 returns : tie.Need-returns
-unfolding lookupRule
-returns c = rw (failed (c .before .header-good .ensures) (c .if1 .taken), lookupRule)
+unfolding lookupRule unless
+returns c = rw (failed (c .before .header-good .ensures) (c .if1 .taken))
 
 key-length-requires : tie.Need-key-length-requires
 key-length-requires c κs = good-header _ (good c) .long
 
 returns-2 : tie.Need-returns-2
-unfolding lookupRule
-returns-2 c = rw (good (c .before .before), ne-eqb _ _ (λ e. c .if2 .taken (e ∙ sym (c .before .key-length .ensures))), lookupRule)
+unfolding lookupRule unless
+returns-2 c = rw (good (c .before .before), ne-eqb _ _ (λ e. c .if2 .taken (e ∙ sym (c .before .key-length .ensures))))
 
 lookup-from-root-requires : tie.Need-lookup-from-root-requires
 lookup-from-root-requires c κs = (good (headed c), whole c)

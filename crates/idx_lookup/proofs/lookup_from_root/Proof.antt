@@ -4,6 +4,7 @@ use mathlib.Core.Path.{_≡_, sym, _∙_}
 use lib.ListN.{length}
 use borrow.Author.Tests.{eq-eqb}
 use borrow.Author.Needs.{needs}
+use Rattle.refusal.specs.Checks.{unless}
 use Rattle.idx_page.specs.Header.{keyLength, features, headerGood}
 use Rattle.idx_page.specs.HeaderLaws.{good-header}
 use Rattle.idx_lookup.specs.Lookup.{lookupRule, lookupSteps}
@@ -18,8 +19,8 @@ start c = c .before .before .before
 -- the steps are the answer
 answer-is : (c : tie.After-several) → let args = start c .args in
     lookupSteps (features (args .index .now)) (args .index .now) (args .key .now) ≡ lookupRule (args .index .now) (args .key .now)
-unfolding lookupRule
-answer-is c = let asked = start c .pre in rw (asked .0, eq-eqb _ _ (asked .1), lookupRule)
+unfolding lookupRule unless
+answer-is c = let asked = start c .pre in rw (asked .0, eq-eqb _ _ (asked .1))
 
 several-requires : tie.Need-several-requires
 several-requires c κs = good-header _ (c .before .before .pre .0) .long

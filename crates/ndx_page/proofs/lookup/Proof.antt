@@ -3,6 +3,7 @@ use mathlib.Core.Bool.{true}
 use mathlib.Core.Path.{_≡_, sym, _∙_}
 use lib.ListN.{length}
 use borrow.Author.Tests.{eq-eqb, ne-eqb}
+use Rattle.refusal.specs.Checks.{unless}
 use Rattle.basis.specs.Tests.{passed, failed}
 use Rattle.ndx_page.specs.Header.{keyLength, headerGood}
 use Rattle.ndx_page.specs.HeaderLaws.{good-header}
@@ -29,8 +30,8 @@ header-good-requires : tie.Need-header-good-requires
 header-good-requires c κs = search needs
 
 returns : tie.Need-returns
-unfolding lookupRule
-returns c = rw (failed (c .before .header-good .ensures) (c .if1 .taken), lookupRule)
+unfolding lookupRule unless
+returns c = rw (failed (c .before .header-good .ensures) (c .if1 .taken))
 
 key-length-requires : tie.Need-key-length-requires
 key-length-requires c κs = good-header _ (good c) .long
@@ -39,8 +40,8 @@ cast-if2 : tie.Need-cast-if2
 cast-if2 c = search needs
 
 returns-2 : tie.Need-returns-2
-unfolding lookupRule
-returns-2 c = rw (good (headed c), ne-eqb _ _ (λ e. c .if2 .taken (e ∙ sym (c .before .key-length .ensures))), lookupRule)
+unfolding lookupRule unless
+returns-2 c = rw (good (headed c), ne-eqb _ _ (λ e. c .if2 .taken (e ∙ sym (c .before .key-length .ensures))))
 
 root-requires : tie.Need-root-requires
 root-requires c κs = good-header _ (good (headed2 c)) .long
@@ -49,11 +50,11 @@ lookup-from-requires : tie.Need-lookup-from-requires
 lookup-from-requires c κs = (search needs, good (headed2 (c .before)), whole (c .before))
 
 returns-3 : tie.Need-returns-3
-unfolding lookupRule
+unfolding lookupRule unless
 returns-3 c =
     let rooted = c .before in
     let sized = rooted .before in
-    rw (good (headed2 sized), eq-eqb _ _ (whole sized), lookupRule) (c .lookup-from .ensures ∙ rw (rooted .root .ensures))
+    rw (good (headed2 sized), eq-eqb _ _ (whole sized)) (c .lookup-from .ensures ∙ rw (rooted .root .ensures))
 
 pub lookup-spec : {M : Type 1} → statement M
 lookup-spec =
