@@ -12,7 +12,7 @@ use Rattle.refusal.specs.AfterLaws.{Accepted, made-accepted}
 use Rattle.refusal.specs.declared.Change.the-variants.{Made}
 use Rattle.tree.specs.Book.{Call, insertion, removalOf, lookupOf, KeyTests, isNoRoom, noRooms, resultsOf, finalOf}
 use Rattle.tree.specs.Book.{bookAnswer, bookAfter, bookAnswers, bookFinal, BookClaim}
-use Rattle.tree.specs.BookTheorem.{list-keeps, book-claim}
+use Rattle.tree.specs.Book.Theorem.{list-keeps, book-claim}
 use Rattle.tree.specs.Index.{held, answer, noRoomFor as noRoomTo}
 use Rattle.tree.specs.IndexLaws.{answer-book, answer-room, next-book}
 use Rattle.tree.specs.Keeping.{Keeping, keepingOf}

@@ -8,7 +8,7 @@ use native.Mathlib.Omega.{arith}
 use lib.ListN.{length}
 use Rattle.basis.specs.Lists.{All}
 use Rattle.tree.specs.Book.{Call, insertion, removalOf, lookupOf, accepted, found, isAccepted, finalOf}
-use Rattle.tree.specs.BookTheorem.{HoldsAtMost, list-bounded, list-grows}
+use Rattle.tree.specs.Book.Theorem.{HoldsAtMost, list-bounded, list-grows}
 use Rattle.tree.specs.Index.{held, fresh, outOfRoom, answer, next}
 use Rattle.refusal.specs.declared.Change.the-variants.{Made}
 use Rattle.idx_page.specs.KeyOrder.{bytesOrder}

@@ -18,7 +18,7 @@ use Rattle.tree.specs.Index.{fresh}
 use Rattle.tree.specs.IndexLaws.{fresh-sound}
 use Rattle.tree.specs.SoundIndex.{SoundIndex}
 use Rattle.tree.specs.Store.{Store, readEntry}
-use Rattle.tree.specs.StoreLaws.{write-here}
+use Rattle.tree.specs.Store.Laws.{write-here}
 use Rattle.tree.specs.Tree.{Tree, pages, level}
 use Rattle.idx_page.specs.Header.{minBytes, maxBytes, maxKey, noPage, pageSize, isPage, headerGood}
 use Rattle.idx_page.specs.Header.{rootOffset, freePointer, fileSize, keyLength, features, keyLengthGood}

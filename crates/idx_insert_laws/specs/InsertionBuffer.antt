@@ -15,16 +15,16 @@ use Rattle.octets.specs.Store.{put}
 use Rattle.octets.specs.StoreLaws.{length-put, window-after}
 use Rattle.octets.specs.NumberLaws.{length-toLe32, length-toBe32, le32-put, le32-same}
 use Rattle.tree.specs.Clauses.{Sized, Links}
-use Rattle.tree.specs.InsertionNeeds.{insert-needs, root-splits}
+use Rattle.tree.specs.Insertion.Needs.{insert-needs, root-splits}
 use Rattle.tree.specs.Insertion.{Grown, insert}
 use Rattle.tree.specs.Lists.{occ}
 use Rattle.tree.specs.Pairs.{lastKey}
 use Rattle.tree.specs.Relinking.{pathPage, relink, clearLinks, relinked}
 use Rattle.tree.specs.Room.{run, needs, levelsAfter}
 use Rattle.tree.specs.Store.{Store, readTree}
-use Rattle.tree.specs.StoreInsertionLaws.{insert-read}
-use Rattle.tree.specs.StoreRouteLaws.{route-read}
-use Rattle.tree.specs.StoreSteps.{StoreReplacement, StoreGrown, storeReroot, storeInsert, readGrown}
+use Rattle.tree.specs.Store.InsertionLaws.{insert-read}
+use Rattle.tree.specs.Store.RouteLaws.{route-read}
+use Rattle.tree.specs.Store.Steps.{StoreReplacement, StoreGrown, storeReroot, storeInsert, readGrown}
 use Rattle.tree.specs.Tree.{Tree, pages}
 use Rattle.idx_page.specs.Header.{maxLevels, noPage, pageSize, features, isPage, rootOffset}
 use Rattle.idx_page.specs.HeaderLaws.{is-page}

@@ -14,7 +14,7 @@ use Rattle.octets.specs.Bytes.{be32, toLe32, toBe32}
 use Rattle.octets.specs.Store.{put}
 use Rattle.octets.specs.StoreLaws.{length-put}
 use Rattle.octets.specs.NumberLaws.{length-toLe32, length-toBe32, be32-toBe32}
-use Rattle.tree.specs.InsertionPages.{newPages-apart}
+use Rattle.tree.specs.Insertion.Pages.{newPages-apart}
 use Rattle.tree.specs.ListLaws.{nonEmpty-length, occ-here, take-map, drop-map, occ-not-head}
 use Rattle.tree.specs.Lists.{NonEmpty, concatMap, occ, countIf, half}
 use Rattle.tree.specs.Order.{larger}
@@ -23,10 +23,10 @@ use Rattle.tree.specs.Pairs.{lastKey, insertPair}
 use Rattle.tree.specs.Position.{choose, replaceAt}
 use Rattle.tree.specs.RouteLaws.{replaceAt-map}
 use Rattle.tree.specs.Store.{Store, readEntry, readTree}
-use Rattle.tree.specs.StoreInsertionLaws.{storeInsertUnder-refines, choose-occ}
-use Rattle.tree.specs.StoreLaws.{write-here, write-other}
-use Rattle.tree.specs.StoreRouteLaws.{route-read}
-use Rattle.tree.specs.StoreSteps.{write, StoreReplacement, storeSplitIfOver, storePlace, storeInsertAmong, storeInsertUnder, StoreGrown, storeInsert}
+use Rattle.tree.specs.Store.InsertionLaws.{storeInsertUnder-refines, choose-occ}
+use Rattle.tree.specs.Store.Laws.{write-here, write-other}
+use Rattle.tree.specs.Store.RouteLaws.{route-read}
+use Rattle.tree.specs.Store.Steps.{write, StoreReplacement, storeSplitIfOver, storePlace, storeInsertAmong, storeInsertUnder, StoreGrown, storeInsert}
 use Rattle.tree.specs.Tree.{pagesUnder, pages}
 use Rattle.idx_page.specs.Header.{noPage, pageSize, features, isPage}
 use Rattle.idx_page.specs.KeyOrder.{bytesOrder}

@@ -21,8 +21,8 @@ use Rattle.tree.specs.Relinking.{pathPageUnder, relink}
 use Rattle.tree.specs.Room.{atChosen}
 use Rattle.tree.specs.RouteLaws.{choose-map}
 use Rattle.tree.specs.Store.{Store, readEntry, readTree}
-use Rattle.tree.specs.StoreRouteLaws.{route-read}
-use Rattle.tree.specs.StoreSteps.{StoreReplacement, storeSplitIfOver, storeInsertAmong}
+use Rattle.tree.specs.Store.RouteLaws.{route-read}
+use Rattle.tree.specs.Store.Steps.{StoreReplacement, storeSplitIfOver, storeInsertAmong}
 use Rattle.tree.specs.Tree.{Tree}
 use Rattle.idx_page.specs.Header.{features, isPage}
 use Rattle.idx_page.specs.KeyOrder.{bytesOrder}

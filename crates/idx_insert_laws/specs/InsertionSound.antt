@@ -17,11 +17,11 @@ use Rattle.tree.specs.Clauses.{least, headOr, Linked, AllLinked}
 use Rattle.tree.specs.Index.{Index, held, Setting, outOfRoom, inserted}
 use Rattle.tree.specs.IndexLaws.{inserted-sound, inserted-linked}
 use Rattle.tree.specs.IndexPages.{pages-distinct, taken-unused}
-use Rattle.tree.specs.InsertionLevels.{InsertedAfter, insert-level, levelUnder-pages, levelUnder-disjoint}
-use Rattle.tree.specs.InsertionNeeds.{insert-needs, root-splits}
-use Rattle.tree.specs.InsertionPairs.{insert-pairs}
+use Rattle.tree.specs.Insertion.Levels.{InsertedAfter, insert-level, levelUnder-pages, levelUnder-disjoint}
+use Rattle.tree.specs.Insertion.Needs.{insert-needs, root-splits}
+use Rattle.tree.specs.Insertion.Pairs.{insert-pairs}
 use Rattle.tree.specs.ClauseLaws.{sized-rooted}
-use Rattle.tree.specs.InsertionPages.{Injective, newPages, insert-pages}
+use Rattle.tree.specs.Insertion.Pages.{Injective, newPages, insert-pages}
 use Rattle.tree.specs.Insertion.{Grown}
 use Rattle.tree.specs.LinkLaws.{linked-same, headOr-differ, linked-right}
 use Rattle.tree.specs.ListLaws.{occ-append, occ-here, occ-all}

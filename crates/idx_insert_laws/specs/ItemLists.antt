@@ -13,14 +13,14 @@ use Rattle.basis.specs.Lists.{All}
 use Rattle.basis.specs.Tests.{either}
 use Rattle.octets.specs.Bytes.{be32}
 use Rattle.octets.specs.Order.{bytesLe}
-use Rattle.tree.specs.InsertionPairs.{leaf-place}
+use Rattle.tree.specs.Insertion.Pairs.{leaf-place}
 use Rattle.tree.specs.Keeping.{keepingOf}
 use Rattle.tree.specs.Lists.{NonEmpty}
 use Rattle.tree.specs.Pairs.{lastKey, byRecord, insertPair}
 use Rattle.tree.specs.Position.{Passes, position, choose, replaceAt}
 use Rattle.tree.specs.RouteLaws.{position-within, choose-all}
 use Rattle.tree.specs.Store.{Store}
-use Rattle.tree.specs.StoreRoute.{storeFirstUnder, storeRoute}
+use Rattle.tree.specs.Store.Route.{storeFirstUnder, storeRoute}
 use Rattle.tree.specs.Tree.{firstAmong}
 use Rattle.idx_page.specs.Header.{maxLevels, features}
 use Rattle.idx_page.specs.KeyOrder.{bytesOrder}

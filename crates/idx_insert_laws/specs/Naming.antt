@@ -11,7 +11,7 @@ use Rattle.basis.specs.Lists.{All, all-map}
 use Rattle.tree.specs.FreeChain.{Chained}
 use Rattle.tree.specs.FreeChainLaws.{chained-head}
 use Rattle.tree.specs.FreeList.{lacking}
-use Rattle.tree.specs.InsertionPages.{Distinct, Injective}
+use Rattle.tree.specs.Insertion.Pages.{Distinct, Injective}
 use Rattle.tree.specs.Lists.{occ}
 use Rattle.tree.specs.Supply.{pageAtEnd, takenPage, sizeAfter}
 use Rattle.tree.specs.SupplyLaws.{taken-injective}

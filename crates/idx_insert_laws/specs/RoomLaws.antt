@@ -21,9 +21,9 @@ use Rattle.tree.specs.ClauseLaws.{sized-rooted}
 use Rattle.tree.specs.Pairs.{has, present}
 use Rattle.tree.specs.Room.{atChosen, routeLeaf, run}
 use Rattle.tree.specs.Store.{Store}
-use Rattle.tree.specs.StoreLookupLaws.{leaf-read, run-read}
-use Rattle.tree.specs.StoreRouteLaws.{route-read}
-use Rattle.tree.specs.StoreSteps.{storeLeaf, storeRun}
+use Rattle.tree.specs.Store.LookupLaws.{leaf-read, run-read}
+use Rattle.tree.specs.Store.RouteLaws.{route-read}
+use Rattle.tree.specs.Store.Steps.{storeLeaf, storeRun}
 use Rattle.tree.specs.Supply.{sizeAfter}
 use Rattle.idx_page.specs.Header.{maxBytes, maxLevels, rootOffset, fileSize, keyLength, features}
 use Rattle.idx_page.specs.HeaderLaws.{good-header}

@@ -14,7 +14,7 @@ use Rattle.tree.specs.IndexPages.{free-distinct, free-beyond}
 use Rattle.tree.specs.ListLaws.{nonEmpty-length, occ-append, occ-here, occ-all}
 use Rattle.tree.specs.Lists.{concatMap, occ}
 use Rattle.tree.specs.Store.{Store, readEntry, readTree}
-use Rattle.tree.specs.StoreLaws.{frame}
+use Rattle.tree.specs.Store.Laws.{frame}
 use Rattle.tree.specs.Tree.{Tree, pagesUnder, pages, levelUnder, level}
 use Rattle.idx_page.specs.Header.{maxLevels, isPage, rootOffset, fileSize, keyLength}
 use Rattle.idx_page.specs.HeaderLaws.{is-page, is-page-from, good-header}

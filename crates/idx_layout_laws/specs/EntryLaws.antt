@@ -22,7 +22,7 @@ use Rattle.tree.specs.Lists.{half}
 use Rattle.tree.specs.Order.{larger}
 use Rattle.tree.specs.OrderLaws.{larger-same}
 use Rattle.tree.specs.Store.{Store}
-use Rattle.tree.specs.StoreSteps.{write}
+use Rattle.tree.specs.Store.Steps.{write}
 use Rattle.idx_page.specs.Header.{pageSize, isPage}
 use Rattle.idx_page.specs.Page.{attributeAt, countAt, rightAt, entriesStart, entryArea, capacity, entryOffset}
 use Rattle.idx_page.specs.PageLaws.{entries-fit, entry-inside, entry-low, capacity-small}

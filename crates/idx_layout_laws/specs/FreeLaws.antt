@@ -13,7 +13,7 @@ use Rattle.octets.specs.Bytes.{toLe16, toLe32}
 use Rattle.octets.specs.Store.{put, window}
 use Rattle.octets.specs.StoreLaws.{length-put, window-before, window-after, window-same}
 use Rattle.octets.specs.NumberLaws.{length-toLe32, le32-put, le32-same}
-use Rattle.tree.specs.StoreSteps.{write}
+use Rattle.tree.specs.Store.Steps.{write}
 use Rattle.idx_page.specs.Header.{pageSize, freePlace, sizePlace, freePointer, isPage}
 use Rattle.idx_page.specs.HeaderLaws.{is-page}
 use Rattle.idx_page.specs.Page.{attributeAt, countAt, leftAt, rightAt}

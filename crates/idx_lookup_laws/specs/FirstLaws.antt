@@ -21,9 +21,9 @@ use Rattle.tree.specs.KeepingLaws.{find-get}
 use Rattle.tree.specs.Tree.{Tree, pairs, level}
 use Rattle.tree.specs.LookupFirst.{Trip, neighbour, firstRecord}
 use Rattle.tree.specs.LookupLaws.{firstRecord-find, firstRecord-found}
-use Rattle.tree.specs.StoreFirst.{linkedPage, seekOrLast, tripAmong, tripTo, storeRecordUnder, storeRecord}
-use Rattle.tree.specs.StoreFirstLaws.{record-read}
-use Rattle.tree.specs.InsertionLevels.{levelUnder-pages}
+use Rattle.tree.specs.Store.First.{linkedPage, seekOrLast, tripAmong, tripTo, storeRecordUnder, storeRecord}
+use Rattle.tree.specs.Store.FirstLaws.{record-read}
+use Rattle.tree.specs.Insertion.Levels.{levelUnder-pages}
 use Rattle.tree.specs.IndexPages.{noPage-unused}
 use Rattle.idx_page.specs.Header.{maxLevels, noPage, pageSize, isPage, rootOffset, fileSize, keyLength, features}
 use Rattle.idx_page.specs.HeaderLaws.{is-page, good-header}

@@ -18,8 +18,8 @@ use Rattle.tree.specs.Pairs.{follow, seek, find}
 use Rattle.tree.specs.Tree.{Tree, pairs, lookup, onward, visited}
 use Rattle.tree.specs.Keeping.{goesOnFor}
 use Rattle.tree.specs.Ordered.{lookup-find, visited-found}
-use Rattle.tree.specs.StoreSteps.{storeLookup, storeVisited}
-use Rattle.tree.specs.StoreLookupLaws.{lookup-read, visited-read}
+use Rattle.tree.specs.Store.Steps.{storeLookup, storeVisited}
+use Rattle.tree.specs.Store.LookupLaws.{lookup-read, visited-read}
 use Rattle.tree.specs.Levels.{below, generation, all-of-map, all-of-concat}
 use Rattle.idx_page.specs.Header.{maxLevels, isPage, rootOffset, fileSize, keyLength, features, goodFeatures}
 use Rattle.idx_page.specs.Page.{attributeAt, countAt, leafBit, capacity, keyAt, numberAt, attributeGood, countGood, pageGood}

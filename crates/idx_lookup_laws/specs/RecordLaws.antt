@@ -11,7 +11,7 @@ use Rattle.tree.specs.Pairs.{recordsOf, byRecord, has, Ascending}
 use Rattle.tree.specs.Tree.{level}
 use Rattle.tree.specs.LookupFirst.{firstRecord}
 use Rattle.tree.specs.RecordLaws.{firstOf, records-first, records-once, records-ascend, records-order}
-use Rattle.tree.specs.StoreLeaves.{pairs-leaves}
+use Rattle.tree.specs.Store.Leaves.{pairs-leaves}
 use Rattle.idx_page.specs.Header.{rootOffset, fileSize, keyLength, features}
 use Rattle.idx_page.specs.KeyOrder.{bytesOrder}
 use Rattle.idx_page.specs.Reading.{entriesAt}

@@ -6,7 +6,7 @@ use mathlib.Core.List.{List}
 use Rattle.tree.specs.Position.{Passes}
 use Rattle.tree.specs.Keeping.{pairOrder}
 use Rattle.tree.specs.Store.{Store}
-use Rattle.tree.specs.StoreRoute.{storeRoute}
+use Rattle.tree.specs.Store.Route.{storeRoute}
 use Rattle.idx_page.specs.KeyOrder.{bytesOrder}
 use Rattle.idx_page.specs.Reading.{Item, numbered}
 

@@ -11,9 +11,9 @@ use Rattle.tree.specs.Position.{position}
 use Rattle.tree.specs.Keeping.{pairOrder, keepingOf}
 use Rattle.tree.specs.RouteLaws.{position-map}
 use Rattle.tree.specs.Store.{Store}
-use Rattle.tree.specs.StoreRemoval.{storePosition}
-use Rattle.tree.specs.StoreRoute.{storeRoute}
-use Rattle.tree.specs.StoreRouteLaws.{position-read}
+use Rattle.tree.specs.Store.Removal.{storePosition}
+use Rattle.tree.specs.Store.Route.{storeRoute}
+use Rattle.tree.specs.Store.RouteLaws.{position-read}
 use Rattle.idx_page.specs.KeyOrder.{bytesOrder}
 use Rattle.idx_page.specs.Reading.{Item, numbered}
 use Rattle.idx_page.specs.EntryOrder.{itemOrder, itemRoute}

@@ -16,9 +16,9 @@ use Rattle.tree.specs.Position.{Passes, position}
 use Rattle.tree.specs.Removal.{replaceBy}
 use Rattle.tree.specs.RouteLaws.{position-within}
 use Rattle.tree.specs.Store.{Store, readEntry}
-use Rattle.tree.specs.StoreInsertionLaws.{pagesOf}
-use Rattle.tree.specs.StoreRemoval.{memberAt, storePosition}
-use Rattle.tree.specs.StoreRouteLaws.{position-read}
+use Rattle.tree.specs.Store.InsertionLaws.{pagesOf}
+use Rattle.tree.specs.Store.Removal.{memberAt, storePosition}
+use Rattle.tree.specs.Store.RouteLaws.{position-read}
 use Rattle.tree.specs.Tree.{pagesUnder}
 use Rattle.idx_page.specs.Header.{maxLevels, features}
 use Rattle.idx_page.specs.KeyOrder.{bytesOrder}

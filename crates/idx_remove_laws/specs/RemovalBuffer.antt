@@ -15,20 +15,20 @@ use Rattle.tree.specs.Clauses.{AllLinked}
 use Rattle.tree.specs.FreeChain.{Chained}
 use Rattle.tree.specs.FreeChainLaws.{chained-same}
 use Rattle.tree.specs.FreeList.{joinFree}
-use Rattle.tree.specs.InsertionLevels.{levelUnder-pages}
-use Rattle.tree.specs.InsertionPages.{Distinct}
+use Rattle.tree.specs.Insertion.Levels.{levelUnder-pages}
+use Rattle.tree.specs.Insertion.Pages.{Distinct}
 use Rattle.tree.specs.LinkLaws.{linked-same}
 use Rattle.tree.specs.Lists.{NonEmpty, occ}
 use Rattle.tree.specs.ListLaws.{occ-here}
 use Rattle.tree.specs.Keeping.{Route}
 use Rattle.tree.specs.Removal.{Shrunk, shrunkPages, remove, emptied}
-use Rattle.tree.specs.RemovalLinks.{remove-all-linked, remove-away, remove-clear}
-use Rattle.tree.specs.RemovalPages.{remove-pages}
+use Rattle.tree.specs.Removal.Links.{remove-all-linked, remove-away, remove-clear}
+use Rattle.tree.specs.Removal.Pages.{remove-pages}
 use Rattle.tree.specs.Store.{Store, readTree}
-use Rattle.tree.specs.StoreInsertionLaws.{pagesOf}
-use Rattle.tree.specs.StoreLaws.{write-here}
-use Rattle.tree.specs.StoreRemoval.{StoreRemoved, heightLeft, storeRemoveAmong, storeRemoveUnder, storeRemove}
-use Rattle.tree.specs.StoreRemovalLaws.{remove-read, emptied-read}
+use Rattle.tree.specs.Store.InsertionLaws.{pagesOf}
+use Rattle.tree.specs.Store.Laws.{write-here}
+use Rattle.tree.specs.Store.Removal.{StoreRemoved, heightLeft, storeRemoveAmong, storeRemoveUnder, storeRemove}
+use Rattle.tree.specs.Store.RemovalLaws.{remove-read, emptied-read}
 use Rattle.tree.specs.Tree.{Tree, level, pages}
 use Rattle.tree.specs.Unlinking.{unlinkAll}
 use Rattle.idx_page.specs.Header.{maxLevels, noPage, pageSize, rootOffset, freePointer, isPage}

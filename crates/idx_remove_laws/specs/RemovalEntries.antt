@@ -10,16 +10,16 @@ use lib.Dec.{eqb, ltb}
 use borrow.Author.Tests.{ltb-true, ltb-false, lt-ltb, eqb-true, eqb-false}
 use Rattle.basis.specs.Lists.{All, all-map}
 use Rattle.basis.specs.Tests.{either}
-use Rattle.tree.specs.InsertionPages.{Distinct}
+use Rattle.tree.specs.Insertion.Pages.{Distinct}
 use Rattle.tree.specs.Lists.{NonEmpty, occ}
 use Rattle.tree.specs.ListLaws.{occ-append, occ-head, occ-behind, occ-not-head}
 use Rattle.tree.specs.Removal.{replaceBy, ifEmptied}
 use Rattle.tree.specs.Store.{Store, readTree}
-use Rattle.tree.specs.StoreInsertionLaws.{pagesOf}
-use Rattle.tree.specs.StoreLaws.{write-here, write-other}
-use Rattle.tree.specs.StoreRemoval.{StoreRemoved, entryUnlessEmptied, storePosition, storeRemoveAmong, storeRemoveUnder, storeRemove}
-use Rattle.tree.specs.StoreRemovalLaws.{remove-others}
-use Rattle.tree.specs.StoreSteps.{write}
+use Rattle.tree.specs.Store.InsertionLaws.{pagesOf}
+use Rattle.tree.specs.Store.Laws.{write-here, write-other}
+use Rattle.tree.specs.Store.Removal.{StoreRemoved, entryUnlessEmptied, storePosition, storeRemoveAmong, storeRemoveUnder, storeRemove}
+use Rattle.tree.specs.Store.RemovalLaws.{remove-others}
+use Rattle.tree.specs.Store.Steps.{write}
 use Rattle.tree.specs.Tree.{pages}
 use Rattle.idx_page.specs.Header.{maxLevels, noPage, isPage}
 use Rattle.idx_page.specs.Page.{attributeAt, leafBit, capacity}

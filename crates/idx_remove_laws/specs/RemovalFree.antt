@@ -11,7 +11,7 @@ use borrow.Author.Tests.{lt-ltb, eqb-true, eqb-false, eq-eqb, ne-eqb}
 use Rattle.basis.specs.Lists.{All}
 use Rattle.basis.specs.Tests.{either}
 use Rattle.octets.specs.Store.{window}
-use Rattle.tree.specs.InsertionPages.{Distinct}
+use Rattle.tree.specs.Insertion.Pages.{Distinct}
 use Rattle.tree.specs.Lists.{occ}
 use Rattle.tree.specs.ListLaws.{occ-append, occ-differ, occ-here}
 use Rattle.tree.specs.FreeChain.{Chained}

@@ -10,7 +10,7 @@ use lib.Dec.{eqb}
 use borrow.Author.Tests.{lt-ltb, ne-eqb}
 use Rattle.basis.specs.Lists.{All}
 use Rattle.tree.specs.Clauses.{Links}
-use Rattle.tree.specs.InsertionPages.{Distinct}
+use Rattle.tree.specs.Insertion.Pages.{Distinct}
 use Rattle.tree.specs.Lists.{occ}
 use Rattle.tree.specs.ListLaws.{occ-append, occ-head}
 use Rattle.tree.specs.Store.{readTree}

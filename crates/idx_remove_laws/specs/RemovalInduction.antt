@@ -7,14 +7,14 @@ use Prim.Native.Nat.{ℕ, zero, suc, _+_, _≤_, _<_}
 use native.Mathlib.Omega.{arith}
 use lib.ListN.{length}
 use borrow.Author.Tests.{ne-eqb}
-use Rattle.tree.specs.InsertionPages.{Distinct}
+use Rattle.tree.specs.Insertion.Pages.{Distinct}
 use Rattle.tree.specs.Lists.{occ, concatMap}
 use Rattle.tree.specs.ListLaws.{occ-append, occ-here, occ-not-head}
 use Rattle.tree.specs.Removal.{ifEmptied, settle, shrunkPages, removeEntries}
-use Rattle.tree.specs.RemovalPages.{remove-pages}
+use Rattle.tree.specs.Removal.Pages.{remove-pages}
 use Rattle.tree.specs.Store.{readTree}
-use Rattle.tree.specs.StoreInsertionLaws.{pagesOf}
-use Rattle.tree.specs.StoreRemovalLaws.{emptied-read}
+use Rattle.tree.specs.Store.InsertionLaws.{pagesOf}
+use Rattle.tree.specs.Store.RemovalLaws.{emptied-read}
 use Rattle.tree.specs.Tree.{Entry, pagesUnder, pages}
 use Rattle.idx_page.specs.Header.{isPage}
 use Rattle.idx_page.specs.Reading.{Item}

@@ -22,18 +22,18 @@ use Rattle.tree.specs.FreeListLaws.{joinFree-pages}
 use Rattle.tree.specs.Index.{Index, held, Setting, strikingRoute, removed}
 use Rattle.tree.specs.IndexLaws.{removed-sound, removed-pairs}
 use Rattle.tree.specs.IndexPages.{noPage-unused}
-use Rattle.tree.specs.InsertionLevels.{levelUnder-pages}
+use Rattle.tree.specs.Insertion.Levels.{levelUnder-pages}
 use Rattle.tree.specs.Keeping.{Route}
 use Rattle.tree.specs.Lists.{NonEmpty, countIf, occ}
 use Rattle.tree.specs.ListLaws.{occ-all}
 use Rattle.tree.specs.Pairs.{has, removePair}
 use Rattle.tree.specs.Removal.{Shrunk, shrunkPages, settle, removeEntries, remove, emptied}
-use Rattle.tree.specs.RemovalPages.{remove-pages}
-use Rattle.tree.specs.RemovalSized.{remove-low}
+use Rattle.tree.specs.Removal.Pages.{remove-pages}
+use Rattle.tree.specs.Removal.Sized.{remove-low}
 use Rattle.tree.specs.SoundIndex.{SoundIndex, LinkedIndex}
 use Rattle.tree.specs.Store.{Store, readEntry, readTree}
-use Rattle.tree.specs.StoreRemoval.{storeRemove}
-use Rattle.tree.specs.StoreRemovalLaws.{emptied-read}
+use Rattle.tree.specs.Store.Removal.{storeRemove}
+use Rattle.tree.specs.Store.RemovalLaws.{emptied-read}
 use Rattle.tree.specs.Tree.{Entry, Tree, pages, pairs, level}
 use Rattle.idx_page.specs.Header.{maxBytes, pageSize, noPage, isPage, rootOffset, freePointer, fileSize, keyLength, features, freeGood, headerGood}
 use Rattle.idx_page.specs.HeaderLaws.{GoodHeader, is-page, good-header, good-header-from}

@@ -14,11 +14,11 @@ use Rattle.tree.specs.Clauses.{SizedUnder, Sized, Links, headOr, Linked}
 use Rattle.tree.specs.FreeChain.{Chained}
 use Rattle.tree.specs.FreeChainLaws.{chained-head}
 use Rattle.tree.specs.IndexPages.{pages-distinct}
-use Rattle.tree.specs.InsertionLevels.{levelUnder-pages}
-use Rattle.tree.specs.InsertionPages.{Distinct}
+use Rattle.tree.specs.Insertion.Levels.{levelUnder-pages}
+use Rattle.tree.specs.Insertion.Pages.{Distinct}
 use Rattle.tree.specs.Lists.{NonEmpty, occ}
 use Rattle.tree.specs.ListLaws.{nonEmpty-length, concatMap-nonEmpty, occ-append, occ-behind, occ-here, occ-all}
-use Rattle.tree.specs.RemovalLevels.{page-onLevel}
+use Rattle.tree.specs.Removal.Levels.{page-onLevel}
 use Rattle.tree.specs.Store.{Store, readEntry, readTree}
 use Rattle.tree.specs.Tree.{Tree, pairsUnder, pairs, pages, levelUnder, level}
 use Rattle.idx_page.specs.Header.{maxBytes, noPage, isPage, rootOffset, freePointer, fileSize, keyLength}

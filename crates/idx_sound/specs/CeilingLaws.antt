@@ -23,7 +23,7 @@ use Rattle.tree.specs.Clauses.{SizedUnder, AtOrAbove, BelowNext, headOr}
 use Rattle.tree.specs.Keeping.{Clear, pairOrder, keepingOf}
 use Rattle.tree.specs.ClauseLaws.{sized-nonEmpty, firstKey-clear}
 use Rattle.tree.specs.Store.{readEntry, readTree}
-use Rattle.tree.specs.StoreLaws.{map-read-zero}
+use Rattle.tree.specs.Store.Laws.{map-read-zero}
 use Rattle.tree.specs.Levels.{all-of-map, numbers, readAll}
 use Rattle.octets.specs.Order.{bytesLe, ordering, isBelow, isEqual}
 use Rattle.octets.specs.OrderLaws.{le-antisym}

@@ -15,7 +15,7 @@ use Rattle.basis.specs.Tests.{either, contra, both}
 use Rattle.tree.specs.Lists.{NonEmpty, occ}
 use Rattle.tree.specs.ListLaws.{all-map2, occ-append, occ-all}
 use Rattle.tree.specs.Clauses.{headOr}
-use Rattle.tree.specs.InsertionPages.{Distinct}
+use Rattle.tree.specs.Insertion.Pages.{Distinct}
 use Rattle.tree.specs.FreeChainLaws.{chained-distinct, linked-distinct}
 use Rattle.tree.specs.DistinctLaws.{Filled, Heights, levels-distinct}
 use Rattle.tree.specs.PageCount.{PageOf, offset, offset-apart, offset-page, pages-at-most, later-all, later-distinct, later-count}

@@ -16,8 +16,8 @@ use Rattle.octets.specs.Order.{bytesLe}
 use Rattle.tree.specs.ListLaws.{all-unit, all-map2}
 use Rattle.tree.specs.Pairs.{follow, seek, find}
 use Rattle.tree.specs.Tree.{Tree, lookup, onward, visited}
-use Rattle.tree.specs.StoreSteps.{storeLookup, storeVisited}
-use Rattle.tree.specs.StoreLookupLaws.{lookup-read, visited-read}
+use Rattle.tree.specs.Store.Steps.{storeLookup, storeVisited}
+use Rattle.tree.specs.Store.LookupLaws.{lookup-read, visited-read}
 use Rattle.tree.specs.Top.{top-lookup}
 use Rattle.tree.specs.Levels.{below, generation, all-of-concat}
 use Rattle.idx_page.specs.Page.{firstAtOrAbove}

@@ -14,7 +14,7 @@ use Rattle.basis.specs.Lists.{All, all-map}
 use Rattle.basis.specs.Tests.{either, both, join, contra}
 use Rattle.tree.specs.Lists.{NonEmpty, occ, concatMap}
 use Rattle.tree.specs.ListLaws.{all-unit, all-map2, nonEmpty-length, occ-all}
-use Rattle.tree.specs.InsertionPages.{Distinct}
+use Rattle.tree.specs.Insertion.Pages.{Distinct}
 use Rattle.tree.specs.Tree.{Entry, pairs, pairsUnder, pagesUnder, pages, level}
 use Rattle.tree.specs.Clauses.{least}
 use Rattle.tree.specs.ClauseLaws.{ordered-ceilings}

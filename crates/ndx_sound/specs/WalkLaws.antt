@@ -20,7 +20,7 @@ use Rattle.tree.specs.Keeping.{distinctKeys}
 use Rattle.tree.specs.KeepingLaws.{ascending-last}
 use Rattle.tree.specs.Tree.{pairsUnder, pairs, pagesUnder, pages}
 use Rattle.tree.specs.Ordered.{Separated, OrderedUnder, separated-ordered}
-use Rattle.tree.specs.InsertionOrdered.{separated-nonEmpty}
+use Rattle.tree.specs.Insertion.Ordered.{separated-nonEmpty}
 use Rattle.tree.specs.Store.{Store, readEntry, readTree}
 use Rattle.tree.specs.Levels.{join-map}
 use Rattle.ndx_sound.specs.Walk.{Status, tested, ifGood, over, isAfter, atMost, item, items, passed, under, enter, walk}

@@ -16,7 +16,7 @@ use Rattle.tree.specs.Order.{Order}
 use Rattle.tree.specs.OrderLaws.{le-refl}
 use Rattle.tree.specs.Pairs.{byKey, Ascending}
 use Rattle.tree.specs.PairLaws.{ascending-right}
-use Rattle.tree.specs.InsertionPages.{Distinct}
+use Rattle.tree.specs.Insertion.Pages.{Distinct}
 use Rattle.tree.specs.Store.{Store}
 use Rattle.tree.specs.Levels.{map-append, all-to-map, numbers, below, generation, reached, generations-reached}
 

@@ -11,20 +11,20 @@ use Rattle.basis.specs.Tests.{either}
 use Rattle.tree.specs.Lists.{occ}
 use Rattle.tree.specs.ListLaws.{occ-append, occ-head, occ-differ, occ-not-head}
 use Rattle.tree.specs.Tree.{Child, Entry, Tree, pagesUnder, pages}
-use Rattle.tree.specs.InsertionPages.{Distinct}
+use Rattle.tree.specs.Insertion.Pages.{Distinct}
 use Rattle.tree.specs.Order.{Order}
 use Rattle.tree.specs.Position.{position, passesLower}
 use Rattle.tree.specs.Keeping.{Route, distinctKeys}
 use Rattle.tree.specs.RouteLaws.{position-map}
 use Rattle.tree.specs.Removal.{replaceBy, numbersAt, unlessEmptied, ifEmptied, Shrunk, settle}
 use Rattle.tree.specs.Removal.{removeUnder, removeEntries, remove, emptiedUnder, emptiedAmong, emptied}
-use Rattle.tree.specs.RemovalPages.{removeEntries-pages}
+use Rattle.tree.specs.Removal.Pages.{removeEntries-pages}
 use Rattle.tree.specs.Store.{Store, readEntry, readTree}
-use Rattle.tree.specs.StoreSteps.{write}
-use Rattle.tree.specs.StoreLaws.{frame, frame-entries, write-here, write-other}
-use Rattle.tree.specs.StoreInsertionLaws.{pagesOf, page-read}
-use Rattle.tree.specs.StoreRemoval.{StoreRemoved, memberAt, entryUnlessEmptied, storeKeep, heightLeft, readShrunk}
-use Rattle.tree.specs.StoreRemoval.{storeReplaceAt, storePosition, storeRemoveAmong, storeRemoveUnder, storeRemove}
+use Rattle.tree.specs.Store.Steps.{write}
+use Rattle.tree.specs.Store.Laws.{frame, frame-entries, write-here, write-other}
+use Rattle.tree.specs.Store.InsertionLaws.{pagesOf, page-read}
+use Rattle.tree.specs.Store.Removal.{StoreRemoved, memberAt, entryUnlessEmptied, storeKeep, heightLeft, readShrunk}
+use Rattle.tree.specs.Store.Removal.{storeReplaceAt, storePosition, storeRemoveAmong, storeRemoveUnder, storeRemove}
 
 -- Theorem: if keys are distinct, the entries of a page tell the entry gone through by their keys, whatever is under them
 pub position-read : {K : Type 0} (O : Order K) (e : K × ℕ) (h : ℕ) (S : Store K) (es : List (K × ℕ)) →

@@ -9,8 +9,8 @@ use Rattle.tree.specs.Tree.{firstAmong, firstUnder}
 use Rattle.tree.specs.Keeping.{keepingOf}
 use Rattle.tree.specs.RouteLaws.{position-map}
 use Rattle.tree.specs.Store.{Store, readEntry}
-use Rattle.tree.specs.StoreRemoval.{storePosition}
-use Rattle.tree.specs.StoreRoute.{storeFirstUnder, storePassesRecords, storeRoute}
+use Rattle.tree.specs.Store.Removal.{storePosition}
+use Rattle.tree.specs.Store.Route.{storeFirstUnder, storePassesRecords, storeRoute}
 
 firstAmong-map : {A B C : Type 0} (g : A → B) (f : B → C) (f′ : A → C) → ((x : A) → f (g x) ≡ f′ x) → (d : C) (xs : List A) →
     firstAmong f d (map g xs) ≡ firstAmong f′ d xs

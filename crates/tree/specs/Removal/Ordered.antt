@@ -13,8 +13,8 @@ use Rattle.tree.specs.KeepingLaws.{clearOf-down}
 use Rattle.tree.specs.Removal.{replaceBy, unlessEmptied, settle, removeUnder, removeEntries, remove}
 use Rattle.tree.specs.SplitLaws.{underPage}
 use Rattle.tree.specs.Ordered.{Separated, OrderedUnder, SeparatedTree, Ordered}
-use Rattle.tree.specs.InsertionOrdered.{separated-append, separated-nonEmpty, OrderedPage}
-use Rattle.tree.specs.RemovalPairs.{replaceBy-all, removeUnder-all, removeEntries-all, remove-ascending}
+use Rattle.tree.specs.Insertion.Ordered.{separated-append, separated-nonEmpty, OrderedPage}
+use Rattle.tree.specs.Removal.Pairs.{replaceBy-all, removeUnder-all, removeEntries-all, remove-ascending}
 
 module _ {K C : Type 0} (Q : Keeping K) (G : K × C → Type 0) (under : K × C → List (K × ℕ)) where
   -- a page that keeps its key above it, which is a ceiling of what the page is left with

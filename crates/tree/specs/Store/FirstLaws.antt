@@ -20,8 +20,8 @@ use Rattle.tree.specs.Clauses.{SizedUnder, Sized, Links, headOr, Linked,
 use Rattle.tree.specs.LookupFirst.{visit, firstLeaf, leafAfter, downFirst, downAmong, firstRecordUnder, downFromRoot}
 use Rattle.tree.specs.LookupFirst.{firstRecord}
 use Rattle.tree.specs.Store.{Store, readEntry, readTree}
-use Rattle.tree.specs.StoreLaws.{map-read-zero}
-use Rattle.tree.specs.StoreFirst.{linkedPage, seekOrLast, tripAmong, tripTo, storeRecordUnder, storeRecord}
+use Rattle.tree.specs.Store.Laws.{map-read-zero}
+use Rattle.tree.specs.Store.First.{linkedPage, seekOrLast, tripAmong, tripTo, storeRecordUnder, storeRecord}
 
 module _ {K : Type 0} (nil : ℕ) (right : ℕ → ℕ) (S : Store K) where
   -- the right link of each page names the next, nil after the last; no page is nil

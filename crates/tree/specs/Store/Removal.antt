@@ -6,7 +6,7 @@ use Rattle.tree.specs.Position.{position}
 use Rattle.tree.specs.Keeping.{Route}
 use Rattle.tree.specs.Removal.{replaceBy, ifEmptied, Shrunk}
 use Rattle.tree.specs.Store.{Store, readEntry, readTree}
-use Rattle.tree.specs.StoreSteps.{write}
+use Rattle.tree.specs.Store.Steps.{write}
 
 -- what replaces an entry after a removal under it, the pages emptied, leaf first, and the store
 abbrev pub StoreRemoved : Type 0 → Type 0

@@ -8,7 +8,7 @@ use lib.Dec.{eqb}
 use Rattle.tree.specs.Lists.{concatMap, countIf, occ}
 use Rattle.tree.specs.ListLaws.{concatMap-append, occ-append}
 use Rattle.tree.specs.Tree.{Entry, Tree, pagesUnder, pages}
-use Rattle.tree.specs.InsertionPages.{pageAndUnder}
+use Rattle.tree.specs.Insertion.Pages.{pageAndUnder}
 use Rattle.tree.specs.Position.{position}
 use Rattle.tree.specs.Keeping.{Route}
 use Rattle.tree.specs.Removal.{replaceBy, numbersAt, unlessEmptied, ifEmptied, shrunkPages, settle}

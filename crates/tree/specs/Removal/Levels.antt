@@ -10,13 +10,13 @@ use Rattle.basis.specs.Tests.{either}
 use Rattle.tree.specs.Lists.{concatMap, occ}
 use Rattle.tree.specs.ListLaws.{concatMap-append, concatMap-none, occ-append, occ-head, occ-behind, occ-differ, occ-concatMap}
 use Rattle.tree.specs.Tree.{Entry, Tree, pagesUnder, pages, levelUnder, level}
-use Rattle.tree.specs.InsertionPages.{Distinct}
-use Rattle.tree.specs.InsertionLevels.{levelUnder-pages}
+use Rattle.tree.specs.Insertion.Pages.{Distinct}
+use Rattle.tree.specs.Insertion.Levels.{levelUnder-pages}
 use Rattle.tree.specs.Position.{position}
 use Rattle.tree.specs.Keeping.{Route}
 use Rattle.tree.specs.Removal.{replaceBy, numbersAt, unlessEmptied, ifEmptied, settle}
 use Rattle.tree.specs.Removal.{removeUnder, removeEntries, remove, emptiedUnder, emptiedAmong, emptied}
-use Rattle.tree.specs.RemovalPages.{replaceBy-pages, removeUnder-pages, removeEntries-pages}
+use Rattle.tree.specs.Removal.Pages.{replaceBy-pages, removeUnder-pages, removeEntries-pages}
 use Rattle.tree.specs.Unlinking.{withoutAll}
 use Rattle.tree.specs.UnlinkLaws.{withoutAll-absent, withoutAll-append, withoutAll-both}
 

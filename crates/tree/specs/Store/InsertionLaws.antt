@@ -15,12 +15,12 @@ use Rattle.tree.specs.Tree.{Child, Entry, Tree, pagesUnder, pages}
 use Rattle.tree.specs.Keeping.{Route, Keeping}
 use Rattle.tree.specs.Insertion.{Replacement, splitIfOver, firstPair, reroot, insertUnder, insertEntries, insertAtRoot, insert}
 use Rattle.tree.specs.RouteLaws.{before, after, chosen-among, position-map, choose-map}
-use Rattle.tree.specs.InsertionPages.{newPages, Distinct, Unused, Injective, newPages-apart, newPages-fresh, splitIfOver-pages}
-use Rattle.tree.specs.InsertionPages.{insertEntries-pages}
+use Rattle.tree.specs.Insertion.Pages.{newPages, Distinct, Unused, Injective, newPages-apart, newPages-fresh, splitIfOver-pages}
+use Rattle.tree.specs.Insertion.Pages.{insertEntries-pages}
 use Rattle.tree.specs.Store.{Store, readChild, readEntry, readTree}
-use Rattle.tree.specs.StoreSteps.{write, StoreReplacement, storeSplitIfOver, storeFirst, storePlace, storeInsertAmong}
-use Rattle.tree.specs.StoreSteps.{storeInsertUnder, storeInsertAtRoot, storeReroot, storeInsert, readGrown}
-use Rattle.tree.specs.StoreLaws.{AgreeOn, frame-entries, write-here, write-other, map-read-zero, lastKey-read}
+use Rattle.tree.specs.Store.Steps.{write, StoreReplacement, storeSplitIfOver, storeFirst, storePlace, storeInsertAmong}
+use Rattle.tree.specs.Store.Steps.{storeInsertUnder, storeInsertAtRoot, storeReroot, storeInsert, readGrown}
+use Rattle.tree.specs.Store.Laws.{AgreeOn, frame-entries, write-here, write-other, map-read-zero, lastKey-read}
 
 -- the pages under entries of a store
 abbrev pub pagesOf : {K : Type 0} → Store K → (h : ℕ) → List (K × ℕ) → List ℕ

@@ -9,7 +9,7 @@ use Rattle.tree.specs.Lists.{concatMap}
 use Rattle.tree.specs.ListLaws.{concatMap-append, concatMap-single}
 use Rattle.tree.specs.Tree.{pairsUnder, pairs, levelUnder, level}
 use Rattle.tree.specs.Store.{Store, readEntry, readTree}
-use Rattle.tree.specs.StoreLaws.{map-read-zero}
+use Rattle.tree.specs.Store.Laws.{map-read-zero}
 
 module _ {K : Type 0} (S : Store K) where
   -- one level, abstract in what lies below

@@ -5,12 +5,12 @@ use native.Mathlib.Omega.{arith}
 use Rattle.tree.specs.Lists.{occ}
 use Rattle.tree.specs.Tree.{Tree, pages, level, levelUnder}
 use Rattle.tree.specs.Clauses.{Links, AllLinked}
-use Rattle.tree.specs.InsertionPages.{Distinct}
-use Rattle.tree.specs.InsertionLevels.{levelUnder-pages, levelUnder-disjoint}
+use Rattle.tree.specs.Insertion.Pages.{Distinct}
+use Rattle.tree.specs.Insertion.Levels.{levelUnder-pages, levelUnder-disjoint}
 use Rattle.tree.specs.Keeping.{Route}
 use Rattle.tree.specs.Removal.{remove, emptied}
-use Rattle.tree.specs.RemovalPages.{remove-pages}
-use Rattle.tree.specs.RemovalLevels.{page-onLevel, remove-level}
+use Rattle.tree.specs.Removal.Pages.{remove-pages}
+use Rattle.tree.specs.Removal.Levels.{page-onLevel, remove-level}
 use Rattle.tree.specs.Unlinking.{unlinkAll, withoutAll}
 use Rattle.tree.specs.AwayLaws.{Away, Clear, away-rows, clear-rows}
 use Rattle.tree.specs.UnlinkLaws.{Rows, OnRow, rows-unlinkAll}

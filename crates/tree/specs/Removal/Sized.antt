@@ -6,7 +6,7 @@ use lib.ListN.{length, length-append}
 use Rattle.basis.specs.Lists.{All, all-append}
 use Rattle.tree.specs.Tree.{Entry, Tree}
 use Rattle.tree.specs.Clauses.{SizedUnder, Sized}
-use Rattle.tree.specs.InsertionSized.{SizedPage, least-le}
+use Rattle.tree.specs.Insertion.Sized.{SizedPage, least-le}
 use Rattle.tree.specs.Position.{position}
 use Rattle.tree.specs.Keeping.{Route}
 use Rattle.tree.specs.Removal.{replaceBy, unlessEmptied, settle, removeUnder, removeEntries, remove}
