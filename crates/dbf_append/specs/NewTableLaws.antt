@@ -23,7 +23,8 @@ use Rattle.dbf_append.specs.Append.{newEnd, appendRefusal, recordWrite, 
 use Rattle.dbf_append.specs.CheckLaws.{Accepted, accepted, append-stored}
 use Rattle.dbf_table.specs.SameForm.{header-same}
 use Rattle.dbf_append.specs.ImageLaws.{shortened, beyond, kept, more-form, more-count}
-use Rattle.dbf_append.specs.CrashLaws.{behind, cut-byte, cut-form, cut-count, cut-length, cut-whole, newFile, fills, few, crash-safe, new-file, told-first}
+use Rattle.dbf_append.specs.CrashLaws.{behind, cut-byte, cut-form, cut-count, cut-length, cut-whole}
+use Rattle.dbf_append.specs.CrashLaws.{newFile, fills, few, crash-safe, new-file, told-first}
 use Rattle.dbf_append.specs.CrashLaws.{told-second}
 use Rattle.dbf_append.specs.ReadLaws.{Added, mark-same, last-mark}
 

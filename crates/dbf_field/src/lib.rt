@@ -145,7 +145,7 @@ fn place_refusal(table: &[u8], number: u32, field: u32) -> u32
     }
 }
 
-// Where field `dbf_field` of record `number` lies, both from 1, in a table that was checked and has both.
+// Where field `field` of record `number` lies, both from 1, in a table that was checked and has both.
 pub fn place_at(table: &[u8], number: u32, field: u32) -> Place
     requires { ⌜ PlaceGood (now table) number field ⌝ }
     ensures { λ r. ⌜ (r ≡ placeAt (now (table .entry)) number field) × PlaceInside (now (table .entry)) r ⌝ }
@@ -159,7 +159,7 @@ pub fn place_at(table: &[u8], number: u32, field: u32) -> Place
     }
 }
 
-// Where field `dbf_field` of record `number` lies, both from 1.
+// Where field `field` of record `number` lies, both from 1.
 pub fn field_place(table: &[u8], number: u32, field: u32) -> Placed
     ensures { λ r. ⌜ PlaceAnswer (now (table .entry)) number field r ⌝ }
 {

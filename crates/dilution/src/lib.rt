@@ -14,7 +14,8 @@ ghost use Rattle.refusal.specs.Checks.{firstRefusal};
 ghost use Rattle.idx_page.specs.Header.{keyLength, headerGood};
 ghost use Rattle.dbf_table.specs.Table.{tableRefusal};
 ghost use Rattle.dilution.specs.Dilution.{maxTarget, maxFinal, sampleOf, volumesOf, inRange, concentrationOf, amountOf};
-ghost use Rattle.dilution.specs.Dilution.{distinctIndex, headerChecks, fieldChecks, sheetChecks, recordWith, dilutionOf, recordDilution, diluteRule, Dilutable};
+ghost use Rattle.dilution.specs.Dilution.{distinctIndex, headerChecks, fieldChecks, sheetChecks, recordWith};
+ghost use Rattle.dilution.specs.Dilution.{dilutionOf, recordDilution, diluteRule, Dilutable};
 
 // The decimals of a concentration's field.
 const DECIMALS: u32 = 3;

@@ -1,5 +1,5 @@
 -- Rules: all records of a key, document 02, K12: "all records of a key, in order, into a lent list, entries past them kept, answering how many, 0 for none; 24,
--- 27, 25 by full audit, then 39 if the list is too short." The call `idx_records` cites `recordsRule`.
+-- 27, 25 by full audit, then 39 if the list is too short." The call `records` cites `recordsRule`.
 use Prim.Native.Nat.{ℕ}
 use mathlib.Core.Bool.{Bool}
 use mathlib.Core.List.{List, [], _∷_}

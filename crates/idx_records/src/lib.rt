@@ -1,5 +1,5 @@
-// All records of a key of an index, in order. Document 02, K12: "all records of a key, in order, into a lent list, entries past them kept, answering how many, 0
-// for none; 24, 27, 25 by full audit, then 39 if the list is too short. It lists each once and none other."
+// All records of a key of an index, in order. Document 02, K12: "all records of a key, in order, into a lent list, entries past them kept, answering how many,
+// 0 for none; 24, 27, 25 by full audit, then 39 if the list is too short. It lists each once and none other."
 //
 // The leaves are gone through twice: first the records are counted, and then, if the list has room for all, they are stored.
 use idx_page::Page;

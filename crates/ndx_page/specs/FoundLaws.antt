@@ -1,5 +1,5 @@
--- Laws: "a found key is an equal one in the leaf", on any bytes, and the leaf passes lookup's checks. It is the law of IDX, over the pages of an NDX index: what a
--- page says is told as a page of IDX would say it. Assumes nothing.
+-- Laws: "a found key is an equal one in the leaf", on any bytes, and the leaf passes lookup's checks. It is the law of IDX, over the pages of an NDX index:
+-- what a page says is told as a page of IDX would say it. Assumes nothing.
 use Prim.Native.Nat.{ℕ, zero, suc, _-_, _≤_}
 use mathlib.Core.Path.{_≡_, refl, sym, ap, _∙_}
 use mathlib.Core.Bool.{true}

@@ -232,7 +232,8 @@ module _ (b : List ℕ) (e : headerGood b ≡ true) where
             (λ u. rw u)))
 
     o : Ordered keptByTop h (indexTree b h)
-    o = separated-ordered byTop h (indexTree b h) (separated-read byTop (pageCount b) S fits h (good-ordered byTop (pageCount b) S fits (fit-filled b) h) (S r) (a .1))
+    o = separated-ordered byTop h (indexTree b h)
+        (separated-read byTop (pageCount b) S fits h (good-ordered byTop (pageCount b) S fits (fit-filled b) h) (S r) (a .1))
 
     leaf-pages : All (λ (x : Key × ℕ). LeafPage b (x .1)) (generation (entriesAt b) h ((none, rootPage b) ∷ []))
     leaf-pages =
@@ -265,7 +266,8 @@ module _ (b : List ℕ) (e : headerGood b ≡ true) where
         (λ q.
         let t = tree-pages S none r h z in
         let d = levels-distinct S (heightFrom b (maxLevels - 1)) h ((none, rootPage b) ∷ []) heights
-        (ascending-distinct S byTop h ((none, rootPage b) ∷ []) (filled q) (rw (tree-pairs S none r h) at (ordered-ascending keptByTop h (indexTree b h) o))) z in
+        (ascending-distinct S byTop h ((none, rootPage b) ∷ []) (filled q)
+        (rw (tree-pairs S none r h) at (ordered-ascending keptByTop h (indexTree b h) o))) z in
         omega arith)
       where
         lone : (g : ℕ) → g ≡ 0 → (z : ℕ) → occ z (pages g (indexTree b g)) ≤ 1

@@ -298,7 +298,8 @@ module _ {K : Type 0} (O : Order K) (most : ℕ) where
 
     -- entries read as the tree's
     pub separated-read : (h : ℕ) → ((e : K × ℕ) → Good h e → OrderedUnder (distinctKeys O) h (readEntry S h e)) → (es : List (K × ℕ))
-        → Separated (distinctKeys O) (Good h) (λ d. pairsUnder h (readEntry S h d)) es → Separated (distinctKeys O) (OrderedUnder (distinctKeys O) h) (pairsUnder h) (map (readEntry S h) es)
+        → Separated (distinctKeys O) (Good h) (λ d. pairsUnder h (readEntry S h d)) es
+        → Separated (distinctKeys O) (OrderedUnder (distinctKeys O) h) (pairsUnder h) (map (readEntry S h) es)
     separated-read h ok [] c = tt
     separated-read h ok (e ∷ es) c = (
       record {

@@ -1,5 +1,5 @@
--- `dbf_fields::names_differ` meets its contract. The outer loop's invariant: some field has the name of one before it exactly if one below `later` has; the inner
--- loop's: no field passed has the name of field `later`. A duplicate leaves both. Assumes nothing.
+-- `dbf_fields::names_differ` meets its contract. The outer loop's invariant: some field has the name of one before it exactly if one below `later` has; the
+-- inner loop's: no field passed has the name of field `later`. A duplicate leaves both. Assumes nothing.
 use Prim.Native.Nat.{_+_, _-_, _≤_}
 use native.Mathlib.Omega.{arith}
 use mathlib.Core.Path.{_≡_, refl, sym, ap, _∙_}

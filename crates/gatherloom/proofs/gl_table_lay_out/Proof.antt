@@ -575,5 +575,6 @@ gl-table-lay-out-spec 𝓤 H 𝓜 𝓖 𝓡 =
     (cited 𝓤 H (CountC 𝓤 H (𝓖 .A) (𝓜 .mem) (𝓡 .run)) 𝓜 𝓡 code.env #laying·listed-count count-def.routine code.calls-dbf-create·listed-count
     (count-thm.met 𝓤 H 𝓜 𝓖 𝓡))
     (cited 𝓤 H (NoneC 𝓤 H (𝓖 .A) (𝓜 .mem) (𝓡 .run)) 𝓜 𝓡 code.env #laying·no-fields none-def.routine code.calls-dbf-create·no-fields (none-thm.met 𝓤 H 𝓜 𝓖 𝓡))
-    (cited 𝓤 H (FieldC 𝓤 H (𝓖 .A) (𝓜 .mem) (𝓡 .run)) 𝓜 𝓡 code.env #laying·write-field field-def.routine code.calls-dbf-create·write-field (field-thm.met 𝓤 H 𝓜 𝓖 𝓡))
+    (cited 𝓤 H (FieldC 𝓤 H (𝓖 .A) (𝓜 .mem) (𝓡 .run)) 𝓜 𝓡 code.env #laying·write-field field-def.routine code.calls-dbf-create·write-field
+    (field-thm.met 𝓤 H 𝓜 𝓖 𝓡))
     (cited 𝓤 H (LayC 𝓤 H (𝓖 .A) (𝓜 .mem) (𝓡 .run)) 𝓜 𝓡 code.env #laying·lay-out lay-def.routine code.calls-dbf-create·lay-out (lay-thm.met 𝓤 H 𝓜 𝓖 𝓡)))

@@ -1,5 +1,5 @@
--- `idx_audit::check_children` meets its contract. The loop's invariant: no child was bad, and the children from `entry` on, from the state reached, come to what
--- all children come to.
+-- `idx_audit::check_children` meets its contract. The loop's invariant: no child was bad, and the children from `entry` on, from the state reached, come to
+-- what all children come to.
 -- Assumes nothing.
 use Prim.Native.Nat.{_-_, _≤_}
 use mathlib.Core.Path.{_≡_, sym, ap, _∙_}

@@ -1,4 +1,4 @@
--- `idx_audit::free_list` meets its contract. The loop's invariant: the pages passed were free, so that those from `idx_page` on decide.
+-- `idx_audit::free_list` meets its contract. The loop's invariant: the pages passed were free, so that those from `page` on decide.
 -- Assumes nothing.
 use mathlib.Core.Path.{refl}
 use native.Mathlib.Omega.{arith}

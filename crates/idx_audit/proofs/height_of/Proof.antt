@@ -1,4 +1,4 @@
--- `idx_audit::height_of` meets its contract. The loop's invariant: `idx_page` is `height` levels under the root by first children.
+-- `idx_audit::height_of` meets its contract. The loop's invariant: `page` is `height` levels under the root by first children.
 -- Assumes nothing.
 use Prim.Native.Nat.{_-_, _≤_}
 use mathlib.Core.Path.{refl, sym, _∙_}

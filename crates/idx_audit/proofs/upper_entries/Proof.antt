@@ -1,5 +1,5 @@
--- `idx_audit::upper_entries` meets its contract. The loop's invariant: the entries passed are good, so that those from entry `i` on decide, after an entry that is
--- exact if `exact` is true.
+-- `idx_audit::upper_entries` meets its contract. The loop's invariant: the entries passed are good, so that those from entry `i` on decide, after an entry that
+-- is exact if `exact` is true.
 -- Assumes nothing.
 use Prim.Native.Nat.{_-_, _≤_}
 use borrow.Author.Tests.{not-true, not-false}

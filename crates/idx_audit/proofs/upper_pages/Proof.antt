@@ -1,5 +1,5 @@
--- `idx_audit::upper_pages` meets its contract. The loop's invariant: the pages passed are good, so that those from `idx_page` on decide, after pages that are exact if
--- `exact` is true.
+-- `idx_audit::upper_pages` meets its contract. The loop's invariant: the pages passed are good, so that those from `page` on decide, after pages that are
+-- exact if `exact` is true.
 -- Assumes nothing.
 use Prim.Native.Nat.{_≤_}
 use mathlib.Core.Path.{_≡_, refl}

@@ -1,5 +1,5 @@
--- `idx_batch::run_calls` meets its contract. The loop's invariant: what the rule leaves is what the calls still to be made leave of the buffer and the answers as
--- they are. The measure is the rest of the list's bytes. Demand 3 follows, since the elements of lent slices are bytes. Assumes nothing.
+-- `idx_batch::run_calls` meets its contract. The loop's invariant: what the rule leaves is what the calls still to be made leave of the buffer and the answers
+-- as they are. The measure is the rest of the list's bytes. Demand 3 follows, since the elements of lent slices are bytes. Assumes nothing.
 use Prim.Native.Nat.{ℕ, _-_, _≤_, _*_}
 use mathlib.Core.Path.{_≡_}
 use mathlib.Core.Bool.{true}

@@ -1,4 +1,4 @@
--- `idx_match::first_leaf` meets its contract. The loop's invariant: the first leaf under `idx_page`, with `left` levels left, is the root's.
+-- `idx_match::first_leaf` meets its contract. The loop's invariant: the first leaf under `page`, with `left` levels left, is the root's.
 -- Assumes nothing.
 use Prim.Native.Nat.{_-_, _≤_}
 use mathlib.Core.Path.{refl, sym, _∙_}

@@ -8,7 +8,8 @@ use lib.ListN.{length}
 use lib.Dec.{leb}
 use borrow.Author.Tests.{le-leb, lt-leb}
 use borrow.Author.Needs.{needs}
-use Rattle.idx_page.specs.Header.{pageSize, fileSize, rootOffset, keyLength, freePointer, features, sizeGood, isPage, keyLengthGood, freeGood, maxFeatures, headerGood}
+use Rattle.idx_page.specs.Header.{pageSize, fileSize, rootOffset, keyLength, freePointer, features}
+use Rattle.idx_page.specs.Header.{sizeGood, isPage, keyLengthGood, freeGood, maxFeatures, headerGood}
 use Rattle.idx_page.proofs.header_good.Statement.{statement}
 use Rattle.idx_page.proofs.header_good.Tie as tie
 

@@ -39,7 +39,8 @@ returns-2 : tie.Need-returns-2
 unfolding pageGood
 returns-2 c =
     let tested = c .before .before .before in
-    page-tested _ _ _ _ _ _ _ _ _ _ (passed (tested .before .is-page .ensures) (tested .if1 .left)) (c .before .before .at .ensures .0) (c .before .before .at .ensures .1 .0)
+    page-tested _ _ _ _ _ _ _ _ _ _ (passed (tested .before .is-page .ensures) (tested .if1 .left)) (c .before .before .at .ensures .0)
+    (c .before .before .at .ensures .1 .0)
     (c .before .attribute-good .ensures) (c .count-good .ensures)
 
 pub page-good-spec : {M : Type 1} → statement M

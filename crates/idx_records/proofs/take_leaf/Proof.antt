@@ -1,5 +1,5 @@
--- `idx_records::take_leaf` meets its contract. The loop's invariant: the entries from `i` on are left, and the place has moved by at most as many as were passed.
--- Assumes nothing.
+-- `idx_records::take_leaf` meets its contract. The loop's invariant: the entries from `i` on are left, and the place has moved by at most as many as were
+-- passed. Assumes nothing.
 use Prim.Native.Nat.{_+_, _-_, _≤_}
 use mathlib.Core.Path.{_≡_, refl, _∙_}
 use native.Mathlib.Nat.{sub-zero}
@@ -23,8 +23,11 @@ loop-holds c = (search needs, search needs, refl, rw sub-zero)
 take-entry-requires : tie.Need-take-entry-requires Inv-loop μ-loop
 take-entry-requires c κs =
     let at-loop = c .before .before in
-    let start = at-loop .before .before .before .before in
-    (start .pre .0 .each (at-loop .loop .i) (search needs), omega (arith, start .pre .1, at-loop .loop .inv .2), omega (arith, start .pre .2, at-loop .loop .inv .1))
+    let start = at-loop .before .before .before .before in (
+      start .pre .0 .each (at-loop .loop .i) (search needs),
+      omega (arith, start .pre .1, at-loop .loop .inv .2),
+      omega (arith, start .pre .2, at-loop .loop .inv .1),
+    )
 
 add-i : tie.Need-add-i Inv-loop μ-loop
 add-i c = search needs

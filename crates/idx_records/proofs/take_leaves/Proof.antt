@@ -1,4 +1,4 @@
--- `idx_records::take_leaves` meets its contract. The loop's invariant: the leaves from `idx_page` on are left, and each page passed had at most 500 entries.
+-- `idx_records::take_leaves` meets its contract. The loop's invariant: the leaves from `page` on are left, and each page passed had at most 500 entries.
 -- Assumes nothing.
 use Prim.Native.Nat.{_+_, _*_, _≤_}
 use mathlib.Core.Path.{_≡_, refl, sym, _∙_}
@@ -39,7 +39,7 @@ at-loop c = c .before .before
 abbrev start : Test → tie.Start Inv-loop μ-loop
 start c = at-loop c .before .before .before .before
 
--- the loop goes on if pages are left and `idx_page` is a page of the file
+-- the loop goes on if pages are left and `page` is a page of the file
 tests : (c : Test) → (ltb 0 (at-loop c .loop .left) ≡ true) × (c .before .is-page .result ≡ true)
 tests c = both (ltb 0 (at-loop c .loop .left)) (c .before .is-page .result) (c .if1 .taken)
 

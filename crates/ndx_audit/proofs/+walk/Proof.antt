@@ -45,7 +45,7 @@ Inv index entered₀ page height lone last count under prior₀ i₀ entered pri
 abbrev μ : walk-lts.MeasureT-loop
 μ index entered₀ page height lone last count under prior₀ i₀ entered prior i = count - i
 
--- what the calls ask and ensure: `dbf_walk` itself with fewer levels under the page
+-- what the calls ask and ensure: `walk` itself with fewer levels under the page
 abbrev claims : ℕ → walk-lts.Claims
 claims t = (
   enter-reads.Asked,

@@ -1,4 +1,4 @@
--- `ndx_audit::height_of` meets its contract. The loop's invariant: `idx_page` is `height` levels under the root by first lower pages. Assumes nothing.
+-- `ndx_audit::height_of` meets its contract. The loop's invariant: `page` is `height` levels under the root by first lower pages. Assumes nothing.
 use Prim.Native.Nat.{_-_, _≤_}
 use native.Mathlib.Omega.{arith}
 use Rattle.basis.specs.Tests.{both, passed, failed}

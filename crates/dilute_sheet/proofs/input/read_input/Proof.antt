@@ -39,7 +39,8 @@ returns-2 c =
     let third = fourth .before in
     let second = third .before in
     let first = second .before in
-    input-answer _ _ (sym (input-other _ _ _ _ _ (first .line-at .ensures) (second .next-line .ensures) (third .next-line2 .ensures) (fourth .next-line3 .ensures)
+    input-answer _ _
+    (sym (input-other _ _ _ _ _ (first .line-at .ensures) (second .next-line .ensures) (third .next-line2 .ensures) (fourth .next-line3 .ensures)
     (c .if1 .left)))
 
 pub read-input-spec : {M : Type 1} → statement M
