@@ -55,15 +55,15 @@ fn put_index_words(line: &mut Line, n: usize, code: u32) -> usize {
     }
 }
 
-// 34 to 40: document 02. The crate `refusal` does not name those that nothing gives yet.
+// 34 to 40: document 02.
 fn put_other_words(line: &mut Line, n: usize, code: u32) -> usize {
     match code {
-        34 => put(line, n, b"no number to index"),
+        refusal::NO_KEY => put(line, n, b"no number to index"),
         refusal::BARCODE_ABSENT => put(line, n, b"barcode absent or deleted"),
         refusal::NO_CONCENTRATION => put(line, n, b"no concentration"),
         refusal::TARGET_OR_VOLUME => put(line, n, b"target or volume out of range"),
         refusal::TARGET_ABOVE_CONCENTRATION => put(line, n, b"target above concentration"),
-        39 => put(line, n, b"list too short"),
+        refusal::LIST_TOO_SHORT => put(line, n, b"list too short"),
         refusal::ARGUMENTS_OR_FILES => put(line, n, b"arguments or files"),
         _ => n,
     }
