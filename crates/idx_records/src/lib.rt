@@ -18,9 +18,6 @@ ghost use Rattle.idx_match.specs.MatchTest.{entryAt, entriesAlong, leafEntries}
 ghost use Rattle.idx_records.specs.Records.{told, recordsRule};
 ghost use Rattle.idx_records.specs.Gather.{gather, kept, taken, gathered};
 
-// The list of records is too short.
-const LIST_TOO_SHORT: u32 = 39;
-
 // Stores a record's number at a place of a list, if it is among the first `room`.
 fn keep_number(list: &mut [u32], room: usize, at: usize, number: u32)
     requires { ⌜ room ≤ length (now list) ⌝ }
@@ -148,7 +145,7 @@ pub fn records(index: &[u8], key: &[u8], list: &mut [u32], count: &mut u32) -> u
     }
     let n = take_all(index, key, list, 0);
     if list.len() < n {
-        return LIST_TOO_SHORT;
+        return refusal::LIST_TOO_SHORT;
     }
     take_all(index, key, list, n);
     *count = n as u32;
