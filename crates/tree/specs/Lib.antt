@@ -119,6 +119,8 @@ pub mod UnlinkLaws
 pub mod AwayLaws
 -- Laws: the pages of each level after a removal
 pub mod RemovalLevels
+-- Laws: a page on a level after a removal was on that level before it
+pub mod RemovalOnLevel
 -- Laws: all levels are linked again after a removal
 pub mod RemovalLinks
 -- Rules: the free list as it lies in a file
