@@ -35,7 +35,7 @@ use Rattle.idx_leaf.specs.EntryLaws.{itemsFrom, itemAt, items-in-fit, take-from
 use Rattle.idx_leaf.specs.SearchLaws.{get-listed, search-le}
 
 -- the bytes of n entries from entry i on
-pub encode-from : (k : ℕ) (b : List ℕ) (p n i : ℕ) → i + n ≤ capacity k → p + pageSize ≤ length b
+encode-from : (k : ℕ) (b : List ℕ) (p n i : ℕ) → i + n ≤ capacity k → p + pageSize ≤ length b
     → encode (itemsFrom k b p n i) ≡ window b (entryOffset k p i) (n * (k + 4))
 unfolding itemsFrom window
 encode-from k b p n i h l = encode-items k n (drop (entryOffset k p i) b) (rw length-drop (omega (arith, entries-inside k p (i + n) h, entry-far k p i n)))

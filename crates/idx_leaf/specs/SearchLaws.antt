@@ -63,7 +63,7 @@ module _ {b : List ℕ} {k p n : ℕ} (l : Listed b k p n) where
   get-listed i h = rw (listed l) (get-from k b p n 0 i ([], []) h ∙ ap (itemAt k b p) (zero-add i))
 
 -- a leaf has the entry looked for if the entry where the search ends is at or below it
-pub search-there : (le : Item → Item → Bool) (item : Item) {b : List ℕ} {k p n i : ℕ} → Listed b k p n → i ≡ passedCount le item (itemsIn k b p)
+search-there : (le : Item → Item → Bool) (item : Item) {b : List ℕ} {k p n i : ℕ} → Listed b k p n → i ≡ passedCount le item (itemsIn k b p)
     → (i ≡ n → ⊥) → le (itemAt k b p i) item ≡ present le item (itemsIn k b p)
 search-there le item {b} {k} {p} {n} {i} l e h =
     let es = itemsIn k b p in
@@ -71,7 +71,7 @@ search-there le item {b} {k} {p} {n} {i} l e h =
     rw (← get-listed l i (omega (arith, search-le le item l e)), e) (sym (present-at le item es inside))
 
 -- a leaf has the key if the entry where the search ends is equal to it
-pub search-equal : (key c : List ℕ) {b : List ℕ} {p n i : ℕ} {o : Ordering} → Listed b (length key) p n
+search-equal : (key c : List ℕ) {b : List ℕ} {p n i : ℕ} {o : Ordering} → Listed b (length key) p n
     → i ≡ passedCount (byKey bytesOrder) (key, c) (itemsIn (length key) b p)
     → (i ≡ n → ⊥) → o ≡ ordering (keyAt b (length key) p i) key → isEqual o ≡ present (byKey bytesOrder) (key, c) (itemsIn (length key) b p)
 search-equal key c {b} {p} {n} {i} l e h o =

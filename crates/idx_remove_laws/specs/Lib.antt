@@ -14,8 +14,6 @@ pub mod RemovalFree
 pub mod RemovalBuffer
 -- Laws: a sound index before a removal
 pub mod SoundRemoval
--- Laws: the levels after a removal
-pub mod LevelLaws
 -- Laws: a removal keeps an index sound
 pub mod RemovalSound
 -- Laws: whether the pair is there

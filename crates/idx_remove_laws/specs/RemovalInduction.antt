@@ -34,7 +34,7 @@ Inside k b qs h p = (z : ℕ) → 0 < occ z (pages h (readTree (entriesIn k b) h
 
 module _ (k : ℕ) (item : Item) (b : List ℕ) where
   -- the emptied pages are pages of the tree, and the root is none of them
-  pub emptied-inside : (h p z : ℕ) → Distinct (pages h (readTree (entriesIn k b) h p))
+  emptied-inside : (h p z : ℕ) → Distinct (pages h (readTree (entriesIn k b) h p))
       → occ z (emptiedFrom b item (entriesIn k b) h p) ≤ occ z (pages h (readTree (entriesIn k b) h p))
   emptied-inside h p z d =
       rw (emptied-read (routeOf b item) h p (entriesIn k b) d)

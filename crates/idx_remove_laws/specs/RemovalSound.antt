@@ -52,7 +52,7 @@ use Rattle.idx_insert_laws.specs.InsertionHeads.{Plain}
 use Rattle.idx_insert_laws.specs.FreePages.{none-good, page-good}
 use Rattle.idx_insert_laws.specs.SoundReading.{page-longer, read-shorter, sound-tree}
 use Rattle.idx_remove_laws.specs.EntryLists.{routeOf}
-use Rattle.idx_remove_laws.specs.LevelLaws.{level-kept}
+use Rattle.tree.specs.Removal.OnLevel.{level-kept}
 use Rattle.idx_remove_laws.specs.RemovalEntries.{emptiedFrom, storeAfter}
 use Rattle.idx_remove_laws.specs.RemovalBuffer.{Ready, Outside, tree-after, entries-after, length-after, header-after, heads-after, root-after}
 use Rattle.idx_remove_laws.specs.RemovalBuffer.{lone-tree, stays, links-after, outside-after, forms-after, chain-after}

@@ -7,6 +7,8 @@ use Rattle.tree.specs.Keeping.{Route}
 use Rattle.tree.specs.Tree.{Page, Entry, Tree, pairs, pages}
 -- Laws: the pages of each level after a removal
 pub mod Levels
+-- Laws: a page on a level after a removal was on that level before it
+pub mod OnLevel
 -- Laws: all levels are linked again after a removal
 pub mod Links
 -- Laws: a removal keeps the order
