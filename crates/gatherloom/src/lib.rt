@@ -20,16 +20,17 @@ ghost use Rattle.idx_records.specs.Records.{told, recordsRule};
 ghost use Rattle.dilution.specs.Dilution.{diluteRule};
 ghost use Rattle.ndx_page.specs.Lookup as ndx-lookup;
 ghost use Rattle.ndx_sound.specs.Sound as ndx;
+ghost use Rattle.refusal.specs.After.{left, coded};
 ghost use Rattle.dbf_append.specs.Append.{appendRule};
-ghost use Rattle.dbf_append.specs.UpdateDate.{setDateRule, dated};
+ghost use Rattle.dbf_append.specs.UpdateDate.{setDateRule};
 ghost use Rattle.dbf_append.specs.Extent.{extentRule};
-ghost use Rattle.dbf_create.specs.Laying.{layOutRule, laid};
+ghost use Rattle.dbf_create.specs.Laying.{layOutRule};
 ghost use Rattle.handed.specs.Out.{out};
 ghost use Rattle.dbf_calls.specs.Answers.{sizes, shapeOut};
 ghost use Rattle.dbf_calls.specs.Lent.{listing, walkedOf};
 ghost use Rattle.dbf_calls.specs.Writing.{stores, written, appendOut, extentOut};
-ghost use Rattle.dbf_cell_calls.specs.Answers.{dayOf, part, numberOut, dateOut, logicalOut, textOut, writingOut};
-ghost use Rattle.index_calls.specs.Answers.{found, lookupOut, insertionOut, removalOut};
+ghost use Rattle.dbf_cell_calls.specs.Answers.{dayOf, part, numberOut, dateOut, logicalOut, textOut};
+ghost use Rattle.index_calls.specs.Answers.{found, lookupOut};
 ghost use Rattle.dilute_call.specs.Volumes.{volumes, volumesOut};
 ghost use Rattle.gatherloom.specs.Interface.{interfaceNumber};
 
@@ -162,7 +163,7 @@ pub extern "C" fn gl_number_read(text: &[u8], decimals: u32, value: &mut i64) ->
 // Writes a value as numeric text into the lent field.
 #[no_mangle]
 pub extern "C" fn gl_number_write(text: &mut [u8], decimals: u32, value: i64) -> u32
-    ensures { λ r. ⌜ writingOut (writeNumber (now (text .entry)) decimals value) ≡ out r (now (text .exit)) ⌝ }
+    ensures { λ r. ⌜ coded (writeNumber (now (text .entry)) decimals value) ≡ left (now (text .exit)) r ⌝ }
 {
     dbf_cell_calls::number_write(text, decimals, value)
 }
@@ -175,7 +176,7 @@ pub extern "C" fn gl_index_fresh(
     features: u32,
     expression: &[u8],
 ) -> u32
-    ensures { λ r. ⌜ insertionOut (freshRule (now (index .entry)) «key_length» features (now (expression .entry))) ≡ out r (now (index .exit)) ⌝ }
+    ensures { λ r. ⌜ coded (freshRule (now (index .entry)) «key_length» features (now (expression .entry))) ≡ left (now (index .exit)) r ⌝ }
 {
     index_calls::index_fresh(index, key_length, features, expression)
 }
@@ -207,7 +208,7 @@ pub extern "C" fn gl_index_lookup(
 // Inserts a key with its record's number.
 #[no_mangle]
 pub extern "C" fn gl_index_insert(index: &mut [u8], key: &[u8], number: u32) -> u32
-    ensures { λ r. ⌜ insertionOut (insertRule (now (index .entry)) (now (key .entry)) number) ≡ out r (now (index .exit)) ⌝ }
+    ensures { λ r. ⌜ coded (insertRule (now (index .entry)) (now (key .entry)) number) ≡ left (now (index .exit)) r ⌝ }
 {
     index_calls::index_insert(index, key, number)
 }
@@ -215,7 +216,7 @@ pub extern "C" fn gl_index_insert(index: &mut [u8], key: &[u8], number: u32) -> 
 // Strikes a pair off; with one record to a key the number is not looked at.
 #[no_mangle]
 pub extern "C" fn gl_index_remove(index: &mut [u8], key: &[u8], number: u32) -> u32
-    ensures { λ r. ⌜ removalOut (removeRule (now (index .entry)) (now (key .entry)) number) ≡ out r (now (index .exit)) ⌝ }
+    ensures { λ r. ⌜ coded (removeRule (now (index .entry)) (now (key .entry)) number) ≡ left (now (index .exit)) r ⌝ }
 {
     index_calls::index_remove(index, key, number)
 }
@@ -313,7 +314,7 @@ pub extern "C" fn gl_table_set_date(
     month: u32,
     day: u32,
 ) -> u32
-    ensures { λ r. ⌜ setDateRule (now (buffer .entry)) «table_len» year month day ≡ dated (now (buffer .exit)) r ⌝ }
+    ensures { λ r. ⌜ setDateRule (now (buffer .entry)) «table_len» year month day ≡ left (now (buffer .exit)) r ⌝ }
 {
     dbf_append::set_date(buffer, table_len, year, month, day)
 }
@@ -335,7 +336,7 @@ pub extern "C" fn gl_table_lay_out(
     month: u32,
     day: u32,
 ) -> u32
-    ensures { λ r. ⌜ layOutRule (now (buffer .entry)) (now (entries .entry)) year month day ≡ laid (now (buffer .exit)) r ⌝ }
+    ensures { λ r. ⌜ layOutRule (now (buffer .entry)) (now (entries .entry)) year month day ≡ left (now (buffer .exit)) r ⌝ }
 {
     let given = entries.len();
     let count = dbf_create::listed_count(given);
