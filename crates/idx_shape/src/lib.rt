@@ -313,5 +313,5 @@ pub fn shape_good(index: &[u8]) -> bool
     if !(level.good & level.leaf) {
         return false;
     }
-    idx_free::free_list(index, size, level.left, idx_page::free_pointer(index))
+    idx_free_list::free_list(index, size, level.left, idx_page::free_pointer(index))
 }

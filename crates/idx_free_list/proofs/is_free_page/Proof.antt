@@ -1,9 +1,9 @@
--- `idx_free::is_free_page` meets its contract: test for test, it is the rule.
+-- `idx_free_list::is_free_page` meets its contract: test for test, it is the rule.
 -- Assumes nothing.
 use borrow.Author.Needs.{needs}
 use Rattle.idx_sound.specs.AuditTest.{isFreePage}
-use Rattle.idx_free.proofs.is_free_page.Statement.{statement}
-use Rattle.idx_free.proofs.is_free_page.Tie as tie
+use Rattle.idx_free_list.proofs.is_free_page.Statement.{statement}
+use Rattle.idx_free_list.proofs.is_free_page.Tie as tie
 
 cast-at : tie.Need-cast-at
 cast-at c = search needs

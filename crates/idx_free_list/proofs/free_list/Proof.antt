@@ -1,13 +1,13 @@
--- `idx_free::free_list` meets its contract. The loop's invariant: the pages passed were free, so that those from `idx_page` on decide.
+-- `idx_free_list::free_list` meets its contract. The loop's invariant: the pages passed were free, so that those from `idx_page` on decide.
 -- Assumes nothing.
 use mathlib.Core.Path.{refl}
 use native.Mathlib.Omega.{arith}
 use borrow.Author.Needs.{needs}
 use Rattle.basis.specs.Tests.{passed, failed}
 use Rattle.idx_page.specs.HeaderLaws.{is-page}
-use Rattle.idx_free.specs.FreeLaws.{FreeLeft, list-end, list-off, list-on, fits-page}
-use Rattle.idx_free.proofs.free_list.Statement.{statement}
-use Rattle.idx_free.proofs.free_list.Tie as tie
+use Rattle.idx_free_list.specs.FreeLaws.{FreeLeft, list-end, list-off, list-on, fits-page}
+use Rattle.idx_free_list.proofs.free_list.Statement.{statement}
+use Rattle.idx_free_list.proofs.free_list.Tie as tie
 
 abbrev Inv-loop : tie.InvT-loop
 Inv-loop index size count page₀ left₀ page left = FreeLeft index size count (page₀ .0) (page .0) left

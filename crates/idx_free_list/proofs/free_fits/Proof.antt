@@ -1,4 +1,4 @@
--- `idx_free::free_fits` meets its contract: a page of the file lies within the index.
+-- `idx_free_list::free_fits` meets its contract: a page of the file lies within the index.
 -- Assumes nothing.
 use mathlib.Core.Path.{_≡_}
 use mathlib.Core.Bool.{true}
@@ -7,9 +7,9 @@ use borrow.Author.Needs.{needs}
 use Rattle.basis.specs.Tests.{passed, failed}
 use Rattle.idx_page.specs.Header.{isPage}
 use Rattle.idx_page.specs.HeaderLaws.{is-page}
-use Rattle.idx_free.specs.FreeLaws.{fits-outside, fits-inside}
-use Rattle.idx_free.proofs.free_fits.Statement.{statement}
-use Rattle.idx_free.proofs.free_fits.Tie as tie
+use Rattle.idx_free_list.specs.FreeLaws.{fits-outside, fits-inside}
+use Rattle.idx_free_list.proofs.free_fits.Statement.{statement}
+use Rattle.idx_free_list.proofs.free_fits.Tie as tie
 
 -- where the function starts, from past the test of the page
 abbrev start : tie.Else1 → tie.Start

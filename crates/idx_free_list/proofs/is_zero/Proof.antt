@@ -1,4 +1,4 @@
--- `idx_free::is_zero` meets its contract: the index's part is compared with as many bytes of zero.
+-- `idx_free_list::is_zero` meets its contract: the index's part is compared with as many bytes of zero.
 -- Assumes nothing.
 use Prim.Native.Nat.{_+_, _-_}
 use mathlib.Core.Path.{_≡_, sym, _∙_}
@@ -6,10 +6,10 @@ use native.Mathlib.Omega.{arith}
 use lib.Seq.{length-take-le}
 use Rattle.octets.specs.Store.{window}
 use Rattle.idx_page.specs.Page.{entryArea}
-use Rattle.idx_free.specs.FreeLaws.{zeros-part}
+use Rattle.idx_free_list.specs.FreeLaws.{zeros-part}
 use borrow.Author.Needs.{needs}
-use Rattle.idx_free.proofs.is_zero.Statement.{statement}
-use Rattle.idx_free.proofs.is_zero.Tie as tie
+use Rattle.idx_free_list.proofs.is_zero.Statement.{statement}
+use Rattle.idx_free_list.proofs.is_zero.Tie as tie
 
 add-end : tie.Need-add-end
 add-end c = search needs
