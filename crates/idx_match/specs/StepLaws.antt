@@ -25,8 +25,8 @@ use Rattle.idx_page.specs.Reading.{entriesAt}
 use Rattle.idx_page.specs.ReadingLaws.{entriesFrom, entries-are, entries-none, length-entries}
 use Rattle.idx_page.specs.Children.{isLeaf, firstChild}
 use Rattle.idx_sound.specs.AuditTest.{Entries, maxPages, chain}
-use Rattle.idx_audit.specs.EntryLaws.{from-on, from-end}
-use Rattle.idx_audit.specs.PassLaws.{chain-none, chain-some}
+use Rattle.idx_keys.specs.EntryLaws.{from-on, from-end}
+use Rattle.idx_keys.specs.FileLaws.{chain-none, chain-some}
 use Rattle.idx_match.specs.declared.Column.{Column}
 use Rattle.idx_match.specs.MatchTest.{entryAt, columnBytes, entryGood, entriesGood, entriesMatch, firstLeaf, entriesAlong, ColumnInside}
 

@@ -15,7 +15,7 @@ ghost use Rattle.idx_page.specs.Header.{maxLevels, rootOffset, keyLength, heade
 ghost use Rattle.idx_page.specs.Within.{Within};
 ghost use Rattle.idx_page.specs.ReadingLaws.{entriesFrom};
 ghost use Rattle.idx_sound.specs.AuditTest.{maxPages};
-ghost use Rattle.idx_audit.specs.State.{InFile, EntriesWithin};
+ghost use Rattle.idx_keys.specs.Places.{InFile, EntriesWithin};
 ghost use Rattle.idx_match.specs.Match.{matchRefusal, Matched};
 ghost use Rattle.idx_match.specs.MatchTest.{entryAt, entryGood, entriesGood, entriesMatch, firstLeaf, entriesAlong, leafEntries, ColumnInside};
 

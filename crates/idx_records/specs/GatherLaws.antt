@@ -20,8 +20,8 @@ use Rattle.idx_page.specs.KeyOrder.{bytesOrder}
 use Rattle.idx_page.specs.Reading.{entriesAt}
 use Rattle.idx_page.specs.ReadingLaws.{entriesFrom, entries-are, length-entries-from}
 use Rattle.idx_sound.specs.AuditTest.{Entries, maxPages, chain}
-use Rattle.idx_audit.specs.EntryLaws.{from-on, from-end}
-use Rattle.idx_audit.specs.PassLaws.{chain-none, chain-some}
+use Rattle.idx_keys.specs.EntryLaws.{from-on, from-end}
+use Rattle.idx_keys.specs.FileLaws.{chain-none, chain-some}
 use Rattle.idx_match.specs.MatchTest.{entryAt, entriesAlong}
 use Rattle.idx_records.specs.Gather.{Gathered, gather, kept, stored, taken, gathered}
 

@@ -13,7 +13,7 @@ ghost use Rattle.idx_page.specs.Page.{entryArea};
 ghost use Rattle.idx_page.specs.Within.{Within};
 ghost use Rattle.idx_page.specs.ReadingLaws.{entriesFrom};
 ghost use Rattle.idx_sound.specs.AuditTest.{maxPages};
-ghost use Rattle.idx_audit.specs.State.{InFile, EntriesWithin};
+ghost use Rattle.idx_keys.specs.Places.{InFile, EntriesWithin};
 ghost use Rattle.idx_match.specs.MatchTest.{entryAt, entriesAlong, leafEntries};
 ghost use Rattle.idx_records.specs.Records.{told, recordsRule};
 ghost use Rattle.idx_records.specs.Gather.{gather, kept, taken, gathered};

@@ -33,7 +33,7 @@ fn is_after(index: &[u8], last: usize, at: usize) -> bool
     if last == 0 {
         return true;
     }
-    octets::is_below(idx_audit::key_order(index, ndx_page::key_length(index) as usize, last, at))
+    octets::is_below(idx_keys::key_order(index, ndx_page::key_length(index) as usize, last, at))
 }
 
 // Whether the last key met is at or below the key that begins at `at`.
@@ -44,7 +44,7 @@ fn at_most(index: &[u8], last: usize, at: usize) -> bool
     if last == 0 {
         return true;
     }
-    !octets::is_below(idx_audit::key_order(index, ndx_page::key_length(index) as usize, at, last))
+    !octets::is_below(idx_keys::key_order(index, ndx_page::key_length(index) as usize, at, last))
 }
 
 // A pair of a leaf, entry i: its record number is above 0, and its key is above the last one met.

@@ -2,7 +2,7 @@
 -- Assumes nothing.
 use borrow.Author.Needs.{needs}
 use borrow.Author.Tests.{not-true, not-false}
-use Rattle.idx_audit.specs.KeyLaws.{pages-bad, pages-answer}
+use Rattle.idx_audit.specs.AnswerLaws.{pages-bad, pages-answer}
 use Rattle.idx_audit.proofs.pages_good.Statement.{statement}
 use Rattle.idx_audit.proofs.pages_good.Tie as tie
 

@@ -1,7 +1,7 @@
 -- `idx_match::entries_match` meets its contract: the leaves from the first on, by the header's numbers.
 -- Assumes nothing.
 use Rattle.idx_page.specs.HeaderLaws.{good-header}
-use Rattle.idx_audit.specs.PassLaws.{in-file}
+use Rattle.idx_keys.specs.FileLaws.{in-file}
 use Rattle.idx_match.specs.CallLaws.{leaves-from}
 use Rattle.idx_match.proofs.entries_match.Statement.{statement}
 use Rattle.idx_match.proofs.entries_match.Tie as tie

@@ -11,7 +11,7 @@ use Rattle.idx_page.specs.Header.{isPage}
 use Rattle.idx_page.specs.HeaderLaws.{is-page}
 use Rattle.idx_page.specs.Page.{entryArea}
 use Rattle.idx_sound.specs.AuditTest.{maxPages}
-use Rattle.idx_audit.specs.EntryLaws.{entries-within}
+use Rattle.idx_keys.specs.EntryLaws.{entries-within}
 use Rattle.idx_match.specs.StepLaws.{entries-few, LeavesLeft, leaves-end, leaves-off, leaves-on}
 use borrow.Author.Needs.{needs}
 use Rattle.idx_match.proofs.leaves_good.Statement.{statement}

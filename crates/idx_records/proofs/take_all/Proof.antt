@@ -1,6 +1,6 @@
 -- `idx_records::take_all` meets its contract: the leaves from the first on, by the header's numbers. Assumes nothing.
 use Rattle.idx_page.specs.HeaderLaws.{good-header}
-use Rattle.idx_audit.specs.PassLaws.{in-file}
+use Rattle.idx_keys.specs.FileLaws.{in-file}
 use Rattle.idx_records.specs.CallLaws.{leaves-from}
 use borrow.Author.Needs.{needs}
 use Rattle.idx_records.proofs.take_all.Statement.{statement}

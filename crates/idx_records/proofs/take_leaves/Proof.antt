@@ -12,7 +12,7 @@ use Rattle.idx_page.specs.Header.{isPage}
 use Rattle.idx_page.specs.HeaderLaws.{is-page}
 use Rattle.idx_page.specs.Page.{entryArea}
 use Rattle.idx_sound.specs.AuditTest.{maxPages}
-use Rattle.idx_audit.specs.EntryLaws.{entries-within}
+use Rattle.idx_keys.specs.EntryLaws.{entries-within}
 use Rattle.idx_match.specs.StepLaws.{entries-few}
 use Rattle.idx_records.specs.GatherLaws.{leaf-at, LeavesLeft, leaves-end, leaves-on}
 use borrow.Author.Needs.{needs}
