@@ -13,7 +13,7 @@ use borrow.Author.Tests.{leb-true, le-leb, lt-leb, eq-eqb}
 use Rattle.basis.specs.Tests.{both, join}
 use Rattle.basis.specs.Lists.{all-append}
 use Rattle.refusal.specs.After.{After, left}
-use Rattle.refusal.specs.CheckLaws.{first-fail, first-none, unless-pass, unless-none, unless-first, unless-at, unless-zero, unless-code}
+use Rattle.refusal.specs.CheckLaws.{first-fail, first-none, unless-pass, unless-none, unless-first, unless-at, unless-code}
 use Rattle.refusal.specs.Checks.{firstRefusal, unless}
 use Rattle.octets.specs.Bytes.{byteAt, le16, le32, toLe16, toLe32}
 use Rattle.octets.specs.Store.{put, window}
@@ -237,17 +237,8 @@ module _ (b ds : List ℕ) (f year month day : ℕ) where
   pub lay-zero : layRefusal (length b) ds f year month day ≡ 0 → layOut b ds f year month day ≡ new
   unfolding layOut layRefusal layChecks
   lay-zero e =
-      unless-zero (left b) new (layChecks (length b) ds f year month day) (
-        (λ bad none. omega arith),
-        (
-          (λ bad none. omega arith),
-          (
-            (λ bad none. omega arith),
-            ((λ bad none. omega arith), ((λ bad none. omega arith), ((λ bad none. omega arith), tt))),
-          ),
-        ),
-      )
-      e
+      let checks = layChecks (length b) ds f year month day in
+      unless-none (left b) new checks (first-none checks (lit< tt, (lit< tt, (lit< tt, (lit< tt, (lit< tt, (lit< tt, tt)))))) e)
 
   -- the number of the answer is the first refusal
   pub lay-code : layOut b ds f year month day .answer ≡ layRefusal (length b) ds f year month day
