@@ -1,4 +1,4 @@
--- Rules: what it is for all members of a list to have a property. Cited by `sound/Sound` and by the theorem about lists of calls. Assumes nothing.
+-- Rules: what it is for all members of a list to have a property. Cited by `idx_sound/Sound` and by the theorem about lists of calls. Assumes nothing.
 use mathlib.Core.List.{List, [], _∷_}
 
 -- every member of a list has the property P

@@ -1,4 +1,4 @@
-// The program that prints a lab's dilution sheet. It takes the arguments and reads the files and standard input; `sheet` decides every line.
+// The program that prints a lab's dilution sheet. It takes the arguments and reads the files and standard input; `dilute_sheet` decides every line.
 //
 //     dilute TABLE INDEX < NUMBERS
 //
@@ -6,11 +6,11 @@
 //
 // A program has no exit status, so the last line on standard error is its verdict, written once the output is: what was printed, by the proved count, or what
 // was wrong. Without it the program did not come to its end.
+use dilute_sheet::input::Fault;
+use dilute_sheet::input::Wrong;
+use dilute_sheet::tally::Tally;
+use dilute_sheet::tally::Verdict;
 use libc::STDERR_FILENO;
-use sheet::input::Fault;
-use sheet::input::Wrong;
-use sheet::tally::Tally;
-use sheet::tally::Verdict;
 
 // Four lines of ten digits have 44 bytes.
 const INPUT_ROOM: usize = 64;
@@ -76,7 +76,7 @@ fn say_input(input: &[u8]) {
         say(b"there is nothing on standard input\n");
         return;
     }
-    say_fault(sheet::input::input_fault(input));
+    say_fault(dilute_sheet::input::input_fault(input));
 }
 
 fn say_tally(tally: Tally, bytes: usize) {
@@ -102,9 +102,9 @@ fn say_alone(code: u32, input: &[u8]) {
 
 // Prints the sheet, and then the verdict. Its room is enough for the sheet of any table of 65,536 bytes.
 fn with_numbers(table: &[u8], index: &[u8], input: &[u8]) {
-    let verdict = sheet::tally::sheet_verdict(table, index, input);
+    let verdict = dilute_sheet::tally::sheet_verdict(table, index, input);
     let mut out = files::space();
-    let end = sheet::sheet(table, index, input, &mut out);
+    let end = dilute_sheet::sheet(table, index, input, &mut out);
     if !show(&out[..end]) {
         return;
     }

@@ -10,17 +10,18 @@ use lib.IntN.{pos, negsuc}
 use borrow.Author.Tests.{eqb-true, leb-true, ltb-true, not-true}
 use Rattle.basis.specs.Tests.{either, both, or-left, impossible}
 use Rattle.basis.specs.Lists.{All, all-left, all-right}
+use Rattle.refusal.specs.CheckLaws.{refuses-any, unless-cases}
+use Rattle.refusal.specs.Checks.{unless}
 use Rattle.numeral.specs.declared.Number.{Number}
 use Rattle.numeral.specs.declared.Number.the-variants as text
-use Rattle.table.specs.Table.{keptMark, deletedMark, recordCount, deletionByte}
-use Rattle.cell.specs.Cell.{fieldBytes}
-use Rattle.matching.specs.Match.{Matched}
-use Rattle.matching.specs.Computed.{matchAnswer}
-use Rattle.matching.specs.AnswerLaws.{answer-computed}
-use Rattle.page.specs.Header.{features, goodFeatures, headerGood}
+use Rattle.dbf_table.specs.Table.{keptMark, deletedMark, recordCount, deletionByte}
+use Rattle.dbf_cell.specs.Cell.{fieldBytes}
+use Rattle.idx_match.specs.Match.{Matched}
+use Rattle.idx_match.specs.Computed.{matchAnswer}
+use Rattle.idx_match.specs.AnswerLaws.{answer-computed}
+use Rattle.idx_page.specs.Header.{features, goodFeatures, headerGood}
 use Rattle.dilution.specs.Dilution.{sampleOf, volumesOf, concentrationText, amountOf, concentrationOf, distinctIndex, headerChecks, sheetChecks}
-use Rattle.dilution.specs.Dilution.{recordWith, barcodeChecks, textChecks, volumeChecks, unless, dilutionOf, recordDilution, diluteRule}
-use Rattle.dilution.specs.CheckLaws.{unless-pass, unless-fail}
+use Rattle.dilution.specs.Dilution.{recordWith, barcodeChecks, textChecks, volumeChecks, dilutionOf, recordDilution, diluteRule}
 use Rattle.dilution.specs.VolumeLaws.{NearestTenth, sample-nearest, sample-most}
 use Rattle.dilution.specs.BarcodeLaws.{record-named}
 use Rattle.dilution.specs.declared.Dilution.{Dilution}
@@ -43,12 +44,12 @@ pub record Diluted (t b : List ℕ) (barcodeField field : ℕ) (barcode : List �
   pub sum : sample + diluent ≡ final
 
 -- volumes are answered if all checks pass
-passed-all : (xs : List (Bool × ℕ)) (d : Dilution) (s m : ℕ) → unless xs d ≡ Volumes s m → All (λ x. x .0 ≡ true) xs × (d ≡ Volumes s m)
-unfolding unless
-passed-all [] d s m e = (tt, e)
-passed-all (x ∷ xs) d s m e = either (x .0)
-    (λ good. let rest = passed-all xs d s m (sym (unless-pass (x .0) (x .1) xs d good) ∙ e) in ((good, rest .0), rest .1))
-    (λ bad. let q : Refused (x .1) ≡ Volumes s m = sym (unless-fail (x .0) (x .1) xs d bad) ∙ e in impossible (cc))
+passed-all : (checks : List (Bool × ℕ)) (d : Dilution) (s m : ℕ) → unless checks Refused d ≡ Volumes s m
+    → All (λ check. check .0 ≡ true) checks × (d ≡ Volumes s m)
+passed-all checks d s m e =
+    unless-cases Refused d (λ n. Unit {0}) checks (refuses-any checks)
+    (λ held made. (held, sym made ∙ e))
+    (λ n any refused. let q : Refused n ≡ Volumes s m = sym refused ∙ e in impossible (cc))
 
 -- a concentration above 0 is a number's
 some-concentration : (n : Number) → 0 < concentrationOf n → n ≡ text.Value (pos (concentrationOf n))

@@ -13,22 +13,22 @@ use Rattle.basis.specs.Lists.{All}
 use Rattle.octets.specs.Order.{bytesLe}
 use Rattle.octets.specs.OrderLaws.{le-refl, le-antisym}
 use Rattle.octets.specs.StoreLaws.{length-window}
-use Rattle.table.specs.Table.{recordCount, fieldLength, tableRefusal}
-use Rattle.cell.specs.Cell.{fieldStart, fieldBytes}
+use Rattle.dbf_table.specs.Table.{recordCount, fieldLength, tableRefusal}
+use Rattle.dbf_cell.specs.Cell.{fieldStart, fieldBytes}
 use Rattle.tree.specs.Pairs.{get, find, byKey, Above, Ascending}
 use Rattle.tree.specs.Keeping.{pairOrder}
 use Rattle.tree.specs.KeepingLaws.{find-get}
 use Rattle.tree.specs.Tree.{visited}
-use Rattle.page.specs.Header.{keyLength, features, goodFeatures}
-use Rattle.page.specs.KeyOrder.{bytesOrder}
-use Rattle.sound.specs.Sound.{leafPairs, indexTree, keptBy}
-use Rattle.lookup.specs.Lookup.{answerRecord}
-use Rattle.lookup_laws.specs.FoundLaws.{answerOf, lookup-list}
-use Rattle.matching.specs.Match.{entriesFor}
-use Rattle.matching.specs.Computed.{matchAnswer}
-use Rattle.matching.specs.CallLaws.{Ready, ready, table-good}
-use Rattle.matching.specs.AnswerLaws.{Accepted, accepted-exactly, answer-computed}
-use Rattle.matching.specs.TestLaws.{range-number}
+use Rattle.idx_page.specs.Header.{keyLength, features, goodFeatures}
+use Rattle.idx_page.specs.KeyOrder.{bytesOrder}
+use Rattle.idx_sound.specs.Sound.{leafPairs, indexTree, keptBy}
+use Rattle.idx_lookup.specs.Lookup.{answerRecord}
+use Rattle.idx_lookup_laws.specs.FoundLaws.{answerOf, lookup-list}
+use Rattle.idx_match.specs.Match.{entriesFor}
+use Rattle.idx_match.specs.Computed.{matchAnswer}
+use Rattle.idx_match.specs.CallLaws.{Ready, ready, table-good}
+use Rattle.idx_match.specs.AnswerLaws.{Accepted, accepted-exactly, answer-computed}
+use Rattle.idx_match.specs.TestLaws.{range-number}
 use Rattle.dilution.specs.Dilution.{recordWith}
 
 -- ---- entries whose keys are their records' fields: f i is the field of record i

@@ -2,21 +2,22 @@
 -- final volume (tenths of a microlitre, 1 to 10,000), give the sample volume in tenths." The call `dilute` cites `diluteRule`.
 use Prim.Native.Nat.{ℕ, _+_, _*_, _-_, _/_}
 use mathlib.Core.Path.{_≡_}
-use mathlib.Core.Bool.{Bool, true, cond, not, _&&_}
+use mathlib.Core.Bool.{Bool, true, not, _&&_}
 use mathlib.Core.List.{List, [], _∷_, _++_}
 use lib.ListN.{length}
 use lib.Dec.{eqb, leb, ltb}
 use lib.IntN.{ℤ, pos, negsuc}
+use Rattle.refusal.specs.Checks.{unless}
 use Rattle.numeral.specs.Reading.{readNumber}
 use Rattle.numeral.specs.declared.Number.{Number}
 use Rattle.numeral.specs.declared.Number.the-variants as number
-use Rattle.table.specs.Table.{typeN, deletedMark, fieldType, fieldDecimals, fieldCount, deletionByte, tableRefusal}
-use Rattle.field.specs.Field.{numberGood, PlaceGood}
-use Rattle.cell.specs.Cell.{markGood, fieldBytes}
-use Rattle.cell.specs.Codes.{numberRefusal}
-use Rattle.page.specs.Header.{keyLength, features, goodFeatures, headerGood}
-use Rattle.lookup.specs.Lookup.{lookupRule, answerRecord}
-use Rattle.matching.specs.Computed.{matchAnswer}
+use Rattle.dbf_table.specs.Table.{typeN, deletedMark, fieldType, fieldDecimals, fieldCount, deletionByte, tableRefusal}
+use Rattle.dbf_field.specs.Field.{numberGood, PlaceGood}
+use Rattle.dbf_cell.specs.Cell.{markGood, fieldBytes}
+use Rattle.dbf_cell.specs.Codes.{numberRefusal}
+use Rattle.idx_page.specs.Header.{keyLength, features, goodFeatures, headerGood}
+use Rattle.idx_lookup.specs.Lookup.{lookupRule, answerRecord}
+use Rattle.idx_match.specs.Computed.{matchAnswer}
 use Rattle.dilution.specs.declared.Dilution.{Dilution}
 use Rattle.dilution.specs.declared.Dilution.the-variants.{Volumes, Refused}
 
@@ -103,23 +104,18 @@ volumeChecks c target final = (ltb 0 c, 36) ∷ (inRange target final, 37) ∷ (
 
 -- ---- the answer
 
--- the number beside the first check that fails; the dilution d if none does
-unfoldable pub unless : List (Bool × ℕ) → Dilution → Dilution
-unless [] d = d
-unless (check ∷ checks) d = let rest = unless checks d in cond (check .0) rest (Refused (check .1))
-
 -- the dilution of a sample of concentration c
 unfoldable pub dilutionOf : ℕ → ℕ → ℕ → Dilution
-dilutionOf c target final = unless (volumeChecks c target final) (volumesOf c target final)
+dilutionOf c target final = unless (volumeChecks c target final) Refused (volumesOf c target final)
 
 -- the dilution of record i
 unfoldable pub recordDilution : List ℕ → ℕ → ℕ → ℕ → ℕ → Dilution
-recordDilution t i field target final = unless (textChecks t i field) (dilutionOf (concentrationOf (concentrationText t i field)) target final)
+recordDilution t i field target final = unless (textChecks t i field) Refused (dilutionOf (concentrationOf (concentrationText t i field)) target final)
 
 -- the dilution of a barcode: "Checks: table and index match; 12, and 13 ..; 27; absent 35; 15; .." and then the volumes
 unfoldable pub diluteRule : List ℕ → List ℕ → ℕ → ℕ → List ℕ → ℕ → ℕ → Dilution
 diluteRule t b barcodeField field barcode target final =
-    unless (sheetChecks t b barcodeField field ++ barcodeChecks b barcode) (recordDilution t (recordWith b barcode) field target final)
+    unless (sheetChecks t b barcodeField field ++ barcodeChecks b barcode) Refused (recordDilution t (recordWith b barcode) field target final)
 
 -- an answer's number: 0 for volumes, or the refusal's
 unfoldable pub dilutionCode : Dilution → ℕ

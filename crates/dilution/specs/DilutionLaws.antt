@@ -10,21 +10,30 @@ use lib.Dec.{eqb, ltb}
 use borrow.Author.Tests.{eqb-true, eqb-false, eq-eqb, ne-eqb, lt-ltb}
 use Rattle.basis.specs.Tests.{impossible, both}
 use Rattle.basis.specs.Lists.{All, all-append}
-use Rattle.table.specs.Table.{fieldCount, recordCount, firstRefusal, tableRefusal}
-use Rattle.table.specs.TableLaws.{first-pass, first-fail, first-before}
-use Rattle.field.specs.Field.{PlaceGood}
-use Rattle.field.specs.FieldLaws.{number-range}
-use Rattle.cell.specs.Cell.{fieldBytes}
-use Rattle.cell.specs.Codes.{numberRefusal}
-use Rattle.page.specs.Header.{keyLength, features, goodFeatures, headerGood}
-use Rattle.matching.specs.Computed.{matchAnswer}
+use Rattle.refusal.specs.CheckLaws.{first-pass, first-fail, first-before, Named, first-passes}
+use Rattle.refusal.specs.CheckLaws.{unless-pass, unless-fail, unless-append, unless-none, unless-first, unless-cases}
+use Rattle.refusal.specs.Checks.{firstRefusal, unless}
+use Rattle.dbf_table.specs.Table.{fieldCount, recordCount, tableRefusal}
+use Rattle.dbf_field.specs.Field.{PlaceGood}
+use Rattle.dbf_field.specs.FieldLaws.{number-range}
+use Rattle.dbf_cell.specs.Cell.{fieldBytes}
+use Rattle.dbf_cell.specs.Codes.{numberRefusal}
+use Rattle.idx_page.specs.Header.{keyLength, features, goodFeatures, headerGood}
+use Rattle.idx_match.specs.Computed.{matchAnswer}
 use Rattle.dilution.specs.Dilution.{distinctIndex, headerChecks}
-use Rattle.dilution.specs.Dilution.{isConcentration, fieldChecks, sheetChecks, recordWith, barcodeChecks, unless, recordDilution, diluteRule, Dilutable}
+use Rattle.dilution.specs.Dilution.{isConcentration, fieldChecks, sheetChecks, recordWith, barcodeChecks, recordDilution, diluteRule, Dilutable}
 use Rattle.dilution.specs.Dilution.{volumesOf, concentrationText, concentrationOf, textChecks, volumeChecks, dilutionOf}
-use Rattle.dilution.specs.CheckLaws.{unless-pass, unless-fail, unless-append, unless-none, unless-first, unless-named, Named, first-passes}
 use Rattle.dilution.specs.BarcodeLaws.{good-table, known, own-length, record-own}
 use Rattle.dilution.specs.declared.Dilution.{Dilution}
 use Rattle.dilution.specs.declared.Dilution.the-variants.{Refused}
+
+-- what checks with numbers refuse has a number, if what follows them has
+named-after : (checks : List (Bool × ℕ)) (d : Dilution) (n : ℕ) → All Named checks → (d ≡ Refused n → n ≡ 0 → ⊥) → unless checks Refused d ≡ Refused n
+    → n ≡ 0 → ⊥
+named-after checks d n named after e =
+    unless-cases Refused d (λ m. m ≡ 0 → ⊥) checks named
+    (λ held made. after (sym made ∙ e))
+    (λ m some refused. let q : Refused m ≡ Refused n = sym refused ∙ e in let same : m ≡ n = cc in λ z. some (same ∙ z))
 
 -- ---- the checks of a sheet
 
@@ -123,21 +132,21 @@ module _ (t b : List ℕ) (barcodeField field : ℕ) where
 
     pub dilute-refused : (firstRefusal checks ≡ 0 → ⊥) → answer ≡ Refused (firstRefusal checks)
     unfolding diluteRule
-    dilute-refused some = unless-append checks (barcodeChecks b barcode) onRecord ∙ unless-first checks _ some
+    dilute-refused some = unless-append Refused onRecord checks (barcodeChecks b barcode) ∙ unless-first Refused _ checks some
 
     module _ (none : firstRefusal checks ≡ 0) where
-      after-sheet : answer ≡ unless (barcodeChecks b barcode) onRecord
+      after-sheet : answer ≡ unless (barcodeChecks b barcode) Refused onRecord
       unfolding diluteRule
-      after-sheet = unless-append checks (barcodeChecks b barcode) onRecord ∙ unless-none checks _ (passes none)
+      after-sheet = unless-append Refused onRecord checks (barcodeChecks b barcode) ∙ unless-none Refused _ checks (passes none)
 
       pub dilute-27 : (length barcode ≡ keyLength b → ⊥) → answer ≡ Refused 27
       unfolding barcodeChecks
-      dilute-27 h = after-sheet ∙ unless-fail _ _ _ _ (ne-eqb (length barcode) (keyLength b) h)
+      dilute-27 h = after-sheet ∙ unless-fail Refused _ _ _ _ (ne-eqb (length barcode) (keyLength b) h)
 
       module _ (len : length barcode ≡ keyLength b) (i : ℕ) (is : i ≡ recordWith b barcode) where
-        after-length : answer ≡ unless ((ltb 0 (recordWith b barcode), 35) ∷ []) onRecord
+        after-length : answer ≡ unless ((ltb 0 (recordWith b barcode), 35) ∷ []) Refused onRecord
         unfolding barcodeChecks
-        after-length = after-sheet ∙ unless-pass _ _ _ _ (eq-eqb (length barcode) (keyLength b) len)
+        after-length = after-sheet ∙ unless-pass Refused _ _ _ _ (eq-eqb (length barcode) (keyLength b) len)
 
         pub dilute-absent : i ≡ 0 → answer ≡ Refused 35
         unfolding unless
@@ -165,11 +174,11 @@ module _ (t b : List ℕ) (barcodeField field : ℕ) where
       let i = recordWith b barcode in
       let text = numberRefusal (concentrationText t i field) in
       let c = concentrationOf (concentrationText t i field) in
-      unless-named (checks ++ barcodeChecks b barcode) (recordDilution t i field target final) n
+      named-after (checks ++ barcodeChecks b barcode) (recordDilution t i field target final) n
       (all-append Named checks (barcodeChecks b barcode) sheet-named ((λ bad q. omega (arith, q)), ((λ bad q. omega (arith, q)), tt)))
-      (unless-named (textChecks t i field) (dilutionOf c target final) n
+      (named-after (textChecks t i field) (dilutionOf c target final) n
       ((λ bad q. omega (arith, q)), ((λ bad q. omega (arith, q)), ((λ bad q. eqb-false text 0 bad q), tt)))
-      (unless-named (volumeChecks c target final) (volumesOf c target final) n
+      (named-after (volumeChecks c target final) (volumesOf c target final) n
       ((λ bad q. omega (arith, q)), ((λ bad q. omega (arith, q)), ((λ bad q. omega (arith, q)), tt)))
       (λ q z. impossible (cc))))
       e

@@ -2,8 +2,6 @@
 
 -- Rules: the checks in their order, the two volumes, the answer
 pub mod Dilution
--- Laws: checks that are made one after another
-pub mod CheckLaws
 -- Laws: the sample is the nearest tenth, halves up; sample and diluent add to the final volume
 pub mod VolumeLaws
 -- Laws: how the code's tests meet the checks

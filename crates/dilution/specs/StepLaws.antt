@@ -9,25 +9,27 @@ use lib.IntN.{ℤ, pos, negsuc, natAbs}
 use lib.Signed.{ltZ}
 use borrow.Author.Tests.{eqb-true, eq-eqb, ne-eqb, leb-true, lt-ltb, le-leb, lt-leb, ltb-true}
 use Rattle.basis.specs.Tests.{both, contra}
+use Rattle.refusal.specs.CheckLaws.{first-pass, first-fail, first-after, first-before}
+use Rattle.refusal.specs.Checks.{firstRefusal, unless}
 use Rattle.octets.specs.Store.{window}
 use Rattle.numeral.specs.Reading.{readNumber}
 use Rattle.numeral.specs.declared.Number.{Number}
 use Rattle.numeral.specs.declared.Number.the-variants.{Value}
-use Rattle.table.specs.Table.{typeN, deletedMark, fieldType, fieldDecimals, fieldCount, deletionByte, firstRefusal, tableChecks, tableRefusal, checkTable}
-use Rattle.table.specs.TableLaws.{table-numbered, first-pass, first-fail, first-after, first-before, refused-check, good-shape}
-use Rattle.table.specs.declared.Shape.{Shape}
-use Rattle.table.specs.declared.Checked.the-variants as checked
-use Rattle.field.specs.Field.{numberGood, entryOf, formOf, placeAt, fieldRefusal, fieldAnswer}
-use Rattle.field.specs.declared.FieldEntry.{FieldEntry}
-use Rattle.field.specs.declared.FieldAnswer.{FieldAnswer}
-use Rattle.field.specs.declared.Place.{Place}
-use Rattle.cell.specs.Cell.{markGood, fieldStart, fieldBytes}
-use Rattle.cell.specs.Codes.{numberRefusal}
-use Rattle.page.specs.Header.{features, goodFeatures, headerGood}
-use Rattle.page.specs.HeaderLaws.{good-header}
+use Rattle.dbf_table.specs.Table.{typeN, deletedMark, fieldType, fieldDecimals, fieldCount, deletionByte, tableChecks, tableRefusal, checkTable}
+use Rattle.dbf_table.specs.TableLaws.{table-numbered, refused-check, good-shape}
+use Rattle.dbf_table.specs.declared.Shape.{Shape}
+use Rattle.dbf_table.specs.declared.Checked.the-variants as checked
+use Rattle.dbf_field.specs.Field.{numberGood, entryOf, formOf, placeAt, fieldRefusal, fieldAnswer}
+use Rattle.dbf_field.specs.declared.FieldEntry.{FieldEntry}
+use Rattle.dbf_field.specs.declared.FieldAnswer.{FieldAnswer}
+use Rattle.dbf_field.specs.declared.Place.{Place}
+use Rattle.dbf_cell.specs.Cell.{markGood, fieldStart, fieldBytes}
+use Rattle.dbf_cell.specs.Codes.{numberRefusal}
+use Rattle.idx_page.specs.Header.{features, goodFeatures, headerGood}
+use Rattle.idx_page.specs.HeaderLaws.{good-header}
 use Rattle.dilution.specs.Dilution.{distinctIndex, headerChecks}
 use Rattle.dilution.specs.Dilution.{maxTarget, maxFinal, volumesOf, inRange, concentrationDecimals, concentrationText, amountOf}
-use Rattle.dilution.specs.Dilution.{concentrationOf, isConcentration, fieldChecks, textChecks, volumeChecks, unless, dilutionOf, recordDilution}
+use Rattle.dilution.specs.Dilution.{concentrationOf, isConcentration, fieldChecks, textChecks, volumeChecks, dilutionOf, recordDilution}
 use Rattle.dilution.specs.declared.Dilution.the-variants.{Refused}
 
 -- ---- table and header

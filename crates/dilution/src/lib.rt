@@ -3,17 +3,19 @@
 //
 // `dilute` makes all checks for one barcode. A sheet of many records is checked once by `sheet_refusal`, and then each record is diluted by
 // `record_dilution`, which gives the very answer of `dilute` for the record's barcode.
-use lookup::Answer;
+use dbf_table::Checked;
+use idx_lookup::Answer;
 use numeral::Number;
-use table::Checked;
 ghost use mathlib.Core.Path.{_≡_};
 ghost use mathlib.Core.Bool.{true};
 ghost use Prim.Native.Nat.{_≤_, _<_};
 ghost use lib.ListN.{length};
-ghost use Rattle.page.specs.Header.{keyLength, headerGood};
-ghost use Rattle.table.specs.Table.{firstRefusal, tableRefusal};
+ghost use Rattle.refusal.specs.Checks.{firstRefusal};
+ghost use Rattle.idx_page.specs.Header.{keyLength, headerGood};
+ghost use Rattle.dbf_table.specs.Table.{tableRefusal};
 ghost use Rattle.dilution.specs.Dilution.{maxTarget, maxFinal, sampleOf, volumesOf, inRange, concentrationOf, amountOf};
-ghost use Rattle.dilution.specs.Dilution.{distinctIndex, headerChecks, fieldChecks, sheetChecks, recordWith, dilutionOf, recordDilution, diluteRule, Dilutable};
+ghost use Rattle.dilution.specs.Dilution.{distinctIndex, headerChecks, fieldChecks, sheetChecks, recordWith};
+ghost use Rattle.dilution.specs.Dilution.{dilutionOf, recordDilution, diluteRule, Dilutable};
 
 // The decimals of a concentration's field.
 const DECIMALS: u32 = 3;
@@ -33,12 +35,12 @@ fn field_refusal(table: &[u8], field: u32) -> u32
     requires { ⌜ tableRefusal (now table) ≡ 0 ⌝ }
     ensures { λ r. ⌜ r ≡ firstRefusal (fieldChecks (now (table .entry)) field) ⌝ }
 {
-    let answer = field::field_entry(table, field);
+    let answer = dbf_field::field_entry(table, field);
     if answer.refusal != 0 {
         return answer.refusal;
     }
     let entry = answer.entry;
-    if (entry.kind as u32 == table::TYPE_N) & (entry.decimals as u32 == DECIMALS) {
+    if (entry.kind as u32 == dbf_table::TYPE_N) & (entry.decimals as u32 == DECIMALS) {
         return 0;
     }
     refusal::FIELD_TYPE
@@ -48,10 +50,10 @@ fn field_refusal(table: &[u8], field: u32) -> u32
 fn is_distinct(index: &[u8]) -> bool
     ensures { λ r. ⌜ r ≡ distinctIndex (now (index .entry)) ⌝ }
 {
-    if !page::header_good(index) {
+    if !idx_page::header_good(index) {
         return false;
     }
-    !page::several(index)
+    !idx_page::several(index)
 }
 
 // The refusal of a table and of an index's header: 1 to 10, 24, or 0.
@@ -59,7 +61,7 @@ fn header_refusal(table: &[u8], index: &[u8]) -> u32
     ensures { λ r. ⌜ r ≡ firstRefusal (headerChecks (now (table .entry)) (now (index .entry))) ⌝ }
 {
     let distinct = is_distinct(index);
-    match table_check::check_table(table) {
+    match dbf_check::check_table(table) {
         Checked::Refused(refusal) => refusal,
         Checked::Good(_) => if distinct { 0 } else { refusal::INDEX_HEADER },
     }
@@ -73,7 +75,7 @@ pub fn sheet_refusal(table: &[u8], index: &[u8], barcode_field: u32, field: u32)
     if unread != 0 {
         return unread;
     }
-    let refused = matching::match_index(table, index, barcode_field);
+    let refused = idx_match::match_index(table, index, barcode_field);
     if refused != 0 {
         return refused;
     }
@@ -159,15 +161,15 @@ pub fn record_dilution(
     requires { ⌜ Dilutable (now table) number field ⌝ }
     ensures { λ r. ⌜ r ≡ recordDilution (now (table .entry)) number field target «final_volume» ⌝ }
 {
-    let place = field::place_at(table, number, field);
-    if !cell::mark_good(place.mark) {
+    let place = dbf_field::place_at(table, number, field);
+    if !dbf_cell::mark_good(place.mark) {
         return Dilution::Refused(refusal::DELETION_BYTE);
     }
-    if place.mark == table::DELETED {
+    if place.mark == dbf_table::DELETED {
         return Dilution::Refused(refusal::BARCODE_ABSENT);
     }
-    let text = cell::number_at(table, place);
-    let text_refused = cell::number_refusal(text);
+    let text = dbf_cell::number_at(table, place);
+    let text_refused = dbf_cell::number_refusal(text);
     if text_refused != 0 {
         return Dilution::Refused(text_refused);
     }
@@ -179,7 +181,7 @@ fn record_with(index: &[u8], barcode: &[u8]) -> u32
     requires { ⌜ (headerGood (now index) ≡ true) × (length (now barcode) ≡ keyLength (now index)) ⌝ }
     ensures { λ r. ⌜ r ≡ recordWith (now (index .entry)) (now (barcode .entry)) ⌝ }
 {
-    match lookup::lookup_from_root(index, barcode) {
+    match idx_lookup::lookup_from_root(index, barcode) {
         Answer::Found(number, _) => number.0,
         Answer::Absent(_) => 0,
         Answer::Refused(_) => 0,
@@ -204,7 +206,7 @@ pub fn dilute(
     if refused != 0 {
         return Dilution::Refused(refused);
     }
-    if barcode.len() != page::key_length(index) {
+    if barcode.len() != idx_page::key_length(index) {
         return Dilution::Refused(refusal::KEY_LENGTH);
     }
     let number = record_with(index, barcode);

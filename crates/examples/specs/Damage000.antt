@@ -6,11 +6,11 @@ use lib.ListN.{set}
 use Rattle.octets.specs.Bytes as bytes
 use Rattle.octets.specs.Store as store
 use Rattle.octets.specs.Order as order
-use Rattle.page.specs.Header as header
-use Rattle.page.specs.Page as page
-use Rattle.page.specs.Reading as pages
-use Rattle.page.specs.Children as children
-use Rattle.sound.specs.Rule as audit
+use Rattle.idx_page.specs.Header as header
+use Rattle.idx_page.specs.Page as page
+use Rattle.idx_page.specs.Reading as pages
+use Rattle.idx_page.specs.Children as children
+use Rattle.idx_sound.specs.AuditTest as audit
 use Rattle.examples.specs.Tree000 as tree
 
 -- byte 1,036: B and not C above leaf 2,048; byte 3,078: a wrong left link in leaf 3,072; byte 2,064: record number 0;

@@ -2,6 +2,8 @@
 use mathlib.Core.Path.{_≡_, refl}
 use mathlib.Core.Bool.{true}
 use mathlib.Core.List.{map}
+use Rattle.refusal.specs.Checks as checks
+use Rattle.refusal.specs.After as after
 use Rattle.calendar.specs.Calendar as calendar
 use Rattle.calendar.specs.DateText as date
 use Rattle.octets.specs.Bytes as bytes
@@ -10,21 +12,21 @@ use Rattle.octets.specs.Order as order
 use Rattle.octets.specs.Text as chars
 use Rattle.numeral.specs.Format as format
 use Rattle.numeral.specs.Reading as reading
-use Rattle.page.specs.Children as children
-use Rattle.page.specs.Header as header
-use Rattle.page.specs.Page as page
-use Rattle.page.specs.Reading as pages
-use Rattle.lookup.specs.Lookup as lookup
-use Rattle.sound.specs.Sound.{Sound}
-use Rattle.sound.specs.Rule as audit
-use Rattle.sound.specs.Accepted.{accepted}
-use Rattle.layout.specs.Layout as layout
-use Rattle.layout.specs.Entries as entries
-use Rattle.layout.specs.Supply as supply
-use Rattle.insert.specs.Insertion as insertion
-use Rattle.insert.specs.Fresh as fresh
-use Rattle.insert.specs.Room as room
-use Rattle.insert.specs.Calls as calls
+use Rattle.idx_page.specs.Children as children
+use Rattle.idx_page.specs.Header as header
+use Rattle.idx_page.specs.Page as page
+use Rattle.idx_page.specs.Reading as pages
+use Rattle.idx_lookup.specs.Lookup as lookup
+use Rattle.idx_sound.specs.Sound.{Sound}
+use Rattle.idx_sound.specs.AuditTest as audit
+use Rattle.idx_sound.specs.Accepted.{accepted}
+use Rattle.idx_layout.specs.Layout as layout
+use Rattle.idx_entries.specs.Entries as entries
+use Rattle.idx_supply.specs.Supply as supply
+use Rattle.idx_insert_page.specs.Insertion as insertion
+use Rattle.idx_insert.specs.Fresh as fresh
+use Rattle.idx_path.specs.Room as room
+use Rattle.idx_insert.specs.Calls as calls
 use Rattle.examples.specs.Tree000 as tree
 use Rattle.examples.specs.Tree100 as tree100
 use Rattle.examples.specs.Examples.{ascii, shown, answer, examples}
@@ -41,9 +43,10 @@ unfolding examples answer ascii reading.readNumber format.formatGood chars.every
     children.isLeaf audit.entriesFit audit.pageFits audit.checkPage audit.checkPages audit.counted audit.checkRows audit.rootLevel audit.nextLevel
     audit.levelsUnder audit.heightOf audit.upperPages audit.upperLevels audit.shapeGood audit.keysAboveGood audit.pagesGood shown tree100.key100
     tree100.grown store.put layout.encode layout.area layout.withEntries layout.newPage layout.linkBeyond layout.splitPage entries.raised insertion.takeIn
-    insertion.insertUnder insertion.insertedBuffer fresh.freshHeader fresh.freshBuffer fresh.freshRule fresh.printable fresh.expressionGood room.pathFrom
-    room.noRoom calls.insertRule supply.supplyOf supply.takePage supply.supplyAfter supply.withSupply calls.hasControl reading.wholeMissing
-    reading.zeroDropped audit.down header.freeGood audit.isFreePage audit.freeFits audit.checkFree
+    insertion.insertUnder insertion.insertedBuffer fresh.freshHeader fresh.freshBuffer fresh.freshChecks fresh.freshRule fresh.printable
+    fresh.expressionGood room.pathFrom room.noRoom calls.insertChecks calls.insertRule checks.unless after.madeUnless supply.supplyOf supply.takePage
+    supply.supplyAfter supply.withSupply calls.hasControl reading.wholeMissing reading.zeroDropped reading.numberChecks audit.down header.freeGood
+    audit.isFreePage audit.freeFits audit.checkFree
 examples-hold = refl
 
 -- the audit's tests of the tree in 000

@@ -6,21 +6,21 @@ use Prim.Native.Nat.{ℕ}
 use Prim.Native.Char.{code}
 use Prim.Native.String as text
 use lib.IntN.{ℤ, pos, negsuc}
+use Rattle.refusal.specs.declared.Change.{Change}
+use Rattle.refusal.specs.declared.Change.the-variants as change
 use Rattle.calendar.specs.DateText as date
 use Rattle.calendar.specs.declared.DateAnswer.{DateAnswer}
 use Rattle.calendar.specs.declared.DateAnswer.the-variants as day
 use Rattle.numeral.specs.Reading as reading
 use Rattle.numeral.specs.declared.Number.{Number}
 use Rattle.numeral.specs.declared.Number.the-variants as number
-use Rattle.page.specs.Header as header
-use Rattle.page.specs.Reading as pages
-use Rattle.lookup.specs.Lookup as lookup
-use Rattle.lookup.specs.declared.Answer.{Answer as Looked}
-use Rattle.lookup.specs.declared.Answer.the-variants as looked
-use Rattle.sound.specs.Rule as audit
-use Rattle.insert.specs.Calls as calls
-use Rattle.insert.specs.declared.Insertion.{Insertion}
-use Rattle.insert.specs.declared.Insertion.the-variants as inserted
+use Rattle.idx_page.specs.Header as header
+use Rattle.idx_page.specs.Reading as pages
+use Rattle.idx_lookup.specs.Lookup as lookup
+use Rattle.idx_lookup.specs.declared.Answer.{Answer as Looked}
+use Rattle.idx_lookup.specs.declared.Answer.the-variants as looked
+use Rattle.idx_sound.specs.AuditTest as audit
+use Rattle.idx_insert.specs.Calls as calls
 use Rattle.examples.specs.Tree000 as tree
 use Rattle.examples.specs.Tree100 as tree100
 
@@ -46,7 +46,7 @@ pub data Answer : Type 0 where
   ofLookup : Looked → Answer
   ofAudit : Bool → Bool → Answer
   ofTree : ℕ → ℕ → List (List (List ℕ × ℕ)) → Answer
-  ofInsertion : Insertion → Answer
+  ofChange : Change → Answer
 
 -- what an index of key length 100 shows: its root, F, and the entries of its pages at 512, 1,024 and 1,536
 unfoldable pub shown : List ℕ → Answer
@@ -58,7 +58,7 @@ answer (dated s) = ofDate (date.dateOf (ascii s))
 answer (key000 s) = ofLookup (lookup.lookupRule tree.tree000 (ascii s))
 answer audit000 = ofAudit (header.headerGood tree.tree000) (audit.pagesGood tree.tree000)
 answer five100 = shown (tree100.grown 2048 5)
-answer (insert1024 x) = ofInsertion (calls.insertRule (tree100.grown 1024 4) (tree100.key100 x) 5 .answer)
+answer (insert1024 x) = ofChange (calls.insertRule (tree100.grown 1024 4) (tree100.key100 x) 5 .answer)
 
 abbrev pub value : ℤ → Answer
 value v = ofNumber (number.Value v)
@@ -103,6 +103,6 @@ examples =
           ((leaf 1 ∷ leaf 2 ∷ leaf 3 ∷ []) ∷ (leaf 4 ∷ leaf 5 ∷ []) ∷ ((tree100.key100 3, 512) ∷ (tree100.key100 5, 1024) ∷ []) ∷ []),
     )
     -- "Buffer 1,024, k = 100: the fifth insertion is 30. A repeated key then is 29"
-    ∷ (insert1024 5, ofInsertion (inserted.Refused 30))
-    ∷ (insert1024 4, ofInsertion (inserted.Refused 29))
+    ∷ (insert1024 5, ofChange (change.Refused 30))
+    ∷ (insert1024 4, ofChange (change.Refused 29))
     ∷ []

@@ -3,7 +3,7 @@ use mathlib.Core.List.{List, [], _∷_, _++_}
 use Prim.Native.Nat.{ℕ, _-_}
 use lib.ListN.{length, replicate}
 use Rattle.octets.specs.Bytes.{toLe16, toLe32, toBe32}
-use Rattle.page.specs.Header.{noPage}
+use Rattle.idx_page.specs.Header.{noPage}
 
 -- a page: the bytes, and zeros behind them up to 512
 unfoldable pub padded : List ℕ → List ℕ

@@ -2,8 +2,8 @@
 use Prim.Native.Nat.{ℕ, zero, suc, _+_}
 use mathlib.Core.List.{List, [], _∷_, _++_}
 use lib.ListN.{replicate}
-use Rattle.insert.specs.Calls.{insertRule}
-use Rattle.insert.specs.Fresh.{freshRule}
+use Rattle.idx_insert.specs.Calls.{insertRule}
+use Rattle.idx_insert.specs.Fresh.{freshRule}
 
 -- the key of 100 bytes that ends in the digit x: 99 blanks before it
 unfoldable pub key100 : ℕ → List ℕ

@@ -1,66 +1,60 @@
 -- Laws: an answer's number tells its case. 0 is given exactly if the call is accepted, 256 exactly for an empty field, 257 exactly for an absent key and 258
 -- exactly at the end of a walk, since no refusal has any of these numbers. Assumes nothing.
-use Prim.Native.Nat.{ℕ, zero, suc, _+_, _-_, _^_, _≤_}
+use Prim.Native.Nat.{ℕ, zero, suc, _+_, _-_, _≤_}
 use mathlib.Core.Path.{_≡_, refl, sym, ap, _∙_}
 use mathlib.Core.Bool.{Bool, true, false, _&&_, cond}
-use mathlib.Core.List.{List}
+use mathlib.Core.List.{List, [], _∷_}
 use mathlib.Core.Logic.{_↔_, _⊎_, inl, inr}
 use native.Mathlib.Omega.{arith}
 use lib.ListN.{length}
-use lib.IntN.{ℤ, natAbs}
-use lib.Dec.{eqb, leb, ltb, lit<}
-use borrow.Author.Tests.{eqb-false, ne-eqb}
-use Rattle.basis.specs.Tests.{either, impossible}
+use lib.IntN.{ℤ}
+use lib.Dec.{eqb, ltb, lit<}
+use borrow.Author.Tests.{eqb-false, ne-eqb, ltb-true}
+use Rattle.basis.specs.Lists.{All}
+use Rattle.basis.specs.Tests.{either, both, impossible}
+use Rattle.refusal.specs.After.{After, changeCode, madeUnless}
+use Rattle.refusal.specs.AfterLaws.{made-number}
+use Rattle.refusal.specs.CheckLaws.{Refuses, first-below, unless-cases}
+use Rattle.refusal.specs.declared.Change.{Change}
+use Rattle.refusal.specs.declared.Change.the-variants as change
 use Rattle.calendar.specs.declared.Date.{Date}
 use Rattle.calendar.specs.declared.DateAnswer.{DateAnswer}
 use Rattle.calendar.specs.declared.DateAnswer.the-variants as date
-use Rattle.numeral.specs.Format.{formatGood, maxDigits}
 use Rattle.numeral.specs.Reading.{readNumber}
-use Rattle.numeral.specs.Writing.{numberText, writeNumber}
+use Rattle.numeral.specs.Writing.{writeChecks, writeNumber}
 use Rattle.numeral.specs.declared.Number.{Number}
 use Rattle.numeral.specs.declared.Number.the-variants as number
-use Rattle.numeral.specs.declared.Writing.{Writing}
-use Rattle.numeral.specs.declared.Writing.the-variants as writing
-use Rattle.table.specs.Table.{recordCount, deletionByte, keptMark, deletedMark, tableChecks, tableRefusal, checkTable}
-use Rattle.table.specs.TableLaws.{refused-check}
-use Rattle.table.specs.declared.Shape.{Shape}
-use Rattle.table.specs.declared.Checked.{Checked}
-use Rattle.table.specs.declared.Checked.the-variants as table
-use Rattle.walk.specs.Walk.{walkFrom, walkStep}
-use Rattle.walk.specs.declared.Position.{Position}
-use Rattle.walk.specs.declared.Step.{Step}
-use Rattle.walk.specs.declared.Step.the-variants as step
-use Rattle.page.specs.Header.{maxLevels, noPage, rootOffset, fileSize, keyLength, features, keyLengthGood, headerGood}
-use Rattle.page.specs.Page.{attributeAt, countAt, rightAt, leafBit, keyAt, numberAt, pageGood, firstAtOrAbove}
-use Rattle.page.specs.declared.RecordNumber.{RecordNumber}
-use Rattle.cell.specs.Cell.{numberCell, dateCell, logicalCell, textCell}
-use Rattle.cell.specs.Codes.{emptyCode, numberCode, dateCode, logicalCode, textCode}
-use Rattle.cell.specs.AnswerLaws.{Numbered, first-small, table-below, number-numbered, number-refusal, day-refusal, logical-refusal, place-refusal}
-use Rattle.cell.specs.declared.Logical.{Logical}
-use Rattle.cell.specs.declared.Logical.the-variants as logical
-use Rattle.cell.specs.declared.TextPlace.{TextPlace}
-use Rattle.cell.specs.declared.TextPlace.the-variants as text
+use Rattle.dbf_table.specs.Table.{recordCount, deletionByte, keptMark, deletedMark, tableChecks, tableRefusal, checkTable}
+use Rattle.dbf_table.specs.TableLaws.{refused-check}
+use Rattle.dbf_table.specs.declared.Shape.{Shape}
+use Rattle.dbf_table.specs.declared.Checked.{Checked}
+use Rattle.dbf_table.specs.declared.Checked.the-variants as table
+use Rattle.dbf_walk.specs.Walk.{walkFrom, walkStep}
+use Rattle.dbf_walk.specs.declared.Position.{Position}
+use Rattle.dbf_walk.specs.declared.Step.{Step}
+use Rattle.dbf_walk.specs.declared.Step.the-variants as step
+use Rattle.idx_page.specs.Header.{maxLevels, noPage, rootOffset, fileSize, keyLength, features, headerGood}
+use Rattle.idx_page.specs.Page.{attributeAt, countAt, rightAt, leafBit, keyAt, numberAt, pageGood, firstAtOrAbove}
+use Rattle.idx_page.specs.declared.RecordNumber.{RecordNumber}
+use Rattle.dbf_cell.specs.Cell.{numberCell, dateCell, logicalCell, textCell}
+use Rattle.dbf_cell.specs.Codes.{emptyCode, numberCode, dateCode, logicalCode, textCode}
+use Rattle.dbf_cell.specs.AnswerLaws.{Numbered, table-below, number-numbered, number-refusal, day-refusal, logical-refusal, place-refusal}
+use Rattle.dbf_cell.specs.declared.Logical.{Logical}
+use Rattle.dbf_cell.specs.declared.Logical.the-variants as logical
+use Rattle.dbf_cell.specs.declared.TextPlace.{TextPlace}
+use Rattle.dbf_cell.specs.declared.TextPlace.the-variants as text
 use Rattle.octets.specs.Order.{ordering, isEqual}
-use Rattle.lookup.specs.FirstRecord.{recordOf, entryDecides, neighbourDecides, firstFrom}
-use Rattle.lookup.specs.Lookup.{visitRule, decided, lookupFrom, lookupSteps, lookupRule, absentCode, lookupCode}
-use Rattle.lookup.specs.declared.Visit.{Visit}
-use Rattle.lookup.specs.declared.Visit.the-variants as visit
-use Rattle.lookup.specs.declared.Answer.{Answer}
-use Rattle.lookup.specs.declared.Answer.the-variants as looked
-use Rattle.sound.specs.Rule.{pagesGood}
-use Rattle.insert.specs.Room.{pathTo, noRoom}
-use Rattle.insert.specs.Fresh.{expressionGood, featuresGood, freshRule}
-use Rattle.insert.specs.Calls.{insertionCode, hasControl, insertRule}
-use Rattle.insert.specs.declared.Insertion.{Insertion}
-use Rattle.insert.specs.declared.Insertion.the-variants as insertion
-use Rattle.remove.specs.Removal.{isThere}
-use Rattle.remove.specs.Calls.{removeRule}
-use Rattle.remove.specs.declared.Removal.{Removal}
-use Rattle.remove.specs.declared.Removal.the-variants as removal
-use Rattle.table_calls.specs.Answers.{checkedCode}
-use Rattle.cell_calls.specs.Answers.{writingCode}
-use Rattle.index_calls.specs.Answers.{removalCode}
-use Rattle.table_calls.specs.Lent.{doneCode, stepCode}
+use Rattle.idx_lookup.specs.FirstRecord.{recordOf, entryDecides, neighbourDecides, firstFrom}
+use Rattle.idx_lookup.specs.Lookup.{visitRule, decided, lookupFrom, lookupSteps, lookupRule, absentCode, lookupCode}
+use Rattle.idx_lookup.specs.declared.Visit.{Visit}
+use Rattle.idx_lookup.specs.declared.Visit.the-variants as visit
+use Rattle.idx_lookup.specs.declared.Answer.{Answer}
+use Rattle.idx_lookup.specs.declared.Answer.the-variants as looked
+use Rattle.idx_insert.specs.Fresh.{freshChecks, freshRule}
+use Rattle.idx_insert.specs.Calls.{insertChecks, insertRule}
+use Rattle.idx_remove.specs.Calls.{removeChecks, removeRule}
+use Rattle.dbf_calls.specs.Answers.{checkedCode}
+use Rattle.dbf_calls.specs.Lent.{doneCode, stepCode}
 
 -- ---- what a number tells, of any answer
 
@@ -98,7 +92,7 @@ RefusalsNumbered refusal a = (n : ℕ) → a ≡ refusal n → Numbered n
 table-refusal : (b : List ℕ) (n : ℕ) → eqb (tableRefusal b) 0 ≡ false → tableRefusal b ≡ n → Numbered n
 unfolding tableRefusal
 table-refusal b n some e =
-    let small = first-small (tableChecks b) (table-below b) in
+    let small = first-below emptyCode (tableChecks b) (lit< tt) (table-below b) in
     let none = eqb-false (tableRefusal b) 0 some in
     (omega (arith, e), omega (arith, e))
 
@@ -284,11 +278,10 @@ steps-refusal (suc f) b key = from-refusal maxLevels b key (rootOffset b)
 lookup-refusal : (b key : List ℕ) → RefusalsNumbered looked.Refused (lookupRule b key)
 unfolding lookupRule
 lookup-refusal b key n e =
-    either (headerGood b)
-    (λ good. either (eqb (length key) (keyLength b))
-    (λ fits. steps-refusal (features b) b key n (rw (good, fits, lookupRule) at e))
-    (λ misfit. let q : looked.Refused 27 ≡ looked.Refused n = rw (good, misfit, lookupRule) at e in let k : 27 ≡ n = cc in (omega arith, omega arith)))
-    (λ bad. let q : looked.Refused 24 ≡ looked.Refused n = rw (bad, lookupRule) at e in let k : 24 ≡ n = cc in (omega arith, omega arith))
+    unless-cases looked.Refused (lookupSteps (features b) b key) Numbered ((headerGood b, 24) ∷ (eqb (length key) (keyLength b), 27) ∷ [])
+    ((λ bad. (lit< tt, lit< tt)), ((λ bad. (lit< tt, lit< tt)), tt))
+    (λ held made. steps-refusal (features b) b key n (sym made ∙ e))
+    (λ m small refused. looked-numbered m n small (sym refused ∙ e))
 
 abbrev pub IsFound : Answer → Type 0
 IsFound a = (r : RecordNumber) × (pages : ℕ) × (a ≡ looked.Found r pages)
@@ -305,96 +298,46 @@ pub lookup-told : (b key : List ℕ) → let a = lookupRule b key in Told (looku
 lookup-told b key =
     told (omega arith) (lookup-case (lookupRule b key) (lookup-refusal b key)) (λ found. ap lookupCode (found .2)) (λ absent. ap lookupCode (absent .1))
 
--- ---- the calls that write: 0 is given exactly if the call is accepted
+-- ---- the calls that write: 0 is given exactly if the change is made
 
-writing-numbered : (m n : ℕ) → Numbered m → writing.Refused m ≡ writing.Refused n → Numbered n
-writing-numbered m n small e = let k : m ≡ n = cc in (omega arith, omega arith)
+-- the numbers of checks are those of refusals
+numbers : List (Bool × ℕ) → Bool
+numbers [] = true
+numbers (check ∷ checks) = ltb 0 (check .1) && ltb (check .1) emptyCode && numbers checks
 
-writing-refusal : (s : List ℕ) (d : ℕ) (v : ℤ) → RefusalsNumbered writing.Refused (writeNumber s d v .answer)
-unfolding writeNumber
-writing-refusal s d v n e =
-    either (formatGood (length s) d)
-    (λ format. either (ltb (natAbs v) (10 ^ maxDigits))
-    (λ few. either (leb (length (numberText d v)) (length s))
-    (λ fits. let q : writing.Written ≡ writing.Refused n = rw (format, few, fits, writeNumber) at e in impossible (cc))
-    (λ long. writing-numbered 19 n (lit< tt, lit< tt) (rw (format, few, long, writeNumber) at e)))
-    (λ many. writing-numbered 18 n (lit< tt, lit< tt) (rw (format, many, writeNumber) at e)))
-    (λ bad. writing-numbered 6 n (lit< tt, lit< tt) (rw (bad, writeNumber) at e))
+all-numbered : (checks : List (Bool × ℕ)) → numbers checks ≡ true → All (Refuses Numbered) checks
+unfolding numbers
+all-numbered [] e = tt
+all-numbered (check ∷ checks) e =
+    let rest = both (ltb 0 (check .1) && ltb (check .1) emptyCode) (numbers checks) e in
+    let range = both (ltb 0 (check .1)) (ltb (check .1) emptyCode) (rest .0) in
+    ((λ bad. (ltb-true 0 (check .1) (range .0), ltb-true (check .1) emptyCode (range .1))), all-numbered checks (rest .1))
 
-writing-case : (a : Writing) → RefusalsNumbered writing.Refused a → Case (writingCode a) emptyCode (a ≡ writing.Written) ⊥
-writing-case writing.Written small = accepted refl refl
-writing-case (writing.Refused n) small = refused (small n refl)
+change-case : (a : Change) → RefusalsNumbered change.Refused a → Case (changeCode a) emptyCode (a ≡ change.Made) ⊥
+change-case change.Made small = accepted refl refl
+change-case (change.Refused n) small = refused (small n refl)
 
-pub write-told : (s : List ℕ) (d : ℕ) (v : ℤ) → let a = writeNumber s d v .answer in Told (writingCode a) emptyCode (a ≡ writing.Written) ⊥
-write-told s d v =
-    told (omega arith) (writing-case (writeNumber s d v .answer) (writing-refusal s d v)) (λ done. ap writingCode done) (λ none. absurd none)
+-- what is told of a call's answer
+abbrev pub ChangeTold : After Change → Type 0
+ChangeTold call = Told (changeCode (call .answer)) emptyCode (call .answer ≡ change.Made) ⊥
 
-insertion-numbered : (m n : ℕ) → Numbered m → insertion.Refused m ≡ insertion.Refused n → Numbered n
-insertion-numbered m n small e = let k : m ≡ n = cc in (omega arith, omega arith)
+change-told : (made b : List ℕ) (checks : List (Bool × ℕ)) → numbers checks ≡ true → ChangeTold (madeUnless checks made b)
+change-told made b checks small =
+    told (omega arith) (change-case (madeUnless checks made b .answer) (made-number made b Numbered checks (all-numbered checks small)))
+    (λ done. ap changeCode done) (λ none. absurd none)
 
-fresh-refusal : (b : List ℕ) (k f : ℕ) (x : List ℕ) → RefusalsNumbered insertion.Refused (freshRule b k f x .answer)
-unfolding freshRule
-fresh-refusal b k f x n e =
-    either (keyLengthGood k)
-    (λ key. either (expressionGood x && featuresGood f)
-    (λ printed. either (leb 1024 (length b))
-    (λ room. let q : insertion.Accepted ≡ insertion.Refused n = rw (key, printed, room, freshRule) at e in impossible (cc))
-    (λ full. insertion-numbered 30 n (lit< tt, lit< tt) (rw (key, printed, full, freshRule) at e)))
-    (λ bad. insertion-numbered 24 n (lit< tt, lit< tt) (rw (key, bad, freshRule) at e)))
-    (λ bad. insertion-numbered 27 n (lit< tt, lit< tt) (rw (bad, freshRule) at e))
+pub write-told : (s : List ℕ) (d : ℕ) (v : ℤ) → ChangeTold (writeNumber s d v)
+unfolding writeNumber writeChecks numbers
+write-told s d v = change-told _ s (writeChecks s d v) refl
 
-insertion-case : (a : Insertion) → RefusalsNumbered insertion.Refused a → Case (insertionCode a) emptyCode (a ≡ insertion.Accepted) ⊥
-insertion-case insertion.Accepted small = accepted refl refl
-insertion-case (insertion.Refused n) small = refused (small n refl)
+pub fresh-told : (b : List ℕ) (k f : ℕ) (x : List ℕ) → ChangeTold (freshRule b k f x)
+unfolding freshRule freshChecks numbers
+fresh-told b k f x = change-told _ b (freshChecks b k f x) refl
 
-insertion-told : (a : Insertion) → RefusalsNumbered insertion.Refused a → Told (insertionCode a) emptyCode (a ≡ insertion.Accepted) ⊥
-insertion-told a small = told (omega arith) (insertion-case a small) (λ done. ap insertionCode done) (λ none. absurd none)
+pub insert-told : (b key : List ℕ) (r : ℕ) → ChangeTold (insertRule b key r)
+unfolding insertRule insertChecks numbers
+insert-told b key r = change-told _ b (insertChecks b key r) refl
 
-pub fresh-told : (b : List ℕ) (k f : ℕ) (x : List ℕ) → let a = freshRule b k f x .answer in Told (insertionCode a) emptyCode (a ≡ insertion.Accepted) ⊥
-fresh-told b k f x = insertion-told (freshRule b k f x .answer) (fresh-refusal b k f x)
-
-insert-refusal : (b key : List ℕ) (r : ℕ) → RefusalsNumbered insertion.Refused (insertRule b key r .answer)
-unfolding insertRule
-insert-refusal b key r n e =
-    either (headerGood b)
-    (λ good. either (eqb (length key) (keyLength b))
-    (λ fits. either (hasControl key)
-    (λ control. insertion-numbered 32 n (lit< tt, lit< tt) (rw (good, fits, control, insertRule) at e))
-    (λ clean. either (eqb r 0)
-    (λ none. insertion-numbered 28 n (lit< tt, lit< tt) (rw (good, fits, clean, none, insertRule) at e))
-    (λ some. either (pagesGood b)
-    (λ sound. either (pathTo (keyLength b) b key r .present)
-    (λ found. insertion-numbered 29 n (lit< tt, lit< tt) (rw (good, fits, clean, some, sound, found, insertRule) at e))
-    (λ absent. either (noRoom b (pathTo (keyLength b) b key r))
-    (λ full. insertion-numbered 30 n (lit< tt, lit< tt) (rw (good, fits, clean, some, sound, absent, full, insertRule) at e))
-    (λ room. let q : insertion.Accepted ≡ insertion.Refused n = rw (good, fits, clean, some, sound, absent, room, insertRule) at e in impossible (cc))))
-    (λ bad. insertion-numbered 25 n (lit< tt, lit< tt) (rw (good, fits, clean, some, bad, insertRule) at e)))))
-    (λ misfit. insertion-numbered 27 n (lit< tt, lit< tt) (rw (good, misfit, insertRule) at e)))
-    (λ bad. insertion-numbered 24 n (lit< tt, lit< tt) (rw (bad, insertRule) at e))
-
-pub insert-told : (b key : List ℕ) (r : ℕ) → let a = insertRule b key r .answer in Told (insertionCode a) emptyCode (a ≡ insertion.Accepted) ⊥
-insert-told b key r = insertion-told (insertRule b key r .answer) (insert-refusal b key r)
-
-removal-numbered : (m n : ℕ) → Numbered m → removal.Refused m ≡ removal.Refused n → Numbered n
-removal-numbered m n small e = let k : m ≡ n = cc in (omega arith, omega arith)
-
-remove-refusal : (b key : List ℕ) (r : ℕ) → RefusalsNumbered removal.Refused (removeRule b key r .answer)
-unfolding removeRule
-remove-refusal b key r n e =
-    either (headerGood b)
-    (λ good. either (eqb (length key) (keyLength b))
-    (λ fits. either (pagesGood b)
-    (λ sound. either (isThere (keyLength b) b key r)
-    (λ found. let q : removal.Accepted ≡ removal.Refused n = rw (good, fits, sound, found, removeRule) at e in impossible (cc))
-    (λ absent. removal-numbered 33 n (lit< tt, lit< tt) (rw (good, fits, sound, absent, removeRule) at e)))
-    (λ bad. removal-numbered 25 n (lit< tt, lit< tt) (rw (good, fits, bad, removeRule) at e)))
-    (λ misfit. removal-numbered 27 n (lit< tt, lit< tt) (rw (good, misfit, removeRule) at e)))
-    (λ bad. removal-numbered 24 n (lit< tt, lit< tt) (rw (bad, removeRule) at e))
-
-removal-case : (a : Removal) → RefusalsNumbered removal.Refused a → Case (removalCode a) emptyCode (a ≡ removal.Accepted) ⊥
-removal-case removal.Accepted small = accepted refl refl
-removal-case (removal.Refused n) small = refused (small n refl)
-
-pub remove-told : (b key : List ℕ) (r : ℕ) → let a = removeRule b key r .answer in Told (removalCode a) emptyCode (a ≡ removal.Accepted) ⊥
-remove-told b key r =
-    told (omega arith) (removal-case (removeRule b key r .answer) (remove-refusal b key r)) (λ done. ap removalCode done) (λ none. absurd none)
+pub remove-told : (b key : List ℕ) (r : ℕ) → ChangeTold (removeRule b key r)
+unfolding removeRule removeChecks numbers
+remove-told b key r = change-told _ b (removeChecks b key r) refl

@@ -3,33 +3,34 @@
 //
 // How to read a contract: r is the number returned; `now (x .entry)` is what x held before the call, and `now (x .exit)` what it holds after it. So
 // `numberOut (rule) (now (value .entry)) ≡ out r (now (value .exit))` says: the rule's answer and the old value alone fix r and the new value.
-use field::FieldEntry;
-use walk::Position;
+use dbf_field::FieldEntry;
+use dbf_walk::Position;
 ghost use mathlib.Core.Path.{_≡_};
 ghost use Rattle.numeral.specs.Reading.{readNumber};
 ghost use Rattle.numeral.specs.Writing.{writeNumber};
-ghost use Rattle.table.specs.Table.{tableRefusal, checkTable};
-ghost use Rattle.cell.specs.Cell.{numberCell, dateCell, logicalCell, textCell};
-ghost use Rattle.lookup.specs.Lookup.{lookupRule};
-ghost use Rattle.sound.specs.Sound.{Audited};
-ghost use Rattle.insert.specs.Calls.{insertRule};
-ghost use Rattle.insert.specs.Fresh.{freshRule};
-ghost use Rattle.remove.specs.Calls.{removeRule};
-ghost use Rattle.matching.specs.Match.{Matched};
-ghost use Rattle.records.specs.Records.{told, recordsRule};
+ghost use Rattle.dbf_table.specs.Table.{tableRefusal, checkTable};
+ghost use Rattle.dbf_cell.specs.Cell.{numberCell, dateCell, logicalCell, textCell};
+ghost use Rattle.idx_lookup.specs.Lookup.{lookupRule};
+ghost use Rattle.idx_sound.specs.Sound.{Audited};
+ghost use Rattle.idx_insert.specs.Calls.{insertRule};
+ghost use Rattle.idx_insert.specs.Fresh.{freshRule};
+ghost use Rattle.idx_remove.specs.Calls.{removeRule};
+ghost use Rattle.idx_match.specs.Match.{Matched};
+ghost use Rattle.idx_records.specs.Records.{told, recordsRule};
 ghost use Rattle.dilution.specs.Dilution.{diluteRule};
-ghost use Rattle.ndx.specs.Lookup as ndx-lookup;
+ghost use Rattle.ndx_page.specs.Lookup as ndx-lookup;
 ghost use Rattle.ndx_sound.specs.Sound as ndx;
-ghost use Rattle.append.specs.Append.{appendRule};
-ghost use Rattle.append.specs.UpdateDate.{setDateRule, dated};
-ghost use Rattle.append.specs.Extent.{extentRule};
-ghost use Rattle.laying.specs.Laying.{layOutRule, laid};
+ghost use Rattle.refusal.specs.After.{left, coded};
+ghost use Rattle.dbf_append.specs.Append.{appendRule};
+ghost use Rattle.dbf_append.specs.UpdateDate.{setDateRule};
+ghost use Rattle.dbf_append.specs.Extent.{extentRule};
+ghost use Rattle.dbf_create.specs.Laying.{layOutRule};
 ghost use Rattle.handed.specs.Out.{out};
-ghost use Rattle.table_calls.specs.Answers.{sizes, shapeOut};
-ghost use Rattle.table_calls.specs.Lent.{listing, walkedOf};
-ghost use Rattle.table_calls.specs.Writing.{stores, written, appendOut, extentOut};
-ghost use Rattle.cell_calls.specs.Answers.{dayOf, part, numberOut, dateOut, logicalOut, textOut, writingOut};
-ghost use Rattle.index_calls.specs.Answers.{found, lookupOut, insertionOut, removalOut};
+ghost use Rattle.dbf_calls.specs.Answers.{sizes, shapeOut};
+ghost use Rattle.dbf_calls.specs.Lent.{listing, walkedOf};
+ghost use Rattle.dbf_calls.specs.Writing.{stores, written, appendOut, extentOut};
+ghost use Rattle.dbf_cell_calls.specs.Answers.{dayOf, part, numberOut, dateOut, logicalOut, textOut};
+ghost use Rattle.index_calls.specs.Answers.{found, lookupOut};
 ghost use Rattle.dilute_call.specs.Volumes.{volumes, volumesOut};
 ghost use Rattle.gatherloom.specs.Interface.{interfaceNumber};
 
@@ -49,7 +50,7 @@ pub extern "C" fn gl_interface() -> u32
 pub extern "C" fn gl_table_check(table: &[u8]) -> u32
     ensures { λ r. ⌜ r ≡ tableRefusal (now (table .entry)) ⌝ }
 {
-    table_calls::table_check(table)
+    dbf_calls::table_check(table)
 }
 
 // How many records and fields a table has, and how long a record is.
@@ -65,7 +66,7 @@ pub extern "C" fn gl_table_shape(
         ≡ out r (sizes (now (records .exit)) (now (fields .exit)) (now («record_length» .exit)))
         ⌝ }
 {
-    table_calls::table_shape(table, records, fields, record_length)
+    dbf_calls::table_shape(table, records, fields, record_length)
 }
 
 // Writes the field list into the entries that the host lends.
@@ -75,11 +76,11 @@ pub extern "C" fn gl_fields(table: &[u8], entries: &mut [FieldEntry]) -> u32
         listing (now (table .entry)) (now (entries .entry)) ≡ record { answer = r; entries = now (entries .exit) }
         ⌝ }
 {
-    let plan = table_calls::listing_plan(table, entries.len());
+    let plan = dbf_calls::listing_plan(table, entries.len());
     let count = plan.count;
     let mut j: usize = 0;
     while j < count {
-        entries[j] = field::entry_at(table, j);
+        entries[j] = dbf_field::entry_at(table, j);
         j += 1;
     }
     plan.answer
@@ -93,7 +94,7 @@ pub extern "C" fn gl_walk(table: &[u8], position: &mut Position, number: &mut u3
         ≡ record { answer = r; position = now (position .exit); number = now (number .exit) }
         ⌝ }
 {
-    let step = table_calls::lent_step(table, *position, *number);
+    let step = dbf_calls::lent_step(table, *position, *number);
     *position = step.position;
     *number = step.number;
     step.answer
@@ -104,7 +105,7 @@ pub extern "C" fn gl_walk(table: &[u8], position: &mut Position, number: &mut u3
 pub extern "C" fn gl_read_number(table: &[u8], number: u32, field: u32, value: &mut i64) -> u32
     ensures { λ r. ⌜ numberOut (numberCell (now (table .entry)) number field) (now (value .entry)) ≡ out r (now (value .exit)) ⌝ }
 {
-    cell_calls::read_number(table, number, field, value)
+    dbf_cell_calls::read_number(table, number, field, value)
 }
 
 // The day of a D field.
@@ -122,7 +123,7 @@ pub extern "C" fn gl_read_date(
         ≡ out r (dayOf (now (year .exit)) (now (month .exit)) (now (day .exit)))
         ⌝ }
 {
-    cell_calls::read_date(table, number, field, year, month, day)
+    dbf_cell_calls::read_date(table, number, field, year, month, day)
 }
 
 // The value of an L field: 1 for true, 0 for false.
@@ -130,7 +131,7 @@ pub extern "C" fn gl_read_date(
 pub extern "C" fn gl_read_logical(table: &[u8], number: u32, field: u32, value: &mut u8) -> u32
     ensures { λ r. ⌜ logicalOut (logicalCell (now (table .entry)) number field) (now (value .entry)) ≡ out r (now (value .exit)) ⌝ }
 {
-    cell_calls::read_logical(table, number, field, value)
+    dbf_cell_calls::read_logical(table, number, field, value)
 }
 
 // Where a C field's text lies in the table, or an M field's in the memo file.
@@ -148,7 +149,7 @@ pub extern "C" fn gl_text_part(
         ≡ out r (part (now (start .exit)) (now (len .exit)))
         ⌝ }
 {
-    cell_calls::text_part(table, memo, number, field, start, len)
+    dbf_cell_calls::text_part(table, memo, number, field, start, len)
 }
 
 // The value of a numeric text.
@@ -156,15 +157,15 @@ pub extern "C" fn gl_text_part(
 pub extern "C" fn gl_number_read(text: &[u8], decimals: u32, value: &mut i64) -> u32
     ensures { λ r. ⌜ numberOut (readNumber (now (text .entry)) decimals) (now (value .entry)) ≡ out r (now (value .exit)) ⌝ }
 {
-    cell_calls::number_read(text, decimals, value)
+    dbf_cell_calls::number_read(text, decimals, value)
 }
 
 // Writes a value as numeric text into the lent field.
 #[no_mangle]
 pub extern "C" fn gl_number_write(text: &mut [u8], decimals: u32, value: i64) -> u32
-    ensures { λ r. ⌜ writingOut (writeNumber (now (text .entry)) decimals value) ≡ out r (now (text .exit)) ⌝ }
+    ensures { λ r. ⌜ coded (writeNumber (now (text .entry)) decimals value) ≡ left (now (text .exit)) r ⌝ }
 {
-    cell_calls::number_write(text, decimals, value)
+    dbf_cell_calls::number_write(text, decimals, value)
 }
 
 // Makes a fresh index, with one record to a key (features 1) or several (features 0).
@@ -175,7 +176,7 @@ pub extern "C" fn gl_index_fresh(
     features: u32,
     expression: &[u8],
 ) -> u32
-    ensures { λ r. ⌜ insertionOut (freshRule (now (index .entry)) «key_length» features (now (expression .entry))) ≡ out r (now (index .exit)) ⌝ }
+    ensures { λ r. ⌜ coded (freshRule (now (index .entry)) «key_length» features (now (expression .entry))) ≡ left (now (index .exit)) r ⌝ }
 {
     index_calls::index_fresh(index, key_length, features, expression)
 }
@@ -185,7 +186,7 @@ pub extern "C" fn gl_index_fresh(
 pub extern "C" fn gl_index_audit(index: &[u8]) -> u32
     ensures { λ r. ⌜ Audited (now (index .entry)) r ⌝ }
 {
-    audit::audit(index)
+    idx_audit::audit(index)
 }
 
 // Looks a key up: the number of its record, and the pages visited, which are also written if the key is absent.
@@ -207,7 +208,7 @@ pub extern "C" fn gl_index_lookup(
 // Inserts a key with its record's number.
 #[no_mangle]
 pub extern "C" fn gl_index_insert(index: &mut [u8], key: &[u8], number: u32) -> u32
-    ensures { λ r. ⌜ insertionOut (insertRule (now (index .entry)) (now (key .entry)) number) ≡ out r (now (index .exit)) ⌝ }
+    ensures { λ r. ⌜ coded (insertRule (now (index .entry)) (now (key .entry)) number) ≡ left (now (index .exit)) r ⌝ }
 {
     index_calls::index_insert(index, key, number)
 }
@@ -215,7 +216,7 @@ pub extern "C" fn gl_index_insert(index: &mut [u8], key: &[u8], number: u32) -> 
 // Strikes a pair off; with one record to a key the number is not looked at.
 #[no_mangle]
 pub extern "C" fn gl_index_remove(index: &mut [u8], key: &[u8], number: u32) -> u32
-    ensures { λ r. ⌜ removalOut (removeRule (now (index .entry)) (now (key .entry)) number) ≡ out r (now (index .exit)) ⌝ }
+    ensures { λ r. ⌜ coded (removeRule (now (index .entry)) (now (key .entry)) number) ≡ left (now (index .exit)) r ⌝ }
 {
     index_calls::index_remove(index, key, number)
 }
@@ -232,7 +233,7 @@ pub extern "C" fn gl_index_records(
         recordsRule (now (index .entry)) (now (key .entry)) (now (list .entry)) (now (count .entry)) ≡ told r (now (list .exit)) (now (count .exit))
         ⌝ }
 {
-    records::records(index, key, list, count)
+    idx_records::records(index, key, list, count)
 }
 
 // Matches an index against a field of a table: 0 if each record has exactly one entry, its key that record's field, and there are no others.
@@ -240,7 +241,7 @@ pub extern "C" fn gl_index_records(
 pub extern "C" fn gl_match(table: &[u8], index: &[u8], field: u32) -> u32
     ensures { λ r. ⌜ Matched (now (table .entry)) (now (index .entry)) field r ⌝ }
 {
-    matching::match_index(table, index, field)
+    idx_match::match_index(table, index, field)
 }
 
 // The dilution of one barcode: the volumes of sample and diluent, in tenths of a microlitre.
@@ -293,7 +294,7 @@ pub extern "C" fn gl_table_append(
         ≡ out r (written (now (buffer .exit))
         (stores (now («record_place» .exit)) (now («record_length» .exit)) (now («count_place» .exit)) (now («count_length» .exit)))) ⌝ }
 {
-    table_calls::table_append(
+    dbf_calls::table_append(
         buffer,
         table_len,
         bytes,
@@ -313,9 +314,9 @@ pub extern "C" fn gl_table_set_date(
     month: u32,
     day: u32,
 ) -> u32
-    ensures { λ r. ⌜ setDateRule (now (buffer .entry)) «table_len» year month day ≡ dated (now (buffer .exit)) r ⌝ }
+    ensures { λ r. ⌜ setDateRule (now (buffer .entry)) «table_len» year month day ≡ left (now (buffer .exit)) r ⌝ }
 {
-    append::set_date(buffer, table_len, year, month, day)
+    dbf_append::set_date(buffer, table_len, year, month, day)
 }
 
 // The length that the host shortens a table's file to after a power loss.
@@ -323,7 +324,7 @@ pub extern "C" fn gl_table_set_date(
 pub extern "C" fn gl_table_extent(table: &[u8], length: &mut u64) -> u32
     ensures { λ r. ⌜ extentOut (extentRule (now (table .entry))) (now (length .entry)) ≡ out r (now (length .exit)) ⌝ }
 {
-    table_calls::table_extent(table, length)
+    dbf_calls::table_extent(table, length)
 }
 
 // Lays out an empty table with the fields that the host lists: 0, or the number of the refusal, which changes nothing.
@@ -335,17 +336,17 @@ pub extern "C" fn gl_table_lay_out(
     month: u32,
     day: u32,
 ) -> u32
-    ensures { λ r. ⌜ layOutRule (now (buffer .entry)) (now (entries .entry)) year month day ≡ laid (now (buffer .exit)) r ⌝ }
+    ensures { λ r. ⌜ layOutRule (now (buffer .entry)) (now (entries .entry)) year month day ≡ left (now (buffer .exit)) r ⌝ }
 {
     let given = entries.len();
-    let count = laying::listed_count(given);
-    let mut room = laying::no_fields();
+    let count = dbf_create::listed_count(given);
+    let mut room = dbf_create::no_fields();
     let mut j: usize = 0;
     while j < count {
-        laying::write_field(&mut room, j, entries[j]);
+        dbf_create::write_field(&mut room, j, entries[j]);
         j += 1;
     }
-    laying::lay_out(buffer, &mut room, given, year, month, day)
+    dbf_create::lay_out(buffer, &mut room, given, year, month, day)
 }
 
 // Audits an NDX index: 24, 25, or 0 if it is sound.

@@ -1,15 +1,8 @@
--- Rules: what the calls on an index hand to C.
+-- Rules: what the lookups hand to C. The calls that write an index hand their rule's buffer and number (`refusal/After.coded`).
 use Prim.Native.Nat.{ℕ}
-use mathlib.Core.List.{List}
-use Rattle.lookup.specs.Lookup.{lookupCode, answerRecord, answerPages}
-use Rattle.lookup.specs.declared.Answer.{Answer}
-use Rattle.insert.specs.Calls.{AfterCall, insertionCode}
-use Rattle.remove.specs.Calls.{AfterCall as AfterRemoval}
-use Rattle.remove.specs.declared.Removal.{Removal}
-use Rattle.remove.specs.declared.Removal.the-variants as removal
+use Rattle.idx_lookup.specs.Lookup.{lookupCode, answerRecord, answerPages}
+use Rattle.idx_lookup.specs.declared.Answer.{Answer}
 use Rattle.handed.specs.Out.{Out, out}
-
--- ---- the index
 
 -- record and pages
 pub record Found : Type 0 where
@@ -22,16 +15,3 @@ found number pages = record { number = number; pages = pages }
 -- "0 sets both; 257 sets pages alone"
 unfoldable pub lookupOut : Answer → Found → Out Found
 lookupOut answer old = out (lookupCode answer) (found (answerRecord answer (old .number)) (answerPages answer (old .pages)))
-
--- the buffer after fresh and after an insertion is the rule's
-abbrev pub insertionOut : AfterCall → Out (List ℕ)
-insertionOut left = out (insertionCode (left .answer)) (left .after)
-
--- an answer's number: 0 if the key is struck off, or the refusal's
-abbrev pub removalCode : Removal → ℕ
-removalCode removal.Accepted = 0
-removalCode (removal.Refused n) = n
-
--- the buffer after a removal is the rule's
-abbrev pub removalOut : AfterRemoval → Out (List ℕ)
-removalOut left = out (removalCode (left .answer)) (left .after)

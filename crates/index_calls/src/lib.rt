@@ -1,34 +1,24 @@
 // What the calls on an index hand to C: the answer's number, and its values in out-parameters.
-use insert::Insertion;
-use lookup::Answer;
-use page::RecordNumber;
+use idx_lookup::Answer;
+use idx_page::RecordNumber;
 use refusal::ABSENT;
-use remove::Removal;
+use refusal::change_code;
 ghost use mathlib.Core.Path.{_≡_};
-ghost use Rattle.lookup.specs.Lookup.{lookupRule};
-ghost use Rattle.ndx.specs.Lookup as ndx-lookup;
+ghost use Rattle.refusal.specs.After.{left, coded};
+ghost use Rattle.idx_lookup.specs.Lookup.{lookupRule};
+ghost use Rattle.ndx_page.specs.Lookup as ndx-lookup;
 ghost use Rattle.ndx_sound.specs.Sound as ndx-sound;
-ghost use Rattle.insert.specs.Calls.{insertRule, insertionCode};
-ghost use Rattle.insert.specs.Fresh.{freshRule};
-ghost use Rattle.remove.specs.Calls.{removeRule};
+ghost use Rattle.idx_insert.specs.Calls.{insertRule};
+ghost use Rattle.idx_insert.specs.Fresh.{freshRule};
+ghost use Rattle.idx_remove.specs.Calls.{removeRule};
 ghost use Rattle.handed.specs.Out.{out};
-ghost use Rattle.index_calls.specs.Answers.{found, lookupOut, insertionOut, removalOut};
-
-// The number of the answer of a call that writes an index.
-pub fn insertion_code(answer: Insertion) -> u32
-    ensures { λ r. ⌜ r ≡ insertionCode answer ⌝ }
-{
-    match answer {
-        Insertion::Accepted => 0,
-        Insertion::Refused(refusal) => refusal,
-    }
-}
+ghost use Rattle.index_calls.specs.Answers.{found, lookupOut};
 
 // Makes a fresh index, with one record to a key (features 1) or several (features 0).
 pub fn index_fresh(index: &mut [u8], key_length: u32, features: u32, expression: &[u8]) -> u32
-    ensures { λ r. ⌜ insertionOut (freshRule (now (index .entry)) «key_length» features (now (expression .entry))) ≡ out r (now (index .exit)) ⌝ }
+    ensures { λ r. ⌜ coded (freshRule (now (index .entry)) «key_length» features (now (expression .entry))) ≡ left (now (index .exit)) r ⌝ }
 {
-    insertion_code(insert::fresh(index, key_length, features, expression))
+    change_code(idx_insert::fresh(index, key_length, features, expression))
 }
 
 // Writes what a lookup in an index of either format answers, and returns its number.
@@ -58,7 +48,7 @@ pub fn index_lookup(index: &[u8], key: &[u8], number: &mut u32, pages: &mut u32)
         ≡ out r (found (now (number .exit)) (now (pages .exit)))
         ⌝ }
 {
-    tell(lookup::lookup(index, key), number, pages)
+    tell(idx_lookup::lookup(index, key), number, pages)
 }
 
 // Audits an NDX index.
@@ -75,23 +65,19 @@ pub fn ndx_lookup(index: &[u8], key: &[u8], number: &mut u32, pages: &mut u32) -
         ≡ out r (found (now (number .exit)) (now (pages .exit)))
         ⌝ }
 {
-    tell(ndx::lookup(index, key), number, pages)
+    tell(ndx_page::lookup(index, key), number, pages)
 }
 
 // Inserts a key with its record's number.
 pub fn index_insert(index: &mut [u8], key: &[u8], number: u32) -> u32
-    ensures { λ r. ⌜ insertionOut (insertRule (now (index .entry)) (now (key .entry)) number) ≡ out r (now (index .exit)) ⌝ }
+    ensures { λ r. ⌜ coded (insertRule (now (index .entry)) (now (key .entry)) number) ≡ left (now (index .exit)) r ⌝ }
 {
-    insertion_code(insert::insert(index, key, RecordNumber(number)))
+    change_code(idx_insert::insert(index, key, RecordNumber(number)))
 }
 
 // Strikes a pair off; with one record to a key the number is not looked at.
 pub fn index_remove(index: &mut [u8], key: &[u8], number: u32) -> u32
-    ensures { λ r. ⌜ removalOut (removeRule (now (index .entry)) (now (key .entry)) number) ≡ out r (now (index .exit)) ⌝ }
+    ensures { λ r. ⌜ coded (removeRule (now (index .entry)) (now (key .entry)) number) ≡ left (now (index .exit)) r ⌝ }
 {
-    let answer = remove::remove(index, key, RecordNumber(number));
-    match answer {
-        Removal::Accepted => 0,
-        Removal::Refused(refusal) => refusal,
-    }
+    change_code(idx_remove::remove(index, key, RecordNumber(number)))
 }

@@ -1,4 +1,4 @@
-// The program that the service desk runs on a lab's files. It takes the arguments; `inspection` does the work.
+// The program that the service desk runs on a lab's files. It takes the arguments; `inspect_report` does the work.
 
 // How many arguments there are besides the program's own name.
 fn arguments() -> usize {
@@ -16,7 +16,7 @@ fn main() {
     let b = os::arg(2, &mut memo);
     let c = os::arg(3, &mut index);
     let d = os::arg(4, &mut field);
-    inspection::inspect(
+    inspect_report::inspect(
         arguments(),
         &table[..a],
         &memo[..b],

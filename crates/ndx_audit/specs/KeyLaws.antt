@@ -9,9 +9,9 @@ use borrow.Author.Tests.{eq-eqb, ne-eqb}
 use Rattle.octets.specs.Store.{window}
 use Rattle.octets.specs.Order.{bytesLe, ordering, isBelow}
 use Rattle.octets.specs.declared.Ordering.{Ordering}
-use Rattle.page.specs.KeyOrderLaws.{below-not-le}
-use Rattle.ndx.specs.Header.{keyLength}
-use Rattle.ndx.specs.Page.{keyOffset, recordAt, keyAt}
+use Rattle.idx_page.specs.KeyOrderLaws.{below-not-le}
+use Rattle.ndx_page.specs.Header.{keyLength}
+use Rattle.ndx_page.specs.Page.{keyOffset, recordAt, keyAt}
 use Rattle.ndx_sound.specs.Walk.{isAfter, atMost, item, passed}
 use Rattle.ndx_sound.specs.TreeLaws.{byTop}
 use Rattle.ndx_audit.specs.State.{keyFrom, statusOf, goodAt}

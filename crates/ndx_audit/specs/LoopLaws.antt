@@ -6,12 +6,12 @@ use mathlib.Core.List.{List}
 use mathlib.Core.Option.{some}
 use native.Mathlib.Omega.{arith}
 use borrow.Author.Tests.{eq-eqb, ne-eqb}
-use Rattle.ndx.specs.Header.{maxLevels, pageCount, isPage}
-use Rattle.ndx.specs.Page.{lowerAt, isLeaf}
+use Rattle.ndx_page.specs.Header.{maxLevels, pageCount, isPage}
+use Rattle.ndx_page.specs.Page.{lowerAt, isLeaf}
 use Rattle.ndx_sound.specs.Reading.{Key}
 use Rattle.ndx_sound.specs.Walk.{Status, ifGood, item, passed}
 use Rattle.ndx_sound.specs.WalkLaws.{if-is, if-not}
-use Rattle.ndx_sound.specs.Rule.{zeros, heightFrom}
+use Rattle.ndx_sound.specs.AuditTest.{zeros, heightFrom}
 use Rattle.ndx_sound.specs.TreeLaws.{byTop}
 use Rattle.ndx_audit.specs.State.{statusOf, goodAt}
 use Rattle.ndx_audit.specs.Steps.{Walker, itemsFrom, childrenFrom}

@@ -8,15 +8,15 @@ use native.Mathlib.Omega.{arith}
 use lib.Dec.{eqb, ltb}
 use borrow.Author.Tests.{eq-eqb, ne-eqb, leb-true, le-ltb, lt-ltb}
 use Rattle.basis.specs.Tests.{either, contra, both, join}
-use Rattle.ndx.specs.Header.{maxLevels, rootPage, pageCount, keysPerPage, isPage, headerGood}
-use Rattle.ndx.specs.Page.{countAt, lowerAt, recordAt, keyAt, isLeaf, countGood}
-use Rattle.ndx.specs.Within.{Within}
-use Rattle.ndx.specs.PageLaws.{within-page}
+use Rattle.ndx_page.specs.Header.{maxLevels, rootPage, pageCount, keysPerPage, isPage, headerGood}
+use Rattle.ndx_page.specs.Page.{countAt, lowerAt, recordAt, keyAt, isLeaf, countGood}
+use Rattle.ndx_page.specs.Within.{Within}
+use Rattle.ndx_page.specs.PageLaws.{within-page}
 use Rattle.ndx_sound.specs.Reading.{Key, entriesAt}
 use Rattle.ndx_sound.specs.ReadingLaws.{leaf-entries, branch-entries}
 use Rattle.ndx_sound.specs.Walk.{Status, ifGood, over, items, passed, under, enter, walk}
 use Rattle.ndx_sound.specs.WalkLaws.{if-is, if-not}
-use Rattle.ndx_sound.specs.Rule.{zeros, pageFits, heightFrom, complete, treeGood}
+use Rattle.ndx_sound.specs.AuditTest.{zeros, pageFits, heightFrom, complete, treeGood}
 use Rattle.ndx_sound.specs.TreeLaws.{byTop}
 use Rattle.ndx_sound.specs.Accepted.{Fit, fit}
 use Rattle.ndx_audit.specs.State.{keyFrom, statusOf, goodAt, entering, walkFrom}

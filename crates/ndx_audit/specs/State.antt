@@ -7,10 +7,10 @@ use mathlib.Core.Option.{Option, none, some}
 use lib.ListN.{length}
 use lib.Dec.{eqb, ltb}
 use Rattle.octets.specs.Store.{window}
-use Rattle.ndx.specs.Header.{pageCount, keyLength}
+use Rattle.ndx_page.specs.Header.{pageCount, keyLength}
 use Rattle.ndx_sound.specs.Reading.{Key, entriesAt}
 use Rattle.ndx_sound.specs.Walk.{Status, walk}
-use Rattle.ndx_sound.specs.Rule.{pageFits}
+use Rattle.ndx_sound.specs.AuditTest.{pageFits}
 use Rattle.ndx_sound.specs.TreeLaws.{byTop}
 use Rattle.ndx_audit.specs.declared.Met.{Met}
 

@@ -2,19 +2,19 @@
 // it after it, and the extra child last. So leaf keys and keys above are met in their order, and each is compared with the one met before it alone. No page is
 // met twice if keys ascend, so it is enough to count pages: nothing is marked or copied, no more pages are entered than there are, and the work is linear in
 // the file's size on any bytes. The walk calls itself on a page's children, 15 levels at most.
-use ndx::PageNumber;
+use ndx_page::PageNumber;
 ghost use mathlib.Core.Path.{_≡_};
 ghost use mathlib.Core.Bool.{Bool, true, not, _&&_};
 ghost use mathlib.Core.List.{List};
 ghost use mathlib.Core.Option.{some};
 ghost use Prim.Native.Nat.{ℕ, _+_, _-_, _≤_};
 ghost use Rattle.octets.specs.Store.{window};
-ghost use Rattle.ndx.specs.Header.{maxLevels, pageCount, keyLength, isPage, headerGood};
-ghost use Rattle.ndx.specs.Page.{countAt, lowerAt, recordAt, keyAt, isLeaf};
-ghost use Rattle.ndx.specs.Within.{Within};
+ghost use Rattle.ndx_page.specs.Header.{maxLevels, pageCount, keyLength, isPage, headerGood};
+ghost use Rattle.ndx_page.specs.Page.{countAt, lowerAt, recordAt, keyAt, isLeaf};
+ghost use Rattle.ndx_page.specs.Within.{Within};
 ghost use Rattle.ndx_sound.specs.Sound.{Audited};
 ghost use Rattle.ndx_sound.specs.Walk.{isAfter, atMost, item, passed};
-ghost use Rattle.ndx_sound.specs.Rule.{zeros, pageFits, heightFrom, treeGood};
+ghost use Rattle.ndx_sound.specs.AuditTest.{zeros, pageFits, heightFrom, treeGood};
 ghost use Rattle.ndx_sound.specs.TreeLaws.{byTop};
 ghost use Rattle.ndx_audit.specs.State.{KeyWithin, keyFrom, statusOf, goodAt, entering, walkFrom};
 ghost use Rattle.ndx_audit.specs.Steps.{itemsFrom};
@@ -33,7 +33,7 @@ fn is_after(index: &[u8], last: usize, at: usize) -> bool
     if last == 0 {
         return true;
     }
-    octets::is_below(audit::key_order(index, ndx::key_length(index) as usize, last, at))
+    octets::is_below(idx_keys::key_order(index, ndx_page::key_length(index) as usize, last, at))
 }
 
 // Whether the last key met is at or below the key that begins at `at`.
@@ -44,7 +44,7 @@ fn at_most(index: &[u8], last: usize, at: usize) -> bool
     if last == 0 {
         return true;
     }
-    !octets::is_below(audit::key_order(index, ndx::key_length(index) as usize, at, last))
+    !octets::is_below(idx_keys::key_order(index, ndx_page::key_length(index) as usize, at, last))
 }
 
 // A pair of a leaf, entry i: its record number is above 0, and its key is above the last one met.
@@ -57,8 +57,8 @@ fn pair(index: &[u8], page: PageNumber, i: usize, last: usize) -> Met
         × KeyWithin (now (index .entry)) (r .last)
         ⌝ }
 {
-    let at = ndx::key_offset(index, page, i);
-    if ndx::record_number(index, page, i).0 == 0 {
+    let at = ndx_page::key_offset(index, page, i);
+    if ndx_page::record_number(index, page, i).0 == 0 {
         return Met { good: false, last };
     }
     if !is_after(index, last, at) {
@@ -109,7 +109,7 @@ fn pass(index: &[u8], page: PageNumber, i: usize, met: Met) -> Met
     if !met.good {
         return Met { good: false, last };
     }
-    let at = ndx::key_offset(index, page, i);
+    let at = ndx_page::key_offset(index, page, i);
     if !at_most(index, last, at) {
         return Met { good: false, last };
     }
@@ -126,7 +126,7 @@ fn no_lower(index: &[u8], page: PageNumber, count: usize) -> bool
 {
     let mut i = 0;
     while i < count {
-        if ndx::lower(index, page, i).0 != 0 {
+        if ndx_page::lower(index, page, i).0 != 0 {
             return false;
         }
         i += 1;
@@ -139,13 +139,13 @@ fn page_fits(index: &[u8], page: PageNumber, height: u32, lone: bool) -> bool
     requires { ⌜ headerGood (now index) ≡ true ⌝ }
     ensures { λ r. ⌜ r ≡ pageFits (now (index .entry)) lone height (page .0) ⌝ }
 {
-    if !ndx::is_page(ndx::page_count(index), page) {
+    if !ndx_page::is_page(ndx_page::page_count(index), page) {
         return false;
     }
-    let leaf = ndx::is_leaf(index, page);
-    let count = ndx::key_count(index, page);
-    let most = ndx::keys_per_page(index) as usize;
-    if !((leaf == (height == 0)) & ndx::count_good(most, count, lone, leaf)) {
+    let leaf = ndx_page::is_leaf(index, page);
+    let count = ndx_page::key_count(index, page);
+    let most = ndx_page::keys_per_page(index) as usize;
+    if !((leaf == (height == 0)) & ndx_page::count_good(most, count, lone, leaf)) {
         return false;
     }
     if !leaf {
@@ -163,7 +163,7 @@ fn enter(index: &[u8], entered: &mut u32, page: PageNumber, height: u32, lone: b
         return false;
     }
     let before = *entered;
-    if ndx::page_count(index) <= before {
+    if ndx_page::page_count(index) <= before {
         return false;
     }
     *entered = before + 1;
@@ -188,7 +188,7 @@ fn walk(
     if !enter(index, entered, page, height, lone) {
         return Met { good: false, last };
     }
-    let count = ndx::key_count(index, page);
+    let count = ndx_page::key_count(index, page);
     if height == 0 {
         return pairs(index, page, count, last);
     }
@@ -196,7 +196,7 @@ fn walk(
     let mut prior = last;
     let mut i = 0;
     while i < count {
-        let child = ndx::lower(index, page, i);
+        let child = ndx_page::lower(index, page, i);
         let met = walk(index, entered, child, under, false, prior);
         let above = pass(index, page, i, met);
         if !above.good {
@@ -205,7 +205,7 @@ fn walk(
         prior = above.last;
         i += 1;
     }
-    let extra = ndx::lower(index, page, i);
+    let extra = ndx_page::lower(index, page, i);
     walk(index, entered, extra, under, false, prior)
 }
 
@@ -214,10 +214,10 @@ fn is_branch(index: &[u8], page: PageNumber) -> bool
     requires { ⌜ headerGood (now index) ≡ true ⌝ }
     ensures { λ r. ⌜ r ≡ (isPage (pageCount (now (index .entry))) (page .0) && not (isLeaf (now (index .entry)) (page .0))) ⌝ }
 {
-    if !ndx::is_page(ndx::page_count(index), page) {
+    if !ndx_page::is_page(ndx_page::page_count(index), page) {
         return false;
     }
-    !ndx::is_leaf(index, page)
+    !ndx_page::is_leaf(index, page)
 }
 
 // The number of levels under the root, 14 at most, which the first lower pages show.
@@ -227,11 +227,11 @@ fn height_of(index: &[u8], root: PageNumber) -> u32
 {
     let mut height = 0;
     let mut page = root;
-    while height < page::MAX_LEVELS - 1 {
+    while height < idx_page::MAX_LEVELS - 1 {
         if !is_branch(index, page) {
             return height;
         }
-        page = ndx::lower(index, page, 0);
+        page = ndx_page::lower(index, page, 0);
         height += 1;
     }
     height
@@ -242,18 +242,18 @@ fn tree_good(index: &[u8]) -> bool
     requires { ⌜ headerGood (now index) ≡ true ⌝ }
     ensures { λ r. ⌜ r ≡ treeGood (now (index .entry)) ⌝ }
 {
-    let root = ndx::root(index);
+    let root = ndx_page::root(index);
     let height = height_of(index, root);
     let mut entered = 0;
     let met = walk(index, &mut entered, root, height, true, 0);
-    met.good & (entered == ndx::page_count(index) - 1)
+    met.good & (entered == ndx_page::page_count(index) - 1)
 }
 
 // The audit: 24 if the header is not good, 0 if the index is sound, else 25.
 pub fn audit(index: &[u8]) -> u32
     ensures { λ r. ⌜ Audited (now (index .entry)) r ⌝ }
 {
-    if !ndx::header_good(index) {
+    if !ndx_page::header_good(index) {
         return refusal::INDEX_HEADER;
     }
     if tree_good(index) {

@@ -10,16 +10,16 @@ use Rattle.tree.specs.KeepingLaws.{find-get}
 use Rattle.tree.specs.Keeping.{distinctKeys}
 use Rattle.tree.specs.LookupFirst.{visitedBy}
 use Rattle.tree.specs.LookupLaws.{lookupBy-find}
-use Rattle.page.specs.KeyOrder.{bytesOrder}
-use Rattle.page.specs.Header as idx-header
-use Rattle.lookup.specs.Lookup as idx-lookup
-use Rattle.lookup.specs.declared.Answer.{Answer}
-use Rattle.lookup_laws.specs.FoundLaws.{answerOf}
-use Rattle.lookup_laws.specs.HeldLaws.{lookup-by}
-use Rattle.sound.specs.Sound as idx
-use Rattle.sound.specs.IndexLaws.{sound-index}
-use Rattle.ndx.specs.Header as ndx-header
-use Rattle.ndx.specs.Lookup as ndx-lookup
+use Rattle.idx_page.specs.KeyOrder.{bytesOrder}
+use Rattle.idx_page.specs.Header as idx-header
+use Rattle.idx_lookup.specs.Lookup as idx-lookup
+use Rattle.idx_lookup.specs.declared.Answer.{Answer}
+use Rattle.idx_lookup_laws.specs.FoundLaws.{answerOf}
+use Rattle.idx_lookup_laws.specs.HeldLaws.{lookup-by}
+use Rattle.idx_sound.specs.Sound as idx
+use Rattle.idx_sound.specs.IndexLaws.{sound-index}
+use Rattle.ndx_page.specs.Header as ndx-header
+use Rattle.ndx_page.specs.Lookup as ndx-lookup
 use Rattle.ndx_sound.specs.Reading as ndx-reading
 use Rattle.ndx_sound.specs.Sound as ndx
 use Rattle.ndx_laws.specs.FoundLaws as ndx-found

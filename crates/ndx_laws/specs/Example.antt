@@ -4,20 +4,21 @@ use mathlib.Core.Path.{_≡_, refl}
 use mathlib.Core.Bool.{true, false}
 use mathlib.Core.List.{List, [], _∷_, _++_}
 use lib.ListN.{length, replicate, set}
+use Rattle.refusal.specs.Checks.{unless}
 use Rattle.octets.specs.Bytes.{le16, le32, toLe16, toLe32}
 use Rattle.octets.specs.Store.{window}
 use Rattle.octets.specs.Order.{bytesLe, ordering}
-use Rattle.page.specs.Header.{keyLengthGood}
-use Rattle.page.specs.Page.{firstAtOrAbove}
-use Rattle.lookup.specs.Lookup.{recordOf}
-use Rattle.lookup.specs.declared.Answer.the-variants as answer
-use Rattle.ndx.specs.Header.{pageSize, isPage, pagesGood, entrySizeOf, keysGood, headerGood}
-use Rattle.ndx.specs.Page.{entryOffset, keyOffset, lowerAt, recordAt, keyAt, isLeaf, countGood, pageGood}
+use Rattle.idx_page.specs.Header.{keyLengthGood}
+use Rattle.idx_page.specs.Page.{firstAtOrAbove}
+use Rattle.idx_lookup.specs.Lookup.{recordOf}
+use Rattle.idx_lookup.specs.declared.Answer.the-variants as answer
+use Rattle.ndx_page.specs.Header.{pageSize, isPage, pagesGood, entrySizeOf, keysGood, headerGood}
+use Rattle.ndx_page.specs.Page.{entryOffset, keyOffset, lowerAt, recordAt, keyAt, isLeaf, countGood, pageGood}
 use Rattle.ndx_sound.specs.Reading.{entriesFrom, entriesAt}
-use Rattle.ndx.specs.Lookup.{leafSays, entrySays, pageSays, visitRule, lookupFrom, lookupRule}
+use Rattle.ndx_page.specs.Lookup.{leafSays, entrySays, pageSays, visitRule, lookupFrom, lookupRule}
 use Rattle.ndx_sound.specs.Sound.{Sound}
 use Rattle.ndx_sound.specs.Walk.{ifGood, over, items, walk}
-use Rattle.ndx_sound.specs.Rule.{zeros, pageFits, heightFrom, treeGood}
+use Rattle.ndx_sound.specs.AuditTest.{zeros, pageFits, heightFrom, treeGood}
 use Rattle.ndx_sound.specs.Accepted.{accepted}
 
 padded : List ℕ → List ℕ
@@ -88,5 +89,5 @@ looked : (lookupRule levels3 (65 ∷ []) ≡ answer.Found (recordOf 1) 3)
     × (lookupRule fullBranch (66 ∷ []) ≡ answer.Found (recordOf 2) 2)
 unfolding levels3 fullBranch copies header page entry padded le16 le32 toLe16 toLe32 window bytesLe ordering isPage pagesGood keyLengthGood entrySizeOf
     keysGood headerGood entryOffset keyOffset lowerAt recordAt keyAt isLeaf countGood pageGood firstAtOrAbove leafSays entrySays pageSays visitRule lookupFrom
-    lookupRule
+    lookupRule unless
 looked = (refl, refl, refl, refl, refl, refl, refl, refl, refl, refl, refl)

@@ -9,28 +9,29 @@ use native.Mathlib.Omega.{arith}
 use lib.ListN.{length}
 use lib.Dec.{eqb}
 use borrow.Author.Tests.{eq-eqb, ne-eqb, eqb-true, eqb-false, le-leb}
+use Rattle.refusal.specs.Checks.{unless}
 use Rattle.basis.specs.Lists.{All}
 use Rattle.basis.specs.Tests.{either, impossible}
 use Rattle.octets.specs.Order.{bytesLe}
 use Rattle.tree.specs.ListLaws.{all-unit, all-map2}
 use Rattle.tree.specs.Pairs.{follow, seek, find}
 use Rattle.tree.specs.Tree.{Tree, lookup, onward, visited}
-use Rattle.tree.specs.StoreSteps.{storeLookup, storeVisited}
-use Rattle.tree.specs.StoreLookupLaws.{lookup-read, visited-read}
+use Rattle.tree.specs.Store.Steps.{storeLookup, storeVisited}
+use Rattle.tree.specs.Store.LookupLaws.{lookup-read, visited-read}
 use Rattle.tree.specs.Top.{top-lookup}
 use Rattle.tree.specs.Levels.{below, generation, all-of-concat}
-use Rattle.page.specs.Page.{firstAtOrAbove}
-use Rattle.page.specs.PageLaws.{first-bound}
-use Rattle.page.specs.KeyOrder.{bytesOrder}
-use Rattle.page.specs.KeyOrderLaws.{equal-le}
-use Rattle.lookup.specs.Lookup.{recordOf}
-use Rattle.lookup.specs.declared.Answer.{Answer}
-use Rattle.lookup.specs.declared.Answer.the-variants as answer
-use Rattle.lookup_laws.specs.FoundLaws.{answerOf}
-use Rattle.ndx.specs.Header.{maxLevels, rootPage, pageCount, keyLength, keysPerPage, isPage}
-use Rattle.ndx.specs.Page.{countAt, lowerAt, recordAt, keyAt, isLeaf, countGood, pageGood}
-use Rattle.ndx.specs.Lookup.{pageOf, leafSays, entrySays, pageSays, visitRule, decided, lookupFrom, lookupRule}
-use Rattle.ndx.specs.declared.Visit.the-variants as visit
+use Rattle.idx_page.specs.Page.{firstAtOrAbove}
+use Rattle.idx_page.specs.PageLaws.{first-bound}
+use Rattle.idx_page.specs.KeyOrder.{bytesOrder}
+use Rattle.idx_page.specs.KeyOrderLaws.{equal-le}
+use Rattle.idx_lookup.specs.Lookup.{recordOf}
+use Rattle.idx_lookup.specs.declared.Answer.{Answer}
+use Rattle.idx_lookup.specs.declared.Answer.the-variants as answer
+use Rattle.idx_lookup_laws.specs.FoundLaws.{answerOf}
+use Rattle.ndx_page.specs.Header.{maxLevels, rootPage, pageCount, keyLength, keysPerPage, isPage}
+use Rattle.ndx_page.specs.Page.{countAt, lowerAt, recordAt, keyAt, isLeaf, countGood, pageGood}
+use Rattle.ndx_page.specs.Lookup.{pageOf, leafSays, entrySays, pageSays, visitRule, decided, lookupFrom, lookupRule}
+use Rattle.ndx_page.specs.declared.Visit.the-variants as visit
 use Rattle.ndx_sound.specs.Reading.{Key, Entries, leafEntries, entriesAt, indexTree, leafPairs}
 use Rattle.ndx_sound.specs.ReadingLaws.{first-le, seek-among, seek-past, leaf-entries, branch-entries}
 use Rattle.ndx_sound.specs.Sound.{Sound}
@@ -215,13 +216,13 @@ module _ (b key : List ℕ) (s : Sound b) (e : length key ≡ keyLength b) where
 
   -- Theorem: lookup's steps on a sound index, for a key of its length, are the theory's lookup in its tree
   pub lookup-tree : lookupRule b key ≡ answerOf (lookup byTop (some key) h T) (length (visited byTop (some key) h T))
-  unfolding lookupRule
+  unfolding lookupRule unless
   lookup-tree =
       let v = pagesFrom b key h h r in
       let z : 0 + length v ≡ length v = omega arith in
       let steps = descends b key h few h 0 (maxLevels - 1) r none (omega arith) (omega arith) along in
       let d : lookupFrom maxLevels b key r ≡ answerOf (recordFrom b key h h r) (length v) = rw z at steps in
-      rw (s .header, eq-eqb (length key) (keyLength b) e, lookupRule)
+      rw (s .header, eq-eqb (length key) (keyLength b) e)
       (d ∙ ap₂ (λ (o : Option ℕ) (l : List ℕ). answerOf o (length l)) (sym (lookup-read byTop (entriesAt b) (some key) h r))
       (sym (visited-read byTop (entriesAt b) (some key) h r)))
 

@@ -31,7 +31,8 @@ module _ {K : Type 0} (O : Order K) (most : ℕ) (S : Store K) (fits : Bool → 
 
   separated-unread : (h : ℕ) → ((e : K × ℕ) → Fitting h e → OrderedUnder (distinctKeys O) h (readEntry S h e) → Good O most S fits h e) → (es : List (K × ℕ))
       → All (Fitting h) es
-      → Separated (distinctKeys O) (OrderedUnder (distinctKeys O) h) (pairsUnder h) (map (readEntry S h) es) → Separated (distinctKeys O) (Good O most S fits h) (λ d. pairsUnder h (readEntry S h d)) es
+      → Separated (distinctKeys O) (OrderedUnder (distinctKeys O) h) (pairsUnder h) (map (readEntry S h) es)
+      → Separated (distinctKeys O) (Good O most S fits h) (λ d. pairsUnder h (readEntry S h d)) es
   separated-unread h ok [] a c = tt
   separated-unread h ok (e ∷ es) a c = (
     record {
@@ -50,10 +51,12 @@ module _ {K : Type 0} (O : Order K) (most : ℕ) (S : Store K) (fits : Bool → 
   -- Theorem: what the walk asks, both ways
   pub accept-fitting : (lone : Bool) (h p : ℕ) → Accept O most S fits lone h p → All (Fitting h) (S p)
   accept-fitting lone h p a =
-      all-map (Good O most S fits h) (Fitting h) (good-fitting h) (S p) (separated-all (distinctKeys O) (Good O most S fits h) (λ d. pairsUnder h (readEntry S h d)) (S p)
+      all-map (Good O most S fits h) (Fitting h) (good-fitting h) (S p)
+      (separated-all (distinctKeys O) (Good O most S fits h) (λ d. pairsUnder h (readEntry S h d)) (S p)
       (a .1))
 
-  pub fitting-accept : (lone : Bool) (h p : ℕ) → fits lone h p ≡ true → All (Fitting h) (S p) → SeparatedTree (distinctKeys O) h (readTree S h p) → Accept O most S fits lone h p
+  pub fitting-accept : (lone : Bool) (h p : ℕ) → fits lone h p ≡ true → All (Fitting h) (S p) → SeparatedTree (distinctKeys O) h (readTree S h p)
+      → Accept O most S fits lone h p
   fitting-accept lone h p e f o = (e, separated-unread h (fitting-good h) (S p) f o)
 
   -- level by level

@@ -14,27 +14,27 @@ use Rattle.basis.specs.Lists.{All, all-map}
 use Rattle.basis.specs.Tests.{either, both, join, contra}
 use Rattle.tree.specs.Lists.{NonEmpty, occ, concatMap}
 use Rattle.tree.specs.ListLaws.{all-unit, all-map2, nonEmpty-length, occ-all}
-use Rattle.tree.specs.InsertPages.{Distinct}
+use Rattle.tree.specs.Insertion.Pages.{Distinct}
 use Rattle.tree.specs.Tree.{Entry, pairs, pairsUnder, pagesUnder, pages, level}
 use Rattle.tree.specs.Clauses.{least}
 use Rattle.tree.specs.ClauseLaws.{ordered-ceilings}
 use Rattle.tree.specs.Ordered.{Separated, SeparatedTree, Ordered, ordered-ascending, separated-all, separated-ordered}
 use Rattle.tree.specs.Store.{readEntry}
 use Rattle.tree.specs.Top.{top}
-use Rattle.page.specs.KeyOrder.{bytesOrder}
+use Rattle.idx_page.specs.KeyOrder.{bytesOrder}
 use Rattle.tree.specs.DistinctLaws.{Filled, Heights, levels-distinct, ascending-distinct}
 use Rattle.tree.specs.PageCount.{PageOf, later-all, later-count}
 use Rattle.tree.specs.Levels.{generation, numbers, all-to-map, all-of-map, generation-pages}
 use Rattle.tree.specs.Levels.{generation-level, level-generation, tree-pairs, tree-pages, below, all-to-concat}
-use Rattle.ndx.specs.Header.{maxLevels, rootPage, pageCount, keysPerPage, isPage, headerGood}
-use Rattle.ndx.specs.HeaderLaws.{good-header, is-page, is-page-from}
-use Rattle.ndx.specs.Page.{countAt, lowerAt, keyAt, isLeaf, countGood}
+use Rattle.ndx_page.specs.Header.{maxLevels, rootPage, pageCount, keysPerPage, isPage, headerGood}
+use Rattle.ndx_page.specs.HeaderLaws.{good-header, is-page, is-page-from}
+use Rattle.ndx_page.specs.Page.{countAt, lowerAt, keyAt, isLeaf, countGood}
 use Rattle.ndx_sound.specs.Reading.{Key, Entries, entriesFrom, branchEntries, readCount, entriesAt, indexTree, bare}
 use Rattle.ndx_sound.specs.ReadingLaws.{branch-entries}
 use Rattle.ndx_sound.specs.Sound.{indexPages, CountGood, NoLower, Sound, Audited}
 use Rattle.ndx_sound.specs.TreeLaws.{byTop, keptByTop, Fine, LeafPage, page-length, bare-ascending, fine, ordered}
 use Rattle.ndx_sound.specs.Walk.{Status, walk}
-use Rattle.ndx_sound.specs.Rule.{zeros, pageFits, heightFrom, indexHeight, start, complete, treeGood}
+use Rattle.ndx_sound.specs.AuditTest.{zeros, pageFits, heightFrom, indexHeight, start, complete, treeGood}
 use Rattle.ndx_sound.specs.CountLaws.{countAll, count-length, room-length}
 use Rattle.ndx_sound.specs.WalkLaws.{Walks, Good, Accept, good-ordered, separated-read, page-walks}
 use Rattle.ndx_sound.specs.AcceptLaws.{accept-fitting, fitting-accept, fitting-levels, fitting-pairs, levels-fitting}
@@ -232,7 +232,8 @@ module _ (b : List ℕ) (e : headerGood b ≡ true) where
             (λ u. rw u)))
 
     o : Ordered keptByTop h (indexTree b h)
-    o = separated-ordered byTop h (indexTree b h) (separated-read byTop (pageCount b) S fits h (good-ordered byTop (pageCount b) S fits (fit-filled b) h) (S r) (a .1))
+    o = separated-ordered byTop h (indexTree b h)
+        (separated-read byTop (pageCount b) S fits h (good-ordered byTop (pageCount b) S fits (fit-filled b) h) (S r) (a .1))
 
     leaf-pages : All (λ (x : Key × ℕ). LeafPage b (x .1)) (generation (entriesAt b) h ((none, rootPage b) ∷ []))
     leaf-pages =
@@ -265,7 +266,8 @@ module _ (b : List ℕ) (e : headerGood b ≡ true) where
         (λ q.
         let t = tree-pages S none r h z in
         let d = levels-distinct S (heightFrom b (maxLevels - 1)) h ((none, rootPage b) ∷ []) heights
-        (ascending-distinct S byTop h ((none, rootPage b) ∷ []) (filled q) (rw (tree-pairs S none r h) at (ordered-ascending keptByTop h (indexTree b h) o))) z in
+        (ascending-distinct S byTop h ((none, rootPage b) ∷ []) (filled q)
+        (rw (tree-pairs S none r h) at (ordered-ascending keptByTop h (indexTree b h) o))) z in
         omega arith)
       where
         lone : (g : ℕ) → g ≡ 0 → (z : ℕ) → occ z (pages g (indexTree b g)) ≤ 1

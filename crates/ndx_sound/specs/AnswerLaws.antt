@@ -5,9 +5,9 @@ use mathlib.Core.Path.{_≡_, sym, _∙_}
 use mathlib.Core.List.{List}
 use mathlib.Core.Logic.{⊎-elim}
 use Rattle.basis.specs.Tests.{either}
-use Rattle.ndx.specs.Header.{headerGood}
+use Rattle.ndx_page.specs.Header.{headerGood}
 use Rattle.ndx_sound.specs.Sound.{Audited}
-use Rattle.ndx_sound.specs.Rule.{treeGood}
+use Rattle.ndx_sound.specs.AuditTest.{treeGood}
 use Rattle.ndx_sound.specs.Accepted.{answer-bad, answer-sound, answer-unsound}
 
 -- an answer r of the audit is 24, 0 or 25, and another answer s is 24 or 0 exactly if r is

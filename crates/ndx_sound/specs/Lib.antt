@@ -8,7 +8,7 @@ pub mod Sound
 -- Steps: the audit's walk through a tree of pages
 pub mod Walk
 -- Steps: the audit's test
-pub mod Rule
+pub mod AuditTest
 -- Laws: the entries of a page, and the search in it
 pub mod ReadingLaws
 -- Laws: the pages and pairs of a sound index, and the order of its tree

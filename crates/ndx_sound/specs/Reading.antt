@@ -6,8 +6,8 @@ use mathlib.Core.List.{List, [], _∷_, _++_, map}
 use mathlib.Core.Option.{Option, none, some}
 use Rattle.tree.specs.Tree.{Tree, pairs}
 use Rattle.tree.specs.Store.{readTree}
-use Rattle.ndx.specs.Header.{pageCount, keysPerPage, rootPage, isPage}
-use Rattle.ndx.specs.Page.{countAt, lowerAt, recordAt, keyAt, isLeaf}
+use Rattle.ndx_page.specs.Header.{pageCount, keysPerPage, rootPage, isPage}
+use Rattle.ndx_page.specs.Page.{countAt, lowerAt, recordAt, keyAt, isLeaf}
 
 -- the key over an entry: none where there is none
 abbrev pub Key : Type 0

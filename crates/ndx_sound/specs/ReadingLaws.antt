@@ -12,11 +12,11 @@ use Rattle.basis.specs.Tests.{either}
 use Rattle.octets.specs.Order.{bytesLe}
 use Rattle.tree.specs.Pairs.{seek}
 use Rattle.tree.specs.Top.{top, keyed}
-use Rattle.page.specs.Page.{firstAtOrAbove}
-use Rattle.page.specs.PageLaws.{first-end, first-here, first-later}
-use Rattle.page.specs.KeyOrder.{bytesOrder}
-use Rattle.ndx.specs.Header.{pageCount, keysPerPage, isPage}
-use Rattle.ndx.specs.Page.{countAt, isLeaf}
+use Rattle.idx_page.specs.Page.{firstAtOrAbove}
+use Rattle.idx_page.specs.PageLaws.{first-end, first-here, first-later}
+use Rattle.idx_page.specs.KeyOrder.{bytesOrder}
+use Rattle.ndx_page.specs.Header.{pageCount, keysPerPage, isPage}
+use Rattle.ndx_page.specs.Page.{countAt, isLeaf}
 use Rattle.ndx_sound.specs.Reading.{Entries, entriesFrom, leafEntries, branchEntries, entriesAt, bare}
 
 module _ (keys : ℕ → List ℕ) (numbers : ℕ → ℕ) where

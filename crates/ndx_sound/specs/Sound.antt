@@ -12,9 +12,9 @@ use Rattle.tree.specs.Tree.{pages, level}
 use Rattle.tree.specs.Keeping.{distinctKeys}
 use Rattle.tree.specs.Clauses.{least, Ceilings}
 use Rattle.tree.specs.Top.{top}
-use Rattle.page.specs.KeyOrder.{bytesOrder}
-use Rattle.ndx.specs.Header.{maxLevels, pageCount, keysPerPage, isPage, headerGood}
-use Rattle.ndx.specs.Page.{countAt, lowerAt, isLeaf}
+use Rattle.idx_page.specs.KeyOrder.{bytesOrder}
+use Rattle.ndx_page.specs.Header.{maxLevels, pageCount, keysPerPage, isPage, headerGood}
+use Rattle.ndx_page.specs.Page.{countAt, lowerAt, isLeaf}
 use Rattle.ndx_sound.specs.Reading.{indexTree, leafPairs}
 
 -- the pages reached from the root, h levels under it

@@ -22,9 +22,9 @@ use Rattle.tree.specs.Ordered.{Ordered}
 use Rattle.tree.specs.Top.{top, keyed}
 use Rattle.tree.specs.Levels.{generation, numbers, all-of-map, all-to-concat, Counted, generation-below, pages-generation, level-generation}
 use Rattle.tree.specs.Levels.{generation-sized, tree-pairs}
-use Rattle.page.specs.KeyOrder.{bytesOrder}
-use Rattle.ndx.specs.Header.{rootPage, pageCount, keysPerPage, isPage}
-use Rattle.ndx.specs.Page.{countAt, lowerAt, recordAt, keyAt, isLeaf}
+use Rattle.idx_page.specs.KeyOrder.{bytesOrder}
+use Rattle.ndx_page.specs.Header.{rootPage, pageCount, keysPerPage, isPage}
+use Rattle.ndx_page.specs.Page.{countAt, lowerAt, recordAt, keyAt, isLeaf}
 use Rattle.ndx_sound.specs.Reading.{Key, Entries, leafEntries, entriesAt, indexTree, bare, leafPairs}
 use Rattle.ndx_sound.specs.ReadingLaws.{length-from, from-keyed, leaf-entries, branch-entries}
 use Rattle.ndx_sound.specs.Sound.{CountGood, Sound}

@@ -20,7 +20,7 @@ use Rattle.tree.specs.Keeping.{distinctKeys}
 use Rattle.tree.specs.KeepingLaws.{ascending-last}
 use Rattle.tree.specs.Tree.{pairsUnder, pairs, pagesUnder, pages}
 use Rattle.tree.specs.Ordered.{Separated, OrderedUnder, separated-ordered}
-use Rattle.tree.specs.InsertOrdered.{separated-nonEmpty}
+use Rattle.tree.specs.Insertion.Ordered.{separated-nonEmpty}
 use Rattle.tree.specs.Store.{Store, readEntry, readTree}
 use Rattle.tree.specs.Levels.{join-map}
 use Rattle.ndx_sound.specs.Walk.{Status, tested, ifGood, over, isAfter, atMost, item, items, passed, under, enter, walk}
@@ -298,7 +298,8 @@ module _ {K : Type 0} (O : Order K) (most : ℕ) where
 
     -- entries read as the tree's
     pub separated-read : (h : ℕ) → ((e : K × ℕ) → Good h e → OrderedUnder (distinctKeys O) h (readEntry S h e)) → (es : List (K × ℕ))
-        → Separated (distinctKeys O) (Good h) (λ d. pairsUnder h (readEntry S h d)) es → Separated (distinctKeys O) (OrderedUnder (distinctKeys O) h) (pairsUnder h) (map (readEntry S h) es)
+        → Separated (distinctKeys O) (Good h) (λ d. pairsUnder h (readEntry S h d)) es
+        → Separated (distinctKeys O) (OrderedUnder (distinctKeys O) h) (pairsUnder h) (map (readEntry S h) es)
     separated-read h ok [] c = tt
     separated-read h ok (e ∷ es) c = (
       record {

@@ -1,11 +1,12 @@
 -- Rules: what a numeric text means, with K4's dropped zero. `readNumber` is what `read_number` answers, in document 01's order: 6, empty, 16, 17, 18, the
 -- value. Cited by `read_number`.
 use Prim.Native.Nat.{ℕ, zero, suc}
-use mathlib.Core.Bool.{Bool, true, false, _&&_, _||_, not}
+use mathlib.Core.Bool.{Bool, true, false, _&&_, _||_, not, cond}
 use mathlib.Core.List.{List, [], _∷_, _++_}
 use lib.Dec.{eqb, leb}
 use lib.ListN.{length}
 use lib.IntN.{ℤ, pos, negℤ}
+use Rattle.refusal.specs.Checks.{unless}
 use Rattle.octets.specs.Text.{every, blank, unpadded, zeroDigit, isDigit, numberOf}
 use Rattle.numeral.specs.Format.{formatGood, maxDigits, comma, minus, point}
 use Rattle.numeral.specs.declared.Number.{Number}
@@ -92,22 +93,13 @@ valueOf s = signed (hasMinus (unpadded s)) (numberOf (digits (withoutMinus (unpa
 unfoldable pub digitCount : List ℕ → ℕ
 digitCount s = length (digits (withoutMinus (unpadded s)))
 
--- what a text means in a field of the text's length, with d decimals
+-- "Order on reading: 6, 16, 17, 18": the checks of a text that is not blank
+unfoldable pub numberChecks : List ℕ → ℕ → List (Bool × ℕ)
+numberChecks s d = (not (some (eqb comma) s), 16) ∷ (textGood s d, 17) ∷ (leb (digitCount s) maxDigits, 18) ∷ []
+
+-- what a text means in a field of the text's length, with d decimals: 6 before all else, and then "all blanks is empty"
 unfoldable pub readNumber : List ℕ → ℕ → Number
 readNumber s d =
-    elim (formatGood (length s) d) [
-      | false ↦ Refused 6
-      | true ↦ elim (every (eqb blank) s) [
-        | true ↦ Empty
-        | false ↦ elim (some (eqb comma) s) [
-          | true ↦ Refused 16
-          | false ↦ elim (textGood s d) [
-            | false ↦ Refused 17
-            | true ↦ elim (leb (digitCount s) maxDigits) [
-              | false ↦ Refused 18
-              | true ↦ Value (valueOf s)
-            ]
-          ]
-        ]
-      ]
-    ]
+    unless ((formatGood (length s) d, 6) ∷ []) Refused
+    (cond (every (eqb blank) s) Empty
+    (unless (numberChecks s d) Refused (Value (valueOf s))))

@@ -13,9 +13,10 @@ use Rattle.basis.specs.Tests.{either, contra, both, join}
 use Rattle.octets.specs.Text.{every, blank, zeroDigit, isDigit, numberFrom, numberOf}
 use Rattle.octets.specs.TextLaws.{digit-range, every-append}
 use Rattle.octets.specs.DigitLaws.{ten-pos, number-least, number-bound}
+use Rattle.refusal.specs.Checks.{unless}
 use Rattle.numeral.specs.Format.{formatGood, maxWidth, maxDecimals, maxDigits, comma, point}
 use Rattle.numeral.specs.Reading.{some, after, front, wholeGood, fractionGood, wholePart, fraction, withoutPoint, digits, textGood, valueOf, digitCount}
-use Rattle.numeral.specs.Reading.{wholeMissing, zeroDropped, wholeAccepted, readNumber}
+use Rattle.numeral.specs.Reading.{wholeMissing, zeroDropped, wholeAccepted, numberChecks, readNumber}
 use Rattle.numeral.specs.declared.Number.the-variants.{Value, Empty, Refused}
 
 -- a good format has at most 15 decimals
@@ -187,8 +188,8 @@ count-number d (c ∷ s) h e = either (isDigit c)
 
 -- 6 comes before all else
 pub refused-6 : (s : List ℕ) (d : ℕ) → formatGood (length s) d ≡ false → readNumber s d ≡ Refused 6
-unfolding readNumber
-refused-6 s d e = rw (e, readNumber)
+unfolding readNumber unless
+refused-6 s d e = rw e
 
 -- 16 is given exactly if a text of a good format has a comma
 comma-no-blank : (s : List ℕ) → some (eqb comma) s ≡ true → every (eqb blank) s ≡ false
@@ -201,18 +202,18 @@ comma-no-blank (c ∷ s) e = either (eqb blank c)
     (λ f. rw f)
 
 only-16 : (s : List ℕ) (d : ℕ) → formatGood (length s) d ≡ true → readNumber s d ≡ Refused 16 → some (eqb comma) s ≡ true
-unfolding readNumber
+unfolding readNumber numberChecks unless
 only-16 s d e h = either (some (eqb comma) s) (λ g. g) (λ g. either (every (eqb blank) s)
-    (λ f. let r : readNumber s d ≡ Empty = rw (e, f, readNumber) in cc)
+    (λ f. let r : readNumber s d ≡ Empty = rw (e, f) in cc)
     (λ f. either (textGood s d)
     (λ t. either (leb (digitCount s) maxDigits)
-    (λ l. let r : readNumber s d ≡ Value (valueOf s) = rw (e, f, g, t, l, readNumber) in cc)
-    (λ l. let r : readNumber s d ≡ Refused 18 = rw (e, f, g, t, l, readNumber) in cc))
-    (λ t. let r : readNumber s d ≡ Refused 17 = rw (e, f, g, t, readNumber) in cc)))
+    (λ l. let r : readNumber s d ≡ Value (valueOf s) = rw (e, f, g, t, l) in cc)
+    (λ l. let r : readNumber s d ≡ Refused 18 = rw (e, f, g, t, l) in cc))
+    (λ t. let r : readNumber s d ≡ Refused 17 = rw (e, f, g, t) in cc)))
 
 pub refused-16 : (s : List ℕ) (d : ℕ) → (readNumber s d ≡ Refused 16) ↔ ((formatGood (length s) d ≡ true) × (some (eqb comma) s ≡ true))
-unfolding readNumber
+unfolding readNumber numberChecks unless
 refused-16 s d = (
   λ h. either (formatGood (length s) d) (λ e. (e, only-16 s d e h)) (λ e. let r = refused-6 s d e in (cc, cc)),
-  λ e. rw (e .0, comma-no-blank s (e .1), e .1, readNumber),
+  λ e. rw (e .0, comma-no-blank s (e .1), e .1),
 )

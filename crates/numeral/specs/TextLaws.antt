@@ -16,15 +16,17 @@ use Rattle.octets.specs.Text.{every, blank, unpadded, zeroDigit, decimalFrom, d
 use Rattle.octets.specs.TextLaws.{unpadded-short}
 use Rattle.numeral.specs.Format.{maxDigits, formatGood, comma}
 use Rattle.numeral.specs.Reading.{some, digits}
-use Rattle.numeral.specs.Reading.{wholeMissing, textGood, valueOf, digitCount, readNumber}
+use Rattle.numeral.specs.Reading.{wholeMissing, textGood, valueOf, digitCount, numberChecks, readNumber}
 use Rattle.numeral.specs.ReadingLaws.{format-decimals}
-use Rattle.numeral.specs.Writing.{fractionText, signText, numberText, shortText, written, Fits, Short, TextOf, afterWrite, writeNumber}
+use Rattle.refusal.specs.After.{left}
+use Rattle.refusal.specs.Checks.{unless}
+use Rattle.refusal.specs.declared.Change.the-variants as change
+use Rattle.numeral.specs.Writing.{fractionText, signText, numberText, shortText, written, Fits, Short, TextOf, writeNumber}
 use Rattle.numeral.specs.GrammarLaws.{unsigned, short-small, good-text, good-count, Passes, text-passes, full-whole, short-whole, written-unpadded}
 use Rattle.numeral.specs.GrammarLaws.{unpadded-written}
 use Rattle.numeral.specs.WritingLaws.{fits-length, refused-width, written-exactly}
 use Rattle.numeral.specs.declared.Number.{Number}
 use Rattle.numeral.specs.declared.Number.the-variants.{Value, Empty, Refused}
-use Rattle.numeral.specs.declared.Writing.the-variants as writing
 
 -- ---- the reader's answers
 
@@ -37,18 +39,18 @@ by-answer : {X : Type 0} (s : List ℕ) (d : ℕ)
     → (formatGood (length s) d ≡ true → textGood s d ≡ true → leb (digitCount s) maxDigits ≡ false → readNumber s d ≡ Refused 18 → X)
     → (formatGood (length s) d ≡ true → textGood s d ≡ true → leb (digitCount s) maxDigits ≡ true → readNumber s d ≡ Value (valueOf s) → X)
     → X
-unfolding readNumber
+unfolding readNumber numberChecks unless
 by-answer s d a b c e f g = either (formatGood (length s) d)
     (λ p. either (every (eqb blank) s)
-    (λ q. b (rw (p, readNumber, q)))
+    (λ q. b (rw (p, q)))
     (λ q. either (some (eqb comma) s)
-    (λ r. c (rw (p, readNumber, q, r)))
+    (λ r. c (rw (p, q, r)))
     (λ r. either (textGood s d)
     (λ t. either (leb (digitCount s) maxDigits)
-    (λ u. g p t u (rw (p, readNumber, q, r, t, u)))
-    (λ u. f p t u (rw (p, readNumber, q, r, t, u))))
-    (λ t. e (rw (p, readNumber, q, r, t))))))
-    (λ p. a (rw (p, readNumber)))
+    (λ u. g p t u (rw (p, q, r, t, u)))
+    (λ u. f p t u (rw (p, q, r, t, u))))
+    (λ t. e (rw (p, q, r, t))))))
+    (λ p. a (rw p))
 
 -- a text of a value of at most 18 digits, and of more
 module _ (s : List ℕ) (d : ℕ) (v : ℤ) (f : formatGood (length s) d ≡ true) (t : Passes s d v) where
@@ -56,12 +58,12 @@ module _ (s : List ℕ) (d : ℕ) (v : ℤ) (f : formatGood (length s) d ≡ tru
   count-value = rw (← t .value) (good-count s d (t .good) (format-decimals (length s) d f))
 
   read-few : natAbs v < 10 ^ maxDigits → readNumber s d ≡ Value v
-  unfolding readNumber
-  read-few l = rw (f, readNumber, t .shown, t .plain, t .good, count-value, lt-ltb (natAbs v) (10 ^ maxDigits) l, t .value)
+  unfolding readNumber numberChecks unless
+  read-few l = rw (f, t .shown, t .plain, t .good, count-value, lt-ltb (natAbs v) (10 ^ maxDigits) l, t .value)
 
   read-many : 10 ^ maxDigits ≤ natAbs v → readNumber s d ≡ Refused 18
-  unfolding readNumber
-  read-many l = rw (f, readNumber, t .shown, t .plain, t .good, count-value, le-ltb (natAbs v) (10 ^ maxDigits) l)
+  unfolding readNumber numberChecks unless
+  read-many l = rw (f, t .shown, t .plain, t .good, count-value, le-ltb (natAbs v) (10 ^ maxDigits) l)
 
 -- two answers that differ
 not-value : {X : Type 0} {r : Number} {n : ℕ} {v : ℤ} → r ≡ Refused n → r ≡ Value v → X
@@ -124,7 +126,7 @@ some-text width d v f =
     (l, accepted (written width d v) d v .1 (rw l (f .format), f .small, inl (written-unpadded width d v)))
 
 -- "reading what was written gives the value"
-pub read-back : (s t : List ℕ) (d : ℕ) (v : ℤ) → writeNumber s d v ≡ afterWrite t writing.Written → readNumber t d ≡ Value v
+pub read-back : (s t : List ℕ) (d : ℕ) (v : ℤ) → writeNumber s d v ≡ left t change.Made → readNumber t d ≡ Value v
 read-back s t d v h =
     let w = written-exactly s t d v .0 h in
     rw (w .1) (some-text (length s) d v (w .0) .1)
@@ -160,14 +162,14 @@ value-fits s d v h w =
     record { format = a .0; small = a .1; room = omega (arith, unpadded-short s) }
 
 pub write-back : (s t : List ℕ) (d : ℕ) (v : ℤ) → length s ≡ length t → readNumber t d ≡ Value v → wholeMissing (unsigned t) ≡ false
-    → writeNumber s d v ≡ afterWrite t writing.Written
+    → writeNumber s d v ≡ left t change.Made
 write-back s t d v l h w =
     written-exactly s t d v .1 (rw l (value-fits t d v h w), rw l (unpadded-written t d v (whole-there t d v h w)))
 
 -- the value of a text without one is written with its zero if there is a blank for it; otherwise "`-.150` in width 5 is read but can't be written back (19)"
 pub zero-back : (s t : List ℕ) (d : ℕ) (v : ℤ) → length s ≡ length t → readNumber t d ≡ Value v → wholeMissing (unsigned t) ≡ true
-    → (length (unpadded t) < length t → writeNumber s d v ≡ afterWrite (written (length s) d v) writing.Written)
-    × (length (unpadded t) ≡ length t → writeNumber s d v ≡ afterWrite s (writing.Refused 19))
+    → (length (unpadded t) < length t → writeNumber s d v ≡ left (written (length s) d v) change.Made)
+    × (length (unpadded t) ≡ length t → writeNumber s d v ≡ left s (change.Refused 19))
 unfolding shortText
 zero-back s t d v l h w =
     let a = accepted t d v .0 h in

@@ -2,16 +2,16 @@
 -- order: 6, 18, 19. Cited by `write_number`; `TextOf` by demand 2's laws.
 use Prim.Native.Nat.{ℕ, zero, suc, _-_, _/_, _^_, _≤_, _<_}
 use mathlib.Core.Path.{_≡_}
-use mathlib.Core.Bool.{true, false}
+use mathlib.Core.Bool.{Bool, true}
 use mathlib.Core.List.{List, [], _∷_, _++_}
 use mathlib.Core.Logic.{_⊎_}
 use lib.Dec.{leb, ltb}
 use lib.ListN.{length, replicate}
 use lib.IntN.{ℤ, pos, negsuc, natAbs}
+use Rattle.refusal.specs.After.{After, madeUnless}
+use Rattle.refusal.specs.declared.Change.{Change}
 use Rattle.octets.specs.Text.{blank, lastDigits, decimal}
 use Rattle.numeral.specs.Format.{formatGood, maxDigits, minus, point}
-use Rattle.numeral.specs.declared.Writing.{Writing}
-use Rattle.numeral.specs.declared.Writing.the-variants.{Written, Refused}
 
 -- "where decimals d > 0, a point and exactly d digits"
 unfoldable pub fractionText : ℕ → ℕ → List ℕ
@@ -55,24 +55,14 @@ pub record Short (d : ℕ) (v : ℤ) : Type 0 where
 abbrev pub TextOf : ℕ → ℤ → List ℕ → Type 0
 TextOf d v t = (t ≡ numberText d v) ⊎ (Short d v × (t ≡ shortText d v))
 
--- a buffer after a write, and the answer
-pub record AfterWrite : Type 0 where
-  pub after : List ℕ
-  pub answer : Writing
+-- the writer's "order: 6, 18, 19": the length of the buffer s is the width
+unfoldable pub writeChecks : List ℕ → ℕ → ℤ → List (Bool × ℕ)
+writeChecks s d v =
+    (formatGood (length s) d, 6)
+    ∷ (ltb (natAbs v) (10 ^ maxDigits), 18)
+    ∷ (leb (length (numberText d v)) (length s), 19)
+    ∷ []
 
-abbrev pub afterWrite : List ℕ → Writing → AfterWrite
-afterWrite s a = record { after = s; answer = a }
-
--- what a write of v into the buffer s leaves and answers: the length of s is the width, and a refusal leaves s as it was
-unfoldable pub writeNumber : List ℕ → ℕ → ℤ → AfterWrite
-writeNumber s d v =
-    elim (formatGood (length s) d) [
-      | false ↦ afterWrite s (Refused 6)
-      | true ↦ elim (ltb (natAbs v) (10 ^ maxDigits)) [
-        | false ↦ afterWrite s (Refused 18)
-        | true ↦ elim (leb (length (numberText d v)) (length s)) [
-          | false ↦ afterWrite s (Refused 19)
-          | true ↦ afterWrite (written (length s) d v) Written
-        ]
-      ]
-    ]
+-- what a write of v into the buffer s leaves and answers: a refusal leaves s as it was
+unfoldable pub writeNumber : List ℕ → ℕ → ℤ → After Change
+writeNumber s d v = madeUnless (writeChecks s d v) (written (length s) d v) s

@@ -6,19 +6,21 @@ use mathlib.Core.Logic.{_↔_}
 use Prim.Native.Nat.{ℕ, zero, suc, _+_, _-_, _/_, _%_, _^_, _≤_, _<_}
 use native.Mathlib.Nat.{zero-add, sub-zero, add-sub-cancel-left, pow-suc, div-div-eq-div-mul}
 use native.Mathlib.Omega.{arith}
-use lib.Dec.{leb, ltb}
 use lib.IntN.{ℤ, pos, negsuc, natAbs}
 use lib.ListN.{length, length-append, length-replicate, replicate, set}
 use lib.Signed.{ltZ}
-use borrow.Author.Tests.{ltb-true, ltb-false, lt-ltb, le-ltb, leb-true, leb-false, le-leb, lt-leb}
-use Rattle.basis.specs.Tests.{either, contra, impossible}
+use borrow.Author.Tests.{ltb-true, lt-ltb, le-ltb, leb-true, le-leb, lt-leb}
+use Rattle.basis.specs.Tests.{contra}
+use Rattle.refusal.specs.After.{After, left}
+use Rattle.refusal.specs.AfterLaws.{made-none, made-at, made-accepted}
+use Rattle.refusal.specs.declared.Change.{Change}
+use Rattle.refusal.specs.declared.Change.the-variants.{Made, Refused}
 use Rattle.octets.specs.Store.{put}
 use Rattle.octets.specs.StoreLaws.{put-cons, put-append, put-comm}
 use Rattle.octets.specs.Text.{blank, zeroDigit, lastDigits, decimal}
 use Rattle.octets.specs.DigitLaws.{decimal-last, lastDigits-front, length-lastDigits}
 use Rattle.numeral.specs.Format.{maxDigits, formatGood, minus, point}
-use Rattle.numeral.specs.Writing.{fractionText, signText, numberText, written, Fits, AfterWrite, afterWrite, writeNumber}
-use Rattle.numeral.specs.declared.Writing.the-variants.{Written, Refused}
+use Rattle.numeral.specs.Writing.{fractionText, signText, numberText, written, Fits, writeChecks, writeNumber}
 
 -- ---- the parts of a value's text
 
@@ -106,44 +108,39 @@ written-stores s d v at h =
 -- ---- the writer's answers, in their order
 
 module _ (s : List ℕ) (d : ℕ) (v : ℤ) where
-  pub refused-format : formatGood (length s) d ≡ false → writeNumber s d v ≡ afterWrite s (Refused 6)
-  unfolding writeNumber
-  refused-format e = rw (e, writeNumber)
+  pub refused-format : formatGood (length s) d ≡ false → writeNumber s d v ≡ left s (Refused 6)
+  unfolding writeNumber writeChecks
+  refused-format e = made-at (written (length s) d v) s 0 (writeChecks s d v) tt e
 
-  pub refused-digits : formatGood (length s) d ≡ true → 10 ^ maxDigits ≤ natAbs v → writeNumber s d v ≡ afterWrite s (Refused 18)
-  unfolding writeNumber
-  refused-digits e l = rw (e, writeNumber, le-ltb (natAbs v) (10 ^ maxDigits) l)
+  pub refused-digits : formatGood (length s) d ≡ true → 10 ^ maxDigits ≤ natAbs v → writeNumber s d v ≡ left s (Refused 18)
+  unfolding writeNumber writeChecks
+  refused-digits e l = made-at (written (length s) d v) s 1 (writeChecks s d v) (e, tt) (le-ltb (natAbs v) (10 ^ maxDigits) l)
 
   pub refused-width : formatGood (length s) d ≡ true → natAbs v < 10 ^ maxDigits → length s < length (numberText d v)
-      → writeNumber s d v ≡ afterWrite s (Refused 19)
-  unfolding writeNumber
-  refused-width e l m = rw (e, writeNumber, lt-ltb (natAbs v) (10 ^ maxDigits) l, lt-leb (length (numberText d v)) (length s) m)
+      → writeNumber s d v ≡ left s (Refused 19)
+  unfolding writeNumber writeChecks
+  refused-width e l m =
+      made-at (written (length s) d v) s 2 (writeChecks s d v) (e, (lt-ltb (natAbs v) (10 ^ maxDigits) l, tt))
+      (lt-leb (length (numberText d v)) (length s) m)
 
-  written-good : formatGood (length s) d ≡ true → natAbs v < 10 ^ maxDigits → length (numberText d v) ≤ length s
-      → writeNumber s d v ≡ afterWrite (written (length s) d v) Written
-  unfolding writeNumber
-  written-good e l m = rw (e, writeNumber, lt-ltb (natAbs v) (10 ^ maxDigits) l, le-leb (length (numberText d v)) (length s) m)
+  written-good : Fits (length s) d v → writeNumber s d v ≡ left (written (length s) d v) Made
+  unfolding writeNumber writeChecks
+  written-good f =
+      made-none (written (length s) d v) s (writeChecks s d v)
+      (f .format, (lt-ltb (natAbs v) (10 ^ maxDigits) (f .small), (le-leb (length (numberText d v)) (length s) (f .room), tt)))
 
 -- a value is written exactly if it fits, and the buffer is then its text
-no-write : {X : Type 0} {l : AfterWrite} {s t : List ℕ} {n : ℕ} → l ≡ afterWrite s (Refused n) → l ≡ afterWrite t Written → X
-no-write {l} {s} {t} {n} p q =
-    let r : Refused n ≡ Written = sym (ap (λ (l : AfterWrite). l .answer) p) ∙ ap (λ (l : AfterWrite). l .answer) q in
-    impossible (cc)
-
 pub written-exactly : (s t : List ℕ) (d : ℕ) (v : ℤ)
-    → (writeNumber s d v ≡ afterWrite t Written) ↔ (Fits (length s) d v × (t ≡ written (length s) d v))
+    → (writeNumber s d v ≡ left t Made) ↔ (Fits (length s) d v × (t ≡ written (length s) d v))
+unfolding writeNumber writeChecks
 written-exactly s t d v = (
-  (λ h. either (formatGood (length s) d)
-      (λ f. either (ltb (natAbs v) (10 ^ maxDigits))
-      (λ m. either (leb (length (numberText d v)) (length s))
-      (λ l.
-      let small = ltb-true _ _ m in
-      let room = leb-true _ _ l in
-      (record { format = f; small = small; room = room }, ap (λ (l : AfterWrite). l .after) (sym h ∙ written-good s d v f small room)))
-      (λ l. no-write (refused-width s d v f (ltb-true _ _ m) (leb-false _ _ l)) h))
-      (λ m. no-write (refused-digits s d v f (ltb-false _ _ m)) h))
-      (λ f. no-write (refused-format s d v f) h)),
-  (λ h. written-good s d v (h .0 .format) (h .0 .small) (h .0 .room) ∙ ap (λ (b : List ℕ). afterWrite b Written) (sym (h .1))),
+  (λ h.
+      let done = made-accepted (written (length s) d v) s (writeChecks s d v) (ap (λ (l : After Change). l .answer) h) in
+      let held = done .held in (
+        record { format = held .0; small = ltb-true _ _ (held .1 .0); room = leb-true _ _ (held .1 .1 .0) },
+        sym (ap (λ (l : After Change). l .after) h) ∙ done .leaves,
+      )),
+  (λ h. written-good s d v (h .0) ∙ ap (λ (b : List ℕ). left b Made) (sym (h .1))),
 )
 
 -- what the writer knows before it compares the widths: the magnitude of v, and the lengths of the text's three parts
@@ -159,7 +156,7 @@ module _ (s : List ℕ) (d : ℕ) (v : ℤ) (n sign count tail : ℕ) (m : Measu
   size : length (numberText d v) ≡ sign + count + tail
   size = rw (length-number d v, ← m .magnitude, m .the-sign, m .the-whole, m .the-fraction)
 
-  pub measured-refused : length s < sign + count + tail → writeNumber s d v ≡ afterWrite s (Refused 19)
+  pub measured-refused : length s < sign + count + tail → writeNumber s d v ≡ left s (Refused 19)
   measured-refused h = refused-width s d v (m .format) (rw (m .magnitude) at (m .small)) (rw size h)
 
   -- the four stores, each on the buffer that the last one left
@@ -168,9 +165,9 @@ module _ (s : List ℕ) (d : ℕ) (v : ℤ) (n sign count tail : ℕ) (m : Measu
       → b₂ ≡ put b₁ (at + sign) (lastDigits count whole)
       → b₃ ≡ put b₂ at (replicate (at + sign - at) minus)
       → b₄ ≡ put b₃ 0 (replicate (at - 0) blank)
-      → writeNumber s d v ≡ afterWrite b₄ Written
+      → writeNumber s d v ≡ left b₄ Made
   measured-written at whole h w e₁ e₂ e₃ e₄ =
       let minuses : replicate (at + sign - at) minus ≡ signText v = rw (add-sub-cancel-left, m .the-sign) (sign-fill v) in
       let stored = written-stores s d v at (rw size h) in
-      written-good s d v (m .format) (rw (m .magnitude) at (m .small)) (rw size (omega arith))
-      ∙ ap (λ (b : List ℕ). afterWrite b Written) (stored ∙ rw (e₄, e₃, e₂, e₁, minuses, sub-zero, w, m .the-whole, m .the-sign, m .magnitude, ← decimal-last))
+      written-good s d v (record { format = m .format; small = rw (m .magnitude) at (m .small); room = rw size (omega arith) })
+      ∙ ap (λ (b : List ℕ). left b Made) (stored ∙ rw (e₄, e₃, e₂, e₁, minuses, sub-zero, w, m .the-whole, m .the-sign, m .magnitude, ← decimal-last))

@@ -1,4 +1,4 @@
-// The text of an N field: its format, and the answers of reading and writing it.
+// The text of an N field: its format, and the answer of reading it.
 ghost use mathlib.Core.Path.{_≡_};
 ghost use Prim.Native.Nat.{_+_, _<_};
 ghost use Rattle.numeral.specs.Format.{formatGood};
@@ -15,12 +15,6 @@ pub const PAST_DIGITS: u64 = 1000000000000000000;
 pub enum Number {
     Value(i64),
     Empty,
-    Refused(u32),
-}
-
-// What a write answers.
-pub enum Writing {
-    Written,
     Refused(u32),
 }
 

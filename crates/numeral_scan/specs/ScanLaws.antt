@@ -13,9 +13,10 @@ use borrow.Author.Tests.{ltb-true, ltb-false, eqb-true, le-leb, le-ltb, ne-eqb}
 use Rattle.basis.specs.Tests.{either, contra, both}
 use Rattle.octets.specs.Text.{every, blank, unpadded, zeroDigit, isDigit, numberFrom, numberOf}
 use Rattle.octets.specs.TextLaws.{digit-range}
+use Rattle.refusal.specs.Checks.{unless}
 use Rattle.numeral.specs.Format.{formatGood, maxDigits, comma, minus, point}
 use Rattle.numeral.specs.Reading.{some, after, front, hasMinus, withoutMinus, wholeGood, fractionGood, wholePart, fraction, withoutPoint, digits}
-use Rattle.numeral.specs.Reading.{wholeMissing, zeroDropped, wholeAccepted, textGood, valueOf, digitCount, readNumber, signed}
+use Rattle.numeral.specs.Reading.{wholeMissing, zeroDropped, wholeAccepted, textGood, valueOf, digitCount, numberChecks, readNumber, signed}
 use Rattle.numeral.specs.ReadingLaws.{format-decimals, no-comma, front-more, front-ends, after-more, after-ends, every-front, zero-whole}
 use Rattle.numeral.specs.ReadingLaws.{zero-needless, digits-whole, fraction-empty, fraction-point, digit-first, missing-digits, missing-good}
 use Rattle.numeral.specs.ReadingLaws.{count-number}
@@ -253,23 +254,20 @@ module _ (d : ℕ) where
 -- the paper's order at the end: 17 for the shape or minus zero, 18 for more than 18 digits, the value
 settled-is : (good n : Bool) (m count : ℕ) → (good ≡ true → leb count maxDigits ≡ ltb m (10 ^ maxDigits))
     → settled good n m
-    ≡ elim (good && not (n && eqb m 0)) [
-      | false ↦ number.Refused 17
-      | true ↦ elim (leb count maxDigits) [ false ↦ number.Refused 18 | true ↦ number.Value (signed n m) ]
-    ]
-unfolding settled
+    ≡ unless ((good && not (n && eqb m 0), 17) ∷ (leb count maxDigits, 18) ∷ []) number.Refused (number.Value (signed n m))
+unfolding settled unless
 settled-is false n m count h = refl
 settled-is true n m count h = either (n && eqb m 0)
     (λ e. rw e)
     (λ e. rw (e, h refl) (either (ltb m (10 ^ maxDigits)) (λ f. rw f) (λ f. rw f)))
 
 pub scan-means : (s : List ℕ) (d : ℕ) → formatGood (length s) d ≡ true → meaning (scan (initial d) s) ≡ readNumber s d
-unfolding readNumber textGood valueOf digitCount
+unfolding readNumber numberChecks unless textGood valueOf digitCount
 scan-means s d e = either (every (eqb blank) s)
-    (λ f. rw (e, f, readNumber) (blanks-mean d s f))
+    (λ f. rw (e, f) (blanks-mean d s f))
     (λ f. either (some (eqb comma) s)
-    (λ g. rw (e, f, g, readNumber) (comma-means s (initial d) g))
-    (λ g. rw (e, f, g, readNumber)
+    (λ g. rw (e, f, g) (comma-means s (initial d) g))
+    (λ g. rw (e, f, g)
     (text-means d s f g ∙ settled-is _ _ _ (digitCount s) (count-number d (withoutMinus (unpadded s)) (format-decimals (length s) d e)))))
 
 -- the characters are taken one after another, from the first on

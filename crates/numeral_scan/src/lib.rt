@@ -8,7 +8,8 @@ ghost use lib.ListN.{drop};
 ghost use Rattle.octets.specs.Text.{isDigit};
 ghost use Rattle.numeral.specs.Format.{maxDigits};
 ghost use Rattle.numeral.specs.Reading.{signed};
-ghost use Rattle.numeral_scan.specs.Scan.{initial, refusedAt, firstDigit, isPoint, wholeEnd, wholeStart, nextPlace, nextZero, nextValue, inPhase, withDigit};
+ghost use Rattle.numeral_scan.specs.Scan.{initial, refusedAt, firstDigit, isPoint, wholeEnd, wholeStart};
+ghost use Rattle.numeral_scan.specs.Scan.{nextPlace, nextZero, nextValue, inPhase, withDigit};
 ghost use Rattle.numeral_scan.specs.Scan.{afterSign, afterBlanks, afterWhole, afterPoint, afterDropped, step, scan, settled, meaning};
 
 // Where the reader stands in a text: among the blanks, after the minus, after a zero that begins the whole part, among a whole part that begins

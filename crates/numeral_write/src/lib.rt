@@ -1,13 +1,14 @@
 // Writes numeric text.
-use numeral::Writing;
+use refusal::Change;
 ghost use mathlib.Core.Path.{_≡_};
 ghost use Prim.Native.Nat.{ℕ, _+_, _≤_, _<_, _/_, _^_};
 ghost use lib.IntN.{natAbs};
 ghost use lib.ListN.{length};
+ghost use Rattle.refusal.specs.After.{left};
 ghost use Rattle.octets.specs.Store.{put};
 ghost use Rattle.octets.specs.Text.{lastDigits, decimal};
 ghost use Rattle.numeral.specs.Format.{maxWidth, maxDecimals, maxDigits};
-ghost use Rattle.numeral.specs.Writing.{fractionText, signText, afterWrite, writeNumber};
+ghost use Rattle.numeral.specs.Writing.{fractionText, signText, writeNumber};
 
 // The magnitude of v, which may be the least value of 64 bits.
 fn magnitude(v: i64) -> u64
@@ -75,23 +76,23 @@ fn put_fraction(text: &mut [u8], at: usize, places: usize, n: u64) -> u64
 
 // Writes the one written text of a value, blanks on the left: the zero before the point is never dropped. The buffer's length is the field's width. A
 // refusal leaves the buffer as it was.
-pub fn write_number(text: &mut [u8], decimals: u32, value: i64) -> Writing
-    ensures { λ r. ⌜ writeNumber (now (text .entry)) decimals value ≡ afterWrite (now (text .exit)) r ⌝ }
+pub fn write_number(text: &mut [u8], decimals: u32, value: i64) -> Change
+    ensures { λ r. ⌜ writeNumber (now (text .entry)) decimals value ≡ left (now (text .exit)) r ⌝ }
 {
     let width = text.len();
     if !numeral::format_good(width, decimals) {
-        return Writing::Refused(refusal::FIELD_DESCRIPTOR);
+        return Change::Refused(refusal::FIELD_DESCRIPTOR);
     }
     let n = magnitude(value);
     if numeral::PAST_DIGITS <= n {
-        return Writing::Refused(refusal::TOO_MANY_DIGITS);
+        return Change::Refused(refusal::TOO_MANY_DIGITS);
     }
     let places = decimals as usize;
     let sign = sign_length(value);
     let count = whole_length(n, places);
     let size = sign + count + fraction_length(places);
     if width < size {
-        return Writing::Refused(refusal::DOES_NOT_FIT);
+        return Change::Refused(refusal::DOES_NOT_FIT);
     }
     // the parts from the right; the sign is a run of minuses, one or none
     let at = width - size;
@@ -99,5 +100,5 @@ pub fn write_number(text: &mut [u8], decimals: u32, value: i64) -> Writing
     put_digits(text, at + sign, count, whole);
     octets::fill(text, at, at + sign, b'-');
     octets::fill(text, 0, at, b' ');
-    Writing::Written
+    Change::Made
 }

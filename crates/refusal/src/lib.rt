@@ -1,5 +1,7 @@
 // The numbers that calls answer, each named once: the refusals of documents 01 and 02, and the C interface's answers that are no refusals. Code gives the
 // names; the rules in `specs/` give the numbers, to be held beside the papers.
+ghost use mathlib.Core.Path.{_≡_};
+ghost use Rattle.refusal.specs.After.{changeCode};
 
 // ---- The table.
 
@@ -105,6 +107,9 @@ pub const CONTROL_BYTE: u32 = 32;
 // The key to strike off is absent.
 pub const KEY_ABSENT: u32 = 33;
 
+// An empty numeric field, which has no key.
+pub const NO_KEY: u32 = 34;
+
 // ---- The dilution of a sample.
 
 // The barcode is absent from the index, or its record is deleted.
@@ -118,6 +123,11 @@ pub const TARGET_OR_VOLUME: u32 = 37;
 
 // The target is above the concentration.
 pub const TARGET_ABOVE_CONCENTRATION: u32 = 38;
+
+// ---- All records of a key.
+
+// The lent list is shorter than the records of the key.
+pub const LIST_TOO_SHORT: u32 = 39;
 
 // ---- A program's arguments.
 
@@ -134,3 +144,21 @@ pub const ABSENT: u32 = 257;
 
 // The walk has no record left.
 pub const DONE: u32 = 258;
+
+// ---- A call that writes.
+
+// Its answer: the change is made, or refused by a number, and nothing is changed.
+pub enum Change {
+    Made,
+    Refused(u32),
+}
+
+// The number of such an answer: 0, or the refusal's.
+pub fn change_code(answer: Change) -> u32
+    ensures { λ r. ⌜ r ≡ changeCode answer ⌝ }
+{
+    match answer {
+        Change::Made => 0,
+        Change::Refused(refusal) => refusal,
+    }
+}

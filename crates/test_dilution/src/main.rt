@@ -7,7 +7,7 @@ fn run<'a>(table: &'a [u8], index: &'a [u8], input_path: &'a [u8]) {
     let mut input = [0u8; 64];
     let n = files::load(input_path, &mut input).len;
     let mut out = files::space();
-    let end = sheet::sheet(table, index, &input[..n], &mut out);
+    let end = dilute_sheet::sheet(table, index, &input[..n], &mut out);
     print(&out[..end]);
 }
 

@@ -60,7 +60,7 @@ fn print_list(list: &[u32]) {
 // All records of a key, into a list that is as long as the call's room.
 fn print_records(index: &[u8], key: &[u8], list: &mut [u32]) {
     let mut count: u32 = 0;
-    let answer = records::records(index, key, list, &mut count);
+    let answer = idx_records::records(index, key, list, &mut count);
     print_part(answer);
     let n = count as usize;
     if n <= list.len() {
@@ -96,7 +96,7 @@ pub fn run_keyed(index: &mut [u8], letter: u8, call: &[u8]) {
 // An audit, a fresh index, or a call with a key, by the line's first letter.
 fn make_call(index: &mut [u8], letter: u8, call: &[u8]) {
     match letter {
-        b'a' => print_part(audit::audit(index)),
+        b'a' => print_part(idx_audit::audit(index)),
         b'f' => make_fresh(index, call),
         _ => run_keyed(index, letter, call),
     }

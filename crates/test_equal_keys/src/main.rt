@@ -78,7 +78,7 @@ fn run_damaged(index: &mut [u8], line: &[u8]) {
     lines::print(b" ");
     lines::print(word(value));
     lines::print(b" a");
-    print_part(audit::audit(index));
+    print_part(idx_audit::audit(index));
     lines::print(b" l ");
     lines::print(word(key));
     calls::run_keyed(index, b'l', key);

@@ -1,8 +1,8 @@
-// Lists of calls: lines of text are turned into bytes and run by `batch::run_batch`, and the answers are printed as the lines have them.
+// Lists of calls: lines of text are turned into bytes and run by `idx_batch::run_batch`, and the answers are printed as the lines have them.
 ghost use Prim.Native.Nat.{_≤_};
 ghost use lib.ListN.{length};
 
-// The kinds of calls of a list, as `batch` has them: a lookup;
+// The kinds of calls of a list, as `idx_batch` has them: a lookup;
 const LOOKUP: u8 = 0;
 
 // an insertion, whose record's number stands behind its key;
@@ -96,11 +96,11 @@ fn print_reply(kind: u8, answers: &[u8], n: usize, made: usize) {
         lines::print(b" not made");
         return;
     }
-    if answers.len() / batch::ANSWER_SIZE <= n {
+    if answers.len() / idx_batch::ANSWER_SIZE <= n {
         lines::print(b" not written");
         return;
     }
-    let at = batch::ANSWER_SIZE * n;
+    let at = idx_batch::ANSWER_SIZE * n;
     print_part(octets::load_le32(answers, at));
     if kind == b'l' {
         print_part(octets::load_le32(answers, at + 4));
@@ -173,11 +173,11 @@ fn run_list(text: &[u8], index: &mut [u8], answers: &mut [u8]) -> Outcome {
     let mut list = io::large_buffer();
     let n = append_all(&mut list, text);
     let k = test_lines::first_number(head);
-    let batch = batch::run_batch(index, k, 1, &expression[..e], &list[..n], answers);
+    let batch = idx_batch::run_batch(index, k, 1, &expression[..e], &list[..n], answers);
     Outcome {
         fresh: batch.fresh,
         made: batch.made,
-        audit: audit::audit(index),
+        audit: idx_audit::audit(index),
     }
 }
 
@@ -185,11 +185,11 @@ fn run_list(text: &[u8], index: &mut [u8], answers: &mut [u8]) -> Outcome {
 fn make_calls(text: &[u8], index: &mut [u8], answers: &mut [u8]) -> Outcome {
     let mut list = io::large_buffer();
     let n = append_all(&mut list, text);
-    let made = batch::run_calls(index, &list[..n], answers);
+    let made = idx_batch::run_calls(index, &list[..n], answers);
     Outcome {
         fresh: 0,
         made,
-        audit: audit::audit(index),
+        audit: idx_audit::audit(index),
     }
 }
 

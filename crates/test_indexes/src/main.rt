@@ -27,10 +27,10 @@ fn is_found(index: &[u8], line: &[u8]) -> bool {
 }
 
 fn looks_up(index: &[u8], key: &[u8], wanted: u32) -> bool {
-    match lookup::lookup(index, key) {
-        lookup::Answer::Found(number, _) => number.0 == wanted,
-        lookup::Answer::Absent(_) => false,
-        lookup::Answer::Refused(_) => false,
+    match idx_lookup::lookup(index, key) {
+        idx_lookup::Answer::Found(number, _) => number.0 == wanted,
+        idx_lookup::Answer::Absent(_) => false,
+        idx_lookup::Answer::Refused(_) => false,
     }
 }
 
@@ -82,7 +82,7 @@ fn print_tally(t: Tally) {
 fn print_index(name: &[u8], index: &[u8], calls: &[u8]) {
     lines::print(name);
     lines::print(b" audit ");
-    test_lines::print_number(audit::audit(index));
+    test_lines::print_number(idx_audit::audit(index));
     print_tally(count_found(index, calls));
 }
 
@@ -99,7 +99,7 @@ fn run(name: &[u8], index_path: &[u8], calls_path: &[u8], size: usize) {
 fn print_audit(name: &[u8], index: &[u8]) {
     lines::print(name);
     lines::print(b" ");
-    test_lines::print_number(audit::audit(index));
+    test_lines::print_number(idx_audit::audit(index));
     lines::print(b"\n");
 }
 

@@ -1,6 +1,6 @@
 // Makes a list of calls on NDX files that another program wrote, whole and with one byte set, and prints each line of the list with its answers. README.md
 // beside src/ says where the files and the answers came from.
-use lookup::Answer;
+use idx_lookup::Answer;
 use test_lines::after_word;
 use test_lines::word;
 
@@ -22,7 +22,7 @@ fn look_up(index: &[u8], hex: &[u8]) {
     let n = test_lines::hex_bytes(hex, &mut key);
     lines::print(b" l ");
     lines::print(hex);
-    match ndx::lookup(index, &key[..n]) {
+    match ndx_page::lookup(index, &key[..n]) {
         Answer::Found(number, pages) => print_lookup(0, number.0, pages),
         Answer::Absent(pages) => print_lookup(refusal::ABSENT, 0, pages),
         Answer::Refused(code) => print_lookup(code, 0, 0),

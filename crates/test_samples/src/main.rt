@@ -1,6 +1,6 @@
 // Runs `inspect` on tables that other programs made, with their memo files and indexes, and on arguments that it refuses: for each run it prints a line with
-// the arguments, and then what `inspect` prints. Then it prints the texts of a table as `cell::text` hands them back, and the words of each refusal. README.md
-// beside src/ says where the files and the expected lines came from.
+// the arguments, and then what `inspect` prints. Then it prints the texts of a table as `dbf_cell::text` hands them back, and the words of each refusal.
+// README.md beside src/ says where the files and the expected lines came from.
 use lines::print;
 
 // Prints the word of argument i, if there are as many arguments.
@@ -18,7 +18,7 @@ fn run<'a>(arguments: usize, table: &'a [u8], memo: &'a [u8], index: &'a [u8], f
     word(arguments, 3, index);
     word(arguments, 4, field);
     print(b"\n");
-    inspection::inspect(arguments, table, memo, index, field);
+    inspect_report::inspect(arguments, table, memo, index, field);
 }
 
 fn alone(table: &[u8]) {
@@ -109,7 +109,7 @@ fn names() {
 
 // Prints the text of a C or an M field as `inspect` prints a text of plain bytes, and nothing for a field without text.
 fn text_line<'a>(table: &'a [u8], memo: &'a [u8], number: u32, j: u32) {
-    let text = cell::text(table, memo, number, j);
+    let text = dbf_cell::text(table, memo, number, j);
     if text.len() == 0 {
         return;
     }
@@ -145,7 +145,7 @@ fn words_line(code: u32) {
     let mut line = lines::empty_line();
     let end = lines::put_number(&mut line, 0, code as u64);
     let end = lines::put(&mut line, end, b" ");
-    let end = words::put_words(&mut line, end, code);
+    let end = refusal_words::put_words(&mut line, end, code);
     lines::print_line(&mut line, end);
 }
 

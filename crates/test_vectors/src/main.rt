@@ -86,8 +86,8 @@ fn at_most_24(width: usize) -> usize
 // Writes a value into a field, and prints the answer and what the field holds then.
 fn write_field(field: &mut [u8], decimals: u32, value: i64) {
     match numeral_write::write_number(field, decimals, value) {
-        numeral::Writing::Written => lines::print(b"written"),
-        numeral::Writing::Refused(code) => refused(code),
+        refusal::Change::Made => lines::print(b"written"),
+        refusal::Change::Refused(code) => refused(code),
     }
     lines::print(b" [");
     lines::print(field);

@@ -3,10 +3,10 @@
 ghost use Prim.Native.Nat.{_≤_};
 ghost use mathlib.Core.Path.{_≡_};
 ghost use lib.ListN.{length};
-ghost use Rattle.laying.specs.Laying.{roomLength};
-use append::Appended;
-use append::Store;
-use field::FieldEntry;
+ghost use Rattle.dbf_create.specs.Laying.{roomLength};
+use dbf_append::Appended;
+use dbf_append::Store;
+use dbf_field::FieldEntry;
 use libc::STDOUT_FILENO;
 
 // The greatest buffer of the list.
@@ -14,7 +14,7 @@ const ROOM: usize = 4096;
 
 // The length of the table at the front of a buffer, its end mark counted.
 fn table_len(buffer: &[u8]) -> usize {
-    std::num::wrapping_add_usize(append::table_extent(buffer).length, 1)
+    std::num::wrapping_add_usize(dbf_append::table_extent(buffer).length, 1)
 }
 
 fn print_part(n: usize) {
@@ -40,14 +40,14 @@ fn print_appended(done: Appended) {
 fn append_line(buffer: &mut [u8], len: usize, line: &[u8]) {
     let mut bytes = [0u8; 256];
     let n = test_lines::hex_bytes(test_lines::word(line), &mut bytes);
-    print_appended(append::append(buffer, len, &bytes[..n]));
+    print_appended(dbf_append::append(buffer, len, &bytes[..n]));
 }
 
 // `YEAR MONTH DAY ..`
 fn date_line(buffer: &mut [u8], len: usize, line: &[u8]) {
     let month = test_lines::after_word(line);
     let day = test_lines::after_word(month);
-    let answer = append::set_date(
+    let answer = dbf_append::set_date(
         buffer,
         len,
         test_lines::first_number(line),
@@ -143,14 +143,14 @@ fn entry_of(text: &[u8]) -> FieldEntry {
 fn list_field(room: &mut [u8], j: usize, text: &[u8])
     requires { ⌜ length (now room) ≡ roomLength ⌝ }
 {
-    if j < table::MAX_FIELDS {
-        laying::write_field(room, j, entry_of(text));
+    if j < dbf_table::MAX_FIELDS {
+        dbf_create::write_field(room, j, entry_of(text));
     }
 }
 
 // `FIELD,FIELD,.. ANSWER`, or `- ANSWER` for no field.
 fn fields_of(text: &[u8]) -> Fields {
-    let mut room = laying::no_fields();
+    let mut room = dbf_create::no_fields();
     let mut count = 0;
     if first_byte(text) == b'-' {
         return Fields { room, count };
@@ -171,7 +171,7 @@ fn lay_out(buffer: &mut [u8], line: &[u8]) -> u32 {
     let day = test_lines::after_word(month);
     let fields = fields_of(test_lines::after_word(test_lines::after_word(day)));
     let mut room = fields.room;
-    laying::lay_out(
+    dbf_create::lay_out(
         buffer,
         &mut room,
         fields.count,

@@ -10,7 +10,7 @@ use Rattle.basis.specs.Tests.{either}
 use Rattle.tree.specs.Clauses.{Links}
 use Rattle.tree.specs.Lists.{occ}
 use Rattle.tree.specs.ListLaws.{occ-behind, occ-differ, occ-head, occ-here}
-use Rattle.tree.specs.InsertPages.{Distinct}
+use Rattle.tree.specs.Insertion.Pages.{Distinct}
 use Rattle.tree.specs.Unlinking.{unlink, unlinkAll, without}
 use Rattle.tree.specs.UnlinkLaws.{without-occ, without-other, without-none, not-right, not-left, Rows, OnRow, rows-unlink}
 

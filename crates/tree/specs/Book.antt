@@ -7,6 +7,8 @@ use Prim.Native.Nat.{ℕ}
 use lib.Dec.{eqb}
 use Rattle.tree.specs.Pairs.{get, has, insertPair, removePair}
 use Rattle.tree.specs.Keeping.{Keeping}
+-- Laws: demand 3 for any state that is read as an index
+pub mod Theorem
 
 -- the arguments of a call, "the buffer left out"; a removal names a pair
 pub data Call (K : Type 0) : Type 0 where

@@ -1,6 +1,6 @@
 -- Laws: no page is met twice. None is on two levels, since its height is one: the pages of all levels differ if those of each level do. Where leaf keys ascend
--- strictly, no two entries of a level name one page, since the leaf keys under it would stand twice among them. So pages need no marks: counting them is enough.
--- Cited by the laws of sound indexes. Assumes nothing.
+-- strictly, no two entries of a level name one page, since the leaf keys under it would stand twice among them. So pages need no marks: counting them is
+-- enough. Cited by the laws of sound indexes. Assumes nothing.
 use Prim.Native.Nat.{ℕ, zero, suc, _+_, _-_, _≤_, _<_}
 use mathlib.Core.Path.{_≡_, sym, ap, subst}
 use mathlib.Core.Bool.{false}
@@ -16,7 +16,7 @@ use Rattle.tree.specs.Order.{Order}
 use Rattle.tree.specs.OrderLaws.{le-refl}
 use Rattle.tree.specs.Pairs.{byKey, Ascending}
 use Rattle.tree.specs.PairLaws.{ascending-right}
-use Rattle.tree.specs.InsertPages.{Distinct}
+use Rattle.tree.specs.Insertion.Pages.{Distinct}
 use Rattle.tree.specs.Store.{Store}
 use Rattle.tree.specs.Levels.{map-append, all-to-map, numbers, below, generation, reached, generations-reached}
 

@@ -11,7 +11,7 @@ use Rattle.basis.specs.Tests.{either}
 use Rattle.tree.specs.Lists.{occ}
 use Rattle.tree.specs.ListLaws.{occ-here, occ-not-head}
 use Rattle.tree.specs.Clauses.{Links, headOr, Linked}
-use Rattle.tree.specs.InsertPages.{Distinct}
+use Rattle.tree.specs.Insertion.Pages.{Distinct}
 use Rattle.tree.specs.Constants.{pageSize}
 use Rattle.tree.specs.Unlinking.{without}
 use Rattle.tree.specs.UnlinkLaws.{without-occ, without-none}

@@ -7,7 +7,7 @@ use native.Mathlib.Omega.{arith}
 use lib.Dec.{eqb}
 use Rattle.tree.specs.Lists.{countIf, occ}
 use Rattle.tree.specs.ListLaws.{occ-here, occ-once, occ-not-head}
-use Rattle.tree.specs.InsertPages.{newPages, Distinct, Unused, Injective}
+use Rattle.tree.specs.Insertion.Pages.{newPages, Distinct, Unused, Injective}
 use Rattle.tree.specs.FreeList.{freeFirst, freeAfter, lacking, joinFree}
 
 -- the first of n + 1 new pages, and the others

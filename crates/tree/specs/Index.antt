@@ -47,8 +47,8 @@ pub record Setting (K : Type 0) : Type 0 where
   pub maxLevels : ℕ
 
 module _ {K : Type 0} (s : Setting K) where
-  -- the rule for 30, of an insertion's pair and of a call: "30 is given exactly when F would pass the buffer or 16,777,216, or levels would pass 15"; F grows by
-  -- the pages that the free list lacks
+  -- the rule for 30, of an insertion's pair and of a call: "30 is given exactly when F would pass the buffer or 16,777,216, or levels would pass 15"; F grows
+  -- by the pages that the free list lacks
   abbrev pub outOfRoom : K × ℕ → Index K → Bool
   outOfRoom e i =
       ltb (s .maxSize) (sizeAfter (i .free) (i .size) (needs (s .keeping .route e) (s .capacity) (i .height) (i .tree)))

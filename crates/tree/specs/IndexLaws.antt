@@ -21,19 +21,19 @@ use Rattle.tree.specs.LookupLaws.{lookupBy-find, visitedBy-found}
 use Rattle.tree.specs.Insertion.{Grown}
 use Rattle.tree.specs.Room.{needs, levelsAfter}
 use Rattle.tree.specs.Ordered.{Rooted}
-use Rattle.tree.specs.InsertPairs.{insert-pairs}
-use Rattle.tree.specs.InsertOrdered.{insert-ordered}
+use Rattle.tree.specs.Insertion.Pairs.{insert-pairs}
+use Rattle.tree.specs.Insertion.Ordered.{insert-ordered}
 use Rattle.tree.specs.ClauseLaws.{sized-rooted}
-use Rattle.tree.specs.InsertSized.{insert-sized}
+use Rattle.tree.specs.Insertion.Sized.{insert-sized}
 use Rattle.tree.specs.Supply.{takenPage, sizeAfter}
 use Rattle.tree.specs.SupplyLaws.{taken-injective, taken-some}
-use Rattle.tree.specs.InsertPages.{insert-pages}
-use Rattle.tree.specs.InsertNeeds.{insert-needs}
-use Rattle.tree.specs.InsertLinks.{insert-all-linked}
-use Rattle.tree.specs.RemovalPairs.{remove-all, remove-pairs}
-use Rattle.tree.specs.RemovalOrdered.{remove-ordered}
-use Rattle.tree.specs.RemovalSized.{remove-sized, remove-low}
-use Rattle.tree.specs.RemovalLinks.{remove-all-linked}
+use Rattle.tree.specs.Insertion.Pages.{insert-pages}
+use Rattle.tree.specs.Insertion.Needs.{insert-needs}
+use Rattle.tree.specs.Insertion.Links.{insert-all-linked}
+use Rattle.tree.specs.Removal.Pairs.{remove-all, remove-pairs}
+use Rattle.tree.specs.Removal.Ordered.{remove-ordered}
+use Rattle.tree.specs.Removal.Sized.{remove-sized, remove-low}
+use Rattle.tree.specs.Removal.Links.{remove-all-linked}
 use Rattle.tree.specs.Book.{Call, insertion, removalOf, lookupOf, Answer, KeyTests, accepted, found, refusedIf, verdict, striking, finding, isNoRoom}
 use Rattle.tree.specs.Book.{isAccepted, bookAnswer, bookAfter}
 use Rattle.tree.specs.Index.{Index, held, fresh, Setting, outOfRoom, noRoomFor, answer, insertedTree, strikingRoute}

@@ -11,9 +11,9 @@ use Rattle.tree.specs.Constants.{pageSize, noPage}
 use Rattle.tree.specs.Lists.{occ}
 use Rattle.tree.specs.Tree.{pages}
 use Rattle.tree.specs.Insertion.{Grown, grownPages}
-use Rattle.tree.specs.InsertPages.{newPages, Distinct, Unused}
+use Rattle.tree.specs.Insertion.Pages.{newPages, Distinct, Unused}
 use Rattle.tree.specs.Removal.{emptied}
-use Rattle.tree.specs.RemovalPages.{remove-pages}
+use Rattle.tree.specs.Removal.Pages.{remove-pages}
 use Rattle.tree.specs.FreeList.{lacking}
 use Rattle.tree.specs.FreeListLaws.{freeFirst-pages, freeFirst-cases, joinFree-pages}
 use Rattle.tree.specs.Supply.{pageAtEnd, takenPage}

@@ -15,7 +15,7 @@ use Rattle.tree.specs.ListLaws.{all-unit, all-map2, concatMap-append, co
 use Rattle.tree.specs.Clauses.{least, SizedUnder, Sized}
 use Rattle.tree.specs.Tree.{Entry, pairsUnder, pairs, pagesUnder, pages, levelUnder, level}
 use Rattle.tree.specs.Store.{Store, readEntry, readTree}
-use Rattle.tree.specs.StoreLaws.{map-read-zero}
+use Rattle.tree.specs.Store.Laws.{map-read-zero}
 
 -- lists
 pub map-append : {A B : Type 0} (f : A → B) (xs ys : List A) → map f (xs ++ ys) ≡ map f xs ++ map f ys

@@ -47,80 +47,32 @@ pub mod RecordLaws
 pub mod RouteLaws
 -- Laws: a page that is split if it is over capacity
 pub mod SplitLaws
--- Laws: the leaf pairs after an insertion
-pub mod InsertPairs
 -- Laws: the leaf that a route leads to tells whether a pair is present
 pub mod LeafLaws
 -- Laws: for features 0 that is the leaf with the greatest pair below it, or the first leaf
 pub mod NearestLaws
--- Laws: an insertion keeps the order
-pub mod InsertOrdered
 -- Laws: the clauses of a sound index for the order, and the theory's order, say the same
 pub mod ClauseLaws
--- Laws: an insertion keeps counts within capacity
-pub mod InsertSized
--- Laws: the pages after an insertion are the old ones and the new ones
-pub mod InsertPages
--- Laws: an insertion takes as many new pages and levels as the rule for refusal 30 says
-pub mod InsertNeeds
 -- Steps: new pages from the free list, then at the file's end; how emptied pages join the free list
 pub mod FreeList
 -- Laws: the pages taken and the pages left free
 pub mod FreeListLaws
 -- Steps: removal from a tree, and the pages emptied by it
 pub mod Removal
--- Laws: the leaf pairs after a removal
-pub mod RemovalPairs
--- Laws: a removal keeps the order
-pub mod RemovalOrdered
--- Laws: a removal keeps counts within capacity
-pub mod RemovalSized
--- Laws: the pages after a removal and the emptied ones are the old ones
-pub mod RemovalPages
--- Steps: lookup, the run of full pages, and insertion on a store, page by page
-pub mod StoreSteps
--- Laws: the tree that a store is read as depends on the pages reached alone
-pub mod StoreLaws
 -- Laws: the entries of a store level by level, and the trees read there
 pub mod Levels
 -- Laws: no page is met twice
 pub mod DistinctLaws
--- Laws: lookup, visited pages and the run on a store are those on its tree
-pub mod StoreLookupLaws
--- Steps: lookup of a key's first record on a store, page by page, with the right links
-pub mod StoreFirst
--- Laws: it is that in the tree, if the leaves are linked
-pub mod StoreFirstLaws
--- Laws: the leaf pairs are the entries of the leaves, left to right
-pub mod StoreLeaves
--- Laws: insertion into a store is insertion into its tree
-pub mod StoreInsertLaws
--- Steps: removal on a store, page by page
-pub mod StoreRemoval
--- Laws: removal from a store is removal from its tree
-pub mod StoreRemovalLaws
--- Steps: the route of a pair on a store, by the keeping of either features
-pub mod StoreRoute
--- Laws: it is that in the tree
-pub mod StoreRouteLaws
 -- Steps: links after an insertion
 pub mod Relinking
--- Laws: the pages of each level after an insertion
-pub mod InsertLevels
 -- Laws: a level is linked again after a new page
 pub mod LinkLaws
--- Laws: all levels are linked again after an insertion
-pub mod InsertLinks
 -- Steps: links after a removal
 pub mod Unlinking
 -- Laws: levels are linked again after pages are unlinked
 pub mod UnlinkLaws
 -- Laws: which pages are left alone if pages are unlinked
 pub mod AwayLaws
--- Laws: the pages of each level after a removal
-pub mod RemovalLevels
--- Laws: all levels are linked again after a removal
-pub mod RemovalLinks
 -- Rules: the free list as it lies in a file
 pub mod FreeChain
 -- Laws: the free list after a page joins it, and how it is read
@@ -141,8 +93,6 @@ pub mod IndexPages
 pub mod IndexLaws
 -- Laws: F never shrinks, and is bounded by the pairs held; a key struck off and put in again is found
 pub mod ReuseLaws
--- Laws: demand 3 for any state that is read as an index
-pub mod BookTheorem
 -- Laws: demand 3 computed on a small list of calls, for features 0 and 1
 pub mod Examples
 -- Laws: keys with one above all, for trees whose last children have no key

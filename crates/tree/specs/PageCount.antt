@@ -16,7 +16,7 @@ use Rattle.tree.specs.ListLaws.{occ-here}
 use Rattle.tree.specs.Tree.{Entry, Tree, pairsUnder, pairs, pagesUnder, pages}
 use Rattle.tree.specs.Clauses.{SizedUnder, Sized}
 use Rattle.tree.specs.ClauseLaws.{sized-nonEmpty}
-use Rattle.tree.specs.InsertPages.{Distinct}
+use Rattle.tree.specs.Insertion.Pages.{Distinct}
 use Rattle.tree.specs.Unlinking.{without}
 use Rattle.tree.specs.UnlinkLaws.{without-occ, without-other, without-none}
 

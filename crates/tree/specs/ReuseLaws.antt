@@ -19,7 +19,7 @@ use Rattle.tree.specs.KeepingLaws.{pair-refl, Same, has-inserted, has-re
 use Rattle.tree.specs.LookupLaws.{lookupBy-find}
 use Rattle.tree.specs.RecordLaws.{VeryPair, ascending-records, has-very, records-once}
 use Rattle.tree.specs.ClauseLaws.{sized-rooted}
-use Rattle.tree.specs.InsertPairs.{insert-pairs}
+use Rattle.tree.specs.Insertion.Pairs.{insert-pairs}
 use Rattle.tree.specs.PageCount.{pages-at-least, tree-count}
 use Rattle.tree.specs.FreeList.{freeAfter, lacking}
 use Rattle.tree.specs.Supply.{takenPage}

@@ -10,7 +10,7 @@ use Rattle.basis.specs.Tests.{either}
 use Rattle.tree.specs.Constants.{pageSize, noPage}
 use Rattle.tree.specs.Lists.{occ}
 use Rattle.tree.specs.ListLaws.{occ-differ}
-use Rattle.tree.specs.InsertPages.{newPages, Distinct, Unused, Injective}
+use Rattle.tree.specs.Insertion.Pages.{newPages, Distinct, Unused, Injective}
 use Rattle.tree.specs.FreeListLaws.{freeFirst-cases, freeFirst-injective}
 use Rattle.tree.specs.Supply.{pageAtEnd, takenPage}
 

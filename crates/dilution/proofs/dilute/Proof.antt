@@ -3,9 +3,9 @@ use mathlib.Core.Path.{_≡_, sym, _∙_}
 use mathlib.Core.Bool.{true}
 use native.Mathlib.Omega.{arith}
 use lib.ListN.{length}
-use Rattle.table.specs.Table.{firstRefusal}
-use Rattle.page.specs.Header.{keyLength, headerGood}
-use Rattle.page.specs.HeaderLaws.{good-header}
+use Rattle.refusal.specs.Checks.{firstRefusal}
+use Rattle.idx_page.specs.Header.{keyLength, headerGood}
+use Rattle.idx_page.specs.HeaderLaws.{good-header}
 use Rattle.dilution.specs.Dilution.{sheetChecks}
 use Rattle.dilution.specs.BarcodeLaws.{known, record-named}
 use Rattle.dilution.specs.DilutionLaws.{sheet-good, sheet-dilutable, dilute-refused, dilute-27, dilute-absent, dilute-record}

@@ -1,6 +1,6 @@
 -- `dilution::is_distinct` meets its contract: the header is tested before its features are read. Assumes nothing.
 use Rattle.basis.specs.Tests.{passed, failed}
-use Rattle.page.specs.HeaderLaws.{good-header}
+use Rattle.idx_page.specs.HeaderLaws.{good-header}
 use Rattle.dilution.specs.StepLaws.{distinct-bad, distinct-tested}
 use borrow.Author.Needs.{needs}
 use Rattle.dilution.proofs.is_distinct.Statement.{statement}

@@ -2,9 +2,9 @@
 use mathlib.Core.Path.{_≡_, sym, ap, _∙_}
 use mathlib.Core.Bool.{true}
 use Rattle.basis.specs.Tests.{passed, failed}
-use Rattle.table.specs.Table.{deletionByte, deletedMark}
-use Rattle.cell.specs.Cell.{markGood}
-use Rattle.cell.specs.Codes.{numberRefusal}
+use Rattle.dbf_table.specs.Table.{deletionByte, deletedMark}
+use Rattle.dbf_cell.specs.Cell.{markGood}
+use Rattle.dbf_cell.specs.Codes.{numberRefusal}
 use Rattle.dilution.specs.Dilution.{concentrationText, concentrationOf, dilutionOf}
 use Rattle.dilution.specs.StepLaws.{refused-15, refused-deleted, refused-text, text-read, placed-mark, placed-text}
 use borrow.Author.Needs.{needs}

@@ -1,7 +1,7 @@
 -- `dilution::record_with` meets its contract: the cases of lookup's answer. Assumes nothing.
 use mathlib.Core.Path.{sym, ap, _∙_}
-use Rattle.lookup.specs.Lookup.{answerRecord}
-use Rattle.lookup.specs.declared.Answer.{Answer}
+use Rattle.idx_lookup.specs.Lookup.{answerRecord}
+use Rattle.idx_lookup.specs.declared.Answer.{Answer}
 use Rattle.dilution.specs.Dilution.{recordWith}
 use borrow.Author.Needs.{needs}
 use Rattle.dilution.proofs.record_with.Statement.{statement}

@@ -1,8 +1,8 @@
 -- `dilution::sheet_refusal` meets its contract: table and header, the match's answer, and then the field's. Assumes nothing.
 use mathlib.Core.Path.{_≡_, sym, _∙_}
-use Rattle.table.specs.Table.{firstRefusal}
-use Rattle.matching.specs.Computed.{matchAnswer}
-use Rattle.matching.specs.AnswerLaws.{answer-computed}
+use Rattle.refusal.specs.Checks.{firstRefusal}
+use Rattle.idx_match.specs.Computed.{matchAnswer}
+use Rattle.idx_match.specs.AnswerLaws.{answer-computed}
 use Rattle.dilution.specs.Dilution.{headerChecks}
 use Rattle.dilution.specs.BarcodeLaws.{good-table}
 use Rattle.dilution.specs.DilutionLaws.{sheet-unread, sheet-unmatched, sheet-matched}

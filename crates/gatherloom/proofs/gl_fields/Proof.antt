@@ -53,24 +53,24 @@ use denote.Triple.Table.{entered, cited}
 use denote.Triple.Walked.{says, Stays, stay-slice, stay-none-slice, walkOf, goes-slice, goes-none-slice, Walks, ends-at, walked, walk-meets}
 use denote.Triple.Clauses.{ensured, lasts}
 use denote.Exit.{yes}
-use Rattle.table.specs.Table.{descriptor}
-use Rattle.field.specs.Field.{entryOf}
-use Rattle.field.specs.declared.FieldEntry.{FieldEntry}
-use Rattle.field.proofs.FieldEntry as F
-use Rattle.field.proofs.FieldEntry.Laws as F′
-use Rattle.field.proofs.entry_at as entry-at
-use Rattle.field.proofs.entry_at.Symbol as entry-at-def
-use Rattle.field.proofs.entry_at.Symbol.{name as #field·entry-at}
-use Rattle.field.proofs.entry_at.Met as entry-at-thm
-use Rattle.table_calls.specs.Lent.{planOf, listed}
-use Rattle.table_calls.specs.LentLaws.{CountFits, plan-fits, listed-length, listed-none, listed-more, listing-is}
-use Rattle.table_calls.specs.declared.Plan.{Plan}
-use Rattle.table_calls.proofs.Plan as P
-use Rattle.table_calls.proofs.Plan.Laws as P′
-use Rattle.table_calls.proofs.listing_plan as plan
-use Rattle.table_calls.proofs.listing_plan.Symbol as plan-def
-use Rattle.table_calls.proofs.listing_plan.Symbol.{name as #table_calls·listing-plan}
-use Rattle.table_calls.proofs.listing_plan.Met as plan-thm
+use Rattle.dbf_table.specs.Table.{descriptor}
+use Rattle.dbf_field.specs.Field.{entryOf}
+use Rattle.dbf_field.specs.declared.FieldEntry.{FieldEntry}
+use Rattle.dbf_field.proofs.FieldEntry as F
+use Rattle.dbf_field.proofs.FieldEntry.Laws as F′
+use Rattle.dbf_field.proofs.entry_at as entry-at
+use Rattle.dbf_field.proofs.entry_at.Symbol as entry-at-def
+use Rattle.dbf_field.proofs.entry_at.Symbol.{name as #field·entry-at}
+use Rattle.dbf_field.proofs.entry_at.Met as entry-at-thm
+use Rattle.dbf_calls.specs.Lent.{planOf, listed}
+use Rattle.dbf_calls.specs.LentLaws.{CountFits, plan-fits, listed-length, listed-none, listed-more, listing-is}
+use Rattle.dbf_calls.specs.declared.Plan.{Plan}
+use Rattle.dbf_calls.proofs.Plan as P
+use Rattle.dbf_calls.proofs.Plan.Laws as P′
+use Rattle.dbf_calls.proofs.listing_plan as plan
+use Rattle.dbf_calls.proofs.listing_plan.Symbol as plan-def
+use Rattle.dbf_calls.proofs.listing_plan.Symbol.{name as #table_calls·listing-plan}
+use Rattle.dbf_calls.proofs.listing_plan.Met as plan-thm
 use Rattle.gatherloom.proofs.gl_fields.Key.{name as #gatherloom·gl-fields}
 use Rattle.gatherloom.proofs.gl_fields as gl-fields
 use Rattle.gatherloom.proofs.gl_fields.Statement as stated
@@ -420,4 +420,4 @@ gl-fields-spec 𝓤 H 𝓜 𝓖 𝓡 =
     (cited 𝓤 H (PlanC 𝓤 H (𝓖 .A) (𝓜 .mem) (𝓡 .run)) 𝓜 𝓡 code.env #table_calls·listing-plan plan-def.routine
     code.calls-table-calls·listing-plan (plan-thm.met 𝓤 H 𝓜 𝓖 𝓡))
     (cited 𝓤 H (EntryC 𝓤 H (𝓖 .A) (𝓜 .mem) (𝓡 .run)) 𝓜 𝓡 code.env #field·entry-at entry-at-def.routine
-    code.calls-field·entry-at (entry-at-thm.met 𝓤 H 𝓜 𝓖 𝓡)))
+    code.calls-dbf-field·entry-at (entry-at-thm.met 𝓤 H 𝓜 𝓖 𝓡)))

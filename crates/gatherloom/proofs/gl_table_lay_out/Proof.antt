@@ -57,31 +57,32 @@ use denote.Triple.Table.{entered, cited}
 use denote.Triple.Walked.{says, Stays, gave-slice, stay-dropped, walkOf, goes-gave-slice, goes-dropped, Walks, ends-at, walked, walk-meets}
 use denote.Triple.Clauses.{Lasts, ensured, lasts}
 use denote.Exit.{yes}
-use Rattle.table.specs.Table.{maxFields}
-use Rattle.field.specs.Field.{noEntry}
-use Rattle.field.specs.declared.FieldEntry.{FieldEntry}
-use Rattle.field.proofs.FieldEntry as F
-use Rattle.field.proofs.FieldEntry.Laws as F′
+use Rattle.dbf_table.specs.Table.{maxFields}
+use Rattle.dbf_field.specs.Field.{noEntry}
+use Rattle.dbf_field.specs.declared.FieldEntry.{FieldEntry}
+use Rattle.dbf_field.proofs.FieldEntry as F
+use Rattle.dbf_field.proofs.FieldEntry.Laws as F′
 use Rattle.octets.specs.Store.{window}
-use Rattle.laying.specs.Laying.{roomLength, noFields, withField, listedCount, layOut, layOutRule, laid}
-use Rattle.laying.specs.EmptyLaws.{Named}
-use Rattle.laying.specs.CopyLaws.{copied, copied-none, copied-more, count-within, named-more, lay-listed}
-use Rattle.laying.proofs.listed_count as count
-use Rattle.laying.proofs.listed_count.Symbol as count-def
-use Rattle.laying.proofs.listed_count.Symbol.{name as #laying·listed-count}
-use Rattle.laying.proofs.listed_count.Met as count-thm
-use Rattle.laying.proofs.no_fields as none
-use Rattle.laying.proofs.no_fields.Symbol as none-def
-use Rattle.laying.proofs.no_fields.Symbol.{name as #laying·no-fields}
-use Rattle.laying.proofs.no_fields.Met as none-thm
-use Rattle.laying.proofs.write_field as field
-use Rattle.laying.proofs.write_field.Symbol as field-def
-use Rattle.laying.proofs.write_field.Symbol.{name as #laying·write-field}
-use Rattle.laying.proofs.write_field.Met as field-thm
-use Rattle.laying.proofs.lay_out as lay
-use Rattle.laying.proofs.lay_out.Symbol as lay-def
-use Rattle.laying.proofs.lay_out.Symbol.{name as #laying·lay-out}
-use Rattle.laying.proofs.lay_out.Met as lay-thm
+use Rattle.refusal.specs.After.{left}
+use Rattle.dbf_create.specs.Laying.{roomLength, noFields, withField, listedCount, layOut, layOutRule}
+use Rattle.dbf_create.specs.EmptyLaws.{Named}
+use Rattle.dbf_create.specs.CopyLaws.{copied, copied-none, copied-more, count-within, named-more, lay-listed}
+use Rattle.dbf_create.proofs.listed_count as count
+use Rattle.dbf_create.proofs.listed_count.Symbol as count-def
+use Rattle.dbf_create.proofs.listed_count.Symbol.{name as #laying·listed-count}
+use Rattle.dbf_create.proofs.listed_count.Met as count-thm
+use Rattle.dbf_create.proofs.no_fields as none
+use Rattle.dbf_create.proofs.no_fields.Symbol as none-def
+use Rattle.dbf_create.proofs.no_fields.Symbol.{name as #laying·no-fields}
+use Rattle.dbf_create.proofs.no_fields.Met as none-thm
+use Rattle.dbf_create.proofs.write_field as field
+use Rattle.dbf_create.proofs.write_field.Symbol as field-def
+use Rattle.dbf_create.proofs.write_field.Symbol.{name as #laying·write-field}
+use Rattle.dbf_create.proofs.write_field.Met as field-thm
+use Rattle.dbf_create.proofs.lay_out as lay
+use Rattle.dbf_create.proofs.lay_out.Symbol as lay-def
+use Rattle.dbf_create.proofs.lay_out.Symbol.{name as #laying·lay-out}
+use Rattle.dbf_create.proofs.lay_out.Met as lay-thm
 use Rattle.gatherloom.proofs.gl_table_lay_out.Key.{name as #gatherloom·gl-table-lay-out}
 use Rattle.gatherloom.proofs.gl_table_lay_out as gl
 use Rattle.gatherloom.proofs.gl_table_lay_out.Statement as stated
@@ -293,7 +294,7 @@ module _ {M : Type 1} (𝓤 : URA M) (H : Heap 𝓤) (A : Atoms 𝓤) (W : Given
       fjoin ! $ owned ! usize (Is usize) (uint-makes 𝓤 H A W w64) n _ (refl, n-fits) $ fjoin ! $
       move ! (1 ∷ 0 ∷ []) $ fjoin ! $ move ! (1 ∷ 0 ∷ []) $ fjoin ! $ done !
 
-  exits : (ws : List ℕ) (r : ℕ) → length ws ≡ length (now s) → r < 2 ^ 32 → layOutRule (now s) es year month day ≡ laid ws r
+  exits : (ws : List ℕ) (r : ℕ) → length ws ≡ length (now s) → r < 2 ^ 32 → layOutRule (now s) es year month day ≡ left ws r
       → ent 𝓤 (⋆ 𝓤 H A (‵ (finally u8 (s .name) ws) ∷ ‵ (flft κ′ q′) ∷ ‵ (flft κ q) ∷ [])) (Post (vint w32 r))
   exits ws r len fits e =
       qed W (‵ (finally u8 (s .name) ws) ∷ ‵ (flft κ′ q′) ∷ ‵ (flft κ q) ∷ []) ∵
@@ -315,7 +316,7 @@ module _ {M : Type 1} (𝓤 : URA M) (H : Heap 𝓤) (A : Atoms 𝓤) (W : Given
 
   -- what `lay_out` says of the list after j entries
   abbrev Laid : ℕ → List ℕ → ℕ → Type 0
-  Laid j ws r = layOut (now s) (window (copied es j) 32 (32 * n)) n year month day ≡ laid ws r
+  Laid j ws r = layOut (now s) (window (copied es j) 32 (32 * n)) n year month day ≡ left ws r
 
   -- so many entries are copied, and each had a name
   abbrev Upto : Type 0
@@ -572,8 +573,10 @@ gl-table-lay-out-spec 𝓤 H 𝓜 𝓖 𝓡 =
     entered 𝓤 H (tripleOf 𝓤 H (𝓖 .A) gl.signature (gl.spec 𝓤 H (𝓖 .A) (𝓜 .mem) (𝓡 .run)))
     (tables 𝓤 H 𝓜 𝓡 code.env .C) (tables 𝓤 H 𝓜 𝓡 code.env .Λ) #gatherloom·gl-table-lay-out code.function (code.unfolded 𝓤 H 𝓜 𝓡)
     (lay-out-meets 𝓤 H (𝓖 .A) (givenOf 𝓤 H 𝓜 𝓖) (𝓜 .mem) (𝓡 .run) (tablesOf 𝓤 H 𝓜 (tables 𝓤 H 𝓜 𝓡 code.env))
-    (cited 𝓤 H (CountC 𝓤 H (𝓖 .A) (𝓜 .mem) (𝓡 .run)) 𝓜 𝓡 code.env #laying·listed-count count-def.routine code.calls-laying·listed-count
+    (cited 𝓤 H (CountC 𝓤 H (𝓖 .A) (𝓜 .mem) (𝓡 .run)) 𝓜 𝓡 code.env #laying·listed-count count-def.routine code.calls-dbf-create·listed-count
     (count-thm.met 𝓤 H 𝓜 𝓖 𝓡))
-    (cited 𝓤 H (NoneC 𝓤 H (𝓖 .A) (𝓜 .mem) (𝓡 .run)) 𝓜 𝓡 code.env #laying·no-fields none-def.routine code.calls-laying·no-fields (none-thm.met 𝓤 H 𝓜 𝓖 𝓡))
-    (cited 𝓤 H (FieldC 𝓤 H (𝓖 .A) (𝓜 .mem) (𝓡 .run)) 𝓜 𝓡 code.env #laying·write-field field-def.routine code.calls-laying·write-field (field-thm.met 𝓤 H 𝓜 𝓖 𝓡))
-    (cited 𝓤 H (LayC 𝓤 H (𝓖 .A) (𝓜 .mem) (𝓡 .run)) 𝓜 𝓡 code.env #laying·lay-out lay-def.routine code.calls-laying·lay-out (lay-thm.met 𝓤 H 𝓜 𝓖 𝓡)))
+    (cited 𝓤 H (NoneC 𝓤 H (𝓖 .A) (𝓜 .mem) (𝓡 .run)) 𝓜 𝓡 code.env #laying·no-fields none-def.routine code.calls-dbf-create·no-fields
+    (none-thm.met 𝓤 H 𝓜 𝓖 𝓡))
+    (cited 𝓤 H (FieldC 𝓤 H (𝓖 .A) (𝓜 .mem) (𝓡 .run)) 𝓜 𝓡 code.env #laying·write-field field-def.routine code.calls-dbf-create·write-field
+    (field-thm.met 𝓤 H 𝓜 𝓖 𝓡))
+    (cited 𝓤 H (LayC 𝓤 H (𝓖 .A) (𝓜 .mem) (𝓡 .run)) 𝓜 𝓡 code.env #laying·lay-out lay-def.routine code.calls-dbf-create·lay-out (lay-thm.met 𝓤 H 𝓜 𝓖 𝓡)))

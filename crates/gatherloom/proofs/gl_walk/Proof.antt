@@ -45,17 +45,17 @@ use denote.Triple.Table.{entered, cited}
 use denote.Triple.Walked.{says, Stays, stay-ref, stay-none-slice, walkOf, goes-ref, goes-none-slice, Walks, ends-at, walked, walk-meets}
 use denote.Triple.Clauses.{ensured, lasts}
 use denote.Exit.{yes}
-use Rattle.walk.specs.declared.Position.{Position}
-use Rattle.walk.proofs.Position as P
-use Rattle.walk.proofs.Position.Laws as P′
-use Rattle.table_calls.specs.Lent.{walkedOf}
-use Rattle.table_calls.specs.declared.LentStep.{LentStep}
-use Rattle.table_calls.proofs.LentStep as D
-use Rattle.table_calls.proofs.LentStep.Laws as D′
-use Rattle.table_calls.proofs.lent_step as step
-use Rattle.table_calls.proofs.lent_step.Symbol as step-def
-use Rattle.table_calls.proofs.lent_step.Symbol.{name as #table_calls·lent-step}
-use Rattle.table_calls.proofs.lent_step.Met as step-thm
+use Rattle.dbf_walk.specs.declared.Position.{Position}
+use Rattle.dbf_walk.proofs.Position as P
+use Rattle.dbf_walk.proofs.Position.Laws as P′
+use Rattle.dbf_calls.specs.Lent.{walkedOf}
+use Rattle.dbf_calls.specs.declared.LentStep.{LentStep}
+use Rattle.dbf_calls.proofs.LentStep as D
+use Rattle.dbf_calls.proofs.LentStep.Laws as D′
+use Rattle.dbf_calls.proofs.lent_step as step
+use Rattle.dbf_calls.proofs.lent_step.Symbol as step-def
+use Rattle.dbf_calls.proofs.lent_step.Symbol.{name as #table_calls·lent-step}
+use Rattle.dbf_calls.proofs.lent_step.Met as step-thm
 use Rattle.gatherloom.proofs.gl_walk.Key.{name as #gatherloom·gl-walk}
 use Rattle.gatherloom.proofs.gl_walk as gl-walk
 use Rattle.gatherloom.proofs.gl_walk.Statement as stated

@@ -6,15 +6,15 @@ use Rattle.index_calls.proofs.index_fresh.Tie as tie
 fresh-requires : tie.Need-fresh-requires
 fresh-requires c κs = search needs
 
-insertion-code-requires : tie.Need-insertion-code-requires
-insertion-code-requires c κs = search needs
+change-code-requires : tie.Need-change-code-requires
+change-code-requires c κs = search needs
 
 same-length : tie.Need-same-length
 same-length c = search needs
 
 returns : tie.Need-returns
-returns c = rw (c .before .before .before .fresh .ensures, c .insertion-code .ensures)
+returns c = rw (c .before .before .before .fresh .ensures, c .change-code .ensures)
 
 pub index-fresh-spec : {M : Type 1} → statement M
 index-fresh-spec =
-    tie.close (tie.spec fresh-requires insertion-code-requires same-length returns)
+    tie.close (tie.spec fresh-requires change-code-requires same-length returns)

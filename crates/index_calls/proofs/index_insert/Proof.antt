@@ -6,15 +6,15 @@ use Rattle.index_calls.proofs.index_insert.Tie as tie
 insert-requires : tie.Need-insert-requires
 insert-requires c κs = search needs
 
-insertion-code-requires : tie.Need-insertion-code-requires
-insertion-code-requires c κs = search needs
+change-code-requires : tie.Need-change-code-requires
+change-code-requires c κs = search needs
 
 same-length : tie.Need-same-length
 same-length c = search needs
 
 returns : tie.Need-returns
-returns c = rw (c .before .before .before .insert .ensures, c .insertion-code .ensures)
+returns c = rw (c .before .before .before .insert .ensures, c .change-code .ensures)
 
 pub index-insert-spec : {M : Type 1} → statement M
 index-insert-spec =
-    tie.close (tie.spec insert-requires insertion-code-requires same-length returns)
+    tie.close (tie.spec insert-requires change-code-requires same-length returns)

@@ -1,6 +1,4 @@
--- `index_calls::index_remove` meets its contract, by the case of the library's answer: the buffer is the one that the library left. Assumes nothing.
-use Rattle.remove.specs.declared.Removal.the-variants.{Accepted, Refused}
-use Rattle.index_calls.specs.AnswerLaws.{removal-told}
+-- `index_calls::index_remove` meets its contract: the buffer is the one that the library left, and the answer the number of the library's. Assumes nothing.
 use borrow.Author.Needs.{needs}
 use Rattle.index_calls.proofs.index_remove.Statement.{statement}
 use Rattle.index_calls.proofs.index_remove.Tie as tie
@@ -8,29 +6,15 @@ use Rattle.index_calls.proofs.index_remove.Tie as tie
 remove-requires : tie.Need-remove-requires
 remove-requires c κs = search needs
 
-enum-told : tie.Need-enum-told
-enum-told c = search needs
-
-enum-known-answer : tie.Need-enum-known-answer
-enum-known-answer c = search needs
+change-code-requires : tie.Need-change-code-requires
+change-code-requires c κs = search needs
 
 same-length : tie.Need-same-length
 same-length c = search needs
 
 returns : tie.Need-returns
-returns c =
-    let at-removed = c .before .before .before .before in
-    removal-told _ _ _ Accepted (at-removed .remove .ensures) (c .enum-told .given .1)
-
-same-length-2 : tie.Need-same-length-2
-same-length-2 c = search needs
-
-returns-2 : tie.Need-returns-2
-returns-2 c =
-    let at-refused = c .before in
-    let at-removed = at-refused .before .before .before .before in
-    removal-told _ _ _ (Refused _) (at-removed .remove .ensures) (at-refused .answer .given .1)
+returns c = rw (c .before .before .before .remove .ensures, c .change-code .ensures)
 
 pub index-remove-spec : {M : Type 1} → statement M
 index-remove-spec =
-    tie.close (tie.spec remove-requires enum-told enum-known-answer same-length returns same-length-2 returns-2)
+    tie.close (tie.spec remove-requires change-code-requires same-length returns)

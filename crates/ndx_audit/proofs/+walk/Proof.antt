@@ -8,9 +8,9 @@ use borrow.Author.Tests.{not-true, not-false}
 use borrow.Author.Needs.{needs}
 use borrow.Fn.Kinds.{In}
 use borrow.Fn.PlainCycle.{Measures, is, falls, and}
-use Rattle.ndx.specs.Page.{countAt, lowerAt, keyAt}
-use Rattle.ndx.specs.PageLaws.{within-fewer}
-use Rattle.ndx.specs.Within.{Within}
+use Rattle.ndx_page.specs.Page.{countAt, lowerAt, keyAt}
+use Rattle.ndx_page.specs.PageLaws.{within-fewer}
+use Rattle.ndx_page.specs.Within.{Within}
 use Rattle.ndx_audit.specs.State.{KeyWithin, goodAt, walkFrom}
 use Rattle.ndx_audit.specs.Steps.{childrenFrom}
 use Rattle.ndx_audit.specs.PageLaws.{walkUnder, walk-refused, walk-leaf, walk-upper, entered-within}
@@ -18,8 +18,8 @@ use Rattle.ndx_audit.specs.LoopLaws.{children-end, children-stop, childr
 use Rattle.ndx_audit.proofs.walk.Reads as walk
 use Rattle.ndx_audit.proofs.walk.Kinds as walk-kinds
 use Rattle.ndx_audit.proofs.+walk.Lts-walk as walk-lts
-use Rattle.ndx.proofs.key_count.Reads as key-count-reads
-use Rattle.ndx.proofs.lower.Reads as lower-reads
+use Rattle.ndx_page.proofs.key_count.Reads as key-count-reads
+use Rattle.ndx_page.proofs.lower.Reads as lower-reads
 use Rattle.ndx_audit.proofs.enter.Reads as enter-reads
 use Rattle.ndx_audit.proofs.pairs.Reads as pairs-reads
 use Rattle.ndx_audit.proofs.pass.Reads as pass-reads

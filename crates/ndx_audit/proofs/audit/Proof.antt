@@ -2,7 +2,7 @@
 use mathlib.Core.Path.{_≡_, sym, _∙_}
 use mathlib.Core.Bool.{true}
 use Rattle.basis.specs.Tests.{passed, failed}
-use Rattle.ndx.specs.Header.{headerGood}
+use Rattle.ndx_page.specs.Header.{headerGood}
 use Rattle.ndx_sound.specs.Accepted.{answer-bad, answer-sound, answer-unsound}
 use borrow.Author.Needs.{needs}
 use Rattle.ndx_audit.proofs.audit.Statement.{statement}

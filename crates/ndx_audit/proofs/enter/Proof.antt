@@ -1,6 +1,6 @@
 -- `ndx_audit::enter` meets its contract: test for test. Assumes nothing.
 use borrow.Author.Tests.{not-true, not-false}
-use Rattle.ndx.specs.HeaderLaws.{good-header}
+use Rattle.ndx_page.specs.HeaderLaws.{good-header}
 use Rattle.ndx_audit.specs.PageLaws.{enter-unfit, enter-full, enter-new}
 use borrow.Author.Needs.{needs}
 use Rattle.ndx_audit.proofs.enter.Statement.{statement}

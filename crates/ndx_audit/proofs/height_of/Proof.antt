@@ -2,8 +2,8 @@
 use Prim.Native.Nat.{_-_, _≤_}
 use native.Mathlib.Omega.{arith}
 use Rattle.basis.specs.Tests.{both, passed, failed}
-use Rattle.ndx.specs.Header.{maxLevels}
-use Rattle.ndx.specs.PageLaws.{within-page}
+use Rattle.ndx_page.specs.Header.{maxLevels}
+use Rattle.ndx_page.specs.PageLaws.{within-page}
 use Rattle.ndx_audit.specs.LoopLaws.{HeightLeft, height-end, height-leaf, height-on}
 use borrow.Author.Needs.{needs}
 use Rattle.ndx_audit.proofs.height_of.Statement.{statement}

@@ -1,5 +1,5 @@
 -- `ndx_audit::is_after` meets its contract: by the comparison of the two keys, if there is a last one. Assumes nothing.
-use Rattle.ndx.specs.HeaderLaws.{good-header}
+use Rattle.ndx_page.specs.HeaderLaws.{good-header}
 use Rattle.ndx_audit.specs.KeyLaws.{after-first, after-below}
 use borrow.Author.Needs.{needs}
 use Rattle.ndx_audit.proofs.is_after.Statement.{statement}

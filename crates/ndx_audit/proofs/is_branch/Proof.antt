@@ -2,9 +2,9 @@
 use mathlib.Core.Path.{_≡_}
 use native.Mathlib.Omega.{arith}
 use Rattle.basis.specs.Tests.{passed, failed}
-use Rattle.ndx.specs.Header.{pageCount, isPage}
-use Rattle.ndx.specs.HeaderLaws.{good-header}
-use Rattle.ndx.specs.PageLaws.{within-page}
+use Rattle.ndx_page.specs.Header.{pageCount, isPage}
+use Rattle.ndx_page.specs.HeaderLaws.{good-header}
+use Rattle.ndx_page.specs.PageLaws.{within-page}
 use borrow.Author.Needs.{needs}
 use Rattle.ndx_audit.proofs.is_branch.Statement.{statement}
 use Rattle.ndx_audit.proofs.is_branch.Tie as tie

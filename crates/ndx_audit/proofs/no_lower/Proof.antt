@@ -4,9 +4,9 @@ use Prim.Native.Nat.{_-_, _≤_}
 use mathlib.Core.Path.{_≡_, sym, _∙_}
 use native.Mathlib.Nat.{sub-zero}
 use native.Mathlib.Omega.{arith}
-use Rattle.ndx.specs.Page.{lowerAt}
-use Rattle.ndx.specs.PageLaws.{within-fewer}
-use Rattle.ndx_sound.specs.Rule.{zeros}
+use Rattle.ndx_page.specs.Page.{lowerAt}
+use Rattle.ndx_page.specs.PageLaws.{within-fewer}
+use Rattle.ndx_sound.specs.AuditTest.{zeros}
 use Rattle.ndx_audit.specs.LoopLaws.{zeros-end, zeros-off, zeros-on}
 use borrow.Author.Needs.{needs}
 use Rattle.ndx_audit.proofs.no_lower.Statement.{statement}

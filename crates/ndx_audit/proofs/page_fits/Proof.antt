@@ -5,11 +5,11 @@ use native.Mathlib.Omega.{arith}
 use lib.Dec.{eqb}
 use borrow.Author.Tests.{not-true, not-false}
 use Rattle.basis.specs.Tests.{passed, failed}
-use Rattle.ndx.specs.Header.{pageCount, isPage}
-use Rattle.ndx.specs.HeaderLaws.{good-header}
-use Rattle.ndx.specs.PageLaws.{within-page}
-use Rattle.ndx.specs.Within.{Within}
-use Rattle.ndx_sound.specs.Rule.{pageFits}
+use Rattle.ndx_page.specs.Header.{pageCount, isPage}
+use Rattle.ndx_page.specs.HeaderLaws.{good-header}
+use Rattle.ndx_page.specs.PageLaws.{within-page}
+use Rattle.ndx_page.specs.Within.{Within}
+use Rattle.ndx_sound.specs.AuditTest.{pageFits}
 use Rattle.ndx_audit.specs.PageLaws.{Tested, fits-off, count-full, fits-branch, fits-leaf}
 use borrow.Author.Needs.{needs}
 use Rattle.ndx_audit.proofs.page_fits.Statement.{statement}

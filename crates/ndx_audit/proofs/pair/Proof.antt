@@ -1,7 +1,7 @@
 -- `ndx_audit::pair` meets its contract: test for test. Assumes nothing.
 use native.Mathlib.Omega.{arith}
 use borrow.Author.Tests.{not-true, not-false}
-use Rattle.ndx.specs.PageLaws.{key-within}
+use Rattle.ndx_page.specs.PageLaws.{key-within}
 use Rattle.ndx_audit.specs.State.{KeyWithin}
 use Rattle.ndx_audit.specs.KeyLaws.{pair-zero, pair-low, pair-good}
 use borrow.Author.Needs.{needs}

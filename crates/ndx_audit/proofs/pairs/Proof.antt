@@ -5,8 +5,8 @@ use mathlib.Core.Path.{_≡_, _∙_}
 use native.Mathlib.Nat.{sub-zero}
 use native.Mathlib.Omega.{arith}
 use borrow.Author.Tests.{not-true, not-false}
-use Rattle.ndx.specs.Page.{recordAt, keyAt}
-use Rattle.ndx.specs.PageLaws.{within-fewer}
+use Rattle.ndx_page.specs.Page.{recordAt, keyAt}
+use Rattle.ndx_page.specs.PageLaws.{within-fewer}
 use Rattle.ndx_audit.specs.State.{KeyWithin, goodAt}
 use Rattle.ndx_audit.specs.Steps.{itemsFrom}
 use Rattle.ndx_audit.specs.LoopLaws.{items-end, items-stop, items-on}

@@ -1,6 +1,6 @@
 -- `ndx_audit::tree_good` meets its contract: the walk from the root, and then the count. Assumes nothing.
 use native.Mathlib.Omega.{arith}
-use Rattle.ndx.specs.HeaderLaws.{good-header, is-page}
+use Rattle.ndx_page.specs.HeaderLaws.{good-header, is-page}
 use Rattle.ndx_audit.specs.PageLaws.{tree-is}
 use borrow.Author.Needs.{needs}
 use Rattle.ndx_audit.proofs.tree_good.Statement.{statement}

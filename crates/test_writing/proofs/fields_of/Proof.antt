@@ -2,7 +2,7 @@
 use Prim.Native.Nat.{_≤_, _-_}
 use mathlib.Core.Path.{_≡_}
 use lib.ListN.{length}
-use Rattle.laying.specs.Laying.{roomLength}
+use Rattle.dbf_create.specs.Laying.{roomLength}
 use borrow.Author.Needs.{needs}
 use Rattle.test_writing.proofs.fields_of.Statement.{statement}
 use Rattle.test_writing.proofs.fields_of.Tie as tie

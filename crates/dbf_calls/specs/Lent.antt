@@ -1,0 +1,69 @@
+-- Rules: the two calls over lent structs: the field list, "written into a list of field entries that the host lends", and the walk, whose position "belongs
+-- to the host and each call moves it on the spot".
+use Prim.Native.Nat.{ℕ, zero, suc}
+use mathlib.Core.List.{List, [], _∷_, _++_}
+use mathlib.Core.Bool.{cond}
+use lib.ListN.{length, set}
+use lib.Dec.{eqb, leb}
+use Rattle.refusal.specs.Checks.{firstRefusal}
+use Rattle.dbf_table.specs.Table.{fieldCount, tableChecks}
+use Rattle.dbf_field.specs.Field.{entryOf}
+use Rattle.dbf_field.specs.declared.FieldEntry.{FieldEntry}
+use Rattle.dbf_walk.specs.Walk.{walkStep}
+use Rattle.dbf_walk.specs.declared.Position.{Position}
+use Rattle.dbf_walk.specs.declared.Step.{Step}
+use Rattle.dbf_walk.specs.declared.Step.the-variants.{Record, Done, Refused}
+use Rattle.dbf_calls.specs.declared.Plan.{Plan}
+use Rattle.dbf_calls.specs.declared.LentStep.{LentStep}
+
+-- ---- the field list
+
+-- "1 to 10 ... then ... 14": "lent field list shorter than f"
+unfoldable pub listingRefusal : List ℕ → ℕ → ℕ
+listingRefusal b room = firstRefusal (tableChecks b ++ ((leb (fieldCount b) room, 14) ∷ []))
+
+-- the refusal or 0, and how many entries are written: none if it refuses
+unfoldable pub planOf : List ℕ → ℕ → Plan
+planOf b room = record {
+  answer = listingRefusal b room;
+  count = cond (eqb (listingRefusal b room) 0) (fieldCount b) 0;
+}
+
+-- the entries, with the first j overwritten by those of the first j fields; "entries past f stay"
+unfoldable pub listed : List ℕ → ℕ → List FieldEntry → List FieldEntry
+listed b zero entries = entries
+listed b (suc j) entries = set (listed b j entries) j (entryOf b j)
+
+-- the call's answer, and the entries after it
+pub record Listing : Type 0 where
+  pub answer : ℕ
+  pub entries : List FieldEntry
+
+unfoldable pub listing : List ℕ → List FieldEntry → Listing
+listing b entries =
+    let plan = planOf b (length entries) in
+    record { answer = plan .answer; entries = listed b (plan .count) entries }
+
+-- ---- the walk
+
+-- the number of the answer at the end of a walk
+abbrev pub doneCode : ℕ
+doneCode = 258
+
+-- the number of an answer: 0 for a record, 258 at the end, or the refusal's
+abbrev pub stepCode : Step → ℕ
+stepCode (Record n) = 0
+stepCode Done = doneCode
+stepCode (Refused n) = n
+
+-- the record's number, or the number that was there
+abbrev pub stepRecord : Step → ℕ → ℕ
+stepRecord (Record n) old = n
+stepRecord Done old = old
+stepRecord (Refused n) old = old
+
+-- a step from a position, with `old` as the number that was there
+unfoldable pub walkedOf : List ℕ → Position → ℕ → LentStep
+walkedOf b position old =
+    let walked = walkStep b position in
+    record { answer = stepCode (walked .answer); position = walked .position; number = stepRecord (walked .answer) old }

@@ -1,0 +1,147 @@
+// What the calls on a whole table hand to C: the answer's number, and its values in out-parameters; and, by value, those of the two calls over lent structs.
+use dbf_table::Checked;
+use dbf_walk::Position;
+use refusal::DONE;
+ghost use mathlib.Core.Path.{_≡_};
+ghost use Rattle.dbf_table.specs.Table.{tableRefusal, checkTable};
+ghost use Rattle.dbf_append.specs.Append.{appendRule};
+ghost use Rattle.dbf_append.specs.Extent.{extentRule};
+ghost use Rattle.handed.specs.Out.{out};
+ghost use Rattle.dbf_calls.specs.Answers.{sizes, shapeOut};
+ghost use Rattle.dbf_calls.specs.Lent.{planOf, walkedOf};
+ghost use Rattle.dbf_calls.specs.Writing.{stores, written, appendOut, extentOut};
+
+// Whether a table is good: 0, or its refusal.
+pub fn table_check(table: &[u8]) -> u32
+    ensures { λ r. ⌜ r ≡ tableRefusal (now (table .entry)) ⌝ }
+{
+    match dbf_check::check_table(table) {
+        Checked::Good(_) => 0,
+        Checked::Refused(code) => code,
+    }
+}
+
+// How many records and fields a table has, and how long a record is.
+pub fn table_shape(
+    table: &[u8],
+    records: &mut u32,
+    fields: &mut u32,
+    record_length: &mut u32,
+) -> u32
+    ensures { λ r. ⌜
+        shapeOut (checkTable (now (table .entry))) (sizes (now (records .entry)) (now (fields .entry)) (now («record_length» .entry)))
+        ≡ out r (sizes (now (records .exit)) (now (fields .exit)) (now («record_length» .exit)))
+        ⌝ }
+{
+    match dbf_check::check_table(table) {
+        Checked::Good(shape) => {
+            *records = shape.records;
+            *fields = shape.fields as u32;
+            *record_length = shape.record_length as u32;
+            0
+        }
+        Checked::Refused(refusal) => refusal,
+    }
+}
+
+// What the field list answers, and how many entries it writes: none if it refuses.
+pub struct Plan {
+    pub answer: u32,
+    pub count: usize,
+}
+
+// The plan for a table and `room` lent entries.
+pub fn listing_plan(table: &[u8], room: usize) -> Plan
+    ensures { λ r. ⌜ r ≡ planOf (now (table .entry)) room ⌝ }
+{
+    match dbf_check::check_table(table) {
+        Checked::Refused(refusal) => Plan {
+            answer: refusal,
+            count: 0,
+        },
+        Checked::Good(shape) => {
+            if room < shape.fields {
+                return Plan {
+                    answer: refusal::FIELD_LIST_TOO_SHORT,
+                    count: 0,
+                };
+            }
+            Plan {
+                answer: 0,
+                count: shape.fields,
+            }
+        }
+    }
+}
+
+// A step of the walk as it is handed to C: the answer, the position after the step, and the record's number, which stays as it was if the answer is not 0.
+pub struct LentStep {
+    pub answer: u32,
+    pub position: Position,
+    pub number: u32,
+}
+
+// The step by value, from a position, with `number` as the number that was there.
+pub fn lent_step(table: &[u8], position: Position, number: u32) -> LentStep
+    ensures { λ r. ⌜ r ≡ walkedOf (now (table .entry)) position number ⌝ }
+{
+    let walked = dbf_walk::walk_step(table, position);
+    let after = walked.position;
+    let answer = walked.answer;
+    match answer {
+        dbf_walk::Step::Record(found) => LentStep {
+            answer: 0,
+            position: after,
+            number: found,
+        },
+        dbf_walk::Step::Done => LentStep {
+            answer: DONE,
+            position: after,
+            number,
+        },
+        dbf_walk::Step::Refused(refusal) => LentStep {
+            answer: refusal,
+            position: after,
+            number,
+        },
+    }
+}
+
+// Appends a record to the table in the buffer's first `table_len` bytes. The two stores are set in the order in which the file must get them.
+pub fn table_append(
+    buffer: &mut [u8],
+    table_len: usize,
+    bytes: &[u8],
+    record_place: &mut u64,
+    record_length: &mut u64,
+    count_place: &mut u64,
+    count_length: &mut u64,
+) -> u32
+    ensures { λ r. ⌜
+        appendOut (appendRule (now (buffer .entry)) «table_len» (now (bytes .entry)))
+        (stores (now («record_place» .entry)) (now («record_length» .entry)) (now («count_place» .entry)) (now («count_length» .entry)))
+        ≡ out r (written (now (buffer .exit))
+        (stores (now («record_place» .exit)) (now («record_length» .exit)) (now («count_place» .exit)) (now («count_length» .exit)))) ⌝ }
+{
+    let appended = dbf_append::append(buffer, table_len, bytes);
+    if appended.refusal != 0 {
+        return appended.refusal;
+    }
+    *record_place = appended.first.place as u64;
+    *record_length = appended.first.length as u64;
+    *count_place = appended.second.place as u64;
+    *count_length = appended.second.length as u64;
+    0
+}
+
+// The length that the host shortens a table's file to after a power loss.
+pub fn table_extent(table: &[u8], length: &mut u64) -> u32
+    ensures { λ r. ⌜ extentOut (extentRule (now (table .entry))) (now (length .entry)) ≡ out r (now (length .exit)) ⌝ }
+{
+    let extent = dbf_append::table_extent(table);
+    if extent.refusal != 0 {
+        return extent.refusal;
+    }
+    *length = extent.length as u64;
+    0
+}

@@ -1,0 +1,12 @@
+-- `dbf_create::no_fields` meets its contract. Assumes nothing.
+use mathlib.Core.Path.{refl}
+use Rattle.dbf_create.specs.Laying.{noFields}
+use Rattle.dbf_create.proofs.no_fields.Statement.{statement}
+use Rattle.dbf_create.proofs.no_fields.Tie as tie
+
+returns : tie.Need-returns
+unfolding noFields
+returns c = refl
+
+pub no-fields-spec : {M : Type 1} → statement M
+no-fields-spec = tie.close (tie.spec returns)
