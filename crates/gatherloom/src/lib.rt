@@ -35,7 +35,7 @@ ghost use Rattle.dilute_call.specs.Volumes.{volumes, volumesOut};
 ghost use Rattle.gatherloom.specs.Interface.{interfaceNumber};
 
 // The number of this interface, GL_INTERFACE in the header.
-const INTERFACE: u32 = 2;
+const INTERFACE: u32 = 3;
 
 // The interface of this archive: a host compares it with GL_INTERFACE before its first call.
 #[no_mangle]

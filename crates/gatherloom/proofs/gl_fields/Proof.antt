@@ -53,7 +53,7 @@ use denote.Triple.Table.{entered, cited}
 use denote.Triple.Walked.{says, Stays, stay-slice, stay-none-slice, walkOf, goes-slice, goes-none-slice, Walks, ends-at, walked, walk-meets}
 use denote.Triple.Clauses.{ensured, lasts}
 use denote.Exit.{yes}
-use Rattle.dbf_table.specs.Table.{descriptor}
+use Rattle.dbf_table.specs.Table.{maxFields, descriptor}
 use Rattle.dbf_field.specs.Field.{entryOf}
 use Rattle.dbf_field.specs.declared.FieldEntry.{FieldEntry}
 use Rattle.dbf_field.proofs.FieldEntry as F
@@ -201,7 +201,7 @@ module _ {M : Type 1} (𝓤 : URA M) (H : Heap 𝓤) (A : Atoms 𝓤) (W : Given
   abbrev to-entry : ℕ → Entering .Ghost
   to-entry i = (((κ, tt), (q, tt), tt, (s, (i, tt)), (v ∷ [], (vint w64 i ∷ [], tt))), tt)
 
-  goes-entry : (i : ℕ) → i < 2 ^ 64 → descriptor i + 32 ≤ length (now s)
+  goes-entry : (i : ℕ) → i < 2 ^ 64 → (i < maxFields) × (descriptor i + 32 ≤ length (now s))
       → ent 𝓤 (sep 𝓤 (A .lft κ q) (sem 𝓤 H A Own)) (sep 𝓤 (Entering .pre (to-entry i)) (sem 𝓤 H A Own))
   goes-entry i fits ok =
       qed W (‵ (flft κ q) ∷ ‵ Own ∷ []) ∵ move ! (1 ∷ []) $ use1 W (‵ Own ⊛ ‵ Own) (shr-slice-copy 𝓤 H A W (named 0) κ u8 .twice s (v ∷ [])) $ split ! $
@@ -298,12 +298,12 @@ module _ {M : Type 1} (𝓤 : URA M) (H : Heap 𝓤) (A : Atoms 𝓤) (W : Given
         peeks ! R (Is R) (shows 𝓤 H A R) r (u ∷ []) (λ is.
         land ! (from ! (stop !)) (init ! 11 refl (LL.lawful F.the-type F′.the-laws 𝓤 H A W .typed r _ is .0)) $
         rewrite ! 11 (λ (w : Val). ‵ (fat fullShare (ty 8) l₈ 0 w)) (ap only (F′.lowers .val-is r _ is) ∙ ap F′.lowered e) refl $
-        -- the place of element i, 14 bytes each, and the element
+        -- the place of element i, 16 bytes each, and the element
         assigns ! (bin ! (load ! (from ! (stop !)) (look ! 17 refl)) (lit ! tt) (record { fits = times less })) (from ! (stop !))
         (init ! 9 refl (tt, record { fits = times less })) $
         assigns ! (bin ! (load ! (from ! (fld ! refl (stop !))) (look-in ! 23 (sub ! 0 refl (whole !))))
         (load ! (from ! (stop !)) (look ! 9 refl)) tt) (from ! (stop !)) (init ! 7 refl (tt, tt)) $
-        rewrite ! 7 (λ (p : ℕ). ‵ (fat fullShare (ty 10) l₁₀ 0 (vptr b p))) (sym (place-is 14 o (i .0))) refl $
+        rewrite ! 7 (λ (p : ℕ). ‵ (fat fullShare (ty 10) l₁₀ 0 (vptr b p))) (sym (place-is 16 o (i .0))) refl $
         move ! (3 ∷ []) $ elem-out ! R (Is R) (shows 𝓤 H A R) (LL.vals F.the-type F′.the-laws) (LL.tells F.the-type F′.the-laws) fullShare (zs (i .0))
         (i .0) (en (i .0)) b o (inside less) (λ _.
         -- [the element; what it owns; the others; what was returned; the table's token; what the table owns; the open borrow; obs; auth; _10; …]
@@ -339,11 +339,14 @@ module _ {M : Type 1} (𝓤 : URA M) (H : Heap 𝓤) (A : Atoms 𝓤) (W : Given
         next : T (ltb (i .0) f) → Upto
         next less = (i .0 + 1, add-one-le (ltb→lt (i .0) f less))
 
-        asked : T (ltb (i .0) f) → descriptor (i .0) + 32 ≤ length (now s)
-        asked less = fit .within (i .0) (ltb→lt (i .0) f less)
+        few : T (ltb (i .0) f) → i .0 < maxFields
+        few less = lt-of-lt-of-le (ltb→lt (i .0) f less) (fit .few)
 
-        times : T (ltb (i .0) f) → i .0 * 14 < 2 ^ 64
-        times less = let few : i .0 < 128 = lt-of-lt-of-le (ltb→lt (i .0) f less) (fit .few) in omega arith
+        asked : T (ltb (i .0) f) → (i .0 < maxFields) × (descriptor (i .0) + 32 ≤ length (now s))
+        asked less = (few less, fit .within (i .0) (ltb→lt (i .0) f less))
+
+        times : T (ltb (i .0) f) → i .0 * 16 < 2 ^ 64
+        times less = let small = few less in omega arith
 
         inside : T (ltb (i .0) f) → i .0 < length (zs (i .0))
         inside less = subst (λ (m : ℕ). i .0 < m) (sym (as-many (i .0))) (lt-of-lt-of-le (ltb→lt (i .0) f less) (fit .enough))
@@ -418,6 +421,6 @@ gl-fields-spec 𝓤 H 𝓜 𝓖 𝓡 =
     (tables 𝓤 H 𝓜 𝓡 code.env .C) (tables 𝓤 H 𝓜 𝓡 code.env .Λ) #gatherloom·gl-fields code.function (code.unfolded 𝓤 H 𝓜 𝓡)
     (gl-fields-meets 𝓤 H (𝓖 .A) (givenOf 𝓤 H 𝓜 𝓖) (𝓜 .mem) (𝓡 .run) (tablesOf 𝓤 H 𝓜 (tables 𝓤 H 𝓜 𝓡 code.env))
     (cited 𝓤 H (PlanC 𝓤 H (𝓖 .A) (𝓜 .mem) (𝓡 .run)) 𝓜 𝓡 code.env #table_calls·listing-plan plan-def.routine
-    code.calls-table-calls·listing-plan (plan-thm.met 𝓤 H 𝓜 𝓖 𝓡))
+    code.calls-dbf-calls·listing-plan (plan-thm.met 𝓤 H 𝓜 𝓖 𝓡))
     (cited 𝓤 H (EntryC 𝓤 H (𝓖 .A) (𝓜 .mem) (𝓡 .run)) 𝓜 𝓡 code.env #field·entry-at entry-at-def.routine
     code.calls-dbf-field·entry-at (entry-at-thm.met 𝓤 H 𝓜 𝓖 𝓡)))
