@@ -540,7 +540,8 @@ static void test_offsets(void)
         SAME(gl_fields(t.bytes, t.len, entries, 6), 0);
         for (int j = 1; j <= 6; j++) {
             const gl_field_entry *e = &entries[j - 1];
-            n += (size_t)snprintf(lines + n, sizeof lines - n, "field %d %s %c %d %d offset %d\n", j, (const char *)e->name, e->kind, e->length, e->decimals, e->offset);
+            n += (size_t)snprintf(lines + n, sizeof lines - n, "field %d %s %c %d %d offset %d\n", j, (const char *)e->name, e->kind, e->length, e->decimals,
+                                  e->offset);
         }
         SAME(n < want.len, 1);
         SAME_BYTES(lines, want.bytes, n);

@@ -1,5 +1,5 @@
--- Laws: what was laid out is an empty table with the fields of the lent list: it passes the table's checks, has no record, and lists the entries that were given,
--- but for the offset, which is the one worked out; an offset that is given is not read; the buffer's later bytes are kept. Assumes nothing.
+-- Laws: what was laid out is an empty table with the fields of the lent list: it passes the table's checks, has no record, and lists the entries that were
+-- given, but for the offset, which is the one worked out; an offset that is given is not read; the buffer's later bytes are kept. Assumes nothing.
 use Prim.Native.Nat.{ℕ, zero, suc, _+_, _*_, _≤_, _<_}
 use mathlib.Core.Path.{_≡_, refl, sym, ap, _∙_}
 use mathlib.Core.Bool.{true}

@@ -1,5 +1,5 @@
--- Rules: document 01, one field by value: "a name, type, length and decimals", with document 02's offset (K7), and where a field of a record lies. Refusals 1 to 10, 11 and 12. Cited by
--- `field_entry` and `field_place`.
+-- Rules: document 01, one field by value: "a name, type, length and decimals", with document 02's offset (K7), and where a field of a
+-- record lies. Refusals 1 to 10, 11 and 12. Cited by `field_entry` and `field_place`.
 use Prim.Native.Nat.{ℕ, _+_, _-_, _≤_}
 use mathlib.Core.Path.{_≡_}
 use mathlib.Core.List.{List, [], _∷_, _++_}

@@ -1,5 +1,5 @@
--- Laws: document 02, K7: "the deletion byte and the fields, in order, tile the record's R bytes without gap or overlap", shown once over the offsets and lengths
--- that the entries carry: every byte of a record belongs to exactly one of them. Assumes nothing.
+-- Laws: document 02, K7: "the deletion byte and the fields, in order, tile the record's R bytes without gap or overlap", shown once over the offsets and
+-- lengths that the entries carry: every byte of a record belongs to exactly one of them. Assumes nothing.
 use Prim.Native.Nat.{ℕ, zero, suc, _+_, _-_, _≤_, _<_}
 use mathlib.Core.Path.{_≡_, refl, sym, _∙_}
 use mathlib.Core.List.{List, [], _++_, append-assoc, append-nil}
