@@ -10,7 +10,7 @@ use lib.ListN.{length, take}
 use lib.Dec.{eqb, leb}
 use borrow.Author.Tests.{eqb-true, eqb-false, leb-true, leb-false}
 use Rattle.basis.specs.Tests.{either}
-use Rattle.refusal.specs.Checks.{firstRefusal}
+use Rattle.refusal.specs.Checks.{firstRefusal, unless}
 use Rattle.refusal.specs.CheckLaws.{first-same}
 use Rattle.fpt_memo.specs.Memo.{memoText}
 use Rattle.fpt_memo.specs.declared.MemoPlace.{MemoPlace}
@@ -41,9 +41,10 @@ use Rattle.idx_match.specs.MatchTest.{columnOf, columnBytes, entryGood, entries
 use Rattle.idx_match.specs.Computed.{matchAnswer}
 use Rattle.idx_match.specs.AnswerLaws.{answer-computed}
 use Rattle.idx_match.specs.CallLaws.{table-good}
-use Rattle.dilution.specs.Dilution.{concentrationText, isConcentration, fieldChecks, headerChecks, sheetChecks, textChecks, unless}
+use Rattle.dilution.specs.Dilution.{concentrationText, isConcentration, fieldChecks, headerChecks, sheetChecks, textChecks}
 use Rattle.dilution.specs.Dilution.{recordDilution, recordWith, barcodeChecks, diluteRule}
 use Rattle.dilution.specs.declared.Dilution.{Dilution}
+use Rattle.dilution.specs.declared.Dilution.the-variants as dilution
 
 -- the part of a memo does not depend on the table
 memo-alone : (b c m : List ℕ) (q : MemoPlace) → textPart c m (memoPart q) ≡ textPart b m (memoPart q)
@@ -242,7 +243,7 @@ module _ (b c : List ℕ) (same : SameElsewhere b c) where
 
   -- a table that is refused has the table's own refusal
   sheet-refused : (x : List ℕ) (barcodeField field : ℕ) (more : List (Bool × ℕ)) (d e : Dilution) → eqb (tableRefusal b) 0 ≡ false
-      → unless (sheetChecks b x barcodeField field ++ more) d ≡ unless (sheetChecks b x barcodeField field ++ more) e
+      → unless (sheetChecks b x barcodeField field ++ more) dilution.Refused d ≡ unless (sheetChecks b x barcodeField field ++ more) dilution.Refused e
   unfolding unless sheetChecks headerChecks
   sheet-refused x barcodeField field more d e bad = rw bad
 
