@@ -27,8 +27,8 @@ extern "C" {
 
 /* ---- Versions. */
 
-#define GL_VERSION "0.12.0" /* raised with every change, see docs/CHANGES.md */
-#define GL_INTERFACE 2      /* raised with every change of the form of a call or a struct */
+#define GL_VERSION "0.13.0" /* raised with every change, see docs/CHANGES.md */
+#define GL_INTERFACE 3      /* raised with every change of the form of a call or a struct */
 
 /* The GL_INTERFACE of the archive. A host compares it with its own before the first call: if they differ, a call may write past what it is lent. */
 uint32_t gl_interface(void);
@@ -122,8 +122,10 @@ uint32_t gl_table_check(const uint8_t *table, size_t table_len);
 uint32_t gl_table_shape(const uint8_t *table, size_t table_len,
                         uint32_t *records, uint32_t *fields, uint32_t *record_length);
 
-/* A field: its name with zeros after it, its type's letter, its length, its decimals. */
-typedef struct { uint8_t name[11]; uint8_t kind; uint8_t length; uint8_t decimals; } gl_field_entry;
+/* A field: its name with zeros after it, its type's letter, its length, its decimals, and its offset inside a record. The deletion byte has offset 0, so the
+   first field has 1; the fields follow one another and end with the record. The offset is worked out from the lengths: bytes 12 to 15 of a descriptor, where
+   other programs keep one, are not read. 16 bytes, aligned as a uint16_t. */
+typedef struct { uint8_t name[11]; uint8_t kind; uint8_t length; uint8_t decimals; uint16_t offset; } gl_field_entry;
 
 /* The field list. 1 to 10, then 14 if fewer entries are lent than there are fields. Entries past the field count are kept. */
 uint32_t gl_fields(const uint8_t *table, size_t table_len, gl_field_entry *entries, size_t entry_count);
@@ -143,7 +145,7 @@ uint32_t gl_walk(const uint8_t *table, size_t table_len, gl_position *position, 
 
 /* Lays out a table of these fields and no records. 3 unless it is a date of the years 1900 to 2155, 4 unless there are 1 to 128 entries, 6, 7, 9, 30 if the
    buffer has fewer than 34 + 32 * entry_count bytes. So many are written, the end mark last: that is the table, and the whole file. Later bytes are kept. The
-   kind of table follows from whether an M field is listed. */
+   kind of table follows from whether an M field is listed. The entries' offsets are not read: any will do. */
 uint32_t gl_table_lay_out(uint8_t *buffer, size_t buffer_len, const gl_field_entry *entries, size_t entry_count,
                           uint32_t year, uint32_t month, uint32_t day);
 

@@ -124,13 +124,13 @@ class MemoMissing(Exception):
 # ---- The library. Its calls are those of include/gatherloom.h.
 
 # the number that gl_interface() gives for the calls as they are declared here
-INTERFACE = 2
+INTERFACE = 3
 
 ACCEPTED, EMPTY, ABSENT, DONE = 0, 256, 257, 258
 
 
 class _Entry(ctypes.Structure):
-    _fields_ = [('name', ctypes.c_uint8 * 11), ('kind', ctypes.c_uint8), ('length', ctypes.c_uint8), ('decimals', ctypes.c_uint8)]
+    _fields_ = [('name', ctypes.c_uint8 * 11), ('kind', ctypes.c_uint8), ('length', ctypes.c_uint8), ('decimals', ctypes.c_uint8), ('offset', ctypes.c_uint16)]
 
 
 class _Position(ctypes.Structure):
@@ -257,12 +257,14 @@ MAX_INDEX = 16777216
 
 
 class Field(NamedTuple):
-    """A field of a table: its name, its type's letter (C, N, D, L or M), its length in bytes and its decimals."""
+    """A field of a table: its name, its type's letter (C, N, D, L or M), its length in bytes, its decimals, and its offset inside a record, where the deletion
+    byte has 0 and the first field 1. The offset of a field to lay out a table with is not looked at."""
 
     name: str
     type: str
     length: int
     decimals: int
+    offset: int = 0
 
 
 def _decimal(units, decimals):
@@ -286,7 +288,7 @@ class Table:
         entries = (_Entry * fields.value)()
         _accepted(_library.gl_fields(*_lent(self._table), entries, len(entries)))
         #: the fields, in order
-        self.fields = tuple(Field(bytes(e.name).rstrip(b'\0').decode('ascii'), chr(e.kind), e.length, e.decimals) for e in entries)
+        self.fields = tuple(Field(bytes(e.name).rstrip(b'\0').decode('ascii'), chr(e.kind), e.length, e.decimals, e.offset) for e in entries)
         self._numbers = {field.name: j for j, field in enumerate(self.fields, 1)}
         self._marks = None
         self._readers = {'N': self._number, 'D': self._date, 'L': self._logical, 'C': self._text, 'M': self._text}
@@ -485,7 +487,7 @@ class Stores(NamedTuple):
 
 def _entry(field):
     """The entry of a Field. A name or type that the entry has no room for is left out of it, and so refused by 6."""
-    name, kind, length, decimals = field
+    name, kind, length, decimals, *_ = field
     for text, what in (name, 'name'), (kind, 'type'):
         if not isinstance(text, str):
             raise TypeError(f"a field's {what} is a str, not {type(text).__name__}")

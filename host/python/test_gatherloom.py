@@ -28,8 +28,8 @@ EQUAL_KEYS = ROOT / 'crates' / 'test_equal_keys' / 'data'
 WRITING = ROOT / 'crates' / 'test_writing' / 'data'
 DILUTION = ROOT / 'crates' / 'test_dilution'
 
-PLAIN = (Field('BARCODE', 'C', 10, 0), Field('CONC', 'N', 8, 3), Field('RUN_DATE', 'D', 8, 0), Field('OK', 'L', 1, 0))
-MEMO = PLAIN + (Field('NOTE', 'M', 10, 0),)
+PLAIN = (Field('BARCODE', 'C', 10, 0, 1), Field('CONC', 'N', 8, 3, 11), Field('RUN_DATE', 'D', 8, 0, 19), Field('OK', 'L', 1, 0, 27))
+MEMO = PLAIN + (Field('NOTE', 'M', 10, 0, 28),)
 
 # Tables of other programs: their fields, and a line for each record: its number, live or deleted, and a word for each field: `-` for empty, `!16` for
 # refusal 16, `_` for a blank in a text.
@@ -70,7 +70,7 @@ TABLES = {
         3 live PLT0023757 - - -
         4 live PLT0031676 8.600 20240304 F
         5 live PLT0039595 10.750 20240305 T"""),
-    'gdal': (PLAIN[:3] + (Field('OK', 'N', 1, 0),), """
+    'gdal': (PLAIN[:3] + (Field('OK', 'N', 1, 0, 27),), """
         1 live PLT0000001 2.150 20240229 1
         2 live PLT0000002 -0.001 20231231 0
         3 live PLT0000003 !17 !20 !17
@@ -141,6 +141,17 @@ class TestCase(unittest.TestCase):
 
 
 class Tables(TestCase):
+    def test_offsets_are_worked_out(self):
+        # bytes 12 to 15 of each descriptor mislead
+        content = bytearray((SAMPLES / 'k7_k8.dbf').read_bytes())
+        lines = [line.split() for line in (SAMPLES / 'k7_k8.expected').read_text().splitlines() if line.startswith('field')]
+        fields = tuple(Field(name, kind, int(length), int(decimals), int(offset)) for _, _, name, kind, length, decimals, _, offset in lines)
+        self.assertEqual(len(fields), 6)
+        self.assertEqual(Table(content).fields, fields)
+        for j in range(len(fields)):
+            content[32 + 32 * j + 12 : 32 + 32 * j + 16] = b'\xff\xff\xff\xff'
+            self.assertEqual(Table(content).fields, fields)
+
     def test_tables_of_other_programs(self):
         for name, (fields, lines) in TABLES.items():
             with self.subTest(name):
@@ -298,7 +309,9 @@ class Writing(TestCase):
             table_len = lay_out(buffer, fields, datetime.date(*day))
             self.assertEqual(table_len, extent(buffer) + 1)
             self.assertEqual(buffer, (WRITING / words[4]).read_bytes().ljust(room, b'\xee'))
-            self.assertEqual(Table(buffer[:table_len]).fields, tuple(fields))
+            listed = Table(buffer[:table_len]).fields
+            self.assertEqual([field._replace(offset=0) for field in listed], fields)
+            self.assertEqual([field.offset for field in listed], [1 + sum(field.length for field in fields[:j]) for j in range(len(fields))])
             return buffer
         return None
 
@@ -320,6 +333,10 @@ class Writing(TestCase):
         table_len = lay_out(buffer, sample('xbase_f5').fields, today)
         self.assertEqual(Table(buffer[:table_len]).fields, MEMO)
         self.assertEqual(buffer[0], 0xF5)
+        # an offset is not looked at
+        other = bytearray(1000)
+        lay_out(other, [field._replace(offset='anywhere') for field in MEMO], today)
+        self.assertEqual(other, buffer)
 
     def check_call(self, buffer, words):
         before, table_len = bytes(buffer), extent(buffer) + 1
@@ -913,9 +930,9 @@ class Loading(TestCase):
         with tempfile.TemporaryDirectory() as folder:
             library = Path(folder) / 'other.so'
             for source, says in (
-                ('int other(void) { return 2; }', 'undefined symbol: gl_interface'),
-                ('unsigned gl_interface(void) { return 2; }', 'undefined symbol: gl_table_shape'),
-                ('unsigned gl_interface(void) { return 1; }', 'has interface 1, and gatherloom.py is for interface 2'),
+                ('int other(void) { return 3; }', 'undefined symbol: gl_interface'),
+                ('unsigned gl_interface(void) { return 3; }', 'undefined symbol: gl_table_shape'),
+                ('unsigned gl_interface(void) { return 2; }', 'has interface 2, and gatherloom.py is for interface 3'),
             ):
                 subprocess.run(['cc', '-shared', '-fPIC', '-x', 'c', '-', '-o', library], input=source.encode(), check=True)
                 message = self.message(library)

@@ -9,6 +9,7 @@ pub struct FieldEntry {
     pub kind: u8,
     pub length: u8,
     pub decimals: u8,
+    pub offset: u16,
 }
 
 /// `gl_position`
@@ -19,7 +20,7 @@ pub struct Position {
 }
 
 /// `GL_INTERFACE`: the interface that is declared here.
-pub const INTERFACE: u32 = 2;
+pub const INTERFACE: u32 = 3;
 
 /// The answers beside 0 and the refusal numbers.
 pub const EMPTY: u32 = 256;

@@ -45,6 +45,8 @@ pub struct Field {
     pub kind: u8,
     pub length: u8,
     pub decimals: u8,
+    /// From the record's start, where the deletion byte is: 1 for the first field; 0 for a field of no table yet.
+    pub offset: u16,
     name: [u8; 11],
 }
 
@@ -60,6 +62,7 @@ impl Field {
             kind,
             length,
             decimals,
+            offset: 0,
             name: held,
         }
     }
@@ -76,6 +79,7 @@ impl Field {
             kind: self.kind,
             length: self.length,
             decimals: self.decimals,
+            offset: self.offset,
         }
     }
 }
@@ -263,6 +267,7 @@ fn fields(table: &[u8], count: u32) -> Answer<Vec<Field>> {
         kind: 0,
         length: 0,
         decimals: 0,
+        offset: 0,
     };
     let mut entries = vec![none; count as usize];
     let answer = unsafe {
@@ -278,6 +283,7 @@ fn fields(table: &[u8], count: u32) -> Answer<Vec<Field>> {
         kind: e.kind,
         length: e.length,
         decimals: e.decimals,
+        offset: e.offset,
         name: e.name,
     };
     accepted(answer, entries.iter().zip(1..).map(field).collect())

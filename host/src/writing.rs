@@ -41,8 +41,8 @@ impl Stores {
 
 impl Table<'_> {
     /// Lays out a table of these fields and no records in the buffer's first bytes, the end mark last, and gives its length; later bytes stay. Fields of
-    /// another table will do: their numbers are not looked at. 3 unless it is a date of the years 1900 to 2155, 4 unless there are 1 to 128 fields, 6 for a
-    /// bad one, 7 if two have one name, 9 if a record would have more than 4,000 bytes, 30 if the buffer is too short.
+    /// another table will do: their numbers and offsets are not looked at. 3 unless it is a date of the years 1900 to 2155, 4 unless there are 1 to 128 fields,
+    /// 6 for a bad one, 7 if two have one name, 9 if a record would have more than 4,000 bytes, 30 if the buffer is too short.
     ///
     /// ```
     /// use gatherloom::{Date, Field, Refusal, Table};

@@ -135,7 +135,8 @@ static lent load(const char *folder, const char *name)
 static void test_interface(void)
 {
     SAME(gl_interface(), GL_INTERFACE);
-    SAME(sizeof(gl_field_entry), 14);
+    SAME(sizeof(gl_field_entry), 16);
+    SAME(offsetof(gl_field_entry, offset), 14);
     SAME(sizeof(gl_position), 4);
 }
 
@@ -516,12 +517,41 @@ static void test_fields(void)
     SAME(entries[1].kind, 'N');
     SAME(entries[1].length, 8);
     SAME(entries[1].decimals, 3);
+    SAME(entries[0].offset, 1);
+    SAME(entries[1].offset, 11);
+    SAME(entries[2].offset, 19);
+    SAME(entries[3].offset, 27);
     SAME_BYTES(entries + 4, before + 4, 2 * sizeof *entries);
     SAME(gl_fields(t.bytes, t.len, entries, 6), 0);
     SAME_BYTES(entries + 4, before + 4, 2 * sizeof *entries);
     UNCHANGED(t);
     MARGINS(t);
     give_back(&t);
+}
+
+/* A table whose bytes 12 to 15 of each descriptor mislead: the lines `field` of another program's answers, whatever stands there. */
+static void test_offsets(void)
+{
+    lent t = load(samples_data, "k7_k8.dbf"), want = load(samples_data, "k7_k8.expected");
+    gl_field_entry entries[6];
+    char lines[1024];
+    for (size_t set = 0; set <= 6; set++) {
+        size_t n = 0;
+        SAME(gl_fields(t.bytes, t.len, entries, 6), 0);
+        for (int j = 1; j <= 6; j++) {
+            const gl_field_entry *e = &entries[j - 1];
+            n += (size_t)snprintf(lines + n, sizeof lines - n, "field %d %s %c %d %d offset %d\n", j, (const char *)e->name, e->kind, e->length, e->decimals,
+                                  e->offset);
+        }
+        SAME(n < want.len, 1);
+        SAME_BYTES(lines, want.bytes, n);
+        SAME_BYTES(want.bytes + n, "walk", 4);
+        if (set < 6)
+            memset(t.bytes + 32 + 32 * set + 12, 0xFF, 4);
+    }
+    MARGINS(t);
+    give_back(&t);
+    give_back(&want);
 }
 
 /* Record 4 of the table is deleted; record 2 is made bad. */
@@ -1377,6 +1407,7 @@ static size_t field_entries(const char *word, gl_field_entry *to)
         word += *word == ',';
         SAME(sscanf(word, "%15[^:]:%c:%u:%u", name, &kind, &length, &decimals), 4);
         memset(&to[n], 0, sizeof *to);
+        to[n].offset = (uint16_t)(0x8001 * (n + 1)); /* any: it is not read */
         memcpy(to[n].name, name, strlen(name) < 11 ? strlen(name) : 11);
         to[n].kind = (uint8_t)kind;
         to[n].length = (uint8_t)length;
@@ -1445,6 +1476,9 @@ static void test_lay_out_limits(void)
     SAME(records, 0);
     SAME(fields, GL_FIELDS_MAX);
     SAME(length, GL_RECORD_LENGTH_MAX);
+    SAME(gl_fields(t.bytes, t.len, entries, GL_FIELDS_MAX), 0);
+    SAME(entries[0].offset, 1);
+    SAME(entries[GL_FIELDS_MAX - 1].offset + entries[GL_FIELDS_MAX - 1].length, GL_RECORD_LENGTH_MAX);
     give_back(&t);
 }
 
@@ -1801,6 +1835,7 @@ int main(int argc, char **argv)
     test_damaged_table("shp_point.dbf");
     test_damaged_table("xbase_f5.dbf");
     test_fields();
+    test_offsets();
     test_walk();
     test_samples();
     test_tree_000();

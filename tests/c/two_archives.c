@@ -123,7 +123,7 @@ static void present_keys(shape s, const uint8_t *index, size_t size, uint8_t *ke
 /* Makes the table that matches an index: its one field has the keys. It gives the table's length. */
 static size_t matching_table(shape s, const uint8_t *index, size_t size, uint8_t *table, size_t room)
 {
-    gl_field_entry field = {"KEY", 'C', (uint8_t)s.length, 0};
+    gl_field_entry field = {"KEY", 'C', (uint8_t)s.length, 0, 0};
     size_t entry = s.length + 4, length = s.length + 1;
     uint32_t records = 0;
     if (gl_table_lay_out(table, room, &field, 1, 2024, 2, 29) != 0)

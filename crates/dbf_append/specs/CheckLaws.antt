@@ -147,6 +147,11 @@ module _ (t r : List ℕ) where
   abbrev pub fieldRefused : ℕ → ℕ
   fieldRefused j = textRefusal (fieldType t j) (fieldDecimals t j) (textIn t r j)
 
+  -- by what the field's entry says
+  pub text-read : (j : ℕ) {type decimals start end : ℕ} → type ≡ fieldType t j → decimals ≡ fieldDecimals t j → start ≡ fieldOffset t j
+      → end ≡ start + fieldLength t j → textRefusal type decimals (take (end - start) (drop start r)) ≡ fieldRefused j
+  text-read j {type} {decimals} {start} {end} k d s e = rw (k, d, text-part t r j start end s e)
+
   module _ (j n : ℕ) (h : j < n) where
     one-left : n - j ≡ suc (n - (j + 1))
     one-left = omega arith

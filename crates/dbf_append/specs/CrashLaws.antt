@@ -44,7 +44,7 @@ module _ (t : List ℕ) (good : tableRefusal t ≡ 0) where
   early k h = cut-byte k (omega (arith, behind, layout t good .header .form))
 
   pub cut-form : SameForm t (shortened t)
-  cut-form = record { first = early 0 (lit< tt); rest = λ k l m. cut-byte k (omega (arith, behind)) }
+  cut-form = record { first = early 0 (lit< tt); rest = λ k l m o. cut-byte k (omega (arith, behind)) }
 
   pub cut-count : recordCount (shortened t) ≡ recordCount t
   unfolding recordCount le32

@@ -46,7 +46,7 @@ module _ (t : List ℕ) (year month day : ℕ) (good : tableRefusal t ≡ 0) (da
   dated-rest k h = getD-put-high t 1 bytes k 0 (omega arith)
 
   form : SameForm t c
-  form = record { first = dated-first; rest = λ k l m. dated-rest k (omega arith) }
+  form = record { first = dated-first; rest = λ k l m o. dated-rest k (omega arith) }
 
   count-same : recordCount c ≡ recordCount t
   unfolding recordCount le32

@@ -38,7 +38,7 @@ module _ (old : List ℕ) (whole : Whole old) where
   pub whole-good : tableRefusal old ≡ 0
   unfolding lengthGood ownEnd
   whole-good =
-      table-kept old old (whole .form) (record { first = refl; rest = λ k l m. refl })
+      table-kept old old (whole .form) (record { first = refl; rest = λ k l m o. refl })
       (size-good old (whole .form)) (date-good old (whole .form)) (fits .inside)
       (rw (eq-eqb (length old) (recordsEnd old (recordCount old)) (whole .exact)))
 
@@ -52,7 +52,7 @@ module _ (old : List ℕ) (whole : Whole old) where
     early k h = front k (omega (arith, fits .long))
 
     tail-form : SameForm old (old ++ tail)
-    tail-form = record { first = early 0 (lit< tt); rest = λ k l m. front k (omega (arith, fits .inside)) }
+    tail-form = record { first = early 0 (lit< tt); rest = λ k l m o. front k (omega (arith, fits .inside)) }
 
     tail-count : recordCount (old ++ tail) ≡ recordCount old
     unfolding recordCount le32
@@ -113,7 +113,7 @@ module _ (old r : List ℕ) (whole : Whole old) (fills : length r ≡ recordLeng
   beyond k h = getD-put-high file 4 (toLe32 (recordCount old + 1)) k 0 (omega (arith, length-toLe32 (recordCount old + 1)))
 
   pub more-form : SameForm old more
-  more-form = record { first = below 0 (lit< tt); rest = λ k l m. beyond k l ∙ kept k (omega (arith, header .inside)) }
+  more-form = record { first = below 0 (lit< tt); rest = λ k l m o. beyond k l ∙ kept k (omega (arith, header .inside)) }
 
   pub more-count : recordCount more ≡ recordCount old + 1
   unfolding counted recordCount

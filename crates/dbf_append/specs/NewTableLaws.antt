@@ -21,7 +21,7 @@ use Rattle.dbf_append.specs.declared.Store.{Store}
 use Rattle.dbf_append.specs.Extent.{ownEnd}
 use Rattle.dbf_append.specs.Append.{newEnd, appendRefusal, recordWrite, countWrite, stored, appendRule}
 use Rattle.dbf_append.specs.CheckLaws.{Accepted, accepted, append-stored}
-use Rattle.dbf_table.specs.SameForm.{header-same}
+use Rattle.dbf_table.specs.SameForm.{header-same, fields-same}
 use Rattle.dbf_append.specs.ImageLaws.{shortened, beyond, kept, more-form, more-count}
 use Rattle.dbf_append.specs.CrashLaws.{behind, cut-byte, cut-form, cut-count, cut-length, cut-whole}
 use Rattle.dbf_append.specs.CrashLaws.{newFile, fills, few, crash-safe, new-file, told-first}
@@ -67,6 +67,7 @@ module _ (b : List ℕ) (n : ℕ) (r : List ℕ) (a : Accepted b n r) where
       let form = more-form old r whole (fills b n r a) (few b n r a) mark in
       let cut = cut-form t (a .table) in
       let header = header-same t old (layout t (a .table) .header) cut in
+      let fields = fields-same t old (layout t (a .table) .header) cut in
       let count = more-count old r whole (fills b n r a) (few b n r a) mark ∙ ap (λ (k : ℕ). k + 1) (cut-count t (a .table)) in
       record {
         extends = record {
@@ -74,7 +75,7 @@ module _ (b : List ℕ) (n : ℕ) (r : List ℕ) (a : Accepted b n r) where
           new = crash-safe b n r a .file-good;
           form = record {
             first = form .first ∙ cut .first;
-            rest = λ k l m. form .rest k l (omega (arith, header)) ∙ cut .rest k l m;
+            rest = λ k l m o. form .rest k l (omega (arith, header)) (λ j n. o j (omega (arith, fields))) ∙ cut .rest k l m o;
           };
           count = omega (arith, count);
           records = λ k l m. old-byte k (omega (arith, far)) m;

@@ -111,18 +111,17 @@ fn texts_refusal(table: &[u8], fields: usize, bytes: &[u8]) -> u32
     requires { ⌜ (tableRefusal (now table) ≡ 0) × (fields ≡ fieldCount (now table)) × (length (now bytes) ≡ recordLength (now table)) ⌝ }
     ensures { λ r. ⌜ r ≡ textsRefusal (now (table .entry)) (now (bytes .entry)) 0 fields ⌝ }
 {
-    let mut start = 1;
+    let mut offset = dbf_field::FIRST_OFFSET;
     let mut j = 0;
     while j < fields {
-        let at = dbf_table::DESCRIPTORS + dbf_table::DESCRIPTOR_LENGTH * j;
-        let kind = octets::byte(table, at + dbf_table::TYPE_AT);
-        let decimals = octets::byte(table, at + dbf_table::DECIMALS_AT);
-        let end = start + octets::byte(table, at + dbf_table::LENGTH_AT) as usize;
-        let refused = text_refusal(kind, decimals, &bytes[start..end]);
+        let entry = dbf_field::entry_from(table, j, offset);
+        let start = entry.offset as usize;
+        let end = start + entry.length as usize;
+        let refused = text_refusal(entry.kind as u32, entry.decimals as u32, &bytes[start..end]);
         if refused != 0 {
             return refused;
         }
-        start = end;
+        offset = end as u16;
         j += 1;
     }
     0

@@ -8,15 +8,15 @@ use native.Mathlib.Nat.{eq-or-lt-of-le, le-of-suc-le-suc, not-suc-le-zero}
 use native.Mathlib.Numerals.{add-one}
 use native.Mathlib.Omega.{arith}
 use lib.Seq.{getD-set-same, getD-set-other}
-use lib.ListN.{length, getD, set, length-set}
+use lib.ListN.{length, getD, set, replicate, length-set}
 use lib.Dec.{eqb, leb, lit<}
 use borrow.Author.Tests.{le-leb, lt-leb, leb-true, eqb-true, ne-eqb}
 use Rattle.basis.specs.Tests.{either}
 use Rattle.refusal.specs.CheckLaws.{first-after, first-both, first-none}
 use Rattle.refusal.specs.Checks.{firstRefusal}
-use Rattle.dbf_table.specs.Table.{descriptor, maxFields, fieldCount, tableChecks, tableRefusal, checkTable}
+use Rattle.dbf_table.specs.Table.{maxFields, maxRecord, fieldOffset, fieldCount, tableChecks, tableRefusal, checkTable}
 use Rattle.dbf_table.specs.TableLaws.{layout, table-numbered, good-shape, good-then, refused-then, refused-check}
-use Rattle.dbf_table.specs.RecordLaws.{descriptor-inside}
+use Rattle.dbf_table.specs.RecordLaws.{offset-first, offset-next, field-inside}
 use Rattle.dbf_table.specs.declared.Shape.{Shape}
 use Rattle.dbf_table.specs.declared.Checked.the-variants.{Good, Refused as TableRefused}
 use Rattle.dbf_field.specs.Field.{entryOf, fieldRefusal, fieldAnswer, numberGood}
@@ -67,10 +67,10 @@ listing-good b room e =
     let held = first-none ((leb (fieldCount b) room, 14) ∷ []) (lit< tt, tt) (parts .1) in
     record { table = parts .0; enough = leb-true _ _ (held .0) }
 
--- `count` entries have room, and the descriptor of each lies in the table
+-- `count` entries have room, and each is that of a field of a good table
 pub record CountFits (b : List ℕ) (room count : ℕ) : Type 0 where
   pub few : count ≤ maxFields
-  pub within : (j : ℕ) → j < count → descriptor j + 32 ≤ length b
+  pub within : (j : ℕ) → j < count → (tableRefusal b ≡ 0) × (j < fieldCount b)
   pub enough : count ≤ room
 
 pub plan-fits : (b : List ℕ) (room : ℕ) → CountFits b room (planOf b room .count)
@@ -80,10 +80,44 @@ plan-fits b room =
     (λ none.
     let good = listing-good b room (eqb-true _ _ none) in
     let table = layout b (good .table) in
-    rw none (record { few = table .header .few; within = descriptor-inside b table; enough = good .enough }))
+    rw none (record { few = table .header .few; within = λ j l. (good .table, l); enough = good .enough }))
     (λ some. rw some (record { few = omega arith; within = λ j l. absurd (not-suc-le-zero l); enough = omega arith }))
 
 -- ---- the entries
+
+-- the deletion byte as an entry, "counted as offset 0"
+unfoldable pub deletionEntry : FieldEntry
+deletionEntry = record { name = replicate 11 0; kind = 0; length = 1; decimals = 0; offset = 0 }
+
+-- the entry before that of field j: of the deletion byte, or of the field before it
+unfoldable pub lastEntry : List ℕ → ℕ → FieldEntry
+lastEntry b zero = deletionEntry
+lastEntry b (suc j) = entryOf b j
+
+-- field j starts where it ends
+pub last-end : (b : List ℕ) (j : ℕ) → lastEntry b j .offset + lastEntry b j .length ≡ fieldOffset b j
+unfolding lastEntry deletionEntry entryOf
+last-end b zero = sym (offset-first b)
+last-end b (suc j) = sym (rw add-one at (offset-next b j))
+
+-- so the last entry says where field j of a good table starts, a place of a record
+pub record Starts (b : List ℕ) (j : ℕ) (last : FieldEntry) : Type 0 where
+  pub place : last .offset + last .length ≡ fieldOffset b j
+  pub small : last .offset + last .length ≤ maxRecord
+
+pub last-starts : (b : List ℕ) (j : ℕ) (last : FieldEntry) → tableRefusal b ≡ 0 → j < fieldCount b → last ≡ lastEntry b j → Starts b j last
+last-starts b j last good l is =
+    let table = layout b good in
+    let place : last .offset + last .length ≡ fieldOffset b j = ap (λ (e : FieldEntry). e .offset + e .length) is ∙ last-end b j in
+    record { place = place; small = omega (arith, place, table .small, field-inside b table j l) }
+
+pub last-none : (b : List ℕ) → deletionEntry ≡ lastEntry b 0
+unfolding lastEntry
+last-none b = refl
+
+pub last-next : (b : List ℕ) (j : ℕ) → entryOf b j ≡ lastEntry b (j + 1)
+unfolding lastEntry
+last-next b j = rw (add-one j)
 
 -- the entries stay as many as were lent
 pub listed-length : (b : List ℕ) (count : ℕ) (entries : List FieldEntry) → length (listed b count entries) ≡ length entries

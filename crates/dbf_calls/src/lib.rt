@@ -1,14 +1,18 @@
 // What the calls on a whole table hand to C: the answer's number, and its values in out-parameters; and, by value, those of the two calls over lent structs.
+use dbf_field::FieldEntry;
 use dbf_table::Checked;
 use dbf_walk::Position;
 use refusal::DONE;
+ghost use Prim.Native.Nat.{_<_};
 ghost use mathlib.Core.Path.{_≡_};
-ghost use Rattle.dbf_table.specs.Table.{tableRefusal, checkTable};
+ghost use Rattle.dbf_table.specs.Table.{fieldCount, tableRefusal, checkTable};
+ghost use Rattle.dbf_field.specs.Field.{entryOf};
 ghost use Rattle.dbf_append.specs.Append.{appendRule};
 ghost use Rattle.dbf_append.specs.Extent.{extentRule};
 ghost use Rattle.handed.specs.Out.{out};
 ghost use Rattle.dbf_calls.specs.Answers.{sizes, shapeOut};
 ghost use Rattle.dbf_calls.specs.Lent.{planOf, walkedOf};
+ghost use Rattle.dbf_calls.specs.LentLaws.{deletionEntry, lastEntry};
 ghost use Rattle.dbf_calls.specs.Writing.{stores, written, appendOut, extentOut};
 
 // Whether a table is good: 0, or its refusal.
@@ -72,6 +76,27 @@ pub fn listing_plan(table: &[u8], room: usize) -> Plan
             }
         }
     }
+}
+
+// The deletion byte as an entry: what stands before the first field's.
+pub fn deletion_entry() -> FieldEntry
+    ensures { λ r. ⌜ r ≡ deletionEntry ⌝ }
+{
+    FieldEntry {
+        name: [0; 11],
+        kind: 0,
+        length: 1,
+        decimals: 0,
+        offset: 0,
+    }
+}
+
+// The entry of field j, from 0, of a good table, after the one before it: it starts where that one ends, so that no offset is added up again.
+pub fn next_entry(table: &[u8], j: usize, last: FieldEntry) -> FieldEntry
+    requires { ⌜ (tableRefusal (now table) ≡ 0) × (j < fieldCount (now table)) × (last ≡ lastEntry (now table) j) ⌝ }
+    ensures { λ r. ⌜ r ≡ entryOf (now (table .entry)) j ⌝ }
+{
+    dbf_field::entry_from(table, j, last.offset + last.length as u16)
 }
 
 // A step of the walk as it is handed to C: the answer, the position after the step, and the record's number, which stays as it was if the answer is not 0.

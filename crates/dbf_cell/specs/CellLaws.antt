@@ -15,7 +15,7 @@ use Rattle.octets.specs.Bytes.{byteAt}
 use Rattle.octets.specs.Store.{window}
 use Rattle.dbf_table.specs.Table.{typeC, fieldType, fieldLength, fieldDecimals, fieldCount, recordCount, deletionByte, tableChecks}
 use Rattle.dbf_table.specs.TableLaws.{table-numbered}
-use Rattle.dbf_field.specs.Field.{placeAt, placeOf, placeRefusal, PlaceInside, formOf, numberGood}
+use Rattle.dbf_field.specs.Field.{placeAt, placeOf, placeRefusal, PlaceInside, entryOf, numberGood}
 use Rattle.dbf_field.specs.FieldLaws.{placed-at, placed-refused, place-good, place-within}
 use Rattle.dbf_field.specs.declared.Place.{Place}
 use Rattle.dbf_field.specs.declared.Placed.the-variants.{At, Refused}
@@ -72,23 +72,23 @@ module _ (reads : Reads) (b : List ℕ) (i field : ℕ) where
       cell-refused n (cell-before (λ z. said .1 (said .0 ∙ z)) ∙ sym (said .0)) (said .1)
 
   module _ (p : Place) (e : placeOf b i field ≡ At p) where
-    pub type-refused : readsType reads (p .form .kind) ≡ false → cellPlace reads b i field ≡ Refused 13
-    unfolding firstRefusal placeAt formOf
+    pub type-refused : readsType reads (p .kind) ≡ false → cellPlace reads b i field ≡ Refused 13
+    unfolding firstRefusal placeAt entryOf
     type-refused other =
         let said = placed-at b i field p e in
         let type : readsType reads (fieldType b (field - 1)) ≡ false = rw (said .1) at other in
         cell-refused 13 (cell-after (said .0) ∙ rw type) (λ z. omega arith)
 
-    pub mark-refused : readsType reads (p .form .kind) ≡ true → markGood (p .mark) ≡ false → cellPlace reads b i field ≡ Refused 15
-    unfolding firstRefusal placeAt formOf
+    pub mark-refused : readsType reads (p .kind) ≡ true → markGood (p .mark) ≡ false → cellPlace reads b i field ≡ Refused 15
+    unfolding firstRefusal placeAt entryOf
     mark-refused kind bad =
         let said = placed-at b i field p e in
         let type : readsType reads (fieldType b (field - 1)) ≡ true = rw (said .1) at kind in
         let mark : markGood (deletionByte b i) ≡ false = rw (said .1) at bad in
         cell-refused 15 (cell-after (said .0) ∙ rw (type, mark)) (λ z. omega arith)
 
-    pub place-read : readsType reads (p .form .kind) ≡ true → markGood (p .mark) ≡ true → cellPlace reads b i field ≡ At p
-    unfolding cellPlace firstRefusal placeAt formOf
+    pub place-read : readsType reads (p .kind) ≡ true → markGood (p .mark) ≡ true → cellPlace reads b i field ≡ At p
+    unfolding cellPlace firstRefusal placeAt entryOf
     place-read kind good =
         let said = placed-at b i field p e in
         let type : readsType reads (fieldType b (field - 1)) ≡ true = rw (said .1) at kind in
@@ -102,14 +102,14 @@ module _ (reads : Reads) (b : List ℕ) (i field : ℕ) where
 pub record Readable (reads : Reads) (b : List ℕ) (i field : ℕ) (p : Place) : Type 0 where
   pub none : cellRefusal reads b i field ≡ 0
   pub start : p .start ≡ fieldStart b i field
-  pub type : p .form .kind ≡ fieldType b (field - 1)
-  pub len : p .form .length ≡ fieldLength b (field - 1)
-  pub decimals : p .form .decimals ≡ fieldDecimals b (field - 1)
+  pub type : p .kind ≡ fieldType b (field - 1)
+  pub len : p .length ≡ fieldLength b (field - 1)
+  pub decimals : p .decimals ≡ fieldDecimals b (field - 1)
   pub within : PlaceInside b p
 
 module _ (reads : Reads) (b : List ℕ) (i field : ℕ) where
   pub cell-at : (p : Place) → cellPlace reads b i field ≡ At p → Readable reads b i field p
-  unfolding cellPlace placeAt formOf fieldStart
+  unfolding cellPlace placeAt entryOf fieldStart
   cell-at p e =
       either (eqb (cellRefusal reads b i field) 0)
       (λ z.
@@ -119,9 +119,9 @@ module _ (reads : Reads) (b : List ℕ) (i field : ℕ) where
       record {
         none = none;
         start = ap (λ (x : Place). x .start) same;
-        type = ap (λ (x : Place). x .form .kind) same;
-        len = ap (λ (x : Place). x .form .length) same;
-        decimals = ap (λ (x : Place). x .form .decimals) same;
+        type = ap (λ (x : Place). x .kind) same;
+        len = ap (λ (x : Place). x .length) same;
+        decimals = ap (λ (x : Place). x .decimals) same;
         within = place-within b i field p (place-good b i field (cell-both reads b i field none .0)) same;
       })
       (λ z. let q : Refused (cellRefusal reads b i field) ≡ At p = rw z at e in impossible (cc))
@@ -170,11 +170,11 @@ module _ (b : List ℕ) (i field : ℕ) where
   text-refused m n e = let said = cell-none Texts b i field n e in rw (said .0, ne-eqb n 0 (said .1))
 
   module _ (p : Place) where
-    pub number-read : cellPlace Numbers b i field ≡ At p → numberCell b i field ≡ readNumber (window b (p .start) (p .form .length)) (p .form .decimals)
+    pub number-read : cellPlace Numbers b i field ≡ At p → numberCell b i field ≡ readNumber (window b (p .start) (p .length)) (p .decimals)
     unfolding numberCell fieldBytes
     number-read e = let good = cell-at Numbers b i field p e in rw (good .none, good .start, good .len, good .decimals)
 
-    pub date-read : cellPlace Dates b i field ≡ At p → dateCell b i field ≡ dateOf (window b (p .start) (p .form .length))
+    pub date-read : cellPlace Dates b i field ≡ At p → dateCell b i field ≡ dateOf (window b (p .start) (p .length))
     unfolding dateCell fieldBytes
     date-read e = let good = cell-at Dates b i field p e in rw (good .none, good .start, good .len)
 
@@ -182,7 +182,7 @@ module _ (b : List ℕ) (i field : ℕ) where
     unfolding logicalCell
     logical-read e = let good = cell-at Logicals b i field p e in rw (good .none, good .start)
 
-    pub text-read : (m : List ℕ) → cellPlace Texts b i field ≡ At p → textCell b m i field ≡ textAt b m (p .form .kind) (p .start) (p .form .length)
+    pub text-read : (m : List ℕ) → cellPlace Texts b i field ≡ At p → textCell b m i field ≡ textAt b m (p .kind) (p .start) (p .length)
     unfolding textCell
     text-read m e = let good = cell-at Texts b i field p e in rw (good .none, good .type, good .start, good .len)
 
@@ -203,7 +203,7 @@ module _ (b m : List ℕ) where
       (λ c. rw c (memo-within (window b start len) _ refl))
 
   pub text-within : (i field : ℕ) → TextWithin b m (textCell b m i field)
-  unfolding TextWithin textCell fieldStart placeAt formOf
+  unfolding TextWithin textCell fieldStart placeAt entryOf
   text-within i field =
       either (eqb (cellRefusal Texts b i field) 0)
       (λ z.

@@ -89,7 +89,7 @@ fn cell_place(table: &[u8], reads: Reads, number: u32, field: u32) -> Placed
     match placed {
         Placed::Refused(refusal) => Placed::Refused(refusal),
         Placed::At(place) => {
-            if !reads_type(reads, place.form.kind) {
+            if !reads_type(reads, place.kind as u32) {
                 return Placed::Refused(refusal::FIELD_TYPE);
             }
             if !mark_good(place.mark) {
@@ -103,10 +103,10 @@ fn cell_place(table: &[u8], reads: Reads, number: u32, field: u32) -> Placed
 // The value of the N field at a place, in units of 10^-d, with the field's decimal count as d.
 pub fn number_at(table: &[u8], place: Place) -> Number
     requires { ⌜ PlaceInside (now table) place ⌝ }
-    ensures { λ r. ⌜ r ≡ readNumber (window (now (table .entry)) (place .start) (place .form .length)) (place .form .decimals) ⌝ }
+    ensures { λ r. ⌜ r ≡ readNumber (window (now (table .entry)) (place .start) (place .length)) (place .decimals) ⌝ }
 {
-    let text = part(table, place.start, place.form.length);
-    numeral_read::read_number(text, place.form.decimals)
+    let text = part(table, place.start, place.length as usize);
+    numeral_read::read_number(text, place.decimals as u32)
 }
 
 // The refusal of a numeric text, 0 if it is not refused.
@@ -134,9 +134,9 @@ pub fn read_number(table: &[u8], number: u32, field: u32) -> Number
 // The date of the D field at a place.
 pub fn date_at(table: &[u8], place: Place) -> DateAnswer
     requires { ⌜ PlaceInside (now table) place ⌝ }
-    ensures { λ r. ⌜ r ≡ dateOf (window (now (table .entry)) (place .start) (place .form .length)) ⌝ }
+    ensures { λ r. ⌜ r ≡ dateOf (window (now (table .entry)) (place .start) (place .length)) ⌝ }
 {
-    calendar::read_date(part(table, place.start, place.form.length))
+    calendar::read_date(part(table, place.start, place.length as usize))
 }
 
 // The date of a D field.
@@ -199,11 +199,11 @@ fn memo_part(place: MemoPlace) -> TextPlace
 // Where the text of the C or M field at a place lies. The memo file is not read for a C field.
 pub fn text_at(table: &[u8], memo: &[u8], place: Place) -> TextPlace
     requires { ⌜ PlaceInside (now table) place ⌝ }
-    ensures { λ r. ⌜ r ≡ textAt (now (table .entry)) (now (memo .entry)) (place .form .kind) (place .start) (place .form .length) ⌝ }
+    ensures { λ r. ⌜ r ≡ textAt (now (table .entry)) (now (memo .entry)) (place .kind) (place .start) (place .length) ⌝ }
 {
     let start = place.start;
-    let len = place.form.length;
-    if place.form.kind == TYPE_C {
+    let len = place.length as usize;
+    if place.kind as u32 == TYPE_C {
         return TextPlace::Table { start, len };
     }
     memo_part(fpt_memo::memo_place(part(table, start, len), memo))

@@ -1,12 +1,12 @@
--- Laws: what was laid out is an empty table with the fields of the lent list: it passes the table's checks, has no record, and lists the very entries that were
--- given; the buffer's later bytes are kept. Assumes nothing.
+-- Laws: what was laid out is an empty table with the fields of the lent list: it passes the table's checks, has no record, and lists the entries that were
+-- given, but for the offset, which is the one worked out; an offset that is given is not read; the buffer's later bytes are kept. Assumes nothing.
 use Prim.Native.Nat.{ℕ, zero, suc, _+_, _*_, _≤_, _<_}
 use mathlib.Core.Path.{_≡_, refl, sym, ap, _∙_}
 use mathlib.Core.Bool.{true}
-use mathlib.Core.List.{List, [], _∷_, _++_, append-nil}
+use mathlib.Core.List.{List, [], _∷_, _++_, map, append-nil}
 use native.Mathlib.Nat.{not-suc-le-zero}
 use native.Mathlib.Omega.{arith}
-use lib.ListN.{length, take, drop, getD, replicate, length-append, List·getD-append}
+use lib.ListN.{length, take, drop, getD, replicate, length-append, length-map, List·getD-append}
 use lib.Seq.{getD-append-add, drop-at, ext-getD}
 use lib.Dec.{lit<}
 use borrow.Author.Tests.{leb-true, le-leb}
@@ -16,7 +16,7 @@ use Rattle.refusal.specs.CheckLaws.{first-none, unless-none, unless-code}
 use Rattle.octets.specs.Bytes.{byteAt}
 use Rattle.octets.specs.Store.{put, window}
 use Rattle.octets.specs.StoreLaws.{length-put, length-window, getD-window, window-same, put-splice}
-use Rattle.dbf_table.specs.Table.{maxFields, maxRecord, descriptor, fieldCount, recordCount, fieldsGood, namesDiffer}
+use Rattle.dbf_table.specs.Table.{maxFields, maxRecord, descriptor, fieldOffset, fieldCount, recordCount, fieldsGood, namesDiffer}
 use Rattle.dbf_table.specs.Table.{tableChecks, tableRefusal, storableDate}
 use Rattle.dbf_table.specs.DateLaws.{storable}
 use Rattle.dbf_field.specs.Field.{fieldName, entryOf, noEntry}
@@ -109,9 +109,13 @@ module _ (e : FieldEntry) (n : length (e .name) ≡ 11) where
   unfolding descriptorOf
   rest-byte k = rw n at (getD-append-add (e .name) rest k 0)
 
--- a table that holds the descriptors lists the entries
+-- an entry with another offset
+abbrev pub withOffset : FieldEntry → ℕ → FieldEntry
+withOffset e n = record { name = e .name; kind = e .kind; length = e .length; decimals = e .decimals; offset = n }
+
+-- a table that holds the descriptors lists the entries, each with its own offset
 holds-entries : (t : List ℕ) (es : List FieldEntry) → Named es → Holds t (descriptorsOf es) (length es) → 32 + 32 * length es ≤ length t
-    → (j : ℕ) → j < length es → entryOf t j ≡ getD es j noEntry
+    → (j : ℕ) → j < length es → entryOf t j ≡ withOffset (getD es j noEntry) (fieldOffset t j)
 unfolding entryOf fieldName
 holds-entries t es named held long j l =
     let e = getD es j noEntry in
@@ -137,9 +141,10 @@ pub record EmptyTable (b after : List ℕ) (es : List FieldEntry) (year month da
   pub table : tableRefusal (take (headerSize (length es) + 1) after) ≡ 0
   -- it has no record
   pub records : recordCount (take (headerSize (length es) + 1) after) ≡ 0
-  -- it has the fields that were given
+  -- it has the fields that were given: each entry but for its offset, which is the one worked out
   pub count : fieldCount (take (headerSize (length es) + 1) after) ≡ length es
-  pub entries : (j : ℕ) → j < length es → entryOf (take (headerSize (length es) + 1) after) j ≡ getD es j noEntry
+  pub entries : (j : ℕ) → j < length es
+      → entryOf (take (headerSize (length es) + 1) after) j ≡ withOffset (getD es j noEntry) (fieldOffset (take (headerSize (length es) + 1) after) j)
   -- the bytes behind it are the buffer's own
   pub later : drop (headerSize (length es) + 1) after ≡ drop (headerSize (length es) + 1) b
   pub long : length after ≡ length b
@@ -170,3 +175,24 @@ empty-table b after es year month day named e =
       later = later;
       long = rw (← put-is) (length-put b 0 t);
     }
+
+-- ---- document 02, K7: "laying out doesn't read it"
+
+-- the entries with no offset
+abbrev pub bare : List FieldEntry → List FieldEntry
+bare es = map (λ e. withOffset e 0) es
+
+bare-descriptors : (es : List FieldEntry) → descriptorsOf (bare es) ≡ descriptorsOf es
+unfolding descriptorsOf descriptorOf
+bare-descriptors [] = refl
+bare-descriptors (e ∷ es) = rw (bare-descriptors es)
+
+-- Theorem: lists that differ in their offsets alone are laid out alike
+pub offsets-unread : (b : List ℕ) (es others : List FieldEntry) (year month day : ℕ) → bare es ≡ bare others
+    → layOutRule b es year month day ≡ layOutRule b others year month day
+unfolding layOutRule
+offsets-unread b es others year month day same =
+    let descriptors : descriptorsOf es ≡ descriptorsOf others = sym (bare-descriptors es) ∙ ap descriptorsOf same ∙ bare-descriptors others in
+    let count : length es ≡ length others =
+    sym (length-map es (λ e. withOffset e 0)) ∙ ap (λ (l : List FieldEntry). length l) same ∙ length-map others (λ e. withOffset e 0) in
+    rw (descriptors, count)

@@ -1,5 +1,5 @@
--- Rules: document 01, one field by value: "a name, type, length and decimals", and where a field of a record lies. Refusals 1 to 10, 11 and 12. Cited by
--- `field_entry` and `field_place`.
+-- Rules: document 01, one field by value: "a name, type, length and decimals", with document 02's offset (K7), and where a field of a
+-- record lies. Refusals 1 to 10, 11 and 12. Cited by `field_entry` and `field_place`.
 use Prim.Native.Nat.{ℕ, _+_, _-_, _≤_}
 use mathlib.Core.Path.{_≡_}
 use mathlib.Core.List.{List, [], _∷_, _++_}
@@ -12,7 +12,6 @@ use Rattle.dbf_table.specs.Table.{descriptor, fieldType, fieldLength, fieldDeci
 use Rattle.dbf_table.specs.Table.{tableChecks, tableRefusal}
 use Rattle.dbf_field.specs.declared.FieldEntry.{FieldEntry}
 use Rattle.dbf_field.specs.declared.FieldAnswer.{FieldAnswer}
-use Rattle.dbf_field.specs.declared.FieldForm.{FieldForm}
 use Rattle.dbf_field.specs.declared.Place.{Place}
 use Rattle.dbf_field.specs.declared.Placed.{Placed}
 use Rattle.dbf_field.specs.declared.Placed.the-variants.{At, Refused}
@@ -23,13 +22,14 @@ use Rattle.dbf_field.specs.declared.Placed.the-variants.{At, Refused}
 unfoldable pub fieldName : List ℕ → ℕ → List ℕ
 fieldName b j = window b (descriptor j) 11
 
--- "each a name, type, length and decimals"
+-- "each a name, type, length and decimals"; document 02, K7: "the field's offset inside the record, the deletion byte counted as offset 0, worked out by us"
 unfoldable pub entryOf : List ℕ → ℕ → FieldEntry
 entryOf b j = record {
   name = fieldName b j;
   kind = fieldType b j;
   length = fieldLength b j;
   decimals = fieldDecimals b j;
+  offset = fieldOffset b j;
 }
 
 -- the entry beside a refusal: zeros
@@ -39,6 +39,7 @@ noEntry = record {
   kind = 0;
   length = 0;
   decimals = 0;
+  offset = 0;
 }
 
 -- "record number 0 or above the count", "field number 0 or above f": true if the number is from 1 to the count
@@ -58,15 +59,6 @@ fieldAnswer b field = record {
 
 -- ---- a field in a record
 
--- what a reader needs of field j, from 0; the offset counts from the record's start
-unfoldable pub formOf : List ℕ → ℕ → FieldForm
-formOf b j = record {
-  kind = fieldType b j;
-  offset = fieldOffset b j;
-  length = fieldLength b j;
-  decimals = fieldDecimals b j;
-}
-
 -- "1 to 10 ... then 11, 12": "record number 0 or above the count", "field number 0 or above f"
 unfoldable pub placeRefusal : List ℕ → ℕ → ℕ → ℕ
 placeRefusal b number field = firstRefusal (tableChecks b ++ ((numberGood number (recordCount b), 11) ∷ (numberGood field (fieldCount b), 12) ∷ []))
@@ -79,18 +71,22 @@ pub record PlaceGood (b : List ℕ) (number field : ℕ) : Type 0 where
   pub field-from : 1 ≤ field
   pub field-to : field ≤ fieldCount b
 
--- the record's deletion byte, and where its field lies in the table: "fields follow in order"
+-- the record's deletion byte, and where its field lies in the table: as far behind the record's start as its entry says
 unfoldable pub placeAt : List ℕ → ℕ → ℕ → Place
-placeAt b number field = record {
-  mark = deletionByte b number;
-  start = recordStart b number + fieldOffset b (field - 1);
-  form = formOf b (field - 1);
-}
+placeAt b number field =
+    let entry = entryOf b (field - 1) in
+    record {
+      mark = deletionByte b number;
+      start = recordStart b number + entry .offset;
+      kind = entry .kind;
+      length = entry .length;
+      decimals = entry .decimals;
+    }
 
 -- a place lies in the table, and has a byte at least
 pub record PlaceInside (b : List ℕ) (p : Place) : Type 0 where
-  pub some : 1 ≤ p .form .length
-  pub inside : p .start + p .form .length ≤ length b
+  pub some : 1 ≤ p .length
+  pub inside : p .start + p .length ≤ length b
 
 unfoldable pub placeOf : List ℕ → ℕ → ℕ → Placed
 placeOf b number field = cond (eqb (placeRefusal b number field) 0) (At (placeAt b number field)) (Refused (placeRefusal b number field))

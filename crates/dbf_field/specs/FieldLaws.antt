@@ -13,13 +13,13 @@ use Rattle.refusal.specs.Checks.{firstRefusal}
 use Rattle.octets.specs.Bytes.{byteAt}
 use Rattle.octets.specs.Store.{window}
 use Rattle.octets.specs.StoreLaws.{window-cons}
-use Rattle.dbf_table.specs.Table.{fieldCount, recordCount, recordStart, tableChecks, tableRefusal, shapeOf, checkTable}
+use Rattle.dbf_table.specs.Table.{maxFields, descriptor, fieldCount, recordCount, recordStart, tableChecks, tableRefusal, shapeOf, checkTable}
 use Rattle.dbf_table.specs.TableLaws.{layout, table-numbered, good-check, good-then}
 use Rattle.dbf_table.specs.FormLaws.{field-form, form-some}
-use Rattle.dbf_table.specs.RecordLaws.{field-inside, record-inside, record-positive}
+use Rattle.dbf_table.specs.RecordLaws.{descriptor-inside, field-inside, record-inside, record-positive}
 use Rattle.dbf_table.specs.declared.Shape.{Shape}
 use Rattle.dbf_table.specs.declared.Checked.the-variants.{Good}
-use Rattle.dbf_field.specs.Field.{numberGood, fieldRefusal, placeRefusal, PlaceGood, formOf, placeAt, PlaceInside, placeOf, PlaceAnswer}
+use Rattle.dbf_field.specs.Field.{numberGood, fieldRefusal, placeRefusal, PlaceGood, entryOf, placeAt, PlaceInside, placeOf, PlaceAnswer}
 use Rattle.dbf_field.specs.declared.Place.{Place}
 use Rattle.dbf_field.specs.declared.Placed.{Placed}
 use Rattle.dbf_field.specs.declared.Placed.the-variants.{At, Refused}
@@ -32,6 +32,10 @@ unfolding numberGood
 number-range number count h =
     let parts = both (leb 1 number) (leb number count) h in
     (leb-true 1 number (parts .0), leb-true number count (parts .1))
+
+-- what `entry_at` asks of a field of a good table
+pub entry-inside : (b : List ℕ) (j : ℕ) → tableRefusal b ≡ 0 → j < fieldCount b → (j < maxFields) × (descriptor j + 32 ≤ length b)
+entry-inside b j good l = let table = layout b good in (omega (arith, table .header .few), descriptor-inside b table j l)
 
 -- in a good table the test of the field's number decides
 pub field-checked : (b : List ℕ) (s : Shape) (field : ℕ) → checkTable b ≡ Good s → fieldRefusal b field ≡ cond (numberGood field (s .fields)) 0 12
@@ -79,7 +83,7 @@ mark-inside b number field good =
     omega (arith, record-inside b table (number - 1) (omega arith), record-positive b table)
 
 pub place-within : (b : List ℕ) (number field : ℕ) (p : Place) → PlaceGood b number field → p ≡ placeAt b number field → PlaceInside b p
-unfolding placeAt formOf recordStart
+unfolding placeAt entryOf recordStart
 place-within b number field p good e =
     let table = layout b (good .table) in
     let within = record-inside b table (number - 1) (omega arith) in

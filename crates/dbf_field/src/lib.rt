@@ -2,17 +2,21 @@
 ghost use Prim.Native.Nat.{_+_, _≤_, _<_};
 ghost use mathlib.Core.Path.{_≡_};
 ghost use lib.ListN.{length};
-ghost use Rattle.dbf_table.specs.Table.{descriptor, fieldCount, tableRefusal};
-ghost use Rattle.dbf_field.specs.Field.{numberGood, entryOf, noEntry, fieldRefusal, fieldAnswer, formOf};
+ghost use Rattle.dbf_table.specs.Table.{maxFields, descriptor, fieldOffset};
+ghost use Rattle.dbf_field.specs.Field.{numberGood, entryOf, noEntry, fieldRefusal, fieldAnswer};
 ghost use Rattle.dbf_field.specs.Field.{placeRefusal, PlaceGood, placeAt, PlaceInside, PlaceAnswer};
 
-// A field as the host lists it.
+// Where the first field starts in a record: behind the deletion byte.
+pub const FIRST_OFFSET: u16 = 1;
+
+// A field as the host lists it; `offset` counts from the record's start, where the deletion byte is, so the first field has 1.
 #[repr(C)]
 pub struct FieldEntry {
     pub name: [u8; 11],
     pub kind: u8,
     pub length: u8,
     pub decimals: u8,
+    pub offset: u16,
 }
 
 // The answer for one field: 0 and its entry, or a refusal's number and an entry of zeros.
@@ -21,19 +25,13 @@ pub struct FieldAnswer {
     pub entry: FieldEntry,
 }
 
-// A field as its reader needs it; `offset` counts from the record's start.
-pub struct FieldForm {
-    pub kind: u32,
-    pub offset: usize,
-    pub length: usize,
-    pub decimals: u32,
-}
-
-// A field of a record: the record's deletion byte, where the field starts in the table, and its form.
+// A field of a record: the record's deletion byte, where the field starts in the table, and its entry but for the name (an enum can't hold an array).
 pub struct Place {
     pub mark: u32,
     pub start: usize,
-    pub form: FieldForm,
+    pub kind: u8,
+    pub length: u8,
+    pub decimals: u8,
 }
 
 pub enum Placed {
@@ -41,9 +39,9 @@ pub enum Placed {
     Refused(u32),
 }
 
-// The entry of field j, from 0.
-pub fn entry_at(table: &[u8], j: usize) -> FieldEntry
-    requires { ⌜ descriptor j + 32 ≤ length (now table) ⌝ }
+// The entry of field j, from 0, that starts at this offset in a record: who goes from field to field knows where one ends, and does not add up again.
+pub fn entry_from(table: &[u8], j: usize, offset: u16) -> FieldEntry
+    requires { ⌜ (descriptor j + 32 ≤ length (now table)) × (offset ≡ fieldOffset (now table) j) ⌝ }
     ensures { λ r. ⌜ r ≡ entryOf (now (table .entry)) j ⌝ }
 {
     let at = dbf_table::DESCRIPTORS + dbf_table::DESCRIPTOR_LENGTH * j;
@@ -65,7 +63,16 @@ pub fn entry_at(table: &[u8], j: usize) -> FieldEntry
         kind: table[at + dbf_table::TYPE_AT],
         length: table[at + dbf_table::LENGTH_AT],
         decimals: table[at + dbf_table::DECIMALS_AT],
+        offset,
     }
+}
+
+// The entry of field j, from 0.
+pub fn entry_at(table: &[u8], j: usize) -> FieldEntry
+    requires { ⌜ (j < maxFields) × (descriptor j + 32 ≤ length (now table)) ⌝ }
+    ensures { λ r. ⌜ r ≡ entryOf (now (table .entry)) j ⌝ }
+{
+    entry_from(table, j, dbf_fields::field_offset(table, j) as u16)
 }
 
 fn no_entry() -> FieldEntry
@@ -76,6 +83,7 @@ fn no_entry() -> FieldEntry
         kind: 0,
         length: 0,
         decimals: 0,
+        offset: 0,
     }
 }
 
@@ -114,20 +122,6 @@ pub fn field_entry(table: &[u8], field: u32) -> FieldAnswer
     FieldAnswer { refusal: 0, entry }
 }
 
-// The form of field j, from 0, of a table that was checked.
-pub fn field_form(table: &[u8], j: usize) -> FieldForm
-    requires { ⌜ (tableRefusal (now table) ≡ 0) × (j < fieldCount (now table)) ⌝ }
-    ensures { λ r. ⌜ r ≡ formOf (now (table .entry)) j ⌝ }
-{
-    let at = dbf_table::DESCRIPTORS + dbf_table::DESCRIPTOR_LENGTH * j;
-    FieldForm {
-        kind: octets::byte(table, at + dbf_table::TYPE_AT),
-        offset: dbf_fields::field_offset(table, j),
-        length: octets::byte(table, at + dbf_table::LENGTH_AT) as usize,
-        decimals: octets::byte(table, at + dbf_table::DECIMALS_AT),
-    }
-}
-
 fn place_refusal(table: &[u8], number: u32, field: u32) -> u32
     ensures { λ r. ⌜ r ≡ placeRefusal (now (table .entry)) number field ⌝ }
 {
@@ -151,11 +145,13 @@ pub fn place_at(table: &[u8], number: u32, field: u32) -> Place
     ensures { λ r. ⌜ (r ≡ placeAt (now (table .entry)) number field) × PlaceInside (now (table .entry)) r ⌝ }
 {
     let start = dbf_check::records_end(table, number - 1);
-    let form = field_form(table, (field - 1) as usize);
+    let entry = entry_at(table, (field - 1) as usize);
     Place {
         mark: octets::byte(table, start),
-        start: start + form.offset,
-        form,
+        start: start + entry.offset as usize,
+        kind: entry.kind,
+        length: entry.length,
+        decimals: entry.decimals,
     }
 }
 

@@ -21,7 +21,7 @@ module _ (b c : List ℕ) (fits : HeaderFits b) (same : SameHeader b c) where
   early k l = same .header k (omega (arith, fits .form))
 
   same-form : form.SameForm b c
-  same-form = record { first = early 0 (omega arith); rest = λ k from to. same .header k to }
+  same-form = record { first = early 0 (omega arith); rest = λ k from to o. same .header k to }
 
   -- what the header says
 

@@ -14,9 +14,11 @@ pub mod RecordLaws
 pub mod FormLaws
 -- Laws: a name is good exactly as document 01's sentence says
 pub mod NameLaws
--- Laws: two tables that agree in byte 0 and from byte 8 on have one form
+-- Laws: two tables that agree in byte 0 and from byte 8 on, but for bytes 12 to 15 of a descriptor, have one form
 pub mod SameForm
 -- Laws: the checks look at the header, the length and the byte after the records alone
 pub mod HeaderLaws
+-- Laws: bytes 12 to 15 of a descriptor are not read
+pub mod UnreadLaws
 -- Laws: what holds of a date that the header can store
 pub mod DateLaws

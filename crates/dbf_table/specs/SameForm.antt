@@ -1,5 +1,5 @@
--- Laws: what a table's header says of its form, all but the update date and the record count, stands in byte 0 and from byte 8 on. So two tables that agree
--- there have one form, whatever their dates, counts and lengths. Assumes nothing.
+-- Laws: what a table's header says of its form, all but the update date and the record count, stands in byte 0 and from byte 8 on, and not in bytes 12 to 15
+-- of a descriptor. So two tables that agree there have one form, whatever their dates, counts and lengths. Assumes nothing.
 use Prim.Native.Nat.{ℕ, zero, suc, _+_, _*_, _-_, _≤_, _<_}
 use mathlib.Core.Path.{_≡_, refl}
 use mathlib.Core.Bool.{Bool, true}
@@ -34,22 +34,33 @@ sum-same p q (suc n) h = rw (sum-same p q n (λ j l. h j (omega arith)), h n (om
 
 -- ---- two tables of one form
 
+-- byte k is none of the bytes 12 to 15 of a field's descriptor
+abbrev pub Elsewhere : List ℕ → ℕ → Type 0
+Elsewhere b k = (j : ℕ) → j < fieldCount b → descriptor j + 12 ≤ k → k < descriptor j + 16 → ⊥
+
 pub record SameForm (b c : List ℕ) : Type 0 where
   pub first : byteAt c 0 ≡ byteAt b 0
-  pub rest : (k : ℕ) → 8 ≤ k → k < headerLength b → byteAt c k ≡ byteAt b k
+  pub rest : (k : ℕ) → 8 ≤ k → k < headerLength b → Elsewhere b k → byteAt c k ≡ byteAt b k
 
 module _ (b c : List ℕ) (fits : HeaderFits b) (same : SameForm b c) where
-  -- a byte of a descriptor
-  inner : (j k : ℕ) → j < fieldCount b → k < 32 → byteAt c (descriptor j + k) ≡ byteAt b (descriptor j + k)
-  inner j k l m = same .rest (descriptor j + k) (omega arith) (omega (arith, fits .form))
+  -- a byte of a descriptor: of its name or its type, its length or its decimals
+  inner : (j k : ℕ) → j < fieldCount b → k < 12 → byteAt c (descriptor j + k) ≡ byteAt b (descriptor j + k)
+  inner j k l m = same .rest (descriptor j + k) (omega arith) (omega (arith, fits .form)) (λ i n from to. omega arith)
+
+  later : (j k : ℕ) → j < fieldCount b → 16 ≤ k → k < 18 → byteAt c (descriptor j + k) ≡ byteAt b (descriptor j + k)
+  later j k l from to = same .rest (descriptor j + k) (omega arith) (omega (arith, fits .form)) (λ i n low high. omega arith)
+
+  -- a byte before the descriptors
+  early : (k : ℕ) → 8 ≤ k → k < 32 → byteAt c k ≡ byteAt b k
+  early k l m = same .rest k l (omega (arith, fits .form)) (λ i n from to. omega arith)
 
   pub header-same : headerLength c ≡ headerLength b
   unfolding headerLength le16
-  header-same = rw (same .rest 8 (omega arith) (omega (arith, fits .form)), same .rest 9 (omega arith) (omega (arith, fits .form)))
+  header-same = rw (early 8 (omega arith) (omega arith), early 9 (omega arith) (omega arith))
 
   pub length-same : recordLength c ≡ recordLength b
   unfolding recordLength le16
-  length-same = rw (same .rest 10 (omega arith) (omega (arith, fits .form)), same .rest 11 (omega arith) (omega (arith, fits .form)))
+  length-same = rw (early 10 (omega arith) (omega arith), early 11 (omega arith) (omega arith))
 
   pub fields-same : fieldCount c ≡ fieldCount b
   unfolding fieldCount
@@ -63,10 +74,10 @@ module _ (b c : List ℕ) (fits : HeaderFits b) (same : SameForm b c) where
   type-same j l = inner j 11 l (omega arith)
 
   pub width-same : (j : ℕ) → j < fieldCount b → fieldLength c j ≡ fieldLength b j
-  width-same j l = inner j 16 l (omega arith)
+  width-same j l = later j 16 l (omega arith) (omega arith)
 
   pub decimals-same : (j : ℕ) → j < fieldCount b → fieldDecimals c j ≡ fieldDecimals b j
-  decimals-same j l = inner j 17 l (omega arith)
+  decimals-same j l = later j 17 l (omega arith) (omega arith)
 
   pub offset-same : (j : ℕ) → j ≤ fieldCount b → fieldOffset c j ≡ fieldOffset b j
   unfolding fieldOffset
@@ -80,19 +91,25 @@ module _ (b c : List ℕ) (fits : HeaderFits b) (same : SameForm b c) where
 
   pub mark-same : endMarkGood c ≡ endMarkGood b
   unfolding endMarkGood
-  mark-same = rw (header-same, same .rest (headerLength b - 1) (omega (arith, fits .form)) (omega (arith, fits .form)))
+  mark-same =
+      rw (
+        header-same,
+        same .rest (headerLength b - 1) (omega (arith, fits .form)) (omega (arith, fits .form)) (λ j l from to. omega (arith, fits .form)),
+      )
 
   name-same : (j : ℕ) → j < fieldCount b → nameGood c (descriptor j) ≡ nameGood b (descriptor j)
   unfolding nameGood nameGoesOn
   name-same j l =
       let at = descriptor j in
-      let byte : (k : ℕ) → k < 32 → byteAt c (at + k) ≡ byteAt b (at + k) = λ k m. inner j k l m in
-      let first : byteAt c at ≡ byteAt b at = same .rest at (omega arith) (omega (arith, fits .form)) in
+      let byte : (k : ℕ) → k < 12 → byteAt c (at + k) ≡ byteAt b (at + k) = λ k m. inner j k l m in
+      let next : (k : ℕ) → k < 10 → byteAt c (at + k + 1) ≡ byteAt b (at + k + 1) =
+      λ k m. same .rest (at + k + 1) (omega arith) (omega (arith, fits .form)) (λ i n from to. omega arith) in
+      let first : byteAt c at ≡ byteAt b at = same .rest at (omega arith) (omega (arith, fits .form)) (λ i n from to. omega arith) in
       rw (
         first,
         byte 10 (omega arith),
         all-same (nameGoesOn c at) (nameGoesOn b at) 10
-            (λ k m. rw (byte k (omega arith), same .rest (at + k + 1) (omega arith) (omega (arith, fits .form)))),
+            (λ k m. rw (byte k (omega arith), next k m)),
       )
 
   pub descriptors-same : fieldsGood c ≡ fieldsGood b

@@ -111,7 +111,8 @@ fieldLength b j = byteAt b (descriptor j + 16)
 abbrev pub fieldDecimals : List ℕ → ℕ → ℕ
 fieldDecimals b j = byteAt b (descriptor j + 17)
 
--- "starts ... with its deletion byte; fields follow in order": the offset of field j in a record
+-- "starts ... with its deletion byte; fields follow in order": the offset of field j in a record. Document 02, K7: "the deletion byte counted as offset 0,
+-- worked out by us and not taken from bytes 12-15. Listing, reading, writing and match share it"
 unfoldable pub fieldOffset : List ℕ → ℕ → ℕ
 fieldOffset b j = 1 + sumBelow (fieldLength b) j
 

@@ -21,7 +21,7 @@ use Rattle.numeral.specs.Format.{formatGood}
 use Rattle.numeral.specs.Writing.{numberText, signText, fractionText, written, Fits, writeNumber}
 use Rattle.numeral.specs.WritingLaws.{written-exactly, fits-length}
 use Rattle.dbf_table.specs.Table.{deletedMark, recordCount, deletionByte}
-use Rattle.dbf_field.specs.Field.{formOf, placeAt}
+use Rattle.dbf_field.specs.Field.{entryOf, placeAt}
 use Rattle.dbf_field.specs.declared.Place.{Place}
 use Rattle.dbf_cell.specs.Cell.{fieldStart, fieldBytes}
 use Rattle.dbf_cell.specs.CellLaws.{part-window}
@@ -96,9 +96,9 @@ module _ (t b : List ℕ) (q : Request) (i : ℕ) where
 
 -- the field's bytes at its place
 pub placed-bytes : (t : List ℕ) (i field : ℕ) (p : Place) → p ≡ placeAt t i field
-    → take (p .start + p .form .length - p .start) (drop (p .start) t) ≡ fieldBytes t i field
-unfolding placeAt formOf fieldBytes fieldStart
-placed-bytes t i field p e = part-window t (p .start) (p .form .length) ∙ rw e
+    → take (p .start + p .length - p .start) (drop (p .start) t) ≡ fieldBytes t i field
+unfolding placeAt entryOf fieldBytes fieldStart
+placed-bytes t i field p e = part-window t (p .start) (p .length) ∙ rw e
 
 -- ---- a request
 

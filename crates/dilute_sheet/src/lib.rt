@@ -97,7 +97,7 @@ fn put_record(
         return at;
     }
     let start = place.start;
-    let stop = start + place.form.length;
+    let stop = start + place.length as usize;
     let end = put(out, at, &table[start..stop]);
     let answer = dilution::record_dilution(
         table,

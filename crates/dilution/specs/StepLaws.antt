@@ -19,7 +19,7 @@ use Rattle.dbf_table.specs.Table.{typeN, deletedMark, fieldType, fieldDecimals,
 use Rattle.dbf_table.specs.TableLaws.{table-numbered, refused-check, good-shape}
 use Rattle.dbf_table.specs.declared.Shape.{Shape}
 use Rattle.dbf_table.specs.declared.Checked.the-variants as checked
-use Rattle.dbf_field.specs.Field.{numberGood, entryOf, formOf, placeAt, fieldRefusal, fieldAnswer}
+use Rattle.dbf_field.specs.Field.{numberGood, entryOf, placeAt, fieldRefusal, fieldAnswer}
 use Rattle.dbf_field.specs.declared.FieldEntry.{FieldEntry}
 use Rattle.dbf_field.specs.declared.FieldAnswer.{FieldAnswer}
 use Rattle.dbf_field.specs.declared.Place.{Place}
@@ -177,8 +177,8 @@ unfolding placeAt
 placed-mark t i field p e = ap (λ (q : Place). q .mark) e
 
 pub placed-text : (t : List ℕ) (i field : ℕ) (p : Place) → p ≡ placeAt t i field → isConcentration t field ≡ true
-    → readNumber (window t (p .start) (p .form .length)) (p .form .decimals) ≡ concentrationText t i field
-unfolding placeAt formOf concentrationText fieldBytes fieldStart isConcentration
+    → readNumber (window t (p .start) (p .length)) (p .decimals) ≡ concentrationText t i field
+unfolding placeAt entryOf concentrationText fieldBytes fieldStart isConcentration
 placed-text t i field p e c =
     let tests = both (eqb (fieldType t (field - 1)) typeN) (eqb (fieldDecimals t (field - 1)) concentrationDecimals) c in
     let decimals : fieldDecimals t (field - 1) ≡ concentrationDecimals = eqb-true _ _ (tests .1) in

@@ -35,7 +35,7 @@ ghost use Rattle.dilute_call.specs.Volumes.{volumes, volumesOut};
 ghost use Rattle.gatherloom.specs.Interface.{interfaceNumber};
 
 // The number of this interface, GL_INTERFACE in the header.
-const INTERFACE: u32 = 2;
+const INTERFACE: u32 = 3;
 
 // The interface of this archive: a host compares it with GL_INTERFACE before its first call.
 #[no_mangle]
@@ -78,9 +78,11 @@ pub extern "C" fn gl_fields(table: &[u8], entries: &mut [FieldEntry]) -> u32
 {
     let plan = dbf_calls::listing_plan(table, entries.len());
     let count = plan.count;
+    let mut last = dbf_calls::deletion_entry();
     let mut j: usize = 0;
     while j < count {
-        entries[j] = dbf_field::entry_at(table, j);
+        last = dbf_calls::next_entry(table, j, last);
+        entries[j] = last;
         j += 1;
     }
     plan.answer

@@ -17,8 +17,8 @@ use Rattle.dbf_table.specs.TableLaws.{layout, table-numbered, refused-check, re
 use Rattle.dbf_table.specs.RecordLaws.{field-inside, record-inside}
 use Rattle.dbf_table.specs.declared.Shape.{Shape}
 use Rattle.dbf_table.specs.declared.Checked.the-variants.{Refused}
-use Rattle.dbf_field.specs.Field.{numberGood, formOf}
-use Rattle.dbf_field.specs.declared.FieldForm.{FieldForm}
+use Rattle.dbf_field.specs.Field.{numberGood, entryOf}
+use Rattle.dbf_field.specs.declared.FieldEntry.{FieldEntry}
 use Rattle.dbf_field.specs.FieldLaws.{number-range}
 use Rattle.idx_page.specs.Header.{maxLevels, rootOffset, fileSize, keyLength, headerGood, features}
 use Rattle.idx_sound.specs.Sound.{Sound, leafPairs, Audited}
@@ -116,11 +116,11 @@ leaves-from t b c size first r ek es ef er =
     let e : entriesAlong b (c .length) size maxPages first ≡ leafEntries b = rw (ef, ek, es) in
     er ∙ ap (entriesMatch t c 0) e
 
--- the field, by the table's shape and the field's form
-pub column-is : (t : List ℕ) (s : Shape) (f : FieldForm) (field : ℕ) → Shaped t s → f ≡ formOf t (field - 1)
-    → _≡_ {A = Column} (record { records = s .records; offset = f .offset; length = f .length }) (columnOf t field)
-unfolding formOf
-column-is t s f field shaped e = rw (shaped .records, e)
+-- the field, by the table's shape and the field's entry
+pub column-is : (t : List ℕ) (s : Shape) (e : FieldEntry) (field : ℕ) → Shaped t s → e ≡ entryOf t (field - 1)
+    → _≡_ {A = Column} (record { records = s .records; offset = e .offset; length = e .length }) (columnOf t field)
+unfolding entryOf
+column-is t s e field shaped is = rw (shaped .records, is)
 
 -- what `entries_match` asks of the field
 pub column-ready : (t b : List ℕ) (field : ℕ) (good : tableRefusal t ≡ 0) (c : Column) → c ≡ columnOf t field → Ready t b field good

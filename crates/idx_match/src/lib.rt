@@ -19,7 +19,7 @@ ghost use Rattle.idx_keys.specs.Places.{InFile, EntriesWithin};
 ghost use Rattle.idx_match.specs.Match.{matchRefusal, Matched};
 ghost use Rattle.idx_match.specs.MatchTest.{entryAt, entryGood, entriesGood, entriesMatch, firstLeaf, entriesAlong, leafEntries, ColumnInside};
 
-// One field of every record of a table: how many records there are, where the field starts in a record, and its length.
+// One field of every record of a table: how many records there are, and the offset and the length that its entry has, as numbers of places.
 struct Column {
     records: u32,
     offset: usize,
@@ -114,11 +114,11 @@ fn match_refusal(table: &[u8], index: &[u8], shape: Shape, field: u32) -> u32
     if !dbf_field::number_good(field as usize, shape.fields) {
         return refusal::FIELD_NUMBER;
     }
-    let form = dbf_field::field_form(table, (field - 1) as usize);
-    if form.kind != dbf_table::TYPE_C {
+    let entry = dbf_field::entry_at(table, (field - 1) as usize);
+    if entry.kind as u32 != dbf_table::TYPE_C {
         return refusal::FIELD_TYPE;
     }
-    if form.length != idx_page::key_length(index) {
+    if entry.length as usize != idx_page::key_length(index) {
         return refusal::KEY_LENGTH;
     }
     0
@@ -136,11 +136,11 @@ fn match_checked(table: &[u8], index: &[u8], shape: Shape, field: u32) -> u32
     if idx_audit::audit(index) != 0 {
         return refusal::INDEX_NOT_SOUND;
     }
-    let form = dbf_field::field_form(table, (field - 1) as usize);
+    let entry = dbf_field::entry_at(table, (field - 1) as usize);
     let column = Column {
         records: shape.records,
-        offset: form.offset,
-        length: form.length,
+        offset: entry.offset as usize,
+        length: entry.length as usize,
     };
     if entries_match(table, index, column) {
         0

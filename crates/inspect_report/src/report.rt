@@ -168,7 +168,7 @@ fn number_value(line: &mut Line, n: usize, table: &[u8], place: Place) -> Filled
     requires { ⌜ PlaceInside (now table) place ⌝ }
 {
     match dbf_cell::number_at(table, place) {
-        Number::Value(value) => good(put_value(line, n, value, place.form.decimals)),
+        Number::Value(value) => good(put_value(line, n, value, place.decimals as u32)),
         Number::Empty => put_empty(line, n),
         Number::Refused(code) => refuse(line, n, code),
     }
@@ -224,7 +224,7 @@ fn put_cell<'a>(
 ) -> Filled
     requires { ⌜ PlaceInside (now table) place ⌝ }
 {
-    let kind = place.form.kind;
+    let kind = place.kind as u32;
     if (kind == dbf_table::TYPE_M) & !has_memo {
         return good(put(line, n, b" unread"));
     }

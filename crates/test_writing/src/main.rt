@@ -126,7 +126,7 @@ fn first_byte(word: &[u8]) -> u8 {
     word[0]
 }
 
-// `NAME TYPE LENGTH DECIMALS ..`
+// `NAME TYPE LENGTH DECIMALS ..`. The offset is not read: any will do.
 fn entry_of(text: &[u8]) -> FieldEntry {
     let kind = test_lines::after_word(text);
     let length = test_lines::after_word(kind);
@@ -136,6 +136,7 @@ fn entry_of(text: &[u8]) -> FieldEntry {
         kind: first_byte(kind),
         length: (test_lines::first_number(length) % 256) as u8,
         decimals: (test_lines::first_number(decimals) % 256) as u8,
+        offset: 65535,
     }
 }
 

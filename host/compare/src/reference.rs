@@ -29,6 +29,7 @@ pub struct Field {
     pub kind: u8,
     pub length: u8,
     pub decimals: u8,
+    pub offset: u16,
 }
 
 fn le16(b: &[u8], at: usize) -> u32 {
@@ -156,14 +157,20 @@ pub fn check_table(t: &[u8]) -> Result<Shape, Refusal> {
     Ok(shape)
 }
 
-fn field_at(t: &[u8], j: usize) -> Field {
+fn field_from(t: &[u8], j: usize, offset: u16) -> Field {
     let d = &t[32 + 32 * j..][..32];
     Field {
         name: d[..11].try_into().unwrap(),
         kind: d[11],
         length: d[16],
         decimals: d[17],
+        offset,
     }
+}
+
+fn field_at(t: &[u8], j: usize) -> Field {
+    let before: u16 = (0..j).map(|i| t[32 + 32 * i + 16] as u16).sum();
+    field_from(t, j, 1 + before)
 }
 
 /// The field list: 1 to 10, then 14.
@@ -172,8 +179,10 @@ pub fn list_fields(t: &[u8], entries: &mut [Field]) -> Result<(), Refusal> {
     if entries.len() < shape.fields {
         return Err(14);
     }
+    let mut offset = 1;
     for (j, e) in entries[..shape.fields].iter_mut().enumerate() {
-        *e = field_at(t, j);
+        *e = field_from(t, j, offset);
+        offset += e.length as u16;
     }
     Ok(())
 }
@@ -228,8 +237,7 @@ fn cell(t: &[u8], record: u32, field: u32, kinds: &[u8]) -> Result<(Field, usize
     if t[start] != 0x20 && t[start] != 0x2A {
         return Err(15);
     }
-    let before: usize = (0..j).map(|i| t[32 + 32 * i + 16] as usize).sum();
-    Ok((entry, start + 1 + before))
+    Ok((entry, start + entry.offset as usize))
 }
 
 /// A number in units of 10 to the -d; `None` for an empty field.
@@ -353,12 +361,12 @@ pub fn append(buffer: &mut [u8], length: usize, record: &[u8]) -> Result<[Store;
     if record[0] != 0x20 && record[0] != 0x2A {
         return Err(15);
     }
-    let mut rest = &record[1..];
+    let mut start = 1;
     for j in 0..shape.fields {
-        let field = field_at(buffer, j);
-        let (text, after) = rest.split_at(field.length as usize);
-        check_text(&field, text)?;
-        rest = after;
+        let field = field_from(buffer, j, start as u16);
+        let end = start + field.length as usize;
+        check_text(&field, &record[start..end])?;
+        start = end;
     }
     let place = shape.end() as usize;
     let mark = place + record.len();
@@ -1163,8 +1171,7 @@ pub fn match_index(t: &[u8], b: &[u8], field: u32) -> Result<(), Refusal> {
     if field == 0 || field as usize > shape.fields {
         return Err(12);
     }
-    let j = field as usize - 1;
-    let entry = field_at(t, j);
+    let entry = field_at(t, field as usize - 1);
     if entry.kind != b'C' {
         return Err(13);
     }
@@ -1174,9 +1181,8 @@ pub fn match_index(t: &[u8], b: &[u8], field: u32) -> Result<(), Refusal> {
     if !sound(b, &head) {
         return Err(25);
     }
-    let offset = 1 + (0..j).map(|i| t[32 + 32 * i + 16] as usize).sum::<usize>();
     let field_of = |r: usize| {
-        let at = shape.header_length + (r - 1) * shape.record_length + offset;
+        let at = shape.header_length + (r - 1) * shape.record_length + entry.offset as usize;
         &t[at..at + head.k]
     };
     if entries_match(b, &head, shape.records as usize, field_of) {
@@ -1236,26 +1242,22 @@ pub fn dilute(
     if (concentration.kind, concentration.decimals) != (b'N', 3) {
         return Err(13);
     }
-    let offset = |j: u32| {
-        1 + (1..j)
-            .map(|i| field_at(t, i as usize - 1).length as usize)
-            .sum::<usize>()
-    };
-    let key_length = field_at(t, fields.0 as usize - 1).length as usize;
+    let key = field_at(t, fields.0 as usize - 1);
+    let key_length = key.length as usize;
     if barcode.len() != key_length {
         return Err(27);
     }
     let record = t[shape.header_length..]
         .chunks_exact(shape.record_length)
         .take(shape.records as usize)
-        .find(|record| &record[offset(fields.0)..][..key_length] == barcode)
+        .find(|record| &record[key.offset as usize..][..key_length] == barcode)
         .ok_or(35u32)?;
     match record[0] {
         b' ' => (),
         b'*' => return Err(35),
         _ => return Err(15),
     }
-    let text = &record[offset(fields.1)..][..concentration.length as usize];
+    let text = &record[concentration.offset as usize..][..concentration.length as usize];
     let c = match number_read(text, 3)? {
         Some(c) if c > 0 => c as u128,
         _ => return Err(36),

@@ -1,5 +1,5 @@
 //! Other programs' tables and memo files, through the safe wrapper: what the incident was about, and every call on every field against plain Rust.
-use gatherloom::{Answer, Decimal, Refusal, Table, Value};
+use gatherloom::{Answer, Decimal, Field, Refusal, Table, Value};
 use gatherloom_compare::reference;
 use std::{fs, path::PathBuf};
 
@@ -93,7 +93,7 @@ fn by_type(table: &Table, record: u32, field: u32) {
 
 #[test]
 fn fields_are_listed_as_in_plain_rust() {
-    for name in ["shp_point.dbf", "xbase_f5.dbf", "fpc_fox.dbf"] {
+    for name in ["shp_point.dbf", "xbase_f5.dbf", "fpc_fox.dbf", "k7_k8.dbf"] {
         let bytes = read(name);
         let table = Table::new(&bytes).unwrap();
         let none = reference::Field {
@@ -101,14 +101,15 @@ fn fields_are_listed_as_in_plain_rust() {
             kind: 0,
             length: 0,
             decimals: 0,
+            offset: 0,
         };
         let mut entries = vec![none; table.fields().len()];
         reference::list_fields(&bytes, &mut entries).unwrap();
         for (field, (entry, number)) in table.fields().iter().zip(entries.iter().zip(1..)) {
             assert_eq!(field.number, number);
             assert_eq!(
-                (field.kind, field.length, field.decimals),
-                (entry.kind, entry.length, entry.decimals)
+                (field.kind, field.length, field.decimals, field.offset),
+                (entry.kind, entry.length, entry.decimals, entry.offset)
             );
             assert_eq!(
                 field.name().as_bytes(),
@@ -116,6 +117,33 @@ fn fields_are_listed_as_in_plain_rust() {
             );
             assert_eq!(table.field(field.name()), Some(field));
         }
+    }
+}
+
+/// A table whose bytes 12 to 15 of each descriptor mislead, with another program's answers; and no byte there is read.
+#[test]
+fn offsets_are_worked_out() {
+    let mut bytes = read("k7_k8.dbf");
+    let listed = |bytes: &[u8]| -> Vec<String> {
+        let table = Table::new(bytes).unwrap();
+        let line = |f: &Field| {
+            let (kind, length, decimals) = (f.kind as char, f.length, f.decimals);
+            format!(
+                "field {} {} {kind} {length} {decimals} offset {}",
+                f.number,
+                f.name(),
+                f.offset
+            )
+        };
+        table.fields().iter().map(line).collect()
+    };
+    let due = String::from_utf8(read("k7_k8.expected")).unwrap();
+    let due: Vec<&str> = due.lines().filter(|l| l.starts_with("field")).collect();
+    assert_eq!(due.len(), 6);
+    assert_eq!(listed(&bytes), due);
+    for j in 0..due.len() {
+        bytes[32 + 32 * j + 12..][..4].fill(0xFF);
+        assert_eq!(listed(&bytes), due);
     }
 }
 

@@ -51,6 +51,7 @@ const PLAIN: Calls = Calls {
                 kind: f.kind,
                 length: f.length,
                 decimals: f.decimals,
+                offset: f.offset,
             }
         };
         let entries: Vec<reference::Field> = fields.iter().map(entry).collect();
@@ -193,7 +194,8 @@ fn a_name_is_laid_out_whole_or_not_at_all() {
     assert_eq!(Table::lay_out(&mut buffer, &fields, date), Ok(66));
     let table = Table::new(&buffer).unwrap();
     assert_eq!(table.fields()[0].name(), "ABCDEFGHIJ");
-    // fields of a table lay out another
+    assert_eq!((fields[0].offset, table.fields()[0].offset), (0, 1));
+    // fields of a table lay out another, whatever their offsets
     let mut other = [0; 66];
     assert_eq!(Table::lay_out(&mut other, table.fields(), date), Ok(66));
     assert_eq!(other, buffer);

@@ -15,12 +15,15 @@ enum-known-placed c = search needs
 enum-known-placed-2 : tie.Need-enum-known-placed-2
 enum-known-placed-2 c = search needs
 
+cast-reads-type : tie.Need-cast-reads-type
+cast-reads-type c = search needs
+
 reads-type-requires : tie.Need-reads-type-requires
 reads-type-requires c κs = search needs
 
 returns : tie.Need-returns
 returns c =
-    let at = c .before .before .before in
+    let at = c .before .before .before .before in
     let placed = sym (at .before .before .field-place .ensures .case) ∙ at .placed2 .given .1 in
     sym (type-refused _ _ _ _ _ placed (failed (c .before .reads-type .ensures) (c .if1 .taken)))
 
@@ -30,7 +33,7 @@ mark-good-requires c κs = search needs
 returns-2 : tie.Need-returns-2
 returns-2 c =
     let typed = c .before .before in
-    let at = typed .before .before .before in
+    let at = typed .before .before .before .before in
     let placed = sym (at .before .before .field-place .ensures .case) ∙ at .placed2 .given .1 in
     let type = passed (typed .before .reads-type .ensures) (typed .if1 .left) in
     sym (mark-refused _ _ _ _ _ placed type (failed (c .before .mark-good .ensures) (c .if2 .taken)))
@@ -41,7 +44,7 @@ returns-3 c = sym (place-refused _ _ _ _ _ (sym (c .before .before .before .fiel
 returns-4 : tie.Need-returns-4
 returns-4 c =
     let typed = c .before .before in
-    let at = typed .before .before .before in
+    let at = typed .before .before .before .before in
     let placed = sym (at .before .before .field-place .ensures .case) ∙ at .placed2 .given .1 in
     let type = passed (typed .before .reads-type .ensures) (typed .if1 .left) in
     sym (place-read _ _ _ _ _ placed type (passed (c .before .mark-good .ensures) (c .if2 .left)))
@@ -53,6 +56,7 @@ cell-place-spec =
     field-place-requires
     enum-known-placed
     enum-known-placed-2
+    cast-reads-type
     reads-type-requires
     returns
     mark-good-requires

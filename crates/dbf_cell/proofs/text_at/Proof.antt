@@ -6,6 +6,12 @@ use Rattle.dbf_cell.specs.Cell.{textAt}
 use Rattle.dbf_cell.proofs.text_at.Statement.{statement}
 use Rattle.dbf_cell.proofs.text_at.Tie as tie
 
+cast-len : tie.Need-cast-len
+cast-len c = search needs
+
+cast-if1 : tie.Need-cast-if1
+cast-if1 c = search needs
+
 returns : tie.Need-returns
 unfolding textAt
 returns c = rw (c .if1 .taken)
@@ -27,4 +33,4 @@ returns-2 c =
 
 pub text-at-spec : {M : Type 1} → statement M
 text-at-spec =
-    tie.close (tie.spec returns part-requires memo-place-requires memo-part-requires returns-2)
+    tie.close (tie.spec cast-len cast-if1 returns part-requires memo-place-requires memo-part-requires returns-2)

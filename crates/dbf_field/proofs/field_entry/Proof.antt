@@ -3,9 +3,7 @@ use mathlib.Core.Path.{sym, _∙_}
 use native.Mathlib.Omega.{arith}
 use borrow.Author.Tests.{ne-eqb}
 use Rattle.dbf_field.specs.Field.{fieldAnswer}
-use Rattle.dbf_field.specs.FieldLaws.{FieldGood, field-good}
-use Rattle.dbf_table.specs.TableLaws.{layout}
-use Rattle.dbf_table.specs.RecordLaws.{descriptor-inside}
+use Rattle.dbf_field.specs.FieldLaws.{FieldGood, field-good, entry-inside}
 use borrow.Author.Needs.{needs}
 use Rattle.dbf_field.proofs.field_entry.Statement.{statement}
 use Rattle.dbf_field.proofs.field_entry.Tie as tie
@@ -36,7 +34,7 @@ cast-entry-at c = search needs
 entry-at-requires : tie.Need-entry-at-requires
 entry-at-requires c κs =
     let it = good c in
-    descriptor-inside _ (layout _ (it .table)) _ (omega arith)
+    entry-inside _ _ (it .table) (omega arith)
 
 returns-2 : tie.Need-returns-2
 unfolding fieldAnswer

@@ -19,6 +19,9 @@ returns c =
     rw (line-deleted (start .args .table .now) (start .args .index .now) (start .args .request) (start .args .number)
     (sym (placed-mark _ (start .args .number) _ _ (placed .place-at .ensures .0)) ∙ c .if1 .taken)) (wrote-none _ _ [] (start .pre .3))
 
+cast-stop : tie.Need-cast-stop
+cast-stop c = search needs
+
 add-stop : tie.Need-add-stop
 add-stop c = search needs
 
@@ -66,6 +69,7 @@ put-record-spec =
     (tie.spec
     place-at-requires
     returns
+    cast-stop
     add-stop
     sub-put
     part-put-start

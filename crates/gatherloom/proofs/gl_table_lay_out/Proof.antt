@@ -380,7 +380,7 @@ module _ {M : Type 1} (𝓤 : URA M) (H : Heap 𝓤) (A : Atoms 𝓤) (W : Given
         (init ! 17 refl (tt, record { fits = times less })) $
         assigns ! (bin ! (load ! (from ! (fld ! refl (stop !))) (look-in ! 42 (sub ! 0 refl (whole !)))) (load ! (from ! (stop !)) (look ! 17 refl)) tt)
         (from ! (stop !)) (init ! 15 refl (tt, tt)) $
-        rewrite ! 15 (λ (p : ℕ). ‵ (fat fullShare (ty 16) l₁₆ 0 (vptr b p))) (sym (place-is 14 o (i .0))) refl $
+        rewrite ! 15 (λ (p : ℕ). ‵ (fat fullShare (ty 16) l₁₆ 0 (vptr b p))) (sym (place-is 16 o (i .0))) refl $
         elem-out ! R (Is R) (shows 𝓤 H A R) vals tells qs es (i .0) noEntry b o (inside less) (λ is-entry.
         -- [the element; what it owns; the others; what shuts; the buffer's token; what the buffer owns; the room; _21; …]
         assigns ! (of-opd ! (load ! (from ! (hop ! (look ! 17 refl) (stop !))) (look-raw ! 0 refl))) (from ! (stop !))
@@ -475,7 +475,7 @@ module _ {M : Type 1} (𝓤 : URA M) (H : Heap 𝓤) (A : Atoms 𝓤) (W : Given
         sum : T (ltb (i .0) f) → i .0 + 1 < 2 ^ 64
         sum less = let small = few less in omega arith
 
-        times : T (ltb (i .0) f) → i .0 * 14 < 2 ^ 64
+        times : T (ltb (i .0) f) → i .0 * 16 < 2 ^ 64
         times less = let small = few less in omega arith
 
         inside : T (ltb (i .0) f) → i .0 < n

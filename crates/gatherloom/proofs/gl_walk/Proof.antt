@@ -263,4 +263,4 @@ gl-walk-spec 𝓤 H 𝓜 𝓖 𝓡 =
     (tables 𝓤 H 𝓜 𝓡 code.env .C) (tables 𝓤 H 𝓜 𝓡 code.env .Λ) #gatherloom·gl-walk code.function (code.unfolded 𝓤 H 𝓜 𝓡)
     (gl-walk-meets 𝓤 H (𝓖 .A) (givenOf 𝓤 H 𝓜 𝓖) (𝓜 .mem) (𝓡 .run) (tablesOf 𝓤 H 𝓜 (tables 𝓤 H 𝓜 𝓡 code.env))
     (cited 𝓤 H (StepC 𝓤 H (𝓖 .A) (𝓜 .mem) (𝓡 .run)) 𝓜 𝓡 code.env #table_calls·lent-step step-def.routine
-    code.calls-table-calls·lent-step (step-thm.met 𝓤 H 𝓜 𝓖 𝓡)))
+    code.calls-dbf-calls·lent-step (step-thm.met 𝓤 H 𝓜 𝓖 𝓡)))

@@ -6,9 +6,9 @@ use mathlib.Core.Bool.{true}
 use native.Mathlib.Omega.{arith}
 use Rattle.basis.specs.Tests.{passed, failed}
 use Rattle.dbf_table.specs.Table.{fieldCount, fieldType, fieldLength}
-use Rattle.dbf_field.specs.Field.{numberGood, formOf}
-use Rattle.dbf_field.specs.FieldLaws.{number-range}
-use Rattle.dbf_field.specs.declared.FieldForm.{FieldForm}
+use Rattle.dbf_field.specs.Field.{numberGood, entryOf}
+use Rattle.dbf_field.specs.FieldLaws.{number-range, entry-inside}
+use Rattle.dbf_field.specs.declared.FieldEntry.{FieldEntry}
 use Rattle.idx_page.specs.Header.{headerGood}
 use Rattle.idx_page.specs.HeaderLaws.{good-header}
 use Rattle.idx_match.specs.CallLaws.{refused-24, refused-12, refused-13, refused-27, refused-none}
@@ -27,14 +27,14 @@ start c = c .before .before .before .before .before .before
 number : (c : tie.Else2) → numberGood (start c .args .field) (fieldCount (start c .args .table .now)) ≡ true
 number c = rw (start c .pre .fields) at (passed (c .before .number-good .ensures) (c .if2 .left))
 
--- what its form says
-kind : (c : tie.After-field-form) → c .field-form .result .kind ≡ fieldType (start (c .before) .args .table .now) (start (c .before) .args .field - 1)
-unfolding formOf
-kind c = ap (λ (f : FieldForm). f .kind) (c .field-form .ensures)
+-- what its entry says
+kind : (c : tie.After-entry-at) → c .entry-at .result .kind ≡ fieldType (start (c .before) .args .table .now) (start (c .before) .args .field - 1)
+unfolding entryOf
+kind c = ap (λ (e : FieldEntry). e .kind) (c .entry-at .ensures)
 
-width : (c : tie.After-field-form) → c .field-form .result .length ≡ fieldLength (start (c .before) .args .table .now) (start (c .before) .args .field - 1)
-unfolding formOf
-width c = ap (λ (f : FieldForm). f .length) (c .field-form .ensures)
+width : (c : tie.After-entry-at) → c .entry-at .result .length ≡ fieldLength (start (c .before) .args .table .now) (start (c .before) .args .field - 1)
+unfolding entryOf
+width c = ap (λ (e : FieldEntry). e .length) (c .entry-at .ensures)
 
 header-good-requires : tie.Need-header-good-requires
 header-good-requires c κs = search needs
@@ -53,14 +53,17 @@ returns-2 c =
     let pre = tested .before .before .before .before .before .pre in
     refused-12 _ _ _ (pre .table) (header (tested .before)) (rw (pre .fields) at (failed (tested .number-good .ensures) (c .if2 .taken)))
 
-sub-field-form : tie.Need-sub-field-form
-sub-field-form c = omega (arith, number-range _ _ (number c) .0)
+sub-entry-at : tie.Need-sub-entry-at
+sub-entry-at c = omega (arith, number-range _ _ (number c) .0)
 
-cast-field-form : tie.Need-cast-field-form
-cast-field-form c = search needs
+cast-entry-at : tie.Need-cast-entry-at
+cast-entry-at c = search needs
 
-field-form-requires : tie.Need-field-form-requires
-field-form-requires c κs = let range = number-range _ _ (number c) in (start c .pre .table, omega arith)
+entry-at-requires : tie.Need-entry-at-requires
+entry-at-requires c κs = let range = number-range _ _ (number c) in entry-inside _ _ (start c .pre .table) (omega arith)
+
+cast-if3 : tie.Need-cast-if3
+cast-if3 c = search needs
 
 returns-3 : tie.Need-returns-3
 returns-3 c =
@@ -68,15 +71,18 @@ returns-3 c =
     let known = formed .before in
     refused-13 _ _ _ (start known .pre .table) (header (known .before .before)) (number known) (λ e. c .if3 .taken (kind formed ∙ e))
 
+cast-if4 : tie.Need-cast-if4
+cast-if4 c = search needs
+
 key-length-requires : tie.Need-key-length-requires
 key-length-requires c κs =
-    let known = c .before .before .before in
+    let known = c .before .before .before .before in
     good-header _ (header (known .before .before)) .long
 
 returns-4 : tie.Need-returns-4
 returns-4 c =
-    let keyed = c .before .before in
-    let typed = keyed .before in
+    let keyed = c .before in
+    let typed = keyed .before .before in
     let formed = typed .before .before in
     let known = formed .before in
     refused-27 _ _ _ (start known .pre .table) (header (known .before .before)) (number known) (sym (kind formed) ∙ typed .if3 .left)
@@ -84,8 +90,8 @@ returns-4 c =
 
 returns-5 : tie.Need-returns-5
 returns-5 c =
-    let keyed = c .before .before in
-    let typed = keyed .before in
+    let keyed = c .before in
+    let typed = keyed .before .before in
     let formed = typed .before .before in
     let known = formed .before in
     refused-none _ _ _ (start known .pre .table) (header (known .before .before)) (number known) (sym (kind formed) ∙ typed .if3 .left)
@@ -99,10 +105,12 @@ match-refusal-spec =
     returns
     number-good-requires
     returns-2
-    sub-field-form
-    cast-field-form
-    field-form-requires
+    sub-entry-at
+    cast-entry-at
+    entry-at-requires
+    cast-if3
     returns-3
+    cast-if4
     key-length-requires
     returns-4
     returns-5)

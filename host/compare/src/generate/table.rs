@@ -182,7 +182,8 @@ pub fn field_list(r: &mut Random) -> Vec<u8> {
     if r.one_in(4) {
         damage_descriptor(r, &mut t);
     }
-    let entry = |d: &[u8]| [&d[..12], &d[16..18]].concat();
+    // the offset is any: laying out does not read it
+    let entry = |d: &[u8]| [&d[..12], &d[16..18], &r.bytes(2)].concat();
     t[32..].chunks_exact(32).flat_map(entry).collect()
 }
 

@@ -53,7 +53,7 @@ pub fn table_shape(tally: &mut Tally, table: &Lent, held: u32) {
     );
 }
 
-const ENTRY: usize = 14;
+pub const ENTRY: usize = 16;
 
 /// The list is lent as its bytes, `list`, which has no others around its entries.
 pub fn fields(tally: &mut Tally, table: &Lent, list: &Lent) {
@@ -65,6 +65,7 @@ pub fn fields(tally: &mut Tally, table: &Lent, list: &Lent) {
     for e in &entries {
         bytes.extend_from_slice(&e.name);
         bytes.extend_from_slice(&[e.kind, e.length, e.decimals]);
+        bytes.extend_from_slice(&e.offset.to_le_bytes());
     }
     tally.hold(
         Call::Fields,
@@ -81,6 +82,7 @@ fn entry(bytes: &[u8]) -> reference::Field {
         kind: bytes[11],
         length: bytes[12],
         decimals: bytes[13],
+        offset: u16::from_le_bytes([bytes[14], bytes[15]]),
     }
 }
 

@@ -35,7 +35,7 @@ impl Arenas {
             index: Arena::new(MOST + 4096),
             key: Arena::new(512),
             text: Arena::new(64),
-            list: Arena::new(14 * 256),
+            list: Arena::new(calls::ENTRY * 256),
             numbers: Arena::new(4 * LIST_MOST),
             record: Arena::new(4096),
         }
@@ -110,7 +110,7 @@ fn a_table(r: &mut Random, a: &mut Arenas, tally: &mut Tally) {
     calls::table_shape(tally, &lent, r.word());
     for _ in 0..2 {
         let room = r.pick(&[0, fields.saturating_sub(1), fields, fields + 1, fields + 7]);
-        let list = r.bytes(14 * room);
+        let list = r.bytes(calls::ENTRY * room);
         let list = a.list.lend(&list, r.one_in(2));
         calls::fields(tally, &lent, &list);
     }
@@ -199,7 +199,7 @@ fn longest_files(r: &mut Random, a: &mut Arenas, tally: &mut Tally) {
 /// A table laid out from a list of fields, in a buffer of about its length.
 fn a_laid_out_table(r: &mut Random, a: &mut Arenas, tally: &mut Tally) {
     let list = table::field_list(r);
-    let table = 34 + 32 * (list.len() / 14);
+    let table = 34 + 32 * (list.len() / calls::ENTRY);
     let length = match r.below(6) {
         0 => r.below(table + 1),
         _ => table + r.pick(&[0, 0, 1, 500]) - r.below(2),

@@ -1,0 +1,1 @@
+// Specifications only: specs/ has laws about every call on a table.
