@@ -14,7 +14,7 @@ use Rattle.octets.specs.Bytes.{byteAt}
 use Rattle.octets.specs.Store.{window}
 use Rattle.dbf_table.specs.Table.{fileEnd, keptMark, deletedMark, headerLength, recordCount, deletionByte}
 use Rattle.dbf_table.specs.TableLaws.{layout}
-use Rattle.dbf_walk.specs.RunLaws.{handedOut, walkRun, walk-whole}
+use Rattle.dbf_walk.specs.RunLaws.{handedOut, liveRun, live-whole}
 use Rattle.dbf_walk.specs.declared.Step.{Step}
 use Rattle.dbf_walk.specs.declared.Step.the-variants.{Record, Done}
 use Rattle.dbf_append.specs.declared.Store.{Store}
@@ -137,6 +137,6 @@ module _ (t r c : List ℕ) (added : Added t r c) where
       ap (λ (k : ℕ). handedOut c 0 k) (added .count ∙ add-one (recordCount t)) ∙ handed-more (recordCount t) 0 (omega arith)
 
   -- so a host's calls, from the start until done
-  pub run-more : walkRun c (record { passed = 0 }) (recordCount c + 1)
+  pub run-more : liveRun c (record { passed = 0 }) (recordCount c + 1)
       ≡ handedOut t 0 (recordCount t) ++ stepOf (byteAt r 0) (recordCount t + 1) ++ (Done ∷ [])
-  run-more = walk-whole c (added .extends .new) ∙ ap (λ (l : List Step). l ++ (Done ∷ [])) walk-more
+  run-more = live-whole c (added .extends .new) ∙ ap (λ (l : List Step). l ++ (Done ∷ [])) walk-more

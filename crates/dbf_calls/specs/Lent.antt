@@ -9,12 +9,12 @@ use Rattle.refusal.specs.Checks.{firstRefusal}
 use Rattle.dbf_table.specs.Table.{fieldCount, tableChecks}
 use Rattle.dbf_field.specs.Field.{entryOf}
 use Rattle.dbf_field.specs.declared.FieldEntry.{FieldEntry}
-use Rattle.dbf_walk.specs.Walk.{walkStep}
+use Rattle.dbf_walk.specs.Walk.{liveStep}
 use Rattle.dbf_walk.specs.declared.Position.{Position}
 use Rattle.dbf_walk.specs.declared.Step.{Step}
 use Rattle.dbf_walk.specs.declared.Step.the-variants.{Record, Done, Refused}
 use Rattle.dbf_calls.specs.declared.Plan.{Plan}
-use Rattle.dbf_calls.specs.declared.LentStep.{LentStep}
+use Rattle.dbf_calls.specs.declared.LentLiveStep.{LentLiveStep}
 
 -- ---- the field list
 
@@ -63,7 +63,7 @@ stepRecord Done old = old
 stepRecord (Refused n) old = old
 
 -- a step from a position, with `old` as the number that was there
-unfoldable pub walkedOf : List ℕ → Position → ℕ → LentStep
-walkedOf b position old =
-    let walked = walkStep b position in
+unfoldable pub liveOf : List ℕ → Position → ℕ → LentLiveStep
+liveOf b position old =
+    let walked = liveStep b position in
     record { answer = stepCode (walked .answer); position = walked .position; number = stepRecord (walked .answer) old }

@@ -21,14 +21,14 @@ use Rattle.dbf_table.specs.declared.Shape.{Shape}
 use Rattle.dbf_table.specs.declared.Checked.the-variants.{Good, Refused as TableRefused}
 use Rattle.dbf_field.specs.Field.{entryOf, fieldRefusal, fieldAnswer, numberGood}
 use Rattle.dbf_field.specs.declared.FieldEntry.{FieldEntry}
-use Rattle.dbf_walk.specs.Walk.{walkStep}
+use Rattle.dbf_walk.specs.Walk.{liveStep}
 use Rattle.dbf_walk.specs.declared.Position.{Position}
 use Rattle.dbf_walk.specs.declared.Step.{Step}
 use Rattle.dbf_walk.specs.declared.Step.the-variants.{Record, Done, Refused}
 use Rattle.dbf_walk.specs.declared.Walked.{Walked}
 use Rattle.dbf_calls.specs.declared.Plan.{Plan}
-use Rattle.dbf_calls.specs.declared.LentStep.{LentStep}
-use Rattle.dbf_calls.specs.Lent.{listingRefusal, planOf, listed, Listing, listing, stepCode, stepRecord, walkedOf}
+use Rattle.dbf_calls.specs.declared.LentLiveStep.{LentLiveStep}
+use Rattle.dbf_calls.specs.Lent.{listingRefusal, planOf, listed, Listing, listing, stepCode, stepRecord, liveOf}
 
 -- ---- the field list's plan
 
@@ -190,10 +190,10 @@ listing-entry b entries j none e l =
 -- ---- the walk
 
 -- a step by the case of its answer
-pub walked-as : (b : List ℕ) (position : Position) (old : ℕ) (walked : Walked) (answer : Step) → walked ≡ walkStep b position → walked .answer ≡ answer
-    → _≡_ {A = LentStep} (record { answer = stepCode answer; position = walked .position; number = stepRecord answer old }) (walkedOf b position old)
-unfolding walkedOf
-walked-as b position old walked answer e is = rw (← e, ← is)
+pub live-as : (b : List ℕ) (position : Position) (old : ℕ) (walked : Walked) (answer : Step) → walked ≡ liveStep b position → walked .answer ≡ answer
+    → _≡_ {A = LentLiveStep} (record { answer = stepCode answer; position = walked .position; number = stepRecord answer old }) (liveOf b position old)
+unfolding liveOf
+live-as b position old walked answer e is = rw (← e, ← is)
 
 -- without a record the number stays
 other-answer : (answer : Step) (old : ℕ) → (stepCode answer ≡ 0 → ⊥) → stepRecord answer old ≡ old
@@ -201,6 +201,6 @@ other-answer (Record n) old other = absurd (other refl)
 other-answer Done old other = refl
 other-answer (Refused n) old other = refl
 
-pub walked-kept : (b : List ℕ) (position : Position) (old : ℕ) → (walkedOf b position old .answer ≡ 0 → ⊥) → walkedOf b position old .number ≡ old
-unfolding walkedOf
-walked-kept b position old other = other-answer (walkStep b position .answer) old other
+pub live-kept : (b : List ℕ) (position : Position) (old : ℕ) → (liveOf b position old .answer ≡ 0 → ⊥) → liveOf b position old .number ≡ old
+unfolding liveOf
+live-kept b position old other = other-answer (liveStep b position .answer) old other

@@ -11,7 +11,7 @@ ghost use Rattle.dbf_append.specs.Append.{appendRule};
 ghost use Rattle.dbf_append.specs.Extent.{extentRule};
 ghost use Rattle.handed.specs.Out.{out};
 ghost use Rattle.dbf_calls.specs.Answers.{sizes, shapeOut};
-ghost use Rattle.dbf_calls.specs.Lent.{planOf, walkedOf};
+ghost use Rattle.dbf_calls.specs.Lent.{planOf, liveOf};
 ghost use Rattle.dbf_calls.specs.LentLaws.{deletionEntry, lastEntry};
 ghost use Rattle.dbf_calls.specs.Writing.{stores, written, appendOut, extentOut};
 
@@ -100,31 +100,31 @@ pub fn next_entry(table: &[u8], j: usize, last: FieldEntry) -> FieldEntry
 }
 
 // A step of the walk as it is handed to C: the answer, the position after the step, and the record's number, which stays as it was if the answer is not 0.
-pub struct LentStep {
+pub struct LentLiveStep {
     pub answer: u32,
     pub position: Position,
     pub number: u32,
 }
 
 // The step by value, from a position, with `number` as the number that was there.
-pub fn lent_step(table: &[u8], position: Position, number: u32) -> LentStep
-    ensures { λ r. ⌜ r ≡ walkedOf (now (table .entry)) position number ⌝ }
+pub fn lent_live_step(table: &[u8], position: Position, number: u32) -> LentLiveStep
+    ensures { λ r. ⌜ r ≡ liveOf (now (table .entry)) position number ⌝ }
 {
-    let walked = dbf_walk::walk_step(table, position);
+    let walked = dbf_walk::live_step(table, position);
     let after = walked.position;
     let answer = walked.answer;
     match answer {
-        dbf_walk::Step::Record(found) => LentStep {
+        dbf_walk::Step::Record(found) => LentLiveStep {
             answer: 0,
             position: after,
             number: found,
         },
-        dbf_walk::Step::Done => LentStep {
+        dbf_walk::Step::Done => LentLiveStep {
             answer: DONE,
             position: after,
             number,
         },
-        dbf_walk::Step::Refused(refusal) => LentStep {
+        dbf_walk::Step::Refused(refusal) => LentLiveStep {
             answer: refusal,
             position: after,
             number,

@@ -12,7 +12,7 @@ use Rattle.dbf_table.specs.Table.{recordCount, deletionByte, keptMark, deletedM
 use Rattle.dbf_walk.specs.declared.Position.{Position}
 use Rattle.dbf_walk.specs.declared.Step.{Step}
 use Rattle.dbf_walk.specs.declared.Step.the-variants.{Record, Done, Refused}
-use Rattle.dbf_walk.specs.Walk.{walkFrom, walkStep}
+use Rattle.dbf_walk.specs.Walk.{liveFrom, liveStep}
 
 -- what the `left` records after the first `passed` give: the number of each that is kept, 15 for each bad deletion byte
 unfoldable pub handedOut : List ℕ → ℕ → ℕ → List Step
@@ -29,22 +29,22 @@ andThen Done rest = Done ∷ []
 andThen (Refused n) rest = Refused n ∷ rest
 
 -- the answers of at most `calls` calls, each with the position that the last one left, until done
-unfoldable pub walkRun : List ℕ → Position → ℕ → List Step
-walkRun b position zero = []
-walkRun b position (suc calls) = andThen (walkStep b position .answer) (walkRun b (walkStep b position .position) calls)
+unfoldable pub liveRun : List ℕ → Position → ℕ → List Step
+liveRun b position zero = []
+liveRun b position (suc calls) = andThen (liveStep b position .answer) (liveRun b (liveStep b position .position) calls)
 
 module _ (b : List ℕ) (good : tableRefusal b ≡ 0) where
   -- a step of a good table, and the calls after it
   step-then : (passed left calls : ℕ) → passed + left ≡ recordCount b
-      → walkRun b (record { passed = passed }) (suc calls)
-      ≡ andThen (walkFrom b passed passed left .answer) (walkRun b (walkFrom b passed passed left .position) calls)
-  unfolding walkRun walkStep
+      → liveRun b (record { passed = passed }) (suc calls)
+      ≡ andThen (liveFrom b passed passed left .answer) (liveRun b (liveFrom b passed passed left .position) calls)
+  unfolding liveRun liveStep
   step-then passed left calls e = let l : recordCount b - passed ≡ left = omega arith in rw (good, l)
 
   run-from : (left position passed calls : ℕ) → passed + left ≡ recordCount b → left ≤ calls
-      → andThen (walkFrom b position passed left .answer) (walkRun b (walkFrom b position passed left .position) calls)
+      → andThen (liveFrom b position passed left .answer) (liveRun b (liveFrom b position passed left .position) calls)
       ≡ handedOut b passed left ++ (Done ∷ [])
-  unfolding walkFrom handedOut
+  unfolding liveFrom handedOut
   run-from zero position passed calls e h = refl
   run-from (suc left) position passed zero e h = absurd (not-suc-le-zero h)
   run-from (suc left) position passed (suc calls) e h =
@@ -58,10 +58,10 @@ module _ (b : List ℕ) (good : tableRefusal b ≡ 0) where
       (λ bad. rw (other, bad, rest)))
 
   -- a walk from any position to its end: one call more than records are left
-  walk-run : (passed left : ℕ) → passed + left ≡ recordCount b
-      → walkRun b (record { passed = passed }) (left + 1) ≡ handedOut b passed left ++ (Done ∷ [])
-  walk-run passed left e = rw (add-one left) (step-then passed left left e ∙ run-from left passed passed left e (le-refl left))
+  live-run : (passed left : ℕ) → passed + left ≡ recordCount b
+      → liveRun b (record { passed = passed }) (left + 1) ≡ handedOut b passed left ++ (Done ∷ [])
+  live-run passed left e = rw (add-one left) (step-then passed left left e ∙ run-from left passed passed left e (le-refl left))
 
   -- a walk from 0
-  pub walk-whole : walkRun b (record { passed = 0 }) (recordCount b + 1) ≡ handedOut b 0 (recordCount b) ++ (Done ∷ [])
-  walk-whole = walk-run 0 (recordCount b) (omega arith)
+  pub live-whole : liveRun b (record { passed = 0 }) (recordCount b + 1) ≡ handedOut b 0 (recordCount b) ++ (Done ∷ [])
+  live-whole = live-run 0 (recordCount b) (omega arith)

@@ -4,7 +4,7 @@ use dbf_table::KEPT;
 ghost use Prim.Native.Nat.{_-_};
 ghost use mathlib.Core.Path.{_≡_};
 ghost use Rattle.dbf_table.specs.Table.{recordCount, tableRefusal};
-ghost use Rattle.dbf_walk.specs.Walk.{stepTo, walkFrom, walkStep};
+ghost use Rattle.dbf_walk.specs.Walk.{stepTo, liveFrom, liveStep};
 
 // The host's place in a walk: the number of records passed, 0 at first.
 #[repr(C)]
@@ -35,9 +35,9 @@ fn step_to(answer: Step, passed: u32) -> Walked
 }
 
 // The step from a position in a good table of n records.
-fn step_from(table: &[u8], n: u32, position: u32) -> Walked
+fn live_from(table: &[u8], n: u32, position: u32) -> Walked
     requires { ⌜ (tableRefusal (now table) ≡ 0) × (n ≡ recordCount (now table)) ⌝ }
-    ensures { λ r. ⌜ r ≡ walkFrom (now (table .entry)) position position (n - position) ⌝ }
+    ensures { λ r. ⌜ r ≡ liveFrom (now (table .entry)) position position (n - position) ⌝ }
 {
     let mut passed = position;
     while passed < n {
@@ -55,12 +55,12 @@ fn step_from(table: &[u8], n: u32, position: u32) -> Walked
 
 // The next undeleted record after those passed. A record with a bad deletion byte is refused and passed. If no record is left, or only deleted ones,
 // the answer is done and the position stays.
-pub fn walk_step(table: &[u8], position: Position) -> Walked
-    ensures { λ r. ⌜ r ≡ walkStep (now (table .entry)) position ⌝ }
+pub fn live_step(table: &[u8], position: Position) -> Walked
+    ensures { λ r. ⌜ r ≡ liveStep (now (table .entry)) position ⌝ }
 {
     let passed = position.passed;
     match dbf_check::check_table(table) {
-        dbf_table::Checked::Good(shape) => step_from(table, shape.records, passed),
+        dbf_table::Checked::Good(shape) => live_from(table, shape.records, passed),
         dbf_table::Checked::Refused(refused) => step_to(Step::Refused(refused), passed),
     }
 }

@@ -29,7 +29,7 @@ use Rattle.dbf_table.specs.TableLaws.{refused-check}
 use Rattle.dbf_table.specs.declared.Shape.{Shape}
 use Rattle.dbf_table.specs.declared.Checked.{Checked}
 use Rattle.dbf_table.specs.declared.Checked.the-variants as table
-use Rattle.dbf_walk.specs.Walk.{walkFrom, walkStep}
+use Rattle.dbf_walk.specs.Walk.{liveFrom, liveStep}
 use Rattle.dbf_walk.specs.declared.Position.{Position}
 use Rattle.dbf_walk.specs.declared.Step.{Step}
 use Rattle.dbf_walk.specs.declared.Step.the-variants as step
@@ -114,22 +114,22 @@ shape-told b = told (omega arith) (check-case (checkTable b) (check-refusal b)) 
 
 -- ---- the walk
 
-walk-refusal : (b : List ℕ) (position passed left : ℕ) → RefusalsNumbered step.Refused (walkFrom b position passed left .answer)
-unfolding walkFrom
-walk-refusal b position passed zero n e = impossible (cc)
-walk-refusal b position passed (suc left) n e =
+live-refusal : (b : List ℕ) (position passed left : ℕ) → RefusalsNumbered step.Refused (liveFrom b position passed left .answer)
+unfolding liveFrom
+live-refusal b position passed zero n e = impossible (cc)
+live-refusal b position passed (suc left) n e =
     let mark = deletionByte b (passed + 1) in
     either (eqb mark keptMark)
     (λ kept. let q : step.Record (passed + 1) ≡ step.Refused n = rw kept at e in impossible (cc))
     (λ other. either (eqb mark deletedMark)
-    (λ deleted. walk-refusal b position (passed + 1) left n (rw (other, deleted) at e))
+    (λ deleted. live-refusal b position (passed + 1) left n (rw (other, deleted) at e))
     (λ bad. let q : step.Refused 15 ≡ step.Refused n = rw (other, bad) at e in let k : 15 ≡ n = cc in (omega arith, omega arith)))
 
-step-refusal : (b : List ℕ) (position : Position) → RefusalsNumbered step.Refused (walkStep b position .answer)
-unfolding walkStep
+step-refusal : (b : List ℕ) (position : Position) → RefusalsNumbered step.Refused (liveStep b position .answer)
+unfolding liveStep
 step-refusal b position n e =
     either (eqb (tableRefusal b) 0)
-    (λ good. walk-refusal b (position .passed) (position .passed) (recordCount b - position .passed) n (rw good at e))
+    (λ good. live-refusal b (position .passed) (position .passed) (recordCount b - position .passed) n (rw good at e))
     (λ bad. let q : step.Refused (tableRefusal b) ≡ step.Refused n = rw bad at e in table-refusal b n bad (cc))
 
 abbrev pub IsRecord : Step → Type 0
@@ -141,9 +141,9 @@ step-case step.Done small = other refl refl
 step-case (step.Refused n) small = refused (small n refl)
 
 -- 0 is given exactly for a record, 258 exactly if the walk is done
-pub walk-told : (b : List ℕ) (position : Position) → let a = walkStep b position .answer in Told (stepCode a) doneCode (IsRecord a) (a ≡ step.Done)
-walk-told b position =
-    told (omega arith) (step-case (walkStep b position .answer) (step-refusal b position)) (λ found. ap stepCode (found .1)) (λ done. ap stepCode done)
+pub live-told : (b : List ℕ) (position : Position) → let a = liveStep b position .answer in Told (stepCode a) doneCode (IsRecord a) (a ≡ step.Done)
+live-told b position =
+    told (omega arith) (step-case (liveStep b position .answer) (step-refusal b position)) (λ found. ap stepCode (found .1)) (λ done. ap stepCode done)
 
 -- ---- one field of one record, and numeric text: 0 with a value, 256 for an empty field
 

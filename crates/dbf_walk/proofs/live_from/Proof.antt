@@ -1,19 +1,19 @@
--- `dbf_walk::step_from` meets its contract. The loop's invariant: the step from the position is the step from the records passed. Assumes nothing.
+-- `dbf_walk::live_from` meets its contract. The loop's invariant: the step from the position is the step from the records passed. Assumes nothing.
 use Prim.Native.Nat.{_+_, _-_, _<_}
 use mathlib.Core.Path.{_≡_, refl, sym, ap, _∙_}
 use native.Mathlib.Omega.{arith}
 use borrow.Author.Needs.{needs}
 use Rattle.octets.specs.Bytes.{byteAt}
-use Rattle.dbf_walk.specs.Walk.{walkFrom}
-use Rattle.dbf_walk.specs.WalkLaws.{mark-after, walk-kept, walk-deleted, walk-bad, walk-end}
+use Rattle.dbf_walk.specs.Walk.{liveFrom}
+use Rattle.dbf_walk.specs.WalkLaws.{mark-after, live-kept, live-deleted, live-bad, live-end}
 use Rattle.dbf_table.specs.Table.{deletionByte}
 use Rattle.dbf_table.specs.TableLaws.{layout}
 use Rattle.dbf_table.specs.RecordLaws.{record-inside, record-positive}
-use Rattle.dbf_walk.proofs.step_from.Statement.{statement}
-use Rattle.dbf_walk.proofs.step_from.Tie as tie
+use Rattle.dbf_walk.proofs.live_from.Statement.{statement}
+use Rattle.dbf_walk.proofs.live_from.Tie as tie
 
 abbrev Inv-loop : tie.InvT-loop
-Inv-loop table n position passed₀ passed = walkFrom table position position (n - position) ≡ walkFrom table position passed (n - passed)
+Inv-loop table n position passed₀ passed = liveFrom table position position (n - position) ≡ liveFrom table position passed (n - passed)
 
 abbrev μ-loop : tie.MeasureT-loop
 μ-loop table n position passed₀ passed = n - passed
@@ -56,7 +56,7 @@ step-to-requires c κs = search needs
 returns : tie.Need-returns Inv-loop μ-loop
 returns c =
     let at-byte = c .before .before in
-    c .step-to .ensures ∙ sym (at-loop at-byte .loop .inv ∙ walk-kept _ _ _ _ (more at-byte) (sym (mark at-byte) ∙ c .before .if1 .taken))
+    c .step-to .ensures ∙ sym (at-loop at-byte .loop .inv ∙ live-kept _ _ _ _ (more at-byte) (sym (mark at-byte) ∙ c .before .if1 .taken))
 
 add-step-to-2 : tie.Need-add-step-to-2 Inv-loop μ-loop
 add-step-to-2 c = search needs
@@ -69,7 +69,7 @@ returns-2 c =
     let at-byte = c .before .before .before in
     let kept = c .before .before .if1 .left in
     let deleted = c .before .if2 .taken in
-    let bad = walk-bad _ _ _ _ (more at-byte) (λ e. kept (mark at-byte ∙ e)) (λ e. deleted (mark at-byte ∙ e)) in
+    let bad = live-bad _ _ _ _ (more at-byte) (λ e. kept (mark at-byte ∙ e)) (λ e. deleted (mark at-byte ∙ e)) in
     c .step-to2 .ensures ∙ sym (at-loop at-byte .loop .inv ∙ bad)
 
 add-passed : tie.Need-add-passed Inv-loop μ-loop
@@ -81,17 +81,17 @@ loop-less c = search needs
 loop-again : tie.Need-loop-again Inv-loop μ-loop
 loop-again c =
     let at-byte = c .before .before in
-    at-loop at-byte .loop .inv ∙ walk-deleted _ _ _ _ (more at-byte) (sym (mark at-byte) ∙ c .if2 .left)
+    at-loop at-byte .loop .inv ∙ live-deleted _ _ _ _ (more at-byte) (sym (mark at-byte) ∙ c .if2 .left)
 
 step-to-requires-3 : tie.Need-step-to-requires-3 Inv-loop μ-loop
 step-to-requires-3 c κs = search needs
 
 returns-3 : tie.Need-returns-3 Inv-loop μ-loop
 returns-3 c =
-    c .step-to3 .ensures ∙ sym (c .before .before .loop .inv ∙ walk-end _ _ _ _ (c .before .loop-test .left))
+    c .step-to3 .ensures ∙ sym (c .before .before .loop .inv ∙ live-end _ _ _ _ (c .before .loop-test .left))
 
-pub step-from-spec : {M : Type 1} → statement M
-step-from-spec =
+pub live-from-spec : {M : Type 1} → statement M
+live-from-spec =
     tie.close
     (tie.spec
     Inv-loop

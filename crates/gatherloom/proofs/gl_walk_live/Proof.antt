@@ -1,6 +1,6 @@
--- `gatherloom::gl_walk` meets its contract: a walk of its MIR, by hand. The borrows of the position and of the number are opened, both are copied out and
--- `lent_step` is called on them; what it hands back is stored in the two cells, and each borrow is closed at its new value.
--- All that the proof knows of `lent_step` is that it meets its contract.
+-- `gatherloom::gl_walk_live` meets its contract: a walk of its MIR, by hand. The borrows of the position and of the number are opened, both are copied out and
+-- `lent_live_step` is called on them; what it hands back is stored in the two cells, and each borrow is closed at its new value.
+-- All that the proof knows of `lent_live_step` is that it meets its contract.
 -- A line `-- [..]` says which resources are held there, in the order by which the steps' numbers count them; `_k` is the MIR's local k, and `…` what frees it.
 -- Assumes nothing.
 use mathlib.Core.Path.{_≡_, refl, sym, ap}
@@ -48,20 +48,20 @@ use denote.Exit.{yes}
 use Rattle.dbf_walk.specs.declared.Position.{Position}
 use Rattle.dbf_walk.proofs.Position as P
 use Rattle.dbf_walk.proofs.Position.Laws as P′
-use Rattle.dbf_calls.specs.Lent.{walkedOf}
-use Rattle.dbf_calls.specs.declared.LentStep.{LentStep}
-use Rattle.dbf_calls.proofs.LentStep as D
-use Rattle.dbf_calls.proofs.LentStep.Laws as D′
-use Rattle.dbf_calls.proofs.lent_step as step
-use Rattle.dbf_calls.proofs.lent_step.Symbol as step-def
-use Rattle.dbf_calls.proofs.lent_step.Symbol.{name as #table_calls·lent-step}
-use Rattle.dbf_calls.proofs.lent_step.Met as step-thm
-use Rattle.gatherloom.proofs.gl_walk.Key.{name as #gatherloom·gl-walk}
-use Rattle.gatherloom.proofs.gl_walk as gl-walk
-use Rattle.gatherloom.proofs.gl_walk.Statement as stated
-use Rattle.gatherloom.proofs.gl_walk.Code as code
+use Rattle.dbf_calls.specs.Lent.{liveOf}
+use Rattle.dbf_calls.specs.declared.LentLiveStep.{LentLiveStep}
+use Rattle.dbf_calls.proofs.LentLiveStep as D
+use Rattle.dbf_calls.proofs.LentLiveStep.Laws as D′
+use Rattle.dbf_calls.proofs.lent_live_step as step
+use Rattle.dbf_calls.proofs.lent_live_step.Symbol as step-def
+use Rattle.dbf_calls.proofs.lent_live_step.Symbol.{name as #dbf_calls·lent-live-step}
+use Rattle.dbf_calls.proofs.lent_live_step.Met as step-thm
+use Rattle.gatherloom.proofs.gl_walk_live.Key.{name as #gatherloom·gl-walk-live}
+use Rattle.gatherloom.proofs.gl_walk_live as gl-walk-live
+use Rattle.gatherloom.proofs.gl_walk_live.Statement as stated
+use Rattle.gatherloom.proofs.gl_walk_live.Code as code
 
-abbrev stayed : Stays (gl-walk.ended .signature .params) (gl-walk.ended .kept)
+abbrev stayed : Stays (gl-walk-live.ended .signature .params) (gl-walk-live.ended .kept)
 stayed = (
   stay-none-slice (0 ∷ []) tt (plain (λ _. u8)) yes,
   (stay-ref (1 ∷ []) tt (plain (λ _. P.the-row)), (stay-ref (2 ∷ []) tt (plain (λ _. u32)), tt)),
@@ -75,7 +75,7 @@ module _ {M : Type 1} (𝓤 : URA M) (H : Heap 𝓤) (A : Atoms 𝓤) (at-mem : 
 -- s is the table; the position h lies at b, o and the number n at d, p
 module _ {M : Type 1} (𝓤 : URA M) (H : Heap 𝓤) (A : Atoms 𝓤) (W : Given 𝓤 H A) (at-mem : Memory → SProp 𝓤) (run : Routine → Fun 𝓤)
     (κ κ′ κ″ : Lft) (q q′ q″ : Share) (s : RefT (List ℕ)) (b o : ℕ) (γ : GName) (h : Position) (d p : ℕ) (δ : GName) (n : ℕ) where
-  -- the contract of `lent_step`
+  -- the contract of `lent_live_step`
   abbrev Stepping : Contract 𝓤
   Stepping = StepC 𝓤 H A at-mem run
 
@@ -89,12 +89,12 @@ module _ {M : Type 1} (𝓤 : URA M) (H : Heap 𝓤) (A : Atoms 𝓤) (W : Given
   abbrev at : List Val × (List Val × (List Val × Unit {0}))
   at = (v ∷ [], (vptr b o ∷ [], (vptr d p ∷ [], tt)))
 
-  abbrev found : LentStep
-  found = walkedOf (now s) h n
+  abbrev found : LentLiveStep
+  found = liveOf (now s) h n
 
   -- this function's contract as a walk, and the call that is walked
   abbrev Walk : Contract 𝓤
-  Walk = walkOf 𝓤 H A gl-walk.ended stayed (gl-walk.clauses 𝓤 H A at-mem run)
+  Walk = walkOf 𝓤 H A gl-walk-live.ended stayed (gl-walk-live.clauses 𝓤 H A at-mem run)
 
   abbrev this : Walk .Ghost
   this = (((κ, (κ′, (κ″, tt))), (q, (q′, (q″, tt))), tt, x, at), tt)
@@ -106,14 +106,14 @@ module _ {M : Type 1} (𝓤 : URA M) (H : Heap 𝓤) (A : Atoms 𝓤) (W : Given
   abbrev Own : Fml
   Own = ShrSlice (named 0) κ u8 .own s (v ∷ [])
 
-  -- what is lent to `lent_step`: the table's token, and what the table, the position and the number own
+  -- what is lent to `lent_live_step`: the table's token, and what the table, the position and the number own
   abbrev Token : Item 𝓤
   Token = ‵ (flft κ q) ⊛ ‵ ftrue
 
   abbrev Lent : Fml
   Lent = owns (ShrSlice (named 0) κ u8 ∷ P.the-row ∷ u32 ∷ []) (s, (h, (n, tt))) (v ∷ [], (P′.lowered h ∷ [], (vint w32 n ∷ [], tt)))
 
-  -- the call of `lent_step`
+  -- the call of `lent_live_step`
   abbrev to : Stepping .Ghost
   to = (((κ, tt), (q, tt), tt, (s, (h, (n, tt))), (v ∷ [], (P′.lowered h ∷ [], (vint w32 n ∷ [], tt)))), tt)
 
@@ -126,33 +126,33 @@ module _ {M : Type 1} (𝓤 : URA M) (H : Heap 𝓤) (A : Atoms 𝓤) (W : Given
       use2 W (raw (Stepping .pre to)) (qed W (Token ∷ ‵ Lent ∷ []) ∵ join ! $ frame ! $ done !) $ frame ! $ done !
 
   -- its `ensures`
-  abbrev Stepped : LentStep → SProp 𝓤
+  abbrev Stepped : LentLiveStep → SProp 𝓤
   Stepped = ensured 𝓤 H A step.ended (step.clauses 𝓤 H A at-mem run) (κ, tt) (s, (h, (n, tt))) tt
 
-  said : (r : LentStep) → ent 𝓤 (Stepped r) (fact 𝓤 (r ≡ found))
+  said : (r : LentLiveStep) → ent 𝓤 (Stepped r) (fact 𝓤 (r ≡ found))
   said r = exE 𝓤 _ (λ ws. snd∗ 𝓤 (sem 𝓤 H A (lasts step.ended (κ, tt) (s, (h, (n, tt))) ws)) (fact 𝓤 (r ≡ found)))
 
-  -- what is known of the parts of what `lent_step` returned
-  answer-fits : (r : LentStep) (u : Val) → Is D.the-row r (u ∷ []) → r .answer < 2 ^ 32
+  -- what is known of the parts of what `lent_live_step` returned
+  answer-fits : (r : LentLiveStep) (u : Val) → Is D.the-row r (u ∷ []) → r .answer < 2 ^ 32
   answer-fits r u is = LL.owed D.the-type D′.the-laws r _ is .0 .1
 
-  position-is : (r : LentStep) (u : Val) → Is D.the-row r (u ∷ []) → Is P.the-row (r .position) (P′.lowered (r .position) ∷ [])
+  position-is : (r : LentLiveStep) (u : Val) → Is D.the-row r (u ∷ []) → Is P.the-row (r .position) (P′.lowered (r .position) ∷ [])
   position-is r u is = LL.owed D.the-type D′.the-laws r _ is .1 .0
 
-  number-fits : (r : LentStep) (u : Val) → Is D.the-row r (u ∷ []) → r .number < 2 ^ 32
+  number-fits : (r : LentLiveStep) (u : Val) → Is D.the-row r (u ∷ []) → r .number < 2 ^ 32
   number-fits r u is = LL.owed D.the-type D′.the-laws r _ is .1 .1 .0 .1
 
   -- what is held at the end: the number's obs, borrow and token; the position's; the table's token and what it owns
-  abbrev AtEnd : LentStep → List (Item 𝓤)
+  abbrev AtEnd : LentLiveStep → List (Item 𝓤)
   AtEnd r =
       ‵ (fobs δ (u32 .coded .code (r .number))) ∷ ‵ (fbor κ″ (Body (mem u32) d p δ)) ∷ ‵ (flft κ″ q″)
       ∷ ‵ (fobs γ (P.the-row .coded .code (r .position))) ∷ ‵ (fbor κ′ (Body (mem P.the-row) b o γ)) ∷ ‵ (flft κ′ q′)
       ∷ Token ∷ ‵ Own ∷ []
 
-  exits : (r : LentStep) → r ≡ found → r .answer < 2 ^ 32 → ent 𝓤 (⋆ 𝓤 H A (AtEnd r)) (Post (vint w32 (r .answer)))
+  exits : (r : LentLiveStep) → r ≡ found → r .answer < 2 ^ 32 → ent 𝓤 (⋆ 𝓤 H A (AtEnd r)) (Post (vint w32 (r .answer)))
   exits r e fits =
       qed W (AtEnd r) ∵
-      suffices ! _ (ends-at 𝓤 H A gl-walk.ended stayed (gl-walk.clauses 𝓤 H A at-mem run) W this (vint w32 (r .answer)) (r .answer)
+      suffices ! _ (ends-at 𝓤 H A gl-walk-live.ended stayed (gl-walk-live.clauses 𝓤 H A at-mem run) W this (vint w32 (r .answer)) (r .answer)
       (tt, (r .position, (r .number, tt))) (tt, (tt, (tt, tt)))) $
       says ! (sym e) $
       -- the tokens
@@ -162,9 +162,9 @@ module _ {M : Type 1} (𝓤 : URA M) (H : Heap 𝓤) (A : Atoms 𝓤) (W : Given
       feqI ! (List Val) (vptr b o ∷ []) (vptr b o ∷ []) refl $ fjoin3 ! $ fjoin ! $ move ! (1 ∷ 0 ∷ []) $ fjoin ! $ frame ! $
       owned ! u32 (Is u32) (uint-makes 𝓤 H A W w32) (r .answer) _ (refl, fits) $ done !
 
-  module _ (C : Calls 𝓤 H) (Λ : Loops 𝓤 H) (fm : FmC 𝓤 H (W .laws) C) (known : Triple 𝓤 (C #table_calls·lent-step) Stepping) where
+  module _ (C : Calls 𝓤 H) (Λ : Loops 𝓤 H) (fm : FmC 𝓤 H (W .laws) C) (known : Triple 𝓤 (C #dbf_calls·lent-live-step) Stepping) where
     walk : Is (ShrSlice (named 0) κ u8) s (v ∷ [])
-        → ent 𝓤 (onEntry 𝓤 H A gl-walk.signature (κ, (κ′, (κ″, tt))) (q, (q′, (q″, tt))) x at) (WpFn 𝓤 H C Λ code.function (v ∷ vptr b o ∷ vptr d p ∷ []) Post)
+        → ent 𝓤 (onEntry 𝓤 H A gl-walk-live.signature (κ, (κ′, (κ″, tt))) (q, (q′, (q″, tt))) x at) (WpFn 𝓤 H C Λ code.function (v ∷ vptr b o ∷ vptr d p ∷ []) Post)
     walk is-table =
         qed W ((‵ (flft κ q) ⊛ ‵ (flft κ′ q′) ⊛ ‵ (flft κ″ q″) ⊛ ‵ ftrue)
         ∷ ‵ (owns (ShrSlice (named 0) κ u8 ∷ MutRef (named 1) κ′ P.the-row ∷ MutRef (named 2) κ″ u32 ∷ []) x at) ∷ []) ∵
@@ -195,11 +195,11 @@ module _ {M : Type 1} (𝓤 : URA M) (H : Heap 𝓤) (A : Atoms 𝓤) (W : Given
         assigns ! (of-opd ! (load ! (from ! (hop ! (look ! 19 refl) (stop !))) (look ! 5 refl))) (from ! (stop !))
         (init ! 13 refl (tt, record { fits = number-was .1 })) $
         move ! (10 ∷ 12 ∷ []) $ use2 W (raw (Stepping .pre to) ⊛ ‵ Own) (goes was (number-was .1)) $ split ! $
-        -- the call of `lent_step`
+        -- the call of `lent_live_step`
         calls-at ! fm Stepping known to
         (and-then ! (load ! (from ! (stop !)) (look ! 23 refl))
         (and-then ! (load ! (from ! (stop !)) (look ! 15 refl)) (and-then ! (load ! (from ! (stop !)) (look ! 13 refl)) (no-more !)))) (λ u.
-        use1 W (later (some (λ (r : LentStep). (Token ⊛ ‵ (D.the-row .own r (u ∷ []))) ⊛ raw (Stepped r)))) (id⊢ 𝓤 _) $ await ! tt $ pick ! (λ r.
+        use1 W (later (some (λ (r : LentLiveStep). (Token ⊛ ‵ (D.the-row .own r (u ∷ []))) ⊛ raw (Stepped r)))) (id⊢ 𝓤 _) $ await ! tt $ pick ! (λ r.
         split ! $ move ! (1 ∷ []) $ use1 W (raw (fact 𝓤 (r ≡ found))) (said r) $ heard ! (r ≡ found) (λ e. split ! $ move ! (1 ∷ []) $
         -- [what was returned; the table's token; what the table owns; the position's cell; what a Position owns; its open borrow; obs;
         --  auth; the number's cell; its open borrow; obs; auth; true; true; _6; …; .. down to _0; …]
@@ -231,14 +231,14 @@ module _ {M : Type 1} (𝓤 : URA M) (H : Heap 𝓤) (A : Atoms 𝓤) (W : Given
         keep ! (0 ∷ 1 ∷ 2 ∷ 3 ∷ 4 ∷ 5 ∷ 7 ∷ 8 ∷ []) $ by ! (exits r e (answer-fits r u is)))))))))))))))))
 
 module _ {M : Type 1} (𝓤 : URA M) (H : Heap 𝓤) (A : Atoms 𝓤) (W : Given 𝓤 H A) (at-mem : Memory → SProp 𝓤) (run : Routine → Fun 𝓤) (𝓣 : Tables 𝓤 H)
-    (known : Triple 𝓤 (𝓣 .C #table_calls·lent-step) (StepC 𝓤 H A at-mem run)) where
+    (known : Triple 𝓤 (𝓣 .C #dbf_calls·lent-live-step) (StepC 𝓤 H A at-mem run)) where
   -- what the body does with machine values
   abbrev Runs : List Val → (Val → SProp 𝓤) → SProp 𝓤
   Runs = WpFn 𝓤 H (𝓣 .C) (𝓣 .Λ) code.function
 
-  gl-walk-walks : Walks 𝓤 H A gl-walk.ended stayed Runs (gl-walk.clauses 𝓤 H A at-mem run)
-  gl-walk-walks =
-      walked 𝓤 H A gl-walk.ended stayed (gl-walk.clauses 𝓤 H A at-mem run) Runs (λ κs. (slice-vals, (ptr-vals, (ptr-vals, tt))))
+  gl-walk-live-walks : Walks 𝓤 H A gl-walk-live.ended stayed Runs (gl-walk-live.clauses 𝓤 H A at-mem run)
+  gl-walk-live-walks =
+      walked 𝓤 H A gl-walk-live.ended stayed (gl-walk-live.clauses 𝓤 H A at-mem run) Runs (λ κs. (slice-vals, (ptr-vals, (ptr-vals, tt))))
       (λ κs. (shr-slice-tells (named 0) (κs .0) u8, (mut-tells (named 1) (κs .1 .0) P.the-row, (mut-tells (named 2) (κs .1 .1 .0) u32, tt))))
       (λ κs qs bounds a g are.
       let position = a .1 .0 in
@@ -248,19 +248,19 @@ module _ {M : Type 1} (𝓤 : URA M) (H : Heap 𝓤) (A : Atoms 𝓤) (W : Given
       (position .ptr .0) (position .ptr .1) (position .name) (position .now) (number .ptr .0) (number .ptr .1) (number .name) (number .now)
       (𝓣 .C) (𝓣 .Λ) (fmOf 𝓤 H (W .laws) 𝓣) known (are .0)))
 
-  gl-walk-meets : Meets 𝓤 H A gl-walk.signature Runs (gl-walk.spec 𝓤 H A at-mem run)
-  gl-walk-meets =
-      walk-meets 𝓤 H A gl-walk.ended stayed W (
+  gl-walk-live-meets : Meets 𝓤 H A gl-walk-live.signature Runs (gl-walk-live.spec 𝓤 H A at-mem run)
+  gl-walk-live-meets =
+      walk-meets 𝓤 H A gl-walk-live.ended stayed W (
         goes-none-slice 𝓤 H A W 3 (0 ∷ []) tt (plain (λ _. u8)) yes,
         (goes-ref 𝓤 H A W 3 1 tt (plain (λ _. P.the-row)), (goes-ref 𝓤 H A W 3 2 tt (plain (λ _. u32)), tt)),
       )
-      (gl-walk.clauses 𝓤 H A at-mem run) Runs (WpFn-mono 𝓤 H (W .laws) 𝓣 code.function) gl-walk-walks
+      (gl-walk-live.clauses 𝓤 H A at-mem run) Runs (WpFn-mono 𝓤 H (W .laws) 𝓣 code.function) gl-walk-live-walks
 
-pub gl-walk-spec : {M : Type 1} → stated.statement M
+pub gl-walk-live-spec : {M : Type 1} → stated.statement M
 unfolding code.routine tablesOf
-gl-walk-spec 𝓤 H 𝓜 𝓖 𝓡 =
-    entered 𝓤 H (tripleOf 𝓤 H (𝓖 .A) gl-walk.signature (gl-walk.spec 𝓤 H (𝓖 .A) (𝓜 .mem) (𝓡 .run)))
-    (tables 𝓤 H 𝓜 𝓡 code.env .C) (tables 𝓤 H 𝓜 𝓡 code.env .Λ) #gatherloom·gl-walk code.function (code.unfolded 𝓤 H 𝓜 𝓡)
-    (gl-walk-meets 𝓤 H (𝓖 .A) (givenOf 𝓤 H 𝓜 𝓖) (𝓜 .mem) (𝓡 .run) (tablesOf 𝓤 H 𝓜 (tables 𝓤 H 𝓜 𝓡 code.env))
-    (cited 𝓤 H (StepC 𝓤 H (𝓖 .A) (𝓜 .mem) (𝓡 .run)) 𝓜 𝓡 code.env #table_calls·lent-step step-def.routine
-    code.calls-dbf-calls·lent-step (step-thm.met 𝓤 H 𝓜 𝓖 𝓡)))
+gl-walk-live-spec 𝓤 H 𝓜 𝓖 𝓡 =
+    entered 𝓤 H (tripleOf 𝓤 H (𝓖 .A) gl-walk-live.signature (gl-walk-live.spec 𝓤 H (𝓖 .A) (𝓜 .mem) (𝓡 .run)))
+    (tables 𝓤 H 𝓜 𝓡 code.env .C) (tables 𝓤 H 𝓜 𝓡 code.env .Λ) #gatherloom·gl-walk-live code.function (code.unfolded 𝓤 H 𝓜 𝓡)
+    (gl-walk-live-meets 𝓤 H (𝓖 .A) (givenOf 𝓤 H 𝓜 𝓖) (𝓜 .mem) (𝓡 .run) (tablesOf 𝓤 H 𝓜 (tables 𝓤 H 𝓜 𝓡 code.env))
+    (cited 𝓤 H (StepC 𝓤 H (𝓖 .A) (𝓜 .mem) (𝓡 .run)) 𝓜 𝓡 code.env #dbf_calls·lent-live-step step-def.routine
+    code.calls-dbf-calls·lent-live-step (step-thm.met 𝓤 H 𝓜 𝓖 𝓡)))
