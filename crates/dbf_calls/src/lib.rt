@@ -117,33 +117,30 @@ pub struct LentLiveStep {
     pub number: u32,
 }
 
-// What a step hands to C, with the number and the mark that were there.
-fn lent(walked: Walked, number: u32, deleted: u8) -> LentStep
-    ensures { λ r. ⌜ r ≡ lentOf walked number deleted ⌝ }
+// What a step hands to C, with the number and the mark that are held there.
+fn lent(walked: Walked, held: u32, mark: u8) -> LentStep
+    ensures { λ r. ⌜ r ≡ lentOf walked held mark ⌝ }
 {
     let after = walked.position;
     let answer = walked.answer;
     match answer {
-        Step::Record {
-            number: found,
-            deleted: mark,
-        } => LentStep {
+        Step::Record { number, deleted } => LentStep {
             answer: 0,
             position: after,
-            number: found,
-            deleted: mark as u8,
+            number,
+            deleted: deleted as u8,
         },
         Step::Done => LentStep {
             answer: DONE,
             position: after,
-            number,
-            deleted,
+            number: held,
+            deleted: mark,
         },
         Step::Refused(refusal) => LentStep {
             answer: refusal,
             position: after,
-            number,
-            deleted,
+            number: held,
+            deleted: mark,
         },
     }
 }
