@@ -124,12 +124,15 @@ fn lent(walked: Walked, held: u32, mark: u8) -> LentStep
     let after = walked.position;
     let answer = walked.answer;
     match answer {
-        Step::Record { number, deleted } => LentStep {
-            answer: 0,
-            position: after,
-            number,
-            deleted: deleted as u8,
-        },
+        Step::Record { number, deleted } => {
+            let found = deleted as u8;
+            LentStep {
+                answer: 0,
+                position: after,
+                number,
+                deleted: found,
+            }
+        }
         Step::Done => LentStep {
             answer: DONE,
             position: after,

@@ -8,8 +8,8 @@ use Rattle.dbf_calls.proofs.lent.Tie as tie
 enum-known-answer : tie.Need-enum-known-answer
 enum-known-answer c = search needs
 
-cast-t10 : tie.Need-cast-t10
-cast-t10 c = search needs
+cast-found : tie.Need-cast-found
+cast-found c = search needs
 
 enum-told : tie.Need-enum-told
 enum-told c = search needs
@@ -31,7 +31,7 @@ lent-spec =
     tie.close
     (tie.spec
     enum-known-answer
-    cast-t10
+    cast-found
     enum-told
     enum-known-answer-2
     returns
