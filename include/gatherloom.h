@@ -8,10 +8,10 @@
    another one is lent.
 
    Stack: how many bytes a call takes at most, beside those of memcpy and memset, rounded up. tests/c/stack reads them from the archive and compares.
-       gl_interface 16, gl_index_fresh 64, gl_number_write 96, gl_number_read 128, gl_table_check 256, gl_table_shape 256, gl_fields 256, gl_walk 256,
-       gl_table_set_date 256, gl_table_extent 256, gl_table_append 320, gl_read_logical 384, gl_text_part 384, gl_read_number 416, gl_read_date 416,
-       gl_ndx_lookup 2560, gl_ndx_audit 3072, gl_index_lookup 3328, gl_index_audit 3456, gl_index_records 3456, gl_match 3712, gl_dilute 3840,
-       gl_table_lay_out 4608, gl_index_remove 4992, gl_index_insert 5632
+       gl_interface 16, gl_index_fresh 64, gl_number_write 96, gl_number_read 128, gl_table_check 256, gl_table_shape 256, gl_fields 256, gl_walk_live 256,
+       gl_table_set_date 256, gl_table_extent 256, gl_walk 288, gl_table_append 320, gl_read_logical 384, gl_text_part 384, gl_read_number 416,
+       gl_read_date 416, gl_ndx_lookup 2560, gl_ndx_audit 3072, gl_index_lookup 3328, gl_index_audit 3456, gl_index_records 3456, gl_match 3712,
+       gl_dilute 3840, gl_table_lay_out 4608, gl_index_remove 4992, gl_index_insert 5632
 
    The archive is for x86-64 Linux and the System V calling convention. It needs memcpy and memset alone, allocates no memory, has no writable data and is
    position independent. It uses SSE registers and the red zone below the stack pointer, which Linux keeps for user programs: kernel code can't call it. */
@@ -27,8 +27,8 @@ extern "C" {
 
 /* ---- Versions. */
 
-#define GL_VERSION "0.13.0" /* raised with every change, see docs/CHANGES.md */
-#define GL_INTERFACE 3      /* raised with every change of the form of a call or a struct */
+#define GL_VERSION "0.14.0" /* raised with every change, see docs/CHANGES.md */
+#define GL_INTERFACE 4      /* raised with every change of the form of a call or a struct */
 
 /* The GL_INTERFACE of the archive. A host compares it with its own before the first call: if they differ, a call may write past what it is lent. */
 uint32_t gl_interface(void);
@@ -133,8 +133,12 @@ uint32_t gl_fields(const uint8_t *table, size_t table_len, gl_field_entry *entri
 /* How many records a walk has passed; 0 at first. */
 typedef struct { uint32_t passed; } gl_position;
 
-/* The next undeleted record. 1 to 10, then 0 with the record's number, 15 (the position has moved past the bad record) or 258 (the position stays). */
-uint32_t gl_walk(const uint8_t *table, size_t table_len, gl_position *position, uint32_t *record);
+/* The next record, deleted or not. 1 to 10, then 0 with the record's number and its mark, 1 where it is deleted and 0 where it is not, 15 (the position has
+   moved past the bad record) or 258 (the position stays). */
+uint32_t gl_walk(const uint8_t *table, size_t table_len, gl_position *position, uint32_t *record, uint8_t *deleted);
+
+/* The next record that is not deleted. Answers as those of gl_walk; 258 also if none but deleted records are left, and the position stays where it was. */
+uint32_t gl_walk_live(const uint8_t *table, size_t table_len, gl_position *position, uint32_t *record);
 
 /* ---- Writing a table. It lies in the buffer's first table_len bytes; the buffer may be longer.
 

@@ -40,8 +40,8 @@ from decimal import Context, Decimal, Inexact, InvalidOperation
 from pathlib import Path
 from typing import NamedTuple, Optional
 
-__all__ = ['Field', 'Index', 'Lookup', 'MemoMissing', 'NdxIndex', 'Record', 'Refusal', 'Store', 'Stores', 'Table', 'Volumes', 'Walk', 'append', 'extent',
-           'lay_out', 'read_number', 'set_date', 'write_number']
+__all__ = ['Field', 'Index', 'LiveWalk', 'Lookup', 'MemoMissing', 'NdxIndex', 'Record', 'Refusal', 'Store', 'Stores', 'Table', 'Volumes', 'Walk', 'append',
+           'extent', 'lay_out', 'read_number', 'set_date', 'write_number']
 
 # ---- Refusals.
 
@@ -124,7 +124,7 @@ class MemoMissing(Exception):
 # ---- The library. Its calls are those of include/gatherloom.h.
 
 # the number that gl_interface() gives for the calls as they are declared here
-INTERFACE = 3
+INTERFACE = 4
 
 ACCEPTED, EMPTY, ABSENT, DONE = 0, 256, 257, 258
 
@@ -149,7 +149,8 @@ def _out(kind):
 _CALLS = {
     'gl_table_shape': _BYTES + 3 * [_out(_NUMBER)],
     'gl_fields': _BYTES + [_out(_Entry), ctypes.c_size_t],
-    'gl_walk': _BYTES + [_out(_Position), _out(_NUMBER)],
+    'gl_walk': _BYTES + [_out(_Position), _out(_NUMBER), _out(ctypes.c_uint8)],
+    'gl_walk_live': _BYTES + [_out(_Position), _out(_NUMBER)],
     'gl_table_lay_out': _BYTES + [_out(_Entry), ctypes.c_size_t] + 3 * [_NUMBER],
     'gl_table_append': _BYTES + [ctypes.c_size_t] + _BYTES + 4 * [_out(ctypes.c_uint64)],
     'gl_table_set_date': _BYTES + [ctypes.c_size_t] + 3 * [_NUMBER],
@@ -309,8 +310,12 @@ class Table:
         return Record(self, operator.index(number))
 
     def walk(self, passed=0):
-        """A Walk over the undeleted records after the first `passed` ones."""
+        """A Walk over the records after the first `passed` ones, deleted or not: each Record has its mark in `deleted`."""
         return Walk(self, passed)
+
+    def walk_live(self, passed=0):
+        """A LiveWalk, which skips the deleted ones."""
+        return LiveWalk(self, passed)
 
     def field_number(self, name):
         """The number of the field of that name, from 1. KeyError if there is none."""
@@ -383,17 +388,31 @@ class Table:
         return file[start.value : start.value + length.value]
 
     def _deletion(self):
-        """For each record 0 if it is kept, 1 if it is deleted, 15 if its deletion byte is neither: a walk stops at all but the deleted ones."""
+        """For each record 0 if it is kept, 1 if it is deleted, 15 if its deletion byte is neither: what the walk over every record answers at it."""
         if self._marks is None:
-            marks = bytearray(b'\1') * len(self)
-            position, record = _Position(), _NUMBER()
-            while True:
-                answer = _library.gl_walk(*_lent(self._table), ctypes.byref(position), ctypes.byref(record))
-                if answer == DONE:
-                    break
-                marks[position.passed - 1] = answer
+            marks = bytearray()
+            position = _Position()
+            while (step := _walked(self._table, position))[0] != DONE:
+                answer, _, deleted = step
+                marks.append(deleted if answer == ACCEPTED else answer)
+            if len(marks) != len(self):
+                raise RuntimeError(f'the walk gave {len(marks)} answers for {len(self)} records')
             self._marks = bytes(marks)
         return self._marks
+
+
+def _walked(table, position):
+    """A step of the walk over every record: its answer, and the record's number and mark."""
+    record, deleted = _NUMBER(), ctypes.c_uint8()
+    answer = _library.gl_walk(*_lent(table), ctypes.byref(position), ctypes.byref(record), ctypes.byref(deleted))
+    return answer, record.value, deleted.value
+
+
+def _walked_live(table, position):
+    """A step of the walk that skips deleted records: its answer, and the record's number."""
+    record = _NUMBER()
+    answer = _library.gl_walk_live(*_lent(table), ctypes.byref(position), ctypes.byref(record))
+    return answer, record.value
 
 
 class Record:
@@ -441,7 +460,9 @@ class Record:
 
 
 class Walk:
-    """An iterator over the undeleted records of a Table. It raises Refusal 15 at a bad deletion byte; the next call of `next` continues after that record."""
+    """An iterator over the records of a Table, deleted or not. At a bad deletion byte it raises Refusal 15, and the next call of `next` goes on after it."""
+
+    _step = staticmethod(_walked)
 
     def __init__(self, table, passed=0):
         self._table = table
@@ -449,18 +470,23 @@ class Walk:
 
     @property
     def passed(self):
-        """How many records are passed. If none but deleted ones are left, it stays."""
+        """How many records are passed."""
         return self._position.passed
 
     def __iter__(self):
         return self
 
     def __next__(self):
-        record = _NUMBER()
-        answer = _library.gl_walk(*_lent(self._table._table), ctypes.byref(self._position), ctypes.byref(record))
+        answer, number, *_ = self._step(self._table._table, self._position)
         if _accepted(answer) == DONE:
             raise StopIteration
-        return Record(self._table, record.value)
+        return Record(self._table, number)
+
+
+class LiveWalk(Walk):
+    """A Walk that skips deleted records. If none but deleted ones are left, it ends and `passed` stays."""
+
+    _step = staticmethod(_walked_live)
 
 
 # ---- Writing a table, which lies in the first bytes of a bytearray.

@@ -14,6 +14,7 @@ import sys
 import tempfile
 import threading
 import unittest
+import unittest.mock
 from decimal import Decimal, localcontext
 from pathlib import Path
 
@@ -170,7 +171,8 @@ class Tables(TestCase):
                     live += [record.number] * (row[1] == 'live')
                     for j, (field, value) in enumerate(zip(fields, values), 1):
                         self.check_value(record, j, field, value)
-                self.assertEqual([record.number for record in table.walk()], live)
+                self.assertEqual([record.number for record in table.walk()], list(range(1, len(rows) + 1)))
+                self.assertEqual([record.number for record in table.walk_live()], live)
 
     def check_value(self, record, j, field, value):
         if isinstance(value, Refusal):
@@ -231,6 +233,7 @@ class Tables(TestCase):
             self.assertRaises(OverflowError, table.value, 1, number)
             self.assertRaises(OverflowError, table.value, number, 1)
             self.assertRaises(OverflowError, table.walk, number)
+            self.assertRaises(OverflowError, table.walk_live, number)
         for number in 1.0, '1', None, True:
             self.assertRaises(TypeError, table.record, number)
             self.assertRaises(TypeError, table.value, 1, number)
@@ -245,25 +248,64 @@ class Tables(TestCase):
         self.refused(15, lambda: second.deleted)
         self.assertEqual(second.values(), 4 * [Refusal(15)])
         self.assertEqual([r.number for r in table if r.number != 2 and not r.deleted], [1, 3, 5])
-        walk = table.walk()
-        self.assertEqual(next(walk).number, 1)
-        self.refused(15, next, walk)
-        self.assertEqual(walk.passed, 2)
-        self.assertEqual([record.number for record in walk], [3, 5])
-        self.assertEqual(walk.passed, 5)
+        for walk, rest in (table.walk(), [3, 4, 5]), (table.walk_live(), [3, 5]):
+            self.assertEqual(next(walk).number, 1)
+            self.refused(15, next, walk)
+            self.assertEqual(walk.passed, 2)
+            self.assertEqual([record.number for record in walk], rest)
+            self.assertEqual(walk.passed, 5)
 
     def test_walk_position(self):
         table = sample('shp_point')
-        self.assertEqual([record.number for record in table.walk(3)], [5])
-        end = table.walk(2**32 - 1)
-        self.assertRaises(StopIteration, next, end)
-        self.assertEqual(end.passed, 2**32 - 1)
-        # with none but deleted records left the position stays
+        self.assertEqual([(record.number, record.deleted) for record in table.walk(3)], [(4, True), (5, False)])
+        self.assertEqual([record.number for record in table.walk_live(3)], [5])
+        for end in table.walk(2**32 - 1), table.walk_live(2**32 - 1):
+            self.assertRaises(StopIteration, next, end)
+            self.assertEqual(end.passed, 2**32 - 1)
+        # with none but deleted records left the skipping walk's position stays
         content = bytearray((SAMPLES / 'shp_point.dbf').read_bytes())
         content[161 + 4 * 28] = 0x2A
-        walk = Table(content).walk(3)
+        walk = Table(content).walk_live(3)
         self.assertRaises(StopIteration, next, walk)
         self.assertEqual(walk.passed, 3)
+
+    def walked(self, walk):
+        """The steps of a walk until done, as a line of k7_k8.expected has them."""
+        steps = []
+        while True:
+            try:
+                record = next(walk)
+                mark = '' if isinstance(walk, gatherloom.LiveWalk) else ' deleted' if record.deleted else ' live'
+                steps.append(f'0 {record.number}{mark} @{walk.passed}')
+            except Refusal as refusal:
+                steps.append(f'{refusal.number} @{walk.passed}')
+            except StopIteration:
+                return steps + [f'258 @{walk.passed}']
+
+    def test_walks_of_the_sample(self):
+        table = sample('k7_k8')
+        lines = [line.split(': ') for line in (SAMPLES / 'k7_k8.expected').read_text().splitlines() if line.startswith('walk')]
+        self.assertEqual(len(lines), 16)
+        for call, steps in lines:
+            name, start = call.split()
+            self.assertEqual(self.walked(getattr(table, name)(int(start))), steps.split('; '))
+
+    def test_marks_are_the_walks_own(self):
+        # a walk that skips tells nothing of the records that it passes over: no mark is made of it
+        content = bytearray((SAMPLES / 'k7_k8.dbf').read_bytes())
+        deleted = [2, 3, 5, 9, 11, 12]
+        self.assertEqual([r.number for r in Table(content) if r.number not in (6, 10) and r.deleted], deleted)
+
+        class Skipping:
+            def __getattr__(self, name):
+                return getattr(library, name)
+
+            def gl_walk(self, table, length, position, record, mark):
+                return library.gl_walk_live(table, length, position, record)
+
+        library = gatherloom._library
+        with unittest.mock.patch.object(gatherloom, '_library', Skipping()):
+            self.assertRaises(RuntimeError, lambda: Table(content).record(2).deleted)
 
     def test_memo_file(self):
         table = Table(SAMPLES / 'xbase_f5.dbf')
@@ -930,9 +972,9 @@ class Loading(TestCase):
         with tempfile.TemporaryDirectory() as folder:
             library = Path(folder) / 'other.so'
             for source, says in (
-                ('int other(void) { return 3; }', 'undefined symbol: gl_interface'),
-                ('unsigned gl_interface(void) { return 3; }', 'undefined symbol: gl_table_shape'),
-                ('unsigned gl_interface(void) { return 2; }', 'has interface 2, and gatherloom.py is for interface 3'),
+                ('int other(void) { return 4; }', 'undefined symbol: gl_interface'),
+                ('unsigned gl_interface(void) { return 4; }', 'undefined symbol: gl_table_shape'),
+                ('unsigned gl_interface(void) { return 2; }', 'has interface 2, and gatherloom.py is for interface 4'),
             ):
                 subprocess.run(['cc', '-shared', '-fPIC', '-x', 'c', '-', '-o', library], input=source.encode(), check=True)
                 message = self.message(library)

@@ -20,7 +20,7 @@ pub struct Position {
 }
 
 /// `GL_INTERFACE`: the interface that is declared here.
-pub const INTERFACE: u32 = 3;
+pub const INTERFACE: u32 = 4;
 
 /// The answers beside 0 and the refusal numbers.
 pub const EMPTY: u32 = 256;
@@ -44,6 +44,13 @@ extern "C" {
         entry_count: usize,
     ) -> u32;
     pub fn gl_walk(
+        table: *const u8,
+        table_len: usize,
+        position: *mut Position,
+        record: *mut u32,
+        deleted: *mut u8,
+    ) -> u32;
+    pub fn gl_walk_live(
         table: *const u8,
         table_len: usize,
         position: *mut Position,

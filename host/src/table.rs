@@ -149,15 +149,14 @@ impl<'a> Table<'a> {
     pub fn records(&self) -> Records<'_, 'a> {
         Records {
             table: self,
-            passed: 0,
-            next: None,
+            position: ffi::Position { passed: 0 },
         }
     }
 
     /// The numbers of the undeleted records in order; the refusal 15 for each record with a bad deletion byte.
     pub fn live(&self) -> impl Iterator<Item = Answer<u32>> + '_ {
         let mut position = ffi::Position { passed: 0 };
-        iter::from_fn(move || walk(self.bytes, &mut position).transpose())
+        iter::from_fn(move || walk_live(self.bytes, &mut position).transpose())
     }
 
     /// The value of a record's field, by the field's type; `None` if the field is empty.
@@ -289,10 +288,28 @@ fn fields(table: &[u8], count: u32) -> Answer<Vec<Field>> {
     accepted(answer, entries.iter().zip(1..).map(field).collect())
 }
 
+/// The next record's number and whether it is deleted, or `None` if none is left. The position moves, past a bad record too.
+fn walk(table: &[u8], position: &mut ffi::Position) -> Answer<Option<(u32, bool)>> {
+    let (mut record, mut deleted) = (0, 0);
+    let answer = unsafe {
+        ffi::gl_walk(
+            table.as_ptr(),
+            table.len(),
+            position,
+            &mut record,
+            &mut deleted,
+        )
+    };
+    match answer {
+        ffi::DONE => Ok(None),
+        _ => accepted(answer, Some((record, deleted != 0))),
+    }
+}
+
 /// The next undeleted record's number, or `None` if none is left. The position moves, past a bad record too.
-fn walk(table: &[u8], position: &mut ffi::Position) -> Answer<Option<u32>> {
+fn walk_live(table: &[u8], position: &mut ffi::Position) -> Answer<Option<u32>> {
     let mut record = 0;
-    let answer = unsafe { ffi::gl_walk(table.as_ptr(), table.len(), position, &mut record) };
+    let answer = unsafe { ffi::gl_walk_live(table.as_ptr(), table.len(), position, &mut record) };
     match answer {
         ffi::DONE => Ok(None),
         _ => accepted(answer, Some(record)),
@@ -344,45 +361,26 @@ impl<'a> Record<'_, 'a> {
     }
 }
 
-/// The records of a table. The walk hands out the numbers of the undeleted and the bad ones; those that it passes over are deleted.
+/// The records of a table, deleted ones too, as the walk hands them out.
 #[derive(Clone, Debug)]
 pub struct Records<'t, 'a> {
     table: &'t Table<'a>,
-    passed: u32,
-    /// The number of the next record that is not deleted, past the last if there is none, and its mark.
-    next: Option<(u32, Answer<bool>)>,
-}
-
-impl<'t, 'a> Records<'t, 'a> {
-    fn walked(&self) -> (u32, Answer<bool>) {
-        let mut position = ffi::Position {
-            passed: self.passed,
-        };
-        match walk(self.table.bytes, &mut position) {
-            Ok(Some(number)) => (number, Ok(false)),
-            Ok(None) => (self.table.shape.records + 1, Ok(false)),
-            Err(refusal) => (position.passed, Err(refusal)),
-        }
-    }
+    position: ffi::Position,
 }
 
 impl<'t, 'a> Iterator for Records<'t, 'a> {
     type Item = Record<'t, 'a>;
 
     fn next(&mut self) -> Option<Record<'t, 'a>> {
-        if self.passed == self.table.shape.records {
-            return None;
-        }
-        let (other, mark) = match self.next {
-            Some(known) if self.passed < known.0 => known,
-            _ => self.walked(),
+        let (number, deleted) = match walk(self.table.bytes, &mut self.position) {
+            Ok(None) => return None,
+            Ok(Some((number, deleted))) => (number, Ok(deleted)),
+            // the position has moved past the bad record: it is its number
+            Err(refusal) => (self.position.passed, Err(refusal)),
         };
-        self.next = Some((other, mark));
-        self.passed += 1;
-        let deleted = if self.passed < other { Ok(true) } else { mark };
         Some(Record {
             table: self.table,
-            number: self.passed,
+            number,
             deleted,
         })
     }

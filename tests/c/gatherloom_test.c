@@ -458,13 +458,16 @@ static void refused_alike(const lent *t, uint32_t check)
     OUT(uint32_t, fields);
     OUT(uint32_t, length);
     OUT(uint32_t, record);
+    OUT(uint8_t, deleted);
     gl_position position = {OLD};
     gl_field_entry entry, before;
     memset(&entry, CANARY, sizeof entry);
     before = entry;
     SAME(gl_table_shape(t->bytes, t->len, &records[1], &fields[1], &length[1]), check);
     SAME(gl_fields(t->bytes, t->len, &entry, 1), check);
-    SAME(gl_walk(t->bytes, t->len, &position, &record[1]), check);
+    SAME(gl_walk(t->bytes, t->len, &position, &record[1], &deleted[1]), check);
+    SAME(gl_walk_live(t->bytes, t->len, &position, &record[1]), check);
+    HELD(deleted, OLD);
     HELD(records, OLD);
     HELD(fields, OLD);
     HELD(length, OLD);
@@ -554,39 +557,103 @@ static void test_offsets(void)
     give_back(&want);
 }
 
+/* One step of a walk: what it answers, and the position, the number and the mark after it. */
+#define STEP(answer, passed_, number, mark)                                                       \
+    do {                                                                                          \
+        SAME(gl_walk(t.bytes, t.len, &position, &record[1], &deleted[1]), answer);                \
+        SAME(position.passed, passed_);                                                           \
+        HELD(record, number);                                                                     \
+        HELD(deleted, mark);                                                                      \
+    } while (0)
+
+#define STEP_LIVE(answer, passed_, number)                                   \
+    do {                                                                     \
+        SAME(gl_walk_live(t.bytes, t.len, &position, &record[1]), answer);   \
+        SAME(position.passed, passed_);                                      \
+        HELD(record, number);                                                \
+    } while (0)
+
 /* Record 4 of the table is deleted; record 2 is made bad. */
 static void test_walk(void)
 {
     lent t = load(samples_data, "shp_point.dbf");
     gl_position position = {0};
     OUT(uint32_t, record);
+    OUT(uint8_t, deleted);
     t.bytes[161 + 28] = 'x';
     keep(&t);
-    SAME(gl_walk(t.bytes, t.len, &position, &record[1]), 0);
-    HELD(record, 1);
-    SAME(position.passed, 1);
-    SAME(gl_walk(t.bytes, t.len, &position, &record[1]), 15);
-    HELD(record, 1);
-    SAME(position.passed, 2);
-    SAME(gl_walk(t.bytes, t.len, &position, &record[1]), 0);
-    HELD(record, 3);
-    SAME(gl_walk(t.bytes, t.len, &position, &record[1]), 0);
-    HELD(record, 5);
-    SAME(position.passed, 5);
-    SAME(gl_walk(t.bytes, t.len, &position, &record[1]), GL_DONE);
-    HELD(record, 5);
-    SAME(position.passed, 5);
+    STEP(0, 1, 1, 0);
+    STEP(15, 2, 1, 0);
+    STEP(0, 3, 3, 0);
+    STEP(0, 4, 4, 1);
+    STEP(0, 5, 5, 0);
+    STEP(GL_DONE, 5, 5, 0);
+    /* at 15 and at done number and mark keep what they held */
+    position.passed = 3;
+    STEP(0, 4, 4, 1);
+    position.passed = 1;
+    STEP(15, 2, 4, 1);
     position.passed = UINT32_MAX;
-    SAME(gl_walk(t.bytes, t.len, &position, &record[1]), GL_DONE);
-    SAME(position.passed, UINT32_MAX);
+    STEP(GL_DONE, UINT32_MAX, 4, 1);
+    MARGINS(t);
+    give_back(&t);
+}
+
+static void test_walk_live(void)
+{
+    lent t = load(samples_data, "shp_point.dbf");
+    gl_position position = {0};
+    OUT(uint32_t, record);
+    t.bytes[161 + 28] = 'x';
+    keep(&t);
+    STEP_LIVE(0, 1, 1);
+    STEP_LIVE(15, 2, 1);
+    STEP_LIVE(0, 3, 3);
+    STEP_LIVE(0, 5, 5);
+    STEP_LIVE(GL_DONE, 5, 5);
+    position.passed = UINT32_MAX;
+    STEP_LIVE(GL_DONE, UINT32_MAX, 5);
     /* with only a deleted record left, the position stays */
     t.bytes[161 + 4 * 28] = '*';
     position.passed = 3;
-    SAME(gl_walk(t.bytes, t.len, &position, &record[1]), GL_DONE);
-    SAME(position.passed, 3);
-    HELD(record, 5);
+    STEP_LIVE(GL_DONE, 3, 5);
     MARGINS(t);
     give_back(&t);
+}
+
+/* The walks of k7_k8.expected, which another implementation wrote: `walk START: ANSWER [RECORD live or deleted] @POSITION; ..`, and `walk_live` without marks. */
+static void test_walks_of_the_sample(void)
+{
+    lent t = load(samples_data, "k7_k8.dbf"), text = load(samples_data, "k7_k8.expected");
+    char want[4096], got[4096];
+    uint32_t walks = 0;
+    for (size_t at = 0, next; at < text.len; at = next) {
+        uint32_t start, record = OLD, answer;
+        uint8_t deleted = OLD;
+        const char *marks[] = {" live", " deleted"};
+        int from = 0, n = 0;
+        for (next = at; text.bytes[next++] != '\n';)
+            ;
+        snprintf(want, sizeof want, "%.*s", (int)(next - 1 - at), (const char *)text.bytes + at);
+        int live = strncmp(want, "walk_live ", 10) == 0;
+        if (sscanf(want, live ? "walk_live %" SCNu32 ":%n" : "walk %" SCNu32 ":%n", &start, &from) != 1)
+            continue;
+        gl_position position = {start};
+        do {
+            answer = live ? gl_walk_live(t.bytes, t.len, &position, &record) : gl_walk(t.bytes, t.len, &position, &record, &deleted);
+            n += snprintf(got + n, sizeof got - (size_t)n, " %" PRIu32, answer);
+            if (answer == 0)
+                n += snprintf(got + n, sizeof got - (size_t)n, " %" PRIu32 "%s", record, live ? "" : deleted < 2 ? marks[deleted] : "?");
+            n += snprintf(got + n, sizeof got - (size_t)n, " @%" PRIu32 ";", position.passed);
+        } while (answer != GL_DONE);
+        got[n - 1] = 0;
+        SAME(strcmp(got, want + from), 0);
+        walks++;
+    }
+    SAME(walks, 16);
+    MARGINS(t);
+    give_back(&t);
+    give_back(&text);
 }
 
 /* ---- The reports on other programs' tables, made through C, against crates/test_samples/stdout, which has a line `== ARGUMENTS` for each run of
@@ -650,19 +717,21 @@ static void print_value(const lent *t, const lent *m, uint32_t i, uint32_t j, ui
         print_other(answer);
 }
 
-/* 'l' for each record that a walk hands out, 'b' for each that it refuses, 'd' for the others. */
+/* 'l' for each live record, 'd' for each deleted one and 'b' for each that is refused: what the walk answers at it. */
 static void walk_marks(const lent *t, char *marks, uint32_t records)
 {
     gl_position position = {0};
-    uint32_t record = 0, answer;
-    memset(marks, 'd', records + 1);
-    while ((answer = gl_walk(t->bytes, t->len, &position, &record)) != GL_DONE) {
-        SAME(answer == 0 || answer == 15, 1);
-        SAME(position.passed >= 1 && position.passed <= records, 1);
-        if (answer == 0)
-            SAME(position.passed, record);
-        marks[position.passed] = answer == 0 ? 'l' : 'b';
+    for (uint32_t i = 1; i <= records; i++) {
+        uint32_t record = 0, answer;
+        uint8_t deleted = OLD;
+        answer = gl_walk(t->bytes, t->len, &position, &record, &deleted);
+        SAME(position.passed, i);
+        SAME(answer == 15 || (answer == 0 && record == i && deleted <= 1), 1);
+        marks[i] = answer == 15 ? 'b' : deleted == 1 ? 'd' : 'l';
     }
+    uint32_t record = 0;
+    uint8_t deleted = OLD;
+    SAME(gl_walk(t->bytes, t->len, &position, &record, &deleted), GL_DONE);
 }
 
 static void print_table(const lent *t, const lent *m)
@@ -1837,6 +1906,8 @@ int main(int argc, char **argv)
     test_fields();
     test_offsets();
     test_walk();
+    test_walk_live();
+    test_walks_of_the_sample();
     test_samples();
     test_tree_000();
     test_largest_index();

@@ -1,20 +1,21 @@
--- Laws: after an accepted append the table has one record more. Each old record reads as before, the new one as the bytes given, and the walk hands out the
--- old numbers and then the new one, unless it is deleted. Assumes nothing.
+-- Laws: after an accepted append the table has one record more. Each old record reads as before, the new one as the bytes given, and either walk hands out what
+-- it did and then the new record; the skipping walk leaves it out if it is deleted. Assumes nothing.
 use Prim.Native.Nat.{ℕ, zero, suc, _+_, _-_, _≤_, _<_}
 use mathlib.Core.Path.{_≡_, ap, _∙_}
-use mathlib.Core.Bool.{true, cond}
+use mathlib.Core.Bool.{Bool, true, false, _&&_, cond}
 use mathlib.Core.List.{List, [], _∷_, _++_}
-use native.Mathlib.Numerals.{add-one}
 use native.Mathlib.Omega.{arith}
 use lib.ListN.{length, take, length-append, List·getD-append}
 use lib.Seq.{getD-append-add}
 use lib.Dec.{eqb}
+use borrow.Author.Tests.{eqb-true}
 use Rattle.basis.specs.Tests.{either}
 use Rattle.octets.specs.Bytes.{byteAt}
 use Rattle.octets.specs.Store.{window}
-use Rattle.dbf_table.specs.Table.{fileEnd, keptMark, deletedMark, headerLength, recordCount, deletionByte}
+use Rattle.dbf_table.specs.Table.{fileEnd, keptMark, deletedMark, headerLength, recordCount}
 use Rattle.dbf_table.specs.TableLaws.{layout}
-use Rattle.dbf_walk.specs.RunLaws.{handedOut, walkRun, walk-whole}
+use Rattle.dbf_walk.specs.Walk.{marksFrom, shown, stepAt, stepBy}
+use Rattle.dbf_walk.specs.RunLaws.{handedOut, walkRun, handed-append, walk-run}
 use Rattle.dbf_walk.specs.declared.Step.{Step}
 use Rattle.dbf_walk.specs.declared.Step.the-variants.{Record, Done}
 use Rattle.dbf_append.specs.declared.Store.{Store}
@@ -107,36 +108,50 @@ append-told b n r e =
     let a = accepted b n r e in
     (rw (append-stored b n r e) (told-first b n r a), rw (append-stored b n r e) (told-second b n r a))
 
--- ---- the walk
+-- ---- the walks
 
--- what the walk hands out for a record with this deletion byte
-unfoldable pub stepOf : ℕ → ℕ → List Step
-stepOf byte i = cond (eqb byte keptMark) (Record i ∷ []) []
+-- what a walk hands out for the new record i with this mark
+unfoldable pub stepOf : Bool → ℕ → ℕ → List Step
+stepOf skips mark i =
+    let deleted = eqb mark deletedMark in
+    cond (skips && deleted) [] (Record i deleted ∷ [])
 
 module _ (t r c : List ℕ) (added : Added t r c) where
-  handed-last : handedOut c (recordCount t) 1 ≡ stepOf (byteAt r 0) (recordCount t + 1)
-  unfolding handedOut stepOf
-  handed-last =
-      rw (last-mark t r c added) (either (eqb (byteAt r 0) keptMark)
-      (λ live. rw live)
-      (λ other. let gone : eqb (byteAt r 0) deletedMark ≡ true = rw other at (added .mark) in rw (other, gone)))
-
-  handed-more : (left passed : ℕ) → passed + left ≡ recordCount t
-      → handedOut c passed (suc left) ≡ handedOut t passed left ++ stepOf (byteAt r 0) (recordCount t + 1)
-  unfolding handedOut
-  handed-more zero passed e = let end : passed ≡ recordCount t = omega arith in rw end handed-last
-  handed-more (suc left) passed e =
-      let rest = handed-more left (passed + 1) (omega arith) in
+  -- the new table has the old marks and then the new one
+  marks-more : (left passed : ℕ) → passed + left ≡ recordCount t
+      → marksFrom c passed (suc left) ≡ marksFrom t passed left ++ ((recordCount t + 1, byteAt r 0) ∷ [])
+  unfolding marksFrom
+  marks-more zero passed e = let end : passed ≡ recordCount t = omega arith in rw (end, last-mark t r c added)
+  marks-more (suc left) passed e =
+      let rest = marks-more left (passed + 1) (omega arith) in
       let same = mark-same t c (added .extends) (passed + 1) (omega arith) (omega arith) in
-      rw (same, rest) (either (eqb (deletionByte t (passed + 1)) keptMark)
-      (λ live. rw live)
-      (λ other. either (eqb (deletionByte t (passed + 1)) deletedMark) (λ gone. rw (other, gone)) (λ bad. rw (other, bad))))
+      rw (same, rest)
 
-  walk-more : handedOut c 0 (recordCount c) ≡ handedOut t 0 (recordCount t) ++ stepOf (byteAt r 0) (recordCount t + 1)
-  walk-more =
-      ap (λ (k : ℕ). handedOut c 0 k) (added .count ∙ add-one (recordCount t)) ∙ handed-more (recordCount t) 0 (omega arith)
+  -- the new record has one of the two marks
+  new-step : stepAt (recordCount t + 1, byteAt r 0) ≡ Record (recordCount t + 1) (eqb (byteAt r 0) deletedMark)
+  unfolding stepAt
+  new-step =
+      either (eqb (byteAt r 0) keptMark)
+      (λ live. let other : eqb (byteAt r 0) deletedMark ≡ false = rw (eqb-true (byteAt r 0) keptMark live) in rw (live, other))
+      (λ other. let gone : eqb (byteAt r 0) deletedMark ≡ true = rw other at (added .mark) in rw (other, gone))
 
-  -- so a host's calls, from the start until done
-  pub run-more : walkRun c (record { passed = 0 }) (recordCount c + 1)
-      ≡ handedOut t 0 (recordCount t) ++ stepOf (byteAt r 0) (recordCount t + 1) ++ (Done ∷ [])
-  run-more = walk-whole c (added .extends .new) ∙ ap (λ (l : List Step). l ++ (Done ∷ [])) walk-more
+  module _ (skips : Bool) where
+    handed-last : handedOut skips ((recordCount t + 1, byteAt r 0) ∷ []) ≡ stepOf skips (byteAt r 0) (recordCount t + 1)
+    unfolding handedOut shown stepOf
+    handed-last =
+        either (skips && eqb (byteAt r 0) deletedMark)
+        (λ over. rw over)
+        (λ next. rw next (ap (λ (a : Step). a ∷ []) new-step))
+
+    -- so a host's calls of either walk, from the start until done
+    pub run-more : walkRun (stepBy skips c) (record { passed = 0 }) (recordCount c + 1)
+        ≡ handedOut skips (marksFrom t 0 (recordCount t)) ++ stepOf skips (byteAt r 0) (recordCount t + 1) ++ (Done ∷ [])
+    run-more =
+        let n = recordCount t in
+        let old = handedOut skips (marksFrom t 0 n) in
+        let all : recordCount c - 0 ≡ suc n = omega (arith, added .count) in
+        let marks = ap (λ (k : ℕ). marksFrom c 0 k) all ∙ marks-more n 0 (omega arith) in
+        let handed = handed-append skips (marksFrom t 0 n) ((n + 1, byteAt r 0) ∷ []) ∙ ap (λ (l : List Step). old ++ l) handed-last in
+        walk-run skips c (added .extends .new) (record { passed = 0 }) (recordCount c + 1) (omega arith)
+        ∙ ap (λ (l : List (ℕ × ℕ)). handedOut skips l ++ (Done ∷ [])) marks
+        ∙ ap (λ (l : List Step). l ++ (Done ∷ [])) handed

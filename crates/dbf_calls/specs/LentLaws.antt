@@ -21,14 +21,15 @@ use Rattle.dbf_table.specs.declared.Shape.{Shape}
 use Rattle.dbf_table.specs.declared.Checked.the-variants.{Good, Refused as TableRefused}
 use Rattle.dbf_field.specs.Field.{entryOf, fieldRefusal, fieldAnswer, numberGood}
 use Rattle.dbf_field.specs.declared.FieldEntry.{FieldEntry}
-use Rattle.dbf_walk.specs.Walk.{walkStep}
+use Rattle.dbf_walk.specs.Walk.{walkStep, liveStep}
 use Rattle.dbf_walk.specs.declared.Position.{Position}
 use Rattle.dbf_walk.specs.declared.Step.{Step}
 use Rattle.dbf_walk.specs.declared.Step.the-variants.{Record, Done, Refused}
 use Rattle.dbf_walk.specs.declared.Walked.{Walked}
 use Rattle.dbf_calls.specs.declared.Plan.{Plan}
 use Rattle.dbf_calls.specs.declared.LentStep.{LentStep}
-use Rattle.dbf_calls.specs.Lent.{listingRefusal, planOf, listed, Listing, listing, stepCode, stepRecord, walkedOf}
+use Rattle.dbf_calls.specs.declared.LentLiveStep.{LentLiveStep}
+use Rattle.dbf_calls.specs.Lent.{listingRefusal, planOf, listed, Listing, listing, stepCode, stepRecord, stepMark, lentOf, walkedOf, liveOf}
 
 -- ---- the field list's plan
 
@@ -187,20 +188,37 @@ listing-entry b entries j none e l =
     let same : j + 1 - 1 ≡ j = omega arith in
     ap (λ (x : Listing). getD (x .entries) j none) (listing-done b entries e) ∙ listed-at b (fieldCount b) j entries none l (good .enough) ∙ rw (checked, same)
 
--- ---- the walk
+-- ---- the walks
 
 -- a step by the case of its answer
-pub walked-as : (b : List ℕ) (position : Position) (old : ℕ) (walked : Walked) (answer : Step) → walked ≡ walkStep b position → walked .answer ≡ answer
-    → _≡_ {A = LentStep} (record { answer = stepCode answer; position = walked .position; number = stepRecord answer old }) (walkedOf b position old)
-unfolding walkedOf
-walked-as b position old walked answer e is = rw (← e, ← is)
+pub lent-as : (walked : Walked) (number mark : ℕ) (answer : Step) → walked .answer ≡ answer
+    → _≡_ {A = LentStep} (record { answer = stepCode answer; position = walked .position; number = stepRecord answer number; deleted = stepMark answer mark })
+    (lentOf walked number mark)
+unfolding lentOf
+lent-as walked number mark answer is = rw is
 
--- without a record the number stays
-other-answer : (answer : Step) (old : ℕ) → (stepCode answer ≡ 0 → ⊥) → stepRecord answer old ≡ old
-other-answer (Record n) old other = absurd (other refl)
-other-answer Done old other = refl
-other-answer (Refused n) old other = refl
+-- a step of the skipping walk has all but the mark
+pub live-as : (b : List ℕ) (position : Position) (number : ℕ) (walked : Walked) (lent : LentStep) → walked ≡ liveStep b position → lent ≡ lentOf walked number 0
+    → _≡_ {A = LentLiveStep} (record { answer = lent .answer; position = lent .position; number = lent .number }) (liveOf b position number)
+unfolding liveOf lentOf
+live-as b position number walked lent e is = rw (is, e)
 
-pub walked-kept : (b : List ℕ) (position : Position) (old : ℕ) → (walkedOf b position old .answer ≡ 0 → ⊥) → walkedOf b position old .number ≡ old
-unfolding walkedOf
-walked-kept b position old other = other-answer (walkStep b position .answer) old other
+-- without a record the number and the mark stay
+number-kept : (answer : Step) (old : ℕ) → (stepCode answer ≡ 0 → ⊥) → stepRecord answer old ≡ old
+number-kept (Record n deleted) old other = absurd (other refl)
+number-kept Done old other = refl
+number-kept (Refused n) old other = refl
+
+mark-kept : (answer : Step) (old : ℕ) → (stepCode answer ≡ 0 → ⊥) → stepMark answer old ≡ old
+mark-kept (Record n deleted) old other = absurd (other refl)
+mark-kept Done old other = refl
+mark-kept (Refused n) old other = refl
+
+pub walked-kept : (b : List ℕ) (position : Position) (number mark : ℕ) → (walkedOf b position number mark .answer ≡ 0 → ⊥)
+    → (walkedOf b position number mark .number ≡ number) × (walkedOf b position number mark .deleted ≡ mark)
+unfolding walkedOf lentOf
+walked-kept b position number mark other = (number-kept (walkStep b position .answer) number other, mark-kept (walkStep b position .answer) mark other)
+
+pub live-kept : (b : List ℕ) (position : Position) (number : ℕ) → (liveOf b position number .answer ≡ 0 → ⊥) → liveOf b position number .number ≡ number
+unfolding liveOf
+live-kept b position number other = number-kept (liveStep b position .answer) number other

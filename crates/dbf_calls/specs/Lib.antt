@@ -4,7 +4,7 @@
 pub mod Answers
 -- Laws: what the proofs cite of these answers; out-parameters keep what they held
 pub mod AnswerLaws
--- Rules: the two calls over lent structs, the field list and the walk
+-- Rules: the calls over lent structs, the field list and the two walks
 pub mod Lent
 -- Laws: the parts of the calls over lent structs; the field list is the answers by value
 pub mod LentLaws

@@ -1,7 +1,9 @@
-// What the calls on a whole table hand to C: the answer's number, and its values in out-parameters; and, by value, those of the two calls over lent structs.
+// What the calls on a whole table hand to C: the answer's number, and its values in out-parameters; and, by value, those of the calls over lent structs.
 use dbf_field::FieldEntry;
 use dbf_table::Checked;
 use dbf_walk::Position;
+use dbf_walk::Step;
+use dbf_walk::Walked;
 use refusal::DONE;
 ghost use Prim.Native.Nat.{_<_};
 ghost use mathlib.Core.Path.{_≡_};
@@ -11,7 +13,7 @@ ghost use Rattle.dbf_append.specs.Append.{appendRule};
 ghost use Rattle.dbf_append.specs.Extent.{extentRule};
 ghost use Rattle.handed.specs.Out.{out};
 ghost use Rattle.dbf_calls.specs.Answers.{sizes, shapeOut};
-ghost use Rattle.dbf_calls.specs.Lent.{planOf, walkedOf};
+ghost use Rattle.dbf_calls.specs.Lent.{planOf, lentOf, walkedOf, liveOf};
 ghost use Rattle.dbf_calls.specs.LentLaws.{deletionEntry, lastEntry};
 ghost use Rattle.dbf_calls.specs.Writing.{stores, written, appendOut, extentOut};
 
@@ -99,36 +101,70 @@ pub fn next_entry(table: &[u8], j: usize, last: FieldEntry) -> FieldEntry
     dbf_field::entry_from(table, j, last.offset + last.length as u16)
 }
 
-// A step of the walk as it is handed to C: the answer, the position after the step, and the record's number, which stays as it was if the answer is not 0.
+// A step of the walk as it is handed to C: the answer, the position after the step, the record's number, and its mark, 1 if it is deleted and 0 if not. Number
+// and mark stay as they were if the answer is not 0.
 pub struct LentStep {
+    pub answer: u32,
+    pub position: Position,
+    pub number: u32,
+    pub deleted: u8,
+}
+
+// The same without a mark, for the walk that skips deleted records.
+pub struct LentLiveStep {
     pub answer: u32,
     pub position: Position,
     pub number: u32,
 }
 
-// The step by value, from a position, with `number` as the number that was there.
-pub fn lent_step(table: &[u8], position: Position, number: u32) -> LentStep
-    ensures { λ r. ⌜ r ≡ walkedOf (now (table .entry)) position number ⌝ }
+// What a step hands to C, with the number and the mark that are held there.
+fn lent(walked: Walked, held: u32, mark: u8) -> LentStep
+    ensures { λ r. ⌜ r ≡ lentOf walked held mark ⌝ }
 {
-    let walked = dbf_walk::walk_step(table, position);
     let after = walked.position;
     let answer = walked.answer;
     match answer {
-        dbf_walk::Step::Record(found) => LentStep {
-            answer: 0,
-            position: after,
-            number: found,
-        },
-        dbf_walk::Step::Done => LentStep {
+        Step::Record { number, deleted } => {
+            let found = deleted as u8;
+            LentStep {
+                answer: 0,
+                position: after,
+                number,
+                deleted: found,
+            }
+        }
+        Step::Done => LentStep {
             answer: DONE,
             position: after,
-            number,
+            number: held,
+            deleted: mark,
         },
-        dbf_walk::Step::Refused(refusal) => LentStep {
+        Step::Refused(refusal) => LentStep {
             answer: refusal,
             position: after,
-            number,
+            number: held,
+            deleted: mark,
         },
+    }
+}
+
+// A step of the walk by value, from a position.
+pub fn lent_step(table: &[u8], position: Position, number: u32, deleted: u8) -> LentStep
+    ensures { λ r. ⌜ r ≡ walkedOf (now (table .entry)) position number deleted ⌝ }
+{
+    lent(dbf_walk::walk_step(table, position), number, deleted)
+}
+
+// A step of the walk that skips deleted records.
+pub fn lent_live_step(table: &[u8], position: Position, number: u32) -> LentLiveStep
+    ensures { λ r. ⌜ r ≡ liveOf (now (table .entry)) position number ⌝ }
+{
+    let step = lent(dbf_walk::live_step(table, position), number, 0);
+    let after = step.position;
+    LentLiveStep {
+        answer: step.answer,
+        position: after,
+        number: step.number,
     }
 }
 

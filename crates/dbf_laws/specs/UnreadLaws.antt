@@ -23,7 +23,7 @@ use Rattle.dbf_table.specs.UnreadLaws.{SameElsewhere, records-behind}
 use Rattle.dbf_field.specs.Field.{fieldName, entryOf, fieldRefusal, fieldAnswer}
 use Rattle.dbf_field.specs.FieldLaws.{place-good}
 use Rattle.dbf_field.specs.declared.FieldEntry.{FieldEntry}
-use Rattle.dbf_walk.specs.Walk.{walkFrom, walkStep}
+use Rattle.dbf_walk.specs.Walk.{marksFrom, stepFrom, stepBy}
 use Rattle.dbf_walk.specs.declared.Position.{Position}
 use Rattle.dbf_cell.specs.Cell.{cellRefusal, fieldStart, fieldBytes, numberCell, dateCell, logicalCell, memoPart, textAt, textCell, textPart}
 use Rattle.dbf_cell.specs.CellLaws.{cell-good}
@@ -169,20 +169,19 @@ module _ (b c : List ℕ) (same : SameElsewhere b c) where
         (λ memo. rw (none, memo) (memo-alone b c m (memoText (fieldBytes b i field) m))))
         (λ some. rw some))
 
-  -- ---- the walk
+  -- ---- the walks
 
-  walk-from-same : HeaderFits b → (position passed left : ℕ) → walkFrom c position passed left ≡ walkFrom b position passed left
-  unfolding walkFrom
-  walk-from-same fits position passed zero = refl
-  walk-from-same fits position passed (suc left) =
-      rw (table.mark-same b c same fits (passed + 1), walk-from-same fits position (passed + 1) left)
+  marks-same : HeaderFits b → (passed left : ℕ) → marksFrom c passed left ≡ marksFrom b passed left
+  unfolding marksFrom
+  marks-same fits passed zero = refl
+  marks-same fits passed (suc left) = rw (table.mark-same b c same fits (passed + 1), marks-same fits (passed + 1) left)
 
-  -- Theorem: a step of the walk is the same
-  pub walk-same : (position : Position) → walkStep c position ≡ walkStep b position
-  unfolding walkStep
-  walk-same position =
+  -- Theorem: a step of either walk is the same
+  pub walk-same : (skips : Bool) (position : Position) → stepBy skips c position ≡ stepBy skips b position
+  unfolding stepBy stepFrom
+  walk-same skips position =
       rw (table.refusal-same b c same, table.count-same b c same) (either (eqb (tableRefusal b) 0)
-      (λ good. rw (good, walk-from-same (fits-if (eqb-true _ _ good)) (position .passed) (position .passed) (recordCount b - position .passed)))
+      (λ good. rw (good, marks-same (fits-if (eqb-true _ _ good)) (position .passed) (recordCount b - position .passed)))
       (λ bad. rw bad))
 
   -- ---- the match of an index x

@@ -1,8 +1,8 @@
--- The walk over a table's undeleted records.
+-- The walk over a table's records: every record with a mark, or the undeleted ones alone.
 
--- Rules: one step of a walk
+-- Rules: one step of either walk
 pub mod Walk
 -- Laws: the loop of a step meets the rule
 pub mod WalkLaws
--- Laws: a walk from 0 to done hands out exactly the undeleted records
+-- Laws: either walk to done, and how the two agree
 pub mod RunLaws

@@ -24,12 +24,12 @@ use Rattle.numeral.specs.Reading.{readNumber}
 use Rattle.numeral.specs.Writing.{writeChecks, writeNumber}
 use Rattle.numeral.specs.declared.Number.{Number}
 use Rattle.numeral.specs.declared.Number.the-variants as number
-use Rattle.dbf_table.specs.Table.{recordCount, deletionByte, keptMark, deletedMark, tableChecks, tableRefusal, checkTable}
+use Rattle.dbf_table.specs.Table.{recordCount, keptMark, deletedMark, tableChecks, tableRefusal, checkTable}
 use Rattle.dbf_table.specs.TableLaws.{refused-check}
 use Rattle.dbf_table.specs.declared.Shape.{Shape}
 use Rattle.dbf_table.specs.declared.Checked.{Checked}
 use Rattle.dbf_table.specs.declared.Checked.the-variants as table
-use Rattle.dbf_walk.specs.Walk.{walkFrom, walkStep}
+use Rattle.dbf_walk.specs.Walk.{marksFrom, shown, stepAt, firstOf, stepFrom, stepBy}
 use Rattle.dbf_walk.specs.declared.Position.{Position}
 use Rattle.dbf_walk.specs.declared.Step.{Step}
 use Rattle.dbf_walk.specs.declared.Step.the-variants as step
@@ -112,38 +112,43 @@ check-case (table.Refused n) small = refused (small n refl)
 pub shape-told : (b : List ℕ) → Told (checkedCode (checkTable b)) emptyCode (IsGood (checkTable b)) ⊥
 shape-told b = told (omega arith) (check-case (checkTable b) (check-refusal b)) (λ good. ap checkedCode (good .1)) (λ none. absurd none)
 
--- ---- the walk
+-- ---- the walks
 
-walk-refusal : (b : List ℕ) (position passed left : ℕ) → RefusalsNumbered step.Refused (walkFrom b position passed left .answer)
-unfolding walkFrom
-walk-refusal b position passed zero n e = impossible (cc)
-walk-refusal b position passed (suc left) n e =
-    let mark = deletionByte b (passed + 1) in
-    either (eqb mark keptMark)
-    (λ kept. let q : step.Record (passed + 1) ≡ step.Refused n = rw kept at e in impossible (cc))
-    (λ other. either (eqb mark deletedMark)
-    (λ deleted. walk-refusal b position (passed + 1) left n (rw (other, deleted) at e))
+at-refusal : (r : ℕ × ℕ) → RefusalsNumbered step.Refused (stepAt r)
+unfolding stepAt
+at-refusal r n e =
+    either (eqb (r .1) keptMark)
+    (λ kept. let q : step.Record (r .0) false ≡ step.Refused n = rw kept at e in impossible (cc))
+    (λ other. either (eqb (r .1) deletedMark)
+    (λ deleted. let q : step.Record (r .0) true ≡ step.Refused n = rw (other, deleted) at e in impossible (cc))
     (λ bad. let q : step.Refused 15 ≡ step.Refused n = rw (other, bad) at e in let k : 15 ≡ n = cc in (omega arith, omega arith)))
 
-step-refusal : (b : List ℕ) (position : Position) → RefusalsNumbered step.Refused (walkStep b position .answer)
-unfolding walkStep
-step-refusal b position n e =
-    either (eqb (tableRefusal b) 0)
-    (λ good. walk-refusal b (position .passed) (position .passed) (recordCount b - position .passed) n (rw good at e))
-    (λ bad. let q : step.Refused (tableRefusal b) ≡ step.Refused n = rw bad at e in table-refusal b n bad (cc))
+next-refusal : (position : ℕ) (marks : List (ℕ × ℕ)) → RefusalsNumbered step.Refused (firstOf position marks .answer)
+next-refusal position [] n e = impossible (cc)
+next-refusal position (r ∷ rest) n e = at-refusal r n e
 
 abbrev pub IsRecord : Step → Type 0
-IsRecord a = (i : ℕ) × (a ≡ step.Record i)
+IsRecord a = (i : ℕ) × (deleted : Bool) × (a ≡ step.Record i deleted)
 
 step-case : (a : Step) → RefusalsNumbered step.Refused a → Case (stepCode a) doneCode (IsRecord a) (a ≡ step.Done)
-step-case (step.Record i) small = accepted refl (i, refl)
+step-case (step.Record i deleted) small = accepted refl (i, deleted, refl)
 step-case step.Done small = other refl refl
 step-case (step.Refused n) small = refused (small n refl)
 
--- 0 is given exactly for a record, 258 exactly if the walk is done
-pub walk-told : (b : List ℕ) (position : Position) → let a = walkStep b position .answer in Told (stepCode a) doneCode (IsRecord a) (a ≡ step.Done)
-walk-told b position =
-    told (omega arith) (step-case (walkStep b position .answer) (step-refusal b position)) (λ found. ap stepCode (found .1)) (λ done. ap stepCode done)
+-- of either walk
+module _ (skips : Bool) (b : List ℕ) (position : Position) where
+  step-refusal : RefusalsNumbered step.Refused (stepBy skips b position .answer)
+  unfolding stepBy stepFrom
+  step-refusal n e =
+      let passed = position .passed in
+      either (eqb (tableRefusal b) 0)
+      (λ good. next-refusal passed (shown skips (marksFrom b passed (recordCount b - passed))) n (rw good at e))
+      (λ bad. let q : step.Refused (tableRefusal b) ≡ step.Refused n = rw bad at e in table-refusal b n bad (cc))
+
+  -- 0 is given exactly for a record, 258 exactly if the walk is done
+  pub walk-told : let a = stepBy skips b position .answer in Told (stepCode a) doneCode (IsRecord a) (a ≡ step.Done)
+  walk-told =
+      told (omega arith) (step-case (stepBy skips b position .answer) step-refusal) (λ found. ap stepCode (found .2)) (λ done. ap stepCode done)
 
 -- ---- one field of one record, and numeric text: 0 with a value, 256 for an empty field
 

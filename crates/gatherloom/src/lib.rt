@@ -27,7 +27,7 @@ ghost use Rattle.dbf_append.specs.Extent.{extentRule};
 ghost use Rattle.dbf_create.specs.Laying.{layOutRule};
 ghost use Rattle.handed.specs.Out.{out};
 ghost use Rattle.dbf_calls.specs.Answers.{sizes, shapeOut};
-ghost use Rattle.dbf_calls.specs.Lent.{listing, walkedOf};
+ghost use Rattle.dbf_calls.specs.Lent.{listing, walkedOf, liveOf};
 ghost use Rattle.dbf_calls.specs.Writing.{stores, written, appendOut, extentOut};
 ghost use Rattle.dbf_cell_calls.specs.Answers.{dayOf, part, numberOut, dateOut, logicalOut, textOut};
 ghost use Rattle.index_calls.specs.Answers.{found, lookupOut};
@@ -35,7 +35,7 @@ ghost use Rattle.dilute_call.specs.Volumes.{volumes, volumesOut};
 ghost use Rattle.gatherloom.specs.Interface.{interfaceNumber};
 
 // The number of this interface, GL_INTERFACE in the header.
-const INTERFACE: u32 = 3;
+const INTERFACE: u32 = 4;
 
 // The interface of this archive: a host compares it with GL_INTERFACE before its first call.
 #[no_mangle]
@@ -88,15 +88,36 @@ pub extern "C" fn gl_fields(table: &[u8], entries: &mut [FieldEntry]) -> u32
     plan.answer
 }
 
-// One step of the walk. The position belongs to the host, and each call moves it on the spot.
+// One step of the walk, which hands out every record with a mark: 1 if it is deleted, 0 if not. The position belongs to the host, and each call moves it on the
+// spot.
 #[no_mangle]
-pub extern "C" fn gl_walk(table: &[u8], position: &mut Position, number: &mut u32) -> u32
+pub extern "C" fn gl_walk(
+    table: &[u8],
+    position: &mut Position,
+    number: &mut u32,
+    deleted: &mut u8,
+) -> u32
     ensures { λ r. ⌜
-        walkedOf (now (table .entry)) (now (position .entry)) (now (number .entry))
+        walkedOf (now (table .entry)) (now (position .entry)) (now (number .entry)) (now (deleted .entry))
+        ≡ record { answer = r; position = now (position .exit); number = now (number .exit); deleted = now (deleted .exit) }
+        ⌝ }
+{
+    let step = dbf_calls::lent_step(table, *position, *number, *deleted);
+    *position = step.position;
+    *number = step.number;
+    *deleted = step.deleted;
+    step.answer
+}
+
+// One step of the walk that skips deleted records.
+#[no_mangle]
+pub extern "C" fn gl_walk_live(table: &[u8], position: &mut Position, number: &mut u32) -> u32
+    ensures { λ r. ⌜
+        liveOf (now (table .entry)) (now (position .entry)) (now (number .entry))
         ≡ record { answer = r; position = now (position .exit); number = now (number .exit) }
         ⌝ }
 {
-    let step = dbf_calls::lent_step(table, *position, *number);
+    let step = dbf_calls::lent_live_step(table, *position, *number);
     *position = step.position;
     *number = step.number;
     step.answer

@@ -189,13 +189,33 @@ pub fn list_fields(t: &[u8], entries: &mut [Field]) -> Result<(), Refusal> {
 
 #[derive(Clone, Copy, Debug, PartialEq, Eq)]
 pub enum Step {
-    Record(u32),
+    Record { number: u32, deleted: bool },
     Done,
     Refused(Refusal),
 }
 
-/// One step of the walk; the position is moved on the spot.
+/// One step of the walk over every record; the position is moved on the spot.
 pub fn walk(t: &[u8], passed: &mut u32) -> Step {
+    let shape = match check_table(t) {
+        Ok(shape) => shape,
+        Err(n) => return Step::Refused(n),
+    };
+    if *passed >= shape.records {
+        return Step::Done;
+    }
+    let mark = t[shape.header_length + *passed as usize * shape.record_length];
+    *passed += 1;
+    match mark {
+        0x20 | 0x2A => Step::Record {
+            number: *passed,
+            deleted: mark == 0x2A,
+        },
+        _ => Step::Refused(15),
+    }
+}
+
+/// One step of the walk that skips deleted records.
+pub fn walk_live(t: &[u8], passed: &mut u32) -> Step {
     let shape = match check_table(t) {
         Ok(shape) => shape,
         Err(n) => return Step::Refused(n),
@@ -208,7 +228,10 @@ pub fn walk(t: &[u8], passed: &mut u32) -> Step {
             0x2A => continue,
             0x20 => {
                 *passed = i;
-                return Step::Record(i);
+                return Step::Record {
+                    number: i,
+                    deleted: false,
+                };
             }
             _ => {
                 *passed = i;

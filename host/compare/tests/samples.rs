@@ -1,5 +1,5 @@
 //! Other programs' tables and memo files, through the safe wrapper: what the incident was about, and every call on every field against plain Rust.
-use gatherloom::{Answer, Decimal, Field, Refusal, Table, Value};
+use gatherloom::{ffi, Answer, Decimal, Field, Refusal, Table, Value};
 use gatherloom_compare::reference;
 use std::{fs, path::PathBuf};
 
@@ -207,13 +207,95 @@ fn a_walk_goes_as_in_plain_rust() {
     for with in [&b" "[..], b"*", b"x", b" *", b"**x", b" x**"] {
         let bytes = remarked("xbase_s20.dbf", with);
         let mut passed = 0;
-        let step = || match reference::walk(&bytes, &mut passed) {
-            reference::Step::Record(number) => Some(Ok(number)),
+        let step = || match reference::walk_live(&bytes, &mut passed) {
+            reference::Step::Record { number, .. } => Some(Ok(number)),
             reference::Step::Done => None,
             reference::Step::Refused(number) => Some(due(Err(number))),
         };
         let want: Vec<_> = std::iter::from_fn(step).collect();
         let got: Vec<_> = Table::new(&bytes).unwrap().live().collect();
         assert_eq!(got, want);
+    }
+}
+
+/// The steps of the walk over every record until done, as a line of k7_k8.expected has them.
+fn walked(table: &[u8], passed: u32) -> Vec<String> {
+    let mut position = ffi::Position { passed };
+    let mut steps = vec![];
+    loop {
+        let (mut record, mut deleted) = (0, 0xEE);
+        let (bytes, length) = (table.as_ptr(), table.len());
+        let answer =
+            unsafe { ffi::gl_walk(bytes, length, &mut position, &mut record, &mut deleted) };
+        let mark = match deleted {
+            0 => "live",
+            1 => "deleted",
+            _ => "",
+        };
+        assert_eq!(answer == 0, deleted != 0xEE);
+        steps.push(match answer {
+            0 => format!("0 {record} {mark} @{}", position.passed),
+            _ => format!("{answer} @{}", position.passed),
+        });
+        if answer == ffi::DONE {
+            return steps;
+        }
+    }
+}
+
+/// The steps of the walk that skips deleted records.
+fn walked_live(table: &[u8], passed: u32) -> Vec<String> {
+    let mut position = ffi::Position { passed };
+    let mut steps = vec![];
+    loop {
+        let mut record = 0;
+        let (bytes, length) = (table.as_ptr(), table.len());
+        let answer = unsafe { ffi::gl_walk_live(bytes, length, &mut position, &mut record) };
+        steps.push(match answer {
+            0 => format!("0 {record} @{}", position.passed),
+            _ => format!("{answer} @{}", position.passed),
+        });
+        if answer == ffi::DONE {
+            return steps;
+        }
+    }
+}
+
+#[test]
+fn both_walks_go_as_another_implementation_says() {
+    let table = read("k7_k8.dbf");
+    let expected = fs::read_to_string(data().join("k7_k8.expected")).unwrap();
+    let mut walks = 0;
+    for line in expected.lines().filter(|l| l.starts_with("walk")) {
+        let (call, steps) = line.split_once(": ").unwrap();
+        let (name, start) = call.split_once(' ').unwrap();
+        let start = start.parse().unwrap();
+        let got = match name {
+            "walk" => walked(&table, start),
+            _ => walked_live(&table, start),
+        };
+        assert_eq!(got.join("; "), steps);
+        walks += 1;
+    }
+    assert_eq!(walks, 16);
+}
+
+/// The steps without their positions, and without those that hand out a deleted record.
+fn undeleted(steps: Vec<String>) -> Vec<String> {
+    let kept = steps.iter().filter(|step| !step.contains("deleted"));
+    kept.map(|step| step.split(" @").next().unwrap().replace(" live", ""))
+        .collect()
+}
+
+#[test]
+fn the_two_walks_agree_from_every_position() {
+    for with in [&b" "[..], b"*", b"x", b" *", b"**x", b" x**"] {
+        let table = remarked("xbase_s20.dbf", with);
+        for start in (0..=21).chain([u32::MAX - 1, u32::MAX]) {
+            assert_eq!(
+                undeleted(walked(&table, start)),
+                undeleted(walked_live(&table, start))
+            );
+        }
     }
 }

@@ -1,6 +1,5 @@
--- `dbf_calls::lent_step` meets its contract, by the case of the walk's answer. Assumes nothing.
-use Rattle.dbf_walk.specs.declared.Step.the-variants.{Record, Done, Refused}
-use Rattle.dbf_calls.specs.LentLaws.{walked-as}
+-- `dbf_calls::lent_step` meets its contract. Assumes nothing.
+use Rattle.dbf_calls.specs.Lent.{walkedOf}
 use borrow.Author.Needs.{needs}
 use Rattle.dbf_calls.proofs.lent_step.Statement.{statement}
 use Rattle.dbf_calls.proofs.lent_step.Tie as tie
@@ -8,36 +7,12 @@ use Rattle.dbf_calls.proofs.lent_step.Tie as tie
 walk-step-requires : tie.Need-walk-step-requires
 walk-step-requires c κs = search needs
 
-enum-known-answer : tie.Need-enum-known-answer
-enum-known-answer c = search needs
-
-enum-told : tie.Need-enum-told
-enum-told c = search needs
-
-enum-known-answer-2 : tie.Need-enum-known-answer-2
-enum-known-answer-2 c = search needs
+lent-requires : tie.Need-lent-requires
+lent-requires c κs = search needs
 
 returns : tie.Need-returns
-returns c =
-    let at-record = c .before in
-    walked-as _ _ _ _ (Record _) (at-record .before .before .before .walk-step .ensures) (at-record .answer .given .1)
-
-returns-2 : tie.Need-returns-2
-returns-2 c = walked-as _ _ _ _ Done (c .before .before .before .walk-step .ensures) (c .enum-told .given .1)
-
-returns-3 : tie.Need-returns-3
-returns-3 c =
-    let at-refused = c .before in
-    walked-as _ _ _ _ (Refused _) (at-refused .before .before .before .walk-step .ensures) (at-refused .answer2 .given .1)
+unfolding walkedOf
+returns c = rw (← c .before .walk-step .ensures) (c .lent .ensures)
 
 pub lent-step-spec : {M : Type 1} → statement M
-lent-step-spec =
-    tie.close
-    (tie.spec
-    walk-step-requires
-    enum-known-answer
-    enum-told
-    enum-known-answer-2
-    returns
-    returns-2
-    returns-3)
+lent-step-spec = tie.close (tie.spec walk-step-requires lent-requires returns)

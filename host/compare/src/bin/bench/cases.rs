@@ -172,6 +172,7 @@ fn tables(word: &str) -> usize {
         over += show(word, check(&case, &table), false);
         over += show(word, reading(&case, &table, fields), false);
         over += show(word, walking(&case, &table), false);
+        over += show(word, walking_live(&case, &table), false);
     }
     over
 }
@@ -207,22 +208,44 @@ fn reading<'a>(case: Make<'a, '_>, table: &'a [u8], fields: usize) -> Case<'a> {
     )
 }
 
-fn walking<'a>(case: Make<'a, '_>, table: &'a [u8]) -> Case<'a> {
-    let steps = |step: &mut dyn FnMut() -> Option<u32>| {
-        let mut sum = 0u64;
-        while let Some(number) = step() {
-            sum += number as u64;
-        }
-        sum
-    };
-    let good = Table::new(table).unwrap();
-    let mut passed = 0;
-    let mut calls = 1;
-    while let reference::Step::Record(_) = reference::walk(table, &mut passed) {
-        calls += 1;
+/// The sum of the numbers that a walk hands out until it is done.
+fn steps(step: &mut dyn FnMut() -> Option<u32>) -> u64 {
+    let mut sum = 0u64;
+    while let Some(number) = step() {
+        sum += number as u64;
     }
+    sum
+}
+
+/// The number that a step of plain Rust hands out.
+fn number(step: reference::Step) -> Option<u32> {
+    match step {
+        reference::Step::Record { number, .. } => Some(number),
+        _ => None,
+    }
+}
+
+fn walking<'a>(case: Make<'a, '_>, table: &'a [u8]) -> Case<'a> {
+    let good = Table::new(table).unwrap();
     case(
         "walk",
+        RECORDS + 1,
+        Box::new(move || {
+            let mut records = good.records();
+            steps(&mut || Some(records.next()?.number()))
+        }),
+        Box::new(move || {
+            let mut passed = 0;
+            steps(&mut || number(reference::walk(table, &mut passed)))
+        }),
+    )
+}
+
+fn walking_live<'a>(case: Make<'a, '_>, table: &'a [u8]) -> Case<'a> {
+    let good = Table::new(table).unwrap();
+    let calls = good.live().count() + 1;
+    case(
+        "walk, skipping",
         calls,
         Box::new(move || {
             let mut live = good.live();
@@ -230,10 +253,7 @@ fn walking<'a>(case: Make<'a, '_>, table: &'a [u8]) -> Case<'a> {
         }),
         Box::new(move || {
             let mut passed = 0;
-            steps(&mut || match reference::walk(table, &mut passed) {
-                reference::Step::Record(number) => Some(number),
-                _ => None,
-            })
+            steps(&mut || number(reference::walk_live(table, &mut passed)))
         }),
     )
 }

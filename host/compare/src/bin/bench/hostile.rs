@@ -198,11 +198,11 @@ fn tables(word: &str) {
     let walked = Table::new(&deleted).unwrap();
     show(
         word,
-        "walk",
+        "walk, skipping",
         "8,000,000 records, all deleted",
         &[&deleted],
         Box::new(|| walked.live().next().is_none() as u64),
-        Box::new(|| (reference::walk(&deleted, &mut 0) == reference::Step::Done) as u64),
+        Box::new(|| (reference::walk_live(&deleted, &mut 0) == reference::Step::Done) as u64),
     );
 }
 

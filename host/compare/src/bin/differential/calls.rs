@@ -86,12 +86,48 @@ fn entry(bytes: &[u8]) -> reference::Field {
     }
 }
 
-/// A step of the walk; gives the position that it is due to leave.
-pub fn walk(tally: &mut Tally, table: &Lent, passed: u32, held: u32) -> (u32, u32) {
+/// A step of the walk over every record; gives the answer and the position that are due.
+pub fn walk(tally: &mut Tally, table: &Lent, passed: u32, held: u32, mark: u8) -> (u32, u32) {
+    let mut position = Out::new(ffi::Position { passed });
+    let mut record = Out::new(held);
+    let mut deleted = Out::new(mark);
+    let got = unsafe {
+        ffi::gl_walk(
+            table.place(),
+            table.length(),
+            position.place(),
+            record.place(),
+            deleted.place(),
+        )
+    };
+    let mut after = passed;
+    let due = match reference::walk(table.was(), &mut after) {
+        Step::Record { number, deleted } => (0, (after, number, deleted.into())),
+        Step::Done => (DONE, (after, held, mark)),
+        Step::Refused(number) => (number, (after, held, mark)),
+    };
+    tally.hold(
+        Call::Walk,
+        (
+            got,
+            (position.value().passed, record.value(), deleted.value()),
+        ),
+        due,
+        table.kept() && position.intact() && record.intact() && deleted.intact(),
+        &[
+            Bytes("table", table.was()),
+            Number("position", passed.into()),
+        ],
+    );
+    (due.0, after)
+}
+
+/// A step of the walk that skips deleted records.
+pub fn walk_live(tally: &mut Tally, table: &Lent, passed: u32, held: u32) -> (u32, u32) {
     let mut position = Out::new(ffi::Position { passed });
     let mut record = Out::new(held);
     let got = unsafe {
-        ffi::gl_walk(
+        ffi::gl_walk_live(
             table.place(),
             table.length(),
             position.place(),
@@ -99,13 +135,13 @@ pub fn walk(tally: &mut Tally, table: &Lent, passed: u32, held: u32) -> (u32, u3
         )
     };
     let mut after = passed;
-    let due = match reference::walk(table.was(), &mut after) {
-        Step::Record(number) => (0, (after, number)),
+    let due = match reference::walk_live(table.was(), &mut after) {
+        Step::Record { number, .. } => (0, (after, number)),
         Step::Done => (DONE, (after, held)),
         Step::Refused(number) => (number, (after, held)),
     };
     tally.hold(
-        Call::Walk,
+        Call::WalkLive,
         (got, (position.value().passed, record.value())),
         due,
         table.kept() && position.intact() && record.intact(),

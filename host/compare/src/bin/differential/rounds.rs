@@ -120,11 +120,23 @@ fn a_table(r: &mut Random, a: &mut Arenas, tally: &mut Tally) {
     }
 }
 
-/// A walk from the start to its end, or some way, and steps from anywhere.
+/// Each walk from the start or from anywhere to its end, or some way, and steps from anywhere.
 fn walks(r: &mut Random, tally: &mut Tally, table: &Lent, records: u32) {
-    let mut passed = 0;
+    let from = match r.below(2) {
+        0 => 0,
+        _ => r.below(records as usize + 1) as u32,
+    };
+    let mut passed = from;
     for _ in 0..8 {
-        let (answer, after) = calls::walk(tally, table, passed, r.word());
+        let (answer, after) = calls::walk(tally, table, passed, r.word(), r.byte());
+        passed = after;
+        if answer != 0 && answer != 15 {
+            break;
+        }
+    }
+    passed = from;
+    for _ in 0..8 {
+        let (answer, after) = calls::walk_live(tally, table, passed, r.word());
         passed = after;
         if answer != 0 && answer != 15 {
             break;
@@ -132,7 +144,8 @@ fn walks(r: &mut Random, tally: &mut Tally, table: &Lent, records: u32) {
     }
     for _ in 0..2 {
         let passed = r.near(&[0, records, u32::MAX]);
-        calls::walk(tally, table, passed, r.word());
+        calls::walk(tally, table, passed, r.word(), r.byte());
+        calls::walk_live(tally, table, passed, r.word());
     }
 }
 
@@ -190,7 +203,8 @@ fn longest_files(r: &mut Random, a: &mut Arenas, tally: &mut Tally) {
         calls::table_check(tally, &lent);
         calls::text_part(tally, &lent, &memo, 1, 1, r.bits());
         calls::text_part(tally, &lent, &memo, count as u32, 2, r.bits());
-        calls::walk(tally, &lent, count as u32 - 1, r.word());
+        calls::walk(tally, &lent, count as u32 - 1, r.word(), r.byte());
+        calls::walk_live(tally, &lent, count as u32 - 1, r.word());
     }
 }
 

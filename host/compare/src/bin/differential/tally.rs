@@ -7,6 +7,7 @@ pub enum Call {
     TableShape,
     Fields,
     Walk,
+    WalkLive,
     TableLayOut,
     TableAppend,
     TableSetDate,
@@ -30,11 +31,12 @@ pub enum Call {
 }
 
 /// Each call's name and every answer that the documents let it give.
-const CALLS: [(&str, &[u32]); 24] = [
+const CALLS: [(&str, &[u32]); 25] = [
     ("gl_table_check", &[0, 1, 2, 3, 4, 5, 6, 7, 8, 9, 10]),
     ("gl_table_shape", &[0, 1, 2, 3, 4, 5, 6, 7, 8, 9, 10]),
     ("gl_fields", &[0, 1, 2, 3, 4, 5, 6, 7, 8, 9, 10, 14]),
     ("gl_walk", &[0, 1, 2, 3, 4, 5, 6, 7, 8, 9, 10, 15, 258]),
+    ("gl_walk_live", &[0, 1, 2, 3, 4, 5, 6, 7, 8, 9, 10, 15, 258]),
     ("gl_table_lay_out", &[0, 3, 4, 6, 7, 9, 30]),
     (
         "gl_table_append",

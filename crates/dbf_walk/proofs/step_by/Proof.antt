@@ -1,10 +1,10 @@
--- `dbf_walk::walk_step` meets its contract, by the case of the table's check. Assumes nothing.
+-- `dbf_walk::step_by` meets its contract, by the case of the table's check. Assumes nothing.
 use mathlib.Core.Path.{sym, _∙_}
 use Rattle.dbf_table.specs.TableLaws.{good-shape}
-use Rattle.dbf_walk.specs.WalkLaws.{walk-good, walk-refused}
+use Rattle.dbf_walk.specs.WalkLaws.{step-good, step-refused}
 use borrow.Author.Needs.{needs}
-use Rattle.dbf_walk.proofs.walk_step.Statement.{statement}
-use Rattle.dbf_walk.proofs.walk_step.Tie as tie
+use Rattle.dbf_walk.proofs.step_by.Statement.{statement}
+use Rattle.dbf_walk.proofs.step_by.Tie as tie
 
 check-table-requires : tie.Need-check-table-requires
 check-table-requires c κs = search needs
@@ -27,15 +27,15 @@ step-to-requires c κs = search needs
 returns : tie.Need-returns
 returns c =
     let told = c .before .before in
-    c .step-from .ensures ∙ sym (walk-good _ _ _ (sym (told .before .before .check-table .ensures) ∙ told .shape .given .1))
+    c .step-from .ensures ∙ sym (step-good _ _ _ _ (sym (told .before .before .check-table .ensures) ∙ told .shape .given .1))
 
 returns-2 : tie.Need-returns-2
 returns-2 c =
     let told = c .before .before in
-    c .step-to .ensures ∙ sym (walk-refused _ _ _ (sym (told .before .before .check-table .ensures) ∙ told .refused .given .1))
+    c .step-to .ensures ∙ sym (step-refused _ _ _ _ (sym (told .before .before .check-table .ensures) ∙ told .refused .given .1))
 
-pub walk-step-spec : {M : Type 1} → statement M
-walk-step-spec =
+pub step-by-spec : {M : Type 1} → statement M
+step-by-spec =
     tie.close
     (tie.spec
     check-table-requires
