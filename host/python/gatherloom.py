@@ -640,7 +640,8 @@ class Lookup(NamedTuple):
 class Index:
     """An index in a bytearray, `buffer`.
 
-    A bytearray is used in place, so that insertions and removals write into it. Of a path or other bytes a copy is made, with zeros after it up to `room` bytes:
+    A bytearray is used in place, so that insertions and removals write into it. Of a path or other bytes a copy is made, with zeros after it up to `room`
+    bytes:
     an insertion that splits a page needs 512 bytes or more after the index. The index itself is not checked here; `audit` does that.
     """
 

@@ -621,7 +621,8 @@ static void test_walk_live(void)
     give_back(&t);
 }
 
-/* The walks of k7_k8.expected, which another implementation wrote: `walk START: ANSWER [RECORD live or deleted] @POSITION; ..`, and `walk_live` without marks. */
+/* The walks of k7_k8.expected, which another implementation wrote: `walk START: ANSWER [RECORD live or deleted] @POSITION; ..`, and `walk_live`
+   without marks. */
 static void test_walks_of_the_sample(void)
 {
     lent t = load(samples_data, "k7_k8.dbf"), text = load(samples_data, "k7_k8.expected");

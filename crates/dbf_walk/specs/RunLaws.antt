@@ -1,5 +1,5 @@
--- Laws: either walk from any position to done. The default hands out every record, in order, with its mark, and 15 for each bad deletion byte; the skipping walk
--- gives the same answers but for the deleted records. Assumes nothing.
+-- Laws: either walk from any position to done. The default hands out every record, in order, with its mark, and 15 for each bad deletion byte; the skipping
+-- walk gives the same answers but for the deleted records. Assumes nothing.
 use Prim.Native.Nat.{ℕ, zero, suc, _+_, _-_, _≤_, _<_}
 use mathlib.Core.Path.{_≡_, refl, sym, ap, _∙_}
 use mathlib.Core.Bool.{Bool, true, false, _&&_, cond}
@@ -72,7 +72,8 @@ module _ (skips : Bool) (b : List ℕ) (good : tableRefusal b ≡ 0) where
       let rest = step-then (passed + 1) left calls here ∙ run-from left (passed + 1) (passed + 1) calls here (omega arith) in
       either (skips && eqb (deletionByte b (passed + 1)) deletedMark)
       (λ over. rw over (run-from left position (passed + 1) (suc calls) here (omega arith)))
-      (λ next. rw next (at-then (passed + 1, deletionByte b (passed + 1)) _ ∙ ap (λ (l : List Step). stepAt (passed + 1, deletionByte b (passed + 1)) ∷ l) rest))
+      (λ next. rw next (at-then (passed + 1, deletionByte b (passed + 1)) _
+      ∙ ap (λ (l : List Step). stepAt (passed + 1, deletionByte b (passed + 1)) ∷ l) rest))
 
   -- a walk from any position, with as many calls as it takes or more
   pub walk-run : (position : Position) (calls : ℕ) → recordCount b - position .passed < calls
@@ -104,8 +105,8 @@ handed-undeleted (r ∷ rest) =
     (λ kept. let other : eqb (r .1) deletedMark ≡ false = rw (eqb-true (r .1) keptMark kept) in rw (other, kept, others))
     (λ other. either (eqb (r .1) deletedMark) (λ deleted. rw (deleted, other, others)) (λ bad. rw (bad, other, bad, others)))
 
--- "From the same position over the same table, each walked to done, the undeleted numbers from one are exactly the numbers from the other, in order, and the 15s
--- stand at the same places among them"
+-- "From the same position over the same table, each walked to done, the undeleted numbers from one are exactly the numbers from the other, in order, and the
+-- 15s stand at the same places among them"
 pub walks-agree : (b : List ℕ) → tableRefusal b ≡ 0 → (position : Position) (calls calls′ : ℕ)
     → recordCount b - position .passed < calls → recordCount b - position .passed < calls′
     → undeleted (walkRun (walkStep b) position calls) ≡ walkRun (liveStep b) position calls′

@@ -42,7 +42,8 @@ step-to-requires c κs = search needs
 returns : tie.Need-returns Inv-loop μ-loop
 returns c =
     let at-mark = c .before .before .before in
-    let shows = step-shown _ _ _ _ _ (more at-mark) _ (at-mark .mark-after .ensures) _ (not-true _ (c .before .before .if1 .taken)) (c .before .step-at .ensures) in
+    let skipped = not-true _ (c .before .before .if1 .taken) in
+    let shows = step-shown _ _ _ _ _ (more at-mark) _ (at-mark .mark-after .ensures) _ skipped (c .before .step-at .ensures) in
     c .step-to .ensures ∙ sym (at-loop at-mark .loop .inv ∙ shows)
 
 add-passed : tie.Need-add-passed Inv-loop μ-loop

@@ -206,7 +206,8 @@ module _ {M : Type 1} (𝓤 : URA M) (H : Heap 𝓤) (A : Atoms 𝓤) (W : Given
         -- [the mark's cell; its open borrow; its obs; its auth; true; the number's, the position's and the table's token;
         --  the position's obs and borrow; the number's; true; what the table owns; _8; …; ..]
         -- the borrow of the number is opened
-        move ! (10 ∷ 11 ∷ 5 ∷ []) $ opens ! tt u32 {h = n} d p (λ ns. spelt ! u32 (Is u32) (shows 𝓤 H A u32) (uint-vals w32) (uint-tells w32) fullShare n ns d p $
+        move ! (10 ∷ 11 ∷ 5 ∷ []) $ opens ! tt u32 {h = n} d p
+        (λ ns. spelt ! u32 (Is u32) (shows 𝓤 H A u32) (uint-vals w32) (uint-tells w32) fullShare n ns d p $
         move ! (1 ∷ []) $ facts ! u32 (Is u32) (shows 𝓤 H A u32) n (vint w32 n ∷ []) (λ number-was.
         -- [the number's cell; its open borrow; its obs; its auth; the mark's four; true; the position's token; the table's token;
         --  the position's obs and borrow; true; what the table owns; _8; …; ..]

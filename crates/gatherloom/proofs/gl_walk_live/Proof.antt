@@ -164,7 +164,8 @@ module _ {M : Type 1} (𝓤 : URA M) (H : Heap 𝓤) (A : Atoms 𝓤) (W : Given
 
   module _ (C : Calls 𝓤 H) (Λ : Loops 𝓤 H) (fm : FmC 𝓤 H (W .laws) C) (known : Triple 𝓤 (C #dbf_calls·lent-live-step) Stepping) where
     walk : Is (ShrSlice (named 0) κ u8) s (v ∷ [])
-        → ent 𝓤 (onEntry 𝓤 H A gl-walk-live.signature (κ, (κ′, (κ″, tt))) (q, (q′, (q″, tt))) x at) (WpFn 𝓤 H C Λ code.function (v ∷ vptr b o ∷ vptr d p ∷ []) Post)
+        → ent 𝓤 (onEntry 𝓤 H A gl-walk-live.signature (κ, (κ′, (κ″, tt))) (q, (q′, (q″, tt))) x at)
+        (WpFn 𝓤 H C Λ code.function (v ∷ vptr b o ∷ vptr d p ∷ []) Post)
     walk is-table =
         qed W ((‵ (flft κ q) ⊛ ‵ (flft κ′ q′) ⊛ ‵ (flft κ″ q″) ⊛ ‵ ftrue)
         ∷ ‵ (owns (ShrSlice (named 0) κ u8 ∷ MutRef (named 1) κ′ P.the-row ∷ MutRef (named 2) κ″ u32 ∷ []) x at) ∷ []) ∵
