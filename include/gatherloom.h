@@ -7,7 +7,8 @@
    Threads: a call keeps no state and holds nothing after it returns. Calls may run at the same time in several threads, as long as none of them writes what
    another one is lent.
 
-   Stack: how many bytes a call takes at most, beside those of memcpy and memset, rounded up. tests/c/stack reads them from the archive and compares.
+   Stack: no call takes more bytes than this, beside those of memcpy and memset. tests/c/stack reads what each takes from the archive, and ends with 1 if one
+   takes more.
        gl_interface 16, gl_index_fresh 64, gl_number_write 96, gl_number_read 128, gl_table_check 256, gl_table_shape 256, gl_fields 256, gl_walk_live 256,
        gl_table_set_date 256, gl_table_extent 256, gl_walk 288, gl_table_append 320, gl_read_logical 384, gl_text_part 384, gl_read_number 416,
        gl_read_date 416, gl_ndx_lookup 2560, gl_ndx_audit 3072, gl_index_lookup 3328, gl_index_audit 3456, gl_index_records 3456, gl_match 3712,
@@ -40,7 +41,7 @@ uint32_t gl_interface(void);
 #define GL_ABSENT 257 /* the key is not in the index */
 #define GL_DONE 258   /* the walk has no record left */
 
-/* The refusals, by the numbers of documents 01 and 02 (26 is unused). If several hold, a call answers the one that its comment names first. A table that is
+/* The refusals, by the numbers of documents 01 and 02 (26 is unused, 34 is not given yet). If several hold, a call answers the one that its comment names first. A table that is
    refused by 1 to 10 is not read at all: the lab has to send a good copy. */
 enum gl_refusal {
     /* the table as a whole */
