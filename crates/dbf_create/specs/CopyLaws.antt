@@ -2,7 +2,7 @@
 -- Assumes nothing.
 use Rattle.std.specs.Prelude.{ℕ, zero, suc, ◌+◌, ◌*◌, ◌≤◌, ◌<◌, ◌≡◌, refl, false, List, [], ◌∷◌, ◌++◌, length, take, get_or, leb, ltb}
 use Rattle.std.proofs.Common.{sym, ap, ◌∙◌, append_assoc, append-nil, add-one, arith, take-suc, take_all, length-take-le, leb-true, ltb-true, ltb-false}
-use Rattle.std.proofs.Math.Bool.{and_false}
+use Rattle.std.proofs.Math.Bool.{and-false}
 use Rattle.std.proofs.lemmas.List.{length-replicate}
 use Rattle.basis.specs.Tests.{either}
 use Rattle.basis.specs.Lists.{all_append, all_left}
@@ -60,7 +60,7 @@ lay_many b ds other f year month day many =
 
 count_many : (f : ℕ) → leb f max_fields ≡ false → count_good f ≡ false
 unfolding count_good
-count_many f many = rw many (and_false (leb 1 f))
+count_many f many = rw many (and-false (leb 1 f))
 
 count-few : (f : ℕ) → f ≤ max_fields → listed_count f ≡ f
 unfolding listed_count

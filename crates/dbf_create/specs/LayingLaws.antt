@@ -4,7 +4,7 @@ use Prim.Native.Nat.{ℕ, zero, suc, ◌+◌, ◌*◌, ◌-◌, ◌^◌, ◌≤�
 use Rattle.std.specs.Prelude.{◌≡◌, false, not, ◌&&◌, ◌||◌, take, set, replicate, eqb, leb}
 use Rattle.std.proofs.Math.Path.{refl, ap}
 use Rattle.std.proofs.Common.{sym, ◌∙◌, add-zero, zero-add, suc-add, not-suc-le-zero, get_or-append-add, lit<}
-use Rattle.std.proofs.Math.Bool.{Bool, true, or_true}
+use Rattle.std.proofs.Math.Bool.{Bool, true, or-true}
 use mathlib.Core.List.{List, [], ◌∷◌, ◌++◌}
 use native.Mathlib.Omega.{arith}
 use Rattle.std.proofs.Math.ListN.{length, length-append, get_or-append}
@@ -201,7 +201,7 @@ module _ (ds : List ℕ) (f year month day : ℕ) where
       laid_ended =
           let at : header_size f ≡ 32 + (32 * f + 1) = omega arith in
           let ended : byte_at t (header_size f) ≡ file_end = rw at (mark 1) in
-          rw (laid_end, length_laid, eq-eqb (header_size f + 1) (header_size f + 1) refl, ended) (or_true (eqb (header_size f + 1) (header_size f)))
+          rw (laid_end, length_laid, eq-eqb (header_size f + 1) (header_size f + 1) refl, ended) (or-true (eqb (header_size f + 1) (header_size f)))
 
       laid_filled : record_size ds f < 2 ^ 16 → record_length_good t ≡ leb (record_size ds f) max_record
       unfolding record_length_good

@@ -1,7 +1,7 @@
 -- Laws: what a good descriptor says of its field, type by type. Assumes nothing.
 use Rattle.std.specs.Prelude.{ℕ, zero, suc, ◌≤◌, ◌<◌, ◌≡◌, true, false, ◌&&◌, List, eqb}
 use Rattle.std.proofs.lemmas.Bool.{false≢true}
-use Rattle.std.proofs.Math.Bool.{or_false, and_false}
+use Rattle.std.proofs.Math.Bool.{or-false, and-false}
 use Rattle.std.proofs.Common.{arith}
 use Rattle.std.proofs.Math.Dec.{leb}
 use borrow.Author.Tests.{leb-true, eqb-true}
@@ -19,7 +19,7 @@ field_form b good j l = (both (name_good b (descriptor j)) (form_good (field_typ
 -- a good form has a byte at least
 pub form-some : (type size decimals : ℕ) → form_good type size decimals ≡ true → 1 ≤ size
 unfolding form_good format_good
-form-some type zero decimals h = let no : false ≡ true = simp (and_false, or_false) at h in absurd (false≢true no)
+form-some type zero decimals h = let no : false ≡ true = simp (and-false, or-false) at h in absurd (false≢true no)
 form-some type (suc n) decimals h = omega arith
 
 -- the lengths that a good form can have, type by type
@@ -27,21 +27,21 @@ module _ (size decimals : ℕ) where
   pub form_text : form_good type_c size decimals ≡ true → (1 ≤ size) × (size ≤ max_text)
   unfolding form_good
   form_text h =
-      let sized = (both (eqb decimals 0) (leb 1 size && leb size max_text) (simp or_false at h)).1 in
+      let sized = (both (eqb decimals 0) (leb 1 size && leb size max_text) (simp or-false at h)).1 in
       let parts = both (leb 1 size) (leb size max_text) sized in
       (leb-true _ _ parts.0, leb-true _ _ parts.1)
 
   pub form-numeric : form_good type_n size decimals ≡ true → format_good size decimals ≡ true
   unfolding form_good
-  form-numeric h = simp (and_false, or_false) at h
+  form-numeric h = simp (and-false, or-false) at h
 
   pub form-date : form_good type_d size decimals ≡ true → size ≡ 8
   unfolding form_good
-  form-date h = eqb-true _ _ (both (eqb decimals 0) (eqb size 8) (simp or_false at h)).1
+  form-date h = eqb-true _ _ (both (eqb decimals 0) (eqb size 8) (simp or-false at h)).1
 
   pub form_logical : form_good type_l size decimals ≡ true → size ≡ 1
   unfolding form_good
-  form_logical h = eqb-true _ _ (both (eqb decimals 0) (eqb size 1) (simp or_false at h)).1
+  form_logical h = eqb-true _ _ (both (eqb decimals 0) (eqb size 1) (simp or-false at h)).1
 
   pub form_memo : form_good type_m size decimals ≡ true → size ≡ 10
   unfolding form_good

@@ -4,7 +4,7 @@ use Prim.Native.Nat.{ℕ, zero, suc, ◌+◌, ◌≤◌, ◌<◌}
 use Rattle.std.specs.Prelude.{◌≡◌, Bool, true, false}
 use Rattle.std.proofs.Math.Path.{refl}
 use Rattle.std.proofs.Common.{subst, eq-or-lt_of_le, le_of_suc-le-suc, not-suc-le-zero, add-one, arith}
-use Rattle.std.proofs.Math.Bool.{and_false, or_true, or_false}
+use Rattle.std.proofs.Math.Bool.{and-false, or-true, or-false}
 use Rattle.std.proofs.Math.Logic.{⊎_elim}
 use Rattle.basis.specs.Tests.{both}
 use Rattle.dbf_table.specs.Range.{all_below, any_below, sum_below}
@@ -22,7 +22,7 @@ module _ (test : ℕ → Bool) where
   unfolding all_below
   all_stop i zero l e = absurd (not-suc-le-zero l)
   all_stop i (suc n) l e =
-      ⊎_elim (λ (q : i ≡ n). rw (subst (λ (k : ℕ). test k ≡ false) q e) (and_false (all_below test n)))
+      ⊎_elim (λ (q : i ≡ n). rw (subst (λ (k : ℕ). test k ≡ false) q e) (and-false (all_below test n)))
       (λ lt. rw (all_stop i n lt e)) (eq-or-lt_of_le (le_of_suc-le-suc l))
 
   -- what holds of all holds of each
@@ -50,13 +50,13 @@ module _ (test : ℕ → Bool) where
   -- a number that does not pass may be left out
   pub any_fewer : (i : ℕ) → test i ≡ false → any_below test (i + 1) ≡ any_below test i
   unfolding any_below
-  any_fewer i e = rw (add-one i, e) (or_false (any_below test i))
+  any_fewer i e = rw (add-one i, e) (or-false (any_below test i))
 
   pub any_stop : (i n : ℕ) → i < n → test i ≡ true → any_below test n ≡ true
   unfolding any_below
   any_stop i zero l e = absurd (not-suc-le-zero l)
   any_stop i (suc n) l e =
-      ⊎_elim (λ (q : i ≡ n). rw (subst (λ (k : ℕ). test k ≡ true) q e) (or_true (any_below test n)))
+      ⊎_elim (λ (q : i ≡ n). rw (subst (λ (k : ℕ). test k ≡ true) q e) (or-true (any_below test n)))
       (λ lt. rw (any_stop i n lt e)) (eq-or-lt_of_le (le_of_suc-le-suc l))
 
 -- tests and amounts that agree on every number below a bound

@@ -33,9 +33,9 @@ module _ (s : List ℕ) (i : ℕ) where
   unfolding front
   digits-none l = let e : drop i s ≡ [] = drop_of_length-le s l in rw e
 
-and_false : (x : Bool) → x && false ≡ false
-and_false true = refl
-and_false false = refl
+and-false : (x : Bool) → x && false ≡ false
+and-false true = refl
+and-false false = refl
 
 -- the front of a text is its first bytes
 front-none : (p : ℕ → Bool) → front p [] ≡ []
@@ -68,7 +68,7 @@ module _ (s : List ℕ) (at end : ℕ) (is : end ≡ at + length (digits_at s at
   unfolding line_good
   line_past l =
       let past : byte_at s (at + length (digits_at s at)) ≡ 0 = get_or-eq_default s 0 (omega arith) in
-      bad_line (rw past (and_false (leb 1 (length (digits_at s at)) && leb (length (digits_at s at)) 10)))
+      bad_line (rw past (and-false (leb 1 (length (digits_at s at)) && leb (length (digits_at s at)) 10)))
 
   pub line_short : end ≡ at → line_at s at ≡ no_line
   unfolding line_good

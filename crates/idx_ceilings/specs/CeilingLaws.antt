@@ -4,7 +4,7 @@ use Prim.Native.Nat.{ℕ, zero, suc, ◌+◌, ◌-◌, ◌≤◌, ◌<◌}
 use Rattle.std.specs.Prelude.{◌≡◌, refl, Bool, not, ◌&&◌, ◌||◌, List, length, eqb}
 use Rattle.std.proofs.Math.Path.{sym, ap}
 use Rattle.std.proofs.Common.{◌∙◌}
-use Rattle.std.proofs.Math.Bool.{true, false, or_false}
+use Rattle.std.proofs.Math.Bool.{true, false, or-false}
 use Rattle.std.proofs.Math.Option.{none}
 use native.Mathlib.Omega.{arith}
 use borrow.Author.Tests.{eq-eqb, ne_eqb}
@@ -144,7 +144,7 @@ module _ (b : List ℕ) (k size d h p n i c q z : ℕ) (ec : c ≡ number_at b k
     unfolding key_from
     upper_else t ey =
         let is : is_below o ≡ false = sym ex ∙ t in
-        rw (← ec, ← eq, ← ez, ne_eqb z 0 some, ← ea, ← eo, is, ← ey, or_false y)
+        rw (← ec, ← eq, ← ez, ne_eqb z 0 some, ← ea, ← eo, is, ← ey, or-false y)
 
 -- the loop over the n entries of a page above the leaves: the entries from entry i on, after an entry that is exact if x is true, decide
 abbrev pub UpperLeft : List ℕ → ℕ → ℕ → ℕ → ℕ → ℕ → ℕ → Bool → ℕ → Type 0

@@ -2,7 +2,7 @@
 use Rattle.std.specs.Prelude.{ℕ, suc, ◌+◌, ◌≤◌, ◌<◌, ◌≡◌, refl, Bool, true, false, ◌&&◌, length, drop, get_or, eqb, leb}
 use Rattle.std.proofs.Common.{sym, ◌∙◌, add-one, drop_of_length-le}
 use Rattle.std.proofs.Math.Path.{ap}
-use Rattle.std.proofs.Math.Bool.{not, and_true, and_false}
+use Rattle.std.proofs.Math.Bool.{not, and-true, and-false}
 use mathlib.Core.List.{List}
 use Rattle.std.proofs.Math.Seq.{drop-cons}
 use borrow.Author.Tests.{eq-eqb, ne_eqb, leb-true, le-leb, lt-leb, lt-ltb, le-ltb}
@@ -142,11 +142,11 @@ module _ (b : List ℕ) (k f : ℕ) (e : List ℕ) where
 -- an expression that is too long is bad, whatever its bytes are
 pub expression-long : (e : List ℕ) → max_expression < length e → expression_good e ≡ false
 unfolding expression_good
-expression-long e l = rw (lt-leb (length e) max_expression l, and_false (leb 1 (length e)))
+expression-long e l = rw (lt-leb (length e) max_expression l, and-false (leb 1 (length e)))
 
 pub expression-short : (e : List ℕ) → length e ≤ max_expression → expression_good e ≡ (leb 1 (length e) && printable e)
 unfolding expression_good
-expression-short e l = rw (le-leb (length e) max_expression l, and_true (leb 1 (length e)))
+expression-short e l = rw (le-leb (length e) max_expression l, and-true (leb 1 (length e)))
 
 pub expression-most : (e : List ℕ) → expression_good e ≡ true → length e ≤ max_expression
 unfolding expression_good

@@ -2,7 +2,7 @@
 -- law that an insertion keeps an index sound. Assumes nothing.
 use Rattle.std.specs.Prelude.{◌≡◌, refl, true, List, [], ◌∷◌, ◌++◌, ℕ, zero, suc, ◌+◌, ◌≤◌, ◌<◌, eqb, length, get_or}
 use Rattle.std.proofs.Common.{sym, ap, ap₂, ◌∙◌, add-zero, arith, eq-eqb, ne_eqb}
-use Rattle.std.proofs.Math.Bool.{or_true}
+use Rattle.std.proofs.Math.Bool.{or-true}
 use Rattle.basis.specs.Tests.{either}
 use Rattle.octets.specs.Bytes.{le32}
 use Rattle.octets.specs.Store.{window}
@@ -126,4 +126,4 @@ none-good size = rw (eq-eqb no_page no_page refl) refl
 
 pub page-good : (size p : ℕ) → is_page size p ≡ true → free_good size p ≡ true
 unfolding free_good
-page-good size p e = rw e (or_true (eqb p no_page))
+page-good size p e = rw e (or-true (eqb p no_page))

@@ -93,9 +93,9 @@ both-after : (x y z : Bool) → (x && (y && z)) ≡ ((x && y) && z)
 both-after true y z = refl
 both-after false y z = refl
 
-and_true : (x : Bool) → (x && true) ≡ x
-and_true true = refl
-and_true false = refl
+and-true : (x : Bool) → (x && true) ≡ x
+and-true true = refl
+and-true false = refl
 
 chain-end : (b : List ℕ) (k size p left : ℕ) → left ≤ 0 → chain b size left p ≡ []
 unfolding chain
@@ -134,7 +134,7 @@ module _ (t : List ℕ) (c : Column) (b : List ℕ) (size first p count left : �
     where
       none : chain b size left p ≡ []
       none = either (is_page size p)
-          (λ e. chain-end b c.length size p left (ltb-false 0 left (rw (e, and_true (ltb 0 left)) at h)))
+          (λ e. chain-end b c.length size p left (ltb-false 0 left (rw (e, and-true (ltb 0 left)) at h)))
           (λ e. chain-none b c.length size 0 p left e)
 
   -- the page p: its n entries are tested

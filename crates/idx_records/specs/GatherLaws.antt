@@ -102,9 +102,9 @@ pub leaf-at : (b key : List ℕ) (p n room at : ℕ) (list : List ℕ) (r : ℕ)
 leaf-at b key p n room at list r out q =
     rw (length-entries-from b (length key) p n 0) at (gathered-at key room (entries_from b (length key) p n 0) at list r out q)
 
-and_true : (x : Bool) → (x && true) ≡ x
-and_true true = refl
-and_true false = refl
+and-true : (x : Bool) → (x && true) ≡ x
+and-true true = refl
+and-true false = refl
 
 chain-end : (b : List ℕ) (size p left : ℕ) → left ≤ 0 → chain b size left p ≡ []
 unfolding chain
@@ -126,7 +126,7 @@ module _ (b key : List ℕ) (size first room : ℕ) (list₀ : List ℕ) (p at :
     where
       none : chain b size left p ≡ []
       none = either (is_page size p)
-          (λ e. chain-end b size p left (ltb-false 0 left (rw (e, and_true (ltb 0 left)) at h)))
+          (λ e. chain-end b size p left (ltb-false 0 left (rw (e, and-true (ltb 0 left)) at h)))
           (λ e. chain-none b (length key) size 0 p left e)
 
   pub leaves-on : (n r : ℕ) (out : List ℕ) (q : ℕ) → (left ≡ 0 → ⊥) → is_page size p ≡ true → n ≡ length (entries_at (length key) size b p)

@@ -30,19 +30,19 @@ module _ (b : List ℕ) (k size a last p : ℕ) where
   entries-upper l = rw l
 
 -- one page, whose head was read
-and_false : (x y z u v : Bool) → (x && (y && (z && u))) ≡ false → false ≡ (x && (y && (z && (u && v))))
-and_false true true true true v e = contra refl e
-and_false true true true false v e = refl
-and_false true true false u v e = refl
-and_false true false z u v e = refl
-and_false false y z u v e = refl
+and-false : (x y z u v : Bool) → (x && (y && (z && u))) ≡ false → false ≡ (x && (y && (z && (u && v))))
+and-false true true true true v e = contra refl e
+and-false true true true false v e = refl
+and-false true true false u v e = refl
+and-false true false z u v e = refl
+and-false false y z u v e = refl
 
-and_true : (x y z u v : Bool) → (x && (y && (z && u))) ≡ true → v ≡ (x && (y && (z && (u && v))))
-and_true true true true true v e = refl
-and_true true true true false v e = contra e refl
-and_true true true false u v e = contra e refl
-and_true true false z u v e = contra e refl
-and_true false y z u v e = contra e refl
+and-true : (x y z u v : Bool) → (x && (y && (z && u))) ≡ true → v ≡ (x && (y && (z && (u && v))))
+and-true true true true true v e = refl
+and-true true true true false v e = contra e refl
+and-true true true false u v e = contra e refl
+and-true true false z u v e = contra e refl
+and-true false y z u v e = contra e refl
 
 module _ (b : List ℕ) (k size a p last next : ℕ) where
   pub fits_no_page : is_page size p ≡ false → false ≡ page_fits b k size a p last next
@@ -53,7 +53,7 @@ module _ (b : List ℕ) (k size a p last next : ℕ) where
       (ex : x ≡ attribute_at b p) (ey : y ≡ count_at b p) (ez : z ≡ left_at b p) (ec : c ≡ count_good k a y) where
     pub fits_not : (eqb x a && (c && (eqb z last && eqb next p))) ≡ false → false ≡ page_fits b k size a p last next
     unfolding page_fits
-    fits_not t = rw (e, ← ex, ← ey, ← ez, ← ec) (and_false (eqb x a) c (eqb z last) (eqb next p) (entries_fit b k size a last p) t)
+    fits_not t = rw (e, ← ex, ← ey, ← ez, ← ec) (and-false (eqb x a) c (eqb z last) (eqb next p) (entries_fit b k size a last p) t)
 
     -- the count of a page that passes is that of the entries that are read of it
     pub fits_count : (eqb x a && (c && (eqb z last && eqb next p))) ≡ true → y ≡ length (entries_at k size b p)
@@ -64,7 +64,7 @@ module _ (b : List ℕ) (k size a p last next : ℕ) where
 
     pub fits_then : (eqb x a && (c && (eqb z last && eqb next p))) ≡ true → (r : Bool) → r ≡ entries_fit b k size a last p → r ≡ page_fits b k size a p last next
     unfolding page_fits
-    fits_then t r er = er ∙ rw (e, ← ex, ← ey, ← ez, ← ec) (and_true (eqb x a) c (eqb z last) (eqb next p) (entries_fit b k size a last p) t)
+    fits_then t r er = er ∙ rw (e, ← ex, ← ey, ← ez, ← ec) (and-true (eqb x a) c (eqb z last) (eqb next p) (entries_fit b k size a last p) t)
 
 -- one page more
 module _ (b : List ℕ) (p : ℕ) where

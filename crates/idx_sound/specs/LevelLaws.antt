@@ -14,7 +14,7 @@ use Rattle.basis.specs.Tests.{either, both, join}
 use Rattle.tree.specs.Lists.{NonEmpty}
 use Rattle.tree.specs.ListLaws.{non_empty-left}
 use Rattle.tree.specs.Clauses.{head_or, Linked}
-use Rattle.tree.specs.Levels.{numbers, below, generation, reached, map_append}
+use Rattle.tree.specs.Levels.{numbers, below, generation, reached, map-append}
 use Rattle.idx_page.specs.Header.{max_bytes, no_page, is_page}
 use Rattle.idx_page.specs.HeaderLaws.{is-page}
 use Rattle.idx_page.specs.Reading.{entries_at}
@@ -123,7 +123,7 @@ module _ (b : List ℕ) (k size : ℕ) (most : size ≤ max_bytes) where
   numbers-below : (es : Entries) → joined (map (children_of b k size) (numbers es)) ≡ numbers (below S es)
   numbers-below [] = refl
   numbers-below (e ∷ es) =
-      ap (λ (l : List ℕ). numbers (S e.1) ++ l) (numbers-below es) ∙ sym (map_append (λ x. x.1) (S e.1) (below S es))
+      ap (λ (l : List ℕ). numbers (S e.1) ++ l) (numbers-below es) ∙ sym (map-append (λ x. x.1) (S e.1) (below S es))
 
   children_are : (es : Entries) (v : Level) → StandsAt b k size es v → joined (rows_under b k size v.first) ≡ numbers (below S es)
   children_are es v s = ap (λ (ps : List ℕ). joined (map (children_of b k size) ps)) s.pages ∙ numbers-below es

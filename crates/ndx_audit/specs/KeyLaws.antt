@@ -17,9 +17,9 @@ not_not : (a : Bool) → not (not a) ≡ a
 not_not true = refl
 not_not false = refl
 
-and_false : (a : Bool) → a && false ≡ false
-and_false true = refl
-and_false false = refl
+and-false : (a : Bool) → a && false ≡ false
+and-false true = refl
+and-false false = refl
 
 key-some : (b : List ℕ) (z : ℕ) → (z ≡ 0 → ⊥) → key_from b z ≡ some (some (window b z (key_length b)))
 unfolding key_from
@@ -65,7 +65,7 @@ key-same b p i at e = rw e
 module _ (b : List ℕ) (p i z : ℕ) where
   pub pair_zero : (n : ℕ) → n ≡ record_at b p i → n ≡ 0 → (m : ℕ)
       → item by_top (some (key_at b p i), record_at b p i) (good_at b z m) ≡ status_of b (refused_at z) m
-  pair_zero n en e m = rw (← en, eq-eqb n 0 e, and_false (is_after by_top (key_from b z) (some (key_at b p i))))
+  pair_zero n en e m = rw (← en, eq-eqb n 0 e, and-false (is_after by_top (key_from b z) (some (key_at b p i))))
 
   module _ (at : ℕ) (ea : at ≡ key_offset b p i) (r : Bool) (er : r ≡ is_after by_top (key_from b z) (some (window b at (key_length b)))) where
     after_is : is_after by_top (key_from b z) (some (key_at b p i)) ≡ r

@@ -125,9 +125,9 @@ some-case : {X R : Type 0} (o : Option X) → IsSome o → ((x : X) → o ≡ so
 some-case none i f = absurd i
 some-case (some x) i f = f x refl
 
-or_true : (a : Bool) → (a || true) ≡ true
-or_true true = refl
-or_true false = refl
+or-true : (a : Bool) → (a || true) ≡ true
+or-true true = refl
+or-true false = refl
 
 -- the pages of a sound index with `height` levels under the root, level by level from an entry j levels under the root down
 module _ (b key : List ℕ) (height : ℕ) where
@@ -168,7 +168,7 @@ module _ (b key : List ℕ) (height : ℕ) where
       let d : max_levels - left ≡ j + 1 = omega arith in
       let passes : (is_leaf b p || not (eqb left 0)) ≡ true = either (eqb j height)
       (λ u. rw (f.leaf, u))
-      (λ u. rw (ne_eqb left 0 (omega (arith, eqb-false j height u))) (or_true (is_leaf b p))) in
+      (λ u. rw (ne_eqb left 0 (omega (arith, eqb-false j height u))) (or-true (is_leaf b p))) in
       rw (d, first_is j) (visit-passes b key height j p (eqb left 0) f passes)
 
   module _ (few : height < max_levels) where

@@ -48,14 +48,14 @@ page-length b p page full = either (is_leaf b p)
     (λ l. let e = ap length (branch-entries b p page full l) ∙ length_from (key_at b p) (lower_at b p) (count_at b p) 0 ((none, lower_at b p (count_at b p)) ∷ []) in
     (omega arith, omega arith, (λ u. omega arith)))
 
-or_false : (a : Bool) → (a || false) ≡ true → a ≡ true
-or_false true e = refl
-or_false false e = e
+or-false : (a : Bool) → (a || false) ≡ true → a ≡ true
+or-false true e = refl
+or-false false e = e
 
 lower-filled : (b : List ℕ) (height j p : ℕ) → Fine b height (suc j) p → Counted (entries_at b) (keys_per_page b + 1) (none, p)
 lower-filled b height j p f =
     let l = page-length b p f.page f.full in
-    let s : leb 1 (count_at b p) ≡ true = or_false (leb 1 (count_at b p)) (rw (ne_eqb (suc j) 0 (omega arith)) at f.some) in
+    let s : leb 1 (count_at b p) ≡ true = or-false (leb 1 (count_at b p)) (rw (ne_eqb (suc j) 0 (omega arith)) at f.some) in
     let c : 1 ≤ count_at b p = leb-true _ _ s in
     (omega arith, l.1)
 
@@ -128,12 +128,12 @@ module _ (b : List ℕ) (s : Sound b) where
   some_good : (j p : ℕ) → is_leaf b p ≡ eqb j h → least h ≤ count_at b p → j ≤ h → (leb 1 (count_at b p) || (eqb j 0 && is_leaf b p)) ≡ true
   some_good j p l c m = go h l c m
     where
-      or_true : (a : Bool) → (a || true) ≡ true
-      or_true true = refl
-      or_true false = refl
+      or-true : (a : Bool) → (a || true) ≡ true
+      or-true true = refl
+      or-true false = refl
 
       go : (g : ℕ) → is_leaf b p ≡ eqb j g → least g ≤ count_at b p → j ≤ g → (leb 1 (count_at b p) || (eqb j 0 && is_leaf b p)) ≡ true
-      go zero l c m = rw (l, eq-eqb j 0 (omega arith)) (or_true (leb 1 (count_at b p)))
+      go zero l c m = rw (l, eq-eqb j 0 (omega arith)) (or-true (leb 1 (count_at b p)))
       go (suc g) l c m = rw (le-leb 1 (count_at b p) c)
 
   -- every page of every level is what it has to be

@@ -1,7 +1,7 @@
 -- Laws: the parts of a numeric text, the count of its digits shows in their number, and when 6 and 16 are given. Assumes nothing.
 use Rattle.std.specs.Prelude.{ℕ, zero, suc, ◌+◌, ◌*◌, ◌-◌, ◌^◌, ◌≤◌, ◌<◌, ◌≡◌, refl, Bool, true, false, ◌&&◌, ◌||◌, List, [], ◌∷◌, ◌++◌, ◌↔◌, ltb}
 use Rattle.std.proofs.Common.{sym, ◌∙◌, zero-add, arith, lit<}
-use Rattle.std.proofs.Math.Bool.{not, and_true, and_false, and_assoc, or_false}
+use Rattle.std.proofs.Math.Bool.{not, and-true, and-false, and_assoc, or-false}
 use Rattle.std.proofs.Math.Nat.{pow-le-pow_right, le_trans}
 use Rattle.std.proofs.Math.Dec.{eqb, leb, eqb-suc-zero}
 use Rattle.std.proofs.Math.ListN.{length, length-append}
@@ -69,7 +69,7 @@ zero-whole = refl
 
 pub zero_needless : (c : ℕ) (w : List ℕ) → whole_good (zero_digit ∷ c ∷ w) ≡ false
 unfolding whole_good
-zero_needless c w = rw (eqb-suc-zero (length w)) (and_false (every is_digit (zero_digit ∷ c ∷ w)))
+zero_needless c w = rw (eqb-suc-zero (length w)) (and-false (every is_digit (zero_digit ∷ c ∷ w)))
 
 -- any digits may follow a first digit that is no zero
 pub digits-whole : (c : ℕ) (w : List ℕ) → is_digit c ≡ true → eqb c zero_digit ≡ false → every is_digit w ≡ true → whole_good (c ∷ w) ≡ true
@@ -84,8 +84,8 @@ fraction-empty (suc d) = sym (eqb-suc-zero d)
 
 pub fraction-point : (d c : ℕ) (s : List ℕ) → fraction_good d (c ∷ s) ≡ eqb c point && leb 1 d && (every is_digit s && eqb (length s) d)
 unfolding fraction_good
-fraction-point zero c s = rw (eqb-suc-zero (length s), and_false (eqb c point))
-fraction-point (suc d) c s = rw (le-leb 1 (suc d) (omega arith), and_true (eqb c point)) (and_assoc (eqb c point) (every is_digit s) (eqb (length s) (suc d)))
+fraction-point zero c s = rw (eqb-suc-zero (length s), and-false (eqb c point))
+fraction-point (suc d) c s = rw (le-leb 1 (suc d) (omega arith), and-true (eqb c point)) (and_assoc (eqb c point) (every is_digit s) (eqb (length s) (suc d)))
 
 fraction-digits : (d : ℕ) (s : List ℕ) → fraction_good d s ≡ true → (every is_digit (without_point s) ≡ true) × (length (without_point s) ≤ d)
 unfolding without_point every
@@ -140,7 +140,7 @@ count_shows count n most least = either (leb count max_digits)
 -- a text that begins with a digit has dropped no zero
 pub digit_first : (d c : ℕ) (s : List ℕ) → is_digit c ≡ true → whole_accepted d (c ∷ s) ≡ whole_good (whole_part (c ∷ s))
 unfolding zero_dropped whole_missing whole_part
-digit_first d c s h = rw (front-more is_digit c s h, eqb-suc-zero (length (front is_digit s))) (or_false (whole_good (c ∷ front is_digit s)))
+digit_first d c s h = rw (front-more is_digit c s h, eqb-suc-zero (length (front is_digit s))) (or-false (whole_good (c ∷ front is_digit s)))
 
 -- a text that begins with no digit: all its digits stand behind its first character, which is a point if the text is good
 module _ (c : ℕ) (s : List ℕ) (h : is_digit c ≡ false) where
@@ -163,7 +163,7 @@ module _ (c : ℕ) (s : List ℕ) (h : is_digit c ≡ false) where
       rw (missing_digits, missing_fraction, missing_whole, none-whole, fraction-point d c s)
       (either (eqb c point && leb 1 d)
       (λ e. rw (e, (both (eqb c point) (leb 1 d) e).1))
-      (λ e. rw e (and_false (leb 1 d && not (every (eqb zero_digit) s)))))
+      (λ e. rw e (and-false (leb 1 d && not (every (eqb zero_digit) s)))))
 
 pub count-number : (d : ℕ) (s : List ℕ) → d ≤ max_decimals → whole_accepted d s && fraction_good d (fraction s) ≡ true
     → leb (length (digits s)) max_digits ≡ ltb (number_of (digits s)) (10 ^ max_digits)

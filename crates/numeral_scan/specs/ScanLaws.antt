@@ -4,7 +4,7 @@ use Prim.Native.Nat.{ℕ, zero, suc, ◌+◌, ◌*◌, ◌-◌, ◌^◌, ◌≤�
 use Rattle.std.specs.Prelude.{◌≡◌, Bool, ◌&&◌, not, eqb, ltb, length, get_or, drop}
 use Rattle.std.proofs.Math.Path.{refl, sym}
 use Rattle.std.proofs.Common.{ap, ◌∙◌, add-one, arith, drop_of_length-le, drop-cons}
-use Rattle.std.proofs.Math.Bool.{true, false, and_false}
+use Rattle.std.proofs.Math.Bool.{true, false, and-false}
 use mathlib.Core.List.{List, [], ◌∷◌}
 use Rattle.std.proofs.Math.Dec.{leb, eqb-suc-zero, eqb-zero-suc, eqb-suc-suc}
 use borrow.Author.Tests.{ltb-true, ltb-false, eqb-true, le-leb, le-ltb, ne_eqb}
@@ -118,7 +118,7 @@ module _ (d : ℕ) where
       let clear = no_comma c s e in
       let here = state (phase.Fraction 0) n v in
       let past : (step here c).phase ≡ phase.Bad = either (is_digit c) (λ f. rw f) (λ f. rw (f, clear.0)) in
-      bad_means here c s _ n _ past clear.1 (rw (eqb-suc-zero (length s)) (and_false (every is_digit (c ∷ s))))
+      bad_means here c s _ n _ past clear.1 (rw (eqb-suc-zero (length s)) (and-false (every is_digit (c ∷ s))))
   fraction_means (c ∷ s) (suc left) n v m a e =
       let clear = no_comma c s e in
       let here = state (phase.Fraction (suc left)) n v in
@@ -145,7 +145,7 @@ module _ (d : ℕ) where
       let here = state (phase.Dropped 0) n 0 in
       let past : (step here c).phase ≡ phase.Bad = either (eqb zero_digit c) (λ f. rw f) (λ f. either (is_digit c) (λ g. rw (f, g)) (λ g. rw (f, g, clear.0))) in
       bad_means here c s _ n _ past clear.1
-      (rw (eqb-suc-zero (length s), and_false (every is_digit (c ∷ s))) (and_false (not (every (eqb zero_digit) (c ∷ s)))))
+      (rw (eqb-suc-zero (length s), and-false (every is_digit (c ∷ s))) (and-false (not (every (eqb zero_digit) (c ∷ s)))))
   dropped_means (c ∷ s) (suc left) n e =
       let here = state (phase.Dropped (suc left)) n 0 in
       either (eqb zero_digit c)
@@ -198,7 +198,7 @@ module _ (d : ℕ) where
 
   nothing_means : (n : Bool) → number.Refused 17 ≡ meant n []
   unfolding front after whole_part fraction without_point digits whole_good zero_dropped every
-  nothing_means n = rw (and_false (whole_missing [] && leb 1 d)) (incomplete n _)
+  nothing_means n = rw (and-false (whole_missing [] && leb 1 d)) (incomplete n _)
 
   unsigned_means : (s : List ℕ) (n : Bool) → some (eqb comma) s ≡ false → meaning (scan (state phase.Minus n 0) s) ≡ meant n s
   unfolding scan step meaning next_value fraction whole_part digits number_of number_from

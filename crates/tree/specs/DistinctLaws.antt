@@ -13,7 +13,7 @@ use Rattle.tree.specs.Pairs.{by_key, Ascending}
 use Rattle.tree.specs.PairLaws.{ascending-right}
 use Rattle.tree.specs.Insertion.Pages.{Distinct}
 use Rattle.tree.specs.Store.{Store}
-use Rattle.tree.specs.Levels.{map_append, all-to_map, numbers, below, generation, reached, generations_reached}
+use Rattle.tree.specs.Levels.{map-append, all-to_map, numbers, below, generation, reached, generations_reached}
 
 module _ {K : Type 0} (S : Store K) where
   -- every page of the levels from the entries es on, h levels in all, has an entry
@@ -69,7 +69,7 @@ module _ {K : Type 0} (S : Store K) where
   child_often z c [] i = omega arith
   child_often z c (e ∷ es) i =
       let later = child_often z c es i in
-      let split = ap (occ c) (map_append (λ x. x.1) (S e.1) (below S es)) in
+      let split = ap (occ c) (map-append (λ x. x.1) (S e.1) (below S es)) in
       let sum = occ_append c (numbers (S e.1)) (numbers (below S es)) in
       either (eqb z e.1)
       (λ q. let here : 0 < occ c (numbers (S e.1)) = subst (λ p. 0 < occ c (numbers (S p))) (eqb-true z e.1 q) i in rw q (omega arith))

@@ -14,9 +14,9 @@ use Rattle.tree.specs.Store.{Store, read_entry, read_tree}
 use Rattle.tree.specs.Store.Laws.{map_read-zero}
 
 -- lists
-pub map_append : {A B : Type 0} (f : A → B) (xs ys : List A) → map f (xs ++ ys) ≡ map f xs ++ map f ys
-map_append f [] ys = refl
-map_append f (x ∷ xs) ys = ap (λ l. f x ∷ l) (map_append f xs ys)
+pub map-append : {A B : Type 0} (f : A → B) (xs ys : List A) → map f (xs ++ ys) ≡ map f xs ++ map f ys
+map-append f [] ys = refl
+map-append f (x ∷ xs) ys = ap (λ l. f x ∷ l) (map-append f xs ys)
 
 pub all-to_map : {A B : Type 0} (P : B → Type 0) (f : A → B) (xs : List A) → All (λ x. P (f x)) xs → All P (map f xs)
 all-to_map P f [] a = tt
@@ -64,7 +64,7 @@ module _ {K : Type 0} (S : Store K) where
   join-page : {B : Type 0} (h : ℕ) (g : Entry K h → List B) (e : K × ℕ) (es : List (K × ℕ)) →
       concat_map g (read_all h (S e.1 ++ below es)) ≡ concat_map g (read_all h (S e.1)) ++ concat_map g (read_all h (below es))
   join-page h g e es =
-      ap (concat_map g) (map_append (read_entry S h) (S e.1) (below es)) ∙ concat_map_append g (read_all h (S e.1)) (read_all h (below es))
+      ap (concat_map g) (map-append (read_entry S h) (S e.1) (below es)) ∙ concat_map_append g (read_all h (S e.1)) (read_all h (below es))
 
   join-below : {B : Type 0} (h : ℕ) (g : Entry K h → List B) (es : List (K × ℕ)) →
       concat_map (λ e. concat_map g (read_all h (S e.1))) es ≡ concat_map g (read_all h (below es))

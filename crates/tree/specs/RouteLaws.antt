@@ -2,7 +2,7 @@
 -- pair, and that the route of a keeping tells it. Cited by the laws of insertion and removal. Assumes nothing.
 use Rattle.std.specs.Prelude.{◌≡◌, refl, true, false, List, [], ◌∷◌, ◌++◌, map, ℕ, zero, suc, ◌+◌, ◌<◌, length, get_or, take, drop}
 use Rattle.std.proofs.Common.{sym, ap, ◌∙◌, subst, arith, length-append}
-use Rattle.std.proofs.lemmas.List.{map_append}
+use Rattle.std.proofs.lemmas.List.{map-append}
 use Rattle.std.proofs.Math.ListN.{get_or-map}
 use Rattle.std.proofs.Math.Seq.{split_at}
 use Rattle.std.proofs.lemmas.Bool.{not-true, not-false}
@@ -62,8 +62,8 @@ module _ {A B : Type 0} (f : A → B) (passes : Passes A) (passes' : Passes B) (
 
 pub replace_at_map : {A B : Type 0} (f : A → B) (i : ℕ) (new xs : List A) → map f (replace_at i new xs) ≡ replace_at i (map f new) (map f xs)
 replace_at_map f i new xs =
-    map_append f (take i xs) (new ++ drop (suc i) xs)
-    ∙ rw (map_append f new (drop (suc i) xs), take_map f i xs, drop_map f (suc i) xs)
+    map-append f (take i xs) (new ++ drop (suc i) xs)
+    ∙ rw (map-append f new (drop (suc i) xs), take_map f i xs, drop_map f (suc i) xs)
 
 -- what a test on entries must tell of a new pair e: if it stops at x, the leaf pairs after x are above e, and the key above x, raised to e's, may stand before
 -- them; if it passes x, the leaf pairs under x are below e, and the key above x may stand before e's

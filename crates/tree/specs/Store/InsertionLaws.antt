@@ -1,7 +1,7 @@
 -- Laws: a store after an insertion, page by page, is read as the tree after the insertion. Cited by the laws of bytes. Assumes nothing.
 use Rattle.std.specs.Prelude.{◌≡◌, refl, List, [], ◌∷◌, ◌++◌, map, ℕ, zero, suc, ◌+◌, ◌≤◌, ◌<◌, length, take, drop, leb}
 use Rattle.std.proofs.Common.{sym, ap, ap₂, ◌∙◌, subst, arith, take-append-drop}
-use Rattle.std.proofs.lemmas.List.{map_append, length-map}
+use Rattle.std.proofs.lemmas.List.{map-append, length-map}
 use Rattle.basis.specs.Tests.{either}
 use Rattle.tree.specs.Lists.{NonEmpty, concat_map, occ, half}
 use Rattle.tree.specs.ListLaws.{concat_map_append, take_map, drop_map, occ_append, occ-head, occ-here, occ_differ, occ_not_head}
@@ -26,7 +26,7 @@ pages_of S h es = concat_map (pages_under h) (map (read_entry S h) es)
 pages_of_append : {K : Type 0} (S : Store K) (h z : ℕ) (xs ys : List (K × ℕ)) →
     occ z (pages_of S h (xs ++ ys)) ≡ occ z (pages_of S h xs) + occ z (pages_of S h ys)
 pages_of_append S h z xs ys =
-    ap (λ l. occ z (concat_map (pages_under h) l)) (map_append (read_entry S h) xs ys)
+    ap (λ l. occ z (concat_map (pages_under h) l)) (map-append (read_entry S h) xs ys)
     ∙ (ap (occ z) (concat_map_append (pages_under h) (map (read_entry S h) xs) (map (read_entry S h) ys))
     ∙ occ_append z (pages_of S h xs) (pages_of S h ys))
 
@@ -100,8 +100,8 @@ module _ {K : Type 0} (route : Route K) (passes : ℕ → Passes (K × ℕ)) (S 
       λ l m. frame-entries S S1 h l (λ z o. others z (omega (arith, m z)) (omega (arith, m z, d z))) in
       rw (
         position_map (read_entry S h) (passes h) (route h) (same h) (x ∷ xs),
-        map_append (read_entry S1 h) front (rs ++ back),
-        map_append (read_entry S1 h) rs back,
+        map-append (read_entry S1 h) front (rs ++ back),
+        map-append (read_entry S1 h) rs back,
       )
       (rw (e, kept front (λ z. omega (arith, parts-occ z)), kept back (λ z. omega (arith, parts-occ z)))
       (rw (take_map (read_entry S h) i (x ∷ xs), drop_map (read_entry S h) (suc i) (x ∷ xs))))

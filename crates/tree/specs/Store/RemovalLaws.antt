@@ -2,7 +2,7 @@
 -- laws of bytes. Assumes nothing.
 use Rattle.std.specs.Prelude.{◌≡◌, refl, List, [], ◌∷◌, ◌++◌, map, ℕ, zero, suc, ◌+◌, ◌<◌, eqb}
 use Rattle.std.proofs.Common.{sym, ap, ap₂, ◌∙◌, arith, eqb-true, ne_eqb}
-use Rattle.std.proofs.lemmas.List.{map_append}
+use Rattle.std.proofs.lemmas.List.{map-append}
 use Rattle.std.proofs.Math.Option.{Option, none, some}
 use Rattle.std.proofs.lemmas.Bool.{eqb-false}
 use Rattle.basis.specs.Tests.{either}
@@ -87,7 +87,7 @@ module _ {K : Type 0} (route : Route K) where
         let c : Removes h S here (g x) (remove_under route h (read_entry S h x)) (emptied_under route h (read_entry S h x)) =
         ok x (λ z. omega (arith, d z, parts z)) in
         record {
-          entries = map_append (read_entry (g x).2 h) (g x).0 xs
+          entries = map-append (read_entry (g x).2 h) (g x).0 xs
               ∙ ap₂ (λ (a b : List (Entry K h)). a ++ b) c.entries
               (frame-entries S (g x).2 h xs (λ z l. c.rest z (omega (arith, d z, parts z))));
           gone = c.gone;
