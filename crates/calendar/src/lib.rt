@@ -1,5 +1,7 @@
 // Gregorian days, and the text of a D field. Document 01: "real days by the Gregorian rule, the month lengths held as two rows,
 // common years and leap years"; "D: YYYYMMDD, year 1 to 9999, or eight blanks".
+#![tactic(auto)]
+
 ghost use Rattle.std.specs.Prelude.{◌≤◌, ◌≡◌};
 ghost use Rattle.calendar.specs.Calendar.{is_leap, days_in_month, is_date};
 ghost use Rattle.calendar.specs.DateText.{max_year, date_of, date_of_numbers};
@@ -46,7 +48,7 @@ pub fn is_date(year: u32, month: u32, day: u32) -> bool
     (1 <= day) & (day <= days_in_month(year, month))
 }
 
-#[derive(Drop)]
+#[derive(Clone, Copy)]
 pub struct Date {
     pub year: u32,
     pub month: u32,
@@ -54,7 +56,7 @@ pub struct Date {
 }
 
 // What the text of a D field says.
-#[derive(Drop)]
+#[derive(Clone, Copy)]
 pub enum DateAnswer {
     Value(Date),
     Empty,

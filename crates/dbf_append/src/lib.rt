@@ -2,6 +2,8 @@
 //
 // The table lies at the front of a buffer that may be longer. An append makes two stores and answers both, so that the host can make them in its
 // file: the record with the end mark first, the four count bytes last.
+#![tactic(auto)]
+
 ghost use Rattle.std.specs.Prelude.{◌+◌, ◌≤◌, ◌<◌, ◌≡◌, length};
 ghost use Rattle.calendar.specs.DateText.{date_of};
 ghost use Rattle.fpt_memo.specs.Memo.{memo_number};
@@ -23,14 +25,14 @@ use fpt_memo::MemoNumber;
 const COUNT_LENGTH: usize = 4;
 
 // A store: `length` of the buffer's bytes, from offset `place` on.
-#[derive(Drop)]
+#[derive(Clone, Copy)]
 pub struct Store {
     pub place: usize,
     pub length: usize,
 }
 
 // 0 and the two stores, in the order in which the file must get them; or the number of a refusal and stores of no bytes.
-#[derive(Drop)]
+#[derive(Clone, Copy)]
 pub struct Appended {
     pub refusal: u32,
     pub first: Store,
@@ -38,7 +40,7 @@ pub struct Appended {
 }
 
 // 0 and the length of a table without its end mark; or the number of a refusal and 0.
-#[derive(Drop)]
+#[derive(Clone, Copy)]
 pub struct Extent {
     pub refusal: u32,
     pub length: usize,

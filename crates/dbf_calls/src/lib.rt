@@ -1,4 +1,6 @@
 // What the calls on a whole table hand to C: the answer's number, and its values in out-parameters; and, by value, those of the calls over lent structs.
+#![tactic(auto)]
+
 ghost use Rattle.std.specs.Prelude.{◌<◌, ◌≡◌};
 ghost use Rattle.dbf_table.specs.Table.{field_count, table_refusal, check_table};
 ghost use Rattle.dbf_field.specs.Field.{entry_of};
@@ -47,7 +49,7 @@ pub fn table_shape(
 }
 
 // What the field list answers, and how many entries it writes: none if it refuses.
-#[derive(Drop)]
+#[derive(Clone, Copy)]
 pub struct Plan {
     pub answer: u32,
     pub count: usize,
@@ -100,7 +102,7 @@ pub fn next_entry(table: &[u8], j: usize, last: FieldEntry) -> FieldEntry
 
 // A step of the walk as it is handed to C: the answer, the position after the step, the record's number, and its mark, 1 if it is deleted and 0 if not. Number
 // and mark stay as they were if the answer is not 0.
-#[derive(Drop)]
+#[derive(Clone, Copy)]
 pub struct LentStep {
     pub answer: u32,
     pub position: Position,
@@ -109,7 +111,7 @@ pub struct LentStep {
 }
 
 // The same without a mark, for the walk that skips deleted records.
-#[derive(Drop)]
+#[derive(Clone, Copy)]
 pub struct LentLiveStep {
     pub answer: u32,
     pub position: Position,

@@ -1,6 +1,8 @@
 // Reading one field of one record. Document 01, "Field text": refusals 1 to 13 and 15, then what concerns the text or the memo.
 //
 // A call that takes a record number and a field number makes all checks. A call that takes a place is for a table that was checked.
+#![tactic(auto)]
+
 ghost use Rattle.std.specs.Prelude.{◌+◌, ◌≤◌, ◌≡◌, length};
 ghost use Rattle.octets.specs.Bytes.{byte_at};
 ghost use Rattle.octets.specs.Store.{window};
@@ -24,7 +26,7 @@ const LETTER_F: u32 = 0x46;
 const BLANK: u32 = 0x20;
 
 // The fields that a call reads, by their type.
-#[derive(Drop)]
+#[derive(Clone, Copy)]
 pub enum Reads {
     Numbers,
     Dates,
@@ -33,7 +35,7 @@ pub enum Reads {
 }
 
 // What the text of an L field says.
-#[derive(Drop)]
+#[derive(Clone, Copy)]
 pub enum Logical {
     Value(bool),
     Empty,
@@ -41,7 +43,7 @@ pub enum Logical {
 }
 
 // Where a text lies: a C field's in the table, an M field's in the memo file; or why there is none.
-#[derive(Drop)]
+#[derive(Clone, Copy)]
 pub enum TextPlace {
     Table { start: usize, len: usize },
     Memo { start: usize, len: usize },

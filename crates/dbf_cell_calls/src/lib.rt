@@ -1,4 +1,6 @@
 // What the calls that read a field, and those on numeric text, hand to C: the answer's number, and its values in out-parameters.
+#![tactic(auto)]
+
 ghost use Rattle.std.specs.Prelude.{◌≡◌};
 ghost use Rattle.refusal.specs.After.{left, coded};
 ghost use Rattle.numeral.specs.Reading.{read_number};

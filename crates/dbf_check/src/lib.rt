@@ -1,4 +1,6 @@
 // The check of a whole table: refusals 1 to 10.
+#![tactic(auto)]
+
 ghost use Rattle.std.specs.Prelude.{◌+◌, ◌*◌, ◌^◌, ◌≤◌, ◌<◌, ◌≡◌, length};
 ghost use Rattle.dbf_table.specs.Table.{min_table, records_end};
 ghost use Rattle.dbf_table.specs.Table.{record_length_good, length_good};

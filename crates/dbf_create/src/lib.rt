@@ -1,4 +1,6 @@
 // An empty table, laid out from a list of fields. The table is made in a room of its own and passes the table's checks there, before the buffer is touched.
+#![tactic(auto)]
+
 ghost use Rattle.std.specs.Prelude.{◌+◌, ◌*◌, ◌<◌, ◌≡◌, length};
 ghost use Rattle.refusal.specs.After.{left};
 ghost use Rattle.octets.specs.Store.{window};

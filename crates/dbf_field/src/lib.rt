@@ -1,4 +1,6 @@
 // One field of a table: its entry, and where it lies in a record. Document 01, "The table": refusals 1 to 10, 11 and 12.
+#![tactic(auto)]
+
 ghost use Rattle.std.specs.Prelude.{◌+◌, ◌≤◌, ◌<◌, ◌≡◌, length};
 ghost use Rattle.dbf_table.specs.Table.{max_fields, descriptor, field_offset};
 ghost use Rattle.dbf_field.specs.Field.{number_good, entry_of, no_entry, field_refusal, field_answer};
@@ -9,7 +11,7 @@ pub const FIRST_OFFSET: u16 = 1;
 
 // A field as the host lists it; `offset` counts from the record's start, where the deletion byte is, so the first field has 1.
 #[repr(C)]
-#[derive(Drop)]
+#[derive(Clone, Copy)]
 pub struct FieldEntry {
     pub name: [u8; 11],
     pub kind: u8,
@@ -19,7 +21,7 @@ pub struct FieldEntry {
 }
 
 // The answer for one field: 0 and its entry, or a refusal's number and an entry of zeros.
-#[derive(Drop)]
+#[derive(Clone, Copy)]
 pub struct FieldAnswer {
     pub refusal: u32,
     pub entry: FieldEntry,
@@ -27,7 +29,7 @@ pub struct FieldAnswer {
 
 // A field of a record: the record's deletion byte, where the field starts in the table, and its entry but for the name and the offset: an enum can't hold an
 // array, and the start has the offset in it.
-#[derive(Drop)]
+#[derive(Clone, Copy)]
 pub struct Place {
     pub mark: u32,
     pub start: usize,
@@ -36,7 +38,7 @@ pub struct Place {
     pub decimals: u8,
 }
 
-#[derive(Drop)]
+#[derive(Clone, Copy)]
 pub enum Placed {
     At(Place),
     Refused(u32),

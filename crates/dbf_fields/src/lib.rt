@@ -1,4 +1,6 @@
 // A table's field descriptors: names, types and lengths.
+#![tactic(auto)]
+
 ghost use Rattle.std.specs.Prelude.{◌+◌, ◌*◌, ◌≤◌, ◌<◌, ◌≡◌, length};
 ghost use Rattle.dbf_table.specs.Table.{max_fields, descriptor, field_offset};
 ghost use Rattle.dbf_table.specs.Table.{is_letter, is_name_byte, may_follow, name_good, form_good};

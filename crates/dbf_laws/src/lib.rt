@@ -1,1 +1,3 @@
 // Specifications only: specs/ has laws about every call on a table.
+#![tactic(auto)]
+

@@ -1,4 +1,6 @@
 // A table's header: its numbers and its limits.
+#![tactic(auto)]
+
 ghost use Rattle.std.specs.Prelude.{◌+◌, ◌*◌, ◌≤◌, ◌<◌, ◌≡◌, length};
 ghost use Rattle.dbf_table.specs.Table.{min_table, record_count, header_length_of, record_length_of, field_count};
 ghost use Rattle.dbf_table.specs.Table.{size_good, kind_good, date_good, header_good, end_mark_good};
@@ -76,7 +78,7 @@ pub const NAME_LENGTH: usize = 11;
 pub const NAME_LAST: usize = 10;
 
 // What the header of a good table says.
-#[derive(Drop)]
+#[derive(Clone, Copy)]
 pub struct Shape {
     pub kind: u32,
     pub records: u32,
@@ -85,7 +87,7 @@ pub struct Shape {
     pub fields: usize,
 }
 
-#[derive(Drop)]
+#[derive(Clone, Copy)]
 pub enum Checked {
     Good(Shape),
     Refused(u32),

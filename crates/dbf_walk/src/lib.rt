@@ -1,5 +1,7 @@
 // The walk over a table's records, one step by value: every record with a mark or, by choice, the undeleted ones alone. Document 01, "The table", and document
 // 02, K8.
+#![tactic(auto)]
+
 ghost use Rattle.std.specs.Prelude.{◌+◌, ◌-◌, ◌<◌, ◌≡◌};
 ghost use Rattle.dbf_table.specs.Table.{record_count, deletion_byte, table_refusal};
 ghost use Rattle.dbf_walk.specs.Walk.{step_at, step_to, step_from, step_by, walk_step, live_step};
@@ -8,13 +10,13 @@ use dbf_table::{DELETED, KEPT};
 
 // The host's place in a walk: the number of records passed, 0 at first.
 #[repr(C)]
-#[derive(Drop)]
+#[derive(Clone, Copy)]
 pub struct Position {
     pub passed: u32,
 }
 
 // What a step answers: a record's number and whether it is deleted, done, or a refusal's number.
-#[derive(Drop)]
+#[derive(Clone, Copy)]
 pub enum Step {
     Record { number: u32, deleted: bool },
     Done,
@@ -22,7 +24,7 @@ pub enum Step {
 }
 
 // An answer, and the position after it.
-#[derive(Drop)]
+#[derive(Clone, Copy)]
 pub struct Walked {
     pub answer: Step,
     pub position: Position,

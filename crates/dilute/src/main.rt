@@ -6,6 +6,8 @@
 //
 // A program has no exit status, so the last line on standard error is its verdict, written once the output is: what was printed, by the proved count, or what
 // was wrong. Without it the program did not come to its end.
+#![tactic(auto)]
+
 use dilute_sheet::input::{Fault, Wrong};
 use dilute_sheet::tally::{Tally, Verdict};
 use libc::STDERR_FILENO;

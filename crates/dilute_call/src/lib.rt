@@ -1,4 +1,6 @@
 // What the dilution of one barcode hands to C.
+#![tactic(auto)]
+
 ghost use Rattle.std.specs.Prelude.{◌≡◌};
 ghost use Rattle.dilution.specs.Dilution.{dilute_rule};
 ghost use Rattle.handed.specs.Out.{out};

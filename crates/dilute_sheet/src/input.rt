@@ -8,7 +8,7 @@ use octets::Digits;
 const MAX_DIGITS: usize = 10;
 
 // A line of digits, and those before it: whether they are good, where the line ends, and its number.
-#[derive(Drop)]
+#[derive(Clone, Copy)]
 pub struct NumberLine {
     pub good: bool,
     pub end: usize,
@@ -16,7 +16,7 @@ pub struct NumberLine {
 }
 
 // What the four numbers ask for.
-#[derive(Drop)]
+#[derive(Clone, Copy)]
 pub struct Request {
     pub barcode_field: u32,
     pub field: u32,
@@ -24,14 +24,14 @@ pub struct Request {
     pub final_volume: u64,
 }
 
-#[derive(Drop)]
+#[derive(Clone, Copy)]
 pub enum Input {
     Asked(Request),
     Other,
 }
 
 // What is wrong with a line of the input; `More` is what stands after the four lines.
-#[derive(Drop)]
+#[derive(Clone, Copy)]
 pub enum Wrong {
     Nothing,
     Missing,
@@ -44,7 +44,7 @@ pub enum Wrong {
 }
 
 // The first line that is wrong, from 1; line 5 is what stands after the four.
-#[derive(Drop)]
+#[derive(Clone, Copy)]
 pub struct Fault {
     pub line: u32,
     pub wrong: Wrong,

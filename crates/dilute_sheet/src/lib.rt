@@ -1,5 +1,7 @@
 // The dilution sheet: what the program `dilute` prints of a table, its index and the four numbers of its standard input. Table and index are checked once, and
 // then each record is diluted by what was checked. A text that does not fit the lent buffer is cut off at the buffer's end.
+#![tactic(auto)]
+
 pub mod input;
 pub mod tally;
 

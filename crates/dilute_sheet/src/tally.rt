@@ -9,14 +9,14 @@ use crate::input::{Input, Request};
 use dilution::Dilution;
 
 // How many lines there are, and how many of them are refusals.
-#[derive(Drop)]
+#[derive(Clone, Copy)]
 pub struct Tally {
     pub lines: u32,
     pub refused: u32,
 }
 
 // A sheet's lines, or the number that refuses the whole sheet and is its only line.
-#[derive(Drop)]
+#[derive(Clone, Copy)]
 pub enum Verdict {
     Lines(Tally),
     Alone(u32),

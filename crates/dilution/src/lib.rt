@@ -3,6 +3,8 @@
 //
 // `dilute` makes all checks for one barcode. A sheet of many records is checked once by `sheet_refusal`, and then each record is diluted by
 // `record_dilution`, which gives the very answer of `dilute` for the record's barcode.
+#![tactic(auto)]
+
 ghost use Rattle.std.specs.Prelude.{◌≡◌, true, ◌≤◌, ◌<◌, length};
 ghost use Rattle.refusal.specs.Checks.{first_refusal};
 ghost use Rattle.idx_page.specs.Header.{key_length, header_good};
@@ -23,7 +25,7 @@ const MAX_TARGET: u64 = 1000000000;
 const MAX_FINAL: u64 = 10000;
 
 // The two volumes, or the number of the refusal.
-#[derive(Drop)]
+#[derive(Clone, Copy)]
 pub enum Dilution {
     Volumes { sample: u32, diluent: u32 },
     Refused(u32),

@@ -1,4 +1,6 @@
 // Whole files, and standard input. A file is read to the start of a buffer, or refused with a message on standard error that says why.
+#![tactic(auto)]
+
 ghost use Rattle.std.specs.Prelude.{◌≡◌, length};
 ghost use Rattle.io.specs.Counts.{IsPrefixLen};
 
@@ -12,7 +14,7 @@ pub fn space() -> [u8; 1048576]
 }
 
 // Whether the whole file stands at the start of a buffer, and how many of its bytes stand there.
-#[derive(Drop)]
+#[derive(Clone, Copy)]
 pub struct Loaded {
     pub whole: bool,
     pub len: usize,

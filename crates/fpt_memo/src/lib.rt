@@ -1,4 +1,6 @@
 // The FPT memo file: where the memo that an M field names has its text in the file. Document 01, "Field text", paragraph M.
+#![tactic(auto)]
+
 ghost use Rattle.std.specs.Prelude.{◌≡◌, ◌+◌, ◌^◌, ◌≤◌, ◌<◌, length};
 ghost use Rattle.fpt_memo.specs.Memo.{memo_header_bytes, NumberAnswer, block_size, memo_header_good, head_fits, end_fits};
 ghost use Rattle.fpt_memo.specs.Memo.{block_text, numbered_text, MemoAnswer};
@@ -12,7 +14,7 @@ const HEADER_BYTES: usize = 512;
 const MAX_MEMO_BYTES: usize = 16777216;
 
 // What the ten characters of an M field say.
-#[derive(Drop)]
+#[derive(Clone, Copy)]
 pub enum MemoNumber {
     Blank,
     Bad,
@@ -20,7 +22,7 @@ pub enum MemoNumber {
 }
 
 // Where a memo's text stands in the memo file, or why there is none.
-#[derive(Drop)]
+#[derive(Clone, Copy)]
 pub enum MemoPlace {
     Text { start: usize, len: usize },
     Empty,

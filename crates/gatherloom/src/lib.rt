@@ -3,6 +3,8 @@
 //
 // How to read a contract: r is the number returned; `now x.entry` is what x held before the call, and `now x.exit` what it holds after it. So
 // `number_out (rule) (now value.entry) ≡ out r (now value.exit)` says: the rule's answer and the old value alone fix r and the new value.
+#![tactic(auto)]
+
 ghost use Rattle.std.specs.Prelude.{◌≡◌};
 ghost use Rattle.numeral.specs.Reading.{read_number};
 ghost use Rattle.numeral.specs.Writing.{write_number};

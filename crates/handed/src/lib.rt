@@ -1,1 +1,3 @@
 // What a call hands to C, as a record: see specs/Out.antt.
+#![tactic(auto)]
+

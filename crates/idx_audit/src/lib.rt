@@ -1,5 +1,7 @@
 // The audit of an index, in two passes, each level by level: `idx_shape` checks the pages, from the root down, and the free list, `idx_ceilings` the keys above
 // pages, from the leaves up.
+#![tactic(auto)]
+
 ghost use Rattle.std.specs.Prelude.{◌≡◌, true, ◌-◌};
 ghost use Rattle.idx_page.specs.Header.{header_good};
 ghost use Rattle.idx_sound.specs.Sound.{Audited};

@@ -1,4 +1,6 @@
 // A list of calls run by code: fresh, and then insertions, lookups and removals, each lent the buffer as the last call left it.
+#![tactic(auto)]
+
 ghost use Rattle.std.specs.Prelude.{◌≡◌, true, ◌&&◌, ◌+◌, ◌≤◌, length, leb};
 ghost use Rattle.octets.specs.Store.{put};
 ghost use Rattle.idx_book.specs.Book.{change_answer, lookup_answer, buffer_after};
@@ -17,7 +19,7 @@ const ABSENT: u32 = 257;
 
 // What a call answers, as it is written: its code, 0, the refusal's number or `ABSENT`; the number of the record that was found; and how many pages a lookup
 // visited.
-#[derive(Drop)]
+#[derive(Clone, Copy)]
 pub struct Reply {
     pub code: u32,
     pub number: u32,
@@ -25,7 +27,7 @@ pub struct Reply {
 }
 
 // What a batch answers: fresh's code, 0 or its refusal's number, and how many calls were made after it.
-#[derive(Drop)]
+#[derive(Clone, Copy)]
 pub struct Batch {
     pub fresh: u32,
     pub made: usize,

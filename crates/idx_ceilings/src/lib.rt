@@ -1,6 +1,8 @@
 // The audit's second pass, from the leaves up, level by level: it checks the keys above pages, once the links are known to be good and leaf keys to ascend.
 // Each is checked against the last leaf key under its child, which is the child's own last key if the level below is exact, and, if it differs, against the
 // first under the next child: at most 14 steps down. So each key is checked once, and the work is linear in the file's size on any bytes.
+#![tactic(auto)]
+
 ghost use Rattle.std.specs.Prelude.{◌≡◌, true, cond, ◌+◌, ◌-◌, ◌≤◌, ◌<◌, length};
 ghost use Rattle.octets.specs.Store.{window};
 ghost use Rattle.idx_page.specs.Header.{max_levels, header_good};
@@ -17,7 +19,7 @@ use idx_page::{Page, PageOffset};
 
 // What is known of keys above pages: whether all are ceilings; and, if they are, whether each page met is exact: its own last key is the last leaf key under
 // it.
-#[derive(Drop)]
+#[derive(Clone, Copy)]
 struct Keys {
     good: bool,
     exact: bool,

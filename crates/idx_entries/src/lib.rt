@@ -1,4 +1,6 @@
 // A page's entries after a change, gathered to be written: with a pair more, with two for one, without one; and a key that is raised.
+#![tactic(auto)]
+
 ghost use Rattle.std.specs.Prelude.{◌≡◌, true, ◌+◌, ◌-◌, ◌*◌, ◌≤◌, ◌<◌, length};
 ghost use Rattle.octets.specs.Store.{put, window};
 ghost use Rattle.tree.specs.Order.{larger};

@@ -1,4 +1,6 @@
 // A page that leaves the tree: unlinked from its neighbours and put at the head of the free list; and a page without entries.
+#![tactic(auto)]
+
 ghost use Rattle.std.specs.Prelude.{◌≡◌, [], ◌+◌, ◌≤◌, length};
 ghost use Rattle.idx_page.specs.Header.{page_size};
 ghost use Rattle.idx_layout.specs.Layout.{new_page, link_before, unlinked, freed};

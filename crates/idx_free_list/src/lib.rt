@@ -1,4 +1,6 @@
 // The free list: so many pages, each zero but for its right link, which names the next. The end of the audit's first pass.
+#![tactic(auto)]
+
 ghost use Rattle.std.specs.Prelude.{◌≡◌, ◌+◌, ◌-◌, ◌≤◌, ◌<◌, length};
 ghost use Rattle.octets.specs.Store.{window};
 ghost use Rattle.octets.specs.Order.{ordering, is_equal};

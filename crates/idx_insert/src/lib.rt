@@ -1,4 +1,6 @@
 // A fresh index, and insertion.
+#![tactic(auto)]
+
 ghost use Rattle.std.specs.Prelude.{◌≡◌, ◌&&◌, ◌≤◌, length};
 ghost use Rattle.refusal.specs.After.{left};
 ghost use Rattle.idx_page.specs.Header.{min_bytes, max_key, max_features, features};

@@ -1,1 +1,3 @@
 // Laws of insertion on bytes, in specs/: no code.
+#![tactic(auto)]
+

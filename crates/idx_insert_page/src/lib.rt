@@ -1,4 +1,6 @@
 // What an insertion does to one page: a leaf takes in a pair, a page above takes in what was done under it; each holds its entries or is split.
+#![tactic(auto)]
+
 ghost use Rattle.std.specs.Prelude.{◌≡◌, true, ◌≤◌, length};
 ghost use Rattle.tree.specs.Pairs.{insert_pair};
 ghost use Rattle.idx_page.specs.Header.{max_key, is_page, features};
@@ -14,7 +16,7 @@ use idx_page::{Page, PageOffset, RecordNumber};
 use idx_supply::Supply;
 
 // What an insertion under a page leaves for the page above to do: nothing; or to take in a new page, both with the supply that is left; or it met no page.
-#[derive(Drop)]
+#[derive(Clone, Copy)]
 pub enum Outcome {
     Kept(Supply),
     Split(PageOffset, Supply),

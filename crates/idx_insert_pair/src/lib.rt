@@ -1,4 +1,6 @@
 // Insertion of a pair into an index that has room for it: down to the leaf and page by page up again, then the root and the header.
+#![tactic(auto)]
+
 ghost use Rattle.std.specs.Prelude.{◌≡◌, true, ◌≤◌, length};
 ghost use Rattle.idx_page.specs.Header.{max_key, page_size, key_length, header_good};
 ghost use Rattle.idx_leaf.specs.Leaf.{stored};

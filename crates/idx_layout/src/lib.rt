@@ -1,4 +1,6 @@
 // Writes the header and pages: their numbers, a page's entries, a new page, and a page that is split.
+#![tactic(auto)]
+
 ghost use Rattle.std.specs.Prelude.{◌≡◌, true, ◌+◌, ◌≤◌, length};
 ghost use Rattle.octets.specs.Store.{put};
 ghost use Rattle.idx_page.specs.Header.{max_features, page_size, expression_place, features, is_page};

@@ -1,1 +1,3 @@
 // Laws of pages that are written, in specs/: no code.
+#![tactic(auto)]
+

@@ -1,4 +1,6 @@
 // A pair among the entries of a leaf: its place, the entry that it leads to, and whether the leaf has it.
+#![tactic(auto)]
+
 ghost use Rattle.std.specs.Prelude.{◌≡◌, true, ◌+◌, ◌≤◌, length};
 ghost use Rattle.tree.specs.Pairs.{present};
 ghost use Rattle.idx_page.specs.Header.{max_key, features, is_page};

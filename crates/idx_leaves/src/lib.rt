@@ -1,4 +1,6 @@
 // The entries of a leaf: each has a record number above 0, and comes after the entry before it. A part of the audit's first pass.
+#![tactic(auto)]
+
 ghost use Rattle.std.specs.Prelude.{◌≡◌, true, cond, ◌+◌, ◌-◌, ◌≤◌, ◌<◌, length, eqb};
 ghost use Rattle.idx_page.specs.Header.{max_key, page_size, features};
 ghost use Rattle.idx_page.specs.ReadingLaws.{entries_from};

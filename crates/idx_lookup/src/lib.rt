@@ -1,4 +1,6 @@
 // Lookup: from the root down, level by level, by the first entry at or above the key.
+#![tactic(auto)]
+
 ghost use Rattle.std.specs.Prelude.{◌≡◌, Bool, true, false, ℕ, ◌+◌, ◌≤◌, length};
 ghost use Rattle.idx_page.specs.Header.{max_levels, key_length, header_good};
 ghost use Rattle.idx_page.specs.Page.{count_at};
@@ -10,7 +12,7 @@ ghost use Rattle.idx_lookup.specs.Lookup.{page_says, visit_rule, lookup_from, lo
 use idx_page::{Page, PageOffset, RecordNumber};
 
 // What a page says of a key: it fails its checks, the key is absent or found, or the lookup goes on to a child.
-#[derive(Drop)]
+#[derive(Clone, Copy)]
 pub enum Visit {
     Refused,
     Absent,
@@ -20,7 +22,7 @@ pub enum Visit {
 
 // The way from a page of an index in which a key may have several records: it fails its checks, the key is absent, an entry of the leaf or the right neighbour
 // decides, or the lookup goes on to a child.
-#[derive(Drop)]
+#[derive(Clone, Copy)]
 pub enum Way {
     Refused,
     Absent,
@@ -30,7 +32,7 @@ pub enum Way {
 }
 
 // What a lookup answers: the record found and the number of pages visited, absent after a number of pages, or the refusal's number.
-#[derive(Drop)]
+#[derive(Clone, Copy)]
 pub enum Answer {
     Found(RecordNumber, u32),
     Absent(u32),

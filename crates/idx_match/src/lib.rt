@@ -3,6 +3,8 @@
 //
 // The leaf pairs of a sound index ascend, so no two are equal. One pass along the leaves is therefore enough: if the key of each entry is the field of its
 // record, no record has two entries; if there are as many entries as records, each record has one.
+#![tactic(auto)]
+
 ghost use Rattle.std.specs.Prelude.{◌≡◌, true, ◌+◌, ◌-◌};
 ghost use Rattle.dbf_table.specs.TableLaws.{Shaped};
 ghost use Rattle.idx_page.specs.Header.{max_levels, root_offset, key_length, header_good};
@@ -17,7 +19,7 @@ use dbf_table::{Checked, Shape};
 use idx_page::{Page, PageOffset};
 
 // One field of every record of a table: how many records there are, and the offset and the length that its entry has, as numbers of places.
-#[derive(Drop)]
+#[derive(Clone, Copy)]
 struct Column {
     records: u32,
     offset: usize,

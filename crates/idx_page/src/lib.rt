@@ -1,4 +1,6 @@
 // An index file's header and pages: their numbers, the checks on them, and the search in a page.
+#![tactic(auto)]
+
 ghost use Rattle.std.specs.Prelude.{◌≡◌, Bool, ℕ, ◌+◌, ◌≤◌, length, eqb};
 ghost use Rattle.octets.specs.Bytes.{be32, to_be32};
 ghost use Rattle.octets.specs.Store.{put};
@@ -49,15 +51,15 @@ pub const MAX_KEY: usize = 100;
 pub const NO_PAGE: u32 = 0xFFFFFFFF;
 
 // The offset of a page in an index.
-#[derive(Drop)]
+#[derive(Clone, Copy)]
 pub struct PageOffset(pub u32);
 
 // The number of a record in a table, from 1.
-#[derive(Drop)]
+#[derive(Clone, Copy)]
 pub struct RecordNumber(pub u32);
 
 // The numbers at the head of a page.
-#[derive(Drop)]
+#[derive(Clone, Copy)]
 pub struct Page {
     pub attribute: u32,
     pub count: u32,

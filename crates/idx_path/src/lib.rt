@@ -1,4 +1,6 @@
 // The path of a key from the root to its leaf: whether the leaf has the key (29, 33), and whether there is room for one more (30).
+#![tactic(auto)]
+
 ghost use Rattle.std.specs.Prelude.{◌≡◌, true, ◌≤◌, length, leb};
 ghost use Rattle.idx_page.specs.Header.{max_levels, max_key, key_length, header_good};
 ghost use Rattle.idx_page.specs.Page.{capacity};
@@ -11,7 +13,7 @@ use idx_route::Visit;
 
 // The path from a page down to the leaf that a key leads to: how many levels it has, how many full pages in an unbroken run from the leaf up, and whether the
 // leaf has the key.
-#[derive(Drop)]
+#[derive(Clone, Copy)]
 pub struct Path {
     pub levels: u32,
     pub run: u32,

@@ -2,6 +2,8 @@
 // 0 for none; 24, 27, 25 by full audit, then 39 if the list is too short. It lists each once and none other."
 //
 // The leaves are gone through twice: first the records are counted, and then, if the list has room for all, they are stored.
+#![tactic(auto)]
+
 ghost use Rattle.std.specs.Prelude.{◌≡◌, true, ◌+◌, ◌*◌, ◌≤◌, ◌<◌, length};
 ghost use Rattle.idx_page.specs.Header.{key_length, header_good};
 ghost use Rattle.idx_page.specs.Page.{entry_area};

@@ -1,4 +1,6 @@
 // Removal of a pair, or of a key.
+#![tactic(auto)]
+
 ghost use Rattle.std.specs.Prelude.{◌≡◌};
 ghost use Rattle.refusal.specs.After.{left};
 ghost use Rattle.idx_remove.specs.Calls.{remove_rule};

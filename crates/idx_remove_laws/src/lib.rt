@@ -1,1 +1,3 @@
 // Laws of removal, in specs/: no code.
+#![tactic(auto)]
+

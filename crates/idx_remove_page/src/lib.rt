@@ -1,4 +1,6 @@
 // What a removal does to one page: a leaf loses the entry, a page above loses the entry of a page that was emptied, which becomes free.
+#![tactic(auto)]
+
 ghost use Rattle.std.specs.Prelude.{◌≡◌, true, ◌≤◌, length};
 ghost use Rattle.idx_page.specs.Header.{max_key, is_page};
 ghost use Rattle.idx_leaf.specs.Leaf.{items_in, stored, place_in};
@@ -9,7 +11,7 @@ ghost use Rattle.idx_remove_page.specs.Answers.{outcome_of, EmptiedPage};
 use idx_page::{PageOffset, RecordNumber};
 
 // What a removal under a page leaves for the page above to do: nothing; or to free the page, which has no entry left; or it met no page.
-#[derive(Drop)]
+#[derive(Clone, Copy)]
 pub enum Outcome {
     Kept,
     Emptied,

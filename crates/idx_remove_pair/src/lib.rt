@@ -1,4 +1,6 @@
 // Removal of a pair from an index that has it: down to the leaf and page by page up again, then the root.
+#![tactic(auto)]
+
 ghost use Rattle.std.specs.Prelude.{◌≡◌, true, ◌≤◌, length};
 ghost use Rattle.idx_page.specs.Header.{max_key, key_length, header_good};
 ghost use Rattle.idx_leaf.specs.Leaf.{stored};

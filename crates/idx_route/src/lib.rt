@@ -1,4 +1,6 @@
 // The way of a key through the pages above the leaves: what it meets at a page, the entry that it goes under, and that entry's child.
+#![tactic(auto)]
+
 ghost use Rattle.std.specs.Prelude.{◌≡◌, true, ◌+◌, ◌≤◌, ◌<◌, length};
 ghost use Rattle.octets.specs.Order.{bytes_le};
 ghost use Rattle.tree.specs.Position.{position};
@@ -14,7 +16,7 @@ ghost use Rattle.idx_route.specs.Visits.{visit_of};
 use idx_page::{Page, PageOffset, RecordNumber};
 
 // What the way of a key meets at an offset: no page, a leaf, or a page above it: the number of the entry that the key goes under, and its child.
-#[derive(Drop)]
+#[derive(Clone, Copy)]
 pub enum Visit {
     Bad,
     Leaf,

@@ -2,6 +2,8 @@
 // level above, whose pages name one another by the right links that were checked there; the pages that are left after the leaves are the free list. The
 // children of each page are counted before they are looked at: more pages than the file has are refused. No page can be met twice, so that every page was met
 // if as many were as the file has. So nothing is copied or kept, each page is checked once, and the work is linear in the file's size on any bytes.
+#![tactic(auto)]
+
 ghost use Rattle.std.specs.Prelude.{◌≡◌, true, ◌+◌, ◌-◌, ◌≤◌, ◌<◌, length};
 ghost use Rattle.idx_page.specs.Header.{min_bytes, max_levels, page_size, header_good};
 ghost use Rattle.idx_page.specs.Reading.{entries_at};
@@ -17,7 +19,7 @@ use idx_page::{Page, PageOffset};
 
 // What is known of the pages met on a level: whether all were good, the last page met, the page that its right link names, and how many pages of the file are
 // left that were not met.
-#[derive(Drop)]
+#[derive(Clone, Copy)]
 struct Progress {
     good: bool,
     last: PageOffset,
@@ -26,7 +28,7 @@ struct Progress {
 }
 
 // What is known of a level: whether it is good, whether its pages are leaves, its first page, and how many pages of the file are left after it.
-#[derive(Drop)]
+#[derive(Clone, Copy)]
 struct Level {
     good: bool,
     leaf: bool,

@@ -1,4 +1,6 @@
 // The supply of new pages: the free list from its head on, then pages at the file's end.
+#![tactic(auto)]
+
 ghost use Rattle.std.specs.Prelude.{◌≡◌, ◌≤◌, length};
 ghost use Rattle.idx_page.specs.Header.{page_size};
 ghost use Rattle.idx_supply.specs.Supply.{supply_of, take_page, supply_after, with_supply};
@@ -7,14 +9,14 @@ ghost use Rattle.idx_supply.specs.Given.{Lasts};
 use idx_page::{Page, PageOffset};
 
 // The supply of new pages: the head of the free list, and the file's end, at which the next page begins if none is free.
-#[derive(Drop)]
+#[derive(Clone, Copy)]
 pub struct Supply {
     pub free: PageOffset,
     pub end: PageOffset,
 }
 
 // A new page, and the supply after it was taken.
-#[derive(Drop)]
+#[derive(Clone, Copy)]
 pub struct Taken {
     pub page: PageOffset,
     pub rest: Supply,

@@ -1,5 +1,7 @@
 // What the arguments of `inspect` say: FIELD, a field's number or its name, and whether INDEX names an NDX index; and the match of an index against the field
 // that has a name.
+#![tactic(auto)]
+
 pub mod names;
 
 ghost use Rattle.std.specs.Prelude.{◌+◌, ◌≤◌, min, ◌≡◌, length};
@@ -11,7 +13,7 @@ use octets::Digits;
 const MAX_NUMBER: u64 = 4294967295;
 
 // What is said of a field: nothing, its number, that the word is its name, or a word that is neither.
-#[derive(Drop)]
+#[derive(Clone, Copy)]
 pub enum Field {
     Unnamed,
     Number(u32),

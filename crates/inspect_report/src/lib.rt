@@ -6,6 +6,8 @@
 // An INDEX whose name ends in `.ndx`, in any letters, is audited as an NDX index. For other arguments, for a FIELD beside such an INDEX, which has no match,
 // and for a file that can't be read or has more than 1,048,576 bytes, it prints the one line `40`, and says on standard error what was wrong. It reads all
 // files before it prints the first line, so that `40` stands alone. Without an index it does not use a FIELD.
+#![tactic(auto)]
+
 mod report;
 
 ghost use Rattle.std.specs.Prelude.{◌≤◌};

@@ -17,7 +17,7 @@ use numeral::Number;
 use refusal_words::put_words;
 
 // A line so far: how many bytes it has, and whether a refusal is among them.
-#[derive(Drop)]
+#[derive(Clone, Copy)]
 struct Filled {
     end: usize,
     refused: bool,

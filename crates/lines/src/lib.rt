@@ -1,4 +1,6 @@
 // Printing: a text, and a line that is put together first and then printed by one write. A line remembers whether a write failed.
+#![tactic(auto)]
+
 ghost use Rattle.std.specs.Prelude.{◌≤◌, ◌<◌, length};
 
 use libc::STDOUT_FILENO;

@@ -2,6 +2,8 @@
 // it after it, and the extra child last. So leaf keys and keys above are met in their order, and each is compared with the one met before it alone. No page is
 // met twice if keys ascend, so it is enough to count pages: nothing is marked or copied, no more pages are entered than there are, and the work is linear in
 // the file's size on any bytes. The walk calls itself on a page's children, 15 levels at most.
+#![tactic(auto)]
+
 ghost use Rattle.std.specs.Prelude.{◌≡◌, Bool, true, not, ◌&&◌, List, ℕ, ◌+◌, ◌-◌, ◌≤◌};
 ghost use Rattle.std.proofs.Math.Option.{some};
 ghost use Rattle.octets.specs.Store.{window};
@@ -18,7 +20,7 @@ ghost use Rattle.ndx_audit.specs.Steps.{items_from};
 use ndx_page::PageNumber;
 
 // What the walk knows: whether all was good, and where the last key that it met begins, 0 if it met none.
-#[derive(Drop)]
+#[derive(Clone, Copy)]
 struct Met {
     good: bool,
     last: usize,

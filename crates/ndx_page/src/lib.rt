@@ -1,5 +1,7 @@
 // An NDX index, read only: its header and pages, their numbers and the checks on them, and lookup: from the root down, level by level, by the first entry at
 // or above the key, or by the extra child. Every number is low byte first.
+#![tactic(auto)]
+
 ghost use Rattle.std.specs.Prelude.{◌≡◌, Bool, true, ℕ, ◌+◌, ◌*◌, ◌≤◌, ◌<◌, length};
 ghost use Rattle.octets.specs.Order.{ordering, is_equal};
 ghost use Rattle.idx_page.specs.Page.{first_at_or_above};
@@ -41,11 +43,11 @@ pub const RECORD_PLACE: usize = 4;
 pub const KEY_PLACE: usize = 8;
 
 // The number of a page in an NDX index; page 0 is the header.
-#[derive(Drop)]
+#[derive(Clone, Copy)]
 pub struct PageNumber(pub u32);
 
 // What a page says of a key: it fails its checks, the key is absent or found, or the lookup goes on to a child.
-#[derive(Drop)]
+#[derive(Clone, Copy)]
 pub enum Visit {
     Refused,
     Absent,
@@ -238,7 +240,7 @@ fn compare_entry(index: &[u8], page: PageNumber, i: usize, key: &[u8]) -> Orderi
 }
 
 // Where a search in a page ends: at an entry, and whether its key is the one that is looked for.
-#[derive(Drop)]
+#[derive(Clone, Copy)]
 struct Reach {
     entry: usize,
     equal: bool,

@@ -1,4 +1,6 @@
 // The text of an N field: its format, and the answer of reading it.
+#![tactic(auto)]
+
 ghost use Rattle.std.specs.Prelude.{◌≡◌, ◌+◌, ◌<◌};
 ghost use Rattle.numeral.specs.Format.{format_good};
 
@@ -11,7 +13,7 @@ const MAX_DECIMALS: u32 = 15;
 pub const PAST_DIGITS: u64 = 1000000000000000000;
 
 // What a numeric text means: a value in units of 10 to the -decimals, empty, or a refusal's number.
-#[derive(Drop)]
+#[derive(Clone, Copy)]
 pub enum Number {
     Value(i64),
     Empty,

@@ -1,4 +1,6 @@
 // Reads numeric text.
+#![tactic(auto)]
+
 ghost use Rattle.std.specs.Prelude.{◌≡◌, ◌+◌, ◌<◌};
 ghost use Rattle.numeral.specs.Reading.{read_number};
 

@@ -1,4 +1,6 @@
 // The reader of numeric text, one character at a time.
+#![tactic(auto)]
+
 ghost use Rattle.std.specs.Prelude.{◌≡◌, true, ◌+◌, ◌<◌, ◌^◌, drop};
 ghost use Rattle.octets.specs.Text.{is_digit};
 ghost use Rattle.numeral.specs.Format.{max_digits};
@@ -14,7 +16,7 @@ use octets::is_digit;
 // with another digit, behind the point with the number of digits to come; behind a point without a whole part, with zeros alone so far and the number
 // of digits to come; or in a text that is refused, for a comma or otherwise. The digits to come are a u64: the compiler packs a u32 into one word with
 // the phase, which is slower.
-#[derive(Drop)]
+#[derive(Clone, Copy)]
 pub enum Phase {
     Blank,
     Minus,
@@ -27,7 +29,7 @@ pub enum Phase {
 }
 
 // The reader's running state. `value` is the number of the digits so far; once they are more than 18, it is some number of more than 18 digits.
-#[derive(Drop)]
+#[derive(Clone, Copy)]
 pub struct Reader {
     pub decimals: u32,
     pub phase: Phase,

@@ -1,4 +1,6 @@
 // Writes numeric text.
+#![tactic(auto)]
+
 ghost use Rattle.std.specs.Prelude.{◌≡◌, ℕ, ◌+◌, ◌≤◌, ◌<◌, ◌/◌, ◌^◌, nat_abs, length};
 ghost use Rattle.refusal.specs.After.{left};
 ghost use Rattle.octets.specs.Store.{put};

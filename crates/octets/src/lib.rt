@@ -1,5 +1,7 @@
 // Numbers in bytes, stores into a buffer, the order of byte strings, and the blanks and digits of a text. All code that reads or writes the files' bytes rests
 // on this crate.
+#![tactic(auto)]
+
 ghost use Rattle.std.specs.Prelude.{◌≡◌, ◌+◌, ◌-◌, ◌≤◌, ◌<◌, length, replicate, drop};
 ghost use Rattle.octets.specs.Bytes.{byte_at, le16, le32, be16, be32, to_le16, to_le32, to_be32};
 ghost use Rattle.octets.specs.Store.{put};
@@ -9,7 +11,7 @@ ghost use Rattle.octets.specs.Words.{le64, bytes_number, smaller, order_then, Ag
 ghost use Rattle.octets.specs.Text.{unpadded, is_digit, digits_of};
 
 // The order of one byte string to another.
-#[derive(Drop)]
+#[derive(Clone, Copy)]
 pub enum Ordering {
     Below,
     Equal,
@@ -17,7 +19,7 @@ pub enum Ordering {
 }
 
 // What a text says that should be digits: the number that they stand for, or that it has another character.
-#[derive(Drop)]
+#[derive(Clone, Copy)]
 pub enum Digits {
     Number(u64),
     Other,

@@ -1,5 +1,7 @@
 // The numbers that calls answer, each named once: the refusals of documents 01 and 02, and the C interface's answers that are no refusals. Code gives the
 // names; the rules in `specs/` give the numbers, to be held beside the papers.
+#![tactic(auto)]
+
 ghost use Rattle.std.specs.Prelude.{◌≡◌};
 ghost use Rattle.refusal.specs.After.{change_code};
 
@@ -148,7 +150,7 @@ pub const DONE: u32 = 258;
 // ---- A call that writes.
 
 // Its answer: the change is made, or refused by a number, and nothing is changed.
-#[derive(Drop)]
+#[derive(Clone, Copy)]
 pub enum Change {
     Made,
     Refused(u32),

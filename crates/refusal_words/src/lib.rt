@@ -1,4 +1,6 @@
 // The words of the refusals, as the page of `inspect` has them, each beside its code.
+#![tactic(auto)]
+
 use lines::{Line, put};
 
 // 1 to 10: the checks of a table.

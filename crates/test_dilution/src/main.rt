@@ -1,5 +1,7 @@
 // Runs the dilution sheet on the samples of the program `dilute`: each of 21 inputs on a table and its index, one input on an index that is not sound, and on
 // the incident's table. For each run it prints a line with a file's name, and then the sheet. README.md beside src/ says where the files and lines came from.
+#![tactic(auto)]
+
 use lines::print;
 
 // Prints the sheet of the input in a file.

@@ -1,6 +1,8 @@
 // Runs lists of calls on indexes with equal keys, line by line: each call is made on a buffer that was all zero at first, and its answer is printed; after the
 // last line the program says whether the buffer begins with the bytes of an index file. Then it makes fresh indexes of each kind, and audits and searches
 // copies of an index with one byte set. README.md beside src/ says where the files and the answers came from.
+#![tactic(auto)]
+
 mod calls;
 
 use calls::print_part;

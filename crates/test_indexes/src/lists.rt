@@ -83,7 +83,7 @@ fn print_part(n: u32) {
 }
 
 // What the written answers do not have: fresh's answer, how many calls were made, and the audit of the buffer after the last call.
-#[derive(Drop)]
+#[derive(Clone, Copy)]
 struct Outcome {
     fresh: u32,
     made: usize,

@@ -2,6 +2,8 @@
 // file after the list, with its record, unless its key was struck off since. Then the program runs each list as bytes on a buffer of zeros, prints the answers,
 // and compares the buffer with the index file. Other lists run on an index of an earlier release, whose keys have control bytes, and on indexes whose keys
 // above pages are ceilings or break that rule. At last the program audits damaged copies of one index. README.md beside src/ says where the files came from.
+#![tactic(auto)]
+
 mod lists;
 
 // Whether a line is an insertion that was accepted, `i KEY RECORD 0`.
@@ -35,7 +37,7 @@ fn looks_up(index: &[u8], key: &[u8], wanted: u32) -> bool {
 }
 
 // How many insertions of a list were accepted, and how many of their pairs are found.
-#[derive(Drop)]
+#[derive(Clone, Copy)]
 struct Tally {
     accepted: u32,
     found: u32,

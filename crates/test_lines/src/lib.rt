@@ -1,4 +1,6 @@
 // Lines of words, as the test programs read them: a line's words, decimal numbers, and bytes in hexadecimal. And a number is printed.
+#![tactic(auto)]
+
 ghost use Rattle.std.specs.Prelude.{◌≤◌, length};
 
 use libc::STDOUT_FILENO;

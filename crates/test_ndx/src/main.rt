@@ -1,5 +1,7 @@
 // Makes a list of calls on NDX files that another program wrote, whole and with one byte set, and prints each line of the list with its answers. README.md
 // beside src/ says where the files and the answers came from.
+#![tactic(auto)]
+
 use idx_lookup::Answer;
 use test_lines::{after_word, word};
 

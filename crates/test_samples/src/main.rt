@@ -1,6 +1,8 @@
 // Runs `inspect` on tables that other programs made, with their memo files and indexes, and on arguments that it refuses: for each run it prints a line with
 // the arguments, and then what `inspect` prints. Then it prints the texts of a table as `dbf_cell::text` hands them back, and the words of each refusal.
 // README.md beside src/ says where the files and the expected lines came from.
+#![tactic(auto)]
+
 use lines::print;
 
 // Prints the word of argument i, if there are as many arguments.

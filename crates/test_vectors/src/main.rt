@@ -3,6 +3,8 @@
 //   d TEXT                    read a date's text
 //   w WIDTH DECIMALS VALUE    write a value
 // TEXT is the rest of the line behind one space, blanks and all.
+#![tactic(auto)]
+
 ghost use Rattle.std.specs.Prelude.{◌≤◌};
 
 use libc::STDIN_FILENO;

@@ -1,5 +1,7 @@
 // The list of calls that write tables, made by an independent implementation: each line's call is made and its answer printed, and the tables are compared
 // with the files that the list ends with. README.md beside src/ says what the lines are.
+#![tactic(auto)]
+
 ghost use Rattle.std.specs.Prelude.{◌≡◌, ◌≤◌, length};
 ghost use Rattle.dbf_create.specs.Laying.{room_length};
 
@@ -103,7 +105,7 @@ fn write_line(buffer: &mut [u8], line: &[u8]) {
 }
 
 // The fields of a `lay_out` line. The room takes the first 128 of them; `count` counts all.
-#[derive(Drop)]
+#[derive(Clone, Copy)]
 struct Fields {
     room: [u8; 4130],
     count: usize,
