@@ -7,26 +7,26 @@ use Rattle.calendar.specs.DateText.{is_field_date, date_of_numbers}
 use Rattle.calendar.proofs.date_of_numbers.Statement.{statement}
 use Rattle.calendar.proofs.date_of_numbers.Tie as tie
 
-returns : tie.Need-returns
+returns : tie.Need-returns-then-year-lt1
 unfolding is_field_date date_of_numbers
-returns c = simp (lt-leb 1 c.before.args.year (omega arith))
+returns c = simp (lt-leb 1 c.args.year (omega arith))
 
-is-date-requires : tie.Need-is-date-requires
+is-date-requires : tie.Need-is_date-requires
 is-date-requires c κs = search rules
 
-returns-2 : tie.Need-returns-2
+returns-2 : tie.Need-returns-then-not-is_date
 unfolding is_field_date date_of_numbers
 returns-2 c =
     let start = c.before.before.before in
-    let no = failed c.before.is-date.ensures c.if2.true in
+    let no = failed c.is_date.ensures c.if-not-is_date.true-raw in
     simp (le-leb 1 start.args.year (omega arith), le-leb _ _ start.requires, no)
 
-returns-3 : tie.Need-returns-3
+returns-3 : tie.Need-returns
 unfolding is_field_date date_of_numbers
 returns-3 c =
     let start = c.before.before.before in
-    let yes = passed c.before.is-date.ensures c.if2.false in
+    let yes = passed c.is_date.ensures c.if-not-is_date.false-raw in
     simp (le-leb 1 start.args.year (omega arith), le-leb _ _ start.requires, yes)
 
-pub date-of-numbers-spec : {M : Type 1} → statement M
-date-of-numbers-spec = tie.close (tie.spec returns is-date-requires returns-2 returns-3)
+pub date_of_numbers_spec : {M : Type 1} → statement M
+date_of_numbers_spec = tie.close (tie.spec returns is-date-requires returns-2 returns-3)

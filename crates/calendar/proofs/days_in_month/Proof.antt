@@ -10,25 +10,25 @@ use Rattle.calendar.proofs.days_in_month.Statement.{statement}
 use Rattle.calendar.proofs.days_in_month.Tie as tie
 
 -- the flag that `is_leap` answers, as an index, is the year's row
-row : (c : tie.After-is-leap) → bool_byte c.is-leap.result ≡ row_of c.before.args.year
-row c = flag_row _ _ c.is-leap.ensures
+row : (c : tie.After-is_leap-leap) → bool_byte c.is_leap-leap.result ≡ row_of c.args.year
+row c = flag_row _ _ c.is_leap-leap.ensures
 
-is-leap-requires : tie.Need-is-leap-requires
+is-leap-requires : tie.Need-is_leap-leap-requires
 is-leap-requires c κs = search rules
 
-cast-leap : tie.Need-overflow-cast-leap
+cast-leap : tie.Need-overflow_cast-leap
 cast-leap c = search rules
 
-sub_wide : tie.Need-overflow-sub-wide
+sub_wide : tie.Need-overflow_sub-month
 sub_wide c = search rules
 
-index-1-wide : tie.Need-bounds-1-wide
-index-1-wide c = rw (row c) (row_below c.before.args.year)
+index-1-wide : tie.Need-bounds-leap
+index-1-wide c = rw (row c.before) (row_below c.args.year)
 
-mul_wide : tie.Need-overflow-mul-wide
-mul_wide c = let inside : bool_byte c.is-leap.result < 2 = index-1-wide c in omega arith
+mul_wide : tie.Need-offset_bounds-leap
+mul_wide c = let inside : bool_byte c.is_leap-leap.result < 2 = index-1-wide c in omega arith
 
-index-2-wide : tie.Need-bounds-2-wide
+index-2-wide : tie.Need-bounds-month
 index-2-wide c = search rules
 
 wide-requires : tie.Need-wide-requires
@@ -36,17 +36,9 @@ wide-requires c κs = search rules
 
 returns : tie.Need-returns
 unfolding days_in_month month_lengths
-returns c = c.wide.ensures ∙ rw (row c.before.before)
+returns c = c.wide.ensures ∙ rw (row c.before.before.before)
 
-pub days-in-month-spec : {M : Type 1} → statement M
-days-in-month-spec =
+pub days_in_month_spec : {M : Type 1} → statement M
+days_in_month_spec =
     tie.close
-    (tie.spec
-    is-leap-requires
-    cast-leap
-    sub_wide
-    mul_wide
-    index-1-wide
-    index-2-wide
-    wide-requires
-    returns)
+    (tie.spec is-leap-requires cast-leap sub_wide mul_wide index-1-wide index-2-wide wide-requires returns)

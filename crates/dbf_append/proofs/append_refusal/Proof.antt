@@ -7,42 +7,35 @@ use borrow.Author.Rules.{rules}
 use Rattle.dbf_append.proofs.append_refusal.Statement.{statement}
 use Rattle.dbf_append.proofs.append_refusal.Tie as tie
 
-check-held-requires : tie.Need-check-held-requires
+check-held-requires : tie.Need-check_held-requires
 check-held-requires c κs = search rules
 
-enum-known-number : tie.Need-enum-known-number
+enum-known-number : tie.Need-enum_known-number
 enum-known-number c = search rules
 
-enum-known-shape : tie.Need-enum-known-shape
+enum-known-shape : tie.Need-enum_known-shape
 enum-known-shape c = search rules
 
-slice-aggregate-record-refusal : tie.Need-slice-aggregate-record-refusal
+slice-aggregate-record-refusal : tie.Need-slice_bounds-record_refusal-end
 slice-aggregate-record-refusal c =
-    let said = sym c.before.before.before.before.check-held.ensures ∙ c.before.before.shape.given.1 in
+    let said = sym c.check_held.ensures ∙ c.in-Good.is in
     sym (length-take-le _ _ (held-good _ _ _ said).0)
 
-record-refusal-requires : tie.Need-record-refusal-requires
-record-refusal-requires c κs = (held-good _ _ _ (sym c.before.before.before.before.check-held.ensures ∙ c.before.before.shape.given.1)).1
+record-refusal-requires : tie.Need-record_refusal-requires
+record-refusal-requires c κs = (held-good _ _ _ (sym c.check_held.ensures ∙ c.in-Good.is)).1
 
-returns : tie.Need-returns
+returns : tie.Need-returns-in-Refused
 unfolding append_refusal
-returns c = sym (held-refused _ _ _ _ (sym c.before.before.before.check-held.ensures ∙ c.before.number.given.1)).0
+returns c = sym (held-refused _ _ _ _ (sym c.check_held.ensures ∙ c.in-Refused.is)).0
 
-returns-2 : tie.Need-returns-2
+returns-2 : tie.Need-returns-in-Good
 unfolding append_refusal record_refusal
 returns-2 c =
-    let good = c.before.before.before in
-    let said = sym good.before.before.check-held.ensures ∙ good.shape.given.1 in
-    c.record-refusal.ensures ∙ sym (held_then _ _ _ _ said)
+    let good = c.before in
+    let said = sym good.check_held.ensures ∙ good.in-Good.is in
+    c.record_refusal.ensures ∙ sym (held_then _ _ _ _ said)
 
-pub append-refusal-spec : {M : Type 1} → statement M
-append-refusal-spec =
+pub append_refusal_spec : {M : Type 1} → statement M
+append_refusal_spec =
     tie.close
-    (tie.spec
-    check-held-requires
-    enum-known-number
-    enum-known-shape
-    slice-aggregate-record-refusal
-    record-refusal-requires
-    returns
-    returns-2)
+    (tie.spec check-held-requires enum-known-number enum-known-shape slice-aggregate-record-refusal record-refusal-requires returns returns-2)

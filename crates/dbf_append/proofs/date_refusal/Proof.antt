@@ -5,38 +5,31 @@ use borrow.Author.Rules.{rules}
 use Rattle.dbf_append.proofs.date_refusal.Statement.{statement}
 use Rattle.dbf_append.proofs.date_refusal.Tie as tie
 
-read-date-requires : tie.Need-read-date-requires
+read-date-requires : tie.Need-read_date-requires
 read-date-requires c κs = search rules
 
-enum_told : tie.Need-enum-told
+enum_told : tie.Need-enum_told-1
 enum_told c = search rules
 
-enum-told-2 : tie.Need-enum-told-2
+enum-told-2 : tie.Need-enum_told-in-Empty
 enum-told-2 c = search rules
 
-enum-known-number : tie.Need-enum-known-number
+enum-known-number : tie.Need-enum_known-number
 enum-known-number c = search rules
 
-returns : tie.Need-returns
+returns : tie.Need-returns-in-Value
 unfolding date_refusal
-returns c = rw (sym c.before.before.read-date.ensures ∙ c.enum_told.given.1)
+returns c = rw (sym c.read_date.ensures ∙ c.in-Value.is)
 
-returns-2 : tie.Need-returns-2
+returns-2 : tie.Need-returns-in-Empty
 unfolding date_refusal
-returns-2 c = rw (sym c.before.before.read-date.ensures ∙ c.enum-told2.given.1)
+returns-2 c = rw (sym c.read_date.ensures ∙ c.in-Empty.is)
 
-returns-3 : tie.Need-returns-3
+returns-3 : tie.Need-returns-in-Refused
 unfolding date_refusal
-returns-3 c = rw (sym c.before.before.before.read-date.ensures ∙ c.before.number.given.1)
+returns-3 c = rw (sym c.read_date.ensures ∙ c.in-Refused.is)
 
-pub date-refusal-spec : {M : Type 1} → statement M
-date-refusal-spec =
+pub date_refusal_spec : {M : Type 1} → statement M
+date_refusal_spec =
     tie.close
-    (tie.spec
-    read-date-requires
-    enum_told
-    enum-told-2
-    enum-known-number
-    returns
-    returns-2
-    returns-3)
+    (tie.spec read-date-requires enum_told enum-told-2 enum-known-number returns returns-2 returns-3)

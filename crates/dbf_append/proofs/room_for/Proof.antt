@@ -8,5 +8,5 @@ returns : tie.Need-returns
 unfolding room_for
 returns c = search rules
 
-pub room-for-spec : {M : Type 1} → statement M
-room-for-spec = tie.close (tie.spec returns)
+pub room_for_spec : {M : Type 1} → statement M
+room_for_spec = tie.close (tie.spec returns)

@@ -16,161 +16,142 @@ use borrow.Author.Rules.{rules}
 use Rattle.dbf_append.proofs.texts_refusal.Statement.{statement}
 use Rattle.dbf_append.proofs.texts_refusal.Tie as tie
 
-abbrev invariant-loop : tie.invariant-loop
+abbrev invariant-loop : tie.invariant-loop-j
 invariant-loop table fields bytes offset₀ j₀ offset j =
     (j ≤ fields) × (offset ≡ field_offset table j) × (texts_refusal table bytes 0 fields ≡ texts_refusal table bytes j (fields - j))
 
-abbrev decreases-loop : tie.decreases-loop
+abbrev decreases-loop : tie.decreases-loop-j
 decreases-loop table fields bytes offset₀ j₀ offset j = fields - j
 
 -- a turn, from the entry of field j on: the loop before it, and the call's start
 abbrev Turn : Type 0
-Turn = tie.After-entry-from invariant-loop decreases-loop
+Turn = tie.After-entry_from-entry invariant-loop decreases-loop
 
-abbrev at-loop : Turn → tie.At-loop invariant-loop decreases-loop
+abbrev at-loop : Turn → tie.At-loop-j invariant-loop decreases-loop
 at-loop e = e.before.before
 
 abbrev start : Turn → tie.Start invariant-loop decreases-loop
 start e = (at-loop e).before.before.before
 
 -- what the entry says
-kind : (e : Turn) → e.entry-from.result.kind ≡ field_type (start e).args.table.now (at-loop e).loop.j
+kind : (e : Turn) → e.entry_from-entry.result.kind ≡ field_type (start e).args.table.now (at-loop e).loop-j.j
 unfolding entry_of
-kind e = ap (λ (x : FieldEntry). x.kind) e.entry-from.ensures
+kind e = ap (λ (x : FieldEntry). x.kind) e.entry_from-entry.ensures
 
-decimals : (e : Turn) → e.entry-from.result.decimals ≡ field_decimals (start e).args.table.now (at-loop e).loop.j
+decimals : (e : Turn) → e.entry_from-entry.result.decimals ≡ field_decimals (start e).args.table.now (at-loop e).loop-j.j
 unfolding entry_of
-decimals e = ap (λ (x : FieldEntry). x.decimals) e.entry-from.ensures
+decimals e = ap (λ (x : FieldEntry). x.decimals) e.entry_from-entry.ensures
 
-place : (e : Turn) → e.entry-from.result.offset ≡ field_offset (start e).args.table.now (at-loop e).loop.j
+place : (e : Turn) → e.entry_from-entry.result.offset ≡ field_offset (start e).args.table.now (at-loop e).loop-j.j
 unfolding entry_of
-place e = ap (λ (x : FieldEntry). x.offset) e.entry-from.ensures
+place e = ap (λ (x : FieldEntry). x.offset) e.entry_from-entry.ensures
 
-width : (e : Turn) → e.entry-from.result.length ≡ field_length (start e).args.table.now (at-loop e).loop.j
+width : (e : Turn) → e.entry_from-entry.result.length ≡ field_length (start e).args.table.now (at-loop e).loop-j.j
 unfolding entry_of
-width e = ap (λ (x : FieldEntry). x.length) e.entry-from.ensures
+width e = ap (λ (x : FieldEntry). x.length) e.entry_from-entry.ensures
 
 -- the text ends by its length, in the record
 ends : (e : Turn)
-    → let entry = e.entry-from.result in
-    entry.offset + entry.length ≡ entry.offset + field_length (start e).args.table.now (at-loop e).loop.j
+    → let entry = e.entry_from-entry.result in
+    entry.offset + entry.length ≡ entry.offset + field_length (start e).args.table.now (at-loop e).loop-j.j
 ends e = omega (arith, width e)
 
-text-end : (e : Turn) → let entry = e.entry-from.result in entry.offset + entry.length ≤ length (start e).args.bytes.now
+text-end : (e : Turn) → let entry = e.entry_from-entry.result in entry.offset + entry.length ≤ length (start e).args.bytes.now
 text-end e =
     let pre = (start e).pre in
-    omega (arith, place e, width e, pre.2, field_inside _ (layout _ pre.0) (at-loop e).loop.j (omega arith))
+    omega (arith, place e, width e, pre.2, field_inside _ (layout _ pre.0) (at-loop e).loop-j.j (omega arith))
 
 -- where the next field starts
 next : (e : Turn)
-    → let entry = e.entry-from.result in
-    entry.offset + entry.length ≡ field_offset (start e).args.table.now ((at-loop e).loop.j + 1)
-next e = omega (arith, place e, width e, offset-next (start e).args.table.now (at-loop e).loop.j)
+    → let entry = e.entry_from-entry.result in
+    entry.offset + entry.length ≡ field_offset (start e).args.table.now ((at-loop e).loop-j.j + 1)
+next e = omega (arith, place e, width e, offset-next (start e).args.table.now (at-loop e).loop-j.j)
 
 -- an end in a record has two bytes
 end_fits : (end size : ℕ) → end ≤ size → size ≤ max_record → Fits w16 end
 end_fits end size h l = omega arith
 
 -- what is said of the text is the rule's
-abbrev turn : tie.After-text-refusal invariant-loop decreases-loop → Turn
+abbrev turn : tie.After-text_refusal-refused invariant-loop decreases-loop → Turn
 turn c = c.before.before.before.before.before.before
 
-refused : (c : tie.After-text-refusal invariant-loop decreases-loop)
+refused : (c : tie.After-text_refusal-refused invariant-loop decreases-loop)
     → let args = (start (turn c)).args in
-    c.text-refusal.result ≡ field_refused args.table.now args.bytes.now (at-loop (turn c)).loop.j
+    c.text_refusal-refused.result ≡ field_refused args.table.now args.bytes.now (at-loop (turn c)).loop-j.j
 refused c =
     let e = turn c in
-    c.text-refusal.ensures ∙ text_read _ _ (at-loop e).loop.j (kind e) (decimals e) (place e) (ends e)
+    c.text_refusal-refused.ensures ∙ text_read _ _ (at-loop e).loop-j.j (kind e) (decimals e) (place e) (ends e)
 
-loop-holds : tie.Need-loop-init invariant-loop decreases-loop
-loop-holds c = let none : c.before.before.args.fields - 0 ≡ c.before.before.args.fields = omega arith in (omega arith, sym (offset-first _), rw none)
+loop-holds : tie.Need-loop-j-init invariant-loop decreases-loop
+loop-holds c = let none : c.args.fields - 0 ≡ c.args.fields = omega arith in (omega arith, sym (offset-first _), rw none)
 
-entry-from-requires : tie.Need-entry-from-requires invariant-loop decreases-loop
+entry-from-requires : tie.Need-entry_from-entry-requires invariant-loop decreases-loop
 entry-from-requires c κs =
-    let pre = c.before.before.before.before.requires in
-    (descriptor-inside _ (layout _ pre.0) c.before.loop.j (omega arith), c.before.loop.invariant.1)
+    let pre = c.requires in
+    (descriptor-inside _ (layout _ pre.0) c.loop-j.j (omega arith), c.loop-j.invariant.1)
 
-cast-start : tie.Need-overflow-cast-start invariant-loop decreases-loop
+cast-start : tie.Need-overflow_cast-start invariant-loop decreases-loop
 cast-start c = omega (arith, text-end c.before)
 
-cast-end : tie.Need-overflow-cast-end invariant-loop decreases-loop
+cast-end : tie.Need-overflow_cast-end invariant-loop decreases-loop
 cast-end c = omega (arith, text-end c.before.before)
 
-add-end : tie.Need-overflow-add-end invariant-loop decreases-loop
+add-end : tie.Need-overflow_add-end invariant-loop decreases-loop
 add-end c = omega (arith, text-end c.before.before)
 
-cast-text-refusal : tie.Need-overflow-cast-text-refusal invariant-loop decreases-loop
+cast-text-refusal : tie.Need-overflow_cast-entry invariant-loop decreases-loop
 cast-text-refusal c = search rules
 
-cast-text-refusal-2 : tie.Need-overflow-cast-text-refusal-2 invariant-loop decreases-loop
+cast-text-refusal-2 : tie.Need-overflow_cast-entry-in-loop-j invariant-loop decreases-loop
 cast-text-refusal-2 c = search rules
 
-sub-text-refusal : tie.Need-overflow-sub-text-refusal invariant-loop decreases-loop
+sub-text-refusal : tie.Need-slice_bounds-text_refusal-count invariant-loop decreases-loop
 sub-text-refusal c = omega arith
 
-part-text-refusal-start : tie.Need-slice-bounds-text-refusal-start invariant-loop decreases-loop
+part-text-refusal-start : tie.Need-slice_bounds-text_refusal-start invariant-loop decreases-loop
 part-text-refusal-start c = omega arith
 
-part-text-refusal-end : tie.Need-slice-bounds-text-refusal-end invariant-loop decreases-loop
+part-text-refusal-end : tie.Need-slice_bounds-text_refusal-end invariant-loop decreases-loop
 part-text-refusal-end c = omega (arith, text-end c.before.before.before.before)
 
-text-refusal-requires : tie.Need-text-refusal-requires invariant-loop decreases-loop
+text-refusal-requires : tie.Need-text_refusal-refused-requires invariant-loop decreases-loop
 text-refusal-requires c κs =
     let e : Turn = c.before.before.before.before.before in
     let pre = (start e).requires in
-    rw (text-part _ _ (at-loop e).loop.j _ _ (place e) (ends e)) (text_some _ _ (layout _ pre.0) pre.2 (at-loop e).loop.j (omega arith))
+    rw (text-part _ _ (at-loop e).loop-j.j _ _ (place e) (ends e)) (text_some _ _ (layout _ pre.0) pre.2 (at-loop e).loop-j.j (omega arith))
 
-returns : tie.Need-returns invariant-loop decreases-loop
+returns : tie.Need-returns-then-refused-ne0 invariant-loop decreases-loop
 returns c =
-    let loop = (at-loop (turn c.before)).loop in
+    let loop = (at-loop (turn c.before)).loop-j in
     let said = refused c.before in
-    said ∙ sym (loop.inv.2 ∙ texts_stop _ _ loop.j _ (omega arith) (λ z. c.if1.true (said ∙ z)))
+    said ∙ sym (loop.invariant.2 ∙ texts_stop _ _ loop.j _ (omega arith) (λ z. c.if-refused-ne0.true (said ∙ z)))
 
-cast-offset : tie.Need-overflow-cast-offset invariant-loop decreases-loop
+cast-offset : tie.Need-overflow_cast-offset invariant-loop decreases-loop
 cast-offset c =
     let e = turn c.before in
     let pre = (start e).pre in
     end_fits _ _ (text-end e) (omega (arith, pre.2, (layout _ pre.0).small))
 
-add-j : tie.Need-overflow-add-j invariant-loop decreases-loop
+add-j : tie.Need-overflow_add-j invariant-loop decreases-loop
 add-j c = omega arith
 
-loop-less : tie.Need-loop-smaller invariant-loop decreases-loop
+loop-less : tie.Need-loop-j-smaller invariant-loop decreases-loop
 loop-less c = omega arith
 
-loop-again : tie.Need-loop-preserved invariant-loop decreases-loop
+loop-again : tie.Need-loop-j-preserved invariant-loop decreases-loop
 loop-again c =
     let e = turn c.before in
-    let loop = (at-loop e).loop in
+    let loop = (at-loop e).loop-j in
     let said = refused c.before in (
       omega arith,
       next e,
-      loop.inv.2 ∙ texts-next _ _ loop.j _ (omega arith) (sym said ∙ c.if1.false),
+      loop.invariant.2 ∙ texts-next _ _ loop.j _ (omega arith) (sym said ∙ c.if-refused-ne0.false),
     )
 
-returns-2 : tie.Need-returns-2 invariant-loop decreases-loop
-returns-2 c = sym (c.before.loop.invariant.2 ∙ texts-end _ _ _ _ (omega arith))
+returns-2 : tie.Need-returns invariant-loop decreases-loop
+returns-2 c = sym (c.loop-j.invariant.2 ∙ texts-end _ _ _ _ (omega arith))
 
-pub texts-refusal-spec : {M : Type 1} → statement M
-texts-refusal-spec =
+pub texts_refusal_spec : {M : Type 1} → statement M
+texts_refusal_spec =
     tie.close
-    (tie.spec
-    invariant-loop
-    decreases-loop
-    loop-holds
-    entry-from-requires
-    cast-start
-    cast-end
-    add-end
-    cast-text-refusal
-    cast-text-refusal-2
-    sub-text-refusal
-    part-text-refusal-start
-    part-text-refusal-end
-    text-refusal-requires
-    returns
-    cast-offset
-    add-j
-    loop-less
-    loop-again
-    returns-2)
+    (tie.spec invariant-loop decreases-loop loop-holds entry-from-requires cast-start cast-end add-end cast-text-refusal cast-text-refusal-2 sub-text-refusal part-text-refusal-start part-text-refusal-end text-refusal-requires returns cast-offset add-j loop-less loop-again returns-2)

@@ -8,5 +8,5 @@ returns : tie.Need-returns
 unfolding deletion_entry
 returns c = refl
 
-pub deletion-entry-spec : {M : Type 1} → statement M
-deletion-entry-spec = tie.close (tie.spec returns)
+pub deletion_entry_spec : {M : Type 1} → statement M
+deletion_entry_spec = tie.close (tie.spec returns)

@@ -4,14 +4,14 @@ use borrow.Author.Rules.{rules}
 use Rattle.dbf_calls.proofs.lent_live_step.Statement.{statement}
 use Rattle.dbf_calls.proofs.lent_live_step.Tie as tie
 
-live-step-requires : tie.Need-live-step-requires
+live-step-requires : tie.Need-live_step-requires
 live-step-requires c κs = search rules
 
-lent-requires : tie.Need-lent-requires
+lent-requires : tie.Need-lent-step-requires
 lent-requires c κs = search rules
 
 returns : tie.Need-returns
-returns c = live_as _ _ _ _ _ c.before.before.live-step.ensures c.before.lent.ensures
+returns c = live_as _ _ _ _ _ c.live_step.ensures c.lent-step.ensures
 
-pub lent-live-step-spec : {M : Type 1} → statement M
-lent-live-step-spec = tie.close (tie.spec live-step-requires lent-requires returns)
+pub lent_live_step_spec : {M : Type 1} → statement M
+lent_live_step_spec = tie.close (tie.spec live-step-requires lent-requires returns)

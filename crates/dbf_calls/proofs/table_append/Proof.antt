@@ -4,21 +4,21 @@ use borrow.Author.Rules.{rules}
 use Rattle.dbf_calls.proofs.table_append.Statement.{statement}
 use Rattle.dbf_calls.proofs.table_append.Tie as tie
 
-append-requires : tie.Need-append-requires
+append-requires : tie.Need-append-appended-requires
 append-requires c κs = search rules
 
-same_length : tie.Need-same-length
+same_length : tie.Need-shape_of-buffer-then-appended-ne0
 same_length c = search rules
 
-returns : tie.Need-returns
-returns c = append_refused _ _ _ _ c.before.before.before.before.append.ensures c.if1.true
+returns : tie.Need-returns-then-appended-ne0
+returns c = append_refused _ _ _ _ c.append-appended.ensures c.if-appended-ne0.true
 
-same-length-2 : tie.Need-same-length-2
+same-length-2 : tie.Need-shape_of-buffer
 same-length-2 c = search rules
 
-returns-2 : tie.Need-returns-2
-returns-2 c = append_accepted _ _ _ _ c.before.before.before.before.append.ensures c.if1.false
+returns-2 : tie.Need-returns
+returns-2 c = append_accepted _ _ _ _ c.append-appended.ensures c.if-appended-ne0.false
 
-pub table-append-spec : {M : Type 1} → statement M
-table-append-spec =
+pub table_append_spec : {M : Type 1} → statement M
+table_append_spec =
     tie.close (tie.spec append-requires same_length returns same-length-2 returns-2)

@@ -7,43 +7,36 @@ use borrow.Author.Rules.{rules}
 use Rattle.dbf_calls.proofs.table_shape.Statement.{statement}
 use Rattle.dbf_calls.proofs.table_shape.Tie as tie
 
-check-table-requires : tie.Need-check-table-requires
+check-table-requires : tie.Need-check_table-requires
 check-table-requires c κs = search rules
 
-enum-known-shape : tie.Need-enum-known-shape
+enum-known-shape : tie.Need-enum_known-shape
 enum-known-shape c = search rules
 
-cast-fields : tie.Need-overflow-cast-fields
+cast-fields : tie.Need-overflow_cast-fields
 cast-fields c =
-    let at = c.before.before in
-    let small = shape_small _ _ (sym at.before.before.check-table.ensures ∙ at.shape.given.1) in
+    let at = c.before in
+    let small = shape_small _ _ (sym at.check_table.ensures ∙ at.in-Good.is) in
     record { fits = omega arith }
 
-cast-record-length : tie.Need-overflow-cast-record-length
+cast-record-length : tie.Need-overflow_cast-record_length
 cast-record-length c =
-    let at = c.before.before.before in
-    let small = shape_small _ _ (sym at.before.before.check-table.ensures ∙ at.shape.given.1) in
+    let at = c.before.before in
+    let small = shape_small _ _ (sym at.check_table.ensures ∙ at.in-Good.is) in
     record { fits = omega arith }
 
-enum-known-refusal : tie.Need-enum-known-refusal
+enum-known-refusal : tie.Need-enum_known-refusal
 enum-known-refusal c = search rules
 
-returns : tie.Need-returns
+returns : tie.Need-returns-in-Good
 unfolding shape_out
-returns c = let at = c.before.before.before in rw (sym at.before.before.check-table.ensures ∙ at.shape.given.1)
+returns c = let at = c.before.before in rw (sym at.check_table.ensures ∙ at.in-Good.is)
 
-returns-2 : tie.Need-returns-2
+returns-2 : tie.Need-returns-in-Refused
 unfolding shape_out
-returns-2 c = rw (sym c.before.before.before.check-table.ensures ∙ c.before.refusal.given.1)
+returns-2 c = rw (sym c.check_table.ensures ∙ c.in-Refused.is)
 
-pub table-shape-spec : {M : Type 1} → statement M
-table-shape-spec =
+pub table_shape_spec : {M : Type 1} → statement M
+table_shape_spec =
     tie.close
-    (tie.spec
-    check-table-requires
-    enum-known-shape
-    cast-fields
-    cast-record-length
-    enum-known-refusal
-    returns
-    returns-2)
+    (tie.spec check-table-requires enum-known-shape cast-fields cast-record-length enum-known-refusal returns returns-2)

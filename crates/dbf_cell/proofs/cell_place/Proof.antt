@@ -6,60 +6,50 @@ use Rattle.dbf_cell.specs.CellLaws.{place-refused, type-refused, mark-refused, p
 use Rattle.dbf_cell.proofs.cell_place.Statement.{statement}
 use Rattle.dbf_cell.proofs.cell_place.Tie as tie
 
-field-place-requires : tie.Need-field-place-requires
+field-place-requires : tie.Need-field_place-placed-requires
 field-place-requires c κs = search rules
 
-enum-known-placed : tie.Need-enum-known-placed
+enum-known-placed : tie.Need-enum_known-placed
 enum-known-placed c = search rules
 
-enum-known-placed-2 : tie.Need-enum-known-placed-2
+enum-known-placed-2 : tie.Need-enum_known-placed-in-At-1
 enum-known-placed-2 c = search rules
 
-cast-reads-type : tie.Need-overflow-cast-reads-type
+cast-reads-type : tie.Need-overflow_cast-place
 cast-reads-type c = search rules
 
-reads-type-requires : tie.Need-reads-type-requires
+reads-type-requires : tie.Need-reads_type-requires
 reads-type-requires c κs = search rules
 
-returns : tie.Need-returns
+returns : tie.Need-returns-then-not-reads_type
 returns c =
-    let at = c.before.before.before.before in
-    let placed = sym at.before.before.field-place.ensures.case ∙ at.placed2.given.1 in
-    sym (type-refused _ _ _ _ _ placed (failed c.before.reads_type.ensures c.if1.true))
+    let at = c.before.before.before in
+    let placed = sym at.field_place-placed.ensures.case ∙ at.in-At.is in
+    sym (type-refused _ _ _ _ _ placed (failed c.reads_type.ensures c.if-not-reads_type.true-raw))
 
-mark-good-requires : tie.Need-mark-good-requires
+mark-good-requires : tie.Need-mark_good-requires
 mark-good-requires c κs = search rules
 
-returns-2 : tie.Need-returns-2
+returns-2 : tie.Need-returns-then-not-mark_good
 returns-2 c =
     let typed = c.before.before in
-    let at = typed.before.before.before.before in
-    let placed = sym at.before.before.field-place.ensures.case ∙ at.placed2.given.1 in
-    let type = passed typed.before.reads_type.ensures typed.if1.false in
-    sym (mark-refused _ _ _ _ _ placed type (failed c.before.mark-good.ensures c.if2.true))
+    let at = typed.before.before.before in
+    let placed = sym at.field_place-placed.ensures.case ∙ at.in-At.is in
+    let type = passed typed.reads_type.ensures typed.if-not-reads_type.false-raw in
+    sym (mark-refused _ _ _ _ _ placed type (failed c.mark_good.ensures c.if-not-mark_good.true-raw))
 
-returns-3 : tie.Need-returns-3
-returns-3 c = sym (place-refused _ _ _ _ _ (sym c.before.before.before.field-place.ensures.case ∙ c.before.placed.given.1))
+returns-3 : tie.Need-returns-in-Refused
+returns-3 c = sym (place-refused _ _ _ _ _ (sym c.field_place-placed.ensures.case ∙ c.in-Refused.is))
 
-returns-4 : tie.Need-returns-4
+returns-4 : tie.Need-returns-else-not-mark_good
 returns-4 c =
     let typed = c.before.before in
-    let at = typed.before.before.before.before in
-    let placed = sym at.before.before.field-place.ensures.case ∙ at.placed2.given.1 in
-    let type = passed typed.before.reads_type.ensures typed.if1.false in
-    sym (place_read _ _ _ _ _ placed type (passed c.before.mark-good.ensures c.if2.false))
+    let at = typed.before.before.before in
+    let placed = sym at.field_place-placed.ensures.case ∙ at.in-At.is in
+    let type = passed typed.reads_type.ensures typed.if-not-reads_type.false-raw in
+    sym (place_read _ _ _ _ _ placed type (passed c.mark_good.ensures c.if-not-mark_good.false-raw))
 
-pub cell-place-spec : {M : Type 1} → statement M
-cell-place-spec =
+pub cell_place_spec : {M : Type 1} → statement M
+cell_place_spec =
     tie.close
-    (tie.spec
-    field-place-requires
-    enum-known-placed
-    enum-known-placed-2
-    cast-reads-type
-    reads-type-requires
-    returns
-    mark-good-requires
-    returns-2
-    returns-3
-    returns-4)
+    (tie.spec field-place-requires enum-known-placed enum-known-placed-2 cast-reads-type reads-type-requires returns mark-good-requires returns-2 returns-3 returns-4)

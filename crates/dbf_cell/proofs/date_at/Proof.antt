@@ -4,17 +4,17 @@ use mathlib.Core.Path.{◌∙◌}
 use Rattle.dbf_cell.proofs.date_at.Statement.{statement}
 use Rattle.dbf_cell.proofs.date_at.Tie as tie
 
-cast-part : tie.Need-overflow-cast-part
+cast-part : tie.Need-overflow_cast-place
 cast-part c = search rules
 
 part-requires : tie.Need-part-requires
 part-requires c κs = search rules
 
-read-date-requires : tie.Need-read-date-requires
+read-date-requires : tie.Need-read_date-requires
 read-date-requires c κs = search rules
 
 returns : tie.Need-returns
-returns c = c.read-date.ensures ∙ rw c.before.part.ensures
+returns c = c.read_date.ensures ∙ rw c.part.ensures
 
-pub date-at-spec : {M : Type 1} → statement M
-date-at-spec = tie.close (tie.spec cast-part part-requires read-date-requires returns)
+pub date_at_spec : {M : Type 1} → statement M
+date_at_spec = tie.close (tie.spec cast-part part-requires read-date-requires returns)

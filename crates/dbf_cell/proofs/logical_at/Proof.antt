@@ -7,11 +7,11 @@ use Rattle.dbf_cell.proofs.logical_at.Tie as tie
 byte-requires : tie.Need-byte-requires
 byte-requires c κs = search rules
 
-logical-of-requires : tie.Need-logical-of-requires
+logical-of-requires : tie.Need-logical_of-requires
 logical-of-requires c κs = search rules
 
 returns : tie.Need-returns
-returns c = c.logical-of.ensures ∙ rw c.before.byte.ensures.0
+returns c = c.logical_of.ensures ∙ rw c.byte.ensures.0
 
-pub logical-at-spec : {M : Type 1} → statement M
-logical-at-spec = tie.close (tie.spec byte-requires logical-of-requires returns)
+pub logical_at_spec : {M : Type 1} → statement M
+logical_at_spec = tie.close (tie.spec byte-requires logical-of-requires returns)

@@ -6,36 +6,30 @@ use Rattle.dbf_cell.specs.CellLaws.{cell_at, date-refused, date-read}
 use Rattle.dbf_cell.proofs.read_date.Statement.{statement}
 use Rattle.dbf_cell.proofs.read_date.Tie as tie
 
-cell-place-requires : tie.Need-cell-place-requires
+cell-place-requires : tie.Need-cell_place-placed-requires
 cell-place-requires c κs = search rules
 
-enum-known-placed : tie.Need-enum-known-placed
+enum-known-placed : tie.Need-enum_known-placed
 enum-known-placed c = search rules
 
-enum-known-placed-2 : tie.Need-enum-known-placed-2
+enum-known-placed-2 : tie.Need-enum_known-placed-in-At-1
 enum-known-placed-2 c = search rules
 
-date-at-requires : tie.Need-date-at-requires
+date-at-requires : tie.Need-date_at-requires
 date-at-requires c κs =
-    let at = c.before in
-    (cell_at Dates _ _ _ _ (sym at.before.before.cell-place.ensures ∙ at.placed2.given.1)).within
+    let at = c in
+    (cell_at Dates _ _ _ _ (sym at.cell_place-placed.ensures ∙ at.in-At.is)).within
 
-returns : tie.Need-returns
-returns c = let at = c.before in sym (date-refused _ _ _ _ (sym at.before.before.cell-place.ensures ∙ at.placed.given.1))
+returns : tie.Need-returns-in-Refused
+returns c = let at = c in sym (date-refused _ _ _ _ (sym at.cell_place-placed.ensures ∙ at.in-Refused.is))
 
-returns-2 : tie.Need-returns-2
+returns-2 : tie.Need-returns-in-At
 returns-2 c =
-    let at = c.before.before in
-    let placed = sym at.before.before.cell-place.ensures ∙ at.placed2.given.1 in
-    c.date-at.ensures ∙ sym (date-read _ _ _ _ placed)
+    let at = c.before in
+    let placed = sym at.cell_place-placed.ensures ∙ at.in-At.is in
+    c.date_at.ensures ∙ sym (date-read _ _ _ _ placed)
 
-pub read-date-spec : {M : Type 1} → statement M
-read-date-spec =
+pub read_date_spec : {M : Type 1} → statement M
+read_date_spec =
     tie.close
-    (tie.spec
-    cell-place-requires
-    enum-known-placed
-    enum-known-placed-2
-    date-at-requires
-    returns
-    returns-2)
+    (tie.spec cell-place-requires enum-known-placed enum-known-placed-2 date-at-requires returns returns-2)

@@ -5,14 +5,14 @@ use Rattle.dbf_cell.specs.CellLaws.{text_within}
 use Rattle.dbf_cell.proofs.text.Statement.{statement}
 use Rattle.dbf_cell.proofs.text.Tie as tie
 
-text-place-requires : tie.Need-text-place-requires
+text-place-requires : tie.Need-text_place-requires
 text-place-requires c κs = search rules
 
-text-part-requires : tie.Need-text-part-requires
-text-part-requires c κs = rw c.text-place.ensures (text_within _ _ _ _)
+text-part-requires : tie.Need-text_part-requires
+text-part-requires c κs = rw c.text_place.ensures (text_within _ _ _ _)
 
 returns : tie.Need-returns
-returns c = c.text-part.ensures ∙ rw c.before.text-place.ensures
+returns c = c.text_part.ensures ∙ rw c.text_place.ensures
 
-pub text-spec : {M : Type 1} → statement M
-text-spec = tie.close (tie.spec text-place-requires text-part-requires returns)
+pub text_spec : {M : Type 1} → statement M
+text_spec = tie.close (tie.spec text-place-requires text-part-requires returns)

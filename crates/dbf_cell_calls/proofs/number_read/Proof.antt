@@ -8,40 +8,33 @@ use borrow.Author.Rules.{rules, sfits_of}
 use Rattle.dbf_cell_calls.proofs.number_read.Statement.{statement}
 use Rattle.dbf_cell_calls.proofs.number_read.Tie as tie
 
-read-number-requires : tie.Need-read-number-requires
+read-number-requires : tie.Need-read_number-answer-requires
 read-number-requires c κs = search rules
 
-enum-known-answer : tie.Need-enum-known-answer
+enum-known-answer : tie.Need-enum_known-answer
 enum-known-answer c = search rules
 
-enum_told : tie.Need-enum-told
+enum_told : tie.Need-enum_told-1
 enum_told c = search rules
 
-enum-known-answer-2 : tie.Need-enum-known-answer-2
+enum-known-answer-2 : tie.Need-enum_known-answer-in-Refused-1
 enum-known-answer-2 c = search rules
 
-returns : tie.Need-returns
+returns : tie.Need-returns-in-Value
 unfolding number_out number_code
 returns c =
-    let read = c.before.answer.given in
-    rw (sym c.before.before.before.read_number.ensures ∙ read.1, to_z-of_z w64 read.0.0 (sfits_of c.known-told.given.0.1))
+    let read = c.answer-1.given in
+    rw (sym c.read_number-answer.ensures ∙ read.1, to_z-of_z w64 read.0.0 (sfits_of c.in-Value.known_told-1-own.given.0.1))
 
-returns-2 : tie.Need-returns-2
+returns-2 : tie.Need-returns-in-Empty
 unfolding number_out number_code
-returns-2 c = rw (sym c.before.before.read_number.ensures ∙ c.enum_told.given.1)
+returns-2 c = rw (sym c.read_number-answer.ensures ∙ c.in-Empty.is)
 
-returns-3 : tie.Need-returns-3
+returns-3 : tie.Need-returns-in-Refused
 unfolding number_out number_code
-returns-3 c = rw (sym c.before.before.before.read_number.ensures ∙ c.before.answer2.given.1)
+returns-3 c = rw (sym c.read_number-answer.ensures ∙ c.in-Refused.is)
 
-pub number-read-spec : {M : Type 1} → statement M
-number-read-spec =
+pub number_read_spec : {M : Type 1} → statement M
+number_read_spec =
     tie.close
-    (tie.spec
-    read-number-requires
-    enum-known-answer
-    enum_told
-    enum-known-answer-2
-    returns
-    returns-2
-    returns-3)
+    (tie.spec read-number-requires enum-known-answer enum_told enum-known-answer-2 returns returns-2 returns-3)

@@ -6,38 +6,31 @@ use borrow.Author.Rules.{rules}
 use Rattle.dbf_cell_calls.proofs.read_date.Statement.{statement}
 use Rattle.dbf_cell_calls.proofs.read_date.Tie as tie
 
-read-date-requires : tie.Need-read-date-requires
+read-date-requires : tie.Need-read_date-answer-requires
 read-date-requires c κs = search rules
 
-enum-known-answer : tie.Need-enum-known-answer
+enum-known-answer : tie.Need-enum_known-answer
 enum-known-answer c = search rules
 
-enum_told : tie.Need-enum-told
+enum_told : tie.Need-enum_told-1
 enum_told c = search rules
 
-enum-known-answer-2 : tie.Need-enum-known-answer-2
+enum-known-answer-2 : tie.Need-enum_known-answer-in-Refused-1
 enum-known-answer-2 c = search rules
 
-returns : tie.Need-returns
+returns : tie.Need-returns-in-Value
 unfolding date_out date_code
-returns c = rw (sym c.before.before.before.read-date.ensures ∙ c.before.answer.given.1)
+returns c = rw (sym c.read_date-answer.ensures ∙ c.in-Value.is)
 
-returns-2 : tie.Need-returns-2
+returns-2 : tie.Need-returns-in-Empty
 unfolding date_out date_code
-returns-2 c = rw (sym c.before.before.read-date.ensures ∙ c.enum_told.given.1)
+returns-2 c = rw (sym c.read_date-answer.ensures ∙ c.in-Empty.is)
 
-returns-3 : tie.Need-returns-3
+returns-3 : tie.Need-returns-in-Refused
 unfolding date_out date_code
-returns-3 c = rw (sym c.before.before.before.read-date.ensures ∙ c.before.answer2.given.1)
+returns-3 c = rw (sym c.read_date-answer.ensures ∙ c.in-Refused.is)
 
-pub read-date-spec : {M : Type 1} → statement M
-read-date-spec =
+pub read_date_spec : {M : Type 1} → statement M
+read_date_spec =
     tie.close
-    (tie.spec
-    read-date-requires
-    enum-known-answer
-    enum_told
-    enum-known-answer-2
-    returns
-    returns-2
-    returns-3)
+    (tie.spec read-date-requires enum-known-answer enum_told enum-known-answer-2 returns returns-2 returns-3)

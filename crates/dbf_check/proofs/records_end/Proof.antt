@@ -11,26 +11,26 @@ use Rattle.dbf_check.proofs.records_end.Tie as tie
 product : (n r : ℕ) → n ≤ 4294967295 → r ≤ 65535 → n * r ≤ 281470681677825
 product n r p q = mul-le-mul p q
 
-bounded : (c : tie.After-record-length) → c.before.before.before.args.count * c.record-length.result ≤ 281470681677825
-bounded c = product c.before.before.before.args.count c.record-length.result (omega arith) (omega arith)
+bounded : (c : tie.After-record_length) → c.args.count * c.record_length.result ≤ 281470681677825
+bounded c = product c.args.count c.record_length.result (omega arith) (omega arith)
 
-header-length-requires : tie.Need-header-length-requires
+header-length-requires : tie.Need-header_length-requires
 header-length-requires c κs = search rules
 
-record-length-requires : tie.Need-record-length-requires
+record-length-requires : tie.Need-record_length-requires
 record-length-requires c κs = search rules
 
-mul-result : tie.Need-overflow-mul-result
+mul-result : tie.Need-overflow_mul-result
 mul-result c = omega (arith, bounded c)
 
-add-result : tie.Need-overflow-add-result
+add-result : tie.Need-overflow_add-result
 add-result c = omega (arith, bounded c)
 
 returns : tie.Need-returns
 unfolding records_end
-returns c = (rw (c.before.header-length.ensures.0, c.record-length.ensures.0), omega (arith, bounded c))
+returns c = (rw (c.header_length.ensures.0, c.record_length.ensures.0), omega (arith, bounded c))
 
-pub records-end-spec : {M : Type 1} → statement M
-records-end-spec =
+pub records_end_spec : {M : Type 1} → statement M
+records_end_spec =
     tie.close
     (tie.spec header-length-requires record-length-requires mul-result add-result returns)

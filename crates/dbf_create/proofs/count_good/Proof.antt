@@ -8,5 +8,5 @@ returns : tie.Need-returns
 unfolding count_good
 returns c = search rules
 
-pub count-good-spec : {M : Type 1} → statement M
-count-good-spec = tie.close (tie.spec returns)
+pub count_good_spec : {M : Type 1} → statement M
+count_good_spec = tie.close (tie.spec returns)

@@ -8,5 +8,5 @@ returns : tie.Need-returns
 unfolding no_fields
 returns c = refl
 
-pub no-fields-spec : {M : Type 1} → statement M
-no-fields-spec = tie.close (tie.spec returns)
+pub no_fields_spec : {M : Type 1} → statement M
+no_fields_spec = tie.close (tie.spec returns)

@@ -10,40 +10,33 @@ use Rattle.dbf_field.proofs.field_refusal.Statement.{statement}
 use Rattle.dbf_field.proofs.field_refusal.Tie as tie
 
 -- the table was checked
-said : (c : tie.After-number-good)
-    → let told = c.before.before in check_table told.before.before.before.before.args.table.now ≡ Good told.shape.given.0.0
-said c = let told = c.before.before in sym told.before.before.check-table.ensures ∙ told.shape.given.1
+said : (c : tie.After-number_good)
+    → let told = c.before in check_table told.args.table.now ≡ Good told.in-Good.shape
+said c = let told = c.before in sym told.check_table.ensures ∙ told.in-Good.is
 
-check-table-requires : tie.Need-check-table-requires
+check-table-requires : tie.Need-check_table-requires
 check-table-requires c κs = search rules
 
-enum-known-refused : tie.Need-enum-known-refused
+enum-known-refused : tie.Need-enum_known-refused
 enum-known-refused c = search rules
 
-enum-known-shape : tie.Need-enum-known-shape
+enum-known-shape : tie.Need-enum_known-shape
 enum-known-shape c = search rules
 
-number-good-requires : tie.Need-number-good-requires
+number-good-requires : tie.Need-number_good-requires
 number-good-requires c κs = search rules
 
-returns : tie.Need-returns
+returns : tie.Need-returns-in-Refused
 unfolding field_refusal
-returns c = sym (refused_then _ _ _ (sym c.before.before.before.check-table.ensures ∙ c.before.refused.given.1))
+returns c = sym (refused_then _ _ _ (sym c.check_table.ensures ∙ c.in-Refused.is))
 
-returns-2 : tie.Need-returns-2
-returns-2 c = sym (field_checked _ _ _ (said c.before) ∙ rw (sym c.before.number-good.ensures ∙ c.if1.true))
+returns-2 : tie.Need-returns-then-number_good
+returns-2 c = sym (field_checked _ _ _ (said c.before) ∙ rw (sym c.number_good.ensures ∙ c.if-number_good.true))
 
-returns-3 : tie.Need-returns-3
-returns-3 c = sym (field_checked _ _ _ (said c.before) ∙ rw (sym c.before.number-good.ensures ∙ c.if1.false))
+returns-3 : tie.Need-returns-else-number_good
+returns-3 c = sym (field_checked _ _ _ (said c.before) ∙ rw (sym c.number_good.ensures ∙ c.if-number_good.false))
 
-pub field-refusal-spec : {M : Type 1} → statement M
-field-refusal-spec =
+pub field_refusal_spec : {M : Type 1} → statement M
+field_refusal_spec =
     tie.close
-    (tie.spec
-    check-table-requires
-    enum-known-refused
-    enum-known-shape
-    number-good-requires
-    returns
-    returns-2
-    returns-3)
+    (tie.spec check-table-requires enum-known-refused enum-known-shape number-good-requires returns returns-2 returns-3)

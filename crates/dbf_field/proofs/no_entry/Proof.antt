@@ -8,5 +8,5 @@ returns : tie.Need-returns
 unfolding no_entry
 returns c = refl
 
-pub no-entry-spec : {M : Type 1} → statement M
-no-entry-spec = tie.close (tie.spec returns)
+pub no_entry_spec : {M : Type 1} → statement M
+no_entry_spec = tie.close (tie.spec returns)

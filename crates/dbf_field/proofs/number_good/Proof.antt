@@ -8,5 +8,5 @@ returns : tie.Need-returns
 unfolding number_good
 returns c = search rules
 
-pub number-good-spec : {M : Type 1} → statement M
-number-good-spec = tie.close (tie.spec returns)
+pub number_good_spec : {M : Type 1} → statement M
+number_good_spec = tie.close (tie.spec returns)

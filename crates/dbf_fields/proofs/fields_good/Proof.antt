@@ -11,58 +11,48 @@ use Rattle.dbf_table.specs.Table.{field_count, descriptor_good, fields_good}
 use Rattle.dbf_fields.proofs.fields_good.Statement.{statement}
 use Rattle.dbf_fields.proofs.fields_good.Tie as tie
 
-abbrev invariant-loop : tie.invariant-loop
+abbrev invariant-loop : tie.invariant-loop-j
 invariant-loop table fields j₀ j = (j ≤ fields) × (all_below (descriptor_good table) j ≡ true)
 
-abbrev decreases-loop : tie.decreases-loop
+abbrev decreases-loop : tie.decreases-loop-j
 decreases-loop table fields j₀ j = fields - j
 
-field-count-requires : tie.Need-field-count-requires invariant-loop decreases-loop
+field-count-requires : tie.Need-field_count-fields-requires invariant-loop decreases-loop
 field-count-requires c κs = search rules
 
-loop-holds : tie.Need-loop-init invariant-loop decreases-loop
+loop-holds : tie.Need-loop-j-init invariant-loop decreases-loop
 loop-holds c = (omega arith, all_none _)
 
-descriptor-good-requires : tie.Need-descriptor-good-requires invariant-loop decreases-loop
+descriptor-good-requires : tie.Need-descriptor_good-requires invariant-loop decreases-loop
 descriptor-good-requires c κs = search rules
 
-returns : tie.Need-returns invariant-loop decreases-loop
+returns : tie.Need-returns-then-not-descriptor_good invariant-loop decreases-loop
 unfolding fields_good
 returns c =
     let at-loop = c.before.before.before in
-    let table = at-loop.before.before.before.args.table.now in
-    let bad = failed c.before.descriptor-good.ensures c.if1.true in
-    sym (all_stop (descriptor_good table) at-loop.loop.j (field_count table) (omega arith) bad)
+    let table = at-loop.args.table.now in
+    let bad = failed c.descriptor_good.ensures c.if-not-descriptor_good.true-raw in
+    sym (all_stop (descriptor_good table) at-loop.loop-j.j (field_count table) (omega arith) bad)
 
-add-j : tie.Need-overflow-add-j invariant-loop decreases-loop
+add-j : tie.Need-overflow_add-j invariant-loop decreases-loop
 add-j c = search rules
 
-loop-less : tie.Need-loop-smaller invariant-loop decreases-loop
+loop-less : tie.Need-loop-j-smaller invariant-loop decreases-loop
 loop-less c = search rules
 
-loop-again : tie.Need-loop-preserved invariant-loop decreases-loop
+loop-again : tie.Need-loop-j-preserved invariant-loop decreases-loop
 loop-again c =
     let at-loop = c.before.before.before in
-    (omega arith, all_more _ at-loop.loop.j at-loop.loop.invariant.1 (passed c.before.descriptor-good.ensures c.if1.false))
+    (omega arith, all_more _ at-loop.loop-j.j at-loop.loop-j.invariant.1 (passed c.descriptor_good.ensures c.if-not-descriptor_good.false-raw))
 
-returns-2 : tie.Need-returns-2 invariant-loop decreases-loop
+returns-2 : tie.Need-returns invariant-loop decreases-loop
 unfolding fields_good
 returns-2 c =
-    let table = c.before.before.before.before.args.table.now in
-    let end : c.before.loop.j ≡ field_count table = omega arith in
-    sym (rw end at c.before.loop.invariant.1)
+    let table = c.args.table.now in
+    let end : c.loop-j.j ≡ field_count table = omega arith in
+    sym (rw end at c.loop-j.invariant.1)
 
-pub fields-good-spec : {M : Type 1} → statement M
-fields-good-spec =
+pub fields_good_spec : {M : Type 1} → statement M
+fields_good_spec =
     tie.close
-    (tie.spec
-    invariant-loop
-    decreases-loop
-    field-count-requires
-    loop-holds
-    descriptor-good-requires
-    returns
-    add-j
-    loop-less
-    loop-again
-    returns-2)
+    (tie.spec invariant-loop decreases-loop field-count-requires loop-holds descriptor-good-requires returns add-j loop-less loop-again returns-2)

@@ -4,12 +4,12 @@ use borrow.Author.Rules.{rules}
 use Rattle.dbf_fields.proofs.form_good.Statement.{statement}
 use Rattle.dbf_fields.proofs.form_good.Tie as tie
 
-format-good-requires : tie.Need-format-good-requires
+format-good-requires : tie.Need-format_good-numeric-requires
 format-good-requires c κs = search rules
 
 returns : tie.Need-returns
 unfolding form_good
-returns c = rw c.format-good.ensures
+returns c = rw c.format_good-numeric.ensures
 
-pub form-good-spec : {M : Type 1} → statement M
-form-good-spec = tie.close (tie.spec format-good-requires returns)
+pub form_good_spec : {M : Type 1} → statement M
+form_good_spec = tie.close (tie.spec format-good-requires returns)

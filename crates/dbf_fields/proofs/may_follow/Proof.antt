@@ -5,16 +5,16 @@ use borrow.Author.Rules.{rules}
 use Rattle.dbf_fields.proofs.may_follow.Statement.{statement}
 use Rattle.dbf_fields.proofs.may_follow.Tie as tie
 
-returns : tie.Need-returns
+returns : tie.Need-returns-then-byte-eq0
 unfolding may_follow
-returns c = rw c.if1.true
+returns c = rw c.if-byte-eq0.true
 
-is-name-byte-requires : tie.Need-is-name-byte-requires
+is-name-byte-requires : tie.Need-is_name_byte-requires
 is-name-byte-requires c κs = search rules
 
-returns-2 : tie.Need-returns-2
+returns-2 : tie.Need-returns
 unfolding may_follow
-returns-2 c = rw (ne_eqb _ _ c.before.if1.false, c.is-name-byte.ensures)
+returns-2 c = rw (ne_eqb _ _ c.if-byte-eq0.false, c.is_name_byte.ensures)
 
-pub may-follow-spec : {M : Type 1} → statement M
-may-follow-spec = tie.close (tie.spec returns is-name-byte-requires returns-2)
+pub may_follow_spec : {M : Type 1} → statement M
+may_follow_spec = tie.close (tie.spec returns is-name-byte-requires returns-2)

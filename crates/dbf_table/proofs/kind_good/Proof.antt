@@ -4,12 +4,12 @@ use borrow.Author.Rules.{rules}
 use Rattle.dbf_table.proofs.kind_good.Statement.{statement}
 use Rattle.dbf_table.proofs.kind_good.Tie as tie
 
-byte-requires : tie.Need-byte-requires
+byte-requires : tie.Need-byte-kind-requires
 byte-requires c κs = search rules
 
 returns : tie.Need-returns
 unfolding kind_good
-returns c = simp c.byte.ensures.0
+returns c = simp c.byte-kind.ensures.0
 
-pub kind-good-spec : {M : Type 1} → statement M
-kind-good-spec = tie.close (tie.spec byte-requires returns)
+pub kind_good_spec : {M : Type 1} → statement M
+kind_good_spec = tie.close (tie.spec byte-requires returns)

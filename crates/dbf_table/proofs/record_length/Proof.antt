@@ -4,15 +4,15 @@ use borrow.Author.Rules.{rules}
 use Rattle.dbf_table.proofs.record_length.Statement.{statement}
 use Rattle.dbf_table.proofs.record_length.Tie as tie
 
-load-le16-requires : tie.Need-load-le16-requires
+load-le16-requires : tie.Need-load_le16-requires
 load-le16-requires c κs = search rules
 
-cast-result : tie.Need-overflow-cast-result
+cast-result : tie.Need-overflow_cast-result
 cast-result c = search rules
 
 returns : tie.Need-returns
 unfolding record_length_of
-returns c = c.load-le16.ensures
+returns c = c.load_le16.ensures
 
-pub record-length-spec : {M : Type 1} → statement M
-record-length-spec = tie.close (tie.spec load-le16-requires cast-result returns)
+pub record_length_spec : {M : Type 1} → statement M
+record_length_spec = tie.close (tie.spec load-le16-requires cast-result returns)

@@ -8,5 +8,5 @@ returns : tie.Need-returns
 unfolding size_good
 returns c = search rules
 
-pub size-good-spec : {M : Type 1} → statement M
-size-good-spec = tie.close (tie.spec returns)
+pub size_good_spec : {M : Type 1} → statement M
+size_good_spec = tie.close (tie.spec returns)

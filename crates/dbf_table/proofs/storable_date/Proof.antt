@@ -4,12 +4,12 @@ use borrow.Author.Rules.{rules}
 use Rattle.dbf_table.proofs.storable_date.Statement.{statement}
 use Rattle.dbf_table.proofs.storable_date.Tie as tie
 
-is-date-requires : tie.Need-is-date-requires
+is-date-requires : tie.Need-is_date-real-requires
 is-date-requires c κs = search rules
 
 returns : tie.Need-returns
 unfolding storable_date
-returns c = rw c.is-date.ensures
+returns c = rw c.is_date-real.ensures
 
-pub storable-date-spec : {M : Type 1} → statement M
-storable-date-spec = tie.close (tie.spec is-date-requires returns)
+pub storable_date_spec : {M : Type 1} → statement M
+storable_date_spec = tie.close (tie.spec is-date-requires returns)

@@ -8,20 +8,20 @@ use Rattle.dbf_walk.specs.WalkLaws.{mark-after}
 use Rattle.dbf_walk.proofs.mark_after.Statement.{statement}
 use Rattle.dbf_walk.proofs.mark_after.Tie as tie
 
-records-end-requires : tie.Need-records-end-requires
-records-end-requires c κs = (layout _ c.before.requires.0).header.long
+records-end-requires : tie.Need-records_end-requires
+records-end-requires c κs = (layout _ c.requires.0).header.long
 
 byte-requires : tie.Need-byte-requires
 byte-requires c κs =
     let start = c.before.before in
     let table = layout _ start.requires.0 in
-    omega (arith, record_inside _ table start.args.passed start.requires.1, record_positive _ table, c.records-end.ensures.0)
+    omega (arith, record_inside _ table start.args.passed start.requires.1, record_positive _ table, c.records_end.ensures.0)
 
 returns : tie.Need-returns
 returns c =
     let start = c.before.before.before in
     let table = start.args.table.now in
-    c.byte.ensures.0 ∙ ap (byte_at table) c.before.records-end.ensures.0 ∙ sym (mark-after table start.args.passed)
+    c.byte.ensures.0 ∙ ap (byte_at table) c.records_end.ensures.0 ∙ sym (mark-after table start.args.passed)
 
-pub mark-after-spec : {M : Type 1} → statement M
-mark-after-spec = tie.close (tie.spec records-end-requires byte-requires returns)
+pub mark_after_spec : {M : Type 1} → statement M
+mark_after_spec = tie.close (tie.spec records-end-requires byte-requires returns)

@@ -6,23 +6,23 @@ use borrow.Author.Rules.{rules}
 use Rattle.dilute_call.proofs.dilute.Statement.{statement}
 use Rattle.dilute_call.proofs.dilute.Tie as tie
 
-dilute-requires : tie.Need-dilute-requires
+dilute-requires : tie.Need-dilute-answer-requires
 dilute-requires c κs = search rules
 
-enum-known-answer : tie.Need-enum-known-answer
+enum-known-answer : tie.Need-enum_known-answer
 enum-known-answer c = search rules
 
-enum-known-answer-2 : tie.Need-enum-known-answer-2
+enum-known-answer-2 : tie.Need-enum_known-answer-in-Refused-1
 enum-known-answer-2 c = search rules
 
-returns : tie.Need-returns
+returns : tie.Need-returns-in-Volumes
 unfolding volumes_out dilution_code
-returns c = rw (sym c.before.before.before.dilute.ensures ∙ c.before.answer.given.1)
+returns c = rw (sym c.dilute-answer.ensures ∙ c.in-Volumes.is)
 
-returns-2 : tie.Need-returns-2
+returns-2 : tie.Need-returns-in-Refused
 unfolding volumes_out dilution_code
-returns-2 c = rw (sym c.before.before.before.dilute.ensures ∙ c.before.answer2.given.1)
+returns-2 c = rw (sym c.dilute-answer.ensures ∙ c.in-Refused.is)
 
-pub dilute-spec : {M : Type 1} → statement M
-dilute-spec =
+pub dilute_spec : {M : Type 1} → statement M
+dilute_spec =
     tie.close (tie.spec dilute-requires enum-known-answer enum-known-answer-2 returns returns-2)

@@ -8,30 +8,22 @@ use Rattle.dilute_sheet.specs.OutputLaws.{wrote_then}
 use Rattle.dilute_sheet.proofs.put_number.Statement.{statement}
 use Rattle.dilute_sheet.proofs.put_number.Tie as tie
 
-slice-aggregate-put : tie.Need-slice-aggregate-put
-slice-aggregate-put c = search rules
-
-put-requires : tie.Need-put-requires
+put-requires : tie.Need-put-end-requires
 put-requires c κs = search rules
 
-put-decimal-requires : tie.Need-put-decimal-requires
+put-decimal-requires : tie.Need-put_decimal-requires
 put-decimal-requires c κs = search rules
 
-same_length : tie.Need-same-length
+same_length : tie.Need-shape_of-out
 same_length c = search rules
 
 returns : tie.Need-returns
 unfolding number_text
 returns c =
     let ended = c.before.before in
-    wrote_then _ _ (blank ∷ []) _ _ _ ended.before.before.before.before.put.ensures ∙ ended.put-decimal.ensures
+    wrote_then _ _ (blank ∷ []) _ _ _ ended.put-end.ensures ∙ ended.put_decimal.ensures
 
-pub put-number-spec : {M : Type 1} → statement M
-put-number-spec =
+pub put_number_spec : {M : Type 1} → statement M
+put_number_spec =
     tie.close
-    (tie.spec
-    slice-aggregate-put
-    put-requires
-    put-decimal-requires
-    same_length
-    returns)
+    (tie.spec put-requires put-decimal-requires same_length returns)

@@ -6,53 +6,44 @@ use Rattle.dilute_sheet.specs.OutputLaws.{wrote-counts}
 use Rattle.dilute_sheet.proofs.sheet.Statement.{statement}
 use Rattle.dilute_sheet.proofs.sheet.Tie as tie
 
-read-input-requires : tie.Need-read-input-requires
+read-input-requires : tie.Need-read_input-asked-requires
 read-input-requires c κs = search rules
 
-enum-known-asked : tie.Need-enum-known-asked
+enum-known-asked : tie.Need-enum_known-asked
 enum-known-asked c = search rules
 
-put-request-requires : tie.Need-put-request-requires
+put-request-requires : tie.Need-put_request-requires
 put-request-requires c κs = search rules
 
-enum_told : tie.Need-enum-told
+enum_told : tie.Need-enum_told-1
 enum_told c = search rules
 
-put-alone-requires : tie.Need-put-alone-requires
+put-alone-requires : tie.Need-put_alone-requires
 put-alone-requires c κs = search rules
 
-same_length : tie.Need-same-length
+same_length : tie.Need-shape_of-out-in-Asked
 same_length c = search rules
 
-returns : tie.Need-returns
+returns : tie.Need-returns-in-Asked
 unfolding sheet_text input_text
 returns c =
     let ended = c.before.before in
-    let told = ended.before.before.before in
-    let text = ended.put-request.ensures in
-    (rw (sym told.before.before.read-input.ensures.case ∙ told.asked.given.1) text, wrote-counts _ _ _ _ _ text)
+    let told = ended.before.before in
+    let text = ended.put_request.ensures in
+    (rw (sym told.read_input-asked.ensures.case ∙ told.in-Asked.is) text, wrote-counts _ _ _ _ _ text)
 
-same-length-2 : tie.Need-same-length-2
+same-length-2 : tie.Need-shape_of-out-in-Other
 same-length-2 c = search rules
 
-returns-2 : tie.Need-returns-2
+returns-2 : tie.Need-returns-in-Other
 unfolding sheet_text input_text
 returns-2 c =
     let ended = c.before.before in
     let told = ended.before.before in
     let text = ended.put_alone.ensures in
-    (rw (sym told.before.before.read-input.ensures.case ∙ told.enum_told.given.1) text, wrote-counts _ _ _ _ _ text)
+    (rw (sym told.read_input-asked.ensures.case ∙ told.in-Other.is) text, wrote-counts _ _ _ _ _ text)
 
-pub sheet-spec : {M : Type 1} → statement M
-sheet-spec =
+pub sheet_spec : {M : Type 1} → statement M
+sheet_spec =
     tie.close
-    (tie.spec
-    read-input-requires
-    enum-known-asked
-    put-request-requires
-    enum_told
-    put-alone-requires
-    same_length
-    returns
-    same-length-2
-    returns-2)
+    (tie.spec read-input-requires enum-known-asked put-request-requires enum_told put-alone-requires same_length returns same-length-2 returns-2)

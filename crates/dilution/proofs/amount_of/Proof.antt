@@ -18,17 +18,17 @@ not_negative (pos n) e f = (tt, record { fits = omega (arith, f.sfits) })
 not_negative (negsuc n) e f = contra refl e
 
 -- the value as it is read back from its bits
-read_back : (c : tie.Else1) → to_z w64 (of_z w64 c.before.args.value) ≡ c.before.args.value
-read_back c = to_z-of_z w64 c.before.args.value c.before.ranges.value
+read_back : (c : tie.Else-value-lt0) → to_z w64 (of_z w64 c.args.value) ≡ c.args.value
+read_back c = to_z-of_z w64 c.args.value c.ranges.value
 
-cast-result : tie.Need-overflow-cast-result
-cast-result c = let same = read_back c in rw same (not_negative _ (rw same at c.if1.false) c.before.ranges.value)
+cast-result : tie.Need-overflow_cast-result
+cast-result c = let same = read_back c in rw same (not_negative _ (rw same at c.if-value-lt0.false) c.ranges.value)
 
-returns : tie.Need-returns
-returns c = sym (amount_none _ (rw (to_z-of_z w64 c.before.args.value c.before.ranges.value) at c.if1.true))
+returns : tie.Need-returns-then-value-lt0
+returns c = sym (amount_none _ (rw (to_z-of_z w64 c.args.value c.ranges.value) at c.if-value-lt0.true))
 
-returns-2 : tie.Need-returns-2
-returns-2 c = let same = read_back c in rw same (sym (amount_some _ (rw same at c.if1.false)))
+returns-2 : tie.Need-returns-else-value-lt0
+returns-2 c = let same = read_back c in rw same (sym (amount_some _ (rw same at c.if-value-lt0.false)))
 
-pub amount-of-spec : {M : Type 1} → statement M
-amount-of-spec = tie.close (tie.spec cast-result returns returns-2)
+pub amount_of_spec : {M : Type 1} → statement M
+amount_of_spec = tie.close (tie.spec cast-result returns returns-2)

@@ -9,32 +9,32 @@ use borrow.Author.Rules.{rules}
 use Rattle.dilution.proofs.dilution_of.Statement.{statement}
 use Rattle.dilution.proofs.dilution_of.Tie as tie
 
-ranged : (c : tie.Else2) → in_range c.before.before.before.args.target c.before.before.before.args.final-volume ≡ true
-ranged c = passed c.before.before.in-range.ensures c.if2.false
+ranged : (c : tie.Else-not-ranged) → in_range c.args.target c.args.final-volume ≡ true
+ranged c = passed c.in_range-ranged.ensures c.if-not-ranged.false-raw
 
-in-range-requires : tie.Need-in-range-requires
+in-range-requires : tie.Need-in_range-ranged-requires
 in-range-requires c κs = search rules
 
-returns : tie.Need-returns
-returns c = sym (refused_36 _ _ _ c.if1.true)
+returns : tie.Need-returns-then-concentration-eq0
+returns c = sym (refused_36 _ _ _ c.if-concentration-eq0.true)
 
-returns-2 : tie.Need-returns-2
-returns-2 c = sym (refused_37 _ _ _ c.before.if1.false (failed c.before.before.in-range.ensures c.if2.true))
+returns-2 : tie.Need-returns-then-not-ranged
+returns-2 c = sym (refused_37 _ _ _ c.if-concentration-eq0.false (failed c.in_range-ranged.ensures c.if-not-ranged.true-raw))
 
-returns-3 : tie.Need-returns-3
-returns-3 c = sym (refused_38 _ _ _ c.before.before.if1.false (ranged c.before) c.if3.true)
+returns-3 : tie.Need-returns-then-concentration-target
+returns-3 c = sym (refused_38 _ _ _ c.if-concentration-eq0.false (ranged c.before) c.if-concentration-target.true)
 
-volumes-of-requires : tie.Need-volumes-of-requires
+volumes-of-requires : tie.Need-volumes_of-requires
 volumes-of-requires c κs =
     let bounds = range_bounds _ _ (ranged c.before) in
-    (omega (arith, c.before.before.if1.false), omega arith, bounds.0, bounds.1)
+    (omega (arith, c.if-concentration-eq0.false), omega arith, bounds.0, bounds.1)
 
-returns-4 : tie.Need-returns-4
+returns-4 : tie.Need-returns
 returns-4 c =
     let tested = c.before in
-    c.volumes-of.ensures ∙ sym (diluted _ _ _ tested.before.before.if1.false (ranged tested.before) (omega (arith, tested.if3.false)))
+    c.volumes_of.ensures ∙ sym (diluted _ _ _ tested.if-concentration-eq0.false (ranged tested.before) (omega (arith, tested.if-concentration-target.false)))
 
-pub dilution-of-spec : {M : Type 1} → statement M
-dilution-of-spec =
+pub dilution_of_spec : {M : Type 1} → statement M
+dilution_of_spec =
     tie.close
     (tie.spec in-range-requires returns returns-2 returns-3 volumes-of-requires returns-4)

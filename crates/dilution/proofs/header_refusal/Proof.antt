@@ -5,41 +5,34 @@ use borrow.Author.Rules.{rules}
 use Rattle.dilution.proofs.header_refusal.Statement.{statement}
 use Rattle.dilution.proofs.header_refusal.Tie as tie
 
-is-distinct-requires : tie.Need-is-distinct-requires
+is-distinct-requires : tie.Need-is_distinct-distinct-requires
 is-distinct-requires c κs = search rules
 
-check-table-requires : tie.Need-check-table-requires
+check-table-requires : tie.Need-check_table-requires
 check-table-requires c κs = search rules
 
-enum-known-refusal : tie.Need-enum-known-refusal
+enum-known-refusal : tie.Need-enum_known-refusal
 enum-known-refusal c = search rules
 
-enum_told : tie.Need-enum-told
+enum_told : tie.Need-enum_told-1
 enum_told c = search rules
 
-returns : tie.Need-returns
-returns c = let bad = c.before in header-table _ _ _ (sym bad.before.before.check-table.ensures ∙ bad.refusal.given.1)
+returns : tie.Need-returns-in-Refused
+returns c = let bad = c in header-table _ _ _ (sym bad.check_table.ensures ∙ bad.in-Refused.is)
 
-returns-2 : tie.Need-returns-2
+returns-2 : tie.Need-returns-then-distinct
 returns-2 c =
     let good = c.before in
-    let checked = good.before.before in
-    header-one _ _ _ (sym checked.check-table.ensures ∙ good.enum_told.given.1) (sym checked.before.is-distinct.ensures ∙ c.if1.true)
+    let checked = good.before in
+    header-one _ _ _ (sym checked.check_table.ensures ∙ good.in-Good.is) (sym checked.is_distinct-distinct.ensures ∙ c.if-distinct.true)
 
-returns-3 : tie.Need-returns-3
+returns-3 : tie.Need-returns-else-distinct
 returns-3 c =
     let good = c.before in
-    let checked = good.before.before in
-    header_24 _ _ _ (sym checked.check-table.ensures ∙ good.enum_told.given.1) (sym checked.before.is-distinct.ensures ∙ c.if1.false)
+    let checked = good.before in
+    header_24 _ _ _ (sym checked.check_table.ensures ∙ good.in-Good.is) (sym checked.is_distinct-distinct.ensures ∙ c.if-distinct.false)
 
-pub header-refusal-spec : {M : Type 1} → statement M
-header-refusal-spec =
+pub header_refusal_spec : {M : Type 1} → statement M
+header_refusal_spec =
     tie.close
-    (tie.spec
-    is-distinct-requires
-    check-table-requires
-    enum-known-refusal
-    enum_told
-    returns
-    returns-2
-    returns-3)
+    (tie.spec is-distinct-requires check-table-requires enum-known-refusal enum_told returns returns-2 returns-3)

@@ -6,19 +6,19 @@ use borrow.Author.Rules.{rules}
 use Rattle.dilution.proofs.is_distinct.Statement.{statement}
 use Rattle.dilution.proofs.is_distinct.Tie as tie
 
-header-good-requires : tie.Need-header-good-requires
+header-good-requires : tie.Need-header_good-requires
 header-good-requires c κs = search rules
 
-returns : tie.Need-returns
-returns c = distinct-bad _ (failed c.before.header-good.ensures c.if1.true)
+returns : tie.Need-returns-then-not-header_good
+returns c = distinct-bad _ (failed c.header_good.ensures c.if-not-header_good.true-raw)
 
 several-requires : tie.Need-several-requires
-several-requires c κs = (good-header _ (passed c.before.header-good.ensures c.if1.false)).long
+several-requires c κs = (good-header _ (passed c.header_good.ensures c.if-not-header_good.false-raw)).long
 
-returns-2 : tie.Need-returns-2
+returns-2 : tie.Need-returns
 returns-2 c =
     let tested = c.before in
-    distinct-tested _ _ (passed tested.before.header-good.ensures tested.if1.false) c.several.ensures
+    distinct-tested _ _ (passed tested.header_good.ensures tested.if-not-header_good.false-raw) c.several.ensures
 
-pub is-distinct-spec : {M : Type 1} → statement M
-is-distinct-spec = tie.close (tie.spec header-good-requires returns several-requires returns-2)
+pub is_distinct_spec : {M : Type 1} → statement M
+is_distinct_spec = tie.close (tie.spec header-good-requires returns several-requires returns-2)

@@ -11,37 +11,37 @@ use Rattle.dilution.proofs.sample_of.Tie as tie
 product : (c : tie.Start) → c.args.target * c.args.final-volume ≤ 1000000000 * 10000
 product c = mul-le-mul {n₁ = c.args.target} {m₁ = c.args.final-volume} {n₂ = 1000000000} {m₂ = 10000} c.requires.1 c.requires.2
 
-mul-amount : tie.Need-overflow-mul-amount
+mul-amount : tie.Need-overflow_mul-amount
 mul-amount c = record { fits = omega (arith, product c) }
 
-div-whole : tie.Need-nonzero-div-whole
+div-whole : tie.Need-nonzero_div-whole
 div-whole c = search rules
 
-rem-rest : tie.Need-nonzero-rem-rest
+rem-rest : tie.Need-nonzero_rem-rest
 rem-rest c = search rules
 
-mul-if1 : tie.Need-overflow-mul-if1
+mul-if1 : tie.Need-overflow_mul-rest
 mul-if1 c = record { fits = omega (arith, product c, mod-le (c.args.target * c.args.final-volume) c.args.concentration) }
 
-add-result : tie.Need-overflow-add-result
+add-result : tie.Need-overflow_add-result
 add-result c =
-    let args = c.before.args in
+    let args = c.args in
     record { fits = omega (arith, product c.before, div-le_self (args.target * args.final-volume) args.concentration) }
 
-returns : tie.Need-returns
+returns : tie.Need-returns-then-concentration-rest
 returns c =
-    let args = c.before.args in
+    let args = c.args in
     let amount = args.target * args.final-volume in
-    sample_up args.concentration args.target args.final-volume _ _ c.before.requires.0 (div-add-mod' amount args.concentration)
-    (mod-lt amount c.before.requires.0) c.if1.true
+    sample_up args.concentration args.target args.final-volume _ _ c.requires.0 (div-add-mod' amount args.concentration)
+    (mod-lt amount c.requires.0) c.if-concentration-rest.true
 
-returns-2 : tie.Need-returns-2
+returns-2 : tie.Need-returns
 returns-2 c =
-    let args = c.before.args in
+    let args = c.args in
     let amount = args.target * args.final-volume in
-    sample-down args.concentration args.target args.final-volume _ _ c.before.requires.0 (div-add-mod' amount args.concentration)
-    (mod-lt amount c.before.requires.0) (omega (arith, c.if1.false))
+    sample-down args.concentration args.target args.final-volume _ _ c.requires.0 (div-add-mod' amount args.concentration)
+    (mod-lt amount c.requires.0) (omega (arith, c.if-concentration-rest.false))
 
-pub sample-of-spec : {M : Type 1} → statement M
-sample-of-spec =
+pub sample_of_spec : {M : Type 1} → statement M
+sample_of_spec =
     tie.close (tie.spec mul-amount div-whole rem-rest mul-if1 add-result returns returns-2)

@@ -5,21 +5,21 @@ use Rattle.fpt_memo.specs.MemoLaws.{bytes_fit}
 use Rattle.fpt_memo.proofs.end_fits.Statement.{statement}
 use Rattle.fpt_memo.proofs.end_fits.Tie as tie
 
-load-be32-requires : tie.Need-load-be32-requires
+load-be32-requires : tie.Need-load_be32-next-requires
 load-be32-requires c κs = search rules
 
-cast-next : tie.Need-overflow-cast-next
+cast-next : tie.Need-overflow_cast-next
 cast-next c = search rules
 
-block-size-requires : tie.Need-block-size-requires
+block-size-requires : tie.Need-block_size-requires
 block-size-requires c κs = search rules
 
-mul-result : tie.Need-overflow-mul-result
-mul-result c = omega (arith, bytes_fit c.before.load-be32.result c.block_size.result (omega arith) c.block_size.ensures.1)
+mul-result : tie.Need-overflow_mul-result
+mul-result c = omega (arith, bytes_fit c.load_be32-next.result c.block_size.result (omega arith) c.block_size.ensures.1)
 
 returns : tie.Need-returns
-returns c = rw (c.block_size.ensures.0, c.before.load-be32.ensures)
+returns c = rw (c.block_size.ensures.0, c.load_be32-next.ensures)
 
-pub end-fits-spec : {M : Type 1} → statement M
-end-fits-spec =
+pub end_fits_spec : {M : Type 1} → statement M
+end_fits_spec =
     tie.close (tie.spec load-be32-requires cast-next block-size-requires mul-result returns)

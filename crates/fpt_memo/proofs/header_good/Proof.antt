@@ -5,16 +5,16 @@ use Rattle.fpt_memo.specs.Memo.{memo_header_good}
 use Rattle.fpt_memo.proofs.header_good.Statement.{statement}
 use Rattle.fpt_memo.proofs.header_good.Tie as tie
 
-returns : tie.Need-returns
+returns : tie.Need-returns-then-file-lt-HEADER_BYTES
 unfolding memo_header_good
-returns c = rw (lt-leb _ _ c.if1.true)
+returns c = rw (lt-leb _ _ c.if-file-lt-HEADER_BYTES.true)
 
-block-size-requires : tie.Need-block-size-requires
+block-size-requires : tie.Need-block_size-size-requires
 block-size-requires c κs = search rules
 
-returns-2 : tie.Need-returns-2
+returns-2 : tie.Need-returns
 unfolding memo_header_good
-returns-2 c = rw (le-leb _ _ c.before.if1.false, c.block_size.ensures.0)
+returns-2 c = rw (le-leb _ _ c.if-file-lt-HEADER_BYTES.false, c.block_size-size.ensures.0)
 
-pub header-good-spec : {M : Type 1} → statement M
-header-good-spec = tie.close (tie.spec returns block-size-requires returns-2)
+pub header_good_spec : {M : Type 1} → statement M
+header_good_spec = tie.close (tie.spec returns block-size-requires returns-2)

@@ -7,46 +7,38 @@ use Rattle.fpt_memo.specs.MemoLaws.{memo_answer}
 use Rattle.fpt_memo.proofs.memo_place.Statement.{statement}
 use Rattle.fpt_memo.proofs.memo_place.Tie as tie
 
-read-number-requires : tie.Need-read-number-requires
+read-number-requires : tie.Need-read_number-read-requires
 read-number-requires c κs = search rules
 
-enum_told : tie.Need-enum-told
+enum_told : tie.Need-enum_told-1
 enum_told c = search rules
 
-enum-told-2 : tie.Need-enum-told-2
+enum-told-2 : tie.Need-enum_told-in-Blank
 enum-told-2 c = search rules
 
-enum-known-read : tie.Need-enum-known-read
+enum-known-read : tie.Need-enum_known-read
 enum-known-read c = search rules
 
-numbered-text-requires : tie.Need-numbered-text-requires
+numbered-text-requires : tie.Need-numbered_text-requires
 numbered-text-requires c κs =
-    let told = c.before in
-    (number_between _ _ (sym told.before.before.read_number.ensures.case ∙ told.read.given.1)).1
+    let told = c in
+    (number_between _ _ (sym told.read_number-read.ensures.case ∙ told.in-Number.is)).1
 
-returns : tie.Need-returns
+returns : tie.Need-returns-in-Bad
 unfolding memo_text read_text
-returns c = memo_answer _ _ _ (rw (sym c.before.before.read_number.ensures.case ∙ c.enum_told.given.1))
+returns c = memo_answer _ _ _ (rw (sym c.read_number-read.ensures.case ∙ c.in-Bad.is))
 
-returns-2 : tie.Need-returns-2
+returns-2 : tie.Need-returns-in-Blank
 unfolding memo_text read_text
-returns-2 c = memo_answer _ _ _ (rw (sym c.before.before.read_number.ensures.case ∙ c.enum-told2.given.1))
+returns-2 c = memo_answer _ _ _ (rw (sym c.read_number-read.ensures.case ∙ c.in-Blank.is))
 
-returns-3 : tie.Need-returns-3
+returns-3 : tie.Need-returns-in-Number
 unfolding memo_text read_text
 returns-3 c =
-    let told = c.before.before in
-    memo_answer _ _ _ (rw (sym told.before.before.read_number.ensures.case ∙ told.read.given.1) c.numbered-text.ensures)
+    let told = c.before in
+    memo_answer _ _ _ (rw (sym told.read_number-read.ensures.case ∙ told.in-Number.is) c.numbered_text.ensures)
 
-pub memo-place-spec : {M : Type 1} → statement M
-memo-place-spec =
+pub memo_place_spec : {M : Type 1} → statement M
+memo_place_spec =
     tie.close
-    (tie.spec
-    read-number-requires
-    enum_told
-    enum-told-2
-    enum-known-read
-    numbered-text-requires
-    returns
-    returns-2
-    returns-3)
+    (tie.spec read-number-requires enum_told enum-told-2 enum-known-read numbered-text-requires returns returns-2 returns-3)

@@ -11,43 +11,37 @@ use Rattle.fpt_memo.proofs.numbered_text.Statement.{statement}
 use Rattle.fpt_memo.proofs.numbered_text.Tie as tie
 
 -- past the test
-abbrev start : tie.Else1 → tie.Start
+abbrev start : tie.Else-not-header_good → tie.Start
 start c = c.before.before.before
 
-good : (c : tie.Else1) → memo_header_good (start c).args.file.now ≡ true
-good c = passed c.before.header-good.ensures c.if1.false
+good : (c : tie.Else-not-header_good) → memo_header_good (start c).args.file.now ≡ true
+good c = passed c.header_good.ensures c.if-not-header_good.false-raw
 
-header-good-requires : tie.Need-header-good-requires
+header-good-requires : tie.Need-header_good-requires
 header-good-requires c κs = search rules
 
-returns : tie.Need-returns
+returns : tie.Need-returns-then-not-header_good
 unfolding numbered_text unless
-returns c = rw (failed c.before.header-good.ensures c.if1.true)
+returns c = rw (failed c.header_good.ensures c.if-not-header_good.true-raw)
 
-block-size-requires : tie.Need-block-size-requires
+block-size-requires : tie.Need-block_size-requires
 block-size-requires c κs = header-long _ (good c)
 
-mul-block-text : tie.Need-overflow-mul-block-text
+mul-block-text : tie.Need-overflow_mul-number
 mul-block-text c =
     omega (arith, bytes_fit (start c.before).args.number c.block_size.result (omega arith) c.block_size.ensures.1)
 
-block-text-requires : tie.Need-block-text-requires
+block-text-requires : tie.Need-block_text-requires
 block-text-requires c κs = (
   header-long _ (good c.before),
   bytes_fit (start c.before).args.number c.block_size.result (omega arith) c.block_size.ensures.1,
 )
 
-returns-2 : tie.Need-returns-2
+returns-2 : tie.Need-returns
 unfolding numbered_text unless
-returns-2 c = rw (good c.before.before) (c.block-text.ensures ∙ rw c.before.block_size.ensures.0)
+returns-2 c = rw (good c.before.before) (c.block_text.ensures ∙ rw c.block_size.ensures.0)
 
-pub numbered-text-spec : {M : Type 1} → statement M
-numbered-text-spec =
+pub numbered_text_spec : {M : Type 1} → statement M
+numbered_text_spec =
     tie.close
-    (tie.spec
-    header-good-requires
-    returns
-    block-size-requires
-    mul-block-text
-    block-text-requires
-    returns-2)
+    (tie.spec header-good-requires returns block-size-requires mul-block-text block-text-requires returns-2)

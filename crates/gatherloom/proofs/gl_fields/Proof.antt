@@ -466,9 +466,9 @@ module _ {M : Type 1} {𝓤 : Ura M} (𝓛 : Logic 𝓤) (at_mem : Memory → SP
       (Goes-none_slice 𝓛 2 (0 ∷ []) tt (plain (λ _. u8)) yes, (Goes-slice 𝓛 2 1 tt (plain (λ _. R)), tt))
       (gl-fields.clauses 𝓛 at_mem run) Runs (WpFn-mono 𝓤 H 𝓛.laws 𝓣 code.function) gl-fields-walks
 
-pub gl-fields-spec : {M : Type 1} → stated.statement M
+pub gl_fields_spec : {M : Type 1} → stated.statement M
 unfolding code.routine tables_of
-gl-fields-spec 𝓤 𝓛 𝓜 𝓡 =
+gl_fields_spec 𝓤 𝓛 𝓜 𝓡 =
     entered 𝓤 𝓛.H (triple_of 𝓛 gl-fields.signature (gl-fields.spec 𝓛 𝓜.mem 𝓡.run))
     (tables 𝓤 𝓛.H 𝓜 𝓡 code.env).C (tables 𝓤 𝓛.H 𝓜 𝓡 code.env).Λ #gatherloom·gl-fields code.function (code.unfolded 𝓤 𝓛.H 𝓜 𝓡)
     (gl-fields-meets 𝓛 𝓜.mem 𝓡.run (tables_of 𝓤 𝓛.H 𝓜 (tables 𝓤 𝓛.H 𝓜 𝓡 code.env))
@@ -478,3 +478,4 @@ gl-fields-spec 𝓤 𝓛 𝓜 𝓡 =
     code.calls-dbf-calls::deletion-entry (first-entry-thm.met 𝓤 𝓛 𝓜 𝓡))
     (cited 𝓤 𝓛.H (EntryC 𝓛 𝓜.mem 𝓡.run) 𝓜 𝓡 code.env #dbf_calls·next-entry next-entry-def.routine
     code.calls-dbf-calls::next-entry (next-entry-thm.met 𝓤 𝓛 𝓜 𝓡)))
+

@@ -175,7 +175,7 @@ module _ {M : Type 1} {𝓤 : Ura M} (𝓛 : Logic 𝓤) where
       use1 𝓛 (‵ (cells (mem u8) xs l 0)) (whole_in 𝓛 u8 xs l 0) $ move ! (1 ∷ 0 ∷ []) $ fjoin ! $ done !
 
   -- and its bytes are room for an array
-  room_out : (xs : List ℕ) (l : ℕ) → ent 𝓤 (sem 𝓛 (Room-at xs l)) (H.room room_ty l 0)
+  room_out : (xs : List ℕ) (l : ℕ) → ent 𝓤 (sem 𝓛 (Room-at xs l)) (H.room-1 room_ty l 0)
   unfolding part_of
   room_out xs l =
       qed 𝓛 (‵ (Room-at xs l) ∷ []) ∵ fsplit ! $ move ! (1 ∷ []) $ use1 𝓛 (‵ (row u8 full_share xs l 0)) (whole_out 𝓛 u8 xs l 0) $
@@ -574,9 +574,9 @@ module _ {M : Type 1} {𝓤 : Ura M} (𝓛 : Logic 𝓤) (at_mem : Memory → SP
       )
       (gl.clauses 𝓛 at_mem run) (WpFn 𝓤 H 𝓣.C 𝓣.Λ code.function) (WpFn-mono 𝓤 H 𝓛.laws 𝓣 code.function) lay-out-walks
 
-pub gl-table-lay-out-spec : {M : Type 1} → stated.statement M
+pub gl_table_lay_out_spec : {M : Type 1} → stated.statement M
 unfolding code.routine tables_of
-gl-table-lay-out-spec 𝓤 𝓛 𝓜 𝓡 =
+gl_table_lay_out_spec 𝓤 𝓛 𝓜 𝓡 =
     entered 𝓤 𝓛.H (triple_of 𝓛 gl.signature (gl.spec 𝓛 𝓜.mem 𝓡.run))
     (tables 𝓤 𝓛.H 𝓜 𝓡 code.env).C (tables 𝓤 𝓛.H 𝓜 𝓡 code.env).Λ #gatherloom·gl-table-lay-out code.function (code.unfolded 𝓤 𝓛.H 𝓜 𝓡)
     (lay-out-meets 𝓛 𝓜.mem 𝓡.run (tables_of 𝓤 𝓛.H 𝓜 (tables 𝓤 𝓛.H 𝓜 𝓡 code.env))
@@ -587,3 +587,4 @@ gl-table-lay-out-spec 𝓤 𝓛 𝓜 𝓡 =
     (cited 𝓤 𝓛.H (FieldC 𝓛 𝓜.mem 𝓡.run) 𝓜 𝓡 code.env #dbf_create·write-field field-def.routine code.calls-dbf-create::write-field
     (field-thm.met 𝓤 𝓛 𝓜 𝓡))
     (cited 𝓤 𝓛.H (LayC 𝓛 𝓜.mem 𝓡.run) 𝓜 𝓡 code.env #dbf_create·lay-out lay-def.routine code.calls-dbf-create::lay-out (lay-thm.met 𝓤 𝓛 𝓜 𝓡)))
+

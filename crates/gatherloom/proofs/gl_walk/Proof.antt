@@ -152,7 +152,7 @@ module _ {M : Type 1} {𝓤 : Ura M} (𝓛 : Logic 𝓤) (at_mem : Memory → SP
   answer-fits : (r : LentStep) (u : Val) → Is D.the_row r (u ∷ []) → r.answer < 2 ^ 32
   answer-fits r u is = (LL.owed D.the_type D'.the_laws r _ is).0.1
 
-  position-is : (r : LentStep) (u : Val) → Is D.the_row r (u ∷ []) → Is P.the_row r.position (P'.lowered r.position ∷ [])
+  position-is : (r : LentStep) (u : Val) → Is D.the_row r (u ∷ []) → Is P.the_row r.position-1 (P'.lowered r.position-1 ∷ [])
   position-is r u is = (LL.owed D.the_type D'.the_laws r _ is).1.0
 
   number_fits : (r : LentStep) (u : Val) → Is D.the_row r (u ∷ []) → r.number < 2 ^ 32
@@ -166,14 +166,14 @@ module _ {M : Type 1} {𝓤 : Ura M} (𝓛 : Logic 𝓤) (at_mem : Memory → SP
   AtEnd r =
       ‵ (fobs ε (u8.coded.code r.deleted)) ∷ ‵ (fbor κ''' (Body (mem u8) f g ε)) ∷ ‵ (flft κ''' q''')
       ∷ ‵ (fobs δ (u32.coded.code r.number)) ∷ ‵ (fbor κ'' (Body (mem u32) d p δ)) ∷ ‵ (flft κ'' q'')
-      ∷ ‵ (fobs γ ((P.the_row).coded.code r.position)) ∷ ‵ (fbor κ' (Body (mem P.the_row) b o γ)) ∷ ‵ (flft κ' q')
+      ∷ ‵ (fobs γ ((P.the_row).coded.code r.position-1)) ∷ ‵ (fbor κ' (Body (mem P.the_row) b o γ)) ∷ ‵ (flft κ' q')
       ∷ Token ∷ ‵ Own ∷ []
 
   exits : (r : LentStep) → r ≡ found → r.answer < 2 ^ 32 → ent 𝓤 (⋆ 𝓛 (AtEnd r)) (Post (vint w32 r.answer))
   exits r e fits =
       qed 𝓛 (AtEnd r) ∵
       suffices ! _ (ends_at 𝓛 gl-walk.ended stayed (gl-walk.clauses 𝓛 at_mem run) this (vint w32 r.answer) r.answer
-      (tt, (r.position, (r.number, (r.deleted, tt)))) (tt, (tt, (tt, (tt, tt))))) $
+      (tt, (r.position-1, (r.number, (r.deleted, tt)))) (tt, (tt, (tt, (tt, tt))))) $
       says ! (sym e) $
       -- the tokens
       move ! (9 ∷ []) $ split ! $ move ! (4 ∷ 1 ∷ []) $ join ! $ move ! (6 ∷ 0 ∷ []) $ join ! $ move ! (8 ∷ 0 ∷ []) $ join ! $
@@ -243,7 +243,7 @@ module _ {M : Type 1} {𝓤 : Ura M} (𝓛 : Logic 𝓤) (at_mem : Memory → SP
         rewrite ! 24 (λ (w : Val). ‵ (fat full_share D'.mir l₅ 0 w)) (ap only ((D'.lowers).val_is r _ is)) refl $
         assigns ! (of_opd ! (load ! (from ! (fld ! refl (stop !))) (look_in ! 24 (sub ! 1 refl (whole !)))))
         (from ! (hop ! (look ! 30 refl) (stop !)))
-        (store_raw ! 3 refl ((LL.lawful P.the_type P'.the_laws 𝓛).typed r.position _ (position-is r u is)).0) $
+        (store_raw ! 3 refl ((LL.lawful P.the_type P'.the_laws 𝓛).typed r.position-1 _ (position-is r u is)).0) $
         assigns ! (of_opd ! (load ! (from ! (fld ! refl (stop !))) (look_in ! 24 (sub ! 2 refl (whole !)))))
         (from ! (hop ! (look ! 28 refl) (stop !))) (store ! 8 refl (tt, record { fits = number_fits r u is })) $
         assigns ! (of_opd ! (load ! (from ! (fld ! refl (stop !))) (look_in ! 24 (sub ! 3 refl (whole !)))))
@@ -251,8 +251,8 @@ module _ {M : Type 1} {𝓤 : Ura M} (𝓛 : Logic 𝓤) (at_mem : Memory → SP
         assigns ! (of_opd ! (load ! (from ! (fld ! refl (stop !))) (look_in ! 24 (sub ! 0 refl (whole !))))) (from ! (stop !))
         (init ! 34 refl (tt, record { fits = answer-fits r u is })) $
         -- the borrow of the position is closed at the new position
-        move ! (4 ∷ []) $ drop ! $ owned ! P.the_row (Is P.the_row) (LL.makes P.the_type P'.the_plain 𝓛) r.position _ (position-is r u is) $
-        move ! (4 ∷ 0 ∷ 5 ∷ 6 ∷ 7 ∷ []) $ closes ! tt P.the_row r.position (P'.lowered r.position ∷ []) b o $
+        move ! (4 ∷ []) $ drop ! $ owned ! P.the_row (Is P.the_row) (LL.makes P.the_type P'.the_plain 𝓛) r.position-1 _ (position-is r u is) $
+        move ! (4 ∷ 0 ∷ 5 ∷ 6 ∷ 7 ∷ []) $ closes ! tt P.the_row r.position-1 (P'.lowered r.position-1 ∷ []) b o $
         -- [the position's obs, borrow and token; what was returned; the table's token; what the table owns; the number's cell;
         --  its open borrow; obs; auth; the mark's four; true; true; _8; …; ..]
         -- the borrow of the number is closed at the new number
@@ -309,11 +309,12 @@ module _ {M : Type 1} {𝓤 : Ura M} (𝓛 : Logic 𝓤) (at_mem : Memory → SP
       )
       (gl-walk.clauses 𝓛 at_mem run) Runs (WpFn-mono 𝓤 H 𝓛.laws 𝓣 code.function) gl-walk-walks
 
-pub gl-walk-spec : {M : Type 1} → stated.statement M
+pub gl_walk_spec : {M : Type 1} → stated.statement M
 unfolding code.routine tables_of
-gl-walk-spec 𝓤 𝓛 𝓜 𝓡 =
+gl_walk_spec 𝓤 𝓛 𝓜 𝓡 =
     entered 𝓤 𝓛.H (triple_of 𝓛 gl-walk.signature (gl-walk.spec 𝓛 𝓜.mem 𝓡.run))
     (tables 𝓤 𝓛.H 𝓜 𝓡 code.env).C (tables 𝓤 𝓛.H 𝓜 𝓡 code.env).Λ #gatherloom·gl-walk code.function (code.unfolded 𝓤 𝓛.H 𝓜 𝓡)
     (gl-walk-meets 𝓛 𝓜.mem 𝓡.run (tables_of 𝓤 𝓛.H 𝓜 (tables 𝓤 𝓛.H 𝓜 𝓡 code.env))
     (cited 𝓤 𝓛.H (StepC 𝓛 𝓜.mem 𝓡.run) 𝓜 𝓡 code.env #dbf_calls·lent-step step-def.routine
     code.calls-dbf-calls::lent-step (step_thm.met 𝓤 𝓛 𝓜 𝓡)))
+

@@ -10,27 +10,27 @@ use Rattle.idx_audit.proofs.audit.Statement.{statement}
 use Rattle.idx_audit.proofs.audit.Tie as tie
 
 -- what the header's test says
-good : (c : tie.Else1) → header_good c.before.before.before.args.index.now ≡ true
-good c = passed c.before.header-good.ensures c.if1.false
+good : (c : tie.Else-not-header_good) → header_good c.args.index.now ≡ true
+good c = passed c.header_good.ensures c.if-not-header_good.false-raw
 
-header-good-requires : tie.Need-header-good-requires
+header-good-requires : tie.Need-header_good-requires
 header-good-requires c κs = search rules
 
-returns : tie.Need-returns
-returns c = answer-bad _ (failed c.before.header-good.ensures c.if1.true)
+returns : tie.Need-returns-then-not-header_good
+returns c = answer-bad _ (failed c.header_good.ensures c.if-not-header_good.true-raw)
 
-pages-good-requires : tie.Need-pages-good-requires
+pages-good-requires : tie.Need-pages_good-requires
 pages-good-requires c κs = good c
 
-returns-2 : tie.Need-returns-2
+returns-2 : tie.Need-returns-then-pages_good
 returns-2 c =
     let called = c.before in
-    answer-sound _ (good called.before) (sym called.pages-good.ensures ∙ c.if2.true)
+    answer-sound _ (good called.before) (sym called.pages_good.ensures ∙ c.if-pages_good.true)
 
-returns-3 : tie.Need-returns-3
+returns-3 : tie.Need-returns-else-pages_good
 returns-3 c =
     let called = c.before in
-    answer-unsound _ (good called.before) (sym called.pages-good.ensures ∙ c.if2.false)
+    answer-unsound _ (good called.before) (sym called.pages_good.ensures ∙ c.if-pages_good.false)
 
-pub audit-spec : {M : Type 1} → statement M
-audit-spec = tie.close (tie.spec header-good-requires returns pages-good-requires returns-2 returns-3)
+pub audit_spec : {M : Type 1} → statement M
+audit_spec = tie.close (tie.spec header-good-requires returns pages-good-requires returns-2 returns-3)

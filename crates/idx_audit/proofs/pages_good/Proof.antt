@@ -6,19 +6,19 @@ use Rattle.idx_audit.specs.AnswerLaws.{pages-bad, pages-answer}
 use Rattle.idx_audit.proofs.pages_good.Statement.{statement}
 use Rattle.idx_audit.proofs.pages_good.Tie as tie
 
-shape-good-requires : tie.Need-shape-good-requires
+shape-good-requires : tie.Need-shape_good-requires
 shape-good-requires c κs = search rules
 
-returns : tie.Need-returns
-returns c = pages-bad _ _ c.before.shape-good.ensures (not-true _ c.if1.true)
+returns : tie.Need-returns-then-not-shape_good
+returns c = pages-bad _ _ c.shape_good.ensures (not-true _ c.if-not-shape_good.true-raw)
 
-keys-above-good-requires : tie.Need-keys-above-good-requires
+keys-above-good-requires : tie.Need-keys_above_good-requires
 keys-above-good-requires c κs = search rules
 
-returns-2 : tie.Need-returns-2
+returns-2 : tie.Need-returns
 returns-2 c =
     let tested = c.before in
-    pages-answer _ _ tested.before.shape-good.ensures _ (not-false _ tested.if1.false) c.keys-above-good.ensures
+    pages-answer _ _ tested.shape_good.ensures _ (not-false _ tested.if-not-shape_good.false-raw) c.keys_above_good.ensures
 
-pub pages-good-spec : {M : Type 1} → statement M
-pages-good-spec = tie.close (tie.spec shape-good-requires returns keys-above-good-requires returns-2)
+pub pages_good_spec : {M : Type 1} → statement M
+pages_good_spec = tie.close (tie.spec shape-good-requires returns keys-above-good-requires returns-2)

@@ -3,11 +3,11 @@ use borrow.Author.Rules.{rules}
 use Rattle.idx_batch.proofs.goes_on.Statement.{statement}
 use Rattle.idx_batch.proofs.goes_on.Tie as tie
 
-is-call-requires : tie.Need-is-call-requires
+is-call-requires : tie.Need-is_call-requires
 is-call-requires c κs = search rules
 
 returns : tie.Need-returns
 returns c = rw c.is_call.ensures
 
-pub goes-on-spec : {M : Type 1} → statement M
-goes-on-spec = tie.close (tie.spec is-call-requires returns)
+pub goes_on_spec : {M : Type 1} → statement M
+goes_on_spec = tie.close (tie.spec is-call-requires returns)

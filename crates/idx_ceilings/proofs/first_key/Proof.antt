@@ -8,26 +8,26 @@ use Rattle.idx_ceilings.specs.CeilingLaws.{first-none, first_some}
 use Rattle.idx_ceilings.proofs.first_key.Statement.{statement}
 use Rattle.idx_ceilings.proofs.first_key.Tie as tie
 
-entry-count-requires : tie.Need-entry-count-requires
+entry-count-requires : tie.Need-entry_count-requires
 entry-count-requires c κs = search rules
 
-returns : tie.Need-returns
+returns : tie.Need-returns-then-entry_count-eq0
 returns c =
-    let pre = c.before.before.before.requires in
-    (first-none _ _ _ _ _ c.before.entry-count.ensures c.if1.true, omega arith)
+    let pre = c.requires in
+    (first-none _ _ _ _ _ c.entry_count.ensures c.if-entry_count-eq0.true, omega arith)
 
-entry-offset-requires : tie.Need-entry-offset-requires
+entry-offset-requires : tie.Need-entry_offset-requires
 entry-offset-requires c κs = search rules
 
-returns-2 : tie.Need-returns-2
+returns-2 : tie.Need-returns
 returns-2 c =
     let tested = c.before in
     let counted = tested.before in
-    let n = counted.entry-count in
-    let some = tested.if1.false in
-    let w = entry-within {i = 0} ((entries-within _ _ _ _ _ n.ensures counted.before.before.requires).each 0 (omega arith)) in
-    let at = c.entry-offset.ensures in
+    let n = counted.entry_count in
+    let some = tested.if-entry_count-eq0.false in
+    let w = entry-within {i = 0} ((entries-within _ _ _ _ _ n.ensures counted.requires).each 0 (omega arith)) in
+    let at = c.entry_offset.ensures in
     (first_some _ _ _ _ _ n.ensures _ some at, omega arith)
 
-pub first-key-spec : {M : Type 1} → statement M
-first-key-spec = tie.close (tie.spec entry-count-requires returns entry-offset-requires returns-2)
+pub first_key_spec : {M : Type 1} → statement M
+first_key_spec = tie.close (tie.spec entry-count-requires returns entry-offset-requires returns-2)

@@ -9,43 +9,35 @@ use Rattle.idx_ceilings.specs.CeilingLaws.{down-end, down-on}
 use Rattle.idx_ceilings.proofs.first_under.Statement.{statement}
 use Rattle.idx_ceilings.proofs.first_under.Tie as tie
 
-abbrev invariant-loop : tie.invariant-loop
+abbrev invariant-loop : tie.invariant-loop-left
 invariant-loop index k size under left₀ lower₀ left lower =
     (left ≤ under) × (down (first_child index k size) under lower₀.0 ≡ down (first_child index k size) left lower.0)
 
-abbrev decreases-loop : tie.decreases-loop
+abbrev decreases-loop : tie.decreases-loop-left
 decreases-loop index k size under left₀ lower₀ left lower = left
 
-loop-holds : tie.Need-loop-init invariant-loop decreases-loop
+loop-holds : tie.Need-loop-left-init invariant-loop decreases-loop
 loop-holds c = (search rules, refl)
 
-first-child-requires : tie.Need-first-child-requires invariant-loop decreases-loop
+first-child-requires : tie.Need-first_child-lower-requires invariant-loop decreases-loop
 first-child-requires c κs = search rules
 
-sub-left : tie.Need-overflow-sub-left invariant-loop decreases-loop
+sub-left : tie.Need-overflow_sub-left invariant-loop decreases-loop
 sub-left c = search rules
 
-loop-less : tie.Need-loop-smaller invariant-loop decreases-loop
+loop-less : tie.Need-loop-left-smaller invariant-loop decreases-loop
 loop-less c = search rules
 
-loop-again : tie.Need-loop-preserved invariant-loop decreases-loop
+loop-again : tie.Need-loop-left-preserved invariant-loop decreases-loop
 loop-again c =
     let in-loop = c.before in
-    let loop = in-loop.before.loop in
-    (search rules, down-on _ _ _ loop.left loop.lower.0 loop.invariant.1 _ in-loop.loop-test.true c.first-child.ensures)
+    let loop = in-loop.loop-left in
+    (search rules, down-on _ _ _ loop.left loop.lower.0 loop.invariant.1 _ in-loop.loop-left-test.true c.first_child-lower.ensures)
 
 returns : tie.Need-returns invariant-loop decreases-loop
-returns c = let loop = c.before.loop in down-end _ _ _ loop.left loop.lower.0 loop.invariant.1 (search rules)
+returns c = let loop = c.loop-left in down-end _ _ _ loop.left loop.lower.0 loop.invariant.1 (search rules)
 
-pub first-under-spec : {M : Type 1} → statement M
-first-under-spec =
+pub first_under_spec : {M : Type 1} → statement M
+first_under_spec =
     tie.close
-    (tie.spec
-    invariant-loop
-    decreases-loop
-    loop-holds
-    first-child-requires
-    sub-left
-    loop-less
-    loop-again
-    returns)
+    (tie.spec invariant-loop decreases-loop loop-holds first-child-requires sub-left loop-less loop-again returns)

@@ -8,45 +8,37 @@ use Rattle.idx_entries.proofs.copy_key.Statement.{statement}
 use Rattle.idx_entries.proofs.copy_key.Tie as tie
 
 -- the call's start, from the place where the entry's offset is known
-abbrev start : tie.After-entry-offset → tie.Start
+abbrev start : tie.After-entry_offset-from → tie.Start
 start c = c.before.before.before
 
-entry-offset-requires : tie.Need-entry-offset-requires
+entry-offset-requires : tie.Need-entry_offset-from-requires
 entry-offset-requires c κs = search rules
 
-add-upto : tie.Need-overflow-add-upto
-add-upto c = let w = entry-within (start c).requires.0 in omega (arith, c.entry-offset.ensures)
+add-upto : tie.Need-overflow_add-upto
+add-upto c = let w = entry-within (start c).requires.0 in omega (arith, c.entry_offset-from.ensures)
 
-sub-copy-in : tie.Need-overflow-sub-copy-in
+sub-copy-in : tie.Need-slice_bounds-copy_in-count
 sub-copy-in c = search rules
 
-part-copy-in-start : tie.Need-slice-bounds-copy-in-start
+part-copy-in-start : tie.Need-slice_bounds-copy_in-start
 part-copy-in-start c = search rules
 
-part-copy-in-end : tie.Need-slice-bounds-copy-in-end
-part-copy-in-end c = let w = entry-within (start c.before).requires.0 in omega (arith, c.before.entry-offset.ensures)
+part-copy-in-end : tie.Need-slice_bounds-copy_in-end
+part-copy-in-end c = let w = entry-within (start c.before).requires.0 in omega (arith, c.entry_offset-from.ensures)
 
-copy-in-requires : tie.Need-copy-in-requires
+copy-in-requires : tie.Need-copy_in-requires
 copy-in-requires c κs = search rules
 
-same_length : tie.Need-same-length
+same_length : tie.Need-shape_of-to
 same_length c = search rules
 
 returns : tie.Need-returns
 returns c =
     let copied = c.before.before in
     let offset = copied.before.before.before in
-    copied.copy-in.ensures ∙ rw (part-window _ _ _ _ refl, offset.entry-offset.ensures)
+    copied.copy_in.ensures ∙ rw (part-window _ _ _ _ refl, offset.entry_offset-from.ensures)
 
-pub copy-key-spec : {M : Type 1} → statement M
-copy-key-spec =
+pub copy_key_spec : {M : Type 1} → statement M
+copy_key_spec =
     tie.close
-    (tie.spec
-    entry-offset-requires
-    add-upto
-    sub-copy-in
-    part-copy-in-start
-    part-copy-in-end
-    copy-in-requires
-    same_length
-    returns)
+    (tie.spec entry-offset-requires add-upto sub-copy-in part-copy-in-start part-copy-in-end copy-in-requires same_length returns)

@@ -13,26 +13,26 @@ use Rattle.idx_entries.proofs.gather_two.Statement.{statement}
 use Rattle.idx_entries.proofs.gather_two.Tie as tie
 
 -- the places: the call's start, from where the first entries are copied; and the place before each store, from the one before the next
-abbrev start : tie.After-copy-entries-arg → tie.Start
+abbrev start : tie.After-copy_entries-arg-1 → tie.Start
 start c = c.before.before.before.before
 
-abbrev before-low : tie.After-copy-last-key-arg → tie.After-copy-entries-arg
+abbrev before-low : tie.After-copy_last_key-arg-1 → tie.After-copy_entries-arg-1
 before-low c = c.before.before.before.before
 
-abbrev before-number : tie.After-copy-number-arg → tie.After-copy-last-key-arg
+abbrev before-number : tie.After-copy_number-arg-1 → tie.After-copy_last_key-arg-1
 before-number c = c.before.before.before.before
 
-abbrev before-high : tie.After-copy-larger-key-arg → tie.After-copy-number-arg
+abbrev before-high : tie.After-copy_larger_key-arg-1 → tie.After-copy_number-arg-1
 before-high c = c.before.before.before.before
 
-abbrev before_child : tie.After-put-child-arg → tie.After-copy-larger-key-arg
+abbrev before_child : tie.After-put_child-arg-1 → tie.After-copy_larger_key-arg-1
 before_child c = c.before.before.before.before
 
-abbrev before-rest : tie.After-copy-entries-arg2 → tie.After-put-child-arg
+abbrev before-rest : tie.After-copy_entries-arg-2-1 → tie.After-put_child-arg-1
 before-rest c = c.before.before.before.before
 
 -- the place before the first entries are copied, from the one before the larger key is copied
-abbrev first : tie.After-copy-larger-key-arg → tie.After-copy-entries-arg
+abbrev first : tie.After-copy_larger_key-arg-1 → tie.After-copy_entries-arg-1
 first c = before-low (before-number (before-high c))
 
 -- the products of sizes: with i entries before the two, and with i + 1
@@ -47,55 +47,55 @@ products c =
 entry : (c : tie.Start) → let args = c.args in Within args.index.now (length args.key.now) args.page.0 (args.i + 1)
 entry c = within-entry _ (listed-within c.requires.0) c.requires.1
 
-add_at : tie.Need-overflow-add-at
+add_at : tie.Need-overflow_add-at
 add_at c = search rules
 
-mul_at : tie.Need-overflow-mul-at
+mul_at : tie.Need-overflow_mul-at
 mul_at c = let s = products c.before.before.before in omega arith
 
-add-next : tie.Need-overflow-add-next
+add-next : tie.Need-overflow_add-next
 add-next c = let s = products c.before.before.before in omega arith
 
-add-next-2 : tie.Need-overflow-add-next-2
+add-next-2 : tie.Need-overflow_add-next-2
 add-next-2 c = let s = products c.before.before.before in omega arith
 
-copy-entries-requires : tie.Need-copy-entries-requires
+copy-entries-requires : tie.Need-copy_entries-requires
 copy-entries-requires c κs =
     let s = products (start c) in
     let w = entry (start c) in
     (record { key = w.key; count = omega arith; page = w.page }, omega arith, rw sub-zero (omega arith))
 
-copy-last-key-requires : tie.Need-copy-last-key-requires
+copy-last-key-requires : tie.Need-copy_last_key-requires
 copy-last-key-requires c κs = let s = products (start (before-low c)) in (s.0.key, omega arith)
 
-add-copy-number : tie.Need-overflow-add-copy-number
+add-copy-number : tie.Need-overflow_add-at-2
 add-copy-number c = let s = products (start (before-low (before-number c))) in omega arith
 
-copy-number-requires : tie.Need-copy-number-requires
+copy-number-requires : tie.Need-copy_number-requires
 copy-number-requires c κs =
     let at-start = start (before-low (before-number c)) in
     let s = products at-start in
     (entry at-start, omega arith)
 
-copy-larger-key-requires : tie.Need-copy-larger-key-requires
+copy-larger-key-requires : tie.Need-copy_larger_key-requires
 copy-larger-key-requires c κs = let s = products (start (first c)) in (entry (start (first c)), omega arith)
 
-add-put-child : tie.Need-overflow-add-put-child
+add-put-child : tie.Need-overflow_add-next-3
 add-put-child c = let s = products (start (first (before_child c))) in omega arith
 
-put-child-requires : tie.Need-put-child-requires
+put-child-requires : tie.Need-put_child-requires
 put-child-requires c κs = let s = products (start (first (before_child c))) in omega arith
 
-add-copy-entries : tie.Need-overflow-add-copy-entries
+add-copy-entries : tie.Need-overflow_add-next-4
 add-copy-entries c = let s = products (start (first (before_child (before-rest c)))) in omega arith
 
-add-copy-entries-2 : tie.Need-overflow-add-copy-entries-2
+add-copy-entries-2 : tie.Need-overflow_add-next-5
 add-copy-entries-2 c = let s = products (start (first (before_child (before-rest c)))) in omega arith
 
-add-copy-entries-3 : tie.Need-overflow-add-copy-entries-3
+add-copy-entries-3 : tie.Need-overflow_add-i
 add-copy-entries-3 c = let s = products (start (first (before_child (before-rest c)))) in omega arith
 
-copy-entries-requires-2 : tie.Need-copy-entries-requires-2
+copy-entries-requires-2 : tie.Need-copy_entries-requires-2
 copy-entries-requires-2 c κs =
     let child = c.before.before.before in
     let high = child.before.before.before.before in
@@ -113,15 +113,15 @@ copy-entries-requires-2 c κs =
       omega (
         arith,
         at-start.pre.2,
-        child.put-child.auto.0,
-        high.copy-larger-key.auto.0,
-        number.copy-number.auto.0,
-        low.copy-last-key.auto.0,
-        before.copy-entries.auto.0,
+        child.put_child.auto.0,
+        high.copy_larger_key.auto.0,
+        number.copy_number.auto.0,
+        low.copy_last_key.auto.0,
+        before.copy_entries.auto.0,
       ),
     )
 
-same_length : tie.Need-same-length
+same_length : tie.Need-shape_of-room
 same_length c = search rules
 
 returns : tie.Need-returns
@@ -133,27 +133,10 @@ returns c =
     let low = number.before.before.before.before in
     let before = low.before.before.before.before in
     let at-start = start before.before in
-    two-gathered at-start.args.key.now at-start.pre.0 at-start.pre.1 _ _ _ before.copy-entries.ensures low.copy-last-key.ensures
-    number.copy-number.ensures high.copy-larger-key.ensures child.put-child.ensures rest.copy-entries2.ensures
+    two-gathered at-start.args.key.now at-start.pre.0 at-start.pre.1 _ _ _ before.copy_entries.ensures low.copy_last_key.ensures
+    number.copy_number.ensures high.copy_larger_key.ensures child.put_child.ensures rest.copy_entries-2.ensures
 
-pub gather-two-spec : {M : Type 1} → statement M
-gather-two-spec =
+pub gather_two_spec : {M : Type 1} → statement M
+gather_two_spec =
     tie.close
-    (tie.spec
-    add_at
-    mul_at
-    add-next
-    add-next-2
-    copy-entries-requires
-    copy-last-key-requires
-    add-copy-number
-    copy-number-requires
-    copy-larger-key-requires
-    add-put-child
-    put-child-requires
-    add-copy-entries
-    add-copy-entries-2
-    add-copy-entries-3
-    copy-entries-requires-2
-    same_length
-    returns)
+    (tie.spec add_at mul_at add-next add-next-2 copy-entries-requires copy-last-key-requires add-copy-number copy-number-requires copy-larger-key-requires add-put-child put-child-requires add-copy-entries add-copy-entries-2 add-copy-entries-3 copy-entries-requires-2 same_length returns)

@@ -9,37 +9,37 @@ use Rattle.idx_entries.proofs.gather_without.Statement.{statement}
 use Rattle.idx_entries.proofs.gather_without.Tie as tie
 
 -- the call's start, from the place before the second store
-abbrev start : tie.After-copy-entries-arg2 → tie.Start
+abbrev start : tie.After-copy_entries-arg-2-1 → tie.Start
 start c = c.before.before.before.before.before.before.before
 
 -- the products of sizes, with the entries up to and with entry i before the rest
 products : (s : tie.Start) → Spread s.args.index.now s.args.k s.args.page.0 s.args.count s.args.i
 products s = spread _ s.requires.0 (omega (arith, s.requires.1))
 
-copy-entries-requires : tie.Need-copy-entries-requires
+copy-entries-requires : tie.Need-copy_entries-requires
 copy-entries-requires c κs =
     let at-start = c.before.before.before in
     let s = products at-start in
     let w = listed-within at-start.requires.0 in
     (record { key = w.key; count = omega (arith, at-start.requires.1); page = w.page }, omega arith, rw sub-zero (omega (arith, at-start.requires.2)))
 
-add-copy-entries : tie.Need-overflow-add-copy-entries
+add-copy-entries : tie.Need-overflow_add-k
 add-copy-entries c = search rules
 
-mul-copy-entries : tie.Need-overflow-mul-copy-entries
+mul-copy-entries : tie.Need-overflow_mul-i
 mul-copy-entries c = let s = products (start c) in omega arith
 
-add-copy-entries-2 : tie.Need-overflow-add-copy-entries-2
+add-copy-entries-2 : tie.Need-overflow_add-i
 add-copy-entries-2 c = search rules
 
-copy-entries-requires-2 : tie.Need-copy-entries-requires-2
+copy-entries-requires-2 : tie.Need-copy_entries-requires-2
 copy-entries-requires-2 c κs =
     let at-start = start c in
     let s = products at-start in
     let behind = spread (at-start.args.i + 1) at-start.pre.0 (omega (arith, at-start.pre.1)) in
     (listed-within at-start.pre.0, omega (arith, at-start.pre.1), omega (arith, at-start.pre.2))
 
-same_length : tie.Need-same-length
+same_length : tie.Need-shape_of-room
 same_length c = search rules
 
 returns : tie.Need-returns
@@ -47,16 +47,9 @@ returns c =
     let rest = c.before.before in
     let first = rest.before.before.before.before in
     let at-start = start rest.before in
-    without-gathered at-start.pre.0 at-start.pre.1 _ first.copy-entries.ensures rest.copy-entries2.ensures
+    without-gathered at-start.pre.0 at-start.pre.1 _ first.copy_entries.ensures rest.copy_entries-2.ensures
 
-pub gather-without-spec : {M : Type 1} → statement M
-gather-without-spec =
+pub gather_without_spec : {M : Type 1} → statement M
+gather_without_spec =
     tie.close
-    (tie.spec
-    copy-entries-requires
-    add-copy-entries
-    mul-copy-entries
-    add-copy-entries-2
-    copy-entries-requires-2
-    same_length
-    returns)
+    (tie.spec copy-entries-requires add-copy-entries mul-copy-entries add-copy-entries-2 copy-entries-requires-2 same_length returns)

@@ -4,16 +4,16 @@ use borrow.Author.Rules.{rules}
 use Rattle.idx_free.proofs.free_page.Statement.{statement}
 use Rattle.idx_free.proofs.free_page.Tie as tie
 
-free-pointer-requires : tie.Need-free-pointer-requires
+free-pointer-requires : tie.Need-free_pointer-next-requires
 free-pointer-requires c κs = search rules
 
-empty-page-requires : tie.Need-empty-page-requires
+empty-page-requires : tie.Need-empty_page-requires
 empty-page-requires c κs = search rules
 
-set-free-requires : tie.Need-set-free-requires
+set-free-requires : tie.Need-set_free-requires
 set-free-requires c κs = search rules
 
-same_length : tie.Need-same-length
+same_length : tie.Need-shape_of-index
 same_length c = search rules
 
 returns : tie.Need-returns
@@ -21,7 +21,7 @@ returns c =
     let named = c.before.before in
     let written = named.before.before.before.before in
     let head = written.before.before in
-    freed_by _ _ head.free-pointer.ensures written.empty-page.ensures named.set_Free.ensures
+    freed_by _ _ head.free_pointer-next.ensures written.empty_page.ensures named.set_Free.ensures
 
-pub free-page-spec : {M : Type 1} → statement M
-free-page-spec = tie.close (tie.spec free-pointer-requires empty-page-requires set-free-requires same_length returns)
+pub free_page_spec : {M : Type 1} → statement M
+free_page_spec = tie.close (tie.spec free-pointer-requires empty-page-requires set-free-requires same_length returns)

@@ -12,29 +12,29 @@ use Rattle.idx_free_list.proofs.free_fits.Statement.{statement}
 use Rattle.idx_free_list.proofs.free_fits.Tie as tie
 
 -- where the function starts, from past the test of the page
-abbrev start : tie.Else1 → tie.Start
+abbrev start : tie.Else-not-is_page → tie.Start
 start c = c.before.before.before
 
 -- the page is one of the file
-inside : (c : tie.Else1) → is_page (start c).args.size (start c).args.page.0 ≡ true
-inside c = passed c.before.is-page.ensures c.if1.false
+inside : (c : tie.Else-not-is_page) → is_page (start c).args.size (start c).args.page.0 ≡ true
+inside c = passed c.is_page.ensures c.if-not-is_page.false-raw
 
-is-page-requires : tie.Need-is-page-requires
+is-page-requires : tie.Need-is_page-requires
 is-page-requires c κs = search rules
 
-returns : tie.Need-returns
+returns : tie.Need-returns-then-not-is_page
 returns c =
-    let args = c.before.before.before.args in
-    fits-outside args.index.now args.size args.page.0 (failed c.before.is-page.ensures c.if1.true)
+    let args = c.args in
+    fits-outside args.index.now args.size args.page.0 (failed c.is_page.ensures c.if-not-is_page.true-raw)
 
-is-free-page-requires : tie.Need-is-free-page-requires
+is-free-page-requires : tie.Need-is_free_page-requires
 is-free-page-requires c κs = let i = is-page _ _ (inside c) in let pre = (start c).requires in omega arith
 
-returns-2 : tie.Need-returns-2
+returns-2 : tie.Need-returns
 returns-2 c =
     let page = c.before in
     let args = (start page).args in
-    fits-inside args.index.now args.size args.page.0 (inside page) _ c.is-free-page.ensures
+    fits-inside args.index.now args.size args.page.0 (inside page) _ c.is_free_page.ensures
 
-pub free-fits-spec : {M : Type 1} → statement M
-free-fits-spec = tie.close (tie.spec is-page-requires returns is-free-page-requires returns-2)
+pub free_fits_spec : {M : Type 1} → statement M
+free_fits_spec = tie.close (tie.spec is-page-requires returns is-free-page-requires returns-2)

@@ -5,21 +5,21 @@ use Rattle.idx_sound.specs.AuditTest.{is_free_page}
 use Rattle.idx_free_list.proofs.is_free_page.Statement.{statement}
 use Rattle.idx_free_list.proofs.is_free_page.Tie as tie
 
-cast-at : tie.Need-overflow-cast-at
+cast-at : tie.Need-overflow_cast-at
 cast-at c = search rules
 
-is-zero-requires : tie.Need-is-zero-requires
+is-zero-requires : tie.Need-is_zero-requires
 is-zero-requires c κs = search rules
 
-add-is-zero : tie.Need-overflow-add-is-zero
+add-is-zero : tie.Need-overflow_add-at
 add-is-zero c = search rules
 
-is-zero-requires-2 : tie.Need-is-zero-requires-2
+is-zero-requires-2 : tie.Need-is_zero-requires-2
 is-zero-requires-2 c κs = search rules
 
 returns : tie.Need-returns
 unfolding is_free_page
 returns c = cc
 
-pub is-free-page-spec : {M : Type 1} → statement M
-is-free-page-spec = tie.close (tie.spec cast-at is-zero-requires add-is-zero is-zero-requires-2 returns)
+pub is_free_page_spec : {M : Type 1} → statement M
+is_free_page_spec = tie.close (tie.spec cast-at is-zero-requires add-is-zero is-zero-requires-2 returns)

@@ -17,89 +17,78 @@ abbrev start : tie.After-capacity → tie.Start
 start c = c.before.before.before
 
 -- the place where a page is taken, from where it is tested; and where the entries are too many, from there
-abbrev taking : tie.After-is-page → tie.After-take-page
+abbrev taking : tie.After-is_page → tie.After-take_page-taken
 taking c = c.before.before
 
-abbrev over : tie.After-take-page → tie.Else1
+abbrev over : tie.After-take_page-taken → tie.Else-count-capacity
 over c = c.before.before
 
 -- the entries fit the page, and they do not
-fit : (c : tie.Then1) → let args = (start c.before).args in length (items args.k args.count args.entries.now) ≤ capacity args.k
+fit : (c : tie.Then-count-capacity) → let args = (start c.before).args in length (items args.k args.count args.entries.now) ≤ capacity args.k
 fit c =
     let args = (start c.before).args in
-    rw (length-items args.k args.count args.entries.now) (omega (arith, c.if1.true, c.before.capacity.ensures))
+    rw (length-items args.k args.count args.entries.now) (omega (arith, c.if-count-capacity.true, c.capacity.ensures))
 
-too_many : (c : tie.Else1) → let args = (start c.before).args in capacity args.k < length (items args.k args.count args.entries.now)
+too_many : (c : tie.Else-count-capacity) → let args = (start c.before).args in capacity args.k < length (items args.k args.count args.entries.now)
 too_many c =
     let args = (start c.before).args in
-    rw (length-items args.k args.count args.entries.now) (omega (arith, c.if1.false, c.before.capacity.ensures))
+    rw (length-items args.k args.count args.entries.now) (omega (arith, c.if-count-capacity.false, c.capacity.ensures))
 
 capacity-requires : tie.Need-capacity-requires
 capacity-requires c κs = search rules
 
-with-entries-requires : tie.Need-with-entries-requires
+with-entries-requires : tie.Need-with_entries-requires
 with-entries-requires c κs =
     let tested = c.before in
-    whole-given (start tested.before).requires.0 (omega (arith, tested.if1.true, tested.before.capacity.ensures))
+    whole-given (start tested.before).requires.0 (omega (arith, tested.if-count-capacity.true, tested.capacity.ensures))
 
-same_length : tie.Need-same-length
+same_length : tie.Need-shape_of-index-then-count-capacity
 same_length c = search rules
 
-returns : tie.Need-returns
+returns : tie.Need-returns-then-count-capacity
 returns c =
     let written = c.before.before in
     let tested = written.before.before in
     let args = (start tested.before).args in
-    takes-kept args.k args.index.now args.page.0 _ args.supply (fit tested) written.with_entries.ensures
+    takes-kept args.k args.index-1.now args.page.0 _ args.supply (fit tested) written.with_entries.ensures
 
-take-page-requires : tie.Need-take-page-requires
-take-page-requires c κs = (start c.before.before).requires.1
+take-page-requires : tie.Need-take_page-taken-requires
+take-page-requires c κs = (start c.before).requires.1
 
-is-page-requires : tie.Need-is-page-requires
+is-page-requires : tie.Need-is_page-requires
 is-page-requires c κs = search rules
 
-same-length-2 : tie.Need-same-length-2
+same-length-2 : tie.Need-shape_of-index-then-not-is_page
 same-length-2 c = search rules
 
-returns-2 : tie.Need-returns-2
+returns-2 : tie.Need-returns-then-not-is_page
 returns-2 c =
     let at-taking = taking c.before in
     let tested = over at-taking in
     let args = (start tested.before).args in
-    takes_none args.k args.index.now args.page.0 _ args.supply at-taking.take-page.ensures (too_many tested)
-    (failed c.before.is-page.ensures c.if2.true)
+    takes_none args.k args.index.now args.page.0 _ args.supply at-taking.take_page-taken.ensures (too_many tested)
+    (failed c.is_page.ensures c.if-not-is_page.true-raw)
 
-split-page-requires : tie.Need-split-page-requires
+split-page-requires : tie.Need-split_page-requires
 split-page-requires c κs =
     let page = c.before in
     let tested = over (taking page.before) in
-    ((start tested.before).requires.0, passed page.before.is-page.ensures page.if2.false)
+    ((start tested.before).requires.0, passed page.is_page.ensures page.if-not-is_page.false-raw)
 
-same-length-3 : tie.Need-same-length-3
+same-length-3 : tie.Need-shape_of-index
 same-length-3 c = search rules
 
-returns-3 : tie.Need-returns-3
+returns-3 : tie.Need-returns
 returns-3 c =
     let halved = c.before.before.before in
     let page = halved.before.before in
     let at-taking = taking page.before in
     let tested = over at-taking in
     let args = (start tested.before).args in
-    takes-split args.k args.index.now args.page.0 _ args.supply at-taking.take-page.ensures (too_many tested)
-    (passed page.before.is-page.ensures page.if2.false) halved.split-page.ensures
+    takes-split args.k args.index.now args.page.0 _ args.supply at-taking.take_page-taken.ensures (too_many tested)
+    (passed page.is_page.ensures page.if-not-is_page.false-raw) halved.split_page.ensures
 
-pub take-in-spec : {M : Type 1} → statement M
-take-in-spec =
+pub take_in_spec : {M : Type 1} → statement M
+take_in_spec =
     tie.close
-    (tie.spec
-    capacity-requires
-    with-entries-requires
-    same_length
-    returns
-    take-page-requires
-    is-page-requires
-    same-length-2
-    returns-2
-    split-page-requires
-    same-length-3
-    returns-3)
+    (tie.spec capacity-requires with-entries-requires same_length returns take-page-requires is-page-requires same-length-2 returns-2 split-page-requires same-length-3 returns-3)

@@ -10,102 +10,88 @@ use Rattle.idx_insert_page.proofs.take_in_two.Statement.{statement}
 use Rattle.idx_insert_page.proofs.take_in_two.Tie as tie
 
 -- the places: the call's start, from where the entries are counted; where there are some, from where they are gathered
-abbrev start : tie.After-entry-count → tie.Start
-start c = c.before.before.before.before.before
+abbrev start : tie.After-entry_count-count → tie.Start
+start c = c.before.before.before.before.before-UNKNOWN
 
-abbrev before-gathering : tie.After-gather-two → tie.Else1
+abbrev before-gathering : tie.After-gather_two → tie.Else-count-i
 before-gathering c = c.before.before.before
 
 -- the page's entries are counted
-counted : (c : tie.After-entry-count) → let args = (start c).args in
-    Listed args.index.now (length args.key.now) args.page.0 c.entry-count.result
-counted c = let pre = (start c).requires in record { key = pre.0; page = pre.1; count = c.entry-count.ensures }
+counted : (c : tie.After-entry_count-count) → let args = (start c).args in
+    Listed args.index.now (length args.key.now) args.page.0 c.entry_count-count.result
+counted c = let pre = (start c).requires in record { key = pre.0; page = pre.1; count = c.entry_count-count.ensures }
 
 -- the products of sizes, with all entries before the new one
-products : (c : tie.After-entry-count) → let args = (start c).args in
-    Spread args.index.now (length args.key.now) args.page.0 c.entry-count.result c.entry-count.result
+products : (c : tie.After-entry_count-count) → let args = (start c).args in
+    Spread args.index.now (length args.key.now) args.page.0 c.entry_count-count.result c.entry_count-count.result
 products c = spread _ (counted c) (omega arith)
 
-entry-count-requires : tie.Need-entry-count-requires
+entry-count-requires : tie.Need-entry_count-count-requires
 entry-count-requires c κs = search rules
 
-same_length : tie.Need-same-length
+same_length : tie.Need-shape_of-index-then-count-i
 same_length c = search rules
 
-returns : tie.Need-returns
+returns : tie.Need-returns-then-count-i
 returns c =
     let count = c.before in
-    two_for_none _ _ _ _ _ _ _ _ (omega (arith, count.entry-count.ensures, c.if1.true))
+    two_for_none _ _ _ _ _ _ _ _ (omega (arith, count.entry_count-count.ensures, c.if-count-i.true))
 
-gather-two-requires : tie.Need-gather-two-requires
+gather-two-requires : tie.Need-gather_two-requires
 gather-two-requires c κs =
     let some = c.before.before in
-    (counted some.before, some.if1.false, (start some.before).requires.3)
+    (counted some, some.if-count-i.false, (start some).requires.3)
 
-add-size : tie.Need-overflow-add-size
+add-size : tie.Need-overflow_add-size
 add-size c = let s = products (before-gathering c.before.before).before in omega arith
 
-add-size-2 : tie.Need-overflow-add-size-2
+add-size-2 : tie.Need-overflow_add-size-2
 add-size-2 c = search rules
 
-mul-size : tie.Need-overflow-mul-size
+mul-size : tie.Need-overflow_mul-size
 mul-size c = let s = products (before-gathering c.before.before).before in omega arith
 
-add-take-in : tie.Need-overflow-add-take-in
+add-take-in : tie.Need-overflow_add-count
 add-take-in c = let s = products (before-gathering c.before.before.before).before in omega arith
 
-slice-reshare-prefix-take-in : tie.Need-slice-reshare-prefix-take-in
+slice-reshare-prefix-take-in : tie.Need-slice_bounds-take_in-end
 slice-reshare-prefix-take-in c =
     let gathered = c.before.before.before in
     let count = (before-gathering gathered).before in
-    let s = products count in
-    omega (arith, gathered.gather-two.auto.0, (start count).pre.3)
+    let s = products count.before in
+    omega (arith, gathered.gather_two.auto.0, (start count.before).pre.3)
 
-slice-aggregate-take-in : tie.Need-slice-aggregate-take-in
+slice-aggregate-take-in : tie.Need-slice_bounds-take_in-end-2
 slice-aggregate-take-in c =
     let gathered = c.before.before.before.before in
     let count = (before-gathering gathered).before in
-    let s = products count in
-    simp length-take (omega (arith, gathered.gather-two.auto.0, (start count).pre.3))
+    let s = products count.before in
+    simp length-take (omega (arith, gathered.gather_two.auto.0, (start count.before).pre.3))
 
-take-in-requires : tie.Need-take-in-requires
+take-in-requires : tie.Need-take_in-requires
 take-in-requires c κs =
     let gathered = c.before.before.before.before in
     let count = (before-gathering gathered).before in
-    (one_more _ (counted count) (omega (arith, gathered.gather-two.auto.0, (start count).pre.3)), (start count).pre.2)
+    (one_more _ (counted count.before) (omega (arith, gathered.gather_two.auto.0, (start count.before).pre.3)), (start count.before).pre.2)
 
-same-length-2 : tie.Need-same-length-2
+same-length-2 : tie.Need-shape_of-index
 same-length-2 c = search rules
 
-same-length-3 : tie.Need-same-length-3
+same-length-3 : tie.Need-shape_of-room
 same-length-3 c = search rules
 
-returns-2 : tie.Need-returns-2
+returns-2 : tie.Need-returns
 returns-2 c =
     let taken_in = c.before.before in
     let gathered = taken_in.before.before.before.before.before in
     let some = before-gathering gathered in
     let count = some.before in
     let key = (start count).args.key.now in
-    two_for_some _ _ _ _ _ _ _ _ _ (omega (arith, count.entry-count.ensures, some.if1.left))
-    (two-read key _ _ _ _ (counted count) some.if1.left (start count).pre.3 gathered.gather-two.ensures)
+    two_for_some _ _ _ _ _ _ _ _ _ (omega (arith, count.entry_count-count.ensures, some.if-count-i.left))
+    (two-read key _ _ _ _ (counted count) some.if-count-i.left (start count).pre.3 gathered.gather_two.ensures)
     taken_in.take_in.ensures
 
-pub take-in-two-spec : {M : Type 1} → statement M
-take-in-two-spec =
+pub take_in_two_spec : {M : Type 1} → statement M
+take_in_two_spec =
     tie.close
-    (tie.spec
-    entry-count-requires
-    same_length
-    returns
-    gather-two-requires
-    add-size
-    add-size-2
-    mul-size
-    add-take-in
-    slice-reshare-prefix-take-in
-    slice-aggregate-take-in
-    take-in-requires
-    same-length-2
-    same-length-3
-    returns-2)
+    (tie.spec entry-count-requires same_length returns gather-two-requires add-size add-size-2 mul-size add-take-in slice-reshare-prefix-take-in slice-aggregate-take-in take-in-requires same-length-2 same-length-3 returns-2)

@@ -11,10 +11,10 @@ use Rattle.idx_insert_pair.proofs.insert_pair.Statement.{statement}
 use Rattle.idx_insert_pair.proofs.insert_pair.Tie as tie
 
 -- the places: the call's start, from where the supply is known; that place, from where the pair is inserted under the root
-abbrev start : tie.After-supply-of → tie.Start
-start c = c.before.before.before.before.before.before
+abbrev start : tie.After-supply_of-supply → tie.Start
+start c = c.before.before.before.before.before.before-UNKNOWN
 
-abbrev at-supply : tie.After-insert-under → tie.After-supply-of
+abbrev at-supply : tie.After-insert_under-below → tie.After-supply_of-supply
 at-supply c = c.before.before.before
 
 -- the header is good, and the key is no longer than the longest key
@@ -24,40 +24,40 @@ header s = good-header _ s.requires.0
 short : (s : tie.Start) → length s.args.key.now ≤ max_key
 short s = let h = header s in omega (arith, s.requires.1)
 
-root-requires : tie.Need-root-requires
-root-requires c κs = (header c.before.before.before).long
+root-requires : tie.Need-root-root-requires
+root-requires c κs = (header c.before.before).long
 
-supply-of-requires : tie.Need-supply-of-requires
+supply-of-requires : tie.Need-supply_of-supply-requires
 supply-of-requires c κs =
-    let at-start = c.before.before.before.before.before in
+    let at-start = c.before.before.before.before.before-UNKNOWN in
     (header at-start).long
 
-slice-aggregate-insert-under : tie.Need-slice-aggregate-insert-under
+slice-aggregate-insert-under : tie.Need-slice_bounds-insert_under-end
 slice-aggregate-insert-under c = search rules
 
-insert-under-requires : tie.Need-insert-under-requires
+insert-under-requires : tie.Need-insert_under-below-requires
 insert-under-requires c κs =
     let supply = c.before.before in
     let at-start = start supply in
     let h = header at-start in
-    (short at-start, rw supply.supply-of.ensures (omega (arith, header_lasts _ h)), search rules)
+    (short at-start, rw supply.supply_of-supply.ensures (omega (arith, header_lasts _ h)), search rules)
 
-slice-aggregate-at-root : tie.Need-slice-aggregate-at-root
+slice-aggregate-at-root : tie.Need-slice_bounds-at_root-end
 slice-aggregate-at-root c = search rules
 
-at-root-requires : tie.Need-at-root-requires
+at-root-requires : tie.Need-at_root-requires
 at-root-requires c κs =
     let below = c.before.before.before.before.before in
     let supply = at-supply below in
     let at-start = start supply in
     let h = header at-start in (
       short at-start,
-      omega (arith, below.insert-under.auto.0),
-      next_fits _ _ _ _ _ _ below.insert-under.result below.insert-under.ensures (rw supply.supply-of.ensures (omega (arith, header_lasts _ h))),
-      omega (arith, below.insert-under.auto.1),
+      omega (arith, below.insert_under-below.auto.0),
+      next_fits _ _ _ _ _ _ below.insert_under-below.result below.insert_under-below.ensures (rw supply.supply_of-supply.ensures (omega (arith, header_lasts _ h))),
+      omega (arith, below.insert_under-below.auto.1),
     )
 
-same_length : tie.Need-same-length
+same_length : tie.Need-shape_of-index
 same_length c = search rules
 
 returns : tie.Need-returns
@@ -66,18 +66,10 @@ returns c =
     let below = finished.before.before.before.before.before.before in
     let supply = at-supply below in
     let at-start = start supply in
-    pair_inserted _ at-start.args.key.now _ at-start.pre.1 supply.before.before.root.ensures supply.supply-of.ensures
-    below.insert-under.ensures finished.at-root.ensures
+    pair_inserted _ at-start.args.key.now _ at-start.pre.1 supply.root-root.ensures supply.supply_of-supply.ensures
+    below.insert_under-below.ensures finished.at_root.ensures
 
-pub insert-pair-spec : {M : Type 1} → statement M
-insert-pair-spec =
+pub insert_pair_spec : {M : Type 1} → statement M
+insert_pair_spec =
     tie.close
-    (tie.spec
-    root-requires
-    supply-of-requires
-    slice-aggregate-insert-under
-    insert-under-requires
-    slice-aggregate-at-root
-    at-root-requires
-    same_length
-    returns)
+    (tie.spec root-requires supply-of-requires slice-aggregate-insert-under insert-under-requires slice-aggregate-at-root at-root-requires same_length returns)

@@ -8,28 +8,28 @@ use borrow.Author.Rules.{rules}
 use Rattle.idx_keys.proofs.key_order.Statement.{statement}
 use Rattle.idx_keys.proofs.key_order.Tie as tie
 
-add-x-end : tie.Need-overflow-add-x-end
+add-x-end : tie.Need-overflow_add-x_end
 add-x-end c = search rules
 
-add-y-end : tie.Need-overflow-add-y-end
+add-y-end : tie.Need-overflow_add-y_end
 add-y-end c = search rules
 
-sub-compare : tie.Need-overflow-sub-compare
+sub-compare : tie.Need-slice_bounds-compare-count
 sub-compare c = search rules
 
-part-compare-start : tie.Need-slice-bounds-compare-start
+part-compare-start : tie.Need-slice_bounds-compare-start
 part-compare-start c = search rules
 
-part-compare-end : tie.Need-slice-bounds-compare-end
+part-compare-end : tie.Need-slice_bounds-compare-end
 part-compare-end c = search rules
 
-sub-compare-2 : tie.Need-overflow-sub-compare-2
+sub-compare-2 : tie.Need-slice_bounds-compare-count-2
 sub-compare-2 c = search rules
 
-part-compare-start-2 : tie.Need-slice-bounds-compare-start-2
+part-compare-start-2 : tie.Need-slice_bounds-compare-start-2
 part-compare-start-2 c = search rules
 
-part-compare-end-2 : tie.Need-slice-bounds-compare-end-2
+part-compare-end-2 : tie.Need-slice_bounds-compare-end-2
 part-compare-end-2 c = search rules
 
 compare-requires : tie.Need-compare-requires
@@ -44,17 +44,7 @@ returns c =
     let f : args.y + args.k - args.y ≡ args.k = omega arith in
     c.compare.ensures ∙ rw (e, f)
 
-pub key-order-spec : {M : Type 1} → statement M
-key-order-spec =
+pub key_order_spec : {M : Type 1} → statement M
+key_order_spec =
     tie.close
-    (tie.spec
-    add-x-end
-    add-y-end
-    sub-compare
-    part-compare-start
-    part-compare-end
-    sub-compare-2
-    part-compare-start-2
-    part-compare-end-2
-    compare-requires
-    returns)
+    (tie.spec add-x-end add-y-end sub-compare part-compare-start part-compare-end sub-compare-2 part-compare-start-2 part-compare-end-2 compare-requires returns)

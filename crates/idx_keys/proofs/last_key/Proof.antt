@@ -8,37 +8,37 @@ use borrow.Author.Rules.{rules}
 use Rattle.idx_keys.proofs.last_key.Statement.{statement}
 use Rattle.idx_keys.proofs.last_key.Tie as tie
 
-entry-count-requires : tie.Need-entry-count-requires
+entry-count-requires : tie.Need-entry_count-count-requires
 entry-count-requires c κs = search rules
 
-returns : tie.Need-returns
+returns : tie.Need-returns-then-count-eq0
 returns c =
-    let pre = c.before.before.before.requires in
-    let n = c.before.entry-count.ensures in
-    let empty = c.if1.true in
+    let pre = c.requires in
+    let n = c.entry_count-count.ensures in
+    let empty = c.if-count-eq0.true in
     (last_none _ _ _ _ _ n empty, omega arith, last_pair_none _ _ _ _ _ n empty)
 
-sub-entry-offset : tie.Need-overflow-sub-entry-offset
+sub-entry-offset : tie.Need-overflow_sub-count
 sub-entry-offset c = search rules
 
-entry-offset-requires : tie.Need-entry-offset-requires
+entry-offset-requires : tie.Need-entry_offset-requires
 entry-offset-requires c κs =
-    let n = c.before.entry-count in
-    let some = c.if1.false in
-    let w = entry-within ((entries-within _ _ _ _ _ n.ensures c.before.before.before.requires).each (n.result - 1) (omega arith)) in
+    let n = c.entry_count-count in
+    let some = c.if-count-eq0.false in
+    let w = entry-within ((entries-within _ _ _ _ _ n.ensures c.requires).each (n.result - 1) (omega arith)) in
     search rules
 
-returns-2 : tie.Need-returns-2
+returns-2 : tie.Need-returns
 returns-2 c =
     let tested = c.before in
     let counted = tested.before in
-    let n = counted.entry-count in
-    let some = tested.if1.false in
-    let w = entry-within ((entries-within _ _ _ _ _ n.ensures counted.before.before.requires).each (n.result - 1) (omega arith)) in
-    let at = c.entry-offset.ensures in
+    let n = counted.entry_count-count in
+    let some = tested.if-count-eq0.false in
+    let w = entry-within ((entries-within _ _ _ _ _ n.ensures counted.requires).each (n.result - 1) (omega arith)) in
+    let at = c.entry_offset.ensures in
     (last_some _ _ _ _ _ _ n.ensures some at, omega arith, last_pair_some _ _ _ _ _ _ n.ensures some at)
 
-pub last-key-spec : {M : Type 1} → statement M
-last-key-spec =
+pub last_key_spec : {M : Type 1} → statement M
+last_key_spec =
     tie.close
     (tie.spec entry-count-requires returns sub-entry-offset entry-offset-requires returns-2)

@@ -6,32 +6,27 @@ use borrow.Author.Rules.{rules}
 use Rattle.idx_layout.proofs.link_beyond.Statement.{statement}
 use Rattle.idx_layout.proofs.link_beyond.Tie as tie
 
-is-page-requires : tie.Need-is-page-requires
+is-page-requires : tie.Need-is_page-requires
 is-page-requires c κs = search rules
 
-link-left-requires : tie.Need-link-left-requires
-link-left-requires c κs = (is-page _ _ (sym c.before.before.is-page.ensures ∙ c.before.if1.true)).high
+link-left-requires : tie.Need-link_left-requires
+link-left-requires c κs = (is-page _ _ (sym c.is_page.ensures ∙ c.if-is_page.true)).high
 
-same_length : tie.Need-same-length
+same_length : tie.Need-shape_of-index
 same_length c = search rules
 
-returns : tie.Need-returns
+returns : tie.Need-returns-then-is_page
 unfolding link_beyond
 returns c =
     let linked = c.before.before in
     let tested = linked.before.before in
-    rw (sym tested.before.is-page.ensures ∙ tested.if1.true) linked.link_left.ensures
+    rw (sym tested.is_page.ensures ∙ tested.if-is_page.true) linked.link_left.ensures
 
-returns-2 : tie.Need-returns-2
+returns-2 : tie.Need-returns-else-is_page
 unfolding link_beyond
-returns-2 c = rw (sym c.before.is-page.ensures ∙ c.if1.false)
+returns-2 c = rw (sym c.is_page.ensures ∙ c.if-is_page.false)
 
-pub link-beyond-spec : {M : Type 1} → statement M
-link-beyond-spec =
+pub link_beyond_spec : {M : Type 1} → statement M
+link_beyond_spec =
     tie.close
-    (tie.spec
-    is-page-requires
-    link-left-requires
-    same_length
-    returns
-    returns-2)
+    (tie.spec is-page-requires link-left-requires same_length returns returns-2)

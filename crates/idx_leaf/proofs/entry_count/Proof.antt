@@ -5,11 +5,11 @@ use Rattle.idx_page.specs.ReadingLaws.{length-numbered}
 use Rattle.idx_leaf.proofs.entry_count.Statement.{statement}
 use Rattle.idx_leaf.proofs.entry_count.Tie as tie
 
-entry-count-requires : tie.Need-entry-count-requires
-entry-count-requires c κs = (c.before.requires, omega arith)
+entry-count-requires : tie.Need-entry_count-requires
+entry-count-requires c κs = (c.requires, omega arith)
 
 returns : tie.Need-returns
-returns c = c.entry-count.ensures ∙ length-numbered _ _ _ _
+returns c = c.entry_count.ensures ∙ length-numbered _ _ _ _
 
-pub entry-count-spec : {M : Type 1} → statement M
-entry-count-spec = tie.close (tie.spec entry-count-requires returns)
+pub entry_count_spec : {M : Type 1} → statement M
+entry_count_spec = tie.close (tie.spec entry-count-requires returns)

@@ -21,10 +21,10 @@ use Rattle.idx_leaf.proofs.is_present.Statement.{statement}
 use Rattle.idx_leaf.proofs.is_present.Tie as tie
 
 -- the places: the call's start, from where the entries are counted; that place, from where the search has ended
-abbrev start : tie.After-entry-count → tie.Start
+abbrev start : tie.After-entry_count-count → tie.Start
 start c = c.before.before.before
 
-abbrev at_count : tie.After-place → tie.After-entry-count
+abbrev at_count : tie.After-place-i → tie.After-entry_count-count
 at_count c = c.before
 
 -- the order of entries, and the pair
@@ -35,54 +35,54 @@ abbrev pair : tie.Start → Item
 pair s = stored s.args.key.now s.args.number.0
 
 -- the page's entries are counted
-counted : (c : tie.After-entry-count) → let args = (start c).args in
-    Listed args.index.now (length args.key.now) args.page.0 c.entry-count.result
-counted c = let pre = (start c).requires in record { key = pre.0; page = pre.1; count = c.entry-count.ensures }
+counted : (c : tie.After-entry_count-count) → let args = (start c).args in
+    Listed args.index.now (length args.key.now) args.page.0 c.entry_count-count.result
+counted c = let pre = (start c).requires in record { key = pre.0; page = pre.1; count = c.entry_count-count.ensures }
 
 -- the entry where the search has ended lies within the page
-inside : (c : tie.Else1) → let args = (start (at_count c.before)).args in
-    Within args.index.now (length args.key.now) args.page.0 (c.before.place.result + 1)
+inside : (c : tie.Else-i-count) → let args = (start (at_count c.before)).args in
+    Within args.index.now (length args.key.now) args.page.0 (c.place-i.result + 1)
 inside c =
     let found = c.before in
     let count = at_count found in
     let s = start count in
-    within-entry _ (listed-within (counted count)) (omega (arith, search_le (order s) (pair s) (counted count) found.place.ensures, c.if1.false))
+    within-entry _ (listed-within (counted count)) (omega (arith, search_le (order s) (pair s) (counted count) found.place-i.ensures, c.if-i-count.false))
 
-entry-count-requires : tie.Need-entry-count-requires
+entry-count-requires : tie.Need-entry_count-count-requires
 entry-count-requires c κs = search rules
 
-place-requires : tie.Need-place-requires
+place-requires : tie.Need-place-i-requires
 place-requires c κs = counted c
 
-returns : tie.Need-returns
+returns : tie.Need-returns-then-i-count
 returns c =
     let found = c.before in
     let s = start (at_count found) in
-    search_absent (order s) (pair s) (counted (at_count found)) found.place.ensures c.if1.true
+    search_absent (order s) (pair s) (counted (at_count found)) found.place-i.ensures c.if-i-count.true
 
 several-requires : tie.Need-several-requires
 several-requires c κs = let p = is-page _ _ (start (at_count c.before)).requires.1 in omega arith
 
-pair-up-to-requires : tie.Need-pair-up-to-requires
+pair-up-to-requires : tie.Need-pair_up_to-requires
 pair-up-to-requires c κs = inside c.before.before
 
-returns-2 : tie.Need-returns-2
+returns-2 : tie.Need-returns-then-several
 returns-2 c =
     let several = c.before.before in
     let test = several.before in
     let found = test.before in
     let s = start (at_count found) in
-    c.pair-up-to.ensures
-    ∙ there_record (features s.args.index.now) (sym several.several.ensures ∙ c.before.if2.true) (pair s) (counted (at_count found))
-    found.place.ensures test.if1.false
+    c.pair_up_to.ensures
+    ∙ there_record (features s.args.index.now) (sym several.several.ensures ∙ c.if-several.true) (pair s) (counted (at_count found))
+    found.place-i.ensures test.if-i-count.false
 
-compare-entry-requires : tie.Need-compare-entry-requires
+compare-entry-requires : tie.Need-compare_entry-requires
 compare-entry-requires c κs = inside c.before.before
 
-is-equal-requires : tie.Need-is-equal-requires
+is-equal-requires : tie.Need-is_equal-requires
 is-equal-requires c κs = search rules
 
-returns-3 : tie.Need-returns-3
+returns-3 : tie.Need-returns
 returns-3 c =
     let compared = c.before in
     let distinct = compared.before in
@@ -90,20 +90,11 @@ returns-3 c =
     let test = several.before in
     let found = test.before in
     let s = start (at_count found) in
-    c.is-equal.ensures
-    ∙ there-key (features s.args.index.now) (sym several.several.ensures ∙ distinct.if2.false) s.args.key.now (to_be32 s.args.number.0)
-    (counted (at_count found)) found.place.ensures test.if1.false compared.compare-entry.ensures
+    c.is_equal.ensures
+    ∙ there-key (features s.args.index.now) (sym several.several.ensures ∙ distinct.if-several.false) s.args.key.now (to_be32 s.args.number.0)
+    (counted (at_count found)) found.place-i.ensures test.if-i-count.false compared.compare_entry.ensures
 
-pub is-present-spec : {M : Type 1} → statement M
-is-present-spec =
+pub is_present_spec : {M : Type 1} → statement M
+is_present_spec =
     tie.close
-    (tie.spec
-    entry-count-requires
-    place-requires
-    returns
-    several-requires
-    pair-up-to-requires
-    returns-2
-    compare-entry-requires
-    is-equal-requires
-    returns-3)
+    (tie.spec entry-count-requires place-requires returns several-requires pair-up-to-requires returns-2 compare-entry-requires is-equal-requires returns-3)

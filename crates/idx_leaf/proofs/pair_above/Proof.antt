@@ -7,46 +7,40 @@ use Rattle.idx_leaf.proofs.pair_above.Statement.{statement}
 use Rattle.idx_leaf.proofs.pair_above.Tie as tie
 
 -- the call's start, from where the keys are compared
-abbrev start : tie.After-compare-entry → tie.Start
+abbrev start : tie.After-compare_entry-order → tie.Start
 start c = c.before.before.before
 
-compare-entry-requires : tie.Need-compare-entry-requires
+compare-entry-requires : tie.Need-compare_entry-order-requires
 compare-entry-requires c κs = search rules
 
-record-number-requires : tie.Need-record-number-requires
+record-number-requires : tie.Need-record_number-other-requires
 record-number-requires c κs = search rules
 
-is-equal-requires : tie.Need-is-equal-requires
+is-equal-requires : tie.Need-is_equal-requires
 is-equal-requires c κs = search rules
 
-returns : tie.Need-returns
+returns : tie.Need-returns-then-is_equal
 returns c =
     let tested = c.before.before.before in
     let told = tested.before in
     let compared = told.before in
     let args = (start compared).args in
-    equal-above args.index.now args.key.now args.page.0 args.i args.number.0 compared.compare-entry.ensures (search rules)
-    told.record-number.ensures (sym tested.is-equal.ensures ∙ c.before.before.if1.true)
+    equal-above args.index.now args.key.now args.page.0 args.i args.number.0 compared.compare_entry-order.ensures (search rules)
+    told.record_number-other.ensures (sym tested.is_equal.ensures ∙ c.if-is_equal.true)
 
-is-below-requires : tie.Need-is-below-requires
+is-below-requires : tie.Need-is_below-requires
 is-below-requires c κs = search rules
 
-returns-2 : tie.Need-returns-2
+returns-2 : tie.Need-returns
 returns-2 c =
     let tested = c.before.before in
     let compared = tested.before.before in
     let args = (start compared).args in
     ap not c.is_below.ensures
-    ∙ differ_above args.index.now args.key.now args.page.0 args.i args.number.0 compared.compare-entry.ensures
-    (sym tested.is-equal.ensures ∙ c.before.if1.false)
+    ∙ differ_above args.index.now args.key.now args.page.0 args.i args.number.0 compared.compare_entry-order.ensures
+    (sym tested.is_equal.ensures ∙ c.if-is_equal.false)
 
-pub pair-above-spec : {M : Type 1} → statement M
-pair-above-spec =
+pub pair_above_spec : {M : Type 1} → statement M
+pair_above_spec =
     tie.close
-    (tie.spec
-    compare-entry-requires
-    record-number-requires
-    is-equal-requires
-    returns
-    is-below-requires
-    returns-2)
+    (tie.spec compare-entry-requires record-number-requires is-equal-requires returns is-below-requires returns-2)

@@ -13,65 +13,56 @@ use Rattle.idx_leaf.specs.PairLaws.{passed-end, passed_stop, passed_on}
 use Rattle.idx_leaf.proofs.pairs_below.Statement.{statement}
 use Rattle.idx_leaf.proofs.pairs_below.Tie as tie
 
-abbrev invariant-loop : tie.invariant-loop
+abbrev invariant-loop : tie.invariant-loop-i
 invariant-loop index key number page count i₀ i =
     let k = length key in
     let item : Item = stored key number.0 in
     (i ≤ count) × (passed_count (item_order 0) item (items_from k index page.0 count 0)
     ≡ i + passed_count (item_order 0) item (items_from k index page.0 (count - i) i))
 
-abbrev decreases-loop : tie.decreases-loop
+abbrev decreases-loop : tie.decreases-loop-i
 decreases-loop index key number page count i₀ i = count - i
 
 -- the call's start, from the loop's head, and the pair
-abbrev start : tie.At-loop invariant-loop decreases-loop → tie.Start invariant-loop decreases-loop
+abbrev start : tie.At-loop-i invariant-loop decreases-loop → tie.Start invariant-loop decreases-loop
 start c = c.before.before.before
 
-abbrev pair : tie.At-loop invariant-loop decreases-loop → Item
+abbrev pair : tie.At-loop-i invariant-loop decreases-loop → Item
 pair c = let args = (start c).args in stored args.key.now args.number.0
 
-loop-holds : tie.Need-loop-init invariant-loop decreases-loop
+loop-holds : tie.Need-loop-i-init invariant-loop decreases-loop
 loop-holds c = (search rules, rw sub-zero (sym (zero-add _)))
 
-pair-above-requires : tie.Need-pair-above-requires invariant-loop decreases-loop
-pair-above-requires c κs = within-entry c.before.loop.i (listed-within (start c.before).pre) (search rules)
+pair-above-requires : tie.Need-pair_above-requires invariant-loop decreases-loop
+pair-above-requires c κs = within-entry c.loop-i.i (listed-within (start c.before).pre) (search rules)
 
-returns : tie.Need-returns invariant-loop decreases-loop
+returns : tie.Need-returns-then-pair_above invariant-loop decreases-loop
 returns c =
     let compared = c.before in
     let loop = compared.before.before in
     let args = (start loop).args in
-    passed_stop _ _ _ (pair loop) _ loop.loop.i loop.loop.invariant.1 (search rules) (sym compared.pair-above.ensures ∙ c.if1.true)
+    passed_stop _ _ _ (pair loop) _ loop.loop-i.i loop.loop-i.invariant.1 (search rules) (sym compared.pair_above.ensures ∙ c.if-pair_above.true)
     ∙ ap (passed_count (item_order 0) (pair loop)) (sym (listed (start loop).requires))
 
-add-i : tie.Need-overflow-add-i invariant-loop decreases-loop
+add-i : tie.Need-overflow_add-i invariant-loop decreases-loop
 add-i c = search rules
 
-loop-less : tie.Need-loop-smaller invariant-loop decreases-loop
+loop-less : tie.Need-loop-i-smaller invariant-loop decreases-loop
 loop-less c = search rules
 
-loop-again : tie.Need-loop-preserved invariant-loop decreases-loop
+loop-again : tie.Need-loop-i-preserved invariant-loop decreases-loop
 loop-again c =
     let compared = c.before in
     let loop = compared.before.before in
-    (search rules, passed_on _ _ _ (pair loop) _ loop.loop.i loop.loop.invariant.1 (search rules) (sym compared.pair-above.ensures ∙ c.if1.false))
+    (search rules, passed_on _ _ _ (pair loop) _ loop.loop-i.i loop.loop-i.invariant.1 (search rules) (sym compared.pair_above.ensures ∙ c.if-pair_above.false))
 
-returns-2 : tie.Need-returns-2 invariant-loop decreases-loop
+returns-2 : tie.Need-returns invariant-loop decreases-loop
 returns-2 c =
     let loop = c.before in
-    passed-end _ _ _ (pair loop) _ loop.loop.i loop.loop.invariant.1 (search rules)
+    passed-end _ _ _ (pair loop) _ loop.loop-i.i loop.loop-i.invariant.1 (search rules)
     ∙ ap (passed_count (item_order 0) (pair loop)) (sym (listed (start loop).requires))
 
-pub pairs-below-spec : {M : Type 1} → statement M
-pairs-below-spec =
+pub pairs_below_spec : {M : Type 1} → statement M
+pairs_below_spec =
     tie.close
-    (tie.spec
-    invariant-loop
-    decreases-loop
-    loop-holds
-    pair-above-requires
-    returns
-    add-i
-    loop-less
-    loop-again
-    returns-2)
+    (tie.spec invariant-loop decreases-loop loop-holds pair-above-requires returns add-i loop-less loop-again returns-2)

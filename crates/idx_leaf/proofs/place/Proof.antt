@@ -19,33 +19,33 @@ abbrev start : tie.After-several → tie.Start
 start c = c.before.before.before
 
 several-requires : tie.Need-several-requires
-several-requires c κs = let p = is-page _ _ c.before.before.requires.page in omega arith
+several-requires c κs = let p = is-page _ _ c.requires.page in omega arith
 
-pairs-below-requires : tie.Need-pairs-below-requires
+pairs-below-requires : tie.Need-pairs_below-requires
 pairs-below-requires c κs = search rules
 
-returns : tie.Need-returns
+returns : tie.Need-returns-then-several
 returns c =
     let tested = c.before.before in
     let args = (start tested).args in
     c.pairs_below.ensures
     ∙ ap (λ (le : Item → Item → Bool). passed_count le (stored args.key.now args.number.0)
     (items_in (length args.key.now) args.index.now args.page.0))
-    (sym (order_record (features args.index.now) (sym tested.several.ensures ∙ c.before.if1.true)))
+    (sym (order_record (features args.index.now) (sym tested.several.ensures ∙ c.if-several.true)))
 
-first-at-or-above-requires : tie.Need-first-at-or-above-requires
+first-at-or-above-requires : tie.Need-first_at_or_above-requires
 first-at-or-above-requires c κs = listed-within (start c.before).requires
 
-returns-2 : tie.Need-returns-2
+returns-2 : tie.Need-returns
 returns-2 c =
     let tested = c.before.before in
     let args = (start tested).args in
-    key-passed args.key.now (to_be32 args.number.0) (start tested).requires c.first-at-or-above.ensures.0
+    key-passed args.key.now (to_be32 args.number.0) (start tested).requires c.first_at_or_above.ensures.0
     ∙ ap (λ (le : Item → Item → Bool). passed_count le (stored args.key.now args.number.0)
     (items_in (length args.key.now) args.index.now args.page.0))
-    (sym (order-key (features args.index.now) (sym tested.several.ensures ∙ c.before.if1.false)))
+    (sym (order-key (features args.index.now) (sym tested.several.ensures ∙ c.if-several.false)))
 
-pub place-spec : {M : Type 1} → statement M
-place-spec =
+pub place_spec : {M : Type 1} → statement M
+place_spec =
     tie.close
     (tie.spec several-requires pairs-below-requires returns first-at-or-above-requires returns-2)

@@ -6,17 +6,17 @@ use Rattle.idx_leaves.specs.ComparedLaws.{most_bytes}
 use Rattle.idx_leaves.proofs.compared.Statement.{statement}
 use Rattle.idx_leaves.proofs.compared.Tie as tie
 
-more-compared-requires : tie.Need-more-compared-requires
+more-compared-requires : tie.Need-more_compared-requires
 more-compared-requires c κs = search rules
 
-add-result : tie.Need-overflow-add-result
+add-result : tie.Need-overflow_add-result
 add-result c =
-    let most = most_bytes (features c.before.before.args.index.now) in
-    let more = c.more-compared.ensures in
+    let most = most_bytes (features c.args.index.now) in
+    let more = c.more_compared.ensures in
     search rules
 
 returns : tie.Need-returns
-returns c = rw (← c.more-compared.ensures)
+returns c = rw (← c.more_compared.ensures)
 
-pub compared-spec : {M : Type 1} → statement M
-compared-spec = tie.close (tie.spec more-compared-requires add-result returns)
+pub compared_spec : {M : Type 1} → statement M
+compared_spec = tie.close (tie.spec more-compared-requires add-result returns)

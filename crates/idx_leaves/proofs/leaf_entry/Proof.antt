@@ -8,13 +8,13 @@ use borrow.Author.Rules.{rules}
 use Rattle.idx_leaves.proofs.leaf_entry.Statement.{statement}
 use Rattle.idx_leaves.proofs.leaf_entry.Tie as tie
 
-record-at-requires : tie.Need-record-at-requires
+record-at-requires : tie.Need-record_at-requires
 record-at-requires c κs = search rules
 
-returns : tie.Need-returns
-returns c = leaf-zero _ _ _ _ _ c.before.before.record-at.ensures c.if1.true
+returns : tie.Need-returns-then-record_at-eq0
+returns c = leaf-zero _ _ _ _ _ c.record_at.ensures c.if-record_at-eq0.true
 
-key-order-requires : tie.Need-key-order-requires
+key-order-requires : tie.Need-key_order-requires
 key-order-requires c κs =
     let read = c.before.before in
     let start = read.before.before in
@@ -22,18 +22,18 @@ key-order-requires c κs =
     let pre = start.requires in
     (omega (arith, most, pre.1, pre.3), omega (arith, most, pre.0, pre.3))
 
-is-below-requires : tie.Need-is-below-requires
+is-below-requires : tie.Need-is_below-requires
 is-below-requires c κs = search rules
 
-returns-2 : tie.Need-returns-2
+returns-2 : tie.Need-returns
 returns-2 c =
     let ordered = c.before in
     let tested = ordered.before in
     let read = tested.before.before in
     let known = read.before in
-    let pre = known.before.requires in
-    leaf-later _ _ _ _ _ read.record-at.ensures tested.if1.false _ _ _ (λ j. (known.shared-slice-known.given j).fits)
-    pre.1 pre.0 pre.2 pre.3 ordered.key-order.ensures c.is_below.ensures
+    let pre = known.requires in
+    leaf-later _ _ _ _ _ read.record_at.ensures tested.if-record_at-eq0.false _ _ _ (λ j. (known.shared_slice_known-1.given j).fits)
+    pre.1 pre.0 pre.2 pre.3 ordered.key_order.ensures c.is_below.ensures
 
-pub leaf-entry-spec : {M : Type 1} → statement M
-leaf-entry-spec = tie.close (tie.spec record-at-requires returns key-order-requires is-below-requires returns-2)
+pub leaf_entry_spec : {M : Type 1} → statement M
+leaf_entry_spec = tie.close (tie.spec record-at-requires returns key-order-requires is-below-requires returns-2)

@@ -9,11 +9,11 @@ use Rattle.idx_leaves.proofs.more_compared.Tie as tie
 several-requires : tie.Need-several-requires
 several-requires c κs = search rules
 
-returns : tie.Need-returns
-returns c = more_bytes (features c.before.before.before.args.index.now) c.before.several.ensures c.if1.true
+returns : tie.Need-returns-then-several
+returns c = more_bytes (features c.args.index.now) c.several.ensures c.if-several.true
 
-returns-2 : tie.Need-returns-2
-returns-2 c = no_more-bytes (features c.before.before.before.args.index.now) c.before.several.ensures c.if1.false
+returns-2 : tie.Need-returns
+returns-2 c = no_more-bytes (features c.args.index.now) c.several.ensures c.if-several.false
 
-pub more-compared-spec : {M : Type 1} → statement M
-more-compared-spec = tie.close (tie.spec several-requires returns returns-2)
+pub more_compared_spec : {M : Type 1} → statement M
+more_compared_spec = tie.close (tie.spec several-requires returns returns-2)

@@ -23,48 +23,41 @@ unfolding lookup_rule unless
 answer-is c = let asked = (start c).requires in rw (asked.0, eq-eqb _ _ asked.1)
 
 several-requires : tie.Need-several-requires
-several-requires c κs = (good-header _ c.before.before.requires.0).long
+several-requires c κs = (good-header _ c.requires.0).long
 
 root-requires : tie.Need-root-requires
 root-requires c κs = (good-header _ (start c.before).requires.0).long
 
-first-from-requires : tie.Need-first-from-requires
+first-from-requires : tie.Need-first_from-requires
 first-from-requires c κs = let s = start c.before.before in (search rules, s.pre.0, s.pre.1)
 
-returns : tie.Need-returns
+returns : tie.Need-returns-then-several
 returns c =
     let rooted = c.before in
     let tested = rooted.before.before in
     let args = (start tested).args in
-    c.first-from.ensures
+    c.first_from.ensures
     ∙ rw rooted.root.ensures
-    (sym (steps_record args.index.now args.key.now (features args.index.now) (sym tested.several.ensures ∙ rooted.before.if1.true)))
+    (sym (steps_record args.index.now args.key.now (features args.index.now) (sym tested.several.ensures ∙ rooted.if-several.true)))
     ∙ answer-is tested
 
 root-requires-2 : tie.Need-root-requires-2
 root-requires-2 c κs = (good-header _ (start c.before).requires.0).long
 
-lookup-from-requires : tie.Need-lookup-from-requires
+lookup-from-requires : tie.Need-lookup_from-requires
 lookup-from-requires c κs = let s = start c.before.before in (search rules, s.pre.0, s.pre.1)
 
-returns-2 : tie.Need-returns-2
+returns-2 : tie.Need-returns
 returns-2 c =
     let rooted = c.before in
     let tested = rooted.before.before in
     let args = (start tested).args in
-    c.lookup-from.ensures
-    ∙ rw rooted.root2.ensures
-    (sym (steps-key args.index.now args.key.now (features args.index.now) (sym tested.several.ensures ∙ rooted.before.if1.false)))
+    c.lookup_from.ensures
+    ∙ rw rooted.root-2.ensures
+    (sym (steps-key args.index.now args.key.now (features args.index.now) (sym tested.several.ensures ∙ rooted.if-several.false)))
     ∙ answer-is tested
 
-pub lookup-from-root-spec : {M : Type 1} → statement M
-lookup-from-root-spec =
+pub lookup_from_root_spec : {M : Type 1} → statement M
+lookup_from_root_spec =
     tie.close
-    (tie.spec
-    several-requires
-    root-requires
-    first-from-requires
-    returns
-    root-requires-2
-    lookup-from-requires
-    returns-2)
+    (tie.spec several-requires root-requires first-from-requires returns root-requires-2 lookup-from-requires returns-2)

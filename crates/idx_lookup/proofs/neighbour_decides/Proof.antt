@@ -15,57 +15,50 @@ use Rattle.idx_lookup.proofs.neighbour_decides.Statement.{statement}
 use Rattle.idx_lookup.proofs.neighbour_decides.Tie as tie
 
 -- the places: where the function starts, and past the first test
-abbrev start : tie.Else1 → tie.Start
+abbrev start : tie.Else-right-eq-NO_PAGE → tie.Start
 start c = c.before.before.before.before
 
-abbrev some : tie.After-page-good → tie.Else1
+abbrev some : tie.After-page_good → tie.Else-right-eq-NO_PAGE
 some c = c.before.before
 
 -- what the test of the page says
-tested : (c : tie.After-page-good) → let args = (start (some c)).args in
-    c.page-good.result ≡ page_good args.index.now (length args.key.now) (file_size args.index.now) args.right.0 false true
-tested c = cc (c.page-good.ensures, c.before.file-size.ensures)
+tested : (c : tie.After-page_good) → let args = (start (some c)).args in
+    c.page_good.result ≡ page_good args.index.now (length args.key.now) (file_size args.index.now) args.right.0 false true
+tested c = cc (c.page_good.ensures, c.file_size.ensures)
 
-returns : tie.Need-returns
-returns c = neighbour-none _ _ _ _ c.if1.true
+returns : tie.Need-returns-then-right-eq-NO_PAGE
+returns c = neighbour-none _ _ _ _ c.if-right-eq-NO_PAGE.true
 
-file-size-requires : tie.Need-file-size-requires
+file-size-requires : tie.Need-file_size-requires
 file-size-requires c κs = (good-header _ (start c).requires.1).long
 
-page-good-requires : tie.Need-page-good-requires
+page-good-requires : tie.Need-page_good-requires
 page-good-requires c κs = let s = start c.before in let h = good-header _ s.pre.1 in omega (arith, s.pre.2)
 
-returns-2 : tie.Need-returns-2
-returns-2 c = let right = some c.before in neighbour-bad _ _ _ _ right.if1.left (failed (tested c.before) c.if2.true)
+returns-2 : tie.Need-returns-then-not-page_good
+returns-2 c = let right = some c.before in neighbour-bad _ _ _ _ right.if-right-eq-NO_PAGE.left (failed (tested c.before) c.if-not-page_good.true-raw)
 
-add-entry-decides : tie.Need-overflow-add-entry-decides
+add-entry-decides : tie.Need-overflow_add-pages
 add-entry-decides c = omega (arith, (start (some c.before)).requires.0)
 
-entry-decides-requires : tie.Need-entry-decides-requires
+entry-decides-requires : tie.Need-entry_decides-requires
 entry-decides-requires c κs =
     let s = start (some c.before) in
     let h = good-header _ s.pre.1 in
-    let good = passed (tested c.before) c.if2.false in
+    let good = passed (tested c.before) c.if-not-page_good.false-raw in
     let args = s.args in
     within-entry 0
     (within-page args.index.now (length args.key.now) (file_size args.index.now) args.right.0 false true
     (omega (arith, s.pre.2)) h.within good)
     (omega (arith, page-some args.index.now (length args.key.now) (file_size args.index.now) args.right.0 true good))
 
-returns-3 : tie.Need-returns-3
+returns-3 : tie.Need-returns
 returns-3 c =
     let good = c.before in
     let right = some good.before in
-    c.entry-decides.ensures ∙ neighbour-good _ _ _ _ right.if1.left (passed (tested good.before) good.if2.false)
+    c.entry_decides.ensures ∙ neighbour-good _ _ _ _ right.if-right-eq-NO_PAGE.left (passed (tested good.before) good.if-not-page_good.false-raw)
 
-pub neighbour-decides-spec : {M : Type 1} → statement M
-neighbour-decides-spec =
+pub neighbour_decides_spec : {M : Type 1} → statement M
+neighbour_decides_spec =
     tie.close
-    (tie.spec
-    returns
-    file-size-requires
-    page-good-requires
-    returns-2
-    add-entry-decides
-    entry-decides-requires
-    returns-3)
+    (tie.spec returns file-size-requires page-good-requires returns-2 add-entry-decides entry-decides-requires returns-3)

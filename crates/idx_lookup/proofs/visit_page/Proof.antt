@@ -16,7 +16,7 @@ use Rattle.idx_lookup.proofs.visit_page.Statement.{statement}
 use Rattle.idx_lookup.proofs.visit_page.Tie as tie
 
 -- the place where the function starts
-abbrev start : tie.After-page-good → tie.Start
+abbrev start : tie.After-page_good → tie.Start
 start c = c.before.before.before.before
 
 -- the test with the file's size put in, of any values
@@ -24,31 +24,31 @@ sized : (b : List ℕ) (k size p : ℕ) (first last r : Bool) → r ≡ page_goo
 sized b k size p first last r good e = rw e at good
 
 -- what the test of the page says
-tested : (c : tie.After-page-good) → let args = (start c).args in
-    c.page-good.result ≡ page_good args.index.now (length args.key.now) (file_size args.index.now) args.page.0 args.first args.last
-tested c = sized _ _ _ _ _ _ _ c.page-good.ensures c.before.file-size.ensures
+tested : (c : tie.After-page_good) → let args = (start c).args in
+    c.page_good.result ≡ page_good args.index.now (length args.key.now) (file_size args.index.now) args.page.0 args.first args.last
+tested c = sized _ _ _ _ _ _ _ c.page_good.ensures c.file_size.ensures
 
-file-size-requires : tie.Need-file-size-requires
-file-size-requires c κs = (good-header _ c.before.before.requires.0).long
+file-size-requires : tie.Need-file_size-requires
+file-size-requires c κs = (good-header _ c.requires.0).long
 
-page-good-requires : tie.Need-page-good-requires
-page-good-requires c κs = let h = good-header _ c.before.before.before.requires.0 in omega arith
+page-good-requires : tie.Need-page_good-requires
+page-good-requires c κs = let h = good-header _ c.requires.0 in omega arith
 
-returns : tie.Need-returns
+returns : tie.Need-returns-then-not-page_good
 unfolding visit_rule
-returns c = rw (failed (tested c.before) c.if1.true, visit_rule)
+returns c = rw (failed (tested c.before) c.if-not-page_good.true-raw, visit_rule)
 
-search-page-requires : tie.Need-search-page-requires
+search-page-requires : tie.Need-search_page-requires
 search-page-requires c κs =
     let pre = (start c.before).requires in
     let h = good-header _ pre.0 in
-    within-page _ _ _ _ _ _ (omega (arith, pre.1)) h.within (passed (tested c.before) c.if1.false)
+    within-page _ _ _ _ _ _ (omega (arith, pre.1)) h.within (passed (tested c.before) c.if-not-page_good.false-raw)
 
-returns-2 : tie.Need-returns-2
+returns-2 : tie.Need-returns
 unfolding visit_rule
-returns-2 c = rw (passed (tested c.before.before) c.before.if1.false, visit_rule) c.search-page.ensures
+returns-2 c = rw (passed (tested c.before.before) c.if-not-page_good.false-raw, visit_rule) c.search_page.ensures
 
-pub visit-page-spec : {M : Type 1} → statement M
-visit-page-spec =
+pub visit_page_spec : {M : Type 1} → statement M
+visit_page_spec =
     tie.close
     (tie.spec file-size-requires page-good-requires returns search-page-requires returns-2)

@@ -9,68 +9,56 @@ use borrow.Author.Rules.{rules}
 use Rattle.idx_match.proofs.first_leaf.Statement.{statement}
 use Rattle.idx_match.proofs.first_leaf.Tie as tie
 
-abbrev invariant-loop : tie.invariant-loop
+abbrev invariant-loop : tie.invariant-loop-left
 invariant-loop index k size page₀ left₀ page left = (left ≤ max_levels - 1) × FirstLeft index k size page₀.0 page.0 left
 
-abbrev decreases-loop : tie.decreases-loop
+abbrev decreases-loop : tie.decreases-loop-left
 decreases-loop index k size page₀ left₀ page left = left
 
-root-requires : tie.Need-root-requires invariant-loop decreases-loop
+root-requires : tie.Need-root-page-requires invariant-loop decreases-loop
 root-requires c κs = search rules
 
-sub-left : tie.Need-overflow-sub-left invariant-loop decreases-loop
+sub-left : tie.Need-overflow_sub-left invariant-loop decreases-loop
 sub-left c = search rules
 
-loop-holds : tie.Need-loop-init invariant-loop decreases-loop
+loop-holds : tie.Need-loop-left-init invariant-loop decreases-loop
 loop-holds c = (search rules, refl)
 
-leaf-at-requires : tie.Need-leaf-at-requires invariant-loop decreases-loop
+leaf-at-requires : tie.Need-leaf_at-requires invariant-loop decreases-loop
 leaf-at-requires c κs = search rules
 
-returns : tie.Need-returns invariant-loop decreases-loop
+returns : tie.Need-returns-then-leaf_at invariant-loop decreases-loop
 returns c =
     let at-loop = c.before.before.before in
-    first_stop _ _ _ _ _ at-loop.loop.left at-loop.loop.invariant.1 (sym c.before.leaf-at.ensures ∙ c.if1.true)
-    ∙ rw at-loop.before.root.ensures
+    first_stop _ _ _ _ _ at-loop.loop-left.left at-loop.loop-left.invariant.1 (sym c.leaf_at.ensures ∙ c.if-leaf_at.true)
+    ∙ rw at-loop.root-page.ensures
 
-first-child-requires : tie.Need-first-child-requires invariant-loop decreases-loop
+first-child-requires : tie.Need-first_child-page-requires invariant-loop decreases-loop
 first-child-requires c κs = search rules
 
-sub-left-2 : tie.Need-overflow-sub-left-2 invariant-loop decreases-loop
+sub-left-2 : tie.Need-overflow_sub-left-in-loop-left invariant-loop decreases-loop
 sub-left-2 c = search rules
 
-loop-less : tie.Need-loop-smaller invariant-loop decreases-loop
+loop-less : tie.Need-loop-left-smaller invariant-loop decreases-loop
 loop-less c = search rules
 
-loop-again : tie.Need-loop-preserved invariant-loop decreases-loop
+loop-again : tie.Need-loop-left-preserved invariant-loop decreases-loop
 loop-again c =
     let tested = c.before in
     let in-loop = tested.before.before in
     let at-loop = in-loop.before in
-    let more = in-loop.loop-test.true in (
+    let more = in-loop.loop-left-test.true in (
       search rules,
-      first_on _ _ _ _ _ at-loop.loop.left at-loop.loop.invariant.1 _ (λ z. omega (arith, more, z))
-          (sym tested.before.leaf-at.ensures ∙ tested.if1.false) c.first-child.ensures,
+      first_on _ _ _ _ _ at-loop.loop-left.left at-loop.loop-left.invariant.1 _ (λ z. omega (arith, more, z))
+          (sym tested.leaf_at.ensures ∙ tested.if-leaf_at.false) c.first_child-page.ensures,
     )
 
-returns-2 : tie.Need-returns-2 invariant-loop decreases-loop
+returns-2 : tie.Need-returns invariant-loop decreases-loop
 returns-2 c =
     let at-loop = c.before in
-    first-end _ _ _ _ _ at-loop.loop.left at-loop.loop.invariant.1 (search rules) ∙ rw at-loop.before.root.ensures
+    first-end _ _ _ _ _ at-loop.loop-left.left at-loop.loop-left.invariant.1 (search rules) ∙ rw at-loop.root-page.ensures
 
-pub first-leaf-spec : {M : Type 1} → statement M
-first-leaf-spec =
+pub first_leaf_spec : {M : Type 1} → statement M
+first_leaf_spec =
     tie.close
-    (tie.spec
-    invariant-loop
-    decreases-loop
-    root-requires
-    sub-left
-    loop-holds
-    leaf-at-requires
-    returns
-    first-child-requires
-    sub-left-2
-    loop-less
-    loop-again
-    returns-2)
+    (tie.spec invariant-loop decreases-loop root-requires sub-left loop-holds leaf-at-requires returns first-child-requires sub-left-2 loop-less loop-again returns-2)

@@ -5,12 +5,12 @@ use Rattle.idx_page.specs.Page.{attribute_good}
 use Rattle.idx_page.proofs.attribute_good.Statement.{statement}
 use Rattle.idx_page.proofs.attribute_good.Tie as tie
 
-is-leaf-requires : tie.Need-is-leaf-requires
+is-leaf-requires : tie.Need-is_leaf-requires
 is-leaf-requires c κs = search rules
 
 returns : tie.Need-returns
 unfolding attribute_good
 returns c = rw c.is_IsLeaf.ensures
 
-pub attribute-good-spec : {M : Type 1} → statement M
-attribute-good-spec = tie.close (tie.spec is-leaf-requires returns)
+pub attribute_good_spec : {M : Type 1} → statement M
+attribute_good_spec = tie.close (tie.spec is-leaf-requires returns)

@@ -11,22 +11,22 @@ use Rattle.idx_page.proofs.compare_entry.Statement.{statement}
 use Rattle.idx_page.proofs.compare_entry.Tie as tie
 
 -- the place where the function starts
-abbrev start : tie.After-entry-offset → tie.Start
+abbrev start : tie.After-entry_offset-start → tie.Start
 start c = c.before.before.before
 
-entry-offset-requires : tie.Need-entry-offset-requires
+entry-offset-requires : tie.Need-entry_offset-start-requires
 entry-offset-requires c κs = search rules
 
-add-end : tie.Need-overflow-add-end
+add-end : tie.Need-overflow_add-end
 add-end c = let w = entry-within (start c).requires in omega arith
 
-sub-compare : tie.Need-overflow-sub-compare
+sub-compare : tie.Need-slice_bounds-compare-count
 sub-compare c = search rules
 
-part-compare-start : tie.Need-slice-bounds-compare-start
+part-compare-start : tie.Need-slice_bounds-compare-start
 part-compare-start c = search rules
 
-part-compare-end : tie.Need-slice-bounds-compare-end
+part-compare-end : tie.Need-slice_bounds-compare-end
 part-compare-end c = let w = entry-within (start c).requires in omega arith
 
 compare-requires : tie.Need-compare-requires
@@ -35,19 +35,12 @@ compare-requires c κs = search rules
 returns : tie.Need-returns
 unfolding window
 returns c =
-    let args = c.before.before.before.before.before.args in
-    let at = c.before.before.entry-offset in
+    let args = c.args in
+    let at = c.entry_offset-start in
     let e : at.result + length args.key.now - at.result ≡ length args.key.now = omega arith in
     c.compare.ensures ∙ rw (e, at.ensures)
 
-pub compare-entry-spec : {M : Type 1} → statement M
-compare-entry-spec =
+pub compare_entry_spec : {M : Type 1} → statement M
+compare_entry_spec =
     tie.close
-    (tie.spec
-    entry-offset-requires
-    add-end
-    sub-compare
-    part-compare-start
-    part-compare-end
-    compare-requires
-    returns)
+    (tie.spec entry-offset-requires add-end sub-compare part-compare-start part-compare-end compare-requires returns)

@@ -12,5 +12,5 @@ returns : tie.Need-returns
 unfolding count_good
 returns c = rw c.capacity.ensures
 
-pub count-good-spec : {M : Type 1} → statement M
-count-good-spec = tie.close (tie.spec capacity-requires returns)
+pub count_good_spec : {M : Type 1} → statement M
+count_good_spec = tie.close (tie.spec capacity-requires returns)

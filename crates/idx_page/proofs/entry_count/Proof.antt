@@ -12,44 +12,37 @@ use Rattle.idx_page.proofs.entry_count.Statement.{statement}
 use Rattle.idx_page.proofs.entry_count.Tie as tie
 
 -- what the test of the offset says if it is passed
-inside : (c : tie.Else1) → let args = c.before.before.before.args in is_page args.size args.page.0 ≡ true
-inside c = passed c.before.is-page.ensures c.if1.false
+inside : (c : tie.Else-not-is_page) → let args = c.args in is_page args.size args.page.0 ≡ true
+inside c = passed c.is_page.ensures c.if-not-is_page.false-raw
 
-is-page-requires : tie.Need-is-page-requires
+is-page-requires : tie.Need-is_page-requires
 is-page-requires c κs = search rules
 
-returns : tie.Need-returns
-returns c = count_none _ _ _ _ (failed c.before.is-page.ensures c.if1.true)
+returns : tie.Need-returns-then-not-is_page
+returns c = count_none _ _ _ _ (failed c.is_page.ensures c.if-not-is_page.true-raw)
 
-at-requires : tie.Need-at-requires
+at-requires : tie.Need-at-head-requires
 at-requires c κs = let o = is-page _ _ (inside c) in omega arith
 
-cast-count : tie.Need-overflow-cast-count
+cast-count : tie.Need-overflow_cast-count
 cast-count c = search rules
 
-capacity-requires : tie.Need-capacity-requires
+capacity-requires : tie.Need-capacity-most-requires
 capacity-requires c κs = search rules
 
-returns-2 : tie.Need-returns-2
+returns-2 : tie.Need-returns-then-count-most
 returns-2 c =
     let limit = c.before in
     let head = limit.before.before in
-    count-read _ _ _ _ (inside head.before) _ head.at.ensures.1.0 (rw limit.capacity.ensures at c.if2.true)
+    count-read _ _ _ _ (inside head.before) _ head.at-head.ensures.1.0 (rw limit.capacity-most.ensures at c.if-count-most.true)
 
-returns-3 : tie.Need-returns-3
+returns-3 : tie.Need-returns
 returns-3 c =
     let limit = c.before in
     let head = limit.before.before in
-    limit.capacity.ensures ∙ count-full _ _ _ _ (inside head.before) _ head.at.ensures.1.0 (rw limit.capacity.ensures at c.if2.false)
+    limit.capacity-most.ensures ∙ count-full _ _ _ _ (inside head.before) _ head.at-head.ensures.1.0 (rw limit.capacity-most.ensures at c.if-count-most.false)
 
-pub entry-count-spec : {M : Type 1} → statement M
-entry-count-spec =
+pub entry_count_spec : {M : Type 1} → statement M
+entry_count_spec =
     tie.close
-    (tie.spec
-    is-page-requires
-    returns
-    at-requires
-    cast-count
-    capacity-requires
-    returns-2
-    returns-3)
+    (tie.spec is-page-requires returns at-requires cast-count capacity-requires returns-2 returns-3)

@@ -7,17 +7,17 @@ use Rattle.idx_page.specs.PageLaws.{entry-within}
 use Rattle.idx_page.proofs.entry_number.Statement.{statement}
 use Rattle.idx_page.proofs.entry_number.Tie as tie
 
-entry-offset-requires : tie.Need-entry-offset-requires
+entry-offset-requires : tie.Need-entry_offset-requires
 entry-offset-requires c κs = search rules
 
-add-load-be32 : tie.Need-overflow-add-load-be32
-add-load-be32 c = let w = entry-within c.before.before.requires in omega arith
+add-load-be32 : tie.Need-overflow_add-entry_offset
+add-load-be32 c = let w = entry-within c.requires in omega arith
 
-load-be32-requires : tie.Need-load-be32-requires
-load-be32-requires c κs = let w = entry-within c.before.before.requires in omega arith
+load-be32-requires : tie.Need-load_be32-requires
+load-be32-requires c κs = let w = entry-within c.requires in omega arith
 
 returns : tie.Need-returns
-returns c = c.load-be32.ensures ∙ rw c.before.entry-offset.ensures
+returns c = c.load_be32.ensures ∙ rw c.entry_offset.ensures
 
-pub entry-number-spec : {M : Type 1} → statement M
-entry-number-spec = tie.close (tie.spec entry-offset-requires add-load-be32 load-be32-requires returns)
+pub entry_number_spec : {M : Type 1} → statement M
+entry_number_spec = tie.close (tie.spec entry-offset-requires add-load-be32 load-be32-requires returns)

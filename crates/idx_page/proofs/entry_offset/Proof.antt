@@ -8,27 +8,27 @@ use Rattle.idx_page.specs.Page.{entry_offset}
 use Rattle.idx_page.proofs.entry_offset.Statement.{statement}
 use Rattle.idx_page.proofs.entry_offset.Tie as tie
 
-cast-result : tie.Need-overflow-cast-result
+cast-result : tie.Need-overflow_cast-result
 cast-result c = search rules
 
-add-result : tie.Need-overflow-add-result
+add-result : tie.Need-overflow_add-result
 add-result c = search rules
 
-add-result-2 : tie.Need-overflow-add-result-2
+add-result-2 : tie.Need-overflow_add-result-2
 add-result-2 c = search rules
 
-mul-result : tie.Need-overflow-mul-result
+mul-result : tie.Need-overflow_mul-result
 unfolding entry_offset
-mul-result c = omega (arith, entries-inside c.before.args.k c.before.args.page.0 c.before.args.i c.before.requires.1)
+mul-result c = omega (arith, entries-inside c.args.k c.args.page.0 c.args.i c.requires.1)
 
-add-result-3 : tie.Need-overflow-add-result-3
+add-result-3 : tie.Need-overflow_add-result-3
 unfolding entry_offset
-add-result-3 c = omega (arith, entries-inside c.before.args.k c.before.args.page.0 c.before.args.i c.before.requires.1)
+add-result-3 c = omega (arith, entries-inside c.args.k c.args.page.0 c.args.i c.requires.1)
 
 returns : tie.Need-returns
 unfolding entry_offset
 returns c = refl
 
-pub entry-offset-spec : {M : Type 1} → statement M
-entry-offset-spec =
+pub entry_offset_spec : {M : Type 1} → statement M
+entry_offset_spec =
     tie.close (tie.spec cast-result add-result add-result-2 mul-result add-result-3 returns)

@@ -5,15 +5,15 @@ use Rattle.idx_page.specs.Header.{is_page}
 use Rattle.idx_page.proofs.is_page.Statement.{statement}
 use Rattle.idx_page.proofs.is_page.Tie as tie
 
-cast-at : tie.Need-overflow-cast-at
+cast-at : tie.Need-overflow_cast-at
 cast-at c = search rules
 
-add-result : tie.Need-overflow-add-result
+add-result : tie.Need-overflow_add-result
 add-result c = search rules
 
 returns : tie.Need-returns
 unfolding is_page
 returns c = search rules
 
-pub is-page-spec : {M : Type 1} → statement M
-is-page-spec = tie.close (tie.spec cast-at add-result returns)
+pub is_page_spec : {M : Type 1} → statement M
+is_page_spec = tie.close (tie.spec cast-at add-result returns)

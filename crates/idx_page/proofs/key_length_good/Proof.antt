@@ -9,5 +9,5 @@ returns : tie.Need-returns
 unfolding key_length_good
 returns c = search rules
 
-pub key-length-good-spec : {M : Type 1} → statement M
-key-length-good-spec = tie.close (tie.spec returns)
+pub key_length_good_spec : {M : Type 1} → statement M
+key_length_good_spec = tie.close (tie.spec returns)

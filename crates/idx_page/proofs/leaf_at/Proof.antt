@@ -10,25 +10,25 @@ use Rattle.idx_page.specs.HeaderLaws.{is-page}
 use Rattle.idx_page.proofs.leaf_at.Statement.{statement}
 use Rattle.idx_page.proofs.leaf_at.Tie as tie
 
-is-page-requires : tie.Need-is-page-requires
+is-page-requires : tie.Need-is_page-requires
 is-page-requires c κs = search rules
 
-returns : tie.Need-returns
+returns : tie.Need-returns-then-not-is_page
 unfolding is_leaf
-returns c = rw (failed c.before.is-page.ensures c.if1.true)
+returns c = rw (failed c.is_page.ensures c.if-not-is_page.true-raw)
 
-at-requires : tie.Need-at-requires
-at-requires c κs = let o = is-page _ _ (passed c.before.is-page.ensures c.if1.false) in omega arith
+at-requires : tie.Need-at-head-requires
+at-requires c κs = let o = is-page _ _ (passed c.is_page.ensures c.if-not-is_page.false-raw) in omega arith
 
-is-leaf-requires : tie.Need-is-leaf-requires
+is-leaf-requires : tie.Need-is_leaf-requires
 is-leaf-requires c κs = search rules
 
-returns-2 : tie.Need-returns-2
+returns-2 : tie.Need-returns
 unfolding is_leaf
 returns-2 c =
     let head = c.before in
     let tested = head.before in
-    rw (passed tested.before.is-page.ensures tested.if1.false) (c.is_IsLeaf.ensures ∙ ap leaf_bit head.at.ensures.0)
+    rw (passed tested.is_page.ensures tested.if-not-is_page.false-raw) (c.is_IsLeaf.ensures ∙ ap leaf_bit head.at-head.ensures.0)
 
-pub leaf-at-spec : {M : Type 1} → statement M
-leaf-at-spec = tie.close (tie.spec is-page-requires returns at-requires is-leaf-requires returns-2)
+pub leaf_at_spec : {M : Type 1} → statement M
+leaf_at_spec = tie.close (tie.spec is-page-requires returns at-requires is-leaf-requires returns-2)

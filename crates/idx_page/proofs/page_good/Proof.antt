@@ -19,37 +19,31 @@ page-tested : (b : List ℕ) (k size p : ℕ) (first last fits few : Bool) (attr
 unfolding page_good
 page-tested b k size p first last fits few attribute count page a n f g = rw (f, g, a, n, page)
 
-is-page-requires : tie.Need-is-page-requires
+is-page-requires : tie.Need-is_page-requires
 is-page-requires c κs = search rules
 
-returns : tie.Need-returns
+returns : tie.Need-returns-then-not-is_page
 unfolding page_good
-returns c = rw (failed c.before.is-page.ensures c.if1.true)
+returns c = rw (failed c.is_page.ensures c.if-not-is_page.true-raw)
 
-at-requires : tie.Need-at-requires
-at-requires c κs = let o = is-page _ _ (passed c.before.is-page.ensures c.if1.false) in omega arith
+at-requires : tie.Need-at-head-requires
+at-requires c κs = let o = is-page _ _ (passed c.is_page.ensures c.if-not-is_page.false-raw) in omega arith
 
-attribute-good-requires : tie.Need-attribute-good-requires
+attribute-good-requires : tie.Need-attribute_good-requires
 attribute-good-requires c κs = search rules
 
-count-good-requires : tie.Need-count-good-requires
+count-good-requires : tie.Need-count_good-requires
 count-good-requires c κs = search rules
 
-returns-2 : tie.Need-returns-2
+returns-2 : tie.Need-returns
 unfolding page_good
 returns-2 c =
     let tested = c.before.before.before in
-    page-tested _ _ _ _ _ _ _ _ _ _ (passed tested.before.is-page.ensures tested.if1.false) c.before.before.at.ensures.0
-    c.before.before.at.ensures.1.0
-    c.before.attribute-good.ensures c.count-good.ensures
+    page-tested _ _ _ _ _ _ _ _ _ _ (passed tested.is_page.ensures tested.if-not-is_page.false-raw) c.at-head.ensures.0
+    c.at-head.ensures.1.0
+    c.attribute_good.ensures c.count_good.ensures
 
-pub page-good-spec : {M : Type 1} → statement M
-page-good-spec =
+pub page_good_spec : {M : Type 1} → statement M
+page_good_spec =
     tie.close
-    (tie.spec
-    is-page-requires
-    returns
-    at-requires
-    attribute-good-requires
-    count-good-requires
-    returns-2)
+    (tie.spec is-page-requires returns at-requires attribute-good-requires count-good-requires returns-2)

@@ -13,5 +13,5 @@ byte-requires c κs = search rules
 returns : tie.Need-returns
 returns c = ap (λ (n : ℕ). eqb n 0) c.byte.ensures.0
 
-pub several-spec : {M : Type 1} → statement M
-several-spec = tie.close (tie.spec byte-requires returns)
+pub several_spec : {M : Type 1} → statement M
+several_spec = tie.close (tie.spec byte-requires returns)

@@ -6,11 +6,11 @@ use Rattle.idx_path.proofs.is_full.Tie as tie
 capacity-requires : tie.Need-capacity-requires
 capacity-requires c κs = search rules
 
-entry-count-requires : tie.Need-entry-count-requires
+entry-count-requires : tie.Need-entry_count-requires
 entry-count-requires c κs = search rules
 
 returns : tie.Need-returns
-returns c = rw (c.before.capacity.ensures, c.entry-count.ensures)
+returns c = rw (c.capacity.ensures, c.entry_count.ensures)
 
-pub is-full-spec : {M : Type 1} → statement M
-is-full-spec = tie.close (tie.spec capacity-requires entry-count-requires returns)
+pub is_full_spec : {M : Type 1} → statement M
+is_full_spec = tie.close (tie.spec capacity-requires entry-count-requires returns)

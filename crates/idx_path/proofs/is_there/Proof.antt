@@ -17,14 +17,14 @@ header s = good-header _ s.requires.0
 root-requires : tie.Need-root-requires
 root-requires c κs = (header c.before.before).long
 
-there-from-requires : tie.Need-there-from-requires
+there-from-requires : tie.Need-there_from-requires
 there-from-requires c κs = let h = header (start c) in omega (arith, (start c).requires.1)
 
 returns : tie.Need-returns
 returns c =
     let root = c.before in
     let args = (start root).args in
-    c.there-from.ensures ∙ there-told args.index.now args.key.now args.number.0 (start root).requires.1 root.root.ensures
+    c.there_from.ensures ∙ there-told args.index.now args.key.now args.number.0 (start root).requires.1 root.root.ensures
 
-pub is-there-spec : {M : Type 1} → statement M
-is-there-spec = tie.close (tie.spec root-requires there-from-requires returns)
+pub is_there_spec : {M : Type 1} → statement M
+is_there_spec = tie.close (tie.spec root-requires there-from-requires returns)

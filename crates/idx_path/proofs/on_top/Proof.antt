@@ -9,27 +9,27 @@ use borrow.Author.Rules.{rules}
 use Rattle.idx_path.proofs.on_top.Statement.{statement}
 use Rattle.idx_path.proofs.on_top.Tie as tie
 
-add-t5 : tie.Need-overflow-add-t5
+add-t5 : tie.Need-overflow_add-result
 add-t5 c = search rules
 
-add-t6 : tie.Need-overflow-add-t6
+add-t6 : tie.Need-overflow_add-result-then-full-path
 add-t6 c =
     let tested = c.before.before in
     let start = tested.before.before in
     let path = start.args.path in
-    let whole = (both start.args.full (eqb path.run path.levels) tested.if1.true).1 in
+    let whole = (both start.args.full (eqb path.run path.levels) tested.if-full-path.true).1 in
     let same : path.run ≡ path.levels = eqb-true path.run path.levels whole in
     let fits : path.run + 1 < 2 ^ 32 = omega (arith, start.requires) in
     record { fits = fits }
 
-returns : tie.Need-returns
-returns c = rw c.before.before.if1.true
+returns : tie.Need-returns-then-full-path
+returns c = rw c.if-full-path.true
 
-add-t7 : tie.Need-overflow-add-t7
+add-t7 : tie.Need-overflow_add-result-2
 add-t7 c = search rules
 
-returns-2 : tie.Need-returns-2
-returns-2 c = rw c.before.if1.false
+returns-2 : tie.Need-returns
+returns-2 c = rw c.if-full-path.false
 
-pub on-top-spec : {M : Type 1} → statement M
-on-top-spec = tie.close (tie.spec add-t5 add-t6 returns add-t7 returns-2)
+pub on_top_spec : {M : Type 1} → statement M
+on_top_spec = tie.close (tie.spec add-t5 add-t6 returns add-t7 returns-2)

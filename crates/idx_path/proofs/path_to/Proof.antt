@@ -16,14 +16,14 @@ header s = good-header _ s.requires.0
 root-requires : tie.Need-root-requires
 root-requires c κs = (header c.before.before).long
 
-path-from-requires : tie.Need-path-from-requires
+path-from-requires : tie.Need-path_from-requires
 path-from-requires c κs = let h = header (start c) in (omega (arith, (start c).requires.1), omega arith)
 
 returns : tie.Need-returns
 returns c =
     let root = c.before in
     let args = (start root).args in
-    path-told args.index.now args.key.now args.number.0 (start root).requires.1 root.root.ensures c.path-from.ensures
+    path-told args.index.now args.key.now args.number.0 (start root).requires.1 root.root.ensures c.path_from.ensures
 
-pub path-to-spec : {M : Type 1} → statement M
-path-to-spec = tie.close (tie.spec root-requires path-from-requires returns)
+pub path_to_spec : {M : Type 1} → statement M
+path_to_spec = tie.close (tie.spec root-requires path-from-requires returns)

@@ -3,11 +3,11 @@ use borrow.Author.Tests.{eq-eqb, ne_eqb}
 use Rattle.idx_path.proofs.root_split.Statement.{statement}
 use Rattle.idx_path.proofs.root_split.Tie as tie
 
-returns : tie.Need-returns
-returns c = rw (eq-eqb _ _ c.if1.true)
+returns : tie.Need-returns-then-path
+returns c = rw (eq-eqb _ _ c.if-path.true)
 
-returns-2 : tie.Need-returns-2
-returns-2 c = rw (ne_eqb _ _ c.if1.false)
+returns-2 : tie.Need-returns
+returns-2 c = rw (ne_eqb _ _ c.if-path.false)
 
-pub root-split-spec : {M : Type 1} → statement M
-root-split-spec = tie.close (tie.spec returns returns-2)
+pub root_split_spec : {M : Type 1} → statement M
+root_split_spec = tie.close (tie.spec returns returns-2)

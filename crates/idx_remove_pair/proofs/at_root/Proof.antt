@@ -5,45 +5,37 @@ use borrow.Author.Rules.{rules}
 use Rattle.idx_remove_pair.proofs.at_root.Statement.{statement}
 use Rattle.idx_remove_pair.proofs.at_root.Tie as tie
 
-enum_told : tie.Need-enum-told
+enum_told : tie.Need-enum_told-1
 enum_told c = search rules
 
-enum-told-2 : tie.Need-enum-told-2
+enum-told-2 : tie.Need-enum_told-in-Emptied
 enum-told-2 c = search rules
 
-empty-page-requires : tie.Need-empty-page-requires
+empty-page-requires : tie.Need-empty_page-requires
 empty-page-requires c κs =
     let told = c.before in
-    let start = told.before.before.before in
-    (is-page _ _ (emptied_is _ _ _ told.enum-told2.given.1 start.requires)).high
+    let start = told.before.before in
+    (is-page _ _ (emptied_is _ _ _ told.in-Emptied.is start.requires)).high
 
-enum-told-3 : tie.Need-enum-told-3
+enum-told-3 : tie.Need-enum_told-in-Bad
 enum-told-3 c = search rules
 
-returns : tie.Need-returns
-returns c = rw c.enum_told.given.1
+returns : tie.Need-returns-in-Kept
+returns c = rw c.in-Kept.is
 
-same_length : tie.Need-same-length
+same_length : tie.Need-shape_of-index
 same_length c = search rules
 
-returns-2 : tie.Need-returns-2
+returns-2 : tie.Need-returns-in-Emptied
 returns-2 c =
     let written = c.before.before in
     let told = written.before.before in
-    rw told.enum-told2.given.1 written.empty-page.ensures
+    rw told.in-Emptied.is written.empty_page.ensures
 
-returns-3 : tie.Need-returns-3
-returns-3 c = rw c.enum-told3.given.1
+returns-3 : tie.Need-returns-in-Bad
+returns-3 c = rw c.in-Bad.is
 
-pub at-root-spec : {M : Type 1} → statement M
-at-root-spec =
+pub at_root_spec : {M : Type 1} → statement M
+at_root_spec =
     tie.close
-    (tie.spec
-    enum_told
-    enum-told-2
-    empty-page-requires
-    enum-told-3
-    returns
-    same_length
-    returns-2
-    returns-3)
+    (tie.spec enum_told enum-told-2 empty-page-requires enum-told-3 returns same_length returns-2 returns-3)

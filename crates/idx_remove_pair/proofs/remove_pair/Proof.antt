@@ -7,33 +7,33 @@ use Rattle.idx_remove_pair.proofs.remove_pair.Statement.{statement}
 use Rattle.idx_remove_pair.proofs.remove_pair.Tie as tie
 
 -- the places: the call's start, from where the root is known; that place, from where the pair is removed under the root
-abbrev start : tie.After-root → tie.Start
-start c = c.before.before.before.before
+abbrev start : tie.After-root-root → tie.Start
+start c = c.before.before.before.before-UNKNOWN
 
-abbrev at-root-known : tie.After-remove-under → tie.After-root
+abbrev at-root-known : tie.After-remove_under-below → tie.After-root-root
 at-root-known c = c.before.before.before
 
 -- the header is good
 header : (s : tie.Start) → GoodHeader s.args.index.now
 header s = good-header _ s.requires.0
 
-root-requires : tie.Need-root-requires
-root-requires c κs = (header c.before.before.before).long
+root-requires : tie.Need-root-root-requires
+root-requires c κs = (header c.before.before).long
 
-slice-aggregate-remove-under : tie.Need-slice-aggregate-remove-under
+slice-aggregate-remove-under : tie.Need-slice_bounds-remove_under-end
 slice-aggregate-remove-under c = search rules
 
-remove-under-requires : tie.Need-remove-under-requires
+remove-under-requires : tie.Need-remove_under-below-requires
 remove-under-requires c κs =
     let at-start = start c.before.before in
     (omega (arith, at-start.pre.1, (header at-start).key-high), search rules)
 
-at-root-requires : tie.Need-at-root-requires
+at-root-requires : tie.Need-at_root-requires
 at-root-requires c κs =
-    let below = c.before.before.before.before.remove-under in
+    let below = c.remove_under-below in
     rw below.auto.0 (emptied-fits _ _ _ _ _ below.result below.ensures)
 
-same_length : tie.Need-same-length
+same_length : tie.Need-shape_of-index
 same_length c = search rules
 
 returns : tie.Need-returns
@@ -42,16 +42,10 @@ returns c =
     let below = finished.before.before.before.before.before in
     let root = at-root-known below in
     let at-start = start root in
-    pair_removed _ at-start.args.key.now at-start.args.number.0 at-start.pre.1 root.root.ensures
-    below.remove-under.ensures finished.at-root.ensures
+    pair_removed _ at-start.args.key.now at-start.args.number.0 at-start.pre.1 root.root-root.ensures
+    below.remove_under-below.ensures finished.at_root.ensures
 
-pub remove-pair-spec : {M : Type 1} → statement M
-remove-pair-spec =
+pub remove_pair_spec : {M : Type 1} → statement M
+remove_pair_spec =
     tie.close
-    (tie.spec
-    root-requires
-    slice-aggregate-remove-under
-    remove-under-requires
-    at-root-requires
-    same_length
-    returns)
+    (tie.spec root-requires slice-aggregate-remove-under remove-under-requires at-root-requires same_length returns)

@@ -12,27 +12,27 @@ use Rattle.idx_route.proofs.child_of.Statement.{statement}
 use Rattle.idx_route.proofs.child_of.Tie as tie
 
 -- the call's start, from where the entries are counted
-abbrev start : tie.After-entry-count → tie.Start
+abbrev start : tie.After-entry_count → tie.Start
 start c = c.before.before
 
 -- the page has entry i, so its entries are counted
-counted : (c : tie.Else1) → let args = (start c.before).args in Listed args.index.now args.k args.page.0 c.before.entry-count.result
-counted c = counted-some (start c.before).requires c.before.entry-count.ensures (omega (arith, c.if1.false))
+counted : (c : tie.Else-entry_count-i) → let args = (start c.before).args in Listed args.index.now args.k args.page.0 c.entry_count.result
+counted c = counted-some (start c.before).requires c.entry_count.ensures (omega (arith, c.if-entry_count-i.false))
 
-entry-count-requires : tie.Need-entry-count-requires
+entry-count-requires : tie.Need-entry_count-requires
 entry-count-requires c κs = search rules
 
-returns : tie.Need-returns
+returns : tie.Need-returns-then-entry_count-i
 returns c =
     let count = c.before in
     let args = (start count).args in
-    no_child args.i (items_in args.k args.index.now args.page.0) (omega (arith, count.entry-count.ensures, c.if1.true))
+    no_child args.i (items_in args.k args.index.now args.page.0) (omega (arith, count.entry_count.ensures, c.if-entry_count-i.true))
 
 child-requires : tie.Need-child-requires
-child-requires c κs = within-entry _ (listed-within (counted c)) c.if1.false
+child-requires c κs = within-entry _ (listed-within (counted c)) c.if-entry_count-i.false
 
-returns-2 : tie.Need-returns-2
-returns-2 c = c.child.ensures ∙ child-listed (counted c.before) _ c.before.if1.false
+returns-2 : tie.Need-returns
+returns-2 c = c.child.ensures ∙ child-listed (counted c.before) _ c.if-entry_count-i.false
 
-pub child-of-spec : {M : Type 1} → statement M
-child-of-spec = tie.close (tie.spec entry-count-requires returns child-requires returns-2)
+pub child_of_spec : {M : Type 1} → statement M
+child_of_spec = tie.close (tie.spec entry-count-requires returns child-requires returns-2)

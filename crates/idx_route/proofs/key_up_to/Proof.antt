@@ -8,36 +8,36 @@ use Rattle.idx_route.proofs.key_up_to.Statement.{statement}
 use Rattle.idx_route.proofs.key_up_to.Tie as tie
 
 -- the call's start, from where the keys are compared
-abbrev start : tie.After-compare-entry → tie.Start
+abbrev start : tie.After-compare_entry-order → tie.Start
 start c = c.before.before.before
 
-compare-entry-requires : tie.Need-compare-entry-requires
+compare-entry-requires : tie.Need-compare_entry-order-requires
 compare-entry-requires c κs = search rules
 
-is-equal-requires : tie.Need-is-equal-requires
+is-equal-requires : tie.Need-is_equal-requires
 is-equal-requires c κs = search rules
 
-returns : tie.Need-returns
+returns : tie.Need-returns-then-is_equal
 returns c =
     let tested = c.before in
     let compared = tested.before in
     let args = (start compared).args in
-    key_up_to (key_at args.index.now (length args.key.now) args.page.0 args.i) args.key.now compared.compare-entry.ensures
-    (sym tested.is-equal.ensures ∙ c.if1.true)
+    key_up_to (key_at args.index.now (length args.key.now) args.page.0 args.i) args.key.now compared.compare_entry-order.ensures
+    (sym tested.is_equal.ensures ∙ c.if-is_equal.true)
 
-is-below-requires : tie.Need-is-below-requires
+is-below-requires : tie.Need-is_below-requires
 is-below-requires c κs = search rules
 
-returns-2 : tie.Need-returns-2
+returns-2 : tie.Need-returns
 returns-2 c =
     let tested = c.before.before in
     let compared = tested.before in
     let args = (start compared).args in
     c.is_below.ensures
-    ∙ key-differs (key_at args.index.now (length args.key.now) args.page.0 args.i) args.key.now compared.compare-entry.ensures
-    (sym tested.is-equal.ensures ∙ c.before.if1.false)
+    ∙ key-differs (key_at args.index.now (length args.key.now) args.page.0 args.i) args.key.now compared.compare_entry-order.ensures
+    (sym tested.is_equal.ensures ∙ c.if-is_equal.false)
 
-pub key-up-to-spec : {M : Type 1} → statement M
-key-up-to-spec =
+pub key_up_to_spec : {M : Type 1} → statement M
+key_up_to_spec =
     tie.close
     (tie.spec compare-entry-requires is-equal-requires returns is-below-requires returns-2)

@@ -3,17 +3,17 @@
 use Rattle.idx_shape.proofs.attribute_of.Statement.{statement}
 use Rattle.idx_shape.proofs.attribute_of.Tie as tie
 
-returns : tie.Need-returns
-returns c = rw (c.before.if1.true, c.if2.true)
+returns : tie.Need-returns-then-leaf
+returns c = rw (c.if-root.true, c.if-leaf.true)
 
-returns-2 : tie.Need-returns-2
-returns-2 c = rw (c.before.if1.true, c.if2.false)
+returns-2 : tie.Need-returns-then-root
+returns-2 c = rw (c.if-root.true, c.if-leaf.false)
 
-returns-3 : tie.Need-returns-3
-returns-3 c = rw (c.before.if1.false, c.if3.true)
+returns-3 : tie.Need-returns-then-leaf-2
+returns-3 c = rw (c.if-root.false, c.if-leaf-2.true)
 
-returns-4 : tie.Need-returns-4
-returns-4 c = rw (c.before.if1.false, c.if3.false)
+returns-4 : tie.Need-returns
+returns-4 c = rw (c.if-root.false, c.if-leaf-2.false)
 
-pub attribute-of-spec : {M : Type 1} → statement M
-attribute-of-spec = tie.close (tie.spec returns returns-2 returns-3 returns-4)
+pub attribute_of_spec : {M : Type 1} → statement M
+attribute_of_spec = tie.close (tie.spec returns returns-2 returns-3 returns-4)

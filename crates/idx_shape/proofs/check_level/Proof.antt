@@ -16,90 +16,90 @@ use Rattle.idx_shape.specs.PassLaws.{PagesLeft, pages_off, pages-end, pages-on, 
 use Rattle.idx_shape.proofs.check_level.Statement.{statement}
 use Rattle.idx_shape.proofs.check_level.Tie as tie
 
-abbrev invariant-loop : tie.invariant-loop
+abbrev invariant-loop : tie.invariant-loop-left
 invariant-loop index k size attribute t₀ parent₀ left₀ t parent left =
     (left ≤ max_pages)
     × (t.good ≡ true)
     × PagesLeft index k size attribute parent₀.0 parent.0 left (progress_of t₀) (progress_of t)
 
-abbrev decreases-loop : tie.decreases-loop
+abbrev decreases-loop : tie.decreases-loop-left
 decreases-loop index k size attribute t₀ parent₀ left₀ t parent left = left
 
 -- the places: where the function starts, the loop's head, past the test of the page, past the count, past the children
-abbrev start : tie.At-loop invariant-loop decreases-loop → tie.Start invariant-loop decreases-loop
+abbrev start : tie.At-loop-left invariant-loop decreases-loop → tie.Start invariant-loop decreases-loop
 start c = c.before.before
 
-abbrev at-loop : tie.Else1 invariant-loop decreases-loop → tie.At-loop invariant-loop decreases-loop
+abbrev at-loop : tie.Else-not-is_page invariant-loop decreases-loop → tie.At-loop-left invariant-loop decreases-loop
 at-loop c = c.before.before.before
 
-abbrev entries : tie.After-count-pages invariant-loop decreases-loop → tie.After-entry-count invariant-loop decreases-loop
+abbrev entries : tie.After-count_pages-t invariant-loop decreases-loop → tie.After-entry_count-count invariant-loop decreases-loop
 entries c = c.before
 
-abbrev counted : tie.After-check-children invariant-loop decreases-loop → tie.After-count-pages invariant-loop decreases-loop
+abbrev counted : tie.After-check_children-t invariant-loop decreases-loop → tie.After-count_pages-t invariant-loop decreases-loop
 counted c = c.before.before.before
 
 -- the page is one of the file
-inside : (c : tie.Else1 invariant-loop decreases-loop) → is_page (start (at-loop c)).args.size (at-loop c).loop.parent.0 ≡ true
-inside c = passed c.before.is-page.ensures c.if1.false
+inside : (c : tie.Else-not-is_page invariant-loop decreases-loop) → is_page (start (at-loop c)).args.size (at-loop c).loop-left.parent.0 ≡ true
+inside c = passed c.is_page.ensures c.if-not-is_page.false-raw
 
-loop-holds : tie.Need-loop-init invariant-loop decreases-loop
-loop-holds c = (search rules, c.before.requires.1, refl)
+loop-holds : tie.Need-loop-left-init invariant-loop decreases-loop
+loop-holds c = (search rules, c.requires.1, refl)
 
-is-page-requires : tie.Need-is-page-requires invariant-loop decreases-loop
+is-page-requires : tie.Need-is_page-requires invariant-loop decreases-loop
 is-page-requires c κs = search rules
 
-returns : tie.Need-returns invariant-loop decreases-loop
+returns : tie.Need-returns-then-not-is_page invariant-loop decreases-loop
 returns c =
-    let loop = c.before.before.before.loop in
-    pages_off _ _ _ _ _ loop.parent.0 loop.left _ (progress_of loop.t) loop.invariant.2 (failed c.before.is-page.ensures c.if1.true)
+    let loop = c.loop-left in
+    pages_off _ _ _ _ _ loop.parent.0 loop.left _ (progress_of loop.t) loop.invariant.2 (failed c.is_page.ensures c.if-not-is_page.true-raw)
 
-entry-count-requires : tie.Need-entry-count-requires invariant-loop decreases-loop
+entry-count-requires : tie.Need-entry_count-count-requires invariant-loop decreases-loop
 entry-count-requires c κs = search rules
 
-count-pages-requires : tie.Need-count-pages-requires invariant-loop decreases-loop
-count-pages-requires c κs = (at-loop c.before).loop.inv.1
+count-pages-requires : tie.Need-count_pages-t-requires invariant-loop decreases-loop
+count-pages-requires c κs = (at-loop c.before).loop-left.invariant.1
 
-returns-2 : tie.Need-returns-2 invariant-loop decreases-loop
+returns-2 : tie.Need-returns-then-not-t invariant-loop decreases-loop
 returns-2 c =
     let count = c.before.before in
     let found = entries count in
     let page = found.before in
-    let loop = (at-loop page).loop in
-    let more = page.before.before.loop-test.taken in
-    pages-over _ _ _ _ _ loop.parent.0 loop.left _ (progress_of loop.t) loop.inv.2 (λ z. omega (arith, more, z)) (inside page) _
-    found.entry-count.ensures (progress_of count.count-pages.result) count.count-pages.ensures (not-true _ c.if2.true)
+    let loop = (at-loop page).loop-left in
+    let more = page.loop-left-test.true in
+    pages-over _ _ _ _ _ loop.parent.0 loop.left _ (progress_of loop.t) loop.invariant.2 (λ z. omega (arith, more, z)) (inside page) _
+    found.entry_count-count.ensures (progress_of count.count_pages-t.result) count.count_pages-t.ensures (not-true _ c.if-not-t.true)
 
-check-children-requires : tie.Need-check-children-requires invariant-loop decreases-loop
+check-children-requires : tie.Need-check_children-t-requires invariant-loop decreases-loop
 check-children-requires c κs =
     let found = entries c.before.before in
-    ((start (at-loop found.before)).pre.0, found.entry-count.ensures, not-false _ c.if2.false)
+    ((start (at-loop found.before)).pre.0, found.entry_count-count.ensures, not-false _ c.if-not-t.false)
 
-returns-3 : tie.Need-returns-3 invariant-loop decreases-loop
+returns-3 : tie.Need-returns-then-not-t-2 invariant-loop decreases-loop
 returns-3 c =
     let done = c.before.before in
     let count = counted done in
     let found = entries count in
     let page = found.before in
-    let loop = (at-loop page).loop in
-    let more = page.before.before.loop-test.taken in
-    pages-bad _ _ _ _ _ loop.parent.0 loop.left _ (progress_of loop.t) loop.inv.2 (λ z. omega (arith, more, z)) (inside page) _
-    found.entry-count.ensures (progress_of count.count-pages.result) count.count-pages.ensures (not-false _ done.before.if2.false) _
-    done.check-children.ensures (not-true _ c.if3.true)
+    let loop = (at-loop page).loop-left in
+    let more = page.loop-left-test.true in
+    pages-bad _ _ _ _ _ loop.parent.0 loop.left _ (progress_of loop.t) loop.invariant.2 (λ z. omega (arith, more, z)) (inside page) _
+    found.entry_count-count.ensures (progress_of count.count_pages-t.result) count.count_pages-t.ensures (not-false _ done.if-not-t.false) _
+    done.check_children-t.ensures (not-true _ c.if-not-t-2.true)
 
-at-requires : tie.Need-at-requires invariant-loop decreases-loop
+at-requires : tie.Need-at-head-requires invariant-loop decreases-loop
 at-requires c κs =
     let page = (entries (counted c.before.before)).before in
-    let o = is-page _ _ (inside page) in
-    let f = (start (at-loop page)).pre.0 in
+    let o = is-page _ _ (inside page.before) in
+    let f = (start (at-loop page.before)).pre.0 in
     omega arith
 
-sub-left : tie.Need-overflow-sub-left invariant-loop decreases-loop
+sub-left : tie.Need-overflow_sub-left invariant-loop decreases-loop
 sub-left c = search rules
 
-loop-less : tie.Need-loop-smaller invariant-loop decreases-loop
+loop-less : tie.Need-loop-left-smaller invariant-loop decreases-loop
 loop-less c = search rules
 
-loop-again : tie.Need-loop-preserved invariant-loop decreases-loop
+loop-again : tie.Need-loop-left-preserved invariant-loop decreases-loop
 loop-again c =
     let read = c.before in
     let good = read.before in
@@ -107,36 +107,21 @@ loop-again c =
     let count = counted done in
     let found = entries count in
     let page = found.before in
-    let loop = (at-loop page).loop in
-    let more = page.before.before.loop-test.taken in (
+    let loop = (at-loop page).loop-left in
+    let more = page.loop-left-test.true in (
       search rules,
-      not-false _ good.if3.false,
-      pages-on _ _ _ _ _ loop.parent.0 loop.left _ (progress_of loop.t) loop.inv.2 (λ z. omega (arith, more, z)) (inside page) _
-          found.entry-count.ensures (progress_of count.count-pages.result) count.count-pages.ensures _ _ read.at.ensures.1.1.1
-          done.check-children.ensures,
+      not-false _ good.if-not-t-2.false,
+      pages-on _ _ _ _ _ loop.parent-1.0 loop.left _ (progress_of loop.t) loop.invariant.2 (λ z. omega (arith, more, z)) (inside page) _
+          found.entry_count-count.ensures (progress_of count.count_pages-t.result) count.count_pages-t.ensures _ _ read.at-head.ensures.1.1.1
+          done.check_children-t.ensures,
     )
 
-returns-4 : tie.Need-returns-4 invariant-loop decreases-loop
+returns-4 : tie.Need-returns invariant-loop decreases-loop
 returns-4 c =
-    let loop = c.before.loop in
+    let loop = c.loop-left in
     pages-end _ _ _ _ _ loop.parent.0 loop.left _ (progress_of loop.t) loop.invariant.2 (search rules)
 
-pub check-level-spec : {M : Type 1} → statement M
-check-level-spec =
+pub check_level_spec : {M : Type 1} → statement M
+check_level_spec =
     tie.close
-    (tie.spec
-    invariant-loop
-    decreases-loop
-    loop-holds
-    is-page-requires
-    returns
-    entry-count-requires
-    count-pages-requires
-    returns-2
-    check-children-requires
-    returns-3
-    at-requires
-    sub-left
-    loop-less
-    loop-again
-    returns-4)
+    (tie.spec invariant-loop decreases-loop loop-holds is-page-requires returns entry-count-requires count-pages-requires returns-2 check-children-requires returns-3 at-requires sub-left loop-less loop-again returns-4)

@@ -7,28 +7,28 @@ use borrow.Author.Rules.{rules}
 use Rattle.idx_shape.proofs.entries_fit.Statement.{statement}
 use Rattle.idx_shape.proofs.entries_fit.Tie as tie
 
-is-leaf-requires : tie.Need-is-leaf-requires
+is-leaf-requires : tie.Need-is_leaf-requires
 is-leaf-requires c κs = search rules
 
-returns : tie.Need-returns
-returns c = entries-upper _ _ _ _ _ _ (failed c.before.is_IsLeaf.ensures c.if1.true)
+returns : tie.Need-returns-then-not-is_leaf
+returns c = entries-upper _ _ _ _ _ _ (failed c.is_IsLeaf.ensures c.if-not-is_leaf.true-raw)
 
-last-key-requires : tie.Need-last-key-requires
+last-key-requires : tie.Need-last_key-prior-requires
 last-key-requires c κs = search rules
 
-leaf-entries-requires : tie.Need-leaf-entries-requires
+leaf-entries-requires : tie.Need-leaf_entries-requires
 leaf-entries-requires c κs =
     let start = c.before.before.before.before in
     let file = start.requires.0 in
-    (file.key, entries-within _ _ _ _ _ start.requires.1 file, c.last-key.ensures.1, file.long)
+    (file.key, entries-within _ _ _ _ _ start.requires.1 file, c.last_key-prior.ensures.1, file.long)
 
-returns-2 : tie.Need-returns-2
+returns-2 : tie.Need-returns
 returns-2 c =
     let last = c.before in
     let tested = last.before in
     let start = tested.before.before.before in
-    entries-leaf _ _ _ _ _ _ _ _ _ start.requires.1 (passed tested.before.is_IsLeaf.ensures tested.if1.false) last.last-key.ensures.2
-    c.leaf-entries.ensures
+    entries-leaf _ _ _ _ _ _ _ _ _ start.requires.1 (passed tested.is_IsLeaf.ensures tested.if-not-is_leaf.false-raw) last.last_key-prior.ensures.2
+    c.leaf_entries.ensures
 
-pub entries-fit-spec : {M : Type 1} → statement M
-entries-fit-spec = tie.close (tie.spec is-leaf-requires returns last-key-requires leaf-entries-requires returns-2)
+pub entries_fit_spec : {M : Type 1} → statement M
+entries_fit_spec = tie.close (tie.spec is-leaf-requires returns last-key-requires leaf-entries-requires returns-2)

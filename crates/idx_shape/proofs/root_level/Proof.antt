@@ -8,25 +8,25 @@ use Rattle.idx_shape.proofs.root_level.Statement.{statement}
 use Rattle.idx_shape.proofs.root_level.Tie as tie
 
 -- the places: past the level's start, and where the function starts
-abbrev begun : tie.After-page-fits → tie.After-start
+abbrev begun : tie.After-page_fits → tie.After-start-s
 begun c = c.before.before.before
 
-abbrev start : tie.After-page-fits → tie.Start
+abbrev start : tie.After-page_fits → tie.Start
 start c = (begun c).before.before.before
 
-leaf-at-requires : tie.Need-leaf-at-requires
+leaf-at-requires : tie.Need-leaf_at-leaf-requires
 leaf-at-requires c κs = search rules
 
-sub-start : tie.Need-overflow-sub-start
+sub-start : tie.Need-overflow_sub-left
 sub-start c = search rules
 
-start-requires : tie.Need-start-requires
+start-requires : tie.Need-start-s-requires
 start-requires c κs = search rules
 
-attribute-of-requires : tie.Need-attribute-of-requires
+attribute-of-requires : tie.Need-attribute_of-requires
 attribute-of-requires c κs = search rules
 
-page-fits-requires : tie.Need-page-fits-requires
+page-fits-requires : tie.Need-page_fits-requires
 page-fits-requires c κs = search rules
 
 refused-requires : tie.Need-refused-requires
@@ -35,44 +35,33 @@ refused-requires c κs = search rules
 closed-requires : tie.Need-closed-requires
 closed-requires c κs = search rules
 
-returns : tie.Need-returns
+returns : tie.Need-returns-then-not-page_fits
 returns c =
     let unfit = c.before.before in
     let fit = unfit.before in
     let level = begun fit in
-    root-refused _ _ _ _ (start fit).args.root _ _ level.start.result c.before.refused.result c.closed.result
-    level.before.leaf-at.ensures c.closed.ensures (start fit).requires.1 level.start.ensures fit.before.attribute-of.ensures
-    (failed fit.page-fits.ensures unfit.if1.true) c.before.refused.ensures
+    root-refused _ _ _ _ (start fit).args.root _ _ level.start-s.result c.refused.result c.closed.result
+    level.leaf_at-leaf.ensures c.closed.ensures (start fit).requires.1 level.start-s.ensures fit.attribute_of.ensures
+    (failed fit.page_fits.ensures unfit.if-not-page_fits.true-raw) c.refused.ensures
 
-meet-page-requires : tie.Need-meet-page-requires
+meet-page-requires : tie.Need-meet_page-requires
 meet-page-requires c κs =
     let fit = c.before in
-    fits-within _ _ _ _ _ _ _ (passed fit.page-fits.ensures c.if1.false) (start fit).requires.0
+    fits-within _ _ _ _ _ _ _ (passed fit.page_fits.ensures c.if-not-page_fits.false-raw) (start fit).requires.0
 
 closed-requires-2 : tie.Need-closed-requires-2
 closed-requires-2 c κs = search rules
 
-returns-2 : tie.Need-returns-2
+returns-2 : tie.Need-returns
 returns-2 c =
     let met = c.before in
     let fit = met.before.before in
     let level = begun fit in
-    root-met _ _ _ _ (start fit).args.root _ _ level.start.result met.meet-page.result c.closed2.result
-    level.before.leaf-at.ensures c.closed2.ensures (start fit).requires.1 level.start.ensures fit.before.attribute-of.ensures
-    (passed fit.page-fits.ensures met.before.if1.false) met.meet-page.ensures
+    root-met _ _ _ _ (start fit).args.root _ _ level.start-s.result met.meet_page.result c.closed-2.result
+    level.leaf_at-leaf.ensures c.closed-2.ensures (start fit).requires.1 level.start-s.ensures fit.attribute_of.ensures
+    (passed fit.page_fits.ensures met.if-not-page_fits.false-raw) met.meet_page.ensures
 
-pub root-level-spec : {M : Type 1} → statement M
-root-level-spec =
+pub root_level_spec : {M : Type 1} → statement M
+root_level_spec =
     tie.close
-    (tie.spec
-    leaf-at-requires
-    sub-start
-    start-requires
-    attribute-of-requires
-    page-fits-requires
-    refused-requires
-    closed-requires
-    returns
-    meet-page-requires
-    closed-requires-2
-    returns-2)
+    (tie.spec leaf-at-requires sub-start start-requires attribute-of-requires page-fits-requires refused-requires closed-requires returns meet-page-requires closed-requires-2 returns-2)

@@ -6,15 +6,15 @@ use Rattle.index_calls.proofs.index_fresh.Tie as tie
 fresh-requires : tie.Need-fresh-requires
 fresh-requires c κs = search rules
 
-change-code-requires : tie.Need-change-code-requires
+change-code-requires : tie.Need-change_code-requires
 change-code-requires c κs = search rules
 
-same_length : tie.Need-same-length
+same_length : tie.Need-shape_of-index
 same_length c = search rules
 
 returns : tie.Need-returns
-returns c = rw (c.before.before.before.fresh.ensures, c.change-code.ensures)
+returns c = rw (c.fresh.ensures, c.change_code.ensures)
 
-pub index-fresh-spec : {M : Type 1} → statement M
-index-fresh-spec =
+pub index_fresh_spec : {M : Type 1} → statement M
+index_fresh_spec =
     tie.close (tie.spec fresh-requires change-code-requires same_length returns)

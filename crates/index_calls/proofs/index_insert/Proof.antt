@@ -6,15 +6,15 @@ use Rattle.index_calls.proofs.index_insert.Tie as tie
 insert-requires : tie.Need-insert-requires
 insert-requires c κs = search rules
 
-change-code-requires : tie.Need-change-code-requires
+change-code-requires : tie.Need-change_code-requires
 change-code-requires c κs = search rules
 
-same_length : tie.Need-same-length
+same_length : tie.Need-shape_of-index
 same_length c = search rules
 
 returns : tie.Need-returns
-returns c = rw (c.before.before.before.insert.ensures, c.change-code.ensures)
+returns c = rw (c.insert.ensures, c.change_code.ensures)
 
-pub index-insert-spec : {M : Type 1} → statement M
-index-insert-spec =
+pub index_insert_spec : {M : Type 1} → statement M
+index_insert_spec =
     tie.close (tie.spec insert-requires change-code-requires same_length returns)

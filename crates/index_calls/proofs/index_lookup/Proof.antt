@@ -10,7 +10,7 @@ tell-requires : tie.Need-tell-requires
 tell-requires c κs = search rules
 
 returns : tie.Need-returns
-returns c = rw (← c.before.before.before.lookup.ensures) c.tell.ensures
+returns c = rw (← c.lookup.ensures) c.tell.ensures
 
-pub index-lookup-spec : {M : Type 1} → statement M
-index-lookup-spec = tie.close (tie.spec lookup-requires tell-requires returns)
+pub index_lookup_spec : {M : Type 1} → statement M
+index_lookup_spec = tie.close (tie.spec lookup-requires tell-requires returns)

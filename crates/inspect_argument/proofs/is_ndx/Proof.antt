@@ -5,19 +5,19 @@ use borrow.Author.Rules.{rules}
 use Rattle.inspect_argument.proofs.is_ndx.Statement.{statement}
 use Rattle.inspect_argument.proofs.is_ndx.Tie as tie
 
-returns : tie.Need-returns
+returns : tie.Need-returns-then-name-lt4
 unfolding is_ndx
-returns c = rw (lt-leb _ _ c.if1.true)
+returns c = rw (lt-leb _ _ c.if-name-lt4.true)
 
-sub-ndx-at : tie.Need-overflow-sub-ndx-at
+sub-ndx-at : tie.Need-overflow_sub-name
 sub-ndx-at c = search rules
 
-ndx-at-requires : tie.Need-ndx-at-requires
+ndx-at-requires : tie.Need-ndx_at-requires
 ndx-at-requires c κs = search rules
 
-returns-2 : tie.Need-returns-2
+returns-2 : tie.Need-returns
 unfolding is_ndx
-returns-2 c = rw (le-leb _ _ c.before.if1.false) c.ndx-at.ensures
+returns-2 c = rw (le-leb _ _ c.if-name-lt4.false) c.ndx_at.ensures
 
-pub is-ndx-spec : {M : Type 1} → statement M
-is-ndx-spec = tie.close (tie.spec returns sub-ndx-at ndx-at-requires returns-2)
+pub is_ndx_spec : {M : Type 1} → statement M
+is_ndx_spec = tie.close (tie.spec returns sub-ndx-at ndx-at-requires returns-2)

@@ -5,33 +5,27 @@ use borrow.Author.Rules.{rules}
 use Rattle.ndx_audit.proofs.at_most.Statement.{statement}
 use Rattle.ndx_audit.proofs.at_most.Tie as tie
 
-returns : tie.Need-returns
-returns c = most-first _ _ _ c.if1.true
+returns : tie.Need-returns-then-last-eq0
+returns c = most-first _ _ _ c.if-last-eq0.true
 
-key-length-requires : tie.Need-key-length-requires
-key-length-requires c κs = (good-header _ c.before.before.requires.0).long
+key-length-requires : tie.Need-key_length-requires
+key-length-requires c κs = (good-header _ c.requires.0).long
 
-cast-key-order : tie.Need-overflow-cast-key-order
+cast-key-order : tie.Need-overflow_cast-key_length
 cast-key-order c = search rules
 
-key-order-requires : tie.Need-key-order-requires
+key-order-requires : tie.Need-key_order-requires
 key-order-requires c κs = search rules
 
-is-below-requires : tie.Need-is-below-requires
+is-below-requires : tie.Need-is_below-requires
 is-below-requires c κs = search rules
 
-returns-2 : tie.Need-returns-2
+returns-2 : tie.Need-returns
 returns-2 c =
     let read = c.before.before in
-    most-below _ _ _ read.before.if1.false read.key-length.ensures c.is_below.ensures c.before.key-order.ensures
+    most-below _ _ _ read.if-last-eq0.false read.key_length.ensures c.is_below.ensures c.key_order.ensures
 
-pub at-most-spec : {M : Type 1} → statement M
-at-most-spec =
+pub at_most_spec : {M : Type 1} → statement M
+at_most_spec =
     tie.close
-    (tie.spec
-    returns
-    key-length-requires
-    cast-key-order
-    key-order-requires
-    is-below-requires
-    returns-2)
+    (tie.spec returns key-length-requires cast-key-order key-order-requires is-below-requires returns-2)

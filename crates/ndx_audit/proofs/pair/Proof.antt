@@ -9,51 +9,45 @@ use Rattle.ndx_audit.proofs.pair.Statement.{statement}
 use Rattle.ndx_audit.proofs.pair.Tie as tie
 
 -- the pair's key lies within the buffer
-inside : (c : tie.After-key-offset) → KeyWithin c.before.before.args.index.now c.key-offset.result
-inside c = omega (arith, c.key-offset.ensures, key-within _ c.before.before.requires.1)
+inside : (c : tie.After-key_offset-at) → KeyWithin c.args.index.now c.key_offset-at.result
+inside c = omega (arith, c.key_offset-at.ensures, key-within _ c.requires.1)
 
-key-offset-requires : tie.Need-key-offset-requires
+key-offset-requires : tie.Need-key_offset-at-requires
 key-offset-requires c κs = search rules
 
-record-number-requires : tie.Need-record-number-requires
+record-number-requires : tie.Need-record_number-requires
 record-number-requires c κs = search rules
 
-returns : tie.Need-returns
+returns : tie.Need-returns-then-record_number-eq0
 returns c =
     let read = c.before.before in
     let begun = read.before.before.before in
-    (pair_zero _ _ _ _ _ read.record-number.ensures c.if1.true, begun.requires.2)
+    (pair_zero _ _ _ _ _ read.record_number.ensures c.if-record_number-eq0.true, begun.requires.2)
 
-is-after-requires : tie.Need-is-after-requires
+is-after-requires : tie.Need-is_after-requires
 is-after-requires c κs =
     let placed = c.before.before.before in
     let begun = placed.before.before in
     (begun.requires.0, begun.requires.2, inside placed)
 
-returns-2 : tie.Need-returns-2
+returns-2 : tie.Need-returns-then-not-is_after
 returns-2 c =
     let tested = c.before in
     let placed = tested.before.before.before.before in
-    (pair_low _ _ _ _ _ placed.key-offset.ensures _ tested.is-after.ensures (not-true _ c.if2.true), placed.before.before.requires.2)
+    (pair_low _ _ _ _ _ placed.key_offset-at.ensures _ tested.is_after.ensures (not-true _ c.if-not-is_after.true-raw), placed.requires.2)
 
-returns-3 : tie.Need-returns-3
+returns-3 : tie.Need-returns
 returns-3 c =
     let tested = c.before in
     let positive = tested.before in
     let read = positive.before.before in
     let placed = read.before in (
-      pair_good _ _ _ _ _ placed.key-offset.ensures _ tested.is-after.ensures _ read.record-number.ensures positive.if1.false
-          (not-false _ c.if2.false),
+      pair_good _ _ _ _ _ placed.key_offset-at.ensures _ tested.is_after.ensures _ read.record_number.ensures positive.if-record_number-eq0.false
+          (not-false _ c.if-not-is_after.false-raw),
       inside placed,
     )
 
 pub pair_spec : {M : Type 1} → statement M
 pair_spec =
     tie.close
-    (tie.spec
-    key-offset-requires
-    record-number-requires
-    returns
-    is-after-requires
-    returns-2
-    returns-3)
+    (tie.spec key-offset-requires record-number-requires returns is-after-requires returns-2 returns-3)

@@ -9,39 +9,39 @@ use Rattle.ndx_audit.proofs.pass.Statement.{statement}
 use Rattle.ndx_audit.proofs.pass.Tie as tie
 
 -- the key lies within the buffer
-inside : (c : tie.After-key-offset) → KeyWithin c.before.before.before.before.args.index.now c.key-offset.result
-inside c = omega (arith, c.key-offset.ensures, key-within _ c.before.before.before.before.requires.1)
+inside : (c : tie.After-key_offset-at) → KeyWithin c.args.index.now c.key_offset-at.result
+inside c = omega (arith, c.key_offset-at.ensures, key-within _ c.requires.1)
 
-returns : tie.Need-returns
+returns : tie.Need-returns-then-not-met
 returns c =
     let begun = c.before.before.before in
-    (pass_bad _ _ _ begun.args.met (not-true _ c.if1.true), begun.requires.2)
+    (pass_bad _ _ _ begun.args.met (not-true _ c.if-not-met.true), begun.requires.2)
 
-key-offset-requires : tie.Need-key-offset-requires
+key-offset-requires : tie.Need-key_offset-at-requires
 key-offset-requires c κs = search rules
 
-at-most-requires : tie.Need-at-most-requires
+at-most-requires : tie.Need-at_most-requires
 at-most-requires c κs =
     let begun = c.before.before.before.before in
     (begun.requires.0, begun.requires.2, inside c)
 
-returns-2 : tie.Need-returns-2
+returns-2 : tie.Need-returns-then-not-at_most
 returns-2 c =
     let placed = c.before.before in
     let good = placed.before in
     let begun = good.before.before.before in (
-      pass_low _ _ _ begun.args.met (not-false _ good.if1.false) _ placed.key-offset.ensures _ c.before.at_most.ensures
-          (not-true _ c.if2.true),
+      pass_low _ _ _ begun.args.met (not-false _ good.if-not-met.false) _ placed.key_offset-at.ensures _ c.at_most.ensures
+          (not-true _ c.if-not-at_most.true-raw),
       begun.requires.2,
     )
 
-returns-3 : tie.Need-returns-3
+returns-3 : tie.Need-returns
 returns-3 c =
     let placed = c.before.before in
     let good = placed.before in
     let begun = good.before.before.before in (
-      pass_good _ _ _ begun.args.met (not-false _ good.if1.false) _ placed.key-offset.ensures _ c.before.at_most.ensures
-          (not-false _ c.if2.false),
+      pass_good _ _ _ begun.args.met (not-false _ good.if-not-met.false) _ placed.key_offset-at.ensures _ c.at_most.ensures
+          (not-false _ c.if-not-at_most.false-raw),
       inside placed,
     )
 

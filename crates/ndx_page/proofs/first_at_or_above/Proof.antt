@@ -15,74 +15,63 @@ use borrow.Author.Rules.{rules}
 use Rattle.ndx_page.proofs.first_at_or_above.Statement.{statement}
 use Rattle.ndx_page.proofs.first_at_or_above.Tie as tie
 
-abbrev invariant-loop : tie.invariant-loop
+abbrev invariant-loop : tie.invariant-loop-i
 invariant-loop index page count key i₀ i = (i ≤ count) × (first_at_or_above (key_at index page.0) key count 0 ≡ first_at_or_above (key_at index page.0) key
     (count - i) i)
 
-abbrev decreases-loop : tie.decreases-loop
+abbrev decreases-loop : tie.decreases-loop-i
 decreases-loop index page count key i₀ i = count - i
 
 -- the places: where the function starts, and the loop's head
-abbrev start : tie.At-loop invariant-loop decreases-loop → tie.Start invariant-loop decreases-loop
+abbrev start : tie.At-loop-i invariant-loop decreases-loop → tie.Start invariant-loop decreases-loop
 start c = c.before.before.before
 
-abbrev at-loop : tie.After-is-below invariant-loop decreases-loop → tie.At-loop invariant-loop decreases-loop
+abbrev at-loop : tie.After-is_below invariant-loop decreases-loop → tie.At-loop-i invariant-loop decreases-loop
 at-loop c = c.before.before.before
 
 -- the keys of the page's entries
-abbrev keys : tie.At-loop invariant-loop decreases-loop → ℕ → List ℕ
+abbrev keys : tie.At-loop-i invariant-loop decreases-loop → ℕ → List ℕ
 keys c = let args = (start c).args in key_at args.index.now args.page.0
 
-loop-holds : tie.Need-loop-init invariant-loop decreases-loop
+loop-holds : tie.Need-loop-i-init invariant-loop decreases-loop
 loop-holds c = (search rules, rw sub-zero)
 
-compare-entry-requires : tie.Need-compare-entry-requires invariant-loop decreases-loop
+compare-entry-requires : tie.Need-compare_entry-order-requires invariant-loop decreases-loop
 compare-entry-requires c κs = (within-fewer _ (start c.before).pre.0 (omega arith), (start c.before).pre.1)
 
-is-below-requires : tie.Need-is-below-requires invariant-loop decreases-loop
+is-below-requires : tie.Need-is_below-requires invariant-loop decreases-loop
 is-below-requires c κs = search rules
 
-is-equal-requires : tie.Need-is-equal-requires invariant-loop decreases-loop
+is-equal-requires : tie.Need-is_equal-requires invariant-loop decreases-loop
 is-equal-requires c κs = search rules
 
-returns : tie.Need-returns invariant-loop decreases-loop
+returns : tie.Need-returns-then-not-is_below invariant-loop decreases-loop
 returns c =
     let compared = c.before.before in
-    let loop = (at-loop compared).loop in
-    let order = compared.before.compare-entry.ensures in
-    let found = at_or_above _ _ order (failed compared.is_below.ensures c.before.if1.true) in
-    (sym (loop.inv.1 ∙ loop_here (keys (at-loop compared)) _ _ loop.i (search rules) found), search rules, λ _. rw order at c.is-equal.ensures)
+    let loop = (at-loop compared).loop-i in
+    let order = compared.compare_entry-order.ensures in
+    let found = at_or_above _ _ order (failed compared.is_below.ensures c.if-not-is_below.true-raw) in
+    (sym (loop.invariant.1 ∙ loop_here (keys (at-loop compared)) _ _ loop.i (search rules) found), search rules, λ _. rw order at c.is_equal.ensures)
 
-add-i : tie.Need-overflow-add-i invariant-loop decreases-loop
+add-i : tie.Need-overflow_add-i invariant-loop decreases-loop
 add-i c = search rules
 
-loop-less : tie.Need-loop-smaller invariant-loop decreases-loop
+loop-less : tie.Need-loop-i-smaller invariant-loop decreases-loop
 loop-less c = search rules
 
-loop-again : tie.Need-loop-preserved invariant-loop decreases-loop
+loop-again : tie.Need-loop-i-preserved invariant-loop decreases-loop
 loop-again c =
     let compared = c.before in
-    let loop = (at-loop compared).loop in
-    let lower = below _ _ compared.before.compare-entry.ensures (passed compared.is_below.ensures c.if1.false) in
-    (search rules, loop.inv.1 ∙ loop_later (keys (at-loop compared)) _ _ loop.i (search rules) lower)
+    let loop = (at-loop compared).loop-i in
+    let lower = below _ _ compared.compare_entry-order.ensures (passed compared.is_below.ensures c.if-not-is_below.false-raw) in
+    (search rules, loop.invariant.1 ∙ loop_later (keys (at-loop compared)) _ _ loop.i (search rules) lower)
 
-returns-2 : tie.Need-returns-2 invariant-loop decreases-loop
+returns-2 : tie.Need-returns invariant-loop decreases-loop
 returns-2 c =
-    let loop = c.before.loop in
+    let loop = c.loop-i in
     (sym (loop.invariant.1 ∙ loop_end (keys c.before) _ _ loop.i (search rules)), search rules, λ more. absurd (lt_irrefl loop.i (omega (arith, more))))
 
-pub first-at-or-above-spec : {M : Type 1} → statement M
-first-at-or-above-spec =
+pub first_at_or_above_spec : {M : Type 1} → statement M
+first_at_or_above_spec =
     tie.close
-    (tie.spec
-    invariant-loop
-    decreases-loop
-    loop-holds
-    compare-entry-requires
-    is-below-requires
-    is-equal-requires
-    returns
-    add-i
-    loop-less
-    loop-again
-    returns-2)
+    (tie.spec invariant-loop decreases-loop loop-holds compare-entry-requires is-below-requires is-equal-requires returns add-i loop-less loop-again returns-2)

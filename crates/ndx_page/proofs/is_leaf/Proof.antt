@@ -9,7 +9,7 @@ lower-requires c κs = search rules
 
 returns : tie.Need-returns
 unfolding is_leaf
-returns c = rw c.before.lower.ensures
+returns c = rw c.lower.ensures
 
-pub is-leaf-spec : {M : Type 1} → statement M
-is-leaf-spec = tie.close (tie.spec lower-requires returns)
+pub is_leaf_spec : {M : Type 1} → statement M
+is_leaf_spec = tie.close (tie.spec lower-requires returns)

@@ -8,5 +8,5 @@ returns : tie.Need-returns
 unfolding is_page
 returns c = search rules
 
-pub is-page-spec : {M : Type 1} → statement M
-is-page-spec = tie.close (tie.spec returns)
+pub is_page_spec : {M : Type 1} → statement M
+is_page_spec = tie.close (tie.spec returns)

@@ -5,15 +5,15 @@ use Rattle.ndx_page.specs.PageLaws.{entry-inside, within-fewer}
 use Rattle.ndx_page.proofs.key_offset.Statement.{statement}
 use Rattle.ndx_page.proofs.key_offset.Tie as tie
 
-entry-offset-requires : tie.Need-entry-offset-requires
-entry-offset-requires c κs = within-fewer _ c.before.requires (omega arith)
+entry-offset-requires : tie.Need-entry_offset-requires
+entry-offset-requires c κs = within-fewer _ c.requires (omega arith)
 
-add-result : tie.Need-overflow-add-result
-add-result c = omega (arith, c.entry-offset.ensures, entry-inside _ c.before.before.requires, c.before.before.requires.key)
+add-result : tie.Need-overflow_add-result
+add-result c = omega (arith, c.entry_offset.ensures, entry-inside _ c.requires, c.requires.key)
 
 returns : tie.Need-returns
 unfolding key_offset
-returns c = rw c.entry-offset.ensures
+returns c = rw c.entry_offset.ensures
 
-pub key-offset-spec : {M : Type 1} → statement M
-key-offset-spec = tie.close (tie.spec entry-offset-requires add-result returns)
+pub key_offset_spec : {M : Type 1} → statement M
+key_offset_spec = tie.close (tie.spec entry-offset-requires add-result returns)

@@ -7,15 +7,15 @@ use borrow.Author.Rules.{rules}
 use Rattle.ndx_page.proofs.lower.Statement.{statement}
 use Rattle.ndx_page.proofs.lower.Tie as tie
 
-entry-offset-requires : tie.Need-entry-offset-requires
+entry-offset-requires : tie.Need-entry_offset-requires
 entry-offset-requires c κs = search rules
 
-load-le32-requires : tie.Need-load-le32-requires
-load-le32-requires c κs = omega (arith, c.entry-offset.ensures, lower-inside c.before.before.requires)
+load-le32-requires : tie.Need-load_le32-requires
+load-le32-requires c κs = omega (arith, c.entry_offset.ensures, lower-inside c.requires)
 
 returns : tie.Need-returns
 unfolding lower_at
-returns c = c.load-le32.ensures ∙ rw c.before.entry-offset.ensures
+returns c = c.load_le32.ensures ∙ rw c.entry_offset.ensures
 
 pub lower_spec : {M : Type 1} → statement M
 lower_spec = tie.close (tie.spec entry-offset-requires load-le32-requires returns)

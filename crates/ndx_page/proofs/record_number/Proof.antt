@@ -6,19 +6,19 @@ use Rattle.ndx_page.specs.PageLaws.{entry-inside, within-fewer}
 use Rattle.ndx_page.proofs.record_number.Statement.{statement}
 use Rattle.ndx_page.proofs.record_number.Tie as tie
 
-entry-offset-requires : tie.Need-entry-offset-requires
-entry-offset-requires c κs = within-fewer _ c.before.requires (omega arith)
+entry-offset-requires : tie.Need-entry_offset-requires
+entry-offset-requires c κs = within-fewer _ c.requires (omega arith)
 
-add-load-le32 : tie.Need-overflow-add-load-le32
-add-load-le32 c = omega (arith, c.entry-offset.ensures, entry-inside _ c.before.before.requires, c.before.before.requires.key)
+add-load-le32 : tie.Need-overflow_add-entry_offset
+add-load-le32 c = omega (arith, c.entry_offset.ensures, entry-inside _ c.requires, c.requires.key)
 
-load-le32-requires : tie.Need-load-le32-requires
-load-le32-requires c κs = omega (arith, c.entry-offset.ensures, entry-inside _ c.before.before.requires, c.before.before.requires.key)
+load-le32-requires : tie.Need-load_le32-requires
+load-le32-requires c κs = omega (arith, c.entry_offset.ensures, entry-inside _ c.requires, c.requires.key)
 
 returns : tie.Need-returns
 unfolding record_at
-returns c = c.load-le32.ensures ∙ rw c.before.entry-offset.ensures
+returns c = c.load_le32.ensures ∙ rw c.entry_offset.ensures
 
-pub record-number-spec : {M : Type 1} → statement M
-record-number-spec =
+pub record_number_spec : {M : Type 1} → statement M
+record_number_spec =
     tie.close (tie.spec entry-offset-requires add-load-le32 load-le32-requires returns)

@@ -5,12 +5,12 @@ use Rattle.numeral.specs.Format.{format_good}
 use Rattle.numeral.proofs.format_good.Statement.{statement}
 use Rattle.numeral.proofs.format_good.Tie as tie
 
-add-result : tie.Need-overflow-add-result
+add-result : tie.Need-overflow_add-result
 add-result c = search rules
 
 returns : tie.Need-returns
 unfolding format_good
 returns c = refl
 
-pub format-good-spec : {M : Type 1} → statement M
-format-good-spec = tie.close (tie.spec add-result returns)
+pub format_good_spec : {M : Type 1} → statement M
+format_good_spec = tie.close (tie.spec add-result returns)

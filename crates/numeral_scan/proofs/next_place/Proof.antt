@@ -3,11 +3,11 @@ use borrow.Author.Tests.{le-leb, lt-leb}
 use Rattle.numeral_scan.proofs.next_place.Statement.{statement}
 use Rattle.numeral_scan.proofs.next_place.Tie as tie
 
-returns : tie.Need-returns
-returns c = rw (le-leb _ _ c.if1.true)
+returns : tie.Need-returns-then-left-ge1
+returns c = rw (le-leb _ _ c.if-left-ge1.true)
 
-returns-2 : tie.Need-returns-2
-returns-2 c = rw (lt-leb _ _ c.if1.false)
+returns-2 : tie.Need-returns
+returns-2 c = rw (lt-leb _ _ c.if-left-ge1.false)
 
-pub next-place-spec : {M : Type 1} → statement M
-next-place-spec = tie.close (tie.spec returns returns-2)
+pub next_place_spec : {M : Type 1} → statement M
+next_place_spec = tie.close (tie.spec returns returns-2)

@@ -6,26 +6,26 @@ use Rattle.numeral_scan.specs.Scan.{next_value}
 use Rattle.numeral_scan.proofs.next_value.Statement.{statement}
 use Rattle.numeral_scan.proofs.next_value.Tie as tie
 
-returns : tie.Need-returns
+returns : tie.Need-returns-then-n-ge-PAST_DIGITS
 unfolding next_value
-returns c = rw (le-ltb _ _ c.if1.true)
+returns c = rw (le-ltb _ _ c.if-n-ge-PAST_DIGITS.true)
 
-mul-result : tie.Need-overflow-mul-result
+mul-result : tie.Need-overflow_mul-result
 mul-result c = search rules
 
-sub-result : tie.Need-overflow-sub-result
-sub-result c = (digit_range c.before.args.c c.before.requires).0
+sub-result : tie.Need-overflow_sub-result
+sub-result c = (digit_range c.args.c c.requires).0
 
-cast-result : tie.Need-overflow-cast-result
+cast-result : tie.Need-overflow_cast-result
 cast-result c = search rules
 
-add-result : tie.Need-overflow-add-result
+add-result : tie.Need-overflow_add-result
 add-result c = search rules
 
-returns-2 : tie.Need-returns-2
+returns-2 : tie.Need-returns
 unfolding next_value
-returns-2 c = rw (lt-ltb _ _ c.if1.false)
+returns-2 c = rw (lt-ltb _ _ c.if-n-ge-PAST_DIGITS.false)
 
-pub next-value-spec : {M : Type 1} → statement M
-next-value-spec =
+pub next_value_spec : {M : Type 1} → statement M
+next_value_spec =
     tie.close (tie.spec returns mul-result sub-result cast-result add-result returns-2)

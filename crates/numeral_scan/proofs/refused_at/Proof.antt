@@ -5,11 +5,11 @@ use Rattle.numeral.specs.Format.{comma}
 use Rattle.numeral_scan.proofs.refused_at.Statement.{statement}
 use Rattle.numeral_scan.proofs.refused_at.Tie as tie
 
-returns : tie.Need-returns
-returns c = rw (eq-eqb comma _ (sym c.if1.true))
+returns : tie.Need-returns-then-c-eq44
+returns c = rw (eq-eqb comma _ (sym c.if-c-eq44.true))
 
-returns-2 : tie.Need-returns-2
-returns-2 c = rw (ne_eqb comma _ (λ e. c.if1.false (sym e)))
+returns-2 : tie.Need-returns-else-c-eq44
+returns-2 c = rw (ne_eqb comma _ (λ e. c.if-c-eq44.false (sym e)))
 
-pub refused-at-spec : {M : Type 1} → statement M
-refused-at-spec = tie.close (tie.spec returns returns-2)
+pub refused_at_spec : {M : Type 1} → statement M
+refused_at_spec = tie.close (tie.spec returns returns-2)

@@ -7,22 +7,22 @@ use Rattle.numeral_scan.specs.Scan.{settled}
 use Rattle.numeral_scan.proofs.settle.Statement.{statement}
 use Rattle.numeral_scan.proofs.settle.Tie as tie
 
-returns : tie.Need-returns
+returns : tie.Need-returns-then-complete-negative
 unfolding settled
-returns c = rw c.if1.true
+returns c = rw c.if-complete-negative.true
 
-signed-value-requires : tie.Need-signed-value-requires
+signed-value-requires : tie.Need-signed_value-requires
 signed-value-requires c κs = search rules
 
-returns-2 : tie.Need-returns-2
+returns-2 : tie.Need-returns-then-n-lt-PAST_DIGITS
 unfolding settled
 returns-2 c =
-    let value = c.signed-value in
-    rw (c.before.before.if1.false, lt-ltb _ _ c.before.if2.true, to_z-of_z w64 value.result (sfits_of value.type-inv), value.ensures)
+    let value = c.signed_value in
+    rw (c.if-complete-negative.false, lt-ltb _ _ c.if-n-lt-PAST_DIGITS.true, to_z-of_z w64 value.result (sfits_of value.type-inv), value.ensures)
 
-returns-3 : tie.Need-returns-3
+returns-3 : tie.Need-returns
 unfolding settled
-returns-3 c = rw (c.before.if1.false, le-ltb _ _ c.if2.false)
+returns-3 c = rw (c.if-complete-negative.false, le-ltb _ _ c.if-n-lt-PAST_DIGITS.false)
 
-pub settle-spec : {M : Type 1} → statement M
-settle-spec = tie.close (tie.spec returns signed-value-requires returns-2 returns-3)
+pub settle_spec : {M : Type 1} → statement M
+settle_spec = tie.close (tie.spec returns signed-value-requires returns-2 returns-3)

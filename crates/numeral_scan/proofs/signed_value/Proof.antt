@@ -20,26 +20,26 @@ minus-fits : (n : ℕ) → n < 2 ^ 63 → SFits w64 (neg_ℤ (pos n))
 minus-fits zero h = record { sfits = omega arith }
 minus-fits (suc n) h = record { sfits = omega arith }
 
-cast-result : tie.Need-overflow-cast-result
+cast-result : tie.Need-overflow_cast-result
 cast-result c = search rules
 
-sub-result : tie.Need-overflow-sub-result
+sub-result : tie.Need-overflow_sub-result
 sub-result c =
-    let n = c.before.args.n in
+    let n = c.args.n in
     rw (minus_is n (omega arith)) (minus-fits n (omega arith))
 
-cast-result-2 : tie.Need-overflow-cast-result-2
+cast-result-2 : tie.Need-overflow_cast-result-else-negative
 cast-result-2 c = search rules
 
-returns : tie.Need-returns
+returns : tie.Need-returns-then-negative
 unfolding signed
 returns c =
-    let n = c.before.args.n in
-    rw (c.if1.true, minus_is n (omega arith)) (to_z-of_z w64 (neg_ℤ (pos n)) (minus-fits n (omega arith)))
+    let n = c.args.n in
+    rw (c.if-negative.true, minus_is n (omega arith)) (to_z-of_z w64 (neg_ℤ (pos n)) (minus-fits n (omega arith)))
 
-returns-2 : tie.Need-returns-2
+returns-2 : tie.Need-returns-else-negative
 unfolding signed
-returns-2 c = rw c.if1.false (to_z_pos w64 c.before.args.n (omega arith))
+returns-2 c = rw c.if-negative.false (to_z_pos w64 c.args.n (omega arith))
 
-pub signed-value-spec : {M : Type 1} → statement M
-signed-value-spec = tie.close (tie.spec cast-result sub-result cast-result-2 returns returns-2)
+pub signed_value_spec : {M : Type 1} → statement M
+signed_value_spec = tie.close (tie.spec cast-result sub-result cast-result-2 returns returns-2)

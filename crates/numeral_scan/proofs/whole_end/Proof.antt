@@ -3,17 +3,17 @@ use borrow.Author.Rules.{rules}
 use Rattle.numeral_scan.proofs.whole_end.Statement.{statement}
 use Rattle.numeral_scan.proofs.whole_end.Tie as tie
 
-is-point-requires : tie.Need-is-point-requires
+is-point-requires : tie.Need-is_point-requires
 is-point-requires c κs = search rules
 
-returns : tie.Need-returns
-returns c = rw (← c.before.is-point.ensures, c.if1.true)
+returns : tie.Need-returns-then-is_point
+returns c = rw (← c.is_point.ensures, c.if-is_point.true)
 
-refused-at-requires : tie.Need-refused-at-requires
+refused-at-requires : tie.Need-refused_at-requires
 refused-at-requires c κs = search rules
 
-returns-2 : tie.Need-returns-2
-returns-2 c = rw (← c.before.before.is-point.ensures, c.before.if1.false) c.refused-at.ensures
+returns-2 : tie.Need-returns
+returns-2 c = rw (← c.is_point.ensures, c.if-is_point.false) c.refused_at.ensures
 
-pub whole-end-spec : {M : Type 1} → statement M
-whole-end-spec = tie.close (tie.spec is-point-requires returns refused-at-requires returns-2)
+pub whole_end_spec : {M : Type 1} → statement M
+whole_end_spec = tie.close (tie.spec is-point-requires returns refused-at-requires returns-2)

@@ -8,15 +8,15 @@ use Rattle.numeral.specs.WritingLaws.{length-fraction}
 use Rattle.numeral_write.proofs.fraction_length.Statement.{statement}
 use Rattle.numeral_write.proofs.fraction_length.Tie as tie
 
-add-result : tie.Need-overflow-add-result
+add-result : tie.Need-overflow_add-result
 add-result c = search rules
 
-returns : tie.Need-returns
+returns : tie.Need-returns-then-places-eq0
 unfolding fraction_text
-returns c = ((λ n. rw c.if1.true), omega arith)
+returns c = ((λ n. rw c.if-places-eq0.true), omega arith)
 
-returns-2 : tie.Need-returns-2
-returns-2 c = ((λ n. sym (length-fraction c.before.args.places n (omega (arith, c.if1.false)))), omega arith)
+returns-2 : tie.Need-returns-else-places-eq0
+returns-2 c = ((λ n. sym (length-fraction c.args.places n (omega (arith, c.if-places-eq0.false)))), omega arith)
 
-pub fraction-length-spec : {M : Type 1} → statement M
-fraction-length-spec = tie.close (tie.spec add-result returns returns-2)
+pub fraction_length_spec : {M : Type 1} → statement M
+fraction_length_spec = tie.close (tie.spec add-result returns returns-2)

@@ -43,26 +43,26 @@ module _ (v : ℤ) (f : SFits w64 v) (e : lt_z (to_z w64 (of_z w64 v)) (to_z w64
   read_back : to_z w64 (of_z w64 (negsuc 0 -ℤ to_z w64 (of_z w64 v))) ≡ pos (mag v)
   read_back = to_z-of_z w64 _ difference-fits ∙ difference
 
-sub-result : tie.Need-overflow-sub-result
-sub-result c = difference-fits _ c.before.ranges.v c.if1.true
+sub-result : tie.Need-overflow_sub-result
+sub-result c = difference-fits _ c.ranges.v c.if-v-lt0.true
 
-cast-result : tie.Need-overflow-cast-result
-cast-result c = rw (read_back _ c.before.ranges.v c.if1.true) (tt, record { fits = omega (arith, c.before.ranges.v.sfits) })
+cast-result : tie.Need-overflow_cast-result
+cast-result c = rw (read_back _ c.ranges.v c.if-v-lt0.true) (tt, record { fits = omega (arith, c.ranges.v.sfits) })
 
-add-result : tie.Need-overflow-add-result
-add-result c = rw (read_back _ c.before.ranges.v c.if1.true) (record { fits = omega (arith, c.before.ranges.v.sfits) })
+add-result : tie.Need-overflow_add-result
+add-result c = rw (read_back _ c.ranges.v c.if-v-lt0.true) (record { fits = omega (arith, c.ranges.v.sfits) })
 
-cast-result-2 : tie.Need-overflow-cast-result-2
+cast-result-2 : tie.Need-overflow_cast-result-else-v-lt0
 cast-result-2 c =
-    let same = to_z-of_z w64 c.before.args.v c.before.ranges.v in
-    rw same (not_negative _ (rw same at c.if1.false) c.before.ranges.v)
+    let same = to_z-of_z w64 c.args.v c.ranges.v in
+    rw same (not_negative _ (rw same at c.if-v-lt0.false) c.ranges.v)
 
-returns : tie.Need-returns
-returns c = rw (read_back _ c.before.ranges.v c.if1.true) (one_more c.before.args.v (below _ c.before.ranges.v c.if1.true))
+returns : tie.Need-returns-then-v-lt0
+returns c = rw (read_back _ c.ranges.v c.if-v-lt0.true) (one_more c.args.v (below _ c.ranges.v c.if-v-lt0.true))
 
-returns-2 : tie.Need-returns-2
+returns-2 : tie.Need-returns-else-v-lt0
 returns-2 c = search rules
 
-pub magnitude-spec : {M : Type 1} → statement M
-magnitude-spec =
+pub magnitude_spec : {M : Type 1} → statement M
+magnitude_spec =
     tie.close (tie.spec sub-result cast-result add-result cast-result-2 returns returns-2)

@@ -8,11 +8,11 @@ use Rattle.numeral.specs.WritingLaws.{sign_below, sign_above}
 use Rattle.numeral_write.proofs.sign_length.Statement.{statement}
 use Rattle.numeral_write.proofs.sign_length.Tie as tie
 
-returns : tie.Need-returns
-returns c = (sym (sign_below _ (rw (to_z-of_z w64 _ c.before.ranges.v) at c.if1.true)), omega arith)
+returns : tie.Need-returns-then-v-lt0
+returns c = (sym (sign_below _ (rw (to_z-of_z w64 _ c.ranges.v) at c.if-v-lt0.true)), omega arith)
 
-returns-2 : tie.Need-returns-2
-returns-2 c = (sym (sign_above _ (rw (to_z-of_z w64 _ c.before.ranges.v) at c.if1.false)), omega arith)
+returns-2 : tie.Need-returns-else-v-lt0
+returns-2 c = (sym (sign_above _ (rw (to_z-of_z w64 _ c.ranges.v) at c.if-v-lt0.false)), omega arith)
 
-pub sign-length-spec : {M : Type 1} → statement M
-sign-length-spec = tie.close (tie.spec returns returns-2)
+pub sign_length_spec : {M : Type 1} → statement M
+sign_length_spec = tie.close (tie.spec returns returns-2)

@@ -10,36 +10,36 @@ use Rattle.octets.specs.StoreLaws.{put-none, put_fill}
 use Rattle.octets.proofs.fill.Statement.{statement}
 use Rattle.octets.proofs.fill.Tie as tie
 
-abbrev invariant-loop : tie.invariant-loop
+abbrev invariant-loop : tie.invariant-loop-i
 invariant-loop buf₀ from to value i₀ buf i = (from ≤ i) × (i ≤ to) × (length buf ≡ length buf₀) × (buf ≡ put buf₀ from (replicate (i - from) value))
 
-abbrev decreases-loop : tie.decreases-loop
+abbrev decreases-loop : tie.decreases-loop-i
 decreases-loop buf₀ from to value i₀ buf i = to - i
 
-loop-holds : tie.Need-loop-init invariant-loop decreases-loop
+loop-holds : tie.Need-loop-i-init invariant-loop decreases-loop
 loop-holds c = (omega arith, omega arith, refl, rw sub_self (sym (put-none _ _)))
 
-slice-write-buf : tie.Need-slice-write-buf invariant-loop decreases-loop
+slice-write-buf : tie.Need-bounds-buf-i invariant-loop decreases-loop
 slice-write-buf c = omega arith
 
-add-i : tie.Need-overflow-add-i invariant-loop decreases-loop
+add-i : tie.Need-overflow_add-i invariant-loop decreases-loop
 add-i c = omega arith
 
-loop-less : tie.Need-loop-smaller invariant-loop decreases-loop
+loop-less : tie.Need-loop-i-smaller invariant-loop decreases-loop
 loop-less c = omega arith
 
-loop-again : tie.Need-loop-preserved invariant-loop decreases-loop
+loop-again : tie.Need-loop-i-preserved invariant-loop decreases-loop
 loop-again c =
-    let inv = c.before.loop.invariant in
+    let inv = c.loop-i.invariant in
     (omega arith, omega arith, simp length-set (omega arith), rw inv.3 (put_fill _ _ _ _ inv.0))
 
-same_length : tie.Need-same-length invariant-loop decreases-loop
+same_length : tie.Need-shape_of-buf invariant-loop decreases-loop
 same_length c = omega arith
 
 returns : tie.Need-returns invariant-loop decreases-loop
 returns c =
-    let e : c.before.loop.i ≡ c.before.before.args.to = omega arith in
-    c.before.loop.invariant.3 ∙ rw e
+    let e : c.loop-i.i ≡ c.args.to = omega arith in
+    c.loop-i.invariant.3 ∙ rw e
 
 pub fill_spec : {M : Type 1} → statement M
 fill_spec =

@@ -8,10 +8,10 @@ use Rattle.octets.specs.NumberLaws.{le32_turned}
 use Rattle.octets.proofs.load_be32.Statement.{statement}
 use Rattle.octets.proofs.load_be32.Tie as tie
 
-load-le32-requires : tie.Need-load-le32-requires
+load-le32-requires : tie.Need-load_le32-requires
 load-le32-requires c κs = search rules
 
-swap-bytes-requires : tie.Need-swap-bytes-requires
+swap-bytes-requires : tie.Need-swap_bytes-requires
 swap-bytes-requires c κs = search rules
 
 -- what was read, turned round
@@ -19,7 +19,7 @@ turned : (s : List ℕ) (at x r : ℕ) → ((j : ℕ) → byte_at s j < 256) →
 turned s at x r small is_x is-r = is-r ∙ rw is_x (le32_turned s at small)
 
 returns : tie.Need-returns
-returns c = turned _ _ _ _ (λ j. (c.before.before.shared-slice-known.given j).fits) c.before.load-le32.ensures c.swap_bytes.ensures
+returns c = turned _ _ _ _ (λ j. (c.shared_slice_known-1.given j).fits) c.load_le32.ensures c.swap_bytes.ensures
 
-pub load-be32-spec : {M : Type 1} → statement M
-load-be32-spec = tie.close (tie.spec load-le32-requires swap-bytes-requires returns)
+pub load_be32_spec : {M : Type 1} → statement M
+load_be32_spec = tie.close (tie.spec load-le32-requires swap-bytes-requires returns)

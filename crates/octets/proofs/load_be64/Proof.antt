@@ -5,41 +5,33 @@ use Rattle.octets.specs.WordLaws.{be64_number}
 use Rattle.octets.proofs.load_be64.Statement.{statement}
 use Rattle.octets.proofs.load_be64.Tie as tie
 
-load-be32-requires : tie.Need-load-be32-requires
+load-be32-requires : tie.Need-load_be32-requires
 load-be32-requires c κs = search rules
 
-cast-result : tie.Need-overflow-cast-result
+cast-result : tie.Need-overflow_cast-result
 cast-result c = search rules
 
-mul-result : tie.Need-overflow-mul-result
+mul-result : tie.Need-overflow_mul-result
 mul-result c = search rules
 
-add-load-be32 : tie.Need-overflow-add-load-be32
+add-load-be32 : tie.Need-overflow_add-at
 add-load-be32 c = search rules
 
-load-be32-requires-2 : tie.Need-load-be32-requires-2
+load-be32-requires-2 : tie.Need-load_be32-requires-2
 load-be32-requires-2 c κs = search rules
 
-cast-result-2 : tie.Need-overflow-cast-result-2
+cast-result-2 : tie.Need-overflow_cast-result-2
 cast-result-2 c = search rules
 
-add-result : tie.Need-overflow-add-result
+add-result : tie.Need-overflow_add-result
 add-result c = search rules
 
 returns : tie.Need-returns
 returns c =
-    let args = c.before.before.before.args in
-    omega (arith, be64_number args.s.now args.at, c.before.load-be32.ensures, c.load-be322.ensures)
+    let args = c.args in
+    omega (arith, be64_number args.s.now args.at, c.load_be32.ensures, c.load_be32-2.ensures)
 
-pub load-be64-spec : {M : Type 1} → statement M
-load-be64-spec =
+pub load_be64_spec : {M : Type 1} → statement M
+load_be64_spec =
     tie.close
-    (tie.spec
-    load-be32-requires
-    cast-result
-    mul-result
-    add-load-be32
-    load-be32-requires-2
-    cast-result-2
-    add-result
-    returns)
+    (tie.spec load-be32-requires cast-result mul-result add-load-be32 load-be32-requires-2 cast-result-2 add-result returns)

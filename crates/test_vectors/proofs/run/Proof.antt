@@ -5,37 +5,37 @@ use lib.ListN.{length}
 use Rattle.test_vectors.proofs.run.Statement.{statement}
 use Rattle.test_vectors.proofs.run.Tie as tie
 
-abbrev invariant-loop : tie.invariant-loop
+abbrev invariant-loop : tie.invariant-loop-from
 invariant-loop input from₀ from = Unit {0}
 
-abbrev decreases-loop : tie.decreases-loop
+abbrev decreases-loop : tie.decreases-loop-from
 decreases-loop input from₀ from = length input - from
 
-loop-holds : tie.Need-loop-init invariant-loop decreases-loop
+loop-holds : tie.Need-loop-from-init invariant-loop decreases-loop
 loop-holds c = search rules
 
-find-requires : tie.Need-find-requires invariant-loop decreases-loop
+find-requires : tie.Need-find-end-requires invariant-loop decreases-loop
 find-requires c κs = search rules
 
-sub-line : tie.Need-overflow-sub-line invariant-loop decreases-loop
+sub-line : tie.Need-slice_bounds-line-count invariant-loop decreases-loop
 sub-line c = search rules
 
-part-line-start : tie.Need-slice-bounds-line-start invariant-loop decreases-loop
+part-line-start : tie.Need-slice_bounds-line-start invariant-loop decreases-loop
 part-line-start c = search rules
 
-part-line-end : tie.Need-slice-bounds-line-end invariant-loop decreases-loop
+part-line-end : tie.Need-slice_bounds-line-end invariant-loop decreases-loop
 part-line-end c = search rules
 
 line-requires : tie.Need-line-requires invariant-loop decreases-loop
 line-requires c κs = search rules
 
-add-from : tie.Need-overflow-add-from invariant-loop decreases-loop
+add-from : tie.Need-overflow_add-from invariant-loop decreases-loop
 add-from c = search rules
 
-loop-less : tie.Need-loop-smaller invariant-loop decreases-loop
+loop-less : tie.Need-loop-from-smaller invariant-loop decreases-loop
 loop-less c = search rules
 
-loop-again : tie.Need-loop-preserved invariant-loop decreases-loop
+loop-again : tie.Need-loop-from-preserved invariant-loop decreases-loop
 loop-again c = search rules
 
 returns : tie.Need-returns invariant-loop decreases-loop
@@ -44,16 +44,4 @@ returns c = search rules
 pub run_spec : {M : Type 1} → statement M
 run_spec =
     tie.close
-    (tie.spec
-    invariant-loop
-    decreases-loop
-    loop-holds
-    find-requires
-    sub-line
-    part-line-start
-    part-line-end
-    line-requires
-    add-from
-    loop-less
-    loop-again
-    returns)
+    (tie.spec invariant-loop decreases-loop loop-holds find-requires sub-line part-line-start part-line-end line-requires add-from loop-less loop-again returns)

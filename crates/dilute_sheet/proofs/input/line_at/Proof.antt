@@ -14,125 +14,104 @@ use Rattle.dilute_sheet.proofs.input.line_at.Statement.{statement}
 use Rattle.dilute_sheet.proofs.input.line_at.Tie as tie
 
 -- the digits that are read
-read : (c : tie.After-read-digits) (d : Digits) → c.read-digits.result ≡ d
-    → let args = c.before.before.before.before.before.before.before.before.before.args in
+read : (c : tie.After-read_digits) (d : Digits) → c.read_digits.result ≡ d
+    → let args = c.args in
     d ≡ Number (number_of (digits_at args.input.now args.from))
 read c d e =
     let ended = c.before.before.before.before.before.before.before in
-    sym e ∙ c.read-digits.ensures ∙ line_digits _ _ _ ended.digits-end.ensures
+    sym e ∙ c.read_digits.ensures ∙ line_digits _ _ _ ended.digits_end-end.ensures
 
-digits-end-requires : tie.Need-digits-end-requires
+digits-end-requires : tie.Need-digits_end-end-requires
 digits-end-requires c κs = search rules
 
-no-line-requires : tie.Need-no-line-requires
+no-line-requires : tie.Need-no_line-requires
 no-line-requires c κs = search rules
 
-returns : tie.Need-returns
+returns : tie.Need-returns-then-input-end
 returns c =
     let ended = c.before.before in
-    c.no_line.ensures ∙ sym (line_past _ _ _ ended.digits-end.ensures c.before.if1.true)
+    c.no_line.ensures ∙ sym (line_past _ _ _ ended.digits_end-end.ensures c.if-input-end.true)
 
-no-line-requires-2 : tie.Need-no-line-requires-2
+no-line-requires-2 : tie.Need-no_line-requires-then-end-from
 no-line-requires-2 c κs = search rules
 
-returns-2 : tie.Need-returns-2
+returns-2 : tie.Need-returns-then-end-from
 returns-2 c =
     let ended = c.before.before.before in
-    c.no-line2.ensures ∙ sym (line_short _ _ _ ended.digits-end.ensures c.before.if2.true)
+    c.no_line-then-end-from.ensures ∙ sym (line_short _ _ _ ended.digits_end-end.ensures c.if-end-from.true)
 
-sub-if3 : tie.Need-overflow-sub-if3
-sub-if3 c = omega (arith, c.before.before.digits-end.ensures)
+sub-if3 : tie.Need-overflow_sub-end
+sub-if3 c = omega (arith, c.digits_end-end.ensures)
 
-no-line-requires-3 : tie.Need-no-line-requires-3
+no-line-requires-3 : tie.Need-no_line-requires-then-end-from-gt-MAX_DIGITS
 no-line-requires-3 c κs = search rules
 
-returns-3 : tie.Need-returns-3
+returns-3 : tie.Need-returns-then-end-from-gt-MAX_DIGITS
 returns-3 c =
     let ended = c.before.before.before.before in
-    c.no-line3.ensures ∙ sym (line_long _ _ _ ended.digits-end.ensures c.before.if3.true)
+    c.no_line-then-end-from-gt-MAX_DIGITS.ensures ∙ sym (line_long _ _ _ ended.digits_end-end.ensures c.if-end-from-gt-MAX_DIGITS.true)
 
-shared-slice-read-if4 : tie.Need-shared-slice-read-if4
-shared-slice-read-if4 c = omega (arith, c.before.before.before.if1.false)
+shared-slice-read-if4 : tie.Need-bounds-input-end
+shared-slice-read-if4 c = omega (arith, c.if-input-end.false)
 
-no-line-requires-4 : tie.Need-no-line-requires-4
+no-line-requires-4 : tie.Need-no_line-requires-then-input-end-ne10
 no-line-requires-4 c κs = search rules
 
-returns-4 : tie.Need-returns-4
+returns-4 : tie.Need-returns-then-input-end-ne10
 returns-4 c =
     let tested = c.before in
     let few = tested.before.before in
     let some = few.before in
     let ended = some.before.before in
-    c.no-line4.ensures
-    ∙ sym (line_other _ _ _ ended.digits-end.ensures some.if2.false (omega (arith, few.if3.false)) tested.if4.true)
+    c.no_line-then-input-end-ne10.ensures
+    ∙ sym (line_other _ _ _ ended.digits_end-end.ensures some.if-end-from.false (omega (arith, few.if-end-from-gt-MAX_DIGITS.false)) tested.if-input-end-ne10.true)
 
-sub-read-digits : tie.Need-overflow-sub-read-digits
+sub-read-digits : tie.Need-slice_bounds-read_digits-count
 sub-read-digits c = search rules
 
-part-read-digits-start : tie.Need-slice-bounds-read-digits-start
+part-read-digits-start : tie.Need-slice_bounds-read_digits-start
 part-read-digits-start c = search rules
 
-part-read-digits-end : tie.Need-slice-bounds-read-digits-end
-part-read-digits-end c = omega (arith, c.before.before.before.before.if1.false)
+part-read-digits-end : tie.Need-slice_bounds-read_digits-end
+part-read-digits-end c = omega (arith, c.if-input-end.false)
 
-read-digits-requires : tie.Need-read-digits-requires
-read-digits-requires c κs = simp length-take (omega (arith, c.before.before.before.if3.false))
+read-digits-requires : tie.Need-read_digits-requires
+read-digits-requires c κs = simp length-take (omega (arith, c.if-end-from-gt-MAX_DIGITS.false))
 
-enum-known-number : tie.Need-enum-known-number
+enum-known-number : tie.Need-enum_known-number
 enum-known-number c = search rules
 
-add-t14 : tie.Need-overflow-add-t14
+add-t14 : tie.Need-overflow_add-result
 add-t14 c = search rules
 
-enum_told : tie.Need-enum-told
+enum_told : tie.Need-enum_told-1
 enum_told c = search rules
 
-no-line-requires-5 : tie.Need-no-line-requires-5
+no-line-requires-5 : tie.Need-no_line-requires-in-Other
 no-line-requires-5 c κs = search rules
 
-returns-5 : tie.Need-returns-5
+returns-5 : tie.Need-returns-in-Number
 returns-5 c =
-    let told = c.before in
-    let asked = told.before.before in
+    let told = c in
+    let asked = told.before in
     let tested = asked.before.before in
     let few = tested.before.before in
     let some = few.before in
     let ended = some.before.before in
-    let args = ended.before.before.args in
-    let same : Number told.number.given.0.0 ≡ Number (number_of (digits_at args.input.now args.from)) = read asked _ told.number.given.1 in
-    let number : told.number.given.0.0 ≡ number_of (digits_at args.input.now args.from) = cc in
-    sym (line_read _ _ _ ended.digits-end.ensures some.if2.false (omega (arith, few.if3.false)) tested.if4.false _ number)
+    let args = ended.args in
+    let same : Number told.in-Number.number ≡ Number (number_of (digits_at args.input.now args.from)) = read asked _ told.in-Number.is in
+    let number : told.in-Number.number ≡ number_of (digits_at args.input.now args.from) = cc in
+    sym (line_read _ _ _ ended.digits_end-end.ensures some.if-end-from.false (omega (arith, few.if-end-from-gt-MAX_DIGITS.false)) tested.if-input-end-ne10.false _ number)
 
-returns-6 : tie.Need-returns-6
+returns-6 : tie.Need-returns-in-Other
 returns-6 c =
     let told = c.before in
-    let asked = told.before.before in
-    let args = asked.before.before.before.before.before.before.before.before.before.args in
-    let other : Other ≡ Number (number_of (digits_at args.input.now args.from)) = read asked Other told.enum_told.given.1 in
+    let asked = told.before in
+    let args = asked.args in
+    let other : Other ≡ Number (number_of (digits_at args.input.now args.from)) = read asked Other told.in-Other.is in
     impossible (cc)
 
-pub line-at-spec : {M : Type 1} → statement M
-line-at-spec =
+pub line_at_spec : {M : Type 1} → statement M
+line_at_spec =
     tie.close
-    (tie.spec
-    digits-end-requires
-    no-line-requires
-    returns
-    no-line-requires-2
-    returns-2
-    sub-if3
-    no-line-requires-3
-    returns-3
-    shared-slice-read-if4
-    no-line-requires-4
-    returns-4
-    sub-read-digits
-    part-read-digits-start
-    part-read-digits-end
-    read-digits-requires
-    enum-known-number
-    add-t14
-    enum_told
-    no-line-requires-5
-    returns-5
-    returns-6)
+    (tie.spec digits-end-requires no-line-requires returns no-line-requires-2 returns-2 sub-if3 no-line-requires-3 returns-3 shared-slice-read-if4 no-line-requires-4 returns-4 sub-read-digits part-read-digits-start part-read-digits-end read-digits-requires enum-known-number add-t14 enum_told no-line-requires-5 returns-5 returns-6)

@@ -6,23 +6,19 @@ use Rattle.dilute_sheet.specs.InputLaws.{next-none, next-some}
 use Rattle.dilute_sheet.proofs.input.next_line.Statement.{statement}
 use Rattle.dilute_sheet.proofs.input.next_line.Tie as tie
 
-no-line-requires : tie.Need-no-line-requires
+no-line-requires : tie.Need-no_line-requires
 no-line-requires c κs = search rules
 
-returns : tie.Need-returns
-returns c = c.no_line.ensures ∙ sym (next-none _ _ (not-true _ c.before.if1.true))
+returns : tie.Need-returns-then-not-before
+returns c = c.no_line.ensures ∙ sym (next-none _ _ (not-true _ c.if-not-before.true))
 
-line-at-requires : tie.Need-line-at-requires
+line-at-requires : tie.Need-line_at-requires
 line-at-requires c κs = search rules
 
-returns-2 : tie.Need-returns-2
-returns-2 c = c.line_at_lem.ensures ∙ sym (next-some _ _ (not-false _ c.before.if1.false))
+returns-2 : tie.Need-returns
+returns-2 c = c.line_at_lem.ensures ∙ sym (next-some _ _ (not-false _ c.if-not-before.false))
 
-pub next-line-spec : {M : Type 1} → statement M
-next-line-spec =
+pub next_line_spec : {M : Type 1} → statement M
+next_line_spec =
     tie.close
-    (tie.spec
-    no-line-requires
-    returns
-    line-at-requires
-    returns-2)
+    (tie.spec no-line-requires returns line-at-requires returns-2)

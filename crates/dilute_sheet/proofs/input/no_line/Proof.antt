@@ -8,5 +8,5 @@ returns : tie.Need-returns
 unfolding no_line
 returns c = search rules
 
-pub no-line-spec : {M : Type 1} → statement M
-no-line-spec = tie.close (tie.spec returns)
+pub no_line_spec : {M : Type 1} → statement M
+no_line_spec = tie.close (tie.spec returns)

@@ -4,13 +4,13 @@ use Rattle.dilute_sheet.specs.Fault.{wrong_after}
 use Rattle.dilute_sheet.proofs.input.wrong_after.Statement.{statement}
 use Rattle.dilute_sheet.proofs.input.wrong_after.Tie as tie
 
-returns : tie.Need-returns
+returns : tie.Need-returns-then-at-input
 unfolding wrong_after
-returns c = rw (eq-eqb _ _ c.if1.true)
+returns c = rw (eq-eqb _ _ c.if-at-input.true)
 
-returns-2 : tie.Need-returns-2
+returns-2 : tie.Need-returns
 unfolding wrong_after
-returns-2 c = rw (ne_eqb _ _ c.if1.false)
+returns-2 c = rw (ne_eqb _ _ c.if-at-input.false)
 
-pub wrong-after-spec : {M : Type 1} → statement M
-wrong-after-spec = tie.close (tie.spec returns returns-2)
+pub wrong_after_spec : {M : Type 1} → statement M
+wrong_after_spec = tie.close (tie.spec returns returns-2)

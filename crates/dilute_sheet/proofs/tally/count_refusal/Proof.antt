@@ -4,19 +4,19 @@ use Rattle.dilute_sheet.specs.Tally.{refusals}
 use Rattle.dilute_sheet.proofs.tally.count_refusal.Statement.{statement}
 use Rattle.dilute_sheet.proofs.tally.count_refusal.Tie as tie
 
-enum_told : tie.Need-enum-told
+enum_told : tie.Need-enum_told-1
 enum_told c = search rules
 
-enum-told-2 : tie.Need-enum-told-2
+enum-told-2 : tie.Need-enum_told-in-Refused
 enum-told-2 c = search rules
 
-returns : tie.Need-returns
+returns : tie.Need-returns-in-Volumes
 unfolding refusals
 returns c = search rules
 
-returns-2 : tie.Need-returns-2
+returns-2 : tie.Need-returns-in-Refused
 unfolding refusals
 returns-2 c = search rules
 
-pub count-refusal-spec : {M : Type 1} → statement M
-count-refusal-spec = tie.close (tie.spec enum_told enum-told-2 returns returns-2)
+pub count_refusal_spec : {M : Type 1} → statement M
+count_refusal_spec = tie.close (tie.spec enum_told enum-told-2 returns returns-2)

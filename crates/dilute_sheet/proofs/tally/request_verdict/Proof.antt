@@ -8,26 +8,26 @@ use Rattle.dilute_sheet.specs.declared.tally.Verdict.TheVariants.{Lines, Alone}
 use Rattle.dilute_sheet.proofs.tally.request_verdict.Statement.{statement}
 use Rattle.dilute_sheet.proofs.tally.request_verdict.Tie as tie
 
-sheet-refusal-requires : tie.Need-sheet-refusal-requires
+sheet-refusal-requires : tie.Need-sheet_refusal-refused-requires
 sheet-refusal-requires c κs = search rules
 
-returns : tie.Need-returns
+returns : tie.Need-returns-then-refused-ne0
 returns c =
     let asked = c.before in
-    let args = asked.before.before.before.args in
-    let said = asked.sheet-refusal.ensures in
+    let args = asked.args in
+    let said = asked.sheet_refusal-refused.ensures in
     ap (λ (n : ℕ). Alone n) said
-    ∙ sym (verdict-alone args.table.now args.index.now args.request (λ e. c.if1.true (said ∙ e)))
+    ∙ sym (verdict-alone args.table.now args.index.now args.request (λ e. c.if-refused-ne0.true (said ∙ e)))
 
-tally-records-requires : tie.Need-tally-records-requires
-tally-records-requires c κs = sym c.before.sheet-refusal.ensures ∙ c.if1.false
+tally-records-requires : tie.Need-tally_records-requires
+tally-records-requires c κs = sym c.sheet_refusal-refused.ensures ∙ c.if-refused-ne0.false
 
-returns-2 : tie.Need-returns-2
+returns-2 : tie.Need-returns
 returns-2 c =
     let asked = c.before.before in
-    let args = asked.before.before.before.args in
-    ap (λ (x : Tally). Lines x) c.tally-records.ensures
-    ∙ sym (verdict_lines args.table.now args.index.now args.request (sym asked.sheet-refusal.ensures ∙ c.before.if1.false))
+    let args = asked.args in
+    ap (λ (x : Tally). Lines x) c.tally_records.ensures
+    ∙ sym (verdict_lines args.table.now args.index.now args.request (sym asked.sheet_refusal-refused.ensures ∙ c.if-refused-ne0.false))
 
-pub request-verdict-spec : {M : Type 1} → statement M
-request-verdict-spec = tie.close (tie.spec sheet-refusal-requires returns tally-records-requires returns-2)
+pub request_verdict_spec : {M : Type 1} → statement M
+request_verdict_spec = tie.close (tie.spec sheet-refusal-requires returns tally-records-requires returns-2)

@@ -5,10 +5,10 @@ use Rattle.idx_page.specs.Page.{capacity}
 use Rattle.idx_page.proofs.Page.capacity.Statement.{statement}
 use Rattle.idx_page.proofs.Page.capacity.Tie as tie
 
-add-result : tie.Need-overflow-add-result
+add-result : tie.Need-overflow_add-result
 add-result c = search rules
 
-div-result : tie.Need-nonzero-div-result
+div-result : tie.Need-nonzero_div-result
 div-result c = search rules
 
 returns : tie.Need-returns

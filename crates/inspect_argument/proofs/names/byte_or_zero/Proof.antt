@@ -6,14 +6,14 @@ use lib.ListN.{get_or-eq_default}
 use Rattle.inspect_argument.proofs.names.byte_or_zero.Statement.{statement}
 use Rattle.inspect_argument.proofs.names.byte_or_zero.Tie as tie
 
-shared-slice-read-result : tie.Need-shared-slice-read-result
+shared-slice-read-result : tie.Need-bounds-text-k
 shared-slice-read-result c = search rules
 
-returns : tie.Need-returns
+returns : tie.Need-returns-then-k-text
 returns c = search rules
 
-returns-2 : tie.Need-returns-2
-returns-2 c = let args = c.before.args in sym (get_or-eq_default args.text.now 0 {n = args.k} (omega arith))
+returns-2 : tie.Need-returns-else-k-text
+returns-2 c = let args = c.args in sym (get_or-eq_default args.text.now 0 {n = args.k} (omega arith))
 
-pub byte-or-zero-spec : {M : Type 1} → statement M
-byte-or-zero-spec = tie.close (tie.spec shared-slice-read-result returns returns-2)
+pub byte_or_zero_spec : {M : Type 1} → statement M
+byte_or_zero_spec = tie.close (tie.spec shared-slice-read-result returns returns-2)

@@ -11,71 +11,58 @@ use Rattle.inspect_argument.specs.Names.{name_byte, has_name}
 use Rattle.inspect_argument.proofs.names.has_name.Statement.{statement}
 use Rattle.inspect_argument.proofs.names.has_name.Tie as tie
 
-abbrev invariant-loop : tie.invariant-loop
+abbrev invariant-loop : tie.invariant-loop-k
 invariant-loop table name j at k₀ k = (k ≤ 11) × (all_below (name_byte table name j) k ≡ true)
 
-abbrev decreases-loop : tie.decreases-loop
+abbrev decreases-loop : tie.decreases-loop-k
 decreases-loop table name j at k₀ k = 11 - k
 
-mul_at : tie.Need-overflow-mul-at invariant-loop decreases-loop
+mul_at : tie.Need-overflow_mul-at invariant-loop decreases-loop
 mul_at c = search rules
 
-add_at : tie.Need-overflow-add-at invariant-loop decreases-loop
+add_at : tie.Need-overflow_add-at invariant-loop decreases-loop
 add_at c = search rules
 
-loop-holds : tie.Need-loop-init invariant-loop decreases-loop
+loop-holds : tie.Need-loop-k-init invariant-loop decreases-loop
 loop-holds c = (omega arith, all_none _)
 
-add-if1 : tie.Need-overflow-add-if1 invariant-loop decreases-loop
+add-if1 : tie.Need-overflow_add-at-in-loop-k invariant-loop decreases-loop
 add-if1 c = search rules
 
-shared-slice-read-if1 : tie.Need-shared-slice-read-if1 invariant-loop decreases-loop
+shared-slice-read-if1 : tie.Need-bounds-table-at invariant-loop decreases-loop
 shared-slice-read-if1 c = search rules
 
-byte-or-zero-requires : tie.Need-byte-or-zero-requires invariant-loop decreases-loop
+byte-or-zero-requires : tie.Need-byte_or_zero-requires invariant-loop decreases-loop
 byte-or-zero-requires c κs = search rules
 
-returns : tie.Need-returns invariant-loop decreases-loop
+returns : tie.Need-returns-then-table-at invariant-loop decreases-loop
 unfolding has_name name_byte
 returns c =
     let at-loop = c.before.before.before.before in
-    let args = at-loop.before.before.before.args in
-    let other = rw c.before.byte-or-zero.ensures at c.if1.true in
-    sym (all_stop (name_byte args.table.now args.name.now args.j) at-loop.loop.k 11 (omega arith) (ne_eqb _ _ other))
+    let args = at-loop.args in
+    let other = rw c.byte_or_zero.ensures at c.if-table-at.true in
+    sym (all_stop (name_byte args.table.now args.name.now args.j) at-loop.loop-k.k 11 (omega arith) (ne_eqb _ _ other))
 
-add-k : tie.Need-overflow-add-k invariant-loop decreases-loop
+add-k : tie.Need-overflow_add-k invariant-loop decreases-loop
 add-k c = search rules
 
-loop-less : tie.Need-loop-smaller invariant-loop decreases-loop
+loop-less : tie.Need-loop-k-smaller invariant-loop decreases-loop
 loop-less c = search rules
 
-loop-again : tie.Need-loop-preserved invariant-loop decreases-loop
+loop-again : tie.Need-loop-k-preserved invariant-loop decreases-loop
 unfolding name_byte
 loop-again c =
     let at-loop = c.before.before.before.before in
-    let same = rw c.before.byte-or-zero.ensures at c.if1.false in
-    (omega arith, all_more _ at-loop.loop.k at-loop.loop.invariant.1 (eq-eqb _ _ same))
+    let same = rw c.byte_or_zero.ensures at c.if-table-at.false in
+    (omega arith, all_more _ at-loop.loop-k.k at-loop.loop-k.invariant.1 (eq-eqb _ _ same))
 
-returns-2 : tie.Need-returns-2 invariant-loop decreases-loop
+returns-2 : tie.Need-returns invariant-loop decreases-loop
 unfolding has_name
 returns-2 c =
-    let end : c.before.loop.k ≡ 11 = omega arith in
-    sym (rw end at c.before.loop.invariant.1)
+    let end : c.loop-k.k ≡ 11 = omega arith in
+    sym (rw end at c.loop-k.invariant.1)
 
-pub has-name-spec : {M : Type 1} → statement M
-has-name-spec =
+pub has_name_spec : {M : Type 1} → statement M
+has_name_spec =
     tie.close
-    (tie.spec
-    invariant-loop
-    decreases-loop
-    mul_at
-    add_at
-    loop-holds
-    add-if1
-    shared-slice-read-if1
-    byte-or-zero-requires
-    returns
-    add-k
-    loop-less
-    loop-again
-    returns-2)
+    (tie.spec invariant-loop decreases-loop mul_at add_at loop-holds add-if1 shared-slice-read-if1 byte-or-zero-requires returns add-k loop-less loop-again returns-2)

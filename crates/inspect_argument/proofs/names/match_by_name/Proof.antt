@@ -7,55 +7,47 @@ use Rattle.inspect_argument.proofs.names.match_by_name.Statement.{statement}
 use Rattle.inspect_argument.proofs.names.match_by_name.Tie as tie
 
 -- the places: back from the shape of a good table to the check, and from the check to the start
-abbrev checked : tie.After-shape → tie.After-check-table
-checked c = c.before.before
+abbrev checked : tie.In-Good-2 → tie.After-check_table
+checked c = c.before
 
-abbrev start : tie.After-check-table → tie.Start
+abbrev start : tie.After-check_table → tie.Start
 start c = c.before.before.before.before
 
 -- past the check the table is good, and the shape is its own
-shaped : (c : tie.After-shape) → Shaped (start (checked c)).args.table.now c.shape.given.0.0
-shaped c = good_shape _ _ (sym (checked c).check-table.ensures ∙ c.shape.given.1)
+shaped : (c : tie.In-Good-2) → Shaped (start (checked c)).args.table.now c.in-Good.shape
+shaped c = good_shape _ _ (sym (checked c).check_table.ensures ∙ c.in-Good.is)
 
-check-table-requires : tie.Need-check-table-requires
+check-table-requires : tie.Need-check_table-requires
 check-table-requires c κs = search rules
 
-enum-known-code : tie.Need-enum-known-code
+enum-known-code : tie.Need-enum_known-code
 enum-known-code c = search rules
 
-enum-known-shape : tie.Need-enum-known-shape
+enum-known-shape : tie.Need-enum_known-shape
 enum-known-shape c = search rules
 
-named-field-requires : tie.Need-named-field-requires
-named-field-requires c κs = let said = shaped c.before in (said.table, said.fields)
+named-field-requires : tie.Need-named_field-field-requires
+named-field-requires c κs = let said = shaped c in (said.table, said.fields)
 
-returns : tie.Need-returns
+returns : tie.Need-returns-then-field-eq0
 returns c =
-    let said = shaped c.before.before.before in
-    by_none _ _ _ said.table (sym c.before.named-field.ensures ∙ c.if1.true)
+    let said = shaped c.before.before in
+    by_none _ _ _ said.table (sym c.named_field-field.ensures ∙ c.if-field-eq0.true)
 
-match-index-requires : tie.Need-match-index-requires
+match-index-requires : tie.Need-match_index-requires
 match-index-requires c κs = search rules
 
-returns-2 : tie.Need-returns-2
-returns-2 c = by_refusal _ _ _ _ (sym c.before.before.before.check-table.ensures ∙ c.before.code.given.1)
+returns-2 : tie.Need-returns-in-Refused
+returns-2 c = by_refusal _ _ _ _ (sym c.check_table.ensures ∙ c.in-Refused.is)
 
-returns-3 : tie.Need-returns-3
+returns-3 : tie.Need-returns-else-field-eq0
 returns-3 c =
     let asked = c.before.before in
-    let number = asked.named-field.ensures in
-    let said = shaped asked.before.before in
-    by_match _ _ _ _ said.table (λ none. c.before.if1.false (number ∙ none)) (rw number at c.match-index.ensures)
+    let number = asked.named_field-field.ensures in
+    let said = shaped asked.before in
+    by_match _ _ _ _ said.table (λ none. c.if-field-eq0.false (number ∙ none)) (rw number at c.match_index.ensures)
 
 pub match-by_name-spec : {M : Type 1} → statement M
 match-by_name-spec =
     tie.close
-    (tie.spec
-    check-table-requires
-    enum-known-code
-    enum-known-shape
-    named-field-requires
-    returns
-    match-index-requires
-    returns-2
-    returns-3)
+    (tie.spec check-table-requires enum-known-code enum-known-shape named-field-requires returns match-index-requires returns-2 returns-3)

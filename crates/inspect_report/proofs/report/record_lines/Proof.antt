@@ -8,44 +8,44 @@ use Rattle.dbf_table.specs.TableLaws.{layout}
 use Rattle.inspect_report.proofs.report.record_lines.Statement.{statement}
 use Rattle.inspect_report.proofs.report.record_lines.Tie as tie
 
-abbrev invariant-loop : tie.invariant-loop
+abbrev invariant-loop : tie.invariant-loop-number
 invariant-loop line₀ table memo has-memo records fields problems₀ number₀ line problems number = (problems ≤ max_fields * number) × (number ≤ records)
 
-abbrev decreases-loop : tie.decreases-loop
+abbrev decreases-loop : tie.decreases-loop-number
 decreases-loop line₀ table memo has-memo records fields problems₀ number₀ line problems number = records - number
 
 -- the start of the function, from the start of a turn
-abbrev start : tie.In-loop invariant-loop decreases-loop → tie.Start invariant-loop decreases-loop
+abbrev start : tie.In-loop-number invariant-loop decreases-loop → tie.Start invariant-loop decreases-loop
 start c = c.before.before.before.before
 
-loop-holds : tie.Need-loop-init invariant-loop decreases-loop
+loop-holds : tie.Need-loop-number-init invariant-loop decreases-loop
 loop-holds c = search rules
 
-add-number : tie.Need-overflow-add-number invariant-loop decreases-loop
+add-number : tie.Need-overflow_add-number invariant-loop decreases-loop
 add-number c = search rules
 
-record-report-requires : tie.Need-record-report-requires invariant-loop decreases-loop
+record-report-requires : tie.Need-record_report-problems-requires invariant-loop decreases-loop
 record-report-requires c κs =
     let some = (layout _ (start c.before).pre.0).header.some in
     search rules
 
-add-problems : tie.Need-overflow-add-problems invariant-loop decreases-loop
+add-problems : tie.Need-overflow_add-problems invariant-loop decreases-loop
 add-problems c =
     let few = (layout _ (start c.before.before).pre.0).header.few in
-    omega (arith, c.record-report.ensures)
+    omega (arith, c.record_report-problems.ensures)
 
-loop-less : tie.Need-loop-smaller invariant-loop decreases-loop
+loop-less : tie.Need-loop-number-smaller invariant-loop decreases-loop
 loop-less c = search rules
 
-loop-again : tie.Need-loop-preserved invariant-loop decreases-loop
+loop-again : tie.Need-loop-number-preserved invariant-loop decreases-loop
 loop-again c =
     let few = (layout _ (start c.before.before).pre.0).header.few in
-    (omega (arith, c.record-report.ensures), omega arith)
+    (omega (arith, c.record_report-problems.ensures), omega arith)
 
 returns : tie.Need-returns invariant-loop decreases-loop
 returns c = search rules
 
-pub record-lines-spec : {M : Type 1} → statement M
-record-lines-spec =
+pub record_lines_spec : {M : Type 1} → statement M
+record_lines_spec =
     tie.close
     (tie.spec invariant-loop decreases-loop loop-holds add-number record-report-requires add-problems loop-less loop-again returns)

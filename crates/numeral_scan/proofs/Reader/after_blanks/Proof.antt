@@ -7,28 +7,23 @@ use Rattle.numeral.specs.Format.{minus}
 use Rattle.numeral_scan.proofs.Reader.after_blanks.Statement.{statement}
 use Rattle.numeral_scan.proofs.Reader.after_blanks.Tie as tie
 
-in-phase-requires : tie.Need-in-phase-requires
+in-phase-requires : tie.Need-in_phase-requires
 in-phase-requires c κs = search rules
 
-returns : tie.Need-returns
-returns c = rw (eq-eqb blank _ (sym c.before.if1.true)) c.in-phase.ensures
+returns : tie.Need-returns-then-c-eq32
+returns c = rw (eq-eqb blank _ (sym c.if-c-eq32.true)) c.in_phase.ensures
 
-returns-2 : tie.Need-returns-2
-returns-2 c = rw (ne_eqb blank _ (λ e. c.before.if1.false (sym e)), eq-eqb _ minus c.if2.true)
+returns-2 : tie.Need-returns-then-c-eq45
+returns-2 c = rw (ne_eqb blank _ (λ e. c.if-c-eq32.false (sym e)), eq-eqb _ minus c.if-c-eq45.true)
 
-after-sign-requires : tie.Need-after-sign-requires
+after-sign-requires : tie.Need-after_sign-requires
 after-sign-requires c κs = search rules
 
-returns-3 : tie.Need-returns-3
+returns-3 : tie.Need-returns
 returns-3 c =
-    rw (ne_eqb blank _ (λ e. c.before.before.if1.false (sym e)), ne_eqb _ minus c.before.if2.false) c.after-sign.ensures
+    rw (ne_eqb blank _ (λ e. c.if-c-eq32.false (sym e)), ne_eqb _ minus c.if-c-eq45.false) c.after_sign.ensures
 
-pub after-blanks-spec : {M : Type 1} → statement M
-after-blanks-spec =
+pub after_blanks_spec : {M : Type 1} → statement M
+after_blanks_spec =
     tie.close
-    (tie.spec
-    in-phase-requires
-    returns
-    returns-2
-    after-sign-requires
-    returns-3)
+    (tie.spec in-phase-requires returns returns-2 after-sign-requires returns-3)

@@ -4,39 +4,32 @@ use borrow.Author.Rules.{rules}
 use Rattle.numeral_scan.proofs.Reader.after_sign.Statement.{statement}
 use Rattle.numeral_scan.proofs.Reader.after_sign.Tie as tie
 
-is-digit-requires : tie.Need-is-digit-requires
+is-digit-requires : tie.Need-is_digit-requires
 is-digit-requires c κs = search rules
 
-first-digit-requires : tie.Need-first-digit-requires
+first-digit-requires : tie.Need-first_digit-requires
 first-digit-requires c κs = search rules
 
-with-digit-requires : tie.Need-with-digit-requires
-with-digit-requires c κs = sym c.before.before.is_digit.ensures ∙ c.before.if1.true
+with-digit-requires : tie.Need-with_digit-requires
+with-digit-requires c κs = sym c.is_digit.ensures ∙ c.if-is_digit.true
 
-returns : tie.Need-returns
+returns : tie.Need-returns-then-is_digit
 returns c =
     let tested = c.before.before in
-    rw (← tested.before.is_digit.ensures, tested.if1.true, ← c.before.first-digit.ensures) c.with-digit.ensures
+    rw (← tested.is_digit.ensures, tested.if-is_digit.true, ← c.first_digit.ensures) c.with_digit.ensures
 
-whole-start-requires : tie.Need-whole-start-requires
+whole-start-requires : tie.Need-whole_start-requires
 whole-start-requires c κs = search rules
 
-in-phase-requires : tie.Need-in-phase-requires
+in-phase-requires : tie.Need-in_phase-requires
 in-phase-requires c κs = search rules
 
-returns-2 : tie.Need-returns-2
+returns-2 : tie.Need-returns
 returns-2 c =
     let tested = c.before.before in
-    rw (← tested.before.is_digit.ensures, tested.if1.false, ← c.before.whole-start.ensures) c.in-phase.ensures
+    rw (← tested.is_digit.ensures, tested.if-is_digit.false, ← c.whole_start.ensures) c.in_phase.ensures
 
-pub after-sign-spec : {M : Type 1} → statement M
-after-sign-spec =
+pub after_sign_spec : {M : Type 1} → statement M
+after_sign_spec =
     tie.close
-    (tie.spec
-    is-digit-requires
-    first-digit-requires
-    with-digit-requires
-    returns
-    whole-start-requires
-    in-phase-requires
-    returns-2)
+    (tie.spec is-digit-requires first-digit-requires with-digit-requires returns whole-start-requires in-phase-requires returns-2)

@@ -5,27 +5,22 @@ use borrow.Author.Rules.{rules}
 use Rattle.test_equal_keys.proofs.calls.list_records.Statement.{statement}
 use Rattle.test_equal_keys.proofs.calls.list_records.Tie as tie
 
-array-borrow-prefix-list : tie.Need-array-borrow-prefix-list
+array-borrow-prefix-list : tie.Need-slice_bounds-list-end
 array-borrow-prefix-list c = search rules
 
-slice-aggregate-print-records : tie.Need-slice-aggregate-print-records
+slice-aggregate-print-records : tie.Need-slice_bounds-print_records-end
 slice-aggregate-print-records c = sym (length-take-le _ _ (search rules))
 
-print-records-requires : tie.Need-print-records-requires
+print-records-requires : tie.Need-print_records-requires
 print-records-requires c κs = search rules
 
-returns : tie.Need-returns
+returns : tie.Need-returns-then-room-le500
 returns c = search rules
 
-returns-2 : tie.Need-returns-2
+returns-2 : tie.Need-returns-else-room-le500
 returns-2 c = search rules
 
-pub list-records-spec : {M : Type 1} → statement M
-list-records-spec =
+pub list_records_spec : {M : Type 1} → statement M
+list_records_spec =
     tie.close
-    (tie.spec
-    array-borrow-prefix-list
-    slice-aggregate-print-records
-    print-records-requires
-    returns
-    returns-2)
+    (tie.spec array-borrow-prefix-list slice-aggregate-print-records print-records-requires returns returns-2)

@@ -8,40 +8,31 @@ use Rattle.test_equal_keys.proofs.calls.run_keyed.Tie as tie
 word-requires : tie.Need-word-requires
 word-requires c κs = search rules
 
-slice-aggregate-hex-bytes : tie.Need-slice-aggregate-hex-bytes
+slice-aggregate-hex-bytes : tie.Need-slice_bounds-hex_bytes-end
 slice-aggregate-hex-bytes c = search rules
 
-hex-bytes-requires : tie.Need-hex-bytes-requires
+hex-bytes-requires : tie.Need-hex_bytes-n-requires
 hex-bytes-requires c κs = search rules
 
-array-share-prefix-key : tie.Need-array-share-prefix-key
+array-share-prefix-key : tie.Need-slice_bounds-key-end
 array-share-prefix-key c = search rules
 
-slice-aggregate-run-call : tie.Need-slice-aggregate-run-call
+slice-aggregate-run-call : tie.Need-slice_bounds-run_call-end
 slice-aggregate-run-call c = sym (length-take-le _ _ (search rules))
 
-after-word-requires : tie.Need-after-word-requires
+after-word-requires : tie.Need-after_word-requires
 after-word-requires c κs = search rules
 
-run-call-requires : tie.Need-run-call-requires
+run-call-requires : tie.Need-run_call-requires
 run-call-requires c κs = search rules
 
-same_length : tie.Need-same-length
+same_length : tie.Need-shape_of-index
 same_length c = search rules
 
 returns : tie.Need-returns
 returns c = search rules
 
-pub run-keyed-spec : {M : Type 1} → statement M
-run-keyed-spec =
+pub run_keyed_spec : {M : Type 1} → statement M
+run_keyed_spec =
     tie.close
-    (tie.spec
-    word-requires
-    slice-aggregate-hex-bytes
-    hex-bytes-requires
-    array-share-prefix-key
-    slice-aggregate-run-call
-    after-word-requires
-    run-call-requires
-    same_length
-    returns)
+    (tie.spec word-requires slice-aggregate-hex-bytes hex-bytes-requires array-share-prefix-key slice-aggregate-run-call after-word-requires run-call-requires same_length returns)
