@@ -1,3 +1,2 @@
 // Specifications only: specs/ has laws about every call on a table.
 #![tactic(auto)]
-

@@ -1,3 +1,2 @@
 // Demand 3, the book of a list of calls, in specs/: no code.
 #![tactic(auto)]
-

@@ -1,3 +1,2 @@
 // Laws of insertion on bytes, in specs/: no code.
 #![tactic(auto)]
-

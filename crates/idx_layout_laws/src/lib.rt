@@ -1,3 +1,2 @@
 // Laws of pages that are written, in specs/: no code.
 #![tactic(auto)]
-

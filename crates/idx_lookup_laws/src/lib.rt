@@ -1,3 +1,2 @@
 // Specifications only: specs/ has the laws of lookup on a sound index.
 #![tactic(auto)]
-

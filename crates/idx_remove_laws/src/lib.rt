@@ -1,3 +1,2 @@
 // Laws of removal, in specs/: no code.
 #![tactic(auto)]
-

@@ -1,7 +1,6 @@
 // The program that the service desk runs on a lab's files. It takes the arguments; `inspect_report` does the work.
 #![tactic(auto)]
 
-
 // How many arguments there are besides the program's own name.
 fn arguments() -> usize {
     let words = os::arg_count();

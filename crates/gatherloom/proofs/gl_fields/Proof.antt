@@ -478,4 +478,3 @@ gl_fields_spec 𝓤 𝓛 𝓜 𝓡 =
     code.calls-dbf-calls::deletion-entry (first-entry-thm.met 𝓤 𝓛 𝓜 𝓡))
     (cited 𝓤 𝓛.H (EntryC 𝓛 𝓜.mem 𝓡.run) 𝓜 𝓡 code.env #dbf_calls·next-entry next-entry-def.routine
     code.calls-dbf-calls::next-entry (next-entry-thm.met 𝓤 𝓛 𝓜 𝓡)))
-

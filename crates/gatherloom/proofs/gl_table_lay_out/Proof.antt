@@ -587,4 +587,3 @@ gl_table_lay_out_spec 𝓤 𝓛 𝓜 𝓡 =
     (cited 𝓤 𝓛.H (FieldC 𝓛 𝓜.mem 𝓡.run) 𝓜 𝓡 code.env #dbf_create·write-field field-def.routine code.calls-dbf-create::write-field
     (field-thm.met 𝓤 𝓛 𝓜 𝓡))
     (cited 𝓤 𝓛.H (LayC 𝓛 𝓜.mem 𝓡.run) 𝓜 𝓡 code.env #dbf_create·lay-out lay-def.routine code.calls-dbf-create::lay-out (lay-thm.met 𝓤 𝓛 𝓜 𝓡)))
-

@@ -317,4 +317,3 @@ gl_walk_spec 𝓤 𝓛 𝓜 𝓡 =
     (gl-walk-meets 𝓛 𝓜.mem 𝓡.run (tables_of 𝓤 𝓛.H 𝓜 (tables 𝓤 𝓛.H 𝓜 𝓡 code.env))
     (cited 𝓤 𝓛.H (StepC 𝓛 𝓜.mem 𝓡.run) 𝓜 𝓡 code.env #dbf_calls·lent-step step-def.routine
     code.calls-dbf-calls::lent-step (step_thm.met 𝓤 𝓛 𝓜 𝓡)))
-
