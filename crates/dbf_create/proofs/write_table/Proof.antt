@@ -23,8 +23,7 @@ store-le16-requires c κs = search rules
 
 kind-of-requires : tie.Need-kind_of-kind-requires
 kind-of-requires c κs =
-    let stored = c.before.before.before in
-    begun_fits _ _ _ _ _ _ stored.requires stored.store_le16.ensures
+    begun_fits _ _ _ _ _ _ c.requires c.store_le16.ensures
 
 field-offset-requires : tie.Need-field_offset-length-requires
 field-offset-requires c κs = search rules
@@ -70,20 +69,12 @@ same_length c = simp length-set (search rules)
 
 returns : tie.Need-returns
 returns c =
-    let filled = c.before.before in
-    let dated = filled.before.before.before.before in
-    let sized = dated.before.before.before.before.before in
-    let offset = sized.before.before in
-    let kind = offset.before.before in
-    let stored = kind.before.before.before.before in
-    let pre = stored.requires in
-    let e₁ = stored.store_le16.ensures in
-    let size = offset.field_offset-length.ensures in
-    let e₂ = sized.store_le16-2.ensures in
-    let e₃ = dated.copy_in.ensures in
+    let e₁ = c.store_le16.ensures in
+    let size = c.field_offset-length.ensures in
+    let e₂ = c.store_le16-2.ensures in
     record {
-      bytes = written _ _ _ _ _ _ pre e₁ _ _ _ _ _ kind.kind_of-kind.ensures size.0 e₂ e₃ filled.fill.ensures;
-      small = omega (arith, size.0, size.1, begun_size _ _ _ _ _ _ pre e₁, pre.few);
+      bytes = written _ _ _ _ _ _ c.requires e₁ _ _ _ _ _ c.kind_of-kind.ensures size.0 e₂ c.copy_in.ensures c.fill.ensures;
+      small = omega (arith, size.0, size.1, begun_size _ _ _ _ _ _ c.requires e₁, c.requires.few);
     }
 
 pub write_table_spec : {M : Type 1} → statement M
