@@ -80,4 +80,5 @@ returns-3 c =
 pub lay_out_spec : {M : Type 1} → statement M
 lay_out_spec =
     tie.close
-    (tie.spec storable-date-requires returns count-good-requires returns-2 write-table-requires mul-lay-table add-lay-table add-lay-table-2 slice-reshare-prefix-lay-table slice-aggregate-lay-table lay-table-requires same_length same-length-2 returns-3)
+    (tie.spec storable-date-requires returns count-good-requires returns-2 write-table-requires mul-lay-table add-lay-table add-lay-table-2
+    slice-reshare-prefix-lay-table slice-aggregate-lay-table lay-table-requires same_length same-length-2 returns-3)

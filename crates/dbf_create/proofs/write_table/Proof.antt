@@ -80,4 +80,6 @@ returns c =
 pub write_table_spec : {M : Type 1} → statement M
 write_table_spec =
     tie.close
-    (tie.spec mul-end add-end add-store-le16 cast-store-le16 store-le16-requires kind-of-requires field-offset-requires cast-store-le16-2 store-le16-requires-2 sub-t14 cast-t21 cast-t22 cast-t23 slice-aggregate-copy-in copy-in-requires fill-requires slice-write-room add-room slice-write-room-2 same_length returns)
+    (tie.spec mul-end add-end add-store-le16 cast-store-le16 store-le16-requires kind-of-requires field-offset-requires cast-store-le16-2
+    store-le16-requires-2 sub-t14 cast-t21 cast-t22 cast-t23 slice-aggregate-copy-in copy-in-requires fill-requires slice-write-room add-room
+    slice-write-room-2 same_length returns)
