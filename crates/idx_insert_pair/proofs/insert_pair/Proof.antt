@@ -66,7 +66,7 @@ returns c =
     let below = finished.before.before.before.before.before.before in
     let supply = at-supply below in
     let at-start = start supply in
-    pair_inserted _ at-start.args.key.now _ at-start.pre.1 supply.root-root.ensures supply.supply_of-supply.ensures
+    pair_inserted _ at-start.args.key.now _ at-start.requires.1 supply.root-root.ensures supply.supply_of-supply.ensures
     below.insert_under-below.ensures finished.at_root.ensures
 
 pub insert_pair_spec : {M : Type 1} → statement M
