@@ -9,7 +9,7 @@ use Rattle.idx_layout.proofs.split_page.Tie as tie
 
 -- the places: the call's start, from where the right neighbour is known; and the place before each store, from the one before the next
 abbrev start : tie.After-right-1 → tie.Start
-start c = c.before.before.before.before.before.before.before-UNKNOWN
+start c = c.before.before.before.before.before.before
 
 abbrev before-attribute : tie.After-set_attribute-arg-1 → tie.After-right-1
 before-attribute c = c.before.before.before.before.before.before
