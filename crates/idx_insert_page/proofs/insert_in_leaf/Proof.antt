@@ -12,7 +12,7 @@ use Rattle.idx_insert_page.proofs.insert_in_leaf.Tie as tie
 
 -- the places: the call's start, from where the entries are counted; that place, from where they are gathered
 abbrev start : tie.After-entry_count-count → tie.Start
-start c = c.before.before.before.before.before-UNKNOWN
+start c = c.before.before.before.before
 
 abbrev before-gathering : tie.After-gather_pair → tie.After-entry_count-count
 before-gathering c = c.before.before.before

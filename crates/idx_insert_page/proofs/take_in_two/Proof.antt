@@ -11,7 +11,7 @@ use Rattle.idx_insert_page.proofs.take_in_two.Tie as tie
 
 -- the places: the call's start, from where the entries are counted; where there are some, from where they are gathered
 abbrev start : tie.After-entry_count-count → tie.Start
-start c = c.before.before.before.before.before-UNKNOWN
+start c = c.before.before.before.before
 
 abbrev before-gathering : tie.After-gather_two → tie.Else-count-i
 before-gathering c = c.before.before.before

@@ -13,7 +13,7 @@ use Rattle.idx_remove_page.proofs.take_out.Tie as tie
 
 -- the places: the call's start, from behind the test; that place, from where the entries are gathered; that one, from where they are written
 abbrev start : tie.Else-count-i → tie.Start
-start c = c.before.before.before.before.before-UNKNOWN
+start c = c.before.before.before.before
 
 abbrev before-gathering : tie.After-gather_without → tie.Else-count-i
 before-gathering c = c.before.before.before

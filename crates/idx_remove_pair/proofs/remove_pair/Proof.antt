@@ -8,7 +8,7 @@ use Rattle.idx_remove_pair.proofs.remove_pair.Tie as tie
 
 -- the places: the call's start, from where the root is known; that place, from where the pair is removed under the root
 abbrev start : tie.After-root-root → tie.Start
-start c = c.before.before.before.before-UNKNOWN
+start c = c.before.before.before
 
 abbrev at-root-known : tie.After-remove_under-below → tie.After-root-root
 at-root-known c = c.before.before.before

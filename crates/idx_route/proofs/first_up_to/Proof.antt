@@ -15,7 +15,7 @@ use Rattle.idx_route.specs.Route.{first_up_to}
 use Rattle.idx_leaf.specs.Given.{Listed}
 use Rattle.idx_leaf.specs.EntryLaws.{item_at, listed-within}
 use Rattle.idx_leaf.specs.SearchLaws.{counted-some}
-use Rattle.idx_route.specs.RouteLaws.{first-end, first-none, first_leaf, first-upper}
+use Rattle.idx_route.specs.RouteLaws.{first-end, first-none, first_leaf_lem, first-upper}
 use Rattle.idx_route.proofs.first_up_to.Statement.{statement}
 use Rattle.idx_route.proofs.first_up_to.Tie as tie
 
@@ -89,7 +89,7 @@ returns-2 c =
     let count = inside.before in
     let loop = at-loop count in
     c.pair_up_to.ensures
-    ∙ first_leaf (start loop).args.index.now (pair loop) _ _ _ count.child-child.ensures (counted inside) inside.if-entry_count-eq0.false _ (left-some count)
+    ∙ first_leaf_lem (start loop).args.index.now (pair loop) _ _ _ count.child-child.ensures (counted inside) inside.if-entry_count-eq0.false _ (left-some count)
     (rw head.at-head.ensures.0 at (sym leaf.is_leaf.ensures ∙ leaf.if-is_leaf.true))
     ∙ sym loop.loop-left.invariant.2
 
