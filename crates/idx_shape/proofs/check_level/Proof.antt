@@ -89,8 +89,8 @@ returns-3 c =
 at-requires : tie.Need-at-head-requires invariant-loop decreases-loop
 at-requires c κs =
     let page = (entries (counted c.before.before)).before in
-    let o = is-page _ _ (inside page.before) in
-    let f = (start (at-loop page.before)).requires.0 in
+    let o = is-page _ _ (inside page) in
+    let f = (start (at-loop page)).requires.0 in
     omega arith
 
 sub-left : tie.Need-overflow_sub-left invariant-loop decreases-loop
