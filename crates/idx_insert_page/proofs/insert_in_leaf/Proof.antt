@@ -50,20 +50,20 @@ slice-reshare-prefix-take-in c =
     let gathered = c.before.before.before in
     let count = before-gathering gathered in
     let s = products count in
-    omega (arith, gathered.gather_pair.auto.0, (start count).requires.3)
+    omega (arith, gathered.gather_pair.auto.room, (start count).requires.3)
 
 slice-aggregate-take-in : tie.Need-slice_bounds-take_in-end-2
 slice-aggregate-take-in c =
     let gathered = c.before.before.before.before in
     let count = before-gathering gathered in
     let s = products count in
-    simp length-take (omega (arith, gathered.gather_pair.auto.0, (start count).requires.3))
+    simp length-take (omega (arith, gathered.gather_pair.auto.room, (start count).requires.3))
 
 take-in-requires : tie.Need-take_in-requires
 take-in-requires c κs =
     let gathered = c.before.before.before.before in
     let count = before-gathering gathered in
-    (one_more _ (counted count) (omega (arith, gathered.gather_pair.auto.0, (start count).requires.3)), (start count).requires.2)
+    (one_more _ (counted count) (omega (arith, gathered.gather_pair.auto.room, (start count).requires.3)), (start count).requires.2)
 
 same_length : tie.Need-shape_of-index
 same_length c = search rules

@@ -59,20 +59,20 @@ slice-reshare-prefix-take-in c =
     let gathered = c.before.before.before in
     let count = (before-gathering gathered).before in
     let s = products count.before in
-    omega (arith, gathered.gather_two.auto.0, (start count.before).requires.3)
+    omega (arith, gathered.gather_two.auto.room, (start count.before).requires.3)
 
 slice-aggregate-take-in : tie.Need-slice_bounds-take_in-end-2
 slice-aggregate-take-in c =
     let gathered = c.before.before.before.before in
     let count = (before-gathering gathered).before in
     let s = products count.before in
-    simp length-take (omega (arith, gathered.gather_two.auto.0, (start count.before).requires.3))
+    simp length-take (omega (arith, gathered.gather_two.auto.room, (start count.before).requires.3))
 
 take-in-requires : tie.Need-take_in-requires
 take-in-requires c κs =
     let gathered = c.before.before.before.before in
     let count = (before-gathering gathered).before in
-    (one_more _ (counted count.before) (omega (arith, gathered.gather_two.auto.0, (start count.before).requires.3)), (start count.before).requires.2)
+    (one_more _ (counted count.before) (omega (arith, gathered.gather_two.auto.room, (start count.before).requires.3)), (start count.before).requires.2)
 
 same-length-2 : tie.Need-shape_of-index
 same-length-2 c = search rules
@@ -87,8 +87,8 @@ returns-2 c =
     let some = before-gathering gathered in
     let count = some.before in
     let key = (start count).args.key.now in
-    two_for_some _ _ _ _ _ _ _ _ _ (omega (arith, count.entry_count-count.ensures, some.if-count-i.left))
-    (two-read key _ _ _ _ (counted count) some.if-count-i.left (start count).requires.3 gathered.gather_two.ensures)
+    two_for_some _ _ _ _ _ _ _ _ _ (omega (arith, count.entry_count-count.ensures, some.if-count-i.false))
+    (two-read key _ _ _ _ (counted count) some.if-count-i.false (start count).requires.3 gathered.gather_two.ensures)
     taken_in.take_in.ensures
 
 pub take_in_two_spec : {M : Type 1} → statement M

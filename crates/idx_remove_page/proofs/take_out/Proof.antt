@@ -61,20 +61,20 @@ slice-reshare-prefix-with-entries c =
     let gathered = c.before.before.before in
     let tested = before-gathering gathered in
     let s = products tested in
-    omega (arith, gathered.gather_without.auto.0, (start tested).requires.1)
+    omega (arith, gathered.gather_without.auto.room, (start tested).requires.1)
 
 slice-aggregate-with-entries : tie.Need-slice_bounds-with_entries-end-2
 slice-aggregate-with-entries c =
     let gathered = c.before.before.before.before in
     let tested = before-gathering gathered in
     let s = products tested in
-    simp length-take (omega (arith, gathered.gather_without.auto.0, (start tested).requires.1))
+    simp length-take (omega (arith, gathered.gather_without.auto.room, (start tested).requires.1))
 
 with-entries-requires : tie.Need-with_entries-requires
 with-entries-requires c κs =
     let gathered = c.before.before.before.before in
     let tested = before-gathering gathered in
-    one_less _ (counted tested) (omega (arith, gathered.gather_without.auto.0, (start tested).requires.1))
+    one_less _ (counted tested) (omega (arith, gathered.gather_without.auto.room, (start tested).requires.1))
 
 same-length-2 : tie.Need-shape_of-index-then-fewer-eq0
 same-length-2 c = search rules
