@@ -1,7 +1,7 @@
 -- Laws: what it means for the tree and the supply that each page is in the tree once or on the free list once; after an insertion and after a removal it is so
 -- again. Cited by the laws of sound indexes and by the laws of bytes. Assumes nothing.
 use Rattle.std.specs.Prelude.{◌≡◌, List, ℕ, ◌+◌, ◌%◌, ◌≤◌, ◌<◌, ltb, eqb}
-use Rattle.std.proofs.Common.{◌∙◌, arith, ltb-true, ltb-false, eqb-true}
+use Rattle.std.proofs.Common.{sym, subst, ◌∙◌, arith, ltb-true, ltb-false, eqb-true}
 use Rattle.std.proofs.lemmas.Bool.{eqb-false}
 use Rattle.basis.specs.Tests.{either}
 use Rattle.tree.specs.Constants.{page_size, no_page}
@@ -22,7 +22,7 @@ module _ {K : Type 0} (i : Index K) (p : PagesOnce i) where
   used-once : (z : ℕ) → used z i ≤ 1
   used-once z = either (ltb z i.size)
       (λ e. either (eqb z 0)
-      (λ f. rw (eqb-true z 0 f) (omega (arith, p.header)))
+      (λ f. let P : ℕ → Type 0 = λ n. used n i ≤ 1 in subst P (sym (eqb-true z 0 f)) (omega (arith, p.header)))
       (λ f. either (eqb (z % page_size) 0)
       (λ m. omega (arith, p.once z (omega (arith, eqb-false z 0 f)) (ltb-true z i.size e) (eqb-true (z % page_size) 0 m)))
       (λ m. omega (arith, p.unaligned z (eqb-false (z % page_size) 0 m)))))

@@ -73,7 +73,7 @@ upper-levels-steps-requires : (t : ℕ) → upper-levels-lts.Need-steps-requires
 upper-levels-steps-requires t c κs = search rules
 
 upper-levels-upper-pages-requires : (t : ℕ) → upper-levels-lts.Need-upper-pages-requires (claims t) (upper-levels-at t) upper-levels.Post
-upper-levels-upper-pages-requires t c κs = (start t c.before.before.before.before).pre.1
+upper-levels-upper-pages-requires t c κs = (start t c.before.before.before.before).requires.1
 
 upper-levels-returns-3 : (t : ℕ) → upper-levels-lts.Need-returns-3 (claims t) (upper-levels-at t) upper-levels.Post
 upper-levels-returns-3 t c =

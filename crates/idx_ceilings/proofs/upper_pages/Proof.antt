@@ -60,7 +60,7 @@ at-requires : tie.Need-at-head-requires invariant-loop decreases-loop
 at-requires c κs =
     let page = (tested c.before).before in
     let o = is-page _ _ (inside page.before) in
-    let f = (at-loop page.before).pre in
+    let f = (at-loop page.before).requires in
     omega arith
 
 sub-left : tie.Need-overflow_sub-left invariant-loop decreases-loop

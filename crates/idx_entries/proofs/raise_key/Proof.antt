@@ -14,7 +14,7 @@ use Rattle.idx_entries.proofs.raise_key.Tie as tie
 -- the places: the call's start, from where the entries are counted; where the page has entry i, from where the keys are compared; where they are compared, from
 -- where a key is stored
 abbrev start : tie.After-entry_count → tie.Start
-start c = c.before.before.before.before-UNKNOWN
+start c = c.before.before.before
 
 abbrev has-entry : tie.After-compare_entry → tie.Else-entry_count-i
 has-entry c = c.before.before

@@ -39,7 +39,7 @@ at-requires : tie.Need-at-head-requires invariant-loop decreases-loop
 at-requires c κs =
     let head = at-loop c in
     let i = is-page _ _ (fits-page _ _ head.loop-left.page.0 (passed c.free_fits.ensures c.if-not-free_fits.false-raw)) in
-    let pre = (start head).pre in
+    let pre = (start head).requires in
     omega arith
 
 sub-left : tie.Need-overflow_sub-left invariant-loop decreases-loop

@@ -11,7 +11,7 @@ use Rattle.idx_insert_page.proofs.take_in_two.Tie as tie
 
 -- the places: the call's start, from where the entries are counted; where there are some, from where they are gathered
 abbrev start : tie.After-entry_count-count → tie.Start
-start c = c.before.before.before.before.before-UNKNOWN
+start c = c.before.before.before.before
 
 abbrev before-gathering : tie.After-gather_two → tie.Else-count-i
 before-gathering c = c.before.before.before
@@ -59,20 +59,20 @@ slice-reshare-prefix-take-in c =
     let gathered = c.before.before.before in
     let count = (before-gathering gathered).before in
     let s = products count.before in
-    omega (arith, gathered.gather_two.auto.0, (start count.before).pre.3)
+    omega (arith, gathered.gather_two.auto.0, (start count.before).requires.3)
 
 slice-aggregate-take-in : tie.Need-slice_bounds-take_in-end-2
 slice-aggregate-take-in c =
     let gathered = c.before.before.before.before in
     let count = (before-gathering gathered).before in
     let s = products count.before in
-    simp length-take (omega (arith, gathered.gather_two.auto.0, (start count.before).pre.3))
+    simp length-take (omega (arith, gathered.gather_two.auto.0, (start count.before).requires.3))
 
 take-in-requires : tie.Need-take_in-requires
 take-in-requires c κs =
     let gathered = c.before.before.before.before in
     let count = (before-gathering gathered).before in
-    (one_more _ (counted count.before) (omega (arith, gathered.gather_two.auto.0, (start count.before).pre.3)), (start count.before).pre.2)
+    (one_more _ (counted count.before) (omega (arith, gathered.gather_two.auto.0, (start count.before).requires.3)), (start count.before).requires.2)
 
 same-length-2 : tie.Need-shape_of-index
 same-length-2 c = search rules
@@ -88,7 +88,7 @@ returns-2 c =
     let count = some.before in
     let key = (start count).args.key.now in
     two_for_some _ _ _ _ _ _ _ _ _ (omega (arith, count.entry_count-count.ensures, some.if-count-i.left))
-    (two-read key _ _ _ _ (counted count) some.if-count-i.left (start count).pre.3 gathered.gather_two.ensures)
+    (two-read key _ _ _ _ (counted count) some.if-count-i.left (start count).requires.3 gathered.gather_two.ensures)
     taken_in.take_in.ensures
 
 pub take_in_two_spec : {M : Type 1} → statement M

@@ -59,7 +59,7 @@ entry-count-requires c κs = search rules
 
 leaf-good-requires : tie.Need-leaf_good-requires invariant-loop decreases-loop
 leaf-good-requires c κs =
-    let pre = (start c.before.before.before.before.before.before).pre in
+    let pre = (start c.before.before.before.before.before.before).requires in
     (pre.0, entries-within _ _ _ _ _ c.entry_count-entries.ensures pre.1)
 
 returns : tie.Need-returns-then-not-leaf_good invariant-loop decreases-loop

@@ -27,7 +27,7 @@ column : (c : tie.After-entry_at-entry) → let args = (start c.before.before.be
     (column_of args.table.now args.field)
 column c =
     let begun = start c.before.before.before in
-    column_is _ begun.args.shape c.entry_at-entry.result begun.args.field begun.pre c.entry_at-entry.ensures
+    column_is _ begun.args.shape c.entry_at-entry.result begun.args.field begun.requires c.entry_at-entry.ensures
 
 match-refusal-requires : tie.Need-match_refusal-refusal-requires
 match-refusal-requires c κs = search rules

@@ -72,7 +72,7 @@ returns-2 c =
 check-children-requires : tie.Need-check_children-t-requires invariant-loop decreases-loop
 check-children-requires c κs =
     let found = entries c.before.before in
-    ((start (at-loop found.before)).pre.0, found.entry_count-count.ensures, not-false _ c.if-not-t.false)
+    ((start (at-loop found.before)).requires.0, found.entry_count-count.ensures, not-false _ c.if-not-t.false)
 
 returns-3 : tie.Need-returns-then-not-t-2 invariant-loop decreases-loop
 returns-3 c =
@@ -90,7 +90,7 @@ at-requires : tie.Need-at-head-requires invariant-loop decreases-loop
 at-requires c κs =
     let page = (entries (counted c.before.before)).before in
     let o = is-page _ _ (inside page.before) in
-    let f = (start (at-loop page.before)).pre.0 in
+    let f = (start (at-loop page.before)).requires.0 in
     omega arith
 
 sub-left : tie.Need-overflow_sub-left invariant-loop decreases-loop

@@ -36,10 +36,10 @@ entries_on_level z h ok (x ∷ xs) i = either (ltb 0 (occ z (pages_under h x)))
 
 pub page_on_level : {K : Type 0} (z h : ℕ) (x : Entry K h) → 0 < occ z (pages_under h x) →
     (m : ℕ) × (m < h) × (0 < occ z (level_under m h x))
-page_on_level z zero x i = absurd (omega arith)
-page_on_level z (suc h) x i = either (eqb z x.1.0)
+page_on_level {K = K} z zero x i = absurd (omega arith)
+page_on_level {K = K} z (suc h) x i = either (eqb z x.1.0)
     (λ e. (h, omega arith, rw (eq-eqb h h refl, e) (omega arith)))
-    (λ e. let w : OnLevel z h x.1.1 = entries_on_level z h (page_on_level z h) x.1.1
+    (λ e. let w : OnLevel z h x.1.1 = entries_on_level z h (page_on_level {K = K} z h) x.1.1
     (occ-behind z x.1.0 (concat_map (pages_under h) x.1.1) (eqb-false z x.1.0 e) i) in
     (w.0, omega (arith, w.1), rw (ne_eqb w.0 h (λ q. omega (arith, w.1))) w.2))
 
