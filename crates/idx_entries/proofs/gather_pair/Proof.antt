@@ -73,8 +73,8 @@ add-copy-entries-2 c = let s = products (before-key (before-number (before-rest 
 copy-entries-requires-2 : tie.Need-copy_entries-requires-2
 copy-entries-requires-2 c κs =
     let found = (before-key (before-number (before-rest c))).before in
-    let s = products found.before in
-    (listed-within (start found.before).requires.0, bound found.before, omega arith)
+    let s = products found in
+    (listed-within (start found).requires.0, bound found, omega arith)
 
 same_length : tie.Need-shape_of-room
 same_length c = search rules

@@ -113,11 +113,11 @@ copy-entries-requires-2 c κs =
       omega (
         arith,
         at-start.requires.2,
-        child.put_child.auto.0,
-        high.copy_larger_key.auto.0,
-        number.copy_number.auto.0,
-        low.copy_last_key.auto.0,
-        before.copy_entries.auto.0,
+        child.put_child.auto.bytes,
+        high.copy_larger_key.auto.to,
+        number.copy_number.auto.to,
+        low.copy_last_key.auto.to,
+        before.copy_entries.auto.to,
       ),
     )
 

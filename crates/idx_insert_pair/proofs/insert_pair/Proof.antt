@@ -52,9 +52,9 @@ at-root-requires c κs =
     let at-start = start supply in
     let h = header at-start in (
       short at-start,
-      omega (arith, below.insert_under-below.auto.0),
+      omega (arith, below.insert_under-below.auto.index),
       next_fits _ _ _ _ _ _ below.insert_under-below.result below.insert_under-below.ensures (rw supply.supply_of-supply.ensures (omega (arith, header_lasts _ h))),
-      omega (arith, below.insert_under-below.auto.1),
+      omega (arith, below.insert_under-below.auto.room),
     )
 
 same_length : tie.Need-shape_of-index

@@ -67,13 +67,13 @@ slice-reshare-prefix-new-page : tie.Need-slice_bounds-new_page-end
 slice-reshare-prefix-new-page c =
     let gathered = c.before.before.before in
     let at-start = start (at_test gathered) in
-    omega (arith, gathered.gather_root.auto.0, at-start.requires.0, at-start.requires.2)
+    omega (arith, gathered.gather_root.auto.room, at-start.requires.0, at-start.requires.2)
 
 slice-aggregate-new-page : tie.Need-slice_bounds-new_page-end-2
 slice-aggregate-new-page c =
     let gathered = c.before.before.before.before in
     let at-start = start (at_test gathered) in
-    simp length-take (omega (arith, gathered.gather_root.auto.0, at-start.requires.0, at-start.requires.2))
+    simp length-take (omega (arith, gathered.gather_root.auto.room, at-start.requires.0, at-start.requires.2))
 
 new-page-requires : tie.Need-new_page-requires
 new-page-requires c κs =
@@ -83,21 +83,21 @@ new-page-requires c κs =
     let m = capacity-least (length at-start.args.key.now) at-start.requires.0 in
     record {
       within = record { key = at-start.requires.0; count = omega arith; page = g.high };
-      size = simp length-take (omega (arith, gathered.gather_root.auto.0, at-start.requires.0, at-start.requires.2));
+      size = simp length-take (omega (arith, gathered.gather_root.auto.room, at-start.requires.0, at-start.requires.2));
     }
 
 set-root-requires : tie.Need-set_root-requires
 set-root-requires c κs =
     let written = c.before.before.before in
     let g = page (at_test (at-gathering written)) in
-    omega (arith, written.new_page.auto.0)
+    omega (arith, written.new_page.auto.index)
 
 set-supply-requires : tie.Need-set_supply-requires
 set-supply-requires c κs =
     let stored = c.before.before.before in
     let written = at-page stored.before in
     let g = page (at_test (at-gathering written)) in
-    omega (arith, stored.set_root.auto.0, written.new_page.kept.0)
+    omega (arith, stored.set_root.auto.index, written.new_page.auto.index)
 
 same-length-2 : tie.Need-shape_of-index
 same-length-2 c = search rules

@@ -31,7 +31,7 @@ remove-under-requires c κs =
 at-root-requires : tie.Need-at_root-requires
 at-root-requires c κs =
     let below = c.remove_under-below in
-    rw below.auto.0 (emptied-fits _ _ _ _ _ below.result below.ensures)
+    rw below.auto.index (emptied-fits _ _ _ _ _ below.result below.ensures)
 
 same_length : tie.Need-shape_of-index
 same_length c = search rules
