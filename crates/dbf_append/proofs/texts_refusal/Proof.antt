@@ -154,4 +154,5 @@ returns-2 c = sym (c.loop-j.invariant.2 ∙ texts-end _ _ _ _ (omega arith))
 pub texts_refusal_spec : {M : Type 1} → statement M
 texts_refusal_spec =
     tie.close
-    (tie.spec invariant-loop decreases-loop loop-holds entry-from-requires cast-start cast-end add-end cast-text-refusal cast-text-refusal-2 sub-text-refusal part-text-refusal-start part-text-refusal-end text-refusal-requires returns cast-offset add-j loop-less loop-again returns-2)
+    (tie.spec invariant-loop decreases-loop loop-holds entry-from-requires cast-start cast-end add-end cast-text-refusal cast-text-refusal-2 sub-text-refusal
+    part-text-refusal-start part-text-refusal-end text-refusal-requires returns cast-offset add-j loop-less loop-again returns-2)

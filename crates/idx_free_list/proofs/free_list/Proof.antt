@@ -55,7 +55,7 @@ loop-again c =
     let turn = fit.before.before in
     let loop = turn.loop-left in
     let more = turn.loop-left-test.true in
-    list_on _ _ _ _ loop.page-1.0 loop.left loop.invariant (λ z. omega (arith, more, z)) _ read.at-head.ensures.1.1.1
+    list_on _ _ _ _ loop.page.0 loop.left loop.invariant (λ z. omega (arith, more, z)) _ read.at-head.ensures.1.1.1
     (passed fit.free_fits.ensures fit.if-not-free_fits.false-raw)
 
 returns-2 : tie.Need-returns invariant-loop decreases-loop

@@ -96,7 +96,7 @@ loop-again c =
     let loop = (at-loop test.before.before).loop-left in (
       search rules,
       omega (arith, loop.invariant.1, few counted, some test),
-      leaves-on _ (start test.before.before.before.before.before).args.column _ _ _ loop.page-1.0 loop.count loop.left loop.invariant.2 counted.entry_count-entries.result _
+      leaves-on _ (start test.before.before.before.before.before).args.column _ _ _ loop.page.0 loop.count loop.left loop.invariant.2 counted.entry_count-entries.result _
           (some test) (page test) counted.entry_count-entries.ensures passed.leaf_good.ensures _ c.at-head.ensures.1.1.1
           (not-false _ passed.if-not-leaf_good.false-raw),
     )
