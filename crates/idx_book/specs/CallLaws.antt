@@ -12,16 +12,16 @@ use Rattle.refusal.specs.AfterLaws.{made-either}
 use Rattle.tree.specs.Book.{Call, insertion, removal_of, lookup_of, accepted, absent, refused_if, found_or_absent, is_accepted, book_answer}
 use Rattle.tree.specs.Index.{Index, held, Setting, out_of_room, no_room_for as noRoomTo, answer, inserted, removed, next}
 use Rattle.tree.specs.FreeChain.{chain_from}
-use Rattle.tree.specs.FreeChainLaws.{chained-read}
-use Rattle.tree.specs.IndexLaws.{accepted_acceptable}
-use Rattle.tree.specs.IndexPages.{free-distinct, no_page-unused}
+use Rattle.tree.proofs.FreeChainLaws.{chained-read}
+use Rattle.tree.proofs.IndexLaws.{accepted_acceptable}
+use Rattle.tree.proofs.IndexPages.{free-distinct, no_page-unused}
 use Rattle.tree.specs.Lists.{count_if, occ}
 use Rattle.tree.specs.LookupFirst.{lookup_by, visited_by}
-use Rattle.tree.specs.LookupLaws.{visited_by-found}
-use Rattle.tree.specs.PageCount.{pages-at-most}
+use Rattle.tree.proofs.LookupLaws.{visited_by-found}
+use Rattle.tree.proofs.PageCount.{pages-at-most}
 use Rattle.tree.specs.Pairs.{has}
-use Rattle.tree.specs.Keeping.{keeping_of}
-use Rattle.tree.specs.SoundIndex.{SoundIndex}
+use Rattle.tree.proofs.KeepingOf.{keeping_of}
+use Rattle.tree.proofs.SoundIndex.{SoundIndex}
 use Rattle.idx_page.specs.Header.{max_bytes, page_size, no_page, free_pointer, file_size, key_length, features, header_good}
 use Rattle.idx_page.specs.HeaderLaws.{IsPage, is-page, good-header}
 use Rattle.idx_page.specs.KeyOrder.{bytes_order}

@@ -14,10 +14,10 @@ use Rattle.octets.specs.StoreLaws.{length-put, window_same, get_d_window}
 use Rattle.octets.specs.NumberLaws.{length-to_le16, length-to_le32, le16-same, le32-same}
 use Rattle.tree.specs.Clauses.{AllLinked}
 use Rattle.tree.specs.Index.{fresh}
-use Rattle.tree.specs.IndexLaws.{fresh-sound}
-use Rattle.tree.specs.SoundIndex.{SoundIndex}
+use Rattle.tree.proofs.IndexLaws.{fresh-sound}
+use Rattle.tree.proofs.SoundIndex.{SoundIndex}
 use Rattle.tree.specs.Store.{Store, read_entry}
-use Rattle.tree.specs.Store.Laws.{write-here}
+use Rattle.tree.proofs.Store.Laws.{write-here}
 use Rattle.tree.specs.Tree.{Tree, pages, level}
 use Rattle.idx_page.specs.Header.{min_bytes, max_bytes, max_key, no_page, page_size, is_page, header_good}
 use Rattle.idx_page.specs.Header.{root_offset, free_pointer, file_size, key_length, features, key_length_good}

@@ -11,23 +11,23 @@ use Rattle.octets.specs.StoreLaws.{get_d_window}
 use Rattle.octets.specs.NumberLaws.{le16-same}
 use Rattle.tree.specs.Clauses.{least, head_or, Linked, AllLinked}
 use Rattle.tree.specs.Index.{Index, held, Setting, out_of_room, inserted}
-use Rattle.tree.specs.IndexLaws.{inserted-sound, inserted-linked}
-use Rattle.tree.specs.IndexPages.{pages-distinct, taken-unused}
-use Rattle.tree.specs.Insertion.Levels.{InsertedAfter, insert-level, level_under-pages, level_under-disjoint}
-use Rattle.tree.specs.Insertion.Needs.{insert-needs, root-splits}
-use Rattle.tree.specs.Insertion.Pairs.{insert-pairs}
-use Rattle.tree.specs.ClauseLaws.{sized-rooted}
-use Rattle.tree.specs.Insertion.Pages.{Injective, new_pages, insert-pages}
+use Rattle.tree.proofs.IndexLaws.{inserted-sound, inserted-linked}
+use Rattle.tree.proofs.IndexPages.{pages-distinct, taken-unused}
+use Rattle.tree.proofs.Insertion.Levels.{InsertedAfter, insert-level, level_under-pages, level_under-disjoint}
+use Rattle.tree.proofs.Insertion.Needs.{insert-needs, root-splits}
+use Rattle.tree.proofs.Insertion.Pairs.{insert-pairs}
+use Rattle.tree.proofs.ClauseLaws.{sized-rooted}
+use Rattle.tree.proofs.Insertion.Pages.{Injective, new_pages, insert-pages}
 use Rattle.tree.specs.Insertion.{Grown}
-use Rattle.tree.specs.LinkLaws.{linked-same, head_or_differ, linked-right}
-use Rattle.tree.specs.ListLaws.{occ_append, occ-here, occ-all}
+use Rattle.tree.proofs.LinkLaws.{linked-same, head_or_differ, linked-right}
+use Rattle.tree.proofs.ListLaws.{occ_append, occ-here, occ-all}
 use Rattle.tree.specs.Lists.{concat_map, occ, count_if}
 use Rattle.tree.specs.Pairs.{has, insert_pair}
 use Rattle.tree.specs.Relinking.{path_page}
 use Rattle.tree.specs.Room.{run, needs}
 use Rattle.tree.specs.Store.{read_tree}
 use Rattle.tree.specs.Supply.{taken_page}
-use Rattle.tree.specs.SoundIndex.{SoundIndex, LinkedIndex}
+use Rattle.tree.proofs.SoundIndex.{SoundIndex, LinkedIndex}
 use Rattle.tree.specs.Tree.{Tree, pages_under, pages, pairs, level_under, level}
 use Rattle.idx_page.specs.Header.{max_bytes, no_page, is_page, root_offset, free_pointer, file_size, key_length, features, free_good, header_good}
 use Rattle.idx_page.specs.HeaderLaws.{GoodHeader, is-page, good-header, good-header-from}

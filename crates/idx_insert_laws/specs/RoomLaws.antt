@@ -12,13 +12,13 @@ use Rattle.octets.specs.Bytes.{to_be32}
 use Rattle.octets.specs.NumberLaws.{be32-to_be32}
 use Rattle.tree.specs.Index.{out_of_room}
 use Rattle.tree.specs.Keeping.{Route}
-use Rattle.tree.specs.LeafLaws.{leaf-has}
-use Rattle.tree.specs.ClauseLaws.{sized-rooted}
+use Rattle.tree.proofs.LeafLaws.{leaf-has}
+use Rattle.tree.proofs.ClauseLaws.{sized-rooted}
 use Rattle.tree.specs.Pairs.{has, present}
 use Rattle.tree.specs.Room.{at_chosen, route_leaf, run}
 use Rattle.tree.specs.Store.{Store}
-use Rattle.tree.specs.Store.LookupLaws.{leaf-read, run-read}
-use Rattle.tree.specs.Store.RouteLaws.{route-read}
+use Rattle.tree.proofs.Store.LookupLaws.{leaf-read, run-read}
+use Rattle.tree.proofs.Store.RouteLaws.{route-read}
 use Rattle.tree.specs.Store.Steps.{store_leaf, store_run}
 use Rattle.tree.specs.Supply.{size_after}
 use Rattle.idx_page.specs.Header.{max_bytes, max_levels, root_offset, file_size, key_length, features}

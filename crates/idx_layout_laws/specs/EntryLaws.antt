@@ -22,7 +22,7 @@ use Rattle.octets.specs.StoreLaws.{length-put, window-before, window-after, wind
 use Rattle.octets.specs.NumberLaws.{length-to_le16, length-to_le32, le16-same, le16-put}
 use Rattle.tree.specs.Lists.{half}
 use Rattle.tree.specs.Order.{larger}
-use Rattle.tree.specs.OrderLaws.{larger-same}
+use Rattle.tree.proofs.OrderLaws.{larger-same}
 use Rattle.tree.specs.Store.{Store}
 use Rattle.tree.specs.Store.Steps.{write}
 use Rattle.idx_page.specs.Header.{page_size, is_page}

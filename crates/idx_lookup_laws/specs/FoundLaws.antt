@@ -14,14 +14,14 @@ use Rattle.refusal.specs.Checks.{unless}
 use Rattle.basis.specs.Lists.{All}
 use Rattle.basis.specs.Tests.{either, both, impossible}
 use Rattle.octets.specs.Order.{bytes_le, ordering, is_equal}
-use Rattle.tree.specs.ListLaws.{all_unit, all_map2}
+use Rattle.tree.proofs.ListLaws.{all_unit, all_map2}
 use Rattle.tree.specs.Pairs.{follow, seek, find}
 use Rattle.tree.specs.Tree.{Tree, pairs, lookup, onward, visited}
 use Rattle.tree.specs.Keeping.{goes_on_for}
-use Rattle.tree.specs.Ordered.{lookup-find, visited-found}
+use Rattle.tree.proofs.Ordered.{lookup-find, visited-found}
 use Rattle.tree.specs.Store.Steps.{store_lookup, store_visited}
-use Rattle.tree.specs.Store.LookupLaws.{lookup-read, visited-read}
-use Rattle.tree.specs.Levels.{below, generation, all_of_map, all_of_concat}
+use Rattle.tree.proofs.Store.LookupLaws.{lookup-read, visited-read}
+use Rattle.tree.proofs.Levels.{below, generation, all_of_map, all_of_concat}
 use Rattle.idx_page.specs.Header.{max_levels, is_page, root_offset, file_size, key_length, features, good_features}
 use Rattle.idx_page.specs.Page.{attribute_at, count_at, leaf_bit, capacity, key_at, number_at, attribute_good, count_good, page_good}
 use Rattle.idx_page.specs.PageLaws.{first_bound}

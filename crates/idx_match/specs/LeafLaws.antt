@@ -6,10 +6,10 @@ use mathlib.Core.List.{List, [], ◌∷◌}
 use Rattle.std.proofs.Math.Dec.{eqb}
 use Rattle.basis.specs.Lists.{All, all_map}
 use Rattle.tree.specs.Lists.{NonEmpty, concat_map}
-use Rattle.tree.specs.ListLaws.{all_map2}
+use Rattle.tree.proofs.ListLaws.{all_map2}
 use Rattle.tree.specs.Clauses.{head_or}
-use Rattle.tree.specs.Levels.{numbers, below, generation, join_map, generation-below, all_of_map}
-use Rattle.tree.specs.Levels.{tree-pairs, level-generation, pages-generation}
+use Rattle.tree.proofs.Levels.{numbers, below, generation, join_map, generation-below, all_of_map}
+use Rattle.tree.proofs.Levels.{tree-pairs, level-generation, pages-generation}
 use Rattle.idx_page.specs.Header.{max_bytes, max_levels, no_page, root_offset, file_size, key_length, is_page}
 use Rattle.idx_page.specs.HeaderLaws.{good-header}
 use Rattle.idx_page.specs.Page.{attribute_at, leaf_bit}

@@ -9,7 +9,7 @@ use Rattle.basis.specs.Tests.{either, contra, both, join}
 use Rattle.tree.specs.Pairs.{Ascending}
 use Rattle.tree.specs.Tree.{pairs}
 use Rattle.tree.specs.Clauses.{Ceilings}
-use Rattle.tree.specs.Levels.{reached, generations_reached}
+use Rattle.tree.proofs.Levels.{reached, generations_reached}
 use Rattle.tree.specs.Keeping.{pair_order}
 use Rattle.idx_page.specs.Header.{max_bytes, max_levels, page_size, root_offset, free_pointer, file_size, key_length, is_page, header_good, features}
 use Rattle.idx_page.specs.HeaderLaws.{is-page, good-header}

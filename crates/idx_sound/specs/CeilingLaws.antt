@@ -13,19 +13,20 @@ use Rattle.std.proofs.lemmas.Bool.{not-true}
 use Rattle.basis.specs.Lists.{All, all_left, all_map}
 use Rattle.basis.specs.Tests.{either, contra, both, join}
 use Rattle.tree.specs.Lists.{NonEmpty, concat_map}
-use Rattle.tree.specs.ListLaws.{concat_map-single, non_empty-length, all_unit}
+use Rattle.tree.proofs.ListLaws.{concat_map-single, non_empty-length, all_unit}
 use Rattle.tree.specs.Order.{Le, Lt}
-use Rattle.tree.specs.OrderLaws.{lt_le}
+use Rattle.tree.proofs.OrderLaws.{lt_le}
 use Rattle.tree.specs.Pairs.{first_key, last_key, Below, Ascending}
-use Rattle.tree.specs.PairLaws.{last_key-all, last_key_append, first_key_append, below_up, ascending-left, ascending-right}
-use Rattle.tree.specs.KeepingLaws.{ascending_across, ascending-last}
+use Rattle.tree.proofs.PairLaws.{last_key-all, last_key_append, first_key_append, below_up, ascending-left, ascending-right}
+use Rattle.tree.proofs.KeepingLaws.{ascending_across, ascending-last}
 use Rattle.tree.specs.Tree.{pairs_under, pairs}
 use Rattle.tree.specs.Clauses.{SizedUnder, AtOrAbove, BelowNext, head_or}
-use Rattle.tree.specs.Keeping.{Clear, pair_order, keeping_of}
-use Rattle.tree.specs.ClauseLaws.{sized-non_empty, first_key-clear}
+use Rattle.tree.specs.Keeping.{Clear, pair_order}
+use Rattle.tree.proofs.KeepingOf.{keeping_of}
+use Rattle.tree.proofs.ClauseLaws.{sized-non_empty, first_key-clear}
 use Rattle.tree.specs.Store.{read_entry, read_tree}
-use Rattle.tree.specs.Store.Laws.{map_read-zero}
-use Rattle.tree.specs.Levels.{all_of_map, numbers, read_all}
+use Rattle.tree.proofs.Store.Laws.{map_read-zero}
+use Rattle.tree.proofs.Levels.{all_of_map, numbers, read_all}
 use Rattle.octets.specs.Order.{bytes_le, ordering, is_below, is_equal}
 use Rattle.octets.specs.OrderLaws.{le_antisym}
 use Rattle.idx_page.specs.Header.{no_page, features}

@@ -10,13 +10,13 @@ use borrow.Author.Tests.{ltb-true, ltb-false, ne_eqb}
 use Rattle.basis.specs.Lists.{All, all_map}
 use Rattle.basis.specs.Tests.{either, contra, both}
 use Rattle.tree.specs.Lists.{NonEmpty, occ}
-use Rattle.tree.specs.ListLaws.{all_map2, occ_append, occ-all}
+use Rattle.tree.proofs.ListLaws.{all_map2, occ_append, occ-all}
 use Rattle.tree.specs.Clauses.{head_or}
-use Rattle.tree.specs.Insertion.Pages.{Distinct}
-use Rattle.tree.specs.FreeChainLaws.{chained-distinct, linked-distinct}
-use Rattle.tree.specs.DistinctLaws.{Filled, Heights, levels-distinct}
-use Rattle.tree.specs.PageCount.{PageOf, offset, offset-apart, offset-page, pages-at-most, later-all, later-distinct, later-count}
-use Rattle.tree.specs.Levels.{all_of_concat, all_of_map, numbers, below, generation, reached, generations_reached}
+use Rattle.tree.proofs.Insertion.Pages.{Distinct}
+use Rattle.tree.proofs.FreeChainLaws.{chained-distinct, linked-distinct}
+use Rattle.tree.proofs.DistinctLaws.{Filled, Heights, levels-distinct}
+use Rattle.tree.proofs.PageCount.{PageOf, offset, offset-apart, offset-page, pages-at-most, later-all, later-distinct, later-count}
+use Rattle.tree.proofs.Levels.{all_of_concat, all_of_map, numbers, below, generation, reached, generations_reached}
 use Rattle.idx_page.specs.Header.{max_bytes, page_size, no_page, free_pointer, is_page}
 use Rattle.idx_page.specs.HeaderLaws.{IsPage, is-page, is_page-from}
 use Rattle.idx_page.specs.Page.{attribute_at, count_at, right_at, capacity, count_good}

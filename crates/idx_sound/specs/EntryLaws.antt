@@ -11,8 +11,9 @@ use Rattle.basis.specs.Lists.{All}
 use Rattle.basis.specs.Tests.{both, join}
 use Rattle.tree.specs.Lists.{NonEmpty, concat_map}
 use Rattle.tree.specs.Pairs.{last_key, Ascending}
-use Rattle.tree.specs.Keeping.{Keeping, pair_order, keeping_of}
-use Rattle.tree.specs.KeepingLaws.{all-before}
+use Rattle.tree.specs.Keeping.{Keeping, pair_order}
+use Rattle.tree.proofs.KeepingOf.{keeping_of}
+use Rattle.tree.proofs.KeepingLaws.{all-before}
 use Rattle.idx_page.specs.Header.{features}
 use Rattle.idx_page.specs.Page.{leaf_bit}
 use Rattle.idx_page.specs.KeyOrder.{bytes_order}

@@ -7,15 +7,15 @@ use Rattle.std.proofs.lemmas.Bool.{eqb-false}
 use Rattle.basis.specs.Lists.{All}
 use Rattle.basis.specs.Tests.{either}
 use Rattle.tree.specs.Lists.{occ}
-use Rattle.tree.specs.ListLaws.{all_map2, occ-here, occ_append, occ-all}
+use Rattle.tree.proofs.ListLaws.{all_map2, occ-here, occ_append, occ-all}
 use Rattle.tree.specs.Tree.{level}
 use Rattle.tree.specs.Clauses.{least, Sized}
-use Rattle.tree.specs.Ordered.{ordered-ascending}
-use Rattle.tree.specs.Keeping.{keeping_of}
-use Rattle.tree.specs.ClauseLaws.{ceilings-ordered, ordered-ceilings}
+use Rattle.tree.proofs.Ordered.{ordered-ascending}
+use Rattle.tree.proofs.KeepingOf.{keeping_of}
+use Rattle.tree.proofs.ClauseLaws.{ceilings-ordered, ordered-ceilings}
 use Rattle.tree.specs.Index.{Index, Setting}
-use Rattle.tree.specs.SoundIndex.{used, PagesOnce, SoundIndex, LinkedIndex}
-use Rattle.tree.specs.Levels.{pages-generation, sized-pages}
+use Rattle.tree.proofs.SoundIndex.{used, PagesOnce, SoundIndex, LinkedIndex}
+use Rattle.tree.proofs.Levels.{pages-generation, sized-pages}
 use Rattle.idx_page.specs.Header.{max_levels, page_size, root_offset, file_size, key_length, is_page, header_good, features}
 use Rattle.idx_page.specs.Page.{attribute_at, count_at, root_bit, leaf_bit, capacity}
 use Rattle.idx_page.specs.KeyOrder.{bytes_order}

@@ -9,14 +9,14 @@ use Rattle.std.proofs.Math.Bool.{true}
 use Rattle.basis.specs.Lists.{All, all_append, all_left, all_right, all_map}
 use Rattle.basis.specs.Tests.{both}
 use Rattle.tree.specs.Lists.{NonEmpty}
-use Rattle.tree.specs.ListLaws.{all_unit, all_map2}
+use Rattle.tree.proofs.ListLaws.{all_unit, all_map2}
 use Rattle.tree.specs.Pairs.{Ascending}
 use Rattle.tree.specs.Tree.{Tree, pairs_under, pairs}
 use Rattle.tree.specs.Clauses.{Ceilings, head_or}
 use Rattle.tree.specs.Keeping.{pair_order}
-use Rattle.tree.specs.PairLaws.{ascending-parts}
+use Rattle.tree.proofs.PairLaws.{ascending-parts}
 use Rattle.tree.specs.Store.{read_entry, read_tree}
-use Rattle.tree.specs.Levels.{all_of_map, all-to_map, all_of_concat, all-to_concat, numbers, read_all, below, generation, reached, generations_reached}
+use Rattle.tree.proofs.Levels.{all_of_map, all-to_map, all_of_concat, all-to_concat, numbers, read_all, below, generation, reached, generations_reached}
 use Rattle.idx_page.specs.Header.{max_bytes, max_levels, page_size, no_page, is_page, features}
 use Rattle.idx_page.specs.Page.{capacity}
 use Rattle.idx_page.specs.KeyOrder.{bytes_order}

@@ -12,9 +12,9 @@ use borrow.Author.Tests.{eq-eqb, ne_eqb, eqb-true, eqb-false, not-true}
 use Rattle.basis.specs.Lists.{All, all_map}
 use Rattle.basis.specs.Tests.{either, both, join}
 use Rattle.tree.specs.Lists.{NonEmpty}
-use Rattle.tree.specs.ListLaws.{non_empty-left}
+use Rattle.tree.proofs.ListLaws.{non_empty-left}
 use Rattle.tree.specs.Clauses.{head_or, Linked}
-use Rattle.tree.specs.Levels.{numbers, below, generation, reached, map-append}
+use Rattle.tree.proofs.Levels.{numbers, below, generation, reached, map-append}
 use Rattle.idx_page.specs.Header.{max_bytes, no_page, is_page}
 use Rattle.idx_page.specs.HeaderLaws.{is-page}
 use Rattle.idx_page.specs.Reading.{entries_at}

@@ -7,15 +7,16 @@ use Rattle.basis.specs.Tests.{either}
 use Rattle.octets.specs.Store.{window}
 use Rattle.octets.specs.StoreLaws.{get_d_window}
 use Rattle.octets.specs.NumberLaws.{le16-same, le32-same}
-use Rattle.tree.specs.ListLaws.{all_map2}
+use Rattle.tree.proofs.ListLaws.{all_map2}
 use Rattle.tree.specs.Lists.{occ}
 use Rattle.tree.specs.Pairs.{Ascending}
 use Rattle.tree.specs.Tree.{Tree, pairs, pages, level}
 use Rattle.tree.specs.Store.{Store, read_tree}
 use Rattle.tree.specs.Clauses.{Ceilings, Linked}
-use Rattle.tree.specs.Keeping.{pair_order, keeping_of}
+use Rattle.tree.specs.Keeping.{pair_order}
+use Rattle.tree.proofs.KeepingOf.{keeping_of}
 use Rattle.tree.specs.FreeChain.{Chained}
-use Rattle.tree.specs.Levels.{pages-generation, generation-level}
+use Rattle.tree.proofs.Levels.{pages-generation, generation-level}
 use Rattle.idx_page.specs.Header.{page_size, no_page, root_offset, free_pointer, file_size, key_length, features, is_page, header_good}
 use Rattle.idx_page.specs.HeaderLaws.{is-page, good-header, good-header-from}
 use Rattle.idx_page.specs.Page.{attribute_at, right_at, right_place, entries_start, entry_area, root_bit, leaf_bit}

@@ -8,15 +8,15 @@ use Rattle.std.proofs.lemmas.Bool.{eqb-false}
 use Rattle.basis.specs.Lists.{All, all_map}
 use Rattle.basis.specs.Tests.{either}
 use Rattle.tree.specs.Lists.{NonEmpty, concat_map, occ}
-use Rattle.tree.specs.ListLaws.{all_map2, non_empty-length, occ_append, occ-here, occ-head, occ_not_head}
+use Rattle.tree.proofs.ListLaws.{all_map2, non_empty-length, occ_append, occ-here, occ-head, occ_not_head}
 use Rattle.tree.specs.Pairs.{Ascending}
 use Rattle.tree.specs.Tree.{Tree, pairs}
 use Rattle.tree.specs.Clauses.{least, Sized, Ceilings, Linked}
 use Rattle.tree.specs.Keeping.{pair_order}
 use Rattle.tree.specs.Store.{read_tree}
-use Rattle.tree.specs.Levels.{all_of_map, all-to_map, numbers, below, generation, generation-below, reached, reached_generations, join_map}
-use Rattle.tree.specs.Levels.{Counted, tree-pairs, tree-pages, level-generation, generation-level, pages-generation, generation-pages}
-use Rattle.tree.specs.Levels.{generation-sized}
+use Rattle.tree.proofs.Levels.{all_of_map, all-to_map, numbers, below, generation, generation-below, reached, reached_generations, join_map}
+use Rattle.tree.proofs.Levels.{Counted, tree-pairs, tree-pages, level-generation, generation-level, pages-generation, generation-pages}
+use Rattle.tree.proofs.Levels.{generation-sized}
 use Rattle.idx_page.specs.Header.{max_bytes, max_levels, no_page, root_offset, file_size, key_length, is_page, header_good, features}
 use Rattle.idx_page.specs.Page.{attribute_at, count_at, root_bit, leaf_bit, capacity}
 use Rattle.idx_page.specs.KeyOrder.{bytes_order}

@@ -3,10 +3,10 @@
 use Rattle.std.specs.Prelude.{ℕ, ◌+◌, ◌≡◌, List, length}
 use Rattle.std.proofs.Common.{ap, ◌∙◌, arith}
 use Rattle.tree.specs.Pairs.{get}
-use Rattle.tree.specs.KeepingLaws.{find-get}
-use Rattle.tree.specs.Keeping.{distinct_keys}
+use Rattle.tree.proofs.KeepingLaws.{find-get}
+use Rattle.tree.proofs.KeepingOf.{distinct_keys}
 use Rattle.tree.specs.LookupFirst.{visited_by}
-use Rattle.tree.specs.LookupLaws.{lookup_by-find}
+use Rattle.tree.proofs.LookupLaws.{lookup_by-find}
 use Rattle.idx_page.specs.KeyOrder.{bytes_order}
 use Rattle.idx_page.specs.Header as idx-header
 use Rattle.idx_lookup.specs.Lookup as idx-lookup

@@ -61,4 +61,5 @@ returns c =
 pub write_field_spec : {M : Type 1} → statement M
 write_field_spec =
     tie.close
-    (tie.spec mul_at add_at slice-aggregate-copy-in copy-in-requires add-end add-fill fill-requires add-room slice-write-room add-room-2 slice-write-room-2 add-room-3 slice-write-room-3 same_length returns)
+    (tie.spec mul_at add_at slice-aggregate-copy-in copy-in-requires add-end add-fill fill-requires add-room slice-write-room add-room-2 slice-write-room-2
+    add-room-3 slice-write-room-3 same_length returns)

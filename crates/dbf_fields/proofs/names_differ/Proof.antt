@@ -90,4 +90,5 @@ returns-2 c =
 pub names_differ_spec : {M : Type 1} → statement M
 names_differ_spec =
     tie.close
-    (tie.spec invariant-loop decreases-loop invariant-fields decreases-fields field-count-requires fields-holds sub-later loop-holds fields-less fields-again same-name-requires add-earlier loop-less loop-again returns returns-2)
+    (tie.spec invariant-loop decreases-loop invariant-fields decreases-fields field-count-requires fields-holds sub-later loop-holds fields-less fields-again
+    same-name-requires add-earlier loop-less loop-again returns returns-2)

@@ -67,4 +67,5 @@ returns-2 c =
 pub step_from_spec : {M : Type 1} → statement M
 step_from_spec =
     tie.close
-    (tie.spec invariant-loop decreases-loop loop-holds mark-after-requires add-step-at step-at-requires add-step-to step-to-requires returns add-passed loop-less loop-again step-to-requires-2 returns-2)
+    (tie.spec invariant-loop decreases-loop loop-holds mark-after-requires add-step-at step-at-requires add-step-to step-to-requires returns add-passed
+    loop-less loop-again step-to-requires-2 returns-2)

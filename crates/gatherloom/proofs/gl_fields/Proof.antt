@@ -200,12 +200,12 @@ module _ {M : Type 1} {𝓤 : Ura M} (𝓛 : Logic 𝓤) (at_mem : Memory → SP
   abbrev to-plan : Planning.Ghost
   to-plan = (((κ, tt), (q, tt), tt, (s, (n, tt)), (v ∷ [], (vint w64 n ∷ [], tt))), tt)
 
-  goes-plan : n < 2 ^ 64 → ent 𝓤 (sep 𝓤 (A.lft κ q) (sem 𝓛 Own)) (sep 𝓤 (Planning.pre to-plan) (sem 𝓛 Own))
+  goes-plan : n < 2 ^ 64 → ent 𝓤 (sep 𝓤 (A.lft κ q) (sem 𝓛 Own)) (sep 𝓤 (Planning.requires to-plan) (sem 𝓛 Own))
   goes-plan fits =
       qed 𝓛 (‵ (flft κ q) ∷ ‵ Own ∷ []) ∵ move ! (1 ∷ []) $ use1 𝓛 (‵ Own ⊛ ‵ Own) ((shr_slice_copy 𝓛 (named 0) κ u8).twice s (v ∷ [])) $ split ! $
       nothing ! $ owned ! usize (Is usize) (uint_Makes 𝓛 w64) n _ (refl, fits) $ fjoin ! $ move ! (1 ∷ 0 ∷ []) $ fjoin ! $ nothing ! $
       move ! (3 ∷ 0 ∷ []) $ join ! $
-      use2 𝓛 (raw (Planning.pre to-plan)) (qed 𝓛 (Token ∷ ‵ (Lent n) ∷ []) ∵ join ! $ frame ! $ done !) $ frame ! $ done !
+      use2 𝓛 (raw (Planning.requires to-plan)) (qed 𝓛 (Token ∷ ‵ (Lent n) ∷ []) ∵ join ! $ frame ! $ done !) $ frame ! $ done !
 
   -- its `ensures`
   abbrev Planned : Plan → SProp 𝓤
@@ -218,7 +218,7 @@ module _ {M : Type 1} {𝓤 : Ura M} (𝓛 : Logic 𝓤) (at_mem : Memory → SP
   abbrev to-first : Starting.Ghost
   to-first = ((tt, tt, tt, tt, tt), tt)
 
-  asks-first : ent 𝓤 (emp 𝓤) (Starting.pre to-first)
+  asks-first : ent 𝓤 (emp 𝓤) (Starting.requires to-first)
   asks-first = qed 𝓛 [] ∵ nothing ! $ nothing ! $ join ! $ frame ! $ done !
 
   -- its `ensures`
@@ -238,13 +238,13 @@ module _ {M : Type 1} {𝓤 : Ura M} (𝓛 : Logic 𝓤) (at_mem : Memory → SP
 
   goes-entry : (i : ℕ) → i < 2 ^ 64 → Is R (last i) (F'.lowered (last i) ∷ [])
       → (table_refusal s.now ≡ 0) × (i < field_count s.now) × (last i ≡ last_entry s.now i)
-      → ent 𝓤 (sep 𝓤 (A.lft κ q) (sem 𝓛 Own)) (sep 𝓤 (Entering.pre (to-entry i)) (sem 𝓛 Own))
+      → ent 𝓤 (sep 𝓤 (A.lft κ q) (sem 𝓛 Own)) (sep 𝓤 (Entering.requires (to-entry i)) (sem 𝓛 Own))
   goes-entry i fits is_last ok =
       qed 𝓛 (‵ (flft κ q) ∷ ‵ Own ∷ []) ∵ move ! (1 ∷ []) $ use1 𝓛 (‵ Own ⊛ ‵ Own) ((shr_slice_copy 𝓛 (named 0) κ u8).twice s (v ∷ [])) $ split ! $
       nothing ! $ owned ! R (Is R) (LL.makes F.the_type F'.the_plain 𝓛) (last i) _ is_last $ fjoin ! $
       owned ! usize (Is usize) (uint_Makes 𝓛 w64) i _ (refl, fits) $ fjoin ! $ move ! (1 ∷ 0 ∷ []) $ fjoin ! $ nothing ! $
       move ! (3 ∷ 0 ∷ []) $ join ! $
-      use2 𝓛 (raw (Entering.pre (to-entry i))) (qed 𝓛 (Token ∷ ‵ (Handed i) ∷ []) ∵ says ! ok $ frame ! $ done !) $ frame ! $ done !
+      use2 𝓛 (raw (Entering.requires (to-entry i))) (qed 𝓛 (Token ∷ ‵ (Handed i) ∷ []) ∵ says ! ok $ frame ! $ done !) $ frame ! $ done !
 
   -- its `ensures`
   abbrev Entered : ℕ → FieldEntry → SProp 𝓤
@@ -326,7 +326,7 @@ module _ {M : Type 1} {𝓤 : Ura M} (𝓛 : Logic 𝓤) (at_mem : Memory → SP
         first ! $ branches ! (load ! (from ! (stop !)) (look ! 10 refl))
         (λ less. skips ! $ exec ! C Λ En more (any_q (Turned i)) $
         -- the call of `next_entry`
-        move ! (4 ∷ 5 ∷ []) $ use2 𝓛 (raw (Entering.pre (to-entry i.0)) ⊛ ‵ Own) (goes-entry i.0 (fits i) i.1.1 (asked less)) $ split ! $
+        move ! (4 ∷ 5 ∷ []) $ use2 𝓛 (raw (Entering.requires (to-entry i.0)) ⊛ ‵ Own) (goes-entry i.0 (fits i) i.1.1 (asked less)) $ split ! $
         calls_at ! (fm_of 𝓤 H 𝓛.laws 𝓣) Entering known (to-entry i.0)
         (and_then ! (load ! (from ! (stop !)) (look ! 24 refl)) (and_then ! (load ! (from ! (stop !)) (look ! 14 refl))
         (and_then ! (load ! (from ! (stop !)) (look ! 16 refl)) (no_more !)))) (λ u.
@@ -411,7 +411,7 @@ module _ {M : Type 1} {𝓤 : Ura M} (𝓛 : Logic 𝓤) (at_mem : Memory → SP
       assigns ! (of_opd ! (load ! (from ! (fld ! refl (stop !))) (look_in ! 16 (sub ! 1 refl (whole !))))) (from ! (stop !))
       (init ! 6 refl (tt, record { fits = room.0 })) $
       move ! (23 ∷ []) $ fsplit ! $ move ! (24 ∷ []) $ split ! $ move ! (0 ∷ 2 ∷ []) $
-      use2 𝓛 (raw (Planning.pre to-plan) ⊛ ‵ Own) (goes-plan room.0) $ split ! $
+      use2 𝓛 (raw (Planning.requires to-plan) ⊛ ‵ Own) (goes-plan room.0) $ split ! $
       -- [what `listing_plan` asks; what the table owns; the entries' token; what the entries own; _10; …; .. down to _0; …]
       calls_at ! (fm_of 𝓤 H 𝓛.laws 𝓣) Planning known-plan to-plan
       (and_then ! (load ! (from ! (stop !)) (look ! 22 refl)) (and_then ! (load ! (from ! (stop !)) (look ! 10 refl)) (no_more !))) (λ u.
@@ -423,7 +423,7 @@ module _ {M : Type 1} {𝓤 : Ura M} (𝓛 : Logic 𝓤) (at_mem : Memory → SP
       assigns ! (of_opd ! (load ! (from ! (fld ! refl (stop !))) (look_in ! 18 (sub ! 1 refl (whole !))))) (from ! (stop !))
       (init ! 16 refl (tt, record { fits = count_fits r u is e })) $
       -- `deletion_entry`
-      use0 𝓛 (raw (Starting.pre to-first)) asks-first $
+      use0 𝓛 (raw (Starting.requires to-first)) asks-first $
       calls_at ! (fm_of 𝓤 H 𝓛.laws 𝓣) Starting known-first to-first (no_more !) (λ u'.
       use1 𝓛 (later (some (λ (r' : FieldEntry). (‵ ftrue ⊛ ‵ (R.own_val r' (u' ∷ []))) ⊛ raw (Started r')))) (id⊢ 𝓤 _) $ await ! tt $ pick ! (λ r'.
       split ! $ move ! (1 ∷ []) $ use1 𝓛 (raw (fact 𝓤 (r' ≡ deletion_entry))) (first_said r') $ heard ! (r' ≡ deletion_entry) (λ e'. split ! $ drop ! $

@@ -238,7 +238,7 @@ module _ {M : Type 1} {𝓤 : Ura M} (𝓛 : Logic 𝓤) (at_mem : Memory → SP
   abbrev to-count : (CountC 𝓛 at_mem run).Ghost
   to-count = ((tt, tt, tt, (n, tt), (vint w64 n ∷ [], tt)), tt)
 
-  asks-count : n < 2 ^ 64 → ent 𝓤 (emp 𝓤) ((CountC 𝓛 at_mem run).pre to-count)
+  asks-count : n < 2 ^ 64 → ent 𝓤 (emp 𝓤) ((CountC 𝓛 at_mem run).requires to-count)
   asks-count fits = qed 𝓛 [] ∵ nothing ! $ owned ! usize (Is usize) (uint_Makes 𝓛 w64) n _
       (refl, fits) $ fjoin ! $ nothing ! $ join ! $ frame ! $ done !
 
@@ -249,7 +249,7 @@ module _ {M : Type 1} {𝓤 : Ura M} (𝓛 : Logic 𝓤) (at_mem : Memory → SP
   abbrev to_none : (NoneC 𝓛 at_mem run).Ghost
   to_none = ((tt, tt, tt, tt, tt), tt)
 
-  asks_none : ent 𝓤 (emp 𝓤) ((NoneC 𝓛 at_mem run).pre to_none)
+  asks_none : ent 𝓤 (emp 𝓤) ((NoneC 𝓛 at_mem run).requires to_none)
   asks_none = qed 𝓛 [] ∵ nothing ! $ nothing ! $ join ! $ frame ! $ done !
 
   none_said : (r : List ℕ) → ent 𝓤 (ensured 𝓛 none.ended (none.clauses 𝓛 at_mem run) tt tt tt r) (fact 𝓤 (r ≡ no_fields))
@@ -266,7 +266,7 @@ module _ {M : Type 1} {𝓤 : Ura M} (𝓛 : Logic 𝓤) (at_mem : Memory → SP
   to-field α l γ xs i e = (((α ∷ [], tt), (full_share, tt), tt, args l γ xs i e, (room-val l ∷ [], (vint w64 i ∷ [], (F'.lowered e ∷ [], tt)))), tt)
 
   asks-field : (α l : ℕ) (γ : GName) (xs : List ℕ) (i : ℕ) (e : FieldEntry) → length xs ≡ room_length → i < 2 ^ 64 → Is R e (vals e) → i < max_fields
-      → ent 𝓤 (sep 𝓤 (A.lft (α ∷ []) full_share) (sem 𝓛 (Lent (named 0) α l γ xs))) ((FieldC 𝓛 at_mem run).pre (to-field α l γ xs i e))
+      → ent 𝓤 (sep 𝓤 (A.lft (α ∷ []) full_share) (sem 𝓛 (Lent (named 0) α l γ xs))) ((FieldC 𝓛 at_mem run).requires (to-field α l γ xs i e))
   asks-field α l γ xs i e long fits is-entry few =
       qed 𝓛 (‵ (flft (α ∷ []) full_share) ∷ ‵ (Lent (named 0) α l γ xs) ∷ []) ∵ says ! (few, long) $ nothing ! $ move ! (1 ∷ 0 ∷ []) $ join ! $ frame ! $
       nothing ! $ owned ! R (Is R) (LL.makes F.the_type F'.the_plain 𝓛) e _ is-entry $ fjoin ! $
@@ -290,7 +290,7 @@ module _ {M : Type 1} {𝓤 : Ura M} (𝓛 : Logic 𝓤) (at_mem : Memory → SP
 
   goes-lay : (α l : ℕ) (γ : GName) (xs : List ℕ) → length xs ≡ room_length → n < 2 ^ 64 → year < 2 ^ 32 → month < 2 ^ 32 → day < 2 ^ 32
       → ent 𝓤 (sep 𝓤 (A.lft κ q) (sep 𝓤 (sem 𝓛 Own) (sep 𝓤 (A.lft (α ∷ []) full_share) (sem 𝓛 (Lent (named 1) α l γ xs)))))
-      ((LayC 𝓛 at_mem run).pre (to-lay α l γ xs))
+      ((LayC 𝓛 at_mem run).requires (to-lay α l γ xs))
   goes-lay α l γ xs long n-fits y-fits m-fits d-fits =
       qed 𝓛 (‵ (flft κ q) ∷ ‵ Own ∷ (‵ (flft (α ∷ []) full_share) ⊛ ‵ (Lent (named 1) α l γ xs)) ∷ []) ∵ says ! long $ move ! (2 ∷ []) $ split ! $
       nothing ! $ move ! (1 ∷ 0 ∷ []) $ join ! $ move ! (2 ∷ 0 ∷ []) $ join ! $ frame ! $
@@ -395,7 +395,7 @@ module _ {M : Type 1} {𝓤 : Ura M} (𝓛 : Logic 𝓤) (at_mem : Memory → SP
         move ! (4 ∷ []) $ fsplit ! $ feq_l ! (λ long. lft_new ! tt (λ α. move ! (1 ∷ []) $
         use1 𝓛 (later (some (λ (γ : GName). ‵ (Lent (named 0) α l₈ γ (copied es i.0)) ⊛ ‵ (flent (α ∷ []) (Held u8 4130 l₈ 0 γ)))))
         (room-lent 𝓛 (named 0) (α ∷ []) (copied es i.0) l₈ long) $ await ! tt $ pick ! (λ γ. split ! $ move ! (2 ∷ 0 ∷ []) $
-        use2 𝓛 (raw ((FieldC 𝓛 at_mem run).pre (to-field α l₈ γ (copied es i.0) i.0 (en i.0))))
+        use2 𝓛 (raw ((FieldC 𝓛 at_mem run).requires (to-field α l₈ γ (copied es i.0) i.0 (en i.0))))
         (asks-field α l₈ γ (copied es i.0) i.0 (en i.0) long (fits i) is-entry (few less)) $
         calls_at ! (fm_of 𝓤 H 𝓛.laws 𝓣) (FieldC 𝓛 at_mem run) known-field (to-field α l₈ γ (copied es i.0) i.0 (en i.0))
         (and_then ! (load ! (from ! (stop !)) (look ! 20 refl)) (and_then ! (load ! (from ! (stop !)) (look ! 30 refl))
@@ -434,7 +434,7 @@ module _ {M : Type 1} {𝓤 : Ura M} (𝓛 : Logic 𝓤) (at_mem : Memory → SP
         move ! (3 ∷ []) $ fsplit ! $ feq_l ! (λ long. lft_new ! tt (λ α. move ! (1 ∷ []) $
         use1 𝓛 (later (some (λ (γ : GName). ‵ (Lent (named 1) α l₈ γ (copied es i.0)) ⊛ ‵ (flent (α ∷ []) (Held u8 4130 l₈ 0 γ)))))
         (room-lent 𝓛 (named 1) (α ∷ []) (copied es i.0) l₈ long) $ await ! tt $ pick ! (λ γ. split ! $ move ! (2 ∷ 0 ∷ []) $ join ! $
-        move ! (3 ∷ 4 ∷ 0 ∷ []) $ use3 𝓛 (raw ((LayC 𝓛 at_mem run).pre (to-lay α l₈ γ (copied es i.0))))
+        move ! (3 ∷ 4 ∷ 0 ∷ []) $ use3 𝓛 (raw ((LayC 𝓛 at_mem run).requires (to-lay α l₈ γ (copied es i.0))))
         (goes-lay α l₈ γ (copied es i.0) long room.0 y-fits m-fits d-fits) $
         calls_at ! (fm_of 𝓤 H 𝓛.laws 𝓣) (LayC 𝓛 at_mem run) known-lay (to-lay α l₈ γ (copied es i.0))
         (and_then ! (load ! (from ! (stop !)) (look ! 7 refl)) (and_then ! (load ! (from ! (stop !)) (look ! 3 refl))
@@ -510,7 +510,7 @@ module _ {M : Type 1} {𝓤 : Ura M} (𝓛 : Logic 𝓤) (at_mem : Memory → SP
       assigns ! (of_opd ! (load ! (from ! (fld ! refl (stop !))) (look_in ! 38 (sub ! 1 refl (whole !))))) (from ! (stop !))
       (init ! 30 refl (tt, record { fits = room.0 })) $
       -- `listed_count`
-      use0 𝓛 (raw ((CountC 𝓛 at_mem run).pre to-count)) (asks-count room.0) $
+      use0 𝓛 (raw ((CountC 𝓛 at_mem run).requires to-count)) (asks-count room.0) $
       calls_at ! (fm_of 𝓤 H 𝓛.laws 𝓣) (CountC 𝓛 at_mem run) known-count to-count (and_then ! (load ! (from ! (stop !)) (look ! 31 refl)) (no_more !))
       (λ u.
       use1 𝓛 (later (some (λ (r : ℕ). (‵ ftrue ⊛ ‵ (usize.own_val r (u ∷ []))) ⊛ raw
@@ -520,7 +520,7 @@ module _ {M : Type 1} {𝓤 : Ura M} (𝓛 : Logic 𝓤) (at_mem : Memory → SP
       land ! (from ! (stop !)) (init ! 28 refl (word_typed r u is)) $
       rewrite ! 28 (λ (w : Val). ‵ (fat full_share (ty 7) l₇ 0 w)) (ap only is.0 ∙ ap (vint w64) e) refl $
       -- `no_fields`
-      use0 𝓛 (raw ((NoneC 𝓛 at_mem run).pre to_none)) asks_none $
+      use0 𝓛 (raw ((NoneC 𝓛 at_mem run).requires to_none)) asks_none $
       calls_at ! (fm_of 𝓤 H 𝓛.laws 𝓣) (NoneC 𝓛 at_mem run) known-none to_none (no_more !) (λ u'.
       use1 𝓛 (later (some (λ (r' : List ℕ). (‵ ftrue ⊛ ‵ ((Array u8 4130).own_val r' (u' ∷ []))) ⊛ raw
       (ensured 𝓛 none.ended (none.clauses 𝓛 at_mem run) tt tt tt r')))) (id⊢ 𝓤 _) $ await ! tt $ pick ! (λ r'.

@@ -132,14 +132,14 @@ module _ {M : Type 1} {𝓤 : Ura M} (𝓛 : Logic 𝓤) (at_mem : Memory → SP
   to = (((κ, tt), (q, tt), tt, (s, (h, (n, (m, tt)))), (v ∷ [], (P'.lowered h ∷ [], (vint w32 n ∷ [], (vint w8 m ∷ [], tt))))), tt)
 
   goes : Is P.the_row h (P'.lowered h ∷ []) → n < 2 ^ 32 → m < 2 ^ 8
-      → ent 𝓤 (sep 𝓤 (A.lft κ q) (sem 𝓛 Own)) (sep 𝓤 (Stepping.pre to) (sem 𝓛 Own))
+      → ent 𝓤 (sep 𝓤 (A.lft κ q) (sem 𝓛 Own)) (sep 𝓤 (Stepping.requires to) (sem 𝓛 Own))
   goes was fits mark-fits =
       qed 𝓛 (‵ (flft κ q) ∷ ‵ Own ∷ []) ∵ move ! (1 ∷ []) $ use1 𝓛 (‵ Own ⊛ ‵ Own) ((shr_slice_copy 𝓛 (named 0) κ u8).twice s (v ∷ [])) $ split ! $
       nothing ! $ owned ! u8 (Is u8) (uint_Makes 𝓛 w8) m _ (refl, mark-fits) $ fjoin ! $
       owned ! u32 (Is u32) (uint_Makes 𝓛 w32) n _ (refl, fits) $ fjoin ! $
       owned ! P.the_row (Is P.the_row) (LL.makes P.the_type P'.the_plain 𝓛) h _ was $ fjoin ! $ move ! (1 ∷ 0 ∷ []) $ fjoin ! $
       nothing ! $ move ! (3 ∷ 0 ∷ []) $ join ! $
-      use2 𝓛 (raw (Stepping.pre to)) (qed 𝓛 (Token ∷ ‵ Lent ∷ []) ∵ join ! $ frame ! $ done !) $ frame ! $ done !
+      use2 𝓛 (raw (Stepping.requires to)) (qed 𝓛 (Token ∷ ‵ Lent ∷ []) ∵ join ! $ frame ! $ done !) $ frame ! $ done !
 
   -- its `ensures`
   abbrev Stepped : LentStep → SProp 𝓤
@@ -227,7 +227,7 @@ module _ {M : Type 1} {𝓤 : Ura M} (𝓛 : Logic 𝓤) (at_mem : Memory → SP
         (init ! 19 refl (tt, record { fits = number-was.1 })) $
         assigns ! (of_opd ! (load ! (from ! (hop ! (look ! 25 refl) (stop !))) (look ! 9 refl))) (from ! (stop !))
         (init ! 17 refl (tt, record { fits = mark_was.1 })) $
-        move ! (14 ∷ 16 ∷ []) $ use2 𝓛 (raw (Stepping.pre to) ⊛ ‵ Own) (goes was number-was.1 mark_was.1) $ split ! $
+        move ! (14 ∷ 16 ∷ []) $ use2 𝓛 (raw (Stepping.requires to) ⊛ ‵ Own) (goes was number-was.1 mark_was.1) $ split ! $
         -- the call of `lent_step`
         calls_at ! fm Stepping known to
         (and_then ! (load ! (from ! (stop !)) (look ! 31 refl))

@@ -97,7 +97,7 @@ insert-under-insert-in-leaf-requires : (t : ℕ) → insert-under-lts.Need-inser
 insert-under-insert-in-leaf-requires t c κs =
     let met = c.before.before in
     let visited = leaf-visit t met in
-    let pre = (start t visited).pre in
+    let pre = (start t visited).requires in
     (pre.1.0, leaf t met, omega (arith, pre.1.1, levels-left t visited), pre.1.2)
 
 insert-under-enum-known-visit : (t : ℕ) → insert-under-lts.Need-enum-known-visit (claims t) (insert-under-at t) insert-under.Post
@@ -109,7 +109,7 @@ insert-under-sub-insert-under t c = search rules
 insert-under-insert-under-requires : (t : ℕ) → insert-under-lts.Need-insert-under-requires (claims t) (insert-under-at t) insert-under.Post
 insert-under-insert-under-requires t c κs =
     let visited = child-visit t c.before.before.before in
-    let pre = (start t visited).pre in
+    let pre = (start t visited).requires in
     (omega (arith, pre.0, levels-left t visited), (pre.1.0, omega (arith, pre.1.1, levels-left t visited), pre.1.2))
 
 insert-under-after-child-requires : (t : ℕ) → insert-under-lts.Need-after-child-requires (claims t) (insert-under-at t) insert-under.Post
@@ -117,7 +117,7 @@ insert-under-after-child-requires t c κs =
     let returned = c.before.before.before.before.before.before in
     let below = returned.insert-under in
     let met = returned.before.before.before.before in
-    let pre = (start t (child-visit t met)).pre in (
+    let pre = (start t (child-visit t met)).requires in (
       pre.1.0,
       rw below.auto.0 (child t met),
       next_fits _ _ _ _ _ _ below.result below.ensures (omega (arith, pre.1.1, levels-left t (child-visit t met))),

@@ -108,7 +108,7 @@ path-from-enum-told-2 : (t : ℕ) → path-from-lts.Need-enum-told-2 (claims t) 
 path-from-enum-told-2 t c = search rules
 
 path-from-is-present-requires : (t : ℕ) → path-from-lts.Need-is-present-requires (claims t) (path-from-at t) path-from.Post
-path-from-is-present-requires t c κs = ((start t (leaf-visit t c)).pre.1.0, (visited-leaf _ _ _ (met-leaf t c)).0)
+path-from-is-present-requires t c κs = ((start t (leaf-visit t c)).requires.1.0, (visited-leaf _ _ _ (met-leaf t c)).0)
 
 path-from-empty-path-requires-3 : (t : ℕ) → path-from-lts.Need-empty-path-requires-3 (claims t) (path-from-at t) path-from.Post
 path-from-empty-path-requires-3 t c κs = search rules
@@ -125,7 +125,7 @@ path-from-sub-path-from t c = search rules
 path-from-path-from-requires : (t : ℕ) → path-from-lts.Need-path-from-requires (claims t) (path-from-at t) path-from.Post
 path-from-path-from-requires t c κs =
     let visited = child-visit t c.before in
-    let pre = (start t visited).pre in
+    let pre = (start t visited).requires in
     (omega (arith, pre.0, levels-left t visited), (pre.1.0, omega (arith, pre.1.1)))
 
 path-from-on-top-requires-2 : (t : ℕ) → path-from-lts.Need-on-top-requires-2 (claims t) (path-from-at t) path-from.Post
@@ -135,7 +135,7 @@ path-from-on-top-requires-2 t c κs =
     let args = at-start.args in
     let item = stored args.key.now args.number.0 in
     let few = path-levels (length args.key.now) (args.levels - 1) args.index.now item met.visit.given.0.1.0.0 in
-    rw c.path-from.ensures (omega (arith, few, at-start.pre.1.1))
+    rw c.path-from.ensures (omega (arith, few, at-start.requires.1.1))
 
 path-from-returns-2 : (t : ℕ) → path-from-lts.Need-returns-2 (claims t) (path-from-at t) path-from.Post
 path-from-returns-2 t c =

@@ -85,7 +85,7 @@ there-from-enum-told-2 : (t : ℕ) → there-from-lts.Need-enum-told-2 (claims t
 there-from-enum-told-2 t c = search rules
 
 there-from-is-present-requires : (t : ℕ) → there-from-lts.Need-is-present-requires (claims t) (there-from-at t) there-from.Post
-there-from-is-present-requires t c κs = ((start t (leaf-visit t c)).pre.1, (visited-leaf _ _ _ (met-leaf t c)).0)
+there-from-is-present-requires t c κs = ((start t (leaf-visit t c)).requires.1, (visited-leaf _ _ _ (met-leaf t c)).0)
 
 there-from-enum-known-visit : (t : ℕ) → there-from-lts.Need-enum-known-visit (claims t) (there-from-at t) there-from.Post
 there-from-enum-known-visit t c = search rules
@@ -96,7 +96,7 @@ there-from-sub-there-from t c = search rules
 there-from-there-from-requires : (t : ℕ) → there-from-lts.Need-there-from-requires (claims t) (there-from-at t) there-from.Post
 there-from-there-from-requires t c κs =
     let visited = child-visit t c.before in
-    let pre = (start t visited).pre in
+    let pre = (start t visited).requires in
     (omega (arith, pre.0, levels-left t visited), pre.1)
 
 there-from-returns-2 : (t : ℕ) → there-from-lts.Need-returns-2 (claims t) (there-from-at t) there-from.Post

@@ -16,7 +16,7 @@ use Rattle.idx_remove.proofs.remove.Tie as tie
 
 -- the places: the call's start, from behind the first test; and the place behind each test, from the place behind the next
 abbrev start : tie.Else-not-header_good → tie.Start
-start c = c.before.before.before.before.before-UNKNOWN
+start c = c.before.before.before.before
 
 abbrev at-header : tie.Else-key-key_length → tie.Else-not-header_good
 at-header c = c.before.before.before

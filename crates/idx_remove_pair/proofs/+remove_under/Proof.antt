@@ -85,7 +85,7 @@ remove-under-remove-in-leaf-requires : (t : ℕ) → remove-under-lts.Need-remov
 remove-under-remove-in-leaf-requires t c κs =
     let met = c.before.before in
     let visited = leaf-visit t met in
-    let pre = (start t visited).pre in
+    let pre = (start t visited).requires in
     (pre.1.0, (visited-leaf _ _ _ (sym met.enum-told2.given.1 ∙ visited.visit-page.ensures)).0, pre.1.1)
 
 remove-under-enum-known-visit : (t : ℕ) → remove-under-lts.Need-enum-known-visit (claims t) (remove-under-at t) remove-under.Post
@@ -97,7 +97,7 @@ remove-under-sub-remove-under t c = search rules
 remove-under-remove-under-requires : (t : ℕ) → remove-under-lts.Need-remove-under-requires (claims t) (remove-under-at t) remove-under.Post
 remove-under-remove-under-requires t c κs =
     let visited = child-visit t c.before.before.before in
-    let pre = (start t visited).pre in
+    let pre = (start t visited).requires in
     (omega (arith, pre.0, levels-left t visited), pre.1)
 
 remove-under-after-child-requires : (t : ℕ) → remove-under-lts.Need-after-child-requires (claims t) (remove-under-at t) remove-under.Post
@@ -107,7 +107,7 @@ remove-under-after-child-requires t c κs =
     let met = returned.before.before.before.before in
     let visited = child-visit t met in
     let page = (visited-child _ _ _ _ _ (sym met.visit.given.1 ∙ visited.visit-page.ensures)).0 in
-    let pre = (start t visited).pre in (
+    let pre = (start t visited).requires in (
       pre.1.0,
       rw below.auto.0 page,
       rw below.auto.0 (emptied-fits _ _ _ _ _ below.result below.ensures),

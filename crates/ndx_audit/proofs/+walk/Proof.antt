@@ -120,7 +120,7 @@ key-count-requires t c κs = (inside t c 0 (omega arith)).page
 pairs-requires : (t : ℕ) → walk-lts.Need-pairs-requires (claims t) (walk_at t) walk.Post Inv μ
 pairs-requires t c κs =
     let counted = c.before in
-    let asked = (start t counted.before).pre.1 in
+    let asked = (start t counted.before).requires.1 in
     (asked.0, inside t counted.before _ (omega (arith, counted.key-count.ensures)), asked.1)
 
 returns-2 : (t : ℕ) → walk-lts.Need-returns-2 (claims t) (walk_at t) walk.Post Inv μ
@@ -138,7 +138,7 @@ sub-under t c = search rules
 
 loop-holds : (t : ℕ) → walk-lts.Need-loop-init (claims t) (walk_at t) walk.Post Inv μ
 loop-holds t c =
-    (search rules, (start t c.before.before).pre.1.1, rw sub-zero)
+    (search rules, (start t c.before.before).requires.1.1, rw sub-zero)
 
 lower-requires : (t : ℕ) → walk-lts.Need-lower-requires (claims t) (walk_at t) walk.Post Inv μ
 lower-requires t c κs = within t c.before _ (omega arith)
@@ -147,12 +147,12 @@ walk-requires : (t : ℕ) → walk-lts.Need-walk-requires (claims t) (walk_at t)
 walk-requires t c κs =
     let loop = c.before.before.before in
     let begun = start t (on t loop) in
-    (omega (arith, begun.pre.0, loop.before.if2.false), (begun.pre.1.0, loop.loop.invariant.1))
+    (omega (arith, begun.requires.0, loop.before.if2.false), (begun.requires.1.0, loop.loop.invariant.1))
 
 pass-requires : (t : ℕ) → walk-lts.Need-pass-requires (claims t) (walk_at t) walk.Post Inv μ
 pass-requires t c κs =
     let turn = c.before.before.before in
-    ((start t (on t turn.before)).pre.1.0, within t turn.before _ (omega (arith, turn.loop-test.true)), c.walk.ensures.1)
+    ((start t (on t turn.before)).requires.1.0, within t turn.before _ (omega (arith, turn.loop-test.true)), c.walk.ensures.1)
 
 returns-3 : (t : ℕ) → walk-lts.Need-returns-3 (claims t) (walk_at t) walk.Post Inv μ
 returns-3 t c =
@@ -194,7 +194,7 @@ walk-requires-2 : (t : ℕ) → walk-lts.Need-walk-requires-2 (claims t) (walk_a
 walk-requires-2 t c κs =
     let loop = c.before.before.before in
     let begun = start t (on t loop) in
-    (omega (arith, begun.pre.0, loop.before.if2.false), (begun.pre.1.0, loop.loop.invariant.1))
+    (omega (arith, begun.requires.0, loop.before.if2.false), (begun.requires.1.0, loop.loop.invariant.1))
 
 returns-4 : (t : ℕ) → walk-lts.Need-returns-4 (claims t) (walk_at t) walk.Post Inv μ
 returns-4 t c =
