@@ -41,8 +41,8 @@ uint32_t gl_interface(void);
 #define GL_ABSENT 257 /* the key is not in the index */
 #define GL_DONE 258   /* the walk has no record left */
 
-/* The refusals, by the numbers of documents 01 and 02 (26 is unused, 34 is not given yet). If several hold, a call answers the one that its comment names first. A table that is
-   refused by 1 to 10 is not read at all: the lab has to send a good copy. */
+/* The refusals, by the numbers of documents 01 and 02 (26 is unused, 34 is not given yet). If several hold, a call answers the one that its comment names
+   first. A table that is refused by 1 to 10 is not read at all: the lab has to send a good copy. */
 enum gl_refusal {
     /* the table as a whole */
     GL_REFUSED_TABLE_SIZE = 1,          /* size of the table: below 32 or above 16,777,216 bytes */

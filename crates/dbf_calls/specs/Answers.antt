@@ -10,10 +10,10 @@ use Rattle.handed.specs.Out.{Out, out}
 pub record Sizes : Type 0 where
   pub records : ℕ
   pub fields : ℕ
-  pub record_length_of : ℕ
+  pub record_length : ℕ
 
 abbrev pub sizes : ℕ → ℕ → ℕ → Sizes
-sizes records fields record_length_of = record { records = records; fields = fields; record_length_of = record_length_of }
+sizes records fields record_length = record { records = records; fields = fields; record_length = record_length }
 
 -- the number of an answer: 0 for a good table, or the refusal's
 abbrev pub checked_code : Checked → ℕ

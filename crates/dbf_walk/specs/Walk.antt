@@ -1,5 +1,6 @@
--- Rules: a walk over a table's records, one step. Document 01: "A walk hands out the numbers of undeleted records in order" (`live_step`). Document 02, K8: "the
--- walk to hand out every record with a mark, deleted or not, as the default" (`walk_step`). Refusals 1 to 10 and 15. Cited by `walk_step` and `live_step`.
+-- Rules: a walk over a table's records, one step. Document 01: "A walk hands out the numbers of undeleted records in order" (`live_step`). Document 02, K8:
+-- "the walk to hand out every record with a mark, deleted or not, as the default" (`walk_step`). Refusals 1 to 10 and 15. Cited by `walk_step` and
+-- `live_step`.
 use Rattle.std.specs.Prelude.{ℕ, zero, suc, ◌+◌, ◌-◌, List, [], ◌∷◌, Bool, true, false, ◌&&◌, cond, eqb}
 use Rattle.dbf_table.specs.Table.{record_count, deletion_byte, kept_mark, deleted_mark, table_refusal}
 use Rattle.dbf_walk.specs.declared.Position.{Position}

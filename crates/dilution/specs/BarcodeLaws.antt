@@ -12,7 +12,7 @@ use Rattle.dbf_table.specs.Table.{record_count, field_length, table_refusal}
 use Rattle.dbf_cell.specs.Cell.{field_start, field_bytes}
 use Rattle.tree.specs.Pairs.{get, find, by_key, Above, Ascending}
 use Rattle.tree.specs.Keeping.{pair_order}
-use Rattle.tree.specs.KeepingLaws.{find-get}
+use Rattle.tree.proofs.KeepingLaws.{find-get}
 use Rattle.tree.specs.Tree.{visited}
 use Rattle.idx_page.specs.Header.{key_length, features, good_features}
 use Rattle.idx_page.specs.KeyOrder.{bytes_order}

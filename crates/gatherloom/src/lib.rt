@@ -1,8 +1,8 @@
 // The C interface: what the firmware and every host program call. Each function calls the library on what it was lent, returns the number of the answer, and
 // writes the answer's values to its out-parameters. An out-parameter keeps what it held whenever the answer is not 0, but for the pages of a lookup.
 //
-// How to read a contract: r is the number returned; `now x.entry` is what x held before the call, and `now x.exit` what it holds after it. So
-// `number_out (rule) (now value.entry) ≡ out r (now value.exit)` says: the rule's answer and the old value alone fix r and the new value.
+// How to read a contract: `result` is the number returned; `x.old` is what x held before the call, and `x.new` what it holds after it; `x.now` is what x holds
+// that is only read. So `number_out (rule) value.old ≡ out result value.new` says: the rule's answer and the old value alone fix the result and the new value.
 #![tactic(auto)]
 
 ghost use Rattle.std.specs.Prelude.{◌≡◌};

@@ -6,7 +6,7 @@ use Rattle.refusal.specs.declared.Change.{Change}
 use Rattle.refusal.specs.declared.Change.TheVariants.{Made, Refused}
 use Rattle.tree.specs.Book.{Call, insertion, removal_of, lookup_of, Answer, refused, accepted, found, absent, KeyTests, is_accepted, no_rooms, results_of, final_of}
 use Rattle.tree.specs.Book.{book_answers, book_final}
-use Rattle.tree.specs.Keeping.{keeping_of}
+use Rattle.tree.proofs.KeepingOf.{keeping_of}
 use Rattle.idx_page.specs.Header.{key_length, features}
 use Rattle.idx_page.specs.KeyOrder.{bytes_order}
 use Rattle.idx_page.specs.declared.RecordNumber.{RecordNumber}

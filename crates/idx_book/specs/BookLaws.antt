@@ -7,10 +7,11 @@ use Rattle.refusal.specs.AfterLaws.{Accepted, made-accepted}
 use Rattle.refusal.specs.declared.Change.TheVariants.{Made}
 use Rattle.tree.specs.Book.{Call, insertion, removal_of, lookup_of, KeyTests, is_no_room, no_rooms, results_of, final_of}
 use Rattle.tree.specs.Book.{book_answer, book_after, book_answers, book_final, BookClaim}
-use Rattle.tree.specs.Book.Theorem.{list-keeps, book_claim}
+use Rattle.tree.proofs.Book.Theorem.{list-keeps, book_claim}
 use Rattle.tree.specs.Index.{held, answer, no_room_for as noRoomTo}
-use Rattle.tree.specs.IndexLaws.{answer_book, answer-room, next_book}
-use Rattle.tree.specs.Keeping.{Keeping, keeping_of}
+use Rattle.tree.proofs.IndexLaws.{answer_book, answer-room, next_book}
+use Rattle.tree.specs.Keeping.{Keeping}
+use Rattle.tree.proofs.KeepingOf.{keeping_of}
 use Rattle.idx_page.specs.Header.{min_bytes, key_length, features, header_good}
 use Rattle.idx_page.specs.HeaderLaws.{good-header}
 use Rattle.idx_page.specs.KeyOrder.{bytes_order}

@@ -12,16 +12,16 @@ use Rattle.refusal.specs.AfterLaws.{made-either}
 use Rattle.tree.specs.Book.{Call, insertion, removal_of, lookup_of, accepted, absent, refused_if, found_or_absent, is_accepted, book_answer}
 use Rattle.tree.specs.Index.{Index, held, Setting, out_of_room, no_room_for as noRoomTo, answer, inserted, removed, next}
 use Rattle.tree.specs.FreeChain.{chain_from}
-use Rattle.tree.specs.FreeChainLaws.{chained-read}
-use Rattle.tree.specs.IndexLaws.{accepted_acceptable}
-use Rattle.tree.specs.IndexPages.{free-distinct, no_page-unused}
+use Rattle.tree.proofs.FreeChainLaws.{chained-read}
+use Rattle.tree.proofs.IndexLaws.{accepted_acceptable}
+use Rattle.tree.proofs.IndexPages.{free-distinct, no_page-unused}
 use Rattle.tree.specs.Lists.{count_if, occ}
 use Rattle.tree.specs.LookupFirst.{lookup_by, visited_by}
-use Rattle.tree.specs.LookupLaws.{visited_by-found}
-use Rattle.tree.specs.PageCount.{pages-at-most}
+use Rattle.tree.proofs.LookupLaws.{visited_by-found}
+use Rattle.tree.proofs.PageCount.{pages-at-most}
 use Rattle.tree.specs.Pairs.{has}
-use Rattle.tree.specs.Keeping.{keeping_of}
-use Rattle.tree.specs.SoundIndex.{SoundIndex}
+use Rattle.tree.proofs.KeepingOf.{keeping_of}
+use Rattle.tree.proofs.SoundIndex.{SoundIndex}
 use Rattle.idx_page.specs.Header.{max_bytes, page_size, no_page, free_pointer, file_size, key_length, features, header_good}
 use Rattle.idx_page.specs.HeaderLaws.{IsPage, is-page, good-header}
 use Rattle.idx_page.specs.KeyOrder.{bytes_order}
@@ -32,10 +32,10 @@ use Rattle.idx_lookup.specs.declared.Answer.{Answer as Looked}
 use Rattle.idx_lookup.specs.declared.Answer.TheVariants as looked
 use Rattle.idx_lookup_laws.specs.FoundLaws.{answer_of}
 use Rattle.idx_lookup_laws.specs.HeldLaws.{goes_on_lem, lookup-by}
-use Rattle.idx_sound.specs.Accepted.{accepted as audit-accepts}
+use Rattle.idx_sound.proofs.Accepted.{accepted as audit-accepts}
 use Rattle.idx_sound.specs.Sound.{index_tree, kept_by, Sound, leaf_pairs}
 use Rattle.idx_sound.specs.AuditTest.{pages_good}
-use Rattle.idx_sound.specs.IndexLaws.{index_of, setting_of, sound-index, once-page}
+use Rattle.idx_sound.proofs.IndexLaws.{index_of, setting_of, sound-index, once-page}
 use Rattle.idx_insert.specs.Calls.{has_control, insert_checks, insert_rule}
 use Rattle.idx_insert_page.specs.Insertion.{inserted_buffer}
 use Rattle.idx_path.specs.Room.{path_to, no_room}

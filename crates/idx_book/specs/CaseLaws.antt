@@ -6,15 +6,16 @@ use Rattle.std.proofs.lemmas.Bool.{eqb-false}
 use Rattle.basis.specs.Tests.{either, contra, both, join}
 use Rattle.octets.specs.Order.{bytes_le}
 use Rattle.octets.specs.OrderLaws.{le_refl, le_antisym}
-use Rattle.tree.specs.Keeping.{pair_order, repeated_keys}
-use Rattle.tree.specs.KeepingLaws.{pair_refl}
+use Rattle.tree.specs.Keeping.{pair_order}
+use Rattle.tree.proofs.KeepingOf.{repeated_keys}
+use Rattle.tree.proofs.KeepingLaws.{pair_refl}
 use Rattle.tree.specs.Pairs.{by_key, by_record, has}
-use Rattle.tree.specs.RecordOrder.{by_record-same}
+use Rattle.tree.proofs.RecordOrder.{by_record-same}
 use Rattle.idx_page.specs.Header.{key_length, features, header_good}
 use Rattle.idx_page.specs.KeyOrder.{bytes_order}
 use Rattle.idx_sound.specs.Sound.{Sound}
 use Rattle.idx_sound.specs.AuditTest.{pages_good}
-use Rattle.idx_sound.specs.Accepted.{accepted as audit-accepts}
+use Rattle.idx_sound.proofs.Accepted.{accepted as audit-accepts}
 use Rattle.idx_path.specs.Room.{path_to}
 use Rattle.idx_insert_laws.specs.RoomLaws.{present_is}
 use Rattle.idx_book.specs.Book.{Pairs, leaf_pairs}

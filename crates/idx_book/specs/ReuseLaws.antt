@@ -5,15 +5,15 @@ use Rattle.std.proofs.Common.{sym, ap, ◌∙◌, arith}
 use mathlib.Core.List.{List, [], ◌∷◌}
 use Rattle.basis.specs.Lists.{All}
 use Rattle.tree.specs.Book.{Call, insertion, removal_of, lookup_of, accepted, found, is_accepted, final_of}
-use Rattle.tree.specs.Book.Theorem.{HoldsAtMost, list-bounded, list-grows}
+use Rattle.tree.proofs.Book.Theorem.{HoldsAtMost, list-bounded, list-grows}
 use Rattle.tree.specs.Index.{held, fresh, out_of_room, answer, next}
 use Rattle.refusal.specs.declared.Change.TheVariants.{Made}
 use Rattle.idx_page.specs.KeyOrder.{bytes_order}
-use Rattle.tree.specs.IndexLaws.{accepted_strikable}
-use Rattle.tree.specs.Keeping.{keeping_of, distinct_keys}
-use Rattle.tree.specs.KeepingLaws.{same_key}
+use Rattle.tree.proofs.IndexLaws.{accepted_strikable}
+use Rattle.tree.proofs.KeepingOf.{keeping_of, distinct_keys}
+use Rattle.tree.proofs.KeepingLaws.{same_key}
 use Rattle.tree.specs.Pairs.{has}
-use Rattle.tree.specs.ReuseLaws.{fresh-bounded, again-found}
+use Rattle.tree.proofs.ReuseLaws.{fresh-bounded, again-found}
 use Rattle.idx_page.specs.Header.{max_levels, page_size, file_size, key_length, features, good_features}
 use Rattle.idx_page.specs.Page.{capacity}
 use Rattle.idx_sound.specs.Sound.{Sound}

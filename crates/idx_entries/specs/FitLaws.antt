@@ -12,7 +12,7 @@ use Rattle.octets.specs.Store.{put}
 use Rattle.octets.specs.StoreLaws.{put_splice}
 use Rattle.octets.specs.NumberLaws.{length-to_be32}
 use Rattle.tree.specs.Pairs.{last_key, insert_pair}
-use Rattle.tree.specs.PairLaws.{insert_pair-all}
+use Rattle.tree.proofs.PairLaws.{insert_pair-all}
 use Rattle.idx_page.specs.Header.{max_key}
 use Rattle.idx_page.specs.Reading.{Item, items}
 use Rattle.idx_leaf.specs.Leaf.{items_in, item_of}

@@ -14,20 +14,20 @@ use Rattle.octets.specs.StoreLaws.{length-put, window_same, get_d_window}
 use Rattle.octets.specs.NumberLaws.{length-to_le16, length-to_le32, le16-same, le32-same}
 use Rattle.tree.specs.Clauses.{AllLinked}
 use Rattle.tree.specs.Index.{fresh}
-use Rattle.tree.specs.IndexLaws.{fresh-sound}
-use Rattle.tree.specs.SoundIndex.{SoundIndex}
+use Rattle.tree.proofs.IndexLaws.{fresh-sound}
+use Rattle.tree.proofs.SoundIndex.{SoundIndex}
 use Rattle.tree.specs.Store.{Store, read_entry}
-use Rattle.tree.specs.Store.Laws.{write-here}
+use Rattle.tree.proofs.Store.Laws.{write-here}
 use Rattle.tree.specs.Tree.{Tree, pages, level}
 use Rattle.idx_page.specs.Header.{min_bytes, max_bytes, max_key, no_page, page_size, is_page, header_good}
 use Rattle.idx_page.specs.Header.{root_offset, free_pointer, file_size, key_length, features, key_length_good}
 use Rattle.idx_page.specs.HeaderLaws.{is_page-from, good-header-from}
 use Rattle.idx_page.specs.Page.{attribute_at, count_at, left_at, right_at, root_bit, leaf_bit, capacity}
 use Rattle.idx_page.specs.Reading.{entries_at}
-use Rattle.idx_page.specs.ReadingLaws.{window-window}
+use Rattle.idx_page.proofs.ReadingLaws.{window-window}
 use Rattle.idx_layout.specs.WriteLaws.{capacity-least}
 use Rattle.idx_sound.specs.Sound.{index_tree, links_of, Sound}
-use Rattle.idx_sound.specs.IndexLaws.{index_of, setting_of, index-sound}
+use Rattle.idx_sound.proofs.IndexLaws.{index_of, setting_of, index-sound}
 use Rattle.idx_insert.specs.CallLaws.{expression-most, features-most}
 use Rattle.idx_insert.specs.Fresh.{max_expression, expression_good, features_good, fresh_header, fresh_buffer}
 use Rattle.idx_layout_laws.specs.EntryLaws.{entries_in, page-of, entries-new, length-new}

@@ -13,15 +13,15 @@ use Rattle.octets.specs.Store.{put}
 use Rattle.octets.specs.StoreLaws.{length-put, window-after}
 use Rattle.octets.specs.NumberLaws.{length-to_le32, length-to_be32, le32-put, le32-same}
 use Rattle.tree.specs.Clauses.{Sized, Links}
-use Rattle.tree.specs.Insertion.Needs.{insert-needs, root-splits}
+use Rattle.tree.proofs.Insertion.Needs.{insert-needs, root-splits}
 use Rattle.tree.specs.Insertion.{Grown, insert}
 use Rattle.tree.specs.Lists.{occ}
 use Rattle.tree.specs.Pairs.{last_key}
 use Rattle.tree.specs.Relinking.{path_page, relink, clear_links, relinked}
 use Rattle.tree.specs.Room.{run, needs, levels_after}
 use Rattle.tree.specs.Store.{Store, read_tree}
-use Rattle.tree.specs.Store.InsertionLaws.{insert-read}
-use Rattle.tree.specs.Store.RouteLaws.{route-read}
+use Rattle.tree.proofs.Store.InsertionLaws.{insert-read}
+use Rattle.tree.proofs.Store.RouteLaws.{route-read}
 use Rattle.tree.specs.Store.Steps.{StoreReplacement, StoreGrown, store_reroot, store_insert, read_grown}
 use Rattle.tree.specs.Tree.{Tree, pages}
 use Rattle.idx_page.specs.Header.{max_levels, no_page, page_size, features, is_page, root_offset}
@@ -29,7 +29,7 @@ use Rattle.idx_page.specs.HeaderLaws.{is-page}
 use Rattle.idx_page.specs.KeyOrder.{bytes_order}
 use Rattle.idx_page.specs.Page.{attribute_at, count_at, left_at, right_at, capacity}
 use Rattle.idx_page.specs.Reading.{Item}
-use Rattle.idx_page.specs.ReadingLaws.{window_in_page}
+use Rattle.idx_page.proofs.ReadingLaws.{window_in_page}
 use Rattle.idx_supply.specs.declared.Supply.{Supply}
 use Rattle.idx_supply.specs.declared.Taken.{Taken}
 use Rattle.idx_supply.specs.Supply.{supply_of, take_page, with_supply}

@@ -15,18 +15,18 @@ use Rattle.octets.specs.Bytes.{be32, to_le32, to_be32}
 use Rattle.octets.specs.Store.{put}
 use Rattle.octets.specs.StoreLaws.{length-put}
 use Rattle.octets.specs.NumberLaws.{length-to_le32, length-to_be32, be32-to_be32}
-use Rattle.tree.specs.Insertion.Pages.{new_pages-apart}
-use Rattle.tree.specs.ListLaws.{non_empty-length, occ-here, take_map, drop_map, occ_not_head}
+use Rattle.tree.proofs.Insertion.Pages.{new_pages-apart}
+use Rattle.tree.proofs.ListLaws.{non_empty-length, occ-here, take_map, drop_map, occ_not_head}
 use Rattle.tree.specs.Lists.{NonEmpty, concat_map, occ, count_if, half}
 use Rattle.tree.specs.Order.{larger}
-use Rattle.tree.specs.PairLaws.{last_key_default, last_key_append}
+use Rattle.tree.proofs.PairLaws.{last_key_default, last_key_append}
 use Rattle.tree.specs.Pairs.{last_key, insert_pair}
 use Rattle.tree.specs.Position.{choose, replace_at}
-use Rattle.tree.specs.RouteLaws.{replace_at_map}
+use Rattle.tree.proofs.RouteLaws.{replace_at_map}
 use Rattle.tree.specs.Store.{Store, read_entry, read_tree}
-use Rattle.tree.specs.Store.InsertionLaws.{store_insert_under_refines, choose-occ}
-use Rattle.tree.specs.Store.Laws.{write-here, write-other}
-use Rattle.tree.specs.Store.RouteLaws.{route-read}
+use Rattle.tree.proofs.Store.InsertionLaws.{store_insert_under_refines, choose-occ}
+use Rattle.tree.proofs.Store.Laws.{write-here, write-other}
+use Rattle.tree.proofs.Store.RouteLaws.{route-read}
 use Rattle.tree.specs.Store.Steps.{write, StoreReplacement, store_split_if_over, store_place, store_insert_among, store_insert_under, StoreGrown, store_insert}
 use Rattle.tree.specs.Tree.{pages_under, pages}
 use Rattle.idx_page.specs.Header.{no_page, page_size, features, is_page}

@@ -17,9 +17,9 @@ use Rattle.tree.specs.Pairs.{last_key, insert_pair}
 use Rattle.tree.specs.Position.{choose}
 use Rattle.tree.specs.Relinking.{path_page_under, relink}
 use Rattle.tree.specs.Room.{at_chosen}
-use Rattle.tree.specs.RouteLaws.{choose_map}
+use Rattle.tree.proofs.RouteLaws.{choose_map}
 use Rattle.tree.specs.Store.{Store, read_entry, read_tree}
-use Rattle.tree.specs.Store.RouteLaws.{route-read}
+use Rattle.tree.proofs.Store.RouteLaws.{route-read}
 use Rattle.tree.specs.Store.Steps.{StoreReplacement, store_split_if_over, store_insert_among}
 use Rattle.tree.specs.Tree.{Tree}
 use Rattle.idx_page.specs.Header.{features, is_page}

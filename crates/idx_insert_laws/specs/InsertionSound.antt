@@ -11,33 +11,33 @@ use Rattle.octets.specs.StoreLaws.{get_d_window}
 use Rattle.octets.specs.NumberLaws.{le16-same}
 use Rattle.tree.specs.Clauses.{least, head_or, Linked, AllLinked}
 use Rattle.tree.specs.Index.{Index, held, Setting, out_of_room, inserted}
-use Rattle.tree.specs.IndexLaws.{inserted-sound, inserted-linked}
-use Rattle.tree.specs.IndexPages.{pages-distinct, taken-unused}
-use Rattle.tree.specs.Insertion.Levels.{InsertedAfter, insert-level, level_under-pages, level_under-disjoint}
-use Rattle.tree.specs.Insertion.Needs.{insert-needs, root-splits}
-use Rattle.tree.specs.Insertion.Pairs.{insert-pairs}
-use Rattle.tree.specs.ClauseLaws.{sized-rooted}
-use Rattle.tree.specs.Insertion.Pages.{Injective, new_pages, insert-pages}
+use Rattle.tree.proofs.IndexLaws.{inserted-sound, inserted-linked}
+use Rattle.tree.proofs.IndexPages.{pages-distinct, taken-unused}
+use Rattle.tree.proofs.Insertion.Levels.{InsertedAfter, insert-level, level_under-pages, level_under-disjoint}
+use Rattle.tree.proofs.Insertion.Needs.{insert-needs, root-splits}
+use Rattle.tree.proofs.Insertion.Pairs.{insert-pairs}
+use Rattle.tree.proofs.ClauseLaws.{sized-rooted}
+use Rattle.tree.proofs.Insertion.Pages.{Injective, new_pages, insert-pages}
 use Rattle.tree.specs.Insertion.{Grown}
-use Rattle.tree.specs.LinkLaws.{linked-same, head_or_differ, linked-right}
-use Rattle.tree.specs.ListLaws.{occ_append, occ-here, occ-all}
+use Rattle.tree.proofs.LinkLaws.{linked-same, head_or_differ, linked-right}
+use Rattle.tree.proofs.ListLaws.{occ_append, occ-here, occ-all}
 use Rattle.tree.specs.Lists.{concat_map, occ, count_if}
 use Rattle.tree.specs.Pairs.{has, insert_pair}
 use Rattle.tree.specs.Relinking.{path_page}
 use Rattle.tree.specs.Room.{run, needs}
 use Rattle.tree.specs.Store.{read_tree}
 use Rattle.tree.specs.Supply.{taken_page}
-use Rattle.tree.specs.SoundIndex.{SoundIndex, LinkedIndex}
+use Rattle.tree.proofs.SoundIndex.{SoundIndex, LinkedIndex}
 use Rattle.tree.specs.Tree.{Tree, pages_under, pages, pairs, level_under, level}
 use Rattle.idx_page.specs.Header.{max_bytes, no_page, is_page, root_offset, free_pointer, file_size, key_length, features, free_good, header_good}
 use Rattle.idx_page.specs.HeaderLaws.{GoodHeader, is-page, good-header, good-header-from}
 use Rattle.idx_page.specs.KeyOrder.{bytes_order}
 use Rattle.idx_page.specs.Page.{attribute_at, count_at, left_at, right_at, root_bit, leaf_bit, capacity}
 use Rattle.idx_page.specs.Reading.{entries_at}
-use Rattle.idx_page.specs.ReadingLaws.{window-window}
+use Rattle.idx_page.proofs.ReadingLaws.{window-window}
 use Rattle.idx_layout.specs.WriteLaws.{capacity-least}
 use Rattle.idx_sound.specs.Sound.{index_tree, kept_by, links_of, FreePage, FreeList, Sound}
-use Rattle.idx_sound.specs.IndexLaws.{index_of, setting_of, sound-index, sound-linked, all-occ, once-page, index-sound}
+use Rattle.idx_sound.proofs.IndexLaws.{index_of, setting_of, sound-index, sound-linked, all-occ, once-page, index-sound}
 use Rattle.idx_insert_page.specs.Insertion.{inserted_buffer}
 use Rattle.idx_path.specs.Room.{path_to, no_room}
 use Rattle.idx_supply.specs.declared.Supply.{Supply}

@@ -10,12 +10,12 @@ use Rattle.basis.specs.Lists.{All}
 use Rattle.basis.specs.Tests.{either}
 use Rattle.octets.specs.Bytes.{be32}
 use Rattle.octets.specs.Order.{bytes_le}
-use Rattle.tree.specs.Insertion.Pairs.{leaf-place}
-use Rattle.tree.specs.Keeping.{keeping_of}
+use Rattle.tree.proofs.Insertion.Pairs.{leaf-place}
+use Rattle.tree.proofs.KeepingOf.{keeping_of}
 use Rattle.tree.specs.Lists.{NonEmpty}
 use Rattle.tree.specs.Pairs.{last_key, by_record, insert_pair}
 use Rattle.tree.specs.Position.{Passes, position, choose, replace_at}
-use Rattle.tree.specs.RouteLaws.{position-within, choose-all}
+use Rattle.tree.proofs.RouteLaws.{position-within, choose-all}
 use Rattle.tree.specs.Store.{Store}
 use Rattle.tree.specs.Store.Route.{store_first_under, store_route}
 use Rattle.tree.specs.Tree.{first_among}

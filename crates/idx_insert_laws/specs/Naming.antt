@@ -5,12 +5,12 @@ use Rattle.std.proofs.Common.{sym, ap, ◌∙◌, add-zero, arith}
 use Rattle.std.proofs.Math.Path.{ap₂}
 use Rattle.basis.specs.Lists.{All, all_map}
 use Rattle.tree.specs.FreeChain.{Chained}
-use Rattle.tree.specs.FreeChainLaws.{chained-head}
+use Rattle.tree.proofs.FreeChainLaws.{chained-head}
 use Rattle.tree.specs.FreeList.{lacking}
-use Rattle.tree.specs.Insertion.Pages.{Distinct, Injective}
+use Rattle.tree.proofs.Insertion.Pages.{Distinct, Injective}
 use Rattle.tree.specs.Lists.{occ}
 use Rattle.tree.specs.Supply.{page_at_end, taken_page, size_after}
-use Rattle.tree.specs.SupplyLaws.{taken-injective}
+use Rattle.tree.proofs.SupplyLaws.{taken-injective}
 use Rattle.idx_page.specs.Header.{max_bytes, no_page, is_page, free_pointer, file_size}
 use Rattle.idx_page.specs.HeaderLaws.{GoodHeader, is-page, is_page-from}
 use Rattle.idx_page.specs.Page.{right_at}

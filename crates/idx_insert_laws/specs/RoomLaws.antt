@@ -12,13 +12,13 @@ use Rattle.octets.specs.Bytes.{to_be32}
 use Rattle.octets.specs.NumberLaws.{be32-to_be32}
 use Rattle.tree.specs.Index.{out_of_room}
 use Rattle.tree.specs.Keeping.{Route}
-use Rattle.tree.specs.LeafLaws.{leaf-has}
-use Rattle.tree.specs.ClauseLaws.{sized-rooted}
+use Rattle.tree.proofs.LeafLaws.{leaf-has}
+use Rattle.tree.proofs.ClauseLaws.{sized-rooted}
 use Rattle.tree.specs.Pairs.{has, present}
 use Rattle.tree.specs.Room.{at_chosen, route_leaf, run}
 use Rattle.tree.specs.Store.{Store}
-use Rattle.tree.specs.Store.LookupLaws.{leaf-read, run-read}
-use Rattle.tree.specs.Store.RouteLaws.{route-read}
+use Rattle.tree.proofs.Store.LookupLaws.{leaf-read, run-read}
+use Rattle.tree.proofs.Store.RouteLaws.{route-read}
 use Rattle.tree.specs.Store.Steps.{store_leaf, store_run}
 use Rattle.tree.specs.Supply.{size_after}
 use Rattle.idx_page.specs.Header.{max_bytes, max_levels, root_offset, file_size, key_length, features}
@@ -31,7 +31,7 @@ use Rattle.idx_page.specs.ItemLaws.{present-numbered}
 use Rattle.idx_leaf.specs.Leaf.{items_in, stored, item_of}
 use Rattle.idx_route.specs.Route.{chosen_at, child_of}
 use Rattle.idx_sound.specs.Sound.{index_tree, kept_by, Sound, leaf_pairs}
-use Rattle.idx_sound.specs.IndexLaws.{index_of, setting_of, sound-index}
+use Rattle.idx_sound.proofs.IndexLaws.{index_of, setting_of, sound-index}
 use Rattle.idx_path.specs.declared.Path.{Path}
 use Rattle.idx_path.specs.Room.{on_top, path_from, path_to, no_room}
 use Rattle.idx_layout_laws.specs.EntryLaws.{entries_in}

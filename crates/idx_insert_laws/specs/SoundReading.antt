@@ -5,18 +5,18 @@ use Rattle.std.proofs.Common.{sym, ◌∙◌, subst, arith, eq-eqb, ne_eqb}
 use Rattle.std.proofs.lemmas.List.{length-map}
 use Rattle.basis.specs.Lists.{All}
 use Rattle.tree.specs.Clauses.{least, SizedUnder, Sized}
-use Rattle.tree.specs.IndexPages.{free-distinct, free-beyond}
-use Rattle.tree.specs.ListLaws.{non_empty-length, occ_append, occ-here, occ-all}
+use Rattle.tree.proofs.IndexPages.{free-distinct, free-beyond}
+use Rattle.tree.proofs.ListLaws.{non_empty-length, occ_append, occ-here, occ-all}
 use Rattle.tree.specs.Lists.{concat_map, occ}
 use Rattle.tree.specs.Store.{Store, read_entry, read_tree}
-use Rattle.tree.specs.Store.Laws.{frame}
+use Rattle.tree.proofs.Store.Laws.{frame}
 use Rattle.tree.specs.Tree.{Tree, pages_under, pages, level_under, level}
 use Rattle.idx_page.specs.Header.{max_levels, is_page, root_offset, file_size, key_length}
 use Rattle.idx_page.specs.HeaderLaws.{is-page, is_page-from, good-header}
 use Rattle.idx_page.specs.Page.{attribute_at, leaf_bit, capacity}
 use Rattle.idx_page.specs.Reading.{items_at, entries_at}
 use Rattle.idx_sound.specs.Sound.{index_tree, Sound}
-use Rattle.idx_sound.specs.IndexLaws.{index_of, sound-sized, sound-index}
+use Rattle.idx_sound.proofs.IndexLaws.{index_of, sound-sized, sound-index}
 use Rattle.idx_layout_laws.specs.EntryLaws.{entries_in}
 use Rattle.idx_insert_laws.specs.Naming.{Usable, FreeGiven}
 use Rattle.idx_insert_laws.specs.ItemLists.{Shaped}

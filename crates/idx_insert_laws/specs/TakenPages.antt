@@ -10,7 +10,7 @@ use Rattle.basis.specs.Lists.{All}
 use Rattle.basis.specs.Tests.{either}
 use Rattle.tree.specs.Clauses.{head_or}
 use Rattle.tree.specs.FreeChain.{Chained}
-use Rattle.tree.specs.FreeChainLaws.{chained-head}
+use Rattle.tree.proofs.FreeChainLaws.{chained-head}
 use Rattle.tree.specs.FreeList.{free_after, lacking}
 use Rattle.tree.specs.Supply.{page_at_end, taken_page, size_after}
 use Rattle.idx_page.specs.Header.{no_page, is_page}

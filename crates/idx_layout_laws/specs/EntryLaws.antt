@@ -22,7 +22,7 @@ use Rattle.octets.specs.StoreLaws.{length-put, window-before, window-after, wind
 use Rattle.octets.specs.NumberLaws.{length-to_le16, length-to_le32, le16-same, le16-put}
 use Rattle.tree.specs.Lists.{half}
 use Rattle.tree.specs.Order.{larger}
-use Rattle.tree.specs.OrderLaws.{larger-same}
+use Rattle.tree.proofs.OrderLaws.{larger-same}
 use Rattle.tree.specs.Store.{Store}
 use Rattle.tree.specs.Store.Steps.{write}
 use Rattle.idx_page.specs.Header.{page_size, is_page}
@@ -31,7 +31,7 @@ use Rattle.idx_page.specs.PageLaws.{entries_fit, entry-inside, entry-low, capaci
 use Rattle.idx_page.specs.HeaderLaws.{is-page}
 use Rattle.idx_page.specs.KeyOrder.{bytes_order}
 use Rattle.idx_page.specs.Reading.{Item, items, items_at, numbered}
-use Rattle.idx_page.specs.ReadingLaws.{read_count, items_take}
+use Rattle.idx_page.proofs.ReadingLaws.{read_count, items_take}
 use Rattle.idx_leaf.specs.Leaf.{items_in, item_of}
 use Rattle.idx_layout.specs.Layout.{encode, area, with_entries, new_page, without_root, link_beyond, split_page}
 use Rattle.idx_entries.specs.Entries.{replaced, raised}

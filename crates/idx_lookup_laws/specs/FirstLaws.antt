@@ -13,25 +13,25 @@ use Rattle.basis.specs.Lists.{All}
 use Rattle.basis.specs.Tests.{either, both, or_left, contra, impossible}
 use Rattle.octets.specs.Order.{bytes_le, ordering, is_equal}
 use Rattle.tree.specs.Lists.{NonEmpty, occ}
-use Rattle.tree.specs.ListLaws.{all_unit, all_map2, non_empty-length}
+use Rattle.tree.proofs.ListLaws.{all_unit, all_map2, non_empty-length}
 use Rattle.tree.specs.Clauses.{Links, Linked}
 use Rattle.tree.specs.Pairs.{seek, if_equal, find, get}
-use Rattle.tree.specs.KeepingLaws.{find-get}
+use Rattle.tree.proofs.KeepingLaws.{find-get}
 use Rattle.tree.specs.Tree.{Tree, pairs, level}
 use Rattle.tree.specs.LookupFirst.{Trip, neighbour, first_record}
-use Rattle.tree.specs.LookupLaws.{first_record-find, first_record-found}
+use Rattle.tree.proofs.LookupLaws.{first_record-find, first_record-found}
 use Rattle.tree.specs.Store.First.{linked_page, seek_or_last, trip_among, trip_to, store_record_under, store_record}
-use Rattle.tree.specs.Store.FirstLaws.{record_read}
-use Rattle.tree.specs.Insertion.Levels.{level_under-pages}
-use Rattle.tree.specs.IndexPages.{no_page-unused}
+use Rattle.tree.proofs.Store.FirstLaws.{record_read}
+use Rattle.tree.proofs.Insertion.Levels.{level_under-pages}
+use Rattle.tree.proofs.IndexPages.{no_page-unused}
 use Rattle.idx_page.specs.Header.{max_levels, no_page, page_size, is_page, root_offset, file_size, key_length, features}
 use Rattle.idx_page.specs.HeaderLaws.{is-page, good-header}
 use Rattle.idx_page.specs.Page.{attribute_at, count_at, right_at, leaf_bit, capacity, key_at, number_at, attribute_good, count_good, page_good}
 use Rattle.idx_page.specs.KeyOrder.{bytes_order}
 use Rattle.idx_page.specs.KeyOrderLaws.{equal-le}
 use Rattle.idx_page.specs.Reading.{entries_at}
-use Rattle.idx_page.specs.SearchLaws.{first_entry}
-use Rattle.idx_page.specs.ReadingLaws.{entries_from, entries_by_count, length-entries-from}
+use Rattle.idx_page.proofs.SearchLaws.{first_entry}
+use Rattle.idx_page.proofs.ReadingLaws.{entries_from, entries_by_count, length-entries-from}
 use Rattle.idx_lookup.specs.Lookup.{record_of}
 use Rattle.idx_lookup.specs.FirstRecord.{entry_decides, neighbour_decides, first_from}
 use Rattle.idx_lookup.specs.Lookup.{lookup_rule}
@@ -40,12 +40,12 @@ use Rattle.idx_lookup.specs.declared.Answer.{Answer}
 use Rattle.idx_lookup.specs.declared.Answer.TheVariants as answer
 use Rattle.idx_sound.specs.Sound.{Sound, index_tree, links_of, kept_by}
 use Rattle.idx_sound.specs.AuditTest.{Entries, attribute_of, last_number}
-use Rattle.tree.specs.Levels.{below, generation, all_of_map, all_of_concat}
-use Rattle.idx_sound.specs.RunLaws.{Fits}
-use Rattle.idx_sound.specs.LevelLaws.{LevelGood}
+use Rattle.tree.proofs.Levels.{below, generation, all_of_map, all_of_concat}
+use Rattle.idx_sound.proofs.RunLaws.{Fits}
+use Rattle.idx_sound.proofs.LevelLaws.{LevelGood}
 use Rattle.idx_sound.specs.AttributeLaws.{leaf-bit}
-use Rattle.idx_sound.specs.ShapeLaws.{root_entry, level_pages, sound-levels}
-use Rattle.idx_sound.specs.IndexLaws.{index_of, sound-index, sound-sized}
+use Rattle.idx_sound.proofs.ShapeLaws.{root_entry, level_pages, sound-levels}
+use Rattle.idx_sound.proofs.IndexLaws.{index_of, sound-index, sound-sized}
 use Rattle.idx_lookup_laws.specs.FoundLaws.{answer_of, seek-le, seek-all, searched, attribute-passes, first_is}
 
 -- the answer by what a lookup comes to, after n pages before it

@@ -14,21 +14,21 @@ use Rattle.refusal.specs.Checks.{unless}
 use Rattle.basis.specs.Lists.{All}
 use Rattle.basis.specs.Tests.{either, both, impossible}
 use Rattle.octets.specs.Order.{bytes_le, ordering, is_equal}
-use Rattle.tree.specs.ListLaws.{all_unit, all_map2}
+use Rattle.tree.proofs.ListLaws.{all_unit, all_map2}
 use Rattle.tree.specs.Pairs.{follow, seek, find}
 use Rattle.tree.specs.Tree.{Tree, pairs, lookup, onward, visited}
 use Rattle.tree.specs.Keeping.{goes_on_for}
-use Rattle.tree.specs.Ordered.{lookup-find, visited-found}
+use Rattle.tree.proofs.Ordered.{lookup-find, visited-found}
 use Rattle.tree.specs.Store.Steps.{store_lookup, store_visited}
-use Rattle.tree.specs.Store.LookupLaws.{lookup-read, visited-read}
-use Rattle.tree.specs.Levels.{below, generation, all_of_map, all_of_concat}
+use Rattle.tree.proofs.Store.LookupLaws.{lookup-read, visited-read}
+use Rattle.tree.proofs.Levels.{below, generation, all_of_map, all_of_concat}
 use Rattle.idx_page.specs.Header.{max_levels, is_page, root_offset, file_size, key_length, features, good_features}
 use Rattle.idx_page.specs.Page.{attribute_at, count_at, leaf_bit, capacity, key_at, number_at, attribute_good, count_good, page_good}
 use Rattle.idx_page.specs.PageLaws.{first_bound}
 use Rattle.idx_page.specs.KeyOrder.{bytes_order}
 use Rattle.idx_page.specs.Reading.{entries_at}
-use Rattle.idx_page.specs.ReadingLaws.{entries_by_count}
-use Rattle.idx_page.specs.SearchLaws.{first_entry, seek-some, seek-none}
+use Rattle.idx_page.proofs.ReadingLaws.{entries_by_count}
+use Rattle.idx_page.proofs.SearchLaws.{first_entry, seek-some, seek-none}
 use Rattle.idx_lookup.specs.LookupLaws.{steps-key}
 use Rattle.idx_lookup.specs.Lookup.{offset_of, record_of, entry_says, page_says, visit_rule, decided, lookup_from, lookup_rule}
 use Rattle.idx_lookup.specs.declared.Visit.TheVariants as visit
@@ -36,11 +36,11 @@ use Rattle.idx_lookup.specs.declared.Answer.{Answer}
 use Rattle.idx_lookup.specs.declared.Answer.TheVariants as answer
 use Rattle.idx_sound.specs.Sound.{Sound, index_tree, kept_by}
 use Rattle.idx_sound.specs.AuditTest.{Entries, attribute_of}
-use Rattle.idx_sound.specs.RunLaws.{Fits}
-use Rattle.idx_sound.specs.LevelLaws.{LevelGood}
+use Rattle.idx_sound.proofs.RunLaws.{Fits}
+use Rattle.idx_sound.proofs.LevelLaws.{LevelGood}
 use Rattle.idx_sound.specs.AttributeLaws.{leaf-bit}
-use Rattle.idx_sound.specs.ShapeLaws.{root_entry, level_pages, sound-levels}
-use Rattle.idx_sound.specs.IndexLaws.{sound-index}
+use Rattle.idx_sound.proofs.ShapeLaws.{root_entry, level_pages, sound-levels}
+use Rattle.idx_sound.proofs.IndexLaws.{sound-index}
 
 -- the answer by what was found and the pages visited
 abbrev pub answer_of : Option ℕ → ℕ → Answer

@@ -6,8 +6,8 @@ use Rattle.tree.specs.Lists.{concat_map, count_if, occ}
 use Rattle.tree.specs.Pairs.{records_of, by_record, has, Ascending}
 use Rattle.tree.specs.Tree.{level}
 use Rattle.tree.specs.LookupFirst.{first_record}
-use Rattle.tree.specs.RecordLaws.{first_of, records-first, records-once, records_ascend, records-order}
-use Rattle.tree.specs.Store.Leaves.{pairs-leaves}
+use Rattle.tree.proofs.RecordLaws.{first_of, records-first, records-once, records_ascend, records-order}
+use Rattle.tree.proofs.Store.Leaves.{pairs-leaves}
 use Rattle.idx_page.specs.Header.{root_offset, file_size, key_length, features}
 use Rattle.idx_page.specs.KeyOrder.{bytes_order}
 use Rattle.idx_page.specs.Reading.{entries_at}

@@ -5,7 +5,7 @@ use Rattle.std.proofs.Common.{sym, ◌∙◌, mul-le-mul_right, arith, ltb-true,
 use Rattle.basis.specs.Tests.{either}
 use Rattle.refusal.specs.CheckLaws.{first-same}
 use Rattle.refusal.specs.Checks.{first_refusal}
-use Rattle.tree.specs.ListLaws.{all_map2}
+use Rattle.tree.proofs.ListLaws.{all_map2}
 use Rattle.octets.specs.StoreLaws.{window-before, window-after}
 use Rattle.dbf_table.specs.Table.{field_length, field_count, record_count, record_length_of, records_end, record_start, table_checks, table_refusal}
 use Rattle.dbf_table.specs.TableLaws.{HeaderFits, layout}

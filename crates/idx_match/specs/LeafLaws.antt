@@ -6,10 +6,10 @@ use mathlib.Core.List.{List, [], ◌∷◌}
 use Rattle.std.proofs.Math.Dec.{eqb}
 use Rattle.basis.specs.Lists.{All, all_map}
 use Rattle.tree.specs.Lists.{NonEmpty, concat_map}
-use Rattle.tree.specs.ListLaws.{all_map2}
+use Rattle.tree.proofs.ListLaws.{all_map2}
 use Rattle.tree.specs.Clauses.{head_or}
-use Rattle.tree.specs.Levels.{numbers, below, generation, join_map, generation-below, all_of_map}
-use Rattle.tree.specs.Levels.{tree-pairs, level-generation, pages-generation}
+use Rattle.tree.proofs.Levels.{numbers, below, generation, join_map, generation-below, all_of_map}
+use Rattle.tree.proofs.Levels.{tree-pairs, level-generation, pages-generation}
 use Rattle.idx_page.specs.Header.{max_bytes, max_levels, no_page, root_offset, file_size, key_length, is_page}
 use Rattle.idx_page.specs.HeaderLaws.{good-header}
 use Rattle.idx_page.specs.Page.{attribute_at, leaf_bit}
@@ -17,10 +17,10 @@ use Rattle.idx_page.specs.Reading.{entries_at}
 use Rattle.idx_page.specs.Children.{is_leaf, first_child}
 use Rattle.idx_sound.specs.Sound.{Sound, CountGood, leaf_pairs}
 use Rattle.idx_sound.specs.AuditTest.{Entries, max_pages, chain}
-use Rattle.idx_sound.specs.LevelLaws.{next-head}
-use Rattle.idx_sound.specs.ShapeLaws.{root_entry, level_pages, entries-filled, sound_shape}
-use Rattle.idx_sound.specs.DistinctLaws.{head-all}
-use Rattle.idx_sound.specs.KeyLaws.{level-chain}
+use Rattle.idx_sound.proofs.LevelLaws.{next-head}
+use Rattle.idx_sound.proofs.ShapeLaws.{root_entry, level_pages, entries-filled, sound_shape}
+use Rattle.idx_sound.proofs.DistinctLaws.{head-all}
+use Rattle.idx_sound.proofs.KeyLaws.{level-chain}
 use Rattle.idx_match.specs.MatchTest.{first_leaf, leaf_entries}
 use Rattle.idx_match.specs.StepLaws.{first-here, first-lower}
 

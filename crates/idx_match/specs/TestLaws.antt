@@ -15,9 +15,10 @@ use Rattle.dbf_field.specs.FieldLaws.{number-range}
 use Rattle.dbf_cell.specs.Cell.{field_start, field_bytes}
 use Rattle.tree.specs.Lists.{occ}
 use Rattle.tree.specs.Pairs.{Ascending}
-use Rattle.tree.specs.Keeping.{pair_order, keeping_of}
-use Rattle.tree.specs.KeepingLaws.{pair_refl}
-use Rattle.tree.specs.Levels.{numbers, all-to_map}
+use Rattle.tree.specs.Keeping.{pair_order}
+use Rattle.tree.proofs.KeepingOf.{keeping_of}
+use Rattle.tree.proofs.KeepingLaws.{pair_refl}
+use Rattle.tree.proofs.Levels.{numbers, all-to_map}
 use Rattle.idx_page.specs.KeyOrder.{bytes_order}
 use Rattle.idx_page.specs.KeyOrderLaws.{equal-same, equal_refl}
 use Rattle.idx_sound.specs.AuditTest.{Entries}

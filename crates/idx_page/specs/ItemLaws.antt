@@ -4,14 +4,15 @@ use Rattle.std.specs.Prelude.{◌≡◌, refl, ◌&&◌, List, [], ◌∷◌, ma
 use Rattle.std.proofs.Common.{sym, ap, ◌∙◌}
 use Rattle.basis.specs.Tests.{either}
 use Rattle.tree.specs.Pairs.{has, present, insert_pair, remove_pair}
-use Rattle.tree.specs.PairLaws.{insert_pair_map}
+use Rattle.tree.proofs.PairLaws.{insert_pair_map}
 use Rattle.tree.specs.Position.{position}
-use Rattle.tree.specs.Keeping.{pair_order, keeping_of}
-use Rattle.tree.specs.RouteLaws.{position_map}
+use Rattle.tree.specs.Keeping.{pair_order}
+use Rattle.tree.proofs.KeepingOf.{keeping_of}
+use Rattle.tree.proofs.RouteLaws.{position_map}
 use Rattle.tree.specs.Store.{Store}
 use Rattle.tree.specs.Store.Removal.{store_position}
 use Rattle.tree.specs.Store.Route.{store_route}
-use Rattle.tree.specs.Store.RouteLaws.{position-read}
+use Rattle.tree.proofs.Store.RouteLaws.{position-read}
 use Rattle.idx_page.specs.KeyOrder.{bytes_order}
 use Rattle.idx_page.specs.Reading.{Item, numbered}
 use Rattle.idx_page.specs.EntryOrder.{item_order, item_route}

@@ -7,15 +7,15 @@ use Rattle.std.proofs.Math.ListN.{get_or-map}
 use Rattle.basis.specs.Lists.{All}
 use Rattle.octets.specs.Bytes.{be32}
 use Rattle.tree.specs.Lists.{occ}
-use Rattle.tree.specs.ListLaws.{occ_append}
+use Rattle.tree.proofs.ListLaws.{occ_append}
 use Rattle.tree.specs.Keeping.{Route}
 use Rattle.tree.specs.Position.{Passes, position}
 use Rattle.tree.specs.Removal.{replace_by}
-use Rattle.tree.specs.RouteLaws.{position-within}
+use Rattle.tree.proofs.RouteLaws.{position-within}
 use Rattle.tree.specs.Store.{Store, read_entry}
-use Rattle.tree.specs.Store.InsertionLaws.{pages_of}
+use Rattle.tree.proofs.Store.InsertionLaws.{pages_of}
 use Rattle.tree.specs.Store.Removal.{member_at, store_position}
-use Rattle.tree.specs.Store.RouteLaws.{position-read}
+use Rattle.tree.proofs.Store.RouteLaws.{position-read}
 use Rattle.tree.specs.Tree.{pages_under}
 use Rattle.idx_page.specs.Header.{max_levels, features}
 use Rattle.idx_page.specs.KeyOrder.{bytes_order}

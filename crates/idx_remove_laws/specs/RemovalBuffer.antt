@@ -4,30 +4,30 @@ use Rattle.std.specs.Prelude.{◌≡◌, refl, true, List, [], ℕ, suc, ◌<◌
 use Rattle.std.proofs.Common.{sym, ap, ◌∙◌, subst, arith, eq-eqb}
 use Rattle.basis.specs.Tests.{either}
 use Rattle.octets.specs.Store.{window}
-use Rattle.tree.specs.AwayLaws.{Clear}
+use Rattle.tree.proofs.AwayLaws.{Clear}
 use Rattle.tree.specs.Clauses.{AllLinked}
 use Rattle.tree.specs.FreeChain.{Chained}
-use Rattle.tree.specs.FreeChainLaws.{chained_same}
+use Rattle.tree.proofs.FreeChainLaws.{chained_same}
 use Rattle.tree.specs.FreeList.{join_free}
-use Rattle.tree.specs.Insertion.Levels.{level_under-pages}
-use Rattle.tree.specs.Insertion.Pages.{Distinct}
-use Rattle.tree.specs.LinkLaws.{linked-same}
+use Rattle.tree.proofs.Insertion.Levels.{level_under-pages}
+use Rattle.tree.proofs.Insertion.Pages.{Distinct}
+use Rattle.tree.proofs.LinkLaws.{linked-same}
 use Rattle.tree.specs.Lists.{NonEmpty, occ}
-use Rattle.tree.specs.ListLaws.{occ-here}
+use Rattle.tree.proofs.ListLaws.{occ-here}
 use Rattle.tree.specs.Keeping.{Route}
 use Rattle.tree.specs.Removal.{Shrunk, shrunk_pages, remove, emptied}
-use Rattle.tree.specs.Removal.Links.{remove-all-linked, remove_away, remove-clear}
-use Rattle.tree.specs.Removal.Pages.{remove-pages}
+use Rattle.tree.proofs.Removal.Links.{remove-all-linked, remove_away, remove-clear}
+use Rattle.tree.proofs.Removal.Pages.{remove-pages}
 use Rattle.tree.specs.Store.{Store, read_tree}
-use Rattle.tree.specs.Store.InsertionLaws.{pages_of}
-use Rattle.tree.specs.Store.Laws.{write-here}
+use Rattle.tree.proofs.Store.InsertionLaws.{pages_of}
+use Rattle.tree.proofs.Store.Laws.{write-here}
 use Rattle.tree.specs.Store.Removal.{StoreRemoved, height_left, store_remove_among, store_remove_under, store_remove}
-use Rattle.tree.specs.Store.RemovalLaws.{remove-read, emptied-read}
+use Rattle.tree.proofs.Store.RemovalLaws.{remove-read, emptied-read}
 use Rattle.tree.specs.Tree.{Tree, level, pages}
 use Rattle.tree.specs.Unlinking.{unlink_all}
 use Rattle.idx_page.specs.Header.{max_levels, no_page, page_size, root_offset, free_pointer, is_page}
 use Rattle.idx_page.specs.Page.{right_at}
-use Rattle.idx_page.specs.ReadingLaws.{right-same}
+use Rattle.idx_page.proofs.ReadingLaws.{right-same}
 use Rattle.idx_layout.specs.Layout.{new_page}
 use Rattle.idx_leaf.specs.Leaf.{stored}
 use Rattle.idx_sound.specs.Sound.{links_of}

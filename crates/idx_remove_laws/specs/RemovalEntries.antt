@@ -9,15 +9,15 @@ use Rattle.std.proofs.lemmas.List.{length-map}
 use Rattle.std.proofs.lemmas.Bool.{eqb-false}
 use Rattle.basis.specs.Lists.{All, all_map}
 use Rattle.basis.specs.Tests.{either}
-use Rattle.tree.specs.Insertion.Pages.{Distinct}
+use Rattle.tree.proofs.Insertion.Pages.{Distinct}
 use Rattle.tree.specs.Lists.{NonEmpty, occ}
-use Rattle.tree.specs.ListLaws.{occ_append, occ-head, occ-behind, occ_not_head}
+use Rattle.tree.proofs.ListLaws.{occ_append, occ-head, occ-behind, occ_not_head}
 use Rattle.tree.specs.Removal.{replace_by, if_emptied}
 use Rattle.tree.specs.Store.{Store, read_tree}
-use Rattle.tree.specs.Store.InsertionLaws.{pages_of}
-use Rattle.tree.specs.Store.Laws.{write-here, write-other}
+use Rattle.tree.proofs.Store.InsertionLaws.{pages_of}
+use Rattle.tree.proofs.Store.Laws.{write-here, write-other}
 use Rattle.tree.specs.Store.Removal.{StoreRemoved, entry_unless_emptied, store_position, store_remove_among, store_remove_under, store_remove}
-use Rattle.tree.specs.Store.RemovalLaws.{remove-others}
+use Rattle.tree.proofs.Store.RemovalLaws.{remove-others}
 use Rattle.tree.specs.Store.Steps.{write}
 use Rattle.tree.specs.Tree.{pages}
 use Rattle.idx_page.specs.Header.{max_levels, no_page, is_page}

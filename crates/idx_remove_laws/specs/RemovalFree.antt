@@ -8,11 +8,11 @@ use Rattle.std.proofs.lemmas.Bool.{eqb-false}
 use Rattle.basis.specs.Lists.{All}
 use Rattle.basis.specs.Tests.{either}
 use Rattle.octets.specs.Store.{window}
-use Rattle.tree.specs.Insertion.Pages.{Distinct}
+use Rattle.tree.proofs.Insertion.Pages.{Distinct}
 use Rattle.tree.specs.Lists.{occ}
-use Rattle.tree.specs.ListLaws.{occ_append, occ_differ, occ-here}
+use Rattle.tree.proofs.ListLaws.{occ_append, occ_differ, occ-here}
 use Rattle.tree.specs.FreeChain.{Chained}
-use Rattle.tree.specs.FreeChainLaws.{chained-join}
+use Rattle.tree.proofs.FreeChainLaws.{chained-join}
 use Rattle.tree.specs.FreeList.{join_free}
 use Rattle.tree.specs.Store.{read_tree}
 use Rattle.tree.specs.Tree.{pages as treePages}
@@ -20,7 +20,7 @@ use Rattle.idx_page.specs.Header.{page_size, no_page, free_pointer, is_page}
 use Rattle.tree.specs.Unlinking.{unlink_all}
 use Rattle.idx_page.specs.Page.{right_at, capacity}
 use Rattle.idx_page.specs.Reading.{Item}
-use Rattle.idx_page.specs.ReadingLaws.{right-same}
+use Rattle.idx_page.proofs.ReadingLaws.{right-same}
 use Rattle.idx_leaf.specs.Leaf.{items_in}
 use Rattle.idx_layout.specs.Layout.{unlinked, freed}
 use Rattle.idx_entries.specs.Entries.{without_entry}
@@ -34,7 +34,7 @@ use Rattle.idx_layout_laws.specs.HeadLaws.{with_header}
 use Rattle.idx_layout_laws.specs.FreeLaws.{free_page, same-free, length-unlinked, unlinked-header, unlinked-bytes}
 use Rattle.idx_layout_laws.specs.FreeLaws.{freed-head, freed-free, freed-bytes, freed-own}
 use Rattle.idx_layout_laws.specs.OtherPages.{with_bytes}
-use Rattle.tree.specs.AwayLaws.{Away, Clear, Apart, away_first, away_last, clear_first, clear-last}
+use Rattle.tree.proofs.AwayLaws.{Away, Clear, Apart, away_first, away_last, clear_first, clear-last}
 use Rattle.idx_remove_laws.specs.RemovalEntries.{emptied_from, Filled}
 use Rattle.idx_remove_laws.specs.RemovalHeads.{Plain, Heads, heads_keep}
 use Rattle.idx_remove_laws.specs.RemovalInduction.{Inside, StepsKeep, remove-keeps}

@@ -6,9 +6,9 @@ use Rattle.std.proofs.Math.Bool.{true}
 use Rattle.std.proofs.Math.ListN.{length}
 use Rattle.basis.specs.Lists.{All}
 use Rattle.tree.specs.Clauses.{Links}
-use Rattle.tree.specs.Insertion.Pages.{Distinct}
+use Rattle.tree.proofs.Insertion.Pages.{Distinct}
 use Rattle.tree.specs.Lists.{occ}
-use Rattle.tree.specs.ListLaws.{occ_append, occ-head}
+use Rattle.tree.proofs.ListLaws.{occ_append, occ-head}
 use Rattle.tree.specs.Store.{read_tree}
 use Rattle.tree.specs.Tree.{pages}
 use Rattle.tree.specs.Unlinking.{unlink, unlink_all}

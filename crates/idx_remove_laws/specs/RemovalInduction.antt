@@ -5,14 +5,14 @@ use Rattle.std.proofs.Math.Path.{refl}
 use Rattle.std.proofs.Common.{sym, ◌∙◌, subst, arith, ne_eqb}
 use mathlib.Core.List.{List, [], ◌∷◌, ◌++◌, append-nil}
 use Prim.Native.Nat.{ℕ, zero, suc, ◌+◌, ◌≤◌, ◌<◌}
-use Rattle.tree.specs.Insertion.Pages.{Distinct}
+use Rattle.tree.proofs.Insertion.Pages.{Distinct}
 use Rattle.tree.specs.Lists.{occ, concat_map}
-use Rattle.tree.specs.ListLaws.{occ_append, occ-here, occ_not_head}
+use Rattle.tree.proofs.ListLaws.{occ_append, occ-here, occ_not_head}
 use Rattle.tree.specs.Removal.{if_emptied, settle, shrunk_pages, remove_entries}
-use Rattle.tree.specs.Removal.Pages.{remove-pages}
+use Rattle.tree.proofs.Removal.Pages.{remove-pages}
 use Rattle.tree.specs.Store.{read_tree}
-use Rattle.tree.specs.Store.InsertionLaws.{pages_of}
-use Rattle.tree.specs.Store.RemovalLaws.{emptied-read}
+use Rattle.tree.proofs.Store.InsertionLaws.{pages_of}
+use Rattle.tree.proofs.Store.RemovalLaws.{emptied-read}
 use Rattle.tree.specs.Tree.{Entry, pages_under, pages}
 use Rattle.idx_page.specs.Header.{is_page}
 use Rattle.idx_page.specs.Reading.{Item}

@@ -9,34 +9,34 @@ use Rattle.octets.specs.Store.{window}
 use Rattle.octets.specs.StoreLaws.{get_d_window}
 use Rattle.octets.specs.NumberLaws.{be32-to_be32, le16-same, le32-same}
 use Rattle.tree.specs.Clauses.{AllLinked}
-use Rattle.tree.specs.FreeChainLaws.{chained-head}
+use Rattle.tree.proofs.FreeChainLaws.{chained-head}
 use Rattle.tree.specs.FreeList.{join_free}
-use Rattle.tree.specs.FreeListLaws.{join_free-pages}
+use Rattle.tree.proofs.FreeListLaws.{join_free-pages}
 use Rattle.tree.specs.Index.{Index, held, Setting, striking_route, removed}
-use Rattle.tree.specs.IndexLaws.{removed-sound, removed-pairs}
-use Rattle.tree.specs.IndexPages.{no_page-unused}
-use Rattle.tree.specs.Insertion.Levels.{level_under-pages}
+use Rattle.tree.proofs.IndexLaws.{removed-sound, removed-pairs}
+use Rattle.tree.proofs.IndexPages.{no_page-unused}
+use Rattle.tree.proofs.Insertion.Levels.{level_under-pages}
 use Rattle.tree.specs.Keeping.{Route}
 use Rattle.tree.specs.Lists.{NonEmpty, count_if, occ}
-use Rattle.tree.specs.ListLaws.{occ-all}
+use Rattle.tree.proofs.ListLaws.{occ-all}
 use Rattle.tree.specs.Pairs.{has, remove_pair}
 use Rattle.tree.specs.Removal.{Shrunk, shrunk_pages, settle, remove_entries, remove, emptied}
-use Rattle.tree.specs.Removal.Pages.{remove-pages}
-use Rattle.tree.specs.Removal.Sized.{remove-low}
-use Rattle.tree.specs.SoundIndex.{SoundIndex, LinkedIndex}
+use Rattle.tree.proofs.Removal.Pages.{remove-pages}
+use Rattle.tree.proofs.Removal.Sized.{remove-low}
+use Rattle.tree.proofs.SoundIndex.{SoundIndex, LinkedIndex}
 use Rattle.tree.specs.Store.{Store, read_entry, read_tree}
 use Rattle.tree.specs.Store.Removal.{store_remove}
-use Rattle.tree.specs.Store.RemovalLaws.{emptied-read}
+use Rattle.tree.proofs.Store.RemovalLaws.{emptied-read}
 use Rattle.tree.specs.Tree.{Entry, Tree, pages, pairs, level}
 use Rattle.idx_page.specs.Header.{max_bytes, page_size, no_page, is_page, root_offset, free_pointer, file_size, key_length, features, free_good, header_good}
 use Rattle.idx_page.specs.HeaderLaws.{GoodHeader, is-page, good-header, good-header-from}
 use Rattle.idx_page.specs.Page.{attribute_at, count_at, right_at, root_bit, leaf_bit, capacity}
 use Rattle.idx_page.specs.Reading.{entries_at}
-use Rattle.idx_page.specs.ReadingLaws.{window-window, window_in_page, attribute-same, right-same}
+use Rattle.idx_page.proofs.ReadingLaws.{window-window, window_in_page, attribute-same, right-same}
 use Rattle.idx_leaf.specs.Leaf.{stored}
 use Rattle.idx_layout.specs.WriteLaws.{capacity-least}
 use Rattle.idx_sound.specs.Sound.{index_tree, index_pages, kept_by, links_of, zeros, FreePage, FreeList, CountGood, Sound}
-use Rattle.idx_sound.specs.IndexLaws.{index_of, setting_of, sound-index, sound-linked, all-occ, once-page, index-sound}
+use Rattle.idx_sound.proofs.IndexLaws.{index_of, setting_of, sound-index, sound-linked, all-occ, once-page, index-sound}
 use Rattle.idx_remove_page.specs.Removal.{removed_buffer}
 use Rattle.idx_layout_laws.specs.EntryLaws.{entries_in, page-of}
 use Rattle.idx_layout_laws.specs.FreeLaws.{SameButFree, free_page}
@@ -45,7 +45,7 @@ use Rattle.idx_insert_laws.specs.InsertionHeads.{Plain}
 use Rattle.idx_insert_laws.specs.FreePages.{none-good, page-good}
 use Rattle.idx_insert_laws.specs.SoundReading.{page_longer, read_shorter, sound-tree}
 use Rattle.idx_remove_laws.specs.EntryLists.{route_of}
-use Rattle.tree.specs.Removal.OnLevel.{level-kept}
+use Rattle.tree.proofs.Removal.OnLevel.{level-kept}
 use Rattle.idx_remove_laws.specs.RemovalEntries.{emptied_from, store_after}
 use Rattle.idx_remove_laws.specs.RemovalBuffer.{Ready, Outside, tree-after, entries-after, length-after, header-after, heads-after, root-after}
 use Rattle.idx_remove_laws.specs.RemovalBuffer.{lone-tree, stays, links-after, outside-after, forms-after, chain-after}

@@ -8,13 +8,13 @@ use Rattle.basis.specs.Lists.{All}
 use Rattle.basis.specs.Tests.{either}
 use Rattle.tree.specs.Clauses.{SizedUnder, Sized, Links, head_or, Linked}
 use Rattle.tree.specs.FreeChain.{Chained}
-use Rattle.tree.specs.FreeChainLaws.{chained-head}
-use Rattle.tree.specs.IndexPages.{pages-distinct}
-use Rattle.tree.specs.Insertion.Levels.{level_under-pages}
-use Rattle.tree.specs.Insertion.Pages.{Distinct}
+use Rattle.tree.proofs.FreeChainLaws.{chained-head}
+use Rattle.tree.proofs.IndexPages.{pages-distinct}
+use Rattle.tree.proofs.Insertion.Levels.{level_under-pages}
+use Rattle.tree.proofs.Insertion.Pages.{Distinct}
 use Rattle.tree.specs.Lists.{NonEmpty, occ}
-use Rattle.tree.specs.ListLaws.{non_empty-length, concat_map-non_empty, occ_append, occ-behind, occ-here, occ-all}
-use Rattle.tree.specs.Removal.Levels.{page_on_level}
+use Rattle.tree.proofs.ListLaws.{non_empty-length, concat_map-non_empty, occ_append, occ-behind, occ-here, occ-all}
+use Rattle.tree.proofs.Removal.Levels.{page_on_level}
 use Rattle.tree.specs.Store.{Store, read_entry, read_tree}
 use Rattle.tree.specs.Tree.{Tree, pairs_under, pairs, pages, level_under, level}
 use Rattle.idx_page.specs.Header.{max_bytes, no_page, is_page, root_offset, free_pointer, file_size, key_length}
@@ -22,7 +22,7 @@ use Rattle.idx_page.specs.HeaderLaws.{is-page, good-header}
 use Rattle.idx_page.specs.Page.{attribute_at, left_at, right_at, capacity}
 use Rattle.idx_sound.specs.Sound.{index_tree, index_pages, links_of, FreePage, Sound, leaf_pairs}
 use Rattle.idx_sound.specs.FreeLaws.{free-attribute}
-use Rattle.idx_sound.specs.IndexLaws.{index_of, sound-sized, sound-index}
+use Rattle.idx_sound.proofs.IndexLaws.{index_of, sound-sized, sound-index}
 use Rattle.idx_layout_laws.specs.EntryLaws.{entries_in}
 use Rattle.idx_insert_laws.specs.ItemLists.{Shaped}
 use Rattle.idx_insert_laws.specs.SoundReading.{sound-tree, sound-shaped}

@@ -1,6 +1,6 @@
 -- Steps: the audit's test as it is computed, in two passes, each page by page and level by level. The inner functions of the audit and of the match cite its
--- parts; the rules of insertion and removal, which have to compute, tell 25 by `pages_good`. A reader need not believe the test: Accepted proves that it accepts
--- exactly the sound indexes, and idx_book/InsertionAnswers and RemovalAnswers say what 25 means by `Sound`.
+-- parts; the rules of insertion and removal, which have to compute, tell 25 by `pages_good`. A reader need not believe the test: Accepted proves that it
+-- accepts exactly the sound indexes, and idx_book/InsertionAnswers and RemovalAnswers say what 25 means by `Sound`.
 -- The first pass, from the root down, tests all but the keys above pages: the shape. Each of its checks is local to a page and its left neighbour; it carries
 -- the left neighbour along, and how many pages of the file are left, which it counts a row at a time: the children of one page. No page can be met twice, as
 -- DistinctLaws proves: so every page but the first was met once if as many were met as the file has. The second pass, from the leaves up, tests each key above

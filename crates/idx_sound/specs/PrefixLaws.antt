@@ -7,21 +7,22 @@ use Rattle.basis.specs.Tests.{either}
 use Rattle.octets.specs.Store.{window}
 use Rattle.octets.specs.StoreLaws.{get_d_window}
 use Rattle.octets.specs.NumberLaws.{le16-same, le32-same}
-use Rattle.tree.specs.ListLaws.{all_map2}
+use Rattle.tree.proofs.ListLaws.{all_map2}
 use Rattle.tree.specs.Lists.{occ}
 use Rattle.tree.specs.Pairs.{Ascending}
 use Rattle.tree.specs.Tree.{Tree, pairs, pages, level}
 use Rattle.tree.specs.Store.{Store, read_tree}
 use Rattle.tree.specs.Clauses.{Ceilings, Linked}
-use Rattle.tree.specs.Keeping.{pair_order, keeping_of}
+use Rattle.tree.specs.Keeping.{pair_order}
+use Rattle.tree.proofs.KeepingOf.{keeping_of}
 use Rattle.tree.specs.FreeChain.{Chained}
-use Rattle.tree.specs.Levels.{pages-generation, generation-level}
+use Rattle.tree.proofs.Levels.{pages-generation, generation-level}
 use Rattle.idx_page.specs.Header.{page_size, no_page, root_offset, free_pointer, file_size, key_length, features, is_page, header_good}
 use Rattle.idx_page.specs.HeaderLaws.{is-page, good-header, good-header-from}
 use Rattle.idx_page.specs.Page.{attribute_at, right_at, right_place, entries_start, entry_area, root_bit, leaf_bit}
 use Rattle.idx_page.specs.KeyOrder.{bytes_order}
 use Rattle.idx_page.specs.Reading.{entries_at}
-use Rattle.idx_page.specs.ReadingLaws.{window-window, entries_none, entries-same, attribute-same, count_same, left-same, right-same}
+use Rattle.idx_page.proofs.ReadingLaws.{window-window, entries_none, entries-same, attribute-same, count_same, left-same, right-same}
 use Rattle.idx_sound.specs.Sound.{index_tree, index_pages, links_of, CountGood, FreePage, Sound, kept_by}
 
 -- two buffers with the same first F bytes; the first is sound

@@ -9,7 +9,8 @@ use Rattle.tree.specs.Lists.{occ}
 use Rattle.tree.specs.Pairs.{Ascending}
 use Rattle.tree.specs.Tree.{Tree, pairs, pages, level}
 use Rattle.tree.specs.Clauses.{least, Ceilings, Links, AllLinked}
-use Rattle.tree.specs.Keeping.{Keeping, keeping_of}
+use Rattle.tree.specs.Keeping.{Keeping}
+use Rattle.tree.proofs.KeepingOf.{keeping_of}
 use Rattle.tree.specs.FreeChain.{Chained}
 use Rattle.idx_page.specs.Header.{max_levels, no_page, root_offset, free_pointer, file_size, key_length, features, is_page, header_good}
 use Rattle.idx_page.specs.Page.{attribute_at, count_at, left_at, right_at, root_bit, leaf_bit, capacity, right_place, entries_start, entry_area}

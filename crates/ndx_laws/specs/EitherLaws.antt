@@ -3,10 +3,10 @@
 use Rattle.std.specs.Prelude.{ℕ, ◌+◌, ◌≡◌, List, length}
 use Rattle.std.proofs.Common.{ap, ◌∙◌, arith}
 use Rattle.tree.specs.Pairs.{get}
-use Rattle.tree.specs.KeepingLaws.{find-get}
-use Rattle.tree.specs.Keeping.{distinct_keys}
+use Rattle.tree.proofs.KeepingLaws.{find-get}
+use Rattle.tree.proofs.KeepingOf.{distinct_keys}
 use Rattle.tree.specs.LookupFirst.{visited_by}
-use Rattle.tree.specs.LookupLaws.{lookup_by-find}
+use Rattle.tree.proofs.LookupLaws.{lookup_by-find}
 use Rattle.idx_page.specs.KeyOrder.{bytes_order}
 use Rattle.idx_page.specs.Header as idx-header
 use Rattle.idx_lookup.specs.Lookup as idx-lookup
@@ -14,7 +14,7 @@ use Rattle.idx_lookup.specs.declared.Answer.{Answer}
 use Rattle.idx_lookup_laws.specs.FoundLaws.{answer_of}
 use Rattle.idx_lookup_laws.specs.HeldLaws.{lookup-by}
 use Rattle.idx_sound.specs.Sound as idx
-use Rattle.idx_sound.specs.IndexLaws.{sound-index}
+use Rattle.idx_sound.proofs.IndexLaws.{sound-index}
 use Rattle.ndx_page.specs.Header as ndx-header
 use Rattle.ndx_page.specs.Lookup as ndx-lookup
 use Rattle.ndx_sound.specs.Reading as ndx-reading

@@ -13,13 +13,13 @@ use Rattle.refusal.specs.Checks.{unless}
 use Rattle.basis.specs.Lists.{All}
 use Rattle.basis.specs.Tests.{either, impossible}
 use Rattle.octets.specs.Order.{bytes_le}
-use Rattle.tree.specs.ListLaws.{all_unit, all_map2}
+use Rattle.tree.proofs.ListLaws.{all_unit, all_map2}
 use Rattle.tree.specs.Pairs.{follow, seek, find}
 use Rattle.tree.specs.Tree.{Tree, lookup, onward, visited}
 use Rattle.tree.specs.Store.Steps.{store_lookup, store_visited}
-use Rattle.tree.specs.Store.LookupLaws.{lookup-read, visited-read}
-use Rattle.tree.specs.Top.{top-lookup}
-use Rattle.tree.specs.Levels.{below, generation, all_of_concat}
+use Rattle.tree.proofs.Store.LookupLaws.{lookup-read, visited-read}
+use Rattle.tree.proofs.Top.{top-lookup}
+use Rattle.tree.proofs.Levels.{below, generation, all_of_concat}
 use Rattle.idx_page.specs.Page.{first_at_or_above}
 use Rattle.idx_page.specs.PageLaws.{first_bound}
 use Rattle.idx_page.specs.KeyOrder.{bytes_order}

@@ -3,13 +3,13 @@
 use Rattle.std.specs.Prelude.{ℕ, zero, suc, ◌-◌, ◌<◌, ◌≡◌, Bool, true, false, List, [], ◌∷◌, map}
 use Rattle.std.proofs.Common.{arith}
 use Rattle.basis.specs.Lists.{All, all_map}
-use Rattle.tree.specs.ListLaws.{all_map2}
+use Rattle.tree.proofs.ListLaws.{all_map2}
 use Rattle.tree.specs.Order.{Order}
 use Rattle.tree.specs.Tree.{pairs_under}
-use Rattle.tree.specs.Keeping.{distinct_keys}
-use Rattle.tree.specs.Ordered.{Separated, OrderedUnder, SeparatedTree, separated-all}
+use Rattle.tree.proofs.KeepingOf.{distinct_keys}
+use Rattle.tree.proofs.Ordered.{Separated, OrderedUnder, SeparatedTree, separated-all}
 use Rattle.tree.specs.Store.{Store, read_entry, read_tree}
-use Rattle.tree.specs.Levels.{join_map, below, generation, all-to_concat, all_of_concat}
+use Rattle.tree.proofs.Levels.{join_map, below, generation, all-to_concat, all_of_concat}
 use Rattle.ndx_sound.specs.WalkLaws.{Good, Accept}
 
 module _ {K : Type 0} (O : Order K) (most : ℕ) (S : Store K) (fits : Bool → ℕ → ℕ → Bool) where

@@ -8,19 +8,19 @@ use Rattle.std.proofs.lemmas.Bool.{eqb-false}
 use Rattle.basis.specs.Lists.{All, all_map}
 use Rattle.basis.specs.Tests.{either, both, join, contra}
 use Rattle.tree.specs.Lists.{NonEmpty, occ, concat_map}
-use Rattle.tree.specs.ListLaws.{all_unit, all_map2, non_empty-length, occ-all}
-use Rattle.tree.specs.Insertion.Pages.{Distinct}
+use Rattle.tree.proofs.ListLaws.{all_unit, all_map2, non_empty-length, occ-all}
+use Rattle.tree.proofs.Insertion.Pages.{Distinct}
 use Rattle.tree.specs.Tree.{Entry, pairs, pairs_under, pages_under, pages, level}
 use Rattle.tree.specs.Clauses.{least}
-use Rattle.tree.specs.ClauseLaws.{ordered-ceilings}
-use Rattle.tree.specs.Ordered.{Separated, SeparatedTree, Ordered, ordered-ascending, separated-all, separated-ordered}
+use Rattle.tree.proofs.ClauseLaws.{ordered-ceilings}
+use Rattle.tree.proofs.Ordered.{Separated, SeparatedTree, Ordered, ordered-ascending, separated-all, separated-ordered}
 use Rattle.tree.specs.Store.{read_entry}
-use Rattle.tree.specs.Top.{top}
+use Rattle.tree.proofs.Top.{top}
 use Rattle.idx_page.specs.KeyOrder.{bytes_order}
-use Rattle.tree.specs.DistinctLaws.{Filled, Heights, levels-distinct, ascending-distinct}
-use Rattle.tree.specs.PageCount.{PageOf, later-all, later-count}
-use Rattle.tree.specs.Levels.{generation, numbers, all-to_map, all_of_map, generation-pages}
-use Rattle.tree.specs.Levels.{generation-level, level-generation, tree-pairs, tree-pages, below, all-to_concat}
+use Rattle.tree.proofs.DistinctLaws.{Filled, Heights, levels-distinct, ascending-distinct}
+use Rattle.tree.proofs.PageCount.{PageOf, later-all, later-count}
+use Rattle.tree.proofs.Levels.{generation, numbers, all-to_map, all_of_map, generation-pages}
+use Rattle.tree.proofs.Levels.{generation-level, level-generation, tree-pairs, tree-pages, below, all-to_concat}
 use Rattle.ndx_page.specs.Header.{max_levels, root_page, page_count, keys_per_page, is_page, header_good}
 use Rattle.ndx_page.specs.HeaderLaws.{good-header, is-page, is_page-from}
 use Rattle.ndx_page.specs.Page.{count_at, lower_at, key_at, is_leaf, count_good}

@@ -3,7 +3,7 @@
 use Rattle.std.specs.Prelude.{ℕ, zero, suc, ◌+◌, ◌-◌, Bool, true, false, not, ◌&&◌, ◌||◌, List, eqb}
 use Rattle.std.specs.Bool.{beq}
 use Rattle.std.proofs.Math.Option.{none}
-use Rattle.tree.specs.Top.{top}
+use Rattle.tree.proofs.Top.{top}
 use Rattle.idx_page.specs.KeyOrder.{bytes_order}
 use Rattle.ndx_page.specs.Header.{max_levels, root_page, page_count, keys_per_page, is_page}
 use Rattle.ndx_page.specs.Page.{count_at, lower_at, is_leaf, count_good}

@@ -9,7 +9,7 @@ use Rattle.basis.specs.Lists.{All}
 use Rattle.basis.specs.Tests.{either}
 use Rattle.octets.specs.Order.{bytes_le}
 use Rattle.tree.specs.Pairs.{seek}
-use Rattle.tree.specs.Top.{top, keyed}
+use Rattle.tree.proofs.Top.{top, keyed}
 use Rattle.idx_page.specs.Page.{first_at_or_above}
 use Rattle.idx_page.specs.PageLaws.{first-end, first-here, first-later}
 use Rattle.idx_page.specs.KeyOrder.{bytes_order}

@@ -4,9 +4,9 @@ use Rattle.basis.specs.Lists.{All}
 use Rattle.tree.specs.Lists.{occ}
 use Rattle.tree.specs.Pairs.{by_key, Ascending}
 use Rattle.tree.specs.Tree.{pages, level}
-use Rattle.tree.specs.Keeping.{distinct_keys}
+use Rattle.tree.proofs.KeepingOf.{distinct_keys}
 use Rattle.tree.specs.Clauses.{least, Ceilings}
-use Rattle.tree.specs.Top.{top}
+use Rattle.tree.proofs.Top.{top}
 use Rattle.idx_page.specs.KeyOrder.{bytes_order}
 use Rattle.ndx_page.specs.Header.{max_levels, page_count, keys_per_page, is_page, header_good}
 use Rattle.ndx_page.specs.Page.{count_at, lower_at, is_leaf}

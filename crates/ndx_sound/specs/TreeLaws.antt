@@ -7,16 +7,17 @@ use Rattle.std.proofs.lemmas.Bool.{eqb-false}
 use Rattle.basis.specs.Lists.{All, all_map}
 use Rattle.basis.specs.Tests.{either, contra}
 use Rattle.tree.specs.Order.{Order}
-use Rattle.tree.specs.Keeping.{Keeping, distinct_keys}
-use Rattle.tree.specs.ListLaws.{all_map2}
+use Rattle.tree.specs.Keeping.{Keeping}
+use Rattle.tree.proofs.KeepingOf.{distinct_keys}
+use Rattle.tree.proofs.ListLaws.{all_map2}
 use Rattle.tree.specs.Pairs.{Above, by_key, Ascending}
 use Rattle.tree.specs.Tree.{Tree, pairs}
 use Rattle.tree.specs.Clauses.{least, Sized}
-use Rattle.tree.specs.ClauseLaws.{ceilings-ordered}
-use Rattle.tree.specs.Ordered.{Ordered}
-use Rattle.tree.specs.Top.{top, keyed}
-use Rattle.tree.specs.Levels.{generation, numbers, all_of_map, all-to_concat, Counted, generation-below, pages-generation, level-generation}
-use Rattle.tree.specs.Levels.{generation-sized, tree-pairs}
+use Rattle.tree.proofs.ClauseLaws.{ceilings-ordered}
+use Rattle.tree.proofs.Ordered.{Ordered}
+use Rattle.tree.proofs.Top.{top, keyed}
+use Rattle.tree.proofs.Levels.{generation, numbers, all_of_map, all-to_concat, Counted, generation-below, pages-generation, level-generation}
+use Rattle.tree.proofs.Levels.{generation-sized, tree-pairs}
 use Rattle.idx_page.specs.KeyOrder.{bytes_order}
 use Rattle.ndx_page.specs.Header.{root_page, page_count, keys_per_page, is_page}
 use Rattle.ndx_page.specs.Page.{count_at, lower_at, record_at, key_at, is_leaf}

@@ -11,18 +11,18 @@ use Rattle.std.proofs.lemmas.Bool.{not-true, eqb-false}
 use Rattle.basis.specs.Lists.{All, all_append, all_left, all_map}
 use Rattle.basis.specs.Tests.{either, both, join, contra}
 use Rattle.tree.specs.Lists.{NonEmpty, concat_map}
-use Rattle.tree.specs.ListLaws.{non_empty-left}
+use Rattle.tree.proofs.ListLaws.{non_empty-left}
 use Rattle.tree.specs.Order.{Order, Lt}
-use Rattle.tree.specs.OrderLaws.{le_refl, lt_le, lt_le-trans}
+use Rattle.tree.proofs.OrderLaws.{le_refl, lt_le, lt_le-trans}
 use Rattle.tree.specs.Pairs.{last_key, by_key, Below, Above, Ascending}
-use Rattle.tree.specs.PairLaws.{below_up, above_down}
-use Rattle.tree.specs.Keeping.{distinct_keys}
-use Rattle.tree.specs.KeepingLaws.{ascending-last}
+use Rattle.tree.proofs.PairLaws.{below_up, above_down}
+use Rattle.tree.proofs.KeepingOf.{distinct_keys}
+use Rattle.tree.proofs.KeepingLaws.{ascending-last}
 use Rattle.tree.specs.Tree.{pairs_under, pairs, pages_under, pages}
-use Rattle.tree.specs.Ordered.{Separated, OrderedUnder, separated-ordered}
-use Rattle.tree.specs.Insertion.Ordered.{separated-non_empty}
+use Rattle.tree.proofs.Ordered.{Separated, OrderedUnder, separated-ordered}
+use Rattle.tree.proofs.Insertion.Ordered.{separated-non_empty}
 use Rattle.tree.specs.Store.{Store, read_entry, read_tree}
-use Rattle.tree.specs.Levels.{join_map}
+use Rattle.tree.proofs.Levels.{join_map}
 use Rattle.ndx_sound.specs.Walk.{Status, tested, if_good, over, is_after, at_most, item, items, passed, under, enter, walk}
 use Rattle.ndx_sound.specs.CountLaws.{count_all, Room, room_append, room-left, room-right, count_append}
 

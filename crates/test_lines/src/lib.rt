@@ -3,10 +3,8 @@
 
 ghost use Rattle.std.specs.Prelude.{◌≤◌, length};
 
-use libc::STDOUT_FILENO;
-
-pub fn print_number(n: u32) {
-    io::print_decimal(STDOUT_FILENO, n as u64);
+pub fn print_number(out: &impl Print, n: u32) {
+    let _ = out.print(n);
 }
 
 // The first index from `from` on where the byte stands, or the length.

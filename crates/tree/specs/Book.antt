@@ -3,8 +3,6 @@ use Rattle.std.specs.Prelude.{◌≡◌, Bool, true, false, cond, not, List, [],
 use Rattle.std.proofs.Math.Option.{Option, none, some}
 use Rattle.tree.specs.Pairs.{get, has, insert_pair, remove_pair}
 use Rattle.tree.specs.Keeping.{Keeping}
--- Laws: demand 3 for any state that is read as an index
-pub mod Theorem
 
 -- the arguments of a call, "the buffer left out"; a removal names a pair
 pub data Call (K : Type 0) : Type 0 where

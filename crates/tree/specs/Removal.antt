@@ -4,20 +4,6 @@ use Rattle.std.specs.Prelude.{List, [], ◌∷◌, ◌++◌, ℕ, zero, suc}
 use Rattle.tree.specs.Position.{position}
 use Rattle.tree.specs.Keeping.{Route}
 use Rattle.tree.specs.Tree.{Page, Entry, Tree, pairs, pages}
--- Laws: the pages of each level after a removal
-pub mod Levels
--- Laws: a page on a level after a removal was on that level before it
-pub mod OnLevel
--- Laws: all levels are linked again after a removal
-pub mod Links
--- Laws: a removal keeps the order
-pub mod Ordered
--- Laws: the pages after a removal and the emptied ones are the old ones
-pub mod Pages
--- Laws: the leaf pairs after a removal
-pub mod Pairs
--- Laws: a removal keeps counts within capacity
-pub mod Sized
 
 -- a list in which what g makes of member number i replaces that member
 abbrev pub replace_by : {A : Type 0} → ℕ → (A → List A) → List A → List A

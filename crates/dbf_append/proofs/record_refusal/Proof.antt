@@ -99,4 +99,5 @@ returns-5 c =
 pub record_refusal_spec : {M : Type 1} → statement M
 record_refusal_spec =
     tie.close
-    (tie.spec returns byte-requires mark-good-requires returns-2 texts-refusal-requires returns-3 add-records-end records-end-requires add-end room-for-requires returns-4 returns-5)
+    (tie.spec returns byte-requires mark-good-requires returns-2 texts-refusal-requires returns-3 add-records-end records-end-requires add-end
+    room-for-requires returns-4 returns-5)

@@ -86,4 +86,5 @@ returns-3 c =
 pub set_date_spec : {M : Type 1} → statement M
 set_date_spec =
     tie.close
-    (tie.spec check-held-requires enum-known-number enum_told storable-date-requires same_length returns sub-buffer cast-buffer slice-write-buffer cast-buffer-2 add-buffer slice-write-buffer-2 cast-buffer-3 add-buffer-2 slice-write-buffer-3 same-length-2 returns-2 same-length-3 returns-3)
+    (tie.spec check-held-requires enum-known-number enum_told storable-date-requires same_length returns sub-buffer cast-buffer slice-write-buffer
+    cast-buffer-2 add-buffer slice-write-buffer-2 cast-buffer-3 add-buffer-2 slice-write-buffer-3 same-length-2 returns-2 same-length-3 returns-3)

@@ -40,27 +40,20 @@ add-store-le32 c = omega (arith, count_fits c.before.before.before.before.before
 
 store-le32-requires : tie.Need-store_le32-requires
 store-le32-requires c κs =
-    let copied = c.before.before.before in
-    let start = copied.before.before.before.before.before.before.before.before-UNKNOWN in
-    rw (length-set, copied.copy_in.ensures, length-put) (omega (arith, start.requires.long))
+    rw (length-set, c.copy_in.ensures, length-put) (omega (arith, c.requires.long))
 
 add-length : tie.Need-overflow_add-length
 add-length c = search rules
 
 same_length : tie.Need-shape_of-buffer
-same_length c =
-    let copied = c.before.before.before.before.before.before in
-    ap length c.store_le32.ensures ∙ rw (length-put, length-set, copied.copy_in.ensures, length-put)
+same_length c = ap length c.store_le32.ensures ∙ rw (length-put, length-set, c.copy_in.ensures, length-put)
 
 returns : tie.Need-returns
 returns c =
-    let copied = c.before.before.before.before.before.before in
-    let placed = copied.before.before in
-    let counted = placed.before.before in
-    let last = c.before.before in
-    stored_as _ _ _ _ _ _ _ counted.load_le32-records.ensures placed.records_end-place.ensures.0 copied.copy_in.ensures refl last.store_le32.ensures
+    stored_as _ _ _ _ _ _ _ c.load_le32-records.ensures c.records_end-place.ensures.0 c.copy_in.ensures refl c.store_le32.ensures
 
 pub store_record_spec : {M : Type 1} → statement M
 store_record_spec =
     tie.close
-    (tie.spec load-le32-requires records-end-requires copy-in-requires add-buffer slice-write-buffer add-store-le32 store-le32-requires add-length same_length returns)
+    (tie.spec load-le32-requires records-end-requires copy-in-requires add-buffer slice-write-buffer add-store-le32 store-le32-requires add-length same_length
+    returns)

@@ -41,4 +41,5 @@ returns-5 c = sym (text_any _ _ _ c.if-kind-eq-TYPE_N.false c.if-kind-eq-TYPE_D.
 pub text_refusal_spec : {M : Type 1} → statement M
 text_refusal_spec =
     tie.close
-    (tie.spec read-number-requires number-refusal-requires returns date-refusal-requires returns-2 byte-requires logical-refusal-requires returns-3 memo-refusal-requires returns-4 returns-5)
+    (tie.spec read-number-requires number-refusal-requires returns date-refusal-requires returns-2 byte-requires logical-refusal-requires returns-3
+    memo-refusal-requires returns-4 returns-5)

@@ -58,7 +58,7 @@ ends e = omega (arith, width e)
 
 text-end : (e : Turn) → let entry = e.entry_from-entry.result in entry.offset + entry.length ≤ length (start e).args.bytes.now
 text-end e =
-    let pre = (start e).pre in
+    let pre = (start e).requires in
     omega (arith, place e, width e, pre.2, field_inside _ (layout _ pre.0) (at-loop e).loop-j.j (omega arith))
 
 -- where the next field starts
@@ -129,7 +129,7 @@ returns c =
 cast-offset : tie.Need-overflow_cast-offset invariant-loop decreases-loop
 cast-offset c =
     let e = turn c.before in
-    let pre = (start e).pre in
+    let pre = (start e).requires in
     end_fits _ _ (text-end e) (omega (arith, pre.2, (layout _ pre.0).small))
 
 add-j : tie.Need-overflow_add-j invariant-loop decreases-loop
@@ -154,4 +154,5 @@ returns-2 c = sym (c.loop-j.invariant.2 ∙ texts-end _ _ _ _ (omega arith))
 pub texts_refusal_spec : {M : Type 1} → statement M
 texts_refusal_spec =
     tie.close
-    (tie.spec invariant-loop decreases-loop loop-holds entry-from-requires cast-start cast-end add-end cast-text-refusal cast-text-refusal-2 sub-text-refusal part-text-refusal-start part-text-refusal-end text-refusal-requires returns cast-offset add-j loop-less loop-again returns-2)
+    (tie.spec invariant-loop decreases-loop loop-holds entry-from-requires cast-start cast-end add-end cast-text-refusal cast-text-refusal-2 sub-text-refusal
+    part-text-refusal-start part-text-refusal-end text-refusal-requires returns cast-offset add-j loop-less loop-again returns-2)

@@ -52,4 +52,5 @@ returns-4 c =
 pub cell_place_spec : {M : Type 1} → statement M
 cell_place_spec =
     tie.close
-    (tie.spec field-place-requires enum-known-placed enum-known-placed-2 cast-reads-type reads-type-requires returns mark-good-requires returns-2 returns-3 returns-4)
+    (tie.spec field-place-requires enum-known-placed enum-known-placed-2 cast-reads-type reads-type-requires returns mark-good-requires returns-2 returns-3
+    returns-4)

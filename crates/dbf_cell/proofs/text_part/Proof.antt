@@ -49,4 +49,5 @@ returns-4 c = rw c.in-Refused.is
 pub text_part_spec : {M : Type 1} → statement M
 text_part_spec =
     tie.close
-    (tie.spec enum-known-place part-requires enum-known-place-2 part-requires-2 enum_told slice-aggregate-result enum-told-2 slice-aggregate-result-2 returns returns-2 returns-3 returns-4)
+    (tie.spec enum-known-place part-requires enum-known-place-2 part-requires-2 enum_told slice-aggregate-result enum-told-2 slice-aggregate-result-2 returns
+    returns-2 returns-3 returns-4)

@@ -23,8 +23,7 @@ enum-known-answer-2 c = search rules
 returns : tie.Need-returns-in-Value
 unfolding number_out number_code
 returns c =
-    let read = c.answer-1.given in
-    rw (sym c.read_number-answer.ensures ∙ read.1, to_z-of_z w64 read.0.0 (sfits_of c.in-Value.known_told-1-own.given.0.1))
+    rw (sym c.read_number-answer.ensures ∙ c.in-Value.is, to_z-of_z w64 c.in-Value.meant (sfits_of c.in-Value.known_told-1-own.given.0.1))
 
 returns-2 : tie.Need-returns-in-Empty
 unfolding number_out number_code

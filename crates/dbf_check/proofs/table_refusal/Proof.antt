@@ -205,4 +205,6 @@ returns-11 c = sym (left-10 c)
 pub table_refusal_spec : {M : Type 1} → statement M
 table_refusal_spec =
     tie.close
-    (tie.spec size-good-requires returns kind-good-requires returns-2 date-good-requires returns-3 header-good-requires returns-4 end-mark-good-requires returns-5 fields-good-requires returns-6 names-differ-requires returns-7 memo-kind-good-requires returns-8 record-length-good-requires returns-9 length-good-requires returns-10 returns-11)
+    (tie.spec size-good-requires returns kind-good-requires returns-2 date-good-requires returns-3 header-good-requires returns-4 end-mark-good-requires
+    returns-5 fields-good-requires returns-6 names-differ-requires returns-7 memo-kind-good-requires returns-8 record-length-good-requires returns-9
+    length-good-requires returns-10 returns-11)

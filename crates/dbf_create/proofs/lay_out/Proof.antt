@@ -55,15 +55,14 @@ add-lay-table-2 : tie.Need-overflow_add-count-2
 add-lay-table-2 c = omega (arith, (ready c.before.before.before.before.before).few)
 
 slice-reshare-prefix-lay-table : tie.Need-slice_bounds-lay_table-end
-slice-reshare-prefix-lay-table c = omega (arith, (ready c.before.before.before.before.before).room-1)
+slice-reshare-prefix-lay-table c = omega (arith, (ready c.before.before.before.before.before).room)
 
 slice-aggregate-lay-table : tie.Need-slice_bounds-lay_table-end-2
-slice-aggregate-lay-table c = sym (length-take-le _ _ (omega (arith, (ready c.before.before.before.before.before).room-1)))
+slice-aggregate-lay-table c = sym (length-take-le _ _ (omega (arith, (ready c.before.before.before.before.before).room)))
 
 lay-table-requires : tie.Need-lay_table-requires
 lay-table-requires c κs =
-    let written = c.before.before.before.before in
-    made-length _ _ _ _ _ _ (ready written.before) written.write_table.ensures.bytes
+    made-length _ _ _ _ _ _ (ready c.before.before.before.before.before) c.write_table.ensures.bytes
 
 same_length : tie.Need-shape_of-buffer
 same_length c = search rules
@@ -73,16 +72,13 @@ same-length-2 c = search rules
 
 returns-3 : tie.Need-returns
 returns-3 c =
-    let laid = c.before.before in
-    let written = laid.before.before.before.before.before in
-    let counted = written.before.before in
-    let dated = counted.before.before in
-    let ensured = written.write_table.ensures in
-    let date = passed dated.storable_date.ensures dated.if-not-storable_date.false-raw in
-    let count = passed counted.count_good.ensures counted.if-not-count_good.false-raw in
-    lay_made _ _ _ _ _ _ (ready counted) ensured.bytes _ date count ensured.small ∙ laid.lay_table.ensures
+    let made = c.write_table.ensures in
+    let date = passed c.storable_date.ensures c.if-not-storable_date.false-raw in
+    let count = passed c.count_good.ensures c.if-not-count_good.false-raw in
+    lay_made _ _ _ _ _ _ (ready c.before.before.before.before.before.before.before.before) made.bytes _ date count made.small ∙ c.lay_table.ensures
 
 pub lay_out_spec : {M : Type 1} → statement M
 lay_out_spec =
     tie.close
-    (tie.spec storable-date-requires returns count-good-requires returns-2 write-table-requires mul-lay-table add-lay-table add-lay-table-2 slice-reshare-prefix-lay-table slice-aggregate-lay-table lay-table-requires same_length same-length-2 returns-3)
+    (tie.spec storable-date-requires returns count-good-requires returns-2 write-table-requires mul-lay-table add-lay-table add-lay-table-2
+    slice-reshare-prefix-lay-table slice-aggregate-lay-table lay-table-requires same_length same-length-2 returns-3)

@@ -14,10 +14,10 @@ use Rattle.dbf_create.proofs.lay_table.Statement.{statement}
 use Rattle.dbf_create.proofs.lay_table.Tie as tie
 
 -- the answer about a good table, whose length is that of its header and one more
-said : (c : tie.In-Good-2) → check_table c.args.table.now ≡ Good c.in-Good.shape
+said : (c : tie.In-Good) → check_table c.args.table.now ≡ Good c.in-Good.shape
 said c = sym c.check_table.ensures ∙ c.in-Good.is
 
-whole : (c : tie.In-Good-2) → length c.args.table.now ≡ c.in-Good.shape.header_length + 1
+whole : (c : tie.In-Good) → length c.args.table.now ≡ c.in-Good.shape.header_length + 1
 whole c = omega (arith, (good_shape _ _ (said c)).header, c.requires)
 
 check-table-requires : tie.Need-check_table-requires

@@ -56,9 +56,10 @@ returns : tie.Need-returns
 returns c =
     let filled = c.before.before in
     let copied = filled.before.before.before.before in
-    field_put _ _ _ _ _ (name-eleven copied.before) copied.copy_in.ensures filled.fill.ensures
+    (field_put _ _ _ _ _ (name-eleven copied.before) copied.copy_in.ensures filled.fill.ensures, (name-eleven copied.before, tt))
 
 pub write_field_spec : {M : Type 1} → statement M
 write_field_spec =
     tie.close
-    (tie.spec mul_at add_at slice-aggregate-copy-in copy-in-requires add-end add-fill fill-requires add-room slice-write-room add-room-2 slice-write-room-2 add-room-3 slice-write-room-3 same_length returns)
+    (tie.spec mul_at add_at slice-aggregate-copy-in copy-in-requires add-end add-fill fill-requires add-room slice-write-room add-room-2 slice-write-room-2
+    add-room-3 slice-write-room-3 same_length returns)

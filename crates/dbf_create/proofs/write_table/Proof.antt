@@ -23,8 +23,7 @@ store-le16-requires c κs = search rules
 
 kind-of-requires : tie.Need-kind_of-kind-requires
 kind-of-requires c κs =
-    let stored = c.before.before.before in
-    begun_fits _ _ _ _ _ _ stored.requires stored.store_le16.ensures
+    begun_fits _ _ _ _ _ _ c.requires c.store_le16.ensures
 
 field-offset-requires : tie.Need-field_offset-length-requires
 field-offset-requires c κs = search rules
@@ -70,23 +69,17 @@ same_length c = simp length-set (search rules)
 
 returns : tie.Need-returns
 returns c =
-    let filled = c.before.before in
-    let dated = filled.before.before.before.before in
-    let sized = dated.before.before.before.before.before in
-    let offset = sized.before.before in
-    let kind = offset.before.before in
-    let stored = kind.before.before.before.before in
-    let pre = stored.requires in
-    let e₁ = stored.store_le16.ensures in
-    let size = offset.field_offset-length.ensures in
-    let e₂ = sized.store_le16-2.ensures in
-    let e₃ = dated.copy_in.ensures in
+    let e₁ = c.store_le16.ensures in
+    let size = c.field_offset-length.ensures in
+    let e₂ = c.store_le16-2.ensures in
     record {
-      bytes = written _ _ _ _ _ _ pre e₁ _ _ _ _ _ kind.kind_of-kind.ensures size.0 e₂ e₃ filled.fill.ensures;
-      small = omega (arith, size.0, size.1, begun_size _ _ _ _ _ _ pre e₁, pre.few);
+      bytes = written _ _ _ _ _ _ c.requires e₁ _ _ _ _ _ c.kind_of-kind.ensures size.0 e₂ c.copy_in.ensures c.fill.ensures;
+      small = omega (arith, size.0, size.1, begun_size _ _ _ _ _ _ c.requires e₁, c.requires.few);
     }
 
 pub write_table_spec : {M : Type 1} → statement M
 write_table_spec =
     tie.close
-    (tie.spec mul-end add-end add-store-le16 cast-store-le16 store-le16-requires kind-of-requires field-offset-requires cast-store-le16-2 store-le16-requires-2 sub-t14 cast-t21 cast-t22 cast-t23 slice-aggregate-copy-in copy-in-requires fill-requires slice-write-room add-room slice-write-room-2 same_length returns)
+    (tie.spec mul-end add-end add-store-le16 cast-store-le16 store-le16-requires kind-of-requires field-offset-requires cast-store-le16-2
+    store-le16-requires-2 sub-t14 cast-t21 cast-t22 cast-t23 slice-aggregate-copy-in copy-in-requires fill-requires slice-write-room add-room
+    slice-write-room-2 same_length returns)

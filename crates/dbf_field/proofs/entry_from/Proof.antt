@@ -104,4 +104,7 @@ returns c =
 pub entry_from_spec : {M : Type 1} → statement M
 entry_from_spec =
     tie.close
-    (tie.spec mul_at add_at shared-slice-read-t8 add-t6 shared-slice-read-t10 add-t11 shared-slice-read-t13 add-t14 shared-slice-read-t16 add-t17 shared-slice-read-t19 add-t20 shared-slice-read-t22 add-t23 shared-slice-read-t25 add-t26 shared-slice-read-t28 add-t29 shared-slice-read-t31 add-t32 shared-slice-read-t34 add-t35 shared-slice-read-t37 add-t6-2 shared-slice-read-t8-2 add-t35-2 shared-slice-read-t34-2 add-t32-2 shared-slice-read-t31-2 returns)
+    (tie.spec mul_at add_at shared-slice-read-t8 add-t6 shared-slice-read-t10 add-t11 shared-slice-read-t13 add-t14 shared-slice-read-t16 add-t17
+    shared-slice-read-t19 add-t20 shared-slice-read-t22 add-t23 shared-slice-read-t25 add-t26 shared-slice-read-t28 add-t29 shared-slice-read-t31 add-t32
+    shared-slice-read-t34 add-t35 shared-slice-read-t37 add-t6-2 shared-slice-read-t8-2 add-t35-2 shared-slice-read-t34-2 add-t32-2 shared-slice-read-t31-2
+    returns)

@@ -55,4 +55,5 @@ returns-4 c =
 pub place_refusal_spec : {M : Type 1} → statement M
 place_refusal_spec =
     tie.close
-    (tie.spec check-table-requires enum-known-refused enum-known-shape cast-number-good number-good-requires returns number-good-requires-2 returns-2 returns-3 returns-4)
+    (tie.spec check-table-requires enum-known-refused enum-known-shape cast-number-good number-good-requires returns number-good-requires-2 returns-2
+    returns-3 returns-4)

@@ -65,4 +65,5 @@ returns-2 c =
 pub has_memo_spec : {M : Type 1} → statement M
 has_memo_spec =
     tie.close
-    (tie.spec invariant-loop decreases-loop field-count-requires loop-holds mul-byte add-byte add-byte-2 byte-requires returns add-j loop-less loop-again returns-2)
+    (tie.spec invariant-loop decreases-loop field-count-requires loop-holds mul-byte add-byte add-byte-2 byte-requires returns add-j loop-less loop-again
+    returns-2)

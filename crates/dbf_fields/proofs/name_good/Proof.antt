@@ -89,4 +89,6 @@ returns-3 c =
 pub name_good_spec : {M : Type 1} → statement M
 name_good_spec =
     tie.close
-    (tie.spec invariant-loop decreases-loop shared-slice-read-is-letter is-letter-requires returns loop-holds add-may-follow shared-slice-read-may-follow add-may-follow-2 add-may-follow-3 shared-slice-read-may-follow-2 may-follow-requires returns-2 add-k loop-less loop-again add-result shared-slice-read-result returns-3)
+    (tie.spec invariant-loop decreases-loop shared-slice-read-is-letter is-letter-requires returns loop-holds add-may-follow shared-slice-read-may-follow
+    add-may-follow-2 add-may-follow-3 shared-slice-read-may-follow-2 may-follow-requires returns-2 add-k loop-less loop-again add-result
+    shared-slice-read-result returns-3)

@@ -68,7 +68,8 @@ loop-less c = search rules
 loop-again : tie.Need-loop-earlier-preserved invariant-loop decreases-loop invariant-fields decreases-fields
 loop-again c =
     let at-loop = c.before.before.before in
-    (omega arith, at-loop.loop-earlier.invariant.1, any_more _ at-loop.loop-earlier.earlier at-loop.loop-earlier.invariant.2 (sym c.same_name.ensures ∙ c.if-same_name.false))
+    (omega arith, at-loop.loop-earlier.invariant.1, any_more _ at-loop.loop-earlier.earlier at-loop.loop-earlier.invariant.2
+    (sym c.same_name.ensures ∙ c.if-same_name.false))
 
 returns : tie.Need-returns-after-fields invariant-loop decreases-loop invariant-fields decreases-fields
 unfolding names_differ
@@ -90,4 +91,5 @@ returns-2 c =
 pub names_differ_spec : {M : Type 1} → statement M
 names_differ_spec =
     tie.close
-    (tie.spec invariant-loop decreases-loop invariant-fields decreases-fields field-count-requires fields-holds sub-later loop-holds fields-less fields-again same-name-requires add-earlier loop-less loop-again returns returns-2)
+    (tie.spec invariant-loop decreases-loop invariant-fields decreases-fields field-count-requires fields-holds sub-later loop-holds fields-less fields-again
+    same-name-requires add-earlier loop-less loop-again returns returns-2)

@@ -71,4 +71,5 @@ returns c =
 pub same_name_spec : {M : Type 1} → statement M
 same_name_spec =
     tie.close
-    (tie.spec invariant-loop decreases-loop mul-a add_a mul-b add-b loop-holds add_same shared-slice-read-same add-same-2 shared-slice-read-same-2 add-k loop-less loop-again returns)
+    (tie.spec invariant-loop decreases-loop mul-a add_a mul-b add-b loop-holds add_same shared-slice-read-same add-same-2 shared-slice-read-same-2 add-k
+    loop-less loop-again returns)

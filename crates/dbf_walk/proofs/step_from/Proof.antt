@@ -9,7 +9,8 @@ use Rattle.dbf_walk.proofs.step_from.Statement.{statement}
 use Rattle.dbf_walk.proofs.step_from.Tie as tie
 
 abbrev invariant-loop : tie.invariant-loop-passed
-invariant-loop table n position skips passed₀ passed = step_from skips table position position (n - position) ≡ step_from skips table position passed (n - passed)
+invariant-loop table n position skips passed₀ passed =
+    step_from skips table position position (n - position) ≡ step_from skips table position passed (n - passed)
 
 abbrev decreases-loop : tie.decreases-loop-passed
 decreases-loop table n position skips passed₀ passed = n - passed
@@ -67,4 +68,5 @@ returns-2 c =
 pub step_from_spec : {M : Type 1} → statement M
 step_from_spec =
     tie.close
-    (tie.spec invariant-loop decreases-loop loop-holds mark-after-requires add-step-at step-at-requires add-step-to step-to-requires returns add-passed loop-less loop-again step-to-requires-2 returns-2)
+    (tie.spec invariant-loop decreases-loop loop-holds mark-after-requires add-step-at step-at-requires add-step-to step-to-requires returns add-passed
+    loop-less loop-again step-to-requires-2 returns-2)

@@ -1,5 +1,6 @@
 -- `gl_table_lay_out`: each turn copies one entry more, and the entries copied are laid out as the lent list is. Assumes nothing.
 use Rattle.std.proofs.Common.{◌∙◌, ◌≡◌, ◌≤◌, ◌<◌, ap, sym, arith, length, get_or}
+use Rattle.std.proofs.lemmas.List.{get_or_default}
 use Rattle.dbf_table.specs.Table.{max_fields}
 use Rattle.dbf_field.specs.Field.{no_entry}
 use Rattle.dbf_create.specs.CopyLaws.{copied_none, copied_more, count-within, named_more, lay_listed}
@@ -30,7 +31,16 @@ write_field-requires c = (
 
 -- src/lib.rt:352:5
 pub loop-j-preserved : goal.loop-j-preserved
-loop-j-preserved c = let a = c.entry-1 in let b = c.room-1 in let d = c.write_field.ensures in let f = c.write_field.auto.entry in ?
+loop-j-preserved c =
+    let inside : c.loop-j.j < length c.args.entries.now =
+    omega (arith, c.loop-j-test.true, c.listed_count-count.ensures, (count-within (length c.args.entries.now)).0) in
+    let same = get_or_default c.args.entries.now c.loop-j.j _ no_entry inside in
+    record {
+      within = omega arith;
+      named = named_more c.args.entries.now c.loop-j.j inside c.loop-j.invariant.named (rw same at c.write_field.ensures.named);
+      room =
+          c.write_field.ensures.written ∙ rw (c.loop-j.invariant.room, same) (copied_more c.args.entries.now c.loop-j.j);
+    }
 
 -- src/lib.rt:338:1
 pub returns : goal.returns

@@ -70,8 +70,8 @@ returns-2 c =
     let last = past-last order in
     let a = (start last).args in
     upper-below a.index.now a.k a.size a.down a.under a.page.0 a.count a.i _ _ _ (past-child last).child-child.ensures
-    last.last_under.ensures last.last_key-last.ensures.0 _ _ _ _ key.if-last-eq0.left key.entry_offset-key.ensures
-    order.key_order-order.ensures order.is_below.ensures c.if-is_below.true c.Below-next.ensures
+    last.last_under.ensures last.last_key-last.ensures.0 _ _ _ _ key.if-last-eq0.false key.entry_offset-key.ensures
+    order.key_order-order.ensures order.is_below.ensures c.if-is_below.true c.below_next.ensures
 
 is-equal-requires : tie.Need-is_equal-exact-requires
 is-equal-requires c κs = search rules
@@ -83,7 +83,7 @@ returns-3 c =
     let last = past-last order in
     let a = (start last).args in
     upper_else a.index.now a.k a.size a.down a.under a.page.0 a.count a.i _ _ _ (past-child last).child-child.ensures
-    last.last_under.ensures last.last_key-last.ensures.0 _ _ _ _ key.if-last-eq0.left key.entry_offset-key.ensures
+    last.last_under.ensures last.last_key-last.ensures.0 _ _ _ _ key.if-last-eq0.false key.entry_offset-key.ensures
     order.key_order-order.ensures order.is_below.ensures c.if-is_below.false c.is_equal-exact.ensures
 
 pub upper_entry_spec : {M : Type 1} → statement M

@@ -59,8 +59,8 @@ returns-2 c =
 at-requires : tie.Need-at-head-requires invariant-loop decreases-loop
 at-requires c κs =
     let page = (tested c.before).before in
-    let o = is-page _ _ (inside page.before) in
-    let f = (at-loop page.before).pre in
+    let o = is-page _ _ (inside page) in
+    let f = (at-loop page).requires in
     omega arith
 
 sub-left : tie.Need-overflow_sub-left invariant-loop decreases-loop
@@ -78,7 +78,7 @@ loop-again c =
     let loop = (at-loop page).loop-left in
     let more = page.loop-left-test.true in (
       search rules,
-      upper-pages-on _ _ _ _ _ _ loop.exact loop.page-1.0 loop.left loop.invariant.1 _ (λ z. omega (arith, more, z)) (inside page)
+      upper-pages-on _ _ _ _ _ _ loop.exact loop.page.0 loop.left loop.invariant.1 _ (λ z. omega (arith, more, z)) (inside page)
           keys.upper_entries-keys.ensures _ read.at-head.ensures.1.1.1 (not-false _ good.if-not-keys.false),
     )
 

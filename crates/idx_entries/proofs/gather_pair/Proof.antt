@@ -73,8 +73,8 @@ add-copy-entries-2 c = let s = products (before-key (before-number (before-rest 
 copy-entries-requires-2 : tie.Need-copy_entries-requires-2
 copy-entries-requires-2 c κs =
     let found = (before-key (before-number (before-rest c))).before in
-    let s = products found.before in
-    (listed-within (start found.before).pre.0, bound found.before, omega arith)
+    let s = products found in
+    (listed-within (start found).requires.0, bound found, omega arith)
 
 same_length : tie.Need-shape_of-room
 same_length c = search rules
@@ -88,7 +88,7 @@ returns c =
     let found = first.before.before in
     let at-start = start found in
     let number-bytes = to_be32 at-start.args.number.0 in
-    pair_gathered (item_order (features at-start.args.index.now)) at-start.args.key.now number-bytes at-start.pre.0 found.place-i.ensures
+    pair_gathered (item_order (features at-start.args.index.now)) at-start.args.key.now number-bytes at-start.requires.0 found.place-i.ensures
     (length-to_be32 at-start.args.number.0) _ first.copy_entries.ensures
     key.copy_in.ensures number.put_record_number.ensures rest.copy_entries-2.ensures
 

@@ -106,18 +106,18 @@ copy-entries-requires-2 c κs =
     let s = products at-start in
     let k = length at-start.args.key.now in
     let i = at-start.args.i in
-    let next : i + 1 ≤ at-start.args.count = omega (arith, at-start.pre.1) in
+    let next : i + 1 ≤ at-start.args.count = omega (arith, at-start.requires.1) in
     let fits : i * (k + 4) + k + 4 + k + 4 + (at-start.args.count - (i + 1)) * (k + 4) ≤ room_size = omega arith in (
-      listed-within at-start.pre.0,
+      listed-within at-start.requires.0,
       next,
       omega (
         arith,
-        at-start.pre.2,
-        child.put_child.auto.0,
-        high.copy_larger_key.auto.0,
-        number.copy_number.auto.0,
-        low.copy_last_key.auto.0,
-        before.copy_entries.auto.0,
+        at-start.requires.2,
+        child.put_child.auto.bytes,
+        high.copy_larger_key.auto.to,
+        number.copy_number.auto.to,
+        low.copy_last_key.auto.to,
+        before.copy_entries.auto.to,
       ),
     )
 
@@ -133,7 +133,7 @@ returns c =
     let low = number.before.before.before.before in
     let before = low.before.before.before.before in
     let at-start = start before.before in
-    two-gathered at-start.args.key.now at-start.pre.0 at-start.pre.1 _ _ _ before.copy_entries.ensures low.copy_last_key.ensures
+    two-gathered at-start.args.key.now at-start.requires.0 at-start.requires.1 _ _ _ before.copy_entries.ensures low.copy_last_key.ensures
     number.copy_number.ensures high.copy_larger_key.ensures child.put_child.ensures rest.copy_entries-2.ensures
 
 pub gather_two_spec : {M : Type 1} → statement M

@@ -36,8 +36,8 @@ copy-entries-requires-2 : tie.Need-copy_entries-requires-2
 copy-entries-requires-2 c κs =
     let at-start = start c in
     let s = products at-start in
-    let behind = spread (at-start.args.i + 1) at-start.pre.0 (omega (arith, at-start.pre.1)) in
-    (listed-within at-start.pre.0, omega (arith, at-start.pre.1), omega (arith, at-start.pre.2))
+    let behind = spread (at-start.args.i + 1) at-start.requires.0 (omega (arith, at-start.requires.1)) in
+    (listed-within at-start.requires.0, omega (arith, at-start.requires.1), omega (arith, at-start.requires.2))
 
 same_length : tie.Need-shape_of-room
 same_length c = search rules
@@ -47,7 +47,7 @@ returns c =
     let rest = c.before.before in
     let first = rest.before.before.before.before in
     let at-start = start rest.before in
-    without-gathered at-start.pre.0 at-start.pre.1 _ first.copy_entries.ensures rest.copy_entries-2.ensures
+    without-gathered at-start.requires.0 at-start.requires.1 _ first.copy_entries.ensures rest.copy_entries-2.ensures
 
 pub gather_without_spec : {M : Type 1} → statement M
 gather_without_spec =

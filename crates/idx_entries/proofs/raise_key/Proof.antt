@@ -14,10 +14,10 @@ use Rattle.idx_entries.proofs.raise_key.Tie as tie
 -- the places: the call's start, from where the entries are counted; where the page has entry i, from where the keys are compared; where they are compared, from
 -- where a key is stored
 abbrev start : tie.After-entry_count → tie.Start
-start c = c.before.before.before.before-UNKNOWN
+start c = c.before.before.before
 
 abbrev has-entry : tie.After-compare_entry → tie.Else-entry_count-i
-has-entry c = c.before.before
+has-entry c = c.before
 
 abbrev compared : tie.After-copy_in-arg-1 → tie.After-compare_entry
 compared c = c.before.before.before
@@ -46,12 +46,12 @@ entry-offset-requires : tie.Need-entry_offset-requires
 entry-offset-requires c κs =
     let test = has-entry (compared c) in
     let w = listed-within (counted test.before) in
-    (w.key, omega (arith, w.count, test.if-entry_count-i.left))
+    (w.key, omega (arith, w.count, test.if-entry_count-i.false))
 
 copy-in-requires : tie.Need-copy_in-requires
 copy-in-requires c κs =
     let test = has-entry (compared c.before) in
-    let w = entry-within (within-entry _ (listed-within (counted test.before)) test.if-entry_count-i.left) in
+    let w = entry-within (within-entry _ (listed-within (counted test.before)) test.if-entry_count-i.false) in
     omega (arith, c.entry_offset.ensures)
 
 same-length-2 : tie.Need-shape_of-index-then-is_below
@@ -64,7 +64,7 @@ returns-2 c =
     let lower = offset.before.before in
     let keys = lower.before.before in
     let test = has-entry keys in
-    raised-here (start test.before).args.key.now (counted test.before) test.if-entry_count-i.left
+    raised-here (start test.before).args.key.now (counted test.before) test.if-entry_count-i.false
     (below _ _ keys.compare_entry.ensures (sym lower.is_below.ensures ∙ lower.if-is_below.true)) offset.entry_offset.ensures
     copied.copy_in.ensures
 
@@ -75,7 +75,7 @@ returns-3 : tie.Need-returns-else-is_below
 returns-3 c =
     let keys = c.before.before in
     let test = has-entry keys in
-    raised_not (start test.before).args.key.now (counted test.before) test.if-entry_count-i.left
+    raised_not (start test.before).args.key.now (counted test.before) test.if-entry_count-i.false
     (at_or_above _ _ keys.compare_entry.ensures (sym c.is_below.ensures ∙ c.if-is_below.false))
 
 pub raise_key_spec : {M : Type 1} → statement M

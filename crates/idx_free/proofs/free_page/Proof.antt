@@ -21,7 +21,7 @@ returns c =
     let named = c.before.before in
     let written = named.before.before.before.before in
     let head = written.before.before in
-    freed_by _ _ head.free_pointer-next.ensures written.empty_page.ensures named.set_Free.ensures
+    freed_by _ _ head.free_pointer-next.ensures written.empty_page.ensures named.set_free.ensures
 
 pub free_page_spec : {M : Type 1} → statement M
 free_page_spec = tie.close (tie.spec free-pointer-requires empty-page-requires set-free-requires same_length returns)

@@ -39,7 +39,7 @@ at-requires : tie.Need-at-head-requires invariant-loop decreases-loop
 at-requires c κs =
     let head = at-loop c in
     let i = is-page _ _ (fits-page _ _ head.loop-left.page.0 (passed c.free_fits.ensures c.if-not-free_fits.false-raw)) in
-    let pre = (start head).pre in
+    let pre = (start head).requires in
     omega arith
 
 sub-left : tie.Need-overflow_sub-left invariant-loop decreases-loop
@@ -55,7 +55,7 @@ loop-again c =
     let turn = fit.before.before in
     let loop = turn.loop-left in
     let more = turn.loop-left-test.true in
-    list_on _ _ _ _ loop.page-1.0 loop.left loop.invariant (λ z. omega (arith, more, z)) _ read.at-head.ensures.1.1.1
+    list_on _ _ _ _ loop.page.0 loop.left loop.invariant (λ z. omega (arith, more, z)) _ read.at-head.ensures.1.1.1
     (passed fit.free_fits.ensures fit.if-not-free_fits.false-raw)
 
 returns-2 : tie.Need-returns invariant-loop decreases-loop

@@ -8,7 +8,7 @@ use Rattle.basis.specs.Tests.{passed, failed}
 use Rattle.idx_page.specs.Header.{max_levels, key_length, header_good}
 use Rattle.idx_page.specs.HeaderLaws.{good-header}
 use Rattle.idx_sound.specs.AuditTest.{pages_good}
-use Rattle.idx_sound.specs.Accepted.{audit_sound, audit_unsound}
+use Rattle.idx_sound.proofs.Accepted.{audit_sound, audit_unsound}
 use Rattle.idx_path.specs.declared.Path.{Path}
 use Rattle.idx_path.specs.Room.{path_to, no_room}
 use Rattle.idx_path.specs.RoomLaws.{path-levels, path-run}
@@ -21,7 +21,7 @@ use Rattle.idx_insert.proofs.insert.Tie as tie
 
 -- the places: the call's start, from behind the first test; and the place behind each test, from the place behind the next
 abbrev start : tie.Else-not-header_good → tie.Start
-start c = c.before.before.before.before.before-UNKNOWN
+start c = c.before.before.before.before
 
 abbrev at-header : tie.Else-key-key_length → tie.Else-not-header_good
 at-header c = c.before.before.before.before.before
@@ -126,7 +126,7 @@ returns-5 c =
     let free = at-clean number in
     let measured = at_length free in
     let good = header (at-header measured) in
-    refused_25 _ _ _ good (same measured) (clean free) (eqb-false _ _ number.if-zero.left) (audit_unsound _ good c.audit.ensures c.if-audit-ne0.true)
+    refused_25 _ _ _ good (same measured) (clean free) (eqb-false _ _ number.if-zero.false) (audit_unsound _ good c.audit.ensures c.if-audit-ne0.true)
 
 path-to-requires : tie.Need-path_to-path-requires
 path-to-requires c κs =
@@ -143,7 +143,7 @@ returns-6 c =
     let free = at-clean number in
     let measured = at_length free in
     let found = sym (present c.before) ∙ c.if-path.true in
-    refused_29 _ _ _ (header (at-header measured)) (same measured) (clean free) (eqb-false _ _ number.if-zero.left) (sound audited) found
+    refused_29 _ _ _ (header (at-header measured)) (same measured) (clean free) (eqb-false _ _ number.if-zero.false) (sound audited) found
 
 no-room-requires : tie.Need-no_room-requires
 no-room-requires c κs =
@@ -161,9 +161,9 @@ returns-7 c =
     let number = at-number audited.before in
     let free = at-clean number in
     let measured = at_length free in
-    let not_found = sym (present absent.before) ∙ absent.if-path.left in
+    let not_found = sym (present absent.before) ∙ absent.if-path.false in
     let lacks_room = sym (full c.before) ∙ c.if-no_room.true in
-    refused_30 _ _ _ (header (at-header measured)) (same measured) (clean free) (eqb-false _ _ number.if-zero.left) (sound audited) not_found lacks_room
+    refused_30 _ _ _ (header (at-header measured)) (same measured) (clean free) (eqb-false _ _ number.if-zero.false) (sound audited) not_found lacks_room
 
 insert-pair-requires : tie.Need-insert_pair-requires
 insert-pair-requires c κs =
@@ -183,9 +183,9 @@ returns-8 c =
     let number = at-number audited.before in
     let free = at-clean number in
     let measured = at_length free in
-    let not_found = sym (present absent.before) ∙ absent.if-path.left in
+    let not_found = sym (present absent.before) ∙ absent.if-path.false in
     let not_full = sym (full room.before) ∙ room.if-no_room.false in
-    accepted_pair _ _ _ (header (at-header measured)) (same measured) (clean free) (eqb-false _ _ number.if-zero.left) (sound audited) not_found not_full
+    accepted_pair _ _ _ (header (at-header measured)) (same measured) (clean free) (eqb-false _ _ number.if-zero.false) (sound audited) not_found not_full
     inserted.insert_pair.ensures
 
 pub insert_spec : {M : Type 1} → statement M

@@ -12,10 +12,10 @@ use Rattle.idx_insert_page.proofs.insert_in_leaf.Tie as tie
 
 -- the places: the call's start, from where the entries are counted; that place, from where they are gathered
 abbrev start : tie.After-entry_count-count → tie.Start
-start c = c.before.before.before.before.before-UNKNOWN
+start c = c.before.before.before.before
 
 abbrev before-gathering : tie.After-gather_pair → tie.After-entry_count-count
-before-gathering c = c.before.before.before
+before-gathering c = c.before.before
 
 -- the leaf's entries are counted
 counted : (c : tie.After-entry_count-count) → let args = (start c).args in
@@ -31,7 +31,7 @@ entry-count-requires : tie.Need-entry_count-count-requires
 entry-count-requires c κs = search rules
 
 gather-pair-requires : tie.Need-gather_pair-requires
-gather-pair-requires c κs = let count = c.before.before in (counted count, (start count).requires.3)
+gather-pair-requires c κs = let count = c.before in (counted count, (start count).requires.3)
 
 add-size : tie.Need-overflow_add-size
 add-size c = let s = products (before-gathering c.before.before) in omega arith
@@ -50,20 +50,20 @@ slice-reshare-prefix-take-in c =
     let gathered = c.before.before.before in
     let count = before-gathering gathered in
     let s = products count in
-    omega (arith, gathered.gather_pair.auto.0, (start count).pre.3)
+    omega (arith, gathered.gather_pair.auto.room, (start count).requires.3)
 
 slice-aggregate-take-in : tie.Need-slice_bounds-take_in-end-2
 slice-aggregate-take-in c =
-    let gathered = c.before.before.before.before in
+    let gathered = c.before.before.before in
     let count = before-gathering gathered in
     let s = products count in
-    simp length-take (omega (arith, gathered.gather_pair.auto.0, (start count).pre.3))
+    simp length-take (omega (arith, gathered.gather_pair.auto.room, (start count).requires.3))
 
 take-in-requires : tie.Need-take_in-requires
 take-in-requires c κs =
-    let gathered = c.before.before.before.before in
+    let gathered = c.before.before.before in
     let count = before-gathering gathered in
-    (one_more _ (counted count) (omega (arith, gathered.gather_pair.auto.0, (start count).pre.3)), (start count).pre.2)
+    (one_more _ (counted count) (omega (arith, gathered.gather_pair.auto.room, (start count).requires.3)), (start count).requires.2)
 
 same_length : tie.Need-shape_of-index
 same_length c = search rules
@@ -74,10 +74,10 @@ same-length-2 c = search rules
 returns : tie.Need-returns
 returns c =
     let taken_in = c.before.before in
-    let gathered = taken_in.before.before.before.before.before in
+    let gathered = taken_in.before.before.before.before in
     let count = before-gathering gathered in
     let args = (start count).args in
-    rw (pair_read (item_order (features args.index-1.now)) args.key.now args.number.0 _ (counted count) (start count).pre.3
+    rw (pair_read (item_order (features args.index.now)) args.key.now args.number.0 _ (counted count) (start count).requires.3
     gathered.gather_pair.ensures)
     at taken_in.take_in.ensures
 

@@ -21,7 +21,7 @@ abbrev taking : tie.After-is_page → tie.After-take_page-taken
 taking c = c.before.before
 
 abbrev over : tie.After-take_page-taken → tie.Else-count-capacity
-over c = c.before.before
+over c = c.before
 
 -- the entries fit the page, and they do not
 fit : (c : tie.Then-count-capacity) → let args = (start c.before).args in length (items args.k args.count args.entries.now) ≤ capacity args.k
@@ -50,7 +50,7 @@ returns c =
     let written = c.before.before in
     let tested = written.before.before in
     let args = (start tested.before).args in
-    takes-kept args.k args.index-1.now args.page.0 _ args.supply (fit tested) written.with_entries.ensures
+    takes-kept args.k args.index.now args.page.0 _ args.supply (fit tested) written.with_entries.ensures
 
 take-page-requires : tie.Need-take_page-taken-requires
 take-page-requires c κs = (start c.before).requires.1

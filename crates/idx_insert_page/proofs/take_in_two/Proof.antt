@@ -11,10 +11,10 @@ use Rattle.idx_insert_page.proofs.take_in_two.Tie as tie
 
 -- the places: the call's start, from where the entries are counted; where there are some, from where they are gathered
 abbrev start : tie.After-entry_count-count → tie.Start
-start c = c.before.before.before.before.before-UNKNOWN
+start c = c.before.before.before.before
 
 abbrev before-gathering : tie.After-gather_two → tie.Else-count-i
-before-gathering c = c.before.before.before
+before-gathering c = c.before.before
 
 -- the page's entries are counted
 counted : (c : tie.After-entry_count-count) → let args = (start c).args in
@@ -39,8 +39,8 @@ returns c =
 
 gather-two-requires : tie.Need-gather_two-requires
 gather-two-requires c κs =
-    let some = c.before.before in
-    (counted some, some.if-count-i.false, (start some).requires.3)
+    let some = c.before in
+    (counted some.before, some.if-count-i.false, (start some.before).requires.3)
 
 add-size : tie.Need-overflow_add-size
 add-size c = let s = products (before-gathering c.before.before).before in omega arith
@@ -58,21 +58,21 @@ slice-reshare-prefix-take-in : tie.Need-slice_bounds-take_in-end
 slice-reshare-prefix-take-in c =
     let gathered = c.before.before.before in
     let count = (before-gathering gathered).before in
-    let s = products count.before in
-    omega (arith, gathered.gather_two.auto.0, (start count.before).pre.3)
+    let s = products count in
+    omega (arith, gathered.gather_two.auto.room, (start count).requires.3)
 
 slice-aggregate-take-in : tie.Need-slice_bounds-take_in-end-2
 slice-aggregate-take-in c =
-    let gathered = c.before.before.before.before in
+    let gathered = c.before.before.before in
     let count = (before-gathering gathered).before in
-    let s = products count.before in
-    simp length-take (omega (arith, gathered.gather_two.auto.0, (start count.before).pre.3))
+    let s = products count in
+    simp length-take (omega (arith, gathered.gather_two.auto.room, (start count).requires.3))
 
 take-in-requires : tie.Need-take_in-requires
 take-in-requires c κs =
-    let gathered = c.before.before.before.before in
+    let gathered = c.before.before.before in
     let count = (before-gathering gathered).before in
-    (one_more _ (counted count.before) (omega (arith, gathered.gather_two.auto.0, (start count.before).pre.3)), (start count.before).pre.2)
+    (one_more _ (counted count) (omega (arith, gathered.gather_two.auto.room, (start count).requires.3)), (start count).requires.2)
 
 same-length-2 : tie.Need-shape_of-index
 same-length-2 c = search rules
@@ -83,12 +83,12 @@ same-length-3 c = search rules
 returns-2 : tie.Need-returns
 returns-2 c =
     let taken_in = c.before.before in
-    let gathered = taken_in.before.before.before.before.before in
+    let gathered = taken_in.before.before.before.before in
     let some = before-gathering gathered in
     let count = some.before in
     let key = (start count).args.key.now in
-    two_for_some _ _ _ _ _ _ _ _ _ (omega (arith, count.entry_count-count.ensures, some.if-count-i.left))
-    (two-read key _ _ _ _ (counted count) some.if-count-i.left (start count).pre.3 gathered.gather_two.ensures)
+    two_for_some _ _ _ _ _ _ _ _ _ (omega (arith, count.entry_count-count.ensures, some.if-count-i.false))
+    (two-read key _ _ _ _ (counted count) some.if-count-i.false (start count).requires.3 gathered.gather_two.ensures)
     taken_in.take_in.ensures
 
 pub take_in_two_spec : {M : Type 1} → statement M

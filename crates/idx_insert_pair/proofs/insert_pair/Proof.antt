@@ -12,7 +12,7 @@ use Rattle.idx_insert_pair.proofs.insert_pair.Tie as tie
 
 -- the places: the call's start, from where the supply is known; that place, from where the pair is inserted under the root
 abbrev start : tie.After-supply_of-supply → tie.Start
-start c = c.before.before.before.before.before.before-UNKNOWN
+start c = c.before.before.before.before.before
 
 abbrev at-supply : tie.After-insert_under-below → tie.After-supply_of-supply
 at-supply c = c.before.before.before
@@ -29,7 +29,7 @@ root-requires c κs = (header c.before.before).long
 
 supply-of-requires : tie.Need-supply_of-supply-requires
 supply-of-requires c κs =
-    let at-start = c.before.before.before.before.before-UNKNOWN in
+    let at-start = c.before.before.before.before in
     (header at-start).long
 
 slice-aggregate-insert-under : tie.Need-slice_bounds-insert_under-end
@@ -52,9 +52,9 @@ at-root-requires c κs =
     let at-start = start supply in
     let h = header at-start in (
       short at-start,
-      omega (arith, below.insert_under-below.auto.0),
+      omega (arith, below.insert_under-below.auto.index),
       next_fits _ _ _ _ _ _ below.insert_under-below.result below.insert_under-below.ensures (rw supply.supply_of-supply.ensures (omega (arith, header_lasts _ h))),
-      omega (arith, below.insert_under-below.auto.1),
+      omega (arith, below.insert_under-below.auto.room),
     )
 
 same_length : tie.Need-shape_of-index
@@ -66,7 +66,7 @@ returns c =
     let below = finished.before.before.before.before.before.before in
     let supply = at-supply below in
     let at-start = start supply in
-    pair_inserted _ at-start.args.key.now _ at-start.pre.1 supply.root-root.ensures supply.supply_of-supply.ensures
+    pair_inserted _ at-start.args.key.now _ at-start.requires.1 supply.root-root.ensures supply.supply_of-supply.ensures
     below.insert_under-below.ensures finished.at_root.ensures
 
 pub insert_pair_spec : {M : Type 1} → statement M

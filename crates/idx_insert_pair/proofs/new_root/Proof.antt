@@ -55,7 +55,7 @@ returns c =
     (failed c.is_page.ensures c.if-not-is_page.true-raw)
 
 gather-root-requires : tie.Need-gather_root-requires
-gather-root-requires c κs = let at-start = start c.before in (at-start.pre.0, at-start.pre.2)
+gather-root-requires c κs = let at-start = start c.before in (at-start.requires.0, at-start.requires.2)
 
 add-size : tie.Need-overflow_add-size
 add-size c = search rules
@@ -67,37 +67,37 @@ slice-reshare-prefix-new-page : tie.Need-slice_bounds-new_page-end
 slice-reshare-prefix-new-page c =
     let gathered = c.before.before.before in
     let at-start = start (at_test gathered) in
-    omega (arith, gathered.gather_root.auto.0, at-start.pre.0, at-start.pre.2)
+    omega (arith, gathered.gather_root.auto.room, at-start.requires.0, at-start.requires.2)
 
 slice-aggregate-new-page : tie.Need-slice_bounds-new_page-end-2
 slice-aggregate-new-page c =
     let gathered = c.before.before.before.before in
     let at-start = start (at_test gathered) in
-    simp length-take (omega (arith, gathered.gather_root.auto.0, at-start.pre.0, at-start.pre.2))
+    simp length-take (omega (arith, gathered.gather_root.auto.room, at-start.requires.0, at-start.requires.2))
 
 new-page-requires : tie.Need-new_page-requires
 new-page-requires c κs =
     let gathered = c.before.before.before.before in
     let g = page (at_test gathered) in
     let at-start = start (at_test gathered) in
-    let m = capacity-least (length at-start.args.key.now) at-start.pre.0 in
+    let m = capacity-least (length at-start.args.key.now) at-start.requires.0 in
     record {
-      within = record { key = at-start.pre.0; count = omega arith; page = g.high };
-      size = simp length-take (omega (arith, gathered.gather_root.auto.0, at-start.pre.0, at-start.pre.2));
+      within = record { key = at-start.requires.0; count = omega arith; page = g.high };
+      size = simp length-take (omega (arith, gathered.gather_root.auto.room, at-start.requires.0, at-start.requires.2));
     }
 
 set-root-requires : tie.Need-set_root-requires
 set-root-requires c κs =
     let written = c.before.before.before in
     let g = page (at_test (at-gathering written)) in
-    omega (arith, written.new_page.auto.0)
+    omega (arith, written.new_page.auto.index)
 
 set-supply-requires : tie.Need-set_supply-requires
 set-supply-requires c κs =
     let stored = c.before.before.before in
     let written = at-page stored.before in
     let g = page (at_test (at-gathering written)) in
-    omega (arith, stored.set_root.auto.0, written.new_page.kept.0)
+    omega (arith, stored.set_root.auto.index, written.new_page.auto.index)
 
 same-length-2 : tie.Need-shape_of-index
 same-length-2 c = search rules
@@ -115,7 +115,7 @@ returns-2 c =
     let at-start = start test in
     let args = at-start.args in
     root-new args.index-1.now args.key.now args.old.0 args.new.0 args.supply (taking test).take_page-taken.ensures (tested test)
-    (root-read args.index-1.now args.key.now args.old.0 args.new.0 _ at-start.pre.0 at-start.pre.2 gathered.gather_root.ensures)
+    (root-read args.index-1.now args.key.now args.old.0 args.new.0 _ at-start.requires.0 at-start.requires.2 gathered.gather_root.ensures)
     written.new_page.ensures stored.set_root.ensures finished.set_supply.ensures
 
 pub new_root_spec : {M : Type 1} → statement M

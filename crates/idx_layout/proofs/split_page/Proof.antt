@@ -9,10 +9,10 @@ use Rattle.idx_layout.proofs.split_page.Tie as tie
 
 -- the places: the call's start, from where the right neighbour is known; and the place before each store, from the one before the next
 abbrev start : tie.After-right-1 → tie.Start
-start c = c.before.before.before.before.before.before.before-UNKNOWN
+start c = c.before.before.before.before.before.before
 
 abbrev before-attribute : tie.After-set_attribute-arg-1 → tie.After-right-1
-before-attribute c = c.before.before.before.before.before.before
+before-attribute c = c.before.before.before.before.before
 
 abbrev before-right : tie.After-link_right-arg-1 → tie.After-set_attribute-arg-1
 before-right c = c.before.before.before.before
@@ -84,7 +84,7 @@ returns c =
     let right = beyond.before.before.before.before in
     let attribute = right.before.before.before.before in
     let lower = attribute.before.before.before.before in
-    let right-known = lower.before.before.before in
+    let right-known = lower.before.before in
     let head = right-known.before.before.before in
     split_by (start right-known).requires.0 _ head.at-head.ensures.0 head.at-head.ensures.1.1.1 lower.with_entries.ensures
     attribute.set_attribute.ensures right.link_right.ensures beyond.link_beyond.ensures upper.new_page.ensures

@@ -34,7 +34,7 @@ loop-holds : tie.Need-loop-i-init invariant-loop decreases-loop
 loop-holds c = (search rules, rw sub-zero (sym (zero-add _)))
 
 pair-above-requires : tie.Need-pair_above-requires invariant-loop decreases-loop
-pair-above-requires c κs = within-entry c.loop-i.i (listed-within (start c.before).pre) (search rules)
+pair-above-requires c κs = within-entry c.loop-i.i (listed-within (start c.before).requires) (search rules)
 
 returns : tie.Need-returns-then-pair_above invariant-loop decreases-loop
 returns c =

@@ -3,7 +3,6 @@
 -- Assumes nothing.
 use Prim.Native.Nat.{◌-◌, ◌<◌}
 use mathlib.Core.Path.{refl}
-use mathlib.Core.Logic.{⊎_elim}
 use native.Mathlib.Omega.{arith}
 use borrow.Author.Tests.{not-true, not-false}
 use Rattle.idx_leaves.specs.LeafLaws.{LeafLoop, page_of, page-of, leaf-zero, leaf-start, leaf-inside, leaf-end, leaf_off, leaf-on}
@@ -11,6 +10,7 @@ use Rattle.idx_leaves.specs.LeafLaws.{begins-first, begins-second, entry-begins}
 use borrow.Author.Rules.{rules}
 use Rattle.idx_leaves.proofs.leaf_entries.Statement.{statement}
 use Rattle.idx_leaves.proofs.leaf_entries.Tie as tie
+use Rattle.idx_leaves.proofs.leaf_entries.Lts.{then-last-eq0+else-count-eq0+else-record_at-eq0, else-last-eq0}
 
 abbrev invariant-loop : tie.invariant-loop-left
 invariant-loop index k count last at₀ prior₀ left₀ n at prior left =
@@ -38,11 +38,11 @@ begins c =
     let start = c.before.before.before in
     let a = start.args in
     let pre = start.requires in
-    ⊎_elim
-    (λ w. begins-second a.index.now a.k a.page.0 a.count a.last
-    _ _ _ _ placed pre.2 _ pre.1 w.0.taken w.1.left w.2.ensures w.4.left w.5 w.6 w.7)
-    (λ w. begins-first a.index.now a.k a.page.0 a.count a.last _ _ _ _ placed pre.2 w.0.left w.1 w.2 w.3)
-    c.if-last-eq0.branch
+    elim c.if-last-eq0.branch [
+      then-last-eq0+else-count-eq0+else-record_at-eq0 w ↦ begins-second a.index.now a.k a.page.0 a.count a.last
+          _ _ _ _ placed pre.2 _ pre.1 w.if-last-eq0.true w.if-count-eq0.false w.record_at.ensures w.if-record_at-eq0.false w.at-is w.prior-is w.left-is
+      | else-last-eq0 w ↦ begins-first a.index.now a.k a.page.0 a.count a.last _ _ _ _ placed pre.2 w.if-last-eq0.false w.at-is w.prior-is w.left-is
+    ]
 
 -- the invariant, of the page itself
 here : (c : tie.At-loop-left invariant-loop decreases-loop)

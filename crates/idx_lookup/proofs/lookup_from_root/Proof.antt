@@ -29,7 +29,7 @@ root-requires : tie.Need-root-requires
 root-requires c κs = (good-header _ (start c.before).requires.0).long
 
 first-from-requires : tie.Need-first_from-requires
-first-from-requires c κs = let s = start c.before.before in (search rules, s.pre.0, s.pre.1)
+first-from-requires c κs = let s = start c.before.before in (search rules, s.requires.0, s.requires.1)
 
 returns : tie.Need-returns-then-several
 returns c =
@@ -45,7 +45,7 @@ root-requires-2 : tie.Need-root-requires-2
 root-requires-2 c κs = (good-header _ (start c.before).requires.0).long
 
 lookup-from-requires : tie.Need-lookup_from-requires
-lookup-from-requires c κs = let s = start c.before.before in (search rules, s.pre.0, s.pre.1)
+lookup-from-requires c κs = let s = start c.before.before in (search rules, s.requires.0, s.requires.1)
 
 returns-2 : tie.Need-returns
 returns-2 c =

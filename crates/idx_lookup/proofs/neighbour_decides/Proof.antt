@@ -33,10 +33,10 @@ file-size-requires : tie.Need-file_size-requires
 file-size-requires c κs = (good-header _ (start c).requires.1).long
 
 page-good-requires : tie.Need-page_good-requires
-page-good-requires c κs = let s = start c.before in let h = good-header _ s.pre.1 in omega (arith, s.pre.2)
+page-good-requires c κs = let s = start c.before in let h = good-header _ s.requires.1 in omega (arith, s.requires.2)
 
 returns-2 : tie.Need-returns-then-not-page_good
-returns-2 c = let right = some c.before in neighbour-bad _ _ _ _ right.if-right-eq-NO_PAGE.left (failed (tested c.before) c.if-not-page_good.true-raw)
+returns-2 c = let right = some c.before in neighbour-bad _ _ _ _ right.if-right-eq-NO_PAGE.false (failed (tested c.before) c.if-not-page_good.true-raw)
 
 add-entry-decides : tie.Need-overflow_add-pages
 add-entry-decides c = omega (arith, (start (some c.before)).requires.0)
@@ -44,19 +44,19 @@ add-entry-decides c = omega (arith, (start (some c.before)).requires.0)
 entry-decides-requires : tie.Need-entry_decides-requires
 entry-decides-requires c κs =
     let s = start (some c.before) in
-    let h = good-header _ s.pre.1 in
+    let h = good-header _ s.requires.1 in
     let good = passed (tested c.before) c.if-not-page_good.false-raw in
     let args = s.args in
     within-entry 0
     (within-page args.index.now (length args.key.now) (file_size args.index.now) args.right.0 false true
-    (omega (arith, s.pre.2)) h.within good)
+    (omega (arith, s.requires.2)) h.within good)
     (omega (arith, page-some args.index.now (length args.key.now) (file_size args.index.now) args.right.0 true good))
 
 returns-3 : tie.Need-returns
 returns-3 c =
     let good = c.before in
     let right = some good.before in
-    c.entry_decides.ensures ∙ neighbour-good _ _ _ _ right.if-right-eq-NO_PAGE.left (passed (tested good.before) good.if-not-page_good.false-raw)
+    c.entry_decides.ensures ∙ neighbour-good _ _ _ _ right.if-right-eq-NO_PAGE.false (passed (tested good.before) good.if-not-page_good.false-raw)
 
 pub neighbour_decides_spec : {M : Type 1} → statement M
 neighbour_decides_spec =

@@ -26,7 +26,7 @@ searched c =
     record { attribute = head-is.0; count = head-is.1.0; first = c.first_at_or_above-i.ensures.0 }
 
 leaf : (c : tie.Else-not-is_leaf) → leaf_bit (head c.before.before.before).attribute ≡ true
-leaf c = passed c.is_IsLeaf.ensures c.if-not-is_leaf.false-raw
+leaf c = passed c.is_leaf.ensures c.if-not-is_leaf.false-raw
 
 at-requires : tie.Need-at-head-requires
 at-requires c κs = search rules
@@ -51,7 +51,7 @@ returns-2 c =
     let at_leaf = c.before.before in
     let at-if1 = at_leaf.before in
     says_child (searched at-if1.before) at-if1.if-i-count.false c.child.result.0
-    (failed at_leaf.is_IsLeaf.ensures c.if-not-is_leaf.true-raw) c.child.ensures
+    (failed at_leaf.is_leaf.ensures c.if-not-is_leaf.true-raw) c.child.ensures
 
 compare-entry-requires : tie.Need-compare_entry-requires
 compare-entry-requires c κs = search rules

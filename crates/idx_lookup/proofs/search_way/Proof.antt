@@ -30,8 +30,8 @@ searched c =
     record { attribute = head-is.0; count = head-is.1.0; first = c.first_at_or_above-i.ensures.0 }
 
 -- what the leaf bit is
-leaf : (c : tie.After-right-1) (t : Bool) → c.is_IsLeaf.result ≡ t → leaf_bit (head (at-search c)).attribute ≡ t
-leaf c t e = sym c.is_IsLeaf.ensures ∙ e
+leaf : (c : tie.After-right-1) (t : Bool) → c.is_leaf-leaf.result ≡ t → leaf_bit (head (at-search c)).attribute ≡ t
+leaf c t e = sym c.is_leaf-leaf.ensures ∙ e
 
 at-requires : tie.Need-at-head-requires
 at-requires c κs = search rules

@@ -34,9 +34,9 @@ returns c = rw (failed (tested c.before) c.if-not-page_good.true-raw, way_from)
 search-way-requires : tie.Need-search_way-requires
 search-way-requires c κs =
     let s = start c.before in
-    let h = good-header _ s.pre.0 in
+    let h = good-header _ s.requires.0 in
     let good = passed (tested c.before) c.if-not-page_good.false-raw in (
-      within-page _ _ _ _ _ _ (omega (arith, s.pre.1)) h.within good,
+      within-page _ _ _ _ _ _ (omega (arith, s.requires.1)) h.within good,
       page-some_by s.args.index.now (length s.args.key.now) (file_size s.args.index.now) s.args.page.0 s.args.first s.args.last good,
     )
 

@@ -49,7 +49,7 @@ inside : (c : tie.After-records_end) → let args = (start c.before).args in
     c.records_end.result + args.column.offset + args.column.length ≤ length args.table.now
 inside c =
     let begun = start c.before in
-    field_inside _ begun.args.column _ _ (number c.before) begun.pre.0 c.records_end.ensures.0
+    field_inside _ begun.args.column _ _ (number c.before) begun.requires.0 c.records_end.ensures.0
 
 sub-records-end : tie.Need-overflow_sub-number
 sub-records-end c = omega (arith, (number-range _ _ (number c)).0)
@@ -76,7 +76,7 @@ compare-entry-requires : tie.Need-compare_entry-requires
 compare-entry-requires c κs =
     let ended = c.before.before.before in
     let begun = start ended.before in
-    rw (field-length _ begun.args.column _ _ (number ended.before) begun.pre.0 ended.records_end.ensures.0) begun.pre.1
+    rw (field-length _ begun.args.column _ _ (number ended.before) begun.requires.0 ended.records_end.ensures.0) begun.requires.1
 
 is-equal-requires : tie.Need-is_equal-requires
 is-equal-requires c κs = search rules
@@ -86,7 +86,7 @@ returns-2 c =
     let compared = c.before in
     let ended = compared.before.before.before.before in
     let begun = start ended.before in
-    entry_compared _ begun.args.column _ _ (number ended.before) begun.pre.0 ended.records_end.ensures.0 _ _ _ _ _
+    entry_compared _ begun.args.column _ _ (number ended.before) begun.requires.0 ended.records_end.ensures.0 _ _ _ _ _
     (numbered ended.before).record_number-number.ensures compared.compare_entry.ensures c.is_equal.ensures
 
 pub entry_good_spec : {M : Type 1} → statement M

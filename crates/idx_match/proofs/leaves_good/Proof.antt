@@ -59,7 +59,7 @@ entry-count-requires c κs = search rules
 
 leaf-good-requires : tie.Need-leaf_good-requires invariant-loop decreases-loop
 leaf-good-requires c κs =
-    let pre = (start c.before.before.before.before.before.before).pre in
+    let pre = (start c.before.before.before.before.before.before).requires in
     (pre.0, entries-within _ _ _ _ _ c.entry_count-entries.ensures pre.1)
 
 returns : tie.Need-returns-then-not-leaf_good invariant-loop decreases-loop
@@ -96,7 +96,7 @@ loop-again c =
     let loop = (at-loop test.before.before).loop-left in (
       search rules,
       omega (arith, loop.invariant.1, few counted, some test),
-      leaves-on _ (start test.before.before.before.before.before).args.column _ _ _ loop.page-1.0 loop.count loop.left loop.invariant.2 counted.entry_count-entries.result _
+      leaves-on _ (start test.before.before.before.before.before).args.column _ _ _ loop.page.0 loop.count loop.left loop.invariant.2 counted.entry_count-entries.result _
           (some test) (page test) counted.entry_count-entries.ensures passed.leaf_good.ensures _ c.at-head.ensures.1.1.1
           (not-false _ passed.if-not-leaf_good.false-raw),
     )

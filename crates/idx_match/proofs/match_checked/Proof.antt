@@ -27,7 +27,7 @@ column : (c : tie.After-entry_at-entry) → let args = (start c.before.before.be
     (column_of args.table.now args.field)
 column c =
     let begun = start c.before.before.before in
-    column_is _ begun.args.shape c.entry_at-entry.result begun.args.field begun.pre c.entry_at-entry.ensures
+    column_is _ begun.args.shape c.entry_at-entry.result begun.args.field begun.requires c.entry_at-entry.ensures
 
 match-refusal-requires : tie.Need-match_refusal-refusal-requires
 match-refusal-requires c κs = search rules
@@ -79,12 +79,12 @@ tested c =
 returns-3 : tie.Need-returns-then-entries_match
 returns-3 c =
     let sound = (listed c.before).before in
-    answer-matched _ _ _ (none sound.before.before.before) _ sound.audit.ensures sound.if-audit-ne0.left _ (tested c.before) c.if-entries_match.true
+    answer-matched _ _ _ (none sound.before.before.before) _ sound.audit.ensures sound.if-audit-ne0.false _ (tested c.before) c.if-entries_match.true
 
 returns-4 : tie.Need-returns-else-entries_match
 returns-4 c =
     let sound = (listed c.before).before in
-    answer-other _ _ _ (none sound.before.before.before) _ sound.audit.ensures sound.if-audit-ne0.left _ (tested c.before) c.if-entries_match.false
+    answer-other _ _ _ (none sound.before.before.before) _ sound.audit.ensures sound.if-audit-ne0.false _ (tested c.before) c.if-entries_match.false
 
 pub match_checked_spec : {M : Type 1} → statement M
 match_checked_spec =

@@ -10,7 +10,7 @@ is-leaf-requires c κs = search rules
 
 returns : tie.Need-returns
 unfolding attribute_good
-returns c = rw c.is_IsLeaf.ensures
+returns c = rw c.is_leaf.ensures
 
 pub attribute_good_spec : {M : Type 1} → statement M
 attribute_good_spec = tie.close (tie.spec is-leaf-requires returns)

@@ -36,7 +36,7 @@ loop-holds : tie.Need-loop-i-init invariant-loop decreases-loop
 loop-holds c = (search rules, rw sub-zero)
 
 compare-entry-requires : tie.Need-compare_entry-requires invariant-loop decreases-loop
-compare-entry-requires c κs = within-entry c.loop-i.i (start c.before).pre (search rules)
+compare-entry-requires c κs = within-entry c.loop-i.i (start c.before).requires (search rules)
 
 is-below-requires : tie.Need-is_below-requires invariant-loop decreases-loop
 is-below-requires c κs = search rules

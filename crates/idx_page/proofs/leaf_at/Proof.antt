@@ -28,7 +28,7 @@ unfolding is_leaf
 returns-2 c =
     let head = c.before in
     let tested = head.before in
-    rw (passed tested.is_page.ensures tested.if-not-is_page.false-raw) (c.is_IsLeaf.ensures ∙ ap leaf_bit head.at-head.ensures.0)
+    rw (passed tested.is_page.ensures tested.if-not-is_page.false-raw) (c.is_leaf.ensures ∙ ap leaf_bit head.at-head.ensures.0)
 
 pub leaf_at_spec : {M : Type 1} → statement M
 leaf_at_spec = tie.close (tie.spec is-page-requires returns at-requires is-leaf-requires returns-2)

@@ -8,7 +8,7 @@ use Rattle.basis.specs.Tests.{passed, failed}
 use Rattle.idx_page.specs.Header.{key_length, header_good}
 use Rattle.idx_page.specs.HeaderLaws.{good-header}
 use Rattle.idx_sound.specs.AuditTest.{pages_good}
-use Rattle.idx_sound.specs.Accepted.{audit_sound, audit_unsound}
+use Rattle.idx_sound.proofs.Accepted.{audit_sound, audit_unsound}
 use Rattle.idx_remove.specs.CallLaws.{refused_24, refused_27, refused_25, refused_33, accepted_pair}
 use borrow.Author.Rules.{rules}
 use Rattle.idx_remove.proofs.remove.Statement.{statement}
@@ -16,7 +16,7 @@ use Rattle.idx_remove.proofs.remove.Tie as tie
 
 -- the places: the call's start, from behind the first test; and the place behind each test, from the place behind the next
 abbrev start : tie.Else-not-header_good → tie.Start
-start c = c.before.before.before.before.before-UNKNOWN
+start c = c.before.before.before.before
 
 abbrev at-header : tie.Else-key-key_length → tie.Else-not-header_good
 at-header c = c.before.before.before

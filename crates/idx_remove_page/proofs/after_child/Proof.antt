@@ -33,7 +33,7 @@ free-page-requires : tie.Need-free_page-requires
 free-page-requires c κs =
     let unlinked = c.before.before.before in
     let pages = inside unlinked.before.before in
-    omega (arith, pages.0, pages.1, unlinked.unlink_page.auto.0)
+    omega (arith, pages.0, pages.1, unlinked.unlink_page.auto.index)
 
 take-out-requires : tie.Need-take_out-requires
 take-out-requires c κs = search rules

@@ -13,13 +13,13 @@ use Rattle.idx_remove_page.proofs.take_out.Tie as tie
 
 -- the places: the call's start, from behind the test; that place, from where the entries are gathered; that one, from where they are written
 abbrev start : tie.Else-count-i → tie.Start
-start c = c.before.before.before.before.before-UNKNOWN
+start c = c.before.before.before.before
 
 abbrev before-gathering : tie.After-gather_without → tie.Else-count-i
-before-gathering c = c.before.before.before
+before-gathering c = c.before.before
 
 abbrev before-writing : tie.After-with_entries → tie.After-gather_without
-before-writing c = c.before.before.before.before.before
+before-writing c = c.before.before.before.before
 
 -- the page's entries are counted, and entry i is one of them
 counted : (c : tie.Else-count-i) → let args = (start c).args in Listed args.index.now args.k args.page.0 c.entry_count-count.result
@@ -53,7 +53,7 @@ mul-size c = let s = products c in omega arith
 
 gather-without-requires : tie.Need-gather_without-requires
 gather-without-requires c κs =
-    let tested = c.before.before in
+    let tested = c.before in
     (counted tested, omega (arith, inside tested), (start tested).requires.1)
 
 slice-reshare-prefix-with-entries : tie.Need-slice_bounds-with_entries-end
@@ -61,20 +61,20 @@ slice-reshare-prefix-with-entries c =
     let gathered = c.before.before.before in
     let tested = before-gathering gathered in
     let s = products tested in
-    omega (arith, gathered.gather_without.auto.0, (start tested).pre.1)
+    omega (arith, gathered.gather_without.auto.room, (start tested).requires.1)
 
 slice-aggregate-with-entries : tie.Need-slice_bounds-with_entries-end-2
 slice-aggregate-with-entries c =
-    let gathered = c.before.before.before.before in
+    let gathered = c.before.before.before in
     let tested = before-gathering gathered in
     let s = products tested in
-    simp length-take (omega (arith, gathered.gather_without.auto.0, (start tested).pre.1))
+    simp length-take (omega (arith, gathered.gather_without.auto.room, (start tested).requires.1))
 
 with-entries-requires : tie.Need-with_entries-requires
 with-entries-requires c κs =
-    let gathered = c.before.before.before.before in
+    let gathered = c.before.before.before in
     let tested = before-gathering gathered in
-    one_less _ (counted tested) (omega (arith, gathered.gather_without.auto.0, (start tested).pre.1))
+    one_less _ (counted tested) (omega (arith, gathered.gather_without.auto.room, (start tested).requires.1))
 
 same-length-2 : tie.Need-shape_of-index-then-fewer-eq0
 same-length-2 c = search rules
@@ -87,7 +87,7 @@ returns-2 c =
     let written = c.before.before.before in
     let gathered = before-writing written in
     let tested = before-gathering gathered in
-    let fewer = without-read _ (counted tested) (inside tested) (start tested).pre.1 gathered.gather_without.ensures in
+    let fewer = without-read _ (counted tested) (inside tested) (start tested).requires.1 gathered.gather_without.ensures in
     takes-last _ _ _ _ tested.entry_count-count.ensures (inside tested) fewer written.with_entries.ensures c.if-fewer-eq0.true
 
 same-length-4 : tie.Need-shape_of-index
@@ -101,7 +101,7 @@ returns-3 c =
     let written = c.before.before.before in
     let gathered = before-writing written in
     let tested = before-gathering gathered in
-    let fewer = without-read _ (counted tested) (inside tested) (start tested).pre.1 gathered.gather_without.ensures in
+    let fewer = without-read _ (counted tested) (inside tested) (start tested).requires.1 gathered.gather_without.ensures in
     takes_one _ _ _ _ tested.entry_count-count.ensures (inside tested) fewer written.with_entries.ensures c.if-fewer-eq0.false
 
 pub take_out_spec : {M : Type 1} → statement M

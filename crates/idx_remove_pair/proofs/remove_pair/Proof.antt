@@ -8,7 +8,7 @@ use Rattle.idx_remove_pair.proofs.remove_pair.Tie as tie
 
 -- the places: the call's start, from where the root is known; that place, from where the pair is removed under the root
 abbrev start : tie.After-root-root → tie.Start
-start c = c.before.before.before.before-UNKNOWN
+start c = c.before.before.before
 
 abbrev at-root-known : tie.After-remove_under-below → tie.After-root-root
 at-root-known c = c.before.before.before
@@ -26,12 +26,12 @@ slice-aggregate-remove-under c = search rules
 remove-under-requires : tie.Need-remove_under-below-requires
 remove-under-requires c κs =
     let at-start = start c.before.before in
-    (omega (arith, at-start.pre.1, (header at-start).key-high), search rules)
+    (omega (arith, at-start.requires.1, (header at-start).key-high), search rules)
 
 at-root-requires : tie.Need-at_root-requires
 at-root-requires c κs =
     let below = c.remove_under-below in
-    rw below.auto.0 (emptied-fits _ _ _ _ _ below.result below.ensures)
+    rw below.auto.index (emptied-fits _ _ _ _ _ below.result below.ensures)
 
 same_length : tie.Need-shape_of-index
 same_length c = search rules
@@ -42,7 +42,7 @@ returns c =
     let below = finished.before.before.before.before.before in
     let root = at-root-known below in
     let at-start = start root in
-    pair_removed _ at-start.args.key.now at-start.args.number.0 at-start.pre.1 root.root-root.ensures
+    pair_removed _ at-start.args.key.now at-start.args.number.0 at-start.requires.1 root.root-root.ensures
     below.remove_under-below.ensures finished.at_root.ensures
 
 pub remove_pair_spec : {M : Type 1} → statement M

@@ -42,7 +42,7 @@ add-first-up-to : tie.Need-overflow_add-i-in-loop-i invariant-loop decreases-loo
 add-first-up-to c = search rules
 
 first-up-to-requires : tie.Need-first_up_to-requires invariant-loop decreases-loop
-first-up-to-requires c κs = within-entry (c.loop-i.i + 1) (listed-within (start c.before).pre.0) c.loop-i-test.true
+first-up-to-requires c κs = within-entry (c.loop-i.i + 1) (listed-within (start c.before).requires.0) c.loop-i-test.true
 
 returns : tie.Need-returns-then-not-first_up_to invariant-loop decreases-loop
 returns c =

@@ -15,7 +15,7 @@ use Rattle.idx_route.specs.Route.{first_up_to}
 use Rattle.idx_leaf.specs.Given.{Listed}
 use Rattle.idx_leaf.specs.EntryLaws.{item_at, listed-within}
 use Rattle.idx_leaf.specs.SearchLaws.{counted-some}
-use Rattle.idx_route.specs.RouteLaws.{first-end, first-none, first_leaf, first-upper}
+use Rattle.idx_route.specs.RouteLaws.{first-end, first-none, first_leaf_lem, first-upper}
 use Rattle.idx_route.proofs.first_up_to.Statement.{statement}
 use Rattle.idx_route.proofs.first_up_to.Tie as tie
 
@@ -89,8 +89,8 @@ returns-2 c =
     let count = inside.before in
     let loop = at-loop count in
     c.pair_up_to.ensures
-    ∙ first_leaf (start loop).args.index.now (pair loop) _ _ _ count.child-child.ensures (counted inside) inside.if-entry_count-eq0.false _ (left-some count)
-    (rw head.at-head.ensures.0 at (sym leaf.is_IsLeaf.ensures ∙ leaf.if-is_leaf.true))
+    ∙ first_leaf_lem (start loop).args.index.now (pair loop) _ _ _ count.child-child.ensures (counted inside) inside.if-entry_count-eq0.false _ (left-some count)
+    (rw head.at-head.ensures.0 at (sym leaf.is_leaf.ensures ∙ leaf.if-is_leaf.true))
     ∙ sym loop.loop-left.invariant.2
 
 sub-left : tie.Need-overflow_sub-left invariant-loop decreases-loop
@@ -109,7 +109,7 @@ loop-again c =
       search rules,
       loop.loop-left.invariant.2
           ∙ sym (first-upper (start loop).args.index.now (pair loop) _ _ _ count.child-child.ensures (counted inside) inside.if-entry_count-eq0.false _
-          (left-some count) (rw head.at-head.ensures.0 at (sym c.is_IsLeaf.ensures ∙ c.if-is_leaf.false))),
+          (left-some count) (rw head.at-head.ensures.0 at (sym c.is_leaf.ensures ∙ c.if-is_leaf.false))),
     )
 
 key-up-to-requires-2 : tie.Need-key_up_to-requires-2 invariant-loop decreases-loop

@@ -33,7 +33,7 @@ is-leaf-requires c κs = search rules
 returns-2 : tie.Need-returns-then-is_leaf
 returns-2 c =
     let head = c.before.before in
-    visit-leaf _ _ _ (page head.before) head.at-head.ensures.0 (sym c.is_IsLeaf.ensures ∙ c.if-is_leaf.true)
+    visit-leaf _ _ _ (page head.before) head.at-head.ensures.0 (sym c.is_leaf.ensures ∙ c.if-is_leaf.true)
 
 chosen-entry-requires : tie.Need-chosen_entry-i-requires
 chosen-entry-requires c κs =
@@ -48,7 +48,7 @@ returns-3 c =
     let chosen = c.before in
     let upper = chosen.before in
     let head = upper.before.before in
-    visit-child _ _ _ (page head.before) head.at-head.ensures.0 (sym upper.is_IsLeaf.ensures ∙ upper.if-is_leaf.false) chosen.chosen_entry-i.ensures
+    visit-child _ _ _ (page head.before) head.at-head.ensures.0 (sym upper.is_leaf.ensures ∙ upper.if-is_leaf.false) chosen.chosen_entry-i.ensures
     c.child_of.ensures
 
 pub visit_page_spec : {M : Type 1} → statement M

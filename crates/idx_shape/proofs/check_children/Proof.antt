@@ -58,13 +58,13 @@ returns c =
     let loop = head.loop-entry in
     let s = progress_of loop.t in
     let bad = page-refused _ _ _ _ _ s loop.invariant.1 (failed fit.page_fits.ensures unfit.if-not-page_fits.true-raw) in
-    children_stop _ _ _ _ _ _ loop.entry _ s loop.invariant.2 (start head).pre.1 _ turn.loop-entry-test.true (past-child fit).child-child.ensures bad
+    children_stop _ _ _ _ _ _ loop.entry _ s loop.invariant.2 (start head).requires.1 _ turn.loop-entry-test.true (past-child fit).child-child.ensures bad
     ∙ ap progress_of (sym c.refused.ensures)
 
 meet-page-requires : tie.Need-meet_page-t-requires invariant-loop decreases-loop
 meet-page-requires c κs =
     let fit = c.before in
-    fits-within _ _ _ _ _ _ _ (passed fit.page_fits.ensures c.if-not-page_fits.false-raw) (start (in-loop fit).before).pre.0
+    fits-within _ _ _ _ _ _ _ (passed fit.page_fits.ensures c.if-not-page_fits.false-raw) (start (in-loop fit).before).requires.0
 
 add-entry : tie.Need-overflow_add-entry invariant-loop decreases-loop
 add-entry c = search rules

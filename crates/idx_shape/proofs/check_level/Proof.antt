@@ -72,7 +72,7 @@ returns-2 c =
 check-children-requires : tie.Need-check_children-t-requires invariant-loop decreases-loop
 check-children-requires c κs =
     let found = entries c.before.before in
-    ((start (at-loop found.before)).pre.0, found.entry_count-count.ensures, not-false _ c.if-not-t.false)
+    ((start (at-loop found.before)).requires.0, found.entry_count-count.ensures, not-false _ c.if-not-t.false)
 
 returns-3 : tie.Need-returns-then-not-t-2 invariant-loop decreases-loop
 returns-3 c =
@@ -89,8 +89,8 @@ returns-3 c =
 at-requires : tie.Need-at-head-requires invariant-loop decreases-loop
 at-requires c κs =
     let page = (entries (counted c.before.before)).before in
-    let o = is-page _ _ (inside page.before) in
-    let f = (start (at-loop page.before)).pre.0 in
+    let o = is-page _ _ (inside page) in
+    let f = (start (at-loop page)).requires.0 in
     omega arith
 
 sub-left : tie.Need-overflow_sub-left invariant-loop decreases-loop
@@ -111,7 +111,7 @@ loop-again c =
     let more = page.loop-left-test.true in (
       search rules,
       not-false _ good.if-not-t-2.false,
-      pages-on _ _ _ _ _ loop.parent-1.0 loop.left _ (progress_of loop.t) loop.invariant.2 (λ z. omega (arith, more, z)) (inside page) _
+      pages-on _ _ _ _ _ loop.parent.0 loop.left _ (progress_of loop.t) loop.invariant.2 (λ z. omega (arith, more, z)) (inside page) _
           found.entry_count-count.ensures (progress_of count.count_pages-t.result) count.count_pages-t.ensures _ _ read.at-head.ensures.1.1.1
           done.check_children-t.ensures,
     )

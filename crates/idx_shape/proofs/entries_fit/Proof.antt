@@ -11,7 +11,7 @@ is-leaf-requires : tie.Need-is_leaf-requires
 is-leaf-requires c κs = search rules
 
 returns : tie.Need-returns-then-not-is_leaf
-returns c = entries-upper _ _ _ _ _ _ (failed c.is_IsLeaf.ensures c.if-not-is_leaf.true-raw)
+returns c = entries-upper _ _ _ _ _ _ (failed c.is_leaf.ensures c.if-not-is_leaf.true-raw)
 
 last-key-requires : tie.Need-last_key-prior-requires
 last-key-requires c κs = search rules
@@ -27,7 +27,7 @@ returns-2 c =
     let last = c.before in
     let tested = last.before in
     let start = tested.before.before.before in
-    entries-leaf _ _ _ _ _ _ _ _ _ start.requires.1 (passed tested.is_IsLeaf.ensures tested.if-not-is_leaf.false-raw) last.last_key-prior.ensures.2
+    entries-leaf _ _ _ _ _ _ _ _ _ start.requires.1 (passed tested.is_leaf.ensures tested.if-not-is_leaf.false-raw) last.last_key-prior.ensures.2
     c.leaf_entries.ensures
 
 pub entries_fit_spec : {M : Type 1} → statement M

@@ -51,7 +51,7 @@ returns-2 c =
     let loop = head.loop-left in
     let next = second head in
     let tested = next.before.before in
-    top-on _ _ _ _ _ (rooted tested).root_level-top.ensures (not-false _ tested.if-not-top.left) _ _ next.next_level-level.ensures
+    top-on _ _ _ _ _ (rooted tested).root_level-top.ensures (not-false _ tested.if-not-top.false-raw) _ _ next.next_level-level.ensures
     (levels_stop _ _ _ _ loop.left _ (level_of loop.level) loop.invariant.1 (not-true _ c.if-not-level.true-raw))
 
 next-level-requires-2 : tie.Need-next_level-level-requires-in-loop-left invariant-loop decreases-loop
@@ -80,7 +80,7 @@ returns-3 c =
     let loop = head.loop-left in
     let next = second head in
     let tested = next.before.before in
-    top-on _ _ _ _ _ (rooted tested).root_level-top.ensures (not-false _ tested.if-not-top.left) _ _ next.next_level-level.ensures
+    top-on _ _ _ _ _ (rooted tested).root_level-top.ensures (not-false _ tested.if-not-top.false-raw) _ _ next.next_level-level.ensures
     (levels-end _ _ _ _ loop.left _ (level_of loop.level) loop.invariant.1 (search rules))
 
 pub levels_spec : {M : Type 1} → statement M

@@ -17,7 +17,7 @@ returns : tie.Need-returns
 returns c =
     let sized = c.before.before in
     let named = sized.before.before.before.before in
-    supply-put _ _ named.set_Free.ensures sized.set_file_end.ensures
+    supply-put _ _ named.set_free.ensures sized.set_file_end.ensures
 
 pub set_supply_spec : {M : Type 1} → statement M
 set_supply_spec = tie.close (tie.spec set-free-requires set-file-end-requires same_length returns)

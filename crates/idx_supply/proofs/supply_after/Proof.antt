@@ -35,8 +35,8 @@ loop-again c =
     let loop = taken.loop-i in
     let args = taken.args in (
       search rules,
-      rw taken.take_page-taken.ensures (taken_lasts _ _ loop.rest-1 (omega (arith, loop.invariant.1, taken.loop-i-test.true))),
-      rw taken.take_page-taken.ensures (loop.invariant.2 ∙ after_on args.count loop.i args.index.now loop.rest-1 taken.loop-i-test.true),
+      rw taken.take_page-taken.ensures (taken_lasts _ _ loop.rest (omega (arith, loop.invariant.1, taken.loop-i-test.true))),
+      rw taken.take_page-taken.ensures (loop.invariant.2 ∙ after_on args.count loop.i args.index.now loop.rest taken.loop-i-test.true),
     )
 
 returns : tie.Need-returns invariant-loop decreases-loop

@@ -37,7 +37,7 @@ loop-holds : tie.Need-loop-i-init invariant-loop decreases-loop
 loop-holds c = (search rules, rw sub-zero)
 
 compare-entry-requires : tie.Need-compare_entry-order-requires invariant-loop decreases-loop
-compare-entry-requires c κs = (within-fewer _ (start c.before).pre.0 (omega arith), (start c.before).pre.1)
+compare-entry-requires c κs = (within-fewer _ (start c.before).requires.0 (omega arith), (start c.before).requires.1)
 
 is-below-requires : tie.Need-is_below-requires invariant-loop decreases-loop
 is-below-requires c κs = search rules

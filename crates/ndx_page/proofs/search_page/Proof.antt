@@ -35,7 +35,7 @@ room : (c : tie.Else-reach-count) → (found c).first_at_or_above-reach.result.e
 room c = let bound = (found c).first_at_or_above-reach.ensures.1 in omega (arith, bound, c.if-reach-count.false)
 
 leaf : (c : tie.Else-not-is_leaf) → let args = (start c.before.before).args in is_leaf args.index.now args.page.0 ≡ true
-leaf c = passed c.is_IsLeaf.ensures c.if-not-is_leaf.false-raw
+leaf c = passed c.is_leaf.ensures c.if-not-is_leaf.false-raw
 
 key-count-requires : tie.Need-key_count-count-requires
 key-count-requires c κs = search rules
@@ -52,7 +52,7 @@ lower-requires c κs = inside c.before.before _ (omega arith)
 returns : tie.Need-returns-then-not-is_leaf
 returns c =
     let at_leaf = c.before.before in
-    says_child (searched at_leaf.before) c.lower.result.0 (failed at_leaf.is_IsLeaf.ensures c.if-not-is_leaf.true-raw) c.lower.ensures
+    says_child (searched at_leaf.before) c.lower.result.0 (failed at_leaf.is_leaf.ensures c.if-not-is_leaf.true-raw) c.lower.ensures
 
 returns-2 : tie.Need-returns-then-reach-count
 returns-2 c = says_none (searched c.before.before.before.before) (leaf c.before.before) c.if-reach-count.true

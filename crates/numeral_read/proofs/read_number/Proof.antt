@@ -67,4 +67,5 @@ returns-2 c =
 pub read_number_spec : {M : Type 1} → statement M
 read_number_spec =
     tie.close
-    (tie.spec invariant-loop decreases-loop format-good-requires returns new-requires loop-holds shared-slice-read-if2 shared-slice-read-take take-requires add-i loop-less loop-again take-rest-requires finish-requires returns-2)
+    (tie.spec invariant-loop decreases-loop format-good-requires returns new-requires loop-holds shared-slice-read-if2 shared-slice-read-take take-requires
+    add-i loop-less loop-again take-rest-requires finish-requires returns-2)

@@ -18,7 +18,7 @@ returns-2 : tie.Need-returns-then-n-lt-PAST_DIGITS
 unfolding settled
 returns-2 c =
     let value = c.signed_value in
-    rw (c.if-complete-negative.false, lt-ltb _ _ c.if-n-lt-PAST_DIGITS.true, to_z-of_z w64 value.result (sfits_of value.type-inv), value.ensures)
+    rw (c.if-complete-negative.false, lt-ltb _ _ c.if-n-lt-PAST_DIGITS.true, to_z-of_z w64 value.result (sfits_of value.type_inv), value.ensures)
 
 returns-3 : tie.Need-returns
 unfolding settled

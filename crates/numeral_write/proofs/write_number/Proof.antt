@@ -130,4 +130,6 @@ returns-4 c =
 pub write_number_spec : {M : Type 1} → statement M
 write_number_spec =
     tie.close
-    (tie.spec format-good-requires returns magnitude-requires returns-2 sign-length-requires whole-length-requires add-size fraction-length-requires add-size-2 returns-3 add-put-fraction add-put-fraction-2 put-fraction-requires add-put-digits put-digits-requires add-fill fill-requires fill-requires-2 same_length returns-4)
+    (tie.spec format-good-requires returns magnitude-requires returns-2 sign-length-requires whole-length-requires add-size fraction-length-requires
+    add-size-2 returns-3 add-put-fraction add-put-fraction-2 put-fraction-requires add-put-digits put-digits-requires add-fill fill-requires fill-requires-2
+    same_length returns-4)

@@ -33,14 +33,14 @@ loop-holds c = (omega arith, named_none _ _)
 
 has-name-requires : tie.Need-has_name-requires invariant-loop decreases-loop
 has-name-requires c κs =
-    let pre = (start c.before).pre in
+    let pre = (start c.before).requires in
     descriptor-inside _ (layout _ pre.0) _ (omega (arith, pre.1))
 
 cast-result : tie.Need-overflow_cast-result invariant-loop decreases-loop
-cast-result c = omega (arith, few _ (start c.before.before.before).pre)
+cast-result c = omega (arith, few _ (start c.before.before.before).requires)
 
 add-result : tie.Need-overflow_add-result invariant-loop decreases-loop
-add-result c = omega (arith, few _ (start c.before.before.before).pre)
+add-result c = omega (arith, few _ (start c.before.before.before).requires)
 
 returns : tie.Need-returns-then-has_name invariant-loop decreases-loop
 unfolding named_field
@@ -66,7 +66,7 @@ unfolding named_field
 returns-2 c =
     let at-loop = c.before in
     let from = start at-loop in
-    let end : at-loop.loop-j.j ≡ field_count from.args.table.now = omega (arith, from.pre.1) in
+    let end : at-loop.loop-j.j ≡ field_count from.args.table.now = omega (arith, from.requires.1) in
     sym (rw end at at-loop.loop-j.invariant.1)
 
 pub named_field_spec : {M : Type 1} → statement M

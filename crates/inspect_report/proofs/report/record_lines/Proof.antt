@@ -26,12 +26,12 @@ add-number c = search rules
 
 record-report-requires : tie.Need-record_report-problems-requires invariant-loop decreases-loop
 record-report-requires c κs =
-    let some = (layout _ (start c.before).pre.0).header.some in
+    let some = (layout _ (start c.before).requires.0).header.some in
     search rules
 
 add-problems : tie.Need-overflow_add-problems invariant-loop decreases-loop
 add-problems c =
-    let few = (layout _ (start c.before.before).pre.0).header.few in
+    let few = (layout _ (start c.before.before).requires.0).header.few in
     omega (arith, c.record_report-problems.ensures)
 
 loop-less : tie.Need-loop-number-smaller invariant-loop decreases-loop
@@ -39,7 +39,7 @@ loop-less c = search rules
 
 loop-again : tie.Need-loop-number-preserved invariant-loop decreases-loop
 loop-again c =
-    let few = (layout _ (start c.before.before).pre.0).header.few in
+    let few = (layout _ (start c.before.before).requires.0).header.few in
     (omega (arith, c.record_report-problems.ensures), omega arith)
 
 returns : tie.Need-returns invariant-loop decreases-loop

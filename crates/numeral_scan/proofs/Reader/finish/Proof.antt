@@ -72,4 +72,5 @@ returns-8 c = rw c.in-Bad.is
 pub finish_spec : {M : Type 1} → statement M
 finish_spec =
     tie.close
-    (tie.spec enum_told enum-told-2 enum-told-3 settle-requires enum-told-4 settle-requires-2 enum-known-p settle-requires-3 enum-told-5 enum-told-6 enum-told-7 returns returns-2 returns-3 returns-4 returns-5 returns-6 returns-7 returns-8)
+    (tie.spec enum_told enum-told-2 enum-told-3 settle-requires enum-told-4 settle-requires-2 enum-known-p settle-requires-3 enum-told-5 enum-told-6
+    enum-told-7 returns returns-2 returns-3 returns-4 returns-5 returns-6 returns-7 returns-8)

@@ -86,4 +86,6 @@ returns-8 c = c.in_phase-in-Bad.ensures ∙ rw c.refused_at.ensures (sym (step_i
 pub take_spec : {M : Type 1} → statement M
 take_spec =
     tie.close
-    (tie.spec enum_told after-blanks-requires enum-told-2 after-sign-requires enum-told-3 whole-end-requires in-phase-requires enum-told-4 after-whole-requires enum-known-p after-point-requires enum-known-p-2 after-dropped-requires enum-told-5 in-phase-requires-2 enum-told-6 refused-at-requires in-phase-requires-3 returns returns-2 returns-3 returns-4 returns-5 returns-6 returns-7 returns-8)
+    (tie.spec enum_told after-blanks-requires enum-told-2 after-sign-requires enum-told-3 whole-end-requires in-phase-requires enum-told-4
+    after-whole-requires enum-known-p after-point-requires enum-known-p-2 after-dropped-requires enum-told-5 in-phase-requires-2 enum-told-6
+    refused-at-requires in-phase-requires-3 returns returns-2 returns-3 returns-4 returns-5 returns-6 returns-7 returns-8)
