@@ -10,161 +10,183 @@
 
 use dilute_sheet::input::{Fault, Wrong};
 use dilute_sheet::tally::{Tally, Verdict};
-use libc::STDERR_FILENO;
+use std::io::Input;
+use std::rt::Files;
 
 // Four lines of ten digits have 44 bytes.
 const INPUT_ROOM: usize = 64;
 
-fn say(text: &[u8]) {
-    io::write_all(STDERR_FILENO, text);
+fn say(err: &impl Print, text: &[u8]) {
+    let _ = err.write_all(text);
 }
 
-fn say_number(number: u64) {
-    io::print_decimal(STDERR_FILENO, number);
+fn say_number(err: &impl Print, number: u64) {
+    let _ = err.print(number);
 }
 
 // Prints the whole output, and answers whether all of it was written. If not, that is the verdict.
-fn show(text: &[u8]) -> bool {
-    if lines::print_all(text) {
+fn show(out: &impl Print, err: &impl Print, text: &[u8]) -> bool {
+    if lines::print_all(out, text) {
         return true;
     }
-    say(b"dilute: the output could not be written\n");
+    say(err, b"dilute: the output could not be written\n");
     false
 }
 
 // Prints the line 40, and then the verdict.
-fn refuse_by(reason: &[u8]) {
-    if show(b"40\n") {
-        say(b"dilute: 40: ");
-        say(reason);
+fn refuse_by(out: &impl Print, err: &impl Print, reason: &[u8]) {
+    if show(out, err, b"40\n") {
+        say(err, b"dilute: 40: ");
+        say(err, reason);
     }
 }
 
-fn say_line(line: u32, what: &[u8]) {
-    say(b"line ");
-    say_number(line as u64);
-    say(b" of the numbers ");
-    say(what);
+fn say_line(err: &impl Print, line: u32, what: &[u8]) {
+    say(err, b"line ");
+    say_number(err, line as u64);
+    say(err, b" of the numbers ");
+    say(err, what);
 }
 
 // What is wrong with the numbers.
-fn say_fault(fault: Fault) {
+fn say_fault(err: &impl Print, fault: Fault) {
     let line = fault.line;
     let wrong = fault.wrong;
     match wrong {
-        Wrong::Missing => say_line(line, b"is missing: four lines are asked for\n"),
-        Wrong::TooLong => say_line(line, b"has more than 10 digits\n"),
-        Wrong::Unended => say_line(line, b"has no line feed at its end\n"),
+        Wrong::Missing => say_line(err, line, b"is missing: four lines are asked for\n"),
+        Wrong::TooLong => say_line(err, line, b"has more than 10 digits\n"),
+        Wrong::Unended => say_line(err, line, b"has no line feed at its end\n"),
         Wrong::CarriageReturn => say_line(
+            err,
             line,
             b"has a carriage return: it is to end with a line feed alone\n",
         ),
         Wrong::OtherByte => say_line(
+            err,
             line,
             b"has a byte that is no digit: no point, comma, sign or blank is taken\n",
         ),
-        Wrong::Empty => say_line(line, b"is empty\n"),
-        Wrong::More => say(b"there is something after the four lines of the numbers\n"),
-        Wrong::Nothing => say(b"the numbers can't be taken\n"),
+        Wrong::Empty => say_line(err, line, b"is empty\n"),
+        Wrong::More => say(
+            err,
+            b"there is something after the four lines of the numbers\n",
+        ),
+        Wrong::Nothing => say(err, b"the numbers can't be taken\n"),
     }
 }
 
 // The verdict on numbers that are refused. Of an input of more than 64 bytes the first 64 have the first fault, since four good lines have fewer.
-fn say_input(input: &[u8]) {
-    say(b"dilute: 40: ");
+fn say_input(err: &impl Print, input: &[u8]) {
+    say(err, b"dilute: 40: ");
     if input.len() == 0 {
-        say(b"there is nothing on standard input\n");
+        say(err, b"there is nothing on standard input\n");
         return;
     }
-    say_fault(dilute_sheet::input::input_fault(input));
+    say_fault(err, dilute_sheet::input::input_fault(input));
 }
 
-fn say_tally(tally: Tally, bytes: usize) {
-    say(b"dilute: ");
-    say_number(tally.lines as u64);
-    say(b" lines, ");
-    say_number(tally.refused as u64);
-    say(b" refused; ");
-    say_number(bytes as u64);
-    say(b" bytes\n");
+fn say_tally(err: &impl Print, tally: Tally, bytes: usize) {
+    say(err, b"dilute: ");
+    say_number(err, tally.lines as u64);
+    say(err, b" lines, ");
+    say_number(err, tally.refused as u64);
+    say(err, b" refused; ");
+    say_number(err, bytes as u64);
+    say(err, b" bytes\n");
 }
 
 // The verdict on a sheet whose only line is a refusal.
-fn say_alone(code: u32, input: &[u8]) {
+fn say_alone(err: &impl Print, code: u32, input: &[u8]) {
     if code == refusal::ARGUMENTS_OR_FILES {
-        say_input(input);
+        say_input(err, input);
         return;
     }
-    say(b"dilute: the whole sheet is refused by ");
-    say_number(code as u64);
-    say(b"\n");
+    say(err, b"dilute: the whole sheet is refused by ");
+    say_number(err, code as u64);
+    say(err, b"\n");
 }
 
 // Prints the sheet, and then the verdict. Its room is enough for the sheet of any table of 65,536 bytes.
-fn with_numbers(table: &[u8], index: &[u8], input: &[u8]) {
+fn with_numbers(rt: &impl Print, err: &impl Print, table: &[u8], index: &[u8], input: &[u8]) {
     let verdict = dilute_sheet::tally::sheet_verdict(table, index, input);
     let mut out = files::space();
     let end = dilute_sheet::sheet(table, index, input, &mut out);
-    if !show(&out[..end]) {
+    if !show(rt, err, &out[..end]) {
         return;
     }
     match verdict {
-        Verdict::Alone(code) => say_alone(code, input),
-        Verdict::Lines(tally) => say_tally(tally, end),
+        Verdict::Alone(code) => say_alone(err, code, input),
+        Verdict::Lines(tally) => say_tally(err, tally, end),
     }
 }
 
-fn with_files(table: &[u8], index: &[u8]) {
+fn with_files(rt: &(impl Input + Print), err: &impl Print, table: &[u8], index: &[u8]) {
     let mut input = [0u8; INPUT_ROOM];
-    let loaded = files::load_input(&mut input);
+    let loaded = files::load_input(rt, err, &mut input);
     let n = loaded.len;
     if loaded.whole {
-        with_numbers(table, index, &input[..n]);
+        with_numbers(rt, err, table, index, &input[..n]);
         return;
     }
     if n < INPUT_ROOM {
-        refuse_by(b"standard input can't be read\n");
+        refuse_by(rt, err, b"standard input can't be read\n");
         return;
     }
-    if show(b"40\n") {
-        say_input(&input[..n]);
+    if show(rt, err, b"40\n") {
+        say_input(err, &input[..n]);
     }
 }
 
-fn with_table(table: &[u8], index_path: &[u8]) {
-    let mut index = io::large_buffer();
-    let loaded = files::load(index_path, &mut index);
+fn with_table(
+    rt: &(impl Files + Input + Print),
+    err: &impl Print,
+    table: &[u8],
+    index_path: &[u8],
+) {
+    let mut index = [0u8; 65536];
+    let loaded = files::load(rt, err, index_path, &mut index);
     if !loaded.whole {
-        refuse_by(b"the index can't be read, or is too long\n");
+        refuse_by(rt, err, b"the index can't be read, or is too long\n");
         return;
     }
     let n = loaded.len;
-    with_files(table, &index[..n]);
+    with_files(rt, err, table, &index[..n]);
 }
 
-fn with_paths(table_path: &[u8], index_path: &[u8]) {
-    let mut table = io::large_buffer();
-    let loaded = files::load(table_path, &mut table);
+fn with_paths(
+    rt: &(impl Files + Input + Print),
+    err: &impl Print,
+    table_path: &[u8],
+    index_path: &[u8],
+) {
+    let mut table = [0u8; 65536];
+    let loaded = files::load(rt, err, table_path, &mut table);
     if !loaded.whole {
-        refuse_by(b"the table can't be read, or is too long\n");
+        refuse_by(rt, err, b"the table can't be read, or is too long\n");
         return;
     }
     let n = loaded.len;
-    with_table(&table[..n], index_path);
+    with_table(rt, err, &table[..n], index_path);
 }
 
 // An argument that does not fit its buffer comes as an empty word, which names no file. No file's name has more than 4,095 bytes.
-fn main() {
-    if os::arg_count() != 3 {
+fn main(rt: HostRuntime) {
+    let err = rt.stderr();
+    if files::word_count(&rt) != 3 {
         say(
+            &err,
             b"use: dilute TABLE INDEX, with barcode field, concentration field, target and final volume on four lines of standard input\n",
         );
-        refuse_by(b"two arguments are asked for, the table and the index\n");
+        refuse_by(
+            &rt,
+            &err,
+            b"two arguments are asked for, the table and the index\n",
+        );
         return;
     }
-    let mut table = io::buffer();
-    let mut index = io::buffer();
-    let a = os::arg(1, &mut table);
-    let b = os::arg(2, &mut index);
-    with_paths(&table[..a], &index[..b]);
+    let mut table = [0u8; 4096];
+    let mut index = [0u8; 4096];
+    let a = files::word(&rt, 1, &mut table);
+    let b = files::word(&rt, 2, &mut index);
+    with_paths(&rt, &err, &table[..a], &index[..b]);
 }

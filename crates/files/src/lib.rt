@@ -1,13 +1,14 @@
-// Whole files, and standard input. A file is read to the start of a buffer, or refused with a message on standard error that says why. `err` is what prints
+// Whole files, standard input, and the words that a program is called with. A file is read to the start of a buffer, or refused with a message on standard error that says why. `err` is what prints
 // there, as the standard error of the runtime that `main` is given.
 #![tactic(auto)]
 
 ghost use Rattle.std.specs.Prelude.{◌≡◌, length};
 ghost use Rattle.files.specs.Counts.{IsPrefixLen};
 
+use std::env::FillError;
 use std::fmt::InlineText;
 use std::io::{BufRead, Error, ErrorKind, Input, Read};
-use std::rt::Files;
+use std::rt::{Env, Files};
 use std::{fs, io, str};
 
 // Room for a file of 1,048,576 bytes. The `ensures` gives only the length: it is all that lending the array as a slice needs.
@@ -62,7 +63,7 @@ fn refuse_long(err: &impl Print, path: &[u8], room: usize) {
 }
 
 // Reads until the buffer is full, the input ends or a read fails, and answers how many bytes stand at the start of the buffer.
-fn read_full(input: &mut impl Read, buffer: &mut [u8]) -> usize
+pub fn read_full(input: &mut impl Read, buffer: &mut [u8]) -> usize
     ensures { IsPrefixLen result buffer.new }
 {
     let mut done = 0;
@@ -128,4 +129,23 @@ pub fn load_input(rt: &impl Input, err: &impl Print, buffer: &mut [u8]) -> Loade
     let len = read_full(&mut input, buffer);
     let whole = is_at_end(&mut input, err, b"standard input", buffer.len());
     Loaded { whole, len }
+}
+
+// How many words the program was called with, its own name first.
+pub fn word_count(rt: &impl Env) -> usize {
+    let mut none = [0u8; 1];
+    for i in 0..usize::MAX {
+        match rt.arg(i, &mut none) {
+            Err(FillError::NotPresent) => return i,
+            Ok(_) | Err(FillError::TooLong) => {}
+        }
+    }
+    usize::MAX
+}
+
+// Reads word i to the start of a buffer, and answers how many bytes it has. A word that is missing, or does not fit the buffer, is empty.
+pub fn word(rt: &impl Env, i: usize, buffer: &mut [u8]) -> usize
+    ensures { IsPrefixLen result buffer.new }
+{
+    rt.arg(i, buffer).unwrap_or(0)
 }

@@ -3,78 +3,92 @@
 #![tactic(auto)]
 
 use lines::print;
+use std::rt::Files;
 
 // Prints the sheet of the input in a file.
-fn run<'a>(table: &'a [u8], index: &'a [u8], input_path: &'a [u8]) {
+fn run<'a>(
+    rt: &(impl Files + Print),
+    err: &impl Print,
+    table: &'a [u8],
+    index: &'a [u8],
+    input_path: &'a [u8],
+) {
     let mut input = [0u8; 64];
-    let n = files::load(input_path, &mut input).len;
+    let n = files::load(rt, err, input_path, &mut input).len;
     let mut out = files::space();
     let end = dilute_sheet::sheet(table, index, &input[..n], &mut out);
-    print(&out[..end]);
+    print(rt, &out[..end]);
 }
 
-fn title(path: &[u8]) {
-    print(b"== ");
-    print(path);
-    print(b"\n");
+fn title(out: &impl Print, path: &[u8]) {
+    print(out, b"== ");
+    print(out, path);
+    print(out, b"\n");
 }
 
-fn titled<'a>(table: &'a [u8], index: &'a [u8], input_path: &'a [u8]) {
-    title(input_path);
-    run(table, index, input_path);
+fn titled<'a>(
+    rt: &(impl Files + Print),
+    err: &impl Print,
+    table: &'a [u8],
+    index: &'a [u8],
+    input_path: &'a [u8],
+) {
+    title(rt, input_path);
+    run(rt, err, table, index, input_path);
 }
 
-fn run_all<'a>(table: &'a [u8], index: &'a [u8]) {
-    titled(table, index, b"k11_01.in");
-    titled(table, index, b"k11_02.in");
-    titled(table, index, b"k11_03.in");
-    titled(table, index, b"k11_04.in");
-    titled(table, index, b"k11_05.in");
-    titled(table, index, b"k11_06.in");
-    titled(table, index, b"k11_07.in");
-    titled(table, index, b"k11_08.in");
-    titled(table, index, b"k11_09.in");
-    titled(table, index, b"k11_10.in");
-    titled(table, index, b"k11_11.in");
-    titled(table, index, b"k11_12.in");
-    titled(table, index, b"k11_13.in");
-    titled(table, index, b"k11_14.in");
-    titled(table, index, b"k11_15.in");
-    titled(table, index, b"k11_16.in");
-    titled(table, index, b"k11_17.in");
-    titled(table, index, b"k11_18.in");
-    titled(table, index, b"k11_19.in");
-    titled(table, index, b"k11_20.in");
-    titled(table, index, b"k11_21.in");
+fn run_all<'a>(rt: &(impl Files + Print), err: &impl Print, table: &'a [u8], index: &'a [u8]) {
+    titled(rt, err, table, index, b"k11_01.in");
+    titled(rt, err, table, index, b"k11_02.in");
+    titled(rt, err, table, index, b"k11_03.in");
+    titled(rt, err, table, index, b"k11_04.in");
+    titled(rt, err, table, index, b"k11_05.in");
+    titled(rt, err, table, index, b"k11_06.in");
+    titled(rt, err, table, index, b"k11_07.in");
+    titled(rt, err, table, index, b"k11_08.in");
+    titled(rt, err, table, index, b"k11_09.in");
+    titled(rt, err, table, index, b"k11_10.in");
+    titled(rt, err, table, index, b"k11_11.in");
+    titled(rt, err, table, index, b"k11_12.in");
+    titled(rt, err, table, index, b"k11_13.in");
+    titled(rt, err, table, index, b"k11_14.in");
+    titled(rt, err, table, index, b"k11_15.in");
+    titled(rt, err, table, index, b"k11_16.in");
+    titled(rt, err, table, index, b"k11_17.in");
+    titled(rt, err, table, index, b"k11_18.in");
+    titled(rt, err, table, index, b"k11_19.in");
+    titled(rt, err, table, index, b"k11_20.in");
+    titled(rt, err, table, index, b"k11_21.in");
 }
 
 // The incident's table, and the same table written with points, with one index on their barcodes.
-fn incident() {
-    let mut comma = io::large_buffer();
-    let mut point = io::large_buffer();
-    let mut index = io::large_buffer();
-    let a = files::load(b"shp_comma.dbf", &mut comma).len;
-    let b = files::load(b"shp_point.dbf", &mut point).len;
-    let c = files::load(b"shp_comma.idx", &mut index).len;
-    title(b"shp_comma.dbf");
-    run(&comma[..a], &index[..c], b"k11_01.in");
-    title(b"shp_point.dbf");
-    run(&point[..b], &index[..c], b"k11_01.in");
+fn incident(rt: &(impl Files + Print), err: &impl Print) {
+    let mut comma = [0u8; 65536];
+    let mut point = [0u8; 65536];
+    let mut index = [0u8; 65536];
+    let a = files::load(rt, err, b"shp_comma.dbf", &mut comma).len;
+    let b = files::load(rt, err, b"shp_point.dbf", &mut point).len;
+    let c = files::load(rt, err, b"shp_comma.idx", &mut index).len;
+    title(rt, b"shp_comma.dbf");
+    run(rt, err, &comma[..a], &index[..c], b"k11_01.in");
+    title(rt, b"shp_point.dbf");
+    run(rt, err, &point[..b], &index[..c], b"k11_01.in");
 }
 
-fn samples() {
-    let mut table = io::large_buffer();
-    let mut index = io::large_buffer();
-    let mut other = io::large_buffer();
-    let a = files::load(b"k11.dbf", &mut table).len;
-    let b = files::load(b"k11.idx", &mut index).len;
-    let c = files::load(b"k11_wrong.idx", &mut other).len;
-    run_all(&table[..a], &index[..b]);
-    title(b"k11_wrong.idx");
-    run(&table[..a], &other[..c], b"k11_01.in");
+fn samples(rt: &(impl Files + Print), err: &impl Print) {
+    let mut table = [0u8; 65536];
+    let mut index = [0u8; 65536];
+    let mut other = [0u8; 65536];
+    let a = files::load(rt, err, b"k11.dbf", &mut table).len;
+    let b = files::load(rt, err, b"k11.idx", &mut index).len;
+    let c = files::load(rt, err, b"k11_wrong.idx", &mut other).len;
+    run_all(rt, err, &table[..a], &index[..b]);
+    title(rt, b"k11_wrong.idx");
+    run(rt, err, &table[..a], &other[..c], b"k11_01.in");
 }
 
-fn main() {
-    samples();
-    incident();
+fn main(rt: HostRuntime) {
+    let err = rt.stderr();
+    samples(&rt, &err);
+    incident(&rt, &err);
 }

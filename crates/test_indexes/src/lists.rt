@@ -77,9 +77,9 @@ fn append_all(list: &mut [u8], text: &[u8]) -> usize
     at
 }
 
-fn print_part(n: u32) {
-    lines::print(b" ");
-    test_lines::print_number(n);
+fn print_part(out: &impl Print, n: u32) {
+    lines::print(out, b" ");
+    test_lines::print_number(out, n);
 }
 
 // What the written answers do not have: fresh's answer, how many calls were made, and the audit of the buffer after the last call.
@@ -91,51 +91,51 @@ struct Outcome {
 }
 
 // Prints answer n, from 0, of a lookup, an insertion or a removal.
-fn print_reply(kind: u8, answers: &[u8], n: usize, made: usize) {
+fn print_reply(out: &impl Print, kind: u8, answers: &[u8], n: usize, made: usize) {
     if made <= n {
-        lines::print(b" not made");
+        lines::print(out, b" not made");
         return;
     }
     if answers.len() / idx_batch::ANSWER_SIZE <= n {
-        lines::print(b" not written");
+        lines::print(out, b" not written");
         return;
     }
     let at = idx_batch::ANSWER_SIZE * n;
-    print_part(octets::load_le32(answers, at));
+    print_part(out, octets::load_le32(answers, at));
     if kind == b'l' {
-        print_part(octets::load_le32(answers, at + 4));
-        print_part(octets::load_le32(answers, at + 8));
+        print_part(out, octets::load_le32(answers, at + 4));
+        print_part(out, octets::load_le32(answers, at + 8));
     }
 }
 
 // Prints the answer of a line. n answers of calls are printed before it; the result is how many are printed then.
-fn print_line(line: &[u8], answers: &[u8], n: usize, o: Outcome) -> usize {
+fn print_line(out: &impl Print, line: &[u8], answers: &[u8], n: usize, o: Outcome) -> usize {
     if line.len() == 0 {
         return n;
     }
     let kind = line[0];
-    lines::print(test_lines::word(line));
+    lines::print(out, test_lines::word(line));
     if kind == b'f' {
-        print_part(o.fresh);
-        lines::print(b"\n");
+        print_part(out, o.fresh);
+        lines::print(out, b"\n");
         return n;
     }
     if kind == b'a' {
-        print_part(o.audit);
-        lines::print(b"\n");
+        print_part(out, o.audit);
+        lines::print(out, b"\n");
         return n;
     }
-    print_reply(kind, answers, n, o.made);
-    lines::print(b"\n");
+    print_reply(out, kind, answers, n, o.made);
+    lines::print(out, b"\n");
     std::num::wrapping_add_usize(n, 1)
 }
 
-fn print_answers(text: &[u8], answers: &[u8], o: Outcome) {
+fn print_answers(out: &impl Print, text: &[u8], answers: &[u8], o: Outcome) {
     let mut n = 0;
     let mut from = 0;
     while from < text.len() {
         let end = test_lines::find(text, from, b'\n');
-        n = print_line(&text[from..end], answers, n, o);
+        n = print_line(out, &text[from..end], answers, n, o);
         from = end + 1;
     }
 }
@@ -153,12 +153,12 @@ fn begins_with(index: &[u8], file: &[u8]) -> bool {
 }
 
 // Prints whether a buffer begins with the bytes of an index file.
-fn print_same(name: &[u8], index: &[u8], file: &[u8]) {
-    lines::print(name);
+fn print_same(out: &impl Print, name: &[u8], index: &[u8], file: &[u8]) {
+    lines::print(out, name);
     if begins_with(index, file) {
-        lines::print(b" same\n");
+        lines::print(out, b" same\n");
     } else {
-        lines::print(b" differs\n");
+        lines::print(out, b" differs\n");
     }
 }
 
@@ -170,7 +170,7 @@ fn run_list(text: &[u8], index: &mut [u8], answers: &mut [u8]) -> Outcome {
         test_lines::word(test_lines::after_word(head)),
         &mut expression,
     );
-    let mut list = io::large_buffer();
+    let mut list = [0u8; 65536];
     let n = append_all(&mut list, text);
     let k = test_lines::first_number(head);
     let batch = idx_batch::run_batch(index, k, 1, &expression[..e], &list[..n], answers);
@@ -183,7 +183,7 @@ fn run_list(text: &[u8], index: &mut [u8], answers: &mut [u8]) -> Outcome {
 
 // Makes the calls of a list without `f` on the index that a buffer holds, and writes the answers.
 fn make_calls(text: &[u8], index: &mut [u8], answers: &mut [u8]) -> Outcome {
-    let mut list = io::large_buffer();
+    let mut list = [0u8; 65536];
     let n = append_all(&mut list, text);
     let made = idx_batch::run_calls(index, &list[..n], answers);
     Outcome {
@@ -194,25 +194,25 @@ fn make_calls(text: &[u8], index: &mut [u8], answers: &mut [u8]) -> Outcome {
 }
 
 // Runs such a list, and prints the answers and whether the buffer begins with an index file's bytes.
-pub fn run_on_index(name: &[u8], text: &[u8], file: &[u8], index: &mut [u8]) {
-    let mut answers = io::large_buffer();
+pub fn run_on_index(out: &impl Print, name: &[u8], text: &[u8], file: &[u8], index: &mut [u8]) {
+    let mut answers = [0u8; 65536];
     let o = make_calls(text, index, &mut answers);
-    print_answers(text, &answers, o);
-    print_same(name, index, file);
+    print_answers(out, text, &answers, o);
+    print_same(out, name, index, file);
 }
 
 // Runs a list on a buffer, and prints the answers and whether the buffer begins with an index file's bytes.
-fn replay(name: &[u8], text: &[u8], file: &[u8], index: &mut [u8]) {
-    let mut answers = io::large_buffer();
+fn replay(out: &impl Print, name: &[u8], text: &[u8], file: &[u8], index: &mut [u8]) {
+    let mut answers = [0u8; 65536];
     let o = run_list(text, index, &mut answers);
-    print_answers(text, &answers, o);
-    print_same(name, index, file);
+    print_answers(out, text, &answers, o);
+    print_same(out, name, index, file);
 }
 
 // Runs a list on a buffer of `size` zeros, at most 65,536.
-pub fn run_on_zeros(name: &[u8], text: &[u8], file: &[u8], size: usize) {
-    let mut space = io::large_buffer();
+pub fn run_on_zeros(out: &impl Print, name: &[u8], text: &[u8], file: &[u8], size: usize) {
+    let mut space = [0u8; 65536];
     if size <= space.len() {
-        replay(name, text, file, &mut space[..size]);
+        replay(out, name, text, file, &mut space[..size]);
     }
 }

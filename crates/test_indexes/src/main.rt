@@ -6,6 +6,8 @@
 
 mod lists;
 
+use std::rt::Files;
+
 // Whether a line is an insertion that was accepted, `i KEY RECORD 0`.
 fn is_accepted(line: &[u8]) -> bool {
     if line.len() < 2 {
@@ -73,79 +75,122 @@ fn count_found(index: &[u8], calls: &[u8]) -> Tally {
     t
 }
 
-fn print_tally(t: Tally) {
-    lines::print(b" accepted ");
-    test_lines::print_number(t.accepted);
-    lines::print(b" found ");
-    test_lines::print_number(t.found);
-    lines::print(b"\n");
+fn print_tally(out: &impl Print, t: Tally) {
+    lines::print(out, b" accepted ");
+    test_lines::print_number(out, t.accepted);
+    lines::print(out, b" found ");
+    test_lines::print_number(out, t.found);
+    lines::print(out, b"\n");
 }
 
 // Prints the audit of an index file, and how many accepted keys of its list it has.
-fn print_index(name: &[u8], index: &[u8], calls: &[u8]) {
-    lines::print(name);
-    lines::print(b" audit ");
-    test_lines::print_number(idx_audit::audit(index));
-    print_tally(count_found(index, calls));
+fn print_index(out: &impl Print, name: &[u8], index: &[u8], calls: &[u8]) {
+    lines::print(out, name);
+    lines::print(out, b" audit ");
+    test_lines::print_number(out, idx_audit::audit(index));
+    print_tally(out, count_found(index, calls));
 }
 
 // Reads an index file and its list of calls, and prints all lines of the two. The list runs on a buffer of `size` zeros.
-fn run(name: &[u8], index_path: &[u8], calls_path: &[u8], size: usize) {
-    let mut index = io::large_buffer();
+fn run(
+    rt: &(impl Files + Print),
+    err: &impl Print,
+    name: &[u8],
+    index_path: &[u8],
+    calls_path: &[u8],
+    size: usize,
+) {
+    let mut index = [0u8; 65536];
     let mut calls = files::space();
-    let n = files::load(index_path, &mut index).len;
-    let m = files::load(calls_path, &mut calls).len;
-    print_index(name, &index[..n], &calls[..m]);
-    lists::run_on_zeros(name, &calls[..m], &index[..n], size);
+    let n = files::load(rt, err, index_path, &mut index).len;
+    let m = files::load(rt, err, calls_path, &mut calls).len;
+    print_index(rt, name, &index[..n], &calls[..m]);
+    lists::run_on_zeros(rt, name, &calls[..m], &index[..n], size);
 }
 
-fn print_audit(name: &[u8], index: &[u8]) {
-    lines::print(name);
-    lines::print(b" ");
-    test_lines::print_number(idx_audit::audit(index));
-    lines::print(b"\n");
+fn print_audit(out: &impl Print, name: &[u8], index: &[u8]) {
+    lines::print(out, name);
+    lines::print(out, b" ");
+    test_lines::print_number(out, idx_audit::audit(index));
+    lines::print(out, b"\n");
 }
 
 // Audits a copy of an index in which the byte at an offset has another value.
-fn damaged(name: &[u8], at: usize, value: u8) {
-    let mut index = io::large_buffer();
-    let n = files::load(b"k10_random.idx", &mut index).len;
+fn damaged(rt: &(impl Files + Print), err: &impl Print, name: &[u8], at: usize, value: u8) {
+    let mut index = [0u8; 65536];
+    let n = files::load(rt, err, b"k10_random.idx", &mut index).len;
     let whole = &mut index[..n];
     if at < whole.len() {
         whole[at] = value;
     }
-    print_audit(name, whole);
+    print_audit(rt, name, whole);
 }
 
 // Lists whose keys have 10 bytes.
-fn short_keys() {
+fn short_keys(rt: &(impl Files + Print), err: &impl Print) {
     run(
+        rt,
+        err,
         b"k10_ascending",
         b"k10_ascending.idx",
         b"k10_ascending.calls",
         32768,
     );
     run(
+        rt,
+        err,
         b"k10_descending",
         b"k10_descending.idx",
         b"k10_descending.calls",
         32768,
     );
-    run(b"k10_random", b"k10_random.idx", b"k10_random.calls", 32768);
+    run(
+        rt,
+        err,
+        b"k10_random",
+        b"k10_random.idx",
+        b"k10_random.calls",
+        32768,
+    );
 }
 
 // Lists whose keys have 46 or 100 bytes.
-fn long_keys() {
-    run(b"k46_mixed", b"k46_mixed.idx", b"k46_mixed.calls", 32768);
-    run(b"k100_deep", b"k100_deep.idx", b"k100_deep.calls", 65536);
-    run(b"k100_full", b"k100_full.idx", b"k100_full.calls", 4096);
+fn long_keys(rt: &(impl Files + Print), err: &impl Print) {
     run(
+        rt,
+        err,
+        b"k46_mixed",
+        b"k46_mixed.idx",
+        b"k46_mixed.calls",
+        32768,
+    );
+    run(
+        rt,
+        err,
+        b"k100_deep",
+        b"k100_deep.idx",
+        b"k100_deep.calls",
+        65536,
+    );
+    run(
+        rt,
+        err,
+        b"k100_full",
+        b"k100_full.idx",
+        b"k100_full.calls",
+        4096,
+    );
+    run(
+        rt,
+        err,
         b"k100_deep_raised",
         b"k100_deep_raised.idx",
         b"k100_deep_raised.calls",
         65536,
     );
     run(
+        rt,
+        err,
         b"k100_full_raised",
         b"k100_full_raised.idx",
         b"k100_full_raised.calls",
@@ -154,44 +199,61 @@ fn long_keys() {
 }
 
 // Audits an index file, and makes the calls of a list on it. The index file after the list is another.
-fn run_on_file(name: &[u8], index_path: &[u8], calls_path: &[u8], after_path: &[u8]) {
-    let mut index = io::large_buffer();
-    let mut calls = io::large_buffer();
-    let mut after = io::large_buffer();
-    files::load(index_path, &mut index);
-    let m = files::load(calls_path, &mut calls).len;
-    let n = files::load(after_path, &mut after).len;
-    print_audit(name, &index);
-    lists::run_on_index(name, &calls[..m], &after[..n], &mut index);
+fn run_on_file(
+    rt: &(impl Files + Print),
+    err: &impl Print,
+    name: &[u8],
+    index_path: &[u8],
+    calls_path: &[u8],
+    after_path: &[u8],
+) {
+    let mut index = [0u8; 65536];
+    let mut calls = [0u8; 65536];
+    let mut after = [0u8; 65536];
+    files::load(rt, err, index_path, &mut index);
+    let m = files::load(rt, err, calls_path, &mut calls).len;
+    let n = files::load(rt, err, after_path, &mut after).len;
+    print_audit(rt, name, &index);
+    lists::run_on_index(rt, name, &calls[..m], &after[..n], &mut index);
 }
 
 // Lists with removals. In k6_k10_to_nothing all keys go.
-fn removals() {
+fn removals(rt: &(impl Files + Print), err: &impl Print) {
     run(
+        rt,
+        err,
         b"k6_k10_mixed",
         b"k6_k10_mixed.idx",
         b"k6_k10_mixed.calls",
         32768,
     );
     run(
+        rt,
+        err,
         b"k6_k10_to_nothing",
         b"k6_k10_to_nothing.idx",
         b"k6_k10_to_nothing.calls",
         16384,
     );
     run(
+        rt,
+        err,
         b"k6_k1_bytes",
         b"k6_k1_bytes.idx",
         b"k6_k1_bytes.calls",
         8192,
     );
     run(
+        rt,
+        err,
         b"k6_k100_deep",
         b"k6_k100_deep.idx",
         b"k6_k100_deep.calls",
         65536,
     );
     run(
+        rt,
+        err,
         b"k6_k100_full",
         b"k6_k100_full.idx",
         b"k6_k100_full.calls",
@@ -200,8 +262,10 @@ fn removals() {
 }
 
 // An index of an earlier release, with control bytes in its keys.
-fn earlier_release() {
+fn earlier_release(rt: &(impl Files + Print), err: &impl Print) {
     run_on_file(
+        rt,
+        err,
         b"earlier",
         b"earlier.idx",
         b"earlier.calls",
@@ -210,20 +274,26 @@ fn earlier_release() {
 }
 
 // Indexes whose keys above pages are ceilings.
-fn ceilings() {
+fn ceilings(rt: &(impl Files + Print), err: &impl Print) {
     run_on_file(
+        rt,
+        err,
         b"ceilings_k10_struck",
         b"ceilings_k10_struck.idx",
         b"ceilings_k10_struck.calls",
         b"ceilings_k10_struck_after.idx",
     );
     run_on_file(
+        rt,
+        err,
         b"ceilings_k100_struck",
         b"ceilings_k100_struck.idx",
         b"ceilings_k100_struck.calls",
         b"ceilings_k100_struck_after.idx",
     );
     run_on_file(
+        rt,
+        err,
         b"ceilings_k100_inner_last_high",
         b"ceilings_k100_inner_last_high.idx",
         b"ceilings_k100_inner_last_high.calls",
@@ -232,28 +302,42 @@ fn ceilings() {
 }
 
 // Makes the calls of a list on an index that is not sound: no call changes it.
-fn run_on_broken(name: &[u8], index_path: &[u8], calls_path: &[u8]) {
-    run_on_file(name, index_path, calls_path, index_path);
+fn run_on_broken(
+    rt: &(impl Files + Print),
+    err: &impl Print,
+    name: &[u8],
+    index_path: &[u8],
+    calls_path: &[u8],
+) {
+    run_on_file(rt, err, name, index_path, calls_path, index_path);
 }
 
 // Indexes in which one key above a page breaks the rule by one.
-fn broken_ceilings() {
+fn broken_ceilings(rt: &(impl Files + Print), err: &impl Print) {
     run_on_broken(
+        rt,
+        err,
         b"ceilings_k10_too_low",
         b"ceilings_k10_too_low.idx",
         b"ceilings_k10_too_low.calls",
     );
     run_on_broken(
+        rt,
+        err,
         b"ceilings_k10_meets_next",
         b"ceilings_k10_meets_next.idx",
         b"ceilings_k10_meets_next.calls",
     );
     run_on_broken(
+        rt,
+        err,
         b"ceilings_k100_too_low",
         b"ceilings_k100_too_low.idx",
         b"ceilings_k100_too_low.calls",
     );
     run_on_broken(
+        rt,
+        err,
         b"ceilings_k100_meets_next",
         b"ceilings_k100_meets_next.idx",
         b"ceilings_k100_meets_next.calls",
@@ -261,36 +345,65 @@ fn broken_ceilings() {
 }
 
 // Lists written from document 01.
-fn paper_lists() {
-    run(b"paper_five", b"paper_five.idx", b"paper_five.calls", 2048);
-    run(b"paper_full", b"paper_full.idx", b"paper_full.calls", 1024);
+fn paper_lists(rt: &(impl Files + Print), err: &impl Print) {
+    run(
+        rt,
+        err,
+        b"paper_five",
+        b"paper_five.idx",
+        b"paper_five.calls",
+        2048,
+    );
+    run(
+        rt,
+        err,
+        b"paper_full",
+        b"paper_full.idx",
+        b"paper_full.calls",
+        1024,
+    );
 }
 
-fn damaged_headers() {
-    damaged(b"features 0", 14, 0);
-    damaged(b"features 2", 14, 2);
-    damaged(b"key length 101", 12, 101);
-    damaged(b"a file size that is no multiple of 512", 8, 1);
+fn damaged_headers(rt: &(impl Files + Print), err: &impl Print) {
+    damaged(rt, err, b"features 0", 14, 0);
+    damaged(rt, err, b"features 2", 14, 2);
+    damaged(rt, err, b"key length 101", 12, 101);
+    damaged(rt, err, b"a file size that is no multiple of 512", 8, 1);
 }
 
-fn damaged_pages() {
-    damaged(b"a root bit on another page", 512, 3);
-    damaged(b"a count of 65,314", 515, 255);
-    damaged(b"a left link to no neighbour", 517, 2);
-    damaged(b"a first key of 255", 524, 255);
-    damaged(b"another record number", 534, 1);
+fn damaged_pages(rt: &(impl Files + Print), err: &impl Print) {
+    damaged(rt, err, b"a root bit on another page", 512, 3);
+    damaged(rt, err, b"a count of 65,314", 515, 255);
+    damaged(rt, err, b"a left link to no neighbour", 517, 2);
+    damaged(rt, err, b"a first key of 255", 524, 255);
+    damaged(rt, err, b"another record number", 534, 1);
 }
 
-fn main() {
-    run(b"k1_bytes", b"k1_bytes.idx", b"k1_bytes.calls", 8192);
-    short_keys();
-    run(b"k5_control", b"k5_control.idx", b"k5_control.calls", 16384);
-    removals();
-    long_keys();
-    paper_lists();
-    earlier_release();
-    ceilings();
-    broken_ceilings();
-    damaged_headers();
-    damaged_pages();
+fn main(rt: HostRuntime) {
+    let err = rt.stderr();
+    run(
+        &rt,
+        &err,
+        b"k1_bytes",
+        b"k1_bytes.idx",
+        b"k1_bytes.calls",
+        8192,
+    );
+    short_keys(&rt, &err);
+    run(
+        &rt,
+        &err,
+        b"k5_control",
+        b"k5_control.idx",
+        b"k5_control.calls",
+        16384,
+    );
+    removals(&rt, &err);
+    long_keys(&rt, &err);
+    paper_lists(&rt, &err);
+    earlier_release(&rt, &err);
+    ceilings(&rt, &err);
+    broken_ceilings(&rt, &err);
+    damaged_headers(&rt, &err);
+    damaged_pages(&rt, &err);
 }

@@ -7,76 +7,74 @@
 
 ghost use Rattle.std.specs.Prelude.{◌≤◌};
 
-use libc::STDIN_FILENO;
-
-fn main() {
-    let mut space = io::large_buffer();
-    let n = io::read_full(STDIN_FILENO, &mut space);
-    run(&space[..n]);
+fn main(rt: HostRuntime) {
+    let mut space = [0u8; 65536];
+    let n = files::read_full(&mut rt.stdin(), &mut space);
+    run(&rt, &space[..n]);
 }
 
-fn run(input: &[u8]) {
+fn run(out: &impl Print, input: &[u8]) {
     let mut from = 0;
     while from < input.len() {
         let end = test_lines::find(input, from, b'\n');
-        line(&input[from..end]);
+        line(out, &input[from..end]);
         from = end + 1;
     }
 }
 
-fn line(s: &[u8]) {
+fn line(out: &impl Print, s: &[u8]) {
     if s.len() == 0 {
         return;
     }
     let rest = test_lines::after_word(s);
     if s[0] == b'n' {
-        number_line(rest);
+        number_line(out, rest);
         return;
     }
     if s[0] == b'd' {
-        date_line(rest);
+        date_line(out, rest);
         return;
     }
-    write_line(rest);
+    write_line(out, rest);
 }
 
-fn refused(code: u32) {
-    lines::print(b"refused ");
-    test_lines::print_number(code);
+fn refused(out: &impl Print, code: u32) {
+    lines::print(out, b"refused ");
+    test_lines::print_number(out, code);
 }
 
 // A value in decimal, by the library's own writer: 20 characters hold any value that it accepts.
-fn print_value(value: i64) {
+fn print_value(out: &impl Print, value: i64) {
     let mut text = [0u8; 20];
     numeral_write::write_number(&mut text, 0, value);
     let from = octets::padding(&text);
-    lines::print(&text[from..]);
+    lines::print(out, &text[from..]);
 }
 
-fn number_line(s: &[u8]) {
+fn number_line(out: &impl Print, s: &[u8]) {
     match numeral_read::read_number(test_lines::after_word(s), test_lines::first_number(s)) {
-        numeral::Number::Value(v) => print_value(v),
-        numeral::Number::Empty => lines::print(b"empty"),
-        numeral::Number::Refused(code) => refused(code),
+        numeral::Number::Value(v) => print_value(out, v),
+        numeral::Number::Empty => lines::print(out, b"empty"),
+        numeral::Number::Refused(code) => refused(out, code),
     }
-    lines::print(b"\n");
+    lines::print(out, b"\n");
 }
 
-fn date_line(s: &[u8]) {
+fn date_line(out: &impl Print, s: &[u8]) {
     match calendar::read_date(s) {
-        calendar::DateAnswer::Value(d) => print_date(d),
-        calendar::DateAnswer::Empty => lines::print(b"empty"),
-        calendar::DateAnswer::Refused(code) => refused(code),
+        calendar::DateAnswer::Value(d) => print_date(out, d),
+        calendar::DateAnswer::Empty => lines::print(out, b"empty"),
+        calendar::DateAnswer::Refused(code) => refused(out, code),
     }
-    lines::print(b"\n");
+    lines::print(out, b"\n");
 }
 
-fn print_date(d: calendar::Date) {
-    test_lines::print_number(d.year);
-    lines::print(b"-");
-    test_lines::print_number(d.month);
-    lines::print(b"-");
-    test_lines::print_number(d.day);
+fn print_date(out: &impl Print, d: calendar::Date) {
+    test_lines::print_number(out, d.year);
+    lines::print(out, b"-");
+    test_lines::print_number(out, d.month);
+    lines::print(out, b"-");
+    test_lines::print_number(out, d.day);
 }
 
 // A width that the buffer of `write_line` has: 24 is wider than any field.
@@ -87,24 +85,29 @@ fn at_most_24(width: usize) -> usize
 }
 
 // Writes a value into a field, and prints the answer and what the field holds then.
-fn write_field(field: &mut [u8], decimals: u32, value: i64) {
+fn write_field(out: &impl Print, field: &mut [u8], decimals: u32, value: i64) {
     match numeral_write::write_number(field, decimals, value) {
-        refusal::Change::Made => lines::print(b"written"),
-        refusal::Change::Refused(code) => refused(code),
+        refusal::Change::Made => lines::print(out, b"written"),
+        refusal::Change::Refused(code) => refused(out, code),
     }
-    lines::print(b" [");
-    lines::print(field);
-    lines::print(b"]\n");
+    lines::print(out, b" [");
+    lines::print(out, field);
+    lines::print(out, b"]\n");
 }
 
-fn write_line(s: &[u8]) {
+fn write_line(out: &impl Print, s: &[u8]) {
     let rest = test_lines::after_word(s);
     let numeral::Number::Value(value) = numeral_read::read_number(test_lines::after_word(rest), 0)
     else {
-        lines::print(b"?\n");
+        lines::print(out, b"?\n");
         return;
     };
     let width = at_most_24(test_lines::first_number(s) as usize);
     let mut field = [b'#'; 24];
-    write_field(&mut field[..width], test_lines::first_number(rest), value);
+    write_field(
+        out,
+        &mut field[..width],
+        test_lines::first_number(rest),
+        value,
+    );
 }

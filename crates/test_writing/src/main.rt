@@ -7,7 +7,7 @@ ghost use Rattle.dbf_create.specs.Laying.{room_length};
 
 use dbf_append::{Appended, Store};
 use dbf_field::FieldEntry;
-use libc::STDOUT_FILENO;
+use std::rt::Files;
 
 // The greatest buffer of the list.
 const ROOM: usize = 4096;
@@ -17,34 +17,34 @@ fn table_len(buffer: &[u8]) -> usize {
     std::num::wrapping_add_usize(dbf_append::table_extent(buffer).length, 1)
 }
 
-fn print_part(n: usize) {
-    lines::print(b" ");
-    io::print_decimal(STDOUT_FILENO, n as u64);
+fn print_part(out: &impl Print, n: usize) {
+    lines::print(out, b" ");
+    let _ = out.print(n);
 }
 
-fn print_store(store: Store) {
-    print_part(store.place);
-    print_part(store.length);
+fn print_store(out: &impl Print, store: Store) {
+    print_part(out, store.place);
+    print_part(out, store.length);
 }
 
-fn print_appended(done: Appended) {
-    print_part(done.refusal as usize);
+fn print_appended(out: &impl Print, done: Appended) {
+    print_part(out, done.refusal as usize);
     if done.refusal == 0 {
-        print_store(done.first);
-        print_store(done.second);
+        print_store(out, done.first);
+        print_store(out, done.second);
     }
-    lines::print(b"\n");
+    lines::print(out, b"\n");
 }
 
 // `RECORD ..`, with the table's length.
-fn append_line(buffer: &mut [u8], len: usize, line: &[u8]) {
+fn append_line(out: &impl Print, buffer: &mut [u8], len: usize, line: &[u8]) {
     let mut bytes = [0u8; 256];
     let n = test_lines::hex_bytes(test_lines::word(line), &mut bytes);
-    print_appended(dbf_append::append(buffer, len, &bytes[..n]));
+    print_appended(out, dbf_append::append(buffer, len, &bytes[..n]));
 }
 
 // `YEAR MONTH DAY ..`
-fn date_line(buffer: &mut [u8], len: usize, line: &[u8]) {
+fn date_line(out: &impl Print, buffer: &mut [u8], len: usize, line: &[u8]) {
     let month = test_lines::after_word(line);
     let day = test_lines::after_word(month);
     let answer = dbf_append::set_date(
@@ -54,54 +54,59 @@ fn date_line(buffer: &mut [u8], len: usize, line: &[u8]) {
         test_lines::first_number(month),
         test_lines::first_number(day),
     );
-    print_part(answer as usize);
-    lines::print(b"\n");
+    print_part(out, answer as usize);
+    lines::print(out, b"\n");
 }
 
-fn print_same(same: bool) {
+fn print_same(out: &impl Print, same: bool) {
     if same {
-        lines::print(b" same\n");
+        lines::print(out, b" same\n");
     } else {
-        lines::print(b" differs\n");
+        lines::print(out, b" differs\n");
     }
 }
 
 // `FILE LENGTH`: whether the table is the file.
-fn image_line(buffer: &[u8], len: usize, line: &[u8]) {
-    let mut file = io::large_buffer();
-    let n = files::load(test_lines::word(line), &mut file).len;
+fn image_line(rt: &(impl Files + Print), err: &impl Print, buffer: &[u8], len: usize, line: &[u8]) {
+    let mut file = [0u8; 65536];
+    let n = files::load(rt, err, test_lines::word(line), &mut file).len;
     if len != n {
-        print_same(false);
+        print_same(rt, false);
         return;
     }
     if buffer.len() < n {
-        print_same(false);
+        print_same(rt, false);
         return;
     }
     let order = octets::compare(&buffer[..n], &file[..n]);
-    print_same(octets::is_equal(order));
+    print_same(rt, octets::is_equal(order));
 }
 
 // A line on the buffer as the last accepted one left it.
-fn write_line(buffer: &mut [u8], line: &[u8]) {
+fn write_line(rt: &(impl Files + Print), err: &impl Print, buffer: &mut [u8], line: &[u8]) {
     let rest = test_lines::after_word(line);
     let kind = test_lines::word(line);
     let len = table_len(buffer);
-    lines::print(kind);
+    lines::print(rt, kind);
     if kind.len() == 4 {
-        date_line(buffer, len, rest);
+        date_line(rt, buffer, len, rest);
         return;
     }
     if kind.len() == 5 {
-        image_line(buffer, len, rest);
+        image_line(rt, err, buffer, len, rest);
         return;
     }
     if kind.len() == 6 {
-        append_line(buffer, len, rest);
+        append_line(rt, buffer, len, rest);
         return;
     }
     // `append_longer`
-    append_line(buffer, std::num::wrapping_add_usize(buffer.len(), 1), rest);
+    append_line(
+        rt,
+        buffer,
+        std::num::wrapping_add_usize(buffer.len(), 1),
+        rest,
+    );
 }
 
 // The fields of a `lay_out` line. The room takes the first 128 of them; `count` counts all.
@@ -184,14 +189,14 @@ fn lay_out(buffer: &mut [u8], line: &[u8]) -> u32 {
 }
 
 // Lays the line's table out in a buffer of its own and prints the answer. If it is 0, that buffer becomes the front of the list's, and is what is lent.
-fn laid_out(buffer: &mut [u8], room: usize, own: &mut [u8], line: &[u8]) -> usize
+fn laid_out(out: &impl Print, buffer: &mut [u8], room: usize, own: &mut [u8], line: &[u8]) -> usize
     requires { (room ≤ length buffer.old) × (length own.old ≤ length buffer.old) }
     ensures { result ≤ length buffer.new }
 {
     let answer = lay_out(own, line);
-    lines::print(b"lay_out");
-    print_part(answer as usize);
-    lines::print(b"\n");
+    lines::print(out, b"lay_out");
+    print_part(out, answer as usize);
+    lines::print(out, b"\n");
     if answer != 0 {
         return room;
     }
@@ -200,7 +205,7 @@ fn laid_out(buffer: &mut [u8], room: usize, own: &mut [u8], line: &[u8]) -> usiz
 }
 
 // `YEAR MONTH DAY ROOM ..`, on a buffer of ROOM bytes 0xEE. A ROOM above the list's buffer prints nothing.
-fn lay_out_line(buffer: &mut [u8], room: usize, line: &[u8]) -> usize
+fn lay_out_line(out: &impl Print, buffer: &mut [u8], room: usize, line: &[u8]) -> usize
     requires { room ≤ length buffer.old }
     ensures { result ≤ length buffer.new }
 {
@@ -213,11 +218,17 @@ fn lay_out_line(buffer: &mut [u8], room: usize, line: &[u8]) -> usize
         return room;
     }
     let mut own = [0xEEu8; ROOM];
-    laid_out(buffer, room, &mut own[..wanted], line)
+    laid_out(out, buffer, room, &mut own[..wanted], line)
 }
 
 // A line, and how many bytes of the buffer are lent after it.
-fn line(buffer: &mut [u8], room: usize, text: &[u8]) -> usize
+fn line(
+    rt: &(impl Files + Print),
+    err: &impl Print,
+    buffer: &mut [u8],
+    room: usize,
+    text: &[u8],
+) -> usize
     requires { room ≤ length buffer.old }
     ensures { result ≤ length buffer.new }
 {
@@ -225,9 +236,9 @@ fn line(buffer: &mut [u8], room: usize, text: &[u8]) -> usize
         return room;
     }
     if text[0] == b'l' {
-        return lay_out_line(buffer, room, test_lines::after_word(text));
+        return lay_out_line(rt, buffer, room, test_lines::after_word(text));
     }
-    write_line(&mut buffer[..room], text);
+    write_line(rt, err, &mut buffer[..room], text);
     room
 }
 
@@ -244,24 +255,25 @@ fn blank_colons(calls: &mut [u8]) {
     }
 }
 
-fn run(buffer: &mut [u8], calls: &[u8]) {
+fn run(rt: &(impl Files + Print), err: &impl Print, buffer: &mut [u8], calls: &[u8]) {
     let mut room = 0;
     let mut from = 0;
     while from < calls.len() {
         let end = test_lines::find(calls, from, b'\n');
-        room = line(buffer, room, &calls[from..end]);
+        room = line(rt, err, buffer, room, &calls[from..end]);
         from = end + 1;
     }
 }
 
-fn run_blanked(calls: &mut [u8]) {
+fn run_blanked(rt: &(impl Files + Print), err: &impl Print, calls: &mut [u8]) {
     blank_colons(calls);
     let mut buffer = [0u8; ROOM];
-    run(&mut buffer, calls);
+    run(rt, err, &mut buffer, calls);
 }
 
-fn main() {
-    let mut calls = io::large_buffer();
-    let n = files::load(b"k3_writing.calls", &mut calls).len;
-    run_blanked(&mut calls[..n]);
+fn main(rt: HostRuntime) {
+    let err = rt.stderr();
+    let mut calls = [0u8; 65536];
+    let n = files::load(&rt, &err, b"k3_writing.calls", &mut calls).len;
+    run_blanked(&rt, &err, &mut calls[..n]);
 }
