@@ -3,7 +3,7 @@ use Rattle.std.proofs.Common.{◌∙◌, ◌≡◌, ◌≤◌, ◌<◌, ap, sym,
 use Rattle.std.proofs.lemmas.List.{get_or_default}
 use Rattle.dbf_table.specs.Table.{max_fields}
 use Rattle.dbf_field.specs.Field.{no_entry}
-use Rattle.dbf_create.specs.CopyLaws.{copied_none, copied_more, count-within, named_more, lay_listed}
+use Rattle.dbf_create.proofs.CopyLaws.{copied_none, copied_more, count-within, named_more, lay_listed}
 use Rattle.gatherloom.proofs.gl_table_lay_out.Goals as goal
 
 -- src/lib.rt:352:5
