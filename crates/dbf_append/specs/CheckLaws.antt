@@ -19,7 +19,8 @@ use Rattle.numeral.specs.Reading.{read_number}
 use Rattle.fpt_memo.specs.Memo.{memo_number}
 use Rattle.dbf_cell.specs.Cell.{mark_good, logical_of}
 use Rattle.dbf_cell.specs.Codes.{number_refusal}
-use Rattle.dbf_table.specs.Table.{min_table, max_table, file_end, type_n, type_d, type_l, type_m, field_type, field_length, field_decimals, field_offset, field_count}
+use Rattle.dbf_table.specs.Table.{min_table, max_table, file_end, type_n, type_d, type_l, type_m, field_type, field_length, field_decimals, field_offset}
+use Rattle.dbf_table.specs.Table.{field_count}
 use Rattle.dbf_table.specs.Table.{first_year, storable_date}
 use Rattle.dbf_table.specs.Table.{header_length_of, record_length_of, record_count, records_end, size_good, table_checks, table_refusal, check_table}
 use Rattle.dbf_table.specs.TableLaws.{Layout, layout, table-numbered, good_check, good_then, refused_check}

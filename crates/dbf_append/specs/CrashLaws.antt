@@ -13,7 +13,8 @@ use Rattle.octets.specs.Bytes.{byte_at, le32, to_le32}
 use Rattle.octets.specs.Store.{put, window}
 use Rattle.octets.specs.StoreLaws.{length-put, get_or-put_low, get_or-put_high, put_splice, window-before, window-after, window-inside, window_same}
 use Rattle.octets.specs.NumberLaws.{length-to_le32}
-use Rattle.dbf_table.specs.Table.{min_table, max_table, file_end, header_length_of, record_length_of, record_count, records_end, size_good, date_good, table_refusal}
+use Rattle.dbf_table.specs.Table.{min_table, max_table, file_end, header_length_of, record_length_of, record_count, records_end, size_good, date_good}
+use Rattle.dbf_table.specs.Table.{table_refusal}
 use Rattle.dbf_table.specs.TableLaws.{layout}
 use Rattle.dbf_table.specs.RecordLaws.{records-next}
 use Rattle.dbf_append.specs.Append.{new_end, write, told, record_write, count_write}
@@ -205,7 +206,8 @@ module _ (b : List ℕ) (n : ℕ) (r : List ℕ) (a : Accepted b n r) where
       let whole : old ++ r ++ (file_end ∷ rest) ≡ image ++ rest = simp append_assoc in
       let long-enough : length image ≡ end + length r + 1 = omega (arith, old-length, length-append (old ++ r) (file_end ∷ []), length-append old r) in
       rw (new-end, both-made, whole)
-      (window-inside (image ++ rest) 4 (to_le32 (record_count old + 1)) 0 (end + length r + 1) (omega (arith, length-to_le32 (record_count old + 1), behind-eight))
+      (window-inside (image ++ rest) 4 (to_le32 (record_count old + 1)) 0 (end + length r + 1)
+      (omega (arith, length-to_le32 (record_count old + 1), behind-eight))
       ∙ rw (take_at image rest (end + length r + 1) long-enough))
 
   -- ---- what the host is told

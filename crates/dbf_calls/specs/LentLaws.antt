@@ -1,6 +1,7 @@
 -- Laws: the parts of the calls over lent structs; entry j of the field list is the answer by value for field j + 1. Assumes nothing.
 use Rattle.std.specs.Prelude.{ℕ, zero, suc, ◌+◌, ◌-◌, ◌≤◌, ◌<◌, ◌≡◌, refl, Bool, true, cond, List, [], ◌∷◌, length, get_or, set, replicate, eqb, leb}
-use Rattle.std.proofs.Common.{sym, ap, subst, ◌∙◌, ⊎_elim, eq-or-lt_of_le, le_of_suc-le-suc, not-suc-le-zero, add-one, arith, get_or-set_same, get_or-set_other, length-set, lit<, le-leb, leb-true, eqb-true, ne_eqb}
+use Rattle.std.proofs.Common.{sym, ap, subst, ◌∙◌, ⊎_elim, eq-or-lt_of_le, le_of_suc-le-suc, not-suc-le-zero, add-one, arith, get_or-set_same}
+use Rattle.std.proofs.Common.{get_or-set_other, length-set, lit<, le-leb, leb-true, eqb-true, ne_eqb}
 use Rattle.std.proofs.lemmas.Bool.{lt-leb}
 use Rattle.basis.specs.Tests.{either}
 use Rattle.refusal.specs.CheckLaws.{first-after, first-both, first-none}
@@ -189,7 +190,8 @@ unfolding lent_of
 lent_as walked number mark answer is = rw is
 
 -- a step of the skipping walk has all but the mark
-pub live_as : (b : List ℕ) (position : Position) (number : ℕ) (walked : Walked) (lent : LentStep) → walked ≡ live_step b position → lent ≡ lent_of walked number 0
+pub live_as : (b : List ℕ) (position : Position) (number : ℕ) (walked : Walked) (lent : LentStep) → walked ≡ live_step b position
+    → lent ≡ lent_of walked number 0
     → ◌≡◌ {A = LentLiveStep} (record { answer = lent.answer; position = lent.position; number = lent.number }) (live_of b position number)
 unfolding live_of lent_of
 live_as b position number walked lent e is = rw (is, e)

@@ -13,9 +13,9 @@ pub record Stores : Type 0 where
   pub second : Store
 
 abbrev pub stores : ℕ → ℕ → ℕ → ℕ → Stores
-stores record_place record_length_of count_place countLength = record {
-  first = record { place = record_place; length = record_length_of };
-  second = record { place = count_place; length = countLength };
+stores record_place record_length count_place count_length = record {
+  first = record { place = record_place; length = record_length };
+  second = record { place = count_place; length = count_length };
 }
 
 -- the buffer and the stores after an append

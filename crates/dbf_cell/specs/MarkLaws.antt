@@ -10,7 +10,8 @@ use Rattle.refusal.specs.Checks.{first_refusal}
 use Rattle.octets.specs.Store.{put}
 use Rattle.octets.specs.StoreLaws.{length-put, put_one, get_or-put_low, get_or-put_high, window-after}
 use Rattle.dbf_field.specs.Field.{number_good}
-use Rattle.dbf_table.specs.Table.{type_c, field_type, field_length, field_count, header_length_of, record_length_of, record_count, records_end, record_start, deletion_byte}
+use Rattle.dbf_table.specs.Table.{type_c, field_type, field_length, field_count, header_length_of, record_length_of, record_count, records_end, record_start}
+use Rattle.dbf_table.specs.Table.{deletion_byte}
 use Rattle.dbf_table.specs.Table.{table_checks, table_refusal}
 use Rattle.dbf_table.specs.TableLaws.{layout}
 use Rattle.dbf_table.specs.RecordLaws.{offset-positive, record_positive}
@@ -18,7 +19,8 @@ use Rattle.dbf_field.specs.FieldLaws.{place-good, number-range}
 use Rattle.fpt_memo.specs.Memo.{memo_text}
 use Rattle.fpt_memo.specs.declared.MemoPlace.{MemoPlace}
 use Rattle.fpt_memo.specs.declared.MemoPlace.TheVariants.{Text, Empty, Refused}
-use Rattle.dbf_cell.specs.Cell.{mark_good, cell_refusal, field_start, field_bytes, number_cell, date_cell, logical_cell, memo_part, text_at, text_cell, text_part}
+use Rattle.dbf_cell.specs.Cell.{mark_good, cell_refusal, field_start, field_bytes, number_cell, date_cell, logical_cell, memo_part, text_at, text_cell}
+use Rattle.dbf_cell.specs.Cell.{text_part}
 use Rattle.dbf_cell.specs.CellLaws.{cell_good}
 use Rattle.dbf_table.specs.HeaderLaws.{SameHeader, checks-same, count_same, fields-same, end_same, type-same, width_same, decimals-same, offset-same}
 use Rattle.dbf_cell.specs.declared.Reads.{Reads}

@@ -87,7 +87,8 @@ place-within b number field p good e =
     rw e (record { some = some; inside = omega arith })
 
 -- what a caller learns from the answer's case
-pub placed_at : (b : List ℕ) (number field : ℕ) (p : Place) → place_of b number field ≡ At p → (place_refusal b number field ≡ 0) × (p ≡ place_at b number field)
+pub placed_at : (b : List ℕ) (number field : ℕ) (p : Place) → place_of b number field ≡ At p
+    → (place_refusal b number field ≡ 0) × (p ≡ place_at b number field)
 unfolding place_of
 placed_at b number field p e =
     either (eqb (place_refusal b number field) 0)

@@ -102,7 +102,8 @@ covered_by b (suc n) k l =
 part_bytes_lem : (b : List ℕ) (at n : ℕ) → part_bytes b at (suc n) ≡ window b at 1 ++ field_parts b at n
 unfolding part_bytes part_of entry_of field_parts
 part_bytes_lem b at zero = rw (add-zero at) (sym (append-nil (window b at 1)))
-part_bytes_lem b at (suc n) = rw (part_bytes_lem b at n) (append_assoc (window b at 1) (field_parts b at n) (window b (at + field_offset b n) (field_length b n)))
+part_bytes_lem b at (suc n) =
+    rw (part_bytes_lem b at n) (append_assoc (window b at 1) (field_parts b at n) (window b (at + field_offset b n) (field_length b n)))
 
 part-some : (b : List ℕ) → Layout b → (i : ℕ) → i ≤ field_count b → 1 ≤ (part_of b i).size
 unfolding part_of entry_of

@@ -13,8 +13,8 @@ use Rattle.refusal.specs.CheckLaws.{first-same}
 use Rattle.fpt_memo.specs.Memo.{memo_text}
 use Rattle.fpt_memo.specs.declared.MemoPlace.{MemoPlace}
 use Rattle.fpt_memo.specs.declared.MemoPlace.TheVariants.{Text, Empty, Refused}
-use Rattle.dbf_table.specs.Table.{min_table, type_c, field_type, field_length, field_offset, field_count, header_length_of, record_count, records_end, record_start}
-use Rattle.dbf_table.specs.Table.{table_refusal}
+use Rattle.dbf_table.specs.Table.{min_table, type_c, field_type, field_length, field_offset, field_count, header_length_of, record_count, records_end}
+use Rattle.dbf_table.specs.Table.{record_start, table_refusal}
 use Rattle.dbf_table.specs.TableLaws.{HeaderFits, layout}
 use Rattle.dbf_table.specs.UnreadLaws as table
 use Rattle.dbf_table.specs.UnreadLaws.{SameElsewhere, records-behind}

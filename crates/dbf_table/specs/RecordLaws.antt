@@ -4,7 +4,8 @@ use Rattle.std.specs.Prelude.{ℕ, zero, suc, ◌+◌, ◌≤◌, ◌<◌, ◌�
 use Rattle.std.proofs.Common.{sym, ap, ◌∙◌, append_assoc, append-nil, mul-le-mul_right, add-mul, add-one, arith, take-add, drop-drop}
 use Rattle.octets.specs.Store.{window}
 use Rattle.dbf_table.specs.RangeLaws.{sum-none, sum_more, sum-within}
-use Rattle.dbf_table.specs.Table.{descriptor, field_length, field_offset, field_count, header_length_of, record_length_of, record_count, records_end, record_start}
+use Rattle.dbf_table.specs.Table.{descriptor, field_length, field_offset, field_count, header_length_of, record_length_of, record_count, records_end}
+use Rattle.dbf_table.specs.Table.{record_start}
 use Rattle.dbf_table.specs.TableLaws.{Layout}
 
 -- ---- fields in a record

@@ -8,7 +8,8 @@ use Rattle.refusal.specs.Checks.{first_refusal}
 use Rattle.refusal.specs.CheckLaws.{Numbered, first-none, first-after, first-before}
 use Rattle.octets.specs.Bytes.{byte_at}
 use Rattle.dbf_table.specs.RangeLaws.{all-at}
-use Rattle.dbf_table.specs.Table.{min_table, max_table, max_fields, max_record, file_end, table_kind, header_length_of, record_length_of, record_count, records_end}
+use Rattle.dbf_table.specs.Table.{min_table, max_table, max_fields, max_record, file_end, table_kind, header_length_of, record_length_of, record_count}
+use Rattle.dbf_table.specs.Table.{records_end}
 use Rattle.dbf_table.specs.Table.{field_count, field_offset, size_good, kind_good, header_good, descriptor_good, fields_good, record_length_good, length_good}
 use Rattle.dbf_table.specs.Table.{table_checks, table_refusal, shape_of, check_table}
 use Rattle.dbf_table.specs.declared.Shape.{Shape}

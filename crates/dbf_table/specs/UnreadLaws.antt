@@ -13,8 +13,10 @@ use Rattle.octets.specs.Bytes.{byte_at, le16, le32}
 use Rattle.octets.specs.Store.{window}
 use Rattle.octets.specs.StoreLaws.{get_d_window}
 use Rattle.dbf_table.specs.RangeLaws.{sum_same}
-use Rattle.dbf_table.specs.Table.{descriptor, field_type, field_length, field_decimals, field_offset, field_count, header_length_of, record_length_of, record_count}
-use Rattle.dbf_table.specs.Table.{records_end, record_start, deletion_byte, size_good, kind_good, date_good, header_good, length_good, table_checks, table_refusal}
+use Rattle.dbf_table.specs.Table.{descriptor, field_type, field_length, field_decimals, field_offset, field_count, header_length_of, record_length_of}
+use Rattle.dbf_table.specs.Table.{record_count}
+use Rattle.dbf_table.specs.Table.{records_end, record_start, deletion_byte, size_good, kind_good, date_good, header_good, length_good, table_checks}
+use Rattle.dbf_table.specs.Table.{table_refusal}
 use Rattle.dbf_table.specs.Table.{shape_of, check_table}
 use Rattle.dbf_table.specs.TableLaws.{HeaderFits, header-fits, layout}
 use Rattle.dbf_table.specs.SameForm as form

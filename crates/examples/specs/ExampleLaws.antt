@@ -17,7 +17,7 @@ use Rattle.idx_page.specs.Reading as pages
 use Rattle.idx_lookup.specs.Lookup as lookup
 use Rattle.idx_sound.specs.Sound.{Sound}
 use Rattle.idx_sound.specs.AuditTest as audit
-use Rattle.idx_sound.specs.Accepted.{accepted}
+use Rattle.idx_sound.proofs.Accepted.{accepted}
 use Rattle.idx_layout.specs.Layout as layout
 use Rattle.idx_entries.specs.Entries as entries
 use Rattle.idx_supply.specs.Supply as supply

@@ -32,10 +32,10 @@ use Rattle.idx_lookup.specs.declared.Answer.{Answer as Looked}
 use Rattle.idx_lookup.specs.declared.Answer.TheVariants as looked
 use Rattle.idx_lookup_laws.specs.FoundLaws.{answer_of}
 use Rattle.idx_lookup_laws.specs.HeldLaws.{goes_on_lem, lookup-by}
-use Rattle.idx_sound.specs.Accepted.{accepted as audit-accepts}
+use Rattle.idx_sound.proofs.Accepted.{accepted as audit-accepts}
 use Rattle.idx_sound.specs.Sound.{index_tree, kept_by, Sound, leaf_pairs}
 use Rattle.idx_sound.specs.AuditTest.{pages_good}
-use Rattle.idx_sound.specs.IndexLaws.{index_of, setting_of, sound-index, once-page}
+use Rattle.idx_sound.proofs.IndexLaws.{index_of, setting_of, sound-index, once-page}
 use Rattle.idx_insert.specs.Calls.{has_control, insert_checks, insert_rule}
 use Rattle.idx_insert_page.specs.Insertion.{inserted_buffer}
 use Rattle.idx_path.specs.Room.{path_to, no_room}

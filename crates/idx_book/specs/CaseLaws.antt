@@ -15,7 +15,7 @@ use Rattle.idx_page.specs.Header.{key_length, features, header_good}
 use Rattle.idx_page.specs.KeyOrder.{bytes_order}
 use Rattle.idx_sound.specs.Sound.{Sound}
 use Rattle.idx_sound.specs.AuditTest.{pages_good}
-use Rattle.idx_sound.specs.Accepted.{accepted as audit-accepts}
+use Rattle.idx_sound.proofs.Accepted.{accepted as audit-accepts}
 use Rattle.idx_path.specs.Room.{path_to}
 use Rattle.idx_insert_laws.specs.RoomLaws.{present_is}
 use Rattle.idx_book.specs.Book.{Pairs, leaf_pairs}

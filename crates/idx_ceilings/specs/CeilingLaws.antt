@@ -20,11 +20,11 @@ use Rattle.idx_page.specs.KeyOrder.{bytes_order}
 use Rattle.idx_page.specs.KeyOrderLaws.{below, at_or_above, equal-le}
 use Rattle.idx_page.specs.Page.{entry_offset, number_at}
 use Rattle.idx_page.specs.Reading.{entries_at}
-use Rattle.idx_page.specs.ReadingLaws.{entries_from, entries_are}
+use Rattle.idx_page.proofs.ReadingLaws.{entries_from, entries_are}
 use Rattle.idx_page.specs.Children.{first_child}
 use Rattle.idx_sound.specs.AuditTest as rule
 use Rattle.idx_sound.specs.AuditTest.{first_of, last_of, last_number, down, last_child, below_next, onward, upper_entries}
-use Rattle.idx_sound.specs.CeilingLaws.{onward-good, onward-bad}
+use Rattle.idx_sound.proofs.CeilingLaws.{onward-good, onward-bad}
 use Rattle.idx_keys.specs.Places.{key_from}
 use Rattle.idx_ceilings.specs.State.{upper_key}
 use Rattle.idx_keys.specs.EntryLaws.{from_on, from_end, some_key}

@@ -10,7 +10,7 @@ use Rattle.idx_page.specs.Page.{right_at}
 use Rattle.idx_page.specs.Reading.{entries_at}
 use Rattle.idx_page.specs.Children.{is_leaf, first_child}
 use Rattle.idx_sound.specs.AuditTest.{max_pages, Keys, chain, onward, height_of, upper_entries, upper_pages, upper_levels, keys_above_good}
-use Rattle.idx_sound.specs.CeilingLaws.{onward-good, onward-bad}
+use Rattle.idx_sound.proofs.CeilingLaws.{onward-good, onward-bad}
 use Rattle.idx_keys.specs.FileLaws.{chain-none, chain-some}
 
 module _ (b : List ℕ) (k size : ℕ) where

@@ -17,7 +17,7 @@ use Rattle.tree.specs.Tree.{Tree}
 use Rattle.idx_page.specs.Header.{no_page, is_page, free_good}
 use Rattle.idx_page.specs.HeaderLaws.{is-page}
 use Rattle.idx_page.specs.Page.{left_at}
-use Rattle.idx_page.specs.ReadingLaws.{window-window}
+use Rattle.idx_page.proofs.ReadingLaws.{window-window}
 use Rattle.idx_sound.specs.Sound.{zeros, FreePage}
 use Rattle.idx_layout_laws.specs.OtherPages.{SameButLeft}
 

@@ -24,10 +24,10 @@ use Rattle.idx_page.specs.Header.{root_offset, free_pointer, file_size, key_leng
 use Rattle.idx_page.specs.HeaderLaws.{is_page-from, good-header-from}
 use Rattle.idx_page.specs.Page.{attribute_at, count_at, left_at, right_at, root_bit, leaf_bit, capacity}
 use Rattle.idx_page.specs.Reading.{entries_at}
-use Rattle.idx_page.specs.ReadingLaws.{window-window}
+use Rattle.idx_page.proofs.ReadingLaws.{window-window}
 use Rattle.idx_layout.specs.WriteLaws.{capacity-least}
 use Rattle.idx_sound.specs.Sound.{index_tree, links_of, Sound}
-use Rattle.idx_sound.specs.IndexLaws.{index_of, setting_of, index-sound}
+use Rattle.idx_sound.proofs.IndexLaws.{index_of, setting_of, index-sound}
 use Rattle.idx_insert.specs.CallLaws.{expression-most, features-most}
 use Rattle.idx_insert.specs.Fresh.{max_expression, expression_good, features_good, fresh_header, fresh_buffer}
 use Rattle.idx_layout_laws.specs.EntryLaws.{entries_in, page-of, entries-new, length-new}

@@ -29,7 +29,7 @@ use Rattle.idx_page.specs.HeaderLaws.{is-page}
 use Rattle.idx_page.specs.KeyOrder.{bytes_order}
 use Rattle.idx_page.specs.Page.{attribute_at, count_at, left_at, right_at, capacity}
 use Rattle.idx_page.specs.Reading.{Item}
-use Rattle.idx_page.specs.ReadingLaws.{window_in_page}
+use Rattle.idx_page.proofs.ReadingLaws.{window_in_page}
 use Rattle.idx_supply.specs.declared.Supply.{Supply}
 use Rattle.idx_supply.specs.declared.Taken.{Taken}
 use Rattle.idx_supply.specs.Supply.{supply_of, take_page, with_supply}

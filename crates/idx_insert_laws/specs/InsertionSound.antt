@@ -34,10 +34,10 @@ use Rattle.idx_page.specs.HeaderLaws.{GoodHeader, is-page, good-header, good-hea
 use Rattle.idx_page.specs.KeyOrder.{bytes_order}
 use Rattle.idx_page.specs.Page.{attribute_at, count_at, left_at, right_at, root_bit, leaf_bit, capacity}
 use Rattle.idx_page.specs.Reading.{entries_at}
-use Rattle.idx_page.specs.ReadingLaws.{window-window}
+use Rattle.idx_page.proofs.ReadingLaws.{window-window}
 use Rattle.idx_layout.specs.WriteLaws.{capacity-least}
 use Rattle.idx_sound.specs.Sound.{index_tree, kept_by, links_of, FreePage, FreeList, Sound}
-use Rattle.idx_sound.specs.IndexLaws.{index_of, setting_of, sound-index, sound-linked, all-occ, once-page, index-sound}
+use Rattle.idx_sound.proofs.IndexLaws.{index_of, setting_of, sound-index, sound-linked, all-occ, once-page, index-sound}
 use Rattle.idx_insert_page.specs.Insertion.{inserted_buffer}
 use Rattle.idx_path.specs.Room.{path_to, no_room}
 use Rattle.idx_supply.specs.declared.Supply.{Supply}

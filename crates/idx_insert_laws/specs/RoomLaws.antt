@@ -31,7 +31,7 @@ use Rattle.idx_page.specs.ItemLaws.{present-numbered}
 use Rattle.idx_leaf.specs.Leaf.{items_in, stored, item_of}
 use Rattle.idx_route.specs.Route.{chosen_at, child_of}
 use Rattle.idx_sound.specs.Sound.{index_tree, kept_by, Sound, leaf_pairs}
-use Rattle.idx_sound.specs.IndexLaws.{index_of, setting_of, sound-index}
+use Rattle.idx_sound.proofs.IndexLaws.{index_of, setting_of, sound-index}
 use Rattle.idx_path.specs.declared.Path.{Path}
 use Rattle.idx_path.specs.Room.{on_top, path_from, path_to, no_room}
 use Rattle.idx_layout_laws.specs.EntryLaws.{entries_in}

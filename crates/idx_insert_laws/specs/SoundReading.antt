@@ -16,7 +16,7 @@ use Rattle.idx_page.specs.HeaderLaws.{is-page, is_page-from, good-header}
 use Rattle.idx_page.specs.Page.{attribute_at, leaf_bit, capacity}
 use Rattle.idx_page.specs.Reading.{items_at, entries_at}
 use Rattle.idx_sound.specs.Sound.{index_tree, Sound}
-use Rattle.idx_sound.specs.IndexLaws.{index_of, sound-sized, sound-index}
+use Rattle.idx_sound.proofs.IndexLaws.{index_of, sound-sized, sound-index}
 use Rattle.idx_layout_laws.specs.EntryLaws.{entries_in}
 use Rattle.idx_insert_laws.specs.Naming.{Usable, FreeGiven}
 use Rattle.idx_insert_laws.specs.ItemLists.{Shaped}

@@ -13,7 +13,7 @@ use Rattle.idx_page.specs.Page.{attribute_at, right_at, entries_start, entry_are
 use Rattle.idx_page.specs.Reading.{Item, items}
 use Rattle.idx_page.specs.PageLaws.{entries_fit, capacity-small}
 use Rattle.idx_page.specs.HeaderLaws.{is-page}
-use Rattle.idx_page.specs.ReadingLaws.{items_take}
+use Rattle.idx_page.proofs.ReadingLaws.{items_take}
 use Rattle.idx_layout.specs.Layout.{with_attribute, with_count, with_left, with_right, with_root, with_size, header_bytes}
 use Rattle.idx_layout.specs.Layout.{encode, area, with_entries, new_page, without_root, link_beyond, split_page}
 use Rattle.idx_layout.specs.Given.{Given, Over, room_size}

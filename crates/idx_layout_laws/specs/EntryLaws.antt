@@ -31,7 +31,7 @@ use Rattle.idx_page.specs.PageLaws.{entries_fit, entry-inside, entry-low, capaci
 use Rattle.idx_page.specs.HeaderLaws.{is-page}
 use Rattle.idx_page.specs.KeyOrder.{bytes_order}
 use Rattle.idx_page.specs.Reading.{Item, items, items_at, numbered}
-use Rattle.idx_page.specs.ReadingLaws.{read_count, items_take}
+use Rattle.idx_page.proofs.ReadingLaws.{read_count, items_take}
 use Rattle.idx_leaf.specs.Leaf.{items_in, item_of}
 use Rattle.idx_layout.specs.Layout.{encode, area, with_entries, new_page, without_root, link_beyond, split_page}
 use Rattle.idx_entries.specs.Entries.{replaced, raised}

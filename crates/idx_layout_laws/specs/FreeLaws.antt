@@ -14,7 +14,7 @@ use Rattle.tree.specs.Store.Steps.{write}
 use Rattle.idx_page.specs.Header.{page_size, free_place, size_place, free_pointer, is_page}
 use Rattle.idx_page.specs.HeaderLaws.{is-page}
 use Rattle.idx_page.specs.Page.{attribute_at, count_at, left_at, right_at}
-use Rattle.idx_page.specs.ReadingLaws.{window_in_page}
+use Rattle.idx_page.proofs.ReadingLaws.{window_in_page}
 use Rattle.idx_layout.specs.Layout.{encode, area, new_page, link_beyond, link_before, unlinked, freed}
 use Rattle.idx_layout_laws.specs.EntryLaws.{entries_in, page-of, entries-links, entries-header, entries-new}
 use Rattle.idx_layout_laws.specs.EntryLaws.{entries-beyond, length-beyond, length-new}

@@ -19,7 +19,7 @@ use Rattle.idx_page.specs.Page.{attribute_at, count_at, left_at, right_at, entri
 use Rattle.idx_page.specs.PageLaws.{entry-inside, entry-low, capacity-small}
 use Rattle.idx_page.specs.HeaderLaws.{is-page}
 use Rattle.idx_page.specs.Reading.{Item}
-use Rattle.idx_page.specs.ReadingLaws.{attribute-same, count_same, left-same, right-same}
+use Rattle.idx_page.proofs.ReadingLaws.{attribute-same, count_same, left-same, right-same}
 use Rattle.idx_leaf.specs.Leaf.{items_in, item_of}
 use Rattle.idx_layout.specs.Layout.{area, with_entries, new_page, without_root, link_beyond, split_page}
 use Rattle.idx_entries.specs.Entries.{raised}

@@ -14,7 +14,7 @@ use Rattle.idx_page.specs.Header.{page_size, is_page}
 use Rattle.idx_page.specs.HeaderLaws.{is-page}
 use Rattle.idx_page.specs.Page.{attribute_at, right_at, left_place, right_place, entries_start, capacity}
 use Rattle.idx_page.specs.Reading.{Item}
-use Rattle.idx_page.specs.ReadingLaws.{window-window, window_in_page}
+use Rattle.idx_page.proofs.ReadingLaws.{window-window, window_in_page}
 use Rattle.idx_layout.specs.Layout.{area, with_entries, new_page, without_root, link_beyond, split_page}
 use Rattle.idx_entries.specs.Entries.{raised}
 use Rattle.idx_leaf.specs.ItemLaws.{Fit}

@@ -17,7 +17,7 @@ use Rattle.idx_page.specs.KeyOrder.{bytes_order}
 use Rattle.idx_page.specs.HeaderLaws.{is-page}
 use Rattle.idx_page.specs.PageLaws.{entries_fit, entry_first, entry_next}
 use Rattle.idx_page.specs.Reading.{Item, items, items_at}
-use Rattle.idx_page.specs.ReadingLaws.{read_count, items_take}
+use Rattle.idx_page.proofs.ReadingLaws.{read_count, items_take}
 use Rattle.idx_leaf.specs.Leaf.{items_in, item_of}
 use Rattle.idx_page.specs.EntryOrder.{item_order}
 use Rattle.idx_leaf.specs.Given.{Listed}

@@ -30,8 +30,8 @@ use Rattle.idx_page.specs.Page.{attribute_at, count_at, right_at, leaf_bit, capa
 use Rattle.idx_page.specs.KeyOrder.{bytes_order}
 use Rattle.idx_page.specs.KeyOrderLaws.{equal-le}
 use Rattle.idx_page.specs.Reading.{entries_at}
-use Rattle.idx_page.specs.SearchLaws.{first_entry}
-use Rattle.idx_page.specs.ReadingLaws.{entries_from, entries_by_count, length-entries-from}
+use Rattle.idx_page.proofs.SearchLaws.{first_entry}
+use Rattle.idx_page.proofs.ReadingLaws.{entries_from, entries_by_count, length-entries-from}
 use Rattle.idx_lookup.specs.Lookup.{record_of}
 use Rattle.idx_lookup.specs.FirstRecord.{entry_decides, neighbour_decides, first_from}
 use Rattle.idx_lookup.specs.Lookup.{lookup_rule}
@@ -41,11 +41,11 @@ use Rattle.idx_lookup.specs.declared.Answer.TheVariants as answer
 use Rattle.idx_sound.specs.Sound.{Sound, index_tree, links_of, kept_by}
 use Rattle.idx_sound.specs.AuditTest.{Entries, attribute_of, last_number}
 use Rattle.tree.proofs.Levels.{below, generation, all_of_map, all_of_concat}
-use Rattle.idx_sound.specs.RunLaws.{Fits}
-use Rattle.idx_sound.specs.LevelLaws.{LevelGood}
+use Rattle.idx_sound.proofs.RunLaws.{Fits}
+use Rattle.idx_sound.proofs.LevelLaws.{LevelGood}
 use Rattle.idx_sound.specs.AttributeLaws.{leaf-bit}
-use Rattle.idx_sound.specs.ShapeLaws.{root_entry, level_pages, sound-levels}
-use Rattle.idx_sound.specs.IndexLaws.{index_of, sound-index, sound-sized}
+use Rattle.idx_sound.proofs.ShapeLaws.{root_entry, level_pages, sound-levels}
+use Rattle.idx_sound.proofs.IndexLaws.{index_of, sound-index, sound-sized}
 use Rattle.idx_lookup_laws.specs.FoundLaws.{answer_of, seek-le, seek-all, searched, attribute-passes, first_is}
 
 -- the answer by what a lookup comes to, after n pages before it

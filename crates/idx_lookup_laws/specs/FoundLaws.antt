@@ -27,8 +27,8 @@ use Rattle.idx_page.specs.Page.{attribute_at, count_at, leaf_bit, capacity, key_
 use Rattle.idx_page.specs.PageLaws.{first_bound}
 use Rattle.idx_page.specs.KeyOrder.{bytes_order}
 use Rattle.idx_page.specs.Reading.{entries_at}
-use Rattle.idx_page.specs.ReadingLaws.{entries_by_count}
-use Rattle.idx_page.specs.SearchLaws.{first_entry, seek-some, seek-none}
+use Rattle.idx_page.proofs.ReadingLaws.{entries_by_count}
+use Rattle.idx_page.proofs.SearchLaws.{first_entry, seek-some, seek-none}
 use Rattle.idx_lookup.specs.LookupLaws.{steps-key}
 use Rattle.idx_lookup.specs.Lookup.{offset_of, record_of, entry_says, page_says, visit_rule, decided, lookup_from, lookup_rule}
 use Rattle.idx_lookup.specs.declared.Visit.TheVariants as visit
@@ -36,11 +36,11 @@ use Rattle.idx_lookup.specs.declared.Answer.{Answer}
 use Rattle.idx_lookup.specs.declared.Answer.TheVariants as answer
 use Rattle.idx_sound.specs.Sound.{Sound, index_tree, kept_by}
 use Rattle.idx_sound.specs.AuditTest.{Entries, attribute_of}
-use Rattle.idx_sound.specs.RunLaws.{Fits}
-use Rattle.idx_sound.specs.LevelLaws.{LevelGood}
+use Rattle.idx_sound.proofs.RunLaws.{Fits}
+use Rattle.idx_sound.proofs.LevelLaws.{LevelGood}
 use Rattle.idx_sound.specs.AttributeLaws.{leaf-bit}
-use Rattle.idx_sound.specs.ShapeLaws.{root_entry, level_pages, sound-levels}
-use Rattle.idx_sound.specs.IndexLaws.{sound-index}
+use Rattle.idx_sound.proofs.ShapeLaws.{root_entry, level_pages, sound-levels}
+use Rattle.idx_sound.proofs.IndexLaws.{sound-index}
 
 -- the answer by what was found and the pages visited
 abbrev pub answer_of : Option ℕ → ℕ → Answer

@@ -14,8 +14,8 @@ use Rattle.dbf_cell.specs.AnswerLaws.{table-small}
 use Rattle.idx_page.specs.Header.{key_length, header_good, features}
 use Rattle.idx_sound.specs.Sound.{Sound, leaf_pairs}
 use Rattle.idx_sound.specs.AuditTest.{pages_good}
-use Rattle.idx_sound.specs.Accepted.{accepted, answer-sound}
-use Rattle.idx_sound.specs.Accepted.{answer-unsound as audit_unsound}
+use Rattle.idx_sound.proofs.Accepted.{accepted, answer-sound}
+use Rattle.idx_sound.proofs.Accepted.{answer-unsound as audit_unsound}
 use Rattle.idx_match.specs.Match.{match_refusal, Matches, Matched}
 use Rattle.idx_match.specs.MatchTest.{column_of, entries_match, leaf_entries}
 use Rattle.idx_match.specs.Computed.{match_answer}

@@ -17,10 +17,10 @@ use Rattle.idx_page.specs.Reading.{entries_at}
 use Rattle.idx_page.specs.Children.{is_leaf, first_child}
 use Rattle.idx_sound.specs.Sound.{Sound, CountGood, leaf_pairs}
 use Rattle.idx_sound.specs.AuditTest.{Entries, max_pages, chain}
-use Rattle.idx_sound.specs.LevelLaws.{next-head}
-use Rattle.idx_sound.specs.ShapeLaws.{root_entry, level_pages, entries-filled, sound_shape}
-use Rattle.idx_sound.specs.DistinctLaws.{head-all}
-use Rattle.idx_sound.specs.KeyLaws.{level-chain}
+use Rattle.idx_sound.proofs.LevelLaws.{next-head}
+use Rattle.idx_sound.proofs.ShapeLaws.{root_entry, level_pages, entries-filled, sound_shape}
+use Rattle.idx_sound.proofs.DistinctLaws.{head-all}
+use Rattle.idx_sound.proofs.KeyLaws.{level-chain}
 use Rattle.idx_match.specs.MatchTest.{first_leaf, leaf_entries}
 use Rattle.idx_match.specs.StepLaws.{first-here, first-lower}
 

@@ -24,7 +24,3 @@ pub mod ItemLaws
 pub mod HeaderLaws
 -- Laws: good pages, where their entries lie, and the search in a page
 pub mod PageLaws
--- Laws: the entries that are read of a page: their number, their places, and the bytes that they depend on
-pub mod ReadingLaws
--- Laws: the search in a page is the theory's search in the list of its entries
-pub mod SearchLaws

@@ -27,7 +27,7 @@ use Rattle.tree.specs.Tree.{Tree, level, pages}
 use Rattle.tree.specs.Unlinking.{unlink_all}
 use Rattle.idx_page.specs.Header.{max_levels, no_page, page_size, root_offset, free_pointer, is_page}
 use Rattle.idx_page.specs.Page.{right_at}
-use Rattle.idx_page.specs.ReadingLaws.{right-same}
+use Rattle.idx_page.proofs.ReadingLaws.{right-same}
 use Rattle.idx_layout.specs.Layout.{new_page}
 use Rattle.idx_leaf.specs.Leaf.{stored}
 use Rattle.idx_sound.specs.Sound.{links_of}

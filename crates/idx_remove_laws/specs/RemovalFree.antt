@@ -20,7 +20,7 @@ use Rattle.idx_page.specs.Header.{page_size, no_page, free_pointer, is_page}
 use Rattle.tree.specs.Unlinking.{unlink_all}
 use Rattle.idx_page.specs.Page.{right_at, capacity}
 use Rattle.idx_page.specs.Reading.{Item}
-use Rattle.idx_page.specs.ReadingLaws.{right-same}
+use Rattle.idx_page.proofs.ReadingLaws.{right-same}
 use Rattle.idx_leaf.specs.Leaf.{items_in}
 use Rattle.idx_layout.specs.Layout.{unlinked, freed}
 use Rattle.idx_entries.specs.Entries.{without_entry}

@@ -32,11 +32,11 @@ use Rattle.idx_page.specs.Header.{max_bytes, page_size, no_page, is_page, root_o
 use Rattle.idx_page.specs.HeaderLaws.{GoodHeader, is-page, good-header, good-header-from}
 use Rattle.idx_page.specs.Page.{attribute_at, count_at, right_at, root_bit, leaf_bit, capacity}
 use Rattle.idx_page.specs.Reading.{entries_at}
-use Rattle.idx_page.specs.ReadingLaws.{window-window, window_in_page, attribute-same, right-same}
+use Rattle.idx_page.proofs.ReadingLaws.{window-window, window_in_page, attribute-same, right-same}
 use Rattle.idx_leaf.specs.Leaf.{stored}
 use Rattle.idx_layout.specs.WriteLaws.{capacity-least}
 use Rattle.idx_sound.specs.Sound.{index_tree, index_pages, kept_by, links_of, zeros, FreePage, FreeList, CountGood, Sound}
-use Rattle.idx_sound.specs.IndexLaws.{index_of, setting_of, sound-index, sound-linked, all-occ, once-page, index-sound}
+use Rattle.idx_sound.proofs.IndexLaws.{index_of, setting_of, sound-index, sound-linked, all-occ, once-page, index-sound}
 use Rattle.idx_remove_page.specs.Removal.{removed_buffer}
 use Rattle.idx_layout_laws.specs.EntryLaws.{entries_in, page-of}
 use Rattle.idx_layout_laws.specs.FreeLaws.{SameButFree, free_page}

@@ -22,7 +22,7 @@ use Rattle.idx_page.specs.HeaderLaws.{is-page, good-header}
 use Rattle.idx_page.specs.Page.{attribute_at, left_at, right_at, capacity}
 use Rattle.idx_sound.specs.Sound.{index_tree, index_pages, links_of, FreePage, Sound, leaf_pairs}
 use Rattle.idx_sound.specs.FreeLaws.{free-attribute}
-use Rattle.idx_sound.specs.IndexLaws.{index_of, sound-sized, sound-index}
+use Rattle.idx_sound.proofs.IndexLaws.{index_of, sound-sized, sound-index}
 use Rattle.idx_layout_laws.specs.EntryLaws.{entries_in}
 use Rattle.idx_insert_laws.specs.ItemLists.{Shaped}
 use Rattle.idx_insert_laws.specs.SoundReading.{sound-tree, sound-shaped}

@@ -16,7 +16,7 @@ use Rattle.octets.specs.OrderLaws.{le_antisym, ordering-equal}
 use Rattle.tree.specs.FreeChain.{Chained}
 use Rattle.idx_page.specs.Header.{no_page, is_page}
 use Rattle.idx_page.specs.Page.{attribute_at, count_at, count_place, right_at, right_place, entries_start, entry_area}
-use Rattle.idx_page.specs.ReadingLaws.{window-window}
+use Rattle.idx_page.proofs.ReadingLaws.{window-window}
 use Rattle.idx_sound.specs.Sound.{zeros, FreePage}
 use Rattle.idx_sound.specs.AuditTest.{is_free_page, free_fits, check_free}
 

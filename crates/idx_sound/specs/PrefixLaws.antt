@@ -22,7 +22,7 @@ use Rattle.idx_page.specs.HeaderLaws.{is-page, good-header, good-header-from}
 use Rattle.idx_page.specs.Page.{attribute_at, right_at, right_place, entries_start, entry_area, root_bit, leaf_bit}
 use Rattle.idx_page.specs.KeyOrder.{bytes_order}
 use Rattle.idx_page.specs.Reading.{entries_at}
-use Rattle.idx_page.specs.ReadingLaws.{window-window, entries_none, entries-same, attribute-same, count_same, left-same, right-same}
+use Rattle.idx_page.proofs.ReadingLaws.{window-window, entries_none, entries-same, attribute-same, count_same, left-same, right-same}
 use Rattle.idx_sound.specs.Sound.{index_tree, index_pages, links_of, CountGood, FreePage, Sound, kept_by}
 
 -- two buffers with the same first F bytes; the first is sound

@@ -14,7 +14,7 @@ use Rattle.idx_lookup.specs.declared.Answer.{Answer}
 use Rattle.idx_lookup_laws.specs.FoundLaws.{answer_of}
 use Rattle.idx_lookup_laws.specs.HeldLaws.{lookup-by}
 use Rattle.idx_sound.specs.Sound as idx
-use Rattle.idx_sound.specs.IndexLaws.{sound-index}
+use Rattle.idx_sound.proofs.IndexLaws.{sound-index}
 use Rattle.ndx_page.specs.Header as ndx-header
 use Rattle.ndx_page.specs.Lookup as ndx-lookup
 use Rattle.ndx_sound.specs.Reading as ndx-reading

@@ -9,7 +9,8 @@ use Rattle.dbf_walk.proofs.step_from.Statement.{statement}
 use Rattle.dbf_walk.proofs.step_from.Tie as tie
 
 abbrev invariant-loop : tie.invariant-loop-passed
-invariant-loop table n position skips passed₀ passed = step_from skips table position position (n - position) ≡ step_from skips table position passed (n - passed)
+invariant-loop table n position skips passed₀ passed =
+    step_from skips table position position (n - position) ≡ step_from skips table position passed (n - passed)
 
 abbrev decreases-loop : tie.decreases-loop-passed
 decreases-loop table n position skips passed₀ passed = n - passed

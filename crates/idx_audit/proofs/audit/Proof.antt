@@ -3,7 +3,7 @@
 use mathlib.Core.Path.{◌≡◌, sym, ◌∙◌}
 use mathlib.Core.Bool.{true}
 use Rattle.idx_page.specs.Header.{header_good}
-use Rattle.idx_sound.specs.Accepted.{answer-bad, answer-sound, answer-unsound}
+use Rattle.idx_sound.proofs.Accepted.{answer-bad, answer-sound, answer-unsound}
 use borrow.Author.Rules.{rules}
 use Rattle.basis.specs.Tests.{passed, failed}
 use Rattle.idx_audit.proofs.audit.Statement.{statement}

@@ -8,7 +8,7 @@ use Rattle.basis.specs.Tests.{passed, failed}
 use Rattle.idx_page.specs.Header.{max_levels, key_length, header_good}
 use Rattle.idx_page.specs.HeaderLaws.{good-header}
 use Rattle.idx_sound.specs.AuditTest.{pages_good}
-use Rattle.idx_sound.specs.Accepted.{audit_sound, audit_unsound}
+use Rattle.idx_sound.proofs.Accepted.{audit_sound, audit_unsound}
 use Rattle.idx_path.specs.declared.Path.{Path}
 use Rattle.idx_path.specs.Room.{path_to, no_room}
 use Rattle.idx_path.specs.RoomLaws.{path-levels, path-run}

@@ -1,7 +1,7 @@
 -- `idx_leaf::entry_count` meets its contract: each entry that is read is stored. Assumes nothing.
 use mathlib.Core.Path.{◌∙◌}
 use native.Mathlib.Omega.{arith}
-use Rattle.idx_page.specs.ReadingLaws.{length-numbered}
+use Rattle.idx_page.proofs.ReadingLaws.{length-numbered}
 use Rattle.idx_leaf.proofs.entry_count.Statement.{statement}
 use Rattle.idx_leaf.proofs.entry_count.Tie as tie
 

@@ -6,7 +6,7 @@ use native.Mathlib.Omega.{arith}
 use Rattle.basis.specs.Tests.{passed, failed}
 use Rattle.idx_page.specs.Header.{is_page}
 use Rattle.idx_page.specs.HeaderLaws.{is-page}
-use Rattle.idx_page.specs.ReadingLaws.{count_none, count-read, count-full}
+use Rattle.idx_page.proofs.ReadingLaws.{count_none, count-read, count-full}
 use borrow.Author.Rules.{rules}
 use Rattle.idx_page.proofs.entry_count.Statement.{statement}
 use Rattle.idx_page.proofs.entry_count.Tie as tie

@@ -2,7 +2,7 @@
 -- Assumes nothing.
 use native.Mathlib.Omega.{arith}
 use borrow.Author.Rules.{rules}
-use Rattle.idx_page.specs.ReadingLaws.{each_within, first-none, first_some}
+use Rattle.idx_page.proofs.ReadingLaws.{each_within, first-none, first_some}
 use Rattle.idx_page.proofs.first_child.Statement.{statement}
 use Rattle.idx_page.proofs.first_child.Tie as tie
 

@@ -9,7 +9,7 @@ use Rattle.basis.specs.Tests.{passed, failed}
 use Rattle.idx_page.specs.Header.{key_length, header_good}
 use Rattle.idx_page.specs.HeaderLaws.{good-header}
 use Rattle.idx_sound.specs.AuditTest.{pages_good}
-use Rattle.idx_sound.specs.Accepted.{audit_sound, audit_unsound}
+use Rattle.idx_sound.proofs.Accepted.{audit_sound, audit_unsound}
 use Rattle.idx_records.specs.CallLaws.{refused_24, refused_27, refused_25, refused_39, accepted-all}
 use borrow.Author.Rules.{rules}
 use Rattle.idx_records.proofs.records.Statement.{statement}

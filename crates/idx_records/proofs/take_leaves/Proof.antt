@@ -95,7 +95,7 @@ loop-again c =
       search rules,
       omega (arith, said.0, loop.invariant.1, few counted, some test),
       said.1 ∙ loop.invariant.2,
-      leaves-on _ _ _ _ _ _ loop.page.0 loop.at-head _ loop.left loop.invariant.3 counted.entry_count-entries.result _ _ _
+      leaves-on _ _ _ _ _ _ loop.page.0 loop.at _ loop.left loop.invariant.3 counted.entry_count-entries.result _ _ _
           (some test) (page test) counted.entry_count-entries.ensures taken.take_leaf-at.ensures c.at-head.ensures.1.1.1,
     )
 

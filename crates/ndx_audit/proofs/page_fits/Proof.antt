@@ -26,15 +26,15 @@ inside c = within-page _ _ 0 c.requires (passed (numbered c.before) c.if-not-is_
 -- what the tests of leaf and count say
 tested : (c : tie.After-count_good) → let leafed = c.before.before.before in
     let args = leafed.args in
-    Tested args.index.now args.lone args.height args.page.0 leafed.is_leaf.result c.key_count-count.result
-    (beq leafed.is_leaf.result (eqb args.height 0) && c.count_good.result)
+    Tested args.index.now args.lone args.height args.page.0 leafed.is_leaf-leaf.result c.key_count-count.result
+    (beq leafed.is_leaf-leaf.result (eqb args.height 0) && c.count_good.result)
 tested c =
     let counted = c.before.before in
     let leafed = counted.before in
     let page = leafed.before in
     record {
       page = passed (numbered page.before) page.if-not-is_page.false-raw;
-      leafs = leafed.is_leaf.ensures;
+      leafs = leafed.is_leaf-leaf.ensures;
       count = counted.key_count-count.ensures;
       test = rw (c.count_good.ensures, c.keys_per_page-most.ensures);
     }

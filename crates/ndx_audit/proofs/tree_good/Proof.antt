@@ -24,7 +24,7 @@ page-count-requires c κs = (good-header _ c.requires).long
 sub-result : tie.Need-overflow_sub-result
 sub-result c =
     let header = good-header _ c.requires in
-    let root = is-page _ _ header.root-root in
+    let root = is-page _ _ header.root in
     omega (arith, root.1, c.page_count.ensures)
 
 returns : tie.Need-returns

@@ -21,9 +21,9 @@ use Rattle.idx_page.specs.Page.{attribute_at, count_at, root_bit, leaf_bit, capa
 use Rattle.idx_page.specs.KeyOrder.{bytes_order}
 use Rattle.idx_page.specs.HeaderLaws.{IsPage, is-page, is_page-from, good-header}
 use Rattle.idx_page.specs.Reading.{entries_at}
-use Rattle.idx_page.specs.ReadingLaws.{length-entries}
+use Rattle.idx_page.proofs.ReadingLaws.{length-entries}
 use Rattle.idx_sound.specs.Sound.{index_tree, index_pages, links_of, CountGood, FreePage, FreeList, Sound, kept_by}
-use Rattle.idx_sound.specs.ShapeLaws.{tree-sized}
+use Rattle.idx_sound.proofs.ShapeLaws.{tree-sized}
 
 -- the index as the theory has it, with h levels under its root and the free list `free`, and its setting, by its features: F may be `most` at most
 abbrev pub index_of : List ℕ → ℕ → List ℕ → Index (List ℕ)

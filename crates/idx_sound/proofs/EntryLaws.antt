@@ -19,7 +19,7 @@ use Rattle.idx_page.specs.Page.{leaf_bit}
 use Rattle.idx_page.specs.KeyOrder.{bytes_order}
 use Rattle.idx_page.specs.Reading.{entries_at}
 use Rattle.idx_sound.specs.AuditTest.{Entries, last_of, last_pair, is_above, leaf_entries_good, entries_fit}
-use Rattle.idx_sound.specs.RunLaws.{Checked}
+use Rattle.idx_sound.proofs.RunLaws.{Checked}
 
 -- leaf entries in the order of a header's features f
 module _ (f : ℕ) where

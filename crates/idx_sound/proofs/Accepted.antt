@@ -18,10 +18,10 @@ use Rattle.idx_page.specs.Reading.{entries_at}
 use Rattle.idx_sound.specs.Sound.{index_tree, Sound, Audited, kept_by}
 use Rattle.idx_sound.specs.AuditTest.{Entries, Level, later_pages, root_level, levels_under, check_free, complete, shape_good, keys_above_good, pages_good}
 use Rattle.idx_sound.specs.FreeLaws.{Free, free-found, free-passed}
-use Rattle.idx_sound.specs.LevelLaws.{LevelGood, Known, GoodUnder, lower_pages, Found, level-known, level-good, levels-good, levels-found, levels-reached}
-use Rattle.idx_sound.specs.ShapeLaws.{root_entry, GoodLevels, Shape, levels-inside, levels-counts, entries-filled, shape_pairs, shape_sound, sound_shape}
-use Rattle.idx_sound.specs.DistinctLaws.{all-distinct, count-once, once-count}
-use Rattle.idx_sound.specs.KeyLaws.{height-is, keys-ceilings}
+use Rattle.idx_sound.proofs.LevelLaws.{LevelGood, Known, GoodUnder, lower_pages, Found, level-known, level-good, levels-good, levels-found, levels-reached}
+use Rattle.idx_sound.proofs.ShapeLaws.{root_entry, GoodLevels, Shape, levels-inside, levels-counts, entries-filled, shape_pairs, shape_sound, sound_shape}
+use Rattle.idx_sound.proofs.DistinctLaws.{all-distinct, count-once, once-count}
+use Rattle.idx_sound.proofs.KeyLaws.{height-is, keys-ceilings}
 
 module _ (b : List ℕ) (k size root : ℕ) (whole : size % page_size ≡ 0) (most : size ≤ max_bytes) where
   abbrev S : ℕ → Entries

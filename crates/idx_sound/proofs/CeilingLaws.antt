@@ -36,7 +36,7 @@ use Rattle.idx_page.specs.Reading.{entries_at}
 use Rattle.idx_sound.specs.AuditTest.{Entries, Keys, first_of, last_of, last_number, down, is_ceiling, is_last, first_leaf_key, last_leaf_key, below_next}
 use Rattle.idx_sound.specs.AuditTest.{onward, upper_entry, upper_entries}
 use Rattle.idx_sound.specs.Sound.{kept_by}
-use Rattle.idx_sound.specs.EntryLaws.{last_some}
+use Rattle.idx_sound.proofs.EntryLaws.{last_some}
 
 -- keys that are good, and then what comes after them
 module _ (r : Keys) (after : Bool → Keys) where

@@ -22,7 +22,7 @@ use Rattle.idx_sound.specs.Sound.{links_of}
 use Rattle.idx_page.specs.Children.{is_leaf, children_of, first_child}
 use Rattle.idx_sound.specs.AuditTest.{Entries, max_pages, Level, start, chain, attribute_of, check_level, rows_under, next_level, levels_under}
 use Rattle.idx_sound.specs.AttributeLaws.{leaf-bit}
-use Rattle.idx_sound.specs.RunLaws.{joined, Fits, Checked, Passed, check_passed, passed_check}
+use Rattle.idx_sound.proofs.RunLaws.{joined, Fits, Checked, Passed, check_passed, passed_check}
 
 -- tests on the number of a level
 pub same_suc : (i n : ℕ) → eqb (suc i) (suc n) ≡ eqb i n

@@ -26,9 +26,9 @@ use Rattle.idx_sound.specs.Sound.{links_of, FreePage, FreeList}
 use Rattle.idx_sound.specs.AuditTest.{Entries, later_pages, height_of}
 use Rattle.idx_sound.specs.AttributeLaws.{attribute_at_level}
 use Rattle.idx_sound.specs.FreeLaws.{free-attribute, free-count}
-use Rattle.idx_sound.specs.RunLaws.{Fits}
-use Rattle.idx_sound.specs.LevelLaws.{same_suc, leaf-known, not_page}
-use Rattle.idx_sound.specs.ShapeLaws.{root_entry, level_pages, GoodLevels, levels-inside, levels-counts, entries-filled}
+use Rattle.idx_sound.proofs.RunLaws.{Fits}
+use Rattle.idx_sound.proofs.LevelLaws.{same_suc, leaf-known, not_page}
+use Rattle.idx_sound.proofs.ShapeLaws.{root_entry, level_pages, GoodLevels, levels-inside, levels-counts, entries-filled}
 
 -- what holds of the pages that entries name holds of the first of them
 pub head-all : (Q : ℕ → Type 0) (es : Entries) → NonEmpty es → All (λ e. Q e.1) es → Q (head_or no_page (numbers es))

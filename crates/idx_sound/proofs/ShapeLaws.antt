@@ -22,14 +22,14 @@ use Rattle.idx_page.specs.Page.{attribute_at, count_at, root_bit, leaf_bit, capa
 use Rattle.idx_page.specs.KeyOrder.{bytes_order}
 use Rattle.idx_page.specs.HeaderLaws.{good-header}
 use Rattle.idx_page.specs.Reading.{entries_at}
-use Rattle.idx_page.specs.ReadingLaws.{length-entries, entries_none}
+use Rattle.idx_page.proofs.ReadingLaws.{length-entries, entries_none}
 use Rattle.idx_sound.specs.Sound.{index_tree, index_pages, links_of, CountGood, FreePage, FreeList, Sound, kept_by}
 use Rattle.idx_sound.specs.AuditTest.{Entries, last_pair}
 use Rattle.idx_sound.specs.AttributeLaws.{attribute_at_level, root-bit, leaf-bit, attribute-small, attribute-is, count-good, good-count}
-use Rattle.idx_sound.specs.RunLaws.{Fits, Checked}
-use Rattle.idx_sound.specs.EntryLaws.{Climbs, climbs_ascend, ascend_climbs, upper-checked}
-use Rattle.idx_sound.specs.EntryLaws.{checked_climbs, climbs_checked, lone_climbs, climbs_lone}
-use Rattle.idx_sound.specs.LevelLaws.{LevelGood, not_page}
+use Rattle.idx_sound.proofs.RunLaws.{Fits, Checked}
+use Rattle.idx_sound.proofs.EntryLaws.{Climbs, climbs_ascend, ascend_climbs, upper-checked}
+use Rattle.idx_sound.proofs.EntryLaws.{checked_climbs, climbs_checked, lone_climbs, climbs_lone}
+use Rattle.idx_sound.proofs.LevelLaws.{LevelGood, not_page}
 
 -- the root as an entry with an empty key above it
 abbrev pub root_entry : ℕ → Entries

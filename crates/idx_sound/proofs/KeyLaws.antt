@@ -24,11 +24,11 @@ use Rattle.idx_page.specs.Reading.{entries_at}
 use Rattle.idx_page.specs.Children.{first_child}
 use Rattle.idx_sound.specs.Sound.{kept_by}
 use Rattle.idx_sound.specs.AuditTest.{Entries, max_pages, chain, height_of, upper_entries, upper_pages, upper_levels, keys_under_good, down}
-use Rattle.idx_sound.specs.CeilingLaws.{onward-good, went_on, onward-same, Full, full-some, full-children, PageCeilings, entries-ceilings}
-use Rattle.idx_sound.specs.CeilingLaws.{OwnLast, own-page, SameLast, same-last, entries-same}
-use Rattle.idx_sound.specs.LevelLaws.{chain_is, next-head}
-use Rattle.idx_sound.specs.ShapeLaws.{root_entry, level_pages, Shape, least-one, levels-inside, levels-counts, entries-filled, tree-sized}
-use Rattle.idx_sound.specs.DistinctLaws.{heights, level-leaves, once-few}
+use Rattle.idx_sound.proofs.CeilingLaws.{onward-good, went_on, onward-same, Full, full-some, full-children, PageCeilings, entries-ceilings}
+use Rattle.idx_sound.proofs.CeilingLaws.{OwnLast, own-page, SameLast, same-last, entries-same}
+use Rattle.idx_sound.proofs.LevelLaws.{chain_is, next-head}
+use Rattle.idx_sound.proofs.ShapeLaws.{root_entry, level_pages, Shape, least-one, levels-inside, levels-counts, entries-filled, tree-sized}
+use Rattle.idx_sound.proofs.DistinctLaws.{heights, level-leaves, once-few}
 
 module _ (b : List ℕ) (k size : ℕ) (most : size ≤ max_bytes) where
   abbrev S : ℕ → Entries
