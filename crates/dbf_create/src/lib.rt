@@ -30,7 +30,8 @@ pub fn no_fields() -> [u8; 4130]
 // Writes field j, from 0, at its place in the room. The bytes of a descriptor that nothing reads are zero.
 pub fn write_field(room: &mut [u8], j: usize, entry: FieldEntry)
     requires { (j < max_fields) × (length room.old ≡ room_length) }
-    ensures { room.new ≡ with_field room.old j entry }
+    ensures written { room.new ≡ with_field room.old j entry }
+    ensures named { length entry.name ≡ 11 }
 {
     let at = dbf_table::DESCRIPTORS + dbf_table::DESCRIPTOR_LENGTH * j;
     let name = entry.name;

@@ -76,7 +76,7 @@ loop-again c =
     let test = at_test (at-write c) in
     let t = turn test in
     rw c.call_end-at.ensures
-    (going_on _ _ _ _ _ _ _ test.loop-index.invariant t.call t.room called.kept.0 called.ensures.0 called.ensures.1 written)
+    (going_on _ _ _ _ _ _ _ test.loop-index.invariant t.call t.room called.auto.index called.ensures.0 called.ensures.1 written)
 
 same_length : tie.Need-shape_of-index invariant-loop decreases-loop
 same_length c = c.loop-index.invariant.same
@@ -90,7 +90,10 @@ returns c =
     let at-calls = at-loop.before.before in
     let at-index = at-calls.before in
     let ran = going_ends _ _ _ _ _ _ _ at-loop.loop-index.invariant c.goes_on.ensures c.loop-index-test.false in
-    (ran, sound-run-kept _ _ _ (λ i. (at-index.slice_known-1.given i).fits) (λ i. (at-calls.shared_slice_known-1.given i).fits) ran)
+    record {
+      answers_value = ran;
+      sound_run_kept = sound-run-kept _ _ _ (λ i. (at-index.slice_known-1.given i).fits) (λ i. (at-calls.shared_slice_known-1.given i).fits) ran;
+    }
 
 pub run_calls_spec : {M : Type 1} → statement M
 run_calls_spec =

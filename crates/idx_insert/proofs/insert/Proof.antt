@@ -24,7 +24,7 @@ abbrev start : tie.Else-not-header_good → tie.Start
 start c = c.before.before.before.before
 
 abbrev at-header : tie.Else-key-key_length → tie.Else-not-header_good
-at-header c = c.before.before.before.before.before
+at-header c = c.before.before.before.before
 
 abbrev at_length : tie.Else-control → tie.Else-key-key_length
 at_length c = c.before
@@ -33,13 +33,13 @@ abbrev at-clean : tie.Else-zero → tie.Else-control
 at-clean c = c.before
 
 abbrev at-number : tie.After-audit → tie.Else-zero
-at-number c = c.before.before
+at-number c = c.before
 
 abbrev at-sound : tie.After-path_to-path → tie.Else-audit-ne0
-at-sound c = c.before.before
+at-sound c = c.before
 
 abbrev at-absent : tie.After-no_room → tie.Else-path
-at-absent c = c.before.before
+at-absent c = c.before
 
 -- the buffer, the key and the record number of the call, from behind the test of the key's bytes
 abbrev index : tie.Else-control → List ℕ
@@ -126,7 +126,7 @@ returns-5 c =
     let free = at-clean number in
     let measured = at_length free in
     let good = header (at-header measured) in
-    refused_25 _ _ _ good (same measured) (clean free) (eqb-false _ _ number.if-zero.false) (audit_unsound _ good c.audit.ensures c.if-audit-ne0.true)
+    refused_25 _ _ _ good (same measured) (clean free) (eqb-false _ _ number.if-zero.false-raw) (audit_unsound _ good c.audit.ensures c.if-audit-ne0.true)
 
 path-to-requires : tie.Need-path_to-path-requires
 path-to-requires c κs =
@@ -143,11 +143,11 @@ returns-6 c =
     let free = at-clean number in
     let measured = at_length free in
     let found = sym (present c.before) ∙ c.if-path.true in
-    refused_29 _ _ _ (header (at-header measured)) (same measured) (clean free) (eqb-false _ _ number.if-zero.false) (sound audited) found
+    refused_29 _ _ _ (header (at-header measured)) (same measured) (clean free) (eqb-false _ _ number.if-zero.false-raw) (sound audited) found
 
 no-room-requires : tie.Need-no_room-requires
 no-room-requires c κs =
-    let path = c.before.before in
+    let path = c.before in
     let measured = at_length (at-clean (at-number (at-sound path).before)) in
     (header (at-header measured), rw path.path_to-path.ensures (path-levels _ max_levels _ _ _), rw path.path_to-path.ensures (path-run _ max_levels _ _ _))
 
@@ -163,7 +163,7 @@ returns-7 c =
     let measured = at_length free in
     let not_found = sym (present absent.before) ∙ absent.if-path.false in
     let lacks_room = sym (full c.before) ∙ c.if-no_room.true in
-    refused_30 _ _ _ (header (at-header measured)) (same measured) (clean free) (eqb-false _ _ number.if-zero.false) (sound audited) not_found lacks_room
+    refused_30 _ _ _ (header (at-header measured)) (same measured) (clean free) (eqb-false _ _ number.if-zero.false-raw) (sound audited) not_found lacks_room
 
 insert-pair-requires : tie.Need-insert_pair-requires
 insert-pair-requires c κs =
@@ -185,7 +185,7 @@ returns-8 c =
     let measured = at_length free in
     let not_found = sym (present absent.before) ∙ absent.if-path.false in
     let not_full = sym (full room.before) ∙ room.if-no_room.false in
-    accepted_pair _ _ _ (header (at-header measured)) (same measured) (clean free) (eqb-false _ _ number.if-zero.false) (sound audited) not_found not_full
+    accepted_pair _ _ _ (header (at-header measured)) (same measured) (clean free) (eqb-false _ _ number.if-zero.false-raw) (sound audited) not_found not_full
     inserted.insert_pair.ensures
 
 pub insert_spec : {M : Type 1} → statement M

@@ -25,7 +25,7 @@ same_length c = search rules
 returns : tie.Need-returns
 returns c =
     let root = c.before.before in
-    let header = root.before.before.before.before.before in
+    let header = root.before.before.before.before in
     fresh-stored _ _ _ _ _ header.next_page.ensures header.new_header.ensures root.new_page.ensures
 
 pub write_fresh_spec : {M : Type 1} → statement M

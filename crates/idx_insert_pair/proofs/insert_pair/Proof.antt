@@ -12,7 +12,7 @@ use Rattle.idx_insert_pair.proofs.insert_pair.Tie as tie
 
 -- the places: the call's start, from where the supply is known; that place, from where the pair is inserted under the root
 abbrev start : tie.After-supply_of-supply → tie.Start
-start c = c.before.before.before.before.before
+start c = c.before.before.before.before
 
 abbrev at-supply : tie.After-insert_under-below → tie.After-supply_of-supply
 at-supply c = c.before.before.before
@@ -29,7 +29,7 @@ root-requires c κs = (header c.before.before).long
 
 supply-of-requires : tie.Need-supply_of-supply-requires
 supply-of-requires c κs =
-    let at-start = c.before.before.before.before in
+    let at-start = c.before.before.before in
     (header at-start).long
 
 slice-aggregate-insert-under : tie.Need-slice_bounds-insert_under-end

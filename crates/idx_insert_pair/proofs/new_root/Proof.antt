@@ -20,13 +20,13 @@ abbrev taking : tie.Else-not-is_page → tie.After-take_page-taken
 taking c = c.before.before.before
 
 abbrev start : tie.Else-not-is_page → tie.Start
-start c = (taking c).before.before.before.before.before
+start c = (taking c).before.before.before.before
 
 abbrev at_test : tie.After-gather_root → tie.Else-not-is_page
-at_test c = c.before.before.before
+at_test c = c.before.before
 
 abbrev at-gathering : tie.After-new_page → tie.After-gather_root
-at-gathering c = c.before.before.before.before.before
+at-gathering c = c.before.before.before.before
 
 abbrev at-page : tie.After-set_root → tie.After-new_page
 at-page c = c.before.before.before.before
@@ -71,13 +71,13 @@ slice-reshare-prefix-new-page c =
 
 slice-aggregate-new-page : tie.Need-slice_bounds-new_page-end-2
 slice-aggregate-new-page c =
-    let gathered = c.before.before.before.before in
+    let gathered = c.before.before.before in
     let at-start = start (at_test gathered) in
     simp length-take (omega (arith, gathered.gather_root.auto.room, at-start.requires.0, at-start.requires.2))
 
 new-page-requires : tie.Need-new_page-requires
 new-page-requires c κs =
-    let gathered = c.before.before.before.before in
+    let gathered = c.before.before.before in
     let g = page (at_test gathered) in
     let at-start = start (at_test gathered) in
     let m = capacity-least (length at-start.args.key.now) at-start.requires.0 in
@@ -94,8 +94,8 @@ set-root-requires c κs =
 
 set-supply-requires : tie.Need-set_supply-requires
 set-supply-requires c κs =
-    let stored = c.before.before.before in
-    let written = at-page stored.before in
+    let stored = c.before.before.before.before in
+    let written = at-page stored in
     let g = page (at_test (at-gathering written)) in
     omega (arith, stored.set_root.auto.index, written.new_page.auto.index)
 
@@ -108,14 +108,14 @@ same-length-3 c = search rules
 returns-2 : tie.Need-returns
 returns-2 c =
     let finished = c.before.before in
-    let stored = finished.before.before.before.before in
-    let written = at-page stored.before in
+    let stored = finished.before.before.before.before.before in
+    let written = at-page stored in
     let gathered = at-gathering written in
     let test = at_test gathered in
     let at-start = start test in
     let args = at-start.args in
-    root-new args.index-1.now args.key.now args.old.0 args.new.0 args.supply (taking test).take_page-taken.ensures (tested test)
-    (root-read args.index-1.now args.key.now args.old.0 args.new.0 _ at-start.requires.0 at-start.requires.2 gathered.gather_root.ensures)
+    root-new args.index.now args.key.now args.old.0 args.new.0 args.supply (taking test).take_page-taken.ensures (tested test)
+    (root-read args.index.now args.key.now args.old.0 args.new.0 _ at-start.requires.0 at-start.requires.2 gathered.gather_root.ensures)
     written.new_page.ensures stored.set_root.ensures finished.set_supply.ensures
 
 pub new_root_spec : {M : Type 1} → statement M

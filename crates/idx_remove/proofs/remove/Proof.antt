@@ -19,13 +19,13 @@ abbrev start : tie.Else-not-header_good → tie.Start
 start c = c.before.before.before.before
 
 abbrev at-header : tie.Else-key-key_length → tie.Else-not-header_good
-at-header c = c.before.before.before
+at-header c = c.before.before
 
 abbrev at_length : tie.After-audit → tie.Else-key-key_length
-at_length c = c.before.before
+at_length c = c.before
 
 abbrev at-sound : tie.After-is_there → tie.Else-audit-ne0
-at-sound c = c.before.before
+at-sound c = c.before
 
 -- the buffer and the key of the call, from behind the second test
 abbrev index : tie.Else-key-key_length → List ℕ

@@ -1,0 +1,5 @@
+-- The levels left fall with each call.
+use Rattle.idx_insert_pair.proofs.+insert_under.Given as goal
+
+abbrev pub decreases-insert_under : goal.decreases-insert_under
+decreases-insert_under l = l.levels
