@@ -12,8 +12,7 @@ use Rattle.fpt_memo.specs.Memo.{memo_number}
 use Rattle.fpt_memo.specs.declared.MemoNumber.{MemoNumber}
 use Rattle.fpt_memo.specs.declared.MemoNumber.TheVariants as memo
 use Rattle.dbf_table.specs.Table.{min_table, max_table, file_end, type_n, type_d, type_l, type_m, field_type, field_length, field_decimals, field_offset}
-use Rattle.dbf_table.specs.Table.{field_count}
-use Rattle.dbf_table.specs.Table.{count_place, record_length_of, record_count, records_end, table_checks, check_table}
+use Rattle.dbf_table.specs.Table.{field_count, count_place, record_length_of, record_count, records_end, table_checks, check_table}
 use Rattle.dbf_table.specs.declared.Checked.{Checked}
 use Rattle.dbf_table.specs.declared.Checked.TheVariants.{Refused}
 use Rattle.dbf_cell.specs.Cell.{mark_good, logical_of}

@@ -1,5 +1,5 @@
 -- Laws: how the code's tests meet the refusals of an append and of a new date, and the stores their rule. Assumes nothing.
-use Rattle.std.specs.Prelude.{ℕ, suc, ◌+◌, ◌*◌, ◌-◌, ◌≤◌, ◌<◌, ◌≡◌, Bool, true, false, ◌&&◌, length, take, drop, set, eqb, leb}
+use Rattle.std.specs.Prelude.{ℕ, suc, ◌+◌, ◌*◌, ◌-◌, ◌≤◌, ◌<◌, ◌≡◌, Bool, true, false, length, take, drop, set, eqb, leb}
 use Rattle.std.proofs.Math.Path.{sym, ap}
 use Rattle.std.proofs.Common.{◌∙◌, mul-le-mul_left, mul-one, length-append, get_or-take, length-take-le, lit<}
 use mathlib.Core.List.{List, [], ◌∷◌, ◌++◌}
@@ -13,18 +13,15 @@ use Rattle.refusal.specs.Checks.{first_refusal}
 use Rattle.octets.specs.Bytes.{byte_at, le16, le32, to_le32}
 use Rattle.octets.specs.Store.{put, window}
 use Rattle.octets.specs.StoreLaws.{put_snoc, stored2, length-window}
-use Rattle.calendar.specs.Calendar.{is_date}
 use Rattle.calendar.specs.DateText.{date_of}
 use Rattle.numeral.specs.Reading.{read_number}
 use Rattle.fpt_memo.specs.Memo.{memo_number}
 use Rattle.dbf_cell.specs.Cell.{mark_good, logical_of}
 use Rattle.dbf_cell.specs.Codes.{number_refusal}
 use Rattle.dbf_table.specs.Table.{min_table, max_table, file_end, type_n, type_d, type_l, type_m, field_type, field_length, field_decimals, field_offset}
-use Rattle.dbf_table.specs.Table.{field_count}
-use Rattle.dbf_table.specs.Table.{first_year, storable_date}
-use Rattle.dbf_table.specs.Table.{header_length_of, record_length_of, record_count, records_end, size_good, table_checks, table_refusal, check_table}
-use Rattle.dbf_table.specs.TableLaws.{Layout, layout, table-numbered, good_check, good_then, refused_check}
-use Rattle.dbf_table.specs.TableLaws.{refused_then}
+use Rattle.dbf_table.specs.Table.{field_count, first_year, storable_date, header_length_of, record_length_of, record_count, records_end, size_good}
+use Rattle.dbf_table.specs.Table.{table_checks, table_refusal, check_table}
+use Rattle.dbf_table.specs.TableLaws.{Layout, layout, table-numbered, good_check, good_then, refused_check, refused_then}
 use Rattle.dbf_table.specs.FormLaws.{field_form, form-some}
 use Rattle.dbf_table.specs.RecordLaws.{field_inside, record_positive, records-next}
 use Rattle.dbf_table.specs.declared.Shape.{Shape}

@@ -10,7 +10,6 @@ use Rattle.octets.specs.StoreLaws.{length-window}
 use Rattle.numeral.specs.Format.{comma, format_good}
 use Rattle.numeral.specs.Reading.{some}
 use Rattle.numeral.specs.ReadingLaws.{refused_16}
-use Rattle.numeral.specs.declared.Number.TheVariants as number
 use Rattle.dbf_cell.specs.Cell.{mark_good}
 use Rattle.dbf_cell.specs.Codes.{number_refusal}
 use Rattle.dbf_table.specs.Table.{type_n, field_type, field_length, field_decimals, field_offset, field_count, record_length_of}

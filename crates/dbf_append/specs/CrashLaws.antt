@@ -23,8 +23,7 @@ use Rattle.dbf_append.specs.ExtentLaws.{form-good}
 use Rattle.dbf_append.specs.CheckLaws.{table-small, count-front, end-front, length_front, new-front, Accepted, accepted-long, few-enough}
 use Rattle.dbf_table.specs.SameForm.{SameForm, length-same, end_same}
 use Rattle.dbf_append.specs.FormLaws.{date-good, form-kept}
-use Rattle.dbf_append.specs.ImageLaws.{shortened, counted, Whole, whole-good, tail_shortened, tail_extent, more-shortened, more-extent, more-good}
-use Rattle.dbf_append.specs.ImageLaws.{more-marked}
+use Rattle.dbf_append.specs.ImageLaws.{shortened, counted, Whole, whole-good, tail_shortened, tail_extent, more-shortened, more-extent, more-good, more-marked}
 
 -- ---- a table without what follows its records
 

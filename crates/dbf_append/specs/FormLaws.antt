@@ -1,9 +1,9 @@
 -- Laws: a table's form is good exactly by byte 0 and the header from byte 8 on: with another size, date, count and length, all of them good, it stays so.
 -- Assumes nothing.
-use Rattle.std.specs.Prelude.{ℕ, ◌≤◌, ◌≡◌, refl, Bool, true, List, [], ◌∷◌, length}
+use Rattle.std.specs.Prelude.{ℕ, ◌≤◌, ◌≡◌, true, List, length}
 use Rattle.std.proofs.Common.{◌∙◌}
 use Rattle.basis.specs.Lists.{All}
-use Rattle.refusal.specs.CheckLaws.{first_pass, first-none, first-all}
+use Rattle.refusal.specs.CheckLaws.{first-none, first-all}
 use Rattle.refusal.specs.Checks.{first_refusal}
 use Rattle.dbf_table.specs.Table.{header_length_of, size_good, date_good, length_good, table_checks, table_refusal}
 use Rattle.dbf_table.specs.TableLaws.{HeaderFits, header-fits}

@@ -1,6 +1,6 @@
 -- Laws: a file whose first bytes are a table's, whatever follows them: shortened by its own count it is that table. An append's two stores lead from such a
 -- file to one that begins with the new table. Assumes nothing.
-use Rattle.std.specs.Prelude.{ℕ, ◌+◌, ◌-◌, ◌≤◌, ◌<◌, ◌≡◌, true, take}
+use Rattle.std.specs.Prelude.{ℕ, ◌+◌, ◌≤◌, ◌<◌, ◌≡◌, true, take}
 use Rattle.std.proofs.Math.Path.{refl, ap}
 use Rattle.std.proofs.Common.{sym, ◌∙◌, arith, take_at, lit<}
 use mathlib.Core.List.{List, [], ◌∷◌, ◌++◌}

@@ -23,8 +23,7 @@ use Rattle.dbf_append.specs.Append.{new_end, append_refusal, record_write, count
 use Rattle.dbf_append.specs.CheckLaws.{Accepted, accepted, append_stored}
 use Rattle.dbf_table.specs.SameForm.{header-same, fields-same}
 use Rattle.dbf_append.specs.ImageLaws.{shortened, beyond, kept, more-form, more-count}
-use Rattle.dbf_append.specs.CrashLaws.{behind, cut-byte, cut-form, cut-count, cut-length, cut-whole}
-use Rattle.dbf_append.specs.CrashLaws.{new_file, fills, few, crash_safe, new-file, told-first}
+use Rattle.dbf_append.specs.CrashLaws.{behind, cut-byte, cut-form, cut-count, cut-length, cut-whole, new_file, fills, few, crash_safe, new-file, told-first}
 use Rattle.dbf_append.specs.CrashLaws.{told-second}
 use Rattle.dbf_append.specs.ReadLaws.{Added, mark-same, last-mark}
 

@@ -23,8 +23,7 @@ use Rattle.fpt_memo.specs.declared.MemoPlace.TheVariants.{Text, Empty, Refused}
 use Rattle.calendar.specs.DateText.{date_of}
 use Rattle.numeral.specs.Reading.{read_number}
 use Rattle.dbf_cell.specs.Cell.{reads_type, mark_good, cell_refusal, field_start, field_bytes, number_cell, date_cell, logical_of, logical_cell, memo_part}
-use Rattle.dbf_cell.specs.Cell.{text_at}
-use Rattle.dbf_cell.specs.Cell.{text_cell, text_part}
+use Rattle.dbf_cell.specs.Cell.{text_at, text_cell, text_part}
 use Rattle.dbf_cell.specs.CellLaws.{cell_good}
 use Rattle.dbf_cell.specs.declared.Reads.{Reads}
 use Rattle.dbf_cell.specs.declared.Reads.TheVariants.{Numbers, Dates, Logicals, Texts}

@@ -7,7 +7,6 @@ use Rattle.dbf_table.specs.declared.Shape.{Shape}
 use Rattle.dbf_table.specs.declared.Checked.{Checked}
 use Rattle.dbf_table.specs.declared.Checked.TheVariants as table
 use Rattle.dbf_calls.specs.Answers.{Sizes, shape_out}
-use Rattle.handed.specs.Out.{out}
 
 -- a good table's numbers are numbers of 32 bits
 pub record Small (s : Shape) : Type 0 where

@@ -13,9 +13,8 @@ use Rattle.numeral.specs.declared.Number.TheVariants as number
 use Rattle.fpt_memo.specs.Memo.{memo_text}
 use Rattle.fpt_memo.specs.declared.MemoPlace.{MemoPlace}
 use Rattle.fpt_memo.specs.declared.MemoPlace.TheVariants as memo
-use Rattle.dbf_table.specs.Table.{type_c, type_n, type_d, type_l, type_m, kept_mark, deleted_mark}
-use Rattle.dbf_table.specs.Table.{field_type, field_length, field_decimals, field_offset, field_count, record_count, record_start, deletion_byte}
-use Rattle.dbf_table.specs.Table.{table_checks}
+use Rattle.dbf_table.specs.Table.{type_c, type_n, type_d, type_l, type_m, kept_mark, deleted_mark, field_type, field_length, field_decimals, field_offset}
+use Rattle.dbf_table.specs.Table.{field_count, record_count, record_start, deletion_byte, table_checks}
 use Rattle.dbf_field.specs.Field.{place_at, number_good}
 use Rattle.dbf_field.specs.declared.Placed.{Placed}
 use Rattle.dbf_field.specs.declared.Placed.TheVariants as placed

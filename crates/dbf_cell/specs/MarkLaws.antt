@@ -1,6 +1,6 @@
 -- Laws: "Fields of deleted records are read like others": if one good deletion mark replaces another, no answer about the record's fields changes.
 -- Assumes nothing.
-use Rattle.std.specs.Prelude.{ℕ, ◌+◌, ◌-◌, ◌≤◌, ◌<◌, ◌≡◌, refl, Bool, true, List, [], ◌∷◌, ◌++◌, eqb}
+use Rattle.std.specs.Prelude.{ℕ, ◌+◌, ◌-◌, ◌≤◌, ◌<◌, ◌≡◌, refl, true, List, [], ◌∷◌, eqb}
 use Rattle.std.proofs.Math.Nat.{mul-le-mul_right, add-mul}
 use native.Mathlib.Omega.{arith}
 use Rattle.std.proofs.Common.{get_or-set_same, eqb-true}
@@ -11,8 +11,7 @@ use Rattle.octets.specs.Store.{put}
 use Rattle.octets.specs.StoreLaws.{length-put, put_one, get_or-put_low, get_or-put_high, window-after}
 use Rattle.dbf_field.specs.Field.{number_good}
 use Rattle.dbf_table.specs.Table.{type_c, field_type, field_length, field_count, header_length_of, record_length_of, record_count, records_end, record_start}
-use Rattle.dbf_table.specs.Table.{deletion_byte}
-use Rattle.dbf_table.specs.Table.{table_checks, table_refusal}
+use Rattle.dbf_table.specs.Table.{deletion_byte, table_checks, table_refusal}
 use Rattle.dbf_table.specs.TableLaws.{layout}
 use Rattle.dbf_table.specs.RecordLaws.{offset-positive, record_positive}
 use Rattle.dbf_field.specs.FieldLaws.{place-good, number-range}

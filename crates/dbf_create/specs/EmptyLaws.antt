@@ -19,8 +19,7 @@ use Rattle.dbf_table.specs.DateLaws.{storable}
 use Rattle.dbf_field.specs.Field.{field_name, entry_of, no_entry}
 use Rattle.dbf_field.specs.declared.FieldEntry.{FieldEntry}
 use Rattle.dbf_create.specs.Laying.{descriptor_of, descriptors_of, header_size, record_size, laid_out, lay_checks, lay_refusal, lay_out_rule}
-use Rattle.dbf_create.specs.LayingLaws.{count-range, Holds, length_laid, laid_holds, laid_records, laid_header, count_held, laid_checks}
-use Rattle.dbf_create.specs.LayingLaws.{lay_zero, lay_code}
+use Rattle.dbf_create.specs.LayingLaws.{count-range, Holds, length_laid, laid_holds, laid_records, laid_header, count_held, laid_checks, lay_zero, lay_code}
 
 -- ---- no refusal
 

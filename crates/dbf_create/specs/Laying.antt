@@ -7,8 +7,7 @@ use Rattle.octets.specs.Bytes.{to_le16, to_le32}
 use Rattle.octets.specs.Store.{put}
 use Rattle.dbf_table.specs.Range.{any_below}
 use Rattle.dbf_table.specs.Table.{min_table, max_fields, max_record, plain_kind, memo_kind, end_mark, file_end, header_length_of, is_memo, field_offset}
-use Rattle.dbf_table.specs.Table.{fields_good}
-use Rattle.dbf_table.specs.Table.{names_differ, table_checks, first_year, storable_date}
+use Rattle.dbf_table.specs.Table.{fields_good, names_differ, table_checks, first_year, storable_date}
 use Rattle.dbf_field.specs.declared.FieldEntry.{FieldEntry}
 
 -- ---- the lent field list as descriptors

@@ -23,9 +23,8 @@ use Rattle.dbf_table.specs.Range.{any_below}
 use Rattle.dbf_table.specs.RangeLaws.{any_same, sum_same}
 use Rattle.dbf_table.specs.Table.{min_table, max_table, max_fields, max_record, plain_kind, memo_kind, end_mark, file_end, descriptor, field_length}
 use Rattle.dbf_table.specs.Table.{field_offset, field_count, header_length_of, record_length_of, record_count, records_end, size_good, kind_good, date_good}
-use Rattle.dbf_table.specs.Table.{header_good}
-use Rattle.dbf_table.specs.Table.{end_mark_good, fields_good, names_differ, is_memo, has_memo, memo_kind_good, record_length_good, length_good, table_checks}
-use Rattle.dbf_table.specs.Table.{table_refusal, check_table, first_year, storable_date}
+use Rattle.dbf_table.specs.Table.{header_good, end_mark_good, fields_good, names_differ, is_memo, has_memo, memo_kind_good, record_length_good, length_good}
+use Rattle.dbf_table.specs.Table.{table_checks, table_refusal, check_table, first_year, storable_date}
 use Rattle.dbf_table.specs.DateLaws.{StorableDate, storable}
 use Rattle.dbf_table.specs.TableLaws.{HeaderFits, table-numbered, good_check, good_then, refused_then, refused_check, good_shape}
 use Rattle.dbf_table.specs.declared.Shape.{Shape}

@@ -6,10 +6,8 @@ use borrow.Author.Tests.{le-leb, eq-eqb}
 use Rattle.octets.specs.Bytes.{byte_at, le16}
 use Rattle.dbf_table.specs.Range.{all_below, any_below, sum_below}
 use Rattle.dbf_table.specs.Table.{max_fields, descriptor, field_type, field_length, field_decimals, field_offset, field_count, header_length_of}
-use Rattle.dbf_table.specs.Table.{record_length_of}
-use Rattle.dbf_table.specs.Table.{records_end}
-use Rattle.dbf_table.specs.Table.{kind_good, header_good, end_mark_good, name_good, name_goes_on, descriptor_good, fields_good, same_byte, same_name}
-use Rattle.dbf_table.specs.Table.{name_taken, names_differ, is_memo, has_memo, memo_kind_good, record_length_good}
+use Rattle.dbf_table.specs.Table.{record_length_of, records_end, kind_good, header_good, end_mark_good, name_good, name_goes_on, descriptor_good, fields_good}
+use Rattle.dbf_table.specs.Table.{same_byte, same_name, name_taken, names_differ, is_memo, has_memo, memo_kind_good, record_length_good}
 use Rattle.dbf_table.specs.TableLaws.{HeaderFits}
 
 -- ---- tests and sums that agree on every number below a bound

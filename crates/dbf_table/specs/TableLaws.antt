@@ -1,5 +1,5 @@
 -- Laws: what each check gives the later ones, and what a table without refusal gives every call on it (`Layout`). Assumes nothing.
-use Rattle.std.specs.Prelude.{ℕ, ◌+◌, ◌*◌, ◌≤◌, ◌<◌, ◌≡◌, refl, Bool, true, false, ◌&&◌, List, [], ◌∷◌, ◌++◌, length, eqb, leb}
+use Rattle.std.specs.Prelude.{ℕ, ◌+◌, ◌*◌, ◌≤◌, ◌<◌, ◌≡◌, Bool, true, ◌&&◌, List, ◌++◌, length, eqb, leb}
 use Rattle.std.proofs.Common.{sym, ap, ◌∙◌, arith, lit<, leb-true, eqb-true, eq-eqb, ne_eqb}
 use Rattle.std.proofs.lemmas.Bool.{eqb-false}
 use Rattle.basis.specs.Tests.{either, both, impossible}
@@ -9,9 +9,8 @@ use Rattle.refusal.specs.CheckLaws.{Numbered, first-none, first-after, first-bef
 use Rattle.octets.specs.Bytes.{byte_at}
 use Rattle.dbf_table.specs.RangeLaws.{all-at}
 use Rattle.dbf_table.specs.Table.{min_table, max_table, max_fields, max_record, file_end, table_kind, header_length_of, record_length_of, record_count}
-use Rattle.dbf_table.specs.Table.{records_end}
-use Rattle.dbf_table.specs.Table.{field_count, field_offset, size_good, kind_good, header_good, descriptor_good, fields_good, record_length_good, length_good}
-use Rattle.dbf_table.specs.Table.{table_checks, table_refusal, shape_of, check_table}
+use Rattle.dbf_table.specs.Table.{records_end, field_count, field_offset, size_good, kind_good, header_good, descriptor_good, fields_good, record_length_good}
+use Rattle.dbf_table.specs.Table.{length_good, table_checks, table_refusal, shape_of, check_table}
 use Rattle.dbf_table.specs.declared.Shape.{Shape}
 use Rattle.dbf_table.specs.declared.Checked.TheVariants.{Good, Refused}
 

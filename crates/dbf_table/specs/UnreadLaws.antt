@@ -5,7 +5,7 @@ use Rattle.std.specs.Prelude.{ℕ, ◌+◌, ◌-◌, ◌≤◌, ◌<◌, ◌≡�
 use Rattle.std.proofs.Common.{sym, ◌∙◌, arith, length-take, length-drop, ext_get_or}
 use Rattle.std.proofs.Math.Path.{ap}
 use Rattle.std.proofs.lemmas.Bool.{false≢true}
-use mathlib.Core.List.{List, [], ◌∷◌, ◌++◌, append-nil}
+use mathlib.Core.List.{List, [], ◌++◌, append-nil}
 use Rattle.basis.specs.Tests.{either}
 use Rattle.refusal.specs.Checks.{first_refusal}
 use Rattle.refusal.specs.CheckLaws.{first-same}
@@ -14,11 +14,9 @@ use Rattle.octets.specs.Store.{window}
 use Rattle.octets.specs.StoreLaws.{get_d_window}
 use Rattle.dbf_table.specs.RangeLaws.{sum_same}
 use Rattle.dbf_table.specs.Table.{descriptor, field_type, field_length, field_decimals, field_offset, field_count, header_length_of, record_length_of}
-use Rattle.dbf_table.specs.Table.{record_count}
-use Rattle.dbf_table.specs.Table.{records_end, record_start, deletion_byte, size_good, kind_good, date_good, header_good, length_good, table_checks}
-use Rattle.dbf_table.specs.Table.{table_refusal}
-use Rattle.dbf_table.specs.Table.{shape_of, check_table}
-use Rattle.dbf_table.specs.TableLaws.{HeaderFits, header-fits, layout}
+use Rattle.dbf_table.specs.Table.{record_count, records_end, record_start, deletion_byte, size_good, kind_good, date_good, header_good, length_good}
+use Rattle.dbf_table.specs.Table.{table_checks, table_refusal, shape_of, check_table}
+use Rattle.dbf_table.specs.TableLaws.{HeaderFits, header-fits}
 use Rattle.dbf_table.specs.SameForm as form
 use Rattle.dbf_table.specs.SameForm.{Elsewhere}
 

@@ -13,7 +13,7 @@ use Rattle.dbf_walk.specs.declared.Position.{Position}
 use Rattle.dbf_walk.specs.declared.Step.{Step}
 use Rattle.dbf_walk.specs.declared.Step.TheVariants.{Record, Done, Refused}
 use Rattle.dbf_walk.specs.declared.Walked.{Walked}
-use Rattle.dbf_walk.specs.Walk.{marks_from, shown, step_at, first_of, step_from, step_by, walk_step, live_step}
+use Rattle.dbf_walk.specs.Walk.{marks_from, shown, step_at, step_from, step_by, walk_step, live_step}
 
 -- ---- runs
 

@@ -1,14 +1,10 @@
 -- `dbf_create::lay_out` meets its contract: the date, the count, and then the table that was made in the room. Assumes nothing.
-use mathlib.Core.Path.{◌≡◌, sym, ◌∙◌}
-use Prim.Native.Nat.{◌≤◌}
+use mathlib.Core.Path.{sym, ◌∙◌}
 use native.Mathlib.Omega.{arith}
 use lib.ListN.{length}
 use lib.Seq.{length-take-le}
 use Rattle.basis.specs.Tests.{passed, failed}
-use Rattle.octets.specs.StoreLaws.{length-put}
-use Rattle.dbf_table.specs.Table.{max_fields}
 use Rattle.dbf_table.specs.DateLaws.{storable}
-use Rattle.dbf_create.specs.Laying.{room_length}
 use Rattle.dbf_create.specs.LayingLaws.{count-range, Layable, lay_3, lay_4, made-length, lay_made}
 use borrow.Author.Rules.{rules}
 use Rattle.dbf_create.proofs.lay_out.Statement.{statement}

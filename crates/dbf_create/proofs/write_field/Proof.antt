@@ -56,7 +56,7 @@ returns : tie.Need-returns
 returns c =
     let filled = c.before.before in
     let copied = filled.before.before.before.before in
-    (field_put _ _ _ _ _ (name-eleven copied.before) copied.copy_in.ensures filled.fill.ensures, (name-eleven copied.before, tt))
+    (field_put _ _ _ _ _ (name-eleven copied.before) copied.copy_in.ensures filled.fill.ensures, name-eleven copied.before)
 
 pub write_field_spec : {M : Type 1} → statement M
 write_field_spec =

@@ -9,7 +9,6 @@ use Rattle.gatherloom.proofs.gl_fields.Goals as goal
 within_plan : (table : List ℕ) (room : ℕ) (plan : Plan) → plan ≡ plan_of table room → CountFits table room plan.count
 within_plan table room plan e = rw e (plan_fits table room)
 
--- src/lib.rt:82:5
 pub loop-j-init : goal.loop-j-init
 loop-j-init c = record {
   within = omega arith;
@@ -17,22 +16,18 @@ loop-j-init c = record {
   entries = listed-none c.args.table.now c.args.entries.now;
 }
 
--- src/lib.rt:83:9
 pub next_entry-last-requires : goal.next_entry-last-requires
 next_entry-last-requires c =
     let fits = within_plan _ _ _ c.listing_plan-plan.ensures in
     let held = fits.within c.loop-j.j c.loop-j-test.true in
     (held.0, held.1, c.loop-j.invariant.last)
 
--- src/lib.rt:84:9
 pub offset_bounds-entries-j : goal.offset_bounds-entries-j
 offset_bounds-entries-j c = record { fits = omega (arith, c.loop-j-test.true, (within_plan _ _ _ c.listing_plan-plan.ensures).few) }
 
--- src/lib.rt:84:9
 pub bounds-entries-j : goal.bounds-entries-j
 bounds-entries-j c = omega (arith, c.loop-j-test.true, (within_plan _ _ _ c.listing_plan-plan.ensures).enough, c.loop-j.auto.entries)
 
--- src/lib.rt:82:5
 pub loop-j-preserved : goal.loop-j-preserved
 loop-j-preserved c = record {
   within = omega arith;
@@ -40,7 +35,6 @@ loop-j-preserved c = record {
   entries = rw (c.loop-j.invariant.entries, c.next_entry-last.ensures) (listed_more c.args.table.now c.loop-j.j c.args.entries.now);
 }
 
--- src/lib.rt:74:1
 pub returns : goal.returns
 returns c =
     let planned : c.loop-j.j ≡ c.listing_plan-plan.result.count = omega (arith, c.loop-j.invariant.within) in

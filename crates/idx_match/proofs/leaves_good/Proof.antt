@@ -59,27 +59,27 @@ entry-count-requires c κs = search rules
 
 leaf-good-requires : tie.Need-leaf_good-requires invariant-loop decreases-loop
 leaf-good-requires c κs =
-    let pre = (start c.before.before.before.before.before.before).requires in
+    let pre = (start c.before).requires in
     (pre.0, entries-within _ _ _ _ _ c.entry_count-entries.ensures pre.1)
 
 returns : tie.Need-returns-then-not-leaf_good invariant-loop decreases-loop
 returns c =
     let counted = c.before.before in
     let test = counted.before in
-    let loop = (at-loop test.before.before).loop-left in
-    leaves_off _ (start test.before.before.before.before.before).args.column _ _ _ loop.page.0 loop.count loop.left loop.invariant.2 counted.entry_count-entries.result _
+    let loop = (at-loop test).loop-left in
+    leaves_off _ (start test).args.column _ _ _ loop.page.0 loop.count loop.left loop.invariant.2 counted.entry_count-entries.result _
     (some test) (page test) counted.entry_count-entries.ensures c.leaf_good.ensures (not-true _ c.if-not-leaf_good.true-raw)
 
 add-count : tie.Need-overflow_add-count invariant-loop decreases-loop
 add-count c =
     let counted = c.before.before in
-    omega (arith, (at-loop counted.before.before.before).loop-left.invariant.1, few counted)
+    omega (arith, (at-loop counted.before).loop-left.invariant.1, few counted)
 
 at-requires : tie.Need-at-head-requires invariant-loop decreases-loop
 at-requires c κs =
     let test = c.before.before.before in
     let o = is-page _ _ (page test) in
-    let f = (start test.before.before.before.before.before).requires.1 in
+    let f = (start test).requires.1 in
     omega arith
 
 sub-left : tie.Need-overflow_sub-left invariant-loop decreases-loop
@@ -93,10 +93,10 @@ loop-again c =
     let passed = c.before.before in
     let counted = passed.before.before in
     let test = counted.before in
-    let loop = (at-loop test.before.before).loop-left in (
+    let loop = (at-loop test).loop-left in (
       search rules,
       omega (arith, loop.invariant.1, few counted, some test),
-      leaves-on _ (start test.before.before.before.before.before).args.column _ _ _ loop.page.0 loop.count loop.left loop.invariant.2 counted.entry_count-entries.result _
+      leaves-on _ (start test).args.column _ _ _ loop.page.0 loop.count loop.left loop.invariant.2 counted.entry_count-entries.result _
           (some test) (page test) counted.entry_count-entries.ensures passed.leaf_good.ensures _ c.at-head.ensures.1.1.1
           (not-false _ passed.if-not-leaf_good.false-raw),
     )

@@ -79,12 +79,12 @@ tested c =
 returns-3 : tie.Need-returns-then-entries_match
 returns-3 c =
     let sound = (listed c.before).before in
-    answer-matched _ _ _ (none sound.before.before.before) _ sound.audit.ensures sound.if-audit-ne0.false _ (tested c.before) c.if-entries_match.true
+    answer-matched _ _ _ (none sound.before.before) _ sound.audit.ensures sound.if-audit-ne0.false _ (tested c.before) c.if-entries_match.true
 
 returns-4 : tie.Need-returns-else-entries_match
 returns-4 c =
     let sound = (listed c.before).before in
-    answer-other _ _ _ (none sound.before.before.before) _ sound.audit.ensures sound.if-audit-ne0.false _ (tested c.before) c.if-entries_match.false
+    answer-other _ _ _ (none sound.before.before) _ sound.audit.ensures sound.if-audit-ne0.false _ (tested c.before) c.if-entries_match.false
 
 pub match_checked_spec : {M : Type 1} → statement M
 match_checked_spec =

@@ -60,15 +60,15 @@ is-page-requires : tie.Need-is_page-requires invariant-loop decreases-loop
 is-page-requires c κs = search rules
 
 entry-count-requires : tie.Need-entry_count-entries-requires invariant-loop decreases-loop
-entry-count-requires c κs = let f = (start c.before.before.before.before.before.before).requires.0 in (f.key, f.within)
+entry-count-requires c κs = let f = (start c).requires.0 in (f.key, f.within)
 
 take-leaf-requires : tie.Need-take_leaf-at-requires invariant-loop decreases-loop
 take-leaf-requires c κs =
     let counted = c.before in
     let test = counted.before in
-    let loop = (at-loop test.before.before).loop-left in (
-      entries-within _ _ _ _ _ counted.entry_count-entries.ensures (start test.before.before.before.before.before.before).requires.0,
-      omega (arith, (start test.before.before.before.before.before.before).requires.1, loop.invariant.2),
+    let loop = (at-loop test).loop-left in (
+      entries-within _ _ _ _ _ counted.entry_count-entries.ensures (start test).requires.0,
+      omega (arith, (start test).requires.1, loop.invariant.2),
       omega (arith, loop.invariant.1, few counted, some test),
     )
 
@@ -76,7 +76,7 @@ at-requires : tie.Need-at-head-requires invariant-loop decreases-loop
 at-requires c κs =
     let test = c.before.before.before.before.before in
     let o = is-page _ _ (page test) in
-    let f = (start test.before.before.before.before.before.before).requires.0 in
+    let f = (start test).requires.0 in
     omega arith
 
 sub-left : tie.Need-overflow_sub-left invariant-loop decreases-loop
@@ -90,7 +90,7 @@ loop-again c =
     let taken = c.before.before.before.before in
     let counted = taken.before.before in
     let test = counted.before in
-    let loop = (at-loop test.before.before).loop-left in
+    let loop = (at-loop test).loop-left in
     let said = leaf-at _ _ _ _ _ _ _ _ _ taken.take_leaf-at.ensures in (
       search rules,
       omega (arith, said.0, loop.invariant.1, few counted, some test),
