@@ -18,9 +18,10 @@ fn named(archive: PathBuf) -> PathBuf {
 
 fn built() -> PathBuf {
     let root = Path::new(&env::var("CARGO_MANIFEST_DIR").unwrap()).join("..");
-    println!("cargo:rerun-if-changed={}", root.join("crates.txt").display());
-    println!("cargo:rerun-if-changed={}", root.join("tools/archive").display());
-    // what the proof reads; beside it lies what rt writes
+    for read in ["crates.txt", "tools/archive"] {
+        println!("cargo:rerun-if-changed={}", root.join(read).display());
+    }
+    // what the proof of each crate reads; beside it lies what rt writes
     for listed in fs::read_dir(root.join("crates")).unwrap() {
         for read in ["src", "specs", "proofs"] {
             let folder = listed.as_ref().unwrap().path().join(read);
