@@ -59,7 +59,7 @@ same_length c = search rules
 returns : tie.Need-returns-then-kind-eq0
 returns c =
     let at-lookup = c.before in
-    let at-if = at-lookup.before.before.before in
+    let at-if = at-lookup.before.before in
     let size = (lookup-size at-if).load_le16.ensures.0 in
     let kind = at-if.byte-kind.ensures.0 in
     lookup-made _ _ _ size kind at-if.if-kind-eq0.true at-lookup.lookup.ensures c.looked_up.ensures

@@ -90,10 +90,7 @@ returns c =
     let at-calls = at-loop.before.before in
     let at-index = at-calls.before in
     let ran = going_ends _ _ _ _ _ _ _ at-loop.loop-index.invariant c.goes_on.ensures c.loop-index-test.false in
-    record {
-      answers_value = ran;
-      sound_run_kept = sound-run-kept _ _ _ (λ i. (at-index.slice_known-1.given i).fits) (λ i. (at-calls.shared_slice_known-1.given i).fits) ran;
-    }
+    (ran, sound-run-kept _ _ _ (λ i. (at-index.slice_known-1.given i).fits) (λ i. (at-calls.shared_slice_known-1.given i).fits) ran)
 
 pub run_calls_spec : {M : Type 1} → statement M
 run_calls_spec =
