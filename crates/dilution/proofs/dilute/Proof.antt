@@ -17,7 +17,7 @@ abbrev start : tie.Else-refused-ne0 → tie.Start
 start c = c.before.before.before.before.before
 
 -- past the first test the sheet is not refused
-none : (c : tie.Else-refused-ne0) → let args = (start c).args in first_refusal (sheet_checks args.table.now args.index.now args.barcode-field args.field) ≡ 0
+none : (c : tie.Else-refused-ne0) → let args = (start c).args in first_refusal (sheet_checks args.table.now args.index.now args.barcode_field args.field) ≡ 0
 none c = sym c.sheet_refusal-refused.ensures ∙ c.if-refused-ne0.false
 
 -- so the index has a good header
@@ -59,7 +59,7 @@ record-dilution-requires c κs =
     let args = (start sought.before.before.before).args in
     let number = sought.record_with-number.ensures in
     let good = sheet_good _ _ _ _ sheet in
-    let named = record_named args.table.now args.index.now args.barcode-field good.matched good.distinct args.barcode.now
+    let named = record_named args.table.now args.index.now args.barcode_field good.matched good.distinct args.barcode.now
     (long sought.before) (omega (arith, c.if-number-eq0.false, number)) in
     sheet_dilutable _ _ _ _ sheet sought.record_with-number.result (omega (arith, named.0, number)) (omega (arith, named.1, number))
 

@@ -9,7 +9,7 @@ use borrow.Author.Rules.{rules}
 use Rattle.dilution.proofs.dilution_of.Statement.{statement}
 use Rattle.dilution.proofs.dilution_of.Tie as tie
 
-ranged : (c : tie.Else-not-ranged) → in_range c.args.target c.args.final-volume ≡ true
+ranged : (c : tie.Else-not-ranged) → in_range c.args.target c.args.final_volume ≡ true
 ranged c = passed c.in_range-ranged.ensures c.if-not-ranged.false-raw
 
 in-range-requires : tie.Need-in_range-ranged-requires

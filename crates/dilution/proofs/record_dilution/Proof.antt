@@ -72,7 +72,7 @@ returns-4 c =
     let args = read.args in
     let none = sym (refused.number_refusal-text_refused.ensures ∙ ap number_refusal (text read)) ∙ amount.if-text_refused-ne0.false in
     c.dilution_of.ensures
-    ∙ ap (λ x. dilution_of x args.target args.final-volume) (amount.concentration_of.ensures ∙ ap concentration_of (text read))
+    ∙ ap (λ x. dilution_of x args.target args.final_volume) (amount.concentration_of.ensures ∙ ap concentration_of (text read))
     ∙ sym (text_read _ _ _ _ _ (marked read.before.before.before) (kept read.before) none)
 
 pub record_dilution_spec : {M : Type 1} → statement M

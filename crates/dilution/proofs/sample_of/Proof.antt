@@ -8,8 +8,8 @@ use Rattle.dilution.proofs.sample_of.Statement.{statement}
 use Rattle.dilution.proofs.sample_of.Tie as tie
 
 -- the greatest target times the greatest final volume
-product : (c : tie.Start) → c.args.target * c.args.final-volume ≤ 1000000000 * 10000
-product c = mul-le-mul {n₁ = c.args.target} {m₁ = c.args.final-volume} {n₂ = 1000000000} {m₂ = 10000} c.requires.1 c.requires.2
+product : (c : tie.Start) → c.args.target * c.args.final_volume ≤ 1000000000 * 10000
+product c = mul-le-mul {n₁ = c.args.target} {m₁ = c.args.final_volume} {n₂ = 1000000000} {m₂ = 10000} c.requires.1 c.requires.2
 
 mul-amount : tie.Need-overflow_mul-amount
 mul-amount c = record { fits = omega (arith, product c) }
@@ -21,25 +21,25 @@ rem-rest : tie.Need-nonzero_rem-rest
 rem-rest c = search rules
 
 mul-if1 : tie.Need-overflow_mul-rest
-mul-if1 c = record { fits = omega (arith, product c, mod-le (c.args.target * c.args.final-volume) c.args.concentration) }
+mul-if1 c = record { fits = omega (arith, product c, mod-le (c.args.target * c.args.final_volume) c.args.concentration) }
 
 add-result : tie.Need-overflow_add-result
 add-result c =
     let args = c.args in
-    record { fits = omega (arith, product c.before, div-le_self (args.target * args.final-volume) args.concentration) }
+    record { fits = omega (arith, product c.before, div-le_self (args.target * args.final_volume) args.concentration) }
 
 returns : tie.Need-returns-then-concentration-rest
 returns c =
     let args = c.args in
-    let amount = args.target * args.final-volume in
-    sample_up args.concentration args.target args.final-volume _ _ c.requires.0 (div-add-mod' amount args.concentration)
+    let amount = args.target * args.final_volume in
+    sample_up args.concentration args.target args.final_volume _ _ c.requires.0 (div-add-mod' amount args.concentration)
     (mod-lt amount c.requires.0) c.if-concentration-rest.true
 
 returns-2 : tie.Need-returns
 returns-2 c =
     let args = c.args in
-    let amount = args.target * args.final-volume in
-    sample-down args.concentration args.target args.final-volume _ _ c.requires.0 (div-add-mod' amount args.concentration)
+    let amount = args.target * args.final_volume in
+    sample-down args.concentration args.target args.final_volume _ _ c.requires.0 (div-add-mod' amount args.concentration)
     (mod-lt amount c.requires.0) (omega (arith, c.if-concentration-rest.false))
 
 pub sample_of_spec : {M : Type 1} → statement M

@@ -18,10 +18,10 @@ read : (c : tie.Else-unread-ne0) → let args = (start c).args in first_refusal 
 read c = sym c.header_refusal-unread.ensures ∙ c.if-unread-ne0.false
 
 answered : (c : tie.After-match_index-refused) → let args = (start c.before).args in
-    c.match_index-refused.result ≡ match_answer args.table.now args.index.now args.barcode-field
+    c.match_index-refused.result ≡ match_answer args.table.now args.index.now args.barcode_field
 answered c =
     let args = (start c.before).args in
-    (answer-computed args.table.now args.index.now args.barcode-field _).0 c.match_index-refused.ensures
+    (answer-computed args.table.now args.index.now args.barcode_field _).0 c.match_index-refused.ensures
 
 header-refusal-requires : tie.Need-header_refusal-unread-requires
 header-refusal-requires c κs = search rules

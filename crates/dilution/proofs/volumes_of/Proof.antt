@@ -7,10 +7,10 @@ use borrow.Author.Rules.{rules}
 use Rattle.dilution.proofs.volumes_of.Statement.{statement}
 use Rattle.dilution.proofs.volumes_of.Tie as tie
 
-at_most : (c : tie.After-sample_of-volume) → c.sample_of-volume.result ≤ c.args.final-volume
+at_most : (c : tie.After-sample_of-volume) → c.sample_of-volume.result ≤ c.args.final_volume
 at_most c =
     let start = c.before in
-    rw c.sample_of-volume.ensures (sample-most start.args.concentration start.args.target start.args.final-volume start.requires.0 start.requires.1)
+    rw c.sample_of-volume.ensures (sample-most start.args.concentration start.args.target start.args.final_volume start.requires.0 start.requires.1)
 
 sample-of-requires : tie.Need-sample_of-volume-requires
 sample-of-requires c κs = search rules

@@ -34,7 +34,7 @@ returns c =
     let in-loop = found.before in
     let at-loop = in-loop.before in
     ap (λ (w : Wrong). fault at-loop.loop-line.line w) c.wrong_at.ensures
-    ∙ sym (fault-here _ _ _ _ found.line_at_lem.ensures in-loop.loop-line-test.true (not-true _ tested.if-not-found.true))
+    ∙ sym (fault-here _ _ _ _ found.line_at-found.ensures in-loop.loop-line-test.true (not-true _ tested.if-not-found.true))
     ∙ at-loop.loop-line.invariant.1
 
 add-line : tie.Need-overflow_add-line invariant-loop decreases-loop
@@ -49,7 +49,7 @@ loop-again c =
     let in-loop = found.before in
     let at-loop = in-loop.before in (
       omega arith,
-      sym (fault-later _ _ _ _ found.line_at_lem.ensures in-loop.loop-line-test.true (not-false _ c.if-not-found.false)) ∙ at-loop.loop-line.invariant.1,
+      sym (fault-later _ _ _ _ found.line_at-found.ensures in-loop.loop-line-test.true (not-false _ c.if-not-found.false)) ∙ at-loop.loop-line.invariant.1,
     )
 
 wrong-after-requires : tie.Need-wrong_after-requires invariant-loop decreases-loop

@@ -16,7 +16,7 @@ line-at-requires : tie.Need-line_at-requires
 line-at-requires c κs = search rules
 
 returns-2 : tie.Need-returns
-returns-2 c = c.line_at_lem.ensures ∙ sym (next-some _ _ (not-false _ c.if-not-before.false))
+returns-2 c = c.line_at.ensures ∙ sym (next-some _ _ (not-false _ c.if-not-before.false))
 
 pub next_line_spec : {M : Type 1} → statement M
 next_line_spec =

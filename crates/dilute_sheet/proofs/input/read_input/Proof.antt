@@ -30,7 +30,7 @@ returns c =
     let second = third.before in
     let first = second.before in
     input_answer _ _ (ap (λ (q : Request). Asked q) c.request_of.ensures
-    ∙ sym (input_asked _ _ _ _ _ first.line_at_lem.ensures second.next_line-second.ensures third.next_line-third.ensures fourth.next_line-fourth.ensures
+    ∙ sym (input_asked _ _ _ _ _ first.line_at-first.ensures second.next_line-second.ensures third.next_line-third.ensures fourth.next_line-fourth.ensures
     tested.if-fourth-input.true))
 
 returns-2 : tie.Need-returns
@@ -40,7 +40,7 @@ returns-2 c =
     let second = third.before in
     let first = second.before in
     input_answer _ _
-    (sym (input_other _ _ _ _ _ first.line_at_lem.ensures second.next_line-second.ensures third.next_line-third.ensures fourth.next_line-fourth.ensures
+    (sym (input_other _ _ _ _ _ first.line_at-first.ensures second.next_line-second.ensures third.next_line-third.ensures fourth.next_line-fourth.ensures
     c.if-fourth-input.false))
 
 pub read_input_spec : {M : Type 1} → statement M
