@@ -128,4 +128,6 @@ returns-3 c =
 pub make_call_spec : {M : Type 1} → statement M
 make_call_spec =
     tie.close
-    (tie.spec add-from add-load-le16 load-le16-requires cast-end add-end byte-requires sub-lookup part-lookup-start part-lookup-end lookup-requires looked-up-requires same_length returns load-le32-requires sub-remove part-remove-start part-remove-end remove-requires changed-requires same-length-2 returns-2 sub-insert part-insert-start part-insert-end insert-requires changed-requires-2 same-length-3 returns-3)
+    (tie.spec add-from add-load-le16 load-le16-requires cast-end add-end byte-requires sub-lookup part-lookup-start part-lookup-end lookup-requires
+    looked-up-requires same_length returns load-le32-requires sub-remove part-remove-start part-remove-end remove-requires changed-requires same-length-2
+    returns-2 sub-insert part-insert-start part-insert-end insert-requires changed-requires-2 same-length-3 returns-3)

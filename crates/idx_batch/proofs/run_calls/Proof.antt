@@ -95,4 +95,5 @@ returns c =
 pub run_calls_spec : {M : Type 1} → statement M
 run_calls_spec =
     tie.close
-    (tie.spec invariant-loop decreases-loop loop-holds mul-goes-on sub-goes-on goes-on-requires make-call-requires mul-write-reply write-reply-requires call-end-requires add-made loop-less loop-again same_length same-length-2 returns)
+    (tie.spec invariant-loop decreases-loop loop-holds mul-goes-on sub-goes-on goes-on-requires make-call-requires mul-write-reply write-reply-requires
+    call-end-requires add-made loop-less loop-again same_length same-length-2 returns)
