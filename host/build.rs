@@ -18,15 +18,23 @@ fn named(archive: PathBuf) -> PathBuf {
 
 fn built() -> PathBuf {
     let root = Path::new(&env::var("CARGO_MANIFEST_DIR").unwrap()).join("..");
-    for read in ["crates", "crates.txt"] {
+    for read in ["crates.txt", "tools/archive"] {
         println!("cargo:rerun-if-changed={}", root.join(read).display());
     }
-    let ended = Command::new("rt")
-        .args(["staticlib", "gatherloom"])
-        .current_dir(&root)
-        .status()
-        .expect("rt makes the archive; if there is no rt, GATHERLOOM_ARCHIVE names an archive");
-    assert!(ended.success(), "rt staticlib gatherloom: {ended}");
+    // what the proof of each crate reads; beside it lies what rt writes
+    for listed in fs::read_dir(root.join("crates")).unwrap() {
+        for read in ["src", "specs", "proofs"] {
+            let folder = listed.as_ref().unwrap().path().join(read);
+            if folder.is_dir() {
+                println!("cargo:rerun-if-changed={}", folder.display());
+            }
+        }
+    }
+    let ended = Command::new(root.join("tools/archive")).status().unwrap();
+    assert!(
+        ended.success(),
+        "tools/archive: {ended}; if there is no rt, GATHERLOOM_ARCHIVE names an archive"
+    );
     root.join("target/staticlib/libgatherloom.a")
 }
 

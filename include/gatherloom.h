@@ -1,4 +1,4 @@
-/* Gatherloom: dBASE/FoxPro tables, memo files, IDX and NDX indexes. Link with the archive that `rt staticlib gatherloom` builds.
+/* Gatherloom: dBASE/FoxPro tables, memo files, IDX and NDX indexes. Link with the archive that `tools/archive` builds.
 
    Whatever bytes, numbers and lengths come in, a call ends, touches nothing outside what it was lent, and checks for itself. The caller sees to it that no
    pointer is NULL, not even with a length of 0, that as much stands behind each as is lent, and that what a call may write overlaps nothing else that the same
