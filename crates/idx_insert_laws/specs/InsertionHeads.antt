@@ -148,7 +148,8 @@ module _ (k : ℕ) (N : Naming) (path : ℕ → ℕ) (b : List ℕ) where
       let lower : length (take i es) ≤ capacity k = simp length-take (omega arith) in
       let upper : length (drop i es) ≤ capacity k = simp length-drop (omega arith) in
       let s : (z : ℕ) → is_page (length b) z ≡ true
-      → Head (split_page b' p es q) z (cond (eqb z q) (without_root (attribute_at b' p)) (cond (eqb z p) (without_root (attribute_at b' p)) (attribute_at b' z)))
+      → Head (split_page b' p es q) z
+      (cond (eqb z q) (without_root (attribute_at b' p)) (cond (eqb z p) (without_root (attribute_at b' p)) (attribute_at b' z)))
       (cond (eqb z q) (length (drop i es)) (cond (eqb z p) (length (take i es)) (count_at b' z)))
       (cond (eqb z q) p (cond (eqb z (right_at b' p)) q (left_at b' z)))
       (cond (eqb z p) q (cond (eqb z q) (right_at b' p) (right_at b' z))) =

@@ -112,7 +112,8 @@ module _ (b key : List ℕ) (r : ℕ) (accepts : Accepts b key r) where
   two = omega (arith, capacity-least k good.key-high)
 
   sound-before : SoundIndex kept_setting before
-  sound-before = subst (SoundIndex kept_setting) (sym before_is) (sound-index b accepts.sound (min (length b) max_bytes) (omega (arith, good.within, good.most)))
+  sound-before =
+      subst (SoundIndex kept_setting) (sym before_is) (sound-index b accepts.sound (min (length b) max_bytes) (omega (arith, good.within, good.most)))
 
   sound-after : SoundIndex kept_setting after
   sound-after =

@@ -95,4 +95,5 @@ returns c =
 pub gather_pair_spec : {M : Type 1} → statement M
 gather_pair_spec =
     tie.close
-    (tie.spec place-requires add_at mul_at copy-entries-requires copy-in-requires add-put-record-number put-record-number-requires add-copy-entries add-copy-entries-2 copy-entries-requires-2 same_length returns)
+    (tie.spec place-requires add_at mul_at copy-entries-requires copy-in-requires add-put-record-number put-record-number-requires add-copy-entries
+    add-copy-entries-2 copy-entries-requires-2 same_length returns)

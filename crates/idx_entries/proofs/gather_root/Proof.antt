@@ -42,4 +42,5 @@ returns c =
 pub gather_root_spec : {M : Type 1} → statement M
 gather_root_spec =
     tie.close
-    (tie.spec copy-last-key-requires put-child-requires add-copy-last-key copy-last-key-requires-2 add-put-child add-put-child-2 put-child-requires-2 same_length returns)
+    (tie.spec copy-last-key-requires put-child-requires add-copy-last-key copy-last-key-requires-2 add-put-child add-put-child-2 put-child-requires-2
+    same_length returns)

@@ -81,4 +81,5 @@ returns-3 c =
 pub raise_key_spec : {M : Type 1} → statement M
 raise_key_spec =
     tie.close
-    (tie.spec entry-count-requires same_length returns compare-entry-requires is-below-requires entry-offset-requires copy-in-requires same-length-2 returns-2 same-length-3 returns-3)
+    (tie.spec entry-count-requires same_length returns compare-entry-requires is-below-requires entry-offset-requires copy-in-requires same-length-2 returns-2
+    same-length-3 returns-3)

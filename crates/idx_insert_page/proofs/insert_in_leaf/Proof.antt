@@ -84,4 +84,5 @@ returns c =
 pub insert_in_leaf_spec : {M : Type 1} → statement M
 insert_in_leaf_spec =
     tie.close
-    (tie.spec entry-count-requires gather-pair-requires add-size add-size-2 mul-size add-take-in slice-reshare-prefix-take-in slice-aggregate-take-in take-in-requires same_length same-length-2 returns)
+    (tie.spec entry-count-requires gather-pair-requires add-size add-size-2 mul-size add-take-in slice-reshare-prefix-take-in slice-aggregate-take-in
+    take-in-requires same_length same-length-2 returns)

@@ -94,4 +94,5 @@ returns-2 c =
 pub take_in_two_spec : {M : Type 1} → statement M
 take_in_two_spec =
     tie.close
-    (tie.spec entry-count-requires same_length returns gather-two-requires add-size add-size-2 mul-size add-take-in slice-reshare-prefix-take-in slice-aggregate-take-in take-in-requires same-length-2 same-length-3 returns-2)
+    (tie.spec entry-count-requires same_length returns gather-two-requires add-size add-size-2 mul-size add-take-in slice-reshare-prefix-take-in
+    slice-aggregate-take-in take-in-requires same-length-2 same-length-3 returns-2)

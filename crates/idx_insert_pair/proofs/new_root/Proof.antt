@@ -121,4 +121,5 @@ returns-2 c =
 pub new_root_spec : {M : Type 1} → statement M
 new_root_spec =
     tie.close
-    (tie.spec take-page-requires is-page-requires same_length returns gather-root-requires add-size mul-size slice-reshare-prefix-new-page slice-aggregate-new-page new-page-requires set-root-requires set-supply-requires same-length-2 same-length-3 returns-2)
+    (tie.spec take-page-requires is-page-requires same_length returns gather-root-requires add-size mul-size slice-reshare-prefix-new-page
+    slice-aggregate-new-page new-page-requires set-root-requires set-supply-requires same-length-2 same-length-3 returns-2)

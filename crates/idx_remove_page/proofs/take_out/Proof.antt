@@ -107,4 +107,5 @@ returns-3 c =
 pub take_out_spec : {M : Type 1} → statement M
 take_out_spec =
     tie.close
-    (tie.spec entry-count-requires same_length returns sub-fewer add-size mul-size gather-without-requires slice-reshare-prefix-with-entries slice-aggregate-with-entries with-entries-requires same-length-2 same-length-3 returns-2 same-length-4 same-length-5 returns-3)
+    (tie.spec entry-count-requires same_length returns sub-fewer add-size mul-size gather-without-requires slice-reshare-prefix-with-entries
+    slice-aggregate-with-entries with-entries-requires same-length-2 same-length-3 returns-2 same-length-4 same-length-5 returns-3)
