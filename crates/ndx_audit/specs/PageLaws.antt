@@ -89,7 +89,8 @@ inner b zero p s = items by_top (entries_at b p) s
 inner b (suc h) p s = over (under by_top) (passed by_top) (λ e. walk_under b h e.1) (entries_at b p) s
 
 walk_is : (b : List ℕ) (lone : Bool) (h p : ℕ) (s : Status Key)
-    → walk by_top (page_count b) (entries_at b) (page_fits b) lone h p s ≡ if_good (inner b h p) (enter by_top (page_count b) (entries_at b) (page_fits b) lone h p s)
+    → walk by_top (page_count b) (entries_at b) (page_fits b) lone h p s
+    ≡ if_good (inner b h p) (enter by_top (page_count b) (entries_at b) (page_fits b) lone h p s)
 unfolding walk
 walk_is b lone zero p s = refl
 walk_is b lone (suc h) p s = refl
