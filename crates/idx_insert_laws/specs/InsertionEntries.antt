@@ -45,8 +45,8 @@ use Rattle.idx_layout.specs.Layout.{new_page}
 use Rattle.idx_entries.specs.Entries.{replaced, raised, two_for}
 use Rattle.idx_leaf.specs.ItemLaws.{Fit}
 use Rattle.idx_leaf.specs.EntryLaws.{items_in_fit}
-use Rattle.idx_entries.specs.GatherLaws.{length_last}
-use Rattle.idx_entries.specs.FitLaws.{length-insert, length-replaced, pair_fit, two-fit}
+use Rattle.idx_entries.proofs.GatherLaws.{length_last}
+use Rattle.idx_entries.proofs.FitLaws.{length-insert, length-replaced, pair_fit, two-fit}
 use Rattle.idx_insert_page.specs.Insertion.{Outcome, kept, split, bad, Step, step, take_in, after_child, insert_under, at_root}
 use Rattle.idx_layout_laws.specs.EntryLaws.{entries_in, page-of, raise, items-few, entries-header, entries_with, length_with, entries-new, entries-split}
 use Rattle.idx_layout_laws.specs.EntryLaws.{length-new, length-split, entries-raised, length-raised}

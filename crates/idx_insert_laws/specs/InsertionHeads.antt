@@ -35,7 +35,7 @@ use Rattle.idx_layout.specs.Layout.{with_entries, without_root, split_page}
 use Rattle.idx_entries.specs.Entries.{replaced, raised, two_for}
 use Rattle.idx_leaf.specs.ItemLaws.{Fit}
 use Rattle.idx_leaf.specs.EntryLaws.{items_in_fit}
-use Rattle.idx_entries.specs.FitLaws.{length-insert, length-replaced, pair_fit, two-fit}
+use Rattle.idx_entries.proofs.FitLaws.{length-insert, length-replaced, pair_fit, two-fit}
 use Rattle.idx_sound.specs.Sound.{links_of, kept_by}
 use Rattle.idx_insert_page.specs.Insertion.{Outcome, kept, split, bad, Step, take_in, after_child, insert_under}
 use Rattle.idx_layout_laws.specs.EntryLaws.{entries_in, page-of, items-few}

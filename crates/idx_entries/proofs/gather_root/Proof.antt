@@ -1,5 +1,5 @@
 -- `idx_entries::gather_root` meets its contract: four stores, one after another, are the bytes of the rule's entries. Assumes nothing.
-use Rattle.idx_entries.specs.FitLaws.{root-gathered}
+use Rattle.idx_entries.proofs.FitLaws.{root-gathered}
 use borrow.Author.Rules.{rules}
 use Rattle.idx_entries.proofs.gather_root.Statement.{statement}
 use Rattle.idx_entries.proofs.gather_root.Tie as tie

@@ -7,7 +7,7 @@ use Rattle.idx_page.specs.PageLaws.{within-entry}
 use Rattle.idx_page.specs.Within.{Within}
 use Rattle.idx_layout.specs.Given.{room_size}
 use Rattle.idx_leaf.specs.EntryLaws.{listed-within}
-use Rattle.idx_entries.specs.GatherLaws.{spread, Spread, two-gathered}
+use Rattle.idx_entries.proofs.GatherLaws.{spread, Spread, two-gathered}
 use borrow.Author.Rules.{rules}
 use Rattle.idx_entries.proofs.gather_two.Statement.{statement}
 use Rattle.idx_entries.proofs.gather_two.Tie as tie

@@ -4,8 +4,8 @@ use lib.ListN.{length, length-take}
 use Rattle.idx_page.specs.Header.{features}
 use Rattle.idx_page.specs.EntryOrder.{item_order}
 use Rattle.idx_leaf.specs.Given.{Listed}
-use Rattle.idx_entries.specs.GatherLaws.{Spread, spread}
-use Rattle.idx_entries.specs.FitLaws.{one_more, pair_read}
+use Rattle.idx_entries.proofs.GatherLaws.{Spread, spread}
+use Rattle.idx_entries.proofs.FitLaws.{one_more, pair_read}
 use borrow.Author.Rules.{rules}
 use Rattle.idx_insert_page.proofs.insert_in_leaf.Statement.{statement}
 use Rattle.idx_insert_page.proofs.insert_in_leaf.Tie as tie

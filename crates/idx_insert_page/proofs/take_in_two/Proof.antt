@@ -2,8 +2,8 @@
 use native.Mathlib.Omega.{arith}
 use lib.ListN.{length, length-take}
 use Rattle.idx_leaf.specs.Given.{Listed}
-use Rattle.idx_entries.specs.GatherLaws.{Spread, spread}
-use Rattle.idx_entries.specs.FitLaws.{one_more, two-read}
+use Rattle.idx_entries.proofs.GatherLaws.{Spread, spread}
+use Rattle.idx_entries.proofs.FitLaws.{one_more, two-read}
 use Rattle.idx_insert_page.specs.StepLaws.{two_for_some, two_for_none}
 use borrow.Author.Rules.{rules}
 use Rattle.idx_insert_page.proofs.take_in_two.Statement.{statement}

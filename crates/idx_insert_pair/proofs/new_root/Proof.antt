@@ -8,7 +8,7 @@ use Rattle.basis.specs.Tests.{passed, failed}
 use Rattle.idx_page.specs.Header.{is_page}
 use Rattle.idx_page.specs.HeaderLaws.{IsPage, is-page}
 use Rattle.idx_layout.specs.WriteLaws.{capacity-least}
-use Rattle.idx_entries.specs.FitLaws.{root-read}
+use Rattle.idx_entries.proofs.FitLaws.{root-read}
 use Rattle.idx_insert_page.specs.StepLaws.{root_none, root-new}
 use borrow.Author.Rules.{rules}
 use Rattle.idx_insert_pair.proofs.new_root.Statement.{statement}

@@ -3,9 +3,9 @@ use Prim.Native.Nat.{◌-◌, ◌<◌}
 use native.Mathlib.Omega.{arith}
 use lib.ListN.{length-take}
 use Rattle.idx_leaf.specs.Given.{Listed}
-use Rattle.idx_entries.specs.GatherLaws.{Spread, spread}
+use Rattle.idx_entries.proofs.GatherLaws.{Spread, spread}
 use Rattle.idx_leaf.specs.SearchLaws.{counted-some}
-use Rattle.idx_entries.specs.FitLaws.{one_less, without-read}
+use Rattle.idx_entries.proofs.FitLaws.{one_less, without-read}
 use Rattle.idx_remove_page.specs.StepLaws.{takes_none, takes-last, takes_one}
 use borrow.Author.Rules.{rules}
 use Rattle.idx_remove_page.proofs.take_out.Statement.{statement}
