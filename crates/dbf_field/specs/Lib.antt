@@ -4,5 +4,3 @@
 pub mod Field
 -- Laws: what the answers about a field say, and a field's bytes lie in the table
 pub mod FieldLaws
--- Laws: the deletion byte and the fields tile a record, by the entries' own offsets and lengths
-pub mod TilingLaws

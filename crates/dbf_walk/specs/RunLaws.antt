@@ -118,23 +118,23 @@ unfolding handed_out shown marks_from
 handed_length b zero passed = refl
 handed_length b (suc left) passed = omega (arith, handed_length b left (passed + 1))
 
-handed_at : (b : List ℕ) (left passed k i : ℕ) (none : Step) → i ≡ passed + 1 + k → k < left
-    → get_or (handed_out false (marks_from b passed left) ++ (Done ∷ [])) k none ≡ step_at (i, deletion_byte b i)
+handed_at : (b : List ℕ) (left passed k i : ℕ) (past : Step) → i ≡ passed + 1 + k → k < left
+    → get_or (handed_out false (marks_from b passed left) ++ (Done ∷ [])) k past ≡ step_at (i, deletion_byte b i)
 unfolding handed_out shown marks_from
-handed_at b zero passed k i none e h = absurd (not-suc-le-zero h)
-handed_at b (suc left) passed zero i none e h = let first : i ≡ passed + 1 = omega arith in rw first
-handed_at b (suc left) passed (suc k) i none e h = handed_at b left (passed + 1) k i none (omega arith) (omega arith)
+handed_at b zero passed k i past e h = absurd (not-suc-le-zero h)
+handed_at b (suc left) passed zero i past e h = let first : i ≡ passed + 1 = omega arith in rw first
+handed_at b (suc left) passed (suc k) i past e h = handed_at b left (passed + 1) k i past (omega arith) (omega arith)
 
-handed_done : (b : List ℕ) (left passed : ℕ) (none : Step) → get_or (handed_out false (marks_from b passed left) ++ (Done ∷ [])) left none ≡ Done
+handed_done : (b : List ℕ) (left passed : ℕ) (past : Step) → get_or (handed_out false (marks_from b passed left) ++ (Done ∷ [])) left past ≡ Done
 unfolding handed_out shown marks_from
-handed_done b zero passed none = refl
-handed_done b (suc left) passed none = handed_done b left (passed + 1) none
+handed_done b zero passed past = refl
+handed_done b (suc left) passed past = handed_done b left (passed + 1) past
 
 -- "every record with a mark": n answers and done, the i-th of them for record i
 pub record Whole (b : List ℕ) (answers : List Step) : Type 0 where
   pub count : length answers ≡ record_count b + 1
-  pub each : (i : ℕ) (none : Step) → 1 ≤ i → i ≤ record_count b → get_or answers (i - 1) none ≡ step_at (i, deletion_byte b i)
-  pub ends : (none : Step) → get_or answers (record_count b) none ≡ Done
+  pub each : (i : ℕ) (past : Step) → 1 ≤ i → i ≤ record_count b → get_or answers (i - 1) past ≡ step_at (i, deletion_byte b i)
+  pub ends : (past : Step) → get_or answers (record_count b) past ≡ Done
 
 pub walk-whole : (b : List ℕ) → table_refusal b ≡ 0 → (calls : ℕ) → record_count b < calls → Whole b (walk_run (walk_step b) (record { passed = 0 }) calls)
 walk-whole b good calls h =
@@ -142,6 +142,6 @@ walk-whole b good calls h =
     let all : n - 0 ≡ n = omega arith in
     rw (walk-run false b good (record { passed = 0 }) calls (omega arith), all) (record {
       count = handed_length b n 0;
-      each = λ i none from to. handed_at b n 0 (i - 1) i none (omega arith) (omega arith);
-      ends = λ none. handed_done b n 0 none;
+      each = λ i past from to. handed_at b n 0 (i - 1) i past (omega arith) (omega arith);
+      ends = λ past. handed_done b n 0 past;
     })

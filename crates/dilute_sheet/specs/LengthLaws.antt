@@ -27,7 +27,8 @@ use Rattle.idx_sound.specs.AuditTest.{pages_good}
 use Rattle.idx_match.specs.Match.{match_checks, match_refusal}
 use Rattle.idx_match.specs.MatchTest.{column_of, entries_match, leaf_entries}
 use Rattle.idx_match.specs.Computed.{match_answer}
-use Rattle.dilution.specs.Dilution.{volumes_of, concentration_decimals, concentration_text, concentration_of, header_checks, field_checks, sheet_checks, record_with}
+use Rattle.dilution.specs.Dilution.{volumes_of, concentration_decimals, concentration_text, concentration_of, header_checks, field_checks, sheet_checks}
+use Rattle.dilution.specs.Dilution.{record_with}
 use Rattle.dilution.specs.Dilution.{barcode_checks, text_checks, volume_checks, dilution_of, record_dilution, dilute_rule}
 use Rattle.dilution.specs.StepLaws.{range_bounds}
 use Rattle.dilution.specs.VolumeLaws.{sample-most}
@@ -92,7 +93,8 @@ unfolding dilute_rule record_dilution barcode_checks text_checks
 dilute_small t b barcodeField field barcode target final =
     let i = record_with b barcode in
     let said = concentration_text t i field in
-    unless-small _ _ (all_append Low (sheet_checks t b barcodeField field) (barcode_checks b barcode) (sheet_low t b barcodeField field) (lit< tt, (lit< tt, tt)))
+    unless-small _ _ (all_append Low (sheet_checks t b barcodeField field) (barcode_checks b barcode)
+    (sheet_low t b barcodeField field) (lit< tt, (lit< tt, tt)))
     (λ good. unless-small (text_checks t i field) _ (lit< tt, (lit< tt, (text_low t i field said refl, tt)))
     (λ more. volumes-small (concentration_of said) target final))
 
@@ -154,7 +156,8 @@ module _ (t b : List ℕ) (q : Request) where
       let first = offset-positive t (q.barcode_field - 1) in
       let each : k + 13 ≤ 7 * record_length_of t = omega arith in
       let all = mul-le-mul_left (record_count t) each in
-      let turned : record_count t * (7 * record_length_of t) ≡ 7 * (record_count t * record_length_of t) = mul_left_comm (record_count t) 7 (record_length_of t) in
+      let turned : record_count t * (7 * record_length_of t) ≡ 7 * (record_count t * record_length_of t) =
+      mul_left_comm (record_count t) 7 (record_length_of t) in
       omega (arith, all, turned, table.records)
 
   request_short : length (request_text t b q) ≤ 7 * length t + 4

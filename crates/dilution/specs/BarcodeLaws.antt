@@ -114,7 +114,8 @@ module _ (t b : List ℕ) (field : ℕ) (matched : match_answer t b field ≡ 0)
           ∙ ap record_or (find-get (kept_by b) key (leaf_pairs b s) s.ascending)
 
       -- Theorem: the record that is found has the barcode in its field
-      pub record_named : 0 < record_with b key → (1 ≤ record_with b key) × (record_with b key ≤ record_count t) × (field_bytes t (record_with b key) field ≡ key)
+      pub record_named : 0 < record_with b key
+          → (1 ≤ record_with b key) × (record_with b key ≤ record_count t) × (field_bytes t (record_with b key) field ≡ key)
       record_named h = named (get bytes_order key (leaf_pairs b met.sound)) refl
         where
           named : (o : Option ℕ) → get bytes_order key (leaf_pairs b met.sound) ≡ o

@@ -1,7 +1,8 @@
 -- Laws: "to the nearest tenth, halves up, so twice the gap, times the concentration, is at most the concentration"; "Sample and diluent add to the final
 -- volume". Assumes nothing.
 use Rattle.std.specs.Prelude.{ℕ, ◌+◌, ◌*◌, ◌-◌, ◌/◌, ◌≤◌, ◌<◌, ◌≡◌, ◌⊎◌, ltb, eqb}
-use Rattle.std.proofs.Common.{inl, inr, mul_assoc, mul_comm, mul_left_comm, add-mul, mul-le-mul_right, div-mul-le_self, div-lt_iff_lt-mul, arith, ltb-true, ltb-false, eqb-true}
+use Rattle.std.proofs.Common.{inl, inr, mul_assoc, mul_comm, mul_left_comm, add-mul, mul-le-mul_right, div-mul-le_self, div-lt_iff_lt-mul, arith, ltb-true}
+use Rattle.std.proofs.Common.{ltb-false, eqb-true}
 use Rattle.std.proofs.Math.Nat.{lt-div-mul-add}
 use Rattle.std.proofs.lemmas.Bool.{eqb-false}
 use Rattle.basis.specs.Tests.{either}

@@ -18,8 +18,8 @@ pub damaged_refused : (audit.pages_good (set tree.tree000 1036 66) ≡ false)
     × (audit.pages_good (set tree.tree000 1039 0) ≡ false)
     × (audit.pages_good (set tree.tree000 1027 255) ≡ false)
 unfolding tree.tree000 tree.padded tree.page tree.entry bytes.le16 bytes.le32 bytes.be32 bytes.to_le16 bytes.to_le32 bytes.to_be32 store.window order.bytes_le
-    order.ordering header.is_page page.capacity page.count_good pages.items pages.items_at pages.entries_at audit.leaf_entries_good audit.onward audit.upper_entries
-    audit.chain children.is_leaf audit.entries_fit audit.page_fits audit.check_page audit.check_pages audit.counted audit.check_rows audit.root_level audit.next_level
-    audit.levels_under audit.height_of audit.down audit.upper_pages audit.upper_levels audit.shape_good audit.keys_above_good audit.pages_good
-    audit.is_free_page audit.free_fits audit.check_free
+    order.ordering header.is_page page.capacity page.count_good pages.items pages.items_at pages.entries_at audit.leaf_entries_good audit.onward
+    audit.upper_entries audit.chain children.is_leaf audit.entries_fit audit.page_fits audit.check_page audit.check_pages audit.counted audit.check_rows
+    audit.root_level audit.next_level audit.levels_under audit.height_of audit.down audit.upper_pages audit.upper_levels audit.shape_good
+    audit.keys_above_good audit.pages_good audit.is_free_page audit.free_fits audit.check_free
 damaged_refused = (refl, refl, refl, refl, refl)

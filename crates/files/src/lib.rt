@@ -1,5 +1,5 @@
-// Whole files, standard input, and the words that a program is called with. A file is read to the start of a buffer, or refused with a message on standard error that says why. `err` is what prints
-// there, as the standard error of the runtime that `main` is given.
+// Whole files, standard input, and the words that a program is called with. A file is read to the start of a buffer, or refused with a message on standard
+// error that says why. `err` is what prints there, as the standard error of the runtime that `main` is given.
 #![tactic(auto)]
 
 ghost use Rattle.std.specs.Prelude.{◌≡◌, length};

@@ -1,5 +1,5 @@
 -- Laws: each memo number has one text, and that text gives the number back; only ten blanks are empty. Assumes nothing.
-use Rattle.std.specs.Prelude.{◌≡◌, refl, true, ◌&&◌, List, [], ◌∷◌, ◌++◌, ◌↔◌, ℕ, ◌+◌, ◌^◌, ◌-◌, ◌≤◌, ◌<◌, ltb, eqb, length, replicate}
+use Rattle.std.specs.Prelude.{◌≡◌, refl, true, ◌&&◌, List, [], ◌∷◌, ◌++◌, ◌↔◌, ℕ, ◌^◌, ◌-◌, ◌≤◌, ◌<◌, ltb, eqb, length, replicate}
 use Rattle.std.proofs.Common.{sym, ap, ◌∙◌, arith, length-append, lt-ltb}
 use Rattle.std.proofs.lemmas.List.{length-replicate}
 use Rattle.std.proofs.lemmas.Bool.{eqb-false}
@@ -9,7 +9,7 @@ use Rattle.octets.specs.TextLaws.{digit_range, unpadded_digit, unpadded_blanks, 
 use Rattle.octets.specs.DigitLaws.{decimal-fits, decimal-digits, leads, decimal-leads, number-decimal}
 use Rattle.fpt_memo.specs.declared.MemoNumber.{MemoNumber}
 use Rattle.fpt_memo.specs.declared.MemoNumber.TheVariants.{Blank, Bad, Number}
-use Rattle.fpt_memo.specs.Memo.{digits_number, memo_number, memo_number_text, memo_number_code, memo_number_values, NumberAnswer}
+use Rattle.fpt_memo.specs.Memo.{digits_number, memo_number, memo_number_text, NumberAnswer}
 use Rattle.fpt_memo.specs.NumberLaws.{digits-said, number_read, number_between, bad-number}
 
 -- ten characters are blanks, and behind them what is left without the blanks

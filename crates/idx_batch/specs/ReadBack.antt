@@ -97,7 +97,8 @@ module _ (pre key post : List ℕ) (short : length key < 2 ^ 16) where
       let s = pre ++ (framed kind key (to_le32 r) ++ post) in
       rw (size-there pre kind key (to_le32 r) post short)
       (sym (le32-window s (length pre + 3 + length key))
-      ∙ ap (λ (l : List ℕ). le32 l 0) (ap (λ (l : List ℕ). take 4 l) (behind pre kind key (to_le32 r) post short) ∙ take_at (to_le32 r) post 4 (length-to_le32 r))
+      ∙ ap (λ (l : List ℕ). le32 l 0)
+      (ap (λ (l : List ℕ). take 4 l) (behind pre kind key (to_le32 r) post short) ∙ take_at (to_le32 r) post 4 (length-to_le32 r))
       ∙ le32-to_le32 r r32)
 
   removal_back : (r : ℕ) → r < 2 ^ 32 → There (pre ++ (framed 2 key (to_le32 r) ++ post)) (length pre) (removal_of key r) (length (framed 2 key (to_le32 r)))

@@ -4,7 +4,8 @@
 use Rattle.std.specs.Prelude.{ℕ, ◌+◌, ◌^◌, ◌≤◌, ◌<◌, ◌≡◌, Bool, false, cond, List, [], ◌∷◌, eqb, length, take}
 use Rattle.refusal.specs.declared.Change.{Change}
 use Rattle.refusal.specs.declared.Change.TheVariants.{Made, Refused}
-use Rattle.tree.specs.Book.{Call, insertion, removal_of, lookup_of, Answer, refused, accepted, found, absent, KeyTests, is_accepted, no_rooms, results_of, final_of}
+use Rattle.tree.specs.Book.{Call, insertion, removal_of, lookup_of, Answer, refused, accepted, found, absent, KeyTests}
+use Rattle.tree.specs.Book.{is_accepted, no_rooms, results_of, final_of}
 use Rattle.tree.specs.Book.{book_answers, book_final}
 use Rattle.tree.proofs.KeepingOf.{keeping_of}
 use Rattle.idx_page.specs.Header.{key_length, features}

@@ -52,7 +52,8 @@ module _ (k f size : ℕ) (two : 1 < capacity k) where
       (λ c b o i. same_next k f size b i c o) (λ c b o i. refl) calls o b kept m pos (at_most m calls b few) small
 
 -- Theorem: a list of calls on a buffer that holds a sound index does not make F smaller
-pub never_shrinks : (b : List ℕ) → All (λ x. x < 256) b → Sound b → (calls : Calls) → All FourBytes calls → file_size b ≤ file_size (final_of buffer_after calls b)
+pub never_shrinks : (b : List ℕ) → All (λ x. x < 256) b → Sound b → (calls : Calls) → All FourBytes calls
+    → file_size b ≤ file_size (final_of buffer_after calls b)
 never_shrinks b octets s calls o =
     grows (key_length b) (features b) (length b) (header-two b s.header) calls o b
     (record { sound = s; key_is = refl; features_are = refl; as_long = refl; plain = octets_plain b octets })

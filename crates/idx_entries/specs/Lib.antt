@@ -2,7 +2,3 @@
 
 -- Rules: a page's entries after a pair goes in, a page below was split or an entry goes
 pub mod Entries
--- Laws: the bytes gathered for a page are those of the rule's entries
-pub mod GatherLaws
--- Laws: the bytes gathered for a page are read back as the rule's entries
-pub mod FitLaws

@@ -37,7 +37,7 @@ use Rattle.idx_leaf.specs.Leaf.{items_in, stored}
 use Rattle.idx_layout.specs.Layout.{new_page}
 use Rattle.idx_leaf.specs.ItemLaws.{Fit}
 use Rattle.idx_leaf.specs.EntryLaws.{items_in_fit}
-use Rattle.idx_entries.specs.GatherLaws.{length_last}
+use Rattle.idx_entries.proofs.GatherLaws.{length_last}
 use Rattle.idx_sound.specs.Sound.{links_of, kept_by}
 use Rattle.idx_insert_page.specs.Insertion.{Outcome, kept, split, bad, Step, insert_under, at_root, inserted_buffer}
 use Rattle.idx_layout_laws.specs.EntryLaws.{entries_in, page-of, length-new}

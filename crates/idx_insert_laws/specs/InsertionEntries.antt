@@ -45,8 +45,8 @@ use Rattle.idx_layout.specs.Layout.{new_page}
 use Rattle.idx_entries.specs.Entries.{replaced, raised, two_for}
 use Rattle.idx_leaf.specs.ItemLaws.{Fit}
 use Rattle.idx_leaf.specs.EntryLaws.{items_in_fit}
-use Rattle.idx_entries.specs.GatherLaws.{length_last}
-use Rattle.idx_entries.specs.FitLaws.{length-insert, length-replaced, pair_fit, two-fit}
+use Rattle.idx_entries.proofs.GatherLaws.{length_last}
+use Rattle.idx_entries.proofs.FitLaws.{length-insert, length-replaced, pair_fit, two-fit}
 use Rattle.idx_insert_page.specs.Insertion.{Outcome, kept, split, bad, Step, step, take_in, after_child, insert_under, at_root}
 use Rattle.idx_layout_laws.specs.EntryLaws.{entries_in, page-of, raise, items-few, entries-header, entries_with, length_with, entries-new, entries-split}
 use Rattle.idx_layout_laws.specs.EntryLaws.{length-new, length-split, entries-raised, length-raised}
@@ -109,7 +109,8 @@ module _ (k : ℕ) (two : 1 < capacity k) (N : Naming) (b : List ℕ) (given : S
       let h = half (length es) in
       let over : capacity k < length es = leb-false (length es) (capacity k) e in
       let lower : length (take h es) ≡ h = simp length-take (omega arith) in
-      let some : NonEmpty (map numbered (take h es)) = non_empty-length (map numbered (take h es)) (rw (length-map (take h es) numbered, lower) (omega arith)) in
+      let some : NonEmpty (map numbered (take h es)) = non_empty-length (map numbered (take h es))
+      (rw (length-map (take h es) numbered, lower) (omega arith)) in
       let S : Store (List ℕ) = write (entries_in k b') p (map numbered (take h es)) in
       let stays : write S n (map numbered (drop h es)) p ≡ map numbered (take h es) =
       write-other S n (map numbered (drop h es)) p (ne m) ∙ write-here (entries_in k b') p (map numbered (take h es)) in
@@ -209,7 +210,8 @@ module _ (k : ℕ) (N : Naming) (key : List ℕ) (r : ℕ) (b : List ℕ) where
 
   abbrev pub replacement : (h : ℕ) → List ℕ → ℕ → StoreReplacement (List ℕ)
   replacement h a p =
-      store_split_if_over (capacity k) N.name a p (store_insert_among (kept_by b) (passes k b (key, r)) (key, r) h (under h) (entries_in k b p) 0 (entries_in k b))
+      store_split_if_over (capacity k) N.name a p
+      (store_insert_among (kept_by b) (passes k b (key, r)) (key, r) h (under h) (entries_in k b p) 0 (entries_in k b))
 
   -- insertion's step at that page, with `left` levels left, is the theory's
   abbrev pub Inserts : ℕ → ℕ → List ℕ → ℕ → Type 0

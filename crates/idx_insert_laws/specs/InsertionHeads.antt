@@ -35,7 +35,7 @@ use Rattle.idx_layout.specs.Layout.{with_entries, without_root, split_page}
 use Rattle.idx_entries.specs.Entries.{replaced, raised, two_for}
 use Rattle.idx_leaf.specs.ItemLaws.{Fit}
 use Rattle.idx_leaf.specs.EntryLaws.{items_in_fit}
-use Rattle.idx_entries.specs.FitLaws.{length-insert, length-replaced, pair_fit, two-fit}
+use Rattle.idx_entries.proofs.FitLaws.{length-insert, length-replaced, pair_fit, two-fit}
 use Rattle.idx_sound.specs.Sound.{links_of, kept_by}
 use Rattle.idx_insert_page.specs.Insertion.{Outcome, kept, split, bad, Step, take_in, after_child, insert_under}
 use Rattle.idx_layout_laws.specs.EntryLaws.{entries_in, page-of, items-few}
@@ -148,7 +148,8 @@ module _ (k : ℕ) (N : Naming) (path : ℕ → ℕ) (b : List ℕ) where
       let lower : length (take i es) ≤ capacity k = simp length-take (omega arith) in
       let upper : length (drop i es) ≤ capacity k = simp length-drop (omega arith) in
       let s : (z : ℕ) → is_page (length b) z ≡ true
-      → Head (split_page b' p es q) z (cond (eqb z q) (without_root (attribute_at b' p)) (cond (eqb z p) (without_root (attribute_at b' p)) (attribute_at b' z)))
+      → Head (split_page b' p es q) z
+      (cond (eqb z q) (without_root (attribute_at b' p)) (cond (eqb z p) (without_root (attribute_at b' p)) (attribute_at b' z)))
       (cond (eqb z q) (length (drop i es)) (cond (eqb z p) (length (take i es)) (count_at b' z)))
       (cond (eqb z q) p (cond (eqb z (right_at b' p)) q (left_at b' z)))
       (cond (eqb z p) q (cond (eqb z q) (right_at b' p) (right_at b' z))) =

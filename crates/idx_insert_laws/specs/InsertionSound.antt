@@ -112,7 +112,8 @@ module _ (b key : List ℕ) (r : ℕ) (accepts : Accepts b key r) where
   two = omega (arith, capacity-least k good.key-high)
 
   sound-before : SoundIndex kept_setting before
-  sound-before = subst (SoundIndex kept_setting) (sym before_is) (sound-index b accepts.sound (min (length b) max_bytes) (omega (arith, good.within, good.most)))
+  sound-before =
+      subst (SoundIndex kept_setting) (sym before_is) (sound-index b accepts.sound (min (length b) max_bytes) (omega (arith, good.within, good.most)))
 
   sound-after : SoundIndex kept_setting after
   sound-after =
@@ -169,7 +170,7 @@ module _ (b key : List ℕ) (r : ℕ) (accepts : Accepts b key r) where
   old-new : (z : ℕ) → 0 < occ z (pages h t) → (j : ℕ) → z ≡ name j → ⊥
   old-new z o j e =
       let n : occ (name j) (pages h t) ≡ 0 = taken-unused before sound-before.pages_once j in
-      let f : occ z (pages h t) ≡ 0 = rw e n in
+      let f : occ z (pages h t) ≡ 0 = ap (λ (y : ℕ). occ y (pages h t)) e ∙ n in
       omega arith
 
   abbrev Level : ℕ → Type 0

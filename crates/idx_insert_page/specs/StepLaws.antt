@@ -80,7 +80,8 @@ module _ (b : List ℕ) (item : Item) (p : ℕ) (s : Supply) where
       rw (v.0, v.1, ← v.3, rw f at d, v.2)
 
 -- a supply that lasts for a page on each level left and for m more lasts for m after a split
-split-here : (k : ℕ) (b : List ℕ) (p : ℕ) (es : List Item) (s : Supply) (q : ℕ) (t : Supply) → (take_in k b p es s).outcome ≡ split q t → t ≡ (take_page b s).rest
+split-here : (k : ℕ) (b : List ℕ) (p : ℕ) (es : List Item) (s : Supply) (q : ℕ) (t : Supply) → (take_in k b p es s).outcome ≡ split q t
+    → t ≡ (take_page b s).rest
 unfolding take_in
 split-here k b p es s q t e = either (leb (length es) (capacity k))
     (λ u. kept-split (rw u at e))

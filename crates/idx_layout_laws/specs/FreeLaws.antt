@@ -58,7 +58,8 @@ before_head : (b : List ℕ) (l q : ℕ) → q < 2 ^ 32 → (z : ℕ) → is_pag
 unfolding link_before
 before_head b l q q32 z tz = either (is_page (length b) l)
     (λ e. rw e (put_right b l e z tz q q32))
-    (λ e. rw (e, ne_eqb z l (λ u. contra tz (ap (is_page (length b)) u ∙ e))) (record { attribute_is = refl; count_is = refl; left_is = refl; right_is = refl }))
+    (λ e. rw (e, ne_eqb z l (λ u. contra tz (ap (is_page (length b)) u ∙ e)))
+    (record { attribute_is = refl; count_is = refl; left_is = refl; right_is = refl }))
 
 before-header : (b : List ℕ) (l q : ℕ) → SameHeader b (link_before b l q)
 unfolding link_before

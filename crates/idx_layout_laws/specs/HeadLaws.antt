@@ -165,7 +165,8 @@ module _ (k : ℕ) where
     unfolding with_entries
     with_header =
         let g = (is-page (length b) p tp).low in
-        put-outside (put b (p + 2) (to_le16 (length es))) (p + entries_start) (area es) (omega arith) ∙ put-outside b (p + 2) (to_le16 (length es)) (omega arith)
+        put-outside (put b (p + 2) (to_le16 (length es))) (p + entries_start) (area es) (omega arith)
+        ∙ put-outside b (p + 2) (to_le16 (length es)) (omega arith)
 
   -- a page whose entry i has its key raised
   module _ (b key : List ℕ) (p i : ℕ) (tp : is_page (length b) p ≡ true) (lk : length key ≡ k) where
@@ -227,7 +228,8 @@ module _ (k : ℕ) where
     unfolding link_beyond
     beyond-head z tz = either (is_page (length b) r)
         (λ e. rw e (put-left b r e z tz q q32))
-        (λ e. rw (e, ne_eqb z r (λ u. contra tz (ap (is_page (length b)) u ∙ e))) (record { attribute_is = refl; count_is = refl; left_is = refl; right_is = refl }))
+        (λ e. rw (e, ne_eqb z r (λ u. contra tz (ap (is_page (length b)) u ∙ e)))
+        (record { attribute_is = refl; count_is = refl; left_is = refl; right_is = refl }))
 
     pub beyond-header : SameHeader b (link_beyond b r q)
     unfolding link_beyond
@@ -300,7 +302,8 @@ module _ (k : ℕ) where
       unfolding split_page
       split-header =
           let g = (is-page (length b) p tp).low in
-          new-header s3 q (without_root (attribute_at b p)) p (right_at b p) (drop m es) (page-of q n3 tq) (omega arith) p32 r32 (halves-fit k es m f).1 upper-few
+          new-header s3 q (without_root (attribute_at b p)) p (right_at b p) (drop m es) (page-of q n3 tq) (omega arith) p32 r32
+          (halves-fit k es m f).1 upper-few
           ∙ beyond-header s2 (right_at b p) q q32
           ∙ put-outside s1 (p + 8) (to_le32 q) (omega arith)
           ∙ put-outside s0 p (to_le16 (without_root (attribute_at b p))) g

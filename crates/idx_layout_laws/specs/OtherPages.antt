@@ -101,7 +101,8 @@ module _ (k : ℕ) where
 
   -- the page at p is split, with the new page at q
   pub split-others : (b : List ℕ) (p : ℕ) (es : List Item) (q : ℕ) → is_page (length b) p ≡ true → is_page (length b) q ≡ true → All (Fit k) es
-      → 1 < capacity k → length es ≤ suc (capacity k) → (z : ℕ) → is_page (length b) z ≡ true → (z ≡ p → ⊥) → (z ≡ q → ⊥) → SameButLeft b (split_page b p es q) z
+      → 1 < capacity k → length es ≤ suc (capacity k) → (z : ℕ) → is_page (length b) z ≡ true → (z ≡ p → ⊥) → (z ≡ q → ⊥)
+      → SameButLeft b (split_page b p es q) z
   unfolding split_page
   split-others b p es q tp tq f two few z tz np nq =
       let m = half (length es) in

@@ -17,12 +17,14 @@ use Rattle.idx_leaf.specs.EntryLaws.{items_from, item_at, from-none, from_cons, 
 
 -- a stored entry and a pair, by the order of their keys and, if these are equal, by their numbers
 module _ (b key : List ℕ) (p i r : ℕ) {o : Ordering} (eo : o ≡ ordering (key_at b (length key) p i) key) where
-  pub equal-above : {n : ℕ} → r < 2 ^ 32 → n ≡ number_at b (length key) p i → is_equal o ≡ true → leb r n ≡ item_order 0 (stored key r) (item_at (length key) b p i)
+  pub equal-above : {n : ℕ} → r < 2 ^ 32 → n ≡ number_at b (length key) p i → is_equal o ≡ true
+      → leb r n ≡ item_order 0 (stored key r) (item_at (length key) b p i)
   equal-above small en t =
       let same : key_at b (length key) p i ≡ key = equal-same (key_at b (length key) p i) key (sym (ap is_equal eo) ∙ t) in
       rw (same, le_refl key, be32-to_be32 r small, be32-window b (entry_offset (length key) p i + length key), ← en)
 
-  pub equal_up_to : {n : ℕ} → r < 2 ^ 32 → n ≡ number_at b (length key) p i → is_equal o ≡ true → leb n r ≡ item_order 0 (item_at (length key) b p i) (stored key r)
+  pub equal_up_to : {n : ℕ} → r < 2 ^ 32 → n ≡ number_at b (length key) p i → is_equal o ≡ true
+      → leb n r ≡ item_order 0 (item_at (length key) b p i) (stored key r)
   equal_up_to small en t =
       let same : key_at b (length key) p i ≡ key = equal-same (key_at b (length key) p i) key (sym (ap is_equal eo) ∙ t) in
       rw (same, le_refl key, be32-to_be32 r small, be32-window b (entry_offset (length key) p i + length key), ← en)

@@ -13,7 +13,8 @@ use Rattle.refusal.specs.Checks.{unless}
 use Rattle.basis.specs.Tests.{either, both, contra, impossible}
 use Rattle.octets.specs.Order.{ordering, is_equal}
 use Rattle.idx_page.specs.Header.{max_levels, no_page, root_offset, file_size, key_length, features, is_page, header_good}
-use Rattle.idx_page.specs.Page.{attribute_at, count_at, right_at, root_bit, leaf_bit, key_at, number_at, attribute_good, count_good, page_good, first_at_or_above}
+use Rattle.idx_page.specs.Page.{attribute_at, count_at, right_at, root_bit, leaf_bit, key_at, number_at, attribute_good, count_good, page_good}
+use Rattle.idx_page.specs.Page.{first_at_or_above}
 use Rattle.idx_page.specs.PageLaws.{first_bound}
 use Rattle.idx_page.specs.KeyOrderLaws.{equal-same}
 use Rattle.idx_page.specs.declared.RecordNumber.{RecordNumber}

@@ -9,7 +9,8 @@ use Rattle.basis.specs.Tests.{either, both, contra, impossible}
 use Rattle.octets.specs.declared.Ordering.{Ordering}
 use Rattle.octets.specs.Order.{ordering, is_equal}
 use Rattle.idx_page.specs.Header.{max_levels, max_key, no_page, file_size, is_page}
-use Rattle.idx_page.specs.Page.{attribute_at, count_at, right_at, root_bit, leaf_bit, capacity, key_at, number_at, attribute_good, count_good, page_good, first_at_or_above}
+use Rattle.idx_page.specs.Page.{attribute_at, count_at, right_at, root_bit, leaf_bit, capacity, key_at, number_at, attribute_good, count_good, page_good}
+use Rattle.idx_page.specs.Page.{first_at_or_above}
 use Rattle.idx_page.specs.PageLaws.{first_bound, within-page, within-entry}
 use Rattle.idx_page.specs.Within.{Within}
 use Rattle.idx_page.specs.declared.PageOffset.{PageOffset}

@@ -336,7 +336,8 @@ module _ (b key : List ℕ) (height : ℕ) (few : height < max_levels) where
       → first_from max_levels b key p ≡ trip_answer (store_record bytes_order no_page (right_at b) B key height p) 0
   root-steps p a u = go height refl u
     where
-      go : (h : ℕ) → height ≡ h → Along (suc h) 0 (a, p) → first_from max_levels b key p ≡ trip_answer (store_record bytes_order no_page (right_at b) B key h p) 0
+      go : (h : ℕ) → height ≡ h → Along (suc h) 0 (a, p) → first_from max_levels b key p
+          ≡ trip_answer (store_record bytes_order no_page (right_at b) B key h p) 0
       go zero e v = root-leaf p e v.0.0
       go (suc h) e v = root-upper h p e v.0.0
           (λ x s. under-steps h 1 (max_levels - 2) x.1 x.0 (omega arith) (omega arith) (omega arith) (seek-all (Along (suc h) 1) key (B p) x v.1 s))

@@ -56,11 +56,13 @@ module _ (t b : List ℕ) (field : ℕ) (good : table_refusal t ≡ 0) where
       module _ (type : field_type t (field - 1) ≡ type_c) where
         pub refused_27 : (field_length t (field - 1) ≡ key_length b → ⊥) → 27 ≡ match_refusal t b field
         unfolding first_refusal
-        refused_27 h = sym (refusal_is ∙ rw (header, number, eq-eqb (field_type t (field - 1)) type_c type, ne_eqb (field_length t (field - 1)) (key_length b) h))
+        refused_27 h = sym (refusal_is
+            ∙ rw (header, number, eq-eqb (field_type t (field - 1)) type_c type, ne_eqb (field_length t (field - 1)) (key_length b) h))
 
         pub refused_none : field_length t (field - 1) ≡ key_length b → 0 ≡ match_refusal t b field
         unfolding first_refusal
-        refused_none h = sym (refusal_is ∙ rw (header, number, eq-eqb (field_type t (field - 1)) type_c type, eq-eqb (field_length t (field - 1)) (key_length b) h))
+        refused_none h = sym (refusal_is
+            ∙ rw (header, number, eq-eqb (field_type t (field - 1)) type_c type, eq-eqb (field_length t (field - 1)) (key_length b) h))
 
   -- without refusal the index's header is good, the field is one of the table's, and it is as long as the keys
   pub record Ready : Type 0 where

@@ -1,6 +1,6 @@
 -- Laws: for features 0 the order of stored entries is that of their k + 4 bytes, so that one comparison decides it. Cited by the proofs of the functions that
 -- compare entries. Assumes nothing.
-use Rattle.std.specs.Prelude.{ℕ, ◌+◌, ◌*◌, ◌≤◌, ◌<◌, ◌≡◌, refl, true, false, List, [], ◌∷◌, ◌++◌, eqb, ltb, leb, length}
+use Rattle.std.specs.Prelude.{ℕ, ◌+◌, ◌*◌, ◌≤◌, ◌<◌, ◌≡◌, refl, false, List, [], ◌∷◌, ◌++◌, eqb, ltb, leb, length}
 use Rattle.std.proofs.Common.{sym, arith, eqb-true, eq-eqb, ne_eqb, ltb-true, ltb-false, le-ltb, le-leb}
 use Rattle.std.proofs.lemmas.Bool.{eqb-false, lt-leb}
 use Rattle.basis.specs.Lists.{All}
@@ -9,7 +9,7 @@ use Rattle.octets.specs.Bytes.{be32}
 use Rattle.octets.specs.Order.{bytes_le}
 use Rattle.tree.specs.Pairs.{by_record}
 use Rattle.idx_page.specs.KeyOrder.{bytes_order}
-use Rattle.idx_page.specs.Reading.{Item, numbered}
+use Rattle.idx_page.specs.Reading.{Item}
 use Rattle.idx_page.specs.EntryOrder.{item_order}
 
 -- two numbers whose first bytes that differ, x and y, decide

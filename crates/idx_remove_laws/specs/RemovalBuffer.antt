@@ -168,7 +168,9 @@ module _ (k : ℕ) (key : List ℕ) (number : ℕ) (b : List ℕ) (h : ℕ) (r :
       (λ s v. kept-links s (v.0 s)) (λ e v. lone-links e (v.1 e)) (heads-after, root-after)
     where
       SameHeads : List ℕ → Type 0
-      SameHeads c = (NonEmpty (left (root_offset b)) → Heads k (pages h tree_in) gone b c) × (left (root_offset b) ≡ [] → Head c (root_offset b) 3 0 no_page no_page)
+      SameHeads c =
+          (NonEmpty (left (root_offset b)) → Heads k (pages h tree_in) gone b c)
+          × (left (root_offset b) ≡ [] → Head c (root_offset b) 3 0 no_page no_page)
 
       after : AllLinked no_page (unlink_all gone (links_of b)) (remove route h tree_in).0 (remove route h tree_in).1
       after =

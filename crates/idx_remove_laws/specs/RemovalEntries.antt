@@ -29,7 +29,7 @@ use Rattle.idx_layout.specs.Layout.{unlinked, freed}
 use Rattle.idx_entries.specs.Entries.{without_entry}
 use Rattle.idx_leaf.specs.ItemLaws.{Fit}
 use Rattle.idx_leaf.specs.EntryLaws.{items_in_fit}
-use Rattle.idx_entries.specs.FitLaws.{without_all, length_without}
+use Rattle.idx_entries.proofs.FitLaws.{without_all, length_without}
 use Rattle.idx_remove_page.specs.Removal.{Outcome, kept, emptied, bad, Step, left_with, take_out, after_child, remove_under, at_root}
 use Rattle.idx_layout_laws.specs.EntryLaws.{entries_in, Usable, page-of, items-few, entries_with, length_with, entries-new}
 use Rattle.idx_layout_laws.specs.FreeLaws.{length-unlinked, length-freed, entries-unlinked, entries-freed}

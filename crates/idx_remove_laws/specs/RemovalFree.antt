@@ -26,7 +26,7 @@ use Rattle.idx_layout.specs.Layout.{unlinked, freed}
 use Rattle.idx_entries.specs.Entries.{without_entry}
 use Rattle.idx_leaf.specs.ItemLaws.{Fit}
 use Rattle.idx_leaf.specs.EntryLaws.{items_in_fit}
-use Rattle.idx_entries.specs.FitLaws.{without_all, length_without}
+use Rattle.idx_entries.proofs.FitLaws.{without_all, length_without}
 use Rattle.idx_sound.specs.Sound.{links_of}
 use Rattle.idx_remove_page.specs.Removal.{take_out, remove_under}
 use Rattle.idx_layout_laws.specs.EntryLaws.{entries_in, Usable, page-of, items-few}
@@ -84,7 +84,8 @@ module _ (k : ℕ) (qs b : List ℕ) where
         pages = v.pages;
         others = λ z t o a. same z t (λ q. occ_differ z p qs o op q) ∙ v.others z t o a;
         forms = λ c z o. early z o ∙ v.forms c z o ∙ ap free_page (sym (right-same b'' b' z (early z o)));
-        joined = λ c. rw e (joined_same (right_at b') (right_at b'') (free_pointer b) ps (free_pointer b') (λ z o. right-same b'' b' z (early z o)) (v.joined c));
+        joined = λ c.
+            rw e (joined_same (right_at b') (right_at b'') (free_pointer b) ps (free_pointer b') (λ z o. right-same b'' b' z (early z o)) (v.joined c));
       }
 
   freed-taken : (ps b' : List ℕ) (p i : ℕ) → length b' ≡ length b → is_page (length b) p ≡ true → i < length (items_in k b' p) → 0 < occ p qs → occ p ps ≡ 0

@@ -20,7 +20,7 @@ use Rattle.idx_layout.specs.Layout.{unlinked, freed}
 use Rattle.idx_entries.specs.Entries.{without_entry}
 use Rattle.idx_leaf.specs.ItemLaws.{Fit}
 use Rattle.idx_leaf.specs.EntryLaws.{items_in_fit}
-use Rattle.idx_entries.specs.FitLaws.{without_all, length_without}
+use Rattle.idx_entries.proofs.FitLaws.{without_all, length_without}
 use Rattle.idx_sound.specs.Sound.{links_of}
 use Rattle.idx_remove_page.specs.Removal.{take_out, remove_under}
 use Rattle.idx_layout_laws.specs.EntryLaws.{entries_in, Usable, page-of, items-few}

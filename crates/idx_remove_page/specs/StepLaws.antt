@@ -13,7 +13,7 @@ use Rattle.idx_layout.specs.Layout.{with_entries, unlinked, freed}
 use Rattle.idx_entries.specs.Entries.{without_entry}
 use Rattle.idx_route.specs.Visits.{visit_of}
 use Rattle.idx_route.specs.VisitLaws.{visited-bad, visited-leaf, visited-child}
-use Rattle.idx_entries.specs.FitLaws.{length_without}
+use Rattle.idx_entries.proofs.FitLaws.{length_without}
 use Rattle.idx_remove_page.specs.Removal.{Outcome as RuleOutcome, kept, emptied, bad, Step, step}
 use Rattle.idx_remove_page.specs.Removal.{left_with, take_out, after_child, remove_under, at_root, removed_buffer}
 use Rattle.idx_remove_page.specs.Answers.{outcome_of, EmptiedPage}

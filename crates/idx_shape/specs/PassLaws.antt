@@ -87,7 +87,8 @@ module _ (b : List ℕ) (k size a : ℕ) where
   rows_from left p = map (children_of b k size) (chain b size left p)
 
   abbrev pub PagesLeft : ℕ → ℕ → ℕ → Progress → Progress → Type 0
-  PagesLeft first p left s₀ s = check_rows b k size a (rows_under b k size first) s₀ ≡ check_rows b k size a (map (children_of b k size) (chain b size left p)) s
+  PagesLeft first p left s₀ s = check_rows b k size a (rows_under b k size first) s₀
+      ≡ check_rows b k size a (map (children_of b k size) (chain b size left p)) s
 
   module _ (first p left : ℕ) (s₀ s : Progress) (inv : PagesLeft first p left s₀ s) where
     pub pages_off : is_page size p ≡ false → check_rows b k size a (rows_under b k size first) s₀ ≡ s

@@ -62,7 +62,8 @@ module _ (b : List ℕ) (k size a p last next : ℕ) where
         let good : count_good k a y ≡ true = sym ec ∙ (both c _ (both (eqb x a) _ t).1).0 in
         count-read b k size p e y ey (leb-true y (capacity k) (both (leb y (capacity k)) _ good).0)
 
-    pub fits_then : (eqb x a && (c && (eqb z last && eqb next p))) ≡ true → (r : Bool) → r ≡ entries_fit b k size a last p → r ≡ page_fits b k size a p last next
+    pub fits_then : (eqb x a && (c && (eqb z last && eqb next p))) ≡ true → (r : Bool) → r ≡ entries_fit b k size a last p
+        → r ≡ page_fits b k size a p last next
     unfolding page_fits
     fits_then t r er = er ∙ rw (e, ← ex, ← ey, ← ez, ← ec) (and-true (eqb x a) c (eqb z last) (eqb next p) (entries_fit b k size a last p) t)
 

@@ -15,10 +15,10 @@ use Rattle.ndx_page.specs.PageLaws.{within-page}
 use Rattle.ndx_sound.specs.Reading.{Key, entries_at}
 use Rattle.ndx_sound.specs.ReadingLaws.{leaf-entries, branch-entries}
 use Rattle.ndx_sound.specs.Walk.{Status, if_good, over, items, passed, under, enter, walk}
-use Rattle.ndx_sound.specs.WalkLaws.{if_is, if_not}
+use Rattle.ndx_sound.proofs.WalkLaws.{if_is, if_not}
 use Rattle.ndx_sound.specs.AuditTest.{zeros, page_fits, height_from, complete, tree_good}
 use Rattle.ndx_sound.specs.TreeLaws.{by_top}
-use Rattle.ndx_sound.specs.Accepted.{Fit, fit}
+use Rattle.ndx_sound.proofs.Accepted.{Fit, fit}
 use Rattle.ndx_audit.specs.State.{key_from, status_of, good_at, entering, walk_from}
 use Rattle.ndx_audit.specs.Steps.{Walker, items_from, children_from}
 use Rattle.ndx_audit.specs.StepLaws.{items_by_number, children_by_number}
@@ -89,7 +89,8 @@ inner b zero p s = items by_top (entries_at b p) s
 inner b (suc h) p s = over (under by_top) (passed by_top) (λ e. walk_under b h e.1) (entries_at b p) s
 
 walk_is : (b : List ℕ) (lone : Bool) (h p : ℕ) (s : Status Key)
-    → walk by_top (page_count b) (entries_at b) (page_fits b) lone h p s ≡ if_good (inner b h p) (enter by_top (page_count b) (entries_at b) (page_fits b) lone h p s)
+    → walk by_top (page_count b) (entries_at b) (page_fits b) lone h p s
+    ≡ if_good (inner b h p) (enter by_top (page_count b) (entries_at b) (page_fits b) lone h p s)
 unfolding walk
 walk_is b lone zero p s = refl
 walk_is b lone (suc h) p s = refl

@@ -15,7 +15,7 @@ use Rattle.ndx_page.specs.Lookup.{leaf_says, entry_says, page_says, visit_rule, 
 use Rattle.ndx_sound.specs.Sound.{Sound}
 use Rattle.ndx_sound.specs.Walk.{if_good, over, items, walk}
 use Rattle.ndx_sound.specs.AuditTest.{zeros, page_fits, height_from, tree_good}
-use Rattle.ndx_sound.specs.Accepted.{accepted}
+use Rattle.ndx_sound.proofs.Accepted.{accepted}
 
 padded : List ℕ → List ℕ
 padded l = l ++ replicate (page_size - length l) 0
@@ -56,8 +56,9 @@ computed : (header_good levels3 ≡ true)
     × (tree_good (set levels3 512 3) ≡ false)
     × (tree_good (set levels3 2560 0) ≡ false)
     × (tree_good (set levels3 2060 66) ≡ false)
-unfolding levels3 header page entry padded le16 le32 to_le16 to_le32 window bytes_le ordering is_page pages_good key_length_good entry_size_of keys_good header_good
-    entry_offset key_offset lower_at record_at key_at is_leaf count_good entries_from entries_at zeros page_fits height_from tree_good if_good over items walk
+unfolding levels3 header page entry padded le16 le32 to_le16 to_le32 window bytes_le ordering is_page pages_good key_length_good entry_size_of keys_good
+    header_good entry_offset key_offset lower_at record_at key_at is_leaf count_good entries_from entries_at zeros page_fits height_from tree_good if_good
+    over items walk
 computed = (refl, refl, refl, refl, refl, refl, refl, refl, refl, refl, refl, refl)
 
 pub levels3-sound : Sound levels3
@@ -83,7 +84,7 @@ looked : (lookup_rule levels3 (65 ∷ []) ≡ answer.Found (record_of 1) 3)
     × (lookup_rule (set levels3 528 8) (73 ∷ []) ≡ answer.Refused 25)
     × (lookup_rule full_branch (65 ∷ []) ≡ answer.Found (record_of 1) 2)
     × (lookup_rule full_branch (66 ∷ []) ≡ answer.Found (record_of 2) 2)
-unfolding levels3 full_branch copies header page entry padded le16 le32 to_le16 to_le32 window bytes_le ordering is_page pages_good key_length_good entry_size_of
-    keys_good header_good entry_offset key_offset lower_at record_at key_at is_leaf count_good page_good first_at_or_above leaf_says entry_says page_says visit_rule lookup_from
-    lookup_rule unless
+unfolding levels3 full_branch copies header page entry padded le16 le32 to_le16 to_le32 window bytes_le ordering is_page pages_good key_length_good
+    entry_size_of keys_good header_good entry_offset key_offset lower_at record_at key_at is_leaf count_good page_good first_at_or_above leaf_says
+    entry_says page_says visit_rule lookup_from lookup_rule unless
 looked = (refl, refl, refl, refl, refl, refl, refl, refl, refl, refl, refl)

@@ -1,10 +1,12 @@
 -- Laws: what a good header and the number of a page say, taken apart and put together. Assumes nothing.
 use Rattle.std.specs.Prelude.{ℕ, ◌+◌, ◌*◌, ◌^◌, ◌≤◌, ◌<◌, ◌≡◌, true, List, length}
 use Rattle.std.proofs.Math.Path.{subst⁻¹}
-use Rattle.std.proofs.Common.{le_of_lt, lt_of_le_of_lt, mul-le-mul_left, mul-lt-mul_of_pos_right, arith, pow_pos, pow-add, leb-true, ltb-true, eqb-true, le-leb, lt-ltb}
+use Rattle.std.proofs.Common.{le_of_lt, lt_of_le_of_lt, mul-le-mul_left, mul-lt-mul_of_pos_right, arith, pow_pos, pow-add, leb-true, ltb-true, eqb-true}
+use Rattle.std.proofs.Common.{le-leb, lt-ltb}
 use Rattle.basis.specs.Tests.{both, join}
 use Rattle.idx_page.specs.HeaderLaws.{good-key-length}
-use Rattle.ndx_page.specs.Header.{page_size, max_bytes, max_key, root_page, page_count, key_length, keys_per_page, key_type, entry_size, character_keys, entry_area}
+use Rattle.ndx_page.specs.Header.{page_size, max_bytes, max_key, root_page, page_count, key_length, keys_per_page, key_type, entry_size, character_keys}
+use Rattle.ndx_page.specs.Header.{entry_area}
 use Rattle.ndx_page.specs.Header.{is_page, pages_good, entry_size_of, keys_good, header_good}
 
 -- the number of a page other than the first

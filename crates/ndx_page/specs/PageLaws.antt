@@ -20,7 +20,8 @@ within-page b p n e i l =
     }
 
 -- a page that lookup may visit: it is a page, and its count is within keys per page
-pub good-page : (b : List ℕ) (p : ℕ) (first last : Bool) → page_good b p first last ≡ true → (is_page (page_count b) p ≡ true) × (count_at b p ≤ keys_per_page b)
+pub good-page : (b : List ℕ) (p : ℕ) (first last : Bool) → page_good b p first last ≡ true
+    → (is_page (page_count b) p ≡ true) × (count_at b p ≤ keys_per_page b)
 unfolding page_good count_good
 good-page b p first last e =
     let t = both _ _ e in

@@ -46,7 +46,8 @@ page-length b p page full = either (is_leaf b p)
     (λ l. let e = ap length (leaf-entries b p page full l ∙ sym (append-nil (leaf_entries b p (count_at b p)))) ∙ length_from (key_at b p) (record_at b p)
     (count_at b p) 0 [] in
     (omega arith, omega arith, (λ u. contra l u)))
-    (λ l. let e = ap length (branch-entries b p page full l) ∙ length_from (key_at b p) (lower_at b p) (count_at b p) 0 ((none, lower_at b p (count_at b p)) ∷ []) in
+    (λ l. let e = ap length (branch-entries b p page full l)
+    ∙ length_from (key_at b p) (lower_at b p) (count_at b p) 0 ((none, lower_at b p (count_at b p)) ∷ []) in
     (omega arith, omega arith, (λ u. omega arith)))
 
 or-false : (a : Bool) → (a || false) ≡ true → a ≡ true

@@ -1,14 +1,14 @@
 -- Laws: demand 2. A text is accepted exactly if it is, blanks aside, the written text of a value of at most 18 digits or, by K4, that text without the zero
 -- that is its whole part. Assumes nothing.
-use Rattle.std.specs.Prelude.{◌≡◌, refl, true, false, List, ◌∷◌, ◌++◌, ◌↔◌, ℕ, zero, ◌-◌, ◌^◌, ◌≤◌, ◌<◌, eqb, leb, ltb, ℤ, nat_abs, length}
+use Rattle.std.specs.Prelude.{◌≡◌, refl, true, false, List, ◌∷◌, ◌++◌, ◌↔◌, ℕ, ◌^◌, ◌≤◌, ◌<◌, eqb, leb, ltb, ℤ, nat_abs, length}
 use Rattle.std.proofs.Common.{sym, ap, ◌∙◌, inl, ⊎_elim, arith, lit<, length-append}
 use Rattle.std.proofs.Math.Nat.{pow-le-pow_right}
 use borrow.Author.Tests.{lt-ltb, le-ltb, ltb-true, ltb-false}
-use Rattle.basis.specs.Tests.{either, contra, both, impossible}
+use Rattle.basis.specs.Tests.{either, contra, impossible}
 use Rattle.octets.specs.Text.{every, blank, unpadded, zero_digit, decimal_from, decimal}
 use Rattle.octets.specs.TextLaws.{unpadded-short}
 use Rattle.numeral.specs.Format.{max_digits, format_good, comma}
-use Rattle.numeral.specs.Reading.{some, digits}
+use Rattle.numeral.specs.Reading.{some}
 use Rattle.numeral.specs.Reading.{whole_missing, text_good, value_of, digit_count, number_checks, read_number}
 use Rattle.numeral.specs.ReadingLaws.{format-decimals}
 use Rattle.refusal.specs.After.{left}

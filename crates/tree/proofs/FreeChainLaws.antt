@@ -1,16 +1,12 @@
 -- Laws: the free list after a page joins it at the head, how it is read off a file, and that it has no page twice; nor has a level whose pages name their
 -- neighbours. Cited by the laws of bytes and of sound indexes. Assumes nothing.
-use Rattle.std.specs.Prelude.{◌≡◌, refl, List, [], ◌∷◌, ℕ, zero, suc, ◌+◌, ◌*◌, ◌%◌, ◌≤◌, ◌<◌, eqb, ltb, length}
+use Rattle.std.specs.Prelude.{◌≡◌, refl, List, [], ◌∷◌, ℕ, zero, suc, ◌+◌, ◌≤◌, ◌<◌, eqb, ltb, length}
 use Rattle.std.proofs.Common.{sym, ap, ap₂, ◌∙◌, subst, arith, eqb-true, eq-eqb, ne_eqb, ltb-true, ltb-false}
-use Rattle.std.proofs.lemmas.Bool.{eqb-false}
 use Rattle.basis.specs.Tests.{either}
 use Rattle.tree.specs.Lists.{occ}
 use Rattle.tree.proofs.ListLaws.{occ-here, occ_not_head}
 use Rattle.tree.specs.Clauses.{Links, head_or, Linked}
 use Rattle.tree.proofs.Insertion.Pages.{Distinct}
-use Rattle.tree.specs.Constants.{page_size}
-use Rattle.tree.specs.Unlinking.{without}
-use Rattle.tree.proofs.UnlinkLaws.{without-occ, without-none}
 use Rattle.tree.specs.FreeChain.{Chained, chain_from}
 
 -- what is behind the page p on a list: a shorter list, chained from what p names on

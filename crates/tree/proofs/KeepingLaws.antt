@@ -1,7 +1,7 @@
 -- Laws: ascending leaf pairs by their keeping: which keys may stand before them, whether they have a pair, and what lookup finds among them. Cited by the laws
 -- of ordered trees and of sound indexes. Assumes nothing.
 use Rattle.std.specs.Prelude.{◌≡◌, refl, true, false, ◌&&◌, List, [], ◌∷◌, ◌++◌, ℕ}
-use Rattle.std.proofs.Common.{sym, ap, ◌∙◌}
+use Rattle.std.proofs.Common.{sym, ◌∙◌}
 use Rattle.std.proofs.Math.Option.{none, some}
 use Rattle.basis.specs.Lists.{All, all_map}
 use Rattle.basis.specs.Tests.{either, contra, both, join}
@@ -9,7 +9,7 @@ use Rattle.tree.specs.Lists.{NonEmpty}
 use Rattle.tree.specs.Order.{Le, Lt}
 use Rattle.tree.proofs.OrderLaws.{le_refl, lt_le-trans}
 use Rattle.tree.specs.Pairs.{first_key, last_key, find, get, has, present, insert_pair, remove_pair, Below, Ascending, AllAbove}
-use Rattle.tree.proofs.PairLaws.{get-above, insert_pair-all, remove_pair-all, Absent}
+use Rattle.tree.proofs.PairLaws.{get-above, insert_pair-all, Absent}
 use Rattle.tree.specs.Keeping.{Keeping, Before, Clear, ClearOf}
 
 module _ {K : Type 0} (Q : Keeping K) where

@@ -1,13 +1,11 @@
 -- Laws: what features 0 and features 1 say is a keeping: its orders, routes and tests have the laws that a keeping asks for. `keeping_of` is the keeping of a
 -- header's features: rules cite it, and it stands beside its laws, so that a wrong order or route in `Keeping` is refused by them.
-use Rattle.std.specs.Prelude.{◌≡◌, refl, Bool, true, false, not, ℕ, zero, suc}
+use Rattle.std.specs.Prelude.{◌≡◌, refl, true, false, not, ℕ, zero, suc}
 use Rattle.std.proofs.lemmas.Bool.{not-true, not-false}
 use Rattle.basis.specs.Tests.{contra}
 use Rattle.tree.specs.Order.{Order, larger}
 use Rattle.tree.proofs.OrderLaws.{lt_le, lt_le-trans, le_lt_trans, larger-same, larger-below}
-use Rattle.tree.specs.Pairs.{by_key, by_record}
 use Rattle.tree.proofs.RecordOrder.{by_record-key, by_record-trans, by_record-total, by_record-below}
-use Rattle.tree.specs.Position.{passes_lower}
 use Rattle.tree.specs.Tree.{Entry, first_under}
 use Rattle.tree.specs.Keeping.{Keeping, pair_order, covers_for, route_for, goes_on_for}
 

@@ -1,13 +1,13 @@
 -- Laws: the leaf that the route of a pair leads to, among all leaf pairs: those before it are below the pair, those after it above; and for features 0 it is
 -- "the leaf with the greatest pair below it, or the first leaf". No other law cites it: it says that the rule's route is the paper's. Assumes nothing.
-use Rattle.std.specs.Prelude.{◌≡◌, refl, Bool, true, false, List, [], ◌∷◌, ◌++◌, ℕ, zero, suc}
+use Rattle.std.specs.Prelude.{◌≡◌, true, false, List, [], ◌∷◌, ◌++◌, ℕ, zero, suc}
 use Rattle.std.proofs.Common.{sym, ap, ◌∙◌, append-nil, append_assoc}
 use Rattle.basis.specs.Lists.{All, all_append}
 use Rattle.basis.specs.Tests.{either}
 use Rattle.tree.specs.Lists.{NonEmpty, concat_map}
 use Rattle.tree.proofs.ListLaws.{concat_map-single}
 use Rattle.tree.specs.Order.{Order}
-use Rattle.tree.specs.Pairs.{by_record, Ascending, AllAbove, AllBelow}
+use Rattle.tree.specs.Pairs.{Ascending, AllAbove, AllBelow}
 use Rattle.tree.proofs.PairLaws.{ascending-left, ascending-right}
 use Rattle.tree.specs.Position.{Passes, choose}
 use Rattle.tree.specs.Tree.{Entry, Tree, first_among, pairs_under, pairs, first_under}

@@ -6,7 +6,7 @@ use Rattle.std.proofs.lemmas.List.{map-append}
 use Rattle.std.proofs.Math.ListN.{get_or-map}
 use Rattle.std.proofs.Math.Seq.{split_at}
 use Rattle.std.proofs.lemmas.Bool.{not-true, not-false}
-use Rattle.basis.specs.Lists.{All, all_right, all_map}
+use Rattle.basis.specs.Lists.{All, all_right}
 use Rattle.basis.specs.Tests.{either}
 use Rattle.tree.specs.Lists.{NonEmpty, concat_map}
 use Rattle.tree.proofs.ListLaws.{all_map2, take_map, drop_map}

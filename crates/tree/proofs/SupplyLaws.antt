@@ -7,7 +7,7 @@ use Rattle.basis.specs.Tests.{either}
 use Rattle.tree.specs.Constants.{page_size, no_page}
 use Rattle.tree.specs.Lists.{occ}
 use Rattle.tree.proofs.ListLaws.{occ_differ}
-use Rattle.tree.proofs.Insertion.Pages.{new_pages, Distinct, Unused, Injective}
+use Rattle.tree.proofs.Insertion.Pages.{new_pages, Distinct, Injective}
 use Rattle.tree.proofs.FreeListLaws.{free_first-cases, free_first-injective}
 use Rattle.tree.specs.Supply.{page_at_end, taken_page}
 

@@ -1,6 +1,6 @@
 -- Steps: the supply of new pages of an index: which page is taken, and the free list and the file size after it. Cited by the rule for refusal 30 on trees and
 -- by insertion into an index.
-use Rattle.std.specs.Prelude.{List, [], ℕ, ◌+◌, ◌*◌}
+use Rattle.std.specs.Prelude.{List, ℕ, ◌+◌, ◌*◌}
 use Rattle.tree.specs.Constants.{page_size}
 use Rattle.tree.specs.FreeList.{free_first, lacking}
 

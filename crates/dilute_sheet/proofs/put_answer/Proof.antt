@@ -52,4 +52,5 @@ returns-2 c =
 pub put_answer_spec : {M : Type 1} → statement M
 put_answer_spec =
     tie.close
-    (tie.spec enum-known-answer put-number-requires put-number-requires-2 put-requires enum-known-answer-2 put-number-requires-3 put-requires-2 same_length returns same-length-2 returns-2)
+    (tie.spec enum-known-answer put-number-requires put-number-requires-2 put-requires enum-known-answer-2 put-number-requires-3 put-requires-2 same_length
+    returns same-length-2 returns-2)

@@ -66,4 +66,5 @@ returns-2 c =
 pub put_record_spec : {M : Type 1} → statement M
 put_record_spec =
     tie.close
-    (tie.spec place-at-requires returns cast-stop add-stop sub-put part-put-start part-put-end put-requires record-dilution-requires put-answer-requires same_length returns-2)
+    (tie.spec place-at-requires returns cast-stop add-stop sub-put part-put-start part-put-end put-requires record-dilution-requires put-answer-requires
+    same_length returns-2)

@@ -78,4 +78,5 @@ returns-4 c =
 pub record_dilution_spec : {M : Type 1} → statement M
 record_dilution_spec =
     tie.close
-    (tie.spec place-at-requires mark-good-requires returns returns-2 number-at-requires number-refusal-requires returns-3 concentration-of-requires dilution-of-requires returns-4)
+    (tie.spec place-at-requires mark-good-requires returns returns-2 number-at-requires number-refusal-requires returns-3 concentration-of-requires
+    dilution-of-requires returns-4)

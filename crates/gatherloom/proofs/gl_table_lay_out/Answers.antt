@@ -5,8 +5,8 @@ use Rattle.dbf_table.specs.Table.{max_fields}
 use Rattle.dbf_field.specs.Field.{no_entry}
 use Rattle.dbf_field.specs.declared.FieldEntry.{FieldEntry}
 use Rattle.dbf_create.specs.Laying.{with_field, listed_count}
-use Rattle.dbf_create.specs.EmptyLaws.{Named}
-use Rattle.dbf_create.specs.CopyLaws.{copied, copied_none, copied_more, count-within, named_more, lay_listed}
+use Rattle.dbf_create.proofs.EmptyLaws.{Named}
+use Rattle.dbf_create.proofs.CopyLaws.{copied, copied_none, copied_more, count-within, named_more, lay_listed}
 use Rattle.gatherloom.proofs.gl_table_lay_out.Goals as goal
 
 -- a turn's entry is one of the list, and one of the fields that a table has at most

@@ -59,7 +59,7 @@ same_length c = search rules
 returns : tie.Need-returns-then-kind-eq0
 returns c =
     let at-lookup = c.before in
-    let at-if = at-lookup.before.before.before in
+    let at-if = at-lookup.before.before in
     let size = (lookup-size at-if).load_le16.ensures.0 in
     let kind = at-if.byte-kind.ensures.0 in
     lookup-made _ _ _ size kind at-if.if-kind-eq0.true at-lookup.lookup.ensures c.looked_up.ensures
@@ -128,4 +128,6 @@ returns-3 c =
 pub make_call_spec : {M : Type 1} → statement M
 make_call_spec =
     tie.close
-    (tie.spec add-from add-load-le16 load-le16-requires cast-end add-end byte-requires sub-lookup part-lookup-start part-lookup-end lookup-requires looked-up-requires same_length returns load-le32-requires sub-remove part-remove-start part-remove-end remove-requires changed-requires same-length-2 returns-2 sub-insert part-insert-start part-insert-end insert-requires changed-requires-2 same-length-3 returns-3)
+    (tie.spec add-from add-load-le16 load-le16-requires cast-end add-end byte-requires sub-lookup part-lookup-start part-lookup-end lookup-requires
+    looked-up-requires same_length returns load-le32-requires sub-remove part-remove-start part-remove-end remove-requires changed-requires same-length-2
+    returns-2 sub-insert part-insert-start part-insert-end insert-requires changed-requires-2 same-length-3 returns-3)

@@ -32,11 +32,11 @@ returns c =
     let at-fresh = at_told.before.before.before in
     let at-calls = at-fresh.before.before.before in
     let at-index = at-calls.before.before in
-    let made = at-fresh.fresh.ensures ∙ ap (left at-fresh.fresh.new.0) at_told.in-Made.is in
-    let ran = at-run.run_calls.ensures.answers_value in record {
-      answers_value = batch-made _ _ _ _ _ _ made ran;
-      batch_kept = λ z. batch-kept _ _ _ _ _ _ (λ i. (at-index.slice_known-1.given i).fits) (λ i. (at-calls.shared_slice_known-2-1.given i).fits) made ran;
-    }
+    let made = at-fresh.fresh.ensures ∙ ap (left at-fresh.fresh.new.index) at_told.in-Made.is in
+    let ran = at-run.run_calls.ensures.0 in (
+      batch-made _ _ _ _ _ _ made ran,
+      λ z. batch-kept _ _ _ _ _ _ (λ i. (at-index.slice_known-1.given i).fits) (λ i. (at-calls.shared_slice_known-2-1.given i).fits) made ran,
+    )
 
 same-length-3 : tie.Need-shape_of-index-in-Refused
 same-length-3 c = search rules
@@ -45,8 +45,8 @@ returns-2 : tie.Need-returns-in-Refused
 returns-2 c =
     let at-refusal = c in
     let at-fresh = at-refusal.before.before.before in
-    let refused = at-fresh.fresh.ensures ∙ ap (left at-fresh.fresh.new.0) at-refusal.in-Refused.is in
-    record { answers_value = batch-refused _ _ _ _ _ _ refused; batch_kept = λ z. absurd (refused-number _ _ _ _ refused z) }
+    let refused = at-fresh.fresh.ensures ∙ ap (left at-fresh.fresh.new.index) at-refusal.in-Refused.is in
+    (batch-refused _ _ _ _ _ _ refused, λ z. absurd (refused-number _ _ _ _ refused z))
 
 pub run_batch_spec : {M : Type 1} → statement M
 run_batch_spec =

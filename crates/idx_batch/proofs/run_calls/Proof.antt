@@ -90,12 +90,10 @@ returns c =
     let at-calls = at-loop.before.before in
     let at-index = at-calls.before in
     let ran = going_ends _ _ _ _ _ _ _ at-loop.loop-index.invariant c.goes_on.ensures c.loop-index-test.false in
-    record {
-      answers_value = ran;
-      sound_run_kept = sound-run-kept _ _ _ (λ i. (at-index.slice_known-1.given i).fits) (λ i. (at-calls.shared_slice_known-1.given i).fits) ran;
-    }
+    (ran, sound-run-kept _ _ _ (λ i. (at-index.slice_known-1.given i).fits) (λ i. (at-calls.shared_slice_known-1.given i).fits) ran)
 
 pub run_calls_spec : {M : Type 1} → statement M
 run_calls_spec =
     tie.close
-    (tie.spec invariant-loop decreases-loop loop-holds mul-goes-on sub-goes-on goes-on-requires make-call-requires mul-write-reply write-reply-requires call-end-requires add-made loop-less loop-again same_length same-length-2 returns)
+    (tie.spec invariant-loop decreases-loop loop-holds mul-goes-on sub-goes-on goes-on-requires make-call-requires mul-write-reply write-reply-requires
+    call-end-requires add-made loop-less loop-again same_length same-length-2 returns)

@@ -67,4 +67,5 @@ returns-4 c =
 pub below_next_spec : {M : Type 1} → statement M
 below_next_spec =
     tie.close
-    (tie.spec returns child-requires first-under-requires first-key-requires returns-2 key-order-requires several-requires is-below-requires is-equal-requires returns-3 is-below-requires-2 returns-4)
+    (tie.spec returns child-requires first-under-requires first-key-requires returns-2 key-order-requires several-requires is-below-requires
+    is-equal-requires returns-3 is-below-requires-2 returns-4)

@@ -89,4 +89,5 @@ returns-3 c =
 pub upper_entry_spec : {M : Type 1} → statement M
 upper_entry_spec =
     tie.close
-    (tie.spec child-requires last-under-requires last-key-requires returns entry-offset-requires key-order-requires is-below-requires add-below-next below-next-requires returns-2 is-equal-requires returns-3)
+    (tie.spec child-requires last-under-requires last-key-requires returns entry-offset-requires key-order-requires is-below-requires add-below-next
+    below-next-requires returns-2 is-equal-requires returns-3)

@@ -88,4 +88,5 @@ returns-3 c = let loop = c.loop-left in upper-pages-end _ _ _ _ _ _ loop.exact l
 pub upper_pages_spec : {M : Type 1} → statement M
 upper_pages_spec =
     tie.close
-    (tie.spec invariant-loop decreases-loop loop-holds is-page-requires returns upper-entries-requires returns-2 at-requires sub-left loop-less loop-again returns-3)
+    (tie.spec invariant-loop decreases-loop loop-holds is-page-requires returns upper-entries-requires returns-2 at-requires sub-left loop-less loop-again
+    returns-3)

@@ -1,7 +1,7 @@
 -- `idx_entries::copy_entries` meets its contract: the entries' bytes lie between the offsets of entry `first` and of entry `end`. Assumes nothing.
 use native.Mathlib.Omega.{arith}
 use lib.ListN.{length-take, length-drop}
-use Rattle.idx_entries.specs.GatherLaws.{Run, run, run-copied}
+use Rattle.idx_entries.proofs.GatherLaws.{Run, run, run-copied}
 use borrow.Author.Rules.{rules}
 use Rattle.idx_entries.proofs.copy_entries.Statement.{statement}
 use Rattle.idx_entries.proofs.copy_entries.Tie as tie

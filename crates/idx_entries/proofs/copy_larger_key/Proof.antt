@@ -5,7 +5,7 @@ use lib.ListN.{length}
 use Rattle.octets.specs.Order.{bytes_le}
 use Rattle.idx_page.specs.Page.{key_at}
 use Rattle.idx_page.specs.KeyOrderLaws.{below, at_or_above}
-use Rattle.idx_entries.specs.GatherLaws.{larger-key, larger-entry}
+use Rattle.idx_entries.proofs.GatherLaws.{larger-key, larger-entry}
 use borrow.Author.Rules.{rules}
 use Rattle.idx_entries.proofs.copy_larger_key.Statement.{statement}
 use Rattle.idx_entries.proofs.copy_larger_key.Tie as tie

@@ -4,7 +4,7 @@ use native.Mathlib.Omega.{arith}
 use lib.ListN.{length}
 use Rattle.idx_leaf.specs.Given.{Listed}
 use Rattle.idx_leaf.specs.EntryLaws.{listed-within}
-use Rattle.idx_entries.specs.GatherLaws.{within-last, no_last, last-listed}
+use Rattle.idx_entries.proofs.GatherLaws.{within-last, no_last, last-listed}
 use Rattle.idx_leaf.specs.SearchLaws.{counted-some}
 use borrow.Author.Rules.{rules}
 use Rattle.idx_entries.proofs.copy_last_key.Statement.{statement}

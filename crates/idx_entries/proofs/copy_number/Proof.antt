@@ -2,7 +2,7 @@
 use mathlib.Core.Path.{refl, ◌∙◌}
 use native.Mathlib.Omega.{arith}
 use Rattle.idx_page.specs.PageLaws.{entry-within}
-use Rattle.idx_entries.specs.GatherLaws.{part-window}
+use Rattle.idx_entries.proofs.GatherLaws.{part-window}
 use borrow.Author.Rules.{rules}
 use Rattle.idx_entries.proofs.copy_number.Statement.{statement}
 use Rattle.idx_entries.proofs.copy_number.Tie as tie

@@ -9,7 +9,7 @@ use Rattle.octets.specs.NumberLaws.{length-to_be32}
 use Rattle.idx_page.specs.Header.{features}
 use Rattle.idx_page.specs.EntryOrder.{item_order}
 use Rattle.idx_leaf.specs.Leaf.{stored}
-use Rattle.idx_entries.specs.GatherLaws.{spread, Spread, pair_gathered}
+use Rattle.idx_entries.proofs.GatherLaws.{spread, Spread, pair_gathered}
 use Rattle.idx_leaf.specs.SearchLaws.{search_le}
 use borrow.Author.Rules.{rules}
 use Rattle.idx_entries.proofs.gather_pair.Statement.{statement}
@@ -95,4 +95,5 @@ returns c =
 pub gather_pair_spec : {M : Type 1} → statement M
 gather_pair_spec =
     tie.close
-    (tie.spec place-requires add_at mul_at copy-entries-requires copy-in-requires add-put-record-number put-record-number-requires add-copy-entries add-copy-entries-2 copy-entries-requires-2 same_length returns)
+    (tie.spec place-requires add_at mul_at copy-entries-requires copy-in-requires add-put-record-number put-record-number-requires add-copy-entries
+    add-copy-entries-2 copy-entries-requires-2 same_length returns)

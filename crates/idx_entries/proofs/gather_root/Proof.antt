@@ -1,5 +1,5 @@
 -- `idx_entries::gather_root` meets its contract: four stores, one after another, are the bytes of the rule's entries. Assumes nothing.
-use Rattle.idx_entries.specs.FitLaws.{root-gathered}
+use Rattle.idx_entries.proofs.FitLaws.{root-gathered}
 use borrow.Author.Rules.{rules}
 use Rattle.idx_entries.proofs.gather_root.Statement.{statement}
 use Rattle.idx_entries.proofs.gather_root.Tie as tie
@@ -42,4 +42,5 @@ returns c =
 pub gather_root_spec : {M : Type 1} → statement M
 gather_root_spec =
     tie.close
-    (tie.spec copy-last-key-requires put-child-requires add-copy-last-key copy-last-key-requires-2 add-put-child add-put-child-2 put-child-requires-2 same_length returns)
+    (tie.spec copy-last-key-requires put-child-requires add-copy-last-key copy-last-key-requires-2 add-put-child add-put-child-2 put-child-requires-2
+    same_length returns)

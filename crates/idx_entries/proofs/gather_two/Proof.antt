@@ -7,7 +7,7 @@ use Rattle.idx_page.specs.PageLaws.{within-entry}
 use Rattle.idx_page.specs.Within.{Within}
 use Rattle.idx_layout.specs.Given.{room_size}
 use Rattle.idx_leaf.specs.EntryLaws.{listed-within}
-use Rattle.idx_entries.specs.GatherLaws.{spread, Spread, two-gathered}
+use Rattle.idx_entries.proofs.GatherLaws.{spread, Spread, two-gathered}
 use borrow.Author.Rules.{rules}
 use Rattle.idx_entries.proofs.gather_two.Statement.{statement}
 use Rattle.idx_entries.proofs.gather_two.Tie as tie
@@ -139,4 +139,5 @@ returns c =
 pub gather_two_spec : {M : Type 1} → statement M
 gather_two_spec =
     tie.close
-    (tie.spec add_at mul_at add-next add-next-2 copy-entries-requires copy-last-key-requires add-copy-number copy-number-requires copy-larger-key-requires add-put-child put-child-requires add-copy-entries add-copy-entries-2 add-copy-entries-3 copy-entries-requires-2 same_length returns)
+    (tie.spec add_at mul_at add-next add-next-2 copy-entries-requires copy-last-key-requires add-copy-number copy-number-requires copy-larger-key-requires
+    add-put-child put-child-requires add-copy-entries add-copy-entries-2 add-copy-entries-3 copy-entries-requires-2 same_length returns)

@@ -3,7 +3,7 @@ use Prim.Native.Nat.{◌+◌}
 use native.Mathlib.Omega.{arith}
 use native.Mathlib.Nat.{sub-zero}
 use Rattle.idx_leaf.specs.EntryLaws.{listed-within}
-use Rattle.idx_entries.specs.GatherLaws.{spread, Spread, without-gathered}
+use Rattle.idx_entries.proofs.GatherLaws.{spread, Spread, without-gathered}
 use borrow.Author.Rules.{rules}
 use Rattle.idx_entries.proofs.gather_without.Statement.{statement}
 use Rattle.idx_entries.proofs.gather_without.Tie as tie

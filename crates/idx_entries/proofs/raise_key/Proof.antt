@@ -6,7 +6,7 @@ use Rattle.idx_page.specs.PageLaws.{within-entry, entry-within}
 use Rattle.idx_page.specs.KeyOrderLaws.{below, at_or_above}
 use Rattle.idx_leaf.specs.Given.{Listed}
 use Rattle.idx_leaf.specs.EntryLaws.{listed-within}
-use Rattle.idx_entries.specs.GatherLaws.{raised-none, raised-here, raised_not}
+use Rattle.idx_entries.proofs.GatherLaws.{raised-none, raised-here, raised_not}
 use borrow.Author.Rules.{rules}
 use Rattle.idx_entries.proofs.raise_key.Statement.{statement}
 use Rattle.idx_entries.proofs.raise_key.Tie as tie
@@ -81,4 +81,5 @@ returns-3 c =
 pub raise_key_spec : {M : Type 1} → statement M
 raise_key_spec =
     tie.close
-    (tie.spec entry-count-requires same_length returns compare-entry-requires is-below-requires entry-offset-requires copy-in-requires same-length-2 returns-2 same-length-3 returns-3)
+    (tie.spec entry-count-requires same_length returns compare-entry-requires is-below-requires entry-offset-requires copy-in-requires same-length-2 returns-2
+    same-length-3 returns-3)

@@ -45,4 +45,5 @@ returns c =
 pub is_zero_spec : {M : Type 1} → statement M
 is_zero_spec =
     tie.close
-    (tie.spec add-end sub-compare part-compare-start part-compare-end array-share-prefix-blank slice-aggregate-compare compare-requires is-equal-requires returns)
+    (tie.spec add-end sub-compare part-compare-start part-compare-end array-share-prefix-blank slice-aggregate-compare compare-requires is-equal-requires
+    returns)

@@ -191,4 +191,6 @@ returns-8 c =
 pub insert_spec : {M : Type 1} → statement M
 insert_spec =
     tie.close
-    (tie.spec header-good-requires same_length returns has-control-requires key-length-requires same-length-2 returns-2 same-length-3 returns-3 same-length-4 returns-4 audit-requires same-length-5 returns-5 path-to-requires same-length-6 returns-6 no-room-requires same-length-7 returns-7 insert-pair-requires same-length-8 returns-8)
+    (tie.spec header-good-requires same_length returns has-control-requires key-length-requires same-length-2 returns-2 same-length-3 returns-3 same-length-4
+    returns-4 audit-requires same-length-5 returns-5 path-to-requires same-length-6 returns-6 no-room-requires same-length-7 returns-7 insert-pair-requires
+    same-length-8 returns-8)

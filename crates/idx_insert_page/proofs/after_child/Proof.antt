@@ -48,4 +48,5 @@ returns-3 c = rw c.in-Bad.is
 pub after_child_spec : {M : Type 1} → statement M
 after_child_spec =
     tie.close
-    (tie.spec enum-known-below raise-key-requires enum-known-below-2 take-in-two-requires enum_told same_length returns same-length-2 same-length-3 returns-2 returns-3)
+    (tie.spec enum-known-below raise-key-requires enum-known-below-2 take-in-two-requires enum_told same_length returns same-length-2 same-length-3 returns-2
+    returns-3)

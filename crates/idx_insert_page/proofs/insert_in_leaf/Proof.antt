@@ -4,8 +4,8 @@ use lib.ListN.{length, length-take}
 use Rattle.idx_page.specs.Header.{features}
 use Rattle.idx_page.specs.EntryOrder.{item_order}
 use Rattle.idx_leaf.specs.Given.{Listed}
-use Rattle.idx_entries.specs.GatherLaws.{Spread, spread}
-use Rattle.idx_entries.specs.FitLaws.{one_more, pair_read}
+use Rattle.idx_entries.proofs.GatherLaws.{Spread, spread}
+use Rattle.idx_entries.proofs.FitLaws.{one_more, pair_read}
 use borrow.Author.Rules.{rules}
 use Rattle.idx_insert_page.proofs.insert_in_leaf.Statement.{statement}
 use Rattle.idx_insert_page.proofs.insert_in_leaf.Tie as tie
@@ -84,4 +84,5 @@ returns c =
 pub insert_in_leaf_spec : {M : Type 1} → statement M
 insert_in_leaf_spec =
     tie.close
-    (tie.spec entry-count-requires gather-pair-requires add-size add-size-2 mul-size add-take-in slice-reshare-prefix-take-in slice-aggregate-take-in take-in-requires same_length same-length-2 returns)
+    (tie.spec entry-count-requires gather-pair-requires add-size add-size-2 mul-size add-take-in slice-reshare-prefix-take-in slice-aggregate-take-in
+    take-in-requires same_length same-length-2 returns)

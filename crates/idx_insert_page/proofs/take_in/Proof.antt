@@ -91,4 +91,5 @@ returns-3 c =
 pub take_in_spec : {M : Type 1} → statement M
 take_in_spec =
     tie.close
-    (tie.spec capacity-requires with-entries-requires same_length returns take-page-requires is-page-requires same-length-2 returns-2 split-page-requires same-length-3 returns-3)
+    (tie.spec capacity-requires with-entries-requires same_length returns take-page-requires is-page-requires same-length-2 returns-2 split-page-requires
+    same-length-3 returns-3)

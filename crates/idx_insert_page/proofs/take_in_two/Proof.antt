@@ -2,8 +2,8 @@
 use native.Mathlib.Omega.{arith}
 use lib.ListN.{length, length-take}
 use Rattle.idx_leaf.specs.Given.{Listed}
-use Rattle.idx_entries.specs.GatherLaws.{Spread, spread}
-use Rattle.idx_entries.specs.FitLaws.{one_more, two-read}
+use Rattle.idx_entries.proofs.GatherLaws.{Spread, spread}
+use Rattle.idx_entries.proofs.FitLaws.{one_more, two-read}
 use Rattle.idx_insert_page.specs.StepLaws.{two_for_some, two_for_none}
 use borrow.Author.Rules.{rules}
 use Rattle.idx_insert_page.proofs.take_in_two.Statement.{statement}
@@ -94,4 +94,5 @@ returns-2 c =
 pub take_in_two_spec : {M : Type 1} → statement M
 take_in_two_spec =
     tie.close
-    (tie.spec entry-count-requires same_length returns gather-two-requires add-size add-size-2 mul-size add-take-in slice-reshare-prefix-take-in slice-aggregate-take-in take-in-requires same-length-2 same-length-3 returns-2)
+    (tie.spec entry-count-requires same_length returns gather-two-requires add-size add-size-2 mul-size add-take-in slice-reshare-prefix-take-in
+    slice-aggregate-take-in take-in-requires same-length-2 same-length-3 returns-2)

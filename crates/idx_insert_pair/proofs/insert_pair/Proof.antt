@@ -53,7 +53,8 @@ at-root-requires c κs =
     let h = header at-start in (
       short at-start,
       omega (arith, below.insert_under-below.auto.index),
-      next_fits _ _ _ _ _ _ below.insert_under-below.result below.insert_under-below.ensures (rw supply.supply_of-supply.ensures (omega (arith, header_lasts _ h))),
+      next_fits _ _ _ _ _ _ below.insert_under-below.result below.insert_under-below.ensures
+          (rw supply.supply_of-supply.ensures (omega (arith, header_lasts _ h))),
       omega (arith, below.insert_under-below.auto.room),
     )
 
@@ -72,4 +73,5 @@ returns c =
 pub insert_pair_spec : {M : Type 1} → statement M
 insert_pair_spec =
     tie.close
-    (tie.spec root-requires supply-of-requires slice-aggregate-insert-under insert-under-requires slice-aggregate-at-root at-root-requires same_length returns)
+    (tie.spec root-requires supply-of-requires slice-aggregate-insert-under insert-under-requires slice-aggregate-at-root at-root-requires same_length
+    returns)

@@ -8,7 +8,7 @@ use Rattle.basis.specs.Tests.{passed, failed}
 use Rattle.idx_page.specs.Header.{is_page}
 use Rattle.idx_page.specs.HeaderLaws.{IsPage, is-page}
 use Rattle.idx_layout.specs.WriteLaws.{capacity-least}
-use Rattle.idx_entries.specs.FitLaws.{root-read}
+use Rattle.idx_entries.proofs.FitLaws.{root-read}
 use Rattle.idx_insert_page.specs.StepLaws.{root_none, root-new}
 use borrow.Author.Rules.{rules}
 use Rattle.idx_insert_pair.proofs.new_root.Statement.{statement}
@@ -121,4 +121,5 @@ returns-2 c =
 pub new_root_spec : {M : Type 1} → statement M
 new_root_spec =
     tie.close
-    (tie.spec take-page-requires is-page-requires same_length returns gather-root-requires add-size mul-size slice-reshare-prefix-new-page slice-aggregate-new-page new-page-requires set-root-requires set-supply-requires same-length-2 same-length-3 returns-2)
+    (tie.spec take-page-requires is-page-requires same_length returns gather-root-requires add-size mul-size slice-reshare-prefix-new-page
+    slice-aggregate-new-page new-page-requires set-root-requires set-supply-requires same-length-2 same-length-3 returns-2)

@@ -47,4 +47,5 @@ returns c =
 pub key_order_spec : {M : Type 1} → statement M
 key_order_spec =
     tie.close
-    (tie.spec add-x-end add-y-end sub-compare part-compare-start part-compare-end sub-compare-2 part-compare-start-2 part-compare-end-2 compare-requires returns)
+    (tie.spec add-x-end add-y-end sub-compare part-compare-start part-compare-end sub-compare-2 part-compare-start-2 part-compare-end-2 compare-requires
+    returns)

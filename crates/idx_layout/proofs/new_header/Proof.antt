@@ -47,4 +47,5 @@ returns c =
 pub new_header_spec : {M : Type 1} → statement M
 new_header_spec =
     tie.close
-    (tie.spec set-root-requires store-le32-requires set-file-end-requires store-le16-requires store-le16-requires-2 copy-in-requires add-fill fill-requires same_length returns)
+    (tie.spec set-root-requires store-le32-requires set-file-end-requires store-le16-requires store-le16-requires-2 copy-in-requires add-fill fill-requires
+    same_length returns)

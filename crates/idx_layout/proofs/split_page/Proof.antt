@@ -92,4 +92,5 @@ returns c =
 pub split_page_spec : {M : Type 1} → statement M
 split_page_spec =
     tie.close
-    (tie.spec at-requires sub-attribute add-lower add-cut mul-cut slice-aggregate-with-entries with-entries-requires set-attribute-requires link-right-requires link-beyond-requires sub-t16 cast-t15 sub-new-page part-new-page-start part-new-page-end new-page-requires same_length returns)
+    (tie.spec at-requires sub-attribute add-lower add-cut mul-cut slice-aggregate-with-entries with-entries-requires set-attribute-requires
+    link-right-requires link-beyond-requires sub-t16 cast-t15 sub-new-page part-new-page-start part-new-page-end new-page-requires same_length returns)

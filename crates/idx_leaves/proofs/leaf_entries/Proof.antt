@@ -39,7 +39,7 @@ begins c =
     let a = start.args in
     let pre = start.requires in
     elim c.if-last-eq0.branch [
-      then-last-eq0+else-count-eq0+else-record_at-eq0 w ↦ begins-second a.index.now a.k a.page.0 a.count a.last
+      | then-last-eq0+else-count-eq0+else-record_at-eq0 w ↦ begins-second a.index.now a.k a.page.0 a.count a.last
           _ _ _ _ placed pre.2 _ pre.1 w.if-last-eq0.true w.if-count-eq0.false w.record_at.ensures w.if-record_at-eq0.false w.at-is w.prior-is w.left-is
       | else-last-eq0 w ↦ begins-first a.index.now a.k a.page.0 a.count a.last _ _ _ _ placed pre.2 w.if-last-eq0.false w.at-is w.prior-is w.left-is
     ]
@@ -163,4 +163,5 @@ returns-4 c =
 pub leaf_entries_spec : {M : Type 1} → statement M
 leaf_entries_spec =
     tie.close
-    (tie.spec invariant-loop decreases-loop entry-offset-requires returns record-at-requires returns-2 add_at add-at-2 sub-left compared-requires loop-holds leaf-entry-requires returns-3 add-at-3 add-at-4 sub-left-2 loop-less loop-again returns-4)
+    (tie.spec invariant-loop decreases-loop entry-offset-requires returns record-at-requires returns-2 add_at add-at-2 sub-left compared-requires
+    loop-holds leaf-entry-requires returns-3 add-at-3 add-at-4 sub-left-2 loop-less loop-again returns-4)

@@ -81,4 +81,5 @@ returns-4 c =
 pub search_page_spec : {M : Type 1} → statement M
 search_page_spec =
     tie.close
-    (tie.spec at-requires cast-count first-at-or-above-requires returns is-leaf-requires child-requires returns-2 compare-entry-requires is-equal-requires record-number-requires returns-3 returns-4)
+    (tie.spec at-requires cast-count first-at-or-above-requires returns is-leaf-requires child-requires returns-2 compare-entry-requires is-equal-requires
+    record-number-requires returns-3 returns-4)

@@ -99,4 +99,5 @@ returns-5 c =
 pub search_way_spec : {M : Type 1} → statement M
 search_way_spec =
     tie.close
-    (tie.spec at-requires cast-count first-at-or-above-requires is-leaf-requires returns child-requires returns-2 returns-3 returns-4 sub-child child-requires-2 returns-5)
+    (tie.spec at-requires cast-count first-at-or-above-requires is-leaf-requires returns child-requires returns-2 returns-3 returns-4 sub-child
+    child-requires-2 returns-5)

@@ -20,7 +20,8 @@ abbrev start : tie.After-page_good → tie.Start
 start c = c.before.before.before.before
 
 -- the test with the file's size put in, of any values
-sized : (b : List ℕ) (k size p : ℕ) (first last r : Bool) → r ≡ page_good b k size p first last → size ≡ file_size b → r ≡ page_good b k (file_size b) p first last
+sized : (b : List ℕ) (k size p : ℕ) (first last r : Bool) → r ≡ page_good b k size p first last → size ≡ file_size b
+    → r ≡ page_good b k (file_size b) p first last
 sized b k size p first last r good e = rw e at good
 
 -- what the test of the page says

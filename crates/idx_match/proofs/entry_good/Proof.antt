@@ -92,4 +92,5 @@ returns-2 c =
 pub entry_good_spec : {M : Type 1} → statement M
 entry_good_spec =
     tie.close
-    (tie.spec record-number-requires cast-number-good cast-number-good-2 number-good-requires returns sub-records-end records-end-requires add_start add-end sub-compare-entry part-compare-entry-start part-compare-entry-end compare-entry-requires is-equal-requires returns-2)
+    (tie.spec record-number-requires cast-number-good cast-number-good-2 number-good-requires returns sub-records-end records-end-requires add_start
+    add-end sub-compare-entry part-compare-entry-start part-compare-entry-end compare-entry-requires is-equal-requires returns-2)

@@ -61,4 +61,5 @@ returns-2 c =
 pub first_leaf_spec : {M : Type 1} → statement M
 first_leaf_spec =
     tie.close
-    (tie.spec invariant-loop decreases-loop root-requires sub-left loop-holds leaf-at-requires returns first-child-requires sub-left-2 loop-less loop-again returns-2)
+    (tie.spec invariant-loop decreases-loop root-requires sub-left loop-holds leaf-at-requires returns first-child-requires sub-left-2 loop-less loop-again
+    returns-2)

@@ -115,4 +115,5 @@ returns-2 c =
 pub leaves_good_spec : {M : Type 1} → statement M
 leaves_good_spec =
     tie.close
-    (tie.spec invariant-loop decreases-loop loop-holds is-page-requires entry-count-requires leaf-good-requires returns add-count at-requires sub-left loop-less loop-again cast-result returns-2)
+    (tie.spec invariant-loop decreases-loop loop-holds is-page-requires entry-count-requires leaf-good-requires returns add-count at-requires sub-left
+    loop-less loop-again cast-result returns-2)

@@ -89,4 +89,5 @@ returns-4 c =
 pub match_checked_spec : {M : Type 1} → statement M
 match_checked_spec =
     tie.close
-    (tie.spec match-refusal-requires returns audit-requires returns-2 sub-entry-at cast-entry-at entry-at-requires cast-t10 cast-t11 entries-match-requires returns-3 returns-4)
+    (tie.spec match-refusal-requires returns audit-requires returns-2 sub-entry-at cast-entry-at entry-at-requires cast-t10 cast-t11 entries-match-requires
+    returns-3 returns-4)

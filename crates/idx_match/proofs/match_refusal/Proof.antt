@@ -100,4 +100,5 @@ returns-5 c =
 pub match_refusal_spec : {M : Type 1} → statement M
 match_refusal_spec =
     tie.close
-    (tie.spec header-good-requires returns number-good-requires returns-2 sub-entry-at cast-entry-at entry-at-requires cast-if3 returns-3 cast-if4 key-length-requires returns-4 returns-5)
+    (tie.spec header-good-requires returns number-good-requires returns-2 sub-entry-at cast-entry-at entry-at-requires cast-if3 returns-3 cast-if4
+    key-length-requires returns-4 returns-5)

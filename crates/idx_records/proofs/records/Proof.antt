@@ -101,4 +101,5 @@ returns-5 c =
 pub records_spec : {M : Type 1} → statement M
 records_spec =
     tie.close
-    (tie.spec header-good-requires returns key-length-requires returns-2 audit-requires returns-3 take-all-requires same_length returns-4 take-all-requires-2 cast-count same-length-2 returns-5)
+    (tie.spec header-good-requires returns key-length-requires returns-2 audit-requires returns-3 take-all-requires same_length returns-4
+    take-all-requires-2 cast-count same-length-2 returns-5)

@@ -112,4 +112,5 @@ returns c =
 pub take_leaves_spec : {M : Type 1} → statement M
 take_leaves_spec =
     tie.close
-    (tie.spec invariant-loop decreases-loop loop-holds is-page-requires entry-count-requires take-leaf-requires at-requires sub-left loop-less loop-again same_length returns)
+    (tie.spec invariant-loop decreases-loop loop-holds is-page-requires entry-count-requires take-leaf-requires at-requires sub-left loop-less loop-again
+    same_length returns)

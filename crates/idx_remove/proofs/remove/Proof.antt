@@ -108,4 +108,5 @@ returns-5 c =
 pub remove_spec : {M : Type 1} → statement M
 remove_spec =
     tie.close
-    (tie.spec header-good-requires same_length returns key-length-requires same-length-2 returns-2 audit-requires same-length-3 returns-3 is-there-requires same-length-4 returns-4 remove-pair-requires same-length-5 returns-5)
+    (tie.spec header-good-requires same_length returns key-length-requires same-length-2 returns-2 audit-requires same-length-3 returns-3 is-there-requires
+    same-length-4 returns-4 remove-pair-requires same-length-5 returns-5)

@@ -65,4 +65,5 @@ returns-3 c = rw c.in-Bad.is
 pub after_child_spec : {M : Type 1} → statement M
 after_child_spec =
     tie.close
-    (tie.spec enum_told enum-told-2 unlink-page-requires free-page-requires take-out-requires enum-told-3 returns same_length same-length-2 returns-2 returns-3)
+    (tie.spec enum_told enum-told-2 unlink-page-requires free-page-requires take-out-requires enum-told-3 returns same_length same-length-2 returns-2
+    returns-3)

@@ -3,9 +3,9 @@ use Prim.Native.Nat.{◌-◌, ◌<◌}
 use native.Mathlib.Omega.{arith}
 use lib.ListN.{length-take}
 use Rattle.idx_leaf.specs.Given.{Listed}
-use Rattle.idx_entries.specs.GatherLaws.{Spread, spread}
+use Rattle.idx_entries.proofs.GatherLaws.{Spread, spread}
 use Rattle.idx_leaf.specs.SearchLaws.{counted-some}
-use Rattle.idx_entries.specs.FitLaws.{one_less, without-read}
+use Rattle.idx_entries.proofs.FitLaws.{one_less, without-read}
 use Rattle.idx_remove_page.specs.StepLaws.{takes_none, takes-last, takes_one}
 use borrow.Author.Rules.{rules}
 use Rattle.idx_remove_page.proofs.take_out.Statement.{statement}
@@ -107,4 +107,5 @@ returns-3 c =
 pub take_out_spec : {M : Type 1} → statement M
 take_out_spec =
     tie.close
-    (tie.spec entry-count-requires same_length returns sub-fewer add-size mul-size gather-without-requires slice-reshare-prefix-with-entries slice-aggregate-with-entries with-entries-requires same-length-2 same-length-3 returns-2 same-length-4 same-length-5 returns-3)
+    (tie.spec entry-count-requires same_length returns sub-fewer add-size mul-size gather-without-requires slice-reshare-prefix-with-entries
+    slice-aggregate-with-entries with-entries-requires same-length-2 same-length-3 returns-2 same-length-4 same-length-5 returns-3)

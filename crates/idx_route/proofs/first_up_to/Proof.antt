@@ -89,8 +89,8 @@ returns-2 c =
     let count = inside.before in
     let loop = at-loop count in
     c.pair_up_to.ensures
-    ∙ first_leaf_lem (start loop).args.index.now (pair loop) _ _ _ count.child-child.ensures (counted inside) inside.if-entry_count-eq0.false _ (left-some count)
-    (rw head.at-head.ensures.0 at (sym leaf.is_leaf.ensures ∙ leaf.if-is_leaf.true))
+    ∙ first_leaf_lem (start loop).args.index.now (pair loop) _ _ _ count.child-child.ensures (counted inside) inside.if-entry_count-eq0.false _
+    (left-some count) (rw head.at-head.ensures.0 at (sym leaf.is_leaf.ensures ∙ leaf.if-is_leaf.true))
     ∙ sym loop.loop-left.invariant.2
 
 sub-left : tie.Need-overflow_sub-left invariant-loop decreases-loop
@@ -126,4 +126,5 @@ returns-3 c =
 pub first_up_to_spec : {M : Type 1} → statement M
 first_up_to_spec =
     tie.close
-    (tie.spec invariant-loop decreases-loop loop-holds child-requires entry-count-requires key-up-to-requires returns at-requires is-leaf-requires pair-up-to-requires returns-2 sub-left loop-less loop-again key-up-to-requires-2 returns-3)
+    (tie.spec invariant-loop decreases-loop loop-holds child-requires entry-count-requires key-up-to-requires returns at-requires is-leaf-requires
+    pair-up-to-requires returns-2 sub-left loop-less loop-again key-up-to-requires-2 returns-3)

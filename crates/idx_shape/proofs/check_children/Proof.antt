@@ -96,4 +96,5 @@ returns-2 c =
 pub check_children_spec : {M : Type 1} → statement M
 check_children_spec =
     tie.close
-    (tie.spec invariant-loop decreases-loop loop-holds child-requires page-fits-requires refused-requires returns meet-page-requires add-entry loop-less loop-again returns-2)
+    (tie.spec invariant-loop decreases-loop loop-holds child-requires page-fits-requires refused-requires returns meet-page-requires add-entry loop-less
+    loop-again returns-2)

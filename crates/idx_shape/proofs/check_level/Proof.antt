@@ -124,4 +124,5 @@ returns-4 c =
 pub check_level_spec : {M : Type 1} → statement M
 check_level_spec =
     tie.close
-    (tie.spec invariant-loop decreases-loop loop-holds is-page-requires returns entry-count-requires count-pages-requires returns-2 check-children-requires returns-3 at-requires sub-left loop-less loop-again returns-4)
+    (tie.spec invariant-loop decreases-loop loop-holds is-page-requires returns entry-count-requires count-pages-requires returns-2 check-children-requires
+    returns-3 at-requires sub-left loop-less loop-again returns-4)

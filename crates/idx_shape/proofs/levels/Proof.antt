@@ -86,4 +86,5 @@ returns-3 c =
 pub levels_spec : {M : Type 1} → statement M
 levels_spec =
     tie.close
-    (tie.spec invariant-loop decreases-loop root-level-requires returns next-level-requires sub-left loop-holds returns-2 next-level-requires-2 sub-left-2 loop-less loop-again returns-3)
+    (tie.spec invariant-loop decreases-loop root-level-requires returns next-level-requires sub-left loop-holds returns-2 next-level-requires-2 sub-left-2
+    loop-less loop-again returns-3)

@@ -64,4 +64,5 @@ returns-2 c =
 pub root_level_spec : {M : Type 1} → statement M
 root_level_spec =
     tie.close
-    (tie.spec leaf-at-requires sub-start start-requires attribute-of-requires page-fits-requires refused-requires closed-requires returns meet-page-requires closed-requires-2 returns-2)
+    (tie.spec leaf-at-requires sub-start start-requires attribute-of-requires page-fits-requires refused-requires closed-requires returns
+    meet-page-requires closed-requires-2 returns-2)

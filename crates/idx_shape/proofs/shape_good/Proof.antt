@@ -77,4 +77,5 @@ returns-2 c =
 pub shape_good_spec : {M : Type 1} → statement M
 shape_good_spec =
     tie.close
-    (tie.spec key-length-requires file-size-requires root-requires later-pages-requires levels-requires returns free-pointer-requires free-list-requires returns-2)
+    (tie.spec key-length-requires file-size-requires root-requires later-pages-requires levels-requires returns free-pointer-requires free-list-requires
+    returns-2)

@@ -1,5 +1,5 @@
--- The recursion of `ndx_audit::walk` ends: the levels under the page fall with each call. The loop's invariant: the children from child `i` on, after the key at
--- `prior`, come to what all children come to.
+-- The recursion of `ndx_audit::walk` ends: the levels under the page fall with each call. The loop's invariant: the children from child `i` on, after the key
+-- at `prior`, come to what all children come to.
 use Rattle.std.specs.Prelude.{◌≡◌, ◌-◌, ◌≤◌}
 use Rattle.ndx_page.specs.Page.{lower_at, key_at}
 use Rattle.ndx_audit.specs.State.{KeyWithin, good_at}

@@ -76,7 +76,8 @@ no-lower-requires c κs =
     let counted = good.before in
     let page = counted.before.before.before.before in
     let begun = page.before.before.before.before in
-    within-page _ _ _ begun.requires (passed (numbered page.before) page.if-not-is_page.false-raw) (count-full (tested counted) (not-false _ good.if-not-leaf-height.false-raw))
+    within-page _ _ _ begun.requires (passed (numbered page.before) page.if-not-is_page.false-raw)
+    (count-full (tested counted) (not-false _ good.if-not-leaf-height.false-raw))
 
 returns-4 : tie.Need-returns
 returns-4 c =
@@ -87,4 +88,5 @@ returns-4 c =
 pub page_fits_spec : {M : Type 1} → statement M
 page_fits_spec =
     tie.close
-    (tie.spec page-count-requires is-page-requires returns is-leaf-requires key-count-requires keys-per-page-requires cast-most count-good-requires returns-2 returns-3 no-lower-requires returns-4)
+    (tie.spec page-count-requires is-page-requires returns is-leaf-requires key-count-requires keys-per-page-requires cast-most count-good-requires
+    returns-2 returns-3 no-lower-requires returns-4)

@@ -59,4 +59,5 @@ returns-2 c = rw (le-leb _ _ (long-enough c).if-index-lt-SIZE.false) (cc)
 pub header_good_spec : {M : Type 1} → statement M
 header_good_spec =
     tie.close
-    (tie.spec returns page-count-requires key-length-requires entry-size-requires key-type-requires pages-good-requires root-requires is-page-requires cast-key-length-good key-length-good-requires cast-result entry-size-of-requires keys-per-page-requires keys-good-requires returns-2)
+    (tie.spec returns page-count-requires key-length-requires entry-size-requires key-type-requires pages-good-requires root-requires is-page-requires
+    cast-key-length-good key-length-good-requires cast-result entry-size-of-requires keys-per-page-requires keys-good-requires returns-2)

@@ -53,4 +53,5 @@ returns-2 c =
 pub page_good_spec : {M : Type 1} → statement M
 page_good_spec =
     tie.close
-    (tie.spec page-count-requires is-page-requires returns is-leaf-requires keys-per-page-requires cast-count-good key-count-requires count-good-requires returns-2)
+    (tie.spec page-count-requires is-page-requires returns is-leaf-requires keys-per-page-requires cast-count-good key-count-requires count-good-requires
+    returns-2)

@@ -1,7 +1,7 @@
 -- Laws: the leaf pairs of the tree that a store is read as are the entries of its leaves, left to right: so a walk along the leaves meets all records of a key,
 -- in order. Cited by the laws of bytes. Assumes nothing.
-use Rattle.std.specs.Prelude.{◌≡◌, refl, List, [], ◌∷◌, ◌++◌, map, ℕ, zero, suc}
-use Rattle.std.proofs.Common.{sym, ap, ◌∙◌, append-nil, arith, ne_eqb}
+use Rattle.std.specs.Prelude.{◌≡◌, refl, List, [], ◌∷◌, map, ℕ, zero, suc}
+use Rattle.std.proofs.Common.{sym, ◌∙◌, append-nil, arith, ne_eqb}
 use Rattle.tree.specs.Lists.{concat_map}
 use Rattle.tree.proofs.ListLaws.{concat_map_append, concat_map-single}
 use Rattle.tree.specs.Tree.{pairs_under, pairs, level_under, level}

@@ -9,7 +9,7 @@ use Rattle.tree.proofs.KeepingOf.{keeping_of}
 use Rattle.tree.proofs.RouteLaws.{position_map}
 use Rattle.tree.specs.Store.{Store, read_entry}
 use Rattle.tree.specs.Store.Removal.{store_position}
-use Rattle.tree.specs.Store.Route.{store_first_under, store_passes_records, store_route}
+use Rattle.tree.specs.Store.Route.{store_first_under, store_route}
 
 first_among_map : {A B C : Type 0} (g : A → B) (f : B → C) (f' : A → C) → ((x : A) → f (g x) ≡ f' x) → (d : C) (xs : List A) →
     first_among f d (map g xs) ≡ first_among f' d xs

@@ -1,6 +1,6 @@
 -- Steps: the route of a pair on a store, by the keeping of either features: the first leaf pair under an entry is found by going down first entries. The laws
 -- of bytes compare the entry that the rules on bytes go through with it.
-use Rattle.std.specs.Prelude.{Bool, not, ℕ, zero, suc}
+use Rattle.std.specs.Prelude.{not, ℕ, zero, suc}
 use Rattle.tree.specs.Order.{Order}
 use Rattle.tree.specs.Pairs.{by_record}
 use Rattle.tree.specs.Position.{Passes, passes_lower}

@@ -64,7 +64,8 @@ returns-4 c =
     let some = few.before in
     let ended = some.before.before in
     c.no_line-then-input-end-ne10.ensures
-    ∙ sym (line_other _ _ _ ended.digits_end-end.ensures some.if-end-from.false (omega (arith, few.if-end-from-gt-MAX_DIGITS.false)) tested.if-input-end-ne10.true)
+    ∙ sym (line_other _ _ _ ended.digits_end-end.ensures some.if-end-from.false
+    (omega (arith, few.if-end-from-gt-MAX_DIGITS.false)) tested.if-input-end-ne10.true)
 
 sub-read-digits : tie.Need-slice_bounds-read_digits-count
 sub-read-digits c = search rules
@@ -101,7 +102,8 @@ returns-5 c =
     let args = ended.args in
     let same : Number told.in-Number.number ≡ Number (number_of (digits_at args.input.now args.from)) = read asked _ told.in-Number.is in
     let number : told.in-Number.number ≡ number_of (digits_at args.input.now args.from) = cc in
-    sym (line_read _ _ _ ended.digits_end-end.ensures some.if-end-from.false (omega (arith, few.if-end-from-gt-MAX_DIGITS.false)) tested.if-input-end-ne10.false _ number)
+    sym (line_read _ _ _ ended.digits_end-end.ensures some.if-end-from.false
+    (omega (arith, few.if-end-from-gt-MAX_DIGITS.false)) tested.if-input-end-ne10.false _ number)
 
 returns-6 : tie.Need-returns-in-Other
 returns-6 c =
@@ -114,4 +116,6 @@ returns-6 c =
 pub line_at_spec : {M : Type 1} → statement M
 line_at_spec =
     tie.close
-    (tie.spec digits-end-requires no-line-requires returns no-line-requires-2 returns-2 sub-if3 no-line-requires-3 returns-3 shared-slice-read-if4 no-line-requires-4 returns-4 sub-read-digits part-read-digits-start part-read-digits-end read-digits-requires enum-known-number add-t14 enum_told no-line-requires-5 returns-5 returns-6)
+    (tie.spec digits-end-requires no-line-requires returns no-line-requires-2 returns-2 sub-if3 no-line-requires-3 returns-3 shared-slice-read-if4
+    no-line-requires-4 returns-4 sub-read-digits part-read-digits-start part-read-digits-end read-digits-requires enum-known-number add-t14 enum_told
+    no-line-requires-5 returns-5 returns-6)

@@ -26,7 +26,8 @@ returns-3 c =
     let few = c.before in
     let some = few.before in
     let ended = some.before in
-    sym (wrong_unended _ _ _ ended.digits_end-end.ensures (omega (arith, some.if-input-from.false)) (omega (arith, few.if-end-from-gt-MAX_DIGITS.false)) c.if-input-end.true)
+    sym (wrong_unended _ _ _ ended.digits_end-end.ensures (omega (arith, some.if-input-from.false))
+    (omega (arith, few.if-end-from-gt-MAX_DIGITS.false)) c.if-input-end.true)
 
 shared-slice-read-if4 : tie.Need-bounds-input-end
 shared-slice-read-if4 c = search rules
@@ -37,7 +38,8 @@ returns-4 c =
     let few = inside.before in
     let some = few.before in
     let ended = some.before in
-    sym (wrong_return _ _ _ ended.digits_end-end.ensures (omega (arith, some.if-input-from.false)) (omega (arith, few.if-end-from-gt-MAX_DIGITS.false)) (omega (arith, inside.if-input-end.false))
+    sym (wrong_return _ _ _ ended.digits_end-end.ensures (omega (arith, some.if-input-from.false))
+    (omega (arith, few.if-end-from-gt-MAX_DIGITS.false)) (omega (arith, inside.if-input-end.false))
     c.if-input-end-eq13.true)
 
 shared-slice-read-if5 : tie.Need-bounds-input-end-2
@@ -50,7 +52,8 @@ returns-5 c =
     let few = inside.before in
     let some = few.before in
     let ended = some.before in
-    sym (wrong_byte _ _ _ ended.digits_end-end.ensures (omega (arith, some.if-input-from.false)) (omega (arith, few.if-end-from-gt-MAX_DIGITS.false)) (omega (arith, inside.if-input-end.false))
+    sym (wrong_byte _ _ _ ended.digits_end-end.ensures (omega (arith, some.if-input-from.false))
+    (omega (arith, few.if-end-from-gt-MAX_DIGITS.false)) (omega (arith, inside.if-input-end.false))
     other.if-input-end-eq13.false c.if-input-end-ne10.true)
 
 returns-6 : tie.Need-returns-then-end-from
@@ -61,7 +64,8 @@ returns-6 c =
     let few = inside.before in
     let some = few.before in
     let ended = some.before in
-    sym (wrong_empty _ _ _ ended.digits_end-end.ensures (omega (arith, some.if-input-from.false)) (omega (arith, few.if-end-from-gt-MAX_DIGITS.false)) (omega (arith, inside.if-input-end.false))
+    sym (wrong_empty _ _ _ ended.digits_end-end.ensures (omega (arith, some.if-input-from.false))
+    (omega (arith, few.if-end-from-gt-MAX_DIGITS.false)) (omega (arith, inside.if-input-end.false))
     other.if-input-end-eq13.false feed.if-input-end-ne10.false c.if-end-from.true)
 
 returns-7 : tie.Need-returns
@@ -72,7 +76,8 @@ returns-7 c =
     let few = inside.before in
     let some = few.before in
     let ended = some.before in
-    sym (wrong_nothing _ _ _ ended.digits_end-end.ensures (omega (arith, some.if-input-from.false)) (omega (arith, few.if-end-from-gt-MAX_DIGITS.false)) (omega (arith, inside.if-input-end.false))
+    sym (wrong_nothing _ _ _ ended.digits_end-end.ensures (omega (arith, some.if-input-from.false))
+    (omega (arith, few.if-end-from-gt-MAX_DIGITS.false)) (omega (arith, inside.if-input-end.false))
     other.if-input-end-eq13.false feed.if-input-end-ne10.false c.if-end-from.false)
 
 pub wrong_at_spec : {M : Type 1} → statement M

@@ -103,4 +103,5 @@ returns c =
 pub tally_records_spec : {M : Type 1} → statement M
 tally_records_spec =
     tie.close
-    (tie.spec invariant-loop decreases-loop record-count-requires loop-holds add-number tally-record-requires add-lines add-refused loop-less loop-again returns)
+    (tie.spec invariant-loop decreases-loop record-count-requires loop-holds add-number tally-record-requires add-lines add-refused loop-less loop-again
+    returns)

@@ -31,8 +31,8 @@ use Rattle.ndx_sound.specs.TreeLaws.{by_top, kept_by_top, Fine, LeafPage, page-l
 use Rattle.ndx_sound.specs.Walk.{Status, walk}
 use Rattle.ndx_sound.specs.AuditTest.{zeros, page_fits, height_from, index_height, start, complete, tree_good}
 use Rattle.ndx_sound.specs.CountLaws.{count_all, count-length, room-length}
-use Rattle.ndx_sound.specs.WalkLaws.{Walks, Good, Accept, good-ordered, separated-read, page-walks}
-use Rattle.ndx_sound.specs.AcceptLaws.{accept_fitting, fitting_accept, fitting-levels, fitting-pairs, levels-fitting}
+use Rattle.ndx_sound.proofs.WalkLaws.{Walks, Good, Accept, good-ordered, separated-read, page-walks}
+use Rattle.ndx_sound.proofs.AcceptLaws.{accept_fitting, fitting_accept, fitting-levels, fitting-pairs, levels-fitting}
 
 -- tests taken apart
 beq_true : (a c : Bool) → beq a c ≡ true → a ≡ c
@@ -130,7 +130,8 @@ height-is b (suc h) zero p lone m a = absurd (omega arith)
 height-is b (suc h) (suc l) p lone m a =
     let f = fit b lone (suc h) p a.0 in
     let no : is_leaf b p ≡ false = f.leaf ∙ ne_eqb (suc h) 0 (omega arith) in
-    let c = first-child b p (count_at b p) (Good by_top (page_count b) (entries_at b) (page_fits b) (suc h)) (λ d. pairs_under (suc h) (read_entry (entries_at b)
+    let c = first-child b p (count_at b p) (Good by_top (page_count b) (entries_at b) (page_fits b) (suc h))
+    (λ d. pairs_under (suc h) (read_entry (entries_at b)
     (suc h) d))
     (rw (branch-entries b p f.page f.full no) at a.1) in
     rw (no, f.page, height_from) (ap suc (height-is b h l (lower_at b p 0) false (omega arith) c.1))
@@ -297,7 +298,8 @@ module _ (b : List ℕ) (e : header_good b ≡ true) where
     abbrev H : ℕ
     H = s.height
 
-    no_lower_lem : (i : ℕ) → i ≤ s.height → All (λ p. eqb (s.height - i) 0 ≡ true → NoLower b p) (numbers (generation (entries_at b) i ((none, root_page b) ∷ [])))
+    no_lower_lem : (i : ℕ) → i ≤ s.height
+        → All (λ p. eqb (s.height - i) 0 ≡ true → NoLower b p) (numbers (generation (entries_at b) i ((none, root_page b) ∷ [])))
     no_lower_lem = level-generation S none r H (λ j ps. All (λ p. eqb j 0 ≡ true → NoLower b p) ps)
         (λ j l. either (eqb j 0)
         (λ u. let z = eqb-true j 0 u in rw z (all_map (NoLower b) (λ p. eqb 0 0 ≡ true → NoLower b p) (λ p n q. n) (level 0 H (index_tree b H)) s.no_lower))

@@ -23,7 +23,7 @@ use Rattle.idx_leaf.specs.Given.{Listed}
 use Rattle.idx_leaf.specs.ItemLaws.{Fit}
 use Rattle.idx_layout.specs.EncodeLaws.{length-encode, items-encode}
 use Rattle.idx_leaf.specs.EntryLaws.{items_in_fit, listed-within}
-use Rattle.idx_entries.specs.GatherLaws.{length_last, length-larger, put_next, spread}
+use Rattle.idx_entries.proofs.GatherLaws.{length_last, length-larger, put_next, spread}
 
 -- how many entries a leaf has with one more
 pub length-insert : (le : Item → Item → Bool) (e : Item) (es : List Item) → length (insert_pair le e es) ≡ length es + 1

@@ -13,7 +13,7 @@ use Rattle.dbf_field.specs.Field.{no_entry}
 use Rattle.dbf_field.specs.declared.FieldEntry.{FieldEntry}
 use Rattle.dbf_create.specs.Laying.{descriptor_of, descriptors_of, room_length, no_fields, with_field, listed_count, count_good, lay_out, lay_out_rule}
 use Rattle.dbf_create.specs.LayingLaws.{lay_3, lay_4}
-use Rattle.dbf_create.specs.EmptyLaws.{Named, length_descriptors}
+use Rattle.dbf_create.proofs.EmptyLaws.{Named, length_descriptors}
 
 -- the room after j entries
 unfoldable pub copied : List FieldEntry → ℕ → List ℕ
