@@ -20,7 +20,5 @@ pub mod SoundReading
 pub mod FreePages
 -- Laws: the path of a key, and by it refusals 29 and 30 on bytes, are the theory's
 pub mod RoomLaws
--- Laws: an insertion keeps an index sound
-pub mod InsertionSound
 -- Laws: a fresh index is sound and empty
 pub mod FreshLaws

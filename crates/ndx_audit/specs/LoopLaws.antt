@@ -9,7 +9,7 @@ use Rattle.ndx_page.specs.Header.{max_levels, page_count, is_page}
 use Rattle.ndx_page.specs.Page.{lower_at, is_leaf}
 use Rattle.ndx_sound.specs.Reading.{Key}
 use Rattle.ndx_sound.specs.Walk.{Status, if_good, item, passed}
-use Rattle.ndx_sound.specs.WalkLaws.{if_is, if_not}
+use Rattle.ndx_sound.proofs.WalkLaws.{if_is, if_not}
 use Rattle.ndx_sound.specs.AuditTest.{zeros, height_from}
 use Rattle.ndx_sound.specs.TreeLaws.{by_top}
 use Rattle.ndx_audit.specs.State.{status_of, good_at}

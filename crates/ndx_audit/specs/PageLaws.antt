@@ -15,10 +15,10 @@ use Rattle.ndx_page.specs.PageLaws.{within-page}
 use Rattle.ndx_sound.specs.Reading.{Key, entries_at}
 use Rattle.ndx_sound.specs.ReadingLaws.{leaf-entries, branch-entries}
 use Rattle.ndx_sound.specs.Walk.{Status, if_good, over, items, passed, under, enter, walk}
-use Rattle.ndx_sound.specs.WalkLaws.{if_is, if_not}
+use Rattle.ndx_sound.proofs.WalkLaws.{if_is, if_not}
 use Rattle.ndx_sound.specs.AuditTest.{zeros, page_fits, height_from, complete, tree_good}
 use Rattle.ndx_sound.specs.TreeLaws.{by_top}
-use Rattle.ndx_sound.specs.Accepted.{Fit, fit}
+use Rattle.ndx_sound.proofs.Accepted.{Fit, fit}
 use Rattle.ndx_audit.specs.State.{key_from, status_of, good_at, entering, walk_from}
 use Rattle.ndx_audit.specs.Steps.{Walker, items_from, children_from}
 use Rattle.ndx_audit.specs.StepLaws.{items_by_number, children_by_number}

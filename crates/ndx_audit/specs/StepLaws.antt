@@ -6,7 +6,7 @@ use Rattle.std.proofs.Math.Option.{Option, none, some}
 use native.Mathlib.Omega.{arith}
 use Rattle.ndx_sound.specs.Reading.{Key, entries_from}
 use Rattle.ndx_sound.specs.Walk.{Status, over, item, items, passed, under}
-use Rattle.ndx_sound.specs.WalkLaws.{if_same}
+use Rattle.ndx_sound.proofs.WalkLaws.{if_same}
 use Rattle.ndx_sound.specs.TreeLaws.{by_top}
 use Rattle.ndx_audit.specs.Steps.{Walker, items_from, children_from}
 

@@ -15,7 +15,7 @@ use Rattle.ndx_page.specs.Lookup.{leaf_says, entry_says, page_says, visit_rule, 
 use Rattle.ndx_sound.specs.Sound.{Sound}
 use Rattle.ndx_sound.specs.Walk.{if_good, over, items, walk}
 use Rattle.ndx_sound.specs.AuditTest.{zeros, page_fits, height_from, tree_good}
-use Rattle.ndx_sound.specs.Accepted.{accepted}
+use Rattle.ndx_sound.proofs.Accepted.{accepted}
 
 padded : List ℕ → List ℕ
 padded l = l ++ replicate (page_size - length l) 0

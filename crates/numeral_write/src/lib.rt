@@ -46,7 +46,9 @@ fn fraction_length(places: usize) -> usize
     if places == 0 { 0 } else { places + 1 }
 }
 
-// Writes the last `count` digits of n at `at`, from the right, and answers n without them.
+// Writes the last `count` digits of n at `at`, from the right, and answers n without them. It is not inlined, so that `gl_number_write` keeps to the stack that
+// the header says.
+#[inline(never)]
 fn put_digits(text: &mut [u8], at: usize, count: usize, n: u64) -> u64
     requires { at + count ≤ length text.old }
     ensures { (result ≡ n / 10 ^ count) × (text.new ≡ put text.old at (last_digits count n)) }

@@ -3,7 +3,7 @@ use mathlib.Core.Path.{◌≡◌, sym, ◌∙◌}
 use mathlib.Core.Bool.{true}
 use Rattle.basis.specs.Tests.{passed, failed}
 use Rattle.ndx_page.specs.Header.{header_good}
-use Rattle.ndx_sound.specs.Accepted.{answer-bad, answer-sound, answer-unsound}
+use Rattle.ndx_sound.proofs.Accepted.{answer-bad, answer-sound, answer-unsound}
 use borrow.Author.Rules.{rules}
 use Rattle.ndx_audit.proofs.audit.Statement.{statement}
 use Rattle.ndx_audit.proofs.audit.Tie as tie

@@ -31,8 +31,8 @@ use Rattle.ndx_sound.specs.TreeLaws.{by_top, kept_by_top, Fine, LeafPage, page-l
 use Rattle.ndx_sound.specs.Walk.{Status, walk}
 use Rattle.ndx_sound.specs.AuditTest.{zeros, page_fits, height_from, index_height, start, complete, tree_good}
 use Rattle.ndx_sound.specs.CountLaws.{count_all, count-length, room-length}
-use Rattle.ndx_sound.specs.WalkLaws.{Walks, Good, Accept, good-ordered, separated-read, page-walks}
-use Rattle.ndx_sound.specs.AcceptLaws.{accept_fitting, fitting_accept, fitting-levels, fitting-pairs, levels-fitting}
+use Rattle.ndx_sound.proofs.WalkLaws.{Walks, Good, Accept, good-ordered, separated-read, page-walks}
+use Rattle.ndx_sound.proofs.AcceptLaws.{accept_fitting, fitting_accept, fitting-levels, fitting-pairs, levels-fitting}
 
 -- tests taken apart
 beq_true : (a c : Bool) → beq a c ≡ true → a ≡ c

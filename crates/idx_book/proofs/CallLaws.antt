@@ -41,7 +41,7 @@ use Rattle.idx_insert_page.specs.Insertion.{inserted_buffer}
 use Rattle.idx_path.specs.Room.{path_to, no_room}
 use Rattle.idx_insert_laws.specs.InsertionHeads.{Plain}
 use Rattle.idx_insert_laws.specs.RoomLaws.{sound-levels, present_is, room_is}
-use Rattle.idx_insert_laws.specs.InsertionSound.{Accepts, insert-keeps-sound}
+use Rattle.idx_insert_laws.proofs.InsertionSound.{Accepts, insert-keeps-sound}
 use Rattle.idx_remove.specs.Calls.{remove_checks, remove_rule}
 use Rattle.idx_path.specs.Presence.{is_there}
 use Rattle.idx_remove_page.specs.Removal.{removed_buffer}

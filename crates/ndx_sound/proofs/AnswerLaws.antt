@@ -6,7 +6,7 @@ use Rattle.basis.specs.Tests.{either}
 use Rattle.ndx_page.specs.Header.{header_good}
 use Rattle.ndx_sound.specs.Sound.{Audited}
 use Rattle.ndx_sound.specs.AuditTest.{tree_good}
-use Rattle.ndx_sound.specs.Accepted.{answer-bad, answer-sound, answer-unsound}
+use Rattle.ndx_sound.proofs.Accepted.{answer-bad, answer-sound, answer-unsound}
 
 -- an answer r of the audit is 24, 0 or 25, and another answer s is 24 or 0 exactly if r is
 module _ (b : List ℕ) (r s : ℕ) (a : Audited b r) (c : Audited b s) where

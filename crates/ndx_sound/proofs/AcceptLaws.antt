@@ -10,7 +10,7 @@ use Rattle.tree.proofs.KeepingOf.{distinct_keys}
 use Rattle.tree.proofs.Ordered.{Separated, OrderedUnder, SeparatedTree, separated-all}
 use Rattle.tree.specs.Store.{Store, read_entry, read_tree}
 use Rattle.tree.proofs.Levels.{join_map, below, generation, all-to_concat, all_of_concat}
-use Rattle.ndx_sound.specs.WalkLaws.{Good, Accept}
+use Rattle.ndx_sound.proofs.WalkLaws.{Good, Accept}
 
 module _ {K : Type 0} (O : Order K) (most : ℕ) (S : Store K) (fits : Bool → ℕ → ℕ → Bool) where
   -- every page under an entry fits, and every leaf pair has a record number

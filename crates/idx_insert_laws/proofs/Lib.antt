@@ -1,0 +1,2 @@
+-- Laws: an insertion keeps an index sound
+pub mod InsertionSound
