@@ -30,7 +30,8 @@ use Rattle.idx_page.specs.KeyOrder.{bytes_order}
 use Rattle.idx_page.specs.KeyOrderLaws.{equal-le}
 use Rattle.idx_page.specs.Reading.{entries_at}
 use Rattle.idx_page.proofs.SearchLaws.{first_entry}
-use Rattle.idx_page.proofs.ReadingLaws.{entries_from, entries_by_count, length-entries-from}
+use Rattle.idx_page.specs.Reading.{entries_from}
+use Rattle.idx_page.proofs.ReadingLaws.{entries_by_count, length-entries-from}
 use Rattle.idx_lookup.specs.Lookup.{record_of}
 use Rattle.idx_lookup.specs.FirstRecord.{entry_decides, neighbour_decides, first_from}
 use Rattle.idx_lookup.specs.Lookup.{lookup_rule}

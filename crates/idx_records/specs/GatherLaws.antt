@@ -14,7 +14,8 @@ use Rattle.idx_page.specs.Header.{is_page}
 use Rattle.idx_page.specs.Page.{right_at}
 use Rattle.idx_page.specs.KeyOrder.{bytes_order}
 use Rattle.idx_page.specs.Reading.{entries_at}
-use Rattle.idx_page.proofs.ReadingLaws.{entries_from, entries_are, length-entries-from}
+use Rattle.idx_page.specs.Reading.{entries_from}
+use Rattle.idx_page.proofs.ReadingLaws.{entries_are, length-entries-from}
 use Rattle.idx_sound.specs.AuditTest.{Entries, max_pages, chain}
 use Rattle.idx_keys.specs.EntryLaws.{from_on, from_end}
 use Rattle.idx_keys.specs.FileLaws.{chain-none, chain-some}
