@@ -15,7 +15,7 @@ use Rattle.octets.specs.StoreLaws.{put_append, put-none, length-put}
 use Rattle.octets.specs.NumberLaws.{length-to_le32}
 use Rattle.tree.specs.Book.{Call, final_of}
 use Rattle.idx_book.specs.Book.{Calls, FourBytes, change_answer, lookup_answer, buffer_after, Pairs, leaf_pairs, BookKept}
-use Rattle.idx_book.specs.BookLaws.{demand_3, demand_3_sound}
+use Rattle.idx_book.proofs.BookLaws.{demand_3, demand_3_sound}
 use Rattle.idx_page.specs.Header.{key_length, features}
 use Rattle.idx_lookup.specs.Lookup.{lookup_rule, answer_pages}
 use Rattle.idx_lookup.specs.declared.Answer.{Answer as Looked}

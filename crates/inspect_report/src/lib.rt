@@ -37,7 +37,11 @@ fn refuse_use(out: &impl Print, err: &impl Print) {
 }
 
 fn refuse_ndx_match(out: &impl Print, err: &impl Print) {
-    refuse(out, err, b"an NDX index has no match: leave the FIELD out\n");
+    refuse(
+        out,
+        err,
+        b"an NDX index has no match: leave the FIELD out\n",
+    );
 }
 
 fn wanted_field(arguments: usize, field: &[u8]) -> Field {
@@ -75,7 +79,12 @@ fn match_lines<'a>(
 {
     match wanted {
         Field::Number(number) => {
-            report::answer_line(out, line, b"match", idx_match::match_index(table, index, number))
+            report::answer_line(
+                out,
+                line,
+                b"match",
+                idx_match::match_index(table, index, number),
+            )
         }
         Field::Name => report::answer_line(
             out,
@@ -120,7 +129,12 @@ fn with_index<'a>(
     }
     let n = loaded.len;
     let of_table = report::table_report(rt, &mut line, table, memo, has_memo);
-    let of_index = report::answer_line(rt, &mut line, b"index", audit_answer(index_path, &index[..n]));
+    let of_index = report::answer_line(
+        rt,
+        &mut line,
+        b"index",
+        audit_answer(index_path, &index[..n]),
+    );
     let of_match = match_lines(rt, &mut line, table, &index[..n], wanted, field);
     report::problems_line(rt, err, &mut line, of_table + of_index + of_match);
 }

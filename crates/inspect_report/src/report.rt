@@ -381,7 +381,13 @@ fn shape_line(out: &impl Print, line: &mut Line, records: u32, fields: u32, reco
 }
 
 // All lines of a table and its memo file. A refused table has one line, its refusal.
-pub fn table_report<'a>(out: &impl Print, line: &mut Line, table: &'a [u8], memo: &'a [u8], has_memo: bool) -> u64
+pub fn table_report<'a>(
+    out: &impl Print,
+    line: &mut Line,
+    table: &'a [u8],
+    memo: &'a [u8],
+    has_memo: bool,
+) -> u64
     ensures { result ≤ max_fields * 4294967295 }
 {
     match dbf_check::check_table(table) {

@@ -144,7 +144,7 @@ module _ (d : ℕ) where
       let clear = no_comma c s e in
       let here = state (phase.Dropped 0) n 0 in
       let past : (step here c).phase ≡ phase.Bad =
-          either (eqb zero_digit c) (λ f. rw f) (λ f. either (is_digit c) (λ g. rw (f, g)) (λ g. rw (f, g, clear.0))) in
+      either (eqb zero_digit c) (λ f. rw f) (λ f. either (is_digit c) (λ g. rw (f, g)) (λ g. rw (f, g, clear.0))) in
       bad_means here c s _ n _ past clear.1
       (rw (eqb-suc-zero (length s), and-false (every is_digit (c ∷ s))) (and-false (not (every (eqb zero_digit) (c ∷ s)))))
   dropped_means (c ∷ s) (suc left) n e =

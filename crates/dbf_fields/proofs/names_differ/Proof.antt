@@ -67,9 +67,12 @@ loop-less c = search rules
 
 loop-again : tie.Need-loop-earlier-preserved invariant-loop decreases-loop invariant-fields decreases-fields
 loop-again c =
-    let at-loop = c.before.before.before in
-    (omega arith, at-loop.loop-earlier.invariant.1, any_more _ at-loop.loop-earlier.earlier at-loop.loop-earlier.invariant.2
-    (sym c.same_name.ensures ∙ c.if-same_name.false))
+    let at-loop = c.before.before.before in (
+      omega arith,
+      at-loop.loop-earlier.invariant.1,
+      any_more _ at-loop.loop-earlier.earlier at-loop.loop-earlier.invariant.2
+          (sym c.same_name.ensures ∙ c.if-same_name.false),
+    )
 
 returns : tie.Need-returns-after-fields invariant-loop decreases-loop invariant-fields decreases-fields
 unfolding names_differ

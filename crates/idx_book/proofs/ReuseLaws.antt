@@ -22,8 +22,8 @@ use Rattle.idx_insert.specs.Fresh.{fresh_buffer, fresh_rule}
 use Rattle.idx_insert_laws.specs.InsertionHeads.{octets_plain}
 use Rattle.idx_insert_laws.specs.FreshLaws.{FreshIs}
 use Rattle.idx_book.specs.Book.{Calls, answer_to, buffer_after, no_room_for, fits, barcodes, FourBytes, buffer_at, book_at}
-use Rattle.idx_book.specs.CallLaws.{Kept, read_index, read_is, keeping, kept-sound, same_answer, fit_rule, keeps, same_next}
-use Rattle.idx_book.specs.BookLaws.{rule_for, own-pairs, header-two, fresh_is, fresh-leaves, demand_3}
+use Rattle.idx_book.proofs.CallLaws.{Kept, read_index, read_is, keeping, kept-sound, same_answer, fit_rule, keeps, same_next}
+use Rattle.idx_book.proofs.BookLaws.{rule_for, own-pairs, header-two, fresh_is, fresh-leaves, demand_3}
 
 module _ (k f size : ℕ) (two : 1 < capacity k) where
   grows : (calls : Calls) → All FourBytes calls → (b : List ℕ) → Kept k f size b → file_size b ≤ file_size (final_of buffer_after calls b)

@@ -23,7 +23,7 @@ use Rattle.idx_insert_laws.specs.InsertionHeads.{Plain, octets_plain}
 use Rattle.idx_insert_laws.specs.FreshLaws.{FreshIs, fresh_is_sound}
 use Rattle.idx_book.specs.Book.{Calls, answer_to, buffer_after, no_room_for, barcodes, FourBytes, answers_to, buffer_at, Pairs, leaf_pairs}
 use Rattle.idx_book.specs.Book.{VisitsLevels, LeavesBuffer, Each, BookKept}
-use Rattle.idx_book.specs.CallLaws.{Kept, read_index, read_is, keeping, kept-sound, visits-levels, leaves-buffer, same_answer, same_rule, keeps, same_next}
+use Rattle.idx_book.proofs.CallLaws.{Kept, read_index, read_is, keeping, kept-sound, visits-levels, leaves-buffer, same_answer, same_rule, keeps, same_next}
 
 -- the book after the first n calls needs the answers to these calls alone
 book_take : (k f n : ℕ) (calls : Calls) (b : List ℕ) (book : Pairs)
