@@ -37,8 +37,8 @@ use Rattle.idx_sound.specs.AuditTest.{Entries}
 use Rattle.idx_match.specs.Match.{match_refusal, Matched}
 use Rattle.idx_match.specs.MatchTest.{column_of, column_bytes, entry_good, entries_good, entries_match, leaf_entries}
 use Rattle.idx_match.specs.Computed.{match_answer}
-use Rattle.idx_match.specs.AnswerLaws.{answer-computed}
-use Rattle.idx_match.specs.CallLaws.{table-good}
+use Rattle.idx_match.proofs.AnswerLaws.{answer-computed}
+use Rattle.idx_match.proofs.CallLaws.{table-good}
 use Rattle.dilution.specs.Dilution.{concentration_text, is_concentration, field_checks, header_checks, sheet_checks, text_checks}
 use Rattle.dilution.specs.Dilution.{record_dilution, record_with, barcode_checks, dilute_rule}
 use Rattle.dilution.specs.declared.Dilution.{Dilution}

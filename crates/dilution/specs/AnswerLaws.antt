@@ -12,7 +12,7 @@ use Rattle.dbf_table.specs.Table.{kept_mark, deleted_mark, record_count, deletio
 use Rattle.dbf_cell.specs.Cell.{field_bytes}
 use Rattle.idx_match.specs.Match.{Matched}
 use Rattle.idx_match.specs.Computed.{match_answer}
-use Rattle.idx_match.specs.AnswerLaws.{answer-computed}
+use Rattle.idx_match.proofs.AnswerLaws.{answer-computed}
 use Rattle.idx_page.specs.Header.{features, good_features, header_good}
 use Rattle.dilution.specs.Dilution.{sample_of, volumes_of, concentration_text, amount_of, concentration_of, distinct_index, header_checks, sheet_checks}
 use Rattle.dilution.specs.Dilution.{record_with, barcode_checks, text_checks, volume_checks, dilution_of, record_dilution, dilute_rule}

@@ -21,9 +21,9 @@ use Rattle.idx_lookup.specs.Lookup.{answer_record}
 use Rattle.idx_lookup_laws.specs.FoundLaws.{answer_of, lookup-list}
 use Rattle.idx_match.specs.Match.{entries_for}
 use Rattle.idx_match.specs.Computed.{match_answer}
-use Rattle.idx_match.specs.CallLaws.{Ready, ready, table-good}
-use Rattle.idx_match.specs.AnswerLaws.{Accepted, accepted-exactly, answer-computed}
-use Rattle.idx_match.specs.TestLaws.{range-number}
+use Rattle.idx_match.proofs.CallLaws.{Ready, ready, table-good}
+use Rattle.idx_match.proofs.AnswerLaws.{Accepted, accepted-exactly, answer-computed}
+use Rattle.idx_match.proofs.TestLaws.{range-number}
 use Rattle.dilution.specs.Dilution.{record_with}
 
 -- ---- entries whose keys are their records' fields: f i is the field of record i

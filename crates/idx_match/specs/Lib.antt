@@ -9,15 +9,7 @@ pub mod MatchTest
 pub mod Computed
 -- Laws: n numbers from 1 to n, none twice, are all of them
 pub mod CountLaws
--- Laws: the test holds exactly if the entries match
-pub mod TestLaws
 -- Laws: the code's loops, by what is left to do
 pub mod StepLaws
 -- Laws: the entries that are read along the leaves are the tree's
 pub mod LeafLaws
--- Laws: the refusals before the audit, one by one, and the answers of the calls
-pub mod CallLaws
--- Laws: 0, 25 and 31 are answered exactly if document 01 says so; one answer meets the rule, the computed one
-pub mod AnswerLaws
--- Laws: no deletion byte changes the answer
-pub mod DeletionLaws

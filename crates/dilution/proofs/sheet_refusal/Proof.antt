@@ -2,7 +2,7 @@
 use mathlib.Core.Path.{◌≡◌, sym, ◌∙◌}
 use Rattle.refusal.specs.Checks.{first_refusal}
 use Rattle.idx_match.specs.Computed.{match_answer}
-use Rattle.idx_match.specs.AnswerLaws.{answer-computed}
+use Rattle.idx_match.proofs.AnswerLaws.{answer-computed}
 use Rattle.dilution.specs.Dilution.{header_checks}
 use Rattle.dilution.specs.BarcodeLaws.{good-table}
 use Rattle.dilution.specs.DilutionLaws.{sheet_unread, sheet_unmatched, sheet_matched}

@@ -2,7 +2,7 @@
 -- Assumes nothing.
 use Rattle.idx_page.specs.HeaderLaws.{good-header}
 use Rattle.idx_keys.specs.FileLaws.{in_file}
-use Rattle.idx_match.specs.CallLaws.{leaves-from}
+use Rattle.idx_match.proofs.CallLaws.{leaves-from}
 use Rattle.idx_match.proofs.entries_match.Statement.{statement}
 use Rattle.idx_match.proofs.entries_match.Tie as tie
 

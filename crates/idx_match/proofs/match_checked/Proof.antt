@@ -6,7 +6,7 @@ use Rattle.dbf_field.specs.FieldLaws.{entry-inside}
 use Rattle.idx_match.specs.declared.Column.{Column}
 use Rattle.idx_match.specs.Match.{match_refusal}
 use Rattle.idx_match.specs.MatchTest.{column_of, entries_match, leaf_entries}
-use Rattle.idx_match.specs.CallLaws.{Ready, ready, column_is, column-ready, answer-refused, answer-unsound, answer-matched, answer-other}
+use Rattle.idx_match.proofs.CallLaws.{Ready, ready, column_is, column-ready, answer-refused, answer-unsound, answer-matched, answer-other}
 use borrow.Author.Rules.{rules}
 use Rattle.idx_match.proofs.match_checked.Statement.{statement}
 use Rattle.idx_match.proofs.match_checked.Tie as tie

@@ -2,7 +2,7 @@
 -- Assumes nothing.
 use mathlib.Core.Path.{sym, ◌∙◌}
 use Rattle.dbf_table.specs.TableLaws.{good_shape}
-use Rattle.idx_match.specs.CallLaws.{answer-table}
+use Rattle.idx_match.proofs.CallLaws.{answer-table}
 use borrow.Author.Rules.{rules}
 use Rattle.idx_match.proofs.match_index.Statement.{statement}
 use Rattle.idx_match.proofs.match_index.Tie as tie

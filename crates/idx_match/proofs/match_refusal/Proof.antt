@@ -11,7 +11,7 @@ use Rattle.dbf_field.specs.FieldLaws.{number-range, entry-inside}
 use Rattle.dbf_field.specs.declared.FieldEntry.{FieldEntry}
 use Rattle.idx_page.specs.Header.{header_good}
 use Rattle.idx_page.specs.HeaderLaws.{good-header}
-use Rattle.idx_match.specs.CallLaws.{refused_24, refused_12, refused_13, refused_27, refused_none}
+use Rattle.idx_match.proofs.CallLaws.{refused_24, refused_12, refused_13, refused_27, refused_none}
 use borrow.Author.Rules.{rules}
 use Rattle.idx_match.proofs.match_refusal.Statement.{statement}
 use Rattle.idx_match.proofs.match_refusal.Tie as tie

@@ -21,7 +21,7 @@ use Rattle.idx_sound.specs.AuditTest.{max_pages}
 use Rattle.idx_match.specs.declared.Column.{Column}
 use Rattle.idx_match.specs.Match.{match_refusal, Matches, Matched}
 use Rattle.idx_match.specs.MatchTest.{column_of, entries_match, first_leaf, entries_along, leaf_entries, ColumnInside}
-use Rattle.idx_match.specs.TestLaws.{test-exactly}
+use Rattle.idx_match.proofs.TestLaws.{test-exactly}
 use Rattle.idx_match.specs.LeafLaws.{leaf-entries}
 
 -- ---- the refusals after the table's

@@ -19,8 +19,8 @@ use Rattle.idx_sound.proofs.Accepted.{answer-unsound as audit_unsound}
 use Rattle.idx_match.specs.Match.{match_refusal, Matches, Matched}
 use Rattle.idx_match.specs.MatchTest.{column_of, entries_match, leaf_entries}
 use Rattle.idx_match.specs.Computed.{match_answer}
-use Rattle.idx_match.specs.TestLaws.{test-exactly}
-use Rattle.idx_match.specs.CallLaws.{table-good, ready, answer-refused, answer-unsound, answer-matched, answer-other}
+use Rattle.idx_match.proofs.TestLaws.{test-exactly}
+use Rattle.idx_match.proofs.CallLaws.{table-good, ready, answer-refused, answer-unsound, answer-matched, answer-other}
 
 module _ (t b : List ℕ) (field : ℕ) where
   -- the checks before the audit give 1 to 10, 24, 12, 13 and 27 alone

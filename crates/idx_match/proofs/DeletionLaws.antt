@@ -19,7 +19,7 @@ use Rattle.idx_page.specs.Header.{header_good}
 use Rattle.idx_sound.specs.Sound.{leaf_pairs}
 use Rattle.idx_sound.specs.AuditTest.{Entries}
 use Rattle.idx_match.specs.Match.{match_refusal, Matches, Matched}
-use Rattle.idx_match.specs.CallLaws.{table-good, ready}
+use Rattle.idx_match.proofs.CallLaws.{table-good, ready}
 
 -- fewer records end no later
 ends-before : (t : List ℕ) (k l : ℕ) → k ≤ l → records_end t k ≤ records_end t l
