@@ -3,7 +3,6 @@
 use Rattle.std.specs.Prelude.{ℕ, zero, suc, ◌+◌, cond, List, length, eqb, leb}
 use Rattle.octets.specs.Bytes.{byte_at}
 use Rattle.dilute_sheet.specs.Input.{line_feed, digits_at, line_at}
-use Rattle.dilute_sheet.specs.declared.input.NumberLine.{NumberLine}
 use Rattle.dilute_sheet.specs.declared.input.Fault.{Fault}
 use Rattle.dilute_sheet.specs.declared.input.Wrong.{Wrong}
 use Rattle.dilute_sheet.specs.declared.input.Wrong.TheVariants.{Nothing, Missing, TooLong, Unended, CarriageReturn, OtherByte, Empty, More}

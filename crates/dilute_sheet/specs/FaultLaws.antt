@@ -1,6 +1,6 @@
 -- Laws: how the code finds what is wrong with an input; something is wrong exactly if the input is 40. Assumes nothing.
 use Rattle.std.specs.Prelude.{ℕ, suc, ◌+◌, ◌-◌, ◌≤◌, ◌<◌, ◌≡◌, refl, Bool, true, false, cond, List, length, eqb, leb}
-use Rattle.std.proofs.Common.{sym, ap, ◌∙◌, arith}
+use Rattle.std.proofs.Common.{sym, ◌∙◌, arith}
 use borrow.Author.Tests.{le-leb, lt-leb, leb-false, eq-eqb, ne_eqb, eqb-false}
 use Rattle.basis.specs.Tests.{either, contra, join, first_arm, impossible}
 use Rattle.octets.specs.Bytes.{byte_at}
@@ -10,7 +10,7 @@ use Rattle.dilute_sheet.specs.Fault.{carriage_return, wrong_at, wrong_after, fau
 use Rattle.dilute_sheet.specs.declared.input.NumberLine.{NumberLine}
 use Rattle.dilute_sheet.specs.declared.input.Request.{Request}
 use Rattle.dilute_sheet.specs.declared.input.Input.TheVariants.{Asked, Other}
-use Rattle.dilute_sheet.specs.declared.input.Wrong.TheVariants.{Nothing, Missing, TooLong, Unended, CarriageReturn, OtherByte, Empty, More}
+use Rattle.dilute_sheet.specs.declared.input.Wrong.TheVariants.{Nothing, Missing, TooLong, Unended, CarriageReturn, OtherByte, Empty}
 
 -- ---- a line; its digits end at `end`
 

@@ -1,7 +1,7 @@
 -- Laws: how the code counts a sheet's lines and refusals. Assumes nothing.
 use Prim.Native.Nat.{ℕ, suc, ◌+◌, ◌-◌, ◌≤◌, ◌<◌}
-use Rattle.std.specs.Prelude.{◌≡◌, refl, List, eqb}
-use Rattle.std.proofs.Common.{sym, ap, ◌∙◌, ne_eqb}
+use Rattle.std.specs.Prelude.{◌≡◌, List, eqb}
+use Rattle.std.proofs.Common.{ne_eqb}
 use native.Mathlib.Omega.{arith}
 use Rattle.basis.specs.Tests.{either}
 use Rattle.refusal.specs.Checks.{first_refusal}
@@ -11,7 +11,6 @@ use Rattle.dilution.specs.DilutionLaws.{record-line}
 use Rattle.dilution.specs.declared.Dilution.{Dilution}
 use Rattle.dilution.specs.declared.Dilution.TheVariants.{Volumes, Refused}
 use Rattle.dilute_sheet.specs.declared.input.Request.{Request}
-use Rattle.dilute_sheet.specs.declared.tally.Tally.{Tally}
 use Rattle.dilute_sheet.specs.declared.tally.Verdict.TheVariants.{Lines, Alone}
 use Rattle.dilute_sheet.specs.Sheet.{answer_on}
 use Rattle.dilute_sheet.specs.Tally.{refusals, tally, lines_at, refused_at, sum_after, tally_of, request_verdict}

@@ -1,8 +1,8 @@
 -- Laws: what an answer with volumes says, for who pipettes by it. No proof of the code cites them: they are for readers of the rule. Assumes nothing.
-use Rattle.std.specs.Prelude.{ℕ, ◌+◌, ◌*◌, ◌-◌, ◌≤◌, ◌<◌, ◌≡◌, refl, Bool, true, List, [], ◌∷◌, ◌++◌, length, eqb, pos, negsuc}
+use Rattle.std.specs.Prelude.{ℕ, ◌+◌, ◌*◌, ◌-◌, ◌≤◌, ◌<◌, ◌≡◌, refl, Bool, true, List, ◌++◌, length, eqb, pos, negsuc}
 use Rattle.std.proofs.Common.{sym, ◌∙◌, arith}
 use borrow.Author.Tests.{eqb-true, leb-true, ltb-true, not-true}
-use Rattle.basis.specs.Tests.{either, both, or_left, impossible}
+use Rattle.basis.specs.Tests.{both, or_left, impossible}
 use Rattle.basis.specs.Lists.{All, all_left, all_right}
 use Rattle.refusal.specs.CheckLaws.{refuses_any, unless-cases}
 use Rattle.refusal.specs.Checks.{unless}

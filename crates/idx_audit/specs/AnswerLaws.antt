@@ -1,5 +1,5 @@
 -- Laws: the audit's answer by those of its two passes. Cited by the proof of `pages_good`. Assumes nothing.
-use Rattle.std.specs.Prelude.{ℕ, ◌-◌, ◌≡◌, Bool, true, false, List}
+use Rattle.std.specs.Prelude.{ℕ, ◌≡◌, Bool, true, false, List}
 use Rattle.std.proofs.Common.{◌∙◌}
 use Rattle.idx_sound.specs.AuditTest.{shape_good, keys_above_good, pages_good}
 

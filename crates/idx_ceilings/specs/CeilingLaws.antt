@@ -20,7 +20,8 @@ use Rattle.idx_page.specs.KeyOrder.{bytes_order}
 use Rattle.idx_page.specs.KeyOrderLaws.{below, at_or_above, equal-le}
 use Rattle.idx_page.specs.Page.{entry_offset, number_at}
 use Rattle.idx_page.specs.Reading.{entries_at}
-use Rattle.idx_page.proofs.ReadingLaws.{entries_from, entries_are}
+use Rattle.idx_page.specs.Reading.{entries_from}
+use Rattle.idx_page.proofs.ReadingLaws.{entries_are}
 use Rattle.idx_page.specs.Children.{first_child}
 use Rattle.idx_sound.specs.AuditTest as rule
 use Rattle.idx_sound.specs.AuditTest.{first_of, last_of, last_number, down, last_child, below_next, onward, upper_entries}

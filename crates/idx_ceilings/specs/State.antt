@@ -1,7 +1,7 @@
 -- Steps: the second pass's own values, as its test has them. No public contract cites these: a reader need not believe them.
 use Rattle.std.specs.Prelude.{ℕ, ◌+◌, ◌-◌, List}
 use Rattle.idx_page.specs.Page.{key_at, number_at}
-use Rattle.idx_page.proofs.ReadingLaws.{entries_from}
+use Rattle.idx_page.specs.Reading.{entries_from}
 use Rattle.idx_sound.specs.AuditTest as rule
 use Rattle.idx_sound.specs.AuditTest.{upper_entry}
 use Rattle.idx_ceilings.specs.declared.Keys.{Keys}

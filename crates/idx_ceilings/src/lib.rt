@@ -7,7 +7,7 @@ ghost use Rattle.std.specs.Prelude.{◌≡◌, true, cond, ◌+◌, ◌-◌, ◌
 ghost use Rattle.octets.specs.Store.{window};
 ghost use Rattle.idx_page.specs.Header.{max_levels, header_good};
 ghost use Rattle.idx_page.specs.Reading.{entries_at};
-ghost use Rattle.idx_page.proofs.ReadingLaws.{entries_from};
+ghost use Rattle.idx_page.specs.Reading.{entries_from};
 ghost use Rattle.idx_page.specs.Children.{first_child};
 ghost use Rattle.idx_sound.specs.AuditTest.{max_pages, first_of, chain};
 ghost use Rattle.idx_sound.specs.AuditTest.{height_of, down, last_child, below_next, upper_entries, upper_pages, upper_levels, keys_above_good};

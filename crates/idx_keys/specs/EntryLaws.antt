@@ -5,7 +5,8 @@ use Rattle.std.proofs.Math.Option.{Option, none, some}
 use Rattle.idx_page.specs.Page.{entry_offset, key_at, number_at}
 use Rattle.idx_page.specs.PageLaws.{entry-low}
 use Rattle.idx_page.specs.Reading.{entries_at}
-use Rattle.idx_page.proofs.ReadingLaws.{entries_from, entries_are, each_within}
+use Rattle.idx_page.specs.Reading.{entries_from}
+use Rattle.idx_page.proofs.ReadingLaws.{entries_are, each_within}
 use Rattle.idx_sound.specs.AuditTest.{last_of, last_pair}
 use Rattle.idx_keys.specs.Places.{InFile, EntriesWithin, key_from, pair_from}
 

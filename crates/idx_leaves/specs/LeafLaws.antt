@@ -2,7 +2,7 @@
 use Rattle.std.specs.Prelude.{ℕ, ◌+◌, ◌-◌, ◌*◌, ◌≤◌, ◌<◌, ◌≡◌, refl, Bool, true, false, ◌&&◌, List, length}
 use Rattle.std.proofs.Math.Path.{sym, ap}
 use Rattle.std.proofs.Common.{◌∙◌, arith}
-use Rattle.std.proofs.Math.Option.{none, some}
+use Rattle.std.proofs.Math.Option.{some}
 use Rattle.std.proofs.Math.Nat.{sub-zero}
 use borrow.Author.Tests.{eq-eqb, ne_eqb}
 use Rattle.octets.specs.Bytes.{byte_at, be32}
@@ -12,7 +12,7 @@ use Rattle.octets.specs.Order.{ordering, is_below}
 use Rattle.idx_page.specs.Header.{features}
 use Rattle.idx_page.specs.Page.{entries_start, entry_offset, key_at, number_at}
 use Rattle.idx_page.specs.PageLaws.{entry_next, entry-low, entry-within}
-use Rattle.idx_page.proofs.ReadingLaws.{entries_from}
+use Rattle.idx_page.specs.Reading.{entries_from}
 use Rattle.idx_sound.specs.AuditTest.{leaf_entries_good}
 use Rattle.idx_keys.specs.Places.{EntriesWithin, pair_from}
 use Rattle.idx_leaves.specs.Leaf.{compared_bytes, leaf_entry}

@@ -3,7 +3,7 @@
 
 ghost use Rattle.std.specs.Prelude.{◌≡◌, true, cond, ◌+◌, ◌-◌, ◌≤◌, ◌<◌, length, eqb};
 ghost use Rattle.idx_page.specs.Header.{max_key, page_size, features};
-ghost use Rattle.idx_page.proofs.ReadingLaws.{entries_from};
+ghost use Rattle.idx_page.specs.Reading.{entries_from};
 ghost use Rattle.idx_sound.specs.AuditTest.{leaf_entries_good};
 ghost use Rattle.idx_keys.specs.Places.{EntriesWithin, pair_from};
 ghost use Rattle.idx_leaves.specs.Leaf.{compared_bytes, leaf_entry};

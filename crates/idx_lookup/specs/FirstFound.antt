@@ -22,7 +22,6 @@ use Rattle.idx_lookup.specs.FirstRecord.{record_of, entry_decides, neighbour_dec
 use Rattle.idx_lookup.specs.Lookup.{lookup_rule}
 use Rattle.idx_lookup.specs.LookupLaws.{steps_record}
 use Rattle.idx_lookup.specs.WayLaws.{page-some}
-use Rattle.idx_lookup.specs.declared.Answer.{Answer}
 use Rattle.idx_lookup.specs.declared.Answer.TheVariants as answer
 
 -- an entry with the key and the record number r, in a leaf that is the n-th page visited, from the 1st to the 12th. The leaf passes lookup's checks; `last`

@@ -1,9 +1,9 @@
 -- Rules: lookup in an index of features 0, which "gives the key's first record": the steps from the root down and to the right neighbour, on any bytes, and the
 -- answer. "On a page other than the root with no entry at or above the key it goes down the last one or, from a leaf, to the right neighbour, whose first entry
 -- decides (none: absent), so it visits at most levels + 1 pages."
-use Rattle.std.specs.Prelude.{ℕ, zero, suc, ◌+◌, ◌-◌, Bool, true, false, cond, List, length, eqb}
+use Rattle.std.specs.Prelude.{ℕ, zero, suc, ◌+◌, ◌-◌, true, false, cond, List, length, eqb}
 use Rattle.octets.specs.Order.{ordering, is_equal}
-use Rattle.idx_page.specs.Header.{max_levels, no_page, root_offset, file_size, key_length, header_good}
+use Rattle.idx_page.specs.Header.{max_levels, no_page, file_size}
 use Rattle.idx_page.specs.Page.{attribute_at, count_at, right_at, leaf_bit, key_at, number_at, page_good, first_at_or_above}
 use Rattle.idx_page.specs.declared.PageOffset.{PageOffset}
 use Rattle.idx_page.specs.declared.RecordNumber.{RecordNumber}

@@ -7,7 +7,7 @@ use Rattle.std.proofs.Common.{sym, ◌∙◌, subst}
 use Rattle.std.proofs.Math.Bool.{true, false}
 use Rattle.std.proofs.Math.Option.{Option, none, some}
 use native.Mathlib.Omega.{arith}
-use borrow.Author.Tests.{eq-eqb, ne_eqb, eqb-true, eqb-false, leb-true}
+use borrow.Author.Tests.{eq-eqb, ne_eqb, eqb-false, leb-true}
 use Rattle.refusal.specs.Checks.{unless}
 use Rattle.basis.specs.Lists.{All}
 use Rattle.basis.specs.Tests.{either, both, or_left, contra, impossible}
@@ -15,23 +15,23 @@ use Rattle.octets.specs.Order.{bytes_le, ordering, is_equal}
 use Rattle.tree.specs.Lists.{NonEmpty, occ}
 use Rattle.tree.proofs.ListLaws.{all_unit, all_map2, non_empty-length}
 use Rattle.tree.specs.Clauses.{Links, Linked}
-use Rattle.tree.specs.Pairs.{seek, if_equal, find, get}
+use Rattle.tree.specs.Pairs.{seek, if_equal, get}
 use Rattle.tree.proofs.KeepingLaws.{find-get}
 use Rattle.tree.specs.Tree.{Tree, pairs, level}
 use Rattle.tree.specs.LookupFirst.{Trip, neighbour, first_record}
 use Rattle.tree.proofs.LookupLaws.{first_record-find, first_record-found}
-use Rattle.tree.specs.Store.First.{linked_page, seek_or_last, trip_among, trip_to, store_record_under, store_record}
+use Rattle.tree.specs.Store.First.{linked_page, seek_or_last, store_record_under, store_record}
 use Rattle.tree.proofs.Store.FirstLaws.{record_read}
 use Rattle.tree.proofs.Insertion.Levels.{level_under-pages}
 use Rattle.tree.proofs.IndexPages.{no_page-unused}
-use Rattle.idx_page.specs.Header.{max_levels, no_page, page_size, is_page, root_offset, file_size, key_length, features}
-use Rattle.idx_page.specs.HeaderLaws.{is-page, good-header}
-use Rattle.idx_page.specs.Page.{attribute_at, count_at, right_at, leaf_bit, capacity, key_at, number_at, attribute_good, count_good, page_good}
+use Rattle.idx_page.specs.Header.{max_levels, no_page, root_offset, file_size, key_length, features}
+use Rattle.idx_page.specs.Page.{attribute_at, count_at, right_at, leaf_bit, capacity, key_at, number_at, count_good, page_good}
 use Rattle.idx_page.specs.KeyOrder.{bytes_order}
 use Rattle.idx_page.specs.KeyOrderLaws.{equal-le}
 use Rattle.idx_page.specs.Reading.{entries_at}
 use Rattle.idx_page.proofs.SearchLaws.{first_entry}
-use Rattle.idx_page.proofs.ReadingLaws.{entries_from, entries_by_count, length-entries-from}
+use Rattle.idx_page.specs.Reading.{entries_from}
+use Rattle.idx_page.proofs.ReadingLaws.{entries_by_count, length-entries-from}
 use Rattle.idx_lookup.specs.Lookup.{record_of}
 use Rattle.idx_lookup.specs.FirstRecord.{entry_decides, neighbour_decides, first_from}
 use Rattle.idx_lookup.specs.Lookup.{lookup_rule}

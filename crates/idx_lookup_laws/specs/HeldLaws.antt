@@ -1,12 +1,10 @@
 -- Laws: lookup on a sound index of either features is the theory's lookup by the keeping of those features, and goes to as many pages. Cited by the claim about
 -- lists of calls. Assumes nothing.
-use Rattle.std.specs.Prelude.{◌≡◌, refl, Bool, true, false, cond, List, ℕ, zero, suc, ◌+◌, eqb, length}
+use Rattle.std.specs.Prelude.{◌≡◌, refl, List, ℕ, zero, suc, eqb, length}
 use Rattle.std.proofs.Common.{sym, ap, ◌∙◌, zero-add, arith, eq-eqb, ne_eqb}
-use Rattle.std.proofs.Math.Option.{Option}
-use Rattle.basis.specs.Tests.{either, contra}
+use Rattle.basis.specs.Tests.{either}
 use Rattle.tree.specs.Keeping.{goes_on_for}
 use Rattle.tree.specs.LookupFirst.{first_record, lookup_by, visited_by}
-use Rattle.tree.specs.Tree.{lookup, visited}
 use Rattle.idx_page.specs.Header.{key_length, features}
 use Rattle.idx_page.specs.KeyOrder.{bytes_order}
 use Rattle.idx_lookup.specs.Lookup.{lookup_rule}

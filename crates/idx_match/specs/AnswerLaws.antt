@@ -4,9 +4,9 @@ use Rattle.std.specs.Prelude.{ℕ, ◌-◌, ◌≤◌, ◌<◌, ◌≡◌, refl,
 use Rattle.std.proofs.Common.{sym, ◌∙◌, ⊎_elim, arith, eqb-true}
 use mathlib.Core.List.{List, [], ◌∷◌, ◌++◌}
 use Rattle.std.proofs.lemmas.Bool.{eqb-false}
-use Rattle.basis.specs.Lists.{All, all_append, all_map}
+use Rattle.basis.specs.Lists.{all_append, all_map}
 use Rattle.basis.specs.Tests.{either, contra}
-use Rattle.refusal.specs.CheckLaws.{first_pass, first_fail, first-other}
+use Rattle.refusal.specs.CheckLaws.{first_fail, first-other}
 use Rattle.refusal.specs.Checks.{first_refusal}
 use Rattle.dbf_table.specs.Table.{type_c, field_count, field_type, field_length, table_checks}
 use Rattle.dbf_field.specs.Field.{number_good}

@@ -1,6 +1,6 @@
 -- Laws: the refusals before the audit, one by one; what is known if there is none; the answers of the match. The proofs of the match's calls cite them.
 -- Assumes nothing.
-use Rattle.std.specs.Prelude.{ℕ, ◌-◌, ◌≤◌, ◌≡◌, refl, Bool, true, false, List, [], ◌∷◌, ◌↔◌, length, eqb}
+use Rattle.std.specs.Prelude.{ℕ, ◌-◌, ◌≤◌, ◌≡◌, refl, Bool, true, false, List, [], ◌∷◌, ◌↔◌, eqb}
 use Rattle.std.proofs.Math.Path.{sym}
 use Rattle.std.proofs.Common.{ap, ◌∙◌, inl, inr, arith, lit<}
 use borrow.Author.Tests.{eqb-true, eq-eqb, ne_eqb}

@@ -21,7 +21,8 @@ use Rattle.idx_page.specs.Header.{max_levels, is_page}
 use Rattle.idx_page.specs.Page.{count_at, capacity, entry_area, key_at, number_at, right_at}
 use Rattle.idx_page.specs.PageLaws.{capacity-small}
 use Rattle.idx_page.specs.Reading.{entries_at}
-use Rattle.idx_page.proofs.ReadingLaws.{entries_from, entries_are, entries_none, length-entries}
+use Rattle.idx_page.specs.Reading.{entries_from}
+use Rattle.idx_page.proofs.ReadingLaws.{entries_are, entries_none, length-entries}
 use Rattle.idx_page.specs.Children.{is_leaf, first_child}
 use Rattle.idx_sound.specs.AuditTest.{Entries, max_pages, chain}
 use Rattle.idx_keys.specs.EntryLaws.{from_on, from_end}

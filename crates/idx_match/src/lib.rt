@@ -9,7 +9,7 @@ ghost use Rattle.std.specs.Prelude.{◌≡◌, true, ◌+◌, ◌-◌};
 ghost use Rattle.dbf_table.specs.TableLaws.{Shaped};
 ghost use Rattle.idx_page.specs.Header.{max_levels, root_offset, key_length, header_good};
 ghost use Rattle.idx_page.specs.Within.{Within};
-ghost use Rattle.idx_page.proofs.ReadingLaws.{entries_from};
+ghost use Rattle.idx_page.specs.Reading.{entries_from};
 ghost use Rattle.idx_sound.specs.AuditTest.{max_pages};
 ghost use Rattle.idx_keys.specs.Places.{InFile, EntriesWithin};
 ghost use Rattle.idx_match.specs.Match.{match_refusal, Matched};

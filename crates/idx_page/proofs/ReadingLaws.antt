@@ -13,14 +13,9 @@ use Rattle.idx_page.specs.Header.{max_key, page_size, no_page, is_page}
 use Rattle.idx_page.specs.HeaderLaws.{is-page}
 use Rattle.idx_page.specs.Page.{attribute_at, count_at, left_at, right_at, entries_start, entry_area, capacity, entry_offset, key_at, number_at}
 use Rattle.idx_page.specs.Within.{Within}
-use Rattle.idx_page.specs.Reading.{items, items_at, numbered, entries_at}
+use Rattle.idx_page.specs.Reading.{items, items_at, numbered, entries_at, entries_from}
 use Rattle.idx_page.specs.Children.{first_child}
 use Rattle.idx_page.specs.PageLaws.{entries_fit, entry_first, entry_next}
-
--- n entries of the page at p, from entry i on
-unfoldable pub entries_from : List ℕ → ℕ → ℕ → ℕ → ℕ → List (List ℕ × ℕ)
-entries_from b k p zero i = []
-entries_from b k p (suc n) i = (key_at b k p i, number_at b k p i) ∷ entries_from b k p n (i + 1)
 
 drop_take : (i m : ℕ) (xs : List ℕ) → drop i (take m xs) ≡ take (m - i) (drop i xs)
 drop_take zero m xs = rw sub-zero

@@ -10,7 +10,7 @@ use Rattle.tree.specs.Pairs.{seek}
 use Rattle.idx_page.specs.Page.{key_at, number_at, first_at_or_above}
 use Rattle.idx_page.specs.KeyOrder.{bytes_order}
 use Rattle.idx_page.specs.PageLaws.{first-end, first-here, first-later}
-use Rattle.idx_page.proofs.ReadingLaws.{entries_from}
+use Rattle.idx_page.specs.Reading.{entries_from}
 
 -- the first of n entries of the page at p from entry i on, with keys of k bytes, that is at or above a key
 abbrev pub first_entry : List ℕ → List ℕ → ℕ → ℕ → ℕ → ℕ → ℕ

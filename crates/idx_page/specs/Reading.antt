@@ -6,7 +6,7 @@ use Rattle.octets.specs.Store.{window}
 use Rattle.tree.specs.Tree.{Tree}
 use Rattle.tree.specs.Store.{read_tree}
 use Rattle.idx_page.specs.Header.{is_page, root_offset}
-use Rattle.idx_page.specs.Page.{entries_start, entry_area, capacity, count_at}
+use Rattle.idx_page.specs.Page.{entries_start, entry_area, capacity, count_at, key_at, number_at}
 
 -- an entry as it is stored: its key and the four bytes of its number
 abbrev pub Item : Type 0
@@ -27,6 +27,11 @@ numbered e = (e.0, be32 e.1 0)
 
 unfoldable pub entries_at : ℕ → ℕ → List ℕ → ℕ → List (List ℕ × ℕ)
 entries_at k size b p = map numbered (items_at k size b p)
+
+-- n entries of the page at p, from entry i on
+unfoldable pub entries_from : List ℕ → ℕ → ℕ → ℕ → ℕ → List (List ℕ × ℕ)
+entries_from b k p zero i = []
+entries_from b k p (suc n) i = (key_at b k p i, number_at b k p i) ∷ entries_from b k p n (i + 1)
 
 -- the bytes as a tree, from the root on, with h levels under it
 abbrev pub tree_of : ℕ → ℕ → List ℕ → (h : ℕ) → Tree (List ℕ) h

@@ -1,5 +1,5 @@
 -- Laws: the cases of the call, each from the tests that lead to it. Cited by its proof. Assumes nothing.
-use Rattle.std.specs.Prelude.{ℕ, ◌+◌, ◌*◌, ◌-◌, ◌≤◌, ◌<◌, ◌≡◌, refl, true, false, eqb}
+use Rattle.std.specs.Prelude.{ℕ, ◌+◌, ◌-◌, ◌≤◌, ◌<◌, ◌≡◌, true, false, eqb}
 use Rattle.std.proofs.Math.Path.{sym, ap}
 use Rattle.std.proofs.Common.{◌∙◌, arith}
 use mathlib.Core.List.{List}
@@ -13,7 +13,7 @@ use Rattle.idx_page.specs.KeyOrder.{bytes_order}
 use Rattle.idx_sound.specs.AuditTest.{max_pages, pages_good}
 use Rattle.idx_match.specs.MatchTest.{first_leaf, entries_along, leaf_entries}
 use Rattle.idx_records.specs.Records.{key_records, Told, told, records_checks, records_rule}
-use Rattle.idx_records.specs.Gather.{Gathered, gather, stored, gathered}
+use Rattle.idx_records.specs.Gather.{Gathered, gather, gathered}
 use Rattle.idx_records.specs.GatherLaws.{gathered-records, stored-none, stored-all}
 
 -- the leaves' entries from the first leaf on, by the header's numbers

@@ -1,5 +1,5 @@
 -- Laws: the loops over the entries of a leaf and over the leaves, by what is left to do; and what is stored in all. Assumes nothing.
-use Rattle.std.specs.Prelude.{ℕ, zero, suc, ◌+◌, ◌-◌, ◌≤◌, ◌<◌, ◌≡◌, refl, Bool, true, false, cond, ◌&&◌, length, set, ltb}
+use Rattle.std.specs.Prelude.{ℕ, zero, suc, ◌+◌, ◌-◌, ◌≤◌, ◌<◌, ◌≡◌, refl, Bool, true, false, ◌&&◌, length, set, ltb}
 use Rattle.std.proofs.Common.{sym, ◌∙◌, arith, length-set, ltb-false, lt-ltb, le-ltb}
 use Rattle.std.proofs.Math.Path.{ap}
 use mathlib.Core.List.{List, [], ◌∷◌, ◌++◌}
@@ -14,7 +14,8 @@ use Rattle.idx_page.specs.Header.{is_page}
 use Rattle.idx_page.specs.Page.{right_at}
 use Rattle.idx_page.specs.KeyOrder.{bytes_order}
 use Rattle.idx_page.specs.Reading.{entries_at}
-use Rattle.idx_page.proofs.ReadingLaws.{entries_from, entries_are, length-entries-from}
+use Rattle.idx_page.specs.Reading.{entries_from}
+use Rattle.idx_page.proofs.ReadingLaws.{entries_are, length-entries-from}
 use Rattle.idx_sound.specs.AuditTest.{Entries, max_pages, chain}
 use Rattle.idx_keys.specs.EntryLaws.{from_on, from_end}
 use Rattle.idx_keys.specs.FileLaws.{chain-none, chain-some}

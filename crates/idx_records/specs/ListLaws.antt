@@ -1,7 +1,7 @@
 -- Laws: on a sound index of either features the call lists each record of the key once and none other, in order. Assumes nothing.
 use Rattle.std.specs.Prelude.{ℕ, ◌≡◌, List, leb}
 use Rattle.std.proofs.Math.Path.{ap}
-use Rattle.std.proofs.Common.{sym, ◌∙◌}
+use Rattle.std.proofs.Common.{◌∙◌}
 use Rattle.tree.specs.Lists.{count_if, occ}
 use Rattle.tree.specs.Pairs.{records_of, by_record, has, Ascending}
 use Rattle.idx_page.specs.KeyOrder.{bytes_order}

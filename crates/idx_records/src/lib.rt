@@ -8,7 +8,7 @@ ghost use Rattle.std.specs.Prelude.{◌≡◌, true, ◌+◌, ◌*◌, ◌≤◌
 ghost use Rattle.idx_page.specs.Header.{key_length, header_good};
 ghost use Rattle.idx_page.specs.Page.{entry_area};
 ghost use Rattle.idx_page.specs.Within.{Within};
-ghost use Rattle.idx_page.proofs.ReadingLaws.{entries_from};
+ghost use Rattle.idx_page.specs.Reading.{entries_from};
 ghost use Rattle.idx_sound.specs.AuditTest.{max_pages};
 ghost use Rattle.idx_keys.specs.Places.{InFile, EntriesWithin};
 ghost use Rattle.idx_match.specs.MatchTest.{entry_at, entries_along, leaf_entries};

@@ -12,7 +12,8 @@ use Rattle.basis.specs.Tests.{either, contra}
 use Rattle.idx_page.specs.Header.{max_levels, is_page, root_offset, free_pointer, file_size, key_length}
 use Rattle.idx_page.specs.Page.{right_at, number_at}
 use Rattle.idx_page.specs.Reading.{entries_at}
-use Rattle.idx_page.proofs.ReadingLaws.{entries_from, entries_are}
+use Rattle.idx_page.specs.Reading.{entries_from}
+use Rattle.idx_page.proofs.ReadingLaws.{entries_are}
 use Rattle.idx_page.specs.Children.{is_leaf, children_of, first_child}
 use Rattle.idx_page.specs.declared.PageOffset.{PageOffset}
 use Rattle.idx_sound.specs.AuditTest.{later_pages, Progress, Level, attribute_of, start, refused, chain, page_fits, counted, rows_under}

@@ -11,7 +11,8 @@ use Rattle.idx_page.specs.Header.{page_size, features, is_page}
 use Rattle.idx_page.specs.HeaderLaws.{IsPage, is-page}
 use Rattle.idx_page.specs.Page.{attribute_at, count_at, left_at, right_at, leaf_bit, capacity, count_good}
 use Rattle.idx_page.specs.Reading.{entries_at}
-use Rattle.idx_page.proofs.ReadingLaws.{entries_from, entries_are, count-read}
+use Rattle.idx_page.specs.Reading.{entries_from}
+use Rattle.idx_page.proofs.ReadingLaws.{entries_are, count-read}
 use Rattle.idx_sound.specs.AuditTest as rule
 use Rattle.idx_sound.specs.AuditTest.{last_pair, leaf_entries_good, entries_fit, page_fits, counted, check_page}
 use Rattle.idx_shape.specs.declared.Progress.{Progress}

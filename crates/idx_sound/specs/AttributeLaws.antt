@@ -3,7 +3,7 @@
 use Rattle.std.specs.Prelude.{ℕ, zero, suc, ◌%◌, ◌≤◌, ◌<◌, ◌≡◌, refl, Bool, true, false, ◌||◌, eqb, leb}
 use Rattle.std.proofs.Common.{arith, ne_eqb, eqb-true, le-leb, leb-true, leb-false}
 use Rattle.std.proofs.lemmas.Bool.{eqb-false}
-use Rattle.basis.specs.Tests.{either, contra, both, join, or_left}
+use Rattle.basis.specs.Tests.{either, both, join, or_left}
 use Rattle.tree.specs.Clauses.{least}
 use Rattle.idx_page.specs.Page.{root_bit, leaf_bit, capacity, count_good}
 use Rattle.idx_sound.specs.AuditTest.{attribute_of}

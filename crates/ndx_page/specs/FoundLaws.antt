@@ -1,7 +1,7 @@
 -- Laws: "a found key is an equal one in the leaf", on any bytes, and the leaf passes lookup's checks. It is the law of IDX, over the pages of an NDX index:
 -- what a page says is told as a page of IDX would say it. Assumes nothing.
 use Rattle.std.specs.Prelude.{ℕ, zero, suc, ◌-◌, ◌≤◌, ◌≡◌, refl, true, List, length, eqb}
-use Rattle.std.proofs.Common.{sym, ap, ◌∙◌, arith}
+use Rattle.std.proofs.Common.{sym, ◌∙◌, arith}
 use Rattle.refusal.specs.Checks.{unless}
 use Rattle.basis.specs.Tests.{either, impossible}
 use Rattle.octets.specs.Order.{ordering, is_equal}

@@ -1,6 +1,6 @@
 -- `dilution::concentration_of` meets its contract: the cases of a text. Assumes nothing.
 use mir.Syntax.{w64}
-use mir.Val.{SFits, to_z, of_z}
+use mir.Val.{SFits}
 use Rattle.std.proofs.Common.{rules}
 use Rattle.std.proofs.lemmas.Int.{to_z-of_z}
 use Rattle.dilution.specs.Dilution.{concentration_of}

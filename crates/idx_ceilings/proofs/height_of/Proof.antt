@@ -1,7 +1,7 @@
 -- `idx_ceilings::height_of` meets its contract. The loop's invariant: `page` is `height` levels under the root by first children.
 -- Assumes nothing.
 use Prim.Native.Nat.{◌-◌, ◌≤◌}
-use mathlib.Core.Path.{refl, sym, ◌∙◌}
+use mathlib.Core.Path.{sym, ◌∙◌}
 use native.Mathlib.Omega.{arith}
 use borrow.Author.Rules.{rules}
 use Rattle.idx_page.specs.Header.{max_levels}

@@ -1,5 +1,4 @@
 -- `idx_lookup::first_from` meets its contract, by induction on the levels left: each way that a page gives decides as the rule's does. Assumes nothing.
-use Rattle.std.specs.Prelude.{◌≡◌, ℕ}
 use Rattle.std.proofs.Math.Path.{sym}
 use Rattle.std.proofs.Common.{◌∙◌, arith}
 use Rattle.idx_page.specs.HeaderLaws.{good-header}

@@ -1,5 +1,4 @@
 -- `idx_lookup::lookup_from` meets its contract, by induction on the levels left: each visit of a page decides as the rule's does. Assumes nothing.
-use Rattle.std.specs.Prelude.{◌≡◌, ℕ}
 use Rattle.std.proofs.Common.{◌∙◌}
 use Rattle.idx_lookup.specs.LookupLaws.{lookup-step}
 use Rattle.idx_lookup.specs.Lookup.{lookup_from}

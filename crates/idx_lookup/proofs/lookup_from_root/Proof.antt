@@ -1,11 +1,10 @@
 -- `idx_lookup::lookup_from_root` meets its contract: the rule's two tests are passed, and its steps, by the header's features, begin at the root.
 -- Assumes nothing.
 use mathlib.Core.Path.{◌≡◌, sym, ◌∙◌}
-use lib.ListN.{length}
 use borrow.Author.Tests.{eq-eqb}
 use borrow.Author.Rules.{rules}
 use Rattle.refusal.specs.Checks.{unless}
-use Rattle.idx_page.specs.Header.{key_length, features, header_good}
+use Rattle.idx_page.specs.Header.{features}
 use Rattle.idx_page.specs.HeaderLaws.{good-header}
 use Rattle.idx_lookup.specs.Lookup.{lookup_rule, lookup_steps}
 use Rattle.idx_lookup.specs.LookupLaws.{steps_record, steps-key}

@@ -1,10 +1,8 @@
 -- `idx_lookup::neighbour_decides` meets its contract: the rule's two tests, and then the neighbour's first entry. Assumes nothing.
-use Prim.Native.Nat.{◌≤◌}
 use mathlib.Core.Path.{◌≡◌, ◌∙◌}
 use mathlib.Core.Bool.{true, false}
 use native.Mathlib.Omega.{arith}
 use lib.ListN.{length}
-use borrow.Author.Rules.{rules}
 use Rattle.basis.specs.Tests.{passed, failed}
 use Rattle.idx_page.specs.Page.{page_good}
 use Rattle.idx_page.specs.Header.{file_size}

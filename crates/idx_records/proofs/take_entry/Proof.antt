@@ -1,6 +1,5 @@
 -- `idx_records::take_entry` meets its contract: an entry with another key leaves the list. Assumes nothing.
-use mathlib.Core.Path.{◌≡◌, sym, ap, ◌∙◌}
-use native.Mathlib.Omega.{arith}
+use mathlib.Core.Path.{sym, ap, ◌∙◌}
 use borrow.Author.Tests.{not-true, not-false}
 use Rattle.octets.specs.Order.{is_equal}
 use Rattle.idx_records.specs.GatherLaws.{taken-other, taken-equal}

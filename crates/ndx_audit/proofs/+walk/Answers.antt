@@ -1,6 +1,6 @@
 -- `ndx_audit::walk` meets its contract, by induction on the levels under the page. Assumes nothing.
-use Rattle.std.specs.Prelude.{◌≡◌, Bool, true, false, List, ℕ, ◌-◌, ◌≤◌}
-use Rattle.std.proofs.Common.{◌∙◌, arith, rules}
+use Rattle.std.specs.Prelude.{◌≡◌, Bool, true, List, ℕ, ◌-◌, ◌≤◌}
+use Rattle.std.proofs.Common.{◌∙◌, arith}
 use Rattle.std.proofs.lemmas.Bool.{not-true, not-false}
 use Rattle.ndx_page.specs.Header.{header_good}
 use Rattle.ndx_page.specs.Page.{count_at, lower_at, key_at}

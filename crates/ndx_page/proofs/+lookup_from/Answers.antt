@@ -1,5 +1,4 @@
 -- `ndx_page::lookup_from` meets its contract, by induction on the levels left: each visit of a page decides as the rule's does. Assumes nothing.
-use Rattle.std.specs.Prelude.{◌≡◌, ℕ}
 use Rattle.std.proofs.Common.{◌∙◌}
 use Rattle.ndx_page.specs.LookupLaws.{lookup-step}
 use Rattle.ndx_page.specs.Lookup.{lookup_from}

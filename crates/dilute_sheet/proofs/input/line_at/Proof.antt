@@ -1,5 +1,4 @@
 -- `dilute_sheet::input::line_at` meets its contract: the tests of the line, and then the number of its digits. Assumes nothing.
-use Prim.Native.Nat.{◌-◌}
 use mathlib.Core.Path.{◌≡◌, sym, ◌∙◌}
 use native.Mathlib.Omega.{arith}
 use lib.ListN.{length-take}

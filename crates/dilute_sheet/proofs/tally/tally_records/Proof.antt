@@ -1,7 +1,7 @@
 -- `dilute_sheet::tally::tally_records` meets its contract. The loop's invariant: both counts so far, and those of the records that are left, make the
 -- whole sheet's. Assumes nothing.
 use Prim.Native.Nat.{◌+◌, ◌-◌, ◌≤◌}
-use mathlib.Core.Path.{◌≡◌, refl, ap, ◌∙◌}
+use mathlib.Core.Path.{◌≡◌, refl, ap}
 use native.Mathlib.Omega.{arith}
 use Rattle.dbf_table.specs.TableLaws.{layout}
 use Rattle.dilution.specs.BarcodeLaws.{good-table}
