@@ -40,10 +40,10 @@ add-result : tie.Need-overflow_add-result
 add-result c = search rules
 
 same_length : tie.Need-shape_of-list-then-kind-ne-LOOKUP
-same_length c = omega (arith, simp length-set at c.store_le32.auto.0)
+same_length c = omega (arith, simp length-set at c.store_le32.auto.buf)
 
 returns-2 : tie.Need-returns-then-kind-ne-LOOKUP
-returns-2 c = omega (arith, simp length-set at c.store_le32.auto.0)
+returns-2 c = omega (arith, simp length-set at c.store_le32.auto.buf)
 
 slice-write-list-2 : tie.Need-bounds-list-at-2
 slice-write-list-2 c = search rules
