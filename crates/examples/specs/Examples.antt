@@ -1,10 +1,10 @@
 -- Rules: document 01's "Examples to hold" that are marked P, each call beside the paper's answer. `ExampleLaws.examples_hold` is the "single computed statement
 -- over the list"; the program `test_vectors` runs the others. Assumes nothing.
+use Rattle.std.specs.Prelude.{Err}
 use Rattle.std.specs.Prelude.{Bool, true, List, [], ◌∷◌, map, ℕ, ℤ, pos, negsuc}
 use Prim.Native.Char.{code}
 use Prim.Native.String as text
-use Rattle.refusal.specs.declared.Change.{Change}
-use Rattle.refusal.specs.declared.Change.TheVariants as change
+use Rattle.refusal.specs.After.{Change}
 use Rattle.calendar.specs.DateText as date
 use Rattle.calendar.specs.declared.DateAnswer.{DateAnswer}
 use Rattle.calendar.specs.declared.DateAnswer.TheVariants as day
@@ -100,6 +100,6 @@ examples =
           ((leaf 1 ∷ leaf 2 ∷ leaf 3 ∷ []) ∷ (leaf 4 ∷ leaf 5 ∷ []) ∷ ((tree100.key100 3, 512) ∷ (tree100.key100 5, 1024) ∷ []) ∷ []),
     )
     -- "Buffer 1,024, k = 100: the fifth insertion is 30. A repeated key then is 29"
-    ∷ (insert1024 5, of_change (change.Refused 30))
-    ∷ (insert1024 4, of_change (change.Refused 29))
+    ∷ (insert1024 5, of_change (Err 30))
+    ∷ (insert1024 4, of_change (Err 29))
     ∷ []

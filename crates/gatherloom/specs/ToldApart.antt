@@ -1,5 +1,6 @@
 -- Laws: an answer's number tells its case. 0 is given exactly if the call is accepted, 256 exactly for an empty field, 257 exactly for an absent key and 258
 -- exactly at the end of a walk, since no refusal has any of these numbers. Assumes nothing.
+use Rattle.std.specs.Prelude.{Err, Ok}
 use Rattle.std.specs.Prelude.{ℕ, zero, suc, ◌+◌, ◌-◌, ◌≤◌, ◌≡◌, refl, Bool, true, false, ◌&&◌, cond, List, [], ◌∷◌, ◌↔◌, ◌⊎◌, length, ℤ, eqb, ltb}
 use Rattle.std.proofs.Common.{sym, ◌∙◌, inl, inr, arith, lit<, ne_eqb, ltb-true}
 use Rattle.std.proofs.Math.Path.{ap}
@@ -9,8 +10,7 @@ use Rattle.basis.specs.Tests.{either, both, impossible}
 use Rattle.refusal.specs.After.{After, change_code, made_unless}
 use Rattle.refusal.specs.AfterLaws.{made-number}
 use Rattle.refusal.specs.CheckLaws.{Refuses, first_below, unless-cases}
-use Rattle.refusal.specs.declared.Change.{Change}
-use Rattle.refusal.specs.declared.Change.TheVariants as change
+use Rattle.refusal.specs.After.{Change}
 use Rattle.calendar.specs.declared.Date.{Date}
 use Rattle.calendar.specs.declared.DateAnswer.{DateAnswer}
 use Rattle.calendar.specs.declared.DateAnswer.TheVariants as date
@@ -312,13 +312,13 @@ all-numbered (check ∷ checks) e =
     let range = both (ltb 0 check.1) (ltb check.1 empty_code) rest.0 in
     ((λ bad. (ltb-true 0 check.1 range.0, ltb-true check.1 empty_code range.1)), all-numbered checks rest.1)
 
-change_case : (a : Change) → RefusalsNumbered change.Refused a → Case (change_code a) empty_code (a ≡ change.Made) ⊥
-change_case change.Made small = accepted refl refl
-change_case (change.Refused n) small = refused (small n refl)
+change_case : (a : Change) → RefusalsNumbered Err a → Case (change_code a) empty_code (a ≡ (Ok tt)) ⊥
+change_case (Ok tt) small = accepted refl refl
+change_case (Err n) small = refused (small n refl)
 
 -- what is told of a call's answer
 abbrev pub ChangeTold : After Change → Type 0
-ChangeTold call = Told (change_code call.answer) empty_code (call.answer ≡ change.Made) ⊥
+ChangeTold call = Told (change_code call.answer) empty_code (call.answer ≡ (Ok tt)) ⊥
 
 change_told : (made b : List ℕ) (checks : List (Bool × ℕ)) → numbers checks ≡ true → ChangeTold (made_unless checks made b)
 change_told made b checks small =

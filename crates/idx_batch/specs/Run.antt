@@ -1,8 +1,8 @@
 -- Rules: what the code that runs a list of calls leaves and answers, on every input, and demand 3 of it. Cited by `run_calls` and `run_batch`.
+use Rattle.std.specs.Prelude.{Err, Ok}
 use Rattle.std.specs.Prelude.{ℕ, ◌/◌, ◌≡◌, List, [], ◌∷◌, ◌++◌, length, take}
 use Rattle.refusal.specs.After.{After}
-use Rattle.refusal.specs.declared.Change.{Change}
-use Rattle.refusal.specs.declared.Change.TheVariants.{Made, Refused}
+use Rattle.refusal.specs.After.{Change}
 use Rattle.octets.specs.Bytes.{to_le32}
 use Rattle.octets.specs.Store.{put}
 use Rattle.tree.specs.Book.{Call, insertion, removal_of, lookup_of, Answer, refused, accepted, found, absent, results_of, final_of}
@@ -89,8 +89,8 @@ started b out r = record { after = b; answers = out; batch = r }
 abbrev pub after_fresh : After Change → List ℕ → List ℕ → Started
 after_fresh f s out =
     elim f.answer [
-      | Made ↦ let r = run_rule f.after s out in started r.after r.answers (record { fresh = 0; made = r.made })
-      | Refused n ↦ started f.after out (record { fresh = n; made = 0 })
+      | (Ok tt) ↦ let r = run_rule f.after s out in started r.after r.answers (record { fresh = 0; made = r.made })
+      | Err n ↦ started f.after out (record { fresh = n; made = 0 })
     ]
 
 unfoldable pub batch_rule : List ℕ → ℕ → ℕ → List ℕ → List ℕ → List ℕ → Started
@@ -110,5 +110,5 @@ SoundRunKept b s out after answers made = (sound : Sound b) → RunKept (key_len
 
 -- a batch: fresh was accepted, and the book begins without pairs
 pub record BatchKept (b : List ℕ) (k f : ℕ) (e s out after answers : List ℕ) (made : ℕ) : Type 0 where
-  pub fresh : (fresh_rule b k f e).answer ≡ Made
+  pub fresh : (fresh_rule b k f e).answer ≡ (Ok tt)
   pub run : RunKept k f [] (fresh_rule b k f e).after s out after answers made

@@ -1,4 +1,5 @@
 -- Laws: the cases of insertion and of fresh, each from the tests that lead to it. Cited by the proofs of the two calls. Assumes nothing.
+use Rattle.std.specs.Prelude.{Err, Ok}
 use Rattle.std.specs.Prelude.{ℕ, suc, ◌+◌, ◌≤◌, ◌<◌, ◌≡◌, refl, Bool, true, false, ◌&&◌, length, drop, get_or, eqb, leb}
 use Rattle.std.proofs.Common.{sym, ◌∙◌, add-one, drop_of_length-le}
 use Rattle.std.proofs.Math.Path.{ap}
@@ -9,7 +10,6 @@ use borrow.Author.Tests.{eq-eqb, ne_eqb, leb-true, le-leb, lt-leb, lt-ltb, le-lt
 use Rattle.basis.specs.Tests.{contra, both}
 use Rattle.refusal.specs.After.{left}
 use Rattle.refusal.specs.AfterLaws.{made_none, made_at}
-use Rattle.refusal.specs.declared.Change.TheVariants.{Made, Refused}
 use Rattle.octets.specs.Store.{put}
 use Rattle.idx_page.specs.Header.{max_features, min_bytes, page_size, no_page, key_length, key_length_good, header_good}
 use Rattle.idx_page.specs.Reading.{items}
@@ -25,12 +25,12 @@ module _ (b key : List ℕ) (r : ℕ) where
   abbrev made : List ℕ
   made = inserted_buffer (key_length b) b key r
 
-  pub refused_24 : header_good b ≡ false → insert_rule b key r ≡ left b (Refused 24)
+  pub refused_24 : header_good b ≡ false → insert_rule b key r ≡ left b (Err 24)
   unfolding insert_rule insert_checks
   refused_24 e = made_at made b 0 (insert_checks b key r) tt e
 
   module _ (header : header_good b ≡ true) where
-    pub refused_27 : (length key ≡ key_length b → ⊥) → insert_rule b key r ≡ left b (Refused 27)
+    pub refused_27 : (length key ≡ key_length b → ⊥) → insert_rule b key r ≡ left b (Err 27)
     unfolding insert_rule insert_checks
     refused_27 other = made_at made b 1 (insert_checks b key r) (header, tt) (ne_eqb (length key) (key_length b) other)
 
@@ -38,12 +38,12 @@ module _ (b key : List ℕ) (r : ℕ) where
       fits : eqb (length key) (key_length b) ≡ true
       fits = eq-eqb (length key) (key_length b) same
 
-      pub refused_32 : has_control key ≡ true → insert_rule b key r ≡ left b (Refused 32)
+      pub refused_32 : has_control key ≡ true → insert_rule b key r ≡ left b (Err 32)
       unfolding insert_rule insert_checks
       refused_32 c = made_at made b 2 (insert_checks b key r) (header, (fits, tt)) (ap not c)
 
       module _ (clean : has_control key ≡ false) where
-        pub refused_28 : r ≡ 0 → insert_rule b key r ≡ left b (Refused 28)
+        pub refused_28 : r ≡ 0 → insert_rule b key r ≡ left b (Err 28)
         unfolding insert_rule insert_checks
         refused_28 z = made_at made b 3 (insert_checks b key r) (header, (fits, (ap not clean, tt))) (ap not (eq-eqb r 0 z))
 
@@ -51,26 +51,26 @@ module _ (b key : List ℕ) (r : ℕ) where
           number : not (eqb r 0) ≡ true
           number = ap not (ne_eqb r 0 some)
 
-          pub refused_25 : pages_good b ≡ false → insert_rule b key r ≡ left b (Refused 25)
+          pub refused_25 : pages_good b ≡ false → insert_rule b key r ≡ left b (Err 25)
           unfolding insert_rule insert_checks
           refused_25 e = made_at made b 4 (insert_checks b key r) (header, (fits, (ap not clean, (number, tt)))) e
 
           module _ (sound : pages_good b ≡ true) where
-            pub refused_29 : (path_to (key_length b) b key r).present ≡ true → insert_rule b key r ≡ left b (Refused 29)
+            pub refused_29 : (path_to (key_length b) b key r).present ≡ true → insert_rule b key r ≡ left b (Err 29)
             unfolding insert_rule insert_checks
             refused_29 e = made_at made b 5 (insert_checks b key r) (header, (fits, (ap not clean, (number, (sound, tt))))) (ap not e)
 
             module _ (absent : (path_to (key_length b) b key r).present ≡ false) where
-              pub refused_30 : no_room b (path_to (key_length b) b key r) ≡ true → insert_rule b key r ≡ left b (Refused 30)
+              pub refused_30 : no_room b (path_to (key_length b) b key r) ≡ true → insert_rule b key r ≡ left b (Err 30)
               unfolding insert_rule insert_checks
               refused_30 e = made_at made b 6 (insert_checks b key r) (header, (fits, (ap not clean, (number, (sound, (ap not absent, tt)))))) (ap not e)
 
               pub accepted_pair : {out : List ℕ} → no_room b (path_to (key_length b) b key r) ≡ false → out ≡ inserted_buffer (key_length b) b key r
-                  → insert_rule b key r ≡ left out Made
+                  → insert_rule b key r ≡ left out (Ok tt)
               unfolding insert_rule insert_checks
               accepted_pair e q =
                   made_none made b (insert_checks b key r) (header, (fits, (ap not clean, (number, (sound, (ap not absent, (ap not e, tt)))))))
-                  ∙ ap (λ (l : List ℕ). left l Made) (sym q)
+                  ∙ ap (λ (l : List ℕ). left l (Ok tt)) (sym q)
 
 -- the bytes of a key, one after another: a control byte decides, any other leaves the rest to decide
 module _ (s : List ℕ) (i : ℕ) {c : ℕ} (h : i < length s) (e : c ≡ get_or s i 0) where
@@ -119,25 +119,25 @@ fresh-stored b e xs k f z e1 e2 = e2 ∙ rw (e1, z)
 
 -- fresh, refusal by refusal in its order
 module _ (b : List ℕ) (k f : ℕ) (e : List ℕ) where
-  pub fresh_27 : key_length_good k ≡ false → fresh_rule b k f e ≡ left b (Refused 27)
+  pub fresh_27 : key_length_good k ≡ false → fresh_rule b k f e ≡ left b (Err 27)
   unfolding fresh_rule fresh_checks
   fresh_27 t = made_at (fresh_buffer k f e b) b 0 (fresh_checks b k f e) tt t
 
   module _ (key : key_length_good k ≡ true) where
-    pub fresh_24 : (expression_good e && features_good f) ≡ false → fresh_rule b k f e ≡ left b (Refused 24)
+    pub fresh_24 : (expression_good e && features_good f) ≡ false → fresh_rule b k f e ≡ left b (Err 24)
     unfolding fresh_rule fresh_checks
     fresh_24 t = made_at (fresh_buffer k f e b) b 1 (fresh_checks b k f e) (key, tt) t
 
     module _ (good : (expression_good e && features_good f) ≡ true) where
-      pub fresh_30 : length b < min_bytes → fresh_rule b k f e ≡ left b (Refused 30)
+      pub fresh_30 : length b < min_bytes → fresh_rule b k f e ≡ left b (Err 30)
       unfolding fresh_rule fresh_checks
       fresh_30 h = made_at (fresh_buffer k f e b) b 2 (fresh_checks b k f e) (key, (good, tt)) (lt-leb min_bytes (length b) h)
 
-      pub fresh-made : {out : List ℕ} → min_bytes ≤ length b → out ≡ fresh_buffer k f e b → fresh_rule b k f e ≡ left out Made
+      pub fresh-made : {out : List ℕ} → min_bytes ≤ length b → out ≡ fresh_buffer k f e b → fresh_rule b k f e ≡ left out (Ok tt)
       unfolding fresh_rule fresh_checks
       fresh-made h q =
           made_none (fresh_buffer k f e b) b (fresh_checks b k f e) (key, (good, (le-leb min_bytes (length b) h, tt)))
-          ∙ ap (λ (l : List ℕ). left l Made) (sym q)
+          ∙ ap (λ (l : List ℕ). left l (Ok tt)) (sym q)
 
 -- an expression that is too long is bad, whatever its bytes are
 pub expression-long : (e : List ℕ) → max_expression < length e → expression_good e ≡ false

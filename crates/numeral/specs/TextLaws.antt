@@ -1,5 +1,6 @@
 -- Laws: demand 2. A text is accepted exactly if it is, blanks aside, the written text of a value of at most 18 digits or, by K4, that text without the zero
 -- that is its whole part. Assumes nothing.
+use Rattle.std.specs.Prelude.{Err, Ok}
 use Rattle.std.specs.Prelude.{◌≡◌, refl, true, false, List, ◌∷◌, ◌++◌, ◌↔◌, ℕ, ◌^◌, ◌≤◌, ◌<◌, eqb, leb, ltb, ℤ, nat_abs, length}
 use Rattle.std.proofs.Common.{sym, ap, ◌∙◌, inl, ⊎_elim, arith, lit<, length-append}
 use Rattle.std.proofs.Math.Nat.{pow-le-pow_right}
@@ -13,7 +14,6 @@ use Rattle.numeral.specs.Reading.{whole_missing, text_good, value_of, digit_coun
 use Rattle.numeral.specs.ReadingLaws.{format-decimals}
 use Rattle.refusal.specs.After.{left}
 use Rattle.refusal.specs.Checks.{unless}
-use Rattle.refusal.specs.declared.Change.TheVariants as change
 use Rattle.numeral.specs.Writing.{fraction_text, sign_text, number_text, short_text, written, Fits, Short, TextOf, write_number}
 use Rattle.numeral.specs.GrammarLaws.{unsigned, short-small, good_text, good-count, Passes, text_passes, full-whole, short-whole, written-unpadded}
 use Rattle.numeral.specs.GrammarLaws.{unpadded-written}
@@ -119,7 +119,7 @@ some_text width d v f =
     (l, (accepted (written width d v) d v).1 (rw l f.format, f.small, inl (written-unpadded width d v)))
 
 -- "reading what was written gives the value"
-pub read_back : (s t : List ℕ) (d : ℕ) (v : ℤ) → write_number s d v ≡ left t change.Made → read_number t d ≡ Value v
+pub read_back : (s t : List ℕ) (d : ℕ) (v : ℤ) → write_number s d v ≡ left t (Ok tt) → read_number t d ≡ Value v
 read_back s t d v h =
     let w = (written-exactly s t d v).0 h in
     rw w.1 (some_text (length s) d v w.0).1
@@ -155,14 +155,14 @@ value-fits s d v h w =
     record { format = a.0; small = a.1; room = omega (arith, unpadded-short s) }
 
 pub write-back : (s t : List ℕ) (d : ℕ) (v : ℤ) → length s ≡ length t → read_number t d ≡ Value v → whole_missing (unsigned t) ≡ false
-    → write_number s d v ≡ left t change.Made
+    → write_number s d v ≡ left t (Ok tt)
 write-back s t d v l h w =
     (written-exactly s t d v).1 (rw l (value-fits t d v h w), rw l (unpadded-written t d v (whole-there t d v h w)))
 
 -- the value of a text without one is written with its zero if there is a blank for it; otherwise "`-.150` in width 5 is read but can't be written back (19)"
 pub zero-back : (s t : List ℕ) (d : ℕ) (v : ℤ) → length s ≡ length t → read_number t d ≡ Value v → whole_missing (unsigned t) ≡ true
-    → (length (unpadded t) < length t → write_number s d v ≡ left (written (length s) d v) change.Made)
-    × (length (unpadded t) ≡ length t → write_number s d v ≡ left s (change.Refused 19))
+    → (length (unpadded t) < length t → write_number s d v ≡ left (written (length s) d v) (Ok tt))
+    × (length (unpadded t) ≡ length t → write_number s d v ≡ left s (Err 19))
 unfolding short_text
 zero-back s t d v l h w =
     let a = (accepted t d v).0 h in
