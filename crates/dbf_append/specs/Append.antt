@@ -1,24 +1,21 @@
 -- Rules: appending a record to a table, document 02, K3: the refusals in their order, the two stores, and the buffer that they leave.
-use Rattle.std.specs.Prelude.{ℕ, zero, suc, ◌+◌, ◌≤◌, ◌<◌, ◌≡◌, List, [], ◌∷◌, ◌++◌, Bool, cond, ◌&&◌, length, take, eqb, leb}
+use Rattle.std.specs.Prelude.{ℕ, zero, suc, ◌+◌, ◌≤◌, ◌<◌, ◌≡◌, List, [], ◌∷◌, ◌++◌, Bool, cond, ◌&&◌, length, take, eqb, leb, Err, None, Ok, Some}
 use Rattle.refusal.specs.After.{After, left}
 use Rattle.refusal.specs.Checks.{first_refusal, unless}
 use Rattle.octets.specs.Bytes.{byte_at, to_le32}
 use Rattle.octets.specs.Store.{put, window}
 use Rattle.calendar.specs.DateText.{date_of}
-use Rattle.calendar.specs.declared.DateAnswer.{DateAnswer}
-use Rattle.calendar.specs.declared.DateAnswer.TheVariants as date
+use Rattle.calendar.specs.DateText.{DateAnswer}
 use Rattle.numeral.specs.Reading.{read_number}
 use Rattle.fpt_memo.specs.Memo.{memo_number}
 use Rattle.fpt_memo.specs.declared.MemoNumber.{MemoNumber}
 use Rattle.fpt_memo.specs.declared.MemoNumber.TheVariants as memo
 use Rattle.dbf_table.specs.Table.{min_table, max_table, file_end, type_n, type_d, type_l, type_m, field_type, field_length, field_decimals, field_offset}
 use Rattle.dbf_table.specs.Table.{field_count, count_place, record_length_of, record_count, records_end, table_checks, check_table}
-use Rattle.dbf_table.specs.declared.Checked.{Checked}
-use Rattle.dbf_table.specs.declared.Checked.TheVariants.{Refused}
+use Rattle.dbf_table.specs.Table.{Checked}
 use Rattle.dbf_cell.specs.Cell.{mark_good, logical_of}
 use Rattle.dbf_cell.specs.Codes.{number_refusal}
-use Rattle.dbf_cell.specs.declared.Logical.{Logical}
-use Rattle.dbf_cell.specs.declared.Logical.TheVariants as logical
+use Rattle.dbf_cell.specs.Cell.{Logical}
 use Rattle.dbf_append.specs.declared.Store.{Store}
 use Rattle.dbf_append.specs.declared.Appended.{Appended}
 
@@ -30,20 +27,20 @@ held_checks b n more = (leb n (length b), 10) ∷ (table_checks (take n b) ++ mo
 
 -- the table's shape, or the number of its refusal
 unfoldable pub check_held : List ℕ → ℕ → Checked
-check_held b n = cond (leb n (length b)) (check_table (take n b)) (Refused 10)
+check_held b n = cond (leb n (length b)) (check_table (take n b)) (Err 10)
 
 -- ---- "each field's text in order"
 
 -- what the readers of dates and logical values refuse; a value is no refusal, and blanks are none
 unfoldable pub date_refusal : DateAnswer → ℕ
-date_refusal (date.Value d) = 0
-date_refusal date.Empty = 0
-date_refusal (date.Refused n) = n
+date_refusal (Ok (Some d)) = 0
+date_refusal (Ok None) = 0
+date_refusal (Err n) = n
 
 unfoldable pub logical_refusal : Logical → ℕ
-logical_refusal (logical.Value v) = 0
-logical_refusal logical.Empty = 0
-logical_refusal (logical.Refused n) = n
+logical_refusal (Ok (Some v)) = 0
+logical_refusal (Ok None) = 0
+logical_refusal (Err n) = n
 
 -- "M by 21 for its form alone"
 unfoldable pub memo_refusal : MemoNumber → ℕ

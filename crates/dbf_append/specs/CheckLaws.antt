@@ -1,5 +1,5 @@
 -- Laws: how the code's tests meet the refusals of an append and of a new date, and the stores their rule. Assumes nothing.
-use Rattle.std.specs.Prelude.{ℕ, suc, ◌+◌, ◌*◌, ◌-◌, ◌≤◌, ◌<◌, ◌≡◌, Bool, true, false, length, take, drop, set, eqb, leb}
+use Rattle.std.specs.Prelude.{ℕ, suc, ◌+◌, ◌*◌, ◌-◌, ◌≤◌, ◌<◌, ◌≡◌, Bool, true, false, length, take, drop, set, eqb, leb, Err, Ok}
 use Rattle.std.proofs.Math.Path.{sym, ap}
 use Rattle.std.proofs.Common.{◌∙◌, mul-le-mul_left, mul-one, length-append, get_or-take, length-take-le, lit<}
 use mathlib.Core.List.{List, [], ◌∷◌, ◌++◌}
@@ -25,7 +25,6 @@ use Rattle.dbf_table.specs.TableLaws.{Layout, layout, table-numbered, good_check
 use Rattle.dbf_table.specs.FormLaws.{field_form, form-some}
 use Rattle.dbf_table.specs.RecordLaws.{field_inside, record_positive, records-next}
 use Rattle.dbf_table.specs.declared.Shape.{Shape}
-use Rattle.dbf_table.specs.declared.Checked.TheVariants.{Good, Refused}
 use Rattle.dbf_append.specs.Append.{held_checks, check_held, date_refusal, logical_refusal, memo_refusal, text_refusal, text_in, texts_refusal}
 use Rattle.dbf_append.specs.Append.{room_for, new_end, record_checks, record_refusal, append_checks, append_refusal, record_write, count_write}
 use Rattle.dbf_append.specs.Append.{write, stored, unstored, append_rule, Appendable}
@@ -34,7 +33,7 @@ use Rattle.dbf_append.specs.UpdateDate.{set_date_checks, set_date_refusal, date_
 -- ---- the table in the buffer
 
 module _ (b : List ℕ) (n : ℕ) where
-  pub held-long : length b < n → check_held b n ≡ Refused 10
+  pub held-long : length b < n → check_held b n ≡ Err 10
   unfolding check_held
   held-long h = rw (lt-leb n (length b) h)
 
@@ -43,36 +42,36 @@ module _ (b : List ℕ) (n : ℕ) where
   held-checked h = rw (le-leb n (length b) h)
 
   -- what a caller learns from the answer's case
-  pub held-good : (s : Shape) → check_held b n ≡ Good s → (n ≤ length b) × (check_table (take n b) ≡ Good s)
+  pub held-good : (s : Shape) → check_held b n ≡ Ok s → (n ≤ length b) × (check_table (take n b) ≡ Ok s)
   unfolding check_held
   held-good s e =
       either (leb n (length b))
       (λ fits. (leb-true n (length b) fits, rw fits at e))
-      (λ long. let q : Refused 10 ≡ Good s = rw long at e in impossible (cc))
+      (λ long. let q : Err 10 ≡ Ok s = rw long at e in impossible (cc))
 
   -- the header lies in the buffer
-  pub held-header : (s : Shape) → check_held b n ≡ Good s → min_table ≤ length b
+  pub held-header : (s : Shape) → check_held b n ≡ Ok s → min_table ≤ length b
   held-header s e =
       let good = held-good s e in
       let header = (layout (take n b) (good_check (take n b) s good.1).0).header in
       omega (arith, header.long, length-take-le n b good.0)
 
   -- the checks after those of the table: they decide if the table is good, and its refusal does if it is not
-  pub held_then : (s : Shape) (more : List (Bool × ℕ)) → check_held b n ≡ Good s → first_refusal (held_checks b n more) ≡ first_refusal more
+  pub held_then : (s : Shape) (more : List (Bool × ℕ)) → check_held b n ≡ Ok s → first_refusal (held_checks b n more) ≡ first_refusal more
   unfolding held_checks
   held_then s more e =
       let good = held-good s e in
       first_pass (leb n (length b)) 10 (table_checks (take n b) ++ more) (le-leb n (length b) good.0) ∙ good_then (take n b) s more good.1
 
-  pub held-refused : (k : ℕ) (more : List (Bool × ℕ)) → check_held b n ≡ Refused k → (first_refusal (held_checks b n more) ≡ k) × (k ≡ 0 → ⊥)
+  pub held-refused : (k : ℕ) (more : List (Bool × ℕ)) → check_held b n ≡ Err k → (first_refusal (held_checks b n more) ≡ k) × (k ≡ 0 → ⊥)
   unfolding check_held held_checks
   held-refused k more e =
       either (leb n (length b))
       (λ fits.
-      let q : check_table (take n b) ≡ Refused k = rw fits at e in
+      let q : check_table (take n b) ≡ Err k = rw fits at e in
       (first_pass (leb n (length b)) 10 (table_checks (take n b) ++ more) fits ∙ refused_then (take n b) k more q, (refused_check (take n b) k q).1))
       (λ long.
-      let q : Refused 10 ≡ Refused k = rw long at e in
+      let q : Err 10 ≡ Err k = rw long at e in
       let same : 10 ≡ k = cc in
       (first_fail (leb n (length b)) 10 (table_checks (take n b) ++ more) long ∙ same, λ z. omega arith))
 
@@ -337,11 +336,11 @@ module _ (b : List ℕ) (n year month day : ℕ) where
   unfolding set_date_rule set_date_refusal
   date-made e = unless-zero (left b) new (set_date_checks b n year month day) (held-named b n _ ((λ bad none. omega arith), tt)) e
 
-  pub date-refused : (k : ℕ) → check_held b n ≡ Refused k → set_date_rule b n year month day ≡ left b k
+  pub date-refused : (k : ℕ) → check_held b n ≡ Err k → set_date_rule b n year month day ≡ left b k
   unfolding set_date_refusal
   date-refused k e = let said = held-refused b n k ((storable_date year month day, 3) ∷ []) e in date-first k said.0 said.1
 
-  module _ (s : Shape) (e : check_held b n ≡ Good s) where
+  module _ (s : Shape) (e : check_held b n ≡ Ok s) where
     pub date_3 : storable_date year month day ≡ false → set_date_rule b n year month day ≡ left b 3
     unfolding set_date_refusal
     date_3 bad = date-first 3 (held_then b n s ((storable_date year month day, 3) ∷ []) e ∙ first_fail _ 3 [] bad) (λ z. omega arith)

@@ -1,5 +1,5 @@
 -- Laws: the parts of the calls over lent structs; entry j of the field list is the answer by value for field j + 1. Assumes nothing.
-use Rattle.std.specs.Prelude.{ℕ, zero, suc, ◌+◌, ◌-◌, ◌≤◌, ◌<◌, ◌≡◌, refl, Bool, true, cond, List, [], ◌∷◌, length, get_or, set, replicate, eqb, leb}
+use Rattle.std.specs.Prelude.{ℕ, zero, suc, ◌+◌, ◌-◌, ◌≤◌, ◌<◌, ◌≡◌, refl, Bool, true, cond, List, [], ◌∷◌, length, get_or, set, replicate, eqb, leb, Err, Ok}
 use Rattle.std.proofs.Common.{sym, ap, subst, ◌∙◌, ⊎_elim, eq-or-lt_of_le, le_of_suc-le-suc, not-suc-le-zero, add-one, arith, get_or-set_same}
 use Rattle.std.proofs.Common.{get_or-set_other, length-set, lit<, le-leb, leb-true, eqb-true, ne_eqb}
 use Rattle.std.proofs.lemmas.Bool.{lt-leb}
@@ -10,7 +10,6 @@ use Rattle.dbf_table.specs.Table.{max_fields, max_record, field_offset, field_co
 use Rattle.dbf_table.specs.TableLaws.{layout, table-numbered, good_shape, good_then, refused_then, refused_check}
 use Rattle.dbf_table.specs.RecordLaws.{offset-first, offset-next, field_inside}
 use Rattle.dbf_table.specs.declared.Shape.{Shape}
-use Rattle.dbf_table.specs.declared.Checked.TheVariants.{Good, Refused as TableRefused}
 use Rattle.dbf_field.specs.Field.{entry_of, field_refusal, field_answer, number_good}
 use Rattle.dbf_field.specs.declared.FieldEntry.{FieldEntry}
 use Rattle.dbf_walk.specs.Walk.{walk_step, live_step}
@@ -30,21 +29,21 @@ abbrev plan_to : ℕ → ℕ → Plan
 plan_to answer count = record { answer = answer; count = count }
 
 -- the plan by the case of the table's check, and of the test of the room
-pub plan_refused : (b : List ℕ) (room n : ℕ) → check_table b ≡ TableRefused n → plan_to n 0 ≡ plan_of b room
+pub plan_refused : (b : List ℕ) (room n : ℕ) → check_table b ≡ Err n → plan_to n 0 ≡ plan_of b room
 unfolding plan_of listing_refusal
 plan_refused b room n e =
     let refused : first_refusal _ ≡ n = refused_then b n ((leb (field_count b) room, 14) ∷ []) e in
     rw (refused, ne_eqb n 0 (refused_check b n e).1)
 
-listing-checked : (b : List ℕ) (s : Shape) (room : ℕ) → check_table b ≡ Good s → listing_refusal b room ≡ cond (leb s.fields room) 0 14
+listing-checked : (b : List ℕ) (s : Shape) (room : ℕ) → check_table b ≡ Ok s → listing_refusal b room ≡ cond (leb s.fields room) 0 14
 unfolding listing_refusal first_refusal
 listing-checked b s room e = good_then b s ((leb (field_count b) room, 14) ∷ []) e ∙ rw (good_shape b s e).fields
 
-pub plan_short : (b : List ℕ) (s : Shape) (room : ℕ) → check_table b ≡ Good s → room < s.fields → plan_to 14 0 ≡ plan_of b room
+pub plan_short : (b : List ℕ) (s : Shape) (room : ℕ) → check_table b ≡ Ok s → room < s.fields → plan_to 14 0 ≡ plan_of b room
 unfolding plan_of
 plan_short b s room e short = rw (listing-checked b s room e, lt-leb _ _ short)
 
-pub plan_good : (b : List ℕ) (s : Shape) (room : ℕ) → check_table b ≡ Good s → s.fields ≤ room → plan_to 0 s.fields ≡ plan_of b room
+pub plan_good : (b : List ℕ) (s : Shape) (room : ℕ) → check_table b ≡ Ok s → s.fields ≤ room → plan_to 0 s.fields ≡ plan_of b room
 unfolding plan_of
 plan_good b s room e enough = rw (listing-checked b s room e, le-leb _ _ enough, (good_shape b s e).fields)
 

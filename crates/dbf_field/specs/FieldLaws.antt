@@ -1,5 +1,5 @@
 -- Laws: what the answers about a field say, and a field's bytes lie in the table. Assumes nothing.
-use Rattle.std.specs.Prelude.{ℕ, zero, suc, ◌+◌, ◌-◌, ◌≤◌, ◌<◌, ◌≡◌, refl, Bool, true, cond, List, [], ◌∷◌, length, eqb, leb}
+use Rattle.std.specs.Prelude.{Ok, ℕ, zero, suc, ◌+◌, ◌-◌, ◌≤◌, ◌<◌, ◌≡◌, refl, Bool, true, cond, List, [], ◌∷◌, length, eqb, leb, Err}
 use Rattle.std.proofs.Common.{sym, ap, ◌∙◌, arith, lit<, leb-true, eqb-true}
 use Rattle.std.proofs.lemmas.Bool.{eqb-false}
 use Rattle.basis.specs.Tests.{either, both, impossible}
@@ -13,11 +13,9 @@ use Rattle.dbf_table.specs.TableLaws.{layout, table-numbered, good_check, good_t
 use Rattle.dbf_table.specs.FormLaws.{field_form, form-some}
 use Rattle.dbf_table.specs.RecordLaws.{descriptor-inside, field_inside, record_inside, record_positive}
 use Rattle.dbf_table.specs.declared.Shape.{Shape}
-use Rattle.dbf_table.specs.declared.Checked.TheVariants.{Good}
 use Rattle.dbf_field.specs.Field.{number_good, field_refusal, place_refusal, PlaceGood, entry_of, place_at, PlaceInside, place_of, PlaceAnswer}
 use Rattle.dbf_field.specs.declared.Place.{Place}
-use Rattle.dbf_field.specs.declared.Placed.{Placed}
-use Rattle.dbf_field.specs.declared.Placed.TheVariants.{At, Refused}
+use Rattle.dbf_field.specs.Field.{Placed}
 
 -- ---- one field
 
@@ -33,7 +31,7 @@ pub entry-inside : (b : List ℕ) (j : ℕ) → table_refusal b ≡ 0 → j < fi
 entry-inside b j good l = let table = layout b good in (omega (arith, table.header.few), descriptor-inside b table j l)
 
 -- in a good table the test of the field's number decides
-pub field_checked : (b : List ℕ) (s : Shape) (field : ℕ) → check_table b ≡ Good s → field_refusal b field ≡ cond (number_good field s.fields) 0 12
+pub field_checked : (b : List ℕ) (s : Shape) (field : ℕ) → check_table b ≡ Ok s → field_refusal b field ≡ cond (number_good field s.fields) 0 12
 unfolding field_refusal first_refusal shape_of
 field_checked b s field e = good_then b s ((number_good field (field_count b), 12) ∷ []) e ∙ rw (good_check b s e).1
 
@@ -54,7 +52,7 @@ field_good b field e =
 
 -- ---- a field of a record
 
-pub place-checked : (b : List ℕ) (s : Shape) (number field : ℕ) → check_table b ≡ Good s
+pub place-checked : (b : List ℕ) (s : Shape) (number field : ℕ) → check_table b ≡ Ok s
     → place_refusal b number field ≡ cond (number_good number s.records) (cond (number_good field s.fields) 0 12) 11
 unfolding place_refusal first_refusal shape_of
 place-checked b s number field e =
@@ -87,20 +85,20 @@ place-within b number field p good e =
     rw e (record { some = some; inside = omega arith })
 
 -- what a caller learns from the answer's case
-pub placed_at : (b : List ℕ) (number field : ℕ) (p : Place) → place_of b number field ≡ At p
+pub placed_at : (b : List ℕ) (number field : ℕ) (p : Place) → place_of b number field ≡ Ok p
     → (place_refusal b number field ≡ 0) × (p ≡ place_at b number field)
 unfolding place_of
 placed_at b number field p e =
     either (eqb (place_refusal b number field) 0)
-    (λ z. let q : At (place_at b number field) ≡ At p = rw z at e in (eqb-true (place_refusal b number field) 0 z, cc))
-    (λ z. let q : Refused (place_refusal b number field) ≡ At p = rw z at e in impossible (cc))
+    (λ z. let q : Ok (place_at b number field) ≡ Ok p = rw z at e in (eqb-true (place_refusal b number field) 0 z, cc))
+    (λ z. let q : Err (place_refusal b number field) ≡ Ok p = rw z at e in impossible (cc))
 
-pub placed-refused : (b : List ℕ) (number field n : ℕ) → place_of b number field ≡ Refused n → (n ≡ place_refusal b number field) × (n ≡ 0 → ⊥)
+pub placed-refused : (b : List ℕ) (number field n : ℕ) → place_of b number field ≡ Err n → (n ≡ place_refusal b number field) × (n ≡ 0 → ⊥)
 unfolding place_of
 placed-refused b number field n e =
     either (eqb (place_refusal b number field) 0)
-    (λ z. let q : At (place_at b number field) ≡ Refused n = rw z at e in impossible (cc))
-    (λ z. let q : Refused (place_refusal b number field) ≡ Refused n = rw z at e in
+    (λ z. let q : Ok (place_at b number field) ≡ Err n = rw z at e in impossible (cc))
+    (λ z. let q : Err (place_refusal b number field) ≡ Err n = rw z at e in
     let s : n ≡ place_refusal b number field = cc in (s, λ w. eqb-false (place_refusal b number field) 0 z (sym s ∙ w)))
 
 -- the case decides the number and the values

@@ -1,11 +1,10 @@
 -- Laws: the loop of a step meets the rule, one record after another. Assumes nothing.
-use Rattle.std.specs.Prelude.{ℕ, suc, ◌+◌, ◌-◌, ◌≤◌, ◌<◌, ◌≡◌, Bool, true, false, ◌&&◌, List, eqb}
+use Rattle.std.specs.Prelude.{ℕ, suc, ◌+◌, ◌-◌, ◌≤◌, ◌<◌, ◌≡◌, Bool, true, false, ◌&&◌, List, eqb, Err, Ok}
 use Rattle.std.proofs.Common.{arith, ne_eqb}
 use Rattle.octets.specs.Bytes.{byte_at}
 use Rattle.dbf_table.specs.Table.{records_end, record_start, deletion_byte, kept_mark, deleted_mark, check_table}
 use Rattle.dbf_table.specs.TableLaws.{good_shape, refused_check}
 use Rattle.dbf_table.specs.declared.Shape.{Shape}
-use Rattle.dbf_table.specs.declared.Checked.TheVariants.{Good, Refused as TableRefused}
 use Rattle.dbf_walk.specs.declared.Position.{Position}
 use Rattle.dbf_walk.specs.declared.Step.{Step}
 use Rattle.dbf_walk.specs.declared.Step.TheVariants.{Record, Done, Refused}
@@ -50,12 +49,12 @@ module _ (skips : Bool) (b : List ℕ) (position passed n : ℕ) (h : passed < n
   step-over e = rw (one_left, ← is, e)
 
 -- a step by the case of the table's check
-pub step-good : (skips : Bool) (b : List ℕ) (s : Shape) (position : Position) → check_table b ≡ Good s
+pub step-good : (skips : Bool) (b : List ℕ) (s : Shape) (position : Position) → check_table b ≡ Ok s
     → step_by skips b position ≡ step_from skips b position.passed position.passed (s.records - position.passed)
 unfolding step_by
 step-good skips b s position e = let shaped = good_shape b s e in rw (shaped.table, shaped.records)
 
-pub step-refused : (skips : Bool) (b : List ℕ) (n : ℕ) (position : Position) → check_table b ≡ TableRefused n
+pub step-refused : (skips : Bool) (b : List ℕ) (n : ℕ) (position : Position) → check_table b ≡ Err n
     → step_by skips b position ≡ step_to (Refused n) position.passed
 unfolding step_by
 step-refused skips b n position e =

@@ -1,5 +1,5 @@
 -- Laws: how the code reads a line of the input. Assumes nothing.
-use Rattle.std.specs.Prelude.{ℕ, ◌+◌, ◌-◌, ◌≤◌, ◌<◌, ◌≡◌, refl, Bool, true, false, ◌&&◌, take, eqb}
+use Rattle.std.specs.Prelude.{ℕ, ◌+◌, ◌-◌, ◌≤◌, ◌<◌, ◌≡◌, refl, Bool, true, false, ◌&&◌, take, eqb, Some}
 use Rattle.std.proofs.Common.{ap, ◌∙◌, add-one, drop-cons}
 use mathlib.Core.List.{List, [], ◌∷◌}
 use native.Mathlib.Omega.{arith}
@@ -10,7 +10,6 @@ use Rattle.basis.specs.Tests.{either}
 use Rattle.octets.specs.Bytes.{byte_at}
 use Rattle.octets.specs.Text.{is_digit, number_of, digits_of}
 use Rattle.octets.specs.TextLaws.{digits-read}
-use Rattle.octets.specs.declared.Digits.TheVariants.{Number}
 use Rattle.numeral.specs.Reading.{front}
 use Rattle.numeral.specs.ReadingLaws.{front-more, front_ends, every_front}
 use Rattle.dilute_sheet.specs.declared.input.NumberLine.{NumberLine}
@@ -56,7 +55,7 @@ module _ (s : List ℕ) (at end : ℕ) (is : end ≡ at + length (digits_at s at
   count = omega arith
 
   -- the digits that are read are those of the line
-  pub line_digits : digits_of (take (end - at) (drop at s)) ≡ Number (number_of (digits_at s at))
+  pub line_digits : digits_of (take (end - at) (drop at s)) ≡ Some (number_of (digits_at s at))
   line_digits = rw (count, front_take is_digit (drop at s)) (digits-read (digits_at s at) (every_front is_digit (drop at s)))
 
   bad_line : line_good s at ≡ false → line_at s at ≡ no_line

@@ -1,7 +1,7 @@
 -- Laws: how long a sheet's text is at most: so a buffer of 7 times the table's bytes and 4 more holds all of it. No proof of the code cites them: they are for
 -- who lends the buffer. Assumes nothing.
+use Rattle.std.specs.Prelude.{◌≡◌, refl, Bool, true, List, [], ◌∷◌, ◌++◌, length, eqb, Err, None, Ok, Some}
 use Prim.Native.Nat.{ℕ, zero, suc, ◌+◌, ◌*◌, ◌-◌, ◌^◌, ◌≤◌, ◌<◌}
-use Rattle.std.specs.Prelude.{◌≡◌, refl, Bool, true, List, [], ◌∷◌, ◌++◌, length, eqb}
 use Rattle.std.proofs.Common.{add-mul, length-take, lit<, eqb-true, ltb-true, leb-true}
 use Rattle.std.proofs.Math.Nat.{mul_left_comm, mul-le-mul_left}
 use native.Mathlib.Omega.{arith}
@@ -13,8 +13,7 @@ use Rattle.refusal.specs.Checks.{first_refusal, unless}
 use Rattle.octets.specs.Store.{window}
 use Rattle.octets.specs.Text.{decimal}
 use Rattle.octets.specs.DigitLaws.{decimal-fits}
-use Rattle.numeral.specs.declared.Number.{Number}
-use Rattle.numeral.specs.declared.Number.TheVariants as text
+use Rattle.numeral.specs.Format.{Number}
 use Rattle.dbf_table.specs.Table.{record_count, record_length_of, records_end, field_length, deletion_byte, deleted_mark}
 use Rattle.dbf_table.specs.Table.{table_checks, table_refusal}
 use Rattle.dbf_table.specs.TableLaws.{layout}
@@ -76,9 +75,9 @@ sheet_low t b barcodeField field =
 
 text_low : (t : List ℕ) (i field : ℕ) (n : Number) → concentration_text t i field ≡ n → number_refusal n < 256
 unfolding number_refusal concentration_text
-text_low t i field (text.Value v) e = lit< tt
-text_low t i field text.Empty e = lit< tt
-text_low t i field (text.Refused n) e = (number-numbered (field_bytes t i field) concentration_decimals n e).1
+text_low t i field (Ok (Some v)) e = lit< tt
+text_low t i field (Ok None) e = lit< tt
+text_low t i field (Err n) e = (number-numbered (field_bytes t i field) concentration_decimals n e).1
 
 volumes-small : (c target final : ℕ) → Small (dilution_of c target final)
 unfolding dilution_of volume_checks volumes_of

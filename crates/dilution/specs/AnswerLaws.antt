@@ -1,13 +1,12 @@
 -- Laws: what an answer with volumes says, for who pipettes by it. No proof of the code cites them: they are for readers of the rule. Assumes nothing.
-use Rattle.std.specs.Prelude.{ℕ, ◌+◌, ◌*◌, ◌-◌, ◌≤◌, ◌<◌, ◌≡◌, refl, Bool, true, List, ◌++◌, length, eqb, pos, negsuc}
+use Rattle.std.specs.Prelude.{ℕ, ◌+◌, ◌*◌, ◌-◌, ◌≤◌, ◌<◌, ◌≡◌, refl, Bool, true, List, ◌++◌, length, eqb, pos, negsuc, Err, None, Ok, Some}
 use Rattle.std.proofs.Common.{sym, ◌∙◌, arith}
 use borrow.Author.Tests.{eqb-true, leb-true, ltb-true, not-true}
 use Rattle.basis.specs.Tests.{both, or_left, impossible}
 use Rattle.basis.specs.Lists.{All, all_left, all_right}
 use Rattle.refusal.specs.CheckLaws.{refuses_any, unless-cases}
 use Rattle.refusal.specs.Checks.{unless}
-use Rattle.numeral.specs.declared.Number.{Number}
-use Rattle.numeral.specs.declared.Number.TheVariants as text
+use Rattle.numeral.specs.Format.{Number}
 use Rattle.dbf_table.specs.Table.{kept_mark, deleted_mark, record_count, deletion_byte}
 use Rattle.dbf_cell.specs.Cell.{field_bytes}
 use Rattle.idx_match.specs.Match.{Matched}
@@ -31,7 +30,7 @@ pub record Diluted (t b : List ℕ) (barcodeField field : ℕ) (barcode : List �
   pub kept : deletion_byte t number ≡ kept_mark
   -- its concentration is a number, at or above the target
   pub concentration : ℕ
-  pub read : concentration_text t number field ≡ text.Value (pos concentration)
+  pub read : concentration_text t number field ≡ Ok (Some (pos concentration))
   pub enough : target ≤ concentration
   -- the sample is the nearest tenth, and both volumes add to the final one
   pub nearest : NearestTenth concentration (target * final) sample
@@ -46,12 +45,12 @@ passed-all checks d s m e =
     (λ n any refused. let q : Refused n ≡ Volumes s m = sym refused ∙ e in impossible (cc))
 
 -- a concentration above 0 is a number's
-some-concentration : (n : Number) → 0 < concentration_of n → n ≡ text.Value (pos (concentration_of n))
+some-concentration : (n : Number) → 0 < concentration_of n → n ≡ Ok (Some (pos (concentration_of n)))
 unfolding concentration_of amount_of
-some-concentration (text.Value (pos c)) l = refl
-some-concentration (text.Value (negsuc c)) l = absurd (omega arith)
-some-concentration text.Empty l = absurd (omega arith)
-some-concentration (text.Refused n) l = absurd (omega arith)
+some-concentration (Ok (Some (pos c))) l = refl
+some-concentration (Ok (Some (negsuc c))) l = absurd (omega arith)
+some-concentration (Ok None) l = absurd (omega arith)
+some-concentration (Err n) l = absurd (omega arith)
 
 module _ (t b : List ℕ) (barcodeField field : ℕ) (barcode : List ℕ) (target final sample diluent : ℕ) where
   -- Theorem: volumes are given for the live record of that barcode alone, by its own concentration

@@ -1,10 +1,9 @@
 -- Rules: the dilution of one barcode, document 02, K11: "from barcode, target concentration (thousandths of nM, as the CONC field with three decimals) and
 -- final volume (tenths of a microlitre, 1 to 10,000), give the sample volume in tenths." The call `dilute` cites `dilute_rule`.
-use Rattle.std.specs.Prelude.{ℕ, ◌+◌, ◌*◌, ◌-◌, ◌/◌, ◌≡◌, Bool, true, not, ◌&&◌, List, [], ◌∷◌, ◌++◌, length, eqb, leb, ltb, ℤ, pos, negsuc}
+use Rattle.std.specs.Prelude.{ℕ, ◌+◌, ◌*◌, ◌-◌, ◌/◌, ◌≡◌, Bool, true, not, ◌&&◌, List, [], ◌∷◌, ◌++◌, length, eqb, leb, ltb, ℤ, pos, negsuc, Err, None, Ok, Some}
 use Rattle.refusal.specs.Checks.{unless}
 use Rattle.numeral.specs.Reading.{read_number}
-use Rattle.numeral.specs.declared.Number.{Number}
-use Rattle.numeral.specs.declared.Number.TheVariants as number
+use Rattle.numeral.specs.Format.{Number}
 use Rattle.dbf_table.specs.Table.{type_n, deleted_mark, field_type, field_decimals, field_count, deletion_byte, table_refusal}
 use Rattle.dbf_field.specs.Field.{number_good, PlaceGood}
 use Rattle.dbf_cell.specs.Cell.{mark_good, field_bytes}
@@ -51,9 +50,9 @@ amount_of (pos c) = c
 amount_of (negsuc n) = 0
 
 unfoldable pub concentration_of : Number → ℕ
-concentration_of (number.Value v) = amount_of v
-concentration_of number.Empty = 0
-concentration_of (number.Refused n) = 0
+concentration_of (Ok (Some v)) = amount_of v
+concentration_of (Ok None) = 0
+concentration_of (Err n) = 0
 
 -- ---- the checks, each beside its refusal, in the paper's order
 

@@ -1,5 +1,5 @@
 -- Laws: how the tests that the code makes meet the checks of the rule. The proofs of this crate's functions cite them. Assumes nothing.
-use Rattle.std.specs.Prelude.{ℕ, zero, suc, ◌-◌, ◌≤◌, ◌<◌, ◌≡◌, refl, Bool, true, false, cond, not, ◌&&◌, List, [], ◌∷◌, eqb, leb, ltb, ℤ, pos, negsuc, nat_abs}
+use Rattle.std.specs.Prelude.{Ok, ℕ, zero, suc, ◌-◌, ◌≤◌, ◌<◌, ◌≡◌, refl, Bool, true, false, cond, not, ◌&&◌, List, [], ◌∷◌, eqb, leb, ltb, ℤ, pos, negsuc, nat_abs, Err, Some}
 use Rattle.std.proofs.Math.Path.{sym, ap}
 use Rattle.std.proofs.Common.{◌∙◌, arith, lit<}
 use Rattle.std.specs.Int.Signed.{lt_z}
@@ -9,12 +9,10 @@ use Rattle.refusal.specs.CheckLaws.{first_pass, first_fail, first-after, first-b
 use Rattle.refusal.specs.Checks.{first_refusal, unless}
 use Rattle.octets.specs.Store.{window}
 use Rattle.numeral.specs.Reading.{read_number}
-use Rattle.numeral.specs.declared.Number.{Number}
-use Rattle.numeral.specs.declared.Number.TheVariants.{Value}
+use Rattle.numeral.specs.Format.{Number}
 use Rattle.dbf_table.specs.Table.{type_n, deleted_mark, field_type, field_decimals, field_count, deletion_byte, table_checks, table_refusal, check_table}
 use Rattle.dbf_table.specs.TableLaws.{table-numbered, refused_check, good_shape}
 use Rattle.dbf_table.specs.declared.Shape.{Shape}
-use Rattle.dbf_table.specs.declared.Checked.TheVariants as checked
 use Rattle.dbf_field.specs.Field.{number_good, entry_of, place_at, field_refusal, field_answer}
 use Rattle.dbf_field.specs.declared.FieldEntry.{FieldEntry}
 use Rattle.dbf_field.specs.declared.FieldAnswer.{FieldAnswer}
@@ -43,13 +41,13 @@ pub distinct-tested : (b : List ℕ) (several : Bool) → header_good b ≡ true
 unfolding distinct_index
 distinct-tested b several h e = rw (h, e) (one_record (features b) (good-header b h).plain)
 
-pub header-table : (t b : List ℕ) (n : ℕ) → check_table t ≡ checked.Refused n → n ≡ first_refusal (header_checks t b)
+pub header-table : (t b : List ℕ) (n : ℕ) → check_table t ≡ Err n → n ≡ first_refusal (header_checks t b)
 unfolding header_checks
 header-table t b n e =
     let said = refused_check t n e in
     said.0 ∙ sym (first_fail _ _ _ (ne_eqb (table_refusal t) 0 (λ z. said.1 (said.0 ∙ z))))
 
-module _ (t b : List ℕ) (s : Shape) (e : check_table t ≡ checked.Good s) where
+module _ (t b : List ℕ) (s : Shape) (e : check_table t ≡ Ok s) where
   past_table : first_refusal (header_checks t b) ≡ cond (distinct_index b) 0 24
   unfolding header_checks first_refusal
   past_table = first_pass (eqb (table_refusal t) 0) (table_refusal t) ((distinct_index b, 24) ∷ []) (eq-eqb (table_refusal t) 0 (good_shape t s e).table)
@@ -139,7 +137,7 @@ unfolding amount_of
 amount_some (pos n) e = refl
 amount_some (negsuc n) e = contra refl e
 
-pub value_read : (n : Number) (v : ℤ) (r : ℕ) → n ≡ Value v → r ≡ amount_of v → r ≡ concentration_of n
+pub value_read : (n : Number) (v : ℤ) (r : ℕ) → n ≡ Ok (Some v) → r ≡ amount_of v → r ≡ concentration_of n
 unfolding concentration_of
 value_read n v r e h = rw e h
 

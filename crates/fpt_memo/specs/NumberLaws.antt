@@ -1,5 +1,5 @@
 -- Laws: what a memo number's text says from its character i on, and the numbers that it can give. Assumes nothing.
-use Rattle.std.specs.Prelude.{◌≡◌, ◌&&◌, List, [], ◌∷◌, ℕ, suc, ◌+◌, ◌*◌, ◌-◌, ◌^◌, ◌≤◌, ◌<◌, ltb, eqb, length, take}
+use Rattle.std.specs.Prelude.{◌≡◌, ◌&&◌, List, [], ◌∷◌, ℕ, suc, ◌+◌, ◌*◌, ◌-◌, ◌^◌, ◌≤◌, ◌<◌, ltb, eqb, length, take, None, Some, Option}
 use Rattle.std.proofs.Common.{sym, arith, lit<, drop_of_length-le, take_all}
 use Rattle.std.proofs.Math.Nat.{pow-le-pow_right}
 use Rattle.std.proofs.Math.ListN.{drop, length-drop}
@@ -10,8 +10,6 @@ use Rattle.octets.specs.Bytes.{byte_at}
 use Rattle.octets.specs.Text.{every, unpadded, zero_digit, is_digit, number_from, number_of, digits_of, decimal}
 use Rattle.octets.specs.TextLaws.{unpadded-short}
 use Rattle.octets.specs.DigitLaws.{ten_pos, number-least, number_bound, decimal-number}
-use Rattle.octets.specs.declared.Digits.{Digits}
-use Rattle.octets.specs.declared.Digits.TheVariants as digits
 use Rattle.fpt_memo.specs.declared.MemoNumber.{MemoNumber}
 use Rattle.fpt_memo.specs.declared.MemoNumber.TheVariants.{Blank, Bad, Number}
 use Rattle.fpt_memo.specs.Memo.{digits_number, memo_number}
@@ -28,9 +26,9 @@ unfolding digits_number
 number-blank text i h = rw (drop_of_length-le)
 
 -- what the digits behind the blanks say
-abbrev pub of_digits : Digits → MemoNumber
-of_digits (digits.Number n) = Number n
-of_digits digits.Other = Bad
+abbrev pub of_digits : Option ℕ → MemoNumber
+of_digits (Some n) = Number n
+of_digits None = Bad
 
 -- the first character behind the blanks tells a leading zero
 module _ (text : List ℕ) (i : ℕ) (h : i < length text) where

@@ -1,7 +1,6 @@
 -- Laws: an answer's number tells its case. 0 is given exactly if the call is accepted, 256 exactly for an empty field, 257 exactly for an absent key and 258
 -- exactly at the end of a walk, since no refusal has any of these numbers. Assumes nothing.
-use Rattle.std.specs.Prelude.{Err, Ok}
-use Rattle.std.specs.Prelude.{ℕ, zero, suc, ◌+◌, ◌-◌, ◌≤◌, ◌≡◌, refl, Bool, true, false, ◌&&◌, cond, List, [], ◌∷◌, ◌↔◌, ◌⊎◌, length, ℤ, eqb, ltb}
+use Rattle.std.specs.Prelude.{Err, Ok, ℕ, zero, suc, ◌+◌, ◌-◌, ◌≤◌, ◌≡◌, refl, Bool, true, false, ◌&&◌, cond, List, [], ◌∷◌, ◌↔◌, ◌⊎◌, length, ℤ, eqb, ltb, None, Some}
 use Rattle.std.proofs.Common.{sym, ◌∙◌, inl, inr, arith, lit<, ne_eqb, ltb-true}
 use Rattle.std.proofs.Math.Path.{ap}
 use Rattle.std.proofs.lemmas.Bool.{eqb-false}
@@ -12,17 +11,14 @@ use Rattle.refusal.specs.AfterLaws.{made-number}
 use Rattle.refusal.specs.CheckLaws.{Refuses, first_below, unless-cases}
 use Rattle.refusal.specs.After.{Change}
 use Rattle.calendar.specs.declared.Date.{Date}
-use Rattle.calendar.specs.declared.DateAnswer.{DateAnswer}
-use Rattle.calendar.specs.declared.DateAnswer.TheVariants as date
+use Rattle.calendar.specs.DateText.{DateAnswer}
 use Rattle.numeral.specs.Reading.{read_number}
 use Rattle.numeral.specs.Writing.{write_checks, write_number}
-use Rattle.numeral.specs.declared.Number.{Number}
-use Rattle.numeral.specs.declared.Number.TheVariants as number
+use Rattle.numeral.specs.Format.{Number}
 use Rattle.dbf_table.specs.Table.{record_count, kept_mark, deleted_mark, table_checks, table_refusal, check_table}
 use Rattle.dbf_table.specs.TableLaws.{refused_check}
 use Rattle.dbf_table.specs.declared.Shape.{Shape}
-use Rattle.dbf_table.specs.declared.Checked.{Checked}
-use Rattle.dbf_table.specs.declared.Checked.TheVariants as table
+use Rattle.dbf_table.specs.Table.{Checked}
 use Rattle.dbf_walk.specs.Walk.{marks_from, shown, step_at, first_of, step_from, step_by}
 use Rattle.dbf_walk.specs.declared.Position.{Position}
 use Rattle.dbf_walk.specs.declared.Step.{Step}
@@ -33,8 +29,7 @@ use Rattle.idx_page.specs.declared.RecordNumber.{RecordNumber}
 use Rattle.dbf_cell.specs.Cell.{number_cell, date_cell, logical_cell, text_cell}
 use Rattle.dbf_cell.specs.Codes.{empty_code, number_code, date_code, logical_code, text_code}
 use Rattle.dbf_cell.specs.AnswerLaws.{Numbered, table_below, number-numbered, number-refusal, day_refusal, logical-refusal, place-refusal}
-use Rattle.dbf_cell.specs.declared.Logical.{Logical}
-use Rattle.dbf_cell.specs.declared.Logical.TheVariants as logical
+use Rattle.dbf_cell.specs.Cell.{Logical}
 use Rattle.dbf_cell.specs.declared.TextPlace.{TextPlace}
 use Rattle.dbf_cell.specs.declared.TextPlace.TheVariants as text
 use Rattle.octets.specs.Order.{ordering, is_equal}
@@ -90,17 +85,17 @@ table-refusal b n some e =
     let none = eqb-false (table_refusal b) 0 some in
     (omega (arith, e), omega (arith, e))
 
-check_refusal : (b : List ℕ) → RefusalsNumbered table.Refused (check_table b)
+check_refusal : (b : List ℕ) → RefusalsNumbered Err (check_table b)
 check_refusal b n e =
     let said = refused_check b n e in
     table-refusal b n (ne_eqb (table_refusal b) 0 (λ z. said.1 (said.0 ∙ z))) (sym said.0)
 
 abbrev pub IsGood : Checked → Type 0
-IsGood a = (s : Shape) × (a ≡ table.Good s)
+IsGood a = (s : Shape) × (a ≡ Ok s)
 
-check_case : (a : Checked) → RefusalsNumbered table.Refused a → Case (checked_code a) empty_code (IsGood a) ⊥
-check_case (table.Good s) small = accepted refl (s, refl)
-check_case (table.Refused n) small = refused (small n refl)
+check_case : (a : Checked) → RefusalsNumbered Err a → Case (checked_code a) empty_code (IsGood a) ⊥
+check_case (Ok s) small = accepted refl (s, refl)
+check_case (Err n) small = refused (small n refl)
 
 -- 0 is given exactly for a good table; 256 is never given
 pub shape_told : (b : List ℕ) → Told (checked_code (check_table b)) empty_code (IsGood (check_table b)) ⊥
@@ -147,38 +142,38 @@ module _ (skips : Bool) (b : List ℕ) (position : Position) where
 -- ---- one field of one record, and numeric text: 0 with a value, 256 for an empty field
 
 abbrev pub IsValue : Number → Type 0
-IsValue a = (v : ℤ) × (a ≡ number.Value v)
+IsValue a = (v : ℤ) × (a ≡ Ok (Some v))
 
-number-case : (a : Number) → RefusalsNumbered number.Refused a → Case (number_code a) empty_code (IsValue a) (a ≡ number.Empty)
+number-case : (a : Number) → RefusalsNumbered Err a → Case (number_code a) empty_code (IsValue a) (a ≡ (Ok None))
 unfolding number_code
-number-case (number.Value v) small = accepted refl (v, refl)
-number-case number.Empty small = other refl refl
-number-case (number.Refused n) small = refused (small n refl)
+number-case (Ok (Some v)) small = accepted refl (v, refl)
+number-case (Ok None) small = other refl refl
+number-case (Err n) small = refused (small n refl)
 
-value-told : (a : Number) → RefusalsNumbered number.Refused a → Told (number_code a) empty_code (IsValue a) (a ≡ number.Empty)
+value-told : (a : Number) → RefusalsNumbered Err a → Told (number_code a) empty_code (IsValue a) (a ≡ (Ok None))
 unfolding number_code
 value-told a small = told (omega arith) (number-case a small) (λ value. ap number_code value.1) (λ empty. ap number_code empty)
 
-pub read_told : (text : List ℕ) (d : ℕ) → let a = read_number text d in Told (number_code a) empty_code (IsValue a) (a ≡ number.Empty)
+pub read_told : (text : List ℕ) (d : ℕ) → let a = read_number text d in Told (number_code a) empty_code (IsValue a) (a ≡ (Ok None))
 read_told text d = value-told (read_number text d) (number-numbered text d)
 
 abbrev pub IsDay : DateAnswer → Type 0
-IsDay a = (d : Date) × (a ≡ date.Value d)
+IsDay a = (d : Date) × (a ≡ Ok (Some d))
 
-date-case : (a : DateAnswer) → RefusalsNumbered date.Refused a → Case (date_code a) empty_code (IsDay a) (a ≡ date.Empty)
+date-case : (a : DateAnswer) → RefusalsNumbered Err a → Case (date_code a) empty_code (IsDay a) (a ≡ (Ok None))
 unfolding date_code
-date-case (date.Value d) small = accepted refl (d, refl)
-date-case date.Empty small = other refl refl
-date-case (date.Refused n) small = refused (small n refl)
+date-case (Ok (Some d)) small = accepted refl (d, refl)
+date-case (Ok None) small = other refl refl
+date-case (Err n) small = refused (small n refl)
 
 abbrev pub IsLogical : Logical → Type 0
-IsLogical a = (v : Bool) × (a ≡ logical.Value v)
+IsLogical a = (v : Bool) × (a ≡ Ok (Some v))
 
-logical_case : (a : Logical) → RefusalsNumbered logical.Refused a → Case (logical_code a) empty_code (IsLogical a) (a ≡ logical.Empty)
+logical_case : (a : Logical) → RefusalsNumbered Err a → Case (logical_code a) empty_code (IsLogical a) (a ≡ (Ok None))
 unfolding logical_code
-logical_case (logical.Value v) small = accepted refl (v, refl)
-logical_case logical.Empty small = other refl refl
-logical_case (logical.Refused n) small = refused (small n refl)
+logical_case (Ok (Some v)) small = accepted refl (v, refl)
+logical_case (Ok None) small = other refl refl
+logical_case (Err n) small = refused (small n refl)
 
 -- a place in the table or in the memo file
 abbrev pub IsText : TextPlace → Type 0
@@ -197,14 +192,14 @@ located a start len (inl e) = ap text_code e
 located a start len (inr e) = ap text_code e
 
 module _ (b : List ℕ) (i field : ℕ) where
-  pub number-told : let a = number_cell b i field in Told (number_code a) empty_code (IsValue a) (a ≡ number.Empty)
+  pub number-told : let a = number_cell b i field in Told (number_code a) empty_code (IsValue a) (a ≡ (Ok None))
   number-told = value-told (number_cell b i field) (number-refusal b i field)
 
-  pub date-told : let a = date_cell b i field in Told (date_code a) empty_code (IsDay a) (a ≡ date.Empty)
+  pub date-told : let a = date_cell b i field in Told (date_code a) empty_code (IsDay a) (a ≡ (Ok None))
   unfolding date_code
   date-told = told (omega arith) (date-case (date_cell b i field) (day_refusal b i field)) (λ day. ap date_code day.1) (λ empty. ap date_code empty)
 
-  pub logical_told : let a = logical_cell b i field in Told (logical_code a) empty_code (IsLogical a) (a ≡ logical.Empty)
+  pub logical_told : let a = logical_cell b i field in Told (logical_code a) empty_code (IsLogical a) (a ≡ (Ok None))
   unfolding logical_code
   logical_told =
       told (omega arith) (logical_case (logical_cell b i field) (logical-refusal b i field)) (λ value. ap logical_code value.1) (λ empty. ap logical_code empty)

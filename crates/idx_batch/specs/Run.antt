@@ -1,6 +1,5 @@
 -- Rules: what the code that runs a list of calls leaves and answers, on every input, and demand 3 of it. Cited by `run_calls` and `run_batch`.
-use Rattle.std.specs.Prelude.{Err, Ok}
-use Rattle.std.specs.Prelude.{ℕ, ◌/◌, ◌≡◌, List, [], ◌∷◌, ◌++◌, length, take}
+use Rattle.std.specs.Prelude.{ℕ, ◌/◌, ◌≡◌, List, [], ◌∷◌, ◌++◌, length, take, Err, Ok}
 use Rattle.refusal.specs.After.{After}
 use Rattle.refusal.specs.After.{Change}
 use Rattle.octets.specs.Bytes.{to_le32}
@@ -110,5 +109,5 @@ SoundRunKept b s out after answers made = (sound : Sound b) → RunKept (key_len
 
 -- a batch: fresh was accepted, and the book begins without pairs
 pub record BatchKept (b : List ℕ) (k f : ℕ) (e s out after answers : List ℕ) (made : ℕ) : Type 0 where
-  pub fresh : (fresh_rule b k f e).answer ≡ (Ok tt)
+  pub fresh : (fresh_rule b k f e).answer ≡ Ok tt
   pub run : RunKept k f [] (fresh_rule b k f e).after s out after answers made

@@ -1,7 +1,6 @@
 -- Laws: a call that the code makes is the rule's; one turn of the run of a list of calls, and its end; demand 3. Cited by the proofs of the code.
 -- Assumes nothing.
-use Rattle.std.specs.Prelude.{Err, Ok}
-use Rattle.std.specs.Prelude.{ℕ, suc, ◌+◌, ◌*◌, ◌-◌, ◌/◌, ◌≤◌, ◌<◌, ◌≡◌, refl, Bool, true, false, ◌&&◌, List, [], ◌∷◌, leb, length, take, drop, get_or}
+use Rattle.std.specs.Prelude.{ℕ, suc, ◌+◌, ◌*◌, ◌-◌, ◌/◌, ◌≤◌, ◌<◌, ◌≡◌, refl, Bool, true, false, ◌&&◌, List, [], ◌∷◌, leb, length, take, drop, get_or, Err, Ok}
 use Rattle.std.proofs.Common.{sym, ap, ◌∙◌, arith, add-zero, zero-add, leb-true, leb-false}
 use Rattle.std.proofs.Math.Seq.{take-nil}
 use Rattle.basis.specs.Lists.{All, all_take}

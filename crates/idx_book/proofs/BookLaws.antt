@@ -1,6 +1,5 @@
 -- Laws: demand 3. After an accepted fresh, and from any sound index on, the book keeps every list of calls. Assumes nothing.
-use Rattle.std.specs.Prelude.{Ok}
-use Rattle.std.specs.Prelude.{ℕ, zero, suc, ◌<◌, ◌≡◌, refl, Bool, true, List, [], ◌∷◌, length, take}
+use Rattle.std.specs.Prelude.{ℕ, zero, suc, ◌<◌, ◌≡◌, refl, Bool, true, List, [], ◌∷◌, length, take, Ok}
 use Rattle.std.proofs.Common.{sym, ap, ◌∙◌, arith, leb-true}
 use Rattle.basis.specs.Lists.{All, all_take}
 use Rattle.basis.specs.Tests.{both}

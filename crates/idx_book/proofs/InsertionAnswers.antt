@@ -1,7 +1,6 @@
 -- Laws: each answer of insertion is given exactly in its case, as `specs/InsertionAnswers` says. No proof of the code cites these laws: they are for readers
 -- of the rule. Assumes nothing.
-use Rattle.std.specs.Prelude.{Err, Ok}
-use Rattle.std.specs.Prelude.{ℕ, ◌^◌, ◌<◌, ◌≡◌, refl, false, List, ◌↔◌, eqb, length}
+use Rattle.std.specs.Prelude.{ℕ, ◌^◌, ◌<◌, ◌≡◌, refl, false, List, ◌↔◌, eqb, length, Err, Ok}
 use Rattle.std.proofs.Common.{sym, ap, ◌∙◌, subst, arith, eqb-true}
 use Rattle.std.proofs.lemmas.Bool.{eqb-false}
 use Rattle.basis.specs.Tests.{either, contra}
@@ -76,7 +75,7 @@ module _ (b key : List ℕ) (r : ℕ) (r32 : r < 2 ^ 32) where
       ap (λ (i : After Change). i.answer)
       (calls.refused_30 b key r a.header a.fits a.clean (not_zero a.number) (pages-good b c.new.sound) (not_present c.new) c.full)
 
-  is-accepted : Fitting b key r → answer ≡ (Ok tt)
+  is-accepted : Fitting b key r → answer ≡ Ok tt
   is-accepted c =
       let a = c.new.asked in
       ap (λ (i : After Change). i.answer)

@@ -1,7 +1,6 @@
 -- Laws: each answer of removal is given exactly in its case, as `specs/RemovalAnswers` says. No proof of the code cites these laws: they are for readers of
 -- the rule. Assumes nothing.
-use Rattle.std.specs.Prelude.{Err, Ok}
-use Rattle.std.specs.Prelude.{ℕ, ◌^◌, ◌<◌, ◌≡◌, refl, List, ◌↔◌, eqb, length}
+use Rattle.std.specs.Prelude.{ℕ, ◌^◌, ◌<◌, ◌≡◌, refl, List, ◌↔◌, eqb, length, Err, Ok}
 use Rattle.std.proofs.Common.{sym, ap, ◌∙◌, subst}
 use Rattle.basis.specs.Tests.{either, contra}
 use Rattle.refusal.specs.After.{After}
@@ -45,7 +44,7 @@ module _ (b key : List ℕ) (r : ℕ) (r32 : r < 2 ^ 32) where
       let lost = fails (is_there (key_length b) b key r) (λ f. c.absent ((there-exactly b key r c.fits r32 s).0 f)) in
       ap (λ (i : After Change). i.answer) (calls.refused_33 b key r s.header c.fits (pages-good b s) lost)
 
-  is-accepted : Held b key r → answer ≡ (Ok tt)
+  is-accepted : Held b key r → answer ≡ Ok tt
   is-accepted c =
       let s = c.sound in
       let found = (there-exactly b key r c.fits r32 s).1 c.there in

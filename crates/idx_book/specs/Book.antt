@@ -1,8 +1,7 @@
 -- Rules: demand 3, one claim about a whole list of calls, each lent the buffer as the last call left it. The calls are the rules that the contracts of
 -- insertion, lookup and removal cite; the book, its answers and its pairs are those of the crate `tree`. The book begins at `book`: without pairs for a
 -- fresh index, and at the leaves' pairs for an index that a host brings.
-use Rattle.std.specs.Prelude.{Err, Ok}
-use Rattle.std.specs.Prelude.{ℕ, ◌+◌, ◌^◌, ◌≤◌, ◌<◌, ◌≡◌, Bool, false, cond, List, [], ◌∷◌, eqb, length, take}
+use Rattle.std.specs.Prelude.{ℕ, ◌+◌, ◌^◌, ◌≤◌, ◌<◌, ◌≡◌, Bool, false, cond, List, [], ◌∷◌, eqb, length, take, Err, Ok}
 use Rattle.refusal.specs.After.{Change}
 use Rattle.tree.specs.Book.{Call, insertion, removal_of, lookup_of, Answer, refused, accepted, found, absent, KeyTests}
 use Rattle.tree.specs.Book.{is_accepted, no_rooms, results_of, final_of}

@@ -1,8 +1,7 @@
 -- Laws: what each answer of insertion says, in the order "24, 27, 28, 25 by full audit, 29 if the key is in a leaf, 30", with 32 "after 27 and before 28";
 -- for features 0 "29 means the very pair is present". The rule computes with the audit's test and with the pair's path; here `Sound` and the leaves' pairs
 -- stand in their place. The laws themselves stand in `proofs/InsertionAnswers`: they are for readers of the rule.
-use Rattle.std.specs.Prelude.{Err, Ok}
-use Rattle.std.specs.Prelude.{ℕ, ◌<◌, ◌≡◌, true, false, List, ◌↔◌, length}
+use Rattle.std.specs.Prelude.{ℕ, ◌<◌, ◌≡◌, true, false, List, ◌↔◌, length, Err, Ok}
 use Rattle.refusal.specs.After.{Change}
 use Rattle.idx_page.specs.Header.{key_length, features, header_good}
 use Rattle.idx_sound.specs.Sound.{Sound}

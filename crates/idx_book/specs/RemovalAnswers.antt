@@ -1,8 +1,7 @@
 -- Laws: what each answer of removal says, in the "order 24, 27, 25 by full audit, then 33". The rule computes with the audit's test and with the leaf on the
 -- pair's route; here `Sound` and the leaves' pairs stand in their place. The laws themselves stand in `proofs/RemovalAnswers`: they are for readers of the
 -- rule.
-use Rattle.std.specs.Prelude.{Err, Ok}
-use Rattle.std.specs.Prelude.{ℕ, ◌≡◌, true, List, ◌↔◌, length}
+use Rattle.std.specs.Prelude.{ℕ, ◌≡◌, true, List, ◌↔◌, length, Err, Ok}
 use Rattle.refusal.specs.After.{Change}
 use Rattle.idx_page.specs.Header.{key_length, features, header_good}
 use Rattle.idx_sound.specs.Sound.{Sound}

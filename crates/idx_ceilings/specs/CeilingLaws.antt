@@ -10,8 +10,8 @@ use native.Mathlib.Omega.{arith}
 use borrow.Author.Tests.{eq-eqb, ne_eqb}
 use Rattle.basis.specs.Tests.{either, contra}
 use Rattle.octets.specs.Store.{window}
-use Rattle.octets.specs.declared.Ordering.{Ordering}
-use Rattle.octets.specs.declared.Ordering.TheVariants.{Below, Equal, Above}
+use Rattle.std.specs.declared.cmp.Ordering.{Ordering}
+use Rattle.std.specs.declared.cmp.Ordering.TheVariants.{Less, Equal, Greater}
 use Rattle.octets.specs.Order.{bytes_le, ordering, is_below, is_equal}
 use Rattle.octets.specs.OrderLaws.{le_total}
 use Rattle.tree.specs.Keeping.{covers_for}
@@ -121,9 +121,9 @@ module _ (b : List ℕ) (k size h p n i x : ℕ) where
 
 -- an order that is below is not equal
 below_unequal : (o : Ordering) → is_below o ≡ true → is_equal o ≡ false
-below_unequal Below e = refl
+below_unequal Less e = refl
 below_unequal Equal e = contra e refl
-below_unequal Above e = refl
+below_unequal Greater e = refl
 
 -- one entry of a page above the leaves, by its tests
 module _ (b : List ℕ) (k size d h p n i c q z : ℕ) (ec : c ≡ number_at b k p i) (eq : q ≡ down (last_child b k size) d c)

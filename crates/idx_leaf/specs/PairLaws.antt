@@ -5,7 +5,8 @@ use Rattle.std.proofs.Common.{ap, ◌∙◌, add-zero, arith}
 use Rattle.std.proofs.Math.Bool.{false}
 use Rattle.basis.specs.Tests.{either, contra}
 use Rattle.octets.specs.NumberLaws.{be32-to_be32, be32-window}
-use Rattle.octets.specs.declared.Ordering.{Ordering}
+use Rattle.std.specs.declared.cmp.Ordering.{Ordering}
+use Rattle.std.specs.declared.cmp.Ordering.TheVariants.{Less, Equal, Greater}
 use Rattle.octets.specs.Order.{bytes_le, ordering, is_below, is_equal}
 use Rattle.octets.specs.OrderLaws.{le_refl, le_total}
 use Rattle.idx_page.specs.Page.{entry_offset, key_at, number_at}

@@ -7,7 +7,8 @@ use Rattle.std.proofs.Math.Nat.{sub-zero}
 use borrow.Author.Tests.{eq-eqb, ne_eqb}
 use Rattle.octets.specs.Bytes.{byte_at, be32}
 use Rattle.octets.specs.Store.{window}
-use Rattle.octets.specs.declared.Ordering.{Ordering}
+use Rattle.std.specs.declared.cmp.Ordering.{Ordering}
+use Rattle.std.specs.declared.cmp.Ordering.TheVariants.{Less, Equal, Greater}
 use Rattle.octets.specs.Order.{ordering, is_below}
 use Rattle.idx_page.specs.Header.{features}
 use Rattle.idx_page.specs.Page.{entries_start, entry_offset, key_at, number_at}

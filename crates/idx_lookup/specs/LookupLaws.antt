@@ -3,7 +3,8 @@ use Rattle.std.specs.Prelude.{ℕ, zero, suc, ◌-◌, ◌≡◌, refl, true, fa
 use Rattle.std.proofs.Math.Path.{sym}
 use Rattle.std.proofs.Common.{◌∙◌, arith, eq-eqb, ne_eqb}
 use Rattle.basis.specs.Tests.{contra}
-use Rattle.octets.specs.declared.Ordering.{Ordering}
+use Rattle.std.specs.declared.cmp.Ordering.{Ordering}
+use Rattle.std.specs.declared.cmp.Ordering.TheVariants.{Less, Equal, Greater}
 use Rattle.octets.specs.Order.{ordering, is_equal}
 use Rattle.idx_page.specs.Header.{max_levels, root_offset}
 use Rattle.idx_page.specs.Page.{attribute_at, count_at, leaf_bit, key_at, number_at, first_at_or_above}

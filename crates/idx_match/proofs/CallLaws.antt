@@ -1,6 +1,6 @@
 -- Laws: the refusals before the audit, one by one; what is known if there is none; the answers of the match. The proofs of the match's calls cite them.
 -- Assumes nothing.
-use Rattle.std.specs.Prelude.{ℕ, ◌-◌, ◌≤◌, ◌≡◌, refl, Bool, true, false, List, [], ◌∷◌, ◌↔◌, eqb}
+use Rattle.std.specs.Prelude.{ℕ, ◌-◌, ◌≤◌, ◌≡◌, refl, Bool, true, false, List, [], ◌∷◌, ◌↔◌, eqb, Err}
 use Rattle.std.proofs.Math.Path.{sym}
 use Rattle.std.proofs.Common.{ap, ◌∙◌, inl, inr, arith, lit<}
 use borrow.Author.Tests.{eqb-true, eq-eqb, ne_eqb}
@@ -11,7 +11,6 @@ use Rattle.dbf_table.specs.Table.{type_c, record_count, record_start, field_coun
 use Rattle.dbf_table.specs.TableLaws.{layout, table-numbered, refused_check, refused_then, Shaped}
 use Rattle.dbf_table.specs.RecordLaws.{field_inside, record_inside}
 use Rattle.dbf_table.specs.declared.Shape.{Shape}
-use Rattle.dbf_table.specs.declared.Checked.TheVariants.{Refused}
 use Rattle.dbf_field.specs.Field.{number_good, entry_of}
 use Rattle.dbf_field.specs.declared.FieldEntry.{FieldEntry}
 use Rattle.dbf_field.specs.FieldLaws.{number-range}
@@ -137,7 +136,7 @@ module _ (t b : List ℕ) (field : ℕ) where
         other = λ z s. absurd (some (e ∙ z));
       }
 
-  pub answer-table : (r : ℕ) → check_table t ≡ Refused r → Matched t b field r
+  pub answer-table : (r : ℕ) → check_table t ≡ Err r → Matched t b field r
   unfolding match_refusal
   answer-table r e = answer-refused r (sym (refused_then t r _ e)) (refused_check t r e).1
 

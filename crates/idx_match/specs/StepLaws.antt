@@ -9,7 +9,8 @@ use Rattle.std.proofs.Math.Nat.{min-le_right}
 use native.Mathlib.Omega.{arith}
 use Rattle.std.proofs.Math.ListN.{length, length-append}
 use Rattle.basis.specs.Tests.{either}
-use Rattle.octets.specs.declared.Ordering.{Ordering}
+use Rattle.std.specs.declared.cmp.Ordering.{Ordering}
+use Rattle.std.specs.declared.cmp.Ordering.TheVariants.{Less, Equal, Greater}
 use Rattle.octets.specs.Order.{ordering, is_equal}
 use Rattle.octets.specs.Store.{window}
 use Rattle.octets.specs.StoreLaws.{length-window}

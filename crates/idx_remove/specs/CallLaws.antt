@@ -1,6 +1,5 @@
 -- Laws: the cases of removal, each from the tests that lead to it. Cited by the proof of the call. Assumes nothing.
-use Rattle.std.specs.Prelude.{Err, Ok}
-use Rattle.std.specs.Prelude.{ℕ, ◌≡◌, true, false, length, eqb}
+use Rattle.std.specs.Prelude.{ℕ, ◌≡◌, true, false, length, eqb, Err, Ok}
 use Rattle.std.proofs.Common.{sym, ◌∙◌, eq-eqb, ne_eqb}
 use Rattle.std.proofs.Math.Path.{ap}
 use mathlib.Core.List.{List}

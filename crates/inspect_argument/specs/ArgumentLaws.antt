@@ -1,13 +1,11 @@
 -- Laws: what the argument FIELD says, by its length, its first byte and its digits. Assumes nothing.
-use Rattle.std.specs.Prelude.{ℕ, ◌≤◌, ◌<◌, min, ◌≡◌, true, false, List, length}
+use Rattle.std.specs.Prelude.{ℕ, ◌≤◌, ◌<◌, min, ◌≡◌, true, false, List, length, None, Some, Option}
 use Rattle.std.proofs.Common.{arith}
 use borrow.Author.Tests.{le-leb, lt-leb}
 use Rattle.basis.specs.Tests.{either}
 use Rattle.octets.specs.Bytes.{byte_at}
 use Rattle.octets.specs.Text.{every, is_digit, digits_of}
 use Rattle.octets.specs.TextLaws.{digits-read, digits-unread}
-use Rattle.octets.specs.declared.Digits.{Digits}
-use Rattle.octets.specs.declared.Digits.TheVariants as digits
 use Rattle.inspect_argument.specs.Arguments.{is_number, is_name, max_number, field_argument, field_argument_code, field_argument_values, FieldArgument}
 use Rattle.inspect_argument.specs.declared.Field.{Field}
 use Rattle.inspect_argument.specs.declared.Field.TheVariants.{Number, Name, Other}
@@ -22,9 +20,9 @@ unfolding field_argument is_name is_number
 too_long text many = rw (le-leb 1 (length text) (omega arith), lt-leb (length text) 10 many)
 
 -- the argument by its digits
-abbrev pub of_digits : Digits → Field
-of_digits (digits.Number n) = Number (min n max_number)
-of_digits digits.Other = Other
+abbrev pub of_digits : Option ℕ → Field
+of_digits (Some n) = Number (min n max_number)
+of_digits None = Other
 
 module _ (text : List ℕ) (some : 1 ≤ length text) (few : length text ≤ 10) where
   -- a text of 1 to 10 bytes is a name if its first byte is no digit

@@ -4,7 +4,8 @@ use Rattle.std.proofs.Common.{sym, ap, ◌∙◌, arith, eq-eqb, ne_eqb}
 use Rattle.std.proofs.Math.Option.{some}
 use Rattle.octets.specs.Store.{window}
 use Rattle.octets.specs.Order.{bytes_le, ordering, is_below}
-use Rattle.octets.specs.declared.Ordering.{Ordering}
+use Rattle.std.specs.declared.cmp.Ordering.{Ordering}
+use Rattle.std.specs.declared.cmp.Ordering.TheVariants.{Less, Equal, Greater}
 use Rattle.idx_page.specs.KeyOrderLaws.{below_not_le}
 use Rattle.ndx_page.specs.Header.{key_length}
 use Rattle.ndx_page.specs.Page.{key_offset, record_at, key_at}

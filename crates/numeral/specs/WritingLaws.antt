@@ -1,6 +1,5 @@
 -- Laws: the writer's stores leave the written text, and `write_number` answers in its order. Assumes nothing.
-use Rattle.std.specs.Prelude.{Err, Ok}
-use Rattle.std.specs.Prelude.{◌≡◌, refl, true, false, List, [], ◌∷◌, ◌++◌, ◌↔◌, ℕ, zero, suc, ◌+◌, ◌-◌, ◌/◌, ◌%◌, ◌^◌, ◌≤◌, ◌<◌, ℤ, pos, negsuc, nat_abs, length, replicate, set}
+use Rattle.std.specs.Prelude.{◌≡◌, refl, true, false, List, [], ◌∷◌, ◌++◌, ◌↔◌, ℕ, zero, suc, ◌+◌, ◌-◌, ◌/◌, ◌%◌, ◌^◌, ◌≤◌, ◌<◌, ℤ, pos, negsuc, nat_abs, length, replicate, set, Err, Ok}
 use Rattle.std.proofs.Common.{sym, ap, ◌∙◌, zero-add, pow-suc, arith, length-append, ltb-true, lt-ltb, le-ltb, leb-true, le-leb}
 use Rattle.std.proofs.Math.Nat.{sub-zero, add-sub_cancel_left, div-div-eq-div-mul}
 use Rattle.std.proofs.lemmas.List.{length-replicate}

@@ -9,8 +9,8 @@ use Rattle.std.proofs.Math.Numerals.{unary_clauses}
 use native.Mathlib.Omega.{arith}
 use borrow.Author.Tests.{ltb-true, ltb-false, lt-ltb, le-ltb}
 use Rattle.basis.specs.Tests.{either}
-use Rattle.octets.specs.declared.Ordering.{Ordering}
-use Rattle.octets.specs.declared.Ordering.TheVariants.{Below, Equal, Above}
+use Rattle.std.specs.declared.cmp.Ordering.{Ordering}
+use Rattle.std.specs.declared.cmp.Ordering.TheVariants.{Less, Equal, Greater}
 use Rattle.octets.specs.Bytes.{byte_at, le32, be32}
 use Rattle.octets.specs.Order.{bytes_le, ordering}
 use Rattle.octets.specs.Words.{le64, bytes_number, smaller, order_then, Decides}
@@ -21,11 +21,11 @@ use Rattle.octets.specs.OrderLaws.{le_same, le-more, ordering-below, ordering-ab
 
 -- they decide unless they are equal
 module _ (x y : ℕ) (o : Ordering) where
-  pub then_less : x < y → order_then x y o ≡ Below
+  pub then_less : x < y → order_then x y o ≡ Less
   unfolding order_then
   then_less h = rw (lt-ltb x y h)
 
-  pub then_more : y < x → order_then x y o ≡ Above
+  pub then_more : y < x → order_then x y o ≡ Greater
   unfolding order_then
   then_more h = rw (le-ltb x y (omega arith), lt-ltb y x h)
 
@@ -64,11 +64,11 @@ module _ (a b : List ℕ) (i : ℕ) (p : i < length a) (q : i < length b) where
 -- ---- the lengths
 
 -- a string that ends at or before i is below one that goes on
-shorter_below : (a b : List ℕ) (i : ℕ) → length a ≤ i → i < length b → ordering (drop i a) (drop i b) ≡ Below
+shorter_below : (a b : List ℕ) (i : ℕ) → length a ≤ i → i < length b → ordering (drop i a) (drop i b) ≡ Less
 unfolding ordering bytes_le
 shorter_below a b i p q = rw (drop_of_length-le a p, drop-cons b i 0 q)
 
-longer_above : (a b : List ℕ) (i : ℕ) → i < length a → length b ≤ i → ordering (drop i a) (drop i b) ≡ Above
+longer_above : (a b : List ℕ) (i : ℕ) → i < length a → length b ≤ i → ordering (drop i a) (drop i b) ≡ Greater
 unfolding ordering bytes_le
 longer_above a b i p q = rw (drop-cons a i 0 p, drop_of_length-le b q)
 

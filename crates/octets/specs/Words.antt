@@ -3,8 +3,8 @@
 use Rattle.std.specs.Prelude.{ℕ, zero, suc, ◌+◌, ◌*◌, ◌-◌, ◌≤◌, ◌≡◌, List, cond, ltb, drop}
 use Rattle.octets.specs.Bytes.{byte_at, le32}
 use Rattle.octets.specs.Order.{ordering}
-use Rattle.octets.specs.declared.Ordering.{Ordering}
-use Rattle.octets.specs.declared.Ordering.TheVariants.{Below, Above}
+use Rattle.std.specs.declared.cmp.Ordering.{Ordering}
+use Rattle.std.specs.declared.cmp.Ordering.TheVariants.{Less, Equal, Greater}
 
 -- the eight bytes at an offset, least significant first
 unfoldable pub le64 : List ℕ → ℕ → ℕ
@@ -21,7 +21,7 @@ smaller x y = x - (x - y)
 
 -- the order of two numbers, or the order rest if they are equal
 unfoldable pub order_then : ℕ → ℕ → Ordering → Ordering
-order_then x y rest = cond (ltb x y) Below (cond (ltb y x) Above rest)
+order_then x y rest = cond (ltb x y) Less (cond (ltb y x) Greater rest)
 
 -- the n bytes of a and b from offset i on decide as the numbers x and y do: what stands behind them counts only if x and y are equal
 abbrev pub Decides : List ℕ → List ℕ → ℕ → ℕ → ℕ → ℕ → Type 0

@@ -1,5 +1,6 @@
 -- `calendar::read_date` meets its contract: the length and the blanks as the rule's cases, then the answer by what the three parts read as.
 -- Assumes nothing.
+use Rattle.std.specs.Prelude.{Some}
 use Prim.Native.Nat.{ℕ, ◌<◌, ◌^◌}
 use native.Mathlib.Omega.{arith}
 use mathlib.Core.Path.{◌≡◌, sym, ◌∙◌}
@@ -10,7 +11,6 @@ use borrow.Author.Rules.{rules}
 use borrow.Author.Tests.{eq-eqb, ne_eqb}
 use Rattle.octets.specs.Text.{every, blank, digits_of}
 use Rattle.octets.specs.TextLaws.{blanks_passed}
-use Rattle.octets.specs.declared.Digits.TheVariants.{Number}
 use Rattle.calendar.specs.DateText.{year_part, month_part, day_part, date_of}
 use Rattle.calendar.specs.DateLaws.{date-length, date-empty, part_bound, of_parts, by_parts}
 use Rattle.calendar.proofs.read_date.Statement.{statement}
@@ -24,13 +24,13 @@ abbrev text_at : tie.Else-padding-eq8 → List ℕ
 text_at c = text-counted c.before
 
 -- the place before the reading of each part, from past its test
-abbrev before-year : tie.In-Number → tie.Else-padding-eq8
+abbrev before-year : tie.In-Some → tie.Else-padding-eq8
 before-year c = c.before.before.before
 
-abbrev before-month : tie.In-Number-read_digits → tie.In-Number
+abbrev before-month : tie.In-Some-read_digits → tie.In-Some
 before-month c = c.before.before.before
 
-abbrev before-day : tie.In-Number-read_digits-2 → tie.In-Number-read_digits
+abbrev before-day : tie.In-Some-read_digits-2 → tie.In-Some-read_digits
 before-day c = c.before.before.before
 
 -- all bytes are blanks exactly if as many are counted
@@ -45,16 +45,16 @@ by-their-parts c =
     by_parts _ eight (blanks-told c.before ∙ ne_eqb _ _ (λ e. c.if-padding-eq8.false (e ∙ eight)))
 
 -- what each part was read as
-year-read : (c : tie.In-Number) → digits_of (year_part (text_at (before-year c))) ≡ Number c.in-Number.year
-year-read c = sym c.read_digits.ensures ∙ c.in-Number.is
+year-read : (c : tie.In-Some) → digits_of (year_part (text_at (before-year c))) ≡ Some c.in-Some.year
+year-read c = sym c.read_digits.ensures ∙ c.in-Some.is
 
-month-read : (c : tie.In-Number-read_digits)
-    → digits_of (month_part (text_at (before-year (before-month c)))) ≡ Number c.in-Number-read_digits.month
-month-read c = sym c.read_digits-2.ensures ∙ c.in-Number-read_digits.is
+month-read : (c : tie.In-Some-read_digits)
+    → digits_of (month_part (text_at (before-year (before-month c)))) ≡ Some c.in-Some-read_digits.month
+month-read c = sym c.read_digits-2.ensures ∙ c.in-Some-read_digits.is
 
-day-read : (c : tie.In-Number-read_digits-2)
-    → digits_of (day_part (text_at (before-year (before-month (before-day c))))) ≡ Number c.in-Number-read_digits-2.day
-day-read c = sym c.read_digits-3.ensures ∙ c.in-Number-read_digits-2.is
+day-read : (c : tie.In-Some-read_digits-2)
+    → digits_of (day_part (text_at (before-year (before-month (before-day c))))) ≡ Some c.in-Some-read_digits-2.day
+day-read c = sym c.read_digits-3.ensures ∙ c.in-Some-read_digits-2.is
 
 returns : tie.Need-returns-then-text-ne8
 returns c = sym (date-length _ c.if-text-ne8.true)
@@ -139,13 +139,13 @@ returns-5 c =
     sym (by-their-parts (before-year (before-month place)) ∙ rw (year-read (before-month place), month-read place, bad))
 
 -- each number has as many digits as its part, so it fits
-year-small : (c : tie.In-Number) → c.in-Number.year < 10 ^ 4
+year-small : (c : tie.In-Some) → c.in-Some.year < 10 ^ 4
 year-small c = part_bound 4 (text_at (before-year c)) _ (year-read c)
 
-month-small : (c : tie.In-Number-read_digits) → c.in-Number-read_digits.month < 10 ^ 2
+month-small : (c : tie.In-Some-read_digits) → c.in-Some-read_digits.month < 10 ^ 2
 month-small c = part_bound 2 (drop 4 (text_at (before-year (before-month c)))) _ (month-read c)
 
-day-small : (c : tie.In-Number-read_digits-2) → c.in-Number-read_digits-2.day < 10 ^ 2
+day-small : (c : tie.In-Some-read_digits-2) → c.in-Some-read_digits-2.day < 10 ^ 2
 day-small c = part_bound 2 (drop 6 (text_at (before-year (before-month (before-day c))))) _ (day-read c)
 
 cast-date-of-numbers : tie.Need-overflow_cast-year

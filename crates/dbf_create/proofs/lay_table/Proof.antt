@@ -1,4 +1,5 @@
 -- `dbf_create::lay_table` meets its contract: the answer about the table, and then the room. Assumes nothing.
+use Rattle.std.specs.Prelude.{Ok}
 use mathlib.Core.Path.{◌≡◌, sym, ap, ◌∙◌}
 use mathlib.Core.List.{List}
 use Prim.Native.Nat.{ℕ, ◌+◌}
@@ -6,7 +7,6 @@ use native.Mathlib.Omega.{arith}
 use lib.ListN.{length}
 use Rattle.dbf_table.specs.Table.{check_table}
 use Rattle.dbf_table.specs.TableLaws.{good_shape}
-use Rattle.dbf_table.specs.declared.Checked.TheVariants.{Good}
 use Rattle.refusal.specs.After.{left}
 use Rattle.dbf_create.specs.LayingLaws.{table-refused, table_30, table_laid}
 use borrow.Author.Rules.{rules}
@@ -14,10 +14,10 @@ use Rattle.dbf_create.proofs.lay_table.Statement.{statement}
 use Rattle.dbf_create.proofs.lay_table.Tie as tie
 
 -- the answer about a good table, whose length is that of its header and one more
-said : (c : tie.In-Good) → check_table c.args.table.now ≡ Good c.in-Good.shape
-said c = sym c.check_table.ensures ∙ c.in-Good.is
+said : (c : tie.In-Ok) → check_table c.args.table.now ≡ Ok c.in-Ok.shape
+said c = sym c.check_table.ensures ∙ c.in-Ok.is
 
-whole : (c : tie.In-Good) → length c.args.table.now ≡ c.in-Good.shape.header_length + 1
+whole : (c : tie.In-Ok) → length c.args.table.now ≡ c.in-Ok.shape.header_length + 1
 whole c = omega (arith, (good_shape _ _ (said c)).header, c.requires)
 
 check-table-requires : tie.Need-check_table-requires

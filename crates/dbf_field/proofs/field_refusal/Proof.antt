@@ -1,18 +1,18 @@
 -- `dbf_field::field_refusal` meets its contract: a table's own refusal, or the test of the number. Assumes nothing.
+use Rattle.std.specs.Prelude.{Ok}
 use mathlib.Core.Path.{◌≡◌, sym, ◌∙◌}
 use Rattle.dbf_field.specs.Field.{field_refusal}
 use Rattle.dbf_field.specs.FieldLaws.{field_checked}
 use Rattle.dbf_table.specs.Table.{check_table}
 use Rattle.dbf_table.specs.TableLaws.{refused_then}
-use Rattle.dbf_table.specs.declared.Checked.TheVariants.{Good}
 use borrow.Author.Rules.{rules}
 use Rattle.dbf_field.proofs.field_refusal.Statement.{statement}
 use Rattle.dbf_field.proofs.field_refusal.Tie as tie
 
 -- the table was checked
 said : (c : tie.After-number_good)
-    → let told = c.before in check_table told.args.table.now ≡ Good told.in-Good.shape
-said c = let told = c.before in sym told.check_table.ensures ∙ told.in-Good.is
+    → let told = c.before in check_table told.args.table.now ≡ Ok told.in-Ok.shape
+said c = let told = c.before in sym told.check_table.ensures ∙ told.in-Ok.is
 
 check-table-requires : tie.Need-check_table-requires
 check-table-requires c κs = search rules

@@ -1,8 +1,8 @@
 -- `dbf_field::place_refusal` meets its contract: a table's own refusal, or the tests of the numbers in their order. Assumes nothing.
+use Rattle.std.specs.Prelude.{Ok}
 use mathlib.Core.Path.{◌≡◌, sym, ◌∙◌}
 use Rattle.dbf_table.specs.Table.{check_table}
 use Rattle.dbf_table.specs.TableLaws.{refused_then}
-use Rattle.dbf_table.specs.declared.Checked.TheVariants.{Good}
 use Rattle.dbf_field.specs.Field.{place_refusal}
 use Rattle.dbf_field.specs.FieldLaws.{place-checked}
 use borrow.Author.Rules.{rules}
@@ -12,8 +12,8 @@ use Rattle.dbf_field.proofs.place_refusal.Tie as tie
 
 -- the table was checked
 said : (c : tie.After-number_good)
-    → let told = c.before.before in check_table told.args.table.now ≡ Good told.in-Good.shape
-said c = let told = c.before.before in sym told.check_table.ensures ∙ told.in-Good.is
+    → let told = c.before.before in check_table told.args.table.now ≡ Ok told.in-Ok.shape
+said c = let told = c.before.before in sym told.check_table.ensures ∙ told.in-Ok.is
 
 check-table-requires : tie.Need-check_table-requires
 check-table-requires c κs = search rules
@@ -33,14 +33,14 @@ number-good-requires c κs = search rules
 returns : tie.Need-returns-then-not-number_good
 returns c = sym (place-checked _ _ _ _ (said c.before) ∙ rw (failed c.number_good.ensures c.if-not-number_good.true-raw))
 
-number-good-requires-2 : tie.Need-number_good-requires-in-Good
+number-good-requires-2 : tie.Need-number_good-requires-in-Ok
 number-good-requires-2 c κs = search rules
 
 returns-2 : tie.Need-returns-then-not-number_good-2
 returns-2 c =
     let has-record = c.before.before in
     let yes = passed has-record.number_good.ensures has-record.if-not-number_good.false-raw in
-    sym (place-checked _ _ _ _ (said has-record.before) ∙ rw (yes, failed c.number_good-in-Good.ensures c.if-not-number_good-2.true-raw))
+    sym (place-checked _ _ _ _ (said has-record.before) ∙ rw (yes, failed c.number_good-in-Ok.ensures c.if-not-number_good-2.true-raw))
 
 returns-3 : tie.Need-returns-in-Refused
 unfolding place_refusal
@@ -50,7 +50,7 @@ returns-4 : tie.Need-returns-else-not-number_good-2
 returns-4 c =
     let has-record = c.before.before in
     let yes = passed has-record.number_good.ensures has-record.if-not-number_good.false-raw in
-    sym (place-checked _ _ _ _ (said has-record.before) ∙ rw (yes, passed c.number_good-in-Good.ensures c.if-not-number_good-2.false-raw))
+    sym (place-checked _ _ _ _ (said has-record.before) ∙ rw (yes, passed c.number_good-in-Ok.ensures c.if-not-number_good-2.false-raw))
 
 pub place_refusal_spec : {M : Type 1} → statement M
 place_refusal_spec =

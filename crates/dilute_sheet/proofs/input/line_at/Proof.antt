@@ -1,21 +1,20 @@
 -- `dilute_sheet::input::line_at` meets its contract: the tests of the line, and then the number of its digits. Assumes nothing.
+use Rattle.std.specs.Prelude.{None, Some, Option}
 use mathlib.Core.Path.{◌≡◌, sym, ◌∙◌}
 use native.Mathlib.Omega.{arith}
 use lib.ListN.{length-take}
 use borrow.Author.Rules.{rules}
 use Rattle.basis.specs.Tests.{impossible}
 use Rattle.octets.specs.Text.{number_of}
-use Rattle.octets.specs.declared.Digits.{Digits}
-use Rattle.octets.specs.declared.Digits.TheVariants.{Number, Other}
 use Rattle.dilute_sheet.specs.Input.{digits_at}
 use Rattle.dilute_sheet.specs.InputLaws.{line_past, line_short, line_long, line_other, line_read, line_digits}
 use Rattle.dilute_sheet.proofs.input.line_at.Statement.{statement}
 use Rattle.dilute_sheet.proofs.input.line_at.Tie as tie
 
 -- the digits that are read
-read : (c : tie.After-read_digits) (d : Digits) → c.read_digits.result ≡ d
+read : (c : tie.After-read_digits) (d : Option ℕ) → c.read_digits.result ≡ d
     → let args = c.args in
-    d ≡ Number (number_of (digits_at args.input.now args.from))
+    d ≡ Some (number_of (digits_at args.input.now args.from))
 read c d e =
     let ended = c.before.before.before.before.before.before.before in
     sym e ∙ c.read_digits.ensures ∙ line_digits _ _ _ ended.digits_end-end.ensures
@@ -87,10 +86,10 @@ add-t14 c = search rules
 enum_told : tie.Need-enum_told-1
 enum_told c = search rules
 
-no-line-requires-5 : tie.Need-no_line-requires-in-Other
+no-line-requires-5 : tie.Need-no_line-requires-in-None
 no-line-requires-5 c κs = search rules
 
-returns-5 : tie.Need-returns-in-Number
+returns-5 : tie.Need-returns-in-Some
 returns-5 c =
     let told = c in
     let asked = told.before in
@@ -99,17 +98,17 @@ returns-5 c =
     let some = few.before in
     let ended = some.before.before in
     let args = ended.args in
-    let same : Number told.in-Number.number ≡ Number (number_of (digits_at args.input.now args.from)) = read asked _ told.in-Number.is in
-    let number : told.in-Number.number ≡ number_of (digits_at args.input.now args.from) = cc in
+    let same : Some told.in-Some.number ≡ Some (number_of (digits_at args.input.now args.from)) = read asked _ told.in-Some.is in
+    let number : told.in-Some.number ≡ number_of (digits_at args.input.now args.from) = cc in
     sym (line_read _ _ _ ended.digits_end-end.ensures some.if-end-from.false
     (omega (arith, few.if-end-from-gt-MAX_DIGITS.false)) tested.if-input-end-ne10.false _ number)
 
-returns-6 : tie.Need-returns-in-Other
+returns-6 : tie.Need-returns-in-None
 returns-6 c =
     let told = c.before in
     let asked = told.before in
     let args = asked.args in
-    let other : Other ≡ Number (number_of (digits_at args.input.now args.from)) = read asked Other told.in-Other.is in
+    let other : None ≡ Some (number_of (digits_at args.input.now args.from)) = read asked None told.in-None.is in
     impossible (cc)
 
 pub line_at_spec : {M : Type 1} → statement M
