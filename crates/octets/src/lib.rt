@@ -5,25 +5,12 @@
 ghost use Rattle.std.specs.Prelude.{◌≡◌, ◌+◌, ◌-◌, ◌≤◌, ◌<◌, length, replicate, drop};
 ghost use Rattle.octets.specs.Bytes.{byte_at, le16, le32, be16, be32, to_le16, to_le32, to_be32};
 ghost use Rattle.octets.specs.Store.{put};
-ghost use Rattle.octets.specs.declared.Ordering.TheVariants.{Equal};
+ghost use Rattle.std.specs.declared.cmp.Ordering.TheVariants.{Equal};
 ghost use Rattle.octets.specs.Order.{ordering, is_below, is_equal};
 ghost use Rattle.octets.specs.Words.{le64, bytes_number, smaller, order_then, Agree};
 ghost use Rattle.octets.specs.Text.{unpadded, is_digit, digits_of};
 
-// The order of one byte string to another.
-#[derive(Clone, Copy)]
-pub enum Ordering {
-    Below,
-    Equal,
-    Above,
-}
-
-// What a text says that should be digits: the number that they stand for, or that it has another character.
-#[derive(Clone, Copy)]
-pub enum Digits {
-    Number(u64),
-    Other,
-}
+use std::cmp::Ordering;
 
 // The byte at an offset.
 pub fn byte(s: &[u8], at: usize) -> u32
@@ -174,9 +161,9 @@ fn compare_words(a: &[u8], b: &[u8], i: usize) -> Ordering
     ensures { result ≡ ordering (drop i a.now) (drop i b.now) }
 {
     if load_be64(a, i) < load_be64(b, i) {
-        return Ordering::Below;
+        return Ordering::Less;
     }
-    Ordering::Above
+    Ordering::Greater
 }
 
 // The order of two numbers.
@@ -184,10 +171,10 @@ fn order_of(x: u64, y: u64) -> Ordering
     ensures { result ≡ order_then x y Equal }
 {
     if x < y {
-        return Ordering::Below;
+        return Ordering::Less;
     }
     if y < x {
-        return Ordering::Above;
+        return Ordering::Greater;
     }
     Ordering::Equal
 }
@@ -245,9 +232,9 @@ pub fn is_below(o: Ordering) -> bool
     ensures { result ≡ is_below o }
 {
     match o {
-        Ordering::Below => true,
+        Ordering::Less => true,
         Ordering::Equal => false,
-        Ordering::Above => false,
+        Ordering::Greater => false,
     }
 }
 
@@ -255,9 +242,9 @@ pub fn is_equal(o: Ordering) -> bool
     ensures { result ≡ is_equal o }
 {
     match o {
-        Ordering::Below => false,
+        Ordering::Less => false,
         Ordering::Equal => true,
-        Ordering::Above => false,
+        Ordering::Greater => false,
     }
 }
 
@@ -282,8 +269,8 @@ pub fn is_digit(c: u8) -> bool
     (b'0' <= c) & (c <= b'9')
 }
 
-// What a text says that should be digits. It has nineteen characters at most, so that the number fits 64 bits.
-pub fn read_digits(text: &[u8]) -> Digits
+// The number that a text of digits stands for, none if it has another character. It has nineteen characters at most, so that the number fits 64 bits.
+pub fn read_digits(text: &[u8]) -> Option<u64>
     requires { length text.now ≤ 19 }
     ensures { result ≡ digits_of text.now }
 {
@@ -292,10 +279,10 @@ pub fn read_digits(text: &[u8]) -> Digits
     while i < text.len() {
         let c = text[i];
         if !is_digit(c) {
-            return Digits::Other;
+            return None;
         }
         number = 10 * number + (c - b'0') as u64;
         i += 1;
     }
-    Digits::Number(number)
+    Some(number)
 }

@@ -4,6 +4,7 @@ use mathlib.Core.Path.{◌≡◌, sym, ◌∙◌}
 use mathlib.Core.List.{List}
 use native.Mathlib.Omega.{arith}
 use lib.ListN.{drop}
+use Rattle.std.specs.declared.cmp.Ordering.TheVariants.{Equal}
 use Rattle.octets.specs.Order.{ordering}
 use Rattle.octets.specs.Words.{order_then}
 use Rattle.octets.specs.WordLaws.{byte-apart, byte-same, lengths_decide}
