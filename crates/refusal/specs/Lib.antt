@@ -6,6 +6,8 @@ pub mod Checks
 pub mod CheckLaws
 -- Rules: the numbers of the refusals, and an answer by number
 pub mod Refusals
+-- Laws: a number tells which refusal it is
+pub mod RefusalLaws
 -- Rules: a buffer after a call, and the answer
 pub mod After
 -- Laws: a call that writes is made or refused, by its checks
