@@ -6,6 +6,9 @@ ghost use Rattle.std.specs.Prelude.{◌≡◌};
 ghost use Rattle.refusal.specs.Refusals.{refusal_number, numbered};
 ghost use Rattle.refusal.specs.After.{change_code};
 
+use std::error::Error;
+use std::fmt;
+
 // Why a call is refused. A refusal's number is the one that the papers give it. No refusal has the number 26.
 #[derive(Clone, Copy, Debug, PartialEq, Eq)]
 pub enum Refusal {
@@ -149,6 +152,55 @@ impl Refusal {
         self as u32
     }
 }
+
+// A refusal's words, as the page of the program `inspect` has them.
+impl fmt::Display for Refusal {
+    fn fmt<W: fmt::Write>(&self, f: &mut fmt::Formatter<W>) -> fmt::Result {
+        f.write_str(match self {
+            Refusal::TableSize => "size of the table",
+            Refusal::TableKind => "kind of table",
+            Refusal::UpdateDate => "update date",
+            Refusal::HeaderLength => "header length",
+            Refusal::HeaderEndMark => "header end mark",
+            Refusal::FieldDescriptor => "field descriptor",
+            Refusal::FieldNameTwice => "field name twice",
+            Refusal::MemoFieldAndKind => "memo field and kind of table",
+            Refusal::RecordLength => "record length",
+            Refusal::TableLength => "table length",
+            Refusal::RecordNumber => "record number",
+            Refusal::FieldNumber => "field number",
+            Refusal::FieldType => "field type",
+            Refusal::FieldListTooShort => "field list too short",
+            Refusal::DeletionByte => "deletion byte",
+            Refusal::Comma => "comma in a number",
+            Refusal::NotANumber => "not a number",
+            Refusal::TooManyDigits => "more than 18 digits",
+            Refusal::DoesNotFit => "does not fit the field",
+            Refusal::DateOrLogical => "not a date or logical value",
+            Refusal::MemoNumberOrPlace => "memo number or place",
+            Refusal::MemoHeader => "memo header",
+            Refusal::MemoNotText => "memo is not text",
+            Refusal::IndexHeader => "index header",
+            Refusal::IndexNotSound => "index not sound",
+            Refusal::KeyLength => "key length",
+            Refusal::RecordNumberZero => "record number 0",
+            Refusal::KeyPresent => "key present",
+            Refusal::NoRoom => "no room",
+            Refusal::IndexAndTableDiffer => "index and table differ",
+            Refusal::ControlByte => "control byte in the key",
+            Refusal::KeyAbsent => "key absent",
+            Refusal::NoKey => "no number to index",
+            Refusal::BarcodeAbsent => "barcode absent or deleted",
+            Refusal::NoConcentration => "no concentration",
+            Refusal::TargetOrVolume => "target or volume out of range",
+            Refusal::TargetAboveConcentration => "target above concentration",
+            Refusal::ListTooShort => "list too short",
+            Refusal::ArgumentsOrFiles => "arguments or files",
+        })
+    }
+}
+
+impl Error for Refusal {}
 
 // The number of an answer without a value: 0 if the call is accepted, or the refusal's.
 pub fn change_code(answer: Result<(), Refusal>) -> u32
