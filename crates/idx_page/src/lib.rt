@@ -13,7 +13,7 @@ ghost use Rattle.idx_page.specs.Reading.{entries_at};
 ghost use Rattle.idx_page.specs.Within.{Within};
 ghost use Rattle.idx_page.specs.Children.{is_leaf, first_child};
 
-use octets::Ordering;
+use std::cmp::Ordering;
 
 // Where the header's numbers and its key expression stand.
 pub const ROOT_PLACE: usize = 0;
