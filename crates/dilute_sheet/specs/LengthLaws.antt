@@ -33,8 +33,7 @@ use Rattle.dilution.specs.StepLaws.{range_bounds}
 use Rattle.dilution.specs.VolumeLaws.{sample-most}
 use Rattle.dilution.specs.BarcodeLaws.{good-table, known}
 use Rattle.dilution.specs.DilutionLaws.{sheet_good}
-use Rattle.dilution.specs.declared.Dilution.{Dilution}
-use Rattle.dilution.specs.declared.Dilution.TheVariants.{Volumes, Refused}
+use Rattle.dilution.specs.Dilution.{Dilution}
 use Rattle.dilute_sheet.specs.declared.input.Request.{Request}
 use Rattle.dilute_sheet.specs.declared.input.Input.{Input}
 use Rattle.dilute_sheet.specs.declared.input.Input.TheVariants.{Asked, Other}
@@ -47,13 +46,13 @@ abbrev Low : Bool × ℕ → Type 0
 Low check = check.1 < 256
 
 abbrev Small : Dilution → Type 0
-Small (Volumes sample diluent) = (sample ≤ 10000) × (diluent ≤ 10000)
-Small (Refused n) = n < 256
+Small (Ok v) = (v.sample ≤ 10000) × (v.diluent ≤ 10000)
+Small (Err n) = n < 256
 
 unless-small : (checks : List (Bool × ℕ)) (d : Dilution) → All Low checks → (All (λ check. check.0 ≡ true) checks → Small d)
-    → Small (unless checks Refused d)
+    → Small (unless checks Err d)
 unless-small checks d low after =
-    unless-cases Refused d (λ n. n < 256) checks (all_map Low (Refuses (λ n. n < 256)) (λ check l bad. l) checks low)
+    unless-cases Err d (λ n. n < 256) checks (all_map Low (Refuses (λ n. n < 256)) (λ check l bad. l) checks low)
     (λ held made. rw made (after held))
     (λ n l refused. rw refused l)
 
@@ -81,7 +80,7 @@ text_low t i field (Err n) e = (number-numbered (field_bytes t i field) concentr
 
 volumes-small : (c target final : ℕ) → Small (dilution_of c target final)
 unfolding dilution_of volume_checks volumes_of
-volumes-small c target final = unless-small (volume_checks c target final) (volumes_of c target final) (lit< tt, (lit< tt, (lit< tt, tt)))
+volumes-small c target final = unless-small (volume_checks c target final) (Ok (volumes_of c target final)) (lit< tt, (lit< tt, (lit< tt, tt)))
     (λ good.
     let most = sample-most c target final (ltb-true 0 c good.0) (leb-true target c good.1.1.0) in
     let bounds = range_bounds target final good.1.0 in
@@ -105,11 +104,11 @@ number_short n k some l = let short = (decimal-fits n k some).1 l in omega arith
 
 answer-short : (d : Dilution) → Small d → length (answer_text d) ≤ 13
 unfolding answer_text
-answer-short (Volumes sample diluent) small =
-    let first = number_short sample 5 (omega arith) (omega arith) in
-    let second = number_short diluent 5 (omega arith) (omega arith) in
-    omega (arith, length-append (number_text sample) (number_text diluent ++ (line_feed ∷ [])), length-append (number_text diluent) (line_feed ∷ []))
-answer-short (Refused n) small = omega (arith, number_short n 3 (omega arith) (omega arith), length-append (number_text n) (line_feed ∷ []))
+answer-short (Ok v) small =
+    let first = number_short v.sample 5 (omega arith) (omega arith) in
+    let second = number_short v.diluent 5 (omega arith) (omega arith) in
+    omega (arith, length-append (number_text v.sample) (number_text v.diluent ++ (line_feed ∷ [])), length-append (number_text v.diluent) (line_feed ∷ []))
+answer-short (Err n) small = omega (arith, number_short n 3 (omega arith) (omega arith), length-append (number_text n) (line_feed ∷ []))
 
 alone-short : (n : ℕ) → n < 256 → length (alone_text n) ≤ 4
 unfolding alone_text

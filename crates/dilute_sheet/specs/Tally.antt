@@ -1,11 +1,10 @@
 -- Rules: how many lines a sheet has and how many of them are refusals, or the number that refuses the whole sheet. The exit status of `./dilute` goes by it.
 -- The call `tally::sheet_verdict` cites `verdict_of`.
-use Rattle.std.specs.Prelude.{ℕ, zero, suc, ◌+◌, cond, List, eqb}
+use Rattle.std.specs.Prelude.{ℕ, zero, suc, ◌+◌, cond, List, eqb, Err, Ok}
 use Rattle.refusal.specs.Checks.{first_refusal}
 use Rattle.dbf_table.specs.Table.{deleted_mark, record_count, deletion_byte}
 use Rattle.dilution.specs.Dilution.{sheet_checks}
-use Rattle.dilution.specs.declared.Dilution.{Dilution}
-use Rattle.dilution.specs.declared.Dilution.TheVariants.{Volumes, Refused}
+use Rattle.dilution.specs.Dilution.{Dilution}
 use Rattle.dilute_sheet.specs.declared.input.Request.{Request}
 use Rattle.dilute_sheet.specs.declared.input.Input.{Input}
 use Rattle.dilute_sheet.specs.declared.input.Input.TheVariants.{Asked, Other}
@@ -17,8 +16,8 @@ use Rattle.dilute_sheet.specs.Sheet.{answer_on}
 
 -- whether an answer is a refusal: 1 if it is, 0 for volumes
 unfoldable pub refusals : Dilution → ℕ
-refusals (Volumes sample diluent) = 0
-refusals (Refused n) = 1
+refusals (Ok v) = 0
+refusals (Err n) = 1
 
 abbrev pub tally : ℕ → ℕ → Tally
 tally lines refused = record { lines = lines; refused = refused }

@@ -17,8 +17,7 @@ use Rattle.dilution.specs.Dilution.{sample_of, volumes_of, concentration_text, a
 use Rattle.dilution.specs.Dilution.{record_with, barcode_checks, text_checks, volume_checks, dilution_of, record_dilution, dilute_rule}
 use Rattle.dilution.specs.VolumeLaws.{NearestTenth, sample-nearest, sample-most}
 use Rattle.dilution.specs.BarcodeLaws.{record_named}
-use Rattle.dilution.specs.declared.Dilution.{Dilution}
-use Rattle.dilution.specs.declared.Dilution.TheVariants.{Volumes, Refused}
+use Rattle.dilution.specs.Dilution.{Dilution, volumes}
 
 -- the volumes for a barcode stand for a record of a table that matches its index
 pub record Diluted (t b : List ℕ) (barcodeField field : ℕ) (barcode : List ℕ) (target final sample diluent : ℕ) : Type 0 where
@@ -37,12 +36,12 @@ pub record Diluted (t b : List ℕ) (barcodeField field : ℕ) (barcode : List �
   pub sum : sample + diluent ≡ final
 
 -- volumes are answered if all checks pass
-passed-all : (checks : List (Bool × ℕ)) (d : Dilution) (s m : ℕ) → unless checks Refused d ≡ Volumes s m
-    → All (λ check. check.0 ≡ true) checks × (d ≡ Volumes s m)
+passed-all : (checks : List (Bool × ℕ)) (d : Dilution) (s m : ℕ) → unless checks Err d ≡ Ok (volumes s m)
+    → All (λ check. check.0 ≡ true) checks × (d ≡ Ok (volumes s m))
 passed-all checks d s m e =
-    unless-cases Refused d (λ n. Unit {0}) checks (refuses_any checks)
+    unless-cases Err d (λ n. Unit {0}) checks (refuses_any checks)
     (λ held made. (held, sym made ∙ e))
-    (λ n any refused. let q : Refused n ≡ Volumes s m = sym refused ∙ e in impossible (cc))
+    (λ n any refused. let q : Err n ≡ Ok (volumes s m) = sym refused ∙ e in impossible (cc))
 
 -- a concentration above 0 is a number's
 some-concentration : (n : Number) → 0 < concentration_of n → n ≡ Ok (Some (pos (concentration_of n)))
@@ -54,7 +53,7 @@ some-concentration (Err n) l = absurd (omega arith)
 
 module _ (t b : List ℕ) (barcodeField field : ℕ) (barcode : List ℕ) (target final sample diluent : ℕ) where
   -- Theorem: volumes are given for the live record of that barcode alone, by its own concentration
-  pub volumes_say : dilute_rule t b barcodeField field barcode target final ≡ Volumes sample diluent
+  pub volumes_say : dilute_rule t b barcodeField field barcode target final ≡ Ok (volumes sample diluent)
       → Diluted t b barcodeField field barcode target final sample diluent
   unfolding dilute_rule record_dilution dilution_of sheet_checks header_checks distinct_index barcode_checks text_checks volume_checks volumes_of
   volumes_say e =
@@ -65,7 +64,7 @@ module _ (t b : List ℕ) (barcodeField field : ℕ) (barcode : List ℕ) (targe
       let sheet = all_left (λ x. x.0 ≡ true) (sheet_checks t b barcodeField field) (barcode_checks b barcode) first.0 in
       let code = all_right (λ x. x.0 ≡ true) (sheet_checks t b barcodeField field) (barcode_checks b barcode) first.0 in
       let second = passed-all (text_checks t i field) (dilution_of c target final) sample diluent first.1 in
-      let third = passed-all (volume_checks c target final) (volumes_of c target final) sample diluent second.1 in
+      let third = passed-all (volume_checks c target final) (Ok (volumes_of c target final)) sample diluent second.1 in
       let match = eqb-true (match_answer t b barcodeField) 0 sheet.1.1.0 in
       let one = eqb-true (features b) good_features (both (header_good b) (eqb (features b) good_features) sheet.1.0).1 in
       let found = record_named t b barcodeField match one barcode (eqb-true (length barcode) _ code.0) (ltb-true 0 i code.1.0) in
@@ -88,8 +87,8 @@ module _ (t b : List ℕ) (barcodeField field : ℕ) (barcode : List ℕ) (targe
         sum = omega arith;
       }
     where
-      drawn_is : {x y : ℕ} → Volumes x y ≡ Volumes sample diluent → x ≡ sample
+      drawn_is : {x y : ℕ} → Ok {E = ℕ} (volumes x y) ≡ Ok (volumes sample diluent) → x ≡ sample
       drawn_is q = cc
 
-      added_is : {x y : ℕ} → Volumes x y ≡ Volumes sample diluent → y ≡ diluent
+      added_is : {x y : ℕ} → Ok {E = ℕ} (volumes x y) ≡ Ok (volumes sample diluent) → y ≡ diluent
       added_is q = cc

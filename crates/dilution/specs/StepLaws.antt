@@ -24,7 +24,6 @@ use Rattle.idx_page.specs.HeaderLaws.{good-header}
 use Rattle.dilution.specs.Dilution.{distinct_index, header_checks}
 use Rattle.dilution.specs.Dilution.{max_target, max_final, volumes_of, in_range, concentration_decimals, concentration_text, amount_of}
 use Rattle.dilution.specs.Dilution.{concentration_of, is_concentration, field_checks, text_checks, volume_checks, dilution_of, record_dilution}
-use Rattle.dilution.specs.declared.Dilution.TheVariants.{Refused}
 
 -- ---- table and header
 
@@ -96,7 +95,7 @@ module _ (t : List ℕ) (field : ℕ) (good : table_refusal t ≡ 0) (answer : F
 -- ---- 36, 37, 38, the volumes
 
 module _ (c target final : ℕ) where
-  pub refused_36 : c ≡ 0 → dilution_of c target final ≡ Refused 36
+  pub refused_36 : c ≡ 0 → dilution_of c target final ≡ Err 36
   unfolding dilution_of volume_checks unless
   refused_36 e = rw e
 
@@ -104,12 +103,12 @@ module _ (c target final : ℕ) where
     positive : ltb 0 c ≡ true
     positive = lt-ltb 0 c (omega (arith, some))
 
-    pub refused_37 : in_range target final ≡ false → dilution_of c target final ≡ Refused 37
+    pub refused_37 : in_range target final ≡ false → dilution_of c target final ≡ Err 37
     unfolding dilution_of volume_checks unless
     refused_37 e = rw (positive, e)
 
     module _ (ranged : in_range target final ≡ true) where
-      pub refused_38 : c < target → dilution_of c target final ≡ Refused 38
+      pub refused_38 : c < target → dilution_of c target final ≡ Err 38
       unfolding dilution_of volume_checks unless
       refused_38 l = rw (positive, ranged, lt-leb target c l)
 
@@ -144,12 +143,12 @@ value_read n v r e h = rw e h
 -- ---- a record: 15, 35, 16 to 18, and then by the concentration
 
 module _ (t : List ℕ) (i field target final : ℕ) where
-  pub refused_15 : mark_good (deletion_byte t i) ≡ false → record_dilution t i field target final ≡ Refused 15
+  pub refused_15 : mark_good (deletion_byte t i) ≡ false → record_dilution t i field target final ≡ Err 15
   unfolding record_dilution text_checks unless
   refused_15 e = rw e
 
   module _ (mark : mark_good (deletion_byte t i) ≡ true) where
-    pub refused_deleted : deletion_byte t i ≡ deleted_mark → record_dilution t i field target final ≡ Refused 35
+    pub refused_deleted : deletion_byte t i ≡ deleted_mark → record_dilution t i field target final ≡ Err 35
     unfolding record_dilution text_checks unless
     refused_deleted e = rw e
 
@@ -157,7 +156,7 @@ module _ (t : List ℕ) (i field target final : ℕ) where
       abbrev refusal : ℕ
       refusal = number_refusal (concentration_text t i field)
 
-      pub refused_text : (refusal ≡ 0 → ⊥) → record_dilution t i field target final ≡ Refused refusal
+      pub refused_text : (refusal ≡ 0 → ⊥) → record_dilution t i field target final ≡ Err refusal
       unfolding record_dilution text_checks unless
       refused_text some = rw (mark, ne_eqb (deletion_byte t i) deleted_mark kept, ne_eqb refusal 0 some)
 
