@@ -10,7 +10,7 @@ ghost use Rattle.idx_sound.specs.AuditTest.{last_of, last_pair};
 ghost use Rattle.idx_keys.specs.Places.{InFile, key_from, pair_from};
 
 use idx_page::PageOffset;
-use octets::Ordering;
+use std::cmp::Ordering;
 
 // Where the last key of a page begins, or 0 if the page has none.
 pub fn last_key(index: &[u8], k: usize, size: usize, page: PageOffset) -> usize
