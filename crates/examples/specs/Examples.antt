@@ -11,8 +11,8 @@ use Rattle.numeral.specs.Format.{Number}
 use Rattle.idx_page.specs.Header as header
 use Rattle.idx_page.specs.Reading as pages
 use Rattle.idx_lookup.specs.Lookup as lookup
-use Rattle.idx_lookup.specs.declared.Answer.{Answer as Looked}
-use Rattle.idx_lookup.specs.declared.Answer.TheVariants as looked
+use Rattle.idx_lookup.specs.Answer.{Answer as Looked}
+use Rattle.idx_lookup.specs.Answer as looked
 use Rattle.idx_sound.specs.AuditTest as audit
 use Rattle.idx_insert.specs.Calls as calls
 use Rattle.examples.specs.Tree000 as tree
@@ -87,8 +87,8 @@ examples =
     ∷ (dated "19000229", of_date (Err 20))
     ∷ (dated "20230229", of_date (Err 20))
     -- "the tree in 000 .. F is found as 6 after 3 pages; I is absent after 1"; and the tree is sound
-    ∷ (key000 "F", of_lookup (looked.Found (lookup.record_of 6) 3))
-    ∷ (key000 "I", of_lookup (looked.Absent 1))
+    ∷ (key000 "F", of_lookup (looked.found (lookup.record_of 6) 3))
+    ∷ (key000 "I", of_lookup (looked.absent 1))
     ∷ (audit000, of_audit true true)
     -- "k = 100, five ascending keys: leaf 512 has three, leaf 1,024 two, root 1,536 has keys three and five, F 2,048"
     ∷ (

@@ -1,6 +1,6 @@
 -- Laws: an answer's number tells its case. 0 is given exactly if the call is accepted, 256 exactly for an empty field, 257 exactly for an absent key and 258
 -- exactly at the end of a walk, since no refusal has any of these numbers. Assumes nothing.
-use Rattle.std.specs.Prelude.{Err, Ok, ℕ, zero, suc, ◌+◌, ◌-◌, ◌≤◌, ◌≡◌, refl, Bool, true, false, ◌&&◌, cond, List, [], ◌∷◌, ◌↔◌, ◌⊎◌, length, ℤ, eqb, ltb, None, Some}
+use Rattle.std.specs.Prelude.{Err, Ok, ℕ, zero, suc, ◌+◌, ◌-◌, ◌≤◌, ◌≡◌, refl, Bool, true, false, ◌&&◌, cond, List, [], ◌∷◌, ◌↔◌, ◌⊎◌, length, ℤ, eqb, ltb, None, Some, Option}
 use Rattle.std.proofs.Common.{sym, ◌∙◌, inl, inr, arith, lit<, ne_eqb, ltb-true}
 use Rattle.std.proofs.Math.Path.{ap}
 use Rattle.std.proofs.lemmas.Bool.{eqb-false}
@@ -25,6 +25,7 @@ use Rattle.dbf_walk.specs.declared.Step.{Step}
 use Rattle.dbf_walk.specs.declared.Step.TheVariants as step
 use Rattle.idx_page.specs.Header.{max_levels, no_page, root_offset, file_size, key_length, features, header_good}
 use Rattle.idx_page.specs.Page.{attribute_at, count_at, right_at, leaf_bit, key_at, number_at, page_good, first_at_or_above}
+use Rattle.idx_page.specs.declared.PageOffset.{PageOffset}
 use Rattle.idx_page.specs.declared.RecordNumber.{RecordNumber}
 use Rattle.dbf_cell.specs.Cell.{number_cell, date_cell, logical_cell, text_cell}
 use Rattle.dbf_cell.specs.Codes.{empty_code, number_code, date_code, logical_code, text_code}
@@ -34,11 +35,11 @@ use Rattle.dbf_cell.specs.declared.TextPlace.{TextPlace}
 use Rattle.dbf_cell.specs.declared.TextPlace.TheVariants as text
 use Rattle.octets.specs.Order.{ordering, is_equal}
 use Rattle.idx_lookup.specs.FirstRecord.{record_of, entry_decides, neighbour_decides, first_from}
-use Rattle.idx_lookup.specs.Lookup.{visit_rule, decided, lookup_from, lookup_steps, lookup_rule, absent_code, lookup_code}
+use Rattle.idx_lookup.specs.Lookup.{page_says, visit_rule, decided, lookup_from, lookup_steps, lookup_rule, absent_code, lookup_code}
 use Rattle.idx_lookup.specs.declared.Visit.{Visit}
 use Rattle.idx_lookup.specs.declared.Visit.TheVariants as visit
-use Rattle.idx_lookup.specs.declared.Answer.{Answer}
-use Rattle.idx_lookup.specs.declared.Answer.TheVariants as looked
+use Rattle.idx_lookup.specs.Answer.{Answer}
+use Rattle.idx_lookup.specs.Answer as looked
 use Rattle.idx_insert.specs.Fresh.{fresh_checks, fresh_rule}
 use Rattle.idx_insert.specs.Calls.{insert_checks, insert_rule}
 use Rattle.idx_remove.specs.Calls.{remove_checks, remove_rule}
@@ -212,43 +213,44 @@ module _ (b : List ℕ) (i field : ℕ) where
 
 -- ---- lookup: 0 with a record's number, 257 for an absent key
 
-looked-numbered : (m n : ℕ) → Numbered m → looked.Refused m ≡ looked.Refused n → Numbered n
+looked-numbered : (m n : ℕ) → Numbered m → Err m ≡ Err n → Numbered n
 looked-numbered m n small e = let k : m ≡ n = cc in (omega arith, omega arith)
 
-decided-refusal : (go : ℕ → Answer) → ((p : ℕ) → RefusalsNumbered looked.Refused (go p))
-    → (pages : ℕ) (v : Visit) → RefusalsNumbered looked.Refused (decided go pages v)
-decided-refusal go small pages visit.Refused n e = let k : 25 ≡ n = cc in (omega arith, omega arith)
+decided-refusal : (go : PageOffset → Answer) → ((c : PageOffset) → RefusalsNumbered Err (go c))
+    → (pages : ℕ) (v : Visit PageOffset) → RefusalsNumbered Err (decided go pages v)
 decided-refusal go small pages visit.Absent n e = impossible (cc)
 decided-refusal go small pages (visit.Found r) n e = impossible (cc)
-decided-refusal go small pages (visit.Child c) n e = small c.0 n e
+decided-refusal go small pages (visit.Child c) n e = small c n e
 
-from-refusal : (left : ℕ) (b key : List ℕ) (p : ℕ) → RefusalsNumbered looked.Refused (lookup_from left b key p)
-unfolding lookup_from
-from-refusal zero b key p n e = let k : 25 ≡ n = cc in (omega arith, omega arith)
+from-refusal : (left : ℕ) (b key : List ℕ) (p : ℕ) → RefusalsNumbered Err (lookup_from left b key p)
+unfolding lookup_from visit_rule
+from-refusal zero b key p n e = looked-numbered 25 n (lit< tt, lit< tt) e
 from-refusal (suc left) b key p n e =
-    decided-refusal (lookup_from left b key) (from-refusal left b key)
-    (max_levels - left) (visit_rule b key p (eqb (max_levels - left) 1) (eqb left 0)) n e
+    either (page_good b (length key) (file_size b) p (eqb (max_levels - left) 1) (eqb left 0))
+    (λ good. decided-refusal (λ c. lookup_from left b key c.0) (λ c. from-refusal left b key c.0) (max_levels - left) (page_says b key p) n
+    (rw (good, visit_rule) at e))
+    (λ bad. looked-numbered 25 n (lit< tt, lit< tt) (rw (bad, visit_rule) at e))
 
 -- with several records to a key: an entry decides without a refusal
-found-or-absent : (t : Bool) (r : RecordNumber) (pages : ℕ) → RefusalsNumbered looked.Refused (cond t (looked.Found r pages) (looked.Absent pages))
+found-or-absent : (t : Bool) (r : RecordNumber) (pages : ℕ) → RefusalsNumbered Err (cond t (looked.found r pages) (looked.absent pages))
 found-or-absent true r pages n e = impossible (cc)
 found-or-absent false r pages n e = impossible (cc)
 
-entry-refusal : (b key : List ℕ) (pages p i : ℕ) → RefusalsNumbered looked.Refused (entry_decides b key pages p i)
+entry-refusal : (b key : List ℕ) (pages p i : ℕ) → RefusalsNumbered Err (entry_decides b key pages p i)
 unfolding entry_decides
 entry-refusal b key pages p i n e =
     found-or-absent (is_equal (ordering (key_at b (length key) p i) key)) (record_of (number_at b (length key) p i)) pages n e
 
-neighbour-refusal : (b key : List ℕ) (pages q : ℕ) → RefusalsNumbered looked.Refused (neighbour_decides b key pages q)
+neighbour-refusal : (b key : List ℕ) (pages q : ℕ) → RefusalsNumbered Err (neighbour_decides b key pages q)
 unfolding neighbour_decides
 neighbour-refusal b key pages q n e =
     either (eqb q no_page)
-    (λ none. let q : looked.Absent pages ≡ looked.Refused n = rw (none, neighbour_decides) at e in impossible (cc))
+    (λ none. let q : looked.absent pages ≡ Err n = rw (none, neighbour_decides) at e in impossible (cc))
     (λ some. either (page_good b (length key) (file_size b) q false true)
     (λ good. entry-refusal b key (pages + 1) q 0 n (rw (some, good, neighbour_decides) at e))
     (λ bad. looked-numbered 25 n (lit< tt, lit< tt) (rw (some, bad, neighbour_decides) at e)))
 
-first-refusal : (left : ℕ) (b key : List ℕ) (p : ℕ) → RefusalsNumbered looked.Refused (first_from left b key p)
+first-refusal : (left : ℕ) (b key : List ℕ) (p : ℕ) → RefusalsNumbered Err (first_from left b key p)
 unfolding first_from
 first-refusal zero b key p n e = looked-numbered 25 n (lit< tt, lit< tt) e
 first-refusal (suc left) b key p n e =
@@ -256,7 +258,7 @@ first-refusal (suc left) b key p n e =
     either (page_good b (length key) (file_size b) p (eqb (max_levels - left) 1) (eqb left 0))
     (λ good. either (eqb i (count_at b p))
     (λ past. either (eqb (max_levels - left) 1)
-    (λ root. let q : looked.Absent (max_levels - left) ≡ looked.Refused n = rw (good, past, root, first_from) at e in impossible (cc))
+    (λ root. let q : looked.absent (max_levels - left) ≡ Err n = rw (good, past, root, first_from) at e in impossible (cc))
     (λ lower. either (leaf_bit (attribute_at b p))
     (λ leaf. neighbour-refusal b key (max_levels - left) (right_at b p) n (rw (good, past, lower, leaf, first_from) at e))
     (λ above. first-refusal left b key (number_at b (length key) p (count_at b p - 1)) n (rw (good, past, lower, above, first_from) at e))))
@@ -265,28 +267,32 @@ first-refusal (suc left) b key p n e =
     (λ above. first-refusal left b key (number_at b (length key) p i) n (rw (good, here, above, first_from) at e))))
     (λ bad. looked-numbered 25 n (lit< tt, lit< tt) (rw (bad, first_from) at e))
 
-steps-refusal : (f : ℕ) (b key : List ℕ) → RefusalsNumbered looked.Refused (lookup_steps f b key)
+steps-refusal : (f : ℕ) (b key : List ℕ) → RefusalsNumbered Err (lookup_steps f b key)
 steps-refusal zero b key = first-refusal max_levels b key (root_offset b)
 steps-refusal (suc f) b key = from-refusal max_levels b key (root_offset b)
 
-lookup-refusal : (b key : List ℕ) → RefusalsNumbered looked.Refused (lookup_rule b key)
+lookup-refusal : (b key : List ℕ) → RefusalsNumbered Err (lookup_rule b key)
 unfolding lookup_rule
 lookup-refusal b key n e =
-    unless-cases looked.Refused (lookup_steps (features b) b key) Numbered ((header_good b, 24) ∷ (eqb (length key) (key_length b), 27) ∷ [])
+    unless-cases Err (lookup_steps (features b) b key) Numbered ((header_good b, 24) ∷ (eqb (length key) (key_length b), 27) ∷ [])
     ((λ bad. (lit< tt, lit< tt)), ((λ bad. (lit< tt, lit< tt)), tt))
     (λ held made. steps-refusal (features b) b key n (sym made ∙ e))
     (λ m small refused. looked-numbered m n small (sym refused ∙ e))
 
 abbrev pub IsFound : Answer → Type 0
-IsFound a = (r : RecordNumber) × (pages : ℕ) × (a ≡ looked.Found r pages)
+IsFound a = (r : RecordNumber) × (pages : ℕ) × (a ≡ looked.found r pages)
 
 abbrev pub IsAbsent : Answer → Type 0
-IsAbsent a = (pages : ℕ) × (a ≡ looked.Absent pages)
+IsAbsent a = (pages : ℕ) × (a ≡ looked.absent pages)
 
-lookup-case : (a : Answer) → RefusalsNumbered looked.Refused a → Case (lookup_code a) absent_code (IsFound a) (IsAbsent a)
-lookup-case (looked.Found r pages) small = accepted refl (r, pages, refl)
-lookup-case (looked.Absent pages) small = other refl (pages, refl)
-lookup-case (looked.Refused n) small = refused (small n refl)
+lookup-case : (a : Answer) → RefusalsNumbered Err a → Case (lookup_code a) absent_code (IsFound a) (IsAbsent a)
+lookup-case (Ok outcome) small = found-case outcome.found outcome.pages
+  where
+    found-case : (found : Option RecordNumber) (pages : ℕ) → let a = Ok (record { found = found; pages = pages }) in
+        Case (lookup_code a) absent_code (IsFound a) (IsAbsent a)
+    found-case (Some r) pages = accepted refl (r, pages, refl)
+    found-case None pages = other refl (pages, refl)
+lookup-case (Err n) small = refused (small n refl)
 
 pub lookup-told : (b key : List ℕ) → let a = lookup_rule b key in Told (lookup_code a) absent_code (IsFound a) (IsAbsent a)
 lookup-told b key =

@@ -17,7 +17,7 @@ use Rattle.idx_book.specs.Book.{Calls, FourBytes, change_answer, lookup_answer, 
 use Rattle.idx_book.proofs.BookLaws.{demand_3, demand_3_sound}
 use Rattle.idx_page.specs.Header.{key_length, features}
 use Rattle.idx_lookup.specs.Lookup.{lookup_rule, answer_pages}
-use Rattle.idx_lookup.specs.declared.Answer.{Answer as Looked}
+use Rattle.idx_lookup.specs.Answer.{Answer as Looked}
 use Rattle.idx_insert.specs.Calls.{insert_rule}
 use Rattle.idx_insert.specs.Fresh.{fresh_buffer, fresh_checks, fresh_rule}
 use Rattle.idx_remove.specs.Calls.{remove_rule}

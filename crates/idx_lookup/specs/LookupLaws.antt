@@ -1,5 +1,5 @@
 -- Laws: what a page's entries say in each case, and a step of lookup. Cited by the proofs of this crate's functions. Assumes nothing.
-use Rattle.std.specs.Prelude.{ℕ, zero, suc, ◌-◌, ◌≡◌, refl, true, false, List, length, eqb}
+use Rattle.std.specs.Prelude.{ℕ, zero, suc, ◌-◌, ◌≡◌, refl, true, false, List, length, eqb, Result}
 use Rattle.std.proofs.Math.Path.{sym}
 use Rattle.std.proofs.Common.{◌∙◌, arith, eq-eqb, ne_eqb}
 use Rattle.basis.specs.Tests.{contra}
@@ -10,6 +10,8 @@ use Rattle.idx_page.specs.Header.{max_levels, root_offset}
 use Rattle.idx_page.specs.Page.{attribute_at, count_at, leaf_bit, key_at, number_at, first_at_or_above}
 use Rattle.idx_lookup.specs.Lookup.{offset_of, record_of, entry_says, page_says, visit_rule, decided, lookup_from, lookup_steps}
 use Rattle.idx_lookup.specs.FirstRecord.{first_from}
+use Rattle.idx_page.specs.declared.PageOffset.{PageOffset}
+use Rattle.idx_lookup.specs.Answer.{and_then}
 use Rattle.idx_lookup.specs.declared.Visit.{Visit}
 use Rattle.idx_lookup.specs.declared.Visit.TheVariants as visit
 
@@ -45,15 +47,15 @@ module _ {b key : List ℕ} {p a n i : ℕ} (s : Searched b key p a n i) where
       unfolding entry_says
       says_other h = sym (says_entry ∙ simp (some, ← s.attribute, leaf, ← eo, h))
 
--- the visit w decides lookup, if at least one level is left
-pub lookup-step : (levels : ℕ) (b key : List ℕ) (p : ℕ) (v w : Visit) → (levels ≡ 0 → ⊥)
-    → v ≡ visit_rule b key p (eqb (max_levels - (levels - 1)) 1) (eqb (levels - 1) 0) → v ≡ w
-    → decided (lookup_from (levels - 1) b key) (max_levels - (levels - 1)) w ≡ lookup_from levels b key p
+-- the visit v decides lookup, if at least one level is left
+pub lookup-step : (levels : ℕ) (b key : List ℕ) (p : ℕ) (v : Result (Visit PageOffset) ℕ) → (levels ≡ 0 → ⊥)
+    → v ≡ visit_rule b key p (eqb (max_levels - (levels - 1)) 1) (eqb (levels - 1) 0)
+    → and_then v (decided (λ c. lookup_from (levels - 1) b key c.0) (max_levels - (levels - 1))) ≡ lookup_from levels b key p
 unfolding lookup_from
-lookup-step zero b key p v w h e q = absurd (h refl)
-lookup-step (suc left) b key p v w h e q =
+lookup-step zero b key p v h e = absurd (h refl)
+lookup-step (suc left) b key p v h e =
     let one_less : suc left - 1 ≡ left = omega arith in
-    rw (← q, e, one_less)
+    rw (e, one_less)
 
 -- the steps by the header's features
 module _ (b key : List ℕ) where

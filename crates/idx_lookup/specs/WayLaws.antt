@@ -1,6 +1,6 @@
 -- Laws: the cases of the way that a page gives a lookup for features 0, and a step of that lookup. Cited by the proofs of this crate's functions. Assumes
 -- nothing.
-use Rattle.std.specs.Prelude.{ℕ, zero, suc, ◌+◌, ◌-◌, ◌≤◌, ◌≡◌, refl, Bool, true, false, ◌&&◌, ◌||◌, not, List, length, eqb, leb}
+use Rattle.std.specs.Prelude.{ℕ, zero, suc, ◌+◌, ◌-◌, ◌≤◌, ◌≡◌, refl, Bool, true, false, ◌&&◌, ◌||◌, not, List, length, eqb, leb, Err, Ok, Result}
 use Rattle.std.proofs.Math.Path.{sym}
 use Rattle.std.proofs.Common.{ap, ◌∙◌, arith, eq-eqb, ne_eqb, eqb-true, leb-true}
 use Rattle.std.specs.Bool.{beq}
@@ -20,7 +20,7 @@ use Rattle.idx_lookup.specs.Ways.{entry_way, search_way, way_from, way_decides}
 use Rattle.idx_lookup.specs.LookupLaws.{Searched}
 use Rattle.idx_lookup.specs.declared.Way.{Way}
 use Rattle.idx_lookup.specs.declared.Way.TheVariants as way
-use Rattle.idx_lookup.specs.declared.Answer.TheVariants as answer
+use Rattle.idx_lookup.specs.Answer.{found, absent, and_then}
 
 -- a good page that is not the first has entries: only the root may have none
 pub page-some : (b : List ℕ) (k size p : ℕ) (last : Bool) → page_good b k size p false last ≡ true → 1 ≤ count_at b p
@@ -78,22 +78,22 @@ module _ {b key : List ℕ} {p a n i : ℕ} (s : Searched b key p a n i) (first 
 
 -- an entry decides
 module _ (b key : List ℕ) (pages p i : ℕ) {o : Ordering} (eo : o ≡ ordering (key_at b (length key) p i) key) where
-  pub decides_found : (m : ℕ) → is_equal o ≡ true → m ≡ number_at b (length key) p i → answer.Found (record_of m) pages ≡ entry_decides b key pages p i
+  pub decides_found : (m : ℕ) → is_equal o ≡ true → m ≡ number_at b (length key) p i → found (record_of m) pages ≡ entry_decides b key pages p i
   unfolding entry_decides
   decides_found m t e = rw (← eo, t, ← e)
 
-  pub decides_absent : is_equal o ≡ false → answer.Absent pages ≡ entry_decides b key pages p i
+  pub decides_absent : is_equal o ≡ false → absent pages ≡ entry_decides b key pages p i
   unfolding entry_decides
   decides_absent t = rw (← eo, t)
 
 -- the right neighbour decides
 module _ (b key : List ℕ) (pages q : ℕ) where
-  pub neighbour-none : q ≡ no_page → answer.Absent pages ≡ neighbour_decides b key pages q
+  pub neighbour-none : q ≡ no_page → absent pages ≡ neighbour_decides b key pages q
   unfolding neighbour_decides
   neighbour-none e = rw (eq-eqb q no_page e, neighbour_decides)
 
   module _ (ne : q ≡ no_page → ⊥) where
-    pub neighbour-bad : page_good b (length key) (file_size b) q false true ≡ false → answer.Refused 25 ≡ neighbour_decides b key pages q
+    pub neighbour-bad : page_good b (length key) (file_size b) q false true ≡ false → Err 25 ≡ neighbour_decides b key pages q
     unfolding neighbour_decides
     neighbour-bad t = rw (ne_eqb q no_page ne, t, neighbour_decides)
 
@@ -103,7 +103,8 @@ module _ (b key : List ℕ) (pages q : ℕ) where
 
 -- the way decides the lookup, if at least one level is left
 way_is : (left : ℕ) (b key : List ℕ) (p : ℕ) →
-    way_decides (first_from left b key) b key (max_levels - left) p (way_from b key p (eqb (max_levels - left) 1) (eqb left 0)) ≡ first_from (suc left) b key p
+    and_then (way_from b key p (eqb (max_levels - left) 1) (eqb left 0)) (way_decides (first_from left b key) b key (max_levels - left) p)
+    ≡ first_from (suc left) b key p
 unfolding way_from search_way entry_way first_from
 way_is left b key p =
     let i = first_at_or_above (key_at b (length key) p) key (count_at b p) 0 in
@@ -115,20 +116,17 @@ way_is left b key p =
     (λ c. either (leaf_bit (attribute_at b p)) (λ l. rw (g, c, l, way_from, first_from)) (λ l. rw (g, c, l, way_from, first_from))))
     (λ g. rw (g, way_from, first_from))
 
-pub first_step : (levels : ℕ) (b key : List ℕ) (p : ℕ) (v w : Way) → (levels ≡ 0 → ⊥)
-    → v ≡ way_from b key p (eqb (max_levels - (levels - 1)) 1) (eqb (levels - 1) 0) → v ≡ w
-    → way_decides (first_from (levels - 1) b key) b key (max_levels - (levels - 1)) p w ≡ first_from levels b key p
-first_step zero b key p v w h e q = absurd (h refl)
-first_step (suc left) b key p v w h e q =
+pub first_step : (levels : ℕ) (b key : List ℕ) (p : ℕ) (v : Result Way ℕ) → (levels ≡ 0 → ⊥)
+    → v ≡ way_from b key p (eqb (max_levels - (levels - 1)) 1) (eqb (levels - 1) 0)
+    → and_then v (way_decides (first_from (levels - 1) b key) b key (max_levels - (levels - 1)) p) ≡ first_from levels b key p
+first_step zero b key p v h e = absurd (h refl)
+first_step (suc left) b key p v h e =
     let one_less : suc left - 1 ≡ left = omega arith in
-    rw (← q, e, one_less) (way_is left b key p)
+    rw (e, one_less) (way_is left b key p)
 
 -- an entry that decides lies within its page
 entry_absent : {X : Type 0} {i : ℕ} → way.Entry i ≡ way.Absent → X
 entry_absent e = impossible (cc)
-
-entry-refused : {X : Type 0} {i : ℕ} → way.Entry i ≡ way.Refused → X
-entry-refused e = impossible (cc)
 
 entry-neighbour : {X : Type 0} {i : ℕ} {q : PageOffset} → way.Entry i ≡ way.Neighbour q → X
 entry-neighbour e = impossible (cc)
@@ -148,13 +146,14 @@ entry-some b key p first j i e = either (eqb j (count_at b p))
     (λ c. either (leaf_bit (attribute_at b p)) (λ l. (same-entry (rw (c, l) at e), c)) (λ l. entry-child (rw (c, l) at e)))
 
 pub way_within : (b key : List ℕ) (p i : ℕ) (first last : Bool) → length key ≤ max_key → file_size b ≤ length b
-    → way.Entry i ≡ way_from b key p first last → Within b (length key) p (i + 1)
+    → Ok (way.Entry i) ≡ way_from b key p first last → Within b (length key) p (i + 1)
 unfolding way_from search_way
 way_within b key p i first last short long e =
     let j = first_at_or_above (key_at b (length key) p) key (count_at b p) 0 in
     either (page_good b (length key) (file_size b) p first last)
     (λ g.
-    let t = entry-some b key p first j i (rw (g, way_from) at e) in
+    let q : ◌≡◌ {A = Result Way ℕ} (Ok (way.Entry i)) (Ok (entry_way b key p first j)) = rw (g, way_from) at e in
+    let t = entry-some b key p first j i (cc) in
     let bound = first_bound (key_at b (length key) p) key (count_at b p) 0 in
     within-entry i (within-page b (length key) (file_size b) p first last short long g) (omega (arith, t.0, eqb-false j (count_at b p) t.1, bound)))
-    (λ g. entry-refused (rw (g, way_from) at e))
+    (λ g. let q : ◌≡◌ {A = Result Way ℕ} (Ok (way.Entry i)) (Err 25) = rw (g, way_from) at e in impossible (cc))

@@ -32,8 +32,8 @@ use Rattle.idx_page.proofs.SearchLaws.{first_entry, seek-some, seek-none}
 use Rattle.idx_lookup.specs.LookupLaws.{steps-key}
 use Rattle.idx_lookup.specs.Lookup.{offset_of, record_of, entry_says, page_says, visit_rule, decided, lookup_from, lookup_rule}
 use Rattle.idx_lookup.specs.declared.Visit.TheVariants as visit
-use Rattle.idx_lookup.specs.declared.Answer.{Answer}
-use Rattle.idx_lookup.specs.declared.Answer.TheVariants as answer
+use Rattle.idx_lookup.specs.Answer.{Answer}
+use Rattle.idx_lookup.specs.Answer as answer
 use Rattle.idx_sound.specs.Sound.{Sound, index_tree, kept_by}
 use Rattle.idx_sound.specs.AuditTest.{Entries, attribute_of}
 use Rattle.idx_sound.proofs.RunLaws.{Fits}
@@ -44,8 +44,8 @@ use Rattle.idx_sound.proofs.IndexLaws.{sound-index}
 
 -- the answer by what was found and the pages visited
 abbrev pub answer_of : Option ℕ → ℕ → Answer
-answer_of none n = answer.Absent n
-answer_of (some r) n = answer.Found (record_of r) n
+answer_of none n = answer.absent n
+answer_of (some r) n = answer.found (record_of r) n
 
 -- the entry that a search gives is at or above the key, and has the property that all entries have
 pub seek-le : (key : List ℕ) (es : Entries) (e : List ℕ × ℕ) → seek bytes_order key es ≡ some e → bytes_le key e.0 ≡ true
@@ -254,12 +254,12 @@ module _ (b key : List ℕ) (s : Sound b) (e : length key ≡ key_length b) wher
     lookup-list = rw (← listed) (lookup-tree (ap (λ (n : ℕ). eqb n 0) one))
 
     -- Theorem: a key that is there is found after as many pages as there are levels
-    pub found-pages : (n : ℕ) → find bytes_order key (pairs h T) ≡ some n → lookup_rule b key ≡ answer.Found (record_of n) (h + 1)
+    pub found-pages : (n : ℕ) → find bytes_order key (pairs h T) ≡ some n → lookup_rule b key ≡ answer.found (record_of n) (h + 1)
     found-pages n f =
         let v = visited-found bytes_order key h T n (listed ∙ f) in
         let z : suc h ≡ h + 1 = omega arith in
         lookup-list ∙ rw (f, v, z)
 
     -- Theorem: a key that is not there is absent
-    pub absent-list : find bytes_order key (pairs h T) ≡ none → lookup_rule b key ≡ answer.Absent (length (visited bytes_order key h T))
+    pub absent-list : find bytes_order key (pairs h T) ≡ none → lookup_rule b key ≡ answer.absent (length (visited bytes_order key h T))
     absent-list f = lookup-list ∙ rw f

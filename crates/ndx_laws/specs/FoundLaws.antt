@@ -25,8 +25,8 @@ use Rattle.idx_page.specs.PageLaws.{first_bound}
 use Rattle.idx_page.specs.KeyOrder.{bytes_order}
 use Rattle.idx_page.specs.KeyOrderLaws.{equal-le}
 use Rattle.idx_lookup.specs.Lookup.{record_of}
-use Rattle.idx_lookup.specs.declared.Answer.{Answer}
-use Rattle.idx_lookup.specs.declared.Answer.TheVariants as answer
+use Rattle.idx_lookup.specs.Answer.{Answer}
+use Rattle.idx_lookup.specs.Answer as answer
 use Rattle.idx_lookup_laws.specs.FoundLaws.{answer_of}
 use Rattle.ndx_page.specs.Header.{max_levels, root_page, page_count, key_length, keys_per_page, is_page}
 use Rattle.ndx_page.specs.Page.{count_at, lower_at, record_at, key_at, is_leaf, count_good, page_good}
@@ -193,7 +193,7 @@ module _ (b key : List ℕ) (height : ℕ) where
         rw y at (descends h (suc j) left x.1 x.0 (omega arith) (omega arith) (seek-all (Along (suc h) (suc j)) (some key) (B p) x u.1 s))))
 
 -- the answers are not one another
-answer-none : (o : Option ℕ) (m n : ℕ) → answer_of o m ≡ answer.Absent n → o ≡ none
+answer-none : (o : Option ℕ) (m n : ℕ) → answer_of o m ≡ answer.absent n → o ≡ none
 answer-none none m n e = refl
 answer-none (some r) m n e = impossible (cc)
 
@@ -240,12 +240,12 @@ module _ (b key : List ℕ) (s : Sound b) (e : length key ≡ key_length b) wher
   lookup-list = lookup-tree ∙ rw (found_in, levels-visited)
 
   -- Theorem: a key that is there is found after as many pages as there are levels, and one that is not there is absent after as many
-  pub found-pages : (n : ℕ) → find bytes_order key (leaf_pairs b s.height) ≡ some n → lookup_rule b key ≡ answer.Found (record_of n) (s.height + 1)
+  pub found-pages : (n : ℕ) → find bytes_order key (leaf_pairs b s.height) ≡ some n → lookup_rule b key ≡ answer.found (record_of n) (s.height + 1)
   found-pages n f = lookup-list ∙ rw f
 
-  pub absent-pages : find bytes_order key (leaf_pairs b s.height) ≡ none → lookup_rule b key ≡ answer.Absent (s.height + 1)
+  pub absent-pages : find bytes_order key (leaf_pairs b s.height) ≡ none → lookup_rule b key ≡ answer.absent (s.height + 1)
   absent-pages f = lookup-list ∙ rw f
 
   -- "absent exactly when there is none"
-  pub absent-exactly : (n : ℕ) → lookup_rule b key ≡ answer.Absent n → find bytes_order key (leaf_pairs b s.height) ≡ none
+  pub absent-exactly : (n : ℕ) → lookup_rule b key ≡ answer.absent n → find bytes_order key (leaf_pairs b s.height) ≡ none
   absent-exactly n q = answer-none (find bytes_order key (leaf_pairs b h)) (h + 1) n (sym lookup-list ∙ q)

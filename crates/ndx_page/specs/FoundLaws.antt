@@ -13,8 +13,8 @@ use Rattle.idx_lookup.specs.Lookup as idx
 use Rattle.idx_lookup.specs.FoundLaws.{Pages, FoundIn, not_absent, not_child, not_refused, same_number, found-entry, decided-found, last-visited, found-checked}
 use Rattle.idx_lookup.specs.declared.Visit as idx-visit
 use Rattle.idx_lookup.specs.declared.Visit.TheVariants as told
-use Rattle.idx_lookup.specs.declared.Answer.{Answer}
-use Rattle.idx_lookup.specs.declared.Answer.TheVariants as answer
+use Rattle.idx_lookup.specs.Answer.{Answer}
+use Rattle.idx_lookup.specs.Answer as answer
 use Rattle.ndx_page.specs.Header.{max_levels, root_page, key_length, header_good}
 use Rattle.ndx_page.specs.Page.{count_at, record_at, key_at, is_leaf, page_good}
 use Rattle.ndx_page.specs.Lookup.{leaf_says, entry_says, page_says, visit_rule, decided, lookup_from, lookup_rule}
@@ -62,7 +62,7 @@ module _ (b key : List ℕ) (p n : ℕ) (visits : (1 ≤ n) × (n ≤ max_levels
       entry_found (first_at_or_above (key_at b p) key (count_at b p) 0) r g (omega arith) (rw (g, visit_rule) at e))
       (λ g. not_refused (rw (g, visit_rule) at e))
 
-from_found : (levels : ℕ) (b key : List ℕ) (p : ℕ) (r : RecordNumber) (n : ℕ) → levels ≤ max_levels → lookup_from levels b key p ≡ answer.Found r n
+from_found : (levels : ℕ) (b key : List ℕ) (p : ℕ) (r : RecordNumber) (n : ℕ) → levels ≤ max_levels → lookup_from levels b key p ≡ answer.found r n
     → FoundAt b key r n
 unfolding lookup_from
 from_found zero b key p r n l e = impossible (cc)
@@ -77,7 +77,7 @@ from_found (suc left) b key p r n l e =
 
 -- Theorem: a key that lookup finds after n pages is the key of an entry in the n-th page visited, a leaf that passes lookup's checks, and the record is the
 -- entry's
-pub found_is_equal : (b key : List ℕ) (r : RecordNumber) (n : ℕ) → lookup_rule b key ≡ answer.Found r n → FoundAt b key r n
+pub found_is_equal : (b key : List ℕ) (r : RecordNumber) (n : ℕ) → lookup_rule b key ≡ answer.found r n → FoundAt b key r n
 unfolding lookup_rule unless
 found_is_equal b key r n e =
     from_found max_levels b key (root_page b) r n (omega arith) (found-checked (header_good b) (eqb (length key) (key_length b)) e)

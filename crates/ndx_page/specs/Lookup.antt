@@ -1,11 +1,11 @@
 -- Rules: lookup in an NDX index: "Answers as for IDX, refusals 24, 27 and 25 in its order". Cited by the contract of lookup and by the laws of sound indexes.
-use Rattle.std.specs.Prelude.{ℕ, zero, suc, ◌-◌, Bool, true, false, cond, List, [], ◌∷◌, length, eqb}
+use Rattle.std.specs.Prelude.{ℕ, zero, suc, ◌-◌, Bool, true, false, cond, List, [], ◌∷◌, length, eqb, Err}
 use Rattle.refusal.specs.Checks.{unless}
 use Rattle.octets.specs.Order.{ordering, is_equal}
 use Rattle.idx_page.specs.Page.{first_at_or_above}
 use Rattle.idx_lookup.specs.Lookup.{record_of}
-use Rattle.idx_lookup.specs.declared.Answer.{Answer}
-use Rattle.idx_lookup.specs.declared.Answer.TheVariants as answer
+use Rattle.idx_lookup.specs.Answer.{Answer}
+use Rattle.idx_lookup.specs.Answer as answer
 use Rattle.ndx_page.specs.Header.{max_levels, root_page, key_length, header_good}
 use Rattle.ndx_page.specs.Page.{count_at, lower_at, record_at, key_at, is_leaf, page_good}
 use Rattle.ndx_page.specs.declared.PageNumber.{PageNumber}
@@ -36,19 +36,19 @@ visit_rule b key p first last = elim (page_good b p first last) [ true ↦ page_
 
 -- what a visit decides after `pages` pages; `go` is lookup from a child on
 abbrev pub decided : (ℕ → Answer) → ℕ → Visit → Answer
-decided go pages visit.Refused = answer.Refused 25
-decided go pages visit.Absent = answer.Absent pages
-decided go pages (visit.Found r) = answer.Found r pages
+decided go pages visit.Refused = Err 25
+decided go pages visit.Absent = answer.absent pages
+decided go pages (visit.Found r) = answer.found r pages
 decided go pages (visit.Child c) = go c.0
 
 -- lookup "goes down level by level": from page p on, with a number of levels left, falling from 15; the page that is visited with all levels left is the
 -- first, and the page with none left under it is the 15th
 unfoldable pub lookup_from : ℕ → List ℕ → List ℕ → ℕ → Answer
-lookup_from zero b key p = answer.Refused 25
+lookup_from zero b key p = Err 25
 lookup_from (suc left) b key p =
     decided (lookup_from left b key) (max_levels - left) (visit_rule b key p (eqb (max_levels - left) 1) (eqb left 0))
 
 -- the answer: "24, 27", then the steps from the root with 15 levels left
 unfoldable pub lookup_rule : List ℕ → List ℕ → Answer
 lookup_rule b key =
-    unless ((header_good b, 24) ∷ (eqb (length key) (key_length b), 27) ∷ []) answer.Refused (lookup_from max_levels b key (root_page b))
+    unless ((header_good b, 24) ∷ (eqb (length key) (key_length b), 27) ∷ []) Err (lookup_from max_levels b key (root_page b))

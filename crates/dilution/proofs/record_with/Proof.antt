@@ -1,7 +1,7 @@
 -- `dilution::record_with` meets its contract: the cases of lookup's answer. Assumes nothing.
 use mathlib.Core.Path.{sym, ap, ◌∙◌}
 use Rattle.idx_lookup.specs.Lookup.{answer_record}
-use Rattle.idx_lookup.specs.declared.Answer.{Answer}
+use Rattle.idx_lookup.specs.Answer.{Answer}
 use Rattle.dilution.specs.Dilution.{record_with}
 use borrow.Author.Rules.{rules}
 use Rattle.dilution.proofs.record_with.Statement.{statement}
