@@ -1,5 +1,5 @@
 -- Laws: the answers of a lookup are not one another, and two that are the same hold the same. Assumes nothing.
-use Rattle.std.specs.Prelude.{ℕ, ◌≡◌, Ok, Err, Some, None, Option}
+use Rattle.std.specs.Prelude.{ℕ, ◌≡◌, Ok, Err, Some, None}
 use Rattle.std.proofs.Common.{ap}
 use Rattle.basis.specs.Tests.{impossible}
 use Rattle.idx_page.specs.declared.RecordNumber.{RecordNumber}

@@ -22,7 +22,7 @@ use Rattle.idx_lookup.specs.FirstRecord.{record_of, entry_decides, neighbour_dec
 use Rattle.idx_lookup.specs.Lookup.{lookup_rule}
 use Rattle.idx_lookup.specs.LookupLaws.{steps_record}
 use Rattle.idx_lookup.specs.WayLaws.{page-some}
-use Rattle.idx_lookup.specs.Answer.{found, absent}
+use Rattle.idx_lookup.specs.Answer.{found}
 use Rattle.idx_lookup.specs.AnswerLaws.{same-record, same-pages, absent-found}
 
 -- an entry with the key and the record number r, in a leaf that is the n-th page visited, from the 1st to the 12th. The leaf passes lookup's checks; `last`

@@ -10,13 +10,12 @@ use Rattle.idx_page.specs.Header.{max_levels, root_offset, file_size, key_length
 use Rattle.idx_page.specs.Page.{attribute_at, count_at, leaf_bit, key_at, number_at, page_good, first_at_or_above}
 use Rattle.idx_page.specs.PageLaws.{first_bound}
 use Rattle.idx_page.specs.KeyOrderLaws.{equal-same}
-use Rattle.idx_page.specs.declared.PageOffset.{PageOffset}
 use Rattle.idx_page.specs.declared.RecordNumber.{RecordNumber}
 use Rattle.idx_lookup.specs.Lookup.{record_of, entry_says, page_says, visit_rule, decided, lookup_from, lookup_rule}
 use Rattle.idx_lookup.specs.LookupLaws.{steps-key}
 use Rattle.idx_lookup.specs.declared.Visit.{Visit}
 use Rattle.idx_lookup.specs.declared.Visit.TheVariants as visit
-use Rattle.idx_lookup.specs.Answer.{Answer, found, absent, and_then}
+use Rattle.idx_lookup.specs.Answer.{Answer, found, and_then}
 use Rattle.idx_lookup.specs.AnswerLaws.{same-record, same-pages, absent-found}
 
 -- what a lookup reads of a page: whether it passes its checks, as the first page visited or not and as the last that may be or not; whether it is a leaf; its

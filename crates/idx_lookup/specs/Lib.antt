@@ -8,10 +8,12 @@ pub mod Lookup
 pub mod Ways
 -- Laws: answers are not one another
 pub mod AnswerLaws
--- Laws: what a page says in each case, and a step of lookup
+-- Laws: a step of lookup, and the steps by the header's features
 pub mod LookupLaws
 -- Laws: the same of a lookup for features 0
 pub mod WayLaws
+-- Laws: what a good header and a key of its length give a search
+pub mod SearchLaws
 -- Laws: a found key is an equal one in a leaf, on any bytes
 pub mod FoundLaws
 -- Laws: the same for features 0

@@ -1,26 +1,21 @@
--- Laws: the cases of the way that a page gives a lookup for features 0, and a step of that lookup. Cited by the proofs of this crate's functions. Assumes
--- nothing.
-use Rattle.std.specs.Prelude.{ℕ, zero, suc, ◌+◌, ◌-◌, ◌≤◌, ◌≡◌, refl, Bool, true, false, ◌&&◌, ◌||◌, not, List, length, eqb, leb, Err, Ok, Result}
-use Rattle.std.proofs.Math.Path.{sym}
-use Rattle.std.proofs.Common.{ap, ◌∙◌, arith, eq-eqb, ne_eqb, eqb-true, leb-true}
+-- Laws: the right neighbour of a leaf, and a step of a lookup for features 0. Cited by the proofs of this crate's functions. Assumes nothing.
+use Rattle.std.specs.Prelude.{ℕ, suc, ◌+◌, ◌-◌, ◌≤◌, ◌<◌, ◌≡◌, refl, Bool, true, false, ◌&&◌, ◌||◌, not, List, length, eqb, leb, Err, Ok, Result}
+use Rattle.std.proofs.Common.{◌∙◌, arith, eq-eqb, ne_eqb, eqb-true, leb-true}
 use Rattle.std.specs.Bool.{beq}
 use Rattle.std.proofs.lemmas.Bool.{eqb-false}
 use Rattle.basis.specs.Tests.{either, both, contra, impossible}
-use Rattle.std.specs.declared.cmp.Ordering.{Ordering}
-use Rattle.std.specs.declared.cmp.Ordering.TheVariants.{Less, Equal, Greater}
-use Rattle.octets.specs.Order.{ordering, is_equal}
 use Rattle.idx_page.specs.Header.{max_levels, max_key, no_page, file_size, is_page}
-use Rattle.idx_page.specs.Page.{attribute_at, count_at, right_at, root_bit, leaf_bit, capacity, key_at, number_at, attribute_good, count_good, page_good}
+use Rattle.idx_page.specs.Page.{attribute_at, count_at, root_bit, leaf_bit, capacity, key_at, attribute_good, count_good, page_good}
 use Rattle.idx_page.specs.Page.{first_at_or_above}
 use Rattle.idx_page.specs.PageLaws.{first_bound, within-page, within-entry}
 use Rattle.idx_page.specs.Within.{Within}
 use Rattle.idx_page.specs.declared.PageOffset.{PageOffset}
-use Rattle.idx_lookup.specs.FirstRecord.{offset_of, record_of, entry_decides, neighbour_decides, first_from}
+use Rattle.idx_lookup.specs.FirstRecord.{entry_decides, neighbour_decides, first_from}
 use Rattle.idx_lookup.specs.Ways.{entry_way, search_way, way_from, way_decides}
-use Rattle.idx_lookup.specs.LookupLaws.{Searched}
+use Rattle.idx_lookup.specs.LookupLaws.{last-level}
 use Rattle.idx_lookup.specs.declared.Way.{Way}
 use Rattle.idx_lookup.specs.declared.Way.TheVariants as way
-use Rattle.idx_lookup.specs.Answer.{found, absent, and_then}
+use Rattle.idx_lookup.specs.Answer.{Answer, absent, and_then}
 
 -- a good page that is not the first has entries: only the root may have none
 pub page-some : (b : List ℕ) (k size p : ℕ) (last : Bool) → page_good b k size p false last ≡ true → 1 ≤ count_at b p
@@ -39,69 +34,22 @@ page-some b k size p last t =
     (λ v. let three : a ≡ 3 = eqb-true a 3 v in contra (rw three at root) refl)
     (λ v. contra (rw (u, v) at count) refl))
 
-pub page-some_by : (b : List ℕ) (k size p : ℕ) (first last : Bool) → page_good b k size p first last ≡ true → first ≡ false → 1 ≤ count_at b p
-page-some_by b k size p first last t e = page-some b k size p last (sym (ap (λ (f : Bool). page_good b k size p f last) e) ∙ t)
-
--- the way past a search
-module _ {b key : List ℕ} {p a n i : ℕ} (s : Searched b key p a n i) (first : Bool) where
-  way_entry : search_way b key p first ≡ entry_way b key p first i
-  unfolding search_way
-  way_entry = rw (← s.count, ← s.first)
-
-  module _ (none : i ≡ n) where
-    test : eqb i (count_at b p) ≡ true
-    test = eq-eqb i (count_at b p) (none ∙ s.count)
-
-    pub way_absent : first ≡ true → way.Absent ≡ search_way b key p first
-    unfolding entry_way
-    way_absent f = sym (way_entry ∙ simp (test, f))
-
-    pub way_neighbour : first ≡ false → leaf_bit a ≡ true → (q : ℕ) → q ≡ right_at b p → way.Neighbour (offset_of q) ≡ search_way b key p first
-    unfolding entry_way
-    way_neighbour f l q e = sym (way_entry ∙ simp (test, f, ← s.attribute, l, ← e))
-
-    pub way_last : first ≡ false → leaf_bit a ≡ false → (m : ℕ) → m ≡ number_at b (length key) p (n - 1) → way.Child (offset_of m) ≡ search_way b key p first
-    unfolding entry_way
-    way_last f l m e = sym (way_entry ∙ simp (test, f, ← s.attribute, l, ← s.count, ← e))
-
-  module _ (some : i ≡ n → ⊥) where
-    other : eqb i (count_at b p) ≡ false
-    other = ne_eqb i (count_at b p) (λ q. some (q ∙ sym s.count))
-
-    pub way-decides : leaf_bit a ≡ true → way.Entry i ≡ search_way b key p first
-    unfolding entry_way
-    way-decides l = sym (way_entry ∙ simp (other, ← s.attribute, l))
-
-    pub way_child : leaf_bit a ≡ false → (m : ℕ) → m ≡ number_at b (length key) p i → way.Child (offset_of m) ≡ search_way b key p first
-    unfolding entry_way
-    way_child l m e = sym (way_entry ∙ simp (other, ← s.attribute, l, ← e))
-
--- an entry decides
-module _ (b key : List ℕ) (pages p i : ℕ) {o : Ordering} (eo : o ≡ ordering (key_at b (length key) p i) key) where
-  pub decides_found : (m : ℕ) → is_equal o ≡ true → m ≡ number_at b (length key) p i → found (record_of m) pages ≡ entry_decides b key pages p i
-  unfolding entry_decides
-  decides_found m t e = rw (← eo, t, ← e)
-
-  pub decides_absent : is_equal o ≡ false → absent pages ≡ entry_decides b key pages p i
-  unfolding entry_decides
-  decides_absent t = rw (← eo, t)
-
 -- the right neighbour decides
 module _ (b key : List ℕ) (pages q : ℕ) where
-  pub neighbour-none : q ≡ no_page → absent pages ≡ neighbour_decides b key pages q
+  pub neighbour_none : q ≡ no_page → absent pages ≡ neighbour_decides b key pages q
   unfolding neighbour_decides
-  neighbour-none e = rw (eq-eqb q no_page e, neighbour_decides)
+  neighbour_none e = rw (eq-eqb q no_page e, neighbour_decides)
 
   module _ (ne : q ≡ no_page → ⊥) where
-    pub neighbour-bad : page_good b (length key) (file_size b) q false true ≡ false → Err 25 ≡ neighbour_decides b key pages q
+    pub neighbour_bad : page_good b (length key) (file_size b) q false true ≡ false → Err 25 ≡ neighbour_decides b key pages q
     unfolding neighbour_decides
-    neighbour-bad t = rw (ne_eqb q no_page ne, t, neighbour_decides)
+    neighbour_bad t = rw (ne_eqb q no_page ne, t, neighbour_decides)
 
-    pub neighbour-good : page_good b (length key) (file_size b) q false true ≡ true → entry_decides b key (pages + 1) q 0 ≡ neighbour_decides b key pages q
+    pub neighbour_good : page_good b (length key) (file_size b) q false true ≡ true → entry_decides b key (pages + 1) q 0 ≡ neighbour_decides b key pages q
     unfolding neighbour_decides
-    neighbour-good t = rw (ne_eqb q no_page ne, t, neighbour_decides)
+    neighbour_good t = rw (ne_eqb q no_page ne, t, neighbour_decides)
 
--- the way decides the lookup, if at least one level is left
+-- the way decides the lookup
 way_is : (left : ℕ) (b key : List ℕ) (p : ℕ) →
     and_then (way_from b key p (eqb (max_levels - left) 1) (eqb left 0)) (way_decides (first_from left b key) b key (max_levels - left) p)
     ≡ first_from (suc left) b key p
@@ -116,13 +64,19 @@ way_is left b key p =
     (λ c. either (leaf_bit (attribute_at b p)) (λ l. rw (g, c, l, way_from, first_from)) (λ l. rw (g, c, l, way_from, first_from))))
     (λ g. rw (g, way_from, first_from))
 
-pub first_step : (levels : ℕ) (b key : List ℕ) (p : ℕ) (v : Result Way ℕ) → (levels ≡ 0 → ⊥)
-    → v ≡ way_from b key p (eqb (max_levels - (levels - 1)) 1) (eqb (levels - 1) 0)
-    → and_then v (way_decides (first_from (levels - 1) b key) b key (max_levels - (levels - 1)) p) ≡ first_from levels b key p
-first_step zero b key p v h e = absurd (h refl)
-first_step (suc left) b key p v h e =
-    let one_less : suc left - 1 ≡ left = omega arith in
-    rw (e, one_less) (way_is left b key p)
+-- a page's way v decides lookup after so many levels
+pub first_step : (b key : List ℕ) (p level : ℕ) (v : Result Way ℕ) (answer : Answer) → level < max_levels
+    → v ≡ way_from b key p (eqb (level + 1) 1) (eqb (level + 1) max_levels) → first_from (max_levels - level) b key p ≡ answer
+    → and_then v (way_decides (first_from (max_levels - (level + 1)) b key) b key (level + 1) p) ≡ answer
+first_step b key p level v answer l e reached =
+    let left : max_levels - level ≡ suc (max_levels - (level + 1)) = omega arith in
+    let count : max_levels - (max_levels - (level + 1)) ≡ level + 1 = omega arith in
+    rw (e, ← last-level level l) (rw count at (way_is (max_levels - (level + 1)) b key p ∙ rw left at reached))
+
+-- no level is left
+pub first_end : (b key : List ℕ) (p level : ℕ) (answer : Answer) → max_levels ≤ level → first_from (max_levels - level) b key p ≡ answer → Err 25 ≡ answer
+unfolding first_from
+first_end b key p level answer l reached = let none : max_levels - level ≡ 0 = omega arith in rw none at reached
 
 -- an entry that decides lies within its page
 entry_absent : {X : Type 0} {i : ℕ} → way.Entry i ≡ way.Absent → X
