@@ -1,6 +1,6 @@
 -- Laws: the reader's states end in what the text means (`scan_means`). Each law `..-means` says, by the rules of Reading.antt, what a text means whose
 -- rest s the reader has yet to take from a state. Assumes nothing.
-use Rattle.std.specs.Prelude.{◌≡◌, Bool, ◌&&◌, not, eqb, ltb, length, get_or, drop, Err, None, Ok, Some}
+use Rattle.std.specs.Prelude.{◌≡◌, Bool, ◌&&◌, not, eqb, ltb, length, get_or, drop, fold, Err, None, Ok, Some}
 use Prim.Native.Nat.{ℕ, zero, suc, ◌+◌, ◌*◌, ◌-◌, ◌^◌, ◌≤◌, ◌<◌, min}
 use Rattle.std.proofs.Math.Path.{refl, sym}
 use Rattle.std.proofs.Common.{ap, ◌∙◌, add-one, arith, drop_of_length-le, drop-cons}
@@ -52,6 +52,12 @@ step_in_lem r c e = ap (λ q. step_in q r c) e
 scan-to : {q : Reader} (r : Reader) (c : ℕ) (s : List ℕ) → step r c ≡ q → scan r (c ∷ s) ≡ scan q s
 unfolding scan
 scan-to r c s e = rw e
+
+-- the characters taken one after another
+pub scan_fold : (r : Reader) (s : List ℕ) → scan r s ≡ fold step r s
+unfolding scan
+scan_fold r [] = refl
+scan_fold r (c ∷ s) = scan_fold (step r c) s
 
 -- a comma ends in 16, whatever comes before and after it
 comma-taken : (p : Phase) (r : Reader) → (step_in p r comma).phase ≡ phase.Comma
