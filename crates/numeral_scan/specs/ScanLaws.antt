@@ -1,9 +1,9 @@
 -- Laws: the reader's states end in what the text means (`scan_means`). Each law `..-means` says, by the rules of Reading.antt, what a text means whose
 -- rest s the reader has yet to take from a state. Assumes nothing.
-use Rattle.std.specs.Prelude.{◌≡◌, Bool, ◌&&◌, not, eqb, ltb, length, get_or, drop, fold, Err, None, Ok, Some}
-use Prim.Native.Nat.{ℕ, zero, suc, ◌+◌, ◌*◌, ◌-◌, ◌^◌, ◌≤◌, ◌<◌, min}
+use Rattle.std.specs.Prelude.{◌≡◌, Bool, ◌&&◌, not, eqb, ltb, length, fold, Err, None, Ok, Some}
+use Prim.Native.Nat.{ℕ, zero, suc, ◌+◌, ◌*◌, ◌-◌, ◌^◌, min}
 use Rattle.std.proofs.Math.Path.{refl, sym}
-use Rattle.std.proofs.Common.{ap, ◌∙◌, add-one, arith, drop_of_length-le, drop-cons}
+use Rattle.std.proofs.Common.{ap, ◌∙◌, arith}
 use Rattle.std.proofs.Math.Bool.{true, false, and-false}
 use mathlib.Core.List.{List, [], ◌∷◌}
 use Rattle.std.proofs.Math.Dec.{leb, eqb-suc-zero, eqb-zero-suc, eqb-suc-suc}
@@ -247,6 +247,13 @@ module _ (d : ℕ) where
       let parts = both (eqb blank c) (every (eqb blank) s) e in
       rw (scan-blank c s parts.0) (blanks_mean s parts.1)
 
+  pub scan_unpadded : (s : List ℕ) → scan (initial d) (unpadded s) ≡ scan (initial d) s
+  unfolding scan unpadded
+  scan_unpadded [] = refl
+  scan_unpadded (c ∷ s) = either (eqb blank c)
+      (λ e. rw (scan-blank c s e, e) (scan_unpadded s))
+      (λ e. rw e)
+
   text_means : (s : List ℕ) → every (eqb blank) s ≡ false → some (eqb comma) s ≡ false
       → meaning (scan (initial d) s) ≡ meant (has_minus (unpadded s)) (without_minus (unpadded s))
   unfolding every unpadded
@@ -274,12 +281,6 @@ scan_means s d e = either (every (eqb blank) s)
     (λ g. rw (e, f, g)
     (text_means d s f g ∙ settled_is _ _ _ (digit_count s) (count-number d (without_minus (unpadded s)) (format-decimals (length s) d e)))))
 
--- the characters are taken one after another, from the first on
-module _ (r : Reader) (s : List ℕ) (i : ℕ) where
-  pub scan-next : i < length s → scan r (drop i s) ≡ scan (step r (get_or s i 0)) (drop (i + 1) s)
-  unfolding scan
-  scan-next h = rw (drop-cons s i 0 h, add-one)
-
-  pub scan-end : length s ≤ i → scan r (drop i s) ≡ r
-  unfolding scan
-  scan-end h = rw (drop_of_length-le s h)
+-- the same from the first character on that is no blank
+pub shown_means : (s shown : List ℕ) (d : ℕ) → format_good (length s) d ≡ true → shown ≡ unpadded s → meaning (scan (initial d) shown) ≡ read_number s d
+shown_means s shown d good e = rw (e, scan_unpadded) (scan_means s d good)
