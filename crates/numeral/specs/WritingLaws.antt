@@ -37,17 +37,16 @@ pub length-fraction : (d n : ℕ) → 1 ≤ d → length (fraction_text d n) ≡
 length-fraction d n h = rw (fraction-some d n h, length-last_digits) (omega arith)
 
 -- ---- a turn of the digits' loop, from the right
-pub put_digit : (b : List ℕ) (at count n i : ℕ) → 0 < i → i ≤ count
-    → set (put b (at + i) (last_digits (count - i) n)) (at + (i - 1)) (zero_digit + n / 10 ^ (count - i) % 10)
-    ≡ put b (at + (i - 1)) (last_digits (count - (i - 1)) n)
-put_digit b at count n i h l =
-    let e : count - (i - 1) ≡ suc (count - i) = omega arith in
-    let f : at + i ≡ at + (i - 1) + 1 = omega arith in
-    rw (e, last_digits-front, put_cons, f)
+pub put_digit : (b : List ℕ) (end n i : ℕ) → 0 < i → i ≤ end
+    → set (put b i (last_digits (end - i) n)) (i - 1) (zero_digit + n / 10 ^ (end - i) % 10) ≡ put b (i - 1) (last_digits (end - (i - 1)) n)
+put_digit b end n i h l =
+    let e : end - (i - 1) ≡ suc (end - i) = omega arith in
+    let f : i ≡ i - 1 + 1 = omega arith in
+    rw (e, last_digits-front, put_cons, ← f)
 
-pub rest_digit : (count n i : ℕ) → 0 < i → i ≤ count → n / 10 ^ (count - i) / 10 ≡ n / 10 ^ (count - (i - 1))
-rest_digit count n i h l =
-    let e : count - (i - 1) ≡ suc (count - i) = omega arith in
+pub rest_digit : (end n i : ℕ) → 0 < i → i ≤ end → n / 10 ^ (end - i) / 10 ≡ n / 10 ^ (end - (i - 1))
+rest_digit end n i h l =
+    let e : end - (i - 1) ≡ suc (end - i) = omega arith in
     rw (e, pow-suc, div-div-eq-div-mul)
 
 -- ---- the written text, stored part after part from the right
