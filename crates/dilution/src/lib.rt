@@ -15,10 +15,11 @@ ghost use Rattle.dilution.specs.Dilution.{max_target, max_final, sample_of, volu
 ghost use Rattle.dilution.specs.Dilution.{distinct_index, header_checks, field_checks, sheet_checks, record_with};
 ghost use Rattle.dilution.specs.Dilution.{dilution_of, record_dilution, dilute_rule, Dilutable};
 
+use dbf_table::FieldType;
 use refusal::Refusal;
 
 // The decimals of a concentration's field.
-const DECIMALS: u32 = 3;
+const DECIMALS: u8 = 3;
 
 const MAX_TARGET: u64 = 1000000000;
 
@@ -37,10 +38,11 @@ fn check_field(table: &[u8], field: u32) -> Result<(), Refusal>
     ensures { change_code (numbered result) ≡ first_refusal (field_checks table.now field) }
 {
     let entry = dbf_field::field_entry(table, field)?;
-    if (entry.kind as u32 == dbf_table::TYPE_N) & (entry.decimals as u32 == DECIMALS) {
-        return Ok(());
+    if entry.kind == FieldType::Number.letter() && entry.decimals == DECIMALS {
+        Ok(())
+    } else {
+        Err(Refusal::FieldType)
     }
-    Err(Refusal::FieldType)
 }
 
 // Whether an index has a good header that says one record to a key.
@@ -76,7 +78,7 @@ pub fn check_sheet(
 fn in_range(target: u64, final_volume: u64) -> bool
     ensures { result ≡ in_range target final_volume }
 {
-    (1 <= target) & (target <= MAX_TARGET) & (1 <= final_volume) & (final_volume <= MAX_FINAL)
+    (1..=MAX_TARGET).contains(&target) && (1..=MAX_FINAL).contains(&final_volume)
 }
 
 // The sample's volume: target × final ÷ concentration to the nearest tenth, halves up. Nothing overflows, whatever the concentration: target × final is at most
@@ -126,17 +128,14 @@ fn dilution_of(concentration: u64, target: u64, final_volume: u64) -> Result<Vol
 fn amount_of(value: i64) -> u64
     ensures { result ≡ amount_of value }
 {
-    if value < 0 { 0 } else { value as u64 }
+    value.max(0) as u64
 }
 
 // The concentration that a text says, 0 for none.
 fn concentration_of(text: Option<i64>) -> u64
     ensures { result ≡ concentration_of (Ok text) }
 {
-    match text {
-        Some(value) => amount_of(value),
-        None => 0,
-    }
+    text.map_or(0, amount_of)
 }
 
 // The dilution of record `number`, from 1, of a table that was checked: 15, 35, 16 to 18, 36, 37, 38, or the volumes.
@@ -167,8 +166,8 @@ fn record_with(index: &[u8], barcode: &[u8]) -> u32
     ensures { result ≡ record_with index.now barcode.now }
 {
     match idx_lookup::lookup_from_root(index, barcode) {
-        Ok(Lookup { record: Some(number), .. }) => number.0,
-        _ => 0,
+        Ok(outcome) => outcome.found.map_or(0, |number| number.0),
+        Err(_) => 0,
     }
 }
 
