@@ -1,5 +1,5 @@
 -- Laws: the text of a D field: its cases, its three parts, one text for a day and one day for an accepted text. Assumes nothing.
-use Rattle.std.specs.Prelude.{Err, None, Ok, ℕ, ◌^◌, ◌≤◌, ◌<◌, ◌≡◌, refl, ◌↔◌, Bool, true, false, ◌&&◌, length, take, drop, replicate, leb, eqb, Some, Option}
+use Rattle.std.specs.Prelude.{Err, None, Ok, ℕ, ◌^◌, ◌≤◌, ◌<◌, ◌≡◌, refl, ◌↔◌, Bool, true, false, ◌&&◌, length, take, drop, replicate, leb, eqb, Some, Option, Result}
 use Rattle.std.proofs.Math.Nat.{pow-le-pow_right}
 use Rattle.std.proofs.Common.{arith, sym, ap, ◌∙◌, length-append, length-take, length-drop, take_all, take-add, drop-drop, length-take-le, take_at, lit<, leb-true, le-leb, eqb-true, ne_eqb}
 use mathlib.Core.List.{List, ◌++◌, append_assoc}
@@ -94,6 +94,10 @@ part_bound w s n is =
     omega (arith, number_bound (take w s) all, pow-le-pow_right {n = 10} (lit< tt) {i = length (take w s)} {j = w} few))
     (λ other. impossible (cc (digits-unread (take w s) other)))
 
+-- one read from at most four bytes is a year's at most
+pub part_small : (s : List ℕ) (n : ℕ) → digits_of s ≡ Some n → length s ≤ 4 → n ≤ max_year
+part_small s n is few = let below = part_bound 4 s n (rw (take_all 4 s few) is) in omega arith
+
 -- the answer by what each part reads as
 abbrev pub of_parts : Option ℕ → Option ℕ → Option ℕ → DateAnswer
 of_parts (Some y) (Some m) (Some d) = date_of_numbers y m d
@@ -113,6 +117,48 @@ by_parts text eight nonblank =
     (λ d. other (all ∙ rw (y, m, d)) ∙ rw (digits-read _ y, digits-read _ m, digits-unread _ d)))
     (λ m. other (all ∙ rw (y, m)) ∙ rw (digits-read _ y, digits-unread _ m)))
     (λ y. other (all ∙ rw y) ∙ rw (digits-unread _ y))
+
+-- a part as it is read: its number, or the refusal
+abbrev pub part_of : Option ℕ → Result ℕ ℕ
+part_of (Some n) = Ok n
+part_of None = Err bad_date_text
+
+of_bad_year : (y m d : Option ℕ) (n : ℕ) → Err n ≡ part_of y → Err n ≡ of_parts y m d
+of_bad_year (Some y) m d n e = impossible (cc)
+of_bad_year None m d n e = let same : n ≡ bad_date_text = cc in rw same
+
+of_bad_month : (y m d : Option ℕ) (a n : ℕ) → Ok a ≡ part_of y → Err n ≡ part_of m → Err n ≡ of_parts y m d
+of_bad_month (Some y) (Some m) d a n h e = impossible (cc)
+of_bad_month (Some y) None d a n h e = let same : n ≡ bad_date_text = cc in rw same
+of_bad_month None m d a n h e = impossible (cc)
+
+of_bad_day : (y m d : Option ℕ) (a b n : ℕ) → Ok a ≡ part_of y → Ok b ≡ part_of m → Err n ≡ part_of d → Err n ≡ of_parts y m d
+of_bad_day (Some y) (Some m) (Some d) a b n h l e = impossible (cc)
+of_bad_day (Some y) (Some m) None a b n h l e = let same : n ≡ bad_date_text = cc in rw same
+of_bad_day (Some y) None d a b n h l e = impossible (cc)
+of_bad_day None m d a b n h l e = impossible (cc)
+
+of_numbers : (y m d : Option ℕ) (a b c : ℕ) → Ok a ≡ part_of y → Ok b ≡ part_of m → Ok c ≡ part_of d → date_of_numbers a b c ≡ of_parts y m d
+of_numbers (Some y) (Some m) (Some d) a b c h l e = let p : a ≡ y = cc in let q : b ≡ m = cc in let r : c ≡ d = cc in rw (p, q, r)
+of_numbers (Some y) (Some m) None a b c h l e = impossible (cc)
+of_numbers (Some y) None d a b c h l e = impossible (cc)
+of_numbers None m d a b c h l e = impossible (cc)
+
+-- the answer for a text that is read part after part
+module _ (text : List ℕ) (eight : length text ≡ 8) (nonblank : every (eqb blank) text ≡ false) where
+  pub bad_year : (n : ℕ) → Err n ≡ part_of (digits_of (year_part text)) → Err n ≡ date_of text
+  bad_year n e = of_bad_year _ _ _ n e ∙ sym (by_parts text eight nonblank)
+
+  module _ (a : ℕ) (year : Ok a ≡ part_of (digits_of (year_part text))) where
+    pub bad_month : (n : ℕ) → Err n ≡ part_of (digits_of (month_part text)) → Err n ≡ date_of text
+    bad_month n e = of_bad_month _ _ _ a n year e ∙ sym (by_parts text eight nonblank)
+
+    module _ (b : ℕ) (month : Ok b ≡ part_of (digits_of (month_part text))) where
+      pub bad_day : (n : ℕ) → Err n ≡ part_of (digits_of (day_part text)) → Err n ≡ date_of text
+      bad_day n e = of_bad_day _ _ _ a b n year month e ∙ sym (by_parts text eight nonblank)
+
+      pub good_parts : (c : ℕ) → Ok c ≡ part_of (digits_of (day_part text)) → date_of_numbers a b c ≡ date_of text
+      good_parts c day = of_numbers _ _ _ a b c year month day ∙ sym (by_parts text eight nonblank)
 
 -- ---- one text for a date, one date for an accepted text
 

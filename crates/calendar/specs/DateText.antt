@@ -2,6 +2,7 @@
 use Rattle.std.specs.Prelude.{ℕ, List, Bool, cond, ◌&&◌, length, take, drop, leb, eqb, Err, None, Ok, Some, Result, Option}
 use Rattle.octets.specs.Text.{every, blank, is_digit, number_of}
 use Rattle.calendar.specs.Calendar.{is_date}
+use Rattle.calendar.specs.declared.Date.{Date}
 
 -- what the text of a D field says: a date, nothing, or a refusal's number
 abbrev pub DateAnswer : Type 0
