@@ -36,8 +36,8 @@ use Rattle.dbf_cell.specs.declared.TextPlace.TheVariants as text
 use Rattle.octets.specs.Order.{ordering, is_equal}
 use Rattle.idx_lookup.specs.FirstRecord.{record_of, entry_decides, neighbour_decides, first_from}
 use Rattle.idx_lookup.specs.Lookup.{page_says, visit_rule, decided, lookup_from, lookup_steps, lookup_rule, absent_code, lookup_code}
-use Rattle.idx_lookup.specs.declared.Visit.{Visit}
-use Rattle.idx_lookup.specs.declared.Visit.TheVariants as visit
+use Rattle.idx_lookup.specs.Visit.{Visit}
+use Rattle.idx_lookup.specs.Visit as visit
 use Rattle.idx_lookup.specs.Answer.{Answer}
 use Rattle.idx_lookup.specs.Answer as looked
 use Rattle.idx_insert.specs.Fresh.{fresh_checks, fresh_rule}

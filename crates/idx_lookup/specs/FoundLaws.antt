@@ -13,8 +13,8 @@ use Rattle.idx_page.specs.KeyOrderLaws.{equal-same}
 use Rattle.idx_page.specs.declared.RecordNumber.{RecordNumber}
 use Rattle.idx_lookup.specs.Lookup.{record_of, entry_says, page_says, visit_rule, decided, lookup_from, lookup_rule}
 use Rattle.idx_lookup.specs.LookupLaws.{steps-key}
-use Rattle.idx_lookup.specs.declared.Visit.{Visit}
-use Rattle.idx_lookup.specs.declared.Visit.TheVariants as visit
+use Rattle.idx_lookup.specs.Visit.{Visit}
+use Rattle.idx_lookup.specs.Visit as visit
 use Rattle.idx_lookup.specs.Answer.{Answer, found, and_then}
 use Rattle.idx_lookup.specs.AnswerLaws.{same-record, same-pages, absent-found}
 

@@ -1,5 +1,7 @@
 -- Rules: what a lookup answers
 pub mod Answer
+-- Rules: what a page says of a key
+pub mod Visit
 -- Rules: lookup of a key's first record, for features 0
 pub mod FirstRecord
 -- Rules: lookup's steps and its answer, on any bytes

@@ -11,8 +11,8 @@ pub use Rattle.idx_lookup.specs.FirstRecord.{offset_of, record_of}
 use Rattle.idx_page.specs.declared.PageOffset.{PageOffset}
 use Rattle.idx_page.specs.declared.RecordNumber.{RecordNumber}
 use Rattle.idx_lookup.specs.Answer.{Answer, found, absent, and_then}
-use Rattle.idx_lookup.specs.declared.Visit.{Visit}
-use Rattle.idx_lookup.specs.declared.Visit.TheVariants as visit
+use Rattle.idx_lookup.specs.Visit.{Visit}
+use Rattle.idx_lookup.specs.Visit as visit
 
 -- the code of the answer for an absent key
 abbrev pub absent_code : ℕ

@@ -1,6 +1,8 @@
 -- Laws: what a good header and a key of its length give a search. Cited by the proofs of this crate's functions. Assumes nothing.
-use Rattle.std.specs.Prelude.{ℕ, ◌≤◌, ◌≡◌, Bool, true, false, List, length, eqb, Ok, Err}
-use Rattle.std.proofs.Common.{arith, eq-eqb, ne_eqb}
+use Rattle.std.specs.Prelude.{ℕ, suc, ◌-◌, ◌≤◌, ◌≡◌, Bool, true, false, List, length, eqb, Err}
+use Rattle.std.proofs.Common.{sym, ◌∙◌, arith, eq-eqb, ne_eqb, eqb-true}
+use Rattle.std.proofs.lemmas.Bool.{eqb-false}
+use Rattle.basis.specs.Tests.{either}
 use Rattle.idx_page.specs.Header.{page_size, max_key, max_levels, root_offset, file_size, key_length, features, header_good}
 use Rattle.idx_page.specs.HeaderLaws.{good-header}
 use Rattle.idx_page.specs.Page.{count_at, page_good}
@@ -9,9 +11,9 @@ use Rattle.idx_page.specs.Within.{Within}
 use Rattle.refusal.specs.Checks.{unless}
 use Rattle.idx_lookup.specs.FirstRecord.{first_from}
 use Rattle.idx_lookup.specs.LookupLaws.{steps_record, steps-key}
-use Rattle.idx_lookup.specs.Lookup.{page_says, visit_rule, lookup_from, lookup_rule}
-use Rattle.idx_lookup.specs.Ways.{search_way, way_from}
-use Rattle.idx_lookup.specs.WayLaws.{page-some}
+use Rattle.idx_lookup.specs.Lookup.{page_says, visit_rule, decided, lookup_from, lookup_rule}
+use Rattle.idx_lookup.specs.Ways.{search_way, way_from, way_decides}
+use Rattle.idx_lookup.specs.WayLaws.{page-some, way_is}
 
 module _ (b : List ℕ) (header : header_good b ≡ true) where
   pub header_long : page_size ≤ length b
@@ -46,24 +48,43 @@ pub rule_key : (b key : List ℕ) → header_good b ≡ true → (length key ≡
 unfolding lookup_rule unless
 rule_key b key header other = rw (header, ne_eqb (length key) (key_length b) other)
 
-module _ (b key : List ℕ) (p : ℕ) (first last : Bool) where
-  module _ (good : page_good b (length key) (file_size b) p first last ≡ true) where
-    pub page_filled : first ≡ false → 1 ≤ count_at b p
-    page_filled other = page-some b (length key) (file_size b) p last (rw other at good)
+pub page_filled : (b key : List ℕ) (p : ℕ) (first last : Bool) → page_good b (length key) (file_size b) p first last ≡ true → first ≡ false
+    → 1 ≤ count_at b p
+page_filled b key p first last good other = page-some b (length key) (file_size b) p last (rw other at good)
 
-    pub visit_good : visit_rule b key p first last ≡ Ok (page_says b key p)
-    unfolding visit_rule
-    visit_good = rw (good, visit_rule)
+-- the page after which no level is left is the 15th
+last_level : (pages : ℕ) → 1 ≤ pages → pages ≤ max_levels → eqb (max_levels - pages) 0 ≡ eqb pages max_levels
+last_level pages some few = either (eqb pages max_levels)
+    (λ e. eq-eqb (max_levels - pages) 0 (omega (arith, eqb-true pages max_levels e)) ∙ sym e)
+    (λ e. ne_eqb (max_levels - pages) 0 (λ q. omega (arith, eqb-false pages max_levels e, q)) ∙ sym e)
 
-    pub way_good : way_from b key p first last ≡ Ok (search_way b key p first)
-    unfolding way_from
-    way_good = rw (good, way_from)
+-- the rules' step on the page at p, the `pages`th that is visited
+module _ (b key : List ℕ) (p pages : ℕ) (some : 1 ≤ pages) (few : pages ≤ max_levels) where
+  abbrev Checked : Bool → Type 0
+  Checked t = page_good b (length key) (file_size b) p (eqb pages 1) (eqb pages max_levels) ≡ t
 
-  module _ (bad : page_good b (length key) (file_size b) p first last ≡ false) where
-    pub visit_bad : visit_rule b key p first last ≡ Err 25
-    unfolding visit_rule
-    visit_bad = rw (bad, visit_rule)
+  pub visit_good : Checked true → decided (λ c. lookup_from (max_levels - pages) b key c.0) pages (page_says b key p)
+      ≡ lookup_from (suc (max_levels - pages)) b key p
+  unfolding lookup_from visit_rule
+  visit_good good =
+      let same : max_levels - (max_levels - pages) ≡ pages = omega arith in
+      rw (same, last_level pages some few, good, visit_rule)
 
-    pub way_bad : way_from b key p first last ≡ Err 25
-    unfolding way_from
-    way_bad = rw (bad, way_from)
+  pub visit_bad : Checked false → lookup_from (suc (max_levels - pages)) b key p ≡ Err 25
+  unfolding lookup_from visit_rule
+  visit_bad bad =
+      let same : max_levels - (max_levels - pages) ≡ pages = omega arith in
+      rw (same, last_level pages some few, bad, visit_rule)
+
+  pub way_good : Checked true → way_decides (first_from (max_levels - pages) b key) b key pages p (search_way b key p (eqb pages 1))
+      ≡ first_from (suc (max_levels - pages)) b key p
+  unfolding way_from
+  way_good good =
+      let step = way_is (max_levels - pages) pages b key p (omega arith) in
+      rw (last_level pages some few, good, way_from) at step
+
+  pub way_bad : Checked false → first_from (suc (max_levels - pages)) b key p ≡ Err 25
+  unfolding way_from
+  way_bad bad =
+      let step = way_is (max_levels - pages) pages b key p (omega arith) in
+      sym (rw (last_level pages some few, bad, way_from) at step)

@@ -1,19 +1,23 @@
 // Lookup: from the root down, level by level, by the first entry at or above the key.
 #![tactic(auto)]
 
-ghost use Rattle.std.specs.Prelude.{◌≡◌, Bool, true, false, ℕ, ◌+◌, ◌≤◌, length, Ok};
+ghost use Rattle.std.specs.Prelude.{◌≡◌, Bool, true, false, ℕ, suc, ◌+◌, ◌-◌, ◌≤◌, eqb, length, Result, Ok, Err};
 ghost use Rattle.refusal.specs.Refusals.{numbered};
 ghost use Rattle.octets.specs.Order.{ordering, is_equal};
+ghost use Rattle.idx_page.specs.declared.PageOffset.{PageOffset};
 ghost use Rattle.idx_page.specs.Header.{max_levels, root_offset, file_size, key_length, header_good};
 ghost use Rattle.idx_page.specs.Page.{count_at, key_at, number_at, page_good};
 ghost use Rattle.idx_page.specs.Within.{Within};
-ghost use Rattle.idx_lookup.specs.Answer.{found, absent};
+ghost use Rattle.idx_lookup.specs.Answer.{Answer, found, absent, and_then, follow};
 ghost use Rattle.idx_lookup.specs.FirstRecord.{offset_of, record_of, entry_decides, neighbour_decides, first_from};
-ghost use Rattle.idx_lookup.specs.Ways.{search_way, way_from};
-ghost use Rattle.idx_lookup.specs.Lookup.{page_says, visit_rule, lookup_from, lookup_rule};
+ghost use Rattle.idx_lookup.specs.Ways.{search_way, way_decides};
+ghost use Rattle.idx_lookup.specs.WayLaws.{first_end};
+ghost use Rattle.idx_lookup.specs.Lookup.{page_says, decided, lookup_from, lookup_rule};
+ghost use Rattle.idx_lookup.specs.LookupLaws.{lookup_end};
 
 use idx_page::{MAX_LEVELS, Page, PageOffset, RecordNumber};
 use refusal::Refusal;
+use std::ops::ControlFlow;
 
 // What a lookup that is not refused says: the key's record, none if the key is absent, and the number of pages visited.
 #[derive(Clone, Copy)]
@@ -41,22 +45,44 @@ impl Outcome {
     }
 }
 
-// What a page of an index says of a key: it is absent or found, or the lookup goes on to a child. `P` names a page in the index's format.
-#[derive(Clone, Copy)]
-pub enum Visit<P> {
-    Absent,
-    Found(RecordNumber),
-    Child(P),
+// A lookup from the root down, in an index of some format.
+pub trait Descent {
+    // What names a page in the format.
+    type Page: Copy;
+
+    // Where the lookup starts, and what it answers from a page on, with a number of levels left.
+    ghost start: { Self → Self.Page };
+
+    ghost answer: { Self → ℕ → Self.Page → Answer };
+
+    // With no level left the index is not sound.
+    ghost ends: { (s : Self) (p : Self.Page) → answer s 0 p ≡ Err 25 };
+
+    fn root(&self) -> Self::Page
+        ensures { result ≡ start self.now };
+
+    // What a page says, the `pages`th that is visited: the lookup ends, or goes on from a child.
+    fn visit(
+        &self,
+        page: Self::Page,
+        pages: u32,
+    ) -> Result<ControlFlow<Outcome, Self::Page>, Refusal>
+        requires { (1 ≤ pages) × (pages ≤ max_levels) }
+        ensures { and_then (numbered result) (follow (answer self.now (max_levels - pages))) ≡ answer self.now (suc (max_levels - pages)) page };
 }
 
-// The way from a page of an index in which a key may have several records: the key is absent, an entry of the leaf or the right neighbour decides, or the
-// lookup goes on to a child.
-#[derive(Clone, Copy)]
-enum Way {
-    Absent,
-    Entry(usize),
-    Neighbour(PageOffset),
-    Child(PageOffset),
+// Looks a key up, level by level.
+pub fn descend<D: Descent>(search: &D) -> Result<Outcome, Refusal>
+    ensures { numbered result ≡ D.answer search.now max_levels (D.start search.now) }
+{
+    let mut page = search.root();
+    for level in 0..MAX_LEVELS {
+        match search.visit(page, level + 1)? {
+            ControlFlow::Break(outcome) => return Ok(outcome),
+            ControlFlow::Continue(child) => page = child,
+        }
+    }
+    Err(Refusal::IndexNotSound)
 }
 
 // A lookup whose index has a good header, and whose key has the length of its keys.
@@ -76,6 +102,13 @@ impl<'a> Search<'a> {
     {
         let size = idx_page::file_size(self.index);
         idx_page::page_good(self.index, self.key.len(), size, page, first, last)
+    }
+
+    // Whether the `pages`th page that is visited passes its checks.
+    fn passes(&self, page: PageOffset, pages: u32) -> bool
+        ensures { result ≡ page_good self.now.index.now (length self.now.key.now) (file_size self.now.index.now) page.0 (eqb pages 1) (eqb pages max_levels) }
+    {
+        self.page_good(page, pages == 1, pages == MAX_LEVELS)
     }
 
     // Whether entry `i` of a page has the key.
@@ -102,97 +135,6 @@ impl<'a> Search<'a> {
         idx_page::child(self.index, self.key.len(), page, i)
     }
 
-    // What the entries of a page say of the key.
-    #[tactic(auto, unfolding(crate::specs::Lookup::page_says, crate::specs::Lookup::entry_says))]
-    fn search_page(&self, page: PageOffset) -> Visit<PageOffset>
-        requires { Within self.now.index.now (length self.now.key.now) page.0 (count_at self.now.index.now page.0) }
-        ensures { result ≡ page_says self.now.index.now self.now.key.now page.0 }
-    {
-        let head = Page::at(self.index, page);
-        let count = head.count as usize;
-        let i = idx_page::first_at_or_above(self.index, page, count, self.key);
-        if i == count {
-            return Visit::Absent;
-        }
-        if !idx_page::is_leaf(head.attribute) {
-            return Visit::Child(self.child(page, i));
-        }
-        if self.has_key(page, i) {
-            return Visit::Found(self.record_number(page, i));
-        }
-        Visit::Absent
-    }
-
-    // A visit of a page: its checks come before its entries.
-    #[tactic(auto, using(crate::specs::SearchLaws::page_within, crate::specs::SearchLaws::visit_good, crate::specs::SearchLaws::visit_bad))]
-    fn visit_page(
-        &self,
-        page: PageOffset,
-        first: bool,
-        last: bool,
-    ) -> Result<Visit<PageOffset>, Refusal>
-        ensures { numbered result ≡ visit_rule self.now.index.now self.now.key.now page.0 first last }
-    {
-        if !self.page_good(page, first, last) {
-            return Err(Refusal::IndexNotSound);
-        }
-        Ok(self.search_page(page))
-    }
-
-    // Lookup from the root down, in an index in which a key has one record.
-    #[tactic(auto, using(crate::specs::SearchLaws::header_long))]
-    fn only(&self) -> Result<Outcome, Refusal>
-        ensures { numbered result ≡ lookup_from max_levels self.now.index.now self.now.key.now (root_offset self.now.index.now) }
-    {
-        let mut page = idx_page::root(self.index);
-        for level in 0..MAX_LEVELS {
-            let pages = level + 1;
-            match self.visit_page(page, pages == 1, pages == MAX_LEVELS)? {
-                Visit::Absent => return Ok(Outcome::absent(pages)),
-                Visit::Found(number) => return Ok(Outcome::found(number, pages)),
-                Visit::Child(child) => page = child,
-            }
-        }
-        Err(Refusal::IndexNotSound)
-    }
-
-    // The way past the search in a page, `first` if it is the first page visited.
-    #[tactic(auto, unfolding(crate::specs::Ways::search_way, crate::specs::Ways::entry_way))]
-    fn search_way(&self, page: PageOffset, first: bool) -> Way
-        requires inside { Within self.now.index.now (length self.now.key.now) page.0 (count_at self.now.index.now page.0) }
-        requires filled { first ≡ false → 1 ≤ count_at self.now.index.now page.0 }
-        ensures { result ≡ search_way self.now.index.now self.now.key.now page.0 first }
-    {
-        let head = Page::at(self.index, page);
-        let count = head.count as usize;
-        let i = idx_page::first_at_or_above(self.index, page, count, self.key);
-        let leaf = idx_page::is_leaf(head.attribute);
-        if i != count {
-            if leaf {
-                return Way::Entry(i);
-            }
-            return Way::Child(self.child(page, i));
-        }
-        if first {
-            return Way::Absent;
-        }
-        if leaf {
-            return Way::Neighbour(head.right);
-        }
-        Way::Child(self.child(page, count - 1))
-    }
-
-    // The way from a page: its checks come before its entries.
-    #[tactic(auto, using(crate::specs::SearchLaws::page_within, crate::specs::SearchLaws::page_filled, crate::specs::SearchLaws::way_good, crate::specs::SearchLaws::way_bad))]
-    fn way_from(&self, page: PageOffset, first: bool, last: bool) -> Result<Way, Refusal>
-        ensures { numbered result ≡ way_from self.now.index.now self.now.key.now page.0 first last }
-    {
-        if !self.page_good(page, first, last) {
-            return Err(Refusal::IndexNotSound);
-        }
-        Ok(self.search_way(page, first))
-    }
-
     // Entry `i` of a leaf decides, after `pages` pages.
     #[tactic(auto, unfolding(crate::specs::FirstRecord::entry_decides))]
     fn entry_decides(&self, page: PageOffset, i: usize, pages: u32) -> Outcome
@@ -204,38 +146,138 @@ impl<'a> Search<'a> {
         }
         Outcome::absent(pages)
     }
+}
 
+// Lookup in an index in which a key has one record.
+#[derive(Clone, Copy)]
+struct Only<'a>(Search<'a>);
+
+impl<'a> Only<'a> {
+    // What the entries of a page say of the key, after `pages` pages.
+    #[tactic(auto, unfolding(crate::specs::Lookup::page_says, crate::specs::Lookup::entry_says, crate::specs::FirstRecord::entry_decides))]
+    fn search_page(&self, page: PageOffset, pages: u32) -> ControlFlow<Outcome, PageOffset>
+        requires { Within self.now.0.index.now (length self.now.0.key.now) page.0 (count_at self.now.0.index.now page.0) }
+        ensures { (go : PageOffset → Answer) → follow go result ≡ decided go pages (page_says self.now.0.index.now self.now.0.key.now page.0) }
+    {
+        let search = &self.0;
+        let head = Page::at(search.index, page);
+        let count = head.count as usize;
+        let i = idx_page::first_at_or_above(search.index, page, count, search.key);
+        if i == count {
+            return ControlFlow::Break(Outcome::absent(pages));
+        }
+        if idx_page::is_leaf(head.attribute) {
+            return ControlFlow::Break(search.entry_decides(page, i, pages));
+        }
+        ControlFlow::Continue(search.child(page, i))
+    }
+}
+
+impl<'a> Descent for Only<'a> {
+    type Page = PageOffset;
+
+    ghost start = { λ s. offset_of (root_offset s.0.index.now) };
+
+    ghost answer = { λ s levels p. lookup_from levels s.0.index.now s.0.key.now p.0 };
+
+    ghost ends = { λ s p. lookup_end s.0.index.now s.0.key.now p.0 };
+
+    #[tactic(auto, using(crate::specs::SearchLaws::header_long))]
+    fn root(&self) -> PageOffset {
+        idx_page::root(self.0.index)
+    }
+
+    #[tactic(auto, using(crate::specs::SearchLaws::page_within, crate::specs::SearchLaws::visit_good, crate::specs::SearchLaws::visit_bad))]
+    fn visit(
+        &self,
+        page: PageOffset,
+        pages: u32,
+    ) -> Result<ControlFlow<Outcome, PageOffset>, Refusal> {
+        if !self.0.passes(page, pages) {
+            return Err(Refusal::IndexNotSound);
+        }
+        Ok(self.search_page(page, pages))
+    }
+}
+
+// Lookup of a key's first record, in an index in which a key may have several.
+#[derive(Clone, Copy)]
+struct First<'a>(Search<'a>);
+
+impl<'a> First<'a> {
     // The right neighbour of a leaf decides, after `pages` pages.
     #[tactic(auto, using(crate::specs::SearchLaws::page_within, crate::specs::SearchLaws::page_filled, crate::specs::WayLaws::neighbour_none, crate::specs::WayLaws::neighbour_bad, crate::specs::WayLaws::neighbour_good))]
     fn neighbour_decides(&self, right: PageOffset, pages: u32) -> Result<Outcome, Refusal>
         requires { pages ≤ max_levels }
-        ensures { numbered result ≡ neighbour_decides self.now.index.now self.now.key.now pages right.0 }
+        ensures { numbered result ≡ neighbour_decides self.now.0.index.now self.now.0.key.now pages right.0 }
     {
         if right.0 == idx_page::NO_PAGE {
             return Ok(Outcome::absent(pages));
         }
-        if !self.page_good(right, false, true) {
+        if !self.0.page_good(right, false, true) {
             return Err(Refusal::IndexNotSound);
         }
-        Ok(self.entry_decides(right, 0, pages + 1))
+        Ok(self.0.entry_decides(right, 0, pages + 1))
     }
 
-    // Lookup of a key's first record from the root down, in an index in which a key may have several.
-    #[tactic(auto, using(crate::specs::SearchLaws::header_long))]
-    fn first(&self) -> Result<Outcome, Refusal>
-        ensures { numbered result ≡ first_from max_levels self.now.index.now self.now.key.now (root_offset self.now.index.now) }
+    // What the entries of a page say of the key, after `pages` pages.
+    #[tactic(auto, unfolding(crate::specs::Ways::search_way, crate::specs::Ways::entry_way))]
+    fn search_page(
+        &self,
+        page: PageOffset,
+        pages: u32,
+    ) -> Result<ControlFlow<Outcome, PageOffset>, Refusal>
+        requires inside { Within self.now.0.index.now (length self.now.0.key.now) page.0 (count_at self.now.0.index.now page.0) }
+        requires filled { eqb pages 1 ≡ false → 1 ≤ count_at self.now.0.index.now page.0 }
+        requires few { pages ≤ max_levels }
+        ensures { (go : ℕ → Answer) → and_then (numbered result) (follow (λ c. go c.0))
+            ≡ way_decides go self.now.0.index.now self.now.0.key.now pages page.0 (search_way self.now.0.index.now self.now.0.key.now page.0 (eqb pages 1)) }
     {
-        let mut page = idx_page::root(self.index);
-        for level in 0..MAX_LEVELS {
-            let pages = level + 1;
-            match self.way_from(page, pages == 1, pages == MAX_LEVELS)? {
-                Way::Absent => return Ok(Outcome::absent(pages)),
-                Way::Entry(i) => return Ok(self.entry_decides(page, i, pages)),
-                Way::Neighbour(right) => return self.neighbour_decides(right, pages),
-                Way::Child(child) => page = child,
+        let search = &self.0;
+        let head = Page::at(search.index, page);
+        let count = head.count as usize;
+        let i = idx_page::first_at_or_above(search.index, page, count, search.key);
+        let leaf = idx_page::is_leaf(head.attribute);
+        if i != count {
+            if leaf {
+                return Ok(ControlFlow::Break(search.entry_decides(page, i, pages)));
             }
+            return Ok(ControlFlow::Continue(search.child(page, i)));
         }
-        Err(Refusal::IndexNotSound)
+        if pages == 1 {
+            return Ok(ControlFlow::Break(Outcome::absent(pages)));
+        }
+        if leaf {
+            return Ok(ControlFlow::Break(self.neighbour_decides(head.right, pages)?));
+        }
+        Ok(ControlFlow::Continue(search.child(page, count - 1)))
+    }
+}
+
+impl<'a> Descent for First<'a> {
+    type Page = PageOffset;
+
+    ghost start = { λ s. offset_of (root_offset s.0.index.now) };
+
+    ghost answer = { λ s levels p. first_from levels s.0.index.now s.0.key.now p.0 };
+
+    ghost ends = { λ s p. first_end s.0.index.now s.0.key.now p.0 };
+
+    #[tactic(auto, using(crate::specs::SearchLaws::header_long))]
+    fn root(&self) -> PageOffset {
+        idx_page::root(self.0.index)
+    }
+
+    #[tactic(auto, using(crate::specs::SearchLaws::page_within, crate::specs::SearchLaws::page_filled, crate::specs::SearchLaws::way_good, crate::specs::SearchLaws::way_bad))]
+    fn visit(
+        &self,
+        page: PageOffset,
+        pages: u32,
+    ) -> Result<ControlFlow<Outcome, PageOffset>, Refusal> {
+        if !self.0.passes(page, pages) {
+            return Err(Refusal::IndexNotSound);
+        }
+        self.search_page(page, pages)
     }
 }
 
@@ -248,9 +290,9 @@ pub fn lookup_from_root(index: &[u8], key: &[u8]) -> Result<Outcome, Refusal>
 {
     let search = Search { index, key };
     if idx_page::several(index) {
-        search.first()
+        descend(&First(search))
     } else {
-        search.only()
+        descend(&Only(search))
     }
 }
 

@@ -31,7 +31,7 @@ use Rattle.idx_page.proofs.ReadingLaws.{entries_by_count}
 use Rattle.idx_page.proofs.SearchLaws.{first_entry, seek-some, seek-none}
 use Rattle.idx_lookup.specs.LookupLaws.{steps-key}
 use Rattle.idx_lookup.specs.Lookup.{offset_of, record_of, entry_says, page_says, visit_rule, decided, lookup_from, lookup_rule}
-use Rattle.idx_lookup.specs.declared.Visit.TheVariants as visit
+use Rattle.idx_lookup.specs.Visit as visit
 use Rattle.idx_lookup.specs.Answer.{Answer}
 use Rattle.idx_lookup.specs.Answer as answer
 use Rattle.idx_sound.specs.Sound.{Sound, index_tree, kept_by}
