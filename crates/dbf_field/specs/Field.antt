@@ -6,8 +6,11 @@ use Rattle.octets.specs.Store.{window}
 use Rattle.dbf_table.specs.Table.{descriptor, field_type, field_length, field_decimals, field_offset, field_count, record_count, record_start, deletion_byte}
 use Rattle.dbf_table.specs.Table.{table_checks, table_refusal}
 use Rattle.dbf_field.specs.declared.FieldEntry.{FieldEntry}
-use Rattle.dbf_field.specs.declared.FieldAnswer.{FieldAnswer}
 use Rattle.dbf_field.specs.declared.Place.{Place}
+
+-- a field's entry, or a refusal's number
+abbrev pub FieldAnswer : Type 0
+FieldAnswer = Result FieldEntry ℕ
 
 -- where a field of a record lies, or a refusal's number
 abbrev pub Placed : Type 0
@@ -29,7 +32,7 @@ entry_of b j = record {
   offset = field_offset b j;
 }
 
--- the entry beside a refusal: zeros
+-- an entry of zeros, which stands for one that a list does not have
 unfoldable pub no_entry : FieldEntry
 no_entry = record {
   name = replicate 11 0;
@@ -49,10 +52,7 @@ field_refusal b field = first_refusal (table_checks b ++ ((number_good field (fi
 
 -- the entry of a field by its number, from 1
 unfoldable pub field_answer : List ℕ → ℕ → FieldAnswer
-field_answer b field = record {
-  refusal = field_refusal b field;
-  entry = cond (eqb (field_refusal b field) 0) (entry_of b (field - 1)) no_entry;
-}
+field_answer b field = cond (eqb (field_refusal b field) 0) (Ok (entry_of b (field - 1))) (Err (field_refusal b field))
 
 -- ---- a field in a record
 
