@@ -53,7 +53,7 @@ pub page_filled : (b key : List ℕ) (p : ℕ) (first last : Bool) → page_good
 page_filled b key p first last good other = page-some b (length key) (file_size b) p last (rw other at good)
 
 -- the page after which no level is left is the 15th
-last_level : (pages : ℕ) → 1 ≤ pages → pages ≤ max_levels → eqb (max_levels - pages) 0 ≡ eqb pages max_levels
+pub last_level : (pages : ℕ) → 1 ≤ pages → pages ≤ max_levels → eqb (max_levels - pages) 0 ≡ eqb pages max_levels
 last_level pages some few = either (eqb pages max_levels)
     (λ e. eq-eqb (max_levels - pages) 0 (omega (arith, eqb-true pages max_levels e)) ∙ sym e)
     (λ e. ne_eqb (max_levels - pages) 0 (λ q. omega (arith, eqb-false pages max_levels e, q)) ∙ sym e)
