@@ -40,8 +40,7 @@ fn refuse(out: &impl Print, err: &impl Print, reason: impl Display + Drop) {
 }
 
 fn refuse_use(out: &impl Print, err: &impl Print) {
-    let _ = println!(
-        err;
+    let _ = println!(err;
         "use: inspect TABLE [MEMO|- [INDEX|- [FIELD]]], where FIELD is a field's number of 1 to 10 digits or its name"
     );
     refuse(out, err, "these are other arguments");
@@ -58,7 +57,10 @@ struct Arguments<'a> {
 
 // Argument i, if there is one and it isn't `-`.
 fn given<'a>(words: &[&'a [u8]], i: usize) -> Option<&'a [u8]> {
-    words.get(i).copied().filter(|word| *word != b"-".as_slice())
+    words
+        .get(i)
+        .copied()
+        .filter(|word| *word != b"-".as_slice())
 }
 
 // What the arguments say, if they are those of the program.
@@ -101,7 +103,11 @@ fn load(
     match files::load(rt, err, path, MOST)? {
         Some(file) => Ok(file),
         None => {
-            refuse(rt, err, format_args!("{what} can't be read, or is too long"));
+            refuse(
+                rt,
+                err,
+                format_args!("{what} can't be read, or is too long"),
+            );
             Err(Unloaded::Refused)
         }
     }
@@ -176,11 +182,7 @@ fn index_report(
 }
 
 // Prints all lines. The last one says how many of the lines before it have a refusal, which is the answer too.
-fn print_report(
-    out: &impl Print,
-    loaded: &Loaded,
-    arguments: Arguments<'_>,
-) -> io::Result<u64> {
+fn print_report(out: &impl Print, loaded: &Loaded, arguments: Arguments<'_>) -> io::Result<u64> {
     let memo = loaded.memo.as_ref().map(|memo| memo.as_slice());
     let of_table = report::table_report(out, &loaded.table, memo)?;
     let of_index = match (&loaded.index, arguments.index) {

@@ -25,6 +25,7 @@ pub fn answer_line(out: &impl Print, word: &str, answer: Result<(), Refusal>) ->
 }
 
 // A table that was checked, its memo file if there is one, and what prints their lines.
+#[derive(Drop)]
 struct Report<'a, P> {
     out: &'a P,
     table: &'a [u8],
@@ -141,7 +142,10 @@ impl<P: Print> Report<'_, P> {
             ..
         } = entry;
         let kind = char::from(kind);
-        println!(self.out; "field {j} {} {kind} {length} {decimals}", field_name(&name))
+        println!(self.out;
+            "field {j} {} {kind} {length} {decimals}",
+            field_name(&name)
+        )
     }
 }
 
@@ -160,7 +164,10 @@ fn mark_word(mark: u32) -> Result<&'static str, Refusal> {
 
 // A field's name: its characters are plain, and the zeros behind them are not.
 fn field_name(name: &[u8]) -> &str {
-    let end = name.iter().position(|byte| !is_plain(*byte)).unwrap_or(name.len());
+    let end = name
+        .iter()
+        .position(|byte| !is_plain(*byte))
+        .unwrap_or(name.len());
     str::from_utf8(&name[..end]).unwrap_or("")
 }
 
