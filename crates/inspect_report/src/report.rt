@@ -83,8 +83,10 @@ impl<P: Print> Report<'_, P> {
         requires { PlaceInside self.now.table.now place }
     {
         let memo = self.memo.unwrap_or(b"");
-        let text = dbf_cell::text_at(self.table, memo, place)?;
-        Ok(text.map(|part| Quoted(dbf_cell::text_part(self.table, memo, part))))
+        let Some(part) = dbf_cell::text_at(self.table, memo, place)? else {
+            return Ok(None);
+        };
+        Ok(Some(Quoted(dbf_cell::text_part(self.table, memo, part))))
     }
 
     // The lines of the fields of a record, from 1 to `last`.
