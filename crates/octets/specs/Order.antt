@@ -1,5 +1,6 @@
 -- Rules: the order of byte strings, "as unsigned bytes": the first difference decides, and a string is below its extensions.
 use Rattle.std.specs.Prelude.{ℕ, List, [], ◌∷◌, Bool, true, false, cond, eqb, ltb}
+use Rattle.std.specs.Ordering.{is_lt, is_eq}
 use Rattle.std.specs.declared.cmp.Ordering.{Ordering}
 use Rattle.std.specs.declared.cmp.Ordering.TheVariants.{Less, Equal, Greater}
 
@@ -13,12 +14,9 @@ bytes_le (x ∷ a) (y ∷ b) = let rest = bytes_le a b in cond (eqb x y) rest (l
 unfoldable pub ordering : List ℕ → List ℕ → Ordering
 ordering a b = cond (bytes_le a b) (cond (bytes_le b a) Equal Less) Greater
 
+-- whether that is below, or equal
 abbrev pub is_below : Ordering → Bool
-is_below Less = true
-is_below Equal = false
-is_below Greater = false
+is_below o = is_lt o
 
 abbrev pub is_equal : Ordering → Bool
-is_equal Less = false
-is_equal Equal = true
-is_equal Greater = false
+is_equal o = is_eq o
