@@ -7,9 +7,7 @@ use Rattle.octets.specs.Store.{put, window}
 use Rattle.calendar.specs.DateText.{date_of}
 use Rattle.calendar.specs.DateText.{DateAnswer}
 use Rattle.numeral.specs.Reading.{read_number}
-use Rattle.fpt_memo.specs.Memo.{memo_number}
-use Rattle.fpt_memo.specs.declared.MemoNumber.{MemoNumber}
-use Rattle.fpt_memo.specs.declared.MemoNumber.TheVariants as memo
+use Rattle.fpt_memo.specs.Memo.{MemoNumber, memo_number}
 use Rattle.dbf_table.specs.Table.{min_table, max_table, file_end, type_n, type_d, type_l, type_m, field_type, field_length, field_decimals, field_offset}
 use Rattle.dbf_table.specs.Table.{field_count, count_place, record_length_of, record_count, records_end, table_checks, check_table}
 use Rattle.dbf_table.specs.Table.{Checked}
@@ -44,9 +42,9 @@ logical_refusal (Err n) = n
 
 -- "M by 21 for its form alone"
 unfoldable pub memo_refusal : MemoNumber → ℕ
-memo_refusal (memo.Number n) = 0
-memo_refusal memo.Blank = 0
-memo_refusal memo.Bad = 21
+memo_refusal (Ok (Some n)) = 0
+memo_refusal (Ok None) = 0
+memo_refusal (Err n) = n
 
 -- the refusal of a text that a field of this type and decimal count is to hold, 0 for none; a C field holds any bytes
 unfoldable pub text_refusal : ℕ → ℕ → List ℕ → ℕ

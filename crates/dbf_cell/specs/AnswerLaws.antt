@@ -12,11 +12,9 @@ use Rattle.calendar.specs.DateLaws.{date-refusal}
 use Rattle.octets.specs.Text.{every, blank}
 use Rattle.numeral.specs.Format.{format_good}
 use Rattle.numeral.specs.Reading.{number_checks, read_number, value_of}
-use Rattle.fpt_memo.specs.Memo.{memo_header_bytes, memo_header_good, numbered_text, read_text, memo_text, memo_number_text}
+use Rattle.fpt_memo.specs.Memo.{MemoPlace, span, memo_header_bytes, memo_header_good, numbered_text, read_text, memo_text, memo_number_text}
 use Rattle.fpt_memo.specs.NumberText.{number-exactly}
 use Rattle.fpt_memo.specs.MemoLaws.{text-refusal}
-use Rattle.fpt_memo.specs.declared.MemoPlace.{MemoPlace}
-use Rattle.fpt_memo.specs.declared.MemoPlace.TheVariants as memo
 use Rattle.dbf_table.specs.Table.{type_c, type_m, field_type, field_length, field_decimals, table_checks}
 use Rattle.dbf_cell.specs.Cell.{cell_checks, cell_refusal, field_start, field_bytes}
 use Rattle.dbf_cell.specs.Cell.{number_cell, date_cell, letter_t, letter_f, logical_of, logical_cell, memo_part, text_at, text_cell}
@@ -34,7 +32,7 @@ text_alone b m n i field c = rw c
 
 -- a memo number is 22 if the memo file is too short for a header, as an empty file is
 pub text_no_header : (b m : List ℕ) (i field k : ℕ) → cell_refusal Texts b i field ≡ 0 → field_type b (field - 1) ≡ type_m
-    → 1 ≤ k → k < 10 ^ 10 → field_bytes b i field ≡ memo_number_text 10 k → length m < memo_header_bytes → text_cell b m i field ≡ text.Refused 22
+    → 1 ≤ k → k < 10 ^ 10 → field_bytes b i field ≡ memo_number_text 10 k → length m < memo_header_bytes → text_cell b m i field ≡ Err 22
 unfolding text_cell text_at field_bytes memo_text read_text numbered_text unless memo_header_good memo_part
 text_no_header b m i field k none type from to number short =
     let said = (number-exactly (field_bytes b i field) k).1 (from, to, number) in
@@ -94,11 +92,11 @@ logical_numbered c n e =
     (λ z. let q : (Ok None) ≡ Err n = rw (t, f, z) at e in impossible (cc))
     (λ z. let q : Err 20 ≡ Err n = rw (t, f, z) at e in let k : 20 ≡ n = cc in omega arith)))
 
-memo_numbered : (q : MemoPlace) (n : ℕ) → memo_part q ≡ text.Refused n → q ≡ memo.Refused n
+memo_numbered : (q : MemoPlace) (n : ℕ) → memo_part q ≡ Err n → q ≡ Err n
 unfolding memo_part
-memo_numbered (memo.Text a l) n e = impossible (cc)
-memo_numbered memo.Empty n e = impossible (cc)
-memo_numbered (memo.Refused k) n e = cc
+memo_numbered (Ok (Some place)) n e = impossible (cc)
+memo_numbered (Ok None) n e = impossible (cc)
+memo_numbered (Err k) n e = cc
 
 module _ (b : List ℕ) (i field n : ℕ) where
   pub number-refusal : number_cell b i field ≡ Err n → Numbered n
@@ -122,11 +120,11 @@ module _ (b : List ℕ) (i field n : ℕ) where
       (λ z. logical_numbered (byte_at b (field_start b i field)) n (rw z at e))
       (λ z. let q : Err (cell_refusal Logicals b i field) ≡ Err n = rw z at e in check_numbered Logicals b i field n z (cc))
 
-  pub place-refusal : (m : List ℕ) → text_cell b m i field ≡ text.Refused n → Numbered n
+  pub place-refusal : (m : List ℕ) → text_cell b m i field ≡ Err n → Numbered n
   unfolding text_cell text_at field_bytes
   place-refusal m e =
       either (eqb (cell_refusal Texts b i field) 0)
       (λ z. either (eqb (field_type b (field - 1)) type_c)
-      (λ c. let q : text.Table (field_start b i field) (field_length b (field - 1)) ≡ text.Refused n = rw (z, c) at e in impossible (cc))
+      (λ c. let q : Ok (Some (text.Table (span (field_start b i field) (field_length b (field - 1))))) ≡ Err n = rw (z, c) at e in impossible (cc))
       (λ c. let k = text-refusal m n (field_bytes b i field) (memo_numbered (memo_text (field_bytes b i field) m) n (rw (z, c) at e)) in omega arith))
-      (λ z. let q : text.Refused (cell_refusal Texts b i field) ≡ text.Refused n = rw z at e in check_numbered Texts b i field n z (cc))
+      (λ z. let q : Err (cell_refusal Texts b i field) ≡ Err n = rw z at e in check_numbered Texts b i field n z (cc))

@@ -1,5 +1,5 @@
 -- Laws: what a call reads once no check refuses, and that every part handed out lies in its file. Assumes nothing.
-use Rattle.std.specs.Prelude.{Err, ℕ, ◌+◌, ◌-◌, ◌≤◌, ◌<◌, ◌≡◌, refl, Bool, List, [], ◌∷◌, ◌++◌, length, take, drop, eqb, Ok}
+use Rattle.std.specs.Prelude.{Err, ℕ, ◌+◌, ◌-◌, ◌≤◌, ◌<◌, ◌≡◌, refl, Bool, List, [], ◌∷◌, ◌++◌, length, take, drop, eqb, Ok, Some, None}
 use Rattle.std.proofs.Common.{sym, ◌∙◌, append_assoc, arith, lit<}
 use Rattle.std.proofs.Math.Path.{ap}
 use Rattle.std.proofs.Math.Bool.{true, false}
@@ -17,15 +17,12 @@ use Rattle.dbf_field.specs.FieldLaws.{placed_at, placed-refused, place-good, pla
 use Rattle.dbf_field.specs.declared.Place.{Place}
 use Rattle.calendar.specs.DateText.{date_of}
 use Rattle.numeral.specs.Reading.{read_number}
-use Rattle.fpt_memo.specs.Memo.{memo_text}
+use Rattle.fpt_memo.specs.Memo.{MemoPlace, memo_text}
 use Rattle.fpt_memo.specs.MemoLaws.{text_inside}
-use Rattle.fpt_memo.specs.declared.MemoPlace.{MemoPlace}
-use Rattle.fpt_memo.specs.declared.MemoPlace.TheVariants as memo
 use Rattle.dbf_cell.specs.Cell.{reads_type, mark_good, cell_refusal, cell_place, field_start, field_bytes}
 use Rattle.dbf_cell.specs.Cell.{number_cell, date_cell, logical_of, logical_cell, memo_part, text_at, text_cell, TextWithin}
 use Rattle.dbf_cell.specs.declared.Reads.{Reads}
 use Rattle.dbf_cell.specs.declared.Reads.TheVariants.{Numbers, Dates, Logicals, Texts}
-use Rattle.dbf_cell.specs.declared.TextPlace.TheVariants as text
 
 -- ---- the checks of a call: the place's checks, then 13 and 15
 
@@ -158,7 +155,7 @@ module _ (b : List ℕ) (i field : ℕ) where
   unfolding logical_cell
   logical_refused n e = let said = cell_none Logicals b i field n e in rw (said.0, ne_eqb n 0 said.1)
 
-  pub text_refused : (m : List ℕ) (n : ℕ) → cell_place Texts b i field ≡ Err n → text_cell b m i field ≡ text.Refused n
+  pub text_refused : (m : List ℕ) (n : ℕ) → cell_place Texts b i field ≡ Err n → text_cell b m i field ≡ Err n
   unfolding text_cell
   text_refused m n e = let said = cell_none Texts b i field n e in rw (said.0, ne_eqb n 0 said.1)
 
@@ -184,9 +181,9 @@ module _ (b : List ℕ) (i field : ℕ) where
 module _ (b m : List ℕ) where
   memo_within : (s : List ℕ) (q : MemoPlace) → memo_text s m ≡ q → TextWithin b m (memo_part q)
   unfolding TextWithin memo_part
-  memo_within s (memo.Text a l) e = (text_inside m a l s e).1
-  memo_within s memo.Empty e = tt
-  memo_within s (memo.Refused n) e = tt
+  memo_within s (Ok (Some place)) e = (text_inside m place.start place.len s e).1
+  memo_within s (Ok None) e = tt
+  memo_within s (Err n) e = tt
 
   pub at-within : (type start len : ℕ) → start + len ≤ length b → TextWithin b m (text_at b m type start len)
   unfolding TextWithin text_at

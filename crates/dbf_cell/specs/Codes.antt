@@ -3,7 +3,7 @@ use Rattle.std.specs.Prelude.{ℕ, Err, None, Ok, Some}
 use Rattle.calendar.specs.DateText.{DateAnswer}
 use Rattle.numeral.specs.Format.{Number}
 use Rattle.dbf_cell.specs.Cell.{Logical}
-use Rattle.dbf_cell.specs.declared.TextPlace.{TextPlace}
+use Rattle.dbf_cell.specs.Cell.{TextAnswer}
 use Rattle.dbf_cell.specs.declared.TextPlace.TheVariants as text
 
 abbrev pub accepted_code : ℕ
@@ -33,8 +33,8 @@ logical_code (Ok (Some v)) = accepted_code
 logical_code (Ok None) = empty_code
 logical_code (Err n) = n
 
-unfoldable pub text_code : TextPlace → ℕ
-text_code (text.Table start len) = accepted_code
-text_code (text.Memo start len) = accepted_code
-text_code text.Empty = empty_code
-text_code (text.Refused n) = n
+unfoldable pub text_code : TextAnswer → ℕ
+text_code (Ok (Some (text.Table place))) = accepted_code
+text_code (Ok (Some (text.Memo place))) = accepted_code
+text_code (Ok None) = empty_code
+text_code (Err n) = n

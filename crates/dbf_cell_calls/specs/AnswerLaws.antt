@@ -5,7 +5,7 @@ use Rattle.calendar.specs.DateText.{DateAnswer}
 use Rattle.numeral.specs.Format.{Number}
 use Rattle.dbf_cell.specs.Codes.{number_code, date_code, logical_code, text_code}
 use Rattle.dbf_cell.specs.Cell.{Logical}
-use Rattle.dbf_cell.specs.declared.TextPlace.{TextPlace}
+use Rattle.dbf_cell.specs.Cell.{TextAnswer}
 use Rattle.dbf_cell.specs.declared.TextPlace.TheVariants as text
 use Rattle.dbf_cell_calls.specs.Answers.{Part, number_out, date_out, logical_out, text_out}
 
@@ -27,9 +27,9 @@ logical_kept (Ok (Some v)) old other = absurd (other refl)
 logical_kept (Ok None) old other = refl
 logical_kept (Err n) old other = refl
 
-pub text_kept : (answer : TextPlace) (old : Part) → ((text_out answer old).answer ≡ 0 → ⊥) → (text_out answer old).held ≡ old
+pub text_kept : (answer : TextAnswer) (old : Part) → ((text_out answer old).answer ≡ 0 → ⊥) → (text_out answer old).held ≡ old
 unfolding text_out text_code
-text_kept (text.Table start size) old other = absurd (other refl)
-text_kept (text.Memo start size) old other = absurd (other refl)
-text_kept text.Empty old other = refl
-text_kept (text.Refused n) old other = refl
+text_kept (Ok (Some (text.Table place))) old other = absurd (other refl)
+text_kept (Ok (Some (text.Memo place))) old other = absurd (other refl)
+text_kept (Ok None) old other = refl
+text_kept (Err n) old other = refl

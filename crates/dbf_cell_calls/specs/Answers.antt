@@ -5,7 +5,7 @@ use Rattle.calendar.specs.DateText.{DateAnswer}
 use Rattle.numeral.specs.Format.{Number}
 use Rattle.dbf_cell.specs.Codes.{number_code, date_code, logical_code, text_code}
 use Rattle.dbf_cell.specs.Cell.{Logical}
-use Rattle.dbf_cell.specs.declared.TextPlace.{TextPlace}
+use Rattle.dbf_cell.specs.Cell.{TextAnswer}
 use Rattle.dbf_cell.specs.declared.TextPlace.TheVariants as text
 use Rattle.handed.specs.Out.{Out, out}
 
@@ -52,11 +52,11 @@ pub record Part : Type 0 where
 abbrev pub part : ℕ → ℕ → Part
 part start size = record { start = start; size = size }
 
-abbrev pub text_held : TextPlace → Part → Part
-text_held (text.Table start size) old = part start size
-text_held (text.Memo start size) old = part start size
-text_held text.Empty old = old
-text_held (text.Refused n) old = old
+abbrev pub text_held : TextAnswer → Part → Part
+text_held (Ok (Some (text.Table place))) old = part place.start place.len
+text_held (Ok (Some (text.Memo place))) old = part place.start place.len
+text_held (Ok None) old = old
+text_held (Err n) old = old
 
-unfoldable pub text_out : TextPlace → Part → Out Part
+unfoldable pub text_out : TextAnswer → Part → Out Part
 text_out answer old = out (text_code answer) (text_held answer old)

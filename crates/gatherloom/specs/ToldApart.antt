@@ -27,11 +27,12 @@ use Rattle.idx_page.specs.Header.{max_levels, no_page, root_offset, file_size, k
 use Rattle.idx_page.specs.Page.{attribute_at, count_at, right_at, leaf_bit, key_at, number_at, page_good, first_at_or_above}
 use Rattle.idx_page.specs.declared.PageOffset.{PageOffset}
 use Rattle.idx_page.specs.declared.RecordNumber.{RecordNumber}
+use Rattle.fpt_memo.specs.Memo.{span}
 use Rattle.dbf_cell.specs.Cell.{number_cell, date_cell, logical_cell, text_cell}
 use Rattle.dbf_cell.specs.Codes.{empty_code, number_code, date_code, logical_code, text_code}
 use Rattle.dbf_cell.specs.AnswerLaws.{Numbered, table_below, number-numbered, number-refusal, day_refusal, logical-refusal, place-refusal}
 use Rattle.dbf_cell.specs.Cell.{Logical}
-use Rattle.dbf_cell.specs.declared.TextPlace.{TextPlace}
+use Rattle.dbf_cell.specs.Cell.{TextAnswer}
 use Rattle.dbf_cell.specs.declared.TextPlace.TheVariants as text
 use Rattle.octets.specs.Order.{ordering, is_equal}
 use Rattle.idx_lookup.specs.FirstRecord.{record_of, entry_decides, neighbour_decides, first_from}
@@ -177,17 +178,17 @@ logical_case (Ok None) small = other refl refl
 logical_case (Err n) small = refused (small n refl)
 
 -- a place in the table or in the memo file
-abbrev pub IsText : TextPlace → Type 0
-IsText a = (start len : ℕ) × ((a ≡ text.Table start len) ⊎ (a ≡ text.Memo start len))
+abbrev pub IsText : TextAnswer → Type 0
+IsText a = (start len : ℕ) × ((a ≡ Ok (Some (text.Table (span start len)))) ⊎ (a ≡ Ok (Some (text.Memo (span start len)))))
 
-text_case : (a : TextPlace) → RefusalsNumbered text.Refused a → Case (text_code a) empty_code (IsText a) (a ≡ text.Empty)
+text_case : (a : TextAnswer) → RefusalsNumbered Err a → Case (text_code a) empty_code (IsText a) (a ≡ (Ok None))
 unfolding text_code
-text_case (text.Table start len) small = accepted refl (start, len, inl refl)
-text_case (text.Memo start len) small = accepted refl (start, len, inr refl)
-text_case text.Empty small = other refl refl
-text_case (text.Refused n) small = refused (small n refl)
+text_case (Ok (Some (text.Table place))) small = accepted refl (place.start, place.len, inl refl)
+text_case (Ok (Some (text.Memo place))) small = accepted refl (place.start, place.len, inr refl)
+text_case (Ok None) small = other refl refl
+text_case (Err n) small = refused (small n refl)
 
-located : (a : TextPlace) (start len : ℕ) → (a ≡ text.Table start len) ⊎ (a ≡ text.Memo start len) → text_code a ≡ 0
+located : (a : TextAnswer) (start len : ℕ) → (a ≡ Ok (Some (text.Table (span start len)))) ⊎ (a ≡ Ok (Some (text.Memo (span start len)))) → text_code a ≡ 0
 unfolding text_code
 located a start len (inl e) = ap text_code e
 located a start len (inr e) = ap text_code e
@@ -205,7 +206,7 @@ module _ (b : List ℕ) (i field : ℕ) where
   logical_told =
       told (omega arith) (logical_case (logical_cell b i field) (logical-refusal b i field)) (λ value. ap logical_code value.1) (λ empty. ap logical_code empty)
 
-  pub text_told : (m : List ℕ) → let a = text_cell b m i field in Told (text_code a) empty_code (IsText a) (a ≡ text.Empty)
+  pub text_told : (m : List ℕ) → let a = text_cell b m i field in Told (text_code a) empty_code (IsText a) (a ≡ (Ok None))
   unfolding text_code
   text_told m =
       told (omega arith) (text_case (text_cell b m i field) (λ n. place-refusal b i field n m))
