@@ -16,6 +16,7 @@ use Rattle.fpt_memo.specs.Memo.{MemoPlace, span, memo_header_bytes, memo_header_
 use Rattle.fpt_memo.specs.NumberText.{number-exactly}
 use Rattle.fpt_memo.specs.MemoLaws.{text-refusal}
 use Rattle.dbf_table.specs.Table.{type_c, type_m, field_type, field_length, field_decimals, table_checks}
+use Rattle.numeral.specs.Format.{Number}
 use Rattle.dbf_cell.specs.Cell.{cell_checks, cell_refusal, field_start, field_bytes}
 use Rattle.dbf_cell.specs.Cell.{number_cell, date_cell, letter_t, letter_f, logical_of, logical_cell, memo_part, text_at, text_cell}
 use Rattle.dbf_cell.specs.Codes.{empty_code}
@@ -64,7 +65,7 @@ check_numbered reads b i field n refused e =
     let none = eqb-false (cell_refusal reads b i field) 0 refused in
     (omega (arith, e), omega (arith, e))
 
-number_same : (m n : ℕ) → Numbered m → Err m ≡ Err n → Numbered n
+number_same : (m n : ℕ) → Numbered m → ◌≡◌ {A = Number} (Err m) (Err n) → Numbered n
 number_same m n small e = let k : m ≡ n = cc in (omega arith, omega arith)
 
 pub number-numbered : (s : List ℕ) (d n : ℕ) → read_number s d ≡ Err n → Numbered n

@@ -36,7 +36,6 @@ pub enum TextPlace {
 }
 
 // The bytes of a slice in a span.
-#[tactic(auto, using(crate::specs::CellLaws::part_window))]
 fn part(s: &[u8], span: Span) -> &[u8]
     requires { span.start + span.len ≤ length s.now }
     ensures { result.now ≡ window s.now span.start span.len }
@@ -196,11 +195,13 @@ pub fn text_part<'a>(table: &'a [u8], memo: &'a [u8], place: TextPlace) -> &'a [
 }
 
 // The text of a C or M field: of no bytes if the field is empty or the call is refused.
+#[tactic(auto, unfolding(crate::specs::Cell::text_part))]
 pub fn text<'a>(table: &'a [u8], memo: &'a [u8], number: u32, field: u32) -> &'a [u8]
     ensures { result.now ≡ text_part table.now memo.now (text_cell table.now memo.now number field) }
 {
     match text_place(table, memo, number, field) {
         Ok(Some(place)) => text_part(table, memo, place),
-        Ok(None) | Err(_) => &table[..0],
+        Ok(None) => &table[..0],
+        Err(_) => &table[..0],
     }
 }
