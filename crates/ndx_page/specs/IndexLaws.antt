@@ -7,7 +7,7 @@ use Rattle.idx_page.specs.PageLaws.{loop_end, loop_here, loop_later}
 use Rattle.idx_lookup.specs.Lookup.{decided}
 use Rattle.idx_lookup.specs.SearchLaws.{last_level}
 use Rattle.ndx_page.specs.Header.{page_size, max_levels, root_page, page_count, key_length, entry_size, entry_area, is_page, header_good}
-use Rattle.ndx_page.specs.HeaderLaws.{good-header}
+use Rattle.ndx_page.specs.HeaderLaws.{good-header, is-page}
 use Rattle.ndx_page.specs.Page.{count_at, page_good}
 use Rattle.ndx_page.specs.PageLaws.{within-page, good-page, within-fewer, lower-inside, entry-inside, key-within}
 use Rattle.ndx_page.specs.Within.{Within}
@@ -23,6 +23,10 @@ entries_fit b p i w = w.entries
 module _ (b : List ℕ) (good : header_good b ≡ true) where
   pub header_long : page_size ≤ length b
   header_long = (good-header b good).long
+
+  -- there is a root beside the header
+  pub some_pages : 2 ≤ page_count b
+  some_pages = let root = is-page (page_count b) (root_page b) (good-header b good).root in omega arith
 
   -- a page whose number is one
   pub page_within : (p : ℕ) → is_page (page_count b) p ≡ true → Within b p 0

@@ -275,11 +275,22 @@ impl<'a> Index<'a> {
 
     // Where the key of entry i begins.
     #[tactic(auto, using(crate::specs::IndexLaws::within_steps), unfolding(crate::specs::Page::key_offset))]
-    pub fn key_offset(&self, page: PageNumber, i: usize) -> usize
+    fn key_offset(&self, page: PageNumber, i: usize) -> usize
         requires { Within self.now.bytes.now page.0 (i + 1) }
         ensures { result ≡ key_offset self.now.bytes.now page.0 i }
     {
         self.entry_offset(page, i) + KEY_PLACE
+    }
+
+    // The key of entry i.
+    #[tactic(auto, using(crate::specs::IndexLaws::within_steps))]
+    pub fn key(&self, page: PageNumber, i: usize) -> &'a [u8]
+        requires { Within self.now.bytes.now page.0 (i + 1) }
+        ensures { result.now ≡ key_at self.now.bytes.now page.0 i }
+    {
+        let start = self.key_offset(page, i);
+        let end = start + self.key_length() as usize;
+        &self.bytes[start..end]
     }
 
     // Whether a page is a leaf.
