@@ -18,7 +18,7 @@ fn is_zero(index: &[u8], at: usize, n: usize) -> bool
     ensures { result ≡ is_equal (ordering (window index.now at n) (zeros n)) }
 {
     let blank = [0u8; Page::ENTRY_AREA];
-    octets::is_equal(octets::compare(&index[at..at + n], &blank[..n]))
+    octets::compare(&index[at..at + n], &blank[..n]).is_eq()
 }
 
 // Whether a page is zero but for its right link.

@@ -39,7 +39,7 @@ fn leaf_entry(index: &[u8], k: usize, n: usize, at: usize, last: usize) -> bool
     ensures { result ≡ leaf_entry index.now k at last }
 {
     idx_page::record_at(index, k, at).0 != 0
-        && octets::is_below(idx_keys::key_order(index, n, last, at))
+        && idx_keys::key_order(index, n, last, at).is_lt()
 }
 
 // Whether the entries of a leaf of `count` entries from entry `first` on are good, each after the entry before it; `last` is where the entry before them

@@ -10,4 +10,4 @@ unfolding window
 returns c =
     let args = c.args in
     let part : args.at + args.n - args.at ≡ args.n = omega arith in
-    c.is_equal.ensures ∙ rw (c.compare.ensures, part, zeros-part args.n entry_area (omega arith))
+    c.is_eq.ensures ∙ rw (c.compare.ensures, part, zeros-part args.n entry_area (omega arith))
