@@ -4,6 +4,12 @@ use Rattle.std.proofs.Common.{sym, ◌∙◌, eq-eqb, ne_eqb}
 use Rattle.std.proofs.Math.Path.{ap}
 use mathlib.Core.List.{List}
 use Rattle.refusal.specs.After.{left}
+use Rattle.refusal.specs.Refusals.{refusal_number}
+use Rattle.refusal.specs.RefusalLaws.{refusal-some}
+use Rattle.refusal.specs.declared.Refusal.{Refusal}
+use Rattle.idx_sound.specs.Sound.{Audited}
+use Rattle.idx_sound.proofs.Accepted.{answer-unsound, audit_unsound}
+use Rattle.idx_sound.proofs.AnswerLaws.{one_answer}
 use Rattle.refusal.specs.AfterLaws.{made_none, made_at}
 use Rattle.idx_page.specs.Header.{key_length, header_good}
 use Rattle.idx_sound.specs.AuditTest.{pages_good}
@@ -44,3 +50,8 @@ module _ (b key : List ℕ) (number : ℕ) where
         accepted_pair e q =
             made_none made b (remove_checks b key number) (header, (fits, (sound, (e, tt))))
             ∙ ap (λ (l : List ℕ). left l (Ok tt)) (sym q)
+
+-- what an audit says that the call passes on
+pub audit-refused : (b : List ℕ) (r : Refusal) → header_good b ≡ true → Audited b (refusal_number r) → (refusal_number r ≡ 25) × (pages_good b ≡ false)
+audit-refused b r h a =
+    let bad = audit_unsound b h a (refusal-some r) in (one_answer b (refusal_number r) 25 a (answer-unsound b h bad), bad)
