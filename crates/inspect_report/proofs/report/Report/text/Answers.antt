@@ -1,0 +1,6 @@
+-- `text`: the text of a field that lies in the table lies in its file.
+use Rattle.dbf_cell.specs.CellLaws.{at-within}
+use Rattle.inspect_report.proofs.report.Report.text.Goals as goal
+
+pub text_part-requires : goal.text_part-requires
+text_part-requires g c = ?
