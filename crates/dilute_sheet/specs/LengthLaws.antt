@@ -1,6 +1,6 @@
 -- Laws: how long a sheet's text is at most: so a buffer of 7 times the table's bytes and 4 more holds all of it. No proof of the code cites them: they are for
 -- who lends the buffer. Assumes nothing.
-use Rattle.std.specs.Prelude.{◌≡◌, refl, Bool, true, List, [], ◌∷◌, ◌++◌, length, eqb, Err, None, Ok, Some}
+use Rattle.std.specs.Prelude.{◌≡◌, refl, Bool, true, List, [], ◌∷◌, ◌++◌, length, eqb, Err, None, Ok, Some, Result}
 use Prim.Native.Nat.{ℕ, zero, suc, ◌+◌, ◌*◌, ◌-◌, ◌^◌, ◌≤◌, ◌<◌}
 use Rattle.std.proofs.Common.{add-mul, length-take, lit<, eqb-true, ltb-true, leb-true}
 use Rattle.std.proofs.Math.Nat.{mul_left_comm, mul-le-mul_left}
@@ -35,8 +35,6 @@ use Rattle.dilution.specs.BarcodeLaws.{good-table, known}
 use Rattle.dilution.specs.DilutionLaws.{sheet_good}
 use Rattle.dilution.specs.Dilution.{Dilution}
 use Rattle.dilute_sheet.specs.declared.input.Request.{Request}
-use Rattle.dilute_sheet.specs.declared.input.Input.{Input}
-use Rattle.dilute_sheet.specs.declared.input.Input.TheVariants.{Asked, Other}
 use Rattle.dilute_sheet.specs.Input.{line_feed, input_of}
 use Rattle.dilute_sheet.specs.Sheet.{number_text, answer_text, answer_on, record_line, lines_after, alone_text, request_text, input_text, sheet_text}
 
@@ -167,10 +165,10 @@ module _ (t b : List ℕ) (q : Request) where
       (λ e. rw e (omega (arith, lines_short (record_count t) 0, records-short (eqb-true refusal 0 e))))
       (λ e. rw e (omega (arith, alone-short refusal low)))
 
-input_short : (t b : List ℕ) (i : Input) → length (input_text t b i) ≤ 7 * length t + 4
+input_short : (t b : List ℕ) (i : Result Request ℕ) → length (input_text t b i) ≤ 7 * length t + 4
 unfolding input_text
-input_short t b (Asked q) = request_short t b q
-input_short t b Other = omega (arith, alone-short 40 (lit< tt))
+input_short t b (Ok q) = request_short t b q
+input_short t b (Err n) = omega (arith, alone-short 40 (lit< tt))
 
 -- Theorem: the text of a sheet has at most 7 times the table's bytes, and 4 more
 pub sheet_short : (t b s : List ℕ) → length (sheet_text t b s) ≤ 7 * length t + 4

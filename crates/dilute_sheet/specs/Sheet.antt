@@ -1,6 +1,6 @@
 -- Rules: the lines that the program prints, document 02, K11: "For each record not marked deleted, in order, it prints a line: barcode, sample and diluent as
 -- whole tenths, or barcode and refusal number, one space between." The call `sheet` cites `sheet_text`.
-use Rattle.std.specs.Prelude.{ℕ, zero, suc, ◌+◌, cond, List, [], ◌∷◌, ◌++◌, eqb, Err, Ok}
+use Rattle.std.specs.Prelude.{ℕ, zero, suc, ◌+◌, cond, List, [], ◌∷◌, ◌++◌, eqb, Result, Err, Ok}
 use Rattle.refusal.specs.Checks.{first_refusal}
 use Rattle.octets.specs.Text.{blank, decimal}
 use Rattle.dbf_table.specs.Table.{deleted_mark, record_count, deletion_byte}
@@ -8,8 +8,6 @@ use Rattle.dbf_cell.specs.Cell.{field_bytes}
 use Rattle.dilution.specs.Dilution.{sheet_checks, dilute_rule}
 use Rattle.dilution.specs.Dilution.{Dilution}
 use Rattle.dilute_sheet.specs.declared.input.Request.{Request}
-use Rattle.dilute_sheet.specs.declared.input.Input.{Input}
-use Rattle.dilute_sheet.specs.declared.input.Input.TheVariants.{Asked, Other}
 use Rattle.dilute_sheet.specs.Input.{line_feed, input_of}
 
 -- a number behind "one space"
@@ -45,9 +43,9 @@ request_text t b q =
     cond (eqb refusal 0) (lines_after t b q 0 (record_count t)) (alone_text refusal)
 
 -- "Other .. input .. give 40, before all else"
-unfoldable pub input_text : List ℕ → List ℕ → Input → List ℕ
-input_text t b (Asked q) = request_text t b q
-input_text t b Other = alone_text 40
+unfoldable pub input_text : List ℕ → List ℕ → Result Request ℕ → List ℕ
+input_text t b (Ok q) = request_text t b q
+input_text t b (Err n) = alone_text 40
 
 unfoldable pub sheet_text : List ℕ → List ℕ → List ℕ → List ℕ
 sheet_text t b s = input_text t b (input_of s)

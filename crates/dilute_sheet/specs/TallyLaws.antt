@@ -10,7 +10,6 @@ use Rattle.dilution.specs.Dilution.{sheet_checks, record_dilution}
 use Rattle.dilution.specs.DilutionLaws.{record-line}
 use Rattle.dilution.specs.Dilution.{Dilution}
 use Rattle.dilute_sheet.specs.declared.input.Request.{Request}
-use Rattle.dilute_sheet.specs.declared.tally.Verdict.TheVariants.{Lines, Alone}
 use Rattle.dilute_sheet.specs.Sheet.{answer_on}
 use Rattle.dilute_sheet.specs.Tally.{refusals, tally, lines_at, refused_at, sum_after, tally_of, request_verdict}
 
@@ -74,10 +73,10 @@ module _ (t b : List ℕ) (q : Request) where
   abbrev refusal : ℕ
   refusal = first_refusal (sheet_checks t b q.barcode_field q.field)
 
-  pub verdict-alone : (refusal ≡ 0 → ⊥) → request_verdict t b q ≡ Alone refusal
+  pub verdict-alone : (refusal ≡ 0 → ⊥) → request_verdict t b q ≡ Err refusal
   unfolding request_verdict
   verdict-alone some = rw (ne_eqb refusal 0 some)
 
-  pub verdict_lines : refusal ≡ 0 → request_verdict t b q ≡ Lines (tally_of t b q)
+  pub verdict_lines : refusal ≡ 0 → request_verdict t b q ≡ Ok (tally_of t b q)
   unfolding request_verdict
   verdict_lines none = rw none
