@@ -13,7 +13,7 @@ use Rattle.idx_lookup.specs.FirstRecord.{first_from}
 use Rattle.idx_lookup.specs.LookupLaws.{steps_record, steps-key}
 use Rattle.idx_lookup.specs.Lookup.{page_says, visit_rule, decided, lookup_from, lookup_rule}
 use Rattle.idx_lookup.specs.Ways.{search_way, way_from, way_decides}
-use Rattle.idx_lookup.specs.WayLaws.{page-some, way_is}
+use Rattle.idx_lookup.specs.WayLaws.{page-some, way_is, neighbour_none, neighbour_bad, neighbour_good}
 
 module _ (b : List ℕ) (header : header_good b ≡ true) where
   pub header_long : page_size ≤ length b
@@ -88,3 +88,10 @@ module _ (b key : List ℕ) (p pages : ℕ) (some : 1 ≤ pages) (few : pages �
   way_bad bad =
       let step = way_is (max_levels - pages) pages b key p (omega arith) in
       sym (rw (last_level pages some few, bad, way_from) at step)
+
+-- what the proofs of the functions on pages cite
+pub ruleset visit_steps = (page_within, visit_good, visit_bad)
+
+pub ruleset way_steps = (page_within, page_filled, way_good, way_bad)
+
+pub ruleset neighbour_steps = (page_within, page_filled, neighbour_none, neighbour_bad, neighbour_good)

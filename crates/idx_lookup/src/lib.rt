@@ -116,7 +116,7 @@ impl<'a> Search<'a> {
         requires { Within self.now.index.now (length self.now.key.now) page.0 (i + 1) }
         ensures { result ≡ is_equal (ordering (key_at self.now.index.now (length self.now.key.now) page.0 i) self.now.key.now) }
     {
-        octets::is_equal(idx_page::compare_entry(self.index, page, i, self.key))
+        idx_page::compare_entry(self.index, page, i, self.key).is_eq()
     }
 
     // The record number of entry `i` of a leaf.
@@ -187,7 +187,7 @@ impl<'a> Descent for Only<'a> {
         idx_page::root(self.0.index)
     }
 
-    #[tactic(auto, using(crate::specs::SearchLaws::page_within, crate::specs::SearchLaws::visit_good, crate::specs::SearchLaws::visit_bad))]
+    #[tactic(auto, using(crate::specs::SearchLaws::visit_steps))]
     fn visit(
         &self,
         page: PageOffset,
@@ -206,7 +206,7 @@ struct First<'a>(Search<'a>);
 
 impl<'a> First<'a> {
     // The right neighbour of a leaf decides, after `pages` pages.
-    #[tactic(auto, using(crate::specs::SearchLaws::page_within, crate::specs::SearchLaws::page_filled, crate::specs::WayLaws::neighbour_none, crate::specs::WayLaws::neighbour_bad, crate::specs::WayLaws::neighbour_good))]
+    #[tactic(auto, using(crate::specs::SearchLaws::neighbour_steps))]
     fn neighbour_decides(&self, right: PageOffset, pages: u32) -> Result<Outcome, Refusal>
         requires { pages ≤ max_levels }
         ensures { numbered result ≡ neighbour_decides self.now.0.index.now self.now.0.key.now pages right.0 }
@@ -268,7 +268,7 @@ impl<'a> Descent for First<'a> {
         idx_page::root(self.0.index)
     }
 
-    #[tactic(auto, using(crate::specs::SearchLaws::page_within, crate::specs::SearchLaws::page_filled, crate::specs::SearchLaws::way_good, crate::specs::SearchLaws::way_bad))]
+    #[tactic(auto, using(crate::specs::SearchLaws::way_steps))]
     fn visit(
         &self,
         page: PageOffset,

@@ -4,6 +4,7 @@ use Rattle.std.proofs.Common.{ap, ◌∙◌, arith, eq-eqb, ne_eqb}
 use Rattle.std.proofs.Math.Option.{some}
 use Rattle.ndx_page.specs.Header.{max_levels, page_count, is_page}
 use Rattle.ndx_page.specs.Page.{lower_at, is_leaf}
+use Rattle.ndx_page.specs.IndexLaws.{page_within, within_steps}
 use Rattle.ndx_sound.specs.Reading.{Key}
 use Rattle.ndx_sound.specs.Walk.{Status, if_good, item, passed}
 use Rattle.ndx_sound.proofs.WalkLaws.{if_is, if_not}
@@ -96,3 +97,10 @@ module _ (b : List ℕ) (root h p : ℕ) where
       height_on q eq e =
           let on : height_from b (suc (max_levels - 1 - (h + 1))) p ≡ suc (height_from b (max_levels - 1 - (h + 1)) q) = rw (e, eq, height_from) in
           let w = rw (one_more (max_levels - 1) h l, on) at inv in omega arith
+
+-- what the proofs of the functions with a loop cite
+pub ruleset lower_steps = (within_steps, zeros_end, zeros_off, zeros_on)
+
+pub ruleset pair_steps = (within_steps, items_end, items_stop, items_on)
+
+pub ruleset height_steps = (page_within, height_end, height_leaf, height_on)

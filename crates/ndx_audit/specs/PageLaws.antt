@@ -8,6 +8,7 @@ use Rattle.ndx_page.specs.Header.{root_page, page_count, keys_per_page, is_page,
 use Rattle.ndx_page.specs.Page.{count_at, lower_at, record_at, key_at, is_leaf, count_good}
 use Rattle.ndx_page.specs.Within.{Within}
 use Rattle.ndx_page.specs.PageLaws.{within-page}
+use Rattle.ndx_page.specs.IndexLaws.{page_within, within_steps}
 use Rattle.ndx_sound.specs.Reading.{Key, entries_at}
 use Rattle.ndx_sound.specs.ReadingLaws.{leaf-entries, branch-entries}
 use Rattle.ndx_sound.specs.Walk.{Status, if_good, over, items, passed, under, enter, walk}
@@ -16,9 +17,9 @@ use Rattle.ndx_sound.specs.AuditTest.{zeros, page_fits, index_height, start, com
 use Rattle.ndx_sound.specs.TreeLaws.{by_top}
 use Rattle.ndx_sound.proofs.Accepted.{Fit, fit, answer-bad, answer-sound, answer-unsound}
 use Rattle.ndx_sound.specs.Sound.{Audited}
-use Rattle.ndx_audit.specs.Steps.{Walker, items_from, children_from}
+use Rattle.ndx_audit.specs.Steps.{Walker, items_from, children_from, entering, walking}
 use Rattle.ndx_audit.specs.StepLaws.{items_by_number, children_by_number}
-use Rattle.ndx_audit.specs.LoopLaws.{not_on}
+use Rattle.ndx_audit.specs.LoopLaws.{not_on, children_end, children_bad, children_stop, children_on}
 
 and_off : (a c d : Bool) → (a && c) ≡ false → (a && (c && d)) ≡ false
 and_off true true d e = contra refl e
@@ -27,19 +28,19 @@ and_off false c d e = refl
 
 -- a page that is tested: first its number, then whether it is a leaf as its level asks and its count, and then a leaf's lower pages
 module _ (b : List ℕ) (lone : Bool) (h p : ℕ) where
-  abbrev pub Test : Bool
-  Test = beq (is_leaf b p) (eqb h 0) && count_good (keys_per_page b) (count_at b p) lone (is_leaf b p)
+  abbrev pub test : Bool
+  test = beq (is_leaf b p) (eqb h 0) && count_good (keys_per_page b) (count_at b p) lone (is_leaf b p)
 
   pub fits_never : is_page (page_count b) p ≡ false → page_fits b lone h p ≡ false
   unfolding page_fits
   fits_never e = rw e
 
   module _ (page : is_page (page_count b) p ≡ true) where
-    pub fits_off : Test ≡ false → page_fits b lone h p ≡ false
+    pub fits_off : test ≡ false → page_fits b lone h p ≡ false
     unfolding page_fits
     fits_off e = rw page (and_off (beq (is_leaf b p) (eqb h 0)) _ _ e)
 
-    module _ (e : Test ≡ true) where
+    module _ (e : test ≡ true) where
       parts : (beq (is_leaf b p) (eqb h 0) ≡ true) × (count_good (keys_per_page b) (count_at b p) lone (is_leaf b p) ≡ true)
       parts = both _ _ e
 
@@ -79,32 +80,32 @@ walk_is b lone (suc h) p s = refl
 
 -- page p with h levels under it, after the state s
 module _ (b : List ℕ) (lone : Bool) (h p : ℕ) (s : Status Key) where
-  abbrev pub Entering : Status Key
-  Entering = enter by_top (page_count b) (entries_at b) (page_fits b) lone h p s
+  abbrev entry : Status Key
+  entry = entering b lone h p s
 
-  abbrev pub Walking : Status Key
-  Walking = walk by_top (page_count b) (entries_at b) (page_fits b) lone h p s
+  abbrev walked : Status Key
+  walked = walking b lone h p s
 
-  pub walk_bad : Entering.good ≡ false → Walking.good ≡ false
-  walk_bad e = ap (λ (x : Status Key). x.good) (walk_is b lone h p s) ∙ not_on (inner b h p) Entering e
+  pub walk_bad : entry.good ≡ false → walked.good ≡ false
+  walk_bad e = ap (λ (x : Status Key). x.good) (walk_is b lone h p s) ∙ not_on (inner b h p) entry e
 
   -- it is entered, and the state is t
-  module _ (t : Status Key) (entered : Entering ≡ t) (good : t.good ≡ true) where
-    walk_on : Walking ≡ inner b h p t
+  module _ (t : Status Key) (entered : entry ≡ t) (good : t.good ≡ true) where
+    walk_on : walked ≡ inner b h p t
     walk_on = walk_is b lone h p s ∙ ap (if_good (inner b h p)) entered ∙ if_is (inner b h p) t good
 
     fits : Fit b lone h p
     fits = fit b lone h p (either (page_fits b lone h p) (λ u. u) (λ u. contra (ap (λ (x : Status Key). x.good) entered ∙ good) (off u)))
       where
-        off : page_fits b lone h p ≡ false → Entering.good ≡ false
+        off : page_fits b lone h p ≡ false → entry.good ≡ false
         off u = either s.good (λ g. rw (g, u)) (λ g. rw g)
 
-    pub walk_leaf : h ≡ 0 → Walking ≡ items_from (key_at b p) (record_at b p) (count_at b p) 0 t
+    pub walk_leaf : h ≡ 0 → walked ≡ items_from (key_at b p) (record_at b p) (count_at b p) 0 t
     walk_leaf q =
         let leaf = fits.leaf ∙ eq-eqb h 0 q in
         walk_on ∙ rw (q, leaf-entries b p fits.page fits.full leaf) (items_by_number (key_at b p) (record_at b p) (count_at b p) 0 t)
 
-    pub walk_upper : (g : ℕ) → h ≡ suc g → Walking ≡ children_from (key_at b p) (lower_at b p) (walk_under b g) (count_at b p) 0 t
+    pub walk_upper : (g : ℕ) → h ≡ suc g → walked ≡ children_from (key_at b p) (lower_at b p) (walk_under b g) (count_at b p) 0 t
     walk_upper g l =
         let branch = fits.leaf ∙ ne_eqb h 0 (λ z. omega (arith, l, z)) in
         let from_zero : 0 + count_at b p ≡ count_at b p = omega arith in
@@ -113,14 +114,14 @@ module _ (b : List ℕ) (lone : Bool) (h p : ℕ) (s : Status Key) where
 
 -- the walk from the root tells whether the index is sound
 module _ (b : List ℕ) where
-  abbrev pub WalkingAll : Status Key
-  WalkingAll = Walking b true (index_height b) (root_page b) start
+  abbrev all_walked : Status Key
+  all_walked = walking b true (index_height b) (root_page b) start
 
-  pub tree_bad : WalkingAll.good ≡ false → tree_good b ≡ false
+  pub tree_bad : all_walked.good ≡ false → tree_good b ≡ false
   unfolding tree_good
   tree_bad e = rw e
 
-  pub tree_is : (t : Status Key) → WalkingAll ≡ t → tree_good b ≡ (t.good && eqb t.entered (page_count b - 1))
+  pub tree_is : (t : Status Key) → all_walked ≡ t → tree_good b ≡ (t.good && eqb t.entered (page_count b - 1))
   unfolding tree_good
   tree_is t e = ap (complete b) e
 
@@ -134,3 +135,10 @@ module _ (b : List ℕ) (n : ℕ) where
 
 pub audited_sound : (b : List ℕ) → header_good b ≡ true → tree_good b ≡ true → Audited b 0
 audited_sound b good sound = answer-sound b good sound
+
+-- what the proofs of the functions on pages cite
+pub ruleset fit_steps = (page_within, fits_never, fits_off, fits_branch, fits_leaf, count_within)
+
+pub ruleset page_steps = (within_steps, walk_bad, walk_leaf, walk_upper, children_end, children_bad, children_stop, children_on)
+
+pub ruleset audit_steps = (audited_bad, audited_sound, audited_unsound)

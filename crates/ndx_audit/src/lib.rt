@@ -17,14 +17,14 @@ ghost use Rattle.ndx_sound.specs.Walk.{is_after, at_most, item, passed, enter, w
 ghost use Rattle.ndx_sound.specs.AuditTest.{zeros, page_fits, height_from, tree_good};
 ghost use Rattle.ndx_sound.specs.TreeLaws.{by_top};
 ghost use Rattle.ndx_audit.specs.State.{met, state, Ends};
-ghost use Rattle.ndx_audit.specs.Steps.{items_from};
+ghost use Rattle.ndx_audit.specs.Steps.{pair_step, pairs_step, pass_step, entering, walking};
 
 use idx_page::MAX_LEVELS;
 use ndx_page::{Index, PageNumber};
 use refusal::Refusal;
 
 // Whether the first `count` entries of a page have lower page 0.
-#[tactic(auto, using(ndx_page::specs::IndexLaws::within_steps, crate::specs::LoopLaws::zeros_end, crate::specs::LoopLaws::zeros_off, crate::specs::LoopLaws::zeros_on))]
+#[tactic(auto, using(crate::specs::LoopLaws::lower_steps))]
 fn no_lower(index: &Index, page: PageNumber, count: usize) -> bool
     requires { Within index.now.bytes.now page.0 count }
     ensures { result ≡ zeros (lower_at index.now.bytes.now page.0) count 0 }
@@ -38,7 +38,7 @@ fn no_lower(index: &Index, page: PageNumber, count: usize) -> bool
 }
 
 // Whether a page fits, `height` levels above the leaves: its number, whether it is a leaf, its count, and that a leaf has no lower pages.
-#[tactic(auto, using(ndx_page::specs::IndexLaws::page_within, crate::specs::PageLaws::fits_never, crate::specs::PageLaws::fits_off, crate::specs::PageLaws::fits_branch, crate::specs::PageLaws::fits_leaf, crate::specs::PageLaws::count_within))]
+#[tactic(auto, using(crate::specs::PageLaws::fit_steps))]
 fn page_fits(index: &Index, page: PageNumber, height: u32, lone: bool) -> bool
     ensures { result ≡ page_fits index.now.bytes.now lone height page.0 }
 {
@@ -71,7 +71,7 @@ impl<'a> Walk<'a> {
         ensures { result ≡ is_after by_top (met self.now.last) (some key.now) }
     {
         match self.last {
-            Some(last) => octets::is_below(octets::compare(last, key)),
+            Some(last) => octets::compare(last, key).is_lt(),
             None => true,
         }
     }
@@ -82,7 +82,7 @@ impl<'a> Walk<'a> {
         ensures { result ≡ at_most by_top (met self.now.last) (some key.now) }
     {
         match self.last {
-            Some(last) => !octets::is_below(octets::compare(key, last)),
+            Some(last) => !octets::compare(key, last).is_lt(),
             None => true,
         }
     }
@@ -90,7 +90,7 @@ impl<'a> Walk<'a> {
     // A pair of a leaf, entry i: its record number is above 0, and its key is above the last one met.
     fn pair(&mut self, index: &Index<'a>, page: PageNumber, i: usize) -> Result<(), Refusal>
         requires { Within index.now.bytes.now page.0 (i + 1) }
-        ensures { Ends (item by_top (some (key_at index.now.bytes.now page.0 i), record_at index.now.bytes.now page.0 i) (state self.old)) result (state self.new) }
+        ensures { Ends (pair_step index.now.bytes.now page.0 i (state self.old)) result (state self.new) }
     {
         let key = index.key(page, i);
         if index.record_number(page, i).0 == 0 {
@@ -104,10 +104,10 @@ impl<'a> Walk<'a> {
     }
 
     // The pairs of a leaf, one after another.
-    #[tactic(auto, using(ndx_page::specs::IndexLaws::within_steps, crate::specs::LoopLaws::items_end, crate::specs::LoopLaws::items_stop, crate::specs::LoopLaws::items_on))]
+    #[tactic(auto, using(crate::specs::LoopLaws::pair_steps))]
     fn pairs(&mut self, index: &Index<'a>, page: PageNumber, count: usize) -> Result<(), Refusal>
         requires { Within index.now.bytes.now page.0 count }
-        ensures { Ends (items_from (key_at index.now.bytes.now page.0) (record_at index.now.bytes.now page.0) count 0 (state self.old)) result (state self.new) }
+        ensures { Ends (pairs_step index.now.bytes.now page.0 count (state self.old)) result (state self.new) }
     {
         for i in 0..count {
             self.pair(index, page, i)?;
@@ -118,7 +118,7 @@ impl<'a> Walk<'a> {
     // The key above child i, after the child: it is at or above the last key met.
     fn pass(&mut self, index: &Index<'a>, page: PageNumber, i: usize) -> Result<(), Refusal>
         requires { Within index.now.bytes.now page.0 (i + 1) }
-        ensures { Ends (passed by_top (state self.old) (some (key_at index.now.bytes.now page.0 i))) result (state self.new) }
+        ensures { Ends (pass_step index.now.bytes.now page.0 i (state self.old)) result (state self.new) }
     {
         let key = index.key(page, i);
         if !self.at_most(key) {
@@ -137,7 +137,7 @@ impl<'a> Walk<'a> {
         height: u32,
         lone: bool,
     ) -> Result<(), Refusal>
-        ensures ends { Ends (enter by_top (page_count index.now.bytes.now) (entries_at index.now.bytes.now) (page_fits index.now.bytes.now) lone height page.0 (state self.old)) result (state self.new) }
+        ensures ends { Ends (entering index.now.bytes.now lone height page.0 (state self.old)) result (state self.new) }
         ensures fits { OnOk result (Within index.now.bytes.now page.0 (count_at index.now.bytes.now page.0)) }
     {
         if !page_fits(index, page, height, lone) {
@@ -151,7 +151,7 @@ impl<'a> Walk<'a> {
     }
 
     // Walks a page, `height` levels above the leaves, and all that is under it.
-    #[tactic(auto, using(ndx_page::specs::IndexLaws::within_steps, crate::specs::PageLaws::walk_bad, crate::specs::PageLaws::walk_leaf, crate::specs::PageLaws::walk_upper, crate::specs::LoopLaws::children_end, crate::specs::LoopLaws::children_bad, crate::specs::LoopLaws::children_stop, crate::specs::LoopLaws::children_on))]
+    #[tactic(auto, using(crate::specs::PageLaws::page_steps))]
     fn page(
         &mut self,
         index: &Index<'a>,
@@ -159,7 +159,7 @@ impl<'a> Walk<'a> {
         height: u32,
         lone: bool,
     ) -> Result<(), Refusal>
-        ensures { Ends (walk by_top (page_count index.now.bytes.now) (entries_at index.now.bytes.now) (page_fits index.now.bytes.now) lone height page.0 (state self.old)) result (state self.new) }
+        ensures { Ends (walking index.now.bytes.now lone height page.0 (state self.old)) result (state self.new) }
     {
         self.enter(index, page, height, lone)?;
         let count = index.key_count(page);
@@ -187,7 +187,7 @@ fn is_branch(index: &Index, page: PageNumber) -> bool
 }
 
 // The number of levels under the root, 14 at most, which the first lower pages show.
-#[tactic(auto, using(ndx_page::specs::IndexLaws::page_within, crate::specs::LoopLaws::height_end, crate::specs::LoopLaws::height_leaf, crate::specs::LoopLaws::height_on))]
+#[tactic(auto, using(crate::specs::LoopLaws::height_steps))]
 fn height_of(index: &Index, root: PageNumber) -> u32
     ensures { result ≡ height_from index.now.bytes.now (max_levels - 1) root.0 }
 {
@@ -222,7 +222,7 @@ fn walk_all(index: &Index) -> Result<(), Refusal>
 }
 
 // The audit: whether the header is good, and then whether the index is sound.
-#[tactic(auto, using(crate::specs::PageLaws::audited_bad, crate::specs::PageLaws::audited_sound, crate::specs::PageLaws::audited_unsound))]
+#[tactic(auto, using(crate::specs::PageLaws::audit_steps))]
 pub fn audit(index: &[u8]) -> Result<(), Refusal>
     ensures { Audited index.now (change_code (numbered result)) }
 {

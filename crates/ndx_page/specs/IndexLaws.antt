@@ -1,21 +1,24 @@
 -- Laws: what a good header gives the functions on pages, and the steps of lookup. Cited by the proofs of this crate's functions. Assumes nothing.
-use Rattle.std.specs.Prelude.{ℕ, suc, ◌-◌, ◌*◌, ◌≤◌, ◌≡◌, Bool, true, false, List, length, eqb, Err}
+use Rattle.std.specs.Prelude.{refl, cond, ℕ, suc, ◌-◌, ◌*◌, ◌≤◌, ◌≡◌, Bool, true, false, List, length, eqb, Err}
 use Rattle.std.proofs.Common.{arith, eq-eqb, ne_eqb}
 use Rattle.refusal.specs.Checks.{unless}
-use Rattle.idx_page.specs.KeyOrderLaws.{below, at_or_above}
+use Rattle.idx_page.specs.KeyOrderLaws.{below, at_or_above, reached}
 use Rattle.idx_page.specs.PageLaws.{loop_end, loop_here, loop_later}
-use Rattle.idx_lookup.specs.Lookup.{decided}
+use Rattle.idx_page.specs.Page.{first_at_or_above}
+use Rattle.octets.specs.Order.{ordering, is_equal}
+use Rattle.idx_lookup.specs.Lookup.{record_of, decided}
+use Rattle.idx_lookup.specs.Visit as visit
 use Rattle.idx_lookup.specs.SearchLaws.{last_level}
 use Rattle.ndx_page.specs.Header.{page_size, max_levels, root_page, page_count, key_length, entry_size, entry_area, is_page, header_good}
 use Rattle.ndx_page.specs.HeaderLaws.{good-header, is-page}
-use Rattle.ndx_page.specs.Page.{count_at, page_good}
+use Rattle.ndx_page.specs.Page.{count_at, lower_at, record_at, key_at, is_leaf, page_good}
 use Rattle.ndx_page.specs.PageLaws.{within-page, good-page, within-fewer, lower-inside, entry-inside, key-within}
 use Rattle.ndx_page.specs.Within.{Within}
-use Rattle.ndx_page.specs.Lookup.{page_says, visit_rule, lookup_from, lookup_rule}
+use Rattle.ndx_page.specs.Lookup.{page_of, leaf_says, entry_says, page_says, visit_rule, lookup_from, lookup_rule}
 
 pub ruleset within_steps = (within-fewer, lower-inside, entry-inside, key-within)
 
-pub ruleset search_steps = (within_steps, loop_end, loop_here, loop_later, below, at_or_above)
+pub ruleset search_steps = (within_steps, loop_end, loop_here, loop_later, below, at_or_above, reached)
 
 pub entries_fit : (b : List ℕ) (p i : ℕ) → Within b p i → i * entry_size b ≤ entry_area
 entries_fit b p i w = w.entries
@@ -48,6 +51,18 @@ module _ (b : List ℕ) (good : header_good b ≡ true) where
 pub rule_header : (b key : List ℕ) → header_good b ≡ false → lookup_rule b key ≡ Err 24
 unfolding lookup_rule unless
 rule_header b key bad = rw bad
+
+-- what page p says
+pub page_cases : (b key : List ℕ) (p : ℕ) → let i = first_at_or_above (key_at b p) key (count_at b p) 0 in
+    page_says b key p
+    ≡ cond (is_leaf b p)
+    (cond (eqb i (count_at b p)) visit.Absent
+    (cond (is_equal (ordering (key_at b p i) key)) (visit.Found (record_of (record_at b p i))) visit.Absent))
+    (visit.Child (page_of (lower_at b p i)))
+unfolding page_says entry_says leaf_says
+page_cases b key p = refl
+
+pub ruleset page_steps = (within_steps, page_cases)
 
 -- the rule's step on page p, the `pages`th that is visited
 module _ (b key : List ℕ) (p pages : ℕ) (some : 1 ≤ pages) (few : pages ≤ max_levels) where

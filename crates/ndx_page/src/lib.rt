@@ -355,10 +355,10 @@ impl<'a> Search<'a> {
     {
         for i in 0..count {
             let order = self.compare_entry(page, i);
-            if !octets::is_below(order) {
+            if order.is_ge() {
                 return Reach {
                     entry: i,
-                    equal: octets::is_equal(order),
+                    equal: order.is_eq(),
                 };
             }
         }
@@ -369,7 +369,7 @@ impl<'a> Search<'a> {
     }
 
     // What the entries of a page say of the key, after `pages` pages.
-    #[tactic(auto, using(crate::specs::IndexLaws::within_steps), unfolding(crate::specs::Lookup::page_says, crate::specs::Lookup::entry_says, crate::specs::Lookup::leaf_says))]
+    #[tactic(auto, using(crate::specs::IndexLaws::page_steps))]
     fn search_page(&self, page: PageNumber, pages: u32) -> ControlFlow<Outcome, PageNumber>
         requires { Within self.now.index.bytes.now page.0 (count_at self.now.index.bytes.now page.0) }
         ensures { (go : PageNumber → Answer) → follow go result ≡ decided go pages (page_says self.now.index.bytes.now self.now.key.now page.0) }

@@ -2,7 +2,6 @@
 // beside src/ says where the files and the answers came from.
 #![tactic(auto)]
 
-use idx_lookup::Answer;
 use std::rt::Files;
 use test_lines::{after_word, word};
 
@@ -25,16 +24,18 @@ fn look_up(out: &impl Print, index: &[u8], hex: &[u8]) {
     lines::print(out, b" l ");
     lines::print(out, hex);
     match ndx_page::lookup(index, &key[..n]) {
-        Answer::Found(number, pages) => print_lookup(out, 0, number.0, pages),
-        Answer::Absent(pages) => print_lookup(out, refusal::ABSENT, 0, pages),
-        Answer::Refused(code) => print_lookup(out, code, 0, 0),
+        Ok(outcome) => match outcome.found {
+            Some(number) => print_lookup(out, 0, number.0, outcome.pages),
+            None => print_lookup(out, refusal::ABSENT, 0, outcome.pages),
+        },
+        Err(refusal) => print_lookup(out, refusal.number(), 0, 0),
     }
 }
 
 // An audit.
 fn audit(out: &impl Print, index: &[u8]) {
     lines::print(out, b" a");
-    print_part(out, ndx_audit::audit(index));
+    print_part(out, refusal::change_code(ndx_audit::audit(index)));
 }
 
 // Sets a byte, if the file has so many.
