@@ -5,47 +5,39 @@
 ghost use Rattle.std.specs.Prelude.{◌≡◌, length};
 ghost use Rattle.dbf_create.specs.Laying.{room_length};
 
-use dbf_append::{Appended, Store};
+use dbf_append::Appended;
 use dbf_field::FieldEntry;
-use std::rt::Files;
 use std::str::Split;
 use std::{fs, io};
-use test_lines::{hex_bytes, number, word, words};
+use test_lines::{bad_line, hex_bytes, number, word, words};
 
 // The length of the table at the front of a buffer, its end mark counted.
 fn table_len(buffer: &[u8]) -> usize {
-    dbf_append::table_extent(buffer).length.saturating_add(1)
-}
-
-fn print_store(out: &impl Print, store: Store) -> io::Result<()> {
-    let Store { place, length } = store;
-    print!(out; " {place} {length}")
-}
-
-fn print_answer(out: &impl Print, answer: u32) -> io::Result<()> {
-    print!(out; " {answer}")
+    dbf_append::table_extent(buffer)
+        .unwrap_or(0)
+        .saturating_add(1)
 }
 
 // `RECORD ..`, with the table's length.
 fn append(
-    rt: &(impl Print + AllocGlobal),
+    rt: &HostRuntime,
     buffer: &mut [u8],
     len: usize,
     call: &mut Split<'_, char>,
 ) -> io::Result<()> {
     let record = hex_bytes(rt.alloc(), word(call)?)?;
-    let done = dbf_append::append(buffer, len, &record);
-    print_answer(rt, done.refusal)?;
-    if done.refusal == 0 {
-        print_store(rt, done.first)?;
-        print_store(rt, done.second)?;
+    match dbf_append::append(buffer, len, &record) {
+        Ok(Appended { first, second }) => {
+            print!(rt; " 0 {} {}", first.place, first.length)?;
+            print!(rt; " {} {}", second.place, second.length)
+        }
+        Err(refusal) => print!(rt; " {}", refusal.number()),
     }
-    Ok(())
 }
 
 // `YEAR MONTH DAY ..`
 fn set_date(
-    out: &impl Print,
+    rt: &HostRuntime,
     buffer: &mut [u8],
     len: usize,
     call: &mut Split<'_, char>,
@@ -53,50 +45,50 @@ fn set_date(
     let year = number(call)?;
     let month = number(call)?;
     let day = number(call)?;
-    print_answer(out, dbf_append::set_date(buffer, len, year, month, day))
+    let answer = dbf_append::set_date(buffer, len, year, month, day);
+    print!(rt; " {}", refusal::change_code(answer))
 }
 
 // `FILE LENGTH`: whether the table is the file.
-fn compare(
-    rt: &(impl Files + Print + AllocGlobal),
+fn is_file(
+    rt: &HostRuntime,
     buffer: &[u8],
     len: usize,
     call: &mut Split<'_, char>,
-) -> io::Result<()> {
+) -> io::Result<bool> {
     let file = fs::read(rt, word(call)?)?;
-    let same = buffer
-        .get(..len)
-        .is_some_and(|table| table == file.as_slice());
-    rt.print(if same { " same" } else { " differs" })
+    Ok(file.len() == len && buffer.starts_with(&file))
 }
 
 // A line on the buffer as the last accepted one left it.
 fn write_line(
-    rt: &(impl Files + Print + AllocGlobal),
+    rt: &HostRuntime,
     buffer: &mut [u8],
-    kind: &str,
+    name: &str,
     call: &mut Split<'_, char>,
 ) -> io::Result<()> {
     let len = table_len(buffer);
-    rt.print(kind)?;
-    match kind {
-        "date" => set_date(rt, buffer, len, call)?,
-        "image" => compare(rt, buffer, len, call)?,
-        "append" => append(rt, buffer, len, call)?,
-        // `append_longer`
-        _ => {
-            let len = buffer.len().saturating_add(1);
-            append(rt, buffer, len, call)?;
-        }
+    if name == "image" {
+        return test_lines::print_same(rt, name, is_file(rt, buffer, len, call)?);
     }
-    println!(rt)
+    print!(rt; "{name}")?;
+    match name {
+        "date" => set_date(rt, buffer, len, call)?,
+        "append" => append(rt, buffer, len, call)?,
+        "append_longer" => {
+            let longer = buffer.len().saturating_add(1);
+            append(rt, buffer, longer, call)?;
+        }
+        _ => return Err(bad_line()),
+    }
+    println!(rt;)
 }
 
 // A field's name with zeros behind it. A word above eleven bytes is no name.
 fn name_of(word: &str) -> [u8; 11] {
     let mut name = [0u8; 11];
-    if word.len() <= name.len() {
-        octets::copy_in(&mut name, 0, word.as_bytes());
+    if let Some(front) = name.get_mut(..word.len()) {
+        front.copy_from_slice(word.as_bytes());
     }
     name
 }
@@ -104,13 +96,11 @@ fn name_of(word: &str) -> [u8; 11] {
 // `NAME:TYPE:LENGTH:DECIMALS`. The offset is not read: any will do.
 fn entry_of(field: &str) -> io::Result<FieldEntry> {
     let mut parts = field.split(':');
-    let name = name_of(word(&mut parts)?);
-    let kind = word(&mut parts)?.as_bytes().first().copied().unwrap_or(0);
     Ok(FieldEntry {
-        name,
-        kind,
-        length: (number(&mut parts)? % 256) as u8,
-        decimals: (number(&mut parts)? % 256) as u8,
+        name: name_of(word(&mut parts)?),
+        kind: word(&mut parts)?.bytes().next().unwrap_or(0),
+        length: number(&mut parts)?,
+        decimals: number(&mut parts)?,
         offset: 65535,
     })
 }
@@ -128,32 +118,25 @@ fn list_field(room: &mut [u8], j: usize, entry: FieldEntry)
 // The fields of a `lay_out` line, `FIELD,FIELD,..` or `-` for none: a room for the first 128, and how many there are.
 fn fields_of(fields: &str) -> io::Result<([u8; 4130], usize)> {
     let mut room = dbf_create::no_fields();
-    let mut count = 0usize;
     if fields == "-" {
-        return Ok((room, count));
+        return Ok((room, 0));
     }
-    for field in fields.split(',') {
-        list_field(&mut room, count, entry_of(field)?);
-        count = count.saturating_add(1);
+    for (j, field) in fields.split(',').enumerate() {
+        list_field(&mut room, j, entry_of(field)?);
     }
-    Ok((room, count))
+    Ok((room, fields.split(',').count()))
 }
 
 // `YEAR MONTH DAY ROOM FIELDS ..`, on a buffer of ROOM bytes 0xEE. If the answer is 0, the buffer becomes the list's.
-fn lay_out(
-    rt: &(impl Print + AllocGlobal),
-    buffer: &mut Vec<u8>,
-    call: &mut Split<'_, char>,
-) -> io::Result<()> {
+fn lay_out(rt: &HostRuntime, buffer: &mut Vec<u8>, call: &mut Split<'_, char>) -> io::Result<()> {
     let year = number(call)?;
     let month = number(call)?;
     let day = number(call)?;
-    let size = number(call)? as usize;
+    let mut own = vec![in rt.alloc(); 0xEEu8; number(call)?]?;
     let (mut room, count) = fields_of(word(call)?)?;
-    let mut own = vec![in rt.alloc(); 0xEEu8; size]?;
     let answer = dbf_create::lay_out(&mut own, &mut room, count, year, month, day);
-    println!(rt; "lay_out {answer}")?;
-    if answer == 0 {
+    println!(rt; "lay_out {}", refusal::change_code(answer))?;
+    if answer.is_ok() {
         *buffer = own;
     }
     Ok(())
@@ -166,7 +149,7 @@ fn main(rt: HostRuntime) -> io::Result<()> {
         let mut call = words(line);
         match word(&mut call)? {
             "lay_out" => lay_out(&rt, &mut buffer, &mut call)?,
-            kind => write_line(&rt, &mut buffer, kind, &mut call)?,
+            name => write_line(&rt, &mut buffer, name, &mut call)?,
         }
     }
     Ok(())
