@@ -1,13 +1,13 @@
 // The reader of numeric text, one character at a time.
 #![tactic(auto)]
 
-ghost use Rattle.std.specs.Prelude.{◌≡◌, true, ◌<◌, ◌^◌};
+ghost use Rattle.std.specs.Prelude.{◌≡◌, true, ◌<◌, ◌^◌, if◌then◌else◌};
 ghost use Rattle.refusal.specs.Refusals.{numbered};
 ghost use Rattle.octets.specs.Text.{is_digit};
 ghost use Rattle.numeral.specs.Format.{max_digits};
 ghost use Rattle.numeral.specs.Reading.{signed};
-ghost use Rattle.numeral_scan.specs.Scan.{initial, refused_at, first_digit, is_point, whole_end, whole_start};
-ghost use Rattle.numeral_scan.specs.Scan.{next_place, next_zero, next_value, in_phase, with_digit};
+ghost use Rattle.numeral_scan.specs.Scan.{initial, refused_at, first_digit, is_point, whole_end};
+ghost use Rattle.numeral_scan.specs.Scan.{next_value, in_phase, with_digit};
 ghost use Rattle.numeral_scan.specs.Scan.{after_sign, after_blanks, after_whole, after_point, after_dropped, step, scan, settled, meaning};
 
 use numeral::PAST_DIGITS;
@@ -60,40 +60,15 @@ fn is_point(decimals: u32, c: u8) -> bool
     c == b'.' && 1 <= decimals
 }
 
-// The phase after the character c behind the whole part.
-fn whole_end(decimals: u32, c: u8) -> Phase
-    ensures { result ≡ whole_end decimals c }
+// The phase after the character c, no digit, where the point may stand; the point leads to the phase `behind`.
+fn at_point(decimals: u32, c: u8, behind: Phase) -> Phase
+    ensures { result ≡ (if is_point decimals c then behind else refused_at c) }
 {
     if is_point(decimals, c) {
-        Phase::Fraction(u64::from(decimals))
+        behind
     } else {
         refused_at(c)
     }
-}
-
-// The phase after the character c, no digit, at which the whole part should begin: the zero before a point may be dropped.
-fn whole_start(decimals: u32, c: u8) -> Phase
-    ensures { result ≡ whole_start decimals c }
-{
-    if is_point(decimals, c) {
-        Phase::Dropped(u64::from(decimals))
-    } else {
-        refused_at(c)
-    }
-}
-
-// The phase after a digit behind the point, if `left` digits were to come.
-fn next_place(left: u64) -> Phase
-    ensures { result ≡ next_place left }
-{
-    left.checked_sub(1).map_or(Phase::Bad, Phase::Fraction)
-}
-
-// The phase after a zero behind a point without a whole part, if `left` digits were to come.
-fn next_zero(left: u64) -> Phase
-    ensures { result ≡ next_zero left }
-{
-    left.checked_sub(1).map_or(Phase::Bad, Phase::Dropped)
 }
 
 // The number of the digits so far with the digit c behind them; a number of more than 18 digits stays as it is.
@@ -149,7 +124,8 @@ impl Reader {
         if is_digit(c) {
             self.with_digit(first_digit(c), c)
         } else {
-            self.in_phase(whole_start(self.decimals, c))
+            let behind = Phase::Dropped(u64::from(self.decimals));
+            self.in_phase(at_point(self.decimals, c, behind))
         }
     }
 
@@ -168,6 +144,14 @@ impl Reader {
         }
     }
 
+    // The state after the character c, no digit, if the whole part was taken before it.
+    fn after_digits(self, c: u8) -> Reader
+        ensures { result ≡ in_phase self (whole_end self.decimals c) }
+    {
+        let behind = Phase::Fraction(u64::from(self.decimals));
+        self.in_phase(at_point(self.decimals, c, behind))
+    }
+
     // The state after the character c, if digits of the whole part were taken before it, the first no zero.
     pub fn after_whole(self, c: u8) -> Reader
         ensures { result ≡ after_whole self c }
@@ -175,7 +159,7 @@ impl Reader {
         if is_digit(c) {
             self.with_digit(Phase::Whole, c)
         } else {
-            self.in_phase(whole_end(self.decimals, c))
+            self.after_digits(c)
         }
     }
 
@@ -184,7 +168,8 @@ impl Reader {
         ensures { result ≡ after_point self left c }
     {
         if is_digit(c) {
-            self.with_digit(next_place(left), c)
+            let phase = left.checked_sub(1).map_or(Phase::Bad, Phase::Fraction);
+            self.with_digit(phase, c)
         } else {
             self.in_phase(refused_at(c))
         }
@@ -195,7 +180,8 @@ impl Reader {
         ensures { result ≡ after_dropped self left c }
     {
         if c == b'0' {
-            self.in_phase(next_zero(left))
+            let phase = left.checked_sub(1).map_or(Phase::Bad, Phase::Dropped);
+            self.in_phase(phase)
         } else {
             self.after_point(left, c)
         }
@@ -209,7 +195,7 @@ impl Reader {
         match self.phase {
             Phase::Blank => self.after_blanks(c),
             Phase::Minus => self.after_sign(c),
-            Phase::Zero => self.in_phase(whole_end(self.decimals, c)),
+            Phase::Zero => self.after_digits(c),
             Phase::Whole => self.after_whole(c),
             Phase::Fraction(left) => self.after_point(left, c),
             Phase::Dropped(left) => self.after_dropped(left, c),
