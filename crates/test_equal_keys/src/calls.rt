@@ -23,7 +23,7 @@ fn print_list(out: &impl Print, list: &[u32]) -> io::Result<()> {
     Ok(())
 }
 
-// All records of a key, into a list with room for `room`. A list that is too short is left as it is, and nothing is printed of it.
+// All records of a key, into a list with room for `room`.
 fn print_records(
     alloc: Global,
     out: &impl Print,
@@ -32,12 +32,13 @@ fn print_records(
     room: usize,
 ) -> io::Result<()> {
     let mut list = vec![in alloc; 0u32; room]?;
-    let mut count: u32 = 0;
-    let answer = idx_records::records(index, key, &mut list, &mut count);
-    print!(out; " {answer}")?;
-    match list.get(..count as usize) {
-        Some(numbers) => print_list(out, numbers),
-        None => Ok(()),
+    match idx_records::records(index, key, &mut list) {
+        Ok(count) => {
+            list.truncate(count as usize);
+            print!(out; " 0")?;
+            print_list(out, &list)
+        }
+        Err(refusal) => print!(out; " {} -", refusal.number()),
     }
 }
 

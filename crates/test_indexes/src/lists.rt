@@ -1,5 +1,6 @@
 // Lists of calls: lines of text are turned into bytes and run by `idx_batch`, and the answers are printed as the lines have them.
 use idx_batch::ANSWER_SIZE;
+use refusal::{Refusal, change_code};
 use std::alloc::Global;
 use std::io;
 use std::slice::Iter;
@@ -29,12 +30,11 @@ struct Reply {
     pages: u32,
 }
 
-// What the written answers do not have: fresh's answer, how many calls were made, and the audit of the buffer after the last call.
+// What the written answers do not have: how many calls were made, or why there is no fresh index; and the audit of the buffer after the last call.
 #[derive(Clone, Copy)]
 struct Outcome {
-    fresh: u32,
-    made: usize,
-    audit: u32,
+    made: Result<usize, Refusal>,
+    audit: Result<(), Refusal>,
 }
 
 impl Batch {
@@ -74,24 +74,18 @@ impl Batch {
 
     // Makes the calls on a buffer, after a fresh index of distinct keys if that is the list's first line.
     fn run(&mut self, first: &Call, index: &mut [u8]) -> Outcome {
-        let (fresh, made) = match first {
+        let calls = &self.calls;
+        let answers = &mut self.answers;
+        let made = match first {
             Call::Fresh {
                 key_length,
                 expression,
                 ..
-            } => {
-                let calls = &self.calls;
-                let answers = &mut self.answers;
-                let done = idx_batch::run_batch(index, *key_length, 1, expression, calls, answers);
-                (done.fresh, done.made)
-            }
-            _ => {
-                let made = idx_batch::run_calls(index, &self.calls, &mut self.answers);
-                (0, made)
-            }
+            } => idx_batch::run_batch(index, *key_length, 1, expression, calls, answers),
+            _ => Ok(idx_batch::run_calls(index, calls, answers)),
         };
-        let audit = refusal::change_code(idx_audit::audit(index));
-        Outcome { fresh, made, audit }
+        let audit = idx_audit::audit(index);
+        Outcome { made, audit }
     }
 
     // The answers of the first `made` calls.
@@ -117,8 +111,8 @@ fn print_line(
 ) -> io::Result<()> {
     print!(out; "{letter} ")?;
     match letter {
-        "f" => println!(out; "{}", outcome.fresh),
-        "a" => println!(out; "{}", outcome.audit),
+        "f" => println!(out; "{}", change_code(outcome.made.map(|_| ()))),
+        "a" => println!(out; "{}", change_code(outcome.audit)),
         _ => match replies.next() {
             Some(reply) if letter == "l" => {
                 println!(out; "{} {} {}", reply.answer, reply.record, reply.pages)
@@ -141,7 +135,7 @@ pub fn run(
     let first = text.lines().next().ok_or_else(bad_line)?;
     let mut batch = Batch::read(alloc, text)?;
     let outcome = batch.run(&Call::read(alloc, first)?, index);
-    let replies = batch.replies(alloc, outcome.made)?;
+    let replies = batch.replies(alloc, outcome.made.unwrap_or(0))?;
     let mut replies = replies.iter();
     for line in text.lines() {
         print_line(rt, word(&mut words(line))?, &mut replies, outcome)?;
