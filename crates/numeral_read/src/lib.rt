@@ -8,8 +8,8 @@ ghost use Rattle.numeral.specs.Reading.{read_number};
 use numeral_scan::Reader;
 use refusal::Refusal;
 
-// Reads a numeric text: its value in units of 10 to the -decimals, or nothing. Its length is the field's width. The blanks on the left are passed before the
-// reader starts, since most texts begin with blanks.
+// Reads a numeric text: its value in units of 10 to the -decimals, or nothing. Its length is the field's width. The blanks on the left, which leave the reader's
+// state as it is, are passed first: most texts begin with blanks, and one loop for all characters takes twice as long over blanks.
 #[tactic(auto, using(numeral::specs::ReadingLaws::refused_6))]
 pub fn read_number(text: &[u8], decimals: u32) -> Result<Option<i64>, Refusal>
     ensures { numbered result ≡ read_number text.now decimals }
