@@ -11,7 +11,6 @@ use Rattle.basis.specs.Tests.{either, contra}
 use Rattle.octets.specs.Bytes.{be32}
 use Rattle.octets.specs.NumberLaws.{be32-window}
 use Rattle.std.specs.declared.cmp.Ordering.{Ordering}
-use Rattle.std.specs.declared.cmp.Ordering.TheVariants.{Less, Equal, Greater}
 use Rattle.octets.specs.Order.{bytes_le, ordering, is_below, is_equal}
 use Rattle.octets.specs.OrderLaws.{le_refl}
 use Rattle.tree.specs.Position.{Passes, position, passes_lower}
