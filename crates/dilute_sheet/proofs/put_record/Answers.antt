@@ -21,6 +21,6 @@ pub returns : goal.returns
 returns c =
     let byte = placed-mark _ c.args.number _ _ c.place_at-place.ensures.0 in
     let line = line_kept c.args.table.now c.args.index.now c.args.request c.args.number c.requires.0 c.requires.1 c.requires.2
-        (λ e. c.if-place-eq-DELETED.false (byte ∙ e)) in
+    (λ e. c.if-place-eq-DELETED.false (byte ∙ e)) in
     let bytes = placed-bytes c.args.table.now c.args.number c.args.request.barcode_field _ c.place_at-place.ensures.0 in
     rw line (wrote_then _ _ _ _ _ _ (rw bytes at c.put-end.ensures) ∙ rw c.record_dilution-answer.ensures at c.put_answer.ensures)

@@ -8,4 +8,4 @@ abbrev pub invariant-loop-number : goal.invariant-loop-number
 invariant-loop-number l =
     (length l.out ≡ length l.fn.out) × (l.end ≤ length l.out)
     × (wrote l.out l.end (lines_after l.fn.table l.fn.index l.fn.request l.number (l.records - l.number))
-        ≡ wrote l.fn.out 0 (lines_after l.fn.table l.fn.index l.fn.request 0 l.records))
+    ≡ wrote l.fn.out 0 (lines_after l.fn.table l.fn.index l.fn.request 0 l.records))
