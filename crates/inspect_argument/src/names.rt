@@ -26,7 +26,6 @@ fn name_byte(table: &[u8], name: &[u8], j: usize, k: usize) -> bool
 }
 
 // Whether field j, from 0, has the name: its 11 bytes are the name's, and zeros behind them.
-#[tactic(auto, unfolding(crate::specs::Names::has_name))]
 fn has_name(table: &[u8], name: &[u8], j: usize) -> bool
     requires { descriptor j + 32 ≤ length table.now }
     ensures { result ≡ has_name table.now name.now j }

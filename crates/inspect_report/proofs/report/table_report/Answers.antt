@@ -8,3 +8,6 @@ overflow_cast-fields g c =
     let said = good_shape _ _ (sym c.in-Ok.ensures) in
     let few = (layout _ said.table).header.few in
     omega (arith, said.fields)
+
+pub all_records-requires : goal.all_records-requires
+all_records-requires g c = let said = good_shape _ _ (sym c.in-Ok.ensures) in (said.table, said.records, said.fields)
