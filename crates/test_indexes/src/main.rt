@@ -96,42 +96,36 @@ fn audit(index: &[u8]) -> u32 {
     refusal::change_code(idx_audit::audit(index))
 }
 
-fn read_index(rt: &HostRuntime, name: &str) -> io::Result<Vec<u8>> {
-    fs::read(rt, format!(in rt.alloc(); "{name}.idx")?.as_str())
-}
-
-fn read_calls(rt: &HostRuntime, name: &str) -> io::Result<String> {
-    fs::read_to_string(rt, format!(in rt.alloc(); "{name}.calls")?.as_str())
-}
-
 // Prints the audit of an index file, and how many accepted keys of its list it has. Then the list runs on a buffer of `size` zeros.
 fn run_on_zeros(rt: &HostRuntime, name: &str, size: usize) -> io::Result<()> {
-    let index = read_index(rt, name)?;
-    let calls = read_calls(rt, name)?;
-    let pairs = accepted_pairs(rt.alloc(), calls.as_str())?;
+    let alloc = rt.alloc();
+    let index = fs::read(rt, format!(in alloc; "{name}.idx")?.as_str())?;
+    let calls = fs::read_to_string(rt, format!(in alloc; "{name}.calls")?.as_str())?;
+    let pairs = accepted_pairs(alloc, calls.as_str())?;
     let accepted = pairs.len();
     let found = pairs.iter().filter(|pair| pair.is_in(&index)).count();
     println!(rt;
         "{name} audit {} accepted {accepted} found {found}",
         audit(&index)
     )?;
-    let mut zeros = vec![in rt.alloc(); 0u8; size]?;
+    let mut zeros = vec![in alloc; 0u8; size]?;
     lists::run(rt, name, calls.as_str(), &index, &mut zeros)
 }
 
 // Audits an index file, and makes the calls of a list on it. `after` is the index file after the list.
 fn run_on_file(rt: &HostRuntime, name: &str, after: &str) -> io::Result<()> {
-    let mut index = read_index(rt, name)?;
+    let alloc = rt.alloc();
+    let mut index = fs::read(rt, format!(in alloc; "{name}.idx")?.as_str())?;
     index.resize(ROOM, 0)?;
     println!(rt; "{name} {}", audit(&index))?;
-    let calls = read_calls(rt, name)?;
-    let after = read_index(rt, after)?;
+    let calls = fs::read_to_string(rt, format!(in alloc; "{name}.calls")?.as_str())?;
+    let after = fs::read(rt, format!(in alloc; "{after}.idx")?.as_str())?;
     lists::run(rt, name, calls.as_str(), &after, &mut index)
 }
 
 // Audits damaged copies of an index.
 fn damaged_copies(rt: &HostRuntime) -> io::Result<()> {
-    let whole = read_index(rt, "k10_random")?;
+    let whole = fs::read(rt, "k10_random.idx")?;
     for (name, at, value) in DAMAGES {
         let mut index = whole.clone()?;
         test_lines::set_byte(&mut index, at, value);

@@ -36,28 +36,18 @@ fn append(
 }
 
 // `YEAR MONTH DAY ..`
-fn set_date(
-    rt: &HostRuntime,
-    buffer: &mut [u8],
-    len: usize,
-    call: &mut Split<'_, char>,
-) -> io::Result<()> {
+fn set_date(rt: &HostRuntime, buffer: &mut [u8], call: &mut Split<'_, char>) -> io::Result<()> {
     let year = number(call)?;
     let month = number(call)?;
     let day = number(call)?;
-    let answer = dbf_append::set_date(buffer, len, year, month, day);
+    let answer = dbf_append::set_date(buffer, table_len(buffer), year, month, day);
     print!(rt; " {}", refusal::change_code(answer))
 }
 
 // `FILE LENGTH`: whether the table is the file.
-fn is_file(
-    rt: &HostRuntime,
-    buffer: &[u8],
-    len: usize,
-    call: &mut Split<'_, char>,
-) -> io::Result<bool> {
+fn is_file(rt: &HostRuntime, buffer: &[u8], call: &mut Split<'_, char>) -> io::Result<bool> {
     let file = fs::read(rt, word(call)?)?;
-    Ok(file.len() == len && buffer.starts_with(&file))
+    Ok(file.len() == table_len(buffer) && buffer.starts_with(&file))
 }
 
 // A line on the buffer as the last accepted one left it.
@@ -67,18 +57,14 @@ fn write_line(
     name: &str,
     call: &mut Split<'_, char>,
 ) -> io::Result<()> {
-    let len = table_len(buffer);
     if name == "image" {
-        return test_lines::print_same(rt, name, is_file(rt, buffer, len, call)?);
+        return test_lines::print_same(rt, name, is_file(rt, buffer, call)?);
     }
     print!(rt; "{name}")?;
     match name {
-        "date" => set_date(rt, buffer, len, call)?,
-        "append" => append(rt, buffer, len, call)?,
-        "append_longer" => {
-            let longer = buffer.len().saturating_add(1);
-            append(rt, buffer, longer, call)?;
-        }
+        "date" => set_date(rt, buffer, call)?,
+        "append" => append(rt, buffer, table_len(buffer), call)?,
+        "append_longer" => append(rt, buffer, buffer.len().saturating_add(1), call)?,
         _ => return Err(bad_line()),
     }
     println!(rt;)
