@@ -2,7 +2,7 @@
 use Rattle.std.specs.Prelude.{Ok, Err, Some, None, ◌≡◌, refl, true, false, List, [], ◌∷◌, ℕ, ◌+◌, ◌*◌, ◌^◌, ◌≤◌, ◌<◌, length}
 use Rattle.std.proofs.Common.{sym, ap, ◌∙◌, mul-le-mul}
 use native.Mathlib.Omega.{arith}
-use borrow.Author.Tests.{leb-true, ne_eqb}
+use borrow.Author.Tests.{leb-true, lt-leb, ne_eqb}
 use Rattle.basis.specs.Tests.{either, both, first_arm, impossible}
 use Rattle.octets.specs.Bytes.{be32}
 use Rattle.fpt_memo.specs.declared.Span.{Span}
@@ -23,6 +23,11 @@ bytes_fit n size h l =
 pub header-long : (file : List ℕ) → memo_header_good file ≡ true → memo_header_bytes ≤ length file
 unfolding memo_header_good
 header-long file e = leb-true memo_header_bytes (length file) (both _ _ (both _ _ (both _ _ (both _ _ e).0).0).0).0
+
+-- one of fewer bytes has none
+pub header-short : (file : List ℕ) → length file < memo_header_bytes → memo_header_good file ≡ false
+unfolding memo_header_good
+header-short file h = rw (lt-leb memo_header_bytes (length file) h)
 
 end-inside : (file : List ℕ) (end : ℕ) → end_fits file end ≡ true → end ≤ length file
 end-inside file end e = leb-true end (length file) (both _ _ e).0

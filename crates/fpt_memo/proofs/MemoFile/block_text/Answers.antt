@@ -1,7 +1,7 @@
 -- The tests are the rule's, in the rule's order.
 use Rattle.std.proofs.Common.{sym, ◌∙◌}
 use Rattle.fpt_memo.specs.MemoLaws.{text_no_head, text_no_end, text_other, text_found}
-use Rattle.fpt_memo.proofs.block_text.Goals as goal
+use Rattle.fpt_memo.proofs.MemoFile.block_text.Goals as goal
 
 pub returns-then-not-head_fits : goal.returns-then-not-head_fits
 returns-then-not-head_fits c = sym (text_no_head _ _ (sym c.head_fits.ensures ∙ c.if-not-head_fits.true))
