@@ -27,6 +27,7 @@ const INPUT_ROOM: usize = 64;
 const SHEET_ROOM: usize = 1048576;
 
 // What is wrong with the numbers that are on standard input.
+#[derive(Clone, Copy)]
 struct Numbers<'a>(&'a [u8]);
 
 impl Display for Numbers<'_> {
