@@ -17,13 +17,13 @@ pub returns-then-not-first_up_to : goal.returns-then-not-first_up_to
 returns-then-not-first_up_to c =
     let args = c.args in
     let passes : Passes Item = λ x y. first_up_to max_levels args.index.now (stored args.key.now args.number.0) y in
-    position_stop _ _ _ passes _ c.loop-i.i c.loop-i.invariant (omega arith) (sym c.if-not-first_up_to.ensures) ∙ ap (position passes) (sym (listed c.requires.0))
+    position_stop _ _ _ passes _ c.loop-i.i c.loop-i.invariant (omega arith) (sym c.first_up_to.ensures ∙ c.if-not-first_up_to.true) ∙ ap (position passes) (sym (listed c.requires.0))
 
 pub loop-i-preserved : goal.loop-i-preserved
 loop-i-preserved c =
     let args = c.args in
     let passes : Passes Item = λ x y. first_up_to max_levels args.index.now (stored args.key.now args.number.0) y in
-    position-on _ _ _ passes _ c.loop-i.i c.loop-i.invariant (omega arith) (sym c.if-not-first_up_to.ensures)
+    position-on _ _ _ passes _ c.loop-i.i c.loop-i.invariant (omega arith) (sym c.first_up_to.ensures ∙ c.if-not-first_up_to.false)
 
 pub returns : goal.returns
 returns c =
