@@ -1,5 +1,5 @@
 -- Rules: appending a record to a table, document 02, K3: the refusals in their order, the two stores, and the buffer that they leave.
-use Rattle.std.specs.Prelude.{ℕ, zero, suc, ◌+◌, ◌≤◌, ◌<◌, ◌≡◌, List, [], ◌∷◌, ◌++◌, Bool, cond, ◌&&◌, length, take, eqb, leb, Err, None, Ok, Some}
+use Rattle.std.specs.Prelude.{ℕ, zero, suc, ◌+◌, ◌≤◌, ◌<◌, ◌≡◌, List, [], ◌∷◌, ◌++◌, Bool, cond, ◌&&◌, length, take, eqb, leb, Err, None, Ok, Some, Result}
 use Rattle.refusal.specs.After.{After, left}
 use Rattle.refusal.specs.Checks.{first_refusal, unless}
 use Rattle.octets.specs.Bytes.{byte_at, to_le32}
@@ -42,7 +42,7 @@ logical_refusal (Err n) = n
 
 -- "M by 21 for its form alone"
 unfoldable pub memo_refusal : MemoNumber → ℕ
-memo_refusal (Ok (Some n)) = 0
+memo_refusal (Ok (Some number)) = 0
 memo_refusal (Ok None) = 0
 memo_refusal (Err n) = n
 
@@ -120,17 +120,21 @@ count_write t = record { place = count_place; bytes = to_le32 (record_count t + 
 
 -- ---- the answer
 
+-- the two stores, or a refusal's number
+abbrev pub Answer : Type 0
+Answer = Result Appended ℕ
+
 -- both stores made in a buffer that begins with the table; "Append changes only two stores' bytes and answers both, place and length each"
-unfoldable pub stored : List ℕ → List ℕ → After Appended
+unfoldable pub stored : List ℕ → List ℕ → After Answer
 stored b r =
-    left (write (count_write b) (write (record_write b r) b)) (record { refusal = 0; first = told (record_write b r); second = told (count_write b) })
+    left (write (count_write b) (write (record_write b r) b)) (Ok (record { first = told (record_write b r); second = told (count_write b) }))
 
 -- a refusal by a number: no store is made
-abbrev pub unstored : ℕ → Appended
-unstored n = let nothing : Store = record { place = 0; length = 0 } in record { refusal = n; first = nothing; second = nothing }
+abbrev pub unstored : ℕ → Answer
+unstored n = Err n
 
 -- what append leaves and answers; a refusal leaves the buffer as it was
-unfoldable pub append_rule : List ℕ → ℕ → List ℕ → After Appended
+unfoldable pub append_rule : List ℕ → ℕ → List ℕ → After Answer
 append_rule b n r = unless (append_checks b n r) (λ refusal. left b (unstored refusal)) (stored b r)
 
 -- what the stores rest on: the header's numbers are there, the record has R bytes, and the new end lies in the buffer

@@ -1,5 +1,5 @@
 -- Laws: how the code's tests meet the refusals of an append and of a new date, and the stores their rule. Assumes nothing.
-use Rattle.std.specs.Prelude.{ℕ, suc, ◌+◌, ◌*◌, ◌-◌, ◌≤◌, ◌<◌, ◌≡◌, Bool, true, false, length, take, drop, set, eqb, leb, Err, Ok}
+use Rattle.std.specs.Prelude.{ℕ, suc, ◌+◌, ◌*◌, ◌-◌, ◌≤◌, ◌<◌, ◌≡◌, Bool, true, false, length, take, drop, set, eqb, leb, Err, Ok, Option, None, Some, ℤ, refl}
 use Rattle.std.proofs.Math.Path.{sym, ap}
 use Rattle.std.proofs.Common.{◌∙◌, mul-le-mul_left, mul-one, length-append, get_or-take, length-take-le, lit<}
 use mathlib.Core.List.{List, [], ◌∷◌, ◌++◌}
@@ -18,7 +18,11 @@ use Rattle.numeral.specs.Reading.{read_number}
 use Rattle.fpt_memo.specs.Memo.{memo_number}
 use Rattle.dbf_cell.specs.Cell.{mark_good, logical_of}
 use Rattle.dbf_cell.specs.Codes.{number_refusal}
-use Rattle.dbf_table.specs.Table.{min_table, max_table, file_end, type_n, type_d, type_l, type_m, field_type, field_length, field_decimals, field_offset}
+use Rattle.calendar.specs.declared.Date.{Date}
+use Rattle.dbf_table.specs.FieldTypes.{letter_of, type_of}
+use Rattle.dbf_table.specs.declared.FieldType.{FieldType}
+use Rattle.dbf_table.specs.declared.FieldType.TheVariants as field
+use Rattle.dbf_table.specs.Table.{min_table, max_table, file_end, type_c, type_n, type_d, type_l, type_m, field_type, field_length, field_decimals, field_offset}
 use Rattle.dbf_table.specs.Table.{field_count, first_year, storable_date, header_length_of, record_length_of, record_count, records_end, size_good}
 use Rattle.dbf_table.specs.Table.{table_checks, table_refusal, check_table}
 use Rattle.dbf_table.specs.TableLaws.{Layout, layout, table-numbered, good_check, good_then, refused_check, refused_then}
@@ -117,6 +121,51 @@ module _ (type decimals : ℕ) (s : List ℕ) where
   pub text_any : (type ≡ type_n → ⊥) → (type ≡ type_d → ⊥) → (type ≡ type_l → ⊥) → (type ≡ type_m → ⊥) → text_refusal type decimals s ≡ 0
   unfolding text_refusal
   text_any a b c d = rw (ne_eqb type type_n a, ne_eqb type type_d b, ne_eqb type type_l c, ne_eqb type type_m d)
+
+-- a letter is that of the type that it stands for
+pub letter_is : (letter : ℕ) (t : FieldType) → type_of letter ≡ Some t → letter ≡ letter_of t
+letter_is letter t e =
+    either (eqb letter type_c)
+    (λ c. let q : Some field.Text ≡ Some t = rw c at e in let is : t ≡ field.Text = cc in rw is (eqb-true letter type_c c))
+    (λ not-c. either (eqb letter type_n)
+    (λ n. let q : Some field.Number ≡ Some t = rw (not-c, n) at e in let is : t ≡ field.Number = cc in rw is (eqb-true letter type_n n))
+    (λ not-n. either (eqb letter type_d)
+    (λ d. let q : Some field.Date ≡ Some t = rw (not-c, not-n, d) at e in let is : t ≡ field.Date = cc in rw is (eqb-true letter type_d d))
+    (λ not-d. either (eqb letter type_l)
+    (λ l. let q : Some field.Logical ≡ Some t = rw (not-c, not-n, not-d, l) at e in let is : t ≡ field.Logical = cc in rw is (eqb-true letter type_l l))
+    (λ not-l. either (eqb letter type_m)
+    (λ m. let q : Some field.Memo ≡ Some t = rw (not-c, not-n, not-d, not-l, m) at e in let is : t ≡ field.Memo = cc in rw is (eqb-true letter type_m m))
+    (λ not-m. let q : None ≡ Some t = rw (not-c, not-n, not-d, not-l, not-m) at e in impossible (cc))))))
+
+-- a letter of no type, and that of text, takes any bytes
+pub text_taken : (letter decimals : ℕ) (s : List ℕ) → type_of letter ≡ None → text_refusal letter decimals s ≡ 0
+text_taken letter decimals s e =
+    text_any letter decimals s
+    (λ n. let q : Some field.Number ≡ None = rw n at e in impossible (cc))
+    (λ d. let q : Some field.Date ≡ None = rw d at e in impossible (cc))
+    (λ l. let q : Some field.Logical ≡ None = rw l at e in impossible (cc))
+    (λ m. let q : Some field.Memo ≡ None = rw m at e in impossible (cc))
+
+-- an answer that is no refusal
+pub number_taken : (v : Option ℤ) → number_refusal (Ok v) ≡ 0
+unfolding number_refusal
+number_taken None = refl
+number_taken (Some v) = refl
+
+pub date_taken : (v : Option Date) → date_refusal (Ok v) ≡ 0
+unfolding date_refusal
+date_taken None = refl
+date_taken (Some v) = refl
+
+pub logical_taken : (v : Option Bool) → logical_refusal (Ok v) ≡ 0
+unfolding logical_refusal
+logical_taken None = refl
+logical_taken (Some v) = refl
+
+pub memo_taken : (v : Option ℕ) → memo_refusal (Ok v) ≡ 0
+unfolding memo_refusal
+memo_taken None = refl
+memo_taken (Some v) = refl
 
 -- from one offset to another
 pub text-part : (t r : List ℕ) (j start end : ℕ) → start ≡ field_offset t j → end ≡ start + field_length t j → take (end - start) (drop start r) ≡ text_in t r j
@@ -314,7 +363,7 @@ place-fits b r place count given n p =
 -- the record and then the end mark are one store; a host is told of R + 1 bytes and of four
 pub stored_as : (b r b₁ b₂ b₃ : List ℕ) (place count : ℕ) → count ≡ le32 b 4 → place ≡ records_end b count
     → b₁ ≡ put b place r → b₂ ≡ set b₁ (place + length r) file_end → b₃ ≡ put b₂ 4 (to_le32 (count + 1))
-    → stored b r ≡ left b₃ (record { refusal = 0; first = record { place = place; length = length r + 1 }; second = record { place = 4; length = 4 } })
+    → stored b r ≡ left b₃ (Ok (record { first = record { place = place; length = length r + 1 }; second = record { place = 4; length = 4 } }))
 unfolding stored record_write count_write record_count to_le32
 stored_as b r b₁ b₂ b₃ place count n p e₁ e₂ e₃ =
     let two : put b place (r ++ (file_end ∷ [])) ≡ b₂ = put_snoc b place r file_end ∙ rw (← e₁) (sym e₂) in
