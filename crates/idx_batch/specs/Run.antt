@@ -1,5 +1,5 @@
 -- Rules: what the code that runs a list of calls leaves and answers, on every input, and demand 3 of it. Cited by `run_calls` and `run_batch`.
-use Rattle.std.specs.Prelude.{ℕ, ◌/◌, ◌≡◌, List, [], ◌∷◌, ◌++◌, length, take, Err, Ok}
+use Rattle.std.specs.Prelude.{ℕ, ◌/◌, ◌≡◌, List, [], ◌∷◌, ◌++◌, length, take, Result, Err, Ok}
 use Rattle.refusal.specs.After.{After}
 use Rattle.refusal.specs.After.{Change}
 use Rattle.octets.specs.Bytes.{to_le32}
@@ -12,7 +12,6 @@ use Rattle.idx_sound.specs.Sound.{Sound}
 use Rattle.idx_insert.specs.Fresh.{fresh_rule}
 use Rattle.idx_batch.specs.Encoding.{calls_in}
 use Rattle.idx_batch.specs.declared.Reply.{Reply}
-use Rattle.idx_batch.specs.declared.Batch.{Batch}
 
 -- the code of an answer: 0 for accepted and found, 257 for absent, or the refusal's number; and the number of the record that was found, or 0
 abbrev pub code_of : Answer → ℕ
@@ -75,21 +74,21 @@ run_rule b s out =
     let calls = made_calls s out in
     leaves (final_of buffer_after calls b) (put out 0 (replies_to calls b)) (length calls)
 
--- what a batch leaves: the buffer, the answers, and what it returns
+-- what a batch leaves: the buffer, the answers, and what it returns: how many calls were made, or the number of fresh's refusal
 pub record Started : Type 0 where
   pub after : List ℕ
   pub answers : List ℕ
-  pub batch : Batch
+  pub batch : Result ℕ ℕ
 
-abbrev pub started : List ℕ → List ℕ → Batch → Started
+abbrev pub started : List ℕ → List ℕ → Result ℕ ℕ → Started
 started b out r = record { after = b; answers = out; batch = r }
 
 -- fresh, and then the calls if fresh is accepted; else nothing is touched
 abbrev pub after_fresh : After Change → List ℕ → List ℕ → Started
 after_fresh f s out =
     elim f.answer [
-      | (Ok tt) ↦ let r = run_rule f.after s out in started r.after r.answers (record { fresh = 0; made = r.made })
-      | Err n ↦ started f.after out (record { fresh = n; made = 0 })
+      | (Ok tt) ↦ let r = run_rule f.after s out in started r.after r.answers (Ok r.made)
+      | Err n ↦ started f.after out (Err n)
     ]
 
 unfoldable pub batch_rule : List ℕ → ℕ → ℕ → List ℕ → List ℕ → List ℕ → Started

@@ -129,20 +129,13 @@ module _ (b₀ s out₀ b out : List ℕ) (at m : ℕ) (g : Going b₀ s out₀ 
 -- a batch by fresh's answer
 module _ (b : List ℕ) (k f : ℕ) (e s out : List ℕ) {b' : List ℕ} where
   pub batch-made : {b'' out' : List ℕ} {n : ℕ} → fresh_rule b k f e ≡ left b' (Ok tt) → run_rule b' s out ≡ leaves b'' out' n
-      → batch_rule b k f e s out ≡ started b'' out' (record { fresh = 0; made = n })
+      → batch_rule b k f e s out ≡ started b'' out' (Ok n)
   unfolding batch_rule
   batch-made made r = rw (made, r)
 
-  pub batch-refused : {n : ℕ} → fresh_rule b k f e ≡ left b' (Err n) → batch_rule b k f e s out ≡ started b' out (record { fresh = n; made = 0 })
+  pub batch-refused : {n : ℕ} → fresh_rule b k f e ≡ left b' (Err n) → batch_rule b k f e s out ≡ started b' out (Err n)
   unfolding batch_rule
   batch-refused refused = rw (refused)
-
--- a refusal of fresh does not have the number 0
-pub refused-number : (b : List ℕ) (k f : ℕ) (e : List ℕ) {b' : List ℕ} {n : ℕ} → fresh_rule b k f e ≡ left b' (Err n) → n ≡ 0 → ⊥
-unfolding fresh_rule fresh_checks
-refused-number b k f e {b'} {n} q z =
-    made-number (fresh_buffer k f e b) b (λ (m : ℕ). m ≡ 0 → ⊥) (fresh_checks b k f e)
-    ((λ bad none. omega arith), ((λ bad none. omega arith), ((λ bad none. omega arith), tt))) n (ap (λ (i : After Change). i.answer) q) z
 
 -- bytes below 256, one by one, are so all together
 all_octets : (s : List ℕ) → ((i : ℕ) → get_or s i 0 < 256) → All (λ x. x < 256) s
