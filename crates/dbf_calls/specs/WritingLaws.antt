@@ -26,6 +26,15 @@ pub append_kept : (d : After Answer) (old : Stores) → ((append_out d old).answ
 unfolding append_out
 append_kept d old some = told-kept d.answer d.after old some
 
+module _ (rule : Extent) (old : ℕ) where
+  pub extent-refused : (n : ℕ) → rule ≡ Err n → extent_out rule old ≡ out n old
+  unfolding extent_out
+  extent-refused n e = rw e
+
+  pub extent-accepted : (length : ℕ) → rule ≡ Ok length → extent_out rule old ≡ out 0 length
+  unfolding extent_out
+  extent-accepted length e = rw e
+
 pub extent-kept : (extent : Extent) (old : ℕ) → ((extent_out extent old).answer ≡ 0 → ⊥) → (extent_out extent old).held ≡ old
 unfolding extent_out
 extent-kept (Ok length) old some = absurd (some refl)

@@ -28,6 +28,7 @@ pub fn table_check(table: &[u8]) -> u32
 }
 
 // How many records and fields a table has, and how long a record is.
+#[tactic(auto, unfolding(crate::specs::Answers::shape_out))]
 pub fn table_shape(
     table: &[u8],
     records: &mut u32,
@@ -80,6 +81,7 @@ pub fn listing_plan(table: &[u8], room: usize) -> Plan
 }
 
 // The deletion byte as an entry: what stands before the first field's.
+#[tactic(auto, unfolding(crate::specs::LentLaws::deletion_entry))]
 pub fn deletion_entry() -> FieldEntry
     ensures { result ≡ deletion_entry }
 {
@@ -119,6 +121,7 @@ pub struct LentLiveStep {
 }
 
 // What a step hands to C, with the number and the mark that are held there.
+#[tactic(auto, unfolding(crate::specs::Lent::lent_of))]
 fn lent(
     answer: Result<Option<Record>, Refusal>,
     position: Position,
@@ -150,6 +153,7 @@ fn lent(
 }
 
 // A step of the walk by value, from a position.
+#[tactic(auto, unfolding(crate::specs::Lent::walked_of))]
 pub fn lent_step(table: &[u8], mut position: Position, number: u32, deleted: u8) -> LentStep
     ensures { result ≡ walked_of table.now position number deleted }
 {
@@ -158,6 +162,7 @@ pub fn lent_step(table: &[u8], mut position: Position, number: u32, deleted: u8)
 }
 
 // A step of the walk that skips deleted records.
+#[tactic(auto, unfolding(crate::specs::Lent::live_of, crate::specs::Lent::lent_of))]
 pub fn lent_live_step(table: &[u8], mut position: Position, number: u32) -> LentLiveStep
     ensures { result ≡ live_of table.now position number }
 {
@@ -171,6 +176,7 @@ pub fn lent_live_step(table: &[u8], mut position: Position, number: u32) -> Lent
 }
 
 // Appends a record to the table in the buffer's first `table_len` bytes. The two stores are set in the order in which the file must get them.
+#[tactic(auto, unfolding(crate::specs::Writing::append_out))]
 pub fn table_append(
     buffer: &mut [u8],
     table_len: usize,
@@ -198,6 +204,7 @@ pub fn table_append(
 }
 
 // The length that the host shortens a table's file to after a power loss.
+#[tactic(auto, unfolding(crate::specs::Writing::extent_out))]
 pub fn table_extent(table: &[u8], length: &mut u64) -> u32
     ensures { extent_out (extent_rule table.now) length.old ≡ out result length.new }
 {
