@@ -87,8 +87,11 @@ module _ (t b : List ℕ) (barcodeField field : ℕ) (barcode : List ℕ) (targe
         sum = omega arith;
       }
     where
-      drawn_is : {x y : ℕ} → Ok {E = ℕ} (volumes x y) ≡ Ok (volumes sample diluent) → x ≡ sample
+      abbrev told : ℕ → ℕ → Dilution
+      told x y = Ok (volumes x y)
+
+      drawn_is : {x y : ℕ} → told x y ≡ told sample diluent → x ≡ sample
       drawn_is q = cc
 
-      added_is : {x y : ℕ} → Ok {E = ℕ} (volumes x y) ≡ Ok (volumes sample diluent) → y ≡ diluent
+      added_is : {x y : ℕ} → told x y ≡ told sample diluent → y ≡ diluent
       added_is q = cc

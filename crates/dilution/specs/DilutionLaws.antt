@@ -1,6 +1,6 @@
 -- Laws: the call's answer by the checks that its code makes; a record's answer is what the call gives for its barcode; what an answer with volumes says.
 -- Assumes nothing.
-use Rattle.std.specs.Prelude.{ℕ, ◌≤◌, ◌≡◌, Bool, true, List, [], ◌∷◌, ◌++◌, length, eqb, ltb, Err, None}
+use Rattle.std.specs.Prelude.{Ok, ℕ, ◌≤◌, ◌≡◌, Bool, true, List, [], ◌∷◌, ◌++◌, length, eqb, ltb, Err, None}
 use Rattle.std.proofs.Math.Path.{sym}
 use Rattle.std.proofs.Common.{◌∙◌, arith}
 use borrow.Author.Tests.{eqb-true, eqb-false, eq-eqb, ne_eqb, lt-ltb}
@@ -173,7 +173,7 @@ module _ (t b : List ℕ) (barcodeField field : ℕ) where
       (all_append Named checks (barcode_checks b barcode) sheet_named ((λ bad q. omega (arith, q)), ((λ bad q. omega (arith, q)), tt)))
       (named-after (text_checks t i field) (dilution_of c target final) n
       ((λ bad q. omega (arith, q)), ((λ bad q. omega (arith, q)), ((λ bad q. eqb-false text 0 bad q), tt)))
-      (named-after (volume_checks c target final) (volumes_of c target final) n
+      (named-after (volume_checks c target final) (Ok (volumes_of c target final)) n
       ((λ bad q. omega (arith, q)), ((λ bad q. omega (arith, q)), ((λ bad q. omega (arith, q)), tt)))
       (λ q z. impossible (cc))))
       e
