@@ -1,6 +1,6 @@
 -- Laws: what an answer with volumes says, for who pipettes by it. No proof of the code cites them: they are for readers of the rule. Assumes nothing.
 use Rattle.std.specs.Prelude.{ℕ, ◌+◌, ◌*◌, ◌-◌, ◌≤◌, ◌<◌, ◌≡◌, refl, Bool, true, List, ◌++◌, length, eqb, pos, negsuc, Err, None, Ok, Some}
-use Rattle.std.proofs.Common.{sym, ◌∙◌, arith}
+use Rattle.std.proofs.Common.{sym, ◌∙◌, arith, ap}
 use borrow.Author.Tests.{eqb-true, leb-true, ltb-true, not-true}
 use Rattle.basis.specs.Tests.{both, or_left, impossible}
 use Rattle.basis.specs.Lists.{All, all_left, all_right}
@@ -51,6 +51,18 @@ some-concentration (Ok (Some (negsuc c))) l = absurd (omega arith)
 some-concentration (Ok None) l = absurd (omega arith)
 some-concentration (Err n) l = absurd (omega arith)
 
+-- the two volumes of an answer
+abbrev drawn_in : Dilution → ℕ
+drawn_in (Ok v) = v.sample
+drawn_in (Err n) = 0
+
+abbrev added_in : Dilution → ℕ
+added_in (Ok v) = v.diluent
+added_in (Err n) = 0
+
+abbrev told : ℕ → ℕ → Dilution
+told x y = Ok (volumes x y)
+
 module _ (t b : List ℕ) (barcodeField field : ℕ) (barcode : List ℕ) (target final sample diluent : ℕ) where
   -- Theorem: volumes are given for the live record of that barcode alone, by its own concentration
   pub volumes_say : dilute_rule t b barcodeField field barcode target final ≡ Ok (volumes sample diluent)
@@ -87,11 +99,8 @@ module _ (t b : List ℕ) (barcodeField field : ℕ) (barcode : List ℕ) (targe
         sum = omega arith;
       }
     where
-      abbrev told : ℕ → ℕ → Dilution
-      told x y = Ok (volumes x y)
-
       drawn_is : {x y : ℕ} → told x y ≡ told sample diluent → x ≡ sample
-      drawn_is q = cc
+      drawn_is q = ap drawn_in q
 
       added_is : {x y : ℕ} → told x y ≡ told sample diluent → y ≡ diluent
-      added_is q = cc
+      added_is q = ap added_in q

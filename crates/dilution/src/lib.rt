@@ -16,6 +16,7 @@ ghost use Rattle.dilution.specs.Dilution.{distinct_index, header_checks, field_c
 ghost use Rattle.dilution.specs.Dilution.{dilution_of, record_dilution, dilute_rule, Dilutable};
 
 use dbf_table::FieldType;
+use idx_lookup::Outcome;
 use refusal::Refusal;
 
 // The decimals of a concentration's field.
@@ -75,10 +76,11 @@ pub fn check_sheet(
 }
 
 // Whether target and final volume are in their ranges.
+#[tactic(auto, unfolding(crate::specs::Dilution::in_range))]
 fn in_range(target: u64, final_volume: u64) -> bool
     ensures { result ≡ in_range target final_volume }
 {
-    (1..=MAX_TARGET).contains(&target) && (1..=MAX_FINAL).contains(&final_volume)
+    1 <= target && target <= MAX_TARGET && 1 <= final_volume && final_volume <= MAX_FINAL
 }
 
 // The sample's volume: target × final ÷ concentration to the nearest tenth, halves up. Nothing overflows, whatever the concentration: target × final is at most
@@ -128,14 +130,18 @@ fn dilution_of(concentration: u64, target: u64, final_volume: u64) -> Result<Vol
 fn amount_of(value: i64) -> u64
     ensures { result ≡ amount_of value }
 {
-    value.max(0) as u64
+    if value < 0 { 0 } else { value as u64 }
 }
 
 // The concentration that a text says, 0 for none.
+#[tactic(auto, unfolding(crate::specs::Dilution::concentration_of))]
 fn concentration_of(text: Option<i64>) -> u64
     ensures { result ≡ concentration_of (Ok text) }
 {
-    text.map_or(0, amount_of)
+    match text {
+        Some(value) => amount_of(value),
+        None => 0,
+    }
 }
 
 // The dilution of record `number`, from 1, of a table that was checked: 15, 35, 16 to 18, 36, 37, 38, or the volumes.
@@ -166,8 +172,8 @@ fn record_with(index: &[u8], barcode: &[u8]) -> u32
     ensures { result ≡ record_with index.now barcode.now }
 {
     match idx_lookup::lookup_from_root(index, barcode) {
-        Ok(outcome) => outcome.found.map_or(0, |number| number.0),
-        Err(_) => 0,
+        Ok(Outcome { found: Some(number), .. }) => number.0,
+        Ok(Outcome { found: None, .. }) | Err(_) => 0,
     }
 }
 
