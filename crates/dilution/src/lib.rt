@@ -5,18 +5,17 @@
 // `record_dilution`, which gives the very answer of `dilute` for the record's barcode.
 #![tactic(auto)]
 
-ghost use Rattle.std.specs.Prelude.{◌≡◌, true, ◌≤◌, ◌<◌, length};
+ghost use Rattle.std.specs.Prelude.{◌≡◌, ◌&&◌, eqb, true, ◌≤◌, ◌<◌, length};
 ghost use Rattle.refusal.specs.Checks.{first_refusal};
 ghost use Rattle.refusal.specs.Refusals.{numbered};
 ghost use Rattle.refusal.specs.After.{change_code};
 ghost use Rattle.idx_page.specs.Header.{key_length, header_good};
-ghost use Rattle.dbf_table.specs.Table.{table_refusal};
-ghost use Rattle.dilution.specs.Dilution.{max_target, max_final, sample_of, volumes_of, in_range, concentration_of, amount_of};
+ghost use Rattle.dbf_table.specs.Table.{type_n, table_refusal};
+ghost use Rattle.dilution.specs.Dilution.{concentration_decimals, max_target, max_final, sample_of, volumes_of, in_range, concentration_of, amount_of};
 ghost use Rattle.dilution.specs.Dilution.{distinct_index, header_checks, field_checks, sheet_checks, record_with};
 ghost use Rattle.dilution.specs.Dilution.{dilution_of, record_dilution, dilute_rule, Dilutable};
 
 use dbf_table::FieldType;
-use idx_lookup::Outcome;
 use refusal::Refusal;
 
 // The decimals of a concentration's field.
@@ -33,13 +32,20 @@ pub struct Volumes {
     pub diluent: u32,
 }
 
+// Whether a field with this type and this decimal count may be a concentration's.
+fn is_concentration(kind: u8, decimals: u8) -> bool
+    ensures { result ≡ eqb kind type_n && eqb decimals concentration_decimals }
+{
+    kind == FieldType::Number.letter() && decimals == DECIMALS
+}
+
 // The check of the concentration's field in a table that was checked: 12, 13.
 fn check_field(table: &[u8], field: u32) -> Result<(), Refusal>
     requires { table_refusal table.now ≡ 0 }
     ensures { change_code (numbered result) ≡ first_refusal (field_checks table.now field) }
 {
     let entry = dbf_field::field_entry(table, field)?;
-    if entry.kind == FieldType::Number.letter() && entry.decimals == DECIMALS {
+    if is_concentration(entry.kind, entry.decimals) {
         Ok(())
     } else {
         Err(Refusal::FieldType)
@@ -58,7 +64,11 @@ fn check_headers(table: &[u8], index: &[u8]) -> Result<(), Refusal>
     ensures { change_code (numbered result) ≡ first_refusal (header_checks table.now index.now) }
 {
     dbf_check::check_table(table)?;
-    if is_distinct(index) { Ok(()) } else { Err(Refusal::IndexHeader) }
+    if is_distinct(index) {
+        Ok(())
+    } else {
+        Err(Refusal::IndexHeader)
+    }
 }
 
 // The checks of a whole sheet: the match's, 24 for several records to a key, 12, 13.
@@ -172,8 +182,11 @@ fn record_with(index: &[u8], barcode: &[u8]) -> u32
     ensures { result ≡ record_with index.now barcode.now }
 {
     match idx_lookup::lookup_from_root(index, barcode) {
-        Ok(Outcome { found: Some(number), .. }) => number.0,
-        Ok(Outcome { found: None, .. }) | Err(_) => 0,
+        Ok(outcome) => match outcome.found {
+            Some(number) => number.0,
+            None => 0,
+        },
+        Err(_) => 0,
     }
 }
 

@@ -1,5 +1,5 @@
 -- The tests in their order, and then the volumes.
-use Rattle.std.proofs.Common.{sym, ap, ◌∙◌, ◌≡◌, arith, true, false, not}
+use Rattle.std.proofs.Common.{sym, ap, ◌∙◌, arith}
 use Rattle.std.specs.Prelude.{Ok}
 use Rattle.dilution.specs.StepLaws.{refused_36, refused_37, refused_38, diluted, range_bounds}
 use Rattle.dilution.proofs.dilution_of.Goals as goal

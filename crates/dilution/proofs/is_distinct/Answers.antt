@@ -11,4 +11,4 @@ pub returns-then-header_good : goal.returns-then-header_good
 returns-then-header_good c = distinct-tested _ _ (sym c.if-header_good.ensures) c.several.ensures
 
 pub returns-else-header_good : goal.returns-else-header_good
-returns-else-header_good c = distinct-bad _ (sym c.if-header_good.ensures)
+returns-else-header_good c = c.if-header_good.false ∙ distinct-bad _ (sym c.if-header_good.ensures)
