@@ -49,7 +49,7 @@ pub fn table_shape(
     }
 }
 
-// What the field list answers, and how many entries it writes: none if it refuses.
+// What the field list answers, as the number that C gets, and how many entries it writes: none if it refuses.
 #[derive(Clone, Copy)]
 pub struct Plan {
     pub answer: u32,
