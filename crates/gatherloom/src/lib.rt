@@ -241,7 +241,13 @@ pub extern "C" fn gl_index_records(
 ) -> u32
     ensures { records_rule index.now key.now list.old count.old ≡ told result list.new count.new }
 {
-    idx_records::records(index, key, list, count)
+    match idx_records::records(index, key, list) {
+        Ok(n) => {
+            *count = n;
+            0
+        }
+        Err(refusal) => refusal.number(),
+    }
 }
 
 // Matches an index against a field of a table: 0 if each record has exactly one entry, its key that record's field, and there are no others.
@@ -349,7 +355,9 @@ pub extern "C" fn gl_table_lay_out(
     for j in 0..count {
         dbf_create::write_field(&mut room, j, entries[j]);
     }
-    dbf_create::lay_out(buffer, &mut room, given, year, month, day)
+    change_code(dbf_create::lay_out(
+        buffer, &mut room, given, year, month, day,
+    ))
 }
 
 // Audits an NDX index: 24, 25, or 0 if it is sound.
