@@ -71,18 +71,26 @@ pub trait Descent {
         ensures { and_then (numbered result) (follow (answer self.now (max_levels - pages))) ≡ answer self.now (suc (max_levels - pages)) page };
 }
 
+// Looks a key up from a page on, with `levels` levels left: it calls itself on the child, with one level less.
+fn descend_from<D: Descent>(search: &D, page: D::Page, levels: u32) -> Result<Outcome, Refusal>
+    requires { levels ≤ max_levels }
+    ensures { numbered result ≡ D.answer search.now levels page }
+{
+    if levels == 0 {
+        return Err(Refusal::IndexNotSound);
+    }
+    let left = levels - 1;
+    match search.visit(page, MAX_LEVELS - left)? {
+        ControlFlow::Break(outcome) => Ok(outcome),
+        ControlFlow::Continue(child) => descend_from(search, child, left),
+    }
+}
+
 // Looks a key up, level by level.
 pub fn descend<D: Descent>(search: &D) -> Result<Outcome, Refusal>
     ensures { numbered result ≡ D.answer search.now max_levels (D.start search.now) }
 {
-    let mut page = search.root();
-    for level in 0..MAX_LEVELS {
-        match search.visit(page, level + 1)? {
-            ControlFlow::Break(outcome) => return Ok(outcome),
-            ControlFlow::Continue(child) => page = child,
-        }
-    }
-    Err(Refusal::IndexNotSound)
+    descend_from(search, search.root(), MAX_LEVELS)
 }
 
 // A lookup whose index has a good header, and whose key has the length of its keys.
