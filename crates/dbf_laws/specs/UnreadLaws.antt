@@ -37,9 +37,8 @@ use Rattle.idx_match.specs.MatchTest.{column_of, column_bytes, entry_good, entri
 use Rattle.idx_match.specs.Computed.{match_answer}
 use Rattle.idx_match.proofs.AnswerLaws.{answer-computed}
 use Rattle.idx_match.proofs.CallLaws.{table-good}
-use Rattle.dilution.specs.Dilution.{concentration_text, is_concentration, field_checks, header_checks, sheet_checks, text_checks}
+use Rattle.dilution.specs.Dilution.{Dilution, concentration_text, is_concentration, field_checks, header_checks, sheet_checks, text_checks}
 use Rattle.dilution.specs.Dilution.{record_dilution, record_with, barcode_checks, dilute_rule}
-use Rattle.dilution.specs.Dilution.{Dilution}
 
 -- the part of a memo does not depend on the table
 memo_alone : (b c m : List ℕ) (q : MemoPlace) → text_part c m (memo_part q) ≡ text_part b m (memo_part q)
