@@ -5,7 +5,7 @@ ghost use Rattle.std.specs.Prelude.{◌+◌, ◌*◌, ◌≤◌, ◌<◌, ◌≡
 ghost use Rattle.dbf_table.specs.Range.{all_below};
 ghost use Rattle.dbf_table.specs.Table.{max_fields, descriptor, field_type, field_offset};
 ghost use Rattle.dbf_table.specs.Table.{is_letter, is_name_byte, may_follow, name_goes_on, name_good, form_good};
-ghost use Rattle.dbf_table.specs.Table.{descriptor_good, fields_good, same_name, name_taken, names_differ, has_memo, memo_kind_good};
+ghost use Rattle.dbf_table.specs.Table.{descriptor_good, fields_good, same_name, names_differ, has_memo, memo_kind_good};
 ghost use Rattle.dbf_table.specs.TableLaws.{HeaderFits};
 
 use dbf_table::FieldType;
@@ -100,21 +100,21 @@ fn same_name(table: &[u8], i: usize, j: usize) -> bool
     same
 }
 
-// Whether a field before field i, from 0, has its name.
-#[tactic(auto, unfolding(dbf_table::specs::Table::name_taken))]
-fn name_taken(table: &[u8], i: usize) -> bool
-    requires { descriptor i + 32 ≤ length table.now }
-    ensures { result ≡ name_taken table.now i }
-{
-    (0..i).any(|earlier| same_name(table, i, earlier))
-}
-
 #[tactic(auto, unfolding(dbf_table::specs::Table::names_differ))]
 pub fn names_differ(table: &[u8]) -> bool
     requires { HeaderFits table.now }
     ensures { result ≡ names_differ table.now }
 {
-    !(0..dbf_table::field_count(table)).any(|later| name_taken(table, later))
+    let mut differ = true;
+    'fields: for later in 0..dbf_table::field_count(table) {
+        for earlier in 0..later {
+            if same_name(table, later, earlier) {
+                differ = false;
+                break 'fields;
+            }
+        }
+    }
+    differ
 }
 
 // The letter of field j's type, j from 0.
