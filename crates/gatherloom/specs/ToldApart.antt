@@ -1,38 +1,33 @@
 -- Laws: an answer's number tells its case. 0 is given exactly if the call is accepted, 256 exactly for an empty field, 257 exactly for an absent key and 258
 -- exactly at the end of a walk, since no refusal has any of these numbers. Assumes nothing.
-use Rattle.std.specs.Prelude.{Err, Ok, ℕ, zero, suc, ◌+◌, ◌-◌, ◌≤◌, ◌≡◌, refl, Bool, true, false, ◌&&◌, cond, List, [], ◌∷◌, ◌↔◌, ◌⊎◌, length, ℤ, eqb, ltb, None, Some, Option}
+use Rattle.std.specs.Prelude.{ℕ, zero, suc, ◌+◌, ◌-◌, ◌≤◌, ◌≡◌, refl, Bool, true, false, ◌&&◌, cond, List, [], ◌∷◌, ◌↔◌, ◌⊎◌, length, ℤ, eqb, ltb}
+use Rattle.std.specs.Prelude.{Option, None, Some, Ok, Err}
 use Rattle.std.proofs.Common.{sym, ◌∙◌, inl, inr, arith, lit<, ne_eqb, ltb-true}
 use Rattle.std.proofs.Math.Path.{ap}
 use Rattle.std.proofs.lemmas.Bool.{eqb-false}
 use Rattle.basis.specs.Lists.{All}
 use Rattle.basis.specs.Tests.{either, both, impossible}
-use Rattle.refusal.specs.After.{After, change_code, made_unless}
+use Rattle.refusal.specs.After.{After, Change, change_code, made_unless}
 use Rattle.refusal.specs.AfterLaws.{made-number}
 use Rattle.refusal.specs.CheckLaws.{Refuses, first_below, unless-cases}
-use Rattle.refusal.specs.After.{Change}
 use Rattle.calendar.specs.declared.Date.{Date}
 use Rattle.calendar.specs.DateText.{DateAnswer}
 use Rattle.numeral.specs.Reading.{read_number}
 use Rattle.numeral.specs.Writing.{write_checks, write_number}
 use Rattle.numeral.specs.Format.{Number}
-use Rattle.dbf_table.specs.Table.{record_count, kept_mark, deleted_mark, table_checks, table_refusal, check_table}
+use Rattle.dbf_table.specs.Table.{Checked, record_count, kept_mark, deleted_mark, table_checks, table_refusal, check_table}
 use Rattle.dbf_table.specs.TableLaws.{refused_check}
 use Rattle.dbf_table.specs.declared.Shape.{Shape}
-use Rattle.dbf_table.specs.Table.{Checked}
-use Rattle.dbf_walk.specs.Walk.{marks_from, shown, step_at, first_of, step_from, step_by}
+use Rattle.dbf_walk.specs.Walk.{Step, handed, marks_from, shown, step_at, first_of, step_from, step_by}
 use Rattle.dbf_walk.specs.declared.Position.{Position}
-use Rattle.dbf_walk.specs.declared.Step.{Step}
-use Rattle.dbf_walk.specs.declared.Step.TheVariants as step
 use Rattle.idx_page.specs.Header.{max_levels, no_page, root_offset, file_size, key_length, features, header_good}
 use Rattle.idx_page.specs.Page.{attribute_at, count_at, right_at, leaf_bit, key_at, number_at, page_good, first_at_or_above}
 use Rattle.idx_page.specs.declared.PageOffset.{PageOffset}
 use Rattle.idx_page.specs.declared.RecordNumber.{RecordNumber}
 use Rattle.fpt_memo.specs.Memo.{span}
-use Rattle.dbf_cell.specs.Cell.{number_cell, date_cell, logical_cell, text_cell}
+use Rattle.dbf_cell.specs.Cell.{Logical, TextAnswer, number_cell, date_cell, logical_cell, text_cell}
 use Rattle.dbf_cell.specs.Codes.{empty_code, number_code, date_code, logical_code, text_code}
 use Rattle.dbf_cell.specs.AnswerLaws.{Numbered, table_below, number-numbered, number-refusal, day_refusal, logical-refusal, place-refusal}
-use Rattle.dbf_cell.specs.Cell.{Logical}
-use Rattle.dbf_cell.specs.Cell.{TextAnswer}
 use Rattle.dbf_cell.specs.declared.TextPlace.TheVariants as text
 use Rattle.octets.specs.Order.{ordering, is_equal}
 use Rattle.idx_lookup.specs.FirstRecord.{record_of, entry_decides, neighbour_decides, first_from}
@@ -105,39 +100,39 @@ shape_told b = told (omega arith) (check_case (check_table b) (check_refusal b))
 
 -- ---- the walks
 
-at-refusal : (r : ℕ × ℕ) → RefusalsNumbered step.Refused (step_at r)
+at-refusal : (r : ℕ × ℕ) → RefusalsNumbered Err (step_at r)
 unfolding step_at
 at-refusal r n e =
     either (eqb r.1 kept_mark)
-    (λ kept. let q : step.Record r.0 false ≡ step.Refused n = rw kept at e in impossible (cc))
+    (λ kept. let q : handed r.0 false ≡ Err n = rw kept at e in impossible (cc))
     (λ other. either (eqb r.1 deleted_mark)
-    (λ deleted. let q : step.Record r.0 true ≡ step.Refused n = rw (other, deleted) at e in impossible (cc))
-    (λ bad. let q : step.Refused 15 ≡ step.Refused n = rw (other, bad) at e in let k : 15 ≡ n = cc in (omega arith, omega arith)))
+    (λ deleted. let q : handed r.0 true ≡ Err n = rw (other, deleted) at e in impossible (cc))
+    (λ bad. let q : ◌≡◌ {A = Step} (Err 15) (Err n) = rw (other, bad) at e in let k : 15 ≡ n = cc in (omega arith, omega arith)))
 
-next-refusal : (position : ℕ) (marks : List (ℕ × ℕ)) → RefusalsNumbered step.Refused (first_of position marks).answer
+next-refusal : (position : ℕ) (marks : List (ℕ × ℕ)) → RefusalsNumbered Err (first_of position marks).answer
 next-refusal position [] n e = impossible (cc)
 next-refusal position (r ∷ rest) n e = at-refusal r n e
 
 abbrev pub IsRecord : Step → Type 0
-IsRecord a = (i : ℕ) × (deleted : Bool) × (a ≡ step.Record i deleted)
+IsRecord a = (i : ℕ) × (deleted : Bool) × (a ≡ handed i deleted)
 
-step_case : (a : Step) → RefusalsNumbered step.Refused a → Case (step_code a) done_code (IsRecord a) (a ≡ step.Done)
-step_case (step.Record i deleted) small = accepted refl (i, deleted, refl)
-step_case step.Done small = other refl refl
-step_case (step.Refused n) small = refused (small n refl)
+step_case : (a : Step) → RefusalsNumbered Err a → Case (step_code a) done_code (IsRecord a) (a ≡ Ok None)
+step_case (Ok (Some r)) small = accepted refl (r.number, r.deleted, refl)
+step_case (Ok None) small = other refl refl
+step_case (Err n) small = refused (small n refl)
 
 -- of either walk
 module _ (skips : Bool) (b : List ℕ) (position : Position) where
-  step-refusal : RefusalsNumbered step.Refused (step_by skips b position).answer
+  step-refusal : RefusalsNumbered Err (step_by skips b position).answer
   unfolding step_by step_from
   step-refusal n e =
       let passed = position.passed in
       either (eqb (table_refusal b) 0)
       (λ good. next-refusal passed (shown skips (marks_from b passed (record_count b - passed))) n (rw good at e))
-      (λ bad. let q : step.Refused (table_refusal b) ≡ step.Refused n = rw bad at e in table-refusal b n bad (cc))
+      (λ bad. let q : ◌≡◌ {A = Step} (Err (table_refusal b)) (Err n) = rw bad at e in table-refusal b n bad (cc))
 
   -- 0 is given exactly for a record, 258 exactly if the walk is done
-  pub walk-told : let a = (step_by skips b position).answer in Told (step_code a) done_code (IsRecord a) (a ≡ step.Done)
+  pub walk-told : let a = (step_by skips b position).answer in Told (step_code a) done_code (IsRecord a) (a ≡ Ok None)
   walk-told =
       told (omega arith) (step_case (step_by skips b position).answer step-refusal) (λ found. ap step_code found.2) (λ done. ap step_code done)
 
@@ -146,23 +141,23 @@ module _ (skips : Bool) (b : List ℕ) (position : Position) where
 abbrev pub IsValue : Number → Type 0
 IsValue a = (v : ℤ) × (a ≡ Ok (Some v))
 
-number-case : (a : Number) → RefusalsNumbered Err a → Case (number_code a) empty_code (IsValue a) (a ≡ (Ok None))
+number-case : (a : Number) → RefusalsNumbered Err a → Case (number_code a) empty_code (IsValue a) (a ≡ Ok None)
 unfolding number_code
 number-case (Ok (Some v)) small = accepted refl (v, refl)
 number-case (Ok None) small = other refl refl
 number-case (Err n) small = refused (small n refl)
 
-value-told : (a : Number) → RefusalsNumbered Err a → Told (number_code a) empty_code (IsValue a) (a ≡ (Ok None))
+value-told : (a : Number) → RefusalsNumbered Err a → Told (number_code a) empty_code (IsValue a) (a ≡ Ok None)
 unfolding number_code
 value-told a small = told (omega arith) (number-case a small) (λ value. ap number_code value.1) (λ empty. ap number_code empty)
 
-pub read_told : (text : List ℕ) (d : ℕ) → let a = read_number text d in Told (number_code a) empty_code (IsValue a) (a ≡ (Ok None))
+pub read_told : (text : List ℕ) (d : ℕ) → let a = read_number text d in Told (number_code a) empty_code (IsValue a) (a ≡ Ok None)
 read_told text d = value-told (read_number text d) (number-numbered text d)
 
 abbrev pub IsDay : DateAnswer → Type 0
 IsDay a = (d : Date) × (a ≡ Ok (Some d))
 
-date-case : (a : DateAnswer) → RefusalsNumbered Err a → Case (date_code a) empty_code (IsDay a) (a ≡ (Ok None))
+date-case : (a : DateAnswer) → RefusalsNumbered Err a → Case (date_code a) empty_code (IsDay a) (a ≡ Ok None)
 unfolding date_code
 date-case (Ok (Some d)) small = accepted refl (d, refl)
 date-case (Ok None) small = other refl refl
@@ -171,7 +166,7 @@ date-case (Err n) small = refused (small n refl)
 abbrev pub IsLogical : Logical → Type 0
 IsLogical a = (v : Bool) × (a ≡ Ok (Some v))
 
-logical_case : (a : Logical) → RefusalsNumbered Err a → Case (logical_code a) empty_code (IsLogical a) (a ≡ (Ok None))
+logical_case : (a : Logical) → RefusalsNumbered Err a → Case (logical_code a) empty_code (IsLogical a) (a ≡ Ok None)
 unfolding logical_code
 logical_case (Ok (Some v)) small = accepted refl (v, refl)
 logical_case (Ok None) small = other refl refl
@@ -181,32 +176,33 @@ logical_case (Err n) small = refused (small n refl)
 abbrev pub IsText : TextAnswer → Type 0
 IsText a = (start len : ℕ) × ((a ≡ Ok (Some (text.Table (span start len)))) ⊎ (a ≡ Ok (Some (text.Memo (span start len)))))
 
-text_case : (a : TextAnswer) → RefusalsNumbered Err a → Case (text_code a) empty_code (IsText a) (a ≡ (Ok None))
+text_case : (a : TextAnswer) → RefusalsNumbered Err a → Case (text_code a) empty_code (IsText a) (a ≡ Ok None)
 unfolding text_code
 text_case (Ok (Some (text.Table place))) small = accepted refl (place.start, place.len, inl refl)
 text_case (Ok (Some (text.Memo place))) small = accepted refl (place.start, place.len, inr refl)
 text_case (Ok None) small = other refl refl
 text_case (Err n) small = refused (small n refl)
 
-located : (a : TextAnswer) (start len : ℕ) → (a ≡ Ok (Some (text.Table (span start len)))) ⊎ (a ≡ Ok (Some (text.Memo (span start len)))) → text_code a ≡ 0
+located : (a : TextAnswer) (start len : ℕ)
+    → (a ≡ Ok (Some (text.Table (span start len)))) ⊎ (a ≡ Ok (Some (text.Memo (span start len)))) → text_code a ≡ 0
 unfolding text_code
 located a start len (inl e) = ap text_code e
 located a start len (inr e) = ap text_code e
 
 module _ (b : List ℕ) (i field : ℕ) where
-  pub number-told : let a = number_cell b i field in Told (number_code a) empty_code (IsValue a) (a ≡ (Ok None))
+  pub number-told : let a = number_cell b i field in Told (number_code a) empty_code (IsValue a) (a ≡ Ok None)
   number-told = value-told (number_cell b i field) (number-refusal b i field)
 
-  pub date-told : let a = date_cell b i field in Told (date_code a) empty_code (IsDay a) (a ≡ (Ok None))
+  pub date-told : let a = date_cell b i field in Told (date_code a) empty_code (IsDay a) (a ≡ Ok None)
   unfolding date_code
   date-told = told (omega arith) (date-case (date_cell b i field) (day_refusal b i field)) (λ day. ap date_code day.1) (λ empty. ap date_code empty)
 
-  pub logical_told : let a = logical_cell b i field in Told (logical_code a) empty_code (IsLogical a) (a ≡ (Ok None))
+  pub logical_told : let a = logical_cell b i field in Told (logical_code a) empty_code (IsLogical a) (a ≡ Ok None)
   unfolding logical_code
   logical_told =
       told (omega arith) (logical_case (logical_cell b i field) (logical-refusal b i field)) (λ value. ap logical_code value.1) (λ empty. ap logical_code empty)
 
-  pub text_told : (m : List ℕ) → let a = text_cell b m i field in Told (text_code a) empty_code (IsText a) (a ≡ (Ok None))
+  pub text_told : (m : List ℕ) → let a = text_cell b m i field in Told (text_code a) empty_code (IsText a) (a ≡ Ok None)
   unfolding text_code
   text_told m =
       told (omega arith) (text_case (text_cell b m i field) (λ n. place-refusal b i field n m))
@@ -214,7 +210,7 @@ module _ (b : List ℕ) (i field : ℕ) where
 
 -- ---- lookup: 0 with a record's number, 257 for an absent key
 
-looked-numbered : (m n : ℕ) → Numbered m → Err m ≡ Err n → Numbered n
+looked-numbered : (m n : ℕ) → Numbered m → ◌≡◌ {A = Answer} (Err m) (Err n) → Numbered n
 looked-numbered m n small e = let k : m ≡ n = cc in (omega arith, omega arith)
 
 decided-refusal : (go : PageOffset → Answer) → ((c : PageOffset) → RefusalsNumbered Err (go c))
@@ -286,13 +282,13 @@ IsFound a = (r : RecordNumber) × (pages : ℕ) × (a ≡ looked.found r pages)
 abbrev pub IsAbsent : Answer → Type 0
 IsAbsent a = (pages : ℕ) × (a ≡ looked.absent pages)
 
+outcome-case : (found : Option RecordNumber) (pages : ℕ)
+    → let a : Answer = Ok (record { found = found; pages = pages }) in Case (lookup_code a) absent_code (IsFound a) (IsAbsent a)
+outcome-case (Some r) pages = accepted refl (r, pages, refl)
+outcome-case None pages = other refl (pages, refl)
+
 lookup-case : (a : Answer) → RefusalsNumbered Err a → Case (lookup_code a) absent_code (IsFound a) (IsAbsent a)
-lookup-case (Ok outcome) small = found-case outcome.found outcome.pages
-  where
-    found-case : (found : Option RecordNumber) (pages : ℕ) → let a = Ok (record { found = found; pages = pages }) in
-        Case (lookup_code a) absent_code (IsFound a) (IsAbsent a)
-    found-case (Some r) pages = accepted refl (r, pages, refl)
-    found-case None pages = other refl (pages, refl)
+lookup-case (Ok outcome) small = outcome-case outcome.found outcome.pages
 lookup-case (Err n) small = refused (small n refl)
 
 pub lookup-told : (b key : List ℕ) → let a = lookup_rule b key in Told (lookup_code a) absent_code (IsFound a) (IsAbsent a)
@@ -314,13 +310,13 @@ all-numbered (check ∷ checks) e =
     let range = both (ltb 0 check.1) (ltb check.1 empty_code) rest.0 in
     ((λ bad. (ltb-true 0 check.1 range.0, ltb-true check.1 empty_code range.1)), all-numbered checks rest.1)
 
-change_case : (a : Change) → RefusalsNumbered Err a → Case (change_code a) empty_code (a ≡ (Ok tt)) ⊥
-change_case (Ok tt) small = accepted refl refl
+change_case : (a : Change) → RefusalsNumbered Err a → Case (change_code a) empty_code (a ≡ Ok tt) ⊥
+change_case (Ok done) small = accepted refl refl
 change_case (Err n) small = refused (small n refl)
 
 -- what is told of a call's answer
 abbrev pub ChangeTold : After Change → Type 0
-ChangeTold call = Told (change_code call.answer) empty_code (call.answer ≡ (Ok tt)) ⊥
+ChangeTold call = Told (change_code call.answer) empty_code (call.answer ≡ Ok tt) ⊥
 
 change_told : (made b : List ℕ) (checks : List (Bool × ℕ)) → numbers checks ≡ true → ChangeTold (made_unless checks made b)
 change_told made b checks small =
