@@ -99,6 +99,7 @@ pub fn read_input(input: &[u8]) -> Result<Request, Refusal>
 }
 
 // What is wrong with the line that stands from `from` on.
+// A chain of tests: a `match` on `input.get(end)` was tried, and its goals stayed open.
 fn wrong_at(input: &[u8], from: usize) -> Wrong
     ensures { result ≡ wrong_at input.now from }
 {

@@ -34,7 +34,7 @@ fn put(out: &mut [u8], at: usize, text: &[u8]) -> usize
     room
 }
 
-// A number in decimal, by the library's own writer.
+// A number in decimal, not by `write!`: the library's numbers are written by its own writer, whose text is proved.
 fn put_decimal(out: &mut [u8], at: usize, number: u32) -> usize
     ensures { wrote out.old at (decimal number) ≡ output out.new result }
 {
@@ -132,6 +132,7 @@ fn put_request(table: &[u8], index: &[u8], request: Request, out: &mut [u8]) -> 
 }
 
 // Writes the sheet into the lent buffer, and answers how many bytes it has there.
+// The buffer is lent, not a `Vec`: no heap in what is proved to fit, and by the theorem `wrote_then` what is written in parts is the whole (DECISIONS).
 pub fn sheet(table: &[u8], index: &[u8], input: &[u8], out: &mut [u8]) -> usize
     ensures input_value { wrote out.old 0 (sheet_text table.now index.now input.now) ≡ output out.new result }
     ensures counts { Counts result out.new }
