@@ -355,9 +355,7 @@ pub extern "C" fn gl_table_lay_out(
     for j in 0..count {
         dbf_create::write_field(&mut room, j, entries[j]);
     }
-    change_code(dbf_create::lay_out(
-        buffer, &mut room, given, year, month, day,
-    ))
+    change_code(dbf_create::lay_out(buffer, &mut room, given, year, month, day))
 }
 
 // Audits an NDX index: 24, 25, or 0 if it is sound.

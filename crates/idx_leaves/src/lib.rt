@@ -38,8 +38,7 @@ fn leaf_entry(index: &[u8], k: usize, n: usize, at: usize, last: usize) -> bool
     requires compared { n ≡ compared_bytes (features index.now) k }
     ensures { result ≡ leaf_entry index.now k at last }
 {
-    idx_page::record_at(index, k, at).0 != 0
-        && idx_keys::key_order(index, n, last, at).is_lt()
+    idx_page::record_at(index, k, at).0 != 0 && idx_keys::key_order(index, n, last, at).is_lt()
 }
 
 // Whether the entries of a leaf of `count` entries from entry `first` on are good, each after the entry before it; `last` is where the entry before them

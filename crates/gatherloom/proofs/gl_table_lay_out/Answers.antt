@@ -43,7 +43,7 @@ pub loop-j-preserved : goal.loop-j-preserved
 loop-j-preserved c =
     let inside : c.loop-j.j < length c.args.entries.now = below_length _ _ _ c.listed_count-count.ensures c.loop-j-test.true in
     record {
-          named = named_next c.args.entries.now c.loop-j.j _ inside c.loop-j.invariant.named c.write_field.ensures.named;
+      named = named_next c.args.entries.now c.loop-j.j _ inside c.loop-j.invariant.named c.write_field.ensures.named;
       room = room_next c.args.entries.now c.loop-j.room c.write_field.new.room c.loop-j.j _ inside c.loop-j.invariant.room c.write_field.ensures.written;
     }
 
