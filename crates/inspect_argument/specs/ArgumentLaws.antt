@@ -6,7 +6,7 @@ use Rattle.basis.specs.Tests.{either}
 use Rattle.octets.specs.Bytes.{byte_at}
 use Rattle.octets.specs.Text.{every, is_digit, digits_of}
 use Rattle.octets.specs.TextLaws.{digits-read, digits-unread}
-use Rattle.inspect_argument.specs.Arguments.{is_number, is_name, max_number, field_argument, field_argument_code, field_argument_values, FieldArgument}
+use Rattle.inspect_argument.specs.Arguments.{is_number, is_name, max_number, field_argument, FieldArgument}
 use Rattle.inspect_argument.specs.declared.Field.{Field}
 use Rattle.inspect_argument.specs.declared.Field.TheVariants.{Number, Name}
 

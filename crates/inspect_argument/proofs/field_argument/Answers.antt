@@ -1,6 +1,5 @@
 -- `field_argument` answers by the length and the first byte, which are the rule's cases, and then by the digits.
 use Rattle.std.proofs.Common.{sym, ap, ◌∙◌, arith}
-use Rattle.basis.specs.Tests.{passed, failed}
 use Rattle.inspect_argument.specs.ArgumentLaws.{too_short, too_long, by_name, of_digits, by_digits, field-answer}
 use Rattle.inspect_argument.proofs.field_argument.Goals as goal
 use Rattle.inspect_argument.proofs.field_argument.Goals.{then-text-lt1-via-then-text-lt1, then-text-lt1-via-else-text-lt1+then-text-gt10}

@@ -1,5 +1,5 @@
 -- `match_by_name`: the three cases of `NameMatched`. Past the check the table is good, and the shape is its own.
-use Rattle.std.proofs.Common.{refl, sym, ◌∙◌, arith}
+use Rattle.std.proofs.Common.{refl, sym, arith}
 use Rattle.std.proofs.lemmas.Result.{err_from_is_err_and}
 use Rattle.dbf_table.specs.TableLaws.{good_shape}
 use Rattle.inspect_argument.specs.NameLaws.{by_refusal, by_none, by_match}

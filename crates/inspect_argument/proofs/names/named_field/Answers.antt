@@ -1,6 +1,6 @@
 -- `named_field`: the first field that has the name. A good table has at most 128 fields.
-use Rattle.std.proofs.Common.{ℕ, ◌≤◌, ◌≡◌, List, sym, ◌∙◌, add-one, arith}
-use Rattle.dbf_table.specs.Table.{table_refusal, field_count}
+use Rattle.std.proofs.Common.{◌≡◌, sym, ◌∙◌, add-one, arith}
+use Rattle.dbf_table.specs.Table.{field_count}
 use Rattle.dbf_table.specs.TableLaws.{layout}
 use Rattle.dbf_table.specs.RecordLaws.{descriptor-inside}
 use Rattle.inspect_argument.specs.Names.{named_field}
