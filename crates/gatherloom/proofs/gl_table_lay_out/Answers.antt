@@ -50,5 +50,6 @@ loop-j-preserved c =
 pub returns : goal.returns
 returns c =
     let copied : c.loop-j.j ≡ c.listed_count-count.result = omega (arith, c.loop-j.auto.j-end) in
-    lay_listed c.args.buffer.now c.args.entries.now c.args.year c.args.month c.args.day c.loop-j.j (copied ∙ c.listed_count-count.ensures)
-    c.loop-j.invariant.named ∙ rw c.loop-j.invariant.room at c.lay_out.ensures
+    rw c.change_code.ensures
+    (lay_listed c.args.buffer.now c.args.entries.now c.args.year c.args.month c.args.day c.loop-j.j (copied ∙ c.listed_count-count.ensures)
+    c.loop-j.invariant.named ∙ rw c.loop-j.invariant.room at c.lay_out.ensures)
