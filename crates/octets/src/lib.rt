@@ -75,12 +75,14 @@ fn load_be64(s: &[u8], at: usize) -> u64
     u64::from_be_bytes(bytes_at(s, at))
 }
 
-// Copies a byte string into a buffer.
+// Copies a byte string into a buffer. std's `copy_from_slice` would call memmove; the archive asks its host for memcpy and memset alone.
 pub fn copy_in(buf: &mut [u8], at: usize, src: &[u8])
     requires { at + length src.now ≤ length buf.old }
     ensures { buf.new ≡ put buf.old at src.now }
 {
-    buf[at..at + src.len()].copy_from_slice(src);
+    for j in 0..src.len() {
+        buf[at + j] = src[j];
+    }
 }
 
 // Stores a number in two bytes, least significant first.
