@@ -1,5 +1,5 @@
 -- Laws: the text of a D field: its cases, its three parts, one text for a day and one day for an accepted text. Assumes nothing.
-use Rattle.std.specs.Prelude.{ℕ, ◌^◌, ◌≤◌, ◌<◌, ◌≡◌, refl, ◌↔◌, Bool, true, false, ◌&&◌, length, take, drop, replicate, leb, eqb}
+use Rattle.std.specs.Prelude.{Err, None, Ok, ℕ, ◌^◌, ◌≤◌, ◌<◌, ◌≡◌, refl, ◌↔◌, Bool, true, false, ◌&&◌, length, take, drop, replicate, leb, eqb, Some, Option, Result}
 use Rattle.std.proofs.Math.Nat.{pow-le-pow_right}
 use Rattle.std.proofs.Common.{arith, sym, ap, ◌∙◌, length-append, length-take, length-drop, take_all, take-add, drop-drop, length-take-le, take_at, lit<, leb-true, le-leb, eqb-true, ne_eqb}
 use mathlib.Core.List.{List, ◌++◌, append_assoc}
@@ -9,28 +9,25 @@ use Rattle.basis.specs.Tests.{either, both, impossible}
 use Rattle.octets.specs.Text.{every, blank, is_digit, number_of, digits_of, last_digits}
 use Rattle.octets.specs.TextLaws.{every_append, blanks_are, digits_no_blanks, digits-read, digits-unread}
 use Rattle.octets.specs.DigitLaws.{length-last_digits, last_digits-digits, number-last, number_bound, last-number}
-use Rattle.octets.specs.declared.Digits.{Digits}
-use Rattle.octets.specs.declared.Digits.TheVariants.{Number, Other}
 use Rattle.calendar.specs.Calendar.{is_date}
 use Rattle.calendar.specs.CalendarLaws.{date-range}
 use Rattle.calendar.specs.DateText.{bad_date_text, max_year, year_part, month_part, day_part, is_field_date, date_of_numbers, date_of}
 use Rattle.calendar.specs.declared.Date.{Date}
-use Rattle.calendar.specs.declared.DateAnswer.{DateAnswer}
-use Rattle.calendar.specs.declared.DateAnswer.TheVariants.{Value, Empty, Refused}
+use Rattle.calendar.specs.DateText.{DateAnswer}
 
 -- ---- the rule's cases
 
-pub date-length : (text : List ℕ) → (length text ≡ 8 → ⊥) → date_of text ≡ Refused bad_date_text
+pub date-length : (text : List ℕ) → (length text ≡ 8 → ⊥) → date_of text ≡ Err bad_date_text
 unfolding date_of
 date-length text other = rw (ne_eqb (length text) 8 other)
 
 module _ (text : List ℕ) (eight : length text ≡ 8) where
-  pub date-empty : every (eqb blank) text ≡ true → date_of text ≡ Empty
+  pub date-empty : every (eqb blank) text ≡ true → date_of text ≡ Ok None
   unfolding date_of
   date-empty blanks = rw (eight, blanks)
 
   module _ (nonblank : every (eqb blank) text ≡ false) where
-    date-other : every is_digit text ≡ false → date_of text ≡ Refused bad_date_text
+    date-other : every is_digit text ≡ false → date_of text ≡ Err bad_date_text
     unfolding date_of
     date-other other = rw (eight, nonblank, other)
 
@@ -48,18 +45,18 @@ abbrev holds : Date → Bool
 holds day = is_field_date day.year day.month day.day
 
 -- the answer for the numbers of a day
-day_accepted : (day : Date) → holds day ≡ true → date_of_numbers day.year day.month day.day ≡ Value day
+day_accepted : (day : Date) → holds day ≡ true → date_of_numbers day.year day.month day.day ≡ Ok (Some day)
 unfolding date_of_numbers
 day_accepted day good = rw good
 
-day_refused : (day : Date) → holds day ≡ false → date_of_numbers day.year day.month day.day ≡ Refused bad_date_text
+day_refused : (day : Date) → holds day ≡ false → date_of_numbers day.year day.month day.day ≡ Err bad_date_text
 unfolding date_of_numbers
 day_refused day bad = rw bad
 
 -- a text is refused, empty or eight digits that name its day
-by_cases : {X : Type 0} (text : List ℕ) → (date_of text ≡ Refused bad_date_text → X)
-    → (length text ≡ 8 → every (eqb blank) text ≡ true → date_of text ≡ Empty → X)
-    → (length text ≡ 8 → every is_digit text ≡ true → holds (named text) ≡ true → date_of text ≡ Value (named text) → X) → X
+by_cases : {X : Type 0} (text : List ℕ) → (date_of text ≡ Err bad_date_text → X)
+    → (length text ≡ 8 → every (eqb blank) text ≡ true → date_of text ≡ (Ok None) → X)
+    → (length text ≡ 8 → every is_digit text ≡ true → holds (named text) ≡ true → date_of text ≡ Ok (Some (named text)) → X) → X
 by_cases text refused empty value =
     either (eqb (length text) 8)
     (λ long. let eight = eqb-true (length text) 8 long in
@@ -88,7 +85,7 @@ parts-digits : (text : List ℕ) → length text ≡ 8
 parts-digits text eight = simp every_append at (ap (every is_digit) (date-parts text eight))
 
 -- a number read from the first w bytes is below ten to the w
-pub part_bound : (w : ℕ) (s : List ℕ) (n : ℕ) → digits_of (take w s) ≡ Number n → n < 10 ^ w
+pub part_bound : (w : ℕ) (s : List ℕ) (n : ℕ) → digits_of (take w s) ≡ Some n → n < 10 ^ w
 part_bound w s n is =
     either (every is_digit (take w s))
     (λ all.
@@ -97,12 +94,16 @@ part_bound w s n is =
     omega (arith, number_bound (take w s) all, pow-le-pow_right {n = 10} (lit< tt) {i = length (take w s)} {j = w} few))
     (λ other. impossible (cc (digits-unread (take w s) other)))
 
+-- one read from at most four bytes is a year's at most
+pub part_small : (s : List ℕ) (n : ℕ) → digits_of s ≡ Some n → length s ≤ 4 → n ≤ max_year
+part_small s n is few = let below = part_bound 4 s n (rw (take_all 4 s few) is) in omega arith
+
 -- the answer by what each part reads as
-abbrev pub of_parts : Digits → Digits → Digits → DateAnswer
-of_parts (Number y) (Number m) (Number d) = date_of_numbers y m d
-of_parts (Number y) (Number m) Other = Refused bad_date_text
-of_parts (Number y) Other d = Refused bad_date_text
-of_parts Other m d = Refused bad_date_text
+abbrev pub of_parts : Option ℕ → Option ℕ → Option ℕ → DateAnswer
+of_parts (Some y) (Some m) (Some d) = date_of_numbers y m d
+of_parts (Some y) (Some m) None = Err bad_date_text
+of_parts (Some y) None d = Err bad_date_text
+of_parts None m d = Err bad_date_text
 
 pub by_parts : (text : List ℕ) → length text ≡ 8 → every (eqb blank) text ≡ false
     → date_of text ≡ of_parts (digits_of (year_part text)) (digits_of (month_part text)) (digits_of (day_part text))
@@ -116,6 +117,48 @@ by_parts text eight nonblank =
     (λ d. other (all ∙ rw (y, m, d)) ∙ rw (digits-read _ y, digits-read _ m, digits-unread _ d)))
     (λ m. other (all ∙ rw (y, m)) ∙ rw (digits-read _ y, digits-unread _ m)))
     (λ y. other (all ∙ rw y) ∙ rw (digits-unread _ y))
+
+-- a part as it is read: its number, or the refusal
+abbrev pub part_of : Option ℕ → Result ℕ ℕ
+part_of (Some n) = Ok n
+part_of None = Err bad_date_text
+
+of_bad_year : (y m d : Option ℕ) (n : ℕ) → Err n ≡ part_of y → Err n ≡ of_parts y m d
+of_bad_year (Some y) m d n e = impossible (cc)
+of_bad_year None m d n e = let same : n ≡ bad_date_text = cc in rw same
+
+of_bad_month : (y m d : Option ℕ) (a n : ℕ) → Ok a ≡ part_of y → Err n ≡ part_of m → Err n ≡ of_parts y m d
+of_bad_month (Some y) (Some m) d a n h e = impossible (cc)
+of_bad_month (Some y) None d a n h e = let same : n ≡ bad_date_text = cc in rw same
+of_bad_month None m d a n h e = impossible (cc)
+
+of_bad_day : (y m d : Option ℕ) (a b n : ℕ) → Ok a ≡ part_of y → Ok b ≡ part_of m → Err n ≡ part_of d → Err n ≡ of_parts y m d
+of_bad_day (Some y) (Some m) (Some d) a b n h l e = impossible (cc)
+of_bad_day (Some y) (Some m) None a b n h l e = let same : n ≡ bad_date_text = cc in rw same
+of_bad_day (Some y) None d a b n h l e = impossible (cc)
+of_bad_day None m d a b n h l e = impossible (cc)
+
+of_numbers : (y m d : Option ℕ) (a b c : ℕ) → Ok a ≡ part_of y → Ok b ≡ part_of m → Ok c ≡ part_of d → date_of_numbers a b c ≡ of_parts y m d
+of_numbers (Some y) (Some m) (Some d) a b c h l e = let p : a ≡ y = cc in let q : b ≡ m = cc in let r : c ≡ d = cc in rw (p, q, r)
+of_numbers (Some y) (Some m) None a b c h l e = impossible (cc)
+of_numbers (Some y) None d a b c h l e = impossible (cc)
+of_numbers None m d a b c h l e = impossible (cc)
+
+-- the answer for a text that is read part after part
+module _ (text : List ℕ) (eight : length text ≡ 8) (nonblank : every (eqb blank) text ≡ false) where
+  pub bad_year : (n : ℕ) → Err n ≡ part_of (digits_of (year_part text)) → Err n ≡ date_of text
+  bad_year n e = of_bad_year _ _ _ n e ∙ sym (by_parts text eight nonblank)
+
+  module _ (a : ℕ) (year : Ok a ≡ part_of (digits_of (year_part text))) where
+    pub bad_month : (n : ℕ) → Err n ≡ part_of (digits_of (month_part text)) → Err n ≡ date_of text
+    bad_month n e = of_bad_month _ _ _ a n year e ∙ sym (by_parts text eight nonblank)
+
+    module _ (b : ℕ) (month : Ok b ≡ part_of (digits_of (month_part text))) where
+      pub bad_day : (n : ℕ) → Err n ≡ part_of (digits_of (day_part text)) → Err n ≡ date_of text
+      bad_day n e = of_bad_day _ _ _ a b n year month e ∙ sym (by_parts text eight nonblank)
+
+      pub good_parts : (c : ℕ) → Ok c ≡ part_of (digits_of (day_part text)) → date_of_numbers a b c ≡ date_of text
+      good_parts c day = of_numbers _ _ _ a b c year month day ∙ sym (by_parts text eight nonblank)
 
 -- ---- one text for a date, one date for an accepted text
 
@@ -167,7 +210,7 @@ module _ (day : Date) where
   text_digits = simp (every_append, last_digits-digits)
 
 -- a day's text is accepted as that day
-text_accepted : (day : Date) → FieldDate day → date_of (date_text day) ≡ Value day
+text_accepted : (day : Date) → FieldDate day → date_of (date_text day) ≡ Ok (Some day)
 text_accepted day h =
     let r = date-range day.year day.month day.day h.date in
     let nonblank = digits_no_blanks (date_text day) (omega (arith, text-length day)) (text_digits day) in
@@ -202,7 +245,7 @@ digits_are text eight all =
     ))
 
 -- an accepted text is the text of its day
-accepted_text : (text : List ℕ) (day : Date) → date_of text ≡ Value day → (text ≡ date_text day) × FieldDate day
+accepted_text : (text : List ℕ) (day : Date) → date_of text ≡ Ok (Some day) → (text ≡ date_text day) × FieldDate day
 accepted_text text day is =
     by_cases text
     (λ refused. impossible (cc))
@@ -211,17 +254,17 @@ accepted_text text day is =
     (digits_are text eight all ∙ ap date_text same, rw same at (field_date (named text) good)))
 
 -- a text is accepted as a day exactly if it is the day's text, and a D field can hold the day
-pub date-accepted : (text : List ℕ) (day : Date) → date_of text ≡ Value day ↔ (text ≡ date_text day) × FieldDate day
+pub date-accepted : (text : List ℕ) (day : Date) → date_of text ≡ Ok (Some day) ↔ (text ≡ date_text day) × FieldDate day
 date-accepted text day = (accepted_text text day, λ h. rw h.0 (text_accepted day h.1))
 
 -- so a day has one text
-pub date-one_text : (s t : List ℕ) (day : Date) → date_of s ≡ Value day → date_of t ≡ Value day → s ≡ t
+pub date-one_text : (s t : List ℕ) (day : Date) → date_of s ≡ Ok (Some day) → date_of t ≡ Ok (Some day) → s ≡ t
 date-one_text s t day p q = (accepted_text s day p).0 ∙ sym (accepted_text t day q).0
 
 -- ---- the other answers
 
 -- a text is empty exactly if it is eight blanks
-pub date_blanks : (text : List ℕ) → date_of text ≡ Empty ↔ text ≡ replicate 8 blank
+pub date_blanks : (text : List ℕ) → date_of text ≡ (Ok None) ↔ text ≡ replicate 8 blank
 unfolding every
 date_blanks text = (
   λ is.
@@ -233,7 +276,7 @@ date_blanks text = (
 )
 
 -- a refusal is 20
-pub date-refusal : (text : List ℕ) (n : ℕ) → date_of text ≡ Refused n → n ≡ bad_date_text
+pub date-refusal : (text : List ℕ) (n : ℕ) → date_of text ≡ Err n → n ≡ bad_date_text
 date-refusal text n is =
     by_cases text
     (λ refused. cc)

@@ -1,9 +1,12 @@
 -- Rules: the text of a D field, "YYYYMMDD, year 1 to 9999, or eight blanks"; "Blanks are empty". Cited by `read_date`. Assumes nothing.
-use Rattle.std.specs.Prelude.{ℕ, List, Bool, cond, ◌&&◌, length, take, drop, leb, eqb}
+use Rattle.std.specs.Prelude.{ℕ, List, Bool, cond, ◌&&◌, length, take, drop, leb, eqb, Err, None, Ok, Some, Result, Option}
 use Rattle.octets.specs.Text.{every, blank, is_digit, number_of}
 use Rattle.calendar.specs.Calendar.{is_date}
-use Rattle.calendar.specs.declared.DateAnswer.{DateAnswer}
-use Rattle.calendar.specs.declared.DateAnswer.TheVariants.{Value, Empty, Refused}
+use Rattle.calendar.specs.declared.Date.{Date}
+
+-- what the text of a D field says: a date, nothing, or a refusal's number
+abbrev pub DateAnswer : Type 0
+DateAnswer = Result (Option Date) ℕ
 
 -- the refusal "bad date or logical text"
 abbrev pub bad_date_text : ℕ
@@ -30,15 +33,15 @@ is_field_date year month day = leb 1 year && leb year max_year && is_date year m
 -- the answer for eight digits whose parts are the numbers y, m and d
 unfoldable pub date_of_numbers : ℕ → ℕ → ℕ → DateAnswer
 date_of_numbers y m d =
-    cond (is_field_date y m d) (Value (record { year = y; month = m; day = d })) (Refused bad_date_text)
+    cond (is_field_date y m d) (Ok (Some (record { year = y; month = m; day = d }))) (Err bad_date_text)
 
 -- Eight blanks are empty; eight digits YYYYMMDD of a date are that date; all else is refused. A text of another length is refused too: document 01 does
 -- not speak of one, since the table's checks make a D field eight bytes long.
 unfoldable pub date_of : List ℕ → DateAnswer
 date_of text =
     cond (eqb (length text) 8)
-    (cond (every (eqb blank) text) Empty
+    (cond (every (eqb blank) text) (Ok None)
     (cond (every is_digit text)
     (date_of_numbers (number_of (year_part text)) (number_of (month_part text)) (number_of (day_part text)))
-    (Refused bad_date_text)))
-    (Refused bad_date_text)
+    (Err bad_date_text)))
+    (Err bad_date_text)

@@ -2,11 +2,14 @@
 // common years and leap years"; "D: YYYYMMDD, year 1 to 9999, or eight blanks".
 #![tactic(auto)]
 
-ghost use Rattle.std.specs.Prelude.{◌≤◌, ◌≡◌};
+ghost use Rattle.std.specs.Prelude.{◌≤◌, ◌≡◌, IfOk, length};
+ghost use Rattle.refusal.specs.Refusals.{numbered};
+ghost use Rattle.octets.specs.Text.{digits_of};
 ghost use Rattle.calendar.specs.Calendar.{is_leap, days_in_month, is_date};
 ghost use Rattle.calendar.specs.DateText.{max_year, date_of, date_of_numbers};
+ghost use Rattle.calendar.specs.DateLaws.{part_of};
 
-use octets::{Digits, read_digits};
+use refusal::Refusal;
 
 // January to December: common years, then leap years.
 const MONTH_LENGTHS: [[u8; 12]; 2] = [
@@ -14,87 +17,70 @@ const MONTH_LENGTHS: [[u8; 12]; 2] = [
     [31, 29, 31, 30, 31, 30, 31, 31, 30, 31, 30, 31],
 ];
 
-// A byte as a number, by a call, so that the caller need not prove that it fits.
-fn wide(byte: u8) -> u32
-    ensures { result ≡ byte }
-{
-    byte as u32
-}
-
+#[tactic(auto, unfolding(crate::specs::Calendar::is_leap))]
 fn is_leap(year: u32) -> bool
     ensures { result ≡ is_leap year }
 {
-    (year % 4 == 0) & ((year % 100 != 0) | (year % 400 == 0))
+    year % 4 == 0 && (year % 100 != 0 || year % 400 == 0)
 }
 
 fn days_in_month(year: u32, month: u32) -> u32
     requires { (1 ≤ month) × (month ≤ 12) }
     ensures { result ≡ days_in_month year month }
 {
-    let leap = is_leap(year) as usize;
-    wide(MONTH_LENGTHS[leap][month as usize - 1])
+    let row = usize::from(is_leap(year));
+    u32::from(MONTH_LENGTHS[row][month as usize - 1])
 }
 
 // Whether the calendar has this day. The caller says which years it allows: this call takes any.
+#[tactic(auto, unfolding(crate::specs::Calendar::is_date))]
 pub fn is_date(year: u32, month: u32, day: u32) -> bool
     ensures { result ≡ is_date year month day }
 {
-    if month < 1 {
-        return false;
-    }
-    if 12 < month {
-        return false;
-    }
-    (1 <= day) & (day <= days_in_month(year, month))
+    (1..=12).contains(&month) && (1..=days_in_month(year, month)).contains(&day)
 }
 
-#[derive(Clone, Copy)]
+#[derive(Clone, Copy, Debug, PartialEq, Eq)]
 pub struct Date {
     pub year: u32,
     pub month: u32,
     pub day: u32,
 }
 
-// What the text of a D field says.
-#[derive(Clone, Copy)]
-pub enum DateAnswer {
-    Value(Date),
-    Empty,
-    Refused(u32),
+// The date of a year, a month and a day. A year of four digits is at most 9999, so no test says that.
+#[tactic(auto, unfolding(crate::specs::DateText::is_field_date, crate::specs::DateText::date_of_numbers))]
+fn date_of_numbers(year: u32, month: u32, day: u32) -> Result<Option<Date>, Refusal>
+    requires { year ≤ max_year }
+    ensures { numbered result ≡ date_of_numbers year month day }
+{
+    if year < 1 || !is_date(year, month, day) {
+        return Err(Refusal::DateOrLogical);
+    }
+    Ok(Some(Date { year, month, day }))
 }
 
-// The date of a year, a month and a day. A year of four digits is at most 9999, so no test says that.
-fn date_of_numbers(year: u32, month: u32, day: u32) -> DateAnswer
-    requires { year ≤ max_year }
-    ensures { result ≡ date_of_numbers year month day }
+// The number that the digits of a year, a month or a day say.
+fn part_number(digits: &[u8]) -> Result<u32, Refusal>
+    requires { length digits.now ≤ 4 }
+    ensures said { numbered result ≡ part_of (digits_of digits.now) }
+    ensures small { IfOk result (λ number. number ≤ max_year) }
 {
-    if year < 1 {
-        return DateAnswer::Refused(refusal::DATE_OR_LOGICAL);
-    }
-    if !is_date(year, month, day) {
-        return DateAnswer::Refused(refusal::DATE_OR_LOGICAL);
-    }
-    DateAnswer::Value(Date { year, month, day })
+    let number = octets::read_digits(digits).ok_or(Refusal::DateOrLogical)?;
+    Ok(number as u32)
 }
 
 // Reads the text of a D field: eight blanks are empty; eight digits YYYYMMDD of a date, year 1 to 9999, are that date; any other text is refused.
-pub fn read_date(text: &[u8]) -> DateAnswer
-    ensures { result ≡ date_of text.now }
+pub fn read_date(text: &[u8]) -> Result<Option<Date>, Refusal>
+    ensures { numbered result ≡ date_of text.now }
 {
     if text.len() != 8 {
-        return DateAnswer::Refused(refusal::DATE_OR_LOGICAL);
+        return Err(Refusal::DateOrLogical);
     }
     if octets::padding(text) == 8 {
-        return DateAnswer::Empty;
+        return Ok(None);
     }
-    let Digits::Number(year) = read_digits(&text[0..4]) else {
-        return DateAnswer::Refused(refusal::DATE_OR_LOGICAL);
-    };
-    let Digits::Number(month) = read_digits(&text[4..6]) else {
-        return DateAnswer::Refused(refusal::DATE_OR_LOGICAL);
-    };
-    let Digits::Number(day) = read_digits(&text[6..8]) else {
-        return DateAnswer::Refused(refusal::DATE_OR_LOGICAL);
-    };
-    date_of_numbers(year as u32, month as u32, day as u32)
+    let year = part_number(&text[0..4])?;
+    let month = part_number(&text[4..6])?;
+    let day = part_number(&text[6..8])?;
+    date_of_numbers(year, month, day)
 }

@@ -1,24 +1,19 @@
 -- Rules: appending a record to a table, document 02, K3: the refusals in their order, the two stores, and the buffer that they leave.
-use Rattle.std.specs.Prelude.{ℕ, zero, suc, ◌+◌, ◌≤◌, ◌<◌, ◌≡◌, List, [], ◌∷◌, ◌++◌, Bool, cond, ◌&&◌, length, take, eqb, leb}
+use Rattle.std.specs.Prelude.{ℕ, zero, suc, ◌+◌, ◌≤◌, ◌<◌, ◌≡◌, List, [], ◌∷◌, ◌++◌, Bool, cond, ◌&&◌, length, take, eqb, leb, Err, None, Ok, Some, Result}
 use Rattle.refusal.specs.After.{After, left}
 use Rattle.refusal.specs.Checks.{first_refusal, unless}
 use Rattle.octets.specs.Bytes.{byte_at, to_le32}
 use Rattle.octets.specs.Store.{put, window}
 use Rattle.calendar.specs.DateText.{date_of}
-use Rattle.calendar.specs.declared.DateAnswer.{DateAnswer}
-use Rattle.calendar.specs.declared.DateAnswer.TheVariants as date
+use Rattle.calendar.specs.DateText.{DateAnswer}
 use Rattle.numeral.specs.Reading.{read_number}
-use Rattle.fpt_memo.specs.Memo.{memo_number}
-use Rattle.fpt_memo.specs.declared.MemoNumber.{MemoNumber}
-use Rattle.fpt_memo.specs.declared.MemoNumber.TheVariants as memo
+use Rattle.fpt_memo.specs.Memo.{MemoNumber, memo_number}
 use Rattle.dbf_table.specs.Table.{min_table, max_table, file_end, type_n, type_d, type_l, type_m, field_type, field_length, field_decimals, field_offset}
 use Rattle.dbf_table.specs.Table.{field_count, count_place, record_length_of, record_count, records_end, table_checks, check_table}
-use Rattle.dbf_table.specs.declared.Checked.{Checked}
-use Rattle.dbf_table.specs.declared.Checked.TheVariants.{Refused}
+use Rattle.dbf_table.specs.Table.{Checked}
 use Rattle.dbf_cell.specs.Cell.{mark_good, logical_of}
 use Rattle.dbf_cell.specs.Codes.{number_refusal}
-use Rattle.dbf_cell.specs.declared.Logical.{Logical}
-use Rattle.dbf_cell.specs.declared.Logical.TheVariants as logical
+use Rattle.dbf_cell.specs.Cell.{Logical}
 use Rattle.dbf_append.specs.declared.Store.{Store}
 use Rattle.dbf_append.specs.declared.Appended.{Appended}
 
@@ -30,26 +25,26 @@ held_checks b n more = (leb n (length b), 10) ∷ (table_checks (take n b) ++ mo
 
 -- the table's shape, or the number of its refusal
 unfoldable pub check_held : List ℕ → ℕ → Checked
-check_held b n = cond (leb n (length b)) (check_table (take n b)) (Refused 10)
+check_held b n = cond (leb n (length b)) (check_table (take n b)) (Err 10)
 
 -- ---- "each field's text in order"
 
 -- what the readers of dates and logical values refuse; a value is no refusal, and blanks are none
 unfoldable pub date_refusal : DateAnswer → ℕ
-date_refusal (date.Value d) = 0
-date_refusal date.Empty = 0
-date_refusal (date.Refused n) = n
+date_refusal (Ok (Some d)) = 0
+date_refusal (Ok None) = 0
+date_refusal (Err n) = n
 
 unfoldable pub logical_refusal : Logical → ℕ
-logical_refusal (logical.Value v) = 0
-logical_refusal logical.Empty = 0
-logical_refusal (logical.Refused n) = n
+logical_refusal (Ok (Some v)) = 0
+logical_refusal (Ok None) = 0
+logical_refusal (Err n) = n
 
 -- "M by 21 for its form alone"
 unfoldable pub memo_refusal : MemoNumber → ℕ
-memo_refusal (memo.Number n) = 0
-memo_refusal memo.Blank = 0
-memo_refusal memo.Bad = 21
+memo_refusal (Ok (Some number)) = 0
+memo_refusal (Ok None) = 0
+memo_refusal (Err n) = n
 
 -- the refusal of a text that a field of this type and decimal count is to hold, 0 for none; a C field holds any bytes
 unfoldable pub text_refusal : ℕ → ℕ → List ℕ → ℕ
@@ -125,17 +120,21 @@ count_write t = record { place = count_place; bytes = to_le32 (record_count t + 
 
 -- ---- the answer
 
+-- the two stores, or a refusal's number
+abbrev pub Answer : Type 0
+Answer = Result Appended ℕ
+
 -- both stores made in a buffer that begins with the table; "Append changes only two stores' bytes and answers both, place and length each"
-unfoldable pub stored : List ℕ → List ℕ → After Appended
+unfoldable pub stored : List ℕ → List ℕ → After Answer
 stored b r =
-    left (write (count_write b) (write (record_write b r) b)) (record { refusal = 0; first = told (record_write b r); second = told (count_write b) })
+    left (write (count_write b) (write (record_write b r) b)) (Ok (record { first = told (record_write b r); second = told (count_write b) }))
 
 -- a refusal by a number: no store is made
-abbrev pub unstored : ℕ → Appended
-unstored n = let nothing : Store = record { place = 0; length = 0 } in record { refusal = n; first = nothing; second = nothing }
+abbrev pub unstored : ℕ → Answer
+unstored n = Err n
 
 -- what append leaves and answers; a refusal leaves the buffer as it was
-unfoldable pub append_rule : List ℕ → ℕ → List ℕ → After Appended
+unfoldable pub append_rule : List ℕ → ℕ → List ℕ → After Answer
 append_rule b n r = unless (append_checks b n r) (λ refusal. left b (unstored refusal)) (stored b r)
 
 -- what the stores rest on: the header's numbers are there, the record has R bytes, and the new end lies in the buffer

@@ -1,5 +1,5 @@
 -- Laws: how the code's tests meet the refusals of an append and of a new date, and the stores their rule. Assumes nothing.
-use Rattle.std.specs.Prelude.{ℕ, suc, ◌+◌, ◌*◌, ◌-◌, ◌≤◌, ◌<◌, ◌≡◌, Bool, true, false, length, take, drop, set, eqb, leb}
+use Rattle.std.specs.Prelude.{ℕ, suc, ◌+◌, ◌*◌, ◌-◌, ◌≤◌, ◌<◌, ◌≡◌, Bool, true, false, length, take, drop, set, eqb, leb, Err, Ok, Option, None, Some, ℤ, refl}
 use Rattle.std.proofs.Math.Path.{sym, ap}
 use Rattle.std.proofs.Common.{◌∙◌, mul-le-mul_left, mul-one, length-append, get_or-take, length-take-le, lit<}
 use mathlib.Core.List.{List, [], ◌∷◌, ◌++◌}
@@ -18,14 +18,17 @@ use Rattle.numeral.specs.Reading.{read_number}
 use Rattle.fpt_memo.specs.Memo.{memo_number}
 use Rattle.dbf_cell.specs.Cell.{mark_good, logical_of}
 use Rattle.dbf_cell.specs.Codes.{number_refusal}
-use Rattle.dbf_table.specs.Table.{min_table, max_table, file_end, type_n, type_d, type_l, type_m, field_type, field_length, field_decimals, field_offset}
+use Rattle.calendar.specs.declared.Date.{Date}
+use Rattle.dbf_table.specs.FieldTypes.{letter_of, type_of}
+use Rattle.dbf_table.specs.declared.FieldType.{FieldType}
+use Rattle.dbf_table.specs.declared.FieldType.TheVariants as field
+use Rattle.dbf_table.specs.Table.{min_table, max_table, file_end, type_c, type_n, type_d, type_l, type_m, field_type, field_length, field_decimals, field_offset}
 use Rattle.dbf_table.specs.Table.{field_count, first_year, storable_date, header_length_of, record_length_of, record_count, records_end, size_good}
 use Rattle.dbf_table.specs.Table.{table_checks, table_refusal, check_table}
 use Rattle.dbf_table.specs.TableLaws.{Layout, layout, table-numbered, good_check, good_then, refused_check, refused_then}
 use Rattle.dbf_table.specs.FormLaws.{field_form, form-some}
 use Rattle.dbf_table.specs.RecordLaws.{field_inside, record_positive, records-next}
 use Rattle.dbf_table.specs.declared.Shape.{Shape}
-use Rattle.dbf_table.specs.declared.Checked.TheVariants.{Good, Refused}
 use Rattle.dbf_append.specs.Append.{held_checks, check_held, date_refusal, logical_refusal, memo_refusal, text_refusal, text_in, texts_refusal}
 use Rattle.dbf_append.specs.Append.{room_for, new_end, record_checks, record_refusal, append_checks, append_refusal, record_write, count_write}
 use Rattle.dbf_append.specs.Append.{write, stored, unstored, append_rule, Appendable}
@@ -34,7 +37,7 @@ use Rattle.dbf_append.specs.UpdateDate.{set_date_checks, set_date_refusal, date_
 -- ---- the table in the buffer
 
 module _ (b : List ℕ) (n : ℕ) where
-  pub held-long : length b < n → check_held b n ≡ Refused 10
+  pub held-long : length b < n → check_held b n ≡ Err 10
   unfolding check_held
   held-long h = rw (lt-leb n (length b) h)
 
@@ -43,36 +46,36 @@ module _ (b : List ℕ) (n : ℕ) where
   held-checked h = rw (le-leb n (length b) h)
 
   -- what a caller learns from the answer's case
-  pub held-good : (s : Shape) → check_held b n ≡ Good s → (n ≤ length b) × (check_table (take n b) ≡ Good s)
+  pub held-good : (s : Shape) → check_held b n ≡ Ok s → (n ≤ length b) × (check_table (take n b) ≡ Ok s)
   unfolding check_held
   held-good s e =
       either (leb n (length b))
       (λ fits. (leb-true n (length b) fits, rw fits at e))
-      (λ long. let q : Refused 10 ≡ Good s = rw long at e in impossible (cc))
+      (λ long. let q : Err 10 ≡ Ok s = rw long at e in impossible (cc))
 
   -- the header lies in the buffer
-  pub held-header : (s : Shape) → check_held b n ≡ Good s → min_table ≤ length b
+  pub held-header : (s : Shape) → check_held b n ≡ Ok s → min_table ≤ length b
   held-header s e =
       let good = held-good s e in
       let header = (layout (take n b) (good_check (take n b) s good.1).0).header in
       omega (arith, header.long, length-take-le n b good.0)
 
   -- the checks after those of the table: they decide if the table is good, and its refusal does if it is not
-  pub held_then : (s : Shape) (more : List (Bool × ℕ)) → check_held b n ≡ Good s → first_refusal (held_checks b n more) ≡ first_refusal more
+  pub held_then : (s : Shape) (more : List (Bool × ℕ)) → check_held b n ≡ Ok s → first_refusal (held_checks b n more) ≡ first_refusal more
   unfolding held_checks
   held_then s more e =
       let good = held-good s e in
       first_pass (leb n (length b)) 10 (table_checks (take n b) ++ more) (le-leb n (length b) good.0) ∙ good_then (take n b) s more good.1
 
-  pub held-refused : (k : ℕ) (more : List (Bool × ℕ)) → check_held b n ≡ Refused k → (first_refusal (held_checks b n more) ≡ k) × (k ≡ 0 → ⊥)
+  pub held-refused : (k : ℕ) (more : List (Bool × ℕ)) → check_held b n ≡ Err k → (first_refusal (held_checks b n more) ≡ k) × (k ≡ 0 → ⊥)
   unfolding check_held held_checks
   held-refused k more e =
       either (leb n (length b))
       (λ fits.
-      let q : check_table (take n b) ≡ Refused k = rw fits at e in
+      let q : check_table (take n b) ≡ Err k = rw fits at e in
       (first_pass (leb n (length b)) 10 (table_checks (take n b) ++ more) fits ∙ refused_then (take n b) k more q, (refused_check (take n b) k q).1))
       (λ long.
-      let q : Refused 10 ≡ Refused k = rw long at e in
+      let q : Err 10 ≡ Err k = rw long at e in
       let same : 10 ≡ k = cc in
       (first_fail (leb n (length b)) 10 (table_checks (take n b) ++ more) long ∙ same, λ z. omega arith))
 
@@ -118,6 +121,51 @@ module _ (type decimals : ℕ) (s : List ℕ) where
   pub text_any : (type ≡ type_n → ⊥) → (type ≡ type_d → ⊥) → (type ≡ type_l → ⊥) → (type ≡ type_m → ⊥) → text_refusal type decimals s ≡ 0
   unfolding text_refusal
   text_any a b c d = rw (ne_eqb type type_n a, ne_eqb type type_d b, ne_eqb type type_l c, ne_eqb type type_m d)
+
+-- a letter is that of the type that it stands for
+pub letter_is : (letter : ℕ) (t : FieldType) → type_of letter ≡ Some t → letter ≡ letter_of t
+letter_is letter t e =
+    either (eqb letter type_c)
+    (λ c. let q : Some field.Text ≡ Some t = rw c at e in let is : t ≡ field.Text = cc in rw is (eqb-true letter type_c c))
+    (λ not-c. either (eqb letter type_n)
+    (λ n. let q : Some field.Number ≡ Some t = rw (not-c, n) at e in let is : t ≡ field.Number = cc in rw is (eqb-true letter type_n n))
+    (λ not-n. either (eqb letter type_d)
+    (λ d. let q : Some field.Date ≡ Some t = rw (not-c, not-n, d) at e in let is : t ≡ field.Date = cc in rw is (eqb-true letter type_d d))
+    (λ not-d. either (eqb letter type_l)
+    (λ l. let q : Some field.Logical ≡ Some t = rw (not-c, not-n, not-d, l) at e in let is : t ≡ field.Logical = cc in rw is (eqb-true letter type_l l))
+    (λ not-l. either (eqb letter type_m)
+    (λ m. let q : Some field.Memo ≡ Some t = rw (not-c, not-n, not-d, not-l, m) at e in let is : t ≡ field.Memo = cc in rw is (eqb-true letter type_m m))
+    (λ not-m. let q : None ≡ Some t = rw (not-c, not-n, not-d, not-l, not-m) at e in impossible (cc))))))
+
+-- a letter of no type, and that of text, takes any bytes
+pub text_taken : (letter decimals : ℕ) (s : List ℕ) → type_of letter ≡ None → text_refusal letter decimals s ≡ 0
+text_taken letter decimals s e =
+    text_any letter decimals s
+    (λ n. let q : Some field.Number ≡ None = rw n at e in impossible (cc))
+    (λ d. let q : Some field.Date ≡ None = rw d at e in impossible (cc))
+    (λ l. let q : Some field.Logical ≡ None = rw l at e in impossible (cc))
+    (λ m. let q : Some field.Memo ≡ None = rw m at e in impossible (cc))
+
+-- an answer that is no refusal
+pub number_taken : (v : Option ℤ) → number_refusal (Ok v) ≡ 0
+unfolding number_refusal
+number_taken None = refl
+number_taken (Some v) = refl
+
+pub date_taken : (v : Option Date) → date_refusal (Ok v) ≡ 0
+unfolding date_refusal
+date_taken None = refl
+date_taken (Some v) = refl
+
+pub logical_taken : (v : Option Bool) → logical_refusal (Ok v) ≡ 0
+unfolding logical_refusal
+logical_taken None = refl
+logical_taken (Some v) = refl
+
+pub memo_taken : (v : Option ℕ) → memo_refusal (Ok v) ≡ 0
+unfolding memo_refusal
+memo_taken None = refl
+memo_taken (Some v) = refl
 
 -- from one offset to another
 pub text-part : (t r : List ℕ) (j start end : ℕ) → start ≡ field_offset t j → end ≡ start + field_length t j → take (end - start) (drop start r) ≡ text_in t r j
@@ -315,7 +363,7 @@ place-fits b r place count given n p =
 -- the record and then the end mark are one store; a host is told of R + 1 bytes and of four
 pub stored_as : (b r b₁ b₂ b₃ : List ℕ) (place count : ℕ) → count ≡ le32 b 4 → place ≡ records_end b count
     → b₁ ≡ put b place r → b₂ ≡ set b₁ (place + length r) file_end → b₃ ≡ put b₂ 4 (to_le32 (count + 1))
-    → stored b r ≡ left b₃ (record { refusal = 0; first = record { place = place; length = length r + 1 }; second = record { place = 4; length = 4 } })
+    → stored b r ≡ left b₃ (Ok (record { first = record { place = place; length = length r + 1 }; second = record { place = 4; length = 4 } }))
 unfolding stored record_write count_write record_count to_le32
 stored_as b r b₁ b₂ b₃ place count n p e₁ e₂ e₃ =
     let two : put b place (r ++ (file_end ∷ [])) ≡ b₂ = put_snoc b place r file_end ∙ rw (← e₁) (sym e₂) in
@@ -337,11 +385,11 @@ module _ (b : List ℕ) (n year month day : ℕ) where
   unfolding set_date_rule set_date_refusal
   date-made e = unless-zero (left b) new (set_date_checks b n year month day) (held-named b n _ ((λ bad none. omega arith), tt)) e
 
-  pub date-refused : (k : ℕ) → check_held b n ≡ Refused k → set_date_rule b n year month day ≡ left b k
+  pub date-refused : (k : ℕ) → check_held b n ≡ Err k → set_date_rule b n year month day ≡ left b k
   unfolding set_date_refusal
   date-refused k e = let said = held-refused b n k ((storable_date year month day, 3) ∷ []) e in date-first k said.0 said.1
 
-  module _ (s : Shape) (e : check_held b n ≡ Good s) where
+  module _ (s : Shape) (e : check_held b n ≡ Ok s) where
     pub date_3 : storable_date year month day ≡ false → set_date_rule b n year month day ≡ left b 3
     unfolding set_date_refusal
     date_3 bad = date-first 3 (held_then b n s ((storable_date year month day, 3) ∷ []) e ∙ first_fail _ 3 [] bad) (λ z. omega arith)

@@ -1,7 +1,7 @@
 -- Laws: a record with a comma in numeric text is never written. Demand 2's rule reads the text, so that no append can put into a table what no call would
 -- read from it. Assumes nothing.
+use Rattle.std.specs.Prelude.{◌≡◌, true, false, List, length, take, eqb, Ok}
 use Prim.Native.Nat.{ℕ, zero, suc, ◌+◌, ◌≤◌, ◌<◌}
-use Rattle.std.specs.Prelude.{◌≡◌, true, false, List, length, take, eqb}
 use Rattle.std.proofs.Common.{sym, ◌∙◌, arith}
 use borrow.Author.Tests.{eqb-true, eqb-false, ne_eqb}
 use Rattle.basis.specs.Tests.{either}
@@ -17,7 +17,6 @@ use Rattle.dbf_table.specs.TableLaws.{Layout, layout, good_check}
 use Rattle.dbf_table.specs.FormLaws.{field_form, form-numeric}
 use Rattle.dbf_table.specs.RecordLaws.{field_inside}
 use Rattle.dbf_table.specs.declared.Shape.{Shape}
-use Rattle.dbf_table.specs.declared.Checked.TheVariants.{Good}
 use Rattle.refusal.specs.After.{left}
 use Rattle.dbf_append.specs.Append.{check_held, text_in, texts_refusal, record_refusal, append_refusal, unstored, append_rule}
 use Rattle.dbf_append.specs.CheckLaws.{held-good, held_then, text_number, field_refused, record_text, Accepted, append_refused}
@@ -83,7 +82,7 @@ no_comma b n r a j l type =
     (λ none. none)
 
 -- and one that has it in the first field that is refused is answered 16, with nothing written
-module _ (b : List ℕ) (n : ℕ) (r : List ℕ) (s : Shape) (e : check_held b n ≡ Good s) where
+module _ (b : List ℕ) (n : ℕ) (r : List ℕ) (s : Shape) (e : check_held b n ≡ Ok s) where
   abbrev t : List ℕ
   t = take n b
 

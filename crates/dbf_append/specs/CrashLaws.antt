@@ -1,6 +1,6 @@
 -- Laws: the crash law of an append. Power may fail before the first store, amid it, after it, or after both: the file shortened by its own count is then the
 -- old table, or the new one. The four count bytes are taken to be stored at once. Assumes nothing.
-use Rattle.std.specs.Prelude.{ℕ, ◌+◌, ◌≤◌, ◌<◌, ◌≡◌, drop, ltb}
+use Rattle.std.specs.Prelude.{ℕ, ◌+◌, ◌≤◌, ◌<◌, ◌≡◌, drop, ltb, Ok}
 use Rattle.std.proofs.Math.Path.{refl, ap}
 use Rattle.std.proofs.Common.{sym, ◌∙◌, take-append-drop, take-take, take_at, lit<}
 use mathlib.Core.List.{List, [], ◌∷◌, ◌++◌, append_assoc, append-nil}
@@ -161,9 +161,9 @@ module _ (b : List ℕ) (n : ℕ) (r : List ℕ) (a : Accepted b n r) where
     pub file : (tail : List ℕ) → shortened (old ++ tail) ≡ old
     pub file-both : (tail : List ℕ) → shortened (counted old (old ++ r ++ tail)) ≡ new_table t r
     -- what `table_extent` tells of such files
-    pub extent : (tail : List ℕ) → length (old ++ tail) ≤ max_table → extent_rule (old ++ tail) ≡ record { refusal = 0; length = length old }
+    pub extent : (tail : List ℕ) → length (old ++ tail) ≤ max_table → extent_rule (old ++ tail) ≡ Ok (length old)
     pub extent-both : (tail : List ℕ) → length (old ++ r ++ tail) ≤ max_table
-        → extent_rule (counted old (old ++ r ++ tail)) ≡ record { refusal = 0; length = length (new_table t r) }
+        → extent_rule (counted old (old ++ r ++ tail)) ≡ Ok (length (new_table t r))
     -- and what is left passes all checks, the new table with its end mark too
     pub old-good : table_refusal old ≡ 0
     pub new-good : table_refusal (new_table t r) ≡ 0

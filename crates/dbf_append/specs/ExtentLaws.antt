@@ -1,5 +1,5 @@
 -- Laws: the checks of a table's form are its checks but the last. Assumes nothing.
-use Rattle.std.specs.Prelude.{ℕ, ◌≤◌, ◌<◌, ◌≡◌, true, List, [], ◌∷◌, ◌++◌, length, eqb, leb}
+use Rattle.std.specs.Prelude.{ℕ, ◌≤◌, ◌<◌, ◌≡◌, true, List, [], ◌∷◌, ◌++◌, length, eqb, leb, Err, Ok}
 use Rattle.std.proofs.Math.Path.{refl, sym, ap}
 use Rattle.std.proofs.Common.{◌∙◌, arith, lit<}
 use borrow.Author.Tests.{eqb-true, eqb-false, le-leb, lt-leb, ne_eqb}
@@ -70,7 +70,7 @@ module _ (b : List ℕ) where
 
   -- ---- the answer
 
-  pub extent-refused : (k : ℕ) → k ≡ form_refusal b → (k ≡ 0 → ⊥) → extent_rule b ≡ record { refusal = k; length = 0 }
+  pub extent-refused : (k : ℕ) → k ≡ form_refusal b → (k ≡ 0 → ⊥) → extent_rule b ≡ Err k
   unfolding extent_rule extent_refusal form_refusal
   extent-refused k e some =
       rw (first-before (form_checks b) ((leb (own_end b) (length b), 10) ∷ []) (λ z. some (e ∙ z)), ← e, ne_eqb k 0 some)
@@ -80,10 +80,10 @@ module _ (b : List ℕ) where
     unfolding extent_refusal form_refusal
     after-form = first-after (form_checks b) ((leb (own_end b) (length b), 10) ∷ []) form-numbered none
 
-    pub extent-short : length b < own_end b → extent_rule b ≡ record { refusal = 10; length = 0 }
+    pub extent-short : length b < own_end b → extent_rule b ≡ Err 10
     unfolding extent_rule first_refusal
     extent-short h = rw (after-form, lt-leb (own_end b) (length b) h)
 
-    pub extent-told : own_end b ≤ length b → extent_rule b ≡ record { refusal = 0; length = own_end b }
+    pub extent-told : own_end b ≤ length b → extent_rule b ≡ Ok (own_end b)
     unfolding extent_rule first_refusal
     extent-told h = rw (after-form, le-leb (own_end b) (length b) h)

@@ -1,6 +1,6 @@
 -- Laws: a file whose first bytes are a table's, whatever follows them: shortened by its own count it is that table. An append's two stores lead from such a
 -- file to one that begins with the new table. Assumes nothing.
-use Rattle.std.specs.Prelude.{ℕ, ◌+◌, ◌≤◌, ◌<◌, ◌≡◌, true, take}
+use Rattle.std.specs.Prelude.{ℕ, ◌+◌, ◌≤◌, ◌<◌, ◌≡◌, true, take, Ok}
 use Rattle.std.proofs.Math.Path.{refl, ap}
 use Rattle.std.proofs.Common.{sym, ◌∙◌, arith, take_at, lit<}
 use mathlib.Core.List.{List, [], ◌∷◌, ◌++◌}
@@ -66,7 +66,7 @@ module _ (old : List ℕ) (whole : Whole old) where
     tail_shortened = rw tail_end (take_at old tail (length old) refl)
 
     -- and its length is told, if the file is no longer than a table may be
-    pub tail_extent : length (old ++ tail) ≤ max_table → extent_rule (old ++ tail) ≡ record { refusal = 0; length = length old }
+    pub tail_extent : length (old ++ tail) ≤ max_table → extent_rule (old ++ tail) ≡ Ok (length old)
     unfolding date_good size_good
     tail_extent small =
         let long = length-append old tail in
@@ -142,7 +142,7 @@ module _ (old r : List ℕ) (whole : Whole old) (fills : length r ≡ record_len
     form : form_refusal more ≡ 0
     form = form-kept old more whole.form more-form more-size more-date (omega (arith, size, long, header.inside))
 
-    pub more-extent : extent_rule more ≡ record { refusal = 0; length = length old + length r }
+    pub more-extent : extent_rule more ≡ Ok (length old + length r)
     more-extent = extent-told more form (omega (arith, size, long, more-end)) ∙ rw more-end
 
     ended : length_good more ≡ true → table_refusal more ≡ 0

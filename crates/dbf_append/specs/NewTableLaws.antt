@@ -1,7 +1,7 @@
 -- Laws: after an accepted append the table has one record more. Each old record reads as before, the new one as the bytes given, and either walk hands out what
 -- it did and then the new record; the skipping walk leaves it out if it is deleted. Assumes nothing.
 use Prim.Native.Nat.{ℕ, zero, suc, ◌+◌, ◌-◌, ◌≤◌, ◌<◌}
-use Rattle.std.specs.Prelude.{◌≡◌, Bool, ◌&&◌, cond, List, [], ◌∷◌, ◌++◌, length, take}
+use Rattle.std.specs.Prelude.{◌≡◌, Bool, ◌&&◌, cond, List, [], ◌∷◌, ◌++◌, length, take, None, Ok}
 use Rattle.std.proofs.Math.Path.{ap}
 use Rattle.std.proofs.Common.{◌∙◌, length-append, get_or-append-add, eqb-true}
 use Rattle.std.proofs.Math.Bool.{true, false}
@@ -13,13 +13,12 @@ use Rattle.octets.specs.Bytes.{byte_at}
 use Rattle.octets.specs.Store.{window}
 use Rattle.dbf_table.specs.Table.{file_end, kept_mark, deleted_mark, header_length_of, record_count}
 use Rattle.dbf_table.specs.TableLaws.{layout}
-use Rattle.dbf_walk.specs.Walk.{marks_from, shown, step_at, step_by}
+use Rattle.dbf_walk.specs.Walk.{Step, handed, marks_from, shown, step_at, step_by}
 use Rattle.dbf_walk.specs.RunLaws.{handed_out, walk_run, handed_append, walk-run}
-use Rattle.dbf_walk.specs.declared.Step.{Step}
-use Rattle.dbf_walk.specs.declared.Step.TheVariants.{Record, Done}
 use Rattle.dbf_append.specs.declared.Store.{Store}
+use Rattle.dbf_append.specs.declared.Appended.{Appended}
 use Rattle.dbf_append.specs.Extent.{own_end}
-use Rattle.dbf_append.specs.Append.{new_end, append_refusal, record_write, count_write, stored, append_rule}
+use Rattle.dbf_append.specs.Append.{new_end, append_refusal, record_write, count_write, told, stored, append_rule}
 use Rattle.dbf_append.specs.CheckLaws.{Accepted, accepted, append_stored}
 use Rattle.dbf_table.specs.SameForm.{header-same, fields-same}
 use Rattle.dbf_append.specs.ImageLaws.{shortened, beyond, kept, more-form, more-count}
@@ -99,12 +98,17 @@ copied b s = window b s.place s.length
 
 -- the host copies from it, where it is told, the very bytes that the crash law speaks of
 pub append_told : (b : List ℕ) (n : ℕ) (r : List ℕ) → append_refusal b n r ≡ 0
-    → (copied (append_rule b n r).after (append_rule b n r).answer.first ≡ (record_write b r).bytes)
-    × (copied (append_rule b n r).after (append_rule b n r).answer.second ≡ (count_write b).bytes)
+    → (done : Appended) × ((append_rule b n r).answer ≡ Ok done)
+    × (copied (append_rule b n r).after done.first ≡ (record_write b r).bytes)
+    × (copied (append_rule b n r).after done.second ≡ (count_write b).bytes)
 unfolding stored
 append_told b n r e =
-    let a = accepted b n r e in
-    (rw (append_stored b n r e) (told-first b n r a), rw (append_stored b n r e) (told-second b n r a))
+    let a = accepted b n r e in (
+      record { first = told (record_write b r); second = told (count_write b) },
+      rw (append_stored b n r e),
+      rw (append_stored b n r e) (told-first b n r a),
+      rw (append_stored b n r e) (told-second b n r a),
+    )
 
 -- ---- the walks
 
@@ -112,7 +116,7 @@ append_told b n r e =
 unfoldable pub step_of : Bool → ℕ → ℕ → List Step
 step_of skips mark i =
     let deleted = eqb mark deleted_mark in
-    cond (skips && deleted) [] (Record i deleted ∷ [])
+    cond (skips && deleted) [] (handed i deleted ∷ [])
 
 module _ (t r c : List ℕ) (added : Added t r c) where
   -- the new table has the old marks and then the new one
@@ -126,7 +130,7 @@ module _ (t r c : List ℕ) (added : Added t r c) where
       rw (same, rest)
 
   -- the new record has one of the two marks
-  new-step : step_at (record_count t + 1, byte_at r 0) ≡ Record (record_count t + 1) (eqb (byte_at r 0) deleted_mark)
+  new-step : step_at (record_count t + 1, byte_at r 0) ≡ handed (record_count t + 1) (eqb (byte_at r 0) deleted_mark)
   unfolding step_at
   new-step =
       either (eqb (byte_at r 0) kept_mark)
@@ -143,7 +147,7 @@ module _ (t r c : List ℕ) (added : Added t r c) where
 
     -- so a host's calls of either walk, from the start until done
     pub run_more : walk_run (step_by skips c) (record { passed = 0 }) (record_count c + 1)
-        ≡ handed_out skips (marks_from t 0 (record_count t)) ++ step_of skips (byte_at r 0) (record_count t + 1) ++ (Done ∷ [])
+        ≡ handed_out skips (marks_from t 0 (record_count t)) ++ step_of skips (byte_at r 0) (record_count t + 1) ++ (Ok None ∷ [])
     run_more =
         let n = record_count t in
         let old = handed_out skips (marks_from t 0 n) in
@@ -151,5 +155,5 @@ module _ (t r c : List ℕ) (added : Added t r c) where
         let marks = ap (λ (k : ℕ). marks_from c 0 k) all ∙ marks_more n 0 (omega arith) in
         let handed = handed_append skips (marks_from t 0 n) ((n + 1, byte_at r 0) ∷ []) ∙ ap (λ (l : List Step). old ++ l) handed_last in
         walk-run skips c added.extends.new (record { passed = 0 }) (record_count c + 1) (omega arith)
-        ∙ ap (λ (l : List (ℕ × ℕ)). handed_out skips l ++ (Done ∷ [])) marks
-        ∙ ap (λ (l : List Step). l ++ (Done ∷ [])) handed
+        ∙ ap (λ (l : List (ℕ × ℕ)). handed_out skips l ++ (Ok None ∷ [])) marks
+        ∙ ap (λ (l : List Step). l ++ (Ok None ∷ [])) handed

@@ -1,6 +1,6 @@
 -- Laws: a table that was written to reads as before. Each record that it had reads as before in every field, after an append and after a new date, and the
 -- walk hands out the numbers that it did. Assumes nothing.
-use Rattle.std.specs.Prelude.{ℕ, ◌+◌, ◌-◌, ◌≤◌, ◌<◌, ◌≡◌, refl, Bool, true, List, [], ◌∷◌, length, eqb}
+use Rattle.std.specs.Prelude.{ℕ, ◌+◌, ◌-◌, ◌≤◌, ◌<◌, ◌≡◌, refl, Bool, true, List, [], ◌∷◌, length, eqb, Ok, Err, Some, None}
 use Rattle.std.proofs.Common.{sym, ap, ◌∙◌, ext_get_or, eqb-true, le-leb}
 use Rattle.std.proofs.Math.Nat.{mul-le-mul_right, add-mul}
 use native.Mathlib.Omega.{arith}
@@ -17,9 +17,7 @@ use Rattle.dbf_table.specs.TableLaws.{HeaderFits, layout, table-numbered}
 use Rattle.dbf_table.specs.RecordLaws.{record_positive, field_inside}
 use Rattle.dbf_field.specs.Field.{number_good}
 use Rattle.dbf_field.specs.FieldLaws.{place-good, number-range}
-use Rattle.fpt_memo.specs.Memo.{memo_text}
-use Rattle.fpt_memo.specs.declared.MemoPlace.{MemoPlace}
-use Rattle.fpt_memo.specs.declared.MemoPlace.TheVariants.{Text, Empty, Refused}
+use Rattle.fpt_memo.specs.Memo.{MemoPlace, memo_text}
 use Rattle.calendar.specs.DateText.{date_of}
 use Rattle.numeral.specs.Reading.{read_number}
 use Rattle.dbf_cell.specs.Cell.{reads_type, mark_good, cell_refusal, field_start, field_bytes, number_cell, date_cell, logical_of, logical_cell, memo_part}
@@ -43,9 +41,9 @@ window_alike b c from at n h l same =
 -- a memo's part is not the table's
 memo_alone : (b c m : List ℕ) (q : MemoPlace) → text_part b m (memo_part q) ≡ text_part c m (memo_part q)
 unfolding memo_part text_part
-memo_alone b c m (Text a l) = refl
-memo_alone b c m Empty = refl
-memo_alone b c m (Refused n) = refl
+memo_alone b c m (Ok (Some place)) = refl
+memo_alone b c m (Ok None) = refl
+memo_alone b c m (Err n) = refl
 
 in-range : (i n : ℕ) → 1 ≤ i → i ≤ n → number_good i n ≡ true
 unfolding number_good

@@ -1,11 +1,10 @@
 -- Laws: what the calls' proofs cite of the answers; an out-parameter keeps what it held if the answer is not 0. Assumes nothing.
-use Rattle.std.specs.Prelude.{ℕ, ◌<◌, ◌^◌, ◌≡◌, refl, List}
+use Rattle.std.specs.Prelude.{ℕ, ◌<◌, ◌^◌, ◌≡◌, refl, List, Err, Ok}
 use Rattle.std.proofs.Common.{arith}
 use Rattle.dbf_table.specs.Table.{check_table}
 use Rattle.dbf_table.specs.TableLaws.{layout, good_shape}
 use Rattle.dbf_table.specs.declared.Shape.{Shape}
-use Rattle.dbf_table.specs.declared.Checked.{Checked}
-use Rattle.dbf_table.specs.declared.Checked.TheVariants as table
+use Rattle.dbf_table.specs.Table.{Checked}
 use Rattle.dbf_calls.specs.Answers.{Sizes, shape_out}
 
 -- a good table's numbers are numbers of 32 bits
@@ -13,7 +12,7 @@ pub record Small (s : Shape) : Type 0 where
   pub fields : s.fields < 2 ^ 32
   pub length : s.record_length < 2 ^ 32
 
-pub shape_small : (b : List ℕ) (s : Shape) → check_table b ≡ table.Good s → Small s
+pub shape_small : (b : List ℕ) (s : Shape) → check_table b ≡ Ok s → Small s
 shape_small b s e =
     let shape = good_shape b s e in
     let table = layout b shape.table in
@@ -21,5 +20,5 @@ shape_small b s e =
 
 pub shape_kept : (answer : Checked) (old : Sizes) → ((shape_out answer old).answer ≡ 0 → ⊥) → (shape_out answer old).held ≡ old
 unfolding shape_out
-shape_kept (table.Good s) old other = absurd (other refl)
-shape_kept (table.Refused n) old other = refl
+shape_kept (Ok s) old other = absurd (other refl)
+shape_kept (Err n) old other = refl

@@ -1,15 +1,12 @@
 -- Rules: the calls over lent structs: the field list, "written into a list of field entries that the host lends", and the two walks, whose position "belongs to
 -- the host and each call moves it on the spot".
-use Rattle.std.specs.Prelude.{ℕ, zero, suc, List, [], ◌∷◌, ◌++◌, Bool, true, false, cond, length, set, eqb, leb}
+use Rattle.std.specs.Prelude.{ℕ, zero, suc, List, [], ◌∷◌, ◌++◌, Bool, true, false, cond, length, set, eqb, leb, None, Some, Ok, Err}
 use Rattle.refusal.specs.Checks.{first_refusal}
 use Rattle.dbf_table.specs.Table.{field_count, table_checks}
 use Rattle.dbf_field.specs.Field.{entry_of}
 use Rattle.dbf_field.specs.declared.FieldEntry.{FieldEntry}
-use Rattle.dbf_walk.specs.Walk.{walk_step, live_step}
+use Rattle.dbf_walk.specs.Walk.{Step, Walked, walk_step, live_step}
 use Rattle.dbf_walk.specs.declared.Position.{Position}
-use Rattle.dbf_walk.specs.declared.Step.{Step}
-use Rattle.dbf_walk.specs.declared.Step.TheVariants.{Record, Done, Refused}
-use Rattle.dbf_walk.specs.declared.Walked.{Walked}
 use Rattle.dbf_calls.specs.declared.Plan.{Plan}
 use Rattle.dbf_calls.specs.declared.LentStep.{LentStep}
 use Rattle.dbf_calls.specs.declared.LentLiveStep.{LentLiveStep}
@@ -50,15 +47,15 @@ done_code = 258
 
 -- the number of an answer: 0 for a record, 258 at the end, or the refusal's
 abbrev pub step_code : Step → ℕ
-step_code (Record n deleted) = 0
-step_code Done = done_code
-step_code (Refused n) = n
+step_code (Ok (Some r)) = 0
+step_code (Ok None) = done_code
+step_code (Err n) = n
 
 -- the record's number, or the number that was there
 abbrev pub step_record : Step → ℕ → ℕ
-step_record (Record n deleted) old = n
-step_record Done old = old
-step_record (Refused n) old = old
+step_record (Ok (Some r)) old = r.number
+step_record (Ok None) old = old
+step_record (Err n) old = old
 
 -- "1 where it is deleted and 0 where it is not"
 abbrev pub mark_number : Bool → ℕ
@@ -67,9 +64,9 @@ mark_number false = 0
 
 -- the record's mark, or the mark that was there
 abbrev pub step_mark : Step → ℕ → ℕ
-step_mark (Record n deleted) old = mark_number deleted
-step_mark Done old = old
-step_mark (Refused n) old = old
+step_mark (Ok (Some r)) old = mark_number r.deleted
+step_mark (Ok None) old = old
+step_mark (Err n) old = old
 
 -- what a step hands to C, with `number` and `mark` as those that were there
 unfoldable pub lent_of : Walked → ℕ → ℕ → LentStep

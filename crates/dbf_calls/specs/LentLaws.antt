@@ -1,5 +1,5 @@
 -- Laws: the parts of the calls over lent structs; entry j of the field list is the answer by value for field j + 1. Assumes nothing.
-use Rattle.std.specs.Prelude.{ℕ, zero, suc, ◌+◌, ◌-◌, ◌≤◌, ◌<◌, ◌≡◌, refl, Bool, true, cond, List, [], ◌∷◌, length, get_or, set, replicate, eqb, leb}
+use Rattle.std.specs.Prelude.{ℕ, zero, suc, ◌+◌, ◌-◌, ◌≤◌, ◌<◌, ◌≡◌, refl, Bool, true, cond, List, [], ◌∷◌, length, get_or, set, replicate, eqb, leb, Err, Ok, None, Some}
 use Rattle.std.proofs.Common.{sym, ap, subst, ◌∙◌, ⊎_elim, eq-or-lt_of_le, le_of_suc-le-suc, not-suc-le-zero, add-one, arith, get_or-set_same}
 use Rattle.std.proofs.Common.{get_or-set_other, length-set, lit<, le-leb, leb-true, eqb-true, ne_eqb}
 use Rattle.std.proofs.lemmas.Bool.{lt-leb}
@@ -10,14 +10,10 @@ use Rattle.dbf_table.specs.Table.{max_fields, max_record, field_offset, field_co
 use Rattle.dbf_table.specs.TableLaws.{layout, table-numbered, good_shape, good_then, refused_then, refused_check}
 use Rattle.dbf_table.specs.RecordLaws.{offset-first, offset-next, field_inside}
 use Rattle.dbf_table.specs.declared.Shape.{Shape}
-use Rattle.dbf_table.specs.declared.Checked.TheVariants.{Good, Refused as TableRefused}
 use Rattle.dbf_field.specs.Field.{entry_of, field_refusal, field_answer, number_good}
 use Rattle.dbf_field.specs.declared.FieldEntry.{FieldEntry}
-use Rattle.dbf_walk.specs.Walk.{walk_step, live_step}
+use Rattle.dbf_walk.specs.Walk.{Step, Walked, walk_step, live_step}
 use Rattle.dbf_walk.specs.declared.Position.{Position}
-use Rattle.dbf_walk.specs.declared.Step.{Step}
-use Rattle.dbf_walk.specs.declared.Step.TheVariants.{Record, Done, Refused}
-use Rattle.dbf_walk.specs.declared.Walked.{Walked}
 use Rattle.dbf_calls.specs.declared.Plan.{Plan}
 use Rattle.dbf_calls.specs.declared.LentStep.{LentStep}
 use Rattle.dbf_calls.specs.declared.LentLiveStep.{LentLiveStep}
@@ -30,21 +26,21 @@ abbrev plan_to : ℕ → ℕ → Plan
 plan_to answer count = record { answer = answer; count = count }
 
 -- the plan by the case of the table's check, and of the test of the room
-pub plan_refused : (b : List ℕ) (room n : ℕ) → check_table b ≡ TableRefused n → plan_to n 0 ≡ plan_of b room
+pub plan_refused : (b : List ℕ) (room n : ℕ) → check_table b ≡ Err n → plan_to n 0 ≡ plan_of b room
 unfolding plan_of listing_refusal
 plan_refused b room n e =
     let refused : first_refusal _ ≡ n = refused_then b n ((leb (field_count b) room, 14) ∷ []) e in
     rw (refused, ne_eqb n 0 (refused_check b n e).1)
 
-listing-checked : (b : List ℕ) (s : Shape) (room : ℕ) → check_table b ≡ Good s → listing_refusal b room ≡ cond (leb s.fields room) 0 14
+listing-checked : (b : List ℕ) (s : Shape) (room : ℕ) → check_table b ≡ Ok s → listing_refusal b room ≡ cond (leb s.fields room) 0 14
 unfolding listing_refusal first_refusal
 listing-checked b s room e = good_then b s ((leb (field_count b) room, 14) ∷ []) e ∙ rw (good_shape b s e).fields
 
-pub plan_short : (b : List ℕ) (s : Shape) (room : ℕ) → check_table b ≡ Good s → room < s.fields → plan_to 14 0 ≡ plan_of b room
+pub plan_short : (b : List ℕ) (s : Shape) (room : ℕ) → check_table b ≡ Ok s → room < s.fields → plan_to 14 0 ≡ plan_of b room
 unfolding plan_of
 plan_short b s room e short = rw (listing-checked b s room e, lt-leb _ _ short)
 
-pub plan_good : (b : List ℕ) (s : Shape) (room : ℕ) → check_table b ≡ Good s → s.fields ≤ room → plan_to 0 s.fields ≡ plan_of b room
+pub plan_good : (b : List ℕ) (s : Shape) (room : ℕ) → check_table b ≡ Ok s → s.fields ≤ room → plan_to 0 s.fields ≡ plan_of b room
 unfolding plan_of
 plan_good b s room e enough = rw (listing-checked b s room e, le-leb _ _ enough, (good_shape b s e).fields)
 
@@ -169,7 +165,7 @@ listing-done b entries e = rw e
 
 -- "The same answers are first to be had field by field, by value": entry j, from 0, is the answer for field number j + 1
 pub listing-entry : (b : List ℕ) (entries : List FieldEntry) (j : ℕ) (none : FieldEntry) → listing_refusal b (length entries) ≡ 0 → j < field_count b
-    → get_or (listing b entries).entries j none ≡ (field_answer b (j + 1)).entry
+    → field_answer b (j + 1) ≡ Ok (get_or (listing b entries).entries j none)
 unfolding field_answer field_refusal table_refusal number_good first_refusal
 listing-entry b entries j none e l =
     let good = listing-good b (length entries) e in
@@ -178,7 +174,9 @@ listing-entry b entries j none e l =
     let checks : List (Bool × ℕ) = (number_good (j + 1) (field_count b), 12) ∷ [] in
     let checked : field_refusal b (j + 1) ≡ 0 = first-after (table_checks b) checks (table-numbered b) good.table ∙ rw (low, high) in
     let same : j + 1 - 1 ≡ j = omega arith in
-    ap (λ (x : Listing). get_or x.entries j none) (listing-done b entries e) ∙ listed_at b (field_count b) j entries none l good.enough ∙ rw (checked, same)
+    let entry : get_or (listing b entries).entries j none ≡ entry_of b j =
+    ap (λ (x : Listing). get_or x.entries j none) (listing-done b entries e) ∙ listed_at b (field_count b) j entries none l good.enough in
+    rw (checked, same, entry)
 
 -- ---- the walks
 
@@ -198,14 +196,14 @@ live_as b position number walked lent e is = rw (is, e)
 
 -- without a record the number and the mark stay
 number-kept : (answer : Step) (old : ℕ) → (step_code answer ≡ 0 → ⊥) → step_record answer old ≡ old
-number-kept (Record n deleted) old other = absurd (other refl)
-number-kept Done old other = refl
-number-kept (Refused n) old other = refl
+number-kept (Ok (Some r)) old other = absurd (other refl)
+number-kept (Ok None) old other = refl
+number-kept (Err n) old other = refl
 
 mark-kept : (answer : Step) (old : ℕ) → (step_code answer ≡ 0 → ⊥) → step_mark answer old ≡ old
-mark-kept (Record n deleted) old other = absurd (other refl)
-mark-kept Done old other = refl
-mark-kept (Refused n) old other = refl
+mark-kept (Ok (Some r)) old other = absurd (other refl)
+mark-kept (Ok None) old other = refl
+mark-kept (Err n) old other = refl
 
 pub walked-kept : (b : List ℕ) (position : Position) (number mark : ℕ) → ((walked_of b position number mark).answer ≡ 0 → ⊥)
     → ((walked_of b position number mark).number ≡ number) × ((walked_of b position number mark).deleted ≡ mark)

@@ -1,10 +1,10 @@
 -- Rules: what the calls that write a table hand to C: the answer's number, the buffer after the call, and the two stores of an append. "An out-parameter keeps
 -- what it held whenever the answer is not 0, and so does every lent buffer".
-use Rattle.std.specs.Prelude.{ℕ, cond, List, eqb}
+use Rattle.std.specs.Prelude.{ℕ, List, Ok, Err}
 use Rattle.refusal.specs.After.{After}
 use Rattle.dbf_append.specs.declared.Store.{Store}
-use Rattle.dbf_append.specs.declared.Appended.{Appended}
-use Rattle.dbf_append.specs.declared.Extent.{Extent}
+use Rattle.dbf_append.specs.Append.{Answer}
+use Rattle.dbf_append.specs.Extent.{Extent}
 use Rattle.handed.specs.Out.{Out, out}
 
 -- "the two stores, in the order in which the file must get them"
@@ -27,11 +27,14 @@ abbrev pub written : List ℕ → Stores → Written
 written after told = record { after = after; told = told }
 
 -- "0 sets all four"
-unfoldable pub append_out : After Appended → Stores → Out Written
-append_out call old =
-    let answer = call.answer in
-    out answer.refusal (written call.after (cond (eqb answer.refusal 0) (record { first = answer.first; second = answer.second }) old))
+abbrev pub append_told : Answer → List ℕ → Stores → Out Written
+append_told (Ok done) after old = out 0 (written after (record { first = done.first; second = done.second }))
+append_told (Err n) after old = out n (written after old)
+
+unfoldable pub append_out : After Answer → Stores → Out Written
+append_out call old = append_told call.answer call.after old
 
 -- "0 sets that length"
 unfoldable pub extent_out : Extent → ℕ → Out ℕ
-extent_out extent old = out extent.refusal (cond (eqb extent.refusal 0) extent.length old)
+extent_out (Ok length) old = out 0 length
+extent_out (Err n) old = out n old

@@ -2,6 +2,7 @@
 #![tactic(auto)]
 
 ghost use Rattle.std.specs.Prelude.{◌<◌, ◌≡◌};
+ghost use Rattle.refusal.specs.Refusals.{numbered};
 ghost use Rattle.dbf_table.specs.Table.{field_count, table_refusal, check_table};
 ghost use Rattle.dbf_field.specs.Field.{entry_of};
 ghost use Rattle.dbf_append.specs.Append.{append_rule};
@@ -13,21 +14,21 @@ ghost use Rattle.dbf_calls.specs.LentLaws.{deletion_entry, last_entry};
 ghost use Rattle.dbf_calls.specs.Writing.{stores, written, append_out, extent_out};
 
 use dbf_field::FieldEntry;
-use dbf_table::Checked;
-use dbf_walk::{Position, Step, Walked};
-use refusal::DONE;
+use dbf_walk::{Position, Record};
+use refusal::{DONE, Refusal};
 
 // Whether a table is good: 0, or its refusal.
 pub fn table_check(table: &[u8]) -> u32
     ensures { result ≡ table_refusal table.now }
 {
     match dbf_check::check_table(table) {
-        Checked::Good(_) => 0,
-        Checked::Refused(code) => code,
+        Ok(_) => 0,
+        Err(refusal) => refusal.number(),
     }
 }
 
 // How many records and fields a table has, and how long a record is.
+#[tactic(auto, unfolding(crate::specs::Answers::shape_out))]
 pub fn table_shape(
     table: &[u8],
     records: &mut u32,
@@ -38,17 +39,17 @@ pub fn table_shape(
         ≡ out result (sizes records.new fields.new record_length.new) }
 {
     match dbf_check::check_table(table) {
-        Checked::Good(shape) => {
+        Ok(shape) => {
             *records = shape.records;
             *fields = shape.fields as u32;
             *record_length = shape.record_length as u32;
             0
         }
-        Checked::Refused(refusal) => refusal,
+        Err(refusal) => refusal.number(),
     }
 }
 
-// What the field list answers, and how many entries it writes: none if it refuses.
+// What the field list answers, as the number that C gets, and how many entries it writes: none if it refuses.
 #[derive(Clone, Copy)]
 pub struct Plan {
     pub answer: u32,
@@ -60,14 +61,14 @@ pub fn listing_plan(table: &[u8], room: usize) -> Plan
     ensures { result ≡ plan_of table.now room }
 {
     match dbf_check::check_table(table) {
-        Checked::Refused(refusal) => Plan {
-            answer: refusal,
+        Err(refusal) => Plan {
+            answer: refusal.number(),
             count: 0,
         },
-        Checked::Good(shape) => {
+        Ok(shape) => {
             if room < shape.fields {
                 return Plan {
-                    answer: refusal::FIELD_LIST_TOO_SHORT,
+                    answer: Refusal::FieldListTooShort.number(),
                     count: 0,
                 };
             }
@@ -80,6 +81,7 @@ pub fn listing_plan(table: &[u8], room: usize) -> Plan
 }
 
 // The deletion byte as an entry: what stands before the first field's.
+#[tactic(auto, unfolding(crate::specs::LentLaws::deletion_entry))]
 pub fn deletion_entry() -> FieldEntry
     ensures { result ≡ deletion_entry }
 {
@@ -119,30 +121,31 @@ pub struct LentLiveStep {
 }
 
 // What a step hands to C, with the number and the mark that are held there.
-fn lent(walked: Walked, held: u32, mark: u8) -> LentStep
-    ensures { result ≡ lent_of walked held mark }
+#[tactic(auto, unfolding(crate::specs::Lent::lent_of))]
+fn lent(
+    answer: Result<Option<Record>, Refusal>,
+    position: Position,
+    held: u32,
+    mark: u8,
+) -> LentStep
+    ensures { result ≡ lent_of (record { answer = numbered answer; position = position }) held mark }
 {
-    let after = walked.position;
-    let answer = walked.answer;
     match answer {
-        Step::Record { number, deleted } => {
-            let found = deleted as u8;
-            LentStep {
-                answer: 0,
-                position: after,
-                number,
-                deleted: found,
-            }
-        }
-        Step::Done => LentStep {
+        Ok(Some(record)) => LentStep {
+            answer: 0,
+            position,
+            number: record.number,
+            deleted: record.deleted as u8,
+        },
+        Ok(None) => LentStep {
             answer: DONE,
-            position: after,
+            position,
             number: held,
             deleted: mark,
         },
-        Step::Refused(refusal) => LentStep {
-            answer: refusal,
-            position: after,
+        Err(refusal) => LentStep {
+            answer: refusal.number(),
+            position,
             number: held,
             deleted: mark,
         },
@@ -150,26 +153,30 @@ fn lent(walked: Walked, held: u32, mark: u8) -> LentStep
 }
 
 // A step of the walk by value, from a position.
-pub fn lent_step(table: &[u8], position: Position, number: u32, deleted: u8) -> LentStep
+#[tactic(auto, unfolding(crate::specs::Lent::walked_of))]
+pub fn lent_step(table: &[u8], mut position: Position, number: u32, deleted: u8) -> LentStep
     ensures { result ≡ walked_of table.now position number deleted }
 {
-    lent(dbf_walk::walk_step(table, position), number, deleted)
+    let answer = dbf_walk::walk_step(table, &mut position);
+    lent(answer, position, number, deleted)
 }
 
 // A step of the walk that skips deleted records.
-pub fn lent_live_step(table: &[u8], position: Position, number: u32) -> LentLiveStep
+#[tactic(auto, unfolding(crate::specs::Lent::live_of, crate::specs::Lent::lent_of))]
+pub fn lent_live_step(table: &[u8], mut position: Position, number: u32) -> LentLiveStep
     ensures { result ≡ live_of table.now position number }
 {
-    let step = lent(dbf_walk::live_step(table, position), number, 0);
-    let after = step.position;
+    let answer = dbf_walk::live_step(table, &mut position);
+    let step = lent(answer, position, number, 0);
     LentLiveStep {
         answer: step.answer,
-        position: after,
+        position: step.position,
         number: step.number,
     }
 }
 
 // Appends a record to the table in the buffer's first `table_len` bytes. The two stores are set in the order in which the file must get them.
+#[tactic(auto, unfolding(crate::specs::Writing::append_out))]
 pub fn table_append(
     buffer: &mut [u8],
     table_len: usize,
@@ -184,25 +191,28 @@ pub fn table_append(
         ≡ out result (written buffer.new
         (stores record_place.new record_length.new count_place.new count_length.new)) }
 {
-    let appended = dbf_append::append(buffer, table_len, bytes);
-    if appended.refusal != 0 {
-        return appended.refusal;
+    match dbf_append::append(buffer, table_len, bytes) {
+        Ok(appended) => {
+            *record_place = appended.first.place as u64;
+            *record_length = appended.first.length as u64;
+            *count_place = appended.second.place as u64;
+            *count_length = appended.second.length as u64;
+            0
+        }
+        Err(refusal) => refusal.number(),
     }
-    *record_place = appended.first.place as u64;
-    *record_length = appended.first.length as u64;
-    *count_place = appended.second.place as u64;
-    *count_length = appended.second.length as u64;
-    0
 }
 
 // The length that the host shortens a table's file to after a power loss.
+#[tactic(auto, unfolding(crate::specs::Writing::extent_out))]
 pub fn table_extent(table: &[u8], length: &mut u64) -> u32
     ensures { extent_out (extent_rule table.now) length.old ≡ out result length.new }
 {
-    let extent = dbf_append::table_extent(table);
-    if extent.refusal != 0 {
-        return extent.refusal;
+    match dbf_append::table_extent(table) {
+        Ok(end) => {
+            *length = end as u64;
+            0
+        }
+        Err(refusal) => refusal.number(),
     }
-    *length = extent.length as u64;
-    0
 }

@@ -1,6 +1,6 @@
 -- Laws: a C field's answer is the table's alone; a memo number is 22 if the memo file has no header; no refusal has the number of a value or of an empty
 -- field. Assumes nothing.
-use Rattle.std.specs.Prelude.{ℕ, ◌-◌, ◌^◌, ◌≤◌, ◌<◌, ◌≡◌, Bool, true, false, cond, List, [], ◌∷◌, length, eqb}
+use Rattle.std.specs.Prelude.{ℕ, ◌-◌, ◌^◌, ◌≤◌, ◌<◌, ◌≡◌, Bool, true, false, cond, List, [], ◌∷◌, length, eqb, Err, None, Ok, Some}
 use Rattle.std.proofs.Common.{sym, ◌∙◌, arith, lit≤, lit<}
 use Rattle.std.proofs.lemmas.Bool.{eqb-false, lt-leb}
 use Rattle.basis.specs.Tests.{either, impossible}
@@ -9,23 +9,19 @@ use Rattle.refusal.specs.CheckLaws.{first_below, unless-cases}
 use Rattle.refusal.specs.Checks.{unless}
 use Rattle.octets.specs.Bytes.{byte_at}
 use Rattle.calendar.specs.DateLaws.{date-refusal}
-use Rattle.calendar.specs.declared.DateAnswer.TheVariants as date
 use Rattle.octets.specs.Text.{every, blank}
 use Rattle.numeral.specs.Format.{format_good}
 use Rattle.numeral.specs.Reading.{number_checks, read_number, value_of}
-use Rattle.numeral.specs.declared.Number.TheVariants as number
-use Rattle.fpt_memo.specs.Memo.{memo_header_bytes, memo_header_good, numbered_text, read_text, memo_text, memo_number_text}
+use Rattle.fpt_memo.specs.Memo.{MemoPlace, span, memo_header_bytes, memo_header_good, numbered_text, read_text, memo_text, memo_number_text}
 use Rattle.fpt_memo.specs.NumberText.{number-exactly}
 use Rattle.fpt_memo.specs.MemoLaws.{text-refusal}
-use Rattle.fpt_memo.specs.declared.MemoPlace.{MemoPlace}
-use Rattle.fpt_memo.specs.declared.MemoPlace.TheVariants as memo
 use Rattle.dbf_table.specs.Table.{type_c, type_m, field_type, field_length, field_decimals, table_checks}
+use Rattle.numeral.specs.Format.{Number}
 use Rattle.dbf_cell.specs.Cell.{cell_checks, cell_refusal, field_start, field_bytes}
 use Rattle.dbf_cell.specs.Cell.{number_cell, date_cell, letter_t, letter_f, logical_of, logical_cell, memo_part, text_at, text_cell}
 use Rattle.dbf_cell.specs.Codes.{empty_code}
 use Rattle.dbf_cell.specs.declared.Reads.{Reads}
 use Rattle.dbf_cell.specs.declared.Reads.TheVariants.{Numbers, Dates, Logicals, Texts}
-use Rattle.dbf_cell.specs.declared.Logical.TheVariants as logical
 use Rattle.dbf_cell.specs.declared.TextPlace.TheVariants as text
 
 -- ---- C and M
@@ -37,7 +33,7 @@ text_alone b m n i field c = rw c
 
 -- a memo number is 22 if the memo file is too short for a header, as an empty file is
 pub text_no_header : (b m : List ℕ) (i field k : ℕ) → cell_refusal Texts b i field ≡ 0 → field_type b (field - 1) ≡ type_m
-    → 1 ≤ k → k < 10 ^ 10 → field_bytes b i field ≡ memo_number_text 10 k → length m < memo_header_bytes → text_cell b m i field ≡ text.Refused 22
+    → 1 ≤ k → k < 10 ^ 10 → field_bytes b i field ≡ memo_number_text 10 k → length m < memo_header_bytes → text_cell b m i field ≡ Err 22
 unfolding text_cell text_at field_bytes memo_text read_text numbered_text unless memo_header_good memo_part
 text_no_header b m i field k none type from to number short =
     let said = (number-exactly (field_bytes b i field) k).1 (from, to, number) in
@@ -69,67 +65,67 @@ check_numbered reads b i field n refused e =
     let none = eqb-false (cell_refusal reads b i field) 0 refused in
     (omega (arith, e), omega (arith, e))
 
-number_same : (m n : ℕ) → Numbered m → number.Refused m ≡ number.Refused n → Numbered n
+number_same : (m n : ℕ) → Numbered m → ◌≡◌ {A = Number} (Err m) (Err n) → Numbered n
 number_same m n small e = let k : m ≡ n = cc in (omega arith, omega arith)
 
-pub number-numbered : (s : List ℕ) (d n : ℕ) → read_number s d ≡ number.Refused n → Numbered n
+pub number-numbered : (s : List ℕ) (d n : ℕ) → read_number s d ≡ Err n → Numbered n
 unfolding read_number number_checks
 number-numbered s d n e =
-    let read = unless (number_checks s d) number.Refused (number.Value (value_of s)) in
-    unless-cases number.Refused (cond (every (eqb blank) s) number.Empty read) Numbered ((format_good (length s) d, 6) ∷ []) ((λ bad. (lit< tt, lit< tt)), tt)
+    let read = unless (number_checks s d) Err (Ok (Some (value_of s))) in
+    unless-cases Err (cond (every (eqb blank) s) (Ok None) read) Numbered ((format_good (length s) d, 6) ∷ []) ((λ bad. (lit< tt, lit< tt)), tt)
     (λ format made. either (every (eqb blank) s)
-    (λ blanks. let q : number.Empty ≡ number.Refused n = rw blanks at (sym made ∙ e) in impossible (cc))
-    (λ shown. let q : read ≡ number.Refused n = rw shown at (sym made ∙ e) in
-    unless-cases number.Refused (number.Value (value_of s)) Numbered (number_checks s d)
+    (λ blanks. let q : (Ok None) ≡ Err n = rw blanks at (sym made ∙ e) in impossible (cc))
+    (λ shown. let q : read ≡ Err n = rw shown at (sym made ∙ e) in
+    unless-cases Err (Ok (Some (value_of s))) Numbered (number_checks s d)
     ((λ bad. (lit< tt, lit< tt)), ((λ bad. (lit< tt, lit< tt)), ((λ bad. (lit< tt, lit< tt)), tt)))
-    (λ held good. let v : number.Value (value_of s) ≡ number.Refused n = sym good ∙ q in impossible (cc))
+    (λ held good. let v : Ok (Some (value_of s)) ≡ Err n = sym good ∙ q in impossible (cc))
     (λ r small refused. number_same r n small (sym refused ∙ q))))
     (λ r small refused. number_same r n small (sym refused ∙ e))
 
-logical_numbered : (c n : ℕ) → logical_of c ≡ logical.Refused n → Numbered n
+logical_numbered : (c n : ℕ) → logical_of c ≡ Err n → Numbered n
 unfolding logical_of
 logical_numbered c n e =
     either (eqb c letter_t)
-    (λ t. let q : logical.Value true ≡ logical.Refused n = rw t at e in impossible (cc))
+    (λ t. let q : Ok (Some true) ≡ Err n = rw t at e in impossible (cc))
     (λ t. either (eqb c letter_f)
-    (λ f. let q : logical.Value false ≡ logical.Refused n = rw (t, f) at e in impossible (cc))
+    (λ f. let q : Ok (Some false) ≡ Err n = rw (t, f) at e in impossible (cc))
     (λ f. either (eqb c blank)
-    (λ z. let q : logical.Empty ≡ logical.Refused n = rw (t, f, z) at e in impossible (cc))
-    (λ z. let q : logical.Refused 20 ≡ logical.Refused n = rw (t, f, z) at e in let k : 20 ≡ n = cc in omega arith)))
+    (λ z. let q : (Ok None) ≡ Err n = rw (t, f, z) at e in impossible (cc))
+    (λ z. let q : Err 20 ≡ Err n = rw (t, f, z) at e in let k : 20 ≡ n = cc in omega arith)))
 
-memo_numbered : (q : MemoPlace) (n : ℕ) → memo_part q ≡ text.Refused n → q ≡ memo.Refused n
+memo_numbered : (q : MemoPlace) (n : ℕ) → memo_part q ≡ Err n → q ≡ Err n
 unfolding memo_part
-memo_numbered (memo.Text a l) n e = impossible (cc)
-memo_numbered memo.Empty n e = impossible (cc)
-memo_numbered (memo.Refused k) n e = cc
+memo_numbered (Ok (Some place)) n e = impossible (cc)
+memo_numbered (Ok None) n e = impossible (cc)
+memo_numbered (Err k) n e = cc
 
 module _ (b : List ℕ) (i field n : ℕ) where
-  pub number-refusal : number_cell b i field ≡ number.Refused n → Numbered n
+  pub number-refusal : number_cell b i field ≡ Err n → Numbered n
   unfolding number_cell
   number-refusal e =
       either (eqb (cell_refusal Numbers b i field) 0)
       (λ z. number-numbered (field_bytes b i field) (field_decimals b (field - 1)) n (rw z at e))
-      (λ z. let q : number.Refused (cell_refusal Numbers b i field) ≡ number.Refused n = rw z at e in check_numbered Numbers b i field n z (cc))
+      (λ z. let q : Err (cell_refusal Numbers b i field) ≡ Err n = rw z at e in check_numbered Numbers b i field n z (cc))
 
-  pub day_refusal : date_cell b i field ≡ date.Refused n → Numbered n
+  pub day_refusal : date_cell b i field ≡ Err n → Numbered n
   unfolding date_cell
   day_refusal e =
       either (eqb (cell_refusal Dates b i field) 0)
       (λ z. let k = date-refusal (field_bytes b i field) n (rw z at e) in omega arith)
-      (λ z. let q : date.Refused (cell_refusal Dates b i field) ≡ date.Refused n = rw z at e in check_numbered Dates b i field n z (cc))
+      (λ z. let q : Err (cell_refusal Dates b i field) ≡ Err n = rw z at e in check_numbered Dates b i field n z (cc))
 
-  pub logical-refusal : logical_cell b i field ≡ logical.Refused n → Numbered n
+  pub logical-refusal : logical_cell b i field ≡ Err n → Numbered n
   unfolding logical_cell
   logical-refusal e =
       either (eqb (cell_refusal Logicals b i field) 0)
       (λ z. logical_numbered (byte_at b (field_start b i field)) n (rw z at e))
-      (λ z. let q : logical.Refused (cell_refusal Logicals b i field) ≡ logical.Refused n = rw z at e in check_numbered Logicals b i field n z (cc))
+      (λ z. let q : Err (cell_refusal Logicals b i field) ≡ Err n = rw z at e in check_numbered Logicals b i field n z (cc))
 
-  pub place-refusal : (m : List ℕ) → text_cell b m i field ≡ text.Refused n → Numbered n
+  pub place-refusal : (m : List ℕ) → text_cell b m i field ≡ Err n → Numbered n
   unfolding text_cell text_at field_bytes
   place-refusal m e =
       either (eqb (cell_refusal Texts b i field) 0)
       (λ z. either (eqb (field_type b (field - 1)) type_c)
-      (λ c. let q : text.Table (field_start b i field) (field_length b (field - 1)) ≡ text.Refused n = rw (z, c) at e in impossible (cc))
+      (λ c. let q : Ok (Some (text.Table (span (field_start b i field) (field_length b (field - 1))))) ≡ Err n = rw (z, c) at e in impossible (cc))
       (λ c. let k = text-refusal m n (field_bytes b i field) (memo_numbered (memo_text (field_bytes b i field) m) n (rw (z, c) at e)) in omega arith))
-      (λ z. let q : text.Refused (cell_refusal Texts b i field) ≡ text.Refused n = rw z at e in check_numbered Texts b i field n z (cc))
+      (λ z. let q : Err (cell_refusal Texts b i field) ≡ Err n = rw z at e in check_numbered Texts b i field n z (cc))

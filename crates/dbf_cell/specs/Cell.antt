@@ -1,29 +1,30 @@
 -- Rules: document 01, "Field text": reading one field of one record. Refusals 1 to 13 and 15, then what concerns the text or the memo.
-use Rattle.std.specs.Prelude.{ℕ, ◌+◌, ◌-◌, ◌≤◌, List, [], ◌∷◌, ◌++◌, Bool, true, false, cond, ◌||◌, length, eqb}
+use Rattle.std.specs.Prelude.{Err, ℕ, ◌+◌, ◌-◌, ◌≤◌, List, [], ◌∷◌, ◌++◌, Bool, true, false, cond, ◌||◌, length, eqb, None, Ok, Some, Result, Option}
 use Rattle.refusal.specs.Checks.{first_refusal}
 use Rattle.octets.specs.Bytes.{byte_at}
 use Rattle.octets.specs.Store.{window}
 use Rattle.calendar.specs.DateText.{date_of}
-use Rattle.calendar.specs.declared.DateAnswer.{DateAnswer}
-use Rattle.calendar.specs.declared.DateAnswer.TheVariants as date
+use Rattle.calendar.specs.DateText.{DateAnswer}
 use Rattle.octets.specs.Text.{blank}
 use Rattle.numeral.specs.Reading.{read_number}
-use Rattle.numeral.specs.declared.Number.{Number}
-use Rattle.numeral.specs.declared.Number.TheVariants as number
-use Rattle.fpt_memo.specs.Memo.{memo_text}
-use Rattle.fpt_memo.specs.declared.MemoPlace.{MemoPlace}
-use Rattle.fpt_memo.specs.declared.MemoPlace.TheVariants as memo
+use Rattle.numeral.specs.Format.{Number}
+use Rattle.fpt_memo.specs.Memo.{MemoPlace, span, memo_text}
 use Rattle.dbf_table.specs.Table.{type_c, type_n, type_d, type_l, type_m, kept_mark, deleted_mark, field_type, field_length, field_decimals, field_offset}
 use Rattle.dbf_table.specs.Table.{field_count, record_count, record_start, deletion_byte, table_checks}
 use Rattle.dbf_field.specs.Field.{place_at, number_good}
-use Rattle.dbf_field.specs.declared.Placed.{Placed}
-use Rattle.dbf_field.specs.declared.Placed.TheVariants as placed
+use Rattle.dbf_field.specs.Field.{Placed}
 use Rattle.dbf_cell.specs.declared.Reads.{Reads}
 use Rattle.dbf_cell.specs.declared.Reads.TheVariants.{Numbers, Dates, Logicals, Texts}
-use Rattle.dbf_cell.specs.declared.Logical.{Logical}
-use Rattle.dbf_cell.specs.declared.Logical.TheVariants as logical
 use Rattle.dbf_cell.specs.declared.TextPlace.{TextPlace}
 use Rattle.dbf_cell.specs.declared.TextPlace.TheVariants as text
+
+-- what the text of an L field says: a value, nothing, or a refusal's number
+abbrev pub Logical : Type 0
+Logical = Result (Option Bool) ℕ
+
+-- where the text of a C or M field lies: its place, nothing, or a refusal's number
+abbrev pub TextAnswer : Type 0
+TextAnswer = Result (Option TextPlace) ℕ
 
 -- ---- what a call may read
 
@@ -64,13 +65,13 @@ field_bytes b i field = window b (field_start b i field) (field_length b (field 
 unfoldable pub number_cell : List ℕ → ℕ → ℕ → Number
 number_cell b i field =
     let refusal = cell_refusal Numbers b i field in
-    cond (eqb refusal 0) (read_number (field_bytes b i field) (field_decimals b (field - 1))) (number.Refused refusal)
+    cond (eqb refusal 0) (read_number (field_bytes b i field) (field_decimals b (field - 1))) (Err refusal)
 
 -- D: the date of its text
 unfoldable pub date_cell : List ℕ → ℕ → ℕ → DateAnswer
 date_cell b i field =
     let refusal = cell_refusal Dates b i field in
-    cond (eqb refusal 0) (date_of (field_bytes b i field)) (date.Refused refusal)
+    cond (eqb refusal 0) (date_of (field_bytes b i field)) (Err refusal)
 
 -- "L: T, F or blank. Blanks are empty"; 20: "bad date or logical text"
 abbrev pub letter_t : ℕ
@@ -81,44 +82,44 @@ letter_f = 0x46
 
 unfoldable pub logical_of : ℕ → Logical
 logical_of c =
-    cond (eqb c letter_t) (logical.Value true)
-    (cond (eqb c letter_f) (logical.Value false)
-    (cond (eqb c blank) logical.Empty
-    (logical.Refused 20)))
+    cond (eqb c letter_t) (Ok (Some true))
+    (cond (eqb c letter_f) (Ok (Some false))
+    (cond (eqb c blank) (Ok None)
+    (Err 20)))
 
 -- L: the value of its one byte
 unfoldable pub logical_cell : List ℕ → ℕ → ℕ → Logical
 logical_cell b i field =
     let refusal = cell_refusal Logicals b i field in
-    cond (eqb refusal 0) (logical_of (byte_at b (field_start b i field))) (logical.Refused refusal)
+    cond (eqb refusal 0) (logical_of (byte_at b (field_start b i field))) (Err refusal)
 
 -- ---- C and M
 
 -- a place in the memo file, as the place of a text
-unfoldable pub memo_part : MemoPlace → TextPlace
-memo_part (memo.Text start len) = text.Memo start len
-memo_part memo.Empty = text.Empty
-memo_part (memo.Refused n) = text.Refused n
+unfoldable pub memo_part : MemoPlace → TextAnswer
+memo_part (Ok (Some place)) = Ok (Some (text.Memo place))
+memo_part (Ok None) = Ok None
+memo_part (Err n) = Err n
 
 -- "C: all its bytes, blank or not"; "for an M field that part of the memo file itself"
-unfoldable pub text_at : List ℕ → List ℕ → ℕ → ℕ → ℕ → TextPlace
-text_at b m type start len = cond (eqb type type_c) (text.Table start len) (memo_part (memo_text (window b start len) m))
+unfoldable pub text_at : List ℕ → List ℕ → ℕ → ℕ → ℕ → TextAnswer
+text_at b m type start len = cond (eqb type type_c) (Ok (Some (text.Table (span start len)))) (memo_part (memo_text (window b start len) m))
 
 -- "a call beside it, by value, answers the number, "empty" or "text"": the text's place
-unfoldable pub text_cell : List ℕ → List ℕ → ℕ → ℕ → TextPlace
+unfoldable pub text_cell : List ℕ → List ℕ → ℕ → ℕ → TextAnswer
 text_cell b m i field =
     let refusal = cell_refusal Texts b i field in
     cond (eqb refusal 0)
     (text_at b m (field_type b (field - 1)) (field_start b i field) (field_length b (field - 1)))
-    (text.Refused refusal)
+    (Err refusal)
 
 -- the part that the text call hands back: "that part of the table itself", "that part of the memo file itself"; for a refusal "and for an empty field ...
 -- a part of no bytes"
-unfoldable pub text_part : List ℕ → List ℕ → TextPlace → List ℕ
-text_part b m (text.Table start len) = window b start len
-text_part b m (text.Memo start len) = window m start len
-text_part b m text.Empty = []
-text_part b m (text.Refused n) = []
+unfoldable pub text_part : List ℕ → List ℕ → TextAnswer → List ℕ
+text_part b m (Ok (Some (text.Table place))) = window b place.start place.len
+text_part b m (Ok (Some (text.Memo place))) = window m place.start place.len
+text_part b m (Ok None) = []
+text_part b m (Err n) = []
 
 -- ---- Steps: the contracts of `cell_place` and `text_part` cite these two; who calls by numbers need not believe them
 
@@ -126,11 +127,11 @@ text_part b m (text.Refused n) = []
 unfoldable pub cell_place : Reads → List ℕ → ℕ → ℕ → Placed
 cell_place reads b i field =
     let refusal = cell_refusal reads b i field in
-    cond (eqb refusal 0) (placed.At (place_at b i field)) (placed.Refused refusal)
+    cond (eqb refusal 0) (Ok (place_at b i field)) (Err refusal)
 
 -- the place of a text lies in its file
-unfoldable pub TextWithin : List ℕ → List ℕ → TextPlace → Type 0
-TextWithin b m (text.Table start len) = start + len ≤ length b
-TextWithin b m (text.Memo start len) = start + len ≤ length m
-TextWithin b m text.Empty = Unit {0}
-TextWithin b m (text.Refused n) = Unit {0}
+unfoldable pub TextWithin : List ℕ → List ℕ → TextAnswer → Type 0
+TextWithin b m (Ok (Some (text.Table place))) = place.start + place.len ≤ length b
+TextWithin b m (Ok (Some (text.Memo place))) = place.start + place.len ≤ length m
+TextWithin b m (Ok None) = Unit {0}
+TextWithin b m (Err n) = Unit {0}

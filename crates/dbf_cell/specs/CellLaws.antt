@@ -1,5 +1,5 @@
 -- Laws: what a call reads once no check refuses, and that every part handed out lies in its file. Assumes nothing.
-use Rattle.std.specs.Prelude.{ℕ, ◌+◌, ◌-◌, ◌≤◌, ◌<◌, ◌≡◌, refl, Bool, List, [], ◌∷◌, ◌++◌, length, take, drop, eqb}
+use Rattle.std.specs.Prelude.{Err, ℕ, ◌+◌, ◌-◌, ◌≤◌, ◌<◌, ◌≡◌, refl, Bool, List, [], ◌∷◌, ◌++◌, length, take, drop, eqb, Ok, Some, None}
 use Rattle.std.proofs.Common.{sym, ◌∙◌, append_assoc, arith, lit<}
 use Rattle.std.proofs.Math.Path.{ap}
 use Rattle.std.proofs.Math.Bool.{true, false}
@@ -15,21 +15,14 @@ use Rattle.dbf_table.specs.TableLaws.{table-numbered}
 use Rattle.dbf_field.specs.Field.{place_at, place_of, place_refusal, PlaceInside, entry_of, number_good}
 use Rattle.dbf_field.specs.FieldLaws.{placed_at, placed-refused, place-good, place-within}
 use Rattle.dbf_field.specs.declared.Place.{Place}
-use Rattle.dbf_field.specs.declared.Placed.TheVariants.{At, Refused}
 use Rattle.calendar.specs.DateText.{date_of}
-use Rattle.calendar.specs.declared.DateAnswer.TheVariants as date
 use Rattle.numeral.specs.Reading.{read_number}
-use Rattle.numeral.specs.declared.Number.TheVariants as number
-use Rattle.fpt_memo.specs.Memo.{memo_text}
+use Rattle.fpt_memo.specs.Memo.{MemoPlace, memo_text}
 use Rattle.fpt_memo.specs.MemoLaws.{text_inside}
-use Rattle.fpt_memo.specs.declared.MemoPlace.{MemoPlace}
-use Rattle.fpt_memo.specs.declared.MemoPlace.TheVariants as memo
 use Rattle.dbf_cell.specs.Cell.{reads_type, mark_good, cell_refusal, cell_place, field_start, field_bytes}
 use Rattle.dbf_cell.specs.Cell.{number_cell, date_cell, logical_of, logical_cell, memo_part, text_at, text_cell, TextWithin}
 use Rattle.dbf_cell.specs.declared.Reads.{Reads}
 use Rattle.dbf_cell.specs.declared.Reads.TheVariants.{Numbers, Dates, Logicals, Texts}
-use Rattle.dbf_cell.specs.declared.Logical.TheVariants as logical
-use Rattle.dbf_cell.specs.declared.TextPlace.TheVariants as text
 
 -- ---- the checks of a call: the place's checks, then 13 and 15
 
@@ -58,25 +51,25 @@ module _ (reads : Reads) (b : List ℕ) (i field : ℕ) where
   cell_both e = first-both (table_checks b ++ numbers) checks numbered (ap first_refusal (append_assoc (table_checks b) numbers checks) ∙ e)
 
   -- the answer of a call that refuses
-  cell_refused : (n : ℕ) → cell_refusal reads b i field ≡ n → (n ≡ 0 → ⊥) → cell_place reads b i field ≡ Refused n
+  cell_refused : (n : ℕ) → cell_refusal reads b i field ≡ n → (n ≡ 0 → ⊥) → cell_place reads b i field ≡ Err n
   unfolding cell_place
   cell_refused n e some = rw (e, ne_eqb n 0 some)
 
   -- the call's answer, by the case of the field's place
-  pub place-refused : (n : ℕ) → place_of b i field ≡ Refused n → cell_place reads b i field ≡ Refused n
+  pub place-refused : (n : ℕ) → place_of b i field ≡ Err n → cell_place reads b i field ≡ Err n
   place-refused n e =
       let said = placed-refused b i field n e in
       cell_refused n (cell_before (λ z. said.1 (said.0 ∙ z)) ∙ sym said.0) said.1
 
-  module _ (p : Place) (e : place_of b i field ≡ At p) where
-    pub type-refused : reads_type reads p.kind ≡ false → cell_place reads b i field ≡ Refused 13
+  module _ (p : Place) (e : place_of b i field ≡ Ok p) where
+    pub type-refused : reads_type reads p.kind ≡ false → cell_place reads b i field ≡ Err 13
     unfolding first_refusal place_at entry_of
     type-refused other =
         let said = placed_at b i field p e in
         let type : reads_type reads (field_type b (field - 1)) ≡ false = rw said.1 at other in
         cell_refused 13 (cell_after said.0 ∙ rw type) (λ z. omega arith)
 
-    pub mark-refused : reads_type reads p.kind ≡ true → mark_good p.mark ≡ false → cell_place reads b i field ≡ Refused 15
+    pub mark-refused : reads_type reads p.kind ≡ true → mark_good p.mark ≡ false → cell_place reads b i field ≡ Err 15
     unfolding first_refusal place_at entry_of
     mark-refused kind bad =
         let said = placed_at b i field p e in
@@ -84,7 +77,7 @@ module _ (reads : Reads) (b : List ℕ) (i field : ℕ) where
         let mark : mark_good (deletion_byte b i) ≡ false = rw said.1 at bad in
         cell_refused 15 (cell_after said.0 ∙ rw (type, mark)) (λ z. omega arith)
 
-    pub place_read : reads_type reads p.kind ≡ true → mark_good p.mark ≡ true → cell_place reads b i field ≡ At p
+    pub place_read : reads_type reads p.kind ≡ true → mark_good p.mark ≡ true → cell_place reads b i field ≡ Ok p
     unfolding cell_place first_refusal place_at entry_of
     place_read kind good =
         let said = placed_at b i field p e in
@@ -105,12 +98,12 @@ pub record Readable (reads : Reads) (b : List ℕ) (i field : ℕ) (p : Place) :
   pub within : PlaceInside b p
 
 module _ (reads : Reads) (b : List ℕ) (i field : ℕ) where
-  pub cell_at : (p : Place) → cell_place reads b i field ≡ At p → Readable reads b i field p
+  pub cell_at : (p : Place) → cell_place reads b i field ≡ Ok p → Readable reads b i field p
   unfolding cell_place place_at entry_of field_start
   cell_at p e =
       either (eqb (cell_refusal reads b i field) 0)
       (λ z.
-      let q : At (place_at b i field) ≡ At p = rw z at e in
+      let q : Ok (place_at b i field) ≡ Ok p = rw z at e in
       let same : p ≡ place_at b i field = cc in
       let none = eqb-true (cell_refusal reads b i field) 0 z in
       record {
@@ -121,15 +114,15 @@ module _ (reads : Reads) (b : List ℕ) (i field : ℕ) where
         decimals = ap (λ (x : Place). x.decimals) same;
         within = place-within b i field p (place-good b i field (cell_both reads b i field none).0) same;
       })
-      (λ z. let q : Refused (cell_refusal reads b i field) ≡ At p = rw z at e in impossible (cc))
+      (λ z. let q : Err (cell_refusal reads b i field) ≡ Ok p = rw z at e in impossible (cc))
 
-  cell_none : (n : ℕ) → cell_place reads b i field ≡ Refused n → (cell_refusal reads b i field ≡ n) × (n ≡ 0 → ⊥)
+  cell_none : (n : ℕ) → cell_place reads b i field ≡ Err n → (cell_refusal reads b i field ≡ n) × (n ≡ 0 → ⊥)
   unfolding cell_place
   cell_none n e =
       either (eqb (cell_refusal reads b i field) 0)
-      (λ z. let q : At (place_at b i field) ≡ Refused n = rw z at e in impossible (cc))
+      (λ z. let q : Ok (place_at b i field) ≡ Err n = rw z at e in impossible (cc))
       (λ z.
-      let q : Refused (cell_refusal reads b i field) ≡ Refused n = rw z at e in
+      let q : Err (cell_refusal reads b i field) ≡ Err n = rw z at e in
       let same : cell_refusal reads b i field ≡ n = cc in (same, λ w. eqb-false (cell_refusal reads b i field) 0 z (same ∙ w)))
 
   -- the checks that hold if none refuses
@@ -150,36 +143,36 @@ unfolding window
 part-window b start len = let e : start + len - start ≡ len = omega arith in rw e
 
 module _ (b : List ℕ) (i field : ℕ) where
-  pub number-refused : (n : ℕ) → cell_place Numbers b i field ≡ Refused n → number_cell b i field ≡ number.Refused n
+  pub number-refused : (n : ℕ) → cell_place Numbers b i field ≡ Err n → number_cell b i field ≡ Err n
   unfolding number_cell
   number-refused n e = let said = cell_none Numbers b i field n e in rw (said.0, ne_eqb n 0 said.1)
 
-  pub date-refused : (n : ℕ) → cell_place Dates b i field ≡ Refused n → date_cell b i field ≡ date.Refused n
+  pub date-refused : (n : ℕ) → cell_place Dates b i field ≡ Err n → date_cell b i field ≡ Err n
   unfolding date_cell
   date-refused n e = let said = cell_none Dates b i field n e in rw (said.0, ne_eqb n 0 said.1)
 
-  pub logical_refused : (n : ℕ) → cell_place Logicals b i field ≡ Refused n → logical_cell b i field ≡ logical.Refused n
+  pub logical_refused : (n : ℕ) → cell_place Logicals b i field ≡ Err n → logical_cell b i field ≡ Err n
   unfolding logical_cell
   logical_refused n e = let said = cell_none Logicals b i field n e in rw (said.0, ne_eqb n 0 said.1)
 
-  pub text_refused : (m : List ℕ) (n : ℕ) → cell_place Texts b i field ≡ Refused n → text_cell b m i field ≡ text.Refused n
+  pub text_refused : (m : List ℕ) (n : ℕ) → cell_place Texts b i field ≡ Err n → text_cell b m i field ≡ Err n
   unfolding text_cell
   text_refused m n e = let said = cell_none Texts b i field n e in rw (said.0, ne_eqb n 0 said.1)
 
   module _ (p : Place) where
-    pub number_read : cell_place Numbers b i field ≡ At p → number_cell b i field ≡ read_number (window b p.start p.length) p.decimals
+    pub number_read : cell_place Numbers b i field ≡ Ok p → number_cell b i field ≡ read_number (window b p.start p.length) p.decimals
     unfolding number_cell field_bytes
     number_read e = let good = cell_at Numbers b i field p e in rw (good.none, good.start, good.len, good.decimals)
 
-    pub date-read : cell_place Dates b i field ≡ At p → date_cell b i field ≡ date_of (window b p.start p.length)
+    pub date-read : cell_place Dates b i field ≡ Ok p → date_cell b i field ≡ date_of (window b p.start p.length)
     unfolding date_cell field_bytes
     date-read e = let good = cell_at Dates b i field p e in rw (good.none, good.start, good.len)
 
-    pub logical_read : cell_place Logicals b i field ≡ At p → logical_cell b i field ≡ logical_of (byte_at b p.start)
+    pub logical_read : cell_place Logicals b i field ≡ Ok p → logical_cell b i field ≡ logical_of (byte_at b p.start)
     unfolding logical_cell
     logical_read e = let good = cell_at Logicals b i field p e in rw (good.none, good.start)
 
-    pub text_read : (m : List ℕ) → cell_place Texts b i field ≡ At p → text_cell b m i field ≡ text_at b m p.kind p.start p.length
+    pub text_read : (m : List ℕ) → cell_place Texts b i field ≡ Ok p → text_cell b m i field ≡ text_at b m p.kind p.start p.length
     unfolding text_cell
     text_read m e = let good = cell_at Texts b i field p e in rw (good.none, good.type, good.start, good.len)
 
@@ -188,9 +181,9 @@ module _ (b : List ℕ) (i field : ℕ) where
 module _ (b m : List ℕ) where
   memo_within : (s : List ℕ) (q : MemoPlace) → memo_text s m ≡ q → TextWithin b m (memo_part q)
   unfolding TextWithin memo_part
-  memo_within s (memo.Text a l) e = (text_inside m a l s e).1
-  memo_within s memo.Empty e = tt
-  memo_within s (memo.Refused n) e = tt
+  memo_within s (Ok (Some place)) e = (text_inside m place.start place.len s e).1
+  memo_within s (Ok None) e = tt
+  memo_within s (Err n) e = tt
 
   pub at-within : (type start len : ℕ) → start + len ≤ length b → TextWithin b m (text_at b m type start len)
   unfolding TextWithin text_at

@@ -1,6 +1,6 @@
 -- Laws: "Fields of deleted records are read like others": if one good deletion mark replaces another, no answer about the record's fields changes.
 -- Assumes nothing.
-use Rattle.std.specs.Prelude.{ℕ, ◌+◌, ◌-◌, ◌≤◌, ◌<◌, ◌≡◌, refl, true, List, [], ◌∷◌, eqb}
+use Rattle.std.specs.Prelude.{ℕ, ◌+◌, ◌-◌, ◌≤◌, ◌<◌, ◌≡◌, refl, true, List, [], ◌∷◌, eqb, Ok, Err, Some, None}
 use Rattle.std.proofs.Math.Nat.{mul-le-mul_right, add-mul}
 use native.Mathlib.Omega.{arith}
 use Rattle.std.proofs.Common.{get_or-set_same, eqb-true}
@@ -15,9 +15,7 @@ use Rattle.dbf_table.specs.Table.{deletion_byte, table_checks, table_refusal}
 use Rattle.dbf_table.specs.TableLaws.{layout}
 use Rattle.dbf_table.specs.RecordLaws.{offset-positive, record_positive}
 use Rattle.dbf_field.specs.FieldLaws.{place-good, number-range}
-use Rattle.fpt_memo.specs.Memo.{memo_text}
-use Rattle.fpt_memo.specs.declared.MemoPlace.{MemoPlace}
-use Rattle.fpt_memo.specs.declared.MemoPlace.TheVariants.{Text, Empty, Refused}
+use Rattle.fpt_memo.specs.Memo.{MemoPlace, memo_text}
 use Rattle.dbf_cell.specs.Cell.{mark_good, cell_refusal, field_start, field_bytes, number_cell, date_cell, logical_cell, memo_part, text_at, text_cell}
 use Rattle.dbf_cell.specs.Cell.{text_part}
 use Rattle.dbf_cell.specs.CellLaws.{cell_good}
@@ -32,9 +30,9 @@ with_mark b i mark = put b (record_start b i) (mark ∷ [])
 -- the part of a memo does not depend on the table
 memo_alone : (b c m : List ℕ) (q : MemoPlace) → text_part b m (memo_part q) ≡ text_part c m (memo_part q)
 unfolding memo_part text_part
-memo_alone b c m (Text a l) = refl
-memo_alone b c m Empty = refl
-memo_alone b c m (Refused n) = refl
+memo_alone b c m (Ok (Some place)) = refl
+memo_alone b c m (Ok None) = refl
+memo_alone b c m (Err n) = refl
 
 module _ (b : List ℕ) (i mark : ℕ) (good : table_refusal b ≡ 0) (from : 1 ≤ i) (to : i ≤ record_count b) where
   -- the deletion byte lies between the header and the byte after the records

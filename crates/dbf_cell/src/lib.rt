@@ -3,30 +3,24 @@
 // A call that takes a record number and a field number makes all checks. A call that takes a place is for a table that was checked.
 #![tactic(auto)]
 
-ghost use Rattle.std.specs.Prelude.{◌+◌, ◌≤◌, ◌≡◌, length};
+ghost use Rattle.std.specs.Prelude.{◌+◌, ◌≤◌, ◌≡◌, length, Ok, Some};
+ghost use Rattle.refusal.specs.Refusals.{numbered};
 ghost use Rattle.octets.specs.Bytes.{byte_at};
 ghost use Rattle.octets.specs.Store.{window};
 ghost use Rattle.calendar.specs.DateText.{date_of};
 ghost use Rattle.numeral.specs.Reading.{read_number};
 ghost use Rattle.dbf_field.specs.Field.{PlaceInside};
 ghost use Rattle.dbf_cell.specs.Cell.{reads_type, mark_good, cell_place, number_cell, date_cell, logical_of, logical_cell};
-ghost use Rattle.dbf_cell.specs.Cell.{memo_part, text_at, text_cell, TextWithin, text_part};
-ghost use Rattle.dbf_cell.specs.Codes.{number_refusal};
+ghost use Rattle.dbf_cell.specs.Cell.{text_at, text_cell, TextWithin, text_part};
 
-use calendar::DateAnswer;
-use dbf_field::{Place, Placed};
-use dbf_table::{DELETED, KEPT, TYPE_C, TYPE_D, TYPE_L, TYPE_M, TYPE_N};
-use fpt_memo::MemoPlace;
-use numeral::Number;
-
-const LETTER_T: u32 = 0x54;
-
-const LETTER_F: u32 = 0x46;
-
-const BLANK: u32 = 0x20;
+use calendar::Date;
+use dbf_field::Place;
+use dbf_table::{DELETED, FieldType, KEPT};
+use fpt_memo::Span;
+use refusal::Refusal;
 
 // The fields that a call reads, by their type.
-#[derive(Clone, Copy)]
+#[derive(Clone, Copy, Debug, PartialEq, Eq)]
 pub enum Reads {
     Numbers,
     Dates,
@@ -34,40 +28,46 @@ pub enum Reads {
     Texts,
 }
 
-// What the text of an L field says.
-#[derive(Clone, Copy)]
-pub enum Logical {
-    Value(bool),
-    Empty,
-    Refused(u32),
-}
-
-// Where a text lies: a C field's in the table, an M field's in the memo file; or why there is none.
-#[derive(Clone, Copy)]
+// Where a text lies: a C field's in the table, an M field's in the memo file.
+#[derive(Clone, Copy, Debug, PartialEq, Eq)]
 pub enum TextPlace {
-    Table { start: usize, len: usize },
-    Memo { start: usize, len: usize },
-    Empty,
-    Refused(u32),
+    Table(Span),
+    Memo(Span),
 }
 
-// The `len` bytes of a slice from `start` on.
-fn part(s: &[u8], start: usize, len: usize) -> &[u8]
-    requires { start + len ≤ length s.now }
-    ensures { result.now ≡ window s.now start len }
+// The bytes of a slice in a span.
+fn part(s: &[u8], span: Span) -> &[u8]
+    requires { span.start + span.len ≤ length s.now }
+    ensures { result.now ≡ window s.now span.start span.len }
 {
-    &s[start..start + len]
+    &s[span.start..span.start + span.len]
 }
 
-// Whether the call reads fields of the type `kind`.
-fn reads_type(reads: Reads, kind: u32) -> bool
-    ensures { result ≡ reads_type reads kind }
+// The bytes of the field at a place.
+fn field_bytes(table: &[u8], place: Place) -> &[u8]
+    requires { PlaceInside table.now place }
+    ensures { result.now ≡ window table.now place.start place.length }
+{
+    let len = usize::from(place.length);
+    part(
+        table,
+        Span {
+            start: place.start,
+            len,
+        },
+    )
+}
+
+// Whether the call reads fields of the type with this letter.
+#[tactic(auto, unfolding(crate::specs::Cell::reads_type))]
+fn reads_type(reads: Reads, letter: u8) -> bool
+    ensures { result ≡ reads_type reads letter }
 {
     match reads {
-        Reads::Numbers => kind == TYPE_N,
-        Reads::Dates => kind == TYPE_D,
-        Reads::Logicals => kind == TYPE_L,
-        Reads::Texts => (kind == TYPE_C) | (kind == TYPE_M),
+        Reads::Numbers => letter == FieldType::Number.letter(),
+        Reads::Dates => letter == FieldType::Date.letter(),
+        Reads::Logicals => letter == FieldType::Logical.letter(),
+        Reads::Texts => letter == FieldType::Text.letter() || letter == FieldType::Memo.letter(),
     }
 }
 
@@ -75,164 +75,133 @@ fn reads_type(reads: Reads, kind: u32) -> bool
 pub fn mark_good(mark: u32) -> bool
     ensures { result ≡ mark_good mark }
 {
-    (mark == KEPT) | (mark == DELETED)
+    mark == KEPT || mark == DELETED
 }
 
 // Where the field of the record lies, if the call may read it.
-fn cell_place(table: &[u8], reads: Reads, number: u32, field: u32) -> Placed
-    ensures { result ≡ cell_place reads table.now number field }
+fn cell_place(table: &[u8], reads: Reads, number: u32, field: u32) -> Result<Place, Refusal>
+    ensures { numbered result ≡ cell_place reads table.now number field }
 {
-    let placed = dbf_field::field_place(table, number, field);
-    match placed {
-        Placed::Refused(refusal) => Placed::Refused(refusal),
-        Placed::At(place) => {
-            if !reads_type(reads, place.kind as u32) {
-                return Placed::Refused(refusal::FIELD_TYPE);
-            }
-            if !mark_good(place.mark) {
-                return Placed::Refused(refusal::DELETION_BYTE);
-            }
-            Placed::At(place)
-        }
+    let place = dbf_field::field_place(table, number, field)?;
+    if !reads_type(reads, place.kind) {
+        return Err(Refusal::FieldType);
     }
+    if !mark_good(place.mark) {
+        return Err(Refusal::DeletionByte);
+    }
+    Ok(place)
 }
 
 // The value of the N field at a place, in units of 10^-d, with the field's decimal count as d.
-pub fn number_at(table: &[u8], place: Place) -> Number
+pub fn number_at(table: &[u8], place: Place) -> Result<Option<i64>, Refusal>
     requires { PlaceInside table.now place }
-    ensures { result ≡ read_number (window table.now place.start place.length) place.decimals }
+    ensures { numbered result ≡ read_number (window table.now place.start place.length) place.decimals }
 {
-    let text = part(table, place.start, place.length as usize);
-    numeral_read::read_number(text, place.decimals as u32)
-}
-
-// The refusal of a numeric text, 0 if it is not refused.
-pub fn number_refusal(text: Number) -> u32
-    ensures { result ≡ number_refusal text }
-{
-    match text {
-        Number::Value(_) => 0,
-        Number::Empty => 0,
-        Number::Refused(number) => number,
-    }
+    let text = field_bytes(table, place);
+    numeral_read::read_number(text, u32::from(place.decimals))
 }
 
 // The value of an N field.
-pub fn read_number(table: &[u8], number: u32, field: u32) -> Number
-    ensures { result ≡ number_cell table.now number field }
+pub fn read_number(table: &[u8], number: u32, field: u32) -> Result<Option<i64>, Refusal>
+    ensures { numbered result ≡ number_cell table.now number field }
 {
-    let placed = cell_place(table, Reads::Numbers, number, field);
-    match placed {
-        Placed::Refused(refusal) => Number::Refused(refusal),
-        Placed::At(place) => number_at(table, place),
-    }
+    let place = cell_place(table, Reads::Numbers, number, field)?;
+    number_at(table, place)
 }
 
 // The date of the D field at a place.
-pub fn date_at(table: &[u8], place: Place) -> DateAnswer
+pub fn date_at(table: &[u8], place: Place) -> Result<Option<Date>, Refusal>
     requires { PlaceInside table.now place }
-    ensures { result ≡ date_of (window table.now place.start place.length) }
+    ensures { numbered result ≡ date_of (window table.now place.start place.length) }
 {
-    calendar::read_date(part(table, place.start, place.length as usize))
+    calendar::read_date(field_bytes(table, place))
 }
 
 // The date of a D field.
-pub fn read_date(table: &[u8], number: u32, field: u32) -> DateAnswer
-    ensures { result ≡ date_cell table.now number field }
+pub fn read_date(table: &[u8], number: u32, field: u32) -> Result<Option<Date>, Refusal>
+    ensures { numbered result ≡ date_cell table.now number field }
 {
-    let placed = cell_place(table, Reads::Dates, number, field);
-    match placed {
-        Placed::Refused(refusal) => DateAnswer::Refused(refusal),
-        Placed::At(place) => date_at(table, place),
-    }
+    let place = cell_place(table, Reads::Dates, number, field)?;
+    date_at(table, place)
 }
 
 // What the one character of an L field says.
-pub fn logical_of(c: u32) -> Logical
-    ensures { result ≡ logical_of c }
+#[tactic(auto, unfolding(crate::specs::Cell::logical_of))]
+pub fn logical_of(letter: u8) -> Result<Option<bool>, Refusal>
+    ensures { numbered result ≡ logical_of letter }
 {
-    if c == LETTER_T {
-        return Logical::Value(true);
+    match letter {
+        b'T' => Ok(Some(true)),
+        b'F' => Ok(Some(false)),
+        b' ' => Ok(None),
+        _ => Err(Refusal::DateOrLogical),
     }
-    if c == LETTER_F {
-        return Logical::Value(false);
-    }
-    if c == BLANK {
-        return Logical::Empty;
-    }
-    Logical::Refused(refusal::DATE_OR_LOGICAL)
 }
 
 // The value of the L field at a place.
-pub fn logical_at(table: &[u8], place: Place) -> Logical
+pub fn logical_at(table: &[u8], place: Place) -> Result<Option<bool>, Refusal>
     requires { PlaceInside table.now place }
-    ensures { result ≡ logical_of (byte_at table.now place.start) }
+    ensures { numbered result ≡ logical_of (byte_at table.now place.start) }
 {
-    logical_of(octets::byte(table, place.start))
+    logical_of(table[place.start])
 }
 
 // The value of an L field.
-pub fn read_logical(table: &[u8], number: u32, field: u32) -> Logical
-    ensures { result ≡ logical_cell table.now number field }
+pub fn read_logical(table: &[u8], number: u32, field: u32) -> Result<Option<bool>, Refusal>
+    ensures { numbered result ≡ logical_cell table.now number field }
 {
-    let placed = cell_place(table, Reads::Logicals, number, field);
-    match placed {
-        Placed::Refused(refusal) => Logical::Refused(refusal),
-        Placed::At(place) => logical_at(table, place),
-    }
-}
-
-// A place in the memo file as the place of a text.
-fn memo_part(place: MemoPlace) -> TextPlace
-    ensures { result ≡ memo_part place }
-{
-    match place {
-        MemoPlace::Text { start, len } => TextPlace::Memo { start, len },
-        MemoPlace::Empty => TextPlace::Empty,
-        MemoPlace::Refused(refusal) => TextPlace::Refused(refusal),
-    }
+    let place = cell_place(table, Reads::Logicals, number, field)?;
+    logical_at(table, place)
 }
 
 // Where the text of the C or M field at a place lies. The memo file is not read for a C field.
-pub fn text_at(table: &[u8], memo: &[u8], place: Place) -> TextPlace
+pub fn text_at(table: &[u8], memo: &[u8], place: Place) -> Result<Option<TextPlace>, Refusal>
     requires { PlaceInside table.now place }
-    ensures { result ≡ text_at table.now memo.now place.kind place.start place.length }
+    ensures { numbered result ≡ text_at table.now memo.now place.kind place.start place.length }
 {
-    let start = place.start;
-    let len = place.length as usize;
-    if place.kind as u32 == TYPE_C {
-        return TextPlace::Table { start, len };
+    if place.kind == FieldType::Text.letter() {
+        return Ok(Some(TextPlace::Table(Span {
+            start: place.start,
+            len: usize::from(place.length),
+        })));
     }
-    memo_part(fpt_memo::memo_place(part(table, start, len), memo))
+    let text = fpt_memo::memo_place(field_bytes(table, place), memo)?;
+    Ok(text.map(TextPlace::Memo))
 }
 
 // Where the text of a C or M field lies.
-pub fn text_place(table: &[u8], memo: &[u8], number: u32, field: u32) -> TextPlace
-    ensures { result ≡ text_cell table.now memo.now number field }
+pub fn text_place(
+    table: &[u8],
+    memo: &[u8],
+    number: u32,
+    field: u32,
+) -> Result<Option<TextPlace>, Refusal>
+    ensures { numbered result ≡ text_cell table.now memo.now number field }
 {
-    let placed = cell_place(table, Reads::Texts, number, field);
-    match placed {
-        Placed::Refused(refusal) => TextPlace::Refused(refusal),
-        Placed::At(place) => text_at(table, memo, place),
-    }
+    let place = cell_place(table, Reads::Texts, number, field)?;
+    text_at(table, memo, place)
 }
 
-// The text at its place: a part of the table or of the memo file, of no bytes if there is no text.
+// The text at its place: a part of the table or of the memo file.
+#[tactic(auto, unfolding(crate::specs::Cell::TextWithin, crate::specs::Cell::text_part))]
 pub fn text_part<'a>(table: &'a [u8], memo: &'a [u8], place: TextPlace) -> &'a [u8]
-    requires { TextWithin table.now memo.now place }
-    ensures { result.now ≡ text_part table.now memo.now place }
+    requires { TextWithin table.now memo.now (Ok (Some place)) }
+    ensures { result.now ≡ text_part table.now memo.now (Ok (Some place)) }
 {
     match place {
-        TextPlace::Table { start, len } => part(table, start, len),
-        TextPlace::Memo { start, len } => part(memo, start, len),
-        TextPlace::Empty => &table[..0],
-        TextPlace::Refused(_) => &table[..0],
+        TextPlace::Table(span) => part(table, span),
+        TextPlace::Memo(span) => part(memo, span),
     }
 }
 
-// The text of a C or M field.
+// The text of a C or M field: of no bytes if the field is empty or the call is refused.
+#[tactic(auto, unfolding(crate::specs::Cell::text_part))]
 pub fn text<'a>(table: &'a [u8], memo: &'a [u8], number: u32, field: u32) -> &'a [u8]
     ensures { result.now ≡ text_part table.now memo.now (text_cell table.now memo.now number field) }
 {
-    text_part(table, memo, text_place(table, memo, number, field))
+    match text_place(table, memo, number, field) {
+        Ok(Some(place)) => text_part(table, memo, place),
+        Ok(None) => &table[..0],
+        Err(_) => &table[..0],
+    }
 }

@@ -1,23 +1,20 @@
 -- Rules: what the calls that read a field or a numeric text hand to C. The write of a number hands its rule's buffer and number (`refusal/After.coded`).
-use Rattle.std.specs.Prelude.{ℕ, Bool, true, false, ℤ}
+use Rattle.std.specs.Prelude.{ℕ, Bool, true, false, ℤ, Err, None, Ok, Some}
 use Rattle.calendar.specs.declared.Date.{Date}
-use Rattle.calendar.specs.declared.DateAnswer.{DateAnswer}
-use Rattle.calendar.specs.declared.DateAnswer.TheVariants as date
-use Rattle.numeral.specs.declared.Number.{Number}
-use Rattle.numeral.specs.declared.Number.TheVariants as number
+use Rattle.calendar.specs.DateText.{DateAnswer}
+use Rattle.numeral.specs.Format.{Number}
 use Rattle.dbf_cell.specs.Codes.{number_code, date_code, logical_code, text_code}
-use Rattle.dbf_cell.specs.declared.Logical.{Logical}
-use Rattle.dbf_cell.specs.declared.Logical.TheVariants as logical
-use Rattle.dbf_cell.specs.declared.TextPlace.{TextPlace}
+use Rattle.dbf_cell.specs.Cell.{Logical}
+use Rattle.dbf_cell.specs.Cell.{TextAnswer}
 use Rattle.dbf_cell.specs.declared.TextPlace.TheVariants as text
 use Rattle.handed.specs.Out.{Out, out}
 
 -- ---- one field of one record: "256 for an empty field"
 
 abbrev pub number_held : Number → ℤ → ℤ
-number_held (number.Value v) old = v
-number_held number.Empty old = old
-number_held (number.Refused n) old = old
+number_held (Ok (Some v)) old = v
+number_held (Ok None) old = old
+number_held (Err n) old = old
 
 unfoldable pub number_out : Number → ℤ → Out ℤ
 number_out answer old = out (number_code answer) (number_held answer old)
@@ -27,9 +24,9 @@ abbrev pub day_of : ℕ → ℕ → ℕ → Date
 day_of year month day = record { year = year; month = month; day = day }
 
 abbrev pub date_held : DateAnswer → Date → Date
-date_held (date.Value d) old = d
-date_held date.Empty old = old
-date_held (date.Refused n) old = old
+date_held (Ok (Some d)) old = d
+date_held (Ok None) old = old
+date_held (Err n) old = old
 
 unfoldable pub date_out : DateAnswer → Date → Out Date
 date_out answer old = out (date_code answer) (date_held answer old)
@@ -40,9 +37,9 @@ logical_number true = 1
 logical_number false = 0
 
 abbrev pub logical_held : Logical → ℕ → ℕ
-logical_held (logical.Value v) old = logical_number v
-logical_held logical.Empty old = old
-logical_held (logical.Refused n) old = old
+logical_held (Ok (Some v)) old = logical_number v
+logical_held (Ok None) old = old
+logical_held (Err n) old = old
 
 unfoldable pub logical_out : Logical → ℕ → Out ℕ
 logical_out answer old = out (logical_code answer) (logical_held answer old)
@@ -55,11 +52,11 @@ pub record Part : Type 0 where
 abbrev pub part : ℕ → ℕ → Part
 part start size = record { start = start; size = size }
 
-abbrev pub text_held : TextPlace → Part → Part
-text_held (text.Table start size) old = part start size
-text_held (text.Memo start size) old = part start size
-text_held text.Empty old = old
-text_held (text.Refused n) old = old
+abbrev pub text_held : TextAnswer → Part → Part
+text_held (Ok (Some (text.Table place))) old = part place.start place.len
+text_held (Ok (Some (text.Memo place))) old = part place.start place.len
+text_held (Ok None) old = old
+text_held (Err n) old = old
 
-unfoldable pub text_out : TextPlace → Part → Out Part
+unfoldable pub text_out : TextAnswer → Part → Out Part
 text_out answer old = out (text_code answer) (text_held answer old)

@@ -2,23 +2,28 @@
 #![tactic(auto)]
 
 ghost use Rattle.std.specs.Prelude.{◌+◌, ◌*◌, ◌^◌, ◌≤◌, ◌<◌, ◌≡◌, length};
+ghost use Rattle.refusal.specs.Refusals.{numbered};
+ghost use Rattle.refusal.specs.After.{change_code};
 ghost use Rattle.dbf_table.specs.Table.{min_table, records_end};
 ghost use Rattle.dbf_table.specs.Table.{record_length_good, length_good};
 ghost use Rattle.dbf_table.specs.Table.{table_refusal, shape_of, check_table};
 ghost use Rattle.dbf_table.specs.TableLaws.{HeaderFits};
 
-use dbf_table::{Checked, Shape};
+use dbf_table::Shape;
+use refusal::Refusal;
 
+#[tactic(auto, unfolding(dbf_table::specs::Table::record_length_good))]
 fn record_length_good(table: &[u8]) -> bool
     requires { HeaderFits table.now }
     ensures { result ≡ record_length_good table.now }
 {
     let length = dbf_table::record_length(table);
-    let sum = dbf_fields::field_offset(table, dbf_table::field_count(table));
-    (length == sum) & (length <= dbf_table::MAX_RECORD)
+    length == dbf_fields::field_offset(table, dbf_table::field_count(table))
+        && length <= dbf_table::MAX_RECORD
 }
 
 // Where the first `count` records end. Nothing overflows, whatever the header says.
+#[tactic(auto, unfolding(dbf_table::specs::Table::records_end))]
 pub fn records_end(table: &[u8], count: u32) -> usize
     requires { min_table ≤ length table.now }
     ensures { (result ≡ records_end table.now count) × (result < 2 ^ 49) }
@@ -26,63 +31,60 @@ pub fn records_end(table: &[u8], count: u32) -> usize
     dbf_table::header_length(table) + count as usize * dbf_table::record_length(table)
 }
 
+#[tactic(auto, unfolding(dbf_table::specs::Table::length_good))]
 fn length_good(table: &[u8]) -> bool
     requires { min_table ≤ length table.now }
     ensures { result ≡ length_good table.now }
 {
     let end = records_end(table, dbf_table::record_count(table));
-    if table.len() == end {
-        return true;
-    }
-    if table.len() != end + 1 {
-        return false;
-    }
-    table[end] == dbf_table::FILE_END
+    table.len() == end || table.len() == end + 1 && table[end] == dbf_table::FILE_END
 }
 
-// The number of the first refusal, 1 to 10; 0 for a good table.
-fn table_refusal(table: &[u8]) -> u32
-    ensures { result ≡ table_refusal table.now }
+// The first refusal, if there is one.
+#[tactic(auto, unfolding(dbf_table::specs::Table::table_refusal, dbf_table::specs::Table::table_checks, refusal::specs::Checks::first_refusal))]
+fn check_rules(table: &[u8]) -> Result<(), Refusal>
+    ensures { change_code (numbered result) ≡ table_refusal table.now }
 {
     if !dbf_table::size_good(table) {
-        return refusal::TABLE_SIZE;
+        return Err(Refusal::TableSize);
     }
     if !dbf_table::kind_good(table) {
-        return refusal::TABLE_KIND;
+        return Err(Refusal::TableKind);
     }
     if !dbf_table::date_good(table) {
-        return refusal::UPDATE_DATE;
+        return Err(Refusal::UpdateDate);
     }
     if !dbf_table::header_good(table) {
-        return refusal::HEADER_LENGTH;
+        return Err(Refusal::HeaderLength);
     }
     if !dbf_table::end_mark_good(table) {
-        return refusal::HEADER_END_MARK;
+        return Err(Refusal::HeaderEndMark);
     }
     if !dbf_fields::fields_good(table) {
-        return refusal::FIELD_DESCRIPTOR;
+        return Err(Refusal::FieldDescriptor);
     }
     if !dbf_fields::names_differ(table) {
-        return refusal::FIELD_NAME_TWICE;
+        return Err(Refusal::FieldNameTwice);
     }
     if !dbf_fields::memo_kind_good(table) {
-        return refusal::MEMO_FIELD_AND_KIND;
+        return Err(Refusal::MemoFieldAndKind);
     }
     if !record_length_good(table) {
-        return refusal::RECORD_LENGTH;
+        return Err(Refusal::RecordLength);
     }
     if !length_good(table) {
-        return refusal::TABLE_LENGTH;
+        return Err(Refusal::TableLength);
     }
-    0
+    Ok(())
 }
 
+#[tactic(auto, unfolding(dbf_table::specs::Table::shape_of))]
 fn shape_of(table: &[u8]) -> Shape
     requires { min_table ≤ length table.now }
     ensures { result ≡ shape_of table.now }
 {
     Shape {
-        kind: octets::byte(table, dbf_table::KIND_AT),
+        kind: table[dbf_table::KIND_AT],
         records: dbf_table::record_count(table),
         header_length: dbf_table::header_length(table),
         record_length: dbf_table::record_length(table),
@@ -90,13 +92,10 @@ fn shape_of(table: &[u8]) -> Shape
     }
 }
 
-// The table's shape, or the number of its refusal.
-pub fn check_table(table: &[u8]) -> Checked
-    ensures { result ≡ check_table table.now }
+// The table's shape, or why it is refused.
+pub fn check_table(table: &[u8]) -> Result<Shape, Refusal>
+    ensures { numbered result ≡ check_table table.now }
 {
-    let refusal = table_refusal(table);
-    if refusal == 0 {
-        return Checked::Good(shape_of(table));
-    }
-    Checked::Refused(refusal)
+    check_rules(table)?;
+    Ok(shape_of(table))
 }

@@ -1,7 +1,7 @@
 -- Laws: the bytes that are laid out, byte by byte; that they pass each check of a table that a call does not refuse by; and how the code's stores make them.
 -- Assumes nothing.
+use Rattle.std.specs.Prelude.{◌≡◌, false, not, ◌&&◌, ◌||◌, take, set, replicate, eqb, leb, Err, Ok}
 use Prim.Native.Nat.{ℕ, zero, suc, ◌+◌, ◌*◌, ◌-◌, ◌^◌, ◌≤◌, ◌<◌}
-use Rattle.std.specs.Prelude.{◌≡◌, false, not, ◌&&◌, ◌||◌, take, set, replicate, eqb, leb}
 use Rattle.std.proofs.Math.Path.{refl, ap}
 use Rattle.std.proofs.Common.{sym, ◌∙◌, add-zero, zero-add, suc-add, not-suc-le-zero, get_or-append-add, lit<}
 use Rattle.std.proofs.Math.Bool.{Bool, true, or-true}
@@ -28,7 +28,6 @@ use Rattle.dbf_table.specs.Table.{table_checks, table_refusal, check_table, firs
 use Rattle.dbf_table.specs.DateLaws.{StorableDate, storable}
 use Rattle.dbf_table.specs.TableLaws.{HeaderFits, table-numbered, good_check, good_then, refused_then, refused_check, good_shape}
 use Rattle.dbf_table.specs.declared.Shape.{Shape}
-use Rattle.dbf_table.specs.declared.Checked.TheVariants.{Good, Refused}
 use Rattle.dbf_field.specs.declared.FieldEntry.{FieldEntry}
 use Rattle.dbf_create.specs.Laying.{descriptor_of, with_field, placed, kind_for, lists_memo, header_size, record_size, header_of, laid_out}
 use Rattle.dbf_create.specs.Laying.{count_good, lay_checks, lay_refusal, lay_out, lay_table}
@@ -273,10 +272,10 @@ module _ (b t : List ℕ) where
   unfolding lay_table
   table-first k e some = unless-first (left b) front checks (λ z. some (sym e ∙ z)) ∙ ap (left b) e
 
-  pub table-refused : (k : ℕ) → check_table t ≡ Refused k → lay_table b t ≡ left b k
+  pub table-refused : (k : ℕ) → check_table t ≡ Err k → lay_table b t ≡ left b k
   table-refused k e = table-first k (refused_then t k _ e) (refused_check t k e).1
 
-  module _ (s : Shape) (e : check_table t ≡ Good s) where
+  module _ (s : Shape) (e : check_table t ≡ Ok s) where
     pub table_30 : length b < s.header_length + 1 → lay_table b t ≡ left b 30
     table_30 h =
         let short = lt-leb (header_length_of t + 1) (length b) (rw (← (good_shape t s e).header) h) in

@@ -2,7 +2,8 @@
 #![tactic(auto)]
 
 ghost use Rattle.std.specs.Prelude.{◌+◌, ◌*◌, ◌<◌, ◌≡◌, length};
-ghost use Rattle.refusal.specs.After.{left};
+ghost use Rattle.refusal.specs.Refusals.{numbered};
+ghost use Rattle.refusal.specs.After.{left, change_code};
 ghost use Rattle.octets.specs.Store.{window};
 ghost use Rattle.dbf_table.specs.Table.{max_fields, header_length_of, has_memo};
 ghost use Rattle.dbf_table.specs.TableLaws.{HeaderFits};
@@ -10,17 +11,16 @@ ghost use Rattle.dbf_create.specs.Laying.{room_length, no_fields, with_field, li
 ghost use Rattle.dbf_create.specs.LayingLaws.{Layable, Written};
 
 use dbf_field::FieldEntry;
-use dbf_table::Checked;
+use refusal::Refusal;
 
 // Where the header says no more.
 const UNREAD_AT: usize = 12;
-
-const NAME_LENGTH: usize = 11;
 
 // The longest table that is laid out: its header of 128 fields and its end mark.
 const ROOM: usize = 4130;
 
 // A room for the longest table, with no field in it. The table is made in this one room, from its fields to its end mark: the stack has no other copy of it.
+#[tactic(auto, unfolding(crate::specs::Laying::no_fields))]
 pub fn no_fields() -> [u8; 4130]
     ensures { result ≡ no_fields }
 {
@@ -37,38 +37,38 @@ pub fn write_field(room: &mut [u8], j: usize, entry: FieldEntry)
     let name = entry.name;
     octets::copy_in(room, at, &name);
     let end = at + dbf_table::DESCRIPTOR_LENGTH;
-    octets::fill(room, at + NAME_LENGTH, end, 0);
+    octets::fill(room, at + dbf_table::NAME_LENGTH, end, 0);
     room[at + dbf_table::TYPE_AT] = entry.kind;
     room[at + dbf_table::LENGTH_AT] = entry.length;
     room[at + dbf_table::DECIMALS_AT] = entry.decimals;
 }
 
 // How many fields of a list of `given` are taken: no table has more than 128.
+#[tactic(auto, unfolding(crate::specs::Laying::listed_count))]
 pub fn listed_count(given: usize) -> usize
     ensures { result ≡ listed_count given }
 {
-    if given < dbf_table::MAX_FIELDS {
-        given
-    } else {
-        dbf_table::MAX_FIELDS
-    }
+    given.min(dbf_table::MAX_FIELDS)
 }
 
+#[tactic(auto, unfolding(crate::specs::Laying::count_good))]
 fn count_good(count: usize) -> bool
     ensures { result ≡ count_good count }
 {
-    (1 <= count) & (count <= dbf_table::MAX_FIELDS)
+    (1..=dbf_table::MAX_FIELDS).contains(&count)
 }
 
 // The kind of a table whose header says its length and whose descriptors are there.
+#[tactic(auto, unfolding(crate::specs::Laying::kind_for))]
 fn kind_of(table: &[u8]) -> u8
     requires { HeaderFits table.now }
     ensures { result ≡ kind_for (has_memo table.now) }
 {
     if dbf_fields::has_memo(table) {
-        return dbf_table::MEMO_KIND as u8;
+        dbf_table::MEMO_KIND
+    } else {
+        dbf_table::PLAIN_KIND
     }
-    dbf_table::PLAIN_KIND as u8
 }
 
 // Writes the rest of a table around the descriptors of `count` fields in a room: the header before them, and the end marks behind them.
@@ -98,23 +98,20 @@ fn write_table(room: &mut [u8], count: usize, year: u32, month: u32, day: u32)
 }
 
 // Writes a table to the front of the buffer, if it passes its own checks and fits.
-fn lay_table(buffer: &mut [u8], table: &[u8]) -> u32
+fn lay_table(buffer: &mut [u8], table: &[u8]) -> Result<(), Refusal>
     requires { length table.now ≡ header_length_of table.now + 1 }
-    ensures { lay_table buffer.old table.now ≡ left buffer.new result }
+    ensures { lay_table buffer.old table.now ≡ left buffer.new (change_code (numbered result)) }
 {
-    match dbf_check::check_table(table) {
-        Checked::Refused(number) => number,
-        Checked::Good(shape) => {
-            if buffer.len() < shape.header_length + 1 {
-                return refusal::NO_ROOM;
-            }
-            octets::copy_in(buffer, 0, table);
-            0
-        }
+    let shape = dbf_check::check_table(table)?;
+    if buffer.len() < shape.header_length + 1 {
+        return Err(Refusal::NoRoom);
     }
+    octets::copy_in(buffer, 0, table);
+    Ok(())
 }
 
-// Lays out an empty table with the first `count` fields of a room: 0, or the number of the refusal, which changes no byte of the buffer.
+// Lays out an empty table with the first `count` fields of a room. A refusal changes no byte of the buffer.
+#[tactic(auto, unfolding(crate::specs::Laying::count_good))]
 pub fn lay_out(
     buffer: &mut [u8],
     room: &mut [u8],
@@ -122,15 +119,15 @@ pub fn lay_out(
     year: u32,
     month: u32,
     day: u32,
-) -> u32
+) -> Result<(), Refusal>
     requires { length room.old ≡ room_length }
-    ensures { lay_out buffer.old (window room.old 32 (32 * count)) count year month day ≡ left buffer.new result }
+    ensures { lay_out buffer.old (window room.old 32 (32 * count)) count year month day ≡ left buffer.new (change_code (numbered result)) }
 {
     if !dbf_table::storable_date(year, month, day) {
-        return refusal::UPDATE_DATE;
+        return Err(Refusal::UpdateDate);
     }
     if !count_good(count) {
-        return refusal::HEADER_LENGTH;
+        return Err(Refusal::HeaderLength);
     }
     write_table(room, count, year, month, day);
     lay_table(

@@ -1,15 +1,20 @@
 -- Rules: document 01, one field by value: "a name, type, length and decimals", with document 02's offset (K7), and where a field of a
 -- record lies. Refusals 1 to 10, 11 and 12. Cited by `field_entry` and `field_place`.
-use Rattle.std.specs.Prelude.{ℕ, ◌+◌, ◌-◌, ◌≤◌, ◌≡◌, List, [], ◌∷◌, ◌++◌, Bool, cond, ◌&&◌, length, replicate, eqb, leb}
+use Rattle.std.specs.Prelude.{ℕ, ◌+◌, ◌-◌, ◌≤◌, ◌≡◌, List, [], ◌∷◌, ◌++◌, Bool, cond, ◌&&◌, length, replicate, eqb, leb, Err, Ok, Result}
 use Rattle.refusal.specs.Checks.{first_refusal}
 use Rattle.octets.specs.Store.{window}
 use Rattle.dbf_table.specs.Table.{descriptor, field_type, field_length, field_decimals, field_offset, field_count, record_count, record_start, deletion_byte}
 use Rattle.dbf_table.specs.Table.{table_checks, table_refusal}
 use Rattle.dbf_field.specs.declared.FieldEntry.{FieldEntry}
-use Rattle.dbf_field.specs.declared.FieldAnswer.{FieldAnswer}
 use Rattle.dbf_field.specs.declared.Place.{Place}
-use Rattle.dbf_field.specs.declared.Placed.{Placed}
-use Rattle.dbf_field.specs.declared.Placed.TheVariants.{At, Refused}
+
+-- a field's entry, or a refusal's number
+abbrev pub FieldAnswer : Type 0
+FieldAnswer = Result FieldEntry ℕ
+
+-- where a field of a record lies, or a refusal's number
+abbrev pub Placed : Type 0
+Placed = Result Place ℕ
 
 -- ---- an entry
 
@@ -27,7 +32,7 @@ entry_of b j = record {
   offset = field_offset b j;
 }
 
--- the entry beside a refusal: zeros
+-- an entry of zeros, which stands for one that a list does not have
 unfoldable pub no_entry : FieldEntry
 no_entry = record {
   name = replicate 11 0;
@@ -47,10 +52,7 @@ field_refusal b field = first_refusal (table_checks b ++ ((number_good field (fi
 
 -- the entry of a field by its number, from 1
 unfoldable pub field_answer : List ℕ → ℕ → FieldAnswer
-field_answer b field = record {
-  refusal = field_refusal b field;
-  entry = cond (eqb (field_refusal b field) 0) (entry_of b (field - 1)) no_entry;
-}
+field_answer b field = cond (eqb (field_refusal b field) 0) (Ok (entry_of b (field - 1))) (Err (field_refusal b field))
 
 -- ---- a field in a record
 
@@ -84,19 +86,19 @@ pub record PlaceInside (b : List ℕ) (p : Place) : Type 0 where
   pub inside : p.start + p.length ≤ length b
 
 unfoldable pub place_of : List ℕ → ℕ → ℕ → Placed
-place_of b number field = cond (eqb (place_refusal b number field) 0) (At (place_at b number field)) (Refused (place_refusal b number field))
+place_of b number field = cond (eqb (place_refusal b number field) 0) (Ok (place_at b number field)) (Err (place_refusal b number field))
 
 -- ---- the answer as document 01 counts it
 
 -- an answer's number: 0 for a place, or the refusal's
 abbrev pub place_code : Placed → ℕ
-place_code (At p) = 0
-place_code (Refused n) = n
+place_code (Ok p) = 0
+place_code (Err n) = n
 
 -- an answer's values: the place; "A refusal answers its number alone"
 abbrev pub place_values : Placed → List Place
-place_values (At p) = p ∷ []
-place_values (Refused n) = []
+place_values (Ok p) = p ∷ []
+place_values (Err n) = []
 
 -- what `field_place` answers: the case, its number, and its values
 pub record PlaceAnswer (b : List ℕ) (number field : ℕ) (r : Placed) : Type 0 where

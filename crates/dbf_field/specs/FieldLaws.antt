@@ -1,23 +1,18 @@
 -- Laws: what the answers about a field say, and a field's bytes lie in the table. Assumes nothing.
-use Rattle.std.specs.Prelude.{ℕ, zero, suc, ◌+◌, ◌-◌, ◌≤◌, ◌<◌, ◌≡◌, refl, Bool, true, cond, List, [], ◌∷◌, length, eqb, leb}
-use Rattle.std.proofs.Common.{sym, ap, ◌∙◌, arith, lit<, leb-true, eqb-true}
-use Rattle.std.proofs.lemmas.Bool.{eqb-false}
+use Rattle.std.specs.Prelude.{Ok, ℕ, ◌+◌, ◌-◌, ◌≤◌, ◌<◌, ◌≡◌, Bool, true, false, cond, List, [], ◌∷◌, length, eqb, leb, Err}
+use Rattle.std.proofs.Common.{sym, ◌∙◌, arith, lit<, leb-true, eqb-true}
+use Rattle.std.proofs.lemmas.Bool.{eqb-false, ne_eqb}
 use Rattle.basis.specs.Tests.{either, both, impossible}
 use Rattle.refusal.specs.CheckLaws.{first-none, first-both}
 use Rattle.refusal.specs.Checks.{first_refusal}
-use Rattle.octets.specs.Bytes.{byte_at}
-use Rattle.octets.specs.Store.{window}
-use Rattle.octets.specs.StoreLaws.{window_cons}
 use Rattle.dbf_table.specs.Table.{max_fields, descriptor, field_count, record_count, record_start, table_checks, table_refusal, shape_of, check_table}
-use Rattle.dbf_table.specs.TableLaws.{layout, table-numbered, good_check, good_then}
+use Rattle.dbf_table.specs.TableLaws.{layout, table-numbered, good_check, refused_check, good_then, refused_then}
 use Rattle.dbf_table.specs.FormLaws.{field_form, form-some}
 use Rattle.dbf_table.specs.RecordLaws.{descriptor-inside, field_inside, record_inside, record_positive}
 use Rattle.dbf_table.specs.declared.Shape.{Shape}
-use Rattle.dbf_table.specs.declared.Checked.TheVariants.{Good}
-use Rattle.dbf_field.specs.Field.{number_good, field_refusal, place_refusal, PlaceGood, entry_of, place_at, PlaceInside, place_of, PlaceAnswer}
+use Rattle.dbf_field.specs.Field.{number_good, field_refusal, field_answer, place_refusal, PlaceGood, entry_of, place_at, PlaceInside, place_of, PlaceAnswer}
 use Rattle.dbf_field.specs.declared.Place.{Place}
-use Rattle.dbf_field.specs.declared.Placed.{Placed}
-use Rattle.dbf_field.specs.declared.Placed.TheVariants.{At, Refused}
+use Rattle.dbf_field.specs.Field.{Placed}
 
 -- ---- one field
 
@@ -33,7 +28,7 @@ pub entry-inside : (b : List ℕ) (j : ℕ) → table_refusal b ≡ 0 → j < fi
 entry-inside b j good l = let table = layout b good in (omega (arith, table.header.few), descriptor-inside b table j l)
 
 -- in a good table the test of the field's number decides
-pub field_checked : (b : List ℕ) (s : Shape) (field : ℕ) → check_table b ≡ Good s → field_refusal b field ≡ cond (number_good field s.fields) 0 12
+pub field_checked : (b : List ℕ) (s : Shape) (field : ℕ) → check_table b ≡ Ok s → field_refusal b field ≡ cond (number_good field s.fields) 0 12
 unfolding field_refusal first_refusal shape_of
 field_checked b s field e = good_then b s ((number_good field (field_count b), 12) ∷ []) e ∙ rw (good_check b s e).1
 
@@ -52,9 +47,25 @@ field_good b field e =
     let range = number-range field (field_count b) held.0 in
     record { table = parts.0; from = range.0; to = range.1 }
 
+-- a table's refusal is the answer; in a good table it is 12, or the field's entry
+pub field_unchecked : (b : List ℕ) (field n : ℕ) → check_table b ≡ Err n → field_answer b field ≡ Err n
+unfolding field_answer field_refusal
+field_unchecked b field n e = rw (refused_then b n ((number_good field (field_count b), 12) ∷ []) e, ne_eqb n 0 (refused_check b n e).1)
+
+pub field_12 : (b : List ℕ) (s : Shape) (field : ℕ) → check_table b ≡ Ok s → number_good field s.fields ≡ false → field_answer b field ≡ Err 12
+unfolding field_answer
+field_12 b s field e bad = rw (field_checked b s field e, bad)
+
+pub field_given : (b : List ℕ) (s : Shape) (field : ℕ) → check_table b ≡ Ok s → number_good field s.fields ≡ true
+    → (field_refusal b field ≡ 0) × (field_answer b field ≡ Ok (entry_of b (field - 1)))
+unfolding field_answer
+field_given b s field e has =
+    let none : field_refusal b field ≡ 0 = field_checked b s field e ∙ rw has in
+    (none, rw none)
+
 -- ---- a field of a record
 
-pub place-checked : (b : List ℕ) (s : Shape) (number field : ℕ) → check_table b ≡ Good s
+pub place-checked : (b : List ℕ) (s : Shape) (number field : ℕ) → check_table b ≡ Ok s
     → place_refusal b number field ≡ cond (number_good number s.records) (cond (number_good field s.fields) 0 12) 11
 unfolding place_refusal first_refusal shape_of
 place-checked b s number field e =
@@ -69,6 +80,32 @@ place-good b number field e =
     let records = number-range number (record_count b) held.0 in
     let fields = number-range field (field_count b) held.1.0 in
     record { table = parts.0; record-from = records.0; record_to = records.1; field_from = fields.0; field_to = fields.1 }
+
+-- a table's refusal is the answer; in a good table it is 11 or 12, or the field's place
+pub place-unchecked : (b : List ℕ) (number field n : ℕ) → check_table b ≡ Err n → place_of b number field ≡ Err n
+unfolding place_of place_refusal
+place-unchecked b number field n e =
+    rw (
+      refused_then b n ((number_good number (record_count b), 11) ∷ (number_good field (field_count b), 12) ∷ []) e,
+      ne_eqb n 0 (refused_check b n e).1,
+    )
+
+pub place_11 : (b : List ℕ) (s : Shape) (number field : ℕ) → check_table b ≡ Ok s → number_good number s.records ≡ false
+    → place_of b number field ≡ Err 11
+unfolding place_of
+place_11 b s number field e bad = rw (place-checked b s number field e, bad)
+
+pub place_12 : (b : List ℕ) (s : Shape) (number field : ℕ) → check_table b ≡ Ok s → number_good number s.records ≡ true
+    → number_good field s.fields ≡ false → place_of b number field ≡ Err 12
+unfolding place_of
+place_12 b s number field e good bad = rw (place-checked b s number field e, good, bad)
+
+pub place_given : (b : List ℕ) (s : Shape) (number field : ℕ) → check_table b ≡ Ok s → number_good number s.records ≡ true
+    → number_good field s.fields ≡ true → (place_refusal b number field ≡ 0) × (place_of b number field ≡ Ok (place_at b number field))
+unfolding place_of
+place_given b s number field e good has =
+    let none : place_refusal b number field ≡ 0 = place-checked b s number field e ∙ rw (good, has) in
+    (none, rw none)
 
 -- the record and the field lie in the table
 pub mark-inside : (b : List ℕ) (number field : ℕ) → PlaceGood b number field → record_start b number < length b
@@ -87,20 +124,20 @@ place-within b number field p good e =
     rw e (record { some = some; inside = omega arith })
 
 -- what a caller learns from the answer's case
-pub placed_at : (b : List ℕ) (number field : ℕ) (p : Place) → place_of b number field ≡ At p
+pub placed_at : (b : List ℕ) (number field : ℕ) (p : Place) → place_of b number field ≡ Ok p
     → (place_refusal b number field ≡ 0) × (p ≡ place_at b number field)
 unfolding place_of
 placed_at b number field p e =
     either (eqb (place_refusal b number field) 0)
-    (λ z. let q : At (place_at b number field) ≡ At p = rw z at e in (eqb-true (place_refusal b number field) 0 z, cc))
-    (λ z. let q : Refused (place_refusal b number field) ≡ At p = rw z at e in impossible (cc))
+    (λ z. let q : Ok (place_at b number field) ≡ Ok p = rw z at e in (eqb-true (place_refusal b number field) 0 z, cc))
+    (λ z. let q : Err (place_refusal b number field) ≡ Ok p = rw z at e in impossible (cc))
 
-pub placed-refused : (b : List ℕ) (number field n : ℕ) → place_of b number field ≡ Refused n → (n ≡ place_refusal b number field) × (n ≡ 0 → ⊥)
+pub placed-refused : (b : List ℕ) (number field n : ℕ) → place_of b number field ≡ Err n → (n ≡ place_refusal b number field) × (n ≡ 0 → ⊥)
 unfolding place_of
 placed-refused b number field n e =
     either (eqb (place_refusal b number field) 0)
-    (λ z. let q : At (place_at b number field) ≡ Refused n = rw z at e in impossible (cc))
-    (λ z. let q : Refused (place_refusal b number field) ≡ Refused n = rw z at e in
+    (λ z. let q : Ok (place_at b number field) ≡ Err n = rw z at e in impossible (cc))
+    (λ z. let q : Err (place_refusal b number field) ≡ Err n = rw z at e in
     let s : n ≡ place_refusal b number field = cc in (s, λ w. eqb-false (place_refusal b number field) 0 z (sym s ∙ w)))
 
 -- the case decides the number and the values
@@ -110,22 +147,3 @@ place-answer b number field r e =
     either (eqb (place_refusal b number field) 0)
     (λ z. record { case = e; code = rw (e, z, eqb-true (place_refusal b number field) 0 z); values = rw (e, z) })
     (λ z. record { case = e; code = rw (e, z); values = rw (e, z) })
-
--- ---- an entry's name
-
--- n bytes one after another, the first at k after the offset `at`
-unfoldable pub bytes_from : List ℕ → ℕ → ℕ → ℕ → List ℕ
-bytes_from b at k zero = []
-bytes_from b at k (suc n) = byte_at b (at + k) ∷ bytes_from b at (suc k) n
-
--- they are a window of the table
-bytes-window : (b : List ℕ) (at k n : ℕ) → at + k + n ≤ length b → window b (at + k) n ≡ bytes_from b at k n
-unfolding bytes_from window
-bytes-window b at k zero h = refl
-bytes-window b at k (suc n) h =
-    let next : at + k + 1 ≡ at + suc k = omega arith in
-    window_cons b (at + k) n (omega arith) ∙ rw next (ap (λ (l : List ℕ). byte_at b (at + k) ∷ l) (bytes-window b at (suc k) n (omega arith)))
-
-pub window_bytes : (b : List ℕ) (at n : ℕ) → at + suc n ≤ length b → window b at (suc n) ≡ byte_at b at ∷ bytes_from b at 1 n
-window_bytes b at n h =
-    window_cons b at n (omega arith) ∙ ap (λ (l : List ℕ). byte_at b at ∷ l) (bytes-window b at 1 n (omega arith))

@@ -2,16 +2,19 @@
 #![tactic(auto)]
 
 ghost use Rattle.std.specs.Prelude.{◌+◌, ◌≤◌, ◌<◌, ◌≡◌, length};
+ghost use Rattle.refusal.specs.Refusals.{numbered};
 ghost use Rattle.dbf_table.specs.Table.{max_fields, descriptor, field_offset};
-ghost use Rattle.dbf_field.specs.Field.{number_good, entry_of, no_entry, field_refusal, field_answer};
-ghost use Rattle.dbf_field.specs.Field.{place_refusal, PlaceGood, place_at, PlaceInside, PlaceAnswer};
+ghost use Rattle.dbf_field.specs.Field.{number_good, entry_of, field_answer};
+ghost use Rattle.dbf_field.specs.Field.{PlaceGood, place_at, PlaceInside, PlaceAnswer};
+
+use refusal::Refusal;
 
 // Where the first field starts in a record: behind the deletion byte.
 pub const FIRST_OFFSET: u16 = 1;
 
 // A field as the host lists it; `offset` counts from the record's start, where the deletion byte is, so the first field has 1.
 #[repr(C)]
-#[derive(Clone, Copy)]
+#[derive(Clone, Copy, Debug, PartialEq, Eq)]
 pub struct FieldEntry {
     pub name: [u8; 11],
     pub kind: u8,
@@ -20,15 +23,8 @@ pub struct FieldEntry {
     pub offset: u16,
 }
 
-// The answer for one field: 0 and its entry, or a refusal's number and an entry of zeros.
-#[derive(Clone, Copy)]
-pub struct FieldAnswer {
-    pub refusal: u32,
-    pub entry: FieldEntry,
-}
-
-// A field of a record: the record's deletion byte, where the field starts in the table, and its entry but for the name and the offset: an enum can't hold an
-// array, and the start has the offset in it.
+// A field of a record: the record's deletion byte, where the field starts in the table, and its entry but for the name and the offset: the start has the
+// offset in it.
 #[derive(Clone, Copy)]
 pub struct Place {
     pub mark: u32,
@@ -38,31 +34,15 @@ pub struct Place {
     pub decimals: u8,
 }
 
-#[derive(Clone, Copy)]
-pub enum Placed {
-    At(Place),
-    Refused(u32),
-}
-
 // The entry of field j, from 0, that starts at this offset in a record: who goes from field to field knows where one ends, and does not add up again.
+#[tactic(auto, unfolding(crate::specs::Field::entry_of, crate::specs::Field::field_name, octets::specs::Store::window))]
 pub fn entry_from(table: &[u8], j: usize, offset: u16) -> FieldEntry
     requires { (descriptor j + 32 ≤ length table.now) × (offset ≡ field_offset table.now j) }
     ensures { result ≡ entry_of table.now j }
 {
     let at = dbf_table::DESCRIPTORS + dbf_table::DESCRIPTOR_LENGTH * j;
-    let name = [
-        table[at],
-        table[at + 1],
-        table[at + 2],
-        table[at + 3],
-        table[at + 4],
-        table[at + 5],
-        table[at + 6],
-        table[at + 7],
-        table[at + 8],
-        table[at + 9],
-        table[at + 10],
-    ];
+    let mut name = [0; dbf_table::NAME_LENGTH];
+    name.copy_from_slice(&table[at..at + dbf_table::NAME_LENGTH]);
     FieldEntry {
         name,
         kind: table[at + dbf_table::TYPE_AT],
@@ -80,67 +60,23 @@ pub fn entry_at(table: &[u8], j: usize) -> FieldEntry
     entry_from(table, j, dbf_fields::field_offset(table, j) as u16)
 }
 
-fn no_entry() -> FieldEntry
-    ensures { result ≡ no_entry }
-{
-    FieldEntry {
-        name: [0; 11],
-        kind: 0,
-        length: 0,
-        decimals: 0,
-        offset: 0,
-    }
-}
-
 // Whether the number of a record or a field is from 1 to the count.
+#[tactic(auto, unfolding(crate::specs::Field::number_good))]
 pub fn number_good(number: usize, count: usize) -> bool
     ensures { result ≡ number_good number count }
 {
-    (1 <= number) & (number <= count)
-}
-
-fn field_refusal(table: &[u8], field: u32) -> u32
-    ensures { result ≡ field_refusal table.now field }
-{
-    match dbf_check::check_table(table) {
-        dbf_table::Checked::Refused(refused) => refused,
-        dbf_table::Checked::Good(shape) => {
-            if number_good(field as usize, shape.fields) {
-                0
-            } else {
-                refusal::FIELD_NUMBER
-            }
-        }
-    }
+    1 <= number && number <= count
 }
 
 // The entry of a field by its number, from 1.
-pub fn field_entry(table: &[u8], field: u32) -> FieldAnswer
-    ensures { result ≡ field_answer table.now field }
+pub fn field_entry(table: &[u8], field: u32) -> Result<FieldEntry, Refusal>
+    ensures { numbered result ≡ field_answer table.now field }
 {
-    let refusal = field_refusal(table, field);
-    if refusal != 0 {
-        let entry = no_entry();
-        return FieldAnswer { refusal, entry };
-    }
-    let entry = entry_at(table, (field - 1) as usize);
-    FieldAnswer { refusal: 0, entry }
-}
-
-fn place_refusal(table: &[u8], number: u32, field: u32) -> u32
-    ensures { result ≡ place_refusal table.now number field }
-{
-    match dbf_check::check_table(table) {
-        dbf_table::Checked::Refused(refused) => refused,
-        dbf_table::Checked::Good(shape) => {
-            if !number_good(number as usize, shape.records as usize) {
-                return refusal::RECORD_NUMBER;
-            }
-            if !number_good(field as usize, shape.fields) {
-                return refusal::FIELD_NUMBER;
-            }
-            0
-        }
+    let shape = dbf_check::check_table(table)?;
+    if number_good(field as usize, shape.fields) {
+        Ok(entry_at(table, field as usize - 1))
+    } else {
+        Err(Refusal::FieldNumber)
     }
 }
 
@@ -161,12 +97,15 @@ pub fn place_at(table: &[u8], number: u32, field: u32) -> Place
 }
 
 // Where field `field` of record `number` lies, both from 1.
-pub fn field_place(table: &[u8], number: u32, field: u32) -> Placed
-    ensures { PlaceAnswer table.now number field result }
+pub fn field_place(table: &[u8], number: u32, field: u32) -> Result<Place, Refusal>
+    ensures { PlaceAnswer table.now number field (numbered result) }
 {
-    let refusal = place_refusal(table, number, field);
-    if refusal != 0 {
-        return Placed::Refused(refusal);
+    let shape = dbf_check::check_table(table)?;
+    if !number_good(number as usize, shape.records as usize) {
+        return Err(Refusal::RecordNumber);
     }
-    Placed::At(place_at(table, number, field))
+    if !number_good(field as usize, shape.fields) {
+        return Err(Refusal::FieldNumber);
+    }
+    Ok(place_at(table, number, field))
 }

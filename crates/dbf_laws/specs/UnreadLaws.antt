@@ -1,8 +1,8 @@
 -- Laws: document 02, K7: where a field lies is "worked out by us and not taken from bytes 12-15": two tables that differ in bytes 12 to 15 of their descriptors
 -- alone (`SameElsewhere`) have the same answers of every call that reads them, whether they are good or not. No proof of the code cites them: they are for
 -- readers of the rules. Assumes nothing.
+use Rattle.std.specs.Prelude.{◌≡◌, Bool, true, false, length, take, eqb, leb, Err, Ok, Some, None}
 use Prim.Native.Nat.{ℕ, zero, suc, ◌+◌, ◌-◌, ◌≤◌}
-use Rattle.std.specs.Prelude.{◌≡◌, Bool, true, false, length, take, eqb, leb}
 use Rattle.std.proofs.Math.Path.{refl}
 use Rattle.std.proofs.Common.{sym, ◌∙◌, arith, eqb-true, leb-true, leb-false}
 use mathlib.Core.List.{List, [], ◌∷◌, ◌++◌}
@@ -10,9 +10,7 @@ use Rattle.std.proofs.lemmas.Bool.{eqb-false}
 use Rattle.basis.specs.Tests.{either}
 use Rattle.refusal.specs.Checks.{first_refusal, unless}
 use Rattle.refusal.specs.CheckLaws.{first-same}
-use Rattle.fpt_memo.specs.Memo.{memo_text}
-use Rattle.fpt_memo.specs.declared.MemoPlace.{MemoPlace}
-use Rattle.fpt_memo.specs.declared.MemoPlace.TheVariants.{Text, Empty, Refused}
+use Rattle.fpt_memo.specs.Memo.{MemoPlace, memo_text}
 use Rattle.dbf_table.specs.Table.{min_table, type_c, field_type, field_length, field_offset, field_count, header_length_of, record_count, records_end}
 use Rattle.dbf_table.specs.Table.{record_start, table_refusal}
 use Rattle.dbf_table.specs.TableLaws.{HeaderFits, layout}
@@ -39,17 +37,15 @@ use Rattle.idx_match.specs.MatchTest.{column_of, column_bytes, entry_good, entri
 use Rattle.idx_match.specs.Computed.{match_answer}
 use Rattle.idx_match.proofs.AnswerLaws.{answer-computed}
 use Rattle.idx_match.proofs.CallLaws.{table-good}
-use Rattle.dilution.specs.Dilution.{concentration_text, is_concentration, field_checks, header_checks, sheet_checks, text_checks}
+use Rattle.dilution.specs.Dilution.{Dilution, concentration_text, is_concentration, field_checks, header_checks, sheet_checks, text_checks}
 use Rattle.dilution.specs.Dilution.{record_dilution, record_with, barcode_checks, dilute_rule}
-use Rattle.dilution.specs.declared.Dilution.{Dilution}
-use Rattle.dilution.specs.declared.Dilution.TheVariants as dilution
 
 -- the part of a memo does not depend on the table
 memo_alone : (b c m : List ℕ) (q : MemoPlace) → text_part c m (memo_part q) ≡ text_part b m (memo_part q)
 unfolding memo_part text_part
-memo_alone b c m (Text a l) = refl
-memo_alone b c m Empty = refl
-memo_alone b c m (Refused n) = refl
+memo_alone b c m (Ok (Some place)) = refl
+memo_alone b c m (Ok None) = refl
+memo_alone b c m (Err n) = refl
 
 module _ (b c : List ℕ) (same : SameElsewhere b c) where
   -- ---- the check and the shape are `dbf_table/UnreadLaws.refusal-same` and `Shape-same`; the field list
@@ -240,7 +236,7 @@ module _ (b c : List ℕ) (same : SameElsewhere b c) where
 
   -- a table that is refused has the table's own refusal
   sheet_refused : (x : List ℕ) (barcodeField field : ℕ) (more : List (Bool × ℕ)) (d e : Dilution) → eqb (table_refusal b) 0 ≡ false
-      → unless (sheet_checks b x barcodeField field ++ more) dilution.Refused d ≡ unless (sheet_checks b x barcodeField field ++ more) dilution.Refused e
+      → unless (sheet_checks b x barcodeField field ++ more) Err d ≡ unless (sheet_checks b x barcodeField field ++ more) Err e
   unfolding unless sheet_checks header_checks
   sheet_refused x barcodeField field more d e bad = rw bad
 

@@ -4,6 +4,8 @@
 pub mod Range
 -- Rules: what the header says, refusals 1 to 10 in their order, records and deletion bytes
 pub mod Table
+-- Rules: the types of fields and their letters
+pub mod FieldTypes
 -- Laws: a loop over the numbers below a bound meets the rule
 pub mod RangeLaws
 -- Laws: the first check that fails, and what a table without refusal gives every call on it

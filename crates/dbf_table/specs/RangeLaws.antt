@@ -1,13 +1,31 @@
 -- Laws: a loop over the numbers below a bound meets `all_below`, `any_below` and `sum_below`: one number more, a number that decides, and what a
 -- test of all says of each. Assumes nothing.
 use Prim.Native.Nat.{ℕ, zero, suc, ◌+◌, ◌≤◌, ◌<◌}
-use Rattle.std.specs.Prelude.{◌≡◌, Bool, true, false}
+use Rattle.std.specs.Prelude.{◌≡◌, Bool, true, false, ◌&&◌, ◌||◌}
+use Rattle.std.specs.List.{range_with_len, list_all, list_any}
 use Rattle.std.proofs.Math.Path.{refl}
-use Rattle.std.proofs.Common.{subst, eq-or-lt_of_le, le_of_suc-le-suc, not-suc-le-zero, add-one, arith}
-use Rattle.std.proofs.Math.Bool.{and-false, or-true, or-false}
+use Rattle.std.proofs.Common.{sym, ap, ◌∙◌, add-zero, zero-add, subst, eq-or-lt_of_le, le_of_suc-le-suc, not-suc-le-zero, add-one, arith}
+use Rattle.std.proofs.Math.Bool.{and-true, and-false, or-true, or-false}
 use Rattle.std.proofs.Math.Logic.{⊎_elim}
 use Rattle.basis.specs.Tests.{both}
 use Rattle.dbf_table.specs.Range.{all_below, any_below, sum_below}
+
+-- the first test of three goes last
+and_turned : (x y z : Bool) → (x && y && z) ≡ (y && (z && x))
+and_turned true true true = refl
+and_turned true true false = refl
+and_turned true false z = refl
+and_turned false true true = refl
+and_turned false true false = refl
+and_turned false false z = refl
+
+or_turned : (x y z : Bool) → (x || y || z) ≡ (y || (z || x))
+or_turned false false false = refl
+or_turned false false true = refl
+or_turned false true z = refl
+or_turned true false true = refl
+or_turned true false false = refl
+or_turned true true z = refl
 
 module _ (test : ℕ → Bool) where
   pub all_none : all_below test 0 ≡ true
@@ -58,6 +76,41 @@ module _ (test : ℕ → Bool) where
   any_stop i (suc n) l e =
       ⊎_elim (λ (q : i ≡ n). rw (subst (λ (k : ℕ). test k ≡ true) q e) (or-true (any_below test n)))
       (λ lt. rw (any_stop i n lt e)) (eq-or-lt_of_le (le_of_suc-le-suc l))
+
+  -- one number more
+  all_below-more : (i : ℕ) → all_below test (i + 1) ≡ (all_below test i && test i)
+  unfolding all_below
+  all_below-more i = rw (add-one i)
+
+  any_below-more : (i : ℕ) → any_below test (i + 1) ≡ (any_below test i || test i)
+  unfolding any_below
+  any_below-more i = rw (add-one i)
+
+  -- the test of the n numbers from a on, beside that of the numbers below a
+  all_from : (n a : ℕ) → (list_all test (range_with_len a n) && all_below test a) ≡ all_below test (a + n)
+  all_from zero a = rw add-zero
+  all_from (suc n) a =
+      let shifted : a + 1 + n ≡ a + suc n = omega arith in
+      and_turned (test a) (list_all test (range_with_len (a + 1) n)) (all_below test a)
+      ∙ rw (← all_below-more a) (all_from n (a + 1) ∙ ap (all_below test) shifted)
+
+  any_from : (n a : ℕ) → (list_any test (range_with_len a n) || any_below test a) ≡ any_below test (a + n)
+  any_from zero a = rw add-zero
+  any_from (suc n) a =
+      let shifted : a + 1 + n ≡ a + suc n = omega arith in
+      or_turned (test a) (list_any test (range_with_len (a + 1) n)) (any_below test a)
+      ∙ rw (← any_below-more a) (any_from n (a + 1) ∙ ap (any_below test) shifted)
+
+  -- a chain over the numbers below n meets the rule
+  pub all_listed : (n : ℕ) → list_all test (range_with_len 0 n) ≡ all_below test n
+  unfolding all_below
+  all_listed n =
+      sym (and-true (list_all test (range_with_len 0 n))) ∙ all_from n 0 ∙ ap (all_below test) (zero-add n)
+
+  pub any_listed : (n : ℕ) → list_any test (range_with_len 0 n) ≡ any_below test n
+  unfolding any_below
+  any_listed n =
+      sym (or-false (list_any test (range_with_len 0 n))) ∙ any_from n 0 ∙ ap (any_below test) (zero-add n)
 
 -- tests and amounts that agree on every number below a bound
 pub any_same : (p q : ℕ → Bool) (n : ℕ) → ((j : ℕ) → j < n → p j ≡ q j) → any_below p n ≡ any_below q n

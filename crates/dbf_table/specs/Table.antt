@@ -1,6 +1,6 @@
 -- Rules: document 01, "The table": what a table's header says, and refusals 1 to 10 in their order. Cited by every call on a table, which answers by
 -- these first.
-use Rattle.std.specs.Prelude.{ℕ, ◌+◌, ◌*◌, ◌-◌, ◌/◌, List, [], ◌∷◌, Bool, cond, not, ◌&&◌, ◌||◌, length, eqb, leb}
+use Rattle.std.specs.Prelude.{ℕ, ◌+◌, ◌*◌, ◌-◌, ◌/◌, List, [], ◌∷◌, Bool, cond, not, ◌&&◌, ◌||◌, length, eqb, leb, Err, Ok, Result}
 use Rattle.refusal.specs.Checks.{first_refusal}
 use Rattle.octets.specs.Bytes.{byte_at, le16, le32}
 use Rattle.octets.specs.Text.{is_digit}
@@ -8,8 +8,10 @@ use Rattle.calendar.specs.Calendar.{is_date}
 use Rattle.numeral.specs.Format.{format_good}
 use Rattle.dbf_table.specs.Range.{all_below, any_below, sum_below}
 use Rattle.dbf_table.specs.declared.Shape.{Shape}
-use Rattle.dbf_table.specs.declared.Checked.{Checked}
-use Rattle.dbf_table.specs.declared.Checked.TheVariants.{Good, Refused}
+
+-- what the check of a table says: its shape, or a refusal's number
+abbrev pub Checked : Type 0
+Checked = Result Shape ℕ
 
 -- ---- limits
 
@@ -270,4 +272,4 @@ shape_of b = record {
 
 -- the table's shape, or the number of its refusal
 unfoldable pub check_table : List ℕ → Checked
-check_table b = cond (eqb (table_refusal b) 0) (Good (shape_of b)) (Refused (table_refusal b))
+check_table b = cond (eqb (table_refusal b) 0) (Ok (shape_of b)) (Err (table_refusal b))

@@ -1,5 +1,5 @@
 -- Laws: what each check gives the later ones, and what a table without refusal gives every call on it (`Layout`). Assumes nothing.
-use Rattle.std.specs.Prelude.{ℕ, ◌+◌, ◌*◌, ◌≤◌, ◌<◌, ◌≡◌, Bool, true, ◌&&◌, List, ◌++◌, length, eqb, leb}
+use Rattle.std.specs.Prelude.{ℕ, ◌+◌, ◌*◌, ◌≤◌, ◌<◌, ◌≡◌, Bool, true, ◌&&◌, List, ◌++◌, length, eqb, leb, Err, Ok}
 use Rattle.std.proofs.Common.{sym, ap, ◌∙◌, arith, lit<, leb-true, eqb-true, eq-eqb, ne_eqb}
 use Rattle.std.proofs.lemmas.Bool.{eqb-false}
 use Rattle.basis.specs.Tests.{either, both, impossible}
@@ -12,7 +12,6 @@ use Rattle.dbf_table.specs.Table.{min_table, max_table, max_fields, max_record, 
 use Rattle.dbf_table.specs.Table.{records_end, field_count, field_offset, size_good, kind_good, header_good, descriptor_good, fields_good, record_length_good}
 use Rattle.dbf_table.specs.Table.{length_good, table_checks, table_refusal, shape_of, check_table}
 use Rattle.dbf_table.specs.declared.Shape.{Shape}
-use Rattle.dbf_table.specs.declared.Checked.TheVariants.{Good, Refused}
 
 -- ---- single checks
 
@@ -91,22 +90,22 @@ layout b e =
 
 -- ---- the answer
 
-pub check_good : (b : List ℕ) → table_refusal b ≡ 0 → check_table b ≡ Good (shape_of b)
+pub check_good : (b : List ℕ) → table_refusal b ≡ 0 → check_table b ≡ Ok (shape_of b)
 unfolding check_table
 check_good b e = rw (eq-eqb (table_refusal b) 0 e)
 
-pub check_refused : (b : List ℕ) → (table_refusal b ≡ 0 → ⊥) → check_table b ≡ Refused (table_refusal b)
+pub check_refused : (b : List ℕ) → (table_refusal b ≡ 0 → ⊥) → check_table b ≡ Err (table_refusal b)
 unfolding check_table
 check_refused b e = rw (ne_eqb (table_refusal b) 0 e)
 
 -- what a caller learns from the answer's case
-pub good_check : (b : List ℕ) (s : Shape) → check_table b ≡ Good s → (table_refusal b ≡ 0) × (s ≡ shape_of b)
+pub good_check : (b : List ℕ) (s : Shape) → check_table b ≡ Ok s → (table_refusal b ≡ 0) × (s ≡ shape_of b)
 good_check b s e =
     either (eqb (table_refusal b) 0)
     (λ z. let zero = eqb-true (table_refusal b) 0 z in let q = check_good b zero in (zero, cc))
     (λ z. let q = check_refused b (eqb-false (table_refusal b) 0 z) in impossible (cc))
 
-pub refused_check : (b : List ℕ) (n : ℕ) → check_table b ≡ Refused n → (n ≡ table_refusal b) × (n ≡ 0 → ⊥)
+pub refused_check : (b : List ℕ) (n : ℕ) → check_table b ≡ Err n → (n ≡ table_refusal b) × (n ≡ 0 → ⊥)
 refused_check b n e =
     either (eqb (table_refusal b) 0)
     (λ z. let q = check_good b (eqb-true (table_refusal b) 0 z) in impossible (cc))
@@ -123,7 +122,7 @@ pub record Shaped (b : List ℕ) (s : Shape) : Type 0 where
   pub length : s.record_length ≡ record_length_of b
   pub fields : s.fields ≡ field_count b
 
-pub good_shape : (b : List ℕ) (s : Shape) → check_table b ≡ Good s → Shaped b s
+pub good_shape : (b : List ℕ) (s : Shape) → check_table b ≡ Ok s → Shaped b s
 unfolding shape_of
 good_shape b s e =
     let good = good_check b s e in
@@ -137,11 +136,11 @@ good_shape b s e =
     }
 
 -- a call whose checks come after the table's: its refusal, in each case of the table's answer
-pub good_then : (b : List ℕ) (s : Shape) (more : List (Bool × ℕ)) → check_table b ≡ Good s → first_refusal (table_checks b ++ more) ≡ first_refusal more
+pub good_then : (b : List ℕ) (s : Shape) (more : List (Bool × ℕ)) → check_table b ≡ Ok s → first_refusal (table_checks b ++ more) ≡ first_refusal more
 unfolding table_refusal
 good_then b s more e = first-after (table_checks b) more (table-numbered b) (good_check b s e).0
 
-pub refused_then : (b : List ℕ) (n : ℕ) (more : List (Bool × ℕ)) → check_table b ≡ Refused n → first_refusal (table_checks b ++ more) ≡ n
+pub refused_then : (b : List ℕ) (n : ℕ) (more : List (Bool × ℕ)) → check_table b ≡ Err n → first_refusal (table_checks b ++ more) ≡ n
 unfolding table_refusal
 refused_then b n more e =
     let refused = refused_check b n e in

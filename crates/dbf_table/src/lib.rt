@@ -5,6 +5,7 @@ ghost use Rattle.std.specs.Prelude.{◌+◌, ◌*◌, ◌≤◌, ◌<◌, ◌≡
 ghost use Rattle.dbf_table.specs.Table.{min_table, record_count, header_length_of, record_length_of, field_count};
 ghost use Rattle.dbf_table.specs.Table.{size_good, kind_good, date_good, header_good, end_mark_good};
 ghost use Rattle.dbf_table.specs.Table.{storable_date};
+ghost use Rattle.dbf_table.specs.FieldTypes.{letter_of, type_of};
 ghost use Rattle.dbf_table.specs.TableLaws.{HeaderFits};
 
 const MIN_TABLE: usize = 32;
@@ -37,29 +38,58 @@ pub const MAX_RECORD: usize = 4000;
 
 pub const MAX_TEXT: u32 = 254;
 
-pub const PLAIN_KIND: u32 = 0x03;
+// The kind of a table, which says whether it has memo fields. A kind stays the byte of the file: code compares it and stores it, and branches on it nowhere.
+pub const PLAIN_KIND: u8 = 0x03;
 
-pub const MEMO_KIND: u32 = 0xF5;
+pub const MEMO_KIND: u8 = 0xF5;
 
 pub const END_MARK: u8 = 0x0D;
 
 pub const FILE_END: u8 = 0x1A;
 
-// The deletion byte of a record that is kept, and of a deleted record.
+// The deletion byte of a record that is kept, and of a deleted record. It stays a byte: a record of a good table may hold any other, which its reader refuses.
 pub const KEPT: u32 = 0x20;
 
 pub const DELETED: u32 = 0x2A;
 
-// The types of fields.
-pub const TYPE_C: u32 = 0x43;
+// The types of fields, each by the letter that a descriptor has for it.
+#[derive(Clone, Copy, Debug, PartialEq, Eq)]
+pub enum FieldType {
+    Text,
+    Number,
+    Date,
+    Logical,
+    Memo,
+}
 
-pub const TYPE_N: u32 = 0x4E;
+impl FieldType {
+    // The type that a letter stands for, if it stands for one.
+    pub fn of_letter(letter: u8) -> Option<FieldType>
+        ensures { result ≡ type_of letter }
+    {
+        match letter {
+            b'C' => Some(FieldType::Text),
+            b'N' => Some(FieldType::Number),
+            b'D' => Some(FieldType::Date),
+            b'L' => Some(FieldType::Logical),
+            b'M' => Some(FieldType::Memo),
+            _ => None,
+        }
+    }
 
-pub const TYPE_D: u32 = 0x44;
-
-pub const TYPE_L: u32 = 0x4C;
-
-pub const TYPE_M: u32 = 0x4D;
+    // The type's letter.
+    pub fn letter(self) -> u8
+        ensures { result ≡ letter_of self }
+    {
+        match self {
+            FieldType::Text => b'C',
+            FieldType::Number => b'N',
+            FieldType::Date => b'D',
+            FieldType::Logical => b'L',
+            FieldType::Memo => b'M',
+        }
+    }
+}
 
 // Where the descriptors begin, how long each is, and where its type, length and decimals stand.
 pub const DESCRIPTORS: usize = 32;
@@ -80,33 +110,30 @@ pub const NAME_LAST: usize = 10;
 // What the header of a good table says.
 #[derive(Clone, Copy)]
 pub struct Shape {
-    pub kind: u32,
+    pub kind: u8,
     pub records: u32,
     pub header_length: usize,
     pub record_length: usize,
     pub fields: usize,
 }
 
-#[derive(Clone, Copy)]
-pub enum Checked {
-    Good(Shape),
-    Refused(u32),
-}
-
+#[tactic(auto, unfolding(crate::specs::Table::size_good))]
 pub fn size_good(table: &[u8]) -> bool
     ensures { result ≡ size_good table.now }
 {
-    (MIN_TABLE <= table.len()) & (table.len() <= MAX_TABLE)
+    MIN_TABLE <= table.len() && table.len() <= MAX_TABLE
 }
 
+#[tactic(auto, unfolding(crate::specs::Table::kind_good))]
 pub fn kind_good(table: &[u8]) -> bool
     requires { min_table ≤ length table.now }
     ensures { result ≡ kind_good table.now }
 {
-    let kind = octets::byte(table, KIND_AT);
-    (kind == PLAIN_KIND) | (kind == MEMO_KIND)
+    let kind = table[KIND_AT];
+    kind == PLAIN_KIND || kind == MEMO_KIND
 }
 
+#[tactic(auto, unfolding(crate::specs::Table::date_good))]
 pub fn date_good(table: &[u8]) -> bool
     requires { min_table ≤ length table.now }
     ensures { result ≡ date_good table.now }
@@ -120,13 +147,14 @@ pub fn date_good(table: &[u8]) -> bool
 }
 
 // Whether the header can hold a date: a calendar date whose year less 1900 is a byte.
+#[tactic(auto, unfolding(crate::specs::Table::storable_date))]
 pub fn storable_date(year: u32, month: u32, day: u32) -> bool
     ensures { result ≡ storable_date year month day }
 {
-    let real = calendar::is_date(year, month, day);
-    (FIRST_YEAR <= year) & (year <= LAST_YEAR) & real
+    FIRST_YEAR <= year && year <= LAST_YEAR && calendar::is_date(year, month, day)
 }
 
+#[tactic(auto, unfolding(crate::specs::Table::header_length_of))]
 pub fn header_length(table: &[u8]) -> usize
     requires { min_table ≤ length table.now }
     ensures { (result ≡ header_length_of table.now) × (result < 65536) }
@@ -134,6 +162,7 @@ pub fn header_length(table: &[u8]) -> usize
     octets::load_le16(table, HEADER_LENGTH_AT) as usize
 }
 
+#[tactic(auto, unfolding(crate::specs::Table::record_length_of))]
 pub fn record_length(table: &[u8]) -> usize
     requires { min_table ≤ length table.now }
     ensures { (result ≡ record_length_of table.now) × (result < 65536) }
@@ -141,6 +170,7 @@ pub fn record_length(table: &[u8]) -> usize
     octets::load_le16(table, RECORD_LENGTH_AT) as usize
 }
 
+#[tactic(auto, unfolding(crate::specs::Table::record_count))]
 pub fn record_count(table: &[u8]) -> u32
     requires { min_table ≤ length table.now }
     ensures { result ≡ record_count table.now }
@@ -148,6 +178,7 @@ pub fn record_count(table: &[u8]) -> u32
     octets::load_le32(table, COUNT_AT)
 }
 
+#[tactic(auto, unfolding(crate::specs::Table::field_count))]
 pub fn field_count(table: &[u8]) -> usize
     requires { min_table ≤ length table.now }
     ensures { (result ≡ field_count table.now) × (result < 2048) }
@@ -159,15 +190,17 @@ pub fn field_count(table: &[u8]) -> usize
     (length - 33) / 32
 }
 
+#[tactic(auto, unfolding(crate::specs::Table::header_good))]
 pub fn header_good(table: &[u8]) -> bool
     requires { min_table ≤ length table.now }
     ensures { result ≡ header_good table.now }
 {
     let length = header_length(table);
     let fields = field_count(table);
-    (length == 33 + 32 * fields) & (1 <= fields) & (fields <= MAX_FIELDS) & (length <= table.len())
+    length == 33 + 32 * fields && 1 <= fields && fields <= MAX_FIELDS && length <= table.len()
 }
 
+#[tactic(auto, unfolding(crate::specs::Table::end_mark_good))]
 pub fn end_mark_good(table: &[u8]) -> bool
     requires { HeaderFits table.now }
     ensures { result ≡ end_mark_good table.now }

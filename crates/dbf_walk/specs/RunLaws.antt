@@ -1,7 +1,7 @@
 -- Laws: either walk from any position to done. The default hands out every record, in order, with its mark, and 15 for each bad deletion byte; the skipping
 -- walk gives the same answers but for the deleted records. Assumes nothing.
 use Prim.Native.Nat.{ℕ, zero, suc, ◌+◌, ◌-◌, ◌≤◌, ◌<◌}
-use Rattle.std.specs.Prelude.{◌≡◌, Bool, true, false, ◌&&◌, cond, length, get_or}
+use Rattle.std.specs.Prelude.{◌≡◌, Bool, true, false, ◌&&◌, cond, length, get_or, None, Some, Ok, Err}
 use Rattle.std.proofs.Math.Path.{refl, ap}
 use Rattle.std.proofs.Common.{sym, ◌∙◌, not-suc-le-zero, eqb-true}
 use mathlib.Core.List.{List, [], ◌∷◌, ◌++◌, map}
@@ -10,18 +10,15 @@ use Rattle.std.proofs.Math.Dec.{eqb}
 use Rattle.basis.specs.Tests.{either}
 use Rattle.dbf_table.specs.Table.{record_count, deletion_byte, kept_mark, deleted_mark, table_refusal}
 use Rattle.dbf_walk.specs.declared.Position.{Position}
-use Rattle.dbf_walk.specs.declared.Step.{Step}
-use Rattle.dbf_walk.specs.declared.Step.TheVariants.{Record, Done, Refused}
-use Rattle.dbf_walk.specs.declared.Walked.{Walked}
-use Rattle.dbf_walk.specs.Walk.{marks_from, shown, step_at, step_from, step_by, walk_step, live_step}
+use Rattle.dbf_walk.specs.Walk.{Step, Walked, marks_from, shown, step_at, step_from, step_by, walk_step, live_step}
 
 -- ---- runs
 
 -- an answer and the answers of the calls after it: none after done
 abbrev pub and_then : Step → List Step → List Step
-and_then (Record i deleted) rest = Record i deleted ∷ rest
-and_then Done rest = Done ∷ []
-and_then (Refused n) rest = Refused n ∷ rest
+and_then (Ok (Some r)) rest = Ok (Some r) ∷ rest
+and_then (Ok None) rest = Ok None ∷ []
+and_then (Err n) rest = Err n ∷ rest
 
 -- the answers of at most `calls` calls of a step, each from the position that the last one left, until done
 unfoldable pub walk_run : (Position → Walked) → Position → ℕ → List Step
@@ -61,7 +58,7 @@ module _ (skips : Bool) (b : List ℕ) (good : table_refusal b ≡ 0) where
 
   run-from : (left position passed calls : ℕ) → record_count b - passed ≡ left → left ≤ calls
       → and_then (step_from skips b position passed left).answer (walk_run (step_by skips b) (step_from skips b position passed left).position calls)
-      ≡ handed_out skips (marks_from b passed left) ++ (Done ∷ [])
+      ≡ handed_out skips (marks_from b passed left) ++ (Ok None ∷ [])
   unfolding step_from handed_out shown marks_from
   run-from zero position passed calls e h = refl
   run-from (suc left) position passed zero e h = absurd (not-suc-le-zero h)
@@ -75,7 +72,7 @@ module _ (skips : Bool) (b : List ℕ) (good : table_refusal b ≡ 0) where
 
   -- a walk from any position, with more calls than there are records left
   pub walk-run : (position : Position) (calls : ℕ) → record_count b - position.passed < calls
-      → walk_run (step_by skips b) position calls ≡ handed_out skips (marks_after b position) ++ (Done ∷ [])
+      → walk_run (step_by skips b) position calls ≡ handed_out skips (marks_after b position) ++ (Ok None ∷ [])
   walk-run position zero h = absurd (not-suc-le-zero h)
   walk-run position (suc calls) h =
       let passed = position.passed in
@@ -85,16 +82,16 @@ module _ (skips : Bool) (b : List ℕ) (good : table_refusal b ≡ 0) where
 
 -- an answer before others, left out if it hands out a deleted record
 abbrev pub unless_deleted : Step → List Step → List Step
-unless_deleted (Record i deleted) rest = cond deleted rest (Record i deleted ∷ rest)
-unless_deleted Done rest = Done ∷ rest
-unless_deleted (Refused n) rest = Refused n ∷ rest
+unless_deleted (Ok (Some r)) rest = cond r.deleted rest (Ok (Some r) ∷ rest)
+unless_deleted (Ok None) rest = Ok None ∷ rest
+unless_deleted (Err n) rest = Err n ∷ rest
 
 -- the answers without those that hand out a deleted record
 abbrev pub undeleted : List Step → List Step
 undeleted [] = []
 undeleted (answer ∷ rest) = unless_deleted answer (undeleted rest)
 
-handed_undeleted : (marks : List (ℕ × ℕ)) → undeleted (handed_out false marks ++ (Done ∷ [])) ≡ handed_out true marks ++ (Done ∷ [])
+handed_undeleted : (marks : List (ℕ × ℕ)) → undeleted (handed_out false marks ++ (Ok None ∷ [])) ≡ handed_out true marks ++ (Ok None ∷ [])
 unfolding handed_out shown step_at
 handed_undeleted [] = refl
 handed_undeleted (r ∷ rest) =
@@ -113,19 +110,19 @@ walks_agree b good position calls calls' h h' =
 
 -- ---- the default walk, from 0
 
-handed_length : (b : List ℕ) (left passed : ℕ) → length (handed_out false (marks_from b passed left) ++ (Done ∷ [])) ≡ left + 1
+handed_length : (b : List ℕ) (left passed : ℕ) → length (handed_out false (marks_from b passed left) ++ (Ok None ∷ [])) ≡ left + 1
 unfolding handed_out shown marks_from
 handed_length b zero passed = refl
 handed_length b (suc left) passed = omega (arith, handed_length b left (passed + 1))
 
 handed_at : (b : List ℕ) (left passed k i : ℕ) (past : Step) → i ≡ passed + 1 + k → k < left
-    → get_or (handed_out false (marks_from b passed left) ++ (Done ∷ [])) k past ≡ step_at (i, deletion_byte b i)
+    → get_or (handed_out false (marks_from b passed left) ++ (Ok None ∷ [])) k past ≡ step_at (i, deletion_byte b i)
 unfolding handed_out shown marks_from
 handed_at b zero passed k i past e h = absurd (not-suc-le-zero h)
 handed_at b (suc left) passed zero i past e h = let first : i ≡ passed + 1 = omega arith in rw first
 handed_at b (suc left) passed (suc k) i past e h = handed_at b left (passed + 1) k i past (omega arith) (omega arith)
 
-handed_done : (b : List ℕ) (left passed : ℕ) (past : Step) → get_or (handed_out false (marks_from b passed left) ++ (Done ∷ [])) left past ≡ Done
+handed_done : (b : List ℕ) (left passed : ℕ) (past : Step) → get_or (handed_out false (marks_from b passed left) ++ (Ok None ∷ [])) left past ≡ Ok None
 unfolding handed_out shown marks_from
 handed_done b zero passed past = refl
 handed_done b (suc left) passed past = handed_done b left (passed + 1) past
@@ -134,7 +131,7 @@ handed_done b (suc left) passed past = handed_done b left (passed + 1) past
 pub record Whole (b : List ℕ) (answers : List Step) : Type 0 where
   pub count : length answers ≡ record_count b + 1
   pub each : (i : ℕ) (past : Step) → 1 ≤ i → i ≤ record_count b → get_or answers (i - 1) past ≡ step_at (i, deletion_byte b i)
-  pub ends : (past : Step) → get_or answers (record_count b) past ≡ Done
+  pub ends : (past : Step) → get_or answers (record_count b) past ≡ Ok None
 
 pub walk-whole : (b : List ℕ) → table_refusal b ≡ 0 → (calls : ℕ) → record_count b < calls → Whole b (walk_run (walk_step b) (record { passed = 0 }) calls)
 walk-whole b good calls h =

@@ -4,9 +4,8 @@
 ghost use Rattle.std.specs.Prelude.{◌≡◌};
 ghost use Rattle.dilution.specs.Dilution.{dilute_rule};
 ghost use Rattle.handed.specs.Out.{out};
-ghost use Rattle.dilute_call.specs.Volumes.{volumes, volumes_out};
-
-use dilution::Dilution;
+ghost use Rattle.dilution.specs.Dilution.{volumes};
+ghost use Rattle.dilute_call.specs.Volumes.{volumes_out};
 
 // The dilution of one barcode: the volumes of sample and diluent, in tenths of a microlitre.
 pub fn dilute(
@@ -35,14 +34,11 @@ pub fn dilute(
         final_volume,
     );
     match answer {
-        Dilution::Volumes {
-            sample: drawn,
-            diluent: added,
-        } => {
-            *sample = drawn;
-            *diluent = added;
+        Ok(volumes) => {
+            *sample = volumes.sample;
+            *diluent = volumes.diluent;
             0
         }
-        Dilution::Refused(refusal) => refusal,
+        Err(refusal) => refusal.number(),
     }
 }

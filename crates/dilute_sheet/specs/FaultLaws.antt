@@ -1,15 +1,13 @@
 -- Laws: how the code finds what is wrong with an input; something is wrong exactly if the input is 40. Assumes nothing.
-use Rattle.std.specs.Prelude.{ℕ, suc, ◌+◌, ◌-◌, ◌≤◌, ◌<◌, ◌≡◌, refl, Bool, true, false, cond, List, length, eqb, leb}
+use Rattle.std.specs.Prelude.{ℕ, suc, ◌+◌, ◌-◌, ◌≤◌, ◌<◌, ◌≡◌, refl, Bool, true, false, cond, List, length, eqb, leb, Result, Ok, Err}
 use Rattle.std.proofs.Common.{sym, ◌∙◌, arith}
 use borrow.Author.Tests.{le-leb, lt-leb, leb-false, eq-eqb, ne_eqb, eqb-false}
 use Rattle.basis.specs.Tests.{either, contra, join, first_arm, impossible}
 use Rattle.octets.specs.Bytes.{byte_at}
-use Rattle.dilute_sheet.specs.Input.{line_feed, digits_at, line_good, line_at, request_of, input_of}
+use Rattle.dilute_sheet.specs.Input.{Line, line_feed, digits_at, line_good, line_at, request_of, input_of}
 use Rattle.dilute_sheet.specs.InputLaws.{next-some, input_asked}
 use Rattle.dilute_sheet.specs.Fault.{carriage_return, wrong_at, wrong_after, fault, fault_from, input_fault}
-use Rattle.dilute_sheet.specs.declared.input.NumberLine.{NumberLine}
 use Rattle.dilute_sheet.specs.declared.input.Request.{Request}
-use Rattle.dilute_sheet.specs.declared.input.Input.TheVariants.{Asked, Other}
 use Rattle.dilute_sheet.specs.declared.input.Wrong.TheVariants.{Nothing, Missing, TooLong, Unended, CarriageReturn, OtherByte, Empty}
 
 -- ---- a line; its digits end at `end`
@@ -55,7 +53,7 @@ module _ (s : List ℕ) (at end : ℕ) (is : end ≡ at + length (digits_at s at
 
 -- ---- the lines, one after another; n is the next one's number
 
-module _ (s : List ℕ) (n at : ℕ) (found : NumberLine) (is : found ≡ line_at s at) (early : n < 5) where
+module _ (s : List ℕ) (n at : ℕ) (found : Line) (is : found ≡ line_at s at) (early : n < 5) where
   left : 5 - n ≡ suc (5 - (n + 1))
   left = omega arith
 
@@ -73,7 +71,7 @@ fault-after s n at few many = let none : 5 - n ≡ 0 = omega arith in rw none
 
 -- ---- something is wrong exactly if the input is 40
 
-other-asked : (q : Request) → Asked q ≡ Other → ⊥
+other-asked : (q : Request) → ◌≡◌ {A = Result Request ℕ} (Ok q) (Err 40) → ⊥
 other-asked q e = impossible (cc)
 
 second_arm : {A : Type 0} {x y z : A} (b : Bool) → (x ≡ z → ⊥) → cond b x y ≡ z → (b ≡ false) × (y ≡ z)
@@ -107,7 +105,7 @@ unfolding fault_from wrong_after
 nothing-after s n at e = (first_arm (eqb at (length s)) (λ h. impossible (cc)) e).0
 
 -- Theorem: an input that is 40 has a fault with a name
-pub fault-named : (s : List ℕ) → input_of s ≡ Other → (input_fault s).wrong ≡ Nothing → ⊥
+pub fault-named : (s : List ℕ) → input_of s ≡ Err 40 → (input_fault s).wrong ≡ Nothing → ⊥
 unfolding input_fault
 fault-named s other nothing =
     let first = line_at s 0 in

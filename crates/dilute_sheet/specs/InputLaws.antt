@@ -1,5 +1,5 @@
 -- Laws: how the code reads a line of the input. Assumes nothing.
-use Rattle.std.specs.Prelude.{ℕ, ◌+◌, ◌-◌, ◌≤◌, ◌<◌, ◌≡◌, refl, Bool, true, false, ◌&&◌, take, eqb}
+use Rattle.std.specs.Prelude.{ℕ, ◌+◌, ◌-◌, ◌≤◌, ◌<◌, ◌≡◌, refl, Bool, true, false, ◌&&◌, take, eqb, Some, Result, Ok, Err}
 use Rattle.std.proofs.Common.{ap, ◌∙◌, add-one, drop-cons}
 use mathlib.Core.List.{List, [], ◌∷◌}
 use native.Mathlib.Omega.{arith}
@@ -10,13 +10,10 @@ use Rattle.basis.specs.Tests.{either}
 use Rattle.octets.specs.Bytes.{byte_at}
 use Rattle.octets.specs.Text.{is_digit, number_of, digits_of}
 use Rattle.octets.specs.TextLaws.{digits-read}
-use Rattle.octets.specs.declared.Digits.TheVariants.{Number}
 use Rattle.numeral.specs.Reading.{front}
 use Rattle.numeral.specs.ReadingLaws.{front-more, front_ends, every_front}
-use Rattle.dilute_sheet.specs.declared.input.NumberLine.{NumberLine}
-use Rattle.dilute_sheet.specs.declared.input.Input.{Input}
-use Rattle.dilute_sheet.specs.declared.input.Input.TheVariants.{Asked, Other}
-use Rattle.dilute_sheet.specs.Input.{line_feed, digits_at, line_good, no_line, line_at, next_line, request_of, input_of, four_lines, four_numbers, InputAnswer}
+use Rattle.dilute_sheet.specs.declared.input.Request.{Request}
+use Rattle.dilute_sheet.specs.Input.{Line, line_feed, digits_at, line_good, no_line, line_at, next_line, request_of, input_of, four_lines, four_numbers, InputAnswer}
 
 -- ---- the digits, one after another
 
@@ -56,7 +53,7 @@ module _ (s : List ℕ) (at end : ℕ) (is : end ≡ at + length (digits_at s at
   count = omega arith
 
   -- the digits that are read are those of the line
-  pub line_digits : digits_of (take (end - at) (drop at s)) ≡ Number (number_of (digits_at s at))
+  pub line_digits : digits_of (take (end - at) (drop at s)) ≡ Some (number_of (digits_at s at))
   line_digits = rw (count, front_take is_digit (drop at s)) (digits-read (digits_at s at) (every_front is_digit (drop at s)))
 
   bad_line : line_good s at ≡ false → line_at s at ≡ no_line
@@ -97,7 +94,7 @@ module _ (s : List ℕ) (at end : ℕ) (is : end ≡ at + length (digits_at s at
 
 -- ---- four lines
 
-module _ (s : List ℕ) (before : NumberLine) where
+module _ (s : List ℕ) (before : Line) where
   pub next-none : before.good ≡ false → next_line s before ≡ no_line
   unfolding next_line
   next-none e = rw e
@@ -106,18 +103,18 @@ module _ (s : List ℕ) (before : NumberLine) where
   unfolding next_line
   next-some e = rw e
 
-module _ (s : List ℕ) (first second third fourth : NumberLine) (a : first ≡ line_at s 0) (b : second ≡ next_line s first) (c : third ≡ next_line s second)
+module _ (s : List ℕ) (first second third fourth : Line) (a : first ≡ line_at s 0) (b : second ≡ next_line s first) (c : third ≡ next_line s second)
     (d : fourth ≡ next_line s third) where
-  pub input_asked : fourth.good && eqb fourth.end (length s) ≡ true → input_of s ≡ Asked (request_of first second third fourth)
+  pub input_asked : fourth.good && eqb fourth.end (length s) ≡ true → input_of s ≡ Ok (request_of first second third fourth)
   unfolding input_of
   input_asked e = rw (← a, ← b, ← c, ← d, e)
 
-  pub input_other : fourth.good && eqb fourth.end (length s) ≡ false → input_of s ≡ Other
+  pub input_other : fourth.good && eqb fourth.end (length s) ≡ false → input_of s ≡ Err 40
   unfolding input_of
   input_other e = rw (← a, ← b, ← c, ← d, e)
 
 -- the answer's number and values, by its case
-pub input_answer : (s : List ℕ) (r : Input) → r ≡ input_of s → InputAnswer s r
+pub input_answer : (s : List ℕ) (r : Result Request ℕ) → r ≡ input_of s → InputAnswer s r
 unfolding input_of four_lines four_numbers request_of
 input_answer s r e = record {
   case = e;

@@ -1,7 +1,7 @@
 -- Laws: how long a sheet's text is at most: so a buffer of 7 times the table's bytes and 4 more holds all of it. No proof of the code cites them: they are for
 -- who lends the buffer. Assumes nothing.
+use Rattle.std.specs.Prelude.{◌≡◌, refl, Bool, true, List, [], ◌∷◌, ◌++◌, length, eqb, Err, None, Ok, Some, Result}
 use Prim.Native.Nat.{ℕ, zero, suc, ◌+◌, ◌*◌, ◌-◌, ◌^◌, ◌≤◌, ◌<◌}
-use Rattle.std.specs.Prelude.{◌≡◌, refl, Bool, true, List, [], ◌∷◌, ◌++◌, length, eqb}
 use Rattle.std.proofs.Common.{add-mul, length-take, lit<, eqb-true, ltb-true, leb-true}
 use Rattle.std.proofs.Math.Nat.{mul_left_comm, mul-le-mul_left}
 use native.Mathlib.Omega.{arith}
@@ -13,8 +13,7 @@ use Rattle.refusal.specs.Checks.{first_refusal, unless}
 use Rattle.octets.specs.Store.{window}
 use Rattle.octets.specs.Text.{decimal}
 use Rattle.octets.specs.DigitLaws.{decimal-fits}
-use Rattle.numeral.specs.declared.Number.{Number}
-use Rattle.numeral.specs.declared.Number.TheVariants as text
+use Rattle.numeral.specs.Format.{Number}
 use Rattle.dbf_table.specs.Table.{record_count, record_length_of, records_end, field_length, deletion_byte, deleted_mark}
 use Rattle.dbf_table.specs.Table.{table_checks, table_refusal}
 use Rattle.dbf_table.specs.TableLaws.{layout}
@@ -34,11 +33,8 @@ use Rattle.dilution.specs.StepLaws.{range_bounds}
 use Rattle.dilution.specs.VolumeLaws.{sample-most}
 use Rattle.dilution.specs.BarcodeLaws.{good-table, known}
 use Rattle.dilution.specs.DilutionLaws.{sheet_good}
-use Rattle.dilution.specs.declared.Dilution.{Dilution}
-use Rattle.dilution.specs.declared.Dilution.TheVariants.{Volumes, Refused}
+use Rattle.dilution.specs.Dilution.{Dilution}
 use Rattle.dilute_sheet.specs.declared.input.Request.{Request}
-use Rattle.dilute_sheet.specs.declared.input.Input.{Input}
-use Rattle.dilute_sheet.specs.declared.input.Input.TheVariants.{Asked, Other}
 use Rattle.dilute_sheet.specs.Input.{line_feed, input_of}
 use Rattle.dilute_sheet.specs.Sheet.{number_text, answer_text, answer_on, record_line, lines_after, alone_text, request_text, input_text, sheet_text}
 
@@ -48,13 +44,13 @@ abbrev Low : Bool × ℕ → Type 0
 Low check = check.1 < 256
 
 abbrev Small : Dilution → Type 0
-Small (Volumes sample diluent) = (sample ≤ 10000) × (diluent ≤ 10000)
-Small (Refused n) = n < 256
+Small (Ok v) = (v.sample ≤ 10000) × (v.diluent ≤ 10000)
+Small (Err n) = n < 256
 
 unless-small : (checks : List (Bool × ℕ)) (d : Dilution) → All Low checks → (All (λ check. check.0 ≡ true) checks → Small d)
-    → Small (unless checks Refused d)
+    → Small (unless checks Err d)
 unless-small checks d low after =
-    unless-cases Refused d (λ n. n < 256) checks (all_map Low (Refuses (λ n. n < 256)) (λ check l bad. l) checks low)
+    unless-cases Err d (λ n. n < 256) checks (all_map Low (Refuses (λ n. n < 256)) (λ check l bad. l) checks low)
     (λ held made. rw made (after held))
     (λ n l refused. rw refused l)
 
@@ -76,13 +72,13 @@ sheet_low t b barcodeField field =
 
 text_low : (t : List ℕ) (i field : ℕ) (n : Number) → concentration_text t i field ≡ n → number_refusal n < 256
 unfolding number_refusal concentration_text
-text_low t i field (text.Value v) e = lit< tt
-text_low t i field text.Empty e = lit< tt
-text_low t i field (text.Refused n) e = (number-numbered (field_bytes t i field) concentration_decimals n e).1
+text_low t i field (Ok (Some v)) e = lit< tt
+text_low t i field (Ok None) e = lit< tt
+text_low t i field (Err n) e = (number-numbered (field_bytes t i field) concentration_decimals n e).1
 
 volumes-small : (c target final : ℕ) → Small (dilution_of c target final)
 unfolding dilution_of volume_checks volumes_of
-volumes-small c target final = unless-small (volume_checks c target final) (volumes_of c target final) (lit< tt, (lit< tt, (lit< tt, tt)))
+volumes-small c target final = unless-small (volume_checks c target final) (Ok (volumes_of c target final)) (lit< tt, (lit< tt, (lit< tt, tt)))
     (λ good.
     let most = sample-most c target final (ltb-true 0 c good.0) (leb-true target c good.1.1.0) in
     let bounds = range_bounds target final good.1.0 in
@@ -106,11 +102,11 @@ number_short n k some l = let short = (decimal-fits n k some).1 l in omega arith
 
 answer-short : (d : Dilution) → Small d → length (answer_text d) ≤ 13
 unfolding answer_text
-answer-short (Volumes sample diluent) small =
-    let first = number_short sample 5 (omega arith) (omega arith) in
-    let second = number_short diluent 5 (omega arith) (omega arith) in
-    omega (arith, length-append (number_text sample) (number_text diluent ++ (line_feed ∷ [])), length-append (number_text diluent) (line_feed ∷ []))
-answer-short (Refused n) small = omega (arith, number_short n 3 (omega arith) (omega arith), length-append (number_text n) (line_feed ∷ []))
+answer-short (Ok v) small =
+    let first = number_short v.sample 5 (omega arith) (omega arith) in
+    let second = number_short v.diluent 5 (omega arith) (omega arith) in
+    omega (arith, length-append (number_text v.sample) (number_text v.diluent ++ (line_feed ∷ [])), length-append (number_text v.diluent) (line_feed ∷ []))
+answer-short (Err n) small = omega (arith, number_short n 3 (omega arith) (omega arith), length-append (number_text n) (line_feed ∷ []))
 
 alone-short : (n : ℕ) → n < 256 → length (alone_text n) ≤ 4
 unfolding alone_text
@@ -169,10 +165,10 @@ module _ (t b : List ℕ) (q : Request) where
       (λ e. rw e (omega (arith, lines_short (record_count t) 0, records-short (eqb-true refusal 0 e))))
       (λ e. rw e (omega (arith, alone-short refusal low)))
 
-input_short : (t b : List ℕ) (i : Input) → length (input_text t b i) ≤ 7 * length t + 4
+input_short : (t b : List ℕ) (i : Result Request ℕ) → length (input_text t b i) ≤ 7 * length t + 4
 unfolding input_text
-input_short t b (Asked q) = request_short t b q
-input_short t b Other = omega (arith, alone-short 40 (lit< tt))
+input_short t b (Ok q) = request_short t b q
+input_short t b (Err n) = omega (arith, alone-short 40 (lit< tt))
 
 -- Theorem: the text of a sheet has at most 7 times the table's bytes, and 4 more
 pub sheet_short : (t b s : List ℕ) → length (sheet_text t b s) ≤ 7 * length t + 4

@@ -1,16 +1,13 @@
 -- Rules: the lines that the program prints, document 02, K11: "For each record not marked deleted, in order, it prints a line: barcode, sample and diluent as
 -- whole tenths, or barcode and refusal number, one space between." The call `sheet` cites `sheet_text`.
-use Rattle.std.specs.Prelude.{ℕ, zero, suc, ◌+◌, cond, List, [], ◌∷◌, ◌++◌, eqb}
+use Rattle.std.specs.Prelude.{ℕ, zero, suc, ◌+◌, cond, List, [], ◌∷◌, ◌++◌, eqb, Result, Err, Ok}
 use Rattle.refusal.specs.Checks.{first_refusal}
 use Rattle.octets.specs.Text.{blank, decimal}
 use Rattle.dbf_table.specs.Table.{deleted_mark, record_count, deletion_byte}
 use Rattle.dbf_cell.specs.Cell.{field_bytes}
 use Rattle.dilution.specs.Dilution.{sheet_checks, dilute_rule}
-use Rattle.dilution.specs.declared.Dilution.{Dilution}
-use Rattle.dilution.specs.declared.Dilution.TheVariants.{Volumes, Refused}
+use Rattle.dilution.specs.Dilution.{Dilution}
 use Rattle.dilute_sheet.specs.declared.input.Request.{Request}
-use Rattle.dilute_sheet.specs.declared.input.Input.{Input}
-use Rattle.dilute_sheet.specs.declared.input.Input.TheVariants.{Asked, Other}
 use Rattle.dilute_sheet.specs.Input.{line_feed, input_of}
 
 -- a number behind "one space"
@@ -19,8 +16,8 @@ number_text n = blank ∷ decimal n
 
 -- "sample and diluent as whole tenths, or .. refusal number", and the line's end
 unfoldable pub answer_text : Dilution → List ℕ
-answer_text (Volumes sample diluent) = number_text sample ++ (number_text diluent ++ (line_feed ∷ []))
-answer_text (Refused n) = number_text n ++ (line_feed ∷ [])
+answer_text (Ok v) = number_text v.sample ++ (number_text v.diluent ++ (line_feed ∷ []))
+answer_text (Err n) = number_text n ++ (line_feed ∷ [])
 
 -- what the call for one barcode answers for the barcode of record i
 unfoldable pub answer_on : List ℕ → List ℕ → Request → ℕ → Dilution
@@ -46,9 +43,9 @@ request_text t b q =
     cond (eqb refusal 0) (lines_after t b q 0 (record_count t)) (alone_text refusal)
 
 -- "Other .. input .. give 40, before all else"
-unfoldable pub input_text : List ℕ → List ℕ → Input → List ℕ
-input_text t b (Asked q) = request_text t b q
-input_text t b Other = alone_text 40
+unfoldable pub input_text : List ℕ → List ℕ → Result Request ℕ → List ℕ
+input_text t b (Ok q) = request_text t b q
+input_text t b (Err n) = alone_text 40
 
 unfoldable pub sheet_text : List ℕ → List ℕ → List ℕ → List ℕ
 sheet_text t b s = input_text t b (input_of s)

@@ -7,7 +7,7 @@ use native.Mathlib.Omega.{arith}
 use Rattle.basis.specs.Tests.{both}
 use Rattle.refusal.specs.After.{After, left}
 use Rattle.refusal.specs.Checks.{first_refusal}
-use Rattle.refusal.specs.declared.Change.{Change}
+use Rattle.refusal.specs.After.{Change}
 use Rattle.octets.specs.Text.{every, is_digit, unpadded, decimal}
 use Rattle.octets.specs.TextLaws.{unpadded_digit, unpadded_blanks}
 use Rattle.octets.specs.DigitLaws.{decimal-digits, decimal-fits}

@@ -1,24 +1,19 @@
 -- Rules: how many lines a sheet has and how many of them are refusals, or the number that refuses the whole sheet. The exit status of `./dilute` goes by it.
 -- The call `tally::sheet_verdict` cites `verdict_of`.
-use Rattle.std.specs.Prelude.{ℕ, zero, suc, ◌+◌, cond, List, eqb}
+use Rattle.std.specs.Prelude.{ℕ, zero, suc, ◌+◌, cond, List, eqb, Result, Err, Ok}
 use Rattle.refusal.specs.Checks.{first_refusal}
 use Rattle.dbf_table.specs.Table.{deleted_mark, record_count, deletion_byte}
 use Rattle.dilution.specs.Dilution.{sheet_checks}
-use Rattle.dilution.specs.declared.Dilution.{Dilution}
-use Rattle.dilution.specs.declared.Dilution.TheVariants.{Volumes, Refused}
+use Rattle.dilution.specs.Dilution.{Dilution}
 use Rattle.dilute_sheet.specs.declared.input.Request.{Request}
-use Rattle.dilute_sheet.specs.declared.input.Input.{Input}
-use Rattle.dilute_sheet.specs.declared.input.Input.TheVariants.{Asked, Other}
 use Rattle.dilute_sheet.specs.declared.tally.Tally.{Tally}
-use Rattle.dilute_sheet.specs.declared.tally.Verdict.{Verdict}
-use Rattle.dilute_sheet.specs.declared.tally.Verdict.TheVariants.{Lines, Alone}
 use Rattle.dilute_sheet.specs.Input.{input_of}
 use Rattle.dilute_sheet.specs.Sheet.{answer_on}
 
 -- whether an answer is a refusal: 1 if it is, 0 for volumes
 unfoldable pub refusals : Dilution → ℕ
-refusals (Volumes sample diluent) = 0
-refusals (Refused n) = 1
+refusals (Ok v) = 0
+refusals (Err n) = 1
 
 abbrev pub tally : ℕ → ℕ → Tally
 tally lines refused = record { lines = lines; refused = refused }
@@ -40,15 +35,15 @@ unfoldable pub tally_of : List ℕ → List ℕ → Request → Tally
 tally_of t b q = tally (sum_after (lines_at t) 0 (record_count t)) (sum_after (refused_at t b q) 0 (record_count t))
 
 -- "a refusal by the match or by 12 or 13", or the lines of all records
-unfoldable pub request_verdict : List ℕ → List ℕ → Request → Verdict
+unfoldable pub request_verdict : List ℕ → List ℕ → Request → Result Tally ℕ
 request_verdict t b q =
     let refusal = first_refusal (sheet_checks t b q.barcode_field q.field) in
-    cond (eqb refusal 0) (Lines (tally_of t b q)) (Alone refusal)
+    cond (eqb refusal 0) (Ok (tally_of t b q)) (Err refusal)
 
 -- "Other .. input .. give 40, before all else"
-unfoldable pub input_verdict : List ℕ → List ℕ → Input → Verdict
-input_verdict t b (Asked q) = request_verdict t b q
-input_verdict t b Other = Alone 40
+unfoldable pub input_verdict : List ℕ → List ℕ → Result Request ℕ → Result Tally ℕ
+input_verdict t b (Ok q) = request_verdict t b q
+input_verdict t b (Err n) = Err n
 
-unfoldable pub verdict_of : List ℕ → List ℕ → List ℕ → Verdict
+unfoldable pub verdict_of : List ℕ → List ℕ → List ℕ → Result Tally ℕ
 verdict_of t b s = input_verdict t b (input_of s)

@@ -1,6 +1,6 @@
 -- Laws: how the code counts a sheet's lines and refusals. Assumes nothing.
+use Rattle.std.specs.Prelude.{◌≡◌, List, eqb, Err, Ok}
 use Prim.Native.Nat.{ℕ, suc, ◌+◌, ◌-◌, ◌≤◌, ◌<◌}
-use Rattle.std.specs.Prelude.{◌≡◌, List, eqb}
 use Rattle.std.proofs.Common.{ne_eqb}
 use native.Mathlib.Omega.{arith}
 use Rattle.basis.specs.Tests.{either}
@@ -8,10 +8,8 @@ use Rattle.refusal.specs.Checks.{first_refusal}
 use Rattle.dbf_table.specs.Table.{deleted_mark, record_count, deletion_byte}
 use Rattle.dilution.specs.Dilution.{sheet_checks, record_dilution}
 use Rattle.dilution.specs.DilutionLaws.{record-line}
-use Rattle.dilution.specs.declared.Dilution.{Dilution}
-use Rattle.dilution.specs.declared.Dilution.TheVariants.{Volumes, Refused}
+use Rattle.dilution.specs.Dilution.{Dilution}
 use Rattle.dilute_sheet.specs.declared.input.Request.{Request}
-use Rattle.dilute_sheet.specs.declared.tally.Verdict.TheVariants.{Lines, Alone}
 use Rattle.dilute_sheet.specs.Sheet.{answer_on}
 use Rattle.dilute_sheet.specs.Tally.{refusals, tally, lines_at, refused_at, sum_after, tally_of, request_verdict}
 
@@ -19,8 +17,8 @@ use Rattle.dilute_sheet.specs.Tally.{refusals, tally, lines_at, refused_at, sum_
 
 refusals-few : (d : Dilution) → refusals d ≤ 1
 unfolding refusals
-refusals-few (Volumes sample diluent) = omega arith
-refusals-few (Refused n) = omega arith
+refusals-few (Ok v) = omega arith
+refusals-few (Err n) = omega arith
 
 module _ (t : List ℕ) (i : ℕ) where
   pub lines_few : lines_at t i ≤ 1
@@ -75,10 +73,10 @@ module _ (t b : List ℕ) (q : Request) where
   abbrev refusal : ℕ
   refusal = first_refusal (sheet_checks t b q.barcode_field q.field)
 
-  pub verdict-alone : (refusal ≡ 0 → ⊥) → request_verdict t b q ≡ Alone refusal
+  pub verdict-alone : (refusal ≡ 0 → ⊥) → request_verdict t b q ≡ Err refusal
   unfolding request_verdict
   verdict-alone some = rw (ne_eqb refusal 0 some)
 
-  pub verdict_lines : refusal ≡ 0 → request_verdict t b q ≡ Lines (tally_of t b q)
+  pub verdict_lines : refusal ≡ 0 → request_verdict t b q ≡ Ok (tally_of t b q)
   unfolding request_verdict
   verdict_lines none = rw none

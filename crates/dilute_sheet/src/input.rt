@@ -1,22 +1,23 @@
 // The four numbers of the program's standard input: barcode field, concentration field, target, final.
-ghost use Rattle.std.specs.Prelude.{◌+◌, ◌≡◌, length};
-ghost use Rattle.dilute_sheet.specs.Input.{digits_at, no_line, line_at, next_line, request_of, InputAnswer};
+ghost use Rattle.std.specs.Prelude.{◌+◌, ◌≡◌, length, ok_or};
+ghost use Rattle.refusal.specs.Refusals.{numbered};
+ghost use Rattle.dilute_sheet.specs.Input.{digits_at, told, line_at, input_of, InputAnswer};
 ghost use Rattle.dilute_sheet.specs.Fault.{wrong_at, wrong_after, input_fault};
 
-use octets::Digits;
+use inspect_argument::at_most_32_bits;
+use refusal::Refusal;
 
 const MAX_DIGITS: usize = 10;
 
-// A line of digits, and those before it: whether they are good, where the line ends, and its number.
-#[derive(Clone, Copy)]
+// A line of 1 to 10 digits: where it ends, and its number.
+#[derive(Clone, Copy, Debug, PartialEq, Eq)]
 pub struct NumberLine {
-    pub good: bool,
     pub end: usize,
     pub number: u64,
 }
 
 // What the four numbers ask for.
-#[derive(Clone, Copy)]
+#[derive(Clone, Copy, Debug, PartialEq, Eq)]
 pub struct Request {
     pub barcode_field: u32,
     pub field: u32,
@@ -24,14 +25,8 @@ pub struct Request {
     pub final_volume: u64,
 }
 
-#[derive(Clone, Copy)]
-pub enum Input {
-    Asked(Request),
-    Other,
-}
-
-// What is wrong with a line of the input; `More` is what stands after the four lines.
-#[derive(Clone, Copy)]
+// What is wrong with a line of the input; `More` is what stands after the four lines. The law that an input that is 40 has a fault speaks of `Nothing`.
+#[derive(Clone, Copy, Debug, PartialEq, Eq)]
 pub enum Wrong {
     Nothing,
     Missing,
@@ -44,7 +39,7 @@ pub enum Wrong {
 }
 
 // The first line that is wrong, from 1; line 5 is what stands after the four.
-#[derive(Clone, Copy)]
+#[derive(Clone, Copy, Debug, PartialEq, Eq)]
 pub struct Fault {
     pub line: u32,
     pub wrong: Wrong,
@@ -54,94 +49,57 @@ pub struct Fault {
 fn digits_end(input: &[u8], from: usize) -> usize
     ensures { result ≡ from + length (digits_at input.now from) }
 {
-    let mut end = from;
-    while end < input.len() {
+    for end in from..input.len() {
         if !octets::is_digit(input[end]) {
             return end;
         }
-        end += 1;
     }
-    end
-}
-
-fn no_line() -> NumberLine
-    ensures { result ≡ no_line }
-{
-    NumberLine {
-        good: false,
-        end: 0,
-        number: 0,
-    }
+    from.max(input.len())
 }
 
 // The line of 1 to 10 digits and a line feed that stands from `from` on, if one does.
-fn line_at(input: &[u8], from: usize) -> NumberLine
-    ensures { result ≡ line_at input.now from }
+fn line_at(input: &[u8], from: usize) -> Option<NumberLine>
+    ensures { told result ≡ line_at input.now from }
 {
     let end = digits_end(input, from);
-    if input.len() <= end {
-        return no_line();
+    if input.len() <= end || end == from || MAX_DIGITS < end - from || input[end] != b'\n' {
+        return None;
     }
-    if end == from {
-        return no_line();
-    }
-    if MAX_DIGITS < end - from {
-        return no_line();
-    }
-    if input[end] != b'\n' {
-        return no_line();
-    }
-    match octets::read_digits(&input[from..end]) {
-        Digits::Number(number) => NumberLine {
-            good: true,
-            end: end + 1,
-            number,
-        },
-        Digits::Other => no_line(),
-    }
+    let number = octets::read_digits(&input[from..end])?;
+    Some(NumberLine {
+        end: end + 1,
+        number,
+    })
 }
 
-// The line behind another, if the other is good.
-fn next_line(input: &[u8], before: NumberLine) -> NumberLine
-    ensures { result ≡ next_line input.now before }
+// What four lines ask for, if nothing stands after them.
+fn asked(input: &[u8]) -> Option<Request>
+    ensures { ok_or result 40 ≡ input_of input.now }
 {
-    if !before.good {
-        return no_line();
+    let first = line_at(input, 0)?;
+    let second = line_at(input, first.end)?;
+    let third = line_at(input, second.end)?;
+    let fourth = line_at(input, third.end)?;
+    if fourth.end != input.len() {
+        return None;
     }
-    line_at(input, before.end)
-}
-
-fn request_of(
-    first: NumberLine,
-    second: NumberLine,
-    third: NumberLine,
-    fourth: NumberLine,
-) -> Request
-    ensures { result ≡ request_of first second third fourth }
-{
-    Request {
-        barcode_field: inspect_argument::at_most_32_bits(first.number),
-        field: inspect_argument::at_most_32_bits(second.number),
+    Some(Request {
+        barcode_field: at_most_32_bits(first.number),
+        field: at_most_32_bits(second.number),
         target: third.number,
         final_volume: fourth.number,
-    }
+    })
 }
 
 // What the input asks for: four lines, and nothing after.
-pub fn read_input(input: &[u8]) -> Input
-    ensures { InputAnswer input.now result }
+pub fn read_input(input: &[u8]) -> Result<Request, Refusal>
+    ensures { InputAnswer input.now (numbered result) }
 {
-    let first = line_at(input, 0);
-    let second = next_line(input, first);
-    let third = next_line(input, second);
-    let fourth = next_line(input, third);
-    if fourth.good & (fourth.end == input.len()) {
-        return Input::Asked(request_of(first, second, third, fourth));
-    }
-    Input::Other
+    asked(input).ok_or(Refusal::ArgumentsOrFiles)
 }
 
 // What is wrong with the line that stands from `from` on.
+// A chain of tests: a `match` on `input.get(end)` was tried, and its goals stayed open.
 fn wrong_at(input: &[u8], from: usize) -> Wrong
     ensures { result ≡ wrong_at input.now from }
 {
@@ -168,13 +126,15 @@ fn wrong_at(input: &[u8], from: usize) -> Wrong
 }
 
 // What is wrong with an input whose four lines end at `at`.
+#[tactic(auto, unfolding(crate::specs::Fault::wrong_after))]
 fn wrong_after(input: &[u8], at: usize) -> Wrong
     ensures { result ≡ wrong_after input.now at }
 {
     if at == input.len() {
-        return Wrong::Nothing;
+        Wrong::Nothing
+    } else {
+        Wrong::More
     }
-    Wrong::More
 }
 
 // What is wrong with an input that asks for nothing, for a message: the first line that is none of the four.
@@ -182,20 +142,17 @@ pub fn input_fault(input: &[u8]) -> Fault
     ensures { result ≡ input_fault input.now }
 {
     let mut from = 0;
-    let mut line = 1;
-    while line < 5 {
-        let found = line_at(input, from);
-        if !found.good {
-            return Fault {
-                line,
-                wrong: wrong_at(input, from),
-            };
+    for line in 1..5 {
+        match line_at(input, from) {
+            Some(found) => from = found.end,
+            None => {
+                let wrong = wrong_at(input, from);
+                return Fault { line, wrong };
+            }
         }
-        from = found.end;
-        line += 1;
     }
     Fault {
-        line,
+        line: 5,
         wrong: wrong_after(input, from),
     }
 }

@@ -5,7 +5,8 @@
 pub mod input;
 pub mod tally;
 
-ghost use Rattle.std.specs.Prelude.{◌+◌, ◌-◌, ◌≤◌, ◌≡◌, length};
+ghost use Rattle.std.specs.Prelude.{◌≤◌, ◌≡◌, length};
+ghost use Rattle.refusal.specs.Refusals.{refusal_number, numbered};
 ghost use Rattle.refusal.specs.Checks.{first_refusal};
 ghost use Rattle.dbf_table.specs.Table.{record_count};
 ghost use Rattle.octets.specs.Text.{decimal};
@@ -13,8 +14,9 @@ ghost use Rattle.dilution.specs.Dilution.{sheet_checks};
 ghost use Rattle.dilute_sheet.specs.Output.{wrote, output, Counts};
 ghost use Rattle.dilute_sheet.specs.Sheet.{number_text, answer_text, record_line, lines_after, alone_text, request_text, sheet_text};
 
-use dilution::Dilution;
-use input::{Input, Request};
+use dilution::Volumes;
+use input::Request;
+use refusal::Refusal;
 
 // Writes a text into the buffer from `at` on, as far as there is room, and answers where it ends.
 fn put(out: &mut [u8], at: usize, text: &[u8]) -> usize
@@ -32,12 +34,12 @@ fn put(out: &mut [u8], at: usize, text: &[u8]) -> usize
     room
 }
 
-// A number in decimal, by the library's own writer.
+// A number in decimal, not by `write!`: the library's numbers are written by its own writer, whose text is proved.
 fn put_decimal(out: &mut [u8], at: usize, number: u32) -> usize
     ensures { wrote out.old at (decimal number) ≡ output out.new result }
 {
     let mut text = [b' '; 10];
-    numeral_write::write_number(&mut text, 0, number as i64);
+    let _ = numeral_write::write_number(&mut text, 0, number as i64);
     let from = octets::padding(&text);
     put(out, at, &text[from..])
 }
@@ -51,27 +53,27 @@ fn put_number(out: &mut [u8], at: usize, number: u32) -> usize
 }
 
 // The rest of a line behind its barcode.
-fn put_answer(out: &mut [u8], at: usize, answer: Dilution) -> usize
-    ensures { wrote out.old at (answer_text answer) ≡ output out.new result }
+fn put_answer(out: &mut [u8], at: usize, answer: Result<Volumes, Refusal>) -> usize
+    ensures { wrote out.old at (answer_text (numbered answer)) ≡ output out.new result }
 {
     match answer {
-        Dilution::Volumes { sample, diluent } => {
+        Ok(Volumes { sample, diluent }) => {
             let first = put_number(out, at, sample);
             let second = put_number(out, first, diluent);
             put(out, second, b"\n")
         }
-        Dilution::Refused(code) => {
-            let end = put_number(out, at, code);
+        Err(refusal) => {
+            let end = put_number(out, at, refusal.number());
             put(out, end, b"\n")
         }
     }
 }
 
 // A refusal as the only line.
-fn put_alone(out: &mut [u8], code: u32) -> usize
-    ensures { wrote out.old 0 (alone_text code) ≡ output out.new result }
+fn put_alone(out: &mut [u8], refusal: Refusal) -> usize
+    ensures { wrote out.old 0 (alone_text (refusal_number refusal)) ≡ output out.new result }
 {
-    let end = put_decimal(out, 0, code);
+    let end = put_decimal(out, 0, refusal.number());
     put(out, end, b"\n")
 }
 
@@ -113,10 +115,8 @@ fn put_records(table: &[u8], index: &[u8], request: Request, out: &mut [u8]) -> 
 {
     let records = dbf_table::record_count(table);
     let mut end = 0;
-    let mut number = 0;
-    while number < records {
-        number += 1;
-        end = put_record(table, index, request, number, out, end);
+    for number in 0..records {
+        end = put_record(table, index, request, number + 1, out, end);
     }
     end
 }
@@ -125,21 +125,20 @@ fn put_records(table: &[u8], index: &[u8], request: Request, out: &mut [u8]) -> 
 fn put_request(table: &[u8], index: &[u8], request: Request, out: &mut [u8]) -> usize
     ensures { wrote out.old 0 (request_text table.now index.now request) ≡ output out.new result }
 {
-    let refused = dilution::sheet_refusal(table, index, request.barcode_field, request.field);
-    if refused != 0 {
-        return put_alone(out, refused);
+    match dilution::check_sheet(table, index, request.barcode_field, request.field) {
+        Ok(()) => put_records(table, index, request, out),
+        Err(refusal) => put_alone(out, refusal),
     }
-    put_records(table, index, request, out)
 }
 
 // Writes the sheet into the lent buffer, and answers how many bytes it has there.
+// The buffer is lent, not a `Vec`: no heap in what is proved to fit, and by the theorem `wrote_then` what is written in parts is the whole (DECISIONS).
 pub fn sheet(table: &[u8], index: &[u8], input: &[u8], out: &mut [u8]) -> usize
     ensures input_value { wrote out.old 0 (sheet_text table.now index.now input.now) ≡ output out.new result }
     ensures counts { Counts result out.new }
 {
-    let asked = input::read_input(input);
-    match asked {
-        Input::Asked(request) => put_request(table, index, request, out),
-        Input::Other => put_alone(out, refusal::ARGUMENTS_OR_FILES),
+    match input::read_input(input) {
+        Ok(request) => put_request(table, index, request, out),
+        Err(_) => put_alone(out, Refusal::ArgumentsOrFiles),
     }
 }

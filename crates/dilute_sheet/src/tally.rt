@@ -1,34 +1,30 @@
 // The verdict on a sheet: how many lines it has and how many of them are refusals, or the number that refuses the whole sheet.
 ghost use Rattle.std.specs.Prelude.{◌≤◌, ◌≡◌};
+ghost use Rattle.refusal.specs.Refusals.{numbered};
 ghost use Rattle.refusal.specs.Checks.{first_refusal};
 ghost use Rattle.dbf_table.specs.Table.{record_count};
 ghost use Rattle.dilution.specs.Dilution.{sheet_checks};
 ghost use Rattle.dilute_sheet.specs.Tally.{refusals, tally, lines_at, refused_at, tally_of, request_verdict, verdict_of};
 
-use crate::input::{Input, Request};
-use dilution::Dilution;
+use crate::input::Request;
+use dilution::Volumes;
+use refusal::Refusal;
 
 // How many lines there are, and how many of them are refusals.
-#[derive(Clone, Copy)]
+#[derive(Clone, Copy, Debug, PartialEq, Eq)]
 pub struct Tally {
     pub lines: u32,
     pub refused: u32,
 }
 
-// A sheet's lines, or the number that refuses the whole sheet and is its only line.
-#[derive(Clone, Copy)]
-pub enum Verdict {
-    Lines(Tally),
-    Alone(u32),
-}
-
 // 1 for a refusal, 0 for volumes.
-fn count_refusal(answer: Dilution) -> u32
-    ensures { result ≡ refusals answer }
+#[tactic(auto, unfolding(crate::specs::Tally::refusals))]
+fn count_refusal(answer: Result<Volumes, Refusal>) -> u32
+    ensures { result ≡ refusals (numbered answer) }
 {
     match answer {
-        Dilution::Volumes { .. } => 0,
-        Dilution::Refused(_) => 1,
+        Ok(_) => 0,
+        Err(_) => 1,
     }
 }
 
@@ -66,33 +62,25 @@ fn tally_records(table: &[u8], index: &[u8], request: Request) -> Tally
     let records = dbf_table::record_count(table);
     let mut lines = 0;
     let mut refused = 0;
-    let mut number = 0;
-    while number < records {
-        number += 1;
-        let one = tally_record(table, index, request, number);
+    for number in 0..records {
+        let one = tally_record(table, index, request, number + 1);
         lines += one.lines;
         refused += one.refused;
     }
     Tally { lines, refused }
 }
 
-fn request_verdict(table: &[u8], index: &[u8], request: Request) -> Verdict
-    ensures { result ≡ request_verdict table.now index.now request }
+fn request_verdict(table: &[u8], index: &[u8], request: Request) -> Result<Tally, Refusal>
+    ensures { numbered result ≡ request_verdict table.now index.now request }
 {
-    let refused = dilution::sheet_refusal(table, index, request.barcode_field, request.field);
-    if refused != 0 {
-        return Verdict::Alone(refused);
-    }
-    Verdict::Lines(tally_records(table, index, request))
+    dilution::check_sheet(table, index, request.barcode_field, request.field)?;
+    Ok(tally_records(table, index, request))
 }
 
-// The verdict on the sheet that `sheet` writes of the same table, index and input.
-pub fn sheet_verdict(table: &[u8], index: &[u8], input: &[u8]) -> Verdict
-    ensures { result ≡ verdict_of table.now index.now input.now }
+// The verdict on the sheet that `sheet` writes of the same table, index and input: its lines, or what refuses the whole sheet and is its only line.
+pub fn sheet_verdict(table: &[u8], index: &[u8], input: &[u8]) -> Result<Tally, Refusal>
+    ensures { numbered result ≡ verdict_of table.now index.now input.now }
 {
-    let asked = crate::input::read_input(input);
-    match asked {
-        Input::Asked(request) => request_verdict(table, index, request),
-        Input::Other => Verdict::Alone(refusal::ARGUMENTS_OR_FILES),
-    }
+    let request = crate::input::read_input(input)?;
+    request_verdict(table, index, request)
 }

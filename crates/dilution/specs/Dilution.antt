@@ -1,10 +1,9 @@
 -- Rules: the dilution of one barcode, document 02, K11: "from barcode, target concentration (thousandths of nM, as the CONC field with three decimals) and
 -- final volume (tenths of a microlitre, 1 to 10,000), give the sample volume in tenths." The call `dilute` cites `dilute_rule`.
-use Rattle.std.specs.Prelude.{ℕ, ◌+◌, ◌*◌, ◌-◌, ◌/◌, ◌≡◌, Bool, true, not, ◌&&◌, List, [], ◌∷◌, ◌++◌, length, eqb, leb, ltb, ℤ, pos, negsuc}
+use Rattle.std.specs.Prelude.{ℕ, ◌+◌, ◌*◌, ◌-◌, ◌/◌, ◌≡◌, Bool, true, not, ◌&&◌, List, [], ◌∷◌, ◌++◌, length, eqb, leb, ltb, ℤ, pos, negsuc, Result, Err, None, Ok, Some}
 use Rattle.refusal.specs.Checks.{unless}
 use Rattle.numeral.specs.Reading.{read_number}
-use Rattle.numeral.specs.declared.Number.{Number}
-use Rattle.numeral.specs.declared.Number.TheVariants as number
+use Rattle.numeral.specs.Format.{Number}
 use Rattle.dbf_table.specs.Table.{type_n, deleted_mark, field_type, field_decimals, field_count, deletion_byte, table_refusal}
 use Rattle.dbf_field.specs.Field.{number_good, PlaceGood}
 use Rattle.dbf_cell.specs.Cell.{mark_good, field_bytes}
@@ -12,18 +11,24 @@ use Rattle.dbf_cell.specs.Codes.{number_refusal}
 use Rattle.idx_page.specs.Header.{key_length, features, good_features, header_good}
 use Rattle.idx_lookup.specs.Lookup.{lookup_rule, answer_record}
 use Rattle.idx_match.specs.Computed.{match_answer}
-use Rattle.dilution.specs.declared.Dilution.{Dilution}
-use Rattle.dilution.specs.declared.Dilution.TheVariants.{Volumes, Refused}
+use Rattle.dilution.specs.declared.Volumes.{Volumes}
 
 -- ---- the volumes
+
+abbrev pub volumes : ℕ → ℕ → Volumes
+volumes sample diluent = record { sample = sample; diluent = diluent }
+
+-- what the dilution of a sample says: the volumes, or a refusal's number
+abbrev pub Dilution : Type 0
+Dilution = Result Volumes ℕ
 
 -- "It is target × final ÷ concentration, to the nearest tenth, halves up": c is the concentration
 unfoldable pub sample_of : ℕ → ℕ → ℕ → ℕ
 sample_of c target final = (2 * target * final + c) / (2 * c)
 
 -- "Sample and diluent add to the final volume."
-unfoldable pub volumes_of : ℕ → ℕ → ℕ → Dilution
-volumes_of c target final = Volumes (sample_of c target final) (final - sample_of c target final)
+unfoldable pub volumes_of : ℕ → ℕ → ℕ → Volumes
+volumes_of c target final = volumes (sample_of c target final) (final - sample_of c target final)
 
 -- "Target is 1 to 1,000,000,000"; "final volume (tenths of a microlitre, 1 to 10,000)"
 abbrev pub max_target : ℕ
@@ -51,9 +56,9 @@ amount_of (pos c) = c
 amount_of (negsuc n) = 0
 
 unfoldable pub concentration_of : Number → ℕ
-concentration_of (number.Value v) = amount_of v
-concentration_of number.Empty = 0
-concentration_of (number.Refused n) = 0
+concentration_of (Ok (Some v)) = amount_of v
+concentration_of (Ok None) = 0
+concentration_of (Err n) = 0
 
 -- ---- the checks, each beside its refusal, in the paper's order
 
@@ -100,21 +105,21 @@ volume_checks c target final = (ltb 0 c, 36) ∷ (in_range target final, 37) ∷
 
 -- the dilution of a sample of concentration c
 unfoldable pub dilution_of : ℕ → ℕ → ℕ → Dilution
-dilution_of c target final = unless (volume_checks c target final) Refused (volumes_of c target final)
+dilution_of c target final = unless (volume_checks c target final) Err (Ok (volumes_of c target final))
 
 -- the dilution of record i
 unfoldable pub record_dilution : List ℕ → ℕ → ℕ → ℕ → ℕ → Dilution
-record_dilution t i field target final = unless (text_checks t i field) Refused (dilution_of (concentration_of (concentration_text t i field)) target final)
+record_dilution t i field target final = unless (text_checks t i field) Err (dilution_of (concentration_of (concentration_text t i field)) target final)
 
 -- the dilution of a barcode: "Checks: table and index match; 12, and 13 ..; 27; absent 35; 15; .." and then the volumes
 unfoldable pub dilute_rule : List ℕ → List ℕ → ℕ → ℕ → List ℕ → ℕ → ℕ → Dilution
 dilute_rule t b barcodeField field barcode target final =
-    unless (sheet_checks t b barcodeField field ++ barcode_checks b barcode) Refused (record_dilution t (record_with b barcode) field target final)
+    unless (sheet_checks t b barcodeField field ++ barcode_checks b barcode) Err (record_dilution t (record_with b barcode) field target final)
 
 -- an answer's number: 0 for volumes, or the refusal's
 unfoldable pub dilution_code : Dilution → ℕ
-dilution_code (Volumes sample diluent) = 0
-dilution_code (Refused n) = n
+dilution_code (Ok v) = 0
+dilution_code (Err n) = n
 
 -- ---- Steps: what the call for one record of a table that was checked asks; who calls by a barcode need not believe it
 

@@ -1,6 +1,6 @@
 -- Laws: the call's answer by the checks that its code makes; a record's answer is what the call gives for its barcode; what an answer with volumes says.
 -- Assumes nothing.
-use Rattle.std.specs.Prelude.{ℕ, ◌≤◌, ◌≡◌, Bool, true, List, [], ◌∷◌, ◌++◌, length, eqb, ltb}
+use Rattle.std.specs.Prelude.{Ok, ℕ, ◌≤◌, ◌≡◌, Bool, true, List, [], ◌∷◌, ◌++◌, length, eqb, ltb, Err}
 use Rattle.std.proofs.Math.Path.{sym}
 use Rattle.std.proofs.Common.{◌∙◌, arith}
 use borrow.Author.Tests.{eqb-true, eqb-false, eq-eqb, ne_eqb, lt-ltb}
@@ -20,16 +20,15 @@ use Rattle.dilution.specs.Dilution.{distinct_index, header_checks}
 use Rattle.dilution.specs.Dilution.{is_concentration, field_checks, sheet_checks, record_with, barcode_checks, record_dilution, dilute_rule, Dilutable}
 use Rattle.dilution.specs.Dilution.{volumes_of, concentration_text, concentration_of, text_checks, volume_checks, dilution_of}
 use Rattle.dilution.specs.BarcodeLaws.{good-table, known, own-length, record_own}
-use Rattle.dilution.specs.declared.Dilution.{Dilution}
-use Rattle.dilution.specs.declared.Dilution.TheVariants.{Refused}
+use Rattle.dilution.specs.Dilution.{Dilution}
 
 -- what checks with numbers refuse has a number, if what follows them has
-named-after : (checks : List (Bool × ℕ)) (d : Dilution) (n : ℕ) → All Named checks → (d ≡ Refused n → n ≡ 0 → ⊥) → unless checks Refused d ≡ Refused n
+named-after : (checks : List (Bool × ℕ)) (d : Dilution) (n : ℕ) → All Named checks → (d ≡ Err n → n ≡ 0 → ⊥) → unless checks Err d ≡ Err n
     → n ≡ 0 → ⊥
 named-after checks d n named after e =
-    unless-cases Refused d (λ m. m ≡ 0 → ⊥) checks named
+    unless-cases Err d (λ m. m ≡ 0 → ⊥) checks named
     (λ held made. after (sym made ∙ e))
-    (λ m some refused. let q : Refused m ≡ Refused n = sym refused ∙ e in let same : m ≡ n = cc in λ z. some (same ∙ z))
+    (λ m some refused. let q : Err m ≡ Err n = sym refused ∙ e in let same : m ≡ n = cc in λ z. some (same ∙ z))
 
 -- ---- the checks of a sheet
 
@@ -126,25 +125,25 @@ module _ (t b : List ℕ) (barcodeField field : ℕ) where
 
     -- ---- the call's answer
 
-    pub dilute_refused : (first_refusal checks ≡ 0 → ⊥) → answer ≡ Refused (first_refusal checks)
+    pub dilute_refused : (first_refusal checks ≡ 0 → ⊥) → answer ≡ Err (first_refusal checks)
     unfolding dilute_rule
-    dilute_refused some = unless_append Refused on_record checks (barcode_checks b barcode) ∙ unless-first Refused _ checks some
+    dilute_refused some = unless_append Err on_record checks (barcode_checks b barcode) ∙ unless-first Err _ checks some
 
     module _ (none : first_refusal checks ≡ 0) where
-      after_sheet : answer ≡ unless (barcode_checks b barcode) Refused on_record
+      after_sheet : answer ≡ unless (barcode_checks b barcode) Err on_record
       unfolding dilute_rule
-      after_sheet = unless_append Refused on_record checks (barcode_checks b barcode) ∙ unless-none Refused _ checks (passes none)
+      after_sheet = unless_append Err on_record checks (barcode_checks b barcode) ∙ unless-none Err _ checks (passes none)
 
-      pub dilute_27 : (length barcode ≡ key_length b → ⊥) → answer ≡ Refused 27
+      pub dilute_27 : (length barcode ≡ key_length b → ⊥) → answer ≡ Err 27
       unfolding barcode_checks
-      dilute_27 h = after_sheet ∙ unless_fail Refused _ _ _ _ (ne_eqb (length barcode) (key_length b) h)
+      dilute_27 h = after_sheet ∙ unless_fail Err _ _ _ _ (ne_eqb (length barcode) (key_length b) h)
 
       module _ (len : length barcode ≡ key_length b) (i : ℕ) (is : i ≡ record_with b barcode) where
-        after-length : answer ≡ unless ((ltb 0 (record_with b barcode), 35) ∷ []) Refused on_record
+        after-length : answer ≡ unless ((ltb 0 (record_with b barcode), 35) ∷ []) Err on_record
         unfolding barcode_checks
-        after-length = after_sheet ∙ unless_pass Refused _ _ _ _ (eq-eqb (length barcode) (key_length b) len)
+        after-length = after_sheet ∙ unless_pass Err _ _ _ _ (eq-eqb (length barcode) (key_length b) len)
 
-        pub dilute_absent : i ≡ 0 → answer ≡ Refused 35
+        pub dilute_absent : i ≡ 0 → answer ≡ Err 35
         unfolding unless
         dilute_absent e = let None-found : record_with b barcode ≡ 0 = sym is ∙ e in after-length ∙ rw None-found
 
@@ -164,7 +163,7 @@ module _ (t b : List ℕ) (barcodeField field : ℕ) where
       sym (dilute_record (field_bytes t i barcodeField) target final none len i (sym own) (λ e. omega (arith, from, e)))
 
   -- Theorem: a refusal is a number above 0
-  pub dilute_numbered : (barcode : List ℕ) (target final n : ℕ) → dilute_rule t b barcodeField field barcode target final ≡ Refused n → n ≡ 0 → ⊥
+  pub dilute_numbered : (barcode : List ℕ) (target final n : ℕ) → dilute_rule t b barcodeField field barcode target final ≡ Err n → n ≡ 0 → ⊥
   unfolding dilute_rule record_dilution dilution_of barcode_checks text_checks volume_checks volumes_of
   dilute_numbered barcode target final n e =
       let i = record_with b barcode in
@@ -174,7 +173,7 @@ module _ (t b : List ℕ) (barcodeField field : ℕ) where
       (all_append Named checks (barcode_checks b barcode) sheet_named ((λ bad q. omega (arith, q)), ((λ bad q. omega (arith, q)), tt)))
       (named-after (text_checks t i field) (dilution_of c target final) n
       ((λ bad q. omega (arith, q)), ((λ bad q. omega (arith, q)), ((λ bad q. eqb-false text 0 bad q), tt)))
-      (named-after (volume_checks c target final) (volumes_of c target final) n
+      (named-after (volume_checks c target final) (Ok (volumes_of c target final)) n
       ((λ bad q. omega (arith, q)), ((λ bad q. omega (arith, q)), ((λ bad q. omega (arith, q)), tt)))
       (λ q z. impossible (cc))))
       e

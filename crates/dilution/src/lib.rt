@@ -5,89 +5,92 @@
 // `record_dilution`, which gives the very answer of `dilute` for the record's barcode.
 #![tactic(auto)]
 
-ghost use Rattle.std.specs.Prelude.{◌≡◌, true, ◌≤◌, ◌<◌, length};
+ghost use Rattle.std.specs.Prelude.{◌≡◌, ◌&&◌, eqb, true, ◌≤◌, ◌<◌, length};
 ghost use Rattle.refusal.specs.Checks.{first_refusal};
+ghost use Rattle.refusal.specs.Refusals.{numbered};
+ghost use Rattle.refusal.specs.After.{change_code};
 ghost use Rattle.idx_page.specs.Header.{key_length, header_good};
-ghost use Rattle.dbf_table.specs.Table.{table_refusal};
-ghost use Rattle.dilution.specs.Dilution.{max_target, max_final, sample_of, volumes_of, in_range, concentration_of, amount_of};
+ghost use Rattle.dbf_table.specs.Table.{type_n, table_refusal};
+ghost use Rattle.dilution.specs.Dilution.{concentration_decimals, max_target, max_final, sample_of, volumes_of, in_range, concentration_of, amount_of};
 ghost use Rattle.dilution.specs.Dilution.{distinct_index, header_checks, field_checks, sheet_checks, record_with};
 ghost use Rattle.dilution.specs.Dilution.{dilution_of, record_dilution, dilute_rule, Dilutable};
 
-use dbf_table::Checked;
-use idx_lookup::Answer;
-use numeral::Number;
+use dbf_table::FieldType;
+use refusal::Refusal;
 
 // The decimals of a concentration's field.
-const DECIMALS: u32 = 3;
+const DECIMALS: u8 = 3;
 
 const MAX_TARGET: u64 = 1000000000;
 
 const MAX_FINAL: u64 = 10000;
 
-// The two volumes, or the number of the refusal.
-#[derive(Clone, Copy)]
-pub enum Dilution {
-    Volumes { sample: u32, diluent: u32 },
-    Refused(u32),
+// The volumes of sample and diluent.
+#[derive(Clone, Copy, Debug, PartialEq, Eq)]
+pub struct Volumes {
+    pub sample: u32,
+    pub diluent: u32,
 }
 
-// The refusal of the concentration's field in a table that was checked: 12, 13, or 0.
-fn field_refusal(table: &[u8], field: u32) -> u32
-    requires { table_refusal table.now ≡ 0 }
-    ensures { result ≡ first_refusal (field_checks table.now field) }
+// Whether a field with this type and this decimal count may be a concentration's.
+fn is_concentration(kind: u8, decimals: u8) -> bool
+    ensures { result ≡ eqb kind type_n && eqb decimals concentration_decimals }
 {
-    let answer = dbf_field::field_entry(table, field);
-    if answer.refusal != 0 {
-        return answer.refusal;
+    kind == FieldType::Number.letter() && decimals == DECIMALS
+}
+
+// The check of the concentration's field in a table that was checked: 12, 13.
+fn check_field(table: &[u8], field: u32) -> Result<(), Refusal>
+    requires { table_refusal table.now ≡ 0 }
+    ensures { change_code (numbered result) ≡ first_refusal (field_checks table.now field) }
+{
+    let entry = dbf_field::field_entry(table, field)?;
+    if is_concentration(entry.kind, entry.decimals) {
+        Ok(())
+    } else {
+        Err(Refusal::FieldType)
     }
-    let entry = answer.entry;
-    if (entry.kind as u32 == dbf_table::TYPE_N) & (entry.decimals as u32 == DECIMALS) {
-        return 0;
-    }
-    refusal::FIELD_TYPE
 }
 
 // Whether an index has a good header that says one record to a key.
 fn is_distinct(index: &[u8]) -> bool
     ensures { result ≡ distinct_index index.now }
 {
-    if !idx_page::header_good(index) {
-        return false;
-    }
-    !idx_page::several(index)
+    idx_page::header_good(index) && !idx_page::several(index)
 }
 
-// The refusal of a table and of an index's header: 1 to 10, 24, or 0.
-fn header_refusal(table: &[u8], index: &[u8]) -> u32
-    ensures { result ≡ first_refusal (header_checks table.now index.now) }
+// The checks of a table and of an index's header: 1 to 10, 24.
+fn check_headers(table: &[u8], index: &[u8]) -> Result<(), Refusal>
+    ensures { change_code (numbered result) ≡ first_refusal (header_checks table.now index.now) }
 {
-    let distinct = is_distinct(index);
-    match dbf_check::check_table(table) {
-        Checked::Refused(refusal) => refusal,
-        Checked::Good(_) => if distinct { 0 } else { refusal::INDEX_HEADER },
+    dbf_check::check_table(table)?;
+    if is_distinct(index) {
+        Ok(())
+    } else {
+        Err(Refusal::IndexHeader)
     }
 }
 
-// The refusal of a whole sheet: the match's, 24 for several records to a key, 12, 13, or 0.
-pub fn sheet_refusal(table: &[u8], index: &[u8], barcode_field: u32, field: u32) -> u32
-    ensures { result ≡ first_refusal (sheet_checks table.now index.now barcode_field field) }
+// The checks of a whole sheet: the match's, 24 for several records to a key, 12, 13.
+pub fn check_sheet(
+    table: &[u8],
+    index: &[u8],
+    barcode_field: u32,
+    field: u32,
+) -> Result<(), Refusal>
+    ensures { change_code (numbered result) ≡ first_refusal (sheet_checks table.now index.now barcode_field field) }
 {
-    let unread = header_refusal(table, index);
-    if unread != 0 {
-        return unread;
-    }
-    let refused = idx_match::match_index(table, index, barcode_field);
-    if refused != 0 {
-        return refused;
-    }
-    field_refusal(table, field)
+    check_headers(table, index)?;
+    idx_match::match_index(table, index, barcode_field)?;
+    check_field(table, field)
 }
 
 // Whether target and final volume are in their ranges.
+#[tactic(auto, unfolding(crate::specs::Dilution::in_range))]
 fn in_range(target: u64, final_volume: u64) -> bool
     ensures { result ≡ in_range target final_volume }
 {
-    (1 <= target) & (target <= MAX_TARGET) & (1 <= final_volume) & (final_volume <= MAX_FINAL)
+    1 <= target && target <= MAX_TARGET && 1 <= final_volume && final_volume <= MAX_FINAL
 }
 
 // The sample's volume: target × final ÷ concentration to the nearest tenth, halves up. Nothing overflows, whatever the concentration: target × final is at most
@@ -106,31 +109,31 @@ fn sample_of(concentration: u64, target: u64, final_volume: u64) -> u64
 }
 
 // The volumes of sample and diluent.
-fn volumes_of(concentration: u64, target: u64, final_volume: u64) -> Dilution
+fn volumes_of(concentration: u64, target: u64, final_volume: u64) -> Volumes
     requires { (0 < concentration) × (target ≤ concentration) × (target ≤ max_target) × (final_volume ≤ max_final) }
     ensures { result ≡ volumes_of concentration target final_volume }
 {
     let volume = sample_of(concentration, target, final_volume);
     let sample = volume as u32;
     let diluent = (final_volume - volume) as u32;
-    Dilution::Volumes { sample, diluent }
+    Volumes { sample, diluent }
 }
 
 // The dilution of a sample of this concentration, 0 for none: 36, 37, 38, or the volumes.
-fn dilution_of(concentration: u64, target: u64, final_volume: u64) -> Dilution
-    ensures { result ≡ dilution_of concentration target final_volume }
+fn dilution_of(concentration: u64, target: u64, final_volume: u64) -> Result<Volumes, Refusal>
+    ensures { numbered result ≡ dilution_of concentration target final_volume }
 {
     let ranged = in_range(target, final_volume);
     if concentration == 0 {
-        return Dilution::Refused(refusal::NO_CONCENTRATION);
+        return Err(Refusal::NoConcentration);
     }
     if !ranged {
-        return Dilution::Refused(refusal::TARGET_OR_VOLUME);
+        return Err(Refusal::TargetOrVolume);
     }
     if concentration < target {
-        return Dilution::Refused(refusal::TARGET_ABOVE_CONCENTRATION);
+        return Err(Refusal::TargetAboveConcentration);
     }
-    volumes_of(concentration, target, final_volume)
+    Ok(volumes_of(concentration, target, final_volume))
 }
 
 // A value as a concentration: a negative value is none, 0.
@@ -141,13 +144,13 @@ fn amount_of(value: i64) -> u64
 }
 
 // The concentration that a text says, 0 for none.
-fn concentration_of(text: Number) -> u64
-    ensures { result ≡ concentration_of text }
+#[tactic(auto, unfolding(crate::specs::Dilution::concentration_of))]
+fn concentration_of(text: Option<i64>) -> u64
+    ensures { result ≡ concentration_of (Ok text) }
 {
     match text {
-        Number::Value(value) => amount_of(value),
-        Number::Empty => 0,
-        Number::Refused(_) => 0,
+        Some(value) => amount_of(value),
+        None => 0,
     }
 }
 
@@ -158,22 +161,18 @@ pub fn record_dilution(
     field: u32,
     target: u64,
     final_volume: u64,
-) -> Dilution
+) -> Result<Volumes, Refusal>
     requires { Dilutable table.now number field }
-    ensures { result ≡ record_dilution table.now number field target final_volume }
+    ensures { numbered result ≡ record_dilution table.now number field target final_volume }
 {
     let place = dbf_field::place_at(table, number, field);
     if !dbf_cell::mark_good(place.mark) {
-        return Dilution::Refused(refusal::DELETION_BYTE);
+        return Err(Refusal::DeletionByte);
     }
     if place.mark == dbf_table::DELETED {
-        return Dilution::Refused(refusal::BARCODE_ABSENT);
+        return Err(Refusal::BarcodeAbsent);
     }
-    let text = dbf_cell::number_at(table, place);
-    let text_refused = dbf_cell::number_refusal(text);
-    if text_refused != 0 {
-        return Dilution::Refused(text_refused);
-    }
+    let text = dbf_cell::number_at(table, place)?;
     dilution_of(concentration_of(text), target, final_volume)
 }
 
@@ -183,9 +182,11 @@ fn record_with(index: &[u8], barcode: &[u8]) -> u32
     ensures { result ≡ record_with index.now barcode.now }
 {
     match idx_lookup::lookup_from_root(index, barcode) {
-        Answer::Found(number, _) => number.0,
-        Answer::Absent(_) => 0,
-        Answer::Refused(_) => 0,
+        Ok(outcome) => match outcome.found {
+            Some(number) => number.0,
+            None => 0,
+        },
+        Err(_) => 0,
     }
 }
 
@@ -198,19 +199,16 @@ pub fn dilute(
     barcode: &[u8],
     target: u64,
     final_volume: u64,
-) -> Dilution
-    ensures { result ≡ dilute_rule table.now index.now barcode_field field barcode.now target final_volume }
+) -> Result<Volumes, Refusal>
+    ensures { numbered result ≡ dilute_rule table.now index.now barcode_field field barcode.now target final_volume }
 {
-    let refused = sheet_refusal(table, index, barcode_field, field);
-    if refused != 0 {
-        return Dilution::Refused(refused);
-    }
+    check_sheet(table, index, barcode_field, field)?;
     if barcode.len() != idx_page::key_length(index) {
-        return Dilution::Refused(refusal::KEY_LENGTH);
+        return Err(Refusal::KeyLength);
     }
     let number = record_with(index, barcode);
     if number == 0 {
-        return Dilution::Refused(refusal::BARCODE_ABSENT);
+        return Err(Refusal::BarcodeAbsent);
     }
     record_dilution(table, number, field, target, final_volume)
 }

@@ -1,21 +1,18 @@
 -- Rules: document 01's "Examples to hold" that are marked P, each call beside the paper's answer. `ExampleLaws.examples_hold` is the "single computed statement
 -- over the list"; the program `test_vectors` runs the others. Assumes nothing.
-use Rattle.std.specs.Prelude.{Bool, true, List, [], ◌∷◌, map, ℕ, ℤ, pos, negsuc}
+use Rattle.std.specs.Prelude.{Err, Bool, true, List, [], ◌∷◌, map, ℕ, ℤ, pos, negsuc, Ok, Some}
 use Prim.Native.Char.{code}
 use Prim.Native.String as text
-use Rattle.refusal.specs.declared.Change.{Change}
-use Rattle.refusal.specs.declared.Change.TheVariants as change
+use Rattle.refusal.specs.After.{Change}
 use Rattle.calendar.specs.DateText as date
-use Rattle.calendar.specs.declared.DateAnswer.{DateAnswer}
-use Rattle.calendar.specs.declared.DateAnswer.TheVariants as day
+use Rattle.calendar.specs.DateText.{DateAnswer}
 use Rattle.numeral.specs.Reading as reading
-use Rattle.numeral.specs.declared.Number.{Number}
-use Rattle.numeral.specs.declared.Number.TheVariants as number
+use Rattle.numeral.specs.Format.{Number}
 use Rattle.idx_page.specs.Header as header
 use Rattle.idx_page.specs.Reading as pages
 use Rattle.idx_lookup.specs.Lookup as lookup
-use Rattle.idx_lookup.specs.declared.Answer.{Answer as Looked}
-use Rattle.idx_lookup.specs.declared.Answer.TheVariants as looked
+use Rattle.idx_lookup.specs.Answer.{Answer as Looked}
+use Rattle.idx_lookup.specs.Answer as looked
 use Rattle.idx_sound.specs.AuditTest as audit
 use Rattle.idx_insert.specs.Calls as calls
 use Rattle.examples.specs.Tree000 as tree
@@ -58,13 +55,13 @@ answer five100 = shown (tree100.grown 2048 5)
 answer (insert1024 x) = of_change (calls.insert_rule (tree100.grown 1024 4) (tree100.key100 x) 5).answer
 
 abbrev pub value : ℤ → Answer
-value v = of_number (number.Value v)
+value v = of_number (Ok (Some v))
 
 abbrev pub refused : ℕ → Answer
-refused n = of_number (number.Refused n)
+refused n = of_number (Err n)
 
 abbrev pub on : ℕ → ℕ → ℕ → Answer
-on y m d = of_date (day.Value (record { year = y; month = m; day = d }))
+on y m d = of_date (Ok (Some (record { year = y; month = m; day = d })))
 
 -- the key that ends in x, with the record number x
 abbrev pub leaf : ℕ → List ℕ × ℕ
@@ -87,11 +84,11 @@ examples =
     ∷ (numeric "  999999999999999999" 0, value (pos 999999999999999999))
     -- "20000229 passes; 19000229 and 20230229 are 20"
     ∷ (dated "20000229", on 2000 2 29)
-    ∷ (dated "19000229", of_date (day.Refused 20))
-    ∷ (dated "20230229", of_date (day.Refused 20))
+    ∷ (dated "19000229", of_date (Err 20))
+    ∷ (dated "20230229", of_date (Err 20))
     -- "the tree in 000 .. F is found as 6 after 3 pages; I is absent after 1"; and the tree is sound
-    ∷ (key000 "F", of_lookup (looked.Found (lookup.record_of 6) 3))
-    ∷ (key000 "I", of_lookup (looked.Absent 1))
+    ∷ (key000 "F", of_lookup (looked.found (lookup.record_of 6) 3))
+    ∷ (key000 "I", of_lookup (looked.absent 1))
     ∷ (audit000, of_audit true true)
     -- "k = 100, five ascending keys: leaf 512 has three, leaf 1,024 two, root 1,536 has keys three and five, F 2,048"
     ∷ (
@@ -100,6 +97,6 @@ examples =
           ((leaf 1 ∷ leaf 2 ∷ leaf 3 ∷ []) ∷ (leaf 4 ∷ leaf 5 ∷ []) ∷ ((tree100.key100 3, 512) ∷ (tree100.key100 5, 1024) ∷ []) ∷ []),
     )
     -- "Buffer 1,024, k = 100: the fifth insertion is 30. A repeated key then is 29"
-    ∷ (insert1024 5, of_change (change.Refused 30))
-    ∷ (insert1024 4, of_change (change.Refused 29))
+    ∷ (insert1024 5, of_change (Err 30))
+    ∷ (insert1024 4, of_change (Err 29))
     ∷ []

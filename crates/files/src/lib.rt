@@ -1,33 +1,15 @@
-// Whole files, standard input, and the words that a program is called with. A file is read to the start of a buffer, or refused with a message on standard
-// error that says why. `err` is what prints there, as the standard error of the runtime that `main` is given.
+// Whole files, standard input, and the words that a program is called with. What can't be taken is refused with a message on standard error that says why.
+// `err` is what prints there, as the standard error of the runtime that `main` is given. A message that can't be printed changes nothing.
 #![tactic(auto)]
 
-ghost use Rattle.std.specs.Prelude.{◌≡◌, length};
-ghost use Rattle.files.specs.Counts.{IsPrefixLen};
+ghost use Rattle.std.specs.Prelude.{◌≤◌, IfOk, IfSome, vec_len};
 
+use std::alloc::{AllocError, Global};
 use std::env::FillError;
-use std::fmt::InlineText;
-use std::io::{BufRead, Error, ErrorKind, Input, Read};
+use std::fmt::{Display, InlineText};
+use std::io::{Error, ErrorKind, Input, Read};
 use std::rt::{Env, Files};
 use std::{fs, io, str};
-
-// Room for a file of 1,048,576 bytes. The `ensures` gives only the length: it is all that lending the array as a slice needs.
-pub fn space() -> [u8; 1048576]
-    ensures { 1048576 ≡ length result }
-{
-    [0; 1048576]
-}
-
-// Whether the whole file stands at the start of a buffer, and how many of its bytes stand there.
-#[derive(Clone, Copy)]
-pub struct Loaded {
-    pub whole: bool,
-    pub len: usize,
-}
-
-fn say(err: &impl Print, text: &[u8]) {
-    let _ = err.write_all(text);
-}
 
 // The system's words for an error, without its number, which std prints behind them.
 fn without_number(text: &str) -> &str {
@@ -37,60 +19,30 @@ fn without_number(text: &str) -> &str {
     }
 }
 
-// What failed, and the words for its error.
-fn fail(err: &impl Print, what: &[u8], error: Error) {
+// Says what is wrong with a file.
+fn say(err: &impl Print, path: &[u8], wrong: impl Display + Drop) -> io::Result<()> {
+    err.write_all(path)?;
+    println!(err; ": {wrong}")
+}
+
+// Says why a file can't be read. A word that is longer than any file's name comes as an empty path.
+fn say_unread(err: &impl Print, path: &[u8], error: Error) -> io::Result<()> {
+    if path.is_empty() {
+        return println!(err; "a file's name is empty or longer than 4095 bytes");
+    }
     let text = InlineText::<96>::of(error);
-    say(err, what);
-    say(err, b": ");
-    say(err, without_number(text.as_str()).as_bytes());
-    say(err, b"\n");
+    say(err, path, without_number(text.as_str()))
 }
 
-// The message for a file that can't be opened. An argument that is longer than any file's name comes as an empty path.
-fn refuse_unopened(err: &impl Print, path: &[u8], error: Error) {
-    if path.len() == 0 {
-        say(err, b"a file's name is empty or longer than 4095 bytes\n");
-        return;
-    }
-    fail(err, path, error);
+// Room for a file of at most `most` bytes and one more, which is made before the first read: what fails later is the reader.
+fn room(alloc: Global, most: usize) -> Result<Vec<u8>, AllocError> {
+    Vec::with_capacity(alloc, most.saturating_add(1))
 }
 
-fn refuse_long(err: &impl Print, path: &[u8], room: usize) {
-    say(err, path);
-    say(err, b": longer than ");
-    say(err, InlineText::<20>::of(room).as_str().as_bytes());
-    say(err, b" bytes\n");
-}
-
-// Reads until the buffer is full, the input ends or a read fails, and answers how many bytes stand at the start of the buffer.
-pub fn read_full(input: &mut impl Read, buffer: &mut [u8]) -> usize
-    ensures { IsPrefixLen result buffer.new }
-{
-    let mut done = 0;
-    while done < buffer.len() {
-        let n = input.read(&mut buffer[done..]).unwrap_or(0);
-        if n == 0 {
-            break;
-        }
-        done += n;
-    }
-    done
-}
-
-// Whether the file ends where reading it into the buffer stopped. Reading also stops if the buffer is full, and if the file can't be read.
-fn is_at_end(input: &mut impl Read, err: &impl Print, path: &[u8], room: usize) -> bool {
-    let mut more = [0u8; 1];
-    match input.read(&mut more) {
-        Ok(0) => true,
-        Ok(_) => {
-            refuse_long(err, path, room);
-            false
-        }
-        Err(error) => {
-            fail(err, path, error);
-            false
-        }
-    }
+// Reads at most one byte more than `most`.
+fn read_front(input: impl Read + Drop, most: usize, bytes: &mut Vec<u8>) -> io::Result<usize> {
+    let limit = most.saturating_add(1);
+    input.take(limit as u64).read_to_end(bytes)
 }
 
 // Opens a file for reading. The name of a file is text in UTF-8.
@@ -101,51 +53,71 @@ fn open<R: Files>(rt: &R, path: &[u8]) -> io::Result<R::File> {
     }
 }
 
-// Reads a file of at most as many bytes as the buffer has.
-pub fn load(rt: &impl Files, err: &impl Print, path: &[u8], buffer: &mut [u8]) -> Loaded
-    ensures { IsPrefixLen result.len buffer.new }
+// Reads a file of at most `most` bytes.
+pub fn load(
+    rt: &(impl Files + AllocGlobal),
+    err: &impl Print,
+    path: &[u8],
+    most: usize,
+) -> Result<Option<Vec<u8>>, AllocError>
+    ensures { IfOk result (λ file. IfSome file (λ bytes. vec_len bytes ≤ most)) }
 {
-    match open(rt, path) {
-        Ok(mut file) => {
-            let len = read_full(&mut file, buffer);
-            let whole = is_at_end(&mut file, err, path, buffer.len());
-            Loaded { whole, len }
+    let mut bytes = room(rt.alloc(), most)?;
+    match open(rt, path).and_then(|file| read_front(file, most, &mut bytes)) {
+        Ok(_) if bytes.len() <= most => return Ok(Some(bytes)),
+        Ok(_) => {
+            let _ = say(err, path, format_args!("longer than {most} bytes"));
         }
         Err(error) => {
-            refuse_unopened(err, path, error);
-            Loaded {
-                whole: false,
-                len: 0,
+            let _ = say_unread(err, path, error);
+        }
+    }
+    Ok(None)
+}
+
+// Reads the first `most` bytes of standard input, and says if there are more.
+pub fn load_input(
+    rt: &(impl Input + AllocGlobal),
+    err: &impl Print,
+    most: usize,
+) -> Result<Option<Vec<u8>>, AllocError>
+    ensures { IfOk result (λ input. IfSome input (λ bytes. vec_len bytes ≤ most)) }
+{
+    let name = b"standard input";
+    let mut bytes = room(rt.alloc(), most)?;
+    match read_front(rt.reader(), most, &mut bytes) {
+        Ok(n) => {
+            if most < n {
+                let _ = say(err, name, format_args!("longer than {most} bytes"));
             }
+            bytes.truncate(most);
+            Ok(Some(bytes))
+        }
+        Err(error) => {
+            let _ = say_unread(err, name, error);
+            Ok(None)
         }
     }
 }
 
-// Reads standard input of at most as many bytes as the buffer has.
-pub fn load_input(rt: &impl Input, err: &impl Print, buffer: &mut [u8]) -> Loaded
-    ensures { IsPrefixLen result.len buffer.new }
-{
-    let mut input = rt.reader();
-    let len = read_full(&mut input, buffer);
-    let whole = is_at_end(&mut input, err, b"standard input", buffer.len());
-    Loaded { whole, len }
+// Word i of those that the program was called with. No file's name has more than 4,095 bytes: a word that does not fit comes empty. It need not be text.
+fn word(rt: &(impl Env + AllocGlobal), i: usize) -> Result<Option<Vec<u8>>, AllocError> {
+    let mut word = [0u8; 4096];
+    match rt.arg(i, &mut word) {
+        Ok(n) => Ok(Some(Vec::from_slice(rt.alloc(), &word[..n])?)),
+        Err(FillError::TooLong) => Ok(Some(Vec::new(rt.alloc()))),
+        Err(FillError::NotPresent) => Ok(None),
+    }
 }
 
-// How many words the program was called with, its own name first.
-pub fn word_count(rt: &impl Env) -> usize {
-    let mut none = [0u8; 1];
+// The words that the program was called with, its own name first.
+pub fn words(rt: &(impl Env + AllocGlobal)) -> Result<Vec<Vec<u8>>, AllocError> {
+    let mut words = Vec::new(rt.alloc());
     for i in 0..usize::MAX {
-        match rt.arg(i, &mut none) {
-            Err(FillError::NotPresent) => return i,
-            Ok(_) | Err(FillError::TooLong) => {}
-        }
+        let Some(word) = word(rt, i)? else {
+            break;
+        };
+        words.push(word)?;
     }
-    usize::MAX
-}
-
-// Reads word i to the start of a buffer, and answers how many bytes it has. A word that is missing, or does not fit the buffer, is empty.
-pub fn word(rt: &impl Env, i: usize, buffer: &mut [u8]) -> usize
-    ensures { IsPrefixLen result buffer.new }
-{
-    rt.arg(i, buffer).unwrap_or(0)
+    Ok(words)
 }

@@ -1,11 +1,13 @@
 // The FPT memo file: where the memo that an M field names has its text in the file. Document 01, "Field text", paragraph M.
 #![tactic(auto)]
 
-ghost use Rattle.std.specs.Prelude.{◌≡◌, ◌+◌, ◌^◌, ◌≤◌, ◌<◌, length};
+ghost use Rattle.std.specs.Prelude.{◌≡◌, ◌+◌, ◌^◌, ◌≤◌, ◌<◌, length, MatchOption};
+ghost use Rattle.refusal.specs.Refusals.{numbered};
 ghost use Rattle.fpt_memo.specs.Memo.{memo_header_bytes, NumberAnswer, block_size, memo_header_good, head_fits, end_fits};
 ghost use Rattle.fpt_memo.specs.Memo.{block_text, numbered_text, MemoAnswer};
 
-use octets::{Digits, load_be16, load_be32};
+use octets::{load_be16, load_be32};
+use refusal::Refusal;
 
 // The header's length: the least length of a memo file, and the first place where a block can start.
 const HEADER_BYTES: usize = 512;
@@ -13,119 +15,122 @@ const HEADER_BYTES: usize = 512;
 // The greatest length of a memo file.
 const MAX_MEMO_BYTES: usize = 16777216;
 
-// What the ten characters of an M field say.
-#[derive(Clone, Copy)]
-pub enum MemoNumber {
-    Blank,
-    Bad,
-    Number(u64),
+// Where a text stands in its file.
+#[derive(Clone, Copy, Debug, PartialEq, Eq)]
+pub struct Span {
+    pub start: usize,
+    pub len: usize,
 }
 
-// Where a memo's text stands in the memo file, or why there is none.
-#[derive(Clone, Copy)]
-pub enum MemoPlace {
-    Text { start: usize, len: usize },
-    Empty,
-    Refused(u32),
-}
-
-// Reads an M field's text: blanks, then digits without a leading zero.
-pub fn read_number(text: &[u8]) -> MemoNumber
-    ensures { NumberAnswer text.now result }
+// Reads an M field's text: blanks, then digits without a leading zero. Blanks alone name no memo.
+pub fn read_number(text: &[u8]) -> Result<Option<u64>, Refusal>
+    ensures { NumberAnswer text.now (numbered result) }
 {
     if text.len() != 10 {
-        return MemoNumber::Bad;
+        return Err(Refusal::MemoNumberOrPlace);
     }
     let from = octets::padding(text);
     if from == 10 {
-        return MemoNumber::Blank;
+        return Ok(None);
     }
     if text[from] <= b'0' {
-        return MemoNumber::Bad;
+        return Err(Refusal::MemoNumberOrPlace);
     }
-    match octets::read_digits(&text[from..]) {
-        Digits::Number(n) => MemoNumber::Number(n),
-        Digits::Other => MemoNumber::Bad,
-    }
+    let number = octets::read_digits(&text[from..]).ok_or(Refusal::MemoNumberOrPlace)?;
+    Ok(Some(number))
 }
 
-// The block size that the header gives.
-fn block_size(file: &[u8]) -> u64
-    requires { memo_header_bytes ≤ length file.now }
-    ensures { (result ≡ block_size file.now) × (result < 65536) }
-{
-    load_be16(file, 6) as u64
+// A memo file that is as long as a header at least.
+#[derive(Clone, Copy)]
+struct MemoFile<'a> {
+    bytes: &'a [u8],
+    ghost header: { memo_header_bytes ≤ length bytes.now },
 }
 
-// Whether the file's length and block size are good.
-fn header_good(file: &[u8]) -> bool
-    ensures { result ≡ memo_header_good file.now }
-{
-    if file.len() < HEADER_BYTES {
-        return false;
+impl<'a> MemoFile<'a> {
+    // The file of these bytes, if they are enough for a header.
+    fn new(bytes: &'a [u8]) -> Option<MemoFile<'a>>
+        ensures { MatchOption result (length bytes.now < memo_header_bytes) (λ file. file.bytes.now ≡ bytes.now) }
+    {
+        if bytes.len() < HEADER_BYTES {
+            return None;
+        }
+        Some(MemoFile { bytes })
     }
-    let size = block_size(file);
-    (file.len() <= MAX_MEMO_BYTES) & (size % 2 == 0) & (32 <= size) & (size <= 16384)
-}
 
-// Whether the first 8 bytes of a block at `start` stand after the header and in the file.
-fn head_fits(file: &[u8], start: u64) -> bool
-    requires { start + 8 < 2 ^ 64 }
-    ensures { result ≡ head_fits file.now start }
-{
-    (HEADER_BYTES as u64 <= start) & (start + 8 <= file.len() as u64)
-}
+    // The block size that the header gives.
+    fn block_size(self) -> u64
+        ensures { (result ≡ block_size self.entry.bytes.now) × (result < 65536) }
+    {
+        u64::from(load_be16(self.bytes, 6))
+    }
 
-// Whether a text that ends at `end` stands in the file and in the blocks in use.
-fn end_fits(file: &[u8], end: u64) -> bool
-    requires { memo_header_bytes ≤ length file.now }
-    ensures { result ≡ end_fits file.now end }
-{
-    let next = load_be32(file, 0) as u64;
-    (end <= file.len() as u64) & (end <= next * block_size(file))
-}
+    // Whether the file's length and block size are good.
+    #[tactic(auto, unfolding(crate::specs::Memo::memo_header_good))]
+    fn header_good(self) -> bool
+        ensures { result ≡ memo_header_good self.entry.bytes.now }
+    {
+        let size = self.block_size();
+        self.bytes.len() <= MAX_MEMO_BYTES && size % 2 == 0 && (32..=16384).contains(&size)
+    }
 
-// The text of the block at `start`.
-fn block_text(file: &[u8], start: u64) -> MemoPlace
-    requires { (memo_header_bytes ≤ length file.now) × (start + 8 < 2 ^ 64) }
-    ensures { result ≡ block_text file.now start }
-{
-    if !head_fits(file, start) {
-        return MemoPlace::Refused(refusal::MEMO_NUMBER_OR_PLACE);
+    // Whether the first 8 bytes of a block at `start` stand after the header and in the file.
+    fn head_fits(self, start: u64) -> bool
+        requires { start + 8 < 2 ^ 64 }
+        ensures { result ≡ head_fits self.entry.bytes.now start }
+    {
+        HEADER_BYTES as u64 <= start && start + 8 <= self.bytes.len() as u64
     }
-    let at = start as usize;
-    let len = load_be32(file, at + 4) as u64;
-    if !end_fits(file, start + 8 + len) {
-        return MemoPlace::Refused(refusal::MEMO_NUMBER_OR_PLACE);
+
+    // Whether a text that ends at `end` stands in the file and in the blocks in use.
+    #[tactic(auto, using(crate::specs::MemoLaws::bytes_fit))]
+    fn end_fits(self, end: u64) -> bool
+        ensures { result ≡ end_fits self.entry.bytes.now end }
+    {
+        let next = u64::from(load_be32(self.bytes, 0));
+        end <= self.bytes.len() as u64 && end <= next * self.block_size()
     }
-    if load_be32(file, at) != 1 {
-        return MemoPlace::Refused(refusal::MEMO_NOT_TEXT);
-    }
-    MemoPlace::Text {
-        start: at + 8,
-        len: len as usize,
+
+    // The text of the block at `start`.
+    fn block_text(self, start: u64) -> Result<Option<Span>, Refusal>
+        requires { start + 8 < 2 ^ 64 }
+        ensures { numbered result ≡ block_text self.entry.bytes.now start }
+    {
+        if !self.head_fits(start) {
+            return Err(Refusal::MemoNumberOrPlace);
+        }
+        let at = start as usize;
+        let len = load_be32(self.bytes, at + 4) as usize;
+        if !self.end_fits(start + 8 + len as u64) {
+            return Err(Refusal::MemoNumberOrPlace);
+        }
+        if load_be32(self.bytes, at) != 1 {
+            return Err(Refusal::MemoNotText);
+        }
+        Ok(Some(Span { start: at + 8, len }))
     }
 }
 
 // The text of the memo with this number, which has at most ten digits.
-fn numbered_text(file: &[u8], number: u64) -> MemoPlace
+fn numbered_text(bytes: &[u8], number: u64) -> Result<Option<Span>, Refusal>
     requires { number < 10 ^ 10 }
-    ensures { result ≡ numbered_text file.now number }
+    ensures { numbered result ≡ numbered_text bytes.now number }
 {
-    if !header_good(file) {
-        return MemoPlace::Refused(refusal::MEMO_HEADER);
+    let Some(file) = MemoFile::new(bytes) else {
+        return Err(Refusal::MemoHeader);
+    };
+    if !file.header_good() {
+        return Err(Refusal::MemoHeader);
     }
-    block_text(file, number * block_size(file))
+    file.block_text(number * file.block_size())
 }
 
-// Where the memo file has the text of the memo that an M field's text names.
-pub fn memo_place(text: &[u8], file: &[u8]) -> MemoPlace
-    ensures { MemoAnswer text.now file.now result }
+// Where the memo file has the text of the memo that an M field's text names. A blank field names none, and the file is not looked at.
+pub fn memo_place(text: &[u8], file: &[u8]) -> Result<Option<Span>, Refusal>
+    ensures { MemoAnswer text.now file.now (numbered result) }
 {
-    let read = read_number(text);
-    match read {
-        MemoNumber::Bad => MemoPlace::Refused(refusal::MEMO_NUMBER_OR_PLACE),
-        MemoNumber::Blank => MemoPlace::Empty,
-        MemoNumber::Number(n) => numbered_text(file, n),
+    match read_number(text)? {
+        Some(number) => numbered_text(file, number),
+        None => Ok(None),
     }
 }

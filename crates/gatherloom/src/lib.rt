@@ -17,7 +17,7 @@ ghost use Rattle.idx_insert.specs.Fresh.{fresh_rule};
 ghost use Rattle.idx_remove.specs.Calls.{remove_rule};
 ghost use Rattle.idx_match.specs.Match.{Matched};
 ghost use Rattle.idx_records.specs.Records.{told, records_rule};
-ghost use Rattle.dilution.specs.Dilution.{dilute_rule};
+ghost use Rattle.dilution.specs.Dilution.{volumes, dilute_rule};
 ghost use Rattle.ndx_page.specs.Lookup as ndx-lookup;
 ghost use Rattle.ndx_sound.specs.Sound as ndx;
 ghost use Rattle.refusal.specs.After.{left, coded};
@@ -31,11 +31,12 @@ ghost use Rattle.dbf_calls.specs.Lent.{listing, walked_of, live_of};
 ghost use Rattle.dbf_calls.specs.Writing.{stores, written, append_out, extent_out};
 ghost use Rattle.dbf_cell_calls.specs.Answers.{day_of, part, number_out, date_out, logical_out, text_out};
 ghost use Rattle.index_calls.specs.Answers.{found, lookup_out};
-ghost use Rattle.dilute_call.specs.Volumes.{volumes, volumes_out};
+ghost use Rattle.dilute_call.specs.Volumes.{volumes_out};
 ghost use Rattle.gatherloom.specs.Interface.{interface_number};
 
 use dbf_field::FieldEntry;
 use dbf_walk::Position;
+use refusal::change_code;
 
 // The number of this interface, GL_INTERFACE in the header.
 const INTERFACE: u32 = 4;
@@ -76,13 +77,10 @@ pub extern "C" fn gl_fields(table: &[u8], entries: &mut [FieldEntry]) -> u32
     ensures { listing table.now entries.old ≡ record { answer = result; entries = entries.new } }
 {
     let plan = dbf_calls::listing_plan(table, entries.len());
-    let count = plan.count;
     let mut last = dbf_calls::deletion_entry();
-    let mut j: usize = 0;
-    while j < count {
+    for j in 0..plan.count {
         last = dbf_calls::next_entry(table, j, last);
         entries[j] = last;
-        j += 1;
     }
     plan.answer
 }
@@ -200,7 +198,7 @@ pub extern "C" fn gl_index_fresh(
 pub extern "C" fn gl_index_audit(index: &[u8]) -> u32
     ensures { Audited index.now result }
 {
-    idx_audit::audit(index)
+    change_code(idx_audit::audit(index))
 }
 
 // Looks a key up: the number of its record, and the pages visited, which are also written if the key is absent.
@@ -243,7 +241,13 @@ pub extern "C" fn gl_index_records(
 ) -> u32
     ensures { records_rule index.now key.now list.old count.old ≡ told result list.new count.new }
 {
-    idx_records::records(index, key, list, count)
+    match idx_records::records(index, key, list) {
+        Ok(n) => {
+            *count = n;
+            0
+        }
+        Err(refusal) => refusal.number(),
+    }
 }
 
 // Matches an index against a field of a table: 0 if each record has exactly one entry, its key that record's field, and there are no others.
@@ -251,7 +255,7 @@ pub extern "C" fn gl_index_records(
 pub extern "C" fn gl_match(table: &[u8], index: &[u8], field: u32) -> u32
     ensures { Matched table.now index.now field result }
 {
-    idx_match::match_index(table, index, field)
+    change_code(idx_match::match_index(table, index, field))
 }
 
 // The dilution of one barcode: the volumes of sample and diluent, in tenths of a microlitre.
@@ -323,7 +327,7 @@ pub extern "C" fn gl_table_set_date(
 ) -> u32
     ensures { set_date_rule buffer.old table_len year month day ≡ left buffer.new result }
 {
-    dbf_append::set_date(buffer, table_len, year, month, day)
+    change_code(dbf_append::set_date(buffer, table_len, year, month, day))
 }
 
 // The length that the host shortens a table's file to after a power loss.
@@ -348,12 +352,10 @@ pub extern "C" fn gl_table_lay_out(
     let given = entries.len();
     let count = dbf_create::listed_count(given);
     let mut room = dbf_create::no_fields();
-    let mut j: usize = 0;
-    while j < count {
+    for j in 0..count {
         dbf_create::write_field(&mut room, j, entries[j]);
-        j += 1;
     }
-    dbf_create::lay_out(buffer, &mut room, given, year, month, day)
+    change_code(dbf_create::lay_out(buffer, &mut room, given, year, month, day))
 }
 
 // Audits an NDX index: 24, 25, or 0 if it is sound.

@@ -3,31 +3,32 @@
 #![tactic(auto)]
 
 ghost use Rattle.std.specs.Prelude.{◌≡◌, true, ◌-◌};
+ghost use Rattle.refusal.specs.Refusals.{numbered};
+ghost use Rattle.refusal.specs.After.{change_code};
 ghost use Rattle.idx_page.specs.Header.{header_good};
 ghost use Rattle.idx_sound.specs.Sound.{Audited};
 ghost use Rattle.idx_sound.specs.AuditTest.{pages_good};
 
+use refusal::Refusal;
+
 // Whether an index with a good header is sound.
+#[tactic(auto, unfolding(idx_sound::specs::AuditTest::pages_good))]
 fn pages_good(index: &[u8]) -> bool
     requires { header_good index.now ≡ true }
     ensures { result ≡ pages_good index.now }
 {
-    if !idx_shape::shape_good(index) {
-        return false;
-    }
-    idx_ceilings::keys_above_good(index)
+    idx_shape::shape_good(index) && idx_ceilings::keys_above_good(index)
 }
 
-// The audit: 24 if the header is not good, 0 if the index is sound, else 25.
-pub fn audit(index: &[u8]) -> u32
-    ensures { Audited index.now result }
+// The audit: whether the header is good, and then whether the index is sound.
+pub fn audit(index: &[u8]) -> Result<(), Refusal>
+    ensures { Audited index.now (change_code (numbered result)) }
 {
     if !idx_page::header_good(index) {
-        return refusal::INDEX_HEADER;
+        return Err(Refusal::IndexHeader);
     }
-    if pages_good(index) {
-        0
-    } else {
-        refusal::INDEX_NOT_SOUND
+    if !pages_good(index) {
+        return Err(Refusal::IndexNotSound);
     }
+    Ok(())
 }

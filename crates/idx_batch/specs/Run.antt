@@ -1,8 +1,7 @@
 -- Rules: what the code that runs a list of calls leaves and answers, on every input, and demand 3 of it. Cited by `run_calls` and `run_batch`.
-use Rattle.std.specs.Prelude.{ℕ, ◌/◌, ◌≡◌, List, [], ◌∷◌, ◌++◌, length, take}
+use Rattle.std.specs.Prelude.{ℕ, ◌/◌, ◌≡◌, List, [], ◌∷◌, ◌++◌, length, take, Result, Err, Ok}
 use Rattle.refusal.specs.After.{After}
-use Rattle.refusal.specs.declared.Change.{Change}
-use Rattle.refusal.specs.declared.Change.TheVariants.{Made, Refused}
+use Rattle.refusal.specs.After.{Change}
 use Rattle.octets.specs.Bytes.{to_le32}
 use Rattle.octets.specs.Store.{put}
 use Rattle.tree.specs.Book.{Call, insertion, removal_of, lookup_of, Answer, refused, accepted, found, absent, results_of, final_of}
@@ -13,7 +12,6 @@ use Rattle.idx_sound.specs.Sound.{Sound}
 use Rattle.idx_insert.specs.Fresh.{fresh_rule}
 use Rattle.idx_batch.specs.Encoding.{calls_in}
 use Rattle.idx_batch.specs.declared.Reply.{Reply}
-use Rattle.idx_batch.specs.declared.Batch.{Batch}
 
 -- the code of an answer: 0 for accepted and found, 257 for absent, or the refusal's number; and the number of the record that was found, or 0
 abbrev pub code_of : Answer → ℕ
@@ -76,21 +74,21 @@ run_rule b s out =
     let calls = made_calls s out in
     leaves (final_of buffer_after calls b) (put out 0 (replies_to calls b)) (length calls)
 
--- what a batch leaves: the buffer, the answers, and what it returns
+-- what a batch leaves: the buffer, the answers, and what it returns: how many calls were made, or the number of fresh's refusal
 pub record Started : Type 0 where
   pub after : List ℕ
   pub answers : List ℕ
-  pub batch : Batch
+  pub batch : Result ℕ ℕ
 
-abbrev pub started : List ℕ → List ℕ → Batch → Started
+abbrev pub started : List ℕ → List ℕ → Result ℕ ℕ → Started
 started b out r = record { after = b; answers = out; batch = r }
 
 -- fresh, and then the calls if fresh is accepted; else nothing is touched
 abbrev pub after_fresh : After Change → List ℕ → List ℕ → Started
 after_fresh f s out =
     elim f.answer [
-      | Made ↦ let r = run_rule f.after s out in started r.after r.answers (record { fresh = 0; made = r.made })
-      | Refused n ↦ started f.after out (record { fresh = n; made = 0 })
+      | (Ok tt) ↦ let r = run_rule f.after s out in started r.after r.answers (Ok r.made)
+      | Err n ↦ started f.after out (Err n)
     ]
 
 unfoldable pub batch_rule : List ℕ → ℕ → ℕ → List ℕ → List ℕ → List ℕ → Started
@@ -110,5 +108,5 @@ SoundRunKept b s out after answers made = (sound : Sound b) → RunKept (key_len
 
 -- a batch: fresh was accepted, and the book begins without pairs
 pub record BatchKept (b : List ℕ) (k f : ℕ) (e s out after answers : List ℕ) (made : ℕ) : Type 0 where
-  pub fresh : (fresh_rule b k f e).answer ≡ Made
+  pub fresh : (fresh_rule b k f e).answer ≡ Ok tt
   pub run : RunKept k f [] (fresh_rule b k f e).after s out after answers made

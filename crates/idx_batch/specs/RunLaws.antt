@@ -1,14 +1,13 @@
 -- Laws: a call that the code makes is the rule's; one turn of the run of a list of calls, and its end; demand 3. Cited by the proofs of the code.
 -- Assumes nothing.
-use Rattle.std.specs.Prelude.{ℕ, suc, ◌+◌, ◌*◌, ◌-◌, ◌/◌, ◌≤◌, ◌<◌, ◌≡◌, refl, Bool, true, false, ◌&&◌, List, [], ◌∷◌, leb, length, take, drop, get_or}
+use Rattle.std.specs.Prelude.{ℕ, suc, ◌+◌, ◌*◌, ◌-◌, ◌/◌, ◌≤◌, ◌<◌, ◌≡◌, refl, Bool, true, false, ◌&&◌, List, [], ◌∷◌, leb, length, take, drop, get_or, Err, Ok}
 use Rattle.std.proofs.Common.{sym, ap, ◌∙◌, arith, add-zero, zero-add, leb-true, leb-false}
 use Rattle.std.proofs.Math.Seq.{take-nil}
 use Rattle.basis.specs.Lists.{All, all_take}
 use Rattle.basis.specs.Tests.{either, both}
 use Rattle.refusal.specs.After.{After, left}
 use Rattle.refusal.specs.AfterLaws.{made-number}
-use Rattle.refusal.specs.declared.Change.{Change}
-use Rattle.refusal.specs.declared.Change.TheVariants.{Made, Refused}
+use Rattle.refusal.specs.After.{Change}
 use Rattle.octets.specs.Bytes.{byte_at, le16, le32, to_le32}
 use Rattle.octets.specs.Store.{put}
 use Rattle.octets.specs.StoreLaws.{put_append, put-none, length-put}
@@ -18,7 +17,7 @@ use Rattle.idx_book.specs.Book.{Calls, FourBytes, change_answer, lookup_answer, 
 use Rattle.idx_book.proofs.BookLaws.{demand_3, demand_3_sound}
 use Rattle.idx_page.specs.Header.{key_length, features}
 use Rattle.idx_lookup.specs.Lookup.{lookup_rule, answer_pages}
-use Rattle.idx_lookup.specs.declared.Answer.{Answer as Looked}
+use Rattle.idx_lookup.specs.Answer.{Answer as Looked}
 use Rattle.idx_insert.specs.Calls.{insert_rule}
 use Rattle.idx_insert.specs.Fresh.{fresh_buffer, fresh_checks, fresh_rule}
 use Rattle.idx_remove.specs.Calls.{remove_rule}
@@ -129,21 +128,14 @@ module _ (b₀ s out₀ b out : List ℕ) (at m : ℕ) (g : Going b₀ s out₀ 
 
 -- a batch by fresh's answer
 module _ (b : List ℕ) (k f : ℕ) (e s out : List ℕ) {b' : List ℕ} where
-  pub batch-made : {b'' out' : List ℕ} {n : ℕ} → fresh_rule b k f e ≡ left b' Made → run_rule b' s out ≡ leaves b'' out' n
-      → batch_rule b k f e s out ≡ started b'' out' (record { fresh = 0; made = n })
+  pub batch-made : {b'' out' : List ℕ} {n : ℕ} → fresh_rule b k f e ≡ left b' (Ok tt) → run_rule b' s out ≡ leaves b'' out' n
+      → batch_rule b k f e s out ≡ started b'' out' (Ok n)
   unfolding batch_rule
   batch-made made r = rw (made, r)
 
-  pub batch-refused : {n : ℕ} → fresh_rule b k f e ≡ left b' (Refused n) → batch_rule b k f e s out ≡ started b' out (record { fresh = n; made = 0 })
+  pub batch-refused : {n : ℕ} → fresh_rule b k f e ≡ left b' (Err n) → batch_rule b k f e s out ≡ started b' out (Err n)
   unfolding batch_rule
   batch-refused refused = rw (refused)
-
--- a refusal of fresh does not have the number 0
-pub refused-number : (b : List ℕ) (k f : ℕ) (e : List ℕ) {b' : List ℕ} {n : ℕ} → fresh_rule b k f e ≡ left b' (Refused n) → n ≡ 0 → ⊥
-unfolding fresh_rule fresh_checks
-refused-number b k f e {b'} {n} q z =
-    made-number (fresh_buffer k f e b) b (λ (m : ℕ). m ≡ 0 → ⊥) (fresh_checks b k f e)
-    ((λ bad none. omega arith), ((λ bad none. omega arith), ((λ bad none. omega arith), tt))) n (ap (λ (i : After Change). i.answer) q) z
 
 -- bytes below 256, one by one, are so all together
 all_octets : (s : List ℕ) → ((i : ℕ) → get_or s i 0 < 256) → All (λ x. x < 256) s
@@ -175,9 +167,9 @@ sound-run-kept b s out ob os r sound =
 -- Theorem: demand 3 of a batch
 pub batch-kept : (b : List ℕ) (k f : ℕ) (e s out : List ℕ) {b' b'' out' : List ℕ} {n : ℕ} → ((i : ℕ) → get_or b i 0 < 256)
     → ((i : ℕ) → get_or s i 0 < 256)
-    → fresh_rule b k f e ≡ left b' Made → run_rule b' s out ≡ leaves b'' out' n → BatchKept b k f e s out b'' out' n
+    → fresh_rule b k f e ≡ left b' (Ok tt) → run_rule b' s out ≡ leaves b'' out' n → BatchKept b k f e s out b'' out' n
 batch-kept b k f e s out {b'} ob os made r =
-    let a : (fresh_rule b k f e).answer ≡ Made = ap (λ (i : After Change). i.answer) made in
+    let a : (fresh_rule b k f e).answer ≡ (Ok tt) = ap (λ (i : After Change). i.answer) made in
     let q : (fresh_rule b k f e).after ≡ b' = ap (λ (i : After Change). i.after) made in
     record {
       fresh = a;

@@ -1,15 +1,17 @@
 // A list of calls run by code: fresh, and then insertions, lookups and removals, each lent the buffer as the last call left it.
 #![tactic(auto)]
 
-ghost use Rattle.std.specs.Prelude.{◌≡◌, true, ◌&&◌, ◌+◌, ◌≤◌, length, leb};
+ghost use Rattle.std.specs.Prelude.{◌≡◌, true, ◌&&◌, ◌+◌, ◌≤◌, length, leb, IfOk};
+ghost use Rattle.refusal.specs.Refusals.{numbered};
 ghost use Rattle.octets.specs.Store.{put};
 ghost use Rattle.idx_book.specs.Book.{change_answer, lookup_answer, buffer_after};
 ghost use Rattle.idx_lookup.specs.Lookup.{answer_pages};
 ghost use Rattle.idx_batch.specs.Encoding.{is_call, call_end, call_at};
 ghost use Rattle.idx_batch.specs.Run.{answer_size, reply_of, reply_bytes, reply_to, leaves, run_rule, SoundRunKept, started, batch_rule, BatchKept};
 
+use idx_lookup::Outcome;
 use idx_page::RecordNumber;
-use refusal::Change;
+use refusal::Refusal;
 
 // The bytes of one answer.
 pub const ANSWER_SIZE: usize = 12;
@@ -18,19 +20,12 @@ pub const ANSWER_SIZE: usize = 12;
 const ABSENT: u32 = 257;
 
 // What a call answers, as it is written: its code, 0, the refusal's number or `ABSENT`; the number of the record that was found; and how many pages a lookup
-// visited.
+// visited. The list of answers is bytes that a host reads, so refusals are numbers in it.
 #[derive(Clone, Copy)]
 pub struct Reply {
     pub code: u32,
     pub number: u32,
     pub pages: u32,
-}
-
-// What a batch answers: fresh's code, 0 or its refusal's number, and how many calls were made after it.
-#[derive(Clone, Copy)]
-pub struct Batch {
-    pub fresh: u32,
-    pub made: usize,
 }
 
 // The offset past the call at an offset.
@@ -63,17 +58,17 @@ fn goes_on(calls: &[u8], at: usize, room: usize) -> bool
 }
 
 // The answer of an insertion or a removal.
-fn changed(answer: Change) -> Reply
-    ensures { result ≡ reply_of (change_answer answer) 0 }
+fn changed(answer: Result<(), Refusal>) -> Reply
+    ensures { result ≡ reply_of (change_answer (numbered answer)) 0 }
 {
     match answer {
-        Change::Made => Reply {
+        Ok(()) => Reply {
             code: 0,
             number: 0,
             pages: 0,
         },
-        Change::Refused(refusal) => Reply {
-            code: refusal,
+        Err(refusal) => Reply {
+            code: refusal.number(),
             number: 0,
             pages: 0,
         },
@@ -81,22 +76,27 @@ fn changed(answer: Change) -> Reply
 }
 
 // A lookup's answer.
-fn looked_up(answer: idx_lookup::Answer) -> Reply
-    ensures { result ≡ reply_of (lookup_answer answer) (answer_pages answer 0) }
+fn looked_up(answer: Result<Outcome, Refusal>) -> Reply
+    ensures { result ≡ reply_of (lookup_answer (numbered answer)) (answer_pages (numbered answer) 0) }
 {
     match answer {
-        idx_lookup::Answer::Found(number, pages) => Reply {
+        Ok(
+            Outcome {
+                found: Some(number),
+                pages,
+            },
+        ) => Reply {
             code: 0,
             number: number.0,
             pages,
         },
-        idx_lookup::Answer::Absent(pages) => Reply {
+        Ok(Outcome { found: None, pages }) => Reply {
             code: ABSENT,
             number: 0,
             pages,
         },
-        idx_lookup::Answer::Refused(refusal) => Reply {
-            code: refusal,
+        Err(refusal) => Reply {
+            code: refusal.number(),
             number: 0,
             pages: 0,
         },
@@ -111,6 +111,7 @@ fn make_call(index: &mut [u8], calls: &[u8], at: usize) -> Reply
 {
     let from = at + 3;
     let end = from + octets::load_le16(calls, at + 1) as usize;
+    // The kind is a byte of the list, which hosts write: it is read here alone, so an enum of kinds would be no plainer.
     let kind = octets::byte(calls, at);
     if kind == 0 {
         return looked_up(idx_lookup::lookup(index, &calls[from..end]));
@@ -139,6 +140,7 @@ pub fn run_calls(index: &mut [u8], calls: &[u8], answers: &mut [u8]) -> usize
 {
     let mut at = 0;
     let mut made = 0;
+    // A call says its own length, so the loop goes from place to place, and no iterator over the bytes serves.
     while goes_on(calls, at, answers.len() - ANSWER_SIZE * made) {
         let reply = make_call(index, calls, at);
         write_reply(answers, ANSWER_SIZE * made, reply);
@@ -148,7 +150,7 @@ pub fn run_calls(index: &mut [u8], calls: &[u8], answers: &mut [u8]) -> usize
     made
 }
 
-// Makes a fresh index of the features told, and then the calls of a list if fresh is accepted.
+// Makes a fresh index of the features told, and then the calls of a list if fresh is accepted; answers how many.
 pub fn run_batch(
     index: &mut [u8],
     k: u32,
@@ -156,21 +158,14 @@ pub fn run_batch(
     expression: &[u8],
     calls: &[u8],
     answers: &mut [u8],
-) -> Batch
+) -> Result<usize, Refusal>
     ensures answers_value { batch_rule index.old k features expression.now calls.now answers.old
-        ≡ started index.new answers.new result }
-    ensures batch_kept { result.fresh ≡ 0
-        → BatchKept index.old k features expression.now calls.now answers.old
-        index.new answers.new result.made }
+        ≡ started index.new answers.new (numbered result) }
+    ensures batch_kept { IfOk result (λ made. BatchKept index.old k features expression.now calls.now answers.old
+        index.new answers.new made) }
 {
     match idx_insert::fresh(index, k, features, expression) {
-        Change::Made => Batch {
-            fresh: 0,
-            made: run_calls(index, calls, answers),
-        },
-        Change::Refused(refusal) => Batch {
-            fresh: refusal,
-            made: 0,
-        },
+        Ok(()) => Ok(run_calls(index, calls, answers)),
+        Err(refusal) => Err(refusal),
     }
 }

@@ -1,10 +1,9 @@
 -- Laws: demand 3. After an accepted fresh, and from any sound index on, the book keeps every list of calls. Assumes nothing.
-use Rattle.std.specs.Prelude.{ℕ, zero, suc, ◌<◌, ◌≡◌, refl, Bool, true, List, [], ◌∷◌, length, take}
+use Rattle.std.specs.Prelude.{ℕ, zero, suc, ◌<◌, ◌≡◌, refl, Bool, true, List, [], ◌∷◌, length, take, Ok}
 use Rattle.std.proofs.Common.{sym, ap, ◌∙◌, arith, leb-true}
 use Rattle.basis.specs.Lists.{All, all_take}
 use Rattle.basis.specs.Tests.{both}
 use Rattle.refusal.specs.AfterLaws.{Accepted, made-accepted}
-use Rattle.refusal.specs.declared.Change.TheVariants.{Made}
 use Rattle.tree.specs.Book.{Call, insertion, removal_of, lookup_of, KeyTests, is_no_room, no_rooms, results_of, final_of}
 use Rattle.tree.specs.Book.{book_answer, book_after, book_answers, book_final, BookClaim}
 use Rattle.tree.proofs.Book.Theorem.{list-keeps, book_claim}
@@ -130,16 +129,16 @@ pub demand_3_sound : (b : List ℕ) → All (λ x. x < 256) b → (s : Sound b) 
 demand_3_sound b octets s calls o = sound-kept b (octets_plain b octets) s calls o
 
 -- fresh is accepted only if its three checks hold
-fresh-accepted : (k f : ℕ) (e b : List ℕ) → (fresh_rule b k f e).answer ≡ Made → Accepted (fresh_buffer k f e b) b (fresh_checks b k f e)
+fresh-accepted : (k f : ℕ) (e b : List ℕ) → (fresh_rule b k f e).answer ≡ (Ok tt) → Accepted (fresh_buffer k f e b) b (fresh_checks b k f e)
 unfolding fresh_rule
 fresh-accepted k f e b a = made-accepted (fresh_buffer k f e b) b (fresh_checks b k f e) a
 
-pub fresh-leaves : (k f : ℕ) (e b : List ℕ) → (fresh_rule b k f e).answer ≡ Made → (fresh_rule b k f e).after ≡ fresh_buffer k f e b
+pub fresh-leaves : (k f : ℕ) (e b : List ℕ) → (fresh_rule b k f e).answer ≡ (Ok tt) → (fresh_rule b k f e).after ≡ fresh_buffer k f e b
 unfolding fresh_rule
 fresh-leaves k f e b a = (fresh-accepted k f e b a).leaves
 
 -- an accepted fresh leaves a sound index without pairs
-pub fresh_is : (b : List ℕ) (k f : ℕ) (e : List ℕ) → All (λ x. x < 256) b → (fresh_rule b k f e).answer ≡ Made → FreshIs k f e b
+pub fresh_is : (b : List ℕ) (k f : ℕ) (e : List ℕ) → All (λ x. x < 256) b → (fresh_rule b k f e).answer ≡ (Ok tt) → FreshIs k f e b
 unfolding fresh_checks
 fresh_is b k f e octets a =
     let held = (fresh-accepted k f e b a).held in
@@ -154,7 +153,7 @@ fresh_is b k f e octets a =
 
 -- Theorem: demand 3, over both features. After an accepted fresh, which is told the features, the book begins without pairs, since a fresh index is sound and
 -- has none
-pub demand_3 : (b : List ℕ) (k f : ℕ) (e : List ℕ) → All (λ x. x < 256) b → (fresh_rule b k f e).answer ≡ Made → (calls : Calls)
+pub demand_3 : (b : List ℕ) (k f : ℕ) (e : List ℕ) → All (λ x. x < 256) b → (fresh_rule b k f e).answer ≡ (Ok tt) → (calls : Calls)
     → All FourBytes calls
     → BookKept k f [] calls (fresh_rule b k f e).after
 demand_3 b k f e octets a calls o =

@@ -1,6 +1,6 @@
 -- Laws: one call of insertion, lookup or removal on a buffer that holds a sound index is the theory's call on that index, and keeps it sound. Cited by
 -- `BookLaws`. Assumes nothing.
-use Rattle.std.specs.Prelude.{ℕ, ◌-◌, ◌/◌, ◌^◌, ◌<◌, min, ◌≡◌, refl, Bool, true, false, cond, not, List, [], ◌∷◌, eqb, length, replicate}
+use Rattle.std.specs.Prelude.{ℕ, ◌-◌, ◌/◌, ◌^◌, ◌<◌, min, ◌≡◌, refl, Bool, true, false, cond, not, List, [], ◌∷◌, eqb, length, replicate, Err, Ok, Some, None}
 use Rattle.std.proofs.Common.{sym, ap₂, ◌∙◌, subst, arith, eqb-true}
 use Rattle.std.proofs.Math.Path.{ap}
 use Rattle.std.proofs.Math.Option.{Option, none, some}
@@ -28,8 +28,9 @@ use Rattle.idx_page.specs.KeyOrder.{bytes_order}
 use Rattle.idx_page.specs.Page.{right_at}
 use Rattle.idx_page.specs.declared.RecordNumber.{RecordNumber}
 use Rattle.idx_lookup.specs.Lookup.{lookup_rule, answer_pages}
-use Rattle.idx_lookup.specs.declared.Answer.{Answer as Looked}
-use Rattle.idx_lookup.specs.declared.Answer.TheVariants as looked
+use Rattle.idx_lookup.specs.Answer.{Answer as Looked}
+use Rattle.idx_lookup.specs.Answer as looked
+use Rattle.idx_lookup.specs.AnswerLaws.{absent-found}
 use Rattle.idx_lookup_laws.specs.FoundLaws.{answer_of}
 use Rattle.idx_lookup_laws.specs.HeldLaws.{goes_on_lem, lookup-by}
 use Rattle.idx_sound.proofs.Accepted.{accepted as audit-accepts}
@@ -140,18 +141,17 @@ answer_reply (some r) n = refl
 
 -- the record that was found, by lookup's answer
 found_record : Looked → Option ℕ
-found_record (looked.Found r pages) = some r.0
-found_record (looked.Absent pages) = none
-found_record (looked.Refused n) = none
+found_record (Ok outcome) = elim outcome.found [ Some r ↦ some r.0 | None ↦ none ]
+found_record (Err n) = none
 
-answer-record : (o : Option ℕ) (n : ℕ) (r : RecordNumber) (m : ℕ) → answer_of o n ≡ looked.Found r m → o ≡ some r.0
+answer-record : (o : Option ℕ) (n : ℕ) (r : RecordNumber) (m : ℕ) → answer_of o n ≡ looked.found r m → o ≡ some r.0
 unfolding found_record
 answer-record none n r m e = ap found_record e
 answer-record (some x) n r m e = ap found_record e
 
 -- the pages that an answer has, by lookup's answer
-answer-pages : (o : Option ℕ) (n : ℕ) (r : RecordNumber) (m : ℕ) → answer_of o n ≡ looked.Found r m → n ≡ m
-answer-pages none n r m e = impossible (cc)
+answer-pages : (o : Option ℕ) (n : ℕ) (r : RecordNumber) (m : ℕ) → answer_of o n ≡ looked.found r m → n ≡ m
+answer-pages none n r m e = absent-found n r m e
 answer-pages (some x) n r m e = ap (λ (a : Looked). answer_pages a 0) e
 
 one_more : (t : Bool) → count_if t ≡ cond t 1 0
@@ -191,7 +191,7 @@ module _ (k f size : ℕ) (b : List ℕ) (kept : Kept k f size b) where
       ≡ answer_of (lookup_by (kept_by b) key h (index_tree b h)) (length (visited_by (kept_by b) key h (index_tree b h)))) (sym (height-is b s))
       (lookup-by b key s (long-key key t))
 
-  misfit : (key : List ℕ) → fits k key ≡ false → lookup_rule b key ≡ looked.Refused 27
+  misfit : (key : List ℕ) → fits k key ≡ false → lookup_rule b key ≡ Err 27
   unfolding lookup_rule unless
   misfit key t = rw (s.header, same-fit key ∙ t)
 
@@ -215,7 +215,7 @@ module _ (k f size : ℕ) (b : List ℕ) (kept : Kept k f size b) where
       let v = visited_by-found Q key h T r.0 there in
       let more : count_if Q.goes_on ≡ cond (eqb (features b) 0) 1 0 = ap count_if (goes_on_lem (features b)) ∙ one_more (eqb (features b) 0) in
       (omega (arith, v.0, many), omega (arith, v.1, many, more)))
-      (λ t. let other : looked.Refused 27 ≡ looked.Found r pages = sym (misfit key t) ∙ e in impossible (cc))
+      (λ t. let other : Err 27 ≡ looked.found r pages = sym (misfit key t) ∙ e in impossible (cc))
 
   -- a pair of a key of k bytes and a record number of four
   module _ (key : List ℕ) (r : ℕ) (r32 : r < 2 ^ 32) (t : fits k key ≡ true) where

@@ -1,12 +1,11 @@
 -- Laws: each answer of insertion is given exactly in its case, as `specs/InsertionAnswers` says. No proof of the code cites these laws: they are for readers
 -- of the rule. Assumes nothing.
-use Rattle.std.specs.Prelude.{ℕ, ◌^◌, ◌<◌, ◌≡◌, refl, false, List, ◌↔◌, eqb, length}
+use Rattle.std.specs.Prelude.{ℕ, ◌^◌, ◌<◌, ◌≡◌, refl, false, List, ◌↔◌, eqb, length, Err, Ok}
 use Rattle.std.proofs.Common.{sym, ap, ◌∙◌, subst, arith, eqb-true}
 use Rattle.std.proofs.lemmas.Bool.{eqb-false}
 use Rattle.basis.specs.Tests.{either, contra}
 use Rattle.refusal.specs.After.{After, change_code}
-use Rattle.refusal.specs.declared.Change.{Change}
-use Rattle.refusal.specs.declared.Change.TheVariants.{Made, Refused}
+use Rattle.refusal.specs.After.{Change}
 use Rattle.idx_page.specs.Header.{key_length, features}
 use Rattle.idx_sound.specs.Sound.{Sound}
 use Rattle.idx_insert.specs.Calls.{has_control, insert_rule}
@@ -45,38 +44,38 @@ module _ (b key : List ℕ) (r : ℕ) (r32 : r < 2 ^ 32) where
   not_present w = fails (path_to (key_length b) b key r).present (λ f. w.absent ((leaf-exactly b key r w.asked.fits r32 w.sound).0 f))
 
   -- in each case the rule gives its answer
-  is_24 : BadHeader b → answer ≡ Refused 24
+  is_24 : BadHeader b → answer ≡ Err 24
   is_24 c = ap (λ (i : After Change). i.answer) (calls.refused_24 b key r c.header)
 
-  is_27 : WrongLength b key → answer ≡ Refused 27
+  is_27 : WrongLength b key → answer ≡ Err 27
   is_27 c = ap (λ (i : After Change). i.answer) (calls.refused_27 b key r c.header c.other)
 
-  is_32 : ControlByte b key → answer ≡ Refused 32
+  is_32 : ControlByte b key → answer ≡ Err 32
   is_32 c = ap (λ (i : After Change). i.answer) (calls.refused_32 b key r c.header c.fits c.control)
 
-  is_28 : NoNumber b key r → answer ≡ Refused 28
+  is_28 : NoNumber b key r → answer ≡ Err 28
   is_28 c = ap (λ (i : After Change). i.answer) (calls.refused_28 b key r c.header c.fits c.clean c.zero)
 
-  is_25 : Unsound b key r → answer ≡ Refused 25
+  is_25 : Unsound b key r → answer ≡ Err 25
   is_25 c =
       let a = c.asked in
       ap (λ (i : After Change). i.answer)
       (calls.refused_25 b key r a.header a.fits a.clean (not_zero a.number) (pages-bad b a.header c.unsound))
 
-  is_29 : Present b key r → answer ≡ Refused 29
+  is_29 : Present b key r → answer ≡ Err 29
   is_29 c =
       let a = c.asked in
       ap (λ (i : After Change). i.answer)
       (calls.refused_29 b key r a.header a.fits a.clean (not_zero a.number) (pages-good b c.sound)
       ((leaf-exactly b key r a.fits r32 c.sound).1 c.there))
 
-  is_30 : Full b key r → answer ≡ Refused 30
+  is_30 : Full b key r → answer ≡ Err 30
   is_30 c =
       let a = c.new.asked in
       ap (λ (i : After Change). i.answer)
       (calls.refused_30 b key r a.header a.fits a.clean (not_zero a.number) (pages-good b c.new.sound) (not_present c.new) c.full)
 
-  is-accepted : Fitting b key r → answer ≡ Made
+  is-accepted : Fitting b key r → answer ≡ Ok tt
   is-accepted c =
       let a = c.new.asked in
       ap (λ (i : After Change). i.answer)
@@ -111,14 +110,14 @@ module _ (b key : List ℕ) (r : ℕ) (r32 : r < 2 ^ 32) where
   pub insertion_says : InsertionSays b key r (insert_rule b key r).answer
   unfolding Case whether
   insertion_says = record {
-    refused_24 = (from (Refused 24), is_24);
-    refused_27 = (from (Refused 27), is_27);
-    refused_32 = (from (Refused 32), is_32);
-    refused_28 = (from (Refused 28), is_28);
-    refused_25 = (from (Refused 25), is_25);
-    refused_29 = (from (Refused 29), is_29);
-    refused_30 = (from (Refused 30), is_30);
-    accepted = (from Made, is-accepted);
+    refused_24 = (from (Err 24), is_24);
+    refused_27 = (from (Err 27), is_27);
+    refused_32 = (from (Err 32), is_32);
+    refused_28 = (from (Err 28), is_28);
+    refused_25 = (from (Err 25), is_25);
+    refused_29 = (from (Err 29), is_29);
+    refused_30 = (from (Err 30), is_30);
+    accepted = (from (Ok tt), is-accepted);
   }
 
   -- Theorem: no two answers meet `InsertionSays`
@@ -135,7 +134,7 @@ module _ (b key : List ℕ) (r : ℕ) (r32 : r < 2 ^ 32) where
 
   -- Theorem: on a sound index insertion refuses with 29 exactly when the key has k bytes, none below 0x20, the record number is above 0 and the pair, for
   -- features 1 the key, is among the leaves' pairs
-  pub present-exactly : (s : Sound b) → ((insert_rule b key r).answer ≡ Refused 29)
+  pub present-exactly : (s : Sound b) → ((insert_rule b key r).answer ≡ Err 29)
       ↔ ((length key ≡ key_length b) × (has_control key ≡ false) × (0 < r) × HasPair (features b) key r (leaf_pairs b s))
   present-exactly s = (
     λ e.

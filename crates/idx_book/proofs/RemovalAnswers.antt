@@ -1,11 +1,10 @@
 -- Laws: each answer of removal is given exactly in its case, as `specs/RemovalAnswers` says. No proof of the code cites these laws: they are for readers of
 -- the rule. Assumes nothing.
-use Rattle.std.specs.Prelude.{ℕ, ◌^◌, ◌<◌, ◌≡◌, refl, List, ◌↔◌, eqb, length}
+use Rattle.std.specs.Prelude.{ℕ, ◌^◌, ◌<◌, ◌≡◌, refl, List, ◌↔◌, eqb, length, Err, Ok}
 use Rattle.std.proofs.Common.{sym, ap, ◌∙◌, subst}
 use Rattle.basis.specs.Tests.{either, contra}
 use Rattle.refusal.specs.After.{After}
-use Rattle.refusal.specs.declared.Change.{Change}
-use Rattle.refusal.specs.declared.Change.TheVariants.{Made, Refused}
+use Rattle.refusal.specs.After.{Change}
 use Rattle.idx_page.specs.Header.{key_length, features}
 use Rattle.idx_sound.specs.Sound.{Sound}
 use Rattle.idx_remove.specs.Calls.{remove_rule}
@@ -30,22 +29,22 @@ module _ (b key : List ℕ) (r : ℕ) (r32 : r < 2 ^ 32) where
   answer = (remove_rule b key r).answer
 
   -- in each case the rule gives its answer
-  is_24 : BadHeader b → answer ≡ Refused 24
+  is_24 : BadHeader b → answer ≡ Err 24
   is_24 c = ap (λ (i : After Change). i.answer) (calls.refused_24 b key r c.header)
 
-  is_27 : WrongLength b key → answer ≡ Refused 27
+  is_27 : WrongLength b key → answer ≡ Err 27
   is_27 c = ap (λ (i : After Change). i.answer) (calls.refused_27 b key r c.header c.other)
 
-  is_25 : Unsound b key → answer ≡ Refused 25
+  is_25 : Unsound b key → answer ≡ Err 25
   is_25 c = ap (λ (i : After Change). i.answer) (calls.refused_25 b key r c.header c.fits (pages-bad b c.header c.unsound))
 
-  is_33 : Absent b key r → answer ≡ Refused 33
+  is_33 : Absent b key r → answer ≡ Err 33
   is_33 c =
       let s = c.sound in
       let lost = fails (is_there (key_length b) b key r) (λ f. c.absent ((there-exactly b key r c.fits r32 s).0 f)) in
       ap (λ (i : After Change). i.answer) (calls.refused_33 b key r s.header c.fits (pages-good b s) lost)
 
-  is-accepted : Held b key r → answer ≡ Made
+  is-accepted : Held b key r → answer ≡ Ok tt
   is-accepted c =
       let s = c.sound in
       let found = (there-exactly b key r c.fits r32 s).1 c.there in
@@ -53,8 +52,8 @@ module _ (b key : List ℕ) (r : ℕ) (r32 : r < 2 ^ 32) where
 
   -- the case by the answer; no other number is given
   Case : Change → Type 0
-  Case Made = Held b key r
-  Case (Refused n) =
+  Case (Ok tt) = Held b key r
+  Case (Err n) =
       whether (eqb n 24) (BadHeader b)
       (whether (eqb n 27) (WrongLength b key) (whether (eqb n 25) (Unsound b key) (whether (eqb n 33) (Absent b key r) ⊥)))
 
@@ -74,11 +73,11 @@ module _ (b key : List ℕ) (r : ℕ) (r32 : r < 2 ^ 32) where
   pub removal_says : RemovalSays b key r (remove_rule b key r).answer
   unfolding Case whether
   removal_says = record {
-    refused_24 = (from (Refused 24), is_24);
-    refused_27 = (from (Refused 27), is_27);
-    refused_25 = (from (Refused 25), is_25);
-    refused_33 = (from (Refused 33), is_33);
-    accepted = (from Made, is-accepted);
+    refused_24 = (from (Err 24), is_24);
+    refused_27 = (from (Err 27), is_27);
+    refused_25 = (from (Err 25), is_25);
+    refused_33 = (from (Err 33), is_33);
+    accepted = (from (Ok tt), is-accepted);
   }
 
   -- Theorem: no two answers meet `RemovalSays`
@@ -92,7 +91,7 @@ module _ (b key : List ℕ) (r : ℕ) (r32 : r < 2 ^ 32) where
 
   -- Theorem: on a sound index removal refuses with 33 exactly when the key has k bytes and the pair, for features 1 the key, is not among the
   -- leaves' pairs
-  pub absent-exactly : (s : Sound b) → ((remove_rule b key r).answer ≡ Refused 33)
+  pub absent-exactly : (s : Sound b) → ((remove_rule b key r).answer ≡ Err 33)
       ↔ ((length key ≡ key_length b) × (HasPair (features b) key r (leaf_pairs b s) → ⊥))
   absent-exactly s = (
     λ e. let c = removal_says.refused_33.0 e in (c.fits, λ t. c.absent (same-pairs b key r c.fits r32 s c.sound t)),

@@ -1,13 +1,12 @@
 -- Laws: pages are reused: the file never shrinks, and if at most m pairs are held at a time it stays below a size that depends on m alone; a key that is struck
 -- off and put in again is found. They stand beside demand 3, on buffers. Assumes nothing.
-use Rattle.std.specs.Prelude.{ℕ, zero, suc, ◌+◌, ◌*◌, ◌^◌, ◌≤◌, ◌<◌, ◌≡◌, refl, false, length}
+use Rattle.std.specs.Prelude.{ℕ, zero, suc, ◌+◌, ◌*◌, ◌^◌, ◌≤◌, ◌<◌, ◌≡◌, refl, false, length, Ok}
 use Rattle.std.proofs.Common.{sym, ap, ◌∙◌, arith}
 use mathlib.Core.List.{List, [], ◌∷◌}
 use Rattle.basis.specs.Lists.{All}
 use Rattle.tree.specs.Book.{Call, insertion, removal_of, lookup_of, accepted, found, is_accepted, final_of}
 use Rattle.tree.proofs.Book.Theorem.{HoldsAtMost, list-bounded, list-grows}
 use Rattle.tree.specs.Index.{held, fresh, out_of_room, answer, next}
-use Rattle.refusal.specs.declared.Change.TheVariants.{Made}
 use Rattle.idx_page.specs.KeyOrder.{bytes_order}
 use Rattle.tree.proofs.IndexLaws.{accepted_strikable}
 use Rattle.tree.proofs.KeepingOf.{keeping_of, distinct_keys}
@@ -59,7 +58,7 @@ never_shrinks b octets s calls o =
     (record { sound = s; key_is = refl; features_are = refl; as_long = refl; plain = octets_plain b octets })
 
 -- Theorem: pages are reused. If the book never has more than m pairs, F is at most 512 · (1 + 15 · m), however long the list of calls is
-pub pages_reused : (b : List ℕ) (k f : ℕ) (e : List ℕ) → All (λ x. x < 256) b → (fresh_rule b k f e).answer ≡ Made → (calls : Calls)
+pub pages_reused : (b : List ℕ) (k f : ℕ) (e : List ℕ) → All (λ x. x < 256) b → (fresh_rule b k f e).answer ≡ (Ok tt) → (calls : Calls)
     → All FourBytes calls → (m : ℕ) → 0 < m → ((n : ℕ) → length (book_at k f [] n calls (fresh_rule b k f e).after) ≤ m)
     → file_size (final_of buffer_after calls (fresh_rule b k f e).after) ≤ page_size * suc (max_levels * m)
 pages_reused b k f e octets a calls o m pos few =

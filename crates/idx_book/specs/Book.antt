@@ -1,9 +1,8 @@
 -- Rules: demand 3, one claim about a whole list of calls, each lent the buffer as the last call left it. The calls are the rules that the contracts of
 -- insertion, lookup and removal cite; the book, its answers and its pairs are those of the crate `tree`. The book begins at `book`: without pairs for a
 -- fresh index, and at the leaves' pairs for an index that a host brings.
-use Rattle.std.specs.Prelude.{ℕ, ◌+◌, ◌^◌, ◌≤◌, ◌<◌, ◌≡◌, Bool, false, cond, List, [], ◌∷◌, eqb, length, take}
-use Rattle.refusal.specs.declared.Change.{Change}
-use Rattle.refusal.specs.declared.Change.TheVariants.{Made, Refused}
+use Rattle.std.specs.Prelude.{ℕ, ◌+◌, ◌^◌, ◌≤◌, ◌<◌, ◌≡◌, Bool, false, cond, List, [], ◌∷◌, eqb, length, take, Err, Ok, Some, None}
+use Rattle.refusal.specs.After.{Change}
 use Rattle.tree.specs.Book.{Call, insertion, removal_of, lookup_of, Answer, refused, accepted, found, absent, KeyTests}
 use Rattle.tree.specs.Book.{is_accepted, no_rooms, results_of, final_of}
 use Rattle.tree.specs.Book.{book_answers, book_final}
@@ -12,8 +11,8 @@ use Rattle.idx_page.specs.Header.{key_length, features}
 use Rattle.idx_page.specs.KeyOrder.{bytes_order}
 use Rattle.idx_page.specs.declared.RecordNumber.{RecordNumber}
 use Rattle.idx_lookup.specs.Lookup.{lookup_rule}
-use Rattle.idx_lookup.specs.declared.Answer.{Answer as Looked}
-use Rattle.idx_lookup.specs.declared.Answer.TheVariants as looked
+use Rattle.idx_lookup.specs.Answer.{Answer as Looked}
+use Rattle.idx_lookup.specs.Answer as looked
 use Rattle.idx_sound.specs.Sound.{Sound}
 pub use Rattle.idx_sound.specs.Sound.{leaf_pairs}
 use Rattle.idx_insert.specs.Calls.{has_control, insert_rule}
@@ -28,13 +27,12 @@ Calls = List (Call (List ℕ))
 
 -- the answers of the calls in the book's words
 abbrev pub change_answer : Change → Answer
-change_answer Made = accepted
-change_answer (Refused n) = refused n
+change_answer (Ok tt) = accepted
+change_answer (Err n) = refused n
 
 abbrev pub lookup_answer : Looked → Answer
-lookup_answer (looked.Found r pages) = found r.0
-lookup_answer (looked.Absent pages) = absent
-lookup_answer (looked.Refused n) = refused n
+lookup_answer (Ok outcome) = elim outcome.found [ Some r ↦ found r.0 | None ↦ absent ]
+lookup_answer (Err n) = refused n
 
 -- a call on the buffer b: what it answers, the buffer that it leaves, and the rule for 30 on the index in b
 abbrev pub answer_to : Call (List ℕ) → List ℕ → Answer
@@ -91,7 +89,7 @@ pub record IndexHolds (b : List ℕ) (book : Pairs) : Type 0 where
 abbrev pub VisitsLevels : Call (List ℕ) → List ℕ → Type 0
 VisitsLevels (insertion key r) b = Unit {0}
 VisitsLevels (removal_of key r) b = Unit {0}
-VisitsLevels (lookup_of key) b = (s : Sound b) (r : RecordNumber) (pages : ℕ) → lookup_rule b key ≡ looked.Found r pages
+VisitsLevels (lookup_of key) b = (s : Sound b) (r : RecordNumber) (pages : ℕ) → lookup_rule b key ≡ looked.found r pages
     → (s.height + 1 ≤ pages) × (pages ≤ s.height + 1 + cond (eqb (features b) 0) 1 0)
 
 -- an accepted insertion leaves the buffer that document 01's steps make, an accepted removal the one that K6's steps make, and a refused one leaves the buffer

@@ -1,9 +1,8 @@
 -- Laws: what each answer of insertion says, in the order "24, 27, 28, 25 by full audit, 29 if the key is in a leaf, 30", with 32 "after 27 and before 28";
 -- for features 0 "29 means the very pair is present". The rule computes with the audit's test and with the pair's path; here `Sound` and the leaves' pairs
 -- stand in their place. The laws themselves stand in `proofs/InsertionAnswers`: they are for readers of the rule.
-use Rattle.std.specs.Prelude.{ℕ, ◌<◌, ◌≡◌, true, false, List, ◌↔◌, length}
-use Rattle.refusal.specs.declared.Change.{Change}
-use Rattle.refusal.specs.declared.Change.TheVariants.{Made, Refused}
+use Rattle.std.specs.Prelude.{ℕ, ◌<◌, ◌≡◌, true, false, List, ◌↔◌, length, Err, Ok}
+use Rattle.refusal.specs.After.{Change}
 use Rattle.idx_page.specs.Header.{key_length, features, header_good}
 use Rattle.idx_sound.specs.Sound.{Sound}
 use Rattle.idx_insert.specs.Calls.{has_control}
@@ -60,11 +59,11 @@ pub record Fitting (b key : List ℕ) (r : ℕ) : Type 0 where
 
 -- the answer a to an insertion of a key with the record number r: each of the eight answers is given exactly when
 pub record InsertionSays (b key : List ℕ) (r : ℕ) (a : Change) : Type 0 where
-  pub refused_24 : (a ≡ Refused 24) ↔ BadHeader b
-  pub refused_27 : (a ≡ Refused 27) ↔ WrongLength b key
-  pub refused_32 : (a ≡ Refused 32) ↔ ControlByte b key
-  pub refused_28 : (a ≡ Refused 28) ↔ NoNumber b key r
-  pub refused_25 : (a ≡ Refused 25) ↔ Unsound b key r
-  pub refused_29 : (a ≡ Refused 29) ↔ Present b key r
-  pub refused_30 : (a ≡ Refused 30) ↔ Full b key r
-  pub accepted : (a ≡ Made) ↔ Fitting b key r
+  pub refused_24 : (a ≡ Err 24) ↔ BadHeader b
+  pub refused_27 : (a ≡ Err 27) ↔ WrongLength b key
+  pub refused_32 : (a ≡ Err 32) ↔ ControlByte b key
+  pub refused_28 : (a ≡ Err 28) ↔ NoNumber b key r
+  pub refused_25 : (a ≡ Err 25) ↔ Unsound b key r
+  pub refused_29 : (a ≡ Err 29) ↔ Present b key r
+  pub refused_30 : (a ≡ Err 30) ↔ Full b key r
+  pub accepted : (a ≡ (Ok tt)) ↔ Fitting b key r

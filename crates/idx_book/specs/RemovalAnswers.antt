@@ -1,9 +1,8 @@
 -- Laws: what each answer of removal says, in the "order 24, 27, 25 by full audit, then 33". The rule computes with the audit's test and with the leaf on the
 -- pair's route; here `Sound` and the leaves' pairs stand in their place. The laws themselves stand in `proofs/RemovalAnswers`: they are for readers of the
 -- rule.
-use Rattle.std.specs.Prelude.{ℕ, ◌≡◌, true, List, ◌↔◌, length}
-use Rattle.refusal.specs.declared.Change.{Change}
-use Rattle.refusal.specs.declared.Change.TheVariants.{Made, Refused}
+use Rattle.std.specs.Prelude.{ℕ, ◌≡◌, true, List, ◌↔◌, length, Err, Ok}
+use Rattle.refusal.specs.After.{Change}
 use Rattle.idx_page.specs.Header.{key_length, features, header_good}
 use Rattle.idx_sound.specs.Sound.{Sound}
 use Rattle.idx_book.specs.Book.{leaf_pairs}
@@ -30,8 +29,8 @@ pub record Held (b key : List ℕ) (r : ℕ) : Type 0 where
 
 -- the answer a to a removal of a key: each of the five answers is given exactly when
 pub record RemovalSays (b key : List ℕ) (r : ℕ) (a : Change) : Type 0 where
-  pub refused_24 : (a ≡ Refused 24) ↔ BadHeader b
-  pub refused_27 : (a ≡ Refused 27) ↔ WrongLength b key
-  pub refused_25 : (a ≡ Refused 25) ↔ Unsound b key
-  pub refused_33 : (a ≡ Refused 33) ↔ Absent b key r
-  pub accepted : (a ≡ Made) ↔ Held b key r
+  pub refused_24 : (a ≡ Err 24) ↔ BadHeader b
+  pub refused_27 : (a ≡ Err 27) ↔ WrongLength b key
+  pub refused_25 : (a ≡ Err 25) ↔ Unsound b key
+  pub refused_33 : (a ≡ Err 33) ↔ Absent b key r
+  pub accepted : (a ≡ (Ok tt)) ↔ Held b key r

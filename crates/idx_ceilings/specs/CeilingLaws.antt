@@ -1,17 +1,16 @@
 -- Laws: the tests of the keys over the children of a page, down to the leaf keys that bound them, and the loop over them. Cited by the proofs of the functions
 -- on these keys. Assumes nothing.
 use Prim.Native.Nat.{ℕ, zero, suc, ◌+◌, ◌-◌, ◌≤◌, ◌<◌}
-use Rattle.std.specs.Prelude.{◌≡◌, refl, Bool, not, ◌&&◌, ◌||◌, List, length, eqb}
+use Rattle.std.specs.Prelude.{◌≡◌, refl, Bool, not, ◌&&◌, List, length, eqb, Some, None}
 use Rattle.std.proofs.Math.Path.{sym, ap}
 use Rattle.std.proofs.Common.{◌∙◌}
-use Rattle.std.proofs.Math.Bool.{true, false, or-false}
+use Rattle.std.proofs.Math.Bool.{true, false}
 use Rattle.std.proofs.Math.Option.{none}
 use native.Mathlib.Omega.{arith}
-use borrow.Author.Tests.{eq-eqb, ne_eqb}
-use Rattle.basis.specs.Tests.{either, contra}
+use borrow.Author.Tests.{ne_eqb}
+use Rattle.basis.specs.Tests.{either}
 use Rattle.octets.specs.Store.{window}
-use Rattle.octets.specs.declared.Ordering.{Ordering}
-use Rattle.octets.specs.declared.Ordering.TheVariants.{Below, Equal, Above}
+use Rattle.std.specs.declared.cmp.Ordering.TheVariants.{Less, Equal, Greater}
 use Rattle.octets.specs.Order.{bytes_le, ordering, is_below, is_equal}
 use Rattle.octets.specs.OrderLaws.{le_total}
 use Rattle.tree.specs.Keeping.{covers_for}
@@ -27,25 +26,13 @@ use Rattle.idx_sound.specs.AuditTest as rule
 use Rattle.idx_sound.specs.AuditTest.{first_of, last_of, last_number, down, last_child, below_next, onward, upper_entries}
 use Rattle.idx_sound.proofs.CeilingLaws.{onward-good, onward-bad}
 use Rattle.idx_keys.specs.Places.{key_from}
-use Rattle.idx_ceilings.specs.State.{upper_key}
-use Rattle.idx_keys.specs.EntryLaws.{from_on, from_end, some_key}
+use Rattle.idx_ceilings.specs.State.{upper_key, keys_of}
+use Rattle.idx_keys.specs.EntryLaws.{from_on, from_end}
 
--- the first key of a page
-module _ (b : List ℕ) (k size p n : ℕ) (en : n ≡ length (entries_at k size b p)) where
-  pub first-none : n ≡ 0 → key_from b k 0 ≡ first_of (entries_at k size b p)
-  unfolding key_from entries_from
-  first-none z = rw (entries_are b k size p n en, z)
-
-  pub first_some : (x : ℕ) → (n ≡ 0 → ⊥) → x ≡ entry_offset k p 0 → key_from b k x ≡ first_of (entries_at k size b p)
-  unfolding entries_from
-  first_some x ne ex =
-      let e : n ≡ suc (n - 1) = omega arith in
-      rw (ex, some_key b k p 0, entries_are b k size p (suc (n - 1)) (sym e ∙ en))
-
-  -- the last child
-  pub child-none : n ≡ 0 → no_page ≡ last_child b k size p
-  unfolding entries_from
-  child-none z = rw (entries_are b k size p n en, z)
+-- the last child
+pub child-none : (b : List ℕ) (k size p n : ℕ) → n ≡ length (entries_at k size b p) → n ≡ 0 → no_page ≡ last_child b k size p
+unfolding entries_from
+child-none b k size p n en z = rw (entries_are b k size p n en, z)
 
 last-number : (b : List ℕ) (k p m i x : ℕ) → last_number x (entries_from b k p (suc m) i) ≡ number_at b k p (i + m)
 unfolding entries_from
@@ -60,13 +47,21 @@ child-some b k size p (suc m) c en ne ec =
 
 -- the loop down: `left` levels from the page p on lead to where all h levels lead
 module _ (f : ℕ → ℕ) (h q left p : ℕ) (inv : down f h q ≡ down f left p) where
-  pub down-end : left ≡ 0 → p ≡ down f h q
+  pub down-end : left ≤ 0 → p ≡ down f h q
   unfolding down
-  down-end e = sym (inv ∙ rw e)
+  down-end l = let none : left ≡ 0 = omega arith in sym (inv ∙ rw none)
 
-  pub down-on : (c : ℕ) → 0 < left → c ≡ f p → down f h q ≡ down f (left - 1) c
+  pub down-on : (c next : ℕ) → left ≡ suc next → c ≡ f p → down f h q ≡ down f next c
   unfolding down
-  down-on c more ec = let s : left ≡ suc (left - 1) = omega arith in inv ∙ ap (λ (l : ℕ). down f l p) s ∙ rw ec
+  down-on c next s ec = inv ∙ ap (λ (l : ℕ). down f l p) s ∙ rw ec
+
+and-true : (x : Bool) → x && true ≡ x
+and-true true = refl
+and-true false = refl
+
+and-false : (x : Bool) → x && false ≡ false
+and-false true = refl
+and-false false = refl
 
 -- a key x before a key a, by their order and a header's features f
 module _ (f : ℕ) (x a : List ℕ) where
@@ -89,63 +84,53 @@ module _ (b : List ℕ) (k size h p n i x : ℕ) where
   pub next-end : n ≤ i → true ≡ below_next b k size h (window b x k) (entries_from b k p (n - i) i)
   next-end l = rw (from_end b k p n i l)
 
-  module _ (c q z : ℕ) (more : i < n) (ec : c ≡ number_at b k p i) (eq : q ≡ down (first_child b k size) h c)
-      (ez : key_from b k z ≡ first_of (entries_at k size b q)) where
-    pub next-none : z ≡ 0 → false ≡ below_next b k size h (window b x k) (entries_from b k p (n - i) i)
-    unfolding key_from
-    next-none e = rw (from_on b k p n i more, ← ec, ← eq, ← ez, eq-eqb z 0 e)
+  module _ (c q : ℕ) (more : i < n) (ec : c ≡ number_at b k p i) (eq : q ≡ down (first_child b k size) h c) where
+    pub next-none : key_from b k None ≡ first_of (entries_at k size b q) → false ≡ below_next b k size h (window b x k) (entries_from b k p (n - i) i)
+    next-none ez = rw (from_on b k p n i more, ← ec, ← eq, ← ez)
 
-    -- o is the order of the key to the first leaf key under the next child
-    module _ (o : Ordering) (r : Bool) (some-z : z ≡ 0 → ⊥) (eo : o ≡ ordering (window b x k) (window b z k)) (er : r ≡ is_below o) where
+    -- by the order of the key to the first leaf key under the next child
+    module _ (z : ℕ) (ez : key_from b k (Some z) ≡ first_of (entries_at k size b q)) where
       next_is : below_next b k size h (window b x k) (entries_from b k p (n - i) i) ≡ not (covers_for bytes_order (features b) (window b x k) (window b z k))
-      unfolding key_from
-      next_is = rw (from_on b k p n i more, ← ec, ← eq, ← ez, ne_eqb z 0 some-z)
+      next_is = rw (from_on b k p n i more, ← ec, ← eq, ← ez)
 
-      next-below : r ≡ true → true ≡ below_next b k size h (window b x k) (entries_from b k p (n - i) i)
-      next-below t = sym (next_is ∙ clear-below (features b) (window b x k) (window b z k) (ap is_below (sym eo) ∙ sym er ∙ t))
+      pub next-less : Less ≡ ordering (window b x k) (window b z k) → true ≡ below_next b k size h (window b x k) (entries_from b k p (n - i) i)
+      next-less e = sym (next_is ∙ clear-below (features b) (window b x k) (window b z k) (rw (← e)))
 
-      next-equal : {several same : Bool} → r ≡ false → several ≡ eqb (features b) 0 → same ≡ is_equal o
-          → (several && same) ≡ below_next b k size h (window b x k) (entries_from b k p (n - i) i)
-      next-equal t es eq = sym (next_is
-          ∙ clear_else (features b) (window b x k) (window b z k) (ap is_below (sym eo) ∙ sym er ∙ t)
-          ∙ rw (← eo, ← eq, ← es))
+      -- with several records to a key the key may equal the first leaf key, else not
+      pub next-equal : {several : Bool} → Equal ≡ ordering (window b x k) (window b z k) → several ≡ eqb (features b) 0
+          → several ≡ below_next b k size h (window b x k) (entries_from b k p (n - i) i)
+      next-equal {several} e es = sym (next_is
+          ∙ clear_else (features b) (window b x k) (window b z k) (rw (← e))
+          ∙ rw (← e, ← es) (and-true several))
 
-      -- by the features: with several records to a key the key may equal the first leaf key, else not
-      pub next_several : {several same : Bool} → several ≡ eqb (features b) 0 → several ≡ true → same ≡ is_equal o
-          → (r || same) ≡ below_next b k size h (window b x k) (entries_from b k p (n - i) i)
-      next_several es t eq = either r (λ u. rw u (next-below u)) (λ u. rw u (rw t at (next-equal u es eq)))
+      pub next-greater : Greater ≡ ordering (window b x k) (window b z k) → false ≡ below_next b k size h (window b x k) (entries_from b k p (n - i) i)
+      next-greater e = sym (next_is
+          ∙ clear_else (features b) (window b x k) (window b z k) (rw (← e))
+          ∙ rw (← e) (and-false (eqb (features b) 0)))
 
-      pub next_one : {several : Bool} → several ≡ eqb (features b) 0 → several ≡ false
-          → r ≡ below_next b k size h (window b x k) (entries_from b k p (n - i) i)
-      next_one es t = either r (λ u. rw u (next-below u)) (λ u. rw u (rw t at (next-equal u es refl)))
+-- one entry of a page above the leaves, by the order of the last leaf key under its child to its own key
+module _ (b : List ℕ) (k size d h p n i c q : ℕ) (ec : c ≡ number_at b k p i) (eq : q ≡ down (last_child b k size) d c) where
+  pub upper-none : key_from b k None ≡ last_of none (entries_at k size b q) → keys_of None ≡ upper_key b k size d h p n i
+  upper-none ez = rw (← ec, ← eq, ← ez)
 
--- an order that is below is not equal
-below_unequal : (o : Ordering) → is_below o ≡ true → is_equal o ≡ false
-below_unequal Below e = refl
-below_unequal Equal e = contra e refl
-below_unequal Above e = refl
-
--- one entry of a page above the leaves, by its tests
-module _ (b : List ℕ) (k size d h p n i c q z : ℕ) (ec : c ≡ number_at b k p i) (eq : q ≡ down (last_child b k size) d c)
-    (ez : key_from b k z ≡ last_of none (entries_at k size b q)) where
-  pub upper-none : z ≡ 0 → record { good = false; exact = false } ≡ upper_key b k size d h p n i
-  unfolding key_from
-  upper-none e = rw (← ec, ← eq, ← ez, eq-eqb z 0 e)
-
-  module _ (at : ℕ) (o : Ordering) (x y : Bool) (some : z ≡ 0 → ⊥) (ea : at ≡ entry_offset k p i) (eo : o ≡ ordering (window b z k) (window b at k))
-      (ex : x ≡ is_below o) where
-    pub upper-below : x ≡ true → y ≡ below_next b k size h (window b at k) (entries_from b k p (n - (i + 1)) (i + 1))
+  module _ (z at : ℕ) (ez : key_from b k (Some z) ≡ last_of none (entries_at k size b q)) (ea : at ≡ entry_offset k p i) where
+    upper-less : Less ≡ ordering (window b z k) (window b at k) → (y : Bool) → y ≡ below_next b k size h (window b at k) (entries_from b k p (n - (i + 1)) (i + 1))
         → record { good = y; exact = false } ≡ upper_key b k size d h p n i
-    unfolding key_from
-    upper-below t ey =
-        let is : is_below o ≡ true = sym ex ∙ t in
-        rw (← ec, ← eq, ← ez, ne_eqb z 0 some, ← ea, ← eo, is, below_unequal o is, ey)
+    upper-less e y ey = rw (← ec, ← eq, ← ez, ← ea, ← e, ey)
 
-    pub upper_else : x ≡ false → y ≡ is_equal o → record { good = y; exact = y } ≡ upper_key b k size d h p n i
-    unfolding key_from
-    upper_else t ey =
-        let is : is_below o ≡ false = sym ex ∙ t in
-        rw (← ec, ← eq, ← ez, ne_eqb z 0 some, ← ea, ← eo, is, ← ey, or-false y)
+    pub upper-below : Less ≡ ordering (window b z k) (window b at k)
+        → true ≡ below_next b k size h (window b at k) (entries_from b k p (n - (i + 1)) (i + 1)) → keys_of (Some false) ≡ upper_key b k size d h p n i
+    upper-below e ey = upper-less e true ey
+
+    pub upper-beyond : Less ≡ ordering (window b z k) (window b at k)
+        → false ≡ below_next b k size h (window b at k) (entries_from b k p (n - (i + 1)) (i + 1)) → keys_of None ≡ upper_key b k size d h p n i
+    upper-beyond e ey = upper-less e false ey
+
+    pub upper-equal : Equal ≡ ordering (window b z k) (window b at k) → keys_of (Some true) ≡ upper_key b k size d h p n i
+    upper-equal e = rw (← ec, ← eq, ← ez, ← ea, ← e)
+
+    pub upper-greater : Greater ≡ ordering (window b z k) (window b at k) → keys_of None ≡ upper_key b k size d h p n i
+    upper-greater e = rw (← ec, ← eq, ← ez, ← ea, ← e)
 
 -- the loop over the n entries of a page above the leaves: the entries from entry i on, after an entry that is exact if x is true, decide
 abbrev pub UpperLeft : List ℕ → ℕ → ℕ → ℕ → ℕ → ℕ → ℕ → Bool → ℕ → Type 0

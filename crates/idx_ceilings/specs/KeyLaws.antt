@@ -1,7 +1,8 @@
 -- Laws: the audit's second pass: the loops over the pages of a level and over the first children, the way from level to level, and its answer. Cited by the
 -- proofs of the functions that do these. Assumes nothing.
 use Prim.Native.Nat.{ℕ, suc, ◌+◌, ◌-◌, ◌≤◌, ◌<◌}
-use Rattle.std.specs.Prelude.{◌≡◌, refl, Bool, true, false, cond, ◌&&◌, List}
+use Rattle.std.specs.Prelude.{◌≡◌, refl, Bool, true, false, cond, ◌&&◌, List, Some, None, is_some}
+use Rattle.std.specs.declared.option.Option.{Option}
 use Rattle.std.proofs.Math.Path.{sym, ap}
 use Rattle.std.proofs.Common.{◌∙◌}
 use native.Mathlib.Omega.{arith}
@@ -11,6 +12,7 @@ use Rattle.idx_page.specs.Reading.{entries_at}
 use Rattle.idx_page.specs.Children.{is_leaf, first_child}
 use Rattle.idx_sound.specs.AuditTest.{max_pages, Keys, chain, onward, height_of, upper_entries, upper_pages, upper_levels, keys_above_good}
 use Rattle.idx_sound.proofs.CeilingLaws.{onward-good, onward-bad}
+use Rattle.idx_ceilings.specs.State.{keys_of}
 use Rattle.idx_keys.specs.FileLaws.{chain-none, chain-some}
 
 module _ (b : List ℕ) (k size : ℕ) where
@@ -24,21 +26,21 @@ module _ (b : List ℕ) (k size : ℕ) where
     unfolding upper_pages
     upper-pages-none e = sym (inv ∙ rw (chain-none b k size 0 p left e))
 
-    pub upper-pages-end : left ≡ 0 → record { good = true; exact = x } ≡ upper_pages b k size d h true (chain b size max_pages first)
+    pub upper-pages-end : left ≤ 0 → record { good = true; exact = x } ≡ upper_pages b k size d h true (chain b size max_pages first)
     unfolding chain upper_pages
-    upper-pages-end e = sym (inv ∙ rw e)
+    upper-pages-end l = let none : left ≡ 0 = omega arith in sym (inv ∙ rw none)
 
-    module _ (r : Keys) (more : left ≡ 0 → ⊥) (page : is_page size p ≡ true) (er : r ≡ upper_entries b k size d h true (entries_at k size b p)) where
+    module _ (r : Keys) (more : 0 < left) (page : is_page size p ≡ true) (er : r ≡ upper_entries b k size d h true (entries_at k size b p)) where
       upper-pages-step : (q : ℕ) → q ≡ right_at b p → upper_pages b k size d h true (chain b size max_pages first)
           ≡ onward r (λ y. upper_pages b k size d h (x && y) (chain b size (left - 1) q))
       unfolding upper_pages
-      upper-pages-step q eq = inv ∙ rw (chain-some b k size 0 p left q more page eq, ← er)
+      upper-pages-step q eq = inv ∙ rw (chain-some b k size 0 p left q (omega (arith, more)) page eq, ← er)
 
       pub upper-pages_off : r.good ≡ false → r ≡ upper_pages b k size d h true (chain b size max_pages first)
       upper-pages_off e = sym (upper-pages-step (right_at b p) refl ∙ onward-bad r _ e)
 
-      pub upper-pages-on : (q : ℕ) → q ≡ right_at b p → r.good ≡ true → UpperPagesLeft d h first (x && r.exact) q (left - 1)
-      upper-pages-on q eq e = upper-pages-step q eq ∙ onward-good r _ e
+      pub upper-pages-on : (q next : ℕ) → q ≡ right_at b p → r.good ≡ true → next ≡ left - 1 → UpperPagesLeft d h first (x && r.exact) q next
+      upper-pages-on q next eq e en = rw en (upper-pages-step q eq ∙ onward-good r _ e)
 
   -- the levels: the leaves, and a level above them after the level below, whose first page is c
   pub upper-levels-end : (height first : ℕ) → height ≡ 0 → record { good = true; exact = true } ≡ upper_levels b k size height first
@@ -83,8 +85,12 @@ module _ (b : List ℕ) (k size : ℕ) where
           let s : max_levels - 1 - done ≡ suc (max_levels - 1 - (done + 1)) = omega arith in
           inv ∙ rw (s, height_of, e, eq) (omega arith)
 
--- the answers
-pub keys-answer : (b : List ℕ) (k size root h : ℕ) (r : Keys) → k ≡ key_length b → size ≡ file_size b → root ≡ root_offset b
-    → h ≡ height_of b k size (max_levels - 1) root → r ≡ upper_levels b k size h root → r.good ≡ keys_above_good b
+-- the answer of the whole pass
+some-good : (r : Option Bool) → is_some r ≡ (keys_of r).good
+some-good None = refl
+some-good (Some exact) = refl
+
+pub keys-answer : (b d : List ℕ) (k size root h : ℕ) (r : Option Bool) → d ≡ b → k ≡ key_length b → size ≡ file_size b → root ≡ root_offset d
+    → h ≡ height_of d k size (max_levels - 1) root → keys_of r ≡ upper_levels d k size h root → is_some r ≡ keys_above_good b
 unfolding keys_above_good
-keys-answer b k size root h r ek es er eh e = ap (λ (s : Keys). s.good) e ∙ rw (← ek, ← es, ← er, ← eh)
+keys-answer b d k size root h r eb ek es er eh e = some-good r ∙ ap (λ (s : Keys). s.good) e ∙ rw (eh, er, ek, es, eb)

@@ -1,29 +1,32 @@
 -- Laws: the entries that a page gets: their keys have k bytes and their numbers four, how many they are, and that the bytes gathered read back as them.
 -- Assumes nothing.
-use Rattle.std.specs.Prelude.{ℕ, zero, suc, ◌+◌, ◌-◌, ◌*◌, ◌≤◌, ◌<◌, ◌≡◌, refl, Bool, take, drop}
-use Rattle.std.proofs.Common.{sym, ap, ◌∙◌, subst, arith, length-take, length-drop, take_at}
+use Rattle.std.specs.Prelude.{ℕ, zero, suc, ◌+◌, ◌-◌, ◌*◌, ◌<◌, ◌≡◌, refl, Bool, take, drop}
+use Rattle.std.proofs.Common.{sym, ap, ◌∙◌, subst, arith, length-take, length-drop}
 use mathlib.Core.List.{List, [], ◌∷◌, ◌++◌, append_assoc, append-nil}
 use Rattle.std.proofs.Math.ListN.{length, length-append}
 use Rattle.std.proofs.Math.Seq.{split_at}
 use Rattle.basis.specs.Tests.{either}
 use Rattle.basis.specs.Lists.{All, all_append, all_left, all_right}
 use Rattle.octets.specs.Bytes.{to_be32}
-use Rattle.octets.specs.Store.{put}
-use Rattle.octets.specs.StoreLaws.{put_splice}
 use Rattle.octets.specs.NumberLaws.{length-to_be32}
 use Rattle.tree.specs.Pairs.{last_key, insert_pair}
 use Rattle.tree.proofs.PairLaws.{insert_pair-all}
-use Rattle.idx_page.specs.Header.{max_key}
+use Rattle.idx_page.specs.Within.{Within}
 use Rattle.idx_page.specs.Reading.{Item, items}
 use Rattle.idx_leaf.specs.Leaf.{items_in, item_of}
 use Rattle.idx_layout.specs.Layout.{encode}
 use Rattle.idx_entries.specs.Entries.{replaced, two_for, root_entries, without_entry}
-use Rattle.idx_layout.specs.Given.{Given, Over, room_size}
+use Rattle.idx_layout.specs.Given.{Over}
 use Rattle.idx_leaf.specs.Given.{Listed}
 use Rattle.idx_leaf.specs.ItemLaws.{Fit}
 use Rattle.idx_layout.specs.EncodeLaws.{length-encode, items-encode}
 use Rattle.idx_leaf.specs.EntryLaws.{items_in_fit, listed-within}
-use Rattle.idx_entries.proofs.GatherLaws.{length_last, length-larger, put_next, spread}
+use Rattle.idx_entries.proofs.GatherLaws.{length_last, length-larger}
+
+-- the bytes of n entries with keys of k bytes: how many they are, and what they read back as
+pub record Gathered (k n : ℕ) (es : List Item) : Type 0 where
+  pub size : length (encode es) ≡ n * (k + 4)
+  pub read : items k n (encode es) ≡ es
 
 -- how many entries a leaf has with one more
 pub length-insert : (le : Item → Item → Bool) (e : Item) (es : List Item) → length (insert_pair le e es) ≡ length es + 1
@@ -65,39 +68,32 @@ module _ (k : ℕ) (b key : List ℕ) (long : length key ≡ k) where
       (λ x g. ((low, g.1), ((length-larger x.0 key (g.0 ∙ sym long) ∙ long, length-to_be32 q), tt))) es inside f
 
 -- what is gathered is read back
-gathered : (k n : ℕ) (es : List Item) (zs : List ℕ) {room : List ℕ} → All (Fit k) es → length es ≡ n → n * (k + 4) ≤ length zs → room ≡ put zs 0 (encode es)
-    → items k n (take (n * (k + 4)) room) ≡ es
-gathered k n es zs f e h q =
-    let l : length (encode es) ≡ n * (k + 4) = length-encode k es f ∙ ap (λ (m : ℕ). m * (k + 4)) e in
-    let s = put_splice zs 0 (encode es) (omega arith) in
-    let t : take (n * (k + 4)) (put zs 0 (encode es)) ≡ encode es = rw s (take_at (encode es) (drop (0 + length (encode es)) zs) (n * (k + 4)) l) in
-    rw (q, t, ← e) (ap (items k (length es)) (sym (append-nil (encode es))) ∙ items-encode k es [] f)
+gathered : (k n : ℕ) (es : List Item) → All (Fit k) es → length es ≡ n → Gathered k n es
+gathered k n es f e =
+    record {
+      size = length-encode k es f ∙ ap (λ (m : ℕ). m * (k + 4)) e;
+      read = rw (← e, ← append-nil (encode es)) (items-encode k es [] f);
+    }
 
 -- what is gathered for a page with n entries is n + 1 entries
-pub one_more : {b : List ℕ} {k p n : ℕ} (room : List ℕ) → Listed b k p n → room_size ≤ length room → Over b k p (n + 1) (take ((n + 1) * (k + 4)) room)
-one_more {b} {k} {p} {n} room l h =
-    let s = spread n l (omega arith) in
-    record { key = l.key; page = l.page; count = omega arith; size = simp length-take (omega arith) }
+pub one_more : {b : List ℕ} {k p n : ℕ} → Listed b k p n → Over b k p (n + 1)
+one_more l = let w = listed-within l in record { key = l.key; page = l.page; count = omega (arith, w.count) }
 
-pub pair_read : (le : Item → Item → Bool) (key : List ℕ) {b : List ℕ} {p n : ℕ} (r : ℕ) (zs : List ℕ) {room : List ℕ} → Listed b (length key) p n
-    → room_size ≤ length zs → room ≡ put zs 0 (encode (insert_pair le (key, to_be32 r) (items_in (length key) b p)))
-    → items (length key) (n + 1) (take ((n + 1) * (length key + 4)) room) ≡ insert_pair le (key, to_be32 r) (items_in (length key) b p)
-pair_read le key {b} {p} {n} r zs l h e =
-    let s = spread n l (omega arith) in
+pub pair-gathered : (le : Item → Item → Bool) (key : List ℕ) {b : List ℕ} {p n : ℕ} (r : ℕ) → Listed b (length key) p n
+    → Gathered (length key) (n + 1) (insert_pair le (key, to_be32 r) (items_in (length key) b p))
+pair-gathered le key {b} {p} {n} r l =
     let es = items_in (length key) b p in
-    let count : length (insert_pair le (key, to_be32 r) es) ≡ n + 1 = length-insert le (key, to_be32 r) es ∙ rw (← l.count) in
-    gathered (length key) (n + 1) (insert_pair le (key, to_be32 r) es) zs (pair_fit (length key) b key refl le r p) count (omega arith) e
+    gathered (length key) (n + 1) (insert_pair le (key, to_be32 r) es) (pair_fit (length key) b key refl le r p)
+    (length-insert le (key, to_be32 r) es ∙ rw (← l.count))
 
-pub two-read : (key : List ℕ) {b : List ℕ} {p n : ℕ} (i c q : ℕ) (zs : List ℕ) {room : List ℕ} → Listed b (length key) p n → i < n → room_size ≤ length zs
-    → room ≡ put zs 0 (encode (replaced i (two_for (length key) b key c q) (items_in (length key) b p)))
-    → items (length key) (n + 1) (take ((n + 1) * (length key + 4)) room) ≡ replaced i (two_for (length key) b key c q) (items_in (length key) b p)
-two-read key {b} {p} {n} i c q zs l h room e =
-    let s = spread n l (omega arith) in
+pub two-gathered : (key : List ℕ) {b : List ℕ} {p n : ℕ} (i c q : ℕ) → Listed b (length key) p n → i < n
+    → Gathered (length key) (n + 1) (replaced i (two_for (length key) b key c q) (items_in (length key) b p))
+two-gathered key {b} {p} {n} i c q l h =
     let es = items_in (length key) b p in
     let f = two_for (length key) b key c q in
     let inside : i < length es = omega (arith, l.count) in
-    let count : length (replaced i f es) ≡ n + 1 = omega (arith, length-replaced i f 1 (λ x. refl) es inside, l.count) in
-    gathered (length key) (n + 1) (replaced i f es) zs (two-fit (length key) b key refl i c q es inside (items_in_fit (length key) b p)) count (omega arith) e
+    gathered (length key) (n + 1) (replaced i f es) (two-fit (length key) b key refl i c q es inside (items_in_fit (length key) b p))
+    (omega (arith, length-replaced i f 1 (λ x. refl) es inside, l.count))
 
 -- a property of entries is one of those left without entry i
 pub without_all : (P : Item → Type 0) (i : ℕ) (es : List Item) → All P es → All P (without_entry i es)
@@ -113,19 +109,14 @@ length_without zero (x ∷ xs) h = omega arith
 length_without (suc i) (x ∷ xs) h = omega (arith, length_without i xs (omega arith))
 
 -- what is gathered for a page with n entries without entry i is n - 1 entries
-pub one_less : {b : List ℕ} {k p n : ℕ} (room : List ℕ) → Listed b k p n → room_size ≤ length room → Given b k p (n - 1) (take ((n - 1) * (k + 4)) room)
-one_less {b} {k} {p} {n} room l h =
-    let s = spread (n - 1) l (omega arith) in
-    let w = listed-within l in
-    record { within = record { key = w.key; count = omega arith; page = w.page }; size = simp length-take (omega arith) }
+pub one_less : {b : List ℕ} {k p n : ℕ} → Listed b k p n → Within b k p (n - 1)
+one_less l = let w = listed-within l in record { key = w.key; count = omega (arith, w.count); page = w.page }
 
-pub without-read : {b : List ℕ} {k p n i : ℕ} (zs : List ℕ) {room : List ℕ} → Listed b k p n → i < n → room_size ≤ length zs
-    → room ≡ put zs 0 (encode (without_entry i (items_in k b p))) → items k (n - 1) (take ((n - 1) * (k + 4)) room) ≡ without_entry i (items_in k b p)
-without-read {b} {k} {p} {n} {i} zs l h r e =
-    let s = spread (n - 1) l (omega arith) in
+pub without-gathered : {b : List ℕ} {k p n i : ℕ} → Listed b k p n → i < n → Gathered k (n - 1) (without_entry i (items_in k b p))
+without-gathered {b} {k} {p} {n} {i} l h =
     let es = items_in k b p in
-    let count : length (without_entry i es) ≡ n - 1 = length_without i es (omega (arith, l.count)) ∙ rw (← l.count) in
-    gathered k (n - 1) (without_entry i es) zs (without_all (Fit k) i es (items_in_fit k b p)) count (omega arith) e
+    gathered k (n - 1) (without_entry i es) (without_all (Fit k) i es (items_in_fit k b p))
+    (length_without i es (omega (arith, l.count)) ∙ rw (← l.count))
 
 -- the entries of a new root
 module _ (b key : List ℕ) (p q : ℕ) where
@@ -135,26 +126,10 @@ module _ (b key : List ℕ) (p q : ℕ) where
   root-fit : All (Fit (length key)) (root_entries (length key) b key p q)
   root-fit = ((last_fit p, length-to_be32 p), ((last_fit q, length-to_be32 q), tt))
 
-  pub root-gathered : (zs : List ℕ) {l1 l2 l3 l4 : List ℕ} → l1 ≡ put zs 0 (last_key key (items_in (length key) b p)) → l2 ≡ put l1 (length key) (to_be32 p)
-      → l3 ≡ put l2 (length key + 4) (last_key key (items_in (length key) b q)) → l4 ≡ put l3 (length key + 4 + length key) (to_be32 q)
-      → l4 ≡ put zs 0 (encode (root_entries (length key) b key p q))
+  pub root_bytes : encode (root_entries (length key) b key p q)
+      ≡ (([] ++ last_key key (items_in (length key) b p)) ++ to_be32 p) ++ last_key key (items_in (length key) b q) ++ to_be32 q
   unfolding encode
-  root-gathered zs e1 e2 e3 e4 =
-      let f = root-fit in
-      let left = last_key key (items_in (length key) b p) in
-      let right = last_key key (items_in (length key) b q) in
-      let l2 : length (left ++ to_be32 p) ≡ length key + 4 = length-append left (to_be32 p) ∙ rw (f.0.0, f.0.1) in
-      let l3 : length ((left ++ to_be32 p) ++ right) ≡ length key + 4 + length key = length-append (left ++ to_be32 p) right ∙ rw (l2, f.1.0.0) in
-      e4 ∙ rw (
-        e3,
-        e2,
-        e1,
-        put_next zs left (to_be32 p) (length key) f.0.0,
-        put_next zs (left ++ to_be32 p) right _ l2,
-        put_next zs ((left ++ to_be32 p) ++ right) (to_be32 q) _ l3,
-        append-nil (to_be32 q),
-      ) (ap (put zs 0) (simp append_assoc))
+  root_bytes = rw append-nil (simp append_assoc)
 
-  pub root-read : (zs : List ℕ) {room : List ℕ} → length key ≤ max_key → room_size ≤ length zs → room ≡ put zs 0 (encode (root_entries (length key) b key p q))
-      → items (length key) 2 (take (2 * (length key + 4)) room) ≡ root_entries (length key) b key p q
-  root-read zs h l e = gathered (length key) 2 (root_entries (length key) b key p q) zs root-fit refl (omega arith) e
+  pub root-gathered : Gathered (length key) 2 (root_entries (length key) b key p q)
+  root-gathered = gathered (length key) 2 (root_entries (length key) b key p q) root-fit refl

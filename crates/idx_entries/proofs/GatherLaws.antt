@@ -1,6 +1,6 @@
 -- Laws: the bytes that are gathered for a page are those of the entries that the rule gives it. Assumes nothing.
 use Rattle.std.specs.Prelude.{ℕ, ◌+◌, ◌-◌, ◌*◌, ◌≤◌, ◌<◌, ◌≡◌, refl, Bool, true, false, List, [], ◌∷◌, ◌++◌, ltb, length, take, get_or}
-use Rattle.std.proofs.Common.{sym, ap, ◌∙◌, append_assoc, zero-add, add-mul, mul-le-mul_right, one-mul, arith, lt-ltb, le-ltb, length-append, length-drop}
+use Rattle.std.proofs.Common.{sym, ap, ◌∙◌, append_assoc, add-mul, mul-le-mul_right, one-mul, arith, lt-ltb, le-ltb, length-append, length-take, length-drop, take_at}
 use Rattle.std.proofs.Math.Nat.{sub-zero}
 use Rattle.std.proofs.Math.Numerals.{add-one}
 use Rattle.std.proofs.Math.ListN.{drop}
@@ -8,25 +8,30 @@ use Rattle.basis.specs.Tests.{either}
 use Rattle.basis.specs.Lists.{All}
 use Rattle.octets.specs.Bytes.{to_be32}
 use Rattle.octets.specs.Store.{put, window}
-use Rattle.octets.specs.StoreLaws.{put_append, length-window}
-use Rattle.octets.specs.NumberLaws.{length-to_be32}
-use Rattle.octets.specs.Order.{bytes_le}
+use Rattle.octets.specs.StoreLaws.{put_splice, length-window}
+use Rattle.octets.specs.Order.{bytes_le, ordering, is_below}
+use Rattle.std.specs.Ordering.{is_lt}
+use Rattle.std.specs.declared.cmp.Ordering.{Ordering}
+use Rattle.std.specs.declared.cmp.Ordering.TheVariants.{Less, Equal, Greater}
+use Rattle.idx_page.specs.KeyOrderLaws.{below, at_or_above}
 use Rattle.octets.specs.OrderLaws.{le_total, le_antisym}
 use Rattle.tree.specs.Order.{larger}
 use Rattle.tree.specs.Pairs.{last_key, insert_pair}
-use Rattle.idx_page.specs.Header.{max_key, page_size}
+use Rattle.idx_page.specs.Header.{max_key, page_size, is_page, features}
+use Rattle.idx_page.specs.EntryOrder.{item_order}
 use Rattle.idx_page.specs.Page.{entry_area, capacity, entry_offset, key_at}
 use Rattle.idx_page.specs.Within.{Within}
 use Rattle.idx_page.specs.KeyOrder.{bytes_order}
-use Rattle.idx_page.specs.PageLaws.{capacity-small, entries_fit, entries-inside, within-entry, entry-within}
+use Rattle.idx_page.specs.PageLaws.{capacity-small, entries_fit, entries-inside}
 use Rattle.idx_page.specs.Reading.{Item}
-use Rattle.idx_leaf.specs.Leaf.{items_in}
+use Rattle.idx_leaf.specs.Leaf.{items_in, stored}
 use Rattle.idx_layout.specs.Layout.{encode}
+use Rattle.idx_layout.specs.Given.{room_size}
 use Rattle.idx_entries.specs.Entries.{replaced, raised, two_for, without_entry}
 use Rattle.idx_leaf.specs.Given.{Listed}
 use Rattle.idx_leaf.specs.ItemLaws.{Fit}
 use Rattle.idx_layout.specs.EncodeLaws.{encode_append, encode-items}
-use Rattle.idx_leaf.specs.EntryLaws.{items_from, item_at, items_in_fit, take_from, drop_from, entry-far, listed, listed-within, passed_count}
+use Rattle.idx_leaf.specs.EntryLaws.{items_from, item_at, take_from, drop_from, entry-far, listed, listed-within, passed_count}
 use Rattle.idx_leaf.specs.SearchLaws.{get-listed, search_le}
 
 -- the bytes of n entries from entry i on
@@ -62,9 +67,30 @@ no_last key (x ∷ xs) e = absurd (omega arith)
 pub within-last : {b : List ℕ} {k p n : ℕ} → Within b k p n → (n ≡ 0 → ⊥) → Within b k p (n - 1 + 1)
 within-last {b} {k} {p} {n} w s = let e : n - 1 + 1 ≡ n = omega arith in rw e w
 
--- a store that begins where another ends
-pub put_next : (zs xs ys : List ℕ) (a : ℕ) → length xs ≡ a → put (put zs 0 xs) a ys ≡ put zs 0 (xs ++ ys)
-put_next zs xs ys a e = sym (put_append zs 0 xs ys ∙ rw (zero-add, e))
+-- a comparison that says whether one key is below another
+lt-below : (o : Ordering) → is_lt o ≡ is_below o
+lt-below Less = refl
+lt-below Equal = refl
+lt-below Greater = refl
+
+pub lower : {o : Ordering} (a b : List ℕ) → o ≡ ordering a b → is_lt o ≡ true → bytes_le b a ≡ false
+lower {o} a b e t = below a b e (sym (lt-below o) ∙ t)
+
+pub not-lower : {o : Ordering} (a b : List ℕ) → o ≡ ordering a b → is_lt o ≡ false → bytes_le b a ≡ true
+not-lower {o} a b e t = at_or_above a b e (sym (lt-below o) ∙ t)
+
+-- a page whose entries were counted
+pub counted : {b : List ℕ} {k p n : ℕ} → (k ≤ max_key) × (is_page (length b) p ≡ true) → n ≡ length (items_in k b p) → Listed b k p n
+counted h e = record { key = h.0; page = h.1; count = e }
+
+-- bytes stored in a room behind those that are in it
+pub pushed : (now part bytes : List ℕ) {out : List ℕ} {n m : ℕ} → take n bytes ≡ now → length bytes ≡ room_size → n ≤ room_size → length part ≡ m
+    → length now + m ≤ room_size → out ≡ put bytes n part → take (n + m) out ≡ now ++ part
+pushed now part bytes {out} {n} {m} view long small size fits e =
+    let a : length (take n bytes) ≡ n = simp length-take (omega arith) in
+    let h : n + length part ≤ length bytes = omega (arith, ap length view) in
+    let l : length (take n bytes ++ part) ≡ n + m = length-append (take n bytes) part ∙ omega arith in
+    rw (e, put_splice bytes n part h, ← view) (take_at (take n bytes ++ part) (drop (n + length part) bytes) (n + m) l)
 
 -- a part of a buffer, from one place up to another
 pub part-window : (b : List ℕ) (from upto n : ℕ) → upto ≡ from + n → take (upto - from) (drop from b) ≡ window b from n
@@ -81,13 +107,6 @@ run {b} {k} {p} {first} {end} w h =
     let u : first + (end - first) ≡ end = omega arith in
     record { ends = sym (ap (entry_offset k p) u) ∙ entry-far k p first (end - first); inside = omega (arith, entries-inside k p end w.count, w.page) }
 
-pub run-copied : {b : List ℕ} {k p first end : ℕ} → Within b k p end → first ≤ end → (zs : List ℕ) (at : ℕ) {from upto : ℕ} {out : List ℕ}
-    → from ≡ entry_offset k p first → upto ≡ entry_offset k p end → out ≡ put zs at (take (upto - from) (drop from b))
-    → out ≡ put zs at (window b (entry_offset k p first) ((end - first) * (k + 4)))
-run-copied {b} {k} {p} {first} {end} w h zs at {from} {upto} ef eu e =
-    let r = run w h in
-    e ∙ rw (part-window b from upto ((end - first) * (k + 4)) (omega arith), ef)
-
 -- the products of sizes that a gathering meets, with i of n entries before the new one
 pub record Spread (b : List ℕ) (k p n i : ℕ) : Type 0 where
   pub inside : p + page_size ≤ length b
@@ -95,6 +114,8 @@ pub record Spread (b : List ℕ) (k p n i : ℕ) : Type 0 where
   pub few : n ≤ capacity k
   pub small : n ≤ entry_area
   pub all : n * (k + 4) ≤ entry_area
+  pub up : i ≤ n
+  pub start : (i - 0) * (k + 4) ≡ i * (k + 4)
   pub before : i * (k + 4) ≤ n * (k + 4)
   pub rest : i * (k + 4) + (n - i) * (k + 4) ≡ n * (k + 4)
   pub next : (i + 1) * (k + 4) ≡ i * (k + 4) + (k + 4)
@@ -110,11 +131,17 @@ spread {b} {k} {p} {n} i l h =
       few = w.count;
       small = omega (arith, capacity-small k);
       all = entries_fit k n w.count;
+      up = h;
+      start = rw sub-zero;
       before = mul-le-mul_right (k + 4) h;
       rest = sym (add-mul i (n - i) (k + 4)) ∙ ap (λ (x : ℕ). x * (k + 4)) u;
       next = add-mul i 1 (k + 4) ∙ rw one-mul;
       more = add-mul n 1 (k + 4) ∙ rw one-mul;
     }
+
+pub pair-spread : (b key : List ℕ) (r : ℕ) {p n i : ℕ} → Listed b (length key) p n
+    → i ≡ passed_count (item_order (features b)) (stored key r) (items_in (length key) b p) → Spread b (length key) p n i
+pair-spread b key r {p} {n} {i} l e = spread i l (search_le (item_order (features b)) (stored key r) l e)
 
 module _ {b : List ℕ} {k p n : ℕ} (l : Listed b k p n) where
   -- the bytes of the first i entries, and of the entries from entry i on
@@ -135,36 +162,14 @@ module _ {b : List ℕ} {k p n : ℕ} (l : Listed b k p n) where
 -- a leaf's entries with one pair more
 module _ (le : Item → Item → Bool) (key c : List ℕ) {b : List ℕ} {p n i : ℕ} (l : Listed b (length key) p n)
     (e : i ≡ passed_count le (key, c) (items_in (length key) b p)) where
-  pair_bytes : encode (insert_pair le (key, c) (items_in (length key) b p))
-      ≡ window b (entry_offset (length key) p 0) (i * (length key + 4)) ++ (key ++ (c ++ window b (entry_offset (length key) p i) ((n - i) * (length key + 4))))
+  pub pair_bytes : encode (insert_pair le (key, c) (items_in (length key) b p))
+      ≡ (([] ++ window b (entry_offset (length key) p 0) ((i - 0) * (length key + 4))) ++ key) ++ c
+      ++ window b (entry_offset (length key) p i) ((n - i) * (length key + 4))
   unfolding encode
   pair_bytes =
       let es = items_in (length key) b p in
       let h = search_le le (key, c) l e in
-      rw (insert-at le (key, c) es, ← e, encode_append (take i es) ((key, c) ∷ drop i es), before-bytes l i h, after-bytes l i h)
-
-  pub pair_gathered : length c ≡ 4 → (zs : List ℕ) {l1 l2 l3 l4 : List ℕ}
-      → l1 ≡ put zs 0 (window b (entry_offset (length key) p 0) ((i - 0) * (length key + 4))) → l2 ≡ put l1 (i * (length key + 4)) key
-      → l3 ≡ put l2 (i * (length key + 4) + length key) c
-      → l4 ≡ put l3 (i * (length key + 4) + length key + 4) (window b (entry_offset (length key) p i) ((n - i) * (length key + 4)))
-      → l4 ≡ put zs 0 (encode (insert_pair le (key, c) (items_in (length key) b p)))
-  pair_gathered four zs e1 e2 e3 e4 =
-      let first = window b (entry_offset (length key) p 0) (i * (length key + 4)) in
-      let rest = window b (entry_offset (length key) p i) ((n - i) * (length key + 4)) in
-      let la = length_before l i (search_le le (key, c) l e) in
-      let lb : length (first ++ key) ≡ i * (length key + 4) + length key = length-append first key ∙ rw la in
-      let lc : length ((first ++ key) ++ c) ≡ i * (length key + 4) + length key + 4 =
-      length-append (first ++ key) c ∙ rw (lb, four) in
-      e4 ∙ rw (
-        e3,
-        e2,
-        e1,
-        sub-zero,
-        put_next zs first key (i * (length key + 4)) la,
-        put_next zs (first ++ key) c _ lb,
-        put_next zs ((first ++ key) ++ c) rest _ lc,
-        pair_bytes,
-      ) (ap (put zs 0) (simp append_assoc))
+      rw (insert-at le (key, c) es, ← e, encode_append (take i es) ((key, c) ∷ drop i es), before-bytes l i h, after-bytes l i h, sub-zero) (simp append_assoc)
 
 -- the lengths of a last key and of the larger of two keys
 pub length_last : (k : ℕ) (key : List ℕ) → length key ≡ k → (es : List Item) → All (Fit k) es → length (last_key key es) ≡ k
@@ -183,13 +188,13 @@ larger-entry a key e = either (bytes_le a key) (λ t. rw t (le_antisym a key t e
 
 -- a page's entries with two for entry i
 module _ (key : List ℕ) {b : List ℕ} {p n i : ℕ} (l : Listed b (length key) p n) (h : i < n) where
-  two_bytes : (c q : ℕ) → encode (replaced i (two_for (length key) b key c q) (items_in (length key) b p))
-      ≡ window b (entry_offset (length key) p 0) (i * (length key + 4))
-      ++ (last_key key (items_in (length key) b c)
-      ++ (window b (entry_offset (length key) p i + length key) 4
-      ++ (larger bytes_order (key_at b (length key) p i) key
-      ++ (to_be32 q
-      ++ window b (entry_offset (length key) p (i + 1)) ((n - (i + 1)) * (length key + 4))))))
+  pub two_bytes : (c q : ℕ) → encode (replaced i (two_for (length key) b key c q) (items_in (length key) b p))
+      ≡ (((([] ++ window b (entry_offset (length key) p 0) ((i - 0) * (length key + 4)))
+      ++ last_key key (items_in (length key) b c))
+      ++ window b (entry_offset (length key) p i + length key) 4)
+      ++ larger bytes_order (key_at b (length key) p i) key)
+      ++ to_be32 q
+      ++ window b (entry_offset (length key) p (i + 1)) ((n - (i + 1)) * (length key + 4))
   unfolding encode
   two_bytes c q =
       let es = items_in (length key) b p in
@@ -199,66 +204,21 @@ module _ (key : List ℕ) {b : List ℕ} {p n i : ℕ} (l : Listed b (length key
         encode_append (take i es) (two_for (length key) b key c q (item_at (length key) b p i) ++ drop (i + 1) es),
         before-bytes l i (omega arith),
         after-bytes l (i + 1) (omega arith),
-      )
-
-  pub two-gathered : (c q : ℕ) (zs : List ℕ) {l1 l2 l3 l4 l5 l6 : List ℕ} → let at = i * (length key + 4) in let next = at + length key + 4 in
-      l1 ≡ put zs 0 (window b (entry_offset (length key) p 0) ((i - 0) * (length key + 4)))
-      → l2 ≡ put l1 at (last_key key (items_in (length key) b c))
-      → l3 ≡ put l2 (at + length key) (window b (entry_offset (length key) p i + length key) 4)
-      → l4 ≡ put l3 next (larger bytes_order (key_at b (length key) p i) key)
-      → l5 ≡ put l4 (next + length key) (to_be32 q)
-      → l6 ≡ put l5 (next + length key + 4) (window b (entry_offset (length key) p (i + 1)) ((n - (i + 1)) * (length key + 4)))
-      → l6 ≡ put zs 0 (encode (replaced i (two_for (length key) b key c q) (items_in (length key) b p)))
-  two-gathered c q zs e1 e2 e3 e4 e5 e6 =
-      let k = length key in
-      let s = spread i l (omega arith) in
-      let first = window b (entry_offset k p 0) (i * (k + 4)) in
-      let low = last_key key (items_in k b c) in
-      let number = window b (entry_offset k p i + k) 4 in
-      let high = larger bytes_order (key_at b k p i) key in
-      let rest = window b (entry_offset k p (i + 1)) ((n - (i + 1)) * (k + 4)) in
-      let w = entry-within (within-entry i (listed-within l) h) in
-      let l1 = length_before l i (omega arith) in
-      let l2 : length (first ++ low) ≡ i * (k + 4) + k = length-append first low ∙ rw (l1, length_last k key refl (items_in k b c) (items_in_fit k b c)) in
-      let l3 : length ((first ++ low) ++ number) ≡ i * (k + 4) + k + 4 =
-      length-append (first ++ low) number ∙ rw (l2, length-window b (entry_offset k p i + k) 4 (omega arith)) in
-      let lk : length (key_at b k p i) ≡ k = length-window b (entry_offset k p i) k (omega arith) in
-      let l4 : length (((first ++ low) ++ number) ++ high) ≡ i * (k + 4) + k + 4 + k =
-      length-append ((first ++ low) ++ number) high ∙ rw (l3, length-larger (key_at b k p i) key lk) in
-      let l5 : length ((((first ++ low) ++ number) ++ high) ++ to_be32 q) ≡ i * (k + 4) + k + 4 + k + 4 =
-      length-append (((first ++ low) ++ number) ++ high) (to_be32 q) ∙ rw (l4, length-to_be32 q) in
-      e6 ∙ rw (
-        e5,
-        e4,
-        e3,
-        e2,
-        e1,
         sub-zero,
-        put_next zs first low (i * (k + 4)) l1,
-        put_next zs (first ++ low) number _ l2,
-        put_next zs ((first ++ low) ++ number) high _ l3,
-        put_next zs (((first ++ low) ++ number) ++ high) (to_be32 q) _ l4,
-        put_next zs ((((first ++ low) ++ number) ++ high) ++ to_be32 q) rest _ l5,
-        two_bytes c q,
-      ) (ap (put zs 0) (simp append_assoc))
+      ) (simp append_assoc)
 
 -- a page's entries without entry i
 module _ {b : List ℕ} {k p n i : ℕ} (l : Listed b k p n) (h : i < n) where
-  pub without-gathered : (zs : List ℕ) {l1 l2 : List ℕ} → l1 ≡ put zs 0 (window b (entry_offset k p 0) ((i - 0) * (k + 4)))
-      → l2 ≡ put l1 (i * (k + 4)) (window b (entry_offset k p (i + 1)) ((n - (i + 1)) * (k + 4)))
-      → l2 ≡ put zs 0 (encode (without_entry i (items_in k b p)))
-  without-gathered zs e1 e2 =
+  pub without_bytes : encode (without_entry i (items_in k b p))
+      ≡ ([] ++ window b (entry_offset k p 0) ((i - 0) * (k + 4))) ++ window b (entry_offset k p (i + 1)) ((n - (i + 1)) * (k + 4))
+  without_bytes =
       let es = items_in k b p in
-      let first = window b (entry_offset k p 0) (i * (k + 4)) in
-      let rest = window b (entry_offset k p (i + 1)) ((n - (i + 1)) * (k + 4)) in
-      e2 ∙ rw (
-        e1,
-        sub-zero,
-        put_next zs first rest (i * (k + 4)) (length_before l i (omega arith)),
+      rw (
         ← add-one i,
         encode_append (take i es) (drop (i + 1) es),
         before-bytes l i (omega arith),
         after-bytes l (i + 1) (omega arith),
+        sub-zero,
       )
 
 -- the key of entry i raised, or not

@@ -1,7 +1,8 @@
 // A page's entries after a change, gathered to be written: with a pair more, with two for one, without one; and a key that is raised.
 #![tactic(auto)]
 
-ghost use Rattle.std.specs.Prelude.{◌≡◌, true, ◌+◌, ◌-◌, ◌*◌, ◌≤◌, ◌<◌, length};
+ghost use Rattle.std.specs.Prelude.{◌≡◌, true, ◌+◌, ◌-◌, ◌*◌, ◌≤◌, ◌<◌, List, ℕ, [], ◌++◌, length, take};
+ghost use Rattle.octets.specs.Bytes.{to_be32};
 ghost use Rattle.octets.specs.Store.{put, window};
 ghost use Rattle.tree.specs.Order.{larger};
 ghost use Rattle.tree.specs.Pairs.{last_key, insert_pair};
@@ -16,10 +17,9 @@ ghost use Rattle.idx_entries.specs.Entries.{replaced, raised, two_for, root_entr
 ghost use Rattle.idx_layout.specs.Given.{room_size};
 ghost use Rattle.idx_leaf.specs.Given.{Listed};
 
+use idx_layout::Entries;
 use idx_page::{Page, PageOffset, RecordNumber};
-
-// The room in which the entries of a page are gathered: the entry area and one more entry with the longest key.
-pub const ROOM: usize = Page::ENTRY_AREA + idx_page::MAX_KEY + 4;
+use std::marker::Model;
 
 // Raises the key of entry `i` to `key` if it is below `key`.
 pub fn raise_key(index: &mut [u8], key: &[u8], page: PageOffset, i: usize)
@@ -29,151 +29,208 @@ pub fn raise_key(index: &mut [u8], key: &[u8], page: PageOffset, i: usize)
     if idx_leaf::entry_count(index, key.len(), page) <= i {
         return;
     }
-    if octets::is_below(idx_page::compare_entry(index, page, i, key)) {
+    if idx_page::compare_entry(index, page, i, key).is_lt() {
         octets::copy_in(index, idx_page::entry_offset(key.len(), page, i), key);
     }
 }
 
-// Copies the entries of a page from entry `first` on, up to but without entry `end`.
-fn copy_entries(
-    to: &mut [u8],
-    at: usize,
-    index: &[u8],
-    k: usize,
-    page: PageOffset,
-    first: usize,
-    end: usize,
-)
-    requires { Within index.now k page.0 end × (first ≤ end) × (at + (end - first) * (k + 4) ≤ length to.old) }
-    ensures { to.new ≡ put to.old at (window index.now (entry_offset k page.0 first) ((end - first) * (k + 4))) }
+// The bytes of a page's entries from entry `first` on, up to but without entry `end`.
+fn entries_between(index: &[u8], k: usize, page: PageOffset, first: usize, end: usize) -> &[u8]
+    requires { Within index.now k page.0 end × (first ≤ end) }
+    ensures value { result.now ≡ window index.now (entry_offset k page.0 first) ((end - first) * (k + 4)) }
+    ensures size { length result.now ≡ (end - first) * (k + 4) }
 {
-    let from = idx_page::entry_offset(k, page, first);
-    let upto = idx_page::entry_offset(k, page, end);
-    octets::copy_in(to, at, &index[from..upto]);
+    &index[idx_page::entry_offset(k, page, first)..idx_page::entry_offset(k, page, end)]
 }
 
-// Copies the key of entry `i`.
-fn copy_key(to: &mut [u8], at: usize, index: &[u8], k: usize, page: PageOffset, i: usize)
-    requires { Within index.now k page.0 (i + 1) × (at + k ≤ length to.old) }
-    ensures { to.new ≡ put to.old at (key_at index.now k page.0 i) }
+// The key of entry `i`.
+fn entry_key(index: &[u8], k: usize, page: PageOffset, i: usize) -> &[u8]
+    requires { Within index.now k page.0 (i + 1) }
+    ensures value { result.now ≡ key_at index.now k page.0 i }
+    ensures size { length result.now ≡ k }
 {
-    let from = idx_page::entry_offset(k, page, i);
-    let upto = from + k;
-    octets::copy_in(to, at, &index[from..upto]);
+    let start = idx_page::entry_offset(k, page, i);
+    &index[start..start + k]
 }
 
-// Copies the four bytes of the number of entry `i`.
-fn copy_number(to: &mut [u8], at: usize, index: &[u8], k: usize, page: PageOffset, i: usize)
-    requires { Within index.now k page.0 (i + 1) × (at + 4 ≤ length to.old) }
-    ensures { to.new ≡ put to.old at (window index.now (entry_offset k page.0 i + k) 4) }
+// The four bytes of the number of entry `i`.
+fn number_bytes(index: &[u8], k: usize, page: PageOffset, i: usize) -> &[u8]
+    requires { Within index.now k page.0 (i + 1) }
+    ensures value { result.now ≡ window index.now (entry_offset k page.0 i + k) 4 }
+    ensures size { length result.now ≡ 4 }
 {
-    let from = idx_page::entry_offset(k, page, i) + k;
-    let upto = from + 4;
-    octets::copy_in(to, at, &index[from..upto]);
+    let start = idx_page::entry_offset(k, page, i) + k;
+    &index[start..start + 4]
 }
 
-// Copies the last key of a page, or `key` if the page has no entries.
-pub fn copy_last_key(to: &mut [u8], at: usize, index: &[u8], key: &[u8], page: PageOffset)
-    requires { (length key.now ≤ max_key) × (at + length key.now ≤ length to.old) }
-    ensures { to.new ≡ put to.old at
-        (last_key key.now (items_in (length key.now) index.now page.0)) }
+// The last key of a page, or `key` if the page has no entries.
+fn last_key<'a>(index: &'a [u8], key: &'a [u8], page: PageOffset) -> &'a [u8]
+    requires { length key.now ≤ max_key }
+    ensures value { result.now ≡ last_key key.now (items_in (length key.now) index.now page.0) }
+    ensures size { length result.now ≡ length key.now }
 {
     let count = idx_leaf::entry_count(index, key.len(), page);
     if count == 0 {
-        octets::copy_in(to, at, key);
-        return;
+        return key;
     }
-    copy_key(to, at, index, key.len(), page, count - 1);
+    entry_key(index, key.len(), page, count - 1)
 }
 
-// Copies the larger of the key of entry `i` and `key`.
-fn copy_larger_key(to: &mut [u8], at: usize, index: &[u8], key: &[u8], page: PageOffset, i: usize)
-    requires { Within index.now (length key.now) page.0 (i + 1) × (at + length key.now ≤ length to.old) }
-    ensures { to.new ≡ put to.old at
-        (larger bytes_order (key_at index.now (length key.now) page.0 i) key.now) }
+// The larger of the key of entry `i` and `key`.
+fn larger_key<'a>(index: &'a [u8], key: &'a [u8], page: PageOffset, i: usize) -> &'a [u8]
+    requires { Within index.now (length key.now) page.0 (i + 1) }
+    ensures value { result.now ≡ larger bytes_order (key_at index.now (length key.now) page.0 i) key.now }
+    ensures size { length result.now ≡ length key.now }
 {
-    if octets::is_below(idx_page::compare_entry(index, page, i, key)) {
-        octets::copy_in(to, at, key);
-        return;
+    if idx_page::compare_entry(index, page, i, key).is_lt() {
+        return key;
     }
-    copy_key(to, at, index, key.len(), page, i);
+    entry_key(index, key.len(), page, i)
 }
 
-// Gathers the entries of a leaf with one more: `key` with its record number.
-pub fn gather_pair(
-    room: &mut [u8],
-    index: &[u8],
-    key: &[u8],
-    number: RecordNumber,
-    page: PageOffset,
-    count: usize,
-)
-    requires { Listed index.now (length key.now) page.0 count × (room_size ≤ length room.old) }
-    ensures { room.new ≡ put room.old 0
-        (encode (insert_pair (item_order (features index.now)) (stored key.now number.0)
-        (items_in (length key.now) index.now page.0))) }
-{
-    let k = key.len();
-    let i = idx_leaf::place(index, key, number, page, count);
-    let at = i * (k + 4);
-    copy_entries(room, 0, index, k, page, 0, i);
-    octets::copy_in(room, at, key);
-    idx_page::put_record_number(room, at + k, number);
-    copy_entries(room, at + k + 4, index, k, page, i, count);
+// The most that is gathered for a page: as many bytes as its entry area has, and one more entry with the longest key.
+const ROOM: usize = Page::ENTRY_AREA + idx_page::MAX_KEY + 4;
+
+// The bytes that are gathered for a page, one part after another. One room serves a whole insertion or removal: the library has no heap, and little stack.
+#[derive(Drop)]
+pub struct Room {
+    bytes: [u8; ROOM],
+    size: usize,
 }
 
-// Gathers the entries of a page whose child at `child` was split: two, for `child` and for `new`, in the place of entry `i`.
-pub fn gather_two(
-    room: &mut [u8],
-    index: &[u8],
-    key: &[u8],
-    page: PageOffset,
-    count: usize,
-    i: usize,
-    child: PageOffset,
-    new: PageOffset,
-)
-    requires { Listed index.now (length key.now) page.0 count × (i < count) × (room_size ≤ length room.old) }
-    ensures { room.new ≡ put room.old 0
-        (encode (replaced i (two_for (length key.now) index.now key.now child.0 new.0)
-        (items_in (length key.now) index.now page.0))) }
-{
-    let k = key.len();
-    let at = i * (k + 4);
-    let next = at + k + 4;
-    copy_entries(room, 0, index, k, page, 0, i);
-    copy_last_key(room, at, index, key, child);
-    copy_number(room, at + k, index, k, page, i);
-    copy_larger_key(room, next, index, key, page, i);
-    idx_page::put_child(room, next + k, new);
-    copy_entries(room, next + k + 4, index, k, page, i + 1, count);
+impl Model for Room {
+    ghost Value = { List ℕ };
+
+    ghost view = { λ room. take room.size room.bytes };
+
+    ghost invariant = { λ room. room.size ≤ room_size };
 }
 
-// Gathers the entries of a new root: one for `old` and one for `new`.
-pub fn gather_root(room: &mut [u8], index: &[u8], key: &[u8], old: PageOffset, new: PageOffset)
-    requires { (length key.now ≤ max_key) × (room_size ≤ length room.old) }
-    ensures { room.new ≡ put room.old 0
-        (encode (root_entries (length key.now) index.now key.now old.0 new.0)) }
-{
-    let k = key.len();
-    copy_last_key(room, 0, index, key, old);
-    idx_page::put_child(room, k, old);
-    copy_last_key(room, k + 4, index, key, new);
-    idx_page::put_child(room, k + 4 + k, new);
-}
+impl Room {
+    // A room with nothing in it.
+    pub fn new() -> Self
+        ensures { result ≡ [] }
+    {
+        Room {
+            bytes: [0; ROOM],
+            size: 0,
+        }
+    }
 
-// Gathers the entries of a page without entry `i`.
-pub fn gather_without(
-    room: &mut [u8],
-    index: &[u8],
-    k: usize,
-    page: PageOffset,
-    count: usize,
-    i: usize,
-)
-    requires { Listed index.now k page.0 count × (i < count) × (room_size ≤ length room.old) }
-    ensures { room.new ≡ put room.old 0 (encode (without_entry i (items_in k index.now page.0))) }
-{
-    copy_entries(room, 0, index, k, page, 0, i);
-    copy_entries(room, i * (k + 4), index, k, page, i + 1, count);
+    // Takes out what is in the room.
+    fn clear(&mut self)
+        ensures value { self.new ≡ [] }
+        ensures size { length self.new ≡ 0 }
+    {
+        self.size = 0;
+    }
+
+    // Puts `part` behind what is in the room.
+    fn push(&mut self, part: &[u8])
+        requires { length self.old + length part.now ≤ room_size }
+        ensures value { self.new ≡ self.old ++ part.now }
+        ensures size { length self.new ≡ length self.old + length part.now }
+    {
+        octets::copy_in(&mut self.bytes, self.size, part);
+        self.size += part.len();
+    }
+
+    // Puts the four bytes of an entry's number behind what is in the room.
+    fn push_number(&mut self, number: u32)
+        requires { length self.old + 4 ≤ room_size }
+        ensures value { self.new ≡ self.old ++ to_be32 number }
+        ensures size { length self.new ≡ length self.old + 4 }
+    {
+        octets::store_be32(&mut self.bytes, self.size, number);
+        self.size += 4;
+    }
+
+    // What is in the room, as `count` entries with keys of `k` bytes.
+    pub fn entries(&self, k: usize, count: usize) -> Entries<'_>
+        requires { length self.now ≡ count * (k + 4) }
+        ensures shape { (result.k ≡ k) × (result.count ≡ count) }
+        ensures bytes { result.bytes.now ≡ self.now }
+    {
+        Entries {
+            k,
+            count,
+            bytes: &self.bytes[..self.size],
+        }
+    }
+
+    // Gathers the entries of a leaf with one more: `key` with its record number.
+    pub fn gather_pair(
+        &mut self,
+        index: &[u8],
+        key: &[u8],
+        number: RecordNumber,
+        page: PageOffset,
+        count: usize,
+    )
+        requires { Listed index.now (length key.now) page.0 count }
+        ensures { self.new ≡ encode (insert_pair (item_order (features index.now)) (stored key.now number.0)
+            (items_in (length key.now) index.now page.0)) }
+    {
+        let k = key.len();
+        let i = idx_leaf::place(index, key, number, page, count);
+        self.clear();
+        self.push(entries_between(index, k, page, 0, i));
+        self.push(key);
+        self.push_number(number.0);
+        self.push(entries_between(index, k, page, i, count));
+    }
+
+    // Gathers the entries of a page whose child at `child` was split: two, for `child` and for `new`, in the place of entry `i`.
+    pub fn gather_two(
+        &mut self,
+        index: &[u8],
+        key: &[u8],
+        page: PageOffset,
+        count: usize,
+        i: usize,
+        child: PageOffset,
+        new: PageOffset,
+    )
+        requires { Listed index.now (length key.now) page.0 count × (i < count) }
+        ensures { self.new ≡ encode (replaced i (two_for (length key.now) index.now key.now child.0 new.0)
+            (items_in (length key.now) index.now page.0)) }
+    {
+        let k = key.len();
+        self.clear();
+        self.push(entries_between(index, k, page, 0, i));
+        self.push(last_key(index, key, child));
+        self.push(number_bytes(index, k, page, i));
+        self.push(larger_key(index, key, page, i));
+        self.push_number(new.0);
+        self.push(entries_between(index, k, page, i + 1, count));
+    }
+
+    // Gathers the entries of a new root: one for `old` and one for `new`.
+    pub fn gather_root(&mut self, index: &[u8], key: &[u8], old: PageOffset, new: PageOffset)
+        requires { length key.now ≤ max_key }
+        ensures { self.new ≡ encode (root_entries (length key.now) index.now key.now old.0 new.0) }
+    {
+        self.clear();
+        self.push(last_key(index, key, old));
+        self.push_number(old.0);
+        self.push(last_key(index, key, new));
+        self.push_number(new.0);
+    }
+
+    // Gathers the entries of a page without entry `i`.
+    pub fn gather_without(
+        &mut self,
+        index: &[u8],
+        k: usize,
+        page: PageOffset,
+        count: usize,
+        i: usize,
+    )
+        requires { Listed index.now k page.0 count × (i < count) }
+        ensures { self.new ≡ encode (without_entry i (items_in k index.now page.0)) }
+    {
+        self.clear();
+        self.push(entries_between(index, k, page, 0, i));
+        self.push(entries_between(index, k, page, i + 1, count));
+    }
 }

@@ -1,5 +1,5 @@
 -- Laws: the stores that unlink a page, and that put it at the head of the free list, are the rule's. Cited by the proofs of the functions. Assumes nothing.
-use Rattle.std.specs.Prelude.{ℕ, ◌-◌, ◌≡◌, List, []}
+use Rattle.std.specs.Prelude.{ℕ, ◌≡◌, List, []}
 use Rattle.std.proofs.Common.{◌∙◌}
 use Rattle.idx_page.specs.Header.{free_pointer}
 use Rattle.idx_page.specs.Page.{left_at, right_at}

@@ -5,6 +5,7 @@ ghost use Rattle.std.specs.Prelude.{◌≡◌, [], ◌+◌, ◌≤◌, length};
 ghost use Rattle.idx_page.specs.Header.{page_size};
 ghost use Rattle.idx_layout.specs.Layout.{new_page, link_before, unlinked, freed};
 
+use idx_layout::Entries;
 use idx_page::{Page, PageOffset};
 
 // Writes a whole page without entries: the numbers of its head but the count, which is 0, and zeros.
@@ -18,14 +19,7 @@ pub fn empty_page(
     requires { page.0 + page_size ≤ length index.old }
     ensures { index.new ≡ new_page index.old page.0 attribute left.0 right.0 [] }
 {
-    let none = [0u8; 1];
-    let head = Page {
-        attribute: attribute,
-        count: 0,
-        left: left,
-        right: right,
-    };
-    idx_layout::new_page(index, 0, page, head, &none[..0]);
+    idx_layout::new_page(index, page, attribute, left, right, Entries::none());
 }
 
 // The page at `before`, if it is a page, gets the right neighbour `new`.
@@ -42,9 +36,7 @@ pub fn unlink_page(index: &mut [u8], page: PageOffset)
     requires { page.0 + page_size ≤ length index.old }
     ensures { index.new ≡ unlinked index.old page.0 }
 {
-    let head = Page::at(index, page);
-    let left = head.left;
-    let right = head.right;
+    let Page { left, right, .. } = Page::at(index, page);
     idx_layout::link_beyond(index, right, left);
     link_before(index, left, right);
 }

@@ -1,15 +1,20 @@
 -- Laws: the cases of insertion and of fresh, each from the tests that lead to it. Cited by the proofs of the two calls. Assumes nothing.
-use Rattle.std.specs.Prelude.{ℕ, suc, ◌+◌, ◌≤◌, ◌<◌, ◌≡◌, refl, Bool, true, false, ◌&&◌, length, drop, get_or, eqb, leb}
-use Rattle.std.proofs.Common.{sym, ◌∙◌, add-one, drop_of_length-le}
+use Rattle.std.specs.Prelude.{ℕ, ◌≤◌, ◌<◌, ◌≡◌, refl, Bool, true, false, ◌&&◌, ◌||◌, length, eqb, leb, ltb, Err, Ok}
+use Rattle.std.proofs.Common.{sym, ◌∙◌}
+use Rattle.std.specs.List.{list_any, list_all}
 use Rattle.std.proofs.Math.Path.{ap}
-use Rattle.std.proofs.Math.Bool.{not, and-true, and-false}
-use mathlib.Core.List.{List}
-use Rattle.std.proofs.Math.Seq.{drop-cons}
-use borrow.Author.Tests.{eq-eqb, ne_eqb, leb-true, le-leb, lt-leb, lt-ltb, le-ltb}
-use Rattle.basis.specs.Tests.{contra, both}
+use Rattle.std.proofs.Math.Bool.{not}
+use mathlib.Core.List.{List, [], ◌∷◌}
+use borrow.Author.Tests.{eq-eqb, ne_eqb, leb-true, le-leb, lt-leb}
+use Rattle.basis.specs.Tests.{both}
 use Rattle.refusal.specs.After.{left}
+use Rattle.refusal.specs.Refusals.{refusal_number}
+use Rattle.refusal.specs.RefusalLaws.{refusal-some}
+use Rattle.refusal.specs.declared.Refusal.{Refusal}
+use Rattle.idx_sound.specs.Sound.{Audited}
+use Rattle.idx_sound.proofs.Accepted.{answer-unsound, audit_unsound}
+use Rattle.idx_sound.proofs.AnswerLaws.{one_answer}
 use Rattle.refusal.specs.AfterLaws.{made_none, made_at}
-use Rattle.refusal.specs.declared.Change.TheVariants.{Made, Refused}
 use Rattle.octets.specs.Store.{put}
 use Rattle.idx_page.specs.Header.{max_features, min_bytes, page_size, no_page, key_length, key_length_good, header_good}
 use Rattle.idx_page.specs.Reading.{items}
@@ -25,12 +30,12 @@ module _ (b key : List ℕ) (r : ℕ) where
   abbrev made : List ℕ
   made = inserted_buffer (key_length b) b key r
 
-  pub refused_24 : header_good b ≡ false → insert_rule b key r ≡ left b (Refused 24)
+  pub refused_24 : header_good b ≡ false → insert_rule b key r ≡ left b (Err 24)
   unfolding insert_rule insert_checks
   refused_24 e = made_at made b 0 (insert_checks b key r) tt e
 
   module _ (header : header_good b ≡ true) where
-    pub refused_27 : (length key ≡ key_length b → ⊥) → insert_rule b key r ≡ left b (Refused 27)
+    pub refused_27 : (length key ≡ key_length b → ⊥) → insert_rule b key r ≡ left b (Err 27)
     unfolding insert_rule insert_checks
     refused_27 other = made_at made b 1 (insert_checks b key r) (header, tt) (ne_eqb (length key) (key_length b) other)
 
@@ -38,12 +43,12 @@ module _ (b key : List ℕ) (r : ℕ) where
       fits : eqb (length key) (key_length b) ≡ true
       fits = eq-eqb (length key) (key_length b) same
 
-      pub refused_32 : has_control key ≡ true → insert_rule b key r ≡ left b (Refused 32)
+      pub refused_32 : has_control key ≡ true → insert_rule b key r ≡ left b (Err 32)
       unfolding insert_rule insert_checks
       refused_32 c = made_at made b 2 (insert_checks b key r) (header, (fits, tt)) (ap not c)
 
       module _ (clean : has_control key ≡ false) where
-        pub refused_28 : r ≡ 0 → insert_rule b key r ≡ left b (Refused 28)
+        pub refused_28 : r ≡ 0 → insert_rule b key r ≡ left b (Err 28)
         unfolding insert_rule insert_checks
         refused_28 z = made_at made b 3 (insert_checks b key r) (header, (fits, (ap not clean, tt))) (ap not (eq-eqb r 0 z))
 
@@ -51,103 +56,72 @@ module _ (b key : List ℕ) (r : ℕ) where
           number : not (eqb r 0) ≡ true
           number = ap not (ne_eqb r 0 some)
 
-          pub refused_25 : pages_good b ≡ false → insert_rule b key r ≡ left b (Refused 25)
+          pub refused_25 : pages_good b ≡ false → insert_rule b key r ≡ left b (Err 25)
           unfolding insert_rule insert_checks
           refused_25 e = made_at made b 4 (insert_checks b key r) (header, (fits, (ap not clean, (number, tt)))) e
 
           module _ (sound : pages_good b ≡ true) where
-            pub refused_29 : (path_to (key_length b) b key r).present ≡ true → insert_rule b key r ≡ left b (Refused 29)
+            pub refused_29 : (path_to (key_length b) b key r).present ≡ true → insert_rule b key r ≡ left b (Err 29)
             unfolding insert_rule insert_checks
             refused_29 e = made_at made b 5 (insert_checks b key r) (header, (fits, (ap not clean, (number, (sound, tt))))) (ap not e)
 
             module _ (absent : (path_to (key_length b) b key r).present ≡ false) where
-              pub refused_30 : no_room b (path_to (key_length b) b key r) ≡ true → insert_rule b key r ≡ left b (Refused 30)
+              pub refused_30 : no_room b (path_to (key_length b) b key r) ≡ true → insert_rule b key r ≡ left b (Err 30)
               unfolding insert_rule insert_checks
               refused_30 e = made_at made b 6 (insert_checks b key r) (header, (fits, (ap not clean, (number, (sound, (ap not absent, tt)))))) (ap not e)
 
               pub accepted_pair : {out : List ℕ} → no_room b (path_to (key_length b) b key r) ≡ false → out ≡ inserted_buffer (key_length b) b key r
-                  → insert_rule b key r ≡ left out Made
+                  → insert_rule b key r ≡ left out (Ok tt)
               unfolding insert_rule insert_checks
               accepted_pair e q =
                   made_none made b (insert_checks b key r) (header, (fits, (ap not clean, (number, (sound, (ap not absent, (ap not e, tt)))))))
-                  ∙ ap (λ (l : List ℕ). left l Made) (sym q)
+                  ∙ ap (λ (l : List ℕ). left l (Ok tt)) (sym q)
 
--- the bytes of a key, one after another: a control byte decides, any other leaves the rest to decide
-module _ (s : List ℕ) (i : ℕ) {c : ℕ} (h : i < length s) (e : c ≡ get_or s i 0) where
-  pub control-here : c < 0x20 → has_control (drop i s) ≡ true
-  unfolding has_control
-  control-here l = rw (drop-cons s i 0 h, ← e, lt-ltb c 0x20 l)
-
-  pub control-later : 0x20 ≤ c → has_control (drop i s) ≡ has_control (drop (i + 1) s)
-  unfolding has_control
-  control-later l = rw (add-one, drop-cons s i 0 h, ← e, le-ltb c 0x20 l)
-
-pub control-end : (s : List ℕ) (i : ℕ) → length s ≤ i → has_control (drop i s) ≡ false
+-- the two tests of bytes, as tests of each byte
+pub control_any : (s : List ℕ) → has_control s ≡ list_any (λ c. ltb c 0x20) s
 unfolding has_control
-control-end s i h = rw (drop_of_length-le s h)
+control_any [] = refl
+control_any (c ∷ s) = ap (λ (x : Bool). ltb c 0x20 || x) (control_any s)
 
--- a conjunction of three tests, by the first two
-first-fails : (a b x : Bool) → (a && b) ≡ false → (a && b && x) ≡ false
-first-fails true true x e = contra refl e
-first-fails true false x e = refl
-first-fails false b x e = refl
-
-first_holds : (a b x : Bool) → (a && b) ≡ true → (a && b && x) ≡ x
-first_holds true true x e = refl
-first_holds true false x e = contra e refl
-first_holds false b x e = contra e refl
-
--- printable bytes, one after another
-module _ (s : List ℕ) (i : ℕ) {c : ℕ} (h : i < length s) (e : c ≡ get_or s i 0) where
-  pub unprintable_here : (leb 0x20 c && leb c 0x7E) ≡ false → printable (drop i s) ≡ false
-  unfolding printable
-  unprintable_here t = rw (drop-cons s i 0 h, ← e) (first-fails (leb 0x20 c) (leb c 0x7E) (printable (drop (suc i) s)) t)
-
-  pub printable-here : (leb 0x20 c && leb c 0x7E) ≡ true → printable (drop i s) ≡ printable (drop (i + 1) s)
-  unfolding printable
-  printable-here t = rw (add-one, drop-cons s i 0 h, ← e) (first_holds (leb 0x20 c) (leb c 0x7E) (printable (drop (suc i) s)) t)
-
-pub printable-end : (s : List ℕ) (i : ℕ) → length s ≤ i → printable (drop i s) ≡ true
+pub printable_all : (s : List ℕ) → printable s ≡ list_all (λ c. leb 0x20 c && leb c 0x7E) s
 unfolding printable
-printable-end s i h = rw (drop_of_length-le s h)
+printable_all [] = refl
+printable_all (c ∷ s) = ap (λ (x : Bool). leb 0x20 c && leb c 0x7E && x) (printable_all s)
+
+-- what an audit says that the call passes on
+pub audit-refused : (b : List ℕ) (r : Refusal) → header_good b ≡ true → Audited b (refusal_number r) → (refusal_number r ≡ 25) × (pages_good b ≡ false)
+audit-refused b r h a =
+    let bad = audit_unsound b h a (refusal-some r) in (one_answer b (refusal_number r) 25 a (answer-unsound b h bad), bad)
 
 -- the stores of a fresh index
-pub fresh-stored : (b e xs : List ℕ) (k f : ℕ) {end : ℕ} {l1 l2 : List ℕ} → end ≡ min_bytes → l1 ≡ put b 0 (header_bytes page_size end k f e)
-    → l2 ≡ new_page l1 page_size 3 no_page no_page (items k 0 xs) → l2 ≡ fresh_buffer k f e b
+pub fresh-stored : (b e xs : List ℕ) (k f j : ℕ) {end n : ℕ} {l1 l2 : List ℕ} → end ≡ min_bytes → l1 ≡ put b 0 (header_bytes page_size end k f e)
+    → n ≡ 0 → l2 ≡ new_page l1 page_size 3 no_page no_page (items j n xs) → l2 ≡ fresh_buffer k f e b
 unfolding fresh_buffer fresh_header items
-fresh-stored b e xs k f z e1 e2 = e2 ∙ rw (e1, z)
+fresh-stored b e xs k f j z e1 en e2 = (rw en at e2) ∙ rw (e1, z)
 
 -- fresh, refusal by refusal in its order
 module _ (b : List ℕ) (k f : ℕ) (e : List ℕ) where
-  pub fresh_27 : key_length_good k ≡ false → fresh_rule b k f e ≡ left b (Refused 27)
+  pub fresh_27 : key_length_good k ≡ false → fresh_rule b k f e ≡ left b (Err 27)
   unfolding fresh_rule fresh_checks
   fresh_27 t = made_at (fresh_buffer k f e b) b 0 (fresh_checks b k f e) tt t
 
   module _ (key : key_length_good k ≡ true) where
-    pub fresh_24 : (expression_good e && features_good f) ≡ false → fresh_rule b k f e ≡ left b (Refused 24)
+    pub fresh_24 : (expression_good e && features_good f) ≡ false → fresh_rule b k f e ≡ left b (Err 24)
     unfolding fresh_rule fresh_checks
     fresh_24 t = made_at (fresh_buffer k f e b) b 1 (fresh_checks b k f e) (key, tt) t
 
     module _ (good : (expression_good e && features_good f) ≡ true) where
-      pub fresh_30 : length b < min_bytes → fresh_rule b k f e ≡ left b (Refused 30)
+      pub fresh_30 : length b < min_bytes → fresh_rule b k f e ≡ left b (Err 30)
       unfolding fresh_rule fresh_checks
       fresh_30 h = made_at (fresh_buffer k f e b) b 2 (fresh_checks b k f e) (key, (good, tt)) (lt-leb min_bytes (length b) h)
 
-      pub fresh-made : {out : List ℕ} → min_bytes ≤ length b → out ≡ fresh_buffer k f e b → fresh_rule b k f e ≡ left out Made
+      pub fresh-made : {out : List ℕ} → min_bytes ≤ length b → out ≡ fresh_buffer k f e b → fresh_rule b k f e ≡ left out (Ok tt)
       unfolding fresh_rule fresh_checks
       fresh-made h q =
           made_none (fresh_buffer k f e b) b (fresh_checks b k f e) (key, (good, (le-leb min_bytes (length b) h, tt)))
-          ∙ ap (λ (l : List ℕ). left l Made) (sym q)
+          ∙ ap (λ (l : List ℕ). left l (Ok tt)) (sym q)
 
--- an expression that is too long is bad, whatever its bytes are
-pub expression-long : (e : List ℕ) → max_expression < length e → expression_good e ≡ false
-unfolding expression_good
-expression-long e l = rw (lt-leb (length e) max_expression l, and-false (leb 1 (length e)))
-
-pub expression-short : (e : List ℕ) → length e ≤ max_expression → expression_good e ≡ (leb 1 (length e) && printable e)
-unfolding expression_good
-expression-short e l = rw (le-leb (length e) max_expression l, and-true (leb 1 (length e)))
-
+-- an expression that is good is not too long
 pub expression-most : (e : List ℕ) → expression_good e ≡ true → length e ≤ max_expression
 unfolding expression_good
 expression-most e t = leb-true (length e) max_expression (both (leb 1 (length e)) (leb (length e) max_expression) (both _ (printable e) t).0).1

@@ -1,7 +1,7 @@
 -- Rules: what insertion answers and leaves, "in this order: 24, 27, 28, 25 by full audit, 29 if the key is in a leaf, 30", and 32 "after 27 and before 28".
 use Rattle.std.specs.Prelude.{ℕ, Bool, false, not, ◌||◌, List, [], ◌∷◌, length, eqb, ltb}
 use Rattle.refusal.specs.After.{After, made_unless}
-use Rattle.refusal.specs.declared.Change.{Change}
+use Rattle.refusal.specs.After.{Change}
 use Rattle.idx_page.specs.Header.{header_good, key_length}
 use Rattle.idx_sound.specs.AuditTest.{pages_good}
 use Rattle.idx_insert_page.specs.Insertion.{inserted_buffer}

@@ -1,7 +1,7 @@
 -- Rules: what fresh answers and leaves, "(27, 24, 30)", as the whole buffer.
 use Rattle.std.specs.Prelude.{ℕ, Bool, true, ◌&&◌, List, [], ◌∷◌, length, leb}
 use Rattle.refusal.specs.After.{After, made_unless}
-use Rattle.refusal.specs.declared.Change.{Change}
+use Rattle.refusal.specs.After.{Change}
 use Rattle.octets.specs.Store.{put}
 use Rattle.idx_page.specs.Header.{min_bytes, max_features, page_size, no_page, key_length_good}
 use Rattle.idx_layout.specs.Layout.{header_bytes, new_page}

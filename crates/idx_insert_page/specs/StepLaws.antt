@@ -1,7 +1,7 @@
 -- Laws: the cases of insertion's steps, each from what leads to it, and that the supply lasts for the page above. Cited by the proofs of the functions.
 -- Assumes nothing.
 use Prim.Native.Nat.{ℕ, zero, suc, ◌+◌, ◌-◌, ◌≤◌, ◌<◌}
-use Rattle.std.specs.Prelude.{◌≡◌, refl, true, false, List, length, leb, ltb}
+use Rattle.std.specs.Prelude.{◌≡◌, refl, true, false, Option, Some, List, length, leb, ltb}
 use Rattle.std.proofs.Common.{ap, ◌∙◌, le-leb, lt-ltb, le-ltb}
 use native.Mathlib.Omega.{arith}
 use Rattle.std.proofs.lemmas.Bool.{lt-leb}
@@ -25,9 +25,8 @@ use Rattle.idx_route.specs.Visits.{visit_of}
 use Rattle.idx_route.specs.VisitLaws.{visited-bad, visited-leaf, visited-child}
 use Rattle.idx_route.specs.declared.Visit.TheVariants as visit
 use Rattle.idx_insert_page.specs.Insertion.{Outcome as RuleOutcome, kept, split, bad, Step, step, take_in, after_child, insert_under, at_root, inserted_buffer}
-use Rattle.idx_insert_page.specs.Answers.{outcome_of, NextFits}
+use Rattle.idx_insert_page.specs.Answers.{with_new, outcome_of, NextFits}
 use Rattle.idx_insert_page.specs.declared.Outcome.{Outcome}
-use Rattle.idx_insert_page.specs.declared.Outcome.TheVariants.{Kept, Split, Bad}
 
 -- the three outcomes differ
 kept-split : {X : Type 0} {s t : Supply} {q : ℕ} → kept s ≡ split q t → X
@@ -116,10 +115,11 @@ split_lasts k (suc left) b item p s q t m h e =
     (λ u. bad-split (rw u at e))
 
 pub next_fits : (k left : ℕ) (b : List ℕ) (item : Item) (p : ℕ) (s : Supply) {out : List ℕ} (o : Outcome)
-    → insert_under k left b item p s ≡ step out (outcome_of o) → Lasts (left + 1) s → NextFits o
-next_fits k left b item p s (Kept t) e h = tt
-next_fits k left b item p s (Split q t) e h = split_lasts k left b item p s q.0 t 1 h (ap (λ (x : Step). x.outcome) e)
-next_fits k left b item p s Bad e h = tt
+    → insert_under k left b item p s ≡ step out (outcome_of (Some o)) → Lasts (left + 1) s → NextFits o
+next_fits k left b item p s o e h q f =
+    let g : (insert_under k left b item p s).outcome ≡ split q.0 o.supply =
+    ap (λ (x : Step). x.outcome) e ∙ ap (λ (x : Option PageOffset). with_new x o.supply) f in
+    split_lasts k left b item p s q.0 o.supply 1 h g
 
 -- a page above one that was split gets the rule's entries; a page without entry i has none to replace
 module _ (k : ℕ) (b key : List ℕ) (p i c q : ℕ) (s : Supply) where

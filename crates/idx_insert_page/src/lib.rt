@@ -1,53 +1,53 @@
 // What an insertion does to one page: a leaf takes in a pair, a page above takes in what was done under it; each holds its entries or is split.
 #![tactic(auto)]
 
-ghost use Rattle.std.specs.Prelude.{◌≡◌, true, ◌≤◌, length};
+ghost use Rattle.std.specs.Prelude.{◌≡◌, true, ◌≤◌, Some, length};
 ghost use Rattle.tree.specs.Pairs.{insert_pair};
 ghost use Rattle.idx_page.specs.Header.{max_key, is_page, features};
 ghost use Rattle.idx_page.specs.Reading.{items};
 ghost use Rattle.idx_page.specs.EntryOrder.{item_order};
 ghost use Rattle.idx_leaf.specs.Leaf.{items_in, stored};
-ghost use Rattle.idx_layout.specs.Given.{Over, room_size};
+ghost use Rattle.idx_layout.specs.Given.{Over};
 ghost use Rattle.idx_supply.specs.Given.{Lasts};
 ghost use Rattle.idx_insert_page.specs.Insertion.{split, step, take_in, after_child};
 ghost use Rattle.idx_insert_page.specs.Answers.{outcome_of, NextFits};
 
+use idx_entries::Room;
+use idx_layout::Entries;
 use idx_page::{Page, PageOffset, RecordNumber};
 use idx_supply::Supply;
 
-// What an insertion under a page leaves for the page above to do: nothing; or to take in a new page, both with the supply that is left; or it met no page.
+// What an insertion under a page leaves: the new page for the page above to take in, if there is one, and the supply that is left. An answer of `None` in its
+// place says that the insertion met no page.
 #[derive(Clone, Copy)]
-pub enum Outcome {
-    Kept(Supply),
-    Split(PageOffset, Supply),
-    Bad,
+pub struct Outcome {
+    pub new_page: Option<PageOffset>,
+    pub supply: Supply,
 }
 
-// Gives a page `count` entries, held in the bytes `entries`, or splits it, with a new page from `supply`.
-fn take_in(
-    index: &mut [u8],
-    k: usize,
-    page: PageOffset,
-    count: usize,
-    entries: &[u8],
-    supply: Supply,
-) -> Outcome
-    requires { Over index.old k page.0 count entries.now × Lasts 1 supply }
-    ensures { take_in k index.old page.0 (items k count entries.now) supply
+// Gives a page `entries`, or splits it, with a new page from `supply`.
+fn take_in(index: &mut [u8], page: PageOffset, entries: Entries, supply: Supply) -> Option<Outcome>
+    requires { Over index.old entries.k page.0 entries.count × Lasts 1 supply }
+    ensures { take_in entries.entry.k index.old page.0
+        (items entries.entry.k entries.entry.count entries.entry.bytes.now) supply
         ≡ step index.new (outcome_of result) }
 {
-    if count <= Page::capacity(k) {
-        idx_layout::with_entries(index, k, page, count, entries);
-        return Outcome::Kept(supply);
+    if entries.count <= Page::capacity(entries.k) {
+        idx_layout::with_entries(index, page, entries);
+        return Some(Outcome {
+            new_page: None,
+            supply,
+        });
     }
     let taken = idx_supply::take_page(index, supply);
-    let new = taken.page;
-    if !idx_page::is_page(index.len(), new) {
-        return Outcome::Bad;
+    if !idx_page::is_page(index.len(), taken.page) {
+        return None;
     }
-    idx_layout::split_page(index, k, page, count, entries, new);
-    let rest = taken.rest;
-    Outcome::Split(new, rest)
+    idx_layout::split_page(index, page, entries, taken.page);
+    Some(Outcome {
+        new_page: Some(taken.page),
+        supply: taken.rest,
+    })
 }
 
 // Puts a pair into a leaf.
@@ -57,18 +57,17 @@ pub fn insert_in_leaf(
     number: RecordNumber,
     page: PageOffset,
     supply: Supply,
-    room: &mut [u8],
-) -> Outcome
-    requires { (length key.now ≤ max_key) × (is_page (length index.old) page.0 ≡ true) × Lasts 1 supply × (room_size ≤ length room.old) }
+    room: &mut Room,
+) -> Option<Outcome>
+    requires { (length key.now ≤ max_key) × (is_page (length index.old) page.0 ≡ true) × Lasts 1 supply }
     ensures { take_in (length key.now) index.old page.0
         (insert_pair (item_order (features index.old)) (stored key.now number.0)
         (items_in (length key.now) index.old page.0))
         supply ≡ step index.new (outcome_of result) }
 {
     let count = idx_leaf::entry_count(index, key.len(), page);
-    idx_entries::gather_pair(room, index, key, number, page, count);
-    let size = (count + 1) * (key.len() + 4);
-    take_in(index, key.len(), page, count + 1, &room[..size], supply)
+    room.gather_pair(index, key, number, page, count);
+    take_in(index, page, room.entries(key.len(), count + 1), supply)
 }
 
 // Puts two entries, for `child` and `new`, in the place of entry `i`, whose child, `child`, was split.
@@ -80,19 +79,18 @@ fn take_in_two(
     child: PageOffset,
     new: PageOffset,
     supply: Supply,
-    room: &mut [u8],
-) -> Outcome
-    requires { (length key.now ≤ max_key) × (is_page (length index.old) page.0 ≡ true) × Lasts 1 supply × (room_size ≤ length room.old) }
+    room: &mut Room,
+) -> Option<Outcome>
+    requires { (length key.now ≤ max_key) × (is_page (length index.old) page.0 ≡ true) × Lasts 1 supply }
     ensures { after_child (length key.now) index.old key.now page.0 i child.0 (split new.0 supply)
         ≡ step index.new (outcome_of result) }
 {
     let count = idx_leaf::entry_count(index, key.len(), page);
     if count <= i {
-        return Outcome::Bad;
+        return None;
     }
-    idx_entries::gather_two(room, index, key, page, count, i, child, new);
-    let size = (count + 1) * (key.len() + 4);
-    take_in(index, key.len(), page, count + 1, &room[..size], supply)
+    room.gather_two(index, key, page, count, i, child, new);
+    take_in(index, page, room.entries(key.len(), count + 1), supply)
 }
 
 // What a page does after an insertion under `child`, the child of its entry `i`, left `below`.
@@ -103,18 +101,17 @@ pub fn after_child(
     i: usize,
     child: PageOffset,
     below: Outcome,
-    room: &mut [u8],
-) -> Outcome
-    requires { (length key.now ≤ max_key) × (is_page (length index.old) page.0 ≡ true) × NextFits below × (room_size ≤ length room.old) }
-    ensures { after_child (length key.now) index.old key.now page.0 i child.0 (outcome_of below)
+    room: &mut Room,
+) -> Option<Outcome>
+    requires { (length key.now ≤ max_key) × (is_page (length index.old) page.0 ≡ true) × NextFits below }
+    ensures { after_child (length key.now) index.old key.now page.0 i child.0 (outcome_of (Some below))
         ≡ step index.new (outcome_of result) }
 {
-    match below {
-        Outcome::Kept(supply) => {
+    match below.new_page {
+        None => {
             idx_entries::raise_key(index, key, page, i);
-            Outcome::Kept(supply)
+            Some(below)
         }
-        Outcome::Split(new, supply) => take_in_two(index, key, page, i, child, new, supply, room),
-        Outcome::Bad => Outcome::Bad,
+        Some(new) => take_in_two(index, key, page, i, child, new, below.supply, room),
     }
 }

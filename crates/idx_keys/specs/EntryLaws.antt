@@ -1,14 +1,13 @@
 -- Laws: the entries of a page by number, and its last key and pair. Cited by the proofs of the functions on entries. Assumes nothing.
 use Rattle.std.specs.Prelude.{ℕ, zero, suc, ◌+◌, ◌-◌, ◌≤◌, ◌<◌, ◌≡◌, refl, List, [], ◌∷◌, length}
-use Rattle.std.proofs.Common.{sym, arith, ne_eqb}
+use Rattle.std.proofs.Common.{sym, arith}
 use Rattle.std.proofs.Math.Option.{Option, none, some}
-use Rattle.idx_page.specs.Page.{entry_offset, key_at, number_at}
-use Rattle.idx_page.specs.PageLaws.{entry-low}
+use Rattle.idx_page.specs.Page.{key_at, number_at}
 use Rattle.idx_page.specs.Reading.{entries_at}
 use Rattle.idx_page.specs.Reading.{entries_from}
 use Rattle.idx_page.proofs.ReadingLaws.{entries_are, each_within}
-use Rattle.idx_sound.specs.AuditTest.{last_of, last_pair}
-use Rattle.idx_keys.specs.Places.{InFile, EntriesWithin, key_from, pair_from}
+use Rattle.idx_sound.specs.AuditTest.{first_of, last_of, last_pair}
+use Rattle.idx_keys.specs.Places.{InFile, EntriesWithin}
 
 -- the n entries that are read of a page lie within it
 pub entries-within : (b : List ℕ) (k size p n : ℕ) → n ≡ length (entries_at k size b p) → InFile b k size → EntriesWithin b k p n
@@ -24,22 +23,13 @@ pub from_end : (b : List ℕ) (k p n i : ℕ) → n ≤ i → entries_from b k p
 unfolding entries_from
 from_end b k p n i h = let z : n - i ≡ 0 = omega arith in rw z
 
--- the key that begins where an entry begins
-pub some_key : (b : List ℕ) (k p i : ℕ) → key_from b k (entry_offset k p i) ≡ some (key_at b k p i)
-unfolding key_from
-some_key b k p i = rw (ne_eqb (entry_offset k p i) 0 (omega (arith, entry-low k p i)))
-
 -- the last key of a page
 last-from : (b : List ℕ) (k p m i : ℕ) (o : Option (List ℕ)) → last_of o (entries_from b k p (suc m) i) ≡ some (key_at b k p (i + m))
 unfolding entries_from
 last-from b k p zero i o = let e : i + 0 ≡ i = omega arith in rw e
 last-from b k p (suc m) i o = let e : i + 1 + m ≡ i + suc m = omega arith in rw (← e) (last-from b k p m (i + 1) (some (key_at b k p i)))
 
--- the pair of an entry, and the last pair of a page
-pub some_pair : (b : List ℕ) (k p i : ℕ) → pair_from b k (entry_offset k p i) ≡ some (key_at b k p i, number_at b k p i)
-unfolding pair_from
-some_pair b k p i = rw (ne_eqb (entry_offset k p i) 0 (omega (arith, entry-low k p i)))
-
+-- the last pair of a page
 last_pair_from : (b : List ℕ) (k p m i : ℕ) (o : Option (List ℕ × ℕ)) →
     last_pair o (entries_from b k p (suc m) i) ≡ some (key_at b k p (i + m), number_at b k p (i + m))
 unfolding entries_from
@@ -47,26 +37,25 @@ last_pair_from b k p zero i o = let e : i + 0 ≡ i = omega arith in rw e
 last_pair_from b k p (suc m) i o =
     let e : i + 1 + m ≡ i + suc m = omega arith in rw (← e) (last_pair_from b k p m (i + 1) (some (key_at b k p i, number_at b k p i)))
 
-pub last_some : (b : List ℕ) (k size p n x : ℕ) → n ≡ length (entries_at k size b p) → (n ≡ 0 → ⊥) → x ≡ entry_offset k p (n - 1)
-    → key_from b k x ≡ last_of none (entries_at k size b p)
-last_some b k size p zero x en ne ex = absurd (ne refl)
-last_some b k size p (suc m) x en ne ex =
-    let e : suc m - 1 ≡ 0 + m = omega arith in
-    rw (ex, e, some_key b k p (0 + m), entries_are b k size p (suc m) en) (sym (last-from b k p m 0 none))
+-- where the first entry of a page begins, and where the last one does
+module _ (b : List ℕ) (k size p n : ℕ) (en : n ≡ length (entries_at k size b p)) where
+  pub no_entries : n ≡ 0 → entries_at k size b p ≡ []
+  unfolding entries_from
+  no_entries z = rw (entries_are b k size p n en, z)
 
-pub last_none : (b : List ℕ) (k size p n : ℕ) → n ≡ length (entries_at k size b p) → n ≡ 0
-    → key_from b k 0 ≡ last_of none (entries_at k size b p)
-unfolding key_from entries_from
-last_none b k size p n en z = rw (entries_are b k size p n en, z)
+  module _ (some-entry : n ≡ 0 → ⊥) where
+    counted : n ≡ suc (n - 1)
+    counted = omega (arith, some-entry)
 
-pub last_pair_some : (b : List ℕ) (k size p n x : ℕ) → n ≡ length (entries_at k size b p) → (n ≡ 0 → ⊥) → x ≡ entry_offset k p (n - 1)
-    → pair_from b k x ≡ last_pair none (entries_at k size b p)
-last_pair_some b k size p zero x en ne ex = absurd (ne refl)
-last_pair_some b k size p (suc m) x en ne ex =
-    let e : suc m - 1 ≡ 0 + m = omega arith in
-    rw (ex, e, some_pair b k p (0 + m), entries_are b k size p (suc m) en) (sym (last_pair_from b k p m 0 none))
+    by-number : entries_at k size b p ≡ entries_from b k p (suc (n - 1)) 0
+    by-number = rw (← counted) (entries_are b k size p n en)
 
-pub last_pair_none : (b : List ℕ) (k size p n : ℕ) → n ≡ length (entries_at k size b p) → n ≡ 0
-    → pair_from b k 0 ≡ last_pair none (entries_at k size b p)
-unfolding pair_from entries_from
-last_pair_none b k size p n en z = rw (entries_are b k size p n en, z)
+    pub first-key : some (key_at b k p 0) ≡ first_of (entries_at k size b p)
+    unfolding entries_from
+    first-key = rw (by-number) refl
+
+    pub last-key : some (key_at b k p (n - 1)) ≡ last_of none (entries_at k size b p)
+    last-key = let i : 0 + (n - 1) ≡ n - 1 = omega arith in rw by-number (rw i at (sym (last-from b k p (n - 1) 0 none)))
+
+    pub last-pair : some (key_at b k p (n - 1), number_at b k p (n - 1)) ≡ last_pair none (entries_at k size b p)
+    last-pair = let i : 0 + (n - 1) ≡ n - 1 = omega arith in rw by-number (rw i at (sym (last_pair_from b k p (n - 1) 0 none)))

@@ -16,7 +16,8 @@ use Rattle.idx_page.specs.HeaderLaws.{is-page}
 use Rattle.idx_page.proofs.ReadingLaws.{items_take}
 use Rattle.idx_layout.specs.Layout.{with_attribute, with_count, with_left, with_right, with_root, with_size, header_bytes}
 use Rattle.idx_layout.specs.Layout.{encode, area, with_entries, new_page, without_root, link_beyond, split_page}
-use Rattle.idx_layout.specs.Given.{Given, Over, room_size}
+use Rattle.idx_layout.specs.Given.{Over}
+use Rattle.idx_page.specs.Within.{Within}
 use Rattle.idx_leaf.specs.ItemLaws.{length-items, take_items, drop_items}
 use Rattle.idx_layout.specs.EncodeLaws.{encode-items}
 
@@ -63,35 +64,33 @@ pub capacity-least : (k : ℕ) → k ≤ max_key → 4 ≤ capacity k
 unfolding capacity
 capacity-least k h = (le-div_iff_mul-le {k = k + 4} {x = 4} {y = entry_area} (omega arith)).1 (omega arith)
 
--- the products of sizes that a page with n entries meets
+-- the products of sizes that a page with n entries, held in the bytes s, meets
 pub record Sizes (b : List ℕ) (k p n : ℕ) (s : List ℕ) : Type 0 where
   pub inside : p + page_size ≤ length b
-  pub key : k ≤ max_key
   pub few : n ≤ entry_area
   pub bytes : length s ≤ entry_area
   pub end : entry_offset k p n ≡ p + entries_start + length s
 
-pub sizes : {b : List ℕ} {k p n : ℕ} {s : List ℕ} → Given b k p n s → Sizes b k p n s
+pub sizes : {b : List ℕ} {k p n : ℕ} {s : List ℕ} → Within b k p n → length s ≡ n * (k + 4) → Sizes b k p n s
 unfolding entry_offset
-sizes {b} {k} {p} {n} {s} g =
-    let w = g.within in
+sizes {b} {k} {p} {n} {s} w e =
     let c = capacity-small k in
-    record { inside = w.page; key = w.key; few = omega arith; bytes = omega (arith, entries_fit k n w.count, g.size); end = omega (arith, g.size) }
+    record { inside = w.page; few = omega (arith, w.count); bytes = omega (arith, entries_fit k n w.count); end = omega arith }
 
 -- a byte string of n entries and no more
 encode-whole : (k n : ℕ) (s : List ℕ) → length s ≡ n * (k + 4) → encode (items k n s) ≡ s
 encode-whole k n s e = encode-items k n s (omega arith) ∙ take_all (n * (k + 4)) s (omega arith)
 
-module _ {b s : List ℕ} {k p n o : ℕ} {l1 l2 l3 : List ℕ} (g : Given b k p n s) where
-  pub with_entries_by : l1 ≡ with_count b p n → l2 ≡ put l1 (p + entries_start) s → o ≡ entry_offset k p n
-      → l3 ≡ put l2 o (replicate (p + page_size - o) 0) → l3 ≡ with_entries b p (items k n s)
-  unfolding with_entries area
-  with_entries_by e1 e2 eo e3 =
-      let z = sizes g in
-      let f : o ≡ p + entries_start + length s = eo ∙ z.end in
-      let r : p + page_size - o ≡ entry_area - length s = omega (arith, f, z.bytes) in
-      e3 ∙ rw (r, f, e2, e1, length-items k n s, encode-whole k n s g.size)
-      (sym (put_append (with_count b p n) (p + entries_start) s (replicate (entry_area - length s) 0)))
+pub with_entries_by : (s : List ℕ) {b l1 l2 l3 : List ℕ} {k p n o : ℕ} → Within b k p n → length s ≡ n * (k + 4) → l1 ≡ with_count b p n
+    → l2 ≡ put l1 (p + entries_start) s → o ≡ entry_offset k p n → l3 ≡ put l2 o (replicate (p + page_size - o) 0)
+    → l3 ≡ with_entries b p (items k n s)
+unfolding with_entries area
+with_entries_by s {b} {l1} {l2} {l3} {k} {p} {n} {o} w e e1 e2 eo e3 =
+    let z = sizes w e in
+    let f : o ≡ p + entries_start + length s = eo ∙ z.end in
+    let r : p + page_size - o ≡ entry_area - length s = omega (arith, f, z.bytes) in
+    e3 ∙ rw (r, f, e2, e1, length-items k n s, encode-whole k n s e)
+    (sym (put_append (with_count b p n) (p + entries_start) s (replicate (entry_area - length s) 0)))
 
 -- a page written whole, as the stores of its head and its entries
 new-page-stores : (b : List ℕ) (p a l r : ℕ) (es : List Item)
@@ -126,63 +125,51 @@ new-page_by b p a l r es {l1} {l2} {l3} {l4} e1 e2 e3 e4 =
     ∙ put_comm (put l1 (p + 4) (to_le32 l)) (p + 2) n (p + 8) (to_le32 r) (omega (arith, length-to_le16 (length es))))) in
     e4 ∙ rw (c, e1) (sym (new-page-stores b p a l r es))
 
--- the products of sizes that a split meets
-pub record Halves (k n : ℕ) (s : List ℕ) : Type 0 where
+-- the sizes that a split meets
+pub record Halves (b : List ℕ) (k p q n : ℕ) : Type 0 where
+  pub inside : p + page_size ≤ length b
   pub low : (n + 1) / 2 ≤ n
-  pub cut : (n + 1) / 2 * (k + 4) ≤ length s
-  pub lower : (n + 1) / 2 ≤ capacity k
-  pub upper : n - (n + 1) / 2 ≤ capacity k
-  pub rest : length s - (n + 1) / 2 * (k + 4) ≡ (n - (n + 1) / 2) * (k + 4)
+  pub lower : Within b k p ((n + 1) / 2)
+  pub upper : Within b k q (n - (n + 1) / 2)
   pub few : n ≤ 501
-  pub small : length s ≤ room_size
 
-pub halves : {b : List ℕ} {k p n : ℕ} {s : List ℕ} → Over b k p n s → Halves k n s
-halves {b} {k} {p} {n} {s} g =
+pub halves : {b : List ℕ} {k p q n : ℕ} → Over b k p n → is_page (length b) q ≡ true → Halves b k p q n
+halves {b} {k} {p} {q} {n} g new =
     let c = capacity-least k g.key in
-    let m : ℕ = (n + 1) / 2 in
-    let l : m ≤ n = omega arith in
-    let u : m + (n - m) ≡ n = omega arith in
-    let a : n * (k + 4) ≡ m * (k + 4) + (n - m) * (k + 4) = sym (ap (λ (x : ℕ). x * (k + 4)) u) ∙ add-mul m (n - m) (k + 4) in
-    let t : n * (k + 4) ≤ (capacity k + 1) * (k + 4) = mul-le-mul_right (k + 4) g.count in
+    let w = is-page (length b) p g.page in
+    let v = is-page (length b) q new in
     record {
-      low = l;
-      cut = omega (arith, g.size);
-      lower = omega (arith, g.count);
-      upper = omega (arith, g.count);
-      rest = omega (arith, g.size);
+      inside = w.high;
+      low = omega arith;
+      lower = record { key = g.key; count = omega (arith, g.count); page = w.high };
+      upper = record { key = g.key; count = omega (arith, g.count); page = v.high };
       few = omega (arith, g.count, capacity-small k);
-      small = omega (arith, g.size, g.key, add-mul (capacity k) 1 (k + 4), entries_fit k (capacity k) (omega arith));
     }
 
-module _ {b s : List ℕ} {k p n : ℕ} (g : Over b k p n s) where
-  -- n entries that fit the page
-  pub whole-given : n ≤ capacity k → Given b k p n s
-  whole-given h = record { within = record { key = g.key; count = h; page = (is-page (length b) p g.page).high }; size = g.size }
+-- a byte string of n entries, cut after the first m
+module _ (k m n : ℕ) (s : List ℕ) (h : m ≤ n) (e : length s ≡ n * (k + 4)) where
+  cut : m * (k + 4) ≤ length s
+  cut = omega (arith, mul-le-mul_right (k + 4) h)
 
-  -- the halves, as byte strings
-  pub lower-given : Given b k p ((n + 1) / 2) (take ((n + 1) / 2 * (k + 4)) s)
-  lower-given =
-      let h = halves g in
-      record { within = record { key = g.key; count = h.lower; page = (is-page (length b) p g.page).high }; size = simp length-take (omega arith) }
+  pub first-items : items k m (take (m * (k + 4)) s) ≡ take m (items k n s)
+  first-items = items_take k m (m * (k + 4)) s (omega arith) ∙ sym (take_items k m n s h)
 
-  pub upper-given : (c : List ℕ) (q : ℕ) → length c ≡ length b → is_page (length b) q ≡ true
-      → Given c k q (n - (n + 1) / 2) (take (length s - (n + 1) / 2 * (k + 4)) (drop ((n + 1) / 2 * (k + 4)) s))
-  upper-given c q e t =
-      let h = halves g in
-      let i = is-page (length b) q t in
-      record { within = record { key = g.key; count = h.upper; page = omega arith }; size = simp (length-take, length-drop) (omega arith) }
+  pub rest-items : items k (n - m) (drop (m * (k + 4)) s) ≡ drop m (items k n s)
+  rest-items = sym (drop_items k m n s h)
 
-  -- the stores of a split
-  pub split_by : (q : ℕ) {a r : ℕ} {l1 l2 l3 l4 l5 : List ℕ} → a ≡ attribute_at b p → r ≡ right_at b p
-      → l1 ≡ with_entries b p (items k ((n + 1) / 2) (take ((n + 1) / 2 * (k + 4)) s))
-      → l2 ≡ with_attribute l1 p (without_root a) → l3 ≡ with_right l2 p q → l4 ≡ link_beyond l3 r q
-      → l5 ≡ new_page l4 q (without_root a) p r (items k (n - (n + 1) / 2) (take (length s - (n + 1) / 2 * (k + 4)) (drop ((n + 1) / 2 * (k + 4)) s)))
-      → l5 ≡ split_page b p (items k n s) q
-  unfolding split_page
-  split_by q ea er e1 e2 e3 e4 e5 =
-      let h = halves g in
-      let m : ℕ = (n + 1) / 2 in
-      let lower : items k m (take (m * (k + 4)) s) ≡ take m (items k n s) = items_take k m (m * (k + 4)) s (omega arith) ∙ sym (take_items k m n s h.low) in
-      let upper : items k (n - m) (take (length s - m * (k + 4)) (drop (m * (k + 4)) s)) ≡ drop m (items k n s) =
-      items_take k (n - m) (length s - m * (k + 4)) (drop (m * (k + 4)) s) (omega arith) ∙ sym (drop_items k m n s h.low) in
-      e5 ∙ rw (upper, e4, e3, e2, e1, lower, ea, er, length-items k n s)
+  pub first-length : length (take (m * (k + 4)) s) ≡ m * (k + 4)
+  first-length = simp length-take (omega (arith, cut))
+
+  pub rest-length : length (drop (m * (k + 4)) s) ≡ (n - m) * (k + 4)
+  rest-length =
+      let u : m + (n - m) ≡ n = omega arith in
+      let a : n * (k + 4) ≡ m * (k + 4) + (n - m) * (k + 4) = sym (ap (λ (x : ℕ). x * (k + 4)) u) ∙ add-mul m (n - m) (k + 4) in
+      simp length-drop (omega arith)
+
+-- the stores of a split
+pub split_by : (b s : List ℕ) (k p n q : ℕ) {l1 l2 l3 l4 l5 : List ℕ} {a r : ℕ} → a ≡ attribute_at b p → r ≡ right_at b p
+    → l1 ≡ with_entries b p (take ((n + 1) / 2) (items k n s)) → l2 ≡ with_attribute l1 p (without_root a) → l3 ≡ with_right l2 p q
+    → l4 ≡ link_beyond l3 r q → l5 ≡ new_page l4 q (without_root a) p r (drop ((n + 1) / 2) (items k n s)) → l5 ≡ split_page b p (items k n s) q
+unfolding split_page
+split_by b s k p n q ea er e1 e2 e3 e4 e5 =
+    e5 ∙ rw (e4, e3, e2, e1, ea, er, length-items k n s)

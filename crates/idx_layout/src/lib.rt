@@ -1,15 +1,63 @@
 // Writes the header and pages: their numbers, a page's entries, a new page, and a page that is split.
 #![tactic(auto)]
 
-ghost use Rattle.std.specs.Prelude.{◌≡◌, true, ◌+◌, ◌≤◌, length};
+ghost use Rattle.std.specs.Prelude.{◌≡◌, true, ◌+◌, ◌-◌, ◌*◌, ◌≤◌, length, take, drop};
 ghost use Rattle.octets.specs.Store.{put};
-ghost use Rattle.idx_page.specs.Header.{max_features, page_size, expression_place, features, is_page};
+ghost use Rattle.idx_page.specs.Within.{Within};
+ghost use Rattle.idx_page.specs.Header.{max_key, max_features, page_size, expression_place, features, is_page};
 ghost use Rattle.idx_page.specs.Reading.{items};
 ghost use Rattle.idx_layout.specs.Layout.{with_attribute, with_count, with_left, with_right, with_root, with_free, with_size, header_bytes};
 ghost use Rattle.idx_layout.specs.Layout.{with_entries, new_page, link_beyond, split_page};
-ghost use Rattle.idx_layout.specs.Given.{Given, Over};
+ghost use Rattle.idx_layout.specs.Given.{Over};
 
 use idx_page::{Page, PageOffset};
+
+// Entries for a page as bytes, one after another: `count` of them, each with a key of `k` bytes.
+#[derive(Clone, Copy)]
+pub struct Entries<'a> {
+    pub k: usize,
+    pub count: usize,
+    pub bytes: &'a [u8],
+    pub ghost whole: { length bytes.now ≡ count * (k + 4) },
+}
+
+impl<'a> Entries<'a> {
+    // No entries.
+    pub fn none() -> Self
+        ensures { (result.k ≡ 0) × (result.count ≡ 0) }
+    {
+        Entries {
+            k: 0,
+            count: 0,
+            bytes: &[],
+        }
+    }
+
+    // The first `n` entries, and the rest.
+    fn split_at(self, n: usize) -> (Self, Self)
+        requires { (self.k ≤ max_key) × (n ≤ self.count) }
+        ensures keys { (result.0.k ≡ self.entry.k) × (result.1.k ≡ self.entry.k) }
+        ensures counts { (result.0.count ≡ n) × (result.1.count ≡ self.entry.count - n) }
+        ensures first { items self.entry.k n result.0.bytes.now ≡ take n (items self.entry.k self.entry.count self.entry.bytes.now) }
+        ensures rest { items self.entry.k (self.entry.count - n) result.1.bytes.now ≡ drop n (items self.entry.k self.entry.count self.entry.bytes.now) }
+    {
+        let (first, rest) = self.bytes.split_at(n * (self.k + 4));
+        (
+            Entries {
+                k: self.k,
+                count: n,
+                bytes: first,
+            },
+            Entries {
+                k: self.k,
+                count: self.count - n,
+                bytes: rest,
+            },
+        )
+    }
+}
+
+// ---- One number of a page or of the header. What these share is `octets`' store; a place and a width is all that they add.
 
 // Gives a page the attribute `attribute`.
 fn set_attribute(index: &mut [u8], page: PageOffset, attribute: u32)
@@ -93,28 +141,34 @@ pub fn new_header(
     );
 }
 
-// Gives a page `count` entries, held in the bytes `entries`, with zeros after the last.
-pub fn with_entries(index: &mut [u8], k: usize, page: PageOffset, count: usize, entries: &[u8])
-    requires { Given index.old k page.0 count entries.now }
-    ensures { index.new ≡ with_entries index.old page.0 (items k count entries.now) }
+// Gives a page `entries`, with zeros after the last.
+pub fn with_entries(index: &mut [u8], page: PageOffset, entries: Entries)
+    requires { Within index.old entries.k page.0 entries.count }
+    ensures { index.new ≡ with_entries index.old page.0 (items entries.entry.k entries.entry.count entries.entry.bytes.now) }
 {
-    let at = page.0 as usize;
-    set_count(index, page, count as u32);
-    octets::copy_in(index, at + Page::ENTRIES_START, entries);
-    let end = idx_page::entry_offset(k, page, count);
-    octets::fill(index, end, at + Page::SIZE, 0);
+    let start = page.0 as usize;
+    set_count(index, page, entries.count as u32);
+    octets::copy_in(index, start + Page::ENTRIES_START, entries.bytes);
+    let end = idx_page::entry_offset(entries.k, page, entries.count);
+    octets::fill(index, end, start + Page::SIZE, 0);
 }
 
-// Writes a whole page: `head`, then its entries, held in the bytes `entries`.
-pub fn new_page(index: &mut [u8], k: usize, page: PageOffset, head: Page, entries: &[u8])
-    requires { Given index.old k page.0 head.count entries.now }
-    ensures { index.new ≡ new_page index.old page.0 head.attribute head.left.0 head.right.0
-        (items k head.count entries.now) }
+// Writes a whole page: its attribute, its neighbours and its entries.
+pub fn new_page(
+    index: &mut [u8],
+    page: PageOffset,
+    attribute: u32,
+    left: PageOffset,
+    right: PageOffset,
+    entries: Entries,
+)
+    requires { Within index.old entries.k page.0 entries.count }
+    ensures { index.new ≡ new_page index.old page.0 attribute left.0 right.0 (items entries.entry.k entries.entry.count entries.entry.bytes.now) }
 {
-    set_attribute(index, page, head.attribute);
-    link_left(index, page, head.left);
-    link_right(index, page, head.right);
-    with_entries(index, k, page, head.count as usize, entries);
+    set_attribute(index, page, attribute);
+    link_left(index, page, left);
+    link_right(index, page, right);
+    with_entries(index, page, entries);
 }
 
 // The page at `beyond`, if it is a page, gets the left neighbour `new`.
@@ -126,32 +180,17 @@ pub fn link_beyond(index: &mut [u8], beyond: PageOffset, new: PageOffset)
     }
 }
 
-// Splits a page that gets `count` entries, held in the bytes `entries`: it keeps the lower half, rounded up; the rest go to a new page at `new`.
-pub fn split_page(
-    index: &mut [u8],
-    k: usize,
-    page: PageOffset,
-    count: usize,
-    entries: &[u8],
-    new: PageOffset,
-)
-    requires { Over index.old k page.0 count entries.now × (is_page (length index.old) new.0 ≡ true) }
-    ensures { index.new ≡ split_page index.old page.0 (items k count entries.now) new.0 }
+// Splits a page that gets `entries`: it keeps the lower half, rounded up; the rest go to a new page at `new`.
+pub fn split_page(index: &mut [u8], page: PageOffset, entries: Entries, new: PageOffset)
+    requires { Over index.old entries.k page.0 entries.count × (is_page (length index.old) new.0 ≡ true) }
+    ensures { index.new ≡ split_page index.old page.0 (items entries.entry.k entries.entry.count entries.entry.bytes.now) new.0 }
 {
     let head = Page::at(index, page);
     let attribute = head.attribute - head.attribute % 2;
-    let right = head.right;
-    let lower = (count + 1) / 2;
-    let cut = lower * (k + 4);
-    with_entries(index, k, page, lower, &entries[..cut]);
+    let (lower, upper) = entries.split_at((entries.count + 1) / 2);
+    with_entries(index, page, lower);
     set_attribute(index, page, attribute);
     link_right(index, page, new);
-    link_beyond(index, right, new);
-    let upper = Page {
-        attribute: attribute,
-        count: (count - lower) as u32,
-        left: page,
-        right: right,
-    };
-    new_page(index, k, new, upper, &entries[cut..]);
+    link_beyond(index, head.right, new);
+    new_page(index, new, attribute, page, head.right, upper);
 }

@@ -1,11 +1,14 @@
 -- Laws: for features 0, the comparison of a stored entry with a pair, and the loop that goes by it. Cited by the proofs of the functions. Assumes nothing.
-use Rattle.std.specs.Prelude.{ℕ, suc, ◌+◌, ◌-◌, ◌^◌, ◌≤◌, ◌<◌, ◌≡◌, true, not, List, ◌∷◌, leb, length}
+use Rattle.std.specs.Prelude.{ℕ, suc, ◌+◌, ◌-◌, ◌^◌, ◌≤◌, ◌<◌, ◌≡◌, Bool, true, not, List, ◌∷◌, leb, length}
+use Rattle.std.specs.Ordering.{is_ge, is_le, nat_cmp, ordering_then}
+use Rattle.std.proofs.lemmas.Bool.Decides.{nat_tests}
 use Rattle.std.proofs.Math.Path.{refl, sym}
 use Rattle.std.proofs.Common.{ap, ◌∙◌, add-zero, arith}
 use Rattle.std.proofs.Math.Bool.{false}
 use Rattle.basis.specs.Tests.{either, contra}
 use Rattle.octets.specs.NumberLaws.{be32-to_be32, be32-window}
-use Rattle.octets.specs.declared.Ordering.{Ordering}
+use Rattle.std.specs.declared.cmp.Ordering.{Ordering}
+use Rattle.std.specs.declared.cmp.Ordering.TheVariants.{Less, Equal, Greater}
 use Rattle.octets.specs.Order.{bytes_le, ordering, is_below, is_equal}
 use Rattle.octets.specs.OrderLaws.{le_refl, le_total}
 use Rattle.idx_page.specs.Page.{entry_offset, key_at, number_at}
@@ -14,6 +17,23 @@ use Rattle.idx_page.specs.Reading.{Item}
 use Rattle.idx_page.specs.EntryOrder.{item_order}
 use Rattle.idx_leaf.specs.Leaf.{stored}
 use Rattle.idx_leaf.specs.EntryLaws.{items_from, item_at, from-none, from_cons, passed_count}
+
+-- an order that another one decides behind it
+above_by : (o q : Ordering) (t : Bool) → (is_equal o ≡ true → is_ge q ≡ t) → (is_equal o ≡ false → not (is_below o) ≡ t) → is_ge (ordering_then o q) ≡ t
+above_by Less q t same other = other refl
+above_by Equal q t same other = same refl
+above_by Greater q t same other = other refl
+
+up_to_by : (o q : Ordering) (t : Bool) → (is_equal o ≡ true → is_le q ≡ t) → (is_equal o ≡ false → is_below o ≡ t) → is_le (ordering_then o q) ≡ t
+up_to_by Less q t same other = other refl
+up_to_by Equal q t same other = same refl
+up_to_by Greater q t same other = other refl
+
+cmp_ge : (n r : ℕ) → is_ge (nat_cmp n r) ≡ leb r n
+cmp_ge n r = grind (arith, nat_tests)
+
+cmp_le : (n r : ℕ) → is_le (nat_cmp n r) ≡ leb n r
+cmp_le n r = grind (arith, nat_tests)
 
 -- a stored entry and a pair, by the order of their keys and, if these are equal, by their numbers
 module _ (b key : List ℕ) (p i r : ℕ) {o : Ordering} (eo : o ≡ ordering (key_at b (length key) p i) key) where
@@ -46,6 +66,14 @@ module _ (b key : List ℕ) (p i r : ℕ) {o : Ordering} (eo : o ≡ ordering (k
       rw eo (either (bytes_le a key)
       (λ x. either (bytes_le key a) (λ y. contra refl (rw (x, y) at u)) (λ y. rw (x, y)))
       (λ x. rw x))
+
+  -- the numbers decide behind the keys
+  module _ {n : ℕ} (small : r < 2 ^ 32) (en : n ≡ number_at b (length key) p i) where
+    pub then_above : is_ge (ordering_then o (nat_cmp n r)) ≡ item_order 0 (stored key r) (item_at (length key) b p i)
+    then_above = above_by o (nat_cmp n r) _ (λ t. cmp_ge n r ∙ equal-above small en t) differ_above
+
+    pub then_up_to : is_le (ordering_then o (nat_cmp n r)) ≡ item_order 0 (item_at (length key) b p i) (stored key r)
+    then_up_to = up_to_by o (nat_cmp n r) _ (λ t. cmp_le n r ∙ equal_up_to small en t) differ_up_to
 
 -- the loop over a page's n entries that stops at the first at or above the pair: it has come to entry i
 module _ (k : ℕ) (b : List ℕ) (p : ℕ) (item : Item) (n i : ℕ)

@@ -3,7 +3,7 @@
 use Rattle.std.specs.Prelude.{ℕ, zero, suc, ◌+◌, ◌-◌, ◌≤◌, ◌<◌, ◌≡◌, refl, Bool, true, false, not, List, [], ◌∷◌, length, get_or, eqb}
 use Rattle.std.proofs.Common.{sym, ap, ◌∙◌, zero-add, add-zero, arith, eq-eqb, ne_eqb}
 use Rattle.basis.specs.Tests.{either, contra}
-use Rattle.octets.specs.declared.Ordering.{Ordering}
+use Rattle.std.specs.declared.cmp.Ordering.{Ordering}
 use Rattle.octets.specs.Order.{bytes_le, ordering, is_equal}
 use Rattle.tree.specs.Pairs.{by_key, present}
 use Rattle.tree.specs.Position.{Passes, position}

@@ -2,6 +2,7 @@
 #![tactic(auto)]
 
 ghost use Rattle.std.specs.Prelude.{◌≡◌, true, ◌+◌, ◌≤◌, length};
+ghost use Rattle.std.specs.Ordering.{is_le, is_ge};
 ghost use Rattle.tree.specs.Pairs.{present};
 ghost use Rattle.idx_page.specs.Header.{max_key, features, is_page};
 ghost use Rattle.idx_page.specs.Within.{Within};
@@ -11,6 +12,7 @@ ghost use Rattle.idx_leaf.specs.Given.{Listed};
 ghost use Rattle.idx_leaf.specs.EntryLaws.{item_at, passed_count};
 
 use idx_page::{PageOffset, RecordNumber};
+use std::cmp::Ordering;
 
 // How many entries a page has, in a file as long as the buffer.
 pub fn entry_count(index: &[u8], k: usize, page: PageOffset) -> usize
@@ -20,36 +22,20 @@ pub fn entry_count(index: &[u8], k: usize, page: PageOffset) -> usize
     idx_page::entry_count(index, k, index.len(), page)
 }
 
-// Whether entry `i` is at or above `key` with its record number: by key, then record number.
-fn pair_above(index: &[u8], key: &[u8], number: RecordNumber, page: PageOffset, i: usize) -> bool
-    requires { Within index.now (length key.now) page.0 (i + 1) }
-    ensures { result ≡ item_order 0 (stored key.now number.0) (item_at (length key.now) index.now page.0 i) }
-{
-    let order = idx_page::compare_entry(index, page, i, key);
-    let other = idx_page::record_number(index, key.len(), page, i);
-    if octets::is_equal(order) {
-        return number.0 <= other.0;
-    }
-    !octets::is_below(order)
-}
-
-// Whether entry `i` is at or below `key` with its record number: by key, then record number.
-pub fn pair_up_to(
+// The order of entry `i` to `key` with its record number: by key, then record number.
+pub fn compare_pair(
     index: &[u8],
     key: &[u8],
     number: RecordNumber,
     page: PageOffset,
     i: usize,
-) -> bool
+) -> Ordering
     requires { Within index.now (length key.now) page.0 (i + 1) }
-    ensures { result ≡ item_order 0 (item_at (length key.now) index.now page.0 i) (stored key.now number.0) }
+    ensures above { is_ge result ≡ item_order 0 (stored key.now number.0) (item_at (length key.now) index.now page.0 i) }
+    ensures up_to { is_le result ≡ item_order 0 (item_at (length key.now) index.now page.0 i) (stored key.now number.0) }
 {
-    let order = idx_page::compare_entry(index, page, i, key);
     let other = idx_page::record_number(index, key.len(), page, i);
-    if octets::is_equal(order) {
-        return other.0 <= number.0;
-    }
-    octets::is_below(order)
+    idx_page::compare_entry(index, page, i, key).then(other.cmp(&number))
 }
 
 // How many entries of a leaf are below `key` with its record number, if a key may have several records.
@@ -64,14 +50,12 @@ fn pairs_below(
     ensures { result ≡ passed_count (item_order 0) (stored key.now number.0)
         (items_in (length key.now) index.now page.0) }
 {
-    let mut i = 0;
-    while i < count {
-        if pair_above(index, key, number, page, i) {
+    for i in 0..count {
+        if compare_pair(index, key, number, page, i).is_ge() {
             return i;
         }
-        i += 1;
     }
-    i
+    count
 }
 
 // How many entries of a leaf are below `key` with its record number, before the first at or above it. If keys are distinct, by the keys alone.
@@ -102,11 +86,7 @@ pub fn leaf_entry(index: &[u8], key: &[u8], number: RecordNumber, page: PageOffs
     if count == 0 {
         return 0;
     }
-    let i = place(index, key, number, page, count);
-    if i == count {
-        return count - 1;
-    }
-    i
+    place(index, key, number, page, count).min(count - 1)
 }
 
 // Whether a leaf has `key`, or, if a key may have several records, `key` with its record number: the first entry at or above it is an equal one.
@@ -121,7 +101,7 @@ pub fn is_present(index: &[u8], key: &[u8], number: RecordNumber, page: PageOffs
         return false;
     }
     if idx_page::several(index) {
-        return pair_up_to(index, key, number, page, i);
+        return compare_pair(index, key, number, page, i).is_le();
     }
-    octets::is_equal(idx_page::compare_entry(index, page, i, key))
+    idx_page::compare_entry(index, page, i, key).is_eq()
 }

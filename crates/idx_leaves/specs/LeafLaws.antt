@@ -1,114 +1,88 @@
 -- Laws: the tests of one leaf entry, and the loop over leaf entries. Cited by the proofs of the functions that do these. Assumes nothing.
-use Rattle.std.specs.Prelude.{ℕ, ◌+◌, ◌-◌, ◌*◌, ◌≤◌, ◌<◌, ◌≡◌, refl, Bool, true, false, ◌&&◌, List, length}
+use Rattle.std.specs.Prelude.{ℕ, ◌+◌, ◌-◌, ◌≤◌, ◌<◌, ◌≡◌, refl, Bool, true, false, not, ◌&&◌, List, ◌∷◌, length, eqb}
 use Rattle.std.proofs.Math.Path.{sym, ap}
 use Rattle.std.proofs.Common.{◌∙◌, arith}
-use Rattle.std.proofs.Math.Option.{some}
-use Rattle.std.proofs.Math.Nat.{sub-zero}
+use Rattle.std.proofs.Math.Option.{none, some}
 use borrow.Author.Tests.{eq-eqb, ne_eqb}
 use Rattle.octets.specs.Bytes.{byte_at, be32}
 use Rattle.octets.specs.Store.{window}
-use Rattle.octets.specs.declared.Ordering.{Ordering}
+use Rattle.std.specs.declared.cmp.Ordering.{Ordering}
 use Rattle.octets.specs.Order.{ordering, is_below}
 use Rattle.idx_page.specs.Header.{features}
-use Rattle.idx_page.specs.Page.{entries_start, entry_offset, key_at, number_at}
-use Rattle.idx_page.specs.PageLaws.{entry_next, entry-low, entry-within}
+use Rattle.idx_page.specs.Page.{entry_offset, key_at, number_at}
+use Rattle.idx_page.specs.PageLaws.{entry-within}
 use Rattle.idx_page.specs.Reading.{entries_from}
 use Rattle.idx_sound.specs.AuditTest.{leaf_entries_good}
-use Rattle.idx_keys.specs.Places.{EntriesWithin, pair_from}
+use Rattle.idx_keys.specs.Places.{EntriesWithin, pair_at}
+use Rattle.idx_keys.specs.EntryLaws.{from_on, from_end}
 use Rattle.idx_leaves.specs.Leaf.{compared_bytes, leaf_entry}
 use Rattle.idx_leaves.specs.ComparedLaws.{pairs_compared}
-use Rattle.idx_keys.specs.EntryLaws.{from_on, from_end, some_pair}
 
 -- one entry of a leaf, by its tests
 module _ (b : List ℕ) (k at z n : ℕ) (en : n ≡ be32 b (at + k)) where
   pub leaf-zero : n ≡ 0 → false ≡ leaf_entry b k at z
   leaf-zero h = rw (← en, eq-eqb n 0 h)
 
-  module _ (positive : n ≡ 0 → ⊥) where
-    pub leaf_first : z ≡ 0 → true ≡ leaf_entry b k at z
-    unfolding pair_from
-    leaf_first h = rw (← en, ne_eqb n 0 positive, eq-eqb z 0 h)
+  -- after the entry at z; o is the order of the m bytes that are compared
+  pub leaf-later : (m : ℕ) (o : Ordering) (r : Bool) → (n ≡ 0 → ⊥) → ((j : ℕ) → byte_at b j < 256) → z + (k + 4) ≤ length b → at + (k + 4) ≤ length b
+      → m ≡ compared_bytes (features b) k → o ≡ ordering (window b z m) (window b at m) → r ≡ is_below o → r ≡ leaf_entry b k at z
+  leaf-later m o r positive small hz ha em eo er =
+      er ∙ ap is_below eo ∙ pairs_compared b small k z at hz ha (features b) m em ∙ rw (← en, ne_eqb n 0 positive)
 
-    -- after the entry at z; o is the order of the m bytes that are compared
-    pub leaf-later : (m : ℕ) (o : Ordering) (r : Bool) → ((j : ℕ) → byte_at b j < 256) → z + (k + 4) ≤ length b → at + (k + 4) ≤ length b → 0 < z
-        → m ≡ compared_bytes (features b) k → o ≡ ordering (window b z m) (window b at m) → r ≡ is_below o → r ≡ leaf_entry b k at z
-    unfolding pair_from
-    leaf-later m o r small hz ha later em eo er =
-        er ∙ ap is_below eo ∙ pairs_compared b small k z at hz ha (features b) m em
-        ∙ rw (← en, ne_eqb n 0 positive, ne_eqb z 0 (omega arith))
+and-true : (x : Bool) → (x && true) ≡ x
+and-true true = refl
+and-true false = refl
 
--- the loop over the n entries of a leaf, after the entry at z₀: the entries from entry i on, after the entry at z, decide
-abbrev LeafLeft : List ℕ → ℕ → ℕ → ℕ → ℕ → ℕ → ℕ → Type 0
-LeafLeft b k p n z₀ i z =
-    leaf_entries_good (features b) (pair_from b k z₀) (entries_from b k p n 0) ≡ leaf_entries_good (features b) (pair_from b k z) (entries_from b k p (n - i) i)
+-- the entries of a leaf of n entries from entry i on decide after the entry at z, if the first of them passes
+module _ (b : List ℕ) (k p n : ℕ) where
+  -- the loop over the entries from entry `from` on, after the entry at z₀: the entries from entry i on, of which the first begins at `at`, decide after the
+  -- entry at z
+  pub record LeafLoop (from z₀ i at z : ℕ) : Type 0 where
+    pub place : at ≡ entry_offset k p i
+    pub before : z + (k + 4) ≤ length b
+    pub left : leaf_entries_good (features b) (some (pair_at b k z₀)) (entries_from b k p (n - from) from)
+        ≡ leaf_entries_good (features b) (some (pair_at b k z)) (entries_from b k p (n - i) i)
 
--- the same with `left` entries left, of which the first begins at `at`
-abbrev pub LeafLoop : List ℕ → ℕ → ℕ → ℕ → ℕ → ℕ → ℕ → ℕ → Type 0
-LeafLoop b k p n z₀ at z left = (left ≤ n) × (at ≡ entry_offset k p (n - left)) × (z + (k + 4) ≤ length b) × LeafLeft b k p n z₀ (n - left) z
+  -- an entry lies within the index
+  pub leaf-inside : (i at : ℕ) → EntriesWithin b k p n → i < n → at ≡ entry_offset k p i → at + (k + 4) ≤ length b
+  leaf-inside i at w more e = omega (arith, (entry-within (w.each i more)).inside, e)
 
--- the page of which entry i begins at `at`
-abbrev pub page_of : ℕ → ℕ → ℕ → ℕ
-page_of k at i = at - (entries_start + i * (k + 4))
+  module _ (from z₀ i at z : ℕ) (inv : LeafLoop from z₀ i at z) where
+    pub leaf-end : n ≤ i → true ≡ leaf_entries_good (features b) (some (pair_at b k z₀)) (entries_from b k p (n - from) from)
+    unfolding leaf_entries_good
+    leaf-end h = sym (inv.left ∙ rw (from_end b k p n i h))
 
-pub page-of : (k p at i : ℕ) → at ≡ entry_offset k p i → page_of k at i ≡ p
-unfolding entry_offset
-page-of k p at i e = rw e (apart (i * (k + 4)))
-  where
-    apart : (m : ℕ) → p + entries_start + m - (entries_start + m) ≡ p
-    apart m = omega arith
-
-pub leaf-start : (b : List ℕ) (k p n z at : ℕ) → at ≡ entry_offset k p 0 → z + (k + 4) ≤ length b → LeafLoop b k p n z at z n
-leaf-start b k p n z at e h =
-    let none : n - n ≡ 0 = omega arith in
-    (omega arith, rw none e, h, rw (none, sub-zero))
-
-module _ (b : List ℕ) (k p n z₀ at z left : ℕ) (inv : LeafLoop b k p n z₀ at z left) where
-  pub leaf-end : left ≤ 0 → true ≡ leaf_entries_good (features b) (pair_from b k z₀) (entries_from b k p n 0)
-  unfolding leaf_entries_good
-  leaf-end h = sym (inv.3 ∙ rw (from_end b k p n (n - left) (omega arith)))
-
-  module _ (more : 0 < left) where
-    abbrev i : ℕ
-    i = n - left
-
-    before : n - left < n
-    before = let most = inv.0 in omega arith
-
-    pub leaf-inside : EntriesWithin b k p n → at + (k + 4) ≤ length b
-    leaf-inside w = let here = (entry-within (w.each i before)).inside in omega (arith, inv.1)
-
-    module _ (r : Bool) (er : r ≡ leaf_entry b k at z) where
-      leaf-step : leaf_entries_good (features b) (pair_from b k z₀) (entries_from b k p n 0)
-          ≡ (r && leaf_entries_good (features b) (some (key_at b k p (n - left), number_at b k p (n - left)))
-          (entries_from b k p (n - (n - left + 1)) (n - left + 1)))
+    module _ (more : i < n) (r : Bool) (er : r ≡ leaf_entry b k at z) where
+      leaf-step : leaf_entries_good (features b) (some (pair_at b k z₀)) (entries_from b k p (n - from) from)
+          ≡ (r && leaf_entries_good (features b) (some (key_at b k p i, number_at b k p i)) (entries_from b k p (n - (i + 1)) (i + 1)))
       unfolding leaf_entries_good
-      leaf-step = inv.3 ∙ rw (from_on b k p n i before, ← inv.1, ← er)
+      leaf-step = inv.left ∙ rw (from_on b k p n i more, er, inv.place)
 
-      pub leaf_off : r ≡ false → false ≡ leaf_entries_good (features b) (pair_from b k z₀) (entries_from b k p n 0)
+      pub leaf_off : r ≡ false → false ≡ leaf_entries_good (features b) (some (pair_at b k z₀)) (entries_from b k p (n - from) from)
       leaf_off e = sym (leaf-step ∙ rw e)
 
-      pub leaf-on : r ≡ true → at + (k + 4) ≤ length b → LeafLoop b k p n z₀ (at + (k + 4)) at (left - 1)
-      leaf-on e h =
-          let most = inv.0 in
-          let next : n - (left - 1) ≡ n - left + 1 = omega arith in
-          (omega arith, rw next (ap (λ (x : ℕ). x + (k + 4)) inv.1 ∙ sym (entry_next k p i)), h, rw next (leaf-step ∙ rw (e, inv.1, some_pair b k p i)))
+      pub leaf-on : r ≡ true → leaf_entries_good (features b) (some (pair_at b k z₀)) (entries_from b k p (n - from) from)
+          ≡ leaf_entries_good (features b) (some (pair_at b k at)) (entries_from b k p (n - (i + 1)) (i + 1))
+      leaf-on e = leaf-step ∙ rw (e, inv.place)
 
--- the loop begins at the first entry, if there is an entry before it; else at the second, after a first one that has a record number
-module _ (b : List ℕ) (k p n z₀ first at z left : ℕ) (placed : first ≡ entry_offset k p 0) (h : z₀ + (k + 4) ≤ length b) where
-  pub begins-first : (z₀ ≡ 0 → ⊥) → at ≡ first → z ≡ z₀ → left ≡ n → LeafLoop b k p n z₀ at z left × (0 < z)
-  begins-first later ea ez el = rw (ea, ez, el) (leaf-start b k p n z₀ first placed h, omega (arith, later))
+  -- a leaf without entries
+  pub no-entry : n ≡ 0 → true ≡ leaf_entries_good (features b) none (entries_from b k p n 0)
+  unfolding leaf_entries_good entries_from
+  no-entry z = rw z
 
-  pub begins-second : (m : ℕ) → EntriesWithin b k p n → z₀ ≡ 0 → (n ≡ 0 → ⊥) → m ≡ be32 b (first + k) → (m ≡ 0 → ⊥)
-      → at ≡ first + (k + 4) → z ≡ first → left ≡ n - 1 → LeafLoop b k p n z₀ at z left × (0 < z)
-  begins-second m w alone filled em positive ea ez el =
-      let inv = leaf-start b k p n z₀ first placed h in
-      let more : 0 < n = omega (arith, filled) in
-      let inside = leaf-inside b k p n z₀ first z₀ n inv more w in
-      rw (ea, ez, el) (
-        leaf-on b k p n z₀ first z₀ n inv more true (leaf_first b k first z₀ m em positive alone) refl inside,
-        omega (arith, placed, entry-low k p 0),
-      )
+  -- the first entry of all, which begins at z and has the number m
+  module _ (z m : ℕ) (some-entry : n ≡ 0 → ⊥) (ez : z ≡ entry_offset k p 0) (em : m ≡ be32 b (z + k)) where
+    first-step : leaf_entries_good (features b) none (entries_from b k p n 0)
+        ≡ (not (eqb m 0) && leaf_entries_good (features b) (some (pair_at b k z)) (entries_from b k p (n - 1) 1))
+    unfolding leaf_entries_good
+    first-step =
+        let all : n - 0 ≡ n = omega arith in
+        let on : entries_from b k p (n - 0) 0 ≡ (key_at b k p 0, number_at b k p 0) ∷ entries_from b k p (n - 1) 1 = from_on b k p n 0 (omega (arith, some-entry)) in
+        rw (rw all at on, em, ez) (ap (λ t. t && leaf_entries_good (features b) (some (key_at b k p 0, number_at b k p 0)) (entries_from b k p (n - 1) 1)) (and-true (not (eqb (number_at b k p 0) 0))))
 
--- an entry begins after the start of its file
-pub entry-begins : (k p at i : ℕ) → at ≡ entry_offset k p i → 0 < at
-entry-begins k p at i e = omega (arith, e, entry-low k p i)
+    pub first-zero : m ≡ 0 → false ≡ leaf_entries_good (features b) none (entries_from b k p n 0)
+    first-zero h = sym (first-step ∙ rw (eq-eqb m 0 h))
+
+    pub first-later : (m ≡ 0 → ⊥) → (r : Bool) → r ≡ leaf_entries_good (features b) (some (pair_at b k z)) (entries_from b k p (n - 1) 1)
+        → r ≡ leaf_entries_good (features b) none (entries_from b k p n 0)
+    first-later positive r er = er ∙ sym (first-step ∙ rw (ne_eqb m 0 positive))

@@ -1,25 +1,14 @@
--- Laws: the cases of the way that a page gives a lookup for features 0, and a step of that lookup. Cited by the proofs of this crate's functions. Assumes
--- nothing.
-use Rattle.std.specs.Prelude.{ℕ, zero, suc, ◌+◌, ◌-◌, ◌≤◌, ◌≡◌, refl, Bool, true, false, ◌&&◌, ◌||◌, not, List, length, eqb, leb}
-use Rattle.std.proofs.Math.Path.{sym}
-use Rattle.std.proofs.Common.{ap, ◌∙◌, arith, eq-eqb, ne_eqb, eqb-true, leb-true}
+-- Laws: the right neighbour of a leaf, and a step of a lookup for features 0. Cited by the proofs of this crate's functions. Assumes nothing.
+use Rattle.std.specs.Prelude.{ℕ, suc, ◌+◌, ◌-◌, ◌≤◌, ◌≡◌, refl, Bool, true, false, ◌&&◌, ◌||◌, not, List, length, eqb, leb, Err}
+use Rattle.std.proofs.Common.{eq-eqb, ne_eqb, eqb-true, leb-true}
 use Rattle.std.specs.Bool.{beq}
-use Rattle.std.proofs.lemmas.Bool.{eqb-false}
-use Rattle.basis.specs.Tests.{either, both, contra, impossible}
-use Rattle.octets.specs.declared.Ordering.{Ordering}
-use Rattle.octets.specs.Order.{ordering, is_equal}
-use Rattle.idx_page.specs.Header.{max_levels, max_key, no_page, file_size, is_page}
-use Rattle.idx_page.specs.Page.{attribute_at, count_at, right_at, root_bit, leaf_bit, capacity, key_at, number_at, attribute_good, count_good, page_good}
+use Rattle.basis.specs.Tests.{either, both, contra}
+use Rattle.idx_page.specs.Header.{max_levels, no_page, file_size, is_page}
+use Rattle.idx_page.specs.Page.{attribute_at, count_at, root_bit, leaf_bit, capacity, key_at, attribute_good, count_good, page_good}
 use Rattle.idx_page.specs.Page.{first_at_or_above}
-use Rattle.idx_page.specs.PageLaws.{first_bound, within-page, within-entry}
-use Rattle.idx_page.specs.Within.{Within}
-use Rattle.idx_page.specs.declared.PageOffset.{PageOffset}
-use Rattle.idx_lookup.specs.FirstRecord.{offset_of, record_of, entry_decides, neighbour_decides, first_from}
+use Rattle.idx_lookup.specs.FirstRecord.{entry_decides, neighbour_decides, first_from}
 use Rattle.idx_lookup.specs.Ways.{entry_way, search_way, way_from, way_decides}
-use Rattle.idx_lookup.specs.LookupLaws.{Searched}
-use Rattle.idx_lookup.specs.declared.Way.{Way}
-use Rattle.idx_lookup.specs.declared.Way.TheVariants as way
-use Rattle.idx_lookup.specs.declared.Answer.TheVariants as answer
+use Rattle.idx_lookup.specs.Answer.{absent, and_then}
 
 -- a good page that is not the first has entries: only the root may have none
 pub page-some : (b : List ℕ) (k size p : ℕ) (last : Bool) → page_good b k size p false last ≡ true → 1 ≤ count_at b p
@@ -38,122 +27,37 @@ page-some b k size p last t =
     (λ v. let three : a ≡ 3 = eqb-true a 3 v in contra (rw three at root) refl)
     (λ v. contra (rw (u, v) at count) refl))
 
-pub page-some_by : (b : List ℕ) (k size p : ℕ) (first last : Bool) → page_good b k size p first last ≡ true → first ≡ false → 1 ≤ count_at b p
-page-some_by b k size p first last t e = page-some b k size p last (sym (ap (λ (f : Bool). page_good b k size p f last) e) ∙ t)
-
--- the way past a search
-module _ {b key : List ℕ} {p a n i : ℕ} (s : Searched b key p a n i) (first : Bool) where
-  way_entry : search_way b key p first ≡ entry_way b key p first i
-  unfolding search_way
-  way_entry = rw (← s.count, ← s.first)
-
-  module _ (none : i ≡ n) where
-    test : eqb i (count_at b p) ≡ true
-    test = eq-eqb i (count_at b p) (none ∙ s.count)
-
-    pub way_absent : first ≡ true → way.Absent ≡ search_way b key p first
-    unfolding entry_way
-    way_absent f = sym (way_entry ∙ simp (test, f))
-
-    pub way_neighbour : first ≡ false → leaf_bit a ≡ true → (q : ℕ) → q ≡ right_at b p → way.Neighbour (offset_of q) ≡ search_way b key p first
-    unfolding entry_way
-    way_neighbour f l q e = sym (way_entry ∙ simp (test, f, ← s.attribute, l, ← e))
-
-    pub way_last : first ≡ false → leaf_bit a ≡ false → (m : ℕ) → m ≡ number_at b (length key) p (n - 1) → way.Child (offset_of m) ≡ search_way b key p first
-    unfolding entry_way
-    way_last f l m e = sym (way_entry ∙ simp (test, f, ← s.attribute, l, ← s.count, ← e))
-
-  module _ (some : i ≡ n → ⊥) where
-    other : eqb i (count_at b p) ≡ false
-    other = ne_eqb i (count_at b p) (λ q. some (q ∙ sym s.count))
-
-    pub way-decides : leaf_bit a ≡ true → way.Entry i ≡ search_way b key p first
-    unfolding entry_way
-    way-decides l = sym (way_entry ∙ simp (other, ← s.attribute, l))
-
-    pub way_child : leaf_bit a ≡ false → (m : ℕ) → m ≡ number_at b (length key) p i → way.Child (offset_of m) ≡ search_way b key p first
-    unfolding entry_way
-    way_child l m e = sym (way_entry ∙ simp (other, ← s.attribute, l, ← e))
-
--- an entry decides
-module _ (b key : List ℕ) (pages p i : ℕ) {o : Ordering} (eo : o ≡ ordering (key_at b (length key) p i) key) where
-  pub decides_found : (m : ℕ) → is_equal o ≡ true → m ≡ number_at b (length key) p i → answer.Found (record_of m) pages ≡ entry_decides b key pages p i
-  unfolding entry_decides
-  decides_found m t e = rw (← eo, t, ← e)
-
-  pub decides_absent : is_equal o ≡ false → answer.Absent pages ≡ entry_decides b key pages p i
-  unfolding entry_decides
-  decides_absent t = rw (← eo, t)
-
 -- the right neighbour decides
 module _ (b key : List ℕ) (pages q : ℕ) where
-  pub neighbour-none : q ≡ no_page → answer.Absent pages ≡ neighbour_decides b key pages q
+  pub neighbour_none : q ≡ no_page → absent pages ≡ neighbour_decides b key pages q
   unfolding neighbour_decides
-  neighbour-none e = rw (eq-eqb q no_page e, neighbour_decides)
+  neighbour_none e = rw (eq-eqb q no_page e, neighbour_decides)
 
   module _ (ne : q ≡ no_page → ⊥) where
-    pub neighbour-bad : page_good b (length key) (file_size b) q false true ≡ false → answer.Refused 25 ≡ neighbour_decides b key pages q
+    pub neighbour_bad : page_good b (length key) (file_size b) q false true ≡ false → Err 25 ≡ neighbour_decides b key pages q
     unfolding neighbour_decides
-    neighbour-bad t = rw (ne_eqb q no_page ne, t, neighbour_decides)
+    neighbour_bad t = rw (ne_eqb q no_page ne, t, neighbour_decides)
 
-    pub neighbour-good : page_good b (length key) (file_size b) q false true ≡ true → entry_decides b key (pages + 1) q 0 ≡ neighbour_decides b key pages q
+    pub neighbour_good : page_good b (length key) (file_size b) q false true ≡ true → entry_decides b key (pages + 1) q 0 ≡ neighbour_decides b key pages q
     unfolding neighbour_decides
-    neighbour-good t = rw (ne_eqb q no_page ne, t, neighbour_decides)
+    neighbour_good t = rw (ne_eqb q no_page ne, t, neighbour_decides)
 
--- the way decides the lookup, if at least one level is left
-way_is : (left : ℕ) (b key : List ℕ) (p : ℕ) →
-    way_decides (first_from left b key) b key (max_levels - left) p (way_from b key p (eqb (max_levels - left) 1) (eqb left 0)) ≡ first_from (suc left) b key p
+-- the way decides the lookup
+pub way_is : (left pages : ℕ) (b key : List ℕ) (p : ℕ) → max_levels - left ≡ pages →
+    and_then (way_from b key p (eqb pages 1) (eqb left 0)) (way_decides (first_from left b key) b key pages p) ≡ first_from (suc left) b key p
 unfolding way_from search_way entry_way first_from
-way_is left b key p =
-    let i = first_at_or_above (key_at b (length key) p) key (count_at b p) 0 in
+way_is left pages b key p same =
+    rw (← same)
+    (let i = first_at_or_above (key_at b (length key) p) key (count_at b p) 0 in
     either (page_good b (length key) (file_size b) p (eqb (max_levels - left) 1) (eqb left 0))
     (λ g. either (eqb i (count_at b p))
     (λ c. either (eqb (max_levels - left) 1)
     (λ f. rw (g, c, f, way_from, first_from))
     (λ f. either (leaf_bit (attribute_at b p)) (λ l. rw (g, c, f, l, way_from, first_from)) (λ l. rw (g, c, f, l, way_from, first_from))))
     (λ c. either (leaf_bit (attribute_at b p)) (λ l. rw (g, c, l, way_from, first_from)) (λ l. rw (g, c, l, way_from, first_from))))
-    (λ g. rw (g, way_from, first_from))
+    (λ g. rw (g, way_from, first_from)))
 
-pub first_step : (levels : ℕ) (b key : List ℕ) (p : ℕ) (v w : Way) → (levels ≡ 0 → ⊥)
-    → v ≡ way_from b key p (eqb (max_levels - (levels - 1)) 1) (eqb (levels - 1) 0) → v ≡ w
-    → way_decides (first_from (levels - 1) b key) b key (max_levels - (levels - 1)) p w ≡ first_from levels b key p
-first_step zero b key p v w h e q = absurd (h refl)
-first_step (suc left) b key p v w h e q =
-    let one_less : suc left - 1 ≡ left = omega arith in
-    rw (← q, e, one_less) (way_is left b key p)
-
--- an entry that decides lies within its page
-entry_absent : {X : Type 0} {i : ℕ} → way.Entry i ≡ way.Absent → X
-entry_absent e = impossible (cc)
-
-entry-refused : {X : Type 0} {i : ℕ} → way.Entry i ≡ way.Refused → X
-entry-refused e = impossible (cc)
-
-entry-neighbour : {X : Type 0} {i : ℕ} {q : PageOffset} → way.Entry i ≡ way.Neighbour q → X
-entry-neighbour e = impossible (cc)
-
-entry-child : {X : Type 0} {i : ℕ} {c : PageOffset} → way.Entry i ≡ way.Child c → X
-entry-child e = impossible (cc)
-
-same-entry : {i j : ℕ} → way.Entry i ≡ way.Entry j → i ≡ j
-same-entry e = cc
-
-entry-some : (b key : List ℕ) (p : ℕ) (first : Bool) (j i : ℕ) → way.Entry i ≡ entry_way b key p first j → (i ≡ j) × (eqb j (count_at b p) ≡ false)
-unfolding entry_way
-entry-some b key p first j i e = either (eqb j (count_at b p))
-    (λ c. either first
-    (λ f. entry_absent (rw (c, f) at e))
-    (λ f. either (leaf_bit (attribute_at b p)) (λ l. entry-neighbour (rw (c, f, l) at e)) (λ l. entry-child (rw (c, f, l) at e))))
-    (λ c. either (leaf_bit (attribute_at b p)) (λ l. (same-entry (rw (c, l) at e), c)) (λ l. entry-child (rw (c, l) at e)))
-
-pub way_within : (b key : List ℕ) (p i : ℕ) (first last : Bool) → length key ≤ max_key → file_size b ≤ length b
-    → way.Entry i ≡ way_from b key p first last → Within b (length key) p (i + 1)
-unfolding way_from search_way
-way_within b key p i first last short long e =
-    let j = first_at_or_above (key_at b (length key) p) key (count_at b p) 0 in
-    either (page_good b (length key) (file_size b) p first last)
-    (λ g.
-    let t = entry-some b key p first j i (rw (g, way_from) at e) in
-    let bound = first_bound (key_at b (length key) p) key (count_at b p) 0 in
-    within-entry i (within-page b (length key) (file_size b) p first last short long g) (omega (arith, t.0, eqb-false j (count_at b p) t.1, bound)))
-    (λ g. entry-refused (rw (g, way_from) at e))
+-- no level is left
+pub first_end : (b key : List ℕ) (p : ℕ) → first_from 0 b key p ≡ Err 25
+unfolding first_from
+first_end b key p = refl

@@ -36,8 +36,8 @@ use Rattle.idx_lookup.specs.Lookup.{record_of}
 use Rattle.idx_lookup.specs.FirstRecord.{entry_decides, neighbour_decides, first_from}
 use Rattle.idx_lookup.specs.Lookup.{lookup_rule}
 use Rattle.idx_lookup.specs.LookupLaws.{steps_record}
-use Rattle.idx_lookup.specs.declared.Answer.{Answer}
-use Rattle.idx_lookup.specs.declared.Answer.TheVariants as answer
+use Rattle.idx_lookup.specs.Answer.{Answer}
+use Rattle.idx_lookup.specs.Answer as answer
 use Rattle.idx_sound.specs.Sound.{Sound, index_tree, links_of, kept_by}
 use Rattle.idx_sound.specs.AuditTest.{Entries, attribute_of, last_number}
 use Rattle.tree.proofs.Levels.{below, generation, all_of_map, all_of_concat}
@@ -52,7 +52,7 @@ use Rattle.idx_lookup_laws.specs.FoundLaws.{answer_of, seek-le, seek-all, search
 abbrev pub trip_answer : Trip → ℕ → Answer
 trip_answer t n = answer_of t.0 (n + length t.1)
 
-cond_answer : (t : Bool) (r n : ℕ) → cond t (answer.Found (record_of r) n) (answer.Absent n) ≡ answer_of (cond t (some r) none) n
+cond_answer : (t : Bool) (r n : ℕ) → cond t (answer.found (record_of r) n) (answer.absent n) ≡ answer_of (cond t (some r) none) n
 cond_answer true r n = refl
 cond_answer false r n = refl
 
@@ -101,7 +101,7 @@ module _ (left : ℕ) (b key : List ℕ) (p : ℕ) (good : page_good b (length k
   i = first_entry b key (length key) p (count_at b p) 0
 
   none_first : first_entry b key (length key) p (count_at b p) 0 ≡ count_at b p → eqb (max_levels - left) 1 ≡ true →
-      first_from (suc left) b key p ≡ answer.Absent (max_levels - left)
+      first_from (suc left) b key p ≡ answer.absent (max_levels - left)
   unfolding first_from
   none_first c f = rw (good, eq-eqb i (count_at b p) c, f, first_from)
 
@@ -402,7 +402,7 @@ module _ (b key : List ℕ) (s : Sound b) (e : length key ≡ key_length b) wher
 
   -- Theorem: a key that is there is found after as many pages as there are levels, or one more
   pub first-pages : eqb (features b) 0 ≡ true → (n : ℕ) → get bytes_order key (pairs h T) ≡ some n →
-      (pages : ℕ) × (lookup_rule b key ≡ answer.Found (record_of n) pages) × (h + 1 ≤ pages) × (pages ≤ h + 2)
+      (pages : ℕ) × (lookup_rule b key ≡ answer.found (record_of n) pages) × (h + 1 ≤ pages) × (pages ≤ h + 2)
   first-pages several n f =
       let v = first_record-found bytes_order key h T n (found_first ∙ f) in
       (0 + length (first_record bytes_order key h T).1, first-list several ∙ rw f, omega arith, omega arith)

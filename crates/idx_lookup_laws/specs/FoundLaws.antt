@@ -1,7 +1,7 @@
 -- Laws: lookup on a sound index. Its steps give what the sorted list of the leaves' pairs has under the key, a found key after as many pages as there are
 -- levels. Cited by the laws of the claim about lists of calls. Assumes nothing.
 use Prim.Native.Nat.{ℕ, zero, suc, ◌+◌, ◌-◌, ◌≤◌, ◌<◌}
-use Rattle.std.specs.Prelude.{◌≡◌, refl, Bool, false, cond, eqb}
+use Rattle.std.specs.Prelude.{Ok, ◌≡◌, refl, Bool, false, cond, eqb}
 use Rattle.std.proofs.Common.{sym, ap, ◌∙◌, subst}
 use Rattle.std.proofs.Math.Path.{ap₂}
 use Rattle.std.proofs.Math.Bool.{true}
@@ -24,6 +24,7 @@ use Rattle.tree.proofs.Store.LookupLaws.{lookup-read, visited-read}
 use Rattle.tree.proofs.Levels.{below, generation, all_of_map, all_of_concat}
 use Rattle.idx_page.specs.Header.{max_levels, is_page, root_offset, file_size, key_length, features, good_features}
 use Rattle.idx_page.specs.Page.{attribute_at, count_at, leaf_bit, capacity, key_at, number_at, attribute_good, count_good, page_good}
+use Rattle.idx_page.specs.declared.PageOffset.{PageOffset}
 use Rattle.idx_page.specs.PageLaws.{first_bound}
 use Rattle.idx_page.specs.KeyOrder.{bytes_order}
 use Rattle.idx_page.specs.Reading.{entries_at}
@@ -31,9 +32,9 @@ use Rattle.idx_page.proofs.ReadingLaws.{entries_by_count}
 use Rattle.idx_page.proofs.SearchLaws.{first_entry, seek-some, seek-none}
 use Rattle.idx_lookup.specs.LookupLaws.{steps-key}
 use Rattle.idx_lookup.specs.Lookup.{offset_of, record_of, entry_says, page_says, visit_rule, decided, lookup_from, lookup_rule}
-use Rattle.idx_lookup.specs.declared.Visit.TheVariants as visit
-use Rattle.idx_lookup.specs.declared.Answer.{Answer}
-use Rattle.idx_lookup.specs.declared.Answer.TheVariants as answer
+use Rattle.idx_lookup.specs.Visit as visit
+use Rattle.idx_lookup.specs.Answer.{Answer}
+use Rattle.idx_lookup.specs.Answer as answer
 use Rattle.idx_sound.specs.Sound.{Sound, index_tree, kept_by}
 use Rattle.idx_sound.specs.AuditTest.{Entries, attribute_of}
 use Rattle.idx_sound.proofs.RunLaws.{Fits}
@@ -44,8 +45,8 @@ use Rattle.idx_sound.proofs.IndexLaws.{sound-index}
 
 -- the answer by what was found and the pages visited
 abbrev pub answer_of : Option ℕ → ℕ → Answer
-answer_of none n = answer.Absent n
-answer_of (some r) n = answer.Found (record_of r) n
+answer_of none n = answer.absent n
+answer_of (some r) n = answer.found (record_of r) n
 
 -- the entry that a search gives is at or above the key, and has the property that all entries have
 pub seek-le : (key : List ℕ) (es : Entries) (e : List ℕ × ℕ) → seek bytes_order key es ≡ some e → bytes_le key e.0 ≡ true
@@ -107,19 +108,19 @@ module _ (b key : List ℕ) (size p : ℕ) (page : is_page size p ≡ true) (ful
   says_leaf l e h = rw (ne_eqb i (count_at b p) e, l, equal-le entry.0 key h)
 
   -- and what lookup decides by it
-  decided-leaf : (go : ℕ → Answer) (n : ℕ) (t : Bool) (r : ℕ)
+  decided-leaf : (go : PageOffset → Answer) (n : ℕ) (t : Bool) (r : ℕ)
       → decided go n (cond t (visit.Found (record_of r)) visit.Absent) ≡ answer_of (cond t (some r) none) n
   decided-leaf go n true r = refl
   decided-leaf go n false r = refl
 
-  leaf_decides : (go : ℕ → Answer) (n : ℕ) → leaf_bit (attribute_at b p) ≡ true
+  leaf_decides : (go : PageOffset → Answer) (n : ℕ) → leaf_bit (attribute_at b p) ≡ true
       → decided go n (page_says b key p) ≡ answer_of (find bytes_order key (entries_at (length key) size b p)) n
   leaf_decides go n l = searched
       (λ e s. rw (says_none e, s))
       (λ e s. rw (says_leaf l e (seek-le key (S p) entry s), s) (decided-leaf go n (bytes_le entry.0 key) entry.1))
 
-  upper_decides : (go : ℕ → Answer) (n : ℕ) (f : List ℕ × ℕ → Option ℕ) (g : List ℕ × ℕ → List ℕ) → leaf_bit (attribute_at b p) ≡ false
-      → ((e : List ℕ × ℕ) → sought ≡ some e → go e.1 ≡ answer_of (f e) (n + length (g e)))
+  upper_decides : (go : PageOffset → Answer) (n : ℕ) (f : List ℕ × ℕ → Option ℕ) (g : List ℕ × ℕ → List ℕ) → leaf_bit (attribute_at b p) ≡ false
+      → ((e : List ℕ × ℕ) → sought ≡ some e → go (offset_of e.1) ≡ answer_of (f e) (n + length (g e)))
       → decided go n (page_says b key p) ≡ answer_of (follow f sought) (n + length (onward g sought))
   upper_decides go n f g l ok = searched
       (λ e s. let z : n + 0 ≡ n = omega arith in rw (says_none e, s, z))
@@ -159,7 +160,7 @@ module _ (b key : List ℕ) (height : ℕ) (few : height < max_levels) where
       (all_of_concat (Along n (suc j)) (λ e. B e.1) es lower)
 
   page-visited : (j left p : ℕ) → j ≤ height → suc left + j ≡ max_levels → Fine j p
-      → visit_rule b key p (eqb (max_levels - left) 1) (eqb left 0) ≡ page_says b key p
+      → visit_rule b key p (eqb (max_levels - left) 1) (eqb left 0) ≡ Ok (page_says b key p)
   unfolding visit_rule page_good
   page-visited j left p l e f =
       let d : max_levels - left ≡ j + 1 = omega arith in
@@ -189,7 +190,7 @@ module _ (b key : List ℕ) (height : ℕ) (few : height < max_levels) where
       let f = u.0 in
       let d : max_levels - left ≡ j + 1 = omega arith in
       let leaf = fine-leaf j p f ∙ eq-eqb j height (omega arith) in
-      rw (page-visited j left p (omega arith) l f, d) (leaf_decides b key (file_size b) p f.page (fine-full j p f) (lookup_from left b key) (j + 1) leaf)
+      rw (page-visited j left p (omega arith) l f, d) (leaf_decides b key (file_size b) p f.page (fine-full j p f) (λ c. lookup_from left b key c.0) (j + 1) leaf)
   descends (suc h) j zero p a e l u = absurd (omega arith)
   descends (suc h) j (suc left) p a e l u =
       let f = u.0 in
@@ -198,7 +199,7 @@ module _ (b key : List ℕ) (height : ℕ) (few : height < max_levels) where
       let rest = onward (λ x. pages_from h x.1) (seek bytes_order key (B p)) in
       let n : j + length (p ∷ rest) ≡ j + 1 + length rest = omega arith in
       rw (page-visited j (suc left) p (omega arith) l f, d, n)
-      (upper_decides b key (file_size b) p f.page (fine-full j p f) (lookup_from (suc left) b key) (j + 1) (λ x. record_from h x.1) (λ x. pages_from h x.1)
+      (upper_decides b key (file_size b) p f.page (fine-full j p f) (λ c. lookup_from (suc left) b key c.0) (j + 1) (λ x. record_from h x.1) (λ x. pages_from h x.1)
       upper (λ x s. let y : suc j ≡ j + 1 = omega arith in
       rw y at (descends h (suc j) left x.1 x.0 (omega arith) (omega arith) (seek-all (Along (suc h) (suc j)) key (B p) x u.1 s))))
 
@@ -254,12 +255,12 @@ module _ (b key : List ℕ) (s : Sound b) (e : length key ≡ key_length b) wher
     lookup-list = rw (← listed) (lookup-tree (ap (λ (n : ℕ). eqb n 0) one))
 
     -- Theorem: a key that is there is found after as many pages as there are levels
-    pub found-pages : (n : ℕ) → find bytes_order key (pairs h T) ≡ some n → lookup_rule b key ≡ answer.Found (record_of n) (h + 1)
+    pub found-pages : (n : ℕ) → find bytes_order key (pairs h T) ≡ some n → lookup_rule b key ≡ answer.found (record_of n) (h + 1)
     found-pages n f =
         let v = visited-found bytes_order key h T n (listed ∙ f) in
         let z : suc h ≡ h + 1 = omega arith in
         lookup-list ∙ rw (f, v, z)
 
     -- Theorem: a key that is not there is absent
-    pub absent-list : find bytes_order key (pairs h T) ≡ none → lookup_rule b key ≡ answer.Absent (length (visited bytes_order key h T))
+    pub absent-list : find bytes_order key (pairs h T) ≡ none → lookup_rule b key ≡ answer.absent (length (visited bytes_order key h T))
     absent-list f = lookup-list ∙ rw f

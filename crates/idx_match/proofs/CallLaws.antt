@@ -1,8 +1,8 @@
 -- Laws: the refusals before the audit, one by one; what is known if there is none; the answers of the match. The proofs of the match's calls cite them.
 -- Assumes nothing.
-use Rattle.std.specs.Prelude.{ℕ, ◌-◌, ◌≤◌, ◌≡◌, refl, Bool, true, false, List, [], ◌∷◌, ◌↔◌, eqb}
+use Rattle.std.specs.Prelude.{ℕ, ◌-◌, ◌≤◌, ◌≡◌, refl, Bool, true, false, List, [], ◌∷◌, ◌↔◌, eqb, Err}
 use Rattle.std.proofs.Math.Path.{sym}
-use Rattle.std.proofs.Common.{ap, ◌∙◌, inl, inr, arith, lit<}
+use Rattle.std.proofs.Common.{ap, ◌∙◌, ⊎_elim, inl, inr, arith, lit<}
 use borrow.Author.Tests.{eqb-true, eq-eqb, ne_eqb}
 use Rattle.basis.specs.Tests.{contra}
 use Rattle.refusal.specs.CheckLaws.{first-after, first-both, first-none}
@@ -11,7 +11,6 @@ use Rattle.dbf_table.specs.Table.{type_c, record_count, record_start, field_coun
 use Rattle.dbf_table.specs.TableLaws.{layout, table-numbered, refused_check, refused_then, Shaped}
 use Rattle.dbf_table.specs.RecordLaws.{field_inside, record_inside}
 use Rattle.dbf_table.specs.declared.Shape.{Shape}
-use Rattle.dbf_table.specs.declared.Checked.TheVariants.{Refused}
 use Rattle.dbf_field.specs.Field.{number_good, entry_of}
 use Rattle.dbf_field.specs.declared.FieldEntry.{FieldEntry}
 use Rattle.dbf_field.specs.FieldLaws.{number-range}
@@ -104,14 +103,23 @@ table-good t b field e = (first-both (table_checks t) _ (table-numbered t) e).0
 
 -- ---- the field and the leaves
 
--- the leaves' entries from the first leaf on, by the header's numbers
-pub leaves-from : (t b : List ℕ) (c : Column) (size first : ℕ) (r : Bool) → c.length ≡ key_length b → size ≡ file_size b
-    → first ≡ first_leaf b c.length size (max_levels - 1) (root_offset b) → r ≡ entries_match t c 0 (entries_along b c.length size max_pages first)
+-- the leaves' entries from the first leaf on, by the header's numbers; the file's bytes d are the index
+pub leaves-from : (t b d : List ℕ) (c : Column) (k size first : ℕ) (r : Bool) → d ≡ b → c.length ≡ key_length b → k ≡ key_length b → size ≡ file_size b
+    → first ≡ first_leaf d k size (max_levels - 1) (root_offset d) → r ≡ entries_match t c 0 (entries_along d c.length size max_pages first)
     → r ≡ entries_match t c 0 (leaf_entries b)
 unfolding leaf_entries
-leaves-from t b c size first r ek es ef er =
-    let e : entries_along b c.length size max_pages first ≡ leaf_entries b = rw (ef, ek, es) in
+leaves-from t b d c k size first r eb ec ek es ef er =
+    let e : entries_along d c.length size max_pages first ≡ leaf_entries b = rw (ef, ec, ek, es, eb) in
     er ∙ ap (entries_match t c 0) e
+
+-- the type and the length of a field's entry
+pub entry-kind : (t : List ℕ) (e : FieldEntry) (j : ℕ) → e ≡ entry_of t j → e.kind ≡ field_type t j
+unfolding entry_of
+entry-kind t e j is = ap (λ (x : FieldEntry). x.kind) is
+
+pub entry-length : (t : List ℕ) (e : FieldEntry) (j : ℕ) → e ≡ entry_of t j → e.length ≡ field_length t j
+unfolding entry_of
+entry-length t e j is = ap (λ (x : FieldEntry). x.length) is
 
 -- the field, by the table's shape and the field's entry
 pub column_is : (t : List ℕ) (s : Shape) (e : FieldEntry) (field : ℕ) → Shaped t s → e ≡ entry_of t (field - 1)
@@ -126,6 +134,11 @@ column-ready t b field good c e r = rw e (r.column, r.header, r.width)
 
 -- ---- the answers
 
+-- an audit that refuses an index with a good header answers 25
+pub unsound-number : (b : List ℕ) (a : ℕ) → Audited b a → header_good b ≡ true → (a ≡ 0 → ⊥) → a ≡ 25
+unsound-number b a audited good bad =
+    ⊎_elim (λ e. contra good (audited.bad.0 e)) (λ rest. ⊎_elim (λ z. absurd (bad z)) (λ e. e) rest) audited.other
+
 module _ (t b : List ℕ) (field : ℕ) where
   -- one of the refusals before the audit
   pub answer-refused : (r : ℕ) → r ≡ match_refusal t b field → (r ≡ 0 → ⊥) → Matched t b field r
@@ -137,7 +150,7 @@ module _ (t b : List ℕ) (field : ℕ) where
         other = λ z s. absurd (some (e ∙ z));
       }
 
-  pub answer-table : (r : ℕ) → check_table t ≡ Refused r → Matched t b field r
+  pub answer-table : (r : ℕ) → check_table t ≡ Err r → Matched t b field r
   unfolding match_refusal
   answer-table r e = answer-refused r (sym (refused_then t r _ e)) (refused_check t r e).1
 
@@ -152,6 +165,9 @@ module _ (t b : List ℕ) (field : ℕ) where
           accepted = λ z s. absurd (not_sound s);
           other = λ z s. absurd (not_sound s);
         }
+
+    pub answer-audited : header_good b ≡ true → (a ≡ 0 → ⊥) → Matched t b field a
+    answer-audited good bad = rw (unsound-number b a audited good bad) (answer-unsound bad)
 
     -- a sound index, by the test of its entries
     test_of : (s : Sound b) → (entries_match t (column_of t field) 0 (leaf_entries b) ≡ true) ↔ Matches t field (leaf_pairs b s)

@@ -1,15 +1,15 @@
 -- Laws: one entry by its tests, and the loops over the entries of a leaf, over the leaves and down to the first leaf, by what is left to do. The proofs of
 -- these functions cite them. Assumes nothing.
 use Prim.Native.Nat.{ℕ, zero, suc, ◌+◌, ◌-◌, ◌≤◌, ◌<◌}
-use Rattle.std.specs.Prelude.{◌≡◌, Bool, true, false, ◌&&◌, take, drop, eqb, ltb}
+use Rattle.std.specs.Prelude.{◌≡◌, Bool, true, false, ◌&&◌, take, drop, eqb}
 use Rattle.std.proofs.Math.Path.{refl, sym}
-use Rattle.std.proofs.Common.{ap, ◌∙◌, ltb-false}
+use Rattle.std.proofs.Common.{ap, ◌∙◌}
 use mathlib.Core.List.{List, [], ◌∷◌, ◌++◌}
 use Rattle.std.proofs.Math.Nat.{min-le_right}
 use native.Mathlib.Omega.{arith}
 use Rattle.std.proofs.Math.ListN.{length, length-append}
 use Rattle.basis.specs.Tests.{either}
-use Rattle.octets.specs.declared.Ordering.{Ordering}
+use Rattle.std.specs.declared.cmp.Ordering.{Ordering}
 use Rattle.octets.specs.Order.{ordering, is_equal}
 use Rattle.octets.specs.Store.{window}
 use Rattle.octets.specs.StoreLaws.{length-window}
@@ -94,10 +94,6 @@ both-after : (x y z : Bool) → (x && (y && z)) ≡ ((x && y) && z)
 both-after true y z = refl
 both-after false y z = refl
 
-and-true : (x : Bool) → (x && true) ≡ x
-and-true true = refl
-and-true false = refl
-
 chain-end : (b : List ℕ) (k size p left : ℕ) → left ≤ 0 → chain b size left p ≡ []
 unfolding chain
 chain-end b k size p zero h = refl
@@ -130,29 +126,30 @@ LeavesLeft t c b size first p count left =
     entries_match t c 0 (entries_along b c.length size max_pages first) ≡ entries_match t c count (entries_along b c.length size left p)
 
 module _ (t : List ℕ) (c : Column) (b : List ℕ) (size first p count left : ℕ) (inv : LeavesLeft t c b size first p count left) where
-  pub leaves-end : (ltb 0 left && is_page size p) ≡ false → eqb count c.records ≡ entries_match t c 0 (entries_along b c.length size max_pages first)
-  leaves-end h = sym (inv ∙ ap (λ (ps : List ℕ). entries_match t c count (concat_map (entries_at c.length size b) ps)) none ∙ match_none t c count)
-    where
-      none : chain b size left p ≡ []
-      none = either (is_page size p)
-          (λ e. chain-end b c.length size p left (ltb-false 0 left (rw (e, and-true (ltb 0 left)) at h)))
-          (λ e. chain-none b c.length size 0 p left e)
+  none-left : chain b size left p ≡ [] → eqb count c.records ≡ entries_match t c 0 (entries_along b c.length size max_pages first)
+  none-left e = sym (inv ∙ ap (λ (ps : List ℕ). entries_match t c count (concat_map (entries_at c.length size b) ps)) e ∙ match_none t c count)
+
+  pub leaves-end : left ≤ 0 → eqb count c.records ≡ entries_match t c 0 (entries_along b c.length size max_pages first)
+  leaves-end h = none-left (chain-end b c.length size p left h)
+
+  pub leaves-none : is_page size p ≡ false → eqb count c.records ≡ entries_match t c 0 (entries_along b c.length size max_pages first)
+  leaves-none e = none-left (chain-none b c.length size 0 p left e)
 
   -- the page p: its n entries are tested
-  module _ (n : ℕ) (r : Bool) (more : left ≡ 0 → ⊥) (page : is_page size p ≡ true) (en : n ≡ length (entries_at c.length size b p))
+  module _ (n : ℕ) (r : Bool) (more : 0 < left) (page : is_page size p ≡ true) (en : n ≡ length (entries_at c.length size b p))
       (er : r ≡ entries_good t c (entries_from b c.length p n 0)) where
     here-good : r ≡ entries_good t c (entries_at c.length size b p)
     here-good = er ∙ ap (entries_good t c) (sym (entries_are b c.length size p n en))
 
     along : (q : ℕ) → q ≡ right_at b p
         → entries_along b c.length size left p ≡ entries_at c.length size b p ++ entries_along b c.length size (left - 1) q
-    along q eq = ap (concat_map (entries_at c.length size b)) (chain-some b c.length size 0 p left q more page eq)
+    along q eq = ap (concat_map (entries_at c.length size b)) (chain-some b c.length size 0 p left q (omega (arith, more)) page eq)
 
     pub leaves_off : r ≡ false → false ≡ entries_match t c 0 (entries_along b c.length size max_pages first)
     leaves_off e = sym (inv ∙ rw (along (right_at b p) refl) (match_failed t c (entries_at c.length size b p) _ count (sym here-good ∙ e)))
 
-    pub leaves-on : (q : ℕ) → q ≡ right_at b p → r ≡ true → LeavesLeft t c b size first q (count + n) (left - 1)
-    leaves-on q eq e = inv ∙ rw (along q eq, en) (match_passed t c (entries_at c.length size b p) _ count (sym here-good ∙ e))
+    pub leaves-on : (q next : ℕ) → q ≡ right_at b p → r ≡ true → next ≡ left - 1 → LeavesLeft t c b size first q (count + n) next
+    leaves-on q next eq e less = rw less (inv ∙ rw (along q eq, en) (match_passed t c (entries_at c.length size b p) _ count (sym here-good ∙ e)))
 
 -- ---- the first leaf
 
@@ -174,11 +171,9 @@ module _ (b : List ℕ) (k size : ℕ) where
     pub first_stop : is_leaf b size p ≡ true → p ≡ first_leaf b k size (max_levels - 1) root
     first_stop e = sym (inv ∙ first-here left p e)
 
-    pub first-end : left ≡ 0 → p ≡ first_leaf b k size (max_levels - 1) root
+    pub first-end : left ≤ 0 → p ≡ first_leaf b k size (max_levels - 1) root
     unfolding first_leaf
-    first-end e = sym (inv ∙ rw e)
+    first-end h = let none : left ≡ 0 = omega arith in sym (inv ∙ rw none)
 
-    pub first_on : (q : ℕ) → (left ≡ 0 → ⊥) → is_leaf b size p ≡ false → q ≡ first_child b k size p → FirstLeft root q (left - 1)
-    first_on q n e eq =
-        let d : left ≡ suc (left - 1) = omega arith in
-        inv ∙ ap (λ (l : ℕ). first_leaf b k size l p) d ∙ first-lower (left - 1) p e ∙ rw eq
+    pub first_on : (q next : ℕ) → left ≡ suc next → is_leaf b size p ≡ false → q ≡ first_child b k size p → FirstLeft root q next
+    first_on q next d e eq = inv ∙ ap (λ (l : ℕ). first_leaf b k size l p) d ∙ first-lower next p e ∙ rw eq

@@ -6,17 +6,21 @@
 #![tactic(auto)]
 
 ghost use Rattle.std.specs.Prelude.{◌≡◌, true, ◌+◌, ◌-◌};
+ghost use Rattle.refusal.specs.Refusals.{numbered};
+ghost use Rattle.refusal.specs.After.{change_code};
 ghost use Rattle.dbf_table.specs.TableLaws.{Shaped};
 ghost use Rattle.idx_page.specs.Header.{max_levels, root_offset, key_length, header_good};
 ghost use Rattle.idx_page.specs.Within.{Within};
 ghost use Rattle.idx_page.specs.Reading.{entries_from};
 ghost use Rattle.idx_sound.specs.AuditTest.{max_pages};
-ghost use Rattle.idx_keys.specs.Places.{InFile, EntriesWithin};
+ghost use Rattle.idx_keys.specs.Places.{EntriesWithin};
 ghost use Rattle.idx_match.specs.Match.{match_refusal, Matched};
 ghost use Rattle.idx_match.specs.MatchTest.{entry_at, entry_good, entries_good, entries_match, first_leaf, entries_along, leaf_entries, ColumnInside};
 
-use dbf_table::{Checked, Shape};
+use dbf_table::{FieldType, Shape};
+use idx_keys::IndexFile;
 use idx_page::{Page, PageOffset};
+use refusal::Refusal;
 
 // One field of every record of a table: how many records there are, and the offset and the length that its entry has, as numbers of places.
 #[derive(Clone, Copy)]
@@ -37,124 +41,114 @@ fn entry_good(table: &[u8], index: &[u8], column: Column, page: PageOffset, i: u
     }
     let start = dbf_check::records_end(table, number - 1) + column.offset;
     let end = start + column.length;
-    octets::is_equal(idx_page::compare_entry(index, page, i, &table[start..end]))
+    idx_page::compare_entry(index, page, i, &table[start..end]).is_eq()
 }
 
 // Whether the first `count` entries of a leaf all do so.
 fn leaf_good(table: &[u8], index: &[u8], column: Column, page: PageOffset, count: usize) -> bool
-    requires { ColumnInside table.now column × EntriesWithin index.now column.length page.0 count }
+    requires column { ColumnInside table.now column }
+    requires within { EntriesWithin index.now column.length page.0 count }
     ensures { result ≡ entries_good table.now column (entries_from index.now column.length page.0 count 0) }
 {
-    let mut i = 0;
-    while i < count {
+    for i in 0..count {
         if !entry_good(table, index, column, page, i) {
             return false;
         }
-        i += 1;
     }
     true
 }
 
 // Whether all entries of the leaves do so, from the leaf `first` on along the right links, and are as many as the records.
-fn leaves_good(table: &[u8], index: &[u8], column: Column, size: usize, first: PageOffset) -> bool
-    requires { ColumnInside table.now column × InFile index.now column.length size }
-    ensures { result ≡ entries_match table.now column 0 (entries_along index.now column.length size max_pages first.0) }
+fn leaves_good(table: &[u8], file: &IndexFile, column: Column, first: PageOffset) -> bool
+    requires column { ColumnInside table.now column }
+    requires length { column.length ≡ file.now.key_length }
+    ensures { result ≡ entries_match table.now column 0 (entries_along file.now.bytes.now column.length file.now.size max_pages first.0) }
 {
     let mut page = first;
     let mut count = 0;
-    let mut left = idx_page::MAX_PAGES;
-    while (0 < left) & idx_page::is_page(size, page) {
-        let entries = idx_page::entry_count(index, column.length, size, page);
-        if !leaf_good(table, index, column, page, entries) {
+    for _ in 0..idx_page::MAX_PAGES {
+        if !file.is_page(page) {
+            break;
+        }
+        let entries = file.entry_count(page);
+        if !leaf_good(table, file.bytes, column, page, entries) {
             return false;
         }
         count += entries;
-        let head = Page::at(index, page);
-        page = head.right;
-        left -= 1;
+        page = Page::at(file.bytes, page).right;
     }
     count == column.records as usize
 }
 
 // The first leaf of an index: down from the root by the first children.
-pub fn first_leaf(index: &[u8], k: usize, size: usize) -> PageOffset
-    requires { InFile index.now k size }
-    ensures { result.0 ≡ first_leaf index.now k size (max_levels - 1) (root_offset index.now) }
+pub fn first_leaf(file: &IndexFile) -> PageOffset
+    ensures { result.0 ≡ first_leaf file.now.bytes.now file.now.key_length file.now.size (max_levels - 1) (root_offset file.now.bytes.now) }
 {
-    let mut page = idx_page::root(index);
-    let mut left = idx_page::MAX_LEVELS - 1;
-    while 0 < left {
-        if idx_page::leaf_at(index, size, page) {
+    let mut page = file.root();
+    for _ in 0..idx_page::MAX_LEVELS - 1 {
+        if file.leaf_at(page) {
             return page;
         }
-        page = idx_page::first_child(index, k, size, page);
-        left -= 1;
+        page = file.first_child(page);
     }
     page
 }
 
 // Whether the entries of the leaves are one for each record, with the record's field as the key.
 fn entries_match(table: &[u8], index: &[u8], column: Column) -> bool
-    requires { ColumnInside table.now column × (header_good index.now ≡ true) × (column.length ≡ key_length index.now) }
+    requires column { ColumnInside table.now column }
+    requires header { header_good index.now ≡ true }
+    requires length { column.length ≡ key_length index.now }
     ensures { result ≡ entries_match table.now column 0 (leaf_entries index.now) }
 {
-    let size = idx_page::file_size(index);
-    let first = first_leaf(index, column.length, size);
-    leaves_good(table, index, column, size, first)
+    let file = IndexFile::new(index);
+    leaves_good(table, &file, column, first_leaf(&file))
 }
 
-// The first refusal of 24, 12, 13 and 27, in this order, for a table that was checked; 0 if there is none.
-fn match_refusal(table: &[u8], index: &[u8], shape: Shape, field: u32) -> u32
+// The checks before the audit, for a table that was checked: the index's header, the field's number, its type and its length, in this order.
+fn check_field(table: &[u8], index: &[u8], shape: Shape, field: u32) -> Result<(), Refusal>
     requires { Shaped table.now shape }
-    ensures { result ≡ match_refusal table.now index.now field }
+    ensures { change_code (numbered result) ≡ match_refusal table.now index.now field }
 {
     if !idx_page::header_good(index) {
-        return refusal::INDEX_HEADER;
+        return Err(Refusal::IndexHeader);
     }
     if !dbf_field::number_good(field as usize, shape.fields) {
-        return refusal::FIELD_NUMBER;
+        return Err(Refusal::FieldNumber);
     }
     let entry = dbf_field::entry_at(table, (field - 1) as usize);
-    if entry.kind as u32 != dbf_table::TYPE_C {
-        return refusal::FIELD_TYPE;
+    if entry.kind != FieldType::Text.letter() {
+        return Err(Refusal::FieldType);
     }
     if entry.length as usize != idx_page::key_length(index) {
-        return refusal::KEY_LENGTH;
+        return Err(Refusal::KeyLength);
     }
-    0
+    Ok(())
 }
 
 // The match of an index against a field of a table that was checked.
-fn match_checked(table: &[u8], index: &[u8], shape: Shape, field: u32) -> u32
+fn match_checked(table: &[u8], index: &[u8], shape: Shape, field: u32) -> Result<(), Refusal>
     requires { Shaped table.now shape }
-    ensures { Matched table.now index.now field result }
+    ensures { Matched table.now index.now field (change_code (numbered result)) }
 {
-    let refusal = match_refusal(table, index, shape, field);
-    if refusal != 0 {
-        return refusal;
-    }
-    if idx_audit::audit(index) != 0 {
-        return refusal::INDEX_NOT_SOUND;
-    }
+    check_field(table, index, shape, field)?;
+    idx_audit::audit(index)?;
     let entry = dbf_field::entry_at(table, (field - 1) as usize);
     let column = Column {
         records: shape.records,
         offset: entry.offset as usize,
         length: entry.length as usize,
     };
-    if entries_match(table, index, column) {
-        0
-    } else {
-        refusal::INDEX_AND_TABLE_DIFFER
+    if !entries_match(table, index, column) {
+        return Err(Refusal::IndexAndTableDiffer);
     }
+    Ok(())
 }
 
 // The match of an index against a field of a table. Fields are counted from 1.
-pub fn match_index(table: &[u8], index: &[u8], field: u32) -> u32
-    ensures { Matched table.now index.now field result }
+pub fn match_index(table: &[u8], index: &[u8], field: u32) -> Result<(), Refusal>
+    ensures { Matched table.now index.now field (change_code (numbered result)) }
 {
-    match dbf_check::check_table(table) {
-        Checked::Refused(refusal) => refusal,
-        Checked::Good(shape) => match_checked(table, index, shape, field),
-    }
+    let shape = dbf_check::check_table(table)?;
+    match_checked(table, index, shape, field)
 }

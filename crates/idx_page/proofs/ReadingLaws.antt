@@ -11,7 +11,7 @@ use Rattle.octets.specs.Store.{window}
 use Rattle.octets.specs.NumberLaws.{be32-window, le16-same, le32-same}
 use Rattle.idx_page.specs.Header.{max_key, page_size, no_page, is_page}
 use Rattle.idx_page.specs.HeaderLaws.{is-page}
-use Rattle.idx_page.specs.Page.{attribute_at, count_at, left_at, right_at, entries_start, entry_area, capacity, entry_offset, key_at, number_at}
+use Rattle.idx_page.specs.Page.{attribute_at, count_at, left_at, right_at, entries_start, entry_area, capacity, entry_offset, number_at}
 use Rattle.idx_page.specs.Within.{Within}
 use Rattle.idx_page.specs.Reading.{items, items_at, numbered, entries_at, entries_from}
 use Rattle.idx_page.specs.Children.{first_child}

@@ -13,7 +13,7 @@ ghost use Rattle.idx_page.specs.Reading.{entries_at};
 ghost use Rattle.idx_page.specs.Within.{Within};
 ghost use Rattle.idx_page.specs.Children.{is_leaf, first_child};
 
-use octets::Ordering;
+use std::cmp::Ordering;
 
 // Where the header's numbers and its key expression stand.
 pub const ROOT_PLACE: usize = 0;
@@ -51,11 +51,11 @@ pub const MAX_KEY: usize = 100;
 pub const NO_PAGE: u32 = 0xFFFFFFFF;
 
 // The offset of a page in an index.
-#[derive(Clone, Copy)]
+#[derive(Clone, Copy, PartialEq, Eq, PartialOrd, Ord, Debug)]
 pub struct PageOffset(pub u32);
 
 // The number of a record in a table, from 1.
-#[derive(Clone, Copy)]
+#[derive(Clone, Copy, PartialEq, Eq, PartialOrd, Ord, Debug)]
 pub struct RecordNumber(pub u32);
 
 // The numbers at the head of a page.
@@ -82,6 +82,7 @@ impl Page {
     pub const ENTRY_AREA: usize = 500;
 
     // How many entries with keys of k bytes a page holds.
+    #[tactic(auto, unfolding(crate::specs::Page::capacity))]
     pub fn capacity(k: usize) -> usize
         requires { k ≤ max_key }
         ensures { result ≡ capacity k }
@@ -156,11 +157,12 @@ pub fn several(index: &[u8]) -> bool
 }
 
 // Whether a page other than the first begins at an offset, in a file of `size` bytes.
+#[tactic(auto, unfolding(crate::specs::Header::is_page))]
 pub fn is_page(size: usize, page: PageOffset) -> bool
     ensures { result ≡ is_page size page.0 }
 {
     let at = page.0 as usize;
-    (at % Page::SIZE == 0) & ((Page::SIZE <= at) & (at + Page::SIZE <= size))
+    at % Page::SIZE == 0 && Page::SIZE <= at && at + Page::SIZE <= size
 }
 
 // The offset at which a page ends and the next one begins.
@@ -172,27 +174,31 @@ pub fn next_page(page: PageOffset) -> PageOffset
 }
 
 // Whether a file's size is good in a buffer of `buffer` bytes.
+#[tactic(auto, unfolding(crate::specs::Header::size_good))]
 fn size_good(buffer: usize, size: usize) -> bool
     ensures { result ≡ size_good buffer size }
 {
-    (size % Page::SIZE == 0) & ((MIN_BYTES <= size) & ((size <= MAX_BYTES) & (size <= buffer)))
+    size % Page::SIZE == 0 && (MIN_BYTES..=MAX_BYTES).contains(&size) && size <= buffer
 }
 
 // Whether a key length is good.
+#[tactic(auto, unfolding(crate::specs::Header::key_length_good))]
 pub fn key_length_good(k: usize) -> bool
     ensures { result ≡ key_length_good k }
 {
-    (1 <= k) & (k <= MAX_KEY)
+    (1..=MAX_KEY).contains(&k)
 }
 
 // Whether a free pointer is none or names a page.
+#[tactic(auto, unfolding(crate::specs::Header::free_good))]
 fn free_good(size: usize, free: PageOffset) -> bool
     ensures { result ≡ free_good size free.0 }
 {
-    (free.0 == NO_PAGE) | is_page(size, free)
+    free.0 == NO_PAGE || is_page(size, free)
 }
 
 // Whether the header is good.
+#[tactic(auto, unfolding(crate::specs::Header::header_good))]
 pub fn header_good(index: &[u8]) -> bool
     ensures { result ≡ header_good index.now }
 {
@@ -201,10 +207,10 @@ pub fn header_good(index: &[u8]) -> bool
     }
     let size = file_size(index);
     size_good(index.len(), size)
-        & (is_page(size, root(index))
-            & (key_length_good(key_length(index))
-                & (free_good(size, free_pointer(index))
-                    & (octets::byte(index, FEATURES_PLACE) <= MAX_FEATURES))))
+        && is_page(size, root(index))
+        && key_length_good(key_length(index))
+        && free_good(size, free_pointer(index))
+        && octets::byte(index, FEATURES_PLACE) <= MAX_FEATURES
 }
 
 // Whether an attribute that is 0 to 3 has the leaf bit.
@@ -215,21 +221,24 @@ pub fn is_leaf(attribute: u32) -> bool
 }
 
 // Whether an attribute is good on the page that is visited first, on the last that may be visited, or on another.
+#[tactic(auto, unfolding(crate::specs::Page::attribute_good))]
 pub fn attribute_good(attribute: u32, first: bool, last: bool) -> bool
     ensures { result ≡ attribute_good attribute first last }
 {
-    (attribute <= 3) & (((attribute % 2 == 1) == first) & (is_leaf(attribute) | !last))
+    attribute <= 3 && (attribute % 2 == 1) == first && (is_leaf(attribute) || !last)
 }
 
 // Whether a count is good on a page of an attribute, with keys of k bytes.
+#[tactic(auto, unfolding(crate::specs::Page::count_good))]
 pub fn count_good(k: usize, attribute: u32, count: u32) -> bool
     requires { k ≤ max_key }
     ensures { result ≡ count_good k attribute count }
 {
-    (count as usize <= Page::capacity(k)) & ((1 <= count) | (attribute == 3))
+    count as usize <= Page::capacity(k) && (1 <= count || attribute == 3)
 }
 
 // Whether a page that is visited is good, with keys of k bytes in a file of `size` bytes.
+#[tactic(auto, unfolding(crate::specs::Page::page_good))]
 pub fn page_good(
     index: &[u8],
     k: usize,
@@ -245,7 +254,7 @@ pub fn page_good(
         return false;
     }
     let head = Page::at(index, page);
-    attribute_good(head.attribute, first, last) & count_good(k, head.attribute, head.count)
+    attribute_good(head.attribute, first, last) && count_good(k, head.attribute, head.count)
 }
 
 // How many entries are read of a page: none if the offset is no page's, and never more than the capacity.
@@ -257,15 +266,11 @@ pub fn entry_count(index: &[u8], k: usize, size: usize, page: PageOffset) -> usi
         return 0;
     }
     let head = Page::at(index, page);
-    let count = head.count as usize;
-    let most = Page::capacity(k);
-    if count <= most {
-        return count;
-    }
-    most
+    (head.count as usize).min(Page::capacity(k))
 }
 
 // Where entry i begins, which is where i entries end.
+#[tactic(auto, using(crate::specs::PageLaws::entries_fit), unfolding(crate::specs::Page::entry_offset))]
 pub fn entry_offset(k: usize, page: PageOffset, i: usize) -> usize
     requires { (k ≤ max_key) × (i ≤ capacity k) }
     ensures { result ≡ entry_offset k page.0 i }
@@ -306,15 +311,12 @@ pub fn record_at(index: &[u8], k: usize, at: usize) -> RecordNumber
 }
 
 // Whether a leaf begins at an offset, in a file of `size` bytes.
+#[tactic(auto, unfolding(crate::specs::Children::is_leaf))]
 pub fn leaf_at(index: &[u8], size: usize, page: PageOffset) -> bool
     requires { size ≤ length index.now }
     ensures { result ≡ is_leaf index.now size page.0 }
 {
-    if !is_page(size, page) {
-        return false;
-    }
-    let head = Page::at(index, page);
-    is_leaf(head.attribute)
+    is_page(size, page) && is_leaf(Page::at(index, page).attribute)
 }
 
 // The first child of a page, or the link to no page.
@@ -359,12 +361,10 @@ pub fn first_at_or_above(index: &[u8], page: PageOffset, count: usize, key: &[u8
     requires { Within index.now (length key.now) page.0 count }
     ensures { (result ≡ first_at_or_above (key_at index.now (length key.now) page.0) key.now count 0) × (result ≤ count) }
 {
-    let mut i = 0;
-    while i < count {
-        if !octets::is_below(compare_entry(index, page, i, key)) {
+    for i in 0..count {
+        if compare_entry(index, page, i, key).is_ge() {
             return i;
         }
-        i += 1;
     }
-    i
+    count
 }

@@ -33,17 +33,15 @@ fn on_top(full: bool, path: Path) -> Path
     requires { path.levels ≤ max_levels }
     ensures { result ≡ on_top full path }
 {
-    if full & (path.run == path.levels) {
-        return Path {
-            levels: path.levels + 1,
-            run: path.run + 1,
-            present: path.present,
-        };
-    }
+    let run = if full && path.run == path.levels {
+        path.run + 1
+    } else {
+        path.run
+    };
     Path {
         levels: path.levels + 1,
-        run: path.run,
-        present: path.present,
+        run,
+        ..path
     }
 }
 
@@ -54,7 +52,7 @@ fn empty_path(present: bool) -> Path
     Path {
         levels: 0,
         run: 0,
-        present: present,
+        present,
     }
 }
 
@@ -67,14 +65,13 @@ fn path_from(index: &[u8], key: &[u8], number: RecordNumber, page: PageOffset, l
         return empty_path(false);
     }
     let full = is_full(index, key.len(), page);
-    let visit = idx_route::visit_page(index, key, number, page);
-    match visit {
+    match idx_route::visit_page(index, key, number, page) {
         Visit::Bad => empty_path(false),
         Visit::Leaf => on_top(
             full,
             empty_path(idx_leaf::is_present(index, key, number, page)),
         ),
-        Visit::Child(i, child) => { on_top(full, path_from(index, key, number, child, levels - 1)) }
+        Visit::Child(_, child) => { on_top(full, path_from(index, key, number, child, levels - 1)) }
     }
 }
 
@@ -96,10 +93,7 @@ pub fn path_to(index: &[u8], key: &[u8], number: RecordNumber) -> Path
 fn root_split(path: Path) -> u32
     ensures { result ≡ root_split path }
 {
-    if path.run == path.levels {
-        return 1;
-    }
-    0
+    u32::from(path.run == path.levels)
 }
 
 // Whether there is no room for an insertion by a path.
@@ -111,6 +105,7 @@ pub fn no_room(index: &[u8], path: Path) -> bool
     let supply = idx_supply::supply_of(index);
     let after = idx_supply::supply_after(index, supply, path.run + more);
     let size = after.end.0 as usize;
+    // `|`: the law `room-told` speaks of the three tests as one value, and the goals of the branches that `||` makes stay open
     (index.len() < size)
         | ((idx_page::MAX_BYTES < size) | (idx_page::MAX_LEVELS < path.levels + more))
 }
@@ -123,11 +118,10 @@ fn there_from(index: &[u8], key: &[u8], number: RecordNumber, page: PageOffset, 
     if levels == 0 {
         return false;
     }
-    let visit = idx_route::visit_page(index, key, number, page);
-    match visit {
+    match idx_route::visit_page(index, key, number, page) {
         Visit::Bad => false,
         Visit::Leaf => idx_leaf::is_present(index, key, number, page),
-        Visit::Child(i, child) => there_from(index, key, number, child, levels - 1),
+        Visit::Child(_, child) => there_from(index, key, number, child, levels - 1),
     }
 }
 

@@ -16,14 +16,14 @@ use Rattle.idx_records.specs.Records.{key_records, Told, told, records_checks, r
 use Rattle.idx_records.specs.Gather.{Gathered, gather, gathered}
 use Rattle.idx_records.specs.GatherLaws.{gathered-records, stored-none, stored-all}
 
--- the leaves' entries from the first leaf on, by the header's numbers
-pub leaves-from : (b key : List ℕ) (room size first : ℕ) (list : List ℕ) (g : Gathered) → length key ≡ key_length b → size ≡ file_size b
-    → first ≡ first_leaf b (length key) size (max_levels - 1) (root_offset b)
-    → gathered key room (entries_along b (length key) size max_pages first) (gather 0 list) ≡ g
+-- the leaves' entries from the first leaf on, by the header's numbers; the file's bytes d are the index
+pub leaves-from : (b d key : List ℕ) (room k size first : ℕ) (list : List ℕ) (g : Gathered) → d ≡ b → length key ≡ key_length b → k ≡ key_length b
+    → size ≡ file_size b → first ≡ first_leaf d k size (max_levels - 1) (root_offset d)
+    → gathered key room (entries_along d (length key) size max_pages first) (gather 0 list) ≡ g
     → gathered key room (leaf_entries b) (gather 0 list) ≡ g
 unfolding leaf_entries
-leaves-from b key room size first list g ek es ef eg =
-    let e : entries_along b (length key) size max_pages first ≡ leaf_entries b = rw (ef, ek, es) in
+leaves-from b d key room k size first list g eb el ek es ef eg =
+    let e : entries_along d (length key) size max_pages first ≡ leaf_entries b = rw (ef, el, ek, es, eb) in
     rw e at eg
 
 module _ (b key list : List ℕ) (count : ℕ) where

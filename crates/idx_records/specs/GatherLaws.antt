@@ -1,6 +1,6 @@
 -- Laws: the loops over the entries of a leaf and over the leaves, by what is left to do; and what is stored in all. Assumes nothing.
-use Rattle.std.specs.Prelude.{ℕ, zero, suc, ◌+◌, ◌-◌, ◌≤◌, ◌<◌, ◌≡◌, refl, Bool, true, false, ◌&&◌, length, set, ltb}
-use Rattle.std.proofs.Common.{sym, ◌∙◌, arith, length-set, ltb-false, lt-ltb, le-ltb}
+use Rattle.std.specs.Prelude.{ℕ, zero, suc, ◌+◌, ◌-◌, ◌≤◌, ◌<◌, ◌≡◌, refl, true, false, ◌&&◌, length, set, ltb}
+use Rattle.std.proofs.Common.{sym, ◌∙◌, arith, length-set, lt-ltb, le-ltb}
 use Rattle.std.proofs.Math.Path.{ap}
 use mathlib.Core.List.{List, [], ◌∷◌, ◌++◌}
 use Rattle.basis.specs.Tests.{either}
@@ -103,10 +103,6 @@ pub leaf-at : (b key : List ℕ) (p n room at : ℕ) (list : List ℕ) (r : ℕ)
 leaf-at b key p n room at list r out q =
     rw (length-entries-from b (length key) p n 0) at (gathered-at key room (entries_from b (length key) p n 0) at list r out q)
 
-and-true : (x : Bool) → (x && true) ≡ x
-and-true true = refl
-and-true false = refl
-
 chain-end : (b : List ℕ) (size p left : ℕ) → left ≤ 0 → chain b size left p ≡ []
 unfolding chain
 chain-end b size p zero h = refl
@@ -120,26 +116,26 @@ LeavesLeft b key size first room list₀ p at list left =
 
 module _ (b key : List ℕ) (size first room : ℕ) (list₀ : List ℕ) (p at : ℕ) (list : List ℕ) (left : ℕ)
     (inv : LeavesLeft b key size first room list₀ p at list left) where
-  pub leaves-end : (ltb 0 left && is_page size p) ≡ false
-      → gathered key room (entries_along b (length key) size max_pages first) (gather 0 list₀) ≡ gather at list
+  none-left : chain b size left p ≡ [] → gathered key room (entries_along b (length key) size max_pages first) (gather 0 list₀) ≡ gather at list
   unfolding gathered
-  leaves-end h = inv ∙ ap (λ (ps : List ℕ). gathered key room (concat_map (entries_at (length key) size b) ps) (gather at list)) none
-    where
-      none : chain b size left p ≡ []
-      none = either (is_page size p)
-          (λ e. chain-end b size p left (ltb-false 0 left (rw (e, and-true (ltb 0 left)) at h)))
-          (λ e. chain-none b (length key) size 0 p left e)
+  none-left e = inv ∙ ap (λ (ps : List ℕ). gathered key room (concat_map (entries_at (length key) size b) ps) (gather at list)) e
 
-  pub leaves-on : (n r : ℕ) (out : List ℕ) (q : ℕ) → (left ≡ 0 → ⊥) → is_page size p ≡ true → n ≡ length (entries_at (length key) size b p)
+  pub leaves-end : left ≤ 0 → gathered key room (entries_along b (length key) size max_pages first) (gather 0 list₀) ≡ gather at list
+  leaves-end h = none-left (chain-end b size p left h)
+
+  pub leaves-none : is_page size p ≡ false → gathered key room (entries_along b (length key) size max_pages first) (gather 0 list₀) ≡ gather at list
+  leaves-none e = none-left (chain-none b (length key) size 0 p left e)
+
+  pub leaves-on : (n r : ℕ) (out : List ℕ) (q next : ℕ) → 0 < left → next ≡ left - 1 → is_page size p ≡ true → n ≡ length (entries_at (length key) size b p)
       → gathered key room (entries_from b (length key) p n 0) (gather at list) ≡ gather r out → q ≡ right_at b p
-      → LeavesLeft b key size first room list₀ q r out (left - 1)
-  leaves-on n r out q more page en er eq =
+      → LeavesLeft b key size first room list₀ q r out next
+  leaves-on n r out q next more less page en er eq =
       let along : entries_along b (length key) size left p ≡ entries_at (length key) size b p ++ entries_along b (length key) size (left - 1) q =
-      ap (concat_map (entries_at (length key) size b)) (chain-some b (length key) size 0 p left q more page eq) in
-      inv
+      ap (concat_map (entries_at (length key) size b)) (chain-some b (length key) size 0 p left q (omega (arith, more)) page eq) in
+      rw less (inv
       ∙ ap (λ (es : Entries). gathered key room es (gather at list)) along
       ∙ gathered_append key room (entries_at (length key) size b p) (entries_along b (length key) size (left - 1) q) (gather at list)
-      ∙ ap (gathered key room (entries_along b (length key) size (left - 1) q)) (rw (entries_are b (length key) size p n en) er)
+      ∙ ap (gathered key room (entries_along b (length key) size (left - 1) q)) (rw (entries_are b (length key) size p n en) er))
 
 -- ---- what is stored in all
 

@@ -1,6 +1,6 @@
 -- Rules: all records of a key, document 02, K12: "all records of a key, in order, into a lent list, entries past them kept, answering how many, 0 for none; 24,
 -- 27, 25 by full audit, then 39 if the list is too short." The call `records` cites `records_rule`.
-use Rattle.std.specs.Prelude.{ℕ, Bool, List, [], ◌∷◌, length, eqb, leb}
+use Rattle.std.specs.Prelude.{ℕ, Bool, Result, Ok, Err, List, [], ◌∷◌, length, eqb, leb}
 use Rattle.refusal.specs.Checks.{unless}
 use Rattle.octets.specs.Store.{put}
 use Rattle.tree.specs.Pairs.{records_of}
@@ -21,6 +21,11 @@ pub record Told : Type 0 where
 
 abbrev pub told : ℕ → List ℕ → ℕ → Told
 told answer list count = record { answer = answer; list = list; count = count }
+
+-- an answer, how many records or a refusal's number, with the list as it is left and the count as it was: a refusal keeps the count
+abbrev pub tell : Result ℕ ℕ → List ℕ → ℕ → Told
+tell (Ok n) list count = told 0 list n
+tell (Err n) list count = told n list count
 
 -- the checks in their order: "24, 27, 25 by full audit, then 39 if the list is too short"
 unfoldable pub records_checks : List ℕ → List ℕ → List ℕ → List (Bool × ℕ)

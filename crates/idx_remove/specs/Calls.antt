@@ -1,7 +1,7 @@
 -- Rules: what removal answers and leaves, in the "order 24, 27, 25 by full audit, then 33" if that pair is absent, for features 1 the key.
 use Rattle.std.specs.Prelude.{ℕ, Bool, List, [], ◌∷◌, length, eqb}
 use Rattle.refusal.specs.After.{After, made_unless}
-use Rattle.refusal.specs.declared.Change.{Change}
+use Rattle.refusal.specs.After.{Change}
 use Rattle.idx_page.specs.Header.{header_good, key_length}
 use Rattle.idx_sound.specs.AuditTest.{pages_good}
 use Rattle.idx_path.specs.Presence.{is_there}

@@ -1,7 +1,7 @@
 -- Laws: the cases of removal's steps, each from what leads to it, and that an emptied page is a page of the buffer. Cited by the proofs of the functions.
 -- Assumes nothing.
 use Prim.Native.Nat.{ℕ, zero, suc, ◌-◌, ◌≤◌, ◌<◌}
-use Rattle.std.specs.Prelude.{◌≡◌, refl, true, List, [], ◌∷◌, length}
+use Rattle.std.specs.Prelude.{◌≡◌, refl, true, Some, List, [], ◌∷◌, length}
 use Rattle.std.proofs.Common.{sym, ap, ◌∙◌, lt-ltb, le-ltb}
 use native.Mathlib.Omega.{arith}
 use Rattle.basis.specs.Tests.{either, impossible}
@@ -18,7 +18,7 @@ use Rattle.idx_remove_page.specs.Removal.{Outcome as RuleOutcome, kept, emptied,
 use Rattle.idx_remove_page.specs.Removal.{left_with, take_out, after_child, remove_under, at_root, removed_buffer}
 use Rattle.idx_remove_page.specs.Answers.{outcome_of, EmptiedPage}
 use Rattle.idx_remove_page.specs.declared.Outcome.{Outcome}
-use Rattle.idx_remove_page.specs.declared.Outcome.TheVariants.{Kept, Emptied, Bad}
+use Rattle.idx_remove_page.specs.declared.Outcome.TheVariants.{Kept, Emptied}
 use Rattle.idx_route.specs.declared.Visit.TheVariants as visit
 
 -- a page by the entries that it is left with
@@ -85,11 +85,10 @@ unfolding remove_under
 emptied-page k zero b item p e = bad-emptied e
 emptied-page k (suc left) b item p e = either (is_page (length b) p) (λ t. t) (λ t. bad-emptied (rw t at e))
 
-pub emptied-fits : (k left : ℕ) (b : List ℕ) (item : Item) (p : ℕ) {out : List ℕ} (o : Outcome) → remove_under k left b item p ≡ step out (outcome_of o)
-    → EmptiedPage (length b) p o
+pub emptied-fits : (k left : ℕ) (b : List ℕ) (item : Item) (p : ℕ) {out : List ℕ} (o : Outcome)
+    → remove_under k left b item p ≡ step out (outcome_of (Some o)) → EmptiedPage (length b) p o
 emptied-fits k left b item p Kept e = tt
 emptied-fits k left b item p Emptied e = emptied-page k left b item p (ap (λ (s : Step). s.outcome) e)
-emptied-fits k left b item p Bad e = tt
 
 pub emptied_is : (n p : ℕ) (o : Outcome) → o ≡ Emptied → EmptiedPage n p o → is_page n p ≡ true
 emptied_is n p o e h = rw e at h

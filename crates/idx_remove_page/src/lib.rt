@@ -1,40 +1,45 @@
 // What a removal does to one page: a leaf loses the entry, a page above loses the entry of a page that was emptied, which becomes free.
 #![tactic(auto)]
 
-ghost use Rattle.std.specs.Prelude.{◌≡◌, true, ◌≤◌, length};
+ghost use Rattle.std.specs.Prelude.{◌≡◌, true, ◌≤◌, Some, length};
 ghost use Rattle.idx_page.specs.Header.{max_key, is_page};
 ghost use Rattle.idx_leaf.specs.Leaf.{items_in, stored, place_in};
-ghost use Rattle.idx_layout.specs.Given.{room_size};
 ghost use Rattle.idx_remove_page.specs.Removal.{step, take_out, after_child};
 ghost use Rattle.idx_remove_page.specs.Answers.{outcome_of, EmptiedPage};
 
+use idx_entries::Room;
 use idx_page::{PageOffset, RecordNumber};
 
-// What a removal under a page leaves for the page above to do: nothing; or to free the page, which has no entry left; or it met no page.
+// What a removal under a page leaves for the page above to do: nothing; or to free the page, which has no entry left. An answer of `None` in its place says
+// that the removal met no page, or no entry.
 #[derive(Clone, Copy)]
 pub enum Outcome {
     Kept,
     Emptied,
-    Bad,
 }
 
 // Takes entry `i` out of a page.
-fn take_out(index: &mut [u8], k: usize, page: PageOffset, i: usize, room: &mut [u8]) -> Outcome
-    requires { (k ≤ max_key) × (room_size ≤ length room.old) }
+fn take_out(
+    index: &mut [u8],
+    k: usize,
+    page: PageOffset,
+    i: usize,
+    room: &mut Room,
+) -> Option<Outcome>
+    requires { k ≤ max_key }
     ensures { take_out k index.old page.0 i ≡ step index.new (outcome_of result) }
 {
     let count = idx_leaf::entry_count(index, k, page);
     if count <= i {
-        return Outcome::Bad;
+        return None;
     }
     let fewer = count - 1;
-    let size = fewer * (k + 4);
-    idx_entries::gather_without(room, index, k, page, count, i);
-    idx_layout::with_entries(index, k, page, fewer, &room[..size]);
+    room.gather_without(index, k, page, count, i);
+    idx_layout::with_entries(index, page, room.entries(k, fewer));
     if fewer == 0 {
-        return Outcome::Emptied;
+        return Some(Outcome::Emptied);
     }
-    Outcome::Kept
+    Some(Outcome::Kept)
 }
 
 // What a page does after a removal under its entry `i`, over `child`, left `below`.
@@ -45,20 +50,18 @@ pub fn after_child(
     i: usize,
     child: PageOffset,
     below: Outcome,
-    room: &mut [u8],
-) -> Outcome
-    requires { (k ≤ max_key) × (is_page (length index.old) page.0 ≡ true) × EmptiedPage (length index.old) child.0 below
-        × (room_size ≤ length room.old) }
-    ensures { after_child k index.old page.0 i child.0 (outcome_of below) ≡ step index.new (outcome_of result) }
+    room: &mut Room,
+) -> Option<Outcome>
+    requires { (k ≤ max_key) × (is_page (length index.old) page.0 ≡ true) × EmptiedPage (length index.old) child.0 below }
+    ensures { after_child k index.old page.0 i child.0 (outcome_of (Some below)) ≡ step index.new (outcome_of result) }
 {
     match below {
-        Outcome::Kept => Outcome::Kept,
+        Outcome::Kept => Some(Outcome::Kept),
         Outcome::Emptied => {
             idx_free::unlink_page(index, child);
             idx_free::free_page(index, child);
             take_out(index, k, page, i, room)
         }
-        Outcome::Bad => Outcome::Bad,
     }
 }
 
@@ -68,9 +71,9 @@ pub fn remove_in_leaf(
     key: &[u8],
     number: RecordNumber,
     page: PageOffset,
-    room: &mut [u8],
-) -> Outcome
-    requires { (length key.now ≤ max_key) × (is_page (length index.old) page.0 ≡ true) × (room_size ≤ length room.old) }
+    room: &mut Room,
+) -> Option<Outcome>
+    requires { (length key.now ≤ max_key) × (is_page (length index.old) page.0 ≡ true) }
     ensures { take_out (length key.now) index.old page.0
         (place_in index.old (stored key.now number.0) (items_in (length key.now) index.old page.0))
         ≡ step index.new (outcome_of result) }

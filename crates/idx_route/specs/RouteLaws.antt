@@ -10,7 +10,7 @@ use Rattle.std.proofs.Math.ListN.{get_or-eq_default}
 use Rattle.basis.specs.Tests.{either, contra}
 use Rattle.octets.specs.Bytes.{be32}
 use Rattle.octets.specs.NumberLaws.{be32-window}
-use Rattle.octets.specs.declared.Ordering.{Ordering}
+use Rattle.std.specs.declared.cmp.Ordering.{Ordering}
 use Rattle.octets.specs.Order.{bytes_le, ordering, is_below, is_equal}
 use Rattle.octets.specs.OrderLaws.{le_refl}
 use Rattle.tree.specs.Position.{Passes, position, passes_lower}

@@ -28,11 +28,7 @@ fn key_up_to(index: &[u8], key: &[u8], page: PageOffset, i: usize) -> bool
     requires { Within index.now (length key.now) page.0 (i + 1) }
     ensures { result ≡ bytes_le (key_at index.now (length key.now) page.0 i) key.now }
 {
-    let order = idx_page::compare_entry(index, page, i, key);
-    if octets::is_equal(order) {
-        return true;
-    }
-    octets::is_below(order)
+    idx_page::compare_entry(index, page, i, key).is_le()
 }
 
 // Whether the first leaf pair under entry `i` is at or below `key` with its record number: down by first entries.
@@ -43,19 +39,17 @@ fn first_up_to(index: &[u8], key: &[u8], number: RecordNumber, page: PageOffset,
 {
     let mut above = page;
     let mut at = i;
-    let mut left = idx_page::MAX_LEVELS;
-    while 0 < left {
+    for _ in 0..idx_page::MAX_LEVELS {
         let child = idx_page::child(index, key.len(), above, at);
         if idx_leaf::entry_count(index, key.len(), child) == 0 {
             return key_up_to(index, key, above, at);
         }
         let head = Page::at(index, child);
         if idx_page::is_leaf(head.attribute) {
-            return idx_leaf::pair_up_to(index, key, number, child, 0);
+            return idx_leaf::compare_pair(index, key, number, child, 0).is_le();
         }
         above = child;
         at = 0;
-        left -= 1;
     }
     key_up_to(index, key, above, at)
 }
@@ -73,14 +67,12 @@ fn chosen_record(
     ensures { result ≡ position (λ x y. first_up_to max_levels index.now (stored key.now number.0) y)
         (items_in (length key.now) index.now page.0) }
 {
-    let mut i = 0;
-    while i + 1 < count {
+    for i in 0..count - 1 {
         if !first_up_to(index, key, number, page, i + 1) {
             return i;
         }
-        i += 1;
     }
-    i
+    count - 1
 }
 
 // The number of the entry of a page above the leaves that `key` with its record number goes under; 0 if the page has no entries. If keys are distinct, the
@@ -97,11 +89,7 @@ pub fn chosen_entry(index: &[u8], key: &[u8], number: RecordNumber, page: PageOf
     if idx_page::several(index) {
         return chosen_record(index, key, number, page, count);
     }
-    let i = idx_page::first_at_or_above(index, page, count, key);
-    if i == count {
-        return count - 1;
-    }
-    i
+    idx_page::first_at_or_above(index, page, count, key).min(count - 1)
 }
 
 // The child of entry `i`; 0, which is no page's offset, if the page has no such entry.

@@ -1,8 +1,9 @@
 -- Laws: one page of the audit, by its tests. Cited by the proofs of the functions that check a page. Assumes nothing.
-use Rattle.std.specs.Prelude.{ℕ, ◌+◌, ◌-◌, ◌≤◌, ◌<◌, ◌≡◌, refl, Bool, false, ◌&&◌, List, length, eqb, leb}
+use Rattle.std.specs.Prelude.{ℕ, ◌+◌, ◌-◌, ◌≤◌, ◌<◌, ◌≡◌, refl, Bool, false, ◌&&◌, List, length, eqb, leb, Some, None}
 use Rattle.std.proofs.Math.Path.{sym}
 use Rattle.std.proofs.Common.{◌∙◌}
 use Rattle.std.proofs.Math.Bool.{true}
+use Rattle.std.specs.declared.option.Option.{Option}
 use Rattle.std.proofs.Math.Option.{none}
 use native.Mathlib.Omega.{arith}
 use borrow.Author.Tests.{leb-true, le-leb, lt-leb}
@@ -10,18 +11,18 @@ use Rattle.basis.specs.Tests.{contra, both}
 use Rattle.idx_page.specs.Header.{page_size, features, is_page}
 use Rattle.idx_page.specs.HeaderLaws.{IsPage, is-page}
 use Rattle.idx_page.specs.Page.{attribute_at, count_at, left_at, right_at, leaf_bit, capacity, count_good}
+use Rattle.idx_page.specs.declared.PageOffset.{PageOffset}
 use Rattle.idx_page.specs.Reading.{entries_at}
 use Rattle.idx_page.specs.Reading.{entries_from}
 use Rattle.idx_page.proofs.ReadingLaws.{entries_are, count-read}
-use Rattle.idx_sound.specs.AuditTest as rule
 use Rattle.idx_sound.specs.AuditTest.{last_pair, leaf_entries_good, entries_fit, page_fits, counted, check_page}
 use Rattle.idx_shape.specs.declared.Progress.{Progress}
 use Rattle.idx_keys.specs.Places.{InFile, pair_from}
-use Rattle.idx_shape.specs.State.{meet_page, progress_of, refused_at}
+use Rattle.idx_shape.specs.State.{progress_of}
 
 -- the entries of a page
 module _ (b : List ℕ) (k size a last p : ℕ) where
-  pub entries-leaf : (n z : ℕ) (r : Bool) → n ≡ length (entries_at k size b p) → leaf_bit a ≡ true → pair_from b k z ≡ last_pair none (entries_at k size b last)
+  pub entries-leaf : (n : ℕ) (z : Option ℕ) (r : Bool) → n ≡ length (entries_at k size b p) → leaf_bit a ≡ true → pair_from b k z ≡ last_pair none (entries_at k size b last)
       → r ≡ leaf_entries_good (features b) (pair_from b k z) (entries_from b k p n 0) → r ≡ entries_fit b k size a last p
   unfolding entries_fit
   entries-leaf n z r en l ez er = er ∙ rw (l, ← ez, entries_are b k size p n en)
@@ -69,10 +70,6 @@ module _ (b : List ℕ) (k size a p last next : ℕ) where
     fits_then t r er = er ∙ rw (e, ← ex, ← ey, ← ez, ← ec) (and-true (eqb x a) c (eqb z last) (eqb next p) (entries_fit b k size a last p) t)
 
 -- one page more
-module _ (b : List ℕ) (p : ℕ) where
-  pub page-read : (s : Progress) (n : ℕ) → n ≡ right_at b p → record { good = true; last = p; next = n; left = s.left } ≡ meet_page b p (progress_of s)
-  page-read s n en = rw en
-
 module _ (b : List ℕ) (k size a p : ℕ) where
   pub fits-within : (last next : ℕ) → page_fits b k size a p last next ≡ true → InFile b k size → p + page_size ≤ length b
   unfolding page_fits
@@ -80,20 +77,22 @@ module _ (b : List ℕ) (k size a p : ℕ) where
       let page : IsPage size p = is-page size p (both (is_page size p) _ t).0 in
       omega arith
 
-  pub page-met : (s : rule.Progress) → s.good ≡ true → page_fits b k size a p s.last s.next ≡ true → check_page b k size a p s ≡ meet_page b p s
-  unfolding check_page
-  page-met s g f = rw (g, f)
+  module _ (s : Progress) where
+    pub page-met : page_fits b k size a p s.last.0 s.next.0 ≡ true → (q : PageOffset) → q.0 ≡ right_at b p
+        → check_page b k size a p (progress_of (Some s)) ≡ progress_of (Some (record { last = record { 0 = p }; next = q; left = s.left }))
+    unfolding check_page
+    page-met f q eq = rw (f, eq)
 
-  pub page-refused : (s : rule.Progress) → s.good ≡ true → page_fits b k size a p s.last s.next ≡ false → check_page b k size a p s ≡ rule.refused
-  unfolding check_page
-  page-refused s g f = rw (g, f)
+    pub page-refused : page_fits b k size a p s.last.0 s.next.0 ≡ false → check_page b k size a p (progress_of (Some s)) ≡ progress_of None
+    unfolding check_page
+    page-refused f = rw f
 
 -- n pages more
-module _ (n : ℕ) (s : Progress) (g : s.good ≡ true) where
-  pub count-refused : s.left < n → counted n (progress_of s) ≡ progress_of refused_at
+module _ (n : ℕ) (s : Progress) where
+  pub count-refused : s.left < n → counted n (progress_of (Some s)) ≡ progress_of None
   unfolding counted
-  count-refused h = rw (g, lt-leb n s.left h)
+  count-refused h = rw (lt-leb n s.left h)
 
-  pub count-taken : n ≤ s.left → counted n (progress_of s) ≡ record { good = true; last = s.last.0; next = s.next.0; left = s.left - n }
+  pub count-taken : n ≤ s.left → counted n (progress_of (Some s)) ≡ progress_of (Some (record { last = s.last; next = s.next; left = s.left - n }))
   unfolding counted
-  count-taken h = rw (g, le-leb n s.left h)
+  count-taken h = rw (le-leb n s.left h)

@@ -2,292 +2,220 @@
 // level above, whose pages name one another by the right links that were checked there; the pages that are left after the leaves are the free list. The
 // children of each page are counted before they are looked at: more pages than the file has are refused. No page can be met twice, so that every page was met
 // if as many were as the file has. So nothing is copied or kept, each page is checked once, and the work is linear in the file's size on any bytes.
+//
+// A function of this pass answers `None` if a page is not good, or too few are left.
 #![tactic(auto)]
 
 ghost use Rattle.std.specs.Prelude.{◌≡◌, true, ◌+◌, ◌-◌, ◌≤◌, ◌<◌, length};
-ghost use Rattle.idx_page.specs.Header.{min_bytes, max_levels, page_size, header_good};
+ghost use Rattle.idx_page.specs.Header.{min_bytes, max_levels, header_good};
 ghost use Rattle.idx_page.specs.Reading.{entries_at};
 ghost use Rattle.idx_page.specs.Children.{children_of};
-ghost use Rattle.idx_sound.specs.AuditTest.{later_pages, entries_fit, page_fits, attribute_of};
-ghost use Rattle.idx_sound.specs.AuditTest.{counted, check_pages, check_rows, rows_under, root_level, next_level, levels_under};
+ghost use Rattle.idx_sound.specs.AuditTest.{later_pages, entries_fit, page_fits, attribute_of, closed};
+ghost use Rattle.idx_sound.specs.AuditTest.{counted, check_page, check_pages, check_rows, rows_under, root_level, next_level, levels_under};
 ghost use Rattle.idx_sound.specs.AuditTest.{shape_good};
-ghost use Rattle.idx_keys.specs.Places.{InFile};
-ghost use Rattle.idx_shape.specs.State.{meet_page};
-ghost use Rattle.idx_shape.specs.State.{progress_of, level_of, start_at, refused_at, closed_at};
+ghost use Rattle.idx_shape.specs.State.{progress_of, known, start_at};
 
+use idx_keys::IndexFile;
 use idx_page::{Page, PageOffset};
 
-// What is known of the pages met on a level: whether all were good, the last page met, the page that its right link names, and how many pages of the file are
-// left that were not met.
+// What is known of the pages met on a level: the last page met, the page that its right link names, and how many pages of the file are left that were not met.
 #[derive(Clone, Copy)]
 struct Progress {
-    good: bool,
     last: PageOffset,
     next: PageOffset,
     left: usize,
 }
 
-// What is known of a level: whether it is good, whether its pages are leaves, its first page, and how many pages of the file are left after it.
+// What is known of a level: whether its pages are leaves, its first page, and how many pages of the file are left after it.
 #[derive(Clone, Copy)]
 struct Level {
-    good: bool,
     leaf: bool,
     first: PageOffset,
     left: usize,
 }
 
+impl Progress {
+    // The start of a level, whose first page has to be `first`, with `left` pages left.
+    fn start(first: PageOffset, left: usize) -> Progress
+        ensures { result ≡ start_at first left }
+    {
+        Progress {
+            last: PageOffset(idx_page::NO_PAGE),
+            next: first,
+            left,
+        }
+    }
+
+    // Counts n pages more, if as many are left. A page is not counted when it is met but with its neighbours: the loop over the entries of leaves has no
+    // register to spare for the count.
+    #[tactic(auto, unfolding(idx_sound::specs::AuditTest::counted))]
+    fn counted(self, n: usize) -> Option<Progress>
+        ensures { counted n (progress_of (Some self)) ≡ progress_of result }
+    {
+        let left = self.left.checked_sub(n)?;
+        Some(Progress { left, ..self })
+    }
+
+    // A level at its end: no page is on the right of its last page.
+    fn closed(self, leaf: bool, first: PageOffset) -> Option<Level>
+        ensures { result ≡ known (closed leaf first.0 (progress_of (Some self))) }
+    {
+        if self.next.0 != idx_page::NO_PAGE {
+            return None;
+        }
+        Some(Level {
+            leaf,
+            first,
+            left: self.left,
+        })
+    }
+}
+
 // Whether the entries of a page, of which there are `count`, are good if it is a leaf, which the attribute tells, with `last` on its left.
 fn entries_fit(
-    index: &[u8],
-    k: usize,
-    size: usize,
+    file: &IndexFile,
     attribute: u32,
     last: PageOffset,
     page: PageOffset,
     count: usize,
 ) -> bool
-    requires { InFile index.now k size × (count ≡ length (entries_at k size index.now page.0)) }
-    ensures { result ≡ entries_fit index.now k size attribute last.0 page.0 }
+    requires { count ≡ length (entries_at file.now.key_length file.now.size file.now.bytes.now page.0) }
+    ensures { result ≡ entries_fit file.now.bytes.now file.now.key_length file.now.size attribute last.0 page.0 }
 {
-    if !idx_page::is_leaf(attribute) {
-        return true;
-    }
-    let prior = idx_keys::last_key(index, k, size, last);
-    idx_leaves::leaf_entries(index, k, page, count, prior)
+    !idx_page::is_leaf(attribute)
+        || idx_leaves::leaf_entries(file, page, count, file.last_entry(last))
 }
 
-// Whether a page has the attribute, a good count, links that agree with those of `last` on its left, and good entries.
-fn page_fits(
-    index: &[u8],
-    k: usize,
-    size: usize,
-    attribute: u32,
-    page: PageOffset,
-    last: PageOffset,
-    next: PageOffset,
-) -> bool
-    requires { InFile index.now k size }
-    ensures { result ≡ page_fits index.now k size attribute page.0 last.0 next.0 }
+// Whether a page has the attribute, a good count, links that agree with those of the page on its left, the last that was met, and good entries.
+fn page_fits(file: &IndexFile, attribute: u32, page: PageOffset, met: Progress) -> bool
+    ensures { result ≡ page_fits file.now.bytes.now file.now.key_length file.now.size attribute page.0 met.last.0 met.next.0 }
 {
-    if !idx_page::is_page(size, page) {
+    if !file.is_page(page) {
         return false;
     }
-    let head = Page::at(index, page);
+    let head = Page::at(file.bytes, page);
+
+    // The tests of the head are joined without a branch.
     if !((head.attribute == attribute)
-        & (idx_page::count_good(k, attribute, head.count)
-            & ((head.left.0 == last.0) & (next.0 == page.0))))
+        & (idx_page::count_good(file.key_length, attribute, head.count)
+            & ((head.left.0 == met.last.0) & (met.next.0 == page.0))))
     {
         return false;
     }
-    entries_fit(index, k, size, attribute, last, page, head.count as usize)
+    entries_fit(file, attribute, met.last, page, head.count as usize)
 }
 
-// A page was not good, or too few were left. Nothing else is kept: what is kept has to be at hand in the loop over the entries of leaves, since it ends there.
-fn refused() -> Progress
-    ensures { result ≡ refused_at }
+// Checks one page: if it fits, it is the last page met.
+fn check_page(file: &IndexFile, attribute: u32, page: PageOffset, met: Progress) -> Option<Progress>
+    ensures { check_page file.now.bytes.now file.now.key_length file.now.size attribute page.0 (progress_of (Some met)) ≡ progress_of result }
 {
-    Progress {
-        good: false,
-        last: PageOffset(idx_page::NO_PAGE),
-        next: PageOffset(idx_page::NO_PAGE),
-        left: 0,
+    if !page_fits(file, attribute, page, met) {
+        return None;
     }
-}
-
-// Counts n pages more, if as many are left. A page is not counted when it is met but with its neighbours: the loop over the entries of leaves has no register
-// to spare for the count.
-fn count_pages(s: Progress, n: usize) -> Progress
-    requires { s.good ≡ true }
-    ensures { counted n (progress_of s) ≡ progress_of result }
-{
-    let left = s.left;
-    if left < n {
-        return refused();
-    }
-    let last = s.last;
-    let next = s.next;
-    Progress {
-        good: true,
-        last,
-        next,
-        left: left - n,
-    }
-}
-
-// A page that fits is the last page met.
-fn meet_page(index: &[u8], page: PageOffset, s: Progress) -> Progress
-    requires { page.0 + page_size ≤ length index.now }
-    ensures { progress_of result ≡ meet_page index.now page.0 (progress_of s) }
-{
-    let head = Page::at(index, page);
-    let right = head.right;
-    Progress {
-        good: true,
+    Some(Progress {
         last: page,
-        next: right,
-        left: s.left,
-    }
+        next: Page::at(file.bytes, page).right,
+        left: met.left,
+    })
 }
 
-// Checks the children of a page, of which there are `count`, one after another, up to the first that is not good.
+// Checks the children of a page, of which there are `count`, one after another.
 fn check_children(
-    index: &[u8],
-    k: usize,
-    size: usize,
+    file: &IndexFile,
     attribute: u32,
     parent: PageOffset,
     count: usize,
-    s: Progress,
-) -> Progress
-    requires { InFile index.now k size × (count ≡ length (entries_at k size index.now parent.0)) × (s.good ≡ true) }
-    ensures { check_pages index.now k size attribute (children_of index.now k size parent.0) (progress_of s) ≡ progress_of result }
+    start: Progress,
+) -> Option<Progress>
+    requires { count ≡ length (entries_at file.now.key_length file.now.size file.now.bytes.now parent.0) }
+    ensures { check_pages file.now.bytes.now file.now.key_length file.now.size attribute
+        (children_of file.now.bytes.now file.now.key_length file.now.size parent.0) (progress_of (Some start)) ≡ progress_of result }
 {
-    let mut t = s;
-    let mut entry = 0;
-    while entry < count {
-        let child = idx_page::child(index, k, parent, entry);
-        let last = t.last;
-        let next = t.next;
-        if !page_fits(index, k, size, attribute, child, last, next) {
-            return refused();
-        }
-        t = meet_page(index, child, t);
-        entry += 1;
+    let mut met = start;
+    for entry in 0..count {
+        let child = idx_page::child(file.bytes, file.key_length, parent, entry);
+        met = check_page(file, attribute, child, met)?;
     }
-    t
+    Some(met)
 }
 
-// Checks the children of the pages of a level, from its first page on along the right links, up to the first that is not good.
+// Checks the children of the pages of a level, from its first page on along the right links.
 fn check_level(
-    index: &[u8],
-    k: usize,
-    size: usize,
+    file: &IndexFile,
     attribute: u32,
     first: PageOffset,
-    s: Progress,
-) -> Progress
-    requires { InFile index.now k size × (s.good ≡ true) }
-    ensures { check_rows index.now k size attribute (rows_under index.now k size first.0) (progress_of s) ≡ progress_of result }
+    start: Progress,
+) -> Option<Progress>
+    ensures { check_rows file.now.bytes.now file.now.key_length file.now.size attribute
+        (rows_under file.now.bytes.now file.now.key_length file.now.size first.0) (progress_of (Some start)) ≡ progress_of result }
 {
-    let mut t = s;
+    let mut met = start;
     let mut parent = first;
-    let mut left = idx_page::MAX_PAGES;
-    while 0 < left {
-        if !idx_page::is_page(size, parent) {
-            return t;
+    for _ in 0..idx_page::MAX_PAGES {
+        if !file.is_page(parent) {
+            return Some(met);
         }
-        let count = idx_page::entry_count(index, k, size, parent);
-        t = count_pages(t, count);
-        if !t.good {
-            return t;
-        }
-        t = check_children(index, k, size, attribute, parent, count, t);
-        if !t.good {
-            return t;
-        }
-        let head = Page::at(index, parent);
-        parent = head.right;
-        left -= 1;
+        let count = file.entry_count(parent);
+        let counted = met.counted(count)?;
+        met = check_children(file, attribute, parent, count, counted)?;
+        parent = Page::at(file.bytes, parent).right;
     }
-    t
+    Some(met)
 }
 
 // The attribute of the pages of a level.
 fn attribute_of(root: bool, leaf: bool) -> u32
     ensures { result ≡ attribute_of root leaf }
 {
-    if root {
-        if leaf {
-            return 3;
-        }
-        return 1;
-    }
-    if leaf {
-        return 2;
-    }
-    0
-}
-
-// The start of a level, whose first page has to be `first`, with `left` pages left.
-fn start(first: PageOffset, left: usize) -> Progress
-    ensures { result ≡ start_at first left }
-{
-    Progress {
-        good: true,
-        last: PageOffset(idx_page::NO_PAGE),
-        next: first,
-        left,
-    }
-}
-
-// A level at its end: it is good if no page is on the right of its last page.
-fn closed(s: Progress, leaf: bool, first: PageOffset) -> Level
-    ensures { result ≡ closed_at s leaf first }
-{
-    let next = s.next;
-    Level {
-        good: s.good & (next.0 == idx_page::NO_PAGE),
-        leaf,
-        first,
-        left: s.left,
+    match (root, leaf) {
+        (true, true) => 3,
+        (true, false) => 1,
+        (false, true) => 2,
+        (false, false) => 0,
     }
 }
 
 // Checks the level of the root, with `left` pages left.
-fn root_level(index: &[u8], k: usize, size: usize, root: PageOffset, left: usize) -> Level
-    requires { InFile index.now k size × (0 < left) }
-    ensures { root_level index.now k size root.0 left ≡ level_of result }
+fn root_level(file: &IndexFile, root: PageOffset, left: usize) -> Option<Level>
+    requires { 0 < left }
+    ensures { result ≡ known (root_level file.now.bytes.now file.now.key_length file.now.size root.0 left) }
 {
-    let leaf = idx_page::leaf_at(index, size, root);
-    let s = start(root, left - 1);
-    let last = s.last;
-    if !page_fits(index, k, size, attribute_of(true, leaf), root, last, root) {
-        return closed(refused(), leaf, root);
-    }
-    closed(meet_page(index, root, s), leaf, root)
+    let leaf = file.leaf_at(root);
+    let start = Progress::start(root, left - 1);
+    let met = check_page(file, attribute_of(true, leaf), root, start)?;
+    met.closed(leaf, root)
 }
 
 // Checks the level under the level whose first page is `above`, with `left` pages left.
-fn next_level(index: &[u8], k: usize, size: usize, above: PageOffset, left: usize) -> Level
-    requires { InFile index.now k size }
-    ensures { next_level index.now k size above.0 left ≡ level_of result }
+fn next_level(file: &IndexFile, above: PageOffset, left: usize) -> Option<Level>
+    ensures { result ≡ known (next_level file.now.bytes.now file.now.key_length file.now.size above.0 left) }
 {
-    let first = idx_page::first_child(index, k, size, above);
-    let leaf = idx_page::leaf_at(index, size, first);
-    let s = check_level(
-        index,
-        k,
-        size,
-        attribute_of(false, leaf),
-        above,
-        start(first, left),
-    );
-    closed(s, leaf, first)
+    let first = file.first_child(above);
+    let leaf = file.leaf_at(first);
+    let start = Progress::start(first, left);
+    let met = check_level(file, attribute_of(false, leaf), above, start)?;
+    met.closed(leaf, first)
 }
 
-// Checks the levels from the root down to the leaves, to the first that is not good, or to the 15th, with `pages` pages left. The level under the root is
-// checked ahead of the loop: `next_level` has two callers so, and is compiled as a function of its own, whose loop over the entries of leaves has its
-// registers.
-fn levels(index: &[u8], k: usize, size: usize, root: PageOffset, pages: usize) -> Level
-    requires { InFile index.now k size × (0 < pages) }
-    ensures { levels_under index.now k size (max_levels - 1) (root_level index.now k size root.0 pages) ≡ level_of result }
+// Checks the levels from the root down to the leaves, or to the 15th, with `pages` pages left. The level under the root is checked ahead of the loop:
+// `next_level` has two callers so, and is compiled as a function of its own, whose loop over the entries of leaves has its registers.
+fn levels(file: &IndexFile, root: PageOffset, pages: usize) -> Option<Level>
+    requires { 0 < pages }
+    ensures { result ≡ known (levels_under file.now.bytes.now file.now.key_length file.now.size (max_levels - 1)
+        (root_level file.now.bytes.now file.now.key_length file.now.size root.0 pages)) }
 {
-    let top = root_level(index, k, size, root, pages);
-    if !(top.good & !top.leaf) {
-        return top;
+    let top = root_level(file, root, pages)?;
+    if top.leaf {
+        return Some(top);
     }
-    let above = top.first;
-    let mut level = next_level(index, k, size, above, top.left);
-    let mut left = idx_page::MAX_LEVELS - 2;
-    while 0 < left {
-        if !(level.good & !level.leaf) {
-            return level;
+    let mut level = next_level(file, top.first, top.left)?;
+    for _ in 0..idx_page::MAX_LEVELS - 2 {
+        if level.leaf {
+            return Some(level);
         }
-        let above = level.first;
-        level = next_level(index, k, size, above, level.left);
-        left -= 1;
+        level = next_level(file, level.first, level.left)?;
     }
-    level
+    Some(level)
 }
 
 // How many pages a file has but for the first.
@@ -303,11 +231,9 @@ pub fn shape_good(index: &[u8]) -> bool
     requires { header_good index.now ≡ true }
     ensures { result ≡ shape_good index.now }
 {
-    let k = idx_page::key_length(index);
-    let size = idx_page::file_size(index);
-    let level = levels(index, k, size, idx_page::root(index), later_pages(size));
-    if !(level.good & level.leaf) {
+    let file = IndexFile::new(index);
+    let Some(level) = levels(&file, file.root(), later_pages(file.size)) else {
         return false;
-    }
-    idx_free_list::free_list(index, size, level.left, idx_page::free_pointer(index))
+    };
+    level.leaf && idx_free_list::free_list(&file, level.left, idx_page::free_pointer(index))
 }

@@ -23,6 +23,7 @@ pub struct Taken {
 }
 
 // The supply of an index.
+#[tactic(auto, unfolding(crate::specs::Supply::supply_of))]
 pub fn supply_of(index: &[u8]) -> Supply
     requires { page_size ≤ length index.now }
     ensures { result ≡ supply_of index.now }
@@ -39,24 +40,22 @@ pub fn take_page(index: &[u8], supply: Supply) -> Taken
     requires { Lasts 1 supply }
     ensures { result ≡ take_page index.now supply }
 {
-    let free = supply.free;
-    let end = supply.end;
-    let beyond = idx_page::next_page(end);
-    if idx_page::is_page(index.len(), free) {
-        let next = Page::at(index, free).right;
+    if idx_page::is_page(index.len(), supply.free) {
+        let next = Page::at(index, supply.free).right;
         return Taken {
-            page: free,
+            page: supply.free,
             rest: Supply {
                 free: next,
-                end: end,
+                ..supply
             },
         };
     }
+    let beyond = idx_page::next_page(supply.end);
     Taken {
-        page: end,
+        page: supply.end,
         rest: Supply {
-            free: free,
             end: beyond,
+            ..supply
         },
     }
 }
@@ -67,11 +66,8 @@ pub fn supply_after(index: &[u8], supply: Supply, count: u32) -> Supply
     ensures { result ≡ supply_after count index.now supply }
 {
     let mut rest = supply;
-    let mut i = 0;
-    while i < count {
-        let taken = take_page(index, rest);
-        rest = taken.rest;
-        i += 1;
+    for _ in 0..count {
+        rest = take_page(index, rest).rest;
     }
     rest
 }

@@ -1,7 +1,7 @@
 -- Rules: what the lookups hand to C. The calls that write an index hand their rule's buffer and number (`refusal/After.coded`).
 use Rattle.std.specs.Prelude.{ℕ}
 use Rattle.idx_lookup.specs.Lookup.{lookup_code, answer_record, answer_pages}
-use Rattle.idx_lookup.specs.declared.Answer.{Answer}
+use Rattle.idx_lookup.specs.Answer.{Answer}
 use Rattle.handed.specs.Out.{Out, out}
 
 -- record and pages

@@ -2,6 +2,7 @@
 #![tactic(auto)]
 
 ghost use Rattle.std.specs.Prelude.{◌≡◌};
+ghost use Rattle.refusal.specs.Refusals.{numbered};
 ghost use Rattle.refusal.specs.After.{left, coded};
 ghost use Rattle.idx_lookup.specs.Lookup.{lookup_rule};
 ghost use Rattle.ndx_page.specs.Lookup as ndx-lookup;
@@ -12,9 +13,9 @@ ghost use Rattle.idx_remove.specs.Calls.{remove_rule};
 ghost use Rattle.handed.specs.Out.{out};
 ghost use Rattle.index_calls.specs.Answers.{found, lookup_out};
 
-use idx_lookup::Answer;
+use idx_lookup::Outcome;
 use idx_page::RecordNumber;
-use refusal::{ABSENT, change_code};
+use refusal::{ABSENT, Refusal, change_code};
 
 // Makes a fresh index, with one record to a key (features 1) or several (features 0).
 pub fn index_fresh(index: &mut [u8], key_length: u32, features: u32, expression: &[u8]) -> u32
@@ -24,20 +25,22 @@ pub fn index_fresh(index: &mut [u8], key_length: u32, features: u32, expression:
 }
 
 // Writes what a lookup in an index of either format answers, and returns its number.
-pub fn tell(answer: Answer, number: &mut u32, pages: &mut u32) -> u32
-    ensures { lookup_out answer (found number.old pages.old) ≡ out result (found number.new pages.new) }
+#[tactic(auto, unfolding(crate::specs::Answers::lookup_out))]
+pub fn tell(answer: Result<Outcome, Refusal>, number: &mut u32, pages: &mut u32) -> u32
+    ensures { lookup_out (numbered answer) (found number.old pages.old) ≡ out result (found number.new pages.new) }
 {
     match answer {
-        Answer::Found(at, visited) => {
-            *number = at.0;
-            *pages = visited;
-            0
+        Ok(outcome) => {
+            *pages = outcome.pages;
+            match outcome.found {
+                Some(at) => {
+                    *number = at.0;
+                    0
+                }
+                None => ABSENT,
+            }
         }
-        Answer::Absent(searched) => {
-            *pages = searched;
-            ABSENT
-        }
-        Answer::Refused(refusal) => refusal,
+        Err(refusal) => refusal.number(),
     }
 }
 
@@ -53,7 +56,7 @@ pub fn index_lookup(index: &[u8], key: &[u8], number: &mut u32, pages: &mut u32)
 pub fn audit_ndx(index: &[u8]) -> u32
     ensures { ndx-sound.Audited index.now result }
 {
-    ndx_audit::audit(index)
+    change_code(ndx_audit::audit(index))
 }
 
 // Looks a key up in an NDX index, with the same values.

@@ -1,9 +1,9 @@
 -- Rules: what the program's arguments FIELD and INDEX say. Cited by `field_argument` and `is_ndx`. Assumes nothing.
-use Rattle.std.specs.Prelude.{ℕ, ◌+◌, ◌-◌, min, Bool, cond, not, ◌&&◌, ◌||◌, ◌≡◌, List, [], ◌∷◌, length, eqb, leb}
+use Rattle.std.specs.Prelude.{ℕ, ◌+◌, ◌-◌, min, Bool, cond, not, ◌&&◌, ◌||◌, ◌≡◌, List, [], ◌∷◌, length, eqb, leb, Result, Ok, Err}
 use Rattle.octets.specs.Bytes.{byte_at}
 use Rattle.octets.specs.Text.{every, is_digit, number_of}
 use Rattle.inspect_argument.specs.declared.Field.{Field}
-use Rattle.inspect_argument.specs.declared.Field.TheVariants.{Unnamed, Number, Name, Other}
+use Rattle.inspect_argument.specs.declared.Field.TheVariants.{Number, Name}
 
 -- "FIELD is a field's number, 1 to 10 digits"
 unfoldable pub is_number : List ℕ → Bool
@@ -17,26 +17,23 @@ is_name text = leb 1 (length text) && leb (length text) 10 && not (is_digit (byt
 abbrev pub max_number : ℕ
 max_number = 4294967295
 
--- a text is a name, a field's number, or neither
-unfoldable pub field_argument : List ℕ → Field
-field_argument text = cond (is_name text) Name (cond (is_number text) (Number (min (number_of text) max_number)) Other)
+-- a text is a name, a field's number, or neither, "40"
+unfoldable pub field_argument : List ℕ → Result Field ℕ
+field_argument text = cond (is_name text) (Ok Name) (cond (is_number text) (Ok (Number (min (number_of text) max_number))) (Err 40))
 
 -- an argument's number: 0 if it is one, 40 if not
-abbrev pub field_argument_code : Field → ℕ
-field_argument_code Unnamed = 0
-field_argument_code (Number n) = 0
-field_argument_code Name = 0
-field_argument_code Other = 40
+abbrev pub field_argument_code : Result Field ℕ → ℕ
+field_argument_code (Ok field) = 0
+field_argument_code (Err n) = n
 
 -- its values: the field's number
-abbrev pub field_argument_values : Field → List ℕ
-field_argument_values Unnamed = []
-field_argument_values (Number n) = n ∷ []
-field_argument_values Name = []
-field_argument_values Other = []
+abbrev pub field_argument_values : Result Field ℕ → List ℕ
+field_argument_values (Ok (Number n)) = n ∷ []
+field_argument_values (Ok Name) = []
+field_argument_values (Err n) = []
 
 -- what `field_argument` answers: the case; 40 for a text that is neither; a number's value
-pub record FieldArgument (text : List ℕ) (r : Field) : Type 0 where
+pub record FieldArgument (text : List ℕ) (r : Result Field ℕ) : Type 0 where
   pub case : r ≡ field_argument text
   pub number : field_argument_code r ≡ cond (is_name text || is_number text) 0 40
   pub values : field_argument_values r ≡ cond (not (is_name text) && is_number text) (min (number_of text) max_number ∷ []) []

@@ -1,14 +1,13 @@
 -- Laws: `named_below` over one field more, and at a field that has the name; and the three cases of `NameMatched`. Cited by the proofs of `named_field` and
 -- `match_by_name`. Assumes nothing.
+use Rattle.std.specs.Prelude.{◌≡◌, true, false, List, Err}
 use Prim.Native.Nat.{ℕ, zero, suc, ◌+◌, ◌<◌}
-use Rattle.std.specs.Prelude.{◌≡◌, true, false, List}
 use Rattle.std.proofs.Math.Path.{refl, subst}
 use Rattle.std.proofs.Common.{◌∙◌, eq-or-lt_of_le, le_of_suc-le-suc, not-suc-le-zero, add-one, arith}
 use Rattle.std.proofs.Math.Logic.{⊎_elim}
 use borrow.Author.Tests.{le-leb}
 use Rattle.dbf_table.specs.Table.{table_refusal, check_table}
 use Rattle.dbf_table.specs.TableLaws.{refused_check}
-use Rattle.dbf_table.specs.declared.Checked.TheVariants.{Refused}
 use Rattle.idx_match.specs.Match.{Matched}
 use Rattle.inspect_argument.specs.Names.{has_name, named_below, named_field, NameMatched}
 
@@ -33,7 +32,7 @@ module _ (b name : List ℕ) where
 
 -- the answer for a refused table, for a name that no field has, and for the field that has it
 module _ (t b name : List ℕ) where
-  pub by_refusal : (n : ℕ) → check_table t ≡ Refused n → NameMatched t b name n
+  pub by_refusal : (n : ℕ) → check_table t ≡ Err n → NameMatched t b name n
   by_refusal n said =
       let no = refused_check t n said in
       record {

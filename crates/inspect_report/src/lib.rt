@@ -11,202 +11,215 @@
 #![tactic(auto)]
 
 mod report;
+mod shown;
 
-ghost use Rattle.std.specs.Prelude.{◌≤◌};
+ghost use Rattle.std.specs.Prelude.{◌≤◌, IfOk};
 
-use inspect_argument::Field;
-use lines::Line;
+use inspect_argument::{Field, names};
+use refusal::Refusal;
+use std::alloc::AllocError;
+use std::fmt::Display;
+use std::io;
 use std::rt::Files;
 
+// The greatest file that is read.
+const MOST: usize = 1048576;
+
+// Says on standard error how the program ends. What can't be said there is lost.
+fn say_unwritten(err: &impl Print) {
+    let _ = println!(err; "inspect: the output could not be written");
+}
+
 // Prints the line 40, and then says on standard error what was wrong.
-fn refuse(out: &impl Print, err: &impl Print, reason: &[u8]) {
-    if !lines::print_all(out, b"40\n") {
-        report::say(err, b"inspect: the output could not be written\n");
+fn refuse(out: &impl Print, err: &impl Print, reason: impl Display + Drop) {
+    if println!(out; "40").is_err() {
+        say_unwritten(err);
         return;
     }
-    report::say(err, b"inspect: 40: ");
-    report::say(err, reason);
+    let _ = println!(err; "inspect: 40: {reason}");
 }
 
 fn refuse_use(out: &impl Print, err: &impl Print) {
-    report::say(
-        err,
-        b"use: inspect TABLE [MEMO|- [INDEX|- [FIELD]]], where FIELD is a field's number of 1 to 10 digits or its name\n",
+    let _ = println!(err;
+        "use: inspect TABLE [MEMO|- [INDEX|- [FIELD]]], where FIELD is a field's number of 1 to 10 digits or its name"
     );
-    refuse(out, err, b"these are other arguments\n");
+    refuse(out, err, "these are other arguments");
 }
 
-fn refuse_ndx_match(out: &impl Print, err: &impl Print) {
-    refuse(
-        out,
-        err,
-        b"an NDX index has no match: leave the FIELD out\n",
-    );
-}
-
-fn wanted_field(arguments: usize, field: &[u8]) -> Field {
-    if arguments < 4 {
-        return Field::Unnamed;
-    }
-    inspect_argument::field_argument(field)
-}
-
-// The word of argument i, or `none` if there are fewer arguments.
-fn given<'a>(arguments: usize, i: usize, word: &'a [u8], none: &'a [u8]) -> &'a [u8] {
-    if arguments < i {
-        return none;
-    }
-    word
-}
-
-fn is_dash(word: &[u8]) -> bool {
-    if word.len() != 1 {
-        return false;
-    }
-    word[0] == b'-'
-}
-
-// The line of the match, if a FIELD was given. Answers how many lines have a refusal.
-fn match_lines<'a>(
-    out: &impl Print,
-    line: &mut Line,
+// The arguments: the names of the files, none for one that is not asked for, and what FIELD says, beside its word.
+#[derive(Clone, Copy)]
+struct Arguments<'a> {
     table: &'a [u8],
-    index: &'a [u8],
-    wanted: Field,
-    field: &'a [u8],
-) -> u64
-    ensures { result ≤ 1 }
-{
-    match wanted {
-        Field::Number(number) => {
-            report::answer_line(
-                out,
-                line,
-                b"match",
-                idx_match::match_index(table, index, number),
-            )
-        }
-        Field::Name => report::answer_line(
-            out,
-            line,
-            b"match",
-            inspect_argument::names::match_by_name(table, index, field),
-        ),
-        Field::Unnamed | Field::Other => 0,
+    memo: Option<&'a [u8]>,
+    index: Option<&'a [u8]>,
+    field: Option<(Field, &'a [u8])>,
+}
+
+// Argument i, if there is one and it isn't `-`.
+fn given<'a>(words: &[&'a [u8]], i: usize) -> Option<&'a [u8]> {
+    words
+        .get(i)
+        .copied()
+        .filter(|word| *word != b"-".as_slice())
+}
+
+// What the arguments say, if they are those of the program.
+fn arguments_of<'a>(words: &[&'a [u8]]) -> Option<Arguments<'a>> {
+    let table = words.first()?;
+    if 4 < words.len() {
+        return None;
     }
+    let field = match words.get(3) {
+        Some(word) => Some((inspect_argument::field_argument(word).ok()?, *word)),
+        None => None,
+    };
+    Some(Arguments {
+        table,
+        memo: given(words, 1),
+        index: given(words, 2),
+        field,
+    })
+}
+
+// Why a file is not there: the line 40 was printed for it, or memory failed.
+#[derive(Debug, Drop)]
+enum Unloaded {
+    Refused,
+    OutOfMemory,
+}
+
+impl From<AllocError> for Unloaded {
+    fn from(_error: AllocError) -> Unloaded {
+        Unloaded::OutOfMemory
+    }
+}
+
+fn load(
+    rt: &(impl Files + Print + AllocGlobal),
+    err: &impl Print,
+    path: &[u8],
+    what: &str,
+) -> Result<Vec<u8>, Unloaded> {
+    match files::load(rt, err, path, MOST)? {
+        Some(file) => Ok(file),
+        None => {
+            refuse(
+                rt,
+                err,
+                format_args!("{what} can't be read, or is too long"),
+            );
+            Err(Unloaded::Refused)
+        }
+    }
+}
+
+// Reads a file, if it was asked for.
+fn load_given(
+    rt: &(impl Files + Print + AllocGlobal),
+    err: &impl Print,
+    path: Option<&[u8]>,
+    what: &str,
+) -> Result<Option<Vec<u8>>, Unloaded> {
+    match path {
+        Some(path) => Ok(Some(load(rt, err, path, what)?)),
+        None => Ok(None),
+    }
+}
+
+// The files that were asked for.
+#[derive(Drop)]
+struct Loaded {
+    table: Vec<u8>,
+    memo: Option<Vec<u8>>,
+    index: Option<Vec<u8>>,
+}
+
+fn load_all(
+    rt: &(impl Files + Print + AllocGlobal),
+    err: &impl Print,
+    arguments: Arguments<'_>,
+) -> Result<Loaded, Unloaded> {
+    let table = load(rt, err, arguments.table, "the table")?;
+    let memo = load_given(rt, err, arguments.memo, "the memo file")?;
+    let index = load_given(rt, err, arguments.index, "the index")?;
+    Ok(Loaded { table, memo, index })
 }
 
 // The audit's answer, of an NDX index if the name of its file says so.
-fn audit_answer(path: &[u8], index: &[u8]) -> u32 {
+fn audit(path: &[u8], index: &[u8]) -> Result<(), Refusal> {
     if inspect_argument::is_ndx(path) {
-        return ndx_audit::audit(index);
+        ndx_audit::audit(index)
+    } else {
+        idx_audit::audit(index)
     }
-    idx_audit::audit(index)
 }
 
-// Reads the index, if one was given, and prints all lines.
-fn with_index<'a>(
-    rt: &(impl Files + Print),
-    err: &impl Print,
-    table: &'a [u8],
-    memo: &'a [u8],
-    has_memo: bool,
-    index_path: &'a [u8],
-    wanted: Field,
-    field: &'a [u8],
-) {
-    let mut line = lines::empty_line();
-    if is_dash(index_path) {
-        let problems = report::table_report(rt, &mut line, table, memo, has_memo);
-        report::problems_line(rt, err, &mut line, problems);
-        return;
+fn match_field(table: &[u8], index: &[u8], field: Field, word: &[u8]) -> Result<(), Refusal> {
+    match field {
+        Field::Number(number) => idx_match::match_index(table, index, number),
+        Field::Name => names::match_by_name(table, index, word),
     }
-    let mut index = files::space();
-    let loaded = files::load(rt, err, index_path, &mut index);
-    if !loaded.whole {
-        refuse(rt, err, b"the index can't be read, or is too long\n");
-        return;
-    }
-    let n = loaded.len;
-    let of_table = report::table_report(rt, &mut line, table, memo, has_memo);
-    let of_index = report::answer_line(
-        rt,
-        &mut line,
-        b"index",
-        audit_answer(index_path, &index[..n]),
-    );
-    let of_match = match_lines(rt, &mut line, table, &index[..n], wanted, field);
-    report::problems_line(rt, err, &mut line, of_table + of_index + of_match);
 }
 
-// Reads the memo file, if one was given: M fields are read only then.
-fn with_memo<'a>(
-    rt: &(impl Files + Print),
-    err: &impl Print,
-    table: &'a [u8],
-    memo_path: &'a [u8],
-    index_path: &'a [u8],
-    wanted: Field,
-    field: &'a [u8],
-) {
-    if is_dash(memo_path) {
-        with_index(rt, err, table, b"", false, index_path, wanted, field);
-        return;
-    }
-    let mut memo = files::space();
-    let loaded = files::load(rt, err, memo_path, &mut memo);
-    if !loaded.whole {
-        refuse(rt, err, b"the memo file can't be read, or is too long\n");
-        return;
-    }
-    let n = loaded.len;
-    with_index(rt, err, table, &memo[..n], true, index_path, wanted, field);
-}
-
-fn with_table<'a>(
-    rt: &(impl Files + Print),
-    err: &impl Print,
-    table_path: &'a [u8],
-    memo_path: &'a [u8],
-    index_path: &'a [u8],
-    wanted: Field,
-    field: &'a [u8],
-) {
-    let mut table = files::space();
-    let loaded = files::load(rt, err, table_path, &mut table);
-    if !loaded.whole {
-        refuse(rt, err, b"the table can't be read, or is too long\n");
-        return;
-    }
-    let n = loaded.len;
-    with_memo(rt, err, &table[..n], memo_path, index_path, wanted, field);
-}
-
-// The program, with `arguments` words; words past them are not looked at.
-pub fn inspect<'a>(
-    rt: &(impl Files + Print),
-    err: &impl Print,
-    arguments: usize,
-    table: &'a [u8],
-    memo: &'a [u8],
-    index: &'a [u8],
-    field: &'a [u8],
-) {
-    if (arguments < 1) | (4 < arguments) {
-        refuse_use(rt, err);
-        return;
-    }
-    let wanted = wanted_field(arguments, field);
-    match wanted {
-        Field::Other => refuse_use(rt, err),
-        Field::Unnamed | Field::Number(_) | Field::Name => {
-            let memo_path = given(arguments, 2, memo, b"-");
-            let index_path = given(arguments, 3, index, b"-");
-            if (3 < arguments) & inspect_argument::is_ndx(index_path) {
-                refuse_ndx_match(rt, err);
-                return;
-            }
-            with_table(rt, err, table, memo_path, index_path, wanted, field)
+// The line of an index and, if a FIELD was given, the line of the match.
+fn index_report(
+    out: &impl Print,
+    table: &[u8],
+    index: &[u8],
+    path: &[u8],
+    field: Option<(Field, &[u8])>,
+) -> io::Result<u64>
+    ensures { IfOk result (λ n. n ≤ 2) }
+{
+    let of_index = report::answer_line(out, "index", audit(path, index))?;
+    let of_match = match field {
+        Some((field, word)) => {
+            report::answer_line(out, "match", match_field(table, index, field, word))?
         }
+        None => 0,
+    };
+    Ok(of_index + of_match)
+}
+
+// Prints all lines. The last one says how many of the lines before it have a refusal, which is the answer too.
+fn print_report(out: &impl Print, loaded: &Loaded, arguments: Arguments<'_>) -> io::Result<u64> {
+    let memo = loaded.memo.as_ref().map(|memo| memo.as_slice());
+    let of_table = report::table_report(out, &loaded.table, memo)?;
+    let of_index = match (&loaded.index, arguments.index) {
+        (Some(index), Some(path)) => {
+            index_report(out, &loaded.table, index, path, arguments.field)?
+        }
+        _ => 0,
+    };
+    let problems = of_table + of_index;
+    println!(out; "problems {problems}")?;
+    Ok(problems)
+}
+
+// The program, called with these words behind its own name. It ends with a verdict on standard error, once every line is written.
+pub fn inspect(
+    rt: &(impl Files + Print + AllocGlobal),
+    err: &impl Print,
+    words: &[&[u8]],
+) -> Result<(), AllocError> {
+    let Some(arguments) = arguments_of(words) else {
+        refuse_use(rt, err);
+        return Ok(());
+    };
+    if arguments.field.is_some() && arguments.index.is_some_and(inspect_argument::is_ndx) {
+        refuse(rt, err, "an NDX index has no match: leave the FIELD out");
+        return Ok(());
     }
+    let loaded = match load_all(rt, err, arguments) {
+        Ok(loaded) => loaded,
+        Err(Unloaded::Refused) => return Ok(()),
+        Err(Unloaded::OutOfMemory) => return Err(AllocError),
+    };
+    match print_report(rt, &loaded, arguments) {
+        Ok(problems) => {
+            let _ = println!(err; "inspect: problems {problems}");
+        }
+        Err(_) => say_unwritten(err),
+    }
+    Ok(())
 }

@@ -6,8 +6,6 @@ pub mod State
 pub mod Steps
 -- Laws: those steps are the walk
 pub mod StepLaws
--- Laws: the tests of keys, of a leaf's pair and of a key above
-pub mod KeyLaws
 -- Laws: a page that is entered, and the walk from there
 pub mod PageLaws
 -- Laws: the loops

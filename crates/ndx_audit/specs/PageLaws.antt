@@ -1,83 +1,67 @@
 -- Laws: a page that is entered, and the walk from there. Cited by the proofs of the functions on pages. Assumes nothing.
-use Rattle.std.specs.Prelude.{ℕ, zero, suc, ◌+◌, ◌-◌, ◌≤◌, ◌<◌, ◌≡◌, refl, false, ◌&&◌, List, eqb}
-use Rattle.std.proofs.Math.Path.{sym}
-use Rattle.std.proofs.Common.{ap, ◌∙◌, arith}
-use Rattle.std.proofs.Math.Bool.{Bool, true}
+use Rattle.std.specs.Prelude.{ℕ, zero, suc, ◌+◌, ◌-◌, ◌≤◌, ◌≡◌, refl, Bool, true, false, ◌&&◌, List, eqb}
+use Rattle.std.proofs.Common.{ap, ◌∙◌, arith, eq-eqb, ne_eqb, leb-true}
 use Rattle.std.specs.Bool.{beq}
 use Rattle.std.proofs.Math.Nat.{min-eq_left}
-use Rattle.std.proofs.Math.Dec.{ltb}
-use borrow.Author.Tests.{eq-eqb, ne_eqb, leb-true, le-ltb, lt-ltb}
 use Rattle.basis.specs.Tests.{either, contra, both, join}
-use Rattle.ndx_page.specs.Header.{max_levels, root_page, page_count, keys_per_page, is_page, header_good}
+use Rattle.ndx_page.specs.Header.{root_page, page_count, keys_per_page, is_page, header_good}
 use Rattle.ndx_page.specs.Page.{count_at, lower_at, record_at, key_at, is_leaf, count_good}
 use Rattle.ndx_page.specs.Within.{Within}
 use Rattle.ndx_page.specs.PageLaws.{within-page}
+use Rattle.ndx_page.specs.IndexLaws.{page_within, within_steps}
 use Rattle.ndx_sound.specs.Reading.{Key, entries_at}
 use Rattle.ndx_sound.specs.ReadingLaws.{leaf-entries, branch-entries}
 use Rattle.ndx_sound.specs.Walk.{Status, if_good, over, items, passed, under, enter, walk}
-use Rattle.ndx_sound.proofs.WalkLaws.{if_is, if_not}
-use Rattle.ndx_sound.specs.AuditTest.{zeros, page_fits, height_from, complete, tree_good}
+use Rattle.ndx_sound.proofs.WalkLaws.{if_is}
+use Rattle.ndx_sound.specs.AuditTest.{zeros, page_fits, index_height, start, complete, tree_good}
 use Rattle.ndx_sound.specs.TreeLaws.{by_top}
-use Rattle.ndx_sound.proofs.Accepted.{Fit, fit}
-use Rattle.ndx_audit.specs.State.{key_from, status_of, good_at, entering, walk_from}
-use Rattle.ndx_audit.specs.Steps.{Walker, items_from, children_from}
+use Rattle.ndx_sound.proofs.Accepted.{Fit, fit, answer-bad, answer-sound, answer-unsound}
+use Rattle.ndx_sound.specs.Sound.{Audited}
+use Rattle.ndx_audit.specs.Steps.{Walker, items_from, children_from, entering, walking}
 use Rattle.ndx_audit.specs.StepLaws.{items_by_number, children_by_number}
-use Rattle.ndx_audit.specs.KeyLaws.{refused_at}
-use Rattle.ndx_audit.specs.declared.Met.{Met}
-
--- a page that was tested: it is a leaf or not, its count, and r says that it is a leaf as its level asks and that its count is good
-pub record Tested (b : List ℕ) (lone : Bool) (h p : ℕ) (leaf : Bool) (n : ℕ) (r : Bool) : Type 0 where
-  pub page : is_page (page_count b) p ≡ true
-  pub leafs : leaf ≡ is_leaf b p
-  pub count : n ≡ count_at b p
-  pub test : r ≡ (beq leaf (eqb h 0) && count_good (keys_per_page b) n lone leaf)
+use Rattle.ndx_audit.specs.LoopLaws.{not_on, children_end, children_bad, children_stop, children_on}
 
 and_off : (a c d : Bool) → (a && c) ≡ false → (a && (c && d)) ≡ false
 and_off true true d e = contra refl e
 and_off true false d e = refl
 and_off false c d e = refl
 
-module _ {b : List ℕ} {lone : Bool} {h p : ℕ} {leaf : Bool} {n : ℕ} {r : Bool} (t : Tested b lone h p leaf n r) where
-  said : (beq (is_leaf b p) (eqb h 0) && count_good (keys_per_page b) (count_at b p) lone (is_leaf b p)) ≡ r
-  said = sym (rw (t.leafs, t.count) at t.test)
+-- a page that is tested: first its number, then whether it is a leaf as its level asks and its count, and then a leaf's lower pages
+module _ (b : List ℕ) (lone : Bool) (h p : ℕ) where
+  abbrev pub test : Bool
+  test = beq (is_leaf b p) (eqb h 0) && count_good (keys_per_page b) (count_at b p) lone (is_leaf b p)
 
-  pub fits_off : r ≡ false → false ≡ page_fits b lone h p
+  pub fits_never : is_page (page_count b) p ≡ false → page_fits b lone h p ≡ false
   unfolding page_fits
-  fits_off e = rw t.page (sym (and_off (beq (is_leaf b p) (eqb h 0)) _ _ (said ∙ e)))
+  fits_never e = rw e
 
-  module _ (e : r ≡ true) where
-    parts : (beq (is_leaf b p) (eqb h 0) ≡ true) × (count_good (keys_per_page b) (count_at b p) lone (is_leaf b p) ≡ true)
-    parts = both _ _ (said ∙ e)
-
-    pub count-full : n ≤ keys_per_page b
-    unfolding count_good
-    count-full = omega (arith, t.count, leb-true (count_at b p) (keys_per_page b) (both _ _ parts.1).0)
-
-    pub fits_branch : leaf ≡ false → true ≡ page_fits b lone h p
+  module _ (page : is_page (page_count b) p ≡ true) where
+    pub fits_off : test ≡ false → page_fits b lone h p ≡ false
     unfolding page_fits
-    fits_branch l = sym (join _ _ t.page (join _ _ parts.0 (join _ _ parts.1 (rw (sym t.leafs ∙ l)))))
+    fits_off e = rw page (and_off (beq (is_leaf b p) (eqb h 0)) _ _ e)
 
-    pub fits-leaf : leaf ≡ true → (z : Bool) → z ≡ zeros (lower_at b p) n 0 → z ≡ page_fits b lone h p
-    unfolding page_fits
-    fits-leaf l z ez =
-        let full : count_at b p ≤ keys_per_page b = omega (arith, t.count, count-full) in
-        let q : is_leaf b p ≡ true = sym t.leafs ∙ l in
-        ez ∙ (rw t.count (sym (rw (t.page, parts.0, parts.1, q, min-eq_left full))))
+    module _ (e : test ≡ true) where
+      parts : (beq (is_leaf b p) (eqb h 0) ≡ true) × (count_good (keys_per_page b) (count_at b p) lone (is_leaf b p) ≡ true)
+      parts = both _ _ e
 
--- a page is entered if it fits and fewer pages were entered than there are, k
-module _ (b : List ℕ) (lone : Bool) (h p m : ℕ) (r : Bool) (er : r ≡ page_fits b lone h p) where
-  pub enter_unfit : r ≡ false → entering b lone h p m ≡ (false, m)
-  unfolding entering
-  enter_unfit e = rw (← er, e)
+      pub count_full : count_at b p ≤ keys_per_page b
+      unfolding count_good
+      count_full = leb-true (count_at b p) (keys_per_page b) (both _ _ parts.1).0
 
-  module _ (e : r ≡ true) (k : ℕ) (ek : k ≡ page_count b) where
-    pub enter-full : k ≤ m → entering b lone h p m ≡ (false, m)
-    unfolding entering
-    enter-full l = rw (← er, e, ← ek, le-ltb m k l)
+      pub count_within : header_good b ≡ true → Within b p (count_at b p)
+      count_within good = within-page b p (count_at b p) good page count_full
 
-    pub enter-new : m < k → entering b lone h p m ≡ (true, m + 1)
-    unfolding entering
-    enter-new l = rw (← er, e, ← ek, lt-ltb m k l)
+      pub fits_branch : is_leaf b p ≡ false → page_fits b lone h p ≡ true
+      unfolding page_fits
+      fits_branch l = join _ _ page (join _ _ parts.0 (join _ _ parts.1 (rw l)))
+
+      pub fits_leaf : is_leaf b p ≡ true → page_fits b lone h p ≡ zeros (lower_at b p) (count_at b p) 0
+      unfolding page_fits
+      fits_leaf l = rw (page, parts.0, parts.1, l, min-eq_left count_full)
+
+-- the entries of a page that fits
+pub fits_within : (b : List ℕ) (lone : Bool) (h p : ℕ) → header_good b ≡ true → page_fits b lone h p ≡ true → Within b p (count_at b p)
+fits_within b lone h p good e = let f = fit b lone h p e in within-page b p (count_at b p) good f.page f.full
 
 -- the walk of a page that is no root, with h levels under it
 abbrev pub walk_under : List ℕ → ℕ → ℕ → Walker
@@ -88,63 +72,73 @@ abbrev inner : List ℕ → ℕ → ℕ → Walker
 inner b zero p s = items by_top (entries_at b p) s
 inner b (suc h) p s = over (under by_top) (passed by_top) (λ e. walk_under b h e.1) (entries_at b p) s
 
-walk_is : (b : List ℕ) (lone : Bool) (h p : ℕ) (s : Status Key)
-    → walk by_top (page_count b) (entries_at b) (page_fits b) lone h p s
+walk_is : (b : List ℕ) (lone : Bool) (h p : ℕ) (s : Status Key) → walk by_top (page_count b) (entries_at b) (page_fits b) lone h p s
     ≡ if_good (inner b h p) (enter by_top (page_count b) (entries_at b) (page_fits b) lone h p s)
 unfolding walk
 walk_is b lone zero p s = refl
 walk_is b lone (suc h) p s = refl
 
--- whether page p is entered after m others is r, and there are n then
-module _ (b : List ℕ) (lone : Bool) (h p m n : ℕ) (r : Bool) (en : entering b lone h p m ≡ (r, n)) where
-  enter_is : (z : ℕ) → enter by_top (page_count b) (entries_at b) (page_fits b) lone h p (good_at b z m) ≡ status_of b (record { good = r; last = z }) n
-  unfolding entering
-  enter_is z = either (page_fits b lone h p && ltb m (page_count b))
-      (λ e. rw e (ap (λ (q : Bool × ℕ). status_of b (record { good = q.0; last = z }) q.1) (rw e at en)))
-      (λ e. rw e (ap (λ (q : Bool × ℕ). status_of b (record { good = q.0; last = z }) q.1) (rw e at en)))
+-- page p with h levels under it, after the state s
+module _ (b : List ℕ) (lone : Bool) (h p : ℕ) (s : Status Key) where
+  abbrev entry : Status Key
+  entry = entering b lone h p s
 
-  pub walk_refused : (z : ℕ) → r ≡ false → walk_from b lone h p z m ≡ status_of b (refused_at z) n
-  walk_refused z e =
-      walk_is b lone h p (good_at b z m) ∙ ap (if_good (inner b h p)) (enter_is z) ∙ rw e (if_not (inner b h p) (status_of b (refused_at z) n) refl)
+  abbrev walked : Status Key
+  walked = walking b lone h p s
 
-  module _ (e : r ≡ true) where
-    walk-on : (z : ℕ) → walk_from b lone h p z m ≡ inner b h p (good_at b z n)
-    walk-on z =
-        walk_is b lone h p (good_at b z m) ∙ ap (if_good (inner b h p)) (enter_is z) ∙ rw e (if_is (inner b h p) (good_at b z n) refl)
+  pub walk_bad : entry.good ≡ false → walked.good ≡ false
+  walk_bad e = ap (λ (x : Status Key). x.good) (walk_is b lone h p s) ∙ not_on (inner b h p) entry e
+
+  -- it is entered, and the state is t
+  module _ (t : Status Key) (entered : entry ≡ t) (good : t.good ≡ true) where
+    walk_on : walked ≡ inner b h p t
+    walk_on = walk_is b lone h p s ∙ ap (if_good (inner b h p)) entered ∙ if_is (inner b h p) t good
 
     fits : Fit b lone h p
-    unfolding entering
-    fits = fit b lone h p (either (page_fits b lone h p) (λ t. t) (λ t.
-        let q : (false, m) ≡ (r, n) = rw t at en in
-        contra (ap (λ (x : Bool × ℕ). x.0) q ∙ e) refl))
+    fits = fit b lone h p (either (page_fits b lone h p) (λ u. u) (λ u. contra (ap (λ (x : Status Key). x.good) entered ∙ good) (off u)))
+      where
+        off : page_fits b lone h p ≡ false → entry.good ≡ false
+        off u = either s.good (λ g. rw (g, u)) (λ g. rw g)
 
-    pub entered-within : header_good b ≡ true → Within b p (count_at b p)
-    entered-within g = within-page b p (count_at b p) g fits.page fits.full
+    pub walk_leaf : h ≡ 0 → walked ≡ items_from (key_at b p) (record_at b p) (count_at b p) 0 t
+    walk_leaf q =
+        let leaf = fits.leaf ∙ eq-eqb h 0 q in
+        walk_on ∙ rw (q, leaf-entries b p fits.page fits.full leaf) (items_by_number (key_at b p) (record_at b p) (count_at b p) 0 t)
 
-    -- its count, as it was read
-    module _ {k : ℕ} (ek : k ≡ count_at b p) where
-      pub walk-leaf : h ≡ 0 → (z : ℕ) → walk_from b lone h p z m ≡ items_from (key_at b p) (record_at b p) k 0 (good_at b z n)
-      walk-leaf q z =
-          let leaf = fits.leaf ∙ eq-eqb h 0 q in
-          walk-on z ∙ rw (q, leaf-entries b p fits.page fits.full leaf, ek)
-          (items_by_number (key_at b p) (record_at b p) (count_at b p) 0 (good_at b z n))
+    pub walk_upper : (g : ℕ) → h ≡ suc g → walked ≡ children_from (key_at b p) (lower_at b p) (walk_under b g) (count_at b p) 0 t
+    walk_upper g l =
+        let branch = fits.leaf ∙ ne_eqb h 0 (λ z. omega (arith, l, z)) in
+        let from_zero : 0 + count_at b p ≡ count_at b p = omega arith in
+        walk_on ∙ rw (l, branch-entries b p fits.page fits.full branch)
+        (rw from_zero at (children_by_number (key_at b p) (lower_at b p) (walk_under b g) (count_at b p) 0 t))
 
-      pub walk-upper : (h ≡ 0 → ⊥) → (z : ℕ)
-          → walk_from b lone h p z m ≡ children_from (key_at b p) (lower_at b p) (walk_under b (h - 1)) k 0 (good_at b z n)
-      walk-upper q z =
-          let branch = fits.leaf ∙ ne_eqb h 0 q in
-          let less : h ≡ suc (h - 1) = omega (arith, q) in
-          let start : 0 + count_at b p ≡ count_at b p = omega arith in
-          walk-on z ∙ upper (h - 1) less ∙ rw (branch-entries b p fits.page fits.full branch, ek)
-          (rw start at (children_by_number (key_at b p) (lower_at b p) (walk_under b (h - 1)) (count_at b p) 0 (good_at b z n)))
-        where
-          upper : (g : ℕ) → h ≡ suc g
-              → inner b h p (good_at b z n) ≡ over (under by_top) (passed by_top) (λ x. walk_under b g x.1) (entries_at b p) (good_at b z n)
-          upper g l = rw l
+-- the walk from the root tells whether the index is sound
+module _ (b : List ℕ) where
+  abbrev all_walked : Status Key
+  all_walked = walking b true (index_height b) (root_page b) start
 
--- the walk from the root, the index's height h above the leaves, comes to s after n pages
-module _ (b : List ℕ) (h p : ℕ) (eh : h ≡ height_from b (max_levels - 1) p) (ep : p ≡ root_page b) (n : ℕ) (s : Met)
-    (es : walk_from b true h p 0 0 ≡ status_of b s n) where
-  pub tree_is : (k : ℕ) → k ≡ page_count b → (s.good && eqb n (k - 1)) ≡ tree_good b
-  unfolding tree_good key_from
-  tree_is k ek = sym (ap (complete b) (rw (eh, ep) at es) ∙ rw (← ek))
+  pub tree_bad : all_walked.good ≡ false → tree_good b ≡ false
+  unfolding tree_good
+  tree_bad e = rw e
+
+  pub tree_is : (t : Status Key) → all_walked ≡ t → tree_good b ≡ (t.good && eqb t.entered (page_count b - 1))
+  unfolding tree_good
+  tree_is t e = ap (complete b) e
+
+-- what the audit answers
+module _ (b : List ℕ) (n : ℕ) where
+  pub audited_bad : header_good b ≡ false → n ≡ 24 → Audited b n
+  audited_bad bad e = rw e (answer-bad b bad)
+
+  pub audited_unsound : header_good b ≡ true → tree_good b ≡ false → n ≡ 25 → Audited b n
+  audited_unsound good bad e = rw e (answer-unsound b good bad)
+
+pub audited_sound : (b : List ℕ) → header_good b ≡ true → tree_good b ≡ true → Audited b 0
+audited_sound b good sound = answer-sound b good sound
+
+-- what the proofs of the functions on pages cite
+pub ruleset fit_steps = (page_within, fits_never, fits_off, fits_branch, fits_leaf, count_within)
+
+pub ruleset page_steps = (within_steps, walk_bad, walk_leaf, walk_upper, children_end, children_bad, children_stop, children_on)
+
+pub ruleset audit_steps = (audited_bad, audited_sound, audited_unsound)

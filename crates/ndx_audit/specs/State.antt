@@ -1,34 +1,22 @@
--- Steps: the audit's own values, as its test has them, and what its inner functions ask of the buffer. No public contract cites these: a reader need not
--- believe them.
-use Rattle.std.specs.Prelude.{ℕ, ◌+◌, ◌≤◌, Bool, true, false, cond, ◌&&◌, List, length, eqb, ltb}
-use Rattle.std.proofs.Math.Option.{Option, none, some}
-use Rattle.octets.specs.Store.{window}
-use Rattle.ndx_page.specs.Header.{page_count, key_length}
-use Rattle.ndx_sound.specs.Reading.{Key, entries_at}
-use Rattle.ndx_sound.specs.Walk.{Status, walk}
-use Rattle.ndx_sound.specs.AuditTest.{page_fits}
-use Rattle.ndx_sound.specs.TreeLaws.{by_top}
-use Rattle.ndx_audit.specs.declared.Met.{Met}
+-- Steps: the audit's own values, as its test has them. No public contract cites these: a reader need not believe them.
+use Rattle.std.specs.Prelude.{ℕ, ◌≡◌, true, false, Result, Option, Some, None, List, MatchResult}
+use Rattle.std.proofs.Math.Option as maybe
+use denote.Ref.{Bor}
+use Rattle.refusal.specs.Refusals.{refusal_number}
+use Rattle.refusal.specs.declared.Refusal.{Refusal}
+use Rattle.ndx_sound.specs.Reading.{Key}
+use Rattle.ndx_sound.specs.Walk.{Status}
+use Rattle.ndx_audit.specs.declared.Walk.{Walk}
 
--- a key that begins at z lies within the buffer
-abbrev pub KeyWithin : List ℕ → ℕ → Type 0
-KeyWithin b z = z + key_length b ≤ length b
+-- the last key that was met, or none
+abbrev pub met : Option (Bor (List ℕ)) → maybe.Option Key
+met None = maybe.none
+met (Some key) = maybe.some (maybe.some key.now)
 
--- the key that begins at z, or none if z is 0
-unfoldable pub key_from : List ℕ → ℕ → Option Key
-key_from b z = cond (eqb z 0) none (some (some (window b z (key_length b))))
+-- what a walk knows while all is good
+abbrev pub state : Walk → Status Key
+state w = record { good = true; last = met w.last; entered = w.entered }
 
--- what the walk knows, after it entered m pages; and if all was good
-abbrev pub status_of : List ℕ → Met → ℕ → Status Key
-status_of b s m = record { good = s.good; last = key_from b s.last; entered = m }
-
-abbrev pub good_at : List ℕ → ℕ → ℕ → Status Key
-good_at b z m = record { good = true; last = key_from b z; entered = m }
-
--- whether page p is entered after m others, and how many there are then
-unfoldable pub entering : List ℕ → Bool → ℕ → ℕ → ℕ → Bool × ℕ
-entering b lone h p m = cond (page_fits b lone h p && ltb m (page_count b)) (true, m + 1) (false, m)
-
--- the walk of page p with h levels under it, after the key that begins at z and m pages
-abbrev pub walk_from : List ℕ → Bool → ℕ → ℕ → ℕ → ℕ → Status Key
-walk_from b lone h p z m = walk by_top (page_count b) (entries_at b) (page_fits b) lone h p (good_at b z m)
+-- a step of the test came to s: the code's step came to the same, or it refused, since not all was good
+abbrev pub Ends : {A : Type 0} → Status Key → Result A Refusal → Status Key → Type 0
+Ends s result t = MatchResult result (λ done. s ≡ t) (λ refusal. (s.good ≡ false) × (refusal_number refusal ≡ 25))

@@ -4,142 +4,50 @@
 // the file's size on any bytes. The walk calls itself on a page's children, 15 levels at most.
 #![tactic(auto)]
 
-ghost use Rattle.std.specs.Prelude.{◌≡◌, Bool, true, not, ◌&&◌, List, ℕ, ◌+◌, ◌-◌, ◌≤◌};
+ghost use Rattle.std.specs.Prelude.{◌≡◌, Bool, true, false, not, ◌&&◌, ℕ, ◌+◌, ◌-◌, ◌≤◌, OnOk, MatchResult};
 ghost use Rattle.std.proofs.Math.Option.{some};
-ghost use Rattle.octets.specs.Store.{window};
-ghost use Rattle.ndx_page.specs.Header.{max_levels, page_count, key_length, is_page, header_good};
+ghost use Rattle.refusal.specs.Refusals.{refusal_number, numbered};
+ghost use Rattle.refusal.specs.After.{change_code};
+ghost use Rattle.ndx_page.specs.Header.{max_levels, page_count, is_page};
 ghost use Rattle.ndx_page.specs.Page.{count_at, lower_at, record_at, key_at, is_leaf};
 ghost use Rattle.ndx_page.specs.Within.{Within};
+ghost use Rattle.ndx_sound.specs.Reading.{entries_at};
 ghost use Rattle.ndx_sound.specs.Sound.{Audited};
-ghost use Rattle.ndx_sound.specs.Walk.{is_after, at_most, item, passed};
+ghost use Rattle.ndx_sound.specs.Walk.{is_after, at_most, item, passed, enter, walk};
 ghost use Rattle.ndx_sound.specs.AuditTest.{zeros, page_fits, height_from, tree_good};
 ghost use Rattle.ndx_sound.specs.TreeLaws.{by_top};
-ghost use Rattle.ndx_audit.specs.State.{KeyWithin, key_from, status_of, good_at, entering, walk_from};
-ghost use Rattle.ndx_audit.specs.Steps.{items_from};
+ghost use Rattle.ndx_audit.specs.State.{met, state, Ends};
+ghost use Rattle.ndx_audit.specs.Steps.{pair_step, pairs_step, pass_step, entering, walking};
 
-use ndx_page::PageNumber;
-
-// What the walk knows: whether all was good, and where the last key that it met begins, 0 if it met none.
-#[derive(Clone, Copy)]
-struct Met {
-    good: bool,
-    last: usize,
-}
-
-// Whether the key that begins at `at` is above the last one met.
-fn is_after(index: &[u8], last: usize, at: usize) -> bool
-    requires { (header_good index.now ≡ true) × KeyWithin index.now last × KeyWithin index.now at }
-    ensures { result ≡ is_after by_top (key_from index.now last) (some (window index.now at (key_length index.now))) }
-{
-    if last == 0 {
-        return true;
-    }
-    octets::is_below(idx_keys::key_order(index, ndx_page::key_length(index) as usize, last, at))
-}
-
-// Whether the last key met is at or below the key that begins at `at`.
-fn at_most(index: &[u8], last: usize, at: usize) -> bool
-    requires { (header_good index.now ≡ true) × KeyWithin index.now last × KeyWithin index.now at }
-    ensures { result ≡ at_most by_top (key_from index.now last) (some (window index.now at (key_length index.now))) }
-{
-    if last == 0 {
-        return true;
-    }
-    !octets::is_below(idx_keys::key_order(index, ndx_page::key_length(index) as usize, at, last))
-}
-
-// A pair of a leaf, entry i: its record number is above 0, and its key is above the last one met.
-fn pair(index: &[u8], page: PageNumber, i: usize, last: usize) -> Met
-    requires { (header_good index.now ≡ true) × Within index.now page.0 (i + 1) × KeyWithin index.now last }
-    ensures { ((m : ℕ)
-        → item by_top (some (key_at index.now page.0 i), record_at index.now page.0 i) (good_at index.now last m)
-        ≡ status_of index.now result m)
-        × KeyWithin index.now result.last }
-{
-    let at = ndx_page::key_offset(index, page, i);
-    if ndx_page::record_number(index, page, i).0 == 0 {
-        return Met { good: false, last };
-    }
-    if !is_after(index, last, at) {
-        return Met { good: false, last };
-    }
-    Met {
-        good: true,
-        last: at,
-    }
-}
-
-// The pairs of a leaf, one after another, up to the first that is not good.
-fn pairs(index: &[u8], page: PageNumber, count: usize, last: usize) -> Met
-    requires { (header_good index.now ≡ true) × Within index.now page.0 count × KeyWithin index.now last }
-    ensures { ((m : ℕ)
-        → items_from (key_at index.now page.0) (record_at index.now page.0) count 0 (good_at index.now last m)
-        ≡ status_of index.now result m)
-        × KeyWithin index.now result.last }
-{
-    let mut prior = last;
-    let mut i = 0;
-    while i < count {
-        let met = pair(index, page, i, prior);
-        if !met.good {
-            return met;
-        }
-        prior = met.last;
-        i += 1;
-    }
-    Met {
-        good: true,
-        last: prior,
-    }
-}
-
-// The key above child i, after the child: it is at or above the last key met.
-fn pass(index: &[u8], page: PageNumber, i: usize, met: Met) -> Met
-    requires { (header_good index.now ≡ true) × Within index.now page.0 (i + 1) × KeyWithin index.now met.last }
-    ensures { ((m : ℕ)
-        → passed by_top (status_of index.now met m) (some (key_at index.now page.0 i)) ≡ status_of index.now result m)
-        × KeyWithin index.now result.last }
-{
-    let last = met.last;
-    if !met.good {
-        return Met { good: false, last };
-    }
-    let at = ndx_page::key_offset(index, page, i);
-    if !at_most(index, last, at) {
-        return Met { good: false, last };
-    }
-    Met {
-        good: true,
-        last: at,
-    }
-}
+use idx_page::MAX_LEVELS;
+use ndx_page::{Index, PageNumber};
+use refusal::Refusal;
 
 // Whether the first `count` entries of a page have lower page 0.
-fn no_lower(index: &[u8], page: PageNumber, count: usize) -> bool
-    requires { Within index.now page.0 count }
-    ensures { result ≡ zeros (lower_at index.now page.0) count 0 }
+#[tactic(auto, using(crate::specs::LoopLaws::lower_steps))]
+fn no_lower(index: &Index, page: PageNumber, count: usize) -> bool
+    requires { Within index.now.bytes.now page.0 count }
+    ensures { result ≡ zeros (lower_at index.now.bytes.now page.0) count 0 }
 {
-    let mut i = 0;
-    while i < count {
-        if ndx_page::lower(index, page, i).0 != 0 {
+    for i in 0..count {
+        if index.lower(page, i).0 != 0 {
             return false;
         }
-        i += 1;
     }
     true
 }
 
 // Whether a page fits, `height` levels above the leaves: its number, whether it is a leaf, its count, and that a leaf has no lower pages.
-fn page_fits(index: &[u8], page: PageNumber, height: u32, lone: bool) -> bool
-    requires { header_good index.now ≡ true }
-    ensures { result ≡ page_fits index.now lone height page.0 }
+#[tactic(auto, using(crate::specs::PageLaws::fit_steps))]
+fn page_fits(index: &Index, page: PageNumber, height: u32, lone: bool) -> bool
+    ensures { result ≡ page_fits index.now.bytes.now lone height page.0 }
 {
-    if !ndx_page::is_page(ndx_page::page_count(index), page) {
+    if !index.is_page(page) {
         return false;
     }
-    let leaf = ndx_page::is_leaf(index, page);
-    let count = ndx_page::key_count(index, page);
-    let most = ndx_page::keys_per_page(index) as usize;
+    let leaf = index.is_leaf(page);
+    let count = index.key_count(page);
+    let most = index.keys_per_page() as usize;
     if !((leaf == (height == 0)) & ndx_page::count_good(most, count, lone, leaf)) {
         return false;
     }
@@ -149,109 +57,174 @@ fn page_fits(index: &[u8], page: PageNumber, height: u32, lone: bool) -> bool
     no_lower(index, page, count)
 }
 
-// Whether a page fits, and fewer pages were entered than there are. Then it is counted.
-fn enter(index: &[u8], entered: &mut u32, page: PageNumber, height: u32, lone: bool) -> bool
-    requires { header_good index.now ≡ true }
-    ensures { entering index.now lone height page.0 entered.old ≡ (result, entered.new) }
-{
-    if !page_fits(index, page, height, lone) {
-        return false;
-    }
-    let before = *entered;
-    if ndx_page::page_count(index) <= before {
-        return false;
-    }
-    *entered = before + 1;
-    true
+// A walk under way: how many pages it entered, and the last key that it met.
+#[derive(Clone, Copy)]
+struct Walk<'a> {
+    entered: u32,
+    last: Option<&'a [u8]>,
 }
 
-// Walks a page, `height` levels above the leaves, and all that is under it, up to the first that is not good.
-fn walk(
-    index: &[u8],
-    entered: &mut u32,
-    page: PageNumber,
-    height: u32,
-    lone: bool,
-    last: usize,
-) -> Met
-    requires { (header_good index.now ≡ true) × KeyWithin index.now last }
-    ensures { (walk_from index.now lone height page.0 last entered.old ≡ status_of index.now result entered.new)
-        × KeyWithin index.now result.last }
-{
-    if !enter(index, entered, page, height, lone) {
-        return Met { good: false, last };
-    }
-    let count = ndx_page::key_count(index, page);
-    if height == 0 {
-        return pairs(index, page, count, last);
-    }
-    let under = height - 1;
-    let mut prior = last;
-    let mut i = 0;
-    while i < count {
-        let child = ndx_page::lower(index, page, i);
-        let met = walk(index, entered, child, under, false, prior);
-        let above = pass(index, page, i, met);
-        if !above.good {
-            return above;
+impl<'a> Walk<'a> {
+    // Whether a key is above the last one met.
+    #[tactic(auto, using(idx_page::specs::KeyOrderLaws::below_not_le))]
+    fn is_after(&self, key: &[u8]) -> bool
+        ensures { result ≡ is_after by_top (met self.now.last) (some key.now) }
+    {
+        match self.last {
+            Some(last) => octets::compare(last, key).is_lt(),
+            None => true,
         }
-        prior = above.last;
-        i += 1;
     }
-    let extra = ndx_page::lower(index, page, i);
-    walk(index, entered, extra, under, false, prior)
+
+    // Whether the last key met is at or below a key.
+    #[tactic(auto, using(idx_page::specs::KeyOrderLaws::below_not_le))]
+    fn at_most(&self, key: &[u8]) -> bool
+        ensures { result ≡ at_most by_top (met self.now.last) (some key.now) }
+    {
+        match self.last {
+            Some(last) => !octets::compare(key, last).is_lt(),
+            None => true,
+        }
+    }
+
+    // A pair of a leaf, entry i: its record number is above 0, and its key is above the last one met.
+    fn pair(&mut self, index: &Index<'a>, page: PageNumber, i: usize) -> Result<(), Refusal>
+        requires { Within index.now.bytes.now page.0 (i + 1) }
+        ensures { Ends (pair_step index.now.bytes.now page.0 i (state self.old)) result (state self.new) }
+    {
+        let key = index.key(page, i);
+        if index.record_number(page, i).0 == 0 {
+            return Err(Refusal::IndexNotSound);
+        }
+        if !self.is_after(key) {
+            return Err(Refusal::IndexNotSound);
+        }
+        self.last = Some(key);
+        Ok(())
+    }
+
+    // The pairs of a leaf, one after another.
+    #[tactic(auto, using(crate::specs::LoopLaws::pair_steps))]
+    fn pairs(&mut self, index: &Index<'a>, page: PageNumber, count: usize) -> Result<(), Refusal>
+        requires { Within index.now.bytes.now page.0 count }
+        ensures { Ends (pairs_step index.now.bytes.now page.0 count (state self.old)) result (state self.new) }
+    {
+        for i in 0..count {
+            self.pair(index, page, i)?;
+        }
+        Ok(())
+    }
+
+    // The key above child i, after the child: it is at or above the last key met.
+    fn pass(&mut self, index: &Index<'a>, page: PageNumber, i: usize) -> Result<(), Refusal>
+        requires { Within index.now.bytes.now page.0 (i + 1) }
+        ensures { Ends (pass_step index.now.bytes.now page.0 i (state self.old)) result (state self.new) }
+    {
+        let key = index.key(page, i);
+        if !self.at_most(key) {
+            return Err(Refusal::IndexNotSound);
+        }
+        self.last = Some(key);
+        Ok(())
+    }
+
+    // Counts a page, if it fits and fewer pages were entered than there are.
+    #[tactic(auto, using(crate::specs::PageLaws::fits_within))]
+    fn enter(
+        &mut self,
+        index: &Index<'a>,
+        page: PageNumber,
+        height: u32,
+        lone: bool,
+    ) -> Result<(), Refusal>
+        ensures ends { Ends (entering index.now.bytes.now lone height page.0 (state self.old)) result (state self.new) }
+        ensures fits { OnOk result (Within index.now.bytes.now page.0 (count_at index.now.bytes.now page.0)) }
+    {
+        if !page_fits(index, page, height, lone) {
+            return Err(Refusal::IndexNotSound);
+        }
+        if index.page_count() <= self.entered {
+            return Err(Refusal::IndexNotSound);
+        }
+        self.entered += 1;
+        Ok(())
+    }
+
+    // Walks a page, `height` levels above the leaves, and all that is under it.
+    #[tactic(auto, using(crate::specs::PageLaws::page_steps))]
+    fn page(
+        &mut self,
+        index: &Index<'a>,
+        page: PageNumber,
+        height: u32,
+        lone: bool,
+    ) -> Result<(), Refusal>
+        ensures { Ends (walking index.now.bytes.now lone height page.0 (state self.old)) result (state self.new) }
+    {
+        self.enter(index, page, height, lone)?;
+        let count = index.key_count(page);
+        if height == 0 {
+            return self.pairs(index, page, count);
+        }
+        let under = height - 1;
+        for i in 0..count {
+            self.page(index, index.lower(page, i), under, false)?;
+            self.pass(index, page, i)?;
+        }
+        self.page(index, index.lower(page, count), under, false)
+    }
 }
 
 // Whether a number is that of a page which is not a leaf.
-fn is_branch(index: &[u8], page: PageNumber) -> bool
-    requires { header_good index.now ≡ true }
-    ensures { result ≡ (is_page (page_count index.now) page.0 && not (is_leaf index.now page.0)) }
+#[tactic(auto, using(ndx_page::specs::IndexLaws::page_within))]
+fn is_branch(index: &Index, page: PageNumber) -> bool
+    ensures { result ≡ (is_page (page_count index.now.bytes.now) page.0 && not (is_leaf index.now.bytes.now page.0)) }
 {
-    if !ndx_page::is_page(ndx_page::page_count(index), page) {
+    if !index.is_page(page) {
         return false;
     }
-    !ndx_page::is_leaf(index, page)
+    !index.is_leaf(page)
 }
 
 // The number of levels under the root, 14 at most, which the first lower pages show.
-fn height_of(index: &[u8], root: PageNumber) -> u32
-    requires { header_good index.now ≡ true }
-    ensures { result ≡ height_from index.now (max_levels - 1) root.0 }
+#[tactic(auto, using(crate::specs::LoopLaws::height_steps))]
+fn height_of(index: &Index, root: PageNumber) -> u32
+    ensures { result ≡ height_from index.now.bytes.now (max_levels - 1) root.0 }
 {
-    let mut height = 0;
     let mut page = root;
-    while height < idx_page::MAX_LEVELS - 1 {
+    for height in 0..MAX_LEVELS - 1 {
         if !is_branch(index, page) {
             return height;
         }
-        page = ndx_page::lower(index, page, 0);
-        height += 1;
+        page = index.lower(page, 0);
     }
-    height
+    MAX_LEVELS - 1
 }
 
-// Whether an index with a good header is sound.
-fn tree_good(index: &[u8]) -> bool
-    requires { header_good index.now ≡ true }
-    ensures { result ≡ tree_good index.now }
+// Walks an index from its root, and tells whether it is sound: each page but the header was entered.
+#[tactic(auto, using(ndx_page::specs::IndexLaws::some_pages, crate::specs::PageLaws::tree_bad, crate::specs::PageLaws::tree_is))]
+fn walk_all(index: &Index) -> Result<(), Refusal>
+    ensures { MatchResult result
+        (λ sound. tree_good index.now.bytes.now ≡ true)
+        (λ refusal. (tree_good index.now.bytes.now ≡ false) × (refusal_number refusal ≡ 25)) }
 {
-    let root = ndx_page::root(index);
+    let root = index.root();
     let height = height_of(index, root);
-    let mut entered = 0;
-    let met = walk(index, &mut entered, root, height, true, 0);
-    met.good & (entered == ndx_page::page_count(index) - 1)
+    let mut walk = Walk {
+        entered: 0,
+        last: None,
+    };
+    walk.page(index, root, height, true)?;
+    if walk.entered != index.page_count() - 1 {
+        return Err(Refusal::IndexNotSound);
+    }
+    Ok(())
 }
 
-// The audit: 24 if the header is not good, 0 if the index is sound, else 25.
-pub fn audit(index: &[u8]) -> u32
-    ensures { Audited index.now result }
+// The audit: whether the header is good, and then whether the index is sound.
+#[tactic(auto, using(crate::specs::PageLaws::audit_steps))]
+pub fn audit(index: &[u8]) -> Result<(), Refusal>
+    ensures { Audited index.now (change_code (numbered result)) }
 {
-    if !ndx_page::header_good(index) {
-        return refusal::INDEX_HEADER;
-    }
-    if tree_good(index) {
-        0
-    } else {
-        refusal::INDEX_NOT_SOUND
-    }
+    walk_all(&Index::open(index)?)
 }

@@ -10,7 +10,7 @@ use Rattle.tree.proofs.LookupLaws.{lookup_by-find}
 use Rattle.idx_page.specs.KeyOrder.{bytes_order}
 use Rattle.idx_page.specs.Header as idx-header
 use Rattle.idx_lookup.specs.Lookup as idx-lookup
-use Rattle.idx_lookup.specs.declared.Answer.{Answer}
+use Rattle.idx_lookup.specs.Answer.{Answer}
 use Rattle.idx_lookup_laws.specs.FoundLaws.{answer_of}
 use Rattle.idx_lookup_laws.specs.HeldLaws.{lookup-by}
 use Rattle.idx_sound.specs.Sound as idx

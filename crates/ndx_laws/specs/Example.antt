@@ -1,5 +1,5 @@
 -- Laws: a small NDX index is sound, and is not where a single byte is changed; lookups in it, and in a full branch: computed statements. Assumes nothing.
-use Rattle.std.specs.Prelude.{ℕ, zero, suc, ◌-◌, ◌≡◌, refl, true, false, List, [], ◌∷◌, ◌++◌, length, replicate, set}
+use Rattle.std.specs.Prelude.{ℕ, zero, suc, ◌-◌, ◌≡◌, refl, true, false, List, [], ◌∷◌, ◌++◌, length, replicate, set, Err}
 use Rattle.refusal.specs.Checks.{unless}
 use Rattle.octets.specs.Bytes.{le16, le32, to_le16, to_le32}
 use Rattle.octets.specs.Store.{window}
@@ -7,7 +7,7 @@ use Rattle.octets.specs.Order.{bytes_le, ordering}
 use Rattle.idx_page.specs.Header.{key_length_good}
 use Rattle.idx_page.specs.Page.{first_at_or_above}
 use Rattle.idx_lookup.specs.Lookup.{record_of}
-use Rattle.idx_lookup.specs.declared.Answer.TheVariants as answer
+use Rattle.idx_lookup.specs.Answer as answer
 use Rattle.ndx_page.specs.Header.{page_size, is_page, pages_good, entry_size_of, keys_good, header_good}
 use Rattle.ndx_page.specs.Page.{entry_offset, key_offset, lower_at, record_at, key_at, is_leaf, count_good, page_good}
 use Rattle.ndx_sound.specs.Reading.{entries_from, entries_at}
@@ -73,17 +73,17 @@ full_branch : List ℕ
 full_branch = header 1 4 42 ++ page 42 (copies 42 (entry 2 0 65) ++ to_le32 3) ++ page 1 (entry 0 1 65) ++ page 1 (entry 0 2 66)
 
 -- found above and below a key above, past all of them, and absent; a key of the wrong length; the extra child's page
-looked : (lookup_rule levels3 (65 ∷ []) ≡ answer.Found (record_of 1) 3)
-    × (lookup_rule levels3 (67 ∷ []) ≡ answer.Found (record_of 3) 3)
-    × (lookup_rule levels3 (72 ∷ []) ≡ answer.Found (record_of 8) 3)
-    × (lookup_rule levels3 (68 ∷ []) ≡ answer.Absent 3)
-    × (lookup_rule levels3 (73 ∷ []) ≡ answer.Absent 3)
-    × (lookup_rule levels3 (65 ∷ 66 ∷ []) ≡ answer.Refused 27)
-    × (lookup_rule (set levels3 16 1) (65 ∷ []) ≡ answer.Refused 24)
-    × (lookup_rule (set levels3 528 1) (73 ∷ []) ≡ answer.Refused 25)
-    × (lookup_rule (set levels3 528 8) (73 ∷ []) ≡ answer.Refused 25)
-    × (lookup_rule full_branch (65 ∷ []) ≡ answer.Found (record_of 1) 2)
-    × (lookup_rule full_branch (66 ∷ []) ≡ answer.Found (record_of 2) 2)
+looked : (lookup_rule levels3 (65 ∷ []) ≡ answer.found (record_of 1) 3)
+    × (lookup_rule levels3 (67 ∷ []) ≡ answer.found (record_of 3) 3)
+    × (lookup_rule levels3 (72 ∷ []) ≡ answer.found (record_of 8) 3)
+    × (lookup_rule levels3 (68 ∷ []) ≡ answer.absent 3)
+    × (lookup_rule levels3 (73 ∷ []) ≡ answer.absent 3)
+    × (lookup_rule levels3 (65 ∷ 66 ∷ []) ≡ Err 27)
+    × (lookup_rule (set levels3 16 1) (65 ∷ []) ≡ Err 24)
+    × (lookup_rule (set levels3 528 1) (73 ∷ []) ≡ Err 25)
+    × (lookup_rule (set levels3 528 8) (73 ∷ []) ≡ Err 25)
+    × (lookup_rule full_branch (65 ∷ []) ≡ answer.found (record_of 1) 2)
+    × (lookup_rule full_branch (66 ∷ []) ≡ answer.found (record_of 2) 2)
 unfolding levels3 full_branch copies header page entry padded le16 le32 to_le16 to_le32 window bytes_le ordering is_page pages_good key_length_good
     entry_size_of keys_good header_good entry_offset key_offset lower_at record_at key_at is_leaf count_good page_good first_at_or_above leaf_says
     entry_says page_says visit_rule lookup_from lookup_rule unless

@@ -1,7 +1,7 @@
 -- Laws: lookup on a sound NDX index. Its steps give what the sorted list of the leaves' pairs has under the key, after as many pages as there are levels.
 -- Assumes nothing.
 use Prim.Native.Nat.{ℕ, zero, suc, ◌+◌, ◌-◌, ◌≤◌, ◌<◌}
-use Rattle.std.specs.Prelude.{◌≡◌, refl, Bool, true, false, cond, ◌||◌, not, eqb}
+use Rattle.std.specs.Prelude.{◌≡◌, refl, Bool, true, false, cond, ◌||◌, not, eqb, Ok}
 use Rattle.std.proofs.Common.{sym, ap, ◌∙◌, subst}
 use Rattle.std.proofs.Math.Path.{ap₂}
 use mathlib.Core.List.{List, [], ◌∷◌, append-nil}
@@ -24,14 +24,16 @@ use Rattle.idx_page.specs.Page.{first_at_or_above}
 use Rattle.idx_page.specs.PageLaws.{first_bound}
 use Rattle.idx_page.specs.KeyOrder.{bytes_order}
 use Rattle.idx_page.specs.KeyOrderLaws.{equal-le}
-use Rattle.idx_lookup.specs.Lookup.{record_of}
-use Rattle.idx_lookup.specs.declared.Answer.{Answer}
-use Rattle.idx_lookup.specs.declared.Answer.TheVariants as answer
+use Rattle.idx_lookup.specs.Lookup.{record_of, decided}
+use Rattle.idx_lookup.specs.Answer.{Answer}
+use Rattle.idx_lookup.specs.Answer as answer
 use Rattle.idx_lookup_laws.specs.FoundLaws.{answer_of}
 use Rattle.ndx_page.specs.Header.{max_levels, root_page, page_count, key_length, keys_per_page, is_page}
 use Rattle.ndx_page.specs.Page.{count_at, lower_at, record_at, key_at, is_leaf, count_good, page_good}
-use Rattle.ndx_page.specs.Lookup.{page_of, leaf_says, entry_says, page_says, visit_rule, decided, lookup_from, lookup_rule}
-use Rattle.ndx_page.specs.declared.Visit.TheVariants as visit
+use Rattle.ndx_page.specs.Lookup.{page_of, leaf_says, entry_says, page_says, visit_rule, lookup_from, lookup_rule}
+use Rattle.ndx_page.specs.declared.PageNumber.{PageNumber}
+use Rattle.idx_lookup.specs.AnswerLaws.{absent-found}
+use Rattle.idx_lookup.specs.Visit as visit
 use Rattle.ndx_sound.specs.Reading.{Key, Entries, leaf_entries, entries_at, index_tree, leaf_pairs}
 use Rattle.ndx_sound.specs.ReadingLaws.{first-le, seek_among, seek_past, leaf-entries, branch-entries}
 use Rattle.ndx_sound.specs.Sound.{Sound}
@@ -39,7 +41,7 @@ use Rattle.ndx_sound.specs.TreeLaws.{by_top, Fine, fine, listed, ordered}
 
 -- a visit passes its checks
 visit-passes : (b key : List ℕ) (height j p : ℕ) (last : Bool) → Fine b height j p → (is_leaf b p || not last) ≡ true
-    → visit_rule b key p (eqb j 0) last ≡ page_says b key p
+    → visit_rule b key p (eqb j 0) last ≡ Ok (page_says b key p)
 unfolding visit_rule page_good count_good
 visit-passes b key height j p last f l =
     let good : page_good b p (eqb j 0) last ≡ true = rw (f.page, le-leb _ _ f.full, f.some) l in
@@ -61,7 +63,7 @@ module _ (b key : List ℕ) (p : ℕ) (page : is_page (page_count b) p ≡ true)
       (λ e. f (eqb-true i (count_at b p) e))
       (λ e. g (eqb-false i (count_at b p) e) (omega (arith, bound, eqb-false i (count_at b p) e)))
 
-  decided-leaf : (go : ℕ → Answer) (m : ℕ) (t : Bool) (r : ℕ)
+  decided-leaf : (go : PageNumber → Answer) (m : ℕ) (t : Bool) (r : ℕ)
       → decided go m (cond t (visit.Found (record_of r)) visit.Absent) ≡ answer_of (cond t (some r) none) m
   decided-leaf go m true r = refl
   decided-leaf go m false r = refl
@@ -76,7 +78,7 @@ module _ (b key : List ℕ) (p : ℕ) (page : is_page (page_count b) p ≡ true)
       let a = append-nil (leaf_entries b p (count_at b p)) in
       ap (seek by_top (some key)) (leaf-entries b p page full l ∙ sym a) ∙ seek_among (key_at b p) (record_at b p) key n 0 [] h
 
-  leaf_decides : (go : ℕ → Answer) (m : ℕ) → is_leaf b p ≡ true → decided go m (page_says b key p) ≡ answer_of (find by_top (some key) (entries_at b p)) m
+  leaf_decides : (go : PageNumber → Answer) (m : ℕ) → is_leaf b p ≡ true → decided go m (page_says b key p) ≡ answer_of (find by_top (some key) (entries_at b p)) m
   unfolding page_says entry_says leaf_says
   leaf_decides go m l = searched
       (λ e. rw (leaf-seek-none l e, l, eq-eqb i (count_at b p) e))
@@ -101,8 +103,8 @@ module _ (b key : List ℕ) (p : ℕ) (page : is_page (page_count b) p ≡ true)
   unfolding page_says entry_says
   branch_says l = rw l
 
-  upper_decides : (go : ℕ → Answer) (m : ℕ) (f : Key × ℕ → Option ℕ) (g : Key × ℕ → List ℕ) → is_leaf b p ≡ false
-      → ((e : Key × ℕ) → seek by_top (some key) (entries_at b p) ≡ some e → go e.1 ≡ answer_of (f e) (m + length (g e)))
+  upper_decides : (go : PageNumber → Answer) (m : ℕ) (f : Key × ℕ → Option ℕ) (g : Key × ℕ → List ℕ) → is_leaf b p ≡ false
+      → ((e : Key × ℕ) → seek by_top (some key) (entries_at b p) ≡ some e → go (page_of e.1) ≡ answer_of (f e) (m + length (g e)))
       → decided go m (page_says b key p) ≡ answer_of (follow f (seek by_top (some key) (entries_at b p))) (m + length (onward g (seek by_top (some key)
       (entries_at b p))))
   upper_decides go m f g l ok =
@@ -163,7 +165,7 @@ module _ (b key : List ℕ) (height : ℕ) where
       rw s (ap suc (all-pages h (suc j) x.1 x.0 (omega arith) (seek-all (Along (suc h) (suc j)) (some key) (B p) x u.1 s))))
 
   page-visited : (j left p : ℕ) → j ≤ height → suc left + j ≡ max_levels → height < max_levels → Fine b height j p
-      → visit_rule b key p (eqb (max_levels - left) 1) (eqb left 0) ≡ page_says b key p
+      → visit_rule b key p (eqb (max_levels - left) 1) (eqb left 0) ≡ Ok (page_says b key p)
   page-visited j left p l e few f =
       let d : max_levels - left ≡ j + 1 = omega arith in
       let passes : (is_leaf b p || not (eqb left 0)) ≡ true = either (eqb j height)
@@ -179,7 +181,7 @@ module _ (b key : List ℕ) (height : ℕ) where
         let f = u.0 in
         let d : max_levels - left ≡ j + 1 = omega arith in
         let leaf = f.leaf ∙ eq-eqb j height (omega arith) in
-        rw (page-visited j left p (omega arith) l few f, d) (leaf_decides b key p f.page f.full (lookup_from left b key) (j + 1) leaf)
+        rw (page-visited j left p (omega arith) l few f, d) (leaf_decides b key p f.page f.full (λ c. lookup_from left b key c.0) (j + 1) leaf)
     descends (suc h) j zero p a e l u = absurd (omega arith)
     descends (suc h) j (suc left) p a e l u =
         let f = u.0 in
@@ -188,14 +190,14 @@ module _ (b key : List ℕ) (height : ℕ) where
         let rest = onward (λ x. pages_from h x.1) (seek by_top (some key) (B p)) in
         let n : j + length (p ∷ rest) ≡ j + 1 + length rest = omega arith in
         rw (page-visited j (suc left) p (omega arith) l few f, d, n)
-        (upper_decides b key p f.page f.full (lookup_from (suc left) b key) (j + 1) (λ x. record_from h x.1) (λ x. pages_from h x.1) branch
+        (upper_decides b key p f.page f.full (λ c. lookup_from (suc left) b key c.0) (j + 1) (λ x. record_from h x.1) (λ x. pages_from h x.1) branch
         (λ x s. let y : suc j ≡ j + 1 = omega arith in
         rw y at (descends h (suc j) left x.1 x.0 (omega arith) (omega arith) (seek-all (Along (suc h) (suc j)) (some key) (B p) x u.1 s))))
 
 -- the answers are not one another
-answer-none : (o : Option ℕ) (m n : ℕ) → answer_of o m ≡ answer.Absent n → o ≡ none
+answer-none : (o : Option ℕ) (m n : ℕ) → answer_of o m ≡ answer.absent n → o ≡ none
 answer-none none m n e = refl
-answer-none (some r) m n e = impossible (cc)
+answer-none (some r) m n e = absent-found n (record_of r) m (sym e)
 
 -- from the root of a sound index down
 module _ (b key : List ℕ) (s : Sound b) (e : length key ≡ key_length b) where
@@ -240,12 +242,12 @@ module _ (b key : List ℕ) (s : Sound b) (e : length key ≡ key_length b) wher
   lookup-list = lookup-tree ∙ rw (found_in, levels-visited)
 
   -- Theorem: a key that is there is found after as many pages as there are levels, and one that is not there is absent after as many
-  pub found-pages : (n : ℕ) → find bytes_order key (leaf_pairs b s.height) ≡ some n → lookup_rule b key ≡ answer.Found (record_of n) (s.height + 1)
+  pub found-pages : (n : ℕ) → find bytes_order key (leaf_pairs b s.height) ≡ some n → lookup_rule b key ≡ answer.found (record_of n) (s.height + 1)
   found-pages n f = lookup-list ∙ rw f
 
-  pub absent-pages : find bytes_order key (leaf_pairs b s.height) ≡ none → lookup_rule b key ≡ answer.Absent (s.height + 1)
+  pub absent-pages : find bytes_order key (leaf_pairs b s.height) ≡ none → lookup_rule b key ≡ answer.absent (s.height + 1)
   absent-pages f = lookup-list ∙ rw f
 
   -- "absent exactly when there is none"
-  pub absent-exactly : (n : ℕ) → lookup_rule b key ≡ answer.Absent n → find bytes_order key (leaf_pairs b s.height) ≡ none
+  pub absent-exactly : (n : ℕ) → lookup_rule b key ≡ answer.absent n → find bytes_order key (leaf_pairs b s.height) ≡ none
   absent-exactly n q = answer-none (find bytes_order key (leaf_pairs b h)) (h + 1) n (sym lookup-list ∙ q)

@@ -1,8 +1,9 @@
 -- Laws: what a good header and the number of a page say, taken apart and put together. Assumes nothing.
-use Rattle.std.specs.Prelude.{ℕ, ◌+◌, ◌*◌, ◌^◌, ◌≤◌, ◌<◌, ◌≡◌, true, List, length}
+use Rattle.std.specs.Prelude.{ℕ, ◌+◌, ◌*◌, ◌^◌, ◌≤◌, ◌<◌, ◌≡◌, true, false, List, length, leb}
 use Rattle.std.proofs.Math.Path.{subst⁻¹}
 use Rattle.std.proofs.Common.{le_of_lt, lt_of_le_of_lt, mul-le-mul_left, mul-lt-mul_of_pos_right, arith, pow_pos, pow-add, leb-true, ltb-true, eqb-true}
 use Rattle.std.proofs.Common.{le-leb, lt-ltb}
+use Rattle.std.proofs.lemmas.Bool.{lt-leb}
 use Rattle.basis.specs.Tests.{both, join}
 use Rattle.idx_page.specs.HeaderLaws.{good-key-length}
 use Rattle.ndx_page.specs.Header.{page_size, max_bytes, max_key, root_page, page_count, key_length, keys_per_page, key_type, entry_size, character_keys}
@@ -66,3 +67,11 @@ pub product_fits : {a b : ℕ} → a < 2 ^ 32 → b < 2 ^ 32 → a * b < 2 ^ 64
 product_fits {a} {b} ha hb =
     subst⁻¹ (λ (n : ℕ). a * b < n) (pow-add 2 32 32)
     (lt_of_le_of_lt (mul-le-mul_left a (le_of_lt hb)) (mul-lt-mul_of_pos_right ha (pow_pos 32)))
+
+-- the header's own test of its length
+pub long_enough : (b : List ℕ) → page_size ≤ length b → leb page_size (length b) ≡ true
+long_enough b l = le-leb _ _ l
+
+pub too_short : (b : List ℕ) → length b < page_size → header_good b ≡ false
+unfolding header_good
+too_short b l = rw (lt-leb _ _ l)

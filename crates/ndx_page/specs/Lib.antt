@@ -12,7 +12,9 @@ pub mod Within
 pub mod HeaderLaws
 -- Laws: what a good page says, and where its entries lie
 pub mod PageLaws
--- Laws: what a page says in each case, and a step of lookup
+-- Laws: a lookup with no level left
 pub mod LookupLaws
+-- Laws: what a good header gives the functions on pages, and the steps of lookup
+pub mod IndexLaws
 -- Laws: a found key is an equal one in a leaf, on any bytes
 pub mod FoundLaws

@@ -1,9 +1,10 @@
 -- Laws: the whole part and the fraction of a number as it is written. Assumes nothing.
-use Rattle.std.specs.Prelude.{◌≡◌, refl, true, ◌||◌, not, List, [], ◌∷◌, ◌++◌, ◌↔◌, ℕ, zero, suc, ◌+◌, ◌-◌, ◌/◌, ◌^◌, ◌≤◌, ◌<◌, eqb, length}
-use Rattle.std.proofs.Common.{div-lt_iff_lt-mul, div-add-mod', arith, pow-add, eq-eqb, ne_eqb}
-use Rattle.basis.specs.Tests.{contra, both}
+use Rattle.std.specs.Prelude.{◌≡◌, refl, true, ◌||◌, not, List, [], ◌∷◌, ◌++◌, ◌↔◌, ℕ, zero, suc, ◌+◌, ◌*◌, ◌-◌, ◌/◌, ◌^◌, ◌≤◌, ◌<◌, eqb, leb, max, length}
+use Rattle.std.proofs.Common.{div-lt_iff_lt-mul, div-add-mod', arith, pow-add, eq-eqb, ne_eqb, leb-true, leb-false}
+use Rattle.std.proofs.Math.Nat.{pow-succ'}
+use Rattle.basis.specs.Tests.{either, contra, both}
 use Rattle.octets.specs.Text.{every, zero_digit, is_digit, number_of, last_digits, decimal_from, decimal}
-use Rattle.octets.specs.DigitLaws.{ten_pos, decimal-some, decimal-fits, decimal-digits, leads, decimal-leads, number-after, number-decimal, number-last_digits}
+use Rattle.octets.specs.DigitLaws.{ten_pos, decimal-some, decimal-fits, decimal-over, decimal-digits, leads, decimal-leads, number-after, number-decimal, number-last_digits}
 use Rattle.octets.specs.DigitLaws.{number_div, last-number, decimal-number}
 use Rattle.numeral.specs.Reading.{whole_good}
 
@@ -29,6 +30,22 @@ module _ (n d : ℕ) where
       let t = (shift_fits (length (decimal n) - d) (omega arith)).1 (omega arith) in
       let u = (shift_fits (length (decimal (n / 10 ^ d))) s).0 (omega arith) in
       omega arith
+
+  -- so their count follows from the count of the digits of n, and that from the powers of ten around n
+  pub whole_count : length (decimal (n / 10 ^ d)) ≡ max (length (decimal n) - d) 1
+  whole_count = either (leb (length (decimal n)) d)
+      (λ e. let few = leb-true _ _ e in let short = decimal-short few in omega arith)
+      (λ e. let many = leb-false _ _ e in let long = decimal-long many in omega arith)
+
+pub decimal_count : (n k : ℕ) → 10 ^ k ≤ max n 1 → max n 1 < 10 * 10 ^ k → length (decimal n) ≡ k + 1
+decimal_count n zero l h = let a = decimal-some n in let b = (decimal-fits n 1 (omega arith)).1 (omega arith) in omega arith
+decimal_count n (suc k) l h =
+    let p = ten_pos k in
+    let e = pow-succ' 10 k in
+    let f = pow-succ' 10 (suc k) in
+    let a = decimal-over n (suc k) (omega arith) (omega arith) in
+    let b = (decimal-fits n (suc (suc k)) (omega arith)).1 (omega arith) in
+    omega arith
 
 -- ---- no needless zero leads
 

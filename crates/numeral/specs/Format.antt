@@ -1,6 +1,10 @@
 -- Rules: the width and the decimal count of a numeric field, and the characters of its text. Cited by `format_good`, the table's checks, `read_number` and
 -- `write_number`.
-use Rattle.std.specs.Prelude.{ℕ, ◌+◌, Bool, ◌&&◌, ◌||◌, eqb, leb}
+use Rattle.std.specs.Prelude.{ℕ, ◌+◌, Bool, ◌&&◌, ◌||◌, eqb, leb, ℤ, Result, Option}
+
+-- what a numeric text means: a value in units of 10 to the −d, nothing, or a refusal's number
+abbrev pub Number : Type 0
+Number = Result (Option ℤ) ℕ
 
 -- "N 1-20"
 abbrev pub max_width : ℕ

@@ -1,11 +1,10 @@
 -- Rules: what a numeric text means, with K4's dropped zero. `read_number` is what `read_number` answers, in document 01's order: 6, empty, 16, 17, 18, the
 -- value. Cited by `read_number`.
-use Rattle.std.specs.Prelude.{ℕ, zero, suc, Bool, true, false, ◌&&◌, ◌||◌, not, cond, List, [], ◌∷◌, ◌++◌, eqb, leb, length, ℤ, pos, neg_ℤ}
+use Rattle.std.specs.Prelude.{ℕ, zero, suc, Bool, true, false, ◌&&◌, ◌||◌, not, cond, List, [], ◌∷◌, ◌++◌, eqb, leb, length, ℤ, pos, neg_ℤ, Err, None, Ok, Some}
 use Rattle.refusal.specs.Checks.{unless}
 use Rattle.octets.specs.Text.{every, blank, unpadded, zero_digit, is_digit, number_of}
 use Rattle.numeral.specs.Format.{format_good, max_digits, comma, minus, point}
-use Rattle.numeral.specs.declared.Number.{Number}
-use Rattle.numeral.specs.declared.Number.TheVariants.{Value, Empty, Refused}
+use Rattle.numeral.specs.Format.{Number}
 
 -- some character passes the test p
 unfoldable pub some : (ℕ → Bool) → List ℕ → Bool
@@ -95,6 +94,6 @@ number_checks s d = (not (some (eqb comma) s), 16) ∷ (text_good s d, 17) ∷ (
 -- what a text means in a field of the text's length, with d decimals: 6 before all else, and then "all blanks is empty"
 unfoldable pub read_number : List ℕ → ℕ → Number
 read_number s d =
-    unless ((format_good (length s) d, 6) ∷ []) Refused
-    (cond (every (eqb blank) s) Empty
-    (unless (number_checks s d) Refused (Value (value_of s))))
+    unless ((format_good (length s) d, 6) ∷ []) Err
+    (cond (every (eqb blank) s) (Ok None)
+    (unless (number_checks s d) Err (Ok (Some (value_of s)))))

@@ -1,5 +1,5 @@
 -- Laws: the parts of a numeric text, the count of its digits shows in their number, and when 6 and 16 are given. Assumes nothing.
-use Rattle.std.specs.Prelude.{ℕ, zero, suc, ◌+◌, ◌*◌, ◌-◌, ◌^◌, ◌≤◌, ◌<◌, ◌≡◌, refl, Bool, true, false, ◌&&◌, ◌||◌, List, [], ◌∷◌, ◌++◌, ◌↔◌, ltb}
+use Rattle.std.specs.Prelude.{ℕ, zero, suc, ◌+◌, ◌*◌, ◌-◌, ◌^◌, ◌≤◌, ◌<◌, ◌≡◌, refl, Bool, true, false, ◌&&◌, ◌||◌, List, [], ◌∷◌, ◌++◌, ◌↔◌, ltb, Err, None, Ok, Some}
 use Rattle.std.proofs.Common.{sym, ◌∙◌, zero-add, arith, lit<}
 use Rattle.std.proofs.Math.Bool.{not, and-true, and-false, and_assoc, or-false}
 use Rattle.std.proofs.Math.Nat.{pow-le-pow_right, le_trans}
@@ -14,7 +14,6 @@ use Rattle.refusal.specs.Checks.{unless}
 use Rattle.numeral.specs.Format.{format_good, max_width, max_decimals, max_digits, comma, point}
 use Rattle.numeral.specs.Reading.{some, after, front, whole_good, fraction_good, whole_part, fraction, without_point, digits, text_good, value_of, digit_count}
 use Rattle.numeral.specs.Reading.{whole_missing, zero_dropped, whole_accepted, number_checks, read_number}
-use Rattle.numeral.specs.declared.Number.TheVariants.{Value, Empty, Refused}
 
 -- a good format has at most 15 decimals
 pub format-decimals : (width d : ℕ) → format_good width d ≡ true → d ≤ max_decimals
@@ -184,7 +183,7 @@ count-number d (c ∷ s) h e = either (is_digit c)
     rw (missing_digits c s f) (count_shows _ _ (number_bound s rest.0) (λ many. absurd (omega (arith, rest.1)))))
 
 -- 6 comes before all else
-pub refused_6 : (s : List ℕ) (d : ℕ) → format_good (length s) d ≡ false → read_number s d ≡ Refused 6
+pub refused_6 : (s : List ℕ) (d : ℕ) → format_good (length s) d ≡ false → read_number s d ≡ Err 6
 unfolding read_number unless
 refused_6 s d e = rw e
 
@@ -198,17 +197,17 @@ comma_no_blank (c ∷ s) e = either (eqb blank c)
     rw f (comma_no_blank s (rw same at e)))
     (λ f. rw f)
 
-only_16 : (s : List ℕ) (d : ℕ) → format_good (length s) d ≡ true → read_number s d ≡ Refused 16 → some (eqb comma) s ≡ true
+only_16 : (s : List ℕ) (d : ℕ) → format_good (length s) d ≡ true → read_number s d ≡ Err 16 → some (eqb comma) s ≡ true
 unfolding read_number number_checks unless
 only_16 s d e h = either (some (eqb comma) s) (λ g. g) (λ g. either (every (eqb blank) s)
-    (λ f. let r : read_number s d ≡ Empty = rw (e, f) in cc)
+    (λ f. let r : read_number s d ≡ (Ok None) = rw (e, f) in cc)
     (λ f. either (text_good s d)
     (λ t. either (leb (digit_count s) max_digits)
-    (λ l. let r : read_number s d ≡ Value (value_of s) = rw (e, f, g, t, l) in cc)
-    (λ l. let r : read_number s d ≡ Refused 18 = rw (e, f, g, t, l) in cc))
-    (λ t. let r : read_number s d ≡ Refused 17 = rw (e, f, g, t) in cc)))
+    (λ l. let r : read_number s d ≡ Ok (Some (value_of s)) = rw (e, f, g, t, l) in cc)
+    (λ l. let r : read_number s d ≡ Err 18 = rw (e, f, g, t, l) in cc))
+    (λ t. let r : read_number s d ≡ Err 17 = rw (e, f, g, t) in cc)))
 
-pub refused_16 : (s : List ℕ) (d : ℕ) → (read_number s d ≡ Refused 16) ↔ ((format_good (length s) d ≡ true) × (some (eqb comma) s ≡ true))
+pub refused_16 : (s : List ℕ) (d : ℕ) → (read_number s d ≡ Err 16) ↔ ((format_good (length s) d ≡ true) × (some (eqb comma) s ≡ true))
 unfolding read_number number_checks unless
 refused_16 s d = (
   λ h. either (format_good (length s) d) (λ e. (e, only_16 s d e h)) (λ e. let r = refused_6 s d e in (cc, cc)),

@@ -2,7 +2,7 @@
 -- order: 6, 18, 19. Cited by `write_number`; `TextOf` by demand 2's laws.
 use Rattle.std.specs.Prelude.{ℕ, zero, suc, ◌-◌, ◌/◌, ◌^◌, ◌≤◌, ◌<◌, ◌≡◌, Bool, true, List, [], ◌∷◌, ◌++◌, ◌⊎◌, leb, ltb, length, replicate, ℤ, pos, negsuc, nat_abs}
 use Rattle.refusal.specs.After.{After, made_unless}
-use Rattle.refusal.specs.declared.Change.{Change}
+use Rattle.refusal.specs.After.{Change}
 use Rattle.octets.specs.Text.{blank, last_digits, decimal}
 use Rattle.numeral.specs.Format.{format_good, max_digits, minus, point}
 

@@ -1,5 +1,5 @@
 -- Laws: the writer's stores leave the written text, and `write_number` answers in its order. Assumes nothing.
-use Rattle.std.specs.Prelude.{◌≡◌, refl, true, false, List, [], ◌∷◌, ◌++◌, ◌↔◌, ℕ, zero, suc, ◌+◌, ◌-◌, ◌/◌, ◌%◌, ◌^◌, ◌≤◌, ◌<◌, ℤ, pos, negsuc, nat_abs, length, replicate, set}
+use Rattle.std.specs.Prelude.{◌≡◌, refl, true, false, List, [], ◌∷◌, ◌++◌, ◌↔◌, ℕ, zero, suc, ◌+◌, ◌-◌, ◌/◌, ◌%◌, ◌^◌, ◌≤◌, ◌<◌, ℤ, pos, negsuc, nat_abs, length, replicate, set, Err, Ok}
 use Rattle.std.proofs.Common.{sym, ap, ◌∙◌, zero-add, pow-suc, arith, length-append, ltb-true, lt-ltb, le-ltb, leb-true, le-leb}
 use Rattle.std.proofs.Math.Nat.{sub-zero, add-sub_cancel_left, div-div-eq-div-mul}
 use Rattle.std.proofs.lemmas.List.{length-replicate}
@@ -8,8 +8,7 @@ use Rattle.std.proofs.lemmas.Bool.{lt-leb}
 use Rattle.basis.specs.Tests.{contra}
 use Rattle.refusal.specs.After.{After, left}
 use Rattle.refusal.specs.AfterLaws.{made_none, made_at, made-accepted}
-use Rattle.refusal.specs.declared.Change.{Change}
-use Rattle.refusal.specs.declared.Change.TheVariants.{Made, Refused}
+use Rattle.refusal.specs.After.{Change}
 use Rattle.octets.specs.Store.{put}
 use Rattle.octets.specs.StoreLaws.{put_cons, put_append, put_comm}
 use Rattle.octets.specs.Text.{blank, zero_digit, last_digits, decimal}
@@ -38,17 +37,16 @@ pub length-fraction : (d n : ℕ) → 1 ≤ d → length (fraction_text d n) ≡
 length-fraction d n h = rw (fraction-some d n h, length-last_digits) (omega arith)
 
 -- ---- a turn of the digits' loop, from the right
-pub put_digit : (b : List ℕ) (at count n i : ℕ) → 0 < i → i ≤ count
-    → set (put b (at + i) (last_digits (count - i) n)) (at + (i - 1)) (zero_digit + n / 10 ^ (count - i) % 10)
-    ≡ put b (at + (i - 1)) (last_digits (count - (i - 1)) n)
-put_digit b at count n i h l =
-    let e : count - (i - 1) ≡ suc (count - i) = omega arith in
-    let f : at + i ≡ at + (i - 1) + 1 = omega arith in
-    rw (e, last_digits-front, put_cons, f)
+pub put_digit : (b : List ℕ) (end n i : ℕ) → 0 < i → i ≤ end
+    → set (put b i (last_digits (end - i) n)) (i - 1) (zero_digit + n / 10 ^ (end - i) % 10) ≡ put b (i - 1) (last_digits (end - (i - 1)) n)
+put_digit b end n i h l =
+    let e : end - (i - 1) ≡ suc (end - i) = omega arith in
+    let f : i ≡ i - 1 + 1 = omega arith in
+    rw (e, last_digits-front, put_cons, ← f)
 
-pub rest_digit : (count n i : ℕ) → 0 < i → i ≤ count → n / 10 ^ (count - i) / 10 ≡ n / 10 ^ (count - (i - 1))
-rest_digit count n i h l =
-    let e : count - (i - 1) ≡ suc (count - i) = omega arith in
+pub rest_digit : (end n i : ℕ) → 0 < i → i ≤ end → n / 10 ^ (end - i) / 10 ≡ n / 10 ^ (end - (i - 1))
+rest_digit end n i h l =
+    let e : end - (i - 1) ≡ suc (end - i) = omega arith in
     rw (e, pow-suc, div-div-eq-div-mul)
 
 -- ---- the written text, stored part after part from the right
@@ -103,22 +101,22 @@ written-stores s d v at h =
 -- ---- the writer's answers, in their order
 
 module _ (s : List ℕ) (d : ℕ) (v : ℤ) where
-  pub refused-format : format_good (length s) d ≡ false → write_number s d v ≡ left s (Refused 6)
+  pub refused-format : format_good (length s) d ≡ false → write_number s d v ≡ left s (Err 6)
   unfolding write_number write_checks
   refused-format e = made_at (written (length s) d v) s 0 (write_checks s d v) tt e
 
-  pub refused-digits : format_good (length s) d ≡ true → 10 ^ max_digits ≤ nat_abs v → write_number s d v ≡ left s (Refused 18)
+  pub refused-digits : format_good (length s) d ≡ true → 10 ^ max_digits ≤ nat_abs v → write_number s d v ≡ left s (Err 18)
   unfolding write_number write_checks
   refused-digits e l = made_at (written (length s) d v) s 1 (write_checks s d v) (e, tt) (le-ltb (nat_abs v) (10 ^ max_digits) l)
 
   pub refused-width : format_good (length s) d ≡ true → nat_abs v < 10 ^ max_digits → length s < length (number_text d v)
-      → write_number s d v ≡ left s (Refused 19)
+      → write_number s d v ≡ left s (Err 19)
   unfolding write_number write_checks
   refused-width e l m =
       made_at (written (length s) d v) s 2 (write_checks s d v) (e, (lt-ltb (nat_abs v) (10 ^ max_digits) l, tt))
       (lt-leb (length (number_text d v)) (length s) m)
 
-  written-good : Fits (length s) d v → write_number s d v ≡ left (written (length s) d v) Made
+  written-good : Fits (length s) d v → write_number s d v ≡ left (written (length s) d v) (Ok tt)
   unfolding write_number write_checks
   written-good f =
       made_none (written (length s) d v) s (write_checks s d v)
@@ -126,7 +124,7 @@ module _ (s : List ℕ) (d : ℕ) (v : ℤ) where
 
 -- a value is written exactly if it fits, and the buffer is then its text
 pub written-exactly : (s t : List ℕ) (d : ℕ) (v : ℤ)
-    → (write_number s d v ≡ left t Made) ↔ (Fits (length s) d v × (t ≡ written (length s) d v))
+    → (write_number s d v ≡ left t (Ok tt)) ↔ (Fits (length s) d v × (t ≡ written (length s) d v))
 unfolding write_number write_checks
 written-exactly s t d v = (
   (λ h.
@@ -135,7 +133,7 @@ written-exactly s t d v = (
         record { format = held.0; small = ltb-true _ _ held.1.0; room = leb-true _ _ held.1.1.0 },
         sym (ap (λ (l : After Change). l.after) h) ∙ done.leaves,
       )),
-  (λ h. written-good s d v h.0 ∙ ap (λ (b : List ℕ). left b Made) (sym h.1)),
+  (λ h. written-good s d v h.0 ∙ ap (λ (b : List ℕ). left b (Ok tt)) (sym h.1)),
 )
 
 -- what the writer knows before it compares the widths: the magnitude of v, and the lengths of the text's three parts
@@ -151,7 +149,7 @@ module _ (s : List ℕ) (d : ℕ) (v : ℤ) (n sign count tail : ℕ) (m : Measu
   size : length (number_text d v) ≡ sign + count + tail
   size = rw (length-number d v, ← m.magnitude, m.the_sign, m.the_whole, m.the_fraction)
 
-  pub measured_refused : length s < sign + count + tail → write_number s d v ≡ left s (Refused 19)
+  pub measured_refused : length s < sign + count + tail → write_number s d v ≡ left s (Err 19)
   measured_refused h = refused-width s d v m.format (rw m.magnitude at m.small) (rw size h)
 
   -- the four stores, each on the buffer that the last one left
@@ -160,9 +158,9 @@ module _ (s : List ℕ) (d : ℕ) (v : ℤ) (n sign count tail : ℕ) (m : Measu
       → b₂ ≡ put b₁ (at + sign) (last_digits count whole)
       → b₃ ≡ put b₂ at (replicate (at + sign - at) minus)
       → b₄ ≡ put b₃ 0 (replicate (at - 0) blank)
-      → write_number s d v ≡ left b₄ Made
+      → write_number s d v ≡ left b₄ (Ok tt)
   measured_written at whole h w e₁ e₂ e₃ e₄ =
       let minuses : replicate (at + sign - at) minus ≡ sign_text v = rw (add-sub_cancel_left, m.the_sign) (sign_fill v) in
       let stored = written-stores s d v at (rw size h) in
       written-good s d v (record { format = m.format; small = rw m.magnitude at m.small; room = rw size (omega arith) })
-      ∙ ap (λ (b : List ℕ). left b Made) (stored ∙ rw (e₄, e₃, e₂, e₁, minuses, sub-zero, w, m.the_whole, m.the_sign, m.magnitude, ← decimal-last))
+      ∙ ap (λ (b : List ℕ). left b (Ok tt)) (stored ∙ rw (e₄, e₃, e₂, e₁, minuses, sub-zero, w, m.the_whole, m.the_sign, m.magnitude, ← decimal-last))

@@ -1,27 +1,22 @@
 // Reads numeric text.
 #![tactic(auto)]
 
-ghost use Rattle.std.specs.Prelude.{◌≡◌, ◌+◌, ◌<◌};
+ghost use Rattle.std.specs.Prelude.{◌≡◌};
+ghost use Rattle.refusal.specs.Refusals.{numbered};
 ghost use Rattle.numeral.specs.Reading.{read_number};
 
-use numeral::Number;
 use numeral_scan::Reader;
+use refusal::Refusal;
 
-// Reads a numeric text. Its length is the field's width. The blanks on the left have a loop of their own, since most texts begin with blanks.
-pub fn read_number(text: &[u8], decimals: u32) -> Number
-    ensures { result ≡ read_number text.now decimals }
+// Reads a numeric text: its value in units of 10 to the -decimals, or nothing. Its length is the field's width. The blanks on the left, which leave the reader's
+// state as it is, are passed first: most texts begin with blanks, and one loop for all characters takes twice as long over blanks.
+#[tactic(auto, using(numeral::specs::ReadingLaws::refused_6))]
+pub fn read_number(text: &[u8], decimals: u32) -> Result<Option<i64>, Refusal>
+    ensures { numbered result ≡ read_number text.now decimals }
 {
     if !numeral::format_good(text.len(), decimals) {
-        return Number::Refused(refusal::FIELD_DESCRIPTOR);
+        return Err(Refusal::FieldDescriptor);
     }
-    let mut r = Reader::new(decimals);
-    let mut i = 0;
-    while i < text.len() {
-        if text[i] != b' ' {
-            break;
-        }
-        r = r.take(text[i]);
-        i += 1;
-    }
-    r.take_rest(text, i).finish()
+    let shown = &text[octets::padding(text)..];
+    Reader::new(decimals).take_all(shown).finish()
 }

@@ -1,11 +1,10 @@
 -- Steps: the reader's states, "taken one character after another, the running state handed on". ScanLaws.antt shows that they end in what the text
 -- means, so a reader need not believe these definitions.
-use Rattle.std.specs.Prelude.{ℕ, ◌+◌, ◌*◌, ◌-◌, ◌^◌, Bool, true, false, cond, ◌&&◌, ◌||◌, not, List, [], ◌∷◌, eqb, leb, ltb}
+use Rattle.std.specs.Prelude.{ℕ, ◌+◌, ◌*◌, ◌-◌, ◌^◌, Bool, true, false, cond, ◌&&◌, ◌||◌, not, List, [], ◌∷◌, eqb, leb, ltb, Err, None, Ok, Some}
 use Rattle.octets.specs.Text.{blank, zero_digit, is_digit}
 use Rattle.numeral.specs.Format.{max_digits, comma, minus, point}
 use Rattle.numeral.specs.Reading.{signed}
-use Rattle.numeral.specs.declared.Number.{Number}
-use Rattle.numeral.specs.declared.Number.TheVariants as number
+use Rattle.numeral.specs.Format.{Number}
 use Rattle.numeral_scan.specs.declared.Reader.{Reader}
 use Rattle.numeral_scan.specs.declared.Phase.{Phase}
 use Rattle.numeral_scan.specs.declared.Phase.TheVariants as phase
@@ -104,19 +103,19 @@ scan r (c ∷ s) = scan (step r c) s
 -- what a text with the number n means, with a minus or without: 17 if it is not complete or is minus zero, 18 if it has more than 18 digits
 unfoldable pub settled : Bool → Bool → ℕ → Number
 settled complete negative n =
-    cond (not complete || negative && eqb n 0) (number.Refused 17)
-    (cond (ltb n (10 ^ max_digits)) (number.Value (signed negative n)) (number.Refused 18))
+    cond (not complete || negative && eqb n 0) (Err 17)
+    (cond (ltb n (10 ^ max_digits)) (Ok (Some (signed negative n))) (Err 18))
 
 -- what a text means if it ends in a state
 abbrev pub ended : Phase → Reader → Number
-ended phase.Blank r = number.Empty
-ended phase.Minus r = number.Refused 17
+ended phase.Blank r = Ok None
+ended phase.Minus r = Err 17
 ended phase.Zero r = settled (eqb r.decimals 0) r.negative r.value
 ended phase.Whole r = settled (eqb r.decimals 0) r.negative r.value
 ended (phase.Fraction left) r = settled (eqb left 0) r.negative r.value
-ended (phase.Dropped left) r = number.Refused 17
-ended phase.Comma r = number.Refused 16
-ended phase.Bad r = number.Refused 17
+ended (phase.Dropped left) r = Err 17
+ended phase.Comma r = Err 16
+ended phase.Bad r = Err 17
 
 unfoldable pub meaning : Reader → Number
 meaning r = ended r.phase r

@@ -1,9 +1,9 @@
 -- Laws: the reader's states end in what the text means (`scan_means`). Each law `..-means` says, by the rules of Reading.antt, what a text means whose
 -- rest s the reader has yet to take from a state. Assumes nothing.
-use Prim.Native.Nat.{ℕ, zero, suc, ◌+◌, ◌*◌, ◌-◌, ◌^◌, ◌≤◌, ◌<◌, min}
-use Rattle.std.specs.Prelude.{◌≡◌, Bool, ◌&&◌, not, eqb, ltb, length, get_or, drop}
+use Rattle.std.specs.Prelude.{◌≡◌, Bool, ◌&&◌, not, eqb, ltb, length, fold, Err, None, Ok, Some}
+use Prim.Native.Nat.{ℕ, zero, suc, ◌+◌, ◌*◌, ◌-◌, ◌^◌, min}
 use Rattle.std.proofs.Math.Path.{refl, sym}
-use Rattle.std.proofs.Common.{ap, ◌∙◌, add-one, arith, drop_of_length-le, drop-cons}
+use Rattle.std.proofs.Common.{ap, ◌∙◌, arith}
 use Rattle.std.proofs.Math.Bool.{true, false, and-false}
 use mathlib.Core.List.{List, [], ◌∷◌}
 use Rattle.std.proofs.Math.Dec.{leb, eqb-suc-zero, eqb-zero-suc, eqb-suc-suc}
@@ -19,8 +19,7 @@ use Rattle.numeral.specs.ReadingLaws.{format-decimals, no_comma, front-more, fro
 use Rattle.numeral.specs.ReadingLaws.{zero_needless, digits-whole, fraction-empty, fraction-point, digit_first, missing_digits, missing_good}
 use Rattle.numeral.specs.ReadingLaws.{count-number}
 use Rattle.numeral_scan.specs.Scan.{initial, whole_end, next_place, next_zero, next_value, step_in, step, scan, settled, meaning}
-use Rattle.numeral.specs.declared.Number.{Number}
-use Rattle.numeral.specs.declared.Number.TheVariants as number
+use Rattle.numeral.specs.Format.{Number}
 use Rattle.numeral_scan.specs.declared.Reader.{Reader}
 use Rattle.numeral_scan.specs.declared.Phase.{Phase}
 use Rattle.numeral_scan.specs.declared.Phase.TheVariants as phase
@@ -54,6 +53,12 @@ scan-to : {q : Reader} (r : Reader) (c : ℕ) (s : List ℕ) → step r c ≡ q 
 unfolding scan
 scan-to r c s e = rw e
 
+-- the characters taken one after another
+pub scan_fold : (r : Reader) (s : List ℕ) → scan r s ≡ fold step r s
+unfolding scan
+scan_fold r [] = refl
+scan_fold r (c ∷ s) = scan_fold (step r c) s
+
 -- a comma ends in 16, whatever comes before and after it
 comma-taken : (p : Phase) (r : Reader) → (step_in p r comma).phase ≡ phase.Comma
 comma-taken phase.Blank r = refl
@@ -65,12 +70,12 @@ comma-taken (phase.Dropped left) r = refl
 comma-taken phase.Comma r = refl
 comma-taken phase.Bad r = refl
 
-comma-stays : (s : List ℕ) (r : Reader) → r.phase ≡ phase.Comma → meaning (scan r s) ≡ number.Refused 16
+comma-stays : (s : List ℕ) (r : Reader) → r.phase ≡ phase.Comma → meaning (scan r s) ≡ Err 16
 unfolding scan step meaning
 comma-stays [] r e = rw e
 comma-stays (c ∷ s) r e = comma-stays s (step r c) (rw e)
 
-comma_means : (s : List ℕ) (r : Reader) → some (eqb comma) s ≡ true → meaning (scan r s) ≡ number.Refused 16
+comma_means : (s : List ℕ) (r : Reader) → some (eqb comma) s ≡ true → meaning (scan r s) ≡ Err 16
 unfolding scan step some
 comma_means [] r e = contra e refl
 comma_means (c ∷ s) r e = either (eqb comma c)
@@ -78,7 +83,7 @@ comma_means (c ∷ s) r e = either (eqb comma c)
     (λ f. comma_means s (step r c) (rw f at e))
 
 -- without a comma, a bad text ends in 17
-bad-stays : (s : List ℕ) (r : Reader) → r.phase ≡ phase.Bad → some (eqb comma) s ≡ false → meaning (scan r s) ≡ number.Refused 17
+bad-stays : (s : List ℕ) (r : Reader) → r.phase ≡ phase.Bad → some (eqb comma) s ≡ false → meaning (scan r s) ≡ Err 17
 unfolding scan step meaning
 bad-stays [] r e f = rw e
 bad-stays (c ∷ s) r e f =
@@ -91,7 +96,7 @@ unfolding scan settled
 bad_means r c s good n m e f g = rw g (bad-stays s (step r c) e f)
 
 -- an incomplete text is 17
-incomplete : (n : Bool) (m : ℕ) → number.Refused 17 ≡ settled false n m
+incomplete : (n : Bool) (m : ℕ) → Err 17 ≡ settled false n m
 unfolding settled
 incomplete n m = refl
 
@@ -197,7 +202,7 @@ module _ (d : ℕ) where
   abbrev meant : Bool → List ℕ → Number
   meant n s = settled (whole_accepted d s && fraction_good d (fraction s)) n (number_of (digits s))
 
-  nothing_means : (n : Bool) → number.Refused 17 ≡ meant n []
+  nothing_means : (n : Bool) → Err 17 ≡ meant n []
   unfolding front after whole_part fraction without_point digits whole_good zero_dropped every
   nothing_means n = rw (and-false (whole_missing [] && leb 1 d)) (incomplete n _)
 
@@ -235,12 +240,19 @@ module _ (d : ℕ) where
   unfolding scan step
   scan-blank c s e = rw e
 
-  blanks_mean : (s : List ℕ) → every (eqb blank) s ≡ true → meaning (scan (initial d) s) ≡ number.Empty
+  blanks_mean : (s : List ℕ) → every (eqb blank) s ≡ true → meaning (scan (initial d) s) ≡ Ok None
   unfolding scan meaning every
   blanks_mean [] e = refl
   blanks_mean (c ∷ s) e =
       let parts = both (eqb blank c) (every (eqb blank) s) e in
       rw (scan-blank c s parts.0) (blanks_mean s parts.1)
+
+  pub scan_unpadded : (s : List ℕ) → scan (initial d) (unpadded s) ≡ scan (initial d) s
+  unfolding scan unpadded
+  scan_unpadded [] = refl
+  scan_unpadded (c ∷ s) = either (eqb blank c)
+      (λ e. rw (scan-blank c s e, e) (scan_unpadded s))
+      (λ e. rw e)
 
   text_means : (s : List ℕ) → every (eqb blank) s ≡ false → some (eqb comma) s ≡ false
       → meaning (scan (initial d) s) ≡ meant (has_minus (unpadded s)) (without_minus (unpadded s))
@@ -253,7 +265,7 @@ module _ (d : ℕ) where
 -- the paper's order at the end: 17 for the shape or minus zero, 18 for more than 18 digits, the value
 settled_is : (good n : Bool) (m count : ℕ) → (good ≡ true → leb count max_digits ≡ ltb m (10 ^ max_digits))
     → settled good n m
-    ≡ unless ((good && not (n && eqb m 0), 17) ∷ (leb count max_digits, 18) ∷ []) number.Refused (number.Value (signed n m))
+    ≡ unless ((good && not (n && eqb m 0), 17) ∷ (leb count max_digits, 18) ∷ []) Err (Ok (Some (signed n m)))
 unfolding settled unless
 settled_is false n m count h = refl
 settled_is true n m count h = either (n && eqb m 0)
@@ -269,12 +281,6 @@ scan_means s d e = either (every (eqb blank) s)
     (λ g. rw (e, f, g)
     (text_means d s f g ∙ settled_is _ _ _ (digit_count s) (count-number d (without_minus (unpadded s)) (format-decimals (length s) d e)))))
 
--- the characters are taken one after another, from the first on
-module _ (r : Reader) (s : List ℕ) (i : ℕ) where
-  pub scan-next : i < length s → scan r (drop i s) ≡ scan (step r (get_or s i 0)) (drop (i + 1) s)
-  unfolding scan
-  scan-next h = rw (drop-cons s i 0 h, add-one)
-
-  pub scan-end : length s ≤ i → scan r (drop i s) ≡ r
-  unfolding scan
-  scan-end h = rw (drop_of_length-le s h)
+-- the same from the first character on that is no blank
+pub shown_means : (s shown : List ℕ) (d : ℕ) → format_good (length s) d ≡ true → shown ≡ unpadded s → meaning (scan (initial d) shown) ≡ read_number s d
+shown_means s shown d good e = rw (e, scan_unpadded) (scan_means s d good)

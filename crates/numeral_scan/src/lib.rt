@@ -1,16 +1,18 @@
 // The reader of numeric text, one character at a time.
 #![tactic(auto)]
 
-ghost use Rattle.std.specs.Prelude.{◌≡◌, true, ◌+◌, ◌<◌, ◌^◌, drop};
+ghost use Rattle.std.specs.Prelude.{◌≡◌, true, ◌<◌, ◌^◌, if◌then◌else◌};
+ghost use Rattle.refusal.specs.Refusals.{numbered};
 ghost use Rattle.octets.specs.Text.{is_digit};
 ghost use Rattle.numeral.specs.Format.{max_digits};
 ghost use Rattle.numeral.specs.Reading.{signed};
-ghost use Rattle.numeral_scan.specs.Scan.{initial, refused_at, first_digit, is_point, whole_end, whole_start};
-ghost use Rattle.numeral_scan.specs.Scan.{next_place, next_zero, next_value, in_phase, with_digit};
+ghost use Rattle.numeral_scan.specs.Scan.{initial, refused_at, first_digit, is_point, whole_end};
+ghost use Rattle.numeral_scan.specs.Scan.{next_value, in_phase, with_digit};
 ghost use Rattle.numeral_scan.specs.Scan.{after_sign, after_blanks, after_whole, after_point, after_dropped, step, scan, settled, meaning};
 
-use numeral::Number;
+use numeral::PAST_DIGITS;
 use octets::is_digit;
+use refusal::Refusal;
 
 // Where the reader stands in a text: among the blanks, after the minus, after a zero that begins the whole part, among a whole part that begins
 // with another digit, behind the point with the number of digits to come; behind a point without a whole part, with zeros alone so far and the number
@@ -48,68 +50,38 @@ fn refused_at(c: u8) -> Phase
 fn first_digit(c: u8) -> Phase
     ensures { result ≡ first_digit c }
 {
-    if c == b'0' {
-        return Phase::Zero;
-    }
-    Phase::Whole
+    if c == b'0' { Phase::Zero } else { Phase::Whole }
 }
 
 // Whether the character c is the point of a text with this many decimals: one without decimals has none.
 fn is_point(decimals: u32, c: u8) -> bool
     ensures { result ≡ is_point decimals c }
 {
-    (c == b'.') & (1 <= decimals)
+    c == b'.' && 1 <= decimals
 }
 
-// The phase after the character c behind the whole part.
-fn whole_end(decimals: u32, c: u8) -> Phase
-    ensures { result ≡ whole_end decimals c }
+// The phase after the character c, no digit, where the point may stand; the point leads to the phase `behind`.
+fn at_point(decimals: u32, c: u8, behind: Phase) -> Phase
+    ensures { result ≡ (if is_point decimals c then behind else refused_at c) }
 {
     if is_point(decimals, c) {
-        return Phase::Fraction(decimals as u64);
+        behind
+    } else {
+        refused_at(c)
     }
-    refused_at(c)
-}
-
-// The phase after the character c, no digit, at which the whole part should begin: the zero before a point may be dropped.
-fn whole_start(decimals: u32, c: u8) -> Phase
-    ensures { result ≡ whole_start decimals c }
-{
-    if is_point(decimals, c) {
-        return Phase::Dropped(decimals as u64);
-    }
-    refused_at(c)
-}
-
-// The phase after a digit behind the point, if `left` digits were to come.
-fn next_place(left: u64) -> Phase
-    ensures { result ≡ next_place left }
-{
-    if 1 <= left {
-        return Phase::Fraction(left - 1);
-    }
-    Phase::Bad
-}
-
-// The phase after a zero behind a point without a whole part, if `left` digits were to come.
-fn next_zero(left: u64) -> Phase
-    ensures { result ≡ next_zero left }
-{
-    if 1 <= left {
-        return Phase::Dropped(left - 1);
-    }
-    Phase::Bad
 }
 
 // The number of the digits so far with the digit c behind them; a number of more than 18 digits stays as it is.
+#[tactic(auto, using(octets::specs::TextLaws::digit_range), unfolding(crate::specs::Scan::next_value))]
 fn next_value(n: u64, c: u8) -> u64
     requires { is_digit c ≡ true }
     ensures { result ≡ next_value n c }
 {
-    if numeral::PAST_DIGITS <= n {
-        return n;
+    if n < PAST_DIGITS {
+        10 * n + u64::from(c - b'0')
+    } else {
+        n
     }
-    10 * n + (c - b'0') as u64
 }
 
 impl Reader {
@@ -129,12 +101,7 @@ impl Reader {
     pub fn in_phase(self, p: Phase) -> Reader
         ensures { result ≡ in_phase self p }
     {
-        Reader {
-            decimals: self.decimals,
-            phase: p,
-            negative: self.negative,
-            value: self.value,
-        }
+        Reader { phase: p, ..self }
     }
 
     // The state in the phase p, with the digit c behind the others.
@@ -142,11 +109,11 @@ impl Reader {
         requires { is_digit c ≡ true }
         ensures { result ≡ with_digit self p c }
     {
+        let value = next_value(self.value, c);
         Reader {
-            decimals: self.decimals,
             phase: p,
-            negative: self.negative,
-            value: next_value(self.value, c),
+            value,
+            ..self
         }
     }
 
@@ -155,27 +122,34 @@ impl Reader {
         ensures { result ≡ after_sign self c }
     {
         if is_digit(c) {
-            return self.with_digit(first_digit(c), c);
+            self.with_digit(first_digit(c), c)
+        } else {
+            let behind = Phase::Dropped(u64::from(self.decimals));
+            self.in_phase(at_point(self.decimals, c, behind))
         }
-        self.in_phase(whole_start(self.decimals, c))
     }
 
     // The state after the character c, if only blanks were taken before it.
     pub fn after_blanks(self, c: u8) -> Reader
         ensures { result ≡ after_blanks self c }
     {
-        if c == b' ' {
-            return self.in_phase(Phase::Blank);
-        }
-        if c == b'-' {
-            return Reader {
-                decimals: self.decimals,
+        match c {
+            b' ' => self.in_phase(Phase::Blank),
+            b'-' => Reader {
                 phase: Phase::Minus,
                 negative: true,
-                value: self.value,
-            };
+                ..self
+            },
+            _ => self.after_sign(c),
         }
-        self.after_sign(c)
+    }
+
+    // The state after the character c, no digit, if the whole part was taken before it.
+    fn after_digits(self, c: u8) -> Reader
+        ensures { result ≡ in_phase self (whole_end self.decimals c) }
+    {
+        let behind = Phase::Fraction(u64::from(self.decimals));
+        self.in_phase(at_point(self.decimals, c, behind))
     }
 
     // The state after the character c, if digits of the whole part were taken before it, the first no zero.
@@ -183,9 +157,10 @@ impl Reader {
         ensures { result ≡ after_whole self c }
     {
         if is_digit(c) {
-            return self.with_digit(Phase::Whole, c);
+            self.with_digit(Phase::Whole, c)
+        } else {
+            self.after_digits(c)
         }
-        self.in_phase(whole_end(self.decimals, c))
     }
 
     // The state after the character c, if the point was taken before it and `left` digits are to come.
@@ -193,9 +168,11 @@ impl Reader {
         ensures { result ≡ after_point self left c }
     {
         if is_digit(c) {
-            return self.with_digit(next_place(left), c);
+            let phase = left.checked_sub(1).map_or(Phase::Bad, Phase::Fraction);
+            self.with_digit(phase, c)
+        } else {
+            self.in_phase(refused_at(c))
         }
-        self.in_phase(refused_at(c))
     }
 
     // The state after the character c, if the whole part is missing, zeros alone were taken behind the point and `left` digits are to come.
@@ -203,20 +180,22 @@ impl Reader {
         ensures { result ≡ after_dropped self left c }
     {
         if c == b'0' {
-            return self.in_phase(next_zero(left));
+            let phase = left.checked_sub(1).map_or(Phase::Bad, Phase::Dropped);
+            self.in_phase(phase)
+        } else {
+            self.after_point(left, c)
         }
-        self.after_point(left, c)
     }
 
     // The state after the character c. Each phase tests first what is likely there.
+    #[tactic(auto, unfolding(crate::specs::Scan::step))]
     pub fn take(self, c: u8) -> Reader
         ensures { result ≡ step self c }
     {
-        let p = self.phase;
-        match p {
+        match self.phase {
             Phase::Blank => self.after_blanks(c),
             Phase::Minus => self.after_sign(c),
-            Phase::Zero => self.in_phase(whole_end(self.decimals, c)),
+            Phase::Zero => self.after_digits(c),
             Phase::Whole => self.after_whole(c),
             Phase::Fraction(left) => self.after_point(left, c),
             Phase::Dropped(left) => self.after_dropped(left, c),
@@ -225,54 +204,49 @@ impl Reader {
         }
     }
 
-    // The state after the characters of the text from `at` on.
-    pub fn take_rest(self, text: &[u8], at: usize) -> Reader
-        ensures { result ≡ scan self (drop at text.now) }
+    // The state after the characters of a text.
+    #[tactic(auto, using(crate::specs::ScanLaws::scan_fold))]
+    pub fn take_all(self, text: &[u8]) -> Reader
+        ensures { result ≡ scan self text.now }
     {
-        let mut r = self;
-        let mut i = at;
-        while i < text.len() {
-            r = r.take(text[i]);
-            i += 1;
-        }
-        r
+        text.iter().copied().fold(self, Reader::take)
     }
 
-    // What the text means if it ends in this state.
-    pub fn finish(self) -> Number
-        ensures { result ≡ meaning self }
+    // What the text means if it ends in this state: a value in units of 10 to the -decimals, or nothing.
+    #[tactic(auto, unfolding(crate::specs::Scan::meaning))]
+    pub fn finish(self) -> Result<Option<i64>, Refusal>
+        ensures { numbered result ≡ meaning self }
     {
-        let p = self.phase;
-        match p {
-            Phase::Blank => Number::Empty,
-            Phase::Minus => Number::Refused(refusal::NOT_A_NUMBER),
-            Phase::Zero => settle(self.decimals == 0, self.negative, self.value),
-            Phase::Whole => settle(self.decimals == 0, self.negative, self.value),
+        match self.phase {
+            Phase::Blank => Ok(None),
+            Phase::Zero | Phase::Whole => settle(self.decimals == 0, self.negative, self.value),
             Phase::Fraction(left) => settle(left == 0, self.negative, self.value),
-            Phase::Dropped(_) => Number::Refused(refusal::NOT_A_NUMBER),
-            Phase::Comma => Number::Refused(refusal::COMMA),
-            Phase::Bad => Number::Refused(refusal::NOT_A_NUMBER),
+            Phase::Comma => Err(Refusal::Comma),
+            Phase::Minus | Phase::Dropped(_) | Phase::Bad => Err(Refusal::NotANumber),
         }
     }
 }
 
 // The number n with its sign.
+#[tactic(auto, unfolding(numeral::specs::Reading::signed))]
 fn signed_value(negative: bool, n: u64) -> i64
     requires { n < 10 ^ max_digits }
     ensures { result ≡ signed negative n }
 {
-    if negative { -(n as i64) } else { n as i64 }
+    let value = n as i64;
+    if negative { -value } else { value }
 }
 
 // What a text with the number n means. It is refused if it is not complete, is minus zero, or has more than 18 digits.
-fn settle(complete: bool, negative: bool, n: u64) -> Number
-    ensures { result ≡ settled complete negative n }
+#[tactic(auto, unfolding(crate::specs::Scan::settled))]
+fn settle(complete: bool, negative: bool, n: u64) -> Result<Option<i64>, Refusal>
+    ensures { numbered result ≡ settled complete negative n }
 {
-    if !complete | negative & (n == 0) {
-        return Number::Refused(refusal::NOT_A_NUMBER);
+    if !complete || negative && n == 0 {
+        return Err(Refusal::NotANumber);
     }
-    if n < numeral::PAST_DIGITS {
-        return Number::Value(signed_value(negative, n));
+    if PAST_DIGITS <= n {
+        return Err(Refusal::TooManyDigits);
     }
-    Number::Refused(refusal::TOO_MANY_DIGITS)
+    Ok(Some(signed_value(negative, n)))
 }

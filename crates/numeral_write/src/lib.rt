@@ -1,27 +1,22 @@
 // Writes numeric text.
 #![tactic(auto)]
 
-ghost use Rattle.std.specs.Prelude.{◌≡◌, ℕ, ◌+◌, ◌≤◌, ◌<◌, ◌/◌, ◌^◌, nat_abs, length};
+ghost use Rattle.std.specs.Prelude.{◌≡◌, ℕ, ◌+◌, ◌≤◌, ◌<◌, ◌/◌, ◌^◌, length};
 ghost use Rattle.refusal.specs.After.{left};
+ghost use Rattle.refusal.specs.Refusals.{numbered};
 ghost use Rattle.octets.specs.Store.{put};
 ghost use Rattle.octets.specs.Text.{last_digits, decimal};
 ghost use Rattle.numeral.specs.Format.{max_width, max_decimals, max_digits};
 ghost use Rattle.numeral.specs.Writing.{fraction_text, sign_text, write_number};
 
-use refusal::Change;
-
-// The magnitude of v, which may be the least value of 64 bits.
-fn magnitude(v: i64) -> u64
-    ensures { result ≡ nat_abs v }
-{
-    if v < 0 { (-1 - v) as u64 + 1 } else { v as u64 }
-}
+use refusal::Refusal;
 
 // The length of the sign of v.
+#[tactic(auto, using(numeral::specs::WritingLaws::sign_below, numeral::specs::WritingLaws::sign_above))]
 fn sign_length(v: i64) -> usize
     ensures { (result ≡ length (sign_text v)) × (result ≤ 1) }
 {
-    if v < 0 { 1 } else { 0 }
+    usize::from(v < 0)
 }
 
 // The number of digits before the point: all but `places` of the digits of n, and one at least.
@@ -29,16 +24,12 @@ fn whole_length(n: u64, places: usize) -> usize
     requires { n < 10 ^ max_digits }
     ensures { (result ≡ length (decimal (n / 10 ^ places))) × (result ≤ max_digits) }
 {
-    let mut count: usize = 1;
-    let mut p: u64 = 10;
-    while p <= n {
-        p = 10 * p;
-        count += 1;
-    }
-    if count <= places { 1 } else { count - places }
+    let count = n.max(1).ilog10() as usize + 1;
+    count.saturating_sub(places).max(1)
 }
 
 // The length of the point and the digits behind it.
+#[tactic(auto, unfolding(numeral::specs::Writing::fraction_text))]
 fn fraction_length(places: usize) -> usize
     requires { places ≤ max_decimals }
     ensures { ((n : ℕ) → result ≡ length (fraction_text places n)) × (result ≤ max_width) }
@@ -54,11 +45,9 @@ fn put_digits(text: &mut [u8], at: usize, count: usize, n: u64) -> u64
     ensures { (result ≡ n / 10 ^ count) × (text.new ≡ put text.old at (last_digits count n)) }
 {
     let mut rest = n;
-    let mut i = count;
-    while 0 < i {
-        i -= 1;
-        text[at + i] = b'0' + (rest % 10) as u8;
-        rest = rest / 10;
+    for i in (at..at + count).rev() {
+        text[i] = b'0' + (rest % 10) as u8;
+        rest /= 10;
     }
     rest
 }
@@ -78,23 +67,23 @@ fn put_fraction(text: &mut [u8], at: usize, places: usize, n: u64) -> u64
 
 // Writes the one written text of a value, blanks on the left: the zero before the point is never dropped. The buffer's length is the field's width. A
 // refusal leaves the buffer as it was.
-pub fn write_number(text: &mut [u8], decimals: u32, value: i64) -> Change
-    ensures { write_number text.old decimals value ≡ left text.new result }
+pub fn write_number(text: &mut [u8], decimals: u32, value: i64) -> Result<(), Refusal>
+    ensures { write_number text.old decimals value ≡ left text.new (numbered result) }
 {
-    let width = text.len();
-    if !numeral::format_good(width, decimals) {
-        return Change::Refused(refusal::FIELD_DESCRIPTOR);
+    if !numeral::format_good(text.len(), decimals) {
+        return Err(Refusal::FieldDescriptor);
     }
-    let n = magnitude(value);
+    let n = value.unsigned_abs();
     if numeral::PAST_DIGITS <= n {
-        return Change::Refused(refusal::TOO_MANY_DIGITS);
+        return Err(Refusal::TooManyDigits);
     }
     let places = decimals as usize;
     let sign = sign_length(value);
     let count = whole_length(n, places);
     let size = sign + count + fraction_length(places);
+    let width = text.len();
     if width < size {
-        return Change::Refused(refusal::DOES_NOT_FIT);
+        return Err(Refusal::DoesNotFit);
     }
     // the parts from the right; the sign is a run of minuses, one or none
     let at = width - size;
@@ -102,5 +91,5 @@ pub fn write_number(text: &mut [u8], decimals: u32, value: i64) -> Change
     put_digits(text, at + sign, count, whole);
     octets::fill(text, at, at + sign, b'-');
     octets::fill(text, 0, at, b' ');
-    Change::Made
+    Ok(())
 }

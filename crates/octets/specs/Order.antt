@@ -1,7 +1,8 @@
 -- Rules: the order of byte strings, "as unsigned bytes": the first difference decides, and a string is below its extensions.
 use Rattle.std.specs.Prelude.{ℕ, List, [], ◌∷◌, Bool, true, false, cond, eqb, ltb}
-use Rattle.octets.specs.declared.Ordering.{Ordering}
-use Rattle.octets.specs.declared.Ordering.TheVariants.{Below, Equal, Above}
+use Rattle.std.specs.Ordering.{is_lt, is_eq}
+use Rattle.std.specs.declared.cmp.Ordering.{Ordering}
+use Rattle.std.specs.declared.cmp.Ordering.TheVariants.{Less, Equal, Greater}
 
 -- a is at or below b
 unfoldable pub bytes_le : List ℕ → List ℕ → Bool
@@ -11,14 +12,11 @@ bytes_le (x ∷ a) (y ∷ b) = let rest = bytes_le a b in cond (eqb x y) rest (l
 
 -- the order of a to b, by that one test both ways
 unfoldable pub ordering : List ℕ → List ℕ → Ordering
-ordering a b = cond (bytes_le a b) (cond (bytes_le b a) Equal Below) Above
+ordering a b = cond (bytes_le a b) (cond (bytes_le b a) Equal Less) Greater
 
+-- whether that is below, or equal
 abbrev pub is_below : Ordering → Bool
-is_below Below = true
-is_below Equal = false
-is_below Above = false
+is_below o = is_lt o
 
 abbrev pub is_equal : Ordering → Bool
-is_equal Below = false
-is_equal Equal = true
-is_equal Above = false
+is_equal o = is_eq o

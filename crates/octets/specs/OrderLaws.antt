@@ -3,7 +3,7 @@ use Rattle.std.specs.Prelude.{◌≡◌, refl, true, false, List, [], ◌∷◌,
 use Rattle.std.proofs.Common.{sym, arith, ltb-true, ltb-false, eqb-true, lt-ltb, le-ltb, eq-eqb, ne_eqb}
 use Rattle.std.proofs.lemmas.Bool.{eqb-false}
 use Rattle.basis.specs.Tests.{either, contra}
-use Rattle.octets.specs.declared.Ordering.TheVariants.{Below, Equal, Above}
+use Rattle.std.specs.declared.cmp.Ordering.TheVariants.{Less, Equal, Greater}
 use Rattle.octets.specs.Order.{bytes_le, ordering}
 
 -- the first bytes decide if they differ, and the rest if they are equal
@@ -57,12 +57,12 @@ le_trans (x ∷ a) (y ∷ b) (z ∷ c) p q = either (eqb x y)
 pub le_refl : (a : List ℕ) → bytes_le a a ≡ true
 le_refl a = either (bytes_le a a) (λ e. e) (λ e. le_total a a e)
 
--- `ordering` says Below, Above and Equal by that test
-pub ordering-below : (a b : List ℕ) → bytes_le b a ≡ false → ordering a b ≡ Below
+-- `ordering` says Less, Greater and Equal by that test
+pub ordering-below : (a b : List ℕ) → bytes_le b a ≡ false → ordering a b ≡ Less
 unfolding ordering
 ordering-below a b h = rw (le_total b a h, h)
 
-pub ordering-above : (a b : List ℕ) → bytes_le a b ≡ false → ordering a b ≡ Above
+pub ordering-above : (a b : List ℕ) → bytes_le a b ≡ false → ordering a b ≡ Greater
 unfolding ordering
 ordering-above a b h = rw h
 

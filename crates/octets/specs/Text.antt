@@ -1,8 +1,6 @@
 -- Rules: the characters of a text: blanks on its left, digits, the number that digits stand for, and the digits of a number. Numeric text, dates, memo numbers
 -- and the argument FIELD cite them.
-use Rattle.std.specs.Prelude.{ℕ, zero, suc, ◌+◌, ◌*◌, ◌-◌, ◌/◌, ◌%◌, Bool, true, false, cond, ◌&&◌, List, [], ◌∷◌, ◌++◌, eqb, leb, ltb}
-use Rattle.octets.specs.declared.Digits.{Digits}
-use Rattle.octets.specs.declared.Digits.TheVariants.{Number, Other}
+use Rattle.std.specs.Prelude.{ℕ, zero, suc, ◌+◌, ◌*◌, ◌-◌, ◌/◌, ◌%◌, Bool, true, false, cond, ◌&&◌, List, [], ◌∷◌, ◌++◌, eqb, leb, ltb, None, Some, Option}
 
 -- every character passes a test
 unfoldable pub every : (ℕ → Bool) → List ℕ → Bool
@@ -34,8 +32,8 @@ unfoldable pub number_of : List ℕ → ℕ
 number_of s = number_from 0 s
 
 -- what a text says that should be digits: the number that they stand for, or that it has another character
-unfoldable pub digits_of : List ℕ → Digits
-digits_of s = cond (every is_digit s) (Number (number_of s)) Other
+unfoldable pub digits_of : List ℕ → Option ℕ
+digits_of s = cond (every is_digit s) (Some (number_of s)) None
 
 -- the last count decimal digits of n
 unfoldable pub last_digits : ℕ → ℕ → List ℕ

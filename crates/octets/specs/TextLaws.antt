@@ -1,5 +1,5 @@
 -- Laws: blanks on the left, and characters that pass a test, digits among them. Assumes nothing.
-use Rattle.std.specs.Prelude.{ℕ, zero, suc, ◌+◌, ◌*◌, ◌-◌, ◌≤◌, ◌<◌, ◌≡◌, refl, Bool, true, false, cond, ◌&&◌, List, [], ◌∷◌, ◌++◌, eqb, leb, length, drop, replicate}
+use Rattle.std.specs.Prelude.{ℕ, zero, suc, ◌+◌, ◌*◌, ◌-◌, ◌≤◌, ◌<◌, ◌≡◌, refl, Bool, true, false, cond, ◌&&◌, List, [], ◌∷◌, ◌++◌, eqb, leb, length, drop, replicate, None, Some, Option}
 use Rattle.std.proofs.Math.Nat.{sub_self}
 use Rattle.std.proofs.Common.{add-one, arith, sym, ap, ◌∙◌, length-drop, drop_of_length-le}
 use Rattle.std.proofs.Math.Bool.{and_assoc}
@@ -8,8 +8,6 @@ use borrow.Author.Tests.{leb-true, le-leb, eqb-true, eqb-false, eq-eqb, ne_eqb}
 use Rattle.basis.specs.Tests.{either, both, join}
 use Rattle.octets.specs.Bytes.{byte_at}
 use Rattle.octets.specs.Text.{every, blank, unpadded, zero_digit, is_digit, number_from, number_of, digits_of}
-use Rattle.octets.specs.declared.Digits.{Digits}
-use Rattle.octets.specs.declared.Digits.TheVariants.{Number, Other}
 
 -- ---- one character
 
@@ -98,19 +96,19 @@ digits_no_blanks (c ∷ s) h e = let r = digit_range c (both (is_digit c) (every
 
 -- ---- what digits say
 
-pub digits-read : (s : List ℕ) → every is_digit s ≡ true → digits_of s ≡ Number (number_of s)
+pub digits-read : (s : List ℕ) → every is_digit s ≡ true → digits_of s ≡ Some (number_of s)
 unfolding digits_of
 digits-read s all = rw all
 
-pub digits-unread : (s : List ℕ) → every is_digit s ≡ false → digits_of s ≡ Other
+pub digits-unread : (s : List ℕ) → every is_digit s ≡ false → digits_of s ≡ None
 unfolding digits_of
 digits-unread s other = rw other
 
 -- ---- digits read one after another
 
 -- what the characters s say behind digits that stand for n
-unfoldable pub digits_from : ℕ → List ℕ → Digits
-digits_from n s = cond (every is_digit s) (Number (number_from n s)) Other
+unfoldable pub digits_from : ℕ → List ℕ → Option ℕ
+digits_from n s = cond (every is_digit s) (Some (number_from n s)) None
 
 pub digits-start : (s : List ℕ) → digits_of s ≡ digits_from 0 s
 unfolding digits_of digits_from number_of
@@ -123,10 +121,10 @@ module _ (text : List ℕ) (i : ℕ) (h : i < length text) (n : ℕ) where
   unfolding digits_from every number_from
   digits_more e = rw (add-one, drop-cons text i 0 h, e)
 
-  pub digits_stop : is_digit (byte_at text i) ≡ false → digits_from n (drop i text) ≡ Other
+  pub digits_stop : is_digit (byte_at text i) ≡ false → digits_from n (drop i text) ≡ None
   unfolding digits_from every
   digits_stop e = rw (drop-cons text i 0 h, e)
 
-pub digits-end : (text : List ℕ) (i n : ℕ) → length text ≤ i → digits_from n (drop i text) ≡ Number n
+pub digits-end : (text : List ℕ) (i n : ℕ) → length text ≤ i → digits_from n (drop i text) ≡ Some n
 unfolding digits_from every number_from
 digits-end text i n h = rw (drop_of_length-le text h)

@@ -1,6 +1,6 @@
 -- Laws: any count of bytes as one number decides the order of two strings as the bytes do; so does one byte, and the length decides behind all bytes.
 -- The proofs of `compare` and of the functions that it calls cite them. Assumes nothing.
-use Rattle.std.specs.Prelude.{◌≡◌, refl, List, [], ◌∷◌, length, drop, ltb}
+use Rattle.std.specs.Prelude.{◌≡◌, refl, List, [], ◌∷◌, length, drop, ltb, min}
 use Rattle.std.proofs.Common.{sym, ◌∙◌, add_assoc, add-one, drop_of_length-le, drop-cons}
 use Rattle.std.proofs.Math.Path.{ap}
 use Prim.Native.Nat.{ℕ, zero, suc, ◌+◌, ◌*◌, ◌≤◌, ◌<◌}
@@ -9,11 +9,11 @@ use Rattle.std.proofs.Math.Numerals.{unary_clauses}
 use native.Mathlib.Omega.{arith}
 use borrow.Author.Tests.{ltb-true, ltb-false, lt-ltb, le-ltb}
 use Rattle.basis.specs.Tests.{either}
-use Rattle.octets.specs.declared.Ordering.{Ordering}
-use Rattle.octets.specs.declared.Ordering.TheVariants.{Below, Equal, Above}
+use Rattle.std.specs.declared.cmp.Ordering.{Ordering}
+use Rattle.std.specs.declared.cmp.Ordering.TheVariants.{Less, Equal, Greater}
 use Rattle.octets.specs.Bytes.{byte_at, le32, be32}
 use Rattle.octets.specs.Order.{bytes_le, ordering}
-use Rattle.octets.specs.Words.{le64, bytes_number, smaller, order_then, Decides}
+use Rattle.octets.specs.Words.{le64, bytes_number, order_then, Decides}
 use Rattle.octets.specs.NumberLaws.{le32-below, be32-below}
 use Rattle.octets.specs.OrderLaws.{le_same, le-more, ordering-below, ordering-above, ordering-equal}
 
@@ -21,11 +21,11 @@ use Rattle.octets.specs.OrderLaws.{le_same, le-more, ordering-below, ordering-ab
 
 -- they decide unless they are equal
 module _ (x y : ℕ) (o : Ordering) where
-  pub then_less : x < y → order_then x y o ≡ Below
+  pub then_less : x < y → order_then x y o ≡ Less
   unfolding order_then
   then_less h = rw (lt-ltb x y h)
 
-  pub then_more : y < x → order_then x y o ≡ Above
+  pub then_more : y < x → order_then x y o ≡ Greater
   unfolding order_then
   then_more h = rw (le-ltb x y (omega arith), lt-ltb y x h)
 
@@ -33,7 +33,7 @@ module _ (x y : ℕ) (o : Ordering) where
   unfolding order_then
   then_same h = rw (le-ltb x y (omega arith), le-ltb y x (omega arith))
 
-  then_apart : (x ≡ y → ⊥) → order_then x y o ≡ order_then x y Equal
+  pub then_apart : (x ≡ y → ⊥) → order_then x y o ≡ order_then x y Equal
   unfolding order_then
   then_apart h = either (ltb x y) (λ t. rw t) (λ t. let u : y < x = omega (arith, h, ltb-false x y t) in rw (lt-ltb y x u))
 
@@ -64,16 +64,16 @@ module _ (a b : List ℕ) (i : ℕ) (p : i < length a) (q : i < length b) where
 -- ---- the lengths
 
 -- a string that ends at or before i is below one that goes on
-shorter_below : (a b : List ℕ) (i : ℕ) → length a ≤ i → i < length b → ordering (drop i a) (drop i b) ≡ Below
+shorter_below : (a b : List ℕ) (i : ℕ) → length a ≤ i → i < length b → ordering (drop i a) (drop i b) ≡ Less
 unfolding ordering bytes_le
 shorter_below a b i p q = rw (drop_of_length-le a p, drop-cons b i 0 q)
 
-longer_above : (a b : List ℕ) (i : ℕ) → i < length a → length b ≤ i → ordering (drop i a) (drop i b) ≡ Above
+longer_above : (a b : List ℕ) (i : ℕ) → i < length a → length b ≤ i → ordering (drop i a) (drop i b) ≡ Greater
 unfolding ordering bytes_le
 longer_above a b i p q = rw (drop-cons a i 0 p, drop_of_length-le b q)
 
 -- the lengths decide behind all bytes that both strings have
-pub lengths_decide : (a b : List ℕ) (n : ℕ) → n ≡ smaller (length a) (length b)
+pub lengths_decide : (a b : List ℕ) (n : ℕ) → n ≡ min (length a) (length b)
     → ordering (drop n a) (drop n b) ≡ order_then (length a) (length b) Equal
 lengths_decide a b n is-n = cases (length a) (length b)
     (λ l. shorter_below a b n (omega arith) (omega arith) ∙ sym (then_less _ _ _ l))

@@ -1,10 +1,10 @@
 -- Steps: bytes as one number, and the order of strings by it. Only laws and the contracts of the functions that `compare` calls cite these definitions.
 -- A reader need not believe them: the contract of `compare` cites `Order.ordering` alone.
-use Rattle.std.specs.Prelude.{ℕ, zero, suc, ◌+◌, ◌*◌, ◌-◌, ◌≤◌, ◌≡◌, List, cond, ltb, drop}
+use Rattle.std.specs.Prelude.{ℕ, zero, suc, ◌+◌, ◌*◌, ◌≡◌, List, cond, ltb, drop}
 use Rattle.octets.specs.Bytes.{byte_at, le32}
 use Rattle.octets.specs.Order.{ordering}
-use Rattle.octets.specs.declared.Ordering.{Ordering}
-use Rattle.octets.specs.declared.Ordering.TheVariants.{Below, Above}
+use Rattle.std.specs.declared.cmp.Ordering.{Ordering}
+use Rattle.std.specs.declared.cmp.Ordering.TheVariants.{Less, Greater}
 
 -- the eight bytes at an offset, least significant first
 unfoldable pub le64 : List ℕ → ℕ → ℕ
@@ -15,20 +15,10 @@ unfoldable pub bytes_number : List ℕ → ℕ → ℕ → ℕ
 bytes_number s at zero = 0
 bytes_number s at (suc n) = 256 * bytes_number s at n + byte_at s (at + n)
 
--- the smaller of two numbers
-abbrev pub smaller : ℕ → ℕ → ℕ
-smaller x y = x - (x - y)
-
 -- the order of two numbers, or the order rest if they are equal
 unfoldable pub order_then : ℕ → ℕ → Ordering → Ordering
-order_then x y rest = cond (ltb x y) Below (cond (ltb y x) Above rest)
+order_then x y rest = cond (ltb x y) Less (cond (ltb y x) Greater rest)
 
 -- the n bytes of a and b from offset i on decide as the numbers x and y do: what stands behind them counts only if x and y are equal
 abbrev pub Decides : List ℕ → List ℕ → ℕ → ℕ → ℕ → ℕ → Type 0
 Decides a b i n x y = ordering (drop i a) (drop i b) ≡ order_then x y (ordering (drop (i + n) a) (drop (i + n) b))
-
--- the first r bytes of a and b, at most n, leave the order to the bytes from r on, and the next eight differ if r + 8 ≤ n
-pub record Agree (a b : List ℕ) (n r : ℕ) : Type 0 where
-  pub within : r ≤ n
-  pub same : ordering a b ≡ ordering (drop r a) (drop r b)
-  pub apart : r + 8 ≤ n → bytes_number a r 8 ≡ bytes_number b r 8 → ⊥

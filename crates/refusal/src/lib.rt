@@ -1,140 +1,216 @@
-// The numbers that calls answer, each named once: the refusals of documents 01 and 02, and the C interface's answers that are no refusals. Code gives the
-// names; the rules in `specs/` give the numbers, to be held beside the papers.
+// What calls answer: the refusals of documents 01 and 02, each named once, and the C interface's answers that are no refusals. Code gives the names; the rules
+// in `specs/` give the numbers, to be held beside the papers.
 #![tactic(auto)]
 
 ghost use Rattle.std.specs.Prelude.{◌≡◌};
+ghost use Rattle.refusal.specs.Refusals.{refusal_number, numbered};
 ghost use Rattle.refusal.specs.After.{change_code};
 
-// ---- The table.
+use std::error::Error;
+use std::fmt;
 
-// The table is below 32 or above 16,777,216 bytes.
-pub const TABLE_SIZE: u32 = 1;
+// Why a call is refused. A refusal's number is the one that the papers give it. No refusal has the number 26.
+#[derive(Clone, Copy, Debug, PartialEq, Eq)]
+pub enum Refusal {
+    // ---- The table.
 
-// Byte 0 is neither 0x03 nor 0xF5.
-pub const TABLE_KIND: u32 = 2;
+    // The table is below 32 or above 16,777,216 bytes.
+    TableSize = 1,
 
-// The update date is no calendar date.
-pub const UPDATE_DATE: u32 = 3;
+    // Byte 0 is neither 0x03 nor 0xF5.
+    TableKind = 2,
 
-// The header length is not 33 + 32f with f from 1 to 128, or is above the table's length.
-pub const HEADER_LENGTH: u32 = 4;
+    // The update date is no calendar date.
+    UpdateDate = 3,
 
-// The header's last byte is not 0x0D.
-pub const HEADER_END_MARK: u32 = 5;
+    // The header length is not 33 + 32f with f from 1 to 128, or is above the table's length.
+    HeaderLength = 4,
 
-// A field descriptor breaks its rules. For numeric text: the width or the decimal count is bad.
-pub const FIELD_DESCRIPTOR: u32 = 6;
+    // The header's last byte is not 0x0D.
+    HeaderEndMark = 5,
 
-// Two fields have one name.
-pub const FIELD_NAME_TWICE: u32 = 7;
+    // A field descriptor breaks its rules. For numeric text: the width or the decimal count is bad.
+    FieldDescriptor = 6,
 
-// An M field in a table of kind 0x03, or none in one of kind 0xF5.
-pub const MEMO_FIELD_AND_KIND: u32 = 8;
+    // Two fields have one name.
+    FieldNameTwice = 7,
 
-// The record length is not 1 + the field lengths, or is above 4,000.
-pub const RECORD_LENGTH: u32 = 9;
+    // An M field in a table of kind 0x03, or none in one of kind 0xF5.
+    MemoFieldAndKind = 8,
 
-// The table's length fits neither of its two forms.
-pub const TABLE_LENGTH: u32 = 10;
+    // The record length is not 1 + the field lengths, or is above 4,000.
+    RecordLength = 9,
 
-// ---- One field of one record.
+    // The table's length fits neither of its two forms.
+    TableLength = 10,
 
-// The record number is 0 or above the count.
-pub const RECORD_NUMBER: u32 = 11;
+    // ---- One field of one record.
 
-// The field number is 0 or above the field count.
-pub const FIELD_NUMBER: u32 = 12;
+    // The record number is 0 or above the count.
+    RecordNumber = 11,
 
-// The call reads another type than the field's.
-pub const FIELD_TYPE: u32 = 13;
+    // The field number is 0 or above the field count.
+    FieldNumber = 12,
 
-// The lent field list is shorter than the field count.
-pub const FIELD_LIST_TOO_SHORT: u32 = 14;
+    // The call reads another type than the field's.
+    FieldType = 13,
 
-// The deletion byte is neither 0x20 nor 0x2A.
-pub const DELETION_BYTE: u32 = 15;
+    // The lent field list is shorter than the field count.
+    FieldListTooShort = 14,
 
-// ---- The text of a field, and the memo file.
+    // The deletion byte is neither 0x20 nor 0x2A.
+    DeletionByte = 15,
 
-// A comma in numeric text.
-pub const COMMA: u32 = 16;
+    // ---- The text of a field, and the memo file.
 
-// Other bad numeric text.
-pub const NOT_A_NUMBER: u32 = 17;
+    // A comma in numeric text.
+    Comma = 16,
 
-// More than 18 digits, or a value beyond 18 digits.
-pub const TOO_MANY_DIGITS: u32 = 18;
+    // Other bad numeric text.
+    NotANumber = 17,
 
-// The value's text is longer than the field.
-pub const DOES_NOT_FIT: u32 = 19;
+    // More than 18 digits, or a value beyond 18 digits.
+    TooManyDigits = 18,
 
-// Bad date or logical text.
-pub const DATE_OR_LOGICAL: u32 = 20;
+    // The value's text is longer than the field.
+    DoesNotFit = 19,
 
-// A bad memo number, or a bad place in the memo file.
-pub const MEMO_NUMBER_OR_PLACE: u32 = 21;
+    // Bad date or logical text.
+    DateOrLogical = 20,
 
-// A bad memo header.
-pub const MEMO_HEADER: u32 = 22;
+    // A bad memo number, or a bad place in the memo file.
+    MemoNumberOrPlace = 21,
 
-// The memo's block is not text.
-pub const MEMO_NOT_TEXT: u32 = 23;
+    // A bad memo header.
+    MemoHeader = 22,
 
-// ---- The index.
+    // The memo's block is not text.
+    MemoNotText = 23,
 
-// A bad index header or key expression.
-pub const INDEX_HEADER: u32 = 24;
+    // ---- The index.
 
-// The index is not sound.
-pub const INDEX_NOT_SOUND: u32 = 25;
+    // A bad index header or key expression.
+    IndexHeader = 24,
 
-// The key has another length than the index's keys; for a fresh index: the key length is not 1 to 100.
-pub const KEY_LENGTH: u32 = 27;
+    // The index is not sound.
+    IndexNotSound = 25,
 
-// Record number 0 is offered to the index.
-pub const RECORD_NUMBER_ZERO: u32 = 28;
+    // The key has another length than the index's keys; for a fresh index: the key length is not 1 to 100.
+    KeyLength = 27,
 
-// The key is present.
-pub const KEY_PRESENT: u32 = 29;
+    // Record number 0 is offered to the index.
+    RecordNumberZero = 28,
 
-// There is no room.
-pub const NO_ROOM: u32 = 30;
+    // The key is present.
+    KeyPresent = 29,
 
-// The index and the table do not match.
-pub const INDEX_AND_TABLE_DIFFER: u32 = 31;
+    // There is no room.
+    NoRoom = 30,
 
-// The key that is offered to the index has a control byte, one below 0x20.
-pub const CONTROL_BYTE: u32 = 32;
+    // The index and the table do not match.
+    IndexAndTableDiffer = 31,
 
-// The key to strike off is absent.
-pub const KEY_ABSENT: u32 = 33;
+    // The key that is offered to the index has a control byte, one below 0x20.
+    ControlByte = 32,
 
-// An empty numeric field, which has no key.
-pub const NO_KEY: u32 = 34;
+    // The key to strike off is absent.
+    KeyAbsent = 33,
 
-// ---- The dilution of a sample.
+    // An empty numeric field, which has no key.
+    NoKey = 34,
 
-// The barcode is absent from the index, or its record is deleted.
-pub const BARCODE_ABSENT: u32 = 35;
+    // ---- The dilution of a sample.
 
-// The concentration is empty, zero or negative.
-pub const NO_CONCENTRATION: u32 = 36;
+    // The barcode is absent from the index, or its record is deleted.
+    BarcodeAbsent = 35,
 
-// The target or the final volume is out of its range.
-pub const TARGET_OR_VOLUME: u32 = 37;
+    // The concentration is empty, zero or negative.
+    NoConcentration = 36,
 
-// The target is above the concentration.
-pub const TARGET_ABOVE_CONCENTRATION: u32 = 38;
+    // The target or the final volume is out of its range.
+    TargetOrVolume = 37,
 
-// ---- All records of a key.
+    // The target is above the concentration.
+    TargetAboveConcentration = 38,
 
-// The lent list is shorter than the records of the key.
-pub const LIST_TOO_SHORT: u32 = 39;
+    // ---- All records of a key.
 
-// ---- A program's arguments.
+    // The lent list is shorter than the records of the key.
+    ListTooShort = 39,
 
-// Other arguments or input, or a file that can't be read or is too long.
-pub const ARGUMENTS_OR_FILES: u32 = 40;
+    // ---- A program's arguments.
+
+    // Other arguments or input, or a file that can't be read or is too long.
+    ArgumentsOrFiles = 40,
+}
+
+impl Refusal {
+    // The number that the papers give the refusal.
+    pub fn number(self) -> u32
+        ensures { result ≡ refusal_number self }
+    {
+        self as u32
+    }
+}
+
+// A refusal's words, as the page of the program `inspect` has them.
+impl fmt::Display for Refusal {
+    fn fmt<W: fmt::Write>(&self, f: &mut fmt::Formatter<W>) -> fmt::Result {
+        f.write_str(match self {
+            Refusal::TableSize => "size of the table",
+            Refusal::TableKind => "kind of table",
+            Refusal::UpdateDate => "update date",
+            Refusal::HeaderLength => "header length",
+            Refusal::HeaderEndMark => "header end mark",
+            Refusal::FieldDescriptor => "field descriptor",
+            Refusal::FieldNameTwice => "field name twice",
+            Refusal::MemoFieldAndKind => "memo field and kind of table",
+            Refusal::RecordLength => "record length",
+            Refusal::TableLength => "table length",
+            Refusal::RecordNumber => "record number",
+            Refusal::FieldNumber => "field number",
+            Refusal::FieldType => "field type",
+            Refusal::FieldListTooShort => "field list too short",
+            Refusal::DeletionByte => "deletion byte",
+            Refusal::Comma => "comma in a number",
+            Refusal::NotANumber => "not a number",
+            Refusal::TooManyDigits => "more than 18 digits",
+            Refusal::DoesNotFit => "does not fit the field",
+            Refusal::DateOrLogical => "not a date or logical value",
+            Refusal::MemoNumberOrPlace => "memo number or place",
+            Refusal::MemoHeader => "memo header",
+            Refusal::MemoNotText => "memo is not text",
+            Refusal::IndexHeader => "index header",
+            Refusal::IndexNotSound => "index not sound",
+            Refusal::KeyLength => "key length",
+            Refusal::RecordNumberZero => "record number 0",
+            Refusal::KeyPresent => "key present",
+            Refusal::NoRoom => "no room",
+            Refusal::IndexAndTableDiffer => "index and table differ",
+            Refusal::ControlByte => "control byte in the key",
+            Refusal::KeyAbsent => "key absent",
+            Refusal::NoKey => "no number to index",
+            Refusal::BarcodeAbsent => "barcode absent or deleted",
+            Refusal::NoConcentration => "no concentration",
+            Refusal::TargetOrVolume => "target or volume out of range",
+            Refusal::TargetAboveConcentration => "target above concentration",
+            Refusal::ListTooShort => "list too short",
+            Refusal::ArgumentsOrFiles => "arguments or files",
+        })
+    }
+}
+
+impl Error for Refusal {}
+
+// The number of an answer without a value: 0 if the call is accepted, or the refusal's.
+pub fn change_code(answer: Result<(), Refusal>) -> u32
+    ensures { result ≡ change_code (numbered answer) }
+{
+    match answer {
+        Ok(()) => 0,
+        Err(refusal) => refusal.number(),
+    }
+}
 
 // ---- Answers that are no refusals. 0 is an accepted call's.
 
@@ -146,22 +222,3 @@ pub const ABSENT: u32 = 257;
 
 // The walk has no record left.
 pub const DONE: u32 = 258;
-
-// ---- A call that writes.
-
-// Its answer: the change is made, or refused by a number, and nothing is changed.
-#[derive(Clone, Copy)]
-pub enum Change {
-    Made,
-    Refused(u32),
-}
-
-// The number of such an answer: 0, or the refusal's.
-pub fn change_code(answer: Change) -> u32
-    ensures { result ≡ change_code answer }
-{
-    match answer {
-        Change::Made => 0,
-        Change::Refused(refusal) => refusal,
-    }
-}

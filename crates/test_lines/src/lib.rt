@@ -1,77 +1,72 @@
-// Lines of words, as the test programs read them: a line's words, decimal numbers, and bytes in hexadecimal. And a number is printed.
+// Lines of words, as the test programs read them: words with one blank between, decimal numbers, bytes in hexadecimal, and calls on an index. And what the test
+// programs do alike with the bytes of files.
 #![tactic(auto)]
 
-ghost use Rattle.std.specs.Prelude.{◌≤◌, length};
+pub mod calls;
 
-pub fn print_number(out: &impl Print, n: u32) {
-    let _ = out.print(n);
+use std::alloc::Global;
+use std::io::ErrorKind;
+use std::str::{FromStr, Split};
+use std::{io, str};
+
+// The words of a line.
+pub fn words(line: &str) -> Split<'_, char> {
+    line.split(' ')
 }
 
-// The first index from `from` on where the byte stands, or the length.
-pub fn find(s: &[u8], from: usize, byte: u8) -> usize
-    requires { from ≤ length s.now }
-    ensures { (from ≤ result) × (result ≤ length s.now) }
+// That a line is none of its list.
+pub fn bad_line() -> io::Error {
+    io::Error::new(ErrorKind::InvalidData, "a test's line has other words")
+}
+
+// The next word of a line.
+pub fn word<'a>(words: &mut Split<'a, char>) -> io::Result<&'a str> {
+    words.next().ok_or_else(bad_line)
+}
+
+// The number that a word says.
+pub fn parse<T: FromStr>(word: &str) -> io::Result<T>
+where
+    T::Err: Drop,
 {
-    let mut i = from;
-    while i < s.len() {
-        if s[i] == byte {
-            return i;
-        }
-        i += 1;
-    }
-    i
+    word.parse().map_err(|_| bad_line())
 }
 
-// The first word.
-pub fn word(s: &[u8]) -> &[u8] {
-    let end = find(s, 0, b' ');
-    &s[..end]
-}
-
-// The text behind the first word and one space.
-pub fn after_word(s: &[u8]) -> &[u8] {
-    let end = find(s, 0, b' ');
-    if end < s.len() {
-        return &s[end + 1..];
-    }
-    &s[end..]
-}
-
-// The number that the first word says, in at most nine digits.
-pub fn first_number(s: &[u8]) -> u32 {
-    let end = find(s, 0, b' ');
-    let mut n: u32 = 0;
-    let mut i = 0;
-    while i < end {
-        n = (n % 100000000) * 10 + (s[i] % 16) as u32;
-        i += 1;
-    }
-    n
-}
-
-// The value of a hexadecimal digit, in small letters or capitals.
-fn hex_value(c: u8) -> u8
-    ensures { result ≤ 15 }
+// The number that the next word says.
+pub fn number<T: FromStr>(words: &mut Split<'_, char>) -> io::Result<T>
+where
+    T::Err: Drop,
 {
-    if c <= b'9' {
-        return c % 16;
-    }
-    (c % 16 + 9) % 16
+    parse(word(words)?)
 }
 
-// Writes the bytes that a word in hexadecimal says, and answers how many there are. `-` says none.
-pub fn hex_bytes(word: &[u8], out: &mut [u8]) -> usize
-    ensures { result ≤ length out.new }
-{
-    let mut n = 0;
-    let mut i = 0;
-    while i + 1 < word.len() {
-        if out.len() <= n {
-            return n;
-        }
-        out[n] = hex_value(word[i]) * 16 + hex_value(word[i + 1]);
-        n += 1;
-        i += 2;
+// The byte that two hexadecimal digits say.
+fn hex_byte(digits: &[u8]) -> io::Result<u8> {
+    let digits = str::from_utf8(digits).map_err(|_| bad_line())?;
+    u8::from_str_radix(digits, 16).map_err(|_| bad_line())
+}
+
+// The bytes that a word in hexadecimal says. `-` says none.
+pub fn hex_bytes(alloc: Global, word: &str) -> io::Result<Vec<u8>> {
+    word.as_bytes()
+        .chunks_exact(2)
+        .map(hex_byte)
+        .try_collect(alloc)
+}
+
+// Sets the byte at an offset, if there are so many.
+pub fn set_byte(bytes: &mut [u8], at: usize, value: u8) {
+    if let Some(byte) = bytes.get_mut(at) {
+        *byte = value;
     }
-    n
+}
+
+// Whether a buffer begins with the bytes of an index file.
+pub fn begins_with(buffer: &[u8], file: &[u8]) -> bool {
+    1024 <= file.len() && buffer.starts_with(file)
+}
+
+// Prints whether bytes are those of a file.
+pub fn print_same(out: &impl Print, name: &str, same: bool) -> io::Result<()> {
+    println!(out; "{name} {}", if same { "same" } else { "differs" })
 }

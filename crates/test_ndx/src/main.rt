@@ -2,95 +2,61 @@
 // beside src/ says where the files and the answers came from.
 #![tactic(auto)]
 
-use idx_lookup::Answer;
-use std::rt::Files;
-use test_lines::{after_word, word};
+use idx_lookup::Outcome;
+use std::str::Split;
+use std::{fs, io};
+use test_lines::{bad_line, number, word};
 
-fn print_part(out: &impl Print, n: u32) {
-    lines::print(out, b" ");
-    test_lines::print_number(out, n);
-}
-
-// The answer of a lookup, its record and the pages visited, 0 for what an answer does not have.
-fn print_lookup(out: &impl Print, code: u32, number: u32, pages: u32) {
-    print_part(out, code);
-    print_part(out, number);
-    print_part(out, pages);
-}
-
-// A lookup, by its key in hexadecimal.
-fn look_up(out: &impl Print, index: &[u8], hex: &[u8]) {
-    let mut key = [0u8; 256];
-    let n = test_lines::hex_bytes(hex, &mut key);
-    lines::print(out, b" l ");
-    lines::print(out, hex);
-    match ndx_page::lookup(index, &key[..n]) {
-        Answer::Found(number, pages) => print_lookup(out, 0, number.0, pages),
-        Answer::Absent(pages) => print_lookup(out, refusal::ABSENT, 0, pages),
-        Answer::Refused(code) => print_lookup(out, code, 0, 0),
+// A lookup, by its key in hexadecimal: the answer, the record and the pages visited, 0 for what an answer does not have.
+fn look_up(rt: &HostRuntime, index: &[u8], hex: &str) -> io::Result<()> {
+    let key = test_lines::hex_bytes(rt.alloc(), hex)?;
+    print!(rt; " l {hex} ")?;
+    match ndx_page::lookup(index, &key) {
+        Ok(
+            Outcome {
+                found: Some(number),
+                pages,
+            },
+        ) => print!(rt; "0 {} {pages}", number.0),
+        Ok(Outcome { found: None, pages }) => print!(rt; "{} 0 {pages}", refusal::ABSENT),
+        Err(refusal) => print!(rt; "{} 0 0", refusal.number()),
     }
 }
 
-// An audit.
-fn audit(out: &impl Print, index: &[u8]) {
-    lines::print(out, b" a");
-    print_part(out, ndx_audit::audit(index));
+fn audit(rt: &HostRuntime, index: &[u8]) -> io::Result<()> {
+    print!(rt; " a {}", refusal::change_code(ndx_audit::audit(index)))
 }
 
-// Sets a byte, if the file has so many.
-fn set_byte(index: &mut [u8], at: usize, value: u8) {
-    if index.len() <= at {
-        return;
-    }
-    index[at] = value;
-}
-
-// `set AT BYTE l KEY`: an audit and a lookup after one byte was set.
-fn run_damaged(out: &impl Print, index: &mut [u8], call: &[u8]) {
-    let place = after_word(call);
-    let value = after_word(place);
-    set_byte(
-        index,
-        test_lines::first_number(place) as usize,
-        (test_lines::first_number(value) % 256) as u8,
-    );
-    lines::print(out, b" set ");
-    lines::print(out, word(place));
-    lines::print(out, b" ");
-    lines::print(out, word(value));
-    audit(out, index);
-    look_up(out, index, word(after_word(after_word(value))));
+// `AT BYTE l KEY`: an audit and a lookup after one byte was set.
+fn run_damaged(rt: &HostRuntime, index: &mut [u8], words: &mut Split<'_, char>) -> io::Result<()> {
+    let at = number(words)?;
+    let value = number(words)?;
+    let key = words.nth(1).ok_or_else(bad_line)?;
+    test_lines::set_byte(index, at, value);
+    print!(rt; " set {at} {value}")?;
+    audit(rt, index)?;
+    look_up(rt, index, key)
 }
 
 // `FILE a`, `FILE l KEY` or `FILE set AT BYTE l KEY`.
-fn run_line(rt: &(impl Files + Print), err: &impl Print, line: &[u8]) {
-    let mut index = [0u8; 65536];
-    let n = files::load(rt, err, word(line), &mut index).len;
-    let call = after_word(line);
-    lines::print(rt, word(line));
-    if call.len() == 0 {
-        return;
+fn run_line(rt: &HostRuntime, line: &str) -> io::Result<()> {
+    let mut words = test_lines::words(line);
+    let file = word(&mut words)?;
+    let mut index = fs::read(rt, file)?;
+    print!(rt; "{file}")?;
+    match word(&mut words)? {
+        "a" => audit(rt, &index)?,
+        "l" => look_up(rt, &index, word(&mut words)?)?,
+        "set" => run_damaged(rt, &mut index, &mut words)?,
+        _ => return Err(bad_line()),
     }
-    match call[0] {
-        b'a' => audit(rt, &index[..n]),
-        b'l' => look_up(rt, &index[..n], word(after_word(call))),
-        _ => run_damaged(rt, &mut index[..n], call),
-    }
-    lines::print(rt, b"\n");
+    println!(rt;)
 }
 
-fn run_lines(rt: &(impl Files + Print), err: &impl Print, list: &[u8]) {
-    let mut from = 0;
-    while from < list.len() {
-        let end = test_lines::find(list, from, b'\n');
-        run_line(rt, err, &list[from..end]);
-        from = end + 1;
+fn main(rt: HostRuntime) -> io::Result<()> {
+    let list = fs::read_to_string(&rt, "k13.calls")?;
+    for line in list.as_str().lines() {
+        run_line(&rt, line)?;
     }
-}
-
-fn main(rt: HostRuntime) {
-    let err = rt.stderr();
-    let mut list = [0u8; 65536];
-    let n = files::load(&rt, &err, b"k13.calls", &mut list).len;
-    run_lines(&rt, &err, &list[..n]);
+    Ok(())
 }

@@ -3,201 +3,178 @@
 // README.md beside src/ says where the files and the expected lines came from.
 #![tactic(auto)]
 
-use lines::print;
+use refusal::Refusal;
 use std::rt::Files;
+use std::{fs, io};
 
-// Prints the word of argument i, if there are as many arguments.
-fn word(out: &impl Print, arguments: usize, i: usize, text: &[u8]) {
-    if i <= arguments {
-        print(out, b" ");
-        print(out, text);
-    }
-}
+const TABLES: [&str; 8] = [
+    "shp_point.dbf",
+    "shp_comma.dbf",
+    "xbase_plain.dbf",
+    "fpc_l3.dbf",
+    "gdal.dbf",
+    "pydbf_db3.dbf",
+    "pydbf_fp.dbf",
+    "xbase_83.dbf",
+];
 
-fn run<'a>(
-    rt: &(impl Files + Print),
-    err: &impl Print,
-    arguments: usize,
-    table: &'a [u8],
-    memo: &'a [u8],
-    index: &'a [u8],
-    field: &'a [u8],
-) {
-    print(rt, b"==");
-    word(rt, arguments, 1, table);
-    word(rt, arguments, 2, memo);
-    word(rt, arguments, 3, index);
-    word(rt, arguments, 4, field);
-    print(rt, b"\n");
-    inspect_report::inspect(rt, err, arguments, table, memo, index, field);
-}
+const MEMOS: [&str; 3] = [
+    "xbase_f5.dbf xbase_f5.fpt",
+    "fpc_fox.dbf fpc_fox.fpt",
+    "xbase_f5.dbf -",
+];
 
-fn alone(rt: &(impl Files + Print), err: &impl Print, table: &[u8]) {
-    run(rt, err, 1, table, b"", b"", b"");
-}
-
-fn with_memo<'a>(rt: &(impl Files + Print), err: &impl Print, table: &'a [u8], memo: &'a [u8]) {
-    run(rt, err, 2, table, memo, b"", b"");
-}
-
-fn with_index<'a>(
-    rt: &(impl Files + Print),
-    err: &impl Print,
-    table: &'a [u8],
-    index: &'a [u8],
-    field: &'a [u8],
-) {
-    run(rt, err, 4, table, b"-", index, field);
-}
-
-// Runs on the sound index of `xbase_s20`.
-fn with_sound_index<'a>(
-    rt: &(impl Files + Print),
-    err: &impl Print,
-    table: &'a [u8],
-    field: &'a [u8],
-) {
-    with_index(rt, err, table, b"xbase_s20_unique.idx", field);
-}
-
-// Runs on a table that the sound index does not belong to.
-fn with_other_index(rt: &(impl Files + Print), err: &impl Print, field: &[u8]) {
-    with_sound_index(rt, err, b"shp_point.dbf", field);
-}
-
-// Runs with a FIELD and without an index.
-fn with_field(rt: &(impl Files + Print), err: &impl Print, field: &[u8]) {
-    with_index(rt, err, b"shp_comma.dbf", b"-", field);
-}
-
-fn tables(rt: &(impl Files + Print), err: &impl Print) {
-    alone(rt, err, b"shp_point.dbf");
-    alone(rt, err, b"shp_comma.dbf");
-    alone(rt, err, b"xbase_plain.dbf");
-    alone(rt, err, b"fpc_l3.dbf");
-    alone(rt, err, b"gdal.dbf");
-    alone(rt, err, b"pydbf_db3.dbf");
-    alone(rt, err, b"pydbf_fp.dbf");
-    alone(rt, err, b"xbase_83.dbf");
-}
-
-fn memos(rt: &(impl Files + Print), err: &impl Print) {
-    with_memo(rt, err, b"xbase_f5.dbf", b"xbase_f5.fpt");
-    with_memo(rt, err, b"fpc_fox.dbf", b"fpc_fox.fpt");
-    with_memo(rt, err, b"xbase_f5.dbf", b"-");
-}
-
-fn indexes(rt: &(impl Files + Print), err: &impl Print) {
-    with_index(rt, err, b"xbase_s20.dbf", b"xbase_s20.idx", b"1");
-    with_sound_index(rt, err, b"xbase_s20.dbf", b"1");
-    run(
-        rt,
-        err,
-        3,
-        b"pydbf_fp.dbf",
-        b"-",
-        b"xbase_s20_unique.idx",
-        b"",
-    );
-    with_sound_index(rt, err, b"pydbf_fp.dbf", b"1");
-}
+const INDEXES: [&str; 4] = [
+    "xbase_s20.dbf - xbase_s20.idx 1",
+    "xbase_s20.dbf - xbase_s20_unique.idx 1",
+    "pydbf_fp.dbf - xbase_s20_unique.idx",
+    "pydbf_fp.dbf - xbase_s20_unique.idx 1",
+];
 
 // No such field, a number for 33 bits, a field of another type, and records that have no entry.
-fn fields(rt: &(impl Files + Print), err: &impl Print) {
-    with_other_index(rt, err, b"0");
-    with_other_index(rt, err, b"4294967297");
-    with_other_index(rt, err, b"2");
-    with_other_index(rt, err, b"0000000001");
-}
+const FIELDS: [&str; 4] = [
+    "shp_point.dbf - xbase_s20_unique.idx 0",
+    "shp_point.dbf - xbase_s20_unique.idx 4294967297",
+    "shp_point.dbf - xbase_s20_unique.idx 2",
+    "shp_point.dbf - xbase_s20_unique.idx 0000000001",
+];
 
-fn refused_files(rt: &(impl Files + Print), err: &impl Print) {
-    run(rt, err, 0, b"", b"", b"", b"");
-    alone(rt, err, b"none.dbf");
-    alone(rt, err, b".");
-    with_memo(rt, err, b"shp_point.dbf", b"none.fpt");
-    with_index(rt, err, b"shp_point.dbf", b"none.idx", b"1");
-}
+const REFUSED_FILES: [&str; 5] = [
+    "",
+    "none.dbf",
+    ".",
+    "shp_point.dbf none.fpt",
+    "shp_point.dbf - none.idx 1",
+];
 
 // The last is no refusal: without an index there is nothing to match.
-fn refused_fields(rt: &(impl Files + Print), err: &impl Print) {
-    with_field(rt, err, b"00000000001");
-    with_field(rt, err, b"1a");
-    with_field(rt, err, b"BARCODES_11");
-    with_field(rt, err, b"1");
-}
+const REFUSED_FIELDS: [&str; 4] = [
+    "shp_comma.dbf - - 00000000001",
+    "shp_comma.dbf - - 1a",
+    "shp_comma.dbf - - BARCODES_11",
+    "shp_comma.dbf - - 1",
+];
 
 // Fields by their names: one that matches, one of another type, the beginning of a name, a name and more, and bytes that are no field's name. The last run is
 // on a refused table: no name of it is known, so the match's answer is the table's refusal.
-fn names(rt: &(impl Files + Print), err: &impl Print) {
-    with_sound_index(rt, err, b"xbase_s20.dbf", b"BARCODE");
-    with_other_index(rt, err, b"OK");
-    with_other_index(rt, err, b"BARCOD");
-    with_other_index(rt, err, b"BARCODE_10");
-    with_index(rt, err, b"shp_point.dbf", b"xbase_s20.idx", b"-");
-    with_sound_index(rt, err, b"pydbf_fp.dbf", b"BARCODE");
+const NAMES: [&str; 6] = [
+    "xbase_s20.dbf - xbase_s20_unique.idx BARCODE",
+    "shp_point.dbf - xbase_s20_unique.idx OK",
+    "shp_point.dbf - xbase_s20_unique.idx BARCOD",
+    "shp_point.dbf - xbase_s20_unique.idx BARCODE_10",
+    "shp_point.dbf - xbase_s20.idx -",
+    "pydbf_fp.dbf - xbase_s20_unique.idx BARCODE",
+];
+
+const REFUSALS: [Refusal; 39] = [
+    Refusal::TableSize,
+    Refusal::TableKind,
+    Refusal::UpdateDate,
+    Refusal::HeaderLength,
+    Refusal::HeaderEndMark,
+    Refusal::FieldDescriptor,
+    Refusal::FieldNameTwice,
+    Refusal::MemoFieldAndKind,
+    Refusal::RecordLength,
+    Refusal::TableLength,
+    Refusal::RecordNumber,
+    Refusal::FieldNumber,
+    Refusal::FieldType,
+    Refusal::FieldListTooShort,
+    Refusal::DeletionByte,
+    Refusal::Comma,
+    Refusal::NotANumber,
+    Refusal::TooManyDigits,
+    Refusal::DoesNotFit,
+    Refusal::DateOrLogical,
+    Refusal::MemoNumberOrPlace,
+    Refusal::MemoHeader,
+    Refusal::MemoNotText,
+    Refusal::IndexHeader,
+    Refusal::IndexNotSound,
+    Refusal::KeyLength,
+    Refusal::RecordNumberZero,
+    Refusal::KeyPresent,
+    Refusal::NoRoom,
+    Refusal::IndexAndTableDiffer,
+    Refusal::ControlByte,
+    Refusal::KeyAbsent,
+    Refusal::NoKey,
+    Refusal::BarcodeAbsent,
+    Refusal::NoConcentration,
+    Refusal::TargetOrVolume,
+    Refusal::TargetAboveConcentration,
+    Refusal::ListTooShort,
+    Refusal::ArgumentsOrFiles,
+];
+
+// Runs `inspect` on the words of a line.
+fn run(rt: &(impl Files + Print + AllocGlobal), err: &impl Print, line: &str) -> io::Result<()> {
+    print!(rt; "==")?;
+    let mut words = Vec::new(rt.alloc());
+    for word in line.split_whitespace() {
+        print!(rt; " {word}")?;
+        words.push(word.as_bytes())?;
+    }
+    println!(rt)?;
+    Ok(inspect_report::inspect(rt, err, &words)?)
+}
+
+fn run_all(
+    rt: &(impl Files + Print + AllocGlobal),
+    err: &impl Print,
+    lines: &[&str],
+) -> io::Result<()> {
+    for line in lines {
+        run(rt, err, line)?;
+    }
+    Ok(())
 }
 
 // Prints the text of a C or an M field as `inspect` prints a text of plain bytes, and nothing for a field without text.
-fn text_line<'a>(out: &impl Print, table: &'a [u8], memo: &'a [u8], number: u32, j: u32) {
+fn print_text(out: &impl Print, table: &[u8], memo: &[u8], number: u32, j: u32) -> io::Result<()> {
     let text = dbf_cell::text(table, memo, number, j);
-    if text.len() == 0 {
-        return;
+    if text.is_empty() {
+        return Ok(());
     }
-    print(out, b"value ");
-    test_lines::print_number(out, number);
-    print(out, b" ");
-    test_lines::print_number(out, j);
-    print(out, b" 0 \"");
-    print(out, text);
-    print(out, b"\"\n");
+    print!(out; "value {number} {j} 0 \"")?;
+    out.write_all(text)?;
+    println!(out; "\"")
 }
 
-// The two fields of `xbase_f5` that have texts.
-fn record_texts<'a>(out: &impl Print, table: &'a [u8], memo: &'a [u8], number: u32) {
-    text_line(out, table, memo, number, 1);
-    text_line(out, table, memo, number, 5);
-}
-
-fn texts(rt: &(impl Files + Print), err: &impl Print) {
-    let mut table = [0u8; 65536];
-    let mut memo = [0u8; 65536];
-    let n = files::load(rt, err, b"xbase_f5.dbf", &mut table).len;
-    let m = files::load(rt, err, b"xbase_f5.fpt", &mut memo).len;
-    print(rt, b"-- texts xbase_f5.dbf xbase_f5.fpt\n");
-    record_texts(rt, &table[..n], &memo[..m], 1);
-    record_texts(rt, &table[..n], &memo[..m], 2);
-    record_texts(rt, &table[..n], &memo[..m], 3);
-    record_texts(rt, &table[..n], &memo[..m], 4);
-    record_texts(rt, &table[..n], &memo[..m], 5);
-}
-
-fn words_line(out: &impl Print, code: u32) {
-    let mut line = lines::empty_line();
-    let end = lines::put_number(out, &mut line, 0, code as u64);
-    let end = lines::put(out, &mut line, end, b" ");
-    let end = refusal_words::put_words(out, &mut line, end, code);
-    lines::print_line(out, &mut line, end);
-}
-
-// The words of the codes 1 to 40. 26 is no refusal and has none.
-fn words(out: &impl Print) {
-    print(out, b"-- words\n");
-    let mut code = 0;
-    while code < 40 {
-        code += 1;
-        words_line(out, code);
+// The two fields of `xbase_f5` that have texts, of all its records.
+fn print_texts(rt: &(impl Files + Print + AllocGlobal)) -> io::Result<()> {
+    let table = fs::read(rt, "xbase_f5.dbf")?;
+    let memo = fs::read(rt, "xbase_f5.fpt")?;
+    println!(rt; "-- texts xbase_f5.dbf xbase_f5.fpt")?;
+    for number in 1..=5 {
+        print_text(rt, &table, &memo, number, 1)?;
+        print_text(rt, &table, &memo, number, 5)?;
     }
+    Ok(())
 }
 
-fn main(rt: HostRuntime) {
+// The words of the refusals 1 to 40. 26 is no refusal and has none.
+fn print_words(out: &impl Print) -> io::Result<()> {
+    println!(out; "-- words")?;
+    for number in 1..=40 {
+        match REFUSALS.iter().find(|refusal| refusal.number() == number) {
+            Some(refusal) => println!(out; "{number} {refusal}")?,
+            None => println!(out; "{number} ")?,
+        }
+    }
+    Ok(())
+}
+
+fn main(rt: HostRuntime) -> io::Result<()> {
     let err = rt.stderr();
-    tables(&rt, &err);
-    memos(&rt, &err);
-    indexes(&rt, &err);
-    fields(&rt, &err);
-    refused_files(&rt, &err);
-    refused_fields(&rt, &err);
-    names(&rt, &err);
-    texts(&rt, &err);
-    words(&rt);
+    run_all(&rt, &err, &TABLES)?;
+    run_all(&rt, &err, &MEMOS)?;
+    run_all(&rt, &err, &INDEXES)?;
+    run_all(&rt, &err, &FIELDS)?;
+    run_all(&rt, &err, &REFUSED_FILES)?;
+    run_all(&rt, &err, &REFUSED_FIELDS)?;
+    run_all(&rt, &err, &NAMES)?;
+    print_texts(&rt)?;
+    print_words(&rt)
 }

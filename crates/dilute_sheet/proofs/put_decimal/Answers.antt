@@ -1,4 +1,4 @@
--- `dilute_sheet::put_decimal` meets its contract: the writer's text without its blanks is the number's digits. Assumes nothing.
+-- `put_decimal`: the writer's text without its blanks is the number's digits.
 use mir.Syntax.{w64}
 use mir.ValLaws.{to_z_pos}
 use Rattle.std.specs.Prelude.{ℕ, List, refl}

@@ -11,7 +11,6 @@ within_plan table room plan e = rw e (plan_fits table room)
 
 pub loop-j-init : goal.loop-j-init
 loop-j-init c = record {
-  within = omega arith;
   last = c.deletion_entry-last.ensures ∙ last_none c.args.table.now;
   entries = listed-none c.args.table.now c.args.entries.now;
 }
@@ -30,13 +29,12 @@ bounds-entries-j c = omega (arith, c.loop-j-test.true, (within_plan _ _ _ c.list
 
 pub loop-j-preserved : goal.loop-j-preserved
 loop-j-preserved c = record {
-  within = omega arith;
   last = c.next_entry-last.ensures ∙ last-next c.args.table.now c.loop-j.j;
   entries = rw (c.loop-j.invariant.entries, c.next_entry-last.ensures) (listed_more c.args.table.now c.loop-j.j c.args.entries.now);
 }
 
 pub returns : goal.returns
 returns c =
-    let planned : c.loop-j.j ≡ c.listing_plan-plan.result.count = omega (arith, c.loop-j.invariant.within) in
+    let planned : c.loop-j.j ≡ c.listing_plan-plan.result.count = omega (arith, c.loop-j.auto.j-end) in
     rw (c.loop-j.invariant.entries, c.listing_plan-plan.ensures)
     (listing_is c.args.table.now c.args.entries.now c.loop-j.j (rw c.listing_plan-plan.ensures at planned))

@@ -26,7 +26,7 @@ room_next : (es : List FieldEntry) (room after : List ℕ) (j : ℕ) (past : Fie
 room_next es room after j past l before e = e ∙ rw (before, get_or_default es j past no_entry l) (copied_more es j)
 
 pub loop-j-init : goal.loop-j-init
-loop-j-init c = record { within = omega arith; named = tt; room = c.no_fields-room.ensures ∙ copied_none c.args.entries.now }
+loop-j-init c = record { named = tt; room = c.no_fields-room.ensures ∙ copied_none c.args.entries.now }
 
 pub offset_bounds-entries-j : goal.offset_bounds-entries-j
 offset_bounds-entries-j c =
@@ -43,13 +43,13 @@ pub loop-j-preserved : goal.loop-j-preserved
 loop-j-preserved c =
     let inside : c.loop-j.j < length c.args.entries.now = below_length _ _ _ c.listed_count-count.ensures c.loop-j-test.true in
     record {
-      within = omega arith;
       named = named_next c.args.entries.now c.loop-j.j _ inside c.loop-j.invariant.named c.write_field.ensures.named;
       room = room_next c.args.entries.now c.loop-j.room c.write_field.new.room c.loop-j.j _ inside c.loop-j.invariant.room c.write_field.ensures.written;
     }
 
 pub returns : goal.returns
 returns c =
-    let copied : c.loop-j.j ≡ c.listed_count-count.result = omega (arith, c.loop-j.invariant.within) in
-    lay_listed c.args.buffer.now c.args.entries.now c.args.year c.args.month c.args.day c.loop-j.j (copied ∙ c.listed_count-count.ensures)
-    c.loop-j.invariant.named ∙ rw c.loop-j.invariant.room at c.lay_out.ensures
+    let copied : c.loop-j.j ≡ c.listed_count-count.result = omega (arith, c.loop-j.auto.j-end) in
+    rw c.change_code.ensures
+    (lay_listed c.args.buffer.now c.args.entries.now c.args.year c.args.month c.args.day c.loop-j.j (copied ∙ c.listed_count-count.ensures)
+    c.loop-j.invariant.named ∙ rw c.loop-j.invariant.room at c.lay_out.ensures)

@@ -78,7 +78,7 @@ compare-entry-requires c κs =
     let begun = start ended.before in
     rw (field-length _ begun.args.column _ _ (number ended.before) begun.requires.0 ended.records_end.ensures.0) begun.requires.1
 
-is-equal-requires : tie.Need-is_equal-requires
+is-equal-requires : tie.Need-is_eq-requires
 is-equal-requires c κs = search rules
 
 returns-2 : tie.Need-returns
@@ -87,7 +87,7 @@ returns-2 c =
     let ended = compared.before.before.before.before in
     let begun = start ended.before in
     entry_compared _ begun.args.column _ _ (number ended.before) begun.requires.0 ended.records_end.ensures.0 _ _ _ _ _
-    (numbered ended.before).record_number-number.ensures compared.compare_entry.ensures c.is_equal.ensures
+    (numbered ended.before).record_number-number.ensures compared.compare_entry.ensures c.is_eq.ensures
 
 pub entry_good_spec : {M : Type 1} → statement M
 entry_good_spec =

@@ -1,4 +1,4 @@
--- The levels left fall with each call.
+-- The levels that are left fall.
 use Rattle.idx_remove_pair.proofs.+remove_under.Given as goal
 
 abbrev pub decreases-remove_under : goal.decreases-remove_under

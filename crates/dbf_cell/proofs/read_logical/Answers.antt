@@ -1,0 +1,17 @@
+-- A refusal, or what stands at the field's place.
+use Rattle.std.proofs.Common.{sym, ◌∙◌}
+use Rattle.std.proofs.lemmas.Result.{err_from_is_err_and}
+use Rattle.dbf_cell.specs.declared.Reads.TheVariants.{Logicals}
+use Rattle.dbf_cell.specs.CellLaws.{cell_at, logical_refused, logical_read}
+use Rattle.dbf_cell.proofs.read_logical.Goals as goal
+
+pub returns-in_err-place : goal.returns-in_err-place
+returns-in_err-place c =
+    let p = err_from_is_err_and c.from_residual.result c.from_residual.ensures.1 in
+    rw (p.1, p.2) (sym (logical_refused _ _ _ _ (sym c.in_err-place.ensures)))
+
+pub logical_at-requires : goal.logical_at-requires
+logical_at-requires c = (cell_at Logicals _ _ _ _ (sym c.in_ok-place.ensures)).within
+
+pub returns : goal.returns
+returns c = c.logical_at.ensures ∙ sym (logical_read _ _ _ _ (sym c.in_ok-place.ensures))

@@ -1,0 +1,8 @@
+-- `text`: the text of a field that lies in the table lies in its file.
+use Rattle.dbf_cell.specs.CellLaws.{at-within}
+use Rattle.inspect_report.proofs.report.Report.text.Goals as goal
+
+pub text_part-requires : goal.text_part-requires
+text_part-requires g c =
+    let said = rw c.in-Some.is at c.in_ok-part.ensures in
+    rw said (at-within _ _ _ _ _ c.requires.inside)

@@ -1,6 +1,0 @@
--- `inspect_report::report::text_value` is safe: the text of a field that lies in the table lies in its file.
-use Rattle.dbf_cell.specs.CellLaws.{at-within}
-use Rattle.inspect_report.proofs.report.text_value.Goals as goal
-
-pub text_part-requires : goal.text_part-requires
-text_part-requires g c = rw c.text_at-text.ensures (at-within _ _ _ _ _ c.requires.inside)

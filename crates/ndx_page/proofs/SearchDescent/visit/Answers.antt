@@ -1,0 +1,12 @@
+-- `ndx_page::Search`'s `visit` meets its contract: the page's entries decide as the rule's step does. Assumes nothing.
+use Rattle.std.proofs.Common.{◌∙◌, ◌-◌, arith}
+use Rattle.ndx_page.specs.Header.{max_levels}
+use Rattle.ndx_page.specs.Lookup.{lookup_from}
+use Rattle.ndx_page.specs.IndexLaws.{visit_good}
+use Rattle.ndx_page.proofs.SearchDescent.visit.Goals as goal
+
+pub returns : goal.returns
+returns c =
+    let search = c.args.self.now in
+    c.search_page.ensures (λ p. lookup_from (max_levels - c.args.pages) search.index.bytes.now search.key.now p.0)
+    ∙ visit_good _ _ _ _ c.requires.0 c.requires.1 (grind arith)

@@ -1,0 +1,2 @@
+-- Laws: what std says of bytes and of parts of a slice, in the rules' words
+pub mod Words
