@@ -83,10 +83,9 @@ impl<P: Print> Report<'_, P> {
         requires { PlaceInside self.now.table.now place }
     {
         let memo = self.memo.unwrap_or(b"");
-        let Some(part) = dbf_cell::text_at(self.table, memo, place)? else {
-            return Ok(None);
-        };
-        Ok(Some(Quoted(dbf_cell::text_part(self.table, memo, part))))
+        let found = dbf_cell::text_at(self.table, memo, place);
+        let text = dbf_cell::text_part(self.table, memo, found);
+        Ok(found?.map(|_| Quoted(text)))
     }
 
     // The lines of the fields of a record, from 1 to `last`.
