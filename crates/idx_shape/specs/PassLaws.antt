@@ -1,6 +1,6 @@
 -- Laws: the audit's loops over pages, children and levels. Cited by the proofs of the functions that have these loops. Assumes nothing.
 use Prim.Native.Nat.{ℕ, zero, suc, ◌+◌, ◌-◌, ◌≤◌, ◌<◌}
-use Rattle.std.specs.Prelude.{◌≡◌, Bool, ◌&&◌, length, Some, None}
+use Rattle.std.specs.Prelude.{◌≡◌, Bool, cond, ◌&&◌, length, Some, None}
 use Rattle.std.specs.declared.option.Option.{Option}
 use Rattle.std.proofs.Math.Path.{refl, ap}
 use Rattle.std.proofs.Common.{sym, ◌∙◌, le-leb}
@@ -8,7 +8,8 @@ use Rattle.std.proofs.Math.Bool.{true, false}
 use mathlib.Core.List.{List, [], ◌∷◌, map}
 use native.Mathlib.Omega.{arith}
 use Rattle.std.proofs.lemmas.List.{length-map}
-use Rattle.basis.specs.Tests.{either, impossible}
+use Rattle.std.proofs.Math.Dec.{leb}
+use Rattle.basis.specs.Tests.{either, contra, impossible}
 use Rattle.idx_page.specs.Header.{max_levels, is_page, root_offset, free_pointer, file_size, key_length}
 use Rattle.idx_page.specs.Page.{right_at, number_at}
 use Rattle.idx_page.specs.Reading.{entries_at}
@@ -16,13 +17,18 @@ use Rattle.idx_page.specs.Reading.{entries_from}
 use Rattle.idx_page.proofs.ReadingLaws.{entries_are}
 use Rattle.idx_page.specs.Children.{is_leaf, children_of, first_child}
 use Rattle.idx_page.specs.declared.PageOffset.{PageOffset}
-use Rattle.idx_sound.specs.AuditTest.{later_pages, Progress, Level, attribute_of, start, refused, chain, counted, rows_under}
+use Rattle.idx_sound.specs.AuditTest.{later_pages, Progress, Level, attribute_of, start, refused, chain, page_fits, counted, rows_under}
 use Rattle.idx_sound.specs.AuditTest.{check_page, check_pages, check_rows, closed, root_level, next_level, levels_under, check_free, shape_good}
 use Rattle.idx_shape.specs.declared.Progress as StateProgress
 use Rattle.idx_shape.specs.declared.Level as StateLevel
 use Rattle.idx_shape.specs.State.{progress_of, level_of, known, start_at}
 use Rattle.idx_keys.specs.EntryLaws.{from_on, from_end}
 use Rattle.idx_keys.specs.FileLaws.{chain-none, chain-some}
+
+-- of a good progress and one that is refused, a test chose the one that is not good
+chosen-bad : (t : Bool) (x : Progress) → x.good ≡ true → (cond t x refused).good ≡ false → cond t x refused ≡ refused
+chosen-bad true x g e = contra g e
+chosen-bad false x g e = refl
 
 module _ (b : List ℕ) (k size a : ℕ) where
   -- a pass that was refused stays so
@@ -35,6 +41,22 @@ module _ (b : List ℕ) (k size a : ℕ) where
   unfolding counted check_rows
   rows-stopped [] = refl
   rows-stopped (r ∷ rs) = ap (check_rows b k size a rs) (pages-stopped r) ∙ rows-stopped rs
+
+  -- a count and pages after which a pass is not good any more refused it
+  count-bad : (n : ℕ) (s : Progress) → (counted n s).good ≡ false → counted n s ≡ refused
+  unfolding counted
+  count-bad n s e = chosen-bad (s.good && leb n s.left) _ refl e
+
+  page-bad : (p : ℕ) (s : Progress) → (check_page b k size a p s).good ≡ false → check_page b k size a p s ≡ refused
+  unfolding check_page
+  page-bad p s e = chosen-bad (s.good && page_fits b k size a p s.last s.next) _ refl e
+
+  children-bad : (ps : List ℕ) (s : Progress) → s.good ≡ true → (check_pages b k size a ps s).good ≡ false → check_pages b k size a ps s ≡ refused
+  unfolding check_pages
+  children-bad [] s g e = contra g e
+  children-bad (p ∷ ps) s g e =
+      let t = check_page b k size a p s in
+      either t.good (λ h. children-bad ps t h e) (λ h. ap (check_pages b k size a ps) (page-bad p s h) ∙ pages-stopped ps)
 
   -- the loop over a page's n entries: the children from entry i on, from the state s, come to what all children come to
   abbrev pub children_from : ℕ → ℕ → ℕ → List ℕ
@@ -96,29 +118,34 @@ module _ (b : List ℕ) (k size a : ℕ) where
       pub pages-refused : check_pages b k size a (children_of b k size p) t ≡ refused → check_rows b k size a (rows_under b k size first) s₀ ≡ refused
       pages-refused e = pages-on (right_at b p) (left - 1) refused refl refl e ∙ rows-stopped (rows_from (left - 1) (right_at b p))
 
-    -- too few pages are left
-    pub pages-over : 0 < left → is_page size p ≡ true → (n : ℕ) → n ≡ length (entries_at k size b p) → counted n s ≡ refused
-        → check_rows b k size a (rows_under b k size first) s₀ ≡ refused
-    pages-over more e n en et = pages-refused more e n en refused et (pages-stopped (children_of b k size p))
+      pub pages-bad : t.good ≡ true → (u : Progress) → check_pages b k size a (children_of b k size p) t ≡ u → u.good ≡ false
+          → check_rows b k size a (rows_under b k size first) s₀ ≡ u
+      pages-bad g u eu f =
+          let e = children-bad (children_of b k size p) t g (ap (λ (v : Progress). v.good) eu ∙ f) in
+          pages-refused e ∙ sym e ∙ eu
 
--- the level that a pass over the rows of a level comes to; the root is counted before the pass
-module _ (b : List ℕ) (k size a : ℕ) (first : PageOffset) (left : ℕ) (leaf : Bool) (o : Option StateProgress.Progress) (el : leaf ≡ is_leaf b size first.0) where
+      -- too few pages are left
+      pub pages-over : t.good ≡ false → check_rows b k size a (rows_under b k size first) s₀ ≡ t
+      pages-over f =
+          let e : t ≡ refused = sym et ∙ count-bad n s (ap (λ (v : Progress). v.good) et ∙ f) in
+          pages-refused (ap (check_pages b k size a (children_of b k size p)) e ∙ pages-stopped (children_of b k size p)) ∙ sym e
+
+-- the level that a pass over the rows of a level comes to, which ends in s; the root is counted before the pass
+module _ (b : List ℕ) (k size a : ℕ) (first : PageOffset) (left : ℕ) (leaf : Bool) (s : Progress) (el : leaf ≡ is_leaf b size first.0) where
   root-counted : 0 < left → counted 1 (start first.0 left) ≡ progress_of (Some (start_at first (left - 1)))
   unfolding counted
   root-counted some = rw (le-leb 1 left some)
 
-  pub root-closed : 0 < left → a ≡ attribute_of true leaf → check_page b k size a first.0 (progress_of (Some (start_at first (left - 1)))) ≡ progress_of o
-      → known (root_level b k size first.0 left) ≡ known (closed leaf first.0 (progress_of o))
+  pub root-closed : 0 < left → a ≡ attribute_of true leaf → check_page b k size a first.0 (progress_of (Some (start_at first (left - 1)))) ≡ s
+      → root_level b k size first.0 left ≡ closed leaf first.0 s
   unfolding root_level check_pages check_rows
-  root-closed some ea e =
-      rw (← el, ← ea)
-      (ap (λ (s : Progress). known (closed leaf first.0 s)) (ap (check_page b k size a first.0) (root-counted some) ∙ e))
+  root-closed some ea e = rw (← el, ← ea) (ap (closed leaf first.0) (ap (check_page b k size a first.0) (root-counted some) ∙ e))
 
   pub next-closed : (above : ℕ) → first.0 ≡ first_child b k size above → a ≡ attribute_of false leaf
-      → check_rows b k size a (rows_under b k size above) (progress_of (Some (start_at first left))) ≡ progress_of o
-      → known (next_level b k size above left) ≡ known (closed leaf first.0 (progress_of o))
+      → check_rows b k size a (rows_under b k size above) (progress_of (Some (start_at first left))) ≡ s
+      → next_level b k size above left ≡ closed leaf first.0 s
   unfolding next_level
-  next-closed above ef ea e = rw (← ef, ← el, ← ea) (ap (λ (s : Progress). known (closed leaf first.0 s)) e)
+  next-closed above ef ea e = rw (← ef, ← el, ← ea) (ap (closed leaf first.0) e)
 
 -- a level that is good, or not
 known-some : (v : Level) (l : StateLevel.Level) → Some l ≡ known v → v ≡ level_of l
