@@ -20,24 +20,24 @@ pub returns-then-key-key_length : goal.returns-then-key-key_length
 returns-then-key-key_length c =
     refused_27 _ _ _ (sym c.header_good.ensures ∙ c.if-not-header_good.false) (λ e. c.if-key-key_length.true (e ∙ sym c.key_length.ensures))
 
-pub returns-then-has_control : goal.returns-then-has_control
-returns-then-has_control c =
-    refused_32 _ _ _ (sym c.header_good.ensures ∙ c.if-not-header_good.false) (c.if-key-key_length.false ∙ c.key_length.ensures) (control_any _ ∙ sym c.has_control.ensures ∙ c.if-has_control.true)
+pub returns-then-control : goal.returns-then-control
+returns-then-control c =
+    refused_32 _ _ _ (sym c.header_good.ensures ∙ c.if-not-header_good.false) (c.if-key-key_length.false ∙ c.key_length.ensures) (control_any _ ∙ sym c.has_control-control.ensures ∙ c.if-control.true)
 
-pub returns-then-number-eq0 : goal.returns-then-number-eq0
-returns-then-number-eq0 c =
-    refused_28 _ _ _ (sym c.header_good.ensures ∙ c.if-not-header_good.false) (c.if-key-key_length.false ∙ c.key_length.ensures) (control_any _ ∙ sym c.has_control.ensures ∙ c.if-has_control.false) c.if-number-eq0.true
+pub returns-then-zero : goal.returns-then-zero
+returns-then-zero c =
+    refused_28 _ _ _ (sym c.header_good.ensures ∙ c.if-not-header_good.false) (c.if-key-key_length.false ∙ c.key_length.ensures) (control_any _ ∙ sym c.has_control-control.ensures ∙ c.if-control.false) c.if-zero.true
 
 pub returns-in_err-audit : goal.returns-in_err-audit
 returns-in_err-audit c =
     let p = err_from_is_err_and c.from_residual.result c.from_residual.ensures.1 in
     let q = audit-refused _ _ (sym c.header_good.ensures ∙ c.if-not-header_good.false) c.in_err-audit.ensures in
     rw (p.1, p.2, q.0)
-    (refused_25 _ _ _ (sym c.header_good.ensures ∙ c.if-not-header_good.false) (c.if-key-key_length.false ∙ c.key_length.ensures) (control_any _ ∙ sym c.has_control.ensures ∙ c.if-has_control.false) c.if-number-eq0.false q.1)
+    (refused_25 _ _ _ (sym c.header_good.ensures ∙ c.if-not-header_good.false) (c.if-key-key_length.false ∙ c.key_length.ensures) (control_any _ ∙ sym c.has_control-control.ensures ∙ c.if-control.false) c.if-zero.false q.1)
 
 pub returns-then-path : goal.returns-then-path
 returns-then-path c =
-    refused_29 _ _ _ (sym c.header_good.ensures ∙ c.if-not-header_good.false) (c.if-key-key_length.false ∙ c.key_length.ensures) (control_any _ ∙ sym c.has_control.ensures ∙ c.if-has_control.false) c.if-number-eq0.false
+    refused_29 _ _ _ (sym c.header_good.ensures ∙ c.if-not-header_good.false) (c.if-key-key_length.false ∙ c.key_length.ensures) (control_any _ ∙ sym c.has_control-control.ensures ∙ c.if-control.false) c.if-zero.false
     (audit_sound _ (sym c.header_good.ensures ∙ c.if-not-header_good.false) c.in_ok-audit.ensures refl)
     (sym (ap (λ (path : Path). path.present) c.path_to-path.ensures) ∙ c.if-path.true)
 
@@ -47,14 +47,14 @@ no_room-requires c =
 
 pub returns-then-no_room : goal.returns-then-no_room
 returns-then-no_room c =
-    refused_30 _ _ _ (sym c.header_good.ensures ∙ c.if-not-header_good.false) (c.if-key-key_length.false ∙ c.key_length.ensures) (control_any _ ∙ sym c.has_control.ensures ∙ c.if-has_control.false) c.if-number-eq0.false
+    refused_30 _ _ _ (sym c.header_good.ensures ∙ c.if-not-header_good.false) (c.if-key-key_length.false ∙ c.key_length.ensures) (control_any _ ∙ sym c.has_control-control.ensures ∙ c.if-control.false) c.if-zero.false
     (audit_sound _ (sym c.header_good.ensures ∙ c.if-not-header_good.false) c.in_ok-audit.ensures refl)
     (sym (ap (λ (path : Path). path.present) c.path_to-path.ensures) ∙ c.if-path.false)
     (sym (c.no_room.ensures ∙ ap (no_room _) c.path_to-path.ensures) ∙ c.if-no_room.true)
 
 pub returns : goal.returns
 returns c =
-    accepted_pair _ _ _ (sym c.header_good.ensures ∙ c.if-not-header_good.false) (c.if-key-key_length.false ∙ c.key_length.ensures) (control_any _ ∙ sym c.has_control.ensures ∙ c.if-has_control.false) c.if-number-eq0.false
+    accepted_pair _ _ _ (sym c.header_good.ensures ∙ c.if-not-header_good.false) (c.if-key-key_length.false ∙ c.key_length.ensures) (control_any _ ∙ sym c.has_control-control.ensures ∙ c.if-control.false) c.if-zero.false
     (audit_sound _ (sym c.header_good.ensures ∙ c.if-not-header_good.false) c.in_ok-audit.ensures refl)
     (sym (ap (λ (path : Path). path.present) c.path_to-path.ensures) ∙ c.if-path.false)
     (sym (c.no_room.ensures ∙ ap (no_room _) c.path_to-path.ensures) ∙ c.if-no_room.false) c.insert_pair.ensures
