@@ -89,7 +89,7 @@ fn larger_key<'a>(index: &'a [u8], key: &'a [u8], page: PageOffset, i: usize) ->
 }
 
 // The most that is gathered for a page: as many bytes as its entry area has, and one more entry with the longest key.
-const ROOM: usize = Page::ENTRY_AREA + idx_page::MAX_KEY + 4;
+pub const ROOM: usize = Page::ENTRY_AREA + idx_page::MAX_KEY + 4;
 
 // The bytes that are gathered for a page, one part after another. One room serves a whole insertion or removal: the library has no heap, and little stack.
 #[derive(Drop)]

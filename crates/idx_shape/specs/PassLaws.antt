@@ -1,6 +1,6 @@
 -- Laws: the audit's loops over pages, children and levels. Cited by the proofs of the functions that have these loops. Assumes nothing.
 use Prim.Native.Nat.{ℕ, zero, suc, ◌+◌, ◌-◌, ◌≤◌, ◌<◌}
-use Rattle.std.specs.Prelude.{◌≡◌, Bool, cond, ◌&&◌, length, Some, None}
+use Rattle.std.specs.Prelude.{◌≡◌, Bool, cond, not, ◌&&◌, length, Some, None}
 use Rattle.std.specs.declared.option.Option.{Option}
 use Rattle.std.proofs.Math.Path.{refl, ap}
 use Rattle.std.proofs.Common.{sym, ◌∙◌, le-leb}
@@ -158,27 +158,60 @@ known-some v l e = either v.good
 known-none : (v : Level) → None ≡ known v → v.good ≡ false
 known-none v e = either v.good (λ g. impossible (let some = rw g at e in cc)) (λ g. g)
 
--- the loop over the levels
+-- the loop over the levels: the levels under v, `left` at most, come to what those under v₀, n at most, come to
 module _ (b : List ℕ) (k size : ℕ) where
+  abbrev pub LevelsLeft : ℕ → ℕ → Level → Level → Type 0
+  LevelsLeft n left v₀ v = levels_under b k size n v₀ ≡ levels_under b k size left v
+
+  -- the audit goes on under a level that is good and whose pages are not leaves
+  abbrev pub goes_on : Level → Bool
+  goes_on v = v.good && not v.leaf
+
+  under_none : (left : ℕ) (v : Level) → goes_on v ≡ false → levels_under b k size left v ≡ v
+  unfolding levels_under
+  under_none zero v e = refl
+  under_none (suc l) v e = rw (e, levels_under)
+
+  under_some : (left : ℕ) (v : Level) → (left ≡ 0 → ⊥) → goes_on v ≡ true
+      → levels_under b k size left v ≡ levels_under b k size (left - 1) (next_level b k size v.first v.left)
+  unfolding levels_under
+  under_some zero v n e = absurd (n refl)
+  under_some (suc l) v n e = let d : suc l - 1 ≡ l = omega arith in rw (e, levels_under, d)
+
+  -- the root's level r; the level u under it is checked ahead of the loop
+  module _ (r v : Level) (er : r ≡ v) where
+    pub top-alone : goes_on v ≡ false → levels_under b k size (max_levels - 1) r ≡ v
+    top-alone e = rw er (under_none (max_levels - 1) v e)
+
+    pub top-on : goes_on v ≡ true → (u w : Level) → next_level b k size v.first v.left ≡ u → levels_under b k size (max_levels - 2) u ≡ w
+        → levels_under b k size (max_levels - 1) r ≡ w
+    top-on e u w eu ew =
+        rw er (under_some (max_levels - 1) v (λ z. omega (arith, z)) e ∙ (ap (levels_under b k size (max_levels - 2)) eu ∙ ew))
+
+  module _ (n left : ℕ) (v₀ v : Level) (inv : LevelsLeft n left v₀ v) where
+    pub levels_stop : goes_on v ≡ false → levels_under b k size n v₀ ≡ v
+    levels_stop e = inv ∙ under_none left v e
+
+    pub levels-end : left ≡ 0 → levels_under b k size n v₀ ≡ v
+    unfolding levels_under
+    levels-end e = inv ∙ rw e
+
+    pub levels-on : (u : Level) → (left ≡ 0 → ⊥) → goes_on v ≡ true → next_level b k size v.first v.left ≡ u → LevelsLeft n (left - 1) v₀ u
+    levels-on u more e h = inv ∙ (under_some left v more e ∙ ap (levels_under b k size (left - 1)) h)
+
   -- the levels under a good level: none under leaves
   under-bad : (left : ℕ) (v : Level) → None ≡ known v → None ≡ known (levels_under b k size left v)
-  unfolding levels_under
-  under-bad zero v e = e
-  under-bad (suc l) v e = rw (known-none v e, levels_under) e
+  under-bad left v e = e ∙ sym (ap known (under_none left v (rw (known-none v e))))
 
   under-leaf : (left : ℕ) (l : StateLevel.Level) → l.leaf ≡ true → levels_under b k size left (level_of l) ≡ level_of l
-  unfolding levels_under
-  under-leaf zero l e = refl
-  under-leaf (suc n) l e = rw (e, levels_under) (ap (λ (t : Bool). record { good = true; leaf = t; first = l.first.0; left = l.left }) e)
+  under-leaf left l e = under_none left (level_of l) (rw e)
 
   under-end : (left : ℕ) (l : StateLevel.Level) → left ≤ 0 → levels_under b k size left (level_of l) ≡ level_of l
-  unfolding levels_under
-  under-end left l h = let none : left ≡ 0 = omega arith in rw none
+  under-end left l h = levels-end left left (level_of l) (level_of l) refl (omega arith)
 
   under-on : (left next : ℕ) (l : StateLevel.Level) → left ≡ suc next → l.leaf ≡ false
       → levels_under b k size left (level_of l) ≡ levels_under b k size next (next_level b k size l.first.0 l.left)
-  unfolding levels_under
-  under-on left next l s e = rw (s, e, levels_under)
+  under-on left next l s e = let d : left - 1 ≡ next = omega arith in rw (← d) (under_some left (level_of l) (λ z. omega (arith, z)) (rw e))
 
   -- the root's level r is not good, or its page is a leaf
   module _ (r : Level) where
