@@ -10,5 +10,6 @@ returns-clause-value c =
 
 pub returns-clause-size : goal.returns-clause-size
 returns-clause-size c =
-    ap length (pushed _ _ c.self.inside.bytes c.self.view_is c.self.told c.self.invariant (length-to_be32 c.args.number.0) c.requires c.put_record_number.ensures)
+    ap length (pushed _ _ c.self.inside.bytes c.self.view_is c.self.told c.self.invariant
+    (length-to_be32 c.args.number.0) c.requires c.put_record_number.ensures)
     ∙ rw (length-append, length-to_be32)
