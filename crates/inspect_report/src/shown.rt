@@ -47,6 +47,11 @@ impl Display for Decimal {
     }
 }
 
+// The last digit of a number.
+fn last_digit(number: u32) -> u8 {
+    b'0' + (number % 10) as u8
+}
+
 // YYYYMMDD.
 #[derive(Clone, Copy)]
 pub struct Day(pub Date);
@@ -54,7 +59,17 @@ pub struct Day(pub Date);
 impl Display for Day {
     fn fmt<W: Write>(&self, f: &mut Formatter<W>) -> fmt::Result {
         let Date { year, month, day } = self.0;
-        write!(f, "{year:04}{month:02}{day:02}")
+        let text = [
+            last_digit(year / 1000),
+            last_digit(year / 100),
+            last_digit(year / 10),
+            last_digit(year),
+            last_digit(month / 10),
+            last_digit(month),
+            last_digit(day / 10),
+            last_digit(day),
+        ];
+        f.write_str(str::from_utf8(&text).map_err(|_| fmt::Error)?)
     }
 }
 
@@ -86,10 +101,13 @@ fn put_byte(shown: &mut [u8], at: usize, byte: u8) -> usize
 // The bytes of a text that are shown at once.
 const PART: usize = 64;
 
-// Writes a part of a text. Text by text takes less time than byte by byte.
+// Writes a part of a text. Text by text takes less time than byte by byte, and most parts are plain.
 fn write_part<W: Write>(f: &mut Formatter<W>, part: &[u8]) -> fmt::Result
     requires { length part.now ≤ 64 }
 {
+    if part.iter().all(|byte| is_plain(*byte)) {
+        return f.write_str(str::from_utf8(part).map_err(|_| fmt::Error)?);
+    }
     let mut shown = [0u8; 4 * PART];
     let mut end = 0;
     for i in 0..part.len() {

@@ -4,7 +4,7 @@
 
 pub mod calls;
 
-ghost use Rattle.std.specs.Prelude.{◌≡◌, ◌≤◌, ◌/◌, IfOk, IsTrue, length, slice_set, vec_len};
+ghost use Rattle.std.specs.Prelude.{◌≡◌, ◌<◌, ◌≤◌, ◌/◌, IfErr, IfOk, IsTrue, length, slice_set, vec_len};
 ghost use Rattle.std.specs.IoError.{error_kind};
 
 use std::alloc::Global;
@@ -60,7 +60,9 @@ pub fn bad_line() -> io::Error
 }
 
 // The next word of a line.
-pub fn word<'a>(words: &mut Split<'a, char>) -> io::Result<&'a str> {
+pub fn word<'a>(words: &mut Split<'a, char>) -> io::Result<&'a str>
+    ensures { IfErr result (λ error. error_kind error ≡ ErrorKind.InvalidData) }
+{
     words.next().ok_or_else(bad_line)
 }
 
@@ -68,6 +70,7 @@ pub fn word<'a>(words: &mut Split<'a, char>) -> io::Result<&'a str> {
 pub fn parse<T: FromStr>(word: &str) -> io::Result<T>
 where
     T::Err: Drop,
+    ensures { IfErr result (λ error. error_kind error ≡ ErrorKind.InvalidData) }
 {
     word.parse().map_err(|_| bad_line())
 }
@@ -76,6 +79,7 @@ where
 pub fn number<T: FromStr>(words: &mut Split<'_, char>) -> io::Result<T>
 where
     T::Err: Drop,
+    ensures { IfErr result (λ error. error_kind error ≡ ErrorKind.InvalidData) }
 {
     parse(word(words)?)
 }
@@ -123,11 +127,11 @@ pub fn list(rt: &(impl Files + AllocGlobal), err: &impl Print, path: &str) -> St
 
 // Sets the byte at an offset, if there are so many.
 pub fn set_byte(bytes: &mut [u8], at: usize, value: u8)
-    ensures len { length bytes.new ≡ length bytes.old }
-    ensures value { bytes.new ≡ slice_set bytes.old at value }
+    ensures set { at < length bytes.old → bytes.new ≡ slice_set bytes.old at value }
+    ensures same { length bytes.old ≤ at → bytes.new ≡ bytes.old }
 {
-    if let Some(byte) = bytes.get_mut(at) {
-        *byte = value;
+    if at < bytes.len() {
+        bytes[at] = value;
     }
 }
 

@@ -4,8 +4,8 @@
 #![tactic(auto)]
 
 use refusal::Refusal;
-use std::rt::Files;
 use std::io;
+use std::rt::Files;
 
 const TABLES: [&str; 8] = [
     "shp_point.dbf",
