@@ -38,10 +38,12 @@ impl<P: Print> Line<'_, P> {
             .write_all(&self.bytes[..len])
             .map_err(|_| fmt::Error)
     }
+}
 
-    // Adds a text for which there may be no room. A full line is printed only when there is more to come.
-    fn put_long(&mut self, text: &[u8]) -> fmt::Result {
-        let mut rest = text;
+impl<P: Print> Write for Line<'_, P> {
+    // A full line is printed only when there is more to come.
+    fn write_str(&mut self, text: &str) -> fmt::Result {
+        let mut rest = text.as_bytes();
         while !rest.is_empty() {
             self.make_room()?;
             let n = rest.len().min(ROOM - self.len);
@@ -49,18 +51,6 @@ impl<P: Print> Line<'_, P> {
             self.len += n;
             rest = &rest[n..];
         }
-        Ok(())
-    }
-}
-
-impl<P: Print> Write for Line<'_, P> {
-    fn write_str(&mut self, text: &str) -> fmt::Result {
-        let text = text.as_bytes();
-        if ROOM - self.len < text.len() {
-            return self.put_long(text);
-        }
-        octets::copy_in(&mut self.bytes, self.len, text);
-        self.len += text.len();
         Ok(())
     }
 }

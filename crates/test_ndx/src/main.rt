@@ -3,8 +3,8 @@
 #![tactic(auto)]
 
 use idx_lookup::Outcome;
-use std::str::Split;
 use std::io;
+use std::str::Split;
 use test_lines::{bad_line, number, word};
 
 // A lookup, by its key in hexadecimal: the answer, the record and the pages visited, 0 for what an answer does not have.
