@@ -6,20 +6,25 @@ ghost use Rattle.std.specs.Prelude.{◌*◌, ◌≤◌, ◌≡◌, IfOk};
 ghost use Rattle.dbf_table.specs.Table.{max_fields, table_refusal, record_count, field_count};
 ghost use Rattle.dbf_field.specs.Field.{PlaceGood, PlaceInside};
 
+use crate::line::print_line;
 use crate::shown::{Day, Decimal, Quoted, Refused, Shown, is_plain};
 use dbf_field::{FieldEntry, Place};
 use dbf_table::{DELETED, FieldType, KEPT};
 use refusal::Refusal;
 use std::fmt::Display;
-use std::{io, str};
+use std::{fmt, str};
 
 // A line of a word and an answer: 0, or a refusal.
-pub fn answer_line(out: &impl Print, word: &str, answer: Result<(), Refusal>) -> io::Result<u64>
+pub fn answer_line(
+    out: &impl Print,
+    word: &str,
+    answer: Result<(), Refusal>,
+) -> Result<u64, fmt::Error>
     ensures { IfOk result (λ n. n ≤ 1) }
 {
     match answer {
-        Ok(()) => println!(out; "{word} 0")?,
-        Err(refusal) => println!(out; "{word} {}", Refused(refusal))?,
+        Ok(()) => print_line(out, format_args!("{word} 0"))?,
+        Err(refusal) => print_line(out, format_args!("{word} {}", Refused(refusal)))?,
     }
     Ok(u64::from(answer.is_err()))
 }
@@ -39,16 +44,16 @@ impl<P: Print> Report<'_, P> {
         number: u32,
         j: u32,
         cell: Result<Option<T>, Refusal>,
-    ) -> io::Result<u64>
+    ) -> Result<u64, fmt::Error>
         ensures { IfOk result (λ n. n ≤ 1) }
     {
         let problems = u64::from(cell.is_err());
-        println!(self.out; "value {number} {j} {}", Shown(cell))?;
+        print_line(self.out, format_args!("value {number} {j} {}", Shown(cell)))?;
         Ok(problems)
     }
 
     // The line of field j of a record, read by the call for the field's type. An M field is read only if there is a memo file.
-    fn value_line(&self, number: u32, j: u32) -> io::Result<u64>
+    fn value_line(&self, number: u32, j: u32) -> Result<u64, fmt::Error>
         requires { PlaceGood self.now.table.now number j }
         ensures { IfOk result (λ n. n ≤ 1) }
     {
@@ -64,7 +69,7 @@ impl<P: Print> Report<'_, P> {
                 self.cell_line(number, j, logical.map(|value| value.map(letter)))
             }
             Some(FieldType::Memo) if self.memo.is_none() => {
-                println!(self.out; "value {number} {j} unread")?;
+                print_line(self.out, format_args!("value {number} {j} unread"))?;
                 Ok(0)
             }
             _ => self.cell_line(number, j, self.text(place)),
@@ -89,7 +94,7 @@ impl<P: Print> Report<'_, P> {
     }
 
     // The lines of the fields of a record, from 1 to `last`.
-    fn value_lines(&self, number: u32, last: u32) -> io::Result<u64>
+    fn value_lines(&self, number: u32, last: u32) -> Result<u64, fmt::Error>
         requires { PlaceGood self.now.table.now number last }
         ensures { IfOk result (λ n. n ≤ last) }
     {
@@ -102,15 +107,18 @@ impl<P: Print> Report<'_, P> {
 
     // The line of a record and, if its deletion byte is good, the lines of its fields from 1 to `last`. The byte comes with the place of field 1, which every
     // table has.
-    fn record_lines(&self, number: u32, last: u32) -> io::Result<u64>
+    fn record_lines(&self, number: u32, last: u32) -> Result<u64, fmt::Error>
         requires { PlaceGood self.now.table.now number last }
         ensures { IfOk result (λ n. n ≤ last) }
     {
         let place = dbf_field::place_at(self.table, number, 1);
         match mark_word(place.mark) {
-            Ok(mark) => println!(self.out; "record {number} {mark}")?,
+            Ok(mark) => print_line(self.out, format_args!("record {number} {mark}"))?,
             Err(refusal) => {
-                println!(self.out; "record {number} {}", Refused(refusal))?;
+                print_line(
+                    self.out,
+                    format_args!("record {number} {}", Refused(refusal)),
+                )?;
                 return Ok(1);
             }
         }
@@ -118,7 +126,7 @@ impl<P: Print> Report<'_, P> {
     }
 
     // The lines of all records and their fields.
-    fn all_records(&self, records: u32, fields: u32) -> io::Result<u64>
+    fn all_records(&self, records: u32, fields: u32) -> Result<u64, fmt::Error>
         requires { (table_refusal self.now.table.now ≡ 0) × (records ≡ record_count self.now.table.now)
             × (fields ≡ field_count self.now.table.now) }
         ensures { IfOk result (λ n. n ≤ max_fields * records) }
@@ -131,7 +139,7 @@ impl<P: Print> Report<'_, P> {
     }
 
     // The line of field j, from 1. A checked table has an entry for each of its fields.
-    fn field_line(&self, j: u32) -> io::Result<()> {
+    fn field_line(&self, j: u32) -> fmt::Result {
         let Ok(entry) = dbf_field::field_entry(self.table, j) else {
             return Ok(());
         };
@@ -143,9 +151,9 @@ impl<P: Print> Report<'_, P> {
             ..
         } = entry;
         let kind = char::from(kind);
-        println!(self.out;
-            "field {j} {} {kind} {length} {decimals}",
-            field_name(&name)
+        print_line(
+            self.out,
+            format_args!("field {j} {} {kind} {length} {decimals}", field_name(&name)),
         )
     }
 }
@@ -173,7 +181,7 @@ fn field_name(name: &[u8]) -> &str {
 }
 
 // All lines of a table and its memo file. A refused table has one line, its refusal.
-pub fn table_report(out: &impl Print, table: &[u8], memo: Option<&[u8]>) -> io::Result<u64>
+pub fn table_report(out: &impl Print, table: &[u8], memo: Option<&[u8]>) -> Result<u64, fmt::Error>
     ensures { IfOk result (λ n. n ≤ max_fields * 4294967295) }
 {
     let shape = match dbf_check::check_table(table) {
@@ -183,8 +191,11 @@ pub fn table_report(out: &impl Print, table: &[u8], memo: Option<&[u8]>) -> io::
     let records = shape.records;
     let fields = shape.fields as u32;
     let record_length = shape.record_length;
-    println!(out; "table 0")?;
-    println!(out; "shape {records} {fields} {record_length}")?;
+    print_line(out, format_args!("table 0"))?;
+    print_line(
+        out,
+        format_args!("shape {records} {fields} {record_length}"),
+    )?;
     let report = Report { out, table, memo };
     for j in 0..fields {
         report.field_line(j + 1)?;
