@@ -7,8 +7,8 @@ ghost use Rattle.dbf_create.specs.Laying.{room_length};
 
 use dbf_append::Appended;
 use dbf_field::FieldEntry;
-use std::str::Split;
 use std::io;
+use std::str::Split;
 use test_lines::{bad_line, hex_bytes, number, word, words};
 
 // The length of the table at the front of a buffer, its end mark counted.
