@@ -14,12 +14,11 @@ mod line;
 mod report;
 mod shown;
 
-ghost use Rattle.std.specs.Prelude.{◌≤◌, IfOk};
+ghost use Rattle.std.specs.Prelude.{◌≤◌};
 
 use inspect_argument::{Field, names};
-use line::print_line;
+use line::Output;
 use refusal::Refusal;
-use std::fmt;
 use std::fmt::Display;
 use std::rt::Files;
 
@@ -154,42 +153,38 @@ fn match_field(table: &[u8], index: &[u8], field: Field, word: &[u8]) -> Result<
 }
 
 // The line of an index and, if a FIELD was given, the line of the match.
-fn index_report(
-    out: &impl Print,
+fn index_report<P: Print>(
+    out: &Output<'_, P>,
     table: &[u8],
     index: &[u8],
     path: &[u8],
     field: Option<(Field, &[u8])>,
-) -> Result<u64, fmt::Error>
-    ensures { IfOk result (λ n. n ≤ 2) }
+) -> u64
+    ensures { result ≤ 2 }
 {
-    let of_index = report::answer_line(out, "index", audit(path, index))?;
+    let of_index = report::answer_line(out, "index", audit(path, index));
     let of_match = match field {
         Some((field, word)) => {
-            report::answer_line(out, "match", match_field(table, index, field, word))?
+            report::answer_line(out, "match", match_field(table, index, field, word))
         }
         None => 0,
     };
-    Ok(of_index + of_match)
+    of_index + of_match
 }
 
 // Prints all lines. The last one says how many of the lines before it have a refusal, which is the answer too.
-fn print_report(
-    out: &impl Print,
-    loaded: &Loaded,
-    arguments: Arguments<'_>,
-) -> Result<u64, fmt::Error> {
+fn print_report<P: Print>(out: &Output<'_, P>, loaded: &Loaded, arguments: Arguments<'_>) -> u64 {
     let memo = loaded.memo.as_ref().map(|memo| memo.as_slice());
-    let of_table = report::table_report(out, &loaded.table, memo)?;
+    let of_table = report::table_report(out, &loaded.table, memo);
     let of_index = match (&loaded.index, arguments.index) {
         (Some(index), Some(path)) => {
-            index_report(out, &loaded.table, index, path, arguments.field)?
+            index_report(out, &loaded.table, index, path, arguments.field)
         }
         _ => 0,
     };
     let problems = of_table + of_index;
-    print_line(out, format_args!("problems {problems}"))?;
-    Ok(problems)
+    out.print_line(format_args!("problems {problems}"));
+    problems
 }
 
 // The program, called with these words behind its own name. It ends with a verdict on standard error, once every line is written.
@@ -205,10 +200,11 @@ pub fn inspect(rt: &(impl Files + Print + AllocGlobal), err: &impl Print, words:
     let Ok(loaded) = load_all(rt, err, arguments) else {
         return;
     };
-    match print_report(rt, &loaded, arguments) {
-        Ok(problems) => {
-            let _ = println!(err; "inspect: problems {problems}");
-        }
-        Err(_) => say_unwritten(err),
+    let out = Output::new(rt);
+    let problems = print_report(&out, &loaded, arguments);
+    if out.is_written() {
+        let _ = println!(err; "inspect: problems {problems}");
+    } else {
+        say_unwritten(err);
     }
 }
