@@ -55,7 +55,7 @@ fn check_text(letter: u8, decimals: u32, text: &[u8]) -> Result<(), Refusal>
             calendar::read_date(text)?;
         }
         Some(FieldType::Logical) => {
-            dbf_cell::logical_of(text[0])?;
+            dbf_cell::logical_of(octets::byte(text, 0))?;
         }
         Some(FieldType::Memo) => {
             fpt_memo::read_number(text)?;

@@ -3,7 +3,7 @@
 // A call that takes a record number and a field number makes all checks. A call that takes a place is for a table that was checked.
 #![tactic(auto)]
 
-ghost use Rattle.std.specs.Prelude.{◌+◌, ◌≤◌, ◌≡◌, length, Ok, Some};
+ghost use Rattle.std.specs.Prelude.{◌+◌, ◌≤◌, ◌≡◌, length};
 ghost use Rattle.refusal.specs.Refusals.{numbered};
 ghost use Rattle.octets.specs.Bytes.{byte_at};
 ghost use Rattle.octets.specs.Store.{window};
@@ -127,13 +127,13 @@ pub fn read_date(table: &[u8], number: u32, field: u32) -> Result<Option<Date>, 
 
 // What the one character of an L field says.
 #[tactic(auto, unfolding(crate::specs::Cell::logical_of))]
-pub fn logical_of(letter: u8) -> Result<Option<bool>, Refusal>
+pub fn logical_of(letter: u32) -> Result<Option<bool>, Refusal>
     ensures { numbered result ≡ logical_of letter }
 {
-    match letter {
-        b'T' => Ok(Some(true)),
-        b'F' => Ok(Some(false)),
-        b' ' => Ok(None),
+    match u8::try_from(letter) {
+        Ok(b'T') => Ok(Some(true)),
+        Ok(b'F') => Ok(Some(false)),
+        Ok(b' ') => Ok(None),
         _ => Err(Refusal::DateOrLogical),
     }
 }
@@ -143,7 +143,7 @@ pub fn logical_at(table: &[u8], place: Place) -> Result<Option<bool>, Refusal>
     requires { PlaceInside table.now place }
     ensures { numbered result ≡ logical_of (byte_at table.now place.start) }
 {
-    logical_of(table[place.start])
+    logical_of(octets::byte(table, place.start))
 }
 
 // The value of an L field.
@@ -182,26 +182,27 @@ pub fn text_place(
     text_at(table, memo, place)
 }
 
-// The text at its place: a part of the table or of the memo file.
+// The text at its place: a part of the table or of the memo file, of no bytes if there is no text.
 #[tactic(auto, unfolding(crate::specs::Cell::TextWithin, crate::specs::Cell::text_part))]
-pub fn text_part<'a>(table: &'a [u8], memo: &'a [u8], place: TextPlace) -> &'a [u8]
-    requires { TextWithin table.now memo.now (Ok (Some place)) }
-    ensures { result.now ≡ text_part table.now memo.now (Ok (Some place)) }
+pub fn text_part<'a>(
+    table: &'a [u8],
+    memo: &'a [u8],
+    place: Result<Option<TextPlace>, Refusal>,
+) -> &'a [u8]
+    requires { TextWithin table.now memo.now (numbered place) }
+    ensures { result.now ≡ text_part table.now memo.now (numbered place) }
 {
     match place {
-        TextPlace::Table(span) => part(table, span),
-        TextPlace::Memo(span) => part(memo, span),
+        Ok(Some(TextPlace::Table(span))) => part(table, span),
+        Ok(Some(TextPlace::Memo(span))) => part(memo, span),
+        Ok(None) => &table[..0],
+        Err(_) => &table[..0],
     }
 }
 
 // The text of a C or M field: of no bytes if the field is empty or the call is refused.
-#[tactic(auto, unfolding(crate::specs::Cell::text_part))]
 pub fn text<'a>(table: &'a [u8], memo: &'a [u8], number: u32, field: u32) -> &'a [u8]
     ensures { result.now ≡ text_part table.now memo.now (text_cell table.now memo.now number field) }
 {
-    match text_place(table, memo, number, field) {
-        Ok(Some(place)) => text_part(table, memo, place),
-        Ok(None) => &table[..0],
-        Err(_) => &table[..0],
-    }
+    text_part(table, memo, text_place(table, memo, number, field))
 }

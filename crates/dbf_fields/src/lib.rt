@@ -100,13 +100,14 @@ fn same_name(table: &[u8], i: usize, j: usize) -> bool
     same
 }
 
+// Whether all names differ: each name, from the last back, is compared with all before it, and a pair of equal names ends both loops.
 #[tactic(auto, unfolding(dbf_table::specs::Table::names_differ))]
 pub fn names_differ(table: &[u8]) -> bool
     requires { HeaderFits table.now }
     ensures { result ≡ names_differ table.now }
 {
     let mut differ = true;
-    'fields: for later in 0..dbf_table::field_count(table) {
+    'fields: for later in (1..dbf_table::field_count(table)).rev() {
         for earlier in 0..later {
             if same_name(table, later, earlier) {
                 differ = false;

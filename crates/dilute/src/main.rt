@@ -11,7 +11,6 @@
 use dilute_sheet::input::{Fault, Wrong, input_fault};
 use dilute_sheet::tally::{Tally, sheet_verdict};
 use refusal::Refusal;
-use std::alloc::AllocError;
 use std::fmt;
 use std::fmt::{Display, Formatter};
 use std::io::Input;
@@ -23,8 +22,8 @@ const MOST: usize = 65536;
 // Four lines of ten digits have 44 bytes. Of an input of more than 64 bytes the first 64 have the first fault, since four good lines have fewer.
 const INPUT_ROOM: usize = 64;
 
-// Room for the sheet of any table of 65,536 bytes.
-const SHEET_ROOM: usize = 1048576;
+// The program's own name, its two arguments and one word more, which is too many.
+const WORDS: usize = 4;
 
 // What is wrong with the numbers that are on standard input.
 #[derive(Clone, Copy)]
@@ -91,21 +90,13 @@ fn say_verdict(err: &impl Print, verdict: Result<Tally, Refusal>, input: &[u8], 
     }
 }
 
-// Prints the sheet, and then the verdict.
-fn print_sheet(
-    rt: &(impl Print + AllocGlobal),
-    err: &impl Print,
-    table: &[u8],
-    index: &[u8],
-    input: &[u8],
-) -> Result<(), AllocError> {
-    let mut sheet = vec![in rt.alloc(); 0u8; SHEET_ROOM]?;
+// Prints the sheet, and then the verdict. Its room, on the stack, is enough for the sheet of any table of 65,536 bytes, and can't be refused.
+fn print_sheet(out: &impl Print, err: &impl Print, table: &[u8], index: &[u8], input: &[u8]) {
+    let mut sheet = files::space();
     let bytes = dilute_sheet::sheet(table, index, input, &mut sheet);
-    sheet.truncate(bytes);
-    if show(rt, err, &sheet) {
+    if show(out, err, &sheet[..bytes]) {
         say_verdict(err, sheet_verdict(table, index, input), input, bytes);
     }
-    Ok(())
 }
 
 fn dilute(
@@ -113,37 +104,43 @@ fn dilute(
     err: &impl Print,
     table_path: &[u8],
     index_path: &[u8],
-) -> Result<(), AllocError> {
-    let Some(table) = files::load(rt, err, table_path, MOST)? else {
+) {
+    let Some(table) = files::load(rt, err, table_path, MOST) else {
         refuse_by(rt, err, "the table can't be read, or is too long");
-        return Ok(());
+        return;
     };
-    let Some(index) = files::load(rt, err, index_path, MOST)? else {
+    let Some(index) = files::load(rt, err, index_path, MOST) else {
         refuse_by(rt, err, "the index can't be read, or is too long");
-        return Ok(());
+        return;
     };
-    let Some(input) = files::load_input(rt, err, INPUT_ROOM)? else {
+    let Some(input) = files::load_input(rt, err, INPUT_ROOM) else {
         refuse_by(rt, err, "standard input can't be read");
-        return Ok(());
+        return;
     };
-    print_sheet(rt, err, &table, &index, &input)
+    print_sheet(rt, err, &table, &index, &input);
 }
 
-fn main(rt: HostRuntime) -> Result<(), AllocError> {
-    let err = rt.stderr();
-    let words = files::words(&rt)?;
-    match words.as_slice() {
-        [_, table, index] => dilute(&rt, &err, table, index),
+// The program, called with these words, its own name first.
+fn run(rt: &(impl Files + Input + Print + AllocGlobal), err: &impl Print, words: &[Vec<u8>]) {
+    match words {
+        [_, table, index] => dilute(rt, err, table, index),
         _ => {
             let _ = println!(err;
                 "use: dilute TABLE INDEX, with barcode field, concentration field, target and final volume on four lines of standard input"
             );
             refuse_by(
-                &rt,
-                &err,
+                rt,
+                err,
                 "two arguments are asked for, the table and the index",
             );
-            Ok(())
         }
+    }
+}
+
+fn main(rt: HostRuntime) {
+    let err = rt.stderr();
+    match files::words(&rt, WORDS) {
+        Ok(words) => run(&rt, &err, &words),
+        Err(_) => refuse_by(&rt, &err, "there is no memory for the arguments"),
     }
 }

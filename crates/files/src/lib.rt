@@ -2,7 +2,8 @@
 // `err` is what prints there, as the standard error of the runtime that `main` is given. A message that can't be printed changes nothing.
 #![tactic(auto)]
 
-ghost use Rattle.std.specs.Prelude.{◌≤◌, IfOk, IfSome, vec_len};
+ghost use Rattle.std.specs.Prelude.{◌≡◌, ◌≤◌, All, IfOk, IfSome, length, vec_len};
+ghost use Rattle.files.specs.Counts.{IsPrefixLen};
 
 use std::alloc::{AllocError, Global};
 use std::env::FillError;
@@ -10,6 +11,13 @@ use std::fmt::{Display, InlineText};
 use std::io::{Error, ErrorKind, Input, Read};
 use std::rt::{Env, Files};
 use std::{fs, io, str};
+
+// Room for 1,048,576 bytes. The `ensures` gives only the length: it is all that lending the array as a slice needs.
+pub fn space() -> [u8; 1048576]
+    ensures { 1048576 ≡ length result }
+{
+    [0; 1048576]
+}
 
 // The system's words for an error, without its number, which std prints behind them.
 fn without_number(text: &str) -> &str {
@@ -34,15 +42,27 @@ fn say_unread(err: &impl Print, path: &[u8], error: Error) -> io::Result<()> {
     say(err, path, without_number(text.as_str()))
 }
 
-// Room for a file of at most `most` bytes and one more, which is made before the first read: what fails later is the reader.
-fn room(alloc: Global, most: usize) -> Result<Vec<u8>, AllocError> {
-    Vec::with_capacity(alloc, most.saturating_add(1))
+// Reads until the buffer is full, the input ends or a read fails, and answers how many bytes stand at the start of the buffer.
+pub fn read_full(input: &mut impl Read, buffer: &mut [u8]) -> usize
+    ensures { IsPrefixLen result buffer.new }
+{
+    let mut done = 0;
+    while done < buffer.len() {
+        let n = input.read(&mut buffer[done..]).unwrap_or(0);
+        if n == 0 {
+            break;
+        }
+        done += n;
+    }
+    done
 }
 
 // Reads at most one byte more than `most`.
-fn read_front(input: impl Read + Drop, most: usize, bytes: &mut Vec<u8>) -> io::Result<usize> {
+fn read_front(alloc: Global, input: impl Read + Drop, most: usize) -> io::Result<Vec<u8>> {
+    let mut bytes = Vec::new(alloc);
     let limit = most.saturating_add(1);
-    input.take(limit as u64).read_to_end(bytes)
+    input.take(limit as u64).read_to_end(&mut bytes)?;
+    Ok(bytes)
 }
 
 // Opens a file for reading. The name of a file is text in UTF-8.
@@ -53,71 +73,75 @@ fn open<R: Files>(rt: &R, path: &[u8]) -> io::Result<R::File> {
     }
 }
 
-// Reads a file of at most `most` bytes.
+// What was read of an opened file, if it has at most `most` bytes.
+fn whole(err: &impl Print, name: &[u8], most: usize, front: io::Result<Vec<u8>>) -> Option<Vec<u8>>
+    ensures { IfSome result (λ bytes. vec_len bytes ≤ most) }
+{
+    match front {
+        Ok(bytes) if bytes.len() <= most => return Some(bytes),
+        Ok(_) => {
+            let _ = say(err, name, format_args!("longer than {most} bytes"));
+        }
+        Err(error) => {
+            let _ = say_unread(err, name, error);
+        }
+    }
+    None
+}
+
+// Reads a file of at most `most` bytes. One that there is no memory for can't be read.
 pub fn load(
     rt: &(impl Files + AllocGlobal),
     err: &impl Print,
     path: &[u8],
     most: usize,
-) -> Result<Option<Vec<u8>>, AllocError>
-    ensures { IfOk result (λ file. IfSome file (λ bytes. vec_len bytes ≤ most)) }
+) -> Option<Vec<u8>>
+    ensures { IfSome result (λ bytes. vec_len bytes ≤ most) }
 {
-    let mut bytes = room(rt.alloc(), most)?;
-    match open(rt, path).and_then(|file| read_front(file, most, &mut bytes)) {
-        Ok(_) if bytes.len() <= most => return Ok(Some(bytes)),
-        Ok(_) => {
-            let _ = say(err, path, format_args!("longer than {most} bytes"));
-        }
+    match open(rt, path) {
+        Ok(file) => whole(err, path, most, read_front(rt.alloc(), file, most)),
         Err(error) => {
             let _ = say_unread(err, path, error);
+            None
         }
     }
-    Ok(None)
 }
 
 // Reads the first `most` bytes of standard input, and says if there are more.
-pub fn load_input(
-    rt: &(impl Input + AllocGlobal),
-    err: &impl Print,
-    most: usize,
-) -> Result<Option<Vec<u8>>, AllocError>
-    ensures { IfOk result (λ input. IfSome input (λ bytes. vec_len bytes ≤ most)) }
+pub fn load_input(rt: &(impl Input + AllocGlobal), err: &impl Print, most: usize) -> Option<Vec<u8>>
+    ensures { IfSome result (λ bytes. vec_len bytes ≤ most) }
 {
     let name = b"standard input";
-    let mut bytes = room(rt.alloc(), most)?;
-    match read_front(rt.reader(), most, &mut bytes) {
-        Ok(n) => {
-            if most < n {
+    match read_front(rt.alloc(), rt.reader(), most) {
+        Ok(mut bytes) => {
+            if most < bytes.len() {
                 let _ = say(err, name, format_args!("longer than {most} bytes"));
             }
             bytes.truncate(most);
-            Ok(Some(bytes))
+            Some(bytes)
         }
         Err(error) => {
             let _ = say_unread(err, name, error);
-            Ok(None)
+            None
         }
     }
 }
 
-// Word i of those that the program was called with. No file's name has more than 4,095 bytes: a word that does not fit comes empty. It need not be text.
-fn word(rt: &(impl Env + AllocGlobal), i: usize) -> Result<Option<Vec<u8>>, AllocError> {
-    let mut word = [0u8; 4096];
-    match rt.arg(i, &mut word) {
-        Ok(n) => Ok(Some(Vec::from_slice(rt.alloc(), &word[..n])?)),
-        Err(FillError::TooLong) => Ok(Some(Vec::new(rt.alloc()))),
-        Err(FillError::NotPresent) => Ok(None),
-    }
-}
-
-// The words that the program was called with, its own name first.
-pub fn words(rt: &(impl Env + AllocGlobal)) -> Result<Vec<Vec<u8>>, AllocError> {
+// The first `most` of the words that the program was called with, its own name first. No file's name has more than 4,095 bytes: a word that does not fit comes
+// empty. It need not be text.
+pub fn words(rt: &(impl Env + AllocGlobal), most: usize) -> Result<Vec<Vec<u8>>, AllocError>
+    ensures count { IfOk result (λ words. vec_len words ≤ most) }
+    ensures lengths { IfOk result (λ words. All (λ word. vec_len word ≤ 4096) words.items) }
+{
+    let mut room = [0u8; 4096];
     let mut words = Vec::new(rt.alloc());
-    for i in 0..usize::MAX {
-        let Some(word) = word(rt, i)? else {
-            break;
+    for i in 0..most {
+        let n = match rt.arg(i, &mut room) {
+            Ok(n) => n,
+            Err(FillError::TooLong) => 0,
+            Err(FillError::NotPresent) => break,
         };
-        words.push(word)?;
+        words.push(Vec::from_slice(rt.alloc(), &room[..n])?)?;
     }
     Ok(words)
 }

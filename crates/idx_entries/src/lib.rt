@@ -89,7 +89,7 @@ fn larger_key<'a>(index: &'a [u8], key: &'a [u8], page: PageOffset, i: usize) ->
 }
 
 // The most that is gathered for a page: as many bytes as its entry area has, and one more entry with the longest key.
-const ROOM: usize = Page::ENTRY_AREA + idx_page::MAX_KEY + 4;
+pub const ROOM: usize = Page::ENTRY_AREA + idx_page::MAX_KEY + 4;
 
 // The bytes that are gathered for a page, one part after another. One room serves a whole insertion or removal: the library has no heap, and little stack.
 #[derive(Drop)]
@@ -135,13 +135,23 @@ impl Room {
         self.size += part.len();
     }
 
-    // Puts the four bytes of an entry's number behind what is in the room.
-    fn push_number(&mut self, number: u32)
+    // Puts an entry's number behind what is in the room: that of a record, in a leaf.
+    fn push_record_number(&mut self, number: RecordNumber)
         requires { length self.old + 4 ≤ room_size }
-        ensures value { self.new ≡ self.old ++ to_be32 number }
+        ensures value { self.new ≡ self.old ++ to_be32 number.0 }
         ensures size { length self.new ≡ length self.old + 4 }
     {
-        octets::store_be32(&mut self.bytes, self.size, number);
+        idx_page::put_record_number(&mut self.bytes, self.size, number);
+        self.size += 4;
+    }
+
+    // Puts an entry's number behind what is in the room: the offset of a page, above the leaves.
+    fn push_child(&mut self, child: PageOffset)
+        requires { length self.old + 4 ≤ room_size }
+        ensures value { self.new ≡ self.old ++ to_be32 child.0 }
+        ensures size { length self.new ≡ length self.old + 4 }
+    {
+        idx_page::put_child(&mut self.bytes, self.size, child);
         self.size += 4;
     }
 
@@ -176,7 +186,7 @@ impl Room {
         self.clear();
         self.push(entries_between(index, k, page, 0, i));
         self.push(key);
-        self.push_number(number.0);
+        self.push_record_number(number);
         self.push(entries_between(index, k, page, i, count));
     }
 
@@ -201,7 +211,7 @@ impl Room {
         self.push(last_key(index, key, child));
         self.push(number_bytes(index, k, page, i));
         self.push(larger_key(index, key, page, i));
-        self.push_number(new.0);
+        self.push_child(new);
         self.push(entries_between(index, k, page, i + 1, count));
     }
 
@@ -212,9 +222,9 @@ impl Room {
     {
         self.clear();
         self.push(last_key(index, key, old));
-        self.push_number(old.0);
+        self.push_child(old);
         self.push(last_key(index, key, new));
-        self.push_number(new.0);
+        self.push_child(new);
     }
 
     // Gathers the entries of a page without entry `i`.

@@ -32,13 +32,15 @@ pub fn insert(index: &mut [u8], key: &[u8], number: RecordNumber) -> Result<(), 
     if !idx_page::header_good(index) {
         return Err(Refusal::IndexHeader);
     }
+    let control = has_control(key);
+    let zero = number.0 == 0;
     if key.len() != idx_page::key_length(index) {
         return Err(Refusal::KeyLength);
     }
-    if has_control(key) {
+    if control {
         return Err(Refusal::ControlByte);
     }
-    if number.0 == 0 {
+    if zero {
         return Err(Refusal::RecordNumberZero);
     }
     idx_audit::audit(index)?;
@@ -97,10 +99,12 @@ fn write_fresh(index: &mut [u8], k: u32, features: u32, expression: &[u8])
 pub fn fresh(index: &mut [u8], k: u32, features: u32, expression: &[u8]) -> Result<(), Refusal>
     ensures { fresh_rule index.old k features expression.now ≡ left index.new (numbered result) }
 {
-    if !idx_page::key_length_good(k as usize) {
+    let good_key = idx_page::key_length_good(k as usize);
+    let good_header = header_told_good(features, expression);
+    if !good_key {
         return Err(Refusal::KeyLength);
     }
-    if !header_told_good(features, expression) {
+    if !good_header {
         return Err(Refusal::IndexHeader);
     }
     if index.len() < idx_page::MIN_BYTES {

@@ -1,5 +1,5 @@
 -- Laws: the tests of one leaf entry, and the loop over leaf entries. Cited by the proofs of the functions that do these. Assumes nothing.
-use Rattle.std.specs.Prelude.{ℕ, ◌+◌, ◌-◌, ◌≤◌, ◌<◌, ◌≡◌, refl, Bool, true, false, not, ◌&&◌, List, ◌∷◌, length, eqb}
+use Rattle.std.specs.Prelude.{ℕ, ◌+◌, ◌-◌, ◌≤◌, ◌<◌, ◌≡◌, refl, Bool, true, false, not, ◌&&◌, List, ◌∷◌, length, eqb, Some, None}
 use Rattle.std.proofs.Math.Path.{sym, ap}
 use Rattle.std.proofs.Common.{◌∙◌, arith}
 use Rattle.std.proofs.Math.Option.{none, some}
@@ -20,12 +20,16 @@ use Rattle.idx_leaves.specs.ComparedLaws.{pairs_compared}
 
 -- one entry of a leaf, by its tests
 module _ (b : List ℕ) (k at z n : ℕ) (en : n ≡ be32 b (at + k)) where
-  pub leaf-zero : n ≡ 0 → false ≡ leaf_entry b k at z
+  pub leaf-zero : n ≡ 0 → false ≡ leaf_entry b k at (Some z)
   leaf-zero h = rw (← en, eq-eqb n 0 h)
+
+  -- no entry before it
+  pub leaf_first : (n ≡ 0 → ⊥) → true ≡ leaf_entry b k at None
+  leaf_first positive = rw (← en, ne_eqb n 0 positive)
 
   -- after the entry at z; o is the order of the m bytes that are compared
   pub leaf-later : (m : ℕ) (o : Ordering) (r : Bool) → (n ≡ 0 → ⊥) → ((j : ℕ) → byte_at b j < 256) → z + (k + 4) ≤ length b → at + (k + 4) ≤ length b
-      → m ≡ compared_bytes (features b) k → o ≡ ordering (window b z m) (window b at m) → r ≡ is_below o → r ≡ leaf_entry b k at z
+      → m ≡ compared_bytes (features b) k → o ≡ ordering (window b z m) (window b at m) → r ≡ is_below o → r ≡ leaf_entry b k at (Some z)
   leaf-later m o r positive small hz ha em eo er =
       er ∙ ap is_below eo ∙ pairs_compared b small k z at hz ha (features b) m em ∙ rw (← en, ne_eqb n 0 positive)
 
@@ -52,7 +56,7 @@ module _ (b : List ℕ) (k p n : ℕ) where
     unfolding leaf_entries_good
     leaf-end h = sym (inv.left ∙ rw (from_end b k p n i h))
 
-    module _ (more : i < n) (r : Bool) (er : r ≡ leaf_entry b k at z) where
+    module _ (more : i < n) (r : Bool) (er : r ≡ leaf_entry b k at (Some z)) where
       leaf-step : leaf_entries_good (features b) (some (pair_at b k z₀)) (entries_from b k p (n - from) from)
           ≡ (r && leaf_entries_good (features b) (some (key_at b k p i, number_at b k p i)) (entries_from b k p (n - (i + 1)) (i + 1)))
       unfolding leaf_entries_good

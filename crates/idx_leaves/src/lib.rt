@@ -1,7 +1,7 @@
 // The entries of a leaf: each has a record number above 0, and comes after the entry before it. A part of the audit's first pass.
 #![tactic(auto)]
 
-ghost use Rattle.std.specs.Prelude.{◌≡◌, true, cond, ◌+◌, ◌-◌, ◌≤◌, ◌<◌, length, eqb};
+ghost use Rattle.std.specs.Prelude.{◌≡◌, true, cond, ◌+◌, ◌-◌, ◌≤◌, ◌<◌, length, eqb, Some};
 ghost use Rattle.std.proofs.Math.Option.{none, some};
 ghost use Rattle.idx_page.specs.Header.{max_key, page_size, features};
 ghost use Rattle.idx_page.specs.Reading.{entries_from};
@@ -36,7 +36,7 @@ fn leaf_entry(index: &[u8], k: usize, n: usize, at: usize, last: usize) -> bool
     requires here { at + (k + 4) ≤ length index.now }
     requires before { last + (k + 4) ≤ length index.now }
     requires compared { n ≡ compared_bytes (features index.now) k }
-    ensures { result ≡ leaf_entry index.now k at last }
+    ensures { result ≡ leaf_entry index.now k at (Some last) }
 {
     idx_page::record_at(index, k, at).0 != 0 && idx_keys::key_order(index, n, last, at).is_lt()
 }

@@ -362,7 +362,7 @@ pub fn first_at_or_above(index: &[u8], page: PageOffset, count: usize, key: &[u8
     ensures { (result ≡ first_at_or_above (key_at index.now (length key.now) page.0) key.now count 0) × (result ≤ count) }
 {
     for i in 0..count {
-        if compare_entry(index, page, i, key).is_ge() {
+        if !octets::is_below(compare_entry(index, page, i, key)) {
             return i;
         }
     }

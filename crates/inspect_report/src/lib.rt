@@ -10,16 +10,16 @@
 // `rt` opens files and prints, as the runtime that `main` is given; `err` prints on standard error.
 #![tactic(auto)]
 
+mod line;
 mod report;
 mod shown;
 
-ghost use Rattle.std.specs.Prelude.{◌≤◌, IfOk};
+ghost use Rattle.std.specs.Prelude.{◌≤◌};
 
 use inspect_argument::{Field, names};
+use line::Output;
 use refusal::Refusal;
-use std::alloc::AllocError;
 use std::fmt::Display;
-use std::io;
 use std::rt::Files;
 
 // The greatest file that is read.
@@ -81,18 +81,9 @@ fn arguments_of<'a>(words: &[&'a [u8]]) -> Option<Arguments<'a>> {
     })
 }
 
-// Why a file is not there: the line 40 was printed for it, or memory failed.
-#[derive(Debug, Drop)]
-enum Unloaded {
-    Refused,
-    OutOfMemory,
-}
-
-impl From<AllocError> for Unloaded {
-    fn from(_error: AllocError) -> Unloaded {
-        Unloaded::OutOfMemory
-    }
-}
+// That a file is not there: the line 40 was printed for it.
+#[derive(Clone, Copy, Debug)]
+struct Unloaded;
 
 fn load(
     rt: &(impl Files + Print + AllocGlobal),
@@ -100,7 +91,7 @@ fn load(
     path: &[u8],
     what: &str,
 ) -> Result<Vec<u8>, Unloaded> {
-    match files::load(rt, err, path, MOST)? {
+    match files::load(rt, err, path, MOST) {
         Some(file) => Ok(file),
         None => {
             refuse(
@@ -108,7 +99,7 @@ fn load(
                 err,
                 format_args!("{what} can't be read, or is too long"),
             );
-            Err(Unloaded::Refused)
+            Err(Unloaded)
         }
     }
 }
@@ -162,64 +153,58 @@ fn match_field(table: &[u8], index: &[u8], field: Field, word: &[u8]) -> Result<
 }
 
 // The line of an index and, if a FIELD was given, the line of the match.
-fn index_report(
-    out: &impl Print,
+fn index_report<P: Print>(
+    out: &Output<'_, P>,
     table: &[u8],
     index: &[u8],
     path: &[u8],
     field: Option<(Field, &[u8])>,
-) -> io::Result<u64>
-    ensures { IfOk result (λ n. n ≤ 2) }
+) -> u64
+    ensures { result ≤ 2 }
 {
-    let of_index = report::answer_line(out, "index", audit(path, index))?;
+    let of_index = report::answer_line(out, "index", audit(path, index));
     let of_match = match field {
         Some((field, word)) => {
-            report::answer_line(out, "match", match_field(table, index, field, word))?
+            report::answer_line(out, "match", match_field(table, index, field, word))
         }
         None => 0,
     };
-    Ok(of_index + of_match)
+    of_index + of_match
 }
 
 // Prints all lines. The last one says how many of the lines before it have a refusal, which is the answer too.
-fn print_report(out: &impl Print, loaded: &Loaded, arguments: Arguments<'_>) -> io::Result<u64> {
+fn print_report<P: Print>(out: &Output<'_, P>, loaded: &Loaded, arguments: Arguments<'_>) -> u64 {
     let memo = loaded.memo.as_ref().map(|memo| memo.as_slice());
-    let of_table = report::table_report(out, &loaded.table, memo)?;
+    let of_table = report::table_report(out, &loaded.table, memo);
     let of_index = match (&loaded.index, arguments.index) {
         (Some(index), Some(path)) => {
-            index_report(out, &loaded.table, index, path, arguments.field)?
+            index_report(out, &loaded.table, index, path, arguments.field)
         }
         _ => 0,
     };
     let problems = of_table + of_index;
-    println!(out; "problems {problems}")?;
-    Ok(problems)
+    out.print_line(format_args!("problems {problems}"));
+    problems
 }
 
 // The program, called with these words behind its own name. It ends with a verdict on standard error, once every line is written.
-pub fn inspect(
-    rt: &(impl Files + Print + AllocGlobal),
-    err: &impl Print,
-    words: &[&[u8]],
-) -> Result<(), AllocError> {
+pub fn inspect(rt: &(impl Files + Print + AllocGlobal), err: &impl Print, words: &[&[u8]]) {
     let Some(arguments) = arguments_of(words) else {
         refuse_use(rt, err);
-        return Ok(());
+        return;
     };
     if arguments.field.is_some() && arguments.index.is_some_and(inspect_argument::is_ndx) {
         refuse(rt, err, "an NDX index has no match: leave the FIELD out");
-        return Ok(());
+        return;
     }
-    let loaded = match load_all(rt, err, arguments) {
-        Ok(loaded) => loaded,
-        Err(Unloaded::Refused) => return Ok(()),
-        Err(Unloaded::OutOfMemory) => return Err(AllocError),
+    let Ok(loaded) = load_all(rt, err, arguments) else {
+        return;
     };
-    match print_report(rt, &loaded, arguments) {
-        Ok(problems) => {
-            let _ = println!(err; "inspect: problems {problems}");
-        }
-        Err(_) => say_unwritten(err),
+    let out = Output::new(rt);
+    let problems = print_report(&out, &loaded, arguments);
+    if out.is_written() {
+        let _ = println!(err; "inspect: problems {problems}");
+    } else {
+        say_unwritten(err);
     }
-    Ok(())
 }

@@ -25,9 +25,14 @@ module _ (keys : ℕ → List ℕ) (numbers : ℕ → ℕ) (n i : ℕ) (s : Stat
   unfolding items_from
   items_end h = let z : n - i ≡ 0 = omega arith in rw z
 
-  pub items_stop : i < n → (item by_top (some (keys i), numbers i) s).good ≡ false → (items_from keys numbers (n - i) i s).good ≡ false
+  -- a pair that is not good: the walk stays as the pair leaves it
+  pub items_stop : i < n → (item by_top (some (keys i), numbers i) s).good ≡ false
+      → items_from keys numbers (n - i) i s ≡ item by_top (some (keys i), numbers i) s
   unfolding items_from
-  items_stop h e = rw (one_more n i h) (not_on (items_from keys numbers (n - (i + 1)) (i + 1)) (item by_top (some (keys i), numbers i) s) e)
+  items_stop h e = rw (one_more n i h) (if_not (items_from keys numbers (n - (i + 1)) (i + 1)) (item by_top (some (keys i), numbers i) s) e)
+
+  pub items_bad : i < n → (item by_top (some (keys i), numbers i) s).good ≡ false → (items_from keys numbers (n - i) i s).good ≡ false
+  items_bad h e = ap (λ (x : Status Key). x.good) (items_stop h e) ∙ e
 
   pub items_on : i < n → (t : Status Key) → item by_top (some (keys i), numbers i) s ≡ t → t.good ≡ true
       → items_from keys numbers (n - i) i s ≡ items_from keys numbers (n - (i + 1)) (i + 1) t
@@ -48,11 +53,14 @@ module _ (keys : ℕ → List ℕ) (numbers : ℕ → ℕ) (f : ℕ → Walker) 
       (not_on (children_from keys numbers f (n - (i + 1)) (i + 1)) (passed by_top (f (numbers i) s) (some (keys i))) (rw e))
 
   module _ (h : i < n) (t : Status Key) (child : f (numbers i) s ≡ t) where
-    -- the key above is not
-    pub children_stop : (passed by_top t (some (keys i))).good ≡ false → (children_from keys numbers f (n - i) i s).good ≡ false
+    -- the key above is not: the walk stays as that key leaves it
+    pub children_stop : (passed by_top t (some (keys i))).good ≡ false → children_from keys numbers f (n - i) i s ≡ passed by_top t (some (keys i))
     unfolding children_from
     children_stop e =
-        rw (one_more n i h, child) (not_on (children_from keys numbers f (n - (i + 1)) (i + 1)) (passed by_top t (some (keys i))) e)
+        rw (one_more n i h, child) (if_not (children_from keys numbers f (n - (i + 1)) (i + 1)) (passed by_top t (some (keys i))) e)
+
+    pub passed_bad : (passed by_top t (some (keys i))).good ≡ false → (children_from keys numbers f (n - i) i s).good ≡ false
+    passed_bad e = ap (λ (x : Status Key). x.good) (children_stop e) ∙ e
 
     pub children_on : (u : Status Key) → passed by_top t (some (keys i)) ≡ u → u.good ≡ true
         → children_from keys numbers f (n - i) i s ≡ children_from keys numbers f (n - (i + 1)) (i + 1) u
@@ -101,6 +109,6 @@ module _ (b : List ℕ) (root h p : ℕ) where
 -- what the proofs of the functions with a loop cite
 pub ruleset lower_steps = (within_steps, zeros_end, zeros_off, zeros_on)
 
-pub ruleset pair_steps = (within_steps, items_end, items_stop, items_on)
+pub ruleset pair_steps = (within_steps, items_end, items_bad, items_on)
 
 pub ruleset height_steps = (page_within, height_end, height_leaf, height_on)

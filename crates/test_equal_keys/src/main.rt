@@ -5,7 +5,7 @@
 
 mod calls;
 
-use std::{fs, io};
+use std::io;
 use test_lines::{bad_line, number};
 
 // The lists, and the bytes of their buffers.
@@ -21,8 +21,9 @@ const LISTS: [(&str, usize); 6] = [
 // Runs a list on a buffer of `size` zeros, and compares it with an index file.
 fn run_list(rt: &HostRuntime, name: &str, size: usize) -> io::Result<()> {
     let alloc = rt.alloc();
-    let list = fs::read_to_string(rt, format!(in alloc; "{name}.calls")?.as_str())?;
-    let file = fs::read(rt, format!(in alloc; "{name}.idx")?.as_str())?;
+    let err = &rt.stderr();
+    let list = test_lines::list(rt, err, format!(in alloc; "{name}.calls")?.as_str());
+    let file = test_lines::file(rt, err, format!(in alloc; "{name}.idx")?.as_str());
     let mut index = vec![in alloc; 0u8; size]?;
     for line in list.as_str().lines() {
         calls::run_line(alloc, rt, &mut index, line)?;
@@ -32,7 +33,7 @@ fn run_list(rt: &HostRuntime, name: &str, size: usize) -> io::Result<()> {
 
 // Makes fresh indexes, each in a buffer of its own.
 fn make_fresh(rt: &HostRuntime) -> io::Result<()> {
-    let list = fs::read_to_string(rt, "k12_fresh.calls")?;
+    let list = test_lines::list(rt, &rt.stderr(), "k12_fresh.calls");
     for line in list.as_str().lines() {
         calls::run_line(rt.alloc(), rt, &mut [0u8; 2048], line)?;
     }
@@ -54,8 +55,8 @@ fn run_damaged(rt: &HostRuntime, index: &mut [u8], line: &str) -> io::Result<()>
 
 // Audits and searches damaged copies of an index file.
 fn damage_copies(rt: &HostRuntime) -> io::Result<()> {
-    let list = fs::read_to_string(rt, "k12_damaged.expected")?;
-    let file = fs::read(rt, "k12_dates.idx")?;
+    let list = test_lines::list(rt, &rt.stderr(), "k12_damaged.expected");
+    let file = test_lines::file(rt, &rt.stderr(), "k12_dates.idx");
     for line in list.as_str().lines() {
         run_damaged(rt, &mut file.clone()?, line)?;
     }

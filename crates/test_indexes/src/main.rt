@@ -7,7 +7,7 @@
 mod lists;
 
 use std::alloc::Global;
-use std::{fs, io};
+use std::io;
 use test_lines::calls::Call;
 
 // The lists that run on zeros, and the bytes of their buffers. Keys have the length that a name says; the lists k6 have removals, and in k6_k10_to_nothing all
@@ -99,8 +99,9 @@ fn audit(index: &[u8]) -> u32 {
 // Prints the audit of an index file, and how many accepted keys of its list it has. Then the list runs on a buffer of `size` zeros.
 fn run_on_zeros(rt: &HostRuntime, name: &str, size: usize) -> io::Result<()> {
     let alloc = rt.alloc();
-    let index = fs::read(rt, format!(in alloc; "{name}.idx")?.as_str())?;
-    let calls = fs::read_to_string(rt, format!(in alloc; "{name}.calls")?.as_str())?;
+    let err = &rt.stderr();
+    let index = test_lines::file(rt, err, format!(in alloc; "{name}.idx")?.as_str());
+    let calls = test_lines::list(rt, err, format!(in alloc; "{name}.calls")?.as_str());
     let pairs = accepted_pairs(alloc, calls.as_str())?;
     let accepted = pairs.len();
     let found = pairs.iter().filter(|pair| pair.is_in(&index)).count();
@@ -115,17 +116,18 @@ fn run_on_zeros(rt: &HostRuntime, name: &str, size: usize) -> io::Result<()> {
 // Audits an index file, and makes the calls of a list on it. `after` is the index file after the list.
 fn run_on_file(rt: &HostRuntime, name: &str, after: &str) -> io::Result<()> {
     let alloc = rt.alloc();
-    let mut index = fs::read(rt, format!(in alloc; "{name}.idx")?.as_str())?;
+    let err = &rt.stderr();
+    let mut index = test_lines::file(rt, err, format!(in alloc; "{name}.idx")?.as_str());
     index.resize(ROOM, 0)?;
     println!(rt; "{name} {}", audit(&index))?;
-    let calls = fs::read_to_string(rt, format!(in alloc; "{name}.calls")?.as_str())?;
-    let after = fs::read(rt, format!(in alloc; "{after}.idx")?.as_str())?;
+    let calls = test_lines::list(rt, err, format!(in alloc; "{name}.calls")?.as_str());
+    let after = test_lines::file(rt, err, format!(in alloc; "{after}.idx")?.as_str());
     lists::run(rt, name, calls.as_str(), &after, &mut index)
 }
 
 // Audits damaged copies of an index.
 fn damaged_copies(rt: &HostRuntime) -> io::Result<()> {
-    let whole = fs::read(rt, "k10_random.idx")?;
+    let whole = test_lines::file(rt, &rt.stderr(), "k10_random.idx");
     for (name, at, value) in DAMAGES {
         let mut index = whole.clone()?;
         test_lines::set_byte(&mut index, at, value);

@@ -3,8 +3,8 @@
 #![tactic(auto)]
 
 use idx_lookup::Outcome;
+use std::io;
 use std::str::Split;
-use std::{fs, io};
 use test_lines::{bad_line, number, word};
 
 // A lookup, by its key in hexadecimal: the answer, the record and the pages visited, 0 for what an answer does not have.
@@ -42,7 +42,7 @@ fn run_damaged(rt: &HostRuntime, index: &mut [u8], words: &mut Split<'_, char>) 
 fn run_line(rt: &HostRuntime, line: &str) -> io::Result<()> {
     let mut words = test_lines::words(line);
     let file = word(&mut words)?;
-    let mut index = fs::read(rt, file)?;
+    let mut index = test_lines::file(rt, &rt.stderr(), file);
     print!(rt; "{file}")?;
     match word(&mut words)? {
         "a" => audit(rt, &index)?,
@@ -54,7 +54,7 @@ fn run_line(rt: &HostRuntime, line: &str) -> io::Result<()> {
 }
 
 fn main(rt: HostRuntime) -> io::Result<()> {
-    let list = fs::read_to_string(&rt, "k13.calls")?;
+    let list = test_lines::list(&rt, &rt.stderr(), "k13.calls");
     for line in list.as_str().lines() {
         run_line(&rt, line)?;
     }

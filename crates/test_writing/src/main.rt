@@ -7,8 +7,8 @@ ghost use Rattle.dbf_create.specs.Laying.{room_length};
 
 use dbf_append::Appended;
 use dbf_field::FieldEntry;
+use std::io;
 use std::str::Split;
-use std::{fs, io};
 use test_lines::{bad_line, hex_bytes, number, word, words};
 
 // The length of the table at the front of a buffer, its end mark counted.
@@ -46,7 +46,7 @@ fn set_date(rt: &HostRuntime, buffer: &mut [u8], call: &mut Split<'_, char>) -> 
 
 // `FILE LENGTH`: whether the table is the file.
 fn is_file(rt: &HostRuntime, buffer: &[u8], call: &mut Split<'_, char>) -> io::Result<bool> {
-    let file = fs::read(rt, word(call)?)?;
+    let file = test_lines::file(rt, &rt.stderr(), word(call)?);
     Ok(file.len() == table_len(buffer) && buffer.starts_with(&file))
 }
 
@@ -129,7 +129,7 @@ fn lay_out(rt: &HostRuntime, buffer: &mut Vec<u8>, call: &mut Split<'_, char>) -
 }
 
 fn main(rt: HostRuntime) -> io::Result<()> {
-    let list = fs::read_to_string(&rt, "k3_writing.calls")?;
+    let list = test_lines::list(&rt, &rt.stderr(), "k3_writing.calls");
     let mut buffer = Vec::new(rt.alloc());
     for line in list.lines() {
         let mut call = words(line);

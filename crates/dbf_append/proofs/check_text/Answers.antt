@@ -3,6 +3,7 @@ use Rattle.std.specs.Prelude.{ℕ}
 use Rattle.std.proofs.Common.{◌≡◌, ◌∙◌, sym, ap, arith}
 use Rattle.std.proofs.lemmas.Result.{err_from_is_err_and}
 use Rattle.dbf_table.specs.Table.{type_c, type_n, type_d, type_l, type_m}
+use Rattle.dbf_cell.specs.Cell.{logical_of}
 use Rattle.dbf_cell.specs.Codes.{number_refusal}
 use Rattle.dbf_append.specs.Append.{date_refusal, logical_refusal, memo_refusal}
 use Rattle.dbf_append.specs.CheckLaws.{letter_is, text_number, text_date, text_logical, text_memo, text_any, text_taken, number_taken, date_taken, logical_taken, memo_taken}
@@ -37,12 +38,14 @@ unfolding logical_refusal
 returns-in_err-logical_of-in-Some-Logical c =
     let letter : c.args.letter ≡ type_l = grind arith in
     let p = err_from_is_err_and c.from_residual-in_err-logical_of-in-Some-Logical.result c.from_residual-in_err-logical_of-in-Some-Logical.ensures.1 in
-    rw (p.1, p.2) (sym (text_logical _ _ _ letter ∙ ap logical_refusal (sym c.in_err-logical_of-in-Some-Logical.ensures)))
+    let byte = ap (λ b. logical_refusal (logical_of b)) (sym c.byte.ensures.0) in
+    rw (p.1, p.2) (sym (text_logical _ _ _ letter ∙ byte ∙ ap logical_refusal (sym c.in_err-logical_of-in-Some-Logical.ensures)))
 
 pub returns-in_ok-logical_of-in-Some-Logical : goal.returns-in_ok-logical_of-in-Some-Logical
 returns-in_ok-logical_of-in-Some-Logical c =
     let letter : c.args.letter ≡ type_l = grind arith in
-    sym (text_logical _ _ _ letter ∙ ap logical_refusal (sym c.in_ok-logical_of-in-Some-Logical.ensures) ∙ logical_taken _)
+    let byte = ap (λ b. logical_refusal (logical_of b)) (sym c.byte.ensures.0) in
+    sym (text_logical _ _ _ letter ∙ byte ∙ ap logical_refusal (sym c.in_ok-logical_of-in-Some-Logical.ensures) ∙ logical_taken _)
 
 pub returns-in_err-read_number-in-Some-Memo : goal.returns-in_err-read_number-in-Some-Memo
 unfolding memo_refusal

@@ -1,5 +1,5 @@
 -- `check_level`: a row of children that fit hands on to the row of the next page; one that does not, or that is too long, ends the pass.
-use Rattle.std.proofs.Common.{sym, ◌∙◌, arith}
+use Rattle.std.proofs.Common.{sym, ◌∙◌, refl, arith}
 use Rattle.idx_shape.specs.PassLaws.{pages_off, pages-end, pages-on, pages-refused, pages-over}
 use Rattle.idx_shape.proofs.check_level.Goals as goal
 
@@ -10,8 +10,8 @@ pub returns-in_err-counted : goal.returns-in_err-counted
 returns-in_err-counted c =
     let more = c.loop-test.true in
     rw c.from_residual.ensures
-    (pages-over _ _ _ _ _ _ _ _ _ c.loop.invariant (omega arith) (sym c.is_page.ensures.test ∙ c.if-not-is_page.false) _ c.entry_count-count.ensures
-    c.in_err-counted.ensures)
+    (pages-over _ _ _ _ _ _ _ _ _ c.loop.invariant (omega arith) (sym c.is_page.ensures.test ∙ c.if-not-is_page.false) _ c.entry_count-count.ensures _
+    c.in_err-counted.ensures refl)
 
 pub returns-in_err-met : goal.returns-in_err-met
 returns-in_err-met c =

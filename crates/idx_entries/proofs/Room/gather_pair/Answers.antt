@@ -23,8 +23,8 @@ push-requires c = let s = pair-spread c.args.index.now c.args.key.now c.args.num
 pub push-requires-2 : goal.push-requires-2
 push-requires-2 c = let s = pair-spread c.args.index.now c.args.key.now c.args.number.0 c.requires c.place-i.ensures in omega arith
 
-pub push_number-requires : goal.push_number-requires
-push_number-requires c = let s = pair-spread c.args.index.now c.args.key.now c.args.number.0 c.requires c.place-i.ensures in omega arith
+pub push_record_number-requires : goal.push_record_number-requires
+push_record_number-requires c = let s = pair-spread c.args.index.now c.args.key.now c.args.number.0 c.requires c.place-i.ensures in omega arith
 
 pub push-requires-3 : goal.push-requires-3
 push-requires-3 c = let s = pair-spread c.args.index.now c.args.key.now c.args.number.0 c.requires c.place-i.ensures in omega arith

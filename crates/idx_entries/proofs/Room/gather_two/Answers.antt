@@ -45,8 +45,8 @@ push-requires-4 c =
     let t = spread (c.args.i + 1) c.requires.0 (omega (arith, c.requires.1)) in
     omega arith
 
-pub push_number-requires : goal.push_number-requires
-push_number-requires c =
+pub push_child-requires : goal.push_child-requires
+push_child-requires c =
     let s = spread c.args.i c.requires.0 (omega (arith, c.requires.1)) in
     let t = spread (c.args.i + 1) c.requires.0 (omega (arith, c.requires.1)) in
     omega arith

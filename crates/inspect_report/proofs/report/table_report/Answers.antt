@@ -1,5 +1,5 @@
 -- `table_report`: past the check the table is good, and the shape is its own. A good table has at most 128 fields, so their count fits 32 bits.
-use Rattle.std.proofs.Common.{sym, ◌∙◌, arith}
+use Rattle.std.proofs.Common.{sym, arith}
 use Rattle.dbf_table.specs.TableLaws.{layout, good_shape}
 use Rattle.inspect_report.proofs.report.table_report.Goals as goal
 

@@ -8,4 +8,4 @@ use Rattle.ndx_audit.proofs.Walk.pairs.Given as goal
 abbrev pub invariant-loop-i : goal.invariant-loop-i
 invariant-loop-i l =
     let pairs = items_from (key_at l.index.bytes.now l.page.0) (record_at l.index.bytes.now l.page.0) in
-    pairs l.count 0 (state l.initial.self) ≡ pairs (l.count - l.i) l.i (state l.self)
+    pairs l.count 0 (state l.initial.self) ≡ pairs (l.count - l.i) l.i (state l.walk)

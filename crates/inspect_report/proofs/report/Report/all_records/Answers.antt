@@ -3,12 +3,12 @@ use Rattle.std.proofs.Common.{rules, arith}
 use Rattle.dbf_table.specs.TableLaws.{layout}
 use Rattle.inspect_report.proofs.report.Report.all_records.Goals as goal
 
-pub record_lines-requires : goal.record_lines-requires
-record_lines-requires g c =
+pub record_lines-problems-requires : goal.record_lines-problems-requires
+record_lines-problems-requires g c =
     let some = (layout _ c.requires.0).header.some in
     search rules
 
 pub loop-number-preserved : goal.loop-number-preserved
 loop-number-preserved g c =
     let few = (layout _ c.requires.0).header.few in
-    omega (arith, c.in_ok-problems.ensures, c.loop-number.invariant)
+    omega (arith, c.record_lines-problems.ensures, c.loop-number.invariant)

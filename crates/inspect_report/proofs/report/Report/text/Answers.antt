@@ -2,7 +2,5 @@
 use Rattle.dbf_cell.specs.CellLaws.{at-within}
 use Rattle.inspect_report.proofs.report.Report.text.Goals as goal
 
-pub text_part-requires : goal.text_part-requires
-text_part-requires g c =
-    let said = rw c.in-Some.is at c.in_ok-part.ensures in
-    rw said (at-within _ _ _ _ _ c.requires.inside)
+pub text_part-text-requires : goal.text_part-text-requires
+text_part-text-requires g c = rw c.text_at-found.ensures (at-within _ _ _ _ _ c.requires.inside)

@@ -2,13 +2,13 @@
 use Rattle.std.proofs.Common.{◌∙◌, ap, length, length-append}
 use Rattle.octets.specs.NumberLaws.{length-to_be32}
 use Rattle.idx_entries.proofs.GatherLaws.{pushed}
-use Rattle.idx_entries.proofs.Room.push_number.Goals as goal
+use Rattle.idx_entries.proofs.Room.push_child.Goals as goal
 
 pub returns-clause-value : goal.returns-clause-value
 returns-clause-value c =
-    pushed _ _ c.self.inside.bytes c.self.view_is c.self.told c.self.invariant (length-to_be32 c.args.number) c.requires c.store_be32.ensures
+    pushed _ _ c.self.inside.bytes c.self.view_is c.self.told c.self.invariant (length-to_be32 c.args.child.0) c.requires c.put_child.ensures
 
 pub returns-clause-size : goal.returns-clause-size
 returns-clause-size c =
-    ap length (pushed _ _ c.self.inside.bytes c.self.view_is c.self.told c.self.invariant (length-to_be32 c.args.number) c.requires c.store_be32.ensures)
+    ap length (pushed _ _ c.self.inside.bytes c.self.view_is c.self.told c.self.invariant (length-to_be32 c.args.child.0) c.requires c.put_child.ensures)
     ∙ rw (length-append, length-to_be32)
