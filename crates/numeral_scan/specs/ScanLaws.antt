@@ -1,9 +1,9 @@
 -- Laws: the reader's states end in what the text means (`scan_means`). Each law `..-means` says, by the rules of Reading.antt, what a text means whose
 -- rest s the reader has yet to take from a state. Assumes nothing.
-use Rattle.std.specs.Prelude.{◌≡◌, Bool, ◌&&◌, not, eqb, ltb, length, fold, Err, None, Ok, Some}
+use Rattle.std.specs.Prelude.{◌≡◌, Bool, ◌&&◌, not, eqb, ltb, length, fold, get_or, drop, Err, None, Ok, Some}
 use Prim.Native.Nat.{ℕ, zero, suc, ◌+◌, ◌*◌, ◌-◌, ◌^◌, min}
 use Rattle.std.proofs.Math.Path.{refl, sym}
-use Rattle.std.proofs.Common.{ap, ◌∙◌, arith}
+use Rattle.std.proofs.Common.{ap, ◌∙◌, add-one, arith, drop_of_length-le, drop-cons, ◌<◌, ◌≤◌}
 use Rattle.std.proofs.Math.Bool.{true, false, and-false}
 use mathlib.Core.List.{List, [], ◌∷◌}
 use Rattle.std.proofs.Math.Dec.{leb, eqb-suc-zero, eqb-zero-suc, eqb-suc-suc}
@@ -18,7 +18,7 @@ use Rattle.numeral.specs.Reading.{whole_missing, zero_dropped, whole_accepted, t
 use Rattle.numeral.specs.ReadingLaws.{format-decimals, no_comma, front-more, front_ends, after_more, after-ends, every_front, zero-whole}
 use Rattle.numeral.specs.ReadingLaws.{zero_needless, digits-whole, fraction-empty, fraction-point, digit_first, missing_digits, missing_good}
 use Rattle.numeral.specs.ReadingLaws.{count-number}
-use Rattle.numeral_scan.specs.Scan.{initial, whole_end, next_place, next_zero, next_value, step_in, step, scan, settled, meaning}
+use Rattle.numeral_scan.specs.Scan.{initial, whole_end, with_digit, next_place, next_zero, next_value, step_in, step, scan, settled, meaning}
 use Rattle.numeral.specs.Format.{Number}
 use Rattle.numeral_scan.specs.declared.Reader.{Reader}
 use Rattle.numeral_scan.specs.declared.Phase.{Phase}
@@ -52,6 +52,24 @@ step_in_lem r c e = ap (λ q. step_in q r c) e
 scan-to : {q : Reader} (r : Reader) (c : ℕ) (s : List ℕ) → step r c ≡ q → scan r (c ∷ s) ≡ scan q s
 unfolding scan
 scan-to r c s e = rw e
+
+-- a digit among the whole part, or behind the point where one is to come, goes into the number
+pub whole_digit : (r : Reader) (c : ℕ) → r.phase ≡ phase.Whole → is_digit c ≡ true → step r c ≡ with_digit r phase.Whole c
+whole_digit r c e f = step_in_lem r c e ∙ rw f
+
+pub fraction_digit : (r : Reader) (left c : ℕ) → r.phase ≡ phase.Fraction left → 1 ≤ left → is_digit c ≡ true
+    → step r c ≡ with_digit r (phase.Fraction (left - 1)) c
+fraction_digit r left c e h f = step_in_lem r c e ∙ rw (f, le-leb 1 left h)
+
+-- the characters are taken one after another, from a place on
+module _ (r : Reader) (s : List ℕ) (i : ℕ) where
+  pub scan_next : i < length s → scan r (drop i s) ≡ scan (step r (get_or s i 0)) (drop (i + 1) s)
+  unfolding scan
+  scan_next h = rw (drop-cons s i 0 h, add-one)
+
+  pub scan_end : length s ≤ i → scan r (drop i s) ≡ r
+  unfolding scan
+  scan_end h = rw (drop_of_length-le s h)
 
 -- the characters taken one after another
 pub scan_fold : (r : Reader) (s : List ℕ) → scan r s ≡ fold step r s

@@ -1,7 +1,7 @@
 // The reader of numeric text, one character at a time.
 #![tactic(auto)]
 
-ghost use Rattle.std.specs.Prelude.{◌≡◌, true, ◌<◌, ◌^◌, if◌then◌else◌};
+ghost use Rattle.std.specs.Prelude.{◌≡◌, true, ◌<◌, ◌≤◌, ◌^◌, if◌then◌else◌, length, drop};
 ghost use Rattle.refusal.specs.Refusals.{numbered};
 ghost use Rattle.octets.specs.Text.{is_digit};
 ghost use Rattle.numeral.specs.Format.{max_digits};
@@ -204,12 +204,65 @@ impl Reader {
         }
     }
 
+    // The state after the digits at the start of a text, if digits of the whole part were taken before them, and the text behind them.
+    #[tactic(auto, using(crate::specs::ScanLaws::whole_digit, crate::specs::ScanLaws::scan_next, crate::specs::ScanLaws::scan_end))]
+    fn take_whole(self, text: &[u8]) -> (Reader, &[u8])
+        requires { self.phase ≡ Phase.Whole }
+        ensures rest { length result.1.now ≤ length text.now }
+        ensures state { scan self text.now ≡ scan result.0 result.1.now }
+    {
+        let mut reader = self;
+        for (i, &c) in text.iter().enumerate() {
+            if !is_digit(c) {
+                return (reader, &text[i..]);
+            }
+            reader = reader.with_digit(Phase::Whole, c);
+        }
+        (reader, &[])
+    }
+
+    // The same behind the point, where `left` digits are to come.
+    #[tactic(auto, using(crate::specs::ScanLaws::fraction_digit, crate::specs::ScanLaws::scan_next, crate::specs::ScanLaws::scan_end))]
+    fn take_fraction(self, mut left: u64, text: &[u8]) -> (Reader, &[u8])
+        requires { self.phase ≡ Phase.Fraction left }
+        ensures rest { length result.1.now ≤ length text.now }
+        ensures state { scan self text.now ≡ scan result.0 result.1.now }
+    {
+        let mut reader = self;
+        for (i, &c) in text.iter().enumerate() {
+            if left == 0 || !is_digit(c) {
+                return (reader, &text[i..]);
+            }
+            left -= 1;
+            reader = reader.with_digit(Phase::Fraction(left), c);
+        }
+        (reader, &[])
+    }
+
+    // The state after the digits at the start of a text, in a phase in which most characters are digits, and the text behind them. These digits have loops of
+    // their own: with one loop for all characters, which chooses by the phase for each, long numbers take nearly twice as long.
+    fn take_digits(self, text: &[u8]) -> (Reader, &[u8])
+        ensures rest { length result.1.now ≤ length text.now }
+        ensures state { scan self text.now ≡ scan result.0 result.1.now }
+    {
+        match self.phase {
+            Phase::Whole => self.take_whole(text),
+            Phase::Fraction(left) => self.take_fraction(left, text),
+            _ => (self, text),
+        }
+    }
+
     // The state after the characters of a text.
-    #[tactic(auto, using(crate::specs::ScanLaws::scan_fold))]
+    #[tactic(auto, unfolding(crate::specs::Scan::scan))]
     pub fn take_all(self, text: &[u8]) -> Reader
         ensures { result ≡ scan self text.now }
     {
-        text.iter().copied().fold(self, Reader::take)
+        let mut reader = self;
+        let mut rest = text;
+        while let [c, behind @ ..] = rest {
+            (reader, rest) = reader.take(*c).take_digits(behind);
+        }
+        reader
     }
 
     // What the text means if it ends in this state: a value in units of 10 to the -decimals, or nothing.
