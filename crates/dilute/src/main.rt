@@ -10,6 +10,7 @@
 
 use dilute_sheet::input::{Fault, Wrong, input_fault};
 use dilute_sheet::tally::{Tally, sheet_verdict};
+use files::Partial;
 use refusal::Refusal;
 use std::fmt;
 use std::fmt::{Display, Formatter};
@@ -21,9 +22,6 @@ const MOST: usize = 65536;
 
 // Four lines of ten digits have 44 bytes. Of an input of more than 64 bytes the first 64 have the first fault, since four good lines have fewer.
 const INPUT_ROOM: usize = 64;
-
-// The program's own name, its two arguments and one word more, which is too many.
-const WORDS: usize = 4;
 
 // What is wrong with the numbers that are on standard input.
 #[derive(Clone, Copy)]
@@ -90,7 +88,7 @@ fn say_verdict(err: &impl Print, verdict: Result<Tally, Refusal>, input: &[u8], 
     }
 }
 
-// Prints the sheet, and then the verdict. Its room, on the stack, is enough for the sheet of any table of 65,536 bytes, and can't be refused.
+// Prints the sheet, and then the verdict. Its room is enough for the sheet of any table of 65,536 bytes.
 fn print_sheet(out: &impl Print, err: &impl Print, table: &[u8], index: &[u8], input: &[u8]) {
     let mut sheet = files::space();
     let bytes = dilute_sheet::sheet(table, index, input, &mut sheet);
@@ -99,48 +97,49 @@ fn print_sheet(out: &impl Print, err: &impl Print, table: &[u8], index: &[u8], i
     }
 }
 
+// Reads standard input, and prints the sheet. An input that is too long, or can't be read to its end, has its fault among its first 64 bytes if it has so many.
+fn with_files(rt: &(impl Input + Print), err: &impl Print, table: &[u8], index: &[u8]) {
+    let mut input = [0u8; INPUT_ROOM];
+    match files::load_input(rt, err, &mut input) {
+        Ok(len) => print_sheet(rt, err, table, index, &input[..len]),
+        Err(Partial { len: INPUT_ROOM }) => print_sheet(rt, err, table, index, &input),
+        Err(_) => refuse_by(rt, err, "standard input can't be read"),
+    }
+}
+
+// Reads the files, and goes on with them. Their room, as that of the sheet and of the words, is on the stack, which can't be refused.
 fn dilute(
-    rt: &(impl Files + Input + Print + AllocGlobal),
+    rt: &(impl Files + Input + Print),
     err: &impl Print,
     table_path: &[u8],
     index_path: &[u8],
 ) {
-    let Some(table) = files::load(rt, err, table_path, MOST) else {
+    let mut table = [0u8; MOST];
+    let Ok(table_len) = files::load(rt, err, table_path, &mut table) else {
         refuse_by(rt, err, "the table can't be read, or is too long");
         return;
     };
-    let Some(index) = files::load(rt, err, index_path, MOST) else {
+    let mut index = [0u8; MOST];
+    let Ok(index_len) = files::load(rt, err, index_path, &mut index) else {
         refuse_by(rt, err, "the index can't be read, or is too long");
         return;
     };
-    let Some(input) = files::load_input(rt, err, INPUT_ROOM) else {
-        refuse_by(rt, err, "standard input can't be read");
-        return;
-    };
-    print_sheet(rt, err, &table, &index, &input);
-}
-
-// The program, called with these words, its own name first.
-fn run(rt: &(impl Files + Input + Print + AllocGlobal), err: &impl Print, words: &[Vec<u8>]) {
-    match words {
-        [_, table, index] => dilute(rt, err, table, index),
-        _ => {
-            let _ = println!(err;
-                "use: dilute TABLE INDEX, with barcode field, concentration field, target and final volume on four lines of standard input"
-            );
-            refuse_by(
-                rt,
-                err,
-                "two arguments are asked for, the table and the index",
-            );
-        }
-    }
+    with_files(rt, err, &table[..table_len], &index[..index_len]);
 }
 
 fn main(rt: HostRuntime) {
     let err = rt.stderr();
-    match files::words(&rt, WORDS) {
-        Ok(words) => run(&rt, &err, &words),
-        Err(_) => refuse_by(&rt, &err, "there is no memory for the arguments"),
+    if files::word_count(&rt) != 3 {
+        let _ = println!(err;
+            "use: dilute TABLE INDEX, with barcode field, concentration field, target and final volume on four lines of standard input"
+        );
+        refuse_by(
+            &rt,
+            &err,
+            "two arguments are asked for, the table and the index",
+        );
+        return;
     }
+    let paths = files::words::<2>(&rt, 1);
+    dilute(&rt, &err, paths.get(0), paths.get(1));
 }

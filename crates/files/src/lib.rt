@@ -1,11 +1,11 @@
-// Whole files, standard input, and the words that a program is called with. What can't be taken is refused with a message on standard error that says why.
-// `err` is what prints there, as the standard error of the runtime that `main` is given. A message that can't be printed changes nothing.
+// Whole files, standard input, and the words that a program is called with. Each is read to room that the caller lends or that lies on the stack, so that no
+// call is refused memory. What can't be taken is refused with a message on standard error that says why. `err` is what prints there, as the standard error of
+// the runtime that `main` is given. A message that can't be printed changes nothing.
 #![tactic(auto)]
 
-ghost use Rattle.std.specs.Prelude.{◌≡◌, ◌≤◌, All, IfOk, IfSome, length, vec_len};
+ghost use Rattle.std.specs.Prelude.{◌≡◌, ◌≤◌, All, IfErr, IfOk, length};
 ghost use Rattle.files.specs.Counts.{IsPrefixLen};
 
-use std::alloc::{AllocError, Global};
 use std::env::FillError;
 use std::fmt::{Display, InlineText};
 use std::io::{Error, ErrorKind, Input, Read};
@@ -57,12 +57,43 @@ pub fn read_full(input: &mut impl Read, buffer: &mut [u8]) -> usize
     done
 }
 
-// Reads at most one byte more than `most`.
-fn read_front(alloc: Global, input: impl Read + Drop, most: usize) -> io::Result<Vec<u8>> {
-    let mut bytes = Vec::new(alloc);
-    let limit = most.saturating_add(1);
-    input.take(limit as u64).read_to_end(&mut bytes)?;
-    Ok(bytes)
+// That a file is not read to its end: so many of its bytes stand at the start of the buffer.
+#[derive(Clone, Copy, Debug)]
+pub struct Partial {
+    pub len: usize,
+}
+
+// Whether the file ends where reading it into the buffer stopped. Reading also stops if the buffer is full, and if the file can't be read.
+fn is_at_end(input: &mut impl Read, err: &impl Print, name: &[u8], room: usize) -> bool {
+    let mut more = [0u8; 1];
+    match input.read(&mut more) {
+        Ok(0) => return true,
+        Ok(_) => {
+            let _ = say(err, name, format_args!("longer than {room} bytes"));
+        }
+        Err(error) => {
+            let _ = say_unread(err, name, error);
+        }
+    }
+    false
+}
+
+// Reads what was opened under this name to the start of a buffer, and answers how many bytes stand there.
+fn fill(
+    input: &mut impl Read,
+    err: &impl Print,
+    name: &[u8],
+    buffer: &mut [u8],
+) -> Result<usize, Partial>
+    ensures whole { IfOk result (λ len. IsPrefixLen len buffer.new) }
+    ensures part { IfErr result (λ partial. IsPrefixLen partial.len buffer.new) }
+{
+    let len = read_full(input, buffer);
+    if is_at_end(input, err, name, buffer.len()) {
+        Ok(len)
+    } else {
+        Err(Partial { len })
+    }
 }
 
 // Opens a file for reading. The name of a file is text in UTF-8.
@@ -73,75 +104,88 @@ fn open<R: Files>(rt: &R, path: &[u8]) -> io::Result<R::File> {
     }
 }
 
-// What was read of an opened file, if it has at most `most` bytes.
-fn whole(err: &impl Print, name: &[u8], most: usize, front: io::Result<Vec<u8>>) -> Option<Vec<u8>>
-    ensures { IfSome result (λ bytes. vec_len bytes ≤ most) }
-{
-    match front {
-        Ok(bytes) if bytes.len() <= most => return Some(bytes),
-        Ok(_) => {
-            let _ = say(err, name, format_args!("longer than {most} bytes"));
-        }
-        Err(error) => {
-            let _ = say_unread(err, name, error);
-        }
-    }
-    None
-}
-
-// Reads a file of at most `most` bytes. One that there is no memory for can't be read.
+// Reads a file of at most as many bytes as the buffer has, and answers how many it has.
 pub fn load(
-    rt: &(impl Files + AllocGlobal),
+    rt: &impl Files,
     err: &impl Print,
     path: &[u8],
-    most: usize,
-) -> Option<Vec<u8>>
-    ensures { IfSome result (λ bytes. vec_len bytes ≤ most) }
+    buffer: &mut [u8],
+) -> Result<usize, Partial>
+    ensures whole { IfOk result (λ len. IsPrefixLen len buffer.new) }
+    ensures part { IfErr result (λ partial. IsPrefixLen partial.len buffer.new) }
 {
     match open(rt, path) {
-        Ok(file) => whole(err, path, most, read_front(rt.alloc(), file, most)),
+        Ok(mut file) => fill(&mut file, err, path, buffer),
         Err(error) => {
             let _ = say_unread(err, path, error);
-            None
+            Err(Partial { len: 0 })
         }
     }
 }
 
-// Reads the first `most` bytes of standard input, and says if there are more.
-pub fn load_input(rt: &(impl Input + AllocGlobal), err: &impl Print, most: usize) -> Option<Vec<u8>>
-    ensures { IfSome result (λ bytes. vec_len bytes ≤ most) }
+// Reads standard input of at most as many bytes as the buffer has, and answers how many it has.
+pub fn load_input(rt: &impl Input, err: &impl Print, buffer: &mut [u8]) -> Result<usize, Partial>
+    ensures whole { IfOk result (λ len. IsPrefixLen len buffer.new) }
+    ensures part { IfErr result (λ partial. IsPrefixLen partial.len buffer.new) }
 {
-    let name = b"standard input";
-    match read_front(rt.alloc(), rt.reader(), most) {
-        Ok(mut bytes) => {
-            if most < bytes.len() {
-                let _ = say(err, name, format_args!("longer than {most} bytes"));
-            }
-            bytes.truncate(most);
-            Some(bytes)
-        }
-        Err(error) => {
-            let _ = say_unread(err, name, error);
-            None
-        }
-    }
+    fill(&mut rt.reader(), err, b"standard input", buffer)
 }
 
-// The first `most` of the words that the program was called with, its own name first. No file's name has more than 4,095 bytes: a word that does not fit comes
-// empty. It need not be text.
-pub fn words(rt: &(impl Env + AllocGlobal), most: usize) -> Result<Vec<Vec<u8>>, AllocError>
-    ensures count { IfOk result (λ words. vec_len words ≤ most) }
-    ensures lengths { IfOk result (λ words. All (λ word. vec_len word ≤ 4096) words.items) }
-{
-    let mut room = [0u8; 4096];
-    let mut words = Vec::new(rt.alloc());
-    for i in 0..most {
-        let n = match rt.arg(i, &mut room) {
-            Ok(n) => n,
-            Err(FillError::TooLong) => 0,
-            Err(FillError::NotPresent) => break,
-        };
-        words.push(Vec::from_slice(rt.alloc(), &room[..n])?)?;
+// How many words the program was called with, its own name first.
+pub fn word_count(rt: &impl Env) -> usize {
+    let mut none = [0u8; 1];
+    for i in 0..usize::MAX {
+        match rt.arg(i, &mut none) {
+            Err(FillError::NotPresent) => return i,
+            Ok(_) | Err(FillError::TooLong) => {}
+        }
     }
-    Ok(words)
+    usize::MAX
+}
+
+// Reads word i to the start of a buffer, and answers how many bytes it has. A word that is missing, or does not fit the buffer, is empty. It need not be text.
+pub fn word(rt: &impl Env, i: usize, buffer: &mut [u8]) -> usize
+    ensures { IsPrefixLen result buffer.new }
+{
+    rt.arg(i, buffer).unwrap_or(0)
+}
+
+// N of the words that a program was called with, as far as they are there, each in room for the longest name of a file and the zero behind it.
+#[derive(Clone, Copy)]
+pub struct CommandLine<const N: usize> {
+    pub count: usize,
+    pub lengths: [usize; N],
+    pub rooms: [[u8; 4096]; N],
+}
+
+// The N words from word `first` on that the program was called with; word 0 is its own name. No file's name has more than 4,095 bytes: a word that does not fit
+// comes empty. Not inlined, so that the room in which a word is read is free again when the program goes on.
+#[inline(never)]
+pub fn words<const N: usize>(rt: &impl Env, first: usize) -> CommandLine<N>
+    ensures count { result.count ≤ N }
+    ensures lengths { All (λ n. n ≤ 4096) result.lengths }
+{
+    let mut line = CommandLine {
+        count: word_count(rt).saturating_sub(first).min(N),
+        lengths: [0; N],
+        rooms: [[0; 4096]; N],
+    };
+    for i in 0..N {
+        let mut room = [0; 4096];
+        line.lengths[i] = word(rt, first.saturating_add(i), &mut room);
+        line.rooms[i] = room;
+    }
+    line
+}
+
+impl<const N: usize> CommandLine<N> {
+    // Word i of them, an empty one where there is none.
+    pub fn get(&self, i: usize) -> &[u8]
+        ensures { length result.now ≤ 4096 }
+    {
+        match (self.rooms.get(i), self.lengths.get(i)) {
+            (Some(room), Some(n)) => room.get(..*n).unwrap_or(&[]),
+            _ => &[],
+        }
+    }
 }

@@ -14,16 +14,14 @@ mod line;
 mod report;
 mod shown;
 
-ghost use Rattle.std.specs.Prelude.{◌≤◌};
+ghost use Rattle.std.specs.Prelude.{◌≤◌, IfSome};
+ghost use Rattle.files.specs.Counts.{IsPrefixLen};
 
 use inspect_argument::{Field, names};
 use line::Output;
 use refusal::Refusal;
 use std::fmt::Display;
 use std::rt::Files;
-
-// The greatest file that is read.
-const MOST: usize = 1048576;
 
 // Says on standard error how the program ends. What can't be said there is lost.
 fn say_unwritten(err: &impl Print) {
@@ -81,59 +79,33 @@ fn arguments_of<'a>(words: &[&'a [u8]]) -> Option<Arguments<'a>> {
     })
 }
 
-// That a file is not there: the line 40 was printed for it.
-#[derive(Clone, Copy, Debug)]
-struct Unloaded;
+// The bytes of the files that were asked for.
+#[derive(Clone, Copy)]
+struct Loaded<'a> {
+    table: &'a [u8],
+    memo: Option<&'a [u8]>,
+    index: Option<&'a [u8]>,
+}
 
+// Reads a file to the start of its room, and answers its length. For one that can't be read, or is too long, it prints the line 40.
 fn load(
-    rt: &(impl Files + Print + AllocGlobal),
+    rt: &(impl Files + Print),
     err: &impl Print,
     path: &[u8],
     what: &str,
-) -> Result<Vec<u8>, Unloaded> {
-    match files::load(rt, err, path, MOST) {
-        Some(file) => Ok(file),
-        None => {
-            refuse(
-                rt,
-                err,
-                format_args!("{what} can't be read, or is too long"),
-            );
-            Err(Unloaded)
-        }
+    room: &mut [u8],
+) -> Option<usize>
+    ensures { IfSome result (λ n. IsPrefixLen n room.new) }
+{
+    let loaded = files::load(rt, err, path, room).ok();
+    if loaded.is_none() {
+        refuse(
+            rt,
+            err,
+            format_args!("{what} can't be read, or is too long"),
+        );
     }
-}
-
-// Reads a file, if it was asked for.
-fn load_given(
-    rt: &(impl Files + Print + AllocGlobal),
-    err: &impl Print,
-    path: Option<&[u8]>,
-    what: &str,
-) -> Result<Option<Vec<u8>>, Unloaded> {
-    match path {
-        Some(path) => Ok(Some(load(rt, err, path, what)?)),
-        None => Ok(None),
-    }
-}
-
-// The files that were asked for.
-#[derive(Drop)]
-struct Loaded {
-    table: Vec<u8>,
-    memo: Option<Vec<u8>>,
-    index: Option<Vec<u8>>,
-}
-
-fn load_all(
-    rt: &(impl Files + Print + AllocGlobal),
-    err: &impl Print,
-    arguments: Arguments<'_>,
-) -> Result<Loaded, Unloaded> {
-    let table = load(rt, err, arguments.table, "the table")?;
-    let memo = load_given(rt, err, arguments.memo, "the memo file")?;
-    let index = load_given(rt, err, arguments.index, "the index")?;
-    Ok(Loaded { table, memo, index })
+    loaded
 }
 
 // The audit's answer, of an NDX index if the name of its file says so.
@@ -173,12 +145,15 @@ fn index_report<P: Print>(
 }
 
 // Prints all lines. The last one says how many of the lines before it have a refusal, which is the answer too.
-fn print_report<P: Print>(out: &Output<'_, P>, loaded: &Loaded, arguments: Arguments<'_>) -> u64 {
-    let memo = loaded.memo.as_ref().map(|memo| memo.as_slice());
-    let of_table = report::table_report(out, &loaded.table, memo);
-    let of_index = match (&loaded.index, arguments.index) {
+fn print_report<P: Print>(
+    out: &Output<'_, P>,
+    loaded: Loaded<'_>,
+    arguments: Arguments<'_>,
+) -> u64 {
+    let of_table = report::table_report(out, loaded.table, loaded.memo);
+    let of_index = match (loaded.index, arguments.index) {
         (Some(index), Some(path)) => {
-            index_report(out, &loaded.table, index, path, arguments.field)
+            index_report(out, loaded.table, index, path, arguments.field)
         }
         _ => 0,
     };
@@ -187,8 +162,92 @@ fn print_report<P: Print>(out: &Output<'_, P>, loaded: &Loaded, arguments: Argum
     problems
 }
 
-// The program, called with these words behind its own name. It ends with a verdict on standard error, once every line is written.
-pub fn inspect(rt: &(impl Files + Print + AllocGlobal), err: &impl Print, words: &[&[u8]]) {
+// Prints the report, and then the verdict on standard error, once every line is written.
+fn with_files(rt: &impl Print, err: &impl Print, arguments: Arguments<'_>, loaded: Loaded<'_>) {
+    let out = Output::new(rt);
+    let problems = print_report(&out, loaded, arguments);
+    if out.is_written() {
+        let _ = println!(err; "inspect: problems {problems}");
+    } else {
+        say_unwritten(err);
+    }
+}
+
+// Reads the index, and goes on with all files. A file's room is on the stack, which can't be refused. The functions that have one are not inlined, so that it
+// takes stack only where its file is read.
+#[inline(never)]
+fn read_index<'a>(
+    rt: &(impl Files + Print),
+    err: &impl Print,
+    arguments: Arguments<'_>,
+    path: &[u8],
+    table: &'a [u8],
+    memo: Option<&'a [u8]>,
+) {
+    let mut room = files::space();
+    if let Some(n) = load(rt, err, path, "the index", &mut room) {
+        let index = Some(&room[..n]);
+        with_files(rt, err, arguments, Loaded { table, memo, index });
+    }
+}
+
+// Goes on with the index, if one was given.
+fn with_memo<'a>(
+    rt: &(impl Files + Print),
+    err: &impl Print,
+    arguments: Arguments<'_>,
+    table: &'a [u8],
+    memo: Option<&'a [u8]>,
+) {
+    match arguments.index {
+        Some(path) => read_index(rt, err, arguments, path, table, memo),
+        None => with_files(
+            rt,
+            err,
+            arguments,
+            Loaded {
+                table,
+                memo,
+                index: None,
+            },
+        ),
+    }
+}
+
+// Reads the memo file, and goes on.
+#[inline(never)]
+fn read_memo(
+    rt: &(impl Files + Print),
+    err: &impl Print,
+    arguments: Arguments<'_>,
+    path: &[u8],
+    table: &[u8],
+) {
+    let mut room = files::space();
+    if let Some(n) = load(rt, err, path, "the memo file", &mut room) {
+        with_memo(rt, err, arguments, table, Some(&room[..n]));
+    }
+}
+
+// Goes on with the memo file, if one was given.
+fn with_table(rt: &(impl Files + Print), err: &impl Print, arguments: Arguments<'_>, table: &[u8]) {
+    match arguments.memo {
+        Some(path) => read_memo(rt, err, arguments, path, table),
+        None => with_memo(rt, err, arguments, table, None),
+    }
+}
+
+// Reads the table, and goes on.
+#[inline(never)]
+fn read_table(rt: &(impl Files + Print), err: &impl Print, arguments: Arguments<'_>) {
+    let mut room = files::space();
+    if let Some(n) = load(rt, err, arguments.table, "the table", &mut room) {
+        with_table(rt, err, arguments, &room[..n]);
+    }
+}
+
+// The program, called with these words behind its own name. It reads all files, prints, and ends with a verdict on standard error.
+pub fn inspect(rt: &(impl Files + Print), err: &impl Print, words: &[&[u8]]) {
     let Some(arguments) = arguments_of(words) else {
         refuse_use(rt, err);
         return;
@@ -197,14 +256,5 @@ pub fn inspect(rt: &(impl Files + Print + AllocGlobal), err: &impl Print, words:
         refuse(rt, err, "an NDX index has no match: leave the FIELD out");
         return;
     }
-    let Ok(loaded) = load_all(rt, err, arguments) else {
-        return;
-    };
-    let out = Output::new(rt);
-    let problems = print_report(&out, &loaded, arguments);
-    if out.is_written() {
-        let _ = println!(err; "inspect: problems {problems}");
-    } else {
-        say_unwritten(err);
-    }
+    read_table(rt, err, arguments);
 }

@@ -6,9 +6,10 @@
 
 mod lists;
 
-use std::alloc::Global;
-use std::io;
-use test_lines::calls::Call;
+use std::fmt::InlineText;
+use test_lines::{
+    ROOM, after_word, first_line, first_number, hex_bytes, print, print_number, word,
+};
 
 // The lists that run on zeros, and the bytes of their buffers. Keys have the length that a name says; the lists k6 have removals, and in k6_k10_to_nothing all
 // keys go; the last two are written from document 01.
@@ -61,91 +62,138 @@ const DAMAGES: [(&str, usize, u8); 9] = [
     ("another record number", 534, 1),
 ];
 
-// The greatest buffer of a list that runs on an index.
-const ROOM: usize = 65536;
-
-// A key and its record.
-#[derive(Drop)]
-struct Pair {
-    key: Vec<u8>,
-    number: u32,
+// How many insertions of a list were accepted, and how many of their pairs are found.
+#[derive(Clone, Copy)]
+struct Tally {
+    accepted: u32,
+    found: u32,
 }
 
-impl Pair {
-    // Whether an index has the key with this record.
-    fn is_in(&self, index: &[u8]) -> bool {
-        match idx_lookup::lookup(index, &self.key) {
-            Ok(outcome) => outcome.found.is_some_and(|found| found.0 == self.number),
-            Err(_) => false,
+impl Tally {
+    fn add(self, is_found: bool) -> Tally {
+        Tally {
+            accepted: self.accepted.wrapping_add(1),
+            found: self.found.wrapping_add(u32::from(is_found)),
         }
     }
 }
 
-// The pairs of the insertions of a list that were accepted, `i KEY RECORD 0`.
-fn accepted_pairs(alloc: Global, calls: &str) -> io::Result<Vec<Pair>> {
-    let mut pairs = Vec::new(alloc);
-    for line in calls.lines().filter(|line| line.ends_with(" 0")) {
-        if let Call::Insert { key, number } = Call::read(alloc, line)? {
-            pairs.push(Pair { key, number })?;
-        }
+// Whether a line is an insertion that was accepted, `i KEY RECORD 0`.
+fn is_accepted(line: &[u8]) -> bool {
+    let answer = after_word(after_word(after_word(line)));
+    line.starts_with(b"i") && answer == b"0".as_slice()
+}
+
+// Whether the index has the key of such a line, with the line's record.
+fn is_found(index: &[u8], line: &[u8]) -> bool {
+    let rest = after_word(line);
+    let wanted = first_number(after_word(rest));
+    let mut key = [0; 100];
+    let k = hex_bytes(word(rest), &mut key);
+    match idx_lookup::lookup(index, &key[..k]) {
+        Ok(outcome) => outcome.found.is_some_and(|found| found.0 == wanted),
+        Err(_) => false,
     }
-    Ok(pairs)
+}
+
+fn count_found(index: &[u8], calls: &[u8]) -> Tally {
+    let mut tally = Tally {
+        accepted: 0,
+        found: 0,
+    };
+    let mut rest = calls;
+    while !rest.is_empty() {
+        let (line, behind) = first_line(rest);
+        if is_accepted(line) {
+            tally = tally.add(is_found(index, line));
+        }
+        rest = behind;
+    }
+    tally
+}
+
+fn print_tally(out: &impl Print, tally: Tally) {
+    print(out, b" accepted ");
+    print_number(out, tally.accepted);
+    print(out, b" found ");
+    print_number(out, tally.found);
+    print(out, b"\n");
 }
 
 fn audit(index: &[u8]) -> u32 {
     refusal::change_code(idx_audit::audit(index))
 }
 
-// Prints the audit of an index file, and how many accepted keys of its list it has. Then the list runs on a buffer of `size` zeros.
-fn run_on_zeros(rt: &HostRuntime, name: &str, size: usize) -> io::Result<()> {
-    let alloc = rt.alloc();
-    let err = &rt.stderr();
-    let index = test_lines::file(rt, err, format!(in alloc; "{name}.idx")?.as_str());
-    let calls = test_lines::list(rt, err, format!(in alloc; "{name}.calls")?.as_str());
-    let pairs = accepted_pairs(alloc, calls.as_str())?;
-    let accepted = pairs.len();
-    let found = pairs.iter().filter(|pair| pair.is_in(&index)).count();
-    println!(rt;
-        "{name} audit {} accepted {accepted} found {found}",
-        audit(&index)
-    )?;
-    let mut zeros = vec![in alloc; 0u8; size]?;
-    lists::run(rt, name, calls.as_str(), &index, &mut zeros)
+fn print_audit(out: &impl Print, name: &str, index: &[u8]) {
+    print(out, name.as_bytes());
+    print(out, b" ");
+    print_number(out, audit(index));
+    print(out, b"\n");
 }
 
-// Audits an index file, and makes the calls of a list on it. `after` is the index file after the list.
-fn run_on_file(rt: &HostRuntime, name: &str, after: &str) -> io::Result<()> {
-    let alloc = rt.alloc();
-    let err = &rt.stderr();
-    let mut index = test_lines::file(rt, err, format!(in alloc; "{name}.idx")?.as_str());
-    index.resize(ROOM, 0)?;
-    println!(rt; "{name} {}", audit(&index))?;
-    let calls = test_lines::list(rt, err, format!(in alloc; "{name}.calls")?.as_str());
-    let after = test_lines::file(rt, err, format!(in alloc; "{after}.idx")?.as_str());
-    lists::run(rt, name, calls.as_str(), &after, &mut index)
+// Prints the audit of an index file, and how many accepted keys of its list it has.
+fn print_index(out: &impl Print, name: &str, index: &[u8], calls: &[u8]) {
+    print(out, name.as_bytes());
+    print(out, b" audit ");
+    print_number(out, audit(index));
+    print_tally(out, count_found(index, calls));
 }
 
-// Audits damaged copies of an index.
-fn damaged_copies(rt: &HostRuntime) -> io::Result<()> {
-    let whole = test_lines::file(rt, &rt.stderr(), "k10_random.idx");
-    for (name, at, value) in DAMAGES {
-        let mut index = whole.clone()?;
-        test_lines::set_byte(&mut index, at, value);
-        println!(rt; "{name} {}", audit(&index))?;
+// Reads what fits of a file to the start of a room, and lends those bytes.
+fn load<'a>(rt: &HostRuntime, name: &str, ending: &str, room: &'a mut [u8]) -> &'a mut [u8] {
+    let path = InlineText::<64>::of(format_args!("{name}{ending}"));
+    let n = test_lines::load(rt, &rt.stderr(), path.as_str().as_bytes(), room);
+    &mut room[..n]
+}
+
+// Reads an index file and its list of calls, and prints all lines of the two. The list runs on a buffer of `size` zeros, at most 65,536. Not inlined, as the
+// other functions with rooms that `main` calls, so that their rooms lie in the same place of the stack.
+#[inline(never)]
+fn run_on_zeros(rt: &HostRuntime, name: &str, size: usize) {
+    let mut index = [0; ROOM];
+    let mut calls = files::space();
+    let index = load(rt, name, ".idx", &mut index);
+    let calls = load(rt, name, ".calls", &mut calls);
+    print_index(rt, name, index, calls);
+    let mut zeros = [0; ROOM];
+    if let Some(zeros) = zeros.get_mut(..size) {
+        lists::run_on_zeros(rt, name, calls, index, zeros);
     }
-    Ok(())
 }
 
-fn main(rt: HostRuntime) -> io::Result<()> {
+// Audits an index file, zeros behind it, and makes the calls of a list on it. `ending` is the end of the name of the index file after the list.
+#[inline(never)]
+fn run_on_file(rt: &HostRuntime, name: &str, ending: &str) {
+    let mut index = [0; ROOM];
+    let mut calls = [0; ROOM];
+    let mut after = [0; ROOM];
+    load(rt, name, ".idx", &mut index);
+    let calls = load(rt, name, ".calls", &mut calls);
+    let after = load(rt, name, ending, &mut after);
+    print_audit(rt, name, &index);
+    lists::run_on_index(rt, name, calls, after, &mut index);
+}
+
+// Audits a copy of an index in which the byte at an offset has another value.
+#[inline(never)]
+fn damaged(rt: &HostRuntime, name: &str, at: usize, value: u8) {
+    let mut index = [0; ROOM];
+    let whole = load(rt, "k10_random", ".idx", &mut index);
+    test_lines::set_byte(whole, at, value);
+    print_audit(rt, name, whole);
+}
+
+fn main(rt: HostRuntime) {
     for (name, size) in LISTS {
-        run_on_zeros(&rt, name, size)?;
+        run_on_zeros(&rt, name, size);
     }
     for name in CHANGED {
-        let after = format!(in rt.alloc(); "{name}_after")?;
-        run_on_file(&rt, name, after.as_str())?;
+        run_on_file(&rt, name, "_after.idx");
     }
     for name in BROKEN {
-        run_on_file(&rt, name, name)?;
+        run_on_file(&rt, name, ".idx");
     }
-    damaged_copies(&rt)
+    for (name, at, value) in DAMAGES {
+        damaged(&rt, name, at, value);
+    }
 }

@@ -1,20 +1,44 @@
-// Lines of words, as the test programs read them: words with one blank between, decimal numbers, bytes in hexadecimal, and calls on an index. And what the test
-// programs do alike with the bytes of files.
+// Lines of words, as the test programs read them: words with one blank between, decimal numbers, and bytes in hexadecimal. And what the test programs do alike
+// with the bytes of files. A line is taken loosely: a word that is missing is empty, and any byte is a digit.
 #![tactic(auto)]
 
-pub mod calls;
-
-ghost use Rattle.std.specs.Prelude.{◌≡◌, ◌<◌, ◌≤◌, ◌/◌, IfErr, IfOk, IsTrue, length, slice_set, vec_len};
+ghost use Rattle.std.specs.Prelude.{◌≡◌, ◌<◌, ◌≤◌, IsTrue, length, slice_set};
 ghost use Rattle.std.specs.IoError.{error_kind};
+ghost use Rattle.files.specs.Counts.{IsPrefixLen};
 
-use std::alloc::Global;
 use std::io;
 use std::io::ErrorKind;
 use std::rt::Files;
-use std::str::{FromStr, Split};
 
 pub fn print_number(out: &impl Print, n: u32) {
     let _ = out.print(n);
+}
+
+// Prints a text. What can't be printed is lost.
+pub fn print(out: &impl Print, text: &[u8]) {
+    let _ = out.write_all(text);
+}
+
+// The first line of a list, and the lines behind it. The last line may have no line feed.
+pub fn first_line(list: &[u8]) -> (&[u8], &[u8])
+    requires { 0 < length list.now }
+    ensures { length result.1.now < length list.now }
+{
+    let end = find(list, 0, b'\n');
+    match list.get(end + 1..) {
+        Some(behind) => (&list[..end], behind),
+        None => (&list[..end], &[]),
+    }
+}
+
+// Reads what fits of a test's file to the start of a room, and answers how many bytes stand there. Standard error says why a file is not whole.
+pub fn load(rt: &impl Files, err: &impl Print, path: &[u8], room: &mut [u8]) -> usize
+    ensures { IsPrefixLen result room.new }
+{
+    match files::load(rt, err, path, room) {
+        Ok(len) => len,
+        Err(partial) => partial.len,
+    }
 }
 
 // The first index from `from` on where the byte stands, or the length.
@@ -28,6 +52,12 @@ pub fn find(s: &[u8], from: usize, byte: u8) -> usize
     }
 }
 
+// The first word.
+pub fn word(s: &[u8]) -> &[u8] {
+    let end = find(s, 0, b' ');
+    &s[..end]
+}
+
 // The text behind the first word and one space.
 pub fn after_word(s: &[u8]) -> &[u8] {
     let end = find(s, 0, b' ');
@@ -36,52 +66,21 @@ pub fn after_word(s: &[u8]) -> &[u8] {
 
 // The number that the first word says, in at most nine digits.
 pub fn first_number(s: &[u8]) -> u32 {
-    let end = find(s, 0, b' ');
     let mut n = 0;
-    for digit in &s[..end] {
+    for digit in word(s) {
         n = n % 100000000 * 10 + u32::from(digit % 16);
     }
     n
 }
 
-// The greatest file of a test.
-const MOST: usize = 1048576;
+// The room for a test's file.
+pub const ROOM: usize = 65536;
 
-// The words of a line.
-pub fn words(line: &str) -> Split<'_, char> {
-    line.split(' ')
-}
-
-// That a line is none of its list.
+// That a line is none of its list: what a test answers that stops there. None does today: they all go on with the next line.
 pub fn bad_line() -> io::Error
     ensures { error_kind result ≡ ErrorKind.InvalidData }
 {
     io::Error::new(ErrorKind::InvalidData, "a test's line has other words")
-}
-
-// The next word of a line.
-pub fn word<'a>(words: &mut Split<'a, char>) -> io::Result<&'a str>
-    ensures { IfErr result (λ error. error_kind error ≡ ErrorKind.InvalidData) }
-{
-    words.next().ok_or_else(bad_line)
-}
-
-// The number that a word says.
-pub fn parse<T: FromStr>(word: &str) -> io::Result<T>
-where
-    T::Err: Drop,
-    ensures { IfErr result (λ error. error_kind error ≡ ErrorKind.InvalidData) }
-{
-    word.parse().map_err(|_| bad_line())
-}
-
-// The number that the next word says.
-pub fn number<T: FromStr>(words: &mut Split<'_, char>) -> io::Result<T>
-where
-    T::Err: Drop,
-    ensures { IfErr result (λ error. error_kind error ≡ ErrorKind.InvalidData) }
-{
-    parse(word(words)?)
 }
 
 // The value of a hexadecimal digit, in small letters or capitals.
@@ -95,34 +94,15 @@ fn hex_value(digit: u8) -> u8
     }
 }
 
-// The bytes that a word in hexadecimal says. `-` says none.
-pub fn hex_bytes(alloc: Global, word: &str) -> io::Result<Vec<u8>>
-    ensures { IfOk result (λ bytes. vec_len bytes ≤ length word.now / 2) }
+// Writes the bytes that a word in hexadecimal says, as many as there is room for, and answers how many there are. `-` says none.
+pub fn hex_bytes(word: &[u8], out: &mut [u8]) -> usize
+    ensures { result ≤ length out.new }
 {
-    let mut bytes = Vec::new(alloc);
-    let digits = word.as_bytes();
-    for i in 0..digits.len() / 2 {
-        bytes.push(hex_value(digits[2 * i]) * 16 + hex_value(digits[2 * i + 1]))?;
+    let count = (word.len() / 2).min(out.len());
+    for i in 0..count {
+        out[i] = hex_value(word[2 * i]) * 16 + hex_value(word[2 * i + 1]);
     }
-    Ok(bytes)
-}
-
-// The bytes of a test's file. One that can't be read, or has more than 1,048,576 bytes, is an empty one, and standard error says why.
-pub fn file(rt: &(impl Files + AllocGlobal), err: &impl Print, path: &str) -> Vec<u8>
-    ensures { vec_len result ≤ 1048576 }
-{
-    match files::load(rt, err, path.as_bytes(), MOST) {
-        Some(bytes) => bytes,
-        None => Vec::new(rt.alloc()),
-    }
-}
-
-// The text of a list's file. One that is no text is an empty one.
-pub fn list(rt: &(impl Files + AllocGlobal), err: &impl Print, path: &str) -> String {
-    match String::from_utf8(file(rt, err, path)) {
-        Ok(text) => text,
-        Err(_) => String::new(rt.alloc()),
-    }
+    count
 }
 
 // Sets the byte at an offset, if there are so many.
@@ -140,9 +120,4 @@ pub fn begins_with(buffer: &[u8], file: &[u8]) -> bool
     ensures { IsTrue result → (1024 ≤ length file.now) × (length file.now ≤ length buffer.now) }
 {
     1024 <= file.len() && buffer.starts_with(file)
-}
-
-// Prints whether bytes are those of a file.
-pub fn print_same(out: &impl Print, name: &str, same: bool) -> io::Result<()> {
-    println!(out; "{name} {}", if same { "same" } else { "differs" })
 }

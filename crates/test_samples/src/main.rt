@@ -4,66 +4,82 @@
 #![tactic(auto)]
 
 use refusal::Refusal;
-use std::io;
+use std::fmt::{Display, InlineText};
 use std::rt::Files;
+use test_lines::{ROOM, print, print_number};
 
-const TABLES: [&str; 8] = [
-    "shp_point.dbf",
-    "shp_comma.dbf",
-    "xbase_plain.dbf",
-    "fpc_l3.dbf",
-    "gdal.dbf",
-    "pydbf_db3.dbf",
-    "pydbf_fp.dbf",
-    "xbase_83.dbf",
+const TABLES: [&[&[u8]]; 8] = [
+    &[b"shp_point.dbf"],
+    &[b"shp_comma.dbf"],
+    &[b"xbase_plain.dbf"],
+    &[b"fpc_l3.dbf"],
+    &[b"gdal.dbf"],
+    &[b"pydbf_db3.dbf"],
+    &[b"pydbf_fp.dbf"],
+    &[b"xbase_83.dbf"],
 ];
 
-const MEMOS: [&str; 3] = [
-    "xbase_f5.dbf xbase_f5.fpt",
-    "fpc_fox.dbf fpc_fox.fpt",
-    "xbase_f5.dbf -",
+const MEMOS: [&[&[u8]]; 3] = [
+    &[b"xbase_f5.dbf", b"xbase_f5.fpt"],
+    &[b"fpc_fox.dbf", b"fpc_fox.fpt"],
+    &[b"xbase_f5.dbf", b"-"],
 ];
 
-const INDEXES: [&str; 4] = [
-    "xbase_s20.dbf - xbase_s20.idx 1",
-    "xbase_s20.dbf - xbase_s20_unique.idx 1",
-    "pydbf_fp.dbf - xbase_s20_unique.idx",
-    "pydbf_fp.dbf - xbase_s20_unique.idx 1",
+const INDEXES: [&[&[u8]]; 4] = [
+    &[b"xbase_s20.dbf", b"-", b"xbase_s20.idx", b"1"],
+    &[b"xbase_s20.dbf", b"-", b"xbase_s20_unique.idx", b"1"],
+    &[b"pydbf_fp.dbf", b"-", b"xbase_s20_unique.idx"],
+    &[b"pydbf_fp.dbf", b"-", b"xbase_s20_unique.idx", b"1"],
 ];
 
 // No such field, a number for 33 bits, a field of another type, and records that have no entry.
-const FIELDS: [&str; 4] = [
-    "shp_point.dbf - xbase_s20_unique.idx 0",
-    "shp_point.dbf - xbase_s20_unique.idx 4294967297",
-    "shp_point.dbf - xbase_s20_unique.idx 2",
-    "shp_point.dbf - xbase_s20_unique.idx 0000000001",
+const FIELDS: [&[&[u8]]; 4] = [
+    &[b"shp_point.dbf", b"-", b"xbase_s20_unique.idx", b"0"],
+    &[
+        b"shp_point.dbf",
+        b"-",
+        b"xbase_s20_unique.idx",
+        b"4294967297",
+    ],
+    &[b"shp_point.dbf", b"-", b"xbase_s20_unique.idx", b"2"],
+    &[
+        b"shp_point.dbf",
+        b"-",
+        b"xbase_s20_unique.idx",
+        b"0000000001",
+    ],
 ];
 
-const REFUSED_FILES: [&str; 5] = [
-    "",
-    "none.dbf",
-    ".",
-    "shp_point.dbf none.fpt",
-    "shp_point.dbf - none.idx 1",
+const REFUSED_FILES: [&[&[u8]]; 5] = [
+    &[],
+    &[b"none.dbf"],
+    &[b"."],
+    &[b"shp_point.dbf", b"none.fpt"],
+    &[b"shp_point.dbf", b"-", b"none.idx", b"1"],
 ];
 
 // The last is no refusal: without an index there is nothing to match.
-const REFUSED_FIELDS: [&str; 4] = [
-    "shp_comma.dbf - - 00000000001",
-    "shp_comma.dbf - - 1a",
-    "shp_comma.dbf - - BARCODES_11",
-    "shp_comma.dbf - - 1",
+const REFUSED_FIELDS: [&[&[u8]]; 4] = [
+    &[b"shp_comma.dbf", b"-", b"-", b"00000000001"],
+    &[b"shp_comma.dbf", b"-", b"-", b"1a"],
+    &[b"shp_comma.dbf", b"-", b"-", b"BARCODES_11"],
+    &[b"shp_comma.dbf", b"-", b"-", b"1"],
 ];
 
 // Fields by their names: one that matches, one of another type, the beginning of a name, a name and more, and bytes that are no field's name. The last run is
 // on a refused table: no name of it is known, so the match's answer is the table's refusal.
-const NAMES: [&str; 6] = [
-    "xbase_s20.dbf - xbase_s20_unique.idx BARCODE",
-    "shp_point.dbf - xbase_s20_unique.idx OK",
-    "shp_point.dbf - xbase_s20_unique.idx BARCOD",
-    "shp_point.dbf - xbase_s20_unique.idx BARCODE_10",
-    "shp_point.dbf - xbase_s20.idx -",
-    "pydbf_fp.dbf - xbase_s20_unique.idx BARCODE",
+const NAMES: [&[&[u8]]; 6] = [
+    &[b"xbase_s20.dbf", b"-", b"xbase_s20_unique.idx", b"BARCODE"],
+    &[b"shp_point.dbf", b"-", b"xbase_s20_unique.idx", b"OK"],
+    &[b"shp_point.dbf", b"-", b"xbase_s20_unique.idx", b"BARCOD"],
+    &[
+        b"shp_point.dbf",
+        b"-",
+        b"xbase_s20_unique.idx",
+        b"BARCODE_10",
+    ],
+    &[b"shp_point.dbf", b"-", b"xbase_s20.idx", b"-"],
+    &[b"pydbf_fp.dbf", b"-", b"xbase_s20_unique.idx", b"BARCODE"],
 ];
 
 const REFUSALS: [Refusal; 39] = [
@@ -108,74 +124,77 @@ const REFUSALS: [Refusal; 39] = [
     Refusal::ArgumentsOrFiles,
 ];
 
-// Runs `inspect` on the words of a line.
-fn run(rt: &(impl Files + Print + AllocGlobal), err: &impl Print, line: &str) -> io::Result<()> {
-    print!(rt; "==")?;
-    let mut words = Vec::new(rt.alloc());
-    for word in line.split_whitespace() {
-        print!(rt; " {word}")?;
-        words.push(word.as_bytes())?;
+// Runs `inspect` with these words behind its own name.
+fn run(rt: &(impl Files + Print), err: &impl Print, words: &[&[u8]]) {
+    print(rt, b"==");
+    for word in words {
+        print(rt, b" ");
+        print(rt, word);
     }
-    println!(rt)?;
-    inspect_report::inspect(rt, err, &words);
-    Ok(())
+    print(rt, b"\n");
+    inspect_report::inspect(rt, err, words);
 }
 
-fn run_all(
-    rt: &(impl Files + Print + AllocGlobal),
-    err: &impl Print,
-    lines: &[&str],
-) -> io::Result<()> {
-    for line in lines {
-        run(rt, err, line)?;
+fn run_all(rt: &(impl Files + Print), err: &impl Print, calls: &[&[&[u8]]]) {
+    for words in calls {
+        run(rt, err, words);
     }
-    Ok(())
 }
 
 // Prints the text of a C or an M field as `inspect` prints a text of plain bytes, and nothing for a field without text.
-fn print_text(out: &impl Print, table: &[u8], memo: &[u8], number: u32, j: u32) -> io::Result<()> {
+fn print_text(out: &impl Print, table: &[u8], memo: &[u8], number: u32, j: u32) {
     let text = dbf_cell::text(table, memo, number, j);
     if text.is_empty() {
-        return Ok(());
+        return;
     }
-    print!(out; "value {number} {j} 0 \"")?;
-    out.write_all(text)?;
-    println!(out; "\"")
+    print(out, b"value ");
+    print_number(out, number);
+    print(out, b" ");
+    print_number(out, j);
+    print(out, b" 0 \"");
+    print(out, text);
+    print(out, b"\"\n");
 }
 
-// The two fields of `xbase_f5` that have texts, of all its records.
-fn print_texts(rt: &(impl Files + Print + AllocGlobal), err: &impl Print) -> io::Result<()> {
-    let table = test_lines::file(rt, err, "xbase_f5.dbf");
-    let memo = test_lines::file(rt, err, "xbase_f5.fpt");
-    println!(rt; "-- texts xbase_f5.dbf xbase_f5.fpt")?;
+// The two fields of `xbase_f5` that have texts, of all its records. Not inlined, so that its rooms are not on the stack while `inspect` runs.
+#[inline(never)]
+fn print_texts(rt: &(impl Files + Print), err: &impl Print) {
+    let mut table = [0u8; ROOM];
+    let mut memo = [0u8; ROOM];
+    let n = test_lines::load(rt, err, b"xbase_f5.dbf", &mut table);
+    let m = test_lines::load(rt, err, b"xbase_f5.fpt", &mut memo);
+    print(rt, b"-- texts xbase_f5.dbf xbase_f5.fpt\n");
     for number in 1..=5 {
-        print_text(rt, &table, &memo, number, 1)?;
-        print_text(rt, &table, &memo, number, 5)?;
+        print_text(rt, &table[..n], &memo[..m], number, 1);
+        print_text(rt, &table[..n], &memo[..m], number, 5);
     }
-    Ok(())
+}
+
+// Prints a line by one write, as `inspect` does.
+fn print_line(out: &impl Print, line: impl Display + Drop) {
+    print(out, InlineText::<64>::of(line).as_str().as_bytes());
 }
 
 // The words of the refusals 1 to 40. 26 is no refusal and has none.
-fn print_words(out: &impl Print) -> io::Result<()> {
-    println!(out; "-- words")?;
+fn print_words(out: &impl Print) {
+    print(out, b"-- words\n");
     for number in 1..=40 {
         match REFUSALS.iter().find(|refusal| refusal.number() == number) {
-            Some(refusal) => println!(out; "{number} {refusal}")?,
-            None => println!(out; "{number} ")?,
+            Some(refusal) => print_line(out, format_args!("{number} {refusal}\n")),
+            None => print_line(out, format_args!("{number} \n")),
         }
     }
-    Ok(())
 }
 
-fn main(rt: HostRuntime) -> io::Result<()> {
+fn main(rt: HostRuntime) {
     let err = rt.stderr();
-    run_all(&rt, &err, &TABLES)?;
-    run_all(&rt, &err, &MEMOS)?;
-    run_all(&rt, &err, &INDEXES)?;
-    run_all(&rt, &err, &FIELDS)?;
-    run_all(&rt, &err, &REFUSED_FILES)?;
-    run_all(&rt, &err, &REFUSED_FIELDS)?;
-    run_all(&rt, &err, &NAMES)?;
-    print_texts(&rt, &err)?;
-    print_words(&rt)
+    run_all(&rt, &err, &TABLES);
+    run_all(&rt, &err, &MEMOS);
+    run_all(&rt, &err, &INDEXES);
+    run_all(&rt, &err, &FIELDS);
+    run_all(&rt, &err, &REFUSED_FILES);
+    run_all(&rt, &err, &REFUSED_FIELDS);
+    run_all(&rt, &err, &NAMES);
+    print_texts(&rt, &err);
+    print_words(&rt);
 }

@@ -1,5 +1,6 @@
-use Rattle.std.proofs.Common.{◌≤◌, All, vec_len}
+-- The loop of `files::words`: each length that was read is at most a room's, and the count stays.
+use Rattle.std.proofs.Common.{◌≡◌, ◌≤◌, All}
 use Rattle.files.proofs.words.Given as goal
 
 abbrev pub invariant-loop-i : goal.invariant-loop-i
-invariant-loop-i g l = (vec_len l.words ≤ l.i) × All (λ word. vec_len word ≤ 4096) l.words.items
+invariant-loop-i g l = (l.line.count ≡ l.initial.line.count) × All (λ n. n ≤ 4096) l.line.lengths
