@@ -10,18 +10,19 @@ use Rattle.std.specs.declared.cmp.Ordering.{Ordering}
 use Rattle.octets.specs.Order.{ordering, is_below}
 use Rattle.idx_page.specs.Header.{features}
 use Rattle.idx_page.specs.Page.{entry_offset, key_at, number_at}
-use Rattle.idx_page.specs.PageLaws.{entry-within}
+use Rattle.idx_page.specs.PageLaws.{entry-within, entry_next}
 use Rattle.idx_page.specs.Reading.{entries_from}
 use Rattle.idx_sound.specs.AuditTest.{leaf_entries_good}
 use Rattle.idx_keys.specs.Places.{EntriesWithin, pair_at}
 use Rattle.idx_keys.specs.EntryLaws.{from_on, from_end}
+use Rattle.std.specs.declared.option.Option.{Option as Place}
 use Rattle.idx_leaves.specs.Leaf.{compared_bytes, leaf_entry}
 use Rattle.idx_leaves.specs.ComparedLaws.{pairs_compared}
 
 -- one entry of a leaf, by its tests
 module _ (b : List ℕ) (k at z n : ℕ) (en : n ≡ be32 b (at + k)) where
-  pub leaf-zero : n ≡ 0 → false ≡ leaf_entry b k at (Some z)
-  leaf-zero h = rw (← en, eq-eqb n 0 h)
+  pub leaf-zero : n ≡ 0 → (before : Place ℕ) → false ≡ leaf_entry b k at before
+  leaf-zero h before = rw (← en, eq-eqb n 0 h)
 
   -- no entry before it
   pub leaf_first : (n ≡ 0 → ⊥) → true ≡ leaf_entry b k at None
@@ -65,9 +66,16 @@ module _ (b : List ℕ) (k p n : ℕ) where
       pub leaf_off : r ≡ false → false ≡ leaf_entries_good (features b) (some (pair_at b k z₀)) (entries_from b k p (n - from) from)
       leaf_off e = sym (leaf-step ∙ rw e)
 
-      pub leaf-on : r ≡ true → leaf_entries_good (features b) (some (pair_at b k z₀)) (entries_from b k p (n - from) from)
+      leaf-left : r ≡ true → leaf_entries_good (features b) (some (pair_at b k z₀)) (entries_from b k p (n - from) from)
           ≡ leaf_entries_good (features b) (some (pair_at b k at)) (entries_from b k p (n - (i + 1)) (i + 1))
-      leaf-on e = leaf-step ∙ rw (e, inv.place)
+      leaf-left e = leaf-step ∙ rw (e, inv.place)
+
+      pub leaf-on : r ≡ true → at + (k + 4) ≤ length b → LeafLoop from z₀ (i + 1) (at + (k + 4)) at
+      leaf-on e h = record {
+        place = ap (λ (x : ℕ). x + (k + 4)) inv.place ∙ sym (entry_next k p i);
+        before = h;
+        left = leaf-left e;
+      }
 
   -- a leaf without entries
   pub no-entry : n ≡ 0 → true ≡ leaf_entries_good (features b) none (entries_from b k p n 0)

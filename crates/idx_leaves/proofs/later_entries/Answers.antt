@@ -1,6 +1,5 @@
 -- `later_entries`: an entry that passes hands on to the next, one that does not decides.
-use Rattle.std.proofs.Common.{◌+◌, ◌∙◌, sym, ap, ℕ, refl, rules}
-use Rattle.idx_page.specs.PageLaws.{entry_next}
+use Rattle.std.proofs.Common.{refl, rules}
 use Rattle.idx_leaves.specs.LeafLaws.{leaf-inside, leaf-end, leaf_off, leaf-on}
 use Rattle.idx_leaves.proofs.later_entries.Goals as goal
 
@@ -25,12 +24,8 @@ overflow_add-at-in-loop c =
 
 pub loop-preserved : goal.loop-preserved
 loop-preserved c =
-    let a = c.args in
-    record {
-      place = ap (λ (x : ℕ). x + (a.file.now.key_length + 4)) c.loop.invariant.place ∙ sym (entry_next a.file.now.key_length a.page.0 c.loop.counter);
-      before = leaf-inside _ _ _ _ c.loop.counter c.loop.at c.requires.within c.loop-test.true c.loop.invariant.place;
-      left = leaf-on _ _ _ _ _ _ _ _ _ c.loop.invariant c.loop-test.true _ c.leaf_entry.ensures c.if-not-leaf_entry.false;
-    }
+    let inside = leaf-inside _ _ _ _ c.loop.counter c.loop.at c.requires.within c.loop-test.true c.loop.invariant.place in
+    leaf-on _ _ _ _ _ _ _ _ _ c.loop.invariant c.loop-test.true _ c.leaf_entry.ensures c.if-not-leaf_entry.false inside
 
 pub returns : goal.returns
 returns c = leaf-end _ _ _ _ _ _ _ _ _ c.loop.invariant c.loop-test.false

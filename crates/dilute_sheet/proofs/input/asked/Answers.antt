@@ -1,5 +1,5 @@
 -- `asked`: the rule over four lines, each behind the one before.
-use Rattle.std.proofs.Common.{◌≡◌}
+use Rattle.std.proofs.Common.{◌≡◌, arith, length}
 use borrow.Author.Tests.{eq-eqb, ne_eqb}
 use Rattle.dilute_sheet.specs.Input.{no_line, next_line, input_of, request_of}
 use Rattle.dilute_sheet.proofs.input.asked.Goals as goal
@@ -25,7 +25,13 @@ returns-in_err-fourth c =
 pub returns-then-fourth-input : goal.returns-then-fourth-input
 unfolding input_of next_line no_line
 returns-then-fourth-input c =
-    rw (← c.in_ok-first.ensures, ← c.in_ok-second.ensures, ← c.in_ok-third.ensures, ← c.in_ok-fourth.ensures, ne_eqb _ _ c.if-fourth-input.true)
+    rw (
+      ← c.in_ok-first.ensures,
+      ← c.in_ok-second.ensures,
+      ← c.in_ok-third.ensures,
+      ← c.in_ok-fourth.ensures,
+      ne_eqb c.in_ok-fourth.fourth.end (length c.args.input.now) (omega arith),
+    )
 
 pub returns : goal.returns
 unfolding input_of next_line no_line request_of
@@ -37,5 +43,5 @@ returns c =
       ← c.in_ok-second.ensures,
       ← c.in_ok-third.ensures,
       ← c.in_ok-fourth.ensures,
-      eq-eqb _ _ c.if-fourth-input.false,
+      eq-eqb c.in_ok-fourth.fourth.end (length c.args.input.now) (omega arith),
     )
