@@ -1,5 +1,5 @@
-// Lines of words, as the test programs read them: words with one blank between, decimal numbers, and bytes in hexadecimal. And what the test programs do alike
-// with the bytes of files. A line is taken loosely: a word that is missing is empty, and any byte is a digit.
+// Lines of words, as the test programs read them: words with one blank between, decimal numbers, and bytes in hexadecimal. A line is taken loosely: a word that
+// is missing is empty, and any byte is a digit. The test programs share what they do with the bytes of files too.
 #![tactic(auto)]
 
 ghost use Rattle.std.specs.Prelude.{◌≡◌, ◌<◌, ◌≤◌, IsTrue, length, slice_set};

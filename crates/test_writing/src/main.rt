@@ -196,8 +196,8 @@ fn print_laid_out(out: &impl Print, own: &mut [u8], call: &[u8]) -> bool {
     code == 0
 }
 
-// `YEAR MONTH DAY ROOM ..`, on a buffer of ROOM bytes 0xEE, which becomes the front of the list's if the answer is 0. A ROOM above the list's buffer prints
-// nothing. Answers how many bytes of the list's buffer are lent from now on. Not inlined, so that its rooms are on the stack in this call alone.
+// `YEAR MONTH DAY ROOM ..`, on a buffer of ROOM bytes 0xEE, which becomes the list's if the answer is 0. A ROOM above the list's buffer prints nothing. Answers
+// how many bytes of the list's buffer are lent from now on. Not inlined, so that its rooms are on the stack in this call alone.
 #[inline(never)]
 fn lay_out_line(out: &impl Print, buffer: &mut [u8; ROOM], room: usize, call: &[u8]) -> usize
     requires { room ≤ 4096 }
