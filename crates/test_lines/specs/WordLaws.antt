@@ -1,6 +1,6 @@
 -- Laws: the word that comes stands at the front of the line. Assumes nothing.
-use Rattle.std.specs.Prelude.{ℕ, ◌≡◌, ◌<◌, false, true, drop, List, [], ◌∷◌, Option, None, Some, MatchOption, get_or, take}
-use Rattle.std.proofs.Math.Path.{refl, sym, ap}
+use Rattle.std.specs.Prelude.{ℕ, ◌≡◌, ◌<◌, false, true, drop, List, ◌∷◌, Option, None, Some, MatchOption, get_or, take}
+use Rattle.std.proofs.Math.Path.{sym, ap}
 use Rattle.std.proofs.Common.{◌∙◌, arith}
 use Rattle.std.specs.Borrow.{Bor}
 use Rattle.std.specs.declared.str.Split.{Split}
