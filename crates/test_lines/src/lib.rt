@@ -5,11 +5,12 @@
 #![tactic(auto)]
 
 ghost use Rattle.std.specs.Str.Iter.{split_text, split_has_more, split_pattern, split_started};
-ghost use Rattle.std.specs.Prelude.{◌≡◌, ◌<◌, ◌≤◌, ℕ, IfErr, IfOk, IsErr, IsTrue, List, MatchOption, None, Ok, Option, Some, codes, cond, false, length, slice_set};
+ghost use Rattle.std.specs.Prelude.{◌≡◌, ◌<◌, ◌≤◌, ℕ, IfErr, IfOk, IsErr, IsTrue, List, MatchOption, None, Option, Some};
+ghost use Rattle.std.specs.Prelude.{codes, cond, false, length, slice_set};
 ghost use Rattle.std.specs.Borrow.{Bor};
 ghost use Rattle.std.specs.IoError.{error_kind};
 ghost use Rattle.files.specs.Counts.{IsPrefixLen};
-ghost use Rattle.test_lines.specs.Words.{TakesWord};
+ghost use Rattle.test_lines.specs.Words.{IsReadIn, TakesWord};
 
 pub mod calls;
 
@@ -104,7 +105,7 @@ pub fn words(line: &str) -> Split<'_, char>
 pub fn parse<T: FromStr>(word: &str) -> io::Result<T>
 where
     T::Err: Drop,
-    ensures value { IfOk result (λ said. T.from_str_gives word.now (Ok said)) }
+    ensures value { IsReadIn T.from_str_gives word.now result }
     ensures other { IfErr result (λ error. error_kind error ≡ ErrorKind.InvalidData) }
 {
     word.parse().map_err(|_| bad_line())
@@ -122,7 +123,7 @@ fn next_word<'a>(words: &mut Split<'a, char>) -> io::Result<&'a str>
 pub fn number<T: FromStr>(words: &mut Split<'_, char>) -> io::Result<T>
 where
     T::Err: Drop,
-    ensures word { (w : Option (Bor (List ℕ))) × TakesWord words.old w words.new × MatchOption w (IsErr result) (λ x. IfOk result (λ said. T.from_str_gives x.now (Ok said))) }
+    ensures word { (w : Option (Bor (List ℕ))) × TakesWord words.old w words.new × MatchOption w (IsErr result) (λ x. IsReadIn T.from_str_gives x.now result) }
     ensures other { IfErr result (λ error. error_kind error ≡ ErrorKind.InvalidData) }
 {
     parse(next_word(words)?)

@@ -1,4 +1,4 @@
-// The strict reading and what is printed, by values that no clause says. The lines are those of the lists k12_few.calls, k12_dates.calls and k13.calls.
+// The strict reading and what is printed, by values that no clause says. The good lines are of the list k12_few.calls.
 use crate::calls::Call;
 use crate::{bad_line, number, parse, print_same, words};
 use std::cell::Cell;

@@ -4,24 +4,30 @@ use Rattle.test_lines.proofs.calls.Call.read.Goals as goal
 
 pub returns-in_ok-number-in-f-2 : goal.returns-in_ok-number-in-f-2
 returns-in_ok-number-in-f-2 c =
-    line_begins _ c.words-words.result c.next_word.new.words c.in_ok-next_word.field-0 _ _ c.words-words.ensures.text c.words-words.ensures.blank c.in_ok-next_word.ensures.word c.in-f.is
+    let w = c.words-words in
+    line_begins _ w.result c.next_word.new.words c.in_ok-next_word.field-0 _ _ w.ensures.text w.ensures.blank c.in_ok-next_word.ensures.word c.in-f.is
 
 pub returns-in_ok-number-in-i : goal.returns-in_ok-number-in-i
 returns-in_ok-number-in-i c =
-    line_begins _ c.words-words.result c.next_word.new.words c.in_ok-next_word.field-0 _ _ c.words-words.ensures.text c.words-words.ensures.blank c.in_ok-next_word.ensures.word c.in-i.is
+    let w = c.words-words in
+    line_begins _ w.result c.next_word.new.words c.in_ok-next_word.field-0 _ _ w.ensures.text w.ensures.blank c.in_ok-next_word.ensures.word c.in-i.is
 
 pub returns-in_ok-number-in-r : goal.returns-in_ok-number-in-r
 returns-in_ok-number-in-r c =
-    line_begins _ c.words-words.result c.next_word.new.words c.in_ok-next_word.field-0 _ _ c.words-words.ensures.text c.words-words.ensures.blank c.in_ok-next_word.ensures.word c.in-r.is
+    let w = c.words-words in
+    line_begins _ w.result c.next_word.new.words c.in_ok-next_word.field-0 _ _ w.ensures.text w.ensures.blank c.in_ok-next_word.ensures.word c.in-r.is
 
 pub returns-in_ok-next_bytes-in-l : goal.returns-in_ok-next_bytes-in-l
 returns-in_ok-next_bytes-in-l c =
-    line_begins _ c.words-words.result c.next_word.new.words c.in_ok-next_word.field-0 _ _ c.words-words.ensures.text c.words-words.ensures.blank c.in_ok-next_word.ensures.word c.in-l.is
+    let w = c.words-words in
+    line_begins _ w.result c.next_word.new.words c.in_ok-next_word.field-0 _ _ w.ensures.text w.ensures.blank c.in_ok-next_word.ensures.word c.in-l.is
 
 pub returns-in_ok-number-in-s : goal.returns-in_ok-number-in-s
 returns-in_ok-number-in-s c =
-    line_begins _ c.words-words.result c.next_word.new.words c.in_ok-next_word.field-0 _ _ c.words-words.ensures.text c.words-words.ensures.blank c.in_ok-next_word.ensures.word c.in-s.is
+    let w = c.words-words in
+    line_begins _ w.result c.next_word.new.words c.in_ok-next_word.field-0 _ _ w.ensures.text w.ensures.blank c.in_ok-next_word.ensures.word c.in-s.is
 
 pub returns-in-a : goal.returns-in-a
 returns-in-a c =
-    line_begins _ c.words-words.result c.next_word.new.words c.in_ok-next_word.field-0 _ _ c.words-words.ensures.text c.words-words.ensures.blank c.in_ok-next_word.ensures.word c.in-a.is
+    let w = c.words-words in
+    line_begins _ w.result c.next_word.new.words c.in_ok-next_word.field-0 _ _ w.ensures.text w.ensures.blank c.in_ok-next_word.ensures.word c.in-a.is
