@@ -66,7 +66,8 @@ module _ (b : List ℕ) (k p n : ℕ) where
       pub leaf_off : r ≡ false → false ≡ leaf_entries_good (features b) (some (pair_at b k z₀)) (entries_from b k p (n - from) from)
       leaf_off e = sym (leaf-step ∙ rw e)
 
-      leaf-left : r ≡ true → leaf_entries_good (features b) (some (pair_at b k z₀)) (entries_from b k p (n - from) from)
+      -- an entry that passes: the entries left are good exactly if those behind it are
+      pub leaf-left : r ≡ true → leaf_entries_good (features b) (some (pair_at b k z₀)) (entries_from b k p (n - from) from)
           ≡ leaf_entries_good (features b) (some (pair_at b k at)) (entries_from b k p (n - (i + 1)) (i + 1))
       leaf-left e = leaf-step ∙ rw (e, inv.place)
 

@@ -1,14 +1,23 @@
 // Lines of words, as the test programs read them: words with one blank between, decimal numbers, and bytes in hexadecimal. A line is taken loosely: a word that
 // is missing is empty, and any byte is a digit. The test programs share what they do with the bytes of files too.
+//
+// Beside that stands a strict reading of text: `words`, `parse`, `number` and `calls::Call` take a line as its list has it, or answer `bad_line`.
 #![tactic(auto)]
 
-ghost use Rattle.std.specs.Prelude.{◌≡◌, ◌<◌, ◌≤◌, IsTrue, length, slice_set};
+ghost use Rattle.std.specs.Str.Iter.{split_text, split_has_more, split_pattern, split_started};
+ghost use Rattle.std.specs.Prelude.{◌≡◌, ◌<◌, ◌≤◌, ℕ, IfErr, IfOk, IsErr, IsTrue, List, MatchOption, None, Option, Some};
+ghost use Rattle.std.specs.Prelude.{codes, cond, false, length, slice_set};
+ghost use Rattle.std.specs.Borrow.{Bor};
 ghost use Rattle.std.specs.IoError.{error_kind};
 ghost use Rattle.files.specs.Counts.{IsPrefixLen};
+ghost use Rattle.test_lines.specs.Words.{IsReadIn, TakesWord};
+
+pub mod calls;
 
 use std::io;
 use std::io::ErrorKind;
 use std::rt::Files;
+use std::str::{FromStr, Split};
 
 pub fn print_number(out: &impl Print, n: u32) {
     let _ = out.print(n);
@@ -76,11 +85,48 @@ pub fn first_number(s: &[u8]) -> u32 {
 // The room for a test's file.
 pub const ROOM: usize = 65536;
 
-// That a line is none of its list: what a test answers that stops there. None does today: they all go on with the next line.
+// That a line is none of its list: what the strict reading answers. The test programs read loosely, and go on with the next line.
 pub fn bad_line() -> io::Error
     ensures { error_kind result ≡ ErrorKind.InvalidData }
 {
     io::Error::new(ErrorKind::InvalidData, "a test's line has other words")
+}
+
+// The words of a line. Between two blanks stands an empty word.
+pub fn words(line: &str) -> Split<'_, char>
+    ensures text { split_text result ≡ line.now }
+    ensures blank { split_pattern result ≡ 32 }
+    ensures first { (split_started result ≡ false) × IsTrue (split_has_more result) }
+{
+    line.split(' ')
+}
+
+// What a word says, as a number.
+pub fn parse<T: FromStr>(word: &str) -> io::Result<T>
+where
+    T::Err: Drop,
+    ensures value { IsReadIn T.from_str_gives word.now result }
+    ensures other { IfErr result (λ error. error_kind error ≡ ErrorKind.InvalidData) }
+{
+    word.parse().map_err(|_| bad_line())
+}
+
+// The next word.
+fn next_word<'a>(words: &mut Split<'a, char>) -> io::Result<&'a str>
+    ensures word { IfOk result (λ word. TakesWord words.old (Some word) words.new) }
+    ensures none { IfErr result (λ error. TakesWord words.old None words.new × (error_kind error ≡ ErrorKind.InvalidData)) }
+{
+    words.next().ok_or_else(bad_line)
+}
+
+// What the next word says, as a number.
+pub fn number<T: FromStr>(words: &mut Split<'_, char>) -> io::Result<T>
+where
+    T::Err: Drop,
+    ensures word { (w : Option (Bor (List ℕ))) × TakesWord words.old w words.new × MatchOption w (IsErr result) (λ x. IsReadIn T.from_str_gives x.now result) }
+    ensures other { IfErr result (λ error. error_kind error ≡ ErrorKind.InvalidData) }
+{
+    parse(next_word(words)?)
 }
 
 // The value of a hexadecimal digit, in small letters or capitals.
@@ -121,3 +167,18 @@ pub fn begins_with(buffer: &[u8], file: &[u8]) -> bool
 {
     1024 <= file.len() && buffer.starts_with(file)
 }
+
+// The word for whether bytes are those of a file.
+fn same_word(same: bool) -> &'static str
+    ensures { result.now ≡ cond same (codes "same") (codes "differs") }
+{
+    if same { "same" } else { "differs" }
+}
+
+// Prints whether bytes are those of a file.
+pub fn print_same(out: &impl Print, name: &str, same: bool) -> io::Result<()> {
+    println!(out; "{name} {}", same_word(same))
+}
+
+#[cfg(test)]
+mod tests;
